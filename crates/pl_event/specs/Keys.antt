@@ -1,0 +1,12 @@
+-- The names of totals.
+use Rattle.std.specs.Prelude.{ℕ, List, length, Bool, ◌&&◌, ◌||◌, not, ◌==◌, nat_le}
+use Rattle.std.specs.List.{list_all}
+use Rattle.std.specs.Char.{is_ascii_lowercase, is_ascii_digit}
+
+-- a to z, or 0 to 9
+abbrev pub is_key_byte : ℕ → Bool
+is_key_byte byte = is_ascii_lowercase byte || is_ascii_digit byte
+
+-- 1 to 16 such bytes
+abbrev pub is_key : List ℕ → Bool
+is_key name = not (length name == 0) && nat_le (length name) 16 && list_all is_key_byte name

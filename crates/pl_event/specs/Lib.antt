@@ -1,0 +1,5 @@
+pub mod Keys
+pub mod Meaning
+pub mod Inputs
+pub mod Paths
+pub mod Lanes

@@ -1,0 +1,92 @@
+ghost use Rattle.std.specs.Prelude.{◌≡◌, ◌||◌, ◌&&◌, length, IsSome, IfSome, IsTrue, nat_eq, nat_le, is_some};
+ghost use Rattle.std.specs.List.{list_all};
+ghost use Rattle.std.specs.Cmp;
+ghost use Rattle.std.specs.Cmp.Lexicographic.{pointwise, nat_list_eq_equiv};
+ghost use Rattle.pl_event.specs.Keys.{is_key, is_key_byte};
+
+use crate::byte_string::ByteString;
+use std::alloc::AllocError;
+use std::marker::Model;
+
+const LONGEST: usize = 16;
+
+/// The name of a total: 1 to 16 bytes, each `a` to `z` or `0` to `9`. Contracts see it as the list of its bytes.
+#[derive(Debug, Drop)]
+pub struct Key {
+    name: ByteString,
+}
+
+impl Model for Key {
+    ghost use Rattle.std.specs.Prelude.{List, ℕ, IsTrue};
+    ghost use Rattle.pl_event.specs.Keys.{is_key};
+
+    ghost Value = { List ℕ };
+
+    ghost view = { λ k. k.name };
+
+    ghost invariant = { λ k. IsTrue (is_key k.name) };
+}
+
+impl Key {
+    /// The key of this name, or None where no key may have it.
+    pub fn new(name: ByteString) -> Option<Self>
+        ensures found { is_some result ≡ is_key name }
+        ensures name { IfSome result (λ key. key ≡ name) }
+    {
+        if is_name(name.as_slice()) {
+            Some(Key { name })
+        } else {
+            None
+        }
+    }
+
+    /// The bytes of its name.
+    pub fn as_slice(&self) -> &[u8]
+        ensures name { result.now ≡ self.now }
+        ensures key { IsTrue (is_key self.now) }
+    {
+        self.name.as_slice()
+    }
+}
+
+fn is_name_byte(byte: u8) -> bool
+    ensures { result ≡ is_key_byte byte }
+{
+    byte.is_ascii_lowercase() || byte.is_ascii_digit()
+}
+
+fn are_name_bytes(name: &[u8]) -> bool
+    ensures { result ≡ list_all is_key_byte name.now }
+{
+    name.iter().all(|byte| is_name_byte(*byte))
+}
+
+fn is_name(name: &[u8]) -> bool
+    ensures { result ≡ is_key name.now }
+{
+    !name.is_empty() && name.len() <= LONGEST && are_name_bytes(name)
+}
+
+impl Clone for Key {
+    ghost is_clone = { λ a b. b ≡ a };
+
+    fn clone(&self) -> Result<Key, AllocError> {
+        Ok(Key {
+            name: self.name.clone()?,
+        })
+    }
+}
+
+impl PartialEq for Key {
+    ghost eq = { pointwise nat_eq };
+
+    ghost laws = { Cmp.partial_equiv_from_equiv nat_list_eq_equiv };
+
+    fn eq(&self, other: &Key) -> bool {
+        self.name == other.name
+    }
+}
+
+impl Eq for Key {
+    ghost laws = { nat_list_eq_equiv };
+}

@@ -1,0 +1,20 @@
+//! What flows through a pipeline: events and their messages, how writes end, and the law of a stage.
+#![tactic(auto)]
+
+mod byte_string;
+mod events;
+mod keys;
+mod lane_laws;
+mod outcomes;
+mod sequence;
+mod stages;
+#[cfg(test)]
+mod tests;
+
+pub use byte_string::ByteString;
+pub use events::{Caught, Command, Event, Fault, Message, Reply};
+pub use keys::Key;
+pub use lane_laws::lane_law;
+pub use outcomes::{Cause, Outcome};
+pub use sequence::Sequence;
+pub use stages::{Direction, Stage, StageFault, Turned, stage_law};

@@ -1,0 +1,70 @@
+ghost use Rattle.std.specs.Prelude.{◌≡◌, ◌==◌, ◌++◌, ◌∷◌, [], length, OnOk, IfErr, if◌then◌else◌, is_ok};
+
+use std::alloc::{AllocFailed, Global};
+use std::marker::Model;
+
+/// Elements in order, which contracts see as a list.
+#[derive(Debug, Drop)]
+pub struct Sequence<T> {
+    elements: Vec<T>,
+}
+
+impl<T> Model for Sequence<T> {
+    ghost use Rattle.std.specs.Prelude.{List};
+
+    ghost Value = { List T };
+
+    ghost view = { λ s. s.elements.items };
+}
+
+impl<T> Sequence<T> {
+    /// An empty sequence. It takes no memory.
+    pub fn new(alloc: Global) -> Self
+        ensures { result ≡ [] }
+    {
+        Sequence {
+            elements: Vec::new(alloc),
+        }
+    }
+
+    /// Takes the elements of a `Vec`, and no memory.
+    pub fn from_vec(elements: Vec<T>) -> Self
+        ensures { result ≡ elements.items }
+    {
+        Sequence { elements }
+    }
+
+    /// Gives the `Vec` back, and takes no memory.
+    pub fn into_vec(self) -> Vec<T>
+        ensures { result.items ≡ self }
+    {
+        let Sequence { elements } = self;
+        elements
+    }
+
+    /// Adds an element at the end. An `Err` hands it back and changes nothing.
+    pub fn push(&mut self, element: T) -> Result<(), AllocFailed<T>>
+        ensures items { self.new ≡ (if is_ok result then self.old ++ element ∷ [] else self.old) }
+        ensures value_returned { IfErr result (λ refused. refused.value ≡ element) }
+    {
+        self.elements.push(element)
+    }
+
+    pub fn as_slice(&self) -> &[T]
+        ensures { result.now ≡ self.now }
+    {
+        self.elements.as_slice()
+    }
+
+    pub fn len(&self) -> usize
+        ensures { result ≡ length self.now }
+    {
+        self.elements.len()
+    }
+
+    pub fn is_empty(&self) -> bool
+        ensures { result ≡ (length self.now == 0) }
+    {
+        self.elements.is_empty()
+    }
+}
