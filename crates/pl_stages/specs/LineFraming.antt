@@ -1,0 +1,89 @@
+-- Line framing: the bytes read are joined and cut at each line feed (Netty's LineBasedFrameDecoder;
+-- docs/FORMATS.md, "Handlers").
+use Rattle.std.specs.Prelude.{◌≡◌, ℕ, ◌+◌, ◌-◌, ◌<◌, List, [], ◌∷◌, ◌++◌, length, take, drop, map, Bool, false, if◌then◌else◌, nat_le, ◌==◌, slice_index, MatchBool, refl}
+use Rattle.std.specs.List.{flat_map}
+use Rattle.pl_event.specs.declared.events.Event.{Event}
+use Rattle.pl_event.specs.declared.events.Event.TheVariants.{Active, Read, ReadComplete, Caught, Write, Flush}
+use Rattle.pl_event.specs.declared.events.Message.TheVariants.{Bytes, Line, Command, Reply}
+use Rattle.pl_event.specs.declared.events.Caught.TheVariants.{TooLong}
+use Rattle.pl_event.specs.declared.stages.Direction.TheVariants.{Inbound}
+use Rattle.pl_event.specs.Meaning.{Meaning, IsLawful}
+
+-- a byte before the first of these parts, if there is one
+abbrev pub onto_first_part : ℕ → List (List ℕ) → List (List ℕ)
+onto_first_part b [] = []
+onto_first_part b (part ∷ parts) = (b ∷ part) ∷ parts
+
+-- the parts of these bytes that a line feed (byte 10) closes, each without it
+abbrev pub closed_parts : List ℕ → List (List ℕ)
+closed_parts [] = []
+closed_parts (b ∷ bs) = if b == 10 then [] ∷ closed_parts bs else onto_first_part b (closed_parts bs)
+
+-- a part without the carriage return (byte 13) at its end, if there is one
+abbrev pub without_return : List ℕ → List ℕ
+without_return part = if slice_index part (length part - 1) == 13 then take (length part - 1) part else part
+
+-- what a closed part is read as
+abbrev pub framed : ℕ → List ℕ → Event
+framed max part =
+    if nat_le (length (without_return part)) max then Read (Line (without_return part)) else Caught TooLong
+
+-- the lines of a stream of bytes
+abbrev pub lines_of : ℕ → List ℕ → List Event
+lines_of max bytes = map (framed max) (closed_parts bytes)
+
+-- the bytes that an event brings
+abbrev pub read_bytes : Event → List ℕ
+read_bytes (Read (Bytes b)) = b
+read_bytes (Read (Line b)) = []
+read_bytes (Read (Command c)) = []
+read_bytes (Read (Reply r)) = []
+read_bytes Active = []
+read_bytes ReadComplete = []
+read_bytes (Caught c) = []
+read_bytes (Write m) = []
+read_bytes Flush = []
+
+-- all bytes read, joined
+abbrev pub joined : List Event → List ℕ
+joined xs = flat_map read_bytes xs
+
+-- A read of bytes makes the lines of the whole with it, less those of the whole without it. Other events pass.
+abbrev pub line_framing_up : ℕ → List Event → Event → List Event
+line_framing_up max xs (Read (Bytes b)) = drop (length (lines_of max (joined xs))) (lines_of max (joined xs ++ b))
+line_framing_up max xs (Read (Line b)) = Read (Line b) ∷ []
+line_framing_up max xs (Read (Command c)) = Read (Command c) ∷ []
+line_framing_up max xs (Read (Reply r)) = Read (Reply r) ∷ []
+line_framing_up max xs Active = Active ∷ []
+line_framing_up max xs ReadComplete = ReadComplete ∷ []
+line_framing_up max xs (Caught c) = Caught c ∷ []
+line_framing_up max xs (Write m) = Write m ∷ []
+line_framing_up max xs Flush = Flush ∷ []
+
+-- the framing of lines of at most max bytes
+abbrev pub line_framing : ℕ → Meaning
+line_framing max = record { direction = Inbound; up = line_framing_up max; down = λ xs x. []; ended = λ xs. false }
+
+pub line_framing-lawful : (max : ℕ) → IsLawful (line_framing max)
+line_framing-lawful max = record {
+  starts_open = refl;
+  stays_ended = λ xs x e. e;
+  quiet = λ xs x e. refl;
+  inbound = λ e xs x. refl;
+  outbound = λ e xs x. cc;
+  turn_alone = λ e xs. refl;
+}
+
+-- the second list where the first is empty, and else the third
+abbrev pub unless_closed : List (List ℕ) → List ℕ → List ℕ → List ℕ
+unless_closed [] whole rest = whole
+unless_closed (part ∷ parts) whole rest = rest
+
+-- what of these bytes no line feed has closed yet
+abbrev pub open_part : List ℕ → List ℕ
+open_part [] = []
+open_part (b ∷ bs) = unless_closed (closed_parts (b ∷ bs)) (b ∷ bs) (open_part bs)
+
+-- A framer keeps the open part, or only that it is too long with and without a carriage return at its end.
+abbrev pub KeepsPart : ℕ → List ℕ → Bool → List ℕ → Type 0
+KeepsPart max partial is_overlong part = MatchBool is_overlong (max + 1 < length part) (partial ≡ part)

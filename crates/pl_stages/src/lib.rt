@@ -1,0 +1,20 @@
+//! The built-in handlers of the line protocol.
+#![tactic(auto)]
+
+mod command_decoder;
+mod handlers;
+mod laws;
+mod line_end;
+mod line_framer;
+mod line_service;
+mod reply_encoder;
+#[cfg(test)]
+mod tests;
+
+pub use command_decoder::CommandDecoder;
+pub use handlers::Handler;
+pub use laws::{command_law, count_law, framing_law};
+pub use line_end::LineEnd;
+pub use line_framer::{LineFramer, StageRefusal};
+pub use line_service::LineService;
+pub use reply_encoder::{ReplyEncoder, add_reply_text};
