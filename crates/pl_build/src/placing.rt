@@ -1,0 +1,95 @@
+//! A pipeline that was built: its two chains, and the executor of each hop.
+
+ghost use Rattle.std.specs.Prelude.{◌≡◌, ◌+◌, ◌<◌, ◌≤◌, ◌↔◌, [], length, slice_get, IsSome, All, true, false, count_by};
+ghost use Rattle.pl_event.specs.Paths.{is_outbound, is_turn};
+
+use pl_event::Stage;
+use std::marker::Model;
+
+/// A pipeline that was built and placed.
+///
+/// With k inbound handlers, the turn among them, and m outbound handlers before the turn, hop i < k enters inbound
+/// handler i, hop k the tail, hop k + 1 + j the j-th outbound handler counted from the turn, and hop k + 1 + m the head.
+#[derive(Drop)]
+pub struct Placed<S: Stage> {
+    pub(crate) inbound: Vec<S>,
+    /// The nearest to the turn first.
+    pub(crate) outbound: Vec<S>,
+    /// By hop.
+    pub(crate) executors: Vec<u16>,
+    /// In bytes.
+    pub(crate) low: u32,
+    pub(crate) high: u32,
+}
+
+impl<S: Stage> Model for Placed<S> {
+    ghost use Rattle.pl_build.specs.Pipelines.{Path};
+    ghost use Rattle.pl_build.specs.Paths.{IsPath};
+
+    ghost Value = { Path S };
+
+    ghost view = { λ p. record { inbound = p.inbound.items; outbound = p.outbound.items; executors = p.executors.items; low = p.low; high = p.high } };
+
+    ghost invariant = { λ p. IsPath S.meaning S.stands_after (record { inbound = p.inbound.items; outbound = p.outbound.items; executors = p.executors.items; low = p.low; high = p.high }) };
+}
+
+impl<S: Stage> Placed<S> {
+    /// The executor of the context that a hop enters, or None past the head. It takes no memory.
+    pub fn executor_of(&self, hop: u16) -> Option<u16>
+        ensures executor { result ≡ slice_get self.now.executors hop }
+        ensures last { IsSome result ↔ (hop < length self.now.inbound + length self.now.outbound + 2) }
+    {
+        self.executors.as_slice().get(hop as usize).copied()
+    }
+
+    /// How many inbound handlers it has, the turn among them.
+    pub fn inbound(&self) -> u16
+        ensures count { result ≡ length self.now.inbound }
+        ensures within { result + length self.now.outbound ≤ 32 }
+    {
+        self.inbound.len() as u16
+    }
+
+    /// How many outbound handlers stand before the turn.
+    pub fn outbound(&self) -> u16
+        ensures count { result ≡ length self.now.outbound }
+        ensures within { length self.now.inbound + result ≤ 32 }
+    {
+        self.outbound.len() as u16
+    }
+
+    /// Below so many pending bytes the channel becomes writable again.
+    pub fn low(&self) -> u32
+        ensures low { result ≡ self.now.low }
+        ensures order { result ≤ self.now.high }
+    {
+        self.low
+    }
+
+    /// Above so many pending bytes the channel becomes not writable.
+    pub fn high(&self) -> u32
+        ensures high { result ≡ self.now.high }
+        ensures within { result ≤ 1073741824 }
+    {
+        self.high
+    }
+
+    /// The inbound handlers from first to last, and the outbound handlers from the nearest to the turn to the first.
+    /// It takes no memory.
+    pub fn into_chains(self) -> (Vec<S>, Vec<S>)
+        ensures inbound { result.0.items ≡ self.inbound }
+        ensures outbound { result.1.items ≡ self.outbound }
+        ensures new_inbound { All (λ stage. S.stands_after stage []) result.0.items }
+        ensures new_outbound { All (λ stage. S.stands_after stage []) result.1.items }
+        ensures upwards { All (λ stage. is_outbound (S.meaning stage).direction ≡ false) result.0.items }
+        ensures downwards { All (λ stage. is_outbound (S.meaning stage).direction ≡ true) result.1.items }
+        ensures turn { count_by (λ stage. is_turn (S.meaning stage).direction) result.0.items ≡ 1 }
+    {
+        let Placed {
+            inbound,
+            outbound,
+            ..
+        } = self;
+        (inbound, outbound)
+    }
+}
