@@ -1,0 +1,94 @@
+-- Why the program printed no report, its status, and its line on the second writer (docs/FORMATS.md, "Program").
+use Rattle.std.specs.Prelude.{ℕ, List, [], ◌∷◌, ◌++◌, codes}
+use Rattle.std.specs.declared.io.ErrorKind.{ErrorKind}
+use Rattle.std.specs.declared.io.ErrorKind.TheVariants.{OutOfMemory}
+use Rattle.pl_tool.specs.declared.moves_text.fault.MovesFault.{MovesFault}
+use Rattle.pl_tool.specs.declared.moves_text.fault.MovesFault.TheVariants as moves
+use Rattle.pl_tool.specs.declared.session_text.fault.BuildFault.{BuildFault}
+use Rattle.pl_tool.specs.declared.session_text.fault.BuildFault.TheVariants as build
+use Rattle.pl_tool.specs.declared.session_text.fault.SessionFault.{SessionFault}
+use Rattle.pl_tool.specs.declared.session_text.fault.SessionFault.TheVariants as session
+use Rattle.pl_tool.specs.declared.schedule.faults.ReplayFault.{ReplayFault}
+use Rattle.pl_tool.specs.declared.schedule.faults.ReplayFault.TheVariants as replay
+use Rattle.pl_tool.specs.declared.report_text.fault.PrintFault.{PrintFault}
+use Rattle.pl_tool.specs.declared.report_text.fault.PrintFault.TheVariants as print
+use Rattle.pl_tool.specs.declared.program.failure.Failure.{Failure}
+use Rattle.pl_tool.specs.declared.program.failure.Failure.TheVariants.{Usage, Moves, Replay, Input, Session, Memory, Output}
+
+-- 2: the command line or the moves were not read, or name what is not there; 3: the session; 4: memory, or a writer
+abbrev pub status_of : Failure → ℕ
+status_of Usage = 2
+status_of (Moves f) = 2
+status_of (Replay f) = 2
+status_of Input = 3
+status_of (Session f) = 3
+status_of Memory = 4
+status_of Output = 4
+
+-- want of memory is one failure, wherever it is met
+abbrev pub failure_of_moves : MovesFault → Failure
+failure_of_moves moves.Memory = Memory
+failure_of_moves moves.Form = Moves moves.Form
+failure_of_moves moves.Limit = Moves moves.Limit
+
+abbrev pub failure_of_session : SessionFault → Failure
+failure_of_session session.Memory = Memory
+failure_of_session f = Session f
+
+abbrev pub failure_of_replay : ReplayFault → Failure
+failure_of_replay replay.Memory = Memory
+failure_of_replay replay.NoSuch = Replay replay.NoSuch
+
+abbrev pub failure_of_print : PrintFault → Failure
+failure_of_print print.Memory = Memory
+failure_of_print print.Output = Output
+
+-- words that cannot be taken are a command line that is not read, want of memory aside
+abbrev pub failure_of_words : ErrorKind → Failure
+failure_of_words OutOfMemory = Memory
+failure_of_words _ = Usage
+
+-- ---- lines: a text and LF. A fault for want of memory is no fault of what was read, and has the line of that.
+
+abbrev pub line : List ℕ → List ℕ
+line text = text ++ 10 ∷ []
+
+abbrev pub memory_line : List ℕ
+memory_line = line (codes "out of memory")
+
+abbrev pub moves_line : MovesFault → List ℕ
+moves_line moves.Form = line (codes "moves refused: 1 Form")
+moves_line moves.Limit = line (codes "moves refused: 2 Limit")
+moves_line moves.Memory = memory_line
+
+abbrev pub replay_line : ReplayFault → List ℕ
+replay_line replay.NoSuch = line (codes "replay refused: 1 NoSuch")
+replay_line replay.Memory = memory_line
+
+abbrev pub build_line : BuildFault → List ℕ
+build_line build.DuplicateName = line (codes "session refused: 6 Build 1 DuplicateName")
+build_line build.NoSuchName = line (codes "session refused: 6 Build 2 NoSuchName")
+build_line build.Limit = line (codes "session refused: 6 Build 3 Limit")
+build_line build.NoSuchGroup = line (codes "session refused: 6 Build 4 NoSuchGroup")
+build_line build.NoTurn = line (codes "session refused: 6 Build 5 NoTurn")
+build_line build.TwoTurns = line (codes "session refused: 6 Build 6 TwoTurns")
+build_line build.Marks = line (codes "session refused: 6 Build 7 Marks")
+build_line build.Memory = memory_line
+
+abbrev pub session_line : SessionFault → List ℕ
+session_line session.NotJson = line (codes "session refused: 1 NotJson")
+session_line session.Version = line (codes "session refused: 2 Version")
+session_line session.Missing = line (codes "session refused: 3 Missing")
+session_line session.Kind = line (codes "session refused: 4 Kind")
+session_line session.Limit = line (codes "session refused: 5 Limit")
+session_line (session.Build f) = build_line f
+session_line session.Memory = memory_line
+
+abbrev pub failure_line : Failure → List ℕ
+failure_line Usage = line (codes "usage: pl_tool replay [--moves MOVES] | run --queue waiting|ring | plain")
+failure_line (Moves f) = moves_line f
+failure_line (Replay f) = replay_line f
+failure_line Input = line (codes "input refused")
+failure_line (Session f) = session_line f
+failure_line Memory = memory_line
+failure_line Output = line (codes "output refused")

@@ -1,0 +1,141 @@
+-- What the program has done (docs/FORMATS.md, "Program").
+use Rattle.std.specs.Prelude.{◌≡◌, ◌≢◌, ℕ, ◌≤◌, ◌<◌, List, length, Bool, true, false, ⊤, Option, Some, Result, Ok, Err, nat_lt, if◌then◌else◌}
+use Rattle.std.specs.List.{list_all}
+use Rattle.std.specs.Str.{is_utf8}
+use Rattle.std.specs.Io.KnownBytes.{Appends, Consumes, IsAtEnd, Keeps}
+use Rattle.pl_tool.specs.declared.moves.Move.{Move}
+use Rattle.pl_tool.specs.declared.report.Report.{Report}
+use Rattle.pl_tool.specs.declared.report.Stands.{Stands}
+use Rattle.pl_tool.specs.declared.report.Stands.TheVariants.{Drained, Open, Failed}
+use Rattle.pl_tool.specs.declared.session_text.fault.SessionFault.{SessionFault}
+use Rattle.pl_tool.specs.declared.session_text.fault.SessionFault.TheVariants.{Limit, NotJson}
+use Rattle.pl_tool.specs.declared.session_text.fault.SessionFault.TheVariants as session
+use Rattle.pl_tool.specs.declared.moves_text.words.Word.{Word}
+use Rattle.pl_tool.specs.declared.moves_text.fault.MovesFault.{MovesFault}
+use Rattle.pl_tool.specs.declared.moves_text.fault.MovesFault.TheVariants as moves
+use Rattle.pl_tool.specs.declared.program.failure.Failure.{Failure}
+use Rattle.pl_tool.specs.declared.program.failure.Failure.TheVariants.{Usage, Moves, Replay, Input, Session, Memory, Output}
+use Rattle.pl_tool.specs.MoveModel.{is_there}
+use Rattle.pl_tool.specs.Plans.{Plan}
+use Rattle.pl_tool.specs.Replays.{IsReplayed}
+use Rattle.pl_tool.specs.SessionTexts.{session_of}
+use Rattle.pl_tool.specs.MovesTexts.{MeansMoves, Says, total}
+use Rattle.pl_tool.specs.ReportTexts.{report_text}
+use Rattle.pl_tool.specs.ProgramFailures.{status_of, failure_line}
+use Rattle.pl_tool.specs.ProgramLines.{moves_text_of}
+
+abbrev pub is_drained : Stands → Bool
+is_drained Drained = true
+is_drained Open = false
+is_drained (Failed c) = false
+
+-- whether every channel of the report is drained
+abbrev pub all_drained : Report → Bool
+all_drained report = list_all (λ c. is_drained c.stands) report.channels
+
+-- at most this many bytes were taken from the reader
+abbrev pub TakesAtMost : ℕ → Option (List ℕ) → Option (List ℕ) → Type 0
+TakesAtMost most unread left = (bytes : List ℕ) × Consumes unread left bytes × (length bytes ≤ most)
+
+-- the session that bytes mean: one that is too long is no session, whatever its bytes
+abbrev pub session_of_bytes : List ℕ → Result Plan SessionFault
+session_of_bytes input =
+    if nat_lt 33554432 (length input) then Err Limit else if is_utf8 input then session_of input else Err NotJson
+
+-- bytes were taken to the end of the input, and mean this session
+pub record TakesSession (unread left : Option (List ℕ)) (session : Plan) : Type 0 where
+  pub input : List ℕ
+  pub taken : Consumes unread left input
+  pub at_end : IsAtEnd left
+  pub means : session_of_bytes input ≡ Ok session
+
+-- the command line gives these moves
+pub record GivesMoves (words : List (List ℕ)) (moves : List Move) : Type 0 where
+  pub text : List ℕ
+  pub given : moves_text_of words ≡ Some text
+  pub means : MeansMoves text moves
+
+-- The moves of the command line and then a session were taken, and this is the report of its replay.
+pub record IsReported (words : List (List ℕ)) (unread left : Option (List ℕ)) (report : Report) : Type 0 where
+  pub moves : List Move
+  pub gives : GivesMoves words moves
+  pub session : Plan
+  pub taken : TakesSession unread left session
+  pub is_report : IsReplayed session moves report
+
+-- The text of the report was added to what the writer holds.
+pub record HasPrinted (drained : Bool) (words : List (List ℕ)) (unread left before after : Option (List ℕ)) : Type 0 where
+  pub report : Report
+  pub is_reported : IsReported words unread left report
+  pub stands : drained ≡ all_drained report
+  pub written : Appends before after (report_text report)
+
+-- ---- why no report was printed
+
+-- the text has a part that is no word, or says too many moves
+abbrev pub IsNoMoves : MovesFault → List ℕ → Type 0
+IsNoMoves moves.Form text = (ws : List Word) → Says text ws → ⊥
+IsNoMoves moves.Limit text = (ws : List Word) × Says text ws × (1000000 < total ws)
+IsNoMoves moves.Memory text = ⊥
+
+-- the text that the command line gives is no moves
+pub record RefusesMoves (fault : MovesFault) (words : List (List ℕ)) : Type 0 where
+  pub text : List ℕ
+  pub given : moves_text_of words ≡ Some text
+  pub is_none : IsNoMoves fault text
+
+-- The bytes that were taken, to the end of the input or to one more than a session may have, are no session.
+pub record RefusesSession (fault : SessionFault) (unread left : Option (List ℕ)) : Type 0 where
+  pub input : List ℕ
+  pub taken : Consumes unread left input
+  pub at_end : length input ≤ 33554432 → IsAtEnd left
+  pub means : session_of_bytes input ≡ Err fault
+  pub is_named : fault ≢ session.Memory
+
+-- A session was taken, and a move names what is not there.
+pub record NamesMissing (words : List (List ℕ)) (unread left : Option (List ℕ)) : Type 0 where
+  pub moves : List Move
+  pub gives : GivesMoves words moves
+  pub session : Plan
+  pub taken : TakesSession unread left session
+  pub missing : list_all (is_there session) moves ≡ false
+
+-- a failure at the command line and its moves
+abbrev pub RefusesLine : Failure → List (List ℕ) → Type 0
+RefusesLine Usage words = ⊤
+RefusesLine (Moves f) words = RefusesMoves f words
+RefusesLine Memory words = ⊤
+RefusesLine _ words = ⊥
+
+-- a failure at the session
+abbrev pub RefusesInput : Failure → Option (List ℕ) → Option (List ℕ) → Type 0
+RefusesInput Input unread left = ⊤
+RefusesInput (Session f) unread left = RefusesSession f unread left
+RefusesInput Memory unread left = ⊤
+RefusesInput _ unread left = ⊥
+
+-- What explains a failure, of the command line and of what was taken from the reader. A failing read or write and a
+-- refused growth need no more.
+abbrev pub IsCause : Failure → List (List ℕ) → Option (List ℕ) → Option (List ℕ) → Type 0
+IsCause Usage words unread left = Keeps unread left
+IsCause (Moves f) words unread left = RefusesMoves f words × Keeps unread left
+IsCause (Replay f) words unread left = NamesMissing words unread left
+IsCause Input words unread left = (moves : List Move) × GivesMoves words moves
+IsCause (Session f) words unread left = (moves : List Move) × GivesMoves words moves × RefusesSession f unread left
+IsCause Memory words unread left = ⊤
+IsCause Output words unread left = (report : Report) × IsReported words unread left report
+
+-- only a failing writer may hold a part of a report
+abbrev pub Explains : Failure → List (List ℕ) → Option (List ℕ) → Option (List ℕ) → Option (List ℕ) → Option (List ℕ) → Type 0
+Explains failure words unread left before after = IsCause failure words unread left × (failure ≢ Output → Keeps before after)
+
+-- The program ended with a status by a failure.
+pub record HasFailed (status : ℕ) (words : List (List ℕ)) (unread left before after : Option (List ℕ)) : Type 0 where
+  pub failure : Failure
+  pub ended : status ≡ status_of failure
+  pub explained : Explains failure words unread left before after
+
+-- It told the failure's line to the second writer, where that did not fail.
+pub record HasTold (status : ℕ) (told : Bool) (words : List (List ℕ)) (unread left before after silent spoken : Option (List ℕ)) : Type 0 where
+  pub failed : HasFailed status words unread left before after
+  pub line : told ≡ true → Appends silent spoken (failure_line failed.failure)

@@ -1,0 +1,19 @@
+-- What the text of a session means (docs/FORMATS.md, "Session").
+use Rattle.std.specs.Prelude.{ℕ, List, length, nat_lt, if◌then◌else◌, Result, Err}
+use Rattle.serde_json.specs.Data.{Data}
+use Rattle.serde_json.specs.Read.{read}
+use Rattle.pl_tool.specs.declared.session_text.fault.SessionFault.{SessionFault}
+use Rattle.pl_tool.specs.declared.session_text.fault.SessionFault.TheVariants.{NotJson, Limit}
+use Rattle.pl_tool.specs.Plans.{Plan}
+use Rattle.pl_tool.specs.SessionReading.{◌>>=◌, known, built}
+use Rattle.pl_tool.specs.SessionOutlines.{outline_in, session_built}
+
+-- all members are read before the pipelines are built
+unfoldable pub session_in : Data → Result Plan SessionFault
+session_in d = do
+  outline ← outline_in d
+  built (session_built outline)
+
+-- too long before all else
+unfoldable pub session_of : List ℕ → Result Plan SessionFault
+session_of text = if nat_lt 33554432 (length text) then Err Limit else (known NotJson (read text) >>= session_in)

@@ -1,0 +1,161 @@
+//! Why the program printed no report.
+
+ghost use Rattle.std.specs.Prelude.{◌≡◌};
+ghost use Rattle.std.specs.IoError.{error_kind};
+ghost use Rattle.pl_tool.specs.ProgramFailures.{failure_of_moves, failure_of_session, failure_of_replay, failure_of_print, failure_of_words};
+ghost use Rattle.pl_tool.specs.ProgramFailures.{status_of, failure_line, moves_line, replay_line, build_line, session_line};
+
+use crate::moves_text::MovesFault;
+use crate::report_text::PrintFault;
+use crate::schedule::ReplayFault;
+use crate::session_text::{BuildFault, SessionFault};
+use std::io;
+use std::io::ErrorKind;
+
+/// Why the program printed no report.
+#[derive(Clone, Copy, Debug, PartialEq, Eq)]
+pub(crate) enum Failure {
+    /// The command line was not read.
+    Usage,
+    Moves(MovesFault),
+    Replay(ReplayFault),
+    /// A read failed.
+    Input,
+    Session(SessionFault),
+    /// A growth was refused.
+    Memory,
+    /// The first writer failed.
+    Output,
+}
+
+impl Failure {
+    /// The failure of words that could not be taken from the system.
+    pub(crate) fn of_words(error: &io::Error) -> Failure
+        ensures { result ≡ failure_of_words (error_kind error.now) }
+    {
+        match error.kind() {
+            ErrorKind::OutOfMemory => Failure::Memory,
+            _ => Failure::Usage,
+        }
+    }
+
+    /// The status that the program ends with.
+    pub(crate) fn status(self) -> u8
+        ensures { result ≡ status_of self }
+    {
+        match self {
+            Failure::Usage | Failure::Moves(_) | Failure::Replay(_) => 2,
+            Failure::Input | Failure::Session(_) => 3,
+            Failure::Memory | Failure::Output => 4,
+        }
+    }
+
+    /// The line for the second writer, with its LF.
+    pub(crate) fn line(self) -> &'static str
+        ensures { result.now ≡ failure_line self }
+    {
+        match self {
+            Failure::Usage => {
+                "usage: pl_tool replay [--moves MOVES] | run --queue waiting|ring | plain\n"
+            }
+            Failure::Moves(fault) => moves_line(fault),
+            Failure::Replay(fault) => replay_line(fault),
+            Failure::Input => "input refused\n",
+            Failure::Session(fault) => session_line(fault),
+            Failure::Memory => "out of memory\n",
+            Failure::Output => "output refused\n",
+        }
+    }
+}
+
+fn moves_line(fault: MovesFault) -> &'static str
+    ensures { result.now ≡ moves_line fault }
+{
+    match fault {
+        MovesFault::Form => "moves refused: 1 Form\n",
+        MovesFault::Limit => "moves refused: 2 Limit\n",
+        MovesFault::Memory => "out of memory\n",
+    }
+}
+
+fn replay_line(fault: ReplayFault) -> &'static str
+    ensures { result.now ≡ replay_line fault }
+{
+    match fault {
+        ReplayFault::NoSuch => "replay refused: 1 NoSuch\n",
+        ReplayFault::Memory => "out of memory\n",
+    }
+}
+
+fn build_line(fault: BuildFault) -> &'static str
+    ensures { result.now ≡ build_line fault }
+{
+    match fault {
+        BuildFault::DuplicateName => "session refused: 6 Build 1 DuplicateName\n",
+        BuildFault::NoSuchName => "session refused: 6 Build 2 NoSuchName\n",
+        BuildFault::Limit => "session refused: 6 Build 3 Limit\n",
+        BuildFault::NoSuchGroup => "session refused: 6 Build 4 NoSuchGroup\n",
+        BuildFault::NoTurn => "session refused: 6 Build 5 NoTurn\n",
+        BuildFault::TwoTurns => "session refused: 6 Build 6 TwoTurns\n",
+        BuildFault::Marks => "session refused: 6 Build 7 Marks\n",
+        BuildFault::Memory => "out of memory\n",
+    }
+}
+
+fn session_line(fault: SessionFault) -> &'static str
+    ensures { result.now ≡ session_line fault }
+{
+    match fault {
+        SessionFault::NotJson => "session refused: 1 NotJson\n",
+        SessionFault::Version => "session refused: 2 Version\n",
+        SessionFault::Missing => "session refused: 3 Missing\n",
+        SessionFault::Kind => "session refused: 4 Kind\n",
+        SessionFault::Limit => "session refused: 5 Limit\n",
+        SessionFault::Build(refused) => build_line(refused),
+        SessionFault::Memory => "out of memory\n",
+    }
+}
+
+impl From<MovesFault> for Failure {
+    ghost from_gives = { λ fault failure. failure ≡ failure_of_moves fault };
+
+    fn from(fault: MovesFault) -> Failure {
+        match fault {
+            MovesFault::Memory => Failure::Memory,
+            _ => Failure::Moves(fault),
+        }
+    }
+}
+
+impl From<SessionFault> for Failure {
+    ghost from_gives = { λ fault failure. failure ≡ failure_of_session fault };
+
+    fn from(fault: SessionFault) -> Failure {
+        match fault {
+            SessionFault::Memory => Failure::Memory,
+            _ => Failure::Session(fault),
+        }
+    }
+}
+
+impl From<ReplayFault> for Failure {
+    ghost from_gives = { λ fault failure. failure ≡ failure_of_replay fault };
+
+    fn from(fault: ReplayFault) -> Failure {
+        match fault {
+            ReplayFault::Memory => Failure::Memory,
+            _ => Failure::Replay(fault),
+        }
+    }
+}
+
+impl From<PrintFault> for Failure {
+    ghost from_gives = { λ fault failure. failure ≡ failure_of_print fault };
+
+    fn from(fault: PrintFault) -> Failure {
+        match fault {
+            PrintFault::Memory => Failure::Memory,
+            PrintFault::Output => Failure::Output,
+        }
+    }
+}

@@ -1,0 +1,350 @@
+use super::*;
+use crate::moves_text::MovesFault;
+use crate::schedule::ReplayFault;
+use crate::session_text::{BuildFault, SessionFault};
+use std::io;
+use std::io::ErrorKind;
+use std::test::Fail;
+
+const SESSION: &str = r#"{"version":1,"capacity":4,"loops":1,"channels":[{"handlers":[
+{"op":"last","name":"lines","kind":"lines","max":64},
+{"op":"last","name":"decode","kind":"decode"},
+{"op":"last","name":"lineend","kind":"lineend"},
+{"op":"last","name":"encode","kind":"encode"},
+{"op":"last","name":"service","kind":"service"}],
+"bursts":[["PING\r\n"]]}]}
+"#;
+
+const USAGE: &str = "usage: pl_tool replay [--moves MOVES] | run --queue waiting|ring | plain\n";
+
+const WRONG_LINES: &[&[&str]] = &[
+    &[],
+    &["fly"],
+    &["plain"],
+    &["run", "--queue", "ring"],
+    &["help"],
+    &["--help"],
+    &["-h"],
+    &["--version"],
+    &["replay", "--help"],
+    &["replay", "R0"],
+    &["replay", "--moves"],
+    &["replay", "--moves", "-1"],
+    &["replay", "--moves", "--moves"],
+    &["replay", "--moves", "-"],
+    &["replay", "-"],
+    &["replay", "--moves", "R0", "--moves", "R0"],
+    &["replay", "--queue", "ring"],
+    &["--moves", "R0", "replay"],
+];
+
+/// Gives the same byte, so many at a read, and fails after so many reads.
+#[derive(Drop)]
+struct Repeated {
+    byte: u8,
+    at_once: usize,
+    reads: u64,
+    fails_after: u64,
+}
+
+impl Read for Repeated {
+    fn read(&mut self, buffer: &mut [u8]) -> io::Result<usize> {
+        if self.reads == self.fails_after {
+            return Err(io::Error::from(ErrorKind::TimedOut));
+        }
+        self.reads = self.reads.saturating_add(1);
+        let count = self.at_once.min(buffer.len());
+        for place in &mut buffer[..count] {
+            *place = self.byte;
+        }
+        Ok(count)
+    }
+}
+
+/// Is interrupted so many times before each read of its text.
+#[derive(Drop)]
+struct Interrupted<'a> {
+    text: &'a [u8],
+    times: u64,
+    left: u64,
+    tries: u64,
+}
+
+impl Read for Interrupted<'_> {
+    fn read(&mut self, buffer: &mut [u8]) -> io::Result<usize> {
+        self.tries = self.tries.saturating_add(1);
+        if 0 < self.left {
+            self.left = self.left.saturating_sub(1);
+            return Err(io::Error::from(ErrorKind::Interrupted));
+        }
+        self.left = self.times;
+        self.text.read(buffer)
+    }
+}
+
+/// Takes so many bytes, and then fails.
+#[derive(Drop)]
+struct Failing {
+    room: usize,
+}
+
+impl Write for Failing {
+    fn write(&mut self, bytes: &[u8]) -> io::Result<usize> {
+        let count = self.room.min(bytes.len());
+        if count == 0 {
+            return Err(io::Error::from(ErrorKind::BrokenPipe));
+        }
+        self.room = self.room.saturating_sub(count);
+        Ok(count)
+    }
+
+    fn flush(&mut self) -> io::Result<()> {
+        Ok(())
+    }
+}
+
+fn words(rt: &HostRuntime, line: &[&str]) -> Result<Vec<String>, Fail> {
+    let mut words = Vec::new(rt.alloc());
+    words.push(String::from_str(rt.alloc(), "pl_tool")?)?;
+    for word in line {
+        words.push(String::from_str(rt.alloc(), word)?)?;
+    }
+    Ok(words)
+}
+
+/// Runs the program on a text, and gives the status and what it wrote to each writer.
+fn ran(rt: &HostRuntime, line: &[&str], input: &[u8]) -> Result<(u8, Vec<u8>, Vec<u8>), Fail> {
+    let words = words(rt, line)?;
+    let mut reader = input;
+    let mut out = Vec::new(rt.alloc());
+    let mut err = Vec::new(rt.alloc());
+    let status = run_tool(
+        rt.alloc(),
+        words.as_slice(),
+        &mut reader,
+        &mut out,
+        &mut err,
+    );
+    Ok((status, out, err))
+}
+
+#[test]
+fn wrong_command_lines(rt: HostRuntime) -> Result<(), Fail> {
+    for line in WRONG_LINES {
+        let (status, out, err) = ran(&rt, line, SESSION.as_bytes())?;
+        assert_eq!(rt; status, 2, "of {line:?}");
+        assert_eq!(rt; out.len(), 0, "of {line:?}");
+        assert_eq!(rt; err.as_slice(), USAGE.as_bytes(), "of {line:?}");
+    }
+    Ok(())
+}
+
+#[test]
+fn statuses(rt: HostRuntime) -> Result<(), Fail> {
+    for (line, input, want, told) in [
+        (["replay"].as_slice(), SESSION, 1, ""),
+        (["replay", "--moves="].as_slice(), SESSION, 1, ""),
+        (["replay", "--moves", ""].as_slice(), SESSION, 1, ""),
+        (["replay", "--moves=R0x3 O0"].as_slice(), SESSION, 0, ""),
+        (["replay", "--moves", "R0x3 O0"].as_slice(), SESSION, 0, ""),
+        (
+            ["replay", "--moves=-"].as_slice(),
+            "",
+            2,
+            "moves refused: 1 Form\n",
+        ),
+        (
+            ["replay", "--moves", "R00"].as_slice(),
+            "",
+            2,
+            "moves refused: 1 Form\n",
+        ),
+        (
+            ["replay", "--moves", "R0x1000000 R0"].as_slice(),
+            "",
+            2,
+            "moves refused: 2 Limit\n",
+        ),
+        (
+            ["replay", "--moves", "R5"].as_slice(),
+            SESSION,
+            2,
+            "replay refused: 1 NoSuch\n",
+        ),
+        (["replay"].as_slice(), "", 3, "session refused: 1 NotJson\n"),
+    ] {
+        let (status, out, err) = ran(&rt, line, input.as_bytes())?;
+        assert_eq!(rt; status, want, "of {line:?}");
+        assert_eq!(rt; out.is_empty(), 1 < want, "of {line:?}");
+        assert_eq!(rt; err.as_slice(), told.as_bytes(), "of {line:?}");
+    }
+    Ok(())
+}
+
+#[test]
+fn input_that_is_no_text(rt: HostRuntime) -> Result<(), Fail> {
+    let (status, out, err) = ran(&rt, &["replay"], b"\xff")?;
+    assert_eq!(rt; status, 3);
+    assert_eq!(rt; out.len(), 0);
+    assert_eq!(rt; err.as_slice(), b"session refused: 1 NotJson\n".as_slice());
+    Ok(())
+}
+
+#[test]
+fn failing_reads(rt: HostRuntime) -> Result<(), Fail> {
+    let words = words(&rt, &["replay"])?;
+    for (byte, at_once, fails_after, reads, want) in [
+        (b'{', 1, 0, 0, "input refused\n"),
+        (b'{', 1, 1, 1, "input refused\n"),
+        (0xff, 1, 1, 1, "input refused\n"),
+        (0xff, 8_192, 1 << 63, 4_097, "session refused: 5 Limit\n"),
+        (b'[', 16, 1 << 63, 2_097_153, "session refused: 5 Limit\n"),
+    ] {
+        let mut reader = Repeated {
+            byte,
+            at_once,
+            reads: 0,
+            fails_after,
+        };
+        let mut out = Vec::new(rt.alloc());
+        let mut err = Vec::new(rt.alloc());
+        let status = run_tool(
+            rt.alloc(),
+            words.as_slice(),
+            &mut reader,
+            &mut out,
+            &mut err,
+        );
+        assert_eq!(rt; status, 3);
+        assert_eq!(rt; reader.reads, reads);
+        assert_eq!(rt; out.len(), 0);
+        assert_eq!(rt; err.as_slice(), want.as_bytes());
+    }
+    Ok(())
+}
+
+#[test]
+fn interrupted_reads(rt: HostRuntime) -> Result<(), Fail> {
+    let words = words(&rt, &["replay", "--moves=R0x3 O0"])?;
+    for (times, tries, want, told) in [
+        (1, 4, 0, ""),
+        (999_999, 2_000_000, 0, ""),
+        (1_000_000, 1_000_000, 3, "input refused\n"),
+    ] {
+        let mut reader = Interrupted {
+            text: SESSION.as_bytes(),
+            times,
+            left: times,
+            tries: 0,
+        };
+        let mut out = Vec::new(rt.alloc());
+        let mut err = Vec::new(rt.alloc());
+        let status = run_tool(
+            rt.alloc(),
+            words.as_slice(),
+            &mut reader,
+            &mut out,
+            &mut err,
+        );
+        assert_eq!(rt; status, want);
+        assert_eq!(rt; reader.tries, tries);
+        assert_eq!(rt; out.is_empty(), want == 3);
+        assert_eq!(rt; err.as_slice(), told.as_bytes());
+    }
+    Ok(())
+}
+
+#[test]
+fn refused_words(rt: HostRuntime) -> Result<(), Fail> {
+    for (kind, want, told) in [
+        (ErrorKind::OutOfMemory, 4, "out of memory\n"),
+        (ErrorKind::InvalidData, 2, USAGE),
+    ] {
+        let mut err = Vec::new(rt.alloc());
+        let error = io::Error::from(kind);
+        assert_eq!(rt; refuse_words(&error, &mut err), want);
+        assert_eq!(rt; err.as_slice(), told.as_bytes());
+        assert_eq!(rt; refuse_words(&error, &mut Failing { room: 0 }), want);
+    }
+    Ok(())
+}
+
+/// The lines are those of the faults' own texts.
+#[test]
+fn lines_of_faults(rt: HostRuntime) -> Result<(), Fail> {
+    for fault in [
+        SessionFault::NotJson,
+        SessionFault::Version,
+        SessionFault::Missing,
+        SessionFault::Kind,
+        SessionFault::Limit,
+        SessionFault::Build(BuildFault::DuplicateName),
+        SessionFault::Build(BuildFault::NoSuchName),
+        SessionFault::Build(BuildFault::Limit),
+        SessionFault::Build(BuildFault::NoSuchGroup),
+        SessionFault::Build(BuildFault::NoTurn),
+        SessionFault::Build(BuildFault::TwoTurns),
+        SessionFault::Build(BuildFault::Marks),
+    ] {
+        let want = format!(in rt.alloc(); "session refused: {fault}\n")?;
+        assert_eq!(rt; Failure::Session(fault).line(), want.as_str());
+    }
+    for fault in [MovesFault::Form, MovesFault::Limit] {
+        let want = format!(in rt.alloc(); "moves refused: {fault}\n")?;
+        assert_eq!(rt; Failure::Moves(fault).line(), want.as_str());
+    }
+    let fault = ReplayFault::NoSuch;
+    let want = format!(in rt.alloc(); "replay refused: {fault}\n")?;
+    assert_eq!(rt; Failure::Replay(fault).line(), want.as_str());
+    Ok(())
+}
+
+#[test]
+fn failing_writes(rt: HostRuntime) -> Result<(), Fail> {
+    let words = words(&rt, &["replay"])?;
+    for room in [0, 1, 20] {
+        let mut reader = SESSION.as_bytes();
+        let mut out = Failing { room };
+        let mut err = Vec::new(rt.alloc());
+        let status = run_tool(
+            rt.alloc(),
+            words.as_slice(),
+            &mut reader,
+            &mut out,
+            &mut err,
+        );
+        assert_eq!(rt; status, 4);
+        assert_eq!(rt; out.room, 0);
+        assert_eq!(rt; err.as_slice(), b"output refused\n".as_slice());
+    }
+    Ok(())
+}
+
+#[test]
+fn failing_second_writer(rt: HostRuntime) -> Result<(), Fail> {
+    for (word, want) in [("fly", 2), ("replay", 3)] {
+        let words = words(&rt, &[word])?;
+        let mut reader = b"".as_slice();
+        let mut out = Vec::new(rt.alloc());
+        let status = run_tool(
+            rt.alloc(),
+            words.as_slice(),
+            &mut reader,
+            &mut out,
+            &mut Failing { room: 0 },
+        );
+        assert_eq!(rt; status, want);
+        assert_eq!(rt; out.len(), 0);
+    }
+    let words = words(&rt, &["replay"])?;
+    let mut reader = SESSION.as_bytes();
+    let status = run_tool(
+        rt.alloc(),
+        words.as_slice(),
+        &mut reader,
+        &mut Failing { room: 0 },
+        &mut Failing { room: 0 },
+    );
+    assert_eq!(rt; status, 4);
+    Ok(())
+}
