@@ -1,0 +1,28 @@
+//! `pl_tool`: replays recorded sessions. The session comes on standard input, and its report goes to standard output.
+#![tactic(auto)]
+
+use pl_tool::{refuse_words, run_tool};
+use std::process::ExitCode;
+use std::{env, io};
+
+fn words(rt: &HostRuntime) -> io::Result<Vec<String>> {
+    let words = env::args(rt)?.collect(rt.alloc())?;
+    Ok(words)
+}
+
+fn run(rt: &HostRuntime) -> u8 {
+    match words(rt) {
+        Ok(words) => run_tool(
+            rt.alloc(),
+            words.as_slice(),
+            &mut rt.stdin(),
+            &mut rt.stdout(),
+            &mut rt.stderr(),
+        ),
+        Err(error) => refuse_words(&error, &mut rt.stderr()),
+    }
+}
+
+fn main(rt: HostRuntime) -> ExitCode {
+    ExitCode::from(run(&rt))
+}
