@@ -1,0 +1,11 @@
+//! Tests of the whole way, from session text to report text: the worked sessions, by their names.
+#![tactic(auto)]
+
+#[cfg(test)]
+mod drained;
+#[cfg(test)]
+mod refused;
+#[cfg(test)]
+mod running;
+#[cfg(test)]
+mod schedules;

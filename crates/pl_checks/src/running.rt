@@ -1,0 +1,52 @@
+//! Runs the program on a session of the line protocol.
+
+use pl_tool::run_tool;
+use std::alloc::AllocError;
+use std::test::Fail;
+
+/// What a run answered: its status, and what it wrote to each writer.
+#[derive(Debug, Drop)]
+pub(crate) struct Ran {
+    pub(crate) status: u8,
+    pub(crate) out: Vec<u8>,
+    pub(crate) err: Vec<u8>,
+}
+
+/// A session with lines of at most `max` bytes and these bursts, as JSON.
+pub(crate) fn session(rt: &HostRuntime, max: u16, bursts: &str) -> Result<String, AllocError> {
+    format!(in rt.alloc();
+        "{{\"version\":1,\"capacity\":4,\"loops\":1,\"channels\":[{{\"handlers\":[
+{{\"op\":\"last\",\"name\":\"lines\",\"kind\":\"lines\",\"max\":{max}}},
+{{\"op\":\"last\",\"name\":\"decode\",\"kind\":\"decode\"}},
+{{\"op\":\"last\",\"name\":\"lineend\",\"kind\":\"lineend\"}},
+{{\"op\":\"last\",\"name\":\"encode\",\"kind\":\"encode\"}},
+{{\"op\":\"last\",\"name\":\"service\",\"kind\":\"service\"}}],
+\"bursts\":{bursts}}}]}}\n"
+    )
+}
+
+/// Runs `replay --moves MOVES` on a text.
+pub(crate) fn replayed(rt: &HostRuntime, text: &str, moves: &str) -> Result<Ran, Fail> {
+    let alloc = rt.alloc();
+    let mut words = Vec::new(alloc);
+    for word in ["pl_tool", "replay", "--moves", moves] {
+        words.push(String::from_str(alloc, word)?)?;
+    }
+    let mut reader = text.as_bytes();
+    let mut out = Vec::new(alloc);
+    let mut err = Vec::new(alloc);
+    let status = run_tool(alloc, words.as_slice(), &mut reader, &mut out, &mut err);
+    Ok(Ran { status, out, err })
+}
+
+/// Says that a run answered this, or what it answered in its place.
+pub(crate) fn answers(ran: Ran, status: u8, out: &str, err: &str) -> Result<(), Ran> {
+    if ran.status == status
+        && ran.out.as_slice() == out.as_bytes()
+        && ran.err.as_slice() == err.as_bytes()
+    {
+        Ok(())
+    } else {
+        Err(ran)
+    }
+}
