@@ -1,6 +1,6 @@
 //! The worked sessions that drain: the report, the status, and nothing on standard error.
 
-use crate::running::{answers, replayed, session};
+use crate::running::{answers, line_protocol, piped, replayed, session};
 use std::test::Fail;
 
 /// Says that a session drains with this report.
@@ -85,4 +85,155 @@ fn cr_inside_line(rt: HostRuntime) -> Result<(), Fail> {
         "R0x4 O0x4",
         "channel 0 drained\ntail 3\nActive\nRead Echo 610d\nReadComplete\nbytes 5 2b610d0d0a\nwrites 1\n0 Success\n",
     )
+}
+
+const THREE_SUCCESSES: &str = "0 Success\n1 Success\n2 Success\n";
+
+#[test]
+fn totals(rt: HostRuntime) -> Result<(), Fail> {
+    let report = format!(in rt.alloc();
+        "channel 0 drained\ntail 6\nActive\nRead Add a 7\nRead Add b 1\nRead Add a 5\nRead Get a\nReadComplete\nbytes 18 3a370d0a3a310d0a3a31320d0a3a31320d0a\nwrites 4\n{THREE_SUCCESSES}3 Success\n"
+    )?;
+    drains(
+        &rt,
+        64,
+        "[[\"ADD a 7\\nADD b 1\\nADD a 5\\nGET a\\n\"]]",
+        "R0x4 O0x4",
+        report.as_str(),
+    )
+}
+
+#[test]
+fn leading_zero(rt: HostRuntime) -> Result<(), Fail> {
+    drains(
+        &rt,
+        64,
+        "[[\"ADD a 0123\\n\"]]",
+        "R0x4 O0x4",
+        "channel 0 drained\ntail 3\nActive\nCaught Syntax\nReadComplete\nbytes 13 2d4552522073796e7461780d0a\nwrites 1\n0 Success\n",
+    )
+}
+
+#[test]
+fn nine_digits(rt: HostRuntime) -> Result<(), Fail> {
+    let report = format!(in rt.alloc();
+        "channel 0 drained\ntail 5\nActive\nRead Add a 999999999\nCaught Syntax\nRead Get zz\nReadComplete\nbytes 29 3a3939393939393939390d0a2d4552522073796e7461780d0a3a300d0a\nwrites 3\n{THREE_SUCCESSES}"
+    )?;
+    drains(
+        &rt,
+        64,
+        "[[\"ADD a 999999999\\nADD a 1234567890\\nGET zz\\n\"]]",
+        "R0x4 O0x4",
+        report.as_str(),
+    )
+}
+
+#[test]
+fn quit(rt: HostRuntime) -> Result<(), Fail> {
+    drains(
+        &rt,
+        64,
+        "[[\"PING\\nQUIT\\nPING\\nPI\"]]",
+        "R0x4 O0x4",
+        "channel 0 drained\ntail 3\nActive\nRead Ping\nRead Quit\nbytes 13 2b504f4e470d0a2b4259450d0a\nwrites 2\n0 Success\n1 Success\n",
+    )
+}
+
+// The writes of the service do not pass the encoder.
+#[test]
+fn encoder_behind_turn(rt: HostRuntime) -> Result<(), Fail> {
+    let text = piped(
+        &rt,
+        r#"{"op":"last","name":"lines","kind":"lines","max":64},
+{"op":"last","name":"decode","kind":"decode"},
+{"op":"last","name":"lineend","kind":"lineend"},
+{"op":"last","name":"service","kind":"service"},
+{"op":"last","name":"encode","kind":"encode"}"#,
+        "[[\"PING\\n\"]]",
+    )?;
+    let report =
+        "channel 0 drained\ntail 3\nActive\nRead Ping\nReadComplete\nbytes 0 -\nwrites 1\n0 Unsupported\n";
+    answers(replayed(&rt, text.as_str(), "R0x4 O0x4")?, 0, report, "")?;
+    Ok(())
+}
+
+// One flush of two passes, and there is only one.
+#[test]
+fn flush_never_comes(rt: HostRuntime) -> Result<(), Fail> {
+    let behind = line_protocol(&rt, 64)?;
+    let edits = format!(in rt.alloc();
+        "{{\"op\":\"last\",\"name\":\"flush_every\",\"kind\":\"flush_every\",\"n\":2}},\n{behind}"
+    )?;
+    let text = piped(&rt, edits.as_str(), "[[\"PING\\n\"]]")?;
+    let report =
+        "channel 0 drained\ntail 3\nActive\nRead Ping\nReadComplete\nbytes 0 -\nwrites 1\n0 Closed\n";
+    answers(replayed(&rt, text.as_str(), "R0x4 O0x4")?, 0, report, "")?;
+    Ok(())
+}
+
+#[test]
+fn no_channels(rt: HostRuntime) -> Result<(), Fail> {
+    let text = r#"{"version":1,"capacity":4,"loops":1,"channels":[]}"#;
+    answers(replayed(&rt, text, "")?, 0, "", "")?;
+    let refused = "replay refused: 1 NoSuch\n";
+    answers(replayed(&rt, text, "R0")?, 2, "", refused)?;
+    answers(replayed(&rt, text, "T0")?, 0, "", "")?;
+    Ok(())
+}
+
+/// The report of a channel that was asked to ping once.
+const PINGED: &str =
+    "drained\ntail 3\nActive\nRead Ping\nReadComplete\nbytes 7 2b504f4e470d0a\nwrites 1\n0 Success\n";
+
+/// Three channels of the line protocol, with two handlers in a group of two executors.
+const IN_A_GROUP: &str = r#"{"op":"last","name":"lines","kind":"lines","max":64},
+{"op":"last","name":"decode","kind":"decode","group":"g"},
+{"op":"last","name":"lineend","kind":"lineend"},
+{"op":"last","name":"encode","kind":"encode"},
+{"op":"last","name":"service","kind":"service","group":"g"}"#;
+
+// Whatever the group, and in whichever order the channels move; executors 0 to 2 are there.
+#[test]
+fn group_placing(rt: HostRuntime) -> Result<(), Fail> {
+    let channel = format!(in rt.alloc();
+        "{{\"handlers\":[{IN_A_GROUP}],\"bursts\":[[\"PING\\n\"]]}}"
+    )?;
+    let text = format!(in rt.alloc();
+        "{{\"version\":1,\"capacity\":4,\"loops\":1,\"groups\":[{{\"name\":\"g\",\"size\":2}}],\"channels\":[{channel},{channel},{channel}]}}"
+    )?;
+    let report = format!(in rt.alloc(); "channel 0 {PINGED}channel 1 {PINGED}channel 2 {PINGED}")?;
+    let text = text.as_str();
+    let moves = "R2x3 R0x3 O2 T1 H2 R1x3 O0x2 O1";
+    answers(replayed(&rt, text, moves)?, 0, report.as_str(), "")?;
+    answers(
+        replayed(&rt, text, "T3")?,
+        2,
+        "",
+        "replay refused: 1 NoSuch\n",
+    )?;
+    Ok(())
+}
+
+// All five edits.
+#[test]
+fn edits_in_any_order(rt: HostRuntime) -> Result<(), Fail> {
+    let text = piped(
+        &rt,
+        r#"{"op":"first","name":"service","kind":"service"},
+{"op":"first","name":"spare","kind":"encode"},
+{"op":"before","at":"service","name":"encode","kind":"encode"},
+{"op":"before","at":"encode","name":"lineend","kind":"lineend"},
+{"op":"first","name":"lines","kind":"lines","max":64},
+{"op":"after","at":"lines","name":"decode","kind":"decode"},
+{"op":"remove","name":"spare"}"#,
+        "[[\"PING\\n\"]]",
+    )?;
+    let report = format!(in rt.alloc(); "channel 0 {PINGED}")?;
+    answers(
+        replayed(&rt, text.as_str(), "R0x3 O0")?,
+        0,
+        report.as_str(),
+        "",
+    )?;
+    Ok(())
 }

@@ -1,6 +1,7 @@
 //! Sessions and schedules that are refused: the status, the line on standard error, and nothing on standard output.
 
-use crate::running::{answers, replayed, session};
+use crate::running::{answers, line_protocol, piped, replayed, session};
+use std::alloc::AllocError;
 use std::test::Fail;
 
 fn refuses(rt: &HostRuntime, text: &str, moves: &str, status: u8, line: &str) -> Result<(), Fail> {
@@ -25,16 +26,79 @@ fn refused_sessions(rt: HostRuntime) -> Result<(), Fail> {
     Ok(())
 }
 
-// Handlers in another order are a pipeline that is not built yet.
-#[test]
-fn refused_pipeline(rt: HostRuntime) -> Result<(), Fail> {
-    refuses(
-        &rt,
-        "{\"version\":1,\"capacity\":4,\"loops\":1,\"channels\":[{\"handlers\":[],\"bursts\":[]}]}",
-        "",
-        3,
-        "session refused: 6 Build 3 Limit\n",
+/// A session with these groups, and of one channel these marks and these edits behind the line protocol.
+fn built(rt: &HostRuntime, groups: &str, marks: &str, more: &str) -> Result<String, AllocError> {
+    let edits = line_protocol(rt, 64)?;
+    format!(in rt.alloc();
+        "{{\"version\":1,\"capacity\":4,\"loops\":1,\"groups\":[{groups}],\"channels\":[{{\"handlers\":[{edits}{more}],{marks}\"bursts\":[]}}]}}"
     )
+}
+
+/// Says that a session is refused when its pipelines are built, with this reason.
+fn refuses_to_build(rt: &HostRuntime, text: &str, reason: &str) -> Result<(), Fail> {
+    let line = format!(in rt.alloc(); "session refused: 6 Build {reason}\n")?;
+    refuses(rt, text, "", 3, line.as_str())
+}
+
+#[test]
+fn builder_refusals(rt: HostRuntime) -> Result<(), Fail> {
+    for (more, reason) in [
+        (
+            r#",{"op":"last","name":"lines","kind":"decode"}"#,
+            "1 DuplicateName",
+        ),
+        (
+            r#",{"op":"before","at":"nobody","name":"more","kind":"decode"}"#,
+            "2 NoSuchName",
+        ),
+        (r#",{"op":"remove","name":"nobody"}"#, "2 NoSuchName"),
+        (r#",{"op":"last","name":"","kind":"decode"}"#, "3 Limit"),
+    ] {
+        let text = built(&rt, "", "", more)?;
+        refuses_to_build(&rt, text.as_str(), reason)?;
+    }
+    Ok(())
+}
+
+#[test]
+fn build_refusals(rt: HostRuntime) -> Result<(), Fail> {
+    for (marks, more, reason) in [
+        (
+            "",
+            r#",{"op":"first","name":"more","kind":"encode","group":"x"}"#,
+            "4 NoSuchGroup",
+        ),
+        ("", r#",{"op":"remove","name":"service"}"#, "5 NoTurn"),
+        (
+            "",
+            r#",{"op":"first","name":"another","kind":"service"}"#,
+            "6 TwoTurns",
+        ),
+        (r#""low":9,"high":8,"#, "", "7 Marks"),
+        (r#""high":100,"#, "", "7 Marks"),
+    ] {
+        let text = built(&rt, "", marks, more)?;
+        refuses_to_build(&rt, text.as_str(), reason)?;
+    }
+    let nothing = piped(&rt, "", "[]")?;
+    refuses_to_build(&rt, nothing.as_str(), "5 NoTurn")
+}
+
+#[test]
+fn group_refusals(rt: HostRuntime) -> Result<(), Fail> {
+    for (groups, reason) in [
+        (r#"{"name":"g","size":16}"#, "3 Limit"),
+        (r#"{"name":"g","size":0}"#, "3 Limit"),
+        (r#"{"name":"","size":1}"#, "3 Limit"),
+        (
+            r#"{"name":"g","size":1},{"name":"g","size":1}"#,
+            "1 DuplicateName",
+        ),
+    ] {
+        let text = built(&rt, groups, "", "")?;
+        refuses_to_build(&rt, text.as_str(), reason)?;
+    }
+    Ok(())
 }
 
 // A channel or an executor that is not there refuses the whole replay, wherever it is named.

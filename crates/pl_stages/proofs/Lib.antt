@@ -1,2 +1,9 @@
 pub mod Framing
 pub mod Spaces
+pub mod PrintedNumbers
+pub mod Grammar
+pub mod Additions
+pub mod TotalsByName
+pub mod Accepted
+pub mod ServiceLimits
+pub mod FlushCounts

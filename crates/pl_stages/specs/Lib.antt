@@ -1,7 +1,10 @@
 pub mod Mappings
 pub mod LineFraming
+pub mod Numbers
 pub mod Commands
 pub mod Service
+pub mod Totals
 pub mod Replies
 pub mod LineEnding
+pub mod Flushes
 pub mod Counts

@@ -1,11 +1,13 @@
--- The line service: it replies to commands until it is told to quit (docs/FORMATS.md, "Service").
-use Rattle.std.specs.Prelude.{◌≡◌, List, [], ◌∷◌, ◌++◌, Bool, true, false, ◌||◌, if◌then◌else◌, refl}
-use Rattle.std.specs.List.{list_any}
+-- The line service: it replies to commands and keeps totals until it is told to quit (docs/FORMATS.md, "Service").
+use Rattle.std.specs.Prelude.{◌≡◌, ℕ, ◌+◌, ◌^◌, List, [], ◌∷◌, ◌++◌, length, filter, sum_by, Bool, true, false, not, ◌&&◌, ◌||◌, if◌then◌else◌, nat_lt, nat_le, Option, Some, None, refl}
+use Rattle.std.specs.List.{list_any, take_while, fold}
+use Rattle.std.specs.Str.{bytes_eq}
 use Rattle.pl_event.specs.declared.events.Event.{Event}
 use Rattle.pl_event.specs.declared.events.Event.TheVariants.{Active, Read, ReadComplete, Caught, Write, Flush}
 use Rattle.pl_event.specs.declared.events.Message.TheVariants.{Bytes, Line, Command, Reply}
 use Rattle.pl_event.specs.declared.events.Command.TheVariants.{Ping, Quit, Echo, Add, Get}
-use Rattle.pl_event.specs.declared.events.Reply.TheVariants.{Pong, Text, Bye, Error}
+use Rattle.pl_event.specs.declared.events.Reply.{Reply as ReplyKind}
+use Rattle.pl_event.specs.declared.events.Reply.TheVariants.{Pong, Text, Total, Bye, Error}
 use Rattle.pl_event.specs.declared.events.Caught.{Caught as CaughtKind}
 use Rattle.pl_event.specs.declared.events.Caught.TheVariants as caught
 use Rattle.pl_event.specs.declared.events.Fault.{Fault}
@@ -32,34 +34,96 @@ is_quit Flush = false
 abbrev pub has_quit : List Event → Bool
 has_quit xs = list_any is_quit xs
 
+-- what comes before the first quit
+abbrev pub before_quit : List Event → List Event
+before_quit xs = take_while (λ x. not (is_quit x)) xs
+
+-- a number that was added to the total of a key
+pub record Addition : Type 0 where
+  pub key : List ℕ
+  pub number : ℕ
+
+-- the total of a key after these additions: the sum of what was added to it
+abbrev pub total_of : List ℕ → List Addition → ℕ
+total_of key additions = sum_by (λ a. a.number) (filter (λ a. bytes_eq key a.key) additions)
+
+-- a key is held once something was added to it
+abbrev pub is_held : List ℕ → List Addition → Bool
+is_held key additions = list_any (λ a. bytes_eq key a.key) additions
+
+-- the keys that are held, each once
+abbrev pub held_keys : List Addition → List (List ℕ)
+held_keys [] = []
+held_keys (a ∷ additions) = if is_held a.key additions then held_keys additions else a.key ∷ held_keys additions
+
+-- Why a number is not added to a key after these additions: its total would be above 10^15, or the key is not held and
+-- 256 keys are.
+abbrev pub refusal_of : List ℕ → ℕ → List Addition → Option Fault
+refusal_of key n additions =
+    if nat_lt (10 ^ 15) (total_of key additions + n) then Some fault.Range
+    else (if not (is_held key additions) && nat_le 256 (length (held_keys additions)) then Some fault.Full else None)
+
+abbrev pub unless_refused : Option Fault → List Addition → List Addition
+unless_refused None added = added
+unless_refused (Some why) added = []
+
+-- what an event adds after these additions
+abbrev pub added_by : List Addition → Event → List Addition
+added_by additions (Read (Command (Add key n))) =
+    unless_refused (refusal_of key n additions) (record { key = key; number = n } ∷ [])
+added_by additions (Read (Command Ping)) = []
+added_by additions (Read (Command Quit)) = []
+added_by additions (Read (Command (Echo text))) = []
+added_by additions (Read (Command (Get key))) = []
+added_by additions (Read (Bytes b)) = []
+added_by additions (Read (Line b)) = []
+added_by additions (Read (Reply r)) = []
+added_by additions Active = []
+added_by additions ReadComplete = []
+added_by additions (Caught c) = []
+added_by additions (Write m) = []
+added_by additions Flush = []
+
+-- The additions accepted among these events: of those before any quit, each with regard to the ones accepted before it.
+abbrev pub accepted : List Event → List Addition
+accepted xs = fold (λ additions x. additions ++ added_by additions x) [] (before_quit xs)
+
 -- what an error reply says of input that was no command
 abbrev pub fault_of : CaughtKind → Fault
 fault_of caught.TooLong = fault.TooLong
 fault_of caught.Unknown = fault.Unknown
 fault_of caught.Syntax = fault.Syntax
 
--- what is written in reply to an event before any quit
-abbrev pub replies_to : Event → List Event
-replies_to (Read (Command Ping)) = Write (Reply Pong) ∷ []
-replies_to (Read (Command Quit)) = Write (Reply Bye) ∷ Flush ∷ []
-replies_to (Read (Command (Echo text))) = Write (Reply (Text text)) ∷ []
-replies_to (Read (Command (Add key n))) = []
-replies_to (Read (Command (Get key))) = []
-replies_to (Read (Bytes b)) = []
-replies_to (Read (Line b)) = []
-replies_to (Read (Reply r)) = []
-replies_to Active = []
-replies_to ReadComplete = Flush ∷ []
-replies_to (Caught c) = Write (Reply (Error (fault_of c))) ∷ []
-replies_to (Write m) = []
-replies_to Flush = []
+-- the reply to an addition: the new total, or why it is refused
+abbrev pub reply_unless : Option Fault → ℕ → ReplyKind
+reply_unless None total = Total total
+reply_unless (Some why) total = Error why
+
+abbrev pub addition_reply : List ℕ → ℕ → List Addition → ReplyKind
+addition_reply key n additions = reply_unless (refusal_of key n additions) (total_of key additions + n)
+
+-- what is written in reply to an event before any quit, when these additions were accepted before it
+abbrev pub replies_to : List Addition → Event → List Event
+replies_to additions (Read (Command Ping)) = Write (Reply Pong) ∷ []
+replies_to additions (Read (Command Quit)) = Write (Reply Bye) ∷ Flush ∷ []
+replies_to additions (Read (Command (Echo text))) = Write (Reply (Text text)) ∷ []
+replies_to additions (Read (Command (Add key n))) = Write (Reply (addition_reply key n additions)) ∷ []
+replies_to additions (Read (Command (Get key))) = Write (Reply (Total (total_of key additions))) ∷ []
+replies_to additions (Read (Bytes b)) = []
+replies_to additions (Read (Line b)) = []
+replies_to additions (Read (Reply r)) = []
+replies_to additions Active = []
+replies_to additions ReadComplete = Flush ∷ []
+replies_to additions (Caught c) = Write (Reply (Error (fault_of c))) ∷ []
+replies_to additions (Write m) = []
+replies_to additions Flush = []
 
 -- Until it has quit, it passes each event on and writes the replies; after that it makes nothing.
 abbrev pub line_service : Meaning
 line_service = record {
   direction = Turn;
   up = λ xs x. if has_quit xs then [] else x ∷ [];
-  down = λ xs x. if has_quit xs then [] else replies_to x;
+  down = λ xs x. if has_quit xs then [] else replies_to (accepted xs) x;
   ended = has_quit;
 }
 

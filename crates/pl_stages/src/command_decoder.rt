@@ -1,16 +1,26 @@
-ghost use Rattle.std.specs.Prelude.{◌≡◌, false, ◌+◌, ◌<◌, ◌≤◌, ◌++◌, ◌∷◌, [], length, take, drop, Some, None, vec_len, OnOk, OnErr, ⊤};
-ghost use Rattle.pl_stages.specs.Commands.{command_decoding, command_of, command_with, read_as, decoded};
+ghost use Rattle.std.specs.Prelude.{◌≡◌, false, ◌+◌, ◌<◌, ◌≤◌, ◌++◌, ◌∷◌, [], length, take, drop, Some, None, vec_len, OnOk, OnErr, ⊤, ◌||◌, codes};
+ghost use Rattle.std.specs.Str.{bytes_eq};
+ghost use Rattle.pl_stages.specs.Commands.{command_decoding, command_of, command_with, add_with, addition_of, get_with, key_in, decoded};
 ghost use Rattle.pl_stages.specs.Mappings.{mapping_up-lawful};
 
+use crate::numbers::number_in;
 use memchr::memchr;
-use pl_event::{ByteString, Caught, Command, Direction, Event, Message, Stage, StageFault, Turned};
+use pl_event::{
+    ByteString, Caught, Command, Direction, Event, Key, Message, Stage, StageFault, Turned,
+};
 use std::alloc::AllocError;
 
 const SPACE: u8 = 32;
 
 const PING: &[u8] = b"PING";
 
+const QUIT: &[u8] = b"QUIT";
+
 const ECHO: &[u8] = b"ECHO";
+
+const ADD: &[u8] = b"ADD";
+
+const GET: &[u8] = b"GET";
 
 /// Reads each line as a command, or says what is wrong with it (`docs/FORMATS.md`, "Commands").
 #[derive(Debug, Drop)]
@@ -96,11 +106,19 @@ fn command_alone(verb: &[u8]) -> Result<Command, Caught>
 {
     if verb == PING {
         Ok(Command::Ping)
-    } else if verb == ECHO {
+    } else if verb == QUIT {
+        Ok(Command::Quit)
+    } else if takes_argument(verb) {
         Err(Caught::Syntax)
     } else {
         Err(Caught::Unknown)
     }
+}
+
+fn takes_argument(verb: &[u8]) -> bool
+    ensures { result ≡ (bytes_eq verb.now (codes "ECHO") || bytes_eq verb.now (codes "ADD") || bytes_eq verb.now (codes "GET")) }
+{
+    verb == ECHO || verb == ADD || verb == GET
 }
 
 // The command of a line whose first space stands at `end`.
@@ -109,10 +127,14 @@ fn command_followed(line: Vec<u8>, end: usize) -> Result<Command, Caught>
     ensures { result ≡ command_with (take end line.items) (Some (drop (end + 1) line.items)) }
 {
     let verb = &line[..end];
-    if verb == PING {
+    if verb == PING || verb == QUIT {
         Err(Caught::Syntax)
     } else if verb == ECHO {
         Ok(Command::Echo(ByteString::from_vec(without_front(line, end + 1))))
+    } else if verb == ADD {
+        add_with(without_front(line, end + 1))
+    } else if verb == GET {
+        get_with(without_front(line, end + 1))
     } else {
         Err(Caught::Unknown)
     }
@@ -125,4 +147,34 @@ fn without_front(mut bytes: Vec<u8>, count: usize) -> Vec<u8>
 {
     drop(bytes.drain(..count));
     bytes
+}
+
+// The addition of a key, a space and a number.
+fn add_with(argument: Vec<u8>) -> Result<Command, Caught>
+    ensures { result ≡ add_with (Some argument.items) }
+{
+    match memchr(SPACE, argument.as_slice()) {
+        None => Err(Caught::Syntax),
+        Some(end) => {
+            let number = number_in(&argument[end + 1..]);
+            let mut name = argument;
+            name.truncate(end);
+            addition_of(name, number)
+        }
+    }
+}
+
+fn addition_of(name: Vec<u8>, number: Option<u32>) -> Result<Command, Caught>
+    ensures { result ≡ addition_of (key_in name.items) number }
+{
+    let key = Key::new(ByteString::from_vec(name)).ok_or(Caught::Syntax)?;
+    let number = number.ok_or(Caught::Syntax)?;
+    Ok(Command::Add(key, number))
+}
+
+fn get_with(name: Vec<u8>) -> Result<Command, Caught>
+    ensures { result ≡ get_with (Some name.items) }
+{
+    let key = Key::new(ByteString::from_vec(name)).ok_or(Caught::Syntax)?;
+    Ok(Command::Get(key))
 }

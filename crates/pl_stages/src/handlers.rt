@@ -1,4 +1,5 @@
 use crate::command_decoder::CommandDecoder;
+use crate::flush_every::FlushEvery;
 use crate::line_end::LineEnd;
 use crate::line_framer::LineFramer;
 use crate::line_service::LineService;
@@ -12,17 +13,19 @@ pub enum Handler {
     Decode(CommandDecoder),
     LineEnd(LineEnd),
     Encode(ReplyEncoder),
+    FlushEvery(FlushEvery),
     Service(LineService),
 }
 
 impl Stage for Handler {
-    ghost use Rattle.pl_stages.specs.declared.handlers.Handler.TheVariants.{Lines, Decode, LineEnd, Encode, Service};
+    ghost use Rattle.pl_stages.specs.declared.handlers.Handler.TheVariants.{Lines, Decode, LineEnd, Encode, FlushEvery, Service};
 
     ghost meaning = { elim [
       | Lines s ↦ ⟦<LineFramer as Stage>⟧.meaning s
       | Decode s ↦ ⟦<CommandDecoder as Stage>⟧.meaning s
       | LineEnd s ↦ ⟦<LineEnd as Stage>⟧.meaning s
       | Encode s ↦ ⟦<ReplyEncoder as Stage>⟧.meaning s
+      | FlushEvery s ↦ ⟦<FlushEvery as Stage>⟧.meaning s
       | Service s ↦ ⟦<LineService as Stage>⟧.meaning s
     ] };
 
@@ -31,6 +34,7 @@ impl Stage for Handler {
       | Decode s ↦ ⟦<CommandDecoder as Stage>⟧.stands_after s
       | LineEnd s ↦ ⟦<LineEnd as Stage>⟧.stands_after s
       | Encode s ↦ ⟦<ReplyEncoder as Stage>⟧.stands_after s
+      | FlushEvery s ↦ ⟦<FlushEvery as Stage>⟧.stands_after s
       | Service s ↦ ⟦<LineService as Stage>⟧.stands_after s
     ] };
 
@@ -39,6 +43,7 @@ impl Stage for Handler {
       | Decode s ↦ ⟦<CommandDecoder as Stage>⟧.is_spent s
       | LineEnd s ↦ ⟦<LineEnd as Stage>⟧.is_spent s
       | Encode s ↦ ⟦<ReplyEncoder as Stage>⟧.is_spent s
+      | FlushEvery s ↦ ⟦<FlushEvery as Stage>⟧.is_spent s
       | Service s ↦ ⟦<LineService as Stage>⟧.is_spent s
     ] };
 
@@ -48,6 +53,7 @@ impl Stage for Handler {
             Handler::Decode(stage) => stage.direction(),
             Handler::LineEnd(stage) => stage.direction(),
             Handler::Encode(stage) => stage.direction(),
+            Handler::FlushEvery(stage) => stage.direction(),
             Handler::Service(stage) => stage.direction(),
         }
     }
@@ -63,6 +69,7 @@ impl Stage for Handler {
             Handler::Decode(stage) => stage.step(event, up, down),
             Handler::LineEnd(stage) => stage.step(event, up, down),
             Handler::Encode(stage) => stage.step(event, up, down),
+            Handler::FlushEvery(stage) => stage.step(event, up, down),
             Handler::Service(stage) => stage.step(event, up, down),
         }
     }
@@ -72,6 +79,7 @@ impl Stage for Handler {
     ghost use Rattle.pl_stages.specs.Commands.{decoded};
     ghost use Rattle.pl_stages.specs.LineEnding.{with_line_end};
     ghost use Rattle.pl_stages.specs.Replies.{encoded};
+    ghost use Rattle.pl_stages.specs.Flushes.{flush_every-lawful};
     ghost use Rattle.pl_stages.specs.Service.{line_service-lawful};
 
     ghost lawful = { elim [
@@ -79,6 +87,7 @@ impl Stage for Handler {
       | Decode s ↦ mapping_up-lawful decoded
       | LineEnd s ↦ mapping_down-lawful with_line_end
       | Encode s ↦ mapping_down-lawful encoded
+      | FlushEvery s ↦ flush_every-lawful s.n
       | Service s ↦ line_service-lawful
     ] };
 }

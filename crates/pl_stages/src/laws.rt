@@ -1,25 +1,63 @@
-ghost use Rattle.std.specs.Prelude.{◌≡◌, ◌≢◌, ◌↔◌, ℕ, ◌+◌, ◌*◌, ◌≤◌, ◌==◌, List, [], ◌∷◌, ◌++◌, length, codes};
+ghost use Rattle.std.specs.Prelude.{◌≡◌, ◌≢◌, ◌↔◌, ℕ, ◌+◌, ◌^◌, ◌<◌, ◌≤◌, ◌==◌, List, [], ◌∷◌, ◌++◌, length, count_by, true, false, None, decimal, codes, if◌then◌else◌};
 ghost use Rattle.std.specs.List.{slice_split};
+ghost use Rattle.std.specs.Str.{bytes_eq};
 ghost use Rattle.pl_event.specs.declared.events.Event.{Event};
-ghost use Rattle.pl_event.specs.Meaning.{up_of, down_of};
-ghost use Rattle.pl_event.specs.declared.events.Command.TheVariants.{Ping, Echo};
-ghost use Rattle.pl_event.specs.declared.events.Caught.TheVariants.{Unknown};
-ghost use Rattle.pl_stages.specs.LineFraming.{line_framing, joined, closed_parts, open_part};
+ghost use Rattle.pl_event.specs.declared.events.Event.TheVariants.{Read};
+ghost use Rattle.pl_event.specs.declared.events.Message.TheVariants.{Command};
+ghost use Rattle.pl_event.specs.declared.events.Command.TheVariants.{Ping, Quit, Echo, Add, Get};
+ghost use Rattle.pl_event.specs.declared.events.Caught.TheVariants.{Unknown, TooLong};
+ghost use Rattle.pl_event.specs.declared.events.Fault.{Fault};
+ghost use Rattle.pl_event.specs.declared.events.Fault.TheVariants.{Range, Full};
+ghost use Rattle.pl_event.specs.Keys.{is_key};
+ghost use Rattle.pl_stages.specs.declared.handlers.Handler.{Handler};
+ghost use Rattle.pl_stages.specs.LineFraming.{line_framing, closed_parts, open_part};
+ghost use Rattle.pl_stages.specs.Numbers.{number_in};
 ghost use Rattle.pl_stages.specs.Commands.{command_decoding, command_of, verb_of};
-ghost use Rattle.pl_stages.specs.Service.{line_service};
+ghost use Rattle.pl_stages.specs.Service.{line_service, Addition, accepted, total_of, is_held, held_keys, refusal_of, has_quit};
 ghost use Rattle.pl_stages.specs.Replies.{reply_encoding};
 ghost use Rattle.pl_stages.specs.LineEnding.{line_ending};
+ghost use Rattle.pl_stages.specs.Flushes.{flush_every};
+ghost use Rattle.pl_stages.specs.Counts.{IsThrifty};
 
-/// How many events the handlers make of a whole list: the framer at most one for each event and each byte read, the
-/// service at most the events themselves and two replies for each, every other handler as many as it takes.
+use crate::handlers::Handler;
+use pl_event::Stage;
+
+/// How much a handler makes of a whole list of events: upwards no more weight than it takes, one for each event and
+/// one for each byte read; downwards at most two events for each one, and an outbound handler at most one.
 pub fn count_law()
-    ensures lines { (max : ℕ) (xs : List Event)
-        → length (up_of (line_framing max) xs) ≤ length xs + length (joined xs) }
-    ensures commands { (xs : List Event) → length (up_of command_decoding xs) ≡ length xs }
-    ensures passed { (xs : List Event) → length (up_of line_service xs) ≤ length xs }
-    ensures replies { (xs : List Event) → length (down_of line_service xs) ≤ 2 * length xs }
-    ensures texts { (xs : List Event) → length (down_of reply_encoding xs) ≡ length xs }
-    ensures line_ends { (xs : List Event) → length (down_of line_ending xs) ≡ length xs }
+    ensures lines { (max : ℕ) → IsThrifty (line_framing max) }
+    ensures commands { IsThrifty command_decoding }
+    ensures service { IsThrifty line_service }
+    ensures texts { IsThrifty reply_encoding }
+    ensures line_ends { IsThrifty line_ending }
+    ensures flushes { (n : ℕ) → IsThrifty (flush_every n) }
+    ensures handlers { (handler : Handler) → IsThrifty (⟦<Handler as Stage>⟧.meaning handler) }
+{}
+
+/// What the service's totals come to. An addition is refused only where it would pass a limit; one that is accepted
+/// raises the total of its own key, and nothing else changes any total.
+pub fn service_law()
+    ensures range { (key : List ℕ) (n : ℕ) (additions : List Addition)
+        → (refusal_of key n additions ≡ Some Range) ↔ (10 ^ 15 < total_of key additions + n) }
+    ensures full { (key : List ℕ) (n : ℕ) (additions : List Addition)
+        → (refusal_of key n additions ≡ Some Full)
+        ↔ ((total_of key additions + n ≤ 10 ^ 15) × (is_held key additions ≡ false) × (256 ≤ length (held_keys additions))) }
+    ensures added { (xs : List Event) (key : List ℕ) (n : ℕ) (name : List ℕ)
+        → has_quit xs ≡ false → refusal_of key n (accepted xs) ≡ None
+        → total_of name (accepted (xs ++ Read (Command (Add key n)) ∷ []))
+        ≡ total_of name (accepted xs) + (if bytes_eq name key then n else 0) }
+    ensures refused { (xs : List Event) (key : List ℕ) (n : ℕ) (why : Fault)
+        → refusal_of key n (accepted xs) ≡ Some why
+        → accepted (xs ++ Read (Command (Add key n)) ∷ []) ≡ accepted xs }
+    ensures others { (xs : List Event) (x : Event) → ((key : List ℕ) (n : ℕ) → x ≢ Read (Command (Add key n)))
+        → accepted (xs ++ x ∷ []) ≡ accepted xs }
+    ensures after_quit { (xs ys : List Event) → has_quit xs ≡ true → accepted (xs ++ ys) ≡ accepted xs }
+
+    // No total is ever above 10^15, and at most 256 keys are held. Each stands once among the keys held.
+    ensures totals { (xs : List Event) (key : List ℕ) → total_of key (accepted xs) ≤ 10 ^ 15 }
+    ensures keys { (xs : List Event) → length (held_keys (accepted xs)) ≤ 256 }
+    ensures each_once { (key : List ℕ) (additions : List Addition)
+        → count_by (bytes_eq key) (held_keys additions) ≡ (if is_held key additions then 1 else 0) }
 {}
 
 /// The parts that line feeds close, and behind them the open part, are what a split at each line feed gives.
@@ -27,10 +65,18 @@ pub fn framing_law()
     ensures { (bytes : List ℕ) → slice_split (λ b. b == 10) bytes ≡ closed_parts bytes ++ open_part bytes ∷ [] }
 {}
 
-/// The only lines that are commands, and the lines whose verb is unknown. Every other line is one of wrong syntax.
+/// The only lines that are commands, and the lines whose verb is unknown.
 pub fn command_law()
     ensures ping { (line : List ℕ) → (command_of line ≡ Ok Ping) ↔ (line ≡ codes "PING") }
+    ensures quit { (line : List ℕ) → (command_of line ≡ Ok Quit) ↔ (line ≡ codes "QUIT") }
     ensures echo { (line text : List ℕ) → (command_of line ≡ Ok (Echo text)) ↔ (line ≡ codes "ECHO " ++ text) }
+    ensures add { (line key : List ℕ) (n : ℕ) → (command_of line ≡ Ok (Add key n))
+        ↔ ((is_key key ≡ true) × (n < 10 ^ 9) × (line ≡ codes "ADD " ++ key ++ codes " " ++ decimal n)) }
+    ensures get { (line key : List ℕ) → (command_of line ≡ Ok (Get key)) ↔ ((is_key key ≡ true) × (line ≡ codes "GET " ++ key)) }
+    // A text is a number of 1 to 9 digits without a leading zero exactly where it is how one below 10^9 is printed.
+    ensures number { (text : List ℕ) (n : ℕ) → (number_in text ≡ Some n) ↔ ((n < 10 ^ 9) × (text ≡ decimal n)) }
     ensures unknown { (line : List ℕ) → (command_of line ≡ Err Unknown)
-        ↔ ((verb_of line ≢ codes "PING") × (verb_of line ≢ codes "ECHO")) }
+        ↔ ((verb_of line ≢ codes "PING") × (verb_of line ≢ codes "QUIT") × (verb_of line ≢ codes "ECHO") × (verb_of line ≢ codes "ADD") × (verb_of line ≢ codes "GET")) }
+    // So every other line is one of wrong syntax.
+    ensures never_long { (line : List ℕ) → command_of line ≢ Err TooLong }
 {}

@@ -2,18 +2,22 @@
 #![tactic(auto)]
 
 mod command_decoder;
+mod flush_every;
 mod handlers;
 mod laws;
 mod line_end;
 mod line_framer;
 mod line_service;
+mod numbers;
 mod reply_encoder;
 #[cfg(test)]
 mod tests;
+mod totals;
 
 pub use command_decoder::CommandDecoder;
+pub use flush_every::FlushEvery;
 pub use handlers::Handler;
-pub use laws::{command_law, count_law, framing_law};
+pub use laws::{command_law, count_law, framing_law, service_law};
 pub use line_end::LineEnd;
 pub use line_framer::{LineFramer, StageRefusal};
 pub use line_service::LineService;

@@ -1,25 +1,29 @@
-ghost use Rattle.std.specs.Prelude.{◌≡◌, false, ◌++◌, ◌∷◌, [], OnErr, OnOk};
-ghost use Rattle.pl_stages.specs.Service.{line_service, line_service-lawful, has_quit, is_quit, replies_to, fault_of};
+ghost use Rattle.std.specs.Prelude.{◌≡◌, false, List, ◌++◌, ◌∷◌, [], OnErr, OnOk};
+ghost use Rattle.pl_stages.specs.Service.{line_service, line_service-lawful, has_quit, is_quit, Addition, accepted, added_by, replies_to, fault_of};
+ghost use Rattle.pl_stages.specs.Totals.{KeepsTotals};
 
+use crate::totals::Totals;
 use pl_event::{
     Caught, Command, Direction, Event, Fault, Message, Reply, Stage, StageFault, Turned,
 };
-use std::alloc::AllocError;
+use std::alloc::{AllocError, Global};
 
-/// Replies to commands until it is told to quit (`docs/FORMATS.md`, "Service").
+/// Replies to commands, and keeps totals, until it is told to quit (`docs/FORMATS.md`, "Service").
 #[derive(Debug, Drop)]
 pub struct LineService {
+    totals: Totals,
     has_quit: bool,
     is_spent: bool,
 }
 
 impl LineService {
-    pub fn new() -> Self
+    pub fn new(alloc: Global) -> Self
         ensures meaning { ⟦<LineService as Stage>⟧.meaning result ≡ line_service }
         ensures stands { ⟦<LineService as Stage>⟧.stands_after result [] }
         ensures unspent { ⟦<LineService as Stage>⟧.is_spent result ≡ false }
     {
         LineService {
+            totals: Totals::new(alloc),
             has_quit: false,
             is_spent: false,
         }
@@ -29,7 +33,7 @@ impl LineService {
 impl Stage for LineService {
     ghost meaning = { λ s. line_service };
 
-    ghost stands_after = { λ s xs. s.has_quit ≡ has_quit xs };
+    ghost stands_after = { λ s xs. (s.has_quit ≡ has_quit xs) × KeepsTotals s.totals (accepted xs) };
 
     ghost is_spent = { λ s. s.is_spent };
 
@@ -50,7 +54,7 @@ impl Stage for LineService {
             return Ok(Turned::Ended);
         }
         let quits = is_quit(&event);
-        match serve(event, up, down) {
+        match serve(&mut self.totals, event, up, down) {
             Ok(()) => {
                 self.has_quit = quits;
                 Ok(if quits { Turned::Ended } else { Turned::Open })
@@ -75,35 +79,63 @@ fn is_quit(event: &Event) -> bool
 }
 
 // Passes an event on, and writes the replies to it.
-fn serve(event: Event, up: &mut Vec<Event>, down: &mut Vec<Event>) -> Result<(), AllocError>
+fn serve(
+    totals: &mut Totals,
+    event: Event,
+    up: &mut Vec<Event>,
+    down: &mut Vec<Event>,
+) -> Result<(), AllocError>
     ensures up { OnOk result (up.new.items ≡ up.old.items ++ event ∷ []) }
-    ensures down { OnOk result (down.new.items ≡ down.old.items ++ replies_to event) }
+    ensures down { OnOk result ((additions : List Addition) → KeepsTotals totals.old additions
+        → down.new.items ≡ down.old.items ++ replies_to additions event) }
+    ensures totals { OnOk result ((additions : List Addition) → KeepsTotals totals.old additions
+        → KeepsTotals totals.new (additions ++ added_by additions event)) }
     ensures up_kept { OnErr result (up.new.items ≡ up.old.items) }
     ensures down_kept { OnErr result (down.new.items ≡ down.old.items) }
 {
     up.reserve(1)?;
-    write_replies(&event, down)?;
+    write_replies(totals, &event, down)?;
     up.push_reserved(event);
     Ok(())
 }
 
-fn write_replies(event: &Event, down: &mut Vec<Event>) -> Result<(), AllocError>
-    ensures ok { OnOk result (down.new.items ≡ down.old.items ++ replies_to event.now) }
+fn write_replies(
+    totals: &mut Totals,
+    event: &Event,
+    down: &mut Vec<Event>,
+) -> Result<(), AllocError>
+    ensures down { OnOk result ((additions : List Addition) → KeepsTotals totals.old additions
+        → down.new.items ≡ down.old.items ++ replies_to additions event.now) }
+    ensures totals { OnOk result ((additions : List Addition) → KeepsTotals totals.old additions
+        → KeepsTotals totals.new (additions ++ added_by additions event.now)) }
     ensures err { OnErr result (down.new.items ≡ down.old.items) }
 {
     match event {
-        Event::Read(Message::Command(Command::Ping)) => down.push(written(Reply::Pong))?,
-        Event::Read(Message::Command(Command::Echo(text))) => {
-            down.push(written(Reply::Text(text.clone()?)))?;
-        }
-        Event::Read(Message::Command(Command::Quit)) => {
+        Event::Read(Message::Command(command)) => answer(totals, command, down)?,
+        Event::Caught(caught) => down.push(written(Reply::Error(fault_of(*caught))))?,
+        Event::ReadComplete => down.push(Event::Flush)?,
+        _ => {}
+    }
+    Ok(())
+}
+
+fn answer(totals: &mut Totals, command: &Command, down: &mut Vec<Event>) -> Result<(), AllocError>
+    ensures down { OnOk result ((additions : List Addition) → KeepsTotals totals.old additions
+        → down.new.items ≡ down.old.items ++ replies_to additions (Event.Read (Message.Command command.now))) }
+    ensures totals { OnOk result ((additions : List Addition) → KeepsTotals totals.old additions
+        → KeepsTotals totals.new (additions ++ added_by additions (Event.Read (Message.Command command.now)))) }
+    ensures err { OnErr result (down.new.items ≡ down.old.items) }
+{
+    match command {
+        Command::Ping => down.push(written(Reply::Pong))?,
+        Command::Echo(text) => down.push(written(Reply::Text(text.clone()?)))?,
+        Command::Add(key, number) => down.push(written(totals.add(key, *number)?))?,
+        Command::Get(key) => down.push(written(Reply::Total(totals.get(key))))?,
+        Command::Quit => {
             down.reserve(2)?;
             down.push_reserved(written(Reply::Bye));
             down.push_reserved(Event::Flush);
         }
-        Event::Caught(caught) => down.push(written(Reply::Error(fault_of(*caught))))?,
-        Event::ReadComplete => down.push(Event::Flush)?,
-        _ => {}
     }
     Ok(())
 }

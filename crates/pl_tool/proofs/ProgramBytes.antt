@@ -14,8 +14,8 @@ pub takes_more : (all most : ℕ) (a b c : Option (List ℕ)) (bs : List ℕ) �
 takes_more all most a b c bs p q small =
     (bs ++ q.0, consumes_more a b c bs q.0 p q.1, omega (arith, length-append bs q.0, q.2))
 
--- bytes that were taken, and then so many more behind them
-pub read_on : (a b c : Option (List ℕ)) (old new : List ℕ) (n : ℕ) → Consumes a b old → (bytes : List ℕ) × Consumes b c bytes × (length bytes ≡ n) × (new ≡ old ++ bytes)
-    → Consumes a c new × (length new ≡ length old + n)
-read_on a b c old new n p more =
+-- bytes that were taken, and then no more than so many behind them
+pub read_on : (a b c : Option (List ℕ)) (old new : List ℕ) (most : ℕ) → Consumes a b old → (bytes : List ℕ) × Consumes b c bytes × (length bytes ≤ most) × (new ≡ old ++ bytes)
+    → Consumes a c new × (length new ≤ length old + most)
+read_on a b c old new most p more =
     (rw more.3 (consumes_more a b c old more.0 p more.1), omega (arith, ap length more.3, length-append old more.0, more.2))

@@ -1,16 +1,19 @@
 -- What clap finds on a command line is the text of its moves.
-use Rattle.std.proofs.Common.{◌≡◌, ◌∙◌, ℕ, List, [], ◌∷◌, Bool, true, false, map, drop, Option, Some, None, refl, sym, subst, ap, ap₂, codes, Bor, Result, Ok, Err, IfOk, IfSome, string_bytes, String, Global}
+use Rattle.std.proofs.Common.{◌≡◌, ◌∙◌, ℕ, List, [], ◌∷◌, Bool, true, false, not, ◌&&◌, map, drop, Option, Some, None, refl, sym, ap, ap₂, codes, Bor, string_bytes, String, Global}
+use Rattle.std.proofs.Common.{arith}
+use Rattle.std.proofs.lemmas.Bool.Decides.{nat_tests}
 use Rattle.std.specs.Prelude.{if◌then◌else◌, option_map, option_and_then, unwrap_or, Box}
 use Rattle.std.specs.Box.{box_value}
 use Rattle.std.specs.List.{list_any}
 use Rattle.std.specs.Str.{bytes_eq}
 use Rattle.clap.proofs.WalkLemmas.{list_any-map, first_value-rows}
+use Rattle.clap.specs.Faults.{fault_of}
+use Rattle.clap.specs.Kinds.{IsAmong, Kinds}
 use Rattle.clap.specs.Matches.{first_value, found_of, subcommand_name_of}
-use Rattle.clap.specs.Walk.{Row, Text, first_of, rows_of}
-use Rattle.std.specs.Result.{result_ok}
-use Rattle.clap.specs.declared.builder.command.Command.{Command}
-use Rattle.clap.specs.Simple.{App, HasMatchesOf, app_of, is_simple, subcommand_of, subcommand_rows, subcommand_rows_of}
-use Rattle.clap.specs.declared.parser.matches.ArgMatches.{ArgMatches}
+use Rattle.clap.specs.Walk.{Row, Text, first_of, is_empty, rows_of}
+use Rattle.clap.specs.Simple.{subcommand_of, subcommand_rows, subcommand_rows_of}
+use Rattle.clap.specs.declared.error.kind.ErrorKind.{ErrorKind}
+use Rattle.clap.specs.declared.parser.matches.Found.{Found}
 use Rattle.clap.specs.declared.parser.matches.ArgMatches.TheViews.{out-ArgMatches, out-SubCommand}
 use Rattle.clap.specs.declared.parser.matches.SubCommand.{SubCommand}
 use Rattle.pl_tool.specs.ProgramLines.{given_text, has_dash, moves_text_of, program}
@@ -22,19 +25,21 @@ map_drop (w ∷ ws) = refl
 has_dash_is : (words : List (String Global)) → list_any (λ w. bytes_eq (codes "-") (string_bytes w)) (drop 1 words) ≡ has_dash (map string_bytes words)
 has_dash_is words = list_any-map (bytes_eq (codes "-")) string_bytes (drop 1 words) ∙ ap (list_any (bytes_eq (codes "-"))) (map_drop words)
 
--- the command that was made
-pub made_is : {E : Type 0} (r : Result Command E) (made : Command) → IfOk r (λ m. app_of m ≡ program) → Some made ≡ result_ok r → app_of made ≡ program
-made_is (Ok x) made p e = ap (λ o. app_of (unwrap_or o x)) e ∙ p
-made_is (Err x) made p e = cc
+-- ---- the option of the subcommand
 
-parsed_is : (a : App) (words : List Text) (m : ArgMatches) → a ≡ program → HasMatchesOf a words m → subcommand_rows_of m ≡ subcommand_of program words
-parsed_is a words m is h = (h (ap is_simple is)).1 ∙ ap (λ b. subcommand_of b words) is
+now_or_empty : (got : Option (Bor Text)) (empty : Bor Text) → empty.now ≡ [] → (unwrap_or got empty).now ≡ unwrap_or (option_map (λ t. t.now) got) []
+now_or_empty None empty e = e
+now_or_empty (Some t) empty e = refl
 
--- what a parse by the program's command found
-pub parsed_if : {E : Type 0} (r : Result ArgMatches E) (o : Option ArgMatches) (a : App) (words : List Text) → a ≡ program → o ≡ result_ok r → IfOk r (HasMatchesOf a words)
-    → IfSome o (λ m. subcommand_rows_of m ≡ subcommand_of program words)
-parsed_if (Ok m) o a words is e h = subst (λ v. IfSome v (λ n. subcommand_rows_of n ≡ subcommand_of program words)) (sym e) (parsed_is a words m is h)
-parsed_if (Err x) o a words is e h = subst (λ v. IfSome v (λ n. subcommand_rows_of n ≡ subcommand_of program words)) (sym e) tt
+pub option_value : (got : Option (Bor Text)) (chosen empty : Bor Text) (first : Option Text) → option_map (λ t. t.now) got ≡ first → chosen ≡ unwrap_or got empty → empty.now ≡ []
+    → chosen.now ≡ unwrap_or first []
+option_value got chosen empty first is chose none =
+    ap (λ (t : Bor Text). t.now) chose ∙ now_or_empty got empty none ∙ ap (λ (o : Option Text). unwrap_or o []) is
+
+pub replay_gives : (found : Found) (name value : Text) → name ≡ codes "replay" → value ≡ unwrap_or (first_value found (codes "moves")) [] → Some value ≡ given_text (name, rows_of found)
+replay_gives found name value is chose = sym (
+    ap (λ (n : Text). given_text (n, rows_of found)) is
+    ∙ ap (λ (o : Option Text). Some (unwrap_or o [])) (sym (first_value-rows found (codes "moves"))) ∙ ap Some (sym chose))
 
 found_is : {Z : Type 0} (s : Option (Box SubCommand Z)) (name : Text) (rows : List Row) → Some name ≡ option_map (λ b. (out-SubCommand (box_value b)).name.now) s
     → Some rows ≡ option_map (λ p. p.1) (subcommand_rows s) → subcommand_rows s ≡ Some (name, rows)
@@ -42,28 +47,44 @@ found_is None name rows a b = cc
 found_is (Some sub) name rows a b =
     ap₂ (λ (x : Text) (y : List Row). Some (x, y)) (sym (ap (λ o. unwrap_or o name) a)) (sym (ap (λ o. unwrap_or o rows) b))
 
-now_or_empty : (got : Option (Bor Text)) (empty : Bor Text) → empty.now ≡ [] → (unwrap_or got empty).now ≡ unwrap_or (option_map (λ t. t.now) got) []
-now_or_empty None empty e = e
-now_or_empty (Some t) empty e = refl
+-- the text of the moves by what was found of the subcommand
+pub given_is : {Z : Type 0} (s : Option (Box SubCommand Z)) (name : Text) (rows : List Row) (text : Option Text) → Some name ≡ option_map (λ b. (out-SubCommand (box_value b)).name.now) s
+    → Some rows ≡ option_map (λ p. p.1) (subcommand_rows s) → text ≡ given_text (name, rows) → text ≡ option_and_then given_text (subcommand_rows s)
+given_is s name rows text named has given = given ∙ ap (option_and_then given_text) (sym (found_is s name rows named has))
 
--- the text of the moves by the name that was met and by what `get_str` gave
-pub given_is : (m inner : ArgMatches) (name : Text) (got : Option (Bor Text)) (chosen empty : Bor Text)
-    → Some name ≡ subcommand_name_of m → Some (rows_of (found_of inner)) ≡ option_map (λ p. p.1) (subcommand_rows_of m)
-    → name ≡ codes "replay" → option_map (λ t. t.now) got ≡ first_value (found_of inner) (codes "moves") → chosen ≡ unwrap_or got empty → empty.now ≡ []
-    → option_and_then given_text (subcommand_rows_of m) ≡ Some chosen.now
-given_is m inner name got chosen empty named rows is first chose none =
-    ap (option_and_then given_text) (found_is (out-ArgMatches m).subcommand name (rows_of (found_of inner)) named rows ∙ ap (λ (n : Text). Some (n, rows_of (found_of inner))) is)
-    ∙ ap (λ (o : Option Text). Some (unwrap_or o [])) (sym (first_value-rows (found_of inner) (codes "moves")) ∙ sym first)
-    ∙ ap Some (sym (now_or_empty got empty none)) ∙ ap (λ (t : Bor Text). Some t.now) (sym chose)
+-- ---- the line
 
-line_is : (words : List (String Global)) (text : Option Text) → list_any (λ w. bytes_eq (codes "-") (string_bytes w)) (drop 1 words) ≡ false
-    → option_and_then given_text (subcommand_of program (map string_bytes words)) ≡ text → moves_text_of (map string_bytes words) ≡ text
-line_is words text no_dash is =
-    ap (λ (b : Bool). if b then None else option_and_then given_text (subcommand_of program (map string_bytes words))) (sym (has_dash_is words) ∙ no_dash) ∙ is
+text_if : Bool → Kinds → Option Text → Option Text
+text_if dash faults found = if not dash && is_empty faults then found else None
 
--- the text of a line with no lone -
-pub text_is : (words : List (String Global)) (m : ArgMatches) (got : Option (Bor Text)) → list_any (λ w. bytes_eq (codes "-") (string_bytes w)) (drop 1 words) ≡ false
-    → subcommand_rows_of m ≡ subcommand_of program (map string_bytes words) → IfSome got (λ t. option_and_then given_text (subcommand_rows_of m) ≡ Some t.now)
-    → IfSome got (λ t. moves_text_of (map string_bytes words) ≡ Some t.now)
-text_is words m None no_dash is h = tt
-text_is words m (Some t) no_dash is h = line_is words (Some t.now) no_dash (ap (option_and_then given_text) (sym is) ∙ h)
+is_some_fault : (k : ErrorKind) (ks : Kinds) → is_empty (k ∷ ks) ≡ false
+is_some_fault k ks = grind (arith, nat_tests)
+
+no_text : (dash : Bool) (faults : Kinds) (found : Option Text) (k : ErrorKind) → IsAmong k faults → text_if dash faults found ≡ None
+unfolding text_if
+no_text dash [] found k h = absurd h
+no_text true (x ∷ xs) found k h = refl
+no_text false (x ∷ xs) found k h = ap (λ (b : Bool). if b then found else None) (is_some_fault x xs)
+
+text_is : (words : List (String Global)) → moves_text_of (map string_bytes words)
+    ≡ text_if (list_any (λ w. bytes_eq (codes "-") (string_bytes w)) (drop 1 words)) (fault_of program (map string_bytes words)) (option_and_then given_text (subcommand_of program (map string_bytes words)))
+unfolding text_if
+text_is words = ap (λ (b : Bool). text_if b (fault_of program (map string_bytes words)) (option_and_then given_text (subcommand_of program (map string_bytes words)))) (sym (has_dash_is words))
+
+-- a line with a lone -
+pub dash_is_refused : (words : List (String Global)) → list_any (λ w. bytes_eq (codes "-") (string_bytes w)) (drop 1 words) ≡ true → None ≡ moves_text_of (map string_bytes words)
+unfolding text_if
+dash_is_refused words dash = sym (text_is words ∙ ap (λ (b : Bool). text_if b (fault_of program (map string_bytes words)) (option_and_then given_text (subcommand_of program (map string_bytes words)))) dash)
+
+-- a line of which clap has a fault to tell
+pub fault_is_refused : (words : List (String Global)) (k : ErrorKind) → IsAmong k (fault_of program (map string_bytes words)) → None ≡ moves_text_of (map string_bytes words)
+fault_is_refused words k among = sym (text_is words ∙ no_text _ _ _ k among)
+
+-- a line that is read
+pub line_is_read : (words : List (String Global)) (dash : Bool) (rows : Option (Text × List Row)) (text : Option Text) → text ≡ option_and_then given_text rows
+    → rows ≡ subcommand_of program (map string_bytes words) → fault_of program (map string_bytes words) ≡ []
+    → dash ≡ list_any (λ w. bytes_eq (codes "-") (string_bytes w)) (drop 1 words) → dash ≡ false → text ≡ moves_text_of (map string_bytes words)
+unfolding text_if
+line_is_read words dash rows text given is no_fault dash_is no_dash =
+    given ∙ ap (option_and_then given_text) is
+    ∙ sym (text_is words ∙ ap₂ (λ (b : Bool) (f : Kinds). text_if b f (option_and_then given_text (subcommand_of program (map string_bytes words)))) (sym dash_is ∙ no_dash) no_fault)

@@ -1,105 +1,103 @@
--- The lanes of the line protocol are small, since each byte of the input makes few events.
-use Rattle.std.proofs.Common.{◌≡◌, ℕ, zero, suc, ◌+◌, ◌-◌, ◌*◌, ◌<◌, ◌≤◌, ◌^◌, Bool, true, false, cond, leb, List, [], ◌∷◌, ◌++◌, length, take, map, sum_by, ap, ◌∙◌, refl, arith, length-append}
+-- The lanes of a pipeline are small, since each byte of the input makes few events.
+use Rattle.std.proofs.Common.{◌≡◌, ℕ, zero, suc, ◌+◌, ◌-◌, ◌*◌, ◌<◌, ◌≤◌, ◌^◌, Bool, true, false, cond, leb, List, [], ◌∷◌, length, take, map, sum_by, ap, ◌∙◌, refl, arith}
+use Rattle.std.specs.Prelude.{All}
 use Rattle.std.specs.List.{flat_map}
-use Rattle.std.proofs.lemmas.List.{length-map}
 use Rattle.std.proofs.lemmas.List.Concat.{flat_map-cons}
-use Rattle.std.proofs.lemmas.List.Sums.{sum_by-cons}
-use Rattle.std.proofs.lemmas.Grind.{flat_map-append}
+use Rattle.std.proofs.lemmas.List.Elements.{All-head, All-tail}
+use Rattle.std.proofs.lemmas.List.Sums.{sum_by-cons, sum_by-append}
 use Rattle.pl_event.specs.declared.events.Event.{Event}
 use Rattle.pl_event.specs.declared.events.Event.TheVariants.{Active, Read, ReadComplete}
 use Rattle.pl_event.specs.declared.events.Message.TheVariants.{Bytes}
+use Rattle.pl_event.specs.declared.stages.Direction.{Direction}
+use Rattle.pl_event.specs.declared.stages.Direction.TheVariants.{Inbound, Outbound, Turn}
 use Rattle.pl_event.specs.Meaning.{Meaning, up_of, down_of}
 use Rattle.pl_event.specs.Inputs.{burst_events, recorded_input}
-use Rattle.pl_event.specs.Lanes.{lane, through_by, through, out_through, written}
-use Rattle.pl_stages.specs.LineFraming.{line_framing, joined, read_bytes}
-use Rattle.pl_stages.specs.Commands.{command_decoding}
-use Rattle.pl_stages.specs.LineEnding.{line_ending}
-use Rattle.pl_stages.specs.Replies.{reply_encoding}
-use Rattle.pl_stages.specs.Service.{line_service}
-use Rattle.pl_stages.specs.Counts.{length-line_framing-le, length-command_decoding, length-line_service-up-le, length-line_service-down-le, length-reply_encoding, length-line_ending}
-use Rattle.pl_tool.specs.Plans.{ChannelPlan, line_pipeline}
-use Rattle.pl_tool.specs.Handlers.{inbound_of, outbound_of}
-use Rattle.pl_tool.specs.SessionLimits.{AreBurstsWithin, AreLanesSmall, chunk_count, byte_count}
+use Rattle.pl_event.specs.Lanes.{lane, through, out_through, written}
+use Rattle.pl_stages.specs.Counts.{IsThrifty, event_weight, weight}
+use Rattle.pl_tool.specs.SessionLimits.{AreBurstsWithin, chunk_count, byte_count}
 
 -- ---- the recorded input
 
--- what the bursts of a channel give: an event for each chunk, and one for each burst
-burst_events-length : (bursts : List (List (List ℕ))) → length (flat_map burst_events bursts) ≡ chunk_count bursts + length bursts
-burst_events-length [] = refl
-burst_events-length (chunks ∷ bursts) =
-    let more : chunk_count (chunks ∷ bursts) ≡ length chunks + chunk_count bursts = sum_by-cons length chunks bursts in
-    simp (flat_map-cons, length-append, length-map) (omega (arith, more, burst_events-length bursts))
-
-recorded_input-length : (bursts : List (List (List ℕ))) → length (recorded_input bursts) ≡ chunk_count bursts + length bursts + 1
-recorded_input-length bursts = omega (arith, burst_events-length bursts)
-
--- the bytes of a burst are those of its chunks
-chunk_bytes : (chunks : List (List ℕ)) → length (joined (map (λ chunk. Read (Bytes chunk)) chunks)) ≡ sum_by length chunks
-chunk_bytes [] = refl
-chunk_bytes (chunk ∷ chunks) =
+chunks_weight : (chunks : List (List ℕ)) → weight (map (λ chunk. Read (Bytes chunk)) chunks) ≡ length chunks + sum_by length chunks
+chunks_weight [] = refl
+chunks_weight (chunk ∷ chunks) =
     let more = sum_by-cons length chunk chunks in
-    omega (arith, more, chunk_bytes chunks, length-append chunk (joined (map (λ c. Read (Bytes c)) chunks)))
+    let event = sum_by-cons event_weight (Read (Bytes chunk)) (map (λ c. Read (Bytes c)) chunks) in
+    omega (arith, more, event, chunks_weight chunks)
 
-burst_bytes : (chunks : List (List ℕ)) → length (joined (burst_events chunks)) ≡ sum_by length chunks
-burst_bytes chunks =
-    let split = ap (λ (t : List ℕ). length t) (flat_map-append read_bytes (map (λ chunk. Read (Bytes chunk)) chunks) (ReadComplete ∷ [])) in
-    omega (arith, split, length-append (joined (map (λ chunk. Read (Bytes chunk)) chunks)) (joined (ReadComplete ∷ [])), chunk_bytes chunks)
+burst_weight : (chunks : List (List ℕ)) → weight (burst_events chunks) ≡ length chunks + sum_by length chunks + 1
+burst_weight chunks =
+    let split = sum_by-append event_weight (map (λ chunk. Read (Bytes chunk)) chunks) (ReadComplete ∷ []) in
+    omega (arith, split, chunks_weight chunks)
 
-bursts_bytes : (bursts : List (List (List ℕ))) → length (joined (flat_map burst_events bursts)) ≡ byte_count bursts
-bursts_bytes [] = refl
-bursts_bytes (chunks ∷ bursts) =
-    let more : byte_count (chunks ∷ bursts) ≡ sum_by length chunks + byte_count bursts = sum_by-cons (sum_by length) chunks bursts in
-    let split = ap (λ (t : List Event). length (joined t)) (flat_map-cons burst_events chunks bursts) ∙ ap (λ (t : List ℕ). length t) (flat_map-append read_bytes (burst_events chunks) (flat_map burst_events bursts)) in
-    omega (arith, more, split, length-append (joined (burst_events chunks)) (joined (flat_map burst_events bursts)), burst_bytes chunks, bursts_bytes bursts)
+bursts_weight : (bursts : List (List (List ℕ))) → weight (flat_map burst_events bursts) ≡ chunk_count bursts + byte_count bursts + length bursts
+bursts_weight [] = refl
+bursts_weight (chunks ∷ bursts) =
+    let counts : chunk_count (chunks ∷ bursts) ≡ length chunks + chunk_count bursts = sum_by-cons length chunks bursts in
+    let sizes : byte_count (chunks ∷ bursts) ≡ sum_by length chunks + byte_count bursts = sum_by-cons (sum_by length) chunks bursts in
+    let split = ap weight (flat_map-cons burst_events chunks bursts) ∙ sum_by-append event_weight (burst_events chunks) (flat_map burst_events bursts) in
+    omega (arith, counts, sizes, split, burst_weight chunks, bursts_weight bursts)
+
+input_weight : (bursts : List (List (List ℕ))) → weight (recorded_input bursts) ≡ chunk_count bursts + byte_count bursts + length bursts + 1
+input_weight bursts =
+    let active = sum_by-cons event_weight Active (flat_map burst_events bursts) in
+    omega (arith, active, bursts_weight bursts)
 
 -- ---- lanes
 
-module _ (max : ℕ) (xs : List Event) (most : ℕ) (all : length xs + length (joined xs) ≤ most) where
-  framed : length (up_of (line_framing max) xs) ≤ most
-  framed = let h = length-line_framing-le max xs in omega (arith, h, all)
+length-weight-le : (xs : List Event) → length xs ≤ weight xs
+length-weight-le [] = omega arith
+length-weight-le (x ∷ xs) = omega (arith, sum_by-cons event_weight x xs, length-weight-le xs)
 
-  decoded : length (up_of command_decoding (up_of (line_framing max) xs)) ≤ most
-  decoded = let h = length-command_decoding (up_of (line_framing max) xs) in omega (arith, h, framed)
+through_small : (ms : List Meaning) (n : ℕ) (xs : List Event) → All IsThrifty ms → weight (through (take n ms) xs) ≤ weight xs
+through_small [] zero xs all = omega arith
+through_small [] (suc n) xs all = omega arith
+through_small (m ∷ ms) zero xs all = omega arith
+through_small (m ∷ ms) (suc n) xs all =
+    let rest = through_small ms n (up_of m xs) (All-tail IsThrifty m ms all) in
+    let here = (All-head IsThrifty m ms all).upwards xs in
+    omega (arith, rest, here)
 
-  passed : length (up_of line_service (up_of command_decoding (up_of (line_framing max) xs))) ≤ most
-  passed = let h = length-line_service-up-le (up_of command_decoding (up_of (line_framing max) xs)) in omega (arith, h, decoded)
+written_by : (d : Direction) (turned passed : List Event) (n : ℕ) → length turned ≤ n → length passed ≤ n → length (elim d as (λ _. List Event) [ Turn ↦ turned | Inbound ↦ passed | Outbound ↦ passed ]) ≤ n
+written_by Turn turned passed n h k = h
+written_by Inbound turned passed n h k = k
+written_by Outbound turned passed n h k = k
 
-  replied : length (down_of line_service (up_of command_decoding (up_of (line_framing max) xs))) ≤ 2 * most
-  replied = let h = length-line_service-down-le (up_of command_decoding (up_of (line_framing max) xs)) in omega (arith, h, decoded)
+written_small : (ms : List Meaning) (xs : List Event) → All IsThrifty ms → length (written ms xs) ≤ 2 * weight xs
+written_small [] xs all = omega arith
+written_small (m ∷ ms) xs all =
+    let head = All-head IsThrifty m ms all in
+    let below = head.downwards xs in
+    let long = length-weight-le xs in
+    let rest = written_small ms (up_of m xs) (All-tail IsThrifty m ms all) in
+    let here = head.upwards xs in
+    written_by m.direction (down_of m xs) (written ms (up_of m xs)) (2 * weight xs) (omega (arith, below, long)) (omega (arith, rest, here))
 
-  inbound_small : (hop : ℕ) → length (through (take hop (line_framing max ∷ command_decoding ∷ line_service ∷ [])) xs) ≤ most
-  inbound_small zero = omega (arith, all)
-  inbound_small (suc zero) = framed
-  inbound_small (suc (suc zero)) = decoded
-  inbound_small (suc (suc (suc zero))) = passed
-  inbound_small (suc (suc (suc (suc n)))) = passed
+out_small : (ms : List Meaning) (n : ℕ) (xs : List Event) → All IsThrifty ms → All (λ m. m.direction ≡ Outbound) ms → length (out_through (take n ms) xs) ≤ length xs
+out_small [] zero xs all out = omega arith
+out_small [] (suc n) xs all out = omega arith
+out_small (m ∷ ms) zero xs all out = omega arith
+out_small (m ∷ ms) (suc n) xs all out =
+    let rest = out_small ms n (down_of m xs) (All-tail IsThrifty m ms all) (All-tail (λ (o : Meaning). o.direction ≡ Outbound) m ms out) in
+    let here = (All-head IsThrifty m ms all).outbound (All-head (λ (o : Meaning). o.direction ≡ Outbound) m ms out) xs in
+    omega (arith, rest, here)
 
-  outbound_small : (place : ℕ) → length (out_through (take place (reply_encoding ∷ line_ending ∷ [])) (down_of line_service (up_of command_decoding (up_of (line_framing max) xs)))) ≤ 2 * most
-  outbound_small zero = replied
-  outbound_small (suc zero) = let h = length-reply_encoding (down_of line_service (up_of command_decoding (up_of (line_framing max) xs))) in omega (arith, h, replied)
-  outbound_small (suc (suc zero)) =
-      let h = length-reply_encoding (down_of line_service (up_of command_decoding (up_of (line_framing max) xs))) in
-      let k = length-line_ending (down_of reply_encoding (down_of line_service (up_of command_decoding (up_of (line_framing max) xs)))) in
-      omega (arith, h, k, replied)
-  outbound_small (suc (suc (suc n))) =
-      let h = length-reply_encoding (down_of line_service (up_of command_decoding (up_of (line_framing max) xs))) in
-      let k = length-line_ending (down_of reply_encoding (down_of line_service (up_of command_decoding (up_of (line_framing max) xs)))) in
-      omega (arith, h, k, replied)
+lane_small : (inbound outbound : List Meaning) (xs : List Event) (hop : ℕ) → All IsThrifty inbound → All IsThrifty outbound → All (λ m. m.direction ≡ Outbound) outbound
+    → length (lane inbound outbound xs hop) ≤ 2 * weight xs
+lane_small inbound outbound xs hop thrifty below out =
+    let up = through_small inbound hop xs thrifty in
+    let long = length-weight-le (through (take hop inbound) xs) in
+    let down = out_small outbound (hop - length inbound - 1) (written inbound xs) below out in
+    let turned = written_small inbound xs thrifty in
+    elim (leb hop (length inbound)) as (λ (b : Bool). length (cond b (through (take hop inbound) xs) (out_through (take (hop - length inbound - 1) outbound) (written inbound xs))) ≤ 2 * weight xs) [
+      | true ↦ omega (arith, up, long)
+      | false ↦ omega (arith, down, turned)
+    ]
 
-  lane_small : (hop : ℕ) → length (lane (line_framing max ∷ command_decoding ∷ line_service ∷ []) (reply_encoding ∷ line_ending ∷ []) xs hop) ≤ 2 * most
-  lane_small hop =
-      elim (leb hop 3) as (λ (b : Bool). length (cond b
-      (through (take hop (line_framing max ∷ command_decoding ∷ line_service ∷ [])) xs)
-      (out_through (take (hop - 3 - 1) (reply_encoding ∷ line_ending ∷ [])) (down_of line_service (up_of command_decoding (up_of (line_framing max) xs))))) ≤ 2 * most) [
-        | true ↦ let h = inbound_small hop in omega (arith, h)
-        | false ↦ outbound_small (hop - 3 - 1)
-      ]
-
--- each lane of the line protocol has few items, where the bursts are within their limits
-pub lanes_small : (max : ℕ) (bursts : List (List (List ℕ))) → AreBurstsWithin bursts → AreLanesSmall (record { handlers = line_pipeline max; bursts = bursts })
-lanes_small max bursts within hop =
-    let size = recorded_input-length bursts in
-    let bytes = bursts_bytes bursts in
-    let all : length (recorded_input bursts) + length (joined (recorded_input bursts)) ≤ 1069057 = omega (arith, size, bytes, within.bursts_at_most, within.chunks_at_most, within.bytes_at_most) in
-    let h = lane_small max (recorded_input bursts) 1069057 all hop in
-    omega (arith, h)
+-- each lane has few items, where the bursts are within their limits
+pub lanes_small : (inbound outbound : List Meaning) (bursts : List (List (List ℕ))) → All IsThrifty inbound → All IsThrifty outbound → All (λ m. m.direction ≡ Outbound) outbound → AreBurstsWithin bursts
+    → (hop : ℕ) → length (lane inbound outbound (recorded_input bursts) hop) + 1 < 2 ^ 31
+lanes_small inbound outbound bursts thrifty below out within hop =
+    let size = input_weight bursts in
+    let h = lane_small inbound outbound (recorded_input bursts) hop thrifty below out in
+    omega (arith, size, h, within.bursts_at_most, within.chunks_at_most, within.bytes_at_most)

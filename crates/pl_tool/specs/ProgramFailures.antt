@@ -1,15 +1,15 @@
 -- Why the program printed no report, its status, and its line on the second writer (docs/FORMATS.md, "Program").
-use Rattle.std.specs.Prelude.{ℕ, List, [], ◌∷◌, ◌++◌, codes}
+use Rattle.std.specs.Prelude.{ℕ, List, [], ◌∷◌, ◌++◌, codes, Option, Some, None}
 use Rattle.std.specs.declared.io.ErrorKind.{ErrorKind}
-use Rattle.std.specs.declared.io.ErrorKind.TheVariants.{OutOfMemory}
+use Rattle.std.specs.declared.io.ErrorKind.TheVariants.{Interrupted, OutOfMemory}
 use Rattle.pl_tool.specs.declared.moves_text.fault.MovesFault.{MovesFault}
 use Rattle.pl_tool.specs.declared.moves_text.fault.MovesFault.TheVariants as moves
-use Rattle.pl_tool.specs.declared.session_text.fault.BuildFault.{BuildFault}
-use Rattle.pl_tool.specs.declared.session_text.fault.BuildFault.TheVariants as build
+use Rattle.pl_build.specs.declared.faults.BuildFault.{BuildFault}
+use Rattle.pl_build.specs.declared.faults.BuildFault.TheVariants as build
 use Rattle.pl_tool.specs.declared.session_text.fault.SessionFault.{SessionFault}
 use Rattle.pl_tool.specs.declared.session_text.fault.SessionFault.TheVariants as session
-use Rattle.pl_tool.specs.declared.schedule.faults.ReplayFault.{ReplayFault}
-use Rattle.pl_tool.specs.declared.schedule.faults.ReplayFault.TheVariants as replay
+use Rattle.pl_replay.specs.declared.faults.ReplayFault.{ReplayFault}
+use Rattle.pl_replay.specs.declared.faults.ReplayFault.TheVariants as replay
 use Rattle.pl_tool.specs.declared.report_text.fault.PrintFault.{PrintFault}
 use Rattle.pl_tool.specs.declared.report_text.fault.PrintFault.TheVariants as print
 use Rattle.pl_tool.specs.declared.program.failure.Failure.{Failure}
@@ -47,6 +47,11 @@ failure_of_print print.Output = Output
 abbrev pub failure_of_words : ErrorKind → Failure
 failure_of_words OutOfMemory = Memory
 failure_of_words _ = Usage
+
+-- a read that was interrupted is made again
+abbrev pub failure_of_read : ErrorKind → Option Failure
+failure_of_read Interrupted = None
+failure_of_read _ = Some Input
 
 -- ---- lines: a text and LF. A fault for want of memory is no fault of what was read, and has the line of that.
 

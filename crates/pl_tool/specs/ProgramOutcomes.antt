@@ -3,21 +3,23 @@ use Rattle.std.specs.Prelude.{◌≡◌, ◌≢◌, ℕ, ◌≤◌, ◌<◌, Lis
 use Rattle.std.specs.List.{list_all}
 use Rattle.std.specs.Str.{is_utf8}
 use Rattle.std.specs.Io.KnownBytes.{Appends, Consumes, IsAtEnd, Keeps}
-use Rattle.pl_tool.specs.declared.moves.Move.{Move}
-use Rattle.pl_tool.specs.declared.report.Report.{Report}
-use Rattle.pl_tool.specs.declared.report.Stands.{Stands}
-use Rattle.pl_tool.specs.declared.report.Stands.TheVariants.{Drained, Open, Failed}
+use Rattle.pl_replay.specs.declared.moves.Move.{Move}
+use Rattle.pl_replay.specs.declared.report.Report.{Report}
+use Rattle.pl_replay.specs.declared.report.Stands.{Stands}
+use Rattle.pl_replay.specs.declared.report.Stands.TheVariants.{Drained, Open, Failed}
 use Rattle.pl_tool.specs.declared.session_text.fault.SessionFault.{SessionFault}
 use Rattle.pl_tool.specs.declared.session_text.fault.SessionFault.TheVariants.{Limit, NotJson}
 use Rattle.pl_tool.specs.declared.session_text.fault.SessionFault.TheVariants as session
 use Rattle.pl_tool.specs.declared.moves_text.words.Word.{Word}
 use Rattle.pl_tool.specs.declared.moves_text.fault.MovesFault.{MovesFault}
 use Rattle.pl_tool.specs.declared.moves_text.fault.MovesFault.TheVariants as moves
+use Rattle.pl_replay.specs.declared.faults.ReplayFault.TheVariants as replay
 use Rattle.pl_tool.specs.declared.program.failure.Failure.{Failure}
 use Rattle.pl_tool.specs.declared.program.failure.Failure.TheVariants.{Usage, Moves, Replay, Input, Session, Memory, Output}
-use Rattle.pl_tool.specs.MoveModel.{is_there}
-use Rattle.pl_tool.specs.Plans.{Plan}
-use Rattle.pl_tool.specs.Replays.{IsReplayed}
+use Rattle.pl_event.specs.Meaning.{IsPrefixOf}
+use Rattle.pl_replay.specs.MoveModel.{is_there}
+use Rattle.pl_replay.specs.Plans.{Plan}
+use Rattle.pl_replay.specs.Replays.{IsReplayed}
 use Rattle.pl_tool.specs.SessionTexts.{session_of}
 use Rattle.pl_tool.specs.MovesTexts.{MeansMoves, Says, total}
 use Rattle.pl_tool.specs.ReportTexts.{report_text}
@@ -114,28 +116,32 @@ RefusesInput (Session f) unread left = RefusesSession f unread left
 RefusesInput Memory unread left = ⊤
 RefusesInput _ unread left = ⊥
 
--- What explains a failure, of the command line and of what was taken from the reader. A failing read or write and a
--- refused growth need no more.
+-- What a failure says of the command line and of what was taken from the reader. Why a read or a write failed, and
+-- whether memory was wanting, is not seen here. So Usage says only that nothing was taken, Input that the line gives
+-- moves, Output that there was a report, and Memory nothing.
 abbrev pub IsCause : Failure → List (List ℕ) → Option (List ℕ) → Option (List ℕ) → Type 0
 IsCause Usage words unread left = Keeps unread left
 IsCause (Moves f) words unread left = RefusesMoves f words × Keeps unread left
-IsCause (Replay f) words unread left = NamesMissing words unread left
+IsCause (Replay replay.NoSuch) words unread left = NamesMissing words unread left
+IsCause (Replay replay.Memory) words unread left = ⊥
 IsCause Input words unread left = (moves : List Move) × GivesMoves words moves
 IsCause (Session f) words unread left = (moves : List Move) × GivesMoves words moves × RefusesSession f unread left
 IsCause Memory words unread left = ⊤
 IsCause Output words unread left = (report : Report) × IsReported words unread left report
 
--- only a failing writer may hold a part of a report
+-- A failure left the first writer as it was. Of a writer that failed itself nothing is said.
 abbrev pub Explains : Failure → List (List ℕ) → Option (List ℕ) → Option (List ℕ) → Option (List ℕ) → Option (List ℕ) → Type 0
 Explains failure words unread left before after = IsCause failure words unread left × (failure ≢ Output → Keeps before after)
 
--- The program ended with a status by a failure.
-pub record HasFailed (status : ℕ) (words : List (List ℕ)) (unread left before after : Option (List ℕ)) : Type 0 where
+-- A beginning of these bytes, which may be all or none of them, was added to what the writer holds.
+pub record AppendsPrefixOf (whole : List ℕ) (before after : Option (List ℕ)) : Type 0 where
+  pub part : List ℕ
+  pub begins : IsPrefixOf part whole
+  pub added : Appends before after part
+
+-- The program ended with a status by a failure, and what the second writer got begins the line of that failure.
+pub record HasFailed (status : ℕ) (words : List (List ℕ)) (unread left before after silent spoken : Option (List ℕ)) : Type 0 where
   pub failure : Failure
   pub ended : status ≡ status_of failure
   pub explained : Explains failure words unread left before after
-
--- It told the failure's line to the second writer, where that did not fail.
-pub record HasTold (status : ℕ) (told : Bool) (words : List (List ℕ)) (unread left before after silent spoken : Option (List ℕ)) : Type 0 where
-  pub failed : HasFailed status words unread left before after
-  pub line : told ≡ true → Appends silent spoken (failure_line failed.failure)
+  pub said : AppendsPrefixOf (failure_line failure) silent spoken

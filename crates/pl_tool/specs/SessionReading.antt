@@ -3,8 +3,8 @@ use Rattle.std.specs.Prelude.{◌≡◌, ◌≢◌, ℕ, ◌&&◌, Bool, List, [
 use Rattle.std.specs.Cmp.Lexicographic.{pointwise}
 use Rattle.serde_json.specs.Data.{Data, null, boolean, number, string, array, object, Items, no_items, item}
 use Rattle.serde_json.specs.Find.{get, as_number, as_u64, as_str}
-use Rattle.pl_tool.specs.declared.session_text.fault.BuildFault.{BuildFault}
-use Rattle.pl_tool.specs.declared.session_text.fault.BuildFault.TheVariants as build
+use Rattle.pl_build.specs.declared.faults.BuildFault.{BuildFault}
+use Rattle.pl_build.specs.declared.faults.BuildFault.TheVariants as build
 use Rattle.pl_tool.specs.declared.session_text.fault.SessionFault.{SessionFault}
 use Rattle.pl_tool.specs.declared.session_text.fault.SessionFault.TheVariants.{Missing, Kind, Limit, Build, Memory}
 
@@ -22,7 +22,7 @@ Answers (Ok x) meaning = meaning ≡ Ok x
 Answers (Err e) meaning = e ≢ Memory → meaning ≡ Err e
 
 -- a result with its value as view sees it
-abbrev pub seen : {A B : Type 0} → (A → B) → Result A SessionFault → Result B SessionFault
+abbrev pub seen : {A B F : Type 0} → (A → B) → Result A F → Result B F
 seen view (Ok x) = Ok (view x)
 seen view (Err e) = Err e
 
@@ -99,6 +99,10 @@ read_or read default (Some d) = read d
 
 abbrev pub with_default : {A : Type 0} → List ℕ → (Data → Result A SessionFault) → A → Data → Result A SessionFault
 with_default name read default d = read_or read default (present name d)
+
+-- a member of which there may be none
+abbrev pub optional : {A : Type 0} → List ℕ → (Data → Result A SessionFault) → Data → Result (Option A) SessionFault
+optional name read d = with_default name (λ member. read member >>= λ x. Ok (Some x)) None d
 
 -- a member that is not read yet, and refused with this fault
 abbrev pub absent : List ℕ → SessionFault → Data → Result (Unit {0}) SessionFault

@@ -4,9 +4,10 @@ use Rattle.serde_json.specs.Data.{Data}
 use Rattle.serde_json.specs.Read.{read}
 use Rattle.pl_tool.specs.declared.session_text.fault.SessionFault.{SessionFault}
 use Rattle.pl_tool.specs.declared.session_text.fault.SessionFault.TheVariants.{NotJson, Limit}
-use Rattle.pl_tool.specs.Plans.{Plan}
+use Rattle.pl_replay.specs.Plans.{Plan}
 use Rattle.pl_tool.specs.SessionReading.{◌>>=◌, known, built}
-use Rattle.pl_tool.specs.SessionOutlines.{outline_in, session_built}
+use Rattle.pl_tool.specs.SessionOutlines.{outline_in}
+use Rattle.pl_tool.specs.SessionBuilding.{session_built}
 
 -- all members are read before the pipelines are built
 unfoldable pub session_in : Data → Result Plan SessionFault

@@ -11,9 +11,9 @@ mod fault;
 mod tests;
 mod words;
 
-use crate::moves::Move;
 use copies::{left_of, moves_of_words};
 pub use fault::MovesFault;
+use pl_replay::Move;
 use std::alloc::Global;
 use words::{Word, read_word};
 

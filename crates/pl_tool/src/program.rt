@@ -2,34 +2,36 @@
 
 ghost use Rattle.std.specs.Prelude.{◌≡◌, ◌≢◌, ◌⊎◌, ◌≤◌, List, ℕ, Bool, true, false, map, string_bytes, IfErr, IfOk};
 ghost use Rattle.std.specs.IoError.{error_kind};
-ghost use Rattle.std.specs.Io.KnownBytes.{Appends, Keeps};
+ghost use Rattle.std.specs.Io.KnownBytes.{Keeps};
 ghost use Rattle.pl_tool.specs.ProgramFailures.{failure_line, failure_of_words, status_of};
-ghost use Rattle.pl_tool.specs.ProgramOutcomes.{Explains, GivesMoves, HasFailed, HasPrinted, HasTold, RefusesLine, TakesAtMost, all_drained};
+ghost use Rattle.pl_tool.specs.ProgramOutcomes.{AppendsPrefixOf, Explains, GivesMoves, HasFailed, HasPrinted, RefusesLine, TakesAtMost, all_drained};
 
 mod command_line;
 mod failure;
 mod input;
+mod telling;
 #[cfg(test)]
 mod tests;
 
-use crate::moves::Move;
 use crate::moves_text::read_moves;
-use crate::report::{Report, Stands};
 use crate::report_text::print_report;
-use crate::schedule::replay;
 use command_line::moves_text;
 use failure::Failure;
 use input::take_session;
+use pl_replay::{Move, Report, Stands, replay};
 use std::alloc::Global;
 use std::io;
 use std::io::{Read, Write};
+use telling::tell;
 
-/// The moves that the command line gives.
+/// The moves that the command line gives. A growth that is refused inside `clap` counts as a line that is not read.
 fn moves_in(alloc: Global, words: &[String]) -> Result<Vec<Move>, Failure>
     ensures ok { IfOk result (λ moves. GivesMoves (map string_bytes words.now) moves.items) }
     ensures err { IfErr result (λ e. RefusesLine e (map string_bytes words.now)) }
 {
-    let text = moves_text(alloc, words).ok_or(Failure::Usage)?;
+    let text = moves_text(alloc, words)
+        .unwrap_or(None)
+        .ok_or(Failure::Usage)?;
     Ok(read_moves(alloc, text)?)
 }
 
@@ -65,53 +67,6 @@ fn run<R: Read, W: Write>(
     Ok(is_drained(&report))
 }
 
-/// How the program ended.
-#[derive(Clone, Copy)]
-struct Ended {
-    status: u8,
-    /// Whether the second writer took the whole line of a failure, if there was one.
-    told: bool,
-}
-
-/// Writes the line of a failure. A second writer that fails changes no status.
-fn tell<E: Write>(failure: Failure, err: &mut E) -> Ended
-    ensures status { result.status ≡ status_of failure }
-    ensures told { result.told ≡ true → Appends (E.contents err.old) (E.contents err.new) (failure_line failure) }
-{
-    let told = err.write_all(failure.line().as_bytes()).is_ok();
-    Ended {
-        status: failure.status(),
-        told,
-    }
-}
-
-/// Runs the program, and tells why where it prints no report.
-fn run_and_tell<R: Read, W: Write, E: Write>(
-    alloc: Global,
-    words: &[String],
-    reader: &mut R,
-    out: &mut W,
-    err: &mut E,
-) -> Ended
-    ensures drained { result.status ≡ 0 → HasPrinted true (map string_bytes words.now)
-        (R.remaining reader.old) (R.remaining reader.new) (W.contents out.old) (W.contents out.new) }
-    ensures not_drained { result.status ≡ 1 → HasPrinted false (map string_bytes words.now)
-        (R.remaining reader.old) (R.remaining reader.new) (W.contents out.old) (W.contents out.new) }
-    ensures silent { (result.status ≡ 0) ⊎ (result.status ≡ 1) → Keeps (E.contents err.old) (E.contents err.new) }
-    ensures failed { 2 ≤ result.status → HasTold result.status result.told (map string_bytes words.now)
-        (R.remaining reader.old) (R.remaining reader.new) (W.contents out.old) (W.contents out.new)
-        (E.contents err.old) (E.contents err.new) }
-    ensures at_most { TakesAtMost 33554433 (R.remaining reader.old) (R.remaining reader.new) }
-{
-    match run(alloc, words, reader, out) {
-        Ok(drained) => Ended {
-            status: if drained { 0 } else { 1 },
-            told: true,
-        },
-        Err(failure) => tell(failure, err),
-    }
-}
-
 /// The program (`docs/FORMATS.md`, "Program"): reads the command line `words`, of which the first is the program's
 /// name, then its moves, then a session from the reader, replays it, and writes the text of its report to `out`.
 ///
@@ -119,11 +74,13 @@ fn run_and_tell<R: Read, W: Write, E: Write>(
 /// line on `err` says why: 2 where the command line or its moves were not read or name what is not there, 3 where the
 /// session was refused or a read failed, 4 where memory was wanting or `out` failed. Where the line or its moves were
 /// not read, nothing was taken from the reader; unless `out` failed, nothing was written to it. An `err` that fails
-/// changes no status.
+/// changes no status, and holds a beginning of the line.
 ///
-/// No contract can exclude that a read or a write fails or that memory is wanting, so a body that answers `input
-/// refused` behind the moves, `output refused` behind the replay, or `out of memory` at once meets this one too, as
-/// does one that tells of no failure. That they come only where they should is tested.
+/// No contract sees that a read or a write fails, that memory is wanting, or what a writer would have taken. So these
+/// bodies meet this one too: one that answers `out of memory` at any time, or at once the usage line, as for a growth
+/// that is refused inside `clap`; one that answers `input refused` once the moves were read; one that answers `output
+/// refused` once there is a report, whatever it then wrote to `out`; and one that tells a part of the line, or nothing.
+/// That these come only where they should is tested.
 pub fn run_tool<R: Read, W: Write, E: Write>(
     alloc: Global,
     words: &[String],
@@ -137,20 +94,29 @@ pub fn run_tool<R: Read, W: Write, E: Write>(
         (R.remaining reader.old) (R.remaining reader.new) (W.contents out.old) (W.contents out.new) }
     ensures silent { (result ≡ 0) ⊎ (result ≡ 1) → Keeps (E.contents err.old) (E.contents err.new) }
 
-    // Each other status is that of a failure which the line, the moves and what was read explain.
+    // Each other status is that of a failure which the line, the moves and what was read explain, and `err` got a
+    // beginning of the line of that failure.
     ensures failed { 2 ≤ result → HasFailed result (map string_bytes words.now)
-        (R.remaining reader.old) (R.remaining reader.new) (W.contents out.old) (W.contents out.new) }
+        (R.remaining reader.old) (R.remaining reader.new) (W.contents out.old) (W.contents out.new)
+        (E.contents err.old) (E.contents err.new) }
 
     // Whatever the status, one byte more than a session text may have is all that is taken.
     ensures at_most { TakesAtMost 33554433 (R.remaining reader.old) (R.remaining reader.new) }
 {
-    run_and_tell(alloc, words, reader, out, err).status
+    match run(alloc, words, reader, out) {
+        Ok(true) => 0,
+        Ok(false) => 1,
+        Err(failure) => tell(failure, err),
+    }
 }
 
 /// How the program ends where its words could not be taken from the system, by the error of that: with status 4 where
-/// memory was wanting, and else, as where a word is no UTF-8, with status 2. The line of that goes to `err`.
+/// memory was wanting, and else, as where a word is no UTF-8, with status 2. The line of that goes to `err`, which may
+/// fail as that of `run_tool` may.
 pub fn refuse_words<E: Write>(error: &io::Error, err: &mut E) -> u8
-    ensures { result ≡ status_of (failure_of_words (error_kind error.now)) }
+    ensures status { result ≡ status_of (failure_of_words (error_kind error.now)) }
+    ensures said { AppendsPrefixOf (failure_line (failure_of_words (error_kind error.now)))
+        (E.contents err.old) (E.contents err.new) }
 {
-    tell(Failure::of_words(error), err).status
+    tell(Failure::of_words(error), err)
 }

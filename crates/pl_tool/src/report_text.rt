@@ -11,9 +11,9 @@ mod fault;
 #[cfg(test)]
 mod tests;
 
-use crate::report::Report;
 use channels::add_channel;
 pub use fault::PrintFault;
+use pl_replay::Report;
 use std::alloc::{AllocError, Global};
 use std::io::Write;
 

@@ -4,7 +4,7 @@ ghost use Rattle.std.specs.Prelude.{◌≡◌, ◌+◌, ◌<◌, IfOk, MatchOpti
 ghost use Rattle.pl_tool.specs.MovesTexts.{times, total, moves_of_words};
 
 use super::words::Word;
-use crate::moves::Move;
+use pl_replay::Move;
 use std::alloc::{AllocError, Global};
 
 fn times(word: &Word) -> u32

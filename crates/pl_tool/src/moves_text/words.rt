@@ -6,8 +6,8 @@ ghost use Rattle.pl_tool.specs.declared.moves_text.words.Letter.{Letter};
 ghost use Rattle.pl_tool.specs.MovesTexts.{Fits, AreInRange, word_text, count_text};
 ghost use Rattle.pl_tool.specs.MovesLetters.{letter_code, move_of};
 
-use crate::moves::Move;
 use itoa::Buffer;
+use pl_replay::Move;
 
 const MAX_NUMBER: u32 = 65_535;
 

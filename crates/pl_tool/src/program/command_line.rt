@@ -1,12 +1,13 @@
 //! What the command line asks for, as `clap` reads it.
 
-ghost use Rattle.std.specs.Prelude.{◌≡◌, codes, drop, map, option_and_then, string_bytes, Some, IfOk, IfSome};
+ghost use Rattle.std.specs.Prelude.{◌≡◌, [], codes, drop, map, option_and_then, option_map, string_bytes, unwrap_or, IfOk};
 ghost use Rattle.std.specs.List.{list_any};
 ghost use Rattle.std.specs.Str.{bytes_eq};
-ghost use Rattle.clap.specs.Simple.{app_of, subcommand_of, subcommand_rows_of};
+ghost use Rattle.clap.specs.Words.{FailsBy, app_of, fault_of, first_value, found_of, rows_of, subcommand_of, subcommand_rows_of};
 ghost use Rattle.pl_tool.specs.ProgramLines.{given_text, moves_text_of, program};
 
-use clap::{Arg, ArgAction, ArgMatches, Command};
+use clap::error::ErrorKind;
+use clap::{Arg, ArgAction, ArgMatches, Command, Error};
 use std::alloc::{AllocError, Global};
 
 fn command<'a>(alloc: Global) -> Result<Command<'a>, AllocError>
@@ -36,31 +37,55 @@ fn has_dash(words: &[String]) -> bool
 }
 
 /// What `clap` finds on the command line.
-fn matches_of<'a>(alloc: Global, words: &'a [String]) -> Option<ArgMatches<'a>>
-    ensures { IfSome result (λ matches. subcommand_rows_of matches ≡ subcommand_of program (map string_bytes words.entry.now)) }
+fn matches_of<'a>(alloc: Global, words: &'a [String]) -> Result<ArgMatches<'a>, Error>
+    ensures found { IfOk result (λ matches. subcommand_rows_of matches ≡ subcommand_of program (map string_bytes words.entry.now)) }
+    ensures kinds { FailsBy (fault_of program (map string_bytes words.entry.now)) result }
 {
-    let command = command(alloc).ok()?;
-    command.try_get_matches_from(words).ok()
+    let command = command(alloc)?;
+    command.try_get_matches_from(words)
 }
 
-/// The text of the moves of `replay`, empty where it is not given.
-fn given_text<'a>(matches: &ArgMatches<'a>) -> Option<&'a str>
-    ensures { IfSome result (λ text. option_and_then given_text (subcommand_rows_of matches.now) ≡ Some text.now) }
+/// The value of the option of `replay`, empty where it is not given.
+#[tactic(auto, using(crate::proofs::ProgramReads::option_value))]
+fn option_text<'a>(replay: &ArgMatches<'a>) -> &'a str
+    ensures { result.now ≡ unwrap_or (first_value (found_of replay.now) (codes "moves")) [] }
 {
-    match matches.subcommand() {
-        Some(("replay", replay)) => Some(replay.get_str("moves").unwrap_or("")),
-        _ => None,
-    }
+    replay.get_str("moves").unwrap_or("")
 }
 
-/// The text of the moves, empty where the command line gives none, or None where it is not read, which may also be for
-/// want of memory. The first word is the program's name.
-pub(crate) fn moves_text<'a>(alloc: Global, words: &'a [String]) -> Option<&'a str>
-    ensures { IfSome result (λ text. moves_text_of (map string_bytes words.entry.now) ≡ Some text.now) }
+/// The text of the moves that a subcommand gives, or None where it is not `replay`.
+fn text_of<'a>(name: &str, found: &ArgMatches<'a>) -> Option<&'a str>
+    ensures { option_map (λ text. text.now) result ≡ given_text (name.now, rows_of (found_of found.now)) }
 {
-    if has_dash(words) {
+    if name != "replay" {
         return None;
     }
-    let matches = matches_of(alloc, words)?;
-    given_text(&matches)
+    Some(option_text(found))
+}
+
+/// The text of the moves, or None where no subcommand gives one.
+fn text_in<'a>(matches: &ArgMatches<'a>) -> Option<&'a str>
+    ensures { option_map (λ text. text.now) result ≡ option_and_then given_text (subcommand_rows_of matches.now) }
+{
+    let (name, found) = matches.subcommand()?;
+    text_of(name, found)
+}
+
+/// The text of the moves, empty where the command line gives none, or None where it is not read. The first word is the
+/// program's name. It fails only where a growth was refused.
+#[tactic(auto, using(crate::proofs::ProgramReads::dash_is_refused, crate::proofs::ProgramReads::fault_is_refused))]
+pub(crate) fn moves_text<'a>(
+    alloc: Global,
+    words: &'a [String],
+) -> Result<Option<&'a str>, AllocError>
+    ensures { IfOk result (λ text. option_map (λ t. t.now) text ≡ moves_text_of (map string_bytes words.entry.now)) }
+{
+    if has_dash(words) {
+        return Ok(None);
+    }
+    match matches_of(alloc, words) {
+        Ok(matches) => Ok(text_in(&matches)),
+        Err(error) if error.kind() == ErrorKind::OutOfMemory => Err(AllocError),
+        Err(_) => Ok(None),
+    }
 }

@@ -2,13 +2,14 @@
 
 ghost use Rattle.std.specs.Prelude.{◌≡◌};
 ghost use Rattle.std.specs.IoError.{error_kind};
-ghost use Rattle.pl_tool.specs.ProgramFailures.{failure_of_moves, failure_of_session, failure_of_replay, failure_of_print, failure_of_words};
+ghost use Rattle.pl_tool.specs.ProgramFailures.{failure_of_moves, failure_of_session, failure_of_replay, failure_of_print, failure_of_read, failure_of_words};
 ghost use Rattle.pl_tool.specs.ProgramFailures.{status_of, failure_line, moves_line, replay_line, build_line, session_line};
 
 use crate::moves_text::MovesFault;
 use crate::report_text::PrintFault;
-use crate::schedule::ReplayFault;
-use crate::session_text::{BuildFault, SessionFault};
+use crate::session_text::SessionFault;
+use pl_build::BuildFault;
+use pl_replay::ReplayFault;
 use std::io;
 use std::io::ErrorKind;
 
@@ -36,6 +37,16 @@ impl Failure {
         match error.kind() {
             ErrorKind::OutOfMemory => Failure::Memory,
             _ => Failure::Usage,
+        }
+    }
+
+    /// The failure of a read, or None where the read was interrupted.
+    pub(crate) fn of_read(error: &io::Error) -> Option<Failure>
+        ensures { result ≡ failure_of_read (error_kind error.now) }
+    {
+        match error.kind() {
+            ErrorKind::Interrupted => None,
+            _ => Some(Failure::Input),
         }
     }
 

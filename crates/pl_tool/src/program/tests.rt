@@ -1,7 +1,8 @@
 use super::*;
 use crate::moves_text::MovesFault;
-use crate::schedule::ReplayFault;
-use crate::session_text::{BuildFault, SessionFault};
+use crate::session_text::SessionFault;
+use pl_build::BuildFault;
+use pl_replay::ReplayFault;
 use std::io;
 use std::io::ErrorKind;
 use std::test::Fail;
@@ -61,10 +62,11 @@ impl Read for Repeated {
     }
 }
 
-/// Is interrupted so many times before each read of its text.
+/// Is interrupted so many times before each read of its text, which gives at most so many bytes.
 #[derive(Drop)]
 struct Interrupted<'a> {
     text: &'a [u8],
+    at_once: usize,
     times: u64,
     left: u64,
     tries: u64,
@@ -78,7 +80,38 @@ impl Read for Interrupted<'_> {
             return Err(io::Error::from(ErrorKind::Interrupted));
         }
         self.left = self.times;
-        self.text.read(buffer)
+        let count = self.at_once.min(buffer.len());
+        self.text.read(&mut buffer[..count])
+    }
+}
+
+/// Takes so many bytes at each write and so many in all, and is interrupted so many times before each write.
+#[derive(Drop)]
+struct Slow {
+    taken: Vec<u8>,
+    at_once: usize,
+    room: usize,
+    times: u64,
+    left: u64,
+    tries: u64,
+}
+
+impl Write for Slow {
+    fn write(&mut self, bytes: &[u8]) -> io::Result<usize> {
+        self.tries = self.tries.saturating_add(1);
+        if 0 < self.left {
+            self.left = self.left.saturating_sub(1);
+            return Err(io::Error::from(ErrorKind::Interrupted));
+        }
+        self.left = self.times;
+        let count = self.at_once.min(self.room).min(bytes.len());
+        self.taken.extend_from_slice(&bytes[..count])?;
+        self.room = self.room.saturating_sub(count);
+        Ok(count)
+    }
+
+    fn flush(&mut self) -> io::Result<()> {
+        Ok(())
     }
 }
 
@@ -181,6 +214,40 @@ fn statuses(rt: HostRuntime) -> Result<(), Fail> {
     Ok(())
 }
 
+/// A session whose pipelines are not built ends with status 3, and with its number.
+#[test]
+fn refused_builds(rt: HostRuntime) -> Result<(), Fail> {
+    for (part, other, told) in [
+        (r#""name":"decode""#, r#""name":"lines""#, "1 DuplicateName"),
+        (
+            r#"{"op":"last","name":"decode""#,
+            r#"{"op":"before","at":"nobody","name":"decode""#,
+            "2 NoSuchName",
+        ),
+        (
+            r#""loops":1"#,
+            r#""loops":1,"groups":[{"name":"g","size":0}]"#,
+            "3 Limit",
+        ),
+        (
+            r#""kind":"decode""#,
+            r#""kind":"decode","group":"g""#,
+            "4 NoSuchGroup",
+        ),
+        (r#""bursts":"#, r#""handlers":[],"bursts":"#, "5 NoTurn"),
+        (r#""kind":"decode""#, r#""kind":"service""#, "6 TwoTurns"),
+        (r#""bursts":"#, r#""low":9,"high":8,"bursts":"#, "7 Marks"),
+    ] {
+        let text = SESSION.replace(rt.alloc(), part, other)?;
+        let (status, out, err) = ran(&rt, &["replay"], text.as_bytes())?;
+        let line = format!(in rt.alloc(); "session refused: 6 Build {told}\n")?;
+        assert_eq!(rt; status, 3, "at {other}");
+        assert_eq!(rt; out.len(), 0, "at {other}");
+        assert_eq!(rt; err.as_slice(), line.as_bytes(), "at {other}");
+    }
+    Ok(())
+}
+
 #[test]
 fn input_that_is_no_text(rt: HostRuntime) -> Result<(), Fail> {
     let (status, out, err) = ran(&rt, &["replay"], b"\xff")?;
@@ -223,16 +290,20 @@ fn failing_reads(rt: HostRuntime) -> Result<(), Fail> {
     Ok(())
 }
 
+/// An interrupted read is one of the reads that may be made.
 #[test]
 fn interrupted_reads(rt: HostRuntime) -> Result<(), Fail> {
     let words = words(&rt, &["replay", "--moves=R0x3 O0"])?;
-    for (times, tries, want, told) in [
-        (1, 4, 0, ""),
-        (999_999, 2_000_000, 0, ""),
-        (1_000_000, 1_000_000, 3, "input refused\n"),
+    let of_each_byte = (SESSION.len() as u64).saturating_mul(2).saturating_add(2);
+    for (at_once, times, tries, want, told) in [
+        (8_192, 1, 4, 0, ""),
+        (1, 1, of_each_byte, 0, ""),
+        (8_192, 16_777_215, 33_554_432, 0, ""),
+        (8_192, 16_777_216, 33_554_433, 3, "input refused\n"),
     ] {
         let mut reader = Interrupted {
             text: SESSION.as_bytes(),
+            at_once,
             times,
             left: times,
             tries: 0,
@@ -254,6 +325,52 @@ fn interrupted_reads(rt: HostRuntime) -> Result<(), Fail> {
     Ok(())
 }
 
+/// A line is cut where its writer takes no more.
+#[test]
+fn slow_second_writer(rt: HostRuntime) -> Result<(), Fail> {
+    let words = words(&rt, &["fly"])?;
+    for (at_once, room, times, tries, told) in [
+        (1_000, 1_000, 0, 1, USAGE.len()),
+        (1_000, 1_000, 1, 2, USAGE.len()),
+        (1, 1_000, 0, USAGE.len() as u64, USAGE.len()),
+        (
+            1,
+            1_000,
+            1,
+            (USAGE.len() as u64).saturating_mul(2),
+            USAGE.len(),
+        ),
+        (8, 20, 0, 4, 20),
+        (8, 0, 0, 1, 0),
+        (1_000, 1_000, 1 << 63, 1_000_000, 0),
+    ] {
+        let mut reader = b"".as_slice();
+        let mut out = Vec::new(rt.alloc());
+        let mut err = Slow {
+            taken: Vec::new(rt.alloc()),
+            at_once,
+            room,
+            times,
+            left: times,
+            tries: 0,
+        };
+        let status = run_tool(
+            rt.alloc(),
+            words.as_slice(),
+            &mut reader,
+            &mut out,
+            &mut err,
+        );
+        assert_eq!(rt; status, 2);
+        assert_eq!(rt; err.tries, tries);
+        assert_eq!(rt;
+            err.taken.as_slice(),
+            &USAGE.as_bytes()[..told.min(USAGE.len())]
+        );
+    }
+    Ok(())
+}
+
 #[test]
 fn refused_words(rt: HostRuntime) -> Result<(), Fail> {
     for (kind, want, told) in [
@@ -264,7 +381,7 @@ fn refused_words(rt: HostRuntime) -> Result<(), Fail> {
         let error = io::Error::from(kind);
         assert_eq!(rt; refuse_words(&error, &mut err), want);
         assert_eq!(rt; err.as_slice(), told.as_bytes());
-        assert_eq!(rt; refuse_words(&error, &mut Failing { room: 0 }), want);
+        assert_eq!(rt; refuse_words(&error, &mut Failing { room: 5 }), want);
     }
     Ok(())
 }

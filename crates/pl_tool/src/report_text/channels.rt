@@ -5,8 +5,8 @@ ghost use Rattle.std.specs.List.{flat_map};
 ghost use Rattle.pl_tool.specs.ReportTexts.{channel_text, event_line, outcome_text, stands_text, write_lines};
 
 use super::events::{add_event, add_hex};
-use crate::report::{ChannelReport, Stands};
 use pl_event::{Cause, Event, Outcome};
+use pl_replay::{ChannelReport, Stands};
 use std::alloc::AllocError;
 use std::fmt::Write as _;
 

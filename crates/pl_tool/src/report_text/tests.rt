@@ -1,8 +1,8 @@
 use super::*;
-use crate::report::{ChannelReport, Stands};
 use pl_event::{
     ByteString, Caught, Cause, Command, Event, Fault, Key, Message, Outcome, Reply, Sequence,
 };
+use pl_replay::{ChannelReport, Stands};
 use std::test::Fail;
 
 const PING: &str = "channel 0 drained

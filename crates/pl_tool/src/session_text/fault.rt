@@ -4,37 +4,9 @@ ghost use Rattle.std.specs.Prelude.{◌≡◌};
 ghost use Rattle.pl_tool.specs.declared.session_text.fault.SessionFault.TheVariants.{Memory};
 ghost use Rattle.pl_tool.specs.SessionReading.{fault_of_build};
 
+use pl_build::BuildFault;
 use std::alloc::{AllocError, AllocFailed};
 use thiserror::Error;
-
-/// Why the pipelines of a session could not be built, each with its number.
-#[derive(Clone, Copy, Debug, PartialEq, Eq, Error)]
-pub enum BuildFault {
-    /// Two handlers of a pipeline, or two groups, have the same name.
-    #[error("1 DuplicateName")]
-    DuplicateName,
-    /// An edit names a handler that is not there.
-    #[error("2 NoSuchName")]
-    NoSuchName,
-    /// A name, a number of handlers or executors, or a pipeline is outside its limits.
-    #[error("3 Limit")]
-    Limit,
-    /// A handler names a group that is not there.
-    #[error("4 NoSuchGroup")]
-    NoSuchGroup,
-    /// A pipeline has no service.
-    #[error("5 NoTurn")]
-    NoTurn,
-    /// A pipeline has more than one service.
-    #[error("6 TwoTurns")]
-    TwoTurns,
-    /// The low mark is above the high one.
-    #[error("7 Marks")]
-    Marks,
-    /// A growth was refused.
-    #[error("8 Memory")]
-    Memory,
-}
 
 /// Why a session text was refused, each with its number (`docs/FORMATS.md`, "Session").
 #[derive(Clone, Copy, Debug, PartialEq, Eq, Error)]

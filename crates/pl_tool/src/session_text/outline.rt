@@ -1,29 +1,78 @@
 //! What the members of a session text say, before its pipelines are built.
 
-use crate::session::HandlerKind;
+use crate::session_text::names::Name;
 use pl_event::{ByteString, Sequence};
 
-/// Where an edit puts its handler.
+/// A handler of a pipeline by its kind, with the numbers that this kind alone has.
 #[derive(Clone, Copy, Debug, PartialEq, Eq)]
-pub(crate) enum Place {
-    /// Behind all others.
+pub(crate) enum HandlerKind {
+    /// Cuts the bytes read into lines.
+    Lines {
+        /// The longest line, in bytes.
+        max: u16,
+    },
+    Decode,
+    LineEnd,
+    Encode,
+    Service,
+    /// Lets some flushes pass.
+    FlushEvery {
+        /// Each how manieth passes.
+        n: u16,
+    },
+}
+
+/// What an edit does, without what it does it to.
+#[derive(Clone, Copy, Debug, PartialEq, Eq)]
+pub(crate) enum Operation {
+    First,
     Last,
+    Before,
+    After,
+    Remove,
+}
+
+/// A handler that an edit adds.
+#[derive(Debug, Drop)]
+pub(crate) struct Addition {
+    pub(crate) name: Name,
+    pub(crate) handler: HandlerKind,
+    /// The group of executors that it runs on, or none for the channel's loop.
+    pub(crate) group: Option<Name>,
 }
 
 /// One edit of a pipeline.
 #[derive(Debug, Drop)]
-pub(crate) struct Edit {
-    pub(crate) place: Place,
-    pub(crate) name: ByteString,
-    pub(crate) handler: HandlerKind,
+pub(crate) enum Edit {
+    /// Adds in front of all others.
+    First(Addition),
+    /// Adds behind all others.
+    Last(Addition),
+    /// Adds just in front of the handler of this name.
+    Before(Name, Addition),
+    /// Adds just behind the handler of this name.
+    After(Name, Addition),
+    /// Takes the handler of this name out.
+    Remove(Name),
 }
 
 /// What the members of a channel say.
 #[derive(Debug, Drop)]
 pub(crate) struct ChannelOutline {
     pub(crate) edits: Sequence<Edit>,
+    /// The marks, in bytes.
+    pub(crate) low: u32,
+    pub(crate) high: u32,
     /// The chunks of each burst.
     pub(crate) bursts: Sequence<Sequence<ByteString>>,
+}
+
+/// What the members of a group of executors say.
+#[derive(Debug, Drop)]
+pub(crate) struct GroupOutline {
+    pub(crate) name: Name,
+    /// How many executors it has.
+    pub(crate) size: u16,
 }
 
 /// What the members of a session say.
@@ -31,5 +80,8 @@ pub(crate) struct ChannelOutline {
 pub(crate) struct Outline {
     /// How many items a queue between executors holds.
     pub(crate) capacity: u32,
+    /// How many event loops there are.
+    pub(crate) loops: u16,
+    pub(crate) groups: Sequence<GroupOutline>,
     pub(crate) channels: Sequence<ChannelOutline>,
 }

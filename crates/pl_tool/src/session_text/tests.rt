@@ -1,4 +1,5 @@
-use super::{BuildFault, SessionFault, read_session};
+use super::{SessionFault, read_session};
+use pl_build::BuildFault;
 use std::test::Fail;
 
 /// One PING through the line protocol.
@@ -10,16 +11,46 @@ const PING: &str = r#"{"version":1,"capacity":4,"loops":1,"channels":[{"handlers
 {"op":"last","name":"service","kind":"service"}],
 "bursts":[["PING\r\n"]]}]}"#;
 
+/// What a text is refused for.
+fn refusal(rt: &HostRuntime, text: &str) -> Option<SessionFault> {
+    read_session(rt.alloc(), text).err()
+}
+
+/// A session of one channel with these edits, and with what stands behind its bursts.
+fn with_edits(rt: &HostRuntime, edits: &str, more: &str) -> Result<String, Fail> {
+    Ok(format!(in rt.alloc();
+        "{{\"version\":1,\"capacity\":4,\"loops\":1,\"channels\":[{{\"handlers\":[{edits}],\"bursts\":[]{more}}}]}}"
+    )?)
+}
+
+const SERVICE: &str = r#"{"op":"last","name":"service","kind":"service"}"#;
+
 #[test]
 fn ping_session(rt: HostRuntime) -> Result<(), Fail> {
     let session = read_session(rt.alloc(), PING)?;
     assert_eq!(rt; session.capacity, 4);
-    assert_eq!(rt; session.max, 64);
-    let bursts = session.bursts.as_slice();
+    assert_eq!(rt; session.executors, 1);
+    let channels = session.channels.as_slice();
+    assert_eq!(rt; channels.len(), 1);
+    assert_eq!(rt; channels[0].pipeline.inbound(), 3);
+    assert_eq!(rt; channels[0].pipeline.outbound(), 2);
+    assert_eq!(rt; channels[0].pipeline.low(), 32_768);
+    assert_eq!(rt; channels[0].pipeline.high(), 65_536);
+    let bursts = channels[0].bursts.as_slice();
     assert_eq!(rt; bursts.len(), 1);
     let chunks = bursts[0].as_slice();
     assert_eq!(rt; chunks.len(), 1);
     assert_eq!(rt; chunks[0].as_slice(), b"PING\r\n".as_slice());
+    Ok(())
+}
+
+#[test]
+fn no_channels(rt: HostRuntime) -> Result<(), Fail> {
+    let text =
+        r#"{"version":1,"capacity":1,"loops":3,"groups":[{"name":"g","size":2}],"channels":[]}"#;
+    let session = read_session(rt.alloc(), text)?;
+    assert_eq!(rt; session.executors, 5);
+    assert_eq!(rt; session.channels.len(), 0);
     Ok(())
 }
 
@@ -65,21 +96,37 @@ fn hostile_members(rt: HostRuntime) -> Result<(), Fail> {
     let missing = Some(SessionFault::Missing);
     let kind = Some(SessionFault::Kind);
     let limit = Some(SessionFault::Limit);
-    let build_limit = Some(SessionFault::Build(BuildFault::Limit));
     for (part, other, fault) in [
         (r#""version":1"#, r#""version":1.5"#, kind),
         (r#""version":1"#, r#""version":"1""#, kind),
         (r#""version":1"#, r#""version":0"#, version),
+        (r#""version":1"#, r#""version":null"#, kind),
         (r#""capacity":4"#, r#""capacity":null"#, kind),
         (r#""capacity":4"#, r#""capacity":65536"#, None),
         (r#""capacity":4"#, r#""capacity":65537"#, limit),
+        (r#""loops":1"#, r#""loops":16"#, None),
         (r#""loops":1"#, r#""loops":17"#, limit),
-        (r#""loops":1"#, r#""loops":1.0"#, kind),
-        (r#""loops":1"#, r#""loops":2,"groups":7"#, limit),
+        (r#""loops":1"#, r#""loops":0"#, limit),
         (r#""loops":1"#, r#""loops":1,"groups":7"#, kind),
-        (r#""loops":1"#, r#""loops":1,"groups":[7]"#, limit),
+        (r#""loops":1"#, r#""loops":1,"groups":[7]"#, kind),
         (r#""loops":1"#, r#""loops":1,"groups":[]"#, None),
-        (r#"[{"handlers""#, r#"[7,{"handlers""#, limit),
+        (r#""loops":1"#, r#""loops":1,"groups":null"#, None),
+        (
+            r#""loops":1"#,
+            r#""loops":1,"groups":[{"name":"g"}]"#,
+            missing,
+        ),
+        (
+            r#""loops":1"#,
+            r#""loops":1,"groups":[{"size":7,"name":null}]"#,
+            kind,
+        ),
+        (
+            r#""loops":1"#,
+            r#""loops":1,"groups":[{"name":"g","size":65536}]"#,
+            limit,
+        ),
+        (r#"[{"handlers""#, r#"[7,{"handlers""#, kind),
         (r#"{"handlers""#, r#"{"more""#, missing),
         (
             r#""op":"last","name":"decode""#,
@@ -88,33 +135,463 @@ fn hostile_members(rt: HostRuntime) -> Result<(), Fail> {
         ),
         (
             r#""op":"last","name":"decode""#,
+            r#""op":"Last","name":"decode""#,
+            kind,
+        ),
+        (
+            r#""op":"last","name":"decode""#,
             r#""op":"first","name":7"#,
             kind,
         ),
-        (r#""name":"decode""#, r#""name":"other""#, build_limit),
-        (r#""kind":"decode""#, r#""kind":"flush_every""#, kind),
-        (r#""kind":"decode""#, r#""kind":"decode","group":"a""#, kind),
+        (
+            r#""op":"last","name":"decode""#,
+            r#""op":"before","name":"decode""#,
+            missing,
+        ),
+        (
+            r#""op":"last","name":"decode""#,
+            r#""op":"after","name":"decode","at":null"#,
+            kind,
+        ),
+        (r#""name":"decode""#, r#""name":"other""#, None),
+        (r#""kind":"decode""#, r#""kind":"length""#, kind),
+        (r#""kind":"decode""#, r#""kind":"flush_every""#, missing),
+        (r#""kind":"decode""#, r#""kind":"flush_every","n":0"#, limit),
+        (
+            r#""kind":"decode""#,
+            r#""kind":"flush_every","n":65536"#,
+            limit,
+        ),
+        (
+            r#""kind":"decode""#,
+            r#""kind":"flush_every","n":65535"#,
+            None,
+        ),
+        (
+            r#""kind":"decode""#,
+            r#""kind":"decode","group":null"#,
+            None,
+        ),
+        (r#""kind":"decode""#, r#""kind":"decode","group":7"#, kind),
         (r#""max":64"#, r#""max":0"#, limit),
+        (r#""max":64"#, r#""max":8192"#, None),
         (r#""max":64"#, r#""max":8193"#, limit),
-        (r#""max":64"#, r#""max":-1"#, kind),
-        (r#""bursts":"#, r#""handlers":[],"bursts":"#, build_limit),
-        (r#""bursts":"#, r#""low":null,"bursts":"#, None),
-        (r#""bursts":"#, r#""high":"8","bursts":"#, limit),
+        (r#""max":64"#, r#""max":null"#, kind),
+        (r#""bursts":"#, r#""low":null,"high":null,"bursts":"#, None),
+        (r#""bursts":"#, r#""high":"8","bursts":"#, kind),
+        (r#""bursts":"#, r#""high":1073741824,"bursts":"#, None),
+        (r#""bursts":"#, r#""high":1073741825,"bursts":"#, limit),
+        (r#""bursts":"#, r#""low":1073741825,"bursts":"#, limit),
+        (r#""bursts":"#, r#""low":0,"high":0,"bursts":"#, None),
+        (r#""bursts":"#, r#""window":"x","bursts":"#, limit),
+        (r#""bursts":"#, r#""fail_at":1,"bursts":"#, limit),
         (r#""bursts":"#, r#""abort_after":1,"bursts":"#, limit),
+        (
+            r#""bursts":"#,
+            r#""window":null,"fail_at":null,"abort_after":null,"bursts":"#,
+            None,
+        ),
         (
             r#""bursts":[["PING\r\n"]]"#,
             r#""bursts":[["PING"],[7]]"#,
             kind,
         ),
         (r#""bursts":[["PING\r\n"]]"#, r#""bursts":7"#, kind),
+        (r#""bursts":[["PING\r\n"]]"#, r#""bursts":null"#, kind),
+    ] {
+        let text = PING.replace(rt.alloc(), part, other)?;
+        assert_eq!(rt; refusal(&rt, text.as_str()), fault, "at {other}");
+    }
+    Ok(())
+}
+
+#[test]
+fn numbers_that_are_not_whole(rt: HostRuntime) -> Result<(), Fail> {
+    for number in ["1.0", "1e0", "-0", "-1", "18446744073709551616", "true"] {
+        for part in [r#""loops":1"#, r#""max":64"#] {
+            let (member, _) = part.split_once(':').ok_or("a member has a colon")?;
+            let other = format!(in rt.alloc(); "{member}:{number}")?;
+            let text = PING.replace(rt.alloc(), part, other.as_str())?;
+            assert_eq!(rt;
+                refusal(&rt, text.as_str()),
+                Some(SessionFault::Kind),
+                "at {other}"
+            );
+        }
+    }
+    Ok(())
+}
+
+#[test]
+fn texts_that_are_no_json(rt: HostRuntime) -> Result<(), Fail> {
+    for (part, other) in [
+        (r#""name":"decode""#, r#""name":"\ud800""#),
+        (r#""loops":1"#, r#""loops":1e999"#),
+        ("{\"version\"", "\u{feff}{\"version\""),
+        ("]}]}", "]}]} 7"),
     ] {
         let text = PING.replace(rt.alloc(), part, other)?;
         assert_eq!(rt;
-            read_session(rt.alloc(), text.as_str()).err(),
-            fault,
+            refusal(&rt, text.as_str()),
+            Some(SessionFault::NotJson),
             "at {other}"
         );
     }
+    Ok(())
+}
+
+/// Of equal keys the last counts.
+#[test]
+fn equal_keys(rt: HostRuntime) -> Result<(), Fail> {
+    let text = PING.replace(rt.alloc(), r#""loops":1"#, r#""loops":"x","loops":2"#)?;
+    let session = read_session(rt.alloc(), text.as_str())?;
+    assert_eq!(rt; session.executors, 2);
+    Ok(())
+}
+
+/// The first fault in reading order is the answer.
+#[test]
+fn reading_order(rt: HostRuntime) -> Result<(), Fail> {
+    let edit_7 = r#"{"op":"fly","name":7,"at":7,"kind":7}"#;
+    for (text, fault) in [
+        (r#"{"capacity":0,"version":2}"#, SessionFault::Version),
+        (
+            r#"{"version":1,"capacity":1,"loops":0,"groups":7}"#,
+            SessionFault::Limit,
+        ),
+        (
+            r#"{"version":1,"capacity":1,"loops":1,"groups":[{"name":"g","size":65536},7]}"#,
+            SessionFault::Limit,
+        ),
+        (
+            r#"{"version":1,"capacity":1,"loops":1,"channels":[{"low":0},{"handlers":7}]}"#,
+            SessionFault::Missing,
+        ),
+        (
+            r#"{"version":1,"capacity":1,"loops":1,"channels":[{"handlers":[],"high":-1,"low":1073741825}]}"#,
+            SessionFault::Limit,
+        ),
+    ] {
+        assert_eq!(rt; refusal(&rt, text), Some(fault), "at {text}");
+    }
+    for (edit, fault) in [
+        (edit_7, SessionFault::Kind),
+        (
+            r#"{"op":"before","name":"a","kind":7}"#,
+            SessionFault::Missing,
+        ),
+        (
+            r#"{"op":"last","name":"a","kind":"lines","max":0,"group":7}"#,
+            SessionFault::Limit,
+        ),
+        (
+            r#"{"op":"after","name":"a","at":"b","max":0,"n":0}"#,
+            SessionFault::Missing,
+        ),
+    ] {
+        let text = with_edits(&rt, edit, "")?;
+        assert_eq!(rt; refusal(&rt, text.as_str()), Some(fault), "at {edit}");
+    }
+    Ok(())
+}
+
+/// Members that an edit does not have may have any value.
+#[test]
+fn members_not_read(rt: HostRuntime) -> Result<(), Fail> {
+    let edits = r#"
+        {"op":"first","name":"a","at":7,"kind":"service","max":"x","n":[]},
+        {"op":"last","name":"b","kind":"decode","max":0},
+        {"op":"remove","name":"b","at":7,"kind":7,"group":7}"#;
+    let session = read_session(rt.alloc(), with_edits(&rt, edits, "")?.as_str())?;
+    let channels = session.channels.as_slice();
+    assert_eq!(rt; channels.len(), 1);
+    assert_eq!(rt; channels[0].pipeline.inbound(), 1);
+    Ok(())
+}
+
+/// Behind these edits the order is c, a, d.
+#[test]
+fn builder_order(rt: HostRuntime) -> Result<(), Fail> {
+    let edits = r#"
+        {"op":"last","name":"a","kind":"service"},
+        {"op":"first","name":"b","kind":"lines","max":64},
+        {"op":"before","at":"a","name":"c","kind":"lines","max":64},
+        {"op":"after","at":"a","name":"d","kind":"encode"},
+        {"op":"remove","name":"b"}"#;
+    let session = read_session(rt.alloc(), with_edits(&rt, edits, "")?.as_str())?;
+    let channels = session.channels.as_slice();
+    assert_eq!(rt; channels.len(), 1);
+    assert_eq!(rt; channels[0].pipeline.inbound(), 2);
+    assert_eq!(rt; channels[0].pipeline.outbound(), 0);
+    assert_eq!(rt; channels[0].pipeline.executor_of(3), Some(0));
+    assert_eq!(rt; channels[0].pipeline.executor_of(4), None);
+    Ok(())
+}
+
+/// Outbound handlers in front of the turn count, and those behind it do not.
+#[test]
+fn edit_sides(rt: HostRuntime) -> Result<(), Fail> {
+    for (edit, outbound) in [
+        (r#"{"op":"first","name":"e","kind":"encode"}"#, 1),
+        (r#"{"op":"last","name":"e","kind":"encode"}"#, 0),
+        (
+            r#"{"op":"before","at":"service","name":"e","kind":"encode"}"#,
+            1,
+        ),
+        (
+            r#"{"op":"after","at":"service","name":"e","kind":"encode"}"#,
+            0,
+        ),
+    ] {
+        let edits = format!(in rt.alloc(); "{SERVICE},{edit}")?;
+        let session = read_session(rt.alloc(), with_edits(&rt, edits.as_str(), "")?.as_str())?;
+        let channels = session.channels.as_slice();
+        assert_eq!(rt; channels.len(), 1);
+        assert_eq!(rt; channels[0].pipeline.outbound(), outbound, "at {edit}");
+    }
+    Ok(())
+}
+
+#[test]
+fn builder_refusals(rt: HostRuntime) -> Result<(), Fail> {
+    for (edit, fault) in [
+        (
+            r#"{"op":"first","name":"service","kind":"lines","max":64}"#,
+            BuildFault::DuplicateName,
+        ),
+        (
+            r#"{"op":"before","at":"nobody","name":"service","kind":"decode"}"#,
+            BuildFault::DuplicateName,
+        ),
+        (
+            r#"{"op":"before","at":"nobody","name":"lines","kind":"lines","max":64}"#,
+            BuildFault::NoSuchName,
+        ),
+        (
+            r#"{"op":"after","at":"","name":"lines","kind":"lines","max":64}"#,
+            BuildFault::NoSuchName,
+        ),
+        (r#"{"op":"remove","name":"nobody"}"#, BuildFault::NoSuchName),
+        (r#"{"op":"remove","name":""}"#, BuildFault::NoSuchName),
+        (
+            r#"{"op":"after","at":"nobody","name":"","kind":"decode"}"#,
+            BuildFault::Limit,
+        ),
+    ] {
+        let edits = format!(in rt.alloc(); "{SERVICE},{edit}")?;
+        let text = with_edits(&rt, edits.as_str(), "")?;
+        assert_eq!(rt;
+            refusal(&rt, text.as_str()),
+            Some(SessionFault::Build(fault)),
+            "at {edit}"
+        );
+    }
+    Ok(())
+}
+
+#[test]
+fn build_refusals(rt: HostRuntime) -> Result<(), Fail> {
+    let unknown_group = r#"{"op":"last","name":"a","kind":"service","group":"x"}"#;
+    let empty_group = r#"{"op":"last","name":"a","kind":"service","group":""}"#;
+    let second_service = r#"{"op":"last","name":"b","kind":"service"},
+        {"op":"last","name":"c","kind":"service"}"#;
+    let no_name = r#"{"op":"last","name":"","kind":"service"}"#;
+    for (edits, more, fault) in [
+        (unknown_group, "", BuildFault::NoSuchGroup),
+        (empty_group, "", BuildFault::NoSuchGroup),
+        ("", "", BuildFault::NoTurn),
+        (second_service, "", BuildFault::TwoTurns),
+        (SERVICE, r#","low":9,"high":8"#, BuildFault::Marks),
+        (SERVICE, r#","high":100"#, BuildFault::Marks),
+        (SERVICE, r#","low":65537"#, BuildFault::Marks),
+        (no_name, "", BuildFault::Limit),
+    ] {
+        let text = with_edits(&rt, edits, more)?;
+        assert_eq!(rt;
+            refusal(&rt, text.as_str()),
+            Some(SessionFault::Build(fault)),
+            "at {edits}{more}"
+        );
+    }
+    Ok(())
+}
+
+/// Groups are made first, and then for each channel its edits, its marks and its pipeline.
+#[test]
+fn building_order(rt: HostRuntime) -> Result<(), Fail> {
+    let nobody = r#"{"op":"remove","name":"nobody"}"#;
+    for (edits, more, fault) in [
+        (
+            nobody,
+            r#"}],"groups":[{"name":"g","size":0}],"more":[{"x":1"#,
+            BuildFault::Limit,
+        ),
+        (nobody, r#","low":9,"high":8"#, BuildFault::NoSuchName),
+        ("", r#","low":9,"high":8"#, BuildFault::Marks),
+        (
+            SERVICE,
+            r#","low":9,"high":8},{"handlers":[],"bursts":[]"#,
+            BuildFault::Marks,
+        ),
+        (
+            SERVICE,
+            r#"},{"handlers":[],"bursts":[]},{"handlers":[],"bursts":[],"low":9,"high":8"#,
+            BuildFault::NoTurn,
+        ),
+    ] {
+        let text = with_edits(&rt, edits, more)?;
+        assert_eq!(rt;
+            refusal(&rt, text.as_str()),
+            Some(SessionFault::Build(fault)),
+            "at {edits}{more}"
+        );
+    }
+    Ok(())
+}
+
+#[test]
+fn name_lengths(rt: HostRuntime) -> Result<(), Fail> {
+    for (copies, fault) in [
+        (31, None),
+        (32, Some(SessionFault::Build(BuildFault::Limit))),
+    ] {
+        let name = "é".repeat(rt.alloc(), copies)?;
+        let edit = format!(in rt.alloc();
+            "{{\"op\":\"last\",\"name\":\"{name}é\",\"kind\":\"service\"}}"
+        )?;
+        let text = with_edits(&rt, edit.as_str(), "")?;
+        assert_eq!(rt; refusal(&rt, text.as_str()), fault, "at {copies}");
+    }
+    Ok(())
+}
+
+/// So many handlers, and so many of them taken out again.
+#[test]
+fn many_handlers(rt: HostRuntime) -> Result<(), Fail> {
+    let limit = Some(SessionFault::Build(BuildFault::Limit));
+    for (count, end, fault) in [
+        (31, "", None),
+        (32, "", limit),
+        (32, r#",{"op":"remove","name":"0"}"#, limit),
+    ] {
+        let mut edits = String::from_str(rt.alloc(), SERVICE)?;
+        for number in 0..count {
+            let edit = format!(in rt.alloc();
+                ",{{\"op\":\"first\",\"name\":\"{number}\",\"kind\":\"decode\"}}"
+            )?;
+            edits.push_str(edit.as_str())?;
+        }
+        edits.push_str(end)?;
+        let text = with_edits(&rt, edits.as_str(), "")?;
+        assert_eq!(rt; refusal(&rt, text.as_str()), fault, "at {count}{end}");
+    }
+    Ok(())
+}
+
+#[test]
+fn many_edits(rt: HostRuntime) -> Result<(), Fail> {
+    let pair = r#",{"op":"last","name":"a","kind":"decode"},{"op":"remove","name":"a"}"#;
+    let pairs = pair.repeat(rt.alloc(), 127)?;
+    for (end, fault) in [
+        (r#",{"op":"last","name":"a","kind":"decode"}"#, None),
+        (pair, Some(SessionFault::Limit)),
+    ] {
+        let edits = format!(in rt.alloc(); "{SERVICE}{pairs}{end}")?;
+        let text = with_edits(&rt, edits.as_str(), "")?;
+        assert_eq!(rt; refusal(&rt, text.as_str()), fault, "at {end}");
+    }
+    Ok(())
+}
+
+#[test]
+fn many_channels(rt: HostRuntime) -> Result<(), Fail> {
+    for (copies, fault) in [(15, None), (16, Some(SessionFault::Limit))] {
+        let more = format!(in rt.alloc(); "}},{{\"handlers\":[{SERVICE}],\"bursts\":[]")?;
+        let text = with_edits(&rt, SERVICE, more.repeat(rt.alloc(), copies)?.as_str())?;
+        assert_eq!(rt; refusal(&rt, text.as_str()), fault, "at {copies}");
+    }
+    Ok(())
+}
+
+#[test]
+fn group_refusals(rt: HostRuntime) -> Result<(), Fail> {
+    for (members, fault) in [
+        (r#""loops":16,"groups":[{"name":"g","size":1}]"#, 3),
+        (
+            r#""loops":1,"groups":[{"name":"g","size":1},{"name":"g","size":1}]"#,
+            1,
+        ),
+        (
+            r#""loops":1,"groups":[{"name":"g","size":1},{"name":"g","size":0}]"#,
+            3,
+        ),
+        (r#""loops":1,"groups":[{"name":"g","size":0}]"#, 3),
+        (r#""loops":1,"groups":[{"name":"g","size":65535}]"#, 3),
+        (r#""loops":1,"groups":[{"name":"","size":1}]"#, 3),
+        (r#""loops":1,"groups":[{"name":"g","size":15}]"#, 0),
+    ] {
+        let text = PING.replace(rt.alloc(), r#""loops":1"#, members)?;
+        let expected = match fault {
+            1 => Some(SessionFault::Build(BuildFault::DuplicateName)),
+            3 => Some(SessionFault::Build(BuildFault::Limit)),
+            _ => None,
+        };
+        assert_eq!(rt; refusal(&rt, text.as_str()), expected, "at {members}");
+    }
+    Ok(())
+}
+
+/// Three channels, each with its decoder and its service in a group of two.
+#[test]
+fn group_placing(rt: HostRuntime) -> Result<(), Fail> {
+    let channel = r#"{"handlers":[
+        {"op":"last","name":"lines","kind":"lines","max":64},
+        {"op":"last","name":"decode","kind":"decode","group":"g"},
+        {"op":"last","name":"lineend","kind":"lineend"},
+        {"op":"last","name":"encode","kind":"encode"},
+        {"op":"last","name":"service","kind":"service","group":"g"}],"bursts":[["PING\n"]]}"#;
+    let text = format!(in rt.alloc();
+        "{{\"version\":1,\"capacity\":4,\"loops\":1,\"groups\":[{{\"name\":\"g\",\"size\":2}}],\"channels\":[{channel},{channel},{channel}]}}"
+    )?;
+    let session = read_session(rt.alloc(), text.as_str())?;
+    assert_eq!(rt; session.executors, 3);
+    assert_eq!(rt; session.channels.len(), 3);
+    for (channel, executor) in session.channels.as_slice().iter().zip([1, 2, 1]) {
+        for hop in 0..7 {
+            let expected = if hop == 1 || hop == 2 { executor } else { 0 };
+            assert_eq!(rt;
+                channel.pipeline.executor_of(hop),
+                Some(expected),
+                "at hop {hop}"
+            );
+        }
+        assert_eq!(rt; channel.pipeline.executor_of(7), None);
+    }
+    Ok(())
+}
+
+/// Channels live on the loops in turn.
+#[test]
+fn loops_in_turn(rt: HostRuntime) -> Result<(), Fail> {
+    let more = format!(in rt.alloc(); "}},{{\"handlers\":[{SERVICE}],\"bursts\":[]")?;
+    let text = with_edits(&rt, SERVICE, more.repeat(rt.alloc(), 2)?.as_str())?;
+    let text = text.replace(rt.alloc(), r#""loops":1"#, r#""loops":2"#)?;
+    let session = read_session(rt.alloc(), text.as_str())?;
+    assert_eq!(rt; session.executors, 2);
+    for (channel, executor) in session.channels.as_slice().iter().zip([0, 1, 0]) {
+        assert_eq!(rt; channel.pipeline.executor_of(0), Some(executor));
+    }
+    Ok(())
+}
+
+#[test]
+fn marks_are_kept(rt: HostRuntime) -> Result<(), Fail> {
+    let text = with_edits(&rt, SERVICE, r#","low":4,"high":8"#)?;
+    let session = read_session(rt.alloc(), text.as_str())?;
+    let channels = session.channels.as_slice();
+    assert_eq!(rt; channels.len(), 1);
+    assert_eq!(rt; channels[0].pipeline.low(), 4);
+    assert_eq!(rt; channels[0].pipeline.high(), 8);
     Ok(())
 }
 
@@ -141,6 +618,25 @@ fn burst_limits(rt: HostRuntime) -> Result<(), Fail> {
     }
     let long = " ".repeat(rt.alloc(), 33_554_433)?;
     assert_eq!(rt; read_session(rt.alloc(), long.as_str()).err(), limit);
+    Ok(())
+}
+
+/// The number of bursts comes before them, and the chunks and bytes behind them.
+#[test]
+fn burst_order(rt: HostRuntime) -> Result<(), Fail> {
+    for (begin, part, copies, end, fault) in [
+        ("[7", ",[]", 4_096, "]", SessionFault::Limit),
+        (r#"[["""#, r#","""#, 16_384, "],[7]]", SessionFault::Kind),
+    ] {
+        let copied = part.repeat(rt.alloc(), copies)?;
+        let bursts = format!(in rt.alloc(); "{begin}{copied}{end}")?;
+        let text = PING.replace(rt.alloc(), r#"[["PING\r\n"]]"#, bursts.as_str())?;
+        assert_eq!(rt;
+            refusal(&rt, text.as_str()),
+            Some(fault),
+            "at {copies} of {part}"
+        );
+    }
     Ok(())
 }
 

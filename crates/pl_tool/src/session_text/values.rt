@@ -4,9 +4,10 @@ ghost use Rattle.std.specs.Prelude.{◌≡◌, option_map, map, IfOk, ◌≤◌}
 ghost use Rattle.serde_json.specs.View.{view};
 ghost use Rattle.serde_json.specs.Find.{get};
 ghost use Rattle.pl_tool.specs.declared.session_text.fault.SessionFault.TheVariants.{Missing};
-ghost use Rattle.pl_tool.specs.SessionReading.{Answers, known, seen, whole, whole_in, text, an_object, present, absent, elements_of, each, array_in, array_of};
+ghost use Rattle.pl_tool.specs.SessionReading.{Answers, known, seen, whole, whole_in, text, an_object, present, optional, absent, elements_of, each, array_in, array_of};
 
 use crate::session_text::fault::SessionFault;
+use crate::session_text::names::Name;
 use pl_event::{ByteString, Sequence};
 use serde_json::Value;
 use std::alloc::Global;
@@ -80,6 +81,20 @@ pub(crate) fn present<'v>(object: &'v Value, name: &str) -> Option<&'v Value>
     }
 }
 
+/// A member of which there may be none.
+pub(crate) fn optional<T: FromData>(
+    alloc: Global,
+    object: &Value,
+    name: &str,
+) -> Result<Option<T>, SessionFault>
+    ensures { Answers result (optional name.now T.meaning (view object.now)) }
+{
+    match present(object, name) {
+        Some(value) => Ok(Some(T::from_data(alloc, value)?)),
+        None => Ok(None),
+    }
+}
+
 /// Refuses a member that is there.
 pub(crate) fn absent(object: &Value, name: &str, fault: SessionFault) -> Result<(), SessionFault>
     ensures { result ≡ absent name.now fault (view object.now) }
@@ -133,6 +148,14 @@ impl<T: FromData> FromData for Sequence<T> {
 
     fn from_data(alloc: Global, value: &Value) -> Result<Sequence<T>, SessionFault> {
         each(alloc, elements_of(value)?)
+    }
+}
+
+impl FromData for Name {
+    ghost meaning = { text };
+
+    fn from_data(alloc: Global, value: &Value) -> Result<Name, SessionFault> {
+        Ok(Name::new(alloc, text(value)?)?)
     }
 }
 

@@ -1,12 +1,14 @@
-use Rattle.pl_stages.proofs.Spaces.{command_of-none, command_of-at}
+use Rattle.pl_stages.proofs.Spaces.{before_space-none, behind_space-none, before_space-at, behind_space-at}
 use Rattle.pl_stages.proofs.command_decoder.command_of.Goals as goal
 
 pub returns-in-None : goal.returns-in-None
 returns-in-None c =
-    let alone = command_of-none c.args.line.items (rw c.as_slice.ensures.value at c.in-None.ensures) in
-    cc
+    let none = rw c.as_slice.ensures.value at c.in-None.ensures in
+    rw (before_space-none c.args.line.items none, behind_space-none c.args.line.items none)
+    (rw c.as_slice-in-None.ensures.value at c.command_alone.ensures)
 
 pub returns-in-Some : goal.returns-in-Some
 returns-in-Some c =
-    let followed = command_of-at c.args.line.items c.in-Some.end (rw c.as_slice.ensures.value at c.in-Some.ensures) in
-    cc
+    let first = rw c.as_slice.ensures.value at c.in-Some.ensures in
+    rw (before_space-at c.args.line.items c.in-Some.end first, behind_space-at c.args.line.items c.in-Some.end first)
+    c.command_followed.ensures

@@ -1,6 +1,6 @@
 use Rattle.std.proofs.Common.{rules}
 use Rattle.pl_tool.specs.SessionTexts.{session_in, session_of}
-use Rattle.pl_tool.proofs.SessionLimitLaws.{session_is_within}
+use Rattle.pl_tool.proofs.SessionWithin.{session_is_within}
 use Rattle.pl_tool.proofs.session_text.read_session.Goals as goal
 
 pub returns-clause-within : goal.returns-clause-within

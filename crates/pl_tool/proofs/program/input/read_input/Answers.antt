@@ -7,11 +7,7 @@ pub returns-in_err-read_chunk-clause-at_most : goal.returns-in_err-read_chunk-cl
 returns-in_err-read_chunk-clause-at_most g c =
     takes_more 33554433 _ _ _ _ c.loop.input.items c.loop.invariant.taken c.read_chunk.ensures.at_most (omega (arith, length-take c.min-room.result c.loop.buffer))
 
-pub returns-then-branch-eq0-clause-at_most : goal.returns-then-branch-eq0-clause-at_most
-returns-then-branch-eq0-clause-at_most g c =
-    takes_more 33554433 _ _ _ _ c.loop.input.items c.loop.invariant.taken c.read_chunk.ensures.at_most (omega (arith, length-take c.min-room.result c.loop.buffer))
-
 pub loop-preserved : goal.loop-preserved
 loop-preserved g c =
     let on = read_on _ _ _ _ _ _ c.loop.invariant.taken c.in_ok-read_chunk.ensures.taken in
-    record { taken = on.0; many = omega (arith, on.1); at_most = omega (arith, on.1, length-take c.min-room.result c.loop.buffer, c.in_ok-read_chunk.ensures.bound) }
+    record { taken = on.0; at_most = omega (arith, on.1, length-take c.min-room.result c.loop.buffer) }

@@ -5,6 +5,5 @@ use Rattle.pl_tool.proofs.program.input.read_input.Given as goal
 abbrev pub invariant-loop : goal.invariant-loop
 invariant-loop g l = record {
   taken : Consumes (g.R.Read.remaining l.fn.reader) (g.R.Read.remaining l.reader) l.input.items;
-  many : l.counter ≤ length l.input.items;
   at_most : length l.input.items ≤ 33554433;
 }

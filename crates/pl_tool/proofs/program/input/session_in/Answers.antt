@@ -1,9 +1,13 @@
 use Rattle.std.proofs.Common.{arith}
+use Rattle.pl_replay.specs.Plans.{plan_of}
+use Rattle.pl_stages.specs.contracts.handlers.HandlerStage.TheImpl.{meaning-value}
+use Rattle.pl_tool.specs.SessionReading.{seen}
 use Rattle.pl_tool.proofs.ProgramInputs.{no_text_means, text_means}
 use Rattle.pl_tool.proofs.program.input.session_in.Goals as goal
 
 pub returns-in-Ok : goal.returns-in-Ok
-returns-in-Ok c = text_means c.args.input.now c.in-Ok.text.now c.read_session.result (omega arith) c.in-Ok.ensures.cases c.read_session.ensures.meaning
+returns-in-Ok c =
+    text_means c.args.input.now c.in-Ok.text.now (seen (plan_of meaning-value.it) c.read_session.result) (omega arith) c.in-Ok.ensures.cases c.read_session.ensures.meaning
 
 pub returns-in-Err : goal.returns-in-Err
 returns-in-Err c _ = no_text_means c.args.input.now (omega arith) c.in-Err.ensures.cases.0

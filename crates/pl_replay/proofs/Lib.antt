@@ -1,0 +1,13 @@
+pub mod Buffering
+pub mod ChainSteps
+pub mod Flushing
+pub mod HeadSteps
+pub mod Keeping
+pub mod Moving
+pub mod NetSteps
+pub mod Offering
+pub mod Parting
+pub mod PathLanes
+pub mod QuietTurns
+pub mod ReadSteps
+pub mod Taking

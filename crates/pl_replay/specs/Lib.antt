@@ -1,0 +1,16 @@
+pub mod Plans
+pub mod Numbers
+pub mod Writes
+pub mod MoveModel
+pub mod Reports
+pub mod Replays
+pub mod Effects
+pub mod Queue
+pub mod OutboundStand
+pub mod HeadStand
+pub mod ReadsLeft
+pub mod Turns
+pub mod Chains
+pub mod PipelineStand
+pub mod ChannelStand
+pub mod ReplayStand

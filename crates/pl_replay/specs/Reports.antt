@@ -1,0 +1,70 @@
+-- How a channel stands at its numbers, and the whole report of a drained session (docs/FORMATS.md, "Report").
+use Rattle.std.specs.Prelude.{◌≡◌, ℕ, List, [], ◌∷◌, length, take, Bool, true, if◌then◌else◌, nat_le, ◌||◌, ◌&&◌}
+use Rattle.std.specs.List.{AllZip}
+use Rattle.pl_event.specs.declared.events.Event.{Event}
+use Rattle.pl_event.specs.Meaning.{IsPrefixOf}
+use Rattle.pl_event.specs.Inputs.{read_steps, recorded_input}
+use Rattle.pl_event.specs.Lanes.{tail_lane, head_lane, turn_ended}
+use Rattle.pl_replay.specs.declared.report.Stands.{Stands}
+use Rattle.pl_replay.specs.declared.report.Stands.TheVariants.{Drained, Open}
+use Rattle.pl_replay.specs.declared.report.ChannelReport.{ChannelReport}
+use Rattle.pl_replay.specs.Plans.{ChannelPlan}
+use Rattle.pl_replay.specs.Writes.{out, outcomes}
+use Rattle.pl_replay.specs.Numbers.{Numbers}
+use Rattle.pl_replay.specs.MoveModel.{input_by, tail_by, head_by}
+
+-- Stands: a channel is drained where tail and head have taken the end of their lanes and no flushed byte is left.
+abbrev pub stands : Bool → Bool → List Event → ℕ → Stands
+stands tail_has_ended head_has_ended head accepted =
+    if tail_has_ended && head_has_ended && nat_le (length (out head)) accepted then Drained else Open
+
+-- What became of a channel, by the events that reached its tail and its head, whether each has taken the end of its
+-- lane, and how many bytes were accepted.
+abbrev pub channel_report : List Event → List Event → Bool → Bool → ℕ → ChannelReport
+channel_report tail head tail_has_ended head_has_ended accepted = record {
+  stands = stands tail_has_ended head_has_ended head accepted;
+  tail = tail;
+  bytes = take accepted (out head);
+  writes = outcomes head accepted head_has_ended;
+}
+
+-- all read steps were made, so the tail has taken the end of its lane
+abbrev pub has_read_all : List (List (List ℕ)) → Numbers → Bool
+has_read_all bursts n = nat_le (length (read_steps bursts)) n.reads
+
+-- what became of a channel by the time of these numbers; its head's lane ends with the input, or when the turn has quit
+abbrev pub report_at : ChannelPlan → Numbers → ChannelReport
+report_at p n =
+    channel_report (tail_by p n) (head_by p n) (has_read_all p.bursts n) (has_read_all p.bursts n || turn_ended p.inbound (input_by p n)) n.accepted
+
+abbrev pub reports_at : List ChannelPlan → List Numbers → List ChannelReport
+reports_at [] ns = []
+reports_at (p ∷ ps) [] = []
+reports_at (p ∷ ps) (n ∷ ns) = report_at p n ∷ reports_at ps ns
+
+-- what the whole recorded input brings to the tail, and to the head
+abbrev pub tail_of : ChannelPlan → List Event
+tail_of p = tail_lane p.inbound p.outbound (recorded_input p.bursts)
+
+abbrev pub head_of : ChannelPlan → List Event
+head_of p = head_lane p.inbound p.outbound (recorded_input p.bursts)
+
+-- Whole report: what becomes of a channel that is drained.
+abbrev pub whole_report : ChannelPlan → ChannelReport
+whole_report p = record {
+  stands = Drained;
+  tail = tail_of p;
+  bytes = out (head_of p);
+  writes = outcomes (head_of p) (length (out (head_of p))) true;
+}
+
+-- The tail's record and the bytes at the head are prefixes of what the handlers, composed on lists, make of the whole
+-- recorded input, and where the channel is drained its report is the whole report.
+pub record KeepsToPlan (p : ChannelPlan) (r : ChannelReport) : Type 0 where
+  pub tail : IsPrefixOf r.tail (tail_of p)
+  pub bytes : IsPrefixOf r.bytes (out (head_of p))
+  pub whole : r.stands ≡ Drained → r ≡ whole_report p
+
+-- so does each channel of a session
+abbrev pub AllKeepToPlan : List ChannelPlan → List ChannelReport → Type 0
+AllKeepToPlan = AllZip KeepsToPlan
