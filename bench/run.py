@@ -3,10 +3,9 @@
 
 usage: bench/run.py [PROGRAM]     PROGRAM is crates/pl_main/out/pl_main, which `rt run` in crates/pl_main leaves there
 
-Each workload is run at doubling sizes. A row has the bytes that the channel's chunks hold, the best time of seven runs, the
-peak memory, both beside the size before it or what is allowed. Nothing here is a test: the ratios are read in one
-run, on one machine, against the targets of README.md (each doubling at most 2.3 times the time; at most 32 MiB and 200
-bytes for each input byte).
+Each workload is run at doubling sizes. Nothing here is a test: the ratios are read in one run, on one quiet machine,
+against the targets of README.md (each doubling of the work at most 2.3 times the time; at most 32 MiB and 200 bytes
+for each input byte).
 """
 import json
 import os
@@ -15,45 +14,86 @@ import sys
 import time
 
 ROOT = os.path.dirname(os.path.dirname(os.path.abspath(__file__)))
+ROUNDS = 25
 PING = "PING\r\n"
 # Three commands in 16 bytes.
 UNIT = "PING\r\nPING\nPING\n"
+LINE_PROTOCOL = ["lines", "decode", "lineend", "encode", "service"]
 
 
-def session(bursts, max_line=64):
-    kinds = ["lines", "decode", "lineend", "encode", "service"]
-    edits = [{"op": "last", "name": k, "kind": k} for k in kinds]
-    edits[0]["max"] = max_line
-    return {"version": 1, "capacity": 4, "loops": 1, "channels": [{"handlers": edits, "bursts": bursts}]}
+def last(name, kind):
+    edit = {"op": "last", "name": name, "kind": kind}
+    return {**edit, "max": 8192} if kind == "lines" else edit
+
+
+def channel(bursts, kinds=LINE_PROTOCOL):
+    return {"handlers": [last(f"{kind}{i}", kind) for i, kind in enumerate(kinds)], "bursts": bursts}
+
+
+def every_move(channels, outs):
+    """All read steps of each channel, and then so many writes of each."""
+    reads = [f"R{c}x{len(one['bursts']) + 2}" for c, one in enumerate(channels)]
+    writes = [f"O{c}x{outs}" for c in range(len(channels)) if outs]
+    return " ".join(reads + writes)
+
+
+def workload(channels, outs):
+    session = {"version": 1, "capacity": 4, "loops": 1, "channels": channels}
+    return json.dumps(session, separators=(",", ":")).encode(), every_move(channels, outs), sum(held(one) for one in channels)
+
+
+def held(one):
+    return sum(len(chunk) for burst in one["bursts"] for chunk in burst)
 
 
 def pings(size):
-    """PING lines, in 4,096 bursts of one chunk each, and as many writes as lines."""
+    """PING lines of so many bytes, in 4,096 bursts of one chunk each, and as many writes as lines."""
     each = size // (4096 * len(UNIT))
-    return [[UNIT * each] for _ in range(4096)], 4096 * 3 * each
+    return workload([channel([[UNIT * each] for _ in range(4096)])], 4096 * 3 * each)
 
 
 def single_bytes(size):
     """The bytes of PING lines in chunks of one byte, up to the limit of 16,384 chunks."""
-    return [list(UNIT * (size // len(UNIT)))], 3 * size // len(UNIT)
+    return workload([channel([list(UNIT * (size // len(UNIT)))])], 3 * size // len(UNIT))
 
 
 def long_line(size):
     """One line without its end."""
-    return [["a" * size]], 0
+    return workload([channel([["a" * size]])], 0)
 
 
 def messages(size):
     """As many messages as PING lines fit, in one chunk, each written by an Out move of its own."""
     count = size // len(PING)
-    return [[PING * count]], count
+    return workload([channel([[PING * count]])], count)
 
 
+def additions(count):
+    """So many commands, an addition to each of 256 keys in turn."""
+    key = lambda i: chr(97 + i // 16 % 16) + chr(97 + i % 16)
+    return workload([channel([["".join(f"ADD {key(i)} 1\n" for i in range(count))]])], count)
+
+
+def handlers(count):
+    """21,845 messages through so many handlers, of which all but five pass on what they get."""
+    kinds = ["lines"] * (count - 4) + ["decode", "lineend", "encode", "service"]
+    return workload([channel([[PING * 21845]], kinds)], 21845)
+
+
+def channels(count):
+    """So many channels of 65,536 bytes each."""
+    return workload([channel([[PING * 10922]]) for _ in range(count)], 10922)
+
+
+# name, what a size counts, how it is made, sizes
 WORKLOADS = [
-    ("pings in 4,096 bursts", pings, [2**16, 2**17, 2**18, 2**19, 2**20]),
-    ("chunks of one byte", single_bytes, [2**11, 2**12, 2**13, 2**14]),
-    ("one line without its end", long_line, [2**16, 2**17, 2**18, 2**19, 2**20]),
-    ("a message for each Out", messages, [2**16, 2**17, 2**18, 2**19, 2**20]),
+    ("pings in 4,096 bursts", "bytes", pings, [2**16, 2**17, 2**18, 2**19, 2**20]),
+    ("chunks of one byte", "bytes", single_bytes, [2**11, 2**12, 2**13, 2**14]),
+    ("one line without its end", "bytes", long_line, [2**16, 2**17, 2**18, 2**19, 2**20]),
+    ("a message for each Out", "bytes", messages, [2**16, 2**17, 2**18, 2**19, 2**20]),
+    ("additions to 256 keys", "commands", additions, [12500, 25000, 50000, 100000]),
+    ("21,845 messages through more handlers", "handlers", handlers, [8, 16, 32]),
+    ("more channels", "channels", channels, [1, 2, 4, 8, 16]),
 ]
 
 
@@ -64,42 +104,44 @@ def run(words, text):
     return child.stderr
 
 
-def measure(program, text, moves):
-    """The best time of seven runs in seconds, and the peak memory of one more in bytes."""
-    words = [program, "replay", "--moves", moves]
-    best = None
-    for _ in range(7):
-        start = time.perf_counter()
-        run(words, text)
-        spent = time.perf_counter() - start
-        best = spent if best is None else min(best, spent)
-    # GNU time starts the program from a process that is small itself; the program's status is its own.
-    peak = int(run(["/usr/bin/time", "--quiet", "-f", "%M", *words], text).split()[-1]) * 1024
-    return best, peak
+def spent_by(words, text):
+    start = time.perf_counter()
+    run(words, text)
+    return time.perf_counter() - start
+
+
+def peak_of(words, text):
+    """In bytes. GNU time starts the program from a process that is small itself."""
+    return int(run(["/usr/bin/time", "--quiet", "-f", "%M", *words], text).split()[-1]) * 1024
+
+
+def measure(program, made):
+    """The best time of each size, in seconds. The sizes take turns, so that what else the machine does meets all of them."""
+    best = [None] * len(made)
+    for _ in range(ROUNDS):
+        for i, (text, moves, _) in enumerate(made):
+            spent = spent_by([program, "replay", "--moves", moves], text)
+            best[i] = spent if best[i] is None else min(best[i], spent)
+    return best
 
 
 def main():
     program = sys.argv[1] if len(sys.argv) > 1 else os.path.join(ROOT, "crates/pl_main/out/pl_main")
-    for name, make, sizes in WORKLOADS:
+    for name, unit, make, sizes in WORKLOADS:
         print(name)
-        run_sizes(program, make, sizes)
+        made = [make(size) for size in sizes]
+        show(program, unit, sizes, made, measure(program, made))
 
 
-def run_sizes(program, make, sizes):
-    before = None
-    for size in sizes:
-        bursts, outs = make(size)
-        held = sum(len(chunk) for burst in bursts for chunk in burst)
-        moves = f"R0x{len(bursts) + 2}" + (f" O0x{outs}" if outs else "")
-        text = json.dumps(session(bursts), separators=(",", ":")).encode()
-        spent, peak = measure(program, text, moves)
-        ratio = "" if before is None else f"  x{spent / before:.2f}"
-        allowed = 32 * 2**20 + 200 * held
+def show(program, unit, sizes, made, best):
+    for i, (size, (text, moves, held_bytes)) in enumerate(zip(sizes, made)):
+        ratio = "" if i == 0 else f"  x{best[i] / best[i - 1]:.2f}"
+        peak = peak_of([program, "replay", "--moves", moves], text)
+        allowed = 32 * 2**20 + 200 * held_bytes
         print(
-            f"  {held:>8} bytes in {len(text):>8} of text  {spent * 1000:>7.1f} ms{ratio:<7}"
-            f"  peak {peak / 2**20:>5.1f} MiB of {allowed / 2**20:>5.1f} allowed"
+            f"  {size:>8} {unit:<8} in {len(text):>8} of text  {best[i] * 1000:>7.1f} ms{ratio:<7}"
+            f"  peak {peak / 2**20:>5.1f} MiB of {allowed / 2**20:>6.1f} allowed"
         )
-        before = spent
 
 
 if __name__ == "__main__":
