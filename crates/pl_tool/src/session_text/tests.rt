@@ -616,8 +616,13 @@ fn burst_limits(rt: HostRuntime) -> Result<(), Fail> {
             "at {copies} of {part}"
         );
     }
+    Ok(())
+}
+
+#[test]
+fn text_too_long(rt: HostRuntime) -> Result<(), Fail> {
     let long = " ".repeat(rt.alloc(), 33_554_433)?;
-    assert_eq!(rt; read_session(rt.alloc(), long.as_str()).err(), limit);
+    assert_eq!(rt; refusal(&rt, long.as_str()), Some(SessionFault::Limit));
     Ok(())
 }
 
