@@ -219,7 +219,7 @@ fn group_placing(rt: HostRuntime) -> Result<(), Fail> {
 fn edits_in_any_order(rt: HostRuntime) -> Result<(), Fail> {
     let text = piped(
         &rt,
-        r#"{"op":"first","name":"service","kind":"service"},
+        r#"{"op":"last","name":"service","kind":"service"},
 {"op":"first","name":"spare","kind":"encode"},
 {"op":"before","at":"service","name":"encode","kind":"encode"},
 {"op":"before","at":"encode","name":"lineend","kind":"lineend"},

@@ -1,4 +1,5 @@
--- What a session plans: its executors, and its channels, each with its path, its marks and its bursts of chunks.
+-- What a session plans: the capacity of its queues, its executors, and its channels, each with its path, its marks and
+-- its bursts of chunks.
 use Rattle.std.specs.Prelude.{ℕ, List, map}
 use Rattle.pl_event.specs.Meaning.{Meaning}
 use Rattle.pl_stages.specs.declared.handlers.Handler.{Handler}
