@@ -1,5 +1,5 @@
 -- What clap finds on a command line is the text of its moves.
-use Rattle.std.proofs.Common.{◌≡◌, ◌∙◌, ℕ, List, [], ◌∷◌, Bool, true, false, not, ◌&&◌, map, drop, Option, Some, None, refl, sym, ap, ap₂, codes, Bor, string_bytes, String, Global}
+use Rattle.std.proofs.Common.{◌≡◌, ◌∙◌, List, [], ◌∷◌, Bool, true, false, not, ◌&&◌, map, drop, Option, Some, None, refl, sym, ap, ap₂, codes, Bor, string_bytes, String, Global}
 use Rattle.std.proofs.Common.{arith}
 use Rattle.std.proofs.lemmas.Bool.Decides.{nat_tests}
 use Rattle.std.specs.Prelude.{if◌then◌else◌, option_map, option_and_then, unwrap_or, Box}
@@ -9,12 +9,12 @@ use Rattle.std.specs.Str.{bytes_eq}
 use Rattle.clap.proofs.WalkLemmas.{list_any-map, first_value-rows}
 use Rattle.clap.specs.Faults.{fault_of}
 use Rattle.clap.specs.Kinds.{IsAmong, Kinds}
-use Rattle.clap.specs.Matches.{first_value, found_of, subcommand_name_of}
-use Rattle.clap.specs.Walk.{Row, Text, first_of, is_empty, rows_of}
-use Rattle.clap.specs.Simple.{subcommand_of, subcommand_rows, subcommand_rows_of}
+use Rattle.clap.specs.Matches.{first_value}
+use Rattle.clap.specs.Walk.{Row, Text, is_empty, rows_of}
+use Rattle.clap.specs.Simple.{subcommand_of, subcommand_rows}
 use Rattle.clap.specs.declared.error.kind.ErrorKind.{ErrorKind}
 use Rattle.clap.specs.declared.parser.matches.Found.{Found}
-use Rattle.clap.specs.declared.parser.matches.ArgMatches.TheViews.{out-ArgMatches, out-SubCommand}
+use Rattle.clap.specs.declared.parser.matches.ArgMatches.TheViews.{out-SubCommand}
 use Rattle.clap.specs.declared.parser.matches.SubCommand.{SubCommand}
 use Rattle.pl_tool.specs.ProgramLines.{given_text, has_dash, moves_text_of, program}
 
