@@ -38,7 +38,7 @@ fn handler(alloc: Global, kind: Kind) -> Result<Handler, Fail>
         Kind::Decode => Ok(Handler::Decode(CommandDecoder::new())),
         Kind::LineEnd => Ok(Handler::LineEnd(LineEnd::new())),
         Kind::Encode => Ok(Handler::Encode(ReplyEncoder::new())),
-        Kind::Service => Ok(Handler::Service(LineService::new())),
+        Kind::Service => Ok(Handler::Service(LineService::new(alloc))),
     }
 }
 
