@@ -89,118 +89,227 @@ fn truncated_session(rt: HostRuntime) -> Result<(), Fail> {
     Ok(())
 }
 
+/// Parts of the top object, each put for another.
+const HOSTILE_MEMBERS: &[(&str, &str, Option<SessionFault>)] = &[
+    (
+        r#""version":1"#,
+        r#""version":1.5"#,
+        Some(SessionFault::Kind),
+    ),
+    (
+        r#""version":1"#,
+        r#""version":"1""#,
+        Some(SessionFault::Kind),
+    ),
+    (
+        r#""version":1"#,
+        r#""version":0"#,
+        Some(SessionFault::Version),
+    ),
+    (
+        r#""version":1"#,
+        r#""version":null"#,
+        Some(SessionFault::Kind),
+    ),
+    (
+        r#""capacity":4"#,
+        r#""capacity":null"#,
+        Some(SessionFault::Kind),
+    ),
+    (r#""capacity":4"#, r#""capacity":65536"#, None),
+    (
+        r#""capacity":4"#,
+        r#""capacity":65537"#,
+        Some(SessionFault::Limit),
+    ),
+    (r#""loops":1"#, r#""loops":16"#, None),
+    (r#""loops":1"#, r#""loops":17"#, Some(SessionFault::Limit)),
+    (r#""loops":1"#, r#""loops":0"#, Some(SessionFault::Limit)),
+    (
+        r#""loops":1"#,
+        r#""loops":1,"groups":7"#,
+        Some(SessionFault::Kind),
+    ),
+    (
+        r#""loops":1"#,
+        r#""loops":1,"groups":[7]"#,
+        Some(SessionFault::Kind),
+    ),
+    (r#""loops":1"#, r#""loops":1,"groups":[]"#, None),
+    (r#""loops":1"#, r#""loops":1,"groups":null"#, None),
+    (
+        r#""loops":1"#,
+        r#""loops":1,"groups":[{"name":"g"}]"#,
+        Some(SessionFault::Missing),
+    ),
+    (
+        r#""loops":1"#,
+        r#""loops":1,"groups":[{"size":7,"name":null}]"#,
+        Some(SessionFault::Kind),
+    ),
+    (
+        r#""loops":1"#,
+        r#""loops":1,"groups":[{"name":"g","size":65536}]"#,
+        Some(SessionFault::Limit),
+    ),
+    (
+        r#"[{"handlers""#,
+        r#"[7,{"handlers""#,
+        Some(SessionFault::Kind),
+    ),
+    (r#"{"handlers""#, r#"{"more""#, Some(SessionFault::Missing)),
+];
+
+/// Parts of an edit.
+const HOSTILE_EDITS: &[(&str, &str, Option<SessionFault>)] = &[
+    (
+        r#""op":"last","name":"decode""#,
+        r#""name":"decode""#,
+        Some(SessionFault::Missing),
+    ),
+    (
+        r#""op":"last","name":"decode""#,
+        r#""op":"Last","name":"decode""#,
+        Some(SessionFault::Kind),
+    ),
+    (
+        r#""op":"last","name":"decode""#,
+        r#""op":"first","name":7"#,
+        Some(SessionFault::Kind),
+    ),
+    (
+        r#""op":"last","name":"decode""#,
+        r#""op":"before","name":"decode""#,
+        Some(SessionFault::Missing),
+    ),
+    (
+        r#""op":"last","name":"decode""#,
+        r#""op":"after","name":"decode","at":null"#,
+        Some(SessionFault::Kind),
+    ),
+    (r#""name":"decode""#, r#""name":"other""#, None),
+    (
+        r#""kind":"decode""#,
+        r#""kind":"length""#,
+        Some(SessionFault::Kind),
+    ),
+    (
+        r#""kind":"decode""#,
+        r#""kind":"flush_every""#,
+        Some(SessionFault::Missing),
+    ),
+    (
+        r#""kind":"decode""#,
+        r#""kind":"flush_every","n":0"#,
+        Some(SessionFault::Limit),
+    ),
+    (
+        r#""kind":"decode""#,
+        r#""kind":"flush_every","n":65536"#,
+        Some(SessionFault::Limit),
+    ),
+    (
+        r#""kind":"decode""#,
+        r#""kind":"flush_every","n":65535"#,
+        None,
+    ),
+    (
+        r#""kind":"decode""#,
+        r#""kind":"decode","group":null"#,
+        None,
+    ),
+    (
+        r#""kind":"decode""#,
+        r#""kind":"decode","group":7"#,
+        Some(SessionFault::Kind),
+    ),
+    (r#""max":64"#, r#""max":0"#, Some(SessionFault::Limit)),
+    (r#""max":64"#, r#""max":8192"#, None),
+    (r#""max":64"#, r#""max":8193"#, Some(SessionFault::Limit)),
+    (r#""max":64"#, r#""max":null"#, Some(SessionFault::Kind)),
+];
+
+/// Parts of a channel.
+const HOSTILE_CHANNELS: &[(&str, &str, Option<SessionFault>)] = &[
+    (r#""bursts":"#, r#""low":null,"high":null,"bursts":"#, None),
+    (
+        r#""bursts":"#,
+        r#""high":"8","bursts":"#,
+        Some(SessionFault::Kind),
+    ),
+    (r#""bursts":"#, r#""high":1073741824,"bursts":"#, None),
+    (
+        r#""bursts":"#,
+        r#""high":1073741825,"bursts":"#,
+        Some(SessionFault::Limit),
+    ),
+    (
+        r#""bursts":"#,
+        r#""low":1073741825,"bursts":"#,
+        Some(SessionFault::Limit),
+    ),
+    (r#""bursts":"#, r#""low":0,"high":0,"bursts":"#, None),
+    (
+        r#""bursts":"#,
+        r#""window":"x","bursts":"#,
+        Some(SessionFault::Limit),
+    ),
+    (
+        r#""bursts":"#,
+        r#""fail_at":1,"bursts":"#,
+        Some(SessionFault::Limit),
+    ),
+    (
+        r#""bursts":"#,
+        r#""abort_after":1,"bursts":"#,
+        Some(SessionFault::Limit),
+    ),
+    (
+        r#""bursts":"#,
+        r#""window":null,"fail_at":null,"abort_after":null,"bursts":"#,
+        None,
+    ),
+    (
+        r#""bursts":[["PING\r\n"]]"#,
+        r#""bursts":[["PING"],[7]]"#,
+        Some(SessionFault::Kind),
+    ),
+    (
+        r#""bursts":[["PING\r\n"]]"#,
+        r#""bursts":7"#,
+        Some(SessionFault::Kind),
+    ),
+    (
+        r#""bursts":[["PING\r\n"]]"#,
+        r#""bursts":null"#,
+        Some(SessionFault::Kind),
+    ),
+];
+
 /// Each is the session of one PING with one part of its text put for another.
 #[test]
 fn hostile_members(rt: HostRuntime) -> Result<(), Fail> {
-    let version = Some(SessionFault::Version);
-    let missing = Some(SessionFault::Missing);
-    let kind = Some(SessionFault::Kind);
-    let limit = Some(SessionFault::Limit);
-    for (part, other, fault) in [
-        (r#""version":1"#, r#""version":1.5"#, kind),
-        (r#""version":1"#, r#""version":"1""#, kind),
-        (r#""version":1"#, r#""version":0"#, version),
-        (r#""version":1"#, r#""version":null"#, kind),
-        (r#""capacity":4"#, r#""capacity":null"#, kind),
-        (r#""capacity":4"#, r#""capacity":65536"#, None),
-        (r#""capacity":4"#, r#""capacity":65537"#, limit),
-        (r#""loops":1"#, r#""loops":16"#, None),
-        (r#""loops":1"#, r#""loops":17"#, limit),
-        (r#""loops":1"#, r#""loops":0"#, limit),
-        (r#""loops":1"#, r#""loops":1,"groups":7"#, kind),
-        (r#""loops":1"#, r#""loops":1,"groups":[7]"#, kind),
-        (r#""loops":1"#, r#""loops":1,"groups":[]"#, None),
-        (r#""loops":1"#, r#""loops":1,"groups":null"#, None),
-        (
-            r#""loops":1"#,
-            r#""loops":1,"groups":[{"name":"g"}]"#,
-            missing,
-        ),
-        (
-            r#""loops":1"#,
-            r#""loops":1,"groups":[{"size":7,"name":null}]"#,
-            kind,
-        ),
-        (
-            r#""loops":1"#,
-            r#""loops":1,"groups":[{"name":"g","size":65536}]"#,
-            limit,
-        ),
-        (r#"[{"handlers""#, r#"[7,{"handlers""#, kind),
-        (r#"{"handlers""#, r#"{"more""#, missing),
-        (
-            r#""op":"last","name":"decode""#,
-            r#""name":"decode""#,
-            missing,
-        ),
-        (
-            r#""op":"last","name":"decode""#,
-            r#""op":"Last","name":"decode""#,
-            kind,
-        ),
-        (
-            r#""op":"last","name":"decode""#,
-            r#""op":"first","name":7"#,
-            kind,
-        ),
-        (
-            r#""op":"last","name":"decode""#,
-            r#""op":"before","name":"decode""#,
-            missing,
-        ),
-        (
-            r#""op":"last","name":"decode""#,
-            r#""op":"after","name":"decode","at":null"#,
-            kind,
-        ),
-        (r#""name":"decode""#, r#""name":"other""#, None),
-        (r#""kind":"decode""#, r#""kind":"length""#, kind),
-        (r#""kind":"decode""#, r#""kind":"flush_every""#, missing),
-        (r#""kind":"decode""#, r#""kind":"flush_every","n":0"#, limit),
-        (
-            r#""kind":"decode""#,
-            r#""kind":"flush_every","n":65536"#,
-            limit,
-        ),
-        (
-            r#""kind":"decode""#,
-            r#""kind":"flush_every","n":65535"#,
-            None,
-        ),
-        (
-            r#""kind":"decode""#,
-            r#""kind":"decode","group":null"#,
-            None,
-        ),
-        (r#""kind":"decode""#, r#""kind":"decode","group":7"#, kind),
-        (r#""max":64"#, r#""max":0"#, limit),
-        (r#""max":64"#, r#""max":8192"#, None),
-        (r#""max":64"#, r#""max":8193"#, limit),
-        (r#""max":64"#, r#""max":null"#, kind),
-        (r#""bursts":"#, r#""low":null,"high":null,"bursts":"#, None),
-        (r#""bursts":"#, r#""high":"8","bursts":"#, kind),
-        (r#""bursts":"#, r#""high":1073741824,"bursts":"#, None),
-        (r#""bursts":"#, r#""high":1073741825,"bursts":"#, limit),
-        (r#""bursts":"#, r#""low":1073741825,"bursts":"#, limit),
-        (r#""bursts":"#, r#""low":0,"high":0,"bursts":"#, None),
-        (r#""bursts":"#, r#""window":"x","bursts":"#, limit),
-        (r#""bursts":"#, r#""fail_at":1,"bursts":"#, limit),
-        (r#""bursts":"#, r#""abort_after":1,"bursts":"#, limit),
-        (
-            r#""bursts":"#,
-            r#""window":null,"fail_at":null,"abort_after":null,"bursts":"#,
-            None,
-        ),
-        (
-            r#""bursts":[["PING\r\n"]]"#,
-            r#""bursts":[["PING"],[7]]"#,
-            kind,
-        ),
-        (r#""bursts":[["PING\r\n"]]"#, r#""bursts":7"#, kind),
-        (r#""bursts":[["PING\r\n"]]"#, r#""bursts":null"#, kind),
-    ] {
+    for (part, other, fault) in HOSTILE_MEMBERS {
         let text = PING.replace(rt.alloc(), part, other)?;
-        assert_eq!(rt; refusal(&rt, text.as_str()), fault, "at {other}");
+        assert_eq!(rt; refusal(&rt, text.as_str()), *fault, "at {other}");
+    }
+    Ok(())
+}
+
+#[test]
+fn hostile_edits(rt: HostRuntime) -> Result<(), Fail> {
+    for (part, other, fault) in HOSTILE_EDITS {
+        let text = PING.replace(rt.alloc(), part, other)?;
+        assert_eq!(rt; refusal(&rt, text.as_str()), *fault, "at {other}");
+    }
+    Ok(())
+}
+
+#[test]
+fn hostile_channels(rt: HostRuntime) -> Result<(), Fail> {
+    for (part, other, fault) in HOSTILE_CHANNELS {
+        let text = PING.replace(rt.alloc(), part, other)?;
+        assert_eq!(rt; refusal(&rt, text.as_str()), *fault, "at {other}");
     }
     Ok(())
 }
