@@ -4,12 +4,12 @@ use Rattle.std.specs.Prelude.{if◌then◌else◌, nat_lt, Result, Err}
 use Rattle.std.specs.Str.{IsUtf8, is_utf8}
 use Rattle.std.proofs.lemmas.Bool.Decides.{nat_tests}
 use Rattle.std.proofs.lemmas.Str.{IsUtf8-from_is_utf8, is_utf8-from_IsUtf8}
-use Rattle.pl_tool.specs.declared.session_text.fault.SessionFault.{SessionFault}
-use Rattle.pl_tool.specs.declared.session_text.fault.SessionFault.TheVariants.{Limit, NotJson}
+use Rattle.pl_text.specs.declared.session_text.fault.SessionFault.{SessionFault}
+use Rattle.pl_text.specs.declared.session_text.fault.SessionFault.TheVariants.{Limit, NotJson}
 use Rattle.pl_replay.specs.Plans.{Plan}
 use Rattle.pl_tool.specs.ProgramOutcomes.{session_of_bytes}
-use Rattle.pl_tool.specs.SessionReading.{Answers}
-use Rattle.pl_tool.specs.SessionTexts.{session_of}
+use Rattle.pl_text.specs.SessionReading.{Answers}
+use Rattle.pl_text.specs.SessionTexts.{session_of}
 
 is_short : (n : ℕ) → n ≤ 33554432 → nat_lt 33554432 n ≡ false
 is_short n le = grind (arith, nat_tests)

@@ -1,13 +1,3 @@
-pub mod MovesLetters
-pub mod MovesTexts
-pub mod SessionReading
-pub mod SessionHandlers
-pub mod SessionLimits
-pub mod SessionChannels
-pub mod SessionOutlines
-pub mod SessionBuilding
-pub mod SessionTexts
 pub mod ProgramLines
 pub mod ProgramFailures
 pub mod ProgramOutcomes
-pub mod ReportTexts

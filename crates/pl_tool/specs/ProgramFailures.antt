@@ -2,16 +2,16 @@
 use Rattle.std.specs.Prelude.{ℕ, List, [], ◌∷◌, ◌++◌, codes, Option, Some, None}
 use Rattle.std.specs.declared.io.ErrorKind.{ErrorKind}
 use Rattle.std.specs.declared.io.ErrorKind.TheVariants.{Interrupted, OutOfMemory}
-use Rattle.pl_tool.specs.declared.moves_text.fault.MovesFault.{MovesFault}
-use Rattle.pl_tool.specs.declared.moves_text.fault.MovesFault.TheVariants as moves
+use Rattle.pl_text.specs.declared.moves_text.fault.MovesFault.{MovesFault}
+use Rattle.pl_text.specs.declared.moves_text.fault.MovesFault.TheVariants as moves
 use Rattle.pl_build.specs.declared.faults.BuildFault.{BuildFault}
 use Rattle.pl_build.specs.declared.faults.BuildFault.TheVariants as build
-use Rattle.pl_tool.specs.declared.session_text.fault.SessionFault.{SessionFault}
-use Rattle.pl_tool.specs.declared.session_text.fault.SessionFault.TheVariants as session
+use Rattle.pl_text.specs.declared.session_text.fault.SessionFault.{SessionFault}
+use Rattle.pl_text.specs.declared.session_text.fault.SessionFault.TheVariants as session
 use Rattle.pl_replay.specs.declared.faults.ReplayFault.{ReplayFault}
 use Rattle.pl_replay.specs.declared.faults.ReplayFault.TheVariants as replay
-use Rattle.pl_tool.specs.declared.report_text.fault.PrintFault.{PrintFault}
-use Rattle.pl_tool.specs.declared.report_text.fault.PrintFault.TheVariants as print
+use Rattle.pl_text.specs.declared.report_text.fault.PrintFault.{PrintFault}
+use Rattle.pl_text.specs.declared.report_text.fault.PrintFault.TheVariants as print
 use Rattle.pl_tool.specs.declared.program.failure.Failure.{Failure}
 use Rattle.pl_tool.specs.declared.program.failure.Failure.TheVariants.{Usage, Moves, Replay, Input, Session, Memory, Output}
 

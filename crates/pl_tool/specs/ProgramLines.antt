@@ -1,5 +1,5 @@
 -- What the command line asks for (docs/FORMATS.md, "Program"), in clap's words for what it finds on a command line.
-use Rattle.std.specs.Prelude.{ℕ, List, [], ◌∷◌, ◌&&◌, drop, codes, Bool, not, Option, Some, None, unwrap_or, option_and_then, if◌then◌else◌}
+use Rattle.std.specs.Prelude.{List, [], ◌&&◌, drop, codes, Bool, not, Option, Some, None, unwrap_or, option_and_then, if◌then◌else◌}
 use Rattle.std.specs.List.{list_any}
 use Rattle.std.specs.Str.{bytes_eq}
 use Rattle.clap.specs.Walk.{Row, Rule, Text, first_of, is_empty}

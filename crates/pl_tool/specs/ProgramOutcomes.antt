@@ -1,5 +1,5 @@
 -- What the program has done (docs/FORMATS.md, "Program").
-use Rattle.std.specs.Prelude.{◌≡◌, ◌≢◌, ℕ, ◌≤◌, ◌<◌, List, length, Bool, true, false, ⊤, Option, Some, Result, Ok, Err, nat_lt, if◌then◌else◌}
+use Rattle.std.specs.Prelude.{◌≡◌, ◌≢◌, ℕ, ◌≤◌, List, length, Bool, true, false, ⊤, Option, Some, Result, Ok, Err, nat_lt, if◌then◌else◌}
 use Rattle.std.specs.List.{list_all}
 use Rattle.std.specs.Str.{is_utf8}
 use Rattle.std.specs.Io.KnownBytes.{Appends, Consumes, IsAtEnd, Keeps}
@@ -7,12 +7,10 @@ use Rattle.pl_replay.specs.declared.moves.Move.{Move}
 use Rattle.pl_replay.specs.declared.report.Report.{Report}
 use Rattle.pl_replay.specs.declared.report.Stands.{Stands}
 use Rattle.pl_replay.specs.declared.report.Stands.TheVariants.{Drained, Open, Failed}
-use Rattle.pl_tool.specs.declared.session_text.fault.SessionFault.{SessionFault}
-use Rattle.pl_tool.specs.declared.session_text.fault.SessionFault.TheVariants.{Limit, NotJson}
-use Rattle.pl_tool.specs.declared.session_text.fault.SessionFault.TheVariants as session
-use Rattle.pl_tool.specs.declared.moves_text.words.Word.{Word}
-use Rattle.pl_tool.specs.declared.moves_text.fault.MovesFault.{MovesFault}
-use Rattle.pl_tool.specs.declared.moves_text.fault.MovesFault.TheVariants as moves
+use Rattle.pl_text.specs.declared.session_text.fault.SessionFault.{SessionFault}
+use Rattle.pl_text.specs.declared.session_text.fault.SessionFault.TheVariants.{Limit, NotJson}
+use Rattle.pl_text.specs.declared.session_text.fault.SessionFault.TheVariants as session
+use Rattle.pl_text.specs.declared.moves_text.fault.MovesFault.{MovesFault}
 use Rattle.pl_replay.specs.declared.faults.ReplayFault.TheVariants as replay
 use Rattle.pl_tool.specs.declared.program.failure.Failure.{Failure}
 use Rattle.pl_tool.specs.declared.program.failure.Failure.TheVariants.{Usage, Moves, Replay, Input, Session, Memory, Output}
@@ -20,9 +18,9 @@ use Rattle.pl_event.specs.Meaning.{IsPrefixOf}
 use Rattle.pl_replay.specs.MoveModel.{is_there}
 use Rattle.pl_replay.specs.Plans.{Plan}
 use Rattle.pl_replay.specs.Replays.{IsReplayed}
-use Rattle.pl_tool.specs.SessionTexts.{session_of}
-use Rattle.pl_tool.specs.MovesTexts.{MeansMoves, Says, total}
-use Rattle.pl_tool.specs.ReportTexts.{report_text}
+use Rattle.pl_text.specs.SessionTexts.{session_of}
+use Rattle.pl_text.specs.MovesTexts.{MeansMoves, IsNoMoves}
+use Rattle.pl_text.specs.ReportTexts.{report_text}
 use Rattle.pl_tool.specs.ProgramFailures.{status_of, failure_line}
 use Rattle.pl_tool.specs.ProgramLines.{moves_text_of}
 
@@ -73,12 +71,6 @@ pub record HasPrinted (drained : Bool) (words : List (List ℕ)) (unread left be
   pub written : Appends before after (report_text report)
 
 -- ---- why no report was printed
-
--- the text has a part that is no word, or says too many moves
-abbrev pub IsNoMoves : MovesFault → List ℕ → Type 0
-IsNoMoves moves.Form text = (ws : List Word) → Says text ws → ⊥
-IsNoMoves moves.Limit text = (ws : List Word) × Says text ws × (1000000 < total ws)
-IsNoMoves moves.Memory text = ⊥
 
 -- the text that the command line gives is no moves
 pub record RefusesMoves (fault : MovesFault) (words : List (List ℕ)) : Type 0 where

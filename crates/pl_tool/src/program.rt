@@ -13,12 +13,11 @@ mod telling;
 #[cfg(test)]
 mod tests;
 
-use crate::moves_text::read_moves;
-use crate::report_text::print_report;
 use command_line::moves_text;
 use failure::Failure;
 use input::take_session;
 use pl_replay::{Move, Report, Stands, replay};
+use pl_text::{print_report, read_moves};
 use std::alloc::Global;
 use std::io;
 use std::io::{Read, Write};

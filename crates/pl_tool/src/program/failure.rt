@@ -5,11 +5,9 @@ ghost use Rattle.std.specs.IoError.{error_kind};
 ghost use Rattle.pl_tool.specs.ProgramFailures.{failure_of_moves, failure_of_session, failure_of_replay, failure_of_print, failure_of_read, failure_of_words};
 ghost use Rattle.pl_tool.specs.ProgramFailures.{status_of, failure_line, moves_line, replay_line, build_line, session_line};
 
-use crate::moves_text::MovesFault;
-use crate::report_text::PrintFault;
-use crate::session_text::SessionFault;
 use pl_build::BuildFault;
 use pl_replay::ReplayFault;
+use pl_text::{MovesFault, PrintFault, SessionFault};
 use std::io;
 use std::io::ErrorKind;
 

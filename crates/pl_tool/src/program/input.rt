@@ -4,14 +4,14 @@ ghost use Rattle.std.specs.Prelude.{◌≡◌, ◌⊎◌, ◌≤◌, ◌<◌, Li
 ghost use Rattle.std.specs.Io.KnownBytes.{Consumes, IsAtEnd};
 ghost use Rattle.pl_tool.specs.declared.program.failure.Failure.TheVariants as failure;
 ghost use Rattle.pl_replay.specs.Plans.{plan_of};
-ghost use Rattle.pl_tool.specs.SessionReading.{Answers, seen};
+ghost use Rattle.pl_text.specs.SessionReading.{Answers, seen};
 ghost use Rattle.pl_tool.specs.ProgramOutcomes.{RefusesInput, TakesAtMost, TakesSession, session_of_bytes};
 
 use super::failure::Failure;
-use crate::session_text::{SessionFault, read_session};
 use pl_event::Stage;
 use pl_replay::Session;
 use pl_stages::Handler;
+use pl_text::{SessionFault, read_session};
 use std::alloc::Global;
 use std::io::Read;
 

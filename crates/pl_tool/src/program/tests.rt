@@ -1,8 +1,7 @@
 use super::*;
-use crate::moves_text::MovesFault;
-use crate::session_text::SessionFault;
 use pl_build::BuildFault;
 use pl_replay::ReplayFault;
+use pl_text::{MovesFault, SessionFault};
 use std::io;
 use std::io::ErrorKind;
 use std::test::Fail;

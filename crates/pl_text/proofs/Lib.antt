@@ -1,0 +1,15 @@
+pub mod SessionElements
+pub mod KeyNames
+pub mod MovesNumbers
+pub mod MovesUnique
+pub mod MovesWords
+pub mod Lists
+pub mod MeantPipelines
+pub mod SessionLimitLaws
+pub mod EditSteps
+pub mod EditRuns
+pub mod ChannelSteps
+pub mod ChannelRuns
+pub mod SmallLanes
+pub mod PipelineLimits
+pub mod SessionWithin

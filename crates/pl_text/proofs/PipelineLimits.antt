@@ -1,0 +1,197 @@
+-- The handlers of a pipeline that is built are at most 32, each of a built-in kind.
+use Rattle.std.proofs.Common.{◌≡◌, ℕ, zero, ◌+◌, ◌<◌, ◌≤◌, Bool, true, false, cond, not, List, [], ◌∷◌, ◌++◌, length, take, drop, filter, reverse, suc, Option, Some, None, Ok, Err, sym, refl, ap, subst, arith, length-append}
+use Rattle.std.specs.Prelude.{All, is_some, if◌then◌else◌, nat_le, nat_lt, ◌||◌, insert, remove}
+use Rattle.std.specs.List.{prefix_len}
+use Rattle.std.specs.Option.{option_map_or}
+use Rattle.std.proofs.lemmas.Bool.Decides.{nat_tests}
+use Rattle.std.proofs.lemmas.List.{length-take, length-drop, length-reverse, reverse-append, take-append-drop}
+use Rattle.std.proofs.lemmas.List.Filters.{length-filter_both}
+use Rattle.std.proofs.lemmas.List.Elements.{All-nil, All-cons, All-head, All-tail, All-append, All-push, All-take, All-drop, All-filter, All-map, All-weaker, filter_passes}
+use Rattle.pl_event.specs.Meaning.{Meaning}
+use Rattle.pl_event.specs.declared.stages.Direction.{Direction}
+use Rattle.pl_event.specs.declared.stages.Direction.TheVariants.{Inbound, Outbound, Turn}
+use Rattle.pl_event.specs.Paths.{inbound_chain, outbound_chain, is_outbound, is_turn}
+use Rattle.pl_build.specs.declared.handlers.Handler.{Handler}
+use Rattle.pl_build.specs.declared.faults.BuildFault.{BuildFault}
+use Rattle.pl_build.specs.declared.faults.BuildFault.TheVariants.{NoSuchName, Limit, Marks}
+use Rattle.pl_build.specs.Names.{is_name}
+use Rattle.pl_build.specs.Pipelines.{place_of, without, meanings}
+use Rattle.pl_build.specs.Refusals.{unless, naming_fault, beside_fault, marks_answer, building_fault}
+use Rattle.pl_text.specs.declared.session_text.outline.HandlerKind.{HandlerKind}
+use Rattle.pl_text.specs.declared.session_text.outline.HandlerKind.TheVariants.{Lines, Decode, LineEnd, Encode, Service, FlushEvery}
+use Rattle.pl_text.specs.declared.session_text.outline.Addition.{Addition}
+use Rattle.pl_text.specs.declared.session_text.outline.Edit.{Edit}
+use Rattle.pl_text.specs.declared.session_text.outline.Edit.TheVariants.{First, Last, Before, After, Remove}
+use Rattle.pl_text.specs.declared.session_text.outline.ChannelOutline.{ChannelOutline}
+use Rattle.pl_text.specs.SessionHandlers.{meaning_of}
+use Rattle.pl_text.specs.SessionBuilding.{made_unless, added, put_before, put_after, edited, all_edited, pipeline_built}
+use Rattle.pl_stages.specs.Counts.{IsThrifty, line_framing-thrifty, command_decoding-thrifty, line_ending-thrifty, reply_encoding-thrifty, line_service-thrifty, flush_every-thrifty}
+use Rattle.pl_text.proofs.SessionLimitLaws.{bind-ok, choice-ok}
+
+meaning_thrifty : (kind : HandlerKind) → IsThrifty (meaning_of kind)
+meaning_thrifty (Lines max) = line_framing-thrifty max
+meaning_thrifty Decode = command_decoding-thrifty
+meaning_thrifty LineEnd = line_ending-thrifty
+meaning_thrifty Encode = reply_encoding-thrifty
+meaning_thrifty Service = line_service-thrifty
+meaning_thrifty (FlushEvery n) = flush_every-thrifty n
+
+abbrev IsBuiltIn : Handler Meaning → Type 0
+IsBuiltIn handler = IsThrifty handler.stage
+
+-- at most 32 handlers, each of a built-in kind
+pub record AreWithin (handlers : List (Handler Meaning)) : Type 0 where
+  pub built_in : All IsBuiltIn handlers
+  pub at_most : length handlers ≤ 32
+
+-- ---- edits
+
+unless-ok : {A : Type 0} (o : Option BuildFault) (made got : A) → made_unless o made ≡ Ok got → (o ≡ None) × (made ≡ got)
+unless-ok None made got e = (refl, cc)
+unless-ok (Some f) made got e = cc
+
+room_by : (named full : Bool) (o : Option BuildFault) → (if not named || full then Some Limit else o) ≡ None → full ≡ false
+room_by true true o e = cc
+room_by true false o e = refl
+room_by false full o e = cc
+
+room : (name : List ℕ) (handlers : List (Handler Meaning)) → naming_fault name handlers ≡ None → length handlers < 32
+room name handlers e =
+    let full : nat_le 32 (length handlers) ≡ false = room_by (is_name name) (nat_le 32 (length handlers)) _ e in
+    grind (arith, nat_tests)
+
+naming_of : (naming : Option BuildFault) (there : Bool) → (if is_some naming then naming else if there then None else Some NoSuchName) ≡ None → naming ≡ None
+naming_of None there e = refl
+naming_of (Some f) there e = cc
+
+added_within : (a : Addition) → IsBuiltIn (added a)
+added_within a = meaning_thrifty a.handler
+
+insert_within : (handlers : List (Handler Meaning)) (place : ℕ) (a : Addition) → AreWithin handlers → length handlers < 32 → AreWithin (insert handlers place (added a))
+insert_within handlers place a within free = record {
+  built_in = All-append IsBuiltIn (take place handlers) (added a ∷ drop place handlers) (All-take IsBuiltIn place handlers within.built_in)
+      (All-cons IsBuiltIn (added a) (drop place handlers) (added_within a) (All-drop IsBuiltIn place handlers within.built_in));
+  at_most = omega (arith, length-append (take place handlers) (added a ∷ drop place handlers), ap (λ (hs : List (Handler Meaning)). length hs) (take-append-drop place handlers), length-append (take place handlers) (drop place handlers));
+}
+
+insert_at_within : (o : Option ℕ) (shift : ℕ → ℕ) (handlers : List (Handler Meaning)) (a : Addition) → AreWithin handlers → length handlers < 32
+    → AreWithin (option_map_or (λ place. insert handlers (shift place) (added a)) o handlers)
+insert_at_within None shift handlers a within free = within
+insert_at_within (Some place) shift handlers a within free = insert_within handlers (shift place) a within free
+
+remove_within : (o : Option ℕ) (handlers : List (Handler Meaning)) → AreWithin handlers → AreWithin (option_map_or (λ place. remove handlers place) o handlers)
+remove_within None handlers within = within
+remove_within (Some place) handlers within = record {
+  built_in = All-append IsBuiltIn (take place handlers) (drop (suc place) handlers) (All-take IsBuiltIn place handlers within.built_in) (All-drop IsBuiltIn (suc place) handlers within.built_in);
+  at_most = omega (arith, within.at_most, length-append (take place handlers) (drop (suc place) handlers), length-take place handlers, length-drop (suc place) handlers);
+}
+
+edited-within : (handlers next : List (Handler Meaning)) (edit : Edit) → edited handlers edit ≡ Ok next → AreWithin handlers → AreWithin next
+unfolding edited
+edited-within handlers next (First a) e within =
+    let p = unless-ok (naming_fault a.name handlers) (added a ∷ handlers) next e in
+    let free = room a.name handlers p.0 in
+    subst AreWithin p.1 (record { built_in = All-cons IsBuiltIn (added a) handlers (added_within a) within.built_in; at_most = omega (arith, free) })
+edited-within handlers next (Last a) e within =
+    let p = unless-ok (naming_fault a.name handlers) (handlers ++ added a ∷ []) next e in
+    let free = room a.name handlers p.0 in
+    subst AreWithin p.1 (record {
+      built_in = All-append IsBuiltIn handlers (added a ∷ []) within.built_in (All-cons IsBuiltIn (added a) [] (added_within a) (All-nil IsBuiltIn));
+      at_most = omega (arith, free, length-append handlers (added a ∷ []));
+    })
+edited-within handlers next (Before at a) e within =
+    let p = unless-ok (beside_fault at a.name handlers) (put_before at (added a) handlers) next e in
+    let free = room a.name handlers (naming_of (naming_fault a.name handlers) (is_some (place_of at handlers)) p.0) in
+    subst AreWithin p.1 (insert_at_within (place_of at handlers) (λ n. n) handlers a within free)
+edited-within handlers next (After at a) e within =
+    let p = unless-ok (beside_fault at a.name handlers) (put_after at (added a) handlers) next e in
+    let free = room a.name handlers (naming_of (naming_fault a.name handlers) (is_some (place_of at handlers)) p.0) in
+    subst AreWithin p.1 (insert_at_within (place_of at handlers) (λ n. n + 1) handlers a within free)
+edited-within handlers next (Remove name) e within =
+    let p = choice-ok (is_some (place_of name handlers)) (without name handlers) next NoSuchName e in
+    subst AreWithin p.1 (remove_within (place_of name handlers) handlers within)
+
+all_edited-within : (handlers last : List (Handler Meaning)) (edits : List Edit) → all_edited handlers edits ≡ Ok last → AreWithin handlers → AreWithin last
+all_edited-within handlers last [] e within = let is : handlers ≡ last = cc in subst AreWithin is within
+all_edited-within handlers last (edit ∷ edits) e within =
+    let p = bind-ok (edited handlers edit) (λ next. all_edited next edits) last e in
+    all_edited-within p.0 last edits p.2 (edited-within handlers p.0 edit p.1 within)
+
+-- ---- marks
+
+marks_by : (low high : Bool) (above : Bool) (u : Unit {0}) → (if low || high then Err Limit else if above then Err Marks else Ok tt) ≡ Ok u → (high ≡ false) × (above ≡ false)
+marks_by true high above u e = cc
+marks_by false true above u e = cc
+marks_by false false true u e = cc
+marks_by false false false u e = (refl, refl)
+
+marks-within : (low high : ℕ) (u : Unit {0}) → marks_answer low high ≡ Ok u → (low ≤ high) × (high ≤ 1073741824)
+marks-within low high u e =
+    let p = marks_by (nat_lt 1073741824 low) (nat_lt 1073741824 high) (nat_lt high low) u e in
+    (below high low p.1, below 1073741824 high p.0)
+  where
+    below : (a b : ℕ) → nat_lt a b ≡ false → b ≤ a
+    below a b e = grind (arith, nat_tests)
+
+pub pipeline-within : (sizes : List (List ℕ × ℕ)) (channel : ChannelOutline) (handlers : List (Handler Meaning)) → pipeline_built sizes channel ≡ Ok handlers
+    → AreWithin handlers × (channel.low ≤ channel.high) × (channel.high ≤ 1073741824)
+unfolding pipeline_built
+pipeline-within sizes channel handlers e =
+    let edits = bind-ok (all_edited [] channel.edits) _ handlers e in
+    let marks = bind-ok (marks_answer channel.low channel.high) _ handlers edits.2 in
+    let built = bind-ok (unless (building_fault (λ m. m) sizes edits.0)) _ handlers marks.2 in
+    let is : edits.0 ≡ handlers = cc in
+    let levels = marks-within channel.low channel.high marks.0 marks.1 in
+    let within = all_edited-within [] edits.0 channel.edits edits.1 (record { built_in = All-nil IsBuiltIn; at_most = omega arith }) in
+    (subst AreWithin is within, levels.0, levels.1)
+
+-- ---- chains
+
+length-filter-take : (p : Meaning → Bool) (n : ℕ) (ms : List Meaning) → length (filter p (take n ms)) ≤ length (filter p ms)
+length-filter-take p zero ms = omega arith
+length-filter-take p (suc n) [] = omega arith
+length-filter-take p (suc n) (m ∷ ms) =
+    by (p m) (length-filter-take p n ms)
+  where
+    by : (b : Bool) → length (filter p (take n ms)) ≤ length (filter p ms) → length (cond b (m ∷ filter p (take n ms)) (filter p (take n ms))) ≤ length (cond b (m ∷ filter p ms) (filter p ms))
+    by true h = omega (arith, h)
+    by false h = h
+
+abbrev outbound : Meaning → Bool
+outbound m = is_outbound m.direction
+
+abbrev inbound : Meaning → Bool
+inbound m = not (is_outbound m.direction)
+
+-- how many of the handlers stand before the turn
+abbrev fronts : List Meaning → ℕ
+fronts ms = prefix_len (λ m. not (is_turn m.direction)) ms
+
+All-reverse : {X : Type 0} (P : X → Type 0) (xs : List X) → All P xs → All P (reverse xs)
+All-reverse P [] h = h
+All-reverse P (x ∷ xs) h =
+    subst (All P) (sym (reverse-append (x ∷ []) xs)) (All-push P (reverse xs) x (All-reverse P xs (All-tail P x xs h)) (All-head P x xs h))
+
+pub chains-length : (ms : List Meaning) → length (inbound_chain ms) + length (outbound_chain ms) ≤ length ms
+chains-length ms =
+    omega (arith, length-filter_both outbound inbound (λ m. refl) ms, length-filter-take outbound (fronts ms) ms, length-reverse (filter outbound (take (fronts ms) ms)))
+
+pub inbound-all : (P : Meaning → Type 0) (ms : List Meaning) → All P ms → All P (inbound_chain ms)
+inbound-all P ms all = All-filter inbound P ms all
+
+pub outbound-all : (P : Meaning → Type 0) (ms : List Meaning) → All P ms → All P (outbound_chain ms)
+outbound-all P ms all =
+    All-reverse P (filter outbound (take (fronts ms) ms)) (All-filter outbound P (take (fronts ms) ms) (All-take P (fronts ms) ms all))
+
+is_out : (d : Direction) → is_outbound d ≡ true → d ≡ Outbound
+is_out Inbound e = cc
+is_out Outbound e = refl
+is_out Turn e = cc
+
+pub outbound-out : (ms : List Meaning) → All (λ m. m.direction ≡ Outbound) (outbound_chain ms)
+outbound-out ms =
+    All-reverse (λ (m : Meaning). m.direction ≡ Outbound) (filter outbound (take (fronts ms) ms))
+    (All-weaker (λ (m : Meaning). outbound m ≡ true) (λ (m : Meaning). m.direction ≡ Outbound) (λ m e. is_out m.direction e) (filter outbound (take (fronts ms) ms)) (filter_passes outbound (take (fronts ms) ms)))
+
+pub meanings-all : (handlers : List (Handler Meaning)) → AreWithin handlers → All IsThrifty (meanings (λ m. m) handlers)
+meanings-all handlers within = All-map IsThrifty (λ (h : Handler Meaning). h.stage) handlers within.built_in

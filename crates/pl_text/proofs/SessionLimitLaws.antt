@@ -1,0 +1,195 @@
+-- What the members say is within the limits: each bind of a reading is taken apart at its Ok.
+use Rattle.std.proofs.Common.{◌≡◌, ◌≤◌, ℕ, ◌&&◌, Bool, true, false, List, [], ◌∷◌, length, Result, Ok, Err, refl, ap, subst, arith, suc}
+use Rattle.std.specs.Prelude.{nat_le, if◌then◌else◌, codes}
+use Rattle.std.specs.List.{AllByRecursion}
+use Rattle.std.proofs.lemmas.Bool.Decides.{nat_tests}
+use Rattle.serde_json.specs.Data.{Data}
+use Rattle.serde_json.specs.Find.{get}
+use Rattle.pl_text.specs.declared.session_text.outline.HandlerKind.{HandlerKind}
+use Rattle.pl_text.specs.declared.session_text.outline.HandlerKind.TheVariants.{Lines, Decode, LineEnd, Encode, Service, FlushEvery}
+use Rattle.pl_text.specs.declared.session_text.outline.Operation.{Operation}
+use Rattle.pl_text.specs.declared.session_text.outline.Operation.TheVariants as operation
+use Rattle.pl_text.specs.declared.session_text.fault.SessionFault.{SessionFault}
+use Rattle.pl_text.specs.declared.session_text.fault.SessionFault.TheVariants.{Missing, Kind, Limit}
+use Rattle.pl_text.specs.declared.session_text.outline.Addition.{Addition}
+use Rattle.pl_text.specs.declared.session_text.outline.Edit.{Edit}
+use Rattle.pl_text.specs.declared.session_text.outline.Edit.TheVariants.{First, Last, Before, After, Remove}
+use Rattle.pl_text.specs.declared.session_text.outline.ChannelOutline.{ChannelOutline}
+use Rattle.pl_text.specs.declared.session_text.outline.Outline.{Outline}
+use Rattle.pl_text.specs.SessionReading.{◌>>=◌, known, whole, whole_in, between, text, same_text, an_object, required, optional, absent, each, elements_of, of_length, array_in, array_of}
+use Rattle.pl_text.specs.SessionLimits.{AreBurstsWithin}
+use Rattle.pl_text.specs.SessionChannels.{operation_in, lines_in, flush_every_in, handler_named, handler_in, addition_in, edit_of, edit_in, mark_in, limited, bursts_in, channel_in}
+use Rattle.pl_text.specs.SessionOutlines.{IsHandlerWithin, IsEditWithin, IsChannelOutlineWithin, IsOutlineWithin, version_in, groups_in, outline_in}
+
+-- ---- results
+
+pub bind-ok : {A B F : Type 0} (r : Result A F) (f : A → Result B F) (y : B) → (r >>= f) ≡ Ok y → (x : A) × (r ≡ Ok x) × (f x ≡ Ok y)
+bind-ok (Ok x) f y h = (x, refl, h)
+bind-ok (Err e) f y h = cc
+
+same_ok : {A F : Type 0} (x y : A) (r : Result A F) → r ≡ Ok x → r ≡ Ok y → x ≡ y
+same_ok x y r p q = cc
+
+pub choice-ok : {A F : Type 0} (test : Bool) (x y : A) (e : F) → (if test then Ok x else Err e) ≡ Ok y → (test ≡ true) × (x ≡ y)
+choice-ok true x y e h = (refl, cc)
+choice-ok false x y e h = cc
+
+both_le : (a b c d : ℕ) → (nat_le a b && nat_le c d) ≡ true → (a ≤ b) × (c ≤ d)
+both_le a b c d h = grind (arith, nat_tests)
+
+whole_in-within : (low high : ℕ) (d : Data) (n : ℕ) → whole_in low high d ≡ Ok n → (low ≤ n) × (n ≤ high)
+unfolding whole_in
+whole_in-within low high d n h =
+    let p = bind-ok (whole d) (between low high) n h in
+    let q = choice-ok _ _ _ _ p.2 in
+    subst (λ (m : ℕ). (low ≤ m) × (m ≤ high)) q.1 (both_le _ _ _ _ q.0)
+
+-- ---- arrays
+
+any_is_any : {A : Type 0} (xs : List A) → AllByRecursion (λ _. Unit {0}) xs
+any_is_any [] = tt
+any_is_any (x ∷ xs) = (tt, any_is_any xs)
+
+each-within : {A B F : Type 0} (Q : A → Type 0) (P : B → Type 0) (read : A → Result B F) → ((d : A) (x : B) → Q d → read d ≡ Ok x → P x) → (ds : List A) (xs : List B) → AllByRecursion Q ds → each read ds ≡ Ok xs → AllByRecursion P xs × (length xs ≡ length ds)
+each-within {B} Q P read holds [] xs given h =
+    let e : [] ≡ xs = cc in
+    subst (λ (ys : List B). AllByRecursion P ys × (length ys ≡ 0)) e (tt, refl)
+each-within {B} Q P read holds (d ∷ ds) xs given h =
+    let first = bind-ok (read d) _ xs h in
+    let others = bind-ok (each read ds) _ xs first.2 in
+    let rest = each-within Q P read holds ds others.0 given.1 others.1 in
+    let e : first.0 ∷ others.0 ≡ xs = cc in
+    subst (λ (ys : List B). AllByRecursion P ys × (length ys ≡ length (d ∷ ds))) e ((holds d first.0 given.0 first.1, rest.0), ap suc rest.1)
+
+array_in-within : {A : Type 0} (P : A → Type 0) (low high : ℕ) (read : Data → Result A SessionFault) → ((d : Data) (x : A) → read d ≡ Ok x → P x) → (d : Data) (xs : List A) → array_in low high read d ≡ Ok xs → (low ≤ length xs) × (length xs ≤ high) × AllByRecursion P xs
+array_in-within P low high read holds d xs h =
+    let p = bind-ok (elements_of d >>= of_length low high) (each read) xs h in
+    let q = bind-ok (elements_of d) (of_length low high) p.0 p.1 in
+    let room = choice-ok _ _ _ _ q.2 in
+    let length_is : (low ≤ length p.0) × (length p.0 ≤ high) = subst (λ (ds : List Data). (low ≤ length ds) × (length ds ≤ high)) room.1 (both_le _ _ _ _ room.0) in
+    let all = each-within (λ _. Unit {0}) P read (λ e x _ is. holds e x is) p.0 xs (any_is_any p.0) p.2 in
+    (omega (arith, all.1, length_is.0), omega (arith, all.1, length_is.1), all.0)
+
+required-ok : {A : Type 0} (name : List ℕ) (read : Data → Result A SessionFault) (d : Data) (x : A) → required name read d ≡ Ok x → (e : Data) × (read e ≡ Ok x)
+required-ok name read d x h = let p = bind-ok (known Missing (get name d)) read x h in (p.0, p.2)
+
+-- ---- edits
+
+number-within : (name : List ℕ) (low high : ℕ) (d : Data) (n : ℕ) → required name (whole_in low high) d ≡ Ok n → (low ≤ n) × (n ≤ high)
+number-within name low high d n h =
+    let number = required-ok name (whole_in low high) d n h in
+    whole_in-within low high number.0 n number.1
+
+handler_among-within : (a b c d e f : Bool) (lines flushes : Result HandlerKind SessionFault) (handler : HandlerKind) → (lines ≡ Ok handler → IsHandlerWithin handler) → (flushes ≡ Ok handler → IsHandlerWithin handler)
+    → (if a then lines else if b then Ok Decode else if c then Ok LineEnd else if d then Ok Encode else if e then Ok Service else if f then flushes else Err Kind) ≡ Ok handler → IsHandlerWithin handler
+handler_among-within true b c d e f lines flushes handler holds keeps h = holds h
+handler_among-within false true c d e f lines flushes handler holds keeps h = let is : Decode ≡ handler = cc in subst IsHandlerWithin is tt
+handler_among-within false false true d e f lines flushes handler holds keeps h = let is : LineEnd ≡ handler = cc in subst IsHandlerWithin is tt
+handler_among-within false false false true e f lines flushes handler holds keeps h = let is : Encode ≡ handler = cc in subst IsHandlerWithin is tt
+handler_among-within false false false false true f lines flushes handler holds keeps h = let is : Service ≡ handler = cc in subst IsHandlerWithin is tt
+handler_among-within false false false false false true lines flushes handler holds keeps h = keeps h
+handler_among-within false false false false false false lines flushes handler holds keeps h = cc
+
+lines-within : (edit : Data) (handler : HandlerKind) → lines_in edit ≡ Ok handler → IsHandlerWithin handler
+lines-within edit handler h =
+    let max = bind-ok (required (codes "max") (whole_in 1 8192) edit) _ handler h in
+    let is : Lines max.0 ≡ handler = cc in
+    subst IsHandlerWithin is (number-within (codes "max") 1 8192 edit max.0 max.1)
+
+flush_every-within : (edit : Data) (handler : HandlerKind) → flush_every_in edit ≡ Ok handler → IsHandlerWithin handler
+flush_every-within edit handler h =
+    let n = bind-ok (required (codes "n") (whole_in 1 65535) edit) _ handler h in
+    let is : FlushEvery n.0 ≡ handler = cc in
+    subst IsHandlerWithin is (number-within (codes "n") 1 65535 edit n.0 n.1)
+
+handler_in-within : (edit : Data) (handler : HandlerKind) → handler_in edit ≡ Ok handler → IsHandlerWithin handler
+unfolding handler_in
+handler_in-within edit handler h =
+    let kind = bind-ok (required (codes "kind") text edit) (handler_named edit) handler h in
+    let is = λ (name : List ℕ). same_text kind.0 name in
+    handler_among-within (is (codes "lines")) (is (codes "decode")) (is (codes "lineend")) (is (codes "encode")) (is (codes "service")) (is (codes "flush_every")) (lines_in edit) (flush_every_in edit) handler (lines-within edit handler) (flush_every-within edit handler) kind.2
+
+addition_in-within : (name : List ℕ) (edit : Data) (addition : Addition) → addition_in name edit ≡ Ok addition → IsHandlerWithin addition.handler
+unfolding addition_in
+addition_in-within name edit addition h =
+    let handler = bind-ok (handler_in edit) _ addition h in
+    let group = bind-ok (optional (codes "group") text edit) _ addition handler.2 in
+    let is : handler.0 ≡ addition.handler = cc in
+    subst IsHandlerWithin is (handler_in-within edit handler.0 handler.1)
+
+edit_of-within : (o : Operation) (name : List ℕ) (d : Data) (edit : Edit) → edit_of o name d ≡ Ok edit → IsEditWithin edit
+unfolding edit_of
+edit_of-within operation.First name d edit h =
+    let addition = bind-ok (addition_in name d) _ edit h in
+    let is : First addition.0 ≡ edit = cc in
+    subst IsEditWithin is (addition_in-within name d addition.0 addition.1)
+edit_of-within operation.Last name d edit h =
+    let addition = bind-ok (addition_in name d) _ edit h in
+    let is : Last addition.0 ≡ edit = cc in
+    subst IsEditWithin is (addition_in-within name d addition.0 addition.1)
+edit_of-within operation.Before name d edit h =
+    let at = bind-ok (required (codes "at") text d) _ edit h in
+    let addition = bind-ok (addition_in name d) _ edit at.2 in
+    let is : Before at.0 addition.0 ≡ edit = cc in
+    subst IsEditWithin is (addition_in-within name d addition.0 addition.1)
+edit_of-within operation.After name d edit h =
+    let at = bind-ok (required (codes "at") text d) _ edit h in
+    let addition = bind-ok (addition_in name d) _ edit at.2 in
+    let is : After at.0 addition.0 ≡ edit = cc in
+    subst IsEditWithin is (addition_in-within name d addition.0 addition.1)
+edit_of-within operation.Remove name d edit h =
+    let is : Remove name ≡ edit = cc in
+    subst IsEditWithin is tt
+
+edit_in-within : (d : Data) (edit : Edit) → edit_in d ≡ Ok edit → IsEditWithin edit
+unfolding edit_in
+edit_in-within d edit h =
+    let object = bind-ok (an_object d) _ edit h in
+    let op = bind-ok (required (codes "op") operation_in object.0) _ edit object.2 in
+    let name = bind-ok (required (codes "name") text object.0) _ edit op.2 in
+    edit_of-within op.0 name.0 object.0 edit name.2
+
+-- ---- channels
+
+bursts_in-within : (d : Data) (bursts : List (List (List ℕ))) → bursts_in d ≡ Ok bursts → AreBurstsWithin bursts
+unfolding bursts_in
+bursts_in-within d bursts h =
+    let p = bind-ok (array_in 0 4096 (array_of text) d) limited bursts h in
+    let room = choice-ok _ _ _ _ p.2 in
+    let array = array_in-within (λ (_ : List (List ℕ)). Unit {0}) 0 4096 (array_of text) (λ _ _ _. tt) d p.0 p.1 in
+    let both = both_le _ _ _ _ room.0 in
+    subst AreBurstsWithin room.1 (record { bursts_at_most = array.1; chunks_at_most = both.0; bytes_at_most = both.1 })
+
+channel_in-within : (d : Data) (channel : ChannelOutline) → channel_in d ≡ Ok channel → IsChannelOutlineWithin channel
+unfolding channel_in
+channel_in-within d channel h =
+    let object = bind-ok (an_object d) _ channel h in
+    let edits = bind-ok (required (codes "handlers") (array_in 0 256 edit_in) object.0) _ channel object.2 in
+    let low = bind-ok (mark_in (codes "low") 32768 object.0) _ channel edits.2 in
+    let high = bind-ok (mark_in (codes "high") 65536 object.0) _ channel low.2 in
+    let window = bind-ok (absent (codes "window") Limit object.0) _ channel high.2 in
+    let fail_at = bind-ok (absent (codes "fail_at") Limit object.0) _ channel window.2 in
+    let bursts = bind-ok (required (codes "bursts") bursts_in object.0) _ channel fail_at.2 in
+    let abort_after = bind-ok (absent (codes "abort_after") Limit object.0) _ channel bursts.2 in
+    let handlers = required-ok (codes "handlers") (array_in 0 256 edit_in) object.0 edits.0 edits.1 in
+    let recorded = required-ok (codes "bursts") bursts_in object.0 bursts.0 bursts.1 in
+    let all = array_in-within IsEditWithin 0 256 edit_in edit_in-within handlers.0 edits.0 handlers.1 in
+    let is : record { edits = edits.0; low = low.0; high = high.0; bursts = bursts.0 } ≡ channel = same_ok _ channel _ refl abort_after.2 in
+    subst IsChannelOutlineWithin is (record { edits = all.2; bursts = bursts_in-within recorded.0 bursts.0 recorded.1 })
+
+-- ---- the top object
+
+pub outline_is_within : (d : Data) (outline : Outline) → outline_in d ≡ Ok outline → IsOutlineWithin outline
+unfolding outline_in
+outline_is_within d outline h =
+    let object = bind-ok (an_object d) _ outline h in
+    let version = bind-ok (required (codes "version") version_in object.0) _ outline object.2 in
+    let capacity = bind-ok (required (codes "capacity") (whole_in 1 65536) object.0) _ outline version.2 in
+    let loops = bind-ok (required (codes "loops") (whole_in 1 16) object.0) _ outline capacity.2 in
+    let groups = bind-ok (groups_in object.0) _ outline loops.2 in
+    let channels = bind-ok (required (codes "channels") (array_in 0 16 channel_in) object.0) _ outline groups.2 in
+    let array = required-ok (codes "channels") (array_in 0 16 channel_in) object.0 channels.0 channels.1 in
+    let range = number-within (codes "capacity") 1 65536 object.0 capacity.0 capacity.1 in
+    let all = array_in-within IsChannelOutlineWithin 0 16 channel_in channel_in-within array.0 channels.0 array.1 in
+    let is : record { capacity = capacity.0; loops = loops.0; groups = groups.0; channels = channels.0 } ≡ outline = cc in
+    subst IsOutlineWithin is (record { capacity_at_least = range.0; capacity_at_most = range.1; channels_at_most = all.1; each_channel = all.2 })

@@ -1,0 +1,14 @@
+use Rattle.std.proofs.Common.{arith, ◌∙◌}
+use Rattle.pl_text.proofs.MovesUnique.{moves_once, total_once}
+use Rattle.pl_text.proofs.moves_text.read_moves.Goals as goal
+
+pub returns-in_default-clause-every : goal.returns-in_default-clause-every
+returns-in_default-clause-every c _ ws says =
+    let same = total_once c.args.text.now c.in_ok-words.words.items ws c.in_ok-words.ensures.ok says in
+    let above = rw c.as_slice.ensures.value at c.in_default.ensures in
+    omega (arith, same, above)
+
+pub returns-clause-only : goal.returns-clause-only
+returns-clause-only c ws says =
+    rw c.as_slice-2.ensures.value at c.in_ok-moves.ensures
+    ∙ moves_once c.args.text.now c.in_ok-words.words.items ws c.in_ok-words.ensures.ok says

@@ -1,0 +1,37 @@
+use Rattle.std.proofs.Common.{inr, ℕ, ◌==◌, lit<, List, length, refl, sym, ap, ◌∙◌, arith}
+use Rattle.std.specs.List.{slice_split}
+use Rattle.std.specs.Str.Iter.{split_text, split_has_more, split_pattern}
+use Rattle.std.proofs.lemmas.List.{take_all, length_push}
+use Rattle.std.proofs.lemmas.Iterator.Splits.{YieldsList-from_str_split}
+use Rattle.std.proofs.lemmas.Iterator.Consumers.{YieldsList-turn, YieldsList-end}
+use Rattle.pl_text.proofs.MovesWords.{fits_push, words_more, parts_of_some, is_stopped}
+use Rattle.pl_text.proofs.moves_text.read_words.Goals as goal
+
+pub loop-part-preserved : goal.loop-part-preserved
+loop-part-preserved c =
+    let begin = c.into_iter-part-iterator.ensures.into_iter_gives in
+    let yields = YieldsList-from_str_split {s = c.into_iter-part-iterator.result} 32 c.args.text.now (lit< tt) (ap split_text begin ∙ c.split-part-items.ensures.text) (ap split_has_more begin ∙ c.split-part-items.ensures.has_more) (ap split_pattern begin ∙ c.split-part-items.ensures.pattern) in
+    let cut = parts_of_some c.args.text.now c.is_empty.result c.is_empty.ensures c.if-is_empty.false in
+    let t = YieldsList-turn yields c.loop-part.yielded _ c.loop-part.yielded_by _ _ c.in-Some.part c.in-Some.is c.next.ensures.steps in
+    let pieces : List (List ℕ) = slice_split (λ b. b == 32) c.args.text.now in
+    let found = c.in-Some-read_word.ensures.some in
+    rw (c.in_ok-push-in-Some-read_word.ensures.items, length_push c.loop-part.yielded c.in-Some.part, cut) record {
+      texts = words_more pieces (length c.loop-part.yielded) c.loop-part.words.items c.in-Some-read_word.word c.in-Some.part.now t.0 t.1 found.0 (rw cut at c.loop-part.invariant.texts);
+      fit = fits_push c.loop-part.words.items c.in-Some-read_word.word c.loop-part.invariant.fit found.1;
+    }
+
+pub returns-in-None-read_word-clause-err : goal.returns-in-None-read_word-clause-err
+returns-in-None-read_word-clause-err c =
+    let begin = c.into_iter-part-iterator.ensures.into_iter_gives in
+    let yields = YieldsList-from_str_split {s = c.into_iter-part-iterator.result} 32 c.args.text.now (lit< tt) (ap split_text begin ∙ c.split-part-items.ensures.text) (ap split_has_more begin ∙ c.split-part-items.ensures.has_more) (ap split_pattern begin ∙ c.split-part-items.ensures.pattern) in
+    let cut = parts_of_some c.args.text.now c.is_empty.result c.is_empty.ensures c.if-is_empty.false in
+    let t = YieldsList-turn yields c.loop-part.yielded _ c.loop-part.yielded_by _ _ c.in-Some.part c.in-Some.is c.next.ensures.steps in
+    inr (refl, is_stopped c.args.text.now (slice_split (λ b. b == 32) c.args.text.now) (length c.loop-part.yielded) c.in-Some.part.now cut t.0 t.1 c.in-None-read_word.ensures.none)
+
+pub returns-clause-ok : goal.returns-clause-ok
+returns-clause-ok c =
+    let begin = c.into_iter-part-iterator.ensures.into_iter_gives in
+    let yields = YieldsList-from_str_split {s = c.into_iter-part-iterator.result} 32 c.args.text.now (lit< tt) (ap split_text begin ∙ c.split-part-items.ensures.text) (ap split_has_more begin ∙ c.split-part-items.ensures.has_more) (ap split_pattern begin ∙ c.split-part-items.ensures.pattern) in
+    let cut = parts_of_some c.args.text.now c.is_empty.result c.is_empty.ensures c.if-is_empty.false in
+    let t = YieldsList-end yields c.loop-part.yielded _ c.loop-part.yielded_by _ _ c.in-None.is c.next.ensures.steps in
+    record { parts_are = cut ∙ sym (take_all (length c.loop-part.yielded) (slice_split (λ b. b == 32) c.args.text.now) (omega (arith, t))) ∙ sym (rw cut at c.loop-part.invariant.texts); fit = c.loop-part.invariant.fit }

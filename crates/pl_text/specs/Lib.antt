@@ -1,0 +1,10 @@
+pub mod MovesLetters
+pub mod MovesTexts
+pub mod SessionReading
+pub mod SessionHandlers
+pub mod SessionLimits
+pub mod SessionChannels
+pub mod SessionOutlines
+pub mod SessionBuilding
+pub mod SessionTexts
+pub mod ReportTexts

@@ -1,0 +1,73 @@
+-- The text of a list of moves (docs/FORMATS.md, "Moves"). A number stands as it is printed, so with no zero before it.
+use Rattle.std.specs.Prelude.{◌≡◌, ℕ, ◌≤◌, ◌<◌, ◌==◌, List, [], ◌∷◌, ◌++◌, length, map, sum_by, replicate, decimal, if◌then◌else◌, Option, Some, None, IfSome}
+use Rattle.std.specs.List.{slice_split, flat_map, AllByRecursion}
+use Rattle.pl_replay.specs.declared.moves.Move.{Move}
+use Rattle.pl_replay.specs.declared.moves.Move.TheVariants.{Read, Task, Hand, Out}
+use Rattle.pl_text.specs.declared.moves_text.fault.MovesFault.{MovesFault}
+use Rattle.pl_text.specs.declared.moves_text.fault.MovesFault.TheVariants as fault
+use Rattle.pl_text.specs.declared.moves_text.words.Word.{Word}
+
+-- R, T, H or O, and the number
+abbrev pub move_text : Move → List ℕ
+move_text (Read n) = 82 ∷ decimal n
+move_text (Task n) = 84 ∷ decimal n
+move_text (Hand n) = 72 ∷ decimal n
+move_text (Out n) = 79 ∷ decimal n
+
+-- x and the count, where there is one
+abbrev pub count_text : Option ℕ → List ℕ
+count_text None = []
+count_text (Some n) = 120 ∷ decimal n
+
+abbrev pub word_text : Word → List ℕ
+word_text w = move_text w.step ++ count_text w.count
+
+-- the number of the channel or of the executor
+abbrev pub number_of : Move → ℕ
+number_of (Read n) = n
+number_of (Task n) = n
+number_of (Hand n) = n
+number_of (Out n) = n
+
+-- a number up to 65,535, and a count from 1 to 1,000,000
+pub record AreInRange (number : ℕ) (count : Option ℕ) : Type 0 where
+  pub number_fits : number ≤ 65535
+  pub count_fits : IfSome count (λ n. (1 ≤ n) × (n ≤ 1000000))
+
+abbrev pub Fits : Word → Type 0
+Fits w = AreInRange (number_of w.step) w.count
+
+-- the parts between single spaces, and none of the empty text
+abbrev pub parts : List ℕ → List (List ℕ)
+parts text = if length text == 0 then [] else slice_split (λ b. b == 32) text
+
+-- the parts of the text are these words, each within its limits
+pub record Says (text : List ℕ) (ws : List Word) : Type 0 where
+  pub parts_are : parts text ≡ map word_text ws
+  pub fit : AllByRecursion Fits ws
+
+-- one, where there is no count
+abbrev pub times_of : Option ℕ → ℕ
+times_of None = 1
+times_of (Some n) = n
+
+abbrev pub times : Word → ℕ
+times w = times_of w.count
+
+-- how many moves the words say
+abbrev pub total : List Word → ℕ
+total ws = sum_by times ws
+
+-- as many copies of each word's move as it says
+abbrev pub moves_of_words : List Word → List Move
+moves_of_words ws = flat_map (λ w. replicate (times w) w.step) ws
+
+-- these are the moves of the words that the text says, at most 1,000,000
+abbrev pub MeansMoves : List ℕ → List Move → Type 0
+MeansMoves text moves = (ws : List Word) × Says text ws × (total ws ≤ 1000000) × (moves ≡ moves_of_words ws)
+
+-- the text has a part that is no word, or says too many moves
+abbrev pub IsNoMoves : MovesFault → List ℕ → Type 0
+IsNoMoves fault.Form text = (ws : List Word) → Says text ws → ⊥
+IsNoMoves fault.Limit text = (ws : List Word) × Says text ws × (1000000 < total ws)
+IsNoMoves fault.Memory text = ⊥

@@ -1,0 +1,110 @@
+-- What a channel and an edit mean, row by row (docs/FORMATS.md, "Session").
+use Rattle.std.specs.Prelude.{ℕ, ◌&&◌, List, nat_le, if◌then◌else◌, Result, Ok, Err, codes}
+use Rattle.serde_json.specs.Data.{Data}
+use Rattle.pl_text.specs.declared.session_text.fault.SessionFault.{SessionFault}
+use Rattle.pl_text.specs.declared.session_text.fault.SessionFault.TheVariants.{Kind, Limit}
+use Rattle.pl_text.specs.declared.session_text.outline.HandlerKind.{HandlerKind}
+use Rattle.pl_text.specs.declared.session_text.outline.HandlerKind.TheVariants.{Lines, Decode, LineEnd, Encode, Service, FlushEvery}
+use Rattle.pl_text.specs.declared.session_text.outline.Operation.{Operation}
+use Rattle.pl_text.specs.declared.session_text.outline.Operation.TheVariants as operation
+use Rattle.pl_text.specs.declared.session_text.outline.Addition.{Addition}
+use Rattle.pl_text.specs.declared.session_text.outline.Edit.{Edit}
+use Rattle.pl_text.specs.declared.session_text.outline.Edit.TheVariants.{First, Last, Before, After, Remove}
+use Rattle.pl_text.specs.declared.session_text.outline.ChannelOutline.{ChannelOutline}
+use Rattle.pl_text.specs.SessionReading.{◌>>=◌, whole_in, text, same_text, an_object, required, optional, with_default, absent, array_in, array_of}
+use Rattle.pl_text.specs.SessionLimits.{chunk_count, byte_count}
+
+-- ---- edits
+
+abbrev pub operation_named : List ℕ → Result Operation SessionFault
+operation_named name =
+    if same_text name (codes "first") then Ok operation.First
+    else if same_text name (codes "last") then Ok operation.Last
+    else if same_text name (codes "before") then Ok operation.Before
+    else if same_text name (codes "after") then Ok operation.After
+    else if same_text name (codes "remove") then Ok operation.Remove
+    else Err Kind
+
+unfoldable pub operation_in : Data → Result Operation SessionFault
+operation_in d = text d >>= operation_named
+
+-- each kind is read with the members that it alone has
+abbrev pub lines_in : Data → Result HandlerKind SessionFault
+lines_in edit = do
+  max ← required (codes "max") (whole_in 1 8192) edit
+  Ok (Lines max)
+
+abbrev pub flush_every_in : Data → Result HandlerKind SessionFault
+flush_every_in edit = do
+  n ← required (codes "n") (whole_in 1 65535) edit
+  Ok (FlushEvery n)
+
+abbrev pub handler_named : Data → List ℕ → Result HandlerKind SessionFault
+handler_named edit kind =
+    if same_text kind (codes "lines") then lines_in edit
+    else if same_text kind (codes "decode") then Ok Decode
+    else if same_text kind (codes "lineend") then Ok LineEnd
+    else if same_text kind (codes "encode") then Ok Encode
+    else if same_text kind (codes "service") then Ok Service
+    else if same_text kind (codes "flush_every") then flush_every_in edit
+    else Err Kind
+
+unfoldable pub handler_in : Data → Result HandlerKind SessionFault
+handler_in edit = required (codes "kind") text edit >>= handler_named edit
+
+-- the handler of this name that an edit adds
+unfoldable pub addition_in : List ℕ → Data → Result Addition SessionFault
+addition_in name edit = do
+  handler ← handler_in edit
+  group ← optional (codes "group") text edit
+  Ok (record { name = name; handler = handler; group = group })
+
+-- an edit beside another handler says beside which, and one that removes says no more than the name
+unfoldable pub edit_of : Operation → List ℕ → Data → Result Edit SessionFault
+edit_of operation.First name edit = do
+  addition ← addition_in name edit
+  Ok (First addition)
+edit_of operation.Last name edit = do
+  addition ← addition_in name edit
+  Ok (Last addition)
+edit_of operation.Before name edit = do
+  at ← required (codes "at") text edit
+  addition ← addition_in name edit
+  Ok (Before at addition)
+edit_of operation.After name edit = do
+  at ← required (codes "at") text edit
+  addition ← addition_in name edit
+  Ok (After at addition)
+edit_of operation.Remove name edit = Ok (Remove name)
+
+unfoldable pub edit_in : Data → Result Edit SessionFault
+edit_in d = do
+  edit ← an_object d
+  operation ← required (codes "op") operation_in edit
+  name ← required (codes "name") text edit
+  edit_of operation name edit
+
+-- ---- channels
+
+-- a mark, in bytes
+unfoldable pub mark_in : List ℕ → ℕ → Data → Result ℕ SessionFault
+mark_in name default channel = with_default name (whole_in 0 1073741824) default channel
+
+-- the limits on chunks and bytes come behind all bursts
+abbrev pub limited : List (List (List ℕ)) → Result (List (List (List ℕ))) SessionFault
+limited bursts = if nat_le (chunk_count bursts) 16384 && nat_le (byte_count bursts) 1048576 then Ok bursts else Err Limit
+
+unfoldable pub bursts_in : Data → Result (List (List (List ℕ))) SessionFault
+bursts_in d = array_in 0 4096 (array_of text) d >>= limited
+
+unfoldable pub channel_in : Data → Result ChannelOutline SessionFault
+channel_in d = do
+  channel ← an_object d
+  edits ← required (codes "handlers") (array_in 0 256 edit_in) channel
+  low ← mark_in (codes "low") 32768 channel
+  high ← mark_in (codes "high") 65536 channel
+  _ ← absent (codes "window") Limit channel
+  _ ← absent (codes "fail_at") Limit channel
+  bursts ← required (codes "bursts") bursts_in channel
+  _ ← absent (codes "abort_after") Limit channel
+  Ok (record { edits = edits; low = low; high = high; bursts = bursts })

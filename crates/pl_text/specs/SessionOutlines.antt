@@ -1,0 +1,72 @@
+-- What the members of a session say, row by row (docs/FORMATS.md, "Session").
+use Rattle.std.specs.Prelude.{◌≤◌, ℕ, ◌==◌, List, [], length, if◌then◌else◌, Result, Ok, Err, codes}
+use Rattle.std.specs.List.{AllByRecursion}
+use Rattle.serde_json.specs.Data.{Data}
+use Rattle.pl_text.specs.declared.session_text.fault.SessionFault.{SessionFault}
+use Rattle.pl_text.specs.declared.session_text.fault.SessionFault.TheVariants.{Version}
+use Rattle.pl_text.specs.declared.session_text.outline.HandlerKind.{HandlerKind}
+use Rattle.pl_text.specs.declared.session_text.outline.HandlerKind.TheVariants.{Lines, Decode, LineEnd, Encode, Service, FlushEvery}
+use Rattle.pl_text.specs.declared.session_text.outline.Edit.{Edit}
+use Rattle.pl_text.specs.declared.session_text.outline.Edit.TheVariants.{First, Last, Before, After, Remove}
+use Rattle.pl_text.specs.declared.session_text.outline.ChannelOutline.{ChannelOutline}
+use Rattle.pl_text.specs.declared.session_text.outline.GroupOutline.{GroupOutline}
+use Rattle.pl_text.specs.declared.session_text.outline.Outline.{Outline}
+use Rattle.pl_text.specs.SessionReading.{◌>>=◌, whole, whole_in, text, an_object, required, with_default, array_in, array_of}
+use Rattle.pl_text.specs.SessionChannels.{channel_in}
+use Rattle.pl_text.specs.SessionLimits.{AreBurstsWithin}
+
+-- ---- the members
+
+abbrev pub known_version : ℕ → Result (Unit {0}) SessionFault
+known_version n = if n == 1 then Ok tt else Err Version
+
+unfoldable pub version_in : Data → Result (Unit {0}) SessionFault
+version_in d = whole d >>= known_version
+
+unfoldable pub group_in : Data → Result GroupOutline SessionFault
+group_in d = do
+  group ← an_object d
+  name ← required (codes "name") text group
+  size ← required (codes "size") (whole_in 0 65535) group
+  Ok (record { name = name; size = size })
+
+unfoldable pub groups_in : Data → Result (List GroupOutline) SessionFault
+groups_in top = with_default (codes "groups") (array_of group_in) [] top
+
+unfoldable pub outline_in : Data → Result Outline SessionFault
+outline_in d = do
+  top ← an_object d
+  _ ← required (codes "version") version_in top
+  capacity ← required (codes "capacity") (whole_in 1 65536) top
+  loops ← required (codes "loops") (whole_in 1 16) top
+  groups ← groups_in top
+  channels ← required (codes "channels") (array_in 0 16 channel_in) top
+  Ok (record { capacity = capacity; loops = loops; groups = groups; channels = channels })
+
+-- ---- their limits
+
+-- a handler's own number is in its range
+abbrev pub IsHandlerWithin : HandlerKind → Type 0
+IsHandlerWithin (Lines max) = (1 ≤ max) × (max ≤ 8192)
+IsHandlerWithin Decode = Unit {0}
+IsHandlerWithin LineEnd = Unit {0}
+IsHandlerWithin Encode = Unit {0}
+IsHandlerWithin Service = Unit {0}
+IsHandlerWithin (FlushEvery n) = (1 ≤ n) × (n ≤ 65535)
+
+abbrev pub IsEditWithin : Edit → Type 0
+IsEditWithin (First addition) = IsHandlerWithin addition.handler
+IsEditWithin (Last addition) = IsHandlerWithin addition.handler
+IsEditWithin (Before at addition) = IsHandlerWithin addition.handler
+IsEditWithin (After at addition) = IsHandlerWithin addition.handler
+IsEditWithin (Remove name) = Unit {0}
+
+pub record IsChannelOutlineWithin (channel : ChannelOutline) : Type 0 where
+  pub edits : AllByRecursion IsEditWithin channel.edits
+  pub bursts : AreBurstsWithin channel.bursts
+
+pub record IsOutlineWithin (outline : Outline) : Type 0 where
+  pub capacity_at_least : 1 ≤ outline.capacity
+  pub capacity_at_most : outline.capacity ≤ 65536
+  pub channels_at_most : length outline.channels ≤ 16
+  pub each_channel : AllByRecursion IsChannelOutlineWithin outline.channels

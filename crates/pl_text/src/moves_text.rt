@@ -1,0 +1,59 @@
+//! Reads the text of a list of moves.
+
+ghost use Rattle.std.specs.Prelude.{◌≡◌, ◌<◌, ◌⊎◌, List, IfOk, IfErr};
+ghost use Rattle.pl_text.specs.declared.moves_text.words.Word.{Word};
+ghost use Rattle.pl_text.specs.declared.moves_text.fault.MovesFault.TheVariants as fault;
+ghost use Rattle.pl_text.specs.MovesTexts.{MeansMoves, Says, total, moves_of_words};
+
+mod copies;
+mod fault;
+#[cfg(test)]
+mod tests;
+mod words;
+
+use copies::{left_of, moves_of_words};
+pub use fault::MovesFault;
+use pl_replay::Move;
+use std::alloc::Global;
+use words::{Word, read_word};
+
+const MAX_MOVES: usize = 1_000_000;
+
+/// The words that a text says.
+fn read_words(alloc: Global, text: &str) -> Result<Vec<Word>, MovesFault>
+    ensures ok { IfOk result (λ words. Says text.now words.items) }
+    ensures err { IfErr result (λ e. (e ≡ fault.Memory) ⊎ ((e ≡ fault.Form) × ((ws : List Word) → Says text.now ws → ⊥))) }
+{
+    let mut words = Vec::new(alloc);
+    if text.is_empty() {
+        return Ok(words);
+    }
+    for part in text.split(' ') {
+        match read_word(part) {
+            Some(word) => words.push(word)?,
+            None => return Err(MovesFault::Form),
+        }
+    }
+    Ok(words)
+}
+
+/// The moves that a text says (`docs/FORMATS.md`, "Moves"): words parted by one space each, a word being `R`, `T`, `H`
+/// or `O`, a number up to 65,535, and where it has one `x` and a count from 1 to 1,000,000.
+///
+/// Form: a part of the text is no word, wherever it stands. Limit: it is words, of more than 1,000,000 moves in all.
+pub fn read_moves(alloc: Global, text: &str) -> Result<Vec<Move>, MovesFault>
+    ensures ok { IfOk result (λ moves. MeansMoves text.now moves.items) }
+    ensures form { result ≡ Err fault.Form → (ws : List Word) → Says text.now ws → ⊥ }
+    ensures limit { result ≡ Err fault.Limit → (ws : List Word) × Says text.now ws × (1000000 < total ws) }
+
+    // The text says one list of words at most, so these are its moves.
+    ensures only { IfOk result (λ moves. (ws : List Word) → Says text.now ws → moves.items ≡ moves_of_words ws) }
+    ensures every { result ≡ Err fault.Limit → (ws : List Word) → Says text.now ws → 1000000 < total ws }
+{
+    let words = read_words(alloc, text)?;
+    let Some(left) = left_of(MAX_MOVES, words.as_slice()) else {
+        return Err(MovesFault::Limit);
+    };
+    let moves = moves_of_words(alloc, words.as_slice(), MAX_MOVES - left)?;
+    Ok(moves)
+}

@@ -1,0 +1,110 @@
+//! One word of a text of moves.
+
+ghost use Rattle.std.specs.Prelude.{◌≡◌, ◌≢◌, ℕ, List, ◌∷◌, ◌++◌, ◌≤◌, Option, decimal, IfSome, IfNone};
+ghost use Rattle.pl_text.specs.declared.moves_text.words.Word.{Word};
+ghost use Rattle.pl_text.specs.declared.moves_text.words.Letter.{Letter};
+ghost use Rattle.pl_text.specs.MovesTexts.{Fits, AreInRange, word_text, count_text};
+ghost use Rattle.pl_text.specs.MovesLetters.{letter_code, move_of};
+
+use itoa::Buffer;
+use pl_replay::Move;
+
+const MAX_NUMBER: u32 = 65_535;
+
+const MAX_COUNT: u32 = 1_000_000;
+
+/// A move, and how often it is made where the word says so.
+#[derive(Clone, Copy, Debug, PartialEq, Eq)]
+pub(crate) struct Word {
+    pub(crate) step: Move,
+    pub(crate) count: Option<u32>,
+}
+
+#[derive(Clone, Copy, Debug, PartialEq, Eq)]
+pub(crate) enum Letter {
+    Read,
+    Task,
+    Hand,
+    Out,
+}
+
+/// The number that a text is printed as, with no zero before it.
+fn number(text: &str, max: u32) -> Option<u32>
+    ensures some { IfSome result (λ n. (text.now ≡ decimal n) × (n ≤ max)) }
+    ensures none { IfNone result ((n : ℕ) → n ≤ max → text.now ≢ decimal n) }
+{
+    let number: u32 = text.parse().ok()?;
+    let mut buffer = Buffer::new();
+    if max < number {
+        return None;
+    }
+    if buffer.format(number) != text {
+        return None;
+    }
+    Some(number)
+}
+
+/// The letter that a word begins with, and what stands after it.
+fn split_letter(text: &str) -> Option<(Letter, &str)>
+    ensures some { IfSome result (λ p. text.now ≡ letter_code p.0 ∷ p.1.now) }
+    ensures none { IfNone result ((letter : Letter) (rest : List ℕ) → text.now ≢ letter_code letter ∷ rest) }
+{
+    if let Some(rest) = text.strip_prefix('R') {
+        return Some((Letter::Read, rest));
+    }
+    if let Some(rest) = text.strip_prefix('T') {
+        return Some((Letter::Task, rest));
+    }
+    if let Some(rest) = text.strip_prefix('H') {
+        return Some((Letter::Hand, rest));
+    }
+    if let Some(rest) = text.strip_prefix('O') {
+        return Some((Letter::Out, rest));
+    }
+    None
+}
+
+fn move_of(letter: Letter, number: u16) -> Move
+    ensures { result ≡ move_of letter number }
+{
+    match letter {
+        Letter::Read => Move::Read(number),
+        Letter::Task => Move::Task(number),
+        Letter::Hand => Move::Hand(number),
+        Letter::Out => Move::Out(number),
+    }
+}
+
+/// The number of a word, and its count where it has one.
+fn numbers(text: &str) -> Option<(u16, Option<u32>)>
+    ensures some { IfSome result (λ p. (text.now ≡ decimal p.0 ++ count_text p.1) × AreInRange p.0 p.1) }
+    ensures none { IfNone result ((n : ℕ) (count : Option ℕ) → AreInRange n count → text.now ≢ decimal n ++ count_text count) }
+{
+    match text.split_once('x') {
+        None => {
+            let digits = number(text, MAX_NUMBER)?;
+            Some((digits as u16, None))
+        }
+        Some((digits, count)) => {
+            let digits = number(digits, MAX_NUMBER)?;
+            let count = number(count, MAX_COUNT)?;
+            if count == 0 {
+                return None;
+            }
+            Some((digits as u16, Some(count)))
+        }
+    }
+}
+
+/// The word that a text is.
+pub(crate) fn read_word(text: &str) -> Option<Word>
+    ensures some { IfSome result (λ w. (text.now ≡ word_text w) × Fits w) }
+    ensures none { IfNone result ((w : Word) → Fits w → text.now ≢ word_text w) }
+{
+    let (letter, rest) = split_letter(text)?;
+    let (number, count) = numbers(rest)?;
+    Some(Word {
+        step: move_of(letter, number),
+        count,
+    })
+}

@@ -1,0 +1,46 @@
+//! Prints the text of a report.
+
+ghost use Rattle.std.specs.Prelude.{◌≡◌, Err, IfOk, OnOk, string_bytes};
+ghost use Rattle.std.specs.Io.KnownBytes.{Appends, Keeps};
+ghost use Rattle.pl_text.specs.declared.report_text.fault.PrintFault.TheVariants as fault;
+ghost use Rattle.pl_text.specs.ReportTexts.{report_text};
+
+mod channels;
+mod events;
+mod fault;
+#[cfg(test)]
+mod tests;
+
+use channels::add_channel;
+pub use fault::PrintFault;
+use pl_replay::Report;
+use std::alloc::{AllocError, Global};
+use std::io::Write;
+
+fn text_of(alloc: Global, report: &Report) -> Result<String, AllocError>
+    ensures { IfOk result (λ text. string_bytes text ≡ report_text report.now) }
+{
+    let mut text = String::new(alloc);
+    for (number, channel) in report.channels.as_slice().iter().enumerate() {
+        add_channel(&mut text, number, channel)?;
+    }
+    Ok(text)
+}
+
+/// Writes the text of a report (`docs/FORMATS.md`, "Report"), which it makes whole before it writes.
+///
+/// Memory: a growth was refused, and nothing was written. Output: the writer failed; how much it wrote is not known.
+pub fn print_report<W: Write>(
+    alloc: Global,
+    report: &Report,
+    writer: &mut W,
+) -> Result<(), PrintFault>
+    ensures ok { OnOk result (Appends (W.contents writer.old) (W.contents writer.new) (report_text report.now)) }
+    ensures memory { result ≡ Err fault.Memory → Keeps (W.contents writer.old) (W.contents writer.new) }
+{
+    let text = text_of(alloc, report)?;
+    match writer.write_all(text.as_str().as_bytes()) {
+        Ok(()) => Ok(()),
+        Err(_) => Err(PrintFault::Output),
+    }
+}

@@ -1,0 +1,56 @@
+//! The text of a session (`docs/FORMATS.md`, "Session").
+
+ghost use Rattle.std.specs.Prelude.{IfOk};
+ghost use Rattle.pl_replay.specs.Plans.{plan_of};
+ghost use Rattle.pl_text.specs.SessionReading.{Answers, seen};
+ghost use Rattle.pl_text.specs.SessionLimits.{IsWithinLimits};
+ghost use Rattle.pl_text.specs.SessionTexts.{session_of};
+
+mod building;
+mod channels;
+mod edits;
+mod fault;
+mod names;
+mod outline;
+mod tables;
+mod values;
+
+use crate::session_text::building::session_built;
+use crate::session_text::tables::outline_in;
+pub use fault::SessionFault;
+use pl_event::Stage;
+use pl_replay::Session;
+use pl_stages::Handler;
+use serde_json::Value;
+use std::alloc::Global;
+
+/// How many bytes a session text has at most.
+const MAX_TEXT: usize = 33_554_432;
+
+/// Reads a session from its text, which is JSON of version 1.
+///
+/// Each session that is read is within the limits of its numbers, handlers, bursts, chunks, bytes and lanes. The first
+/// fault in reading order is the answer: a text of more than 33,554,432 bytes is `Limit`, one that is no JSON text
+/// `NotJson`. Then the members are read in the order of the tables of `docs/FORMATS.md`, "Session", of an array its length
+/// first and then each element wholly before the next. Behind all members the groups are made, and for each channel in
+/// order its edits, its marks and its pipeline, which may be refused by `Build`. `Memory` comes where a growth was
+/// refused, and at any of these places.
+#[tactic(auto, using(crate::proofs::SessionLimitLaws::outline_is_within), unfolding(crate::specs::SessionTexts::session_of, crate::specs::SessionTexts::session_in))]
+pub fn read_session(alloc: Global, text: &str) -> Result<Session, SessionFault>
+    ensures meaning { Answers (seen (plan_of ⟦<Handler as Stage>⟧.meaning) result) (session_of text.now) }
+    ensures within { IfOk result (λ session. IsWithinLimits (plan_of ⟦<Handler as Stage>⟧.meaning session)) }
+{
+    if text.len() > MAX_TEXT {
+        return Err(SessionFault::Limit);
+    }
+    let value = match Value::from_str(alloc, text) {
+        Ok(value) => value,
+        Err(error) if error.is_memory() => return Err(SessionFault::Memory),
+        Err(_) => return Err(SessionFault::NotJson),
+    };
+    let outline = outline_in(alloc, &value)?;
+    Ok(session_built(alloc, outline)?)
+}
+
+#[cfg(test)]
+mod tests;

@@ -1,0 +1,104 @@
+//! Reads the members of an edit.
+
+ghost use Rattle.std.specs.Prelude.{◌≡◌};
+ghost use Rattle.serde_json.specs.View.{view};
+ghost use Rattle.pl_text.specs.SessionReading.{Answers};
+ghost use Rattle.pl_text.specs.SessionChannels.{operation_in, handler_in, addition_in, edit_of, edit_in};
+
+use crate::session_text::fault::SessionFault;
+use crate::session_text::names::Name;
+use crate::session_text::outline::{Addition, Edit, HandlerKind, Operation};
+use crate::session_text::values::{FromData, an_object, optional, required, text, whole_in};
+use serde_json::Value;
+use std::alloc::Global;
+
+const MAX_LINE: u64 = 8_192;
+
+const MAX_FLUSHES: u64 = 65_535;
+
+impl FromData for Edit {
+    ghost meaning = { edit_in };
+
+    #[tactic(auto, unfolding(crate::specs::SessionChannels::edit_in))]
+    fn from_data(alloc: Global, value: &Value) -> Result<Edit, SessionFault> {
+        let edit = an_object(value)?;
+        let operation = operation_in(required(edit, "op")?)?;
+        let name = Name::from_data(alloc, required(edit, "name")?)?;
+        edit_of(alloc, operation, name, edit)
+    }
+}
+
+#[tactic(auto, unfolding(crate::specs::SessionChannels::operation_in))]
+fn operation_in(value: &Value) -> Result<Operation, SessionFault>
+    ensures { result ≡ operation_in (view value.now) }
+{
+    match text(value)? {
+        "first" => Ok(Operation::First),
+        "last" => Ok(Operation::Last),
+        "before" => Ok(Operation::Before),
+        "after" => Ok(Operation::After),
+        "remove" => Ok(Operation::Remove),
+        _ => Err(SessionFault::Kind),
+    }
+}
+
+/// The edit of an operation, with the members that it alone has.
+#[tactic(auto, unfolding(crate::specs::SessionChannels::edit_of))]
+fn edit_of(
+    alloc: Global,
+    operation: Operation,
+    name: Name,
+    edit: &Value,
+) -> Result<Edit, SessionFault>
+    ensures { Answers result (edit_of operation name (view edit.now)) }
+{
+    match operation {
+        Operation::First => Ok(Edit::First(addition_in(alloc, name, edit)?)),
+        Operation::Last => Ok(Edit::Last(addition_in(alloc, name, edit)?)),
+        Operation::Before => {
+            let at = Name::from_data(alloc, required(edit, "at")?)?;
+            Ok(Edit::Before(at, addition_in(alloc, name, edit)?))
+        }
+        Operation::After => {
+            let at = Name::from_data(alloc, required(edit, "at")?)?;
+            Ok(Edit::After(at, addition_in(alloc, name, edit)?))
+        }
+        Operation::Remove => Ok(Edit::Remove(name)),
+    }
+}
+
+/// The handler of this name that an edit adds.
+#[tactic(auto, unfolding(crate::specs::SessionChannels::addition_in))]
+fn addition_in(alloc: Global, name: Name, edit: &Value) -> Result<Addition, SessionFault>
+    ensures { Answers result (addition_in name (view edit.now)) }
+{
+    let handler = handler_in(edit)?;
+    let group = optional(alloc, edit, "group")?;
+    Ok(Addition {
+        name,
+        handler,
+        group,
+    })
+}
+
+/// The handler of an edit: its kind, and the members that this kind alone has.
+#[tactic(auto, unfolding(crate::specs::SessionChannels::handler_in))]
+fn handler_in(edit: &Value) -> Result<HandlerKind, SessionFault>
+    ensures { result ≡ handler_in (view edit.now) }
+{
+    match text(required(edit, "kind")?)? {
+        "lines" => {
+            let max = whole_in(1, MAX_LINE, required(edit, "max")?)?;
+            Ok(HandlerKind::Lines { max: max as u16 })
+        }
+        "decode" => Ok(HandlerKind::Decode),
+        "lineend" => Ok(HandlerKind::LineEnd),
+        "encode" => Ok(HandlerKind::Encode),
+        "service" => Ok(HandlerKind::Service),
+        "flush_every" => {
+            let n = whole_in(1, MAX_FLUSHES, required(edit, "n")?)?;
+            Ok(HandlerKind::FlushEvery { n: n as u16 })
+        }
+        _ => Err(SessionFault::Kind),
+    }
+}

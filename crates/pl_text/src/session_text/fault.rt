@@ -1,0 +1,63 @@
+//! Why a session text is refused.
+
+ghost use Rattle.std.specs.Prelude.{◌≡◌};
+ghost use Rattle.pl_text.specs.declared.session_text.fault.SessionFault.TheVariants.{Memory};
+ghost use Rattle.pl_text.specs.SessionReading.{fault_of_build};
+
+use pl_build::BuildFault;
+use std::alloc::{AllocError, AllocFailed};
+use thiserror::Error;
+
+/// Why a session text was refused, each with its number (`docs/FORMATS.md`, "Session").
+#[derive(Clone, Copy, Debug, PartialEq, Eq, Error)]
+pub enum SessionFault {
+    /// The text is no JSON text.
+    #[error("1 NotJson")]
+    NotJson,
+    /// The version is a whole number that is not known.
+    #[error("2 Version")]
+    Version,
+    /// A required member is absent.
+    #[error("3 Missing")]
+    Missing,
+    /// A value is of another JSON kind, a number is not whole, or a text is not in its list.
+    #[error("4 Kind")]
+    Kind,
+    /// A number, the length of an array, or the text itself is outside its limits.
+    #[error("5 Limit")]
+    Limit,
+    /// Its members were read, and its pipelines could not be built.
+    #[error("6 Build {0}")]
+    Build(BuildFault),
+    /// A growth was refused.
+    #[error("7 Memory")]
+    Memory,
+}
+
+impl From<AllocError> for SessionFault {
+    ghost from_gives = { λ _ e. e ≡ Memory };
+
+    fn from(_refused: AllocError) -> SessionFault {
+        SessionFault::Memory
+    }
+}
+
+impl<T: Drop> From<AllocFailed<T>> for SessionFault {
+    ghost from_gives = { λ _ e. e ≡ Memory };
+
+    fn from(_refused: AllocFailed<T>) -> SessionFault {
+        SessionFault::Memory
+    }
+}
+
+/// A build that memory refused is no other fault of the session.
+impl From<BuildFault> for SessionFault {
+    ghost from_gives = { λ refused e. e ≡ fault_of_build refused };
+
+    fn from(refused: BuildFault) -> SessionFault {
+        match refused {
+            BuildFault::Memory => SessionFault::Memory,
+            _ => SessionFault::Build(refused),
+        }
+    }
+}

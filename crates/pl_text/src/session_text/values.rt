@@ -1,0 +1,170 @@
+//! Reads one value of JSON, a member of an object, or an array.
+
+ghost use Rattle.std.specs.Prelude.{◌≡◌, option_map, map, IfOk, ◌≤◌};
+ghost use Rattle.serde_json.specs.View.{view};
+ghost use Rattle.serde_json.specs.Find.{get};
+ghost use Rattle.pl_text.specs.declared.session_text.fault.SessionFault.TheVariants.{Missing};
+ghost use Rattle.pl_text.specs.SessionReading.{Answers, known, seen, whole, whole_in, text, an_object, present, optional, absent, elements_of, each, array_in, array_of};
+
+use crate::session_text::fault::SessionFault;
+use crate::session_text::names::Name;
+use pl_event::{ByteString, Sequence};
+use serde_json::Value;
+use std::alloc::Global;
+
+/// What is read from a value of JSON. `meaning` says which value that is, or its first fault in reading order.
+pub(crate) trait FromData: Sized + Drop {
+    ghost use Rattle.std.specs.Prelude.{Result};
+    ghost use Rattle.serde_json.specs.Data.{Data};
+    ghost use Rattle.pl_text.specs.declared.session_text.fault.SessionFault.{SessionFault};
+
+    ghost meaning: { Data → Result Self SessionFault };
+
+    fn from_data(alloc: Global, value: &Value) -> Result<Self, SessionFault>
+        ensures { Answers result (meaning (view value.now)) };
+}
+
+/// A whole number.
+pub(crate) fn whole(value: &Value) -> Result<u64, SessionFault>
+    ensures { result ≡ whole (view value.now) }
+{
+    value.as_u64().ok_or(SessionFault::Kind)
+}
+
+/// A whole number in a range.
+#[tactic(auto, unfolding(crate::specs::SessionReading::whole_in))]
+pub(crate) fn whole_in(low: u64, high: u64, value: &Value) -> Result<u64, SessionFault>
+    ensures value { result ≡ whole_in low high (view value.now) }
+    ensures at_least { IfOk result (λ n. low ≤ n) }
+    ensures at_most { IfOk result (λ n. n ≤ high) }
+{
+    let number = whole(value)?;
+    if low <= number && number <= high {
+        Ok(number)
+    } else {
+        Err(SessionFault::Limit)
+    }
+}
+
+#[tactic(auto, unfolding(crate::specs::SessionReading::text))]
+pub(crate) fn text(value: &Value) -> Result<&str, SessionFault>
+    ensures { seen (λ s. s.now) result ≡ text (view value.now) }
+{
+    value.as_str().ok_or(SessionFault::Kind)
+}
+
+#[tactic(auto, unfolding(crate::specs::SessionReading::an_object))]
+pub(crate) fn an_object(value: &Value) -> Result<&Value, SessionFault>
+    ensures { seen (λ v. view v.now) result ≡ an_object (view value.now) }
+{
+    match value {
+        Value::Object(_) => Ok(value),
+        _ => Err(SessionFault::Kind),
+    }
+}
+
+/// A member that has to be there.
+pub(crate) fn required<'v>(object: &'v Value, name: &str) -> Result<&'v Value, SessionFault>
+    ensures { seen (λ v. view v.now) result ≡ known Missing (get name.now (view object.now)) }
+{
+    object.get(name).ok_or(SessionFault::Missing)
+}
+
+/// A member that may be absent. `null` counts as absent.
+#[tactic(auto, unfolding(crate::specs::SessionReading::present))]
+pub(crate) fn present<'v>(object: &'v Value, name: &str) -> Option<&'v Value>
+    ensures { option_map (λ v. view v.now) result ≡ present name.now (view object.now) }
+{
+    match object.get(name) {
+        Some(Value::Null) | None => None,
+        Some(value) => Some(value),
+    }
+}
+
+/// A member of which there may be none.
+pub(crate) fn optional<T: FromData>(
+    alloc: Global,
+    object: &Value,
+    name: &str,
+) -> Result<Option<T>, SessionFault>
+    ensures { Answers result (optional name.now T.meaning (view object.now)) }
+{
+    match present(object, name) {
+        Some(value) => Ok(Some(T::from_data(alloc, value)?)),
+        None => Ok(None),
+    }
+}
+
+/// Refuses a member that is there.
+pub(crate) fn absent(object: &Value, name: &str, fault: SessionFault) -> Result<(), SessionFault>
+    ensures { result ≡ absent name.now fault (view object.now) }
+{
+    match present(object, name) {
+        Some(_) => Err(fault),
+        None => Ok(()),
+    }
+}
+
+#[tactic(auto, using(crate::proofs::SessionElements::elements_items_of), unfolding(crate::specs::SessionReading::elements_of))]
+pub(crate) fn elements_of(value: &Value) -> Result<&[Value], SessionFault>
+    ensures { seen (λ vs. map view vs.now) result ≡ elements_of (view value.now) }
+{
+    match value.as_array() {
+        Some(values) => Ok(values.as_slice()),
+        None => Err(SessionFault::Kind),
+    }
+}
+
+/// Reads each element wholly before the next.
+fn each<T: FromData>(alloc: Global, values: &[Value]) -> Result<Sequence<T>, SessionFault>
+    ensures { Answers result (each T.meaning (map view values.now)) }
+{
+    let mut read = Vec::with_capacity(alloc, values.len())?;
+    for value in values {
+        read.push(T::from_data(alloc, value)?)?;
+    }
+    Ok(Sequence::from_vec(read))
+}
+
+/// An array whose length is in a range: its length first, then its elements.
+pub(crate) fn array_in<T: FromData>(
+    alloc: Global,
+    low: usize,
+    high: usize,
+    value: &Value,
+) -> Result<Sequence<T>, SessionFault>
+    ensures { Answers result (array_in low high T.meaning (view value.now)) }
+{
+    let values = elements_of(value)?;
+    if values.len() < low || high < values.len() {
+        return Err(SessionFault::Limit);
+    }
+    each(alloc, values)
+}
+
+/// An array of any length.
+impl<T: FromData> FromData for Sequence<T> {
+    ghost meaning = { array_of T.meaning };
+
+    fn from_data(alloc: Global, value: &Value) -> Result<Sequence<T>, SessionFault> {
+        each(alloc, elements_of(value)?)
+    }
+}
+
+impl FromData for Name {
+    ghost meaning = { text };
+
+    fn from_data(alloc: Global, value: &Value) -> Result<Name, SessionFault> {
+        Ok(Name::new(alloc, text(value)?)?)
+    }
+}
+
+/// The UTF-8 bytes of a text.
+impl FromData for ByteString {
+    ghost meaning = { text };
+
+    fn from_data(alloc: Global, value: &Value) -> Result<ByteString, SessionFault> {
+        let bytes = Vec::from_slice(alloc, text(value)?.as_bytes())?;
+        Ok(ByteString::from_vec(bytes))
+    }
+}

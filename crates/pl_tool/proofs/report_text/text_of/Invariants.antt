@@ -1,7 +1,0 @@
-use Rattle.std.proofs.Common.{◌≡◌, ◌++◌, drop, string_bytes}
-use Rattle.pl_tool.specs.ReportTexts.{channels_text, report_text}
-use Rattle.pl_tool.proofs.report_text.text_of.Given as goal
-
-abbrev pub invariant-loop-number : goal.invariant-loop-number
-invariant-loop-number l =
-    string_bytes l.text ++ channels_text l.number (drop l.number l.report.channels) ≡ report_text l.report
