@@ -3,3 +3,4 @@ pub mod Meaning
 pub mod Inputs
 pub mod Paths
 pub mod Lanes
+pub mod Fitting

@@ -2,7 +2,9 @@
 #![tactic(auto)]
 
 mod byte_string;
+mod envelopes;
 mod events;
+mod fitting_laws;
 mod keys;
 mod lane_laws;
 mod outcomes;
@@ -12,7 +14,9 @@ mod stages;
 mod tests;
 
 pub use byte_string::ByteString;
+pub use envelopes::{Envelope, Item, Kind, Lane};
 pub use events::{Caught, Command, Event, Fault, Message, Reply};
+pub use fitting_laws::fitting_law;
 pub use keys::Key;
 pub use lane_laws::lane_law;
 pub use outcomes::{Cause, Outcome};

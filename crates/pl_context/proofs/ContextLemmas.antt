@@ -1,0 +1,248 @@
+-- What a context puts out, from what its ports did.
+use Rattle.std.proofs.Common.{◌≡◌, ℕ, ◌+◌, ◌<◌, ◌≤◌, Bool, true, false, cond, List, [], ◌∷◌, ◌++◌, length, map, sym, ap, subst, ◌∙◌, refl, arith, length-append, append_assoc, append-nil, add-zero}
+use Rattle.std.specs.Prelude.{◌&&◌, if◌then◌else◌, ◌^◌, Result, Ok, Err, OnErr}
+use Rattle.std.proofs.lemmas.List.{length-map}
+use Rattle.pl_event.specs.declared.events.Event.{Event}
+use Rattle.pl_event.specs.declared.envelopes.Lane.{Lane}
+use Rattle.pl_event.specs.declared.envelopes.Item.{Item}
+use Rattle.pl_event.specs.declared.envelopes.Item.TheVariants as item
+use Rattle.pl_event.specs.declared.envelopes.Envelope.{Envelope}
+use Rattle.pl_event.specs.declared.stages.Turned.{Turned}
+use Rattle.pl_event.specs.declared.stages.Turned.TheVariants.{Open, Ended}
+use Rattle.pl_event.specs.Meaning.{Meaning, up_of, down_of, made-push, turned_after}
+use Rattle.pl_context.specs.declared.ports.Port.{Port}
+use Rattle.pl_context.specs.declared.standing.Standing.{Standing}
+use Rattle.pl_context.specs.declared.standing.Standing.TheVariants as stands
+use Rattle.pl_context.specs.Stopped.{Stopped, has_stopped}
+use Rattle.pl_context.specs.Listings.{Listing, Puts, PutsAll, Appends}
+use Rattle.pl_context.specs.Ports.{as_items, all_go_on, end_after, numbered, offered, put_out, port_after}
+use Rattle.pl_context.specs.Stations.{Station}
+use Rattle.pl_event.specs.declared.outcomes.Cause.TheVariants.{Memory}
+use Rattle.pl_context.specs.Contexts.{last_item, closed, Closes, ups, downs, offers, PartsStand, StandsAfter, Runs, RunsOut}
+use Rattle.pl_context.proofs.PortLemmas.{puts_all-append, puts_all-from, appends-append, all_go_on-events, all_go_on-append, numbered-append, length-numbered}
+
+-- both ports were given the last item
+pub closes-from : {S : Type 0} (c : Station S) (standing : Standing) (before mid after : Listing) (i j : Item) (up down : Port)
+    → i ≡ last_item standing → j ≡ last_item standing → up ≡ port_after (i ∷ []) c.up → down ≡ port_after (j ∷ []) c.down
+    → PutsAll before (offered c.up (i ∷ [])) mid → PutsAll mid (offered c.down (j ∷ [])) after
+    → Closes standing c before (record c { standing = standing; up = up; down = down }) after
+closes-from c standing before mid after i j up down is js above below first second = record {
+  context = ap (λ (p : Port). record c { standing = standing; up = p; down = down }) (above ∙ ap (λ (k : Item). port_after (k ∷ []) c.up) is)
+      ∙ ap (λ (p : Port). record c { standing = standing; up = port_after (last_item standing ∷ []) c.up; down = p }) (below ∙ ap (λ (k : Item). port_after (k ∷ []) c.down) js);
+  out = puts_all-append before mid after (offered c.up (last_item standing ∷ [])) (offered c.down (last_item standing ∷ []))
+      (subst (λ (k : Item). PutsAll before (offered c.up (k ∷ [])) mid) is first) (subst (λ (k : Item). PutsAll mid (offered c.down (k ∷ [])) after) js second);
+}
+
+-- no port is open after it
+pub closed-port : (standing : Standing) (p q : Port) (i : Item) → i ≡ last_item standing → q ≡ port_after (i ∷ []) p → q.is_open ≡ false
+closed-port standing p q i is e = ap (λ (t : Port). t.is_open) e ∙ ap (λ (k : Item). p.is_open && all_go_on (k ∷ [])) is ∙ by standing p.is_open
+  where
+    by : (s : Standing) (o : Bool) → (o && all_go_on (last_item s ∷ [])) ≡ false
+    by stands.Open true = refl
+    by stands.Open false = refl
+    by stands.Ended true = refl
+    by stands.Ended false = refl
+    by (stands.Failed cause) true = refl
+    by (stands.Failed cause) false = refl
+
+-- ---- a step: events up, events down, and the end where the stage has quit
+
+-- the last two ports
+pub port_after-downs : (p q r : Port) (xs : List Event) (t : Turned) → q ≡ port_after (as_items xs) p → r ≡ port_after (end_after t) q → r ≡ port_after (as_items xs ++ end_after t) p
+port_after-downs p q r xs t e f =
+    f ∙ ap (λ (k : Port). port_after (end_after t) k) e ∙ sym (port_after-append p (as_items xs) (end_after t) (all_go_on-events xs))
+  where
+    port_after-append : (p : Port) (a b : List Item) → all_go_on a ≡ true → port_after (a ++ b) p ≡ port_after b (port_after a p)
+    port_after-append p a b h = by p.is_open
+      where
+        by : (o : Bool) → ◌≡◌ {A = Port} (record { lane = p.lane; made = cond o (p.made + length (a ++ b)) p.made; is_open = o && all_go_on (a ++ b) })
+            (record { lane = p.lane; made = cond (o && all_go_on a) (cond o (p.made + length a) p.made + length b) (cond o (p.made + length a) p.made); is_open = (o && all_go_on a) && all_go_on b })
+        by true =
+            let e : p.made + length (a ++ b) ≡ p.made + length a + length b = omega (arith, length-append a b) in
+            ap (λ (k : ℕ). record { lane = p.lane; made = k; is_open = all_go_on (a ++ b) }) e
+            ∙ ap (λ (t : Bool). record { lane = p.lane; made = p.made + length a + length b; is_open = t }) (all_go_on-append a b h)
+            ∙ ap (λ (t : Bool). record { lane = p.lane; made = cond t (p.made + length a + length b) (p.made + length a); is_open = t && all_go_on b }) (sym h)
+        by false = refl
+
+pub put_out-downs : (s : Stopped) (p q : Port) (xs : List Event) (t : Turned) → q ≡ port_after (as_items xs) p → put_out s p (as_items xs) ++ put_out s q (end_after t) ≡ put_out s p (as_items xs ++ end_after t)
+put_out-downs s p q xs t e =
+    ap (λ (k : Port). put_out s p (as_items xs) ++ put_out s k (end_after t)) e ∙ sym (put_out-append s p (as_items xs) (end_after t) (all_go_on-events xs))
+  where
+    put_out-append : (s : Stopped) (p : Port) (a b : List Item) → all_go_on a ≡ true → put_out s p (a ++ b) ≡ put_out s p a ++ put_out s (port_after a p) b
+    put_out-append s p a b h = by p.is_open (has_stopped s p.lane)
+      where
+        by : (o stopped : Bool) → cond o (cond stopped [] (numbered p.lane p.made (a ++ b))) []
+            ≡ cond o (cond stopped [] (numbered p.lane p.made a)) [] ++ cond (o && all_go_on a) (cond stopped [] (numbered p.lane (cond o (p.made + length a) p.made) b)) []
+        by true true = ap (λ (t : Bool). cond t [] []) (sym h) ∙ refl
+        by true false =
+            numbered-append p.lane p.made a b
+            ∙ ap (λ (t : Bool). numbered p.lane p.made a ++ cond t (numbered p.lane (p.made + length a) b) []) (sym h)
+        by false stopped = refl
+
+pub runs-out-list : (before mid mid' after : Listing) (up down below : Port) (above xs : List Event) (t : Turned)
+    → Appends before (put_out before.stopped up (as_items above)) mid → Appends mid (put_out mid.stopped down (as_items xs)) mid' → Appends mid' (put_out mid'.stopped below (end_after t)) after
+    → below ≡ port_after (as_items xs) down → Appends before (put_out before.stopped up (as_items above) ++ put_out before.stopped down (as_items xs ++ end_after t)) after
+runs-out-list before mid mid' after up down below above xs t first second third e =
+    let one = put_out before.stopped up (as_items above) in
+    let second' : Appends mid (put_out before.stopped down (as_items xs)) mid' = subst (λ (s : Stopped). Appends mid (put_out s down (as_items xs)) mid') first.stopped second in
+    let third' : Appends mid' (put_out before.stopped below (end_after t)) after = subst (λ (s : Stopped). Appends mid' (put_out s below (end_after t)) after) (second.stopped ∙ first.stopped) third in
+    let rest = appends-append mid mid' after (put_out before.stopped down (as_items xs)) (put_out before.stopped below (end_after t)) second' third' in
+    appends-append before mid after one (put_out before.stopped down (as_items xs ++ end_after t)) first
+    (subst (λ (es : List Envelope). Appends mid es after) (put_out-downs before.stopped down below xs t e) rest)
+
+-- what a lane was given before, and what it was given now, is what it was given of all events
+pub stands-up : (m : Meaning) (p q : Port) (xs : List Event) (x : Event) → q ≡ port_after (as_items (m.up xs x)) p → (p.is_open ≡ true → p.made ≡ length (up_of m xs)) → q.is_open ≡ true → q.made ≡ length (up_of m (xs ++ x ∷ []))
+stands-up m p q xs x e h o = by p.is_open refl
+  where
+    by : (b : Bool) → p.is_open ≡ b → q.made ≡ length (up_of m (xs ++ x ∷ []))
+    by true is =
+        let made : q.made ≡ p.made + length (as_items (m.up xs x)) = ap (λ (t : Port). t.made) e ∙ ap (λ (b : Bool). cond b (p.made + length (as_items (m.up xs x))) p.made) is in
+        omega (arith, made, h is, length-map (m.up xs x) (λ (y : Event). item.Event y), ap (λ (ys : List Event). length ys) (made-push m.up xs x), length-append (up_of m xs) (m.up xs x))
+    by false is =
+        let shut : q.is_open ≡ false = ap (λ (t : Port). t.is_open) e ∙ ap (λ (b : Bool). b && all_go_on (as_items (m.up xs x))) is in
+        cc
+
+pub stands-down : (m : Meaning) (p q : Port) (xs : List Event) (x : Event) (t : Turned) → q ≡ port_after (as_items (m.down xs x) ++ end_after t) p → (p.is_open ≡ true → p.made ≡ length (down_of m xs)) → q.is_open ≡ true → q.made ≡ length (down_of m (xs ++ x ∷ []))
+stands-down m p q xs x t e h o = by t p.is_open refl e
+  where
+    by : (t : Turned) (b : Bool) → p.is_open ≡ b → q ≡ port_after (as_items (m.down xs x) ++ end_after t) p → q.made ≡ length (down_of m (xs ++ x ∷ []))
+    by Open true is e =
+        let made : q.made ≡ p.made + length (as_items (m.down xs x)) =
+        ap (λ (t : Port). t.made) e ∙ ap (λ (b : Bool). cond b (p.made + length (as_items (m.down xs x) ++ [])) p.made) is ∙ ap (λ (is : List Item). p.made + length is) (append-nil (as_items (m.down xs x))) in
+        omega (arith, made, h is, length-map (m.down xs x) (λ (y : Event). item.Event y), ap (λ (ys : List Event). length ys) (made-push m.down xs x), length-append (down_of m xs) (m.down xs x))
+    by Open false is e =
+        let shut : q.is_open ≡ false = ap (λ (t : Port). t.is_open) e ∙ ap (λ (b : Bool). b && all_go_on (as_items (m.down xs x) ++ [])) is in
+        cc
+    by Ended b is e =
+        let shut : q.is_open ≡ false =
+        ap (λ (t : Port). t.is_open) e ∙ ap (λ (g : Bool). p.is_open && g) (all_go_on-append (as_items (m.down xs x)) (item.End ∷ []) (all_go_on-events (m.down xs x))) ∙ and-false p.is_open in
+        cc
+      where
+        and-false : (b : Bool) → (b && false) ≡ false
+        and-false true = refl
+        and-false false = refl
+
+-- ---- room
+
+pub open-count : (b : Bool) (n r : ℕ) → r ≡ (if b then n else 0) → b ≡ true → r ≡ n
+open-count b n r e o = e ∙ ap (λ (t : Bool). if t then n else 0) o
+
+pub length-put_out : (s : Stopped) (p : Port) (is : List Item) (r : ℕ) → r ≡ (if p.is_open then length is else 0) → length (put_out s p is) ≤ r
+length-put_out s p is r e = by p.is_open (has_stopped s p.lane) e
+  where
+    by : (o stopped : Bool) → r ≡ (if o then length is else 0) → length (cond o (cond stopped [] (numbered p.lane p.made is)) []) ≤ r
+    by true true e = omega arith
+    by true false e = omega (arith, e, length-numbered p.lane p.made is)
+    by false stopped e = omega arith
+
+pub length-offered : (p : Port) (is : List Item) (r : ℕ) → r ≡ (if p.is_open then length is else 0) → length (offered p is) ≡ r
+length-offered p is r e = by p.is_open e
+  where
+    by : (o : Bool) → r ≡ (if o then length is else 0) → length (cond o (numbered p.lane p.made is) []) ≡ r
+    by true e = length-numbered p.lane p.made is ∙ sym e
+    by false e = sym e
+
+pub not-open : (b : Bool) → b ≡ false → b ≡ true → ⊥
+not-open b e f = cc
+
+-- a port that is open after some items was open before
+pub was-open : (p q : Port) (is : List Item) → q ≡ port_after is p → q.is_open ≡ true → p.is_open ≡ true
+was-open p q is e o = by p.is_open (sym (ap (λ (t : Port). t.is_open) e) ∙ o)
+  where
+    by : (b : Bool) → (b && all_go_on is) ≡ true → b ≡ true
+    by true h = refl
+    by false h = h
+
+-- and has been given so many at most
+pub made-after : (p q : Port) (is : List Item) → q ≡ port_after is p → q.made ≤ p.made + length is
+made-after p q is e = subst (λ (k : ℕ). k ≤ p.made + length is) (sym (ap (λ (t : Port). t.made) e)) (by p.is_open)
+  where
+    by : (b : Bool) → cond b (p.made + length is) p.made ≤ p.made + length is
+    by true = omega arith
+    by false = omega arith
+
+pub length-items : (xs : List Event) → length (as_items xs) ≡ length xs
+length-items xs = length-map xs (λ (y : Event). item.Event y)
+
+pub sum-count : (b : Bool) (m n r s : ℕ) → r ≡ (if b then m else 0) → s ≡ (if b then n else 0) → r + s ≡ (if b then m + n else 0)
+sum-count true m n r s e f = omega (arith, e, f)
+sum-count false m n r s e f = omega (arith, e, f)
+
+-- the same from a list that shows as much and has no more room
+pub appends-from : (a b c : Listing) (up down : Port) (above below : List Item) → b.items ≡ a.items → b.stopped ≡ a.stopped → a.room ≤ b.room
+    → Appends b (put_out b.stopped up above ++ put_out b.stopped down below) c → Appends a (put_out a.stopped up above ++ put_out a.stopped down below) c
+appends-from a b c up down above below i s r h =
+    let es = put_out b.stopped up above ++ put_out b.stopped down below in
+    let from : Appends a es c = record {
+      items = h.items ∙ ap (λ (t : List Envelope). t ++ es) i;
+      stopped = h.stopped ∙ s;
+      room = omega (arith, r, h.room);
+    } in
+    subst (λ (t : Stopped). Appends a (put_out t up above ++ put_out t down below) c) s from
+
+-- ---- a step, from what its stage made
+
+module _ {S : Type 0} (meaning : S → Meaning) (stands_after : S → List Event → Type 0) where
+  pub runs-from : (c : Station S) (x : Event) (before after : Listing) (stage : S) (up down : Port) (above below : List Event) (turned : Turned)
+      → ((xs : List Event) → stands_after c.stage xs → stands_after stage (xs ++ x ∷ []))
+      → meaning stage ≡ meaning c.stage
+      → ((xs : List Event) → stands_after c.stage xs → above ≡ (meaning c.stage).up xs x)
+      → ((xs : List Event) → stands_after c.stage xs → below ≡ (meaning c.stage).down xs x)
+      → ((xs : List Event) → stands_after c.stage xs → turned ≡ turned_after (meaning c.stage) (xs ++ x ∷ []))
+      → up ≡ port_after (as_items above) c.up
+      → down ≡ port_after (as_items below ++ end_after turned) c.down
+      → Appends before (put_out before.stopped c.up (as_items above) ++ put_out before.stopped c.down (as_items below ++ end_after turned)) after
+      → Runs meaning stands_after c x before (record c { stage = stage; up = up; down = down }) after
+  runs-from c x before after stage up down above below turned stands same ups_are downs_are turned_is e f out = record {
+    same = refl;
+    up = above_is;
+    down = below_is;
+    out = λ xs h.
+        subst (λ (is : List Item). Appends before (put_out before.stopped c.up is ++ put_out before.stopped c.down (downs (meaning c.stage) xs x)) after) (ap as_items (ups_are xs h))
+        (subst (λ (is : List Item). Appends before (put_out before.stopped c.up (as_items above) ++ put_out before.stopped c.down is) after) (downs_is xs h) out);
+    stage = stands;
+    stands = λ xs h. record {
+      stands = stands xs h.stands;
+      above = λ o. stands-up (meaning c.stage) c.up up xs x (above_is xs h.stands) h.above o ∙ ap (λ (m : Meaning). length (up_of m (xs ++ x ∷ []))) (sym same);
+      below = λ o. stands-down (meaning c.stage) c.down down xs x (turned_after (meaning c.stage) (xs ++ x ∷ [])) (below_is xs h.stands) h.below o ∙ ap (λ (m : Meaning). length (down_of m (xs ++ x ∷ []))) (sym same);
+    };
+  }
+    where
+      downs_is : (xs : List Event) → stands_after c.stage xs → as_items below ++ end_after turned ≡ downs (meaning c.stage) xs x
+      downs_is xs h = ap (λ (ys : List Event). as_items ys ++ end_after turned) (downs_are xs h) ∙ ap (λ (t : Turned). as_items ((meaning c.stage).down xs x) ++ end_after t) (turned_is xs h)
+
+      above_is : (xs : List Event) → stands_after c.stage xs → up ≡ port_after (ups (meaning c.stage) xs x) c.up
+      above_is xs h = e ∙ ap (λ (ys : List Event). port_after (as_items ys) c.up) (ups_are xs h)
+
+      below_is : (xs : List Event) → stands_after c.stage xs → down ≡ port_after (downs (meaning c.stage) xs x) c.down
+      below_is xs h = f ∙ ap (λ (is : List Item). port_after is c.down) (downs_is xs h)
+
+  -- a context that found no memory, and then failed
+  pub runs-out-from : (is_spent : S → Bool) (c mid c' : Station S) (x : Event) (before between after : Listing)
+      → mid ≡ record c { stage = mid.stage } → between.items ≡ before.items → between.stopped ≡ before.stopped → before.room ≤ between.room
+      → Closes (stands.Failed Memory) mid between c' after
+      → (is_spent mid.stage ≡ false → (xs : List Event) → stands_after c.stage xs → before.room < length (offers c.up c.down (ups (meaning c.stage) xs x) (downs (meaning c.stage) xs x)))
+      → RunsOut meaning stands_after is_spent c x before c' after
+  runs-out-from is_spent c mid c' x before between after same i s r closes why =
+      let stage : c'.stage ≡ mid.stage = ap (λ (t : Station S). t.stage) closes.context in
+      record {
+        closes = record {
+          context = closes.context ∙ ap (λ (t : Station S). closed (stands.Failed Memory) t) same ∙ ap (λ (t : S). closed (stands.Failed Memory) (record c { stage = t })) (sym stage);
+          out = puts_all-from before between after (offers c.up c.down (item.Fail Memory ∷ []) (item.Fail Memory ∷ [])) i s r
+              (subst (λ (t : Station S). PutsAll between (offers t.up t.down (item.Fail Memory ∷ []) (item.Fail Memory ∷ [])) after) same closes.out);
+        };
+        why = λ unspent. why (ap is_spent (sym stage) ∙ unspent);
+      }
+
+-- what a step offers, whichever way it was made
+pub offers-made : (m : Meaning) (xs : List Event) (x : Event) (up down : Port) (above below : List Event) (turned : Turned) (n : ℕ)
+    → above ≡ m.up xs x → below ≡ m.down xs x → turned ≡ turned_after m (xs ++ x ∷ [])
+    → n < length (offers up down (as_items above) (as_items below ++ end_after turned)) → n < length (offers up down (ups m xs x) (downs m xs x))
+offers-made m xs x up down above below turned n e f g less =
+    subst (λ (ys : List Event). n < length (offers up down (as_items ys) (downs m xs x))) e
+    (subst (λ (ys : List Event). n < length (offers up down (as_items above) (as_items ys ++ end_after (turned_after m (xs ++ x ∷ []))))) f
+    (subst (λ (t : Turned). n < length (offers up down (as_items above) (as_items below ++ end_after t))) g less))
+
+pub on_err : {T E P : Type 0} (r : Result T E) → P → OnErr r P
+on_err (Ok x) p = tt
+on_err (Err e) p = p

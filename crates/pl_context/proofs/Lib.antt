@@ -1,0 +1,5 @@
+pub mod ListEdits
+pub mod Places
+pub mod PortLemmas
+pub mod ContextLemmas
+pub mod SampleLemmas

@@ -1,0 +1,13 @@
+-- An element taken out of a list and put back.
+use Rattle.std.proofs.Common.{◌≡◌, ℕ, ◌<◌, List, [], ◌∷◌, ◌++◌, length, zero, suc, sym, ap, ◌∙◌, refl, get_or, take, drop, arith}
+use Rattle.std.specs.Prelude.{insert, remove, Option, Some, None, IfSome, OnSome, IsSome}
+
+pub insert-remove : {X : Type 0} (xs : List X) (i : ℕ) (d : X) → i < length xs → insert (remove xs i) i (get_or xs i d) ≡ xs
+insert-remove [] i d h = absurd (omega (arith, h))
+insert-remove (x ∷ xs) zero d h = refl
+insert-remove {X} (x ∷ xs) (suc i) d h = ap (λ (t : List X). x ∷ t) (insert-remove xs i d (omega (arith, h)))
+
+pub gap-after : {X : Type 0} (xs ys : List X) (i : ℕ) (r : Option X) → IfSome r (λ y. y ≡ get_or xs i y) → OnSome r (ys ≡ remove xs i) → (IsSome r → i < length xs) → IfSome r (λ e. xs ≡ insert ys i e)
+gap-after xs ys i None is cut within = tt
+gap-after {X} xs ys i (Some y) is cut within =
+    sym (insert-remove xs i y (within refl)) ∙ ap (λ (z : X). insert (remove xs i) i z) (sym is) ∙ ap (λ (zs : List X). insert zs i y) (sym cut)

@@ -1,0 +1,9 @@
+use Rattle.std.proofs.Common.{◌≡◌, ◌<◌, List, length, ap, sym, subst, arith}
+use Rattle.std.specs.Prelude.{IfSome, insert}
+use Rattle.pl_context.proofs.ListEdits.{gap-after}
+use Rattle.pl_context.proofs.backlog.Backlog.take_at.Goals as goal
+
+pub returns-clause-gap : goal.returns-clause-gap
+returns-clause-gap g c =
+    rw (← c.self.view_is)
+    (gap-after c.self.inside.entries.items c.remove.new.self.items c.args.place c.remove.result c.remove.ensures.value c.remove.ensures.items (λ some. omega (arith, c.remove.ensures.variant.0 some, c.self.inside.entries.ok.0)))

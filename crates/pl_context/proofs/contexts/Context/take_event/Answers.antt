@@ -1,0 +1,11 @@
+use Rattle.std.proofs.Common.{◌≡◌, sym, ap, subst, ◌∙◌, refl}
+use Rattle.pl_context.specs.Stopped.{Stopped, HasPlaces}
+use Rattle.pl_context.specs.Stations.{Station, open_lanes}
+use Rattle.pl_context.proofs.ContextLemmas.{runs-out-from}
+use Rattle.pl_context.proofs.contexts.Context.take_event.Goals as goal
+
+pub close-requires : goal.close-requires
+close-requires g c =
+    let S : Stopped → Type 0 = λ s. HasPlaces s (open_lanes c.step.new.self) in
+    let C : Station g.row.S.Denot → Type 0 = λ s. HasPlaces c.args.outputs.now.stopped (open_lanes s) in
+    subst S (sym c.in-Err-Memory.ensures.stopped) (subst C (sym c.in-Err-Memory.ensures.kept) c.requires.places)

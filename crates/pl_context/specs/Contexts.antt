@@ -1,0 +1,116 @@
+-- Contexts: how one stands after a list of events, and what it puts out.
+use Rattle.std.specs.Prelude.{◌≡◌, ℕ, ◌+◌, ◌≤◌, ◌<◌, ◌^◌, List, [], ◌∷◌, ◌++◌, length, Bool, true, false, if◌then◌else◌}
+use Rattle.pl_event.specs.declared.events.Event.{Event}
+use Rattle.pl_event.specs.declared.outcomes.Cause.{Cause}
+use Rattle.pl_event.specs.declared.outcomes.Cause.TheVariants.{Memory}
+use Rattle.pl_event.specs.declared.envelopes.Kind.{Kind}
+use Rattle.pl_event.specs.declared.envelopes.Kind.TheVariants.{Data, Flags}
+use Rattle.pl_event.specs.declared.envelopes.Item.{Item}
+use Rattle.pl_event.specs.declared.envelopes.Item.TheVariants as item
+use Rattle.pl_event.specs.declared.envelopes.Envelope.{Envelope}
+use Rattle.pl_event.specs.Meaning.{Meaning, up_of, down_of, turned_after}
+use Rattle.pl_context.specs.declared.ports.Port.{Port}
+use Rattle.pl_context.specs.declared.standing.Standing.{Standing}
+use Rattle.pl_context.specs.declared.standing.Standing.TheVariants as stands
+use Rattle.pl_context.specs.declared.standing.Took.{Took}
+use Rattle.pl_context.specs.declared.standing.Took.TheVariants as took
+use Rattle.pl_context.specs.Listings.{Listing, PutsAll, Appends}
+use Rattle.pl_context.specs.Ports.{as_items, end_after, offered, put_out, port_after, FlagPasses}
+use Rattle.pl_context.specs.Stations.{Station}
+
+-- What a stage makes of an event x after the events xs, as items of its two lanes: its end goes down where it has quit.
+abbrev pub ups : Meaning → List Event → Event → List Item
+ups m xs x = as_items (m.up xs x)
+
+abbrev pub downs : Meaning → List Event → Event → List Item
+downs m xs x = as_items (m.down xs x) ++ end_after (turned_after m (xs ++ x ∷ []))
+
+-- the last item of the lanes of a context that comes to stand so
+abbrev pub last_item : Standing → Item
+last_item stands.Open = item.End
+last_item stands.Ended = item.End
+last_item (stands.Failed cause) = item.Fail cause
+
+-- what both lanes are offered, the lane upwards first
+abbrev pub offers : Port → Port → List Item → List Item → List Envelope
+offers up down above below = offered up above ++ offered down below
+
+-- one item more was taken of the lane of this kind
+abbrev pub counted : {S : Type 0} → Kind → Station S → Station S
+counted Data c = record c { taken = c.taken + 1 }
+counted Flags c = record c { flags_taken = c.flags_taken + 1 }
+
+-- a context has ended or failed: both lanes were given their last item
+abbrev pub closed : {S : Type 0} → Standing → Station S → Station S
+closed standing c =
+    record c { standing = standing; up = port_after (last_item standing ∷ []) c.up; down = port_after (last_item standing ∷ []) c.down }
+
+module _ {S : Type 0} (meaning : S → Meaning) (stands_after : S → List Event → Type 0) where
+  -- A stage with its two ports stands after these events, and each open port was given what the stage makes of them.
+  pub record PartsStand (stage : S) (up down : Port) (xs : List Event) : Type 0 where
+    pub stands : stands_after stage xs
+    pub above : up.is_open ≡ true → up.made ≡ length (up_of (meaning stage) xs)
+    pub below : down.is_open ≡ true → down.made ≡ length (down_of (meaning stage) xs)
+
+  -- a context that is open stands after these events
+  abbrev pub StandsAfter : Station S → List Event → Type 0
+  StandsAfter c xs = PartsStand c.stage c.up c.down xs
+
+  -- What an event after these makes has numbers below 2^31.
+  pub record IsSmall (stage : S) (up down : Port) (xs : List Event) (x : Event) : Type 0 where
+    pub stands : stands_after stage xs
+    pub above : up.is_open ≡ true → up.made + length (ups (meaning stage) xs x) ≤ 2 ^ 31
+    pub below : down.is_open ≡ true → down.made + length (downs (meaning stage) xs x) ≤ 2 ^ 31
+
+  -- An event was run: after whichever events the context stood, it has put out what its stage makes of this one, with
+  -- the next numbers, and stands after those and this one.
+  pub record Runs (c : Station S) (x : Event) (before : Listing) (c' : Station S) (after : Listing) : Type 0 where
+    pub same : c' ≡ record c { stage = c'.stage; up = c'.up; down = c'.down }
+    pub up : (xs : List Event) → stands_after c.stage xs → c'.up ≡ port_after (ups (meaning c.stage) xs x) c.up
+    pub down : (xs : List Event) → stands_after c.stage xs → c'.down ≡ port_after (downs (meaning c.stage) xs x) c.down
+    pub out : (xs : List Event) → stands_after c.stage xs →
+        Appends before (put_out before.stopped c.up (ups (meaning c.stage) xs x) ++ put_out before.stopped c.down (downs (meaning c.stage) xs x)) after
+    pub stage : (xs : List Event) → stands_after c.stage xs → stands_after c'.stage (xs ++ x ∷ [])
+    pub stands : (xs : List Event) → StandsAfter c xs → StandsAfter c' (xs ++ x ∷ [])
+
+-- A context ends or fails: both lanes are given their last item, the lane upwards first.
+pub record Closes {S : Type 0} (standing : Standing) (c : Station S) (before : Listing) (c' : Station S) (after : Listing) : Type 0 where
+  pub context : c' ≡ closed standing c
+  pub out : PutsAll before (offers c.up c.down (last_item standing ∷ []) (last_item standing ∷ [])) after
+
+module _ {S : Type 0} (meaning : S → Meaning) (stands_after : S → List Event → Type 0) (is_spent : S → Bool) where
+  -- An event failed its context for want of memory: the stage met a fault, or there was not room for what it makes.
+  pub record RunsOut (c : Station S) (x : Event) (before : Listing) (c' : Station S) (after : Listing) : Type 0 where
+    pub closes : Closes (stands.Failed Memory) (record c { stage = c'.stage }) before c' after
+    pub why : is_spent c'.stage ≡ false → (xs : List Event) → stands_after c.stage xs →
+        before.room < length (offers c.up c.down (ups (meaning c.stage) xs x) (downs (meaning c.stage) xs x))
+
+  -- what an open context answers to an event, and how it stands then
+  abbrev pub TakesEvent : Station S → Event → Listing → Took → Station S → Listing → Type 0
+  TakesEvent c x before took.Ran c' after = Runs meaning stands_after c x before c' after
+  TakesEvent c x before (took.Failed cause) c' after = (cause ≡ Memory) × RunsOut c x before c' after
+  TakesEvent c x before took.Ended c' after = ⊥
+  TakesEvent c x before took.Dropped c' after = ⊥
+
+  -- The same to any item of its data lane. (A flag does not stand there, and nothing comes of it.)
+  abbrev pub TakesItem : Station S → Item → Listing → Took → Station S → Listing → Type 0
+  TakesItem c (item.Event x) before answer c' after = TakesEvent c x before answer c' after
+  TakesItem c item.End before answer c' after = (answer ≡ took.Ended) × Closes stands.Ended c before c' after
+  TakesItem c (item.Fail cause) before answer c' after = (answer ≡ took.Failed cause) × Closes (stands.Failed cause) c before c' after
+  TakesItem c (item.Flag value) before answer c' after = (answer ≡ took.Ran) × (c' ≡ c) × (after ≡ before)
+
+-- the numbers that an item makes are small
+abbrev pub MakesFew : {S : Type 0} → (S → Meaning) → (S → List Event → Type 0) → Station S → Item → Type 0
+MakesFew meaning stands_after c (item.Event x) = (xs : List Event) × IsSmall meaning stands_after c.stage c.up c.down xs x
+MakesFew meaning stands_after c item.End = Unit {0}
+MakesFew meaning stands_after c (item.Fail cause) = Unit {0}
+MakesFew meaning stands_after c (item.Flag value) = Unit {0}
+
+-- What a context that has not failed answers to an item of its flags lane: a flag is handed on. (Nothing comes of any
+-- other item, which does not stand there.)
+abbrev pub TakesFlag : {S : Type 0} → Station S → Item → Listing → Took → Station S → Listing → Type 0
+TakesFlag c (item.Flag value) before answer c' after =
+    (answer ≡ took.Ran) × (c' ≡ record c { flags = c'.flags }) × FlagPasses c.flags value before c'.flags after
+TakesFlag c (item.Event x) before answer c' after = (answer ≡ took.Ran) × (c' ≡ c) × (after ≡ before)
+TakesFlag c item.End before answer c' after = (answer ≡ took.Ran) × (c' ≡ c) × (after ≡ before)
+TakesFlag c (item.Fail cause) before answer c' after = (answer ≡ took.Ran) × (c' ≡ c) × (after ≡ before)

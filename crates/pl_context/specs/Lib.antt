@@ -1,0 +1,9 @@
+pub mod Standings
+pub mod Stopped
+pub mod Listings
+pub mod Ports
+pub mod Stations
+pub mod Contexts
+pub mod Recordings
+pub mod Queues
+pub mod Samples

@@ -1,0 +1,22 @@
+-- How a context, or the tail, stands.
+use Rattle.std.specs.Prelude.{Bool, true, false, Option, Some, None}
+use Rattle.pl_event.specs.declared.outcomes.Cause.{Cause}
+use Rattle.pl_context.specs.declared.standing.Standing.{Standing}
+use Rattle.pl_context.specs.declared.standing.Standing.TheVariants as stands
+
+-- whether something that stands so has ended or failed
+abbrev pub is_over : Standing → Bool
+is_over stands.Open = false
+is_over stands.Ended = true
+is_over (stands.Failed cause) = true
+
+abbrev pub has_failed : Standing → Bool
+has_failed stands.Open = false
+has_failed stands.Ended = false
+has_failed (stands.Failed cause) = true
+
+-- why it has failed
+abbrev pub cause_of : Standing → Option Cause
+cause_of stands.Open = None
+cause_of stands.Ended = None
+cause_of (stands.Failed cause) = Some cause

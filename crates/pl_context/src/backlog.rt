@@ -1,0 +1,103 @@
+ghost use Rattle.std.specs.Prelude.{◌≡◌, ◌+◌, ◌<◌, ◌≤◌, ◌∷◌, ◌++◌, [], length, IfOk, IfSome, IfNone, OnSome, Some, slice_get, insert, remove, ◌==◌};
+ghost use Rattle.pl_context.specs.Stopped.{HasPlaces, no_stops};
+ghost use Rattle.pl_context.specs.Queues.{Adds};
+
+use crate::outputs::failure;
+use crate::stops::Stops;
+use pl_event::{Envelope, Kind};
+use std::alloc::{AllocError, Global};
+use std::collections::VecDeque;
+use std::marker::Model;
+
+/// Envelopes for other executors, the oldest first, each with a token.
+///
+/// It has reserved places as `Outputs` has, and the same rule where it finds no memory.
+#[derive(Debug, Drop)]
+pub struct Backlog<A> {
+    entries: VecDeque<(Envelope, A)>,
+    stops: Stops,
+}
+
+impl<A> Model for Backlog<A> {
+    ghost use Rattle.std.specs.Prelude.{◌-◌, length};
+    ghost use Rattle.std.specs.VecDeque.{deque_len, deque_capacity};
+    ghost use Rattle.pl_context.specs.Listings.{HasReserve};
+    ghost use Rattle.pl_context.specs.Queues.{Queue};
+
+    ghost Value = { Queue A };
+
+    ghost view = { λ b. record { items = b.entries.items; stopped = b.stops; room = deque_capacity b.entries - deque_len b.entries - (b.stops.places - length b.stops.lanes) } };
+
+    ghost invariant = { λ b. HasReserve b.stops (deque_len b.entries) (deque_capacity b.entries) };
+}
+
+impl<A> Backlog<A> {
+    /// An empty backlog, with this many reserved places.
+    pub fn new(alloc: Global, places: u16) -> Result<Self, AllocError>
+        ensures empty { IfOk result (λ backlog. backlog.items ≡ []) }
+        ensures places { IfOk result (λ backlog. backlog.stopped ≡ no_stops places) }
+    {
+        let stops = Stops::new(alloc, places)?;
+        let entries = VecDeque::with_capacity(alloc, places as usize)?;
+        Ok(Backlog { entries, stops })
+    }
+
+    pub fn is_empty(&self) -> bool
+        ensures { result ≡ (length self.now.items == 0) }
+    {
+        self.entries.is_empty()
+    }
+
+    /// Adds an envelope at the end, or what stands in for it where no memory is found. The token comes back where the
+    /// envelope was discarded.
+    pub fn add(&mut self, envelope: Envelope, token: A) -> Option<A>
+        requires { HasPlaces self.old.stopped (envelope.lane ∷ []) }
+        ensures { Adds self.old envelope token result self.new }
+    {
+        if self.stops.has(envelope.lane) {
+            return Some(token);
+        }
+        if self.entries.reserve(self.stops.left() + 1).is_ok() {
+            self.entries.push_back_reserved((envelope, token));
+            return None;
+        }
+        self.stops.stop(envelope.lane);
+        match envelope.lane.kind {
+            Kind::Data => {
+                self.entries.push_back_reserved((failure(envelope), token));
+                None
+            }
+            Kind::Flags => {
+                drop(envelope);
+                Some(token)
+            }
+        }
+    }
+
+    /// Takes the envelope at a place out, counted from the oldest, or None past the last. It takes no memory.
+    pub fn take_at(&mut self, place: usize) -> Option<(Envelope, A)>
+        ensures at { IfSome result (λ entry. slice_get self.old.items place ≡ Some entry) }
+        ensures taken { OnSome result (self.new.items ≡ remove self.old.items place) }
+        ensures gap { IfSome result (λ entry. self.old.items ≡ insert self.new.items place entry) }
+        ensures place { OnSome result (place ≤ length self.new.items) }
+        ensures room { OnSome result (self.old.room < self.new.room) }
+        ensures none { IfNone result ((length self.old.items ≤ place) × (self.new ≡ self.old)) }
+        ensures stopped { self.new.stopped ≡ self.old.stopped }
+    {
+        self.entries.remove(place)
+    }
+
+    /// Puts an envelope back at the place from which `take_at` took it. It takes no memory.
+    pub fn put_back(&mut self, place: usize, envelope: Envelope, token: A)
+        requires place { place ≤ length self.old.items }
+        requires room { 0 < self.old.room }
+        ensures items { self.new.items ≡ insert self.old.items place (envelope, token) }
+        ensures stopped { self.new.stopped ≡ self.old.stopped }
+        ensures less_room { self.old.room ≤ self.new.room + 1 }
+    {
+        if let Err(refused) = self.entries.insert(place, (envelope, token)) {
+            // There is room for it, so this does not come.
+            self.entries.push_back_reserved(refused.value);
+        }
+    }
+}

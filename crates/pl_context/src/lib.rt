@@ -1,0 +1,23 @@
+//! Contexts: a stage at its place in a channel, the tail, and the lists on which envelopes wait for their turn.
+#![tactic(auto)]
+
+mod added;
+mod backlog;
+mod contexts;
+mod outputs;
+mod place_laws;
+mod ports;
+mod standing;
+mod stops;
+mod tails;
+#[cfg(test)]
+mod tests;
+
+pub use added::Added;
+pub use backlog::Backlog;
+pub use contexts::Context;
+pub use outputs::Outputs;
+pub use place_laws::place_law;
+pub use ports::Port;
+pub use standing::{Standing, Took};
+pub use tails::Tail;

@@ -1,0 +1,113 @@
+ghost use Rattle.std.specs.Prelude.{◌≡◌, ◌+◌, ◌<◌, ◌≤◌, ◌∷◌, ◌++◌, [], length, IfOk, OnOk, OnErr, IfNone, ◌==◌};
+ghost use Rattle.std.specs.Option.{option_to_list};
+ghost use Rattle.pl_context.specs.Stopped.{HasPlaces, no_stops};
+ghost use Rattle.pl_context.specs.Listings.{Puts, failure_of};
+
+use crate::added::Added;
+use crate::stops::Stops;
+use pl_event::{Cause, Envelope, Item, Kind};
+use std::alloc::{AllocError, Global};
+use std::collections::VecDeque;
+use std::marker::Model;
+
+/// The envelopes that contexts put out, first in first out: a work list.
+///
+/// It has reserved places, one for each data lane that is ever put into it. Where it finds no memory for an item of a
+/// data lane, a failure for want of memory takes the item's number in the place of its lane, and what the lane brings
+/// later is discarded. A flag is discarded, and its lane stops.
+#[derive(Debug, Drop)]
+pub struct Outputs {
+    pub(crate) envelopes: VecDeque<Envelope>,
+    pub(crate) stops: Stops,
+}
+
+impl Model for Outputs {
+    ghost use Rattle.std.specs.Prelude.{◌-◌, length};
+    ghost use Rattle.std.specs.VecDeque.{deque_len, deque_capacity};
+    ghost use Rattle.pl_context.specs.Listings.{Listing, HasReserve};
+
+    ghost Value = { Listing };
+
+    ghost view = { λ o. record { items = o.envelopes.items; stopped = o.stops; room = deque_capacity o.envelopes - deque_len o.envelopes - (o.stops.places - length o.stops.lanes) } };
+
+    ghost invariant = { λ o. HasReserve o.stops (deque_len o.envelopes) (deque_capacity o.envelopes) };
+}
+
+impl Outputs {
+    /// An empty list, with this many reserved places.
+    pub fn new(alloc: Global, places: u16) -> Result<Self, AllocError>
+        ensures empty { IfOk result (λ outputs. outputs.items ≡ []) }
+        ensures places { IfOk result (λ outputs. outputs.stopped ≡ no_stops places) }
+    {
+        Ok(Outputs {
+            envelopes: VecDeque::with_capacity(alloc, places as usize)?,
+            stops: Stops::new(alloc, places)?,
+        })
+    }
+
+    /// Takes the front, and no memory.
+    pub fn next(&mut self) -> Option<Envelope>
+        ensures front { self.old.items ≡ option_to_list result ++ self.new.items }
+        ensures empty { IfNone result (self.old.items ≡ []) }
+        ensures stopped { self.new.stopped ≡ self.old.stopped }
+        ensures room { self.old.room ≤ self.new.room }
+    {
+        self.envelopes.pop_front()
+    }
+
+    pub fn is_empty(&self) -> bool
+        ensures { result ≡ (length self.now.items == 0) }
+    {
+        self.envelopes.is_empty()
+    }
+
+    /// Makes room for so many envelopes, beside the reserved places. An `Err` changes nothing.
+    pub fn reserve(&mut self, additional: usize) -> Result<(), AllocError>
+        ensures items { self.new.items ≡ self.old.items }
+        ensures stopped { self.new.stopped ≡ self.old.stopped }
+        ensures room { OnOk result (additional ≤ self.new.room) }
+        ensures grows { self.old.room ≤ self.new.room }
+        ensures refused { OnErr result (self.old.room < additional) }
+    {
+        match self.stops.left().checked_add(additional) {
+            Some(all) => self.envelopes.reserve(all),
+            None => Err(AllocError),
+        }
+    }
+
+    /// Puts an envelope last, or what stands in for it where no memory is found. Where there is room it is last.
+    pub fn put(&mut self, envelope: Envelope) -> Added
+        requires { HasPlaces self.old.stopped (envelope.lane ∷ []) }
+        ensures { Puts self.old envelope result self.new }
+    {
+        if self.stops.has(envelope.lane) {
+            return Added::Discarded;
+        }
+        if self.envelopes.reserve(self.stops.left() + 1).is_ok() {
+            self.envelopes.push_back_reserved(envelope);
+            return Added::Last;
+        }
+        self.stops.stop(envelope.lane);
+        match envelope.lane.kind {
+            Kind::Data => self.envelopes.push_back_reserved(failure(envelope)),
+            Kind::Flags => {}
+        }
+        Added::Refused
+    }
+}
+
+/// What takes the place of an envelope of a data lane for which no memory is found.
+pub(crate) fn failure(envelope: Envelope) -> Envelope
+    ensures { result ≡ record envelope { item = failure_of envelope.item } }
+{
+    let Envelope { lane, number, item } = envelope;
+    let cause = match item {
+        Item::Fail(cause) => cause,
+        _ => Cause::Memory,
+    };
+    Envelope {
+        lane,
+        number,
+        item: Item::Fail(cause),
+    }
+}

@@ -1,0 +1,123 @@
+ghost use Rattle.std.specs.Prelude.{◌≡◌, ◌+◌, ◌<◌, ◌≤◌, ◌^◌, ◌∷◌, ◌++◌, [], length, true, false, if◌then◌else◌};
+ghost use Rattle.pl_event.specs.declared.envelopes.Item.TheVariants as item;
+ghost use Rattle.pl_event.specs.Fitting.{goes_on};
+ghost use Rattle.pl_context.specs.Stopped.{HasPlaces};
+ghost use Rattle.pl_context.specs.Listings.{PutsAll, Appends};
+ghost use Rattle.pl_context.specs.Ports.{as_items, offered, put_out, port_after, end_after, FlagPasses};
+
+use crate::added::Added;
+use crate::outputs::Outputs;
+use pl_event::{Envelope, Event, Item, Lane, Turned};
+
+/// Where a lane is written: how many items it has been given, and whether more may follow.
+///
+/// A lane that a context does not have is closed from the start.
+#[derive(Clone, Copy, Debug, PartialEq, Eq)]
+pub struct Port {
+    pub lane: Lane,
+    /// The number of its next item.
+    pub made: u64,
+    pub is_open: bool,
+}
+
+impl Port {
+    /// Gives the lane one item, unless it is closed.
+    pub(crate) fn put(&mut self, item: Item, outputs: &mut Outputs)
+        requires place { self.old.is_open ≡ true → HasPlaces outputs.old.stopped (self.old.lane ∷ []) }
+        requires small { self.old.is_open ≡ true → self.old.made ≤ 2 ^ 40 }
+        ensures port { self.new ≡ port_after (item ∷ []) self.old }
+        ensures out { PutsAll outputs.old (offered self.old (item ∷ [])) outputs.new }
+        ensures room { 0 < outputs.old.room → Appends outputs.old (put_out outputs.old.stopped self.old (item ∷ [])) outputs.new }
+    {
+        if !self.is_open {
+            return;
+        }
+        let goes_on = goes_on(&item);
+        outputs.put(Envelope {
+            lane: self.lane,
+            number: self.made,
+            item,
+        });
+        self.made += 1;
+        self.is_open = goes_on;
+    }
+
+    /// Gives the lane events, for which there is room, unless it is closed. They are taken out of the buffer.
+    pub(crate) fn put_all(&mut self, events: &mut Vec<Event>, outputs: &mut Outputs)
+        requires place { self.old.is_open ≡ true → HasPlaces outputs.old.stopped (self.old.lane ∷ []) }
+        requires small { self.old.is_open ≡ true → self.old.made + length events.old.items ≤ 2 ^ 40 }
+        requires room { self.old.is_open ≡ true → length events.old.items ≤ outputs.old.room }
+        ensures empty { events.new.items ≡ [] }
+        ensures port { self.new ≡ port_after (as_items events.old.items) self.old }
+        ensures out { Appends outputs.old (put_out outputs.old.stopped self.old (as_items events.old.items)) outputs.new }
+    {
+        if !self.is_open {
+            events.clear();
+            return;
+        }
+        events.reverse();
+        while let Some(event) = events.pop() {
+            outputs.put(Envelope {
+                lane: self.lane,
+                number: self.made,
+                item: Item::Event(event),
+            });
+            self.made += 1;
+        }
+    }
+
+    /// Ends the lane where its stage has quit, and there is room for the end.
+    pub(crate) fn end_if(&mut self, turned: Turned, outputs: &mut Outputs)
+        requires place { self.old.is_open ≡ true → HasPlaces outputs.old.stopped (self.old.lane ∷ []) }
+        requires small { self.old.is_open ≡ true → self.old.made ≤ 2 ^ 40 }
+        requires room { self.old.is_open ≡ true → length (end_after turned) ≤ outputs.old.room }
+        ensures port { self.new ≡ port_after (end_after turned) self.old }
+        ensures out { Appends outputs.old (put_out outputs.old.stopped self.old (end_after turned)) outputs.new }
+    {
+        match turned {
+            Turned::Open => {}
+            Turned::Ended => {
+                if self.is_open {
+                    self.put(Item::End, outputs);
+                }
+            }
+        }
+    }
+
+    /// Hands a flag on, unless the lane has stopped. It stops where a flag finds no place.
+    pub(crate) fn pass(&mut self, value: bool, outputs: &mut Outputs)
+        requires place { self.old.is_open ≡ true → HasPlaces outputs.old.stopped (self.old.lane ∷ []) }
+        requires small { self.old.is_open ≡ true → self.old.made ≤ 2 ^ 40 }
+        ensures { FlagPasses self.old value outputs.old self.new outputs.new }
+    {
+        if !self.is_open {
+            return;
+        }
+        let added = outputs.put(Envelope {
+            lane: self.lane,
+            number: self.made,
+            item: Item::Flag(value),
+        });
+        match added {
+            Added::Last => self.made += 1,
+            Added::Refused | Added::Discarded => self.is_open = false,
+        }
+    }
+
+    /// How many places these events take on the lane.
+    pub(crate) fn places(&self, events: usize) -> usize
+        ensures { result ≡ (if self.now.is_open then events else 0) }
+    {
+        if self.is_open { events } else { 0 }
+    }
+}
+
+/// Whether a lane goes on after an item.
+fn goes_on(item: &Item) -> bool
+    ensures { result ≡ goes_on item.now }
+{
+    match item {
+        Item::Event(_) | Item::Flag(_) => true,
+        Item::End | Item::Fail(_) => false,
+    }
+}

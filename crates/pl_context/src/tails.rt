@@ -1,0 +1,198 @@
+ghost use Rattle.std.specs.Prelude.{◌≡◌, ◌+◌, ◌<◌, ◌^◌, ◌∷◌, ◌++◌, [], Option, Some, None, true, false};
+ghost use Rattle.pl_event.specs.declared.envelopes.Kind.{Kind};
+ghost use Rattle.pl_event.specs.declared.envelopes.Kind.TheVariants as kind;
+ghost use Rattle.pl_context.specs.declared.standing.Standing.TheVariants as stands;
+ghost use Rattle.pl_context.specs.declared.standing.Took.TheVariants as took;
+ghost use Rattle.pl_context.specs.Standings.{is_over, has_failed, cause_of};
+ghost use Rattle.pl_context.specs.Stations.{number_limit, one_of};
+ghost use Rattle.pl_context.specs.Recordings.{new_recording, EntersTail, kind_taken, taken_of, counted, RecordsItem, RecordsFlagItem, RecordsFlag, SamePlace};
+
+use crate::standing::{Standing, Took, has_failed, is_over};
+use pl_event::{Cause, Envelope, Event, Item, Kind, Lane, Sequence};
+use std::alloc::Global;
+use std::marker::Model;
+
+/// The end of a channel's inbound handlers, which keeps a record of what comes to it.
+#[derive(Debug, Drop)]
+pub struct Tail {
+    pub(crate) channel: u16,
+    pub(crate) hop: u16,
+    /// Of the data lane.
+    taken: u64,
+    flags_taken: u64,
+    standing: Standing,
+    events: Sequence<Event>,
+    flags: Vec<bool>,
+    /// A growth was refused for a flag.
+    flags_stopped: bool,
+}
+
+impl Model for Tail {
+    ghost use Rattle.pl_context.specs.Recordings.{Recording, IsRecording};
+
+    ghost Value = { Recording };
+
+    ghost view = { λ t. record { channel = t.channel; hop = t.hop; taken = t.taken; flags_taken = t.flags_taken; standing = t.standing; events = t.events; flags = t.flags.items; flags_stopped = t.flags_stopped } };
+
+    ghost invariant = { λ t. IsRecording t.taken t.flags_taken };
+}
+
+impl Tail {
+    /// The tail of a channel whose pipeline has k inbound handlers. It takes no memory.
+    pub fn new(alloc: Global, channel: u16, k: u16) -> Self
+        ensures { result ≡ new_recording channel k }
+    {
+        Tail {
+            channel,
+            hop: k,
+            taken: 0,
+            flags_taken: 0,
+            standing: Standing::Open,
+            events: Sequence::new(alloc),
+            flags: Vec::new(alloc),
+            flags_stopped: false,
+        }
+    }
+
+    /// Takes the next item of one of its lanes. It answers as a context does: `Failed` where it is open and takes a
+    /// failure, or a growth is refused for an event.
+    pub fn take(&mut self, envelope: Envelope) -> Took
+        requires enters { EntersTail self.old envelope.lane }
+        requires number { envelope.number ≡ kind_taken self.old envelope.lane.kind }
+        requires limit { envelope.number < number_limit envelope.lane.kind }
+        ensures place { (self.new.channel ≡ self.old.channel) × (self.new.hop ≡ self.old.hop) }
+        ensures taken { (k : Kind) → kind_taken self.new k ≡ kind_taken self.old k + one_of k envelope.lane.kind }
+        ensures open { envelope.lane.kind ≡ kind.Data → self.old.standing ≡ stands.Open → RecordsItem (counted kind.Data self.old) envelope.item result self.new }
+        ensures ended { envelope.lane.kind ≡ kind.Data → self.old.standing ≡ stands.Ended → (result ≡ took.Ran) × (self.new ≡ counted kind.Data self.old) }
+        ensures flags { envelope.lane.kind ≡ kind.Flags → has_failed self.old.standing ≡ false →
+            (result ≡ took.Ran) × RecordsFlagItem (counted kind.Flags self.old) envelope.item self.new }
+        ensures dropped { has_failed self.old.standing ≡ true → (result ≡ took.Dropped) × (self.new ≡ counted envelope.lane.kind self.old) }
+    {
+        match envelope.lane.kind {
+            Kind::Data => self.take_item(envelope.item),
+            Kind::Flags => self.take_flag(envelope.item),
+        }
+    }
+
+    /// The events that it took, until a growth for one was refused.
+    pub fn record(&self) -> &[Event]
+        ensures { result.now ≡ self.now.events }
+    {
+        self.events.as_slice()
+    }
+
+    /// The flags that it took and did not drop, until a growth for one was refused.
+    pub fn flags(&self) -> &[bool]
+        ensures { result.now ≡ self.now.flags }
+    {
+        self.flags.as_slice()
+    }
+
+    /// Gives the record up, for a report. It takes no memory.
+    pub fn into_record(self) -> Sequence<Event>
+        ensures { result ≡ self.events }
+    {
+        let Tail { events, .. } = self;
+        events
+    }
+
+    /// Whether it has ended or failed.
+    pub fn is_ended(&self) -> bool
+        ensures { result ≡ is_over self.now.standing }
+    {
+        is_over(self.standing)
+    }
+
+    /// Why it has failed, or None.
+    pub fn cause(&self) -> Option<Cause>
+        ensures { result ≡ cause_of self.now.standing }
+    {
+        match self.standing {
+            Standing::Open | Standing::Ended => None,
+            Standing::Failed(cause) => Some(cause),
+        }
+    }
+
+    /// How many items of a lane it has taken, those that were dropped among them: none of a lane that does not enter it.
+    pub fn taken(&self, lane: Lane) -> u64
+        ensures { result ≡ taken_of self.now lane }
+    {
+        if lane.channel == self.channel && lane.hop == self.hop {
+            match lane.kind {
+                Kind::Data => self.taken,
+                Kind::Flags => self.flags_taken,
+            }
+        } else {
+            0
+        }
+    }
+
+    fn take_item(&mut self, item: Item) -> Took
+        requires { self.old.taken < 2 ^ 31 }
+        ensures place { SamePlace (counted kind.Data self.old) self.new }
+        ensures open { self.old.standing ≡ stands.Open → RecordsItem (counted kind.Data self.old) item result self.new }
+        ensures ended { self.old.standing ≡ stands.Ended → (result ≡ took.Ran) × (self.new ≡ counted kind.Data self.old) }
+        ensures dropped { has_failed self.old.standing ≡ true → (result ≡ took.Dropped) × (self.new ≡ counted kind.Data self.old) }
+    {
+        self.taken += 1;
+        match self.standing {
+            Standing::Open => self.take_open(item),
+            Standing::Ended => Took::Ran,
+            Standing::Failed(_) => Took::Dropped,
+        }
+    }
+
+    fn take_open(&mut self, item: Item) -> Took
+        ensures place { SamePlace self.old self.new }
+        ensures takes { RecordsItem self.old item result self.new }
+    {
+        match item {
+            Item::Event(event) => match self.events.push(event) {
+                Ok(()) => Took::Ran,
+                Err(refused) => {
+                    drop(refused);
+                    self.standing = Standing::Failed(Cause::Memory);
+                    Took::Failed(Cause::Memory)
+                }
+            },
+            Item::End => {
+                self.standing = Standing::Ended;
+                Took::Ended
+            }
+            Item::Fail(cause) => {
+                self.standing = Standing::Failed(cause);
+                Took::Failed(cause)
+            }
+            Item::Flag(_) => Took::Ran,
+        }
+    }
+
+    fn take_flag(&mut self, item: Item) -> Took
+        requires { self.old.flags_taken < 2 ^ 32 }
+        ensures place { SamePlace (counted kind.Flags self.old) self.new }
+        ensures flags { has_failed self.old.standing ≡ false → (result ≡ took.Ran) × RecordsFlagItem (counted kind.Flags self.old) item self.new }
+        ensures dropped { has_failed self.old.standing ≡ true → (result ≡ took.Dropped) × (self.new ≡ counted kind.Flags self.old) }
+    {
+        self.flags_taken += 1;
+        if has_failed(self.standing) {
+            return Took::Dropped;
+        }
+        match item {
+            Item::Flag(value) => self.add_flag(value),
+            _ => {}
+        }
+        Took::Ran
+    }
+
+    fn add_flag(&mut self, value: bool)
+        ensures place { SamePlace self.old self.new }
+        ensures flag { RecordsFlag self.old value self.new }
+    {
+        if self.flags_stopped {
+            return;
+        }
+        if self.flags.push(value).is_err() {
+            self.flags_stopped = true;
+        }
+    }
+}

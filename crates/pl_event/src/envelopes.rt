@@ -1,0 +1,42 @@
+//! Lanes, and what flows on them from one context to the next.
+
+use crate::events::Event;
+use crate::outcomes::Cause;
+
+/// What a lane carries.
+#[derive(Clone, Copy, Debug, PartialEq, Eq)]
+pub enum Kind {
+    /// Events, and at last their end or a failure.
+    Data,
+    /// Whether the channel is writable: `channelWritabilityChanged`.
+    Flags,
+}
+
+/// One way into a context, the tail or the head. The items of a lane are numbered from 0.
+#[derive(Clone, Copy, Debug, PartialEq, Eq)]
+pub struct Lane {
+    pub channel: u16,
+    pub kind: Kind,
+    /// Which context of the channel it enters.
+    pub hop: u16,
+}
+
+/// What one envelope carries.
+#[derive(Clone, Debug, PartialEq, Eq, Drop)]
+pub enum Item {
+    Event(Event),
+    /// Nothing follows: the lane ended in good order.
+    End,
+    /// Nothing follows: the lane failed.
+    Fail(Cause),
+    /// Whether the channel is writable. It stands on flags lanes alone.
+    Flag(bool),
+}
+
+/// An item with its place on its lane.
+#[derive(Clone, Debug, PartialEq, Eq, Drop)]
+pub struct Envelope {
+    pub lane: Lane,
+    pub number: u64,
+    pub item: Item,
+}
