@@ -1,9 +1,8 @@
 -- What a context puts out, from what its ports did.
-use Rattle.std.proofs.Common.{◌≡◌, ℕ, ◌+◌, ◌<◌, ◌≤◌, Bool, true, false, cond, List, [], ◌∷◌, ◌++◌, length, map, sym, ap, subst, ◌∙◌, refl, arith, length-append, append_assoc, append-nil, add-zero}
-use Rattle.std.specs.Prelude.{◌&&◌, if◌then◌else◌, ◌^◌, Result, Ok, Err, OnErr}
+use Rattle.std.proofs.Common.{◌≡◌, ℕ, ◌+◌, ◌<◌, ◌≤◌, Bool, true, false, cond, List, [], ◌∷◌, ◌++◌, length, sym, ap, subst, ◌∙◌, refl, arith, length-append, append-nil}
+use Rattle.std.specs.Prelude.{◌&&◌, if◌then◌else◌, Result, Ok, Err, OnErr}
 use Rattle.std.proofs.lemmas.List.{length-map}
 use Rattle.pl_event.specs.declared.events.Event.{Event}
-use Rattle.pl_event.specs.declared.envelopes.Lane.{Lane}
 use Rattle.pl_event.specs.declared.envelopes.Item.{Item}
 use Rattle.pl_event.specs.declared.envelopes.Item.TheVariants as item
 use Rattle.pl_event.specs.declared.envelopes.Envelope.{Envelope}
@@ -14,11 +13,11 @@ use Rattle.pl_context.specs.declared.ports.Port.{Port}
 use Rattle.pl_context.specs.declared.standing.Standing.{Standing}
 use Rattle.pl_context.specs.declared.standing.Standing.TheVariants as stands
 use Rattle.pl_context.specs.Stopped.{Stopped, has_stopped}
-use Rattle.pl_context.specs.Listings.{Listing, Puts, PutsAll, Appends}
+use Rattle.pl_context.specs.Listings.{Listing, PutsAll, Appends}
 use Rattle.pl_context.specs.Ports.{as_items, all_go_on, end_after, numbered, offered, put_out, port_after}
 use Rattle.pl_context.specs.Stations.{Station}
 use Rattle.pl_event.specs.declared.outcomes.Cause.TheVariants.{Memory}
-use Rattle.pl_context.specs.Contexts.{last_item, closed, Closes, ups, downs, offers, PartsStand, StandsAfter, Runs, RunsOut}
+use Rattle.pl_context.specs.Contexts.{last_item, closed, Closes, ups, downs, offers, Runs, RunsOut}
 use Rattle.pl_context.proofs.PortLemmas.{puts_all-append, puts_all-from, appends-append, all_go_on-events, all_go_on-append, numbered-append, length-numbered}
 
 -- both ports were given the last item

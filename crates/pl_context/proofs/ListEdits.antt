@@ -1,5 +1,5 @@
 -- An element taken out of a list and put back.
-use Rattle.std.proofs.Common.{◌≡◌, ℕ, ◌<◌, List, [], ◌∷◌, ◌++◌, length, zero, suc, sym, ap, ◌∙◌, refl, get_or, take, drop, arith}
+use Rattle.std.proofs.Common.{◌≡◌, ℕ, ◌<◌, List, [], ◌∷◌, length, zero, suc, sym, ap, ◌∙◌, refl, get_or, arith}
 use Rattle.std.specs.Prelude.{insert, remove, Option, Some, None, IfSome, OnSome, IsSome}
 
 pub insert-remove : {X : Type 0} (xs : List X) (i : ℕ) (d : X) → i < length xs → insert (remove xs i) i (get_or xs i d) ≡ xs

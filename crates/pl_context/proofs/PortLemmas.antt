@@ -1,5 +1,5 @@
 -- What a port gives a list of envelopes, item by item.
-use Rattle.std.proofs.Common.{◌≡◌, ℕ, ◌+◌, ◌<◌, ◌≤◌, Bool, true, false, cond, List, [], ◌∷◌, ◌++◌, length, map, zero, suc, sym, ap, subst, ◌∙◌, refl, arith, length-append, append_assoc, append-nil, add-zero}
+use Rattle.std.proofs.Common.{◌≡◌, ℕ, ◌+◌, ◌<◌, ◌≤◌, Bool, true, false, cond, List, [], ◌∷◌, ◌++◌, length, suc, sym, ap, subst, ◌∙◌, refl, arith, length-append, append_assoc, append-nil, add-zero}
 use Rattle.std.specs.Prelude.{◌&&◌, ◌↔◌}
 use Rattle.std.proofs.lemmas.List.{length-map}
 use Rattle.pl_event.specs.declared.events.Event.{Event}
@@ -7,13 +7,12 @@ use Rattle.pl_event.specs.declared.envelopes.Lane.{Lane}
 use Rattle.pl_event.specs.declared.envelopes.Item.{Item}
 use Rattle.pl_event.specs.declared.envelopes.Item.TheVariants as item
 use Rattle.pl_event.specs.declared.envelopes.Envelope.{Envelope}
-use Rattle.pl_event.specs.Fitting.{goes_on}
 use Rattle.pl_context.specs.declared.added.Added.{Added}
-use Rattle.pl_context.specs.declared.added.Added.TheVariants.{Last, Refused, Discarded}
+use Rattle.pl_context.specs.declared.added.Added.TheVariants.{Last, Discarded}
 use Rattle.pl_context.specs.declared.ports.Port.{Port}
 use Rattle.pl_context.specs.Stopped.{Stopped, has_stopped}
 use Rattle.pl_context.specs.Listings.{Listing, Puts, PutsAll, Appends, added_items, stopped_after}
-use Rattle.pl_context.specs.Ports.{as_items, all_go_on, numbered, offered, put_out, port_after}
+use Rattle.pl_context.specs.Ports.{as_items, all_go_on, numbered, put_out, port_after}
 
 -- ---- one envelope
 

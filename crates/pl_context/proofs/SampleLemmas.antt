@@ -1,7 +1,6 @@
 -- What the tests' harness has to show of a context of a sample stage.
-use Rattle.std.proofs.Common.{◌≡◌, ℕ, ◌+◌, ◌<◌, ◌≤◌, Bool, true, false, cond, List, [], ◌∷◌, ◌++◌, length, sym, ap, subst, ◌∙◌, refl, arith, length-append}
-use Rattle.std.specs.Prelude.{if◌then◌else◌, ◌==◌, ◌&&◌, nat_eq, ◌^◌}
-use Rattle.std.specs.Cmp.{nat_eq_equiv}
+use Rattle.std.proofs.Common.{◌≡◌, ℕ, ◌<◌, ◌≤◌, Bool, true, false, cond, List, [], ◌∷◌, ◌++◌, length, sym, ap, subst, ◌∙◌, refl, arith, length-append}
+use Rattle.std.specs.Prelude.{if◌then◌else◌, ◌==◌, ◌&&◌}
 use Rattle.pl_event.specs.declared.events.Event.{Event}
 use Rattle.pl_event.specs.declared.events.Event.TheVariants.{ReadComplete}
 use Rattle.pl_event.specs.declared.envelopes.Kind.{Kind}
@@ -14,12 +13,12 @@ use Rattle.pl_event.specs.declared.stages.Direction.TheVariants.{Inbound, Outbou
 use Rattle.pl_event.specs.declared.stages.Turned.{Turned}
 use Rattle.pl_event.specs.declared.stages.Turned.TheVariants.{Open, Ended}
 use Rattle.pl_context.specs.declared.ports.Port.{Port}
-use Rattle.pl_context.specs.Stopped.{Stopped, HasPlaces, no_stops, same_hop}
+use Rattle.pl_context.specs.Stopped.{Stopped, HasPlaces, no_stops}
 use Rattle.pl_context.specs.Ports.{as_items, end_after}
 use Rattle.pl_context.specs.Stations.{Station, lane_of, open_lanes, kind_taken, taken_of, number_limit}
 use Rattle.pl_context.specs.Recordings.{Recording}
 use Rattle.pl_context.specs.Recordings as tail
-use Rattle.pl_context.specs.Contexts.{ups, downs, IsSmall, MakesFew}
+use Rattle.pl_context.specs.Contexts.{MakesFew}
 use Rattle.pl_context.specs.Samples.{relaying, has_quit, passed_up, passed_down, sample_lane}
 use Rattle.pl_context.proofs.Places.{places-start, same_hop-laws}
 

@@ -1,5 +1,5 @@
 -- A backlog: envelopes that wait for a queue of another executor, each with a token.
-use Rattle.std.specs.Prelude.{◌≡◌, ◌↔◌, ℕ, ◌+◌, ◌<◌, ◌≤◌, List, [], ◌∷◌, ◌++◌, length, map, Bool, true, false, Option, Some, None}
+use Rattle.std.specs.Prelude.{◌≡◌, ◌↔◌, ℕ, ◌+◌, ◌<◌, ◌≤◌, List, ◌++◌, length, map, true, false, Option, Some, None}
 use Rattle.pl_event.specs.declared.envelopes.Kind.{Kind}
 use Rattle.pl_event.specs.declared.envelopes.Kind.TheVariants.{Data, Flags}
 use Rattle.pl_event.specs.declared.envelopes.Envelope.{Envelope}

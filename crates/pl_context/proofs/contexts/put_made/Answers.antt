@@ -1,7 +1,6 @@
-use Rattle.std.proofs.Common.{◌≡◌, ◌≤◌, ◌<◌, ◌+◌, ◌++◌, ℕ, List, length, sym, ap, subst, ◌∙◌, arith, length-append}
+use Rattle.std.proofs.Common.{◌≡◌, ◌+◌, ◌++◌, ℕ, length, ap, ◌∙◌, arith, length-append}
 use Rattle.std.specs.Prelude.{if◌then◌else◌}
-use Rattle.pl_event.specs.declared.envelopes.Item.{Item}
-use Rattle.pl_context.specs.Ports.{as_items, end_after, put_out, offered}
+use Rattle.pl_context.specs.Ports.{as_items, end_after, offered}
 use Rattle.pl_context.proofs.ContextLemmas.{open-count, sum-count, port_after-downs, runs-out-list, appends-from, length-put_out, length-offered, was-open, length-items}
 use Rattle.pl_context.proofs.contexts.put_made.Goals as goal
 

@@ -1,4 +1,4 @@
-use Rattle.std.proofs.Common.{◌≡◌, ◌<◌, ap, sym, subst, ◌∙◌, arith}
+use Rattle.std.proofs.Common.{ap, ◌∙◌, arith}
 use Rattle.pl_context.specs.Stations.{Station}
 use Rattle.pl_context.specs.declared.tests.Relay.{Relay}
 use Rattle.pl_context.proofs.SampleLemmas.{number-own, small-number, fresh-places, relay-few}

@@ -1,4 +1,4 @@
-use Rattle.std.proofs.Common.{◌≡◌, ◌<◌, ap, ◌∙◌, arith}
+use Rattle.std.proofs.Common.{ap, ◌∙◌, arith}
 use Rattle.pl_context.specs.Recordings.{Recording}
 use Rattle.pl_context.proofs.SampleLemmas.{number-tail, small-number}
 use Rattle.pl_context.proofs.tests.record.Goals as goal

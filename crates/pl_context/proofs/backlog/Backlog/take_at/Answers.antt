@@ -1,5 +1,4 @@
-use Rattle.std.proofs.Common.{◌≡◌, ◌<◌, List, length, ap, sym, subst, arith}
-use Rattle.std.specs.Prelude.{IfSome, insert}
+use Rattle.std.proofs.Common.{arith}
 use Rattle.pl_context.proofs.ListEdits.{gap-after}
 use Rattle.pl_context.proofs.backlog.Backlog.take_at.Goals as goal
 

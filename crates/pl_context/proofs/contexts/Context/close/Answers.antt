@@ -1,4 +1,4 @@
-use Rattle.std.proofs.Common.{◌≡◌, sym, subst, ap, ◌∙◌}
+use Rattle.std.proofs.Common.{sym, subst}
 use Rattle.pl_context.specs.Stations.{Station, open_lanes}
 use Rattle.pl_context.specs.Stopped.{HasPlaces}
 use Rattle.pl_context.proofs.Places.{places-up, places-down, places-after-up}

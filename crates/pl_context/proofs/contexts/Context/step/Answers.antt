@@ -1,12 +1,11 @@
-use Rattle.std.proofs.Common.{◌≡◌, ◌≤◌, ◌+◌, ◌++◌, ◌∷◌, [], List, length, sym, ap, subst, ◌∙◌, arith, length-append}
+use Rattle.std.proofs.Common.{◌++◌, ◌∷◌, [], List, length, sym, ap, subst, ◌∙◌, arith, length-append}
 use Rattle.pl_event.specs.declared.events.Event.{Event}
-use Rattle.pl_event.specs.declared.envelopes.Item.{Item}
 use Rattle.pl_event.specs.declared.stages.Turned.{Turned}
 use Rattle.pl_event.specs.Meaning.{turned_after}
 use Rattle.pl_context.specs.Stopped.{HasPlaces}
 use Rattle.pl_context.specs.Ports.{as_items, end_after}
 use Rattle.pl_context.specs.Stations.{Station, open_lanes}
-use Rattle.pl_context.specs.Contexts.{IsSmall, Runs, offers}
+use Rattle.pl_context.specs.Contexts.{IsSmall}
 use Rattle.pl_context.proofs.Places.{places-up, places-down}
 use Rattle.pl_context.proofs.ContextLemmas.{runs-from, length-items, offers-made, on_err}
 use Rattle.pl_context.proofs.contexts.Context.step.Goals as goal

@@ -1,7 +1,6 @@
-use Rattle.std.proofs.Common.{◌≡◌, sym, ap, subst, ◌∙◌, refl}
+use Rattle.std.proofs.Common.{sym, subst}
 use Rattle.pl_context.specs.Stopped.{Stopped, HasPlaces}
 use Rattle.pl_context.specs.Stations.{Station, open_lanes}
-use Rattle.pl_context.proofs.ContextLemmas.{runs-out-from}
 use Rattle.pl_context.proofs.contexts.Context.take_event.Goals as goal
 
 pub close-requires : goal.close-requires

@@ -1,4 +1,4 @@
-use Rattle.std.proofs.Common.{◌≡◌, List, [], length, sym, subst, ap, arith}
+use Rattle.std.proofs.Common.{List, length, sym, subst, ap, arith}
 use Rattle.std.specs.List.{IsDistinct}
 use Rattle.pl_event.specs.declared.envelopes.Lane.{Lane}
 use Rattle.pl_context.specs.Stopped.{same_hop}

@@ -1,4 +1,4 @@
-use Rattle.std.proofs.Common.{◌≡◌, ◌+◌, ◌<◌, ◌≤◌, ◌++◌, ◌∷◌, [], List, ℕ, length, sym, subst, ap, ◌∙◌, arith, length-append, false}
+use Rattle.std.proofs.Common.{◌≡◌, ◌∷◌, [], List, length, sym, subst, ap, arith, length-append, false}
 use Rattle.std.specs.List.{IsDistinct}
 use Rattle.std.proofs.lemmas.Map.Keys.{IsDistinct-push}
 use Rattle.pl_event.specs.declared.envelopes.Lane.{Lane}
