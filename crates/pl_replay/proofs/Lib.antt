@@ -11,3 +11,4 @@ pub mod PathLanes
 pub mod QuietTurns
 pub mod ReadSteps
 pub mod Taking
+pub mod Wholes

@@ -3,6 +3,7 @@
 
 mod chains;
 mod channels;
+mod composing;
 mod effects;
 mod faults;
 mod heads;
@@ -18,6 +19,7 @@ mod session;
 #[cfg(test)]
 mod tests;
 
+pub use composing::plain;
 pub use faults::ReplayFault;
 pub use moves::Move;
 pub use report::{ChannelReport, Report, Stands};

@@ -50,7 +50,10 @@ fn open_all<S: Stage>(
 }
 
 /// A channel of a session.
-fn open_one<S: Stage>(alloc: Global, recorded: Recorded<S>) -> Result<Channel<S>, AllocError>
+pub(crate) fn open_one<S: Stage>(
+    alloc: Global,
+    recorded: Recorded<S>,
+) -> Result<Channel<S>, AllocError>
     ensures { IfOk result (λ channel. ChannelIsAt S.meaning S.stands_after (channel_planned S.meaning recorded) no_moves channel) }
 {
     let Recorded { pipeline, bursts } = recorded;

@@ -4,7 +4,9 @@ ghost use Rattle.std.specs.Prelude.{[], IfOk};
 use super::*;
 use pl_build::{BuildFault, Groups, PipelineBuilder, Placed, Unadded};
 use pl_event::{ByteString, Command, Event, Message, Outcome, Sequence, Stage};
-use pl_stages::{CommandDecoder, Handler, LineEnd, LineFramer, LineService, ReplyEncoder};
+use pl_stages::{
+    CommandDecoder, FlushEvery, Handler, LineEnd, LineFramer, LineService, ReplyEncoder,
+};
 use std::alloc::{AllocError, Global};
 use std::process::Abort;
 use std::test::Fail;
@@ -15,6 +17,7 @@ enum Kind {
     Decode,
     LineEnd,
     Encode,
+    FlushEvery,
     Service,
 }
 
@@ -38,6 +41,10 @@ fn handler(alloc: Global, kind: Kind) -> Result<Handler, Fail>
         Kind::Decode => Ok(Handler::Decode(CommandDecoder::new())),
         Kind::LineEnd => Ok(Handler::LineEnd(LineEnd::new())),
         Kind::Encode => Ok(Handler::Encode(ReplyEncoder::new())),
+        Kind::FlushEvery => {
+            let flushing = FlushEvery::new(2)?;
+            Ok(Handler::FlushEvery(flushing))
+        }
         Kind::Service => Ok(Handler::Service(LineService::new(alloc))),
     }
 }
@@ -100,6 +107,14 @@ fn session(groups: &Groups, channels: Vec<Recorded<Handler>>) -> Session {
     }
 }
 
+/// A session of one channel on one loop.
+fn session_of_one(alloc: Global, kinds: &[Kind], chunk: Option<&[u8]>) -> Result<Session, Fail> {
+    let mut groups = Groups::new(alloc, 1, &[])?;
+    let recorded = channel(alloc, &mut groups, kinds, chunk)?;
+    let channels = vec![in alloc; recorded]?;
+    Ok(session(&groups, channels))
+}
+
 /// The report of one channel on one loop.
 fn replay_one(
     alloc: Global,
@@ -107,10 +122,14 @@ fn replay_one(
     chunk: Option<&[u8]>,
     moves: &[Move],
 ) -> Result<Report, Fail> {
-    let mut groups = Groups::new(alloc, 1, &[])?;
-    let recorded = channel(alloc, &mut groups, kinds, chunk)?;
-    let channels = vec![in alloc; recorded]?;
-    Ok(replay(alloc, session(&groups, channels), moves)?)
+    let session = session_of_one(alloc, kinds, chunk)?;
+    Ok(replay(alloc, session, moves)?)
+}
+
+/// The whole report of one channel on one loop.
+fn plain_one(alloc: Global, kinds: &[Kind], chunk: Option<&[u8]>) -> Result<Report, Fail> {
+    let session = session_of_one(alloc, kinds, chunk)?;
+    Ok(plain(alloc, session)?)
 }
 
 fn assert_channel(
@@ -310,5 +329,135 @@ fn no_channels(rt: HostRuntime) -> Result<(), Fail> {
         Ok(_) => panic!(rt; "it is replayed"),
         Err(fault) => assert_eq!(rt; fault, ReplayFault::NoSuch),
     }
+    Ok(())
+}
+
+const SUCCESS: Option<Outcome> = Some(Outcome::Success);
+
+#[test]
+fn plain_no_bursts(rt: HostRuntime) -> Result<(), Fail> {
+    let report = plain_one(rt.alloc(), &LINE_PROTOCOL, None)?;
+    assert_one(&rt, &report, Stands::Drained, &[Event::Active], b"", &[]);
+    Ok(())
+}
+
+#[test]
+fn plain_ping(rt: HostRuntime) -> Result<(), Fail> {
+    let report = plain_one(rt.alloc(), &LINE_PROTOCOL, Some(b"PING\r\n"))?;
+    let tail = ping_tail();
+    assert_one(
+        &rt,
+        &report,
+        Stands::Drained,
+        &tail,
+        b"+PONG\r\n",
+        &[SUCCESS],
+    );
+    Ok(())
+}
+
+/// More than one write leaves.
+#[test]
+fn plain_totals(rt: HostRuntime) -> Result<(), Fail> {
+    let input = b"ADD a 7\nADD b 1\nADD a 5\nGET a\n";
+    let report = plain_one(rt.alloc(), &LINE_PROTOCOL, Some(input))?;
+    assert_eq!(rt; report.channels.len(), 1);
+    let channel = &report.channels.as_slice()[0];
+    assert_eq!(rt; channel.stands, Stands::Drained);
+    assert_eq!(rt; channel.tail.len(), 6);
+    assert_eq!(rt;
+        channel.bytes.as_slice(),
+        b":7\r\n:1\r\n:12\r\n:12\r\n".as_slice()
+    );
+    assert_eq!(rt; channel.writes.as_slice(), [SUCCESS; 4].as_slice());
+    Ok(())
+}
+
+#[test]
+fn plain_quit(rt: HostRuntime) -> Result<(), Fail> {
+    let report = plain_one(rt.alloc(), &LINE_PROTOCOL, Some(b"PING\nQUIT\nPING\nPI"))?;
+    let tail = [
+        Event::Active,
+        read_command(Command::Ping),
+        read_command(Command::Quit),
+    ];
+    assert_one(
+        &rt,
+        &report,
+        Stands::Drained,
+        &tail,
+        b"+PONG\r\n+BYE\r\n",
+        &[SUCCESS, SUCCESS],
+    );
+    Ok(())
+}
+
+#[test]
+fn plain_encoder_behind_turn(rt: HostRuntime) -> Result<(), Fail> {
+    let kinds = [
+        Kind::Lines,
+        Kind::Decode,
+        Kind::LineEnd,
+        Kind::Service,
+        Kind::Encode,
+    ];
+    let report = plain_one(rt.alloc(), &kinds, Some(b"PING\n"))?;
+    let writes = [Some(Outcome::Unsupported)];
+    assert_one(&rt, &report, Stands::Drained, &ping_tail(), b"", &writes);
+    Ok(())
+}
+
+#[test]
+fn plain_flush_never_comes(rt: HostRuntime) -> Result<(), Fail> {
+    let kinds = [
+        Kind::FlushEvery,
+        Kind::Lines,
+        Kind::Decode,
+        Kind::LineEnd,
+        Kind::Encode,
+        Kind::Service,
+    ];
+    let report = plain_one(rt.alloc(), &kinds, Some(b"PING\n"))?;
+    let writes = [Some(Outcome::Closed)];
+    assert_one(&rt, &report, Stands::Drained, &ping_tail(), b"", &writes);
+    Ok(())
+}
+
+/// Each channel's report stands at its place.
+#[test]
+fn plain_two_channels(rt: HostRuntime) -> Result<(), Fail> {
+    let mut groups = Groups::new(rt.alloc(), 1, &[])?;
+    let first = channel(rt.alloc(), &mut groups, &LINE_PROTOCOL, None)?;
+    let second = channel(rt.alloc(), &mut groups, &LINE_PROTOCOL, Some(b"PING\n"))?;
+    let channels = vec![in rt.alloc(); first, second]?;
+    let report = plain(rt.alloc(), session(&groups, channels))?;
+    assert_eq!(rt; report.channels.len(), 2);
+    let reports = report.channels.as_slice();
+    let tail = ping_tail();
+    assert_channel(
+        &rt,
+        &reports[0],
+        Stands::Drained,
+        &[Event::Active],
+        b"",
+        &[],
+    );
+    assert_channel(
+        &rt,
+        &reports[1],
+        Stands::Drained,
+        &tail,
+        b"+PONG\r\n",
+        &[SUCCESS],
+    );
+    Ok(())
+}
+
+#[test]
+fn plain_no_channels(rt: HostRuntime) -> Result<(), Fail> {
+    let groups = Groups::new(rt.alloc(), 1, &[])?;
+    let none = session(&groups, Vec::new(rt.alloc()));
+    let report = plain(rt.alloc(), none)?;
+    assert_eq!(rt; report.channels.len(), 0);
     Ok(())
 }
