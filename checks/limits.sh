@@ -67,7 +67,8 @@ status=0
 "$program" replay <"$ping/session.json" >/dev/full 2>"$work/error" || status=$?
 compare "an output that fails" 4 "output refused"
 
-for words in "" "replay --moves" "replay --moves R0 O0" "replay ping" "run" "plain" "play" "--help"; do
+for words in "" "replay --moves" "replay --moves R0 O0" "replay ping" "run" "plain ping" "plain --moves R0" "plain plain" \
+    "play" "--help"; do
     status=0
     # Each word by itself.
     # shellcheck disable=SC2086

@@ -1,5 +1,6 @@
 #!/bin/sh
-# Runs a program on each example and compares what it prints, and its status, with what the example says.
+# Runs a program on each example and compares what it prints, and its status, with what the example says. Where that
+# says that every channel is drained, `plain` has to print the same.
 # usage: examples/check.sh PROGRAM
 set -u
 
@@ -38,6 +39,11 @@ for session in "$examples"/*/session.json "$examples"/*/*/session.json; do
     fi
 
     differs=
+    if [ "$wanted" -eq 0 ]; then
+        "$program" plain <"$session" >"$printed/plain" 2>"$printed/plain_error" || differs="$differs plain_status"
+        same "$example/report" "$printed/plain" || differs="$differs plain_report"
+        same /dev/null "$printed/plain_error" || differs="$differs plain_error"
+    fi
     same "$example/report" "$printed/report" || differs="$differs report"
     same "$example/error" "$printed/error" || differs="$differs error"
     [ "$status" -eq "$wanted" ] || differs="$differs status"

@@ -1,3 +1,4 @@
+pub mod ProgramAnswers
 pub mod ProgramBytes
 pub mod ProgramInputs
 pub mod ProgramReads

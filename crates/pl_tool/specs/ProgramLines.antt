@@ -6,6 +6,8 @@ use Rattle.clap.specs.Walk.{Row, Rule, Text, first_of, is_empty}
 use Rattle.clap.specs.Faults.{fault_of}
 use Rattle.clap.specs.Simple.{App, new_app, new_rule, subcommand_of, with_rule, with_subcommand}
 use Rattle.clap.specs.declared.builder.action.ArgAction.TheVariants.{Set}
+use Rattle.pl_tool.specs.declared.program.command_line.Asked.{Asked}
+use Rattle.pl_tool.specs.declared.program.command_line.Asked.TheVariants as asked
 
 -- --moves MOVES
 abbrev pub moves_option : Rule
@@ -14,14 +16,33 @@ moves_option = record (new_rule (codes "moves")) { long = Some (codes "moves"); 
 abbrev pub replay_command : App
 replay_command = with_rule (new_app (codes "replay")) moves_option
 
--- pl_tool, with its subcommand replay
-abbrev pub program : App
-program = with_subcommand (new_app (codes "pl_tool")) replay_command.top
+-- without an option
+abbrev pub plain_command : App
+plain_command = new_app (codes "plain")
 
--- the text of the moves by what was found of the subcommand, empty where it is not given
-abbrev pub given_text : Text × List Row → Option Text
-given_text found =
-    if bytes_eq (codes "replay") found.0 then Some (unwrap_or (first_of (codes "moves") found.1) []) else None
+-- pl_tool, with its subcommands replay and plain
+abbrev pub program : App
+program = with_subcommand (with_subcommand (new_app (codes "pl_tool")) replay_command.top) plain_command.top
+
+-- A request: the report of a replay by the moves of a text, or the whole report.
+pub data Request : Type 0 where
+  Replay : Text → Request
+  Plain : Request
+
+-- the request that the code holds
+abbrev pub request_seen : Asked → Request
+request_seen (asked.Replay text) = Replay text.now
+request_seen asked.Plain = Plain
+
+-- a replay by the moves of the option's text, which is empty where it is not given
+abbrev pub replay_asked : List Row → Request
+replay_asked rows = Replay (unwrap_or (first_of (codes "moves") rows) [])
+
+-- what a subcommand asks for, by its name and what was found of it
+abbrev pub asked_of : Text × List Row → Option Request
+asked_of found =
+    if bytes_eq (codes "replay") found.0 then Some (replay_asked found.1)
+    else if bytes_eq (codes "plain") found.0 then Some Plain else None
 
 -- a lone - is no word of a line that is read
 abbrev pub has_dash : List Text → Bool
@@ -31,6 +52,6 @@ has_dash words = list_any (bytes_eq (codes "-")) (drop 1 words)
 abbrev pub is_read : List Text → Bool
 is_read words = not (has_dash words) && is_empty (fault_of program words)
 
--- the text of the moves that a command line asks to replay; its first word is the program's name
-abbrev pub moves_text_of : List Text → Option Text
-moves_text_of words = if is_read words then option_and_then given_text (subcommand_of program words) else None
+-- what a command line asks for; its first word is the program's name
+abbrev pub request_of : List Text → Option Request
+request_of words = if is_read words then option_and_then asked_of (subcommand_of program words) else None

@@ -1,5 +1,5 @@
 -- What the program has done (docs/FORMATS.md, "Program").
-use Rattle.std.specs.Prelude.{◌≡◌, ◌≢◌, ℕ, ◌≤◌, List, length, Bool, true, false, ⊤, Option, Some, Result, Ok, Err, nat_lt, if◌then◌else◌}
+use Rattle.std.specs.Prelude.{◌≡◌, ◌≢◌, ℕ, ◌≤◌, List, length, map, Bool, true, false, ⊤, Option, Some, Result, Ok, Err, nat_lt, if◌then◌else◌}
 use Rattle.std.specs.List.{list_all}
 use Rattle.std.specs.Str.{is_utf8}
 use Rattle.std.specs.Io.KnownBytes.{Appends, Consumes, IsAtEnd, Keeps}
@@ -18,11 +18,12 @@ use Rattle.pl_event.specs.Meaning.{IsPrefixOf}
 use Rattle.pl_replay.specs.MoveModel.{is_there}
 use Rattle.pl_replay.specs.Plans.{Plan}
 use Rattle.pl_replay.specs.Replays.{IsReplayed}
+use Rattle.pl_replay.specs.Reports.{whole_report}
 use Rattle.pl_text.specs.SessionTexts.{session_of}
 use Rattle.pl_text.specs.MovesTexts.{MeansMoves, IsNoMoves}
 use Rattle.pl_text.specs.ReportTexts.{report_text}
 use Rattle.pl_tool.specs.ProgramFailures.{status_of, failure_line}
-use Rattle.pl_tool.specs.ProgramLines.{moves_text_of}
+use Rattle.pl_tool.specs.ProgramLines.{Request, Replay as AsksReplay, Plain}
 
 abbrev pub is_drained : Stands → Bool
 is_drained Drained = true
@@ -49,34 +50,50 @@ pub record TakesSession (unread left : Option (List ℕ)) (session : Plan) : Typ
   pub at_end : IsAtEnd left
   pub means : session_of_bytes input ≡ Ok session
 
--- the command line gives these moves
-pub record GivesMoves (words : List (List ℕ)) (moves : List Move) : Type 0 where
-  pub text : List ℕ
-  pub given : moves_text_of words ≡ Some text
-  pub means : MeansMoves text moves
-
--- The moves of the command line and then a session were taken, and this is the report of its replay.
-pub record IsReported (words : List (List ℕ)) (unread left : Option (List ℕ)) (report : Report) : Type 0 where
+-- the text gives moves, and this is the report of the session's replay by them
+pub record IsReplayedBy (text : List ℕ) (session : Plan) (report : Report) : Type 0 where
   pub moves : List Move
-  pub gives : GivesMoves words moves
+  pub means : MeansMoves text moves
+  pub is_replayed : IsReplayed session moves report
+
+-- this is the report of the session that is asked for
+abbrev pub IsAnswer : Request → Plan → Report → Type 0
+IsAnswer (AsksReplay text) session report = IsReplayedBy text session report
+IsAnswer Plain session report = report.channels ≡ map whole_report session.channels
+
+-- The command line asks for something, a session was taken, and this is the report of it that is asked for.
+pub record IsReported (asked : Option Request) (unread left : Option (List ℕ)) (report : Report) : Type 0 where
+  pub request : Request
+  pub given : asked ≡ Some request
   pub session : Plan
   pub taken : TakesSession unread left session
-  pub is_report : IsReplayed session moves report
+  pub is_answer : IsAnswer request session report
 
 -- The text of the report was added to what the writer holds.
-pub record HasPrinted (drained : Bool) (words : List (List ℕ)) (unread left before after : Option (List ℕ)) : Type 0 where
+pub record HasPrinted (drained : Bool) (asked : Option Request) (unread left before after : Option (List ℕ)) : Type 0 where
   pub report : Report
-  pub is_reported : IsReported words unread left report
+  pub is_reported : IsReported asked unread left report
   pub stands : drained ≡ all_drained report
   pub written : Appends before after (report_text report)
 
 -- ---- why no report was printed
 
--- the text that the command line gives is no moves
-pub record RefusesMoves (fault : MovesFault) (words : List (List ℕ)) : Type 0 where
+-- the text of the replay that is asked for is no moves
+pub record RefusesMoves (fault : MovesFault) (asked : Option Request) : Type 0 where
   pub text : List ℕ
-  pub given : moves_text_of words ≡ Some text
+  pub given : asked ≡ Some (AsksReplay text)
   pub is_none : IsNoMoves fault text
+
+-- the text of a replay gives moves
+abbrev pub HasMoves : Request → Type 0
+HasMoves (AsksReplay text) = (moves : List Move) × MeansMoves text moves
+HasMoves Plain = ⊤
+
+-- the command line and its moves were read
+pub record IsLineRead (asked : Option Request) : Type 0 where
+  pub request : Request
+  pub given : asked ≡ Some request
+  pub moves : HasMoves request
 
 -- The bytes that were taken, to the end of the input or to one more than a session may have, are no session.
 pub record RefusesSession (fault : SessionFault) (unread left : Option (List ℕ)) : Type 0 where
@@ -87,19 +104,14 @@ pub record RefusesSession (fault : SessionFault) (unread left : Option (List ℕ
   pub is_named : fault ≢ session.Memory
 
 -- A session was taken, and a move names what is not there.
-pub record NamesMissing (words : List (List ℕ)) (unread left : Option (List ℕ)) : Type 0 where
+pub record NamesMissing (asked : Option Request) (unread left : Option (List ℕ)) : Type 0 where
+  pub text : List ℕ
+  pub given : asked ≡ Some (AsksReplay text)
   pub moves : List Move
-  pub gives : GivesMoves words moves
+  pub means : MeansMoves text moves
   pub session : Plan
   pub taken : TakesSession unread left session
   pub missing : list_all (is_there session) moves ≡ false
-
--- a failure at the command line and its moves
-abbrev pub RefusesLine : Failure → List (List ℕ) → Type 0
-RefusesLine Usage words = ⊤
-RefusesLine (Moves f) words = RefusesMoves f words
-RefusesLine Memory words = ⊤
-RefusesLine _ words = ⊥
 
 -- a failure at the session
 abbrev pub RefusesInput : Failure → Option (List ℕ) → Option (List ℕ) → Type 0
@@ -109,21 +121,21 @@ RefusesInput Memory unread left = ⊤
 RefusesInput _ unread left = ⊥
 
 -- What a failure says of the command line and of what was taken from the reader. Why a read or a write failed, and
--- whether memory was wanting, is not seen here. So Usage says only that nothing was taken, Input that the line gives
--- moves, Output that there was a report, and Memory nothing.
-abbrev pub IsCause : Failure → List (List ℕ) → Option (List ℕ) → Option (List ℕ) → Type 0
-IsCause Usage words unread left = Keeps unread left
-IsCause (Moves f) words unread left = RefusesMoves f words × Keeps unread left
-IsCause (Replay replay.NoSuch) words unread left = NamesMissing words unread left
-IsCause (Replay replay.Memory) words unread left = ⊥
-IsCause Input words unread left = (moves : List Move) × GivesMoves words moves
-IsCause (Session f) words unread left = (moves : List Move) × GivesMoves words moves × RefusesSession f unread left
-IsCause Memory words unread left = ⊤
-IsCause Output words unread left = (report : Report) × IsReported words unread left report
+-- whether memory was wanting, is not seen here. So Usage says only that nothing was taken, Input that the line and its
+-- moves were read, Output that there was a report, and Memory nothing.
+abbrev pub IsCause : Failure → Option Request → Option (List ℕ) → Option (List ℕ) → Type 0
+IsCause Usage asked unread left = Keeps unread left
+IsCause (Moves f) asked unread left = RefusesMoves f asked × Keeps unread left
+IsCause (Replay replay.NoSuch) asked unread left = NamesMissing asked unread left
+IsCause (Replay replay.Memory) asked unread left = ⊥
+IsCause Input asked unread left = IsLineRead asked
+IsCause (Session f) asked unread left = IsLineRead asked × RefusesSession f unread left
+IsCause Memory asked unread left = ⊤
+IsCause Output asked unread left = (report : Report) × IsReported asked unread left report
 
 -- A failure left the first writer as it was. Of a writer that failed itself nothing is said.
-abbrev pub Explains : Failure → List (List ℕ) → Option (List ℕ) → Option (List ℕ) → Option (List ℕ) → Option (List ℕ) → Type 0
-Explains failure words unread left before after = IsCause failure words unread left × (failure ≢ Output → Keeps before after)
+abbrev pub Explains : Failure → Option Request → Option (List ℕ) → Option (List ℕ) → Option (List ℕ) → Option (List ℕ) → Type 0
+Explains failure asked unread left before after = IsCause failure asked unread left × (failure ≢ Output → Keeps before after)
 
 -- A beginning of these bytes, which may be all or none of them, was added to what the writer holds.
 pub record AppendsPrefixOf (whole : List ℕ) (before after : Option (List ℕ)) : Type 0 where
@@ -132,8 +144,8 @@ pub record AppendsPrefixOf (whole : List ℕ) (before after : Option (List ℕ))
   pub added : Appends before after part
 
 -- The program ended with a status by a failure, and what the second writer got begins the line of that failure.
-pub record HasFailed (status : ℕ) (words : List (List ℕ)) (unread left before after silent spoken : Option (List ℕ)) : Type 0 where
+pub record HasFailed (status : ℕ) (asked : Option Request) (unread left before after silent spoken : Option (List ℕ)) : Type 0 where
   pub failure : Failure
   pub ended : status ≡ status_of failure
-  pub explained : Explains failure words unread left before after
+  pub explained : Explains failure asked unread left before after
   pub said : AppendsPrefixOf (failure_line failure) silent spoken

@@ -1,10 +1,12 @@
 //! The program over a reader and two writers.
 
-ghost use Rattle.std.specs.Prelude.{◌≡◌, ◌≢◌, ◌⊎◌, ◌≤◌, List, ℕ, Bool, true, false, map, string_bytes, IfErr, IfOk};
+ghost use Rattle.std.specs.Prelude.{◌≡◌, ◌≢◌, ◌⊎◌, ◌≤◌, List, ℕ, Bool, true, false, map, string_bytes, Some, IfErr, IfOk};
 ghost use Rattle.std.specs.IoError.{error_kind};
 ghost use Rattle.std.specs.Io.KnownBytes.{Keeps};
+ghost use Rattle.pl_tool.specs.declared.program.failure.Failure.TheVariants as failure;
 ghost use Rattle.pl_tool.specs.ProgramFailures.{failure_line, failure_of_words, status_of};
-ghost use Rattle.pl_tool.specs.ProgramOutcomes.{AppendsPrefixOf, Explains, GivesMoves, HasFailed, HasPrinted, RefusesLine, TakesAtMost, all_drained};
+ghost use Rattle.pl_tool.specs.ProgramLines.{Plain, Replay, request_of, request_seen};
+ghost use Rattle.pl_tool.specs.ProgramOutcomes.{AppendsPrefixOf, Explains, HasFailed, HasPrinted, IsCause, IsReported, TakesAtMost, all_drained};
 
 mod command_line;
 mod failure;
@@ -13,25 +15,59 @@ mod telling;
 #[cfg(test)]
 mod tests;
 
-use command_line::moves_text;
+use command_line::{Asked, request_of};
 use failure::Failure;
 use input::take_session;
-use pl_replay::{Move, Report, Stands, replay};
+use pl_replay::{Report, Stands, plain, replay};
 use pl_text::{print_report, read_moves};
 use std::alloc::Global;
 use std::io;
 use std::io::{Read, Write};
 use telling::tell;
 
-/// The moves that the command line gives. A growth that is refused inside `clap` counts as a line that is not read.
-fn moves_in(alloc: Global, words: &[String]) -> Result<Vec<Move>, Failure>
-    ensures ok { IfOk result (λ moves. GivesMoves (map string_bytes words.now) moves.items) }
-    ensures err { IfErr result (λ e. RefusesLine e (map string_bytes words.now)) }
+/// What the command line asks for. A growth that is refused inside `clap` counts as a line that is not read.
+fn request<'a>(alloc: Global, words: &'a [String]) -> Result<Asked<'a>, Failure>
+    ensures ok { IfOk result (λ asked. request_of (map string_bytes words.entry.now) ≡ Some (request_seen asked)) }
+    ensures err { IfErr result (λ e. e ≡ failure.Usage) }
 {
-    let text = moves_text(alloc, words)
+    request_of(alloc, words)
         .unwrap_or(None)
-        .ok_or(Failure::Usage)?;
-    Ok(read_moves(alloc, text)?)
+        .ok_or(Failure::Usage)
+}
+
+/// The report of a replay by the moves of a text. They are read before the session.
+fn replayed<R: Read>(alloc: Global, text: &str, reader: &mut R) -> Result<Report, Failure>
+    ensures ok { IfOk result (λ report. IsReported (Some (Replay text.now)) (R.remaining reader.old) (R.remaining reader.new) report) }
+    ensures err { IfErr result (λ e. IsCause e (Some (Replay text.now)) (R.remaining reader.old) (R.remaining reader.new)) }
+    ensures at_most { TakesAtMost 33554433 (R.remaining reader.old) (R.remaining reader.new) }
+{
+    let moves = read_moves(alloc, text)?;
+    let session = take_session(alloc, reader)?;
+    let report = replay(alloc, session, moves.as_slice())?;
+    Ok(report)
+}
+
+/// The whole report of a session.
+fn composed<R: Read>(alloc: Global, reader: &mut R) -> Result<Report, Failure>
+    ensures ok { IfOk result (λ report. IsReported (Some Plain) (R.remaining reader.old) (R.remaining reader.new) report) }
+    ensures err { IfErr result (λ e. IsCause e (Some Plain) (R.remaining reader.old) (R.remaining reader.new)) }
+    ensures at_most { TakesAtMost 33554433 (R.remaining reader.old) (R.remaining reader.new) }
+{
+    let session = take_session(alloc, reader)?;
+    let report = plain(alloc, session)?;
+    Ok(report)
+}
+
+/// The report that is asked for.
+fn report_of<R: Read>(alloc: Global, asked: Asked<'_>, reader: &mut R) -> Result<Report, Failure>
+    ensures ok { IfOk result (λ report. IsReported (Some (request_seen asked.entry)) (R.remaining reader.old) (R.remaining reader.new) report) }
+    ensures err { IfErr result (λ e. IsCause e (Some (request_seen asked.entry)) (R.remaining reader.old) (R.remaining reader.new)) }
+    ensures at_most { TakesAtMost 33554433 (R.remaining reader.old) (R.remaining reader.new) }
+{
+    match asked {
+        Asked::Replay(text) => replayed(alloc, text, reader),
+        Asked::Plain => composed(alloc, reader),
+    }
 }
 
 /// Whether every channel is drained.
@@ -45,7 +81,7 @@ fn is_drained(report: &Report) -> bool
         .all(|channel| channel.stands == Stands::Drained)
 }
 
-/// Reads the command line, the moves and the session, in this order, and prints the report of the replay. It says
+/// Reads the command line, the moves and the session, in this order, and prints the report that is asked for. It says
 /// whether every channel is drained.
 fn run<R: Read, W: Write>(
     alloc: Global,
@@ -53,21 +89,21 @@ fn run<R: Read, W: Write>(
     reader: &mut R,
     out: &mut W,
 ) -> Result<bool, Failure>
-    ensures ok { IfOk result (λ drained. HasPrinted drained (map string_bytes words.now)
+    ensures ok { IfOk result (λ drained. HasPrinted drained (request_of (map string_bytes words.now))
         (R.remaining reader.old) (R.remaining reader.new) (W.contents out.old) (W.contents out.new)) }
-    ensures err { IfErr result (λ e. Explains e (map string_bytes words.now)
+    ensures err { IfErr result (λ e. Explains e (request_of (map string_bytes words.now))
         (R.remaining reader.old) (R.remaining reader.new) (W.contents out.old) (W.contents out.new)) }
     ensures at_most { TakesAtMost 33554433 (R.remaining reader.old) (R.remaining reader.new) }
 {
-    let moves = moves_in(alloc, words)?;
-    let session = take_session(alloc, reader)?;
-    let report = replay(alloc, session, moves.as_slice())?;
+    let asked = request(alloc, words)?;
+    let report = report_of(alloc, asked, reader)?;
     print_report(alloc, &report, out)?;
     Ok(is_drained(&report))
 }
 
 /// The program (`docs/FORMATS.md`, "Program"): reads the command line `words`, of which the first is the program's
-/// name, then its moves, then a session from the reader, replays it, and writes the text of its report to `out`.
+/// name, then the moves of a `replay`, then a session from the reader. It replays the session by these moves or, for
+/// `plain`, takes it whole, and writes the text of the report to `out`.
 ///
 /// The status is 0 where every channel is drained, 1 where the report was printed and some channel is not. Else one
 /// line on `err` says why: 2 where the command line or its moves were not read or name what is not there, 3 where the
@@ -77,9 +113,10 @@ fn run<R: Read, W: Write>(
 ///
 /// No contract sees that a read or a write fails, that memory is wanting, or what a writer would have taken. So these
 /// bodies meet this one too: one that answers `out of memory` at any time, or at once the usage line, as for a growth
-/// that is refused inside `clap`; one that answers `input refused` once the moves were read; one that answers `output
-/// refused` once there is a report, whatever it then wrote to `out`; and one that tells a part of the line, or nothing.
-/// That these come only where they should is tested.
+/// that is refused inside `clap`; one that answers `input refused` once the line and its moves were read; one that
+/// answers `output refused` once there is a report, whatever it then wrote to `out`; and one that tells a part of the
+/// line, or nothing. That these come only where they should is tested.
+#[tactic(auto, using(crate::proofs::ProgramAnswers::open_is_no_plain))]
 pub fn run_tool<R: Read, W: Write, E: Write>(
     alloc: Global,
     words: &[String],
@@ -87,15 +124,16 @@ pub fn run_tool<R: Read, W: Write, E: Write>(
     out: &mut W,
     err: &mut E,
 ) -> u8
-    ensures drained { result ≡ 0 → HasPrinted true (map string_bytes words.now)
+    ensures drained { result ≡ 0 → HasPrinted true (request_of (map string_bytes words.now))
         (R.remaining reader.old) (R.remaining reader.new) (W.contents out.old) (W.contents out.new) }
-    ensures not_drained { result ≡ 1 → HasPrinted false (map string_bytes words.now)
+    ensures not_drained { result ≡ 1 → HasPrinted false (request_of (map string_bytes words.now))
         (R.remaining reader.old) (R.remaining reader.new) (W.contents out.old) (W.contents out.new) }
+    ensures whole { result ≡ 1 → request_of (map string_bytes words.now) ≢ Some Plain }
     ensures silent { (result ≡ 0) ⊎ (result ≡ 1) → Keeps (E.contents err.old) (E.contents err.new) }
 
     // Each other status is that of a failure which the line, the moves and what was read explain, and `err` got a
     // beginning of the line of that failure.
-    ensures failed { 2 ≤ result → HasFailed result (map string_bytes words.now)
+    ensures failed { 2 ≤ result → HasFailed result (request_of (map string_bytes words.now))
         (R.remaining reader.old) (R.remaining reader.new) (W.contents out.old) (W.contents out.new)
         (E.contents err.old) (E.contents err.new) }
 

@@ -4,11 +4,20 @@ ghost use Rattle.std.specs.Prelude.{◌≡◌, [], codes, drop, map, option_and_
 ghost use Rattle.std.specs.List.{list_any};
 ghost use Rattle.std.specs.Str.{bytes_eq};
 ghost use Rattle.clap.specs.Words.{FailsBy, app_of, fault_of, first_value, found_of, rows_of, subcommand_of, subcommand_rows_of};
-ghost use Rattle.pl_tool.specs.ProgramLines.{given_text, moves_text_of, program};
+ghost use Rattle.pl_tool.specs.ProgramLines.{asked_of, program, request_of, request_seen};
 
 use clap::error::ErrorKind;
 use clap::{Arg, ArgAction, ArgMatches, Command, Error};
 use std::alloc::{AllocError, Global};
+
+/// What a command line asks for.
+#[derive(Clone, Copy)]
+pub(crate) enum Asked<'a> {
+    /// The report of a replay by the moves of a text.
+    Replay(&'a str),
+    /// The whole report.
+    Plain,
+}
 
 fn command<'a>(alloc: Global) -> Result<Command<'a>, AllocError>
     ensures { IfOk result (λ made. app_of made ≡ program) }
@@ -17,7 +26,12 @@ fn command<'a>(alloc: Global) -> Result<Command<'a>, AllocError>
         .long("moves")
         .action(ArgAction::Set);
     let replay = Command::new(alloc, "replay").arg(moves)?;
-    Ok(Command::new(alloc, "pl_tool").subcommand(replay)?)
+    let plain = Command::new(alloc, "plain");
+    Ok(
+        Command::new(alloc, "pl_tool")
+            .subcommand(replay)?
+            .subcommand(plain)?,
+    )
 }
 
 fn is_any_dash(words: &[String]) -> bool
@@ -53,38 +67,41 @@ fn option_text<'a>(replay: &ArgMatches<'a>) -> &'a str
     replay.get_str("moves").unwrap_or("")
 }
 
-/// The text of the moves that a subcommand gives, or None where it is not `replay`.
-fn text_of<'a>(name: &str, found: &ArgMatches<'a>) -> Option<&'a str>
-    ensures { option_map (λ text. text.now) result ≡ given_text (name.now, rows_of (found_of found.now)) }
+/// What a subcommand asks for.
+fn asked_of<'a>(name: &str, found: &ArgMatches<'a>) -> Option<Asked<'a>>
+    ensures { option_map request_seen result ≡ asked_of (name.now, rows_of (found_of found.now)) }
 {
-    if name != "replay" {
-        return None;
+    if name == "replay" {
+        return Some(Asked::Replay(option_text(found)));
     }
-    Some(option_text(found))
+    if name == "plain" {
+        return Some(Asked::Plain);
+    }
+    None
 }
 
-/// The text of the moves, or None where no subcommand gives one.
-fn text_in<'a>(matches: &ArgMatches<'a>) -> Option<&'a str>
-    ensures { option_map (λ text. text.now) result ≡ option_and_then given_text (subcommand_rows_of matches.now) }
+/// What the subcommand asks for, or None where there is none.
+fn asked_in<'a>(matches: &ArgMatches<'a>) -> Option<Asked<'a>>
+    ensures { option_map request_seen result ≡ option_and_then asked_of (subcommand_rows_of matches.now) }
 {
     let (name, found) = matches.subcommand()?;
-    text_of(name, found)
+    asked_of(name, found)
 }
 
-/// The text of the moves, empty where the command line gives none, or None where it is not read. The first word is the
-/// program's name. It fails only where a growth was refused.
+/// What the command line asks for, or None where it is not read. The first word is the program's name. It fails only
+/// where a growth was refused.
 #[tactic(auto, using(crate::proofs::ProgramReads::dash_is_refused, crate::proofs::ProgramReads::fault_is_refused))]
-pub(crate) fn moves_text<'a>(
+pub(crate) fn request_of<'a>(
     alloc: Global,
     words: &'a [String],
-) -> Result<Option<&'a str>, AllocError>
-    ensures { IfOk result (λ text. option_map (λ t. t.now) text ≡ moves_text_of (map string_bytes words.entry.now)) }
+) -> Result<Option<Asked<'a>>, AllocError>
+    ensures { IfOk result (λ asked. option_map request_seen asked ≡ request_of (map string_bytes words.entry.now)) }
 {
     if has_dash(words) {
         return Ok(None);
     }
     match matches_of(alloc, words) {
-        Ok(matches) => Ok(text_in(&matches)),
+        Ok(matches) => Ok(asked_in(&matches)),
         Err(error) if error.kind() == ErrorKind::OutOfMemory => Err(AllocError),
         Err(_) => Ok(None),
     }

@@ -17,10 +17,26 @@ const SESSION: &str = r#"{"version":1,"capacity":4,"loops":1,"channels":[{"handl
 
 const USAGE: &str = "usage: pl_tool replay [--moves MOVES] | run --queue waiting|ring | plain\n";
 
+/// The whole report of the session.
+const REPORT: &str = "channel 0 drained
+tail 3
+Active
+Read Ping
+ReadComplete
+bytes 7 2b504f4e470d0a
+writes 1
+0 Success
+";
+
 const WRONG_LINES: &[&[&str]] = &[
     &[],
     &["fly"],
-    &["plain"],
+    &["plain", "ping"],
+    &["plain", "replay"],
+    &["plain", "--moves", "R0"],
+    &["plain", "--help"],
+    &["plain", "-"],
+    &["plain", "plain"],
     &["run", "--queue", "ring"],
     &["help"],
     &["--help"],
@@ -209,6 +225,73 @@ fn statuses(rt: HostRuntime) -> Result<(), Fail> {
         assert_eq!(rt; status, want, "of {line:?}");
         assert_eq!(rt; out.is_empty(), 1 < want, "of {line:?}");
         assert_eq!(rt; err.as_slice(), told.as_bytes(), "of {line:?}");
+    }
+    Ok(())
+}
+
+/// `plain` prints what a replay prints that drains the session, and takes the whole of it.
+#[test]
+fn plain_of_a_session(rt: HostRuntime) -> Result<(), Fail> {
+    for line in [
+        ["plain"].as_slice(),
+        ["plain", "--"].as_slice(),
+        ["replay", "--moves=R0x3 O0"].as_slice(),
+    ] {
+        let (status, out, err) = ran(&rt, line, SESSION.as_bytes())?;
+        assert_eq!(rt; status, 0, "of {line:?}");
+        assert_eq!(rt; out.as_slice(), REPORT.as_bytes(), "of {line:?}");
+        assert_eq!(rt; err.len(), 0, "of {line:?}");
+    }
+    let none = r#"{"version":1,"capacity":4,"loops":1,"channels":[]}"#;
+    let (status, out, err) = ran(&rt, &["plain"], none.as_bytes())?;
+    assert_eq!(rt; (status, out.len(), err.len()), (0, 0, 0));
+    Ok(())
+}
+
+/// Of `plain` too, nothing is printed of what is no session, or fails.
+#[test]
+fn plain_of_no_session(rt: HostRuntime) -> Result<(), Fail> {
+    for (input, told) in [
+        (b"".as_slice(), "session refused: 1 NotJson\n"),
+        (b"{}".as_slice(), "session refused: 3 Missing\n"),
+        (b"\xff".as_slice(), "session refused: 1 NotJson\n"),
+    ] {
+        let (status, out, err) = ran(&rt, &["plain"], input)?;
+        assert_eq!(rt; (status, out.len()), (3, 0));
+        assert_eq!(rt; err.as_slice(), told.as_bytes());
+    }
+    let words = words(&rt, &["plain"])?;
+    let mut reader = SESSION.as_bytes();
+    let mut err = Vec::new(rt.alloc());
+    let status = run_tool(
+        rt.alloc(),
+        words.as_slice(),
+        &mut reader,
+        &mut Failing { room: 20 },
+        &mut err,
+    );
+    assert_eq!(rt; status, 4);
+    assert_eq!(rt; err.as_slice(), b"output refused\n".as_slice());
+    Ok(())
+}
+
+/// A line that is not read leaves the session where it is.
+#[test]
+fn line_before_session(rt: HostRuntime) -> Result<(), Fail> {
+    for line in [["plain", "ping"], ["replay", "--moves=R00"]] {
+        let words = words(&rt, &line)?;
+        let mut reader = SESSION.as_bytes();
+        let mut out = Vec::new(rt.alloc());
+        let mut err = Vec::new(rt.alloc());
+        let status = run_tool(
+            rt.alloc(),
+            words.as_slice(),
+            &mut reader,
+            &mut out,
+            &mut err,
+        );
+        assert_eq!(rt; status, 2);
+        assert_eq!(rt; reader.len(), SESSION.len());
     }
     Ok(())
 }

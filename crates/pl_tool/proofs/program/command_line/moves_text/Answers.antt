@@ -1,6 +1,0 @@
-use Rattle.pl_tool.proofs.ProgramReads.{line_is_read}
-use Rattle.pl_tool.proofs.program.command_line.moves_text.Goals as goal
-
-pub returns-in-Ok : goal.returns-in-Ok
-returns-in-Ok c =
-    line_is_read c.args.words.now c.has_dash.result _ _ c.text_in.ensures c.in-Ok.ensures.found c.in-Ok.ensures.kinds c.has_dash.ensures c.if-has_dash.false
