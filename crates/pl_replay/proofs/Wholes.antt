@@ -1,5 +1,5 @@
 -- A channel that has read its whole input and written all that is flushed.
-use Rattle.std.proofs.Common.{◌≡◌, ℕ, ◌+◌, ◌-◌, ◌<◌, ◌≤◌, Bool, true, false, ◌||◌, ◌&&◌, if◌then◌else◌, nat_le, nat_lt, leb, List, [], ◌∷◌, ◌++◌, length, take, drop, sum_by, Option, Some, None, refl, sym, ap, subst, ◌∙◌, arith, length-append, append_assoc, append-nil}
+use Rattle.std.proofs.Common.{◌≡◌, ℕ, ◌+◌, ◌-◌, ◌<◌, ◌≤◌, Bool, true, false, ◌||◌, ◌&&◌, if◌then◌else◌, nat_le, nat_lt, leb, List, [], ◌∷◌, ◌++◌, length, take, sum_by, Option, Some, None, refl, sym, ap, subst, ◌∙◌, arith, length-append, append_assoc, append-nil}
 use Rattle.std.specs.List.{flat_map}
 use Rattle.std.proofs.Math.Seq.{take-append_seam, drop-length}
 use Rattle.std.proofs.lemmas.List.{length-drop}
@@ -9,14 +9,13 @@ use Rattle.std.proofs.lemmas.Bool.{ltb-true, ltb-false}
 use Rattle.std.proofs.lemmas.Bool.Decides.{nat_tests}
 use Rattle.pl_event.specs.declared.events.Event.{Event}
 use Rattle.pl_event.specs.Meaning.{Meaning}
-use Rattle.pl_event.specs.Inputs.{read_steps, input_after, recorded_input}
+use Rattle.pl_event.specs.Inputs.{read_steps, recorded_input}
 use Rattle.pl_event.specs.Lanes.{head_lane}
 use Rattle.pl_event.proofs.LaneLemmas.{input_after-all}
 use Rattle.pl_replay.specs.declared.outbound.Waiting.{Waiting}
 use Rattle.pl_replay.specs.declared.heads.Head.{Head}
 use Rattle.pl_replay.specs.declared.reads.Reads.{Reads}
 use Rattle.pl_replay.specs.declared.channels.Channel.{Channel}
-use Rattle.pl_replay.specs.declared.report.Stands.{Stands}
 use Rattle.pl_replay.specs.declared.report.Stands.TheVariants.{Drained, Open}
 use Rattle.pl_replay.specs.declared.report.ChannelReport.{ChannelReport}
 use Rattle.pl_replay.specs.Plans.{ChannelPlan}
@@ -26,7 +25,7 @@ use Rattle.pl_replay.specs.Writes.{bytes_of, out, offered, flushed_writes, unflu
 use Rattle.pl_replay.specs.Queue.{numbered}
 use Rattle.pl_replay.specs.HeadStand.{HeadStands}
 use Rattle.pl_replay.specs.ReadsLeft.{steps_left}
-use Rattle.pl_replay.specs.PipelineStand.{PathMeaning, path_of, at_head, Flows}
+use Rattle.pl_replay.specs.PipelineStand.{path_of, at_head, Flows}
 use Rattle.pl_replay.specs.Reports.{has_read_all, report_at, head_of, whole_report}
 use Rattle.pl_replay.specs.ReplayStand.{IsPathOf, ChannelIsAt, IsReported}
 use Rattle.pl_replay.proofs.NetSteps.{all_reported, all_keep}

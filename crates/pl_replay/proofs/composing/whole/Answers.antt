@@ -1,4 +1,4 @@
-use Rattle.std.proofs.Common.{sym, subst, ap, ◌∙◌, ◌≡◌, ◌++◌, [], List}
+use Rattle.std.proofs.Common.{sym, subst, ap, ◌∙◌, ◌≡◌, [], List}
 use Rattle.std.specs.List.{flat_map}
 use Rattle.pl_event.specs.declared.events.Event.{Event}
 use Rattle.pl_event.specs.Inputs.{recorded_input}
