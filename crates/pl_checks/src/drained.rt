@@ -1,12 +1,18 @@
-//! The worked sessions that drain: the report, the status, and nothing on standard error.
+//! The worked sessions that drain: the report, by a schedule and by `plain`, the status, and nothing on standard error.
 
-use crate::running::{answers, line_protocol, piped, replayed, session};
+use crate::running::{answers, composed, line_protocol, piped, replayed, session};
 use std::test::Fail;
 
 /// Says that a session drains with this report.
 fn drains(rt: &HostRuntime, max: u16, bursts: &str, moves: &str, report: &str) -> Result<(), Fail> {
     let text = session(rt, max, bursts)?;
-    answers(replayed(rt, text.as_str(), moves)?, 0, report, "")?;
+    gives(rt, text.as_str(), moves, report)
+}
+
+/// Says that these moves drain the session of a text with this report, which `plain` gives as well.
+fn gives(rt: &HostRuntime, text: &str, moves: &str, report: &str) -> Result<(), Fail> {
+    answers(replayed(rt, text, moves)?, 0, report, "")?;
+    answers(composed(rt, text)?, 0, report, "")?;
     Ok(())
 }
 
@@ -153,8 +159,7 @@ fn encoder_behind_turn(rt: HostRuntime) -> Result<(), Fail> {
     )?;
     let report =
         "channel 0 drained\ntail 3\nActive\nRead Ping\nReadComplete\nbytes 0 -\nwrites 1\n0 Unsupported\n";
-    answers(replayed(&rt, text.as_str(), "R0x4 O0x4")?, 0, report, "")?;
-    Ok(())
+    gives(&rt, text.as_str(), "R0x4 O0x4", report)
 }
 
 // One flush of two passes, and there is only one.
@@ -167,14 +172,13 @@ fn flush_never_comes(rt: HostRuntime) -> Result<(), Fail> {
     let text = piped(&rt, edits.as_str(), "[[\"PING\\n\"]]")?;
     let report =
         "channel 0 drained\ntail 3\nActive\nRead Ping\nReadComplete\nbytes 0 -\nwrites 1\n0 Closed\n";
-    answers(replayed(&rt, text.as_str(), "R0x4 O0x4")?, 0, report, "")?;
-    Ok(())
+    gives(&rt, text.as_str(), "R0x4 O0x4", report)
 }
 
 #[test]
 fn no_channels(rt: HostRuntime) -> Result<(), Fail> {
     let text = r#"{"version":1,"capacity":4,"loops":1,"channels":[]}"#;
-    answers(replayed(&rt, text, "")?, 0, "", "")?;
+    gives(&rt, text, "", "")?;
     let refused = "replay refused: 1 NoSuch\n";
     answers(replayed(&rt, text, "R0")?, 2, "", refused)?;
     answers(replayed(&rt, text, "T0")?, 0, "", "")?;
@@ -192,6 +196,10 @@ const IN_A_GROUP: &str = r#"{"op":"last","name":"lines","kind":"lines","max":64}
 {"op":"last","name":"encode","kind":"encode"},
 {"op":"last","name":"service","kind":"service","group":"g"}"#;
 
+/// Moves of all channels and executors, among them some that are not enabled.
+const ALL_IN_TURN: &str = "R2x3 R0x3 O2 T1 H2 R1x3 H0x8 T1x4 T2x4 H0x4 T1x4 H1x4 T0x4 H1x4 T0x4 \
+    H1x4 T0x4 H1x4 T0x4 H2x4 T0x4 H2x4 T0x4 O0x2 O1 O2";
+
 // Whatever the group, and in whichever order the channels move; executors 0 to 2 are there.
 #[test]
 fn group_placing(rt: HostRuntime) -> Result<(), Fail> {
@@ -203,8 +211,7 @@ fn group_placing(rt: HostRuntime) -> Result<(), Fail> {
     )?;
     let report = format!(in rt.alloc(); "channel 0 {PINGED}channel 1 {PINGED}channel 2 {PINGED}")?;
     let text = text.as_str();
-    let moves = "R2x3 R0x3 O2 T1 H2 R1x3 O0x2 O1";
-    answers(replayed(&rt, text, moves)?, 0, report.as_str(), "")?;
+    gives(&rt, text, ALL_IN_TURN, report.as_str())?;
     answers(
         replayed(&rt, text, "T3")?,
         2,
@@ -229,11 +236,5 @@ fn edits_in_any_order(rt: HostRuntime) -> Result<(), Fail> {
         "[[\"PING\\n\"]]",
     )?;
     let report = format!(in rt.alloc(); "channel 0 {PINGED}")?;
-    answers(
-        replayed(&rt, text.as_str(), "R0x3 O0")?,
-        0,
-        report.as_str(),
-        "",
-    )?;
-    Ok(())
+    gives(&rt, text.as_str(), "R0x3 O0", report.as_str())
 }

@@ -40,9 +40,18 @@ pub(crate) fn session(rt: &HostRuntime, max: u16, bursts: &str) -> Result<String
 
 /// Runs `replay --moves MOVES` on a text.
 pub(crate) fn replayed(rt: &HostRuntime, text: &str, moves: &str) -> Result<Ran, Fail> {
+    run(rt, &["pl_tool", "replay", "--moves", moves], text)
+}
+
+/// Runs `plain` on a text.
+pub(crate) fn composed(rt: &HostRuntime, text: &str) -> Result<Ran, Fail> {
+    run(rt, &["pl_tool", "plain"], text)
+}
+
+fn run(rt: &HostRuntime, line: &[&str], text: &str) -> Result<Ran, Fail> {
     let alloc = rt.alloc();
     let mut words = Vec::new(alloc);
-    for word in ["pl_tool", "replay", "--moves", moves] {
+    for word in line {
         words.push(String::from_str(alloc, word)?)?;
     }
     let mut reader = text.as_bytes();
