@@ -34,6 +34,8 @@ impl<S: Stage> Model for Placed<S> {
 }
 
 impl<S: Stage> Placed<S> {
+    ghost use Rattle.pl_build.specs.Paths.{IsPath};
+
     /// The executor of the context that a hop enters, or None past the head. It takes no memory.
     pub fn executor_of(&self, hop: u16) -> Option<u16>
         ensures executor { result ≡ slice_get self.now.executors hop }
@@ -46,6 +48,7 @@ impl<S: Stage> Placed<S> {
     pub fn inbound(&self) -> u16
         ensures count { result ≡ length self.now.inbound }
         ensures within { result + length self.now.outbound ≤ 32 }
+        ensures path { IsPath S.meaning S.stands_after self.now }
     {
         self.inbound.len() as u16
     }

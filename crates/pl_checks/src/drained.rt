@@ -1,11 +1,13 @@
 //! The worked sessions that drain: the report, by a schedule and by `plain`, the status, and nothing on standard error.
 
-use crate::running::{answers, composed, line_protocol, piped, replayed, session};
+use crate::running::{answers, composed, replayed};
+use crate::sessions;
+use crate::sessions::{LineSession, line_session};
 use std::test::Fail;
 
-/// Says that a session drains with this report.
-fn drains(rt: &HostRuntime, max: u16, bursts: &str, moves: &str, report: &str) -> Result<(), Fail> {
-    let text = session(rt, max, bursts)?;
+/// Says that a session of the line protocol drains with this report.
+fn drains(rt: &HostRuntime, session: LineSession, moves: &str, report: &str) -> Result<(), Fail> {
+    let text = line_session(rt, session)?;
     gives(rt, text.as_str(), moves, report)
 }
 
@@ -20,8 +22,7 @@ fn gives(rt: &HostRuntime, text: &str, moves: &str, report: &str) -> Result<(), 
 fn no_bursts(rt: HostRuntime) -> Result<(), Fail> {
     drains(
         &rt,
-        64,
-        "[]",
+        sessions::NO_BURSTS,
         "R0x2",
         "channel 0 drained\ntail 1\nActive\nbytes 0 -\nwrites 0\n",
     )
@@ -31,8 +32,7 @@ fn no_bursts(rt: HostRuntime) -> Result<(), Fail> {
 fn ping(rt: HostRuntime) -> Result<(), Fail> {
     drains(
         &rt,
-        64,
-        "[[\"PING\\r\\n\"]]",
+        sessions::PING,
         "R0x3 O0",
         "channel 0 drained\ntail 3\nActive\nRead Ping\nReadComplete\nbytes 7 2b504f4e470d0a\nwrites 1\n0 Success\n",
     )
@@ -42,8 +42,7 @@ fn ping(rt: HostRuntime) -> Result<(), Fail> {
 fn line_across_bursts(rt: HostRuntime) -> Result<(), Fail> {
     drains(
         &rt,
-        64,
-        "[[\"PI\"],[\"NG\\n\"]]",
+        sessions::LINE_ACROSS_BURSTS,
         "R0x4 O0x4",
         "channel 0 drained\ntail 4\nActive\nReadComplete\nRead Ping\nReadComplete\nbytes 7 2b504f4e470d0a\nwrites 1\n0 Success\n",
     )
@@ -53,8 +52,7 @@ fn line_across_bursts(rt: HostRuntime) -> Result<(), Fail> {
 fn cr_and_lf_apart(rt: HostRuntime) -> Result<(), Fail> {
     drains(
         &rt,
-        4,
-        "[[\"PING\\r\",\"\\n\"]]",
+        sessions::CR_AND_LF_APART,
         "R0x4 O0x4",
         "channel 0 drained\ntail 3\nActive\nRead Ping\nReadComplete\nbytes 7 2b504f4e470d0a\nwrites 1\n0 Success\n",
     )
@@ -64,8 +62,7 @@ fn cr_and_lf_apart(rt: HostRuntime) -> Result<(), Fail> {
 fn line_too_long(rt: HostRuntime) -> Result<(), Fail> {
     drains(
         &rt,
-        3,
-        "[[\"PING\\n\"]]",
+        sessions::LINE_TOO_LONG,
         "R0x4 O0x4",
         "channel 0 drained\ntail 3\nActive\nCaught TooLong\nReadComplete\nbytes 14 2d45525220746f6f6c6f6e670d0a\nwrites 1\n0 Success\n",
     )
@@ -75,8 +72,7 @@ fn line_too_long(rt: HostRuntime) -> Result<(), Fail> {
 fn echo_and_faults(rt: HostRuntime) -> Result<(), Fail> {
     drains(
         &rt,
-        64,
-        "[[\"ECHO \\nECHO\\n\\n\"]]",
+        sessions::ECHO_AND_FAULTS,
         "R0x4 O0x4",
         "channel 0 drained\ntail 5\nActive\nRead Echo -\nCaught Syntax\nCaught Unknown\nReadComplete\nbytes 30 2b0d0a2d4552522073796e7461780d0a2d45525220756e6b6e6f776e0d0a\nwrites 3\n0 Success\n1 Success\n2 Success\n",
     )
@@ -86,8 +82,7 @@ fn echo_and_faults(rt: HostRuntime) -> Result<(), Fail> {
 fn cr_inside_line(rt: HostRuntime) -> Result<(), Fail> {
     drains(
         &rt,
-        64,
-        "[[\"ECHO a\\r\\r\\n\"]]",
+        sessions::CR_INSIDE_LINE,
         "R0x4 O0x4",
         "channel 0 drained\ntail 3\nActive\nRead Echo 610d\nReadComplete\nbytes 5 2b610d0d0a\nwrites 1\n0 Success\n",
     )
@@ -100,21 +95,14 @@ fn totals(rt: HostRuntime) -> Result<(), Fail> {
     let report = format!(in rt.alloc();
         "channel 0 drained\ntail 6\nActive\nRead Add a 7\nRead Add b 1\nRead Add a 5\nRead Get a\nReadComplete\nbytes 18 3a370d0a3a310d0a3a31320d0a3a31320d0a\nwrites 4\n{THREE_SUCCESSES}3 Success\n"
     )?;
-    drains(
-        &rt,
-        64,
-        "[[\"ADD a 7\\nADD b 1\\nADD a 5\\nGET a\\n\"]]",
-        "R0x4 O0x4",
-        report.as_str(),
-    )
+    drains(&rt, sessions::TOTALS, "R0x4 O0x4", report.as_str())
 }
 
 #[test]
 fn leading_zero(rt: HostRuntime) -> Result<(), Fail> {
     drains(
         &rt,
-        64,
-        "[[\"ADD a 0123\\n\"]]",
+        sessions::LEADING_ZERO,
         "R0x4 O0x4",
         "channel 0 drained\ntail 3\nActive\nCaught Syntax\nReadComplete\nbytes 13 2d4552522073796e7461780d0a\nwrites 1\n0 Success\n",
     )
@@ -125,51 +113,30 @@ fn nine_digits(rt: HostRuntime) -> Result<(), Fail> {
     let report = format!(in rt.alloc();
         "channel 0 drained\ntail 5\nActive\nRead Add a 999999999\nCaught Syntax\nRead Get zz\nReadComplete\nbytes 29 3a3939393939393939390d0a2d4552522073796e7461780d0a3a300d0a\nwrites 3\n{THREE_SUCCESSES}"
     )?;
-    drains(
-        &rt,
-        64,
-        "[[\"ADD a 999999999\\nADD a 1234567890\\nGET zz\\n\"]]",
-        "R0x4 O0x4",
-        report.as_str(),
-    )
+    drains(&rt, sessions::NINE_DIGITS, "R0x4 O0x4", report.as_str())
 }
 
 #[test]
 fn quit(rt: HostRuntime) -> Result<(), Fail> {
     drains(
         &rt,
-        64,
-        "[[\"PING\\nQUIT\\nPING\\nPI\"]]",
+        sessions::QUIT,
         "R0x4 O0x4",
         "channel 0 drained\ntail 3\nActive\nRead Ping\nRead Quit\nbytes 13 2b504f4e470d0a2b4259450d0a\nwrites 2\n0 Success\n1 Success\n",
     )
 }
 
-// The writes of the service do not pass the encoder.
 #[test]
 fn encoder_behind_turn(rt: HostRuntime) -> Result<(), Fail> {
-    let text = piped(
-        &rt,
-        r#"{"op":"last","name":"lines","kind":"lines","max":64},
-{"op":"last","name":"decode","kind":"decode"},
-{"op":"last","name":"lineend","kind":"lineend"},
-{"op":"last","name":"service","kind":"service"},
-{"op":"last","name":"encode","kind":"encode"}"#,
-        "[[\"PING\\n\"]]",
-    )?;
+    let text = sessions::encoder_behind_turn(&rt)?;
     let report =
         "channel 0 drained\ntail 3\nActive\nRead Ping\nReadComplete\nbytes 0 -\nwrites 1\n0 Unsupported\n";
     gives(&rt, text.as_str(), "R0x4 O0x4", report)
 }
 
-// One flush of two passes, and there is only one.
 #[test]
 fn flush_never_comes(rt: HostRuntime) -> Result<(), Fail> {
-    let behind = line_protocol(&rt, 64)?;
-    let edits = format!(in rt.alloc();
-        "{{\"op\":\"last\",\"name\":\"flush_every\",\"kind\":\"flush_every\",\"n\":2}},\n{behind}"
-    )?;
-    let text = piped(&rt, edits.as_str(), "[[\"PING\\n\"]]")?;
+    let text = sessions::flush_never_comes(&rt)?;
     let report =
         "channel 0 drained\ntail 3\nActive\nRead Ping\nReadComplete\nbytes 0 -\nwrites 1\n0 Closed\n";
     gives(&rt, text.as_str(), "R0x4 O0x4", report)
@@ -177,7 +144,7 @@ fn flush_never_comes(rt: HostRuntime) -> Result<(), Fail> {
 
 #[test]
 fn no_channels(rt: HostRuntime) -> Result<(), Fail> {
-    let text = r#"{"version":1,"capacity":4,"loops":1,"channels":[]}"#;
+    let text = sessions::NO_CHANNELS;
     gives(&rt, text, "", "")?;
     let refused = "replay refused: 1 NoSuch\n";
     answers(replayed(&rt, text, "R0")?, 2, "", refused)?;
@@ -189,13 +156,6 @@ fn no_channels(rt: HostRuntime) -> Result<(), Fail> {
 const PINGED: &str =
     "drained\ntail 3\nActive\nRead Ping\nReadComplete\nbytes 7 2b504f4e470d0a\nwrites 1\n0 Success\n";
 
-/// Three channels of the line protocol, with two handlers in a group of two executors.
-const IN_A_GROUP: &str = r#"{"op":"last","name":"lines","kind":"lines","max":64},
-{"op":"last","name":"decode","kind":"decode","group":"g"},
-{"op":"last","name":"lineend","kind":"lineend"},
-{"op":"last","name":"encode","kind":"encode"},
-{"op":"last","name":"service","kind":"service","group":"g"}"#;
-
 /// Moves of all channels and executors, among them some that are not enabled.
 const ALL_IN_TURN: &str = "R2x3 R0x3 O2 T1 H2 R1x3 H0x8 T1x4 T2x4 H0x4 T1x4 H1x4 T0x4 H1x4 T0x4 \
     H1x4 T0x4 H1x4 T0x4 H2x4 T0x4 H2x4 T0x4 O0x2 O1 O2";
@@ -203,14 +163,9 @@ const ALL_IN_TURN: &str = "R2x3 R0x3 O2 T1 H2 R1x3 H0x8 T1x4 T2x4 H0x4 T1x4 H1x4
 // Whatever the group, and in whichever order the channels move; executors 0 to 2 are there.
 #[test]
 fn group_placing(rt: HostRuntime) -> Result<(), Fail> {
-    let channel = format!(in rt.alloc();
-        "{{\"handlers\":[{IN_A_GROUP}],\"bursts\":[[\"PING\\n\"]]}}"
-    )?;
-    let text = format!(in rt.alloc();
-        "{{\"version\":1,\"capacity\":4,\"loops\":1,\"groups\":[{{\"name\":\"g\",\"size\":2}}],\"channels\":[{channel},{channel},{channel}]}}"
-    )?;
-    let report = format!(in rt.alloc(); "channel 0 {PINGED}channel 1 {PINGED}channel 2 {PINGED}")?;
+    let text = sessions::group_placing(&rt)?;
     let text = text.as_str();
+    let report = format!(in rt.alloc(); "channel 0 {PINGED}channel 1 {PINGED}channel 2 {PINGED}")?;
     gives(&rt, text, ALL_IN_TURN, report.as_str())?;
     answers(
         replayed(&rt, text, "T3")?,
@@ -221,20 +176,21 @@ fn group_placing(rt: HostRuntime) -> Result<(), Fail> {
     Ok(())
 }
 
-// All five edits.
 #[test]
 fn edits_in_any_order(rt: HostRuntime) -> Result<(), Fail> {
-    let text = piped(
-        &rt,
-        r#"{"op":"last","name":"service","kind":"service"},
-{"op":"first","name":"spare","kind":"encode"},
-{"op":"before","at":"service","name":"encode","kind":"encode"},
-{"op":"before","at":"encode","name":"lineend","kind":"lineend"},
-{"op":"first","name":"lines","kind":"lines","max":64},
-{"op":"after","at":"lines","name":"decode","kind":"decode"},
-{"op":"remove","name":"spare"}"#,
-        "[[\"PING\\n\"]]",
-    )?;
+    let text = sessions::edits_in_any_order(&rt)?;
     let report = format!(in rt.alloc(); "channel 0 {PINGED}")?;
     gives(&rt, text.as_str(), "R0x3 O0", report.as_str())
+}
+
+// Each of four items goes to the decoder's executor and back.
+#[test]
+fn handover_drained(rt: HostRuntime) -> Result<(), Fail> {
+    let report = format!(in rt.alloc(); "channel 0 {PINGED}")?;
+    gives(
+        &rt,
+        sessions::DECODER_APART,
+        "R0x3 H0 T1 H1 T0 H0 T1 H1 T0 H0 T1 H1 T0 H0 T1 H1 T0 O0",
+        report.as_str(),
+    )
 }

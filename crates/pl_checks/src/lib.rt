@@ -4,8 +4,12 @@
 #[cfg(test)]
 mod drained;
 #[cfg(test)]
+mod fair;
+#[cfg(test)]
 mod refused;
 #[cfg(test)]
 mod running;
 #[cfg(test)]
 mod schedules;
+#[cfg(test)]
+mod sessions;

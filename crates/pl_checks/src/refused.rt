@@ -1,6 +1,7 @@
 //! Sessions and schedules that are refused: the status, the line on standard error, and nothing on standard output.
 
-use crate::running::{answers, line_protocol, piped, replayed, session};
+use crate::running::{answers, replayed};
+use crate::sessions::{DECODER_APART, PING, line_protocol, line_session, piped};
 use std::alloc::AllocError;
 use std::test::Fail;
 
@@ -104,9 +105,15 @@ fn group_refusals(rt: HostRuntime) -> Result<(), Fail> {
 // A channel or an executor that is not there refuses the whole replay, wherever it is named.
 #[test]
 fn refused_moves(rt: HostRuntime) -> Result<(), Fail> {
-    let text = session(&rt, 64, "[[\"PING\\r\\n\"]]")?;
+    let text = line_session(&rt, PING)?;
     for moves in ["R1", "R0x3 O0 O1", "T1", "R0 H7 R0"] {
         refuses(&rt, text.as_str(), moves, 2, "replay refused: 1 NoSuch\n")?;
     }
     Ok(())
+}
+
+// Executors 0 and 1 are there.
+#[test]
+fn no_such_executor(rt: HostRuntime) -> Result<(), Fail> {
+    refuses(&rt, DECODER_APART, "T2", 2, "replay refused: 1 NoSuch\n")
 }

@@ -1,7 +1,6 @@
 //! Runs the program on a session.
 
 use pl_tool::run_tool;
-use std::alloc::AllocError;
 use std::test::Fail;
 
 /// What a run answered: its status, and what it wrote to each writer.
@@ -10,32 +9,6 @@ pub(crate) struct Ran {
     pub(crate) status: u8,
     pub(crate) out: Vec<u8>,
     pub(crate) err: Vec<u8>,
-}
-
-/// The handlers of the line protocol, as edits, but for the first.
-const BEHIND_LINES: &str = r#"{"op":"last","name":"decode","kind":"decode"},
-{"op":"last","name":"lineend","kind":"lineend"},
-{"op":"last","name":"encode","kind":"encode"},
-{"op":"last","name":"service","kind":"service"}"#;
-
-/// A session of one channel with these edits and these bursts, each as JSON.
-pub(crate) fn piped(rt: &HostRuntime, edits: &str, bursts: &str) -> Result<String, AllocError> {
-    format!(in rt.alloc();
-        "{{\"version\":1,\"capacity\":4,\"loops\":1,\"channels\":[{{\"handlers\":[{edits}],\"bursts\":{bursts}}}]}}\n"
-    )
-}
-
-/// The edits of the line protocol, with lines of at most `max` bytes.
-pub(crate) fn line_protocol(rt: &HostRuntime, max: u16) -> Result<String, AllocError> {
-    format!(in rt.alloc();
-        "{{\"op\":\"last\",\"name\":\"lines\",\"kind\":\"lines\",\"max\":{max}}},\n{BEHIND_LINES}"
-    )
-}
-
-/// A session of the line protocol with lines of at most `max` bytes and these bursts, as JSON.
-pub(crate) fn session(rt: &HostRuntime, max: u16, bursts: &str) -> Result<String, AllocError> {
-    let edits = line_protocol(rt, max)?;
-    piped(rt, edits.as_str(), bursts)
 }
 
 /// Runs `replay --moves MOVES` on a text.

@@ -1,15 +1,19 @@
-//! Schedules of the ping session that leave it open, and what each has made of it.
+//! Schedules that leave a ping open, and what each has made of it.
 
-use crate::running::{answers, replayed, session};
+use crate::running::{answers, replayed};
+use crate::sessions::{DECODER_APART, PING, line_session};
 use std::test::Fail;
 
-const PING: &str = "[[\"PING\\r\\n\"]]";
+/// Says that a schedule of the session of a text reports this, and leaves a channel open.
+fn leaves(rt: &HostRuntime, text: &str, moves: &str, report: &str) -> Result<(), Fail> {
+    answers(replayed(rt, text, moves)?, 1, report, "")?;
+    Ok(())
+}
 
 /// Says that a schedule of the ping session reports this, and leaves the channel open.
 fn leaves_open(rt: &HostRuntime, moves: &str, report: &str) -> Result<(), Fail> {
-    let text = session(rt, 64, PING)?;
-    answers(replayed(rt, text.as_str(), moves)?, 1, report, "")?;
-    Ok(())
+    let text = line_session(rt, PING)?;
+    leaves(rt, text.as_str(), moves, report)
 }
 
 // The write is not enabled before the read.
@@ -38,5 +42,27 @@ fn written_before_the_end(rt: HostRuntime) -> Result<(), Fail> {
         &rt,
         "R0x2 O0",
         "channel 0 open\ntail 3\nActive\nRead Ping\nReadComplete\nbytes 7 2b504f4e470d0a\nwrites 1\n0 Success\n",
+    )
+}
+
+// The second hand-over finds the queue full and is passed over.
+#[test]
+fn full_queue_of_one(rt: HostRuntime) -> Result<(), Fail> {
+    leaves(
+        &rt,
+        DECODER_APART,
+        "R0x2 H0x2 T1 H1 T0",
+        "channel 0 open\ntail 1\nActive\nbytes 0 -\nwrites 0\n",
+    )
+}
+
+// All four items went to the decoder and back, and nothing was written.
+#[test]
+fn handover_open(rt: HostRuntime) -> Result<(), Fail> {
+    leaves(
+        &rt,
+        DECODER_APART,
+        "R0x3 H0 T1 H1 T0 H0 T1 H1 T0 H0 T1 H1 T0 H0 T1 H1 T0",
+        "channel 0 open\ntail 3\nActive\nRead Ping\nReadComplete\nbytes 0 -\nwrites 1\n0 Open\n",
     )
 }

@@ -1,5 +1,5 @@
 -- What a buffer offers to the transport.
-use Rattle.std.proofs.Common.{◌≡◌, ℕ, ◌+◌, ◌<◌, ◌≤◌, List, [], ◌∷◌, ◌++◌, length, Bool, true, false, if◌then◌else◌, leb, Option, Some, None, ap, sym, ◌∙◌, refl, arith, length-append, append-nil}
+use Rattle.std.proofs.Common.{◌≡◌, ℕ, ◌+◌, ◌<◌, ◌≤◌, List, [], ◌∷◌, ◌++◌, length, Bool, true, false, if◌then◌else◌, leb, Option, Some, None, ap, sym, ◌∙◌, refl, arith, length-append}
 use Rattle.std.proofs.lemmas.List.{length-drop}
 use Rattle.std.proofs.lemmas.Bool.Decides.{nat_tests}
 use Rattle.pl_event.specs.declared.outcomes.Outcome.{Outcome}
@@ -17,11 +17,6 @@ offered-done start accepted (Some b ∷ done) ws h =
     let test : leb (start + length b) accepted ≡ true = grind (arith, nat_tests) in
     let e : (start + length b) + length (bytes_of done) ≡ start + length (b ++ bytes_of done) = omega (arith, size) in
     rw test (offered-done (start + length b) accepted done ws (omega (arith, e, h)) ∙ ap (λ (k : ℕ). offered k accepted ws) e)
-
--- all flushed bytes were accepted, so nothing is offered
-pub offered-all : (accepted : ℕ) (ws : List (Option (List ℕ))) → length (bytes_of ws) ≤ accepted → offered 0 accepted ws ≡ 0
-offered-all accepted ws all =
-    ap (λ (vs : List (Option (List ℕ))). offered 0 accepted vs) (sym (append-nil ws)) ∙ offered-done 0 accepted ws [] (omega (arith, all))
 
 offered-none : (n start accepted : ℕ) (ws : List (Option (List ℕ))) → length (numbered n ws) ≡ 0 → offered start accepted ws ≡ 0
 offered-none n start accepted [] h = refl

@@ -3,21 +3,13 @@ use Rattle.std.proofs.Common.{◌≡◌, ℕ, ◌+◌, ◌<◌, ◌≤◌, Bool,
 use Rattle.std.specs.Prelude.{All, count_by, position}
 use Rattle.std.specs.List.{list_any, position_or_len}
 use Rattle.std.proofs.lemmas.Grind.{common_steps}
-use Rattle.std.proofs.lemmas.List.{get_or-take, length-take, map_push}
+use Rattle.std.proofs.lemmas.List.{get_or-take, length-take}
 use Rattle.std.proofs.lemmas.Bool.Decides.{nat_tests}
 use Rattle.std.proofs.lemmas.List.Elements.{All-nil, All-cons, All-head, All-tail}
 use Rattle.std.proofs.lemmas.List.Folds.{list_any_none}
 use Rattle.std.proofs.lemmas.List.Quantifiers.{position-Some}
 use Rattle.std.proofs.lemmas.List.Sums.{sum_by-cons}
 use Rattle.pl_event.specs.declared.events.Event.{Event}
-use Rattle.pl_event.specs.Meaning.{Meaning}
-use Rattle.pl_replay.specs.Chains.{ChainStands}
-use Rattle.pl_replay.specs.Plans.{ChannelPlan, channel_planned}
-use Rattle.pl_replay.specs.Numbers.{Numbers, no_moves}
-use Rattle.pl_replay.specs.ReplayStand.{ChannelIsAt, ChannelsAt}
-use Rattle.pl_replay.specs.declared.channels.Channel.{Channel}
-use Rattle.pl_replay.specs.declared.session.Recorded.{Recorded}
-use Rattle.pl_replay.proofs.NetSteps.{channels-push}
 
 -- ---- lists
 
@@ -70,31 +62,3 @@ parted_new {S = S} stands_after inbound before turn behind whole all =
     parts (s ∷ ss) h =
         let rest = parts ss (All-tail (λ (t : S). stands_after t []) s (ss ++ turn ∷ behind) h) in
         (All-cons (λ (t : S). stands_after t []) s ss (All-head (λ (t : S). stands_after t []) s (ss ++ turn ∷ behind) h) rest.0, rest.1, rest.2)
-
-module _ {S : Type 0} (meaning : S → Meaning) (stands_after : S → List Event → Type 0) (makes : Meaning → List Event → List Event) (none : (m : Meaning) → makes m [] ≡ []) where
-  -- handlers that have taken nothing stand as a chain
-  pub chain_new : (ss : List S) → All (λ s. stands_after s []) ss → ChainStands meaning stands_after makes ss []
-  chain_new [] h = tt
-  chain_new (s ∷ ss) h = (
-    All-head (λ (t : S). stands_after t []) s ss h,
-    subst (λ (xs : List Event). ChainStands meaning stands_after makes ss xs) (sym (none (meaning s))) (chain_new ss (All-tail (λ (t : S). stands_after t []) s ss h)),
-  )
-
--- ---- channels
-
-abbrev pub plans : {S : Type 0} → (S → Meaning) → List (Recorded S) → List ChannelPlan
-plans meaning rs = map (channel_planned meaning) rs
-
-abbrev pub starts : List ChannelPlan → List Numbers
-starts ps = map (λ p. no_moves) ps
-
-module _ {S : Type 0} (meaning : S → Meaning) (stands_after : S → List Event → Type 0) where
-  -- one channel more is opened
-  pub opened-push : (rs : List (Recorded S)) (r : Recorded S) (cs : List (Channel S)) (c : Channel S) → ChannelsAt meaning stands_after (plans meaning rs) (starts (plans meaning rs)) cs
-      → ChannelIsAt meaning stands_after (channel_planned meaning r) no_moves c → ChannelsAt meaning stands_after (plans meaning (rs ++ r ∷ [])) (starts (plans meaning (rs ++ r ∷ []))) (cs ++ c ∷ [])
-  opened-push rs r cs c h here =
-      let more : plans meaning (rs ++ r ∷ []) ≡ plans meaning rs ++ channel_planned meaning r ∷ [] = map_push (channel_planned meaning) rs r in
-      let begun : starts (plans meaning rs ++ channel_planned meaning r ∷ []) ≡ starts (plans meaning rs) ++ no_moves ∷ [] = map_push (λ (p : ChannelPlan). no_moves) (plans meaning rs) (channel_planned meaning r) in
-      subst (λ (ps : List ChannelPlan). ChannelsAt meaning stands_after ps (starts ps) (cs ++ c ∷ [])) (sym more)
-      (subst (λ (ns : List Numbers). ChannelsAt meaning stands_after (plans meaning rs ++ channel_planned meaning r ∷ []) ns (cs ++ c ∷ [])) (sym begun)
-      (channels-push meaning stands_after (plans meaning rs) (starts (plans meaning rs)) cs (channel_planned meaning r) no_moves c h here))

@@ -1,10 +1,8 @@
--- What a session plans: the capacity of its queues, its executors, and its channels, each with its path, its marks and
+-- What a world plans: the capacity of its queues, its executors, and its channels, each with its path, its marks and
 -- its bursts of chunks.
 use Rattle.std.specs.Prelude.{ℕ, List, map}
 use Rattle.pl_event.specs.Meaning.{Meaning}
-use Rattle.pl_stages.specs.declared.handlers.Handler.{Handler}
 use Rattle.pl_replay.specs.declared.session.Recorded.{Recorded}
-use Rattle.pl_replay.specs.declared.session.Session.{Session}
 
 pub record ChannelPlan : Type 0 where
   -- what the inbound handlers mean, the turn among them, from first to last
@@ -38,7 +36,3 @@ channel_planned meaning r = record {
 abbrev pub planned : {S : Type 0} → (S → Meaning) → ℕ → ℕ → List (Recorded S) → Plan
 planned meaning capacity executors channels =
     record { capacity = capacity; executors = executors; channels = map (channel_planned meaning) channels }
-
--- the plan of a session
-abbrev pub plan_of : (Handler → Meaning) → Session → Plan
-plan_of meaning s = planned meaning s.capacity s.executors s.channels

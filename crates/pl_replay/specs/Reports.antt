@@ -1,17 +1,15 @@
 -- How a channel stands at its numbers, and the whole report of a drained session (docs/FORMATS.md, "Report").
-use Rattle.std.specs.Prelude.{◌≡◌, ℕ, List, [], ◌∷◌, length, take, Bool, true, if◌then◌else◌, nat_le, ◌||◌, ◌&&◌}
+use Rattle.std.specs.Prelude.{◌≡◌, ℕ, List, length, take, Bool, true, if◌then◌else◌, nat_le, ◌&&◌}
 use Rattle.std.specs.List.{AllZip}
 use Rattle.pl_event.specs.declared.events.Event.{Event}
 use Rattle.pl_event.specs.Meaning.{IsPrefixOf}
-use Rattle.pl_event.specs.Inputs.{read_steps, recorded_input}
-use Rattle.pl_event.specs.Lanes.{tail_lane, head_lane, turn_ended}
+use Rattle.pl_event.specs.Inputs.{recorded_input}
+use Rattle.pl_event.specs.Lanes.{tail_lane, head_lane}
 use Rattle.pl_replay.specs.declared.report.Stands.{Stands}
 use Rattle.pl_replay.specs.declared.report.Stands.TheVariants.{Drained, Open}
 use Rattle.pl_replay.specs.declared.report.ChannelReport.{ChannelReport}
 use Rattle.pl_replay.specs.Plans.{ChannelPlan}
 use Rattle.pl_replay.specs.Writes.{out, outcomes}
-use Rattle.pl_replay.specs.Numbers.{Numbers}
-use Rattle.pl_replay.specs.MoveModel.{input_by, tail_by, head_by}
 
 -- Stands: a channel is drained where tail and head have taken the end of their lanes and no flushed byte is left.
 abbrev pub stands : Bool → Bool → List Event → ℕ → Stands
@@ -27,20 +25,6 @@ channel_report tail head tail_has_ended head_has_ended accepted = record {
   bytes = take accepted (out head);
   writes = outcomes head accepted head_has_ended;
 }
-
--- all read steps were made, so the tail has taken the end of its lane
-abbrev pub has_read_all : List (List (List ℕ)) → Numbers → Bool
-has_read_all bursts n = nat_le (length (read_steps bursts)) n.reads
-
--- what became of a channel by the time of these numbers; its head's lane ends with the input, or when the turn has quit
-abbrev pub report_at : ChannelPlan → Numbers → ChannelReport
-report_at p n =
-    channel_report (tail_by p n) (head_by p n) (has_read_all p.bursts n) (has_read_all p.bursts n || turn_ended p.inbound (input_by p n)) n.accepted
-
-abbrev pub reports_at : List ChannelPlan → List Numbers → List ChannelReport
-reports_at [] ns = []
-reports_at (p ∷ ps) [] = []
-reports_at (p ∷ ps) (n ∷ ns) = report_at p n ∷ reports_at ps ns
 
 -- what the whole recorded input brings to the tail, and to the head
 abbrev pub tail_of : ChannelPlan → List Event

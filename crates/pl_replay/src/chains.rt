@@ -1,48 +1,39 @@
-//! Feeds events through stages, as direct calls within one executor.
+//! Handlers that have taken nothing yet take a whole list of events, one handler after another.
 
-ghost use Rattle.std.specs.Prelude.{◌≡◌, ◌≤◌, List, [], ◌++◌, map, vec_capacity, IfOk, OnOk};
-ghost use Rattle.pl_event.specs.declared.events.Event.{Event};
-ghost use Rattle.pl_event.specs.Meaning.{up_of, down_of, turned_after};
+ghost use Rattle.std.specs.Prelude.{◌≡◌, ◌≤◌, [], map, vec_capacity, All, IfOk};
+ghost use Rattle.pl_event.specs.Meaning.{up_of, down_of};
 ghost use Rattle.pl_event.specs.Lanes.{through, out_through};
 ghost use Rattle.pl_event.specs.Paths.{is_outbound};
-ghost use Rattle.pl_replay.specs.Chains.{ChainStands};
 
-use pl_event::{Direction, Event, Stage, StageFault, Turned};
+use pl_event::{Direction, Event, Stage, StageFault};
 use std::alloc::Global;
 
-/// What a stage makes of events, upwards and downwards, and whether it has quit.
+/// What a stage makes of a list of events, upwards and downwards.
 #[derive(Debug, Drop)]
 pub(crate) struct Made {
     pub(crate) up: Vec<Event>,
     pub(crate) down: Vec<Event>,
-    pub(crate) turned: Turned,
 }
 
-/// One stage takes events, in order. `turned` is its answer to the event before them.
+/// One stage takes the whole list.
 pub(crate) fn pass<S: Stage>(
     alloc: Global,
-    stage: &mut S,
-    turned: Turned,
+    stage: S,
     events: Vec<Event>,
 ) -> Result<Made, StageFault>
-    ensures meaning { S.meaning stage.new ≡ S.meaning stage.old }
-    ensures stands { OnOk result ((xs : List Event) → S.stands_after stage.old xs → S.stands_after stage.new (xs ++ events.items)) }
-    ensures up { IfOk result (λ made. (xs : List Event) → S.stands_after stage.old xs
-        → up_of (S.meaning stage.old) (xs ++ events.items) ≡ up_of (S.meaning stage.old) xs ++ made.up.items) }
-    ensures down { IfOk result (λ made. (xs : List Event) → S.stands_after stage.old xs
-        → down_of (S.meaning stage.old) (xs ++ events.items) ≡ down_of (S.meaning stage.old) xs ++ made.down.items) }
-    ensures turned { IfOk result (λ made. (xs : List Event) → S.stands_after stage.old xs → turned ≡ turned_after (S.meaning stage.old) xs
-        → made.turned ≡ turned_after (S.meaning stage.old) (xs ++ events.items)) }
+    requires new { S.stands_after stage [] }
+    ensures up { IfOk result (λ made. made.up.items ≡ up_of (S.meaning stage) events.items) }
+    ensures down { IfOk result (λ made. made.down.items ≡ down_of (S.meaning stage) events.items) }
 {
     // A handler mostly makes one event of each on the side that it is there for.
     let outbound = is_outbound(stage.direction());
     let mut up = room(alloc, if outbound { 0 } else { events.len() })?;
     let mut down = room(alloc, if outbound { events.len() } else { 0 })?;
-    let mut turned = turned;
+    let mut stage = stage;
     for event in events {
-        turned = stage.step(event, &mut up, &mut down)?;
+        stage.step(event, &mut up, &mut down)?;
     }
-    Ok(Made { up, down, turned })
+    Ok(Made { up, down })
 }
 
 fn is_outbound(direction: Direction) -> bool
@@ -65,40 +56,34 @@ fn room(alloc: Global, events: usize) -> Result<Vec<Event>, StageFault>
     }
 }
 
-/// A chain takes events, each stage what the one before it makes upwards. The last one's are the answer.
+/// Each stage of a chain takes the whole list that the one before it makes upwards. The last one's is the answer.
 pub(crate) fn feed_up<S: Stage>(
     alloc: Global,
-    stages: &mut Vec<S>,
+    stages: Vec<S>,
     events: Vec<Event>,
 ) -> Result<Vec<Event>, StageFault>
-    ensures meanings { map S.meaning stages.new.items ≡ map S.meaning stages.old.items }
-    ensures stands { OnOk result ((xs : List Event) → ChainStands S.meaning S.stands_after up_of stages.old.items xs
-        → ChainStands S.meaning S.stands_after up_of stages.new.items (xs ++ events.items)) }
-    ensures made { IfOk result (λ made. (xs : List Event) → ChainStands S.meaning S.stands_after up_of stages.old.items xs
-        → through (map S.meaning stages.old.items) (xs ++ events.items) ≡ through (map S.meaning stages.old.items) xs ++ made.items) }
+    requires new { All (λ stage. S.stands_after stage []) stages.items }
+    ensures { IfOk result (λ made. made.items ≡ through (map S.meaning stages.items) events.items) }
 {
     let mut events = events;
-    for i in 0..stages.len() {
-        events = pass(alloc, &mut stages[i], Turned::Open, events)?.up;
+    for stage in stages {
+        events = pass(alloc, stage, events)?.up;
     }
     Ok(events)
 }
 
-/// A chain takes events, each stage what the one before it makes downwards. The last one's are the answer.
+/// Each stage of a chain takes the whole list that the one before it makes downwards. The last one's is the answer.
 pub(crate) fn feed_down<S: Stage>(
     alloc: Global,
-    stages: &mut Vec<S>,
+    stages: Vec<S>,
     events: Vec<Event>,
 ) -> Result<Vec<Event>, StageFault>
-    ensures meanings { map S.meaning stages.new.items ≡ map S.meaning stages.old.items }
-    ensures stands { OnOk result ((xs : List Event) → ChainStands S.meaning S.stands_after down_of stages.old.items xs
-        → ChainStands S.meaning S.stands_after down_of stages.new.items (xs ++ events.items)) }
-    ensures made { IfOk result (λ made. (xs : List Event) → ChainStands S.meaning S.stands_after down_of stages.old.items xs
-        → out_through (map S.meaning stages.old.items) (xs ++ events.items) ≡ out_through (map S.meaning stages.old.items) xs ++ made.items) }
+    requires new { All (λ stage. S.stands_after stage []) stages.items }
+    ensures { IfOk result (λ made. made.items ≡ out_through (map S.meaning stages.items) events.items) }
 {
     let mut events = events;
-    for i in 0..stages.len() {
-        events = pass(alloc, &mut stages[i], Turned::Open, events)?.down;
+    for stage in stages {
+        events = pass(alloc, stage, events)?.down;
     }
     Ok(events)
 }

@@ -102,6 +102,19 @@ impl Head {
         }
     }
 
+    /// Copies of the bytes that have left, and of the outcome of each write.
+    pub(crate) fn copies(
+        &self,
+        alloc: Global,
+    ) -> Result<(ByteString, Sequence<Option<Outcome>>), AllocError>
+        ensures prefix { IfOk result (λ parts. (ys : List Event) → HeadStands self.now ys → parts.0 ≡ take (length self.now.bytes.items) (out ys)) }
+        ensures outcomes { IfOk result (λ parts. (ys : List Event) → HeadStands self.now ys → parts.1 ≡ outcomes ys (length self.now.bytes.items) self.now.has_ended) }
+    {
+        let bytes = self.bytes.as_slice().to_vec(alloc)?;
+        let outcomes = Vec::from_slice(alloc, self.buffer.outcomes.as_slice())?;
+        Ok((ByteString::from_vec(bytes), Sequence::from_vec(outcomes)))
+    }
+
     /// The bytes that have left, and the outcome of each write.
     pub(crate) fn into_parts(self) -> (ByteString, Sequence<Option<Outcome>>)
         ensures prefix { (ys : List Event) → HeadStands self ys → result.0 ≡ take (length self.bytes.items) (out ys) }

@@ -33,6 +33,7 @@ impl Reads {
     pub(crate) fn new(alloc: Global, bursts: Sequence<Sequence<ByteString>>) -> Self
         ensures steps { steps_left result ≡ read_steps bursts }
         ensures open { result.has_ended ≡ false }
+        ensures bursts { result.bursts.items ≡ bursts }
     {
         Reads {
             alloc,

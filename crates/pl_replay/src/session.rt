@@ -1,5 +1,8 @@
 //! A session as it is recorded, before any of its moves.
 
+ghost use Rattle.std.specs.Prelude.{◌≤◌};
+
+use crate::worlds::World;
 use pl_build::Placed;
 use pl_event::{ByteString, Sequence, Stage};
 use pl_stages::Handler;
@@ -12,12 +15,12 @@ pub struct Recorded<S: Stage> {
     pub bursts: Sequence<Sequence<ByteString>>,
 }
 
-/// Channels with pipelines of the built-in handlers, placed on executors.
+/// A world of built-in handlers, with queues.
 #[derive(Drop)]
 pub struct Session {
+    pub world: World<Handler>,
     /// How many items a queue between executors holds.
     pub capacity: u32,
-    /// How many executors there are, the loops and those of groups.
-    pub executors: u16,
-    pub channels: Sequence<Recorded<Handler>>,
+    pub ghost holds_one: { 1 ≤ capacity },
+    pub ghost within: { capacity ≤ 65536 },
 }

@@ -2,6 +2,7 @@
 ghost use Rattle.std.specs.Prelude.{[], IfOk};
 
 use super::*;
+use crate::world_tests::world_of;
 use pl_build::{BuildFault, Groups, PipelineBuilder, Placed, Unadded};
 use pl_event::{ByteString, Command, Event, Message, Outcome, Sequence, Stage};
 use pl_stages::{
@@ -12,7 +13,7 @@ use std::process::Abort;
 use std::test::Fail;
 
 #[derive(Clone, Copy)]
-enum Kind {
+pub(crate) enum Kind {
     Lines,
     Decode,
     LineEnd,
@@ -22,7 +23,7 @@ enum Kind {
 }
 
 /// The handlers of the line protocol.
-const LINE_PROTOCOL: [Kind; 5] = [
+pub(crate) const LINE_PROTOCOL: [Kind; 5] = [
     Kind::Lines,
     Kind::Decode,
     Kind::LineEnd,
@@ -30,7 +31,7 @@ const LINE_PROTOCOL: [Kind; 5] = [
     Kind::Service,
 ];
 
-fn handler(alloc: Global, kind: Kind) -> Result<Handler, Fail>
+pub(crate) fn handler(alloc: Global, kind: Kind) -> Result<Handler, Fail>
     ensures { IfOk result (λ handler. ⟦<Handler as Stage>⟧.stands_after handler []) }
 {
     match kind {
@@ -49,14 +50,14 @@ fn handler(alloc: Global, kind: Kind) -> Result<Handler, Fail>
     }
 }
 
-fn added(answer: Result<(), Unadded<Handler>>) -> Result<(), BuildFault> {
+pub(crate) fn added(answer: Result<(), Unadded<Handler>>) -> Result<(), BuildFault> {
     match answer {
         Ok(()) => Ok(()),
         Err(unadded) => Err(unadded.fault),
     }
 }
 
-fn built(
+pub(crate) fn built(
     builder: PipelineBuilder<Handler>,
     groups: &mut Groups,
 ) -> Result<Placed<Handler>, BuildFault> {
@@ -77,7 +78,7 @@ fn pipeline(alloc: Global, groups: &mut Groups, kinds: &[Kind]) -> Result<Placed
     Ok(built(builder, groups)?)
 }
 
-fn text(alloc: Global, bytes: &[u8]) -> Result<ByteString, AllocError> {
+pub(crate) fn text(alloc: Global, bytes: &[u8]) -> Result<ByteString, AllocError> {
     Ok(ByteString::from_vec(Vec::from_slice(alloc, bytes)?))
 }
 
@@ -99,12 +100,20 @@ fn channel(
 }
 
 /// A session of these channels.
-fn session(groups: &Groups, channels: Vec<Recorded<Handler>>) -> Session {
-    Session {
-        capacity: 4,
-        executors: groups.executors(),
-        channels: Sequence::from_vec(channels),
+fn session(
+    alloc: Global,
+    groups: &Groups,
+    channels: Vec<Recorded<Handler>>,
+) -> Result<Session, Fail> {
+    let mut pipelines = Sequence::new(alloc);
+    let mut inputs = Sequence::new(alloc);
+    for recorded in channels {
+        let Recorded { pipeline, bursts } = recorded;
+        pipelines.push(pipeline)?;
+        inputs.push(bursts)?;
     }
+    let world = world_of(alloc, pipelines, inputs, groups.executors())?;
+    Ok(Session { world, capacity: 4 })
 }
 
 /// A session of one channel on one loop.
@@ -112,7 +121,7 @@ fn session_of_one(alloc: Global, kinds: &[Kind], chunk: Option<&[u8]>) -> Result
     let mut groups = Groups::new(alloc, 1, &[])?;
     let recorded = channel(alloc, &mut groups, kinds, chunk)?;
     let channels = vec![in alloc; recorded]?;
-    Ok(session(&groups, channels))
+    session(alloc, &groups, channels)
 }
 
 /// The report of one channel on one loop.
@@ -132,7 +141,7 @@ fn plain_one(alloc: Global, kinds: &[Kind], chunk: Option<&[u8]>) -> Result<Repo
     Ok(plain(alloc, session)?)
 }
 
-fn assert_channel(
+pub(crate) fn assert_channel(
     rt: &impl Abort,
     report: &ChannelReport,
     stands: Stands,
@@ -165,12 +174,12 @@ fn assert_one(
     );
 }
 
-fn read_command(command: Command) -> Event {
+pub(crate) fn read_command(command: Command) -> Event {
     Event::Read(Message::Command(command))
 }
 
 /// What reaches the tail where `PING` is served.
-fn ping_tail() -> [Event; 3] {
+pub(crate) fn ping_tail() -> [Event; 3] {
     [
         Event::Active,
         read_command(Command::Ping),
@@ -261,7 +270,7 @@ fn two_channels(rt: HostRuntime) -> Result<(), Fail> {
         let first = channel(rt.alloc(), &mut groups, &LINE_PROTOCOL, Some(b"PING\n"))?;
         let second = channel(rt.alloc(), &mut groups, &kinds, Some(b"ECHO a\n"))?;
         let channels = vec![in rt.alloc(); first, second]?;
-        let report = replay(rt.alloc(), session(&groups, channels), moves)?;
+        let report = replay(rt.alloc(), session(rt.alloc(), &groups, channels)?, moves)?;
         assert_eq!(rt; report.channels.len(), 2);
         let reports = report.channels.as_slice();
         let writes = [Some(Outcome::Success)];
@@ -299,7 +308,7 @@ fn no_such(rt: HostRuntime) -> Result<(), Fail> {
         let recorded = channel(rt.alloc(), &mut groups, &LINE_PROTOCOL, None)?;
         let channels = vec![in rt.alloc(); recorded]?;
         let moves = [Move::Read(0), step];
-        match replay(rt.alloc(), session(&groups, channels), &moves) {
+        match replay(rt.alloc(), session(rt.alloc(), &groups, channels)?, &moves) {
             Ok(report) => {
                 assert_eq!(rt; want, None);
                 assert_one(&rt, &report, Stands::Open, &[Event::Active], b"", &[]);
@@ -321,10 +330,10 @@ fn no_such(rt: HostRuntime) -> Result<(), Fail> {
 #[test]
 fn no_channels(rt: HostRuntime) -> Result<(), Fail> {
     let groups = Groups::new(rt.alloc(), 1, &[])?;
-    let none = session(&groups, Vec::new(rt.alloc()));
+    let none = session(rt.alloc(), &groups, Vec::new(rt.alloc()))?;
     let report = replay(rt.alloc(), none, &[])?;
     assert_eq!(rt; report.channels.len(), 0);
-    let none = session(&groups, Vec::new(rt.alloc()));
+    let none = session(rt.alloc(), &groups, Vec::new(rt.alloc()))?;
     match replay(rt.alloc(), none, &[Move::Read(0)]) {
         Ok(_) => panic!(rt; "it is replayed"),
         Err(fault) => assert_eq!(rt; fault, ReplayFault::NoSuch),
@@ -430,7 +439,7 @@ fn plain_two_channels(rt: HostRuntime) -> Result<(), Fail> {
     let first = channel(rt.alloc(), &mut groups, &LINE_PROTOCOL, None)?;
     let second = channel(rt.alloc(), &mut groups, &LINE_PROTOCOL, Some(b"PING\n"))?;
     let channels = vec![in rt.alloc(); first, second]?;
-    let report = plain(rt.alloc(), session(&groups, channels))?;
+    let report = plain(rt.alloc(), session(rt.alloc(), &groups, channels)?)?;
     assert_eq!(rt; report.channels.len(), 2);
     let reports = report.channels.as_slice();
     let tail = ping_tail();
@@ -456,7 +465,7 @@ fn plain_two_channels(rt: HostRuntime) -> Result<(), Fail> {
 #[test]
 fn plain_no_channels(rt: HostRuntime) -> Result<(), Fail> {
     let groups = Groups::new(rt.alloc(), 1, &[])?;
-    let none = session(&groups, Vec::new(rt.alloc()));
+    let none = session(rt.alloc(), &groups, Vec::new(rt.alloc()))?;
     let report = plain(rt.alloc(), none)?;
     assert_eq!(rt; report.channels.len(), 0);
     Ok(())

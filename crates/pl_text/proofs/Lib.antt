@@ -10,6 +10,6 @@ pub mod EditSteps
 pub mod EditRuns
 pub mod ChannelSteps
 pub mod ChannelRuns
-pub mod SmallLanes
 pub mod PipelineLimits
 pub mod SessionWithin
+pub mod SessionWorldSteps

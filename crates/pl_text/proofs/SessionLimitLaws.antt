@@ -2,9 +2,11 @@
 use Rattle.std.proofs.Common.{◌≡◌, ◌≤◌, ℕ, ◌&&◌, Bool, true, false, List, [], ◌∷◌, length, Result, Ok, Err, refl, ap, subst, arith, suc}
 use Rattle.std.specs.Prelude.{nat_le, if◌then◌else◌, codes}
 use Rattle.std.specs.List.{AllByRecursion}
+use Rattle.std.proofs.lemmas.Bool.{and_parts, and_from, le-leb}
 use Rattle.std.proofs.lemmas.Bool.Decides.{nat_tests}
 use Rattle.serde_json.specs.Data.{Data}
 use Rattle.serde_json.specs.Find.{get}
+use Rattle.pl_replay.specs.Limits.{chunk_count, byte_count, fits}
 use Rattle.pl_text.specs.declared.session_text.outline.HandlerKind.{HandlerKind}
 use Rattle.pl_text.specs.declared.session_text.outline.HandlerKind.TheVariants.{Lines, Decode, LineEnd, Encode, Service, FlushEvery}
 use Rattle.pl_text.specs.declared.session_text.outline.Operation.{Operation}
@@ -17,7 +19,6 @@ use Rattle.pl_text.specs.declared.session_text.outline.Edit.TheVariants.{First, 
 use Rattle.pl_text.specs.declared.session_text.outline.ChannelOutline.{ChannelOutline}
 use Rattle.pl_text.specs.declared.session_text.outline.Outline.{Outline}
 use Rattle.pl_text.specs.SessionReading.{◌>>=◌, known, whole, whole_in, between, text, same_text, an_object, required, optional, absent, each, elements_of, of_length, array_in, array_of}
-use Rattle.pl_text.specs.SessionLimits.{AreBurstsWithin}
 use Rattle.pl_text.specs.SessionChannels.{operation_in, lines_in, flush_every_in, handler_named, handler_in, addition_in, edit_of, edit_in, mark_in, limited, bursts_in, channel_in}
 use Rattle.pl_text.specs.SessionOutlines.{IsHandlerWithin, IsEditWithin, IsChannelOutlineWithin, IsOutlineWithin, version_in, groups_in, outline_in}
 
@@ -151,14 +152,17 @@ edit_in-within d edit h =
 
 -- ---- channels
 
-bursts_in-within : (d : Data) (bursts : List (List (List ℕ))) → bursts_in d ≡ Ok bursts → AreBurstsWithin bursts
+bursts_in-within : (d : Data) (bursts : List (List (List ℕ))) → bursts_in d ≡ Ok bursts → fits bursts ≡ true
 unfolding bursts_in
 bursts_in-within d bursts h =
     let p = bind-ok (array_in 0 4096 (array_of text) d) limited bursts h in
     let room = choice-ok _ _ _ _ p.2 in
     let array = array_in-within (λ (_ : List (List ℕ)). Unit {0}) 0 4096 (array_of text) (λ _ _ _. tt) d p.0 p.1 in
-    let both = both_le _ _ _ _ room.0 in
-    subst AreBurstsWithin room.1 (record { bursts_at_most = array.1; chunks_at_most = both.0; bytes_at_most = both.1 })
+    let few = nat_le (length p.0) 4096 in
+    let short = nat_le (chunk_count p.0) 16384 in
+    let small = nat_le (byte_count p.0) 1048576 in
+    let both = and_parts short small room.0 in
+    subst (λ (t : List (List (List ℕ))). fits t ≡ true) room.1 (and_from (few && short) small (and_from few short (le-leb (length p.0) 4096 array.1) both.0) both.1)
 
 channel_in-within : (d : Data) (channel : ChannelOutline) → channel_in d ≡ Ok channel → IsChannelOutlineWithin channel
 unfolding channel_in

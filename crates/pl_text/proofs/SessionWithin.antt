@@ -16,6 +16,7 @@ use Rattle.pl_build.specs.Pipelines.{meanings}
 use Rattle.pl_build.specs.Refusals.{unless, grouping_fault, is_within, has_double, executor_count}
 use Rattle.pl_build.specs.Executors.{groups_of}
 use Rattle.pl_replay.specs.Plans.{ChannelPlan, Plan}
+use Rattle.pl_replay.proofs.SmallLanes.{lanes_small}
 use Rattle.pl_text.specs.declared.session_text.fault.SessionFault.TheVariants.{NotJson, Limit}
 use Rattle.pl_text.specs.declared.session_text.outline.ChannelOutline.{ChannelOutline}
 use Rattle.pl_text.specs.declared.session_text.outline.Outline.{Outline}
@@ -27,7 +28,6 @@ use Rattle.pl_text.specs.SessionTexts.{session_in, session_of}
 use Rattle.pl_text.proofs.SessionLimitLaws.{bind-ok, outline_is_within}
 use Rattle.pl_text.proofs.PipelineLimits.{pipeline-within, chains-length, inbound-all, outbound-all, outbound-out, meanings-all}
 use Rattle.pl_stages.specs.Counts.{IsThrifty}
-use Rattle.pl_text.proofs.SmallLanes.{lanes_small}
 
 -- ---- channels
 
@@ -43,7 +43,7 @@ channel_built-within loops sizes earlier outline handlers given h =
       order = within.1;
       high_at_most = within.2;
       bursts = given.bursts;
-      lanes = lanes_small (inbound_chain ms) (outbound_chain ms) outline.bursts (inbound-all IsThrifty ms all) (outbound-all IsThrifty ms all) (outbound-out ms) given.bursts;
+      lanes = λ hop below. lanes_small (inbound_chain ms) (outbound_chain ms) outline.bursts (inbound-all IsThrifty ms all) (outbound-all IsThrifty ms all) (outbound-out ms) given.bursts hop;
     }
 
 channels_built-within : (loops : ℕ) (sizes : List (List ℕ × ℕ)) (earlier : List (List (Option (List ℕ)))) (outlines : List ChannelOutline) (plans : List ChannelPlan)

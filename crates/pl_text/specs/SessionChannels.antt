@@ -1,6 +1,7 @@
 -- What a channel and an edit mean, row by row (docs/FORMATS.md, "Session").
 use Rattle.std.specs.Prelude.{ℕ, ◌&&◌, List, nat_le, if◌then◌else◌, Result, Ok, Err, codes}
 use Rattle.serde_json.specs.Data.{Data}
+use Rattle.pl_replay.specs.Limits.{chunk_count, byte_count}
 use Rattle.pl_text.specs.declared.session_text.fault.SessionFault.{SessionFault}
 use Rattle.pl_text.specs.declared.session_text.fault.SessionFault.TheVariants.{Kind, Limit}
 use Rattle.pl_text.specs.declared.session_text.outline.HandlerKind.{HandlerKind}
@@ -12,7 +13,6 @@ use Rattle.pl_text.specs.declared.session_text.outline.Edit.{Edit}
 use Rattle.pl_text.specs.declared.session_text.outline.Edit.TheVariants.{First, Last, Before, After, Remove}
 use Rattle.pl_text.specs.declared.session_text.outline.ChannelOutline.{ChannelOutline}
 use Rattle.pl_text.specs.SessionReading.{◌>>=◌, whole_in, text, same_text, an_object, required, optional, with_default, absent, array_in, array_of}
-use Rattle.pl_text.specs.SessionLimits.{chunk_count, byte_count}
 
 -- ---- edits
 

@@ -1,7 +1,8 @@
 -- What the members of a session say, row by row (docs/FORMATS.md, "Session").
-use Rattle.std.specs.Prelude.{◌≤◌, ℕ, ◌==◌, List, [], length, if◌then◌else◌, Result, Ok, Err, codes}
+use Rattle.std.specs.Prelude.{◌≡◌, ◌≤◌, ℕ, ◌==◌, List, [], length, true, if◌then◌else◌, Result, Ok, Err, codes}
 use Rattle.std.specs.List.{AllByRecursion}
 use Rattle.serde_json.specs.Data.{Data}
+use Rattle.pl_replay.specs.Limits.{fits}
 use Rattle.pl_text.specs.declared.session_text.fault.SessionFault.{SessionFault}
 use Rattle.pl_text.specs.declared.session_text.fault.SessionFault.TheVariants.{Version}
 use Rattle.pl_text.specs.declared.session_text.outline.HandlerKind.{HandlerKind}
@@ -13,7 +14,6 @@ use Rattle.pl_text.specs.declared.session_text.outline.GroupOutline.{GroupOutlin
 use Rattle.pl_text.specs.declared.session_text.outline.Outline.{Outline}
 use Rattle.pl_text.specs.SessionReading.{◌>>=◌, whole, whole_in, text, an_object, required, with_default, array_in, array_of}
 use Rattle.pl_text.specs.SessionChannels.{channel_in}
-use Rattle.pl_text.specs.SessionLimits.{AreBurstsWithin}
 
 -- ---- the members
 
@@ -63,7 +63,7 @@ IsEditWithin (Remove name) = Unit {0}
 
 pub record IsChannelOutlineWithin (channel : ChannelOutline) : Type 0 where
   pub edits : AllByRecursion IsEditWithin channel.edits
-  pub bursts : AreBurstsWithin channel.bursts
+  pub bursts : fits channel.bursts ≡ true
 
 pub record IsOutlineWithin (outline : Outline) : Type 0 where
   pub capacity_at_least : 1 ≤ outline.capacity

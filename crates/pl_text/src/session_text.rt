@@ -1,7 +1,7 @@
 //! The text of a session (`docs/FORMATS.md`, "Session").
 
 ghost use Rattle.std.specs.Prelude.{IfOk};
-ghost use Rattle.pl_replay.specs.Plans.{plan_of};
+ghost use Rattle.pl_replay.specs.Sessions.{plan_of};
 ghost use Rattle.pl_text.specs.SessionReading.{Answers, seen};
 ghost use Rattle.pl_text.specs.SessionLimits.{IsWithinLimits};
 ghost use Rattle.pl_text.specs.SessionTexts.{session_of};

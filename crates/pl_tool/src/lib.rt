@@ -6,7 +6,8 @@ mod program;
 
 pub use pl_build::BuildFault;
 pub use pl_replay::{
-    ChannelReport, Move, Recorded, ReplayFault, Report, Session, Stands, plain, replay,
+    ChannelReport, Move, Net, Recorded, ReplayFault, Report, Session, Stands, World, WorldRefusal,
+    plain, replay,
 };
 pub use pl_text::{MovesFault, PrintFault, SessionFault, print_report, read_moves, read_session};
 pub use program::{refuse_words, run_tool};

@@ -1,26 +1,29 @@
 //! Builds the pipelines of a session whose members were read.
 
-ghost use Rattle.std.specs.Prelude.{◌≡◌, ◌≢◌, ◌∷◌, [], ◌++◌, map, IfOk, IfErr, OnOk, None, Some, is_some, Ok, Err, if◌then◌else◌};
+ghost use Rattle.std.specs.Prelude.{◌≡◌, ◌≢◌, ◌∷◌, [], ◌++◌, length, map, All, IfOk, IfErr, OnOk, None, Some, is_some, Ok, Err, if◌then◌else◌};
 ghost use Rattle.std.specs.List.{AllByRecursion};
 ghost use Rattle.std.specs.Option.{option_copied};
 ghost use Rattle.pl_build.specs.Names.{names_and_sizes};
 ghost use Rattle.pl_build.specs.Pipelines.{place_of, without};
-ghost use Rattle.pl_build.specs.Refusals.{naming_fault, beside_fault, grouping_fault};
+ghost use Rattle.pl_build.specs.Refusals.{naming_fault, beside_fault, grouping_fault, executor_count};
 ghost use Rattle.pl_build.specs.Executors.{HasPlaced, sizes_of};
 ghost use Rattle.pl_build.specs.declared.faults.BuildFault.TheVariants.{NoSuchName, Memory};
-ghost use Rattle.pl_replay.specs.Plans.{channel_planned, plan_of};
+ghost use Rattle.pl_replay.specs.Plans.{channel_planned};
+ghost use Rattle.pl_replay.specs.Sessions.{plan_of};
+ghost use Rattle.pl_replay.specs.Worlds.{recorded};
 ghost use Rattle.pl_text.specs.SessionReading.{seen};
 ghost use Rattle.pl_text.specs.SessionHandlers.{meaning_of};
 ghost use Rattle.pl_text.specs.SessionOutlines.{IsHandlerWithin, IsEditWithin, IsChannelOutlineWithin, IsOutlineWithin};
+ghost use Rattle.pl_text.specs.SessionWorlds.{FitsWorld, AreWorldly};
 ghost use Rattle.pl_text.specs.SessionBuilding.{Builds, IsChannelBuilt, added, all_edited, channels_built, edited, group_sizes, made_unless, meant, pipeline_built, put_after, put_before, session_built};
 
 use crate::session_text::names::Name;
 use crate::session_text::outline::{
     Addition, ChannelOutline, Edit, GroupOutline, HandlerKind, Outline,
 };
-use pl_build::{BuildFault, Groups, PipelineBuilder};
-use pl_event::{Sequence, Stage};
-use pl_replay::{Recorded, Session};
+use pl_build::{BuildFault, Groups, PipelineBuilder, Placed};
+use pl_event::{ByteString, Sequence, Stage};
+use pl_replay::{Recorded, Session, World, WorldRefusal};
 use pl_stages::{
     CommandDecoder, FlushEvery, Handler, LineEnd, LineFramer, LineService, ReplyEncoder,
 };
@@ -41,11 +44,52 @@ pub(crate) fn session_built(alloc: Global, outline: Outline) -> Result<Session, 
     let mut groups = groups_made(alloc, loops, groups.as_slice())?;
     let executors = groups.executors();
     let channels = channels_built(alloc, &mut groups, channels)?;
-    Ok(Session {
-        capacity,
-        executors,
-        channels,
-    })
+    let world = world_built(alloc, executors, channels)?;
+    Ok(Session { world, capacity })
+}
+
+// ---- the world
+
+/// The world of these channels, which is within the limits of worlds.
+fn world_built(
+    alloc: Global,
+    executors: u16,
+    channels: Sequence<Recorded<Handler>>,
+) -> Result<World<Handler>, AllocError>
+    requires { AreWorldly executors channels }
+    ensures executors { IfOk result (λ world. world.executors ≡ executors) }
+    ensures channels { IfOk result (λ world. world.channels ≡ channels) }
+{
+    let (pipelines, inputs) = parted(alloc, channels)?;
+    match World::new(alloc, pipelines, inputs, executors) {
+        Ok(world) => Ok(world),
+        Err(WorldRefusal::Memory) => Err(AllocError),
+        Err(WorldRefusal::Limit) => unreachable!(),
+    }
+}
+
+/// The pipelines of channels, and their inputs.
+fn parted(
+    alloc: Global,
+    channels: Sequence<Recorded<Handler>>,
+) -> Result<
+    (
+        Sequence<Placed<Handler>>,
+        Sequence<Sequence<Sequence<ByteString>>>,
+    ),
+    AllocError,
+>
+    ensures count { IfOk result (λ parts. length parts.0 ≡ length parts.1) }
+    ensures whole { IfOk result (λ parts. recorded parts.0 parts.1 ≡ channels) }
+{
+    let mut pipelines = Vec::with_capacity(alloc, channels.len())?;
+    let mut inputs = Vec::with_capacity(alloc, channels.len())?;
+    for channel in channels.into_vec() {
+        let Recorded { pipeline, bursts } = channel;
+        pipelines.push(pipeline)?;
+        inputs.push(bursts)?;
+    }
+    Ok((Sequence::from_vec(pipelines), Sequence::from_vec(inputs)))
 }
 
 // ---- groups
@@ -81,8 +125,9 @@ fn channels_built(
 ) -> Result<Sequence<Recorded<Handler>>, BuildFault>
     requires within { AllByRecursion IsChannelOutlineWithin channels }
     requires unused { HasPlaced groups.old [] }
-    ensures { Builds (seen (map (channel_planned ⟦<Handler as Stage>⟧.meaning)) result)
+    ensures built { Builds (seen (map (channel_planned ⟦<Handler as Stage>⟧.meaning)) result)
         (channels_built groups.old.loops (sizes_of groups.old) [] channels) }
+    ensures fit { IfOk result (λ channels. All (FitsWorld (executor_count groups.old.loops (sizes_of groups.old))) channels) }
 {
     let mut built = Vec::with_capacity(alloc, channels.len())?;
     for channel in channels.into_vec() {
@@ -100,6 +145,7 @@ fn channel_built(
 ) -> Result<Recorded<Handler>, BuildFault>
     requires { IsChannelOutlineWithin channel }
     ensures built { IfOk result (λ recorded. IsChannelBuilt groups.old groups.new channel (channel_planned ⟦<Handler as Stage>⟧.meaning recorded)) }
+    ensures fits { IfOk result (λ recorded. FitsWorld (executor_count groups.old.loops (sizes_of groups.old)) recorded) }
     ensures refused { IfErr result (λ e. e ≢ Memory → pipeline_built (sizes_of groups.old) channel ≡ Err e) }
     ensures same_groups { (groups.new.loops ≡ groups.old.loops) × (sizes_of groups.new ≡ sizes_of groups.old) }
 {

@@ -2,8 +2,8 @@
 
 ghost use Rattle.std.specs.Prelude.{◌≡◌, ◌+◌, ◌<◌, length, sum_by, MatchOption, nat_le, ◌&&◌};
 ghost use Rattle.serde_json.specs.View.{view};
+ghost use Rattle.pl_replay.specs.Limits.{chunk_count, byte_count};
 ghost use Rattle.pl_text.specs.SessionReading.{Answers};
-ghost use Rattle.pl_text.specs.SessionLimits.{chunk_count, byte_count};
 ghost use Rattle.pl_text.specs.SessionChannels.{mark_in, bursts_in, channel_in};
 
 use crate::session_text::fault::SessionFault;

@@ -29,8 +29,8 @@ const SERVICE: &str = r#"{"op":"last","name":"service","kind":"service"}"#;
 fn ping_session(rt: HostRuntime) -> Result<(), Fail> {
     let session = read_session(rt.alloc(), PING)?;
     assert_eq!(rt; session.capacity, 4);
-    assert_eq!(rt; session.executors, 1);
-    let channels = session.channels.as_slice();
+    assert_eq!(rt; session.world.executors(), 1);
+    let channels = session.world.channels();
     assert_eq!(rt; channels.len(), 1);
     assert_eq!(rt; channels[0].pipeline.inbound(), 3);
     assert_eq!(rt; channels[0].pipeline.outbound(), 2);
@@ -49,8 +49,8 @@ fn no_channels(rt: HostRuntime) -> Result<(), Fail> {
     let text =
         r#"{"version":1,"capacity":1,"loops":3,"groups":[{"name":"g","size":2}],"channels":[]}"#;
     let session = read_session(rt.alloc(), text)?;
-    assert_eq!(rt; session.executors, 5);
-    assert_eq!(rt; session.channels.len(), 0);
+    assert_eq!(rt; session.world.executors(), 5);
+    assert_eq!(rt; session.world.channels().len(), 0);
     Ok(())
 }
 
@@ -354,7 +354,7 @@ fn texts_that_are_no_json(rt: HostRuntime) -> Result<(), Fail> {
 fn equal_keys(rt: HostRuntime) -> Result<(), Fail> {
     let text = PING.replace(rt.alloc(), r#""loops":1"#, r#""loops":"x","loops":2"#)?;
     let session = read_session(rt.alloc(), text.as_str())?;
-    assert_eq!(rt; session.executors, 2);
+    assert_eq!(rt; session.world.executors(), 2);
     Ok(())
 }
 
@@ -412,7 +412,7 @@ fn members_not_read(rt: HostRuntime) -> Result<(), Fail> {
         {"op":"last","name":"b","kind":"decode","max":0},
         {"op":"remove","name":"b","at":7,"kind":7,"group":7}"#;
     let session = read_session(rt.alloc(), with_edits(&rt, edits, "")?.as_str())?;
-    let channels = session.channels.as_slice();
+    let channels = session.world.channels();
     assert_eq!(rt; channels.len(), 1);
     assert_eq!(rt; channels[0].pipeline.inbound(), 1);
     Ok(())
@@ -428,7 +428,7 @@ fn builder_order(rt: HostRuntime) -> Result<(), Fail> {
         {"op":"after","at":"a","name":"d","kind":"encode"},
         {"op":"remove","name":"b"}"#;
     let session = read_session(rt.alloc(), with_edits(&rt, edits, "")?.as_str())?;
-    let channels = session.channels.as_slice();
+    let channels = session.world.channels();
     assert_eq!(rt; channels.len(), 1);
     assert_eq!(rt; channels[0].pipeline.inbound(), 2);
     assert_eq!(rt; channels[0].pipeline.outbound(), 0);
@@ -454,7 +454,7 @@ fn edit_sides(rt: HostRuntime) -> Result<(), Fail> {
     ] {
         let edits = format!(in rt.alloc(); "{SERVICE},{edit}")?;
         let session = read_session(rt.alloc(), with_edits(&rt, edits.as_str(), "")?.as_str())?;
-        let channels = session.channels.as_slice();
+        let channels = session.world.channels();
         assert_eq!(rt; channels.len(), 1);
         assert_eq!(rt; channels[0].pipeline.outbound(), outbound, "at {edit}");
     }
@@ -663,9 +663,9 @@ fn group_placing(rt: HostRuntime) -> Result<(), Fail> {
         "{{\"version\":1,\"capacity\":4,\"loops\":1,\"groups\":[{{\"name\":\"g\",\"size\":2}}],\"channels\":[{channel},{channel},{channel}]}}"
     )?;
     let session = read_session(rt.alloc(), text.as_str())?;
-    assert_eq!(rt; session.executors, 3);
-    assert_eq!(rt; session.channels.len(), 3);
-    for (channel, executor) in session.channels.as_slice().iter().zip([1, 2, 1]) {
+    assert_eq!(rt; session.world.executors(), 3);
+    assert_eq!(rt; session.world.channels().len(), 3);
+    for (channel, executor) in session.world.channels().iter().zip([1, 2, 1]) {
         for hop in 0..7 {
             let expected = if hop == 1 || hop == 2 { executor } else { 0 };
             assert_eq!(rt;
@@ -686,8 +686,8 @@ fn loops_in_turn(rt: HostRuntime) -> Result<(), Fail> {
     let text = with_edits(&rt, SERVICE, more.repeat(rt.alloc(), 2)?.as_str())?;
     let text = text.replace(rt.alloc(), r#""loops":1"#, r#""loops":2"#)?;
     let session = read_session(rt.alloc(), text.as_str())?;
-    assert_eq!(rt; session.executors, 2);
-    for (channel, executor) in session.channels.as_slice().iter().zip([0, 1, 0]) {
+    assert_eq!(rt; session.world.executors(), 2);
+    for (channel, executor) in session.world.channels().iter().zip([0, 1, 0]) {
         assert_eq!(rt; channel.pipeline.executor_of(0), Some(executor));
     }
     Ok(())
@@ -697,7 +697,7 @@ fn loops_in_turn(rt: HostRuntime) -> Result<(), Fail> {
 fn marks_are_kept(rt: HostRuntime) -> Result<(), Fail> {
     let text = with_edits(&rt, SERVICE, r#","low":4,"high":8"#)?;
     let session = read_session(rt.alloc(), text.as_str())?;
-    let channels = session.channels.as_slice();
+    let channels = session.world.channels();
     assert_eq!(rt; channels.len(), 1);
     assert_eq!(rt; channels[0].pipeline.low(), 4);
     assert_eq!(rt; channels[0].pipeline.high(), 8);

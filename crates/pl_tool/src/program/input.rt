@@ -3,7 +3,7 @@
 ghost use Rattle.std.specs.Prelude.{◌≡◌, ◌⊎◌, ◌≤◌, ◌<◌, List, ℕ, [], ◌++◌, length, false, IfErr, IfOk, OnOk};
 ghost use Rattle.std.specs.Io.KnownBytes.{Consumes, IsAtEnd};
 ghost use Rattle.pl_tool.specs.declared.program.failure.Failure.TheVariants as failure;
-ghost use Rattle.pl_replay.specs.Plans.{plan_of};
+ghost use Rattle.pl_replay.specs.Sessions.{plan_of};
 ghost use Rattle.pl_text.specs.SessionReading.{Answers, seen};
 ghost use Rattle.pl_tool.specs.ProgramOutcomes.{RefusesInput, TakesAtMost, TakesSession, session_of_bytes};
 

@@ -11,6 +11,9 @@ returns-in-Ok-clause-built c =
     (ap (all_edited _) (sym c.as_slice.ensures) ∙ c.in_ok-builder.ensures) (sym c.in_ok-marks.ensures.answer) c.in_ok-marks.ensures.set
     built.allowed built.inbound_path built.outbound_path built.executors built.marks built.counted
 
+pub returns-in-Ok-clause-fits : goal.returns-in-Ok-clause-fits
+returns-in-Ok-clause-fits c = record { placed = c.in-Ok.ensures.executors_are_there; input = c.requires.bursts }
+
 pub returns-clause-refused : goal.returns-clause-refused
 returns-clause-refused c other =
     pipeline_refused meaning-value.it _ c.args.channel c.in_ok-builder.builder c.marks.new.self _ c.in-Err.unbuilt.fault

@@ -1,5 +1,5 @@
 use Rattle.std.proofs.Common.{arith}
-use Rattle.pl_replay.specs.Plans.{plan_of}
+use Rattle.pl_replay.specs.Sessions.{plan_of}
 use Rattle.pl_stages.specs.contracts.handlers.HandlerStage.TheImpl.{meaning-value}
 use Rattle.pl_text.specs.SessionReading.{seen}
 use Rattle.pl_tool.proofs.ProgramInputs.{no_text_means, text_means}

@@ -1,0 +1,130 @@
+//! Every example's session by schedules made here: a fair one drains it and reports what `plain` does, and whatever
+//! random ones come to begins that report.
+
+use crate::sessions;
+use pl_replay::{ChannelReport, Move, Net, Report, Session, Stands, plain};
+use pl_stages::Handler;
+use pl_text::read_session;
+use std::alloc::Global;
+use std::process::Abort;
+use std::test::Fail;
+
+/// Each move that names what is there, once.
+fn all_moves(alloc: Global, channels: u16, executors: u16) -> Result<Vec<Move>, Fail> {
+    let mut moves = Vec::new(alloc);
+    for channel in 0..channels {
+        moves.push(Move::Read(channel))?;
+        moves.push(Move::Out(channel))?;
+    }
+    for executor in 0..executors {
+        moves.push(Move::Task(executor))?;
+        moves.push(Move::Hand(executor))?;
+    }
+    Ok(moves)
+}
+
+/// A net of a session, and all of its moves.
+fn begun(alloc: Global, text: &str) -> Result<(Net<Handler>, Vec<Move>), Fail> {
+    let Session { world, capacity } = read_session(alloc, text)?;
+    let moves = all_moves(alloc, world.channels().len() as u16, world.executors())?;
+    Ok((Net::new(alloc, world, capacity)?, moves))
+}
+
+/// The whole report of a session.
+fn whole(alloc: Global, text: &str) -> Result<Report, Fail> {
+    Ok(plain(alloc, read_session(alloc, text)?)?)
+}
+
+/// Makes each move in turn, round after round, until a whole round moves nothing.
+fn go_round(net: &mut Net<Handler>, moves: &[Move]) -> Result<(), Fail> {
+    for _ in 0..10_000 {
+        let mut has_moved = false;
+        for step in moves {
+            has_moved |= net.apply(*step)?;
+        }
+        if !has_moved {
+            break;
+        }
+    }
+    Ok(())
+}
+
+fn is_prefix<T: PartialEq>(part: &[T], whole: &[T]) -> bool {
+    if part.len() > whole.len() {
+        return false;
+    }
+    part == &whole[..part.len()]
+}
+
+/// Whether what a channel's tail and transport got begins this report, and is all of it where the channel is drained.
+fn begins(part: &ChannelReport, whole: &ChannelReport) -> bool {
+    let is_whole = part.tail.as_slice() == whole.tail.as_slice()
+        && part.bytes.as_slice() == whole.bytes.as_slice()
+        && part.writes.as_slice() == whole.writes.as_slice();
+    is_prefix(part.tail.as_slice(), whole.tail.as_slice())
+        && is_prefix(part.bytes.as_slice(), whole.bytes.as_slice())
+        && (part.stands == Stands::Open || part.stands == whole.stands && is_whole)
+}
+
+fn assert_begins(rt: &impl Abort, part: &Report, whole: &Report, text: &str) {
+    assert_eq!(rt; part.channels.len(), whole.channels.len());
+    for (part, whole) in part
+        .channels
+        .as_slice()
+        .iter()
+        .zip(whole.channels.as_slice())
+    {
+        assert!(rt; begins(part, whole), "{text}");
+    }
+}
+
+#[test]
+fn a_fair_schedule_drains_every_example(rt: HostRuntime) -> Result<(), Fail> {
+    for text in sessions::examples(&rt)? {
+        let text = text.as_str();
+        let (mut net, moves) = begun(rt.alloc(), text)?;
+        go_round(&mut net, moves.as_slice())?;
+        assert!(rt; net.drained(), "{text}");
+        assert_begins(&rt, &net.report()?, &whole(rt.alloc(), text)?, text);
+    }
+    Ok(())
+}
+
+/// The next of a series of numbers, whose upper half is as good as random (Knuth's linear congruential generator).
+fn next_number(number: u64) -> u64 {
+    number
+        .wrapping_mul(6_364_136_223_846_793_005)
+        .wrapping_add(1_442_695_040_888_963_407)
+}
+
+/// Makes so many random moves, and looks at the report after each.
+fn assert_keeps(
+    rt: &impl Abort,
+    alloc: Global,
+    text: &str,
+    seed: u64,
+    count: u16,
+    whole: &Report,
+) -> Result<(), Fail> {
+    let (mut net, moves) = begun(alloc, text)?;
+    assert!(rt; !moves.is_empty());
+    let mut number = seed;
+    for _ in 0..count {
+        number = next_number(number);
+        let place = (number >> 32) % moves.len() as u64;
+        net.apply(moves[place as usize])?;
+        assert_begins(rt, &net.report()?, whole, text);
+    }
+    Ok(())
+}
+
+#[test]
+fn random_schedules_give_prefixes(rt: HostRuntime) -> Result<(), Fail> {
+    for text in sessions::examples(&rt)? {
+        let whole = whole(rt.alloc(), text.as_str())?;
+        for seed in 1..13 {
+            assert_keeps(&rt, rt.alloc(), text.as_str(), seed, 400, &whole)?;
+        }
+    }
+    Ok(())
+}

@@ -1,0 +1,155 @@
+//! The sessions of the examples, as texts.
+
+use std::alloc::AllocError;
+
+/// A session of one channel with the line protocol, all on one executor: how many bytes a line has at most, and the
+/// bursts as JSON.
+pub(crate) type LineSession = (u16, &'static str);
+
+pub(crate) const NO_BURSTS: LineSession = (64, "[]");
+
+pub(crate) const PING: LineSession = (64, r#"[["PING\r\n"]]"#);
+
+pub(crate) const LINE_ACROSS_BURSTS: LineSession = (64, r#"[["PI"],["NG\n"]]"#);
+
+pub(crate) const CR_AND_LF_APART: LineSession = (4, r#"[["PING\r","\n"]]"#);
+
+pub(crate) const LINE_TOO_LONG: LineSession = (3, r#"[["PING\n"]]"#);
+
+pub(crate) const ECHO_AND_FAULTS: LineSession = (64, r#"[["ECHO \nECHO\n\n"]]"#);
+
+pub(crate) const CR_INSIDE_LINE: LineSession = (64, r#"[["ECHO a\r\r\n"]]"#);
+
+pub(crate) const TOTALS: LineSession = (64, r#"[["ADD a 7\nADD b 1\nADD a 5\nGET a\n"]]"#);
+
+pub(crate) const LEADING_ZERO: LineSession = (64, r#"[["ADD a 0123\n"]]"#);
+
+pub(crate) const NINE_DIGITS: LineSession = (
+    64,
+    r#"[["ADD a 999999999\nADD a 1234567890\nGET zz\n"]]"#,
+);
+
+pub(crate) const QUIT: LineSession = (64, r#"[["PING\nQUIT\nPING\nPI"]]"#);
+
+const LINE_SESSIONS: [LineSession; 11] = [
+    NO_BURSTS,
+    PING,
+    LINE_ACROSS_BURSTS,
+    CR_AND_LF_APART,
+    LINE_TOO_LONG,
+    ECHO_AND_FAULTS,
+    CR_INSIDE_LINE,
+    TOTALS,
+    LEADING_ZERO,
+    NINE_DIGITS,
+    QUIT,
+];
+
+/// The handlers of the line protocol, as edits, but for the first.
+const BEHIND_LINES: &str = r#"{"op":"last","name":"decode","kind":"decode"},
+{"op":"last","name":"lineend","kind":"lineend"},
+{"op":"last","name":"encode","kind":"encode"},
+{"op":"last","name":"service","kind":"service"}"#;
+
+/// The edits of the line protocol, with lines of at most `max` bytes.
+pub(crate) fn line_protocol(rt: &HostRuntime, max: u16) -> Result<String, AllocError> {
+    format!(in rt.alloc();
+        "{{\"op\":\"last\",\"name\":\"lines\",\"kind\":\"lines\",\"max\":{max}}},\n{BEHIND_LINES}"
+    )
+}
+
+/// A session of one channel with these edits and these bursts, each as JSON.
+pub(crate) fn piped(rt: &HostRuntime, edits: &str, bursts: &str) -> Result<String, AllocError> {
+    format!(in rt.alloc();
+        "{{\"version\":1,\"capacity\":4,\"loops\":1,\"channels\":[{{\"handlers\":[{edits}],\"bursts\":{bursts}}}]}}\n"
+    )
+}
+
+/// The text of a session of the line protocol.
+pub(crate) fn line_session(rt: &HostRuntime, session: LineSession) -> Result<String, AllocError> {
+    let (max, bursts) = session;
+    let edits = line_protocol(rt, max)?;
+    piped(rt, edits.as_str(), bursts)
+}
+
+/// The writes of the service do not pass the encoder.
+pub(crate) fn encoder_behind_turn(rt: &HostRuntime) -> Result<String, AllocError> {
+    piped(
+        rt,
+        r#"{"op":"last","name":"lines","kind":"lines","max":64},
+{"op":"last","name":"decode","kind":"decode"},
+{"op":"last","name":"lineend","kind":"lineend"},
+{"op":"last","name":"service","kind":"service"},
+{"op":"last","name":"encode","kind":"encode"}"#,
+        r#"[["PING\n"]]"#,
+    )
+}
+
+/// One flush of two passes, and there is only one.
+pub(crate) fn flush_never_comes(rt: &HostRuntime) -> Result<String, AllocError> {
+    let behind = line_protocol(rt, 64)?;
+    let edits = format!(in rt.alloc();
+        "{{\"op\":\"last\",\"name\":\"flush_every\",\"kind\":\"flush_every\",\"n\":2}},\n{behind}"
+    )?;
+    piped(rt, edits.as_str(), r#"[["PING\n"]]"#)
+}
+
+/// All five edits.
+pub(crate) fn edits_in_any_order(rt: &HostRuntime) -> Result<String, AllocError> {
+    piped(
+        rt,
+        r#"{"op":"last","name":"service","kind":"service"},
+{"op":"first","name":"spare","kind":"encode"},
+{"op":"before","at":"service","name":"encode","kind":"encode"},
+{"op":"before","at":"encode","name":"lineend","kind":"lineend"},
+{"op":"first","name":"lines","kind":"lines","max":64},
+{"op":"after","at":"lines","name":"decode","kind":"decode"},
+{"op":"remove","name":"spare"}"#,
+        r#"[["PING\n"]]"#,
+    )
+}
+
+pub(crate) const NO_CHANNELS: &str = r#"{"version":1,"capacity":4,"loops":1,"channels":[]}"#;
+
+/// Two handlers of the line protocol in a group.
+const IN_A_GROUP: &str = r#"{"op":"last","name":"lines","kind":"lines","max":64},
+{"op":"last","name":"decode","kind":"decode","group":"g"},
+{"op":"last","name":"lineend","kind":"lineend"},
+{"op":"last","name":"encode","kind":"encode"},
+{"op":"last","name":"service","kind":"service","group":"g"}"#;
+
+/// Three channels with two handlers in a group of two executors.
+pub(crate) fn group_placing(rt: &HostRuntime) -> Result<String, AllocError> {
+    let channel = format!(in rt.alloc();
+        "{{\"handlers\":[{IN_A_GROUP}],\"bursts\":[[\"PING\\n\"]]}}"
+    )?;
+    format!(in rt.alloc();
+        "{{\"version\":1,\"capacity\":4,\"loops\":1,\"groups\":[{{\"name\":\"g\",\"size\":2}}],\"channels\":[{channel},{channel},{channel}]}}"
+    )
+}
+
+/// A ping whose decoder has an executor of its own, behind queues of one item.
+pub(crate) const DECODER_APART: &str =
+    r#"{"version":1,"capacity":1,"loops":1,"groups":[{"name":"a","size":1}],"channels":[{"handlers":[
+{"op":"last","name":"lines","kind":"lines","max":64},
+{"op":"last","name":"decode","kind":"decode","group":"a"},
+{"op":"last","name":"lineend","kind":"lineend"},
+{"op":"last","name":"encode","kind":"encode"},
+{"op":"last","name":"service","kind":"service"}],
+"bursts":[["PING\r\n"]]}]}"#;
+
+/// The text of each example's session, each once.
+pub(crate) fn examples(rt: &HostRuntime) -> Result<Vec<String>, AllocError> {
+    let alloc = rt.alloc();
+    let mut texts = Vec::new(alloc);
+    for session in LINE_SESSIONS {
+        texts.push(line_session(rt, session)?)?;
+    }
+    texts.push(encoder_behind_turn(rt)?)?;
+    texts.push(flush_never_comes(rt)?)?;
+    texts.push(edits_in_any_order(rt)?)?;
+    texts.push(String::from_str(alloc, NO_CHANNELS)?)?;
+    texts.push(group_placing(rt)?)?;
+    texts.push(String::from_str(alloc, DECODER_APART)?)?;
+    Ok(texts)
+}

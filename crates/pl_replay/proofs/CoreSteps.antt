@@ -1,0 +1,155 @@
+-- What a core holds when its work list, one of its executors or one of its channels has changed.
+use Rattle.std.proofs.Common.{◌≡◌, ◌≢◌, ℕ, ◌+◌, ◌<◌, ◌≤◌, Some, None, List, [], ◌∷◌, length, set, get_or, sym, ap, ◌∙◌, subst, arith, inl, inr}
+use Rattle.std.specs.List.{slice_get}
+use Rattle.std.proofs.lemmas.List.{length-set, get_or-set_same, get_or-set_other}
+use Rattle.std.proofs.lemmas.List.Elements.{All-get_or}
+use Rattle.std.proofs.lemmas.Option.{none-some, slice_get_cases, slice_get_within, slice_get-get_or, get_or_from_slice_get, same_Some}
+use Rattle.std.proofs.lemmas.Bool.{cases_eq, cases_lt}
+use Rattle.pl_event.specs.declared.events.Event.{Event}
+use Rattle.pl_event.specs.Meaning.{Meaning}
+use Rattle.pl_replay.specs.declared.placed_channels.PlacedChannel.{PlacedChannel}
+use Rattle.pl_replay.specs.declared.executors.Executor.{Executor}
+use Rattle.pl_replay.specs.declared.nets.Core.{Core}
+use Rattle.pl_replay.specs.Plans.{ChannelPlan, Plan}
+use Rattle.pl_replay.specs.MadeItems.{Place}
+use Rattle.pl_replay.specs.PlanRules.{IsSmallPlan}
+use Rattle.pl_replay.specs.States.{ChannelState, ExecutorState, State, channel_at, executor_at, with_channel, with_executor}
+use Rattle.pl_replay.specs.Envelopes.{envelopes_at, IsSmallChannel}
+use Rattle.pl_replay.specs.BacklogStand.{ExecutorStands, AllKeep}
+use Rattle.pl_replay.proofs.Backlogs.{stands-kept}
+use Rattle.pl_replay.specs.NetStand.{lanes_between, all_made, ChannelStands, CoreHolds}
+use Rattle.pl_replay.proofs.StateLemmas.{channel_at-same, channel_at-other, executor_at-same, executor_at-other}
+
+-- ---- a list in which one has changed
+
+at_set_same : {A : Type 0} (xs : List A) (i : ℕ) (a y : A) → i < length xs → slice_get (set xs i a) i ≡ Some y → a ≡ y
+at_set_same xs i a y within here =
+    sym (get_or-set_same xs i a a within) ∙ get_or_from_slice_get (set xs i a) i y a here
+
+at_set_other : {A : Type 0} (xs : List A) (i j : ℕ) (a y : A) → j ≢ i → slice_get (set xs i a) j ≡ Some y → slice_get xs j ≡ Some y
+at_set_other {A = A} xs i j a y other here =
+    let within = slice_get_within (set xs i a) j y here in
+    let size = length-set xs i a in
+    slice_get-get_or xs j y (omega (arith, within, size))
+    ∙ ap (λ (z : A). Some z) (sym (get_or-set_other xs i j a y other) ∙ get_or_from_slice_get (set xs i a) j y y here)
+
+pub slice_get_none : {A : Type 0} (xs : List A) (i : ℕ) → slice_get xs i ≡ None → length xs ≤ i
+slice_get_none [] i gone = omega arith
+slice_get_none (x ∷ xs) i gone = elim (cases_lt i (length (x ∷ xs))) [
+  | inl within ↦ absurd (none-some (get_or (x ∷ xs) i x) (sym gone ∙ slice_get-get_or (x ∷ xs) i x within))
+  | inr past ↦ past
+]
+
+-- ---- plans
+
+pub small_at : (plan : Plan) → IsSmallPlan plan → (c : ℕ) (p : ChannelPlan) → slice_get plan.channels c ≡ Some p → IsSmallChannel p
+small_at plan small c p here =
+    subst IsSmallChannel (get_or_from_slice_get plan.channels c p p here)
+    (All-get_or IsSmallChannel plan.channels c p (slice_get_within plan.channels c p here) small.channels)
+
+module _ {S : Type 0} (meaning : S → Meaning) (stands_after : S → List Event → Type 0) where
+  -- ---- what is there
+
+  module _ (plan : Plan) (s : State) (listed : List Place) (core : Core S) (h : CoreHolds meaning stands_after plan s listed core) where
+    -- the plan of one of its channels
+    pub plan_at : (c : ℕ) → c < length core.channels.items → (p : ChannelPlan) × (slice_get plan.channels c ≡ Some p)
+    plan_at c within = elim (slice_get_cases plan.channels c).1 [
+      | inl at ↦ (at.0, at.2)
+      | inr past ↦ absurd (omega (arith, within, past.0, h.channel_count))
+    ]
+
+    pub channel_there : (c : ℕ) (p : ChannelPlan) → slice_get plan.channels c ≡ Some p → c < length core.channels.items
+    channel_there c p here = let within = slice_get_within plan.channels c p here in omega (arith, within, h.channel_count)
+
+  -- ---- changes
+
+  module _ (plan : Plan) (s : State) (listed : List Place) (core : Core S) (h : CoreHolds meaning stands_after plan s listed core)
+      (after : Core S) (later : List Place) (capacity : after.capacity ≡ core.capacity) (work : after.work.items ≡ envelopes_at plan later) (stopped : after.work.stopped ≡ core.work.stopped) where
+    -- the work list changes, and no longer list stands on it
+    pub holds_work : after.channels.items ≡ core.channels.items → after.executors.items ≡ core.executors.items → length later ≤ length listed → CoreHolds meaning stands_after plan s later after
+    holds_work channels executors shorter = record {
+      capacity = capacity ∙ h.capacity;
+      executor_count = ap (λ (l : List Executor). length l) executors ∙ h.executor_count;
+      channel_count = ap (λ (l : List (PlacedChannel S)). length l) channels ∙ h.channel_count;
+      channels = λ c p channel here at. h.channels c p channel here (ap (λ (l : List (PlacedChannel S)). slice_get l c) (sym channels) ∙ at);
+      executors = λ y e at. h.executors y e (ap (λ (l : List Executor). slice_get l y) (sym executors) ∙ at);
+      ages = λ y e at. let old = h.ages y e (ap (λ (l : List Executor). slice_get l y) (sym executors) ∙ at) in omega (arith, old, shorter);
+      work = work;
+      stopped = stopped ∙ h.stopped;
+    }
+
+    -- so does an executor
+    pub holds_executor : (y : ℕ) (e : Executor) (now : ExecutorState) → after.channels.items ≡ core.channels.items → after.executors.items ≡ set core.executors.items y e
+        → y < length core.executors.items → y < length s.executors → ExecutorStands plan (lanes_between plan y) now e → length later ≤ length listed → e.next_age + length later ≤ all_made plan s
+        → CoreHolds meaning stands_after plan (with_executor s y now) later after
+    holds_executor y e now channels executors within there stands shorter young = record {
+      capacity = capacity ∙ h.capacity;
+      executor_count = ap (λ (l : List Executor). length l) executors ∙ length-set core.executors.items y e ∙ h.executor_count;
+      channel_count = ap (λ (l : List (PlacedChannel S)). length l) channels ∙ h.channel_count;
+      channels = λ c p channel here at. h.channels c p channel here (ap (λ (l : List (PlacedChannel S)). slice_get l c) (sym channels) ∙ at);
+      executors = λ z f at. let found = ap (λ (l : List Executor). slice_get l z) (sym executors) ∙ at in elim (cases_eq z y) [
+        | inl same ↦
+            let is = at_set_same core.executors.items y e f within (ap (λ (k : ℕ). slice_get (set core.executors.items y e) k) (sym same) ∙ found) in
+            subst (λ (k : ℕ). ExecutorStands plan (lanes_between plan k) (executor_at (with_executor s y now) k) f) (sym same)
+            (subst (λ (g : Executor). ExecutorStands plan (lanes_between plan y) (executor_at (with_executor s y now) y) g) is
+            (subst (λ (t : ExecutorState). ExecutorStands plan (lanes_between plan y) t e) (sym (executor_at-same s y now there)) stands))
+        | inr other ↦
+            subst (λ (t : ExecutorState). ExecutorStands plan (lanes_between plan z) t f) (sym (executor_at-other s y z now other))
+            (h.executors z f (at_set_other core.executors.items y z e f other found))
+      ];
+      ages = λ z f at. let found = ap (λ (l : List Executor). slice_get l z) (sym executors) ∙ at in elim (cases_eq z y) [
+        | inl same ↦
+            let is = at_set_same core.executors.items y e f within (ap (λ (k : ℕ). slice_get (set core.executors.items y e) k) (sym same) ∙ found) in
+            subst (λ (g : Executor). g.next_age + length later ≤ all_made plan s) is young
+        | inr other ↦ let old = h.ages z f (at_set_other core.executors.items y z e f other found) in omega (arith, old, shorter)
+      ];
+      work = work;
+      stopped = stopped ∙ h.stopped;
+    }
+
+    -- so does a channel, which has made the items that the list has more
+    pub holds_channel : (c : ℕ) (p : ChannelPlan) (old channel : PlacedChannel S) (now : ChannelState) → slice_get plan.channels c ≡ Some p → slice_get core.channels.items c ≡ Some old
+        → after.channels.items ≡ set core.channels.items c channel → after.executors.items ≡ core.executors.items
+        → c < length s.channels → ChannelStands meaning stands_after c p now channel
+        → all_made plan s + length later ≤ all_made plan (with_channel s c now) + length listed
+        → CoreHolds meaning stands_after plan (with_channel s c now) later after
+    holds_channel c p old channel now here was channels executors there stands grown =
+        let within = slice_get_within core.channels.items c old was in
+        record {
+          capacity = capacity ∙ h.capacity;
+          executor_count = ap (λ (l : List Executor). length l) executors ∙ h.executor_count;
+          channel_count = ap (λ (l : List (PlacedChannel S)). length l) channels ∙ length-set core.channels.items c channel ∙ h.channel_count;
+          channels = λ d q other here_too at. let found = ap (λ (l : List (PlacedChannel S)). slice_get l d) (sym channels) ∙ at in elim (cases_eq d c) [
+            | inl same ↦
+                let is = at_set_same core.channels.items c channel other within (ap (λ (k : ℕ). slice_get (set core.channels.items c channel) k) (sym same) ∙ found) in
+                let plan_is : p ≡ q = same_Some p q (sym here ∙ ap (λ (k : ℕ). slice_get plan.channels k) (sym same) ∙ here_too) in
+                subst (λ (k : ℕ). ChannelStands meaning stands_after k q (channel_at (with_channel s c now) k) other) (sym same)
+                (subst (λ (r : ChannelPlan). ChannelStands meaning stands_after c r (channel_at (with_channel s c now) c) other) plan_is
+                (subst (λ (g : PlacedChannel S). ChannelStands meaning stands_after c p (channel_at (with_channel s c now) c) g) is
+                (subst (λ (t : ChannelState). ChannelStands meaning stands_after c p t channel) (sym (channel_at-same s c now there)) stands)))
+            | inr off ↦
+                subst (λ (t : ChannelState). ChannelStands meaning stands_after d q t other) (sym (channel_at-other s c d now off))
+                (h.channels d q other here_too (at_set_other core.channels.items c d channel other off found))
+          ];
+          executors = λ y e at. h.executors y e (ap (λ (l : List Executor). slice_get l y) (sym executors) ∙ at);
+          ages = λ y e at. let young = h.ages y e (ap (λ (l : List Executor). slice_get l y) (sym executors) ∙ at) in omega (arith, young, grown);
+          work = work;
+          stopped = stopped ∙ h.stopped;
+        }
+
+    -- so do executors, each of which keeps what waits
+    pub holds_kept : after.channels.items ≡ core.channels.items → AllKeep core.executors.items after.executors.items → length later ≤ length listed → CoreHolds meaning stands_after plan s later after
+    holds_kept channels keep shorter = record {
+      capacity = capacity ∙ h.capacity;
+      executor_count = keep.count ∙ h.executor_count;
+      channel_count = ap (λ (l : List (PlacedChannel S)). length l) channels ∙ h.channel_count;
+      channels = λ c p channel here at. h.channels c p channel here (ap (λ (l : List (PlacedChannel S)). slice_get l c) (sym channels) ∙ at);
+      executors = λ y e at. let was = keep.each y e at in stands-kept plan (lanes_between plan y) (executor_at s y) was.0 e was.2 (h.executors y was.0 was.1);
+      ages = λ y e at.
+          let was = keep.each y e at in
+          let old = h.ages y was.0 was.1 in
+          let same = was.2.next_age in
+          omega (arith, old, same, shorter);
+      work = work;
+      stopped = stopped ∙ h.stopped;
+    }

@@ -1,0 +1,124 @@
+-- The first element of a list that passes a test: found, and taken out.
+use Rattle.std.proofs.Common.{◌≡◌, ℕ, zero, suc, ◌+◌, ◌<◌, Bool, true, false, cond, not, ltb, Option, Some, None, List, [], ◌∷◌, ◌++◌, length, map, get_or, take, drop, refl, sym, ap, ap₂, ◌∙◌, subst, arith, inl, inr}
+use Rattle.std.specs.List.{All, filter, find, position, position_or_len, remove, slice_get}
+use Rattle.std.specs.Option.{option_map}
+use Rattle.std.proofs.lemmas.List.{length-map, take-map, drop-map, map-append}
+use Rattle.std.proofs.lemmas.List.Quantifiers.{position-Some}
+use Rattle.std.proofs.lemmas.List.Folds.{find_at}
+use Rattle.std.proofs.lemmas.List.Elements.{All-head, All-tail}
+use Rattle.std.proofs.lemmas.Option.{slice_get_within, slice_get_cases, none-some, same_Some, cond_some}
+use Rattle.std.proofs.lemmas.Bool.{cases_Bool, cond-true, cond-false, ltb-true, lt-ltb, le-ltb}
+
+-- the element at i passes, and none before it does
+pub record IsFirst {X : Type 0} (p : X → Bool) (xs : List X) (i : ℕ) : Type 0 where
+  pub within : i < length xs
+  pub passes : (d : X) → p (get_or xs i d) ≡ true
+  pub before : (k : ℕ) (d : X) → k < i → p (get_or xs k d) ≡ false
+
+module _ {X : Type 0} (p : X → Bool) where
+  pub find-filter : (xs : List X) → find p xs ≡ slice_get (filter p xs) 0
+  find-filter [] = refl
+  find-filter (x ∷ xs) =
+      elim (p x) as (λ b. cond b (Some x) (find p xs) ≡ slice_get (cond b (x ∷ filter p xs) (filter p xs)) 0) [ true ↦ refl | false ↦ find-filter xs ]
+
+  pub position-first : (xs : List X) (i : ℕ) → position p xs ≡ Some i → IsFirst p xs i
+  position-first xs i found = record {
+    within =
+        let hit = cond_some (ltb (position_or_len p xs) (length xs)) (position_or_len p xs) i found in
+        omega (arith, ltb-true (position_or_len p xs) (length xs) hit.0, hit.1);
+    passes = λ d. (position-Some p xs i d found).1;
+    before = λ k d below. (position-Some p xs i d found).2 k below;
+  }
+
+  abbrev next : (x : X) (xs : List X) (i : ℕ) → IsFirst p (x ∷ xs) (suc i) → IsFirst p xs i
+  next x xs i f = record {
+    within = omega (arith, f.within);
+    passes = λ d. f.passes d;
+    before = λ k d below. f.before (suc k) d (omega (arith, below));
+  }
+
+  pub first-position_or_len : (xs : List X) (i : ℕ) → IsFirst p xs i → position_or_len p xs ≡ i
+  first-position_or_len [] i f = absurd (omega (arith, f.within))
+  first-position_or_len (x ∷ xs) zero f = ap (λ (b : Bool). cond (not b) (1 + position_or_len p xs) 0) (f.passes x)
+  first-position_or_len (x ∷ xs) (suc i) f =
+      ap (λ (b : Bool). cond (not b) (1 + position_or_len p xs) 0) (f.before 0 x (omega arith))
+      ∙ (let rest = first-position_or_len xs i (next x xs i f) in omega (arith, rest))
+
+  pub position-is : (xs : List X) (i : ℕ) → IsFirst p xs i → position p xs ≡ Some i
+  position-is xs i f =
+      ap (λ (n : ℕ). cond (ltb n (length xs)) (Some n) None) (first-position_or_len xs i f)
+      ∙ cond-true (ltb i (length xs)) (Some i) None (lt-ltb i (length xs) f.within)
+
+  pub find-first : (xs : List X) (i : ℕ) → IsFirst p xs i → find p xs ≡ slice_get xs i
+  find-first xs i f = find_at p xs ∙ ap (slice_get xs) (first-position_or_len xs i f)
+
+  -- without its first element that passes
+  pub filter-remove_first : (xs : List X) (i : ℕ) → IsFirst p xs i → filter p (remove xs i) ≡ drop 1 (filter p xs)
+  filter-remove_first [] i f = absurd (omega (arith, f.within))
+  filter-remove_first (x ∷ xs) zero f = sym (ap (λ (b : Bool). drop 1 (cond b (x ∷ filter p xs) (filter p xs))) (f.passes x))
+  filter-remove_first (x ∷ xs) (suc i) f =
+      let off = f.before 0 x (omega arith) in
+      ap (λ (b : Bool). cond b (x ∷ filter p (remove xs i)) (filter p (remove xs i))) off
+      ∙ filter-remove_first xs i (next x xs i f)
+      ∙ sym (ap (λ (b : Bool). drop 1 (cond b (x ∷ filter p xs) (filter p xs))) off)
+
+  -- without one that does not pass
+  pub filter-remove_other : (xs : List X) (i : ℕ) → i < length xs → ((d : X) → p (get_or xs i d) ≡ false) → filter p (remove xs i) ≡ filter p xs
+  filter-remove_other [] i within off = absurd (omega (arith, within))
+  filter-remove_other (x ∷ xs) zero within off = sym (ap (λ (b : Bool). cond b (x ∷ filter p xs) (filter p xs)) (off x))
+  filter-remove_other (x ∷ xs) (suc i) within off =
+      ap (λ (l : List X). cond (p x) (x ∷ l) l) (filter-remove_other xs i (omega (arith, within)) off)
+
+  -- nothing passes
+  pub find-None-position : (xs : List X) → find p xs ≡ None → position p xs ≡ None
+  find-None-position xs none = elim (slice_get_cases xs (position_or_len p xs)).1 [
+    | inl here ↦ absurd (none-some here.0 (sym none ∙ find_at p xs ∙ here.2))
+    | inr past ↦ cond-false (ltb (position_or_len p xs) (length xs)) (Some (position_or_len p xs)) None (le-ltb (position_or_len p xs) (length xs) past.0)
+  ]
+
+  -- one that passes is found
+  pub find-Some-position : (xs : List X) (y : X) → find p xs ≡ Some y → (i : ℕ) × (position p xs ≡ Some i) × (slice_get xs i ≡ Some y)
+  find-Some-position xs y found =
+      let n = position_or_len p xs in
+      let at = sym (find_at p xs) ∙ found in
+      (n, cond-true (ltb n (length xs)) (Some n) None (lt-ltb n (length xs) (slice_get_within xs n y at)), at)
+
+  -- what holds of all holds of the one that is found
+  pub find-All : (P : X → Type 0) (xs : List X) (y : X) → All P xs → find p xs ≡ Some y → P y
+  find-All P [] y all found = absurd (none-some y found)
+  find-All P (x ∷ xs) y all found = elim (cases_Bool (p x)) [
+    | inl passes ↦ subst P (same_Some x y (sym (cond-true (p x) (Some x) (find p xs) passes) ∙ found)) (All-head P x xs all)
+    | inr fails ↦ find-All P xs y (All-tail P x xs all) (sym (cond-false (p x) (Some x) (find p xs) fails) ∙ found)
+  ]
+
+pub find-none : {X : Type 0} (p : X → Bool) (xs : List X) → All (λ x. p x ≡ false) xs → find p xs ≡ None
+find-none p [] off = refl
+find-none {X} p (x ∷ xs) off =
+    ap (λ (b : Bool). cond b (Some x) (find p xs)) (All-head (λ y. p y ≡ false) x xs off) ∙ find-none p xs (All-tail (λ y. p y ≡ false) x xs off)
+
+-- two tests that agree on a list find the same
+pub find-agree : {X : Type 0} (p q : X → Bool) (xs : List X) → All (λ x. p x ≡ q x) xs → find p xs ≡ find q xs
+find-agree p q [] same = refl
+find-agree {X} p q (x ∷ xs) same =
+    ap₂ (λ (b : Bool) (o : Option X). cond b (Some x) o) (All-head (λ y. p y ≡ q y) x xs same) (find-agree p q xs (All-tail (λ y. p y ≡ q y) x xs same))
+
+pub remove-map : {X Y : Type 0} (f : X → Y) (xs : List X) (i : ℕ) → remove (map f xs) i ≡ map f (remove xs i)
+remove-map {X} {Y} f xs i =
+    ap₂ (λ (a b : List Y). a ++ b) (take-map f i xs) (drop-map f (suc i) xs) ∙ sym (map-append f (take i xs) (drop (suc i) xs))
+
+position_or_len-map : {X Y : Type 0} (f : X → Y) (p : Y → Bool) (xs : List X) → position_or_len p (map f xs) ≡ position_or_len (λ x. p (f x)) xs
+position_or_len-map f p [] = refl
+position_or_len-map f p (x ∷ xs) = ap (λ (n : ℕ). cond (not (p (f x))) (1 + n) 0) (position_or_len-map f p xs)
+
+pub position-map : {X Y : Type 0} (f : X → Y) (p : Y → Bool) (xs : List X) → position p (map f xs) ≡ position (λ x. p (f x)) xs
+position-map f p xs =
+    ap₂ (λ (n size : ℕ). cond (ltb n size) (Some n) None) (position_or_len-map f p xs) (length-map xs f)
+
+pub option_map-map : {X Y Z : Type 0} (f : X → Y) (g : Y → Z) (o : Option X) → option_map g (option_map f o) ≡ option_map (λ x. g (f x)) o
+option_map-map f g None = refl
+option_map-map f g (Some x) = refl
+
+pub find-map : {X Y : Type 0} (f : X → Y) (p : Y → Bool) (xs : List X) → find p (map f xs) ≡ option_map f (find (λ x. p (f x)) xs)
+find-map f p [] = refl
+find-map f p (x ∷ xs) =
+    elim (p (f x)) as (λ b. cond b (Some (f x)) (find p (map f xs)) ≡ option_map f (cond b (Some x) (find (λ x. p (f x)) xs))) [ true ↦ refl | false ↦ find-map f p xs ]

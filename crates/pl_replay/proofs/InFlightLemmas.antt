@@ -1,0 +1,197 @@
+-- What waits in a net that stands, by lanes: the account of the numbers, as envelopes.
+use Rattle.std.proofs.Common.{◌≡◌, ℕ, zero, suc, ◌+◌, ◌-◌, ◌<◌, ◌≤◌, Bool, true, false, cond, Option, Some, None, List, [], ◌∷◌, ◌++◌, length, map, get_or, refl, sym, ap, ap₂, ◌∙◌, subst, arith, inl, inr}
+use Rattle.std.specs.List.{filter, range_with_len, slice_get}
+use Rattle.std.specs.Option.{option_map_or}
+use Rattle.std.proofs.lemmas.List.{map-append, get_or_past}
+use Rattle.std.proofs.lemmas.List.Elements.{filter-append}
+use Rattle.std.proofs.lemmas.Option.{none-some, slice_get_cases}
+use Rattle.std.proofs.lemmas.Bool.{cases_Bool, eq-eqb}
+use Rattle.pl_event.specs.declared.events.Event.{Event}
+use Rattle.pl_event.specs.declared.envelopes.Item.{Item}
+use Rattle.pl_event.specs.declared.envelopes.Item.TheVariants as item
+use Rattle.pl_event.specs.declared.envelopes.Envelope.{Envelope}
+use Rattle.pl_event.specs.Fitting.{FitFrom}
+use Rattle.pl_replay.specs.CoreMoves.{target}
+use Rattle.pl_replay.specs.Plans.{ChannelPlan, Plan}
+use Rattle.pl_replay.specs.PlanRules.{IsPlan}
+use Rattle.pl_replay.specs.MadeItems.{Place, content, head_hop, places}
+use Rattle.pl_replay.specs.States.{ExecutorState, State, nothing_waits, channel_at, executor_at, taken_at}
+use Rattle.pl_replay.specs.LaneAccount.{made_at, origin_by, is_on, numbers_on, IsAccounted}
+use Rattle.pl_replay.specs.Envelopes.{item_by, items_from, data_lane, envelopes_of, envelope_at, envelopes_at}
+use Rattle.pl_replay.specs.BacklogStand.{Aged, is_for, is_aged_for, entry_at, ExecutorStands}
+use Rattle.pl_replay.specs.InFlight.{on_lane, queued_at, kept_for, waiting_on, IsInOrder}
+use Rattle.pl_replay.specs.declared.executors.Executor.{Executor}
+use Rattle.pl_replay.specs.declared.executors.Waiting.{Waiting}
+use Rattle.pl_replay.proofs.Flights.{is_on-parts}
+use Rattle.pl_replay.proofs.StateLemmas.{queue_at, backlog_at}
+use Rattle.pl_replay.proofs.Accounts.{to_lane}
+use Rattle.pl_replay.proofs.CallSteps.{planned-at, executor-there, made_at-le}
+use Rattle.pl_replay.proofs.LaneItems.{items_from-append}
+
+-- ---- lists
+
+filter-map : {X Y : Type 0} (f : X → Y) (test : Y → Bool) (xs : List X) → filter test (map f xs) ≡ map f (filter (λ x. test (f x)) xs)
+filter-map f test [] = refl
+filter-map {X} {Y} f test (x ∷ xs) =
+    elim (test (f x)) as (λ (b : Bool). cond b (f x ∷ filter test (map f xs)) (filter test (map f xs)) ≡ map f (cond b (x ∷ filter (λ y. test (f y)) xs) (filter (λ y. test (f y)) xs))) [
+      | true ↦ ap (λ (l : List Y). f x ∷ l) (filter-map f test xs)
+      | false ↦ filter-map f test xs
+    ]
+
+map-map : {X Y Z : Type 0} (f : X → Y) (g : Y → Z) (xs : List X) → map g (map f xs) ≡ map (λ x. g (f x)) xs
+map-map f g [] = refl
+map-map {Z = Z} f g (x ∷ xs) = ap (λ (l : List Z). g (f x) ∷ l) (map-map f g xs)
+
+-- what passes one test passes the other too
+filter-wider : {X : Type 0} (p q : X → Bool) → ((x : X) → p x ≡ true → q x ≡ true) → (xs : List X) → filter p (filter q xs) ≡ filter p xs
+filter-wider p q wider [] = refl
+filter-wider {X} p q wider (x ∷ xs) = elim (cases_Bool (p x)) [
+  | inl on ↦
+      ap (λ (b : Bool). filter p (cond b (x ∷ filter q xs) (filter q xs))) (wider x on)
+      ∙ ap (λ (l : List X). cond (p x) (x ∷ l) l) (filter-wider p q wider xs)
+  | inr off ↦
+      elim (q x) as (λ (b : Bool). filter p (cond b (x ∷ filter q xs) (filter q xs)) ≡ filter p xs) [
+        | true ↦ skipped (filter q xs) off ∙ filter-wider p q wider xs
+        | false ↦ filter-wider p q wider xs
+      ]
+      ∙ sym (skipped xs off)
+]
+  where
+    skipped : (l : List X) → p x ≡ false → filter p (x ∷ l) ≡ filter p l
+    skipped l off = ap (λ (b : Bool). cond b (x ∷ filter p l) (filter p l)) off
+
+none-past : {X : Type 0} (xs : List X) (n : ℕ) → slice_get xs n ≡ None → length xs ≤ n
+none-past xs n none = elim (slice_get_cases xs n).1 [ inl here ↦ absurd (none-some here.0 (sym none ∙ here.2)) | inr past ↦ past.0 ]
+
+-- ---- the items of one lane
+
+-- the place of a number
+abbrev place_at : ℕ → ℕ → ℕ → Place
+place_at c hop n = record { channel = c; hop = hop; number = n }
+
+-- those on a lane are the places of their numbers
+places_on : (c hop : ℕ) (xs : List Place) → filter (is_on c hop) xs ≡ map (place_at c hop) (numbers_on c hop xs)
+places_on c hop [] = refl
+places_on c hop (x ∷ xs) = elim (cases_Bool (is_on c hop x)) [
+  | inl on ↦
+      let at = is_on-parts c hop x on in
+      ap (λ (b : Bool). cond b (x ∷ filter (is_on c hop) xs) (filter (is_on c hop) xs)) on
+      ∙ ap₂ (λ (i : Place) (l : List Place). i ∷ l) (ap₂ (λ (k h : ℕ). record { channel = k; hop = h; number = x.number }) at.0 at.1) (places_on c hop xs)
+      ∙ sym (ap (λ (b : Bool). map (place_at c hop) (map (λ (i : Place). i.number) (cond b (x ∷ filter (is_on c hop) xs) (filter (is_on c hop) xs)))) on)
+  | inr off ↦
+      ap (λ (b : Bool). cond b (x ∷ filter (is_on c hop) xs) (filter (is_on c hop) xs)) off
+      ∙ places_on c hop xs
+      ∙ sym (ap (λ (b : Bool). map (place_at c hop) (map (λ (i : Place). i.number) (cond b (x ∷ filter (is_on c hop) xs) (filter (is_on c hop) xs)))) off)
+]
+
+abbrev envelope_with : ℕ → ℕ → ℕ → Item → Envelope
+envelope_with c hop n i = record { lane = data_lane c hop; number = n; item = i }
+
+-- their envelopes, by the plan and by the channel's
+envelopes_alike : (plan : Plan) (c : ℕ) (p : ChannelPlan) → slice_get plan.channels c ≡ Some p → (hop : ℕ) (ns : List ℕ)
+    → envelopes_at plan (map (place_at c hop) ns) ≡ envelopes_of p (map (place_at c hop) ns)
+envelopes_alike plan c p here hop [] = refl
+envelopes_alike plan c p here hop (n ∷ ns) =
+    ap₂ (λ (o : Option ChannelPlan) (l : List Envelope). envelope_with c hop n (option_map_or (λ (q : ChannelPlan). item_by (content q hop) n) o item.End) ∷ l) here (envelopes_alike plan c p here hop ns)
+
+items_of-envelopes : (p : ChannelPlan) (c hop : ℕ) (ns : List ℕ) → map (λ (e : Envelope). e.item) (envelopes_of p (map (place_at c hop) ns)) ≡ map (item_by (content p hop)) ns
+items_of-envelopes p c hop [] = refl
+items_of-envelopes p c hop (n ∷ ns) = ap (λ (l : List Item). item_by (content p hop) n ∷ l) (items_of-envelopes p c hop ns)
+
+-- The first items of a lane fit, up to its end.
+pub fit_from : (events : List Event) (n count : ℕ) → n + count ≤ length events + 1 → FitFrom events n (items_from events n count)
+fit_from events n zero within = tt
+fit_from events n (suc count) within = by (slice_get events n) refl (fit_from events (n + 1) count (omega (arith, within)))
+  where
+    by : (o : Option Event) → slice_get events n ≡ o → FitFrom events (n + 1) (items_from events (n + 1) count)
+        → FitFrom events n (option_map_or (λ event. item.Event event) (slice_get events n) item.End ∷ items_from events (n + 1) count)
+    by (Some e) is rest =
+        subst (λ (o : Option Event). FitFrom events n (option_map_or (λ event. item.Event event) o item.End ∷ items_from events (n + 1) count)) (sym is)
+        (is, (λ ends. absurd (cc ends)), rest)
+    by None is rest =
+        let past = none-past events n is in
+        let last : n ≡ length events = omega (arith, past, within) in
+        let none : count ≡ 0 = omega (arith, past, within) in
+        subst (λ (o : Option Event). FitFrom events n (option_map_or (λ event. item.Event event) o item.End ∷ items_from events (n + 1) count)) (sym is)
+        (last, (λ ends. ap (items_from events (n + 1)) none), rest)
+
+-- ---- the executors of a net
+
+abbrev kept_of : Option Executor → ℕ → List Envelope
+kept_of o y = option_map_or (λ e. option_map_or (λ w. map (λ entry. entry.0) w.backlog.items) (slice_get e.waiting.items y) []) o []
+
+module _ (plan : Plan) (ok : IsPlan plan) (s : State) (a : IsAccounted plan 0 s []) (executors : List Executor) (size : length executors ≡ plan.executors) (places_for : ℕ → ℕ → ℕ)
+    (stand : (y : ℕ) (e : Executor) → slice_get executors y ≡ Some e → ExecutorStands plan (places_for y) (executor_at s y) e) where
+  -- what is queued at an executor
+  queued-is : (y : ℕ) → queued_at executors y ≡ envelopes_at plan (queue_at s y)
+  queued-is y = by (slice_get executors y) refl
+    where
+      by : (o : Option Executor) → slice_get executors y ≡ o → option_map_or (λ e. e.queue.items) (slice_get executors y) [] ≡ envelopes_at plan (queue_at s y)
+      by (Some e) is = ap (λ (o : Option Executor). option_map_or (λ e. e.queue.items) o []) is ∙ (stand y e is).queue
+      by None is =
+          ap (λ (o : Option Executor). option_map_or (λ e. e.queue.items) o []) is
+          ∙ sym (ap (λ (t : ExecutorState). envelopes_at plan t.queue) (get_or_past s.executors y nothing_waits (omega (arith, none-past executors y is, size, a.executors))))
+
+  -- what one executor keeps for another that is there
+  kept-is : (x y : ℕ) → y < plan.executors → kept_for executors x y ≡ envelopes_at plan (filter (is_for plan y) (backlog_at s x))
+  kept-is x y there = by (slice_get executors x) refl
+    where
+      one : (e : Executor) → ExecutorStands plan (places_for x) (executor_at s x) e → option_map_or (λ w. map (λ entry. entry.0) w.backlog.items) (slice_get e.waiting.items y) [] ≡ envelopes_at plan (filter (is_for plan y) (backlog_at s x))
+      one e st = elim (slice_get_cases e.waiting.items y).1 [
+        | inl at ↦
+            let ws = st.stands.waiting y at.0 at.2 in
+            ap (λ (o : Option Waiting). option_map_or (λ w. map (λ entry. entry.0) w.backlog.items) o []) at.2
+            ∙ ap (map (λ (entry : Envelope × ℕ). entry.0)) ws.items
+            ∙ map-map (entry_at plan) (λ (entry : Envelope × ℕ). entry.0) (filter (is_aged_for plan y) st.aged)
+            ∙ sym (map-map (λ (i : Aged). i.place) (envelope_at plan) (filter (is_aged_for plan y) st.aged))
+            ∙ ap (envelopes_at plan) (sym (filter-map (λ (i : Aged). i.place) (is_for plan y) st.aged) ∙ ap (filter (is_for plan y)) (sym st.backlog))
+        | inr past ↦ absurd (omega (arith, past.0, st.stands.targets, there))
+      ]
+
+      by : (o : Option Executor) → slice_get executors x ≡ o → kept_for executors x y ≡ envelopes_at plan (filter (is_for plan y) (backlog_at s x))
+      by (Some e) is = ap (λ (o : Option Executor). kept_of o y) is ∙ one e (stand x e is)
+      by None is =
+          ap (λ (o : Option Executor). kept_of o y) is
+          ∙ sym (ap (λ (t : ExecutorState). envelopes_at plan (filter (is_for plan y) t.backlog)) (get_or_past s.executors x nothing_waits (omega (arith, none-past executors x is, size, a.executors))))
+
+  module _ (c : ℕ) (p : ChannelPlan) (here : slice_get plan.channels c ≡ Some p) (hop : ℕ) (within : hop ≤ head_hop p) where
+    abbrev y : ℕ
+    y = get_or p.executors hop 0
+
+    abbrev taken : ℕ
+    taken = taken_at s c hop
+
+    abbrev made : ℕ
+    made = made_at p (channel_at s c) hop
+
+    waiting-is : waiting_on executors p c hop ≡ envelopes_of p (places c hop taken made)
+    waiting-is =
+        let q = queue_at s y in
+        let b = backlog_at s (origin_by p hop) in
+        let there = executor-there plan ok c p hop here within in
+        let envelope = envelope_at plan in
+        ap₂ (λ (l r : List Envelope). filter (on_lane c hop) (l ++ r)) (queued-is y) (kept-is (origin_by p hop) y there)
+        ∙ ap (filter (on_lane c hop)) (sym (map-append envelope q (filter (is_for plan y) b)))
+        ∙ filter-map envelope (on_lane c hop) (q ++ filter (is_for plan y) b)
+        ∙ ap (envelopes_at plan)
+        (filter-append (is_on c hop) q (filter (is_for plan y) b)
+        ∙ ap (λ (l : List Place). filter (is_on c hop) q ++ l) (filter-wider (is_on c hop) (is_for plan y) (λ i on. eq-eqb (target plan i) y (to_lane plan c p here hop i on)) b)
+        ∙ ap₂ (λ (l r : List Place). l ++ r) (places_on c hop q) (places_on c hop b)
+        ∙ sym (map-append (place_at c hop) (numbers_on c hop q) (numbers_on c hop b))
+        ∙ ap (map (place_at c hop)) (a.lanes c p hop here within).1)
+        ∙ envelopes_alike plan c p here hop (range_with_len taken (made - taken))
+
+    pub in_order : IsInOrder executors p c hop s
+    in_order = record {
+      taken = (a.lanes c p hop here within).0;
+      waiting = waiting-is;
+      first =
+          let events = content p hop in
+          let start : taken ≡ 0 + taken = omega arith in
+          let all : taken + (made - taken) ≡ made = omega (arith, (a.lanes c p hop here within).0) in
+          ap (λ (l : List Envelope). items_from events 0 taken ++ map (λ (e : Envelope). e.item) l) waiting-is
+          ∙ ap (λ (l : List Item). items_from events 0 taken ++ l) (items_of-envelopes p c hop (range_with_len taken (made - taken)))
+          ∙ ap (λ (n : ℕ). items_from events 0 taken ++ items_from events n (made - taken)) start
+          ∙ sym (items_from-append events 0 taken (made - taken) made all);
+      fit = fit_from (content p hop) 0 made (omega (arith, made_at-le plan.executors p (planned-at plan ok c p here) (channel_at s c) hop));
+    }

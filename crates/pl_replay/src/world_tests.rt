@@ -1,0 +1,92 @@
+// Which worlds are refused.
+use crate::net_tests::{bursts, line_protocol, pipeline};
+use crate::worlds::{World, WorldRefusal};
+use pl_build::{Groups, Placed};
+use pl_event::{ByteString, Sequence};
+use pl_stages::Handler;
+use std::alloc::Global;
+use std::test::Fail;
+
+/// A world of built-in handlers, whose lanes are small.
+pub(crate) fn world_of(
+    alloc: Global,
+    pipelines: Sequence<Placed<Handler>>,
+    inputs: Sequence<Sequence<Sequence<ByteString>>>,
+    executors: u16,
+) -> Result<World<Handler>, WorldRefusal> {
+    World::new(alloc, pipelines, inputs, executors)
+}
+
+/// The refusal of so many channels with the line protocol, with so many inputs.
+fn refusal(
+    alloc: Global,
+    channels: usize,
+    inputs: usize,
+    executors: u16,
+    input: &[&[&[u8]]],
+) -> Result<Option<WorldRefusal>, Fail> {
+    let mut groups = Groups::new(alloc, 1, &[])?;
+    let mut pipelines = Sequence::new(alloc);
+    for _ in 0..channels {
+        let kinds = line_protocol(None, None);
+        pipelines.push(pipeline(alloc, &mut groups, &kinds)?)?;
+    }
+    let mut all = Sequence::new(alloc);
+    for _ in 0..inputs {
+        all.push(bursts(alloc, input)?)?;
+    }
+    match world_of(alloc, pipelines, all, executors) {
+        Ok(_) => Ok(None),
+        Err(refusal) => Ok(Some(refusal)),
+    }
+}
+
+#[test]
+fn too_many_channels(rt: HostRuntime) -> Result<(), Fail> {
+    for (channels, inputs, executors, want) in [
+        (16, 16, 1, None),
+        (17, 17, 1, Some(WorldRefusal::Limit)),
+        (1, 1, 16, None),
+        (1, 1, 17, Some(WorldRefusal::Limit)),
+        (1, 1, 0, Some(WorldRefusal::Limit)),
+        (1, 2, 1, Some(WorldRefusal::Limit)),
+        (2, 1, 1, Some(WorldRefusal::Limit)),
+    ] {
+        let found = refusal(rt.alloc(), channels, inputs, executors, &[&[b"PING\n"]])?;
+        assert_eq!(rt; found, want);
+    }
+    Ok(())
+}
+
+#[test]
+fn too_long_inputs(rt: HostRuntime) -> Result<(), Fail> {
+    let alloc = rt.alloc();
+    let none: &[&[u8]] = &[];
+    for (count, want) in [(4_096, None), (4_097, Some(WorldRefusal::Limit))] {
+        let bursts = vec![in alloc; none; count]?;
+        assert_eq!(rt; refusal(alloc, 1, 1, 1, bursts.as_slice())?, want);
+    }
+    let chunk: &[u8] = b"";
+    for (count, want) in [(16_384, None), (16_385, Some(WorldRefusal::Limit))] {
+        let chunks = vec![in alloc; chunk; count]?;
+        assert_eq!(rt; refusal(alloc, 1, 1, 1, &[chunks.as_slice()])?, want);
+    }
+    for (count, want) in [(1_048_576, None), (1_048_577, Some(WorldRefusal::Limit))] {
+        let bytes = vec![in alloc; b'a'; count]?;
+        assert_eq!(rt; refusal(alloc, 1, 1, 1, &[&[bytes.as_slice()]])?, want);
+    }
+    Ok(())
+}
+
+/// A refusal is told by its number and its name.
+#[test]
+fn names_of_refusals(rt: HostRuntime) -> Result<(), Fail> {
+    for (refusal, name) in [
+        (WorldRefusal::Memory, "1 Memory"),
+        (WorldRefusal::Limit, "2 Limit"),
+    ] {
+        let told = format!(in rt.alloc(); "{refusal}")?;
+        assert_eq!(rt; told.as_str(), name);
+    }
+    Ok(())
+}
