@@ -21,13 +21,13 @@ UNIT = "PING\r\nPING\nPING\n"
 LINE_PROTOCOL = ["lines", "decode", "lineend", "encode", "service"]
 
 
-def last(name, kind):
-    edit = {"op": "last", "name": name, "kind": kind}
+def last(name, kind, group=None):
+    edit = {"op": "last", "name": name, "kind": kind, "group": group}
     return {**edit, "max": 8192} if kind == "lines" else edit
 
 
-def channel(bursts, kinds=LINE_PROTOCOL):
-    return {"handlers": [last(f"{kind}{i}", kind) for i, kind in enumerate(kinds)], "bursts": bursts}
+def channel(bursts, kinds=LINE_PROTOCOL, groups={}):
+    return {"handlers": [last(f"{kind}{i}", kind, groups.get(kind)) for i, kind in enumerate(kinds)], "bursts": bursts}
 
 
 def every_move(channels, outs):
@@ -38,8 +38,13 @@ def every_move(channels, outs):
 
 
 def workload(channels, outs):
-    session = {"version": 1, "capacity": 4, "loops": 1, "channels": channels}
-    return json.dumps(session, separators=(",", ":")).encode(), every_move(channels, outs), sum(held(one) for one in channels)
+    return placed(channels, every_move(channels, outs))
+
+
+def placed(channels, moves, capacity=4, groups=()):
+    """Executor 0 is the loop, and the groups, each of size 1, are the executors from 1 on."""
+    session = {"version": 1, "capacity": capacity, "loops": 1, "groups": [{"name": name, "size": 1} for name in groups], "channels": channels}
+    return json.dumps(session, separators=(",", ":")).encode(), moves, sum(held(one) for one in channels)
 
 
 def held(one):
@@ -85,6 +90,26 @@ def channels(count):
     return workload([channel([[PING * 10922]]) for _ in range(count)], 10922)
 
 
+def hand_overs(capacity):
+    """So many moves on a channel whose decoder and service each have an executor of their own."""
+
+    def make(moves):
+        # An argument holds 131,071 bytes, so a schedule that long has as many copies a word as it needs.
+        copies = max(min(capacity, 1000), moves // 16384)
+        rounds = moves // (6 * copies)
+        one = channel([[PING * (rounds * min(capacity, copies))]], groups={"decode": "a", "service": "b"})
+        return placed([one], "R0x3 " + " ".join([" ".join(f"{word}x{copies}" for word in ["H0", "T1", "H1", "T2", "H2", "T0"])] * rounds), capacity, ["a", "b"])
+
+    return make
+
+
+def behind_full_queue(count):
+    """As many items wait for an executor whose queue is full, and behind them as many for another, which are handed over."""
+    rounds = count // 64
+    channels = [channel([[PING * count]], groups={"decode": "a"}), channel([[PING * count]], groups={"decode": "b"})]
+    return placed(channels, "R0x2 H0x64 R1x2 " + " ".join(["H0x64 T2x64"] * rounds), 64, ["a", "b"])
+
+
 # name, what a size counts, how it is made, sizes
 WORKLOADS = [
     ("pings in 4,096 bursts", "bytes", pings, [2**16, 2**17, 2**18, 2**19, 2**20]),
@@ -94,6 +119,10 @@ WORKLOADS = [
     ("additions to 256 keys", "commands", additions, [12500, 25000, 50000, 100000]),
     ("21,845 messages through more handlers", "handlers", handlers, [8, 16, 32]),
     ("more channels", "channels", channels, [1, 2, 4, 8, 16]),
+    ("hand-overs at capacity 1", "moves", hand_overs(1), [125000, 250000, 500000, 1000000]),
+    ("hand-overs at capacity 64", "moves", hand_overs(64), [125000, 250000, 500000, 1000000]),
+    ("hand-overs at capacity 65,536", "moves", hand_overs(65536), [125000, 250000, 500000, 1000000]),
+    ("a backlog behind a full queue", "items", behind_full_queue, [12500, 25000, 50000, 100000]),
 ]
 
 
