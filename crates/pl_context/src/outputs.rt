@@ -1,4 +1,4 @@
-ghost use Rattle.std.specs.Prelude.{◌≡◌, ◌+◌, ◌<◌, ◌≤◌, ◌∷◌, ◌++◌, [], length, IfOk, OnOk, OnErr, IfNone, ◌==◌};
+ghost use Rattle.std.specs.Prelude.{◌≡◌, ◌+◌, ◌<◌, ◌≤◌, ◌∷◌, ◌++◌, [], length, not, IfOk, OnOk, OnErr, IfNone, ◌==◌, ◌&&◌};
 ghost use Rattle.std.specs.Option.{option_to_list};
 ghost use Rattle.pl_context.specs.Stopped.{HasPlaces, no_stops};
 ghost use Rattle.pl_context.specs.Listings.{Puts, failure_of};
@@ -59,6 +59,13 @@ impl Outputs {
         ensures { result ≡ (length self.now.items == 0) }
     {
         self.envelopes.is_empty()
+    }
+
+    /// Whether a lane has stopped: a growth was refused for an item of it, and what it brings later is discarded.
+    pub fn has_stopped(&self) -> bool
+        ensures { result ≡ not (length self.now.stopped.lanes == 0 && length self.now.stopped.flag_lanes == 0) }
+    {
+        self.stops.has_any()
     }
 
     /// Makes room for so many envelopes, beside the reserved places. An `Err` changes nothing.

@@ -1,4 +1,4 @@
-ghost use Rattle.std.specs.Prelude.{◌≡◌, ◌+◌, ◌<◌, ◌≤◌, ◌∷◌, ◌++◌, [], length, IfOk, true, false, vec_capacity};
+ghost use Rattle.std.specs.Prelude.{◌≡◌, ◌+◌, ◌<◌, ◌≤◌, ◌==◌, ◌&&◌, ◌∷◌, ◌++◌, [], length, not, IfOk, true, false, vec_capacity};
 ghost use Rattle.std.specs.List.{list_any};
 ghost use Rattle.pl_event.specs.declared.envelopes.Kind.TheVariants as kind;
 ghost use Rattle.pl_context.specs.Stopped.{same_hop, has_stopped, with_stop, HasPlaces, no_stops};
@@ -48,6 +48,13 @@ impl Stops {
             Kind::Data => holds(self.lanes.as_slice(), lane),
             Kind::Flags => holds(self.flag_lanes.as_slice(), lane),
         }
+    }
+
+    /// Whether any lane has stopped.
+    pub(crate) fn has_any(&self) -> bool
+        ensures { result ≡ not (length self.now.lanes == 0 && length self.now.flag_lanes == 0) }
+    {
+        !(self.lanes.is_empty() && self.flag_lanes.is_empty())
     }
 
     /// How many reserved places are left.

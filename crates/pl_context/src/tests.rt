@@ -473,6 +473,7 @@ fn outputs_come_in_order(rt: HostRuntime) -> Result<(), Fail> {
     );
     assert_eq!(rt; put(&mut outputs, 2, Item::End), Added::Last);
     assert_eq!(rt; outputs.is_empty(), false);
+    assert_eq!(rt; outputs.has_stopped(), false);
     let want = [
         data(2, 0, Item::Event(Event::Active)),
         data(2, 1, Item::Event(Event::Flush)),
@@ -541,6 +542,7 @@ fn item_without_memory_gives_way(rt: HostRuntime) -> Result<(), Fail> {
             Added::Discarded => assert!(rt; whole < number),
         }
     }
+    assert_eq!(rt; outputs.has_stopped(), whole < 8);
     let put = drained(rt.alloc(), outputs)?;
     assert_eq!(rt; put.len() as u64, 8.min(whole + 1));
     for envelope in &put {

@@ -1,0 +1,35 @@
+-- A write of which some bytes were accepted.
+use Rattle.std.proofs.Common.{◌≡◌, ℕ, ◌-◌, ◌<◌, List, [], ◌∷◌, ◌++◌, length, take, drop, Bool, true, false, nat_eq, nat_le, Option, Some, None, is_some, ◌||◌, append-nil, ap, sym, ◌∙◌, refl, arith, append_assoc}
+use Rattle.std.proofs.lemmas.List.{take-append-drop}
+use Rattle.std.proofs.lemmas.Bool.Decides.{nat_tests}
+use Rattle.pl_head.specs.declared.heads.OutStep.TheVariants.{Wrote}
+use Rattle.pl_head.specs.Marks.{Removed}
+use Rattle.pl_event.specs.declared.outcomes.Cause.{Cause}
+use Rattle.pl_head.specs.HeadStand.{step_sizes}
+use Rattle.pl_head.proofs.HeadSteps.{none_waits}
+
+pub wrote_sizes : (n before after : ℕ) → 0 < n → step_sizes (Wrote n) before after ≡ Removed (before - after) ∷ []
+wrote_sizes n before after some =
+    let test : nat_eq n 0 ≡ false = grind (arith, nat_tests) in
+    rw test refl
+
+pub accepted_some : (accepted bytes rest whole : List ℕ) (n : ℕ) → accepted ++ (bytes ++ rest) ≡ whole → accepted ++ (take n bytes ++ (drop n bytes ++ rest)) ≡ whole
+accepted_some accepted bytes rest whole n e =
+    ap (λ (t : List ℕ). accepted ++ t) (sym (append_assoc (take n bytes) (drop n bytes) rest) ∙ ap (λ (t : List ℕ). t ++ rest) (take-append-drop n bytes)) ∙ e
+
+-- ---- whether a write is idle
+
+pub all_left : (accepted whole : List ℕ) → accepted ≡ whole → nat_le (length whole) (length accepted) ≡ true
+all_left accepted whole e = sym (none_waits accepted [] whole refl (append-nil accepted ∙ e)).1
+
+pub idle_or : (failure : Option Cause) {written : Bool} → written ≡ true → (is_some failure || written) ≡ true
+idle_or None e = e
+idle_or (Some cause) e = refl
+
+pub not_idle : (failure : Option Cause) {written : Bool} → is_some failure ≡ false → written ≡ false → (is_some failure || written) ≡ true → ⊥
+not_idle None none waits e = cc (waits, e)
+not_idle (Some cause) none waits e = cc none
+
+pub unless_failed : (failure : Option Cause) {written : Bool} → is_some failure ≡ false → written ≡ (is_some failure || written)
+unless_failed None none = refl
+unless_failed (Some cause) none = cc none

@@ -1,0 +1,16 @@
+pub mod MarkSteps
+pub mod MarkLaws
+pub mod ReadSteps
+pub mod Feeding
+pub mod FlagSteps
+pub mod Buffering
+pub mod Flushing
+pub mod Offering
+pub mod HeadSteps
+pub mod Taking
+pub mod WaitingSizes
+pub mod BufferSteps
+pub mod Accepting
+pub mod ReadAnswers
+pub mod Appending
+pub mod FewFlags

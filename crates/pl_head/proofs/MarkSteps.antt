@@ -1,0 +1,69 @@
+-- What one change more does to the marks: it turns them or leaves them.
+use Rattle.std.proofs.Common.{◌≡◌, ℕ, ◌<◌, ◌≤◌, List, [], ◌∷◌, ◌++◌, Bool, true, false, ltb, ap, sym, ◌∙◌, refl, arith}
+use Rattle.std.specs.Prelude.{if◌then◌else◌, nat_lt}
+use Rattle.std.proofs.lemmas.Bool.Decides.{nat_tests}
+use Rattle.pl_head.specs.Marks.{Change, changed, pending_from, pending_after, levels_from, flags, flags_from, is_unwritable, unwritable_from}
+
+-- changes behind others
+pub pending_from-append : (p : ℕ) (cs ds : List Change) → pending_from p (cs ++ ds) ≡ pending_from (pending_from p cs) ds
+pending_from-append p [] ds = refl
+pending_from-append p (c ∷ cs) ds = pending_from-append (changed p c) cs ds
+
+pub levels_from-append : (p : ℕ) (cs ds : List Change) → levels_from p (cs ++ ds) ≡ levels_from p cs ++ levels_from (pending_from p cs) ds
+levels_from-append p [] ds = refl
+levels_from-append p (c ∷ cs) ds = ap (λ (t : List ℕ). changed p c ∷ t) (levels_from-append (changed p c) cs ds)
+
+pub unwritable_from-append : (low high : ℕ) (u : Bool) (ps qs : List ℕ) → unwritable_from low high u (ps ++ qs) ≡ unwritable_from low high (unwritable_from low high u ps) qs
+unwritable_from-append low high u [] qs = refl
+unwritable_from-append low high false (p ∷ ps) qs = unwritable_from-append low high (nat_lt high p) ps qs
+unwritable_from-append low high true (p ∷ ps) qs = unwritable_from-append low high (if nat_lt p low then false else true) ps qs
+
+flags_from-append : (low high : ℕ) (u : Bool) (ps qs : List ℕ) → flags_from low high u (ps ++ qs) ≡ flags_from low high u ps ++ flags_from low high (unwritable_from low high u ps) qs
+flags_from-append low high u [] qs = refl
+flags_from-append low high false (p ∷ ps) qs =
+    elim (nat_lt high p) as (λ (b : Bool). (if b then false ∷ flags_from low high true (ps ++ qs) else flags_from low high false (ps ++ qs)) ≡ (if b then false ∷ flags_from low high true ps else flags_from low high false ps) ++ flags_from low high (unwritable_from low high b ps) qs)
+    [ true ↦ ap (λ (t : List Bool). false ∷ t) (flags_from-append low high true ps qs) | false ↦ flags_from-append low high false ps qs ]
+flags_from-append low high true (p ∷ ps) qs =
+    elim (nat_lt p low) as (λ (b : Bool). (if b then true ∷ flags_from low high false (ps ++ qs) else flags_from low high true (ps ++ qs)) ≡ (if b then true ∷ flags_from low high false ps else flags_from low high true ps) ++ flags_from low high (unwritable_from low high (if b then false else true) ps) qs)
+    [ true ↦ ap (λ (t : List Bool). true ∷ t) (flags_from-append low high false ps qs) | false ↦ flags_from-append low high true ps qs ]
+
+-- the flags that one more change sends, and what the last flag then said, by what it said before and by pending
+pub flags-push : (low high : ℕ) (cs : List Change) (c : Change) → flags low high (cs ++ c ∷ []) ≡ flags low high cs ++ flags_from low high (is_unwritable low high cs) (changed (pending_after cs) c ∷ [])
+flags-push low high cs c =
+    ap (λ (ps : List ℕ). flags_from low high false ps) (levels_from-append 0 cs (c ∷ [])) ∙ flags_from-append low high false (levels_from 0 cs) (changed (pending_after cs) c ∷ [])
+
+pub is_unwritable-push : (low high : ℕ) (cs : List Change) (c : Change) → is_unwritable low high (cs ++ c ∷ []) ≡ unwritable_from low high (is_unwritable low high cs) (changed (pending_after cs) c ∷ [])
+is_unwritable-push low high cs c =
+    ap (λ (ps : List ℕ). unwritable_from low high false ps) (levels_from-append 0 cs (c ∷ [])) ∙ unwritable_from-append low high false (levels_from 0 cs) (changed (pending_after cs) c ∷ [])
+
+-- the marks after one change more: what the last flag says, and the flags that this change sends
+pub record Turns (low high : ℕ) (cs : List Change) (c : Change) (after : Bool) (sent : List Bool) : Type 0 where
+  pub last : is_unwritable low high (cs ++ c ∷ []) ≡ after
+  pub flags : flags low high (cs ++ c ∷ []) ≡ flags low high cs ++ sent
+
+turns : (low high : ℕ) (cs : List Change) (c : Change) (before after : Bool) (sent : List Bool) → before ≡ is_unwritable low high cs
+    → unwritable_from low high before (changed (pending_after cs) c ∷ []) ≡ after → flags_from low high before (changed (pending_after cs) c ∷ []) ≡ sent → Turns low high cs c after sent
+turns low high cs c before after sent b l f = record {
+  last = is_unwritable-push low high cs c ∙ ap (λ (u : Bool). unwritable_from low high u (changed (pending_after cs) c ∷ [])) (sym b) ∙ l;
+  flags = flags-push low high cs c ∙ ap (λ (u : Bool). flags low high cs ++ flags_from low high u (changed (pending_after cs) c ∷ [])) (sym b) ∙ ap (λ (t : List Bool). flags low high cs ++ t) f;
+}
+
+pub rises : (low high : ℕ) (cs : List Change) (c : Change) → false ≡ is_unwritable low high cs → high < changed (pending_after cs) c → Turns low high cs c true (false ∷ [])
+rises low high cs c b h =
+    let test : ltb high (changed (pending_after cs) c) ≡ true = grind (arith, nat_tests) in
+    turns low high cs c false true (false ∷ []) b test (rw test refl)
+
+pub falls : (low high : ℕ) (cs : List Change) (c : Change) → true ≡ is_unwritable low high cs → changed (pending_after cs) c < low → Turns low high cs c false (true ∷ [])
+falls low high cs c b h =
+    let test : ltb (changed (pending_after cs) c) low ≡ true = grind (arith, nat_tests) in
+    turns low high cs c true false (true ∷ []) b (rw test refl) (rw test refl)
+
+pub stays_below : (low high : ℕ) (cs : List Change) (c : Change) → false ≡ is_unwritable low high cs → changed (pending_after cs) c ≤ high → Turns low high cs c false []
+stays_below low high cs c b h =
+    let test : ltb high (changed (pending_after cs) c) ≡ false = grind (arith, nat_tests) in
+    turns low high cs c false false [] b test (rw test refl)
+
+pub stays_above : (low high : ℕ) (cs : List Change) (c : Change) → true ≡ is_unwritable low high cs → low ≤ changed (pending_after cs) c → Turns low high cs c true []
+stays_above low high cs c b h =
+    let test : ltb (changed (pending_after cs) c) low ≡ false = grind (arith, nat_tests) in
+    turns low high cs c true true [] b (rw test refl) (rw test refl)

@@ -1,0 +1,186 @@
+-- A read step: what it brings, and what is left behind it.
+use Rattle.std.proofs.Common.{◌≡◌, ℕ, zero, suc, ◌+◌, ◌-◌, ◌<◌, ◌≤◌, Bool, true, false, List, [], ◌∷◌, ◌++◌, length, map, take, drop, get_or, refl, sym, ap, ap₂, subst, ◌∙◌, arith, append-nil, length-append}
+use Rattle.std.specs.Prelude.{◌&&◌, if◌then◌else◌, nat_le, nat_lt}
+use Rattle.std.specs.List.{flat_map}
+use Rattle.std.proofs.lemmas.List.{length-map, take_more, nil_from_length, length-drop}
+use Rattle.std.proofs.lemmas.List.Concat.{flat_map-cons}
+use Rattle.std.proofs.lemmas.Bool.{lt-leb, le-leb, lt-ltb, le-ltb, ltb-true}
+use Rattle.std.proofs.lemmas.Grind.{flat_map-append}
+use Rattle.pl_event.specs.declared.events.Event.{Event}
+use Rattle.pl_event.specs.declared.events.Event.TheVariants as event
+use Rattle.pl_event.specs.declared.events.Message.TheVariants as message
+use Rattle.pl_event.specs.declared.envelopes.Item.{Item}
+use Rattle.pl_event.specs.declared.envelopes.Item.TheVariants as item
+use Rattle.pl_event.specs.Inputs.{burst_events, read_steps, input_after}
+use Rattle.pl_context.specs.declared.ports.Port.{Port}
+use Rattle.pl_context.specs.Ports.{as_items, all_go_on, port_after}
+use Rattle.pl_context.proofs.PortLemmas.{all_go_on-events}
+use Rattle.pl_head.specs.ReadSteps.{step_count, end_if, step_items, read_items, is_burst}
+use Rattle.pl_head.specs.InputStand.{Reading, next_items, left_after, burst_next, reading_after, InputStands, items_left}
+
+-- ---- the steps of bursts
+
+length-steps : (bursts : List (List (List ℕ))) → step_count bursts ≡ length bursts + 2
+length-steps bursts =
+    let size = length-append (map burst_events bursts) ([] ∷ []) in
+    let each = length-map bursts burst_events in
+    omega (arith, size, each)
+
+-- burst j is read step j + 1
+step-burst : (bursts : List (List (List ℕ))) (j : ℕ) (chunks : List (List ℕ)) (left : List (List (List ℕ))) → chunks ∷ left ≡ drop j bursts
+    → get_or (map burst_events bursts ++ [] ∷ []) j [] ≡ burst_events chunks
+step-burst [] zero chunks left h = cc
+step-burst [] (suc j) chunks left h = cc
+step-burst (b ∷ bs) zero chunks left h = let same : b ≡ chunks = cc in ap burst_events same
+step-burst (b ∷ bs) (suc j) chunks left h = step-burst bs j chunks left h
+
+step-end : (bursts : List (List (List ℕ))) → get_or (map burst_events bursts ++ [] ∷ []) (length bursts) [] ≡ []
+step-end [] = refl
+step-end (b ∷ bs) = step-end bs
+
+drop-next : {A : Type 0} (j : ℕ) (x : A) (xs ys : List A) → x ∷ xs ≡ drop j ys → xs ≡ drop (suc j) ys
+drop-next zero x xs [] h = cc
+drop-next zero x xs (y ∷ ys) h = cc
+drop-next (suc j) x xs [] h = cc
+drop-next (suc j) x xs (y ∷ ys) h = drop-next j x xs ys h
+
+drop-some : {A : Type 0} (j : ℕ) (x : A) (xs ys : List A) → x ∷ xs ≡ drop j ys → j < length ys
+drop-some {A = A} j x xs ys h =
+    let size = ap (λ (t : List A). length t) h in
+    let rest = length-drop j ys in
+    omega (arith, size, rest)
+
+-- ---- numbers
+
+pub length-burst : (chunks : List (List ℕ)) → length (burst_events chunks) ≡ length chunks + 1
+length-burst chunks =
+    let size = length-append (map (λ (chunk : List ℕ). event.Read (message.Bytes chunk)) chunks) (event.ReadComplete ∷ []) in
+    let each = length-map chunks (λ (chunk : List ℕ). event.Read (message.Bytes chunk)) in
+    omega (arith, size, each)
+
+pub left-burst : (chunks : List (List ℕ)) (left : List (List (List ℕ))) → length (flat_map burst_events (chunks ∷ left)) ≡ length (burst_events chunks) + length (flat_map burst_events left)
+left-burst chunks left = ap (λ (es : List Event). length es) (flat_map-cons burst_events chunks left) ∙ length-append (burst_events chunks) (flat_map burst_events left)
+
+-- ---- the next one
+
+-- what the next step is, by the count of steps and what is left
+pub record NextIs (n : ℕ) (left : List (List (List ℕ))) (items : List Item) (rest : List (List (List ℕ))) (count : ℕ) : Type 0 where
+  pub items_are : next_items n left ≡ items
+  pub rest_is : left_after n left ≡ rest
+  pub count_is : items_left n left ≡ length items + count
+
+pub first_step : (n : ℕ) (left : List (List (List ℕ))) → n ≡ 0 → NextIs n left (item.Event event.Active ∷ []) left (items_left 1 left)
+first_step zero left h = record { items_are = refl; rest_is = refl; count_is = omega arith }
+first_step (suc n) left h = cc
+
+pub burst_step : (n : ℕ) (left : List (List (List ℕ))) (chunks : List (List ℕ)) (rest : List (List (List ℕ))) → 0 < n → left ≡ chunks ∷ rest
+    → NextIs n left (as_items (burst_events chunks)) rest (items_left 1 rest)
+burst_step zero left chunks rest h is = absurd (omega (arith, h))
+burst_step (suc n) left chunks rest h is =
+    let size = left-burst chunks rest in
+    let each = length-map (burst_events chunks) (λ (x : Event). item.Event x) in
+    subst (λ (l : List (List (List ℕ))). NextIs (suc n) l (as_items (burst_events chunks)) rest (items_left 1 rest)) (sym is)
+    (record { items_are = refl; rest_is = refl; count_is = omega (arith, size, each) })
+
+pub end_step : (n : ℕ) (left : List (List (List ℕ))) → 0 < n → left ≡ [] → NextIs n left (item.End ∷ []) [] 0
+end_step zero left h is = absurd (omega (arith, h))
+end_step (suc n) left h is =
+    subst (λ (l : List (List (List ℕ))). NextIs (suc n) l (item.End ∷ []) [] 0) (sym is) (record { items_are = refl; rest_is = refl; count_is = refl })
+
+-- an open port after items
+pub port_after-open : (items : List Item) (p q : Port) (goes_on : Bool) → p.is_open ≡ true → all_go_on items ≡ goes_on → q ≡ record p { made = p.made + length items; is_open = goes_on } → q ≡ port_after items p
+port_after-open items p q goes_on o all is =
+    is ∙ ap₂ (λ (n : ℕ) (b : Bool). record p { made = n; is_open = b })
+    (sym (ap (λ (b : Bool). if b then p.made + length items else p.made) o))
+    (sym all ∙ sym (ap (λ (b : Bool). b && all_go_on items) o))
+
+-- Of read step n the items are known by what is left of the bursts.
+pub record NextStep (bursts : List (List (List ℕ))) (n : ℕ) (left : List (List (List ℕ))) : Type 0 where
+  pub items : next_items n left ≡ step_items bursts n
+  pub rest : left_after n left ≡ drop n bursts
+  pub goes_on : all_go_on (next_items n left) ≡ nat_lt (n + 1) (step_count bursts)
+  pub burst : burst_next n left ≡ is_burst bursts n
+
+no_end : (bursts : List (List (List ℕ))) (n : ℕ) (is : List Item) → n + 1 < step_count bursts → is ++ end_if (nat_le (step_count bursts) (n + 1)) ≡ is
+no_end bursts n is more = ap (λ (b : Bool). is ++ end_if b) (lt-leb (step_count bursts) (n + 1) more) ∙ append-nil is
+
+pub next_step : (bursts : List (List (List ℕ))) (n : ℕ) (left : List (List (List ℕ))) → n < step_count bursts → left ≡ drop (n - 1) bursts → NextStep bursts n left
+next_step bursts zero left within is =
+    let more : 0 + 1 < step_count bursts = omega (arith, length-steps bursts) in
+    record {
+      items = sym (no_end bursts 0 (item.Event event.Active ∷ []) more);
+      rest = is;
+      goes_on = sym (lt-ltb (0 + 1) (step_count bursts) more);
+      burst = refl;
+    }
+next_step bursts (suc j) (chunks ∷ left) within is =
+    let place : suc j - 1 ≡ j = omega arith in
+    let here : chunks ∷ left ≡ drop j bursts = is ∙ ap (λ (k : ℕ). drop k bursts) place in
+    let some : j < length bursts = drop-some j chunks left bursts here in
+    let more : suc j + 1 < step_count bursts = omega (arith, length-steps bursts, some) in
+    record {
+      items = ap as_items (sym (step-burst bursts j chunks left here)) ∙ sym (no_end bursts (suc j) (as_items (get_or (map burst_events bursts ++ [] ∷ []) j [])) more);
+      rest = drop-next j chunks left bursts here;
+      goes_on = all_go_on-events (burst_events chunks) ∙ sym (lt-ltb (suc j + 1) (step_count bursts) more);
+      burst = sym (ap₂ (λ (a b : Bool). a && b) (lt-ltb 0 (suc j) (omega arith)) (le-leb (suc j) (length bursts) (omega (arith, some))));
+    }
+next_step bursts (suc j) [] within is =
+    let place : suc j - 1 ≡ j = omega arith in
+    let here : [] ≡ drop j bursts = is ∙ ap (λ (k : ℕ). drop k bursts) place in
+    let none = ap (λ (t : List (List (List ℕ))). length t) here in
+    let rest = length-drop j bursts in
+    let last : j ≡ length bursts = omega (arith, none, rest, within, length-steps bursts) in
+    let past : step_count bursts ≤ suc j + 1 = omega (arith, length-steps bursts, last) in
+    record {
+      items =
+          sym (ap₂ (λ (es : List Event) (b : Bool). as_items es ++ end_if b)
+          (ap (λ (k : ℕ). get_or (map burst_events bursts ++ [] ∷ []) k []) last ∙ step-end bursts)
+          (le-leb (step_count bursts) (suc j + 1) past));
+      rest = sym (nil_from_length (drop (suc j) bursts) (omega (arith, length-drop (suc j) bursts, last)));
+      goes_on = sym (le-ltb (suc j + 1) (step_count bursts) past);
+      burst = sym (ap₂ (λ (a b : Bool). a && b) (lt-ltb 0 (suc j) (omega arith)) (lt-leb (suc j) (length bursts) (omega (arith, last))));
+    }
+
+-- ---- how many items
+
+count_step : (bursts : List (List (List ℕ))) (n : ℕ) → n < step_count bursts → read_items bursts (n + 1) ≡ read_items bursts n + length (step_items bursts n)
+count_step bursts n within =
+    let step = get_or (read_steps bursts) n [] in
+    let brought : length (input_after (n + 1) bursts) ≡ length (input_after n bursts) + length step =
+    ap (λ (steps : List (List Event)). length (flat_map (λ (s : List Event). s) steps)) (take_more (read_steps bursts) n [] within)
+    ∙ ap (λ (xs : List Event). length xs) (flat_map-append (λ (s : List Event). s) (take n (read_steps bursts)) (step ∷ []) ∙ ap (λ (xs : List Event). input_after n bursts ++ xs) (append-nil step))
+    ∙ length-append (input_after n bursts) step in
+    let now = ap {B = ℕ} (λ (b : Bool). if b then 1 else 0) (lt-leb (step_count bursts) n within) in
+    let size = length-append (as_items step) (end_if (nat_le (step_count bursts) (n + 1))) in
+    let events = length-map step (λ (x : Event). item.Event x) in
+    let end = one (nat_le (step_count bursts) (n + 1)) in
+    omega (arith, brought, now, size, events, end)
+  where
+    one : (b : Bool) → length (end_if b) ≡ (if b then 1 else 0)
+    one true = refl
+    one false = refl
+
+-- ---- one step more was made
+
+module _ (bursts : List (List (List ℕ))) (reads : ℕ) (r : Reading) (s : InputStands bursts reads r) (open_ : r.port.is_open ≡ true) where
+  is_left : reads < step_count bursts
+  is_left = ltb-true reads (step_count bursts) (sym s.is_open ∙ open_)
+
+  next : NextStep bursts reads r.left
+  next = next_step bursts reads r.left is_left s.left
+
+  pub items_of_step : next_items r.steps r.left ≡ step_items bursts reads
+  items_of_step = ap (λ (n : ℕ). next_items n r.left) s.steps ∙ next.items
+
+  pub stands_after : InputStands bursts (reads + 1) (reading_after r)
+  stands_after =
+      let place : reads + 1 - 1 ≡ reads = omega arith in
+      let more = ap (λ (is : List Item). length is) items_of_step in
+      let count = count_step bursts reads is_left in
+      record {
+        steps = ap (λ (n : ℕ). n + 1) s.steps;
+        within = omega (arith, is_left);
+        left = ap (λ (n : ℕ). left_after n r.left) s.steps ∙ next.rest ∙ ap (λ (n : ℕ). drop n bursts) (sym place);
+        made = ap (λ (b : Bool). if b then r.port.made + length (next_items r.steps r.left) else r.port.made) open_ ∙ (omega (arith, s.made, more, count));
+        is_open = ap (λ (b : Bool). b && all_go_on (next_items r.steps r.left)) open_ ∙ ap (λ (n : ℕ). all_go_on (next_items n r.left)) s.steps ∙ next.goes_on;
+      }

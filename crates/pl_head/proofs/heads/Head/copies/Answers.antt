@@ -1,0 +1,8 @@
+use Rattle.std.proofs.Common.{◌∙◌}
+use Rattle.pl_context.specs.Standings.{is_over}
+use Rattle.pl_head.proofs.heads.Head.copies.Goals as goal
+
+pub returns-clause-outcomes : goal.returns-clause-outcomes
+returns-clause-outcomes g c =
+    rw (← c.self.view_is)
+    (λ ys sizes s. c.from_vec-2.ensures ∙ c.in_ok-outcomes.ensures.items ∙ c.outcomes.ensures (g.T.Transport.state c.self.inside.transport).accepted ys (is_over c.self.inside.standing) sizes s)

@@ -1,0 +1,64 @@
+-- What contracts see of a recorded input that is read step by step, and how many of its read steps were made.
+use Rattle.std.specs.Prelude.{◌≡◌, ℕ, zero, suc, ◌+◌, ◌-◌, ◌<◌, ◌≤◌, ◌^◌, List, [], ◌∷◌, length, drop, Bool, true, false, nat_lt}
+use Rattle.std.specs.List.{flat_map}
+use Rattle.pl_event.specs.declared.events.Event.TheVariants as event
+use Rattle.pl_event.specs.declared.envelopes.Item.{Item}
+use Rattle.pl_event.specs.declared.envelopes.Item.TheVariants as item
+use Rattle.pl_event.specs.Inputs.{burst_events}
+use Rattle.pl_context.specs.declared.ports.Port.{Port}
+use Rattle.pl_context.specs.Ports.{as_items, port_after}
+use Rattle.pl_head.specs.ReadSteps.{entrance, step_count, read_items}
+
+-- The lane that the items are given to, closed once the end was; the bursts that are left; how many steps were made.
+pub record Reading : Type 0 where
+  pub port : Port
+  pub left : List (List (List ℕ))
+  pub steps : ℕ
+
+-- no step of these bursts was made
+abbrev pub new_reading : ℕ → List (List (List ℕ)) → Reading
+new_reading channel bursts =
+    record { port = record { lane = entrance channel; made = 0; is_open = true }; left = bursts; steps = 0 }
+
+-- what the next step brings, by the count of steps made and the bursts that are left
+abbrev pub next_items : ℕ → List (List (List ℕ)) → List Item
+next_items zero left = item.Event event.Active ∷ []
+next_items (suc n) [] = item.End ∷ []
+next_items (suc n) (chunks ∷ left) = as_items (burst_events chunks)
+
+-- the bursts that are left after it
+abbrev pub left_after : ℕ → List (List (List ℕ)) → List (List (List ℕ))
+left_after zero left = left
+left_after (suc n) left = drop 1 left
+
+-- the next step is a burst
+abbrev pub burst_next : ℕ → List (List (List ℕ)) → Bool
+burst_next zero left = false
+burst_next (suc n) [] = false
+burst_next (suc n) (chunks ∷ left) = true
+
+-- one step more was made
+abbrev pub reading_after : Reading → Reading
+reading_after r = record {
+  port = port_after (next_items r.steps r.left) r.port;
+  left = left_after r.steps r.left;
+  steps = r.steps + 1;
+}
+
+-- So many read steps of these bursts were made, and given to the lane.
+pub record InputStands (bursts : List (List (List ℕ))) (reads : ℕ) (r : Reading) : Type 0 where
+  pub steps : r.steps ≡ reads
+  pub within : reads ≤ step_count bursts
+  pub left : r.left ≡ drop (reads - 1) bursts
+  pub made : r.port.made ≡ read_items bursts reads
+  pub is_open : r.port.is_open ≡ nat_lt reads (step_count bursts)
+
+-- how many items are still to come, while the lane is open
+abbrev pub items_left : ℕ → List (List (List ℕ)) → ℕ
+items_left zero left = length (flat_map burst_events left) + 2
+items_left (suc n) left = length (flat_map burst_events left) + 1
+
+-- numbers stay in their bounds
+pub record IsReading (port : Port) (left : List (List (List ℕ))) (steps : ℕ) : Type 0 where
+  pub counts : steps ≤ port.made
+  pub few : port.is_open ≡ true → port.made + items_left steps left < 2 ^ 31

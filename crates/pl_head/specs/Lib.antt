@@ -1,0 +1,14 @@
+pub mod Writes
+pub mod Effects
+pub mod Queue
+pub mod OutboundStand
+pub mod Transports
+pub mod Marks
+pub mod FlagLanes
+pub mod MarksStand
+pub mod WritabilityStand
+pub mod ReadSteps
+pub mod InputStand
+pub mod Buffers
+pub mod WriteBuffers
+pub mod HeadStand

@@ -1,0 +1,16 @@
+-- The fields of a write buffer, as contracts see them.
+use Rattle.pl_head.specs.declared.write_buffer.WriteBuffer.{WriteBuffer}
+use Rattle.pl_head.specs.Buffers.{Buffered}
+
+abbrev pub buffered : WriteBuffer → Buffered
+buffered b = record {
+  queue = b.messages.queue.items;
+  offset = b.messages.offset;
+  flushed = b.messages.flushed;
+  outcomes = b.messages.outcomes.items;
+  low = b.writability.marks.low;
+  high = b.writability.marks.high;
+  pending = b.writability.marks.pending;
+  is_unwritable = b.writability.marks.is_unwritable;
+  flags = b.writability.port;
+}

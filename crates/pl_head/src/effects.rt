@@ -1,0 +1,28 @@
+//! What an event asks of a head.
+
+ghost use Rattle.std.specs.Prelude.{◌≡◌};
+ghost use Rattle.pl_head.specs.Writes.{write_by, is_flush};
+ghost use Rattle.pl_head.specs.Effects.{write_of, flushes};
+
+use pl_event::{ByteString, Event, Message};
+
+/// What an event asks of a head.
+#[derive(Debug, Drop)]
+pub(crate) enum Effect {
+    Bytes(ByteString),
+    Unsupported,
+    Flush,
+    Nothing,
+}
+
+pub(crate) fn effect_of(event: Event) -> Effect
+    ensures write { write_by event ≡ write_of result }
+    ensures flush { is_flush event ≡ flushes result }
+{
+    match event {
+        Event::Write(Message::Bytes(bytes)) => Effect::Bytes(bytes),
+        Event::Write(_) => Effect::Unsupported,
+        Event::Flush => Effect::Flush,
+        _ => Effect::Nothing,
+    }
+}

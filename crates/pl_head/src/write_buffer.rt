@@ -1,0 +1,219 @@
+//! What waits to be written, against the marks of writability.
+
+ghost use Rattle.std.specs.Prelude.{◌≡◌, ℕ, ◌+◌, ◌-◌, ◌<◌, ◌≤◌, ◌^◌, ◌∷◌, ◌++◌, List, [], length, Bool, true, false, Option, Some, None, IfSome, IfNone, OnSome, OnOk, OnErr, not, nat_le};
+ghost use Rattle.pl_event.specs.declared.events.Event.{Event};
+ghost use Rattle.pl_context.specs.Stopped.{HasPlaces};
+ghost use Rattle.pl_head.specs.Writes.{bytes_of, flushed_writes, out, outcomes, offered, waiting_bytes};
+ghost use Rattle.pl_head.specs.Marks.{Change, Added, Removed, pending_after, is_unwritable};
+ghost use Rattle.pl_head.specs.FlagLanes.{flags_lane};
+ghost use Rattle.pl_head.specs.Queue.{first_size, queue_size};
+ghost use Rattle.pl_head.specs.Buffers.{event_sizes};
+
+use crate::effects::{Effect, effect_of};
+use crate::outbound::Outbound;
+use crate::writability::Writability;
+use pl_context::Outputs;
+use pl_event::{ByteString, Event, Outcome};
+use std::alloc::{AllocError, Global};
+
+/// The messages that wait to be written, and the marks against which their bytes are counted.
+#[derive(Debug, Drop)]
+pub(crate) struct WriteBuffer {
+    pub(crate) messages: Outbound,
+    pub(crate) writability: Writability,
+    ghost at_rest: { 0 < messages.flushed → messages.offset < first_size messages.queue.items },
+    ghost pending_is: { writability.marks.pending ≡ queue_size messages.queue.items },
+}
+
+impl WriteBuffer {
+    ghost use Rattle.pl_head.specs.OutboundStand.{Holds};
+    ghost use Rattle.pl_head.specs.WritabilityStand.{WritabilityStand, SendsFlags, flag_bound};
+    ghost use Rattle.pl_head.specs.Buffers.{BufferStands, SameMarks};
+    ghost use Rattle.pl_head.specs.WriteBuffers.{buffered};
+
+    /// Nothing waits. It takes no memory.
+    pub(crate) fn new(alloc: Global, channel: u16, low: u32, high: u32) -> Self
+        requires { low ≤ high }
+        ensures stands { BufferStands [] (buffered result) [] false [] }
+        ensures low { result.writability.marks.low ≡ low }
+        ensures high { result.writability.marks.high ≡ high }
+        ensures port { result.writability.port ≡ record { lane = flags_lane channel; made = 0; is_open = true } }
+        ensures pending { result.writability.marks.pending ≡ 0 }
+        ensures count { flag_bound result.writability ≡ 0 }
+    {
+        WriteBuffer {
+            messages: Outbound::new(alloc),
+            writability: Writability::new(channel, low, high),
+        }
+    }
+
+    /// Takes an event. An `Err` is a write for which there was no place.
+    pub(crate) fn take(&mut self, event: Event, outputs: &mut Outputs) -> Result<(), AllocError>
+        requires fits { self.old.writability.marks.pending + 2 ^ 64 < 2 ^ 128 }
+        requires room { flag_bound self.old.writability + 1 < 2 ^ 64 }
+        requires place { HasPlaces outputs.old.stopped (self.old.writability.port.lane ∷ []) }
+        ensures stands { OnOk result ((accepted : List ℕ) (ys : List Event) (sizes : List Change) → BufferStands accepted (buffered self.old) ys false sizes
+            → BufferStands accepted (buffered self.new) (ys ++ event ∷ []) false (sizes ++ event_sizes event
+            (waiting_bytes ys (length accepted) false)
+            (waiting_bytes (ys ++ event ∷ []) (length accepted) false))) }
+        ensures flags { OnOk result ((accepted : List ℕ) (ys : List Event) (sizes : List Change) → BufferStands accepted (buffered self.old) ys false sizes
+            → SendsFlags self.old.writability.marks.low self.old.writability.marks.high sizes (event_sizes event
+            (waiting_bytes ys (length accepted) false)
+            (waiting_bytes (ys ++ event ∷ []) (length accepted) false)) self.old.writability.port outputs.old self.new.writability.port outputs.new) }
+        ensures err { OnErr result (outputs.new ≡ outputs.old) }
+        ensures same { SameMarks (buffered self.old) (buffered self.new) }
+        ensures pending { self.new.writability.marks.pending ≤ self.old.writability.marks.pending + 2 ^ 64 }
+        ensures count { flag_bound self.new.writability ≤ flag_bound self.old.writability + 2 }
+    {
+        match effect_of(event) {
+            Effect::Bytes(bytes) => {
+                self.add(bytes, outputs)?;
+                Ok(())
+            }
+            Effect::Unsupported => {
+                self.messages.add_unsupported()?;
+                Ok(())
+            }
+            Effect::Flush => {
+                self.flush(outputs);
+                Ok(())
+            }
+            Effect::Nothing => Ok(()),
+        }
+    }
+
+    fn add(&mut self, bytes: ByteString, outputs: &mut Outputs) -> Result<(), AllocError>
+        requires fits { self.old.writability.marks.pending + 2 ^ 64 < 2 ^ 128 }
+        requires room { flag_bound self.old.writability + 1 < 2 ^ 64 }
+        requires place { HasPlaces outputs.old.stopped (self.old.writability.port.lane ∷ []) }
+        ensures holds { OnOk result ((flushed unflushed : List (Option (List ℕ))) (left : List ℕ) → Holds self.old.messages flushed unflushed left false → Holds self.new.messages flushed (unflushed ++ Some bytes ∷ []) left false) }
+        ensures marks { OnOk result ((cs : List Change) → WritabilityStand self.old.writability cs → WritabilityStand self.new.writability (cs ++ Added (length bytes) ∷ [])) }
+        ensures flags { OnOk result ((cs : List Change) → WritabilityStand self.old.writability cs
+            → SendsFlags self.old.writability.marks.low self.old.writability.marks.high cs (Added (length bytes) ∷ []) self.old.writability.port outputs.old self.new.writability.port outputs.new) }
+        ensures err { OnErr result (outputs.new ≡ outputs.old) }
+        ensures same { SameMarks (buffered self.old) (buffered self.new) }
+        ensures pending { self.new.writability.marks.pending ≤ self.old.writability.marks.pending + 2 ^ 64 }
+        ensures count { flag_bound self.new.writability ≤ flag_bound self.old.writability + 2 }
+    {
+        let size = bytes.len();
+        self.messages.add(bytes)?;
+        self.writability.add(size, outputs);
+        Ok(())
+    }
+
+    /// All messages are flushed, and those without a byte at the front are settled.
+    fn flush(&mut self, outputs: &mut Outputs)
+        requires room { flag_bound self.old.writability + 1 < 2 ^ 64 }
+        requires fits { self.old.writability.marks.pending < 2 ^ 128 }
+        requires place { HasPlaces outputs.old.stopped (self.old.writability.port.lane ∷ []) }
+        ensures holds { (flushed unflushed : List (Option (List ℕ))) (left : List ℕ) → Holds self.old.messages flushed unflushed left false → Holds self.new.messages (flushed ++ unflushed) [] (left ++ bytes_of unflushed) false }
+        ensures marks { (cs : List Change) → WritabilityStand self.old.writability cs
+            → WritabilityStand self.new.writability (cs ++ Removed (self.old.writability.marks.pending - self.new.writability.marks.pending) ∷ []) }
+        ensures flags { (cs : List Change) → WritabilityStand self.old.writability cs
+            → SendsFlags self.old.writability.marks.low self.old.writability.marks.high cs (Removed (self.old.writability.marks.pending - self.new.writability.marks.pending) ∷ []) self.old.writability.port outputs.old self.new.writability.port outputs.new }
+        ensures same { SameMarks (buffered self.old) (buffered self.new) }
+        ensures pending { self.new.writability.marks.pending ≤ self.old.writability.marks.pending }
+        ensures count { flag_bound self.new.writability ≤ flag_bound self.old.writability }
+    {
+        self.messages.flush();
+        let size = self.messages.settle_written();
+        self.writability.remove(size, outputs);
+    }
+
+    /// The lane has ended: what is not flushed is closed.
+    pub(crate) fn close(&mut self, outputs: &mut Outputs)
+        requires room { flag_bound self.old.writability + 1 < 2 ^ 64 }
+        requires fits { self.old.writability.marks.pending < 2 ^ 128 }
+        requires place { HasPlaces outputs.old.stopped (self.old.writability.port.lane ∷ []) }
+        ensures stands { (accepted : List ℕ) (ys : List Event) (sizes : List Change) → BufferStands accepted (buffered self.old) ys false sizes
+            → BufferStands accepted (buffered self.new) ys true (sizes ++ Removed (waiting_bytes ys (length accepted) false - waiting_bytes ys (length accepted) true) ∷ []) }
+        ensures flags { (accepted : List ℕ) (ys : List Event) (sizes : List Change) → BufferStands accepted (buffered self.old) ys false sizes
+            → SendsFlags self.old.writability.marks.low self.old.writability.marks.high sizes (Removed (waiting_bytes ys (length accepted) false - waiting_bytes ys (length accepted) true) ∷ []) self.old.writability.port outputs.old self.new.writability.port outputs.new }
+        ensures same { SameMarks (buffered self.old) (buffered self.new) }
+        ensures pending { self.new.writability.marks.pending ≤ self.old.writability.marks.pending }
+        ensures count { flag_bound self.new.writability ≤ flag_bound self.old.writability }
+    {
+        let size = self.messages.close_unflushed();
+        self.writability.remove(size, outputs);
+    }
+
+    /// What is left of the first flushed message, at least one byte.
+    pub(crate) fn front(&self) -> Option<&[u8]>
+        ensures none { IfNone result ((accepted : List ℕ) (ys : List Event) (ended : Bool) (sizes : List Change) → BufferStands accepted (buffered self.now) ys ended sizes → accepted ≡ out ys) }
+        ensures flushed { IfSome result (λ bytes. 0 < self.now.messages.flushed) }
+        ensures some { IfSome result (λ bytes. (0 < length bytes.now) × (length bytes.now + self.now.messages.offset ≡ first_size self.now.messages.queue.items)) }
+        ensures small { OnSome result (first_size self.now.messages.queue.items < 2 ^ 64) }
+        ensures offers { IfSome result (λ bytes. (accepted : List ℕ) (ys : List Event) (ended : Bool) (sizes : List Change) → BufferStands accepted (buffered self.now) ys ended sizes
+            → (length bytes.now ≡ offered 0 (length accepted) (flushed_writes ys)) × ((rest : List ℕ) × (accepted ++ (bytes.now ++ rest) ≡ out ys))) }
+    {
+        match self.messages.front() {
+            None => None,
+            Some(bytes) => Some(bytes),
+        }
+    }
+
+    /// Counts bytes of the first flushed message as accepted, and settles what has left whole.
+    pub(crate) fn wrote(&mut self, count: usize, outputs: &mut Outputs)
+        requires flushed { 0 < self.old.messages.flushed }
+        requires within { self.old.messages.offset + count ≤ first_size self.old.messages.queue.items }
+        requires small { first_size self.old.messages.queue.items < 2 ^ 64 }
+        requires room { flag_bound self.old.writability + 1 < 2 ^ 64 }
+        requires fits { self.old.writability.marks.pending < 2 ^ 128 }
+        requires place { HasPlaces outputs.old.stopped (self.old.writability.port.lane ∷ []) }
+        ensures stands { (accepted more rest : List ℕ) (ys : List Event) (ended : Bool) (sizes : List Change) → BufferStands accepted (buffered self.old) ys ended sizes
+            → length more ≡ count → accepted ++ (more ++ rest) ≡ out ys
+            → BufferStands (accepted ++ more) (buffered self.new) ys ended (sizes ++ Removed (waiting_bytes ys (length accepted) ended - waiting_bytes ys (length (accepted ++ more)) ended) ∷ []) }
+        ensures flags { (accepted more rest : List ℕ) (ys : List Event) (ended : Bool) (sizes : List Change) → BufferStands accepted (buffered self.old) ys ended sizes
+            → length more ≡ count → accepted ++ (more ++ rest) ≡ out ys
+            → SendsFlags self.old.writability.marks.low self.old.writability.marks.high sizes (Removed (waiting_bytes ys (length accepted) ended - waiting_bytes ys (length (accepted ++ more)) ended) ∷ []) self.old.writability.port outputs.old self.new.writability.port outputs.new }
+        ensures same { SameMarks (buffered self.old) (buffered self.new) }
+        ensures pending { self.new.writability.marks.pending ≤ self.old.writability.marks.pending }
+        ensures count { flag_bound self.new.writability ≤ flag_bound self.old.writability }
+    {
+        self.messages.advance(count);
+        let size = self.messages.settle_written();
+        self.writability.remove(size, outputs);
+    }
+
+    /// How many bytes the messages that wait hold.
+    pub(crate) fn pending(&self) -> u128
+        ensures sizes { (accepted : List ℕ) (ys : List Event) (ended : Bool) (sizes : List Change) → BufferStands accepted (buffered self.now) ys ended sizes → result ≡ pending_after sizes }
+        ensures waiting { (accepted : List ℕ) (ys : List Event) (ended : Bool) (sizes : List Change) → BufferStands accepted (buffered self.now) ys ended sizes → result ≡ waiting_bytes ys (length accepted) ended }
+    {
+        self.writability.marks.pending
+    }
+
+    pub(crate) fn is_writable(&self) -> bool
+        ensures view { result ≡ not self.now.writability.marks.is_unwritable }
+        ensures sizes { (accepted : List ℕ) (ys : List Event) (ended : Bool) (sizes : List Change) → BufferStands accepted (buffered self.now) ys ended sizes
+            → result ≡ not (is_unwritable self.now.writability.marks.low self.now.writability.marks.high sizes) }
+    {
+        !self.writability.marks.is_unwritable
+    }
+
+    /// Whether no flushed byte waits.
+    pub(crate) fn is_written(&self) -> bool
+        ensures { (accepted : List ℕ) (ys : List Event) (ended : Bool) (sizes : List Change) → BufferStands accepted (buffered self.now) ys ended sizes → result ≡ nat_le (length (out ys)) (length accepted) }
+    {
+        match self.front() {
+            None => true,
+            Some(_) => false,
+        }
+    }
+
+    /// The outcome of each write.
+    pub(crate) fn outcomes(&self) -> &[Option<Outcome>]
+        ensures { (accepted : List ℕ) (ys : List Event) (ended : Bool) (sizes : List Change) → BufferStands accepted (buffered self.now) ys ended sizes → result.now ≡ outcomes ys (length accepted) ended }
+    {
+        self.messages.outcomes.as_slice()
+    }
+
+    /// Gives the outcome of each write up.
+    pub(crate) fn into_outcomes(self) -> Vec<Option<Outcome>>
+        ensures { (accepted : List ℕ) (ys : List Event) (ended : Bool) (sizes : List Change) → BufferStands accepted (buffered self) ys ended sizes → result.items ≡ outcomes ys (length accepted) ended }
+    {
+        let WriteBuffer { messages, .. } = self;
+        let Outbound { outcomes, .. } = messages;
+        outcomes
+    }
+}
