@@ -142,6 +142,27 @@ fn flush_never_comes(rt: HostRuntime) -> Result<(), Fail> {
     gives(&rt, text.as_str(), "R0x4 O0x4", report)
 }
 
+// The first reply leaves in three calls, and so does the second.
+#[test]
+fn watermarks(rt: HostRuntime) -> Result<(), Fail> {
+    let text = sessions::watermarks(&rt)?;
+    let report =
+        "channel 0 drained\ntail 4\nActive\nRead Ping\nRead Ping\nReadComplete\nbytes 14 2b504f4e470d0a2b504f4e470d0a\nwrites 2\n0 Success\n1 Success\n";
+    gives(&rt, text.as_str(), "R0x3 O0x6", report)
+}
+
+const TWO_BURSTS: &str =
+    "channel 0 drained\ntail 5\nActive\nRead Ping\nReadComplete\nRead Ping\nReadComplete\nbytes 14 2b504f4e470d0a2b504f4e470d0a\nwrites 2\n0 Success\n1 Success\n";
+
+// The third read is held and passed over. What is not flushed holds nothing.
+#[test]
+fn burst_held(rt: HostRuntime) -> Result<(), Fail> {
+    let text = sessions::burst_held(&rt)?;
+    gives(&rt, text.as_str(), "R0x3 O0 R0x2 O0", TWO_BURSTS)?;
+    let text = sessions::burst_not_held(&rt)?;
+    gives(&rt, text.as_str(), "R0x4 O0x2", TWO_BURSTS)
+}
+
 #[test]
 fn no_channels(rt: HostRuntime) -> Result<(), Fail> {
     let text = sessions::NO_CHANNELS;

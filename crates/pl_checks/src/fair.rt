@@ -2,6 +2,7 @@
 //! random ones come to begins that report.
 
 use crate::sessions;
+use pl_head::MemoryTransport;
 use pl_replay::{ChannelReport, Move, Net, Report, Session, Stands, plain};
 use pl_stages::Handler;
 use pl_text::read_session;
@@ -24,7 +25,7 @@ fn all_moves(alloc: Global, channels: u16, executors: u16) -> Result<Vec<Move>, 
 }
 
 /// A net of a session, and all of its moves.
-fn begun(alloc: Global, text: &str) -> Result<(Net<Handler>, Vec<Move>), Fail> {
+fn begun(alloc: Global, text: &str) -> Result<(Net<Handler, MemoryTransport>, Vec<Move>), Fail> {
     let Session { world, capacity } = read_session(alloc, text)?;
     let moves = all_moves(alloc, world.channels().len() as u16, world.executors())?;
     Ok((Net::new(alloc, world, capacity)?, moves))
@@ -36,7 +37,7 @@ fn whole(alloc: Global, text: &str) -> Result<Report, Fail> {
 }
 
 /// Makes each move in turn, round after round, until a whole round moves nothing.
-fn go_round(net: &mut Net<Handler>, moves: &[Move]) -> Result<(), Fail> {
+fn go_round(net: &mut Net<Handler, MemoryTransport>, moves: &[Move]) -> Result<(), Fail> {
     for _ in 0..10_000 {
         let mut has_moved = false;
         for step in moves {
@@ -97,7 +98,19 @@ fn next_number(number: u64) -> u64 {
         .wrapping_add(1_442_695_040_888_963_407)
 }
 
-/// Makes so many random moves, and looks at the report after each.
+/// The flags of each channel, of which there are 16 at most, say in turn that it is not writable, and that it is writable
+/// again.
+fn assert_flags(rt: &impl Abort, net: &Net<Handler, MemoryTransport>, text: &str) {
+    for channel in 0..16 {
+        if let Some(flags) = net.flags(channel) {
+            for (place, is_writable) in flags.iter().enumerate() {
+                assert!(rt; *is_writable == (place % 2 == 1), "{text}");
+            }
+        }
+    }
+}
+
+/// Makes so many random moves, and looks at the report and the flags after each; then each move in turn, which drains it.
 fn assert_keeps(
     rt: &impl Abort,
     alloc: Global,
@@ -114,7 +127,29 @@ fn assert_keeps(
         let place = (number >> 32) % moves.len() as u64;
         net.apply(moves[place as usize])?;
         assert_begins(rt, &net.report()?, whole, text);
+        assert_flags(rt, &net, text);
     }
+    go_round(&mut net, moves.as_slice())?;
+    assert!(rt; net.drained(), "{text}");
+    assert_begins(rt, &net.report()?, whole, text);
+    assert_flags(rt, &net, text);
+    Ok(())
+}
+
+/// Each example is written whole, so it is writable at its end: as many flags say so as say the contrary.
+#[test]
+fn writable_at_the_end(rt: HostRuntime) -> Result<(), Fail> {
+    let mut has_flags = false;
+    for text in sessions::examples(&rt)? {
+        let text = text.as_str();
+        let (mut net, moves) = begun(rt.alloc(), text)?;
+        go_round(&mut net, moves.as_slice())?;
+        if let Some(flags) = net.flags(0) {
+            assert!(rt; flags.len() % 2 == 0, "{text}");
+            has_flags |= !flags.is_empty();
+        }
+    }
+    assert!(rt; has_flags);
     Ok(())
 }
 

@@ -1,7 +1,7 @@
 //! Schedules that leave a ping open, and what each has made of it.
 
 use crate::running::{answers, replayed};
-use crate::sessions::{DECODER_APART, PING, line_session};
+use crate::sessions::{DECODER_APART, PING, burst_held, line_session, watermarks};
 use std::test::Fail;
 
 /// Says that a schedule of the session of a text reports this, and leaves a channel open.
@@ -63,6 +63,30 @@ fn handover_open(rt: HostRuntime) -> Result<(), Fail> {
         &rt,
         DECODER_APART,
         "R0x3 H0 T1 H1 T0 H0 T1 H1 T0 H0 T1 H1 T0 H0 T1 H1 T0",
+        "channel 0 open\ntail 3\nActive\nRead Ping\nReadComplete\nbytes 0 -\nwrites 1\n0 Open\n",
+    )
+}
+
+// Six calls of the transport are needed, and there are five: a part of the second reply has left.
+#[test]
+fn part_of_a_reply(rt: HostRuntime) -> Result<(), Fail> {
+    let text = watermarks(&rt)?;
+    leaves(
+        &rt,
+        text.as_str(),
+        "R0x3 O0x5",
+        "channel 0 open\ntail 4\nActive\nRead Ping\nRead Ping\nReadComplete\nbytes 13 2b504f4e470d0a2b504f4e470d\nwrites 2\n0 Success\n1 Open\n",
+    )
+}
+
+// However often a held burst is to be read, it is not.
+#[test]
+fn burst_stays_held(rt: HostRuntime) -> Result<(), Fail> {
+    let text = burst_held(&rt)?;
+    leaves(
+        &rt,
+        text.as_str(),
+        "R0x9",
         "channel 0 open\ntail 3\nActive\nRead Ping\nReadComplete\nbytes 0 -\nwrites 1\n0 Open\n",
     )
 }

@@ -60,8 +60,13 @@ pub(crate) fn line_protocol(rt: &HostRuntime, max: u16) -> Result<String, AllocE
 
 /// A session of one channel with these edits and these bursts, each as JSON.
 pub(crate) fn piped(rt: &HostRuntime, edits: &str, bursts: &str) -> Result<String, AllocError> {
+    marked(rt, edits, "", bursts)
+}
+
+/// The same with marks and a window: members of the channel, each behind a comma.
+fn marked(rt: &HostRuntime, edits: &str, marks: &str, bursts: &str) -> Result<String, AllocError> {
     format!(in rt.alloc();
-        "{{\"version\":1,\"capacity\":4,\"loops\":1,\"channels\":[{{\"handlers\":[{edits}],\"bursts\":{bursts}}}]}}\n"
+        "{{\"version\":1,\"capacity\":4,\"loops\":1,\"channels\":[{{\"handlers\":[{edits}]{marks},\"bursts\":{bursts}}}]}}\n"
     )
 }
 
@@ -85,13 +90,39 @@ pub(crate) fn encoder_behind_turn(rt: &HostRuntime) -> Result<String, AllocError
     )
 }
 
+/// The line protocol behind a handler that lets each second flush pass.
+fn every_second_flush(rt: &HostRuntime) -> Result<String, AllocError> {
+    let behind = line_protocol(rt, 64)?;
+    format!(in rt.alloc();
+        "{{\"op\":\"last\",\"name\":\"flush_every\",\"kind\":\"flush_every\",\"n\":2}},\n{behind}"
+    )
+}
+
 /// One flush of two passes, and there is only one.
 pub(crate) fn flush_never_comes(rt: &HostRuntime) -> Result<String, AllocError> {
-    let behind = line_protocol(rt, 64)?;
-    let edits = format!(in rt.alloc();
-        "{{\"op\":\"last\",\"name\":\"flush_every\",\"kind\":\"flush_every\",\"n\":2}},\n{behind}"
-    )?;
+    let edits = every_second_flush(rt)?;
     piped(rt, edits.as_str(), r#"[["PING\n"]]"#)
+}
+
+/// Two replies pass the high mark, and leave three bytes a call.
+pub(crate) fn watermarks(rt: &HostRuntime) -> Result<String, AllocError> {
+    let edits = line_protocol(rt, 64)?;
+    let marks = r#","low":4,"high":8,"window":3"#;
+    marked(rt, edits.as_str(), marks, r#"[["PING\nPING\n"]]"#)
+}
+
+/// Each of two bursts brings a reply that passes the high mark.
+pub(crate) fn burst_held(rt: &HostRuntime) -> Result<String, AllocError> {
+    let edits = line_protocol(rt, 64)?;
+    let marks = r#","low":1,"high":2"#;
+    marked(rt, edits.as_str(), marks, r#"[["PING\n"],["PING\n"]]"#)
+}
+
+/// The same, where only the second of two flushes passes.
+pub(crate) fn burst_not_held(rt: &HostRuntime) -> Result<String, AllocError> {
+    let edits = every_second_flush(rt)?;
+    let marks = r#","low":1,"high":2"#;
+    marked(rt, edits.as_str(), marks, r#"[["PING\n"],["PING\n"]]"#)
 }
 
 /// All five edits.
@@ -147,6 +178,9 @@ pub(crate) fn examples(rt: &HostRuntime) -> Result<Vec<String>, AllocError> {
     }
     texts.push(encoder_behind_turn(rt)?)?;
     texts.push(flush_never_comes(rt)?)?;
+    texts.push(watermarks(rt)?)?;
+    texts.push(burst_held(rt)?)?;
+    texts.push(burst_not_held(rt)?)?;
     texts.push(edits_in_any_order(rt)?)?;
     texts.push(String::from_str(alloc, NO_CHANNELS)?)?;
     texts.push(group_placing(rt)?)?;

@@ -5,70 +5,83 @@ use Rattle.std.specs.Option.{MatchOption, option_map_or}
 use Rattle.std.proofs.lemmas.List.Elements.{All-append, All-filter, filter_passes}
 use Rattle.std.proofs.lemmas.Option.{slice_get_within, MatchOption-at_some, same_Some}
 use Rattle.std.proofs.lemmas.Bool.{eq-eqb, ne_eqb, eqb-true, eqb-false, cases_eq, not-true, not_from_true, not_from_false}
-use Rattle.pl_replay.specs.Plans.{ChannelPlan, Plan}
-use Rattle.pl_replay.specs.MadeItems.{Place, head_hop, made_of}
-use Rattle.pl_replay.specs.States.{ChannelState, State, channel_at, executor_at, taken_at, with_channel, with_waiting}
-use Rattle.pl_replay.specs.CoreMoves.{passed_on, target, executor_by, made_from}
-use Rattle.pl_replay.specs.LaneAccount.{made_at, origin_by, origin, is_on, numbers_on, in_flight, IsItem, IsQueued, IsWaiting, IsWork, IsChannelState, IsAccounted}
-use Rattle.pl_replay.proofs.Numbers.{range_more}
-use Rattle.pl_replay.proofs.Flights.{numbers_on-append, numbers_on-none, numbers_on-filter_kept, numbers_on-filter_dropped, is_on-parts}
+use Rattle.pl_event.specs.declared.envelopes.Kind.{Kind}
+use Rattle.pl_event.specs.declared.envelopes.Lane.{Lane}
+use Rattle.pl_world.specs.Plans.{ChannelPlan, Plan}
+use Rattle.pl_channel.specs.MadeItems.{Place, last_hop}
+use Rattle.pl_channel.specs.ChannelStates.{ChannelState, taken_of}
+use Rattle.pl_replay.specs.States.{State, channel_at, executor_at, taken_at, with_channel, with_waiting}
+use Rattle.pl_replay.specs.CoreMoves.{passed_on, target, executor_by, made_from, with_taken}
+use Rattle.pl_channel.specs.ChannelMoves.{made_of, after_taking, origin_by}
+use Rattle.pl_replay.specs.LaneAccount.{made_at, origin, is_on, numbers_on, in_flight, IsLane, IsQueued, IsWaiting, IsWork, IsChannelState, IsAccounted}
+use Rattle.pl_channel.proofs.Numbers.{range_more}
+use Rattle.pl_replay.proofs.Flights.{lane_of, numbers_on-append, numbers_on-none, numbers_on-filter_kept, numbers_on-filter_dropped, is_on-lane}
+use Rattle.pl_replay.proofs.Taking.{Gets}
 use Rattle.pl_replay.proofs.StateLemmas.{queue_at, backlog_at, channel_at-same, channel_at-other, length-with_channel, length-with_executor, queue_at-with_waiting, backlog_at-with_waiting, backlog_at-with_waiting_other}
 
 -- ---- items and lanes
 
 module _ (plan : Plan) (c : ℕ) (p : ChannelPlan) (here : slice_get plan.channels c ≡ Some p) where
-  plan_of : (item : Place) → item.channel ≡ c → slice_get plan.channels item.channel ≡ Some p
-  plan_of item at = ap (λ (k : ℕ). slice_get plan.channels k) at ∙ here
+  plan_of : (lane : Lane) → lane.channel ≡ c → slice_get plan.channels lane.channel ≡ Some p
+  plan_of lane at = ap (λ (k : ℕ). slice_get plan.channels k) at ∙ here
 
-  pub target-at : (item : Place) (hop : ℕ) → item.channel ≡ c → item.hop ≡ hop → target plan item ≡ get_or p.executors hop 0
-  target-at item hop at on = ap (λ (o : Option ChannelPlan). executor_by o item.hop) (plan_of item at) ∙ ap (λ (h : ℕ). get_or p.executors h 0) on
+  pub target-at : (item : Place) (hop : ℕ) → item.lane.channel ≡ c → item.lane.hop ≡ hop → target plan item ≡ get_or p.executors hop 0
+  target-at item hop at on = ap (λ (o : Option ChannelPlan). executor_by o item.lane.hop) (plan_of item.lane at) ∙ ap (λ (h : ℕ). get_or p.executors h 0) on
 
-  pub origin-at : (item : Place) (hop : ℕ) → item.channel ≡ c → item.hop ≡ hop → origin plan item ≡ origin_by p hop
-  origin-at item hop at on = ap (λ (o : Option ChannelPlan). option_map_or (λ (q : ChannelPlan). origin_by q item.hop) o 0) (plan_of item at) ∙ ap (origin_by p) on
+  pub origin-at : (item : Place) (hop : ℕ) → item.lane.channel ≡ c → item.lane.hop ≡ hop → origin plan item ≡ origin_by p hop
+  origin-at item hop at on = ap (λ (o : Option ChannelPlan). option_map_or (λ (q : ChannelPlan). origin_by q item.lane.hop) o 0) (plan_of item.lane at) ∙ ap (origin_by p) on
 
-  pub made_from-at : (item : Place) → item.channel ≡ c → made_from plan item ≡ made_of p item
-  made_from-at item at = ap (λ (o : Option ChannelPlan). option_map_or (λ (q : ChannelPlan). made_of q item) o []) (plan_of item at)
+  pub made_from-at : (s : State) (item : Place) → item.lane.channel ≡ c → made_from plan s item ≡ made_of p (channel_at s item.lane.channel) item
+  made_from-at s item at = ap (λ (o : Option ChannelPlan). option_map_or (λ (q : ChannelPlan). made_of q (channel_at s item.lane.channel) item) o []) (plan_of item.lane at)
 
-  pub IsItem-at : (item : Place) → item.channel ≡ c → IsItem plan item → item.hop ≤ head_hop p
-  IsItem-at item at there = MatchOption-at_some ⊥ (λ (q : ChannelPlan). item.hop ≤ head_hop q) p (plan_of item at) there
+  pub with_taken-at : (s : State) (item : Place) → item.lane.channel ≡ c → with_taken plan s item ≡ with_channel s item.lane.channel (after_taking p (channel_at s item.lane.channel) item.lane)
+  with_taken-at s item at =
+      ap (λ (o : Option ChannelPlan). option_map_or (λ (q : ChannelPlan). with_channel s item.lane.channel (after_taking q (channel_at s item.lane.channel) item.lane)) o s) (plan_of item.lane at)
 
-  pub IsItem-from : (item : Place) → item.channel ≡ c → item.hop ≤ head_hop p → IsItem plan item
-  IsItem-from item at within = subst (λ (o : Option ChannelPlan). MatchOption o ⊥ (λ (q : ChannelPlan). item.hop ≤ head_hop q)) (sym (plan_of item at)) within
+  pub IsLane-at : (lane : Lane) → lane.channel ≡ c → IsLane plan lane → lane.hop ≤ last_hop p lane.kind
+  IsLane-at lane at there = MatchOption-at_some ⊥ (λ (q : ChannelPlan). lane.hop ≤ last_hop q lane.kind) p (plan_of lane at) there
 
-  module _ (hop : ℕ) where
-    pub to_lane : (item : Place) → is_on c hop item ≡ true → target plan item ≡ get_or p.executors hop 0
-    to_lane item on = let at = is_on-parts c hop item on in target-at item hop at.0 at.1
+  pub IsLane-from : (lane : Lane) → lane.channel ≡ c → lane.hop ≤ last_hop p lane.kind → IsLane plan lane
+  IsLane-from lane at within = subst (λ (o : Option ChannelPlan). MatchOption o ⊥ (λ (q : ChannelPlan). lane.hop ≤ last_hop q lane.kind)) (sym (plan_of lane at)) within
 
-    pub from_lane : (item : Place) → is_on c hop item ≡ true → origin plan item ≡ origin_by p hop
-    from_lane item on = let at = is_on-parts c hop item on in origin-at item hop at.0 at.1
+module _ (plan : Plan) (lane : Lane) (p : ChannelPlan) (here : slice_get plan.channels lane.channel ≡ Some p) where
+  pub to_lane : (item : Place) → is_on lane item ≡ true → target plan item ≡ get_or p.executors lane.hop 0
+  to_lane item on =
+      let at = is_on-lane lane item on in
+      target-at plan lane.channel p here item lane.hop (ap (λ (l : Lane). l.channel) at) (ap (λ (l : Lane). l.hop) at)
 
-    -- ---- where no item of the lane is
+  pub from_lane : (item : Place) → is_on lane item ≡ true → origin plan item ≡ origin_by p lane.hop
+  from_lane item on =
+      let at = is_on-lane lane item on in
+      origin-at plan lane.channel p here item lane.hop (ap (λ (l : Lane). l.channel) at) (ap (λ (l : Lane). l.hop) at)
 
-    none_unless_from : (x : ℕ) (items : List Place) → All (λ i. IsItem plan i × (origin plan i ≡ x)) items → origin_by p hop ≢ x → numbers_on c hop items ≡ []
-    none_unless_from x items all other =
-        numbers_on-none c hop (λ i. IsItem plan i × (origin plan i ≡ x)) items all (λ i made on. other (sym (from_lane i on) ∙ made.1))
+  -- ---- where no item of the lane is
 
-    pub none_queued : (x : ℕ) (items : List Place) → All (IsQueued plan x) items → origin_by p hop ≡ x → numbers_on c hop items ≡ []
-    none_queued x items all own = numbers_on-none c hop (IsQueued plan x) items all (λ i queued on. queued.from (from_lane i on ∙ own))
+  none_unless_from : (x : ℕ) (items : List Place) → All (λ i. IsLane plan i.lane × (origin plan i ≡ x)) items → origin_by p lane.hop ≢ x → numbers_on lane items ≡ []
+  none_unless_from x items all other =
+      numbers_on-none lane (λ i. IsLane plan i.lane × (origin plan i ≡ x)) items all (λ i made on. other (sym (from_lane i on) ∙ made.1))
 
-    pub none_waiting : (x : ℕ) (items : List Place) → All (IsWaiting plan x) items → get_or p.executors hop 0 ≡ x → numbers_on c hop items ≡ []
-    none_waiting x items all own = numbers_on-none c hop (IsWaiting plan x) items all (λ i waits on. waits.to (to_lane i on ∙ own))
+  pub none_queued : (x : ℕ) (items : List Place) → All (IsQueued plan x) items → origin_by p lane.hop ≡ x → numbers_on lane items ≡ []
+  none_queued x items all own = numbers_on-none lane (IsQueued plan x) items all (λ i queued on. queued.from (from_lane i on ∙ own))
 
-    -- ---- what an executor made is passed on
+  pub none_waiting : (x : ℕ) (items : List Place) → All (IsWaiting plan x) items → get_or p.executors lane.hop 0 ≡ x → numbers_on lane items ≡ []
+  none_waiting x items all own = numbers_on-none lane (IsWaiting plan x) items all (λ i waits on. waits.to (to_lane i on ∙ own))
 
-    own_kept : (x : ℕ) (items : List Place) → get_or p.executors hop 0 ≡ x → numbers_on c hop (filter (λ i. eqb (target plan i) x) items) ≡ numbers_on c hop items
-    own_kept x items own = numbers_on-filter_kept c hop (λ i. eqb (target plan i) x) (λ i on. eq-eqb (target plan i) x (to_lane i on ∙ own)) items
+  -- ---- what an executor made is passed on
 
-    own_dropped : (x : ℕ) (items : List Place) → get_or p.executors hop 0 ≢ x → numbers_on c hop (filter (λ i. eqb (target plan i) x) items) ≡ []
-    own_dropped x items other = numbers_on-filter_dropped c hop (λ i. eqb (target plan i) x) (λ i on. ne_eqb (target plan i) x (λ own. other (sym (to_lane i on) ∙ own))) items
+  own_kept : (x : ℕ) (items : List Place) → get_or p.executors lane.hop 0 ≡ x → numbers_on lane (filter (λ i. eqb (target plan i) x) items) ≡ numbers_on lane items
+  own_kept x items own = numbers_on-filter_kept lane (λ i. eqb (target plan i) x) (λ i on. eq-eqb (target plan i) x (to_lane i on ∙ own)) items
 
-    others_kept : (x : ℕ) (items : List Place) → get_or p.executors hop 0 ≢ x → numbers_on c hop (filter (λ i. not (eqb (target plan i) x)) items) ≡ numbers_on c hop items
-    others_kept x items other =
-        numbers_on-filter_kept c hop (λ i. not (eqb (target plan i) x)) (λ i on. not_from_false (eqb (target plan i) x) (ne_eqb (target plan i) x (λ own. other (sym (to_lane i on) ∙ own)))) items
+  own_dropped : (x : ℕ) (items : List Place) → get_or p.executors lane.hop 0 ≢ x → numbers_on lane (filter (λ i. eqb (target plan i) x) items) ≡ []
+  own_dropped x items other = numbers_on-filter_dropped lane (λ i. eqb (target plan i) x) (λ i on. ne_eqb (target plan i) x (λ own. other (sym (to_lane i on) ∙ own))) items
 
-    others_dropped : (x : ℕ) (items : List Place) → get_or p.executors hop 0 ≡ x → numbers_on c hop (filter (λ i. not (eqb (target plan i) x)) items) ≡ []
-    others_dropped x items own =
-        numbers_on-filter_dropped c hop (λ i. not (eqb (target plan i) x)) (λ i on. not_from_true (eqb (target plan i) x) (eq-eqb (target plan i) x (to_lane i on ∙ own))) items
+  others_kept : (x : ℕ) (items : List Place) → get_or p.executors lane.hop 0 ≢ x → numbers_on lane (filter (λ i. not (eqb (target plan i) x)) items) ≡ numbers_on lane items
+  others_kept x items other =
+      numbers_on-filter_kept lane (λ i. not (eqb (target plan i) x)) (λ i on. not_from_false (eqb (target plan i) x) (ne_eqb (target plan i) x (λ own. other (sym (to_lane i on) ∙ own)))) items
+
+  others_dropped : (x : ℕ) (items : List Place) → get_or p.executors lane.hop 0 ≡ x → numbers_on lane (filter (λ i. not (eqb (target plan i) x)) items) ≡ []
+  others_dropped x items own =
+      numbers_on-filter_dropped lane (λ i. not (eqb (target plan i) x)) (λ i on. not_from_true (eqb (target plan i) x) (eq-eqb (target plan i) x (to_lane i on ∙ own))) items
 
 -- made items join the list, where nothing is queued
 joins_work : (w m q b : List ℕ) → q ≡ [] → b ≡ [] → (w ++ m) ++ (q ++ b) ≡ (w ++ (q ++ b)) ++ m
@@ -92,14 +105,14 @@ pub record Owes (plan : Plan) (x : ℕ) (s : State) (work made : List Place) : T
   pub channels : length s.channels ≡ length plan.channels
   pub executors : length s.executors ≡ plan.executors
   pub each_channel : (c : ℕ) (p : ChannelPlan) → slice_get plan.channels c ≡ Some p → IsChannelState p (channel_at s c)
-  pub lanes : (c : ℕ) (p : ChannelPlan) (hop : ℕ) → slice_get plan.channels c ≡ Some p → hop ≤ head_hop p
-      → (taken_at s c hop ≤ made_at p (channel_at s c) hop)
-      × (in_flight p s work c hop ++ numbers_on c hop made ≡ range_with_len (taken_at s c hop) (made_at p (channel_at s c) hop - taken_at s c hop))
+  pub lanes : (lane : Lane) (p : ChannelPlan) → slice_get plan.channels lane.channel ≡ Some p → lane.hop ≤ last_hop p lane.kind
+      → (taken_at s lane ≤ made_at p (channel_at s lane.channel) lane)
+      × (in_flight p s work lane ++ numbers_on lane made ≡ range_with_len (taken_at s lane) (made_at p (channel_at s lane.channel) lane - taken_at s lane))
   pub queues : (y : ℕ) → All (IsQueued plan y) (queue_at s y)
   pub backlogs : (y : ℕ) → All (IsWaiting plan y) (backlog_at s y)
   pub list : All (IsWork plan x) work
   pub room : (y : ℕ) → length (queue_at s y) ≤ plan.capacity
-  pub made_here : All (λ i. IsItem plan i × (origin plan i ≡ x)) made
+  pub made_here : All (λ i. IsLane plan i.lane × (origin plan i ≡ x)) made
 
 -- nothing was made
 pub accounted_nothing : (plan : Plan) (x : ℕ) (s : State) (work : List Place) → Owes plan x s work [] → IsAccounted plan x s work
@@ -107,7 +120,7 @@ accounted_nothing plan x s work o = record {
   channels = o.channels;
   executors = o.executors;
   each_channel = o.each_channel;
-  lanes = λ c p hop here within. let lane = o.lanes c p hop here within in (lane.0, sym (append-nil (in_flight p s work c hop)) ∙ lane.1);
+  lanes = λ lane p here within. let was = o.lanes lane p here within in (was.0, sym (append-nil (in_flight p s work lane)) ∙ was.1);
   queues = o.queues;
   backlogs = o.backlogs;
   list = o.list;
@@ -125,71 +138,71 @@ module _ (plan : Plan) (x : ℕ) (s : State) (work made : List Place) where
     abbrev passed : State
     passed = with_waiting s x theirs
 
-    backlog_kept : (y : ℕ) (c hop : ℕ) → numbers_on c hop theirs ≡ [] ⊎ y ≢ x → numbers_on c hop (backlog_at passed y) ≡ numbers_on c hop (backlog_at s y)
-    backlog_kept y c hop (inr other) = ap (numbers_on c hop) (backlog_at-with_waiting_other s x y theirs other)
-    backlog_kept y c hop (inl none) = elim (cases_eq y x) [
+    backlog_kept : (y : ℕ) (lane : Lane) → numbers_on lane theirs ≡ [] ⊎ y ≢ x → numbers_on lane (backlog_at passed y) ≡ numbers_on lane (backlog_at s y)
+    backlog_kept y lane (inr other) = ap (numbers_on lane) (backlog_at-with_waiting_other s x y theirs other)
+    backlog_kept y lane (inl none) = elim (cases_eq y x) [
       | inl same ↦
-          ap (λ (z : ℕ). numbers_on c hop (backlog_at passed z)) same
-          ∙ ap (numbers_on c hop) (backlog_at-with_waiting s x theirs there)
-          ∙ numbers_on-append c hop (backlog_at s x) theirs
-          ∙ ap (λ (l : List ℕ). numbers_on c hop (backlog_at s x) ++ l) none
-          ∙ append-nil (numbers_on c hop (backlog_at s x))
-          ∙ ap (λ (z : ℕ). numbers_on c hop (backlog_at s z)) (sym same)
-      | inr other ↦ ap (numbers_on c hop) (backlog_at-with_waiting_other s x y theirs other)
+          ap (λ (z : ℕ). numbers_on lane (backlog_at passed z)) same
+          ∙ ap (numbers_on lane) (backlog_at-with_waiting s x theirs there)
+          ∙ numbers_on-append lane (backlog_at s x) theirs
+          ∙ ap (λ (l : List ℕ). numbers_on lane (backlog_at s x) ++ l) none
+          ∙ append-nil (numbers_on lane (backlog_at s x))
+          ∙ ap (λ (z : ℕ). numbers_on lane (backlog_at s z)) (sym same)
+      | inr other ↦ ap (numbers_on lane) (backlog_at-with_waiting_other s x y theirs other)
     ]
 
     -- what is in flight of a lane grows at its end by what was made of it
-    flight_grows : (c : ℕ) (p : ChannelPlan) (hop : ℕ) → slice_get plan.channels c ≡ Some p → in_flight p passed (work ++ mine) c hop ≡ in_flight p s work c hop ++ numbers_on c hop made
-    flight_grows c p hop here =
-        let w = numbers_on c hop work in
-        let m = numbers_on c hop made in
-        let q = numbers_on c hop (queue_at s (get_or p.executors hop 0)) in
-        let b = numbers_on c hop (backlog_at s (origin_by p hop)) in
-        let start : in_flight p passed (work ++ mine) c hop ≡ (w ++ numbers_on c hop mine) ++ (q ++ numbers_on c hop (backlog_at passed (origin_by p hop))) =
-        ap₂ (λ (l r : List ℕ). l ++ (r ++ numbers_on c hop (backlog_at passed (origin_by p hop)))) (numbers_on-append c hop work mine)
-        (ap (numbers_on c hop) (queue_at-with_waiting s x (get_or p.executors hop 0) theirs there)) in
-        start ∙ elim (cases_eq (get_or p.executors hop 0) x) [
+    flight_grows : (lane : Lane) (p : ChannelPlan) → slice_get plan.channels lane.channel ≡ Some p → in_flight p passed (work ++ mine) lane ≡ in_flight p s work lane ++ numbers_on lane made
+    flight_grows lane p here =
+        let w = numbers_on lane work in
+        let m = numbers_on lane made in
+        let q = numbers_on lane (queue_at s (get_or p.executors lane.hop 0)) in
+        let b = numbers_on lane (backlog_at s (origin_by p lane.hop)) in
+        let start : in_flight p passed (work ++ mine) lane ≡ (w ++ numbers_on lane mine) ++ (q ++ numbers_on lane (backlog_at passed (origin_by p lane.hop))) =
+        ap₂ (λ (l r : List ℕ). l ++ (r ++ numbers_on lane (backlog_at passed (origin_by p lane.hop)))) (numbers_on-append lane work mine)
+        (ap (numbers_on lane) (queue_at-with_waiting s x (get_or p.executors lane.hop 0) theirs there)) in
+        start ∙ elim (cases_eq (get_or p.executors lane.hop 0) x) [
           | inl own ↦
-              let kept = own_kept plan c p here hop x made own in
-              let dropped = others_dropped plan c p here hop x made own in
-              let same = backlog_kept (origin_by p hop) c hop (inl dropped) in
-              elim (cases_eq (origin_by p hop) x) [
+              let kept = own_kept plan lane p here x made own in
+              let dropped = others_dropped plan lane p here x made own in
+              let same = backlog_kept (origin_by p lane.hop) lane (inl dropped) in
+              elim (cases_eq (origin_by p lane.hop) x) [
                 | inl made_own ↦
-                    let no_queue : q ≡ [] = none_queued plan c p here hop (get_or p.executors hop 0) (queue_at s (get_or p.executors hop 0)) (o.queues (get_or p.executors hop 0)) (made_own ∙ sym own) in
-                    let no_backlog : b ≡ [] = none_waiting plan c p here hop (origin_by p hop) (backlog_at s (origin_by p hop)) (o.backlogs (origin_by p hop)) (own ∙ sym made_own) in
+                    let no_queue : q ≡ [] = none_queued plan lane p here (get_or p.executors lane.hop 0) (queue_at s (get_or p.executors lane.hop 0)) (o.queues (get_or p.executors lane.hop 0)) (made_own ∙ sym own) in
+                    let no_backlog : b ≡ [] = none_waiting plan lane p here (origin_by p lane.hop) (backlog_at s (origin_by p lane.hop)) (o.backlogs (origin_by p lane.hop)) (own ∙ sym made_own) in
                     ap₂ (λ (k l : List ℕ). (w ++ k) ++ (q ++ l)) kept same ∙ joins_work w m q b no_queue no_backlog
                 | inr made_else ↦
-                    let none : m ≡ [] = none_unless_from plan c p here hop x made o.made_here made_else in
-                    joins_backlog w (numbers_on c hop mine) q b (numbers_on c hop (backlog_at passed (origin_by p hop))) m
+                    let none : m ≡ [] = none_unless_from plan lane p here x made o.made_here made_else in
+                    joins_backlog w (numbers_on lane mine) q b (numbers_on lane (backlog_at passed (origin_by p lane.hop))) m
                     (kept ∙ none) (same ∙ sym (append-nil b) ∙ ap (λ (l : List ℕ). b ++ l) (sym none))
               ]
           | inr other ↦
-              let dropped = own_dropped plan c p here hop x made other in
-              let kept = others_kept plan c p here hop x made other in
-              elim (cases_eq (origin_by p hop) x) [
+              let dropped = own_dropped plan lane p here x made other in
+              let kept = others_kept plan lane p here x made other in
+              elim (cases_eq (origin_by p lane.hop) x) [
                 | inl made_own ↦
-                    joins_backlog w (numbers_on c hop mine) q b (numbers_on c hop (backlog_at passed (origin_by p hop))) m dropped
-                    (ap (λ (z : ℕ). numbers_on c hop (backlog_at passed z)) made_own
-                    ∙ ap (numbers_on c hop) (backlog_at-with_waiting s x theirs there)
-                    ∙ numbers_on-append c hop (backlog_at s x) theirs
-                    ∙ ap₂ (λ (k : List ℕ) (z : ℕ). numbers_on c hop (backlog_at s z) ++ k) kept (sym made_own))
+                    joins_backlog w (numbers_on lane mine) q b (numbers_on lane (backlog_at passed (origin_by p lane.hop))) m dropped
+                    (ap (λ (z : ℕ). numbers_on lane (backlog_at passed z)) made_own
+                    ∙ ap (numbers_on lane) (backlog_at-with_waiting s x theirs there)
+                    ∙ numbers_on-append lane (backlog_at s x) theirs
+                    ∙ ap₂ (λ (k : List ℕ) (z : ℕ). numbers_on lane (backlog_at s z) ++ k) kept (sym made_own))
                 | inr made_else ↦
-                    let none : m ≡ [] = none_unless_from plan c p here hop x made o.made_here made_else in
-                    let same = backlog_kept (origin_by p hop) c hop (inr made_else) in
-                    joins_backlog w (numbers_on c hop mine) q b (numbers_on c hop (backlog_at passed (origin_by p hop))) m
+                    let none : m ≡ [] = none_unless_from plan lane p here x made o.made_here made_else in
+                    let same = backlog_kept (origin_by p lane.hop) lane (inr made_else) in
+                    joins_backlog w (numbers_on lane mine) q b (numbers_on lane (backlog_at passed (origin_by p lane.hop))) m
                     dropped (same ∙ sym (append-nil b) ∙ ap (λ (l : List ℕ). b ++ l) (sym none))
               ]
         ]
 
     waits_now : All (IsWaiting plan x) theirs
     waits_now k d below =
-        let made_it = All-filter (λ i. not (eqb (target plan i) x)) (λ i. IsItem plan i × (origin plan i ≡ x)) made o.made_here k d below in
+        let made_it = All-filter (λ i. not (eqb (target plan i) x)) (λ i. IsLane plan i.lane × (origin plan i ≡ x)) made o.made_here k d below in
         let other = filter_passes (λ i. not (eqb (target plan i) x)) made k d below in
         record { there = made_it.0; to = eqb-false (target plan (get_or theirs k d)) x (not-true (eqb (target plan (get_or theirs k d)) x) other); from = made_it.1 }
 
     works_now : All (IsWork plan x) mine
     works_now k d below =
-        let made_it = All-filter (λ i. eqb (target plan i) x) (λ i. IsItem plan i × (origin plan i ≡ x)) made o.made_here k d below in
+        let made_it = All-filter (λ i. eqb (target plan i) x) (λ i. IsLane plan i.lane × (origin plan i ≡ x)) made o.made_here k d below in
         let own = filter_passes (λ i. eqb (target plan i) x) made k d below in
         record { there = made_it.0; to = eqb-true (target plan (get_or mine k d)) x own }
 
@@ -207,7 +220,7 @@ module _ (plan : Plan) (x : ℕ) (s : State) (work made : List Place) where
       channels = o.channels;
       executors = length-with_executor s x (record (executor_at s x) { backlog = backlog_at s x ++ theirs }) ∙ o.executors;
       each_channel = o.each_channel;
-      lanes = λ c p hop here within. let lane = o.lanes c p hop here within in (lane.0, flight_grows c p hop here ∙ lane.1);
+      lanes = λ lane p here within. let was = o.lanes lane p here within in (was.0, flight_grows lane p here ∙ was.1);
       queues = λ y. subst (λ (l : List Place). All (IsQueued plan y) l) (sym (queue_at-with_waiting s x y theirs there)) (o.queues y);
       backlogs = backlogs_now;
       list = All-append (IsWork plan x) work mine o.list works_now;
@@ -220,15 +233,13 @@ module _ (plan : Plan) (x : ℕ) (s : State) (work made : List Place) where
 -- is what stands between the items taken and those made before.
 pub record Steps (plan : Plan) (x : ℕ) (s : State) (c : ℕ) (p : ChannelPlan) (now : ChannelState) (before after made : List Place) : Type 0 where
   pub state : IsChannelState p now
-  pub more : (hop : ℕ) → hop ≤ head_hop p
-      → (made_at p (channel_at s c) hop ≤ made_at p now hop)
-      × (numbers_on c hop made ≡ range_with_len (made_at p (channel_at s c) hop) (made_at p now hop - made_at p (channel_at s c) hop))
-  pub taken : (hop : ℕ) → hop ≤ head_hop p
-      → (get_or now.taken hop 0 ≤ made_at p (channel_at s c) hop)
-      × (in_flight p s after c hop ≡ range_with_len (get_or now.taken hop 0) (made_at p (channel_at s c) hop - get_or now.taken hop 0))
-  pub elsewhere : (d hop : ℕ) → d ≢ c → (numbers_on d hop made ≡ []) × (numbers_on d hop after ≡ numbers_on d hop before)
+  pub more : (kind : Kind) (hop : ℕ) → hop ≤ last_hop p kind
+      → Gets (made_at p (channel_at s c) (lane_of c kind hop)) (made_at p now (lane_of c kind hop)) (numbers_on (lane_of c kind hop) made)
+  pub taken : (kind : Kind) (hop : ℕ) → hop ≤ last_hop p kind
+      → Gets (taken_of now (lane_of c kind hop)) (made_at p (channel_at s c) (lane_of c kind hop)) (in_flight p s after (lane_of c kind hop))
+  pub elsewhere : (lane : Lane) → lane.channel ≢ c → (numbers_on lane made ≡ []) × (numbers_on lane after ≡ numbers_on lane before)
   pub list : All (IsWork plan x) after
-  pub made_here : All (λ i. IsItem plan i × (origin plan i ≡ x)) made
+  pub made_here : All (λ i. IsLane plan i.lane × (origin plan i ≡ x)) made
 
 module _ (plan : Plan) (x y : ℕ) (s : State) (c : ℕ) (p : ChannelPlan) (here : slice_get plan.channels c ≡ Some p) (now : ChannelState) (before after made : List Place)
     (a : IsAccounted plan y s before) (step : Steps plan x s c p now before after made) where
@@ -239,24 +250,23 @@ module _ (plan : Plan) (x y : ℕ) (s : State) (c : ℕ) (p : ChannelPlan) (here
   now_is = channel_at-same s c now (omega (arith, slice_get_within plan.channels c p here, a.channels))
 
   -- the account of one lane
-  abbrev Lane : ℕ → ChannelPlan → ℕ → ChannelState → Type 0
-  Lane d q hop t =
-      (get_or t.taken hop 0 ≤ made_at q t hop)
-      × (in_flight q s after d hop ++ numbers_on d hop made ≡ range_with_len (get_or t.taken hop 0) (made_at q t hop - get_or t.taken hop 0))
+  abbrev Holds : Lane → ChannelPlan → ChannelState → Type 0
+  Holds lane q t = Gets (taken_of t lane) (made_at q t lane) (in_flight q s after lane ++ numbers_on lane made)
 
-  lane_here : (hop : ℕ) → hop ≤ head_hop p → Lane c p hop (channel_at stepped c)
-  lane_here hop within =
-      let grown = step.more hop within in
-      let took = step.taken hop within in
-      subst (λ (t : ChannelState). Lane c p hop t) (sym now_is)
-      (omega (arith, grown.0, took.0), ap₂ (λ (l r : List ℕ). l ++ r) took.1 grown.1 ∙ range_more (get_or now.taken hop 0) (made_at p (channel_at s c) hop) (made_at p now hop) took.0 grown.0)
+  lane_here : (kind : Kind) (hop : ℕ) → hop ≤ last_hop p kind → Holds (lane_of c kind hop) p (channel_at stepped c)
+  lane_here kind hop within =
+      let lane = lane_of c kind hop in
+      let grown = step.more kind hop within in
+      let took = step.taken kind hop within in
+      subst (λ (t : ChannelState). Holds lane p t) (sym now_is)
+      (omega (arith, grown.0, took.0), ap₂ (λ (l r : List ℕ). l ++ r) took.1 grown.1 ∙ range_more (taken_of now lane) (made_at p (channel_at s c) lane) (made_at p now lane) took.0 grown.0)
 
-  lane_elsewhere : (d : ℕ) (q : ChannelPlan) (hop : ℕ) → d ≢ c → slice_get plan.channels d ≡ Some q → hop ≤ head_hop q → Lane d q hop (channel_at stepped d)
-  lane_elsewhere d q hop other at within =
-      let old = a.lanes d q hop at within in
-      let none = step.elsewhere d hop other in
-      subst (λ (t : ChannelState). Lane d q hop t) (sym (channel_at-other s c d now other))
-      (old.0, ap₂ (λ (l r : List ℕ). (l ++ (numbers_on d hop (queue_at s (get_or q.executors hop 0)) ++ numbers_on d hop (backlog_at s (origin_by q hop)))) ++ r) none.1 none.0 ∙ append-nil (in_flight q s before d hop) ∙ old.1)
+  lane_elsewhere : (lane : Lane) (q : ChannelPlan) → lane.channel ≢ c → slice_get plan.channels lane.channel ≡ Some q → lane.hop ≤ last_hop q lane.kind → Holds lane q (channel_at stepped lane.channel)
+  lane_elsewhere lane q other at within =
+      let old = a.lanes lane q at within in
+      let none = step.elsewhere lane other in
+      subst (λ (t : ChannelState). Holds lane q t) (sym (channel_at-other s c lane.channel now other))
+      (old.0, ap₂ (λ (l r : List ℕ). (l ++ (numbers_on lane (queue_at s (get_or q.executors lane.hop 0)) ++ numbers_on lane (backlog_at s (origin_by q lane.hop)))) ++ r) none.1 none.0 ∙ append-nil (in_flight q s before lane) ∙ old.1)
 
   plan_is : (d : ℕ) (q : ChannelPlan) → d ≡ c → slice_get plan.channels d ≡ Some q → p ≡ q
   plan_is d q same at = same_Some p q (sym here ∙ ap (λ (k : ℕ). slice_get plan.channels k) (sym same) ∙ at)
@@ -272,11 +282,11 @@ module _ (plan : Plan) (x y : ℕ) (s : State) (c : ℕ) (p : ChannelPlan) (here
           (subst (λ (t : ChannelState). IsChannelState p t) (sym (ap (λ (k : ℕ). channel_at stepped k) same ∙ now_is)) step.state)
       | inr other ↦ subst (λ (t : ChannelState). IsChannelState q t) (sym (channel_at-other s c d now other)) (a.each_channel d q at)
     ];
-    lanes = λ d q hop at within. elim (cases_eq d c) [
+    lanes = λ lane q at within. elim (cases_eq lane.channel c) [
       | inl same ↦
-          subst (λ (r : ChannelPlan). hop ≤ head_hop r → Lane d r hop (channel_at stepped d)) (plan_is d q same at)
-          (subst (λ (k : ℕ). hop ≤ head_hop p → Lane k p hop (channel_at stepped k)) (sym same) (lane_here hop)) within
-      | inr other ↦ lane_elsewhere d q hop other at within
+          subst (λ (r : ChannelPlan). lane.hop ≤ last_hop r lane.kind → Holds lane r (channel_at stepped lane.channel)) (plan_is lane.channel q same at)
+          (subst (λ (k : ℕ). lane.hop ≤ last_hop p lane.kind → Holds (lane_of k lane.kind lane.hop) p (channel_at stepped k)) (sym same) (lane_here lane.kind lane.hop)) within
+      | inr other ↦ lane_elsewhere lane q other at within
     ];
     queues = a.queues;
     backlogs = a.backlogs;

@@ -11,11 +11,11 @@ use Rattle.std.proofs.lemmas.Bool.{cases_eq, cases_lt, eqb-true, ne_eqb, falseâ‰
 use Rattle.pl_event.specs.declared.envelopes.Lane.{Lane}
 use Rattle.pl_event.specs.declared.envelopes.Envelope.{Envelope}
 use Rattle.pl_context.specs.Stopped.{Stopped, HasPlaces, no_stops}
-use Rattle.pl_replay.specs.Plans.{Plan}
-use Rattle.pl_replay.specs.MadeItems.{Place}
+use Rattle.pl_world.specs.Plans.{Plan}
+use Rattle.pl_channel.specs.MadeItems.{Place}
 use Rattle.pl_replay.specs.States.{ExecutorState, nothing_waits}
 use Rattle.pl_replay.specs.CoreMoves.{target}
-use Rattle.pl_replay.specs.Envelopes.{envelope_at}
+use Rattle.pl_channel.specs.Envelopes.{envelope_at}
 use Rattle.pl_replay.specs.BacklogStand.{Aged, IsByAge, is_for, is_aged_for, entry_at, WaitingStands, BacklogStands, ExecutorStands, Keeps}
 use Rattle.pl_replay.specs.declared.executors.Executor.{Executor}
 use Rattle.pl_replay.specs.declared.executors.Waiting.{Waiting}

@@ -7,17 +7,20 @@ use Rattle.std.proofs.lemmas.Option.{none-some, slice_get_cases, slice_get_withi
 use Rattle.std.proofs.lemmas.Bool.{cases_eq, cases_lt}
 use Rattle.pl_event.specs.declared.events.Event.{Event}
 use Rattle.pl_event.specs.Meaning.{Meaning}
-use Rattle.pl_replay.specs.declared.placed_channels.PlacedChannel.{PlacedChannel}
+use Rattle.pl_channel.specs.declared.placed_channels.PlacedChannel.{PlacedChannel}
 use Rattle.pl_replay.specs.declared.executors.Executor.{Executor}
 use Rattle.pl_replay.specs.declared.nets.Core.{Core}
-use Rattle.pl_replay.specs.Plans.{ChannelPlan, Plan}
-use Rattle.pl_replay.specs.MadeItems.{Place}
-use Rattle.pl_replay.specs.PlanRules.{IsSmallPlan}
-use Rattle.pl_replay.specs.States.{ChannelState, ExecutorState, State, channel_at, executor_at, with_channel, with_executor}
-use Rattle.pl_replay.specs.Envelopes.{envelopes_at, IsSmallChannel}
+use Rattle.pl_head.specs.Transports.{TransportState}
+use Rattle.pl_world.specs.Plans.{ChannelPlan, Plan}
+use Rattle.pl_channel.specs.MadeItems.{Place}
+use Rattle.pl_world.specs.PlanRules.{IsSmallPlan, IsSmallChannel}
+use Rattle.pl_channel.specs.ChannelStates.{ChannelState}
+use Rattle.pl_replay.specs.States.{ExecutorState, State, channel_at, executor_at, with_channel, with_executor}
+use Rattle.pl_channel.specs.Envelopes.{envelopes_at}
 use Rattle.pl_replay.specs.BacklogStand.{ExecutorStands, AllKeep}
 use Rattle.pl_replay.proofs.Backlogs.{stands-kept}
-use Rattle.pl_replay.specs.NetStand.{lanes_between, all_made, ChannelStands, CoreHolds}
+use Rattle.pl_replay.specs.NetStand.{lanes_between, all_made, CoreHolds}
+use Rattle.pl_channel.specs.ChannelStand.{ChannelStands}
 use Rattle.pl_replay.proofs.StateLemmas.{channel_at-same, channel_at-other, executor_at-same, executor_at-other}
 
 -- ---- a list in which one has changed
@@ -47,10 +50,10 @@ small_at plan small c p here =
     subst IsSmallChannel (get_or_from_slice_get plan.channels c p p here)
     (All-get_or IsSmallChannel plan.channels c p (slice_get_within plan.channels c p here) small.channels)
 
-module _ {S : Type 0} (meaning : S → Meaning) (stands_after : S → List Event → Type 0) where
+module _ {S T : Type 0} (meaning : S → Meaning) (stands_after : S → List Event → Type 0) (state : T → TransportState) where
   -- ---- what is there
 
-  module _ (plan : Plan) (s : State) (listed : List Place) (core : Core S) (h : CoreHolds meaning stands_after plan s listed core) where
+  module _ (plan : Plan) (s : State) (listed : List Place) (core : Core S T) (h : CoreHolds meaning stands_after state plan s listed core) where
     -- the plan of one of its channels
     pub plan_at : (c : ℕ) → c < length core.channels.items → (p : ChannelPlan) × (slice_get plan.channels c ≡ Some p)
     plan_at c within = elim (slice_get_cases plan.channels c).1 [
@@ -63,15 +66,15 @@ module _ {S : Type 0} (meaning : S → Meaning) (stands_after : S → List Event
 
   -- ---- changes
 
-  module _ (plan : Plan) (s : State) (listed : List Place) (core : Core S) (h : CoreHolds meaning stands_after plan s listed core)
-      (after : Core S) (later : List Place) (capacity : after.capacity ≡ core.capacity) (work : after.work.items ≡ envelopes_at plan later) (stopped : after.work.stopped ≡ core.work.stopped) where
+  module _ (plan : Plan) (s : State) (listed : List Place) (core : Core S T) (h : CoreHolds meaning stands_after state plan s listed core)
+      (after : Core S T) (later : List Place) (capacity : after.capacity ≡ core.capacity) (work : after.work.items ≡ envelopes_at plan later) (stopped : after.work.stopped ≡ core.work.stopped) where
     -- the work list changes, and no longer list stands on it
-    pub holds_work : after.channels.items ≡ core.channels.items → after.executors.items ≡ core.executors.items → length later ≤ length listed → CoreHolds meaning stands_after plan s later after
+    pub holds_work : after.channels.items ≡ core.channels.items → after.executors.items ≡ core.executors.items → length later ≤ length listed → CoreHolds meaning stands_after state plan s later after
     holds_work channels executors shorter = record {
       capacity = capacity ∙ h.capacity;
       executor_count = ap (λ (l : List Executor). length l) executors ∙ h.executor_count;
-      channel_count = ap (λ (l : List (PlacedChannel S)). length l) channels ∙ h.channel_count;
-      channels = λ c p channel here at. h.channels c p channel here (ap (λ (l : List (PlacedChannel S)). slice_get l c) (sym channels) ∙ at);
+      channel_count = ap (λ (l : List (PlacedChannel S T)). length l) channels ∙ h.channel_count;
+      channels = λ c p channel here at. h.channels c p channel here (ap (λ (l : List (PlacedChannel S T)). slice_get l c) (sym channels) ∙ at);
       executors = λ y e at. h.executors y e (ap (λ (l : List Executor). slice_get l y) (sym executors) ∙ at);
       ages = λ y e at. let old = h.ages y e (ap (λ (l : List Executor). slice_get l y) (sym executors) ∙ at) in omega (arith, old, shorter);
       work = work;
@@ -81,12 +84,12 @@ module _ {S : Type 0} (meaning : S → Meaning) (stands_after : S → List Event
     -- so does an executor
     pub holds_executor : (y : ℕ) (e : Executor) (now : ExecutorState) → after.channels.items ≡ core.channels.items → after.executors.items ≡ set core.executors.items y e
         → y < length core.executors.items → y < length s.executors → ExecutorStands plan (lanes_between plan y) now e → length later ≤ length listed → e.next_age + length later ≤ all_made plan s
-        → CoreHolds meaning stands_after plan (with_executor s y now) later after
+        → CoreHolds meaning stands_after state plan (with_executor s y now) later after
     holds_executor y e now channels executors within there stands shorter young = record {
       capacity = capacity ∙ h.capacity;
       executor_count = ap (λ (l : List Executor). length l) executors ∙ length-set core.executors.items y e ∙ h.executor_count;
-      channel_count = ap (λ (l : List (PlacedChannel S)). length l) channels ∙ h.channel_count;
-      channels = λ c p channel here at. h.channels c p channel here (ap (λ (l : List (PlacedChannel S)). slice_get l c) (sym channels) ∙ at);
+      channel_count = ap (λ (l : List (PlacedChannel S T)). length l) channels ∙ h.channel_count;
+      channels = λ c p channel here at. h.channels c p channel here (ap (λ (l : List (PlacedChannel S T)). slice_get l c) (sym channels) ∙ at);
       executors = λ z f at. let found = ap (λ (l : List Executor). slice_get l z) (sym executors) ∙ at in elim (cases_eq z y) [
         | inl same ↦
             let is = at_set_same core.executors.items y e f within (ap (λ (k : ℕ). slice_get (set core.executors.items y e) k) (sym same) ∙ found) in
@@ -108,27 +111,27 @@ module _ {S : Type 0} (meaning : S → Meaning) (stands_after : S → List Event
     }
 
     -- so does a channel, which has made the items that the list has more
-    pub holds_channel : (c : ℕ) (p : ChannelPlan) (old channel : PlacedChannel S) (now : ChannelState) → slice_get plan.channels c ≡ Some p → slice_get core.channels.items c ≡ Some old
+    pub holds_channel : (c : ℕ) (p : ChannelPlan) (old channel : PlacedChannel S T) (now : ChannelState) → slice_get plan.channels c ≡ Some p → slice_get core.channels.items c ≡ Some old
         → after.channels.items ≡ set core.channels.items c channel → after.executors.items ≡ core.executors.items
-        → c < length s.channels → ChannelStands meaning stands_after c p now channel
+        → c < length s.channels → ChannelStands meaning stands_after state c p now channel
         → all_made plan s + length later ≤ all_made plan (with_channel s c now) + length listed
-        → CoreHolds meaning stands_after plan (with_channel s c now) later after
+        → CoreHolds meaning stands_after state plan (with_channel s c now) later after
     holds_channel c p old channel now here was channels executors there stands grown =
         let within = slice_get_within core.channels.items c old was in
         record {
           capacity = capacity ∙ h.capacity;
           executor_count = ap (λ (l : List Executor). length l) executors ∙ h.executor_count;
-          channel_count = ap (λ (l : List (PlacedChannel S)). length l) channels ∙ length-set core.channels.items c channel ∙ h.channel_count;
-          channels = λ d q other here_too at. let found = ap (λ (l : List (PlacedChannel S)). slice_get l d) (sym channels) ∙ at in elim (cases_eq d c) [
+          channel_count = ap (λ (l : List (PlacedChannel S T)). length l) channels ∙ length-set core.channels.items c channel ∙ h.channel_count;
+          channels = λ d q other here_too at. let found = ap (λ (l : List (PlacedChannel S T)). slice_get l d) (sym channels) ∙ at in elim (cases_eq d c) [
             | inl same ↦
                 let is = at_set_same core.channels.items c channel other within (ap (λ (k : ℕ). slice_get (set core.channels.items c channel) k) (sym same) ∙ found) in
                 let plan_is : p ≡ q = same_Some p q (sym here ∙ ap (λ (k : ℕ). slice_get plan.channels k) (sym same) ∙ here_too) in
-                subst (λ (k : ℕ). ChannelStands meaning stands_after k q (channel_at (with_channel s c now) k) other) (sym same)
-                (subst (λ (r : ChannelPlan). ChannelStands meaning stands_after c r (channel_at (with_channel s c now) c) other) plan_is
-                (subst (λ (g : PlacedChannel S). ChannelStands meaning stands_after c p (channel_at (with_channel s c now) c) g) is
-                (subst (λ (t : ChannelState). ChannelStands meaning stands_after c p t channel) (sym (channel_at-same s c now there)) stands)))
+                subst (λ (k : ℕ). ChannelStands meaning stands_after state k q (channel_at (with_channel s c now) k) other) (sym same)
+                (subst (λ (r : ChannelPlan). ChannelStands meaning stands_after state c r (channel_at (with_channel s c now) c) other) plan_is
+                (subst (λ (g : PlacedChannel S T). ChannelStands meaning stands_after state c p (channel_at (with_channel s c now) c) g) is
+                (subst (λ (t : ChannelState). ChannelStands meaning stands_after state c p t channel) (sym (channel_at-same s c now there)) stands)))
             | inr off ↦
-                subst (λ (t : ChannelState). ChannelStands meaning stands_after d q t other) (sym (channel_at-other s c d now off))
+                subst (λ (t : ChannelState). ChannelStands meaning stands_after state d q t other) (sym (channel_at-other s c d now off))
                 (h.channels d q other here_too (at_set_other core.channels.items c d channel other off found))
           ];
           executors = λ y e at. h.executors y e (ap (λ (l : List Executor). slice_get l y) (sym executors) ∙ at);
@@ -138,12 +141,12 @@ module _ {S : Type 0} (meaning : S → Meaning) (stands_after : S → List Event
         }
 
     -- so do executors, each of which keeps what waits
-    pub holds_kept : after.channels.items ≡ core.channels.items → AllKeep core.executors.items after.executors.items → length later ≤ length listed → CoreHolds meaning stands_after plan s later after
+    pub holds_kept : after.channels.items ≡ core.channels.items → AllKeep core.executors.items after.executors.items → length later ≤ length listed → CoreHolds meaning stands_after state plan s later after
     holds_kept channels keep shorter = record {
       capacity = capacity ∙ h.capacity;
       executor_count = keep.count ∙ h.executor_count;
-      channel_count = ap (λ (l : List (PlacedChannel S)). length l) channels ∙ h.channel_count;
-      channels = λ c p channel here at. h.channels c p channel here (ap (λ (l : List (PlacedChannel S)). slice_get l c) (sym channels) ∙ at);
+      channel_count = ap (λ (l : List (PlacedChannel S T)). length l) channels ∙ h.channel_count;
+      channels = λ c p channel here at. h.channels c p channel here (ap (λ (l : List (PlacedChannel S T)). slice_get l c) (sym channels) ∙ at);
       executors = λ y e at. let was = keep.each y e at in stands-kept plan (lanes_between plan y) (executor_at s y) was.0 e was.2 (h.executors y was.0 was.1);
       ages = λ y e at.
           let was = keep.each y e at in

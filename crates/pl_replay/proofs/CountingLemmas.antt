@@ -1,64 +1,11 @@
--- The lanes of stages that make no more than they take are small, and so are those of the tests' counting stage.
-use Rattle.std.proofs.Common.{◌≡◌, ℕ, ◌+◌, ◌≤◌, ◌==◌, ◌&&◌, nat_le, Bool, true, false, cond, List, [], ◌∷◌, ◌++◌, length, map, get_or, refl, arith}
-use Rattle.std.specs.List.{All, list_all}
-use Rattle.std.proofs.lemmas.Bool.{and_parts}
-use Rattle.std.proofs.lemmas.List.Elements.{All-head, All-tail, All-nil, All-cons, All-map}
+-- The tests' counting stage makes no more than it takes.
+use Rattle.std.proofs.Common.{◌≡◌, ◌+◌, ◌≤◌, Bool, false, cond, List, [], ◌∷◌, ◌++◌, length, refl, arith}
 use Rattle.std.proofs.lemmas.List.Sums.{sum_by-cons, sum_by_push}
 use Rattle.pl_event.specs.declared.events.Event.{Event}
 use Rattle.pl_event.specs.declared.events.Event.TheVariants.{Active, Read, ReadComplete, Caught, Write, Flush}
-use Rattle.pl_event.specs.declared.stages.Direction.{Direction}
-use Rattle.pl_event.specs.declared.stages.Direction.TheVariants.{Inbound, Outbound, Turn}
-use Rattle.pl_event.specs.Meaning.{Meaning, made_after}
-use Rattle.pl_event.specs.Paths.{is_outbound}
+use Rattle.pl_event.specs.Meaning.{made_after}
 use Rattle.pl_stages.specs.Counts.{IsThrifty, event_weight, weight}
-use Rattle.pl_build.specs.Pipelines.{Path}
-use Rattle.pl_build.specs.Paths.{IsPath}
-use Rattle.pl_replay.specs.declared.session.Recorded.{Recorded}
-use Rattle.pl_replay.specs.Plans.{channel_planned}
-use Rattle.pl_replay.specs.Envelopes.{IsSmallChannel}
-use Rattle.pl_replay.specs.Limits.{fits, is_placed, is_within}
-use Rattle.pl_replay.specs.Worlds.{recorded}
 use Rattle.pl_replay.specs.CountingStage.{is_read, reads, with_number, counting}
-use Rattle.pl_replay.proofs.SmallLanes.{lanes_small}
-
--- ---- stages that make no more than they take
-
-is_out : (d : Direction) → is_outbound d ≡ true → d ≡ Outbound
-is_out Outbound e = refl
-is_out Inbound e = cc
-is_out Turn e = cc
-
-module _ {S : Type 0} (meaning : S → Meaning) (stands_after : S → List Event → Type 0) (thrifty : (s : S) → IsThrifty (meaning s)) where
-  all_thrifty : (stages : List S) → All IsThrifty (map meaning stages)
-  all_thrifty stages = All-map IsThrifty meaning stages (λ k d below. thrifty (get_or stages k d))
-
-  all_out : (stages : List S) → All (λ s. is_outbound (meaning s).direction ≡ true) stages → All (λ m. m.direction ≡ Outbound) (map meaning stages)
-  all_out stages all = All-map (λ (m : Meaning). m.direction ≡ Outbound) meaning stages (λ k d below. is_out (meaning (get_or stages k d)).direction (all k d below))
-
-  abbrev Kept : Path S → Type 0
-  Kept = IsPath meaning stands_after
-
-  abbrev Small : Recorded S → Type 0
-  Small c = IsSmallChannel (channel_planned meaning c)
-
-  all_small : (pipelines : List (Path S)) (inputs : List (List (List (List ℕ)))) → All Kept pipelines → list_all fits inputs ≡ true → All Small (recorded pipelines inputs)
-  all_small [] inputs kept within = All-nil Small
-  all_small (p ∷ pipelines) [] kept within = All-nil Small
-  all_small (p ∷ pipelines) (bursts ∷ inputs) kept within =
-      let parts = and_parts (fits bursts) (list_all fits inputs) within in
-      let out = all_out p.outbound (All-head Kept p pipelines kept).downwards in
-      All-cons Small (record { pipeline = p; bursts = bursts }) (recorded pipelines inputs)
-      (λ hop below. lanes_small (map meaning p.inbound) (map meaning p.outbound) bursts (all_thrifty p.inbound) (all_thrifty p.outbound) out parts.0 hop)
-      (all_small pipelines inputs (All-tail Kept p pipelines kept) parts.1)
-
-  -- within the limits of a world each of their lanes has few items
-  pub stages_small : (pipelines : List (Path S)) (inputs : List (List (List (List ℕ)))) (executors : ℕ) → is_within pipelines inputs executors ≡ true → All Kept pipelines
-      → All (λ c. IsSmallChannel (channel_planned meaning c)) (recorded pipelines inputs)
-  stages_small pipelines inputs executors within kept =
-      all_small pipelines inputs kept
-      (and_parts (nat_le executors 16 && nat_le (length pipelines) 16 && (length pipelines == length inputs) && list_all (is_placed executors) pipelines) (list_all fits inputs) within).1
-
--- ---- the counting stage
 
 pub reads-push : (xs : List Event) (x : Event) → reads (xs ++ x ∷ []) ≡ reads xs + cond (is_read x) 1 0
 reads-push xs x = sum_by_push (λ (e : Event). cond (is_read e) 1 0) xs x

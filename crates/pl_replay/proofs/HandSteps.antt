@@ -13,63 +13,61 @@ use Rattle.pl_event.specs.declared.envelopes.Envelope.{Envelope}
 use Rattle.pl_event.specs.Meaning.{Meaning}
 use Rattle.pl_replay.specs.declared.executors.Executor.{Executor}
 use Rattle.pl_replay.specs.declared.nets.Core.{Core}
-use Rattle.pl_replay.specs.declared.moves.Move.TheVariants.{Hand}
-use Rattle.pl_replay.specs.Plans.{Plan}
-use Rattle.pl_replay.specs.MadeItems.{Place}
+use Rattle.pl_world.specs.declared.moves.Move.TheVariants.{Hand}
+use Rattle.pl_head.specs.Transports.{TransportState}
+use Rattle.pl_world.specs.Plans.{Plan}
+use Rattle.pl_channel.specs.MadeItems.{Place}
 use Rattle.pl_replay.specs.States.{ExecutorState, State, executor_at, with_executor}
-use Rattle.pl_replay.specs.CoreMoves.{Work, target, has_room, oldest, handed, is_enabled}
+use Rattle.pl_replay.specs.CoreMoves.{Work, target, has_room, oldest, no_place, handed, is_enabled}
 use Rattle.pl_replay.specs.LaneAccount.{IsWaiting, IsAccounted}
-use Rattle.pl_replay.specs.Envelopes.{envelope_at}
+use Rattle.pl_channel.specs.Envelopes.{envelope_at}
 use Rattle.pl_replay.specs.BacklogStand.{is_for, ExecutorStands, ExecutorsStand, Keeps, AllKeep, HasSpace, with_task, without_late}
 use Rattle.pl_replay.specs.NetStand.{lanes_between, CoreHolds, CoreStands, Moves}
 use Rattle.pl_replay.proofs.Backlogs.{stands-kept}
 use Rattle.pl_replay.proofs.Oldest.{oldest-first, oldest-item}
 use Rattle.pl_replay.proofs.StateLemmas.{backlog_at, executor_at-other, length-with_executor}
 use Rattle.pl_replay.proofs.Accounts.{target-at}
-use Rattle.pl_replay.proofs.CallSteps.{executor-there, channel_of}
+use Rattle.pl_replay.proofs.CallSteps.{executor-there, last_hop-le, channel_of}
 use Rattle.pl_replay.proofs.QueueSteps.{there_if_waiting, accounted_any, accounted_handed}
 use Rattle.pl_replay.proofs.Pending.{pending-none}
 use Rattle.pl_replay.proofs.CoreSteps.{holds_executor, holds_kept}
 use Rattle.pl_replay.proofs.RunningSteps.{accounted_between, executors_there, cores_executors}
 use Rattle.pl_replay.proofs.MoveSteps.{with_same_executor, leads_on, leads_off}
 
-module _ {S : Type 0} (meaning : S → Meaning) (stands_after : S → List Event → Type 0) where
+module _ {S T : Type 0} (meaning : S → Meaning) (stands_after : S → List Event → Type 0) (state : T → TransportState) where
   -- the executors of a core stand
-  pub executors_stand : (plan : Plan) (s : State) (core : Core S) → CoreStands meaning stands_after plan s core → ExecutorsStand plan (lanes_between plan) s core.executors.items
-  executors_stand plan s core r = record { count = cores_executors meaning stands_after plan 0 s [] [] core r; each = r.holds.executors }
+  pub executors_stand : (plan : Plan) (s : State) (core : Core S T) → CoreStands meaning stands_after state plan s core → ExecutorsStand plan (lanes_between plan) s core.executors.items
+  executors_stand plan s core r = record { count = cores_executors meaning stands_after state plan 0 s [] [] core r; each = r.holds.executors }
 
   -- each item of a backlog goes to an executor that is there
-  pub backlog_targets : (plan : Plan) (s : State) (core : Core S) → CoreStands meaning stands_after plan s core → (x : ℕ) → All (λ item. target plan item < plan.executors) (executor_at s x).backlog
+  pub backlog_targets : (plan : Plan) (s : State) (core : Core S T) → CoreStands meaning stands_after state plan s core → (x : ℕ) → All (λ item. target plan item < plan.executors) (executor_at s x).backlog
   backlog_targets plan s core r x =
       All-weaker (IsWaiting plan x) (λ item. target plan item < plan.executors)
       (λ item waits.
-      let of = channel_of plan item waits.there in
-      let is = target-at plan item.channel of.0 of.1 item item.hop refl refl in
-      let there = executor-there plan r.ruled item.channel of.0 item.hop of.1 of.2 in
+      let of = channel_of plan item.lane waits.there in
+      let is = target-at plan item.lane.channel of.0 of.1 item item.lane.hop refl refl in
+      let there = executor-there plan r.ruled item.lane.channel of.0 item.lane.hop of.1 (last_hop-le of.0 item.lane.kind item.lane.hop of.2) in
       omega (arith, is, there))
-      (executor_at s x).backlog ((accounted_between meaning stands_after plan 0 s core r).backlogs x)
+      (executor_at s x).backlog ((accounted_between meaning stands_after state plan 0 s core r).backlogs x)
 
-  module _ (plan : Plan) (s : State) (core : Core S) (r : CoreStands meaning stands_after plan s core) (x y i : ℕ) (found : oldest plan s x ≡ Some i)
-      (is : y ≡ target plan (get_or (executor_at s x).backlog i (record { channel = 0; hop = 0; number = 0 }))) where
-    abbrev none : Place
-    none = record { channel = 0; hop = 0; number = 0 }
-
+  module _ (plan : Plan) (s : State) (core : Core S T) (r : CoreStands meaning stands_after state plan s core) (x y i : ℕ) (found : oldest plan s x ≡ Some i)
+      (is : y ≡ target plan (get_or (executor_at s x).backlog i no_place)) where
     abbrev item : Place
-    item = get_or (backlog_at s x) i none
+    item = get_or (backlog_at s x) i no_place
 
     within : i < length (backlog_at s x)
-    within = (position-Some (has_room plan s) (backlog_at s x) i none found).0
+    within = (position-Some (has_room plan s) (backlog_at s x) i no_place found).0
 
     waits : IsWaiting plan x item
-    waits = All-get_or (IsWaiting plan x) (backlog_at s x) i none within ((accounted_between meaning stands_after plan 0 s core r).backlogs x)
+    waits = All-get_or (IsWaiting plan x) (backlog_at s x) i no_place within ((accounted_between meaning stands_after state plan 0 s core r).backlogs x)
 
     pub other : y ≢ x
     other same = waits.to (sym is ∙ same)
 
     size : length core.executors.items ≡ length s.executors
     size =
-        let n = cores_executors meaning stands_after plan 0 s [] [] core r in
-        let m = executors_there meaning stands_after plan 0 s [] [] core r in
+        let n = cores_executors meaning stands_after state plan 0 s [] [] core r in
+        let m = executors_there meaning stands_after state plan 0 s [] [] core r in
         omega (arith, n, m)
 
     from_there : x < length s.executors
@@ -80,18 +78,18 @@ module _ {S : Type 0} (meaning : S → Meaning) (stands_after : S → List Event
 
     pub to_planned : y < plan.executors
     to_planned =
-        let all = All-get_or (λ i. target plan i < plan.executors) (backlog_at s x) i none within (backlog_targets plan s core r x) in
+        let all = All-get_or (λ i. target plan i < plan.executors) (backlog_at s x) i no_place within (backlog_targets plan s core r x) in
         omega (arith, all, is)
 
     pub to_in : y < length core.executors.items
-    to_in = let n = cores_executors meaning stands_after plan 0 s [] [] core r in omega (arith, n, to_planned)
+    to_in = let n = cores_executors meaning stands_after state plan 0 s [] [] core r in omega (arith, n, to_planned)
 
     -- where the item stands among those for its target
     pub item_place : position (is_for plan y) (executor_at s x).backlog ≡ Some i
-    item_place = ap (λ (z : ℕ). position (is_for plan z) (backlog_at s x)) is ∙ oldest-first plan s x i none found
+    item_place = ap (λ (z : ℕ). position (is_for plan z) (backlog_at s x)) is ∙ oldest-first plan s x i no_place found
 
     item_found : find (is_for plan y) (backlog_at s x) ≡ Some item
-    item_found = ap (λ (z : ℕ). find (is_for plan z) (backlog_at s x)) is ∙ oldest-item plan s x i none found
+    item_found = ap (λ (z : ℕ). find (is_for plan z) (backlog_at s x)) is ∙ oldest-item plan s x i no_place found
 
     -- so an envelope is taken, and it is the item's
     pub item_taken : (result : Option Envelope) → result ≡ option_map (envelope_at plan) (find (is_for plan y) (executor_at s x).backlog) → result ≡ Some (envelope_at plan item)
@@ -131,7 +129,7 @@ module _ {S : Type 0} (meaning : S → Meaning) (stands_after : S → List Event
 
           module _ (left_stands : ExecutorStands plan (lanes_between plan x) (without_late (executor_at s x) i) left) (left_age : left.next_age ≡ from.next_age)
               (full : Executor) (full_stands : ExecutorStands plan (lanes_between plan y) (with_task (executor_at s y) item) full) (full_age : full.next_age ≡ last.next_age)
-              (after : Core S) (capacity : after.capacity ≡ core.capacity) (channels : after.channels.items ≡ core.channels.items) (executors : after.executors.items ≡ set (set roomy x left) y full) (work : after.work ≡ core.work) where
+              (after : Core S T) (capacity : after.capacity ≡ core.capacity) (channels : after.channels.items ≡ core.channels.items) (executors : after.executors.items ≡ set (set roomy x left) y full) (work : after.work ≡ core.work) where
             abbrev less : State
             less = with_executor s x (without_late (executor_at s x) i)
 
@@ -142,26 +140,26 @@ module _ {S : Type 0} (meaning : S → Meaning) (stands_after : S → List Event
             stopped_same = ap (λ (w : Listing). w.stopped) work
 
             -- as cores
-            abbrev ready : Core S
+            abbrev ready : Core S T
             ready = record core { executors = with_item core.executors y room }
 
-            abbrev taken : Core S
+            abbrev taken : Core S T
             taken = record core { executors = with_item (with_item core.executors y room) x left }
 
-            holds_ready : CoreHolds meaning stands_after plan s [] ready
+            holds_ready : CoreHolds meaning stands_after state plan s [] ready
             holds_ready =
                 let young = r.holds.ages y to to_at in
                 let same = keeps.next_age in
-                subst (λ (t : State). CoreHolds meaning stands_after plan t [] ready) (with_same_executor s y)
-                (holds_executor meaning stands_after plan s [] core r.holds ready [] refl r.holds.work refl y room (executor_at s y) refl refl to_in (omega (arith, to_in, size)) room_stands (omega arith) (omega (arith, young, same)))
+                subst (λ (t : State). CoreHolds meaning stands_after state plan t [] ready) (with_same_executor s y)
+                (holds_executor meaning stands_after state plan s [] core r.holds ready [] refl r.holds.work refl y room (executor_at s y) refl refl to_in (omega (arith, to_in, size)) room_stands (omega arith) (omega (arith, young, same)))
 
-            holds_taken : CoreHolds meaning stands_after plan less [] taken
+            holds_taken : CoreHolds meaning stands_after state plan less [] taken
             holds_taken =
                 let young = r.holds.ages x from from_at in
                 let long = length-set core.executors.items y room in
-                holds_executor meaning stands_after plan s [] ready holds_ready taken [] refl r.holds.work refl x left (without_late (executor_at s x) i) refl refl (omega (arith, from_in, long)) from_there left_stands (omega arith) (omega (arith, young, left_age))
+                holds_executor meaning stands_after state plan s [] ready holds_ready taken [] refl r.holds.work refl x left (without_late (executor_at s x) i) refl refl (omega (arith, from_in, long)) from_there left_stands (omega arith) (omega (arith, young, left_age))
 
-            holds_full : CoreHolds meaning stands_after plan (with_executor less y (with_task (executor_at less y) item)) [] after
+            holds_full : CoreHolds meaning stands_after state plan (with_executor less y (with_task (executor_at less y) item)) [] after
             holds_full =
                 let young = r.holds.ages y to to_at in
                 let same = keeps.next_age in
@@ -169,28 +167,28 @@ module _ {S : Type 0} (meaning : S → Meaning) (stands_after : S → List Event
                 let long = length-set core.executors.items y room in
                 let longer = length-set roomy x left in
                 let size_less = length-with_executor s x (without_late (executor_at s x) i) in
-                holds_executor meaning stands_after plan less [] taken holds_taken after [] capacity (items_same ∙ r.holds.work) stopped_same y full (with_task (executor_at less y) item) channels executors
+                holds_executor meaning stands_after state plan less [] taken holds_taken after [] capacity (items_same ∙ r.holds.work) stopped_same y full (with_task (executor_at less y) item) channels executors
                 (omega (arith, to_in, long, longer)) (omega (arith, to_in, size, size_less))
                 (subst (λ (t : ExecutorState). ExecutorStands plan (lanes_between plan y) (with_task t item) full) (sym (executor_at-other s x y (without_late (executor_at s x) i) other)) full_stands)
                 (omega arith) (omega (arith, young, same, last_age, full_age))
 
-            pub hand_done : CoreStands meaning stands_after plan (handed plan s x i) after
+            pub hand_done : CoreStands meaning stands_after state plan (handed plan s x i) after
             hand_done = record {
               ruled = r.ruled;
               small = r.small;
-              holds = subst (λ (z : ℕ). CoreHolds meaning stands_after plan (with_executor less z (with_task (executor_at less z) item)) [] after) is holds_full;
+              holds = subst (λ (z : ℕ). CoreHolds meaning stands_after state plan (with_executor less z (with_task (executor_at less z) item)) [] after) is holds_full;
               accounted = subst (λ (w : Work). IsAccounted plan 0 w.state w.items) (sym (pending-none plan 0 (handed plan s x i) []))
-                  (accounted_any plan x 0 (handed plan s x i) (accounted_handed plan r.ruled x s (accounted_any plan 0 x s (accounted_between meaning stands_after plan 0 s core r)) i found));
+                  (accounted_any plan x 0 (handed plan s x i) (accounted_handed plan r.ruled x s (accounted_any plan 0 x s (accounted_between meaning stands_after state plan 0 s core r)) i found));
             }
 
   -- ---- as moves
 
-  pub hand_none : (plan : Plan) (s : State) (core after : Core S) (x : ℕ) → CoreStands meaning stands_after plan s after → oldest plan s x ≡ None → Moves meaning stands_after plan s (Hand x) false after
+  pub hand_none : (plan : Plan) (s : State) (core after : Core S T) (x : ℕ) → CoreStands meaning stands_after state plan s after → oldest plan s x ≡ None → Moves meaning stands_after state plan s (Hand x) false after
   hand_none plan s core after x r none =
       let off : is_enabled plan s (Hand x) ≡ false = ap is_some none in
       (sym off, (s, leads_off plan s (Hand x) s off refl, r))
 
-  pub hand_some : (plan : Plan) (s : State) (after : Core S) (x i : ℕ) → oldest plan s x ≡ Some i → CoreStands meaning stands_after plan (handed plan s x i) after → Moves meaning stands_after plan s (Hand x) true after
+  pub hand_some : (plan : Plan) (s : State) (after : Core S T) (x i : ℕ) → oldest plan s x ≡ Some i → CoreStands meaning stands_after state plan (handed plan s x i) after → Moves meaning stands_after state plan s (Hand x) true after
   hand_some plan s after x i found r =
       let on : is_enabled plan s (Hand x) ≡ true = ap is_some found in (
         sym on,
@@ -198,11 +196,11 @@ module _ {S : Type 0} (meaning : S → Meaning) (stands_after : S → List Event
       )
 
   -- executors that keep what waits
-  pub kept_stands : (plan : Plan) (s : State) (core after : Core S) → CoreStands meaning stands_after plan s core → after.capacity ≡ core.capacity → after.channels.items ≡ core.channels.items → after.work ≡ core.work
-      → AllKeep core.executors.items after.executors.items → CoreStands meaning stands_after plan s after
+  pub kept_stands : (plan : Plan) (s : State) (core after : Core S T) → CoreStands meaning stands_after state plan s core → after.capacity ≡ core.capacity → after.channels.items ≡ core.channels.items → after.work ≡ core.work
+      → AllKeep core.executors.items after.executors.items → CoreStands meaning stands_after state plan s after
   kept_stands plan s core after r capacity channels work keep = record {
     ruled = r.ruled;
     small = r.small;
-    holds = holds_kept meaning stands_after plan s [] core r.holds after [] capacity (ap (λ (w : Listing). w.items) work ∙ r.holds.work) (ap (λ (w : Listing). w.stopped) work) channels keep (omega arith);
+    holds = holds_kept meaning stands_after state plan s [] core r.holds after [] capacity (ap (λ (w : Listing). w.items) work ∙ r.holds.work) (ap (λ (w : Listing). w.stopped) work) channels keep (omega arith);
     accounted = r.accounted;
   }

@@ -1,32 +1,39 @@
 -- What waits in a net that stands, by lanes: the account of the numbers, as envelopes.
 use Rattle.std.proofs.Common.{◌≡◌, ℕ, zero, suc, ◌+◌, ◌-◌, ◌<◌, ◌≤◌, Bool, true, false, cond, Option, Some, None, List, [], ◌∷◌, ◌++◌, length, map, get_or, refl, sym, ap, ap₂, ◌∙◌, subst, arith, inl, inr}
-use Rattle.std.specs.List.{filter, range_with_len, slice_get}
+use Rattle.std.specs.List.{All, filter, range_with_len, slice_get}
 use Rattle.std.specs.Option.{option_map_or}
 use Rattle.std.proofs.lemmas.List.{map-append, get_or_past}
-use Rattle.std.proofs.lemmas.List.Elements.{filter-append}
+use Rattle.std.proofs.lemmas.List.Elements.{filter-append, All-map}
 use Rattle.std.proofs.lemmas.Option.{none-some, slice_get_cases}
 use Rattle.std.proofs.lemmas.Bool.{cases_Bool, eq-eqb}
 use Rattle.pl_event.specs.declared.events.Event.{Event}
+use Rattle.pl_event.specs.declared.envelopes.Kind.{Kind}
+use Rattle.pl_event.specs.declared.envelopes.Kind.TheVariants.{Data, Flags}
+use Rattle.pl_event.specs.declared.envelopes.Lane.{Lane}
 use Rattle.pl_event.specs.declared.envelopes.Item.{Item}
 use Rattle.pl_event.specs.declared.envelopes.Item.TheVariants as item
 use Rattle.pl_event.specs.declared.envelopes.Envelope.{Envelope}
-use Rattle.pl_event.specs.Fitting.{FitFrom}
+use Rattle.pl_event.specs.Fitting.{FitFrom, FitFromAsFlags}
 use Rattle.pl_replay.specs.CoreMoves.{target}
-use Rattle.pl_replay.specs.Plans.{ChannelPlan, Plan}
-use Rattle.pl_replay.specs.PlanRules.{IsPlan}
-use Rattle.pl_replay.specs.MadeItems.{Place, content, head_hop, places}
+use Rattle.pl_world.specs.Plans.{ChannelPlan, Plan, content}
+use Rattle.pl_world.specs.PlanRules.{IsPlan}
+use Rattle.pl_channel.specs.MadeItems.{Place, last_hop, places}
+use Rattle.pl_channel.specs.ChannelStates.{ChannelState}
 use Rattle.pl_replay.specs.States.{ExecutorState, State, nothing_waits, channel_at, executor_at, taken_at}
-use Rattle.pl_replay.specs.LaneAccount.{made_at, origin_by, is_on, numbers_on, IsAccounted}
-use Rattle.pl_replay.specs.Envelopes.{item_by, items_from, data_lane, envelopes_of, envelope_at, envelopes_at}
+use Rattle.pl_replay.specs.LaneAccount.{made_at, is_on, numbers_on, IsAccounted}
+use Rattle.pl_channel.specs.ChannelMoves.{origin_by}
+use Rattle.pl_channel.specs.Envelopes.{items_from, flag_by, item_of, envelopes_of, envelope_at, envelopes_at}
 use Rattle.pl_replay.specs.BacklogStand.{Aged, is_for, is_aged_for, entry_at, ExecutorStands}
-use Rattle.pl_replay.specs.InFlight.{on_lane, queued_at, kept_for, waiting_on, IsInOrder}
+use Rattle.pl_replay.specs.InFlight.{on_lane, queued_at, kept_for, waiting_on, first_items, FitOn, IsInOrder}
 use Rattle.pl_replay.specs.declared.executors.Executor.{Executor}
 use Rattle.pl_replay.specs.declared.executors.Waiting.{Waiting}
-use Rattle.pl_replay.proofs.Flights.{is_on-parts}
+use Rattle.pl_channel.proofs.Numbers.{range-append}
+use Rattle.pl_replay.proofs.Flights.{lane_of, is_on-lane}
 use Rattle.pl_replay.proofs.StateLemmas.{queue_at, backlog_at}
+use Rattle.pl_replay.proofs.Taking.{known_of}
 use Rattle.pl_replay.proofs.Accounts.{to_lane}
-use Rattle.pl_replay.proofs.CallSteps.{planned-at, executor-there, made_at-le}
-use Rattle.pl_replay.proofs.LaneItems.{items_from-append}
+use Rattle.pl_replay.proofs.CallSteps.{executor-there, last_hop-le, made_at-le}
+use Rattle.pl_channel.proofs.LaneItems.{envelopes_at-channel}
 
 -- ---- lists
 
@@ -66,39 +73,32 @@ none-past xs n none = elim (slice_get_cases xs n).1 [ inl here ↦ absurd (none-
 -- ---- the items of one lane
 
 -- the place of a number
-abbrev place_at : ℕ → ℕ → ℕ → Place
-place_at c hop n = record { channel = c; hop = hop; number = n }
+abbrev place_at : Lane → ℕ → Place
+place_at lane n = record { lane = lane; number = n }
 
 -- those on a lane are the places of their numbers
-places_on : (c hop : ℕ) (xs : List Place) → filter (is_on c hop) xs ≡ map (place_at c hop) (numbers_on c hop xs)
-places_on c hop [] = refl
-places_on c hop (x ∷ xs) = elim (cases_Bool (is_on c hop x)) [
+places_on : (lane : Lane) (xs : List Place) → filter (is_on lane) xs ≡ map (place_at lane) (numbers_on lane xs)
+places_on lane [] = refl
+places_on lane (x ∷ xs) = elim (cases_Bool (is_on lane x)) [
   | inl on ↦
-      let at = is_on-parts c hop x on in
-      ap (λ (b : Bool). cond b (x ∷ filter (is_on c hop) xs) (filter (is_on c hop) xs)) on
-      ∙ ap₂ (λ (i : Place) (l : List Place). i ∷ l) (ap₂ (λ (k h : ℕ). record { channel = k; hop = h; number = x.number }) at.0 at.1) (places_on c hop xs)
-      ∙ sym (ap (λ (b : Bool). map (place_at c hop) (map (λ (i : Place). i.number) (cond b (x ∷ filter (is_on c hop) xs) (filter (is_on c hop) xs)))) on)
+      ap (λ (b : Bool). cond b (x ∷ filter (is_on lane) xs) (filter (is_on lane) xs)) on
+      ∙ ap₂ (λ (i : Place) (l : List Place). i ∷ l) (ap (λ (l : Lane). place_at l x.number) (is_on-lane lane x on)) (places_on lane xs)
+      ∙ sym (ap (λ (b : Bool). map (place_at lane) (map (λ (i : Place). i.number) (cond b (x ∷ filter (is_on lane) xs) (filter (is_on lane) xs)))) on)
   | inr off ↦
-      ap (λ (b : Bool). cond b (x ∷ filter (is_on c hop) xs) (filter (is_on c hop) xs)) off
-      ∙ places_on c hop xs
-      ∙ sym (ap (λ (b : Bool). map (place_at c hop) (map (λ (i : Place). i.number) (cond b (x ∷ filter (is_on c hop) xs) (filter (is_on c hop) xs)))) off)
+      ap (λ (b : Bool). cond b (x ∷ filter (is_on lane) xs) (filter (is_on lane) xs)) off
+      ∙ places_on lane xs
+      ∙ sym (ap (λ (b : Bool). map (place_at lane) (map (λ (i : Place). i.number) (cond b (x ∷ filter (is_on lane) xs) (filter (is_on lane) xs)))) off)
 ]
 
-abbrev envelope_with : ℕ → ℕ → ℕ → Item → Envelope
-envelope_with c hop n i = record { lane = data_lane c hop; number = n; item = i }
+all_of_lane : (lane : Lane) (ns : List ℕ) → All (λ i. i.lane.channel ≡ lane.channel) (map (place_at lane) ns)
+all_of_lane lane ns = All-map (λ i. i.lane.channel ≡ lane.channel) (place_at lane) ns (λ k d below. refl)
 
--- their envelopes, by the plan and by the channel's
-envelopes_alike : (plan : Plan) (c : ℕ) (p : ChannelPlan) → slice_get plan.channels c ≡ Some p → (hop : ℕ) (ns : List ℕ)
-    → envelopes_at plan (map (place_at c hop) ns) ≡ envelopes_of p (map (place_at c hop) ns)
-envelopes_alike plan c p here hop [] = refl
-envelopes_alike plan c p here hop (n ∷ ns) =
-    ap₂ (λ (o : Option ChannelPlan) (l : List Envelope). envelope_with c hop n (option_map_or (λ (q : ChannelPlan). item_by (content q hop) n) o item.End) ∷ l) here (envelopes_alike plan c p here hop ns)
+-- the items of their envelopes
+items_of-envelopes : (p : ChannelPlan) (lane : Lane) (ns : List ℕ) → map (λ (e : Envelope). e.item) (envelopes_of p (map (place_at lane) ns)) ≡ map (item_of p lane) ns
+items_of-envelopes p lane [] = refl
+items_of-envelopes p lane (n ∷ ns) = ap (λ (l : List Item). item_of p lane n ∷ l) (items_of-envelopes p lane ns)
 
-items_of-envelopes : (p : ChannelPlan) (c hop : ℕ) (ns : List ℕ) → map (λ (e : Envelope). e.item) (envelopes_of p (map (place_at c hop) ns)) ≡ map (item_by (content p hop)) ns
-items_of-envelopes p c hop [] = refl
-items_of-envelopes p c hop (n ∷ ns) = ap (λ (l : List Item). item_by (content p hop) n ∷ l) (items_of-envelopes p c hop ns)
-
--- The first items of a lane fit, up to its end.
+-- The first items of a data lane fit, up to its end.
 pub fit_from : (events : List Event) (n count : ℕ) → n + count ≤ length events + 1 → FitFrom events n (items_from events n count)
 fit_from events n zero within = tt
 fit_from events n (suc count) within = by (slice_get events n) refl (fit_from events (n + 1) count (omega (arith, within)))
@@ -114,6 +114,25 @@ fit_from events n (suc count) within = by (slice_get events n) refl (fit_from ev
         let none : count ≡ 0 = omega (arith, past, within) in
         subst (λ (o : Option Event). FitFrom events n (option_map_or (λ event. item.Event event) o item.End ∷ items_from events (n + 1) count)) (sym is)
         (last, (λ ends. ap (items_from events (n + 1)) none), rest)
+
+-- All flags of a flags lane fit.
+flags_fit : (n count : ℕ) → FitFromAsFlags n (map (λ k. item.Flag (flag_by k)) (range_with_len n count))
+flags_fit n zero = tt
+flags_fit n (suc count) = (refl, flags_fit (n + 1) count)
+
+-- the first items of each lane
+fit_on : (p : ChannelPlan) (s : ChannelState) (c : ℕ) (kind : Kind) (hop made : ℕ) → made ≤ known_of p s kind hop → FitOn p (lane_of c kind hop) (first_items p (lane_of c kind hop) made)
+fit_on p s c Data hop made most = fit_from (content p hop) 0 made (omega (arith, most))
+fit_on p s c Flags hop made most = flags_fit 0 made
+
+-- the first items are those taken and those behind them
+first_items-more : (p : ChannelPlan) (lane : Lane) (taken made : ℕ) → taken ≤ made → first_items p lane taken ++ map (item_of p lane) (range_with_len taken (made - taken)) ≡ first_items p lane made
+first_items-more p lane taken made within =
+    let start : taken ≡ 0 + taken = omega arith in
+    let all : taken + (made - taken) ≡ made = omega (arith, within) in
+    ap (λ (n : ℕ). first_items p lane taken ++ map (item_of p lane) (range_with_len n (made - taken))) start
+    ∙ sym (map-append (item_of p lane) (range_with_len 0 taken) (range_with_len (0 + taken) (made - taken)))
+    ∙ ap (map (item_of p lane)) (range-append 0 taken (made - taken) made all)
 
 -- ---- the executors of a net
 
@@ -154,44 +173,40 @@ module _ (plan : Plan) (ok : IsPlan plan) (s : State) (a : IsAccounted plan 0 s 
           ap (λ (o : Option Executor). kept_of o y) is
           ∙ sym (ap (λ (t : ExecutorState). envelopes_at plan (filter (is_for plan y) t.backlog)) (get_or_past s.executors x nothing_waits (omega (arith, none-past executors x is, size, a.executors))))
 
-  module _ (c : ℕ) (p : ChannelPlan) (here : slice_get plan.channels c ≡ Some p) (hop : ℕ) (within : hop ≤ head_hop p) where
+  module _ (lane : Lane) (p : ChannelPlan) (here : slice_get plan.channels lane.channel ≡ Some p) (within : lane.hop ≤ last_hop p lane.kind) where
     abbrev y : ℕ
-    y = get_or p.executors hop 0
+    y = get_or p.executors lane.hop 0
 
     abbrev taken : ℕ
-    taken = taken_at s c hop
+    taken = taken_at s lane
 
     abbrev made : ℕ
-    made = made_at p (channel_at s c) hop
+    made = made_at p (channel_at s lane.channel) lane
 
-    waiting-is : waiting_on executors p c hop ≡ envelopes_of p (places c hop taken made)
+    waiting-is : waiting_on executors p lane ≡ envelopes_of p (places lane taken made)
     waiting-is =
         let q = queue_at s y in
-        let b = backlog_at s (origin_by p hop) in
-        let there = executor-there plan ok c p hop here within in
+        let b = backlog_at s (origin_by p lane.hop) in
+        let there = executor-there plan ok lane.channel p lane.hop here (last_hop-le p lane.kind lane.hop within) in
         let envelope = envelope_at plan in
-        ap₂ (λ (l r : List Envelope). filter (on_lane c hop) (l ++ r)) (queued-is y) (kept-is (origin_by p hop) y there)
-        ∙ ap (filter (on_lane c hop)) (sym (map-append envelope q (filter (is_for plan y) b)))
-        ∙ filter-map envelope (on_lane c hop) (q ++ filter (is_for plan y) b)
+        ap₂ (λ (l r : List Envelope). filter (on_lane lane) (l ++ r)) (queued-is y) (kept-is (origin_by p lane.hop) y there)
+        ∙ ap (filter (on_lane lane)) (sym (map-append envelope q (filter (is_for plan y) b)))
+        ∙ filter-map envelope (on_lane lane) (q ++ filter (is_for plan y) b)
         ∙ ap (envelopes_at plan)
-        (filter-append (is_on c hop) q (filter (is_for plan y) b)
-        ∙ ap (λ (l : List Place). filter (is_on c hop) q ++ l) (filter-wider (is_on c hop) (is_for plan y) (λ i on. eq-eqb (target plan i) y (to_lane plan c p here hop i on)) b)
-        ∙ ap₂ (λ (l r : List Place). l ++ r) (places_on c hop q) (places_on c hop b)
-        ∙ sym (map-append (place_at c hop) (numbers_on c hop q) (numbers_on c hop b))
-        ∙ ap (map (place_at c hop)) (a.lanes c p hop here within).1)
-        ∙ envelopes_alike plan c p here hop (range_with_len taken (made - taken))
+        (filter-append (is_on lane) q (filter (is_for plan y) b)
+        ∙ ap (λ (l : List Place). filter (is_on lane) q ++ l) (filter-wider (is_on lane) (is_for plan y) (λ i on. eq-eqb (target plan i) y (to_lane plan lane p here i on)) b)
+        ∙ ap₂ (λ (l r : List Place). l ++ r) (places_on lane q) (places_on lane b)
+        ∙ sym (map-append (place_at lane) (numbers_on lane q) (numbers_on lane b))
+        ∙ ap (map (place_at lane)) (a.lanes lane p here within).1)
+        ∙ envelopes_at-channel plan lane.channel p here (places lane taken made) (all_of_lane lane (range_with_len taken (made - taken)))
 
-    pub in_order : IsInOrder executors p c hop s
+    pub in_order : IsInOrder executors p lane s
     in_order = record {
-      taken = (a.lanes c p hop here within).0;
+      taken = (a.lanes lane p here within).0;
       waiting = waiting-is;
       first =
-          let events = content p hop in
-          let start : taken ≡ 0 + taken = omega arith in
-          let all : taken + (made - taken) ≡ made = omega (arith, (a.lanes c p hop here within).0) in
-          ap (λ (l : List Envelope). items_from events 0 taken ++ map (λ (e : Envelope). e.item) l) waiting-is
-          ∙ ap (λ (l : List Item). items_from events 0 taken ++ l) (items_of-envelopes p c hop (range_with_len taken (made - taken)))
-          ∙ ap (λ (n : ℕ). items_from events 0 taken ++ items_from events n (made - taken)) start
-          ∙ sym (items_from-append events 0 taken (made - taken) made all);
-      fit = fit_from (content p hop) 0 made (omega (arith, made_at-le plan.executors p (planned-at plan ok c p here) (channel_at s c) hop));
+          ap (λ (l : List Envelope). first_items p lane taken ++ map (λ (e : Envelope). e.item) l) waiting-is
+          ∙ ap (λ (l : List Item). first_items p lane taken ++ l) (items_of-envelopes p lane (range_with_len taken (made - taken)))
+          ∙ first_items-more p lane taken made (a.lanes lane p here within).0;
+      fit = fit_on p (channel_at s lane.channel) lane.channel lane.kind lane.hop made (made_at-le plan ok 0 s [] a lane.channel p here lane.kind lane.hop within);
     }

@@ -8,14 +8,14 @@ use Rattle.pl_event.specs.declared.events.Event.{Event}
 use Rattle.pl_event.specs.Meaning.{Meaning, IsLawful, IsPrefixOf, up_of, down_of}
 use Rattle.pl_event.specs.Inputs.{read_steps, input_after, recorded_input}
 use Rattle.pl_event.proofs.LaneLemmas.{up_of-prefix, down_of-prefix, input_after-prefix, input_after-all}
-use Rattle.pl_replay.specs.Plans.{ChannelPlan}
-use Rattle.pl_replay.specs.PlanRules.{IsChannelPlan}
-use Rattle.pl_replay.specs.MadeItems.{content, has_end, one_if, up_items, down_items, tail_hop, turn_hop, items_made}
-use Rattle.pl_replay.specs.States.{ChannelState}
-use Rattle.pl_replay.specs.LaneAccount.{made_at}
+use Rattle.pl_world.specs.Plans.{ChannelPlan, content, tail_hop}
+use Rattle.pl_world.specs.PlanRules.{IsChannelPlan}
+use Rattle.pl_channel.specs.MadeItems.{has_end, one_if, up_items, down_items, turn_hop, items_made}
+use Rattle.pl_channel.specs.ChannelStates.{ChannelState}
+use Rattle.pl_replay.specs.LaneAccount.{data_made}
 use Rattle.pl_replay.specs.InFlight.{MakesOfTaken}
-use Rattle.pl_replay.proofs.Items.{take-prefix_whole, content-input, content-up, content-down, content-turn, items_made-inbound, items_made-turn, items_made-outbound}
-use Rattle.pl_replay.proofs.StageItems.{down_of-quit}
+use Rattle.pl_channel.proofs.Items.{take-prefix_whole, content-input, content-up, content-down, content-turn, items_made-inbound, items_made-turn, items_made-outbound}
+use Rattle.pl_channel.proofs.StageItems.{down_of-quit}
 use Rattle.pl_replay.proofs.Making.{writer-turn, writer-other}
 
 -- a list that begins another is what the first items of that are, and one more where it is all of it
@@ -43,7 +43,7 @@ lawful-at ms i m all here = subst IsLawful (get_or_from_slice_get ms i m m here)
 
 pub makes_of_taken : (executors : ℕ) (p : ChannelPlan) (s : ChannelState) → IsChannelPlan executors p → MakesOfTaken p s
 makes_of_taken executors p s planned = record {
-  read = ap (take (made_at p s 0)) (content-input p)
+  read = ap (take (data_made p s 0)) (content-input p)
       ∙ begins (input_after s.reads p.bursts) (recorded_input p.bursts) (leb (length (read_steps p.bursts)) s.reads) (input_after-prefix s.reads p.bursts)
       (λ all. input_after-all s.reads p.bursts (leb-true (length (read_steps p.bursts)) s.reads all));
   up = λ hop m here.

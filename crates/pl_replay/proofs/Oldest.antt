@@ -5,10 +5,10 @@ use Rattle.std.specs.Option.{option_map}
 use Rattle.std.proofs.lemmas.List.{get_or-set_same, get_or-set_other, length-set, length-map, get_or-map}
 use Rattle.std.proofs.lemmas.Option.{slice_get_cases, same_Some, slice_get_within, slice_get-get_or, get_or_from_slice_get}
 use Rattle.std.proofs.lemmas.Bool.{cases_Bool, cases_eq, cases_order, and_from, and_left, and_right, cond-true, cond-false, eq-eqb, ne_eqb, lt-ltb, le-ltb, eqb-true, false_from_ne_true, false≢true}
-use Rattle.pl_replay.specs.Plans.{Plan}
-use Rattle.pl_replay.specs.MadeItems.{Place}
+use Rattle.pl_world.specs.Plans.{Plan}
+use Rattle.pl_channel.specs.MadeItems.{Place}
 use Rattle.pl_replay.specs.States.{State, executor_at}
-use Rattle.pl_replay.specs.CoreMoves.{target, has_room, oldest}
+use Rattle.pl_replay.specs.CoreMoves.{target, has_room, oldest, no_place}
 use Rattle.pl_replay.specs.BacklogStand.{Aged, is_for, is_aged_for, BacklogStands, ExecutorStands, ExecutorsStand, Keeps, AllKeep, older_of, IsOldest}
 use Rattle.pl_replay.specs.declared.executors.Executor.{Executor}
 use Rattle.pl_replay.proofs.StateLemmas.{backlog_at}
@@ -205,9 +205,6 @@ module _ (origin capacity : ℕ) (before now : List Executor) (k : ℕ) (found :
 get_or_any : {X : Type 0} (xs : List X) (i : ℕ) (d e : X) → i < length xs → get_or xs i e ≡ get_or xs i d
 get_or_any xs i d e within = get_or_from_slice_get xs i (get_or xs i d) e (slice_get-get_or xs i d within)
 
-abbrev none : Place
-none = record { channel = 0; hop = 0; number = 0 }
-
 -- the least age of all is that of the oldest
 module _ (plan : Plan) (places : ℕ → ℕ) (s : State) (x n : ℕ) (e : Executor) (st : ExecutorStands plan places (executor_at s x) e) (there : All (λ item. target plan item < n) (backlog_at s x)) where
   abbrev to : Aged → ℕ
@@ -235,7 +232,7 @@ module _ (plan : Plan) (places : ℕ → ℕ) (s : State) (x n : ℕ) (e : Execu
       by (Some a) one =
           let at = find-Some-position (has_room plan s) (backlog_at s x) a.place (places_found ∙ ap (option_map (λ (b : Aged). b.place)) one) in
           subst (λ (f : Option (ℕ × ℕ)). IsOldest plan s x (option_map (λ g. g.0) f)) (sym (all ∙ ap (option_map (λ (b : Aged). (to b, b.age))) one))
-          (at.0, at.1, ap (target plan) (sym (get_or_from_slice_get (backlog_at s x) at.0 a.place none at.2)))
+          (at.0, at.1, ap (target plan) (sym (get_or_from_slice_get (backlog_at s x) at.0 a.place no_place at.2)))
 
 pub searched-all : (plan : Plan) (places : ℕ → ℕ → ℕ) (s : State) (origin capacity : ℕ) (before now : List Executor) (found : Option (ℕ × ℕ)) → IsSearched origin capacity before now (length before) found
     → origin < length before → plan.capacity ≡ capacity → ExecutorsStand plan places s before → All (λ item. target plan item < plan.executors) (backlog_at s origin)

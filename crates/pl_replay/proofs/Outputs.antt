@@ -3,8 +3,8 @@ use Rattle.std.proofs.Common.{◌≡◌, ℕ, ◌+◌, ◌-◌, ◌≤◌, Bool,
 use Rattle.std.proofs.lemmas.Bool.{cases_Bool, or_cases, or_left, or_right, or_parts, cond-true, cond-false, leb-false}
 use Rattle.pl_event.specs.declared.events.Event.{Event}
 use Rattle.pl_event.specs.Meaning.{IsPrefixOf}
-use Rattle.pl_replay.specs.Writes.{write_by, is_flush, has_flush, flushed_writes, bytes_of, out, offered}
-use Rattle.pl_replay.proofs.Items.{length-prefix, take-prefix}
+use Rattle.pl_head.specs.Writes.{write_by, is_flush, has_flush, flushed_writes, bytes_of, out, offered}
+use Rattle.pl_channel.proofs.Items.{length-prefix, take-prefix}
 
 has_flush-longer : (xs ys : List Event) → has_flush xs ≡ true → has_flush (xs ++ ys) ≡ true
 has_flush-longer [] ys h = cc h

@@ -3,8 +3,8 @@ use Rattle.std.proofs.Common.{◌≡◌, ℕ, ◌<◌, not, eqb, List, [], ◌++
 use Rattle.std.specs.List.{filter}
 use Rattle.std.proofs.lemmas.List.{set-set, set-get_or}
 use Rattle.std.proofs.lemmas.List.Elements.{filter-append}
-use Rattle.pl_replay.specs.Plans.{Plan}
-use Rattle.pl_replay.specs.MadeItems.{Place}
+use Rattle.pl_world.specs.Plans.{Plan}
+use Rattle.pl_channel.specs.MadeItems.{Place}
 use Rattle.pl_replay.specs.States.{ExecutorState, State, nothing_waits, with_executor, with_waiting}
 use Rattle.pl_replay.specs.CoreMoves.{Work, target, passed_on}
 use Rattle.pl_replay.proofs.StateLemmas.{queue_at, backlog_at, executor_at-same}

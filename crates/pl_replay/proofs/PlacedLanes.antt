@@ -1,24 +1,24 @@
 -- The lanes between executors, counted.
-use Rattle.std.proofs.Common.{◌≡◌, ℕ, ◌+◌, ◌<◌, ◌≤◌, true, false, not, Some, List, [], ◌∷◌, ◌++◌, length, map, get_or, take, sym, ap, ◌∙◌, subst, arith, inl, inr, length-append}
+use Rattle.std.proofs.Common.{◌≡◌, ℕ, ◌+◌, ◌<◌, ◌≤◌, true, false, Some, List, [], ◌∷◌, ◌++◌, length, map, get_or, take, sym, ap, ◌∙◌, subst, arith, inl, inr, length-append}
 use Rattle.std.specs.List.{All, count_by, sum_by, range_with_len, slice_get}
 use Rattle.std.proofs.lemmas.List.{length-map, length-take-le, take_all, get_or-map, get_or_append_left}
 use Rattle.std.proofs.lemmas.Option.{slice_get_within, slice_get-get_or, get_or_from_slice_get}
 use Rattle.std.proofs.Math.Seq.{get_or-append_seam}
-use Rattle.std.proofs.lemmas.List.Sums.{prefix_len-le-length, count_by-le-length, count_by_more_yes, count_by_more_no, sum_by-le, sum_by_more, sum_by_more_le, sum_by_more_le_part}
+use Rattle.std.proofs.lemmas.List.Sums.{count_by-le-length, count_by_more_yes, count_by_more_no, sum_by-le, sum_by_more, sum_by_more_le, sum_by_more_le_part}
 use Rattle.std.proofs.lemmas.List.Elements.{All-map}
 use Rattle.std.proofs.lemmas.List.FromFn.{length-range_with_len, get_or-range_with_len, get_or-map-range_with_len, length-map-range_with_len}
 use Rattle.std.proofs.lemmas.Bool.{cases_lt}
 use Rattle.pl_event.specs.Meaning.{Meaning}
-use Rattle.pl_event.specs.Paths.{is_turn}
-use Rattle.pl_replay.specs.Plans.{ChannelPlan, Plan}
-use Rattle.pl_replay.specs.MadeItems.{head_hop}
+use Rattle.pl_head.specs.Transports.{TransportState}
+use Rattle.pl_world.specs.Plans.{ChannelPlan, Plan, head_hop}
 use Rattle.pl_replay.specs.States.{ExecutorState, nothing_waits, start}
 use Rattle.pl_replay.specs.BacklogStand.{ExecutorStands, ExecutorsStand}
-use Rattle.pl_replay.specs.NetStand.{channel_plan, goes, lanes_between}
-use Rattle.pl_replay.specs.PlacedStand.{IsPlaced, ArePlaced, lanes_of}
-use Rattle.pl_replay.specs.declared.placed_channels.PlacedChannel.{PlacedChannel}
+use Rattle.pl_channel.specs.ChannelStand.{channel_plan, IsPlaced}
+use Rattle.pl_replay.specs.NetStand.{goes, lanes_between}
+use Rattle.pl_replay.specs.PlacedStand.{ArePlaced, lanes_of}
+use Rattle.pl_channel.specs.declared.placed_channels.PlacedChannel.{PlacedChannel}
 use Rattle.pl_replay.specs.declared.executors.Executor.{Executor}
-use Rattle.pl_replay.proofs.Starting.{get_or-replicate_any}
+use Rattle.pl_channel.proofs.PlacedLemmas.{get_or-replicate_any}
 
 -- ---- the lanes of one channel
 
@@ -56,21 +56,21 @@ module _ (x y : ℕ) (p : ChannelPlan) where
 
 -- ---- the lanes of all channels
 
-module _ {S : Type 0} (meaning : S → Meaning) (x y : ℕ) (channels : List (PlacedChannel S)) (i : ℕ) (c : PlacedChannel S) (within : i < length channels) (is : c ≡ get_or channels i c) where
+module _ {S T : Type 0} (meaning : S → Meaning) (state : T → TransportState) (x y : ℕ) (channels : List (PlacedChannel S T)) (i : ℕ) (c : PlacedChannel S T) (within : i < length channels) (is : c ≡ get_or channels i c) where
   abbrev plans : List ChannelPlan
-  plans = map (channel_plan meaning) channels
+  plans = map (channel_plan meaning state) channels
 
   abbrev p : ChannelPlan
-  p = channel_plan meaning c
+  p = channel_plan meaning state c
 
   planned : get_or plans i p ≡ p
-  planned = get_or-map (channel_plan meaning) channels i c p within ∙ ap (channel_plan meaning) (sym is)
+  planned = get_or-map (channel_plan meaning state) channels i c p within ∙ ap (channel_plan meaning state) (sym is)
 
   below_plans : i < length plans
-  below_plans = omega (arith, within, length-map channels (channel_plan meaning))
+  below_plans = omega (arith, within, length-map channels (channel_plan meaning state))
 
-  pub placed-at : All (IsPlaced meaning) channels → IsPlaced meaning c
-  placed-at all = subst (IsPlaced meaning) (sym is) (all i c within)
+  pub placed-at : All (IsPlaced meaning state) channels → IsPlaced meaning state c
+  placed-at all = subst (IsPlaced meaning state) (sym is) (all i c within)
 
   pub lanes-fit : sum_by (lanes_of x y) (take i plans) + lanes_of x y p ≤ sum_by (λ q. head_hop q + 1) plans
   lanes-fit =
@@ -92,34 +92,34 @@ module _ {S : Type 0} (meaning : S → Meaning) (x y : ℕ) (channels : List (Pl
       ∙ ap (λ (q : ChannelPlan). sum_by (λ r. head_hop r + 1) (take i plans) + (head_hop q + 1)) planned
 
 -- of all of them
-pub sum_upto-all : {S : Type 0} (meaning : S → Meaning) (f : ChannelPlan → ℕ) (channels : List (PlacedChannel S)) (n : ℕ) → length channels ≤ n → (plan : Plan) → plan.channels ≡ map (channel_plan meaning) channels
-    → sum_by f (take n (map (channel_plan meaning) channels)) ≡ sum_by f plan.channels
-sum_upto-all meaning f channels n all plan is =
-    ap (sum_by f) (take_all n (map (channel_plan meaning) channels) (omega (arith, all, length-map channels (channel_plan meaning))) ∙ sym is)
+pub sum_upto-all : {S T : Type 0} (meaning : S → Meaning) (state : T → TransportState) (f : ChannelPlan → ℕ) (channels : List (PlacedChannel S T)) (n : ℕ) → length channels ≤ n → (plan : Plan) → plan.channels ≡ map (channel_plan meaning state) channels
+    → sum_by f (take n (map (channel_plan meaning state) channels)) ≡ sum_by f plan.channels
+sum_upto-all meaning state f channels n all plan is =
+    ap (sum_by f) (take_all n (map (channel_plan meaning state) channels) (omega (arith, all, length-map channels (channel_plan meaning state))) ∙ sym is)
 
 -- there are few
-pub hops-few : {S : Type 0} (meaning : S → Meaning) (channels : List (PlacedChannel S)) → ArePlaced meaning channels → sum_by (λ q. head_hop q + 1) (map (channel_plan meaning) channels) ≤ 544
-hops-few {S} meaning channels placed =
-    let each : All (λ (c : PlacedChannel S). head_hop (channel_plan meaning c) + 1 ≤ 34) channels =
+pub hops-few : {S T : Type 0} (meaning : S → Meaning) (state : T → TransportState) (channels : List (PlacedChannel S T)) → ArePlaced meaning state channels → sum_by (λ q. head_hop q + 1) (map (channel_plan meaning state) channels) ≤ 544
+hops-few {S} {T} meaning state channels placed =
+    let each : All (λ (c : PlacedChannel S T). head_hop (channel_plan meaning state c) + 1 ≤ 34) channels =
     λ i d below. let one = placed.each i d below in omega (arith, one.hops, one.few) in
-    let all = sum_by-le (λ (q : ChannelPlan). head_hop q + 1) 34 (map (channel_plan meaning) channels) (All-map (λ (q : ChannelPlan). head_hop q + 1 ≤ 34) (channel_plan meaning) channels each) in
-    omega (arith, all, length-map channels (channel_plan meaning), placed.few)
+    let all = sum_by-le (λ (q : ChannelPlan). head_hop q + 1) 34 (map (channel_plan meaning state) channels) (All-map (λ (q : ChannelPlan). head_hop q + 1 ≤ 34) (channel_plan meaning state) channels each) in
+    omega (arith, all, length-map channels (channel_plan meaning state), placed.few)
 
 -- ---- executors with places
 
-module _ {S : Type 0} (meaning : S → Meaning) (count : ℕ) (channels : List (PlacedChannel S)) where
+module _ {S T : Type 0} (meaning : S → Meaning) (state : T → TransportState) (count : ℕ) (channels : List (PlacedChannel S T)) where
   abbrev pub count_at : ℕ → ℕ → ℕ
-  count_at x y = sum_by (lanes_of x y) (map (channel_plan meaning) channels)
+  count_at x y = sum_by (lanes_of x y) (map (channel_plan meaning state) channels)
 
   -- Nothing waits at executor x of these channels, and it has places for the lanes from it.
   pub record Rests (x : ℕ) (e : Executor) : Type 0 where
-    pub stands : (plan : Plan) → plan.executors ≡ count → plan.channels ≡ map (channel_plan meaning) channels → ExecutorStands plan (lanes_between plan x) nothing_waits e
+    pub stands : (plan : Plan) → plan.executors ≡ count → plan.channels ≡ map (channel_plan meaning state) channels → ExecutorStands plan (lanes_between plan x) nothing_waits e
     pub next_age : e.next_age ≡ 0
 
   -- one that has these places
   pub stands-from : (x : ℕ) (places : List ℕ) (e : Executor) → places ≡ map (count_at x) (range_with_len 0 count)
       → ((plan : Plan) (lanes : ℕ → ℕ) → length places ≡ plan.executors → ((y : ℕ) → y < plan.executors → get_or places y 0 ≡ lanes y) → ExecutorStands plan lanes nothing_waits e)
-      → (plan : Plan) → plan.executors ≡ count → plan.channels ≡ map (channel_plan meaning) channels → ExecutorStands plan (lanes_between plan x) nothing_waits e
+      → (plan : Plan) → plan.executors ≡ count → plan.channels ≡ map (channel_plan meaning state) channels → ExecutorStands plan (lanes_between plan x) nothing_waits e
   stands-from x places e are stands plan size planned =
       stands plan (lanes_between plan x)
       (ap (λ (l : List ℕ). length l) are ∙ length-map-range_with_len (count_at x) 0 count ∙ sym size)
@@ -143,7 +143,7 @@ module _ {S : Type 0} (meaning : S → Meaning) (count : ℕ) (channels : List (
       ]
 
   pub rests-stand : (executors : List Executor) → length executors ≡ count → ((y : ℕ) (e : Executor) → slice_get executors y ≡ Some e → Rests y e)
-      → (plan : Plan) → plan.executors ≡ count → plan.channels ≡ map (channel_plan meaning) channels → ExecutorsStand plan (lanes_between plan) (start plan) executors
+      → (plan : Plan) → plan.executors ≡ count → plan.channels ≡ map (channel_plan meaning state) channels → ExecutorsStand plan (lanes_between plan) (start plan) executors
   rests-stand executors size each plan planned lanes = record {
     count = size ∙ sym planned;
     each = λ y e at.
@@ -152,8 +152,3 @@ module _ {S : Type 0} (meaning : S → Meaning) (count : ℕ) (channels : List (
 
   pub rests-ages : (executors : List Executor) → ((y : ℕ) (e : Executor) → slice_get executors y ≡ Some e → Rests y e) → All (λ e. e.next_age ≡ 0) executors
   rests-ages executors each = λ y d below. (each y (get_or executors y d) (slice_get-get_or executors y d below)).next_age
-
--- the turn has an executor
-pub turn-within : {S : Type 0} (meaning : S → Meaning) (c : PlacedChannel S) → IsPlaced meaning c → c.turn < length c.executors.items
-turn-within meaning c p =
-    omega (arith, p.hops, p.turn, prefix_len-le-length (λ (m : Meaning). not (is_turn m.direction)) (channel_plan meaning c).inbound)

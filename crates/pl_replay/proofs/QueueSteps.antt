@@ -5,16 +5,18 @@ use Rattle.std.proofs.lemmas.List.{get_or_past, get_or-take, length-take-le, dro
 use Rattle.std.proofs.lemmas.List.Elements.{All-head, All-tail, All-nil, All-cons, All-get_or, All-push, All-append, All-take, All-drop, All-from_get_or}
 use Rattle.std.proofs.lemmas.List.Quantifiers.{position-Some}
 use Rattle.std.proofs.lemmas.Bool.{cases_eq, cases_Bool, cases_lt, false_from_ne_true, false≢true, ltb-true}
-use Rattle.pl_replay.specs.Plans.{ChannelPlan, Plan}
-use Rattle.pl_replay.specs.MadeItems.{Place}
-use Rattle.pl_replay.specs.PlanRules.{IsPlan}
+use Rattle.pl_event.specs.declared.envelopes.Lane.{Lane}
+use Rattle.pl_world.specs.Plans.{ChannelPlan, Plan}
+use Rattle.pl_channel.specs.MadeItems.{Place}
+use Rattle.pl_world.specs.PlanRules.{IsPlan}
 use Rattle.pl_replay.specs.States.{ExecutorState, State, nothing_waits, executor_at, with_executor}
-use Rattle.pl_replay.specs.CoreMoves.{target, has_room, oldest, handed}
-use Rattle.pl_replay.specs.LaneAccount.{origin_by, is_on, numbers_on, in_flight, IsQueued, IsWaiting, IsWork, IsAccounted}
+use Rattle.pl_replay.specs.CoreMoves.{no_place, target, has_room, oldest, handed}
+use Rattle.pl_channel.specs.ChannelMoves.{origin_by}
+use Rattle.pl_replay.specs.LaneAccount.{is_on, numbers_on, in_flight, IsQueued, IsWaiting, IsWork, IsAccounted}
 use Rattle.pl_replay.proofs.Flights.{numbers_on-append, numbers_on-cons_other, numbers_on-none}
 use Rattle.pl_replay.proofs.StateLemmas.{queue_at, backlog_at, executor_at-same, executor_at-other, length-with_executor}
 use Rattle.pl_replay.proofs.Accounts.{target-at, to_lane, from_lane}
-use Rattle.pl_replay.proofs.CallSteps.{executor-there, channel_of}
+use Rattle.pl_replay.proofs.CallSteps.{executor-there, last_hop-le, channel_of}
 
 -- an executor with something waiting is there
 there_if : (s : State) (x : ℕ) → executor_at s x ≢ nothing_waits → x < length s.executors
@@ -68,24 +70,24 @@ module _ (plan : Plan) (x : ℕ) (s : State) (item : Place) (items : List Place)
   ]
 
   -- the item goes from the front of its lane's queued ones to the list
-  flight_popped : (c : ℕ) (p : ChannelPlan) (hop : ℕ) → slice_get plan.channels c ≡ Some p → in_flight p popped (item ∷ []) c hop ≡ in_flight p s [] c hop
-  flight_popped c p hop here =
-      let back = ap (numbers_on c hop) (backlog_same (origin_by p hop)) in
-      ap (λ (l : List ℕ). numbers_on c hop (item ∷ []) ++ (numbers_on c hop (queue_at popped (get_or p.executors hop 0)) ++ l)) back
-      ∙ sym (append_assoc (numbers_on c hop (item ∷ [])) (numbers_on c hop (queue_at popped (get_or p.executors hop 0))) (numbers_on c hop (backlog_at s (origin_by p hop))))
-      ∙ ap (λ (l : List ℕ). l ++ numbers_on c hop (backlog_at s (origin_by p hop))) (front (get_or p.executors hop 0) refl)
+  flight_popped : (lane : Lane) (p : ChannelPlan) → slice_get plan.channels lane.channel ≡ Some p → in_flight p popped (item ∷ []) lane ≡ in_flight p s [] lane
+  flight_popped lane p here =
+      let back = ap (numbers_on lane) (backlog_same (origin_by p lane.hop)) in
+      ap (λ (l : List ℕ). numbers_on lane (item ∷ []) ++ (numbers_on lane (queue_at popped (get_or p.executors lane.hop 0)) ++ l)) back
+      ∙ sym (append_assoc (numbers_on lane (item ∷ [])) (numbers_on lane (queue_at popped (get_or p.executors lane.hop 0))) (numbers_on lane (backlog_at s (origin_by p lane.hop))))
+      ∙ ap (λ (l : List ℕ). l ++ numbers_on lane (backlog_at s (origin_by p lane.hop))) (front (get_or p.executors lane.hop 0) refl)
     where
-      front : (to : ℕ) → to ≡ get_or p.executors hop 0 → numbers_on c hop (item ∷ []) ++ numbers_on c hop (queue_at popped to) ≡ numbers_on c hop (queue_at s to)
+      front : (to : ℕ) → to ≡ get_or p.executors lane.hop 0 → numbers_on lane (item ∷ []) ++ numbers_on lane (queue_at popped to) ≡ numbers_on lane (queue_at s to)
       front to is = elim (cases_eq to x) [
         | inl own ↦
-            subst (λ (z : ℕ). numbers_on c hop (item ∷ []) ++ numbers_on c hop (queue_at popped z) ≡ numbers_on c hop (queue_at s z)) (sym own)
-            (ap (λ (e : ExecutorState). numbers_on c hop (item ∷ []) ++ numbers_on c hop e.queue) rest_at
-            ∙ sym (numbers_on-append c hop (item ∷ []) items)
-            ∙ ap (numbers_on c hop) (sym queued))
+            subst (λ (z : ℕ). numbers_on lane (item ∷ []) ++ numbers_on lane (queue_at popped z) ≡ numbers_on lane (queue_at s z)) (sym own)
+            (ap (λ (e : ExecutorState). numbers_on lane (item ∷ []) ++ numbers_on lane e.queue) rest_at
+            ∙ sym (numbers_on-append lane (item ∷ []) items)
+            ∙ ap (numbers_on lane) (sym queued))
         | inr other ↦
-            let off = false_from_ne_true (is_on c hop item) (λ on.
-            other (is ∙ sym (to_lane plan c p here hop item on) ∙ (All-head (IsQueued plan x) item items all_queued).to)) in
-            ap₂ (λ (l r : List ℕ). l ++ r) (numbers_on-cons_other c hop item [] off) (ap (λ (e : ExecutorState). numbers_on c hop e.queue) (executor_at-other s x to rest other))
+            let off = false_from_ne_true (is_on lane item) (λ on.
+            other (is ∙ sym (to_lane plan lane p here item on) ∙ (All-head (IsQueued plan x) item items all_queued).to)) in
+            ap₂ (λ (l r : List ℕ). l ++ r) (numbers_on-cons_other lane item [] off) (ap (λ (e : ExecutorState). numbers_on lane e.queue) (executor_at-other s x to rest other))
       ]
 
   pub accounted_popped : IsAccounted plan x popped (item ∷ [])
@@ -95,7 +97,7 @@ module _ (plan : Plan) (x : ℕ) (s : State) (item : Place) (items : List Place)
         channels = a.channels;
         executors = length-with_executor s x rest ∙ a.executors;
         each_channel = a.each_channel;
-        lanes = λ c p hop here within. let lane = a.lanes c p hop here within in (lane.0, flight_popped c p hop here ∙ lane.1);
+        lanes = λ lane p here within. let was = a.lanes lane p here within in (was.0, flight_popped lane p here ∙ was.1);
         queues = λ y. elim (cases_eq y x) [
           | inl same ↦
               subst (λ (z : ℕ). All (IsQueued plan z) (queue_at popped z)) (sym same)
@@ -118,11 +120,8 @@ module _ (plan : Plan) (ok : IsPlan plan) (x : ℕ) (s : State) (a : IsAccounted
   abbrev waiting : List Place
   waiting = backlog_at s x
 
-  abbrev none : Place
-  none = record { channel = 0; hop = 0; number = 0 }
-
   abbrev item : Place
-  item = get_or waiting i none
+  item = get_or waiting i no_place
 
   abbrev to : ℕ
   to = target plan item
@@ -139,21 +138,21 @@ module _ (plan : Plan) (ok : IsPlan plan) (x : ℕ) (s : State) (a : IsAccounted
   abbrev after : State
   after = with_executor less to gets
 
-  at : (i < length waiting) × (has_room plan s item ≡ true) × ((k : ℕ) → k < i → has_room plan s (get_or waiting k none) ≡ false)
-  at = position-Some (has_room plan s) waiting i none found
+  at : (i < length waiting) × (has_room plan s item ≡ true) × ((k : ℕ) → k < i → has_room plan s (get_or waiting k no_place) ≡ false)
+  at = position-Some (has_room plan s) waiting i no_place found
 
   waits : IsWaiting plan x item
-  waits = All-get_or (IsWaiting plan x) waiting i none at.0 (a.backlogs x)
+  waits = All-get_or (IsWaiting plan x) waiting i no_place at.0 (a.backlogs x)
 
   here_less : x < length s.executors
   here_less = there_if_waiting s x (omega (arith, at.0))
 
   to_there : to < length less.executors
   to_there =
-      let of = channel_of plan item waits.there in
+      let of = channel_of plan item.lane waits.there in
       let size = length-with_executor s x left in
-      let is = target-at plan item.channel of.0 of.1 item item.hop refl refl in
-      omega (arith, size, a.executors, is, executor-there plan ok item.channel of.0 item.hop of.1 of.2)
+      let is = target-at plan item.lane.channel of.0 of.1 item item.lane.hop refl refl in
+      omega (arith, size, a.executors, is, executor-there plan ok item.lane.channel of.0 item.lane.hop of.1 (last_hop-le of.0 item.lane.kind item.lane.hop of.2))
 
   less_at : executor_at less x ≡ left
   less_at = executor_at-same s x left here_less
@@ -198,69 +197,69 @@ module _ (plan : Plan) (ok : IsPlan plan) (x : ℕ) (s : State) (a : IsAccounted
   cut =
       let next : i + 1 ≡ suc i = omega arith in
       sym (take-append-drop i waiting)
-      ∙ ap (λ (l : List Place). take i waiting ++ l) (drop_more waiting i none at.0 ∙ ap (λ (n : ℕ). item ∷ drop n waiting) next)
+      ∙ ap (λ (l : List Place). take i waiting ++ l) (drop_more waiting i no_place at.0 ∙ ap (λ (n : ℕ). item ∷ drop n waiting) next)
 
-  numbers_cut : (c hop : ℕ) → numbers_on c hop waiting ≡ numbers_on c hop (take i waiting) ++ (numbers_on c hop (item ∷ []) ++ numbers_on c hop (drop (suc i) waiting))
-  numbers_cut c hop =
-      ap (numbers_on c hop) cut
-      ∙ numbers_on-append c hop (take i waiting) (item ∷ drop (suc i) waiting)
-      ∙ ap (λ (l : List ℕ). numbers_on c hop (take i waiting) ++ l) (numbers_on-append c hop (item ∷ []) (drop (suc i) waiting))
+  numbers_cut : (lane : Lane) → numbers_on lane waiting ≡ numbers_on lane (take i waiting) ++ (numbers_on lane (item ∷ []) ++ numbers_on lane (drop (suc i) waiting))
+  numbers_cut lane =
+      ap (numbers_on lane) cut
+      ∙ numbers_on-append lane (take i waiting) (item ∷ drop (suc i) waiting)
+      ∙ ap (λ (l : List ℕ). numbers_on lane (take i waiting) ++ l) (numbers_on-append lane (item ∷ []) (drop (suc i) waiting))
 
-  numbers_left : (c hop : ℕ) → numbers_on c hop (remove waiting i) ≡ numbers_on c hop (take i waiting) ++ numbers_on c hop (drop (suc i) waiting)
-  numbers_left c hop = numbers_on-append c hop (take i waiting) (drop (suc i) waiting)
+  numbers_left : (lane : Lane) → numbers_on lane (remove waiting i) ≡ numbers_on lane (take i waiting) ++ numbers_on lane (drop (suc i) waiting)
+  numbers_left lane = numbers_on-append lane (take i waiting) (drop (suc i) waiting)
 
-  module _ (c : ℕ) (p : ChannelPlan) (hop : ℕ) (here : slice_get plan.channels c ≡ Some p) where
+  module _ (lane : Lane) (p : ChannelPlan) (here : slice_get plan.channels lane.channel ≡ Some p) where
     -- an older item of the item's lane has the same target, which has room
-    none_older : is_on c hop item ≡ true → numbers_on c hop (take i waiting) ≡ []
+    none_older : is_on lane item ≡ true → numbers_on lane (take i waiting) ≡ []
     none_older on =
-        numbers_on-none c hop (λ w. has_room plan s w ≡ false) (take i waiting) no_room (λ w full on_too.
-        let same : target plan w ≡ to = to_lane plan c p here hop w on_too ∙ sym (to_lane plan c p here hop item on) in
+        numbers_on-none lane (λ w. has_room plan s w ≡ false) (take i waiting) no_room (λ w full on_too.
+        let same : target plan w ≡ to = to_lane plan lane p here w on_too ∙ sym (to_lane plan lane p here item on) in
         false≢true (sym full ∙ ap (λ (y : ℕ). ltb (length (queue_at s y)) plan.capacity) same ∙ at.1))
       where
         no_room : All (λ w. has_room plan s w ≡ false) (take i waiting)
-        no_room = All-from_get_or (λ w. has_room plan s w ≡ false) (take i waiting) none (λ k below.
+        no_room = All-from_get_or (λ w. has_room plan s w ≡ false) (take i waiting) no_place (λ k below.
             let size = length-take-le i waiting (le_of_lt at.0) in
             let before : k < i = omega (arith, below, size) in
-            ap (has_room plan s) (get_or-take i waiting k none before) ∙ at.2 k before)
+            ap (has_room plan s) (get_or-take i waiting k no_place before) ∙ at.2 k before)
 
     -- what is in flight of a lane stays
-    flight_handed : in_flight p after [] c hop ≡ in_flight p s [] c hop
-    flight_handed = elim (cases_Bool (is_on c hop item)) [
+    flight_handed : in_flight p after [] lane ≡ in_flight p s [] lane
+    flight_handed = elim (cases_Bool (is_on lane item)) [
       | inl on ↦
-          let own : get_or p.executors hop 0 ≡ to = sym (to_lane plan c p here hop item on) in
-          let mine : origin_by p hop ≡ x = sym (from_lane plan c p here hop item on) ∙ waits.from in
-          let q = numbers_on c hop (queue_at s to) in
-          let n = numbers_on c hop (item ∷ []) in
-          let d = numbers_on c hop (drop (suc i) waiting) in
+          let own : get_or p.executors lane.hop 0 ≡ to = sym (to_lane plan lane p here item on) in
+          let mine : origin_by p lane.hop ≡ x = sym (from_lane plan lane p here item on) ∙ waits.from in
+          let q = numbers_on lane (queue_at s to) in
+          let n = numbers_on lane (item ∷ []) in
+          let d = numbers_on lane (drop (suc i) waiting) in
           let clear = none_older on in
-          ap₂ (λ (y z : ℕ). numbers_on c hop (queue_at after y) ++ numbers_on c hop (backlog_at after z)) own mine
-          ∙ ap₂ (λ (l r : List Place). numbers_on c hop l ++ numbers_on c hop r) queue_to backlog_self
-          ∙ ap₂ (λ (l r : List ℕ). l ++ r) (numbers_on-append c hop (queue_at s to) (item ∷ [])) (numbers_left c hop ∙ ap (λ (l : List ℕ). l ++ d) clear)
+          ap₂ (λ (y z : ℕ). numbers_on lane (queue_at after y) ++ numbers_on lane (backlog_at after z)) own mine
+          ∙ ap₂ (λ (l r : List Place). numbers_on lane l ++ numbers_on lane r) queue_to backlog_self
+          ∙ ap₂ (λ (l r : List ℕ). l ++ r) (numbers_on-append lane (queue_at s to) (item ∷ [])) (numbers_left lane ∙ ap (λ (l : List ℕ). l ++ d) clear)
           ∙ append_assoc q n d
-          ∙ ap (λ (l : List ℕ). q ++ l) (sym (numbers_cut c hop ∙ ap (λ (l : List ℕ). l ++ (n ++ d)) clear))
-          ∙ sym (ap₂ (λ (y z : ℕ). numbers_on c hop (queue_at s y) ++ numbers_on c hop (backlog_at s z)) own mine)
+          ∙ ap (λ (l : List ℕ). q ++ l) (sym (numbers_cut lane ∙ ap (λ (l : List ℕ). l ++ (n ++ d)) clear))
+          ∙ sym (ap₂ (λ (y z : ℕ). numbers_on lane (queue_at s y) ++ numbers_on lane (backlog_at s z)) own mine)
       | inr off ↦
-          let gone : numbers_on c hop (item ∷ []) ≡ [] = numbers_on-cons_other c hop item [] off in
-          ap₂ (λ (l r : List ℕ). l ++ r) (queues_same gone (get_or p.executors hop 0)) (backlogs_same gone (origin_by p hop))
+          let gone : numbers_on lane (item ∷ []) ≡ [] = numbers_on-cons_other lane item [] off in
+          ap₂ (λ (l r : List ℕ). l ++ r) (queues_same gone (get_or p.executors lane.hop 0)) (backlogs_same gone (origin_by p lane.hop))
     ]
       where
-        queues_same : numbers_on c hop (item ∷ []) ≡ [] → (y : ℕ) → numbers_on c hop (queue_at after y) ≡ numbers_on c hop (queue_at s y)
+        queues_same : numbers_on lane (item ∷ []) ≡ [] → (y : ℕ) → numbers_on lane (queue_at after y) ≡ numbers_on lane (queue_at s y)
         queues_same gone y = elim (cases_eq y to) [
           | inl same ↦
-              subst (λ (z : ℕ). numbers_on c hop (queue_at after z) ≡ numbers_on c hop (queue_at s z)) (sym same)
-              (ap (numbers_on c hop) queue_to ∙ numbers_on-append c hop (queue_at s to) (item ∷ []) ∙ ap (λ (l : List ℕ). numbers_on c hop (queue_at s to) ++ l) gone ∙ append-nil (numbers_on c hop (queue_at s to)))
-          | inr other ↦ ap (numbers_on c hop) (queue_other y other)
+              subst (λ (z : ℕ). numbers_on lane (queue_at after z) ≡ numbers_on lane (queue_at s z)) (sym same)
+              (ap (numbers_on lane) queue_to ∙ numbers_on-append lane (queue_at s to) (item ∷ []) ∙ ap (λ (l : List ℕ). numbers_on lane (queue_at s to) ++ l) gone ∙ append-nil (numbers_on lane (queue_at s to)))
+          | inr other ↦ ap (numbers_on lane) (queue_other y other)
         ]
 
-        backlogs_same : numbers_on c hop (item ∷ []) ≡ [] → (y : ℕ) → numbers_on c hop (backlog_at after y) ≡ numbers_on c hop (backlog_at s y)
+        backlogs_same : numbers_on lane (item ∷ []) ≡ [] → (y : ℕ) → numbers_on lane (backlog_at after y) ≡ numbers_on lane (backlog_at s y)
         backlogs_same gone y = elim (cases_eq y x) [
           | inl same ↦
-              subst (λ (z : ℕ). numbers_on c hop (backlog_at after z) ≡ numbers_on c hop (backlog_at s z)) (sym same)
-              (ap (numbers_on c hop) backlog_self
-              ∙ numbers_left c hop
-              ∙ ap (λ (l : List ℕ). numbers_on c hop (take i waiting) ++ (l ++ numbers_on c hop (drop (suc i) waiting))) (sym gone)
-              ∙ sym (numbers_cut c hop))
-          | inr other ↦ ap (numbers_on c hop) (backlog_other y other)
+              subst (λ (z : ℕ). numbers_on lane (backlog_at after z) ≡ numbers_on lane (backlog_at s z)) (sym same)
+              (ap (numbers_on lane) backlog_self
+              ∙ numbers_left lane
+              ∙ ap (λ (l : List ℕ). numbers_on lane (take i waiting) ++ (l ++ numbers_on lane (drop (suc i) waiting))) (sym gone)
+              ∙ sym (numbers_cut lane))
+          | inr other ↦ ap (numbers_on lane) (backlog_other y other)
         ]
 
   pub accounted_handed : IsAccounted plan x (handed plan s x i) []
@@ -268,7 +267,7 @@ module _ (plan : Plan) (ok : IsPlan plan) (x : ℕ) (s : State) (a : IsAccounted
     channels = a.channels;
     executors = length-with_executor less to gets ∙ length-with_executor s x left ∙ a.executors;
     each_channel = a.each_channel;
-    lanes = λ c p hop here within. let lane = a.lanes c p hop here within in (lane.0, flight_handed c p hop here ∙ lane.1);
+    lanes = λ lane p here within. let was = a.lanes lane p here within in (was.0, flight_handed lane p here ∙ was.1);
     queues = λ y. elim (cases_eq y to) [
       | inl same ↦
           subst (λ (z : ℕ). All (IsQueued plan z) (queue_at after z)) (sym same)

@@ -3,8 +3,8 @@ use Rattle.std.proofs.Common.{◌≡◌, ℕ, zero, suc, ◌+◌, ◌<◌, Bool,
 use Rattle.std.specs.List.{list_all}
 use Rattle.std.proofs.lemmas.List.{take_more}
 use Rattle.std.proofs.lemmas.List.Folds.{list_all_more}
-use Rattle.pl_replay.specs.declared.moves.Move.{Move}
-use Rattle.pl_replay.specs.Plans.{Plan}
+use Rattle.pl_world.specs.declared.moves.Move.{Move}
+use Rattle.pl_world.specs.Plans.{Plan}
 use Rattle.pl_replay.specs.States.{State}
 use Rattle.pl_replay.specs.MoveModel.{is_there}
 use Rattle.pl_replay.specs.CoreMoves.{LeadsTo, Reaches}

@@ -5,12 +5,15 @@ use Rattle.std.proofs.lemmas.List.{take_all}
 use Rattle.std.proofs.lemmas.Option.{slice_get_within}
 use Rattle.pl_event.specs.declared.events.Event.{Event}
 use Rattle.pl_event.specs.Meaning.{Meaning}
-use Rattle.pl_replay.specs.declared.report.ChannelReport.{ChannelReport}
+use Rattle.pl_head.specs.Transports.{TransportState}
+use Rattle.pl_world.specs.declared.report.ChannelReport.{ChannelReport}
 use Rattle.pl_replay.specs.declared.nets.Core.{Core}
-use Rattle.pl_replay.specs.Plans.{ChannelPlan, Plan}
-use Rattle.pl_replay.specs.States.{ChannelState, State, no_numbers, channel_at}
-use Rattle.pl_replay.specs.Reports.{AllKeepToPlan}
-use Rattle.pl_replay.specs.NetStand.{CoreStands, report_at, reports_at, is_drained}
+use Rattle.pl_world.specs.Plans.{ChannelPlan, Plan}
+use Rattle.pl_channel.specs.ChannelStates.{ChannelState, no_numbers}
+use Rattle.pl_replay.specs.States.{State, channel_at}
+use Rattle.pl_world.specs.Reports.{AllKeepToPlan}
+use Rattle.pl_replay.specs.NetStand.{CoreStands, reports_at}
+use Rattle.pl_channel.specs.ChannelStand.{report_at, is_drained}
 use Rattle.pl_replay.proofs.Kept.{reports_keep}
 use Rattle.pl_replay.proofs.RunningSteps.{accounted_between, channels_there}
 
@@ -43,9 +46,9 @@ one_open (q ∷ ps) (s ∷ ss) (suc k) p here within open_one =
     and_false true = refl
     and_false false = refl
 
-module _ {S : Type 0} (meaning : S → Meaning) (stands_after : S → List Event → Type 0) (plan : Plan) (s : State) (core : Core S) (r : CoreStands meaning stands_after plan s core) where
+module _ {S T : Type 0} (meaning : S → Meaning) (stands_after : S → List Event → Type 0) (state : T → TransportState) (plan : Plan) (s : State) (core : Core S T) (r : CoreStands meaning stands_after state plan s core) where
   sizes : (length s.channels ≡ length plan.channels) × (length core.channels.items ≡ length plan.channels)
-  sizes = (channels_there meaning stands_after plan 0 s [] [] core r, r.holds.channel_count)
+  sizes = (channels_there meaning stands_after state plan 0 s [] [] core r, r.holds.channel_count)
 
   pub report_more : (i : ℕ) (p : ChannelPlan) → slice_get plan.channels i ≡ Some p
       → reports_at (take (i + 1) plan.channels) (take (i + 1) s.channels) ≡ reports_at (take i plan.channels) (take i s.channels) ++ report_at p (channel_at s i) ∷ []
@@ -65,4 +68,4 @@ module _ {S : Type 0} (meaning : S → Meaning) (stands_after : S → List Event
   drained_not k p here off = one_open plan.channels s.channels k p here (let n = slice_get_within plan.channels k p here in omega (arith, n, sizes.0)) off
 
   pub reported_kept : (reports : List ChannelReport) → reports ≡ reports_at plan.channels s.channels → AllKeepToPlan plan.channels reports
-  reported_kept reports is = subst (λ (l : List ChannelReport). AllKeepToPlan plan.channels l) (sym is) (reports_keep plan r.ruled s (accounted_between meaning stands_after plan 0 s core r))
+  reported_kept reports is = subst (λ (l : List ChannelReport). AllKeepToPlan plan.channels l) (sym is) (reports_keep plan r.ruled s (accounted_between meaning stands_after state plan 0 s core r))

@@ -2,8 +2,9 @@
 use Rattle.std.proofs.Common.{◌≡◌, ◌≢◌, ℕ, ◌<◌, List, ◌++◌, length, sym, ap, ◌∙◌, inl, inr}
 use Rattle.std.proofs.lemmas.List.{get_or-set_same, get_or-set_other, length-set}
 use Rattle.std.proofs.lemmas.Bool.{cases_eq}
-use Rattle.pl_replay.specs.MadeItems.{Place}
-use Rattle.pl_replay.specs.States.{ChannelState, ExecutorState, State, no_numbers, nothing_waits, channel_at, executor_at, with_channel, with_executor, with_waiting}
+use Rattle.pl_channel.specs.MadeItems.{Place}
+use Rattle.pl_channel.specs.ChannelStates.{ChannelState, no_numbers}
+use Rattle.pl_replay.specs.States.{ExecutorState, State, nothing_waits, channel_at, executor_at, with_channel, with_executor, with_waiting}
 
 -- what waits in an executor's queue, and in its backlog
 abbrev pub queue_at : State → ℕ → List Place

@@ -3,11 +3,11 @@ use Rattle.std.specs.Prelude.{◌≡◌, ℕ, ◌<◌, ◌==◌, List, [], ◌�
 use Rattle.std.specs.VecDeque.{deque_len, deque_capacity}
 use Rattle.pl_event.specs.declared.envelopes.Envelope.{Envelope}
 use Rattle.pl_context.specs.Stopped.{no_stops}
-use Rattle.pl_replay.specs.Plans.{Plan}
-use Rattle.pl_replay.specs.MadeItems.{Place}
+use Rattle.pl_world.specs.Plans.{Plan}
+use Rattle.pl_channel.specs.MadeItems.{Place}
 use Rattle.pl_replay.specs.States.{ExecutorState, State, executor_at}
-use Rattle.pl_replay.specs.CoreMoves.{target, oldest}
-use Rattle.pl_replay.specs.Envelopes.{envelope_at, envelopes_at}
+use Rattle.pl_replay.specs.CoreMoves.{target, oldest, no_place}
+use Rattle.pl_channel.specs.Envelopes.{envelope_at, envelopes_at}
 use Rattle.pl_replay.specs.declared.executors.Executor.{Executor}
 use Rattle.pl_replay.specs.declared.executors.Waiting.{Waiting}
 
@@ -106,4 +106,4 @@ older_of found y age =
 abbrev pub IsOldest : Plan → State → ℕ → Option ℕ → Type 0
 IsOldest plan s x answer =
     MatchOption answer (oldest plan s x ≡ None)
-    (λ y. (i : ℕ) × (oldest plan s x ≡ Some i) × (y ≡ target plan (get_or (executor_at s x).backlog i (record { channel = 0; hop = 0; number = 0 }))))
+    (λ y. (i : ℕ) × (oldest plan s x ≡ Some i) × (y ≡ target plan (get_or (executor_at s x).backlog i no_place)))

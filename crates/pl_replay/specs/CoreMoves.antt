@@ -1,15 +1,13 @@
 -- The move model: which move is enabled, and how it moves the numbers. It knows no contents: those are the lanes' (Netty:
 -- EventLoop, whose tasks run one after another).
-use Rattle.std.specs.Prelude.{◌≡◌, ℕ, zero, suc, ◌+◌, ◌==◌, List, [], ◌∷◌, ◌++◌, length, take, remove, filter, position, Bool, true, false, not, nat_lt, is_some, get_or, MatchOption, Option, Some, None, slice_get}
+use Rattle.std.specs.Prelude.{◌≡◌, ℕ, zero, suc, ◌+◌, ◌==◌, ◌⊎◌, List, [], ◌∷◌, ◌++◌, length, remove, filter, position, Bool, true, false, not, nat_lt, is_some, get_or, MatchOption, Option, Some, None, slice_get}
 use Rattle.std.specs.Option.{option_map_or}
-use Rattle.pl_event.specs.declared.events.Event.{Event}
-use Rattle.pl_event.specs.Inputs.{read_steps}
-use Rattle.pl_replay.specs.declared.moves.Move.{Move}
-use Rattle.pl_replay.specs.declared.moves.Move.TheVariants.{Read, Task, Hand, Out}
-use Rattle.pl_replay.specs.Plans.{ChannelPlan, Plan}
-use Rattle.pl_replay.specs.Writes.{out, offered, flushed_writes}
-use Rattle.pl_replay.specs.MadeItems.{Place, content, head_hop, made_of, made_by_read}
-use Rattle.pl_replay.specs.States.{ChannelState, State, channel_at, executor_at, with_channel, with_executor, with_taken, with_waiting, with_queued}
+use Rattle.pl_world.specs.declared.moves.Move.{Move}
+use Rattle.pl_world.specs.declared.moves.Move.TheVariants.{Read, Task, Hand, Out}
+use Rattle.pl_world.specs.Plans.{ChannelPlan, Plan}
+use Rattle.pl_channel.specs.MadeItems.{Place, flags_lane, made_by_read}
+use Rattle.pl_replay.specs.States.{State, channel_at, executor_at, with_channel, with_executor, with_waiting, with_queued}
+use Rattle.pl_channel.specs.ChannelMoves.{home, IsAccepted, written, made_of, after_taking, can_read, new_flags, can_write}
 
 -- ---- where items go
 
@@ -19,15 +17,22 @@ executor_by (Some p) hop = get_or p.executors hop 0
 
 -- the executor that an item goes to: that of the hop which its lane enters
 abbrev pub target : Plan → Place → ℕ
-target plan item = executor_by (slice_get plan.channels item.channel) item.hop
+target plan item = executor_by (slice_get plan.channels item.lane.channel) item.lane.hop
 
--- the executor that a channel lives on, with its head and its tail
-abbrev pub home : ChannelPlan → ℕ
-home p = get_or p.executors (head_hop p) 0
+abbrev pub home_of : Plan → ℕ → ℕ
+home_of plan channel = option_map_or home (slice_get plan.channels channel) 0
 
--- what is made of an item that is taken
-abbrev pub made_from : Plan → Place → List Place
-made_from plan item = option_map_or (λ p. made_of p item) (slice_get plan.channels item.channel) []
+-- ---- the head
+
+-- ---- items taken
+
+abbrev pub made_from : Plan → State → Place → List Place
+made_from plan s item =
+    option_map_or (λ p. made_of p (channel_at s item.lane.channel) item) (slice_get plan.channels item.lane.channel) []
+
+abbrev pub with_taken : Plan → State → Place → State
+with_taken plan s item =
+    option_map_or (λ p. with_channel s item.lane.channel (after_taking p (channel_at s item.lane.channel) item.lane)) (slice_get plan.channels item.lane.channel) s
 
 -- ---- direct calls
 
@@ -48,7 +53,7 @@ abbrev pub after_call : Plan → ℕ → Work → Work
 after_call plan x w =
     elim w.items [
       | [] ↦ w
-      | item ∷ items ↦ passed_on plan x (record { state = with_taken w.state item; items = items }) (made_from plan item)
+      | item ∷ items ↦ passed_on plan x (record { state = with_taken plan w.state item; items = items }) (made_from plan w.state item)
     ]
 
 abbrev pub after_calls : Plan → ℕ → ℕ → Work → Work
@@ -60,18 +65,6 @@ abbrev pub Settles : Plan → ℕ → Work → State → Type 0
 Settles plan x w end = (n : ℕ) × (after_calls plan x n w ≡ record { state = end; items = [] })
 
 -- ---- moves
-
--- a read step is left
-abbrev pub can_read : ChannelPlan → ChannelState → Bool
-can_read p s = nat_lt s.reads (length (read_steps p.bursts))
-
--- the events that the head has taken
-abbrev pub at_head : ChannelPlan → ChannelState → List Event
-at_head p s = take (get_or s.taken (head_hop p) 0) (content p (head_hop p))
-
--- a flushed byte waits
-abbrev pub can_write : ChannelPlan → ChannelState → Bool
-can_write p s = nat_lt s.accepted (length (out (at_head p s)))
 
 -- the target of an item has room in its queue
 abbrev pub has_room : Plan → State → Place → Bool
@@ -99,25 +92,35 @@ RunsTask plan s x end [] = ⊥
 RunsTask plan s x end (item ∷ items) =
     Settles plan x (record { state = with_executor s x (record { queue = items; backlog = (executor_at s x).backlog }); items = item ∷ [] }) end
 
+-- any place
+abbrev pub no_place : Place
+no_place = record { lane = flags_lane 0 0; number = 0 }
+
 -- the item at this place of the backlog goes to the end of its target's queue
 abbrev pub handed : Plan → State → ℕ → ℕ → State
 handed plan s x i =
     let now = executor_at s x in
-    let item = get_or now.backlog i (record { channel = 0; hop = 0; number = 0 }) in
+    let item = get_or now.backlog i no_place in
     with_queued (with_executor s x (record { queue = now.queue; backlog = remove now.backlog i })) (target plan item) item
 
--- one write to the transport, which accepts all that it is offered
-abbrev pub written : State → ℕ → ChannelPlan → State
-written s c p =
+abbrev pub after_write : Plan → State → ℕ → ChannelPlan → ℕ → Work
+after_write plan s c p count =
     let now = channel_at s c in
-    with_channel s c (record now { accepted = now.accepted + offered 0 now.accepted (flushed_writes (at_head p now)) })
+    let then_ = written p now count in
+    passed_on plan (home p) (record { state = with_channel s c then_; items = [] }) (new_flags p c now then_)
+
+-- The transport accepts some bytes, and the flags which that sends are passed on; or it fails.
+abbrev pub Writes : Plan → State → ℕ → ChannelPlan → State → Type 0
+Writes plan s c p end =
+    ((count : ℕ) × IsAccepted p (channel_at s c) count × Settles plan (home p) (after_write plan s c p count) end)
+    ⊎ (end ≡ with_channel s c (record (channel_at s c) { has_failed = true }))
 
 -- An enabled move leads from these numbers to those.
 abbrev pub Makes : Plan → State → Move → State → Type 0
 Makes plan s (Read c) end = MatchOption (slice_get plan.channels c) ⊥ (λ p. Settles plan (home p) (after_read plan s c p) end)
 Makes plan s (Task x) end = RunsTask plan s x end (executor_at s x).queue
 Makes plan s (Hand x) end = MatchOption (oldest plan s x) ⊥ (λ i. end ≡ handed plan s x i)
-Makes plan s (Out c) end = MatchOption (slice_get plan.channels c) ⊥ (λ p. end ≡ written s c p)
+Makes plan s (Out c) end = MatchOption (slice_get plan.channels c) ⊥ (λ p. Writes plan s c p end)
 
 -- A move that is not enabled changes nothing.
 abbrev pub LeadsTo : Plan → State → Move → State → Type 0

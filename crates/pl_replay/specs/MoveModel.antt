@@ -1,8 +1,8 @@
 -- Which moves name what is there (Netty: EventLoop).
 use Rattle.std.specs.Prelude.{length, Bool, nat_lt}
-use Rattle.pl_replay.specs.declared.moves.Move.{Move}
-use Rattle.pl_replay.specs.declared.moves.Move.TheVariants.{Read, Task, Hand, Out}
-use Rattle.pl_replay.specs.Plans.{Plan}
+use Rattle.pl_world.specs.declared.moves.Move.{Move}
+use Rattle.pl_world.specs.declared.moves.Move.TheVariants.{Read, Task, Hand, Out}
+use Rattle.pl_world.specs.Plans.{Plan}
 
 -- the channel or the executor of a move is there
 abbrev pub is_there : Plan → Move → Bool

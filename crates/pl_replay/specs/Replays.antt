@@ -1,13 +1,13 @@
 -- What a report of a session by a schedule says.
 use Rattle.std.specs.Prelude.{◌≡◌, List, true}
 use Rattle.std.specs.List.{list_all}
-use Rattle.pl_replay.specs.declared.moves.Move.{Move}
-use Rattle.pl_replay.specs.declared.report.Report.{Report}
-use Rattle.pl_replay.specs.Plans.{Plan}
+use Rattle.pl_world.specs.declared.moves.Move.{Move}
+use Rattle.pl_world.specs.declared.report.Report.{Report}
+use Rattle.pl_world.specs.Plans.{Plan}
 use Rattle.pl_replay.specs.MoveModel.{is_there}
 use Rattle.pl_replay.specs.States.{State, start}
 use Rattle.pl_replay.specs.CoreMoves.{Reaches}
-use Rattle.pl_replay.specs.Reports.{AllKeepToPlan}
+use Rattle.pl_world.specs.Reports.{AllKeepToPlan}
 use Rattle.pl_replay.specs.NetStand.{reports_at}
 
 pub record IsReplayed (plan : Plan) (moves : List Move) (report : Report) : Type 0 where

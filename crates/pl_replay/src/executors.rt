@@ -4,10 +4,10 @@ ghost use Rattle.std.specs.Prelude.{◌≡◌, ℕ, List, ◌+◌, ◌<◌, ◌�
 ghost use Rattle.std.specs.Option.{option_map};
 ghost use Rattle.pl_event.specs.declared.outcomes.Cause.{Cause};
 ghost use Rattle.pl_context.specs.Stopped.{HasPlaces, no_stops};
-ghost use Rattle.pl_replay.specs.Plans.{Plan};
-ghost use Rattle.pl_replay.specs.MadeItems.{Place};
+ghost use Rattle.pl_world.specs.Plans.{Plan};
+ghost use Rattle.pl_channel.specs.MadeItems.{Place};
 ghost use Rattle.pl_replay.specs.States.{ExecutorState, nothing_waits};
-ghost use Rattle.pl_replay.specs.Envelopes.{envelope_at};
+ghost use Rattle.pl_channel.specs.Envelopes.{envelope_at};
 
 use pl_context::Backlog;
 use pl_event::{Envelope, Item};

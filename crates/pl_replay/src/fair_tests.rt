@@ -1,28 +1,36 @@
 // A fair schedule drains a session in each placing, and gives the report that plain gives.
-use crate::composing::plain;
-use crate::moves::Move;
-use crate::net_tests::{bursts, line_protocol, pipeline};
+ghost use Rattle.std.specs.Prelude.{◌≤◌};
+
+use crate::net_tests::{bursts, line_protocol, marked_pipeline};
 use crate::running::replay;
-use crate::session::Session;
 use crate::tests::assert_channel;
-use crate::world_tests::world_of;
+use crate::world_tests::windowed_world;
 use pl_build::Groups;
 use pl_event::Sequence;
+use pl_world::{Move, Session, plain};
 use std::alloc::Global;
 use std::process::Abort;
 use std::test::Fail;
 
-/// Two channels with the line protocol, the decoder and the service each in a group or in none.
-fn session(alloc: Global, decode: Option<&str>, service: Option<&str>) -> Result<Session, Fail> {
+/// Two channels with the line protocol, the decoder and the service each in a group or in none, over windows of so many
+/// bytes, with marks of as many and twice as many.
+fn session(
+    alloc: Global,
+    decode: Option<&str>,
+    service: Option<&str>,
+    window: u32,
+) -> Result<Session, Fail>
+    requires { (1 ≤ window) × (window ≤ 65536) }
+{
     let mut groups = Groups::new(alloc, 1, &[("a", 2), ("b", 1)])?;
     let mut pipelines = Sequence::new(alloc);
     let mut inputs = Sequence::new(alloc);
     let kinds = line_protocol(decode, service);
-    pipelines.push(pipeline(alloc, &mut groups, &kinds)?)?;
+    pipelines.push(marked_pipeline(alloc, &mut groups, &kinds, window, window * 2)?)?;
     inputs.push(bursts(alloc, &[&[b"ADD k 5\r\nGET k\r\n"], &[b"PI", b"NG\r\n"]])?)?;
-    pipelines.push(pipeline(alloc, &mut groups, &kinds)?)?;
+    pipelines.push(marked_pipeline(alloc, &mut groups, &kinds, window, window * 2)?)?;
     inputs.push(bursts(alloc, &[&[b"PING\r\nQUIT\r\n"]])?)?;
-    let world = world_of(alloc, pipelines, inputs, groups.executors())?;
+    let world = windowed_world(alloc, pipelines, inputs, window, groups.executors())?;
     Ok(Session { world, capacity: 2 })
 }
 
@@ -47,10 +55,17 @@ fn assert_drains(
     alloc: Global,
     decode: Option<&str>,
     service: Option<&str>,
-) -> Result<(), Fail> {
+    window: u32,
+) -> Result<(), Fail>
+    requires { (1 ≤ window) × (window ≤ 65536) }
+{
     let moves = rounds(alloc, 2, 4, 60)?;
-    let report = replay(alloc, session(alloc, decode, service)?, moves.as_slice())?;
-    let want = plain(alloc, session(alloc, decode, service)?)?;
+    let report = replay(
+        alloc,
+        session(alloc, decode, service, window)?,
+        moves.as_slice(),
+    )?;
+    let want = plain(alloc, session(alloc, decode, service, window)?)?;
     assert_eq!(rt; report.channels.len(), want.channels.len());
     for (channel, whole) in report
         .channels
@@ -70,11 +85,19 @@ fn assert_drains(
     Ok(())
 }
 
+/// Each placing of the decoder and the service.
+fn assert_each_drains(rt: &impl Abort, alloc: Global, window: u32) -> Result<(), Fail>
+    requires { (1 ≤ window) × (window ≤ 65536) }
+{
+    assert_drains(rt, alloc, None, None, window)?;
+    assert_drains(rt, alloc, Some("a"), None, window)?;
+    assert_drains(rt, alloc, None, Some("b"), window)?;
+    assert_drains(rt, alloc, Some("a"), Some("b"), window)
+}
+
 #[test]
 fn fair_schedules(rt: HostRuntime) -> Result<(), Fail> {
-    let alloc = rt.alloc();
-    assert_drains(&rt, alloc, None, None)?;
-    assert_drains(&rt, alloc, Some("a"), None)?;
-    assert_drains(&rt, alloc, None, Some("b"))?;
-    assert_drains(&rt, alloc, Some("a"), Some("b"))
+    assert_each_drains(&rt, rt.alloc(), 65_536)?;
+    assert_each_drains(&rt, rt.alloc(), 3)?;
+    assert_each_drains(&rt, rt.alloc(), 1)
 }

@@ -1,7 +1,7 @@
 //! Which item of a backlog is handed over next.
 
 ghost use Rattle.std.specs.Prelude.{◌≡◌, ◌<◌, ℕ, length, All};
-ghost use Rattle.pl_replay.specs.Plans.{Plan};
+ghost use Rattle.pl_world.specs.Plans.{Plan};
 ghost use Rattle.pl_replay.specs.States.{State, executor_at};
 ghost use Rattle.pl_replay.specs.CoreMoves.{target as executor_of};
 ghost use Rattle.pl_replay.specs.BacklogStand.{ExecutorsStand, AllKeep, older_of, IsOldest};

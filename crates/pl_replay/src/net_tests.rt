@@ -1,23 +1,34 @@
 // Replays on several executors. The channels are those of docs/FORMATS.md.
 ghost use Rattle.std.specs.Prelude.{◌<◌};
 
-use crate::composing::whole_reports;
-use crate::faults::ReplayFault;
-use crate::moves::Move;
 use crate::nets::Net;
-use crate::report::{ChannelReport, Report, Stands};
 use crate::running::run;
 use crate::tests::{Kind, added, assert_channel, built, handler, ping_tail, read_command, text};
 use crate::world_tests::world_of;
-use crate::worlds::World;
 use pl_build::{Groups, PipelineBuilder, Placed};
 use pl_event::{ByteString, Command, Event, Outcome, Sequence};
+use pl_head::MemoryTransport;
 use pl_stages::Handler;
+use pl_world::{ChannelReport, Move, ReplayFault, Report, Stands, World, whole_reports};
 use std::alloc::Global;
 use std::process::Abort;
 use std::test::Fail;
 
 const SUCCESS: Option<Outcome> = Some(Outcome::Success);
+
+/// These handlers, each in a group or in none, with names made of their places.
+fn builder_of(
+    alloc: Global,
+    kinds: &[(Kind, Option<&str>)],
+) -> Result<PipelineBuilder<Handler>, Fail> {
+    let mut builder = PipelineBuilder::new(alloc);
+    for (place, (kind, group)) in kinds.iter().enumerate() {
+        let name = format!(in alloc; "h{place}")?;
+        let stage = handler(alloc, *kind)?;
+        added(builder.add_last(name.as_str(), *group, stage))?;
+    }
+    Ok(builder)
+}
 
 /// A pipeline of these handlers, each in a group or in none.
 pub(crate) fn pipeline(
@@ -25,12 +36,19 @@ pub(crate) fn pipeline(
     groups: &mut Groups,
     kinds: &[(Kind, Option<&str>)],
 ) -> Result<Placed<Handler>, Fail> {
-    let mut builder = PipelineBuilder::new(alloc);
-    for (place, (kind, group)) in kinds.iter().enumerate() {
-        let name = format!(in alloc; "h{place}")?;
-        let stage = handler(alloc, *kind)?;
-        added(builder.add_last(name.as_str(), *group, stage))?;
-    }
+    Ok(built(builder_of(alloc, kinds)?, groups)?)
+}
+
+/// The same with marks, in bytes.
+pub(crate) fn marked_pipeline(
+    alloc: Global,
+    groups: &mut Groups,
+    kinds: &[(Kind, Option<&str>)],
+    low: u32,
+    high: u32,
+) -> Result<Placed<Handler>, Fail> {
+    let mut builder = builder_of(alloc, kinds)?;
+    builder.marks(low, high)?;
     Ok(built(builder, groups)?)
 }
 
@@ -69,7 +87,7 @@ fn world(
     sizes: &[(&str, u16)],
     kinds: &[(Kind, Option<&str>)],
     inputs: &[&[&[&[u8]]]],
-) -> Result<World<Handler>, Fail> {
+) -> Result<World<Handler, MemoryTransport>, Fail> {
     let mut groups = Groups::new(alloc, 1, sizes)?;
     let mut pipelines = Sequence::new(alloc);
     let mut all = Sequence::new(alloc);
@@ -81,7 +99,7 @@ fn world(
 }
 
 /// Ping, with the decoder on an executor of its own.
-fn decoder_apart(alloc: Global) -> Result<World<Handler>, Fail> {
+fn decoder_apart(alloc: Global) -> Result<World<Handler, MemoryTransport>, Fail> {
     let kinds = line_protocol(Some("a"), None);
     world(alloc, &[("a", 1)], &kinds, &[&[&[b"PING\r\n"]]])
 }
@@ -98,7 +116,7 @@ fn handed_over(alloc: Global) -> Result<Vec<Move>, Fail> {
     Ok(moves)
 }
 
-fn assert_one(
+pub(crate) fn assert_one(
     rt: &impl Abort,
     report: &Report,
     stands: Stands,
@@ -168,7 +186,11 @@ fn no_such_executor(rt: HostRuntime) -> Result<(), Fail> {
 }
 
 /// Makes every move in turn until nothing is enabled, and answers whether all channels are drained then.
-fn drain(net: &mut Net<Handler>, channels: u16, executors: u16) -> Result<bool, Fail> {
+pub(crate) fn drain(
+    net: &mut Net<Handler, MemoryTransport>,
+    channels: u16,
+    executors: u16,
+) -> Result<bool, Fail> {
     for _ in 0..10_000 {
         let mut has_moved = false;
         for channel in 0..channels {
@@ -189,7 +211,7 @@ fn drain(net: &mut Net<Handler>, channels: u16, executors: u16) -> Result<bool, 
 const TOTALS: &[u8] = b"ADD a 7\nADD b 1\nADD a 5\nGET a\n";
 
 /// The decoder and the service each on an executor of their own.
-fn totals_across_groups(alloc: Global) -> Result<World<Handler>, Fail> {
+fn totals_across_groups(alloc: Global) -> Result<World<Handler, MemoryTransport>, Fail> {
     let kinds = line_protocol(Some("a"), Some("b"));
     world(alloc, &[("a", 1), ("b", 1)], &kinds, &[&[&[TOTALS]]])
 }
@@ -221,7 +243,7 @@ const THREE_INPUTS: &[&[&[&[u8]]]] = &[
 ];
 
 /// Three channels, whose decoder and service share a group of two executors.
-fn shared_group(alloc: Global) -> Result<World<Handler>, Fail> {
+fn shared_group(alloc: Global) -> Result<World<Handler, MemoryTransport>, Fail> {
     let kinds = line_protocol(Some("g"), Some("g"));
     world(alloc, &[("g", 2)], &kinds, THREE_INPUTS)
 }
@@ -277,7 +299,7 @@ fn is_prefix<T: PartialEq>(part: &[T], whole: &[T]) -> bool {
 }
 
 /// The next of a series of numbers (the generator of Lehmer, with Park's and Miller's multiplier).
-fn next_number(number: u64) -> u64
+pub(crate) fn next_number(number: u64) -> u64
     requires { number < 2147483647 }
     ensures { result < 2147483647 }
 {
@@ -285,7 +307,7 @@ fn next_number(number: u64) -> u64
 }
 
 /// A move by a number, of this many channels and executors.
-fn move_by(number: u64, channels: u16, executors: u16) -> Move
+pub(crate) fn move_by(number: u64, channels: u16, executors: u16) -> Move
     requires { (0 < channels) × (0 < executors) }
 {
     let channel = (number / 4 % channels as u64) as u16;
@@ -299,17 +321,17 @@ fn move_by(number: u64, channels: u16, executors: u16) -> Move
 }
 
 /// Each report of a random schedule begins the plain one, and where all channels are drained it is the plain one.
-fn keeps_to_plain(
+pub(crate) fn keeps_to_plain(
     rt: &impl Abort,
     alloc: Global,
     seed: u64,
-    world: World<Handler>,
+    world: World<Handler, MemoryTransport>,
     whole: &[ChannelReport],
 ) -> Result<(), Fail>
     requires { seed < 2147483647 }
 {
-    let channels = world.channels.len() as u16;
-    let executors = world.executors;
+    let channels = world.channels().len() as u16;
+    let executors = world.executors();
     assert!(rt; 0 < channels);
     assert!(rt; 0 < executors);
     let mut net = Net::new(alloc, world, 1)?;
@@ -339,9 +361,11 @@ fn keeps_to_plain(
 }
 
 /// The whole report of each channel of a world.
-fn whole(alloc: Global, world: World<Handler>) -> Result<Vec<ChannelReport>, Fail> {
-    let World { channels, .. } = world;
-    Ok(whole_reports(alloc, channels.into_vec())?)
+pub(crate) fn whole(
+    alloc: Global,
+    world: World<Handler, MemoryTransport>,
+) -> Result<Vec<ChannelReport>, Fail> {
+    Ok(whole_reports(alloc, world.into_channels().into_vec())?)
 }
 
 #[test]

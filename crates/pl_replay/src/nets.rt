@@ -1,67 +1,63 @@
 //! The channels and executors of a replay, and the moves that they make.
 
-ghost use Rattle.std.specs.Prelude.{◌≡◌, ◌<◌, ◌≤◌, ◌^◌, ◌==◌, ◌&&◌, ◌∷◌, ◌++◌, [], ℕ, List, Option, length, filter, map, slice_get, get_or, vec_len, Some, None, Ok, Err, false, true, IfOk, IfErr, OnOk};
+ghost use Rattle.std.specs.Prelude.{◌≡◌, ◌<◌, ◌≤◌, ◌^◌, ◌==◌, ◌&&◌, ◌∷◌, ◌++◌, [], ℕ, List, Option, length, filter, map, slice_get, get_or, vec_len, Some, None, Ok, Err, false, true, MatchOption, IfOk, IfErr, OnOk};
 ghost use Rattle.std.specs.List.{list_all};
-ghost use Rattle.pl_replay.specs.declared.faults.ReplayFault.TheVariants as fault;
-ghost use Rattle.pl_replay.specs.declared.moves.Move.TheVariants as move;
-ghost use Rattle.pl_replay.specs.Plans.{Plan, ChannelPlan, planned};
+ghost use Rattle.pl_world.specs.declared.faults.ReplayFault.TheVariants as fault;
+ghost use Rattle.pl_world.specs.declared.moves.Move.TheVariants as move;
+ghost use Rattle.pl_world.specs.Plans.{Plan, ChannelPlan, planned, tail_hop};
 ghost use Rattle.pl_replay.specs.MoveModel.{is_there};
-ghost use Rattle.pl_replay.specs.MadeItems.{Place};
-ghost use Rattle.pl_replay.specs.States.{State, with_taken};
-ghost use Rattle.pl_replay.specs.CoreMoves.{made_from, is_enabled, LeadsTo, handed};
-ghost use Rattle.pl_replay.specs.Envelopes.{envelope_at};
-ghost use Rattle.pl_replay.specs.Reports.{AllKeepToPlan};
+ghost use Rattle.pl_channel.specs.MadeItems.{Place, flags_lane};
+ghost use Rattle.pl_replay.specs.States.{State, taken_at};
+ghost use Rattle.pl_replay.specs.CoreMoves.{made_from, with_taken, home_of, is_enabled, LeadsTo, handed};
+ghost use Rattle.pl_channel.specs.Envelopes.{envelope_at, first_flags};
+ghost use Rattle.pl_world.specs.Reports.{AllKeepToPlan};
 
 use crate::executors::Executor;
-use crate::faults::ReplayFault;
 use crate::handing::oldest_target;
-use crate::moves::Move;
-use crate::placed_channels::PlacedChannel;
 use crate::placing::{all_lanes, idle_executors, placed};
-use crate::report::{ChannelReport, Report};
-use crate::worlds::World;
+use pl_channel::PlacedChannel;
 use pl_context::Outputs;
 use pl_event::{Envelope, Lane, Sequence, Stage};
+use pl_head::{OutStep, ReadStep, Transport};
+use pl_world::{ChannelReport, Move, ReplayFault, Report, World};
 use std::alloc::{AllocError, Global};
 use std::marker::Model;
 
 /// A replay between two moves.
 #[derive(Drop)]
-pub struct Net<S: Stage> {
+pub struct Net<S: Stage, T: Transport> {
     alloc: Global,
-    core: Core<S>,
+    core: Core<S, T>,
     /// Something failed for want of memory, so the net can't go on.
     is_spent: bool,
 }
 
-impl<S: Stage> Model for Net<S> {
+impl<S: Stage, T: Transport> Model for Net<S, T> {
     ghost use Rattle.std.specs.Prelude.{◌≡◌, false};
-    ghost use Rattle.pl_replay.specs.Plans.{Plan};
+    ghost use Rattle.pl_world.specs.Plans.{Plan};
     ghost use Rattle.pl_replay.specs.States.{State};
     ghost use Rattle.pl_replay.specs.NetStand.{NetView, CoreStands};
 
-    ghost Value = { NetView S };
+    ghost Value = { NetView S T };
 
     ghost view = { λ n. record { core = n.core; is_spent = n.is_spent } };
 
-    ghost invariant = { λ n. n.is_spent ≡ false → (plan : Plan) × (s : State) × CoreStands S.meaning S.stands_after plan s n.core };
+    ghost invariant = { λ n. n.is_spent ≡ false → (plan : Plan) × (s : State) × CoreStands S.meaning S.stands_after T.state plan s n.core };
 }
 
-impl<S: Stage> Net<S> {
-    ghost use Rattle.pl_replay.specs.NetStand.{NetStands, NetStarts, is_drained, reports_at};
+impl<S: Stage, T: Transport> Net<S, T> {
+    ghost use Rattle.pl_channel.specs.ChannelStand.{is_drained};
+    ghost use Rattle.pl_replay.specs.NetStand.{NetStands, NetStarts, reports_at};
 
     /// A world before any move, whose queues hold so many items. An `Err` is `Memory`.
-    pub fn new(alloc: Global, world: World<S>, capacity: u32) -> Result<Self, ReplayFault>
+    pub fn new(alloc: Global, world: World<S, T>, capacity: u32) -> Result<Self, ReplayFault>
         requires capacity { (1 ≤ capacity) × (capacity ≤ 65536) }
-        ensures starts { IfOk result (λ net. NetStarts S.meaning S.stands_after (planned S.meaning capacity world.executors world.channels) net) }
+        ensures starts { IfOk result (λ net. NetStarts S.meaning S.stands_after T.state (planned S.meaning T.state capacity world.executors world.channels) net) }
         ensures memory { IfErr result (λ e. e ≡ fault.Memory) }
     {
-        let World {
-            executors,
-            channels,
-        } = world;
-        let channels = placed(alloc, channels.into_vec())?;
-        let executors = idle_executors(alloc, executors as usize, channels.as_slice())?;
+        let count = world.executors() as usize;
+        let channels = placed(alloc, world.into_channels().into_vec())?;
+        let executors = idle_executors(alloc, count, channels.as_slice())?;
         let lanes = all_lanes(channels.as_slice());
         Ok(Net {
             alloc,
@@ -80,14 +76,14 @@ impl<S: Stage> Net<S> {
     /// `Memory` the net is spent: `apply` and `report` answer `Memory` from then on, and `drained` answers false.
     pub fn apply(&mut self, step: Move) -> Result<bool, ReplayFault>
         // The numbers are then those to which the move leads: where it is not enabled they are as before.
-        ensures made { IfOk result (λ made. (plan : Plan) (s : State) → NetStands S.meaning S.stands_after plan s self.old →
-            (made ≡ is_enabled plan s step) × ((end : State) × LeadsTo plan s step end × NetStands S.meaning S.stands_after plan end self.new)) }
-        ensures unmoved { result ≡ Ok false → (plan : Plan) (s : State) → NetStands S.meaning S.stands_after plan s self.old →
-            NetStands S.meaning S.stands_after plan s self.new }
+        ensures made { IfOk result (λ made. (plan : Plan) (s : State) → NetStands S.meaning S.stands_after T.state plan s self.old →
+            (made ≡ is_enabled plan s step) × ((end : State) × LeadsTo plan s step end × NetStands S.meaning S.stands_after T.state plan end self.new)) }
+        ensures unmoved { result ≡ Ok false → (plan : Plan) (s : State) → NetStands S.meaning S.stands_after T.state plan s self.old →
+            NetStands S.meaning S.stands_after T.state plan s self.new }
         ensures goes_on { OnOk result (self.new.is_spent ≡ false) }
         // `NoSuch` is answered exactly where the move names a channel or an executor that is not there.
-        ensures there { (plan : Plan) (s : State) → NetStands S.meaning S.stands_after plan s self.old → is_there plan step ≡ false → result ≡ Err fault.NoSuch }
-        ensures no_such { result ≡ Err fault.NoSuch → (plan : Plan) (s : State) → NetStands S.meaning S.stands_after plan s self.old → is_there plan step ≡ false }
+        ensures there { (plan : Plan) (s : State) → NetStands S.meaning S.stands_after T.state plan s self.old → is_there plan step ≡ false → result ≡ Err fault.NoSuch }
+        ensures no_such { result ≡ Err fault.NoSuch → (plan : Plan) (s : State) → NetStands S.meaning S.stands_after T.state plan s self.old → is_there plan step ≡ false }
         ensures same { result ≡ Err fault.NoSuch → self.new ≡ self.old }
         ensures memory { result ≡ Err fault.Memory → self.new.is_spent ≡ true }
         ensures spent { self.old.is_spent ≡ true → (result ≡ Err fault.Memory) × (self.new ≡ self.old) }
@@ -106,7 +102,7 @@ impl<S: Stage> Net<S> {
 
     /// Whether every channel is drained. A spent net is not.
     pub fn drained(&self) -> bool
-        ensures drained { (plan : Plan) (s : State) → NetStands S.meaning S.stands_after plan s self.now →
+        ensures drained { (plan : Plan) (s : State) → NetStands S.meaning S.stands_after T.state plan s self.now →
             result ≡ list_all is_drained (reports_at plan.channels s.channels) }
         ensures spent { self.now.is_spent ≡ true → result ≡ false }
     {
@@ -115,10 +111,10 @@ impl<S: Stage> Net<S> {
 
     /// What became of each channel. An `Err` is `Memory`, and leaves the net as it was.
     pub fn report(&self) -> Result<Report, ReplayFault>
-        ensures stands { OnOk result ((plan : Plan) × (s : State) × NetStands S.meaning S.stands_after plan s self.now) }
-        ensures report { IfOk result (λ report. (plan : Plan) (s : State) → NetStands S.meaning S.stands_after plan s self.now →
+        ensures stands { OnOk result ((plan : Plan) × (s : State) × NetStands S.meaning S.stands_after T.state plan s self.now) }
+        ensures report { IfOk result (λ report. (plan : Plan) (s : State) → NetStands S.meaning S.stands_after T.state plan s self.now →
             report.channels ≡ reports_at plan.channels s.channels) }
-        ensures kept { IfOk result (λ report. (plan : Plan) (s : State) → NetStands S.meaning S.stands_after plan s self.now →
+        ensures kept { IfOk result (λ report. (plan : Plan) (s : State) → NetStands S.meaning S.stands_after T.state plan s self.now →
             AllKeepToPlan plan.channels report.channels) }
         ensures memory { IfErr result (λ e. e ≡ fault.Memory) }
         ensures spent { self.now.is_spent ≡ true → result ≡ Err fault.Memory }
@@ -129,26 +125,38 @@ impl<S: Stage> Net<S> {
         let channels = self.core.reports(self.alloc)?;
         Ok(Report { channels })
     }
+
+    /// The flags that a channel's tail has taken: false where the channel became not writable, true where it became
+    /// writable again. None where there is no such channel.
+    pub fn flags(&self, channel: u16) -> Option<&[bool]>
+        ensures flags { (plan : Plan) (s : State) → NetStands S.meaning S.stands_after T.state plan s self.now →
+            MatchOption result (slice_get plan.channels channel ≡ None)
+            (λ flags. (p : ChannelPlan) × (slice_get plan.channels channel ≡ Some p) × (flags.now ≡ first_flags (taken_at s (flags_lane channel (tail_hop p))))) }
+    {
+        let channel = self.core.channels.get(channel as usize)?;
+        Some(channel.nodes.tail.flags())
+    }
 }
 
 /// The channels and executors of a net.
 #[derive(Drop)]
-struct Core<S: Stage> {
+struct Core<S: Stage, T: Transport> {
     /// How many items a queue holds.
     capacity: usize,
-    channels: Vec<PlacedChannel<S>>,
+    channels: Vec<PlacedChannel<S, T>>,
     executors: Vec<Executor>,
     /// What the running executor has still to take or to add to its backlog. Empty between two moves.
     work: Outputs,
 }
 
-impl<S: Stage> Core<S> {
-    ghost use Rattle.pl_replay.specs.NetStand.{IsRunning, CoreStands, FindsNext, WorksOff, Moves, is_drained, reports_at};
+impl<S: Stage, T: Transport> Core<S, T> {
+    ghost use Rattle.pl_channel.specs.ChannelStand.{is_drained};
+    ghost use Rattle.pl_replay.specs.NetStand.{IsRunning, CoreStands, HasPut, FindsNext, WorksOff, Moves, reports_at};
     ghost use Rattle.pl_replay.specs.BacklogStand.{IsOldest};
 
     /// Whether the channel or the executor of a move is there.
     fn is_there(&self, step: Move) -> bool
-        ensures { (plan : Plan) (s : State) → CoreStands S.meaning S.stands_after plan s self.now → result ≡ is_there plan step }
+        ensures { (plan : Plan) (s : State) → CoreStands S.meaning S.stands_after T.state plan s self.now → result ≡ is_there plan step }
     {
         match step {
             Move::Read(channel) | Move::Out(channel) => (channel as usize) < self.channels.len(),
@@ -160,9 +168,9 @@ impl<S: Stage> Core<S> {
 
     /// Makes a move whose channel or executor is there.
     fn make(&mut self, step: Move) -> Result<bool, AllocError>
-        requires { (plan : Plan) × (s : State) × CoreStands S.meaning S.stands_after plan s self.old × (is_there plan step ≡ true) }
-        ensures { IfOk result (λ made. (plan : Plan) (s : State) → CoreStands S.meaning S.stands_after plan s self.old
-            → Moves S.meaning S.stands_after plan s step made self.new) }
+        requires { (plan : Plan) × (s : State) × CoreStands S.meaning S.stands_after T.state plan s self.old × (is_there plan step ≡ true) }
+        ensures { IfOk result (λ made. (plan : Plan) (s : State) → CoreStands S.meaning S.stands_after T.state plan s self.old
+            → Moves S.meaning S.stands_after T.state plan s step made self.new) }
     {
         match step {
             Move::Read(channel) => self.read(channel),
@@ -172,36 +180,62 @@ impl<S: Stage> Core<S> {
         }
     }
 
-    /// A channel's next read step, with its direct calls.
+    /// A channel's next read step, unless it is held, with its direct calls.
     fn read(&mut self, channel: u16) -> Result<bool, AllocError>
         requires there { channel < vec_len self.old.channels }
-        requires stands { (plan : Plan) × (s : State) × CoreStands S.meaning S.stands_after plan s self.old }
-        ensures { IfOk result (λ made. (plan : Plan) (s : State) → CoreStands S.meaning S.stands_after plan s self.old
-            → Moves S.meaning S.stands_after plan s (move.Read channel) made self.new) }
+        requires stands { (plan : Plan) × (s : State) × CoreStands S.meaning S.stands_after T.state plan s self.old }
+        ensures { IfOk result (λ made. (plan : Plan) (s : State) → CoreStands S.meaning S.stands_after T.state plan s self.old
+            → Moves S.meaning S.stands_after T.state plan s (move.Read channel) made self.new) }
     {
         let channel = channel as usize;
-        let home = self.channels[channel].home();
-        let found = self.channels[channel].input.read(&mut self.work)?;
-        self.work_off(home)?;
-        Ok(found)
+        match self.channels[channel].nodes.head.next_read(&mut self.work) {
+            ReadStep::Held | ReadStep::Done => Ok(false),
+            ReadStep::Gave => {
+                self.settle(channel)?;
+                Ok(true)
+            }
+        }
     }
 
-    /// A write to a channel's transport.
+    /// A write to a channel's transport, with the direct calls of the flags that it sends.
     fn write(&mut self, channel: u16) -> Result<bool, AllocError>
         requires there { channel < vec_len self.old.channels }
-        ensures { IfOk result (λ made. (plan : Plan) (s : State) → CoreStands S.meaning S.stands_after plan s self.old
-            → Moves S.meaning S.stands_after plan s (move.Out channel) made self.new) }
+        requires stands { (plan : Plan) × (s : State) × CoreStands S.meaning S.stands_after T.state plan s self.old }
+        ensures { IfOk result (λ made. (plan : Plan) (s : State) → CoreStands S.meaning S.stands_after T.state plan s self.old
+            → Moves S.meaning S.stands_after T.state plan s (move.Out channel) made self.new) }
     {
-        let wrote = self.channels[channel as usize].nodes.head.write_once()?;
-        Ok(wrote)
+        let channel = channel as usize;
+        match self.channels[channel].nodes.head.write_once(&mut self.work) {
+            OutStep::Idle => Ok(false),
+            OutStep::Failed => Ok(true),
+            OutStep::Wrote(_) => {
+                self.settle(channel)?;
+                Ok(true)
+            }
+        }
+    }
+
+    /// What a channel's head has put on the work list is worked off by the executor on which the channel lives. An `Err`
+    /// says that something failed for want of memory.
+    fn settle(&mut self, channel: usize) -> Result<(), AllocError>
+        requires there { channel < vec_len self.old.channels }
+        requires puts { (plan : Plan) × (s : State) × (listed : List Place) × HasPut S.meaning S.stands_after T.state plan channel s listed self.old }
+        ensures { OnOk result ((plan : Plan) (s : State) (listed : List Place) → HasPut S.meaning S.stands_after T.state plan channel s listed self.old
+            → WorksOff S.meaning S.stands_after T.state plan (home_of plan channel) s listed self.new) }
+    {
+        if self.work.has_stopped() {
+            return Err(AllocError);
+        }
+        let home = self.channels[channel].home();
+        self.work_off(home)
     }
 
     /// The front of an executor's queue is taken, with its direct calls.
     fn run_task(&mut self, executor: u16) -> Result<bool, AllocError>
         requires there { executor < vec_len self.old.executors }
-        requires stands { (plan : Plan) × (s : State) × CoreStands S.meaning S.stands_after plan s self.old }
-        ensures { IfOk result (λ made. (plan : Plan) (s : State) → CoreStands S.meaning S.stands_after plan s self.old
-            → Moves S.meaning S.stands_after plan s (move.Task executor) made self.new) }
+        requires stands { (plan : Plan) × (s : State) × CoreStands S.meaning S.stands_after T.state plan s self.old }
+        ensures { IfOk result (λ made. (plan : Plan) (s : State) → CoreStands S.meaning S.stands_after T.state plan s self.old
+            → Moves S.meaning S.stands_after T.state plan s (move.Task executor) made self.new) }
     {
         let executor = executor as usize;
         match self.executors[executor].next_task() {
@@ -217,9 +251,9 @@ impl<S: Stage> Core<S> {
     /// The oldest item of an executor's backlog whose target has room goes into its queue.
     fn hand(&mut self, executor: u16) -> Result<bool, AllocError>
         requires there { executor < vec_len self.old.executors }
-        requires stands { (plan : Plan) × (s : State) × CoreStands S.meaning S.stands_after plan s self.old }
-        ensures { IfOk result (λ made. (plan : Plan) (s : State) → CoreStands S.meaning S.stands_after plan s self.old
-            → Moves S.meaning S.stands_after plan s (move.Hand executor) made self.new) }
+        requires stands { (plan : Plan) × (s : State) × CoreStands S.meaning S.stands_after T.state plan s self.old }
+        ensures { IfOk result (λ made. (plan : Plan) (s : State) → CoreStands S.meaning S.stands_after T.state plan s self.old
+            → Moves S.meaning S.stands_after T.state plan s (move.Hand executor) made self.new) }
     {
         let executor = executor as usize;
         match oldest_target(self.executors.as_mut_slice(), executor, self.capacity) {
@@ -233,9 +267,9 @@ impl<S: Stage> Core<S> {
 
     /// The oldest item of an executor's backlog for a target goes into the queue of that.
     fn hand_to(&mut self, executor: usize, target: usize) -> Result<(), AllocError>
-        requires { (plan : Plan) × (s : State) × CoreStands S.meaning S.stands_after plan s self.old × IsOldest plan s executor (Some target) }
-        ensures { OnOk result ((plan : Plan) (s : State) → CoreStands S.meaning S.stands_after plan s self.old → (oldest : IsOldest plan s executor (Some target))
-            → CoreStands S.meaning S.stands_after plan (handed plan s executor oldest.0) self.new) }
+        requires { (plan : Plan) × (s : State) × CoreStands S.meaning S.stands_after T.state plan s self.old × IsOldest plan s executor (Some target) }
+        ensures { OnOk result ((plan : Plan) (s : State) → CoreStands S.meaning S.stands_after T.state plan s self.old → (oldest : IsOldest plan s executor (Some target))
+            → CoreStands S.meaning S.stands_after T.state plan (handed plan s executor oldest.0) self.new) }
     {
         self.executors[target].reserve()?;
         if let Some(envelope) = self.executors[executor].take_for(target) {
@@ -247,9 +281,9 @@ impl<S: Stage> Core<S> {
     /// The running executor takes the items of the work list one after another, until none is left.
     fn work_off(&mut self, executor: usize) -> Result<(), AllocError>
         requires there { executor < vec_len self.old.executors }
-        requires running { (plan : Plan) × (s : State) × (listed : List Place) × IsRunning S.meaning S.stands_after plan executor s [] listed self.old }
-        ensures { OnOk result ((plan : Plan) (s : State) (listed : List Place) → IsRunning S.meaning S.stands_after plan executor s [] listed self.old
-            → WorksOff S.meaning S.stands_after plan executor s listed self.new) }
+        requires running { (plan : Plan) × (s : State) × (listed : List Place) × IsRunning S.meaning S.stands_after T.state plan executor s [] listed self.old }
+        ensures { OnOk result ((plan : Plan) (s : State) (listed : List Place) → IsRunning S.meaning S.stands_after T.state plan executor s [] listed self.old
+            → WorksOff S.meaning S.stands_after T.state plan executor s listed self.new) }
     {
         // Each call takes an item, and there are fewer items than this.
         for _ in 0..u64::MAX {
@@ -265,9 +299,9 @@ impl<S: Stage> Core<S> {
     /// The next item of the work list that is for the running executor. Those for others go to its backlog.
     fn next_own(&mut self, executor: usize) -> Result<Option<Envelope>, AllocError>
         requires there { executor < vec_len self.old.executors }
-        requires running { (plan : Plan) × (s : State) × (listed : List Place) × IsRunning S.meaning S.stands_after plan executor s [] listed self.old }
-        ensures { IfOk result (λ answer. (plan : Plan) (s : State) (listed : List Place) → IsRunning S.meaning S.stands_after plan executor s [] listed self.old
-            → FindsNext S.meaning S.stands_after plan executor s listed answer self.new) }
+        requires running { (plan : Plan) × (s : State) × (listed : List Place) × IsRunning S.meaning S.stands_after T.state plan executor s [] listed self.old }
+        ensures { IfOk result (λ answer. (plan : Plan) (s : State) (listed : List Place) → IsRunning S.meaning S.stands_after T.state plan executor s [] listed self.old
+            → FindsNext S.meaning S.stands_after T.state plan executor s listed answer self.new) }
     {
         while let Some(envelope) = self.work.next() {
             let target = self.target(envelope.lane);
@@ -282,8 +316,8 @@ impl<S: Stage> Core<S> {
     /// The executor of what a lane enters.
     fn target(&self, lane: Lane) -> usize
         requires channel { lane.channel < vec_len self.now.channels }
-        requires hop { (channel : PlacedChannel S) → slice_get self.now.channels.items lane.channel ≡ Some channel → lane.hop < vec_len channel.executors }
-        ensures { (channel : PlacedChannel S) → slice_get self.now.channels.items lane.channel ≡ Some channel → result ≡ get_or channel.executors.items lane.hop 0 }
+        requires hop { (channel : PlacedChannel S T) → slice_get self.now.channels.items lane.channel ≡ Some channel → lane.hop < vec_len channel.executors }
+        ensures { (channel : PlacedChannel S T) → slice_get self.now.channels.items lane.channel ≡ Some channel → result ≡ get_or channel.executors.items lane.hop 0 }
     {
         self.channels[lane.channel as usize].target(lane.hop as usize)
     }
@@ -291,10 +325,10 @@ impl<S: Stage> Core<S> {
     /// What an item's lane enters takes it. What it makes is put on the work list, which has room for its last items.
     fn call(&mut self, envelope: Envelope) -> Result<(), AllocError>
         requires { (plan : Plan) × (x : ℕ) × (s : State) × (item : Place) × (listed : List Place)
-            × (envelope ≡ envelope_at plan item) × IsRunning S.meaning S.stands_after plan x s (item ∷ []) listed self.old }
+            × (envelope ≡ envelope_at plan item) × IsRunning S.meaning S.stands_after T.state plan x s (item ∷ []) listed self.old }
         ensures { OnOk result ((plan : Plan) (x : ℕ) (s : State) (item : Place) (listed : List Place)
-            → envelope ≡ envelope_at plan item → IsRunning S.meaning S.stands_after plan x s (item ∷ []) listed self.old
-            → IsRunning S.meaning S.stands_after plan x (with_taken s item) [] (listed ++ made_from plan item) self.new) }
+            → envelope ≡ envelope_at plan item → IsRunning S.meaning S.stands_after T.state plan x s (item ∷ []) listed self.old
+            → IsRunning S.meaning S.stands_after T.state plan x (with_taken plan s item) [] (listed ++ made_from plan s item) self.new) }
     {
         self.work.reserve(2)?;
         let channel = envelope.lane.channel as usize;
@@ -304,7 +338,7 @@ impl<S: Stage> Core<S> {
 
     /// Whether every channel is drained.
     fn is_drained(&self) -> bool
-        ensures { (plan : Plan) (s : State) → CoreStands S.meaning S.stands_after plan s self.now → result ≡ list_all is_drained (reports_at plan.channels s.channels) }
+        ensures { (plan : Plan) (s : State) → CoreStands S.meaning S.stands_after T.state plan s self.now → result ≡ list_all is_drained (reports_at plan.channels s.channels) }
     {
         for channel in &self.channels {
             if !channel.is_drained() {
@@ -316,7 +350,7 @@ impl<S: Stage> Core<S> {
 
     /// What became of each channel.
     fn reports(&self, alloc: Global) -> Result<Sequence<ChannelReport>, AllocError>
-        ensures { IfOk result (λ reports. (plan : Plan) (s : State) → CoreStands S.meaning S.stands_after plan s self.now
+        ensures { IfOk result (λ reports. (plan : Plan) (s : State) → CoreStands S.meaning S.stands_after T.state plan s self.now
             → reports ≡ reports_at plan.channels s.channels) }
     {
         let mut reports = Vec::with_capacity(alloc, self.channels.len())?;

@@ -1,27 +1,33 @@
 //! Channels and executors before any move.
 
-ghost use Rattle.std.specs.Prelude.{◌≡◌, ℕ, ◌+◌, ◌<◌, ◌≤◌, map, get_or, vec_len, All, IfOk};
-ghost use Rattle.pl_replay.specs.Plans.{Plan, channel_planned};
-ghost use Rattle.pl_replay.specs.PlanRules.{lane_count};
+ghost use Rattle.std.specs.Prelude.{◌≡◌, ℕ, ◌+◌, ◌<◌, ◌≤◌, ◌^◌, map, get_or, length, vec_len, All, IfOk};
+ghost use Rattle.pl_event.specs.Inputs.{recorded_input};
+ghost use Rattle.pl_world.specs.Worlds.{IsUncalled};
+ghost use Rattle.pl_world.specs.Plans.{Plan, channel_planned};
+ghost use Rattle.pl_world.specs.PlanRules.{lane_count};
 ghost use Rattle.pl_replay.specs.States.{start, nothing_waits};
 ghost use Rattle.pl_replay.specs.BacklogStand.{ExecutorStands, ExecutorsStand};
-ghost use Rattle.pl_replay.specs.NetStand.{channel_plan, lanes_between};
-ghost use Rattle.pl_replay.specs.PlacedStand.{lanes_of, IsPlaced, ArePlaced, AreAtRest};
+ghost use Rattle.pl_channel.specs.ChannelStand.{channel_plan, IsPlaced};
+ghost use Rattle.pl_replay.specs.NetStand.{lanes_between};
+ghost use Rattle.pl_replay.specs.PlacedStand.{lanes_of, ArePlaced, AreAtRest};
 
 use crate::executors::Executor;
-use crate::placed_channels::PlacedChannel;
-use crate::session::Recorded;
+use pl_channel::PlacedChannel;
 use pl_event::Stage;
+use pl_head::Transport;
+use pl_world::Recorded;
 use std::alloc::{AllocError, Global};
 
 /// Recorded channels before any move, each with its number.
-pub(crate) fn placed<S: Stage>(
+pub(crate) fn placed<S: Stage, T: Transport>(
     alloc: Global,
-    recorded: Vec<Recorded<S>>,
-) -> Result<Vec<PlacedChannel<S>>, AllocError>
-    requires { vec_len recorded ≤ 16 }
-    ensures rest { IfOk result (λ channels. AreAtRest S.meaning S.stands_after (map (channel_planned S.meaning) recorded.items) channels.items) }
-    ensures placed { IfOk result (λ channels. ArePlaced S.meaning channels.items) }
+    recorded: Vec<Recorded<S, T>>,
+) -> Result<Vec<PlacedChannel<S, T>>, AllocError>
+    requires count { vec_len recorded ≤ 16 }
+    requires few { All (λ r. length (recorded_input r.bursts) + 1 < 2 ^ 31) recorded.items }
+    requires uncalled { All (λ r. IsUncalled (T.state r.transport)) recorded.items }
+    ensures rest { IfOk result (λ channels. AreAtRest S.meaning T.state S.stands_after (map (channel_planned S.meaning T.state) recorded.items) channels.items) }
+    ensures placed { IfOk result (λ channels. ArePlaced S.meaning T.state channels.items) }
 {
     let mut channels = Vec::with_capacity(alloc, recorded.len())?;
     for record in recorded {
@@ -33,13 +39,13 @@ pub(crate) fn placed<S: Stage>(
 }
 
 /// Executors at which nothing waits, each with places for the lanes from it to another.
-pub(crate) fn idle_executors<S: Stage>(
+pub(crate) fn idle_executors<S: Stage, T: Transport>(
     alloc: Global,
     count: usize,
-    channels: &[PlacedChannel<S>],
+    channels: &[PlacedChannel<S, T>],
 ) -> Result<Vec<Executor>, AllocError>
-    requires { ArePlaced S.meaning channels.now }
-    ensures stand { IfOk result (λ executors. (plan : Plan) → plan.executors ≡ count → plan.channels ≡ map (channel_plan S.meaning) channels.now
+    requires { ArePlaced S.meaning T.state channels.now }
+    ensures stand { IfOk result (λ executors. (plan : Plan) → plan.executors ≡ count → plan.channels ≡ map (channel_plan S.meaning T.state) channels.now
         → ExecutorsStand plan (lanes_between plan) (start plan) executors.items) }
     ensures ages { IfOk result (λ executors. All (λ e. e.next_age ≡ 0) executors.items) }
 {
@@ -52,14 +58,14 @@ pub(crate) fn idle_executors<S: Stage>(
 }
 
 /// An executor at which nothing waits, with places for the lanes from it to each.
-fn idle_executor<S: Stage>(
+fn idle_executor<S: Stage, T: Transport>(
     alloc: Global,
     count: usize,
-    channels: &[PlacedChannel<S>],
+    channels: &[PlacedChannel<S, T>],
     origin: usize,
 ) -> Result<Executor, AllocError>
-    requires { ArePlaced S.meaning channels.now }
-    ensures stands { IfOk result (λ e. (plan : Plan) → plan.executors ≡ count → plan.channels ≡ map (channel_plan S.meaning) channels.now
+    requires { ArePlaced S.meaning T.state channels.now }
+    ensures stands { IfOk result (λ e. (plan : Plan) → plan.executors ≡ count → plan.channels ≡ map (channel_plan S.meaning T.state) channels.now
         → ExecutorStands plan (lanes_between plan origin) nothing_waits e) }
     ensures age { IfOk result (λ e. e.next_age ≡ 0) }
 {
@@ -71,9 +77,13 @@ fn idle_executor<S: Stage>(
 }
 
 /// How many lanes there are from one executor to another.
-fn lanes_between<S: Stage>(channels: &[PlacedChannel<S>], origin: usize, target: usize) -> u16
-    requires { ArePlaced S.meaning channels.now }
-    ensures { (plan : Plan) → plan.channels ≡ map (channel_plan S.meaning) channels.now → result ≡ lanes_between plan origin target }
+fn lanes_between<S: Stage, T: Transport>(
+    channels: &[PlacedChannel<S, T>],
+    origin: usize,
+    target: usize,
+) -> u16
+    requires { ArePlaced S.meaning T.state channels.now }
+    ensures { (plan : Plan) → plan.channels ≡ map (channel_plan S.meaning T.state) channels.now → result ≡ lanes_between plan origin target }
 {
     let mut lanes = 0;
     for channel in channels {
@@ -83,9 +93,13 @@ fn lanes_between<S: Stage>(channels: &[PlacedChannel<S>], origin: usize, target:
 }
 
 /// How many lanes of a channel there are from one executor to another.
-fn lanes_of<S: Stage>(channel: &PlacedChannel<S>, origin: usize, target: usize) -> u16
-    requires { IsPlaced S.meaning channel.now }
-    ensures lanes { result ≡ lanes_of origin target (channel_plan S.meaning channel.now) }
+fn lanes_of<S: Stage, T: Transport>(
+    channel: &PlacedChannel<S, T>,
+    origin: usize,
+    target: usize,
+) -> u16
+    requires { IsPlaced S.meaning T.state channel.now }
+    ensures lanes { result ≡ lanes_of origin target (channel_plan S.meaning T.state channel.now) }
     ensures few { result ≤ 34 }
 {
     let mut lanes = 0;
@@ -98,9 +112,9 @@ fn lanes_of<S: Stage>(channel: &PlacedChannel<S>, origin: usize, target: usize) 
 }
 
 /// How many lanes all channels have.
-pub(crate) fn all_lanes<S: Stage>(channels: &[PlacedChannel<S>]) -> u16
-    requires { ArePlaced S.meaning channels.now }
-    ensures { (plan : Plan) → plan.channels ≡ map (channel_plan S.meaning) channels.now → result ≡ lane_count plan }
+pub(crate) fn all_lanes<S: Stage, T: Transport>(channels: &[PlacedChannel<S, T>]) -> u16
+    requires { ArePlaced S.meaning T.state channels.now }
+    ensures { (plan : Plan) → plan.channels ≡ map (channel_plan S.meaning T.state) channels.now → result ≡ lane_count plan }
 {
     let mut lanes = 0;
     for channel in channels {

@@ -2,50 +2,62 @@
 
 ghost use Rattle.std.specs.Prelude.{◌≡◌, ◌≤◌, Err, false, IfOk};
 ghost use Rattle.std.specs.List.{list_all};
-ghost use Rattle.pl_replay.specs.declared.faults.ReplayFault.TheVariants as fault;
-ghost use Rattle.pl_replay.specs.Plans.{planned};
-ghost use Rattle.pl_replay.specs.Sessions.{plan_of};
+ghost use Rattle.pl_world.specs.declared.faults.ReplayFault.TheVariants as fault;
+ghost use Rattle.pl_world.specs.Plans.{planned};
+ghost use Rattle.pl_world.specs.Sessions.{plan_of};
 ghost use Rattle.pl_replay.specs.MoveModel.{is_there};
 ghost use Rattle.pl_replay.specs.Replays.{IsReplayed};
 
-use crate::faults::ReplayFault;
-use crate::moves::Move;
 use crate::nets::Net;
-use crate::report::Report;
-use crate::session::Session;
-use crate::worlds::World;
 use pl_event::Stage;
+use pl_head::{MemoryTransport, Transport};
 use pl_stages::Handler;
+use pl_world::{ChannelReport, Move, ReplayFault, Report, Session, Stands, World};
 use std::alloc::Global;
 
 /// Replays a session by a schedule, and reports what became of each channel.
 ///
 /// A move that is not enabled is passed over: `Read` where no read step is left, `Task` where the queue is empty,
 /// `Hand` where no item waits whose target has room, `Out` where no flushed byte waits. A move that names a channel or
-/// an executor that is not there refuses the whole replay, wherever it stands in the schedule.
+/// an executor that is not there refuses the whole replay, wherever it stands in the schedule. A refused growth, that
+/// of a transport's own store too, is `Memory`.
 pub fn replay(alloc: Global, session: Session, moves: &[Move]) -> Result<Report, ReplayFault>
     // The report is that of the numbers which the move model reaches by all the moves; whatever the schedule, it
     // begins what the handlers, composed on whole lists, make of the recorded input, and is all of it where a channel
     // is drained.
-    ensures replayed { IfOk result (λ report. IsReplayed (plan_of ⟦<Handler as Stage>⟧.meaning session) moves.now report) }
+    ensures replayed { IfOk result (λ report. IsReplayed (plan_of ⟦<Handler as Stage>⟧.meaning ⟦<MemoryTransport as Transport>⟧.state session) moves.now report) }
     // `NoSuch` comes only where a move names what is not there. With such a move no answer is `Ok`, as `IsReplayed`
     // says: it is `NoSuch`, unless a growth is refused before.
-    ensures no_such { result ≡ Err fault.NoSuch → list_all (is_there (plan_of ⟦<Handler as Stage>⟧.meaning session)) moves.now ≡ false }
+    ensures no_such { result ≡ Err fault.NoSuch → list_all (is_there (plan_of ⟦<Handler as Stage>⟧.meaning ⟦<MemoryTransport as Transport>⟧.state session)) moves.now ≡ false }
 {
     let Session { world, capacity } = session;
-    run(alloc, world, capacity, moves)
+    let mut may_fail = Vec::with_capacity(alloc, world.channels().len())?;
+    for recorded in world.channels() {
+        may_fail.push(recorded.transport.fail_at().is_some())?;
+    }
+    let report = run(alloc, world, capacity, moves)?;
+    if wants_memory(report.channels.as_slice(), may_fail.as_slice()) {
+        return Err(ReplayFault::Memory);
+    }
+    Ok(report)
+}
+
+/// Whether a channel has failed whose transport was not to: its store found no memory.
+fn wants_memory(channels: &[ChannelReport], may_fail: &[bool]) -> bool {
+    channels.iter().zip(may_fail).any(|(channel, may_fail)| !may_fail
+        && matches!(channel.stands, Stands::Failed(_)))
 }
 
 /// Makes all moves of a world, and reports what became of it.
-pub(crate) fn run<S: Stage>(
+pub(crate) fn run<S: Stage, T: Transport>(
     alloc: Global,
-    world: World<S>,
+    world: World<S, T>,
     capacity: u32,
     moves: &[Move],
 ) -> Result<Report, ReplayFault>
     requires capacity { (1 ≤ capacity) × (capacity ≤ 65536) }
-    ensures replayed { IfOk result (λ report. IsReplayed (planned S.meaning capacity world.executors world.channels) moves.now report) }
-    ensures no_such { result ≡ Err fault.NoSuch → list_all (is_there (planned S.meaning capacity world.executors world.channels)) moves.now ≡ false }
+    ensures replayed { IfOk result (λ report. IsReplayed (planned S.meaning T.state capacity world.executors world.channels) moves.now report) }
+    ensures no_such { result ≡ Err fault.NoSuch → list_all (is_there (planned S.meaning T.state capacity world.executors world.channels)) moves.now ≡ false }
 {
     let mut net = Net::new(alloc, world, capacity)?;
     for step in moves {

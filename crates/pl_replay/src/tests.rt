@@ -5,6 +5,7 @@ use super::*;
 use crate::world_tests::world_of;
 use pl_build::{BuildFault, Groups, PipelineBuilder, Placed, Unadded};
 use pl_event::{ByteString, Command, Event, Message, Outcome, Sequence, Stage};
+use pl_head::MemoryTransport;
 use pl_stages::{
     CommandDecoder, FlushEvery, Handler, LineEnd, LineFramer, LineService, ReplyEncoder,
 };
@@ -88,7 +89,7 @@ fn channel(
     groups: &mut Groups,
     kinds: &[Kind],
     chunk: Option<&[u8]>,
-) -> Result<Recorded<Handler>, Fail> {
+) -> Result<Recorded<Handler, MemoryTransport>, Fail> {
     let pipeline = pipeline(alloc, groups, kinds)?;
     let mut bursts = Sequence::new(alloc);
     if let Some(bytes) = chunk {
@@ -96,19 +97,27 @@ fn channel(
         burst.push(text(alloc, bytes)?)?;
         bursts.push(burst)?;
     }
-    Ok(Recorded { pipeline, bursts })
+    Ok(Recorded {
+        pipeline,
+        bursts,
+        transport: MemoryTransport::new(alloc, 65_536, None),
+    })
 }
 
 /// A session of these channels.
 fn session(
     alloc: Global,
     groups: &Groups,
-    channels: Vec<Recorded<Handler>>,
+    channels: Vec<Recorded<Handler, MemoryTransport>>,
 ) -> Result<Session, Fail> {
     let mut pipelines = Sequence::new(alloc);
     let mut inputs = Sequence::new(alloc);
     for recorded in channels {
-        let Recorded { pipeline, bursts } = recorded;
+        let Recorded {
+            pipeline,
+            bursts,
+            ..
+        } = recorded;
         pipelines.push(pipeline)?;
         inputs.push(bursts)?;
     }

@@ -3,14 +3,14 @@ ghost use Rattle.std.specs.Prelude.{◌≡◌, ◌+◌, ℕ, List, [], ◌∷◌
 ghost use Rattle.pl_event.specs.declared.events.Event.{Event};
 ghost use Rattle.pl_replay.specs.CountingStage.{is_read, reads, with_number, counting, counting-lawful};
 
-use crate::moves::Move;
 use crate::net_tests::bursts;
-use crate::report::Stands;
 use crate::running::run;
 use crate::tests::assert_channel;
-use crate::worlds::World;
+use crate::world_tests::one_transport;
 use pl_build::{Groups, PipelineBuilder, Placed, Unadded};
 use pl_event::{Direction, Event, Message, Reply, Sequence, Stage, StageFault, Turned};
+use pl_head::MemoryTransport;
+use pl_world::{Move, Stands, World};
 use std::alloc::{AllocError, Global};
 use std::process::Abort;
 use std::test::Fail;
@@ -118,13 +118,14 @@ fn pipeline(
 }
 
 /// Two bursts, of two chunks and of one, on one channel.
-fn world(alloc: Global, group: Option<&str>) -> Result<World<Counter>, Fail> {
+fn world(alloc: Global, group: Option<&str>) -> Result<World<Counter, MemoryTransport>, Fail> {
     let mut groups = Groups::new(alloc, 1, &[("a", 1)])?;
     let mut pipelines = Sequence::new(alloc);
     pipelines.push(pipeline(alloc, &mut groups, group)?)?;
     let mut inputs = Sequence::new(alloc);
     inputs.push(bursts(alloc, &[&[b"a", b"b"], &[b"c"]])?)?;
-    Ok(World::new(alloc, pipelines, inputs, groups.executors())?)
+    let transports = one_transport(alloc, MemoryTransport::new(alloc, 65_536, None))?;
+    Ok(World::new(alloc, pipelines, inputs, transports, groups.executors())?)
 }
 
 fn number(n: u64) -> Event {

@@ -1,20 +1,67 @@
 // Which worlds are refused.
+ghost use Rattle.std.specs.Prelude.{◌≤◌, All, IfOk};
+ghost use Rattle.pl_world.specs.Worlds.{IsUncalled};
+
 use crate::net_tests::{bursts, line_protocol, pipeline};
-use crate::worlds::{World, WorldRefusal};
 use pl_build::{Groups, Placed};
 use pl_event::{ByteString, Sequence};
+use pl_head::{MemoryTransport, Transport};
 use pl_stages::Handler;
-use std::alloc::Global;
+use pl_world::{World, WorldRefusal};
+use std::alloc::{AllocError, Global};
 use std::test::Fail;
 
 /// A world of built-in handlers, whose lanes are small.
+pub(crate) fn world_over<T: Transport>(
+    alloc: Global,
+    pipelines: Sequence<Placed<Handler>>,
+    inputs: Sequence<Sequence<Sequence<ByteString>>>,
+    transports: Sequence<T>,
+    executors: u16,
+) -> Result<World<Handler, T>, WorldRefusal>
+    requires uncalled { All (λ transport. IsUncalled (T.state transport)) transports }
+{
+    World::new(alloc, pipelines, inputs, transports, executors)
+}
+
+/// One transport that was not called.
+pub(crate) fn one_transport<T: Transport>(
+    alloc: Global,
+    transport: T,
+) -> Result<Sequence<T>, AllocError>
+    requires { IsUncalled (T.state transport) }
+    ensures { IfOk result (λ transports. All (λ t. IsUncalled (T.state t)) transports) }
+{
+    let mut transports = Sequence::new(alloc);
+    transports.push(transport)?;
+    Ok(transports)
+}
+
+/// The same over memory, with windows of so many bytes.
+pub(crate) fn windowed_world(
+    alloc: Global,
+    pipelines: Sequence<Placed<Handler>>,
+    inputs: Sequence<Sequence<Sequence<ByteString>>>,
+    window: u32,
+    executors: u16,
+) -> Result<World<Handler, MemoryTransport>, WorldRefusal>
+    requires { 1 ≤ window }
+{
+    let mut transports = Sequence::new(alloc);
+    for _ in 0..pipelines.len() {
+        transports.push(MemoryTransport::new(alloc, window, None))?;
+    }
+    world_over(alloc, pipelines, inputs, transports, executors)
+}
+
+/// The same with wide windows.
 pub(crate) fn world_of(
     alloc: Global,
     pipelines: Sequence<Placed<Handler>>,
     inputs: Sequence<Sequence<Sequence<ByteString>>>,
     executors: u16,
-) -> Result<World<Handler>, WorldRefusal> {
-    World::new(alloc, pipelines, inputs, executors)
+) -> Result<World<Handler, MemoryTransport>, WorldRefusal> {
+    windowed_world(alloc, pipelines, inputs, 65_536, executors)
 }
 
 /// The refusal of so many channels with the line protocol, with so many inputs.

@@ -6,8 +6,9 @@ use Rattle.pl_event.specs.Meaning.{Meaning}
 use Rattle.pl_build.specs.declared.handlers.Handler.{Handler}
 use Rattle.pl_build.specs.declared.faults.BuildFault.{BuildFault}
 use Rattle.pl_build.specs.Executors.{Grouping, HasPlaced, sizes_of, groups_of}
-use Rattle.pl_replay.specs.declared.session.Recorded.{Recorded}
-use Rattle.pl_replay.specs.Plans.{ChannelPlan, channel_planned}
+use Rattle.pl_head.specs.Transports.{TransportState}
+use Rattle.pl_world.specs.declared.session.Recorded.{Recorded}
+use Rattle.pl_world.specs.Plans.{ChannelPlan, channel_planned}
 use Rattle.pl_text.specs.declared.session_text.outline.ChannelOutline.{ChannelOutline}
 use Rattle.pl_text.specs.SessionReading.{◌>>=◌}
 use Rattle.pl_text.specs.SessionOutlines.{IsChannelOutlineWithin}
@@ -67,14 +68,14 @@ ends groups plans left whole none so_far =
     ∙ ap (λ (ps : List ChannelPlan). Ok ps) (append-nil plans)
 
 -- the same of recorded channels that are pushed behind one another
-pub pushed : {S : Type 0} (meaning : S → Meaning) (before after : Grouping) (old new : List (Recorded S)) (channel : ChannelOutline) (was left : List ChannelOutline) (made : Recorded S) (whole : Result (List ChannelPlan) BuildFault)
-    → (after.loops ≡ before.loops) × (sizes_of after ≡ sizes_of before) → IsChannelBuilt before after channel (channel_planned meaning made) → was ≡ channel ∷ left → new ≡ old ++ made ∷ []
-    → IsUnderWay before (map (channel_planned meaning) old) was whole → IsUnderWay after (map (channel_planned meaning) new) left whole
-pushed meaning before after old new channel was left made whole same built next push so_far =
-    let plans : map (channel_planned meaning) new ≡ map (channel_planned meaning) old ++ channel_planned meaning made ∷ [] = ap (map (channel_planned meaning)) push ∙ map-append (channel_planned meaning) old (made ∷ []) in
+pub pushed : {S T : Type 0} (meaning : S → Meaning) (state : T → TransportState) (before after : Grouping) (old new : List (Recorded S T)) (channel : ChannelOutline) (was left : List ChannelOutline) (made : Recorded S T) (whole : Result (List ChannelPlan) BuildFault)
+    → (after.loops ≡ before.loops) × (sizes_of after ≡ sizes_of before) → IsChannelBuilt before after channel (channel_planned meaning state made) → was ≡ channel ∷ left → new ≡ old ++ made ∷ []
+    → IsUnderWay before (map (channel_planned meaning state) old) was whole → IsUnderWay after (map (channel_planned meaning state) new) left whole
+pushed meaning state before after old new channel was left made whole same built next push so_far =
+    let plans : map (channel_planned meaning state) new ≡ map (channel_planned meaning state) old ++ channel_planned meaning state made ∷ [] = ap (map (channel_planned meaning state)) push ∙ map-append (channel_planned meaning state) old (made ∷ []) in
     subst (λ (ps : List ChannelPlan). IsUnderWay after ps left whole) (sym plans)
-    (goes_on before after (map (channel_planned meaning) old) channel left (channel_planned meaning made) whole same built
-    (subst (λ (cs : List ChannelOutline). IsUnderWay before (map (channel_planned meaning) old) cs whole) next so_far))
+    (goes_on before after (map (channel_planned meaning state) old) channel left (channel_planned meaning state made) whole same built
+    (subst (λ (cs : List ChannelOutline). IsUnderWay before (map (channel_planned meaning state) old) cs whole) next so_far))
 
 pub all_first : (channel : ChannelOutline) (was left : List ChannelOutline) → was ≡ channel ∷ left → AllByRecursion IsChannelOutlineWithin was → IsChannelOutlineWithin channel × AllByRecursion IsChannelOutlineWithin left
 all_first channel was left next all = subst (AllByRecursion IsChannelOutlineWithin) next all

@@ -8,7 +8,8 @@ use Rattle.pl_build.specs.declared.faults.BuildFault.TheVariants.{Memory}
 use Rattle.pl_build.specs.Pipelines.{Pipeline, Path, meanings}
 use Rattle.pl_build.specs.Refusals.{unless, marks_answer, building_fault}
 use Rattle.pl_build.specs.Executors.{Grouping, HasPlaced, sizes_of, executor_after, hop_executors, groups_of}
-use Rattle.pl_replay.specs.Plans.{ChannelPlan, channel_planned}
+use Rattle.pl_head.specs.Transports.{TransportState}
+use Rattle.pl_world.specs.Plans.{ChannelPlan, channel_planned}
 use Rattle.pl_text.specs.declared.session_text.outline.ChannelOutline.{ChannelOutline}
 use Rattle.pl_text.specs.SessionReading.{◌>>=◌}
 use Rattle.pl_text.specs.SessionBuilding.{meant, all_edited, pipeline_built, channel_built, IsChannelBuilt}
@@ -28,7 +29,7 @@ then_ok r next x y is e = ap (λ t. t >>= next) is ∙ e
 then_err : {A B F : Type 0} (r : Result A F) (next : A → Result B F) (f : F) → r ≡ Err f → (r >>= next) ≡ Err f
 then_err r next f is = ap (λ t. t >>= next) is
 
-module _ {S : Type 0} (meaning : S → Meaning) where
+module _ {S T : Type 0} (meaning : S → Meaning) (state : T → TransportState) where
   pub pipeline_made : (sizes : List (List ℕ × ℕ)) (channel : ChannelOutline) (old new : Pipeline S) (u : Unit {0})
       → all_edited [] channel.edits ≡ Ok (meant meaning old.handlers) → marks_answer channel.low channel.high ≡ Ok u → new ≡ record old { low = channel.low; high = channel.high }
       → building_fault meaning sizes new.handlers ≡ None → pipeline_built sizes channel ≡ Ok (meant meaning new.handlers)
@@ -50,36 +51,39 @@ module _ {S : Type 0} (meaning : S → Meaning) where
       (then_err (unless (building_fault (λ m. m) sizes (meant meaning new.handlers))) _ f
       (ap unless (building_fault-meant meaning sizes new.handlers) ∙ unless_some (building_fault meaning sizes new.handlers) f is other)))
 
-  plan_of_parts : List Meaning → List Meaning → List ℕ → ℕ → ℕ → List (List (List ℕ)) → ChannelPlan
-  plan_of_parts i o e l h r = record { inbound = i; outbound = o; executors = e; low = l; high = h; bursts = r }
+  plan_of_parts : List Meaning → List Meaning → List ℕ → ℕ → ℕ → Option ℕ → List (List (List ℕ)) → ChannelPlan
+  plan_of_parts i o e l h w r = record { inbound = i; outbound = o; executors = e; low = l; high = h; window = w; bursts = r }
 
-  plan_is : (a b : ChannelPlan) → a.inbound ≡ b.inbound → a.outbound ≡ b.outbound → a.executors ≡ b.executors → a.low ≡ b.low → a.high ≡ b.high → a.bursts ≡ b.bursts → a ≡ b
+  plan_is : (a b : ChannelPlan) → a.inbound ≡ b.inbound → a.outbound ≡ b.outbound → a.executors ≡ b.executors → a.low ≡ b.low → a.high ≡ b.high → a.window ≡ b.window → a.bursts ≡ b.bursts → a ≡ b
   unfolding plan_of_parts
-  plan_is a b i o e l h r =
-      ap (λ (x : List Meaning). plan_of_parts x a.outbound a.executors a.low a.high a.bursts) i
-      ∙ ap (λ (x : List Meaning). plan_of_parts b.inbound x a.executors a.low a.high a.bursts) o
-      ∙ ap (λ (x : List ℕ). plan_of_parts b.inbound b.outbound x a.low a.high a.bursts) e
-      ∙ ap (λ (x : ℕ). plan_of_parts b.inbound b.outbound b.executors x a.high a.bursts) l
-      ∙ ap (λ (x : ℕ). plan_of_parts b.inbound b.outbound b.executors b.low x a.bursts) h
-      ∙ ap (λ (x : List (List (List ℕ))). plan_of_parts b.inbound b.outbound b.executors b.low b.high x) r
+  plan_is a b i o e l h w r =
+      ap (λ (x : List Meaning). plan_of_parts x a.outbound a.executors a.low a.high a.window a.bursts) i
+      ∙ ap (λ (x : List Meaning). plan_of_parts b.inbound x a.executors a.low a.high a.window a.bursts) o
+      ∙ ap (λ (x : List ℕ). plan_of_parts b.inbound b.outbound x a.low a.high a.window a.bursts) e
+      ∙ ap (λ (x : ℕ). plan_of_parts b.inbound b.outbound b.executors x a.high a.window a.bursts) l
+      ∙ ap (λ (x : ℕ). plan_of_parts b.inbound b.outbound b.executors b.low x a.window a.bursts) h
+      ∙ ap (λ (x : Option ℕ). plan_of_parts b.inbound b.outbound b.executors b.low b.high x a.bursts) w
+      ∙ ap (λ (x : List (List (List ℕ))). plan_of_parts b.inbound b.outbound b.executors b.low b.high b.window x) r
 
-  pub channel_is_built : (before after : Grouping) (channel : ChannelOutline) (old new : Pipeline S) (path : Path S) (u : Unit {0})
+  pub channel_is_built : (before after : Grouping) (channel : ChannelOutline) (old new : Pipeline S) (path : Path S) (transport : T) (u : Unit {0})
       → all_edited [] channel.edits ≡ Ok (meant meaning old.handlers) → marks_answer channel.low channel.high ≡ Ok u → new ≡ record old { low = channel.low; high = channel.high }
       → building_fault meaning (sizes_of before) new.handlers ≡ None
       → map meaning path.inbound ≡ inbound_chain (meanings meaning new.handlers) → map meaning path.outbound ≡ outbound_chain (meanings meaning new.handlers)
       → ((earlier : List (List (Option (List ℕ)))) → HasPlaced before earlier → path.executors ≡ hop_executors (executor_after before.loops (sizes_of before) earlier) meaning new.handlers)
       → (path.low ≡ new.low) × (path.high ≡ new.high)
       → ((earlier : List (List (Option (List ℕ)))) → HasPlaced before earlier → HasPlaced after (earlier ++ groups_of new.handlers ∷ []))
-      → IsChannelBuilt before after channel (channel_planned meaning (record { pipeline = path; bursts = channel.bursts }))
-  channel_is_built before after channel old new path u edits marks set none inbound outbound executors levels counted = record {
+      → (state transport).window ≡ Some channel.window
+      → IsChannelBuilt before after channel (channel_planned meaning state (record { pipeline = path; bursts = channel.bursts; transport = transport }))
+  channel_is_built before after channel old new path transport u edits marks set none inbound outbound executors levels counted window = record {
     handlers = meant meaning new.handlers;
     built = pipeline_made (sizes_of before) channel old new u edits marks set none;
-    placed = λ earlier placed. plan_is (channel_planned meaning (record { pipeline = path; bursts = channel.bursts })) (channel_built before.loops (sizes_of before) earlier channel (meant meaning new.handlers))
+    placed = λ earlier placed. plan_is (channel_planned meaning state (record { pipeline = path; bursts = channel.bursts; transport = transport })) (channel_built before.loops (sizes_of before) earlier channel (meant meaning new.handlers))
         (inbound ∙ ap inbound_chain (sym (meanings-meant meaning new.handlers)))
         (outbound ∙ ap outbound_chain (sym (meanings-meant meaning new.handlers)))
         (executors earlier placed ∙ sym (hop_executors-meant meaning (executor_after before.loops (sizes_of before) earlier) new.handlers))
         (levels.0 ∙ ap (λ (p : Pipeline S). p.low) set)
         (levels.1 ∙ ap (λ (p : Pipeline S). p.high) set)
+        window
         refl;
     counted = λ earlier placed. subst (λ (gs : List (Option (List ℕ))). HasPlaced after (earlier ++ gs ∷ [])) (sym (groups_of-meant meaning new.handlers)) (counted earlier placed);
   }

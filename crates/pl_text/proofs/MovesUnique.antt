@@ -3,8 +3,8 @@ use Rattle.std.proofs.Common.{◌≡◌, ◌≢◌, ℕ, suc, ◌<◌, List, [],
 use Rattle.std.specs.List.{AllByRecursion}
 use Rattle.std.proofs.lemmas.Fmt.{decimal_injective}
 use Rattle.std.proofs.lemmas.List.{append-nil}
-use Rattle.pl_replay.specs.declared.moves.Move.{Move}
-use Rattle.pl_replay.specs.declared.moves.Move.TheVariants.{Read, Task, Hand, Out}
+use Rattle.pl_world.specs.declared.moves.Move.{Move}
+use Rattle.pl_world.specs.declared.moves.Move.TheVariants.{Read, Task, Hand, Out}
 use Rattle.pl_text.specs.declared.moves_text.words.Word.{Word}
 use Rattle.pl_text.specs.MovesTexts.{AreInRange, Fits, Says, count_text, move_text, moves_of_words, number_of, total, word_text}
 use Rattle.pl_text.proofs.MovesNumbers.{decimal_lacks_x, lacks_seam}

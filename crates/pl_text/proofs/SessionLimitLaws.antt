@@ -1,12 +1,12 @@
 -- What the members say is within the limits: each bind of a reading is taken apart at its Ok.
-use Rattle.std.proofs.Common.{◌≡◌, ◌≤◌, ℕ, ◌&&◌, Bool, true, false, List, [], ◌∷◌, length, Result, Ok, Err, refl, ap, subst, arith, suc}
+use Rattle.std.proofs.Common.{◌≡◌, ◌≤◌, ℕ, ◌&&◌, Bool, true, false, List, [], ◌∷◌, length, Option, Some, None, Result, Ok, Err, refl, ap, subst, arith, suc}
 use Rattle.std.specs.Prelude.{nat_le, if◌then◌else◌, codes}
 use Rattle.std.specs.List.{AllByRecursion}
 use Rattle.std.proofs.lemmas.Bool.{and_parts, and_from, le-leb}
 use Rattle.std.proofs.lemmas.Bool.Decides.{nat_tests}
 use Rattle.serde_json.specs.Data.{Data}
 use Rattle.serde_json.specs.Find.{get}
-use Rattle.pl_replay.specs.Limits.{chunk_count, byte_count, fits}
+use Rattle.pl_world.specs.Limits.{chunk_count, byte_count, fits}
 use Rattle.pl_text.specs.declared.session_text.outline.HandlerKind.{HandlerKind}
 use Rattle.pl_text.specs.declared.session_text.outline.HandlerKind.TheVariants.{Lines, Decode, LineEnd, Encode, Service, FlushEvery}
 use Rattle.pl_text.specs.declared.session_text.outline.Operation.{Operation}
@@ -18,8 +18,8 @@ use Rattle.pl_text.specs.declared.session_text.outline.Edit.{Edit}
 use Rattle.pl_text.specs.declared.session_text.outline.Edit.TheVariants.{First, Last, Before, After, Remove}
 use Rattle.pl_text.specs.declared.session_text.outline.ChannelOutline.{ChannelOutline}
 use Rattle.pl_text.specs.declared.session_text.outline.Outline.{Outline}
-use Rattle.pl_text.specs.SessionReading.{◌>>=◌, known, whole, whole_in, between, text, same_text, an_object, required, optional, absent, each, elements_of, of_length, array_in, array_of}
-use Rattle.pl_text.specs.SessionChannels.{operation_in, lines_in, flush_every_in, handler_named, handler_in, addition_in, edit_of, edit_in, mark_in, limited, bursts_in, channel_in}
+use Rattle.pl_text.specs.SessionReading.{◌>>=◌, known, whole, whole_in, between, text, same_text, an_object, required, optional, absent, present, read_or, each, elements_of, of_length, array_in, array_of}
+use Rattle.pl_text.specs.SessionChannels.{operation_in, lines_in, flush_every_in, handler_named, handler_in, addition_in, edit_of, edit_in, mark_in, window_in, limited, bursts_in, channel_in}
 use Rattle.pl_text.specs.SessionOutlines.{IsHandlerWithin, IsEditWithin, IsChannelOutlineWithin, IsOutlineWithin, version_in, groups_in, outline_in}
 
 -- ---- results
@@ -152,6 +152,16 @@ edit_in-within d edit h =
 
 -- ---- channels
 
+with_default-within : {A : Type 0} (Q : A → Type 0) (read : Data → Result A SessionFault) (default : A) (d : Option Data) (x : A)
+    → Q default → ((e : Data) (y : A) → read e ≡ Ok y → Q y) → read_or read default d ≡ Ok x → Q x
+with_default-within Q read default None x is each h = let same : default ≡ x = cc in subst Q same is
+with_default-within Q read default (Some d) x is each h = each d x h
+
+window_in-within : (d : Data) (window : ℕ) → window_in d ≡ Ok window → (1 ≤ window) × (window ≤ 65536)
+unfolding window_in
+window_in-within d window h =
+    with_default-within (λ (n : ℕ). (1 ≤ n) × (n ≤ 65536)) (whole_in 1 65536) 65536 (present (codes "window") d) window (omega arith, omega arith) (whole_in-within 1 65536) h
+
 bursts_in-within : (d : Data) (bursts : List (List (List ℕ))) → bursts_in d ≡ Ok bursts → fits bursts ≡ true
 unfolding bursts_in
 bursts_in-within d bursts h =
@@ -171,15 +181,21 @@ channel_in-within d channel h =
     let edits = bind-ok (required (codes "handlers") (array_in 0 256 edit_in) object.0) _ channel object.2 in
     let low = bind-ok (mark_in (codes "low") 32768 object.0) _ channel edits.2 in
     let high = bind-ok (mark_in (codes "high") 65536 object.0) _ channel low.2 in
-    let window = bind-ok (absent (codes "window") Limit object.0) _ channel high.2 in
+    let window = bind-ok (window_in object.0) _ channel high.2 in
     let fail_at = bind-ok (absent (codes "fail_at") Limit object.0) _ channel window.2 in
     let bursts = bind-ok (required (codes "bursts") bursts_in object.0) _ channel fail_at.2 in
     let abort_after = bind-ok (absent (codes "abort_after") Limit object.0) _ channel bursts.2 in
     let handlers = required-ok (codes "handlers") (array_in 0 256 edit_in) object.0 edits.0 edits.1 in
     let recorded = required-ok (codes "bursts") bursts_in object.0 bursts.0 bursts.1 in
     let all = array_in-within IsEditWithin 0 256 edit_in edit_in-within handlers.0 edits.0 handlers.1 in
-    let is : record { edits = edits.0; low = low.0; high = high.0; bursts = bursts.0 } ≡ channel = same_ok _ channel _ refl abort_after.2 in
-    subst IsChannelOutlineWithin is (record { edits = all.2; bursts = bursts_in-within recorded.0 bursts.0 recorded.1 })
+    let room = window_in-within object.0 window.0 window.1 in
+    let is : record { edits = edits.0; low = low.0; high = high.0; window = window.0; bursts = bursts.0 } ≡ channel = same_ok _ channel _ refl abort_after.2 in
+    subst IsChannelOutlineWithin is (record {
+      edits = all.2;
+      window_at_least = room.0;
+      window_at_most = room.1;
+      bursts = bursts_in-within recorded.0 bursts.0 recorded.1;
+    })
 
 -- ---- the top object
 

@@ -1,21 +1,22 @@
 -- Channels that were built make a world.
-use Rattle.std.proofs.Common.{◌≡◌, ℕ, ◌<◌, ◌≤◌, ◌==◌, ◌&&◌, Bool, true, false, cond, nat_lt, nat_le, Option, Result, Ok, Err, List, [], ◌∷◌, ◌++◌, length, map, refl, sym, ap, ◌∙◌, subst, arith, suc}
+use Rattle.std.proofs.Common.{◌≡◌, ℕ, ◌<◌, ◌≤◌, ◌==◌, ◌&&◌, Bool, true, false, cond, nat_lt, nat_le, Option, Result, Ok, Err, List, [], ◌∷◌, ◌++◌, length, refl, sym, ap, subst, arith, suc}
 use Rattle.std.specs.Prelude.{All}
 use Rattle.std.specs.List.{list_all}
 use Rattle.std.proofs.lemmas.Bool.{and_from, le-leb, lt-ltb, eq-eqb}
-use Rattle.std.proofs.lemmas.List.{length-map}
-use Rattle.std.proofs.lemmas.List.Elements.{All-head, All-tail}
+use Rattle.std.proofs.lemmas.List.Elements.{All-cons, All-head, All-tail}
 use Rattle.pl_build.specs.Pipelines.{Path}
 use Rattle.pl_build.specs.declared.faults.BuildFault.{BuildFault}
 use Rattle.pl_build.specs.Executors.{groups_of}
-use Rattle.pl_replay.specs.declared.session.Recorded.{Recorded}
-use Rattle.pl_replay.specs.declared.worlds.WorldRefusal.{WorldRefusal}
-use Rattle.pl_replay.specs.declared.worlds.WorldRefusal.TheVariants as refusal
-use Rattle.pl_replay.specs.Plans.{ChannelPlan}
-use Rattle.pl_replay.specs.Limits.{fits, is_placed, is_within}
-use Rattle.pl_replay.specs.Worlds.{recorded}
+use Rattle.pl_head.specs.Transports.{TransportState}
+use Rattle.pl_world.specs.declared.session.Recorded.{Recorded}
+use Rattle.pl_world.specs.declared.worlds.WorldRefusal.{WorldRefusal}
+use Rattle.pl_world.specs.declared.worlds.WorldRefusal.TheVariants as refusal
+use Rattle.pl_world.specs.Plans.{ChannelPlan}
+use Rattle.pl_world.specs.Limits.{fits, is_placed, is_within}
+use Rattle.pl_world.specs.Worlds.{recorded, IsUncalled}
+use Rattle.pl_world.proofs.WorldLimits.{Inputs}
 use Rattle.pl_text.specs.declared.session_text.outline.ChannelOutline.{ChannelOutline}
-use Rattle.pl_text.specs.SessionBuilding.{Builds, pipeline_built, channels_built}
+use Rattle.pl_text.specs.SessionBuilding.{pipeline_built, channels_built}
 use Rattle.pl_text.specs.SessionWorlds.{FitsWorld, AreWorldly}
 use Rattle.pl_text.proofs.SessionLimitLaws.{bind-ok}
 
@@ -25,58 +26,90 @@ executors_there count (x ∷ executors) all =
     and_from (nat_lt x count) (list_all (λ y. nat_lt y count) executors) (lt-ltb x count (All-head (λ (y : ℕ). y < count) x executors all))
     (executors_there count executors (All-tail (λ (y : ℕ). y < count) x executors all))
 
-module _ {S : Type 0} where
+module _ {S T : Type 0} where
+  -- there are as many of each
+  pub record AreAsMany (pipelines : List (Path S)) (inputs : Inputs) (transports : List T) : Type 0 where
+    pub beside : length pipelines ≡ length inputs
+    pub behind : length pipelines ≡ length transports
+
+  as_many-tail : (p : Path S) (pipelines : List (Path S)) (i : List (List (List ℕ))) (inputs : Inputs) (t : T) (transports : List T)
+      → AreAsMany (p ∷ pipelines) (i ∷ inputs) (t ∷ transports) → AreAsMany pipelines inputs transports
+  as_many-tail p pipelines i inputs t transports same = record { beside = omega (arith, same.beside); behind = omega (arith, same.behind) }
+
   -- one channel more
-  pub recorded-push : (pipelines : List (Path S)) (inputs : List (List (List (List ℕ)))) (pipeline : Path S) (bursts : List (List (List ℕ))) → length pipelines ≡ length inputs
-      → recorded (pipelines ++ pipeline ∷ []) (inputs ++ bursts ∷ []) ≡ recorded pipelines inputs ++ record { pipeline = pipeline; bursts = bursts } ∷ []
-  recorded-push [] [] pipeline bursts same = refl
-  recorded-push [] (i ∷ inputs) pipeline bursts same = absurd (omega (arith, same))
-  recorded-push (p ∷ pipelines) [] pipeline bursts same = absurd (omega (arith, same))
-  recorded-push (p ∷ pipelines) (i ∷ inputs) pipeline bursts same =
-      let rest : length pipelines ≡ length inputs = omega (arith, same) in
-      ap (λ (t : List (Recorded S)). record { pipeline = p; bursts = i } ∷ t) (recorded-push pipelines inputs pipeline bursts rest)
+  pub recorded-push : (pipelines : List (Path S)) (inputs : Inputs) (transports : List T) (channel : Recorded S T) → AreAsMany pipelines inputs transports
+      → recorded (pipelines ++ channel.pipeline ∷ []) (inputs ++ channel.bursts ∷ []) (transports ++ channel.transport ∷ []) ≡ recorded pipelines inputs transports ++ channel ∷ []
+  recorded-push [] [] [] channel same = refl
+  recorded-push [] [] (t ∷ transports) channel same = absurd (omega (arith, same.behind))
+  recorded-push [] (i ∷ inputs) transports channel same = absurd (omega (arith, same.beside))
+  recorded-push (p ∷ pipelines) [] transports channel same = absurd (omega (arith, same.beside))
+  recorded-push (p ∷ pipelines) (i ∷ inputs) [] channel same = absurd (omega (arith, same.behind))
+  recorded-push (p ∷ pipelines) (i ∷ inputs) (t ∷ transports) channel same =
+      ap (λ (rs : List (Recorded S T)). record { pipeline = p; bursts = i; transport = t } ∷ rs)
+      (recorded-push pipelines inputs transports channel (as_many-tail p pipelines i inputs t transports same))
 
-  pub length-recorded : (pipelines : List (Path S)) (inputs : List (List (List (List ℕ)))) → length pipelines ≡ length inputs → length (recorded pipelines inputs) ≡ length pipelines
-  length-recorded [] inputs same = refl
-  length-recorded (p ∷ pipelines) [] same = absurd (omega (arith, same))
-  length-recorded (p ∷ pipelines) (i ∷ inputs) same =
-      let rest : length pipelines ≡ length inputs = omega (arith, same) in ap suc (length-recorded pipelines inputs rest)
+  pub length-recorded : (pipelines : List (Path S)) (inputs : Inputs) (transports : List T) → AreAsMany pipelines inputs transports → length (recorded pipelines inputs transports) ≡ length pipelines
+  length-recorded [] inputs transports same = refl
+  length-recorded (p ∷ pipelines) [] transports same = absurd (omega (arith, same.beside))
+  length-recorded (p ∷ pipelines) (i ∷ inputs) [] same = absurd (omega (arith, same.behind))
+  length-recorded (p ∷ pipelines) (i ∷ inputs) (t ∷ transports) same =
+      ap suc (length-recorded pipelines inputs transports (as_many-tail p pipelines i inputs t transports same))
 
-  module _ (count : ℕ) where
-    all_placed : (pipelines : List (Path S)) (inputs : List (List (List (List ℕ)))) → length pipelines ≡ length inputs → All (FitsWorld count) (recorded pipelines inputs) → list_all (is_placed count) pipelines ≡ true
-    all_placed [] inputs same all = refl
-    all_placed (p ∷ pipelines) [] same all = absurd (omega (arith, same))
-    all_placed (p ∷ pipelines) (i ∷ inputs) same all =
-        let rest : length pipelines ≡ length inputs = omega (arith, same) in
+  module _ (state : T → TransportState) (count : ℕ) where
+    abbrev Fits : Recorded S T → Type 0
+    Fits = FitsWorld state count
+
+    all_placed : (pipelines : List (Path S)) (inputs : Inputs) (transports : List T) → AreAsMany pipelines inputs transports → All Fits (recorded pipelines inputs transports) → list_all (is_placed count) pipelines ≡ true
+    all_placed [] inputs transports same all = refl
+    all_placed (p ∷ pipelines) [] transports same all = absurd (omega (arith, same.beside))
+    all_placed (p ∷ pipelines) (i ∷ inputs) [] same all = absurd (omega (arith, same.behind))
+    all_placed (p ∷ pipelines) (i ∷ inputs) (t ∷ transports) same all =
         and_from (is_placed count p) (list_all (is_placed count) pipelines)
-        (executors_there count p.executors (All-head (FitsWorld count) (record { pipeline = p; bursts = i }) (recorded pipelines inputs) all).placed)
-        (all_placed pipelines inputs rest (All-tail (FitsWorld count) (record { pipeline = p; bursts = i }) (recorded pipelines inputs) all))
+        (executors_there count p.executors (All-head Fits (record { pipeline = p; bursts = i; transport = t }) (recorded pipelines inputs transports) all).placed)
+        (all_placed pipelines inputs transports (as_many-tail p pipelines i inputs t transports same)
+        (All-tail Fits (record { pipeline = p; bursts = i; transport = t }) (recorded pipelines inputs transports) all))
 
-    all_fit : (pipelines : List (Path S)) (inputs : List (List (List (List ℕ)))) → length pipelines ≡ length inputs → All (FitsWorld count) (recorded pipelines inputs) → list_all fits inputs ≡ true
-    all_fit [] [] same all = refl
-    all_fit [] (i ∷ inputs) same all = absurd (omega (arith, same))
-    all_fit (p ∷ pipelines) [] same all = absurd (omega (arith, same))
-    all_fit (p ∷ pipelines) (i ∷ inputs) same all =
-        let rest : length pipelines ≡ length inputs = omega (arith, same) in
-        and_from (fits i) (list_all fits inputs) (All-head (FitsWorld count) (record { pipeline = p; bursts = i }) (recorded pipelines inputs) all).input
-        (all_fit pipelines inputs rest (All-tail (FitsWorld count) (record { pipeline = p; bursts = i }) (recorded pipelines inputs) all))
+    all_fit : (pipelines : List (Path S)) (inputs : Inputs) (transports : List T) → AreAsMany pipelines inputs transports → All Fits (recorded pipelines inputs transports) → list_all fits inputs ≡ true
+    all_fit [] [] transports same all = refl
+    all_fit [] (i ∷ inputs) transports same all = absurd (omega (arith, same.beside))
+    all_fit (p ∷ pipelines) [] transports same all = absurd (omega (arith, same.beside))
+    all_fit (p ∷ pipelines) (i ∷ inputs) [] same all = absurd (omega (arith, same.behind))
+    all_fit (p ∷ pipelines) (i ∷ inputs) (t ∷ transports) same all =
+        and_from (fits i) (list_all fits inputs) (All-head Fits (record { pipeline = p; bursts = i; transport = t }) (recorded pipelines inputs transports) all).input
+        (all_fit pipelines inputs transports (as_many-tail p pipelines i inputs t transports same)
+        (All-tail Fits (record { pipeline = p; bursts = i; transport = t }) (recorded pipelines inputs transports) all))
+
+    -- the transports of channels that fit were not called
+    pub all_uncalled : (pipelines : List (Path S)) (inputs : Inputs) (transports : List T) → AreAsMany pipelines inputs transports → All Fits (recorded pipelines inputs transports)
+        → All (λ transport. IsUncalled (state transport)) transports
+    all_uncalled [] inputs [] same all = λ k d below. absurd (omega (arith, below))
+    all_uncalled [] inputs (t ∷ transports) same all = absurd (omega (arith, same.behind))
+    all_uncalled (p ∷ pipelines) [] transports same all = absurd (omega (arith, same.beside))
+    all_uncalled (p ∷ pipelines) (i ∷ inputs) [] same all = absurd (omega (arith, same.behind))
+    all_uncalled (p ∷ pipelines) (i ∷ inputs) (t ∷ transports) same all =
+        All-cons (λ (u : T). IsUncalled (state u)) t transports (All-head Fits (record { pipeline = p; bursts = i; transport = t }) (recorded pipelines inputs transports) all).transport
+        (all_uncalled pipelines inputs transports (as_many-tail p pipelines i inputs t transports same)
+        (All-tail Fits (record { pipeline = p; bursts = i; transport = t }) (recorded pipelines inputs transports) all))
 
     -- channels that are worldly are within the limits of a world
-    pub worldly-within : (pipelines : List (Path S)) (inputs : List (List (List (List ℕ)))) (channels : List (Recorded S)) → length pipelines ≡ length inputs → recorded pipelines inputs ≡ channels
-        → AreWorldly count channels → is_within pipelines inputs count ≡ true
-    worldly-within pipelines inputs channels same whole worldly =
-        let each = subst (λ (t : List (Recorded S)). All (FitsWorld count) t) (sym whole) worldly.each in
-        let size = ap (λ (t : List (Recorded S)). length t) whole in
-        let few : length pipelines ≤ 16 = omega (arith, size, length-recorded pipelines inputs same, worldly.channels_at_most) in
+    pub worldly-within : (pipelines : List (Path S)) (inputs : Inputs) (transports : List T) (channels : List (Recorded S T)) → AreAsMany pipelines inputs transports
+        → recorded pipelines inputs transports ≡ channels → AreWorldly state count channels → is_within pipelines inputs transports count ≡ true
+    worldly-within pipelines inputs transports channels same whole worldly =
+        let each = subst (All Fits) (sym whole) worldly.each in
+        let size = ap (λ (rs : List (Recorded S T)). length rs) whole in
+        let few : length pipelines ≤ 16 = omega (arith, size, length-recorded pipelines inputs transports same, worldly.channels_at_most) in
         let a = nat_le count 16 in
         let b = nat_le (length pipelines) 16 in
-        let e = length pipelines == length inputs in
+        let i = length pipelines == length inputs in
+        let t = length pipelines == length transports in
         let p = list_all (is_placed count) pipelines in
-        and_from (a && b && e && p) (list_all fits inputs)
-        (and_from (a && b && e) p
-        (and_from (a && b) e (and_from a b (le-leb count 16 worldly.executors_at_most) (le-leb (length pipelines) 16 few)) (eq-eqb (length pipelines) (length inputs) same))
-        (all_placed pipelines inputs same each))
-        (all_fit pipelines inputs same each)
+        and_from (a && b && i && t && p) (list_all fits inputs)
+        (and_from (a && b && i && t) p
+        (and_from (a && b && i) t
+        (and_from (a && b) i (and_from a b (le-leb count 16 worldly.executors_at_most) (le-leb (length pipelines) 16 few)) (eq-eqb (length pipelines) (length inputs) same.beside))
+        (eq-eqb (length pipelines) (length transports) same.behind))
+        (all_placed pipelines inputs transports same each))
+        (all_fit pipelines inputs transports same each)
 
 -- such a world is not refused for its limits
 pub never_limit : (within : Bool) (e : WorldRefusal) → within ≡ true → e ≡ cond within refusal.Memory refusal.Limit → e ≡ refusal.Limit → ⊥

@@ -1,7 +1,7 @@
 -- The letters of moves (docs/FORMATS.md, "Moves").
 use Rattle.std.specs.Prelude.{ℕ}
-use Rattle.pl_replay.specs.declared.moves.Move.{Move}
-use Rattle.pl_replay.specs.declared.moves.Move.TheVariants as step
+use Rattle.pl_world.specs.declared.moves.Move.{Move}
+use Rattle.pl_world.specs.declared.moves.Move.TheVariants as step
 use Rattle.pl_text.specs.declared.moves_text.words.Letter.{Letter}
 use Rattle.pl_text.specs.declared.moves_text.words.Letter.TheVariants.{Read, Task, Hand, Out}
 

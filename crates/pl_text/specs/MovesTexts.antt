@@ -1,8 +1,8 @@
 -- The text of a list of moves (docs/FORMATS.md, "Moves"). A number stands as it is printed, so with no zero before it.
 use Rattle.std.specs.Prelude.{◌≡◌, ℕ, ◌≤◌, ◌<◌, ◌==◌, List, [], ◌∷◌, ◌++◌, length, map, sum_by, replicate, decimal, if◌then◌else◌, Option, Some, None, IfSome}
 use Rattle.std.specs.List.{slice_split, flat_map, AllByRecursion}
-use Rattle.pl_replay.specs.declared.moves.Move.{Move}
-use Rattle.pl_replay.specs.declared.moves.Move.TheVariants.{Read, Task, Hand, Out}
+use Rattle.pl_world.specs.declared.moves.Move.{Move}
+use Rattle.pl_world.specs.declared.moves.Move.TheVariants.{Read, Task, Hand, Out}
 use Rattle.pl_text.specs.declared.moves_text.fault.MovesFault.{MovesFault}
 use Rattle.pl_text.specs.declared.moves_text.fault.MovesFault.TheVariants as fault
 use Rattle.pl_text.specs.declared.moves_text.words.Word.{Word}

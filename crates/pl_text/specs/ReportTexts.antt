@@ -15,10 +15,10 @@ use Rattle.pl_event.specs.declared.outcomes.Outcome.TheVariants as outcome
 use Rattle.pl_event.specs.declared.outcomes.Cause.{Cause}
 use Rattle.pl_event.specs.declared.outcomes.Cause.TheVariants as cause
 use Rattle.pl_stages.specs.Replies.{reply_text}
-use Rattle.pl_replay.specs.declared.report.Stands.{Stands}
-use Rattle.pl_replay.specs.declared.report.Stands.TheVariants.{Drained, Open, Failed}
-use Rattle.pl_replay.specs.declared.report.ChannelReport.{ChannelReport}
-use Rattle.pl_replay.specs.declared.report.Report.{Report}
+use Rattle.pl_world.specs.declared.report.Stands.{Stands}
+use Rattle.pl_world.specs.declared.report.Stands.TheVariants.{Drained, Open, Failed}
+use Rattle.pl_world.specs.declared.report.ChannelReport.{ChannelReport}
+use Rattle.pl_world.specs.declared.report.Report.{Report}
 
 -- lower case hex, or a dash where there are no bytes
 abbrev pub hex_text : List ℕ → List ℕ

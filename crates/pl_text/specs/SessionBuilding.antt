@@ -1,7 +1,7 @@
 -- What is built of the members of a session (docs/FORMATS.md, "Session"): the groups first, and then channel by channel
 -- its edits in order, its marks, and its pipeline, placed behind those of the earlier channels. The first refusal is the
 -- answer.
-use Rattle.std.specs.Prelude.{◌≡◌, ◌≢◌, ℕ, ◌+◌, List, [], ◌∷◌, ◌++◌, map, insert, is_some, if◌then◌else◌, Option, Result, Ok, Err}
+use Rattle.std.specs.Prelude.{◌≡◌, ◌≢◌, ℕ, ◌+◌, List, [], ◌∷◌, ◌++◌, map, insert, is_some, if◌then◌else◌, Option, Result, Ok, Err, Some}
 use Rattle.std.specs.Option.{option_map_or}
 use Rattle.pl_event.specs.Meaning.{Meaning}
 use Rattle.pl_event.specs.Paths.{inbound_chain, outbound_chain}
@@ -11,7 +11,7 @@ use Rattle.pl_build.specs.declared.faults.BuildFault.TheVariants.{NoSuchName, Me
 use Rattle.pl_build.specs.Pipelines.{handler_of, place_of, without, meanings}
 use Rattle.pl_build.specs.Refusals.{unless, naming_fault, beside_fault, marks_answer, building_fault, grouping_fault, executor_count}
 use Rattle.pl_build.specs.Executors.{Grouping, HasPlaced, sizes_of, executor_after, hop_executors, groups_of}
-use Rattle.pl_replay.specs.Plans.{ChannelPlan, Plan}
+use Rattle.pl_world.specs.Plans.{ChannelPlan, Plan}
 use Rattle.pl_text.specs.declared.session_text.outline.Addition.{Addition}
 use Rattle.pl_text.specs.declared.session_text.outline.Edit.{Edit}
 use Rattle.pl_text.specs.declared.session_text.outline.Edit.TheVariants.{First, Last, Before, After, Remove}
@@ -77,6 +77,7 @@ channel_built loops sizes earlier channel handlers = record {
   executors = hop_executors (executor_after loops sizes earlier) (λ m. m) handlers;
   low = channel.low;
   high = channel.high;
+  window = Some channel.window;
   bursts = channel.bursts;
 }
 

@@ -1,7 +1,7 @@
 -- What a channel and an edit mean, row by row (docs/FORMATS.md, "Session").
 use Rattle.std.specs.Prelude.{ℕ, ◌&&◌, List, nat_le, if◌then◌else◌, Result, Ok, Err, codes}
 use Rattle.serde_json.specs.Data.{Data}
-use Rattle.pl_replay.specs.Limits.{chunk_count, byte_count}
+use Rattle.pl_world.specs.Limits.{chunk_count, byte_count}
 use Rattle.pl_text.specs.declared.session_text.fault.SessionFault.{SessionFault}
 use Rattle.pl_text.specs.declared.session_text.fault.SessionFault.TheVariants.{Kind, Limit}
 use Rattle.pl_text.specs.declared.session_text.outline.HandlerKind.{HandlerKind}
@@ -90,6 +90,10 @@ edit_in d = do
 unfoldable pub mark_in : List ℕ → ℕ → Data → Result ℕ SessionFault
 mark_in name default channel = with_default name (whole_in 0 1073741824) default channel
 
+-- how many bytes the transport accepts in one call
+unfoldable pub window_in : Data → Result ℕ SessionFault
+window_in channel = with_default (codes "window") (whole_in 1 65536) 65536 channel
+
 -- the limits on chunks and bytes come behind all bursts
 abbrev pub limited : List (List (List ℕ)) → Result (List (List (List ℕ))) SessionFault
 limited bursts = if nat_le (chunk_count bursts) 16384 && nat_le (byte_count bursts) 1048576 then Ok bursts else Err Limit
@@ -103,8 +107,8 @@ channel_in d = do
   edits ← required (codes "handlers") (array_in 0 256 edit_in) channel
   low ← mark_in (codes "low") 32768 channel
   high ← mark_in (codes "high") 65536 channel
-  _ ← absent (codes "window") Limit channel
+  window ← window_in channel
   _ ← absent (codes "fail_at") Limit channel
   bursts ← required (codes "bursts") bursts_in channel
   _ ← absent (codes "abort_after") Limit channel
-  Ok (record { edits = edits; low = low; high = high; bursts = bursts })
+  Ok (record { edits = edits; low = low; high = high; window = window; bursts = bursts })

@@ -1,14 +1,15 @@
 -- The limits of a session (docs/FORMATS.md, "Session"): each session that is read is within them.
-use Rattle.std.specs.Prelude.{◌≡◌, ◌≤◌, ◌+◌, length, true}
+use Rattle.std.specs.Prelude.{◌≡◌, ◌≤◌, ◌+◌, length, true, MatchOption}
 use Rattle.std.specs.List.{AllByRecursion}
-use Rattle.pl_replay.specs.Plans.{ChannelPlan, Plan}
-use Rattle.pl_replay.specs.Envelopes.{IsSmallChannel}
-use Rattle.pl_replay.specs.Limits.{fits}
+use Rattle.pl_world.specs.Plans.{ChannelPlan, Plan}
+use Rattle.pl_world.specs.PlanRules.{IsSmallChannel}
+use Rattle.pl_world.specs.Limits.{fits}
 
 pub record IsChannelWithin (channel : ChannelPlan) : Type 0 where
   pub handlers_at_most : length channel.inbound + length channel.outbound ≤ 32
   pub order : channel.low ≤ channel.high
   pub high_at_most : channel.high ≤ 1073741824
+  pub window : MatchOption channel.window ⊥ (λ window. (1 ≤ window) × (window ≤ 65536))
   pub bursts : fits channel.bursts ≡ true
   pub lanes : IsSmallChannel channel
 

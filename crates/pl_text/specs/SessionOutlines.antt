@@ -2,7 +2,7 @@
 use Rattle.std.specs.Prelude.{◌≡◌, ◌≤◌, ℕ, ◌==◌, List, [], length, true, if◌then◌else◌, Result, Ok, Err, codes}
 use Rattle.std.specs.List.{AllByRecursion}
 use Rattle.serde_json.specs.Data.{Data}
-use Rattle.pl_replay.specs.Limits.{fits}
+use Rattle.pl_world.specs.Limits.{fits}
 use Rattle.pl_text.specs.declared.session_text.fault.SessionFault.{SessionFault}
 use Rattle.pl_text.specs.declared.session_text.fault.SessionFault.TheVariants.{Version}
 use Rattle.pl_text.specs.declared.session_text.outline.HandlerKind.{HandlerKind}
@@ -63,6 +63,8 @@ IsEditWithin (Remove name) = Unit {0}
 
 pub record IsChannelOutlineWithin (channel : ChannelOutline) : Type 0 where
   pub edits : AllByRecursion IsEditWithin channel.edits
+  pub window_at_least : 1 ≤ channel.window
+  pub window_at_most : channel.window ≤ 65536
   pub bursts : fits channel.bursts ≡ true
 
 pub record IsOutlineWithin (outline : Outline) : Type 0 where

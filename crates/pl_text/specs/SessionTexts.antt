@@ -4,7 +4,7 @@ use Rattle.serde_json.specs.Data.{Data}
 use Rattle.serde_json.specs.Read.{read}
 use Rattle.pl_text.specs.declared.session_text.fault.SessionFault.{SessionFault}
 use Rattle.pl_text.specs.declared.session_text.fault.SessionFault.TheVariants.{NotJson, Limit}
-use Rattle.pl_replay.specs.Plans.{Plan}
+use Rattle.pl_world.specs.Plans.{Plan}
 use Rattle.pl_text.specs.SessionReading.{◌>>=◌, known, built}
 use Rattle.pl_text.specs.SessionOutlines.{outline_in}
 use Rattle.pl_text.specs.SessionBuilding.{session_built}

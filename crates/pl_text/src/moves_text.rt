@@ -13,7 +13,7 @@ mod words;
 
 use copies::{left_of, moves_of_words};
 pub use fault::MovesFault;
-use pl_replay::Move;
+use pl_world::Move;
 use std::alloc::Global;
 use words::{Word, read_word};
 

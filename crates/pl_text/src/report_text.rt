@@ -13,7 +13,7 @@ mod tests;
 
 use channels::add_channel;
 pub use fault::PrintFault;
-use pl_replay::Report;
+use pl_world::Report;
 use std::alloc::{AllocError, Global};
 use std::io::Write;
 

@@ -1,7 +1,7 @@
 //! The text of a session (`docs/FORMATS.md`, "Session").
 
 ghost use Rattle.std.specs.Prelude.{IfOk};
-ghost use Rattle.pl_replay.specs.Sessions.{plan_of};
+ghost use Rattle.pl_world.specs.Sessions.{plan_of};
 ghost use Rattle.pl_text.specs.SessionReading.{Answers, seen};
 ghost use Rattle.pl_text.specs.SessionLimits.{IsWithinLimits};
 ghost use Rattle.pl_text.specs.SessionTexts.{session_of};
@@ -19,8 +19,9 @@ use crate::session_text::building::session_built;
 use crate::session_text::tables::outline_in;
 pub use fault::SessionFault;
 use pl_event::Stage;
-use pl_replay::Session;
+use pl_head::{MemoryTransport, Transport};
 use pl_stages::Handler;
+use pl_world::Session;
 use serde_json::Value;
 use std::alloc::Global;
 
@@ -37,8 +38,8 @@ const MAX_TEXT: usize = 33_554_432;
 /// refused, and at any of these places.
 #[tactic(auto, using(crate::proofs::SessionLimitLaws::outline_is_within), unfolding(crate::specs::SessionTexts::session_of, crate::specs::SessionTexts::session_in))]
 pub fn read_session(alloc: Global, text: &str) -> Result<Session, SessionFault>
-    ensures meaning { Answers (seen (plan_of ⟦<Handler as Stage>⟧.meaning) result) (session_of text.now) }
-    ensures within { IfOk result (λ session. IsWithinLimits (plan_of ⟦<Handler as Stage>⟧.meaning session)) }
+    ensures meaning { Answers (seen (plan_of ⟦<Handler as Stage>⟧.meaning ⟦<MemoryTransport as Transport>⟧.state) result) (session_of text.now) }
+    ensures within { IfOk result (λ session. IsWithinLimits (plan_of ⟦<Handler as Stage>⟧.meaning ⟦<MemoryTransport as Transport>⟧.state session)) }
 {
     if text.len() > MAX_TEXT {
         return Err(SessionFault::Limit);

@@ -2,8 +2,8 @@
 use Rattle.std.proofs.Common.{◌≡◌, ◌∙◌, ℕ, List, [], ◌∷◌, true, false, map, Option, Some, refl, sym, ap, subst}
 use Rattle.std.specs.Prelude.{◌≢◌, unwrap_or}
 use Rattle.std.specs.List.{list_all}
-use Rattle.pl_replay.specs.Plans.{ChannelPlan}
-use Rattle.pl_replay.specs.Reports.{whole_report}
+use Rattle.pl_world.specs.Plans.{ChannelPlan}
+use Rattle.pl_world.specs.Reports.{whole_report}
 use Rattle.pl_tool.specs.ProgramLines.{Request, Plain}
 use Rattle.pl_tool.specs.ProgramOutcomes.{HasPrinted, IsAnswer, is_drained}
 

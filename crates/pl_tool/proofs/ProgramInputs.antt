@@ -6,7 +6,7 @@ use Rattle.std.proofs.lemmas.Bool.Decides.{nat_tests}
 use Rattle.std.proofs.lemmas.Str.{IsUtf8-from_is_utf8, is_utf8-from_IsUtf8}
 use Rattle.pl_text.specs.declared.session_text.fault.SessionFault.{SessionFault}
 use Rattle.pl_text.specs.declared.session_text.fault.SessionFault.TheVariants.{Limit, NotJson}
-use Rattle.pl_replay.specs.Plans.{Plan}
+use Rattle.pl_world.specs.Plans.{Plan}
 use Rattle.pl_tool.specs.ProgramOutcomes.{session_of_bytes}
 use Rattle.pl_text.specs.SessionReading.{Answers}
 use Rattle.pl_text.specs.SessionTexts.{session_of}

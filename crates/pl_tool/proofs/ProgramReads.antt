@@ -1,6 +1,5 @@
 -- What clap finds on a command line is what it asks for.
-use Rattle.std.proofs.Common.{◌≡◌, ◌∙◌, List, [], ◌∷◌, Bool, true, false, not, ◌&&◌, map, drop, Option, Some, None, refl, sym, ap, ap₂, codes, Bor, string_bytes, String, Global}
-use Rattle.std.proofs.Common.{arith}
+use Rattle.std.proofs.Common.{◌≡◌, ◌∙◌, List, [], ◌∷◌, Bool, true, false, not, ◌&&◌, map, drop, Option, Some, None, refl, sym, ap, ap₂, codes, Bor, string_bytes, String, Global, arith}
 use Rattle.std.proofs.lemmas.Bool.Decides.{nat_tests}
 use Rattle.std.specs.Prelude.{if◌then◌else◌, option_map, option_and_then, unwrap_or, Box}
 use Rattle.std.specs.Box.{box_value}

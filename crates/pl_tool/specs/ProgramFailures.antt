@@ -8,8 +8,8 @@ use Rattle.pl_build.specs.declared.faults.BuildFault.{BuildFault}
 use Rattle.pl_build.specs.declared.faults.BuildFault.TheVariants as build
 use Rattle.pl_text.specs.declared.session_text.fault.SessionFault.{SessionFault}
 use Rattle.pl_text.specs.declared.session_text.fault.SessionFault.TheVariants as session
-use Rattle.pl_replay.specs.declared.faults.ReplayFault.{ReplayFault}
-use Rattle.pl_replay.specs.declared.faults.ReplayFault.TheVariants as replay
+use Rattle.pl_world.specs.declared.faults.ReplayFault.{ReplayFault}
+use Rattle.pl_world.specs.declared.faults.ReplayFault.TheVariants as replay
 use Rattle.pl_text.specs.declared.report_text.fault.PrintFault.{PrintFault}
 use Rattle.pl_text.specs.declared.report_text.fault.PrintFault.TheVariants as print
 use Rattle.pl_tool.specs.declared.program.failure.Failure.{Failure}

@@ -3,22 +3,22 @@ use Rattle.std.specs.Prelude.{◌≡◌, ◌≢◌, ℕ, ◌≤◌, List, length
 use Rattle.std.specs.List.{list_all}
 use Rattle.std.specs.Str.{is_utf8}
 use Rattle.std.specs.Io.KnownBytes.{Appends, Consumes, IsAtEnd, Keeps}
-use Rattle.pl_replay.specs.declared.moves.Move.{Move}
-use Rattle.pl_replay.specs.declared.report.Report.{Report}
-use Rattle.pl_replay.specs.declared.report.Stands.{Stands}
-use Rattle.pl_replay.specs.declared.report.Stands.TheVariants.{Drained, Open, Failed}
+use Rattle.pl_world.specs.declared.moves.Move.{Move}
+use Rattle.pl_world.specs.declared.report.Report.{Report}
+use Rattle.pl_world.specs.declared.report.Stands.{Stands}
+use Rattle.pl_world.specs.declared.report.Stands.TheVariants.{Drained, Open, Failed}
 use Rattle.pl_text.specs.declared.session_text.fault.SessionFault.{SessionFault}
 use Rattle.pl_text.specs.declared.session_text.fault.SessionFault.TheVariants.{Limit, NotJson}
 use Rattle.pl_text.specs.declared.session_text.fault.SessionFault.TheVariants as session
 use Rattle.pl_text.specs.declared.moves_text.fault.MovesFault.{MovesFault}
-use Rattle.pl_replay.specs.declared.faults.ReplayFault.TheVariants as replay
+use Rattle.pl_world.specs.declared.faults.ReplayFault.TheVariants as replay
 use Rattle.pl_tool.specs.declared.program.failure.Failure.{Failure}
 use Rattle.pl_tool.specs.declared.program.failure.Failure.TheVariants.{Usage, Moves, Replay, Input, Session, Memory, Output}
 use Rattle.pl_event.specs.Meaning.{IsPrefixOf}
 use Rattle.pl_replay.specs.MoveModel.{is_there}
-use Rattle.pl_replay.specs.Plans.{Plan}
+use Rattle.pl_world.specs.Plans.{Plan}
 use Rattle.pl_replay.specs.Replays.{IsReplayed}
-use Rattle.pl_replay.specs.Reports.{whole_report}
+use Rattle.pl_world.specs.Reports.{whole_report}
 use Rattle.pl_text.specs.SessionTexts.{session_of}
 use Rattle.pl_text.specs.MovesTexts.{MeansMoves, IsNoMoves}
 use Rattle.pl_text.specs.ReportTexts.{report_text}

@@ -4,7 +4,7 @@ ghost use Rattle.std.specs.Prelude.{◌≡◌, ◌+◌, ◌<◌, IfOk, MatchOpti
 ghost use Rattle.pl_text.specs.MovesTexts.{times, total, moves_of_words};
 
 use super::words::Word;
-use pl_replay::Move;
+use pl_world::Move;
 use std::alloc::{AllocError, Global};
 
 fn times(word: &Word) -> u32

@@ -7,7 +7,7 @@ ghost use Rattle.pl_text.specs.MovesTexts.{Fits, AreInRange, word_text, count_te
 ghost use Rattle.pl_text.specs.MovesLetters.{letter_code, move_of};
 
 use itoa::Buffer;
-use pl_replay::Move;
+use pl_world::Move;
 
 const MAX_NUMBER: u32 = 65_535;
 

@@ -6,7 +6,7 @@ ghost use Rattle.pl_text.specs.ReportTexts.{channel_text, event_line, outcome_te
 
 use super::events::{add_event, add_hex};
 use pl_event::{Cause, Event, Outcome};
-use pl_replay::{ChannelReport, Stands};
+use pl_world::{ChannelReport, Stands};
 use std::alloc::AllocError;
 use std::fmt::Write as _;
 

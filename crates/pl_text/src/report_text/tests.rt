@@ -2,7 +2,7 @@ use super::*;
 use pl_event::{
     ByteString, Caught, Cause, Command, Event, Fault, Key, Message, Outcome, Reply, Sequence,
 };
-use pl_replay::{ChannelReport, Stands};
+use pl_world::{ChannelReport, Stands};
 use std::test::Fail;
 
 const PING: &str = "channel 0 drained

@@ -8,9 +8,9 @@ ghost use Rattle.pl_build.specs.Pipelines.{place_of, without};
 ghost use Rattle.pl_build.specs.Refusals.{naming_fault, beside_fault, grouping_fault, executor_count};
 ghost use Rattle.pl_build.specs.Executors.{HasPlaced, sizes_of};
 ghost use Rattle.pl_build.specs.declared.faults.BuildFault.TheVariants.{NoSuchName, Memory};
-ghost use Rattle.pl_replay.specs.Plans.{channel_planned};
-ghost use Rattle.pl_replay.specs.Sessions.{plan_of};
-ghost use Rattle.pl_replay.specs.Worlds.{recorded};
+ghost use Rattle.pl_world.specs.Plans.{channel_planned};
+ghost use Rattle.pl_world.specs.Sessions.{plan_of};
+ghost use Rattle.pl_world.specs.Worlds.{recorded};
 ghost use Rattle.pl_text.specs.SessionReading.{seen};
 ghost use Rattle.pl_text.specs.SessionHandlers.{meaning_of};
 ghost use Rattle.pl_text.specs.SessionOutlines.{IsHandlerWithin, IsEditWithin, IsChannelOutlineWithin, IsOutlineWithin};
@@ -23,17 +23,18 @@ use crate::session_text::outline::{
 };
 use pl_build::{BuildFault, Groups, PipelineBuilder, Placed};
 use pl_event::{ByteString, Sequence, Stage};
-use pl_replay::{Recorded, Session, World, WorldRefusal};
+use pl_head::{MemoryTransport, Transport};
 use pl_stages::{
     CommandDecoder, FlushEvery, Handler, LineEnd, LineFramer, LineService, ReplyEncoder,
 };
+use pl_world::{Recorded, Session, World, WorldRefusal};
 use std::alloc::{AllocError, Global};
 
 /// Builds a session of what its members say.
 #[tactic(auto, unfolding(crate::specs::SessionBuilding::session_built))]
 pub(crate) fn session_built(alloc: Global, outline: Outline) -> Result<Session, BuildFault>
     requires { IsOutlineWithin outline }
-    ensures { Builds (seen (plan_of ⟦<Handler as Stage>⟧.meaning) result) (session_built outline) }
+    ensures { Builds (seen (plan_of ⟦<Handler as Stage>⟧.meaning ⟦<MemoryTransport as Transport>⟧.state) result) (session_built outline) }
 {
     let Outline {
         capacity,
@@ -54,42 +55,54 @@ pub(crate) fn session_built(alloc: Global, outline: Outline) -> Result<Session, 
 fn world_built(
     alloc: Global,
     executors: u16,
-    channels: Sequence<Recorded<Handler>>,
-) -> Result<World<Handler>, AllocError>
-    requires { AreWorldly executors channels }
+    channels: Sequence<Recorded<Handler, MemoryTransport>>,
+) -> Result<World<Handler, MemoryTransport>, AllocError>
+    requires { AreWorldly ⟦<MemoryTransport as Transport>⟧.state executors channels }
     ensures executors { IfOk result (λ world. world.executors ≡ executors) }
     ensures channels { IfOk result (λ world. world.channels ≡ channels) }
 {
-    let (pipelines, inputs) = parted(alloc, channels)?;
-    match World::new(alloc, pipelines, inputs, executors) {
+    let (pipelines, inputs, transports) = parted(alloc, channels)?;
+    match World::new(alloc, pipelines, inputs, transports, executors) {
         Ok(world) => Ok(world),
         Err(WorldRefusal::Memory) => Err(AllocError),
         Err(WorldRefusal::Limit) => unreachable!(),
     }
 }
 
-/// The pipelines of channels, and their inputs.
+/// The pipelines of channels, their inputs and their transports.
 fn parted(
     alloc: Global,
-    channels: Sequence<Recorded<Handler>>,
+    channels: Sequence<Recorded<Handler, MemoryTransport>>,
 ) -> Result<
     (
         Sequence<Placed<Handler>>,
         Sequence<Sequence<Sequence<ByteString>>>,
+        Sequence<MemoryTransport>,
     ),
     AllocError,
 >
-    ensures count { IfOk result (λ parts. length parts.0 ≡ length parts.1) }
-    ensures whole { IfOk result (λ parts. recorded parts.0 parts.1 ≡ channels) }
+    ensures inputs { IfOk result (λ parts. length parts.0 ≡ length parts.1) }
+    ensures transports { IfOk result (λ parts. length parts.0 ≡ length parts.2) }
+    ensures whole { IfOk result (λ parts. recorded parts.0 parts.1 parts.2 ≡ channels) }
 {
     let mut pipelines = Vec::with_capacity(alloc, channels.len())?;
     let mut inputs = Vec::with_capacity(alloc, channels.len())?;
+    let mut transports = Vec::with_capacity(alloc, channels.len())?;
     for channel in channels.into_vec() {
-        let Recorded { pipeline, bursts } = channel;
+        let Recorded {
+            pipeline,
+            bursts,
+            transport,
+        } = channel;
         pipelines.push(pipeline)?;
         inputs.push(bursts)?;
+        transports.push(transport)?;
     }
-    Ok((Sequence::from_vec(pipelines), Sequence::from_vec(inputs)))
+    Ok((
+        Sequence::from_vec(pipelines),
+        Sequence::from_vec(inputs),
+        Sequence::from_vec(transports),
+    ))
 }
 
 // ---- groups
@@ -122,12 +135,12 @@ fn channels_built(
     alloc: Global,
     groups: &mut Groups,
     channels: Sequence<ChannelOutline>,
-) -> Result<Sequence<Recorded<Handler>>, BuildFault>
+) -> Result<Sequence<Recorded<Handler, MemoryTransport>>, BuildFault>
     requires within { AllByRecursion IsChannelOutlineWithin channels }
     requires unused { HasPlaced groups.old [] }
-    ensures built { Builds (seen (map (channel_planned ⟦<Handler as Stage>⟧.meaning)) result)
+    ensures built { Builds (seen (map (channel_planned ⟦<Handler as Stage>⟧.meaning ⟦<MemoryTransport as Transport>⟧.state)) result)
         (channels_built groups.old.loops (sizes_of groups.old) [] channels) }
-    ensures fit { IfOk result (λ channels. All (FitsWorld (executor_count groups.old.loops (sizes_of groups.old))) channels) }
+    ensures fit { IfOk result (λ channels. All (FitsWorld ⟦<MemoryTransport as Transport>⟧.state (executor_count groups.old.loops (sizes_of groups.old))) channels) }
 {
     let mut built = Vec::with_capacity(alloc, channels.len())?;
     for channel in channels.into_vec() {
@@ -142,10 +155,10 @@ fn channel_built(
     alloc: Global,
     groups: &mut Groups,
     channel: ChannelOutline,
-) -> Result<Recorded<Handler>, BuildFault>
+) -> Result<Recorded<Handler, MemoryTransport>, BuildFault>
     requires { IsChannelOutlineWithin channel }
-    ensures built { IfOk result (λ recorded. IsChannelBuilt groups.old groups.new channel (channel_planned ⟦<Handler as Stage>⟧.meaning recorded)) }
-    ensures fits { IfOk result (λ recorded. FitsWorld (executor_count groups.old.loops (sizes_of groups.old)) recorded) }
+    ensures built { IfOk result (λ recorded. IsChannelBuilt groups.old groups.new channel (channel_planned ⟦<Handler as Stage>⟧.meaning ⟦<MemoryTransport as Transport>⟧.state recorded)) }
+    ensures fits { IfOk result (λ recorded. FitsWorld ⟦<MemoryTransport as Transport>⟧.state (executor_count groups.old.loops (sizes_of groups.old)) recorded) }
     ensures refused { IfErr result (λ e. e ≢ Memory → pipeline_built (sizes_of groups.old) channel ≡ Err e) }
     ensures same_groups { (groups.new.loops ≡ groups.old.loops) × (sizes_of groups.new ≡ sizes_of groups.old) }
 {
@@ -153,12 +166,17 @@ fn channel_built(
         edits,
         low,
         high,
+        window,
         bursts,
     } = channel;
     let mut builder = all_edited(alloc, edits.as_slice())?;
     builder.marks(low, high)?;
     match builder.build(groups) {
-        Ok(pipeline) => Ok(Recorded { pipeline, bursts }),
+        Ok(pipeline) => Ok(Recorded {
+            pipeline,
+            bursts,
+            transport: MemoryTransport::new(alloc, window, None),
+        }),
         Err(unbuilt) => Err(unbuilt.fault),
     }
 }

@@ -2,9 +2,9 @@
 
 ghost use Rattle.std.specs.Prelude.{◌≡◌, ◌+◌, ◌<◌, length, sum_by, MatchOption, nat_le, ◌&&◌};
 ghost use Rattle.serde_json.specs.View.{view};
-ghost use Rattle.pl_replay.specs.Limits.{chunk_count, byte_count};
+ghost use Rattle.pl_world.specs.Limits.{chunk_count, byte_count};
 ghost use Rattle.pl_text.specs.SessionReading.{Answers};
-ghost use Rattle.pl_text.specs.SessionChannels.{mark_in, bursts_in, channel_in};
+ghost use Rattle.pl_text.specs.SessionChannels.{mark_in, window_in, bursts_in, channel_in};
 
 use crate::session_text::fault::SessionFault;
 use crate::session_text::outline::ChannelOutline;
@@ -24,6 +24,11 @@ const DEFAULT_LOW: u32 = 32_768;
 
 const DEFAULT_HIGH: u32 = 65_536;
 
+const MAX_WINDOW: u64 = 65_536;
+
+/// How many bytes a transport accepts in one call, where nothing else is said.
+const DEFAULT_WINDOW: u32 = 65_536;
+
 const MAX_BURSTS: usize = 4_096;
 
 const MAX_CHUNKS: usize = 16_384;
@@ -39,7 +44,7 @@ impl FromData for ChannelOutline {
         let edits = array_in(alloc, 0, MAX_EDITS, required(channel, "handlers")?)?;
         let low = mark_in("low", DEFAULT_LOW, channel)?;
         let high = mark_in("high", DEFAULT_HIGH, channel)?;
-        absent(channel, "window", SessionFault::Limit)?;
+        let window = window_in(channel)?;
         absent(channel, "fail_at", SessionFault::Limit)?;
         let bursts = bursts_in(alloc, required(channel, "bursts")?)?;
         absent(channel, "abort_after", SessionFault::Limit)?;
@@ -47,6 +52,7 @@ impl FromData for ChannelOutline {
             edits,
             low,
             high,
+            window,
             bursts,
         })
     }
@@ -60,6 +66,17 @@ fn mark_in(name: &str, default: u32, channel: &Value) -> Result<u32, SessionFaul
     match present(channel, name) {
         Some(value) => Ok(whole_in(0, MAX_MARK, value)? as u32),
         None => Ok(default),
+    }
+}
+
+/// How many bytes the transport of a channel accepts in one call.
+#[tactic(auto, unfolding(crate::specs::SessionChannels::window_in))]
+fn window_in(channel: &Value) -> Result<u32, SessionFault>
+    ensures { result ≡ window_in (view channel.now) }
+{
+    match present(channel, "window") {
+        Some(value) => Ok(whole_in(1, MAX_WINDOW, value)? as u32),
+        None => Ok(DEFAULT_WINDOW),
     }
 }
 

@@ -63,6 +63,8 @@ pub(crate) struct ChannelOutline {
     /// The marks, in bytes.
     pub(crate) low: u32,
     pub(crate) high: u32,
+    /// How many bytes the transport accepts in one call.
+    pub(crate) window: u32,
     /// The chunks of each burst.
     pub(crate) bursts: Sequence<Sequence<ByteString>>,
 }

@@ -252,7 +252,24 @@ const HOSTILE_CHANNELS: &[(&str, &str, Option<SessionFault>)] = &[
     (
         r#""bursts":"#,
         r#""window":"x","bursts":"#,
+        Some(SessionFault::Kind),
+    ),
+    (
+        r#""bursts":"#,
+        r#""window":0,"bursts":"#,
         Some(SessionFault::Limit),
+    ),
+    (r#""bursts":"#, r#""window":1,"bursts":"#, None),
+    (r#""bursts":"#, r#""window":65536,"bursts":"#, None),
+    (
+        r#""bursts":"#,
+        r#""window":65537,"bursts":"#,
+        Some(SessionFault::Limit),
+    ),
+    (
+        r#""bursts":"#,
+        r#""window":1.5,"bursts":"#,
+        Some(SessionFault::Kind),
     ),
     (
         r#""bursts":"#,

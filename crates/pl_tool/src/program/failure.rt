@@ -2,8 +2,7 @@
 
 ghost use Rattle.std.specs.Prelude.{◌≡◌};
 ghost use Rattle.std.specs.IoError.{error_kind};
-ghost use Rattle.pl_tool.specs.ProgramFailures.{failure_of_moves, failure_of_session, failure_of_replay, failure_of_print, failure_of_read, failure_of_words};
-ghost use Rattle.pl_tool.specs.ProgramFailures.{status_of, failure_line, moves_line, replay_line, build_line, session_line};
+ghost use Rattle.pl_tool.specs.ProgramFailures.{failure_of_moves, failure_of_session, failure_of_replay, failure_of_print, failure_of_read, failure_of_words, status_of, failure_line, moves_line, replay_line, build_line, session_line};
 
 use pl_build::BuildFault;
 use pl_replay::ReplayFault;

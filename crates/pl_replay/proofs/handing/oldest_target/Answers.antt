@@ -1,7 +1,7 @@
 use Rattle.std.proofs.Common.{rules, ◌≡◌, ◌<◌, ◌+◌, ℕ, Bool, true, false, ltb, Option, List, length, get_or, set, sym, ap, subst, ◌∙◌, arith}
 use Rattle.std.specs.Option.{option_map}
 use Rattle.std.proofs.lemmas.Option.{slice_get-get_or}
-use Rattle.pl_replay.specs.Plans.{Plan}
+use Rattle.pl_world.specs.Plans.{Plan}
 use Rattle.pl_replay.specs.States.{State, executor_at}
 use Rattle.pl_replay.specs.BacklogStand.{ExecutorsStand, IsOldest}
 use Rattle.pl_replay.specs.declared.executors.Executor.{Executor}

@@ -7,5 +7,5 @@ use Rattle.pl_replay.proofs.placing.idle_executors.Given as goal
 abbrev pub invariant-loop-origin : goal.invariant-loop-origin
 invariant-loop-origin g l = record {
   size : vec_len l.executors ≡ l.origin;
-  each : (y : ℕ) (e : Executor) → slice_get l.executors.items y ≡ Some e → Rests g.S.Stage.meaning l.count l.channels y e;
+  each : (y : ℕ) (e : Executor) → slice_get l.executors.items y ≡ Some e → Rests g.S.Stage.meaning g.T.Transport.state l.count l.channels y e;
 }

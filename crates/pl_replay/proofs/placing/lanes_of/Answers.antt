@@ -1,15 +1,15 @@
 use Rattle.std.proofs.Common.{◌<◌, ◌+◌, ℕ, eqb, get_or, sym, ap, ◌∙◌, arith}
 use Rattle.std.proofs.lemmas.Bool.{and_from, and_left, and_right, eq-eqb, ne_eqb}
-use Rattle.pl_replay.specs.MadeItems.{head_hop}
-use Rattle.pl_replay.specs.LaneAccount.{origin_by}
-use Rattle.pl_replay.specs.NetStand.{channel_plan}
+use Rattle.pl_world.specs.Plans.{head_hop}
+use Rattle.pl_channel.specs.ChannelMoves.{origin_by}
+use Rattle.pl_channel.specs.ChannelStand.{channel_plan}
 use Rattle.pl_replay.proofs.PlacedLanes.{lanes_upto-yes, lanes_upto-no, lanes_upto-all}
 use Rattle.pl_replay.proofs.placing.lanes_of.Goals as goal
 use Rattle.pl_replay.proofs.placing.lanes_of.Goals.{then-origin+then-target, else-origin, else-origin-via-then-origin+else-target, else-origin-via-else-origin}
 
 pub loop-hop-preserved : goal.loop-hop-preserved
 loop-hop-preserved g c =
-    let p = channel_plan g.S.Stage.meaning c.args.channel.now in
+    let p = channel_plan g.S.Stage.meaning g.T.Transport.state c.args.channel.now in
     let x = c.args.origin in
     let y = c.args.target in
     let hop = c.loop-hop.hop in
@@ -35,6 +35,6 @@ loop-hop-preserved g c =
 
 pub returns-clause-lanes : goal.returns-clause-lanes
 returns-clause-lanes g c =
-    let p = channel_plan g.S.Stage.meaning c.args.channel.now in
+    let p = channel_plan g.S.Stage.meaning g.T.Transport.state c.args.channel.now in
     c.loop-hop.invariant
     ∙ lanes_upto-all c.args.origin c.args.target p c.loop-hop.hop (omega (arith, c.loop-hop-test.false, c.requires.hops, c.hops-hop-end.ensures, c.args.channel.now.executors.ok.0))

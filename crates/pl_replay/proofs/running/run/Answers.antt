@@ -2,8 +2,8 @@ use Rattle.std.proofs.Common.{rules, ◌≡◌, ◌<◌, ◌∙◌, List, length
 use Rattle.std.specs.List.{list_all}
 use Rattle.std.proofs.lemmas.List.{take_all}
 use Rattle.std.proofs.lemmas.Bool.{true_from_ne_false}
-use Rattle.pl_replay.specs.declared.moves.Move.{Move}
-use Rattle.pl_replay.specs.Plans.{planned}
+use Rattle.pl_world.specs.declared.moves.Move.{Move}
+use Rattle.pl_world.specs.Plans.{planned}
 use Rattle.pl_replay.specs.MoveModel.{is_there}
 use Rattle.pl_replay.specs.States.{start}
 use Rattle.pl_replay.specs.CoreMoves.{Reaches}
@@ -12,7 +12,7 @@ use Rattle.pl_replay.proofs.running.run.Goals as goal
 
 pub loop-step-preserved : goal.loop-step-preserved
 loop-step-preserved g c =
-    let plan = planned g.S.Stage.meaning c.args.capacity c.args.world.executors c.args.world.channels in
+    let plan = planned g.S.Stage.meaning g.T.Transport.state c.args.capacity c.args.world.executors c.args.world.channels in
     let moves = c.args.moves.now in
     let i = c.loop-step.step-index in
     let so_far = c.loop-step.invariant in
@@ -26,7 +26,7 @@ loop-step-preserved g c =
 
 pub returns-clause-replayed : goal.returns-clause-replayed
 returns-clause-replayed g c =
-    let plan = planned g.S.Stage.meaning c.args.capacity c.args.world.executors c.args.world.channels in
+    let plan = planned g.S.Stage.meaning g.T.Transport.state c.args.capacity c.args.world.executors c.args.world.channels in
     let moves = c.args.moves.now in
     let so_far = c.loop-step.invariant in
     let now = so_far.stands.0 in
@@ -42,7 +42,7 @@ returns-clause-replayed g c =
 
 pub returns-in_err-apply-clause-no_such : goal.returns-in_err-apply-clause-no_such
 returns-in_err-apply-clause-no_such g c = λ is.
-    let plan = planned g.S.Stage.meaning c.args.capacity c.args.world.executors c.args.world.channels in
+    let plan = planned g.S.Stage.meaning g.T.Transport.state c.args.capacity c.args.world.executors c.args.world.channels in
     let so_far = c.loop-step.invariant in
     let within : c.loop-step.step-index < length c.args.moves.now = omega arith in
     there_stops plan c.args.moves.now c.loop-step.step-index _ within (c.apply.ensures.no_such (search rules) plan so_far.stands.0 so_far.stands.2)

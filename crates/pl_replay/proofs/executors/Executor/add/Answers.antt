@@ -1,7 +1,7 @@
 use Rattle.std.proofs.Common.{◌<◌, sym, ap, ◌∙◌, refl, arith, List, ◌++◌, ◌∷◌, []}
 use Rattle.std.proofs.lemmas.List.{map-append}
 use Rattle.pl_event.specs.declared.envelopes.Envelope.{Envelope}
-use Rattle.pl_replay.specs.MadeItems.{Place}
+use Rattle.pl_channel.specs.MadeItems.{Place}
 use Rattle.pl_replay.specs.BacklogStand.{Aged}
 use Rattle.pl_replay.proofs.Backlogs.{waiting-at, waiting-few, waiting-place, set-stands-more}
 use Rattle.pl_replay.proofs.executors.Executor.add.Goals as goal

@@ -1,6 +1,6 @@
 use Rattle.std.proofs.Common.{◌<◌, ap, ◌∙◌, refl, arith, List}
 use Rattle.std.specs.List.{remove}
-use Rattle.pl_replay.specs.MadeItems.{Place}
+use Rattle.pl_channel.specs.MadeItems.{Place}
 use Rattle.pl_replay.specs.BacklogStand.{Aged}
 use Rattle.pl_replay.proofs.Firsts.{remove-map}
 use Rattle.pl_replay.proofs.Backlogs.{waiting-at, aged-first, front-envelope, set-stands-less}

@@ -15,43 +15,46 @@ oldest_target-requires-clause-stand g c =
       lanes_between w.0,
       w.1,
       subst (λ (l : List Executor). ExecutorsStand w.0 (lanes_between w.0) w.1 l) (sym c.as_mut_slice.ensures.value)
-          (executors_stand g.S.Stage.meaning g.S.Stage.stands_after w.0 w.1 c.args.self.now w.2),
+          (executors_stand g.S.Stage.meaning g.S.Stage.stands_after g.T.Transport.state w.0 w.1 c.args.self.now w.2),
     )
 
 pub hand_to-requires : goal.hand_to-requires
 hand_to-requires g c =
     let meaning = g.S.Stage.meaning in
     let stands = g.S.Stage.stands_after in
+    let state = g.T.Transport.state in
     let w = c.requires.stands in
     let core = c.args.self.now in
-    let stand = subst (λ (l : List Executor). ExecutorsStand w.0 (lanes_between w.0) w.1 l) (sym c.as_mut_slice.ensures.value) (executors_stand meaning stands w.0 w.1 core w.2) in
-    let oldest = c.in-Some.ensures.oldest w.0 (lanes_between w.0) w.1 (sym w.2.holds.capacity) stand (backlog_targets meaning stands w.0 w.1 core w.2 c.args.executor) in
-    let after : Core g.row.S.Denot = record core { executors = with_items core.executors c.oldest_target.new.executors } in
+    let stand = subst (λ (l : List Executor). ExecutorsStand w.0 (lanes_between w.0) w.1 l) (sym c.as_mut_slice.ensures.value) (executors_stand meaning stands state w.0 w.1 core w.2) in
+    let oldest = c.in-Some.ensures.oldest w.0 (lanes_between w.0) w.1 (sym w.2.holds.capacity) stand (backlog_targets meaning stands state w.0 w.1 core w.2 c.args.executor) in
+    let after : Core g.row.S.Denot g.row.T.Denot = record core { executors = with_items core.executors c.oldest_target.new.executors } in
     let kept = subst (λ (l : List Executor). AllKeep l c.oldest_target.new.executors) c.as_mut_slice.ensures.value c.oldest_target.ensures.keep in
     let keep = subst (λ (l : List Executor). AllKeep core.executors.items l) (sym (with_items_is core.executors c.oldest_target.new.executors (kept.count ∙ sym core.executors.ok.0))) kept in
-    (w.0, w.1, kept_stands meaning stands w.0 w.1 core after w.2 refl refl refl keep, oldest)
+    (w.0, w.1, kept_stands meaning stands state w.0 w.1 core after w.2 refl refl refl keep, oldest)
 
 pub returns-in-None : goal.returns-in-None
 returns-in-None g c = λ plan s r.
     let meaning = g.S.Stage.meaning in
     let stands = g.S.Stage.stands_after in
+    let state = g.T.Transport.state in
     let core = c.args.self.now in
-    let stand = subst (λ (l : List Executor). ExecutorsStand plan (lanes_between plan) s l) (sym c.as_mut_slice.ensures.value) (executors_stand meaning stands plan s core r) in
-    let oldest = c.in-None.ensures.oldest plan (lanes_between plan) s (sym r.holds.capacity) stand (backlog_targets meaning stands plan s core r c.args.executor) in
-    let after : Core g.row.S.Denot = record core { executors = with_items core.executors c.oldest_target.new.executors } in
+    let stand = subst (λ (l : List Executor). ExecutorsStand plan (lanes_between plan) s l) (sym c.as_mut_slice.ensures.value) (executors_stand meaning stands state plan s core r) in
+    let oldest = c.in-None.ensures.oldest plan (lanes_between plan) s (sym r.holds.capacity) stand (backlog_targets meaning stands state plan s core r c.args.executor) in
+    let after : Core g.row.S.Denot g.row.T.Denot = record core { executors = with_items core.executors c.oldest_target.new.executors } in
     let kept = subst (λ (l : List Executor). AllKeep l c.oldest_target.new.executors) c.as_mut_slice.ensures.value c.oldest_target.ensures.keep in
     let keep = subst (λ (l : List Executor). AllKeep core.executors.items l) (sym (with_items_is core.executors c.oldest_target.new.executors (kept.count ∙ sym core.executors.ok.0))) kept in
-    hand_none meaning stands plan s core after c.args.executor (kept_stands meaning stands plan s core after r refl refl refl keep) oldest
+    hand_none meaning stands state plan s core after c.args.executor (kept_stands meaning stands state plan s core after r refl refl refl keep) oldest
 
 pub returns-in_ok-hand_to-in-Some : goal.returns-in_ok-hand_to-in-Some
 returns-in_ok-hand_to-in-Some g c = λ plan s r.
     let meaning = g.S.Stage.meaning in
     let stands = g.S.Stage.stands_after in
+    let state = g.T.Transport.state in
     let core = c.args.self.now in
-    let stand = subst (λ (l : List Executor). ExecutorsStand plan (lanes_between plan) s l) (sym c.as_mut_slice.ensures.value) (executors_stand meaning stands plan s core r) in
-    let oldest = c.in-Some.ensures.oldest plan (lanes_between plan) s (sym r.holds.capacity) stand (backlog_targets meaning stands plan s core r c.args.executor) in
-    let after : Core g.row.S.Denot = record core { executors = with_items core.executors c.oldest_target.new.executors } in
+    let stand = subst (λ (l : List Executor). ExecutorsStand plan (lanes_between plan) s l) (sym c.as_mut_slice.ensures.value) (executors_stand meaning stands state plan s core r) in
+    let oldest = c.in-Some.ensures.oldest plan (lanes_between plan) s (sym r.holds.capacity) stand (backlog_targets meaning stands state plan s core r c.args.executor) in
+    let after : Core g.row.S.Denot g.row.T.Denot = record core { executors = with_items core.executors c.oldest_target.new.executors } in
     let kept = subst (λ (l : List Executor). AllKeep l c.oldest_target.new.executors) c.as_mut_slice.ensures.value c.oldest_target.ensures.keep in
     let keep = subst (λ (l : List Executor). AllKeep core.executors.items l) (sym (with_items_is core.executors c.oldest_target.new.executors (kept.count ∙ sym core.executors.ok.0))) kept in
-    hand_some meaning stands plan s c.hand_to.new.self c.args.executor oldest.0 oldest.1
-    (c.in_ok-hand_to-in-Some.ensures plan s (kept_stands meaning stands plan s core after r refl refl refl keep) oldest)
+    hand_some meaning stands state plan s c.hand_to.new.self c.args.executor oldest.0 oldest.1
+    (c.in_ok-hand_to-in-Some.ensures plan s (kept_stands meaning stands state plan s core after r refl refl refl keep) oldest)

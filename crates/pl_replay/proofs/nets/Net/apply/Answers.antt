@@ -18,22 +18,22 @@ make-requires g c =
 
 pub returns-clause-made : goal.returns-clause-made
 returns-clause-made g c = λ plan s r.
-    let shown = sym (ap (λ (v : NetView g.row.S.Denot). v.core) c.self.view_is) in
-    let moves = moves_shown g.S.Stage.meaning g.S.Stage.stands_after plan s c.args.step c.in_ok-made.made c.args.self.now.core c.self.inside.core c.make.new.self shown r.core c.in_ok-made.ensures in
+    let shown = sym (ap (λ (v : NetView g.row.S.Denot g.row.T.Denot). v.core) c.self.view_is) in
+    let moves = moves_shown g.S.Stage.meaning g.S.Stage.stands_after g.T.Transport.state plan s c.args.step c.in_ok-made.made c.args.self.now.core c.self.inside.core c.make.new.self shown r.core c.in_ok-made.ensures in
     (moves.0, (moves.1.0, moves.1.1, record { live = refl; core = moves.1.2 }))
 
 pub returns-clause-unmoved : goal.returns-clause-unmoved
 returns-clause-unmoved g c = λ answer plan s r.
-    let shown = sym (ap (λ (v : NetView g.row.S.Denot). v.core) c.self.view_is) in
-    let moves = moves_shown g.S.Stage.meaning g.S.Stage.stands_after plan s c.args.step c.in_ok-made.made c.args.self.now.core c.self.inside.core c.make.new.self shown r.core c.in_ok-made.ensures in
+    let shown = sym (ap (λ (v : NetView g.row.S.Denot g.row.T.Denot). v.core) c.self.view_is) in
+    let moves = moves_shown g.S.Stage.meaning g.S.Stage.stands_after g.T.Transport.state plan s c.args.step c.in_ok-made.made c.args.self.now.core c.self.inside.core c.make.new.self shown r.core c.in_ok-made.ensures in
     let unmade : c.in_ok-made.made ≡ false = cc in
     record {
       live = refl;
-      core = subst (λ (t : State). CoreStands g.S.Stage.meaning g.S.Stage.stands_after plan t c.make.new.self) (moves.1.1.1 (sym moves.0 ∙ unmade)) moves.1.2;
+      core = subst (λ (t : State). CoreStands g.S.Stage.meaning g.S.Stage.stands_after g.T.Transport.state plan t c.make.new.self) (moves.1.1.1 (sym moves.0 ∙ unmade)) moves.1.2;
     }
 
 pub returns-clause-there : goal.returns-clause-there
 returns-clause-there g c = λ plan s r off.
-    let shown = sym (ap (λ (v : NetView g.row.S.Denot). v.core) c.self.view_is) in
-    let on : false ≡ true = sym off ∙ sym (c.is_there.ensures plan s (subst (λ (core : Core g.row.S.Denot). CoreStands g.S.Stage.meaning g.S.Stage.stands_after plan s core) shown r.core)) ∙ c.if-not-is_there.false in
+    let shown = sym (ap (λ (v : NetView g.row.S.Denot g.row.T.Denot). v.core) c.self.view_is) in
+    let on : false ≡ true = sym off ∙ sym (c.is_there.ensures plan s (subst (λ (core : Core g.row.S.Denot g.row.T.Denot). CoreStands g.S.Stage.meaning g.S.Stage.stands_after g.T.Transport.state plan s core) shown r.core)) ∙ c.if-not-is_there.false in
     absurd (cc on)

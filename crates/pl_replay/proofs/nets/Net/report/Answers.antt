@@ -7,15 +7,15 @@ use Rattle.pl_replay.proofs.nets.Net.report.Goals as goal
 pub returns-clause-stands : goal.returns-clause-stands
 returns-clause-stands g c =
     let was = c.self.invariant c.if-self.false in
-    (was.0, was.1, subst (λ (net : NetView g.row.S.Denot). NetStands g.S.Stage.meaning g.S.Stage.stands_after was.0 was.1 net) c.self.view_is (record { live = c.if-self.false; core = was.2 }))
+    (was.0, was.1, subst (λ (net : NetView g.row.S.Denot g.row.T.Denot). NetStands g.S.Stage.meaning g.S.Stage.stands_after g.T.Transport.state was.0 was.1 net) c.self.view_is (record { live = c.if-self.false; core = was.2 }))
 
 pub returns-clause-report : goal.returns-clause-report
 returns-clause-report g c = λ plan s r.
-    let shown = sym (ap (λ (v : NetView g.row.S.Denot). v.core) c.self.view_is) in
-    c.in_ok-channels.ensures plan s (subst (λ (core : Core g.row.S.Denot). CoreStands g.S.Stage.meaning g.S.Stage.stands_after plan s core) shown r.core)
+    let shown = sym (ap (λ (v : NetView g.row.S.Denot g.row.T.Denot). v.core) c.self.view_is) in
+    c.in_ok-channels.ensures plan s (subst (λ (core : Core g.row.S.Denot g.row.T.Denot). CoreStands g.S.Stage.meaning g.S.Stage.stands_after g.T.Transport.state plan s core) shown r.core)
 
 pub returns-clause-kept : goal.returns-clause-kept
 returns-clause-kept g c = λ plan s r.
-    let shown = sym (ap (λ (v : NetView g.row.S.Denot). v.core) c.self.view_is) in
-    let here = subst (λ (core : Core g.row.S.Denot). CoreStands g.S.Stage.meaning g.S.Stage.stands_after plan s core) shown r.core in
-    reported_kept g.S.Stage.meaning g.S.Stage.stands_after plan s c.self.inside.core here c.in_ok-channels.channels (c.in_ok-channels.ensures plan s here)
+    let shown = sym (ap (λ (v : NetView g.row.S.Denot g.row.T.Denot). v.core) c.self.view_is) in
+    let here = subst (λ (core : Core g.row.S.Denot g.row.T.Denot). CoreStands g.S.Stage.meaning g.S.Stage.stands_after g.T.Transport.state plan s core) shown r.core in
+    reported_kept g.S.Stage.meaning g.S.Stage.stands_after g.T.Transport.state plan s c.self.inside.core here c.in_ok-channels.channels (c.in_ok-channels.ensures plan s here)

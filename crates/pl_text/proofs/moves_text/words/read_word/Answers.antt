@@ -1,7 +1,7 @@
 use Rattle.std.proofs.Common.{◌≡◌, ◌++◌, decimal}
 use Rattle.pl_text.specs.declared.moves_text.words.Letter.TheVariants as letter
-use Rattle.pl_replay.specs.declared.moves.Move.{Move}
-use Rattle.pl_replay.specs.declared.moves.Move.TheVariants as step
+use Rattle.pl_world.specs.declared.moves.Move.{Move}
+use Rattle.pl_world.specs.declared.moves.Move.TheVariants as step
 use Rattle.pl_text.specs.MovesTexts.{move_text, count_text}
 use Rattle.pl_text.proofs.moves_text.words.read_word.Goals as goal
 

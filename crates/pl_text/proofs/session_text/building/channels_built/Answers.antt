@@ -8,8 +8,10 @@ use Rattle.std.proofs.lemmas.List.Elements.{All-push}
 use Rattle.pl_build.specs.Executors.{sizes_of}
 use Rattle.pl_build.specs.Refusals.{executor_count}
 use Rattle.pl_stages.specs.declared.handlers.Handler.{Handler}
-use Rattle.pl_replay.specs.declared.session.Recorded.{Recorded}
-use Rattle.pl_replay.specs.Plans.{channel_planned}
+use Rattle.pl_head.specs.Transports.{Store}
+use Rattle.pl_head.specs.contracts.transports.MemoryTransportTransport.TheImpl.{state-value}
+use Rattle.pl_world.specs.declared.session.Recorded.{Recorded}
+use Rattle.pl_world.specs.Plans.{channel_planned}
 use Rattle.pl_text.specs.SessionWorlds.{FitsWorld}
 use Rattle.pl_text.specs.SessionOutlines.{IsChannelOutlineWithin}
 use Rattle.pl_text.proofs.ChannelRuns.{begins, pushed, stops, ends, all_first, nil_from_length}
@@ -21,9 +23,9 @@ loop-channel-init c =
     let all = same ∙ c.into_vec-channel-items.ensures in
     record {
       within = subst (AllByRecursion IsChannelOutlineWithin) (sym all) c.requires.within;
-      under_way = begins c.args.groups.now _ c.args.channels _ (ap (map (channel_planned meaning-value.it)) c.in_ok-built.ensures.items) all c.requires.unused;
+      under_way = begins c.args.groups.now _ c.args.channels _ (ap (map (channel_planned meaning-value.it state-value.it)) c.in_ok-built.ensures.items) all c.requires.unused;
       same = (refl, refl);
-      fit = subst (λ (t : List (Recorded Handler)). All (FitsWorld (executor_count c.args.groups.now.loops (sizes_of c.args.groups.now))) t) (sym c.in_ok-built.ensures.items) (λ k d below. absurd (omega (arith, below)));
+      fit = subst (λ (t : List (Recorded Handler Store)). All (FitsWorld state-value.it (executor_count c.args.groups.now.loops (sizes_of c.args.groups.now))) t) (sym c.in_ok-built.ensures.items) (λ k d below. absurd (omega (arith, below)));
     }
 
 pub channel_built-requires : goal.channel_built-requires
@@ -34,16 +36,16 @@ loop-channel-preserved c =
     let built = c.in_ok-channel_built.ensures in
     let same = c.loop-channel.invariant.same in
     let made = c.in_ok-channel_built.field-0 in
-    let Fits : Recorded Handler → Type 0 = FitsWorld (executor_count c.args.groups.now.loops (sizes_of c.args.groups.now)) in
+    let Fits : Recorded Handler Store → Type 0 = FitsWorld state-value.it (executor_count c.args.groups.now.loops (sizes_of c.args.groups.now)) in
     let count : executor_count c.loop-channel.groups.loops (sizes_of c.loop-channel.groups) ≡ executor_count c.args.groups.now.loops (sizes_of c.args.groups.now) = ap₂ executor_count same.0 same.1 in
     let next : into_iter_items c.loop-channel.channel-iterator ≡ c.in-Some.channel ∷ into_iter_items c.next.new.self = c.in-Some.ensures.steps.0 in
     record {
       within = (all_first c.in-Some.channel _ _ c.in-Some.ensures.steps.0 c.loop-channel.invariant.within).1;
-      under_way = pushed meaning-value.it c.loop-channel.groups c.channel_built.new.groups c.loop-channel.built.items c.push.new.self.items c.in-Some.channel _ _ c.in_ok-channel_built.field-0 _ built.same_groups built.built next c.in_ok-push.ensures.items c.loop-channel.invariant.under_way;
+      under_way = pushed meaning-value.it state-value.it c.loop-channel.groups c.channel_built.new.groups c.loop-channel.built.items c.push.new.self.items c.in-Some.channel _ _ c.in_ok-channel_built.field-0 _ built.same_groups built.built next c.in_ok-push.ensures.items c.loop-channel.invariant.under_way;
       same = (built.same_groups.0 ∙ same.0, built.same_groups.1 ∙ same.1);
       fit =
-          subst (λ (t : List (Recorded Handler)). All Fits t) (sym c.in_ok-push.ensures.items)
-          (All-push Fits c.loop-channel.built.items made c.loop-channel.invariant.fit (subst (λ (n : ℕ). FitsWorld n made) count built.fits));
+          subst (λ (t : List (Recorded Handler Store)). All Fits t) (sym c.in_ok-push.ensures.items)
+          (All-push Fits c.loop-channel.built.items made c.loop-channel.invariant.fit (subst (λ (n : ℕ). FitsWorld state-value.it n made) count built.fits));
     }
 
 pub returns-in_err-channel_built-clause-built : goal.returns-in_err-channel_built-clause-built
@@ -54,4 +56,4 @@ returns-in_err-channel_built-clause-built c =
 pub returns-clause-built : goal.returns-clause-built
 returns-clause-built c =
     let last = nil_from_length c.loop-channel.channel-iterator.rest.items (omega (arith, c.loop-channel.channel-iterator.rest.ok.0, c.in-None.ensures.steps.0)) in
-    ends c.loop-channel.groups (map (channel_planned meaning-value.it) c.loop-channel.built.items) _ _ last c.loop-channel.invariant.under_way ∙ ap (λ (rs : List _). Ok (map (channel_planned meaning-value.it) rs)) (sym c.from_vec.ensures)
+    ends c.loop-channel.groups (map (channel_planned meaning-value.it state-value.it) c.loop-channel.built.items) _ _ last c.loop-channel.invariant.under_way ∙ ap (λ (rs : List _). Ok (map (channel_planned meaning-value.it state-value.it) rs)) (sym c.from_vec.ensures)

@@ -1,9 +1,10 @@
-use Rattle.std.proofs.Common.{◌≡◌, [], ℕ, List, length, map, sym, subst, ◌∙◌, arith}
+use Rattle.std.proofs.Common.{[], ℕ, map, sym, subst, arith}
 use Rattle.std.specs.Prelude.{All}
 use Rattle.std.proofs.lemmas.List.{length-map}
 use Rattle.pl_build.specs.Executors.{sizes_of}
+use Rattle.pl_head.specs.contracts.transports.MemoryTransportTransport.TheImpl.{state-value}
 use Rattle.pl_stages.specs.contracts.handlers.HandlerStage.TheImpl.{meaning-value}
-use Rattle.pl_replay.specs.Plans.{channel_planned}
+use Rattle.pl_world.specs.Plans.{channel_planned}
 use Rattle.pl_text.specs.SessionWorlds.{FitsWorld}
 use Rattle.pl_text.proofs.SessionWorldSteps.{channels_built-size}
 use Rattle.pl_text.proofs.session_text.building.session_built.Goals as goal
@@ -12,9 +13,9 @@ pub world_built-requires : goal.world_built-requires
 world_built-requires c =
     let groups = c.in_ok-groups.groups in
     let channels = c.in_ok-channels.channels in
-    let size = channels_built-size groups.loops (sizes_of groups) [] c.args.outline.channels (map (channel_planned meaning-value.it) channels) c.in_ok-channels.ensures.built in
+    let size = channels_built-size groups.loops (sizes_of groups) [] c.args.outline.channels (map (channel_planned meaning-value.it state-value.it) channels) c.in_ok-channels.ensures.built in
     record {
       executors_at_most = c.executors-executors.ensures.within;
-      channels_at_most = omega (arith, size, length-map channels (channel_planned meaning-value.it), c.requires.channels_at_most);
-      each = subst (λ (n : ℕ). All (FitsWorld n) channels) (sym c.executors-executors.ensures.count) c.in_ok-channels.ensures.fit;
+      channels_at_most = omega (arith, size, length-map channels (channel_planned meaning-value.it state-value.it), c.requires.channels_at_most);
+      each = subst (λ (n : ℕ). All (FitsWorld state-value.it n) channels) (sym c.executors-executors.ensures.count) c.in_ok-channels.ensures.fit;
     }

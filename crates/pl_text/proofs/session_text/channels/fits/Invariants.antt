@@ -1,5 +1,5 @@
 use Rattle.std.proofs.Common.{◌≡◌, ◌+◌, take}
-use Rattle.pl_replay.specs.Limits.{chunk_count, byte_count}
+use Rattle.pl_world.specs.Limits.{chunk_count, byte_count}
 use Rattle.pl_text.proofs.session_text.channels.fits.Given as goal
 
 abbrev pub invariant-loop-burst : goal.invariant-loop-burst

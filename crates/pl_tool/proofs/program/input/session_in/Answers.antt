@@ -1,5 +1,6 @@
 use Rattle.std.proofs.Common.{arith}
-use Rattle.pl_replay.specs.Sessions.{plan_of}
+use Rattle.pl_head.specs.contracts.transports.MemoryTransportTransport.TheImpl.{state-value}
+use Rattle.pl_world.specs.Sessions.{plan_of}
 use Rattle.pl_stages.specs.contracts.handlers.HandlerStage.TheImpl.{meaning-value}
 use Rattle.pl_text.specs.SessionReading.{seen}
 use Rattle.pl_tool.proofs.ProgramInputs.{no_text_means, text_means}
@@ -7,7 +8,7 @@ use Rattle.pl_tool.proofs.program.input.session_in.Goals as goal
 
 pub returns-in-Ok : goal.returns-in-Ok
 returns-in-Ok c =
-    text_means c.args.input.now c.in-Ok.text.now (seen (plan_of meaning-value.it) c.read_session.result) (omega arith) c.in-Ok.ensures.cases c.read_session.ensures.meaning
+    text_means c.args.input.now c.in-Ok.text.now (seen (plan_of meaning-value.it state-value.it) c.read_session.result) (omega arith) c.in-Ok.ensures.cases c.read_session.ensures.meaning
 
 pub returns-in-Err : goal.returns-in-Err
 returns-in-Err c _ = no_text_means c.args.input.now (omega arith) c.in-Err.ensures.cases.0

@@ -1,0 +1,10 @@
+pub mod ContextStand
+pub mod Envelopes
+pub mod HeadStand
+pub mod MadeItems
+pub mod NodeStand
+pub mod TailStand
+pub mod Unstopped
+pub mod ChannelMoves
+pub mod ChannelStand
+pub mod ChannelStates

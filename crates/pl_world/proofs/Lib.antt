@@ -1,0 +1,6 @@
+pub mod ChainSteps
+pub mod Parting
+pub mod PathLanes
+pub mod SettledWrites
+pub mod WorldLimits
+pub mod SmallLanes

@@ -1,0 +1,160 @@
+-- The lanes of stages that make no more than they take are small, since each byte of the input makes few events. Built-in
+-- handlers are such stages.
+use Rattle.std.proofs.Common.{◌≡◌, get_or, ℕ, zero, suc, ◌+◌, ◌-◌, ◌*◌, ◌<◌, ◌≤◌, ◌^◌, ◌&&◌, nat_le, Bool, true, false, cond, leb, List, [], ◌∷◌, length, take, map, sum_by, ap, ◌∙◌, refl, arith}
+use Rattle.std.specs.Prelude.{All}
+use Rattle.std.specs.List.{flat_map}
+use Rattle.std.proofs.lemmas.List.Concat.{flat_map-cons}
+use Rattle.std.proofs.lemmas.Bool.{and_parts, leb-true}
+use Rattle.std.proofs.lemmas.List.Elements.{All-head, All-tail, All-map}
+use Rattle.std.proofs.lemmas.List.Sums.{sum_by-cons, sum_by-append}
+use Rattle.pl_event.specs.declared.events.Event.{Event}
+use Rattle.pl_event.specs.declared.events.Event.TheVariants.{Active, Read, ReadComplete}
+use Rattle.pl_event.specs.declared.events.Message.TheVariants.{Bytes}
+use Rattle.pl_event.specs.declared.stages.Direction.{Direction}
+use Rattle.pl_event.specs.declared.stages.Direction.TheVariants.{Inbound, Outbound, Turn}
+use Rattle.pl_event.specs.Meaning.{Meaning, up_of, down_of}
+use Rattle.pl_event.specs.Paths.{is_outbound}
+use Rattle.pl_event.specs.Inputs.{burst_events, recorded_input}
+use Rattle.pl_event.specs.Lanes.{lane, through, out_through, written}
+use Rattle.pl_stages.specs.Counts.{IsThrifty, event_weight, weight, line_framing-thrifty, command_decoding-thrifty, line_ending-thrifty, reply_encoding-thrifty, line_service-thrifty, flush_every-thrifty}
+use Rattle.pl_stages.specs.declared.handlers.Handler.{Handler}
+use Rattle.pl_stages.specs.declared.handlers.Handler.TheVariants as handler
+use Rattle.pl_stages.specs.contracts.handlers.HandlerStage.TheImpl.{meaning-value}
+use Rattle.pl_build.specs.Pipelines.{Path}
+use Rattle.pl_build.specs.Paths.{IsPath}
+use Rattle.pl_head.specs.Transports.{TransportState}
+use Rattle.pl_world.specs.declared.session.Recorded.{Recorded}
+use Rattle.pl_world.specs.Plans.{channel_planned}
+use Rattle.pl_world.specs.PlanRules.{IsSmallChannel}
+use Rattle.pl_world.specs.Limits.{chunk_count, byte_count, fits, is_within}
+use Rattle.pl_world.specs.Worlds.{recorded}
+use Rattle.pl_world.proofs.WorldLimits.{Inputs, all_recorded, all_true, all_any, within_parts}
+
+-- ---- the recorded input
+
+chunks_weight : (chunks : List (List ℕ)) → weight (map (λ chunk. Read (Bytes chunk)) chunks) ≡ length chunks + sum_by length chunks
+chunks_weight [] = refl
+chunks_weight (chunk ∷ chunks) =
+    let more = sum_by-cons length chunk chunks in
+    let event = sum_by-cons event_weight (Read (Bytes chunk)) (map (λ c. Read (Bytes c)) chunks) in
+    omega (arith, more, event, chunks_weight chunks)
+
+burst_weight : (chunks : List (List ℕ)) → weight (burst_events chunks) ≡ length chunks + sum_by length chunks + 1
+burst_weight chunks =
+    let split = sum_by-append event_weight (map (λ chunk. Read (Bytes chunk)) chunks) (ReadComplete ∷ []) in
+    omega (arith, split, chunks_weight chunks)
+
+bursts_weight : (bursts : List (List (List ℕ))) → weight (flat_map burst_events bursts) ≡ chunk_count bursts + byte_count bursts + length bursts
+bursts_weight [] = refl
+bursts_weight (chunks ∷ bursts) =
+    let counts : chunk_count (chunks ∷ bursts) ≡ length chunks + chunk_count bursts = sum_by-cons length chunks bursts in
+    let sizes : byte_count (chunks ∷ bursts) ≡ sum_by length chunks + byte_count bursts = sum_by-cons (sum_by length) chunks bursts in
+    let split = ap weight (flat_map-cons burst_events chunks bursts) ∙ sum_by-append event_weight (burst_events chunks) (flat_map burst_events bursts) in
+    omega (arith, counts, sizes, split, burst_weight chunks, bursts_weight bursts)
+
+input_weight : (bursts : List (List (List ℕ))) → weight (recorded_input bursts) ≡ chunk_count bursts + byte_count bursts + length bursts + 1
+input_weight bursts =
+    let active = sum_by-cons event_weight Active (flat_map burst_events bursts) in
+    omega (arith, active, bursts_weight bursts)
+
+-- ---- lanes
+
+length-weight-le : (xs : List Event) → length xs ≤ weight xs
+length-weight-le [] = omega arith
+length-weight-le (x ∷ xs) = omega (arith, sum_by-cons event_weight x xs, length-weight-le xs)
+
+through_small : (ms : List Meaning) (n : ℕ) (xs : List Event) → All IsThrifty ms → weight (through (take n ms) xs) ≤ weight xs
+through_small [] zero xs all = omega arith
+through_small [] (suc n) xs all = omega arith
+through_small (m ∷ ms) zero xs all = omega arith
+through_small (m ∷ ms) (suc n) xs all =
+    let rest = through_small ms n (up_of m xs) (All-tail IsThrifty m ms all) in
+    let here = (All-head IsThrifty m ms all).upwards xs in
+    omega (arith, rest, here)
+
+written_by : (d : Direction) (turned passed : List Event) (n : ℕ) → length turned ≤ n → length passed ≤ n → length (elim d as (λ _. List Event) [ Turn ↦ turned | Inbound ↦ passed | Outbound ↦ passed ]) ≤ n
+written_by Turn turned passed n h k = h
+written_by Inbound turned passed n h k = k
+written_by Outbound turned passed n h k = k
+
+written_small : (ms : List Meaning) (xs : List Event) → All IsThrifty ms → length (written ms xs) ≤ 2 * weight xs
+written_small [] xs all = omega arith
+written_small (m ∷ ms) xs all =
+    let head = All-head IsThrifty m ms all in
+    let below = head.downwards xs in
+    let long = length-weight-le xs in
+    let rest = written_small ms (up_of m xs) (All-tail IsThrifty m ms all) in
+    let here = head.upwards xs in
+    written_by m.direction (down_of m xs) (written ms (up_of m xs)) (2 * weight xs) (omega (arith, below, long)) (omega (arith, rest, here))
+
+out_small : (ms : List Meaning) (n : ℕ) (xs : List Event) → All IsThrifty ms → All (λ m. m.direction ≡ Outbound) ms → length (out_through (take n ms) xs) ≤ length xs
+out_small [] zero xs all out = omega arith
+out_small [] (suc n) xs all out = omega arith
+out_small (m ∷ ms) zero xs all out = omega arith
+out_small (m ∷ ms) (suc n) xs all out =
+    let rest = out_small ms n (down_of m xs) (All-tail IsThrifty m ms all) (All-tail (λ (o : Meaning). o.direction ≡ Outbound) m ms out) in
+    let here = (All-head IsThrifty m ms all).outbound (All-head (λ (o : Meaning). o.direction ≡ Outbound) m ms out) xs in
+    omega (arith, rest, here)
+
+lane_small : (inbound outbound : List Meaning) (xs : List Event) (hop : ℕ) → All IsThrifty inbound → All IsThrifty outbound → All (λ m. m.direction ≡ Outbound) outbound
+    → length (lane inbound outbound xs hop) ≤ 2 * weight xs
+lane_small inbound outbound xs hop thrifty below out =
+    let up = through_small inbound hop xs thrifty in
+    let long = length-weight-le (through (take hop inbound) xs) in
+    let down = out_small outbound (hop - length inbound - 1) (written inbound xs) below out in
+    let turned = written_small inbound xs thrifty in
+    elim (leb hop (length inbound)) as (λ (b : Bool). length (cond b (through (take hop inbound) xs) (out_through (take (hop - length inbound - 1) outbound) (written inbound xs))) ≤ 2 * weight xs) [
+      | true ↦ omega (arith, up, long)
+      | false ↦ omega (arith, down, turned)
+    ]
+
+-- each lane has few items, where the bursts are within their limits
+pub lanes_small : (inbound outbound : List Meaning) (bursts : List (List (List ℕ))) → All IsThrifty inbound → All IsThrifty outbound → All (λ m. m.direction ≡ Outbound) outbound → fits bursts ≡ true
+    → (hop : ℕ) → length (lane inbound outbound (recorded_input bursts) hop) + 1 < 2 ^ 31
+lanes_small inbound outbound bursts thrifty below out within hop =
+    let size = input_weight bursts in
+    let h = lane_small inbound outbound (recorded_input bursts) hop thrifty below out in
+    let few = nat_le (length bursts) 4096 in
+    let short = nat_le (chunk_count bursts) 16384 in
+    let parts = and_parts (few && short) (nat_le (byte_count bursts) 1048576) within in
+    let counts = and_parts few short parts.0 in
+    omega (arith, size, h, leb-true (length bursts) 4096 counts.0, leb-true (chunk_count bursts) 16384 counts.1, leb-true (byte_count bursts) 1048576 parts.1)
+
+-- ---- stages that make no more than they take
+
+is_out : (d : Direction) → is_outbound d ≡ true → d ≡ Outbound
+is_out Outbound e = refl
+is_out Inbound e = cc
+is_out Turn e = cc
+
+module _ {S T : Type 0} (meaning : S → Meaning) (stands_after : S → List Event → Type 0) (state : T → TransportState) (thrifty : (s : S) → IsThrifty (meaning s)) where
+  all_thrifty : (stages : List S) → All IsThrifty (map meaning stages)
+  all_thrifty stages = All-map IsThrifty meaning stages (λ k d below. thrifty (get_or stages k d))
+
+  all_out : (stages : List S) → All (λ s. is_outbound (meaning s).direction ≡ true) stages → All (λ m. m.direction ≡ Outbound) (map meaning stages)
+  all_out stages all = All-map (λ (m : Meaning). m.direction ≡ Outbound) meaning stages (λ k d below. is_out (meaning (get_or stages k d)).direction (all k d below))
+
+  -- within the limits of a world each of their lanes has few items
+  pub stages_small : (pipelines : List (Path S)) (inputs : Inputs) (transports : List T) (executors : ℕ) → is_within pipelines inputs transports executors ≡ true
+      → All (IsPath meaning stands_after) pipelines → All (λ (c : Recorded S T). IsSmallChannel (channel_planned meaning state c)) (recorded pipelines inputs transports)
+  stages_small pipelines inputs transports executors within kept =
+      all_recorded (λ (c : Recorded S T). IsSmallChannel (channel_planned meaning state c)) (IsPath meaning stands_after) (λ bursts. fits bursts ≡ true) (λ t. Unit {0})
+      (λ p bursts t path fit any. λ hop below.
+      lanes_small (map meaning p.inbound) (map meaning p.outbound) bursts (all_thrifty p.inbound) (all_thrifty p.outbound) (all_out p.outbound path.downwards) fit hop)
+      pipelines inputs transports kept (all_true fits inputs (within_parts pipelines inputs transports executors within).fit) (all_any transports)
+
+-- ---- handlers
+
+pub handler_thrifty : (h : Handler) → IsThrifty (meaning-value.it h)
+handler_thrifty (handler.Lines s) = line_framing-thrifty s.max
+handler_thrifty (handler.Decode s) = command_decoding-thrifty
+handler_thrifty (handler.LineEnd s) = line_ending-thrifty
+handler_thrifty (handler.Encode s) = reply_encoding-thrifty
+handler_thrifty (handler.FlushEvery s) = flush_every-thrifty s.n
+handler_thrifty (handler.Service s) = line_service-thrifty
+
+-- within the limits of a world each lane of built-in handlers has few items
+pub handlers_small : {T : Type 0} (stands_after : Handler → List Event → Type 0) (state : T → TransportState) (pipelines : List (Path Handler)) (inputs : Inputs) (transports : List T) (executors : ℕ)
+    → is_within pipelines inputs transports executors ≡ true → All (IsPath meaning-value.it stands_after) pipelines
+    → All (λ (c : Recorded Handler T). IsSmallChannel (channel_planned meaning-value.it state c)) (recorded pipelines inputs transports)
+handlers_small stands_after state = stages_small meaning-value.it stands_after state handler_thrifty

@@ -1,0 +1,11 @@
+use Rattle.std.proofs.Common.{◌≡◌, map, []}
+use Rattle.std.specs.Prelude.{All}
+use Rattle.pl_event.specs.Lanes.{out_through}
+use Rattle.pl_world.proofs.chains.feed_down.Given as goal
+
+-- the stages so far have taken the events, and the others nothing
+abbrev pub invariant-loop-stage : goal.invariant-loop-stage
+invariant-loop-stage g l = record {
+  made : l.events.items ≡ out_through (map g.S.Stage.meaning l.yielded) l.fn.events.items;
+  new : All (λ stage. g.S.Stage.stands_after stage []) l.stage-iterator.rest.items;
+}

@@ -1,0 +1,58 @@
+-- What a world plans: the capacity of its queues, its executors, and its channels, each with its path, its marks and
+-- its bursts of chunks.
+use Rattle.std.specs.Prelude.{ℕ, ◌+◌, List, length, map, Option}
+use Rattle.pl_event.specs.declared.events.Event.{Event}
+use Rattle.pl_event.specs.Meaning.{Meaning}
+use Rattle.pl_event.specs.Inputs.{recorded_input}
+use Rattle.pl_event.specs.Lanes.{lane}
+use Rattle.pl_head.specs.Transports.{TransportState}
+use Rattle.pl_world.specs.declared.session.Recorded.{Recorded}
+
+pub record ChannelPlan : Type 0 where
+  -- what the inbound handlers mean, the turn among them, from first to last
+  pub inbound : List Meaning
+  -- what the outbound handlers before the turn mean, the nearest to it first
+  pub outbound : List Meaning
+  -- the executor of each hop
+  pub executors : List ℕ
+  -- the marks, in bytes
+  pub low : ℕ
+  pub high : ℕ
+  -- how many bytes its transport accepts in a call that does not fail, of those it is offered; none where that is not known
+  pub window : Option ℕ
+  pub bursts : List (List (List ℕ))
+
+pub record Plan : Type 0 where
+  pub capacity : ℕ
+  pub executors : ℕ
+  pub channels : List ChannelPlan
+
+-- the plan of a recorded channel, where stages mean this and transports are in this state
+abbrev pub channel_planned : {S T : Type 0} → (S → Meaning) → (T → TransportState) → Recorded S T → ChannelPlan
+channel_planned meaning state r = record {
+  inbound = map meaning r.pipeline.inbound;
+  outbound = map meaning r.pipeline.outbound;
+  executors = r.pipeline.executors;
+  low = r.pipeline.low;
+  high = r.pipeline.high;
+  window = (state r.transport).window;
+  bursts = r.bursts;
+}
+
+-- the plan of recorded channels, with a capacity and a number of executors
+abbrev pub planned : {S T : Type 0} → (S → Meaning) → (T → TransportState) → ℕ → ℕ → List (Recorded S T) → Plan
+planned meaning state capacity executors channels =
+    record { capacity = capacity; executors = executors; channels = map (channel_planned meaning state) channels }
+
+-- ---- its lanes
+
+-- the hop that enters the tail, and the last, which enters the head
+abbrev pub tail_hop : ChannelPlan → ℕ
+tail_hop p = length p.inbound
+
+abbrev pub head_hop : ChannelPlan → ℕ
+head_hop p = length p.inbound + 1 + length p.outbound
+
+-- the content of the lane that a hop's lane has in all
+abbrev pub content : ChannelPlan → ℕ → List Event
+content p hop = lane p.inbound p.outbound (recorded_input p.bursts) hop
