@@ -1,7 +1,8 @@
 #!/usr/bin/env python3
 """Measures how the program's time and memory grow with its input.
 
-usage: bench/run.py [PROGRAM]     PROGRAM is crates/pl_main/out/pl_main, which `rt run` in crates/pl_main leaves there
+usage: bench/run.py [PROGRAM [TESTS]]     PROGRAM is crates/pl_main/out/pl_main, which `rt run` in crates/pl_main leaves
+there, and TESTS is crates/pl_head/out/pl_head_tests, which `rt test` in crates/pl_head leaves there
 
 Each workload is run at doubling sizes. Nothing here is a test: the ratios are read in one run, on one quiet machine,
 against the targets of README.md (each doubling of the work at most 2.3 times the time; at most 32 MiB and 200 bytes
@@ -26,8 +27,8 @@ def last(name, kind, group=None):
     return {**edit, "max": 8192} if kind == "lines" else edit
 
 
-def channel(bursts, kinds=LINE_PROTOCOL, groups={}):
-    return {"handlers": [last(f"{kind}{i}", kind, groups.get(kind)) for i, kind in enumerate(kinds)], "bursts": bursts}
+def channel(bursts, kinds=LINE_PROTOCOL, groups={}, **members):
+    return {"handlers": [last(f"{kind}{i}", kind, groups.get(kind)) for i, kind in enumerate(kinds)], "bursts": bursts, **members}
 
 
 def every_move(channels, outs):
@@ -110,6 +111,18 @@ def behind_full_queue(count):
     return placed(channels, "R0x2 H0x64 R1x2 " + " ".join(["H0x64 T2x64"] * rounds), 64, ["a", "b"])
 
 
+def byte_by_byte(count):
+    """So many bytes of messages that are nearly as long as a line can be, each byte written by an Out move of its own."""
+    message = 8189
+    return workload([channel([["ECHO " + "a" * (message - 3) + "\n"] * (count // message)], window=1)], count // message * message)
+
+
+def flags(count):
+    """So many bursts, each of which brings the pending bytes above the high mark; the write behind it brings them below."""
+    one = channel([[PING]] * count, low=1, high=2)
+    return placed([one], " ".join(["R0"] + ["R0 O0"] * count + ["R0"]))
+
+
 # name, what a size counts, how it is made, sizes
 WORKLOADS = [
     ("pings in 4,096 bursts", "bytes", pings, [2**16, 2**17, 2**18, 2**19, 2**20]),
@@ -123,6 +136,14 @@ WORKLOADS = [
     ("hand-overs at capacity 64", "moves", hand_overs(64), [125000, 250000, 500000, 1000000]),
     ("hand-overs at capacity 65,536", "moves", hand_overs(65536), [125000, 250000, 500000, 1000000]),
     ("a backlog behind a full queue", "items", behind_full_queue, [12500, 25000, 50000, 100000]),
+    ("messages written byte by byte", "bytes", byte_by_byte, [125000, 250000, 500000, 1000000]),
+    ("two flags for each burst", "bursts", flags, [512, 1024, 2048, 4096]),
+]
+
+# Loads that no session brings to a head: name, what a size counts, what its tests in pl_head are called, sizes.
+LOADS = [
+    ("one message through a window of one byte", "bytes", "load_tests::long_message_of_", [131072, 262144, 524288, 1048578]),
+    ("empty messages settled by one flush", "messages", "load_tests::empty_messages_", [21845, 43690, 87381, 174762]),
 ]
 
 
@@ -144,31 +165,40 @@ def peak_of(words, text):
     return int(run(["/usr/bin/time", "--quiet", "-f", "%M", *words], text).split()[-1]) * 1024
 
 
-def measure(program, made):
+def measure(commands):
     """The best time of each size, in seconds. The sizes take turns, so that what else the machine does meets all of them."""
-    best = [None] * len(made)
+    best = [None] * len(commands)
     for _ in range(ROUNDS):
-        for i, (text, moves, _) in enumerate(made):
-            spent = spent_by([program, "replay", "--moves", moves], text)
+        for i, (words, text) in enumerate(commands):
+            spent = spent_by(words, text)
             best[i] = spent if best[i] is None else min(best[i], spent)
     return best
 
 
 def main():
     program = sys.argv[1] if len(sys.argv) > 1 else os.path.join(ROOT, "crates/pl_main/out/pl_main")
+    tests = sys.argv[2] if len(sys.argv) > 2 else os.path.join(ROOT, "crates/pl_head/out/pl_head_tests")
     for name, unit, make, sizes in WORKLOADS:
         print(name)
         made = [make(size) for size in sizes]
-        show(program, unit, sizes, made, measure(program, made))
+        commands = [([program, "replay", "--moves", moves], text) for text, moves, _ in made]
+        show(unit, sizes, made, commands, measure(commands))
+    for name, unit, test, sizes in LOADS:
+        print(name)
+        for i, best in enumerate(bests := measure([([tests, f"{test}{size}"], b"") for size in sizes])):
+            print(f"  {sizes[i]:>8} {unit:<8} {best * 1000:>7.1f} ms{ratio(bests, i)}")
 
 
-def show(program, unit, sizes, made, best):
+def ratio(best, i):
+    return "" if i == 0 else f"  x{best[i] / best[i - 1]:.2f}"
+
+
+def show(unit, sizes, made, commands, best):
     for i, (size, (text, moves, held_bytes)) in enumerate(zip(sizes, made)):
-        ratio = "" if i == 0 else f"  x{best[i] / best[i - 1]:.2f}"
-        peak = peak_of([program, "replay", "--moves", moves], text)
+        peak = peak_of(*commands[i])
         allowed = 32 * 2**20 + 200 * held_bytes
         print(
-            f"  {size:>8} {unit:<8} in {len(text):>8} of text  {best[i] * 1000:>7.1f} ms{ratio:<7}"
+            f"  {size:>8} {unit:<8} in {len(text):>8} of text  {best[i] * 1000:>7.1f} ms{ratio(best, i):<7}"
             f"  peak {peak / 2**20:>5.1f} MiB of {allowed / 2**20:>6.1f} allowed"
         )
 
