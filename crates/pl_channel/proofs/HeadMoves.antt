@@ -1,5 +1,6 @@
 -- A head's read step and write, by the numbers of its channel.
-use Rattle.std.proofs.Common.{◌≡◌, ◌≢◌, ℕ, ◌+◌, ◌<◌, ◌≤◌, Bool, true, false, not, ◌&&◌, ◌||◌, Option, Some, None, List, ◌++◌, length, min, get_or, nat_lt, nat_le, refl, sym, ap, ap₂, subst, ◌∙◌, arith, inl, inr, append-nil}
+use Rattle.std.proofs.Common.{◌≡◌, ◌≢◌, ℕ, ◌+◌, ◌-◌, ◌^◌, ◌<◌, ◌≤◌, le_refl, Bool, true, false, not, ◌&&◌, ◌||◌, Option, Some, None, List, ◌++◌, length, min, get_or, nat_lt, nat_le, refl, sym, ap, ap₂, subst, ◌∙◌, arith, inl, inr, append-nil}
+use Rattle.std.specs.Prelude.{unwrap_or}
 use Rattle.std.specs.Option.{is_some}
 use Rattle.std.proofs.lemmas.Bool.{and_parts, ltb-true, cases_lt, lt-ltb, le-ltb, lt-leb, le-leb}
 use Rattle.pl_event.specs.declared.events.Event.{Event}
@@ -25,10 +26,11 @@ use Rattle.pl_head.specs.HeadStand.{HeadView, StandsAfter, waiting_at, is_idle, 
 use Rattle.pl_head.specs.HeadStand as head
 use Rattle.pl_world.specs.Plans.{ChannelPlan, content, head_hop}
 use Rattle.pl_channel.specs.MadeItems.{made_by_read}
-use Rattle.pl_channel.specs.ChannelStates.{ChannelState}
-use Rattle.pl_channel.specs.ChannelMoves.{at_head, has_closed, new_flags, can_read, can_write, is_held, IsAccepted, written}
+use Rattle.pl_channel.specs.ChannelStates.{ChannelState, has_failed}
+use Rattle.pl_channel.specs.ChannelMoves.{at_head, has_closed, taken_sound, failed, new_flags, can_read, can_write, is_held, IsAccepted, written}
 use Rattle.pl_channel.specs.Envelopes.{envelopes_of}
 use Rattle.pl_channel.specs.HeadStand.{HeadStands, failure_by}
+use Rattle.pl_channel.specs.ContextStand.{standing_by}
 use Rattle.pl_channel.proofs.InputSteps.{read-envelopes}
 use Rattle.pl_channel.proofs.FlagPlaces.{sent-places}
 use Rattle.pl_channel.proofs.PlacedLemmas.{over-by}
@@ -45,6 +47,10 @@ idle_can false a n = elim (cases_lt a n) [
   | inl below ↦ lt-leb n a below ∙ sym (ap (λ (b : Bool). not (b && true)) (lt-ltb a n below))
   | inr past ↦ le-leb n a past ∙ sym (ap (λ (b : Bool). not (b && true)) (le-ltb a n past))
 ]
+
+not-true : (b : Bool) → not b ≡ true → b ≡ false
+not-true true h = absurd (cc h)
+not-true false h = refl
 
 not_not : (b : Bool) → not (not b) ≡ b
 not_not true = refl
@@ -69,17 +75,29 @@ failed_now : (failed : Bool) → first_cause (failure_by failed) (Some Transport
 failed_now true = refl
 failed_now false = refl
 
+-- where its transport has not failed, all that it took was before that
+pub sound-taken : (p : ChannelPlan) (s : ChannelState) → has_failed s ≡ false → taken_sound p s ≡ get_or s.taken (head_hop p) 0
+sound-taken p s sound = by s.failed_at sound
+  where
+    by : (o : Option ℕ) → is_some o ≡ false → unwrap_or o (get_or s.taken (head_hop p) 0) ≡ get_or s.taken (head_hop p) 0
+    by None none = refl
+    by (Some n) none = absurd (cc none)
+
+-- a call more is counted
+one-call : (calls : ℕ) {count : ℕ} → count ≡ min calls (2 ^ 64 - 1) → counted count ≡ min (calls + 1) (2 ^ 64 - 1)
+one-call calls is = omega (arith, is)
+
 module _ {T : Type 0} (state : T → TransportState) (c : ℕ) (p : ChannelPlan) (s : ChannelState) (h : HeadView T) (was : HeadStands state c p s h) where
   abbrev ys : List Event
   ys = at_head p s
 
   over : is_over h.standing ≡ has_closed p s
-  over = ap is_over was.standing ∙ over-by (content p (head_hop p)) (get_or s.taken (head_hop p) 0)
+  over = ap is_over was.standing ∙ over-by (content p (head_hop p)) (taken_sound p s)
 
   idle_is : is_idle state h ys ≡ not (can_write p s)
   idle_is =
       ap₂ (λ (o : Option Cause) (n : ℕ). is_some o || nat_le (length (out ys)) n) was.failure was.accepted
-      ∙ idle_can s.has_failed s.accepted (length (out ys))
+      ∙ idle_can (has_failed s) s.accepted (length (out ys))
 
   -- ---- a read step
 
@@ -109,7 +127,9 @@ module _ {T : Type 0} (state : T → TransportState) (c : ℕ) (p : ChannelPlan)
     reads = stands;
     taken = was.taken;
     standing = was.standing;
+    before = was.before;
     stands = was.stands;
+    calls = was.calls;
     accepted = was.accepted;
     failure = was.failure;
     tied = was.tied;
@@ -183,9 +203,9 @@ module _ {T : Type 0} (state : T → TransportState) (c : ℕ) (p : ChannelPlan)
         wrote-items = sent.1
 
         -- so many bytes more are accepted
-        pub head-wrote : (state now.transport).failures ≡ (state h.transport).failures → now.failure ≡ first_cause h.failure (cause_of_step answer)
+        pub head-wrote : (state now.transport).calls ≡ counted (state h.transport).calls → (state now.transport).failures ≡ (state h.transport).failures → now.failure ≡ first_cause h.failure (cause_of_step answer)
             → StandsAfter state now ys (s.sizes ++ removed) → HeadStands state c p (written p s n) now
-        head-wrote sound failure stands = record {
+        head-wrote called sound failure stands = record {
           channel_is = ap (λ (v : HeadView T). v.channel) same ∙ was.channel_is;
           hop_is = ap (λ (v : HeadView T). v.hop) same ∙ was.hop_is;
           low = marks.low ∙ was.low;
@@ -194,9 +214,11 @@ module _ {T : Type 0} (state : T → TransportState) (c : ℕ) (p : ChannelPlan)
           reads = subst (InputStands p.bursts s.reads) (sym input_same) was.reads;
           taken = ap (λ (v : HeadView T). v.taken) same ∙ was.taken;
           standing = standing_same ∙ was.standing;
+          before = was.before;
           stands = subst (StandsAfter state now ys) sizes_are stands;
+          calls = called ∙ one-call s.calls was.calls;
           accepted = accepted_now;
-          failure = failure ∙ ap₂ (λ (o : Option Cause) (a : OutStep). first_cause o (cause_of_step a)) was.failure is ∙ first_or (failure_by s.has_failed);
+          failure = failure ∙ ap₂ (λ (o : Option Cause) (a : OutStep). first_cause o (cause_of_step a)) was.failure is ∙ first_or (failure_by (has_failed s));
           tied = λ failed. subst (λ (k : ℕ). 0 < k) (sym sound) (was.tied failed);
           flags_go_on = sent.0;
           lane = marks.lane ∙ was.lane;
@@ -204,10 +226,11 @@ module _ {T : Type 0} (state : T → TransportState) (c : ℕ) (p : ChannelPlan)
         }
 
     -- its transport has failed
-    pub head-failed : (answer : OutStep) → answer ≡ step.Failed → (state now.transport).accepted ≡ (state h.transport).accepted → (state now.transport).failures ≡ counted (state h.transport).failures
+    pub head-failed : can_write p s ≡ true → (state now.transport).calls ≡ counted (state h.transport).calls → (answer : OutStep) → answer ≡ step.Failed → (state now.transport).accepted ≡ (state h.transport).accepted → (state now.transport).failures ≡ counted (state h.transport).failures
         → now.failure ≡ first_cause h.failure (cause_of_step answer) → now.buffer ≡ h.buffer
-        → StandsAfter state now ys (s.sizes ++ step_sizes answer (waiting_at state h ys) (waiting_at state now ys)) → HeadStands state c p (record s { has_failed = true }) now
-    head-failed answer is kept failures failure buffer stands =
+        → StandsAfter state now ys (s.sizes ++ step_sizes answer (waiting_at state h ys) (waiting_at state now ys)) → HeadStands state c p (failed p s) now
+    head-failed can called answer is kept failures failure buffer stands =
+        let sound = not-true (has_failed s) (and_parts (nat_lt s.accepted (length (out ys))) (not (has_failed s)) can).1 in
         let none = ap (λ (a : OutStep). s.sizes ++ step_sizes a (waiting_at state h ys) (waiting_at state now ys)) is ∙ append-nil s.sizes in
         record {
           channel_is = ap (λ (v : HeadView T). v.channel) same ∙ was.channel_is;
@@ -217,10 +240,12 @@ module _ {T : Type 0} (state : T → TransportState) (c : ℕ) (p : ChannelPlan)
           window = window ∙ was.window;
           reads = subst (InputStands p.bursts s.reads) (sym input_same) was.reads;
           taken = ap (λ (v : HeadView T). v.taken) same ∙ was.taken;
-          standing = standing_same ∙ was.standing;
+          standing = standing_same ∙ was.standing ∙ ap (standing_by (content p (head_hop p))) (sound-taken p s sound);
+          before = le_refl (get_or s.taken (head_hop p) 0);
           stands = subst (StandsAfter state now ys) none stands;
+          calls = called ∙ one-call s.calls was.calls;
           accepted = ap (λ (l : List ℕ). length l) kept ∙ was.accepted;
-          failure = failure ∙ ap₂ (λ (o : Option Cause) (a : OutStep). first_cause o (cause_of_step a)) was.failure is ∙ failed_now s.has_failed;
+          failure = failure ∙ ap₂ (λ (o : Option Cause) (a : OutStep). first_cause o (cause_of_step a)) was.failure is ∙ failed_now (has_failed s);
           tied = λ failed. omega (arith, failures);
           flags_go_on = ap (λ (b : Buffered). b.flags.is_open) buffer ∙ was.flags_go_on;
           lane = marks.lane ∙ was.lane;

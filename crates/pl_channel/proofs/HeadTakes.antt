@@ -1,14 +1,13 @@
 -- The next item of the head's lane: the flags that are sent, and how the head stands then.
 use Rattle.std.proofs.Common.{◌≡◌, ℕ, ◌+◌, ◌-◌, ◌<◌, ◌≤◌, Bool, true, false, cond, Option, Some, None, List, [], ◌∷◌, ◌++◌, length, map, take, set, get_or, refl, sym, ap, ap₂, subst, ◌∙◌, arith, inl, inr, append-nil, length-append, le_refl}
-use Rattle.std.specs.Prelude.{◌⊎◌}
+use Rattle.std.specs.Prelude.{◌⊎◌, unwrap_or}
 use Rattle.std.specs.List.{slice_get, range_with_len}
-use Rattle.std.specs.Option.{option_map_or}
+use Rattle.std.specs.Option.{option_map_or, is_some}
 use Rattle.std.proofs.lemmas.List.{get_or-set_same}
 use Rattle.std.proofs.lemmas.Option.{slice_get-get_or, slice_get_past}
-use Rattle.std.proofs.lemmas.Bool.{cases_lt}
+use Rattle.std.proofs.lemmas.Bool.{cases_lt, le-ltb}
 use Rattle.pl_event.specs.declared.events.Event.{Event}
-use Rattle.pl_event.specs.declared.events.Event.TheVariants.{Active, Read, ReadComplete, Caught, Write, Flush}
-use Rattle.pl_event.specs.declared.events.Message.TheVariants.{Bytes, Line, Command, Reply}
+use Rattle.pl_event.specs.declared.events.Event.TheVariants.{Active}
 use Rattle.pl_event.specs.declared.envelopes.Lane.{Lane}
 use Rattle.pl_event.specs.declared.envelopes.Item.{Item}
 use Rattle.pl_event.specs.declared.envelopes.Item.TheVariants as item
@@ -24,19 +23,20 @@ use Rattle.pl_context.specs.Stopped.{Stopped, HasPlaces}
 use Rattle.pl_context.specs.Listings.{Listing, Appends}
 use Rattle.pl_context.specs.Ports.{numbered}
 use Rattle.pl_head.specs.Transports.{TransportState}
-use Rattle.pl_head.specs.Marks.{Change, AlternateFrom, flags, is_unwritable, turning}
+use Rattle.pl_head.specs.Marks.{Change, AlternateFrom, flags}
 use Rattle.pl_head.specs.FlagLanes.{as_flags}
 use Rattle.pl_head.specs.Writes.{waiting_bytes}
 use Rattle.pl_head.specs.WritabilityStand.{SendsFlags}
 use Rattle.pl_head.specs.Buffers.{SameMarks}
 use Rattle.pl_head.specs.HeadStand.{HeadView, StandsAfter, ReadsStand, HasFewFlags, Answers, IsPlaced, waiting_at, item_events, item_sizes, standing_after, first_cause, cause_of_item}
-use Rattle.pl_head.proofs.MarkLaws.{alternate_from, change_turns}
+use Rattle.pl_head.proofs.MarkLaws.{alternate_from}
+use Rattle.pl_head.proofs.FewFlags.{added-few, item_sizes-few}
 use Rattle.pl_world.specs.Plans.{ChannelPlan, content, head_hop}
 use Rattle.pl_channel.specs.MadeItems.{has_end, flags_lane}
-use Rattle.pl_channel.specs.ChannelStates.{ChannelState}
-use Rattle.pl_channel.specs.ChannelMoves.{at_head, pending_bytes, flags_sent, new_flags, taken_by_head}
+use Rattle.pl_channel.specs.ChannelStates.{ChannelState, has_failed}
+use Rattle.pl_channel.specs.ChannelMoves.{at_head, taken_sound, pending_bytes, flags_sent, new_flags, taken_by_head}
 use Rattle.pl_channel.specs.Envelopes.{item_by, envelopes_of}
-use Rattle.pl_channel.specs.HeadStand.{HeadStands, IsNextForHead}
+use Rattle.pl_channel.specs.HeadStand.{HeadStands, IsNextForHead, failure_by}
 use Rattle.pl_channel.specs.ContextStand.{standing_by}
 use Rattle.pl_channel.specs.Unstopped.{IsUnstopped}
 use Rattle.pl_channel.proofs.WorkLists.{unstopped-places}
@@ -44,29 +44,6 @@ use Rattle.pl_channel.proofs.EndSteps.{taken-event, end-event, taken-end, end-en
 use Rattle.pl_channel.proofs.PassedFlags.{all-appended, alternate-after, flag-envelopes}
 
 -- ---- the flags of at most one change
-
-length-turning : (a b : Bool) → length (turning a b) ≤ 1
-length-turning false false = omega arith
-length-turning false true = omega arith
-length-turning true false = omega arith
-length-turning true true = omega arith
-
--- a change sends one flag at most
-few-flags : (low high : ℕ) (cs more : List Change) (added : List Bool) → length more ≤ 1 → flags low high (cs ++ more) ≡ flags low high cs ++ added → length added ≤ 1
-few-flags low high cs [] added few is =
-    let size = length-append (flags low high cs) added in
-    let same = ap (λ (l : List Change). length (flags low high l)) (append-nil cs) in
-    let whole = ap (λ (l : List Bool). length l) is in
-    omega (arith, size, same, whole)
-few-flags low high cs (c ∷ []) added few is =
-    let turned = turning (is_unwritable low high cs) (is_unwritable low high (cs ++ c ∷ [])) in
-    let size = length-append (flags low high cs) added in
-    let turns = length-append (flags low high cs) turned in
-    let same = ap (λ (l : List Bool). length l) (change_turns low high cs c) in
-    let whole = ap (λ (l : List Bool). length l) is in
-    let one = length-turning (is_unwritable low high cs) (is_unwritable low high (cs ++ c ∷ [])) in
-    omega (arith, size, turns, same, whole, one)
-few-flags low high cs (c ∷ d ∷ more) added few is = absurd (omega (arith, few))
 
 -- what a head sends by one change more are the new flags, and all of them find room
 module _ {T : Type 0} (state : T → TransportState) (channel : ℕ) (p : ChannelPlan) (s s' : ChannelState) (h : HeadView T) (stand : HeadStands state channel p s h) where
@@ -99,30 +76,31 @@ module _ {T : Type 0} (state : T → TransportState) (channel : ℕ) (p : Channe
       ap₂ (λ (low high : ℕ). flags low high (s.sizes ++ more)) (sym stand.low) (sym stand.high)
       ∙ sends.flags_are
       ∙ ap₂ (λ (low high : ℕ). flags low high s.sizes ++ sends.added) stand.low stand.high in
-      let one = few-flags p.low p.high s.sizes more sends.added few added_are in
+      let one = added-few p.low p.high s.sizes more sends.added few added_are in
       let all = all-appended lanes sends.added h.buffer.flags p' before after u stand.flags_go_on (omega (arith, one, room)) sends.passes in (
         subst (λ (es : List Envelope). Appends before es after) (new-envelopes more sizes_are sends.added added_are) all.appended,
         ap (λ (q : Port). q.is_open) all.counted ∙ stand.flags_go_on,
       )
 
--- ---- the sizes of an item
-
--- it adds or removes one at most
-few-sizes : (i : Item) (before after : ℕ) → length (item_sizes i before after) ≤ 1
-few-sizes (item.Event Active) before after = omega arith
-few-sizes (item.Event (Read m)) before after = omega arith
-few-sizes (item.Event ReadComplete) before after = omega arith
-few-sizes (item.Event (Caught e)) before after = omega arith
-few-sizes (item.Event (Write (Bytes b))) before after = omega arith
-few-sizes (item.Event (Write (Line b))) before after = omega arith
-few-sizes (item.Event (Write (Command e))) before after = omega arith
-few-sizes (item.Event (Write (Reply r))) before after = omega arith
-few-sizes (item.Event Flush) before after = omega arith
-few-sizes item.End before after = omega arith
-few-sizes (item.Fail cause) before after = omega arith
-few-sizes (item.Flag value) before after = omega arith
-
 -- ---- item n of a lane
+
+-- one that has failed notes no end
+still_open : (i : Item) → standing_after true i ≡ stands.Open
+still_open (item.Event e) = refl
+still_open item.End = refl
+still_open (item.Fail cause) = refl
+still_open (item.Flag value) = refl
+
+open-by : (events : List Event) (k : ℕ) → k ≤ length events → standing_by events k ≡ stands.Open
+open-by events k within = ap (λ (b : Bool). cond b stands.Ended stands.Open) (le-ltb (length events) k within)
+
+sound-more : (o : Option ℕ) (n : ℕ) → unwrap_or o n ≤ n → unwrap_or o (n + 1) ≤ n + 1
+sound-more None n before = le_refl (n + 1)
+sound-more (Some m) n before = omega (arith, before)
+
+some-failure : (failed : Bool) → is_some (failure_by failed) ≡ failed
+some-failure true = refl
+some-failure false = refl
 
 module _ (events : List Event) (n : ℕ) (there : n ≤ length events) where
   abbrev IsEvent : Type 0
@@ -150,14 +128,16 @@ module _ (events : List Event) (n : ℕ) (there : n ≤ length events) where
         ∙ ap (λ (i : Item). take n events ++ item_events i) (sym (by_end last))
   ]
 
-  next-standing : standing_after (item_by events n) ≡ standing_by events (n + 1)
-  next-standing = elim event_or_end [
+  next-standing : (o : Option ℕ) → unwrap_or o n ≤ n → standing_after (is_some o) (item_by events n) ≡ standing_by events (unwrap_or o (n + 1))
+  next-standing None before = elim event_or_end [
     | inl event ↦
-        ap standing_after (by_event event.0 event.1)
+        ap (standing_after false) (by_event event.0 event.1)
         ∙ sym (ap (λ (b : Bool). cond b stands.Ended stands.Open) (end-event events n event.0 event.1))
     | inr last ↦
-        ap standing_after (by_end last) ∙ sym (ap (λ (b : Bool). cond b stands.Ended stands.Open) (end-end events n last))
+        ap (standing_after false) (by_end last) ∙ sym (ap (λ (b : Bool). cond b stands.Ended stands.Open) (end-end events n last))
   ]
+  next-standing (Some m) before =
+      still_open (item_by events n) ∙ sym (open-by events m (omega (arith, before, there)))
 
 -- ---- answers
 
@@ -224,19 +204,27 @@ module _ {T : Type 0} (state : T → TransportState) (p : ChannelPlan) (s : Chan
   waiting-now : waiting_at state h (at_head p s) ≡ pending_bytes p s
   waiting-now =
       ap₂ (λ (k : ℕ) (b : Bool). waiting_bytes (at_head p s) k b) next.stands.accepted
-      (ap is_over next.stands.standing ∙ over-by (has_end events n))
+      (ap is_over next.stands.standing ∙ over-by (has_end events (taken_sound p s)))
+
+  -- it is open: no end of its lane was noted
+  pub head-open : h.standing ≡ stands.Open
+  head-open =
+      next.stands.standing ∙ open-by events (taken_sound p s) (omega (arith, next.stands.before, next.there))
+
+  failed-same : is_some h.failure ≡ has_failed s
+  failed-same = ap is_some next.stands.failure ∙ some-failure (has_failed s)
 
   -- what a head did that took it
   pub record Taken (before after : Listing) (answer : Took) (h' : HeadView T) : Type 0 where
     pub answers : Answers envelope.item answer
     pub kept : (answer ≡ took.Ran) ⊎ (answer ≡ took.Ended)
     pub stands : IsPlaced envelope.item answer → (ys : List Event) (sizes : List Change) → StandsAfter state h ys sizes
-        → StandsAfter state h' (ys ++ item_events envelope.item) (sizes ++ item_sizes envelope.item (waiting_at state h ys) (waiting_at state h' (ys ++ item_events envelope.item)))
+        → StandsAfter state h' (ys ++ item_events envelope.item) (sizes ++ item_sizes (is_some h.failure) envelope.item (waiting_at state h ys) (waiting_at state h' (ys ++ item_events envelope.item)))
     pub flags : IsPlaced envelope.item answer → (ys : List Event) (sizes : List Change) → StandsAfter state h ys sizes
-        → SendsFlags h.buffer.low h.buffer.high sizes (item_sizes envelope.item (waiting_at state h ys) (waiting_at state h' (ys ++ item_events envelope.item))) h.buffer.flags before h'.buffer.flags after
+        → SendsFlags h.buffer.low h.buffer.high sizes (item_sizes (is_some h.failure) envelope.item (waiting_at state h ys) (waiting_at state h' (ys ++ item_events envelope.item))) h.buffer.flags before h'.buffer.flags after
     pub failure : h'.failure ≡ first_cause h.failure (cause_of_item envelope.item answer)
     pub taken : h'.taken ≡ h.taken + 1
-    pub standing : h'.standing ≡ standing_after envelope.item
+    pub standing : h'.standing ≡ standing_after (is_some h.failure) envelope.item
     pub same : h' ≡ record h { taken = h'.taken; standing = h'.standing; failure = h'.failure; buffer = h'.buffer }
     pub marks : SameMarks h.buffer h'.buffer
     pub few : HasFewFlags h'
@@ -245,9 +233,10 @@ module _ {T : Type 0} (state : T → TransportState) (p : ChannelPlan) (s : Chan
     found : IsPlaced envelope.item answer
     found = placed envelope.item answer did.kept did.answers
 
-    standing-then : h'.standing ≡ standing_by events (get_or then_.taken (head_hop p) 0)
+    standing-then : h'.standing ≡ standing_by events (taken_sound p then_)
     standing-then =
-        did.standing ∙ ap standing_after item_is ∙ next-standing events n next.there ∙ ap (standing_by events) (sym one_more)
+        did.standing ∙ ap₂ standing_after failed-same item_is ∙ next-standing events n next.there s.failed_at next.stands.before
+        ∙ ap (λ (k : ℕ). standing_by events (unwrap_or s.failed_at k)) (sym one_more)
 
     transport-same : h'.transport ≡ h.transport
     transport-same = ap (λ (v : HeadView T). v.transport) did.same
@@ -259,20 +248,20 @@ module _ {T : Type 0} (state : T → TransportState) (p : ChannelPlan) (s : Chan
     waiting-then =
         ap (λ (ys : List Event). waiting_at state h' ys) (sym events_then)
         ∙ ap₂ (λ (k : ℕ) (b : Bool). waiting_bytes (at_head p counted) k b) accepted-then
-        (ap is_over standing-then ∙ over-by (has_end events (get_or counted.taken (head_hop p) 0)))
+        (ap is_over standing-then ∙ over-by (has_end events (taken_sound p counted)))
 
     abbrev sizes : List Change
-    sizes = item_sizes envelope.item (waiting_at state h (at_head p s)) (waiting_at state h' (at_head p s ++ item_events envelope.item))
+    sizes = item_sizes (is_some h.failure) envelope.item (waiting_at state h (at_head p s)) (waiting_at state h' (at_head p s ++ item_events envelope.item))
 
-    sizes-are : sizes ≡ item_sizes (item_by events n) (pending_bytes p s) (pending_bytes p counted)
+    sizes-are : sizes ≡ item_sizes (has_failed s) (item_by events n) (pending_bytes p s) (pending_bytes p counted)
     sizes-are =
-        ap (λ (i : Item). item_sizes i (waiting_at state h (at_head p s)) (waiting_at state h' (at_head p s ++ item_events envelope.item))) item_is
-        ∙ ap₂ (λ (a b : ℕ). item_sizes (item_by events n) a b) waiting-now waiting-then
+        ap₂ (λ (failed : Bool) (i : Item). item_sizes failed i (waiting_at state h (at_head p s)) (waiting_at state h' (at_head p s ++ item_events envelope.item))) failed-same item_is
+        ∙ ap₂ (λ (a b : ℕ). item_sizes (has_failed s) (item_by events n) a b) waiting-now waiting-then
 
     sent : Appends before (envelopes_of p (new_flags p envelope.lane.channel s then_)) after × (h'.buffer.flags.is_open ≡ true)
     sent =
         new-appended state envelope.lane.channel p s then_ h next.stands sizes
-        (few-sizes envelope.item (waiting_at state h (at_head p s)) (waiting_at state h' (at_head p s ++ item_events envelope.item)))
+        (item_sizes-few (is_some h.failure) envelope.item (waiting_at state h (at_head p s)) (waiting_at state h' (at_head p s ++ item_events envelope.item)))
         (ap (λ (l : List Change). s.sizes ++ l) (sym sizes-are)) 1 before after h'.buffer.flags u room
         (did.flags found (at_head p s) s.sizes next.stands.stands)
 
@@ -291,10 +280,12 @@ module _ {T : Type 0} (state : T → TransportState) (p : ChannelPlan) (s : Chan
           reads = subst (λ (v : HeadView T). ReadsStand p.bursts s.reads v) (sym did.same) was.reads;
           taken = did.taken ∙ ap (λ (k : ℕ). k + 1) was.taken ∙ sym one_more;
           standing = standing-then;
+          before = subst (λ (k : ℕ). unwrap_or s.failed_at k ≤ k) (sym one_more) (sound-more s.failed_at n next.stands.before);
           stands =
               subst (λ (ys : List Event). StandsAfter state h' ys then_.sizes) (sym events_then)
               (subst (λ (l : List Change). StandsAfter state h' (at_head p s ++ item_events envelope.item) (s.sizes ++ l)) sizes-are
               (did.stands found (at_head p s) s.sizes was.stands));
+          calls = ap (λ (t : T). (state t).calls) transport-same ∙ was.calls;
           accepted = accepted-then;
           failure = did.failure ∙ ap (first_cause h.failure) (no_cause envelope.item answer did.kept) ∙ first-alone h.failure ∙ was.failure;
           tied = λ failed. subst (λ (t : T). 0 < (state t).failures) (sym transport-same) (was.tied failed);

@@ -1,5 +1,5 @@
 -- The nodes of a channel take the next item of a lane: whose it is, what they put out, and how they stand then.
-use Rattle.std.proofs.Common.{◌≡◌, ◌≢◌, ℕ, zero, suc, ◌+◌, ◌-◌, ◌<◌, ◌≤◌, Bool, true, false, not, cond, eqb, Some, List, [], ◌∷◌, ◌++◌, length, map, take, set, get_or, refl, sym, ap, ap₂, subst, ◌∙◌, arith, inl, inr, append-nil, le_refl}
+use Rattle.std.proofs.Common.{◌≡◌, ◌≢◌, ℕ, zero, suc, ◌+◌, ◌-◌, ◌<◌, ◌≤◌, Bool, true, false, not, cond, eqb, Some, List, [], ◌∷◌, ◌++◌, length, map, take, set, get_or, refl, sym, ap, ap₂, subst, ◌∙◌, arith, inl, inr, append-nil, le_refl, unwrap_or}
 use Rattle.std.specs.Prelude.{Result, Ok, Err, OnOk, ◌⊎◌, ◌^◌}
 use Rattle.std.specs.Option.{option_map}
 use Rattle.std.specs.List.{All, slice_get, count_by, position_or_len, range_with_len}
@@ -257,8 +257,10 @@ head-kept {T = T} state channel p s taken flags_taken h same was = record {
   window = was.window;
   reads = was.reads;
   taken = was.taken ∙ same;
-  standing = was.standing ∙ ap (standing_by (content p (head_hop p))) same;
+  standing = was.standing ∙ ap (λ (k : ℕ). standing_by (content p (head_hop p)) (unwrap_or s.failed_at k)) same;
+  before = subst (λ (k : ℕ). unwrap_or s.failed_at k ≤ k) same was.before;
   stands = subst (λ (k : ℕ). StandsAfter state h (take k (content p (head_hop p))) s.sizes) same was.stands;
+  calls = was.calls;
   accepted = was.accepted;
   failure = was.failure;
   tied = was.tied;

@@ -1,5 +1,5 @@
 -- A placed channel: its plan, how it stands before any move, and its report.
-use Rattle.std.proofs.Common.{◌≡◌, ℕ, ◌+◌, ◌≤◌, Bool, true, false, cond, not, ◌&&◌, ◌||◌, Option, List, [], ◌∷◌, ◌++◌, length, map, take, get_or, replicate, Some, None, nat_lt, refl, sym, ap, ap₂, subst, ◌∙◌, arith, nat_le, ◌<◌, inl, inr}
+use Rattle.std.proofs.Common.{◌≡◌, ℕ, ◌+◌, ◌≤◌, Bool, true, false, cond, not, ◌&&◌, ◌||◌, Option, List, [], ◌∷◌, ◌++◌, length, map, take, get_or, replicate, Some, None, nat_lt, refl, sym, ap, ap₂, subst, ◌∙◌, arith, nat_le, ◌<◌, inl, inr, le_refl}
 use Rattle.std.specs.List.{slice_get, position_or_len, position}
 use Rattle.std.specs.Option.{is_some}
 use Rattle.std.proofs.lemmas.List.{length-map, take_more, get_or-replicate, get_or_past, length-replicate}
@@ -21,8 +21,8 @@ use Rattle.pl_world.specs.declared.report.Stands.TheVariants as report
 use Rattle.pl_head.specs.Transports.{TransportState}
 use Rattle.pl_world.specs.Plans.{ChannelPlan, channel_planned, content, tail_hop, head_hop}
 use Rattle.pl_channel.specs.MadeItems.{has_end, flags_lane, turn_hop}
-use Rattle.pl_channel.specs.ChannelStates.{ChannelState, at_rest}
-use Rattle.pl_channel.specs.ChannelMoves.{at_head}
+use Rattle.pl_channel.specs.ChannelStates.{ChannelState, has_failed, at_rest}
+use Rattle.pl_channel.specs.ChannelMoves.{at_head, taken_sound, has_closed}
 use Rattle.pl_head.specs.Writes.{out}
 use Rattle.pl_head.specs.HeadStand.{HeadView, StandsAfter, ReadsStand, HasFewFlags, first_cause, head_cause}
 use Rattle.pl_context.specs.Recordings.{Recording}
@@ -131,6 +131,8 @@ module _ {T : Type 0} (state : T → TransportState) (channel : ℕ) (p : Channe
         taken = taken ∙ sym none;
         standing = standing ∙ sym (ap (standing_by (content p (head_hop p))) none ∙ ap (λ (b : Bool). cond b stands.Ended stands.Open) (le-ltb (length (content p (head_hop p))) 0 (omega arith)));
         stands = subst (λ (ys : List Event). StandsAfter state h ys []) (sym (none_at_head p)) after;
+        before = le_refl (taken_sound p (at_rest p));
+        calls = omega (arith, ap (λ (t : TransportState). t.calls) start);
         accepted = ap (λ (t : TransportState). length t.accepted) start;
         failure = sound;
         tied = λ failed. absurd (cc failed);
@@ -155,9 +157,9 @@ no_cause events n = by (has_end events n)
     by true = refl
     by false = refl
 
-pub head-cause : {T : Type 0} (state : T → TransportState) (channel : ℕ) (p : ChannelPlan) (s : ChannelState) (h : HeadView T) → HeadStands state channel p s h → head_cause h ≡ failure_by s.has_failed
+pub head-cause : {T : Type 0} (state : T → TransportState) (channel : ℕ) (p : ChannelPlan) (s : ChannelState) (h : HeadView T) → HeadStands state channel p s h → head_cause h ≡ failure_by (has_failed s)
 head-cause state channel p s h stands =
-    ap₂ first_cause stands.failure (ap cause_of stands.standing ∙ no_cause (content p (head_hop p)) (get_or s.taken (head_hop p) 0)) ∙ by (failure_by s.has_failed)
+    ap₂ first_cause stands.failure (ap cause_of stands.standing ∙ no_cause (content p (head_hop p)) (taken_sound p s)) ∙ by (failure_by (has_failed s))
   where
     by : (o : Option Cause) → first_cause o None ≡ o
     by None = refl
@@ -185,12 +187,11 @@ module _ (p : ChannelPlan) (s : ChannelState) where
   -- its tail and its head have taken their end, and all bytes were accepted
   abbrev pub is_done : Bool
   is_done =
-      has_end (content p (tail_hop p)) (get_or s.taken (tail_hop p) 0) && has_end (content p (head_hop p)) (get_or s.taken (head_hop p) 0)
-      && nat_le (length (out (at_head p s))) s.accepted
+      has_end (content p (tail_hop p)) (get_or s.taken (tail_hop p) 0) && has_closed p s && nat_le (length (out (at_head p s))) s.accepted
 
   -- it is drained where that is so and its transport has not failed
-  pub drained-report : is_drained (report_at p s) ≡ (not s.has_failed && is_done)
-  drained-report = by (report_at p s) s.has_failed is_done
+  pub drained-report : is_drained (report_at p s) ≡ (not (has_failed s) && is_done)
+  drained-report = by (report_at p s) (has_failed s) is_done
     where
       by : (r : ChannelReport) (failed b : Bool) → is_drained (record r { stands = cond failed (report.Failed cause.Transport) (cond b report.Drained report.Open) }) ≡ (not failed && b)
       by r true b = refl
@@ -198,12 +199,12 @@ module _ (p : ChannelPlan) (s : ChannelState) where
       by r false false = refl
 
   -- so it is where it has no cause and its parts are done
-  pub drained-by : (written : Bool) → failure_by s.has_failed ≡ None → has_end (content p (tail_hop p)) (get_or s.taken (tail_hop p) 0) ≡ true → has_end (content p (head_hop p)) (get_or s.taken (head_hop p) 0) ≡ true
+  pub drained-by : (written : Bool) → failure_by (has_failed s) ≡ None → has_end (content p (tail_hop p)) (get_or s.taken (tail_hop p) 0) ≡ true → has_closed p s ≡ true
       → written ≡ nat_le (length (out (at_head p s))) s.accepted → written ≡ is_drained (report_at p s)
   drained-by written sound tail head is =
       is
       ∙ sym (drained-report
-      ∙ ap (λ (failed : Bool). not failed && is_done) (not_failed s.has_failed sound)
+      ∙ ap (λ (failed : Bool). not failed && is_done) (not_failed (has_failed s) sound)
       ∙ ap₂ (λ (t h : Bool). t && h && nat_le (length (out (at_head p s))) s.accepted) tail head)
     where
       not_failed : (failed : Bool) → failure_by failed ≡ None → failed ≡ false
@@ -211,8 +212,8 @@ module _ (p : ChannelPlan) (s : ChannelState) where
       not_failed false cause = refl
 
   -- what it reports, by its cause
-  pub stands-report : stands_by (failure_by s.has_failed) (is_drained (report_at p s)) ≡ (report_at p s).stands
-  stands-report = by (report_at p s) s.has_failed is_done
+  pub stands-report : stands_by (failure_by (has_failed s)) (is_drained (report_at p s)) ≡ (report_at p s).stands
+  stands-report = by (report_at p s) (has_failed s) is_done
     where
       by : (r : ChannelReport) (failed b : Bool)
           → stands_by (failure_by failed) (is_drained (record r { stands = cond failed (report.Failed cause.Transport) (cond b report.Drained report.Open) })) ≡ cond failed (report.Failed cause.Transport) (cond b report.Drained report.Open)

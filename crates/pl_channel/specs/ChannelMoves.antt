@@ -1,5 +1,5 @@
 -- The moves of one channel: when a read step or a write is enabled, what taking an item makes, and where.
-use Rattle.std.specs.Prelude.{◌≡◌, ℕ, zero, suc, ◌+◌, ◌-◌, ◌≤◌, ◌==◌, ◌&&◌, List, [], ◌∷◌, ◌++◌, length, take, min, Bool, not, nat_lt, get_or, slice_set, if◌then◌else◌, Some}
+use Rattle.std.specs.Prelude.{◌≡◌, ℕ, zero, suc, ◌+◌, ◌-◌, ◌≤◌, ◌==◌, ◌&&◌, List, [], ◌∷◌, ◌++◌, length, take, min, Bool, not, nat_lt, get_or, slice_set, unwrap_or, if◌then◌else◌, Some}
 use Rattle.pl_event.specs.declared.events.Event.{Event}
 use Rattle.pl_event.specs.declared.envelopes.Kind.TheVariants.{Data, Flags}
 use Rattle.pl_event.specs.declared.envelopes.Lane.{Lane}
@@ -10,7 +10,7 @@ use Rattle.pl_head.specs.Writes.{out, offered, flushed_writes, waiting_bytes}
 use Rattle.pl_head.specs.HeadStand.{item_sizes}
 use Rattle.pl_world.specs.Plans.{ChannelPlan, content, head_hop}
 use Rattle.pl_channel.specs.MadeItems.{Place, has_end, writer, flags_lane, places, made_of_data, made_of_flag}
-use Rattle.pl_channel.specs.ChannelStates.{ChannelState, one_more_taken}
+use Rattle.pl_channel.specs.ChannelStates.{ChannelState, has_failed, one_more_taken}
 use Rattle.pl_channel.specs.Envelopes.{item_by}
 
 -- ---- where items go
@@ -31,9 +31,13 @@ origin_by p (suc hop) = get_or p.executors (writer p hop) 0
 abbrev pub at_head : ChannelPlan → ChannelState → List Event
 at_head p s = take (get_or s.taken (head_hop p) 0) (content p (head_hop p))
 
--- it has taken the end of its lane
+-- how many items it took before its transport failed
+abbrev pub taken_sound : ChannelPlan → ChannelState → ℕ
+taken_sound p s = unwrap_or s.failed_at (get_or s.taken (head_hop p) 0)
+
+-- it has taken the end of its lane, and had not failed by then: what was not flushed is closed
 abbrev pub has_closed : ChannelPlan → ChannelState → Bool
-has_closed p s = has_end (content p (head_hop p)) (get_or s.taken (head_hop p) 0)
+has_closed p s = has_end (content p (head_hop p)) (taken_sound p s)
 
 -- the bytes of the writes that it has taken and not settled
 abbrev pub pending_bytes : ChannelPlan → ChannelState → ℕ
@@ -52,7 +56,7 @@ abbrev pub taken_by_head : ChannelPlan → ChannelState → ChannelState
 taken_by_head p s =
     let n = get_or s.taken (head_hop p) 0 in
     let s' = record s { taken = slice_set s.taken (head_hop p) (n + 1) } in
-    record s' { sizes = s.sizes ++ item_sizes (item_by (content p (head_hop p)) n) (pending_bytes p s) (pending_bytes p s') }
+    record s' { sizes = s.sizes ++ item_sizes (has_failed s) (item_by (content p (head_hop p)) n) (pending_bytes p s) (pending_bytes p s') }
 
 -- ---- items taken
 
@@ -75,7 +79,7 @@ made_of p s item =
 
 -- a flushed byte waits, and the transport has not failed
 abbrev pub can_write : ChannelPlan → ChannelState → Bool
-can_write p s = nat_lt s.accepted (length (out (at_head p s))) && not s.has_failed
+can_write p s = nat_lt s.accepted (length (out (at_head p s))) && not (has_failed s)
 
 -- A burst is held while the channel is not writable and flushed bytes wait. (Netty leaves it to a handler to stop reading.)
 abbrev pub is_held : ChannelPlan → ChannelState → Bool
@@ -92,8 +96,12 @@ IsAccepted p s count =
     let offer = offered 0 s.accepted (flushed_writes (at_head p s)) in
     (count ≤ offer) × ((window : ℕ) → p.window ≡ Some window → count ≡ min offer window)
 
--- the head has written so many bytes
+-- the head has written so many bytes, in one call
 abbrev pub written : ChannelPlan → ChannelState → ℕ → ChannelState
 written p s count =
-    let s' = record s { accepted = s.accepted + count } in
+    let s' = record s { calls = s.calls + 1; accepted = s.accepted + count } in
     record s' { sizes = s.sizes ++ (if count == 0 then [] else Removed (pending_bytes p s - pending_bytes p s') ∷ []) }
+
+-- its call of the transport has failed
+abbrev pub failed : ChannelPlan → ChannelState → ChannelState
+failed p s = record s { calls = s.calls + 1; failed_at = Some (get_or s.taken (head_hop p) 0) }

@@ -8,8 +8,8 @@ use Rattle.pl_world.specs.declared.report.Stands.TheVariants as stands
 use Rattle.pl_world.specs.Plans.{ChannelPlan, content, tail_hop, head_hop}
 use Rattle.pl_world.specs.Reports.{channel_report}
 use Rattle.pl_channel.specs.MadeItems.{has_end, turn_hop}
-use Rattle.pl_channel.specs.ChannelStates.{ChannelState}
-use Rattle.pl_channel.specs.ChannelMoves.{at_head}
+use Rattle.pl_channel.specs.ChannelStates.{ChannelState, has_failed}
+use Rattle.pl_channel.specs.ChannelMoves.{at_head, has_closed}
 use Rattle.pl_channel.specs.NodeStand.{NodesStand}
 use Rattle.pl_channel.specs.declared.placed_channels.PlacedChannel.{PlacedChannel}
 
@@ -46,9 +46,9 @@ abbrev pub report_at : ChannelPlan → ChannelState → ChannelReport
 report_at p s =
     channel_report (take (get_or s.taken (tail_hop p) 0) (content p (tail_hop p)))
     (at_head p s)
-    s.has_failed
+    (has_failed s)
     (has_end (content p (tail_hop p)) (get_or s.taken (tail_hop p) 0))
-    (has_end (content p (head_hop p)) (get_or s.taken (head_hop p) 0))
+    (has_closed p s)
     s.accepted
 
 abbrev pub is_drained : ChannelReport → Bool

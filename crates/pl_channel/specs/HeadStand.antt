@@ -1,5 +1,5 @@
 -- A channel's head, and the numbers at which it may stand.
-use Rattle.std.specs.Prelude.{◌≡◌, ℕ, ◌+◌, ◌<◌, ◌≤◌, ◌^◌, length, get_or, Bool, true, Option, Some, None, if◌then◌else◌}
+use Rattle.std.specs.Prelude.{◌≡◌, ℕ, ◌+◌, ◌-◌, ◌<◌, ◌≤◌, ◌^◌, min, length, get_or, Bool, true, Option, Some, None, if◌then◌else◌}
 use Rattle.pl_event.specs.declared.envelopes.Envelope.{Envelope}
 use Rattle.pl_event.specs.declared.outcomes.Cause.{Cause}
 use Rattle.pl_event.specs.declared.outcomes.Cause.TheVariants as cause
@@ -7,14 +7,14 @@ use Rattle.pl_head.specs.Transports.{TransportState}
 use Rattle.pl_head.specs.HeadStand.{HeadView, StandsAfter, ReadsStand, HasFewFlags}
 use Rattle.pl_world.specs.Plans.{ChannelPlan, content, head_hop}
 use Rattle.pl_channel.specs.MadeItems.{data_lane, flags_lane}
-use Rattle.pl_channel.specs.ChannelStates.{ChannelState}
-use Rattle.pl_channel.specs.ChannelMoves.{at_head}
+use Rattle.pl_channel.specs.ChannelStates.{ChannelState, has_failed}
+use Rattle.pl_channel.specs.ChannelMoves.{at_head, taken_sound}
 use Rattle.pl_channel.specs.Envelopes.{envelope_of}
 use Rattle.pl_channel.specs.ContextStand.{standing_by}
 
 -- why a head has failed, where its transport has
 abbrev pub failure_by : Bool → Option Cause
-failure_by has_failed = if has_failed then Some cause.Transport else None
+failure_by failed = if failed then Some cause.Transport else None
 
 module _ {T : Type 0} (state : T → TransportState) where
   pub record HeadStands (channel : ℕ) (p : ChannelPlan) (s : ChannelState) (h : HeadView T) : Type 0 where
@@ -26,12 +26,15 @@ module _ {T : Type 0} (state : T → TransportState) where
     -- what it has read, and what it has taken and written
     pub reads : ReadsStand p.bursts s.reads h
     pub taken : h.taken ≡ get_or s.taken (head_hop p) 0
-    pub standing : h.standing ≡ standing_by (content p (head_hop p)) (get_or s.taken (head_hop p) 0)
+    -- an end that came after a failure is not noted
+    pub standing : h.standing ≡ standing_by (content p (head_hop p)) (taken_sound p s)
+    pub before : taken_sound p s ≤ get_or s.taken (head_hop p) 0
     pub stands : StandsAfter state h (at_head p s) s.sizes
+    pub calls : (state h.transport).calls ≡ min s.calls (2 ^ 64 - 1)
     pub accepted : length (state h.transport).accepted ≡ s.accepted
     -- it has failed only where its transport has
-    pub failure : h.failure ≡ failure_by s.has_failed
-    pub tied : s.has_failed ≡ true → 0 < (state h.transport).failures
+    pub failure : h.failure ≡ failure_by (has_failed s)
+    pub tied : has_failed s ≡ true → 0 < (state h.transport).failures
     -- each flag found its place
     pub flags_go_on : h.buffer.flags.is_open ≡ true
     -- and they are on the first flags lane, and few

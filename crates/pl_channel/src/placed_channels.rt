@@ -7,7 +7,7 @@ ghost use Rattle.pl_event.specs.Paths.{is_turn};
 ghost use Rattle.pl_world.specs.Worlds.{IsUncalled};
 ghost use Rattle.pl_world.specs.Plans.{ChannelPlan, channel_planned, head_hop};
 ghost use Rattle.pl_channel.specs.MadeItems.{turn_hop};
-ghost use Rattle.pl_channel.specs.ChannelStates.{ChannelState, at_rest};
+ghost use Rattle.pl_channel.specs.ChannelStates.{ChannelState, at_rest, has_failed};
 ghost use Rattle.pl_channel.specs.ChannelMoves.{origin_by};
 ghost use Rattle.pl_channel.specs.HeadStand.{failure_by};
 
@@ -107,7 +107,7 @@ impl<S: Stage, T: Transport> PlacedChannel<S, T> {
 
     /// Why it has failed: its head by itself, or by a failure that it took, or else its tail. None where none has.
     fn cause(&self) -> Option<Cause>
-        ensures { (number : ℕ) (p : ChannelPlan) (s : ChannelState) → ChannelStands S.meaning S.stands_after T.state number p s self.now → result ≡ failure_by s.has_failed }
+        ensures { (number : ℕ) (p : ChannelPlan) (s : ChannelState) → ChannelStands S.meaning S.stands_after T.state number p s self.now → result ≡ failure_by (has_failed s) }
     {
         match self.nodes.head.cause() {
             Some(cause) => Some(cause),

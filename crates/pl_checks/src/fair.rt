@@ -79,6 +79,22 @@ fn assert_begins(rt: &impl Abort, part: &Report, whole: &Report, text: &str) {
     }
 }
 
+/// Each channel has the whole report.
+fn assert_whole(rt: &impl Abort, part: &Report, whole: &Report, text: &str) {
+    assert_eq!(rt; part.channels.len(), whole.channels.len());
+    for (part, whole) in part
+        .channels
+        .as_slice()
+        .iter()
+        .zip(whole.channels.as_slice())
+    {
+        assert_eq!(rt; part.stands, whole.stands, "{text}");
+        assert_eq!(rt; part.tail.as_slice(), whole.tail.as_slice(), "{text}");
+        assert_eq!(rt; part.bytes.as_slice(), whole.bytes.as_slice(), "{text}");
+        assert_eq!(rt; part.writes.as_slice(), whole.writes.as_slice(), "{text}");
+    }
+}
+
 #[test]
 fn a_fair_schedule_drains_every_example(rt: HostRuntime) -> Result<(), Fail> {
     for text in sessions::examples(&rt)? {
@@ -86,7 +102,7 @@ fn a_fair_schedule_drains_every_example(rt: HostRuntime) -> Result<(), Fail> {
         let (mut net, moves) = begun(rt.alloc(), text)?;
         go_round(&mut net, moves.as_slice())?;
         assert!(rt; net.drained(), "{text}");
-        assert_begins(&rt, &net.report()?, &whole(rt.alloc(), text)?, text);
+        assert_whole(&rt, &net.report()?, &whole(rt.alloc(), text)?, text);
     }
     Ok(())
 }
@@ -131,12 +147,25 @@ fn assert_keeps(
     }
     go_round(&mut net, moves.as_slice())?;
     assert!(rt; net.drained(), "{text}");
-    assert_begins(rt, &net.report()?, whole, text);
+    assert_whole(rt, &net.report()?, whole, text);
     assert_flags(rt, &net, text);
     Ok(())
 }
 
-/// Each example is written whole, so it is writable at its end: as many flags say so as say the contrary.
+/// Each channel, of which there are 16 at most, is writable: as many flags say so as say the contrary. It answers
+/// whether there are any.
+fn assert_writable(rt: &impl Abort, net: &Net<Handler, MemoryTransport>, text: &str) -> bool {
+    let mut has_flags = false;
+    for channel in 0..16 {
+        if let Some(flags) = net.flags(channel) {
+            assert!(rt; flags.len() % 2 == 0, "{text}");
+            has_flags |= !flags.is_empty();
+        }
+    }
+    has_flags
+}
+
+/// Each example is written whole, so its channels are writable at the end.
 #[test]
 fn writable_at_the_end(rt: HostRuntime) -> Result<(), Fail> {
     let mut has_flags = false;
@@ -144,10 +173,7 @@ fn writable_at_the_end(rt: HostRuntime) -> Result<(), Fail> {
         let text = text.as_str();
         let (mut net, moves) = begun(rt.alloc(), text)?;
         go_round(&mut net, moves.as_slice())?;
-        if let Some(flags) = net.flags(0) {
-            assert!(rt; flags.len() % 2 == 0, "{text}");
-            has_flags |= !flags.is_empty();
-        }
+        has_flags |= assert_writable(&rt, &net, text);
     }
     assert!(rt; has_flags);
     Ok(())

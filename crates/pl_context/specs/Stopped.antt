@@ -1,5 +1,5 @@
 -- Which lanes have stopped on a list of envelopes, and for how many hops it has places.
-use Rattle.std.specs.Prelude.{◌≡◌, ℕ, ◌≤◌, List, [], ◌∷◌, ◌++◌, length, Bool, true, ◌==◌, ◌&&◌}
+use Rattle.std.specs.Prelude.{◌≡◌, ℕ, ◌≤◌, List, [], ◌∷◌, ◌++◌, length, Bool, true, not, ◌==◌, ◌&&◌}
 use Rattle.std.specs.List.{list_any, IsDistinct}
 use Rattle.pl_event.specs.declared.envelopes.Lane.{Lane}
 use Rattle.pl_event.specs.declared.envelopes.Kind.TheVariants.{Data, Flags}
@@ -17,6 +17,10 @@ same_hop a b = (a.channel == b.channel) && (a.hop == b.hop)
 
 abbrev pub has_stopped : Stopped → Lane → Bool
 has_stopped s lane = elim lane.kind [ Data ↦ list_any (same_hop lane) s.lanes | Flags ↦ list_any (same_hop lane) s.flag_lanes ]
+
+-- some lane has stopped
+abbrev pub any_stopped : Stopped → Bool
+any_stopped s = not (length s.lanes == 0 && length s.flag_lanes == 0)
 
 -- one lane more has stopped
 abbrev pub with_stop : Stopped → Lane → Stopped

@@ -1,5 +1,5 @@
 ghost use Rattle.std.specs.Prelude.{◌≡◌, ◌+◌, ◌<◌, ◌≤◌, ◌∷◌, ◌++◌, [], length, IfOk, IfSome, IfNone, OnSome, Some, slice_get, insert, remove, ◌==◌};
-ghost use Rattle.pl_context.specs.Stopped.{HasPlaces, no_stops};
+ghost use Rattle.pl_context.specs.Stopped.{HasPlaces, no_stops, any_stopped};
 ghost use Rattle.pl_context.specs.Queues.{Adds};
 
 use crate::outputs::failure;
@@ -46,6 +46,21 @@ impl<A> Backlog<A> {
         ensures { result ≡ (length self.now.items == 0) }
     {
         self.entries.is_empty()
+    }
+
+    /// The oldest envelope with its token, or None where there is none.
+    pub fn front(&self) -> Option<&(Envelope, A)>
+        ensures some { IfSome result (λ entry. slice_get self.now.items 0 ≡ Some entry.now) }
+        ensures none { IfNone result (self.now.items ≡ []) }
+    {
+        self.entries.front()
+    }
+
+    /// Whether a lane has stopped: a growth was refused for an item of it, and what it brings later is discarded.
+    pub fn has_stopped(&self) -> bool
+        ensures { result ≡ any_stopped self.now.stopped }
+    {
+        self.stops.has_any()
     }
 
     /// Adds an envelope at the end, or what stands in for it where no memory is found. The token comes back where the

@@ -1,6 +1,6 @@
 ghost use Rattle.std.specs.Prelude.{◌≡◌, ◌+◌, ◌<◌, ◌≤◌, ◌∷◌, ◌++◌, [], length, not, IfOk, OnOk, OnErr, IfNone, ◌==◌, ◌&&◌};
 ghost use Rattle.std.specs.Option.{option_to_list};
-ghost use Rattle.pl_context.specs.Stopped.{HasPlaces, no_stops};
+ghost use Rattle.pl_context.specs.Stopped.{HasPlaces, no_stops, any_stopped};
 ghost use Rattle.pl_context.specs.Listings.{Puts, failure_of};
 
 use crate::added::Added;
@@ -63,7 +63,7 @@ impl Outputs {
 
     /// Whether a lane has stopped: a growth was refused for an item of it, and what it brings later is discarded.
     pub fn has_stopped(&self) -> bool
-        ensures { result ≡ not (length self.now.stopped.lanes == 0 && length self.now.stopped.flag_lanes == 0) }
+        ensures { result ≡ any_stopped self.now.stopped }
     {
         self.stops.has_any()
     }

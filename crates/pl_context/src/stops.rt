@@ -1,7 +1,7 @@
 ghost use Rattle.std.specs.Prelude.{◌≡◌, ◌+◌, ◌<◌, ◌≤◌, ◌==◌, ◌&&◌, ◌∷◌, ◌++◌, [], length, not, IfOk, true, false, vec_capacity};
 ghost use Rattle.std.specs.List.{list_any};
 ghost use Rattle.pl_event.specs.declared.envelopes.Kind.TheVariants as kind;
-ghost use Rattle.pl_context.specs.Stopped.{same_hop, has_stopped, with_stop, HasPlaces, no_stops};
+ghost use Rattle.pl_context.specs.Stopped.{same_hop, has_stopped, any_stopped, with_stop, HasPlaces, no_stops};
 
 use pl_event::{Kind, Lane};
 use std::alloc::{AllocError, Global};
@@ -52,7 +52,7 @@ impl Stops {
 
     /// Whether any lane has stopped.
     pub(crate) fn has_any(&self) -> bool
-        ensures { result ≡ not (length self.now.lanes == 0 && length self.now.flag_lanes == 0) }
+        ensures { result ≡ any_stopped self.now }
     {
         !(self.lanes.is_empty() && self.flag_lanes.is_empty())
     }

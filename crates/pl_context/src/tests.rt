@@ -511,7 +511,15 @@ fn backlog_keeps_its_order(rt: HostRuntime) -> Result<(), Fail> {
     assert_eq!(rt; add(&mut backlog, 1, 11), None);
     assert_eq!(rt; add(&mut backlog, 2, 12), None);
     assert_eq!(rt; backlog.is_empty(), false);
+    assert_eq!(rt; backlog.has_stopped(), false);
     assert_eq!(rt; backlog.take_at(3).is_none(), true);
+    match backlog.front() {
+        Some((envelope, token)) => {
+            assert_eq!(rt; envelope.number, 0);
+            assert_eq!(rt; *token, 10);
+        }
+        None => panic!(rt; "nothing is there"),
+    }
     match backlog.take_at(1) {
         Some((envelope, token)) => {
             assert_eq!(rt; envelope.number, 1);
@@ -570,6 +578,7 @@ fn backlog_without_memory_gives_tokens_back(rt: HostRuntime) -> Result<(), Fail>
             Some(token) => assert_eq!(rt; token, 7),
         }
     }
+    assert!(rt; kept == 8 || backlog.has_stopped());
     assert_eq!(rt; numbers(rt.alloc(), backlog)?.len() as u64, kept);
     Ok(())
 }

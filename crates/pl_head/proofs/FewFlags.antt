@@ -56,18 +56,18 @@ event_sizes-few (Write (Command c)) before after = omega arith
 event_sizes-few (Write (Reply r)) before after = omega arith
 event_sizes-few Flush before after = omega arith
 
+one-few : (b : Bool) (size : ℕ) → length (if b then [] else Removed size ∷ []) ≤ 1
+one-few true size = omega arith
+one-few false size = omega arith
+
 -- an item adds or removes at most once, and so does a write to the transport
-pub item_sizes-few : (i : Item) (before after : ℕ) → length (item_sizes i before after) ≤ 1
-item_sizes-few (item.Event e) before after = event_sizes-few e before after
-item_sizes-few item.End before after = omega arith
-item_sizes-few (item.Fail c) before after = omega arith
-item_sizes-few (item.Flag v) before after = omega arith
+pub item_sizes-few : (has_failed : Bool) (i : Item) (before after : ℕ) → length (item_sizes has_failed i before after) ≤ 1
+item_sizes-few has_failed (item.Event e) before after = event_sizes-few e before after
+item_sizes-few has_failed item.End before after = one-few has_failed (before - after)
+item_sizes-few has_failed (item.Fail c) before after = one-few has_failed (before - after)
+item_sizes-few has_failed (item.Flag v) before after = omega arith
 
 pub step_sizes-few : (s : OutStep) (before after : ℕ) → length (step_sizes s before after) ≤ 1
-step_sizes-few (step.Wrote n) before after = by (nat_eq n 0)
-  where
-    by : (b : Bool) → length (if b then [] else Removed (before - after) ∷ []) ≤ 1
-    by true = omega arith
-    by false = omega arith
+step_sizes-few (step.Wrote n) before after = one-few (nat_eq n 0) (before - after)
 step_sizes-few step.Idle before after = omega arith
 step_sizes-few step.Failed before after = omega arith

@@ -1,13 +1,32 @@
 -- What one change more does to the marks: it turns them or leaves them.
-use Rattle.std.proofs.Common.{◌≡◌, ℕ, ◌<◌, ◌≤◌, List, [], ◌∷◌, ◌++◌, Bool, true, false, ltb, ap, sym, ◌∙◌, refl, arith}
+use Rattle.std.proofs.Common.{◌≡◌, ℕ, ◌+◌, ◌-◌, ◌<◌, ◌≤◌, List, [], ◌∷◌, ◌++◌, Bool, true, false, ltb, ap, sym, ◌∙◌, refl, arith}
 use Rattle.std.specs.Prelude.{if◌then◌else◌, nat_lt}
 use Rattle.std.proofs.lemmas.Bool.Decides.{nat_tests}
-use Rattle.pl_head.specs.Marks.{Change, changed, pending_from, pending_after, levels_from, flags, flags_from, is_unwritable, unwritable_from}
+use Rattle.pl_head.specs.Marks.{Change, Added, Removed, added_by, removed_by, changed, pending_from, pending_after, levels_from, flags, flags_from, is_unwritable, unwritable_from}
 
 -- changes behind others
 pub pending_from-append : (p : ℕ) (cs ds : List Change) → pending_from p (cs ++ ds) ≡ pending_from (pending_from p cs) ds
 pending_from-append p [] ds = refl
 pending_from-append p (c ∷ cs) ds = pending_from-append (changed p c) cs ds
+
+pub added_by-append : (cs ds : List Change) → added_by (cs ++ ds) ≡ added_by cs + added_by ds
+added_by-append [] ds = omega arith
+added_by-append (Added n ∷ cs) ds = let rest = added_by-append cs ds in omega (arith, rest)
+added_by-append (Removed n ∷ cs) ds = added_by-append cs ds
+
+pub removed_by-append : (cs ds : List Change) → removed_by (cs ++ ds) ≡ removed_by cs + removed_by ds
+removed_by-append [] ds = omega arith
+removed_by-append (Added n ∷ cs) ds = removed_by-append cs ds
+removed_by-append (Removed n ∷ cs) ds = let rest = removed_by-append cs ds in omega (arith, rest)
+
+-- what was added and removed, one change later
+pub added-exact : (p size : ℕ) (cs : List Change) → p + removed_by cs ≡ added_by cs → (p + size) + removed_by (cs ++ Added size ∷ []) ≡ added_by (cs ++ Added size ∷ [])
+added-exact p size cs h =
+    omega (arith, h, added_by-append cs (Added size ∷ []), removed_by-append cs (Added size ∷ []))
+
+pub removed-exact : (p size : ℕ) (cs : List Change) → size ≤ p → p + removed_by cs ≡ added_by cs → (p - size) + removed_by (cs ++ Removed size ∷ []) ≡ added_by (cs ++ Removed size ∷ [])
+removed-exact p size cs within h =
+    omega (arith, within, h, added_by-append cs (Removed size ∷ []), removed_by-append cs (Removed size ∷ []))
 
 pub levels_from-append : (p : ℕ) (cs ds : List Change) → levels_from p (cs ++ ds) ≡ levels_from p cs ++ levels_from (pending_from p cs) ds
 levels_from-append p [] ds = refl

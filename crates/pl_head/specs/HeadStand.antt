@@ -72,19 +72,20 @@ item_events item.End = []
 item_events (item.Fail c) = []
 item_events (item.Flag v) = []
 
--- the sizes that an item adds or removes, by the bytes that waited before it and after
-abbrev pub item_sizes : Item → ℕ → ℕ → List Change
-item_sizes (item.Event e) before after = event_sizes e before after
-item_sizes item.End before after = Removed (before - after) ∷ []
-item_sizes (item.Fail c) before after = Removed (before - after) ∷ []
-item_sizes (item.Flag v) before after = []
+-- the sizes that an item adds or removes, by the bytes that waited before it and after; where the head has failed by
+-- itself, the end of its lane closes nothing
+abbrev pub item_sizes : Bool → Item → ℕ → ℕ → List Change
+item_sizes has_failed (item.Event e) before after = event_sizes e before after
+item_sizes has_failed item.End before after = if has_failed then [] else Removed (before - after) ∷ []
+item_sizes has_failed (item.Fail c) before after = if has_failed then [] else Removed (before - after) ∷ []
+item_sizes has_failed (item.Flag v) before after = []
 
--- how the lane of an open head stands after an item
-abbrev pub standing_after : Item → Standing
-standing_after (item.Event e) = stands.Open
-standing_after item.End = stands.Ended
-standing_after (item.Fail c) = stands.Failed c
-standing_after (item.Flag v) = stands.Open
+-- how the lane of an open head stands after an item: one that has failed by itself notes no end of it
+abbrev pub standing_after : Bool → Item → Standing
+standing_after has_failed (item.Event e) = stands.Open
+standing_after has_failed item.End = if has_failed then stands.Open else stands.Ended
+standing_after has_failed (item.Fail c) = if has_failed then stands.Open else stands.Failed c
+standing_after has_failed (item.Flag v) = stands.Open
 
 -- What an open head answers to an item: an event runs, or a growth is refused for it. (A flag does not stand on its
 -- lane, and nothing comes of it.)

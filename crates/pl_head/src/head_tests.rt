@@ -19,6 +19,8 @@ const PONG: &[u8] = b"+PONG\r\n";
 enum Call {
     /// A write of so many bytes, up to all of `PONG`.
     Write(usize),
+    /// A write of `ab`.
+    WriteAb,
     WriteLine,
     Flush,
     End,
@@ -62,8 +64,7 @@ fn head(
     low: u32,
     high: u32,
 ) -> Head<MemoryTransport>
-    requires window { 1 ≤ window }
-    requires marks { low ≤ high }
+    requires { low ≤ high }
 {
     let transport = MemoryTransport::new(alloc, window, fail_at);
     Head::new(alloc, 0, 3, Sequence::new(alloc), transport, low, high)
@@ -75,6 +76,10 @@ fn item_of(alloc: Global, call: Call) -> Result<Option<Item>, AllocError> {
         Call::Write(count) => {
             let bytes = &PONG[..count.min(PONG.len())];
             let bytes = ByteString::from_vec(Vec::from_slice(alloc, bytes)?);
+            Ok(Some(Item::Event(Event::Write(Message::Bytes(bytes)))))
+        }
+        Call::WriteAb => {
+            let bytes = ByteString::from_vec(Vec::from_slice(alloc, b"ab")?);
             Ok(Some(Item::Event(Event::Write(Message::Bytes(bytes)))))
         }
         Call::WriteLine => {
@@ -102,7 +107,7 @@ pub(crate) fn give<T: Transport>(
         kind: Kind::Data,
         hop: head.hop,
     };
-    let number = head.taken();
+    let number = head.taken;
     assert!(rt; number < 1_000_000);
     let took = head.take(Envelope { lane, number, item }, &mut outputs);
     Ok((Answer::Took(took), outputs))
@@ -171,7 +176,7 @@ fn run<T: Transport>(
 
 const EMPTY: [Expected; 3] = [
     (Call::Write(0), RAN, None, 0),
-    (Call::Write(2), RAN, None, 2),
+    (Call::WriteAb, RAN, None, 2),
     (Call::Flush, RAN, None, 2),
 ];
 
@@ -189,6 +194,7 @@ fn empty_message(rt: HostRuntime) -> Result<(), Fail> {
     assert!(rt; head.outcomes() == [Some(Outcome::Success), None].as_slice());
     run(&rt, alloc, &mut head, EMPTY_WRITTEN.as_slice())?;
     assert!(rt; head.outcomes() == [Some(Outcome::Success), Some(Outcome::Success)].as_slice());
+    assert!(rt; head.bytes() == b"ab".as_slice());
     Ok(())
 }
 
@@ -236,9 +242,8 @@ fn one_byte_transport(rt: HostRuntime) -> Result<(), Fail> {
     Ok(())
 }
 
-const WATERMARKS: [Expected; 10] = [
+const WATERMARKS: [Expected; 9] = [
     (Call::Write(7), RAN, None, 7),
-    (Call::Flush, RAN, None, 7),
     (Call::Write(7), RAN, Some(false), 14),
     (Call::Flush, RAN, None, 14),
     (Call::Out, Answer::Out(OutStep::Wrote(3)), None, 14),
@@ -315,7 +320,7 @@ fn burst_held(rt: HostRuntime) -> Result<(), Fail> {
     run(&rt, alloc, &mut head, HELD.as_slice())?;
     assert!(rt; head.is_ended());
     assert!(rt; head.cause() == None);
-    let (bytes, outcomes) = head.into_parts();
+    let (bytes, outcomes) = head.copies(alloc)?;
     assert!(rt; bytes.as_slice() == b"+PONG\r\n+PONG\r\n".as_slice());
     assert!(rt; outcomes.as_slice() == [Some(Outcome::Success), Some(Outcome::Success)].as_slice());
     Ok(())
@@ -374,7 +379,7 @@ fn failure_closes_what_is_not_flushed(rt: HostRuntime) -> Result<(), Fail> {
     Ok(())
 }
 
-const TRANSPORT_FAILS: [Expected; 7] = [
+const TRANSPORT_FAILS: [Expected; 10] = [
     (Call::Read, GAVE, None, 0),
     (Call::Write(7), RAN, Some(false), 7),
     (Call::Flush, RAN, None, 7),
@@ -382,6 +387,9 @@ const TRANSPORT_FAILS: [Expected; 7] = [
     (Call::Out, Answer::Out(OutStep::Failed), None, 7),
     (Call::Out, IDLE, None, 7),
     (Call::Read, GAVE, None, 7),
+    (Call::Write(3), RAN, None, 10),
+    (Call::End, Answer::Took(Took::Ended), None, 10),
+    (Call::Out, IDLE, None, 10),
 ];
 
 #[test]
@@ -392,6 +400,27 @@ fn failed_transport(rt: HostRuntime) -> Result<(), Fail> {
     run(&rt, alloc, &mut head, TRANSPORT_FAILS.as_slice())?;
     assert!(rt; head.cause() == Some(Cause::Transport));
     assert!(rt; head.is_ended());
-    assert!(rt; head.outcomes() == [None].as_slice());
+    // An end that comes later closes nothing.
+    assert!(rt; head.outcomes() == [None, None].as_slice());
+    Ok(())
+}
+
+const FAILS_AFTER_ITS_END: [Expected; 6] = [
+    (Call::Write(7), RAN, Some(false), 7),
+    (Call::Flush, RAN, None, 7),
+    (Call::Write(3), RAN, None, 10),
+    (Call::End, Answer::Took(Took::Ended), None, 7),
+    (Call::Out, Answer::Out(OutStep::Failed), None, 7),
+    (Call::Out, IDLE, None, 7),
+];
+
+/// What the end closed stays closed.
+#[test]
+fn transport_fails_after_the_end(rt: HostRuntime) -> Result<(), Fail> {
+    let alloc = rt.alloc();
+    let mut head = head(alloc, 4, Some(1), 1, 2);
+    run(&rt, alloc, &mut head, FAILS_AFTER_ITS_END.as_slice())?;
+    assert!(rt; head.cause() == Some(Cause::Transport));
+    assert!(rt; head.outcomes() == [None, Some(Outcome::Closed)].as_slice());
     Ok(())
 }

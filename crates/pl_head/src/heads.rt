@@ -11,7 +11,7 @@ ghost use Rattle.pl_context.specs.Listings.{PutsAll};
 ghost use Rattle.pl_context.specs.Ports.{numbered};
 ghost use Rattle.pl_head.specs.ReadSteps.{entrance, step_count, step_items, read_items};
 ghost use Rattle.pl_head.specs.Writes.{out, outcomes, offered, flushed_writes};
-ghost use Rattle.pl_head.specs.Marks.{Change, pending_after, is_unwritable};
+ghost use Rattle.pl_head.specs.Marks.{Change, pending_after, added_by, removed_by, is_unwritable};
 ghost use Rattle.pl_head.specs.FlagLanes.{flags_lane};
 ghost use Rattle.pl_head.specs.WritabilityStand.{SendsFlags};
 ghost use Rattle.pl_head.specs.Transports.{counted};
@@ -53,7 +53,7 @@ pub struct Head<T> {
     transport: T,
     pub(crate) channel: u16,
     pub(crate) hop: u16,
-    taken: u64,
+    pub(crate) taken: u64,
     pub(crate) standing: Standing,
     /// Why it failed by itself.
     failure: Option<Cause>,
@@ -172,7 +172,9 @@ impl<T: Transport> Head<T> {
     }
 
     /// Takes the next item of its lane. It answers `Ran` for an event, `Failed(Memory)` where it finds no memory for
-    /// one, `Ended` for an end, and `Failed` for a failure.
+    /// one, `Ended` for an end, and `Failed` for a failure. An end or a failure closes the writes that are not flushed,
+    /// unless the head has failed by itself before. After `Failed(Memory)` the head has failed: it writes nothing more,
+    /// and its outcomes stay as they are.
     pub fn take(&mut self, envelope: Envelope, outputs: &mut Outputs) -> Took
         requires enters { EntersHead self.old envelope.lane }
         requires open { self.old.standing ≡ stands.Open }
@@ -184,22 +186,23 @@ impl<T: Transport> Head<T> {
         // After whichever events it stood, it stands after those and what the item brought.
         ensures stands { IsPlaced envelope.item result → (ys : List Event) (sizes : List Change) → StandsAfter T.state self.old ys sizes
             → StandsAfter T.state self.new (ys ++ item_events envelope.item)
-            (sizes ++ item_sizes envelope.item (waiting_at T.state self.old ys) (waiting_at T.state self.new (ys ++ item_events envelope.item))) }
+            (sizes ++ item_sizes (is_some self.old.failure) envelope.item (waiting_at T.state self.old ys) (waiting_at T.state self.new (ys ++ item_events envelope.item))) }
         ensures flags { IsPlaced envelope.item result → (ys : List Event) (sizes : List Change) → StandsAfter T.state self.old ys sizes
             → SendsFlags self.old.buffer.low self.old.buffer.high sizes
-            (item_sizes envelope.item (waiting_at T.state self.old ys) (waiting_at T.state self.new (ys ++ item_events envelope.item)))
+            (item_sizes (is_some self.old.failure) envelope.item (waiting_at T.state self.old ys) (waiting_at T.state self.new (ys ++ item_events envelope.item)))
             self.old.buffer.flags outputs.old self.new.buffer.flags outputs.new }
 
         // An event for which there is no memory sends no flag, and the head has failed.
         ensures refused { (event : Event) → envelope.item ≡ Item.Event event → result ≢ took.Ran → outputs.new ≡ outputs.old }
         ensures failure { self.new.failure ≡ first_cause self.old.failure (cause_of_item envelope.item result) }
         ensures taken { self.new.taken ≡ self.old.taken + 1 }
-        ensures standing { self.new.standing ≡ standing_after envelope.item }
+        ensures standing { self.new.standing ≡ standing_after (is_some self.old.failure) envelope.item }
         ensures same { self.new ≡ record self.old { taken = self.new.taken; standing = self.new.standing; failure = self.new.failure; buffer = self.new.buffer } }
         ensures marks { SameMarks self.old.buffer self.new.buffer }
         ensures few { HasFewFlags self.new }
     {
         self.taken += 1;
+        let has_failed = self.failure.is_some();
         match envelope.item {
             Item::Event(event) => match self.buffer.take(event, outputs) {
                 Ok(()) => Took::Ran,
@@ -209,13 +212,17 @@ impl<T: Transport> Head<T> {
                 }
             },
             Item::End => {
-                self.buffer.close(outputs);
-                self.standing = Standing::Ended;
+                if !has_failed {
+                    self.buffer.close(outputs);
+                    self.standing = Standing::Ended;
+                }
                 Took::Ended
             }
             Item::Fail(cause) => {
-                self.buffer.close(outputs);
-                self.standing = Standing::Failed(cause);
+                if !has_failed {
+                    self.buffer.close(outputs);
+                    self.standing = Standing::Failed(cause);
+                }
                 Took::Failed(cause)
             }
             Item::Flag(_) => Took::Ran,
@@ -289,6 +296,8 @@ impl<T: Transport> Head<T> {
 
     /// How many bytes the writes hold that have no outcome yet.
     pub fn pending(&self) -> u128
+        // What was added less what was removed.
+        ensures exact { (ys : List Event) (sizes : List Change) → StandsAfter T.state self.now ys sizes → result + removed_by sizes ≡ added_by sizes }
         ensures sizes { (ys : List Event) (sizes : List Change) → StandsAfter T.state self.now ys sizes → result ≡ pending_after sizes }
         ensures waiting { (ys : List Event) (sizes : List Change) → StandsAfter T.state self.now ys sizes → result ≡ waiting_at T.state self.now ys }
     {
@@ -339,14 +348,6 @@ impl<T: Transport> Head<T> {
         }
     }
 
-    /// How many items of its lane it has taken.
-    pub fn taken(&self) -> u64
-        ensures taken { result ≡ self.now.taken }
-        ensures few { HasFewFlags self.now }
-    {
-        self.taken
-    }
-
     /// Whether no flushed byte waits.
     pub fn is_written(&self) -> bool
         ensures { (ys : List Event) (sizes : List Change) → StandsAfter T.state self.now ys sizes
@@ -369,25 +370,6 @@ impl<T: Transport> Head<T> {
         let bytes = self.transport.bytes().to_vec(alloc)?;
         let outcomes = Vec::from_slice(alloc, self.buffer.outcomes())?;
         Ok((ByteString::from_vec(bytes), Sequence::from_vec(outcomes)))
-    }
-
-    /// Gives up the bytes that were accepted, and the outcome of each write. It takes no memory.
-    pub fn into_parts(self) -> (ByteString, Sequence<Option<Outcome>>)
-        ensures bytes { result.0 ≡ (T.state self.transport).accepted }
-        ensures prefix { (ys : List Event) (sizes : List Change) → StandsAfter T.state self ys sizes
-            → result.0 ≡ take (length (T.state self.transport).accepted) (out ys) }
-        ensures outcomes { (ys : List Event) (sizes : List Change) → StandsAfter T.state self ys sizes
-            → result.1 ≡ outcomes ys (length (T.state self.transport).accepted) (is_over self.standing) }
-    {
-        let Head {
-            transport,
-            buffer,
-            ..
-        } = self;
-        (
-            ByteString::from_vec(transport.into_bytes()),
-            Sequence::from_vec(buffer.into_outcomes()),
-        )
     }
 }
 

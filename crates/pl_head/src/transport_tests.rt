@@ -1,5 +1,5 @@
-ghost use Rattle.std.specs.Prelude.{◌≡◌, ◌++◌, ◌==◌, ◌+◌, List, [], length, take, None, IfOk, OnOk, OnErr, nat_eq, if◌then◌else◌};
-ghost use Rattle.pl_head.specs.Transports.{new_state, counted};
+ghost use Rattle.std.specs.Prelude.{◌≡◌, None};
+ghost use Rattle.pl_head.specs.Transports.{new_state};
 
 use crate::transports::{MemoryTransport, Transport, TransportFault};
 use std::alloc::{AllocError, Global};
@@ -45,11 +45,6 @@ impl Transport for Trickle {
     fn bytes(&self) -> &[u8] {
         self.bytes.as_slice()
     }
-
-    fn into_bytes(self) -> Vec<u8> {
-        let Trickle { bytes, .. } = self;
-        bytes
-    }
 }
 
 /// Offers a text again and again, what is left of it each time, and answers what each call answered.
@@ -90,7 +85,7 @@ fn window_of_1(rt: HostRuntime) -> Result<(), Fail> {
     let mut transport = MemoryTransport::new(alloc, 1, None);
     let answers = offer(alloc, &mut transport, b"ab", 3)?;
     assert_eq!(rt; answers.as_slice(), [Ok(1), Ok(1), Ok(0)].as_slice());
-    assert_eq!(rt; transport.into_bytes().as_slice(), b"ab".as_slice());
+    assert_eq!(rt; transport.bytes(), b"ab".as_slice());
     Ok(())
 }
 
@@ -128,6 +123,6 @@ fn a_byte_at_every_second_call(rt: HostRuntime) -> Result<(), Fail> {
         answers.as_slice(),
         [Ok(0), Ok(1), Ok(0), Ok(1), Ok(0)].as_slice()
     );
-    assert_eq!(rt; transport.into_bytes().as_slice(), b"ab".as_slice());
+    assert_eq!(rt; transport.bytes(), b"ab".as_slice());
     Ok(())
 }

@@ -53,10 +53,6 @@ pub trait Transport: Drop {
     /// The bytes accepted so far.
     fn bytes(&self) -> &[u8]
         ensures { result.now ≡ (state self.now).accepted };
-
-    /// Gives the accepted bytes up, for a report. It takes no memory.
-    fn into_bytes(self) -> Vec<u8>
-        ensures { result.items ≡ (state self).accepted };
 }
 
 /// A transport over memory, which accepts a window of bytes a call, and may fail at one call.
@@ -79,10 +75,9 @@ impl Model for MemoryTransport {
 }
 
 impl MemoryTransport {
-    /// One that was not called. A call accepts at most `window` bytes, 1 or more; the call of number `fail_at`, from 1,
-    /// fails. It takes no memory.
+    /// One that was not called. A call accepts at most `window` bytes; the call of number `fail_at`, from 1, fails. It
+    /// takes no memory.
     pub fn new(alloc: Global, window: u32, fail_at: Option<u32>) -> Self
-        requires { 1 ≤ window }
         ensures state { ⟦<MemoryTransport as Transport>⟧.state result ≡ new_state (Some window) }
         ensures window { result.window ≡ window }
         ensures fail_at { result.fail_at ≡ fail_at }
@@ -147,10 +142,5 @@ impl Transport for MemoryTransport {
 
     fn bytes(&self) -> &[u8] {
         self.bytes.as_slice()
-    }
-
-    fn into_bytes(self) -> Vec<u8> {
-        let MemoryTransport { bytes, .. } = self;
-        bytes
     }
 }

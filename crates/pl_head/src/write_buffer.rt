@@ -4,7 +4,7 @@ ghost use Rattle.std.specs.Prelude.{◌≡◌, ℕ, ◌+◌, ◌-◌, ◌<◌, �
 ghost use Rattle.pl_event.specs.declared.events.Event.{Event};
 ghost use Rattle.pl_context.specs.Stopped.{HasPlaces};
 ghost use Rattle.pl_head.specs.Writes.{bytes_of, flushed_writes, out, outcomes, offered, waiting_bytes};
-ghost use Rattle.pl_head.specs.Marks.{Change, Added, Removed, pending_after, is_unwritable};
+ghost use Rattle.pl_head.specs.Marks.{Change, Added, Removed, pending_after, added_by, removed_by, is_unwritable};
 ghost use Rattle.pl_head.specs.FlagLanes.{flags_lane};
 ghost use Rattle.pl_head.specs.Queue.{first_size, queue_size};
 ghost use Rattle.pl_head.specs.Buffers.{event_sizes};
@@ -177,6 +177,7 @@ impl WriteBuffer {
 
     /// How many bytes the messages that wait hold.
     pub(crate) fn pending(&self) -> u128
+        ensures exact { (accepted : List ℕ) (ys : List Event) (ended : Bool) (sizes : List Change) → BufferStands accepted (buffered self.now) ys ended sizes → result + removed_by sizes ≡ added_by sizes }
         ensures sizes { (accepted : List ℕ) (ys : List Event) (ended : Bool) (sizes : List Change) → BufferStands accepted (buffered self.now) ys ended sizes → result ≡ pending_after sizes }
         ensures waiting { (accepted : List ℕ) (ys : List Event) (ended : Bool) (sizes : List Change) → BufferStands accepted (buffered self.now) ys ended sizes → result ≡ waiting_bytes ys (length accepted) ended }
     {
@@ -206,14 +207,5 @@ impl WriteBuffer {
         ensures { (accepted : List ℕ) (ys : List Event) (ended : Bool) (sizes : List Change) → BufferStands accepted (buffered self.now) ys ended sizes → result.now ≡ outcomes ys (length accepted) ended }
     {
         self.messages.outcomes.as_slice()
-    }
-
-    /// Gives the outcome of each write up.
-    pub(crate) fn into_outcomes(self) -> Vec<Option<Outcome>>
-        ensures { (accepted : List ℕ) (ys : List Event) (ended : Bool) (sizes : List Change) → BufferStands accepted (buffered self) ys ended sizes → result.items ≡ outcomes ys (length accepted) ended }
-    {
-        let WriteBuffer { messages, .. } = self;
-        let Outbound { outcomes, .. } = messages;
-        outcomes
     }
 }

@@ -1,10 +1,9 @@
 -- What the steps of an executor do to its queue and its backlog, in the terms of the model.
-use Rattle.std.proofs.Common.{◌≡◌, ◌≢◌, ℕ, suc, ◌+◌, ◌<◌, ◌≤◌, Bool, true, cond, not, Option, Some, List, [], ◌∷◌, ◌++◌, length, map, get_or, set, take, drop, refl, sym, ap, ◌∙◌, subst, arith, inl, inr, length-append, append-nil}
+use Rattle.std.proofs.Common.{◌≡◌, ◌≢◌, ℕ, suc, ◌+◌, ◌<◌, ◌≤◌, Bool, true, cond, Option, Some, List, [], ◌∷◌, ◌++◌, length, map, get_or, set, take, drop, refl, sym, ap, ◌∙◌, subst, arith, inl, inr, length-append, append-nil}
 use Rattle.std.specs.List.{All, filter, find, position, remove, slice_get}
 use Rattle.std.specs.Option.{option_map}
-use Rattle.std.proofs.lemmas.List.{length-map, map-append, drop-map, get_or_append_left, get_or-set_same, get_or-set_other, length-set}
-use Rattle.std.proofs.lemmas.List.Elements.{All-head, All-tail, All-nil, All-push, All-append, All-take, All-drop, All-weaker, filter-append}
-use Rattle.std.proofs.lemmas.List.Filters.{length-filter_both}
+use Rattle.std.proofs.lemmas.List.{map-append, drop-map, get_or_append_left, get_or-set_same, get_or-set_other, length-set}
+use Rattle.std.proofs.lemmas.List.Elements.{All-nil, All-push, All-append, All-take, All-drop, All-weaker, filter-append}
 use Rattle.std.proofs.lemmas.List.Quantifiers.{all_pairs_push, all_pairs_remove}
 use Rattle.std.proofs.lemmas.Option.{none-some, slice_get-map, slice_get_within, slice_get-get_or, slice_get_read, get_or_from_slice_get}
 use Rattle.std.proofs.lemmas.Bool.{cases_eq, cases_lt, eqb-true, ne_eqb, false≢true}
@@ -18,7 +17,7 @@ use Rattle.pl_replay.specs.CoreMoves.{target}
 use Rattle.pl_channel.specs.Envelopes.{envelope_at}
 use Rattle.pl_replay.specs.BacklogStand.{Aged, IsByAge, is_for, is_aged_for, entry_at, WaitingStands, BacklogStands, ExecutorStands, Keeps}
 use Rattle.pl_replay.specs.declared.executors.Executor.{Executor}
-use Rattle.pl_replay.specs.declared.executors.Waiting.{Waiting}
+use Rattle.pl_context.specs.Queues.{Queue}
 use Rattle.std.proofs.Math.Seq.{get_or-append_seam}
 use Rattle.pl_replay.proofs.Firsts.{IsFirst, find-filter, find-map, option_map-map, position-first, position-map, filter-remove_first, filter-remove_other}
 
@@ -29,16 +28,6 @@ by_age-head first rest order = λ k d below. order 0 (suc k) d (omega arith) (om
 
 pub by_age-tail : (first : Aged) (rest : List Aged) → IsByAge (first ∷ rest) → IsByAge rest
 by_age-tail first rest order = λ i j d before below. order (suc i) (suc j) d (omega (arith, before)) (omega (arith, below))
-
--- there are no more items than ages
-few-aged : (aged : List Aged) (low high : ℕ) → low ≤ high → IsByAge aged → All (λ i. low ≤ i.age) aged → All (λ i. i.age < high) aged → low + length aged ≤ high
-few-aged [] low high within order above below = omega (arith, within)
-few-aged (first ∷ rest) low high within order above below =
-    let from = All-head (λ (i : Aged). low ≤ i.age) first rest above in
-    let under = All-head (λ (i : Aged). i.age < high) first rest below in
-    let behind = All-weaker (λ (i : Aged). first.age < i.age) (λ (i : Aged). first.age + 1 ≤ i.age) (λ i h. omega (arith, h)) rest (by_age-head first rest order) in
-    let few = few-aged rest (first.age + 1) high (omega (arith, under)) (by_age-tail first rest order) behind (All-tail (λ (i : Aged). i.age < high) first rest below) in
-    omega (arith, from, few)
 
 -- ---- what waits for one executor
 
@@ -53,39 +42,32 @@ places-one places lane some = record {
 }
 
 module _ (plan : Plan) (places : ℕ → ℕ) (aged : List Aged) (e : Executor) (b : BacklogStands plan places aged e) where
-  pub waiting-at : (y : ℕ) (w : Waiting) → y < plan.executors → w ≡ get_or e.waiting.items y w → WaitingStands plan y aged (places y) w
+  pub waiting-at : (y : ℕ) (w : Queue ℕ) → y < plan.executors → w ≡ get_or e.waiting.items y w → WaitingStands plan y aged (places y) w
   waiting-at y w there is =
       b.waiting y w (slice_get_read e.waiting.items (length e.waiting.items) y w refl (omega (arith, there, b.targets)) is)
 
-  pub waiting-place : (y : ℕ) (w : Waiting) (lane : Lane) → WaitingStands plan y aged (places y) w → 1 ≤ places y → HasPlaces w.backlog.stopped (lane ∷ [])
+  pub waiting-place : (y : ℕ) (w : Queue ℕ) (lane : Lane) → WaitingStands plan y aged (places y) w → 1 ≤ places y → HasPlaces w.stopped (lane ∷ [])
   waiting-place y w lane ws some =
       subst (λ (t : Stopped). HasPlaces t (lane ∷ [])) (sym ws.stopped) (places-one (places y) lane some)
 
-  pub waiting-few : (y : ℕ) (w : Waiting) → WaitingStands plan y aged (places y) w → w.count ≤ e.next_age
-  waiting-few y w ws =
-      let all = few-aged aged 0 e.next_age (omega arith) b.order (λ k d below. omega arith) b.younger in
-      let some = length-filter_both (is_aged_for plan y) (λ i. not (is_aged_for plan y i)) (λ i. refl) aged in
-      let size = length-map (filter (is_aged_for plan y) aged) (entry_at plan) in
-      omega (arith, ws.count, ap (λ (l : List (Envelope × ℕ)). length l) ws.items, size, some, all)
-
 -- what its front is
-module _ (plan : Plan) (y : ℕ) (aged : List Aged) (places : ℕ) (w : Waiting) (ws : WaitingStands plan y aged places w) where
+module _ (plan : Plan) (y : ℕ) (aged : List Aged) (places : ℕ) (w : Queue ℕ) (ws : WaitingStands plan y aged places w) where
   abbrev front : Option Aged
   front = find (is_aged_for plan y) aged
 
-  front-entry : slice_get w.backlog.items 0 ≡ option_map (entry_at plan) front
+  front-entry : slice_get w.items 0 ≡ option_map (entry_at plan) front
   front-entry =
       ap (λ (l : List (Envelope × ℕ)). slice_get l 0) ws.items
       ∙ slice_get-map (entry_at plan) (filter (is_aged_for plan y) aged) 0
       ∙ ap (option_map (entry_at plan)) (sym (find-filter (is_aged_for plan y) aged))
 
-  pub front-age : option_map (λ (entry : Envelope × ℕ). entry.1) (slice_get w.backlog.items 0) ≡ option_map (λ (i : Aged). i.age) front
+  pub front-age : option_map (λ (entry : Envelope × ℕ). entry.1) (slice_get w.items 0) ≡ option_map (λ (i : Aged). i.age) front
   front-age =
       ap (option_map (λ (entry : Envelope × ℕ). entry.1)) front-entry
       ∙ option_map-map (entry_at plan) (λ (entry : Envelope × ℕ). entry.1) front
 
   pub front-envelope : (backlog : List Place) → backlog ≡ map (λ (i : Aged). i.place) aged
-      → option_map (λ (entry : Envelope × ℕ). entry.0) (slice_get w.backlog.items 0) ≡ option_map (envelope_at plan) (find (is_for plan y) backlog)
+      → option_map (λ (entry : Envelope × ℕ). entry.0) (slice_get w.items 0) ≡ option_map (envelope_at plan) (find (is_for plan y) backlog)
   front-envelope backlog is =
       ap (option_map (λ (entry : Envelope × ℕ). entry.0)) front-entry
       ∙ option_map-map (entry_at plan) (λ (entry : Envelope × ℕ). entry.0) front
@@ -96,8 +78,8 @@ module _ (plan : Plan) (y : ℕ) (aged : List Aged) (places : ℕ) (w : Waiting)
 -- ---- one of the parts has changed
 
 -- what holds of each, where one was written
-each-set : (ws : List Waiting) (y : ℕ) (new : Waiting) (P : ℕ → Waiting → Type 0) → ((z : ℕ) (w : Waiting) → z ≢ y → slice_get ws z ≡ Some w → P z w) → P y new
-    → (z : ℕ) (w : Waiting) → slice_get (set ws y new) z ≡ Some w → P z w
+each-set : (ws : List (Queue ℕ)) (y : ℕ) (new : Queue ℕ) (P : ℕ → Queue ℕ → Type 0) → ((z : ℕ) (w : Queue ℕ) → z ≢ y → slice_get ws z ≡ Some w → P z w) → P y new
+    → (z : ℕ) (w : Queue ℕ) → slice_get (set ws y new) z ≡ Some w → P z w
 each-set ws y new P others here z w at =
     let within : z < length ws = omega (arith, slice_get_within (set ws y new) z w at, length-set ws y new) in
     elim (cases_eq z y) [
@@ -107,33 +89,24 @@ each-set ws y new P others here z w at =
       | inr other ↦
           others z w other
           (slice_get-get_or ws z w within
-          ∙ ap (λ (v : Waiting). Some v) (sym (get_or-set_other ws y z new w other) ∙ get_or_from_slice_get (set ws y new) z w w at))
+          ∙ ap (λ (v : Queue ℕ). Some v) (sym (get_or-set_other ws y z new w other) ∙ get_or_from_slice_get (set ws y new) z w w at))
     ]
 
-module _ (plan : Plan) (places : ℕ → ℕ) (aged : List Aged) (e : Executor) (b : BacklogStands plan places aged e) (y : ℕ) (new : Waiting) (after : Executor)
+module _ (plan : Plan) (places : ℕ → ℕ) (aged : List Aged) (e : Executor) (b : BacklogStands plan places aged e) (y : ℕ) (new : Queue ℕ) (after : Executor)
     (written : after.waiting.items ≡ set e.waiting.items y new) where
   set-stands : (now : List Aged) → IsByAge now → All (λ i. i.age < after.next_age) now → WaitingStands plan y now (places y) new
       → ((z : ℕ) → z ≢ y → filter (is_aged_for plan z) now ≡ filter (is_aged_for plan z) aged) → BacklogStands plan places now after
   set-stands now order younger here others = record {
     order = order;
     younger = younger;
-    targets = ap (λ (l : List Waiting). length l) written ∙ length-set e.waiting.items y new ∙ b.targets;
+    targets = ap (λ (l : List (Queue ℕ)). length l) written ∙ length-set e.waiting.items y new ∙ b.targets;
     waiting = λ z w at. each-set e.waiting.items y new (λ z w. WaitingStands plan z now (places z) w)
         (λ z w other at. let was = b.waiting z w at in record {
           items = was.items ∙ ap (map (entry_at plan)) (sym (others z other));
           stopped = was.stopped;
-          count = was.count;
         })
-        here z w (subst (λ (l : List Waiting). slice_get l z ≡ Some w) written at);
+        here z w (subst (λ (l : List (Queue ℕ)). slice_get l z ≡ Some w) written at);
   }
-
-  -- only the room has changed
-  pub set-stands-same : (w : Waiting) → WaitingStands plan y aged (places y) w → after.next_age ≡ e.next_age
-      → new.backlog.items ≡ w.backlog.items → new.backlog.stopped ≡ w.backlog.stopped → new.count ≡ w.count → BacklogStands plan places aged after
-  set-stands-same w was age items stopped count =
-      set-stands aged b.order (subst (λ (n : ℕ). All (λ i. i.age < n) aged) (sym age) b.younger)
-      (record { items = items ∙ was.items; stopped = stopped ∙ was.stopped; count = count ∙ was.count ∙ ap (λ (l : List (Envelope × ℕ)). length l) (sym items) })
-      (λ z other. refl)
 
   -- one item more
   module _ (item : Place) (for : is_for plan y item ≡ true) where
@@ -154,10 +127,10 @@ module _ (plan : Plan) (places : ℕ → ℕ) (aged : List Aged) (e : Executor) 
         ∙ ap (λ (t : Bool). filter (is_aged_for plan z) aged ++ cond t (late ∷ []) []) (ne_eqb (target plan item) z (λ same. other (sym same ∙ eqb-true (target plan item) y for)))
         ∙ append-nil (filter (is_aged_for plan z) aged)
 
-    pub set-stands-more : (w : Waiting) → WaitingStands plan y aged (places y) w → after.next_age ≡ e.next_age + 1
-        → new.backlog.items ≡ w.backlog.items ++ (envelope_at plan item, e.next_age) ∷ [] → new.backlog.stopped ≡ w.backlog.stopped → new.count ≡ w.count + 1
+    pub set-stands-more : (w : Queue ℕ) → WaitingStands plan y aged (places y) w → after.next_age ≡ e.next_age + 1
+        → new.items ≡ w.items ++ (envelope_at plan item, e.next_age) ∷ [] → new.stopped ≡ w.stopped
         → BacklogStands plan places more after
-    set-stands-more w was age items stopped count =
+    set-stands-more w was age items stopped =
         set-stands more
         (all_pairs_push (λ (older later : Aged). older.age < later.age) aged late b.order b.younger)
         (subst (λ (n : ℕ). All (λ i. i.age < n) more) (sym age)
@@ -169,10 +142,6 @@ module _ (plan : Plan) (places : ℕ → ℕ) (aged : List Aged) (e : Executor) 
               ∙ sym (map-append (entry_at plan) (filter (is_aged_for plan y) aged) (late ∷ []))
               ∙ ap (map (entry_at plan)) (sym more-same);
           stopped = stopped ∙ was.stopped;
-          count = count
-              ∙ ap (λ (n : ℕ). n + 1) was.count
-              ∙ sym (length-append w.backlog.items ((envelope_at plan item, e.next_age) ∷ []))
-              ∙ ap (λ (l : List (Envelope × ℕ)). length l) (sym items);
         })
         more-other
 
@@ -183,10 +152,10 @@ module _ (plan : Plan) (places : ℕ → ℕ) (aged : List Aged) (e : Executor) 
         filter-remove_other (is_aged_for plan z) aged i first.within
         (λ d. ne_eqb (target plan (get_or aged i d).place) z (λ same. other (sym same ∙ eqb-true (target plan (get_or aged i d).place) y (first.passes d))))
 
-    pub set-stands-less : (w : Waiting) → WaitingStands plan y aged (places y) w → after.next_age ≡ e.next_age
-        → new.backlog.items ≡ drop 1 w.backlog.items → new.backlog.stopped ≡ w.backlog.stopped → new.count ≡ length new.backlog.items
+    pub set-stands-less : (w : Queue ℕ) → WaitingStands plan y aged (places y) w → after.next_age ≡ e.next_age
+        → new.items ≡ drop 1 w.items → new.stopped ≡ w.stopped
         → BacklogStands plan places (remove aged i) after
-    set-stands-less w was age items stopped count =
+    set-stands-less w was age items stopped =
         set-stands (remove aged i)
         (all_pairs_remove (λ (older later : Aged). older.age < later.age) aged i first.within b.order)
         (subst (λ (n : ℕ). All (λ i. i.age < n) (remove aged i)) (sym age)
@@ -197,7 +166,6 @@ module _ (plan : Plan) (places : ℕ → ℕ) (aged : List Aged) (e : Executor) 
               ∙ drop-map (entry_at plan) 1 (filter (is_aged_for plan y) aged)
               ∙ ap (map (entry_at plan)) (sym (filter-remove_first (is_aged_for plan y) aged i first));
           stopped = stopped ∙ was.stopped;
-          count = count;
         })
         less-other
 
@@ -220,19 +188,18 @@ stands-kept plan places s before after k st = record {
 -- ---- at the start
 
 -- nothing waits, with places for so many lanes
-pub record IsIdle (places : ℕ) (w : Waiting) : Type 0 where
-  pub items : w.backlog.items ≡ []
-  pub stopped : w.backlog.stopped ≡ no_stops places
-  pub count : w.count ≡ 0
+pub record IsIdle (places : ℕ) (w : Queue ℕ) : Type 0 where
+  pub items : w.items ≡ []
+  pub stopped : w.stopped ≡ no_stops places
 
-pub record AreIdle (places : List ℕ) (n : ℕ) (ws : List Waiting) : Type 0 where
+pub record AreIdle (places : List ℕ) (n : ℕ) (ws : List (Queue ℕ)) : Type 0 where
   pub size : length ws ≡ n
-  pub each : (y : ℕ) (w : Waiting) → slice_get ws y ≡ Some w → IsIdle (get_or places y 0) w
+  pub each : (y : ℕ) (w : Queue ℕ) → slice_get ws y ≡ Some w → IsIdle (get_or places y 0) w
 
 pub idle-none : (places : List ℕ) → AreIdle places 0 []
 idle-none places = record { size = refl; each = λ y w at. absurd (none-some w at) }
 
-pub idle-push : (places : List ℕ) (n : ℕ) (ws : List Waiting) (new : Waiting) → AreIdle places n ws → IsIdle (get_or places n 0) new → AreIdle places (n + 1) (ws ++ new ∷ [])
+pub idle-push : (places : List ℕ) (n : ℕ) (ws : List (Queue ℕ)) (new : Queue ℕ) → AreIdle places n ws → IsIdle (get_or places n 0) new → AreIdle places (n + 1) (ws ++ new ∷ [])
 idle-push places n ws new idle here = record {
   size = omega (arith, length-append ws (new ∷ []), idle.size);
   each = λ y w at.
@@ -240,11 +207,11 @@ idle-push places n ws new idle here = record {
       let is = get_or_from_slice_get (ws ++ new ∷ []) y w w at in
       elim (cases_lt y (length ws)) [
         | inl before ↦
-            idle.each y w (slice_get-get_or ws y w before ∙ ap (λ (v : Waiting). Some v) (sym (get_or_append_left ws (new ∷ []) w y before) ∙ is))
+            idle.each y w (slice_get-get_or ws y w before ∙ ap (λ (v : Queue ℕ). Some v) (sym (get_or_append_left ws (new ∷ []) w y before) ∙ is))
         | inr behind ↦
             let last : y ≡ length ws = omega (arith, within, behind, length-append ws (new ∷ [])) in
             let same = sym (get_or-append_seam ws new [] w) ∙ ap (λ (k : ℕ). get_or (ws ++ new ∷ []) k w) (sym last) ∙ is in
-            subst (λ (v : Waiting). IsIdle (get_or places y 0) v) same (subst (λ (k : ℕ). IsIdle (get_or places k 0) new) (sym idle.size ∙ sym last) here)
+            subst (λ (v : Queue ℕ). IsIdle (get_or places y 0) v) same (subst (λ (k : ℕ). IsIdle (get_or places k 0) new) (sym idle.size ∙ sym last) here)
       ];
 }
 
@@ -264,7 +231,6 @@ stands-idle plan lanes places e size same empty idle = record {
         record {
           items = here.items;
           stopped = here.stopped ∙ ap no_stops (same y (omega (arith, within, idle.size, size)));
-          count = here.count ∙ sym (ap (λ (l : List (Envelope × ℕ)). length l) here.items);
         };
   };
 }

@@ -16,7 +16,7 @@ use Rattle.pl_channel.specs.MadeItems.{Place, last_hop, writer, data_lane, flags
 use Rattle.pl_world.specs.PlanRules.{IsPlan, IsChannelPlan}
 use Rattle.pl_channel.specs.ChannelStates.{ChannelState, taken_of}
 use Rattle.pl_replay.specs.States.{State, channel_at, with_channel}
-use Rattle.pl_channel.specs.ChannelMoves.{home, flags_sent, new_flags, after_taking, made_of, is_held, can_read, at_head, IsAccepted, written, origin_by}
+use Rattle.pl_channel.specs.ChannelMoves.{home, flags_sent, new_flags, after_taking, made_of, is_held, can_read, at_head, IsAccepted, written, origin_by, failed}
 use Rattle.pl_replay.specs.CoreMoves.{made_from, with_taken, after_call, after_read, after_write}
 use Rattle.pl_replay.specs.LaneAccount.{data_made, flags_made, made_at, origin, numbers_on, in_flight, IsLane, IsWork, IsChannelState, IsAccounted}
 use Rattle.pl_replay.specs.Untaken.{untaken_in, untaken}
@@ -315,16 +315,16 @@ module _ (plan : Plan) (ok : IsPlan plan) (s : State) (a : IsAccounted plan 0 s 
 
   -- which makes nothing
   pub nothing_more : (kind : Kind) (hop : ℕ) → hop ≤ last_hop p kind
-      → Gets (made_at p at_first (lane_of c kind hop)) (made_at p (record at_first { has_failed = true }) (lane_of c kind hop)) (numbers_on (lane_of c kind hop) [])
+      → Gets (made_at p at_first (lane_of c kind hop)) (made_at p (failed p at_first) (lane_of c kind hop)) (numbers_on (lane_of c kind hop) [])
   nothing_more Data zero low = gets_none (data_made p at_first 0) (data_made p at_first 0) [] refl refl
   nothing_more Data (suc hop) low = gets_none (data_made p at_first (suc hop)) (data_made p at_first (suc hop)) [] refl refl
   nothing_more Flags zero low = gets_none (flags_sent p at_first) (flags_sent p at_first) [] refl refl
   nothing_more Flags (suc hop) low = gets_none (flags_made p at_first (suc hop)) (flags_made p at_first (suc hop)) [] refl refl
 
-  pub accounted_failed : IsAccounted plan 0 (with_channel s c (record at_first { has_failed = true })) []
+  pub accounted_failed : IsAccounted plan 0 (with_channel s c (failed p at_first)) []
   accounted_failed =
-      accounted_nothing plan 0 (with_channel s c (record at_first { has_failed = true })) []
-      (owes_step plan 0 0 s c p here (record at_first { has_failed = true }) [] [] [] a (record {
+      accounted_nothing plan 0 (with_channel s c (failed p at_first)) []
+      (owes_step plan 0 0 s c p here (failed p at_first) [] [] [] a (record {
         state = record { hops = state_first.hops; flags_hops = state_first.flags_hops; reads = state_first.reads; accepted = state_first.accepted };
         more = nothing_more;
         taken = same_taken;

@@ -17,8 +17,7 @@ use Rattle.pl_world.specs.PlanRules.{IsSmallPlan, IsSmallChannel}
 use Rattle.pl_channel.specs.ChannelStates.{ChannelState}
 use Rattle.pl_replay.specs.States.{ExecutorState, State, channel_at, executor_at, with_channel, with_executor}
 use Rattle.pl_channel.specs.Envelopes.{envelopes_at}
-use Rattle.pl_replay.specs.BacklogStand.{ExecutorStands, AllKeep}
-use Rattle.pl_replay.proofs.Backlogs.{stands-kept}
+use Rattle.pl_replay.specs.BacklogStand.{ExecutorStands}
 use Rattle.pl_replay.specs.NetStand.{lanes_between, all_made, CoreHolds}
 use Rattle.pl_channel.specs.ChannelStand.{ChannelStands}
 use Rattle.pl_replay.proofs.StateLemmas.{channel_at-same, channel_at-other, executor_at-same, executor_at-other}
@@ -139,20 +138,3 @@ module _ {S T : Type 0} (meaning : S → Meaning) (stands_after : S → List Eve
           work = work;
           stopped = stopped ∙ h.stopped;
         }
-
-    -- so do executors, each of which keeps what waits
-    pub holds_kept : after.channels.items ≡ core.channels.items → AllKeep core.executors.items after.executors.items → length later ≤ length listed → CoreHolds meaning stands_after state plan s later after
-    holds_kept channels keep shorter = record {
-      capacity = capacity ∙ h.capacity;
-      executor_count = keep.count ∙ h.executor_count;
-      channel_count = ap (λ (l : List (PlacedChannel S T)). length l) channels ∙ h.channel_count;
-      channels = λ c p channel here at. h.channels c p channel here (ap (λ (l : List (PlacedChannel S T)). slice_get l c) (sym channels) ∙ at);
-      executors = λ y e at. let was = keep.each y e at in stands-kept plan (lanes_between plan y) (executor_at s y) was.0 e was.2 (h.executors y was.0 was.1);
-      ages = λ y e at.
-          let was = keep.each y e at in
-          let old = h.ages y was.0 was.1 in
-          let same = was.2.next_age in
-          omega (arith, old, same, shorter);
-      work = work;
-      stopped = stopped ∙ h.stopped;
-    }

@@ -21,7 +21,7 @@ use Rattle.pl_replay.specs.States.{ExecutorState, State, executor_at, with_execu
 use Rattle.pl_replay.specs.CoreMoves.{Work, target, has_room, oldest, no_place, handed, is_enabled}
 use Rattle.pl_replay.specs.LaneAccount.{IsWaiting, IsAccounted}
 use Rattle.pl_channel.specs.Envelopes.{envelope_at}
-use Rattle.pl_replay.specs.BacklogStand.{is_for, ExecutorStands, ExecutorsStand, Keeps, AllKeep, HasSpace, with_task, without_late}
+use Rattle.pl_replay.specs.BacklogStand.{is_for, ExecutorStands, ExecutorsStand, Keeps, HasSpace, with_task, without_late}
 use Rattle.pl_replay.specs.NetStand.{lanes_between, CoreHolds, CoreStands, Moves}
 use Rattle.pl_replay.proofs.Backlogs.{stands-kept}
 use Rattle.pl_replay.proofs.Oldest.{oldest-first, oldest-item}
@@ -30,7 +30,7 @@ use Rattle.pl_replay.proofs.Accounts.{target-at}
 use Rattle.pl_replay.proofs.CallSteps.{executor-there, last_hop-le, channel_of}
 use Rattle.pl_replay.proofs.QueueSteps.{there_if_waiting, accounted_any, accounted_handed}
 use Rattle.pl_replay.proofs.Pending.{pending-none}
-use Rattle.pl_replay.proofs.CoreSteps.{holds_executor, holds_kept}
+use Rattle.pl_replay.proofs.CoreSteps.{holds_executor}
 use Rattle.pl_replay.proofs.RunningSteps.{accounted_between, executors_there, cores_executors}
 use Rattle.pl_replay.proofs.MoveSteps.{with_same_executor, leads_on, leads_off}
 
@@ -194,13 +194,3 @@ module _ {S T : Type 0} (meaning : S → Meaning) (stands_after : S → List Eve
         sym on,
         (handed plan s x i, leads_on plan s (Hand x) (handed plan s x i) on (subst (λ (o : Option ℕ). MatchOption o ⊥ (λ (j : ℕ). handed plan s x i ≡ handed plan s x j)) (sym found) refl), r),
       )
-
-  -- executors that keep what waits
-  pub kept_stands : (plan : Plan) (s : State) (core after : Core S T) → CoreStands meaning stands_after state plan s core → after.capacity ≡ core.capacity → after.channels.items ≡ core.channels.items → after.work ≡ core.work
-      → AllKeep core.executors.items after.executors.items → CoreStands meaning stands_after state plan s after
-  kept_stands plan s core after r capacity channels work keep = record {
-    ruled = r.ruled;
-    small = r.small;
-    holds = holds_kept meaning stands_after state plan s [] core r.holds after [] capacity (ap (λ (w : Listing). w.items) work ∙ r.holds.work) (ap (λ (w : Listing). w.stopped) work) channels keep (omega arith);
-    accounted = r.accounted;
-  }

@@ -31,3 +31,4 @@ pub mod MadeOfTaken
 pub mod NewNets
 pub mod CountingLemmas
 pub mod Totals
+mod Told

@@ -1,5 +1,5 @@
 -- What the code of a move does is what the move model says.
-use Rattle.std.proofs.Common.{◌≡◌, ℕ, ◌+◌, ◌-◌, ◌<◌, ◌≤◌, ◌==◌, ◌&&◌, Bool, true, false, not, Option, Some, None, List, [], ◌∷◌, ◌++◌, length, set, get_or, refl, sym, ap, ap₂, ◌∙◌, subst, arith, inl, inr, le_refl, append-nil}
+use Rattle.std.proofs.Common.{◌≡◌, ℕ, ◌+◌, ◌-◌, ◌<◌, ◌≤◌, ◌==◌, ◌&&◌, Bool, true, false, not, Option, Some, None, List, [], ◌∷◌, ◌++◌, length, set, get_or, refl, sym, ap, ap₂, ◌∙◌, subst, arith, inl, inr, le_refl, append-nil, map}
 use Rattle.std.specs.List.{All, slice_get}
 use Rattle.std.specs.Option.{MatchOption, option_map_or}
 use Rattle.std.proofs.lemmas.List.{set-get_or}
@@ -27,12 +27,12 @@ use Rattle.pl_channel.specs.MadeItems.{Place, data_lane, flags_lane, last_hop, m
 use Rattle.pl_channel.specs.ChannelStates.{ChannelState, no_numbers}
 use Rattle.pl_replay.specs.States.{ExecutorState, State, nothing_waits, channel_at, executor_at, with_channel, with_executor}
 use Rattle.pl_replay.specs.CoreMoves.{Work, home_of, made_from, with_taken, Settles, after_read, RunsTask, Writes, is_enabled, Makes, LeadsTo}
-use Rattle.pl_channel.specs.ChannelMoves.{home, flags_sent, new_flags, can_read, can_write, IsAccepted, written}
+use Rattle.pl_channel.specs.ChannelMoves.{home, flags_sent, new_flags, can_read, can_write, IsAccepted, written, failed}
 use Rattle.pl_replay.specs.LaneAccount.{IsAccounted}
 use Rattle.pl_channel.specs.Envelopes.{envelope_at, envelopes_of}
 use Rattle.pl_channel.specs.HeadStand.{HeadStands}
 use Rattle.pl_replay.specs.BacklogStand.{ExecutorStands, TakesFront}
-use Rattle.pl_replay.specs.NetStand.{lanes_between, pending, all_made, CoreHolds, IsRunning, CoreStands, HasPut, WorksOff, Moves}
+use Rattle.pl_replay.specs.NetStand.{lanes_between, pending, all_made, CoreHolds, IsRunning, CoreStands, HasPut, WorksOff, Moves, IsUnmoved, waits_at}
 use Rattle.pl_channel.specs.ChannelStand.{ChannelStands}
 use Rattle.pl_replay.proofs.StateLemmas.{queue_at, backlog_at, length-with_executor}
 use Rattle.pl_replay.proofs.Flights.{All-places}
@@ -108,6 +108,20 @@ module _ {S T : Type 0} (meaning : S → Meaning) (stands_after : S → List Eve
       let found = plan_at meaning stands_after state plan s listed core r.holds c within in
       (found.0, found.1, at, r.holds.channels c found.0 channel found.1 at)
 
+  -- a head that is as it was leaves the core unmoved
+  pub head_unmoved : (core : Core S T) (c : ℕ) (old : PlacedChannel S T) (head : HeadView T) → old ≡ get_or core.channels.items c old → head ≡ old.nodes.head
+      → (after : Core S T) → after.capacity ≡ core.capacity → after.executors.items ≡ core.executors.items
+      → after.channels.items ≡ set core.channels.items c (record old { nodes = record old.nodes { head = head } }) → after.work ≡ core.work → IsUnmoved core after
+  head_unmoved core c old head at same after capacity executors channels work = record {
+    capacity = capacity;
+    channels = channels
+        ∙ ap (λ (h : HeadView T). set core.channels.items c (record old { nodes = record old.nodes { head = h } })) same
+        ∙ ap (set core.channels.items c) at
+        ∙ set-get_or core.channels.items c old;
+    executors = ap (map waits_at) executors;
+    work = work;
+  }
+
   module _ (plan : Plan) (s : State) (core : Core S T) (r : CoreStands meaning stands_after state plan s core) (c : ℕ) (p : ChannelPlan) (old : PlacedChannel S T) (here : slice_get plan.channels c ≡ Some p) (at : slice_get core.channels.items c ≡ Some old) where
     abbrev now : ChannelState
     now = channel_at s c
@@ -122,16 +136,16 @@ module _ {S T : Type 0} (meaning : S → Meaning) (stands_after : S → List Eve
     there = let n = channels_there meaning stands_after state plan 0 s [] [] core r in let m = slice_get_within plan.channels c p here in omega (arith, n, m)
 
     -- the numbers that its head changes
-    abbrev later : ℕ → ℕ → List Change → Bool → ChannelState
-    later reads accepted sizes failed = record now { reads = reads; accepted = accepted; sizes = sizes; has_failed = failed }
+    abbrev later : ℕ → ℕ → ℕ → List Change → Option ℕ → ChannelState
+    later reads calls accepted sizes failed_at = record now { reads = reads; calls = calls; accepted = accepted; sizes = sizes; failed_at = failed_at }
 
     -- the channel with another head
     abbrev pub with_head : HeadView T → PlacedChannel S T
     with_head head = record old { nodes = record old.nodes { head = head } }
 
-    head_stands : (reads accepted : ℕ) (sizes : List Change) (failed : Bool) (head : HeadView T) → HeadStands state c p (later reads accepted sizes failed) head
-        → ChannelStands meaning stands_after state c p (later reads accepted sizes failed) (with_head head)
-    head_stands reads accepted sizes failed head stands = record {
+    head_stands : (reads calls accepted : ℕ) (sizes : List Change) (failed_at : Option ℕ) (head : HeadView T) → HeadStands state c p (later reads calls accepted sizes failed_at) head
+        → ChannelStands meaning stands_after state c p (later reads calls accepted sizes failed_at) (with_head head)
+    head_stands reads calls accepted sizes failed_at head stands = record {
       nodes = record {
         hops = was.nodes.hops;
         flags_hops = was.nodes.flags_hops;
@@ -154,14 +168,14 @@ module _ {S T : Type 0} (meaning : S → Meaning) (stands_after : S → List Eve
 
     module _ (head : HeadView T) (after : Core S T) (capacity : after.capacity ≡ core.capacity) (executors : after.executors.items ≡ core.executors.items)
         (channels : after.channels.items ≡ set core.channels.items c (with_head head)) where
-      holds_head : (reads accepted : ℕ) (sizes : List Change) (failed : Bool) (made : List Place) → HeadStands state c p (later reads accepted sizes failed) head
+      holds_head : (reads calls accepted : ℕ) (sizes : List Change) (failed_at : Option ℕ) (made : List Place) → HeadStands state c p (later reads calls accepted sizes failed_at) head
           → after.work.items ≡ core.work.items ++ envelopes_of p made → after.work.stopped ≡ core.work.stopped → All (λ i. i.lane.channel ≡ c) made
-          → all_made plan s + length made ≤ all_made plan (with_channel s c (later reads accepted sizes failed))
-          → CoreHolds meaning stands_after state plan (with_channel s c (later reads accepted sizes failed)) made after
-      holds_head reads accepted sizes failed made stands work stopped own grown =
+          → all_made plan s + length made ≤ all_made plan (with_channel s c (later reads calls accepted sizes failed_at))
+          → CoreHolds meaning stands_after state plan (with_channel s c (later reads calls accepted sizes failed_at)) made after
+      holds_head reads calls accepted sizes failed_at made stands work stopped own grown =
           holds_channel meaning stands_after state plan s [] core r.holds after made capacity
           (work ∙ ap₂ (λ (l m : List Envelope). l ++ m) r.holds.work (sym (envelopes_at-channel plan c p here made own)))
-          stopped c p old (with_head head) (later reads accepted sizes failed) here at channels executors there (head_stands reads accepted sizes failed head stands) (omega (arith, grown))
+          stopped c p old (with_head head) (later reads calls accepted sizes failed_at) here at channels executors there (head_stands reads calls accepted sizes failed_at head stands) (omega (arith, grown))
 
       -- The head is as it was: so is the core.
       pub head_same : head ≡ old.nodes.head → after.work ≡ core.work → CoreStands meaning stands_after state plan s after
@@ -171,7 +185,7 @@ module _ {S T : Type 0} (meaning : S → Meaning) (stands_after : S → List Eve
             ruled = r.ruled;
             small = r.small;
             holds = subst (λ (t : State). CoreHolds meaning stands_after state plan t [] after) (with_same_channel s c)
-                (holds_head now.reads now.accepted now.sizes now.has_failed [] (subst (HeadStands state c p now) (sym same) was.nodes.head)
+                (holds_head now.reads now.calls now.accepted now.sizes now.failed_at [] (subst (HeadStands state c p now) (sym same) was.nodes.head)
                 (ap (λ (w : Listing). w.items) work ∙ sym (append-nil core.work.items)) (ap (λ (w : Listing). w.stopped) work) (All-nil (λ i. i.lane.channel ≡ c)) (omega (arith, grown)));
             accounted = r.accounted;
           }
@@ -203,7 +217,7 @@ module _ {S T : Type 0} (meaning : S → Meaning) (stands_after : S → List Eve
               (record {
                 ruled = r.ruled;
                 small = r.small;
-                holds = holds_head (now.reads + 1) now.accepted now.sizes now.has_failed (made_by_read p c now.reads) stands items (still ∙ sym r.holds.stopped)
+                holds = holds_head (now.reads + 1) now.calls now.accepted now.sizes now.failed_at (made_by_read p c now.reads) stands items (still ∙ sym r.holds.stopped)
                     (All-weaker (λ i. (i.lane.channel ≡ c) × (i.lane.hop ≤ last_hop p i.lane.kind)) (λ i. i.lane.channel ≡ c) (λ i both. both.0) (made_by_read p c now.reads) read_own) grown;
                 accounted = accounted_read plan r.ruled s account c p here can;
               }),
@@ -253,7 +267,7 @@ module _ {S T : Type 0} (meaning : S → Meaning) (stands_after : S → List Eve
                 (record {
                   ruled = r.ruled;
                   small = r.small;
-                  holds = holds_head now.reads (now.accepted + count) wrote_now.sizes now.has_failed sent_now (stands same).0 (stands same).1 same
+                  holds = holds_head now.reads (now.calls + 1) (now.accepted + count) wrote_now.sizes now.failed_at sent_now (stands same).0 (stands same).1 same
                       (All-weaker (λ i. (i.lane.channel ≡ c) × (i.lane.hop ≤ last_hop p i.lane.kind)) (λ i. i.lane.channel ≡ c) (λ i both. both.0) sent_now wrote_own) grown;
                   accounted = accounted_written plan r.ruled s account c p here count accepted;
                 }),
@@ -273,7 +287,7 @@ module _ {S T : Type 0} (meaning : S → Meaning) (stands_after : S → List Eve
               )
 
         abbrev failed_now : ChannelState
-        failed_now = record now { has_failed = true }
+        failed_now = failed p now
 
         -- or the transport fails
         pub write_failed : HeadStands state c p failed_now head → after.work ≡ core.work → Moves meaning stands_after state plan s (Out c) true after
@@ -287,7 +301,7 @@ module _ {S T : Type 0} (meaning : S → Meaning) (stands_after : S → List Eve
                 record {
                   ruled = r.ruled;
                   small = r.small;
-                  holds = holds_head now.reads now.accepted now.sizes true [] stands (ap (λ (w : Listing). w.items) work ∙ sym (append-nil core.work.items)) (ap (λ (w : Listing). w.stopped) work) (All-nil (λ i. i.lane.channel ≡ c)) grown;
+                  holds = holds_head now.reads (now.calls + 1) now.accepted now.sizes failed_now.failed_at [] stands (ap (λ (w : Listing). w.items) work ∙ sym (append-nil core.work.items)) (ap (λ (w : Listing). w.stopped) work) (All-nil (λ i. i.lane.channel ≡ c)) grown;
                   accounted = subst (λ (w : Work). IsAccounted plan 0 w.state w.items) (sym (pending-none plan 0 (with_channel s c failed_now) [])) (accounted_failed plan r.ruled s account c p here);
                 },
               ),

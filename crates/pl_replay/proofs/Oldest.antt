@@ -1,19 +1,18 @@
 -- The oldest item that can be handed over is found by a look at the front for each target.
-use Rattle.std.proofs.Common.{◌≡◌, ℕ, suc, ◌+◌, ◌<◌, Bool, true, false, cond, ltb, eqb, ◌&&◌, Option, Some, None, List, [], ◌∷◌, length, get_or, set, refl, sym, ap, ◌∙◌, subst, arith, inl, inr, le_of_lt}
+use Rattle.std.proofs.Common.{◌≡◌, ℕ, suc, ◌+◌, ◌<◌, Bool, true, false, cond, ltb, eqb, ◌&&◌, Option, Some, None, List, [], ◌∷◌, length, get_or, refl, sym, ap, ◌∙◌, subst, arith, inl, inr, le_of_lt}
 use Rattle.std.specs.List.{All, AllPairs, find, position, slice_get}
 use Rattle.std.specs.Option.{option_map}
-use Rattle.std.proofs.lemmas.List.{get_or-set_same, get_or-set_other, length-set, length-map, get_or-map}
-use Rattle.std.proofs.lemmas.Option.{slice_get_cases, same_Some, slice_get_within, slice_get-get_or, get_or_from_slice_get}
-use Rattle.std.proofs.lemmas.Bool.{cases_Bool, cases_eq, cases_order, and_from, and_left, and_right, cond-true, cond-false, eq-eqb, ne_eqb, lt-ltb, le-ltb, eqb-true, false_from_ne_true, false≢true}
+use Rattle.std.proofs.lemmas.List.{length-map, get_or-map}
+use Rattle.std.proofs.lemmas.Option.{slice_get_cases, same_Some, slice_get-get_or, get_or_from_slice_get}
+use Rattle.std.proofs.lemmas.Bool.{cases_Bool, cases_order, and_from, and_left, and_right, cond-true, cond-false, eq-eqb, ne_eqb, lt-ltb, le-ltb, eqb-true, false_from_ne_true, false≢true}
 use Rattle.pl_world.specs.Plans.{Plan}
 use Rattle.pl_channel.specs.MadeItems.{Place}
 use Rattle.pl_replay.specs.States.{State, executor_at}
 use Rattle.pl_replay.specs.CoreMoves.{target, has_room, oldest, no_place}
-use Rattle.pl_replay.specs.BacklogStand.{Aged, is_for, is_aged_for, BacklogStands, ExecutorStands, ExecutorsStand, Keeps, AllKeep, older_of, IsOldest}
+use Rattle.pl_replay.specs.BacklogStand.{Aged, is_for, is_aged_for, BacklogStands, ExecutorStands, ExecutorsStand, older_of, IsOldest}
 use Rattle.pl_replay.specs.declared.executors.Executor.{Executor}
 use Rattle.pl_replay.proofs.StateLemmas.{backlog_at}
 use Rattle.pl_replay.proofs.Firsts.{find-All, find-none, find-agree, find-map, find-first, find-None-position, find-Some-position, position-first, position-is}
-use Rattle.pl_replay.proofs.Backlogs.{stands-kept}
 
 -- ---- a list in the order of its ages
 
@@ -121,83 +120,38 @@ abbrev pub room_at : Plan → State → ℕ → Bool
 room_at plan s y = ltb (length (executor_at s y).queue) plan.capacity
 
 -- So far the first k targets were looked at, and this is the oldest item for one of them that has room.
-pub record IsSearched (origin capacity : ℕ) (before now : List Executor) (k : ℕ) (found : Option (ℕ × ℕ)) : Type 0 where
-  pub keep : AllKeep before now
-  pub oldest : (plan : Plan) (places : ℕ → ℕ → ℕ) (s : State) (aged : List Aged) (e : Executor) → plan.capacity ≡ capacity → ExecutorsStand plan places s before
-      → slice_get before origin ≡ Some e → BacklogStands plan (places origin) aged e
+pub record IsSearched (origin capacity : ℕ) (executors : List Executor) (k : ℕ) (found : Option (ℕ × ℕ)) : Type 0 where
+  pub oldest : (plan : Plan) (places : ℕ → ℕ → ℕ) (s : State) (aged : List Aged) (e : Executor) → plan.capacity ≡ capacity → ExecutorsStand plan places s executors
+      → slice_get executors origin ≡ Some e → BacklogStands plan (places origin) aged e
       → found ≡ oldest_below (λ i. target plan i.place) (λ i. i.age) (room_at plan s) k aged
 
-pub keeps-same : (e : Executor) → Keeps e e
-keeps-same e = record { queue = refl; next_age = refl; backlog = λ plan places aged b. b }
-
-pub keeps-twice : (e f g : Executor) → Keeps e f → Keeps f g → Keeps e g
-keeps-twice e f g first second = record {
-  queue = second.queue ∙ first.queue;
-  next_age = second.next_age ∙ first.next_age;
-  backlog = λ plan places aged b. second.backlog plan places aged (first.backlog plan places aged b);
-}
-
-pub keep-none : (executors : List Executor) → AllKeep executors executors
-keep-none executors = record { count = refl; each = λ y e at. (e, at, keeps-same e) }
-
--- one of them was looked at
-keep-set : (before now : List Executor) (x : ℕ) (e after : Executor) → AllKeep before now → slice_get now x ≡ Some e → Keeps e after → AllKeep before (set now x after)
-keep-set before now x e after keep at k = record {
-  count = length-set now x after ∙ keep.count;
-  each = λ y f here.
-      let within : y < length now = omega (arith, slice_get_within (set now x after) y f here, length-set now x after) in
-      elim (cases_eq y x) [
-        | inl same ↦
-            let was = keep.each x e at in
-            let is = sym (get_or-set_same now x after f (subst (λ (n : ℕ). n < length now) same within))
-            ∙ ap (λ (n : ℕ). get_or (set now x after) n f) (sym same)
-            ∙ get_or_from_slice_get (set now x after) y f f here in
-            (was.0, ap (slice_get before) same ∙ was.1, subst (Keeps was.0) is (keeps-twice was.0 e after was.2 k))
-        | inr other ↦
-            keep.each y f
-            (slice_get-get_or now y f within ∙ ap (λ (g : Executor). Some g) (sym (get_or-set_other now x y after f other) ∙ get_or_from_slice_get (set now x after) y f f here))
-      ];
-}
-
-pub stand-kept : (plan : Plan) (places : ℕ → ℕ → ℕ) (s : State) (before after : List Executor) → AllKeep before after → ExecutorsStand plan places s before → ExecutorsStand plan places s after
-stand-kept plan places s before after keep st = record {
-  count = keep.count ∙ st.count;
-  each = λ y e at.
-      let was = keep.each y e at in
-      stands-kept plan (places y) (executor_at s y) was.0 e was.2 (st.each y was.0 was.1);
-}
-
-pub searched-none : (origin capacity : ℕ) (executors : List Executor) → IsSearched origin capacity executors executors 0 None
+pub searched-none : (origin capacity : ℕ) (executors : List Executor) → IsSearched origin capacity executors 0 None
 searched-none origin capacity executors = record {
-  keep = keep-none executors;
   oldest = λ plan places s aged e same st at b. sym (oldest_below-none (λ (i : Aged). target plan i.place) (λ i. i.age) (room_at plan s) aged);
 }
 
-module _ (origin capacity : ℕ) (before now : List Executor) (k : ℕ) (found : Option (ℕ × ℕ)) (so_far : IsSearched origin capacity before now k found) where
+module _ (origin capacity : ℕ) (executors : List Executor) (k : ℕ) (found : Option (ℕ × ℕ)) (so_far : IsSearched origin capacity executors k found) where
   -- what is said of the room of a target
   abbrev HasRoom : Bool → Type 0
-  HasRoom b = (plan : Plan) (places : ℕ → ℕ → ℕ) (s : State) → plan.capacity ≡ capacity → ExecutorsStand plan places s now → room_at plan s k ≡ b
+  HasRoom b = (plan : Plan) (places : ℕ → ℕ → ℕ) (s : State) → plan.capacity ≡ capacity → ExecutorsStand plan places s executors → room_at plan s k ≡ b
 
-  pub searched-full : HasRoom false → IsSearched origin capacity before now (k + 1) found
+  pub searched-full : HasRoom false → IsSearched origin capacity executors (k + 1) found
   searched-full full = record {
-    keep = so_far.keep;
     oldest = λ plan places s aged e same st at b.
         so_far.oldest plan places s aged e same st at b
-        ∙ oldest_below-full (λ (i : Aged). target plan i.place) (λ i. i.age) (room_at plan s) k (full plan places s same (stand-kept plan places s before now so_far.keep st)) aged;
+        ∙ oldest_below-full (λ (i : Aged). target plan i.place) (λ i. i.age) (room_at plan s) k (full plan places s same st) aged;
   }
 
-  pub searched-more : (e after : Executor) (age : Option ℕ) → HasRoom true → slice_get now origin ≡ Some e → Keeps e after
+  pub searched-more : (e : Executor) (age : Option ℕ) → HasRoom true → slice_get executors origin ≡ Some e
       → ((plan : Plan) (places : ℕ → ℕ) (aged : List Aged) → BacklogStands plan places aged e → age ≡ option_map (λ i. i.age) (find (is_aged_for plan k) aged))
-      → IsSearched origin capacity before (set now origin after) (k + 1) (older_of found k age)
-  searched-more e after age has at keeps answers = record {
-    keep = keep-set before now origin e after so_far.keep at keeps;
+      → IsSearched origin capacity executors (k + 1) (older_of found k age)
+  searched-more e age has at answers = record {
     oldest = λ plan places s aged f same st there b.
-        let was = so_far.keep.each origin e at in
-        let is = same_Some was.0 f (sym was.1 ∙ there) in
-        let stands = (subst (λ (g : Executor). Keeps g e) is was.2).backlog plan (places origin) aged b in
+        let is = same_Some f e (sym there ∙ at) in
+        let stands = subst (λ (g : Executor). BacklogStands plan (places origin) aged g) is b in
         ap (λ (o : Option (ℕ × ℕ)). older_of o k age) (so_far.oldest plan places s aged f same st there b)
         ∙ ap (older_of (oldest_below (λ (i : Aged). target plan i.place) (λ i. i.age) (room_at plan s) k aged) k) (answers plan (places origin) aged stands)
-        ∙ oldest_below-more (λ (i : Aged). target plan i.place) (λ i. i.age) (room_at plan s) k (has plan places s same (stand-kept plan places s before now so_far.keep st)) aged b.order;
+        ∙ oldest_below-more (λ (i : Aged). target plan i.place) (λ i. i.age) (room_at plan s) k (has plan places s same st) aged b.order;
   }
 
 -- ---- what was found
@@ -234,14 +188,14 @@ module _ (plan : Plan) (places : ℕ → ℕ) (s : State) (x n : ℕ) (e : Execu
           subst (λ (f : Option (ℕ × ℕ)). IsOldest plan s x (option_map (λ g. g.0) f)) (sym (all ∙ ap (option_map (λ (b : Aged). (to b, b.age))) one))
           (at.0, at.1, ap (target plan) (sym (get_or_from_slice_get (backlog_at s x) at.0 a.place no_place at.2)))
 
-pub searched-all : (plan : Plan) (places : ℕ → ℕ → ℕ) (s : State) (origin capacity : ℕ) (before now : List Executor) (found : Option (ℕ × ℕ)) → IsSearched origin capacity before now (length before) found
-    → origin < length before → plan.capacity ≡ capacity → ExecutorsStand plan places s before → All (λ item. target plan item < plan.executors) (backlog_at s origin)
+pub searched-all : (plan : Plan) (places : ℕ → ℕ → ℕ) (s : State) (origin capacity : ℕ) (executors : List Executor) (found : Option (ℕ × ℕ)) → IsSearched origin capacity executors (length executors) found
+    → origin < length executors → plan.capacity ≡ capacity → ExecutorsStand plan places s executors → All (λ item. target plan item < plan.executors) (backlog_at s origin)
     → IsOldest plan s origin (option_map (λ f. f.0) found)
-searched-all plan places s origin capacity before now found searched here same st there = elim (slice_get_cases before origin).1 [
+searched-all plan places s origin capacity executors found searched here same st there = elim (slice_get_cases executors origin).1 [
   | inl at ↦
       let es = st.each origin at.0 at.2 in
       let few = subst (λ (n : ℕ). All (λ item. target plan item < n) (backlog_at s origin)) (sym st.count) there in
-      oldest-answer plan (places origin) s origin (length before) at.0 es few found (searched.oldest plan places s es.aged at.0 same st at.2 es.stands)
+      oldest-answer plan (places origin) s origin (length executors) at.0 es few found (searched.oldest plan places s es.aged at.0 same st at.2 es.stands)
   | inr past ↦ absurd (omega (arith, here, past.0))
 ]
 

@@ -1,15 +1,24 @@
 -- The reports of all channels, one after another.
 use Rattle.std.proofs.Common.{◌≡◌, ℕ, zero, suc, ◌+◌, ◌<◌, ◌≤◌, Bool, true, false, ◌&&◌, Some, List, [], ◌∷◌, ◌++◌, length, take, get_or, refl, sym, ap, ap₂, ◌∙◌, subst, arith}
-use Rattle.std.specs.List.{list_all, slice_get}
+use Rattle.std.specs.List.{list_all, slice_get, AllZip}
+use Rattle.std.specs.Prelude.{if◌then◌else◌, nat_le}
 use Rattle.std.proofs.lemmas.List.{take_all}
 use Rattle.std.proofs.lemmas.Option.{slice_get_within}
 use Rattle.pl_event.specs.declared.events.Event.{Event}
 use Rattle.pl_event.specs.Meaning.{Meaning}
 use Rattle.pl_head.specs.Transports.{TransportState}
 use Rattle.pl_world.specs.declared.report.ChannelReport.{ChannelReport}
+use Rattle.pl_event.specs.declared.outcomes.Cause.{Cause}
+use Rattle.pl_event.specs.declared.outcomes.Cause.TheVariants.{Transport}
+use Rattle.pl_world.specs.declared.report.Stands.TheVariants.{Drained, Open, Failed}
+use Rattle.pl_head.specs.Writes.{out}
+use Rattle.pl_channel.specs.declared.placed_channels.PlacedChannel.{PlacedChannel}
+use Rattle.pl_channel.specs.MadeItems.{has_end}
+use Rattle.pl_channel.specs.ChannelMoves.{at_head, has_closed}
+use Rattle.pl_replay.specs.Replays.{IsTied}
 use Rattle.pl_replay.specs.declared.nets.Core.{Core}
-use Rattle.pl_world.specs.Plans.{ChannelPlan, Plan}
-use Rattle.pl_channel.specs.ChannelStates.{ChannelState, no_numbers}
+use Rattle.pl_world.specs.Plans.{ChannelPlan, Plan, content, tail_hop}
+use Rattle.pl_channel.specs.ChannelStates.{ChannelState, has_failed, no_numbers}
 use Rattle.pl_replay.specs.States.{State, channel_at}
 use Rattle.pl_world.specs.Reports.{AllKeepToPlan}
 use Rattle.pl_replay.specs.NetStand.{CoreStands, reports_at}
@@ -46,6 +55,23 @@ one_open (q ∷ ps) (s ∷ ss) (suc k) p here within open_one =
     and_false true = refl
     and_false false = refl
 
+-- a report that says so is of a channel whose transport has failed
+failed_is : (failed a b c : Bool) (cause : Cause) → (if failed then Failed Transport else if a && b && c then Drained else Open) ≡ Failed cause → failed ≡ true
+failed_is true a b c cause says = refl
+failed_is false true true true cause says = absurd (cc says)
+failed_is false true true false cause says = absurd (cc says)
+failed_is false true false c cause says = absurd (cc says)
+failed_is false false b c cause says = absurd (cc says)
+
+all_tied : {S T : Type 0} (state : T → TransportState) (cs : List (PlacedChannel S T)) (ps : List ChannelPlan) (ss : List ChannelState) → length cs ≡ length ps → length ss ≡ length ps
+    → ((k : ℕ) (p : ChannelPlan) (c : PlacedChannel S T) → slice_get ps k ≡ Some p → slice_get cs k ≡ Some c → IsTied state c (report_at p (get_or ss k no_numbers))) → AllZip (IsTied state) cs (reports_at ps ss)
+all_tied state [] [] ss size sizes each = tt
+all_tied state [] (p ∷ ps) ss size sizes each = absurd (omega (arith, size))
+all_tied state (c ∷ cs) [] ss size sizes each = absurd (omega (arith, size))
+all_tied state (c ∷ cs) (p ∷ ps) [] size sizes each = absurd (omega (arith, sizes))
+all_tied state (c ∷ cs) (p ∷ ps) (s ∷ ss) size sizes each =
+    (each 0 p c refl refl, all_tied state cs ps ss (omega (arith, size)) (omega (arith, sizes)) (λ k q d here at. each (suc k) q d here at))
+
 module _ {S T : Type 0} (meaning : S → Meaning) (stands_after : S → List Event → Type 0) (state : T → TransportState) (plan : Plan) (s : State) (core : Core S T) (r : CoreStands meaning stands_after state plan s core) where
   sizes : (length s.channels ≡ length plan.channels) × (length core.channels.items ≡ length plan.channels)
   sizes = (channels_there meaning stands_after state plan 0 s [] [] core r, r.holds.channel_count)
@@ -69,3 +95,9 @@ module _ {S T : Type 0} (meaning : S → Meaning) (stands_after : S → List Eve
 
   pub reported_kept : (reports : List ChannelReport) → reports ≡ reports_at plan.channels s.channels → AllKeepToPlan plan.channels reports
   reported_kept reports is = subst (λ (l : List ChannelReport). AllKeepToPlan plan.channels l) (sym is) (reports_keep plan r.ruled s (accounted_between meaning stands_after state plan 0 s core r))
+
+  pub reported_tied : AllZip (IsTied state) core.channels.items (reports_at plan.channels s.channels)
+  reported_tied =
+      all_tied state core.channels.items plan.channels s.channels sizes.1 sizes.0 (λ k p c here at cause says.
+      (r.holds.channels k p c here at).nodes.head.tied
+      (failed_is (has_failed (channel_at s k)) (has_end (content p (tail_hop p)) (get_or (channel_at s k).taken (tail_hop p) 0)) (has_closed p (channel_at s k)) (nat_le (length (out (at_head p (channel_at s k)))) (channel_at s k).accepted) cause says))

@@ -3,13 +3,13 @@ use Rattle.std.specs.Prelude.{◌≡◌, ℕ, ◌<◌, ◌==◌, List, [], ◌�
 use Rattle.std.specs.VecDeque.{deque_len, deque_capacity}
 use Rattle.pl_event.specs.declared.envelopes.Envelope.{Envelope}
 use Rattle.pl_context.specs.Stopped.{no_stops}
+use Rattle.pl_context.specs.Queues.{Queue}
 use Rattle.pl_world.specs.Plans.{Plan}
 use Rattle.pl_channel.specs.MadeItems.{Place}
 use Rattle.pl_replay.specs.States.{ExecutorState, State, executor_at}
 use Rattle.pl_replay.specs.CoreMoves.{target, oldest, no_place}
 use Rattle.pl_channel.specs.Envelopes.{envelope_at, envelopes_at}
 use Rattle.pl_replay.specs.declared.executors.Executor.{Executor}
-use Rattle.pl_replay.specs.declared.executors.Waiting.{Waiting}
 
 -- An item of a backlog with its age: the lower, the older.
 pub record Aged : Type 0 where
@@ -32,17 +32,16 @@ abbrev pub entry_at : Plan → Aged → Envelope × ℕ
 entry_at plan i = (envelope_at plan i.place, i.age)
 
 -- What waits for one executor is in the order of the whole backlog.
-pub record WaitingStands (plan : Plan) (y : ℕ) (aged : List Aged) (places : ℕ) (w : Waiting) : Type 0 where
-  pub items : w.backlog.items ≡ map (entry_at plan) (filter (is_aged_for plan y) aged)
-  pub stopped : w.backlog.stopped ≡ no_stops places
-  pub count : w.count ≡ length w.backlog.items
+pub record WaitingStands (plan : Plan) (y : ℕ) (aged : List Aged) (places : ℕ) (w : Queue ℕ) : Type 0 where
+  pub items : w.items ≡ map (entry_at plan) (filter (is_aged_for plan y) aged)
+  pub stopped : w.stopped ≡ no_stops places
 
 -- A backlog is kept by target, with places for so many lanes to each, and the ages give the order of the whole.
 pub record BacklogStands (plan : Plan) (places : ℕ → ℕ) (aged : List Aged) (e : Executor) : Type 0 where
   pub order : IsByAge aged
   pub younger : All (λ i. i.age < e.next_age) aged
   pub targets : length e.waiting.items ≡ plan.executors
-  pub waiting : (y : ℕ) (w : Waiting) → slice_get e.waiting.items y ≡ Some w → WaitingStands plan y aged (places y) w
+  pub waiting : (y : ℕ) (w : Queue ℕ) → slice_get e.waiting.items y ≡ Some w → WaitingStands plan y aged (places y) w
 
 -- The envelopes that wait at an executor are those of the model's places.
 pub record ExecutorStands (plan : Plan) (places : ℕ → ℕ) (s : ExecutorState) (e : Executor) : Type 0 where
@@ -88,11 +87,6 @@ abbrev pub HasSpace : Executor → Type 0
 HasSpace e = deque_len e.queue < deque_capacity e.queue
 
 -- ---- the oldest item that can be handed over
-
--- each of these executors keeps what waits
-pub record AllKeep (before after : List Executor) : Type 0 where
-  pub count : length after ≡ length before
-  pub each : (y : ℕ) (e : Executor) → slice_get after y ≡ Some e → (was : Executor) × (slice_get before y ≡ Some was) × Keeps was e
 
 -- the older of two items, each with its target; nothing is older than an item that is not there
 abbrev pub older_of : Option (ℕ × ℕ) → ℕ → Option ℕ → Option (ℕ × ℕ)

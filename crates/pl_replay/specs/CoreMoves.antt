@@ -7,7 +7,7 @@ use Rattle.pl_world.specs.declared.moves.Move.TheVariants.{Read, Task, Hand, Out
 use Rattle.pl_world.specs.Plans.{ChannelPlan, Plan}
 use Rattle.pl_channel.specs.MadeItems.{Place, flags_lane, made_by_read}
 use Rattle.pl_replay.specs.States.{State, channel_at, executor_at, with_channel, with_executor, with_waiting, with_queued}
-use Rattle.pl_channel.specs.ChannelMoves.{home, IsAccepted, written, made_of, after_taking, can_read, new_flags, can_write}
+use Rattle.pl_channel.specs.ChannelMoves.{home, IsAccepted, written, failed, made_of, after_taking, can_read, new_flags, can_write}
 
 -- ---- where items go
 
@@ -113,7 +113,7 @@ after_write plan s c p count =
 abbrev pub Writes : Plan → State → ℕ → ChannelPlan → State → Type 0
 Writes plan s c p end =
     ((count : ℕ) × IsAccepted p (channel_at s c) count × Settles plan (home p) (after_write plan s c p count) end)
-    ⊎ (end ≡ with_channel s c (record (channel_at s c) { has_failed = true }))
+    ⊎ (end ≡ with_channel s c (failed p (channel_at s c)))
 
 -- An enabled move leads from these numbers to those.
 abbrev pub Makes : Plan → State → Move → State → Type 0

@@ -1,11 +1,12 @@
 -- A net, and the numbers of the move model at which it may stand.
-use Rattle.std.specs.Prelude.{◌≡◌, ℕ, suc, ◌+◌, ◌≤◌, ◌==◌, ◌&&◌, List, [], ◌∷◌, length, get_or, Bool, false, Option, Some, MatchOption, slice_get, sum_by, count_by}
+use Rattle.std.specs.Prelude.{◌≡◌, ℕ, suc, ◌+◌, ◌≤◌, ◌==◌, ◌&&◌, List, [], ◌∷◌, length, map, get_or, Bool, false, Option, Some, MatchOption, slice_get, sum_by, count_by}
 use Rattle.std.specs.List.{range_with_len}
 use Rattle.std.specs.Option.{option_map_or}
 use Rattle.pl_event.specs.declared.events.Event.{Event}
 use Rattle.pl_event.specs.declared.envelopes.Envelope.{Envelope}
 use Rattle.pl_event.specs.Meaning.{Meaning}
 use Rattle.pl_context.specs.Stopped.{no_stops}
+use Rattle.pl_context.specs.Queues.{Queue}
 use Rattle.pl_head.specs.Transports.{TransportState}
 use Rattle.pl_world.specs.Plans.{ChannelPlan, Plan, tail_hop, head_hop}
 use Rattle.pl_channel.specs.MadeItems.{Place}
@@ -29,8 +30,6 @@ use Rattle.pl_channel.specs.ChannelStand.{report_at, ChannelStands}
 pub record NetView (S T : Type 0) : Type 0 where
   pub core : Core S T
   pub is_spent : Bool
-
--- ---- the plan of a channel before any move, when all its bursts are left
 
 -- ---- its lanes and its items
 
@@ -119,6 +118,24 @@ module _ {S T : Type 0} (meaning : S → Meaning) (stands_after : S → List Eve
   abbrev pub Moves : Plan → State → Move → Bool → Core S T → Type 0
   Moves plan s move made core =
       (made ≡ is_enabled plan s move) × ((end : State) × LeadsTo plan s move end × CoreStands plan end core)
+
+-- ---- a move that is not enabled
+
+-- what waits at an executor; how much more its queue could hold without a growth is not seen
+pub record Waits : Type 0 where
+  pub queue : List Envelope
+  pub waiting : List (Queue ℕ)
+  pub next_age : ℕ
+
+abbrev pub waits_at : Executor → Waits
+waits_at e = record { queue = e.queue.items; waiting = e.waiting.items; next_age = e.next_age }
+
+-- Nothing has moved: what waits is the same, and so is each context, tail, head and transport.
+pub record IsUnmoved {S T : Type 0} (before after : Core S T) : Type 0 where
+  pub capacity : after.capacity ≡ before.capacity
+  pub channels : after.channels.items ≡ before.channels.items
+  pub executors : map waits_at after.executors.items ≡ map waits_at before.executors.items
+  pub work : after.work ≡ before.work
 
 -- ---- its report
 

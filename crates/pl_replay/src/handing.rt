@@ -4,21 +4,16 @@ ghost use Rattle.std.specs.Prelude.{◌≡◌, ◌<◌, ℕ, length, All};
 ghost use Rattle.pl_world.specs.Plans.{Plan};
 ghost use Rattle.pl_replay.specs.States.{State, executor_at};
 ghost use Rattle.pl_replay.specs.CoreMoves.{target as executor_of};
-ghost use Rattle.pl_replay.specs.BacklogStand.{ExecutorsStand, AllKeep, older_of, IsOldest};
+ghost use Rattle.pl_replay.specs.BacklogStand.{ExecutorsStand, older_of, IsOldest};
 
 use crate::executors::Executor;
 
 /// The target of the oldest item of an executor's backlog whose queue has room, where a queue holds so many items.
-pub(crate) fn oldest_target(
-    executors: &mut [Executor],
-    origin: usize,
-    capacity: usize,
-) -> Option<usize>
-    requires there { origin < length executors.old }
-    requires stand { (plan : Plan) × (places : ℕ → ℕ → ℕ) × (s : State) × ExecutorsStand plan places s executors.old }
-    ensures oldest { (plan : Plan) (places : ℕ → ℕ → ℕ) (s : State) → plan.capacity ≡ capacity → ExecutorsStand plan places s executors.old
+pub(crate) fn oldest_target(executors: &[Executor], origin: usize, capacity: usize) -> Option<usize>
+    requires there { origin < length executors.now }
+    requires stand { (plan : Plan) × (places : ℕ → ℕ → ℕ) × (s : State) × ExecutorsStand plan places s executors.now }
+    ensures oldest { (plan : Plan) (places : ℕ → ℕ → ℕ) (s : State) → plan.capacity ≡ capacity → ExecutorsStand plan places s executors.now
         → All (λ item. executor_of plan item < plan.executors) (executor_at s origin).backlog → IsOldest plan s origin result }
-    ensures keep { AllKeep executors.old executors.new }
 {
     let mut oldest = None;
     for target in 0..executors.len() {

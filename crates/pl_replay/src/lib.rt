@@ -7,9 +7,13 @@ mod executors;
 mod fair_tests;
 mod handing;
 #[cfg(test)]
+mod load_tests;
+#[cfg(test)]
 mod net_tests;
 mod nets;
 mod placing;
+#[cfg(test)]
+mod placing_tests;
 mod running;
 #[cfg(test)]
 mod tests;

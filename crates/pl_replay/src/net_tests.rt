@@ -82,7 +82,7 @@ pub(crate) fn bursts(
 }
 
 /// A world of this many equal channels on one loop, with groups of these sizes.
-fn world(
+pub(crate) fn world(
     alloc: Global,
     sizes: &[(&str, u16)],
     kinds: &[(Kind, Option<&str>)],

@@ -1,12 +1,13 @@
 //! The channels and executors of a replay, and the moves that they make.
 
 ghost use Rattle.std.specs.Prelude.{◌≡◌, ◌<◌, ◌≤◌, ◌^◌, ◌==◌, ◌&&◌, ◌∷◌, ◌++◌, [], ℕ, List, Option, length, filter, map, slice_get, get_or, vec_len, Some, None, Ok, Err, false, true, MatchOption, IfOk, IfErr, OnOk};
-ghost use Rattle.std.specs.List.{list_all};
+ghost use Rattle.std.specs.List.{list_all, AllZip};
+ghost use Rattle.pl_event.specs.declared.envelopes.Lane.{Lane};
 ghost use Rattle.pl_world.specs.declared.faults.ReplayFault.TheVariants as fault;
 ghost use Rattle.pl_world.specs.declared.moves.Move.TheVariants as move;
 ghost use Rattle.pl_world.specs.Plans.{Plan, ChannelPlan, planned, tail_hop};
 ghost use Rattle.pl_replay.specs.MoveModel.{is_there};
-ghost use Rattle.pl_channel.specs.MadeItems.{Place, flags_lane};
+ghost use Rattle.pl_channel.specs.MadeItems.{Place, flags_lane, last_hop};
 ghost use Rattle.pl_replay.specs.States.{State, taken_at};
 ghost use Rattle.pl_replay.specs.CoreMoves.{made_from, with_taken, home_of, is_enabled, LeadsTo, handed};
 ghost use Rattle.pl_channel.specs.Envelopes.{envelope_at, first_flags};
@@ -47,7 +48,9 @@ impl<S: Stage, T: Transport> Model for Net<S, T> {
 
 impl<S: Stage, T: Transport> Net<S, T> {
     ghost use Rattle.pl_channel.specs.ChannelStand.{is_drained};
-    ghost use Rattle.pl_replay.specs.NetStand.{NetStands, NetStarts, reports_at};
+    ghost use Rattle.pl_replay.specs.NetStand.{NetStands, NetStarts, IsUnmoved, reports_at};
+    ghost use Rattle.pl_replay.specs.InFlight.{IsInOrder};
+    ghost use Rattle.pl_replay.specs.Replays.{IsTied};
 
     /// A world before any move, whose queues hold so many items. An `Err` is `Memory`.
     pub fn new(alloc: Global, world: World<S, T>, capacity: u32) -> Result<Self, ReplayFault>
@@ -71,15 +74,14 @@ impl<S: Stage, T: Transport> Net<S, T> {
         })
     }
 
-    /// Makes a move, and answers whether it was enabled: one that was not leaves the net at its numbers, so its report
-    /// stays as it was. A move that names what is not there is refused as `NoSuch`, which changes nothing. After
-    /// `Memory` the net is spent: `apply` and `report` answer `Memory` from then on, and `drained` answers false.
+    /// Makes a move, and answers whether it was enabled: one that was not changes nothing. A move that names what is
+    /// not there is refused as `NoSuch`, which changes nothing. After `Memory` the net is spent: `apply` and `report`
+    /// answer `Memory` from then on, and `drained` answers false.
     pub fn apply(&mut self, step: Move) -> Result<bool, ReplayFault>
         // The numbers are then those to which the move leads: where it is not enabled they are as before.
         ensures made { IfOk result (λ made. (plan : Plan) (s : State) → NetStands S.meaning S.stands_after T.state plan s self.old →
             (made ≡ is_enabled plan s step) × ((end : State) × LeadsTo plan s step end × NetStands S.meaning S.stands_after T.state plan end self.new)) }
-        ensures unmoved { result ≡ Ok false → (plan : Plan) (s : State) → NetStands S.meaning S.stands_after T.state plan s self.old →
-            NetStands S.meaning S.stands_after T.state plan s self.new }
+        ensures unmoved { result ≡ Ok false → IsUnmoved self.old.core self.new.core }
         ensures goes_on { OnOk result (self.new.is_spent ≡ false) }
         // `NoSuch` is answered exactly where the move names a channel or an executor that is not there.
         ensures there { (plan : Plan) (s : State) → NetStands S.meaning S.stands_after T.state plan s self.old → is_there plan step ≡ false → result ≡ Err fault.NoSuch }
@@ -116,6 +118,10 @@ impl<S: Stage, T: Transport> Net<S, T> {
             report.channels ≡ reports_at plan.channels s.channels) }
         ensures kept { IfOk result (λ report. (plan : Plan) (s : State) → NetStands S.meaning S.stands_after T.state plan s self.now →
             AllKeepToPlan plan.channels report.channels) }
+        // Of each lane the items taken, then those queued, then those in the backlog are its first that were made.
+        ensures order { IfOk result (λ report. (plan : Plan) (s : State) (lane : Lane) (p : ChannelPlan) → NetStands S.meaning S.stands_after T.state plan s self.now
+            → slice_get plan.channels lane.channel ≡ Some p → lane.hop ≤ last_hop p lane.kind → IsInOrder self.now.core.executors.items p lane s) }
+        ensures tied { IfOk result (λ report. AllZip (IsTied T.state) self.now.core.channels.items report.channels) }
         ensures memory { IfErr result (λ e. e ≡ fault.Memory) }
         ensures spent { self.now.is_spent ≡ true → result ≡ Err fault.Memory }
     {
@@ -127,8 +133,10 @@ impl<S: Stage, T: Transport> Net<S, T> {
     }
 
     /// The flags that a channel's tail has taken: false where the channel became not writable, true where it became
-    /// writable again. None where there is no such channel.
+    /// writable again. None where there is no such channel. A spent net gives what the tail took until then.
     pub fn flags(&self, channel: u16) -> Option<&[bool]>
+        ensures tail { MatchOption result (length self.now.core.channels.items ≤ channel)
+            (λ flags. (c : PlacedChannel S T) × (slice_get self.now.core.channels.items channel ≡ Some c) × (flags.now ≡ c.nodes.tail.flags)) }
         ensures flags { (plan : Plan) (s : State) → NetStands S.meaning S.stands_after T.state plan s self.now →
             MatchOption result (slice_get plan.channels channel ≡ None)
             (λ flags. (p : ChannelPlan) × (slice_get plan.channels channel ≡ Some p) × (flags.now ≡ first_flags (taken_at s (flags_lane channel (tail_hop p))))) }
@@ -151,7 +159,7 @@ struct Core<S: Stage, T: Transport> {
 
 impl<S: Stage, T: Transport> Core<S, T> {
     ghost use Rattle.pl_channel.specs.ChannelStand.{is_drained};
-    ghost use Rattle.pl_replay.specs.NetStand.{IsRunning, CoreStands, HasPut, FindsNext, WorksOff, Moves, reports_at};
+    ghost use Rattle.pl_replay.specs.NetStand.{IsRunning, CoreStands, HasPut, FindsNext, WorksOff, Moves, IsUnmoved, reports_at};
     ghost use Rattle.pl_replay.specs.BacklogStand.{IsOldest};
 
     /// Whether the channel or the executor of a move is there.
@@ -169,7 +177,8 @@ impl<S: Stage, T: Transport> Core<S, T> {
     /// Makes a move whose channel or executor is there.
     fn make(&mut self, step: Move) -> Result<bool, AllocError>
         requires { (plan : Plan) × (s : State) × CoreStands S.meaning S.stands_after T.state plan s self.old × (is_there plan step ≡ true) }
-        ensures { IfOk result (λ made. (plan : Plan) (s : State) → CoreStands S.meaning S.stands_after T.state plan s self.old
+        ensures unmoved { result ≡ Ok false → IsUnmoved self.old self.new }
+        ensures moves { IfOk result (λ made. (plan : Plan) (s : State) → CoreStands S.meaning S.stands_after T.state plan s self.old
             → Moves S.meaning S.stands_after T.state plan s step made self.new) }
     {
         match step {
@@ -184,7 +193,8 @@ impl<S: Stage, T: Transport> Core<S, T> {
     fn read(&mut self, channel: u16) -> Result<bool, AllocError>
         requires there { channel < vec_len self.old.channels }
         requires stands { (plan : Plan) × (s : State) × CoreStands S.meaning S.stands_after T.state plan s self.old }
-        ensures { IfOk result (λ made. (plan : Plan) (s : State) → CoreStands S.meaning S.stands_after T.state plan s self.old
+        ensures unmoved { result ≡ Ok false → IsUnmoved self.old self.new }
+        ensures moves { IfOk result (λ made. (plan : Plan) (s : State) → CoreStands S.meaning S.stands_after T.state plan s self.old
             → Moves S.meaning S.stands_after T.state plan s (move.Read channel) made self.new) }
     {
         let channel = channel as usize;
@@ -201,7 +211,8 @@ impl<S: Stage, T: Transport> Core<S, T> {
     fn write(&mut self, channel: u16) -> Result<bool, AllocError>
         requires there { channel < vec_len self.old.channels }
         requires stands { (plan : Plan) × (s : State) × CoreStands S.meaning S.stands_after T.state plan s self.old }
-        ensures { IfOk result (λ made. (plan : Plan) (s : State) → CoreStands S.meaning S.stands_after T.state plan s self.old
+        ensures unmoved { result ≡ Ok false → IsUnmoved self.old self.new }
+        ensures moves { IfOk result (λ made. (plan : Plan) (s : State) → CoreStands S.meaning S.stands_after T.state plan s self.old
             → Moves S.meaning S.stands_after T.state plan s (move.Out channel) made self.new) }
     {
         let channel = channel as usize;
@@ -234,7 +245,8 @@ impl<S: Stage, T: Transport> Core<S, T> {
     fn run_task(&mut self, executor: u16) -> Result<bool, AllocError>
         requires there { executor < vec_len self.old.executors }
         requires stands { (plan : Plan) × (s : State) × CoreStands S.meaning S.stands_after T.state plan s self.old }
-        ensures { IfOk result (λ made. (plan : Plan) (s : State) → CoreStands S.meaning S.stands_after T.state plan s self.old
+        ensures unmoved { result ≡ Ok false → IsUnmoved self.old self.new }
+        ensures moves { IfOk result (λ made. (plan : Plan) (s : State) → CoreStands S.meaning S.stands_after T.state plan s self.old
             → Moves S.meaning S.stands_after T.state plan s (move.Task executor) made self.new) }
     {
         let executor = executor as usize;
@@ -252,11 +264,12 @@ impl<S: Stage, T: Transport> Core<S, T> {
     fn hand(&mut self, executor: u16) -> Result<bool, AllocError>
         requires there { executor < vec_len self.old.executors }
         requires stands { (plan : Plan) × (s : State) × CoreStands S.meaning S.stands_after T.state plan s self.old }
-        ensures { IfOk result (λ made. (plan : Plan) (s : State) → CoreStands S.meaning S.stands_after T.state plan s self.old
+        ensures unmoved { result ≡ Ok false → IsUnmoved self.old self.new }
+        ensures moves { IfOk result (λ made. (plan : Plan) (s : State) → CoreStands S.meaning S.stands_after T.state plan s self.old
             → Moves S.meaning S.stands_after T.state plan s (move.Hand executor) made self.new) }
     {
         let executor = executor as usize;
-        match oldest_target(self.executors.as_mut_slice(), executor, self.capacity) {
+        match oldest_target(self.executors.as_slice(), executor, self.capacity) {
             None => Ok(false),
             Some(target) => {
                 self.hand_to(executor, target)?;

@@ -1,19 +1,19 @@
 //! Replays a session on its executors by a schedule.
 
-ghost use Rattle.std.specs.Prelude.{◌≡◌, ◌≤◌, Err, false, IfOk};
+ghost use Rattle.std.specs.Prelude.{◌≡◌, ◌≤◌, Err, false, IfOk, is_some, map, zip};
 ghost use Rattle.std.specs.List.{list_all};
 ghost use Rattle.pl_world.specs.declared.faults.ReplayFault.TheVariants as fault;
 ghost use Rattle.pl_world.specs.Plans.{planned};
 ghost use Rattle.pl_world.specs.Sessions.{plan_of};
 ghost use Rattle.pl_replay.specs.MoveModel.{is_there};
-ghost use Rattle.pl_replay.specs.Replays.{IsReplayed};
+ghost use Rattle.pl_replay.specs.Replays.{IsReplayed, AllFailAsTold, fails_as_told};
 
 use crate::nets::Net;
 use pl_event::Stage;
 use pl_head::{MemoryTransport, Transport};
 use pl_stages::Handler;
-use pl_world::{ChannelReport, Move, ReplayFault, Report, Session, Stands, World};
-use std::alloc::Global;
+use pl_world::{ChannelReport, Move, Recorded, ReplayFault, Report, Session, Stands, World};
+use std::alloc::{AllocError, Global};
 
 /// Replays a session by a schedule, and reports what became of each channel.
 ///
@@ -26,26 +26,50 @@ pub fn replay(alloc: Global, session: Session, moves: &[Move]) -> Result<Report,
     // begins what the handlers, composed on whole lists, make of the recorded input, and is all of it where a channel
     // is drained.
     ensures replayed { IfOk result (λ report. IsReplayed (plan_of ⟦<Handler as Stage>⟧.meaning ⟦<MemoryTransport as Transport>⟧.state session) moves.now report) }
+    // A channel fails only where the session told its transport to.
+    ensures told { IfOk result (λ report. AllFailAsTold session.world.channels report.channels) }
     // `NoSuch` comes only where a move names what is not there. With such a move no answer is `Ok`, as `IsReplayed`
     // says: it is `NoSuch`, unless a growth is refused before.
     ensures no_such { result ≡ Err fault.NoSuch → list_all (is_there (plan_of ⟦<Handler as Stage>⟧.meaning ⟦<MemoryTransport as Transport>⟧.state session)) moves.now ≡ false }
 {
     let Session { world, capacity } = session;
-    let mut may_fail = Vec::with_capacity(alloc, world.channels().len())?;
-    for recorded in world.channels() {
-        may_fail.push(recorded.transport.fail_at().is_some())?;
-    }
+    let told = told_to_fail(alloc, world.channels())?;
     let report = run(alloc, world, capacity, moves)?;
-    if wants_memory(report.channels.as_slice(), may_fail.as_slice()) {
-        return Err(ReplayFault::Memory);
+    if all_fail_as_told(told.as_slice(), report.channels.as_slice()) {
+        Ok(report)
+    } else {
+        // A transport has failed that was not told to: its store found no memory.
+        Err(ReplayFault::Memory)
     }
-    Ok(report)
 }
 
-/// Whether a channel has failed whose transport was not to: its store found no memory.
-fn wants_memory(channels: &[ChannelReport], may_fail: &[bool]) -> bool {
-    channels.iter().zip(may_fail).any(|(channel, may_fail)| !may_fail
-        && matches!(channel.stands, Stands::Failed(_)))
+/// Of each channel, whether its transport was told to fail at one of its calls.
+fn told_to_fail<S: Stage>(
+    alloc: Global,
+    channels: &[Recorded<S, MemoryTransport>],
+) -> Result<Vec<bool>, AllocError>
+    ensures { IfOk result (λ told. told.items ≡ map (λ recorded. is_some recorded.transport.fail_at) channels.now) }
+{
+    let mut told = Vec::with_capacity(alloc, channels.len())?;
+    for recorded in channels {
+        told.push(recorded.transport.fail_at().is_some())?;
+    }
+    Ok(told)
+}
+
+fn all_fail_as_told(told: &[bool], channels: &[ChannelReport]) -> bool
+    ensures { result ≡ list_all (λ x. fails_as_told x.0 x.1.stands) (zip told.now channels.now) }
+{
+    told.iter().zip(channels).all(|(is_told, channel)| fails_as_told(*is_told, channel.stands))
+}
+
+fn fails_as_told(is_told: bool, stands: Stands) -> bool
+    ensures { result ≡ fails_as_told is_told stands }
+{
+    match stands {
+        Stands::Drained | Stands::Open => true,
+        Stands::Failed(_) => is_told,
+    }
 }
 
 /// Makes all moves of a world, and reports what became of it.

@@ -19,14 +19,14 @@ const SUCCESS: Option<Outcome> = Some(Outcome::Success);
 
 /// A transport that accepts no byte at each odd call and one byte at each even call.
 #[derive(Debug, Drop)]
-struct Trickle {
+pub(crate) struct Trickle {
     bytes: Vec<u8>,
     calls: u64,
     failures: u64,
 }
 
 impl Trickle {
-    fn new(alloc: Global) -> Self
+    pub(crate) fn new(alloc: Global) -> Self
         ensures { IsUncalled (⟦<Trickle as Transport>⟧.state result) }
     {
         Trickle {
@@ -56,11 +56,6 @@ impl Transport for Trickle {
 
     fn bytes(&self) -> &[u8] {
         self.bytes.as_slice()
-    }
-
-    fn into_bytes(self) -> Vec<u8> {
-        let Trickle { bytes, .. } = self;
-        bytes
     }
 }
 

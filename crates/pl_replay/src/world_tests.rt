@@ -3,6 +3,7 @@ ghost use Rattle.std.specs.Prelude.{◌≤◌, All, IfOk};
 ghost use Rattle.pl_world.specs.Worlds.{IsUncalled};
 
 use crate::net_tests::{bursts, line_protocol, pipeline};
+use crate::trickle_tests::Trickle;
 use pl_build::{Groups, Placed};
 use pl_event::{ByteString, Sequence};
 use pl_head::{MemoryTransport, Transport};
@@ -101,6 +102,36 @@ fn too_many_channels(rt: HostRuntime) -> Result<(), Fail> {
     ] {
         let found = refusal(rt.alloc(), channels, inputs, executors, &[&[b"PING\n"]])?;
         assert_eq!(rt; found, want);
+    }
+    Ok(())
+}
+
+/// The refusal of so many channels with as many inputs, over one transport.
+fn refusal_over_one(alloc: Global, channels: usize) -> Result<Option<WorldRefusal>, Fail> {
+    let mut groups = Groups::new(alloc, 1, &[])?;
+    let mut pipelines = Sequence::new(alloc);
+    let mut inputs = Sequence::new(alloc);
+    for _ in 0..channels {
+        let kinds = line_protocol(None, None);
+        pipelines.push(pipeline(alloc, &mut groups, &kinds)?)?;
+        inputs.push(bursts(alloc, &[&[b"PING\n"]])?)?;
+    }
+    let transports = one_transport(alloc, Trickle::new(alloc))?;
+    match world_over(alloc, pipelines, inputs, transports, groups.executors()) {
+        Ok(_) => Ok(None),
+        Err(refusal) => Ok(Some(refusal)),
+    }
+}
+
+/// Each pipeline has a transport of its own, and no transport is left over.
+#[test]
+fn one_transport_for_each_pipeline(rt: HostRuntime) -> Result<(), Fail> {
+    for (channels, want) in [
+        (0, Some(WorldRefusal::Limit)),
+        (1, None),
+        (2, Some(WorldRefusal::Limit)),
+    ] {
+        assert_eq!(rt; refusal_over_one(rt.alloc(), channels)?, want);
     }
     Ok(())
 }

@@ -113,36 +113,21 @@ fn watermarks(rt: HostRuntime) -> Result<(), Fail> {
     Ok(())
 }
 
-/// A burst is held while the channel is not writable and flushed bytes wait.
-#[test]
-fn burst_held(rt: HostRuntime) -> Result<(), Fail> {
-    let kinds = line_protocol(None, None);
-    let world = marked_world(
-        rt.alloc(),
-        &kinds,
-        1,
-        2,
-        65_536,
-        &[&[b"PING\n"], &[b"PING\n"]],
-    )?;
-    let mut net = Net::new(rt.alloc(), world, 4)?;
-    for (step, is_enabled) in [
-        (Move::Read(0), true),
-        (Move::Read(0), true),
-        (Move::Read(0), false),
-        (Move::Out(0), true),
-        (Move::Read(0), true),
-        (Move::Read(0), true),
-    ] {
-        assert_move(&rt, &mut net, step, is_enabled)?;
-    }
-    assert_flags(&rt, &net, &[false, true, false]);
-    assert_move(&rt, &mut net, Move::Out(0), true)?;
-    assert_flags(&rt, &net, &[false, true, false, true]);
+/// A net whose marks are below one reply, with a reply to each of two bursts.
+fn two_bursts(
+    alloc: Global,
+    kinds: &[(Kind, Option<&str>)],
+) -> Result<Net<Handler, MemoryTransport>, Fail> {
+    let input: &[&[&[u8]]] = &[&[b"PING\n"], &[b"PING\n"]];
+    let world = marked_world(alloc, kinds, 1, 2, 65_536, input)?;
+    Ok(Net::new(alloc, world, 4)?)
+}
+
+fn assert_two_bursts(rt: &impl Abort, net: &Net<Handler, MemoryTransport>) -> Result<(), Fail> {
     let report = net.report()?;
     let writes = [SUCCESS, SUCCESS];
     assert_one(
-        &rt,
+        rt,
         &report,
         Stands::Drained,
         &two_bursts_tail(),
@@ -152,9 +137,27 @@ fn burst_held(rt: HostRuntime) -> Result<(), Fail> {
     Ok(())
 }
 
+/// A burst is held while the channel is not writable and flushed bytes wait.
+fn assert_held(rt: &impl Abort, alloc: Global) -> Result<(), Fail> {
+    let mut net = two_bursts(alloc, &line_protocol(None, None))?;
+    for (step, is_enabled) in [
+        (Move::Read(0), true),
+        (Move::Read(0), true),
+        (Move::Read(0), false),
+        (Move::Out(0), true),
+        (Move::Read(0), true),
+        (Move::Read(0), true),
+    ] {
+        assert_move(rt, &mut net, step, is_enabled)?;
+    }
+    assert_flags(rt, &net, &[false, true, false]);
+    assert_move(rt, &mut net, Move::Out(0), true)?;
+    assert_flags(rt, &net, &[false, true, false, true]);
+    assert_two_bursts(rt, &net)
+}
+
 /// No burst is held by bytes that are not flushed.
-#[test]
-fn unflushed_bytes_hold_nothing(rt: HostRuntime) -> Result<(), Fail> {
+fn assert_not_held(rt: &impl Abort, alloc: Global) -> Result<(), Fail> {
     let kinds = [
         (Kind::FlushEvery, None),
         (Kind::Lines, None),
@@ -163,34 +166,23 @@ fn unflushed_bytes_hold_nothing(rt: HostRuntime) -> Result<(), Fail> {
         (Kind::Encode, None),
         (Kind::Service, None),
     ];
-    let world = marked_world(
-        rt.alloc(),
-        &kinds,
-        1,
-        2,
-        65_536,
-        &[&[b"PING\n"], &[b"PING\n"]],
-    )?;
-    let mut net = Net::new(rt.alloc(), world, 4)?;
+    let mut net = two_bursts(alloc, &kinds)?;
     for _ in 0..4 {
-        assert_move(&rt, &mut net, Move::Read(0), true)?;
+        assert_move(rt, &mut net, Move::Read(0), true)?;
     }
-    assert_flags(&rt, &net, &[false]);
-    assert_move(&rt, &mut net, Move::Out(0), true)?;
-    assert_flags(&rt, &net, &[false]);
-    assert_move(&rt, &mut net, Move::Out(0), true)?;
-    assert_flags(&rt, &net, &[false, true]);
-    let report = net.report()?;
-    let writes = [SUCCESS, SUCCESS];
-    assert_one(
-        &rt,
-        &report,
-        Stands::Drained,
-        &two_bursts_tail(),
-        TWO_PONGS,
-        &writes,
-    );
-    Ok(())
+    assert_flags(rt, &net, &[false]);
+    assert_move(rt, &mut net, Move::Out(0), true)?;
+    assert_flags(rt, &net, &[false]);
+    assert_move(rt, &mut net, Move::Out(0), true)?;
+    assert_flags(rt, &net, &[false, true]);
+    assert_two_bursts(rt, &net)
+}
+
+/// The second variant lets each second flush pass, and holds nothing.
+#[test]
+fn burst_held(rt: HostRuntime) -> Result<(), Fail> {
+    assert_held(&rt, rt.alloc())?;
+    assert_not_held(&rt, rt.alloc())
 }
 
 /// The marks are strict: high is reached without a change, and low is not below itself.

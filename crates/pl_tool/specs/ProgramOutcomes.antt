@@ -17,7 +17,7 @@ use Rattle.pl_tool.specs.declared.program.failure.Failure.TheVariants.{Usage, Mo
 use Rattle.pl_event.specs.Meaning.{IsPrefixOf}
 use Rattle.pl_replay.specs.MoveModel.{is_there}
 use Rattle.pl_world.specs.Plans.{Plan}
-use Rattle.pl_replay.specs.Replays.{IsReplayed}
+use Rattle.pl_replay.specs.Replays.{IsReplayed, NoneFails}
 use Rattle.pl_world.specs.Reports.{whole_report}
 use Rattle.pl_text.specs.SessionTexts.{session_of}
 use Rattle.pl_text.specs.MovesTexts.{MeansMoves, IsNoMoves}
@@ -50,11 +50,13 @@ pub record TakesSession (unread left : Option (List ℕ)) (session : Plan) : Typ
   pub at_end : IsAtEnd left
   pub means : session_of_bytes input ≡ Ok session
 
--- the text gives moves, and this is the report of the session's replay by them
+-- The text gives moves, and this is the report of the session's replay by them. No channel of it has failed, since no
+-- session text tells a transport to fail.
 pub record IsReplayedBy (text : List ℕ) (session : Plan) (report : Report) : Type 0 where
   pub moves : List Move
   pub means : MeansMoves text moves
   pub is_replayed : IsReplayed session moves report
+  pub none_failed : NoneFails report.channels
 
 -- this is the report of the session that is asked for
 abbrev pub IsAnswer : Request → Plan → Report → Type 0

@@ -14,7 +14,7 @@ ghost use Rattle.pl_world.specs.Worlds.{recorded};
 ghost use Rattle.pl_text.specs.SessionReading.{seen};
 ghost use Rattle.pl_text.specs.SessionHandlers.{meaning_of};
 ghost use Rattle.pl_text.specs.SessionOutlines.{IsHandlerWithin, IsEditWithin, IsChannelOutlineWithin, IsOutlineWithin};
-ghost use Rattle.pl_text.specs.SessionWorlds.{FitsWorld, AreWorldly};
+ghost use Rattle.pl_text.specs.SessionWorlds.{IsSteady, FitsWorld, AreWorldly};
 ghost use Rattle.pl_text.specs.SessionBuilding.{Builds, IsChannelBuilt, added, all_edited, channels_built, edited, group_sizes, made_unless, meant, pipeline_built, put_after, put_before, session_built};
 
 use crate::session_text::names::Name;
@@ -34,7 +34,8 @@ use std::alloc::{AllocError, Global};
 #[tactic(auto, unfolding(crate::specs::SessionBuilding::session_built))]
 pub(crate) fn session_built(alloc: Global, outline: Outline) -> Result<Session, BuildFault>
     requires { IsOutlineWithin outline }
-    ensures { Builds (seen (plan_of ⟦<Handler as Stage>⟧.meaning ⟦<MemoryTransport as Transport>⟧.state) result) (session_built outline) }
+    ensures built { Builds (seen (plan_of ⟦<Handler as Stage>⟧.meaning ⟦<MemoryTransport as Transport>⟧.state) result) (session_built outline) }
+    ensures steady { IfOk result (λ session. All IsSteady session.world.channels) }
 {
     let Outline {
         capacity,

@@ -1,10 +1,11 @@
 //! The input of the program: the text of a session.
 
-ghost use Rattle.std.specs.Prelude.{◌≡◌, ◌⊎◌, ◌≤◌, ◌<◌, List, ℕ, [], ◌++◌, length, false, IfErr, IfOk, OnOk};
+ghost use Rattle.std.specs.Prelude.{◌≡◌, ◌⊎◌, ◌≤◌, ◌<◌, List, ℕ, [], ◌++◌, length, false, All, IfErr, IfOk, OnOk};
 ghost use Rattle.std.specs.Io.KnownBytes.{Consumes, IsAtEnd};
 ghost use Rattle.pl_tool.specs.declared.program.failure.Failure.TheVariants as failure;
 ghost use Rattle.pl_world.specs.Sessions.{plan_of};
 ghost use Rattle.pl_text.specs.SessionReading.{Answers, seen};
+ghost use Rattle.pl_text.specs.SessionWorlds.{IsSteady};
 ghost use Rattle.pl_tool.specs.ProgramOutcomes.{RefusesInput, TakesAtMost, TakesSession, session_of_bytes};
 
 use super::failure::Failure;
@@ -74,7 +75,8 @@ fn read_input<R: Read>(reader: &mut R, input: &mut Vec<u8>) -> Result<(), Failur
 
 /// The session that bytes mean.
 fn session_in(alloc: Global, input: &[u8]) -> Result<Session, SessionFault>
-    ensures { Answers (seen (plan_of ⟦<Handler as Stage>⟧.meaning ⟦<MemoryTransport as Transport>⟧.state) result) (session_of_bytes input.now) }
+    ensures means { Answers (seen (plan_of ⟦<Handler as Stage>⟧.meaning ⟦<MemoryTransport as Transport>⟧.state) result) (session_of_bytes input.now) }
+    ensures steady { IfOk result (λ session. All IsSteady session.world.channels) }
 {
     if input.len() > MAX_TEXT {
         return Err(SessionFault::Limit);
@@ -88,6 +90,7 @@ fn session_in(alloc: Global, input: &[u8]) -> Result<Session, SessionFault>
 /// Reads a session from the whole input.
 pub(crate) fn take_session<R: Read>(alloc: Global, reader: &mut R) -> Result<Session, Failure>
     ensures ok { IfOk result (λ session. TakesSession (R.remaining reader.old) (R.remaining reader.new) (plan_of ⟦<Handler as Stage>⟧.meaning ⟦<MemoryTransport as Transport>⟧.state session)) }
+    ensures steady { IfOk result (λ session. All IsSteady session.world.channels) }
     ensures at_most { TakesAtMost 33554433 (R.remaining reader.old) (R.remaining reader.new) }
     ensures err { IfErr result (λ e. RefusesInput e (R.remaining reader.old) (R.remaining reader.new)) }
 {

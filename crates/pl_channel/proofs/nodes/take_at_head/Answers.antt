@@ -1,6 +1,11 @@
 use Rattle.std.proofs.lemmas.Result.{on_ok_weaker}
-use Rattle.pl_channel.proofs.HeadTakes.{head-places, head-sends, head-stands}
+use Rattle.pl_channel.proofs.HeadTakes.{head-open, head-places, head-sends, head-stands}
 use Rattle.pl_channel.proofs.nodes.take_at_head.Goals as goal
+
+pub take-requires-clause-open : goal.take-requires-clause-open
+take-requires-clause-open g c =
+    let next = c.requires.next in
+    head-open g.T.Transport.state next.0 next.1 c.args.envelope c.args.head.now next.2
 
 pub take-requires-clause-places : goal.take-requires-clause-places
 take-requires-clause-places g c = head-places c.args.head.now.channel c.args.work.now.stopped c.requires.places

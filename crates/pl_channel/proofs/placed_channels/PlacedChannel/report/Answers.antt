@@ -1,8 +1,8 @@
-use Rattle.std.proofs.Common.{ℕ, Bool, take, get_or, ap, ◌∙◌}
+use Rattle.std.proofs.Common.{ℕ, Bool, take, ap, ◌∙◌}
 use Rattle.pl_context.specs.Standings.{is_over}
 use Rattle.pl_head.specs.Writes.{out, outcomes}
 use Rattle.pl_world.specs.Plans.{content, head_hop}
-use Rattle.pl_channel.specs.ChannelMoves.{at_head}
+use Rattle.pl_channel.specs.ChannelMoves.{at_head, taken_sound}
 use Rattle.pl_channel.specs.ChannelStand.{report_at}
 use Rattle.pl_channel.proofs.EventClones.{clone-event}
 use Rattle.pl_channel.proofs.PlacedLemmas.{over-by, report_with}
@@ -14,7 +14,7 @@ returns g c = λ number p s at.
     let ys = at_head p s in
     let tail = c.from_vec.ensures ∙ c.in_ok-tail.ensures.items_if_clones_equal clone-event ∙ c.record.ensures ∙ at.nodes.tail.recorded in
     let bytes = c.in_ok-bytes.ensures.prefix ys s.sizes head.stands ∙ ap (λ (n : ℕ). take n (out ys)) head.accepted in
-    let over = ap is_over head.standing ∙ over-by (content p (head_hop p)) (get_or s.taken (head_hop p) 0) in
+    let over = ap is_over head.standing ∙ over-by (content p (head_hop p)) (taken_sound p s) in
     let writes =
     c.in_ok-bytes.ensures.outcomes ys s.sizes head.stands ∙ ap (λ (n : ℕ). outcomes ys n (is_over c.args.self.now.nodes.head.standing)) head.accepted
     ∙ ap (λ (b : Bool). outcomes ys s.accepted b) over in

@@ -6,11 +6,6 @@ use Rattle.pl_replay.proofs.Firsts.{remove-map}
 use Rattle.pl_replay.proofs.Backlogs.{waiting-at, aged-first, front-envelope, set-stands-less}
 use Rattle.pl_replay.proofs.executors.Executor.take_for.Goals as goal
 
-pub take_front-requires : goal.take_front-requires
-take_front-requires c =
-    let r = c.requires in
-    (waiting-at r.0 r.1 r.3.aged c.args.self.now r.3.stands c.args.target c.index_mut.result.now r.4 c.index_mut.ensures.value).count
-
 pub returns-clause-front : goal.returns-clause-front
 returns-clause-front c = λ plan places s st.
     let there : c.args.target < plan.executors = omega (arith, c.requires.3.stands.targets, c.requires.4, st.stands.targets) in
@@ -26,6 +21,6 @@ returns-clause-stands c = λ plan places s i st found.
       queue = st.queue;
       aged = remove st.aged i;
       backlog = ap (λ (l : List Place). remove l i) st.backlog ∙ remove-map (λ (a : Aged). a.place) st.aged i;
-      stands = set-stands-less plan places st.aged c.args.self.now st.stands c.args.target c.take_front.new.self _ refl i first c.index_mut.result.now ws refl
-          c.take_front.ensures.items c.take_front.ensures.stopped c.take_front.ensures.count;
+      stands = set-stands-less plan places st.aged c.args.self.now st.stands c.args.target c.take_front.new.backlog _ refl i first c.index_mut.result.now ws refl
+          c.take_front.ensures.items c.take_front.ensures.stopped;
     }

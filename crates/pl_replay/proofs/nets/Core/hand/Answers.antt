@@ -1,11 +1,8 @@
-use Rattle.std.proofs.Common.{List, refl, sym, ◌∙◌, subst}
-use Rattle.std.specs.Vec.{with_items}
-use Rattle.std.proofs.lemmas.List.{with_items_is}
-use Rattle.pl_replay.specs.declared.nets.Core.{Core}
+use Rattle.std.proofs.Common.{List, refl, sym, subst}
 use Rattle.pl_replay.specs.declared.executors.Executor.{Executor}
-use Rattle.pl_replay.specs.BacklogStand.{ExecutorsStand, AllKeep}
+use Rattle.pl_replay.specs.BacklogStand.{ExecutorsStand}
 use Rattle.pl_replay.specs.NetStand.{lanes_between}
-use Rattle.pl_replay.proofs.HandSteps.{executors_stand, backlog_targets, hand_none, hand_some, kept_stands}
+use Rattle.pl_replay.proofs.HandSteps.{executors_stand, backlog_targets, hand_none, hand_some}
 use Rattle.pl_replay.proofs.nets.Core.hand.Goals as goal
 
 pub oldest_target-requires-clause-stand : goal.oldest_target-requires-clause-stand
@@ -14,7 +11,7 @@ oldest_target-requires-clause-stand g c =
       w.0,
       lanes_between w.0,
       w.1,
-      subst (λ (l : List Executor). ExecutorsStand w.0 (lanes_between w.0) w.1 l) (sym c.as_mut_slice.ensures.value)
+      subst (λ (l : List Executor). ExecutorsStand w.0 (lanes_between w.0) w.1 l) (sym c.as_slice.ensures.value)
           (executors_stand g.S.Stage.meaning g.S.Stage.stands_after g.T.Transport.state w.0 w.1 c.args.self.now w.2),
     )
 
@@ -25,36 +22,30 @@ hand_to-requires g c =
     let state = g.T.Transport.state in
     let w = c.requires.stands in
     let core = c.args.self.now in
-    let stand = subst (λ (l : List Executor). ExecutorsStand w.0 (lanes_between w.0) w.1 l) (sym c.as_mut_slice.ensures.value) (executors_stand meaning stands state w.0 w.1 core w.2) in
+    let stand = subst (λ (l : List Executor). ExecutorsStand w.0 (lanes_between w.0) w.1 l) (sym c.as_slice.ensures.value) (executors_stand meaning stands state w.0 w.1 core w.2) in
     let oldest = c.in-Some.ensures.oldest w.0 (lanes_between w.0) w.1 (sym w.2.holds.capacity) stand (backlog_targets meaning stands state w.0 w.1 core w.2 c.args.executor) in
-    let after : Core g.row.S.Denot g.row.T.Denot = record core { executors = with_items core.executors c.oldest_target.new.executors } in
-    let kept = subst (λ (l : List Executor). AllKeep l c.oldest_target.new.executors) c.as_mut_slice.ensures.value c.oldest_target.ensures.keep in
-    let keep = subst (λ (l : List Executor). AllKeep core.executors.items l) (sym (with_items_is core.executors c.oldest_target.new.executors (kept.count ∙ sym core.executors.ok.0))) kept in
-    (w.0, w.1, kept_stands meaning stands state w.0 w.1 core after w.2 refl refl refl keep, oldest)
+    (w.0, w.1, w.2, oldest)
 
-pub returns-in-None : goal.returns-in-None
-returns-in-None g c = λ plan s r.
+pub returns-in-None-clause-moves : goal.returns-in-None-clause-moves
+returns-in-None-clause-moves g c = λ plan s r.
     let meaning = g.S.Stage.meaning in
     let stands = g.S.Stage.stands_after in
     let state = g.T.Transport.state in
     let core = c.args.self.now in
-    let stand = subst (λ (l : List Executor). ExecutorsStand plan (lanes_between plan) s l) (sym c.as_mut_slice.ensures.value) (executors_stand meaning stands state plan s core r) in
+    let stand = subst (λ (l : List Executor). ExecutorsStand plan (lanes_between plan) s l) (sym c.as_slice.ensures.value) (executors_stand meaning stands state plan s core r) in
     let oldest = c.in-None.ensures.oldest plan (lanes_between plan) s (sym r.holds.capacity) stand (backlog_targets meaning stands state plan s core r c.args.executor) in
-    let after : Core g.row.S.Denot g.row.T.Denot = record core { executors = with_items core.executors c.oldest_target.new.executors } in
-    let kept = subst (λ (l : List Executor). AllKeep l c.oldest_target.new.executors) c.as_mut_slice.ensures.value c.oldest_target.ensures.keep in
-    let keep = subst (λ (l : List Executor). AllKeep core.executors.items l) (sym (with_items_is core.executors c.oldest_target.new.executors (kept.count ∙ sym core.executors.ok.0))) kept in
-    hand_none meaning stands state plan s core after c.args.executor (kept_stands meaning stands state plan s core after r refl refl refl keep) oldest
+    hand_none meaning stands state plan s core core c.args.executor r oldest
 
-pub returns-in_ok-hand_to-in-Some : goal.returns-in_ok-hand_to-in-Some
-returns-in_ok-hand_to-in-Some g c = λ plan s r.
+pub returns-in_ok-hand_to-in-Some-clause-moves : goal.returns-in_ok-hand_to-in-Some-clause-moves
+returns-in_ok-hand_to-in-Some-clause-moves g c = λ plan s r.
     let meaning = g.S.Stage.meaning in
     let stands = g.S.Stage.stands_after in
     let state = g.T.Transport.state in
     let core = c.args.self.now in
-    let stand = subst (λ (l : List Executor). ExecutorsStand plan (lanes_between plan) s l) (sym c.as_mut_slice.ensures.value) (executors_stand meaning stands state plan s core r) in
+    let stand = subst (λ (l : List Executor). ExecutorsStand plan (lanes_between plan) s l) (sym c.as_slice.ensures.value) (executors_stand meaning stands state plan s core r) in
     let oldest = c.in-Some.ensures.oldest plan (lanes_between plan) s (sym r.holds.capacity) stand (backlog_targets meaning stands state plan s core r c.args.executor) in
-    let after : Core g.row.S.Denot g.row.T.Denot = record core { executors = with_items core.executors c.oldest_target.new.executors } in
-    let kept = subst (λ (l : List Executor). AllKeep l c.oldest_target.new.executors) c.as_mut_slice.ensures.value c.oldest_target.ensures.keep in
-    let keep = subst (λ (l : List Executor). AllKeep core.executors.items l) (sym (with_items_is core.executors c.oldest_target.new.executors (kept.count ∙ sym core.executors.ok.0))) kept in
     hand_some meaning stands state plan s c.hand_to.new.self c.args.executor oldest.0 oldest.1
-    (c.in_ok-hand_to-in-Some.ensures plan s (kept_stands meaning stands state plan s core after r refl refl refl keep) oldest)
+    (c.in_ok-hand_to-in-Some.ensures plan s r oldest)
+
+pub returns-in-None-clause-unmoved : goal.returns-in-None-clause-unmoved
+returns-in-None-clause-unmoved g c = λ off. record { capacity = refl; channels = refl; executors = refl; work = refl }

@@ -10,7 +10,7 @@ use Rattle.pl_channel.specs.MadeItems.{made_by_read}
 use Rattle.pl_replay.proofs.RunningSteps.{list_places}
 use Rattle.pl_channel.proofs.WorkLists.{unstopped-places}
 use Rattle.pl_channel.proofs.HeadMoves.{gave-can, other-cannot, head-read, read-puts}
-use Rattle.pl_replay.proofs.MoveSteps.{channel_in, read_enabled, head_off, read_put, read_done}
+use Rattle.pl_replay.proofs.MoveSteps.{channel_in, read_enabled, head_off, head_unmoved, read_put, read_done}
 use Rattle.pl_replay.proofs.nets.Core.read.Goals as goal
 
 pub next_read-requires : goal.next_read-requires
@@ -40,8 +40,8 @@ settle-requires-clause-puts g c =
     let puts = read-puts state x f.0 now old.nodes.head was can core.work c.next_read.new.outputs (c.next_read.ensures.puts c.in-Gave.is f.0.bursts now.reads was.reads) in
     (w.0, with_channel w.1 x (record now { reads = now.reads + 1 }), made_by_read f.0 x now.reads, read_put meaning stands state w.0 w.1 core w.2 x f.0 old f.1 f.2 head after refl refl refl can reads puts)
 
-pub returns-in_ok-settle-in-Gave : goal.returns-in_ok-settle-in-Gave
-returns-in_ok-settle-in-Gave g c = λ plan s r.
+pub returns-in_ok-settle-in-Gave-clause-moves : goal.returns-in_ok-settle-in-Gave-clause-moves
+returns-in_ok-settle-in-Gave-clause-moves g c = λ plan s r.
     let meaning = g.S.Stage.meaning in
     let stands = g.S.Stage.stands_after in
     let state = g.T.Transport.state in
@@ -60,8 +60,8 @@ returns-in_ok-settle-in-Gave g c = λ plan s r.
     read_done meaning stands state plan s core r x f.0 old f.1 f.2 head after refl refl refl can reads puts c.settle.new.self
     (c.in_ok-settle-in-Gave.ensures plan (with_channel s x (record now { reads = now.reads + 1 })) (made_by_read f.0 x now.reads) put)
 
-pub returns-in-Held : goal.returns-in-Held
-returns-in-Held g c = λ plan s r.
+pub returns-in-Held-clause-moves : goal.returns-in-Held-clause-moves
+returns-in-Held-clause-moves g c = λ plan s r.
     let meaning = g.S.Stage.meaning in
     let stands = g.S.Stage.stands_after in
     let state = g.T.Transport.state in
@@ -77,3 +77,9 @@ returns-in-Held g c = λ plan s r.
     let cannot = other-cannot state x f.0 now old.nodes.head was c.next_read.result (c.next_read.ensures.answer f.0.bursts now.reads (at_head f.0 now) now.sizes was.reads was.stands) other in
     let idle = c.next_read.ensures.idle other in
     head_off meaning stands state plan s core r x f.0 old f.1 f.2 head after refl refl refl (Read x) (read_enabled plan s x f.0 f.1 ∙ cannot) idle.0 idle.1
+
+pub returns-in-Held-clause-unmoved : goal.returns-in-Held-clause-unmoved
+returns-in-Held-clause-unmoved g c = λ off.
+    let other : c.next_read.result ≢ Gave = λ gave. grind (arith, c.in-Held.is, gave) in
+    let idle = c.next_read.ensures.idle other in
+    head_unmoved g.S.Stage.meaning g.S.Stage.stands_after g.T.Transport.state c.args.self.now c.args.channel c.index_mut.result.now c.next_read.new.self c.index_mut.ensures.value idle.0 _ refl refl refl idle.1

@@ -1,10 +1,11 @@
-use Rattle.std.proofs.Common.{[], length, refl, arith}
+use Rattle.std.proofs.Common.{[], length, refl, ap, ◌∙◌, arith}
+use Rattle.std.proofs.Math.Seq.{map-set_same}
 use Rattle.std.specs.Vec.{with_item}
 use Rattle.std.proofs.lemmas.Option.{slice_get_read}
 use Rattle.pl_replay.specs.declared.nets.Core.{Core}
 use Rattle.pl_replay.specs.States.{State, executor_at, with_executor}
 use Rattle.pl_replay.specs.CoreMoves.{made_from, with_taken}
-use Rattle.pl_replay.specs.NetStand.{lanes_between}
+use Rattle.pl_replay.specs.NetStand.{lanes_between, waits_at}
 use Rattle.pl_replay.proofs.StateLemmas.{backlog_at}
 use Rattle.pl_replay.proofs.RunningSteps.{cores_executors}
 use Rattle.pl_replay.proofs.MoveSteps.{task_none, task_some, task_done}
@@ -58,8 +59,8 @@ work_off-requires-clause-running g c =
     let called = c.in_ok-call-in-Some.ensures w.0 x popped t.item [] t.envelope_is t.running in
     (w.0, with_taken w.0 popped t.item, made_from w.0 popped t.item, called)
 
-pub returns-in-None : goal.returns-in-None
-returns-in-None g c = λ plan s r.
+pub returns-in-None-clause-moves : goal.returns-in-None-clause-moves
+returns-in-None-clause-moves g c = λ plan s r.
     let meaning = g.S.Stage.meaning in
     let stands = g.S.Stage.stands_after in
     let state = g.T.Transport.state in
@@ -70,8 +71,8 @@ returns-in-None g c = λ plan s r.
     let after : Core g.row.S.Denot g.row.T.Denot = record core { executors = with_item core.executors x c.next_task.new.self } in
     task_none meaning stands state plan s core r x old c.next_task.new.self at c.next_task.ensures.next_age after refl refl refl refl (c.in-None.ensures.front plan (lanes_between plan x) (executor_at s x) (r.holds.executors x old at))
 
-pub returns-in_ok-work_off-in-Some : goal.returns-in_ok-work_off-in-Some
-returns-in_ok-work_off-in-Some g c = λ plan s r.
+pub returns-in_ok-work_off-in-Some-clause-moves : goal.returns-in_ok-work_off-in-Some-clause-moves
+returns-in_ok-work_off-in-Some-clause-moves g c = λ plan s r.
     let meaning = g.S.Stage.meaning in
     let stands = g.S.Stage.stands_after in
     let state = g.T.Transport.state in
@@ -85,3 +86,11 @@ returns-in_ok-work_off-in-Some g c = λ plan s r.
     let called = c.in_ok-call-in-Some.ensures plan x popped t.item [] t.envelope_is t.running in
     task_done meaning stands state plan s core r x old c.next_task.new.self at c.next_task.ensures.next_age after refl refl refl refl c.in-Some.envelope t c.work_off.new.self
     (c.in_ok-work_off-in-Some.ensures plan (with_taken plan popped t.item) (made_from plan popped t.item) called)
+
+pub returns-in-None-clause-unmoved : goal.returns-in-None-clause-unmoved
+returns-in-None-clause-unmoved g c = λ off. record {
+  capacity = refl;
+  channels = refl;
+  executors = map-set_same waits_at c.args.self.now.executors.items c.args.executor c.next_task.new.self c.index_mut.result.now (c.in-None.ensures.none ∙ ap waits_at c.index_mut.ensures.value);
+  work = refl;
+}

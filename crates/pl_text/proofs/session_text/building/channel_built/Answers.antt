@@ -15,7 +15,7 @@ returns-in-Ok-clause-built c =
     built.allowed built.inbound_path built.outbound_path built.executors built.marks built.counted (ap (λ (s : TransportState). s.window) c.new.ensures.state)
 
 pub returns-in-Ok-clause-fits : goal.returns-in-Ok-clause-fits
-returns-in-Ok-clause-fits c = record { placed = c.in-Ok.ensures.executors_are_there; input = c.requires.bursts; transport = is_uncalled (state-value.it c.new.result) (Some c.args.channel.window) c.new.ensures.state }
+returns-in-Ok-clause-fits c = record { placed = c.in-Ok.ensures.executors_are_there; input = c.requires.bursts; transport = is_uncalled (state-value.it c.new.result) (Some c.args.channel.window) c.new.ensures.state; steady = c.new.ensures.fail_at }
 
 pub returns-clause-refused : goal.returns-clause-refused
 returns-clause-refused c other =
