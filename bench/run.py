@@ -1,8 +1,8 @@
 #!/usr/bin/env python3
 """Measures how the program's time and memory grow with its input.
 
-usage: bench/run.py [PROGRAM [TESTS]]     PROGRAM is crates/pl_main/out/pl_main, which `rt run` in crates/pl_main leaves
-there, and TESTS is crates/pl_head/out/pl_head_tests, which `rt test` in crates/pl_head leaves there
+usage: bench/run.py [CHECKOUT]     It runs crates/pl_main/out/pl_main, which `rt run` in crates/pl_main leaves there, and
+the tests of pl_head and pl_replay, which `rt test` in those crates leaves in their out
 
 Each workload is run at doubling sizes. Nothing here is a test: the ratios are read in one run, on one quiet machine,
 against the targets of README.md (each doubling of the work at most 2.3 times the time; at most 32 MiB and 200 bytes
@@ -135,15 +135,17 @@ WORKLOADS = [
     ("hand-overs at capacity 1", "moves", hand_overs(1), [125000, 250000, 500000, 1000000]),
     ("hand-overs at capacity 64", "moves", hand_overs(64), [125000, 250000, 500000, 1000000]),
     ("hand-overs at capacity 65,536", "moves", hand_overs(65536), [125000, 250000, 500000, 1000000]),
-    ("a backlog behind a full queue", "items", behind_full_queue, [12500, 25000, 50000, 100000]),
+    ("a backlog behind a full queue", "items", behind_full_queue, [10000, 20000, 40000, 80000, 100000]),
     ("messages written byte by byte", "bytes", byte_by_byte, [125000, 250000, 500000, 1000000]),
     ("two flags for each burst", "bursts", flags, [512, 1024, 2048, 4096]),
 ]
 
-# Loads that no session brings to a head: name, what a size counts, what its tests in pl_head are called, sizes.
+# Loads that no session brings to a head, and schedules that no argument holds: name, what a size counts, the crate and
+# what its tests are called, sizes.
 LOADS = [
-    ("one message through a window of one byte", "bytes", "load_tests::long_message_of_", [131072, 262144, 524288, 1048578]),
-    ("empty messages settled by one flush", "messages", "load_tests::empty_messages_", [21845, 43690, 87381, 174762]),
+    ("one message through a window of one byte", "bytes", "pl_head", "load_tests::long_message_of_", [131072, 262144, 524288, 1048578]),
+    ("empty messages settled by one flush", "messages", "pl_head", "load_tests::empty_messages_", [21845, 43690, 87381, 174762]),
+    ("enabled hand-overs at capacity 1", "moves", "pl_replay", "load_tests::hand_overs_of_", [125000, 250000, 500000, 1000000]),
 ]
 
 
@@ -176,15 +178,16 @@ def measure(commands):
 
 
 def main():
-    program = sys.argv[1] if len(sys.argv) > 1 else os.path.join(ROOT, "crates/pl_main/out/pl_main")
-    tests = sys.argv[2] if len(sys.argv) > 2 else os.path.join(ROOT, "crates/pl_head/out/pl_head_tests")
+    crates = os.path.join(sys.argv[1] if len(sys.argv) > 1 else ROOT, "crates")
+    program = os.path.join(crates, "pl_main/out/pl_main")
     for name, unit, make, sizes in WORKLOADS:
         print(name)
         made = [make(size) for size in sizes]
         commands = [([program, "replay", "--moves", moves], text) for text, moves, _ in made]
         show(unit, sizes, made, commands, measure(commands))
-    for name, unit, test, sizes in LOADS:
+    for name, unit, crate, test, sizes in LOADS:
         print(name)
+        tests = os.path.join(crates, f"{crate}/out/{crate}_tests")
         for i, best in enumerate(bests := measure([([tests, f"{test}{size}"], b"") for size in sizes])):
             print(f"  {sizes[i]:>8} {unit:<8} {best * 1000:>7.1f} ms{ratio(bests, i)}")
 
