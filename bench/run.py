@@ -20,11 +20,12 @@ PING = "PING\r\n"
 # Three commands in 16 bytes.
 UNIT = "PING\r\nPING\nPING\n"
 LINE_PROTOCOL = ["lines", "decode", "lineend", "encode", "service"]
+# What an edit has of its own, by its kind.
+MEMBERS = {"lines": {"max": 8192}, "flush_every": {"n": 2}}
 
 
 def last(name, kind, group=None):
-    edit = {"op": "last", "name": name, "kind": kind, "group": group}
-    return {**edit, "max": 8192} if kind == "lines" else edit
+    return {"op": "last", "name": name, "kind": kind, "group": group, **MEMBERS.get(kind, {})}
 
 
 def channel(bursts, kinds=LINE_PROTOCOL, groups={}, **members):
@@ -72,6 +73,12 @@ def messages(size):
     """As many messages as PING lines fit, in one chunk, each written by an Out move of its own."""
     count = size // len(PING)
     return workload([channel([[PING * count]])], count)
+
+
+def closed(size):
+    """The same, with a handler that keeps the one flush back: the end of the input closes all messages."""
+    count = size // len(PING)
+    return workload([channel([[PING * count]], [*LINE_PROTOCOL[:-1], "flush_every", "service"])], 0)
 
 
 def additions(count):
@@ -129,6 +136,7 @@ WORKLOADS = [
     ("chunks of one byte", "bytes", single_bytes, [2**11, 2**12, 2**13, 2**14]),
     ("one line without its end", "bytes", long_line, [2**16, 2**17, 2**18, 2**19, 2**20]),
     ("a message for each Out", "bytes", messages, [2**16, 2**17, 2**18, 2**19, 2**20]),
+    ("messages that an end closes", "bytes", closed, [2**16, 2**17, 2**18, 2**19, 2**20]),
     ("additions to 256 keys", "commands", additions, [12500, 25000, 50000, 100000]),
     ("21,845 messages through more handlers", "handlers", handlers, [8, 16, 32]),
     ("more channels", "channels", channels, [1, 2, 4, 8, 16]),

@@ -8,7 +8,7 @@ ghost use Rattle.pl_world.specs.declared.moves.Move.TheVariants as move;
 ghost use Rattle.pl_world.specs.Plans.{Plan, ChannelPlan, planned, tail_hop};
 ghost use Rattle.pl_replay.specs.MoveModel.{is_there};
 ghost use Rattle.pl_channel.specs.MadeItems.{Place, flags_lane, last_hop};
-ghost use Rattle.pl_replay.specs.States.{State, taken_at};
+ghost use Rattle.pl_replay.specs.States.{State, channel_at, taken_at};
 ghost use Rattle.pl_replay.specs.CoreMoves.{made_from, with_taken, home_of, is_enabled, LeadsTo, handed};
 ghost use Rattle.pl_channel.specs.Envelopes.{envelope_at, first_flags};
 ghost use Rattle.pl_world.specs.Reports.{AllKeepToPlan};
@@ -49,7 +49,7 @@ impl<S: Stage, T: Transport> Model for Net<S, T> {
 impl<S: Stage, T: Transport> Net<S, T> {
     ghost use Rattle.pl_channel.specs.ChannelStand.{is_drained};
     ghost use Rattle.pl_replay.specs.NetStand.{NetStands, NetStarts, IsUnmoved, reports_at};
-    ghost use Rattle.pl_replay.specs.InFlight.{IsInOrder};
+    ghost use Rattle.pl_replay.specs.InFlight.{IsInOrder, MakesOfTaken};
     ghost use Rattle.pl_replay.specs.Replays.{IsTied};
 
     /// A world before any move, whose queues hold so many items. An `Err` is `Memory`.
@@ -121,6 +121,9 @@ impl<S: Stage, T: Transport> Net<S, T> {
         // Of each lane the items taken, then those queued, then those in the backlog are its first that were made.
         ensures order { IfOk result (λ report. (plan : Plan) (s : State) (lane : Lane) (p : ChannelPlan) → NetStands S.meaning S.stands_after T.state plan s self.now
             → slice_get plan.channels lane.channel ≡ Some p → lane.hop ≤ last_hop p lane.kind → IsInOrder self.now.core.executors.items p lane s) }
+        // The events made of a lane are what its stage makes of those that it took.
+        ensures made { IfOk result (λ report. (plan : Plan) (s : State) (channel : ℕ) (p : ChannelPlan) → NetStands S.meaning S.stands_after T.state plan s self.now
+            → slice_get plan.channels channel ≡ Some p → MakesOfTaken p (channel_at s channel)) }
         ensures tied { IfOk result (λ report. AllZip (IsTied T.state) self.now.core.channels.items report.channels) }
         ensures memory { IfErr result (λ e. e ≡ fault.Memory) }
         ensures spent { self.now.is_spent ≡ true → result ≡ Err fault.Memory }

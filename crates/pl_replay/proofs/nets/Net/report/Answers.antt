@@ -4,9 +4,12 @@ use Rattle.pl_world.specs.declared.report.ChannelReport.{ChannelReport}
 use Rattle.pl_replay.specs.declared.nets.Core.{Core}
 use Rattle.pl_replay.specs.NetStand.{NetView, NetStands, CoreStands, lanes_between}
 use Rattle.pl_replay.specs.Replays.{IsTied}
+use Rattle.pl_replay.specs.States.{channel_at}
 use Rattle.pl_replay.proofs.Reported.{reported_kept, reported_tied}
 use Rattle.pl_replay.proofs.Kept.{accounted}
 use Rattle.pl_replay.proofs.InFlightLemmas.{in_order}
+use Rattle.pl_replay.proofs.CallSteps.{planned-at}
+use Rattle.pl_replay.proofs.MadeOfTaken.{makes_of_taken}
 use Rattle.pl_replay.proofs.nets.Net.report.Goals as goal
 
 pub returns-clause-stands : goal.returns-clause-stands
@@ -28,6 +31,10 @@ returns-clause-kept g c = λ plan s r.
 pub returns-clause-order : goal.returns-clause-order
 returns-clause-order g c = λ plan s lane p st here within.
     in_order plan st.core.ruled s (accounted plan s st.core.accounted) c.args.self.now.core.executors.items st.core.holds.executor_count (lanes_between plan) st.core.holds.executors lane p here within
+
+pub returns-clause-made : goal.returns-clause-made
+returns-clause-made g c = λ plan s channel p st here.
+    makes_of_taken plan.executors p (channel_at s channel) (planned-at plan st.core.ruled channel p here)
 
 pub returns-clause-tied : goal.returns-clause-tied
 returns-clause-tied g c =
