@@ -15,7 +15,7 @@ use Rattle.std.proofs.lemmas.Slice.Eq.{bytes_eq-Decides}
 use Rattle.pl_build.proofs.Lists.{list_any_map, sum_by-map, map-map}
 use Rattle.pl_build.specs.Names.{is_name, names_and_sizes}
 use Rattle.pl_build.specs.Refusals.{executor_count, has_double, is_within, grouping_fault, is_known}
-use Rattle.pl_build.specs.Executors.{Grouping, IsGrouping, HasPlaced, sizes_of, uses, first_executor, size_of, executor_after}
+use Rattle.pl_build.specs.Executors.{GroupsView, IsGrouping, HasPlaced, sizes_of, uses, first_executor, size_of, executor_after}
 use Rattle.pl_build.specs.Counts.{group_after, groups_after, grouping_after, executor_from, executor_now}
 use Rattle.pl_build.specs.declared.grouping.Group.{Group}
 use Rattle.pl_build.specs.declared.faults.BuildFault.{BuildFault}
@@ -111,14 +111,14 @@ sizes-after (group ∷ groups) pipeline =
     ap (λ (p : List ℕ × ℕ). p ∷ map entry (groups_after groups pipeline)) (size-after group (uses group.name pipeline))
     ∙ ap (λ (t : List (List ℕ × ℕ)). entry group ∷ t) (sizes-after groups pipeline)
 
-pub sizes_of-after : (g : Grouping) (pipeline : List (Option (List ℕ))) → sizes_of (grouping_after g pipeline) ≡ sizes_of g
+pub sizes_of-after : (g : GroupsView) (pipeline : List (Option (List ℕ))) → sizes_of (grouping_after g pipeline) ≡ sizes_of g
 sizes_of-after g pipeline = sizes-after g.groups pipeline
 
 next-after : (group : Group) (b : Bool) → group.next < group.size → (cond b (group_after group) group).next < (cond b (group_after group) group).size
 next-after group true h = mod-lt (group.next + 1) {m = group.size} (omega arith)
 next-after group false h = h
 
-pub IsGrouping-after : (g : Grouping) (pipeline : List (Option (List ℕ))) → IsGrouping g → IsGrouping (grouping_after g pipeline)
+pub IsGrouping-after : (g : GroupsView) (pipeline : List (Option (List ℕ))) → IsGrouping g → IsGrouping (grouping_after g pipeline)
 IsGrouping-after g pipeline h = record {
   loop = (let some : 0 < g.loops = omega (arith, h.loop) in mod-lt (g.next_loop + 1) {m = g.loops} some);
   nexts = All-map (λ (x : Group). x.next < x.size) (λ (x : Group). cond (uses x.name pipeline) (group_after x) x) g.groups (λ k d within. next-after (get_or g.groups k d) (uses (get_or g.groups k d).name pipeline) (h.nexts k d within));
@@ -146,7 +146,7 @@ count-after group earlier pipeline false used h =
     let same : count_by (uses group.name) (earlier ++ pipeline ∷ []) ≡ count_by (uses group.name) earlier = (let e = sum_by_push (λ p. cond (uses group.name p) 1 0) earlier pipeline ∙ ap (λ (b : Bool). count_by (uses group.name) earlier + cond b 1 0) used in omega (arith, e)) in
     h ∙ ap (λ (n : ℕ). n % group.size) (sym same)
 
-pub HasPlaced-after : (g : Grouping) (earlier : List (List (Option (List ℕ)))) (pipeline : List (Option (List ℕ))) → HasPlaced g earlier → HasPlaced (grouping_after g pipeline) (earlier ++ pipeline ∷ [])
+pub HasPlaced-after : (g : GroupsView) (earlier : List (List (Option (List ℕ)))) (pipeline : List (Option (List ℕ))) → HasPlaced g earlier → HasPlaced (grouping_after g pipeline) (earlier ++ pipeline ∷ [])
 HasPlaced-after g earlier pipeline h = record {
   loop = mod-more g.next_loop (length earlier) g.loops h.loop ∙ ap (λ (n : ℕ). n % g.loops) (sym (length-append earlier (pipeline ∷ [])));
   groups = All-map (λ (x : Group). x.next ≡ count_by (uses x.name) (earlier ++ pipeline ∷ []) % x.size) (λ (x : Group). cond (uses x.name pipeline) (group_after x) x) g.groups (λ k d within. count-after (get_or g.groups k d) earlier pipeline (uses (get_or g.groups k d).name pipeline) refl (h.groups k d within));
@@ -187,7 +187,7 @@ from first (group ∷ groups) name earlier h known =
         let turn = ap (λ (n : ℕ). count_by (uses name) earlier % n) (sized false e) in
         omega (arith, here false e, before, turn, there)
 
-pub executor_now-is : (g : Grouping) (earlier : List (List (Option (List ℕ)))) (group : Option (List ℕ)) → HasPlaced g earlier → is_known (sizes_of g) group ≡ true → executor_now g group ≡ executor_after g.loops (sizes_of g) earlier group
+pub executor_now-is : (g : GroupsView) (earlier : List (List (Option (List ℕ)))) (group : Option (List ℕ)) → HasPlaced g earlier → is_known (sizes_of g) group ≡ true → executor_now g group ≡ executor_after g.loops (sizes_of g) earlier group
 executor_now-is g earlier None h known = h.loop
 executor_now-is g earlier (Some name) h known = from g.loops g.groups name earlier h.groups known
 
@@ -211,6 +211,6 @@ within_from first (group ∷ groups) name h known =
         let there = rest (sym (others false e) ∙ known) in
         omega (arith, here false e, there, sum_by-cons (λ (p : List ℕ × ℕ). p.1) (entry group) (map entry groups))
 
-pub executor_now-within : (g : Grouping) (group : Option (List ℕ)) → IsGrouping g → is_known (sizes_of g) group ≡ true → executor_now g group < executor_count g.loops (sizes_of g)
+pub executor_now-within : (g : GroupsView) (group : Option (List ℕ)) → IsGrouping g → is_known (sizes_of g) group ≡ true → executor_now g group < executor_count g.loops (sizes_of g)
 executor_now-within g None h known = omega (arith, h.loop)
 executor_now-within g (Some name) h known = within_from g.loops g.groups name h.nexts known

@@ -7,16 +7,16 @@ use Rattle.pl_event.specs.Meaning.{Meaning}
 use Rattle.pl_build.specs.Names.{is_among}
 use Rattle.pl_build.specs.Pipelines.{inbound_handlers, outbound_handlers}
 use Rattle.pl_build.specs.Refusals.{executor_count}
-use Rattle.pl_build.specs.declared.handlers.Handler.{Handler}
+use Rattle.pl_build.specs.declared.named_stages.NamedStage.{NamedStage}
 use Rattle.pl_build.specs.declared.grouping.Group.{Group}
 
 -- the loops and groups of a session, with the loop and the executors that the next pipeline gets
-pub record Grouping : Type 0 where
+pub record GroupsView : Type 0 where
   pub loops : ℕ
   pub next_loop : ℕ
   pub groups : List Group
 
-abbrev pub sizes_of : Grouping → List (List ℕ × ℕ)
+abbrev pub sizes_of : GroupsView → List (List ℕ × ℕ)
 sizes_of g = map (λ group. (group.name, group.size)) g.groups
 
 -- The groups of a pipeline's handlers say all that its placing needs. Whether it uses the group of this name:
@@ -38,22 +38,22 @@ executor_after loops sizes earlier (Some name) =
     first_executor loops sizes name + count_by (uses name) earlier % size_of sizes name
 
 -- The executor of each hop: the inbound handlers, the tail, the outbound handlers from the turn on, the head.
-abbrev pub hop_executors : {S : Type 0} → (Option (List ℕ) → ℕ) → (S → Meaning) → List (Handler S) → List ℕ
+abbrev pub hop_executors : {S : Type 0} → (Option (List ℕ) → ℕ) → (S → Meaning) → List (NamedStage S) → List ℕ
 hop_executors executor meaning handlers =
     map (λ handler. executor handler.group) (inbound_handlers meaning handlers) ++ executor None
     ∷ (map (λ handler. executor handler.group) (outbound_handlers meaning handlers) ++ executor None ∷ [])
 
 -- the groups of a pipeline's handlers
-abbrev pub groups_of : {S : Type 0} → List (Handler S) → List (Option (List ℕ))
+abbrev pub groups_of : {S : Type 0} → List (NamedStage S) → List (Option (List ℕ))
 groups_of handlers = map (λ handler. handler.group) handlers
 
 -- these groups have placed the pipelines of the channels so far
-pub record HasPlaced (g : Grouping) (earlier : List (List (Option (List ℕ)))) : Type 0 where
+pub record HasPlaced (g : GroupsView) (earlier : List (List (Option (List ℕ)))) : Type 0 where
   pub loop : g.next_loop ≡ length earlier % g.loops
   pub groups : All (λ group. group.next ≡ count_by (uses group.name) earlier % group.size) g.groups
 
 -- 1 to 16 executors, and each next one is there
-pub record IsGrouping (g : Grouping) : Type 0 where
+pub record IsGrouping (g : GroupsView) : Type 0 where
   pub loop : g.next_loop < g.loops
   pub nexts : All (λ group. group.next < group.size) g.groups
   pub within : executor_count g.loops (sizes_of g) ≤ 16

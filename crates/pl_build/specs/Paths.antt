@@ -3,10 +3,10 @@ use Rattle.std.specs.Prelude.{◌≡◌, ◌+◌, ◌≤◌, List, [], length, A
 use Rattle.pl_event.specs.declared.events.Event.{Event}
 use Rattle.pl_event.specs.Meaning.{Meaning}
 use Rattle.pl_event.specs.Paths.{is_outbound, is_turn}
-use Rattle.pl_build.specs.Pipelines.{Pipeline, Path, AreNew}
+use Rattle.pl_build.specs.Pipelines.{PipelineBuilderView, PlacedView, AreNew}
 
 -- no stage has had a step; there are at most 32 handlers, and marks in order
-pub record IsPipeline {S : Type 0} (stands_after : S → List Event → Type 0) (pipeline : Pipeline S) : Type 0 where
+pub record IsPipeline {S : Type 0} (stands_after : S → List Event → Type 0) (pipeline : PipelineBuilderView S) : Type 0 where
   pub stages : AreNew stands_after pipeline.handlers
   pub within : length pipeline.handlers ≤ 32
   pub order : pipeline.low ≤ pipeline.high
@@ -14,7 +14,7 @@ pub record IsPipeline {S : Type 0} (stands_after : S → List Event → Type 0) 
 
 -- The same of the two chains: the inbound one has the turn, just one, and no outbound handler, and the outbound one
 -- has no other. There is an executor for each hop.
-pub record IsPath {S : Type 0} (meaning : S → Meaning) (stands_after : S → List Event → Type 0) (path : Path S) : Type 0 where
+pub record IsPath {S : Type 0} (meaning : S → Meaning) (stands_after : S → List Event → Type 0) (path : PlacedView S) : Type 0 where
   pub inbound : All (λ stage. stands_after stage []) path.inbound
   pub outbound : All (λ stage. stands_after stage []) path.outbound
   pub upwards : All (λ stage. is_outbound (meaning stage).direction ≡ false) path.inbound

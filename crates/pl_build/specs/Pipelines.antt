@@ -6,67 +6,67 @@ use Rattle.std.specs.Str.{bytes_eq}
 use Rattle.pl_event.specs.declared.events.Event.{Event}
 use Rattle.pl_event.specs.Meaning.{Meaning}
 use Rattle.pl_event.specs.Paths as path
-use Rattle.pl_build.specs.declared.handlers.Handler.{Handler}
+use Rattle.pl_build.specs.declared.named_stages.NamedStage.{NamedStage}
 use Rattle.pl_build.specs.declared.faults.BuildFault.{BuildFault}
 use Rattle.pl_build.specs.declared.faults.BuildFault.TheVariants.{NoSuchName}
 
 -- a pipeline that is being built: its handlers from first to last, and the marks of its channel in bytes
-pub record Pipeline (S : Type 0) : Type 0 where
-  pub handlers : List (Handler S)
+pub record PipelineBuilderView (S : Type 0) : Type 0 where
+  pub handlers : List (NamedStage S)
   pub low : ℕ
   pub high : ℕ
 
 -- what is kept of a pipeline once it is built: its two chains, the executor of each hop, and the marks
-pub record Path (S : Type 0) : Type 0 where
+pub record PlacedView (S : Type 0) : Type 0 where
   pub inbound : List S
   pub outbound : List S
   pub executors : List ℕ
   pub low : ℕ
   pub high : ℕ
 
-abbrev pub handler_of : {S : Type 0} → List ℕ → Option (List ℕ) → S → Handler S
+abbrev pub handler_of : {S : Type 0} → List ℕ → Option (List ℕ) → S → NamedStage S
 handler_of name group stage = record { name = name; group = group; stage = stage }
 
-abbrev pub is_named : {S : Type 0} → List ℕ → Handler S → Bool
+abbrev pub is_named : {S : Type 0} → List ℕ → NamedStage S → Bool
 is_named name handler = bytes_eq handler.name name
 
 -- where the handler of this name stands
-abbrev pub place_of : {S : Type 0} → List ℕ → List (Handler S) → Option ℕ
+abbrev pub place_of : {S : Type 0} → List ℕ → List (NamedStage S) → Option ℕ
 place_of name handlers = position (is_named name) handlers
 
 -- the handlers without the one of this name
-abbrev pub without : {S : Type 0} → List ℕ → List (Handler S) → List (Handler S)
+abbrev pub without : {S : Type 0} → List ℕ → List (NamedStage S) → List (NamedStage S)
 without name handlers = option_map_or (λ place. remove handlers place) (place_of name handlers) handlers
 
 -- the stage of the handler of this name
-abbrev pub stage_of : {S : Type 0} → List ℕ → List (Handler S) → Result S BuildFault
+abbrev pub stage_of : {S : Type 0} → List ℕ → List (NamedStage S) → Result S BuildFault
 stage_of name handlers = option_map_or (λ handler. Ok handler.stage) (find (is_named name) handlers) (Err NoSuchName)
 
 -- what the handlers' stages mean, from which their path is known
-abbrev pub meanings : {S : Type 0} → (S → Meaning) → List (Handler S) → List Meaning
+abbrev pub meanings : {S : Type 0} → (S → Meaning) → List (NamedStage S) → List Meaning
 meanings meaning handlers = map (λ handler. meaning handler.stage) handlers
 
-abbrev pub is_outbound : {S : Type 0} → (S → Meaning) → Handler S → Bool
+abbrev pub is_outbound : {S : Type 0} → (S → Meaning) → NamedStage S → Bool
 is_outbound meaning handler = path.is_outbound (meaning handler.stage).direction
 
-abbrev pub is_inbound : {S : Type 0} → (S → Meaning) → Handler S → Bool
+abbrev pub is_inbound : {S : Type 0} → (S → Meaning) → NamedStage S → Bool
 is_inbound meaning handler = not (is_outbound meaning handler)
 
-abbrev pub is_turn : {S : Type 0} → (S → Meaning) → Handler S → Bool
+abbrev pub is_turn : {S : Type 0} → (S → Meaning) → NamedStage S → Bool
 is_turn meaning handler = path.is_turn (meaning handler.stage).direction
 
 -- the handlers that an inbound event visits, from first to last
-abbrev pub inbound_handlers : {S : Type 0} → (S → Meaning) → List (Handler S) → List (Handler S)
+abbrev pub inbound_handlers : {S : Type 0} → (S → Meaning) → List (NamedStage S) → List (NamedStage S)
 inbound_handlers meaning handlers = filter (is_inbound meaning) handlers
 
 -- the handlers that stand before the turn
-abbrev pub before_turn : {S : Type 0} → (S → Meaning) → List (Handler S) → List (Handler S)
+abbrev pub before_turn : {S : Type 0} → (S → Meaning) → List (NamedStage S) → List (NamedStage S)
 before_turn meaning handlers = take_while (λ handler. not (is_turn meaning handler)) handlers
 
 -- the handlers that a write of the turn visits, from the nearest to the first
-abbrev pub outbound_handlers : {S : Type 0} → (S → Meaning) → List (Handler S) → List (Handler S)
+abbrev pub outbound_handlers : {S : Type 0} → (S → Meaning) → List (NamedStage S) → List (NamedStage S)
 outbound_handlers meaning handlers = reverse (filter (is_outbound meaning) (before_turn meaning handlers))
 
 -- no stage has had a step
-abbrev pub AreNew : {S : Type 0} → (S → List Event → Type 0) → List (Handler S) → Type 0
+abbrev pub AreNew : {S : Type 0} → (S → List Event → Type 0) → List (NamedStage S) → Type 0
 AreNew stands_after handlers = All (λ handler. stands_after handler.stage []) handlers

@@ -5,7 +5,7 @@ use Rattle.std.specs.Str.{bytes_eq}
 use Rattle.pl_event.specs.Meaning.{Meaning}
 use Rattle.pl_build.specs.Names.{is_name}
 use Rattle.pl_build.specs.Pipelines.{place_of, is_turn}
-use Rattle.pl_build.specs.declared.handlers.Handler.{Handler}
+use Rattle.pl_build.specs.declared.named_stages.NamedStage.{NamedStage}
 use Rattle.pl_build.specs.declared.faults.BuildFault.{BuildFault}
 use Rattle.pl_build.specs.declared.faults.BuildFault.TheVariants.{DuplicateName, NoSuchName, Limit, NoSuchGroup, NoTurn, TwoTurns, Marks}
 
@@ -15,13 +15,13 @@ unless None = Ok tt
 unless (Some fault) = Err fault
 
 -- no handler of this name can be added: a pipeline has at most 32 handlers, each with a name of its own
-abbrev pub naming_fault : {S : Type 0} → List ℕ → List (Handler S) → Option BuildFault
+abbrev pub naming_fault : {S : Type 0} → List ℕ → List (NamedStage S) → Option BuildFault
 naming_fault name handlers =
     if not (is_name name) || nat_le 32 (length handlers) then Some Limit
     else if is_some (place_of name handlers) then Some DuplicateName else None
 
 -- nor beside the handler `at`
-abbrev pub beside_fault : {S : Type 0} → List ℕ → List ℕ → List (Handler S) → Option BuildFault
+abbrev pub beside_fault : {S : Type 0} → List ℕ → List ℕ → List (NamedStage S) → Option BuildFault
 beside_fault at name handlers =
     if is_some (naming_fault name handlers) then naming_fault name handlers
     else if is_some (place_of at handlers) then None else Some NoSuchName
@@ -38,7 +38,7 @@ is_known sizes None = true
 is_known sizes (Some name) = list_any (λ group. bytes_eq group.0 name) sizes
 
 -- the pipeline of these handlers cannot be built: each named group is there, and just one handler is the turn
-abbrev pub building_fault : {S : Type 0} → (S → Meaning) → List (List ℕ × ℕ) → List (Handler S) → Option BuildFault
+abbrev pub building_fault : {S : Type 0} → (S → Meaning) → List (List ℕ × ℕ) → List (NamedStage S) → Option BuildFault
 building_fault meaning sizes handlers =
     if not (list_all (λ handler. is_known sizes handler.group) handlers) then Some NoSuchGroup
     else if count_by (is_turn meaning) handlers == 0 then Some NoTurn

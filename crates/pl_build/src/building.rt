@@ -12,7 +12,7 @@ ghost use Rattle.pl_build.specs.Counts.{executor_now};
 
 use crate::faults::BuildFault;
 use crate::grouping::Groups;
-use crate::handlers::{Handler, Unadded};
+use crate::named_stages::{NamedStage, Unadded};
 use crate::names::is_name;
 use crate::placing::Placed;
 use crate::splitting::{Room, hop_executors, split};
@@ -35,16 +35,16 @@ const GREATEST_MARK: u32 = 1_073_741_824;
 #[derive(Drop)]
 pub struct PipelineBuilder<S: Stage> {
     alloc: Global,
-    handlers: Vec<Handler<S>>,
+    handlers: Vec<NamedStage<S>>,
     low: u32,
     high: u32,
 }
 
 impl<S: Stage> Model for PipelineBuilder<S> {
-    ghost use Rattle.pl_build.specs.Pipelines.{Pipeline};
+    ghost use Rattle.pl_build.specs.Pipelines.{PipelineBuilderView};
     ghost use Rattle.pl_build.specs.Paths.{IsPipeline};
 
-    ghost Value = { Pipeline S };
+    ghost Value = { PipelineBuilderView S };
 
     ghost view = { λ b. record { handlers = b.handlers.items; low = b.low; high = b.high } };
 
@@ -153,7 +153,7 @@ impl<S: Stage> PipelineBuilder<S> {
     {
         match self.place_of(name) {
             Some(place) => {
-                let Handler { stage, .. } = self.handlers.remove(place);
+                let NamedStage { stage, .. } = self.handlers.remove(place);
                 Ok(stage)
             }
             None => Err(BuildFault::NoSuchName),
@@ -262,7 +262,7 @@ impl<S: Stage> PipelineBuilder<S> {
         ensures err { IfErr result (λ unadded. unadded ≡ record { fault = fault.Memory; stage = stage }) }
         ensures unchanged { OnErr result (self.new ≡ self.old) }
     {
-        let handler = Handler::new(self.alloc, name, group, stage)?;
+        let handler = NamedStage::new(self.alloc, name, group, stage)?;
         self.handlers
             .insert(place, handler)
             .map_err(|refused| refused_memory(refused.value))
@@ -331,10 +331,10 @@ impl<S: Stage> PipelineBuilder<S> {
 }
 
 /// The stage of a handler that found no memory.
-fn refused_memory<S>(handler: Handler<S>) -> Unadded<S>
+fn refused_memory<S>(handler: NamedStage<S>) -> Unadded<S>
     ensures { result ≡ record { fault = fault.Memory; stage = handler.stage } }
 {
-    let Handler { stage, .. } = handler;
+    let NamedStage { stage, .. } = handler;
     Unadded {
         fault: BuildFault::Memory,
         stage,
@@ -342,13 +342,13 @@ fn refused_memory<S>(handler: Handler<S>) -> Unadded<S>
 }
 
 /// Whether the group of each handler is there.
-fn are_known<S>(handlers: &[Handler<S>], groups: &Groups) -> bool
+fn are_known<S>(handlers: &[NamedStage<S>], groups: &Groups) -> bool
     ensures { result ≡ list_all (λ handler. is_known (sizes_of groups.now) handler.group) handlers.now }
 {
     handlers.iter().all(|handler| groups.has(&handler.group))
 }
 
-fn count_turns<S: Stage>(handlers: &[Handler<S>]) -> usize
+fn count_turns<S: Stage>(handlers: &[NamedStage<S>]) -> usize
     ensures { result ≡ count_by (is_turn S.meaning) handlers.now }
 {
     handlers.iter().filter(|handler| handler.is_turn()).count()

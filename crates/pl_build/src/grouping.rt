@@ -10,7 +10,7 @@ ghost use Rattle.pl_build.specs.Refusals.{is_within, has_double, grouping_fault,
 ghost use Rattle.pl_build.specs.declared.faults.BuildFault.TheVariants as fault;
 
 use crate::faults::BuildFault;
-use crate::handlers::Handler;
+use crate::named_stages::NamedStage;
 use crate::names::{is_name, is_same, kept};
 use pl_event::ByteString;
 use std::alloc::{AllocError, Global};
@@ -55,9 +55,9 @@ pub struct Groups {
 }
 
 impl Model for Groups {
-    ghost use Rattle.pl_build.specs.Executors.{Grouping, IsGrouping};
+    ghost use Rattle.pl_build.specs.Executors.{GroupsView, IsGrouping};
 
-    ghost Value = { Grouping };
+    ghost Value = { GroupsView };
 
     ghost view = { λ g. record { loops = g.loops; next_loop = g.next_loop; groups = g.groups.items } };
 
@@ -120,7 +120,7 @@ impl Groups {
     }
 
     /// These handlers were placed.
-    pub(crate) fn place<S>(&mut self, handlers: &[Handler<S>])
+    pub(crate) fn place<S>(&mut self, handlers: &[NamedStage<S>])
         ensures after { self.new ≡ grouping_after self.old (groups_of handlers.now) }
         ensures valid { IsGrouping self.old }
     {
@@ -229,7 +229,7 @@ fn executor_from(first: u16, groups: &[Group], name: &ByteString) -> u16
 }
 
 /// Each group that a handler is in gives its next executor to the next pipeline.
-fn advance_used<S>(groups: &mut [Group], handlers: &[Handler<S>])
+fn advance_used<S>(groups: &mut [Group], handlers: &[NamedStage<S>])
     requires { All (λ group. group.next < group.size) groups.old }
     ensures { groups.new ≡ groups_after groups.old (groups_of handlers.now) }
 {
@@ -239,7 +239,7 @@ fn advance_used<S>(groups: &mut [Group], handlers: &[Handler<S>])
     }
 }
 
-fn is_used<S>(group: &ByteString, handlers: &[Handler<S>]) -> bool
+fn is_used<S>(group: &ByteString, handlers: &[NamedStage<S>]) -> bool
     ensures { result ≡ list_any (λ handler. is_among handler.group group.now) handlers.now }
 {
     handlers.iter().any(|handler| handler.is_in(group))

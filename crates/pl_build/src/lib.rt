@@ -4,7 +4,7 @@
 mod building;
 mod faults;
 mod grouping;
-mod handlers;
+mod named_stages;
 mod names;
 mod placing;
 mod splitting;
@@ -14,5 +14,5 @@ mod tests;
 pub use building::{PipelineBuilder, Unbuilt};
 pub use faults::BuildFault;
 pub use grouping::Groups;
-pub use handlers::{Handler, Unadded};
+pub use named_stages::{NamedStage, Unadded};
 pub use placing::Placed;

@@ -23,10 +23,10 @@ pub struct Placed<S: Stage> {
 }
 
 impl<S: Stage> Model for Placed<S> {
-    ghost use Rattle.pl_build.specs.Pipelines.{Path};
+    ghost use Rattle.pl_build.specs.Pipelines.{PlacedView};
     ghost use Rattle.pl_build.specs.Paths.{IsPath};
 
-    ghost Value = { Path S };
+    ghost Value = { PlacedView S };
 
     ghost view = { λ p. record { inbound = p.inbound.items; outbound = p.outbound.items; executors = p.executors.items; low = p.low; high = p.high } };
 

@@ -6,7 +6,7 @@ ghost use Rattle.pl_build.specs.Executors.{hop_executors};
 ghost use Rattle.pl_build.specs.Pipelines.{before_turn, inbound_handlers, outbound_handlers, is_inbound, is_outbound, is_turn};
 
 use crate::grouping::Groups;
-use crate::handlers::Handler;
+use crate::named_stages::NamedStage;
 use pl_event::Stage;
 use std::alloc::{AllocError, Global};
 
@@ -22,7 +22,7 @@ pub(crate) struct Room<S> {
 pub(crate) fn hop_executors<S: Stage>(
     alloc: Global,
     groups: &Groups,
-    handlers: &[Handler<S>],
+    handlers: &[NamedStage<S>],
 ) -> Result<Vec<u16>, AllocError>
     ensures { IfOk result (λ executors. executors.items ≡ hop_executors (executor_now groups.now) S.meaning handlers.now) }
 {
@@ -37,7 +37,7 @@ pub(crate) fn hop_executors<S: Stage>(
 fn add_inbound<S: Stage>(
     executors: &mut Vec<u16>,
     groups: &Groups,
-    handlers: &[Handler<S>],
+    handlers: &[NamedStage<S>],
 ) -> Result<(), AllocError>
     ensures { OnOk result (executors.new.items ≡ executors.old.items ++ map (λ handler. executor_now groups.now handler.group) (filter (is_inbound S.meaning) handlers.now)) }
 {
@@ -53,7 +53,7 @@ fn add_inbound<S: Stage>(
 fn add_outbound<S: Stage>(
     executors: &mut Vec<u16>,
     groups: &Groups,
-    handlers: &[Handler<S>],
+    handlers: &[NamedStage<S>],
 ) -> Result<(), AllocError>
     ensures { OnOk result (executors.new.items ≡ executors.old.items ++ map (λ handler. executor_now groups.now handler.group) (reverse (filter (is_outbound S.meaning) handlers.now))) }
 {
@@ -67,14 +67,14 @@ fn add_outbound<S: Stage>(
     Ok(())
 }
 
-fn place_of_turn<S: Stage>(handlers: &[Handler<S>]) -> Option<usize>
+fn place_of_turn<S: Stage>(handlers: &[NamedStage<S>]) -> Option<usize>
     ensures { result ≡ position (is_turn S.meaning) handlers.now }
 {
     handlers.iter().position(|handler| handler.is_turn())
 }
 
 /// The handlers that stand before the turn.
-fn before_turn<S: Stage>(handlers: &[Handler<S>]) -> &[Handler<S>]
+fn before_turn<S: Stage>(handlers: &[NamedStage<S>]) -> &[NamedStage<S>]
     ensures { result.now ≡ before_turn S.meaning handlers.now }
 {
     match place_of_turn(handlers) {
@@ -85,7 +85,7 @@ fn before_turn<S: Stage>(handlers: &[Handler<S>]) -> &[Handler<S>]
 
 /// Moves the stages of the path into chains that have room for them, and lets go of those behind the turn.
 pub(crate) fn split<S: Stage>(
-    handlers: Vec<Handler<S>>,
+    handlers: Vec<NamedStage<S>>,
     inbound: Vec<S>,
     outbound: Vec<S>,
 ) -> (Vec<S>, Vec<S>)
@@ -107,7 +107,7 @@ pub(crate) fn split<S: Stage>(
 }
 
 /// Whether no turn has come yet, where none had come before this handler or one had.
-fn is_still_before<S: Stage>(is_before: bool, handler: &Handler<S>) -> bool
+fn is_still_before<S: Stage>(is_before: bool, handler: &NamedStage<S>) -> bool
     ensures { result ≡ (is_before && not (is_turn S.meaning handler.now)) }
 {
     is_before && !handler.is_turn()
@@ -115,7 +115,7 @@ fn is_still_before<S: Stage>(is_before: bool, handler: &Handler<S>) -> bool
 
 /// Moves a stage to the end of its chain, or lets go of it.
 fn place<S: Stage>(
-    handler: Handler<S>,
+    handler: NamedStage<S>,
     is_before: bool,
     inbound: &mut Vec<S>,
     outbound: &mut Vec<S>,
@@ -128,10 +128,10 @@ fn place<S: Stage>(
     ensures outbound_room { vec_capacity outbound.old ≤ vec_capacity outbound.new }
 {
     if handler.is_inbound() {
-        let Handler { stage, .. } = handler;
+        let NamedStage { stage, .. } = handler;
         inbound.push(stage).unwrap();
     } else if is_before {
-        let Handler { stage, .. } = handler;
+        let NamedStage { stage, .. } = handler;
         outbound.push(stage).unwrap();
     }
 }

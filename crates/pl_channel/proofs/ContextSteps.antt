@@ -21,10 +21,10 @@ use Rattle.pl_context.specs.declared.ports.Port.{Port}
 use Rattle.pl_context.specs.declared.standing.Standing.TheVariants as stands
 use Rattle.pl_context.specs.declared.standing.Took.{Took}
 use Rattle.pl_context.specs.declared.standing.Took.TheVariants as took
-use Rattle.pl_context.specs.Stopped.{Stopped, same_hop, has_stopped, HasPlaces}
-use Rattle.pl_context.specs.Listings.{Listing, Appends}
+use Rattle.pl_context.specs.Stops.{StopsView, same_hop, has_stopped, HasPlaces}
+use Rattle.pl_context.specs.OutputsViews.{OutputsView, Appends}
 use Rattle.pl_context.specs.Ports.{as_items, all_go_on, end_after, numbered, offered, put_out}
-use Rattle.pl_context.specs.Stations.{Station, has_up, has_down, down_hop, Enters, kind_taken, number_limit, lane_of, open_lanes}
+use Rattle.pl_context.specs.ContextViews.{ContextView, has_up, has_down, down_hop, Enters, kind_taken, number_limit, lane_of, open_lanes}
 use Rattle.pl_context.specs.Standings.{has_failed}
 use Rattle.pl_context.specs.Contexts.{StandsAfter, IsSmall, MakesFew, Runs, Closes, TakesEvent, TakesItem, TakesFlag, counted, ups, downs, offers}
 use Rattle.pl_context.proofs.Places.{places-for}
@@ -73,12 +73,12 @@ length-end false = refl
 
 -- ---- ports
 
-put_out-open : (s : Stopped) (p : Port) (is : List Item) → IsUnstopped 2 s → p.is_open ≡ true → put_out s p is ≡ numbered p.lane p.made is
+put_out-open : (s : StopsView) (p : Port) (is : List Item) → IsUnstopped 2 s → p.is_open ≡ true → put_out s p is ≡ numbered p.lane p.made is
 put_out-open s p is u o =
     ap (λ (b : Bool). cond b (cond (has_stopped s p.lane) [] (numbered p.lane p.made is)) []) o
     ∙ ap (λ (b : Bool). cond b [] (numbered p.lane p.made is)) (none_stopped 2 s u p.lane)
 
-put_out-closed : (s : Stopped) (p : Port) (is : List Item) → p.is_open ≡ false → put_out s p is ≡ []
+put_out-closed : (s : StopsView) (p : Port) (is : List Item) → p.is_open ≡ false → put_out s p is ≡ []
 put_out-closed s p is o = ap (λ (b : Bool). cond b (cond (has_stopped s p.lane) [] (numbered p.lane p.made is)) []) o
 
 offered-open : (p : Port) (is : List Item) → p.is_open ≡ true → offered p is ≡ numbered p.lane p.made is
@@ -96,7 +96,7 @@ offered-one p i = elim (cases_Bool p.is_open) [
 -- ---- a context that takes item n
 
 module _ {S : Type 0} (meaning : S → Meaning) (stands_after : S → List Event → Type 0) (channel hop k : ℕ) (events : List Event) (m : Meaning) (n flags : ℕ) (there : n ≤ length events) where
-  module _ (c : Station S) (s : ContextStands meaning stands_after channel hop k events m n flags c) where
+  module _ (c : ContextView S) (s : ContextStands meaning stands_after channel hop k events m n flags c) where
     going : has_end events n ≡ false
     going = before_end events n there
 
@@ -197,7 +197,7 @@ module _ {S : Type 0} (meaning : S → Meaning) (stands_after : S → List Event
           second true true h = cc
           second false b h = cc
 
-      module _ (before after : Listing) (c' : Station S) (u : IsUnstopped 2 before.stopped) (same : meaning c'.stage ≡ meaning c.stage) (r : Runs meaning stands_after (counted Data c) e before c' after) where
+      module _ (before after : OutputsView) (c' : ContextView S) (u : IsUnstopped 2 before.stopped) (same : meaning c'.stage ≡ meaning c.stage) (r : Runs meaning stands_after (counted Data c) e before c' after) where
         appended : Appends before (sent_up channel hop m events n ++ sent_down channel hop k m events n) after
         appended =
             let was = (s.stands going).stands in
@@ -233,10 +233,10 @@ module _ {S : Type 0} (meaning : S → Meaning) (stands_after : S → List Event
             let keeps = stays_ended-prefix m lawful (take n events) (take (n + 1) events) (take-prefix n (n + 1) events (omega arith)) in
             record {
               meant = same ∙ s.meant;
-              channel_is = ap (λ (t : Station S). t.channel) r.same ∙ s.channel_is;
-              hop_is = ap (λ (t : Station S). t.hop) r.same ∙ s.hop_is;
-              taken = ap (λ (t : Station S). t.taken) r.same ∙ ap (λ (i : ℕ). i + 1) s.taken;
-              standing = ap (λ (t : Station S). t.standing) r.same ∙ s.standing ∙ ap (λ (b : Bool). cond b stands.Ended stands.Open) (going ∙ sym still_going);
+              channel_is = ap (λ (t : ContextView S). t.channel) r.same ∙ s.channel_is;
+              hop_is = ap (λ (t : ContextView S). t.hop) r.same ∙ s.hop_is;
+              taken = ap (λ (t : ContextView S). t.taken) r.same ∙ ap (λ (i : ℕ). i + 1) s.taken;
+              standing = ap (λ (t : ContextView S). t.standing) r.same ∙ s.standing ∙ ap (λ (b : Bool). cond b stands.Ended stands.Open) (going ∙ sym still_going);
               stands = λ h. subst (λ (l : List Event). StandsAfter meaning stands_after c' l) (sym longer) (r.stands (take n events) was);
               up_lane = ap (λ (p : Port). p.lane) up ∙ s.up_lane;
               up_open =
@@ -248,13 +248,13 @@ module _ {S : Type 0} (meaning : S → Meaning) (stands_after : S → List Event
                   ∙ still_closed (has_down m.direction) (m.ended (take n events)) (m.ended (take (n + 1) events)) keeps
                   ∙ ap (λ (b : Bool). has_down m.direction && not b) (sym (or_false (m.ended (take (n + 1) events))))
                   ∙ ap (λ (b : Bool). has_down m.direction && not (m.ended (take (n + 1) events) || b)) (sym still_going);
-              flags_taken = ap (λ (t : Station S). t.flags_taken) r.same ∙ s.flags_taken;
-              flags_port = ap (λ (t : Station S). t.flags) r.same ∙ s.flags_port;
+              flags_taken = ap (λ (t : ContextView S). t.flags_taken) r.same ∙ s.flags_taken;
+              flags_port = ap (λ (t : ContextView S). t.flags) r.same ∙ s.flags_port;
             }
 
     -- ---- the end
 
-    module _ (lawful : IsLawful m) (last : n ≡ length events) (before after : Listing) (c' : Station S) (u : IsUnstopped 2 before.stopped) (room : 2 ≤ before.room)
+    module _ (lawful : IsLawful m) (last : n ≡ length events) (before after : OutputsView) (c' : ContextView S) (u : IsUnstopped 2 before.stopped) (room : 2 ≤ before.room)
         (same : meaning c'.stage ≡ meaning c.stage) (r : Closes stands.Ended (counted Data c) before c' after) where
       appended-end : Appends before (sent_up channel hop m events n ++ sent_down channel hop k m events n) after
       appended-end =
@@ -277,23 +277,23 @@ module _ {S : Type 0} (meaning : S → Meaning) (stands_after : S → List Event
       stands-end : ContextStands meaning stands_after channel hop k events m (n + 1) flags c'
       stands-end = record {
         meant = same ∙ s.meant;
-        channel_is = ap (λ (t : Station S). t.channel) r.context ∙ s.channel_is;
-        hop_is = ap (λ (t : Station S). t.hop) r.context ∙ s.hop_is;
-        taken = ap (λ (t : Station S). t.taken) r.context ∙ ap (λ (i : ℕ). i + 1) s.taken;
-        standing = ap (λ (t : Station S). t.standing) r.context ∙ ap (λ (b : Bool). cond b stands.Ended stands.Open) (sym over);
+        channel_is = ap (λ (t : ContextView S). t.channel) r.context ∙ s.channel_is;
+        hop_is = ap (λ (t : ContextView S). t.hop) r.context ∙ s.hop_is;
+        taken = ap (λ (t : ContextView S). t.taken) r.context ∙ ap (λ (i : ℕ). i + 1) s.taken;
+        standing = ap (λ (t : ContextView S). t.standing) r.context ∙ ap (λ (b : Bool). cond b stands.Ended stands.Open) (sym over);
         stands = λ h. let differ : true ≡ false = sym over ∙ h in absurd (cc differ);
-        up_lane = ap (λ (t : Station S). t.up.lane) r.context ∙ s.up_lane;
+        up_lane = ap (λ (t : ContextView S). t.up.lane) r.context ∙ s.up_lane;
         up_open =
-            ap (λ (t : Station S). t.up.is_open) r.context ∙ and_false c.up.is_open
+            ap (λ (t : ContextView S). t.up.is_open) r.context ∙ and_false c.up.is_open
             ∙ sym (ap (λ (b : Bool). has_up m.direction && not b) over ∙ and_false (has_up m.direction));
-        down_lane = ap (λ (t : Station S). t.down.lane) r.context ∙ s.down_lane;
+        down_lane = ap (λ (t : ContextView S). t.down.lane) r.context ∙ s.down_lane;
         down_open =
-            ap (λ (t : Station S). t.down.is_open) r.context ∙ and_false c.down.is_open
+            ap (λ (t : ContextView S). t.down.is_open) r.context ∙ and_false c.down.is_open
             ∙ sym (ap (λ (b : Bool). has_down m.direction && not (m.ended (take (n + 1) events) || b)) over
             ∙ ap (λ (b : Bool). has_down m.direction && not b) (or_true (m.ended (take (n + 1) events)))
             ∙ and_false (has_down m.direction));
-        flags_taken = ap (λ (t : Station S). t.flags_taken) r.context ∙ s.flags_taken;
-        flags_port = ap (λ (t : Station S). t.flags) r.context ∙ s.flags_port;
+        flags_taken = ap (λ (t : ContextView S). t.flags_taken) r.context ∙ s.flags_taken;
+        flags_port = ap (λ (t : ContextView S). t.flags) r.context ∙ s.flags_port;
       }
 
 -- ---- the lanes of a context have places
@@ -317,9 +317,9 @@ two-hops up down flags q same h =
       | inr of_flags ↦ ap (λ (b : Bool). b || (same_hop q down.lane || false)) (sym same ∙ open-hop q flags of_flags)
     ]
 
-module _ {S : Type 0} (meaning : S → Meaning) (stands_after : S → List Event → Type 0) (channel hop k : ℕ) (events : List Event) (m : Meaning) (n flags : ℕ) (c : Station S)
+module _ {S : Type 0} (meaning : S → Meaning) (stands_after : S → List Event → Type 0) (channel hop k : ℕ) (events : List Event) (m : Meaning) (n flags : ℕ) (c : ContextView S)
     (stand : ContextStands meaning stands_after channel hop k events m n flags c) where
-  context-places : (s : Stopped) → IsUnstopped 2 s → HasPlaces s (open_lanes c)
+  context-places : (s : StopsView) → IsUnstopped 2 s → HasPlaces s (open_lanes c)
   context-places s u =
       places-for s (c.up.lane ∷ c.down.lane ∷ []) (open_lanes c) (unstopped-places 2 s u (c.up.lane ∷ c.down.lane ∷ []) (le_refl 2))
       (λ q h. two-hops c.up c.down c.flags q
@@ -327,7 +327,7 @@ module _ {S : Type 0} (meaning : S → Meaning) (stands_after : S → List Event
 
 -- ---- the next item
 
-module _ {S : Type 0} (meaning : S → Meaning) (stands_after : S → List Event → Type 0) (channel hop k : ℕ) (events : List Event) (m : Meaning) (n flags : ℕ) (envelope : Envelope) (c : Station S)
+module _ {S : Type 0} (meaning : S → Meaning) (stands_after : S → List Event → Type 0) (channel hop k : ℕ) (events : List Event) (m : Meaning) (n flags : ℕ) (envelope : Envelope) (c : ContextView S)
     (next : IsNextFor meaning stands_after channel hop k events m n flags envelope c) where
   abbrev IsEvent : Type 0
   IsEvent = (e : Event) × (slice_get events n ≡ Some e)
@@ -368,7 +368,7 @@ module _ {S : Type 0} (meaning : S → Meaning) (stands_after : S → List Event
       let number = ap (λ (t : Envelope). t.number) next.envelope_is in
       subst (λ (kind : Kind). envelope.number < number_limit kind) (sym next-data) (omega (arith, number, next.there, next.few))
 
-  pub next-places : (s : Stopped) → IsUnstopped 2 s → HasPlaces s (open_lanes c)
+  pub next-places : (s : StopsView) → IsUnstopped 2 s → HasPlaces s (open_lanes c)
   next-places = context-places meaning stands_after channel hop k events m n flags c next.stands
 
   module _ (lawful : IsLawful m) where
@@ -380,7 +380,7 @@ module _ {S : Type 0} (meaning : S → Meaning) (stands_after : S → List Event
       | inr last ↦ subst (λ (i : Item). MakesFew meaning stands_after c i) (sym (end_is last)) tt
     ]
 
-    module _ (is_spent : S → Bool) (before after : Listing) (answer : Took) (c' : Station S) (u : IsUnstopped 2 before.stopped) (room : 2 ≤ before.room)
+    module _ (is_spent : S → Bool) (before after : OutputsView) (answer : Took) (c' : ContextView S) (u : IsUnstopped 2 before.stopped) (room : 2 ≤ before.room)
         (same : meaning c'.stage ≡ meaning c.stage) (kept : (answer ≡ took.Ran) ⊎ (answer ≡ took.Ended))
         (takes : TakesItem meaning stands_after is_spent (counted Data c) envelope.item before answer c' after) where
       abbrev Taken : Type 0
@@ -413,7 +413,7 @@ not_failed : (b : Bool) → has_failed (cond b stands.Ended stands.Open) ≡ fal
 not_failed true = refl
 not_failed false = refl
 
-module _ {S : Type 0} (meaning : S → Meaning) (stands_after : S → List Event → Type 0) (channel hop k : ℕ) (events : List Event) (m : Meaning) (n flags : ℕ) (envelope : Envelope) (c : Station S)
+module _ {S : Type 0} (meaning : S → Meaning) (stands_after : S → List Event → Type 0) (channel hop k : ℕ) (events : List Event) (m : Meaning) (n flags : ℕ) (envelope : Envelope) (c : ContextView S)
     (next : IsNextFlagFor meaning stands_after channel hop k events m n flags envelope c) where
   pub flag-kind : envelope.lane.kind ≡ Flags
   flag-kind = ap (λ (t : Envelope). t.lane.kind) next.envelope_is
@@ -435,10 +435,10 @@ module _ {S : Type 0} (meaning : S → Meaning) (stands_after : S → List Event
       let number = ap (λ (t : Envelope). t.number) next.envelope_is in
       subst (λ (kind : Kind). envelope.number < number_limit kind) (sym flag-kind) (omega (arith, number, next.few))
 
-  pub flag-places : (s : Stopped) → IsUnstopped 2 s → HasPlaces s (open_lanes c)
+  pub flag-places : (s : StopsView) → IsUnstopped 2 s → HasPlaces s (open_lanes c)
   flag-places = context-places meaning stands_after channel hop k events m n flags c next.stands
 
-  module _ (before after : Listing) (answer : Took) (c' : Station S) (u : IsUnstopped 2 before.stopped) (room : 2 ≤ before.room)
+  module _ (before after : OutputsView) (answer : Took) (c' : ContextView S) (u : IsUnstopped 2 before.stopped) (room : 2 ≤ before.room)
       (takes : TakesFlag (counted Flags c) envelope.item before answer c' after) where
     handed : TakesFlag (counted Flags c) (item.Flag (flag_by flags)) before answer c' after
     handed =
@@ -460,19 +460,19 @@ module _ {S : Type 0} (meaning : S → Meaning) (stands_after : S → List Event
         let was = next.stands in
         let same = handed.1 in
         record {
-          meant = ap (λ (t : Station S). meaning t.stage) same ∙ was.meant;
-          channel_is = ap (λ (t : Station S). t.channel) same ∙ was.channel_is;
-          hop_is = ap (λ (t : Station S). t.hop) same ∙ was.hop_is;
-          taken = ap (λ (t : Station S). t.taken) same ∙ was.taken;
-          standing = ap (λ (t : Station S). t.standing) same ∙ was.standing;
+          meant = ap (λ (t : ContextView S). meaning t.stage) same ∙ was.meant;
+          channel_is = ap (λ (t : ContextView S). t.channel) same ∙ was.channel_is;
+          hop_is = ap (λ (t : ContextView S). t.hop) same ∙ was.hop_is;
+          taken = ap (λ (t : ContextView S). t.taken) same ∙ was.taken;
+          standing = ap (λ (t : ContextView S). t.standing) same ∙ was.standing;
           stands = λ h.
               let before_it = was.stands h in
-              subst (λ (t : Station S). StandsAfter meaning stands_after t (take n events)) (sym same)
+              subst (λ (t : ContextView S). StandsAfter meaning stands_after t (take n events)) (sym same)
               (record { stands = before_it.stands; above = before_it.above; below = before_it.below });
-          up_lane = ap (λ (t : Station S). t.up.lane) same ∙ was.up_lane;
-          up_open = ap (λ (t : Station S). t.up.is_open) same ∙ was.up_open;
-          down_lane = ap (λ (t : Station S). t.down.lane) same ∙ was.down_lane;
-          down_open = ap (λ (t : Station S). t.down.is_open) same ∙ was.down_open;
-          flags_taken = ap (λ (t : Station S). t.flags_taken) same ∙ ap (λ (i : ℕ). i + 1) was.flags_taken;
+          up_lane = ap (λ (t : ContextView S). t.up.lane) same ∙ was.up_lane;
+          up_open = ap (λ (t : ContextView S). t.up.is_open) same ∙ was.up_open;
+          down_lane = ap (λ (t : ContextView S). t.down.lane) same ∙ was.down_lane;
+          down_open = ap (λ (t : ContextView S). t.down.is_open) same ∙ was.down_open;
+          flags_taken = ap (λ (t : ContextView S). t.flags_taken) same ∙ ap (λ (i : ℕ). i + 1) was.flags_taken;
           flags_port = flag-counted 2 c.flags c'.flags (flag_by flags) before after u some open_ handed.2 ∙ ap (λ (p : Port). record p { made = p.made + 1 }) was.flags_port;
         }

@@ -15,7 +15,7 @@ use Rattle.pl_event.specs.declared.envelopes.Envelope.{Envelope}
 use Rattle.pl_context.specs.declared.standing.Standing.TheVariants as stands
 use Rattle.pl_context.specs.declared.standing.Took.{Took}
 use Rattle.pl_context.specs.declared.standing.Took.TheVariants as took
-use Rattle.pl_context.specs.Recordings.{Recording, RecordsEvent, RecordsItem, counted}
+use Rattle.pl_context.specs.TailViews.{TailView, RecordsEvent, RecordsItem, counted}
 use Rattle.pl_channel.specs.MadeItems.{has_end}
 use Rattle.pl_channel.specs.Envelopes.{item_by}
 use Rattle.pl_channel.specs.TailStand.{TailStands, IsNextForTail}
@@ -39,7 +39,7 @@ module _ (events : List Event) (n : ℕ) where
 
 -- ---- the tail
 
-module _ (channel hop : ℕ) (events : List Event) (n flags : ℕ) (envelope : Envelope) (t : Recording) (next : IsNextForTail channel hop events n flags envelope t) where
+module _ (channel hop : ℕ) (events : List Event) (n flags : ℕ) (envelope : Envelope) (t : TailView) (next : IsNextForTail channel hop events n flags envelope t) where
   item_is : envelope.item ≡ item_by events n
   item_is = ap (λ (e : Envelope). e.item) next.envelope_is
 
@@ -49,31 +49,31 @@ module _ (channel hop : ℕ) (events : List Event) (n flags : ℕ) (envelope : E
   pub tail-open : t.standing ≡ stands.Open
   tail-open = next.stands.standing ∙ ap (λ (b : Bool). cond b stands.Ended stands.Open) (before_end events n next.there)
 
-  module _ (answer : Took) (t' : Recording) where
+  module _ (answer : Took) (t' : TailView) where
     event-stands : (e : Event) → slice_get events n ≡ Some e → t' ≡ record (counted Data t) { events = t.events ++ e ∷ [] } → TailStands channel hop events (n + 1) flags t'
     event-stands e here same = record {
-      channel_is = ap (λ (r : Recording). r.channel) same ∙ next.stands.channel_is;
-      hop_is = ap (λ (r : Recording). r.hop) same ∙ next.stands.hop_is;
-      taken = ap (λ (r : Recording). r.taken) same ∙ ap (λ (i : ℕ). i + 1) next.stands.taken;
+      channel_is = ap (λ (r : TailView). r.channel) same ∙ next.stands.channel_is;
+      hop_is = ap (λ (r : TailView). r.hop) same ∙ next.stands.hop_is;
+      taken = ap (λ (r : TailView). r.taken) same ∙ ap (λ (i : ℕ). i + 1) next.stands.taken;
       standing =
-          ap (λ (r : Recording). r.standing) same ∙ tail-open
+          ap (λ (r : TailView). r.standing) same ∙ tail-open
           ∙ sym (ap (λ (b : Bool). cond b stands.Ended stands.Open) (end-event events n e here));
-      recorded = ap (λ (r : Recording). r.events) same ∙ ap (λ (l : List Event). l ++ e ∷ []) next.stands.recorded ∙ sym (taken-event events n e here);
-      flags_taken = ap (λ (r : Recording). r.flags_taken) same ∙ next.stands.flags_taken;
-      flags_are = ap (λ (r : Recording). r.flags) same ∙ next.stands.flags_are;
-      flags_go_on = ap (λ (r : Recording). r.flags_stopped) same ∙ next.stands.flags_go_on;
+      recorded = ap (λ (r : TailView). r.events) same ∙ ap (λ (l : List Event). l ++ e ∷ []) next.stands.recorded ∙ sym (taken-event events n e here);
+      flags_taken = ap (λ (r : TailView). r.flags_taken) same ∙ next.stands.flags_taken;
+      flags_are = ap (λ (r : TailView). r.flags) same ∙ next.stands.flags_are;
+      flags_go_on = ap (λ (r : TailView). r.flags_stopped) same ∙ next.stands.flags_go_on;
     }
 
     end-stands : n ≡ length events → t' ≡ record (counted Data t) { standing = stands.Ended } → TailStands channel hop events (n + 1) flags t'
     end-stands last same = record {
-      channel_is = ap (λ (r : Recording). r.channel) same ∙ next.stands.channel_is;
-      hop_is = ap (λ (r : Recording). r.hop) same ∙ next.stands.hop_is;
-      taken = ap (λ (r : Recording). r.taken) same ∙ ap (λ (i : ℕ). i + 1) next.stands.taken;
-      standing = ap (λ (r : Recording). r.standing) same ∙ sym (ap (λ (b : Bool). cond b stands.Ended stands.Open) (end-end events n last));
-      recorded = ap (λ (r : Recording). r.events) same ∙ next.stands.recorded ∙ sym (taken-end events n last);
-      flags_taken = ap (λ (r : Recording). r.flags_taken) same ∙ next.stands.flags_taken;
-      flags_are = ap (λ (r : Recording). r.flags) same ∙ next.stands.flags_are;
-      flags_go_on = ap (λ (r : Recording). r.flags_stopped) same ∙ next.stands.flags_go_on;
+      channel_is = ap (λ (r : TailView). r.channel) same ∙ next.stands.channel_is;
+      hop_is = ap (λ (r : TailView). r.hop) same ∙ next.stands.hop_is;
+      taken = ap (λ (r : TailView). r.taken) same ∙ ap (λ (i : ℕ). i + 1) next.stands.taken;
+      standing = ap (λ (r : TailView). r.standing) same ∙ sym (ap (λ (b : Bool). cond b stands.Ended stands.Open) (end-end events n last));
+      recorded = ap (λ (r : TailView). r.events) same ∙ next.stands.recorded ∙ sym (taken-end events n last);
+      flags_taken = ap (λ (r : TailView). r.flags_taken) same ∙ next.stands.flags_taken;
+      flags_are = ap (λ (r : TailView). r.flags) same ∙ next.stands.flags_are;
+      flags_go_on = ap (λ (r : TailView). r.flags_stopped) same ∙ next.stands.flags_go_on;
     }
 
     pub tail-next : (answer ≡ took.Ran) ⊎ (answer ≡ took.Ended) → RecordsItem (counted Data t) envelope.item answer t' → TailStands channel hop events (n + 1) flags t'

@@ -6,8 +6,8 @@ use Rattle.pl_event.specs.declared.envelopes.Lane.{Lane}
 use Rattle.pl_event.specs.declared.envelopes.Envelope.{Envelope}
 use Rattle.pl_event.specs.declared.envelopes.Item.TheVariants as item
 use Rattle.pl_context.specs.declared.ports.Port.{Port}
-use Rattle.pl_context.specs.Stopped.{has_stopped}
-use Rattle.pl_context.specs.Listings.{Listing}
+use Rattle.pl_context.specs.Stops.{has_stopped}
+use Rattle.pl_context.specs.OutputsViews.{OutputsView}
 use Rattle.pl_context.specs.Ports.{numbered}
 use Rattle.pl_head.specs.Marks.{Change, flags, levels, AlternateFrom}
 use Rattle.pl_head.specs.FlagLanes.{as_flags}
@@ -57,7 +57,7 @@ flag-envelopes p c low high cs more added are =
     ∙ ap (λ (k : ℕ). envelopes_of p (map (λ (number : ℕ). let place : Place = record { lane = flags_lane c 0; number = number } in place) (range_with_len (length (flags low high cs)) k))) count
 
 -- What changes send on a list on which nothing stops: the lane goes on, and the flags stand behind the others.
-pub sent-places : (p : ChannelPlan) (c low high : ℕ) (cs more : List Change) (port port' : Port) (before after : Listing) → SendsFlags low high cs more port before port' after → low ≡ p.low → high ≡ p.high
+pub sent-places : (p : ChannelPlan) (c low high : ℕ) (cs more : List Change) (port port' : Port) (before after : OutputsView) → SendsFlags low high cs more port before port' after → low ≡ p.low → high ≡ p.high
     → port.lane ≡ flags_lane c 0 → port.is_open ≡ true → port.made ≡ length (flags low high cs) → has_stopped before.stopped port.lane ≡ false → after.stopped ≡ before.stopped
     → (port'.is_open ≡ true) × (after.items ≡ before.items ++ envelopes_of p (places (flags_lane c 0) (length (flags p.low p.high cs)) (length (flags p.low p.high (cs ++ more)))))
 sent-places p c low high cs more port port' before after sends low_is high_is lane goes_on made goes still =

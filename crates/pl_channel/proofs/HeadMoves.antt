@@ -7,8 +7,8 @@ use Rattle.pl_event.specs.declared.events.Event.{Event}
 use Rattle.pl_event.specs.declared.outcomes.Cause.{Cause}
 use Rattle.pl_event.specs.declared.outcomes.Cause.TheVariants.{Transport}
 use Rattle.pl_context.specs.Standings.{is_over}
-use Rattle.pl_context.specs.Stopped.{has_stopped}
-use Rattle.pl_context.specs.Listings.{Listing, PutsAll}
+use Rattle.pl_context.specs.Stops.{has_stopped}
+use Rattle.pl_context.specs.OutputsViews.{OutputsView, PutsAll}
 use Rattle.pl_context.specs.Ports.{numbered}
 use Rattle.pl_event.specs.declared.envelopes.Envelope.{Envelope}
 use Rattle.pl_head.specs.declared.heads.ReadStep.{ReadStep}
@@ -19,8 +19,8 @@ use Rattle.pl_head.specs.Transports.{TransportState, counted}
 use Rattle.pl_head.specs.Marks.{Change, is_unwritable}
 use Rattle.pl_head.specs.Writes.{out, offered, flushed_writes, waiting_bytes}
 use Rattle.pl_head.specs.ReadSteps.{entrance, step_count, step_items, read_items, is_burst}
-use Rattle.pl_head.specs.InputStand.{Reading, InputStands}
-use Rattle.pl_head.specs.Buffers.{Buffered, SameMarks}
+use Rattle.pl_head.specs.InputStand.{InputView, InputStands}
+use Rattle.pl_head.specs.Buffers.{WriteBufferView, SameMarks}
 use Rattle.pl_head.specs.WritabilityStand.{SendsFlags}
 use Rattle.pl_head.specs.HeadStand.{HeadView, StandsAfter, waiting_at, is_idle, read_answer, step_sizes, first_cause, cause_of_step, HasFewFlags}
 use Rattle.pl_head.specs.HeadStand as head
@@ -117,7 +117,7 @@ module _ {T : Type 0} (state : T → TransportState) (c : ℕ) (p : ChannelPlan)
     pub other-cannot : answer ≢ reads.Gave → can_read p s ≡ false
     other-cannot other = other_cannot (nat_lt s.reads (step_count p.bursts)) (is_held p s) answer said other
 
-  with_input : (i : Reading) → InputStands p.bursts (s.reads + 1) i → HeadStands state c p (record s { reads = s.reads + 1 }) (record h { input = i })
+  with_input : (i : InputView) → InputStands p.bursts (s.reads + 1) i → HeadStands state c p (record s { reads = s.reads + 1 }) (record h { input = i })
   with_input i stands = record {
     channel_is = was.channel_is;
     hop_is = was.hop_is;
@@ -144,7 +144,7 @@ module _ {T : Type 0} (state : T → TransportState) (c : ℕ) (p : ChannelPlan)
       subst (HeadStands state c p (record s { reads = s.reads + 1 })) (sym same) (with_input now.input stands)
 
   -- its items are those of their places
-  pub read-puts : can_read p s ≡ true → (before after : Listing) → PutsAll before (numbered (entrance h.channel) (read_items p.bursts s.reads) (step_items p.bursts s.reads)) after
+  pub read-puts : can_read p s ≡ true → (before after : OutputsView) → PutsAll before (numbered (entrance h.channel) (read_items p.bursts s.reads) (step_items p.bursts s.reads)) after
       → PutsAll before (envelopes_of p (made_by_read p c s.reads)) after
   read-puts can before after puts =
       let within = ltb-true s.reads (step_count p.bursts) (and_parts (nat_lt s.reads (step_count p.bursts)) (not (is_held p s)) can).0 in
@@ -190,7 +190,7 @@ module _ {T : Type 0} (state : T → TransportState) (c : ℕ) (p : ChannelPlan)
           (ap₂ (λ (a : ℕ) (b : Bool). waiting_bytes ys a b) was.accepted over)
           (ap₂ (λ (a : ℕ) (b : Bool). waiting_bytes ys a b) accepted_now (ap is_over standing_same ∙ over))
 
-      module _ (before after : Listing) (goes : has_stopped before.stopped h.buffer.flags.lane ≡ false) (still : after.stopped ≡ before.stopped)
+      module _ (before after : OutputsView) (goes : has_stopped before.stopped h.buffer.flags.lane ≡ false) (still : after.stopped ≡ before.stopped)
           (sends : SendsFlags h.buffer.low h.buffer.high s.sizes removed h.buffer.flags before now.buffer.flags after) where
         sent : (now.buffer.flags.is_open ≡ true) × (after.items ≡ before.items ++ envelopes_of p (new_flags p c s (written p s n)))
         sent =
@@ -247,7 +247,7 @@ module _ {T : Type 0} (state : T → TransportState) (c : ℕ) (p : ChannelPlan)
           accepted = ap (λ (l : List ℕ). length l) kept ∙ was.accepted;
           failure = failure ∙ ap₂ (λ (o : Option Cause) (a : OutStep). first_cause o (cause_of_step a)) was.failure is ∙ failed_now (has_failed s);
           tied = λ failed. omega (arith, failures);
-          flags_go_on = ap (λ (b : Buffered). b.flags.is_open) buffer ∙ was.flags_go_on;
+          flags_go_on = ap (λ (b : WriteBufferView). b.flags.is_open) buffer ∙ was.flags_go_on;
           lane = marks.lane ∙ was.lane;
           few = few;
         }

@@ -19,8 +19,8 @@ use Rattle.pl_context.specs.declared.standing.Standing.TheVariants as stands
 use Rattle.pl_context.specs.declared.standing.Took.{Took}
 use Rattle.pl_context.specs.declared.standing.Took.TheVariants as took
 use Rattle.pl_context.specs.Standings.{is_over}
-use Rattle.pl_context.specs.Stopped.{Stopped, HasPlaces}
-use Rattle.pl_context.specs.Listings.{Listing, Appends}
+use Rattle.pl_context.specs.Stops.{StopsView, HasPlaces}
+use Rattle.pl_context.specs.OutputsViews.{OutputsView, Appends}
 use Rattle.pl_context.specs.Ports.{numbered}
 use Rattle.pl_head.specs.Transports.{TransportState}
 use Rattle.pl_head.specs.Marks.{Change, AlternateFrom, flags}
@@ -68,7 +68,7 @@ module _ {T : Type 0} (state : T → TransportState) (channel : ℕ) (p : Channe
         ∙ flag-envelopes p channel (flags_sent p s) added (alternate-after (flags p.low p.high s.sizes) added alternate)
         ∙ ap (λ (n : ℕ). envelopes_of p (map (λ number. record { lane = flags_lane channel 0; number = number }) (range_with_len (flags_sent p s) n))) count
 
-  pub new-appended : (more : List Change) → length more ≤ 1 → s'.sizes ≡ s.sizes ++ more → (lanes : ℕ) (before after : Listing) (p' : Port) → IsUnstopped lanes before.stopped → 1 ≤ before.room
+  pub new-appended : (more : List Change) → length more ≤ 1 → s'.sizes ≡ s.sizes ++ more → (lanes : ℕ) (before after : OutputsView) (p' : Port) → IsUnstopped lanes before.stopped → 1 ≤ before.room
       → SendsFlags h.buffer.low h.buffer.high s.sizes more h.buffer.flags before p' after
       → Appends before (envelopes_of p (new_flags p channel s s')) after × (p'.is_open ≡ true)
   new-appended more few sizes_are lanes before after p' u room sends =
@@ -171,7 +171,7 @@ over-by true = refl
 over-by false = refl
 
 -- its lane of flags has a place
-pub head-places : (channel : ℕ) (lanes : Stopped) → IsUnstopped 1 lanes → HasPlaces lanes (flags_lane channel 0 ∷ [])
+pub head-places : (channel : ℕ) (lanes : StopsView) → IsUnstopped 1 lanes → HasPlaces lanes (flags_lane channel 0 ∷ [])
 head-places channel lanes u = unstopped-places 1 lanes u (flags_lane channel 0 ∷ []) (le_refl 1)
 
 -- ---- the head takes its next item
@@ -215,7 +215,7 @@ module _ {T : Type 0} (state : T → TransportState) (p : ChannelPlan) (s : Chan
   failed-same = ap is_some next.stands.failure ∙ some-failure (has_failed s)
 
   -- what a head did that took it
-  pub record Taken (before after : Listing) (answer : Took) (h' : HeadView T) : Type 0 where
+  pub record Taken (before after : OutputsView) (answer : Took) (h' : HeadView T) : Type 0 where
     pub answers : Answers envelope.item answer
     pub kept : (answer ≡ took.Ran) ⊎ (answer ≡ took.Ended)
     pub stands : IsPlaced envelope.item answer → (ys : List Event) (sizes : List Change) → StandsAfter state h ys sizes
@@ -229,7 +229,7 @@ module _ {T : Type 0} (state : T → TransportState) (p : ChannelPlan) (s : Chan
     pub marks : SameMarks h.buffer h'.buffer
     pub few : HasFewFlags h'
 
-  module _ (before after : Listing) (answer : Took) (h' : HeadView T) (u : IsUnstopped 1 before.stopped) (room : 1 ≤ before.room) (did : Taken before after answer h') where
+  module _ (before after : OutputsView) (answer : Took) (h' : HeadView T) (u : IsUnstopped 1 before.stopped) (room : 1 ≤ before.room) (did : Taken before after answer h') where
     found : IsPlaced envelope.item answer
     found = placed envelope.item answer did.kept did.answers
 

@@ -9,8 +9,8 @@ use Rattle.pl_event.specs.declared.stages.Direction.TheVariants.{Inbound, Outbou
 use Rattle.pl_event.specs.Meaning.{Meaning, IsLawful}
 use Rattle.pl_event.specs.Paths.{is_outbound}
 use Rattle.pl_context.specs.declared.standing.Standing.TheVariants as stands
-use Rattle.pl_context.specs.Recordings.{Recording, new_recording}
-use Rattle.pl_context.specs.Stations.{Station, IsHop, new_station, has_up, has_down}
+use Rattle.pl_context.specs.TailViews.{TailView, new_tail}
+use Rattle.pl_context.specs.ContextViews.{ContextView, IsHop, new_context, has_up, has_down}
 use Rattle.pl_context.specs.Contexts.{StandsAfter}
 use Rattle.pl_channel.specs.MadeItems.{has_end}
 use Rattle.pl_channel.specs.ContextStand.{ContextStands}
@@ -55,8 +55,8 @@ still_open true = refl
 still_open false = refl
 
 module _ {S : Type 0} (meaning : S → Meaning) (stands_after : S → List Event → Type 0) (channel hop k : ℕ) (events : List Event) (stage : S) (lawful : IsLawful (meaning stage)) where
-  new-stands : StandsAfter meaning stands_after (new_station (meaning stage).direction channel hop k stage) []
-      → ContextStands meaning stands_after channel hop k events (meaning stage) 0 0 (new_station (meaning stage).direction channel hop k stage)
+  new-stands : StandsAfter meaning stands_after (new_context (meaning stage).direction channel hop k stage) []
+      → ContextStands meaning stands_after channel hop k events (meaning stage) 0 0 (new_context (meaning stage).direction channel hop k stage)
   new-stands fresh = record {
     meant = refl;
     channel_is = refl;
@@ -74,13 +74,13 @@ module _ {S : Type 0} (meaning : S → Meaning) (stands_after : S → List Event
     flags_port = refl;
   }
 
-  pub starts-stand : (c : Station S) → c ≡ new_station (meaning stage).direction channel hop k stage → StandsAfter meaning stands_after c []
+  pub starts-stand : (c : ContextView S) → c ≡ new_context (meaning stage).direction channel hop k stage → StandsAfter meaning stands_after c []
       → ContextStands meaning stands_after channel hop k events (meaning c.stage) 0 0 c
   starts-stand c is fresh =
-      subst (λ (x : Station S). ContextStands meaning stands_after channel hop k events (meaning x.stage) 0 0 x) (sym is)
-      (new-stands (subst (λ (x : Station S). StandsAfter meaning stands_after x []) is fresh))
+      subst (λ (x : ContextView S). ContextStands meaning stands_after channel hop k events (meaning x.stage) 0 0 x) (sym is)
+      (new-stands (subst (λ (x : ContextView S). StandsAfter meaning stands_after x []) is fresh))
 
-pub starts-tail : (channel hop : ℕ) (events : List Event) → TailStands channel hop events 0 0 (new_recording channel hop)
+pub starts-tail : (channel hop : ℕ) (events : List Event) → TailStands channel hop events 0 0 (new_tail channel hop)
 starts-tail channel hop events = record {
   channel_is = refl;
   hop_is = refl;
@@ -92,7 +92,7 @@ starts-tail channel hop events = record {
   flags_go_on = refl;
 }
 
-pub same-stand : {S : Type 0} (meaning : S → Meaning) (stands_after : S → List Event → Type 0) (channel hop hop' k k' : ℕ) (events : List Event) (m : Meaning) (n n' flags flags' : ℕ) (c : Station S)
+pub same-stand : {S : Type 0} (meaning : S → Meaning) (stands_after : S → List Event → Type 0) (channel hop hop' k k' : ℕ) (events : List Event) (m : Meaning) (n n' flags flags' : ℕ) (c : ContextView S)
     → hop ≡ hop' → k ≡ k' → n ≡ n' → flags ≡ flags' → ContextStands meaning stands_after channel hop k events m n flags c → ContextStands meaning stands_after channel hop' k' events m n' flags' c
 same-stand meaning stands_after channel hop hop' k k' events m n n' flags flags' c same_hop same_k same_n same_flags stands =
     subst (λ (h : ℕ). ContextStands meaning stands_after channel h k' events m n' flags' c) same_hop
@@ -100,6 +100,6 @@ same-stand meaning stands_after channel hop hop' k k' events m n n' flags flags'
     (subst (λ (i : ℕ). ContextStands meaning stands_after channel hop k events m i flags' c) same_n
     (subst (λ (i : ℕ). ContextStands meaning stands_after channel hop k events m n i c) same_flags stands)))
 
-pub same-tail : (channel hop : ℕ) (events : List Event) (n n' flags flags' : ℕ) (t : Recording) → n ≡ n' → flags ≡ flags' → TailStands channel hop events n flags t → TailStands channel hop events n' flags' t
+pub same-tail : (channel hop : ℕ) (events : List Event) (n n' flags flags' : ℕ) (t : TailView) → n ≡ n' → flags ≡ flags' → TailStands channel hop events n flags t → TailStands channel hop events n' flags' t
 same-tail channel hop events n n' flags flags' t same_n same_flags stands =
     subst (λ (i : ℕ). TailStands channel hop events i flags' t) same_n (subst (λ (i : ℕ). TailStands channel hop events n i t) same_flags stands)

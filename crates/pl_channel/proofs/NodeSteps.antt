@@ -18,10 +18,10 @@ use Rattle.pl_event.specs.declared.envelopes.Lane.{Lane}
 use Rattle.pl_event.specs.declared.envelopes.Envelope.{Envelope}
 use Rattle.pl_event.specs.Meaning.{Meaning, down_of}
 use Rattle.pl_event.specs.Paths.{is_turn, is_outbound}
-use Rattle.pl_context.specs.Listings.{Listing, Appends}
+use Rattle.pl_context.specs.OutputsViews.{OutputsView, Appends}
 use Rattle.pl_context.specs.Ports.{numbered}
-use Rattle.pl_context.specs.Recordings.{Recording}
-use Rattle.pl_context.specs.Stations.{Station, has_up, has_down, down_hop}
+use Rattle.pl_context.specs.TailViews.{TailView}
+use Rattle.pl_context.specs.ContextViews.{ContextView, has_up, has_down, down_hop}
 use Rattle.pl_head.specs.Transports.{TransportState}
 use Rattle.pl_head.specs.HeadStand.{HeadView, StandsAfter}
 use Rattle.pl_world.specs.Plans.{ChannelPlan, content, tail_hop, head_hop}
@@ -275,65 +275,65 @@ module _ {S T : Type 0} (meaning : S → Meaning) (stands_after : S → List Eve
     (was : NodesStand meaning stands_after state channel p s nodes) where
   pub inbound-count : length nodes.inbound.items ≡ tail_hop p
   inbound-count =
-      sym (length-map nodes.inbound.items (λ (c : Station S). meaning c.stage)) ∙ ap (λ (ms : List Meaning). length ms) was.inbound_meant
+      sym (length-map nodes.inbound.items (λ (c : ContextView S). meaning c.stage)) ∙ ap (λ (ms : List Meaning). length ms) was.inbound_meant
 
   pub outbound-count : length nodes.outbound.items ≡ length p.outbound
   outbound-count =
-      sym (length-map nodes.outbound.items (λ (c : Station S). meaning c.stage)) ∙ ap (λ (ms : List Meaning). length ms) was.outbound_meant
+      sym (length-map nodes.outbound.items (λ (c : ContextView S). meaning c.stage)) ∙ ap (λ (ms : List Meaning). length ms) was.outbound_meant
 
-  pub inbound-at : (i : ℕ) (c : Station S) → slice_get nodes.inbound.items i ≡ Some c → slice_get p.inbound i ≡ Some (meaning c.stage)
+  pub inbound-at : (i : ℕ) (c : ContextView S) → slice_get nodes.inbound.items i ≡ Some c → slice_get p.inbound i ≡ Some (meaning c.stage)
   inbound-at i c here =
       ap (λ (ms : List Meaning). slice_get ms i) (sym was.inbound_meant)
-      ∙ slice_get-map (λ (x : Station S). meaning x.stage) nodes.inbound.items i
-      ∙ ap (option_map (λ (x : Station S). meaning x.stage)) here
+      ∙ slice_get-map (λ (x : ContextView S). meaning x.stage) nodes.inbound.items i
+      ∙ ap (option_map (λ (x : ContextView S). meaning x.stage)) here
 
-  pub outbound-at : (j : ℕ) (c : Station S) → slice_get nodes.outbound.items j ≡ Some c → slice_get p.outbound j ≡ Some (meaning c.stage)
+  pub outbound-at : (j : ℕ) (c : ContextView S) → slice_get nodes.outbound.items j ≡ Some c → slice_get p.outbound j ≡ Some (meaning c.stage)
   outbound-at j c here =
       ap (λ (ms : List Meaning). slice_get ms j) (sym was.outbound_meant)
-      ∙ slice_get-map (λ (x : Station S). meaning x.stage) nodes.outbound.items j
-      ∙ ap (option_map (λ (x : Station S). meaning x.stage)) here
+      ∙ slice_get-map (λ (x : ContextView S). meaning x.stage) nodes.outbound.items j
+      ∙ ap (option_map (λ (x : ContextView S). meaning x.stage)) here
 
   module _ (s' : ChannelState) (hop : ℕ) (one : OneTaken hop s s') (nodes' : Nodes S T) (head : HeadStands state channel p s' nodes'.head) where
     kept-tail : hop ≢ tail_hop p → nodes'.tail ≡ nodes.tail
         → TailStands channel (tail_hop p) (content p (tail_hop p)) (get_or s'.taken (tail_hop p) 0) (get_or s'.flags_taken (tail_hop p) 0) nodes'.tail
     kept-tail off same =
-        subst (λ (t : Recording). TailStands channel (tail_hop p) (content p (tail_hop p)) (get_or s'.taken (tail_hop p) 0) (get_or s'.flags_taken (tail_hop p) 0) t) (sym same)
+        subst (λ (t : TailView). TailStands channel (tail_hop p) (content p (tail_hop p)) (get_or s'.taken (tail_hop p) 0) (get_or s'.flags_taken (tail_hop p) 0) t) (sym same)
         (same-tail channel (tail_hop p) (content p (tail_hop p)) (get_or s.taken (tail_hop p) 0) (get_or s'.taken (tail_hop p) 0) (get_or s.flags_taken (tail_hop p) 0) (get_or s'.flags_taken (tail_hop p) 0) nodes.tail
         (one.others (tail_hop p) (λ at. off (sym at))) (one.flags_others (tail_hop p) (λ at. off (sym at))) was.tail)
 
-    abbrev InboundStands : ℕ → Station S → Type 0
+    abbrev InboundStands : ℕ → ContextView S → Type 0
     InboundStands i c =
         ContextStands meaning stands_after channel i (tail_hop p) (content p i) (meaning c.stage) (get_or s'.taken i 0) (get_or s'.flags_taken i 0) c
 
-    abbrev OutboundStands : ℕ → Station S → Type 0
+    abbrev OutboundStands : ℕ → ContextView S → Type 0
     OutboundStands j c =
         ContextStands meaning stands_after channel (tail_hop p + 1 + j) (tail_hop p) (content p (tail_hop p + 1 + j)) (meaning c.stage) (get_or s'.taken (tail_hop p + 1 + j) 0) 0 c
 
-    other-inbound : (i : ℕ) (c : Station S) → i ≢ hop → slice_get nodes.inbound.items i ≡ Some c → InboundStands i c
+    other-inbound : (i : ℕ) (c : ContextView S) → i ≢ hop → slice_get nodes.inbound.items i ≡ Some c → InboundStands i c
     other-inbound i c other here =
         same-stand meaning stands_after channel i i (tail_hop p) (tail_hop p) (content p i) (meaning c.stage) (get_or s.taken i 0) (get_or s'.taken i 0) (get_or s.flags_taken i 0) (get_or s'.flags_taken i 0) c
         refl refl (one.others i other) (one.flags_others i other) (was.inbound i c here)
 
-    other-outbound : (j : ℕ) (c : Station S) → tail_hop p + 1 + j ≢ hop → slice_get nodes.outbound.items j ≡ Some c → OutboundStands j c
+    other-outbound : (j : ℕ) (c : ContextView S) → tail_hop p + 1 + j ≢ hop → slice_get nodes.outbound.items j ≡ Some c → OutboundStands j c
     other-outbound j c other here =
         let h = tail_hop p + 1 + j in
         same-stand meaning stands_after channel h h (tail_hop p) (tail_hop p) (content p h) (meaning c.stage) (get_or s.taken h 0) (get_or s'.taken h 0) 0 0 c
         refl refl (one.others h other) refl (was.outbound j c here)
 
-    kept-inbound : tail_hop p ≤ hop → nodes'.inbound.items ≡ nodes.inbound.items → (i : ℕ) (c : Station S) → slice_get nodes'.inbound.items i ≡ Some c → InboundStands i c
+    kept-inbound : tail_hop p ≤ hop → nodes'.inbound.items ≡ nodes.inbound.items → (i : ℕ) (c : ContextView S) → slice_get nodes'.inbound.items i ≡ Some c → InboundStands i c
     kept-inbound past same i c here =
-        let there = ap (λ (cs : List (Station S)). slice_get cs i) (sym same) ∙ here in
+        let there = ap (λ (cs : List (ContextView S)). slice_get cs i) (sym same) ∙ here in
         let within = slice_get_within nodes.inbound.items i c there in
         other-inbound i c (λ at. omega (arith, at, within, past, inbound-count)) there
 
     kept-outbound : ((j : ℕ) → j < length p.outbound → tail_hop p + 1 + j ≢ hop) → nodes'.outbound.items ≡ nodes.outbound.items
-        → (j : ℕ) (c : Station S) → slice_get nodes'.outbound.items j ≡ Some c → OutboundStands j c
+        → (j : ℕ) (c : ContextView S) → slice_get nodes'.outbound.items j ≡ Some c → OutboundStands j c
     kept-outbound off same j c here =
-        let there = ap (λ (cs : List (Station S)). slice_get cs j) (sym same) ∙ here in
+        let there = ap (λ (cs : List (ContextView S)). slice_get cs j) (sym same) ∙ here in
         let within = slice_get_within nodes.outbound.items j c there in
         other-outbound j c (off j (omega (arith, within, outbound-count))) there
 
-    module _ (c c' : Station S) (same : meaning c'.stage ≡ meaning c.stage) where
+    module _ (c c' : ContextView S) (same : meaning c'.stage ≡ meaning c.stage) where
       inbound-stand : slice_get nodes.inbound.items hop ≡ Some c
           → ContextStands meaning stands_after channel hop (tail_hop p) (content p hop) (meaning c.stage) (get_or s'.taken hop 0) (get_or s'.flags_taken hop 0) c'
           → nodes'.inbound.items ≡ set nodes.inbound.items hop c' → nodes'.outbound.items ≡ nodes.outbound.items → nodes'.tail ≡ nodes.tail
@@ -344,12 +344,12 @@ module _ {S T : Type 0} (meaning : S → Meaning) (stands_after : S → List Eve
             hops = one.size ∙ was.hops;
             flags_hops = one.flags_size ∙ was.flags_hops;
             inbound_meant =
-                ap (map (λ (x : Station S). meaning x.stage)) set_is
-                ∙ map-set_same (λ (x : Station S). meaning x.stage) nodes.inbound.items hop c' c
-                (same ∙ ap (λ (x : Station S). meaning x.stage) (sym (get_or_from_slice_get nodes.inbound.items hop c c here)))
+                ap (map (λ (x : ContextView S). meaning x.stage)) set_is
+                ∙ map-set_same (λ (x : ContextView S). meaning x.stage) nodes.inbound.items hop c' c
+                (same ∙ ap (λ (x : ContextView S). meaning x.stage) (sym (get_or_from_slice_get nodes.inbound.items hop c c here)))
                 ∙ was.inbound_meant;
-            outbound_meant = ap (map (λ (x : Station S). meaning x.stage)) same_outbound ∙ was.outbound_meant;
-            inbound = λ i x at. by_hop i x (ap (λ (cs : List (Station S)). slice_get cs i) (sym set_is) ∙ at);
+            outbound_meant = ap (map (λ (x : ContextView S). meaning x.stage)) same_outbound ∙ was.outbound_meant;
+            inbound = λ i x at. by_hop i x (ap (λ (cs : List (ContextView S)). slice_get cs i) (sym set_is) ∙ at);
             tail = kept-tail (λ at. omega (arith, at, within, inbound-count)) same_tail;
             outbound = kept-outbound (λ j below at. omega (arith, at, within, inbound-count)) same_outbound;
             head = head;
@@ -359,11 +359,11 @@ module _ {S T : Type 0} (meaning : S → Meaning) (stands_after : S → List Eve
           now-stands =
               subst (λ (m : Meaning). ContextStands meaning stands_after channel hop (tail_hop p) (content p hop) m (get_or s'.taken hop 0) (get_or s'.flags_taken hop 0) c') (sym same) now
 
-          by_hop : (i : ℕ) (x : Station S) → slice_get (set nodes.inbound.items hop c') i ≡ Some x → InboundStands i x
+          by_hop : (i : ℕ) (x : ContextView S) → slice_get (set nodes.inbound.items hop c') i ≡ Some x → InboundStands i x
           by_hop i x at = elim (cases_eq i hop) [
             | inl is ↦
                 let it : x ≡ c' = set_same nodes.inbound.items hop c' x (ap (slice_get (set nodes.inbound.items hop c')) (sym is) ∙ at) in
-                subst (λ (h : ℕ). InboundStands h x) (sym is) (subst (λ (y : Station S). InboundStands hop y) (sym it) now-stands)
+                subst (λ (h : ℕ). InboundStands h x) (sym is) (subst (λ (y : ContextView S). InboundStands hop y) (sym it) now-stands)
             | inr other ↦ other-inbound i x other (set_other nodes.inbound.items hop i c' x other at)
           ]
 
@@ -375,15 +375,15 @@ module _ {S T : Type 0} (meaning : S → Meaning) (stands_after : S → List Eve
           record {
             hops = one.size ∙ was.hops;
             flags_hops = one.flags_size ∙ was.flags_hops;
-            inbound_meant = ap (map (λ (x : Station S). meaning x.stage)) same_inbound ∙ was.inbound_meant;
+            inbound_meant = ap (map (λ (x : ContextView S). meaning x.stage)) same_inbound ∙ was.inbound_meant;
             outbound_meant =
-                ap (map (λ (x : Station S). meaning x.stage)) set_is
-                ∙ map-set_same (λ (x : Station S). meaning x.stage) nodes.outbound.items j c' c
-                (same ∙ ap (λ (x : Station S). meaning x.stage) (sym (get_or_from_slice_get nodes.outbound.items j c c here)))
+                ap (map (λ (x : ContextView S). meaning x.stage)) set_is
+                ∙ map-set_same (λ (x : ContextView S). meaning x.stage) nodes.outbound.items j c' c
+                (same ∙ ap (λ (x : ContextView S). meaning x.stage) (sym (get_or_from_slice_get nodes.outbound.items j c c here)))
                 ∙ was.outbound_meant;
             inbound = kept-inbound (omega (arith, place_is)) same_inbound;
             tail = kept-tail (λ at. omega (arith, at, place_is)) same_tail;
-            outbound = λ i x at. by_hop i x (ap (λ (cs : List (Station S)). slice_get cs i) (sym set_is) ∙ at);
+            outbound = λ i x at. by_hop i x (ap (λ (cs : List (ContextView S)). slice_get cs i) (sym set_is) ∙ at);
             head = head;
           }
         where
@@ -392,11 +392,11 @@ module _ {S T : Type 0} (meaning : S → Meaning) (stands_after : S → List Eve
               subst (λ (h : ℕ). ContextStands meaning stands_after channel h (tail_hop p) (content p h) (meaning c'.stage) (get_or s'.taken h 0) 0 c') place_is
               (subst (λ (m : Meaning). ContextStands meaning stands_after channel hop (tail_hop p) (content p hop) m (get_or s'.taken hop 0) 0 c') (sym same) now)
 
-          by_hop : (i : ℕ) (x : Station S) → slice_get (set nodes.outbound.items j c') i ≡ Some x → OutboundStands i x
+          by_hop : (i : ℕ) (x : ContextView S) → slice_get (set nodes.outbound.items j c') i ≡ Some x → OutboundStands i x
           by_hop i x at = elim (cases_eq i j) [
             | inl is ↦
                 let it : x ≡ c' = set_same nodes.outbound.items j c' x (ap (slice_get (set nodes.outbound.items j c')) (sym is) ∙ at) in
-                subst (λ (k : ℕ). OutboundStands k x) (sym is) (subst (λ (y : Station S). OutboundStands j y) (sym it) now-stands)
+                subst (λ (k : ℕ). OutboundStands k x) (sym is) (subst (λ (y : ContextView S). OutboundStands j y) (sym it) now-stands)
             | inr other ↦
                 other-outbound i x (λ same_place. other (omega (arith, same_place, place_is))) (set_other nodes.outbound.items j i c' x other at)
           ]
@@ -406,8 +406,8 @@ module _ {S T : Type 0} (meaning : S → Meaning) (stands_after : S → List Eve
     tail-stand at now same_inbound same_outbound = record {
       hops = one.size ∙ was.hops;
       flags_hops = one.flags_size ∙ was.flags_hops;
-      inbound_meant = ap (map (λ (x : Station S). meaning x.stage)) same_inbound ∙ was.inbound_meant;
-      outbound_meant = ap (map (λ (x : Station S). meaning x.stage)) same_outbound ∙ was.outbound_meant;
+      inbound_meant = ap (map (λ (x : ContextView S). meaning x.stage)) same_inbound ∙ was.inbound_meant;
+      outbound_meant = ap (map (λ (x : ContextView S). meaning x.stage)) same_outbound ∙ was.outbound_meant;
       inbound = kept-inbound (omega (arith, at)) same_inbound;
       tail = now;
       outbound = kept-outbound (λ j below same. omega (arith, at, same)) same_outbound;
@@ -419,8 +419,8 @@ module _ {S T : Type 0} (meaning : S → Meaning) (stands_after : S → List Eve
     head-stand at same_inbound same_outbound same_tail = record {
       hops = one.size ∙ was.hops;
       flags_hops = one.flags_size ∙ was.flags_hops;
-      inbound_meant = ap (map (λ (x : Station S). meaning x.stage)) same_inbound ∙ was.inbound_meant;
-      outbound_meant = ap (map (λ (x : Station S). meaning x.stage)) same_outbound ∙ was.outbound_meant;
+      inbound_meant = ap (map (λ (x : ContextView S). meaning x.stage)) same_inbound ∙ was.inbound_meant;
+      outbound_meant = ap (map (λ (x : ContextView S). meaning x.stage)) same_outbound ∙ was.outbound_meant;
       inbound = kept-inbound (omega (arith, at)) same_inbound;
       tail = kept-tail (λ same. omega (arith, at, same)) same_tail;
       outbound = kept-outbound (λ j below same. omega (arith, at, same, below)) same_outbound;
@@ -430,7 +430,7 @@ module _ {S T : Type 0} (meaning : S → Meaning) (stands_after : S → List Eve
 -- ---- what a context did, and what the tail did
 
 module _ {S : Type 0} (meaning : S → Meaning) (stands_after : S → List Event → Type 0) where
-  pub record ContextTook (envelope : Envelope) (c c' : Station S) (before after : Listing) : Type 0 where
+  pub record ContextTook (envelope : Envelope) (c c' : ContextView S) (before after : OutputsView) : Type 0 where
     pub stands : (channel hop k : ℕ) (events : List Event) (m : Meaning) (n flags : ℕ) → IsNextFor meaning stands_after channel hop k events m n flags envelope c
         → ContextStands meaning stands_after channel hop k events m (n + 1) flags c'
     pub made : (channel hop k : ℕ) (events : List Event) (m : Meaning) (n flags : ℕ) → IsNextFor meaning stands_after channel hop k events m n flags envelope c
@@ -440,7 +440,7 @@ module _ {S : Type 0} (meaning : S → Meaning) (stands_after : S → List Event
     pub handed_on : (channel hop k : ℕ) (events : List Event) (m : Meaning) (n flags : ℕ) → IsNextFlagFor meaning stands_after channel hop k events m n flags envelope c
         → Appends before (sent_flag channel hop flags) after
 
-pub record TailTook (envelope : Envelope) (t t' : Recording) : Type 0 where
+pub record TailTook (envelope : Envelope) (t t' : TailView) : Type 0 where
   pub stands : (channel hop : ℕ) (events : List Event) (n flags : ℕ) → IsNextForTail channel hop events n flags envelope t → TailStands channel hop events (n + 1) flags t'
   pub stands_too : (channel hop : ℕ) (events : List Event) (n flags : ℕ) → IsNextFlagForTail channel hop events n flags envelope t → TailStands channel hop events n (flags + 1) t'
 
@@ -504,7 +504,7 @@ module _ {S T : Type 0} (meaning : S → Meaning) (stands_after : S → List Eve
     data-head off =
         head-kept state channel p s (data_taken s hop).taken s.flags_taken nodes.head ((data-one s hop).others (head_hop p) (λ at. off (sym at))) next.stands.head
 
-    inbound-next : (c : Station S) → slice_get nodes.inbound.items hop ≡ Some c
+    inbound-next : (c : ContextView S) → slice_get nodes.inbound.items hop ≡ Some c
         → IsNextFor meaning stands_after channel hop (tail_hop p) (content p hop) (meaning c.stage) n flags envelope c
     inbound-next c here =
         let is = inbound-at meaning stands_after state channel p s nodes next.stands hop c here in
@@ -528,7 +528,7 @@ module _ {S T : Type 0} (meaning : S → Meaning) (stands_after : S → List Eve
               omega (arith, small, size, same);
         }
 
-    module _ (c : Station S) (j : ℕ) (place_is : hop ≡ tail_hop p + 1 + j) (here : slice_get nodes.outbound.items j ≡ Some c) where
+    module _ (c : ContextView S) (j : ℕ) (place_is : hop ≡ tail_hop p + 1 + j) (here : slice_get nodes.outbound.items j ≡ Some c) where
       far : tail_hop p < hop
       far = omega (arith, place_is)
 
@@ -590,7 +590,7 @@ module _ {S T : Type 0} (meaning : S → Meaning) (stands_after : S → List Eve
     flag-head : HeadStands state channel p (flag_taken s hop) nodes.head
     flag-head = head-kept state channel p s s.taken (flag_taken s hop).flags_taken nodes.head refl next.stands.head
 
-    inbound-next-flag : (c : Station S) → slice_get nodes.inbound.items hop ≡ Some c
+    inbound-next-flag : (c : ContextView S) → slice_get nodes.inbound.items hop ≡ Some c
         → IsNextFlagFor meaning stands_after channel hop (tail_hop p) (content p hop) (meaning c.stage) n flags envelope c
     inbound-next-flag c here =
         let is = inbound-at meaning stands_after state channel p s nodes next.stands hop c here in
@@ -617,7 +617,7 @@ module _ {S T : Type 0} (meaning : S → Meaning) (stands_after : S → List Eve
 
   -- ---- an inbound context takes it
 
-  pub inbound-takes : (c : Station S) → slice_get nodes.inbound.items hop ≡ Some c
+  pub inbound-takes : (c : ContextView S) → slice_get nodes.inbound.items hop ≡ Some c
       → IsNextFor meaning stands_after channel hop (tail_hop p) (content p hop) (meaning c.stage) n flags envelope c
       ⊎ IsNextFlagFor meaning stands_after channel hop (tail_hop p) (content p hop) (meaning c.stage) n flags envelope c
   inbound-takes c here = elim (cases_Kind envelope.lane.kind) [
@@ -625,7 +625,7 @@ module _ {S T : Type 0} (meaning : S → Meaning) (stands_after : S → List Eve
     | inr is ↦ inr (inbound-next-flag is c here)
   ]
 
-  pub outbound-takes : (c : Station S) (j : ℕ) → hop ≡ tail_hop p + 1 + j → slice_get nodes.outbound.items j ≡ Some c
+  pub outbound-takes : (c : ContextView S) (j : ℕ) → hop ≡ tail_hop p + 1 + j → slice_get nodes.outbound.items j ≡ Some c
       → IsNextFor meaning stands_after channel hop (tail_hop p) (content p hop) (meaning c.stage) n 0 envelope c
   outbound-takes c j place_is here = outbound-next (outbound-kind j place_is) c j place_is here
 
@@ -664,10 +664,10 @@ module _ {S T : Type 0} (meaning : S → Meaning) (stands_after : S → List Eve
 
   -- ---- what is put out is what is made of the item
 
-  before-head : (c : Station S) → slice_get nodes.inbound.items hop ≡ Some c → hop < tail_hop p
+  before-head : (c : ContextView S) → slice_get nodes.inbound.items hop ≡ Some c → hop < tail_hop p
   before-head c here = let within = slice_get_within nodes.inbound.items hop c here in omega (arith, within, count-inbound)
 
-  module _ (c c' : Station S) (before after : Listing) (did : ContextTook meaning stands_after envelope c c' before after) where
+  module _ (c c' : ContextView S) (before after : OutputsView) (did : ContextTook meaning stands_after envelope c c' before after) where
     pub inbound-sent : slice_get nodes.inbound.items hop ≡ Some c → Appends before (envelopes_of p (made_of p s (next_place s envelope.lane))) after
     inbound-sent here =
         let within = before-head c here in
@@ -706,7 +706,7 @@ module _ {S T : Type 0} (meaning : S → Meaning) (stands_after : S → List Eve
         (sym (flag-made is) ∙ cond-true (eqb hop (tail_hop p)) [] (places (flags_lane channel (suc hop)) flags (flags + 1)) (eq-eqb hop (tail_hop p) at))
   ]
 
-  pub head-sent : (at : hop ≡ head_hop p) (before after : Listing) → Appends before (envelopes_of p (new_flags p channel s (taken_by_head p s))) after
+  pub head-sent : (at : hop ≡ head_hop p) (before after : OutputsView) → Appends before (envelopes_of p (new_flags p channel s (taken_by_head p s))) after
       → Appends before (envelopes_of p (made_of p s (next_place s envelope.lane))) after
   head-sent at before after sent =
       subst (λ (all : List Place). Appends before (envelopes_of p all) after)
@@ -726,7 +726,7 @@ module _ {S T : Type 0} (meaning : S → Meaning) (stands_after : S → List Eve
       head-then : (s' : ChannelState) → HeadStands state channel p s' nodes.head → HeadStands state channel p s' nodes'.head
       head-then s' stand = subst (λ (h : HeadView T). HeadStands state channel p s' h) (sym same_head) stand
 
-      module _ (c c' : Station S) (same : meaning c'.stage ≡ meaning c.stage) (before after : Listing) (did : ContextTook meaning stands_after envelope c c' before after) (same_tail : nodes'.tail ≡ nodes.tail) where
+      module _ (c c' : ContextView S) (same : meaning c'.stage ≡ meaning c.stage) (before after : OutputsView) (did : ContextTook meaning stands_after envelope c c' before after) (same_tail : nodes'.tail ≡ nodes.tail) where
         pub inbound-took : slice_get nodes.inbound.items hop ≡ Some c → nodes'.inbound.items ≡ set nodes.inbound.items hop c' → nodes'.outbound.items ≡ nodes.outbound.items → Then
         inbound-took here set_is same_outbound = elim (cases_Kind envelope.lane.kind) [
           | inl is ↦

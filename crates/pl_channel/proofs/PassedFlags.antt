@@ -7,8 +7,8 @@ use Rattle.pl_event.specs.declared.envelopes.Item.TheVariants as item
 use Rattle.pl_event.specs.declared.envelopes.Envelope.{Envelope}
 use Rattle.pl_context.specs.declared.added.Added.{Added}
 use Rattle.pl_context.specs.declared.ports.Port.{Port}
-use Rattle.pl_context.specs.Stopped.{Stopped}
-use Rattle.pl_context.specs.Listings.{Listing, Appends}
+use Rattle.pl_context.specs.Stops.{StopsView}
+use Rattle.pl_context.specs.OutputsViews.{OutputsView, Appends}
 use Rattle.pl_context.specs.Ports.{FlagPasses, flag_port_after, numbered}
 use Rattle.pl_context.proofs.PortLemmas.{puts-appends, kept}
 use Rattle.pl_head.specs.FlagLanes.{FlagsPass, as_flags}
@@ -21,7 +21,7 @@ use Rattle.pl_channel.proofs.WorkLists.{none_stopped}
 
 -- ---- one flag
 
-module _ (lanes : ℕ) (p p' : Port) (value : Bool) (before after : Listing) (u : IsUnstopped lanes before.stopped) (some : 0 < before.room) (is_open : p.is_open ≡ true)
+module _ (lanes : ℕ) (p p' : Port) (value : Bool) (before after : OutputsView) (u : IsUnstopped lanes before.stopped) (some : 0 < before.room) (is_open : p.is_open ≡ true)
     (passes : FlagPasses p value before p' after) where
   abbrev passed : Envelope
   passed = record { lane = p.lane; number = p.made; item = item.Flag value }
@@ -39,11 +39,11 @@ module _ (lanes : ℕ) (p p' : Port) (value : Bool) (before after : Listing) (u 
 -- ---- flags, one after another
 
 -- where there is room for all, all are sent
-pub record AllAppended (values : List Bool) (p : Port) (before : Listing) (p' : Port) (after : Listing) : Type 0 where
+pub record AllAppended (values : List Bool) (p : Port) (before : OutputsView) (p' : Port) (after : OutputsView) : Type 0 where
   pub appended : Appends before (numbered p.lane p.made (as_flags values)) after
   pub counted : p' ≡ record p { made = p.made + length values }
 
-then_more : (value : Bool) (values : List Bool) (p mid p' : Port) (before between after : Listing)
+then_more : (value : Bool) (values : List Bool) (p mid p' : Port) (before between after : OutputsView)
     → Appends before (record { lane = p.lane; number = p.made; item = item.Flag value } ∷ []) between → mid ≡ record p { made = p.made + 1 }
     → AllAppended values mid between p' after → AllAppended (value ∷ values) p before p' after
 then_more value values p mid p' before between after one is all =
@@ -63,13 +63,13 @@ then_more value values p mid p' before between after one is all =
       counted = all.counted ∙ ap (λ (q : Port). record q { made = q.made + length values }) is ∙ ap (λ (n : ℕ). record p { made = n }) count;
     }
 
-pub all-appended : (lanes : ℕ) (values : List Bool) (p p' : Port) (before after : Listing) → IsUnstopped lanes before.stopped → p.is_open ≡ true → length values ≤ before.room
+pub all-appended : (lanes : ℕ) (values : List Bool) (p p' : Port) (before after : OutputsView) → IsUnstopped lanes before.stopped → p.is_open ≡ true → length values ≤ before.room
     → FlagsPass values p before p' after → AllAppended values p before p' after
 all-appended lanes [] p p' before after u is_open room h = record {
   appended = record {
-    items = ap (λ (l : Listing). l.items) h.1 ∙ sym (append-nil before.items);
-    stopped = ap (λ (l : Listing). l.stopped) h.1;
-    room = let same = ap (λ (l : Listing). l.room) h.1 in omega (arith, same);
+    items = ap (λ (l : OutputsView). l.items) h.1 ∙ sym (append-nil before.items);
+    stopped = ap (λ (l : OutputsView). l.stopped) h.1;
+    room = let same = ap (λ (l : OutputsView). l.room) h.1 in omega (arith, same);
   };
   counted = h.0 ∙ ap (λ (n : ℕ). record p { made = n }) (sym (add-zero p.made));
 }
@@ -78,7 +78,7 @@ all-appended lanes (value ∷ values) p p' before after u is_open room h =
     let one = flag-appended lanes p h.0 value before h.1 u some is_open h.2 in
     let is = flag-counted lanes p h.0 value before h.1 u some is_open h.2 in
     then_more value values p h.0 p' before h.1 after one is
-    (all-appended lanes values h.0 p' h.1 after (subst (λ (s : Stopped). IsUnstopped lanes s) (sym one.stopped) u) (ap (λ (q : Port). q.is_open) is ∙ is_open) (omega (arith, room, one.room)) h.3)
+    (all-appended lanes values h.0 p' h.1 after (subst (λ (s : StopsView). IsUnstopped lanes s) (sym one.stopped) u) (ap (λ (q : Port). q.is_open) is ∙ is_open) (omega (arith, room, one.room)) h.3)
 
 -- ---- the numbers of alternating flags
 

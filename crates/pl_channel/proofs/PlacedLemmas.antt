@@ -25,7 +25,7 @@ use Rattle.pl_channel.specs.ChannelStates.{ChannelState, has_failed, at_rest}
 use Rattle.pl_channel.specs.ChannelMoves.{at_head, taken_sound, has_closed}
 use Rattle.pl_head.specs.Writes.{out}
 use Rattle.pl_head.specs.HeadStand.{HeadView, StandsAfter, ReadsStand, HasFewFlags, first_cause, head_cause}
-use Rattle.pl_context.specs.Recordings.{Recording}
+use Rattle.pl_context.specs.TailViews.{TailView}
 use Rattle.pl_context.specs.Standings.{is_over, cause_of}
 use Rattle.pl_channel.specs.TailStand.{TailStands}
 use Rattle.pl_context.specs.declared.standing.Standing.TheVariants as stands
@@ -165,7 +165,7 @@ head-cause state channel p s h stands =
     by None = refl
     by (Some cause) = refl
 
-pub tail-cause : (channel hop : ℕ) (events : List Event) (n flags : ℕ) (t : Recording) → TailStands channel hop events n flags t → cause_of t.standing ≡ None
+pub tail-cause : (channel hop : ℕ) (events : List Event) (n flags : ℕ) (t : TailView) → TailStands channel hop events n flags t → cause_of t.standing ≡ None
 tail-cause channel hop events n flags t stands = ap cause_of stands.standing ∙ no_cause events n
 
 pub none-of : (o : Option Cause) → is_some o ≡ false → o ≡ None

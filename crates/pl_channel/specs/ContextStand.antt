@@ -8,7 +8,7 @@ use Rattle.pl_event.specs.Meaning.{Meaning, up_of, down_of}
 use Rattle.pl_context.specs.declared.standing.Standing.{Standing}
 use Rattle.pl_context.specs.declared.standing.Standing.TheVariants as stands
 use Rattle.pl_context.specs.Ports.{numbered}
-use Rattle.pl_context.specs.Stations.{Station, new_port, has_up, has_down, down_hop}
+use Rattle.pl_context.specs.ContextViews.{ContextView, new_port, has_up, has_down, down_hop}
 use Rattle.pl_context.specs.Contexts.{StandsAfter}
 use Rattle.pl_channel.specs.MadeItems.{has_end, data_lane, up_items, down_items}
 use Rattle.pl_channel.specs.Envelopes.{item_by, items_from, flag_envelope}
@@ -44,7 +44,7 @@ sent_flag channel hop n = flag_envelope channel (hop + 1) n ∷ []
 module _ {S : Type 0} (meaning : S → Meaning) (stands_after : S → List Event → Type 0) where
   -- A context at this hop has taken the first n items of its data lane, which has this content, and so many flags: it has
   -- given each lane that is open what its stage makes of them, and an end to each that is not, and it has handed on each flag.
-  pub record ContextStands (channel hop k : ℕ) (events : List Event) (m : Meaning) (n flags : ℕ) (c : Station S) : Type 0 where
+  pub record ContextStands (channel hop k : ℕ) (events : List Event) (m : Meaning) (n flags : ℕ) (c : ContextView S) : Type 0 where
     pub meant : meaning c.stage ≡ m
     pub channel_is : c.channel ≡ channel
     pub hop_is : c.hop ≡ hop
@@ -61,7 +61,7 @@ module _ {S : Type 0} (meaning : S → Meaning) (stands_after : S → List Event
     pub flags_port : c.flags ≡ record (new_port channel Flags (hop + 1) (has_up m.direction)) { made = flags }
 
   -- An envelope is the next of its data lane, and there is one more.
-  pub record IsNextFor (channel hop k : ℕ) (events : List Event) (m : Meaning) (n flags : ℕ) (envelope : Envelope) (c : Station S) : Type 0 where
+  pub record IsNextFor (channel hop k : ℕ) (events : List Event) (m : Meaning) (n flags : ℕ) (envelope : Envelope) (c : ContextView S) : Type 0 where
     pub stands : ContextStands channel hop k events m n flags c
     pub there : n ≤ length events
     pub envelope_is : envelope ≡ record { lane = data_lane channel hop; number = n; item = item_by events n }
@@ -71,7 +71,7 @@ module _ {S : Type 0} (meaning : S → Meaning) (stands_after : S → List Event
     pub few_down : has_down m.direction ≡ true → length (down_of m events) + 1 < 2 ^ 31
 
   -- An envelope is the next flag of the flags lane of an inbound handler.
-  pub record IsNextFlagFor (channel hop k : ℕ) (events : List Event) (m : Meaning) (n flags : ℕ) (envelope : Envelope) (c : Station S) : Type 0 where
+  pub record IsNextFlagFor (channel hop k : ℕ) (events : List Event) (m : Meaning) (n flags : ℕ) (envelope : Envelope) (c : ContextView S) : Type 0 where
     pub stands : ContextStands channel hop k events m n flags c
     pub inbound : has_up m.direction ≡ true
     pub few : flags < 2 ^ 32

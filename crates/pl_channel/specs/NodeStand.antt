@@ -5,7 +5,7 @@ use Rattle.pl_event.specs.declared.envelopes.Kind.TheVariants.{Data, Flags}
 use Rattle.pl_event.specs.declared.envelopes.Lane.{Lane}
 use Rattle.pl_event.specs.declared.envelopes.Envelope.{Envelope}
 use Rattle.pl_event.specs.Meaning.{Meaning}
-use Rattle.pl_context.specs.Stations.{Station}
+use Rattle.pl_context.specs.ContextViews.{ContextView}
 use Rattle.pl_head.specs.Transports.{TransportState}
 use Rattle.pl_world.specs.Plans.{ChannelPlan, content, tail_hop, head_hop}
 use Rattle.pl_channel.specs.MadeItems.{Place, last_hop}
@@ -24,10 +24,10 @@ module _ {S T : Type 0} (meaning : S → Meaning) (stands_after : S → List Eve
     pub flags_hops : length s.flags_taken ≡ tail_hop p + 1
     pub inbound_meant : map (λ c. meaning c.stage) nodes.inbound.items ≡ p.inbound
     pub outbound_meant : map (λ c. meaning c.stage) nodes.outbound.items ≡ p.outbound
-    pub inbound : (i : ℕ) (c : Station S) → slice_get nodes.inbound.items i ≡ Some c
+    pub inbound : (i : ℕ) (c : ContextView S) → slice_get nodes.inbound.items i ≡ Some c
         → ContextStands meaning stands_after channel i (tail_hop p) (content p i) (meaning c.stage) (get_or s.taken i 0) (get_or s.flags_taken i 0) c
     pub tail : TailStands channel (tail_hop p) (content p (tail_hop p)) (get_or s.taken (tail_hop p) 0) (get_or s.flags_taken (tail_hop p) 0) nodes.tail
-    pub outbound : (j : ℕ) (c : Station S) → slice_get nodes.outbound.items j ≡ Some c
+    pub outbound : (j : ℕ) (c : ContextView S) → slice_get nodes.outbound.items j ≡ Some c
         → ContextStands meaning stands_after channel (tail_hop p + 1 + j) (tail_hop p) (content p (tail_hop p + 1 + j)) (meaning c.stage) (get_or s.taken (tail_hop p + 1 + j) 0) 0 c
     pub head : HeadStands state channel p s nodes.head
 

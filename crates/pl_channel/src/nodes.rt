@@ -5,8 +5,8 @@ ghost use Rattle.pl_event.specs.declared.events.Event.{Event};
 ghost use Rattle.pl_event.specs.Meaning.{Meaning};
 ghost use Rattle.pl_event.specs.Paths.{is_outbound};
 ghost use Rattle.pl_context.specs.declared.standing.Took.TheVariants as took;
-ghost use Rattle.pl_context.specs.Listings.{Appends};
-ghost use Rattle.pl_context.specs.Stations.{Station, IsHop};
+ghost use Rattle.pl_context.specs.OutputsViews.{Appends};
+ghost use Rattle.pl_context.specs.ContextViews.{ContextView, IsHop};
 ghost use Rattle.pl_world.specs.Plans.{ChannelPlan};
 ghost use Rattle.pl_channel.specs.ChannelStates.{ChannelState, at_rest};
 ghost use Rattle.pl_channel.specs.ChannelMoves.{after_taking, made_of, taken_by_head, new_flags};
@@ -100,7 +100,7 @@ fn contexts<S: Stage>(
     requires hops { (i : ℕ) (stage : S) → slice_get stages.items i ≡ Some stage → IsHop (S.meaning stage).direction (first_hop + i) k }
     requires within { first_hop + length stages.items ≤ 33 }
     ensures meant { IfOk result (λ contexts. map (λ c. S.meaning c.stage) contexts.items ≡ map S.meaning stages.items) }
-    ensures stand { IfOk result (λ contexts. (i : ℕ) (c : Station S) (events : List Event) → slice_get contexts.items i ≡ Some c →
+    ensures stand { IfOk result (λ contexts. (i : ℕ) (c : ContextView S) (events : List Event) → slice_get contexts.items i ≡ Some c →
         ContextStands S.meaning S.stands_after channel (first_hop + i) k events (S.meaning c.stage) 0 0 c) }
 {
     let mut contexts = Vec::with_capacity(alloc, stages.len())?;

@@ -12,16 +12,16 @@ use Rattle.pl_event.specs.Meaning.{Meaning, up_of, down_of, made-push, turned_af
 use Rattle.pl_context.specs.declared.ports.Port.{Port}
 use Rattle.pl_context.specs.declared.standing.Standing.{Standing}
 use Rattle.pl_context.specs.declared.standing.Standing.TheVariants as stands
-use Rattle.pl_context.specs.Stopped.{Stopped, has_stopped}
-use Rattle.pl_context.specs.Listings.{Listing, PutsAll, Appends}
+use Rattle.pl_context.specs.Stops.{StopsView, has_stopped}
+use Rattle.pl_context.specs.OutputsViews.{OutputsView, PutsAll, Appends}
 use Rattle.pl_context.specs.Ports.{as_items, all_go_on, end_after, numbered, offered, put_out, port_after}
-use Rattle.pl_context.specs.Stations.{Station}
+use Rattle.pl_context.specs.ContextViews.{ContextView}
 use Rattle.pl_event.specs.declared.outcomes.Cause.TheVariants.{Memory}
 use Rattle.pl_context.specs.Contexts.{last_item, closed, Closes, ups, downs, offers, Runs, RunsOut}
 use Rattle.pl_context.proofs.PortLemmas.{puts_all-append, puts_all-from, appends-append, all_go_on-events, all_go_on-append, numbered-append, length-numbered}
 
 -- both ports were given the last item
-pub closes-from : {S : Type 0} (c : Station S) (standing : Standing) (before mid after : Listing) (i j : Item) (up down : Port)
+pub closes-from : {S : Type 0} (c : ContextView S) (standing : Standing) (before mid after : OutputsView) (i j : Item) (up down : Port)
     → i ≡ last_item standing → j ≡ last_item standing → up ≡ port_after (i ∷ []) c.up → down ≡ port_after (j ∷ []) c.down
     → PutsAll before (offered c.up (i ∷ [])) mid → PutsAll mid (offered c.down (j ∷ [])) after
     → Closes standing c before (record c { standing = standing; up = up; down = down }) after
@@ -63,11 +63,11 @@ port_after-downs p q r xs t e f =
             ∙ ap (λ (t : Bool). record { lane = p.lane; made = cond t (p.made + length a + length b) (p.made + length a); is_open = t && all_go_on b }) (sym h)
         by false = refl
 
-pub put_out-downs : (s : Stopped) (p q : Port) (xs : List Event) (t : Turned) → q ≡ port_after (as_items xs) p → put_out s p (as_items xs) ++ put_out s q (end_after t) ≡ put_out s p (as_items xs ++ end_after t)
+pub put_out-downs : (s : StopsView) (p q : Port) (xs : List Event) (t : Turned) → q ≡ port_after (as_items xs) p → put_out s p (as_items xs) ++ put_out s q (end_after t) ≡ put_out s p (as_items xs ++ end_after t)
 put_out-downs s p q xs t e =
     ap (λ (k : Port). put_out s p (as_items xs) ++ put_out s k (end_after t)) e ∙ sym (put_out-append s p (as_items xs) (end_after t) (all_go_on-events xs))
   where
-    put_out-append : (s : Stopped) (p : Port) (a b : List Item) → all_go_on a ≡ true → put_out s p (a ++ b) ≡ put_out s p a ++ put_out s (port_after a p) b
+    put_out-append : (s : StopsView) (p : Port) (a b : List Item) → all_go_on a ≡ true → put_out s p (a ++ b) ≡ put_out s p a ++ put_out s (port_after a p) b
     put_out-append s p a b h = by p.is_open (has_stopped s p.lane)
       where
         by : (o stopped : Bool) → cond o (cond stopped [] (numbered p.lane p.made (a ++ b))) []
@@ -78,13 +78,13 @@ put_out-downs s p q xs t e =
             ∙ ap (λ (t : Bool). numbered p.lane p.made a ++ cond t (numbered p.lane (p.made + length a) b) []) (sym h)
         by false stopped = refl
 
-pub runs-out-list : (before mid mid' after : Listing) (up down below : Port) (above xs : List Event) (t : Turned)
+pub runs-out-list : (before mid mid' after : OutputsView) (up down below : Port) (above xs : List Event) (t : Turned)
     → Appends before (put_out before.stopped up (as_items above)) mid → Appends mid (put_out mid.stopped down (as_items xs)) mid' → Appends mid' (put_out mid'.stopped below (end_after t)) after
     → below ≡ port_after (as_items xs) down → Appends before (put_out before.stopped up (as_items above) ++ put_out before.stopped down (as_items xs ++ end_after t)) after
 runs-out-list before mid mid' after up down below above xs t first second third e =
     let one = put_out before.stopped up (as_items above) in
-    let second' : Appends mid (put_out before.stopped down (as_items xs)) mid' = subst (λ (s : Stopped). Appends mid (put_out s down (as_items xs)) mid') first.stopped second in
-    let third' : Appends mid' (put_out before.stopped below (end_after t)) after = subst (λ (s : Stopped). Appends mid' (put_out s below (end_after t)) after) (second.stopped ∙ first.stopped) third in
+    let second' : Appends mid (put_out before.stopped down (as_items xs)) mid' = subst (λ (s : StopsView). Appends mid (put_out s down (as_items xs)) mid') first.stopped second in
+    let third' : Appends mid' (put_out before.stopped below (end_after t)) after = subst (λ (s : StopsView). Appends mid' (put_out s below (end_after t)) after) (second.stopped ∙ first.stopped) third in
     let rest = appends-append mid mid' after (put_out before.stopped down (as_items xs)) (put_out before.stopped below (end_after t)) second' third' in
     appends-append before mid after one (put_out before.stopped down (as_items xs ++ end_after t)) first
     (subst (λ (es : List Envelope). Appends mid es after) (put_out-downs before.stopped down below xs t e) rest)
@@ -126,7 +126,7 @@ stands-down m p q xs x t e h o = by t p.is_open refl e
 pub open-count : (b : Bool) (n r : ℕ) → r ≡ (if b then n else 0) → b ≡ true → r ≡ n
 open-count b n r e o = e ∙ ap (λ (t : Bool). if t then n else 0) o
 
-pub length-put_out : (s : Stopped) (p : Port) (is : List Item) (r : ℕ) → r ≡ (if p.is_open then length is else 0) → length (put_out s p is) ≤ r
+pub length-put_out : (s : StopsView) (p : Port) (is : List Item) (r : ℕ) → r ≡ (if p.is_open then length is else 0) → length (put_out s p is) ≤ r
 length-put_out s p is r e = by p.is_open (has_stopped s p.lane) e
   where
     by : (o stopped : Bool) → r ≡ (if o then length is else 0) → length (cond o (cond stopped [] (numbered p.lane p.made is)) []) ≤ r
@@ -168,7 +168,7 @@ sum-count true m n r s e f = omega (arith, e, f)
 sum-count false m n r s e f = omega (arith, e, f)
 
 -- the same from a list that shows as much and has no more room
-pub appends-from : (a b c : Listing) (up down : Port) (above below : List Item) → b.items ≡ a.items → b.stopped ≡ a.stopped → a.room ≤ b.room
+pub appends-from : (a b c : OutputsView) (up down : Port) (above below : List Item) → b.items ≡ a.items → b.stopped ≡ a.stopped → a.room ≤ b.room
     → Appends b (put_out b.stopped up above ++ put_out b.stopped down below) c → Appends a (put_out a.stopped up above ++ put_out a.stopped down below) c
 appends-from a b c up down above below i s r h =
     let es = put_out b.stopped up above ++ put_out b.stopped down below in
@@ -177,12 +177,12 @@ appends-from a b c up down above below i s r h =
       stopped = h.stopped ∙ s;
       room = omega (arith, r, h.room);
     } in
-    subst (λ (t : Stopped). Appends a (put_out t up above ++ put_out t down below) c) s from
+    subst (λ (t : StopsView). Appends a (put_out t up above ++ put_out t down below) c) s from
 
 -- ---- a step, from what its stage made
 
 module _ {S : Type 0} (meaning : S → Meaning) (stands_after : S → List Event → Type 0) where
-  pub runs-from : (c : Station S) (x : Event) (before after : Listing) (stage : S) (up down : Port) (above below : List Event) (turned : Turned)
+  pub runs-from : (c : ContextView S) (x : Event) (before after : OutputsView) (stage : S) (up down : Port) (above below : List Event) (turned : Turned)
       → ((xs : List Event) → stands_after c.stage xs → stands_after stage (xs ++ x ∷ []))
       → meaning stage ≡ meaning c.stage
       → ((xs : List Event) → stands_after c.stage xs → above ≡ (meaning c.stage).up xs x)
@@ -217,18 +217,18 @@ module _ {S : Type 0} (meaning : S → Meaning) (stands_after : S → List Event
       below_is xs h = f ∙ ap (λ (is : List Item). port_after is c.down) (downs_is xs h)
 
   -- a context that found no memory, and then failed
-  pub runs-out-from : (is_spent : S → Bool) (c mid c' : Station S) (x : Event) (before between after : Listing)
+  pub runs-out-from : (is_spent : S → Bool) (c mid c' : ContextView S) (x : Event) (before between after : OutputsView)
       → mid ≡ record c { stage = mid.stage } → between.items ≡ before.items → between.stopped ≡ before.stopped → before.room ≤ between.room
       → Closes (stands.Failed Memory) mid between c' after
       → (is_spent mid.stage ≡ false → (xs : List Event) → stands_after c.stage xs → before.room < length (offers c.up c.down (ups (meaning c.stage) xs x) (downs (meaning c.stage) xs x)))
       → RunsOut meaning stands_after is_spent c x before c' after
   runs-out-from is_spent c mid c' x before between after same i s r closes why =
-      let stage : c'.stage ≡ mid.stage = ap (λ (t : Station S). t.stage) closes.context in
+      let stage : c'.stage ≡ mid.stage = ap (λ (t : ContextView S). t.stage) closes.context in
       record {
         closes = record {
-          context = closes.context ∙ ap (λ (t : Station S). closed (stands.Failed Memory) t) same ∙ ap (λ (t : S). closed (stands.Failed Memory) (record c { stage = t })) (sym stage);
+          context = closes.context ∙ ap (λ (t : ContextView S). closed (stands.Failed Memory) t) same ∙ ap (λ (t : S). closed (stands.Failed Memory) (record c { stage = t })) (sym stage);
           out = puts_all-from before between after (offers c.up c.down (item.Fail Memory ∷ []) (item.Fail Memory ∷ [])) i s r
-              (subst (λ (t : Station S). PutsAll between (offers t.up t.down (item.Fail Memory ∷ []) (item.Fail Memory ∷ [])) after) same closes.out);
+              (subst (λ (t : ContextView S). PutsAll between (offers t.up t.down (item.Fail Memory ∷ []) (item.Fail Memory ∷ [])) after) same closes.out);
         };
         why = λ unspent. why (ap is_spent (sym stage) ∙ unspent);
       }

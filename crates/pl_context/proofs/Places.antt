@@ -12,13 +12,13 @@ use Rattle.pl_event.specs.declared.envelopes.Kind.TheVariants.{Data, Flags}
 use Rattle.pl_event.specs.declared.envelopes.Lane.{Lane}
 use Rattle.pl_context.specs.declared.added.Added.{Added}
 use Rattle.pl_context.specs.declared.added.Added.TheVariants.{Last, Refused, Discarded}
-use Rattle.pl_context.specs.Stopped.{Stopped, same_hop, has_stopped, with_stop, HasPlaces, AreAmong, no_stops}
+use Rattle.pl_context.specs.Stops.{StopsView, same_hop, has_stopped, with_stop, HasPlaces, AreAmong, no_stops}
 use Rattle.pl_event.specs.declared.envelopes.Item.{Item}
 use Rattle.pl_event.specs.declared.envelopes.Envelope.{Envelope}
 use Rattle.pl_context.specs.declared.ports.Port.{Port}
-use Rattle.pl_context.specs.Listings.{Listing, Puts, PutsAll, stopped_after}
+use Rattle.pl_context.specs.OutputsViews.{OutputsView, Puts, PutsAll, stopped_after}
 use Rattle.pl_context.specs.Ports.{numbered, offered}
-use Rattle.pl_context.specs.Stations.{lane_of}
+use Rattle.pl_context.specs.ContextViews.{lane_of}
 
 and-first : (a b : Bool) → (a && b) ≡ true → a ≡ true
 and-first true b h = refl
@@ -57,28 +57,28 @@ fewer hops xs lane distinct new all own =
     let few = length-le_from_is_member same_hop-laws (xs ++ lane ∷ []) hops (IsDistinct-push same_hop-laws xs lane distinct new) (within-push xs hops lane all own) in
     omega (arith, length-append xs (lane ∷ []), few)
 
-pub fewer-data : (s : Stopped) (lane : Lane) → lane.kind ≡ Data → HasPlaces s (lane ∷ []) → has_stopped s lane ≡ false → IsDistinct same_hop s.lanes → length s.lanes < s.places
+pub fewer-data : (s : StopsView) (lane : Lane) → lane.kind ≡ Data → HasPlaces s (lane ∷ []) → has_stopped s lane ≡ false → IsDistinct same_hop s.lanes → length s.lanes < s.places
 fewer-data s lane is_data places new distinct =
     let none : list_any (same_hop lane) s.lanes ≡ false = sym (ap (λ (k : Kind). elim k [ Data ↦ list_any (same_hop lane) s.lanes | Flags ↦ list_any (same_hop lane) s.flag_lanes ]) is_data) ∙ new in
     let less = fewer places.hops s.lanes lane distinct none places.stopped places.own in
     omega (arith, less, places.few)
 
-pub fewer-flags : (s : Stopped) (lane : Lane) → lane.kind ≡ Flags → HasPlaces s (lane ∷ []) → has_stopped s lane ≡ false → IsDistinct same_hop s.flag_lanes → length s.flag_lanes < s.places
+pub fewer-flags : (s : StopsView) (lane : Lane) → lane.kind ≡ Flags → HasPlaces s (lane ∷ []) → has_stopped s lane ≡ false → IsDistinct same_hop s.flag_lanes → length s.flag_lanes < s.places
 fewer-flags s lane is_flags places new distinct =
     let none : list_any (same_hop lane) s.flag_lanes ≡ false = sym (ap (λ (k : Kind). elim k [ Data ↦ list_any (same_hop lane) s.lanes | Flags ↦ list_any (same_hop lane) s.flag_lanes ]) is_flags) ∙ new in
     let less = fewer places.hops s.flag_lanes lane distinct none places.stopped_flags places.own in
     omega (arith, less, places.few)
 
-pub not-stopped-data : (s : Stopped) (lane : Lane) → lane.kind ≡ Data → has_stopped s lane ≡ false → list_any (same_hop lane) s.lanes ≡ false
+pub not-stopped-data : (s : StopsView) (lane : Lane) → lane.kind ≡ Data → has_stopped s lane ≡ false → list_any (same_hop lane) s.lanes ≡ false
 not-stopped-data s lane is_data new = sym (ap (λ (k : Kind). elim k [ Data ↦ list_any (same_hop lane) s.lanes | Flags ↦ list_any (same_hop lane) s.flag_lanes ]) is_data) ∙ new
 
-pub not-stopped-flags : (s : Stopped) (lane : Lane) → lane.kind ≡ Flags → has_stopped s lane ≡ false → list_any (same_hop lane) s.flag_lanes ≡ false
+pub not-stopped-flags : (s : StopsView) (lane : Lane) → lane.kind ≡ Flags → has_stopped s lane ≡ false → list_any (same_hop lane) s.flag_lanes ≡ false
 not-stopped-flags s lane is_flags new = sym (ap (λ (k : Kind). elim k [ Data ↦ list_any (same_hop lane) s.lanes | Flags ↦ list_any (same_hop lane) s.flag_lanes ]) is_flags) ∙ new
 
 -- ---- places stay
 
 -- fewer lanes have places too
-pub places-for : (s : Stopped) (lanes some : List Lane) → HasPlaces s lanes → AreAmong some lanes → HasPlaces s some
+pub places-for : (s : StopsView) (lanes some : List Lane) → HasPlaces s lanes → AreAmong some lanes → HasPlaces s some
 places-for s lanes some p within = record {
   hops = p.hops;
   few = p.few;
@@ -88,7 +88,7 @@ places-for s lanes some p within = record {
 }
 
 -- and they have them still when one of them has stopped
-pub places-after : (answer : Added) (s : Stopped) (lanes : List Lane) (lane : Lane) → HasPlaces s lanes → AreAmong (lane ∷ []) lanes → HasPlaces (stopped_after answer s lane) lanes
+pub places-after : (answer : Added) (s : StopsView) (lanes : List Lane) (lane : Lane) → HasPlaces s lanes → AreAmong (lane ∷ []) lanes → HasPlaces (stopped_after answer s lane) lanes
 places-after Last s lanes lane p within = p
 places-after Discarded s lanes lane p within = p
 places-after Refused s lanes lane p within = by lane.kind refl
@@ -98,12 +98,12 @@ places-after Refused s lanes lane p within = by lane.kind refl
 
     by : (k : Kind) → lane.kind ≡ k → HasPlaces (with_stop s lane) lanes
     by Data e =
-        subst (λ (t : Stopped). HasPlaces t lanes)
-        (sym (ap (λ (k : Kind). elim k as (λ _. Stopped) [ Data ↦ record s { lanes = s.lanes ++ lane ∷ [] } | Flags ↦ record s { flag_lanes = s.flag_lanes ++ lane ∷ [] } ]) e))
+        subst (λ (t : StopsView). HasPlaces t lanes)
+        (sym (ap (λ (k : Kind). elim k as (λ _. StopsView) [ Data ↦ record s { lanes = s.lanes ++ lane ∷ [] } | Flags ↦ record s { flag_lanes = s.flag_lanes ++ lane ∷ [] } ]) e))
         (record { hops = p.hops; few = p.few; stopped = within-push s.lanes p.hops lane p.stopped own; stopped_flags = p.stopped_flags; own = p.own })
     by Flags e =
-        subst (λ (t : Stopped). HasPlaces t lanes)
-        (sym (ap (λ (k : Kind). elim k as (λ _. Stopped) [ Data ↦ record s { lanes = s.lanes ++ lane ∷ [] } | Flags ↦ record s { flag_lanes = s.flag_lanes ++ lane ∷ [] } ]) e))
+        subst (λ (t : StopsView). HasPlaces t lanes)
+        (sym (ap (λ (k : Kind). elim k as (λ _. StopsView) [ Data ↦ record s { lanes = s.lanes ++ lane ∷ [] } | Flags ↦ record s { flag_lanes = s.flag_lanes ++ lane ∷ [] } ]) e))
         (record { hops = p.hops; few = p.few; stopped = p.stopped; stopped_flags = within-push s.flag_lanes p.hops lane p.stopped_flags own; own = p.own })
 
 pub distinct-nil : IsDistinct same_hop []
@@ -125,7 +125,7 @@ within-right xs ys = λ q h. list_any-append (same_hop q) xs ys ∙ ap (λ (b : 
 lane_of-open : (p : Port) → p.is_open ≡ true → lane_of p ≡ p.lane ∷ []
 lane_of-open p o = ap (λ (b : Bool). if b then p.lane ∷ [] else []) o
 
-module _ (s : Stopped) (up down flags : Port) where
+module _ (s : StopsView) (up down flags : Port) where
   pub places-up : HasPlaces s (lane_of up ++ lane_of down ++ lane_of flags) → up.is_open ≡ true → HasPlaces s (up.lane ∷ [])
   places-up h o =
       let some : HasPlaces s (lane_of up) = places-for s (lane_of up ++ lane_of down ++ lane_of flags) (lane_of up) h (λ q m. within-left (lane_of up ++ lane_of down) (lane_of flags) q (within-left (lane_of up) (lane_of down) q m)) in
@@ -142,13 +142,13 @@ module _ (s : Stopped) (up down flags : Port) where
       subst (λ (t : List Lane). HasPlaces s t) (lane_of-open flags o) some
 
 -- lanes that have places have them after one item was put on an open lane of theirs
-places-after-one : (before after : Listing) (p : Port) (i : Item) (lanes : List Lane) (b : Bool) → (b ≡ true → AreAmong (p.lane ∷ []) lanes) → HasPlaces before.stopped lanes
+places-after-one : (before after : OutputsView) (p : Port) (i : Item) (lanes : List Lane) (b : Bool) → (b ≡ true → AreAmong (p.lane ∷ []) lanes) → HasPlaces before.stopped lanes
     → PutsAll before (if b then numbered p.lane p.made (i ∷ []) else []) after → HasPlaces after.stopped lanes
 places-after-one before after p i lanes true own h puts =
-    subst (λ (s : Stopped). HasPlaces s lanes) (sym puts.2.stopped ∙ sym puts.3.1) (places-after puts.0 before.stopped lanes p.lane h (own refl))
-places-after-one before after p i lanes false own h puts = subst (λ (s : Stopped). HasPlaces s lanes) (sym puts.1) h
+    subst (λ (s : StopsView). HasPlaces s lanes) (sym puts.2.stopped ∙ sym puts.3.1) (places-after puts.0 before.stopped lanes p.lane h (own refl))
+places-after-one before after p i lanes false own h puts = subst (λ (s : StopsView). HasPlaces s lanes) (sym puts.1) h
 
-pub places-after-up : (before after : Listing) (up down flags : Port) (i : Item) → HasPlaces before.stopped (lane_of up ++ lane_of down ++ lane_of flags)
+pub places-after-up : (before after : OutputsView) (up down flags : Port) (i : Item) → HasPlaces before.stopped (lane_of up ++ lane_of down ++ lane_of flags)
     → PutsAll before (offered up (i ∷ [])) after → HasPlaces after.stopped (lane_of up ++ lane_of down ++ lane_of flags)
 places-after-up before after up down flags i h puts =
     places-after-one before after up i (lane_of up ++ lane_of down ++ lane_of flags) up.is_open
@@ -160,8 +160,8 @@ places-after-up before after up down flags i h puts =
 pub places-start : (places : ℕ) (lanes : List Lane) → length lanes ≤ places → HasPlaces (no_stops places) lanes
 places-start places lanes few = record { hops = lanes; few = few; stopped = λ q h. cc; stopped_flags = λ q h. cc; own = λ q h. h }
 
-pub places-put : (before after : Listing) (e : Envelope) (answer : Added) (lanes : List Lane) → HasPlaces before.stopped lanes → AreAmong (e.lane ∷ []) lanes → Puts before e answer after → HasPlaces after.stopped lanes
-places-put before after e answer lanes h own puts = subst (λ (s : Stopped). HasPlaces s lanes) (sym puts.stopped) (places-after answer before.stopped lanes e.lane h own)
+pub places-put : (before after : OutputsView) (e : Envelope) (answer : Added) (lanes : List Lane) → HasPlaces before.stopped lanes → AreAmong (e.lane ∷ []) lanes → Puts before e answer after → HasPlaces after.stopped lanes
+places-put before after e answer lanes h own puts = subst (λ (s : StopsView). HasPlaces s lanes) (sym puts.stopped) (places-after answer before.stopped lanes e.lane h own)
 
 among-first : (lane : Lane) (some lanes : List Lane) → AreAmong (lane ∷ some) lanes → AreAmong (lane ∷ []) lanes
 among-first lane some lanes h = λ q m. h q (or-case ((same_hop q lane || list_any (same_hop q) some) ≡ true) (same_hop q lane) false m (λ e. ap (λ (b : Bool). b || list_any (same_hop q) some) e) (λ e. cc))
@@ -169,7 +169,7 @@ among-first lane some lanes h = λ q m. h q (or-case ((same_hop q lane || list_a
 among-rest : (lane : Lane) (some lanes : List Lane) → AreAmong (lane ∷ some) lanes → AreAmong some lanes
 among-rest lane some lanes h = λ q m. h q (within-right (lane ∷ []) some q m)
 
-pub places-puts_all : (before after : Listing) (es : List Envelope) (lanes : List Lane) → HasPlaces before.stopped lanes → AreAmong (map (λ (e : Envelope). e.lane) es) lanes → PutsAll before es after → HasPlaces after.stopped lanes
-places-puts_all before after [] lanes h own puts = subst (λ (s : Stopped). HasPlaces s lanes) (sym puts.1) h
+pub places-puts_all : (before after : OutputsView) (es : List Envelope) (lanes : List Lane) → HasPlaces before.stopped lanes → AreAmong (map (λ (e : Envelope). e.lane) es) lanes → PutsAll before es after → HasPlaces after.stopped lanes
+places-puts_all before after [] lanes h own puts = subst (λ (s : StopsView). HasPlaces s lanes) (sym puts.1) h
 places-puts_all before after (e ∷ es) lanes h own puts =
     places-puts_all puts.1 after es lanes (places-put before puts.1 e puts.0 lanes h (among-first e.lane (map (λ (e : Envelope). e.lane) es) lanes own) puts.2) (among-rest e.lane (map (λ (e : Envelope). e.lane) es) lanes own) puts.3

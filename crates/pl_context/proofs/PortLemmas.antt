@@ -10,8 +10,8 @@ use Rattle.pl_event.specs.declared.envelopes.Envelope.{Envelope}
 use Rattle.pl_context.specs.declared.added.Added.{Added}
 use Rattle.pl_context.specs.declared.added.Added.TheVariants.{Last, Discarded}
 use Rattle.pl_context.specs.declared.ports.Port.{Port}
-use Rattle.pl_context.specs.Stopped.{Stopped, has_stopped}
-use Rattle.pl_context.specs.Listings.{Listing, Puts, PutsAll, Appends, added_items, stopped_after}
+use Rattle.pl_context.specs.Stops.{StopsView, has_stopped}
+use Rattle.pl_context.specs.OutputsViews.{OutputsView, Puts, PutsAll, Appends, added_items, stopped_after}
 use Rattle.pl_context.specs.Ports.{as_items, all_go_on, numbered, put_out, port_after}
 
 -- ---- one envelope
@@ -20,7 +20,7 @@ use Rattle.pl_context.specs.Ports.{as_items, all_go_on, numbered, put_out, port_
 abbrev pub kept : Bool → List Envelope → List Envelope
 kept stopped es = cond stopped [] es
 
-pub puts-appends : (before after : Listing) (e : Envelope) (answer : Added) → Puts before e answer after → 0 < before.room → Appends before (kept (has_stopped before.stopped e.lane) (e ∷ [])) after
+pub puts-appends : (before after : OutputsView) (e : Envelope) (answer : Added) → Puts before e answer after → 0 < before.room → Appends before (kept (has_stopped before.stopped e.lane) (e ∷ [])) after
 puts-appends before after e answer p room = by (has_stopped before.stopped e.lane) refl
   where
     became : (a : Added) → answer ≡ a → (es : List Envelope) → added_items a e ≡ es → stopped_after a before.stopped e.lane ≡ before.stopped → Appends before es after
@@ -62,7 +62,7 @@ length-numbered lane n [] = refl
 length-numbered lane n (i ∷ is) = ap (λ (k : ℕ). suc k) (length-numbered lane (n + 1) is)
 
 -- A port p that was given some of these events, and these are left: it is q now, and the list before is now.
-pub record Putting (p q : Port) (before now : Listing) (all left : List Event) : Type 0 where
+pub record Putting (p q : Port) (before now : OutputsView) (all left : List Event) : Type 0 where
   pub is_open : q.is_open ≡ true
   pub lane : q.lane ≡ p.lane
   pub made : q.made + length left ≡ p.made + length all
@@ -71,7 +71,7 @@ pub record Putting (p q : Port) (before now : Listing) (all left : List Event) :
   pub room : before.room + length (kept (has_stopped before.stopped p.lane) (numbered p.lane q.made (as_items left))) ≤ now.room + length (kept (has_stopped before.stopped p.lane) (numbered p.lane p.made (as_items all)))
   pub enough : length left ≤ now.room
 
-pub putting-start : (p : Port) (before : Listing) (all : List Event) → p.is_open ≡ true → length all ≤ before.room → Putting p p before before all all
+pub putting-start : (p : Port) (before : OutputsView) (all : List Event) → p.is_open ≡ true → length all ≤ before.room → Putting p p before before all all
 putting-start p before all o room =
     record { is_open = o; lane = refl; made = refl; stopped = refl; items = refl; room = omega arith; enough = room }
 
@@ -82,7 +82,7 @@ kept-one : (b : Bool) (e : Envelope) → length (kept b (e ∷ [])) ≤ 1
 kept-one true e = omega arith
 kept-one false e = omega arith
 
-module _ (p q : Port) (before now after : Listing) (all left : List Event) (x : Event) where
+module _ (p q : Port) (before now after : OutputsView) (all left : List Event) (x : Event) where
   step-facts : (b b' : Bool) → b' ≡ b → q.lane ≡ p.lane → Appends now (kept b' (envelope_of q x ∷ [])) after
       → now.items ++ kept b (numbered p.lane q.made (as_items (x ∷ left))) ≡ before.items ++ kept b (numbered p.lane p.made (as_items all))
       → before.room + length (kept b (numbered p.lane q.made (as_items (x ∷ left)))) ≤ now.room + length (kept b (numbered p.lane p.made (as_items all)))
@@ -102,13 +102,13 @@ module _ (p q : Port) (before now after : Listing) (all left : List Event) (x : 
     omega (arith, room, a.room),
   )
 
-pub putting-step : (p q : Port) (before now after : Listing) (all left : List Event) (x : Event) (answer : Added)
+pub putting-step : (p q : Port) (before now after : OutputsView) (all left : List Event) (x : Event) (answer : Added)
     → Putting p q before now all (x ∷ left) → Puts now (record { lane = q.lane; number = q.made; item = item.Event x }) answer after
     → Putting p (record q { made = q.made + 1 }) before after all left
 putting-step p q before now after all left x answer g puts =
     let some : 0 < now.room = omega (arith, g.enough) in
     let a = puts-appends now after (envelope_of q x) answer puts some in
-    let same = ap (λ (s : Stopped). has_stopped s q.lane) g.stopped ∙ ap (λ (l : Lane). has_stopped before.stopped l) g.lane in
+    let same = ap (λ (s : StopsView). has_stopped s q.lane) g.stopped ∙ ap (λ (l : Lane). has_stopped before.stopped l) g.lane in
     let facts = step-facts p q before now after all left x (has_stopped before.stopped p.lane) (has_stopped now.stopped q.lane) same g.lane a g.items g.room in
     let one = kept-one (has_stopped now.stopped q.lane) (envelope_of q x) in
     record {
@@ -122,7 +122,7 @@ putting-step p q before now after all left x answer g puts =
     }
 
 -- all of them are on the list
-pub putting-end : (p q : Port) (before now : Listing) (all : List Event) → p.is_open ≡ true → Putting p q before now all []
+pub putting-end : (p q : Port) (before now : OutputsView) (all : List Event) → p.is_open ≡ true → Putting p q before now all []
     → (q ≡ port_after (as_items all) p) × Appends before (put_out before.stopped p (as_items all)) now
 putting-end p q before now all o g =
     let n : q.made ≡ p.made + length (as_items all) = omega (arith, g.made, length-map all (λ (x : Event). item.Event x)) in
@@ -148,33 +148,33 @@ putting-end p q before now all o g =
     kept-nil false = refl
 
 -- one item, for which there is room
-pub put-appends : (p : Port) (i : Item) (before after : Listing) (answer : Added) → p.is_open ≡ true → Puts before (record { lane = p.lane; number = p.made; item = i }) answer after → 0 < before.room → Appends before (put_out before.stopped p (i ∷ [])) after
+pub put-appends : (p : Port) (i : Item) (before after : OutputsView) (answer : Added) → p.is_open ≡ true → Puts before (record { lane = p.lane; number = p.made; item = i }) answer after → 0 < before.room → Appends before (put_out before.stopped p (i ∷ [])) after
 put-appends p i before after answer o puts room =
     subst (λ (t : Bool). Appends before (cond t (kept (has_stopped before.stopped p.lane) (numbered p.lane p.made (i ∷ []))) []) after) (sym o) (puts-appends before after (record { lane = p.lane; number = p.made; item = i }) answer puts room)
 
 -- ---- lists put one after another
 
-pub puts_all-from : (a b c : Listing) (es : List Envelope) → b.items ≡ a.items → b.stopped ≡ a.stopped → a.room ≤ b.room → PutsAll b es c → PutsAll a es c
+pub puts_all-from : (a b c : OutputsView) (es : List Envelope) → b.items ≡ a.items → b.stopped ≡ a.stopped → a.room ≤ b.room → PutsAll b es c → PutsAll a es c
 puts_all-from a b c [] i s r h = (h.0 ∙ i, h.1 ∙ s, omega (arith, r, h.2))
 puts_all-from a b c (e ∷ es) i s r h = (
   h.0,
   h.1,
   record {
     items = h.2.items ∙ ap (λ (t : List Envelope). t ++ added_items h.0 e) i;
-    stopped = h.2.stopped ∙ ap (λ (t : Stopped). stopped_after h.0 t e.lane) s;
-    discarded = subst (λ (t : Stopped). (h.0 ≡ Discarded) ↔ (has_stopped t e.lane ≡ true)) s h.2.discarded;
-    last = λ none room. h.2.last (ap (λ (t : Stopped). has_stopped t e.lane) s ∙ none) (omega (arith, r, room));
+    stopped = h.2.stopped ∙ ap (λ (t : StopsView). stopped_after h.0 t e.lane) s;
+    discarded = subst (λ (t : StopsView). (h.0 ≡ Discarded) ↔ (has_stopped t e.lane ≡ true)) s h.2.discarded;
+    last = λ none room. h.2.last (ap (λ (t : StopsView). has_stopped t e.lane) s ∙ none) (omega (arith, r, room));
     room = omega (arith, r, h.2.room);
   },
   h.3,
 )
 
-pub puts_all-append : (a b c : Listing) (es fs : List Envelope) → PutsAll a es b → PutsAll b fs c → PutsAll a (es ++ fs) c
+pub puts_all-append : (a b c : OutputsView) (es fs : List Envelope) → PutsAll a es b → PutsAll b fs c → PutsAll a (es ++ fs) c
 puts_all-append a b c [] fs h k = puts_all-from a b c fs h.0 h.1 h.2 k
 puts_all-append a b c (e ∷ es) fs h k = (h.0, h.1, h.2, puts_all-append h.1 b c es fs h.3 k)
 
 -- lists appended one after another
-pub appends-append : (a b c : Listing) (es fs : List Envelope) → Appends a es b → Appends b fs c → Appends a (es ++ fs) c
+pub appends-append : (a b c : OutputsView) (es fs : List Envelope) → Appends a es b → Appends b fs c → Appends a (es ++ fs) c
 appends-append a b c es fs h k = record {
   items = k.items ∙ ap (λ (t : List Envelope). t ++ fs) h.items ∙ append_assoc a.items es fs;
   stopped = k.stopped ∙ h.stopped;

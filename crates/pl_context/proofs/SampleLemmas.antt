@@ -13,23 +13,23 @@ use Rattle.pl_event.specs.declared.stages.Direction.TheVariants.{Inbound, Outbou
 use Rattle.pl_event.specs.declared.stages.Turned.{Turned}
 use Rattle.pl_event.specs.declared.stages.Turned.TheVariants.{Open, Ended}
 use Rattle.pl_context.specs.declared.ports.Port.{Port}
-use Rattle.pl_context.specs.Stopped.{Stopped, HasPlaces, no_stops}
+use Rattle.pl_context.specs.Stops.{StopsView, HasPlaces, no_stops}
 use Rattle.pl_context.specs.Ports.{as_items, end_after}
-use Rattle.pl_context.specs.Stations.{Station, lane_of, open_lanes, kind_taken, taken_of, number_limit}
-use Rattle.pl_context.specs.Recordings.{Recording}
-use Rattle.pl_context.specs.Recordings as tail
+use Rattle.pl_context.specs.ContextViews.{ContextView, lane_of, open_lanes, kind_taken, taken_of, number_limit}
+use Rattle.pl_context.specs.TailViews.{TailView}
+use Rattle.pl_context.specs.TailViews as tail
 use Rattle.pl_context.specs.Contexts.{MakesFew}
 use Rattle.pl_context.specs.Samples.{relaying, has_quit, passed_up, passed_down, sample_lane}
 use Rattle.pl_context.proofs.Places.{places-start, same_hop-laws}
 
 -- the lane that a context counts as its own
-pub number-own : {S : Type 0} (s : Station S) (lane : Lane) → lane.channel ≡ s.channel → lane.hop ≡ s.hop → taken_of s lane ≡ kind_taken s lane.kind
+pub number-own : {S : Type 0} (s : ContextView S) (lane : Lane) → lane.channel ≡ s.channel → lane.hop ≡ s.hop → taken_of s lane ≡ kind_taken s lane.kind
 number-own s lane c h =
     ap (λ (n : ℕ). if (n == s.channel) && (lane.hop == s.hop) then kind_taken s lane.kind else 0) c
     ∙ ap (λ (n : ℕ). if (s.channel == s.channel) && (n == s.hop) then kind_taken s lane.kind else 0) h
     ∙ ap (λ (b : Bool). if b then kind_taken s lane.kind else 0) (same_hop-laws.refl (record { channel = s.channel; kind = lane.kind; hop = s.hop }))
 
-pub number-tail : (s : Recording) (lane : Lane) → lane.channel ≡ s.channel → lane.hop ≡ s.hop → tail.taken_of s lane ≡ tail.kind_taken s lane.kind
+pub number-tail : (s : TailView) (lane : Lane) → lane.channel ≡ s.channel → lane.hop ≡ s.hop → tail.taken_of s lane ≡ tail.kind_taken s lane.kind
 number-tail s lane c h =
     ap (λ (n : ℕ). if (n == s.channel) && (lane.hop == s.hop) then tail.kind_taken s lane.kind else 0) c
     ∙ ap (λ (n : ℕ). if (s.channel == s.channel) && (n == s.hop) then tail.kind_taken s lane.kind else 0) h
@@ -46,9 +46,9 @@ few-lanes p = by p.is_open
     by true = omega arith
     by false = omega arith
 
-pub fresh-places : {S : Type 0} (c : Station S) (s : Stopped) → s ≡ no_stops 3 → HasPlaces s (open_lanes c)
+pub fresh-places : {S : Type 0} (c : ContextView S) (s : StopsView) → s ≡ no_stops 3 → HasPlaces s (open_lanes c)
 fresh-places c s e =
-    subst (λ (t : Stopped). HasPlaces t (open_lanes c)) (sym e)
+    subst (λ (t : StopsView). HasPlaces t (open_lanes c)) (sym e)
     (places-start 3 (open_lanes c) (omega (arith, few-lanes c.up, few-lanes c.down, few-lanes c.flags, length-append (lane_of c.up ++ lane_of c.down) (lane_of c.flags), length-append (lane_of c.up) (lane_of c.down))))
 
 few-up : (d : Direction) (x : Event) → length (as_items (passed_up d x)) ≤ 1
@@ -76,7 +76,7 @@ some-events-quit true = refl
 some-events-quit false = refl
 
 -- what a sample stage makes of an item is little
-pub relay-few : {S : Type 0} (direction : S → Direction) (quit : S → Bool) (c : Station S) (i : Item) → c.up.made < 1000 → c.down.made < 1000
+pub relay-few : {S : Type 0} (direction : S → Direction) (quit : S → Bool) (c : ContextView S) (i : Item) → c.up.made < 1000 → c.down.made < 1000
     → MakesFew (λ (s : S). relaying (direction s)) (λ (s : S) (xs : List Event). quit s ≡ has_quit xs) c i
 relay-few direction quit c (item.Event x) up down =
     let xs = some-events (quit c.stage) in
@@ -94,5 +94,5 @@ relay-few direction quit c (item.Fail cause) up down = tt
 relay-few direction quit c (item.Flag value) up down = tt
 
 -- the one lane of a test on a list with one place
-pub one-place : (s : Stopped) → s ≡ no_stops 1 → HasPlaces s (sample_lane ∷ [])
-one-place s e = subst (λ (t : Stopped). HasPlaces t (sample_lane ∷ [])) (sym e) (places-start 1 (sample_lane ∷ []) (omega arith))
+pub one-place : (s : StopsView) → s ≡ no_stops 1 → HasPlaces s (sample_lane ∷ [])
+one-place s e = subst (λ (t : StopsView). HasPlaces t (sample_lane ∷ [])) (sym e) (places-start 1 (sample_lane ∷ []) (omega arith))

@@ -13,9 +13,9 @@ use Rattle.pl_context.specs.declared.standing.Standing.{Standing}
 use Rattle.pl_context.specs.declared.standing.Standing.TheVariants as stands
 use Rattle.pl_context.specs.declared.standing.Took.{Took}
 use Rattle.pl_context.specs.declared.standing.Took.TheVariants as took
-use Rattle.pl_context.specs.Listings.{Listing, PutsAll, Appends}
+use Rattle.pl_context.specs.OutputsViews.{OutputsView, PutsAll, Appends}
 use Rattle.pl_context.specs.Ports.{as_items, end_after, offered, put_out, port_after, FlagPasses}
-use Rattle.pl_context.specs.Stations.{Station}
+use Rattle.pl_context.specs.ContextViews.{ContextView}
 
 -- What a stage makes of an event x after the events xs, as items of its two lanes: its end goes down where it has quit.
 abbrev pub ups : Meaning → List Event → Event → List Item
@@ -35,12 +35,12 @@ abbrev pub offers : Port → Port → List Item → List Item → List Envelope
 offers up down above below = offered up above ++ offered down below
 
 -- one item more was taken of the lane of this kind
-abbrev pub counted : {S : Type 0} → Kind → Station S → Station S
+abbrev pub counted : {S : Type 0} → Kind → ContextView S → ContextView S
 counted Data c = record c { taken = c.taken + 1 }
 counted Flags c = record c { flags_taken = c.flags_taken + 1 }
 
 -- a context has ended or failed: both lanes were given their last item
-abbrev pub closed : {S : Type 0} → Standing → Station S → Station S
+abbrev pub closed : {S : Type 0} → Standing → ContextView S → ContextView S
 closed standing c =
     record c { standing = standing; up = port_after (last_item standing ∷ []) c.up; down = port_after (last_item standing ∷ []) c.down }
 
@@ -52,7 +52,7 @@ module _ {S : Type 0} (meaning : S → Meaning) (stands_after : S → List Event
     pub below : down.is_open ≡ true → down.made ≡ length (down_of (meaning stage) xs)
 
   -- a context that is open stands after these events
-  abbrev pub StandsAfter : Station S → List Event → Type 0
+  abbrev pub StandsAfter : ContextView S → List Event → Type 0
   StandsAfter c xs = PartsStand c.stage c.up c.down xs
 
   -- What an event after these makes has numbers below 2^31.
@@ -63,7 +63,7 @@ module _ {S : Type 0} (meaning : S → Meaning) (stands_after : S → List Event
 
   -- An event was run: after whichever events the context stood, it has put out what its stage makes of this one, with
   -- the next numbers, and stands after those and this one.
-  pub record Runs (c : Station S) (x : Event) (before : Listing) (c' : Station S) (after : Listing) : Type 0 where
+  pub record Runs (c : ContextView S) (x : Event) (before : OutputsView) (c' : ContextView S) (after : OutputsView) : Type 0 where
     pub same : c' ≡ record c { stage = c'.stage; up = c'.up; down = c'.down }
     pub up : (xs : List Event) → stands_after c.stage xs → c'.up ≡ port_after (ups (meaning c.stage) xs x) c.up
     pub down : (xs : List Event) → stands_after c.stage xs → c'.down ≡ port_after (downs (meaning c.stage) xs x) c.down
@@ -73,33 +73,33 @@ module _ {S : Type 0} (meaning : S → Meaning) (stands_after : S → List Event
     pub stands : (xs : List Event) → StandsAfter c xs → StandsAfter c' (xs ++ x ∷ [])
 
 -- A context ends or fails: both lanes are given their last item, the lane upwards first.
-pub record Closes {S : Type 0} (standing : Standing) (c : Station S) (before : Listing) (c' : Station S) (after : Listing) : Type 0 where
+pub record Closes {S : Type 0} (standing : Standing) (c : ContextView S) (before : OutputsView) (c' : ContextView S) (after : OutputsView) : Type 0 where
   pub context : c' ≡ closed standing c
   pub out : PutsAll before (offers c.up c.down (last_item standing ∷ []) (last_item standing ∷ [])) after
 
 module _ {S : Type 0} (meaning : S → Meaning) (stands_after : S → List Event → Type 0) (is_spent : S → Bool) where
   -- An event failed its context for want of memory: the stage met a fault, or there was not room for what it makes.
-  pub record RunsOut (c : Station S) (x : Event) (before : Listing) (c' : Station S) (after : Listing) : Type 0 where
+  pub record RunsOut (c : ContextView S) (x : Event) (before : OutputsView) (c' : ContextView S) (after : OutputsView) : Type 0 where
     pub closes : Closes (stands.Failed Memory) (record c { stage = c'.stage }) before c' after
     pub why : is_spent c'.stage ≡ false → (xs : List Event) → stands_after c.stage xs →
         before.room < length (offers c.up c.down (ups (meaning c.stage) xs x) (downs (meaning c.stage) xs x))
 
   -- what an open context answers to an event, and how it stands then
-  abbrev pub TakesEvent : Station S → Event → Listing → Took → Station S → Listing → Type 0
+  abbrev pub TakesEvent : ContextView S → Event → OutputsView → Took → ContextView S → OutputsView → Type 0
   TakesEvent c x before took.Ran c' after = Runs meaning stands_after c x before c' after
   TakesEvent c x before (took.Failed cause) c' after = (cause ≡ Memory) × RunsOut c x before c' after
   TakesEvent c x before took.Ended c' after = ⊥
   TakesEvent c x before took.Dropped c' after = ⊥
 
   -- The same to any item of its data lane. (A flag does not stand there, and nothing comes of it.)
-  abbrev pub TakesItem : Station S → Item → Listing → Took → Station S → Listing → Type 0
+  abbrev pub TakesItem : ContextView S → Item → OutputsView → Took → ContextView S → OutputsView → Type 0
   TakesItem c (item.Event x) before answer c' after = TakesEvent c x before answer c' after
   TakesItem c item.End before answer c' after = (answer ≡ took.Ended) × Closes stands.Ended c before c' after
   TakesItem c (item.Fail cause) before answer c' after = (answer ≡ took.Failed cause) × Closes (stands.Failed cause) c before c' after
   TakesItem c (item.Flag value) before answer c' after = (answer ≡ took.Ran) × (c' ≡ c) × (after ≡ before)
 
 -- the numbers that an item makes are small
-abbrev pub MakesFew : {S : Type 0} → (S → Meaning) → (S → List Event → Type 0) → Station S → Item → Type 0
+abbrev pub MakesFew : {S : Type 0} → (S → Meaning) → (S → List Event → Type 0) → ContextView S → Item → Type 0
 MakesFew meaning stands_after c (item.Event x) = (xs : List Event) × IsSmall meaning stands_after c.stage c.up c.down xs x
 MakesFew meaning stands_after c item.End = Unit {0}
 MakesFew meaning stands_after c (item.Fail cause) = Unit {0}
@@ -107,7 +107,7 @@ MakesFew meaning stands_after c (item.Flag value) = Unit {0}
 
 -- What a context that has not failed answers to an item of its flags lane: a flag is handed on. (Nothing comes of any
 -- other item, which does not stand there.)
-abbrev pub TakesFlag : {S : Type 0} → Station S → Item → Listing → Took → Station S → Listing → Type 0
+abbrev pub TakesFlag : {S : Type 0} → ContextView S → Item → OutputsView → Took → ContextView S → OutputsView → Type 0
 TakesFlag c (item.Flag value) before answer c' after =
     (answer ≡ took.Ran) × (c' ≡ record c { flags = c'.flags }) × FlagPasses c.flags value before c'.flags after
 TakesFlag c (item.Event x) before answer c' after = (answer ≡ took.Ran) × (c' ≡ c) × (after ≡ before)

@@ -1,9 +1,9 @@
 pub mod Standings
-pub mod Stopped
-pub mod Listings
+pub mod Stops
+pub mod OutputsViews
 pub mod Ports
-pub mod Stations
+pub mod ContextViews
 pub mod Contexts
-pub mod Recordings
-pub mod Queues
+pub mod TailViews
+pub mod Backlogs
 pub mod Samples

@@ -11,8 +11,8 @@ use Rattle.pl_event.specs.Fitting.{goes_on}
 use Rattle.pl_context.specs.declared.added.Added.{Added}
 use Rattle.pl_context.specs.declared.added.Added.TheVariants.{Last, Refused, Discarded}
 use Rattle.pl_context.specs.declared.ports.Port.{Port}
-use Rattle.pl_context.specs.Stopped.{Stopped, has_stopped}
-use Rattle.pl_context.specs.Listings.{Listing, Puts}
+use Rattle.pl_context.specs.Stops.{StopsView, has_stopped}
+use Rattle.pl_context.specs.OutputsViews.{OutputsView, Puts}
 
 abbrev pub as_items : List Event → List Item
 as_items xs = map (λ x. item.Event x) xs
@@ -37,7 +37,7 @@ abbrev pub offered : Port → List Item → List Envelope
 offered p is = if p.is_open then numbered p.lane p.made is else []
 
 -- those of them that a list with room takes: a stopped lane's are discarded
-abbrev pub put_out : Stopped → Port → List Item → List Envelope
+abbrev pub put_out : StopsView → Port → List Item → List Envelope
 put_out s p is = if p.is_open then (if has_stopped s p.lane then [] else numbered p.lane p.made is) else []
 
 -- the port after these items
@@ -52,6 +52,6 @@ flag_port_after Discarded p = record p { is_open = false }
 
 -- A flag is handed on with the next number of its lane, unless the lane has stopped, which it does where a flag finds
 -- no place.
-pub record FlagPasses (p : Port) (value : Bool) (before : Listing) (p' : Port) (after : Listing) : Type 0 where
+pub record FlagPasses (p : Port) (value : Bool) (before : OutputsView) (p' : Port) (after : OutputsView) : Type 0 where
   pub closed : p.is_open ≡ false → (p' ≡ p) × (after ≡ before)
   pub put : p.is_open ≡ true → (answer : Added) × (p' ≡ flag_port_after answer p) × Puts before (record { lane = p.lane; number = p.made; item = item.Flag value }) answer after

@@ -1,6 +1,6 @@
 ghost use Rattle.std.specs.Prelude.{◌≡◌, ◌+◌, ◌<◌, ◌≤◌, ◌∷◌, ◌++◌, [], length, IfOk, IfSome, IfNone, OnSome, Some, slice_get, insert, remove, ◌==◌};
-ghost use Rattle.pl_context.specs.Stopped.{HasPlaces, no_stops, any_stopped};
-ghost use Rattle.pl_context.specs.Queues.{Adds};
+ghost use Rattle.pl_context.specs.Stops.{HasPlaces, no_stops, any_stopped};
+ghost use Rattle.pl_context.specs.Backlogs.{Adds};
 
 use crate::outputs::failure;
 use crate::stops::Stops;
@@ -21,10 +21,10 @@ pub struct Backlog<A> {
 impl<A> Model for Backlog<A> {
     ghost use Rattle.std.specs.Prelude.{◌-◌, length};
     ghost use Rattle.std.specs.VecDeque.{deque_len, deque_capacity};
-    ghost use Rattle.pl_context.specs.Listings.{HasReserve};
-    ghost use Rattle.pl_context.specs.Queues.{Queue};
+    ghost use Rattle.pl_context.specs.OutputsViews.{HasReserve};
+    ghost use Rattle.pl_context.specs.Backlogs.{BacklogView};
 
-    ghost Value = { Queue A };
+    ghost Value = { BacklogView A };
 
     ghost view = { λ b. record { items = b.entries.items; stopped = b.stops; room = deque_capacity b.entries - deque_len b.entries - (b.stops.places - length b.stops.lanes) } };
 

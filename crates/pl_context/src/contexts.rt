@@ -6,10 +6,10 @@ ghost use Rattle.pl_event.specs.declared.envelopes.Item.TheVariants as items;
 ghost use Rattle.pl_event.specs.declared.outcomes.Cause.TheVariants.{Memory};
 ghost use Rattle.pl_context.specs.declared.standing.Standing.TheVariants as stands;
 ghost use Rattle.pl_context.specs.declared.standing.Took.TheVariants as took;
-ghost use Rattle.pl_context.specs.Stopped.{HasPlaces};
-ghost use Rattle.pl_context.specs.Listings.{Appends};
+ghost use Rattle.pl_context.specs.Stops.{HasPlaces};
+ghost use Rattle.pl_context.specs.OutputsViews.{Appends};
 ghost use Rattle.pl_context.specs.Ports.{end_after, as_items, port_after, put_out};
-ghost use Rattle.pl_context.specs.Stations.{IsHop, SamePlace, new_station, new_port, has_up, has_down, down_hop, Enters, kind_taken, one_of, taken_of, number_limit, open_lanes};
+ghost use Rattle.pl_context.specs.ContextViews.{IsHop, SamePlace, new_context, new_port, has_up, has_down, down_hop, Enters, kind_taken, one_of, taken_of, number_limit, open_lanes};
 ghost use Rattle.pl_context.specs.Standings.{is_over, has_failed};
 ghost use Rattle.pl_context.specs.Contexts.{StandsAfter, MakesFew, Runs, Closes, TakesEvent, TakesItem, TakesFlag, counted, offers, ups, downs, last_item, IsSmall};
 
@@ -45,13 +45,13 @@ pub struct Context<S: Stage> {
 }
 
 impl<S: Stage> Model for Context<S> {
-    ghost use Rattle.pl_context.specs.Stations.{Station, IsStation};
+    ghost use Rattle.pl_context.specs.ContextViews.{ContextView, IsContext};
 
-    ghost Value = { Station S };
+    ghost Value = { ContextView S };
 
     ghost view = { λ c. record { stage = c.stage; channel = c.channel; hop = c.hop; taken = c.taken; flags_taken = c.flags_taken; standing = c.standing; failed_by_call = c.failed_by_call; up = c.up; down = c.down; flags = c.flags } };
 
-    ghost invariant = { λ c. IsStation c.taken c.flags_taken c.up c.down c.flags c.up_events.items c.down_events.items };
+    ghost invariant = { λ c. IsContext c.taken c.flags_taken c.up c.down c.flags c.up_events.items c.down_events.items };
 }
 
 impl<S: Stage> Context<S> {
@@ -59,7 +59,7 @@ impl<S: Stage> Context<S> {
     pub fn new(alloc: Global, channel: u16, hop: u16, k: u16, stage: S) -> Self
         requires fresh { S.stands_after stage [] }
         requires hop { IsHop (S.meaning stage).direction hop k }
-        ensures context { result ≡ new_station (S.meaning stage).direction channel hop k stage }
+        ensures context { result ≡ new_context (S.meaning stage).direction channel hop k stage }
         ensures stands { StandsAfter S.meaning S.stands_after result [] }
     {
         let direction = stage.direction();

@@ -1,7 +1,7 @@
 ghost use Rattle.std.specs.Prelude.{◌≡◌, ◌+◌, ◌<◌, ◌≤◌, ◌∷◌, ◌++◌, [], length, not, IfOk, OnOk, OnErr, IfNone, ◌==◌, ◌&&◌};
 ghost use Rattle.std.specs.Option.{option_to_list};
-ghost use Rattle.pl_context.specs.Stopped.{HasPlaces, no_stops, any_stopped};
-ghost use Rattle.pl_context.specs.Listings.{Puts, failure_of};
+ghost use Rattle.pl_context.specs.Stops.{HasPlaces, no_stops, any_stopped};
+ghost use Rattle.pl_context.specs.OutputsViews.{Puts, failure_of};
 
 use crate::added::Added;
 use crate::stops::Stops;
@@ -24,9 +24,9 @@ pub struct Outputs {
 impl Model for Outputs {
     ghost use Rattle.std.specs.Prelude.{◌-◌, length};
     ghost use Rattle.std.specs.VecDeque.{deque_len, deque_capacity};
-    ghost use Rattle.pl_context.specs.Listings.{Listing, HasReserve};
+    ghost use Rattle.pl_context.specs.OutputsViews.{OutputsView, HasReserve};
 
-    ghost Value = { Listing };
+    ghost Value = { OutputsView };
 
     ghost view = { λ o. record { items = o.envelopes.items; stopped = o.stops; room = deque_capacity o.envelopes - deque_len o.envelopes - (o.stops.places - length o.stops.lanes) } };
 

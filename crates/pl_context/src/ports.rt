@@ -1,8 +1,8 @@
 ghost use Rattle.std.specs.Prelude.{◌≡◌, ◌+◌, ◌<◌, ◌≤◌, ◌^◌, ◌∷◌, ◌++◌, [], length, true, false, if◌then◌else◌};
 ghost use Rattle.pl_event.specs.declared.envelopes.Item.TheVariants as item;
 ghost use Rattle.pl_event.specs.Fitting.{goes_on};
-ghost use Rattle.pl_context.specs.Stopped.{HasPlaces};
-ghost use Rattle.pl_context.specs.Listings.{PutsAll, Appends};
+ghost use Rattle.pl_context.specs.Stops.{HasPlaces};
+ghost use Rattle.pl_context.specs.OutputsViews.{PutsAll, Appends};
 ghost use Rattle.pl_context.specs.Ports.{as_items, offered, put_out, port_after, end_after, FlagPasses};
 
 use crate::added::Added;

@@ -1,7 +1,7 @@
 ghost use Rattle.std.specs.Prelude.{◌≡◌, ◌+◌, ◌<◌, ◌≤◌, ◌==◌, ◌&&◌, ◌∷◌, ◌++◌, [], length, not, IfOk, true, false, vec_capacity};
 ghost use Rattle.std.specs.List.{list_any};
 ghost use Rattle.pl_event.specs.declared.envelopes.Kind.TheVariants as kind;
-ghost use Rattle.pl_context.specs.Stopped.{same_hop, has_stopped, any_stopped, with_stop, HasPlaces, no_stops};
+ghost use Rattle.pl_context.specs.Stops.{same_hop, has_stopped, any_stopped, with_stop, HasPlaces, no_stops};
 
 use pl_event::{Kind, Lane};
 use std::alloc::{AllocError, Global};
@@ -20,13 +20,13 @@ pub(crate) struct Stops {
 
 impl Model for Stops {
     ghost use Rattle.std.specs.Prelude.{vec_capacity};
-    ghost use Rattle.pl_context.specs.Stopped.{Stopped, IsStopped};
+    ghost use Rattle.pl_context.specs.Stops.{StopsView, IsStops};
 
-    ghost Value = { Stopped };
+    ghost Value = { StopsView };
 
     ghost view = { λ s. record { lanes = s.lanes.items; flag_lanes = s.flag_lanes.items; places = s.places } };
 
-    ghost invariant = { λ s. IsStopped s.lanes.items s.flag_lanes.items s.places (vec_capacity s.lanes) (vec_capacity s.flag_lanes) };
+    ghost invariant = { λ s. IsStops s.lanes.items s.flag_lanes.items s.places (vec_capacity s.lanes) (vec_capacity s.flag_lanes) };
 }
 
 impl Stops {

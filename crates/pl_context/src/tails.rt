@@ -4,8 +4,8 @@ ghost use Rattle.pl_event.specs.declared.envelopes.Kind.TheVariants as kind;
 ghost use Rattle.pl_context.specs.declared.standing.Standing.TheVariants as stands;
 ghost use Rattle.pl_context.specs.declared.standing.Took.TheVariants as took;
 ghost use Rattle.pl_context.specs.Standings.{is_over, has_failed, cause_of};
-ghost use Rattle.pl_context.specs.Stations.{number_limit, one_of};
-ghost use Rattle.pl_context.specs.Recordings.{new_recording, EntersTail, kind_taken, taken_of, counted, RecordsItem, RecordsFlagItem, RecordsFlag, SamePlace};
+ghost use Rattle.pl_context.specs.ContextViews.{number_limit, one_of};
+ghost use Rattle.pl_context.specs.TailViews.{new_tail, EntersTail, kind_taken, taken_of, counted, RecordsItem, RecordsFlagItem, RecordsFlag, SamePlace};
 
 use crate::standing::{Standing, Took, has_failed, is_over};
 use pl_event::{Cause, Envelope, Event, Item, Kind, Lane, Sequence};
@@ -28,19 +28,19 @@ pub struct Tail {
 }
 
 impl Model for Tail {
-    ghost use Rattle.pl_context.specs.Recordings.{Recording, IsRecording};
+    ghost use Rattle.pl_context.specs.TailViews.{TailView, IsTail};
 
-    ghost Value = { Recording };
+    ghost Value = { TailView };
 
     ghost view = { λ t. record { channel = t.channel; hop = t.hop; taken = t.taken; flags_taken = t.flags_taken; standing = t.standing; events = t.events; flags = t.flags.items; flags_stopped = t.flags_stopped } };
 
-    ghost invariant = { λ t. IsRecording t.taken t.flags_taken };
+    ghost invariant = { λ t. IsTail t.taken t.flags_taken };
 }
 
 impl Tail {
     /// The tail of a channel whose pipeline has k inbound handlers. It takes no memory.
     pub fn new(alloc: Global, channel: u16, k: u16) -> Self
-        ensures { result ≡ new_recording channel k }
+        ensures { result ≡ new_tail channel k }
     {
         Tail {
             channel,

@@ -1,7 +1,7 @@
 ghost use Rattle.std.specs.Prelude.{◌≡◌, ◌==◌, ◌++◌, ◌∷◌, [], OnOk, OnErr};
 ghost use Rattle.pl_context.specs.declared.tests.Relay.{Relay};
 ghost use Rattle.pl_context.specs.Samples.{relaying, has_quit, relaying-lawful, passed_up, passed_down, is_complete, turned_by, sample_lane};
-ghost use Rattle.pl_context.specs.Stopped.{HasPlaces};
+ghost use Rattle.pl_context.specs.Stops.{HasPlaces};
 ghost use Rattle.pl_event.specs.declared.envelopes.Kind.TheVariants.{Data};
 
 use super::*;

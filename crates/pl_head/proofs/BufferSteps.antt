@@ -3,13 +3,13 @@ use Rattle.std.proofs.Common.{◌≡◌, ℕ, ◌+◌, ◌-◌, ◌<◌, List, [
 use Rattle.pl_event.specs.declared.events.Event.{Event}
 use Rattle.pl_event.specs.declared.outcomes.Outcome.{Outcome}
 use Rattle.pl_context.specs.declared.ports.Port.{Port}
-use Rattle.pl_context.specs.Listings.{Listing}
+use Rattle.pl_context.specs.OutputsViews.{OutputsView}
 use Rattle.pl_head.specs.declared.outbound.Waiting.{Waiting}
 use Rattle.pl_head.specs.Writes.{write_by, is_flush, flushed_writes, unflushed_writes, out, outcomes, waiting_bytes}
-use Rattle.pl_head.specs.Queue.{QueueStands, first_size, queue_size}
+use Rattle.pl_head.specs.WaitingMessages.{MessagesStand, first_size, queue_size}
 use Rattle.pl_head.specs.Marks.{Change, Removed}
 use Rattle.pl_head.specs.WritabilityStand.{Watermarks, SendsFlags}
-use Rattle.pl_head.specs.Buffers.{Buffered, BufferStands, write_sizes, event_sizes}
+use Rattle.pl_head.specs.Buffers.{WriteBufferView, BufferStands, write_sizes, event_sizes}
 use Rattle.pl_head.proofs.Buffering.{outcomes_stand}
 use Rattle.pl_head.proofs.WaitingSizes.{waiting_stand}
 
@@ -17,7 +17,7 @@ use Rattle.pl_head.proofs.WaitingSizes.{waiting_stand}
 pub whole_size : (accepted left whole : List ℕ) → accepted ++ left ≡ whole → length accepted + length left ≡ length whole
 whole_size accepted left whole e = sym (length-append accepted left) ∙ ap (λ (t : List ℕ). length t) e
 
-module _ (accepted : List ℕ) (b : Buffered) (ys : List Event) (ended : Bool) (sizes : List Change) (s : BufferStands accepted b ys ended sizes) (rests : 0 < b.flushed → b.offset < first_size b.queue) where
+module _ (accepted : List ℕ) (b : WriteBufferView) (ys : List Event) (ended : Bool) (sizes : List Change) (s : BufferStands accepted b ys ended sizes) (rests : 0 < b.flushed → b.offset < first_size b.queue) where
   pub waits : b.pending ≡ queue_size b.queue → b.pending ≡ waiting_bytes ys (length accepted) ended
   waits is =
       is ∙ waiting_stand b.queue b.offset b.flushed b.outcomes ys accepted s.left ended s.queue rests s.output
@@ -29,7 +29,7 @@ module _ (accepted : List ℕ) (b : Buffered) (ys : List Event) (ended : Bool) (
   -- what a step removes, by the bytes that waited before it and after
   pub removed : b.pending ≡ queue_size b.queue → {queue : List Waiting} {offset count : ℕ} {os : List (Option Outcome)} {left : List ℕ}
       → (accepted' : List ℕ) (ys' : List Event) (ended' : Bool) (size : ℕ)
-      → QueueStands queue offset count os (flushed_writes ys') (unflushed_writes ys') left ended' → (0 < count → offset < first_size queue) → accepted' ++ left ≡ out ys'
+      → MessagesStand queue offset count os (flushed_writes ys') (unflushed_writes ys') left ended' → (0 < count → offset < first_size queue) → accepted' ++ left ≡ out ys'
       → queue_size b.queue ≡ size + queue_size queue
       → size ≡ waiting_bytes ys (length accepted) ended - waiting_bytes ys' (length accepted') ended'
   removed is {queue = queue} {offset = offset} {count = count} {os = os} {left = left} accepted' ys' ended' size q rests' output parts =
@@ -42,7 +42,7 @@ pub same_marks : {low high pending : ℕ} {unwritable : Bool} {port : Port} (cs 
 same_marks {low = low} {high = high} {pending = pending} {unwritable = unwritable} {port = port} cs e m =
     subst (λ (t : List Change). Watermarks low high pending unwritable port (cs ++ t)) (sym e) m
 
-pub same_flags : {low high : ℕ} {p p' : Port} {before after : Listing} (cs : List Change) {more more' : List Change} → more' ≡ more → SendsFlags low high cs more p before p' after → SendsFlags low high cs more' p before p' after
+pub same_flags : {low high : ℕ} {p p' : Port} {before after : OutputsView} (cs : List Change) {more more' : List Change} → more' ≡ more → SendsFlags low high cs more p before p' after → SendsFlags low high cs more' p before p' after
 same_flags {low = low} {high = high} {p = p} {p' = p'} {before = before} {after = after} cs e f =
     subst (λ (t : List Change). SendsFlags low high cs t p before p' after) (sym e) f
 

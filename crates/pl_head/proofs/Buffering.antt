@@ -7,7 +7,7 @@ use Rattle.pl_event.specs.declared.outcomes.Outcome.{Outcome}
 use Rattle.pl_event.specs.declared.outcomes.Outcome.TheVariants.{Success, Closed, Unsupported}
 use Rattle.pl_head.specs.declared.outbound.Waiting.{Waiting}
 use Rattle.pl_head.specs.Writes.{bytes_of, waiting, closed, unflushed_outcome, outcomes_from}
-use Rattle.pl_head.specs.Queue.{closed_all, numbered, settled, first_size, QueueStands}
+use Rattle.pl_head.specs.WaitingMessages.{closed_all, numbered, settled, first_size, MessagesStand}
 
 pub numbered-append : (n : ℕ) (xs ys : List (Option (List ℕ))) → numbered n (xs ++ ys) ≡ numbered n xs ++ numbered (n + length xs) ys
 numbered-append n [] ys = let e : n ≡ n + 0 = omega arith in ap (λ (k : ℕ). numbered k ys) e
@@ -112,7 +112,7 @@ set-first n (Some b ∷ ws) more h = refl
 
 -- how many outcomes there are
 length-outcomes : {queue : List Waiting} {offset count : ℕ} {outcomes : List (Option Outcome)} {flushed unflushed : List (Option (List ℕ))} {left : List ℕ} {ended : Bool}
-    → QueueStands queue offset count outcomes flushed unflushed left ended → length outcomes ≡ length flushed + length unflushed
+    → MessagesStand queue offset count outcomes flushed unflushed left ended → length outcomes ≡ length flushed + length unflushed
 length-outcomes {unflushed = unflushed} {ended = ended} s =
     let parts = length-append (map settled s.done) (map waiting s.mid ++ map (unflushed_outcome ended) unflushed) in
     let inner = length-append (map waiting s.mid) (map (unflushed_outcome ended) unflushed) in
@@ -122,7 +122,7 @@ length-outcomes {unflushed = unflushed} {ended = ended} s =
 
 -- equal parts may stand after the same writes
 pub same_parts : {queue queue' : List Waiting} {offset count count' : ℕ} {outcomes outcomes' : List (Option Outcome)} {flushed unflushed : List (Option (List ℕ))} {left : List ℕ} {ended : Bool}
-    → queue' ≡ queue → count' ≡ count → outcomes' ≡ outcomes → QueueStands queue offset count outcomes flushed unflushed left ended → QueueStands queue' offset count' outcomes' flushed unflushed left ended
+    → queue' ≡ queue → count' ≡ count → outcomes' ≡ outcomes → MessagesStand queue offset count outcomes flushed unflushed left ended → MessagesStand queue' offset count' outcomes' flushed unflushed left ended
 same_parts q c o s = record {
   done = s.done;
   mid = s.mid;
@@ -136,8 +136,8 @@ same_parts q c o s = record {
 
 module _ (queue : List Waiting) (offset count : ℕ) (outcomes : List (Option Outcome)) (flushed unflushed : List (Option (List ℕ))) (left : List ℕ) where
   -- one write more
-  pub adds : (w : Option (List ℕ)) → QueueStands queue offset count outcomes flushed unflushed left false
-      → QueueStands (queue ++ numbered (length outcomes) (w ∷ [])) offset count (outcomes ++ waiting w ∷ []) flushed (unflushed ++ w ∷ []) left false
+  pub adds : (w : Option (List ℕ)) → MessagesStand queue offset count outcomes flushed unflushed left false
+      → MessagesStand (queue ++ numbered (length outcomes) (w ∷ [])) offset count (outcomes ++ waiting w ∷ []) flushed (unflushed ++ w ∷ []) left false
   adds w s = record {
     done = s.done;
     mid = s.mid;
@@ -153,7 +153,7 @@ module _ (queue : List Waiting) (offset count : ℕ) (outcomes : List (Option Ou
   }
 
   -- all are flushed
-  pub flushes : QueueStands queue offset count outcomes flushed unflushed left false → QueueStands queue offset (length queue) outcomes (flushed ++ unflushed) [] (left ++ bytes_of unflushed) false
+  pub flushes : MessagesStand queue offset count outcomes flushed unflushed left false → MessagesStand queue offset (length queue) outcomes (flushed ++ unflushed) [] (left ++ bytes_of unflushed) false
   flushes s =
       let size : length flushed ≡ length s.done + length s.mid = rw (← s.split) (length-append s.done s.mid) in
       let together : queue ≡ numbered (length s.done) (s.mid ++ unflushed) =
@@ -175,7 +175,7 @@ module _ (queue : List Waiting) (offset count : ℕ) (outcomes : List (Option Ou
 
   module _ (ended : Bool) where
     -- more of the output is written
-    pub advances : (n : ℕ) → n ≤ length left → QueueStands queue offset count outcomes flushed unflushed left ended → QueueStands queue (offset + n) count outcomes flushed unflushed (drop n left) ended
+    pub advances : (n : ℕ) → n ≤ length left → MessagesStand queue offset count outcomes flushed unflushed left ended → MessagesStand queue (offset + n) count outcomes flushed unflushed (drop n left) ended
     advances n h s =
         let size = ap (λ (t : List ℕ). length t) s.rest in
         record {
@@ -191,13 +191,13 @@ module _ (queue : List Waiting) (offset count : ℕ) (outcomes : List (Option Ou
         }
 
     -- no message is flushed, so nothing is left
-    pub nothing_left : QueueStands queue offset count outcomes flushed unflushed left ended → count ≡ 0 → left ≡ []
+    pub nothing_left : MessagesStand queue offset count outcomes flushed unflushed left ended → count ≡ 0 → left ≡ []
     nothing_left s h =
         let none = bytes_of-none (length s.done) s.mid (sym s.count_is ∙ h) in
         sym s.rest ∙ ap (λ (t : List ℕ). drop offset t) none ∙ drop-nil offset
 
     -- what is left begins with the rest of the first message
-    pub front_first : (first : Waiting) → QueueStands queue offset count outcomes flushed unflushed left ended → 0 < count → first ≡ get_or queue 0 first → offset ≤ length first.bytes
+    pub front_first : (first : Waiting) → MessagesStand queue offset count outcomes flushed unflushed left ended → 0 < count → first ≡ get_or queue 0 first → offset ≤ length first.bytes
         → (rest : List ℕ) × (drop offset first.bytes ++ rest ≡ left)
     front_first first s h is fits =
         let f = first_of (length s.done) s.mid (omega (arith, h, s.count_is)) in
@@ -207,8 +207,8 @@ module _ (queue : List Waiting) (offset count : ℕ) (outcomes : List (Option Ou
 
 -- a message that has left whole is settled
 pub settles : (first : Waiting) (queue : List Waiting) (offset count : ℕ) (outcomes : List (Option Outcome)) (flushed unflushed : List (Option (List ℕ))) (left : List ℕ) (ended : Bool)
-    → QueueStands (first ∷ queue) offset count outcomes flushed unflushed left ended → 0 < count → offset ≡ length first.bytes
-    → QueueStands queue 0 (count - 1) (set outcomes first.number (Some Success)) flushed unflushed left ended
+    → MessagesStand (first ∷ queue) offset count outcomes flushed unflushed left ended → 0 < count → offset ≡ length first.bytes
+    → MessagesStand queue 0 (count - 1) (set outcomes first.number (Some Success)) flushed unflushed left ended
 settles first queue offset count outcomes flushed unflushed left ended s h whole =
     let f = first_of (length s.done) s.mid (omega (arith, h, s.count_is)) in
     let tail : List Waiting = if ended then [] else numbered (length flushed) unflushed in
@@ -277,7 +277,7 @@ outcomes-done start accepted (Some b ∷ done) ws h =
     rw test (ap (λ (t : List (Option Outcome)). Some Success ∷ t) (outcomes-done (start + length b) accepted done ws (omega (arith, e, h)) ∙ ap (λ (k : ℕ). map settled done ++ outcomes_from k accepted ws) e))
 
 pub outcomes_stand : (queue : List Waiting) (offset count : ℕ) (outcomes : List (Option Outcome)) (flushed unflushed : List (Option (List ℕ))) (left : List ℕ) (ended : Bool)
-    → QueueStands queue offset count outcomes flushed unflushed left ended → (0 < count → offset < first_size queue) → (accepted : ℕ) → accepted + length left ≡ length (bytes_of flushed)
+    → MessagesStand queue offset count outcomes flushed unflushed left ended → (0 < count → offset < first_size queue) → (accepted : ℕ) → accepted + length left ≡ length (bytes_of flushed)
     → outcomes ≡ outcomes_from 0 accepted flushed ++ map (unflushed_outcome ended) unflushed
 outcomes_stand queue offset count outcomes flushed unflushed left ended s at_rest accepted a =
     let tail : List Waiting = if ended then [] else numbered (length flushed) unflushed in
@@ -320,7 +320,7 @@ closed-numbered n before (Some b ∷ ws) h =
 
 -- all unflushed messages are closed
 pub closes : (queue : List Waiting) (offset count : ℕ) (outcomes : List (Option Outcome)) (flushed unflushed : List (Option (List ℕ))) (left : List ℕ)
-    → QueueStands queue offset count outcomes flushed unflushed left false → QueueStands (take count queue) offset count (closed_all (drop count queue) outcomes) flushed unflushed left true
+    → MessagesStand queue offset count outcomes flushed unflushed left false → MessagesStand (take count queue) offset count (closed_all (drop count queue) outcomes) flushed unflushed left true
 closes queue offset count outcomes flushed unflushed left s =
     let front : List Waiting = numbered (length s.done) s.mid in
     let tail : List Waiting = numbered (length flushed) unflushed in

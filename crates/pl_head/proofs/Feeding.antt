@@ -10,8 +10,8 @@ use Rattle.pl_event.specs.declared.envelopes.Lane.{Lane}
 use Rattle.pl_event.specs.declared.envelopes.Envelope.{Envelope}
 use Rattle.pl_event.specs.Inputs.{burst_events}
 use Rattle.pl_context.specs.declared.ports.Port.{Port}
-use Rattle.pl_context.specs.Stopped.{HasPlaces}
-use Rattle.pl_context.specs.Listings.{Listing, PutsAll}
+use Rattle.pl_context.specs.Stops.{HasPlaces}
+use Rattle.pl_context.specs.OutputsViews.{OutputsView, PutsAll}
 use Rattle.pl_context.specs.Ports.{as_items, numbered}
 use Rattle.pl_context.proofs.PortLemmas.{as_items-append, numbered-append, puts_all-append}
 
@@ -30,7 +30,7 @@ reads_of-append [] b = refl
 reads_of-append (x ∷ a) b = ap (λ (t : List Item). item.Event (read_of x) ∷ t) (reads_of-append a b)
 
 -- items behind others
-put_behind : (lane : Lane) (n m : ℕ) (a b : List Item) (before now after : Listing) → m ≡ n + length a → PutsAll before (numbered lane n a) now → PutsAll now (numbered lane m b) after
+put_behind : (lane : Lane) (n m : ℕ) (a b : List Item) (before now after : OutputsView) → m ≡ n + length a → PutsAll before (numbered lane n a) now → PutsAll now (numbered lane m b) after
     → PutsAll before (numbered lane n (a ++ b)) after
 put_behind lane n m a b before now after is h k =
     subst (λ (es : List Envelope). PutsAll before es after)
@@ -38,18 +38,18 @@ put_behind lane n m a b before now after is h k =
     (puts_all-append before now after (numbered lane n a) (numbered lane m b) h k)
 
 -- A port p was given the first of these chunks, and these are left: it is q now, and the list before is now.
-pub record Feeding (p q : Port) (before now : Listing) (all left : List (List ℕ)) : Type 0 where
+pub record Feeding (p q : Port) (before now : OutputsView) (all left : List (List ℕ)) : Type 0 where
   pub done : List (List ℕ)
   pub split : done ++ left ≡ all
   pub port : q ≡ record p { made = p.made + length done }
   pub puts : PutsAll before (numbered p.lane p.made (reads_of done)) now
   pub place : HasPlaces now.stopped (p.lane ∷ [])
 
-pub feeding-start : (p : Port) (before : Listing) (all : List (List ℕ)) → HasPlaces before.stopped (p.lane ∷ []) → Feeding p p before before all all
+pub feeding-start : (p : Port) (before : OutputsView) (all : List (List ℕ)) → HasPlaces before.stopped (p.lane ∷ []) → Feeding p p before before all all
 feeding-start p before all place =
     record { done = []; split = refl; port = ap (λ (k : ℕ). record p { made = k }) (sym (add-zero p.made)); puts = (refl, refl, omega arith); place = place }
 
-pub feeding-step : (p q q' : Port) (before now after : Listing) (all left : List (List ℕ)) (chunk : List ℕ) → Feeding p q before now all (chunk ∷ left)
+pub feeding-step : (p q q' : Port) (before now after : OutputsView) (all left : List (List ℕ)) (chunk : List ℕ) → Feeding p q before now all (chunk ∷ left)
     → q' ≡ record q { made = q.made + 1 } → PutsAll now (numbered q.lane q.made (item.Event (read_of chunk) ∷ [])) after → HasPlaces after.stopped (q.lane ∷ [])
     → Feeding p q' before after all left
 feeding-step p q q' before now after all left chunk f next puts place =
@@ -69,7 +69,7 @@ feeding-step p q q' before now after all left chunk f next puts place =
     }
 
 -- all of them were given
-pub feeding-end : (p q : Port) (before now after : Listing) (all : List (List ℕ)) → Feeding p q before now all []
+pub feeding-end : (p q : Port) (before now after : OutputsView) (all : List (List ℕ)) → Feeding p q before now all []
     → PutsAll now (numbered q.lane q.made (item.Event event.ReadComplete ∷ [])) after
     → PutsAll before (numbered p.lane p.made (as_items (burst_events all))) after
 feeding-end p q before now after all f puts =

@@ -6,8 +6,8 @@ use Rattle.pl_event.specs.declared.events.Message.TheVariants.{Bytes, Line, Comm
 use Rattle.pl_event.specs.declared.envelopes.Item.{Item}
 use Rattle.pl_event.specs.declared.envelopes.Item.TheVariants as item
 use Rattle.pl_context.specs.declared.ports.Port.{Port}
-use Rattle.pl_context.specs.Stopped.{has_stopped}
-use Rattle.pl_context.specs.Listings.{Listing}
+use Rattle.pl_context.specs.Stops.{has_stopped}
+use Rattle.pl_context.specs.OutputsViews.{OutputsView}
 use Rattle.pl_head.specs.declared.heads.OutStep.{OutStep}
 use Rattle.pl_head.specs.declared.heads.OutStep.TheVariants as step
 use Rattle.pl_head.specs.Marks.{Change, Removed, flags, is_unwritable, turning}
@@ -39,7 +39,7 @@ added-few low high cs (c ∷ []) added few e =
 added-few low high cs (c ∷ d ∷ more) added few e = absurd (omega (arith, few))
 
 -- where the lane goes on and there is room for one, what one change sends is all there
-pub sent_with_room : (low high : ℕ) (cs more : List Change) (p p' : Port) (before after : Listing) (s : SendsFlags low high cs more p before p' after)
+pub sent_with_room : (low high : ℕ) (cs more : List Change) (p p' : Port) (before after : OutputsView) (s : SendsFlags low high cs more p before p' after)
     → length more ≤ 1 → p.is_open ≡ true → has_stopped before.stopped p.lane ≡ false → 0 < before.room → AllSent s.added p before p' after
 sent_with_room low high cs more p p' before after s few open_ goes room =
     let one = added-few low high cs more s.added few s.flags_are in

@@ -8,8 +8,8 @@ use Rattle.pl_event.specs.declared.envelopes.Envelope.{Envelope}
 use Rattle.pl_context.specs.declared.added.Added.{Added}
 use Rattle.pl_context.specs.declared.added.Added.TheVariants.{Last, Refused, Discarded}
 use Rattle.pl_context.specs.declared.ports.Port.{Port}
-use Rattle.pl_context.specs.Stopped.{Stopped, HasPlaces, AreAmong, has_stopped, with_stop}
-use Rattle.pl_context.specs.Listings.{Listing, Puts, added_items, stopped_after}
+use Rattle.pl_context.specs.Stops.{StopsView, HasPlaces, AreAmong, has_stopped, with_stop}
+use Rattle.pl_context.specs.OutputsViews.{OutputsView, Puts, added_items, stopped_after}
 use Rattle.pl_context.specs.Ports.{FlagPasses, flag_port_after, numbered}
 use Rattle.pl_context.proofs.Places.{places-put}
 use Rattle.pl_head.specs.FlagLanes.{FlagsPass, AllSent, as_flags}
@@ -19,7 +19,7 @@ open-not-closed true h k = cc
 open-not-closed false h k = cc
 
 -- a closed lane sends none
-pub pass_closed : (values : List Bool) (p p' : Port) (before after : Listing) → FlagsPass values p before p' after → p.is_open ≡ false → (p' ≡ p) × (after ≡ before)
+pub pass_closed : (values : List Bool) (p p' : Port) (before after : OutputsView) → FlagsPass values p before p' after → p.is_open ≡ false → (p' ≡ p) × (after ≡ before)
 pass_closed [] p p' before after h shut = (h.0, h.1)
 pass_closed (v ∷ vs) p p' before after h shut =
     let first = h.2.closed shut in
@@ -27,7 +27,7 @@ pass_closed (v ∷ vs) p p' before after h shut =
     (rest.0 ∙ first.0, rest.1 ∙ first.1)
 
 -- one flag, for which a place was found
-record OneSent (v : Bool) (p mid : Port) (before between : Listing) : Type 0 where
+record OneSent (v : Bool) (p mid : Port) (before between : OutputsView) : Type 0 where
   items : between.items ≡ before.items ++ record { lane = p.lane; number = p.made; item = item.Flag v } ∷ []
   stopped : between.stopped ≡ before.stopped
   room : before.room ≤ between.room + 1
@@ -36,7 +36,7 @@ record OneSent (v : Bool) (p mid : Port) (before between : Listing) : Type 0 whe
 abbrev flag_envelope : Port → Bool → Envelope
 flag_envelope p v = record { lane = p.lane; number = p.made; item = item.Flag v }
 
-one_sent : (v : Bool) (p mid : Port) (before between : Listing) (answer : Added) → answer ≡ Last → mid ≡ flag_port_after answer p → Puts before (flag_envelope p v) answer between
+one_sent : (v : Bool) (p mid : Port) (before between : OutputsView) (answer : Added) → answer ≡ Last → mid ≡ flag_port_after answer p → Puts before (flag_envelope p v) answer between
     → OneSent v p mid before between
 one_sent v p mid before between answer last is puts = record {
   items = puts.items ∙ ap (λ (a : Added). before.items ++ added_items a (flag_envelope p v)) last;
@@ -45,7 +45,7 @@ one_sent v p mid before between answer last is puts = record {
   port = is ∙ ap (λ (a : Added). flag_port_after a p) last;
 }
 
-then_all : (v : Bool) (vs : List Bool) (p mid p' : Port) (before between after : Listing) → OneSent v p mid before between → AllSent vs mid between p' after → AllSent (v ∷ vs) p before p' after
+then_all : (v : Bool) (vs : List Bool) (p mid p' : Port) (before between after : OutputsView) → OneSent v p mid before between → AllSent vs mid between p' after → AllSent (v ∷ vs) p before p' after
 then_all v vs p mid p' before between after one all =
     let count : p.made + 1 + length vs ≡ p.made + length (v ∷ vs) = omega arith in
     record {
@@ -62,7 +62,7 @@ then_all v vs p mid p' before between after one all =
     }
 
 -- where the lane is open behind them, all were sent
-module _ (v : Bool) (vs : List Bool) (p mid p' : Port) (before between after : Listing) (rest : FlagsPass vs mid between p' after) (open_ : p'.is_open ≡ true) where
+module _ (v : Bool) (vs : List Bool) (p mid p' : Port) (before between after : OutputsView) (rest : FlagsPass vs mid between p' after) (open_ : p'.is_open ≡ true) where
   stays_closed : mid.is_open ≡ false → ⊥
   stays_closed shut =
       open-not-closed p'.is_open open_ (ap (λ (q : Port). q.is_open) (pass_closed vs mid p' between after rest shut).0 ∙ shut)
@@ -76,10 +76,10 @@ module _ (v : Bool) (vs : List Bool) (p mid p' : Port) (before between after : L
   was_open first true is = is
   was_open first false is = absurd (stays_closed (ap (λ (q : Port). q.is_open) (first.closed is).0 ∙ is))
 
-pub all_sent : (values : List Bool) (p p' : Port) (before after : Listing) → FlagsPass values p before p' after → p'.is_open ≡ true → AllSent values p before p' after
+pub all_sent : (values : List Bool) (p p' : Port) (before after : OutputsView) → FlagsPass values p before p' after → p'.is_open ≡ true → AllSent values p before p' after
 all_sent [] p p' before after h open_ = record {
-  items = ap (λ (l : Listing). l.items) h.1 ∙ sym (append-nil before.items);
-  stopped = ap (λ (l : Listing). l.stopped) h.1;
+  items = ap (λ (l : OutputsView). l.items) h.1 ∙ sym (append-nil before.items);
+  stopped = ap (λ (l : OutputsView). l.stopped) h.1;
   port = h.0 ∙ ap (λ (n : ℕ). record p { made = n }) (sym (add-zero p.made));
 }
 all_sent (v ∷ vs) p p' before after h open_ =
@@ -89,10 +89,10 @@ all_sent (v ∷ vs) p p' before after h open_ =
 
 -- ---- where it is open
 
-goes_on : (s : Stopped) (p mid : Port) (t : Stopped) → t ≡ s → mid.lane ≡ p.lane → has_stopped s p.lane ≡ false → has_stopped t mid.lane ≡ false
-goes_on s p mid t same lane h = ap (λ (u : Stopped). has_stopped u mid.lane) same ∙ ap (λ (l : Lane). has_stopped s l) lane ∙ h
+goes_on : (s : StopsView) (p mid : Port) (t : StopsView) → t ≡ s → mid.lane ≡ p.lane → has_stopped s p.lane ≡ false → has_stopped t mid.lane ≡ false
+goes_on s p mid t same lane h = ap (λ (u : StopsView). has_stopped u mid.lane) same ∙ ap (λ (l : Lane). has_stopped s l) lane ∙ h
 
-pub open_by_room : (values : List Bool) (p p' : Port) (before after : Listing) → FlagsPass values p before p' after → p.is_open ≡ true
+pub open_by_room : (values : List Bool) (p p' : Port) (before after : OutputsView) → FlagsPass values p before p' after → p.is_open ≡ true
     → has_stopped before.stopped p.lane ≡ false → length values ≤ before.room → p'.is_open ≡ true
 open_by_room [] p p' before after h open_ goes room = ap (λ (q : Port). q.is_open) h.0 ∙ open_
 open_by_room (v ∷ vs) p p' before after h open_ goes room =
@@ -103,32 +103,32 @@ open_by_room (v ∷ vs) p p' before after h open_ goes room =
     (goes_on before.stopped p h.0 h.1.stopped one.stopped (ap (λ (q : Port). q.lane) one.port) goes) (omega (arith, room, one.room))
 
 -- one lane more has stopped
-abbrev pub stops : Stopped → ℕ
+abbrev pub stops : StopsView → ℕ
 stops s = length s.lanes + length s.flag_lanes
 
-pub more_stops : (s : Stopped) (lane : Lane) → stops (with_stop s lane) ≡ stops s + 1
+pub more_stops : (s : StopsView) (lane : Lane) → stops (with_stop s lane) ≡ stops s + 1
 more_stops s lane = by lane.kind refl
   where
     by : (k : Kind) → lane.kind ≡ k → stops (with_stop s lane) ≡ stops s + 1
     by Data is =
-        ap (λ (k : Kind). stops (elim k as (λ _. Stopped) [ Data ↦ record s { lanes = s.lanes ++ lane ∷ [] } | Flags ↦ record s { flag_lanes = s.flag_lanes ++ lane ∷ [] } ])) is
+        ap (λ (k : Kind). stops (elim k as (λ _. StopsView) [ Data ↦ record s { lanes = s.lanes ++ lane ∷ [] } | Flags ↦ record s { flag_lanes = s.flag_lanes ++ lane ∷ [] } ])) is
         ∙ omega (arith, length-append s.lanes (lane ∷ []))
     by Flags is =
-        ap (λ (k : Kind). stops (elim k as (λ _. Stopped) [ Data ↦ record s { lanes = s.lanes ++ lane ∷ [] } | Flags ↦ record s { flag_lanes = s.flag_lanes ++ lane ∷ [] } ])) is
+        ap (λ (k : Kind). stops (elim k as (λ _. StopsView) [ Data ↦ record s { lanes = s.lanes ++ lane ∷ [] } | Flags ↦ record s { flag_lanes = s.flag_lanes ++ lane ∷ [] } ])) is
         ∙ omega (arith, length-append s.flag_lanes (lane ∷ []))
 
 -- nothing has stopped, so the flag found a place
-module _ (v : Bool) (vs : List Bool) (p mid p' : Port) (before between after : Listing) (rest : FlagsPass vs mid between p' after) where
+module _ (v : Bool) (vs : List Bool) (p mid p' : Port) (before between after : OutputsView) (rest : FlagsPass vs mid between p' after) where
   found : (answer : Added) → mid ≡ flag_port_after answer p → Puts before (flag_envelope p v) answer between → has_stopped before.stopped p.lane ≡ false → after.stopped ≡ before.stopped → answer ≡ Last
   found Last is puts goes same = refl
   found Refused is puts goes same =
       let shut = ap (λ (q : Port). q.is_open) is in
-      let end : after.stopped ≡ with_stop before.stopped p.lane = ap (λ (l : Listing). l.stopped) (pass_closed vs mid p' between after rest shut).1 ∙ puts.stopped in
+      let end : after.stopped ≡ with_stop before.stopped p.lane = ap (λ (l : OutputsView). l.stopped) (pass_closed vs mid p' between after rest shut).1 ∙ puts.stopped in
       let count = ap stops (sym same ∙ end) ∙ more_stops before.stopped p.lane in
       absurd (omega (arith, count))
   found Discarded is puts goes same = absurd (open-not-closed (has_stopped before.stopped p.lane) (puts.discarded.0 refl) goes)
 
-pub open_unstopped : (values : List Bool) (p p' : Port) (before after : Listing) → FlagsPass values p before p' after → p.is_open ≡ true
+pub open_unstopped : (values : List Bool) (p p' : Port) (before after : OutputsView) → FlagsPass values p before p' after → p.is_open ≡ true
     → has_stopped before.stopped p.lane ≡ false → after.stopped ≡ before.stopped → p'.is_open ≡ true
 open_unstopped [] p p' before after h open_ goes same = ap (λ (q : Port). q.is_open) h.0 ∙ open_
 open_unstopped (v ∷ vs) p p' before after h open_ goes same =
@@ -145,18 +145,18 @@ same_lane Last p = refl
 same_lane Refused p = refl
 same_lane Discarded p = refl
 
-pub places_stay : (values : List Bool) (p p' : Port) (before after : Listing) (lanes : List Lane) → FlagsPass values p before p' after
+pub places_stay : (values : List Bool) (p p' : Port) (before after : OutputsView) (lanes : List Lane) → FlagsPass values p before p' after
     → HasPlaces before.stopped lanes → AreAmong (p.lane ∷ []) lanes → HasPlaces after.stopped lanes
 places_stay [] p p' before after lanes h places own =
-    subst (λ (l : Listing). HasPlaces l.stopped lanes) (sym h.1) places
+    subst (λ (l : OutputsView). HasPlaces l.stopped lanes) (sym h.1) places
 places_stay (v ∷ vs) p p' before after lanes h places own = by p.is_open refl (λ mid between rest more lane. places_stay vs mid p' between after lanes rest more lane)
   where
     by : (b : Bool) → p.is_open ≡ b
-        → ((mid : Port) (between : Listing) → FlagsPass vs mid between p' after → HasPlaces between.stopped lanes → AreAmong (mid.lane ∷ []) lanes → HasPlaces after.stopped lanes)
+        → ((mid : Port) (between : OutputsView) → FlagsPass vs mid between p' after → HasPlaces between.stopped lanes → AreAmong (mid.lane ∷ []) lanes → HasPlaces after.stopped lanes)
         → HasPlaces after.stopped lanes
     by false is rest =
         let all = pass_closed (v ∷ vs) p p' before after h is in
-        subst (λ (l : Listing). HasPlaces l.stopped lanes) (sym all.1) places
+        subst (λ (l : OutputsView). HasPlaces l.stopped lanes) (sym all.1) places
     by true is rest =
         let put = h.2.put is in
         let lane : h.0.lane ≡ p.lane = ap (λ (q : Port). q.lane) put.1 ∙ same_lane put.0 p in

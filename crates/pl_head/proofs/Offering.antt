@@ -5,7 +5,7 @@ use Rattle.std.proofs.lemmas.Bool.Decides.{nat_tests}
 use Rattle.pl_event.specs.declared.outcomes.Outcome.{Outcome}
 use Rattle.pl_head.specs.declared.outbound.Waiting.{Waiting}
 use Rattle.pl_head.specs.Writes.{bytes_of, offered}
-use Rattle.pl_head.specs.Queue.{numbered, first_size, QueueStands}
+use Rattle.pl_head.specs.WaitingMessages.{numbered, first_size, MessagesStand}
 use Rattle.pl_head.proofs.Buffering.{bytes_of-append}
 
 offered-done : (start accepted : ℕ) (done ws : List (Option (List ℕ))) → start + length (bytes_of done) ≤ accepted → offered start accepted (done ++ ws) ≡ offered (start + length (bytes_of done)) accepted ws
@@ -27,7 +27,7 @@ offered-first n start accepted offset (Some b ∷ ws) more some at below =
     rw test (omega (arith, at, below))
 
 module _ (queue : List Waiting) (offset count : ℕ) (outcomes : List (Option Outcome)) (flushed unflushed : List (Option (List ℕ))) (left : List ℕ) (ended : Bool)
-    (s : QueueStands queue offset count outcomes flushed unflushed left ended) (accepted : ℕ) (whole : accepted + length left ≡ length (bytes_of flushed)) where
+    (s : MessagesStand queue offset count outcomes flushed unflushed left ended) (accepted : ℕ) (whole : accepted + length left ≡ length (bytes_of flushed)) where
   place : accepted ≡ length (bytes_of s.done) + offset
   place =
       let parts = ap (λ (t : List (Option (List ℕ))). length (bytes_of t)) (sym s.split) ∙ ap (λ (t : List ℕ). length t) (bytes_of-append s.done s.mid) ∙ length-append (bytes_of s.done) (bytes_of s.mid) in

@@ -16,7 +16,7 @@ use Rattle.pl_context.specs.declared.ports.Port.{Port}
 use Rattle.pl_context.specs.Ports.{as_items, all_go_on, port_after}
 use Rattle.pl_context.proofs.PortLemmas.{all_go_on-events}
 use Rattle.pl_head.specs.ReadSteps.{step_count, end_if, step_items, read_items, is_burst}
-use Rattle.pl_head.specs.InputStand.{Reading, next_items, left_after, burst_next, reading_after, InputStands, items_left}
+use Rattle.pl_head.specs.InputStand.{InputView, next_items, left_after, burst_next, input_after_step, InputStands, items_left}
 
 -- ---- the steps of bursts
 
@@ -162,7 +162,7 @@ count_step bursts n within =
 
 -- ---- one step more was made
 
-module _ (bursts : List (List (List ℕ))) (reads : ℕ) (r : Reading) (s : InputStands bursts reads r) (open_ : r.port.is_open ≡ true) where
+module _ (bursts : List (List (List ℕ))) (reads : ℕ) (r : InputView) (s : InputStands bursts reads r) (open_ : r.port.is_open ≡ true) where
   is_left : reads < step_count bursts
   is_left = ltb-true reads (step_count bursts) (sym s.is_open ∙ open_)
 
@@ -172,7 +172,7 @@ module _ (bursts : List (List (List ℕ))) (reads : ℕ) (r : Reading) (s : Inpu
   pub items_of_step : next_items r.steps r.left ≡ step_items bursts reads
   items_of_step = ap (λ (n : ℕ). next_items n r.left) s.steps ∙ next.items
 
-  pub stands_after : InputStands bursts (reads + 1) (reading_after r)
+  pub stands_after : InputStands bursts (reads + 1) (input_after_step r)
   stands_after =
       let place : reads + 1 - 1 ≡ reads = omega arith in
       let more = ap (λ (is : List Item). length is) items_of_step in

@@ -6,7 +6,7 @@ use Rattle.pl_event.specs.declared.events.Event.{Event}
 use Rattle.pl_event.specs.declared.outcomes.Outcome.{Outcome}
 use Rattle.pl_head.specs.declared.outbound.Waiting.{Waiting}
 use Rattle.pl_head.specs.Writes.{waiting, unflushed_outcome, open_size, flushed_writes, unflushed_writes, out, waiting_bytes}
-use Rattle.pl_head.specs.Queue.{numbered, settled, first_size, queue_size, QueueStands}
+use Rattle.pl_head.specs.WaitingMessages.{numbered, settled, first_size, queue_size, MessagesStand}
 use Rattle.pl_head.proofs.Buffering.{outcomes_stand}
 
 pub queue_size-cons : (w : Waiting) (ws : List Waiting) → queue_size (w ∷ ws) ≡ length w.bytes + queue_size ws
@@ -42,7 +42,7 @@ open_size-tail n false (Some b ∷ ws) =
     ap (λ (k : ℕ). length b + k) (open_size-tail (n + 1) false ws) ∙ sym (queue_size-cons w (numbered (n + 1) ws))
 
 pub size_stands : (queue : List Waiting) (offset count : ℕ) (os : List (Option Outcome)) (flushed unflushed : List (Option (List ℕ))) (left : List ℕ) (ended : Bool)
-    → QueueStands queue offset count os flushed unflushed left ended → queue_size queue ≡ open_size (flushed ++ unflushed) os
+    → MessagesStand queue offset count os flushed unflushed left ended → queue_size queue ≡ open_size (flushed ++ unflushed) os
 size_stands queue offset count os flushed unflushed left ended s =
     let tail : List Waiting = if ended then [] else numbered (length flushed) unflushed in
     ap (λ (t : List Waiting). queue_size t) s.queue_is
@@ -55,7 +55,7 @@ size_stands queue offset count os flushed unflushed left ended s =
 
 -- the same by the events, and by how many bytes were accepted
 pub waiting_stand : (queue : List Waiting) (offset count : ℕ) (os : List (Option Outcome)) (ys : List Event) (accepted left : List ℕ) (ended : Bool)
-    → QueueStands queue offset count os (flushed_writes ys) (unflushed_writes ys) left ended → (0 < count → offset < first_size queue) → accepted ++ left ≡ out ys
+    → MessagesStand queue offset count os (flushed_writes ys) (unflushed_writes ys) left ended → (0 < count → offset < first_size queue) → accepted ++ left ≡ out ys
     → queue_size queue ≡ waiting_bytes ys (length accepted) ended
 waiting_stand queue offset count os ys accepted left ended s at_rest total =
     let size = sym (length-append accepted left) ∙ ap (λ (t : List ℕ). length t) total in

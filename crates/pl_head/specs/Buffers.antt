@@ -5,13 +5,13 @@ use Rattle.pl_event.specs.declared.outcomes.Outcome.{Outcome}
 use Rattle.pl_context.specs.declared.ports.Port.{Port}
 use Rattle.pl_head.specs.declared.outbound.Waiting.{Waiting}
 use Rattle.pl_head.specs.Writes.{write_by, is_flush, flushed_writes, unflushed_writes, out}
-use Rattle.pl_head.specs.Queue.{QueueStands}
+use Rattle.pl_head.specs.WaitingMessages.{MessagesStand}
 use Rattle.pl_head.specs.Marks.{Change, Added, Removed}
 use Rattle.pl_head.specs.WritabilityStand.{Watermarks}
 
 -- The messages that wait, the first of them flushed, with an offset into the first; the outcome of each write; the
 -- marks with the bytes that wait; and where flags go up.
-pub record Buffered : Type 0 where
+pub record WriteBufferView : Type 0 where
   pub queue : List Waiting
   pub offset : ℕ
   pub flushed : ℕ
@@ -25,14 +25,14 @@ pub record Buffered : Type 0 where
 -- The buffer may stand after these events, when these bytes of their output were accepted and the lane has ended or
 -- not, and after these sizes were added and removed: it holds what is left of the output, and with what was accepted
 -- that is the whole.
-pub record BufferStands (accepted : List ℕ) (b : Buffered) (ys : List Event) (ended : Bool) (sizes : List Change) : Type 0 where
+pub record BufferStands (accepted : List ℕ) (b : WriteBufferView) (ys : List Event) (ended : Bool) (sizes : List Change) : Type 0 where
   pub left : List ℕ
-  pub queue : QueueStands b.queue b.offset b.flushed b.outcomes (flushed_writes ys) (unflushed_writes ys) left ended
+  pub queue : MessagesStand b.queue b.offset b.flushed b.outcomes (flushed_writes ys) (unflushed_writes ys) left ended
   pub output : accepted ++ left ≡ out ys
   pub marks : Watermarks b.low b.high b.pending b.is_unwritable b.flags sizes
 
 -- the marks and the lane of flags stay
-pub record SameMarks (b b' : Buffered) : Type 0 where
+pub record SameMarks (b b' : WriteBufferView) : Type 0 where
   pub low : b'.low ≡ b.low
   pub high : b'.high ≡ b.high
   pub lane : b'.flags.lane ≡ b.flags.lane

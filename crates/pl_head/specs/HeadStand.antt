@@ -20,9 +20,9 @@ use Rattle.pl_head.specs.Writes.{out, waiting_bytes}
 use Rattle.pl_head.specs.Marks.{Change, Removed}
 use Rattle.pl_head.specs.FlagLanes.{flags_lane}
 use Rattle.pl_head.specs.Transports.{TransportState}
-use Rattle.pl_head.specs.Buffers.{Buffered, BufferStands, event_sizes}
+use Rattle.pl_head.specs.Buffers.{WriteBufferView, BufferStands, event_sizes}
 use Rattle.pl_head.specs.ReadSteps.{entrance, is_burst}
-use Rattle.pl_head.specs.InputStand.{Reading, InputStands}
+use Rattle.pl_head.specs.InputStand.{InputView, InputStands}
 
 -- The end of a channel at its transport: how many items of its lane it has taken, how that lane ended, why the head
 -- failed by itself, what waits to be written, and what is left to read.
@@ -33,8 +33,8 @@ pub record HeadView (T : Type 0) : Type 0 where
   pub taken : ℕ
   pub standing : Standing
   pub failure : Option Cause
-  pub buffer : Buffered
-  pub input : Reading
+  pub buffer : WriteBufferView
+  pub input : InputView
 
 module _ {T : Type 0} (state : T → TransportState) where
   -- The head may stand after it took these events, and after these sizes were added and removed.
@@ -138,7 +138,7 @@ abbrev pub HasFewFlags : {T : Type 0} → HeadView T → Type 0
 HasFewFlags h = h.buffer.flags.made + (if h.buffer.is_unwritable then 1 else 0) ≤ 2 * h.taken
 
 -- what is true of every head
-pub record IsHead (channel taken : ℕ) (b : Buffered) (input : Reading) : Type 0 where
+pub record IsHead (channel taken : ℕ) (b : WriteBufferView) (input : InputView) : Type 0 where
   pub lane : b.flags.lane ≡ flags_lane channel
   pub entrance_is : input.port.lane ≡ entrance channel
   pub pending : b.pending ≤ taken * 2 ^ 64

@@ -10,14 +10,14 @@ use Rattle.pl_context.specs.Ports.{as_items, port_after}
 use Rattle.pl_head.specs.ReadSteps.{entrance, step_count, read_items}
 
 -- The lane that the items are given to, closed once the end was; the bursts that are left; how many steps were made.
-pub record Reading : Type 0 where
+pub record InputView : Type 0 where
   pub port : Port
   pub left : List (List (List ℕ))
   pub steps : ℕ
 
 -- no step of these bursts was made
-abbrev pub new_reading : ℕ → List (List (List ℕ)) → Reading
-new_reading channel bursts =
+abbrev pub new_input : ℕ → List (List (List ℕ)) → InputView
+new_input channel bursts =
     record { port = record { lane = entrance channel; made = 0; is_open = true }; left = bursts; steps = 0 }
 
 -- what the next step brings, by the count of steps made and the bursts that are left
@@ -38,15 +38,15 @@ burst_next (suc n) [] = false
 burst_next (suc n) (chunks ∷ left) = true
 
 -- one step more was made
-abbrev pub reading_after : Reading → Reading
-reading_after r = record {
+abbrev pub input_after_step : InputView → InputView
+input_after_step r = record {
   port = port_after (next_items r.steps r.left) r.port;
   left = left_after r.steps r.left;
   steps = r.steps + 1;
 }
 
 -- So many read steps of these bursts were made, and given to the lane.
-pub record InputStands (bursts : List (List (List ℕ))) (reads : ℕ) (r : Reading) : Type 0 where
+pub record InputStands (bursts : List (List (List ℕ))) (reads : ℕ) (r : InputView) : Type 0 where
   pub steps : r.steps ≡ reads
   pub within : reads ≤ step_count bursts
   pub left : r.left ≡ drop (reads - 1) bursts
@@ -59,6 +59,6 @@ items_left zero left = length (flat_map burst_events left) + 2
 items_left (suc n) left = length (flat_map burst_events left) + 1
 
 -- numbers stay in their bounds
-pub record IsReading (port : Port) (left : List (List (List ℕ))) (steps : ℕ) : Type 0 where
+pub record IsInput (port : Port) (left : List (List (List ℕ))) (steps : ℕ) : Type 0 where
   pub counts : steps ≤ port.made
   pub few : port.is_open ≡ true → port.made + items_left steps left < 2 ^ 31

@@ -1,6 +1,6 @@
 pub mod Writes
 pub mod Effects
-pub mod Queue
+pub mod WaitingMessages
 pub mod OutboundStand
 pub mod Transports
 pub mod Marks

@@ -19,7 +19,7 @@ counted n = min (n + 1) (2 ^ 64 - 1)
 
 -- A transport over memory: the bytes that it accepted, and for how many more there is room without a growth. It accepts
 -- up to a window of bytes a call, and fails at the call of the number fail_at, from 1.
-pub record Store : Type 0 where
+pub record MemoryTransportView : Type 0 where
   pub bytes : List ℕ
   pub room : ℕ
   pub window : ℕ
@@ -28,13 +28,13 @@ pub record Store : Type 0 where
   pub failures : ℕ
 
 -- the number of the next call is the one that fails
-abbrev pub FailsNext : Store → Type 0
+abbrev pub FailsNext : MemoryTransportView → Type 0
 FailsNext s = s.fail_at ≡ Some (counted s.calls)
 
 -- how many of so many bytes a call accepts
-abbrev pub accepted_count : Store → ℕ → ℕ
+abbrev pub accepted_count : MemoryTransportView → ℕ → ℕ
 accepted_count s size = min size s.window
 
 -- It may refuse only at the call that is to fail, or where there is no room for what it would accept.
-abbrev pub MayFail : Store → ℕ → Type 0
+abbrev pub MayFail : MemoryTransportView → ℕ → Type 0
 MayFail s size = FailsNext s ⊎ (s.room < accepted_count s size)

@@ -1,7 +1,7 @@
 -- Marks with their lane of flags, and the list of changes after which they may stand.
 use Rattle.std.specs.Prelude.{◌≡◌, ℕ, ◌+◌, List, ◌++◌, length, Bool, true, if◌then◌else◌}
 use Rattle.pl_context.specs.declared.ports.Port.{Port}
-use Rattle.pl_context.specs.Listings.{Listing}
+use Rattle.pl_context.specs.OutputsViews.{OutputsView}
 use Rattle.pl_head.specs.Marks.{Change, flags}
 use Rattle.pl_head.specs.MarksStand.{MarksStand}
 use Rattle.pl_head.specs.FlagLanes.{FlagsPass}
@@ -13,7 +13,7 @@ pub record Watermarks (low high pending : ℕ) (unwritable : Bool) (port : Port)
   pub sent : port.is_open ≡ true → port.made ≡ length (flags low high cs)
 
 -- More changes send the flags that they add to those of the changes before, in order.
-pub record SendsFlags (low high : ℕ) (cs more : List Change) (p : Port) (before : Listing) (p' : Port) (after : Listing) : Type 0 where
+pub record SendsFlags (low high : ℕ) (cs more : List Change) (p : Port) (before : OutputsView) (p' : Port) (after : OutputsView) : Type 0 where
   pub added : List Bool
   pub flags_are : flags low high (cs ++ more) ≡ flags low high cs ++ added
   pub passes : FlagsPass added p before p' after

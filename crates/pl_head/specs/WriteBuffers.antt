@@ -1,9 +1,9 @@
 -- The fields of a write buffer, as contracts see them.
 use Rattle.pl_head.specs.declared.write_buffer.WriteBuffer.{WriteBuffer}
-use Rattle.pl_head.specs.Buffers.{Buffered}
+use Rattle.pl_head.specs.Buffers.{WriteBufferView}
 
-abbrev pub buffered : WriteBuffer → Buffered
-buffered b = record {
+abbrev pub write_buffer_view : WriteBuffer → WriteBufferView
+write_buffer_view b = record {
   queue = b.messages.queue.items;
   offset = b.messages.offset;
   flushed = b.messages.flushed;

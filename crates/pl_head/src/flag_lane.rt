@@ -1,7 +1,7 @@
 //! The lane on which the flags of a head go up.
 
 ghost use Rattle.std.specs.Prelude.{◌≡◌, ◌+◌, ◌<◌, ◌^◌, ◌∷◌, [], true};
-ghost use Rattle.pl_context.specs.Stopped.{HasPlaces};
+ghost use Rattle.pl_context.specs.Stops.{HasPlaces};
 ghost use Rattle.pl_context.specs.Ports.{FlagPasses};
 ghost use Rattle.pl_head.specs.FlagLanes.{flags_lane};
 

@@ -6,8 +6,8 @@ ghost use Rattle.pl_event.specs.Inputs.{recorded_input};
 ghost use Rattle.pl_context.specs.declared.standing.Standing.TheVariants as stands;
 ghost use Rattle.pl_context.specs.declared.standing.Took.TheVariants as took;
 ghost use Rattle.pl_context.specs.Standings.{is_over};
-ghost use Rattle.pl_context.specs.Stopped.{HasPlaces};
-ghost use Rattle.pl_context.specs.Listings.{PutsAll};
+ghost use Rattle.pl_context.specs.Stops.{HasPlaces};
+ghost use Rattle.pl_context.specs.OutputsViews.{PutsAll};
 ghost use Rattle.pl_context.specs.Ports.{numbered};
 ghost use Rattle.pl_head.specs.ReadSteps.{entrance, step_count, step_items, read_items};
 ghost use Rattle.pl_head.specs.Writes.{out, outcomes, offered, flushed_writes};
@@ -66,11 +66,11 @@ impl<T> Model for Head<T> {
 
     ghost Value = { HeadView T };
 
-    ghost use Rattle.pl_head.specs.WriteBuffers.{buffered};
+    ghost use Rattle.pl_head.specs.WriteBuffers.{write_buffer_view};
 
-    ghost view = { λ h. record { transport = h.transport; channel = h.channel; hop = h.hop; taken = h.taken; standing = h.standing; failure = h.failure; buffer = buffered h.buffer; input = h.input } };
+    ghost view = { λ h. record { transport = h.transport; channel = h.channel; hop = h.hop; taken = h.taken; standing = h.standing; failure = h.failure; buffer = write_buffer_view h.buffer; input = h.input } };
 
-    ghost invariant = { λ h. IsHead h.channel h.taken (buffered h.buffer) h.input };
+    ghost invariant = { λ h. IsHead h.channel h.taken (write_buffer_view h.buffer) h.input };
 }
 
 impl<T: Transport> Head<T> {

@@ -1,6 +1,6 @@
 ghost use Rattle.std.specs.Prelude.{◌≡◌, [], ◌∷◌, IfOk};
 ghost use Rattle.pl_event.specs.declared.envelopes.Lane.{Lane};
-ghost use Rattle.pl_context.specs.Stopped.{HasPlaces};
+ghost use Rattle.pl_context.specs.Stops.{HasPlaces};
 
 use crate::inputs::Input;
 use pl_context::Outputs;

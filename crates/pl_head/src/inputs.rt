@@ -2,11 +2,11 @@
 
 ghost use Rattle.std.specs.Prelude.{◌≡◌, ℕ, ◌+◌, ◌<◌, ◌^◌, ◌≤◌, [], ◌∷◌, List, length, true, false, not, nat_le, reverse};
 ghost use Rattle.pl_event.specs.Inputs.{burst_events, recorded_input};
-ghost use Rattle.pl_context.specs.Stopped.{HasPlaces};
-ghost use Rattle.pl_context.specs.Listings.{PutsAll};
+ghost use Rattle.pl_context.specs.Stops.{HasPlaces};
+ghost use Rattle.pl_context.specs.OutputsViews.{PutsAll};
 ghost use Rattle.pl_context.specs.Ports.{as_items, numbered, port_after};
 ghost use Rattle.pl_head.specs.ReadSteps.{step_count, step_items, is_burst};
-ghost use Rattle.pl_head.specs.InputStand.{InputStands, new_reading, next_items, left_after, burst_next, reading_after, items_left};
+ghost use Rattle.pl_head.specs.InputStand.{InputStands, new_input, next_items, left_after, burst_next, input_after_step, items_left};
 
 use pl_context::{Outputs, Port};
 use pl_event::{ByteString, Envelope, Event, Item, Kind, Lane, Message, Sequence};
@@ -25,20 +25,20 @@ pub(crate) struct Input {
 
 impl Model for Input {
     ghost use Rattle.std.specs.Prelude.{reverse};
-    ghost use Rattle.pl_head.specs.InputStand.{Reading, IsReading};
+    ghost use Rattle.pl_head.specs.InputStand.{InputView, IsInput};
 
-    ghost Value = { Reading };
+    ghost Value = { InputView };
 
     ghost view = { λ i. record { port = i.port; left = reverse i.left.items; steps = i.steps } };
 
-    ghost invariant = { λ i. IsReading i.port (reverse i.left.items) i.steps };
+    ghost invariant = { λ i. IsInput i.port (reverse i.left.items) i.steps };
 }
 
 impl Input {
     /// No read step was made of these bursts. With the end they bring fewer than 2^31 items.
     pub(crate) fn new(channel: u16, bursts: Sequence<Sequence<ByteString>>) -> Self
         requires { length (recorded_input bursts) + 1 < 2 ^ 31 }
-        ensures reading { result ≡ new_reading channel bursts }
+        ensures reading { result ≡ new_input channel bursts }
         ensures stands { InputStands bursts 0 result }
     {
         let mut left = bursts.into_vec();
@@ -80,7 +80,7 @@ impl Input {
     pub(crate) fn put_step(&mut self, outputs: &mut Outputs)
         requires left { self.old.port.is_open ≡ true }
         requires place { HasPlaces outputs.old.stopped (self.old.port.lane ∷ []) }
-        ensures after { self.new ≡ reading_after self.old }
+        ensures after { self.new ≡ input_after_step self.old }
         ensures puts { PutsAll outputs.old (numbered self.old.port.lane self.old.port.made (next_items self.old.steps self.old.left)) outputs.new }
         ensures stands { (bursts : List (List (List ℕ))) (reads : ℕ) → InputStands bursts reads self.old → InputStands bursts (reads + 1) self.new }
         ensures items { (bursts : List (List (List ℕ))) (reads : ℕ) → InputStands bursts reads self.old → next_items self.old.steps self.old.left ≡ step_items bursts reads }

@@ -2,7 +2,7 @@
 
 ghost use Rattle.std.specs.Prelude.{◌≡◌, ℕ, ◌+◌, ◌<◌, ◌≤◌, ◌^◌, ◌↔◌, ◌∷◌, ◌++◌, List, [], length, drop, Bool, true, false, Option, Some, None, IsTrue, IsSome, IfSome, IfNone, OnSome, OnOk, OnErr, All};
 ghost use Rattle.pl_head.specs.Writes.{bytes_of};
-ghost use Rattle.pl_head.specs.Queue.{closed_all, first_size, queue_size};
+ghost use Rattle.pl_head.specs.WaitingMessages.{closed_all, first_size, queue_size};
 
 use pl_event::{ByteString, Outcome};
 use std::alloc::{AllocError, Global};

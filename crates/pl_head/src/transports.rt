@@ -67,9 +67,9 @@ pub struct MemoryTransport {
 
 impl Model for MemoryTransport {
     ghost use Rattle.std.specs.Prelude.{◌-◌, vec_len, vec_capacity};
-    ghost use Rattle.pl_head.specs.Transports.{Store};
+    ghost use Rattle.pl_head.specs.Transports.{MemoryTransportView};
 
-    ghost Value = { Store };
+    ghost Value = { MemoryTransportView };
 
     ghost view = { λ t. record { bytes = t.bytes.items; room = vec_capacity t.bytes - vec_len t.bytes; window = t.window; fail_at = t.fail_at; calls = t.calls; failures = t.failures } };
 }

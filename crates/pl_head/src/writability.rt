@@ -1,7 +1,7 @@
 //! The bytes that wait against two marks, and the flags that go up.
 
 ghost use Rattle.std.specs.Prelude.{◌≡◌, ◌+◌, ◌<◌, ◌≤◌, ◌^◌, ◌∷◌, ◌++◌, List, [], true};
-ghost use Rattle.pl_context.specs.Stopped.{HasPlaces};
+ghost use Rattle.pl_context.specs.Stops.{HasPlaces};
 ghost use Rattle.pl_head.specs.Marks.{Change, Added, Removed};
 ghost use Rattle.pl_head.specs.FlagLanes.{flags_lane};
 

@@ -2,11 +2,11 @@
 
 ghost use Rattle.std.specs.Prelude.{◌≡◌, ℕ, ◌+◌, ◌-◌, ◌<◌, ◌≤◌, ◌^◌, ◌∷◌, ◌++◌, List, [], length, Bool, true, false, Option, Some, None, IfSome, IfNone, OnSome, OnOk, OnErr, not, nat_le};
 ghost use Rattle.pl_event.specs.declared.events.Event.{Event};
-ghost use Rattle.pl_context.specs.Stopped.{HasPlaces};
+ghost use Rattle.pl_context.specs.Stops.{HasPlaces};
 ghost use Rattle.pl_head.specs.Writes.{bytes_of, flushed_writes, out, outcomes, offered, waiting_bytes};
 ghost use Rattle.pl_head.specs.Marks.{Change, Added, Removed, pending_after, added_by, removed_by, is_unwritable};
 ghost use Rattle.pl_head.specs.FlagLanes.{flags_lane};
-ghost use Rattle.pl_head.specs.Queue.{first_size, queue_size};
+ghost use Rattle.pl_head.specs.WaitingMessages.{first_size, queue_size};
 ghost use Rattle.pl_head.specs.Buffers.{event_sizes};
 
 use crate::effects::{Effect, effect_of};
@@ -29,12 +29,12 @@ impl WriteBuffer {
     ghost use Rattle.pl_head.specs.OutboundStand.{Holds};
     ghost use Rattle.pl_head.specs.WritabilityStand.{WritabilityStand, SendsFlags, flag_bound};
     ghost use Rattle.pl_head.specs.Buffers.{BufferStands, SameMarks};
-    ghost use Rattle.pl_head.specs.WriteBuffers.{buffered};
+    ghost use Rattle.pl_head.specs.WriteBuffers.{write_buffer_view};
 
     /// Nothing waits. It takes no memory.
     pub(crate) fn new(alloc: Global, channel: u16, low: u32, high: u32) -> Self
         requires { low ≤ high }
-        ensures stands { BufferStands [] (buffered result) [] false [] }
+        ensures stands { BufferStands [] (write_buffer_view result) [] false [] }
         ensures low { result.writability.marks.low ≡ low }
         ensures high { result.writability.marks.high ≡ high }
         ensures port { result.writability.port ≡ record { lane = flags_lane channel; made = 0; is_open = true } }
@@ -52,16 +52,16 @@ impl WriteBuffer {
         requires fits { self.old.writability.marks.pending + 2 ^ 64 < 2 ^ 128 }
         requires room { flag_bound self.old.writability + 1 < 2 ^ 64 }
         requires place { HasPlaces outputs.old.stopped (self.old.writability.port.lane ∷ []) }
-        ensures stands { OnOk result ((accepted : List ℕ) (ys : List Event) (sizes : List Change) → BufferStands accepted (buffered self.old) ys false sizes
-            → BufferStands accepted (buffered self.new) (ys ++ event ∷ []) false (sizes ++ event_sizes event
+        ensures stands { OnOk result ((accepted : List ℕ) (ys : List Event) (sizes : List Change) → BufferStands accepted (write_buffer_view self.old) ys false sizes
+            → BufferStands accepted (write_buffer_view self.new) (ys ++ event ∷ []) false (sizes ++ event_sizes event
             (waiting_bytes ys (length accepted) false)
             (waiting_bytes (ys ++ event ∷ []) (length accepted) false))) }
-        ensures flags { OnOk result ((accepted : List ℕ) (ys : List Event) (sizes : List Change) → BufferStands accepted (buffered self.old) ys false sizes
+        ensures flags { OnOk result ((accepted : List ℕ) (ys : List Event) (sizes : List Change) → BufferStands accepted (write_buffer_view self.old) ys false sizes
             → SendsFlags self.old.writability.marks.low self.old.writability.marks.high sizes (event_sizes event
             (waiting_bytes ys (length accepted) false)
             (waiting_bytes (ys ++ event ∷ []) (length accepted) false)) self.old.writability.port outputs.old self.new.writability.port outputs.new) }
         ensures err { OnErr result (outputs.new ≡ outputs.old) }
-        ensures same { SameMarks (buffered self.old) (buffered self.new) }
+        ensures same { SameMarks (write_buffer_view self.old) (write_buffer_view self.new) }
         ensures pending { self.new.writability.marks.pending ≤ self.old.writability.marks.pending + 2 ^ 64 }
         ensures count { flag_bound self.new.writability ≤ flag_bound self.old.writability + 2 }
     {
@@ -91,7 +91,7 @@ impl WriteBuffer {
         ensures flags { OnOk result ((cs : List Change) → WritabilityStand self.old.writability cs
             → SendsFlags self.old.writability.marks.low self.old.writability.marks.high cs (Added (length bytes) ∷ []) self.old.writability.port outputs.old self.new.writability.port outputs.new) }
         ensures err { OnErr result (outputs.new ≡ outputs.old) }
-        ensures same { SameMarks (buffered self.old) (buffered self.new) }
+        ensures same { SameMarks (write_buffer_view self.old) (write_buffer_view self.new) }
         ensures pending { self.new.writability.marks.pending ≤ self.old.writability.marks.pending + 2 ^ 64 }
         ensures count { flag_bound self.new.writability ≤ flag_bound self.old.writability + 2 }
     {
@@ -111,7 +111,7 @@ impl WriteBuffer {
             → WritabilityStand self.new.writability (cs ++ Removed (self.old.writability.marks.pending - self.new.writability.marks.pending) ∷ []) }
         ensures flags { (cs : List Change) → WritabilityStand self.old.writability cs
             → SendsFlags self.old.writability.marks.low self.old.writability.marks.high cs (Removed (self.old.writability.marks.pending - self.new.writability.marks.pending) ∷ []) self.old.writability.port outputs.old self.new.writability.port outputs.new }
-        ensures same { SameMarks (buffered self.old) (buffered self.new) }
+        ensures same { SameMarks (write_buffer_view self.old) (write_buffer_view self.new) }
         ensures pending { self.new.writability.marks.pending ≤ self.old.writability.marks.pending }
         ensures count { flag_bound self.new.writability ≤ flag_bound self.old.writability }
     {
@@ -125,11 +125,11 @@ impl WriteBuffer {
         requires room { flag_bound self.old.writability + 1 < 2 ^ 64 }
         requires fits { self.old.writability.marks.pending < 2 ^ 128 }
         requires place { HasPlaces outputs.old.stopped (self.old.writability.port.lane ∷ []) }
-        ensures stands { (accepted : List ℕ) (ys : List Event) (sizes : List Change) → BufferStands accepted (buffered self.old) ys false sizes
-            → BufferStands accepted (buffered self.new) ys true (sizes ++ Removed (waiting_bytes ys (length accepted) false - waiting_bytes ys (length accepted) true) ∷ []) }
-        ensures flags { (accepted : List ℕ) (ys : List Event) (sizes : List Change) → BufferStands accepted (buffered self.old) ys false sizes
+        ensures stands { (accepted : List ℕ) (ys : List Event) (sizes : List Change) → BufferStands accepted (write_buffer_view self.old) ys false sizes
+            → BufferStands accepted (write_buffer_view self.new) ys true (sizes ++ Removed (waiting_bytes ys (length accepted) false - waiting_bytes ys (length accepted) true) ∷ []) }
+        ensures flags { (accepted : List ℕ) (ys : List Event) (sizes : List Change) → BufferStands accepted (write_buffer_view self.old) ys false sizes
             → SendsFlags self.old.writability.marks.low self.old.writability.marks.high sizes (Removed (waiting_bytes ys (length accepted) false - waiting_bytes ys (length accepted) true) ∷ []) self.old.writability.port outputs.old self.new.writability.port outputs.new }
-        ensures same { SameMarks (buffered self.old) (buffered self.new) }
+        ensures same { SameMarks (write_buffer_view self.old) (write_buffer_view self.new) }
         ensures pending { self.new.writability.marks.pending ≤ self.old.writability.marks.pending }
         ensures count { flag_bound self.new.writability ≤ flag_bound self.old.writability }
     {
@@ -139,11 +139,11 @@ impl WriteBuffer {
 
     /// What is left of the first flushed message, at least one byte.
     pub(crate) fn front(&self) -> Option<&[u8]>
-        ensures none { IfNone result ((accepted : List ℕ) (ys : List Event) (ended : Bool) (sizes : List Change) → BufferStands accepted (buffered self.now) ys ended sizes → accepted ≡ out ys) }
+        ensures none { IfNone result ((accepted : List ℕ) (ys : List Event) (ended : Bool) (sizes : List Change) → BufferStands accepted (write_buffer_view self.now) ys ended sizes → accepted ≡ out ys) }
         ensures flushed { IfSome result (λ bytes. 0 < self.now.messages.flushed) }
         ensures some { IfSome result (λ bytes. (0 < length bytes.now) × (length bytes.now + self.now.messages.offset ≡ first_size self.now.messages.queue.items)) }
         ensures small { OnSome result (first_size self.now.messages.queue.items < 2 ^ 64) }
-        ensures offers { IfSome result (λ bytes. (accepted : List ℕ) (ys : List Event) (ended : Bool) (sizes : List Change) → BufferStands accepted (buffered self.now) ys ended sizes
+        ensures offers { IfSome result (λ bytes. (accepted : List ℕ) (ys : List Event) (ended : Bool) (sizes : List Change) → BufferStands accepted (write_buffer_view self.now) ys ended sizes
             → (length bytes.now ≡ offered 0 (length accepted) (flushed_writes ys)) × ((rest : List ℕ) × (accepted ++ (bytes.now ++ rest) ≡ out ys))) }
     {
         match self.messages.front() {
@@ -160,13 +160,13 @@ impl WriteBuffer {
         requires room { flag_bound self.old.writability + 1 < 2 ^ 64 }
         requires fits { self.old.writability.marks.pending < 2 ^ 128 }
         requires place { HasPlaces outputs.old.stopped (self.old.writability.port.lane ∷ []) }
-        ensures stands { (accepted more rest : List ℕ) (ys : List Event) (ended : Bool) (sizes : List Change) → BufferStands accepted (buffered self.old) ys ended sizes
+        ensures stands { (accepted more rest : List ℕ) (ys : List Event) (ended : Bool) (sizes : List Change) → BufferStands accepted (write_buffer_view self.old) ys ended sizes
             → length more ≡ count → accepted ++ (more ++ rest) ≡ out ys
-            → BufferStands (accepted ++ more) (buffered self.new) ys ended (sizes ++ Removed (waiting_bytes ys (length accepted) ended - waiting_bytes ys (length (accepted ++ more)) ended) ∷ []) }
-        ensures flags { (accepted more rest : List ℕ) (ys : List Event) (ended : Bool) (sizes : List Change) → BufferStands accepted (buffered self.old) ys ended sizes
+            → BufferStands (accepted ++ more) (write_buffer_view self.new) ys ended (sizes ++ Removed (waiting_bytes ys (length accepted) ended - waiting_bytes ys (length (accepted ++ more)) ended) ∷ []) }
+        ensures flags { (accepted more rest : List ℕ) (ys : List Event) (ended : Bool) (sizes : List Change) → BufferStands accepted (write_buffer_view self.old) ys ended sizes
             → length more ≡ count → accepted ++ (more ++ rest) ≡ out ys
             → SendsFlags self.old.writability.marks.low self.old.writability.marks.high sizes (Removed (waiting_bytes ys (length accepted) ended - waiting_bytes ys (length (accepted ++ more)) ended) ∷ []) self.old.writability.port outputs.old self.new.writability.port outputs.new }
-        ensures same { SameMarks (buffered self.old) (buffered self.new) }
+        ensures same { SameMarks (write_buffer_view self.old) (write_buffer_view self.new) }
         ensures pending { self.new.writability.marks.pending ≤ self.old.writability.marks.pending }
         ensures count { flag_bound self.new.writability ≤ flag_bound self.old.writability }
     {
@@ -177,16 +177,16 @@ impl WriteBuffer {
 
     /// How many bytes the messages that wait hold.
     pub(crate) fn pending(&self) -> u128
-        ensures exact { (accepted : List ℕ) (ys : List Event) (ended : Bool) (sizes : List Change) → BufferStands accepted (buffered self.now) ys ended sizes → result + removed_by sizes ≡ added_by sizes }
-        ensures sizes { (accepted : List ℕ) (ys : List Event) (ended : Bool) (sizes : List Change) → BufferStands accepted (buffered self.now) ys ended sizes → result ≡ pending_after sizes }
-        ensures waiting { (accepted : List ℕ) (ys : List Event) (ended : Bool) (sizes : List Change) → BufferStands accepted (buffered self.now) ys ended sizes → result ≡ waiting_bytes ys (length accepted) ended }
+        ensures exact { (accepted : List ℕ) (ys : List Event) (ended : Bool) (sizes : List Change) → BufferStands accepted (write_buffer_view self.now) ys ended sizes → result + removed_by sizes ≡ added_by sizes }
+        ensures sizes { (accepted : List ℕ) (ys : List Event) (ended : Bool) (sizes : List Change) → BufferStands accepted (write_buffer_view self.now) ys ended sizes → result ≡ pending_after sizes }
+        ensures waiting { (accepted : List ℕ) (ys : List Event) (ended : Bool) (sizes : List Change) → BufferStands accepted (write_buffer_view self.now) ys ended sizes → result ≡ waiting_bytes ys (length accepted) ended }
     {
         self.writability.marks.pending
     }
 
     pub(crate) fn is_writable(&self) -> bool
         ensures view { result ≡ not self.now.writability.marks.is_unwritable }
-        ensures sizes { (accepted : List ℕ) (ys : List Event) (ended : Bool) (sizes : List Change) → BufferStands accepted (buffered self.now) ys ended sizes
+        ensures sizes { (accepted : List ℕ) (ys : List Event) (ended : Bool) (sizes : List Change) → BufferStands accepted (write_buffer_view self.now) ys ended sizes
             → result ≡ not (is_unwritable self.now.writability.marks.low self.now.writability.marks.high sizes) }
     {
         !self.writability.marks.is_unwritable
@@ -194,7 +194,7 @@ impl WriteBuffer {
 
     /// Whether no flushed byte waits.
     pub(crate) fn is_written(&self) -> bool
-        ensures { (accepted : List ℕ) (ys : List Event) (ended : Bool) (sizes : List Change) → BufferStands accepted (buffered self.now) ys ended sizes → result ≡ nat_le (length (out ys)) (length accepted) }
+        ensures { (accepted : List ℕ) (ys : List Event) (ended : Bool) (sizes : List Change) → BufferStands accepted (write_buffer_view self.now) ys ended sizes → result ≡ nat_le (length (out ys)) (length accepted) }
     {
         match self.front() {
             None => true,
@@ -204,7 +204,7 @@ impl WriteBuffer {
 
     /// The outcome of each write.
     pub(crate) fn outcomes(&self) -> &[Option<Outcome>]
-        ensures { (accepted : List ℕ) (ys : List Event) (ended : Bool) (sizes : List Change) → BufferStands accepted (buffered self.now) ys ended sizes → result.now ≡ outcomes ys (length accepted) ended }
+        ensures { (accepted : List ℕ) (ys : List Event) (ended : Bool) (sizes : List Change) → BufferStands accepted (write_buffer_view self.now) ys ended sizes → result.now ≡ outcomes ys (length accepted) ended }
     {
         self.messages.outcomes.as_slice()
     }

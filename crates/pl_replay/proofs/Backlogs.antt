@@ -9,7 +9,7 @@ use Rattle.std.proofs.lemmas.Option.{none-some, slice_get-map, slice_get_within,
 use Rattle.std.proofs.lemmas.Bool.{cases_eq, cases_lt, eqb-true, ne_eqb, false≢true}
 use Rattle.pl_event.specs.declared.envelopes.Lane.{Lane}
 use Rattle.pl_event.specs.declared.envelopes.Envelope.{Envelope}
-use Rattle.pl_context.specs.Stopped.{Stopped, HasPlaces, no_stops}
+use Rattle.pl_context.specs.Stops.{StopsView, HasPlaces, no_stops}
 use Rattle.pl_world.specs.Plans.{Plan}
 use Rattle.pl_channel.specs.MadeItems.{Place}
 use Rattle.pl_replay.specs.States.{ExecutorState, nothing_waits}
@@ -17,7 +17,7 @@ use Rattle.pl_replay.specs.CoreMoves.{target}
 use Rattle.pl_channel.specs.Envelopes.{envelope_at}
 use Rattle.pl_replay.specs.BacklogStand.{Aged, IsByAge, is_for, is_aged_for, entry_at, WaitingStands, BacklogStands, ExecutorStands, Keeps}
 use Rattle.pl_replay.specs.declared.executors.Executor.{Executor}
-use Rattle.pl_context.specs.Queues.{Queue}
+use Rattle.pl_context.specs.Backlogs.{BacklogView}
 use Rattle.std.proofs.Math.Seq.{get_or-append_seam}
 use Rattle.pl_replay.proofs.Firsts.{IsFirst, find-filter, find-map, option_map-map, position-first, position-map, filter-remove_first, filter-remove_other}
 
@@ -42,16 +42,16 @@ places-one places lane some = record {
 }
 
 module _ (plan : Plan) (places : ℕ → ℕ) (aged : List Aged) (e : Executor) (b : BacklogStands plan places aged e) where
-  pub waiting-at : (y : ℕ) (w : Queue ℕ) → y < plan.executors → w ≡ get_or e.waiting.items y w → WaitingStands plan y aged (places y) w
+  pub waiting-at : (y : ℕ) (w : BacklogView ℕ) → y < plan.executors → w ≡ get_or e.waiting.items y w → WaitingStands plan y aged (places y) w
   waiting-at y w there is =
       b.waiting y w (slice_get_read e.waiting.items (length e.waiting.items) y w refl (omega (arith, there, b.targets)) is)
 
-  pub waiting-place : (y : ℕ) (w : Queue ℕ) (lane : Lane) → WaitingStands plan y aged (places y) w → 1 ≤ places y → HasPlaces w.stopped (lane ∷ [])
+  pub waiting-place : (y : ℕ) (w : BacklogView ℕ) (lane : Lane) → WaitingStands plan y aged (places y) w → 1 ≤ places y → HasPlaces w.stopped (lane ∷ [])
   waiting-place y w lane ws some =
-      subst (λ (t : Stopped). HasPlaces t (lane ∷ [])) (sym ws.stopped) (places-one (places y) lane some)
+      subst (λ (t : StopsView). HasPlaces t (lane ∷ [])) (sym ws.stopped) (places-one (places y) lane some)
 
 -- what its front is
-module _ (plan : Plan) (y : ℕ) (aged : List Aged) (places : ℕ) (w : Queue ℕ) (ws : WaitingStands plan y aged places w) where
+module _ (plan : Plan) (y : ℕ) (aged : List Aged) (places : ℕ) (w : BacklogView ℕ) (ws : WaitingStands plan y aged places w) where
   abbrev front : Option Aged
   front = find (is_aged_for plan y) aged
 
@@ -78,8 +78,8 @@ module _ (plan : Plan) (y : ℕ) (aged : List Aged) (places : ℕ) (w : Queue �
 -- ---- one of the parts has changed
 
 -- what holds of each, where one was written
-each-set : (ws : List (Queue ℕ)) (y : ℕ) (new : Queue ℕ) (P : ℕ → Queue ℕ → Type 0) → ((z : ℕ) (w : Queue ℕ) → z ≢ y → slice_get ws z ≡ Some w → P z w) → P y new
-    → (z : ℕ) (w : Queue ℕ) → slice_get (set ws y new) z ≡ Some w → P z w
+each-set : (ws : List (BacklogView ℕ)) (y : ℕ) (new : BacklogView ℕ) (P : ℕ → BacklogView ℕ → Type 0) → ((z : ℕ) (w : BacklogView ℕ) → z ≢ y → slice_get ws z ≡ Some w → P z w) → P y new
+    → (z : ℕ) (w : BacklogView ℕ) → slice_get (set ws y new) z ≡ Some w → P z w
 each-set ws y new P others here z w at =
     let within : z < length ws = omega (arith, slice_get_within (set ws y new) z w at, length-set ws y new) in
     elim (cases_eq z y) [
@@ -89,23 +89,23 @@ each-set ws y new P others here z w at =
       | inr other ↦
           others z w other
           (slice_get-get_or ws z w within
-          ∙ ap (λ (v : Queue ℕ). Some v) (sym (get_or-set_other ws y z new w other) ∙ get_or_from_slice_get (set ws y new) z w w at))
+          ∙ ap (λ (v : BacklogView ℕ). Some v) (sym (get_or-set_other ws y z new w other) ∙ get_or_from_slice_get (set ws y new) z w w at))
     ]
 
-module _ (plan : Plan) (places : ℕ → ℕ) (aged : List Aged) (e : Executor) (b : BacklogStands plan places aged e) (y : ℕ) (new : Queue ℕ) (after : Executor)
+module _ (plan : Plan) (places : ℕ → ℕ) (aged : List Aged) (e : Executor) (b : BacklogStands plan places aged e) (y : ℕ) (new : BacklogView ℕ) (after : Executor)
     (written : after.waiting.items ≡ set e.waiting.items y new) where
   set-stands : (now : List Aged) → IsByAge now → All (λ i. i.age < after.next_age) now → WaitingStands plan y now (places y) new
       → ((z : ℕ) → z ≢ y → filter (is_aged_for plan z) now ≡ filter (is_aged_for plan z) aged) → BacklogStands plan places now after
   set-stands now order younger here others = record {
     order = order;
     younger = younger;
-    targets = ap (λ (l : List (Queue ℕ)). length l) written ∙ length-set e.waiting.items y new ∙ b.targets;
+    targets = ap (λ (l : List (BacklogView ℕ)). length l) written ∙ length-set e.waiting.items y new ∙ b.targets;
     waiting = λ z w at. each-set e.waiting.items y new (λ z w. WaitingStands plan z now (places z) w)
         (λ z w other at. let was = b.waiting z w at in record {
           items = was.items ∙ ap (map (entry_at plan)) (sym (others z other));
           stopped = was.stopped;
         })
-        here z w (subst (λ (l : List (Queue ℕ)). slice_get l z ≡ Some w) written at);
+        here z w (subst (λ (l : List (BacklogView ℕ)). slice_get l z ≡ Some w) written at);
   }
 
   -- one item more
@@ -127,7 +127,7 @@ module _ (plan : Plan) (places : ℕ → ℕ) (aged : List Aged) (e : Executor) 
         ∙ ap (λ (t : Bool). filter (is_aged_for plan z) aged ++ cond t (late ∷ []) []) (ne_eqb (target plan item) z (λ same. other (sym same ∙ eqb-true (target plan item) y for)))
         ∙ append-nil (filter (is_aged_for plan z) aged)
 
-    pub set-stands-more : (w : Queue ℕ) → WaitingStands plan y aged (places y) w → after.next_age ≡ e.next_age + 1
+    pub set-stands-more : (w : BacklogView ℕ) → WaitingStands plan y aged (places y) w → after.next_age ≡ e.next_age + 1
         → new.items ≡ w.items ++ (envelope_at plan item, e.next_age) ∷ [] → new.stopped ≡ w.stopped
         → BacklogStands plan places more after
     set-stands-more w was age items stopped =
@@ -152,7 +152,7 @@ module _ (plan : Plan) (places : ℕ → ℕ) (aged : List Aged) (e : Executor) 
         filter-remove_other (is_aged_for plan z) aged i first.within
         (λ d. ne_eqb (target plan (get_or aged i d).place) z (λ same. other (sym same ∙ eqb-true (target plan (get_or aged i d).place) y (first.passes d))))
 
-    pub set-stands-less : (w : Queue ℕ) → WaitingStands plan y aged (places y) w → after.next_age ≡ e.next_age
+    pub set-stands-less : (w : BacklogView ℕ) → WaitingStands plan y aged (places y) w → after.next_age ≡ e.next_age
         → new.items ≡ drop 1 w.items → new.stopped ≡ w.stopped
         → BacklogStands plan places (remove aged i) after
     set-stands-less w was age items stopped =
@@ -188,18 +188,18 @@ stands-kept plan places s before after k st = record {
 -- ---- at the start
 
 -- nothing waits, with places for so many lanes
-pub record IsIdle (places : ℕ) (w : Queue ℕ) : Type 0 where
+pub record IsIdle (places : ℕ) (w : BacklogView ℕ) : Type 0 where
   pub items : w.items ≡ []
   pub stopped : w.stopped ≡ no_stops places
 
-pub record AreIdle (places : List ℕ) (n : ℕ) (ws : List (Queue ℕ)) : Type 0 where
+pub record AreIdle (places : List ℕ) (n : ℕ) (ws : List (BacklogView ℕ)) : Type 0 where
   pub size : length ws ≡ n
-  pub each : (y : ℕ) (w : Queue ℕ) → slice_get ws y ≡ Some w → IsIdle (get_or places y 0) w
+  pub each : (y : ℕ) (w : BacklogView ℕ) → slice_get ws y ≡ Some w → IsIdle (get_or places y 0) w
 
 pub idle-none : (places : List ℕ) → AreIdle places 0 []
 idle-none places = record { size = refl; each = λ y w at. absurd (none-some w at) }
 
-pub idle-push : (places : List ℕ) (n : ℕ) (ws : List (Queue ℕ)) (new : Queue ℕ) → AreIdle places n ws → IsIdle (get_or places n 0) new → AreIdle places (n + 1) (ws ++ new ∷ [])
+pub idle-push : (places : List ℕ) (n : ℕ) (ws : List (BacklogView ℕ)) (new : BacklogView ℕ) → AreIdle places n ws → IsIdle (get_or places n 0) new → AreIdle places (n + 1) (ws ++ new ∷ [])
 idle-push places n ws new idle here = record {
   size = omega (arith, length-append ws (new ∷ []), idle.size);
   each = λ y w at.
@@ -207,11 +207,11 @@ idle-push places n ws new idle here = record {
       let is = get_or_from_slice_get (ws ++ new ∷ []) y w w at in
       elim (cases_lt y (length ws)) [
         | inl before ↦
-            idle.each y w (slice_get-get_or ws y w before ∙ ap (λ (v : Queue ℕ). Some v) (sym (get_or_append_left ws (new ∷ []) w y before) ∙ is))
+            idle.each y w (slice_get-get_or ws y w before ∙ ap (λ (v : BacklogView ℕ). Some v) (sym (get_or_append_left ws (new ∷ []) w y before) ∙ is))
         | inr behind ↦
             let last : y ≡ length ws = omega (arith, within, behind, length-append ws (new ∷ [])) in
             let same = sym (get_or-append_seam ws new [] w) ∙ ap (λ (k : ℕ). get_or (ws ++ new ∷ []) k w) (sym last) ∙ is in
-            subst (λ (v : Queue ℕ). IsIdle (get_or places y 0) v) same (subst (λ (k : ℕ). IsIdle (get_or places k 0) new) (sym idle.size ∙ sym last) here)
+            subst (λ (v : BacklogView ℕ). IsIdle (get_or places y 0) v) same (subst (λ (k : ℕ). IsIdle (get_or places k 0) new) (sym idle.size ∙ sym last) here)
       ];
 }
 

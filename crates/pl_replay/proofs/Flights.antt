@@ -8,7 +8,7 @@ use Rattle.std.proofs.lemmas.Bool.{and_parts, and_from, eqb-true, eq-eqb, cond-t
 use Rattle.pl_event.specs.declared.envelopes.Kind.{Kind}
 use Rattle.pl_event.specs.declared.envelopes.Kind.TheVariants.{Data, Flags}
 use Rattle.pl_event.specs.declared.envelopes.Lane.{Lane}
-use Rattle.pl_context.specs.Stopped.{same_hop}
+use Rattle.pl_context.specs.Stops.{same_hop}
 use Rattle.pl_channel.specs.MadeItems.{Place, places, data_lane, flags_lane}
 use Rattle.pl_replay.specs.LaneAccount.{same_kind, is_on, numbers_on}
 

@@ -7,7 +7,7 @@ use Rattle.std.proofs.lemmas.List.Elements.{All-get_or, All-weaker}
 use Rattle.std.proofs.lemmas.List.Quantifiers.{position-Some}
 use Rattle.std.proofs.lemmas.Option.{slice_get_read}
 use Rattle.std.specs.Vec.{with_item}
-use Rattle.pl_context.specs.Listings.{Listing}
+use Rattle.pl_context.specs.OutputsViews.{OutputsView}
 use Rattle.pl_event.specs.declared.events.Event.{Event}
 use Rattle.pl_event.specs.declared.envelopes.Envelope.{Envelope}
 use Rattle.pl_event.specs.Meaning.{Meaning}
@@ -134,10 +134,10 @@ module _ {S T : Type 0} (meaning : S → Meaning) (stands_after : S → List Eve
             less = with_executor s x (without_late (executor_at s x) i)
 
             items_same : after.work.items ≡ core.work.items
-            items_same = ap (λ (w : Listing). w.items) work
+            items_same = ap (λ (w : OutputsView). w.items) work
 
             stopped_same : after.work.stopped ≡ core.work.stopped
-            stopped_same = ap (λ (w : Listing). w.stopped) work
+            stopped_same = ap (λ (w : OutputsView). w.stopped) work
 
             -- as cores
             abbrev ready : Core S T

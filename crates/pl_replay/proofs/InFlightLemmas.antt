@@ -26,7 +26,7 @@ use Rattle.pl_channel.specs.Envelopes.{items_from, flag_by, item_of, envelopes_o
 use Rattle.pl_replay.specs.BacklogStand.{Aged, is_for, is_aged_for, entry_at, ExecutorStands}
 use Rattle.pl_replay.specs.InFlight.{on_lane, queued_at, kept_for, waiting_on, first_items, FitOn, IsInOrder}
 use Rattle.pl_replay.specs.declared.executors.Executor.{Executor}
-use Rattle.pl_context.specs.Queues.{Queue}
+use Rattle.pl_context.specs.Backlogs.{BacklogView}
 use Rattle.pl_channel.proofs.Numbers.{range-append}
 use Rattle.pl_replay.proofs.Flights.{lane_of, is_on-lane}
 use Rattle.pl_replay.proofs.StateLemmas.{queue_at, backlog_at}
@@ -159,7 +159,7 @@ module _ (plan : Plan) (ok : IsPlan plan) (s : State) (a : IsAccounted plan 0 s 
       one e st = elim (slice_get_cases e.waiting.items y).1 [
         | inl at ↦
             let ws = st.stands.waiting y at.0 at.2 in
-            ap (λ (o : Option (Queue ℕ)). option_map_or (λ w. map (λ entry. entry.0) w.items) o []) at.2
+            ap (λ (o : Option (BacklogView ℕ)). option_map_or (λ w. map (λ entry. entry.0) w.items) o []) at.2
             ∙ ap (map (λ (entry : Envelope × ℕ). entry.0)) ws.items
             ∙ map-map (entry_at plan) (λ (entry : Envelope × ℕ). entry.0) (filter (is_aged_for plan y) st.aged)
             ∙ sym (map-map (λ (i : Aged). i.place) (envelope_at plan) (filter (is_aged_for plan y) st.aged))

@@ -10,8 +10,8 @@ use Rattle.pl_event.specs.declared.events.Event.{Event}
 use Rattle.pl_event.specs.declared.envelopes.Lane.{Lane}
 use Rattle.pl_event.specs.declared.envelopes.Envelope.{Envelope}
 use Rattle.pl_event.specs.Meaning.{Meaning}
-use Rattle.pl_context.specs.Stopped.{Stopped, no_stops}
-use Rattle.pl_context.specs.Listings.{Listing, PutsAll}
+use Rattle.pl_context.specs.Stops.{StopsView, no_stops}
+use Rattle.pl_context.specs.OutputsViews.{OutputsView, PutsAll}
 use Rattle.pl_head.specs.Marks.{Change}
 use Rattle.pl_head.specs.ReadSteps.{read_items}
 use Rattle.pl_head.specs.Transports.{TransportState}
@@ -80,14 +80,14 @@ none_of a b none = elim (cases_eq a 0) [
   | inr other ↦ absurd (false≢true (sym none ∙ ap (λ (p : Bool). not (p && b == 0)) (ne_eqb a 0 other)))
 ]
 
-no_stops-from : (t : Stopped) (n : ℕ) → t.places ≡ n → not (length t.lanes == 0 && length t.flag_lanes == 0) ≡ false → t ≡ no_stops n
+no_stops-from : (t : StopsView) (n : ℕ) → t.places ≡ n → not (length t.lanes == 0 && length t.flag_lanes == 0) ≡ false → t ≡ no_stops n
 no_stops-from t n places none =
     let zero = none_of (length t.lanes) (length t.flag_lanes) none in
     by t.lanes t.flag_lanes refl refl zero.0 zero.1
   where
     by : (lanes flag_lanes : List Lane) → t.lanes ≡ lanes → t.flag_lanes ≡ flag_lanes → length lanes ≡ 0 → length flag_lanes ≡ 0 → t ≡ no_stops n
     by [] [] l f a b =
-        ap (λ (ls : List Lane). record t { lanes = ls }) l ∙ ap (λ (fs : List Lane). let u : Stopped = record { lanes = []; flag_lanes = fs; places = t.places } in u) f ∙ ap no_stops places
+        ap (λ (ls : List Lane). record t { lanes = ls }) l ∙ ap (λ (fs : List Lane). let u : StopsView = record { lanes = []; flag_lanes = fs; places = t.places } in u) f ∙ ap no_stops places
     by [] (k ∷ ks) l f a b = absurd (omega (arith, b))
     by (k ∷ ks) fs l f a b = absurd (omega (arith, a))
 
@@ -186,7 +186,7 @@ module _ {S T : Type 0} (meaning : S → Meaning) (stands_after : S → List Eve
             small = r.small;
             holds = subst (λ (t : State). CoreHolds meaning stands_after state plan t [] after) (with_same_channel s c)
                 (holds_head now.reads now.calls now.accepted now.sizes now.failed_at [] (subst (HeadStands state c p now) (sym same) was.nodes.head)
-                (ap (λ (w : Listing). w.items) work ∙ sym (append-nil core.work.items)) (ap (λ (w : Listing). w.stopped) work) (All-nil (λ i. i.lane.channel ≡ c)) (omega (arith, grown)));
+                (ap (λ (w : OutputsView). w.items) work ∙ sym (append-nil core.work.items)) (ap (λ (w : OutputsView). w.stopped) work) (All-nil (λ i. i.lane.channel ≡ c)) (omega (arith, grown)));
             accounted = r.accounted;
           }
 
@@ -208,9 +208,9 @@ module _ {S T : Type 0} (meaning : S → Meaning) (stands_after : S → List Eve
         -- its items are on the work list, unless a lane has stopped
         pub read_put : HasPut meaning stands_after state plan c (with_channel s c read_now) (made_by_read p c now.reads) after
         read_put = (
-          puts-places (envelopes_of p (made_by_read p c now.reads)) core.work after.work puts ∙ ap (λ (t : Stopped). t.places) r.holds.stopped,
+          puts-places (envelopes_of p (made_by_read p c now.reads)) core.work after.work puts ∙ ap (λ (t : StopsView). t.places) r.holds.stopped,
           λ still.
-              let none = ap (λ (t : Stopped). length t.lanes + length t.flag_lanes) still in
+              let none = ap (λ (t : StopsView). length t.lanes + length t.flag_lanes) still in
               let items = puts-items 2 (envelopes_of p (made_by_read p c now.reads)) core.work after.work puts (list_places meaning stands_after state plan 0 s [] [] core r c p here) none in
               let grown = all_made-grows plan s c p here there read_now (made_by_read p c now.reads) (more_read plan r.ruled s account c p here) read_own in
               subst (λ (x : ℕ). IsRunning meaning stands_after state plan x (with_channel s c read_now) [] (made_by_read p c now.reads) after) (sym home_of_is)
@@ -259,7 +259,7 @@ module _ {S T : Type 0} (meaning : S → Meaning) (stands_after : S → List Eve
               → (after.work.stopped ≡ core.work.stopped → HeadStands state c p wrote_now head × (after.work.items ≡ core.work.items ++ envelopes_of p sent_now))
               → HasPut meaning stands_after state plan c (with_channel s c wrote_now) sent_now after
           write_put places stands = (
-            places ∙ ap (λ (t : Stopped). t.places) r.holds.stopped,
+            places ∙ ap (λ (t : StopsView). t.places) r.holds.stopped,
             λ still.
                 let same = still ∙ sym r.holds.stopped in
                 let grown = all_made-grows plan s c p here there wrote_now sent_now (more_written plan r.ruled s account c p here count) wrote_own in
@@ -301,7 +301,7 @@ module _ {S T : Type 0} (meaning : S → Meaning) (stands_after : S → List Eve
                 record {
                   ruled = r.ruled;
                   small = r.small;
-                  holds = holds_head now.reads (now.calls + 1) now.accepted now.sizes failed_now.failed_at [] stands (ap (λ (w : Listing). w.items) work ∙ sym (append-nil core.work.items)) (ap (λ (w : Listing). w.stopped) work) (All-nil (λ i. i.lane.channel ≡ c)) grown;
+                  holds = holds_head now.reads (now.calls + 1) now.accepted now.sizes failed_now.failed_at [] stands (ap (λ (w : OutputsView). w.items) work ∙ sym (append-nil core.work.items)) (ap (λ (w : OutputsView). w.stopped) work) (All-nil (λ i. i.lane.channel ≡ c)) grown;
                   accounted = subst (λ (w : Work). IsAccounted plan 0 w.state w.items) (sym (pending-none plan 0 (with_channel s c failed_now) [])) (accounted_failed plan r.ruled s account c p here);
                 },
               ),
@@ -353,7 +353,7 @@ module _ {S T : Type 0} (meaning : S → Meaning) (stands_after : S → List Eve
     holds_task : (t : ExecutorState) → ExecutorStands plan (lanes_between plan x) t e → CoreHolds meaning stands_after state plan (with_executor s x t) [] after
     holds_task t stands =
         let young = r.holds.ages x old at in
-        holds_executor meaning stands_after state plan s [] core r.holds after [] capacity (ap (λ (w : Listing). w.items) work ∙ r.holds.work) (ap (λ (w : Listing). w.stopped) work)
+        holds_executor meaning stands_after state plan s [] core r.holds after [] capacity (ap (λ (w : OutputsView). w.items) work ∙ r.holds.work) (ap (λ (w : OutputsView). w.stopped) work)
         x e t channels executors inside placed stands (omega arith) (omega (arith, young, age))
 
     abbrev popped : List Place → State

@@ -5,7 +5,7 @@ use Rattle.std.proofs.lemmas.List.{length-map, get_or-map}
 use Rattle.pl_event.specs.declared.events.Event.{Event}
 use Rattle.pl_event.specs.Inputs.{recorded_input}
 use Rattle.pl_event.specs.Meaning.{Meaning}
-use Rattle.pl_context.specs.Stopped.{no_stops}
+use Rattle.pl_context.specs.Stops.{no_stops}
 use Rattle.pl_world.specs.declared.session.Recorded.{Recorded}
 use Rattle.pl_channel.specs.declared.placed_channels.PlacedChannel.{PlacedChannel}
 use Rattle.pl_replay.specs.declared.nets.Core.{Core}

@@ -12,7 +12,7 @@ use Rattle.pl_event.specs.declared.envelopes.Kind.{Kind}
 use Rattle.pl_event.specs.declared.envelopes.Kind.TheVariants.{Data, Flags}
 use Rattle.pl_event.specs.declared.envelopes.Envelope.{Envelope}
 use Rattle.pl_event.specs.Meaning.{Meaning}
-use Rattle.pl_context.specs.Listings.{Listing}
+use Rattle.pl_context.specs.OutputsViews.{OutputsView}
 use Rattle.pl_channel.specs.declared.placed_channels.PlacedChannel.{PlacedChannel}
 use Rattle.pl_replay.specs.declared.executors.Executor.{Executor}
 use Rattle.pl_replay.specs.declared.nets.Core.{Core}
@@ -112,7 +112,7 @@ module _ {S T : Type 0} (meaning : S → Meaning) (stands_after : S → List Eve
   -- ---- the next item of the list
 
   -- the first item of a list, which has left it
-  pub record IsFirst (plan : Plan) (x : ℕ) (s : State) (left : List Place) (core : Core S T) (envelope : Envelope) (work : Listing) : Type 0 where
+  pub record IsFirst (plan : Plan) (x : ℕ) (s : State) (left : List Place) (core : Core S T) (envelope : Envelope) (work : OutputsView) : Type 0 where
     pub item : Place
     pub rest : List Place
     pub listed : left ≡ item ∷ rest
@@ -121,7 +121,7 @@ module _ {S T : Type 0} (meaning : S → Meaning) (stands_after : S → List Eve
     pub holds : CoreHolds meaning stands_after state plan s rest (record core { work = work })
     pub there : x < length s.executors
 
-  pub first_of : (plan : Plan) (x : ℕ) (s : State) (left : List Place) (core : Core S T) → IsRunning meaning stands_after state plan x s [] left core → x < plan.executors → (envelope : Envelope) (work : Listing)
+  pub first_of : (plan : Plan) (x : ℕ) (s : State) (left : List Place) (core : Core S T) → IsRunning meaning stands_after state plan x s [] left core → x < plan.executors → (envelope : Envelope) (work : OutputsView)
       → core.work.items ≡ envelope ∷ work.items → work.stopped ≡ core.work.stopped → IsFirst plan x s left core envelope work
   first_of plan x s left core r there envelope work items stopped =
       let f = first_place plan left envelope work.items (sym items ∙ r.holds.work) in
@@ -198,7 +198,7 @@ module _ {S T : Type 0} (meaning : S → Meaning) (stands_after : S → List Eve
         let few = all_made-few plan r.ruled r.small (pending plan x s [] (item ∷ rest)).state x (pending plan x s [] (item ∷ rest)).items r.accounted (small_at plan r.small) (flags_few plan x s [] (item ∷ rest) core r) in
         omega (arith, young, few)
 
-  module _ (plan : Plan) (x : ℕ) (s : State) (left : List Place) (core : Core S T) (envelope : Envelope) (work : Listing) (f : IsFirst plan x s left core envelope work) where
+  module _ (plan : Plan) (x : ℕ) (s : State) (left : List Place) (core : Core S T) (envelope : Envelope) (work : OutputsView) (f : IsFirst plan x s left core envelope work) where
     -- its lane's channel and hop are there
     pub next_bounds : (envelope.lane.channel < length core.channels.items)
         × ((channel : PlacedChannel S T) → slice_get core.channels.items envelope.lane.channel ≡ Some channel → (envelope.lane.hop < length channel.executors.items) × (get_or channel.executors.items envelope.lane.hop 0 ≡ target plan f.item))
@@ -239,7 +239,7 @@ module _ {S T : Type 0} (meaning : S → Meaning) (stands_after : S → List Eve
     next_passed other old e at stands age after capacity channels executors works =
         let young = f.running.holds.ages x old at in
         running_other plan x s f.item f.rest core f.running after
-        (holds_executor meaning stands_after state plan s f.rest (record core { work = work }) f.holds after f.rest capacity (ap (λ (w : Listing). w.items) works ∙ f.holds.work) (ap (λ (w : Listing). w.stopped) works)
+        (holds_executor meaning stands_after state plan s f.rest (record core { work = work }) f.holds after f.rest capacity (ap (λ (w : OutputsView). w.items) works ∙ f.holds.work) (ap (λ (w : OutputsView). w.stopped) works)
         x e (with_late (executor_at s x) f.item) channels executors (slice_get_within core.executors.items x old at) f.there stands (omega arith) (omega (arith, young, age)))
         other f.there
 
@@ -249,7 +249,7 @@ module _ {S T : Type 0} (meaning : S → Meaning) (stands_after : S → List Eve
         path ∙ ap (λ (l : List Place). pending plan x s [] l) f.listed ∙ pending-other plan x s f.item f.rest other f.there
 
   -- an empty list is worked off
-  pub none_left : (plan : Plan) (x : ℕ) (s : State) (left : List Place) (core : Core S T) → IsRunning meaning stands_after state plan x s [] left core → (work : Listing)
+  pub none_left : (plan : Plan) (x : ℕ) (s : State) (left : List Place) (core : Core S T) → IsRunning meaning stands_after state plan x s [] left core → (work : OutputsView)
       → core.work.items ≡ work.items → [] ≡ core.work.items → work.stopped ≡ core.work.stopped → (before : State) (listed : List Place) → pending plan x before [] listed ≡ pending plan x s [] left
       → FindsNext meaning stands_after state plan x before listed None (record core { work = work })
   none_left plan x s [] core r work same empty stopped before listed path = (

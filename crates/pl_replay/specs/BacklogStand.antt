@@ -2,8 +2,8 @@
 use Rattle.std.specs.Prelude.{◌≡◌, ℕ, ◌<◌, ◌==◌, List, [], ◌∷◌, ◌++◌, length, map, filter, remove, get_or, Bool, cond, nat_lt, All, AllPairs, Option, Some, None, MatchOption, slice_get}
 use Rattle.std.specs.VecDeque.{deque_len, deque_capacity}
 use Rattle.pl_event.specs.declared.envelopes.Envelope.{Envelope}
-use Rattle.pl_context.specs.Stopped.{no_stops}
-use Rattle.pl_context.specs.Queues.{Queue}
+use Rattle.pl_context.specs.Stops.{no_stops}
+use Rattle.pl_context.specs.Backlogs.{BacklogView}
 use Rattle.pl_world.specs.Plans.{Plan}
 use Rattle.pl_channel.specs.MadeItems.{Place}
 use Rattle.pl_replay.specs.States.{ExecutorState, State, executor_at}
@@ -32,7 +32,7 @@ abbrev pub entry_at : Plan → Aged → Envelope × ℕ
 entry_at plan i = (envelope_at plan i.place, i.age)
 
 -- What waits for one executor is in the order of the whole backlog.
-pub record WaitingStands (plan : Plan) (y : ℕ) (aged : List Aged) (places : ℕ) (w : Queue ℕ) : Type 0 where
+pub record WaitingStands (plan : Plan) (y : ℕ) (aged : List Aged) (places : ℕ) (w : BacklogView ℕ) : Type 0 where
   pub items : w.items ≡ map (entry_at plan) (filter (is_aged_for plan y) aged)
   pub stopped : w.stopped ≡ no_stops places
 
@@ -41,7 +41,7 @@ pub record BacklogStands (plan : Plan) (places : ℕ → ℕ) (aged : List Aged)
   pub order : IsByAge aged
   pub younger : All (λ i. i.age < e.next_age) aged
   pub targets : length e.waiting.items ≡ plan.executors
-  pub waiting : (y : ℕ) (w : Queue ℕ) → slice_get e.waiting.items y ≡ Some w → WaitingStands plan y aged (places y) w
+  pub waiting : (y : ℕ) (w : BacklogView ℕ) → slice_get e.waiting.items y ≡ Some w → WaitingStands plan y aged (places y) w
 
 -- The envelopes that wait at an executor are those of the model's places.
 pub record ExecutorStands (plan : Plan) (places : ℕ → ℕ) (s : ExecutorState) (e : Executor) : Type 0 where

@@ -10,7 +10,7 @@ use Rattle.pl_event.specs.declared.envelopes.Item.{Item}
 use Rattle.pl_event.specs.Fitting.{FitFrom, FitFromAsFlags}
 use Rattle.pl_event.specs.Meaning.{Meaning, up_of, down_of}
 use Rattle.pl_event.specs.Inputs.{input_after}
-use Rattle.pl_context.specs.Stopped.{same_hop}
+use Rattle.pl_context.specs.Stops.{same_hop}
 use Rattle.pl_world.specs.Plans.{ChannelPlan, content, tail_hop}
 use Rattle.pl_channel.specs.MadeItems.{places, turn_hop}
 use Rattle.pl_channel.specs.ChannelStates.{ChannelState}

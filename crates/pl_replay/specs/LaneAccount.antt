@@ -8,7 +8,7 @@ use Rattle.pl_event.specs.declared.envelopes.Kind.TheVariants.{Data, Flags}
 use Rattle.pl_event.specs.declared.envelopes.Lane.{Lane}
 use Rattle.pl_event.specs.Inputs.{read_steps}
 use Rattle.pl_world.specs.Plans.{ChannelPlan, Plan, head_hop, tail_hop}
-use Rattle.pl_context.specs.Stopped.{same_hop}
+use Rattle.pl_context.specs.Stops.{same_hop}
 use Rattle.pl_head.specs.ReadSteps.{read_items}
 use Rattle.pl_head.specs.Writes.{out}
 use Rattle.pl_channel.specs.MadeItems.{Place, last_hop, writer, items_made}

@@ -5,8 +5,8 @@ use Rattle.std.specs.Option.{option_map_or}
 use Rattle.pl_event.specs.declared.events.Event.{Event}
 use Rattle.pl_event.specs.declared.envelopes.Envelope.{Envelope}
 use Rattle.pl_event.specs.Meaning.{Meaning}
-use Rattle.pl_context.specs.Stopped.{no_stops}
-use Rattle.pl_context.specs.Queues.{Queue}
+use Rattle.pl_context.specs.Stops.{no_stops}
+use Rattle.pl_context.specs.Backlogs.{BacklogView}
 use Rattle.pl_head.specs.Transports.{TransportState}
 use Rattle.pl_world.specs.Plans.{ChannelPlan, Plan, tail_hop, head_hop}
 use Rattle.pl_channel.specs.MadeItems.{Place}
@@ -124,7 +124,7 @@ module _ {S T : Type 0} (meaning : S → Meaning) (stands_after : S → List Eve
 -- what waits at an executor; how much more its queue could hold without a growth is not seen
 pub record Waits : Type 0 where
   pub queue : List Envelope
-  pub waiting : List (Queue ℕ)
+  pub waiting : List (BacklogView ℕ)
   pub next_age : ℕ
 
 abbrev pub waits_at : Executor → Waits

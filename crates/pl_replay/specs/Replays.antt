@@ -1,7 +1,7 @@
 -- What a report of a session by a schedule says.
 use Rattle.std.specs.Prelude.{◌≡◌, ◌<◌, List, Bool, true, false, is_some, All}
 use Rattle.std.specs.List.{list_all, AllZip}
-use Rattle.pl_head.specs.Transports.{Store, TransportState}
+use Rattle.pl_head.specs.Transports.{MemoryTransportView, TransportState}
 use Rattle.pl_world.specs.declared.moves.Move.{Move}
 use Rattle.pl_world.specs.declared.session.Recorded.{Recorded}
 use Rattle.pl_world.specs.declared.report.ChannelReport.{ChannelReport}
@@ -32,7 +32,7 @@ abbrev pub fails_as_told : Bool → Stands → Bool
 fails_as_told is_told s = elim s [ stands.Drained ↦ true | stands.Open ↦ true | stands.Failed cause ↦ is_told ]
 
 -- so does each channel of a session
-abbrev pub AllFailAsTold : {S : Type 0} → List (Recorded S Store) → List ChannelReport → Type 0
+abbrev pub AllFailAsTold : {S : Type 0} → List (Recorded S MemoryTransportView) → List ChannelReport → Type 0
 AllFailAsTold = AllZip (λ recorded r. fails_as_told (is_some recorded.transport.fail_at) r.stands ≡ true)
 
 -- None of these channels has failed.

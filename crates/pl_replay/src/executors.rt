@@ -2,7 +2,7 @@
 
 ghost use Rattle.std.specs.Prelude.{◌≡◌, ℕ, List, ◌+◌, ◌<◌, ◌≤◌, ◌^◌, ◌∷◌, ◌++◌, [], length, IfOk, OnOk, IfNone, true, false, Some, nat_lt, slice_get, get_or, find, position, drop, ◌≢◌};
 ghost use Rattle.std.specs.Option.{option_map};
-ghost use Rattle.pl_context.specs.Stopped.{HasPlaces, any_stopped};
+ghost use Rattle.pl_context.specs.Stops.{HasPlaces, any_stopped};
 ghost use Rattle.pl_world.specs.Plans.{Plan};
 ghost use Rattle.pl_channel.specs.MadeItems.{Place};
 ghost use Rattle.pl_replay.specs.States.{ExecutorState, nothing_waits};

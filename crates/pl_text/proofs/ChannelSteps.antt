@@ -2,12 +2,12 @@
 use Rattle.std.proofs.Common.{◌≡◌, ◌≢◌, ℕ, List, [], ◌∷◌, ◌++◌, map, Option, Some, None, Result, Ok, Err, sym, refl, ap, subst, ◌∙◌, unwrap_or}
 use Rattle.pl_event.specs.Meaning.{Meaning}
 use Rattle.pl_event.specs.Paths.{inbound_chain, outbound_chain}
-use Rattle.pl_build.specs.declared.handlers.Handler.{Handler}
+use Rattle.pl_build.specs.declared.named_stages.NamedStage.{NamedStage}
 use Rattle.pl_build.specs.declared.faults.BuildFault.{BuildFault}
 use Rattle.pl_build.specs.declared.faults.BuildFault.TheVariants.{Memory}
-use Rattle.pl_build.specs.Pipelines.{Pipeline, Path, meanings}
+use Rattle.pl_build.specs.Pipelines.{PipelineBuilderView, PlacedView, meanings}
 use Rattle.pl_build.specs.Refusals.{unless, marks_answer, building_fault}
-use Rattle.pl_build.specs.Executors.{Grouping, HasPlaced, sizes_of, executor_after, hop_executors, groups_of}
+use Rattle.pl_build.specs.Executors.{GroupsView, HasPlaced, sizes_of, executor_after, hop_executors, groups_of}
 use Rattle.pl_head.specs.Transports.{TransportState}
 use Rattle.pl_world.specs.Plans.{ChannelPlan, channel_planned}
 use Rattle.pl_text.specs.declared.session_text.outline.ChannelOutline.{ChannelOutline}
@@ -30,23 +30,23 @@ then_err : {A B F : Type 0} (r : Result A F) (next : A → Result B F) (f : F) �
 then_err r next f is = ap (λ t. t >>= next) is
 
 module _ {S T : Type 0} (meaning : S → Meaning) (state : T → TransportState) where
-  pub pipeline_made : (sizes : List (List ℕ × ℕ)) (channel : ChannelOutline) (old new : Pipeline S) (u : Unit {0})
+  pub pipeline_made : (sizes : List (List ℕ × ℕ)) (channel : ChannelOutline) (old new : PipelineBuilderView S) (u : Unit {0})
       → all_edited [] channel.edits ≡ Ok (meant meaning old.handlers) → marks_answer channel.low channel.high ≡ Ok u → new ≡ record old { low = channel.low; high = channel.high }
       → building_fault meaning sizes new.handlers ≡ None → pipeline_built sizes channel ≡ Ok (meant meaning new.handlers)
   unfolding pipeline_built
   pipeline_made sizes channel old new u edits marks set none =
-      let same : meant meaning old.handlers ≡ meant meaning new.handlers = ap (λ (p : Pipeline S). meant meaning p.handlers) (sym set) in
-      then_ok (all_edited [] channel.edits) _ (meant meaning new.handlers) (Ok (meant meaning new.handlers)) (edits ∙ ap (λ (hs : List (Handler Meaning)). Ok hs) same)
+      let same : meant meaning old.handlers ≡ meant meaning new.handlers = ap (λ (p : PipelineBuilderView S). meant meaning p.handlers) (sym set) in
+      then_ok (all_edited [] channel.edits) _ (meant meaning new.handlers) (Ok (meant meaning new.handlers)) (edits ∙ ap (λ (hs : List (NamedStage Meaning)). Ok hs) same)
       (then_ok (marks_answer channel.low channel.high) _ u (Ok (meant meaning new.handlers)) marks
       (then_ok (unless (building_fault (λ m. m) sizes (meant meaning new.handlers))) _ tt (Ok (meant meaning new.handlers)) (unless_none _ (building_fault-meant meaning sizes new.handlers ∙ none)) refl))
 
-  pub pipeline_refused : (sizes : List (List ℕ × ℕ)) (channel : ChannelOutline) (old new : Pipeline S) (u : Unit {0}) (f : BuildFault)
+  pub pipeline_refused : (sizes : List (List ℕ × ℕ)) (channel : ChannelOutline) (old new : PipelineBuilderView S) (u : Unit {0}) (f : BuildFault)
       → all_edited [] channel.edits ≡ Ok (meant meaning old.handlers) → marks_answer channel.low channel.high ≡ Ok u → new ≡ record old { low = channel.low; high = channel.high }
       → f ≡ unwrap_or (building_fault meaning sizes new.handlers) Memory → f ≢ Memory → pipeline_built sizes channel ≡ Err f
   unfolding pipeline_built
   pipeline_refused sizes channel old new u f edits marks set is other =
-      let same : meant meaning old.handlers ≡ meant meaning new.handlers = ap (λ (p : Pipeline S). meant meaning p.handlers) (sym set) in
-      then_ok (all_edited [] channel.edits) _ (meant meaning new.handlers) (Err f) (edits ∙ ap (λ (hs : List (Handler Meaning)). Ok hs) same)
+      let same : meant meaning old.handlers ≡ meant meaning new.handlers = ap (λ (p : PipelineBuilderView S). meant meaning p.handlers) (sym set) in
+      then_ok (all_edited [] channel.edits) _ (meant meaning new.handlers) (Err f) (edits ∙ ap (λ (hs : List (NamedStage Meaning)). Ok hs) same)
       (then_ok (marks_answer channel.low channel.high) _ u (Err f) marks
       (then_err (unless (building_fault (λ m. m) sizes (meant meaning new.handlers))) _ f
       (ap unless (building_fault-meant meaning sizes new.handlers) ∙ unless_some (building_fault meaning sizes new.handlers) f is other)))
@@ -65,7 +65,7 @@ module _ {S T : Type 0} (meaning : S → Meaning) (state : T → TransportState)
       ∙ ap (λ (x : Option ℕ). plan_of_parts b.inbound b.outbound b.executors b.low b.high x a.bursts) w
       ∙ ap (λ (x : List (List (List ℕ))). plan_of_parts b.inbound b.outbound b.executors b.low b.high b.window x) r
 
-  pub channel_is_built : (before after : Grouping) (channel : ChannelOutline) (old new : Pipeline S) (path : Path S) (transport : T) (u : Unit {0})
+  pub channel_is_built : (before after : GroupsView) (channel : ChannelOutline) (old new : PipelineBuilderView S) (path : PlacedView S) (transport : T) (u : Unit {0})
       → all_edited [] channel.edits ≡ Ok (meant meaning old.handlers) → marks_answer channel.low channel.high ≡ Ok u → new ≡ record old { low = channel.low; high = channel.high }
       → building_fault meaning (sizes_of before) new.handlers ≡ None
       → map meaning path.inbound ≡ inbound_chain (meanings meaning new.handlers) → map meaning path.outbound ≡ outbound_chain (meanings meaning new.handlers)
@@ -81,8 +81,8 @@ module _ {S T : Type 0} (meaning : S → Meaning) (state : T → TransportState)
         (inbound ∙ ap inbound_chain (sym (meanings-meant meaning new.handlers)))
         (outbound ∙ ap outbound_chain (sym (meanings-meant meaning new.handlers)))
         (executors earlier placed ∙ sym (hop_executors-meant meaning (executor_after before.loops (sizes_of before) earlier) new.handlers))
-        (levels.0 ∙ ap (λ (p : Pipeline S). p.low) set)
-        (levels.1 ∙ ap (λ (p : Pipeline S). p.high) set)
+        (levels.0 ∙ ap (λ (p : PipelineBuilderView S). p.low) set)
+        (levels.1 ∙ ap (λ (p : PipelineBuilderView S). p.high) set)
         window
         refl;
     counted = λ earlier placed. subst (λ (gs : List (Option (List ℕ))). HasPlaced after (earlier ++ gs ∷ [])) (sym (groups_of-meant meaning new.handlers)) (counted earlier placed);

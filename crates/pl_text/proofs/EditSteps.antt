@@ -7,10 +7,10 @@ use Rattle.std.proofs.lemmas.Bool.Decides.{nat_tests}
 use Rattle.std.proofs.lemmas.List.{map-append}
 use Rattle.std.proofs.lemmas.List.Folds.{find_at}
 use Rattle.pl_event.specs.Meaning.{Meaning}
-use Rattle.pl_build.specs.declared.handlers.Handler.{Handler}
+use Rattle.pl_build.specs.declared.named_stages.NamedStage.{NamedStage}
 use Rattle.pl_build.specs.declared.faults.BuildFault.{BuildFault}
 use Rattle.pl_build.specs.declared.faults.BuildFault.TheVariants.{NoSuchName, Memory}
-use Rattle.pl_build.specs.Pipelines.{Pipeline, handler_of, is_named, place_of, without, stage_of}
+use Rattle.pl_build.specs.Pipelines.{PipelineBuilderView, handler_of, is_named, place_of, without, stage_of}
 use Rattle.pl_build.specs.Refusals.{naming_fault, beside_fault}
 use Rattle.pl_text.specs.declared.session_text.outline.Addition.{Addition}
 use Rattle.pl_text.specs.SessionHandlers.{meaning_of}
@@ -54,82 +54,82 @@ module _ {S : Type 0} (meaning : S → Meaning) where
 
   -- ---- first and last
 
-  pub first_refused : (a : Addition) (name : List ℕ) (old : List (Handler S)) (made : List (Handler Meaning)) (f : BuildFault) → name ≡ a.name → f ≡ unwrap_or (naming_fault name old) Memory → f ≢ Memory
+  pub first_refused : (a : Addition) (name : List ℕ) (old : List (NamedStage S)) (made : List (NamedStage Meaning)) (f : BuildFault) → name ≡ a.name → f ≡ unwrap_or (naming_fault name old) Memory → f ≢ Memory
       → made_unless (naming_fault a.name (meant meaning old)) made ≡ Err f
   first_refused a name old made f named is other =
       ap (λ (o : Option BuildFault). made_unless o made) (naming_fault-meant meaning a.name old ∙ ap (λ (n : List ℕ). naming_fault n old) (sym named))
       ∙ unless_some (naming_fault name old) made f is other
 
-  named_made : (a : Addition) (name : List ℕ) (old : List (Handler S)) (made : List (Handler Meaning)) → name ≡ a.name → naming_fault name old ≡ None
+  named_made : (a : Addition) (name : List ℕ) (old : List (NamedStage S)) (made : List (NamedStage Meaning)) → name ≡ a.name → naming_fault name old ≡ None
       → made_unless (naming_fault a.name (meant meaning old)) made ≡ Ok made
   named_made a name old made named none =
       unless_none (naming_fault a.name (meant meaning old)) made (naming_fault-meant meaning a.name old ∙ ap (λ (n : List ℕ). naming_fault n old) (sym named) ∙ none)
 
-  pub first_made : (a : Addition) (name : List ℕ) (group : Option (List ℕ)) (stage : S) (old new : Pipeline S) → name ≡ a.name → group ≡ a.group → meaning stage ≡ meaning_of a.handler
+  pub first_made : (a : Addition) (name : List ℕ) (group : Option (List ℕ)) (stage : S) (old new : PipelineBuilderView S) → name ≡ a.name → group ≡ a.group → meaning stage ≡ meaning_of a.handler
       → naming_fault name old.handlers ≡ None → new ≡ record old { handlers = handler_of name group stage ∷ old.handlers }
       → made_unless (naming_fault a.name (meant meaning old.handlers)) (added a ∷ meant meaning old.handlers) ≡ Ok (meant meaning new.handlers)
   first_made a name group stage old new named grouped means none is =
       named_made a name old.handlers (added a ∷ meant meaning old.handlers) named none
-      ∙ ap (λ (h : Handler Meaning). Ok (h ∷ meant meaning old.handlers)) (sym (one_added a name group stage named grouped means))
-      ∙ ap (λ (p : Pipeline S). Ok (meant meaning p.handlers)) (sym is)
+      ∙ ap (λ (h : NamedStage Meaning). Ok (h ∷ meant meaning old.handlers)) (sym (one_added a name group stage named grouped means))
+      ∙ ap (λ (p : PipelineBuilderView S). Ok (meant meaning p.handlers)) (sym is)
 
-  pub last_made : (a : Addition) (name : List ℕ) (group : Option (List ℕ)) (stage : S) (old new : Pipeline S) → name ≡ a.name → group ≡ a.group → meaning stage ≡ meaning_of a.handler
+  pub last_made : (a : Addition) (name : List ℕ) (group : Option (List ℕ)) (stage : S) (old new : PipelineBuilderView S) → name ≡ a.name → group ≡ a.group → meaning stage ≡ meaning_of a.handler
       → naming_fault name old.handlers ≡ None → new ≡ record old { handlers = old.handlers ++ handler_of name group stage ∷ [] }
       → made_unless (naming_fault a.name (meant meaning old.handlers)) (meant meaning old.handlers ++ added a ∷ []) ≡ Ok (meant meaning new.handlers)
   last_made a name group stage old new named grouped means none is =
       named_made a name old.handlers (meant meaning old.handlers ++ added a ∷ []) named none
-      ∙ ap (λ (h : Handler Meaning). Ok (meant meaning old.handlers ++ h ∷ [])) (sym (one_added a name group stage named grouped means))
-      ∙ ap (λ (hs : List (Handler Meaning)). Ok hs) (sym (map-append (one meaning) old.handlers (handler_of name group stage ∷ [])))
-      ∙ ap (λ (p : Pipeline S). Ok (meant meaning p.handlers)) (sym is)
+      ∙ ap (λ (h : NamedStage Meaning). Ok (meant meaning old.handlers ++ h ∷ [])) (sym (one_added a name group stage named grouped means))
+      ∙ ap (λ (hs : List (NamedStage Meaning)). Ok hs) (sym (map-append (one meaning) old.handlers (handler_of name group stage ∷ [])))
+      ∙ ap (λ (p : PipelineBuilderView S). Ok (meant meaning p.handlers)) (sym is)
 
   -- ---- before and after
 
-  beside_is : (a : Addition) (at to name : List ℕ) (old : List (Handler S)) → name ≡ a.name → to ≡ at → beside_fault at a.name (meant meaning old) ≡ beside_fault to name old
+  beside_is : (a : Addition) (at to name : List ℕ) (old : List (NamedStage S)) → name ≡ a.name → to ≡ at → beside_fault at a.name (meant meaning old) ≡ beside_fault to name old
   beside_is a at to name old named given =
       beside_fault-meant meaning at a.name old ∙ ap₂ (λ (t n : List ℕ). beside_fault t n old) (sym given) (sym named)
 
-  pub beside_refused : (a : Addition) (at to name : List ℕ) (old : List (Handler S)) (made : List (Handler Meaning)) (f : BuildFault) → name ≡ a.name → to ≡ at → f ≡ unwrap_or (beside_fault to name old) Memory → f ≢ Memory
+  pub beside_refused : (a : Addition) (at to name : List ℕ) (old : List (NamedStage S)) (made : List (NamedStage Meaning)) (f : BuildFault) → name ≡ a.name → to ≡ at → f ≡ unwrap_or (beside_fault to name old) Memory → f ≢ Memory
       → made_unless (beside_fault at a.name (meant meaning old)) made ≡ Err f
   beside_refused a at to name old made f named given is other =
       ap (λ (o : Option BuildFault). made_unless o made) (beside_is a at to name old named given) ∙ unless_some (beside_fault to name old) made f is other
 
   -- a handler put in at a place that is there
-  put_in : (shift : ℕ → ℕ) (o : Option ℕ) (handler : Handler S) (old new : Pipeline S) → is_some o ≡ true → IfSome o (λ place. new ≡ record old { handlers = insert old.handlers (shift place) handler })
+  put_in : (shift : ℕ → ℕ) (o : Option ℕ) (handler : NamedStage S) (old new : PipelineBuilderView S) → is_some o ≡ true → IfSome o (λ place. new ≡ record old { handlers = insert old.handlers (shift place) handler })
       → option_map_or (λ place. insert (meant meaning old.handlers) (shift place) (one meaning handler)) o (meant meaning old.handlers) ≡ meant meaning new.handlers
   put_in shift None handler old new there is = cc
   put_in shift (Some place) handler old new there is =
-      insert-map (one meaning) old.handlers (shift place) handler ∙ ap (λ (p : Pipeline S). meant meaning p.handlers) (sym is)
+      insert-map (one meaning) old.handlers (shift place) handler ∙ ap (λ (p : PipelineBuilderView S). meant meaning p.handlers) (sym is)
 
-  put_beside : (shift : ℕ → ℕ) (a : Addition) (at to name : List ℕ) (group : Option (List ℕ)) (stage : S) (old new : Pipeline S) → name ≡ a.name → to ≡ at → group ≡ a.group → meaning stage ≡ meaning_of a.handler
+  put_beside : (shift : ℕ → ℕ) (a : Addition) (at to name : List ℕ) (group : Option (List ℕ)) (stage : S) (old new : PipelineBuilderView S) → name ≡ a.name → to ≡ at → group ≡ a.group → meaning stage ≡ meaning_of a.handler
       → beside_fault to name old.handlers ≡ None → IfSome (place_of to old.handlers) (λ place. new ≡ record old { handlers = insert old.handlers (shift place) (handler_of name group stage) })
       → option_map_or (λ place. insert (meant meaning old.handlers) (shift place) (added a)) (place_of at (meant meaning old.handlers)) (meant meaning old.handlers) ≡ meant meaning new.handlers
   put_beside shift a at to name group stage old new named given grouped means none is =
       let place = place_of-meant meaning at old.handlers ∙ ap (λ (t : List ℕ). place_of t old.handlers) (sym given) in
-      ap₂ (λ (o : Option ℕ) (h : Handler Meaning). option_map_or (λ place. insert (meant meaning old.handlers) (shift place) h) o (meant meaning old.handlers)) place (sym (one_added a name group stage named grouped means))
+      ap₂ (λ (o : Option ℕ) (h : NamedStage Meaning). option_map_or (λ place. insert (meant meaning old.handlers) (shift place) h) o (meant meaning old.handlers)) place (sym (one_added a name group stage named grouped means))
       ∙ put_in shift (place_of to old.handlers) (handler_of name group stage) old new (is_there (naming_fault name old.handlers) (place_of to old.handlers) none) is
 
-  beside_made : (a : Addition) (at to name : List ℕ) (old : List (Handler S)) (made : List (Handler Meaning)) → name ≡ a.name → to ≡ at → beside_fault to name old ≡ None
+  beside_made : (a : Addition) (at to name : List ℕ) (old : List (NamedStage S)) (made : List (NamedStage Meaning)) → name ≡ a.name → to ≡ at → beside_fault to name old ≡ None
       → made_unless (beside_fault at a.name (meant meaning old)) made ≡ Ok made
   beside_made a at to name old made named given none =
       unless_none (beside_fault at a.name (meant meaning old)) made (beside_is a at to name old named given ∙ none)
 
-  pub before_made : (a : Addition) (at to name : List ℕ) (group : Option (List ℕ)) (stage : S) (old new : Pipeline S) → name ≡ a.name → to ≡ at → group ≡ a.group → meaning stage ≡ meaning_of a.handler
+  pub before_made : (a : Addition) (at to name : List ℕ) (group : Option (List ℕ)) (stage : S) (old new : PipelineBuilderView S) → name ≡ a.name → to ≡ at → group ≡ a.group → meaning stage ≡ meaning_of a.handler
       → beside_fault to name old.handlers ≡ None → IfSome (place_of to old.handlers) (λ place. new ≡ record old { handlers = insert old.handlers place (handler_of name group stage) })
       → made_unless (beside_fault at a.name (meant meaning old.handlers)) (put_before at (added a) (meant meaning old.handlers)) ≡ Ok (meant meaning new.handlers)
   before_made a at to name group stage old new named given grouped means none is =
       beside_made a at to name old.handlers (put_before at (added a) (meant meaning old.handlers)) named given none
-      ∙ ap (λ (hs : List (Handler Meaning)). Ok hs) (put_beside (λ n. n) a at to name group stage old new named given grouped means none is)
+      ∙ ap (λ (hs : List (NamedStage Meaning)). Ok hs) (put_beside (λ n. n) a at to name group stage old new named given grouped means none is)
 
-  pub after_made : (a : Addition) (at to name : List ℕ) (group : Option (List ℕ)) (stage : S) (old new : Pipeline S) → name ≡ a.name → to ≡ at → group ≡ a.group → meaning stage ≡ meaning_of a.handler
+  pub after_made : (a : Addition) (at to name : List ℕ) (group : Option (List ℕ)) (stage : S) (old new : PipelineBuilderView S) → name ≡ a.name → to ≡ at → group ≡ a.group → meaning stage ≡ meaning_of a.handler
       → beside_fault to name old.handlers ≡ None → IfSome (place_of to old.handlers) (λ place. new ≡ record old { handlers = insert old.handlers (place + 1) (handler_of name group stage) })
       → made_unless (beside_fault at a.name (meant meaning old.handlers)) (put_after at (added a) (meant meaning old.handlers)) ≡ Ok (meant meaning new.handlers)
   after_made a at to name group stage old new named given grouped means none is =
       beside_made a at to name old.handlers (put_after at (added a) (meant meaning old.handlers)) named given none
-      ∙ ap (λ (hs : List (Handler Meaning)). Ok hs) (put_beside (λ n. n + 1) a at to name group stage old new named given grouped means none is)
+      ∙ ap (λ (hs : List (NamedStage Meaning)). Ok hs) (put_beside (λ n. n + 1) a at to name group stage old new named given grouped means none is)
 
   -- ---- remove
 
-  without-meant : (name : List ℕ) (old : List (Handler S)) → without name (meant meaning old) ≡ meant meaning (without name old)
+  without-meant : (name : List ℕ) (old : List (NamedStage S)) → without name (meant meaning old) ≡ meant meaning (without name old)
   without-meant name old =
       ap (λ (o : Option ℕ). option_map_or (λ place. remove (meant meaning old) place) o (meant meaning old)) (place_of-meant meaning name old) ∙ taken (place_of name old)
     where
@@ -137,29 +137,29 @@ module _ {S : Type 0} (meaning : S → Meaning) where
       taken None = refl
       taken (Some place) = remove-map (one meaning) old place
 
-  place_is_some : (name : List ℕ) (old : List (Handler S)) → is_some (place_of name (meant meaning old)) ≡ is_some (find (is_named name) old)
+  place_is_some : (name : List ℕ) (old : List (NamedStage S)) → is_some (place_of name (meant meaning old)) ≡ is_some (find (is_named name) old)
   place_is_some name old =
       ap is_some (place_of-meant meaning name old)
       ∙ test_is_some (nat_lt (position_or_len (is_named name) old) (length old)) (position_or_len (is_named name) old)
       ∙ sym (ap is_some (find_at (is_named name) old) ∙ slice_is_some old (position_or_len (is_named name) old))
 
-  by_stage : (found : Option (Handler S)) (stage : S) → option_map_or (λ handler. Ok handler.stage) found (Err NoSuchName) ≡ Ok stage → is_some found ≡ true
+  by_stage : (found : Option (NamedStage S)) (stage : S) → option_map_or (λ handler. Ok handler.stage) found (Err NoSuchName) ≡ Ok stage → is_some found ≡ true
   by_stage None stage e = cc
   by_stage (Some h) stage e = refl
 
-  by_fault : (found : Option (Handler S)) (f : BuildFault) → option_map_or (λ handler. Ok handler.stage) found (Err NoSuchName) ≡ Err f → (is_some found ≡ false) × (f ≡ NoSuchName)
+  by_fault : (found : Option (NamedStage S)) (f : BuildFault) → option_map_or (λ handler. Ok handler.stage) found (Err NoSuchName) ≡ Err f → (is_some found ≡ false) × (f ≡ NoSuchName)
   by_fault None f e = (refl, cc)
   by_fault (Some h) f e = cc
 
-  pub removed : (name to : List ℕ) (stage : S) (old new : Pipeline S) → to ≡ name → stage_of to old.handlers ≡ Ok stage → new ≡ record old { handlers = without to old.handlers }
+  pub removed : (name to : List ℕ) (stage : S) (old new : PipelineBuilderView S) → to ≡ name → stage_of to old.handlers ≡ Ok stage → new ≡ record old { handlers = without to old.handlers }
       → (if is_some (place_of name (meant meaning old.handlers)) then Ok (without name (meant meaning old.handlers)) else Err NoSuchName) ≡ Ok (meant meaning new.handlers)
   removed name to stage old new given was is =
       let there = place_is_some name old.handlers ∙ ap (λ (t : List ℕ). is_some (find (is_named t) old.handlers)) (sym given) ∙ by_stage (find (is_named to) old.handlers) stage was in
       ap (λ (b : Bool). if b then Ok (without name (meant meaning old.handlers)) else Err NoSuchName) there
-      ∙ ap (λ (hs : List (Handler Meaning)). Ok hs) (without-meant name old.handlers ∙ ap (λ (t : List ℕ). meant meaning (without t old.handlers)) (sym given))
-      ∙ ap (λ (p : Pipeline S). Ok (meant meaning p.handlers)) (sym is)
+      ∙ ap (λ (hs : List (NamedStage Meaning)). Ok hs) (without-meant name old.handlers ∙ ap (λ (t : List ℕ). meant meaning (without t old.handlers)) (sym given))
+      ∙ ap (λ (p : PipelineBuilderView S). Ok (meant meaning p.handlers)) (sym is)
 
-  pub not_removed : (name to : List ℕ) (f : BuildFault) (old : List (Handler S)) → to ≡ name → stage_of to old ≡ Err f
+  pub not_removed : (name to : List ℕ) (f : BuildFault) (old : List (NamedStage S)) → to ≡ name → stage_of to old ≡ Err f
       → (if is_some (place_of name (meant meaning old)) then Ok (without name (meant meaning old)) else Err NoSuchName) ≡ Err f
   not_removed name to f old given was =
       let p = by_fault (find (is_named to) old) f was in

@@ -11,7 +11,7 @@ use Rattle.pl_event.specs.Meaning.{Meaning}
 use Rattle.pl_event.specs.declared.stages.Direction.{Direction}
 use Rattle.pl_event.specs.declared.stages.Direction.TheVariants.{Inbound, Outbound, Turn}
 use Rattle.pl_event.specs.Paths.{inbound_chain, outbound_chain, is_outbound, is_turn}
-use Rattle.pl_build.specs.declared.handlers.Handler.{Handler}
+use Rattle.pl_build.specs.declared.named_stages.NamedStage.{NamedStage}
 use Rattle.pl_build.specs.declared.faults.BuildFault.{BuildFault}
 use Rattle.pl_build.specs.declared.faults.BuildFault.TheVariants.{NoSuchName, Limit, Marks}
 use Rattle.pl_build.specs.Names.{is_name}
@@ -36,11 +36,11 @@ meaning_thrifty Encode = reply_encoding-thrifty
 meaning_thrifty Service = line_service-thrifty
 meaning_thrifty (FlushEvery n) = flush_every-thrifty n
 
-abbrev IsBuiltIn : Handler Meaning → Type 0
+abbrev IsBuiltIn : NamedStage Meaning → Type 0
 IsBuiltIn handler = IsThrifty handler.stage
 
 -- at most 32 handlers, each of a built-in kind
-pub record AreWithin (handlers : List (Handler Meaning)) : Type 0 where
+pub record AreWithin (handlers : List (NamedStage Meaning)) : Type 0 where
   pub built_in : All IsBuiltIn handlers
   pub at_most : length handlers ≤ 32
 
@@ -55,7 +55,7 @@ room_by true true o e = cc
 room_by true false o e = refl
 room_by false full o e = cc
 
-room : (name : List ℕ) (handlers : List (Handler Meaning)) → naming_fault name handlers ≡ None → length handlers < 32
+room : (name : List ℕ) (handlers : List (NamedStage Meaning)) → naming_fault name handlers ≡ None → length handlers < 32
 room name handlers e =
     let full : nat_le 32 (length handlers) ≡ false = room_by (is_name name) (nat_le 32 (length handlers)) _ e in
     grind (arith, nat_tests)
@@ -67,26 +67,26 @@ naming_of (Some f) there e = cc
 added_within : (a : Addition) → IsBuiltIn (added a)
 added_within a = meaning_thrifty a.handler
 
-insert_within : (handlers : List (Handler Meaning)) (place : ℕ) (a : Addition) → AreWithin handlers → length handlers < 32 → AreWithin (insert handlers place (added a))
+insert_within : (handlers : List (NamedStage Meaning)) (place : ℕ) (a : Addition) → AreWithin handlers → length handlers < 32 → AreWithin (insert handlers place (added a))
 insert_within handlers place a within free = record {
   built_in = All-append IsBuiltIn (take place handlers) (added a ∷ drop place handlers) (All-take IsBuiltIn place handlers within.built_in)
       (All-cons IsBuiltIn (added a) (drop place handlers) (added_within a) (All-drop IsBuiltIn place handlers within.built_in));
-  at_most = omega (arith, length-append (take place handlers) (added a ∷ drop place handlers), ap (λ (hs : List (Handler Meaning)). length hs) (take-append-drop place handlers), length-append (take place handlers) (drop place handlers));
+  at_most = omega (arith, length-append (take place handlers) (added a ∷ drop place handlers), ap (λ (hs : List (NamedStage Meaning)). length hs) (take-append-drop place handlers), length-append (take place handlers) (drop place handlers));
 }
 
-insert_at_within : (o : Option ℕ) (shift : ℕ → ℕ) (handlers : List (Handler Meaning)) (a : Addition) → AreWithin handlers → length handlers < 32
+insert_at_within : (o : Option ℕ) (shift : ℕ → ℕ) (handlers : List (NamedStage Meaning)) (a : Addition) → AreWithin handlers → length handlers < 32
     → AreWithin (option_map_or (λ place. insert handlers (shift place) (added a)) o handlers)
 insert_at_within None shift handlers a within free = within
 insert_at_within (Some place) shift handlers a within free = insert_within handlers (shift place) a within free
 
-remove_within : (o : Option ℕ) (handlers : List (Handler Meaning)) → AreWithin handlers → AreWithin (option_map_or (λ place. remove handlers place) o handlers)
+remove_within : (o : Option ℕ) (handlers : List (NamedStage Meaning)) → AreWithin handlers → AreWithin (option_map_or (λ place. remove handlers place) o handlers)
 remove_within None handlers within = within
 remove_within (Some place) handlers within = record {
   built_in = All-append IsBuiltIn (take place handlers) (drop (suc place) handlers) (All-take IsBuiltIn place handlers within.built_in) (All-drop IsBuiltIn (suc place) handlers within.built_in);
   at_most = omega (arith, within.at_most, length-append (take place handlers) (drop (suc place) handlers), length-take place handlers, length-drop (suc place) handlers);
 }
 
-edited-within : (handlers next : List (Handler Meaning)) (edit : Edit) → edited handlers edit ≡ Ok next → AreWithin handlers → AreWithin next
+edited-within : (handlers next : List (NamedStage Meaning)) (edit : Edit) → edited handlers edit ≡ Ok next → AreWithin handlers → AreWithin next
 unfolding edited
 edited-within handlers next (First a) e within =
     let p = unless-ok (naming_fault a.name handlers) (added a ∷ handlers) next e in
@@ -111,7 +111,7 @@ edited-within handlers next (Remove name) e within =
     let p = choice-ok (is_some (place_of name handlers)) (without name handlers) next NoSuchName e in
     subst AreWithin p.1 (remove_within (place_of name handlers) handlers within)
 
-all_edited-within : (handlers last : List (Handler Meaning)) (edits : List Edit) → all_edited handlers edits ≡ Ok last → AreWithin handlers → AreWithin last
+all_edited-within : (handlers last : List (NamedStage Meaning)) (edits : List Edit) → all_edited handlers edits ≡ Ok last → AreWithin handlers → AreWithin last
 all_edited-within handlers last [] e within = let is : handlers ≡ last = cc in subst AreWithin is within
 all_edited-within handlers last (edit ∷ edits) e within =
     let p = bind-ok (edited handlers edit) (λ next. all_edited next edits) last e in
@@ -133,7 +133,7 @@ marks-within low high u e =
     below : (a b : ℕ) → nat_lt a b ≡ false → b ≤ a
     below a b e = grind (arith, nat_tests)
 
-pub pipeline-within : (sizes : List (List ℕ × ℕ)) (channel : ChannelOutline) (handlers : List (Handler Meaning)) → pipeline_built sizes channel ≡ Ok handlers
+pub pipeline-within : (sizes : List (List ℕ × ℕ)) (channel : ChannelOutline) (handlers : List (NamedStage Meaning)) → pipeline_built sizes channel ≡ Ok handlers
     → AreWithin handlers × (channel.low ≤ channel.high) × (channel.high ≤ 1073741824)
 unfolding pipeline_built
 pipeline-within sizes channel handlers e =
@@ -193,5 +193,5 @@ outbound-out ms =
     All-reverse (λ (m : Meaning). m.direction ≡ Outbound) (filter outbound (take (fronts ms) ms))
     (All-weaker (λ (m : Meaning). outbound m ≡ true) (λ (m : Meaning). m.direction ≡ Outbound) (λ m e. is_out m.direction e) (filter outbound (take (fronts ms) ms)) (filter_passes outbound (take (fronts ms) ms)))
 
-pub meanings-all : (handlers : List (Handler Meaning)) → AreWithin handlers → All IsThrifty (meanings (λ m. m) handlers)
-meanings-all handlers within = All-map IsThrifty (λ (h : Handler Meaning). h.stage) handlers within.built_in
+pub meanings-all : (handlers : List (NamedStage Meaning)) → AreWithin handlers → All IsThrifty (meanings (λ m. m) handlers)
+meanings-all handlers within = All-map IsThrifty (λ (h : NamedStage Meaning). h.stage) handlers within.built_in

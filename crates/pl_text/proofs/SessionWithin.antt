@@ -8,7 +8,7 @@ use Rattle.serde_json.specs.Data.{Data}
 use Rattle.serde_json.specs.Read.{read}
 use Rattle.pl_event.specs.Meaning.{Meaning}
 use Rattle.pl_event.specs.Paths.{inbound_chain, outbound_chain}
-use Rattle.pl_build.specs.declared.handlers.Handler.{Handler}
+use Rattle.pl_build.specs.declared.named_stages.NamedStage.{NamedStage}
 use Rattle.pl_build.specs.declared.faults.BuildFault.{BuildFault}
 use Rattle.pl_build.specs.declared.faults.BuildFault.TheVariants as build
 use Rattle.pl_build.specs.Names.{is_name}
@@ -31,13 +31,13 @@ use Rattle.pl_stages.specs.Counts.{IsThrifty}
 
 -- ---- channels
 
-channel_built-within : (loops : ℕ) (sizes : List (List ℕ × ℕ)) (earlier : List (List (Option (List ℕ)))) (outline : ChannelOutline) (handlers : List (Handler Meaning))
+channel_built-within : (loops : ℕ) (sizes : List (List ℕ × ℕ)) (earlier : List (List (Option (List ℕ)))) (outline : ChannelOutline) (handlers : List (NamedStage Meaning))
     → IsChannelOutlineWithin outline → pipeline_built sizes outline ≡ Ok handlers → IsChannelWithin (channel_built loops sizes earlier outline handlers)
 channel_built-within loops sizes earlier outline handlers given h =
     let within = pipeline-within sizes outline handlers h in
     let ms : List Meaning = meanings (λ m. m) handlers in
     let all = meanings-all handlers within.0 in
-    let count : length ms ≡ length handlers = length-map handlers (λ (h : Handler Meaning). h.stage) in
+    let count : length ms ≡ length handlers = length-map handlers (λ (h : NamedStage Meaning). h.stage) in
     record {
       handlers_at_most = omega (arith, chains-length ms, count, within.0.at_most);
       order = within.1;

@@ -4,10 +4,10 @@ use Rattle.std.specs.Prelude.{All}
 use Rattle.std.specs.List.{list_all}
 use Rattle.std.proofs.lemmas.Bool.{and_from, le-leb, lt-ltb, eq-eqb}
 use Rattle.std.proofs.lemmas.List.Elements.{All-cons, All-head, All-tail}
-use Rattle.pl_build.specs.Pipelines.{Path}
+use Rattle.pl_build.specs.Pipelines.{PlacedView}
 use Rattle.pl_build.specs.declared.faults.BuildFault.{BuildFault}
 use Rattle.pl_build.specs.Executors.{groups_of}
-use Rattle.pl_head.specs.Transports.{Store, TransportState}
+use Rattle.pl_head.specs.Transports.{MemoryTransportView, TransportState}
 use Rattle.pl_world.specs.declared.session.Recorded.{Recorded}
 use Rattle.pl_world.specs.declared.worlds.WorldRefusal.{WorldRefusal}
 use Rattle.pl_world.specs.declared.worlds.WorldRefusal.TheVariants as refusal
@@ -28,16 +28,16 @@ executors_there count (x ∷ executors) all =
 
 module _ {S : Type 0} where
   -- there are as many of each
-  pub record AreAsMany (pipelines : List (Path S)) (inputs : Inputs) (transports : List Store) : Type 0 where
+  pub record AreAsMany (pipelines : List (PlacedView S)) (inputs : Inputs) (transports : List MemoryTransportView) : Type 0 where
     pub beside : length pipelines ≡ length inputs
     pub behind : length pipelines ≡ length transports
 
-  as_many-tail : (p : Path S) (pipelines : List (Path S)) (i : List (List (List ℕ))) (inputs : Inputs) (t : Store) (transports : List Store)
+  as_many-tail : (p : PlacedView S) (pipelines : List (PlacedView S)) (i : List (List (List ℕ))) (inputs : Inputs) (t : MemoryTransportView) (transports : List MemoryTransportView)
       → AreAsMany (p ∷ pipelines) (i ∷ inputs) (t ∷ transports) → AreAsMany pipelines inputs transports
   as_many-tail p pipelines i inputs t transports same = record { beside = omega (arith, same.beside); behind = omega (arith, same.behind) }
 
   -- one channel more
-  pub recorded-push : (pipelines : List (Path S)) (inputs : Inputs) (transports : List Store) (channel : Recorded S Store) → AreAsMany pipelines inputs transports
+  pub recorded-push : (pipelines : List (PlacedView S)) (inputs : Inputs) (transports : List MemoryTransportView) (channel : Recorded S MemoryTransportView) → AreAsMany pipelines inputs transports
       → recorded (pipelines ++ channel.pipeline ∷ []) (inputs ++ channel.bursts ∷ []) (transports ++ channel.transport ∷ []) ≡ recorded pipelines inputs transports ++ channel ∷ []
   recorded-push [] [] [] channel same = refl
   recorded-push [] [] (t ∷ transports) channel same = absurd (omega (arith, same.behind))
@@ -45,21 +45,21 @@ module _ {S : Type 0} where
   recorded-push (p ∷ pipelines) [] transports channel same = absurd (omega (arith, same.beside))
   recorded-push (p ∷ pipelines) (i ∷ inputs) [] channel same = absurd (omega (arith, same.behind))
   recorded-push (p ∷ pipelines) (i ∷ inputs) (t ∷ transports) channel same =
-      ap (λ (rs : List (Recorded S Store)). record { pipeline = p; bursts = i; transport = t } ∷ rs)
+      ap (λ (rs : List (Recorded S MemoryTransportView)). record { pipeline = p; bursts = i; transport = t } ∷ rs)
       (recorded-push pipelines inputs transports channel (as_many-tail p pipelines i inputs t transports same))
 
-  pub length-recorded : (pipelines : List (Path S)) (inputs : Inputs) (transports : List Store) → AreAsMany pipelines inputs transports → length (recorded pipelines inputs transports) ≡ length pipelines
+  pub length-recorded : (pipelines : List (PlacedView S)) (inputs : Inputs) (transports : List MemoryTransportView) → AreAsMany pipelines inputs transports → length (recorded pipelines inputs transports) ≡ length pipelines
   length-recorded [] inputs transports same = refl
   length-recorded (p ∷ pipelines) [] transports same = absurd (omega (arith, same.beside))
   length-recorded (p ∷ pipelines) (i ∷ inputs) [] same = absurd (omega (arith, same.behind))
   length-recorded (p ∷ pipelines) (i ∷ inputs) (t ∷ transports) same =
       ap suc (length-recorded pipelines inputs transports (as_many-tail p pipelines i inputs t transports same))
 
-  module _ (state : Store → TransportState) (count : ℕ) where
-    abbrev Fits : Recorded S Store → Type 0
+  module _ (state : MemoryTransportView → TransportState) (count : ℕ) where
+    abbrev Fits : Recorded S MemoryTransportView → Type 0
     Fits = FitsWorld state count
 
-    all_placed : (pipelines : List (Path S)) (inputs : Inputs) (transports : List Store) → AreAsMany pipelines inputs transports → All Fits (recorded pipelines inputs transports) → list_all (is_placed count) pipelines ≡ true
+    all_placed : (pipelines : List (PlacedView S)) (inputs : Inputs) (transports : List MemoryTransportView) → AreAsMany pipelines inputs transports → All Fits (recorded pipelines inputs transports) → list_all (is_placed count) pipelines ≡ true
     all_placed [] inputs transports same all = refl
     all_placed (p ∷ pipelines) [] transports same all = absurd (omega (arith, same.beside))
     all_placed (p ∷ pipelines) (i ∷ inputs) [] same all = absurd (omega (arith, same.behind))
@@ -69,7 +69,7 @@ module _ {S : Type 0} where
         (all_placed pipelines inputs transports (as_many-tail p pipelines i inputs t transports same)
         (All-tail Fits (record { pipeline = p; bursts = i; transport = t }) (recorded pipelines inputs transports) all))
 
-    all_fit : (pipelines : List (Path S)) (inputs : Inputs) (transports : List Store) → AreAsMany pipelines inputs transports → All Fits (recorded pipelines inputs transports) → list_all fits inputs ≡ true
+    all_fit : (pipelines : List (PlacedView S)) (inputs : Inputs) (transports : List MemoryTransportView) → AreAsMany pipelines inputs transports → All Fits (recorded pipelines inputs transports) → list_all fits inputs ≡ true
     all_fit [] [] transports same all = refl
     all_fit [] (i ∷ inputs) transports same all = absurd (omega (arith, same.beside))
     all_fit (p ∷ pipelines) [] transports same all = absurd (omega (arith, same.beside))
@@ -80,23 +80,23 @@ module _ {S : Type 0} where
         (All-tail Fits (record { pipeline = p; bursts = i; transport = t }) (recorded pipelines inputs transports) all))
 
     -- the transports of channels that fit were not called
-    pub all_uncalled : (pipelines : List (Path S)) (inputs : Inputs) (transports : List Store) → AreAsMany pipelines inputs transports → All Fits (recorded pipelines inputs transports)
+    pub all_uncalled : (pipelines : List (PlacedView S)) (inputs : Inputs) (transports : List MemoryTransportView) → AreAsMany pipelines inputs transports → All Fits (recorded pipelines inputs transports)
         → All (λ transport. IsUncalled (state transport)) transports
     all_uncalled [] inputs [] same all = λ k d below. absurd (omega (arith, below))
     all_uncalled [] inputs (t ∷ transports) same all = absurd (omega (arith, same.behind))
     all_uncalled (p ∷ pipelines) [] transports same all = absurd (omega (arith, same.beside))
     all_uncalled (p ∷ pipelines) (i ∷ inputs) [] same all = absurd (omega (arith, same.behind))
     all_uncalled (p ∷ pipelines) (i ∷ inputs) (t ∷ transports) same all =
-        All-cons (λ (u : Store). IsUncalled (state u)) t transports (All-head Fits (record { pipeline = p; bursts = i; transport = t }) (recorded pipelines inputs transports) all).transport
+        All-cons (λ (u : MemoryTransportView). IsUncalled (state u)) t transports (All-head Fits (record { pipeline = p; bursts = i; transport = t }) (recorded pipelines inputs transports) all).transport
         (all_uncalled pipelines inputs transports (as_many-tail p pipelines i inputs t transports same)
         (All-tail Fits (record { pipeline = p; bursts = i; transport = t }) (recorded pipelines inputs transports) all))
 
     -- channels that are worldly are within the limits of a world
-    pub worldly-within : (pipelines : List (Path S)) (inputs : Inputs) (transports : List Store) (channels : List (Recorded S Store)) → AreAsMany pipelines inputs transports
+    pub worldly-within : (pipelines : List (PlacedView S)) (inputs : Inputs) (transports : List MemoryTransportView) (channels : List (Recorded S MemoryTransportView)) → AreAsMany pipelines inputs transports
         → recorded pipelines inputs transports ≡ channels → AreWorldly state count channels → is_within pipelines inputs transports count ≡ true
     worldly-within pipelines inputs transports channels same whole worldly =
         let each = subst (All Fits) (sym whole) worldly.each in
-        let size = ap (λ (rs : List (Recorded S Store)). length rs) whole in
+        let size = ap (λ (rs : List (Recorded S MemoryTransportView)). length rs) whole in
         let few : length pipelines ≤ 16 = omega (arith, size, length-recorded pipelines inputs transports same, worldly.channels_at_most) in
         let a = nat_le count 16 in
         let b = nat_le (length pipelines) 16 in
@@ -112,7 +112,7 @@ module _ {S : Type 0} where
         (all_fit pipelines inputs transports same each)
 
 -- channels that fit are to fail at no call
-pub all_steady : {S : Type 0} (state : Store → TransportState) (count : ℕ) (channels : List (Recorded S Store)) → All (FitsWorld state count) channels → All IsSteady channels
+pub all_steady : {S : Type 0} (state : MemoryTransportView → TransportState) (count : ℕ) (channels : List (Recorded S MemoryTransportView)) → All (FitsWorld state count) channels → All IsSteady channels
 all_steady state count channels all = λ k d below. (all k d below).steady
 
 -- such a world is not refused for its limits

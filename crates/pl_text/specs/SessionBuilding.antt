@@ -5,12 +5,12 @@ use Rattle.std.specs.Prelude.{◌≡◌, ◌≢◌, ℕ, ◌+◌, List, [], ◌�
 use Rattle.std.specs.Option.{option_map_or}
 use Rattle.pl_event.specs.Meaning.{Meaning}
 use Rattle.pl_event.specs.Paths.{inbound_chain, outbound_chain}
-use Rattle.pl_build.specs.declared.handlers.Handler.{Handler}
+use Rattle.pl_build.specs.declared.named_stages.NamedStage.{NamedStage}
 use Rattle.pl_build.specs.declared.faults.BuildFault.{BuildFault}
 use Rattle.pl_build.specs.declared.faults.BuildFault.TheVariants.{NoSuchName, Memory}
 use Rattle.pl_build.specs.Pipelines.{handler_of, place_of, without, meanings}
 use Rattle.pl_build.specs.Refusals.{unless, naming_fault, beside_fault, marks_answer, building_fault, grouping_fault, executor_count}
-use Rattle.pl_build.specs.Executors.{Grouping, HasPlaced, sizes_of, executor_after, hop_executors, groups_of}
+use Rattle.pl_build.specs.Executors.{GroupsView, HasPlaced, sizes_of, executor_after, hop_executors, groups_of}
 use Rattle.pl_world.specs.Plans.{ChannelPlan, Plan}
 use Rattle.pl_text.specs.declared.session_text.outline.Addition.{Addition}
 use Rattle.pl_text.specs.declared.session_text.outline.Edit.{Edit}
@@ -27,7 +27,7 @@ Builds (Ok x) building = building ≡ Ok x
 Builds (Err e) building = e ≢ Memory → building ≡ Err e
 
 -- handlers with what their stages mean
-abbrev pub meant : {S : Type 0} → (S → Meaning) → List (Handler S) → List (Handler Meaning)
+abbrev pub meant : {S : Type 0} → (S → Meaning) → List (NamedStage S) → List (NamedStage Meaning)
 meant meaning handlers = map (λ handler. handler_of handler.name handler.group (meaning handler.stage)) handlers
 
 -- ---- edits
@@ -37,32 +37,32 @@ abbrev pub made_unless : {A : Type 0} → Option BuildFault → A → Result A B
 made_unless fault made = unless fault >>= λ _. Ok made
 
 -- the handler that an edit adds
-abbrev pub added : Addition → Handler Meaning
+abbrev pub added : Addition → NamedStage Meaning
 added a = handler_of a.name a.group (meaning_of a.handler)
 
 -- a handler just in front of the one of a name, and just behind it
-abbrev pub put_before : List ℕ → Handler Meaning → List (Handler Meaning) → List (Handler Meaning)
+abbrev pub put_before : List ℕ → NamedStage Meaning → List (NamedStage Meaning) → List (NamedStage Meaning)
 put_before at handler handlers = option_map_or (λ place. insert handlers place handler) (place_of at handlers) handlers
 
-abbrev pub put_after : List ℕ → Handler Meaning → List (Handler Meaning) → List (Handler Meaning)
+abbrev pub put_after : List ℕ → NamedStage Meaning → List (NamedStage Meaning) → List (NamedStage Meaning)
 put_after at handler handlers = option_map_or (λ place. insert handlers (place + 1) handler) (place_of at handlers) handlers
 
 -- the handlers of a pipeline after an edit
-unfoldable pub edited : List (Handler Meaning) → Edit → Result (List (Handler Meaning)) BuildFault
+unfoldable pub edited : List (NamedStage Meaning) → Edit → Result (List (NamedStage Meaning)) BuildFault
 edited handlers (First a) = made_unless (naming_fault a.name handlers) (added a ∷ handlers)
 edited handlers (Last a) = made_unless (naming_fault a.name handlers) (handlers ++ added a ∷ [])
 edited handlers (Before at a) = made_unless (beside_fault at a.name handlers) (put_before at (added a) handlers)
 edited handlers (After at a) = made_unless (beside_fault at a.name handlers) (put_after at (added a) handlers)
 edited handlers (Remove name) = if is_some (place_of name handlers) then Ok (without name handlers) else Err NoSuchName
 
-abbrev pub all_edited : List (Handler Meaning) → List Edit → Result (List (Handler Meaning)) BuildFault
+abbrev pub all_edited : List (NamedStage Meaning) → List Edit → Result (List (NamedStage Meaning)) BuildFault
 all_edited handlers [] = Ok handlers
 all_edited handlers (edit ∷ edits) = edited handlers edit >>= λ next. all_edited next edits
 
 -- ---- channels
 
 -- the handlers of a channel's pipeline, where the groups have these names and sizes
-unfoldable pub pipeline_built : List (List ℕ × ℕ) → ChannelOutline → Result (List (Handler Meaning)) BuildFault
+unfoldable pub pipeline_built : List (List ℕ × ℕ) → ChannelOutline → Result (List (NamedStage Meaning)) BuildFault
 pipeline_built sizes channel = do
   handlers ← all_edited [] channel.edits
   _ ← marks_answer channel.low channel.high
@@ -70,7 +70,7 @@ pipeline_built sizes channel = do
   Ok handlers
 
 -- the plan of a channel with these handlers, behind channels whose handlers have the groups `earlier`
-abbrev pub channel_built : ℕ → List (List ℕ × ℕ) → List (List (Option (List ℕ))) → ChannelOutline → List (Handler Meaning) → ChannelPlan
+abbrev pub channel_built : ℕ → List (List ℕ × ℕ) → List (List (Option (List ℕ))) → ChannelOutline → List (NamedStage Meaning) → ChannelPlan
 channel_built loops sizes earlier channel handlers = record {
   inbound = inbound_chain (meanings (λ m. m) handlers);
   outbound = outbound_chain (meanings (λ m. m) handlers);
@@ -103,8 +103,8 @@ session_built outline = do
 -- ---- what the groups keep
 
 -- A channel was built as this plan, by groups that then count it among the channels they have placed.
-pub record IsChannelBuilt (before after : Grouping) (channel : ChannelOutline) (plan : ChannelPlan) : Type 0 where
-  pub handlers : List (Handler Meaning)
+pub record IsChannelBuilt (before after : GroupsView) (channel : ChannelOutline) (plan : ChannelPlan) : Type 0 where
+  pub handlers : List (NamedStage Meaning)
   pub built : pipeline_built (sizes_of before) channel ≡ Ok handlers
   pub placed : (earlier : List (List (Option (List ℕ)))) → HasPlaced before earlier → plan ≡ channel_built before.loops (sizes_of before) earlier channel handlers
   pub counted : (earlier : List (List (Option (List ℕ)))) → HasPlaced before earlier → HasPlaced after (earlier ++ groups_of handlers ∷ [])

@@ -8,7 +8,7 @@ use Rattle.pl_event.specs.declared.events.Event.TheVariants.{Active, Read, ReadC
 use Rattle.pl_event.specs.declared.outcomes.Outcome.{Outcome}
 use Rattle.pl_event.specs.declared.outcomes.Outcome.TheVariants.{Success, Unsupported}
 use Rattle.pl_head.specs.Writes.{write_by, is_flush, flushed_writes, unflushed_writes, bytes_of, out, outcomes_from, outcomes, closed}
-use Rattle.pl_head.specs.Queue.{settled}
+use Rattle.pl_head.specs.WaitingMessages.{settled}
 use Rattle.pl_head.proofs.Flushing.{flushed-keep, unflushed-push, flushed-flush, unflushed-flush}
 use Rattle.pl_head.proofs.Buffering.{bytes_of-append}
 

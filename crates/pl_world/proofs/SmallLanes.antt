@@ -20,7 +20,7 @@ use Rattle.pl_stages.specs.Counts.{IsThrifty, event_weight, weight, line_framing
 use Rattle.pl_stages.specs.declared.handlers.Handler.{Handler}
 use Rattle.pl_stages.specs.declared.handlers.Handler.TheVariants as handler
 use Rattle.pl_stages.specs.contracts.handlers.HandlerStage.TheImpl.{meaning-value}
-use Rattle.pl_build.specs.Pipelines.{Path}
+use Rattle.pl_build.specs.Pipelines.{PlacedView}
 use Rattle.pl_build.specs.Paths.{IsPath}
 use Rattle.pl_head.specs.Transports.{TransportState}
 use Rattle.pl_world.specs.declared.session.Recorded.{Recorded}
@@ -135,7 +135,7 @@ module _ {S T : Type 0} (meaning : S → Meaning) (stands_after : S → List Eve
   all_out stages all = All-map (λ (m : Meaning). m.direction ≡ Outbound) meaning stages (λ k d below. is_out (meaning (get_or stages k d)).direction (all k d below))
 
   -- within the limits of a world each of their lanes has few items
-  pub stages_small : (pipelines : List (Path S)) (inputs : Inputs) (transports : List T) (executors : ℕ) → is_within pipelines inputs transports executors ≡ true
+  pub stages_small : (pipelines : List (PlacedView S)) (inputs : Inputs) (transports : List T) (executors : ℕ) → is_within pipelines inputs transports executors ≡ true
       → All (IsPath meaning stands_after) pipelines → All (λ (c : Recorded S T). IsSmallChannel (channel_planned meaning state c)) (recorded pipelines inputs transports)
   stages_small pipelines inputs transports executors within kept =
       all_recorded (λ (c : Recorded S T). IsSmallChannel (channel_planned meaning state c)) (IsPath meaning stands_after) (λ bursts. fits bursts ≡ true) (λ t. Unit {0})
@@ -154,7 +154,7 @@ handler_thrifty (handler.FlushEvery s) = flush_every-thrifty s.n
 handler_thrifty (handler.Service s) = line_service-thrifty
 
 -- within the limits of a world each lane of built-in handlers has few items
-pub handlers_small : {T : Type 0} (stands_after : Handler → List Event → Type 0) (state : T → TransportState) (pipelines : List (Path Handler)) (inputs : Inputs) (transports : List T) (executors : ℕ)
+pub handlers_small : {T : Type 0} (stands_after : Handler → List Event → Type 0) (state : T → TransportState) (pipelines : List (PlacedView Handler)) (inputs : Inputs) (transports : List T) (executors : ℕ)
     → is_within pipelines inputs transports executors ≡ true → All (IsPath meaning-value.it stands_after) pipelines
     → All (λ (c : Recorded Handler T). IsSmallChannel (channel_planned meaning-value.it state c)) (recorded pipelines inputs transports)
 handlers_small stands_after state = stages_small meaning-value.it stands_after state handler_thrifty

@@ -11,7 +11,7 @@ use Rattle.std.proofs.lemmas.List.{length-map}
 use Rattle.pl_event.specs.declared.events.Event.{Event}
 use Rattle.pl_event.specs.Meaning.{Meaning, IsLawful}
 use Rattle.pl_event.specs.Paths.{is_outbound, is_turn}
-use Rattle.pl_build.specs.Pipelines.{Path}
+use Rattle.pl_build.specs.Pipelines.{PlacedView}
 use Rattle.pl_build.specs.Paths.{IsPath}
 use Rattle.pl_head.specs.Transports.{TransportState, new_state}
 use Rattle.pl_world.specs.declared.session.Recorded.{Recorded}
@@ -55,34 +55,34 @@ Inputs = List (List (List (List ℕ)))
 
 module _ {S T : Type 0} where
   -- no pipeline is left, or no input, or no transport
-  pub none_left : (joined : List (Recorded S T)) (pipelines : List (Path S)) (inputs : Inputs) (transports : List T) (all : List (Recorded S T))
+  pub none_left : (joined : List (Recorded S T)) (pipelines : List (PlacedView S)) (inputs : Inputs) (transports : List T) (all : List (Recorded S T))
       → pipelines ≡ [] → joined ++ recorded pipelines inputs transports ≡ all → joined ≡ all
   none_left joined [] inputs transports all none is = sym (append-nil joined) ∙ is
   none_left joined (p ∷ pipelines) inputs transports all none is = cc
 
-  pub none_beside : (joined : List (Recorded S T)) (pipelines : List (Path S)) (inputs : Inputs) (transports : List T) (all : List (Recorded S T))
+  pub none_beside : (joined : List (Recorded S T)) (pipelines : List (PlacedView S)) (inputs : Inputs) (transports : List T) (all : List (Recorded S T))
       → inputs ≡ [] → joined ++ recorded pipelines inputs transports ≡ all → joined ≡ all
   none_beside joined [] inputs transports all none is = sym (append-nil joined) ∙ is
   none_beside joined (p ∷ pipelines) [] transports all none is = sym (append-nil joined) ∙ is
   none_beside joined (p ∷ pipelines) (bursts ∷ inputs) transports all none is = cc
 
-  pub none_behind : (joined : List (Recorded S T)) (pipelines : List (Path S)) (inputs : Inputs) (transports : List T) (all : List (Recorded S T))
+  pub none_behind : (joined : List (Recorded S T)) (pipelines : List (PlacedView S)) (inputs : Inputs) (transports : List T) (all : List (Recorded S T))
       → transports ≡ [] → joined ++ recorded pipelines inputs transports ≡ all → joined ≡ all
   none_behind joined [] inputs transports all none is = sym (append-nil joined) ∙ is
   none_behind joined (p ∷ pipelines) [] transports all none is = sym (append-nil joined) ∙ is
   none_behind joined (p ∷ pipelines) (bursts ∷ inputs) [] all none is = sym (append-nil joined) ∙ is
   none_behind joined (p ∷ pipelines) (bursts ∷ inputs) (t ∷ transports) all none is = cc
 
-  few_recorded : (pipelines : List (Path S)) (inputs : Inputs) (transports : List T) → length (recorded pipelines inputs transports) ≤ length pipelines
+  few_recorded : (pipelines : List (PlacedView S)) (inputs : Inputs) (transports : List T) → length (recorded pipelines inputs transports) ≤ length pipelines
   few_recorded [] inputs transports = omega arith
   few_recorded (p ∷ pipelines) [] transports = omega arith
   few_recorded (p ∷ pipelines) (bursts ∷ inputs) [] = omega arith
   few_recorded (p ∷ pipelines) (bursts ∷ inputs) (t ∷ transports) = let rest = few_recorded pipelines inputs transports in omega (arith, rest)
 
   -- What is true of each pipeline with any input and transport of these is true of each channel.
-  pub all_recorded : (Holds : Recorded S T → Type 0) (Is : Path S → Type 0) (Fits : List (List (List ℕ)) → Type 0) (Leaves : T → Type 0)
-      → ((p : Path S) (bursts : List (List (List ℕ))) (t : T) → Is p → Fits bursts → Leaves t → Holds (record { pipeline = p; bursts = bursts; transport = t }))
-      → (pipelines : List (Path S)) (inputs : Inputs) (transports : List T) → All Is pipelines → All Fits inputs → All Leaves transports
+  pub all_recorded : (Holds : Recorded S T → Type 0) (Is : PlacedView S → Type 0) (Fits : List (List (List ℕ)) → Type 0) (Leaves : T → Type 0)
+      → ((p : PlacedView S) (bursts : List (List (List ℕ))) (t : T) → Is p → Fits bursts → Leaves t → Holds (record { pipeline = p; bursts = bursts; transport = t }))
+      → (pipelines : List (PlacedView S)) (inputs : Inputs) (transports : List T) → All Is pipelines → All Fits inputs → All Leaves transports
       → All Holds (recorded pipelines inputs transports)
   all_recorded Holds Is Fits Leaves each [] inputs transports is fit leave = All-nil Holds
   all_recorded Holds Is Fits Leaves each (p ∷ pipelines) [] transports is fit leave = All-nil Holds
@@ -94,13 +94,13 @@ module _ {S T : Type 0} where
 
 -- ---- the limits, one by one
 
-pub record Limits {S T : Type 0} (pipelines : List (Path S)) (inputs : Inputs) (transports : List T) (executors : ℕ) : Type 0 where
+pub record Limits {S T : Type 0} (pipelines : List (PlacedView S)) (inputs : Inputs) (transports : List T) (executors : ℕ) : Type 0 where
   pub executors_at_most : executors ≤ 16
   pub channels_at_most : length pipelines ≤ 16
   pub placed : list_all (is_placed executors) pipelines ≡ true
   pub fit : list_all fits inputs ≡ true
 
-pub within_parts : {S T : Type 0} (pipelines : List (Path S)) (inputs : Inputs) (transports : List T) (executors : ℕ) → is_within pipelines inputs transports executors ≡ true
+pub within_parts : {S T : Type 0} (pipelines : List (PlacedView S)) (inputs : Inputs) (transports : List T) (executors : ℕ) → is_within pipelines inputs transports executors ≡ true
     → Limits pipelines inputs transports executors
 within_parts pipelines inputs transports executors within =
     let few = nat_le executors 16 in
@@ -141,7 +141,7 @@ is_uncalled state window is = is ∙ ap new_state (sym (ap (λ (s : TransportSta
 -- ---- rules
 
 module _ {S T : Type 0} (meaning : S → Meaning) (stands_after : S → List Event → Type 0) (lawful : (s : S) → IsLawful (meaning s)) (state : T → TransportState) where
-  path_ruled : (executors : ℕ) (path : Path S) (bursts : List (List (List ℕ))) (t : T) → IsPath meaning stands_after path → is_placed executors path ≡ true
+  path_ruled : (executors : ℕ) (path : PlacedView S) (bursts : List (List (List ℕ))) (t : T) → IsPath meaning stands_after path → is_placed executors path ≡ true
       → IsChannelPlan executors (channel_planned meaning state (record { pipeline = path; bursts = bursts; transport = t }))
   path_ruled executors path bursts t is placed = record {
     upwards = All-map (λ (m : Meaning). is_outbound m.direction ≡ false) meaning path.inbound is.upwards;
@@ -158,19 +158,19 @@ module _ {S T : Type 0} (meaning : S → Meaning) (stands_after : S → List Eve
       all_lawful [] = All-nil IsLawful
       all_lawful (s ∷ ss) = All-cons IsLawful (meaning s) (map meaning ss) (lawful s) (all_lawful ss)
 
-  abbrev PlacedPath : ℕ → Path S → Type 0
+  abbrev PlacedPath : ℕ → PlacedView S → Type 0
   PlacedPath executors p = IsPath meaning stands_after p × (is_placed executors p ≡ true)
 
-  ruled : (executors : ℕ) (pipelines : List (Path S)) (inputs : Inputs) (transports : List T) → All (IsPath meaning stands_after) pipelines → list_all (is_placed executors) pipelines ≡ true
+  ruled : (executors : ℕ) (pipelines : List (PlacedView S)) (inputs : Inputs) (transports : List T) → All (IsPath meaning stands_after) pipelines → list_all (is_placed executors) pipelines ≡ true
       → All (λ (c : Recorded S T). IsChannelPlan executors (channel_planned meaning state c)) (recorded pipelines inputs transports)
   ruled executors pipelines inputs transports paths placed =
       all_recorded (λ (c : Recorded S T). IsChannelPlan executors (channel_planned meaning state c)) (PlacedPath executors) (λ bursts. Unit {0}) (λ t. Unit {0})
       (λ p bursts t is any either. path_ruled executors p bursts t is.0 is.1)
       pipelines inputs transports
-      (all_both (IsPath meaning stands_after) (λ (p : Path S). is_placed executors p ≡ true) pipelines paths (all_true (is_placed executors) pipelines placed))
+      (all_both (IsPath meaning stands_after) (λ (p : PlacedView S). is_placed executors p ≡ true) pipelines paths (all_true (is_placed executors) pipelines placed))
       (all_any inputs) (all_any transports)
 
-  few_lanes : (pipelines : List (Path S)) (inputs : Inputs) (transports : List T) → All (IsPath meaning stands_after) pipelines
+  few_lanes : (pipelines : List (PlacedView S)) (inputs : Inputs) (transports : List T) → All (IsPath meaning stands_after) pipelines
       → sum_by (λ p. head_hop p + 1) (map (channel_planned meaning state) (recorded pipelines inputs transports)) ≤ 34 * length pipelines
   few_lanes [] inputs transports paths = omega arith
   few_lanes (p ∷ pipelines) [] transports paths = omega arith
@@ -183,7 +183,7 @@ module _ {S T : Type 0} (meaning : S → Meaning) (stands_after : S → List Eve
       omega (arith, within, rest, more, length-map p.inbound meaning, length-map p.outbound meaning)
 
   -- what is within the limits is a world
-  pub is_world : (pipelines : List (Path S)) (inputs : Inputs) (transports : List T) (executors : ℕ) → is_within pipelines inputs transports executors ≡ true
+  pub is_world : (pipelines : List (PlacedView S)) (inputs : Inputs) (transports : List T) (executors : ℕ) → is_within pipelines inputs transports executors ≡ true
       → All (IsPath meaning stands_after) pipelines → All (λ (c : Recorded S T). IsSmallChannel (channel_planned meaning state c)) (recorded pipelines inputs transports)
       → All (λ (t : T). IsUncalled (state t)) transports
       → IsWorld meaning state (record { executors = executors; channels = recorded pipelines inputs transports })

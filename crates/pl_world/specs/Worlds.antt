@@ -1,7 +1,7 @@
 -- What contracts see of a world, and what is true of each.
 use Rattle.std.specs.Prelude.{◌≡◌, ℕ, ◌≤◌, List, [], ◌∷◌, length, All, true}
 use Rattle.pl_event.specs.Meaning.{Meaning}
-use Rattle.pl_build.specs.Pipelines.{Path}
+use Rattle.pl_build.specs.Pipelines.{PlacedView}
 use Rattle.pl_head.specs.Transports.{TransportState, new_state}
 use Rattle.pl_world.specs.declared.session.Recorded.{Recorded}
 use Rattle.pl_world.specs.Plans.{planned}
@@ -17,7 +17,7 @@ abbrev pub IsUncalled : TransportState → Type 0
 IsUncalled state = state ≡ new_state state.window
 
 -- each pipeline with its input and its transport
-abbrev pub recorded : {S T : Type 0} → List (Path S) → List (List (List (List ℕ))) → List T → List (Recorded S T)
+abbrev pub recorded : {S T : Type 0} → List (PlacedView S) → List (List (List (List ℕ))) → List T → List (Recorded S T)
 recorded [] inputs transports = []
 recorded (pipeline ∷ pipelines) [] transports = []
 recorded (pipeline ∷ pipelines) (bursts ∷ inputs) [] = []

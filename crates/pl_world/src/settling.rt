@@ -43,7 +43,7 @@ struct Writes {
 }
 
 impl Writes {
-    ghost use Rattle.pl_head.specs.Queue.{settled};
+    ghost use Rattle.pl_head.specs.WaitingMessages.{settled};
 
     /// Takes the next event of the lane.
     fn take(&mut self, event: Event) -> Result<(), AllocError>

@@ -1,5 +1,5 @@
 use Rattle.std.proofs.Common.{◌≤◌, [], ◌∷◌}
-use Rattle.pl_context.specs.Stopped.{HasPlaces}
+use Rattle.pl_context.specs.Stops.{HasPlaces}
 use Rattle.pl_context.specs.Samples.{sample_lane}
 use Rattle.pl_context.proofs.tests.backlog_without_memory_gives_tokens_back.Given as goal
 

@@ -3,7 +3,7 @@ use Rattle.std.specs.List.{list_all, zip}
 use Rattle.std.specs.Option.{is_some}
 use Rattle.std.proofs.lemmas.List.{length-map}
 use Rattle.std.proofs.lemmas.Slice.Zip.{AllZip-long}
-use Rattle.pl_head.specs.Transports.{Store}
+use Rattle.pl_head.specs.Transports.{MemoryTransportView}
 use Rattle.pl_head.specs.contracts.transports.MemoryTransportTransport.TheImpl.{state-value}
 use Rattle.pl_stages.specs.declared.handlers.Handler.{Handler}
 use Rattle.pl_stages.specs.contracts.handlers.HandlerStage.TheImpl.{meaning-value}
@@ -22,6 +22,6 @@ returns-then-all_fail_as_told-clause-told c =
     let planned = map (channel_planned meaning-value.it state-value.it) channels in
     let size = AllZip-long KeepsToPlan planned reports c.in_ok-report.ensures.replayed.kept in
     let Told : List Bool → List ChannelReport → Bool = λ told cs. list_all (λ x. fails_as_told x.0 x.1.stands) (zip told cs) in
-    let told = c.as_slice.ensures.value ∙ c.in_ok-told.ensures ∙ ap (map (λ (r : Recorded Handler Store). is_some r.transport.fail_at)) c.channels.ensures in
+    let told = c.as_slice.ensures.value ∙ c.in_ok-told.ensures ∙ ap (map (λ (r : Recorded Handler MemoryTransportView). is_some r.transport.fail_at)) c.channels.ensures in
     all_as_told channels reports (omega (arith, size, length-map channels (channel_planned meaning-value.it state-value.it)))
     (sym (ap₂ Told told c.as_slice-2.ensures) ∙ sym c.all_fail_as_told.ensures ∙ c.if-all_fail_as_told.true)

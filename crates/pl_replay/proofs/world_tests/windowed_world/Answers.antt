@@ -1,13 +1,13 @@
 use Rattle.std.proofs.Common.{◌≡◌, [], ◌∷◌, ◌++◌, Some, sym, subst, rules}
 use Rattle.std.specs.Prelude.{All}
 use Rattle.std.proofs.lemmas.List.Elements.{All-nil, All-push}
-use Rattle.pl_head.specs.Transports.{Store}
+use Rattle.pl_head.specs.Transports.{MemoryTransportView}
 use Rattle.pl_head.specs.contracts.transports.MemoryTransportTransport.TheImpl.{state-value}
 use Rattle.pl_world.specs.Worlds.{IsUncalled}
 use Rattle.pl_world.proofs.WorldLimits.{is_uncalled}
 use Rattle.pl_replay.proofs.world_tests.windowed_world.Goals as goal
 
-abbrev Uncalled : Store → Type 0
+abbrev Uncalled : MemoryTransportView → Type 0
 Uncalled transport = IsUncalled (state-value.it transport)
 
 pub loop-init : goal.loop-init

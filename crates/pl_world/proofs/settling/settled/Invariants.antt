@@ -1,6 +1,6 @@
 use Rattle.std.proofs.Common.{◌≡◌, map}
 use Rattle.pl_head.specs.Writes.{out, flushed_writes, unflushed_writes}
-use Rattle.pl_head.specs.Queue.{settled}
+use Rattle.pl_head.specs.WaitingMessages.{settled}
 use Rattle.pl_world.proofs.settling.settled.Given as goal
 
 -- the writes of the events so far: those flushed are written, and the others wait

@@ -1,8 +1,8 @@
 use Rattle.std.proofs.Common.{List, ◌∷◌, [], ◌++◌, map, ap, sym, subst, ◌∙◌}
-use Rattle.pl_build.specs.Pipelines.{Pipeline}
-use Rattle.pl_build.specs.Executors.{Grouping, HasPlaced, sizes_of, groups_of}
+use Rattle.pl_build.specs.Pipelines.{PipelineBuilderView}
+use Rattle.pl_build.specs.Executors.{GroupsView, HasPlaced, sizes_of, groups_of}
 use Rattle.pl_build.specs.Counts.{grouping_after}
-use Rattle.pl_build.specs.declared.handlers.Handler.{Handler}
+use Rattle.pl_build.specs.declared.named_stages.NamedStage.{NamedStage}
 use Rattle.pl_build.proofs.GroupLemmas.{HasPlaced-after, sizes_of-after}
 use Rattle.pl_build.proofs.PathLemmas.{inbound-meanings, outbound-meanings, executors-placed, executors-within, one_turn}
 use Rattle.pl_build.proofs.building.PipelineBuilder.build.Goals as goal
@@ -21,14 +21,14 @@ returns-in-Ok-clause-executors g c =
 
 pub returns-in-Ok-clause-counted : goal.returns-in-Ok-clause-counted
 returns-in-Ok-clause-counted g c =
-    let same = c.as_slice.ensures.value ∙ ap (λ (p : Pipeline g.row.S.Denot). p.handlers) c.self.view_is in
-    let placed = c.place.ensures.after ∙ ap (λ (hs : List (Handler g.row.S.Denot)). grouping_after c.args.groups.now (groups_of hs)) same in
-    λ earlier h. let Placed : Grouping → Type 0 = λ x. HasPlaced x (earlier ++ groups_of c.args.self.handlers ∷ []) in
+    let same = c.as_slice.ensures.value ∙ ap (λ (p : PipelineBuilderView g.row.S.Denot). p.handlers) c.self.view_is in
+    let placed = c.place.ensures.after ∙ ap (λ (hs : List (NamedStage g.row.S.Denot)). grouping_after c.args.groups.now (groups_of hs)) same in
+    λ earlier h. let Placed : GroupsView → Type 0 = λ x. HasPlaced x (earlier ++ groups_of c.args.self.handlers ∷ []) in
     subst Placed (sym placed) (HasPlaced-after c.args.groups.now earlier (groups_of c.args.self.handlers) h)
 
 pub returns-in-Ok-clause-same_groups : goal.returns-in-Ok-clause-same_groups
 returns-in-Ok-clause-same_groups g c =
-    (ap (λ (x : Grouping). x.loops) c.place.ensures.after, ap (λ (x : Grouping). sizes_of x) c.place.ensures.after ∙ sizes_of-after c.args.groups.now (groups_of c.as_slice.result.now))
+    (ap (λ (x : GroupsView). x.loops) c.place.ensures.after, ap (λ (x : GroupsView). sizes_of x) c.place.ensures.after ∙ sizes_of-after c.args.groups.now (groups_of c.as_slice.result.now))
 
 pub into_placed-requires-clause-turn : goal.into_placed-requires-clause-turn
 into_placed-requires-clause-turn g c = one_turn g.S.Stage.meaning (sizes_of c.args.groups.now) c.args.self.handlers c.in-Ok.ensures.allowed

@@ -3,7 +3,7 @@ use Rattle.std.proofs.lemmas.List.{length-map, length-replicate}
 use Rattle.std.proofs.lemmas.Option.{slice_get_within}
 use Rattle.pl_event.specs.Meaning.{Meaning}
 use Rattle.pl_event.specs.Paths.{is_outbound}
-use Rattle.pl_context.specs.Recordings.{Recording, new_recording}
+use Rattle.pl_context.specs.TailViews.{TailView, new_tail}
 use Rattle.pl_world.specs.Plans.{content, tail_hop, head_hop}
 use Rattle.pl_channel.specs.TailStand.{TailStands}
 use Rattle.pl_channel.proofs.NodeStarts.{get_or-zeros, inbound-hop, outbound-hop, starts-tail, same-stand, same-tail}
@@ -46,8 +46,8 @@ returns-clause-stand g c = λ p in_is out_is head.
           same-stand meaning stands channel (0 + i) i c.len-k.result (tail_hop p) (content p i) (meaning x.stage) 0 (get_or zeros i 0) 0 (get_or flag_zeros i 0) x (omega arith) k (none i) (no_flags i)
           (c.in_ok-contexts.ensures.stand i x (content p i) here);
       tail =
-          subst (λ (t : Recording). TailStands channel (tail_hop p) (content p (tail_hop p)) (get_or zeros (tail_hop p) 0) (get_or flag_zeros (tail_hop p) 0) t) (sym (c.new.ensures ∙ ap (new_recording channel) k))
-          (same-tail channel (tail_hop p) (content p (tail_hop p)) 0 (get_or zeros (tail_hop p) 0) 0 (get_or flag_zeros (tail_hop p) 0) (new_recording channel (tail_hop p)) (none (tail_hop p)) (no_flags (tail_hop p))
+          subst (λ (t : TailView). TailStands channel (tail_hop p) (content p (tail_hop p)) (get_or zeros (tail_hop p) 0) (get_or flag_zeros (tail_hop p) 0) t) (sym (c.new.ensures ∙ ap (new_tail channel) k))
+          (same-tail channel (tail_hop p) (content p (tail_hop p)) 0 (get_or zeros (tail_hop p) 0) 0 (get_or flag_zeros (tail_hop p) 0) (new_tail channel (tail_hop p)) (none (tail_hop p)) (no_flags (tail_hop p))
           (starts-tail channel (tail_hop p) (content p (tail_hop p))));
       outbound = λ j x here.
           same-stand meaning stands channel (c.len-k.result + 1 + j) (tail_hop p + 1 + j) c.len-k.result (tail_hop p) (content p (tail_hop p + 1 + j)) (meaning x.stage) 0 (get_or zeros (tail_hop p + 1 + j) 0) 0 0 x

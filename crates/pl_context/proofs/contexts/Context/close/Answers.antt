@@ -1,18 +1,18 @@
 use Rattle.std.proofs.Common.{sym, subst}
-use Rattle.pl_context.specs.Stations.{Station, open_lanes}
-use Rattle.pl_context.specs.Stopped.{HasPlaces}
+use Rattle.pl_context.specs.ContextViews.{ContextView, open_lanes}
+use Rattle.pl_context.specs.Stops.{HasPlaces}
 use Rattle.pl_context.proofs.Places.{places-up, places-down, places-after-up}
 use Rattle.pl_context.proofs.ContextLemmas.{closes-from, closed-port, not-open}
 use Rattle.pl_context.proofs.contexts.Context.close.Goals as goal
 
 pub put-requires-clause-place : goal.put-requires-clause-place
 put-requires-clause-place g c = λ o.
-    let P : Station g.row.S.Denot → Type 0 = λ s. HasPlaces c.args.outputs.now.stopped (open_lanes s) in
+    let P : ContextView g.row.S.Denot → Type 0 = λ s. HasPlaces c.args.outputs.now.stopped (open_lanes s) in
     places-up c.args.outputs.now.stopped c.self.inside.up c.self.inside.down c.self.inside.flags (subst P (sym c.self.view_is) c.requires) o
 
 pub put-requires-2-clause-place : goal.put-requires-2-clause-place
 put-requires-2-clause-place g c = λ o.
-    let P : Station g.row.S.Denot → Type 0 = λ s. HasPlaces c.args.outputs.now.stopped (open_lanes s) in
+    let P : ContextView g.row.S.Denot → Type 0 = λ s. HasPlaces c.args.outputs.now.stopped (open_lanes s) in
     places-down c.put.new.outputs.stopped c.self.inside.up c.self.inside.down c.self.inside.flags (places-after-up c.args.outputs.now c.put.new.outputs c.self.inside.up c.self.inside.down c.self.inside.flags c.last_item.result (subst P (sym c.self.view_is) c.requires) c.put.ensures.out) o
 
 pub invariant_of-self : goal.invariant_of-self

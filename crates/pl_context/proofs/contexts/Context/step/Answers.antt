@@ -2,9 +2,9 @@ use Rattle.std.proofs.Common.{◌++◌, ◌∷◌, [], List, length, sym, ap, su
 use Rattle.pl_event.specs.declared.events.Event.{Event}
 use Rattle.pl_event.specs.declared.stages.Turned.{Turned}
 use Rattle.pl_event.specs.Meaning.{turned_after}
-use Rattle.pl_context.specs.Stopped.{HasPlaces}
+use Rattle.pl_context.specs.Stops.{HasPlaces}
 use Rattle.pl_context.specs.Ports.{as_items, end_after}
-use Rattle.pl_context.specs.Stations.{Station, open_lanes}
+use Rattle.pl_context.specs.ContextViews.{ContextView, open_lanes}
 use Rattle.pl_context.specs.Contexts.{IsSmall}
 use Rattle.pl_context.proofs.Places.{places-up, places-down}
 use Rattle.pl_context.proofs.ContextLemmas.{runs-from, length-items, offers-made, on_err}
@@ -12,17 +12,17 @@ use Rattle.pl_context.proofs.contexts.Context.step.Goals as goal
 
 pub put_made-requires-clause-place_up : goal.put_made-requires-clause-place_up
 put_made-requires-clause-place_up g c = λ o.
-    let P : Station g.row.S.Denot → Type 0 = λ s. HasPlaces c.args.outputs.now.stopped (open_lanes s) in
+    let P : ContextView g.row.S.Denot → Type 0 = λ s. HasPlaces c.args.outputs.now.stopped (open_lanes s) in
     places-up c.args.outputs.now.stopped c.self.inside.up c.self.inside.down c.self.inside.flags (subst P (sym c.self.view_is) c.requires.places) o
 
 pub put_made-requires-clause-place_down : goal.put_made-requires-clause-place_down
 put_made-requires-clause-place_down g c = λ o.
-    let P : Station g.row.S.Denot → Type 0 = λ s. HasPlaces c.args.outputs.now.stopped (open_lanes s) in
+    let P : ContextView g.row.S.Denot → Type 0 = λ s. HasPlaces c.args.outputs.now.stopped (open_lanes s) in
     places-down c.args.outputs.now.stopped c.self.inside.up c.self.inside.down c.self.inside.flags (subst P (sym c.self.view_is) c.requires.places) o
 
 pub put_made-requires-clause-few_up : goal.put_made-requires-clause-few_up
 put_made-requires-clause-few_up g c = λ o.
-    let Few : Station g.row.S.Denot → Type 0 = λ s. (xs : List Event) × IsSmall g.S.Stage.meaning g.S.Stage.stands_after s.stage s.up s.down xs c.args.event in
+    let Few : ContextView g.row.S.Denot → Type 0 = λ s. (xs : List Event) × IsSmall g.S.Stage.meaning g.S.Stage.stands_after s.stage s.up s.down xs c.args.event in
     let few = subst Few (sym c.self.view_is) c.requires.few in
     let above = λ (xs : List Event) (h : g.S.Stage.stands_after c.self.inside.stage xs). c.in_ok-turned.ensures.up xs h ∙ ap (λ (t : List Event). t ++ (g.S.Stage.meaning c.self.inside.stage).up xs c.args.event) c.self.invariant.up_empty in
     let made = ap (λ (ys : List Event). length ys) (above few.0 few.1.stands) in
@@ -30,7 +30,7 @@ put_made-requires-clause-few_up g c = λ o.
 
 pub put_made-requires-clause-few_down : goal.put_made-requires-clause-few_down
 put_made-requires-clause-few_down g c = λ o.
-    let Few : Station g.row.S.Denot → Type 0 = λ s. (xs : List Event) × IsSmall g.S.Stage.meaning g.S.Stage.stands_after s.stage s.up s.down xs c.args.event in
+    let Few : ContextView g.row.S.Denot → Type 0 = λ s. (xs : List Event) × IsSmall g.S.Stage.meaning g.S.Stage.stands_after s.stage s.up s.down xs c.args.event in
     let few = subst Few (sym c.self.view_is) c.requires.few in
     let below = λ (xs : List Event) (h : g.S.Stage.stands_after c.self.inside.stage xs). c.in_ok-turned.ensures.down xs h ∙ ap (λ (t : List Event). t ++ (g.S.Stage.meaning c.self.inside.stage).down xs c.args.event) c.self.invariant.down_empty in
     let made = ap (λ (ys : List Event). length ys) (below few.0 few.1.stands) in

@@ -2,7 +2,7 @@ use Rattle.std.proofs.Common.{◌≡◌, ◌∷◌, [], List, reverse, sym, ap, 
 use Rattle.std.proofs.lemmas.List.{reverse-append, reverse-reverse, nil_from_length}
 use Rattle.pl_event.specs.declared.events.Event.{Event}
 use Rattle.pl_event.specs.declared.envelopes.Lane.{Lane}
-use Rattle.pl_context.specs.Stopped.{Stopped, HasPlaces}
+use Rattle.pl_context.specs.Stops.{StopsView, HasPlaces}
 use Rattle.pl_context.proofs.PortLemmas.{Putting, putting-start, putting-step, putting-end}
 use Rattle.pl_context.proofs.ports.Port.put_all.Goals as goal
 
@@ -20,7 +20,7 @@ loop-event-preserved c =
 
 pub put-requires : goal.put-requires
 put-requires c =
-    let S : Stopped → Type 0 = λ s. HasPlaces s (c.loop-event.self.lane ∷ []) in
+    let S : StopsView → Type 0 = λ s. HasPlaces s (c.loop-event.self.lane ∷ []) in
     let L : Lane → Type 0 = λ l. HasPlaces c.args.outputs.now.stopped (l ∷ []) in
     subst S (sym c.loop-event.invariant.stopped) (subst L (sym c.loop-event.invariant.lane) (c.requires.place c.if-not-self.false))
 

@@ -1,6 +1,6 @@
 use Rattle.std.proofs.Common.{◌≡◌, ℕ, ◌+◌, List, reverse, sym, ap, subst, ◌∙◌}
 use Rattle.pl_context.specs.declared.ports.Port.{Port}
-use Rattle.pl_head.specs.InputStand.{Reading, InputStands, reading_after, left_after}
+use Rattle.pl_head.specs.InputStand.{InputView, InputStands, input_after_step, left_after}
 use Rattle.pl_head.proofs.ReadSteps.{stands_after}
 use Rattle.pl_head.proofs.inputs.Input.put_step.Goals as goal
 
@@ -9,8 +9,8 @@ returns-clause-stands c = λ bursts reads s.
     let inside = c.self.inside in
     let steps = inside.steps + 1 in
     let rest = left_after inside.steps (reverse inside.left.items) in
-    let after : reading_after c.args.self.now ≡ record { port = c.put_next.new.port; left = reverse c.put_next.new.left.items; steps = steps } =
-    ap reading_after (sym c.self.view_is)
+    let after : input_after_step c.args.self.now ≡ record { port = c.put_next.new.port; left = reverse c.put_next.new.left.items; steps = steps } =
+    ap input_after_step (sym c.self.view_is)
     ∙ ap (λ (p : Port). record { port = p; left = rest; steps = steps }) (sym c.put_next.ensures.port)
     ∙ ap (λ (l : List (List (List ℕ))). record { port = c.put_next.new.port; left = l; steps = steps }) (sym c.put_next.ensures.left) in
-    subst (λ (r : Reading). InputStands bursts (reads + 1) r) after (stands_after bursts reads c.args.self.now s c.requires.left)
+    subst (λ (r : InputView). InputStands bursts (reads + 1) r) after (stands_after bursts reads c.args.self.now s c.requires.left)

@@ -1,7 +1,7 @@
 use Rattle.std.proofs.Common.{◌≡◌, ℕ, List, [], take, drop, ap, sym, ◌∙◌, arith}
 use Rattle.std.proofs.lemmas.List.{drop_all}
 use Rattle.pl_head.specs.declared.outbound.Waiting.{Waiting}
-use Rattle.pl_head.specs.Queue.{queue_size, closed_all}
+use Rattle.pl_head.specs.WaitingMessages.{queue_size, closed_all}
 use Rattle.pl_head.proofs.Buffering.{closes, same_parts}
 use Rattle.pl_head.proofs.WaitingSizes.{queue_size-split}
 use Rattle.pl_head.proofs.outbound.Outbound.close_unflushed.Goals as goal

@@ -1,5 +1,5 @@
 use Rattle.std.proofs.Common.{◌≡◌, ◌+◌, drop}
-use Rattle.pl_head.specs.Queue.{queue_size, closed_all}
+use Rattle.pl_head.specs.WaitingMessages.{queue_size, closed_all}
 use Rattle.pl_head.proofs.outbound.Outbound.close_unflushed.Given as goal
 
 abbrev pub invariant-loop-i : goal.invariant-loop-i

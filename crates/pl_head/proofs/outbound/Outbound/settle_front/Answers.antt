@@ -2,7 +2,7 @@ use Rattle.std.proofs.Common.{◌<◌, length, Some, sym, ◌∙◌, ap, refl}
 use Rattle.std.proofs.lemmas.List.{length-set}
 use Rattle.std.proofs.lemmas.List.Elements.{All-rest}
 use Rattle.pl_event.specs.declared.outcomes.Outcome.TheVariants.{Success}
-use Rattle.pl_head.specs.Queue.{first_size}
+use Rattle.pl_head.specs.WaitingMessages.{first_size}
 use Rattle.pl_head.proofs.Buffering.{settles, same_parts}
 use Rattle.pl_head.proofs.outbound.Outbound.settle_front.Goals as goal
 

@@ -1,6 +1,6 @@
 use Rattle.std.proofs.Common.{◌<◌, sym, ap, ◌∙◌, refl, arith, List, ◌++◌, ◌∷◌, []}
 use Rattle.std.proofs.lemmas.List.{map-append}
-use Rattle.pl_context.specs.Stopped.{any_stopped}
+use Rattle.pl_context.specs.Stops.{any_stopped}
 use Rattle.pl_event.specs.declared.envelopes.Envelope.{Envelope}
 use Rattle.pl_channel.specs.MadeItems.{Place}
 use Rattle.pl_replay.specs.BacklogStand.{Aged}

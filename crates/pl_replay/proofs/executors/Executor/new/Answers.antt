@@ -1,11 +1,11 @@
 use Rattle.std.proofs.Common.{◌≡◌, ◌+◌, ℕ, List, length, sym, subst, arith}
-use Rattle.pl_context.specs.Queues.{Queue}
+use Rattle.pl_context.specs.Backlogs.{BacklogView}
 use Rattle.pl_replay.proofs.Backlogs.{AreIdle, idle-push, stands-idle}
 use Rattle.pl_replay.proofs.executors.Executor.new.Goals as goal
 
 pub loop-count-preserved : goal.loop-count-preserved
 loop-count-preserved c =
-    let P : List (Queue ℕ) → Type 0 = λ l. AreIdle c.args.places.now (c.loop-count.count-index + 1) l in
+    let P : List (BacklogView ℕ) → Type 0 = λ l. AreIdle c.args.places.now (c.loop-count.count-index + 1) l in
     subst P (sym c.in_ok-push.ensures.items)
     (idle-push c.args.places.now c.loop-count.count-index c.loop-count.waiting.items c.in_ok-new.field-0 c.loop-count.invariant
     (record { items = c.in_ok-new.ensures.empty; stopped = c.in_ok-new.ensures.places }))

@@ -1,5 +1,5 @@
 use Rattle.std.proofs.Common.{List, [], ◌∷◌, ◌++◌, set, sym, refl, ap, ap₂, ◌∙◌, subst, arith}
-use Rattle.pl_context.specs.Stopped.{Stopped}
+use Rattle.pl_context.specs.Stops.{StopsView}
 use Rattle.pl_event.specs.declared.envelopes.Lane.{Lane}
 use Rattle.pl_event.specs.declared.envelopes.Envelope.{Envelope}
 use Rattle.pl_channel.specs.declared.placed_channels.PlacedChannel.{PlacedChannel}
@@ -31,7 +31,7 @@ pub take-requires-clause-places : goal.take-requires-clause-places
 take-requires-clause-places g c =
     let r = c.requires in
     let of = call_channel g.S.Stage.meaning g.S.Stage.stands_after g.T.Transport.state r.0 r.1 r.2 r.3 r.4 c.args.self.now r.6 in
-    subst (λ (s : Stopped). IsUnstopped 2 s) (sym c.reserve.ensures.stopped)
+    subst (λ (s : StopsView). IsUnstopped 2 s) (sym c.reserve.ensures.stopped)
     (list_places g.S.Stage.meaning g.S.Stage.stands_after g.T.Transport.state r.0 r.1 r.2 (r.3 ∷ []) r.4 c.args.self.now r.6 r.3.lane.channel of.0 of.1)
 
 pub returns : goal.returns

@@ -3,7 +3,7 @@ use Rattle.std.specs.Prelude.{All}
 use Rattle.std.proofs.lemmas.List.{length-map}
 use Rattle.pl_build.specs.Executors.{sizes_of}
 use Rattle.pl_head.specs.contracts.transports.MemoryTransportTransport.TheImpl.{state-value}
-use Rattle.pl_head.specs.Transports.{Store}
+use Rattle.pl_head.specs.Transports.{MemoryTransportView}
 use Rattle.pl_stages.specs.declared.handlers.Handler.{Handler}
 use Rattle.pl_world.specs.declared.session.Recorded.{Recorded}
 use Rattle.pl_stages.specs.contracts.handlers.HandlerStage.TheImpl.{meaning-value}
@@ -25,5 +25,5 @@ world_built-requires c =
 
 pub returns-clause-steady : goal.returns-clause-steady
 returns-clause-steady c =
-    subst (λ (rs : List (Recorded Handler Store)). All IsSteady rs) (sym c.in_ok-world.ensures.channels)
+    subst (λ (rs : List (Recorded Handler MemoryTransportView)). All IsSteady rs) (sym c.in_ok-world.ensures.channels)
     (all_steady state-value.it _ c.in_ok-channels.channels c.in_ok-channels.ensures.fit)

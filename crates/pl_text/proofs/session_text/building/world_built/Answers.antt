@@ -1,6 +1,6 @@
 use Rattle.std.proofs.Common.{List, sym, subst}
 use Rattle.std.specs.Prelude.{All}
-use Rattle.pl_head.specs.Transports.{Store}
+use Rattle.pl_head.specs.Transports.{MemoryTransportView}
 use Rattle.pl_head.specs.contracts.transports.MemoryTransportTransport.TheImpl.{state-value}
 use Rattle.pl_stages.specs.declared.handlers.Handler.{Handler}
 use Rattle.pl_stages.specs.contracts.handlers.HandlerStage.TheImpl.{stands_after-value}
@@ -13,7 +13,7 @@ use Rattle.pl_text.proofs.session_text.building.world_built.Goals as goal
 pub new-requires : goal.new-requires
 new-requires c =
     let parts = c.in_ok-pipelines in
-    let each = subst (λ (rs : List (Recorded Handler Store)). All (FitsWorld state-value.it c.args.executors) rs) (sym parts.ensures.whole) c.requires.each in
+    let each = subst (λ (rs : List (Recorded Handler MemoryTransportView)). All (FitsWorld state-value.it c.args.executors) rs) (sym parts.ensures.whole) c.requires.each in
     record {
       small = λ within kept. handlers_small stands_after-value.it state-value.it parts.pipelines parts.inputs parts.transports c.args.executors within kept;
       uncalled = all_uncalled state-value.it c.args.executors parts.pipelines parts.inputs parts.transports (record { beside = parts.ensures.inputs; behind = parts.ensures.transports }) each;

@@ -1,6 +1,6 @@
 use Rattle.std.proofs.Common.{◌≡◌, ℕ, ◌++◌, ◌∷◌, [], List, Option, sym, ap, ◌∙◌, append-nil, rules}
 use Rattle.pl_head.specs.Writes.{bytes_of}
-use Rattle.pl_head.specs.Queue.{settled}
+use Rattle.pl_head.specs.WaitingMessages.{settled}
 use Rattle.pl_world.proofs.SettledWrites.{bytes_more, outcomes_more}
 use Rattle.pl_world.proofs.settling.Writes.flush.Goals as goal
 

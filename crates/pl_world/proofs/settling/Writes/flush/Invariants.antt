@@ -1,6 +1,6 @@
 use Rattle.std.proofs.Common.{◌≡◌, ◌++◌, [], map}
 use Rattle.pl_head.specs.Writes.{bytes_of}
-use Rattle.pl_head.specs.Queue.{settled}
+use Rattle.pl_head.specs.WaitingMessages.{settled}
 use Rattle.pl_world.proofs.settling.Writes.flush.Given as goal
 
 -- the writes so far are written

@@ -8,12 +8,12 @@ use Rattle.pl_event.specs.declared.envelopes.Envelope.{Envelope}
 use Rattle.pl_event.specs.declared.outcomes.Cause.TheVariants.{Memory}
 use Rattle.pl_context.specs.declared.added.Added.{Added}
 use Rattle.pl_context.specs.declared.added.Added.TheVariants.{Last, Refused, Discarded}
-use Rattle.pl_context.specs.Stopped.{Stopped, has_stopped, with_stop}
+use Rattle.pl_context.specs.Stops.{StopsView, has_stopped, with_stop}
 
 -- A list of envelopes, the front first. So many more find room without a growth, beside the reserved places.
-pub record Listing : Type 0 where
+pub record OutputsView : Type 0 where
   pub items : List Envelope
-  pub stopped : Stopped
+  pub stopped : StopsView
   pub room : ℕ
 
 -- a failure that takes the place of an item: for want of memory, or the failure that the item is
@@ -34,13 +34,13 @@ added_items Last e = e ∷ []
 added_items Refused e = stand_in e
 added_items Discarded e = []
 
-abbrev pub stopped_after : Added → Stopped → Lane → Stopped
+abbrev pub stopped_after : Added → StopsView → Lane → StopsView
 stopped_after Last s lane = s
 stopped_after Refused s lane = with_stop s lane
 stopped_after Discarded s lane = s
 
 -- An envelope is put on a list: it is discarded exactly where its lane has stopped, and else last wherever there is room.
-pub record Puts (before : Listing) (e : Envelope) (answer : Added) (after : Listing) : Type 0 where
+pub record Puts (before : OutputsView) (e : Envelope) (answer : Added) (after : OutputsView) : Type 0 where
   pub items : after.items ≡ before.items ++ added_items answer e
   pub stopped : after.stopped ≡ stopped_after answer before.stopped e.lane
   pub discarded : (answer ≡ Discarded) ↔ (has_stopped before.stopped e.lane ≡ true)
@@ -48,17 +48,17 @@ pub record Puts (before : Listing) (e : Envelope) (answer : Added) (after : List
   pub room : before.room ≤ after.room + length (added_items answer e)
 
 -- envelopes are put on a list one after another
-abbrev pub PutsAll : Listing → List Envelope → Listing → Type 0
+abbrev pub PutsAll : OutputsView → List Envelope → OutputsView → Type 0
 PutsAll before [] after = (after.items ≡ before.items) × (after.stopped ≡ before.stopped) × (before.room ≤ after.room)
-PutsAll before (e ∷ es) after = (answer : Added) × (mid : Listing) × Puts before e answer mid × PutsAll mid es after
+PutsAll before (e ∷ es) after = (answer : Added) × (mid : OutputsView) × Puts before e answer mid × PutsAll mid es after
 
 -- These envelopes stand behind the others, and no lane has stopped.
-pub record Appends (before : Listing) (es : List Envelope) (after : Listing) : Type 0 where
+pub record Appends (before : OutputsView) (es : List Envelope) (after : OutputsView) : Type 0 where
   pub items : after.items ≡ before.items ++ es
   pub stopped : after.stopped ≡ before.stopped
   pub room : before.room ≤ after.room + length es
 
 -- the places of data lanes that have not stopped are free
-pub record HasReserve (s : Stopped) (len capacity : ℕ) : Type 0 where
+pub record HasReserve (s : StopsView) (len capacity : ℕ) : Type 0 where
   pub few : length s.lanes ≤ s.places
   pub free : len + (s.places - length s.lanes) ≤ capacity

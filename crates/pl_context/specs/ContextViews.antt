@@ -9,10 +9,10 @@ use Rattle.pl_event.specs.declared.stages.Direction.TheVariants.{Inbound, Outbou
 use Rattle.pl_context.specs.declared.ports.Port.{Port}
 use Rattle.pl_context.specs.declared.standing.Standing.{Standing}
 use Rattle.pl_context.specs.declared.standing.Standing.TheVariants as stands
-use Rattle.pl_context.specs.Stopped.{same_hop}
+use Rattle.pl_context.specs.Stops.{same_hop}
 
 -- A stage at its place: taken counts the items of its data lane, flags_taken those of its flags lane.
-pub record Station (S : Type 0) : Type 0 where
+pub record ContextView (S : Type 0) : Type 0 where
   pub stage : S
   pub channel : ℕ
   pub hop : ℕ
@@ -53,8 +53,8 @@ new_port channel kind hop is_open =
     record { lane = record { channel = channel; kind = kind; hop = hop }; made = 0; is_open = is_open }
 
 -- a stage at its place that has taken nothing
-abbrev pub new_station : {S : Type 0} → Direction → ℕ → ℕ → ℕ → S → Station S
-new_station direction channel hop k stage = record {
+abbrev pub new_context : {S : Type 0} → Direction → ℕ → ℕ → ℕ → S → ContextView S
+new_context direction channel hop k stage = record {
   stage = stage;
   channel = channel;
   hop = hop;
@@ -68,16 +68,16 @@ new_station direction channel hop k stage = record {
 }
 
 -- a lane enters the context
-pub record Enters {S : Type 0} (c : Station S) (lane : Lane) : Type 0 where
+pub record Enters {S : Type 0} (c : ContextView S) (lane : Lane) : Type 0 where
   pub channel : lane.channel ≡ c.channel
   pub hop : lane.hop ≡ c.hop
 
 -- how many items it has taken of its lane of a kind, and of any lane
-abbrev pub kind_taken : {S : Type 0} → Station S → Kind → ℕ
+abbrev pub kind_taken : {S : Type 0} → ContextView S → Kind → ℕ
 kind_taken c Data = c.taken
 kind_taken c Flags = c.flags_taken
 
-abbrev pub taken_of : {S : Type 0} → Station S → Lane → ℕ
+abbrev pub taken_of : {S : Type 0} → ContextView S → Lane → ℕ
 taken_of c lane =
     if same_hop lane (record { channel = c.channel; kind = lane.kind; hop = c.hop }) then kind_taken c lane.kind else 0
 
@@ -90,11 +90,11 @@ number_limit Flags = 2 ^ 32
 abbrev pub lane_of : Port → List Lane
 lane_of p = if p.is_open then p.lane ∷ [] else []
 
-abbrev pub open_lanes : {S : Type 0} → Station S → List Lane
+abbrev pub open_lanes : {S : Type 0} → ContextView S → List Lane
 open_lanes c = lane_of c.up ++ lane_of c.down ++ lane_of c.flags
 
 -- a context at the same place has taken as many items
-pub record SamePlace {S : Type 0} (c c' : Station S) : Type 0 where
+pub record SamePlace {S : Type 0} (c c' : ContextView S) : Type 0 where
   pub channel : c'.channel ≡ c.channel
   pub hop : c'.hop ≡ c.hop
   pub taken : c'.taken ≡ c.taken
@@ -109,7 +109,7 @@ one_of Flags Flags = 1
 
 -- The numbers that a lane was given stay in their bounds, so many flags went on at most as came, and the buffers are
 -- empty.
-pub record IsStation (taken flags_taken : ℕ) (up down flags : Port) (up_events down_events : List Event) : Type 0 where
+pub record IsContext (taken flags_taken : ℕ) (up down flags : Port) (up_events down_events : List Event) : Type 0 where
   pub above : up.is_open ≡ true → up.made ≤ 2 ^ 31
   pub below : down.is_open ≡ true → down.made ≤ 2 ^ 31
   pub aside : flags.is_open ≡ true → flags.made ≤ flags_taken

@@ -28,7 +28,7 @@ settled (Some b) = Some Success
 -- A queue of which the first messages are flushed, with an offset into the first, and outcomes. They may stand after
 -- these flushed and unflushed writes, when these bytes of the output are left, and the lane has ended or not: some
 -- flushed writes are done, and the others wait.
-pub record QueueStands (queue : List Waiting) (offset count : ℕ) (outcomes : List (Option Outcome)) (flushed unflushed : List (Option (List ℕ))) (left : List ℕ) (ended : Bool) : Type 0 where
+pub record MessagesStand (queue : List Waiting) (offset count : ℕ) (outcomes : List (Option Outcome)) (flushed unflushed : List (Option (List ℕ))) (left : List ℕ) (ended : Bool) : Type 0 where
   pub done : List (Option (List ℕ))
   pub mid : List (Option (List ℕ))
   pub split : done ++ mid ≡ flushed

@@ -13,7 +13,7 @@ use std::alloc::{AllocError, Global};
 
 /// A handler of a pipeline: a stage under its name, in a group of executors or in none.
 #[derive(Drop)]
-pub struct Handler<S> {
+pub struct NamedStage<S> {
     pub(crate) name: ByteString,
     pub(crate) group: Option<ByteString>,
     pub(crate) stage: S,
@@ -26,7 +26,7 @@ pub struct Unadded<S> {
     pub stage: S,
 }
 
-impl<S> Handler<S> {
+impl<S> NamedStage<S> {
     /// A handler that keeps copies of its names. An `Err` is want of memory, and hands the stage back.
     pub(crate) fn new(
         alloc: Global,
@@ -38,7 +38,7 @@ impl<S> Handler<S> {
         ensures err { IfErr result (λ unadded. unadded ≡ record { fault = fault.Memory; stage = stage }) }
     {
         match kept_names(alloc, name, group) {
-            Ok(names) => Ok(Handler {
+            Ok(names) => Ok(NamedStage {
                 name: names.0,
                 group: names.1,
                 stage,
@@ -66,7 +66,7 @@ impl<S> Handler<S> {
     }
 }
 
-impl<S: Stage> Handler<S> {
+impl<S: Stage> NamedStage<S> {
     pub(crate) fn is_inbound(&self) -> bool
         ensures { result ≡ is_inbound S.meaning self.now }
     {

@@ -5,13 +5,13 @@ use Rattle.pl_event.specs.declared.envelopes.Kind.TheVariants.{Data, Flags}
 use Rattle.pl_event.specs.declared.envelopes.Envelope.{Envelope}
 use Rattle.pl_context.specs.declared.added.Added.{Added}
 use Rattle.pl_context.specs.declared.added.Added.TheVariants.{Last, Refused, Discarded}
-use Rattle.pl_context.specs.Stopped.{Stopped, has_stopped}
-use Rattle.pl_context.specs.Listings.{added_items, stopped_after}
+use Rattle.pl_context.specs.Stops.{StopsView, has_stopped}
+use Rattle.pl_context.specs.OutputsViews.{added_items, stopped_after}
 
 -- Envelopes with their tokens, the oldest first. So many more find room without a growth, beside the reserved places.
-pub record Queue (A : Type 0) : Type 0 where
+pub record BacklogView (A : Type 0) : Type 0 where
   pub items : List (Envelope × A)
-  pub stopped : Stopped
+  pub stopped : StopsView
   pub room : ℕ
 
 -- the token comes back where nothing was added
@@ -22,7 +22,7 @@ handed_back Refused Flags token = Some token
 handed_back Discarded kind token = Some token
 
 -- An envelope is added with its token, under the rule of a list of envelopes.
-pub record Adds {A : Type 0} (before : Queue A) (e : Envelope) (token : A) (result : Option A) (after : Queue A) : Type 0 where
+pub record Adds {A : Type 0} (before : BacklogView A) (e : Envelope) (token : A) (result : Option A) (after : BacklogView A) : Type 0 where
   pub answer : Added
   pub items : after.items ≡ before.items ++ map (λ x. (x, token)) (added_items answer e)
   pub stopped : after.stopped ≡ stopped_after answer before.stopped e.lane

@@ -6,7 +6,7 @@ use Rattle.pl_event.specs.declared.envelopes.Kind.TheVariants.{Data, Flags}
 
 -- The data lanes and the flags lanes that have stopped: what such a lane brings is discarded. There is a reserved
 -- place for a failure on each data lane, and a data lane and the flags lane of its hop count as one.
-pub record Stopped : Type 0 where
+pub record StopsView : Type 0 where
   pub lanes : List Lane
   pub flag_lanes : List Lane
   pub places : ℕ
@@ -15,15 +15,15 @@ pub record Stopped : Type 0 where
 abbrev pub same_hop : Lane → Lane → Bool
 same_hop a b = (a.channel == b.channel) && (a.hop == b.hop)
 
-abbrev pub has_stopped : Stopped → Lane → Bool
+abbrev pub has_stopped : StopsView → Lane → Bool
 has_stopped s lane = elim lane.kind [ Data ↦ list_any (same_hop lane) s.lanes | Flags ↦ list_any (same_hop lane) s.flag_lanes ]
 
 -- some lane has stopped
-abbrev pub any_stopped : Stopped → Bool
+abbrev pub any_stopped : StopsView → Bool
 any_stopped s = not (length s.lanes == 0 && length s.flag_lanes == 0)
 
 -- one lane more has stopped
-abbrev pub with_stop : Stopped → Lane → Stopped
+abbrev pub with_stop : StopsView → Lane → StopsView
 with_stop s lane =
     elim lane.kind [ Data ↦ record s { lanes = s.lanes ++ lane ∷ [] } | Flags ↦ record s { flag_lanes = s.flag_lanes ++ lane ∷ [] } ]
 
@@ -32,7 +32,7 @@ abbrev pub AreAmong : List Lane → List Lane → Type 0
 AreAmong some lanes = (lane : Lane) → list_any (same_hop lane) some ≡ true → list_any (same_hop lane) lanes ≡ true
 
 -- There are places for these lanes: a list of at most so many hops has them, and those that have stopped.
-pub record HasPlaces (s : Stopped) (lanes : List Lane) : Type 0 where
+pub record HasPlaces (s : StopsView) (lanes : List Lane) : Type 0 where
   pub hops : List Lane
   pub few : length hops ≤ s.places
   pub stopped : AreAmong s.lanes hops
@@ -40,11 +40,11 @@ pub record HasPlaces (s : Stopped) (lanes : List Lane) : Type 0 where
   pub own : AreAmong lanes hops
 
 -- nothing has stopped on a new list
-abbrev pub no_stops : ℕ → Stopped
+abbrev pub no_stops : ℕ → StopsView
 no_stops places = record { lanes = []; flag_lanes = []; places = places }
 
 -- no lane is noted twice, and there is room to note one for each place
-pub record IsStopped (lanes flag_lanes : List Lane) (places capacity flag_capacity : ℕ) : Type 0 where
+pub record IsStops (lanes flag_lanes : List Lane) (places capacity flag_capacity : ℕ) : Type 0 where
   pub distinct : IsDistinct same_hop lanes
   pub flags_distinct : IsDistinct same_hop flag_lanes
   pub few : length lanes ≤ places

@@ -11,9 +11,9 @@ use Rattle.pl_context.specs.declared.standing.Standing.{Standing}
 use Rattle.pl_context.specs.declared.standing.Standing.TheVariants as stands
 use Rattle.pl_context.specs.declared.standing.Took.{Took}
 use Rattle.pl_context.specs.declared.standing.Took.TheVariants as took
-use Rattle.pl_context.specs.Stopped.{same_hop}
+use Rattle.pl_context.specs.Stops.{same_hop}
 
-pub record Recording : Type 0 where
+pub record TailView : Type 0 where
   pub channel : ℕ
   pub hop : ℕ
   pub taken : ℕ
@@ -24,8 +24,8 @@ pub record Recording : Type 0 where
   pub flags_stopped : Bool
 
 -- a tail that has taken nothing
-abbrev pub new_recording : ℕ → ℕ → Recording
-new_recording channel k = record {
+abbrev pub new_tail : ℕ → ℕ → TailView
+new_tail channel k = record {
   channel = channel;
   hop = k;
   taken = 0;
@@ -37,58 +37,58 @@ new_recording channel k = record {
 }
 
 -- a lane enters the tail
-pub record EntersTail (t : Recording) (lane : Lane) : Type 0 where
+pub record EntersTail (t : TailView) (lane : Lane) : Type 0 where
   pub channel : lane.channel ≡ t.channel
   pub hop : lane.hop ≡ t.hop
 
 -- how many items it has taken of its lane of a kind, and of any lane
-abbrev pub kind_taken : Recording → Kind → ℕ
+abbrev pub kind_taken : TailView → Kind → ℕ
 kind_taken t Data = t.taken
 kind_taken t Flags = t.flags_taken
 
-abbrev pub taken_of : Recording → Lane → ℕ
+abbrev pub taken_of : TailView → Lane → ℕ
 taken_of t lane =
     if same_hop lane (record { channel = t.channel; kind = lane.kind; hop = t.hop }) then kind_taken t lane.kind else 0
 
 -- one item more was taken of the lane of this kind
-abbrev pub counted : Kind → Recording → Recording
+abbrev pub counted : Kind → TailView → TailView
 counted Data t = record t { taken = t.taken + 1 }
 counted Flags t = record t { flags_taken = t.flags_taken + 1 }
 
 -- An open tail records an event, or fails where a growth is refused.
-abbrev pub RecordsEvent : Recording → Event → Took → Recording → Type 0
+abbrev pub RecordsEvent : TailView → Event → Took → TailView → Type 0
 RecordsEvent t x took.Ran t' = t' ≡ record t { events = t.events ++ x ∷ [] }
 RecordsEvent t x (took.Failed cause) t' = (cause ≡ Memory) × (t' ≡ record t { standing = stands.Failed Memory })
 RecordsEvent t x took.Ended t' = ⊥
 RecordsEvent t x took.Dropped t' = ⊥
 
 -- The same of any item of its data lane. (A flag does not stand there, and nothing comes of it.)
-abbrev pub RecordsItem : Recording → Item → Took → Recording → Type 0
+abbrev pub RecordsItem : TailView → Item → Took → TailView → Type 0
 RecordsItem t (item.Event x) answer t' = RecordsEvent t x answer t'
 RecordsItem t item.End answer t' = (answer ≡ took.Ended) × (t' ≡ record t { standing = stands.Ended })
 RecordsItem t (item.Fail cause) answer t' = (answer ≡ took.Failed cause) × (t' ≡ record t { standing = stands.Failed cause })
 RecordsItem t (item.Flag value) answer t' = (answer ≡ took.Ran) × (t' ≡ t)
 
 -- A flag is recorded until a growth is refused for one, and none from then on.
-pub record RecordsFlag (t : Recording) (value : Bool) (t' : Recording) : Type 0 where
+pub record RecordsFlag (t : TailView) (value : Bool) (t' : TailView) : Type 0 where
   pub goes_on : t.flags_stopped ≡ false → (t' ≡ record t { flags = t.flags ++ value ∷ [] }) ⊎ (t' ≡ record t { flags_stopped = true })
   pub stopped : t.flags_stopped ≡ true → t' ≡ t
 
 -- Nothing comes of any other item, which does not stand on a flags lane.
-abbrev pub RecordsFlagItem : Recording → Item → Recording → Type 0
+abbrev pub RecordsFlagItem : TailView → Item → TailView → Type 0
 RecordsFlagItem t (item.Flag value) t' = RecordsFlag t value t'
 RecordsFlagItem t (item.Event x) t' = t' ≡ t
 RecordsFlagItem t item.End t' = t' ≡ t
 RecordsFlagItem t (item.Fail cause) t' = t' ≡ t
 
 -- a tail at the same place has taken as many items
-pub record SamePlace (t t' : Recording) : Type 0 where
+pub record SamePlace (t t' : TailView) : Type 0 where
   pub channel : t'.channel ≡ t.channel
   pub hop : t'.hop ≡ t.hop
   pub taken : t'.taken ≡ t.taken
   pub flags_taken : t'.flags_taken ≡ t.flags_taken
 
 -- counts stay in their bounds
-pub record IsRecording (taken flags_taken : ℕ) : Type 0 where
+pub record IsTail (taken flags_taken : ℕ) : Type 0 where
   pub counts : taken ≤ 2 ^ 31
   pub flag_counts : flags_taken ≤ 2 ^ 32
