@@ -12,7 +12,9 @@ use Rattle.std.proofs.lemmas.List.Elements.{All-map, All-weaker, All-head, All-t
 use Rattle.std.proofs.lemmas.List.Folds.{list_all-map}
 use Rattle.std.proofs.lemmas.List.Sums.{sum_by_more_le, sum_by_push, sum_by-cons, take_while-cons, AllPass-from_list_all}
 use Rattle.std.proofs.lemmas.Slice.Eq.{bytes_eq-Decides}
-use Rattle.pl_build.proofs.Lists.{list_any_map, sum_by-map, map-map}
+use Rattle.pl_build.specs.declared.limits.TheConstants.{MAX_EXECUTORS}
+use Rattle.std.proofs.lemmas.Simd.{map-map}
+use Rattle.pl_event.proofs.Lists.{list_any-map, sum_by-map}
 use Rattle.pl_build.specs.Names.{is_name, names_and_sizes}
 use Rattle.pl_build.specs.Refusals.{executor_count, has_double, is_within, grouping_fault, is_known}
 use Rattle.pl_build.specs.Executors.{GroupsView, IsGrouping, HasPlaced, sizes_of, uses, first_executor, size_of, executor_after}
@@ -30,30 +32,30 @@ entry group = (group.name, group.size)
 count-given : (loops : ℕ) (groups : List (Bor (List ℕ) × ℕ)) → executor_count loops (names_and_sizes groups) ≡ loops + sum_by (λ group. group.1) groups
 count-given loops groups = ap (λ (n : ℕ). loops + n) (sum_by-map (λ (p : List ℕ × ℕ). p.1) (λ (g : Bor (List ℕ) × ℕ). (g.0.now, g.1)) groups)
 
-pub too_many : (loops left i : ℕ) (groups : List (Bor (List ℕ) × ℕ)) (d : Bor (List ℕ) × ℕ) → i < length groups → loops + sum_by (λ group. group.1) (take i groups) + left ≡ 16 → left < (get_or groups i d).1 → false ≡ leb (executor_count loops (names_and_sizes groups)) 16
+pub too_many : (loops left i : ℕ) (groups : List (Bor (List ℕ) × ℕ)) (d : Bor (List ℕ) × ℕ) → i < length groups → loops + sum_by (λ group. group.1) (take i groups) + left ≡ MAX_EXECUTORS → left < (get_or groups i d).1 → false ≡ leb (executor_count loops (names_and_sizes groups)) MAX_EXECUTORS
 too_many loops left i groups d within sum more =
     let count = count-given loops groups in
     let part = sum_by_more_le (λ (g : Bor (List ℕ) × ℕ). g.1) groups i d within in
-    sym (lt-leb (executor_count loops (names_and_sizes groups)) 16 (omega (arith, count, part)))
+    sym (lt-leb (executor_count loops (names_and_sizes groups)) MAX_EXECUTORS (omega (arith, count, part)))
 
-pub few : (loops left i : ℕ) (groups : List (Bor (List ℕ) × ℕ)) → length groups ≤ i → loops + sum_by (λ group. group.1) (take i groups) + left ≡ 16 → true ≡ leb (executor_count loops (names_and_sizes groups)) 16
+pub few : (loops left i : ℕ) (groups : List (Bor (List ℕ) × ℕ)) → length groups ≤ i → loops + sum_by (λ group. group.1) (take i groups) + left ≡ MAX_EXECUTORS → true ≡ leb (executor_count loops (names_and_sizes groups)) MAX_EXECUTORS
 few loops left i groups past sum =
     let count = count-given loops groups in
     let all = ap (λ (xs : List (Bor (List ℕ) × ℕ)). sum_by (λ group. group.1) xs) (take_all i groups past) in
-    sym (le-leb (executor_count loops (names_and_sizes groups)) 16 (omega (arith, count, all)))
+    sym (le-leb (executor_count loops (names_and_sizes groups)) MAX_EXECUTORS (omega (arith, count, all)))
 
-pub too_many_loops : (loops : ℕ) (groups : List (Bor (List ℕ) × ℕ)) → 16 < loops → false ≡ leb (executor_count loops (names_and_sizes groups)) 16
-too_many_loops loops groups more = sym (lt-leb (executor_count loops (names_and_sizes groups)) 16 (omega arith))
+pub too_many_loops : (loops : ℕ) (groups : List (Bor (List ℕ) × ℕ)) → MAX_EXECUTORS < loops → false ≡ leb (executor_count loops (names_and_sizes groups)) MAX_EXECUTORS
+too_many_loops loops groups more = sym (lt-leb (executor_count loops (names_and_sizes groups)) MAX_EXECUTORS (omega arith))
 
 pub not_doubled : (groups rest : List (Bor (List ℕ) × ℕ)) (first : Bor (List ℕ) × ℕ) → groups ≡ first ∷ rest → list_any (λ group. bytes_eq group.0.now first.0.now) rest ≡ false → has_double (names_and_sizes groups) ≡ has_double (names_and_sizes rest)
 not_doubled groups rest first e fresh =
     ap (λ (t : List (Bor (List ℕ) × ℕ)). has_double (names_and_sizes t)) e
-    ∙ ap (λ (b : Bool). b || has_double (names_and_sizes rest)) (list_any_map (λ (o : List ℕ × ℕ). bytes_eq o.0 first.0.now) (λ (g : Bor (List ℕ) × ℕ). (g.0.now, g.1)) rest ∙ fresh)
+    ∙ ap (λ (b : Bool). b || has_double (names_and_sizes rest)) (list_any-map (λ (o : List ℕ × ℕ). bytes_eq o.0 first.0.now) (λ (g : Bor (List ℕ) × ℕ). (g.0.now, g.1)) rest ∙ fresh)
 
 pub doubled : (groups rest : List (Bor (List ℕ) × ℕ)) (first : Bor (List ℕ) × ℕ) → groups ≡ first ∷ rest → list_any (λ group. bytes_eq group.0.now first.0.now) rest ≡ true → has_double (names_and_sizes groups) ≡ true
 doubled groups rest first e taken =
     ap (λ (t : List (Bor (List ℕ) × ℕ)). has_double (names_and_sizes t)) e
-    ∙ ap (λ (b : Bool). b || has_double (names_and_sizes rest)) (list_any_map (λ (o : List ℕ × ℕ). bytes_eq o.0 first.0.now) (λ (g : Bor (List ℕ) × ℕ). (g.0.now, g.1)) rest ∙ taken)
+    ∙ ap (λ (b : Bool). b || has_double (names_and_sizes rest)) (list_any-map (λ (o : List ℕ × ℕ). bytes_eq o.0 first.0.now) (λ (g : Bor (List ℕ) × ℕ). (g.0.now, g.1)) rest ∙ taken)
 
 pub possible : (groups : List (Bor (List ℕ) × ℕ)) → list_all (λ group. is_name group.0 && nat_le 1 group.1) (names_and_sizes groups) ≡ list_all (λ group. is_name group.0.now && nat_le 1 group.1) groups
 possible groups = list_all-map (λ (g : List ℕ × ℕ). is_name g.0 && nat_le 1 g.1) (λ (g : Bor (List ℕ) × ℕ). (g.0.now, g.1)) groups
@@ -63,7 +65,7 @@ possible groups = list_all-map (λ (g : List ℕ × ℕ). is_name g.0 && nat_le 
 abbrev pub unused : Bor (List ℕ) × ℕ → Group
 unused group = record { name = group.0.now; size = group.1; next = 0 }
 
--- no refusal for want of this
+-- where a call is not refused for this reason
 pub true_from_none : (b : Bool) (fault : BuildFault) (o : Option BuildFault) → cond (not b) (Some fault) o ≡ None → b ≡ true
 true_from_none true fault o e = refl
 true_from_none false fault o e = cc
@@ -80,14 +82,14 @@ sizes-unused groups = map-map entry unused groups
 
 pub IsGrouping-new : (loops : ℕ) (groups : List (Bor (List ℕ) × ℕ)) (made : List Group) → grouping_fault loops (names_and_sizes groups) ≡ None → made ≡ map unused groups → IsGrouping (record { loops = loops; next_loop = 0; groups = made })
 IsGrouping-new loops groups made none is =
-    let parts = and_parts (nat_le 1 loops && list_all (λ (g : List ℕ × ℕ). is_name g.0 && nat_le 1 g.1) (names_and_sizes groups)) (nat_le (executor_count loops (names_and_sizes groups)) 16) (within loops groups none) in
+    let parts = and_parts (nat_le 1 loops && list_all (λ (g : List ℕ × ℕ). is_name g.0 && nat_le 1 g.1) (names_and_sizes groups)) (nat_le (executor_count loops (names_and_sizes groups)) MAX_EXECUTORS) (within loops groups none) in
     let fronts = and_parts (nat_le 1 loops) (list_all (λ (g : List ℕ × ℕ). is_name g.0 && nat_le 1 g.1) (names_and_sizes groups)) parts.0 in
     let each = AllPass-from_list_all (λ (g : Bor (List ℕ) × ℕ). is_name g.0.now && nat_le 1 g.1) groups (sym (possible groups) ∙ fronts.1) in
     let size : (g : Bor (List ℕ) × ℕ) → (is_name g.0.now && nat_le 1 g.1) ≡ true → 0 < g.1 = λ g h. let le = leb-true 1 g.1 (and_parts (is_name g.0.now) (nat_le 1 g.1) h).1 in omega arith in
     let made_is : IsGrouping (record { loops = loops; next_loop = 0; groups = map unused groups }) = record {
       loop = (let le = leb-true 1 loops fronts.0 in omega arith);
       nexts = All-map (λ (g : Group). g.next < g.size) unused groups (All-weaker (λ (g : Bor (List ℕ) × ℕ). (is_name g.0.now && nat_le 1 g.1) ≡ true) (λ (g : Bor (List ℕ) × ℕ). 0 < g.1) size groups each);
-      within = (let le = leb-true (executor_count loops (names_and_sizes groups)) 16 parts.1 in rw (sizes-unused groups) le);
+      within = (let le = leb-true (executor_count loops (names_and_sizes groups)) MAX_EXECUTORS parts.1 in rw (sizes-unused groups) le);
     } in
     let P : List Group → Type 0 = λ gs. IsGrouping (record { loops = loops; next_loop = 0; groups = gs }) in subst P (sym is) made_is
 

@@ -1,50 +1,12 @@
--- Lists through `map`, `filter`, `reverse` and `take_while`.
-use Rattle.std.proofs.Common.{◌≡◌, ℕ, ◌+◌, ◌≤◌, Bool, true, false, ◌||◌, ◌&&◌, cond, List, [], ◌∷◌, ◌++◌, length, take, drop, map, filter, reverse, sum_by, Some, sym, refl, ap, ◌∙◌, arith}
-use Rattle.std.specs.List.{list_any, list_all, take_while, prefix_len, find}
-use Rattle.std.specs.Option.{option_map_or}
-use Rattle.std.proofs.lemmas.List.{map-append, take-map, reverse-append, take-append-drop, length-append}
-use Rattle.std.proofs.lemmas.List.Folds.{fold-map}
-use Rattle.std.proofs.lemmas.List.Sums.{take_while-cons}
-
-pub list_any_map : {X Y : Type 0} (p : X → Bool) (h : Y → X) (ys : List Y) → list_any p (map h ys) ≡ list_any (λ y. p (h y)) ys
-list_any_map p h [] = refl
-list_any_map p h (y ∷ ys) = ap (λ (b : Bool). p (h y) || b) (list_any_map p h ys)
-
-pub sum_by-map : {X Y : Type 0} (f : X → ℕ) (h : Y → X) (ys : List Y) → sum_by f (map h ys) ≡ sum_by (λ y. f (h y)) ys
-sum_by-map f h ys = fold-map (λ a x. a + f x) h 0 ys
-
-prefix_len-map : {X Y : Type 0} (p : X → Bool) (h : Y → X) (ys : List Y) → prefix_len p (map h ys) ≡ prefix_len (λ y. p (h y)) ys
-prefix_len-map p h [] = refl
-prefix_len-map p h (y ∷ ys) = ap (λ (n : ℕ). cond (p (h y)) (1 + n) 0) (prefix_len-map p h ys)
-
-pub take_while-map : {X Y : Type 0} (p : X → Bool) (h : Y → X) (ys : List Y) → take_while p (map h ys) ≡ map h (take_while (λ y. p (h y)) ys)
-take_while-map {X = X} p h ys =
-    ap (λ (n : ℕ). take n (map h ys)) (prefix_len-map p h ys) ∙ take-map h (prefix_len (λ y. p (h y)) ys) ys
-
--- what is read of the first element that passes
-pub find-map : {X Y Z : Type 0} (g : X → Z) (d : Z) (p : X → Bool) (h : Y → X) (ys : List Y) → option_map_or g (find p (map h ys)) d ≡ option_map_or (λ y. g (h y)) (find (λ y. p (h y)) ys) d
-find-map g d p h [] = refl
-find-map g d p h (y ∷ ys) =
-    elim (p (h y)) as (λ b. option_map_or g (cond b (Some (h y)) (find p (map h ys))) d ≡ option_map_or (λ z. g (h z)) (cond b (Some y) (find (λ z. p (h z)) ys)) d) [ true ↦ refl | false ↦ find-map g d p h ys ]
-
-pub filter-map : {X Y : Type 0} (p : X → Bool) (h : Y → X) (ys : List Y) → filter p (map h ys) ≡ map h (filter (λ y. p (h y)) ys)
-filter-map p h [] = refl
-filter-map p h (y ∷ ys) =
-    let tail = filter-map p h ys in
-    elim (p (h y)) as (λ b. cond b (h y ∷ filter p (map h ys)) (filter p (map h ys)) ≡ map h (cond b (y ∷ filter (λ z. p (h z)) ys) (filter (λ z. p (h z)) ys))) [ true ↦ ap (λ t. h y ∷ t) tail | false ↦ tail ]
-
-pub map-map : {X Y Z : Type 0} (g : Y → Z) (f : X → Y) (xs : List X) → map g (map f xs) ≡ map (λ x. g (f x)) xs
-map-map g f [] = refl
-map-map g f (x ∷ xs) = ap (λ t. g (f x) ∷ t) (map-map g f xs)
+-- Lists through `filter`, `reverse` and `take_while`.
+use Rattle.std.proofs.Common.{◌≡◌, ℕ, ◌+◌, ◌<◌, ◌≤◌, Bool, true, false, ◌&&◌, not, cond, List, [], ◌∷◌, ◌++◌, length, take, drop, filter, reverse, sym, refl, ap, ◌∙◌, arith}
+use Rattle.std.specs.List.{list_all, take_while, prefix_len, position_or_len, count_by}
+use Rattle.std.proofs.lemmas.Bool.{and_parts}
+use Rattle.std.proofs.lemmas.List.{reverse-append, take-append-drop, length-append}
+use Rattle.std.proofs.lemmas.List.Sums.{take_while-cons, sum_by-cons}
 
 pub reverse-append_one : {X : Type 0} (x : X) (xs : List X) → reverse (x ∷ xs) ≡ reverse xs ++ x ∷ []
 reverse-append_one x xs = reverse-append (x ∷ []) xs
-
-pub map-reverse : {X Y : Type 0} (f : X → Y) (xs : List X) → map f (reverse xs) ≡ reverse (map f xs)
-map-reverse f [] = refl
-map-reverse f (x ∷ xs) =
-    ap (λ t. map f t) (reverse-append_one x xs) ∙ map-append f (reverse xs) (x ∷ []) ∙ ap (λ t. t ++ f x ∷ []) (map-reverse f xs)
-    ∙ sym (reverse-append_one (f x) (map f xs))
 
 -- what stands before the first element that fails, with an element more at the end
 pub take_while_push : {X : Type 0} (p : X → Bool) (xs : List X) (x : X) → take_while p (xs ++ x ∷ []) ≡ take_while p xs ++ cond (list_all p xs && p x) (x ∷ []) []
@@ -55,16 +17,51 @@ take_while_push p (y ∷ xs) x =
     split : take_while p (xs ++ x ∷ []) ≡ take_while p xs ++ cond (list_all p xs && p x) (x ∷ []) [] → cond (p y) (y ∷ take_while p (xs ++ x ∷ [])) [] ≡ cond (p y) (y ∷ take_while p xs) [] ++ cond ((p y && list_all p xs) && p x) (x ∷ []) []
     split tail = elim (p y) as (λ b. cond b (y ∷ take_while p (xs ++ x ∷ [])) [] ≡ cond b (y ∷ take_while p xs) [] ++ cond ((b && list_all p xs) && p x) (x ∷ []) []) [ true ↦ ap (λ t. y ∷ t) tail | false ↦ refl ]
 
-pub list_all_push : {X : Type 0} (p : X → Bool) (xs : List X) (x : X) → list_all p (xs ++ x ∷ []) ≡ (list_all p xs && p x)
-list_all_push p [] x = elim (p x) as (λ b. (b && true) ≡ b) [ true ↦ refl | false ↦ refl ]
-list_all_push p (y ∷ xs) x =
-    let tail = list_all_push p xs x in
-    elim (p y) as (λ b. (b && list_all p (xs ++ x ∷ [])) ≡ ((b && list_all p xs) && p x)) [ true ↦ tail | false ↦ refl ]
+-- all pass
+pub take_while_all : {X : Type 0} (p : X → Bool) (xs : List X) → list_all p xs ≡ true → take_while p xs ≡ xs
+take_while_all p [] all = refl
+take_while_all p (x ∷ xs) all =
+    let parts = and_parts (p x) (list_all p xs) all in
+    take_while-cons p x xs ∙ ap (λ b. cond b (x ∷ take_while p xs) []) parts.0 ∙ ap (λ t. x ∷ t) (take_while_all p xs parts.1)
 
 pub length-take_while-le : {X : Type 0} (p : X → Bool) (xs : List X) → length (take_while p xs) ≤ length xs
 length-take_while-le {X = X} p xs =
     omega (arith, ap (λ (ys : List X). length ys) (take-append-drop (prefix_len p xs) xs), length-append (take (prefix_len p xs) xs) (drop (prefix_len p xs) xs))
 
-pub nil_from_length : {X : Type 0} (xs : List X) → length xs ≡ 0 → xs ≡ []
-nil_from_length [] e = refl
-nil_from_length (x ∷ xs) e = absurd (omega (arith, e))
+-- the first that passes p, among those that pass q: before it stand those before it that pass q
+pub position_or_len-filter : {X : Type 0} (p q : X → Bool) (xs : List X) → ((x : X) → p x ≡ true → q x ≡ true) → position_or_len p (filter q xs) ≡ length (filter q (take_while (λ x. not (p x)) xs))
+position_or_len-filter p q [] kept = refl
+position_or_len-filter {X = X} p q (x ∷ xs) kept =
+    by (q x) refl (p x) refl (position_or_len-filter p q xs kept) ∙ sym (ap (λ (t : List X). length (filter q t)) (take_while-cons (λ y. not (p y)) x xs))
+  where
+    rest : List X
+    rest = take_while (λ y. not (p y)) xs
+
+    chosen : (b : Bool) → q x ≡ b → position_or_len p (filter q (x ∷ xs)) ≡ position_or_len p (cond b (x ∷ filter q xs) (filter q xs))
+    chosen b is = ap (λ (v : Bool). position_or_len p (cond v (x ∷ filter q xs) (filter q xs))) is
+
+    first : (c : Bool) → p x ≡ c → position_or_len p (x ∷ filter q xs) ≡ cond (not c) (1 + position_or_len p (filter q xs)) 0
+    first c is = ap (λ (v : Bool). cond (not v) (1 + position_or_len p (filter q xs)) 0) is
+
+    front : (b c : Bool) → q x ≡ b → p x ≡ c → length (filter q (cond (not (p x)) (x ∷ rest) [])) ≡ cond (not c) (length (cond b (x ∷ filter q rest) (filter q rest))) 0
+    front b true q_is p_is = ap {B = ℕ} (λ (v : Bool). length (filter q (cond (not v) (x ∷ rest) []))) p_is
+    front b false q_is p_is =
+        ap {B = ℕ} (λ (v : Bool). length (filter q (cond (not v) (x ∷ rest) []))) p_is
+        ∙ ap {B = ℕ} (λ (v : Bool). length (cond v (x ∷ filter q rest) (filter q rest))) q_is
+
+    by : (b : Bool) → q x ≡ b → (c : Bool) → p x ≡ c → position_or_len p (filter q xs) ≡ length (filter q rest) → position_or_len p (filter q (x ∷ xs)) ≡ length (filter q (cond (not (p x)) (x ∷ rest) []))
+    by true q_is true p_is tail = chosen true q_is ∙ first true p_is ∙ sym (front true true q_is p_is)
+    by true q_is false p_is tail = omega (arith, chosen true q_is, first false p_is, tail, front true false q_is p_is)
+    by false q_is true p_is tail = let none = sym (kept x p_is) ∙ q_is in cc
+    by false q_is false p_is tail = chosen false q_is ∙ tail ∙ sym (front false false q_is p_is)
+
+-- where one element passes at least, the first of them is there
+pub first_within : {X : Type 0} (p : X → Bool) (xs : List X) → 0 < count_by p xs → position_or_len p xs < length xs
+first_within p [] some = absurd (omega (arith, some))
+first_within {X = X} p (x ∷ xs) some = by (p x) refl (first_within p xs)
+  where
+    by : (b : Bool) → p x ≡ b → (0 < count_by p xs → position_or_len p xs < length xs) → position_or_len p (x ∷ xs) < length (x ∷ xs)
+    by true is rest = omega (arith, ap {B = ℕ} (λ (v : Bool). cond (not v) (1 + position_or_len p xs) 0) is)
+    by false is rest =
+        let more : 0 < count_by p xs = omega (arith, some, sum_by-cons (λ (y : X). cond (p y) 1 0) x xs, ap {B = ℕ} (λ (v : Bool). cond v 1 0) is) in
+        omega (arith, ap {B = ℕ} (λ (v : Bool). cond (not v) (1 + position_or_len p xs) 0) is, rest more)

@@ -1,5 +1,5 @@
 -- The path of a pipeline: its two chains in the words of their stages' meanings, their lengths, and the executor of each hop.
-use Rattle.std.proofs.Common.{◌≡◌, ℕ, suc, ◌+◌, ◌<◌, ◌≤◌, Bool, true, false, ◌&&◌, not, cond, leb, ltb, eqb, sum_by, List, [], ◌∷◌, ◌++◌, length, take, drop, map, filter, reverse, get_or, Option, None, Some, Ok, Err, sym, refl, ap, ◌∙◌, subst, arith}
+use Rattle.std.proofs.Common.{◌≡◌, ℕ, suc, ◌+◌, ◌<◌, ◌≤◌, Bool, true, false, ◌&&◌, not, cond, leb, ltb, eqb, sum_by, List, [], ◌∷◌, ◌++◌, length, take, drop, map, filter, reverse, get_or, Option, None, Some, Ok, Err, sym, refl, ap, ◌∙◌, subst, arith, append-nil}
 use Rattle.std.specs.Prelude.{All, count_by, position, remove, slice_get}
 use Rattle.std.specs.List.{list_all, prefix_len, position_or_len}
 use Rattle.std.proofs.lemmas.Bool.{ltb-true, ltb-false, leb-false, eqb-false, not-true}
@@ -10,13 +10,15 @@ use Rattle.std.proofs.lemmas.List.Edits.{length-remove}
 use Rattle.std.proofs.lemmas.List.Filters.{length-filter_both, sum_by-filter_both}
 use Rattle.std.proofs.lemmas.List.Folds.{find_at}
 use Rattle.std.proofs.lemmas.Option.{slice_get-get_or, slice_get_past}
-use Rattle.pl_build.proofs.Lists.{map-map, sum_by-map, filter-map, map-reverse, take_while-map, reverse-append_one, take_while_push}
+use Rattle.std.proofs.lemmas.Simd.{map-map}
+use Rattle.pl_event.proofs.Lists.{sum_by-map, filter-map, map-reverse, take_while-map, list_all_push, position_or_len-map}
+use Rattle.pl_build.proofs.Lists.{reverse-append_one, take_while_push, take_while_all, position_or_len-filter, first_within}
 use Rattle.pl_event.specs.declared.events.Event.{Event}
 use Rattle.pl_event.specs.declared.stages.Direction.{Direction}
 use Rattle.pl_event.specs.declared.stages.Direction.TheVariants.{Inbound, Outbound, Turn}
 use Rattle.pl_event.specs.Meaning.{Meaning}
 use Rattle.pl_event.specs.Paths as path
-use Rattle.pl_build.specs.Pipelines.{PipelineBuilderView, is_named, place_of, stage_of, meanings, is_inbound, is_outbound, is_turn, inbound_handlers, outbound_handlers, before_turn}
+use Rattle.pl_build.specs.Pipelines.{PipelineBuilderView, is_named, index_of, stage_of, meanings, is_inbound, is_outbound, is_turn, inbound_handlers, outbound_handlers, before_turn, hop_of_turn}
 use Rattle.pl_build.specs.Paths.{IsPipeline, IsPath}
 use Rattle.pl_build.specs.Executors.{GroupsView, IsGrouping, HasPlaced, sizes_of, executor_after, hop_executors}
 use Rattle.pl_build.specs.Counts.{executor_now}
@@ -25,44 +27,44 @@ use Rattle.pl_build.proofs.GroupLemmas.{true_from_none, rest_from_none, executor
 use Rattle.pl_build.specs.declared.named_stages.NamedStage.{NamedStage}
 use Rattle.pl_build.specs.declared.faults.BuildFault.TheVariants.{NoSuchName, NoSuchGroup, NoTurn, TwoTurns}
 
--- ---- the place of a name
+-- ---- the index of a name
 
-known_place : {X : Type 0} (p : X → Bool) (xs : List X) (i : ℕ) (b : Bool) → ltb (position_or_len p xs) (length xs) ≡ b → cond b (Some (position_or_len p xs)) None ≡ Some i → (position_or_len p xs ≡ i) × (position_or_len p xs < length xs)
-known_place p xs i true e h = (cc, ltb-true (position_or_len p xs) (length xs) e)
-known_place p xs i false e h = cc
+known_index : {X : Type 0} (p : X → Bool) (xs : List X) (i : ℕ) (b : Bool) → ltb (position_or_len p xs) (length xs) ≡ b → cond b (Some (position_or_len p xs)) None ≡ Some i → (position_or_len p xs ≡ i) × (position_or_len p xs < length xs)
+known_index p xs i true e h = (cc, ltb-true (position_or_len p xs) (length xs) e)
+known_index p xs i false e h = cc
 
-unknown_place : {X : Type 0} (p : X → Bool) (xs : List X) (b : Bool) → ltb (position_or_len p xs) (length xs) ≡ b → cond b (Some (position_or_len p xs)) None ≡ None → length xs ≤ position_or_len p xs
-unknown_place p xs true e h = cc
-unknown_place p xs false e h = ltb-false (position_or_len p xs) (length xs) e
+unknown_index : {X : Type 0} (p : X → Bool) (xs : List X) (b : Bool) → ltb (position_or_len p xs) (length xs) ≡ b → cond b (Some (position_or_len p xs)) None ≡ None → length xs ≤ position_or_len p xs
+unknown_index p xs true e h = cc
+unknown_index p xs false e h = ltb-false (position_or_len p xs) (length xs) e
 
 pub position_is : {X : Type 0} (p : X → Bool) (xs : List X) (i : ℕ) → position p xs ≡ Some i → (position_or_len p xs ≡ i) × (position_or_len p xs < length xs)
-position_is p xs i h = known_place p xs i (ltb (position_or_len p xs) (length xs)) refl h
+position_is p xs i h = known_index p xs i (ltb (position_or_len p xs) (length xs)) refl h
 
 pub position_none : {X : Type 0} (p : X → Bool) (xs : List X) → position p xs ≡ None → length xs ≤ position_or_len p xs
-position_none p xs h = unknown_place p xs (ltb (position_or_len p xs) (length xs)) refl h
+position_none p xs h = unknown_index p xs (ltb (position_or_len p xs) (length xs)) refl h
 
-pub stage_of-unknown : {S : Type 0} (name : List ℕ) (handlers : List (NamedStage S)) → place_of name handlers ≡ None → stage_of name handlers ≡ Err NoSuchName
+pub stage_of-unknown : {S : Type 0} (name : List ℕ) (handlers : List (NamedStage S)) → index_of name handlers ≡ None → stage_of name handlers ≡ Err NoSuchName
 stage_of-unknown {S = S} name handlers none =
     let e = find_at (is_named name) handlers ∙ slice_get_past handlers (position_or_len (is_named name) handlers) (position_none (is_named name) handlers none) in rw e refl
 
-pub stage_of-known : {S : Type 0} (name : List ℕ) (handlers : List (NamedStage S)) (i : ℕ) (handler : NamedStage S) → place_of name handlers ≡ Some i → handler ≡ get_or handlers i handler → stage_of name handlers ≡ Ok handler.stage
+pub stage_of-known : {S : Type 0} (name : List ℕ) (handlers : List (NamedStage S)) (i : ℕ) (handler : NamedStage S) → index_of name handlers ≡ Some i → handler ≡ get_or handlers i handler → stage_of name handlers ≡ Ok handler.stage
 stage_of-known {S = S} name handlers i handler known is =
     let at = position_is (is_named name) handlers i known in
     let e = find_at (is_named name) handlers ∙ ap (λ (n : ℕ). slice_get handlers n) at.0 ∙ slice_get-get_or handlers i handler (omega (arith, at.0, at.1)) ∙ ap (λ (h : NamedStage S). Some h) (sym is) in rw e refl
 
-pub place_within : {S : Type 0} (name : List ℕ) (handlers items : List (NamedStage S)) (i : ℕ) → items ≡ handlers → place_of name handlers ≡ Some i → i < length items
-place_within {S = S} name handlers items i same known =
+pub index_within : {S : Type 0} (name : List ℕ) (handlers items : List (NamedStage S)) (i : ℕ) → items ≡ handlers → index_of name handlers ≡ Some i → i < length items
+index_within {S = S} name handlers items i same known =
     let at = position_is (is_named name) handlers i known in
     omega (arith, at.0, at.1, ap (λ (hs : List (NamedStage S)). length hs) same)
 
-pub stage_of-removed : {S : Type 0} (name : List ℕ) (handlers items : List (NamedStage S)) (i : ℕ) (handler : NamedStage S) → items ≡ handlers → place_of name handlers ≡ Some i → handler ≡ get_or items i handler → stage_of name handlers ≡ Ok handler.stage
+pub stage_of-removed : {S : Type 0} (name : List ℕ) (handlers items : List (NamedStage S)) (i : ℕ) (handler : NamedStage S) → items ≡ handlers → index_of name handlers ≡ Some i → handler ≡ get_or items i handler → stage_of name handlers ≡ Ok handler.stage
 stage_of-removed {S = S} name handlers items i handler same known is =
     stage_of-known name handlers i handler known (is ∙ ap (λ (hs : List (NamedStage S)). get_or hs i handler) same)
 
-pub IsPipeline-remove : {S : Type 0} (stands_after : S → List Event → Type 0) (handlers : List (NamedStage S)) (low high place : ℕ) → place < length handlers → IsPipeline stands_after (record { handlers = handlers; low = low; high = high }) → IsPipeline stands_after (record { handlers = remove handlers place; low = low; high = high })
-IsPipeline-remove stands_after handlers low high place within h = record {
-  stages = All-append (λ handler. stands_after handler.stage []) (take place handlers) (drop (suc place) handlers) (All-take (λ handler. stands_after handler.stage []) place handlers h.stages) (All-drop (λ handler. stands_after handler.stage []) (suc place) handlers h.stages);
-  within = omega (arith, length-remove handlers place within, h.within);
+pub IsPipeline-remove : {S : Type 0} (stands_after : S → List Event → Type 0) (handlers : List (NamedStage S)) (low high index : ℕ) → index < length handlers → IsPipeline stands_after (record { handlers = handlers; low = low; high = high }) → IsPipeline stands_after (record { handlers = remove handlers index; low = low; high = high })
+IsPipeline-remove stands_after handlers low high index within h = record {
+  stages = All-append (λ handler. stands_after handler.stage []) (take index handlers) (drop (suc index) handlers) (All-take (λ handler. stands_after handler.stage []) index handlers h.stages) (All-drop (λ handler. stands_after handler.stage []) (suc index) handlers h.stages);
+  within = omega (arith, length-remove handlers index within, h.within);
   order = h.order;
   high = h.high;
 }
@@ -237,3 +239,34 @@ outbound_end {S = S} meaning yielded handlers before after whole is turned =
 pub inbound_end : {S : Type 0} (meaning : S → Meaning) (yielded handlers : List (NamedStage S)) (chain : List S) → yielded ≡ handlers → chain ≡ map (λ h. h.stage) (inbound_handlers meaning yielded) → chain ≡ map (λ h. h.stage) (inbound_handlers meaning handlers)
 inbound_end {S = S} meaning yielded handlers chain whole is =
     is ∙ ap (λ (hs : List (NamedStage S)). map (λ h. h.stage) (inbound_handlers meaning hs)) whole
+
+-- ---- the hop of the turn
+
+turns_are_inbound : (d : Direction) → path.is_turn d ≡ true → not (path.is_outbound d) ≡ true
+turns_are_inbound Inbound e = refl
+turns_are_inbound Outbound e = cc
+turns_are_inbound Turn e = refl
+
+-- as many inbound handlers are before the turn
+pub turn_end : {S : Type 0} (meaning : S → Meaning) (yielded : List (NamedStage S)) (chain : List S) (turn : ℕ) → chain ≡ map (λ h. h.stage) (inbound_handlers meaning yielded) → turn ≡ length (filter (is_inbound meaning) (before_turn meaning yielded)) → turn ≡ hop_of_turn meaning chain
+turn_end {S = S} meaning yielded chain turn is counted =
+    let stages = position_or_len-map (λ (s : S). path.is_turn (meaning s).direction) (λ (h : NamedStage S). h.stage) (inbound_handlers meaning yielded) in
+    let first = position_or_len-filter (is_turn meaning) (is_inbound meaning) yielded (λ (h : NamedStage S) e. turns_are_inbound (meaning h.stage).direction e) in
+    counted ∙ sym (ap (λ (t : List S). hop_of_turn meaning t) is ∙ stages ∙ first)
+
+-- with a handler more, where no turn has come yet, and where one has
+pub turn_step : {S : Type 0} (meaning : S → Meaning) (yielded : List (NamedStage S)) (handler : NamedStage S) (b : Bool) (turn after : ℕ) (chain : List S) → b ≡ (list_all (λ h. not (is_turn meaning h)) yielded && not (is_turn meaning handler)) → after ≡ cond b (length chain) turn → chain ≡ map (λ h. h.stage) (inbound_handlers meaning (yielded ++ handler ∷ [])) → turn ≡ length (filter (is_inbound meaning) (before_turn meaning yielded))
+    → after ≡ length (filter (is_inbound meaning) (before_turn meaning (yielded ++ handler ∷ [])))
+turn_step {S = S} meaning yielded handler true turn after chain flag step is counted =
+    let fails : NamedStage S → Bool = λ h. not (is_turn meaning h) in
+    let all = list_all_push fails yielded handler ∙ sym flag in
+    step ∙ ap (λ (t : List S). length t) is ∙ length-map (inbound_handlers meaning (yielded ++ handler ∷ [])) (λ (h : NamedStage S). h.stage)
+    ∙ sym (ap (λ (t : List (NamedStage S)). length (filter (is_inbound meaning) t)) (take_while_all fails (yielded ++ handler ∷ []) all))
+turn_step {S = S} meaning yielded handler false turn after chain flag step is counted =
+    let front = take_while_push (λ (h : NamedStage S). not (is_turn meaning h)) yielded handler ∙ ap (λ (v : Bool). before_turn meaning yielded ++ cond v (handler ∷ []) []) (sym flag) ∙ append-nil (before_turn meaning yielded) in
+    step ∙ counted ∙ sym (ap (λ (t : List (NamedStage S)). length (filter (is_inbound meaning) t)) front)
+
+-- just one stage of the chain is the turn
+pub turn_within : {S : Type 0} (meaning : S → Meaning) (chain : List S) → count_by (λ stage. path.is_turn (meaning stage).direction) chain ≡ 1 → hop_of_turn meaning chain < length chain
+turn_within {S = S} meaning chain one =
+    first_within (λ (s : S). path.is_turn (meaning s).direction) chain (omega (arith, one))

@@ -7,6 +7,7 @@ use Rattle.pl_event.specs.Meaning.{Meaning}
 use Rattle.pl_build.specs.Names.{is_among}
 use Rattle.pl_build.specs.Pipelines.{inbound_handlers, outbound_handlers}
 use Rattle.pl_build.specs.Refusals.{executor_count}
+use Rattle.pl_build.specs.declared.limits.TheConstants.{MAX_EXECUTORS}
 use Rattle.pl_build.specs.declared.named_stages.NamedStage.{NamedStage}
 use Rattle.pl_build.specs.declared.grouping.Group.{Group}
 
@@ -52,8 +53,8 @@ pub record HasPlaced (g : GroupsView) (earlier : List (List (Option (List ℕ)))
   pub loop : g.next_loop ≡ length earlier % g.loops
   pub groups : All (λ group. group.next ≡ count_by (uses group.name) earlier % group.size) g.groups
 
--- 1 to 16 executors, and each next one is there
+-- there are not too many executors, and each next one is there
 pub record IsGrouping (g : GroupsView) : Type 0 where
   pub loop : g.next_loop < g.loops
   pub nexts : All (λ group. group.next < group.size) g.groups
-  pub within : executor_count g.loops (sizes_of g) ≤ 16
+  pub within : executor_count g.loops (sizes_of g) ≤ MAX_EXECUTORS

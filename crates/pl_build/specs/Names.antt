@@ -2,10 +2,11 @@
 use Rattle.std.specs.Prelude.{ℕ, List, length, Bool, false, ◌&&◌, nat_le, Option, None, Some, map}
 use Rattle.std.specs.Borrow.{Bor}
 use Rattle.std.specs.Str.{bytes_eq}
+use Rattle.pl_build.specs.declared.limits.TheConstants.{MAX_NAME_LENGTH}
 
--- 1 to 64 bytes
+-- not empty, and not too long
 abbrev pub is_name : List ℕ → Bool
-is_name name = nat_le 1 (length name) && nat_le (length name) 64
+is_name name = nat_le 1 (length name) && nat_le (length name) MAX_NAME_LENGTH
 
 -- whether a handler with this group, if any, is in the group of this name
 abbrev pub is_among : Option (List ℕ) → List ℕ → Bool

@@ -3,24 +3,25 @@ use Rattle.std.specs.Prelude.{◌≡◌, ◌+◌, ◌≤◌, List, [], length, A
 use Rattle.pl_event.specs.declared.events.Event.{Event}
 use Rattle.pl_event.specs.Meaning.{Meaning}
 use Rattle.pl_event.specs.Paths.{is_outbound, is_turn}
+use Rattle.pl_build.specs.declared.limits.TheConstants.{MAX_HANDLERS, MAX_MARK}
 use Rattle.pl_build.specs.Pipelines.{PipelineBuilderView, PlacedView, AreNew}
 
--- no stage has had a step; there are at most 32 handlers, and marks in order
+-- no stage has had a step; there are not too many handlers, and the marks are in order
 pub record IsPipeline {S : Type 0} (stands_after : S → List Event → Type 0) (pipeline : PipelineBuilderView S) : Type 0 where
   pub stages : AreNew stands_after pipeline.handlers
-  pub within : length pipeline.handlers ≤ 32
+  pub within : length pipeline.handlers ≤ MAX_HANDLERS
   pub order : pipeline.low ≤ pipeline.high
-  pub high : pipeline.high ≤ 1073741824
+  pub high : pipeline.high ≤ MAX_MARK
 
--- The same of the two chains: the inbound one has the turn, just one, and no outbound handler, and the outbound one
--- has no other. There is an executor for each hop.
+-- The same of the two chains: the inbound one has just one turn and not one outbound handler, and the outbound one
+-- has only outbound ones. There is an executor for each hop.
 pub record IsPath {S : Type 0} (meaning : S → Meaning) (stands_after : S → List Event → Type 0) (path : PlacedView S) : Type 0 where
   pub inbound : All (λ stage. stands_after stage []) path.inbound
   pub outbound : All (λ stage. stands_after stage []) path.outbound
   pub upwards : All (λ stage. is_outbound (meaning stage).direction ≡ false) path.inbound
   pub downwards : All (λ stage. is_outbound (meaning stage).direction ≡ true) path.outbound
   pub turn : count_by (λ stage. is_turn (meaning stage).direction) path.inbound ≡ 1
-  pub within : length path.inbound + length path.outbound ≤ 32
+  pub within : length path.inbound + length path.outbound ≤ MAX_HANDLERS
   pub hops : length path.executors ≡ length path.inbound + length path.outbound + 2
   pub order : path.low ≤ path.high
-  pub high : path.high ≤ 1073741824
+  pub high : path.high ≤ MAX_MARK

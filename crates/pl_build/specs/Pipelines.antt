@@ -1,7 +1,7 @@
 -- A pipeline is a list of handlers, and its edits are edits of that list (Netty's ChannelPipeline, "Building a pipeline").
 use Rattle.std.specs.Prelude.{ℕ, List, [], Bool, not, Option, map, filter, reverse, position, remove, All, Result, Ok, Err, find}
 use Rattle.std.specs.Option.{option_map_or}
-use Rattle.std.specs.List.{take_while}
+use Rattle.std.specs.List.{take_while, position_or_len}
 use Rattle.std.specs.Str.{bytes_eq}
 use Rattle.pl_event.specs.declared.events.Event.{Event}
 use Rattle.pl_event.specs.Meaning.{Meaning}
@@ -30,13 +30,13 @@ handler_of name group stage = record { name = name; group = group; stage = stage
 abbrev pub is_named : {S : Type 0} → List ℕ → NamedStage S → Bool
 is_named name handler = bytes_eq handler.name name
 
--- where the handler of this name stands
-abbrev pub place_of : {S : Type 0} → List ℕ → List (NamedStage S) → Option ℕ
-place_of name handlers = position (is_named name) handlers
+-- the index of the handler of this name
+abbrev pub index_of : {S : Type 0} → List ℕ → List (NamedStage S) → Option ℕ
+index_of name handlers = position (is_named name) handlers
 
 -- the handlers without the one of this name
 abbrev pub without : {S : Type 0} → List ℕ → List (NamedStage S) → List (NamedStage S)
-without name handlers = option_map_or (λ place. remove handlers place) (place_of name handlers) handlers
+without name handlers = option_map_or (λ index. remove handlers index) (index_of name handlers) handlers
 
 -- the stage of the handler of this name
 abbrev pub stage_of : {S : Type 0} → List ℕ → List (NamedStage S) → Result S BuildFault
@@ -59,13 +59,17 @@ is_turn meaning handler = path.is_turn (meaning handler.stage).direction
 abbrev pub inbound_handlers : {S : Type 0} → (S → Meaning) → List (NamedStage S) → List (NamedStage S)
 inbound_handlers meaning handlers = filter (is_inbound meaning) handlers
 
--- the handlers that stand before the turn
+-- the handlers before the turn
 abbrev pub before_turn : {S : Type 0} → (S → Meaning) → List (NamedStage S) → List (NamedStage S)
 before_turn meaning handlers = take_while (λ handler. not (is_turn meaning handler)) handlers
 
 -- the handlers that a write of the turn visits, from the nearest to the first
 abbrev pub outbound_handlers : {S : Type 0} → (S → Meaning) → List (NamedStage S) → List (NamedStage S)
 outbound_handlers meaning handlers = reverse (filter (is_outbound meaning) (before_turn meaning handlers))
+
+-- the hop of the turn: its index in the inbound chain
+abbrev pub hop_of_turn : {S : Type 0} → (S → Meaning) → List S → ℕ
+hop_of_turn meaning inbound = position_or_len (λ stage. path.is_turn (meaning stage).direction) inbound
 
 -- no stage has had a step
 abbrev pub AreNew : {S : Type 0} → (S → List Event → Type 0) → List (NamedStage S) → Type 0

@@ -6,32 +6,23 @@ ghost use Rattle.std.specs.Option.{option_copied};
 ghost use Rattle.pl_event.specs.Paths.{inbound_chain, outbound_chain};
 ghost use Rattle.pl_build.specs.declared.faults.BuildFault.TheVariants as fault;
 ghost use Rattle.pl_build.specs.Refusals.{naming_fault, beside_fault, marks_answer, building_fault, unless, is_known, executor_count};
-ghost use Rattle.pl_build.specs.Pipelines.{handler_of, place_of, without, stage_of, meanings, inbound_handlers, outbound_handlers, is_turn};
+ghost use Rattle.pl_build.specs.Pipelines.{handler_of, index_of, without, stage_of, meanings, inbound_handlers, outbound_handlers, is_turn};
 ghost use Rattle.pl_build.specs.Executors.{HasPlaced, sizes_of, groups_of, executor_after, hop_executors};
 ghost use Rattle.pl_build.specs.Counts.{executor_now};
 
 use crate::faults::BuildFault;
 use crate::grouping::Groups;
+use crate::limits::{DEFAULT_HIGH, DEFAULT_LOW, MAX_HANDLERS, MAX_MARK};
 use crate::named_stages::{NamedStage, Unadded};
 use crate::names::is_name;
 use crate::placing::Placed;
-use crate::splitting::{Room, hop_executors, split};
+use crate::splitting::{Chains, Room, hop_executors, split};
 use pl_event::Stage;
 use std::alloc::Global;
 use std::marker::Model;
 
-/// Handlers of a pipeline.
-const MOST_HANDLERS: usize = 32;
-
-/// The default marks (Netty's `WriteBufferWaterMark`), and the greatest, in bytes.
-const DEFAULT_LOW: u32 = 32_768;
-
-const DEFAULT_HIGH: u32 = 65_536;
-
-const GREATEST_MARK: u32 = 1_073_741_824;
-
 /// A pipeline that is being built: handlers in order, each with a name of its own and perhaps in a group of executors,
-/// and the marks of its channel. It has at most 32 handlers. A refused call leaves it unchanged.
+/// and the marks of its channel. It has at most `MAX_HANDLERS` handlers. A refused call leaves it unchanged.
 #[derive(Drop)]
 pub struct PipelineBuilder<S: Stage> {
     alloc: Global,
@@ -51,18 +42,26 @@ impl<S: Stage> Model for PipelineBuilder<S> {
     ghost invariant = { λ b. IsPipeline S.stands_after (record { handlers = b.handlers.items; low = b.low; high = b.high }) };
 }
 
-/// What a building that was refused hands back.
+/// What a refused build returns.
 #[derive(Drop)]
 pub struct Unbuilt<S: Stage> {
     pub fault: BuildFault,
     pub builder: PipelineBuilder<S>,
 }
 
+impl<S: Stage> From<Unbuilt<S>> for BuildFault {
+    ghost from_gives = { λ unbuilt e. e ≡ unbuilt.fault };
+
+    fn from(unbuilt: Unbuilt<S>) -> BuildFault {
+        unbuilt.fault
+    }
+}
+
 impl<S: Stage> PipelineBuilder<S> {
     /// No handler, and the default marks. It takes no memory.
     pub fn new(alloc: Global) -> Self
         ensures handlers { result.handlers ≡ [] }
-        ensures marks { (result.low ≡ 32768) × (result.high ≡ 65536) }
+        ensures marks { (result.low ≡ DEFAULT_LOW) × (result.high ≡ DEFAULT_HIGH) }
     {
         PipelineBuilder {
             alloc,
@@ -72,8 +71,9 @@ impl<S: Stage> PipelineBuilder<S> {
         }
     }
 
-    /// Adds a handler in front of all. Refused as `Limit` where the name is not 1 to 64 bytes or 32 handlers are there,
-    /// then as `DuplicateName`, then as `Memory`; the stage comes back, and the builder is unchanged.
+    /// Adds a handler before all others. Refused as `Limit` where the name is not 1 to `MAX_NAME_LENGTH` bytes or
+    /// `MAX_HANDLERS` handlers are there, then as `DuplicateName`, then as `Memory`; the stage comes back, and the builder
+    /// is unchanged.
     pub fn add_first(&mut self, name: &str, group: Option<&str>, stage: S) -> Result<(), Unadded<S>>
         requires { S.stands_after stage [] }
         ensures added { OnOk result (self.new ≡ record self.old { handlers = handler_of name.now (option_copied group.entry) stage ∷ self.old.handlers }) }
@@ -88,7 +88,7 @@ impl<S: Stage> PipelineBuilder<S> {
         }
     }
 
-    /// Adds a handler behind all. Refused as `add_first` is.
+    /// Adds a handler after all others. Refused as `add_first` is.
     pub fn add_last(&mut self, name: &str, group: Option<&str>, stage: S) -> Result<(), Unadded<S>>
         requires { S.stands_after stage [] }
         ensures added { OnOk result (self.new ≡ record self.old { handlers = self.old.handlers ++ handler_of name.now (option_copied group.entry) stage ∷ [] }) }
@@ -104,7 +104,7 @@ impl<S: Stage> PipelineBuilder<S> {
         }
     }
 
-    /// Adds a handler just in front of the handler `at`. Refused as `add_first` is, and as `NoSuchName` before `Memory`.
+    /// Adds a handler just before the handler `at`. Refused as `add_first` is, and as `NoSuchName` before `Memory`.
     pub fn add_before(
         &mut self,
         at: &str,
@@ -113,19 +113,19 @@ impl<S: Stage> PipelineBuilder<S> {
         stage: S,
     ) -> Result<(), Unadded<S>>
         requires { S.stands_after stage [] }
-        ensures added { OnOk result (IfSome (place_of at.now self.old.handlers) (λ place. self.new ≡ record self.old { handlers = insert self.old.handlers place (handler_of name.now (option_copied group.entry) stage) })) }
+        ensures added { OnOk result (IfSome (index_of at.now self.old.handlers) (λ index. self.new ≡ record self.old { handlers = insert self.old.handlers index (handler_of name.now (option_copied group.entry) stage) })) }
         ensures allowed { OnOk result (beside_fault at.now name.now self.old.handlers ≡ None) }
         ensures refused { IfErr result (λ unadded. unadded.fault ≡ unwrap_or (beside_fault at.now name.now self.old.handlers) fault.Memory) }
         ensures handed_back { IfErr result (λ unadded. unadded.stage ≡ stage) }
         ensures unchanged { OnErr result (self.new ≡ self.old) }
     {
-        match self.place_beside(at, name) {
-            Ok(place) => self.insert(place, name, group, stage),
+        match self.index_beside(at, name) {
+            Ok(index) => self.insert(index, name, group, stage),
             Err(fault) => Err(Unadded { fault, stage }),
         }
     }
 
-    /// Adds a handler just behind the handler `at`. Refused as `add_before` is.
+    /// Adds a handler just after the handler `at`. Refused as `add_before` is.
     pub fn add_after(
         &mut self,
         at: &str,
@@ -134,14 +134,14 @@ impl<S: Stage> PipelineBuilder<S> {
         stage: S,
     ) -> Result<(), Unadded<S>>
         requires { S.stands_after stage [] }
-        ensures added { OnOk result (IfSome (place_of at.now self.old.handlers) (λ place. self.new ≡ record self.old { handlers = insert self.old.handlers (place + 1) (handler_of name.now (option_copied group.entry) stage) })) }
+        ensures added { OnOk result (IfSome (index_of at.now self.old.handlers) (λ index. self.new ≡ record self.old { handlers = insert self.old.handlers (index + 1) (handler_of name.now (option_copied group.entry) stage) })) }
         ensures allowed { OnOk result (beside_fault at.now name.now self.old.handlers ≡ None) }
         ensures refused { IfErr result (λ unadded. unadded.fault ≡ unwrap_or (beside_fault at.now name.now self.old.handlers) fault.Memory) }
         ensures handed_back { IfErr result (λ unadded. unadded.stage ≡ stage) }
         ensures unchanged { OnErr result (self.new ≡ self.old) }
     {
-        match self.place_beside(at, name) {
-            Ok(place) => self.insert(place + 1, name, group, stage),
+        match self.index_beside(at, name) {
+            Ok(index) => self.insert(index + 1, name, group, stage),
             Err(fault) => Err(Unadded { fault, stage }),
         }
     }
@@ -151,23 +151,23 @@ impl<S: Stage> PipelineBuilder<S> {
         ensures stage { result ≡ stage_of name.now self.old.handlers }
         ensures removed { self.new ≡ record self.old { handlers = without name.now self.old.handlers } }
     {
-        match self.place_of(name) {
-            Some(place) => {
-                let NamedStage { stage, .. } = self.handlers.remove(place);
+        match self.index_of(name) {
+            Some(index) => {
+                let NamedStage { stage, .. } = self.handlers.remove(index);
                 Ok(stage)
             }
             None => Err(BuildFault::NoSuchName),
         }
     }
 
-    /// Sets the marks, in bytes. Refused as `Limit` where one is above 1,073,741,824, then as `Marks` where low is above
+    /// Sets the marks, in bytes. Refused as `Limit` where one is above `MAX_MARK`, then as `Marks` where low is above
     /// high.
     pub fn marks(&mut self, low: u32, high: u32) -> Result<(), BuildFault>
         ensures answer { result ≡ marks_answer low high }
         ensures set { OnOk result (self.new ≡ record self.old { low = low; high = high }) }
         ensures unchanged { OnErr result (self.new ≡ self.old) }
     {
-        if low > GREATEST_MARK || high > GREATEST_MARK {
+        if low > MAX_MARK || high > MAX_MARK {
             return Err(BuildFault::Limit);
         }
         if low > high {
@@ -203,7 +203,7 @@ impl<S: Stage> PipelineBuilder<S> {
     {
         match self.room(groups) {
             Ok(room) => {
-                groups.place(self.handlers.as_slice());
+                groups.count_pipeline(self.handlers.as_slice());
                 Ok(self.into_placed(room))
             }
             Err(fault) => Err(Unbuilt {
@@ -213,62 +213,62 @@ impl<S: Stage> PipelineBuilder<S> {
         }
     }
 
-    /// Where the handler of this name stands.
-    fn place_of(&self, name: &str) -> Option<usize>
-        ensures { result ≡ place_of name.now self.now.handlers }
+    /// The index of the handler of this name.
+    fn index_of(&self, name: &str) -> Option<usize>
+        ensures { result ≡ index_of name.now self.now.handlers }
     {
         self.handlers
             .iter()
             .position(|handler| handler.is_named(name))
     }
 
-    /// Whether a handler of this name may be added.
+    /// Tests whether a handler of this name may be added.
     fn checked(&self, name: &str) -> Result<(), BuildFault>
         ensures { result ≡ unless (naming_fault name.now self.now.handlers) }
     {
-        if !is_name(name) || self.handlers.len() >= MOST_HANDLERS {
+        if !is_name(name) || self.handlers.len() >= MAX_HANDLERS {
             return Err(BuildFault::Limit);
         }
-        match self.place_of(name) {
+        match self.index_of(name) {
             Some(_) => Err(BuildFault::DuplicateName),
             None => Ok(()),
         }
     }
 
-    /// Where the handler `at` stands, if a handler of this name may be added beside it.
-    fn place_beside(&self, at: &str, name: &str) -> Result<usize, BuildFault>
-        ensures place { IfOk result (λ place. place_of at.now self.now.handlers ≡ Some place) }
-        ensures within { IfOk result (λ place. place < length self.now.handlers) }
+    /// The index of the handler `at`, if a handler of this name may be added beside it.
+    fn index_beside(&self, at: &str, name: &str) -> Result<usize, BuildFault>
+        ensures index { IfOk result (λ index. index_of at.now self.now.handlers ≡ Some index) }
+        ensures within { IfOk result (λ index. index < length self.now.handlers) }
         ensures allowed { OnOk result (beside_fault at.now name.now self.now.handlers ≡ None) }
-        ensures room { OnOk result (length self.now.handlers < 32) }
+        ensures room { OnOk result (length self.now.handlers < MAX_HANDLERS) }
         ensures refused { IfErr result (λ e. beside_fault at.now name.now self.now.handlers ≡ Some e) }
     {
         self.checked(name)?;
-        self.place_of(at).ok_or(BuildFault::NoSuchName)
+        self.index_of(at).ok_or(BuildFault::NoSuchName)
     }
 
-    /// Puts a handler at a place. An `Err` is want of memory, and changes nothing.
+    /// Inserts a handler at an index. An `Err` says that memory ran out, and changes nothing.
     fn insert(
         &mut self,
-        place: usize,
+        index: usize,
         name: &str,
         group: Option<&str>,
         stage: S,
     ) -> Result<(), Unadded<S>>
         requires new { S.stands_after stage [] }
-        requires place { place ≤ length self.old.handlers }
-        requires room { length self.old.handlers < 32 }
-        ensures added { OnOk result (self.new ≡ record self.old { handlers = insert self.old.handlers place (handler_of name.now (option_copied group.entry) stage) }) }
+        requires index { index ≤ length self.old.handlers }
+        requires room { length self.old.handlers < MAX_HANDLERS }
+        ensures added { OnOk result (self.new ≡ record self.old { handlers = insert self.old.handlers index (handler_of name.now (option_copied group.entry) stage) }) }
         ensures err { IfErr result (λ unadded. unadded ≡ record { fault = fault.Memory; stage = stage }) }
         ensures unchanged { OnErr result (self.new ≡ self.old) }
     {
         let handler = NamedStage::new(self.alloc, name, group, stage)?;
         self.handlers
-            .insert(place, handler)
+            .insert(index, handler)
             .map_err(|refused| refused_memory(refused.value))
     }
 
-    /// Why the pipeline cannot be built, want of memory aside.
+    /// Why the pipeline cannot be built, apart from memory.
     fn building_fault(&self, groups: &Groups) -> Option<BuildFault>
         ensures { result ≡ building_fault S.meaning (sizes_of groups.now) self.now.handlers }
     {
@@ -283,12 +283,12 @@ impl<S: Stage> PipelineBuilder<S> {
         }
     }
 
-    /// What building takes memory for.
+    /// Allocates what a built pipeline needs, where it can be built.
     fn room(&self, groups: &Groups) -> Result<Room<S>, BuildFault>
         ensures executors { IfOk result (λ room. room.executors.items ≡ hop_executors (executor_now groups.now) S.meaning self.now.handlers) }
-        ensures empty { IfOk result (λ room. (room.inbound.items ≡ []) × (room.outbound.items ≡ [])) }
-        ensures inbound { IfOk result (λ room. length self.now.handlers ≤ vec_capacity room.inbound) }
-        ensures outbound { IfOk result (λ room. length self.now.handlers ≤ vec_capacity room.outbound) }
+        ensures empty { IfOk result (λ room. (room.chains.inbound.items ≡ []) × (room.chains.outbound.items ≡ []) × (room.chains.turn ≡ 0)) }
+        ensures inbound { IfOk result (λ room. length self.now.handlers ≤ vec_capacity room.chains.inbound) }
+        ensures outbound { IfOk result (λ room. length self.now.handlers ≤ vec_capacity room.chains.outbound) }
         ensures allowed { OnOk result (building_fault S.meaning (sizes_of groups.now) self.now.handlers ≡ None) }
         ensures refused { IfErr result (λ e. e ≡ unwrap_or (building_fault S.meaning (sizes_of groups.now) self.now.handlers) fault.Memory) }
     {
@@ -297,16 +297,16 @@ impl<S: Stage> PipelineBuilder<S> {
         }
         Ok(Room {
             executors: hop_executors(self.alloc, groups, self.handlers.as_slice())?,
-            inbound: Vec::with_capacity(self.alloc, self.handlers.len())?,
-            outbound: Vec::with_capacity(self.alloc, self.handlers.len())?,
+            chains: Chains::with_capacity(self.alloc, self.handlers.len())?,
         })
     }
 
+    /// Splits the handlers into chains that have room for them.
     fn into_placed(self, room: Room<S>) -> Placed<S>
         requires turn { count_by (is_turn S.meaning) self.handlers ≡ 1 }
-        requires empty { (room.inbound.items ≡ []) × (room.outbound.items ≡ []) }
-        requires inbound { length self.handlers ≤ vec_capacity room.inbound }
-        requires outbound { length self.handlers ≤ vec_capacity room.outbound }
+        requires empty { (room.chains.inbound.items ≡ []) × (room.chains.outbound.items ≡ []) × (room.chains.turn ≡ 0) }
+        requires inbound { length self.handlers ≤ vec_capacity room.chains.inbound }
+        requires outbound { length self.handlers ≤ vec_capacity room.chains.outbound }
         requires executors { length room.executors.items ≡ length (inbound_handlers S.meaning self.handlers) + length (outbound_handlers S.meaning self.handlers) + 2 }
         ensures inbound { result.inbound ≡ map (λ handler. handler.stage) (inbound_handlers S.meaning self.handlers) }
         ensures outbound { result.outbound ≡ map (λ handler. handler.stage) (outbound_handlers S.meaning self.handlers) }
@@ -319,10 +319,15 @@ impl<S: Stage> PipelineBuilder<S> {
             high,
             ..
         } = self;
-        let (inbound, outbound) = split(handlers, room.inbound, room.outbound);
+        let Chains {
+            inbound,
+            outbound,
+            turn,
+        } = split(handlers, room.chains);
         Placed {
             inbound,
             outbound,
+            turn,
             executors: room.executors,
             low,
             high,
@@ -330,7 +335,7 @@ impl<S: Stage> PipelineBuilder<S> {
     }
 }
 
-/// The stage of a handler that found no memory.
+/// Out of memory for this handler: its stage is handed back.
 fn refused_memory<S>(handler: NamedStage<S>) -> Unadded<S>
     ensures { result ≡ record { fault = fault.Memory; stage = handler.stage } }
 {
@@ -341,13 +346,14 @@ fn refused_memory<S>(handler: NamedStage<S>) -> Unadded<S>
     }
 }
 
-/// Whether the group of each handler is there.
+/// Whether each handler is in a group that is there, or in none.
 fn are_known<S>(handlers: &[NamedStage<S>], groups: &Groups) -> bool
     ensures { result ≡ list_all (λ handler. is_known (sizes_of groups.now) handler.group) handlers.now }
 {
     handlers.iter().all(|handler| groups.has(&handler.group))
 }
 
+/// How many of these handlers are the turn.
 fn count_turns<S: Stage>(handlers: &[NamedStage<S>]) -> usize
     ensures { result ≡ count_by (is_turn S.meaning) handlers.now }
 {

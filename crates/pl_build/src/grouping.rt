@@ -10,14 +10,12 @@ ghost use Rattle.pl_build.specs.Refusals.{is_within, has_double, grouping_fault,
 ghost use Rattle.pl_build.specs.declared.faults.BuildFault.TheVariants as fault;
 
 use crate::faults::BuildFault;
+use crate::limits::MAX_EXECUTORS;
 use crate::named_stages::NamedStage;
-use crate::names::{is_name, is_same, kept};
+use crate::names::{has_text, is_name, kept};
 use pl_event::ByteString;
 use std::alloc::{AllocError, Global};
 use std::marker::Model;
-
-/// Executors of a session, loops and those of groups.
-const MOST_EXECUTORS: u16 = 16;
 
 /// A group of executors.
 #[derive(Drop)]
@@ -32,7 +30,7 @@ pub struct Group {
 impl Group {
     ghost use Rattle.pl_build.specs.Counts.{group_after};
 
-    /// One more pipeline is placed, which uses it or not.
+    /// Gives its next executor to the next pipeline, if the one that was placed uses this group.
     fn advance(&mut self, is_used: bool)
         requires { self.old.next < self.old.size }
         ensures { self.new ≡ (if is_used then group_after self.old else self.old) }
@@ -45,7 +43,7 @@ impl Group {
 
 /// The loops and the named groups of a session, which place its channels one after another: channel c lives on loop
 /// c modulo the loops, and handlers in a group on the group's executor u modulo its size, where u earlier channels use it.
-/// Executors are numbered: the loops from 0, then those of each group in order. There are 1 to 16.
+/// Executors are numbered: the loops from 0, then those of each group in order. There are 1 to `MAX_EXECUTORS`.
 #[derive(Drop)]
 pub struct Groups {
     loops: u16,
@@ -68,10 +66,10 @@ impl Groups {
     ghost use Rattle.pl_build.specs.Executors.{HasPlaced, IsGrouping, sizes_of};
     ghost use Rattle.pl_build.specs.Counts.{executor_now, grouping_after};
 
-    /// Loops, and groups by name and size, that have placed no pipeline.
+    /// Loops, and groups by name and size, that have not placed a pipeline yet.
     ///
-    /// Refused as `Limit` with no loop, more than 16 executors, a size of 0, or a name that is not 1 to 64 bytes; then as
-    /// `DuplicateName` with two groups of one name; then as `Memory`.
+    /// Refused as `Limit` with no loop, more than `MAX_EXECUTORS`, a size of 0, or a name that is not 1 to
+    /// `MAX_NAME_LENGTH` bytes; then as `DuplicateName` with two groups of one name; then as `Memory`.
     pub fn new(alloc: Global, loops: u16, groups: &[(&str, u16)]) -> Result<Groups, BuildFault>
         ensures loops { IfOk result (λ g. g.loops ≡ loops) }
         ensures sizes { IfOk result (λ g. sizes_of g ≡ names_and_sizes groups.now) }
@@ -93,7 +91,7 @@ impl Groups {
     /// How many executors there are in all.
     pub fn executors(&self) -> u16
         ensures count { result ≡ executor_count self.now.loops (sizes_of self.now) }
-        ensures within { result ≤ 16 }
+        ensures within { result ≤ MAX_EXECUTORS }
     {
         let sizes: u16 = self.groups.iter().map(|group| group.size).sum();
         self.loops + sizes
@@ -109,7 +107,7 @@ impl Groups {
         }
     }
 
-    /// Where a handler runs that is in this group, or in none, in the channel that is placed next.
+    /// The executor of a handler in this group, or in none, in the channel that is placed next.
     pub(crate) fn executor(&self, group: &Option<ByteString>) -> u16
         ensures { result ≡ executor_now self.now group.now }
     {
@@ -119,8 +117,9 @@ impl Groups {
         }
     }
 
-    /// These handlers were placed.
-    pub(crate) fn place<S>(&mut self, handlers: &[NamedStage<S>])
+    /// Notes that a pipeline of these handlers was placed: the next one gets the next loop, and the next executor of each
+    /// group that these handlers use.
+    pub(crate) fn count_pipeline<S>(&mut self, handlers: &[NamedStage<S>])
         ensures after { self.new ≡ grouping_after self.old (groups_of handlers.now) }
         ensures valid { IsGrouping self.old }
     {
@@ -129,13 +128,14 @@ impl Groups {
     }
 }
 
+/// Whether one of these groups has this name.
 fn has_name(groups: &[Group], name: &ByteString) -> bool
     ensures { result ≡ list_any (λ group. bytes_eq group.name name.now) groups.now }
 {
     groups.iter().any(|group| group.name == *name)
 }
 
-/// Why these groups are refused, want of memory aside.
+/// Why these groups are refused, apart from memory.
 fn grouping_fault(loops: u16, groups: &[(&str, u16)]) -> Option<BuildFault>
     ensures { result ≡ grouping_fault loops (names_and_sizes groups.now) }
 {
@@ -148,6 +148,7 @@ fn grouping_fault(loops: u16, groups: &[(&str, u16)]) -> Option<BuildFault>
     }
 }
 
+/// Whether the names and numbers are within their limits.
 fn is_within(loops: u16, groups: &[(&str, u16)]) -> bool
     ensures { result ≡ is_within loops (names_and_sizes groups.now) }
 {
@@ -160,19 +161,21 @@ fn is_within(loops: u16, groups: &[(&str, u16)]) -> bool
     are_few(loops, groups)
 }
 
+/// Whether each group has a name that may be given and one executor at least.
 fn are_possible(groups: &[(&str, u16)]) -> bool
     ensures { result ≡ list_all (λ group. is_name group.0.now && nat_le 1 group.1) groups.now }
 {
     groups.iter().all(|group| is_name(group.0) && 1 <= group.1)
 }
 
+/// Whether there are not too many executors in all.
 fn are_few(loops: u16, groups: &[(&str, u16)]) -> bool
-    ensures { result ≡ nat_le (executor_count loops (names_and_sizes groups.now)) 16 }
+    ensures { result ≡ nat_le (executor_count loops (names_and_sizes groups.now)) MAX_EXECUTORS }
 {
-    if loops > MOST_EXECUTORS {
+    if loops > MAX_EXECUTORS {
         return false;
     }
-    let mut left = MOST_EXECUTORS - loops;
+    let mut left = MAX_EXECUTORS - loops;
     for group in groups {
         if group.1 > left {
             return false;
@@ -182,6 +185,7 @@ fn are_few(loops: u16, groups: &[(&str, u16)]) -> bool
     true
 }
 
+/// Whether one of these groups has this name already.
 fn is_taken(name: &str, groups: &[(&str, u16)]) -> bool
     ensures { result ≡ list_any (λ group. bytes_eq group.0.now name.now) groups.now }
 {
@@ -198,6 +202,7 @@ fn has_double(groups: &[(&str, u16)]) -> bool
     }
 }
 
+/// Groups of these names and sizes that no pipeline has used.
 fn unused_groups(alloc: Global, groups: &[(&str, u16)]) -> Result<Vec<Group>, AllocError>
     ensures { IfOk result (λ unused. unused.items ≡ map (λ group. record { name = group.0.now; size = group.1; next = 0 }) groups.now) }
 {
@@ -214,7 +219,7 @@ fn unused_groups(alloc: Global, groups: &[(&str, u16)]) -> Result<Vec<Group>, Al
 
 /// The executor that the group of this name gives next, where the groups begin with executor `first`.
 fn executor_from(first: u16, groups: &[Group], name: &ByteString) -> u16
-    requires within { first + sum_by (λ group. group.size) groups.now ≤ 16 }
+    requires within { first + sum_by (λ group. group.size) groups.now ≤ MAX_EXECUTORS }
     requires nexts { All (λ group. group.next < group.size) groups.now }
     ensures { result ≡ executor_from first groups.now name.now }
 {
@@ -239,6 +244,7 @@ fn advance_used<S>(groups: &mut [Group], handlers: &[NamedStage<S>])
     }
 }
 
+/// Whether one of these handlers is in the group of this name.
 fn is_used<S>(group: &ByteString, handlers: &[NamedStage<S>]) -> bool
     ensures { result ≡ list_any (λ handler. is_among handler.group group.now) handlers.now }
 {

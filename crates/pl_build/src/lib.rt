@@ -4,15 +4,17 @@
 mod building;
 mod faults;
 mod grouping;
+mod limits;
 mod named_stages;
 mod names;
 mod placing;
 mod splitting;
-#[cfg(test)]
-mod tests;
 
 pub use building::{PipelineBuilder, Unbuilt};
 pub use faults::BuildFault;
 pub use grouping::Groups;
+pub use limits::{
+    DEFAULT_HIGH, DEFAULT_LOW, MAX_EXECUTORS, MAX_HANDLERS, MAX_MARK, MAX_NAME_LENGTH,
+};
 pub use named_stages::{NamedStage, Unadded};
 pub use placing::Placed;

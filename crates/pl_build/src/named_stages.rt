@@ -1,3 +1,5 @@
+//! A handler of a pipeline: a stage under its name, perhaps in a group.
+
 ghost use Rattle.std.specs.Prelude.{◌≡◌, IfOk, IfErr};
 ghost use Rattle.std.specs.Option.{option_copied};
 ghost use Rattle.std.specs.Str.{bytes_eq};
@@ -7,8 +9,8 @@ ghost use Rattle.pl_build.specs.declared.faults.BuildFault.TheVariants as fault;
 ghost use Rattle.pl_build.specs.Pipelines.{handler_of, is_inbound, is_outbound};
 
 use crate::faults::BuildFault;
-use crate::names::{is_same, kept};
-use pl_event::{ByteString, Direction, Stage};
+use crate::names::{has_text, kept};
+use pl_event::{ByteString, Stage};
 use std::alloc::{AllocError, Global};
 
 /// A handler of a pipeline: a stage under its name, in a group of executors or in none.
@@ -19,15 +21,23 @@ pub struct NamedStage<S> {
     pub(crate) stage: S,
 }
 
-/// What an adding that was refused hands back.
+/// What a refused add returns.
 #[derive(Drop)]
 pub struct Unadded<S> {
     pub fault: BuildFault,
     pub stage: S,
 }
 
+impl<S: Drop> From<Unadded<S>> for BuildFault {
+    ghost from_gives = { λ unadded e. e ≡ unadded.fault };
+
+    fn from(unadded: Unadded<S>) -> BuildFault {
+        unadded.fault
+    }
+}
+
 impl<S> NamedStage<S> {
-    /// A handler that keeps copies of its names. An `Err` is want of memory, and hands the stage back.
+    /// A handler that keeps copies of its names. An `Err` says that memory ran out, and hands the stage back.
     pub(crate) fn new(
         alloc: Global,
         name: &str,
@@ -50,12 +60,14 @@ impl<S> NamedStage<S> {
         }
     }
 
+    /// Whether it has this name.
     pub(crate) fn is_named(&self, name: &str) -> bool
         ensures { result ≡ bytes_eq self.now.name name.now }
     {
-        is_same(&self.name, name)
+        has_text(&self.name, name)
     }
 
+    /// Whether it is in the group of this name.
     pub(crate) fn is_in(&self, group: &ByteString) -> bool
         ensures { result ≡ is_among self.now.group group.now }
     {
@@ -67,31 +79,29 @@ impl<S> NamedStage<S> {
 }
 
 impl<S: Stage> NamedStage<S> {
+    /// Whether inbound events visit it. The turn is one of these.
     pub(crate) fn is_inbound(&self) -> bool
         ensures { result ≡ is_inbound S.meaning self.now }
     {
         !self.is_outbound()
     }
 
+    /// Whether outbound events visit it.
     pub(crate) fn is_outbound(&self) -> bool
         ensures { result ≡ is_outbound S.meaning self.now }
     {
-        match self.stage.direction() {
-            Direction::Outbound => true,
-            _ => false,
-        }
+        self.stage.direction().is_outbound()
     }
 
+    /// Whether it is the turn.
     pub(crate) fn is_turn(&self) -> bool
         ensures { result ≡ is_turn (S.meaning self.now.stage).direction }
     {
-        match self.stage.direction() {
-            Direction::Turn => true,
-            _ => false,
-        }
+        self.stage.direction().is_turn()
     }
 }
 
+/// Copies of the name of a handler and of its group, to keep.
 fn kept_names(
     alloc: Global,
     name: &str,

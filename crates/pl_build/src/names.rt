@@ -4,20 +4,19 @@ ghost use Rattle.std.specs.Prelude.{◌≡◌, IfOk};
 ghost use Rattle.std.specs.Str.{bytes_eq};
 ghost use Rattle.pl_build.specs.Names.{is_name};
 
+use crate::limits::MAX_NAME_LENGTH;
 use pl_event::ByteString;
 use std::alloc::{AllocError, Global};
 
-/// Bytes in a name.
-const LONGEST: usize = 64;
-
+/// Whether a handler or a group may have this name.
 pub(crate) fn is_name(name: &str) -> bool
     ensures { result ≡ is_name name.now }
 {
-    1 <= name.len() && name.len() <= LONGEST
+    1 <= name.len() && name.len() <= MAX_NAME_LENGTH
 }
 
-/// Whether this is the text of a name that is kept.
-pub(crate) fn is_same(kept: &ByteString, name: &str) -> bool
+/// Whether a name that is kept has this text.
+pub(crate) fn has_text(kept: &ByteString, name: &str) -> bool
     ensures { result ≡ bytes_eq kept.now name.now }
 {
     kept.as_slice() == name.as_bytes()

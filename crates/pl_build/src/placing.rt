@@ -3,6 +3,7 @@
 ghost use Rattle.std.specs.Prelude.{◌≡◌, ◌+◌, ◌<◌, ◌≤◌, ◌↔◌, [], length, slice_get, IsSome, All, true, false, count_by};
 ghost use Rattle.pl_event.specs.Paths.{is_outbound, is_turn};
 
+use crate::limits::{MAX_HANDLERS, MAX_MARK};
 use pl_event::Stage;
 use std::marker::Model;
 
@@ -15,6 +16,8 @@ pub struct Placed<S: Stage> {
     pub(crate) inbound: Vec<S>,
     /// The nearest to the turn first.
     pub(crate) outbound: Vec<S>,
+    /// The index of the turn in `inbound`.
+    pub(crate) turn: usize,
     /// By hop.
     pub(crate) executors: Vec<u16>,
     /// In bytes.
@@ -23,18 +26,21 @@ pub struct Placed<S: Stage> {
 }
 
 impl<S: Stage> Model for Placed<S> {
-    ghost use Rattle.pl_build.specs.Pipelines.{PlacedView};
+    ghost use Rattle.std.specs.Prelude.{◌≡◌};
+    ghost use Rattle.pl_build.specs.Pipelines.{PlacedView, hop_of_turn};
     ghost use Rattle.pl_build.specs.Paths.{IsPath};
 
     ghost Value = { PlacedView S };
 
     ghost view = { λ p. record { inbound = p.inbound.items; outbound = p.outbound.items; executors = p.executors.items; low = p.low; high = p.high } };
 
-    ghost invariant = { λ p. IsPath S.meaning S.stands_after (record { inbound = p.inbound.items; outbound = p.outbound.items; executors = p.executors.items; low = p.low; high = p.high }) };
+    ghost invariant = { λ p. IsPath S.meaning S.stands_after (record { inbound = p.inbound.items; outbound = p.outbound.items; executors = p.executors.items; low = p.low; high = p.high })
+        × (p.turn ≡ hop_of_turn S.meaning p.inbound.items) };
 }
 
 impl<S: Stage> Placed<S> {
     ghost use Rattle.pl_build.specs.Paths.{IsPath};
+    ghost use Rattle.pl_build.specs.Pipelines.{hop_of_turn};
 
     /// The executor of the context that a hop enters, or None past the head. It takes no memory.
     pub fn executor_of(&self, hop: u16) -> Option<u16>
@@ -47,21 +53,29 @@ impl<S: Stage> Placed<S> {
     /// How many inbound handlers it has, the turn among them.
     pub fn inbound(&self) -> u16
         ensures count { result ≡ length self.now.inbound }
-        ensures within { result + length self.now.outbound ≤ 32 }
+        ensures within { result + length self.now.outbound ≤ MAX_HANDLERS }
         ensures path { IsPath S.meaning S.stands_after self.now }
     {
         self.inbound.len() as u16
     }
 
-    /// How many outbound handlers stand before the turn.
+    /// How many outbound handlers it has, all of them before the turn.
     pub fn outbound(&self) -> u16
         ensures count { result ≡ length self.now.outbound }
-        ensures within { length self.now.inbound + result ≤ 32 }
+        ensures within { length self.now.inbound + result ≤ MAX_HANDLERS }
     {
         self.outbound.len() as u16
     }
 
-    /// Below so many pending bytes the channel becomes writable again.
+    /// The hop of the turn: its index among the inbound handlers.
+    pub fn turn(&self) -> u16
+        ensures hop { result ≡ hop_of_turn S.meaning self.now.inbound }
+        ensures within { result < length self.now.inbound }
+    {
+        self.turn as u16
+    }
+
+    /// The low mark, in bytes: with fewer pending the channel becomes writable again.
     pub fn low(&self) -> u32
         ensures low { result ≡ self.now.low }
         ensures order { result ≤ self.now.high }
@@ -69,10 +83,10 @@ impl<S: Stage> Placed<S> {
         self.low
     }
 
-    /// Above so many pending bytes the channel becomes not writable.
+    /// The high mark, in bytes: with more pending the channel becomes not writable.
     pub fn high(&self) -> u32
         ensures high { result ≡ self.now.high }
-        ensures within { result ≤ 1073741824 }
+        ensures within { result ≤ MAX_MARK }
     {
         self.high
     }

@@ -3,7 +3,7 @@
 ghost use Rattle.std.specs.Prelude.{◌≡◌, ◌≤◌, ◌++◌, [], length, map, filter, reverse, IfOk, OnOk, vec_len, vec_capacity, position, ◌<◌, ◌∷◌, if◌then◌else◌, ◌&&◌, not};
 ghost use Rattle.pl_build.specs.Counts.{executor_now};
 ghost use Rattle.pl_build.specs.Executors.{hop_executors};
-ghost use Rattle.pl_build.specs.Pipelines.{before_turn, inbound_handlers, outbound_handlers, is_inbound, is_outbound, is_turn};
+ghost use Rattle.pl_build.specs.Pipelines.{before_turn, inbound_handlers, outbound_handlers, is_inbound, is_outbound, is_turn, hop_of_turn};
 
 use crate::grouping::Groups;
 use crate::named_stages::NamedStage;
@@ -14,11 +14,57 @@ use std::alloc::{AllocError, Global};
 #[derive(Drop)]
 pub(crate) struct Room<S> {
     pub(crate) executors: Vec<u16>,
-    pub(crate) inbound: Vec<S>,
-    pub(crate) outbound: Vec<S>,
+    pub(crate) chains: Chains<S>,
 }
 
-/// The executor of each hop.
+/// The chains of a path, and the hop of its turn.
+#[derive(Drop)]
+pub(crate) struct Chains<S> {
+    pub(crate) inbound: Vec<S>,
+    /// The nearest to the turn first.
+    pub(crate) outbound: Vec<S>,
+    /// How many inbound stages are before the turn.
+    pub(crate) turn: usize,
+}
+
+impl<S: Stage> Chains<S> {
+    /// Chains without a stage, each with room for a given number.
+    pub(crate) fn with_capacity(alloc: Global, capacity: usize) -> Result<Self, AllocError>
+        ensures empty { IfOk result (λ chains. (chains.inbound.items ≡ []) × (chains.outbound.items ≡ []) × (chains.turn ≡ 0)) }
+        ensures inbound { IfOk result (λ chains. capacity ≤ vec_capacity chains.inbound) }
+        ensures outbound { IfOk result (λ chains. capacity ≤ vec_capacity chains.outbound) }
+    {
+        Ok(Chains {
+            inbound: Vec::with_capacity(alloc, capacity)?,
+            outbound: Vec::with_capacity(alloc, capacity)?,
+            turn: 0,
+        })
+    }
+
+    /// Moves a stage to the end of its chain, or lets go of an outbound one after the turn.
+    fn add(&mut self, handler: NamedStage<S>, is_before: bool)
+        requires inbound { vec_len self.old.inbound < vec_capacity self.old.inbound }
+        requires outbound { vec_len self.old.outbound < vec_capacity self.old.outbound }
+        ensures inbound { self.new.inbound.items ≡ self.old.inbound.items ++ map (λ h. h.stage) (filter (is_inbound S.meaning) (handler ∷ [])) }
+        ensures outbound { self.new.outbound.items ≡ self.old.outbound.items ++ map (λ h. h.stage) (filter (is_outbound S.meaning) (if is_before then handler ∷ [] else [])) }
+        ensures inbound_room { vec_capacity self.old.inbound ≤ vec_capacity self.new.inbound }
+        ensures outbound_room { vec_capacity self.old.outbound ≤ vec_capacity self.new.outbound }
+        ensures turn { self.new.turn ≡ (if is_before then length self.new.inbound.items else self.old.turn) }
+    {
+        if handler.is_inbound() {
+            let NamedStage { stage, .. } = handler;
+            self.inbound.push(stage).unwrap();
+        } else if is_before {
+            let NamedStage { stage, .. } = handler;
+            self.outbound.push(stage).unwrap();
+        }
+        if is_before {
+            self.turn = self.inbound.len();
+        }
+    }
+}
+
+/// The executor of each hop, in the channel that comes next.
 pub(crate) fn hop_executors<S: Stage>(
     alloc: Global,
     groups: &Groups,
@@ -34,6 +80,7 @@ pub(crate) fn hop_executors<S: Stage>(
     Ok(executors)
 }
 
+/// Adds the executor of each inbound handler, from the first to the last.
 fn add_inbound<S: Stage>(
     executors: &mut Vec<u16>,
     groups: &Groups,
@@ -49,7 +96,7 @@ fn add_inbound<S: Stage>(
     Ok(())
 }
 
-/// From the last to the first.
+/// Adds the executor of each outbound handler, from the last to the first.
 fn add_outbound<S: Stage>(
     executors: &mut Vec<u16>,
     groups: &Groups,
@@ -67,71 +114,45 @@ fn add_outbound<S: Stage>(
     Ok(())
 }
 
-fn place_of_turn<S: Stage>(handlers: &[NamedStage<S>]) -> Option<usize>
+/// The index of the turn among all handlers.
+fn turn_index<S: Stage>(handlers: &[NamedStage<S>]) -> Option<usize>
     ensures { result ≡ position (is_turn S.meaning) handlers.now }
 {
     handlers.iter().position(|handler| handler.is_turn())
 }
 
-/// The handlers that stand before the turn.
+/// The handlers before the turn.
 fn before_turn<S: Stage>(handlers: &[NamedStage<S>]) -> &[NamedStage<S>]
     ensures { result.now ≡ before_turn S.meaning handlers.now }
 {
-    match place_of_turn(handlers) {
-        Some(place) => &handlers[..place],
+    match turn_index(handlers) {
+        Some(index) => &handlers[..index],
         None => handlers,
     }
 }
 
-/// Moves the stages of the path into chains that have room for them, and lets go of those behind the turn.
-pub(crate) fn split<S: Stage>(
-    handlers: Vec<NamedStage<S>>,
-    inbound: Vec<S>,
-    outbound: Vec<S>,
-) -> (Vec<S>, Vec<S>)
-    requires empty { (inbound.items ≡ []) × (outbound.items ≡ []) }
-    requires inbound { length handlers.items ≤ vec_capacity inbound }
-    requires outbound { length handlers.items ≤ vec_capacity outbound }
-    ensures inbound { result.0.items ≡ map (λ handler. handler.stage) (inbound_handlers S.meaning handlers.items) }
-    ensures outbound { result.1.items ≡ map (λ handler. handler.stage) (outbound_handlers S.meaning handlers.items) }
+/// Moves the stages of the path into chains that have room for them, and lets go of those after the turn.
+pub(crate) fn split<S: Stage>(handlers: Vec<NamedStage<S>>, chains: Chains<S>) -> Chains<S>
+    requires empty { (chains.inbound.items ≡ []) × (chains.outbound.items ≡ []) × (chains.turn ≡ 0) }
+    requires inbound { length handlers.items ≤ vec_capacity chains.inbound }
+    requires outbound { length handlers.items ≤ vec_capacity chains.outbound }
+    ensures inbound { result.inbound.items ≡ map (λ handler. handler.stage) (inbound_handlers S.meaning handlers.items) }
+    ensures outbound { result.outbound.items ≡ map (λ handler. handler.stage) (outbound_handlers S.meaning handlers.items) }
+    ensures turn { result.turn ≡ hop_of_turn S.meaning result.inbound.items }
 {
-    let mut inbound = inbound;
-    let mut outbound = outbound;
+    let mut chains = chains;
     let mut is_before = true;
     for handler in handlers {
         is_before = is_still_before(is_before, &handler);
-        place(handler, is_before, &mut inbound, &mut outbound);
+        chains.add(handler, is_before);
     }
-    outbound.reverse();
-    (inbound, outbound)
+    chains.outbound.reverse();
+    chains
 }
 
-/// Whether no turn has come yet, where none had come before this handler or one had.
+/// Whether neither this handler nor one before it is the turn.
 fn is_still_before<S: Stage>(is_before: bool, handler: &NamedStage<S>) -> bool
     ensures { result ≡ (is_before && not (is_turn S.meaning handler.now)) }
 {
     is_before && !handler.is_turn()
-}
-
-/// Moves a stage to the end of its chain, or lets go of it.
-fn place<S: Stage>(
-    handler: NamedStage<S>,
-    is_before: bool,
-    inbound: &mut Vec<S>,
-    outbound: &mut Vec<S>,
-)
-    requires inbound { vec_len inbound.old < vec_capacity inbound.old }
-    requires outbound { vec_len outbound.old < vec_capacity outbound.old }
-    ensures inbound { inbound.new.items ≡ inbound.old.items ++ map (λ h. h.stage) (filter (is_inbound S.meaning) (handler ∷ [])) }
-    ensures outbound { outbound.new.items ≡ outbound.old.items ++ map (λ h. h.stage) (filter (is_outbound S.meaning) (if is_before then handler ∷ [] else [])) }
-    ensures inbound_room { vec_capacity inbound.old ≤ vec_capacity inbound.new }
-    ensures outbound_room { vec_capacity outbound.old ≤ vec_capacity outbound.new }
-{
-    if handler.is_inbound() {
-        let NamedStage { stage, .. } = handler;
-        inbound.push(stage).unwrap();
-    } else if is_before {
-        let NamedStage { stage, .. } = handler;
-        outbound.push(stage).unwrap();
-    }
 }

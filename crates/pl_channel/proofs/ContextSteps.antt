@@ -7,6 +7,7 @@ use Rattle.std.proofs.lemmas.List.{length-map, take_all}
 use Rattle.std.proofs.lemmas.Option.{slice_get-get_or, slice_get_within, slice_get_past}
 use Rattle.std.proofs.lemmas.List.Folds.{list_any-append}
 use Rattle.std.proofs.lemmas.Bool.{cases_Bool, cases_lt, or_cases}
+use Rattle.std.proofs.Math.Bool.{and-false}
 use Rattle.pl_event.specs.declared.events.Event.{Event}
 use Rattle.pl_event.specs.declared.events.Event.TheVariants.{Active}
 use Rattle.pl_event.specs.declared.stages.Turned.TheVariants.{Open, Ended}
@@ -33,7 +34,8 @@ use Rattle.pl_channel.specs.MadeItems.{data_lane, has_end, one_if, up_items, dow
 use Rattle.pl_channel.specs.Envelopes.{item_by, flag_by}
 use Rattle.pl_channel.specs.Unstopped.{IsUnstopped}
 use Rattle.pl_channel.specs.ContextStand.{ContextStands, IsNextFor, IsNextFlagFor, going_up, going_down, sent_up, sent_down, sent_flag}
-use Rattle.pl_channel.proofs.Items.{up_items-le, down_items-le, take-prefix, stays_ended-prefix}
+use Rattle.pl_event.proofs.Lists.{take-prefix}
+use Rattle.pl_channel.proofs.Items.{up_items-le, down_items-le, stays_ended-prefix}
 use Rattle.pl_channel.proofs.StageItems.{one_more, before_end, at_end, up_items-event, down_items-event}
 use Rattle.pl_channel.proofs.LaneItems.{going_up-event, going_up-end, going_down-event, going_down-quit, going_down-end}
 use Rattle.pl_channel.proofs.PassedFlags.{flag-appended, flag-counted}
@@ -44,10 +46,6 @@ use Rattle.pl_channel.proofs.WorkLists.{none_stopped, unstopped-places, puts_all
 and_true : (b : Bool) → (b && true) ≡ b
 and_true true = refl
 and_true false = refl
-
-and_false : (b : Bool) → (b && false) ≡ false
-and_false true = refl
-and_false false = refl
 
 or_false : (b : Bool) → (b || false) ≡ b
 or_false true = refl
@@ -284,14 +282,14 @@ module _ {S : Type 0} (meaning : S → Meaning) (stands_after : S → List Event
         stands = λ h. let differ : true ≡ false = sym over ∙ h in absurd (cc differ);
         up_lane = ap (λ (t : ContextView S). t.up.lane) r.context ∙ s.up_lane;
         up_open =
-            ap (λ (t : ContextView S). t.up.is_open) r.context ∙ and_false c.up.is_open
-            ∙ sym (ap (λ (b : Bool). has_up m.direction && not b) over ∙ and_false (has_up m.direction));
+            ap (λ (t : ContextView S). t.up.is_open) r.context ∙ and-false c.up.is_open
+            ∙ sym (ap (λ (b : Bool). has_up m.direction && not b) over ∙ and-false (has_up m.direction));
         down_lane = ap (λ (t : ContextView S). t.down.lane) r.context ∙ s.down_lane;
         down_open =
-            ap (λ (t : ContextView S). t.down.is_open) r.context ∙ and_false c.down.is_open
+            ap (λ (t : ContextView S). t.down.is_open) r.context ∙ and-false c.down.is_open
             ∙ sym (ap (λ (b : Bool). has_down m.direction && not (m.ended (take (n + 1) events) || b)) over
             ∙ ap (λ (b : Bool). has_down m.direction && not b) (or_true (m.ended (take (n + 1) events)))
-            ∙ and_false (has_down m.direction));
+            ∙ and-false (has_down m.direction));
         flags_taken = ap (λ (t : ContextView S). t.flags_taken) r.context ∙ s.flags_taken;
         flags_port = ap (λ (t : ContextView S). t.flags) r.context ∙ s.flags_port;
       }

@@ -1,8 +1,8 @@
 -- How many items of each lane are made: never fewer of more, and no more than the lane's content and its end.
-use Rattle.std.proofs.Common.{◌≡◌, ℕ, suc, ◌+◌, ◌-◌, ◌<◌, ◌≤◌, Bool, true, false, cond, not, ◌||◌, eqb, ltb, leb, Option, Some, List, [], ◌∷◌, ◌++◌, length, take, drop, get_or, refl, sym, ap, ◌∙◌, arith, inl, inr, length-append, append_assoc, append-nil}
+use Rattle.std.proofs.Common.{◌≡◌, ℕ, suc, ◌+◌, ◌-◌, ◌<◌, ◌≤◌, Bool, true, false, cond, not, ◌||◌, eqb, ltb, leb, Option, Some, List, [], ◌∷◌, ◌++◌, length, take, drop, get_or, refl, sym, ap, ◌∙◌, arith, inl, inr, append_assoc, append-nil}
 use Rattle.std.specs.List.{All, count_by, position_or_len, flat_map, slice_get}
 use Rattle.std.specs.Option.{option_map_or}
-use Rattle.std.proofs.lemmas.List.{take-take, take-append-drop, get_or-take, take_more}
+use Rattle.std.proofs.lemmas.List.{get_or-take, take_more}
 use Rattle.std.proofs.lemmas.List.Elements.{All-get_or}
 use Rattle.std.proofs.lemmas.List.Folds.{list_any_none, length-prefix_len}
 use Rattle.std.proofs.lemmas.List.Sums.{sum_by-cons, split_at_first, prefix_len_passes, prefix_len_stops}
@@ -15,28 +15,12 @@ use Rattle.pl_event.specs.Meaning.{Meaning, IsLawful, IsPrefixOf, up_of, down_of
 use Rattle.pl_event.specs.Inputs.{read_steps, input_after, recorded_input}
 use Rattle.pl_event.specs.Lanes.{through, out_through, written, through_by-push}
 use Rattle.pl_event.specs.Paths.{is_turn}
+use Rattle.pl_event.proofs.Lists.{length-prefix, take-prefix, take-prefix_whole}
 use Rattle.pl_event.proofs.LaneLemmas.{lane-near, lane-far, up_of-prefix, down_of-prefix, input_after-prefix, written-turn}
 use Rattle.pl_head.specs.ReadSteps.{read_items}
 use Rattle.pl_world.specs.Plans.{ChannelPlan, tail_hop, head_hop, content}
 use Rattle.pl_channel.specs.MadeItems.{has_end, one_if, up_items, down_items, turn_hop, items_made}
 use Rattle.pl_world.specs.PlanRules.{IsChannelPlan}
-
--- ---- prefixes
-
-pub length-prefix : {A : Type 0} (xs ys : List A) → IsPrefixOf xs ys → length xs ≤ length ys
-length-prefix {A = A} xs ys p =
-    let size : length ys ≡ length xs + length p.0 = ap (λ (l : List A). length l) (sym p.1) ∙ length-append xs p.0 in
-    omega (arith, size)
-
-pub take-prefix : {A : Type 0} (n k : ℕ) (xs : List A) → n ≤ k → IsPrefixOf (take n xs) (take k xs)
-take-prefix {A = A} n k xs below =
-    (drop n (take k xs), ap (λ (l : List A). l ++ drop n (take k xs)) (sym (take-take n k xs below)) ∙ take-append-drop n (take k xs))
-
-pub prefix-trans : {A : Type 0} (xs ys zs : List A) → IsPrefixOf xs ys → IsPrefixOf ys zs → IsPrefixOf xs zs
-prefix-trans {A = A} xs ys zs p q = (p.0 ++ q.0, sym (append_assoc xs p.0 q.0) ∙ ap (λ (l : List A). l ++ q.0) p.1 ∙ q.1)
-
-pub take-prefix_whole : {A : Type 0} (n : ℕ) (xs : List A) → IsPrefixOf (take n xs) xs
-take-prefix_whole n xs = (drop n xs, take-append-drop n xs)
 
 -- ---- one stage
 

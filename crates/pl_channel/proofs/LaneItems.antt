@@ -19,7 +19,7 @@ use Rattle.pl_channel.specs.MadeItems.{Place, one_if, up_items, down_items, data
 use Rattle.pl_channel.specs.Envelopes.{item_by, items_from, item_of, envelope_of, envelopes_of, envelope_at, envelopes_at}
 use Rattle.pl_channel.specs.ContextStand.{going_up, going_down}
 use Rattle.pl_channel.proofs.Numbers.{range-append}
-use Rattle.pl_channel.proofs.Items.{take-prefix_whole}
+use Rattle.pl_event.proofs.Lists.{take-prefix_whole}
 use Rattle.pl_channel.proofs.StageItems.{one_more, before_end, up_items-event, up_items-end, down_of-quit, down_items-event, down_items-quit, down_items-end}
 
 -- ---- items of a list

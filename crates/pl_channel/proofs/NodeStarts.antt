@@ -1,13 +1,13 @@
 -- Contexts, a tail and a head that have taken nothing.
-use Rattle.std.proofs.Common.{◌≡◌, ℕ, zero, suc, ◌<◌, ◌≤◌, Bool, true, false, not, cond, ◌||◌, Some, List, [], ◌∷◌, ◌++◌, length, get_or, refl, sym, ap, ap₂, subst, ◌∙◌, arith, inl, inr}
-use Rattle.std.specs.Prelude.{◌&&◌, ◌⊎◌, replicate}
-use Rattle.std.specs.List.{slice_get}
+use Rattle.std.proofs.Common.{◌≡◌, ℕ, ◌<◌, ◌≤◌, Bool, true, false, not, cond, ◌||◌, List, [], length, refl, sym, ap, ap₂, subst, ◌∙◌, arith}
+use Rattle.std.specs.Prelude.{◌&&◌}
 use Rattle.std.proofs.lemmas.Bool.{le-ltb}
 use Rattle.pl_event.specs.declared.events.Event.{Event}
 use Rattle.pl_event.specs.declared.stages.Direction.{Direction}
 use Rattle.pl_event.specs.declared.stages.Direction.TheVariants.{Inbound, Outbound, Turn}
 use Rattle.pl_event.specs.Meaning.{Meaning, IsLawful}
 use Rattle.pl_event.specs.Paths.{is_outbound}
+use Rattle.pl_build.specs.declared.limits.TheConstants.{MAX_HANDLERS}
 use Rattle.pl_context.specs.declared.standing.Standing.TheVariants as stands
 use Rattle.pl_context.specs.TailViews.{TailView, new_tail}
 use Rattle.pl_context.specs.ContextViews.{ContextView, IsHop, new_context, has_up, has_down}
@@ -16,31 +16,14 @@ use Rattle.pl_channel.specs.MadeItems.{has_end}
 use Rattle.pl_channel.specs.ContextStand.{ContextStands}
 use Rattle.pl_channel.specs.TailStand.{TailStands}
 
--- ---- lists
-
--- an element of a list with one more
-pub slice_get-push : {A : Type 0} (xs : List A) (x y : A) (i : ℕ) → slice_get (xs ++ x ∷ []) i ≡ Some y → (slice_get xs i ≡ Some y) ⊎ ((i ≡ length xs) × (y ≡ x))
-slice_get-push [] x y zero here = let same : y ≡ x = cc in inr (refl, same)
-slice_get-push [] x y (suc i) here = cc
-slice_get-push (z ∷ zs) x y zero here = inl here
-slice_get-push (z ∷ zs) x y (suc i) here = elim (slice_get-push zs x y i here) [
-  | inl inside ↦ inl inside
-  | inr last ↦ inr (ap (λ (n : ℕ). suc n) last.0, last.1)
-]
-
-pub get_or-zeros : (n i : ℕ) → ◌≡◌ {A = ℕ} (get_or (replicate n 0) i 0) 0
-get_or-zeros zero i = refl
-get_or-zeros (suc n) zero = refl
-get_or-zeros (suc n) (suc i) = get_or-zeros n i
-
 -- ---- hops
 
-pub inbound-hop : (d : Direction) (hop k : ℕ) → is_outbound d ≡ false → hop < k → k ≤ 32 → IsHop d hop k
+pub inbound-hop : (d : Direction) (hop k : ℕ) → is_outbound d ≡ false → hop < k → k ≤ MAX_HANDLERS → IsHop d hop k
 inbound-hop Inbound hop k h near few = (near, few)
 inbound-hop Turn hop k h near few = (near, few)
 inbound-hop Outbound hop k h near few = cc h
 
-pub outbound-hop : (d : Direction) (hop k : ℕ) → is_outbound d ≡ true → k < hop → hop ≤ 32 → IsHop d hop k
+pub outbound-hop : (d : Direction) (hop k : ℕ) → is_outbound d ≡ true → k < hop → hop ≤ MAX_HANDLERS → IsHop d hop k
 outbound-hop Outbound hop k h far few = (far, few)
 outbound-hop Inbound hop k h far few = cc h
 outbound-hop Turn hop k h far few = cc h

@@ -2,10 +2,9 @@
 use Rattle.std.proofs.Common.{◌≡◌, ◌≢◌, ℕ, zero, suc, ◌+◌, ◌-◌, ◌<◌, ◌≤◌, Bool, true, false, not, cond, eqb, Some, List, [], ◌∷◌, ◌++◌, length, map, take, set, get_or, refl, sym, ap, ap₂, subst, ◌∙◌, arith, inl, inr, append-nil, le_refl, unwrap_or}
 use Rattle.std.specs.Prelude.{Result, Ok, Err, OnOk, ◌⊎◌, ◌^◌}
 use Rattle.std.specs.Option.{option_map}
-use Rattle.std.specs.List.{All, slice_get, count_by, position_or_len, range_with_len}
+use Rattle.std.specs.List.{slice_get, count_by, position_or_len, range_with_len}
 use Rattle.std.proofs.lemmas.List.{length-map, length-set, get_or-set_other, get_or-set_same}
 use Rattle.std.proofs.Math.Seq.{map-set_same}
-use Rattle.std.proofs.lemmas.List.Elements.{All-get_or}
 use Rattle.std.proofs.lemmas.List.Sums.{sum_by-cons, prefix_len_stops}
 use Rattle.std.proofs.lemmas.Option.{slice_get-get_or, slice_get_within, get_or_from_slice_get, slice_get-map}
 use Rattle.std.proofs.lemmas.Bool.{cases_Bool, cases_eq, eq-eqb, ne_eqb, cond-true, cond-false}
@@ -18,6 +17,7 @@ use Rattle.pl_event.specs.declared.envelopes.Lane.{Lane}
 use Rattle.pl_event.specs.declared.envelopes.Envelope.{Envelope}
 use Rattle.pl_event.specs.Meaning.{Meaning, down_of}
 use Rattle.pl_event.specs.Paths.{is_turn, is_outbound}
+use Rattle.pl_event.proofs.Lists.{All-at, at_set_same, at_set_other}
 use Rattle.pl_context.specs.OutputsViews.{OutputsView, Appends}
 use Rattle.pl_context.specs.Ports.{numbered}
 use Rattle.pl_context.specs.TailViews.{TailView}
@@ -41,10 +41,6 @@ use Rattle.pl_channel.proofs.NodeStarts.{same-stand, same-tail}
 
 -- ---- lists
 
-pub All-at : {A : Type 0} (P : A → Type 0) (xs : List A) (i : ℕ) (x : A) → All P xs → slice_get xs i ≡ Some x → P x
-All-at P xs i x all here =
-    subst P (get_or_from_slice_get xs i x x here) (All-get_or P xs i x (slice_get_within xs i x here) all)
-
 -- what was read at an index
 pub indexed : {A : Type 0} (xs : List A) (i j : ℕ) (x : A) → i ≡ j → i < length xs → x ≡ get_or xs i x → slice_get xs j ≡ Some x
 indexed {A = A} xs i j x same within is =
@@ -57,19 +53,6 @@ on_ok_both (Err e) f p q = tt
 pub on_ok_all : {T E A B C D R : Type 0} (r : Result T E) → (A → B → C → D → R) → OnOk r A → OnOk r B → OnOk r C → OnOk r D → OnOk r R
 on_ok_all (Ok x) f a b c d = f a b c d
 on_ok_all (Err e) f a b c d = tt
-
-set_same : {A : Type 0} (xs : List A) (i : ℕ) (y x : A) → slice_get (set xs i y) i ≡ Some x → x ≡ y
-set_same xs i y x here =
-    let within = slice_get_within (set xs i y) i x here in
-    let size = length-set xs i y in
-    sym (get_or_from_slice_get (set xs i y) i x x here) ∙ get_or-set_same xs i y x (omega (arith, within, size))
-
-set_other : {A : Type 0} (xs : List A) (i j : ℕ) (y x : A) → j ≢ i → slice_get (set xs i y) j ≡ Some x → slice_get xs j ≡ Some x
-set_other {A = A} xs i j y x other here =
-    let within = slice_get_within (set xs i y) j x here in
-    let size = length-set xs i y in
-    slice_get-get_or xs j x (omega (arith, within, size))
-    ∙ ap (λ (z : A). Some z) (sym (get_or-set_other xs i j y x other) ∙ get_or_from_slice_get (set xs i y) j x x here)
 
 none_counted : {A : Type 0} (test : A → Bool) (xs : List A) (i : ℕ) (x : A) → count_by test xs ≡ 0 → slice_get xs i ≡ Some x → test x ≡ true → ⊥
 none_counted test [] i x none here passes = cc
@@ -362,9 +345,9 @@ module _ {S T : Type 0} (meaning : S → Meaning) (stands_after : S → List Eve
           by_hop : (i : ℕ) (x : ContextView S) → slice_get (set nodes.inbound.items hop c') i ≡ Some x → InboundStands i x
           by_hop i x at = elim (cases_eq i hop) [
             | inl is ↦
-                let it : x ≡ c' = set_same nodes.inbound.items hop c' x (ap (slice_get (set nodes.inbound.items hop c')) (sym is) ∙ at) in
+                let it : x ≡ c' = at_set_same nodes.inbound.items hop c' x (ap (slice_get (set nodes.inbound.items hop c')) (sym is) ∙ at) in
                 subst (λ (h : ℕ). InboundStands h x) (sym is) (subst (λ (y : ContextView S). InboundStands hop y) (sym it) now-stands)
-            | inr other ↦ other-inbound i x other (set_other nodes.inbound.items hop i c' x other at)
+            | inr other ↦ other-inbound i x other (at_set_other nodes.inbound.items hop i c' x other at)
           ]
 
       outbound-stand : (j : ℕ) → hop ≡ tail_hop p + 1 + j → slice_get nodes.outbound.items j ≡ Some c
@@ -395,10 +378,10 @@ module _ {S T : Type 0} (meaning : S → Meaning) (stands_after : S → List Eve
           by_hop : (i : ℕ) (x : ContextView S) → slice_get (set nodes.outbound.items j c') i ≡ Some x → OutboundStands i x
           by_hop i x at = elim (cases_eq i j) [
             | inl is ↦
-                let it : x ≡ c' = set_same nodes.outbound.items j c' x (ap (slice_get (set nodes.outbound.items j c')) (sym is) ∙ at) in
+                let it : x ≡ c' = at_set_same nodes.outbound.items j c' x (ap (slice_get (set nodes.outbound.items j c')) (sym is) ∙ at) in
                 subst (λ (k : ℕ). OutboundStands k x) (sym is) (subst (λ (y : ContextView S). OutboundStands j y) (sym it) now-stands)
             | inr other ↦
-                other-outbound i x (λ same_place. other (omega (arith, same_place, place_is))) (set_other nodes.outbound.items j i c' x other at)
+                other-outbound i x (λ same_place. other (omega (arith, same_place, place_is))) (at_set_other nodes.outbound.items j i c' x other at)
           ]
 
     tail-stand : hop ≡ tail_hop p → TailStands channel (tail_hop p) (content p (tail_hop p)) (get_or s'.taken (tail_hop p) 0) (get_or s'.flags_taken (tail_hop p) 0) nodes'.tail

@@ -1,10 +1,9 @@
 -- A placed channel: its plan, how it stands before any move, and its report.
-use Rattle.std.proofs.Common.{◌≡◌, ℕ, ◌+◌, ◌≤◌, Bool, true, false, cond, not, ◌&&◌, ◌||◌, Option, List, [], ◌∷◌, ◌++◌, length, map, take, get_or, replicate, Some, None, nat_lt, refl, sym, ap, ap₂, subst, ◌∙◌, arith, nat_le, ◌<◌, inl, inr, le_refl}
-use Rattle.std.specs.List.{slice_get, position_or_len, position}
+use Rattle.std.proofs.Common.{◌≡◌, ℕ, ◌+◌, ◌≤◌, Bool, true, false, cond, not, ◌&&◌, ◌||◌, Option, List, [], ◌∷◌, ◌++◌, length, take, get_or, Some, None, refl, sym, ap, ap₂, subst, ◌∙◌, arith, nat_le, ◌<◌, le_refl}
+use Rattle.std.specs.List.{slice_get}
 use Rattle.std.specs.Option.{is_some}
-use Rattle.std.proofs.lemmas.List.{length-map, take_more, get_or-replicate, get_or_past, length-replicate}
-use Rattle.std.proofs.lemmas.Bool.{le-ltb, cases_lt}
-use Rattle.std.proofs.lemmas.Bool.Decides.{nat_tests}
+use Rattle.std.proofs.lemmas.List.{length-map, take_more}
+use Rattle.std.proofs.lemmas.Bool.{le-ltb}
 use Rattle.std.proofs.lemmas.List.Sums.{prefix_len-le-length}
 use Rattle.std.proofs.lemmas.Option.{slice_get_within, get_or_from_slice_get}
 use Rattle.pl_event.specs.declared.events.Event.{Event}
@@ -13,6 +12,8 @@ use Rattle.pl_event.specs.declared.outcomes.Cause.TheVariants as cause
 use Rattle.pl_event.specs.declared.outcomes.Outcome.{Outcome}
 use Rattle.pl_event.specs.Meaning.{Meaning}
 use Rattle.pl_event.specs.Paths.{is_turn}
+use Rattle.pl_event.proofs.Lists.{get_or-replicate_any}
+use Rattle.pl_build.specs.declared.limits.TheConstants.{MAX_HANDLERS}
 use Rattle.pl_channel.specs.declared.placed_channels.PlacedChannel.{PlacedChannel}
 use Rattle.pl_world.specs.declared.session.Recorded.{Recorded}
 use Rattle.pl_world.specs.declared.report.ChannelReport.{ChannelReport}
@@ -34,41 +35,14 @@ use Rattle.pl_channel.specs.ContextStand.{standing_by}
 use Rattle.pl_channel.specs.HeadStand.{HeadStands, failure_by}
 use Rattle.pl_channel.specs.ChannelStand.{channel_plan, ChannelStands, report_at, is_drained, IsPlaced}
 
-pub get_or-replicate_any : {A : Type 0} (n i : ℕ) (a : A) → get_or (replicate n a) i a ≡ a
-get_or-replicate_any n i a = elim (cases_lt i n) [
-  | inl within ↦ get_or-replicate n i a a within
-  | inr past ↦ get_or_past (replicate n a) i a (omega (arith, past, length-replicate n a))
-]
-
--- ---- executors and turns by their place
+-- ---- executors by their hop
 
 pub take-push : (xs : List ℕ) (i x : ℕ) → slice_get xs i ≡ Some x → (i + 1 ≤ length xs) × (take (i + 1) xs ≡ take i xs ++ x ∷ [])
 take-push xs i x at =
     let within = slice_get_within xs i x at in
     (omega (arith, within), take_more xs i x within ∙ ap (λ (v : ℕ). take i xs ++ v ∷ []) (get_or_from_slice_get xs i x x at))
 
-module _ {X : Type 0} (test : X → Bool) (xs : List X) where
-  pub position-found : (i : ℕ) → position test xs ≡ Some i → i ≡ position_or_len test xs
-  position-found i at = by (nat_lt (position_or_len test xs) (length xs)) at
-    where
-      by : (b : Bool) → cond b (Some (position_or_len test xs)) None ≡ Some i → i ≡ position_or_len test xs
-      by true is = cc
-      by false is = cc
-
-  pub position-missing : position test xs ≡ None → length xs ≡ position_or_len test xs
-  position-missing none = by (nat_lt (position_or_len test xs) (length xs)) refl none
-    where
-      by : (b : Bool) → nat_lt (position_or_len test xs) (length xs) ≡ b → cond b (Some (position_or_len test xs)) None ≡ None → length xs ≡ position_or_len test xs
-      by true within is = cc
-      by false past is =
-          let passed : length xs ≤ position_or_len test xs = grind (arith, nat_tests) in
-          omega (arith, passed, prefix_len-le-length (λ x. not (test x)) xs)
-
 -- ---- the plan of a channel
-
-pub position_or_len-map : {X Y : Type 0} (test : Y → Bool) (f : X → Y) (xs : List X) → position_or_len test (map f xs) ≡ position_or_len (λ x. test (f x)) xs
-position_or_len-map test f [] = refl
-position_or_len-map test f (x ∷ xs) = ap (λ (n : ℕ). cond (not (test (f x))) (1 + n) 0) (position_or_len-map test f xs)
 
 abbrev plan_with : List Meaning → List Meaning → List ℕ → ℕ → ℕ → Option ℕ → List (List (List ℕ)) → ChannelPlan
 plan_with inbound outbound executors low high window bursts =
@@ -88,7 +62,7 @@ module _ {S T : Type 0} (meaning : S → Meaning) (stands_after : S → List Eve
       ∙ ap (λ (t : ℕ). plan_with p.inbound p.outbound p.executors p.low t plan.window plan.bursts) head.high
       ∙ ap (λ (t : Option ℕ). plan_with p.inbound p.outbound p.executors p.low p.high t plan.bursts) head.window
 
-  pub stands-placed : length p.executors ≡ head_hop p + 1 → length p.executors ≤ 34 → IsPlaced meaning state c
+  pub stands-placed : length p.executors ≡ head_hop p + 1 → length p.executors ≤ MAX_HANDLERS + 2 → IsPlaced meaning state c
   stands-placed hops few =
       let size = ap (λ (t : List ℕ). length t) h.executors in
       record {

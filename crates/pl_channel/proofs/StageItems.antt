@@ -3,16 +3,16 @@ use Rattle.std.proofs.Common.{◌≡◌, ℕ, ◌+◌, ◌≤◌, Bool, true, fa
 use Rattle.std.specs.List.{slice_get, flat_map}
 use Rattle.std.proofs.lemmas.List.{take_more, take_all, take-append-drop}
 use Rattle.std.proofs.lemmas.Option.{slice_get_within, get_or_from_slice_get}
-use Rattle.std.proofs.lemmas.Bool.{lt-ltb, le-ltb, ltb-true, le-leb, lt-leb, or_cases, or_left, or_right}
+use Rattle.std.proofs.lemmas.Bool.{lt-ltb, le-ltb, ltb-true, lt-leb, or_cases, or_left, or_right}
 use Rattle.std.proofs.lemmas.Grind.{flat_map-append}
 use Rattle.pl_event.specs.declared.events.Event.{Event}
 use Rattle.pl_event.specs.Meaning.{Meaning, IsLawful, up_of, down_of, made_after, made-push, made_after-append}
-use Rattle.pl_event.specs.Inputs.{read_steps, input_after, recorded_input}
-use Rattle.pl_event.proofs.LaneLemmas.{input_after-all}
+use Rattle.pl_event.specs.Inputs.{read_steps, input_after}
+use Rattle.pl_event.proofs.Lists.{take-prefix}
 use Rattle.pl_head.specs.ReadSteps.{read_items}
 use Rattle.pl_world.specs.Plans.{ChannelPlan}
 use Rattle.pl_channel.specs.MadeItems.{has_end, one_if, up_items, down_items}
-use Rattle.pl_channel.proofs.Items.{take-prefix, stays_ended-prefix}
+use Rattle.pl_channel.proofs.Items.{stays_ended-prefix}
 
 -- an element more of those taken
 pub one_more : {A : Type 0} (xs : List A) (n : ℕ) (x : A) → slice_get xs n ≡ Some x → take (n + 1) xs ≡ take n xs ++ x ∷ []
@@ -46,13 +46,6 @@ module _ (m : Meaning) (events : List Event) where
       let now = ap one_if (before_end events (length events) (omega arith)) in
       let next = ap one_if (at_end events) in
       omega (arith, all, past, now, next)
-
-  -- once the end was taken all is made, and the end behind it
-  pub up_items-ended : (n : ℕ) → has_end events n ≡ true → up_items m events n ≡ length (up_of m events) + 1
-  up_items-ended n ended =
-      let past = ltb-true (length events) n ended in
-      let all = ap (λ (xs : List Event). length (up_of m xs)) (take_all n events (omega (arith, past))) in
-      omega (arith, all, ap one_if ended)
 
 -- ---- downwards
 
@@ -135,9 +128,3 @@ module _ (p : ChannelPlan) where
       ∙ length-append (input_after n p.bursts) step in
       let now = ap one_if (lt-leb (length (read_steps p.bursts)) n within) in
       omega (arith, brought, now)
-
-  -- all of them bring all, and the end
-  pub read_items-all : (n : ℕ) → length (read_steps p.bursts) ≤ n → read_items p.bursts n ≡ length (recorded_input p.bursts) + 1
-  read_items-all n all =
-      let whole = ap (λ (xs : List Event). length xs) (input_after-all n p.bursts all) in
-      omega (arith, whole, ap one_if (le-leb (length (read_steps p.bursts)) n all))

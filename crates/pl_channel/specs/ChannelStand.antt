@@ -2,6 +2,7 @@
 use Rattle.std.specs.Prelude.{◌≡◌, ℕ, ◌+◌, ◌≤◌, List, length, map, take, get_or, Bool, true, false}
 use Rattle.pl_event.specs.declared.events.Event.{Event}
 use Rattle.pl_event.specs.Meaning.{Meaning}
+use Rattle.pl_build.specs.declared.limits.TheConstants.{MAX_HANDLERS}
 use Rattle.pl_head.specs.Transports.{TransportState}
 use Rattle.pl_world.specs.declared.report.ChannelReport.{ChannelReport}
 use Rattle.pl_world.specs.declared.report.Stands.TheVariants as stands
@@ -29,7 +30,7 @@ module _ {S T : Type 0} (meaning : S → Meaning) (state : T → TransportState)
   -- Each hop has an executor, there are few, and the channel knows where its turn stands.
   pub record IsPlaced (c : PlacedChannel S T) : Type 0 where
     pub hops : length c.executors.items ≡ head_hop (channel_plan meaning state c) + 1
-    pub few : length c.executors.items ≤ 34
+    pub few : length c.executors.items ≤ MAX_HANDLERS + 2
     pub turn : c.turn ≡ turn_hop (channel_plan meaning state c)
 
 -- It stands at these numbers.

@@ -4,6 +4,7 @@ ghost use Rattle.std.specs.Prelude.{◌≡◌, ℕ, ◌+◌, ◌≤◌, ◌⊎�
 ghost use Rattle.pl_event.specs.declared.events.Event.{Event};
 ghost use Rattle.pl_event.specs.Meaning.{Meaning};
 ghost use Rattle.pl_event.specs.Paths.{is_outbound};
+ghost use Rattle.pl_build.specs.declared.limits.TheConstants.{MAX_HANDLERS};
 ghost use Rattle.pl_context.specs.declared.standing.Took.TheVariants as took;
 ghost use Rattle.pl_context.specs.OutputsViews.{Appends};
 ghost use Rattle.pl_context.specs.ContextViews.{ContextView, IsHop};
@@ -44,7 +45,7 @@ impl<S: Stage, T: Transport> Nodes<S, T> {
         outbound: Vec<S>,
         head: Head<T>,
     ) -> Result<Self, AllocError>
-        requires few { length inbound.items + length outbound.items ≤ 32 }
+        requires few { length inbound.items + length outbound.items ≤ MAX_HANDLERS }
         requires new_inbound { All (λ stage. S.stands_after stage []) inbound.items }
         requires new_outbound { All (λ stage. S.stands_after stage []) outbound.items }
         requires upwards { All (λ stage. is_outbound (S.meaning stage).direction ≡ false) inbound.items }
@@ -62,7 +63,8 @@ impl<S: Stage, T: Transport> Nodes<S, T> {
         })
     }
 
-    /// What the envelope's lane enters takes it. An `Err` says that something failed for want of memory.
+    /// What the envelope's lane enters takes it. An `Err` says that something ran out of memory, and promises nothing of
+    /// the nodes and the work list.
     pub fn take(&mut self, envelope: Envelope, work: &mut Outputs) -> Result<(), AllocError>
         requires next { (p : ChannelPlan) × (s : ChannelState) × IsNext S.meaning S.stands_after T.state p s envelope self.old }
         requires places { IsUnstopped 2 work.old.stopped }
@@ -98,7 +100,7 @@ fn contexts<S: Stage>(
 ) -> Result<Vec<Context<S>>, AllocError>
     requires fresh { All (λ stage. S.stands_after stage []) stages.items }
     requires hops { (i : ℕ) (stage : S) → slice_get stages.items i ≡ Some stage → IsHop (S.meaning stage).direction (first_hop + i) k }
-    requires within { first_hop + length stages.items ≤ 33 }
+    requires within { first_hop + length stages.items ≤ MAX_HANDLERS + 1 }
     ensures meant { IfOk result (λ contexts. map (λ c. S.meaning c.stage) contexts.items ≡ map S.meaning stages.items) }
     ensures stand { IfOk result (λ contexts. (i : ℕ) (c : ContextView S) (events : List Event) → slice_get contexts.items i ≡ Some c →
         ContextStands S.meaning S.stands_after channel (first_hop + i) k events (S.meaning c.stage) 0 0 c) }
@@ -139,6 +141,7 @@ fn take_at<S: Stage>(
     took(context.take(envelope, work))
 }
 
+/// A failure that was taken or made, or an item that was dropped, is an `Err`.
 fn took(answer: Took) -> Result<(), AllocError>
     ensures { OnOk result ((answer ≡ took.Ran) ⊎ (answer ≡ took.Ended)) }
 {

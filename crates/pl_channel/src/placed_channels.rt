@@ -1,9 +1,8 @@
 //! One channel of a net, placed on executors.
 
 ghost use Rattle.std.specs.Prelude.{◌≡◌, ℕ, ◌+◌, ◌-◌, ◌<◌, ◌≤◌, ◌^◌, get_or, vec_len, length, IfOk, OnOk};
-ghost use Rattle.std.specs.List.{position_or_len};
 ghost use Rattle.pl_event.specs.Inputs.{recorded_input};
-ghost use Rattle.pl_event.specs.Paths.{is_turn};
+ghost use Rattle.pl_build.specs.declared.limits.TheConstants.{MAX_HANDLERS};
 ghost use Rattle.pl_world.specs.Worlds.{IsUncalled};
 ghost use Rattle.pl_world.specs.Plans.{ChannelPlan, channel_planned, head_hop};
 ghost use Rattle.pl_channel.specs.MadeItems.{turn_hop};
@@ -14,8 +13,8 @@ ghost use Rattle.pl_channel.specs.HeadStand.{failure_by};
 use crate::nodes::Nodes;
 use pl_build::Placed;
 use pl_event::{Cause, Sequence, Stage};
-use pl_head::{Head, Transport};
-use pl_world::{ChannelReport, Recorded, Stands, place_of_turn};
+use pl_head::{Head, Transport, Written};
+use pl_world::{ChannelReport, Recorded, Stands};
 use std::alloc::{AllocError, Global};
 
 /// A channel: what its lanes enter, and the executor of each hop.
@@ -48,8 +47,8 @@ impl<S: Stage, T: Transport> PlacedChannel<S, T> {
         let hop = pipeline.inbound() + 1 + pipeline.outbound();
         let low = pipeline.low();
         let high = pipeline.high();
+        let turn = pipeline.turn() as usize;
         let (inbound, outbound) = pipeline.into_chains();
-        let turn = turn_hop(inbound.as_slice());
         let head = Head::new(alloc, number, hop, bursts, transport, low, high);
         Ok(PlacedChannel {
             nodes: Nodes::new(alloc, number, inbound, outbound, head)?,
@@ -82,7 +81,7 @@ impl<S: Stage, T: Transport> PlacedChannel<S, T> {
     }
 
     /// The executor that makes the items of a hop's lane: the channel's own reads, a stage's executor makes what the
-    /// stage does. The turn makes those of the first lane behind the tail's.
+    /// stage does. The turn makes those of the first lane after the tail's.
     pub fn origin(&self, hop: usize) -> usize
         requires placed { IsPlaced S.meaning T.state self.now }
         requires within { hop < vec_len self.now.executors }
@@ -115,7 +114,7 @@ impl<S: Stage, T: Transport> PlacedChannel<S, T> {
         }
     }
 
-    /// What became of it.
+    /// What became of it: a copy, and the channel goes on. An `Err` leaves it as it was.
     pub fn report(&self, alloc: Global) -> Result<ChannelReport, AllocError>
         ensures { IfOk result (λ report. (number : ℕ) (p : ChannelPlan) (s : ChannelState) → ChannelStands S.meaning S.stands_after T.state number p s self.now → report ≡ report_at p s) }
     {
@@ -129,6 +128,23 @@ impl<S: Stage, T: Transport> PlacedChannel<S, T> {
         })
     }
 
+    /// The same of a channel that is used no more: what its tail recorded and its transport accepted is moved.
+    pub fn into_report(self, alloc: Global) -> Result<ChannelReport, AllocError>
+        ensures { IfOk result (λ report. (number : ℕ) (p : ChannelPlan) (s : ChannelState) → ChannelStands S.meaning S.stands_after T.state number p s self → report ≡ report_at p s) }
+    {
+        let stands = self.stands();
+        let PlacedChannel { nodes, .. } = self;
+        let Nodes { tail, head, .. } = nodes;
+        let Written { bytes, outcomes } = head.into_written(alloc)?;
+        Ok(ChannelReport {
+            stands,
+            tail: tail.into_record(),
+            bytes,
+            writes: outcomes,
+        })
+    }
+
+    /// How it stands in a report.
     fn stands(&self) -> Stands
         ensures { (number : ℕ) (p : ChannelPlan) (s : ChannelState) → ChannelStands S.meaning S.stands_after T.state number p s self.now → result ≡ (report_at p s).stands }
     {
@@ -144,7 +160,7 @@ impl<S: Stage, T: Transport> PlacedChannel<S, T> {
 fn executors_of<S: Stage>(alloc: Global, pipeline: &Placed<S>) -> Result<Vec<u16>, AllocError>
     ensures executors { IfOk result (λ executors. executors.items ≡ pipeline.now.executors) }
     ensures hops { OnOk result (length pipeline.now.executors ≡ length pipeline.now.inbound + length pipeline.now.outbound + 2) }
-    ensures few { OnOk result (length pipeline.now.executors ≤ 34) }
+    ensures few { OnOk result (length pipeline.now.executors ≤ MAX_HANDLERS + 2) }
 {
     let hops = pipeline.inbound() + pipeline.outbound() + 2;
     let mut executors = Vec::with_capacity(alloc, hops as usize)?;
@@ -155,14 +171,4 @@ fn executors_of<S: Stage>(alloc: Global, pipeline: &Placed<S>) -> Result<Vec<u16
         }
     }
     Ok(executors)
-}
-
-/// Where the turn stands, or how many stages there are.
-fn turn_hop<S: Stage>(inbound: &[S]) -> usize
-    ensures { result ≡ position_or_len (λ stage. is_turn (S.meaning stage).direction) inbound.now }
-{
-    match place_of_turn(inbound) {
-        Some(hop) => hop,
-        None => inbound.len(),
-    }
 }

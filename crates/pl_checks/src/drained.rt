@@ -142,7 +142,7 @@ fn flush_never_comes(rt: HostRuntime) -> Result<(), Fail> {
     gives(&rt, text.as_str(), "R0x4 O0x4", report)
 }
 
-// The first reply leaves in three calls, and so does the second.
+/// The first reply leaves in three calls, and so does the second.
 #[test]
 fn watermarks(rt: HostRuntime) -> Result<(), Fail> {
     let text = sessions::watermarks(&rt)?;
@@ -154,7 +154,7 @@ fn watermarks(rt: HostRuntime) -> Result<(), Fail> {
 const TWO_BURSTS: &str =
     "channel 0 drained\ntail 5\nActive\nRead Ping\nReadComplete\nRead Ping\nReadComplete\nbytes 14 2b504f4e470d0a2b504f4e470d0a\nwrites 2\n0 Success\n1 Success\n";
 
-// The third read is held and passed over. What is not flushed holds nothing.
+/// The third read is held and passed over. What is not flushed holds nothing.
 #[test]
 fn burst_held(rt: HostRuntime) -> Result<(), Fail> {
     let text = sessions::burst_held(&rt)?;
@@ -181,7 +181,7 @@ const PINGED: &str =
 const ALL_IN_TURN: &str = "R2x3 R0x3 O2 T1 H2 R1x3 H0x8 T1x4 T2x4 H0x4 T1x4 H1x4 T0x4 H1x4 T0x4 \
     H1x4 T0x4 H1x4 T0x4 H2x4 T0x4 H2x4 T0x4 O0x2 O1 O2";
 
-// Whatever the group, and in whichever order the channels move; executors 0 to 2 are there.
+/// Whatever the group, and in whichever order the channels move; executors 0 to 2 are there.
 #[test]
 fn group_placing(rt: HostRuntime) -> Result<(), Fail> {
     let text = sessions::group_placing(&rt)?;
@@ -204,7 +204,7 @@ fn edits_in_any_order(rt: HostRuntime) -> Result<(), Fail> {
     gives(&rt, text.as_str(), "R0x3 O0", report.as_str())
 }
 
-// Each of four items goes to the decoder's executor and back.
+/// Each of four items goes to the decoder's executor and back.
 #[test]
 fn handover_drained(rt: HostRuntime) -> Result<(), Fail> {
     let report = format!(in rt.alloc(); "channel 0 {PINGED}")?;

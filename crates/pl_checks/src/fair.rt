@@ -3,9 +3,10 @@
 
 use crate::sessions;
 use pl_head::MemoryTransport;
-use pl_replay::{ChannelReport, Move, Net, Report, Session, Stands, plain};
+use pl_replay::Net;
 use pl_stages::Handler;
 use pl_text::read_session;
+use pl_world::{ChannelReport, Move, Report, Session, Stands, plain};
 use std::alloc::Global;
 use std::process::Abort;
 use std::test::Fail;
@@ -114,19 +115,20 @@ fn next_number(number: u64) -> u64 {
         .wrapping_add(1_442_695_040_888_963_407)
 }
 
-/// The flags of each channel, of which there are 16 at most, say in turn that it is not writable, and that it is writable
-/// again.
+/// The flags of each channel say in turn that it is not writable, and that it is writable again.
 fn assert_flags(rt: &impl Abort, net: &Net<Handler, MemoryTransport>, text: &str) {
-    for channel in 0..16 {
-        if let Some(flags) = net.flags(channel) {
-            for (place, is_writable) in flags.iter().enumerate() {
-                assert!(rt; *is_writable == (place % 2 == 1), "{text}");
-            }
+    for channel in 0..u16::MAX {
+        let Some(flags) = net.flags(channel) else {
+            break;
+        };
+        for (index, is_writable) in flags.iter().enumerate() {
+            assert!(rt; *is_writable == (index % 2 == 1), "{text}");
         }
     }
 }
 
-/// Makes so many random moves, and looks at the report and the flags after each; then each move in turn, which drains it.
+/// Makes a given number of random moves, and looks at the report and the flags after each; then each move in turn, which
+/// drains it.
 fn assert_keeps(
     rt: &impl Abort,
     alloc: Global,
@@ -140,8 +142,8 @@ fn assert_keeps(
     let mut number = seed;
     for _ in 0..count {
         number = next_number(number);
-        let place = (number >> 32) % moves.len() as u64;
-        net.apply(moves[place as usize])?;
+        let index = (number >> 32) % moves.len() as u64;
+        net.apply(moves[index as usize])?;
         assert_begins(rt, &net.report()?, whole, text);
         assert_flags(rt, &net, text);
     }
@@ -152,15 +154,15 @@ fn assert_keeps(
     Ok(())
 }
 
-/// Each channel, of which there are 16 at most, is writable: as many flags say so as say the contrary. It answers
-/// whether there are any.
+/// Each channel is writable: as many flags say so as say the contrary. It answers whether there are any.
 fn assert_writable(rt: &impl Abort, net: &Net<Handler, MemoryTransport>, text: &str) -> bool {
     let mut has_flags = false;
-    for channel in 0..16 {
-        if let Some(flags) = net.flags(channel) {
-            assert!(rt; flags.len() % 2 == 0, "{text}");
-            has_flags |= !flags.is_empty();
-        }
+    for channel in 0..u16::MAX {
+        let Some(flags) = net.flags(channel) else {
+            break;
+        };
+        assert!(rt; flags.len() % 2 == 0, "{text}");
+        has_flags |= !flags.is_empty();
     }
     has_flags
 }

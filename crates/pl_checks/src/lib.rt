@@ -1,10 +1,13 @@
-//! Tests of the whole way, from session text to report text: the worked sessions, by their names.
+//! Tests of the whole way, from session text to report text: the worked sessions, by their names, and the program on
+//! any words and streams.
 #![tactic(auto)]
 
 #[cfg(test)]
 mod drained;
 #[cfg(test)]
 mod fair;
+#[cfg(test)]
+mod program;
 #[cfg(test)]
 mod refused;
 #[cfg(test)]
@@ -13,3 +16,5 @@ mod running;
 mod schedules;
 #[cfg(test)]
 mod sessions;
+#[cfg(test)]
+mod streams;

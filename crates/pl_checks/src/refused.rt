@@ -27,7 +27,7 @@ fn refused_sessions(rt: HostRuntime) -> Result<(), Fail> {
     Ok(())
 }
 
-/// A session with these groups, and of one channel these marks and these edits behind the line protocol.
+/// A session with these groups, and of one channel these marks and these edits after the line protocol.
 fn built(rt: &HostRuntime, groups: &str, marks: &str, more: &str) -> Result<String, AllocError> {
     let edits = line_protocol(rt, 64)?;
     format!(in rt.alloc();
@@ -102,7 +102,7 @@ fn group_refusals(rt: HostRuntime) -> Result<(), Fail> {
     Ok(())
 }
 
-// A channel or an executor that is not there refuses the whole replay, wherever it is named.
+/// A channel or an executor that is not there refuses the whole replay, wherever it is named.
 #[test]
 fn refused_moves(rt: HostRuntime) -> Result<(), Fail> {
     let text = line_session(&rt, PING)?;
@@ -112,7 +112,7 @@ fn refused_moves(rt: HostRuntime) -> Result<(), Fail> {
     Ok(())
 }
 
-// Executors 0 and 1 are there.
+/// Executors 0 and 1 are there.
 #[test]
 fn no_such_executor(rt: HostRuntime) -> Result<(), Fail> {
     refuses(&rt, DECODER_APART, "T2", 2, "replay refused: 1 NoSuch\n")

@@ -16,7 +16,7 @@ fn leaves_open(rt: &HostRuntime, moves: &str, report: &str) -> Result<(), Fail> 
     leaves(rt, text.as_str(), moves, report)
 }
 
-// The write is not enabled before the read.
+/// The write is not enabled before the read.
 #[test]
 fn out_before_read(rt: HostRuntime) -> Result<(), Fail> {
     leaves_open(
@@ -26,7 +26,7 @@ fn out_before_read(rt: HostRuntime) -> Result<(), Fail> {
     )
 }
 
-// No moves, and moves that are never enabled while one executor runs all handlers.
+/// No moves, and moves that are never enabled while one executor runs all handlers.
 #[test]
 fn nothing_moves(rt: HostRuntime) -> Result<(), Fail> {
     for moves in ["", "T0 H0", "O0x4 T0x2"] {
@@ -35,7 +35,7 @@ fn nothing_moves(rt: HostRuntime) -> Result<(), Fail> {
     Ok(())
 }
 
-// All bytes have left, and the end was not read.
+/// All bytes have left, and the end was not read.
 #[test]
 fn written_before_the_end(rt: HostRuntime) -> Result<(), Fail> {
     leaves_open(
@@ -45,7 +45,7 @@ fn written_before_the_end(rt: HostRuntime) -> Result<(), Fail> {
     )
 }
 
-// The second hand-over finds the queue full and is passed over.
+/// The second hand-over finds the queue full and is passed over.
 #[test]
 fn full_queue_of_one(rt: HostRuntime) -> Result<(), Fail> {
     leaves(
@@ -56,7 +56,7 @@ fn full_queue_of_one(rt: HostRuntime) -> Result<(), Fail> {
     )
 }
 
-// All four items went to the decoder and back, and nothing was written.
+/// All four items went to the decoder and back, and nothing was written.
 #[test]
 fn handover_open(rt: HostRuntime) -> Result<(), Fail> {
     leaves(
@@ -67,7 +67,7 @@ fn handover_open(rt: HostRuntime) -> Result<(), Fail> {
     )
 }
 
-// Six calls of the transport are needed, and there are five: a part of the second reply has left.
+/// Six calls of the transport are needed, and there are five: a part of the second reply has left.
 #[test]
 fn part_of_a_reply(rt: HostRuntime) -> Result<(), Fail> {
     let text = watermarks(&rt)?;
@@ -79,7 +79,7 @@ fn part_of_a_reply(rt: HostRuntime) -> Result<(), Fail> {
     )
 }
 
-// However often a held burst is to be read, it is not.
+/// However often a held burst is to be read, it is not.
 #[test]
 fn burst_stays_held(rt: HostRuntime) -> Result<(), Fail> {
     let text = burst_held(&rt)?;

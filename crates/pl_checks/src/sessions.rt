@@ -63,7 +63,7 @@ pub(crate) fn piped(rt: &HostRuntime, edits: &str, bursts: &str) -> Result<Strin
     marked(rt, edits, "", bursts)
 }
 
-/// The same with marks and a window: members of the channel, each behind a comma.
+/// The same with marks and a window: members of the channel, each after a comma.
 fn marked(rt: &HostRuntime, edits: &str, marks: &str, bursts: &str) -> Result<String, AllocError> {
     format!(in rt.alloc();
         "{{\"version\":1,\"capacity\":4,\"loops\":1,\"channels\":[{{\"handlers\":[{edits}]{marks},\"bursts\":{bursts}}}]}}\n"
@@ -90,11 +90,11 @@ pub(crate) fn encoder_behind_turn(rt: &HostRuntime) -> Result<String, AllocError
     )
 }
 
-/// The line protocol behind a handler that lets each second flush pass.
+/// The line protocol after a handler that lets each second flush pass.
 fn every_second_flush(rt: &HostRuntime) -> Result<String, AllocError> {
-    let behind = line_protocol(rt, 64)?;
+    let rest = line_protocol(rt, 64)?;
     format!(in rt.alloc();
-        "{{\"op\":\"last\",\"name\":\"flush_every\",\"kind\":\"flush_every\",\"n\":2}},\n{behind}"
+        "{{\"op\":\"last\",\"name\":\"flush_every\",\"kind\":\"flush_every\",\"n\":2}},\n{rest}"
     )
 }
 
@@ -159,7 +159,7 @@ pub(crate) fn group_placing(rt: &HostRuntime) -> Result<String, AllocError> {
     )
 }
 
-/// A ping whose decoder has an executor of its own, behind queues of one item.
+/// A ping whose decoder has an executor of its own, with queues of one item.
 pub(crate) const DECODER_APART: &str =
     r#"{"version":1,"capacity":1,"loops":1,"groups":[{"name":"a","size":1}],"channels":[{"handlers":[
 {"op":"last","name":"lines","kind":"lines","max":64},

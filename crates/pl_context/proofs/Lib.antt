@@ -2,4 +2,3 @@ pub mod ListEdits
 pub mod Places
 pub mod PortLemmas
 pub mod ContextLemmas
-pub mod SampleLemmas

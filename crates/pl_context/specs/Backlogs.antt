@@ -8,7 +8,7 @@ use Rattle.pl_context.specs.declared.added.Added.TheVariants.{Last, Refused, Dis
 use Rattle.pl_context.specs.Stops.{StopsView, has_stopped}
 use Rattle.pl_context.specs.OutputsViews.{added_items, stopped_after}
 
--- Envelopes with their tokens, the oldest first. So many more find room without a growth, beside the reserved places.
+-- Envelopes with their tokens, the oldest first. There is room for `room` more without a growth, beside the reserved places.
 pub record BacklogView (A : Type 0) : Type 0 where
   pub items : List (Envelope × A)
   pub stopped : StopsView

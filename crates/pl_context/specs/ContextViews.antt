@@ -6,6 +6,7 @@ use Rattle.pl_event.specs.declared.envelopes.Kind.TheVariants.{Data, Flags}
 use Rattle.pl_event.specs.declared.envelopes.Lane.{Lane}
 use Rattle.pl_event.specs.declared.stages.Direction.{Direction}
 use Rattle.pl_event.specs.declared.stages.Direction.TheVariants.{Inbound, Outbound, Turn}
+use Rattle.pl_context.specs.declared.contexts.TheConstants.{MAX_HANDLERS}
 use Rattle.pl_context.specs.declared.ports.Port.{Port}
 use Rattle.pl_context.specs.declared.standing.Standing.{Standing}
 use Rattle.pl_context.specs.declared.standing.Standing.TheVariants as stands
@@ -24,12 +25,12 @@ pub record ContextView (S : Type 0) : Type 0 where
   pub down : Port
   pub flags : Port
 
--- With k inbound handlers, the turn among them, hops below k enter those, hop k the tail, and the hops behind it the
+-- With k inbound handlers, the turn among them, hops below k enter those, hop k the tail, and the hops after it the
 -- outbound handlers.
 abbrev pub IsHop : Direction → ℕ → ℕ → Type 0
-IsHop Inbound hop k = (hop < k) × (k ≤ 32)
-IsHop Turn hop k = (hop < k) × (k ≤ 32)
-IsHop Outbound hop k = (k < hop) × (hop ≤ 32)
+IsHop Inbound hop k = (hop < k) × (k ≤ MAX_HANDLERS)
+IsHop Turn hop k = (hop < k) × (k ≤ MAX_HANDLERS)
+IsHop Outbound hop k = (k < hop) × (hop ≤ MAX_HANDLERS)
 
 -- whether a stage of this direction has a lane upwards, and one downwards
 abbrev pub has_up : Direction → Bool
@@ -42,7 +43,7 @@ has_down Inbound = false
 has_down Turn = true
 has_down Outbound = true
 
--- the hop of its lane downwards: the turn begins at the first hop behind the tail
+-- the hop of its lane downwards: the turn begins at the first hop after the tail
 abbrev pub down_hop : Direction → ℕ → ℕ → ℕ
 down_hop Inbound hop k = hop + 1
 down_hop Turn hop k = k + 1
@@ -107,7 +108,7 @@ one_of Data Flags = 0
 one_of Flags Data = 0
 one_of Flags Flags = 1
 
--- The numbers that a lane was given stay in their bounds, so many flags went on at most as came, and the buffers are
+-- The numbers that a lane was given stay in their bounds, no more flags went on than came, and the buffers are
 -- empty.
 pub record IsContext (taken flags_taken : ℕ) (up down flags : Port) (up_events down_events : List Event) : Type 0 where
   pub above : up.is_open ≡ true → up.made ≤ 2 ^ 31

@@ -78,7 +78,7 @@ pub record Closes {S : Type 0} (standing : Standing) (c : ContextView S) (before
   pub out : PutsAll before (offers c.up c.down (last_item standing ∷ []) (last_item standing ∷ [])) after
 
 module _ {S : Type 0} (meaning : S → Meaning) (stands_after : S → List Event → Type 0) (is_spent : S → Bool) where
-  -- An event failed its context for want of memory: the stage met a fault, or there was not room for what it makes.
+  -- An event failed its context, out of memory: the stage met a fault, or there was not room for what it makes.
   pub record RunsOut (c : ContextView S) (x : Event) (before : OutputsView) (c' : ContextView S) (after : OutputsView) : Type 0 where
     pub closes : Closes (stands.Failed Memory) (record c { stage = c'.stage }) before c' after
     pub why : is_spent c'.stage ≡ false → (xs : List Event) → stands_after c.stage xs →

@@ -6,4 +6,3 @@ pub mod ContextViews
 pub mod Contexts
 pub mod TailViews
 pub mod Backlogs
-pub mod Samples

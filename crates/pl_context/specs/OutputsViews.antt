@@ -10,13 +10,13 @@ use Rattle.pl_context.specs.declared.added.Added.{Added}
 use Rattle.pl_context.specs.declared.added.Added.TheVariants.{Last, Refused, Discarded}
 use Rattle.pl_context.specs.Stops.{StopsView, has_stopped, with_stop}
 
--- A list of envelopes, the front first. So many more find room without a growth, beside the reserved places.
+-- A list of envelopes, the front first. There is room for `room` more without a growth, beside the reserved places.
 pub record OutputsView : Type 0 where
   pub items : List Envelope
   pub stopped : StopsView
   pub room : ℕ
 
--- a failure that takes the place of an item: for want of memory, or the failure that the item is
+-- a failure that takes the place of an item: out of memory, or the failure that the item is
 abbrev pub failure_of : Item → Item
 failure_of (item.Event event) = item.Fail Memory
 failure_of item.End = item.Fail Memory
@@ -52,7 +52,7 @@ abbrev pub PutsAll : OutputsView → List Envelope → OutputsView → Type 0
 PutsAll before [] after = (after.items ≡ before.items) × (after.stopped ≡ before.stopped) × (before.room ≤ after.room)
 PutsAll before (e ∷ es) after = (answer : Added) × (mid : OutputsView) × Puts before e answer mid × PutsAll mid es after
 
--- These envelopes stand behind the others, and no lane has stopped.
+-- These envelopes stand after the others, and no lane has stopped.
 pub record Appends (before : OutputsView) (es : List Envelope) (after : OutputsView) : Type 0 where
   pub items : after.items ≡ before.items ++ es
   pub stopped : after.stopped ≡ before.stopped

@@ -31,7 +31,7 @@ with_stop s lane =
 abbrev pub AreAmong : List Lane → List Lane → Type 0
 AreAmong some lanes = (lane : Lane) → list_any (same_hop lane) some ≡ true → list_any (same_hop lane) lanes ≡ true
 
--- There are places for these lanes: a list of at most so many hops has them, and those that have stopped.
+-- There are places for these lanes: a list of at most `places` hops has them, and those that have stopped.
 pub record HasPlaces (s : StopsView) (lanes : List Lane) : Type 0 where
   pub hops : List Lane
   pub few : length hops ≤ s.places

@@ -55,7 +55,7 @@ abbrev pub counted : Kind → TailView → TailView
 counted Data t = record t { taken = t.taken + 1 }
 counted Flags t = record t { flags_taken = t.flags_taken + 1 }
 
--- An open tail records an event, or fails where a growth is refused.
+-- An open tail records an event, or fails where memory runs out.
 abbrev pub RecordsEvent : TailView → Event → Took → TailView → Type 0
 RecordsEvent t x took.Ran t' = t' ≡ record t { events = t.events ++ x ∷ [] }
 RecordsEvent t x (took.Failed cause) t' = (cause ≡ Memory) × (t' ≡ record t { standing = stands.Failed Memory })
@@ -69,7 +69,7 @@ RecordsItem t item.End answer t' = (answer ≡ took.Ended) × (t' ≡ record t {
 RecordsItem t (item.Fail cause) answer t' = (answer ≡ took.Failed cause) × (t' ≡ record t { standing = stands.Failed cause })
 RecordsItem t (item.Flag value) answer t' = (answer ≡ took.Ran) × (t' ≡ t)
 
--- A flag is recorded until a growth is refused for one, and none from then on.
+-- A flag is recorded until memory runs out for one, and none from then on.
 pub record RecordsFlag (t : TailView) (value : Bool) (t' : TailView) : Type 0 where
   pub goes_on : t.flags_stopped ≡ false → (t' ≡ record t { flags = t.flags ++ value ∷ [] }) ⊎ (t' ≡ record t { flags_stopped = true })
   pub stopped : t.flags_stopped ≡ true → t' ≡ t

@@ -5,7 +5,7 @@
 pub enum Added {
     /// It is the last of the list.
     Last,
-    /// A growth was refused. A failure of its lane stands in its place, or nothing in place of a flag, and the lane has
+    /// Memory ran out. A failure of its lane stands in its place, or nothing in place of a flag, and the lane has
     /// stopped.
     Refused,
     /// Its lane had stopped.

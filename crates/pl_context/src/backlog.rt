@@ -1,3 +1,5 @@
+//! Envelopes that wait for another executor.
+
 ghost use Rattle.std.specs.Prelude.{◌≡◌, ◌+◌, ◌<◌, ◌≤◌, ◌∷◌, ◌++◌, [], length, IfOk, IfSome, IfNone, OnSome, Some, slice_get, insert, remove, ◌==◌};
 ghost use Rattle.pl_context.specs.Stops.{HasPlaces, no_stops, any_stopped};
 ghost use Rattle.pl_context.specs.Backlogs.{Adds};
@@ -42,6 +44,7 @@ impl<A> Backlog<A> {
         Ok(Backlog { entries, stops })
     }
 
+    /// Whether no envelope waits.
     pub fn is_empty(&self) -> bool
         ensures { result ≡ (length self.now.items == 0) }
     {
@@ -56,7 +59,7 @@ impl<A> Backlog<A> {
         self.entries.front()
     }
 
-    /// Whether a lane has stopped: a growth was refused for an item of it, and what it brings later is discarded.
+    /// Whether a lane has stopped: memory ran out for an item of it, and what it brings later is discarded.
     pub fn has_stopped(&self) -> bool
         ensures { result ≡ any_stopped self.now.stopped }
     {
@@ -89,7 +92,7 @@ impl<A> Backlog<A> {
         }
     }
 
-    /// Takes the envelope at a place out, counted from the oldest, or None past the last. It takes no memory.
+    /// Takes out the envelope at a position, counted from the oldest: None past the last. It takes no memory.
     pub fn take_at(&mut self, place: usize) -> Option<(Envelope, A)>
         ensures at { IfSome result (λ entry. slice_get self.old.items place ≡ Some entry) }
         ensures taken { OnSome result (self.new.items ≡ remove self.old.items place) }
@@ -102,7 +105,7 @@ impl<A> Backlog<A> {
         self.entries.remove(place)
     }
 
-    /// Puts an envelope back at the place from which `take_at` took it. It takes no memory.
+    /// Puts an envelope back at the position from which `take_at` took it. It takes no memory.
     pub fn put_back(&mut self, place: usize, envelope: Envelope, token: A)
         requires place { place ≤ length self.old.items }
         requires room { 0 < self.old.room }

@@ -1,3 +1,5 @@
+//! A stage at its place in a channel.
+
 ghost use Rattle.std.specs.Prelude.{◌≡◌, ◌+◌, ◌<◌, ◌≤◌, ◌^◌, ◌∷◌, ◌++◌, List, [], length, OnOk, OnErr, IsErr, true, false};
 ghost use Rattle.pl_event.specs.declared.events.Event.{Event};
 ghost use Rattle.pl_event.specs.declared.envelopes.Kind.{Kind};
@@ -9,16 +11,19 @@ ghost use Rattle.pl_context.specs.declared.standing.Took.TheVariants as took;
 ghost use Rattle.pl_context.specs.Stops.{HasPlaces};
 ghost use Rattle.pl_context.specs.OutputsViews.{Appends};
 ghost use Rattle.pl_context.specs.Ports.{end_after, as_items, port_after, put_out};
-ghost use Rattle.pl_context.specs.ContextViews.{IsHop, SamePlace, new_context, new_port, has_up, has_down, down_hop, Enters, kind_taken, one_of, taken_of, number_limit, open_lanes};
+ghost use Rattle.pl_context.specs.ContextViews.{IsHop, SamePlace, new_context, has_up, has_down, down_hop, Enters, kind_taken, one_of, taken_of, number_limit, open_lanes};
 ghost use Rattle.pl_context.specs.Standings.{is_over, has_failed};
 ghost use Rattle.pl_context.specs.Contexts.{StandsAfter, MakesFew, Runs, Closes, TakesEvent, TakesItem, TakesFlag, counted, offers, ups, downs, last_item, IsSmall};
 
 use crate::outputs::Outputs;
 use crate::ports::Port;
-use crate::standing::{Standing, Took, has_failed, is_over};
+use crate::standing::{Standing, Took};
 use pl_event::{Cause, Direction, Envelope, Event, Item, Kind, Lane, Stage, StageFault, Turned};
 use std::alloc::Global;
 use std::marker::Model;
+
+/// A pipeline has at most this many handlers: the hops of its lanes go up to one more, which is the head's.
+pub const MAX_HANDLERS: u16 = 32;
 
 /// A stage at its place in a channel (Netty's `ChannelHandlerContext`).
 ///
@@ -28,16 +33,16 @@ use std::marker::Model;
 #[derive(Drop)]
 pub struct Context<S: Stage> {
     stage: S,
-    pub(crate) channel: u16,
-    pub(crate) hop: u16,
+    channel: u16,
+    hop: u16,
     /// Of the data lane.
     taken: u64,
     flags_taken: u64,
     standing: Standing,
     /// `fail` was called while it was open.
     failed_by_call: bool,
-    pub(crate) up: Port,
-    pub(crate) down: Port,
+    up: Port,
+    down: Port,
     flags: Port,
     /// What the stage makes of one event. Empty between two calls.
     up_events: Vec<Event>,
@@ -72,9 +77,9 @@ impl<S: Stage> Context<S> {
             flags_taken: 0,
             standing: Standing::Open,
             failed_by_call: false,
-            up: new_port(channel, Kind::Data, hop + 1, has_up(direction)),
-            down: new_port(channel, Kind::Data, below, has_down(direction)),
-            flags: new_port(channel, Kind::Flags, hop + 1, has_up(direction)),
+            up: Port::new(channel, Kind::Data, hop + 1, has_up(direction)),
+            down: Port::new(channel, Kind::Data, below, has_down(direction)),
+            flags: Port::new(channel, Kind::Flags, hop + 1, has_up(direction)),
             up_events: Vec::new(alloc),
             down_events: Vec::new(alloc),
         }
@@ -131,7 +136,32 @@ impl<S: Stage> Context<S> {
     pub fn is_ended(&self) -> bool
         ensures { result ≡ is_over self.now.standing }
     {
-        is_over(self.standing)
+        self.standing.is_over()
+    }
+
+    /// The data lane that enters it. The flags lane of the same hop enters it too.
+    pub fn lane(&self) -> Lane
+        ensures { result ≡ record { channel = self.now.channel; kind = kind.Data; hop = self.now.hop } }
+    {
+        Lane {
+            channel: self.channel,
+            kind: Kind::Data,
+            hop: self.hop,
+        }
+    }
+
+    /// Its lane upwards: how many items were put on it, and whether it is open. An outbound context never has it open.
+    pub fn up(&self) -> Port
+        ensures { result ≡ self.now.up }
+    {
+        self.up
+    }
+
+    /// Its lane downwards. An inbound context never has it open.
+    pub fn down(&self) -> Port
+        ensures { result ≡ self.now.down }
+    {
+        self.down
     }
 
     /// How many items of a lane it has taken, those that were dropped among them: none of a lane that does not enter it.
@@ -148,6 +178,7 @@ impl<S: Stage> Context<S> {
         }
     }
 
+    /// Takes an item of the data lane.
     fn take_item(&mut self, item: Item, outputs: &mut Outputs) -> Took
         requires limit { self.old.taken < 2 ^ 31 }
         requires few { self.old.standing ≡ stands.Open → MakesFew S.meaning S.stands_after self.old item }
@@ -173,6 +204,7 @@ impl<S: Stage> Context<S> {
         }
     }
 
+    /// Takes an item of the flags lane.
     fn take_flag(&mut self, item: Item, outputs: &mut Outputs) -> Took
         requires limit { self.old.flags_taken < 2 ^ 32 }
         requires places { HasPlaces outputs.old.stopped (open_lanes self.old) }
@@ -181,7 +213,7 @@ impl<S: Stage> Context<S> {
         ensures dropped { has_failed self.old.standing ≡ true → (result ≡ took.Dropped) × (self.new ≡ counted kind.Flags self.old) × (outputs.new ≡ outputs.old) }
     {
         self.flags_taken += 1;
-        if has_failed(self.standing) {
+        if self.standing.has_failed() {
             return Took::Dropped;
         }
         match item {
@@ -191,6 +223,7 @@ impl<S: Stage> Context<S> {
         Took::Ran
     }
 
+    /// Takes an item of the data lane, while it is open.
     fn take_open(&mut self, item: Item, outputs: &mut Outputs) -> Took
         requires few { MakesFew S.meaning S.stands_after self.old item }
         requires places { HasPlaces outputs.old.stopped (open_lanes self.old) }
@@ -213,6 +246,7 @@ impl<S: Stage> Context<S> {
         }
     }
 
+    /// Runs an event, or fails where there is no memory for it.
     fn take_event(&mut self, event: Event, outputs: &mut Outputs) -> Took
         requires few { (xs : List Event) × IsSmall S.meaning S.stands_after self.old.stage self.old.up self.old.down xs event }
         requires places { HasPlaces outputs.old.stopped (open_lanes self.old) }
@@ -313,7 +347,7 @@ fn put_made(
     }
 }
 
-/// The last item of the lanes of a context that comes to stand so.
+/// The last item of the lanes of a context that has ended or failed.
 fn last_item(standing: Standing) -> Item
     ensures { result ≡ last_item standing }
 {
@@ -333,16 +367,7 @@ fn quits(turned: Turned) -> usize
     }
 }
 
-fn new_port(channel: u16, kind: Kind, hop: u16, is_open: bool) -> Port
-    ensures { result ≡ new_port channel kind hop is_open }
-{
-    Port {
-        lane: Lane { channel, kind, hop },
-        made: 0,
-        is_open,
-    }
-}
-
+/// Whether a stage of this direction has a lane upwards.
 fn has_up(direction: Direction) -> bool
     ensures { result ≡ has_up direction }
 {
@@ -352,6 +377,7 @@ fn has_up(direction: Direction) -> bool
     }
 }
 
+/// Whether a stage of this direction has a lane downwards.
 fn has_down(direction: Direction) -> bool
     ensures { result ≡ has_down direction }
 {
@@ -361,9 +387,9 @@ fn has_down(direction: Direction) -> bool
     }
 }
 
-/// The hop of a lane downwards: the turn begins at the first hop behind the tail.
+/// The hop of a lane downwards: the turn begins at the first hop after the tail.
 fn down_hop(direction: Direction, hop: u16, k: u16) -> u16
-    requires { (hop ≤ 32) × (k ≤ 32) }
+    requires { (hop ≤ MAX_HANDLERS) × (k ≤ MAX_HANDLERS) }
     ensures { result ≡ down_hop direction hop k }
 {
     match direction {

@@ -1,4 +1,4 @@
-//! Contexts: a stage at its place in a channel, the tail, and the lists on which envelopes wait for their turn.
+//! Contexts: a stage at its place in a channel, the tail, and the lists on which envelopes wait.
 #![tactic(auto)]
 
 mod added;
@@ -10,12 +10,10 @@ mod ports;
 mod standing;
 mod stops;
 mod tails;
-#[cfg(test)]
-mod tests;
 
 pub use added::Added;
 pub use backlog::Backlog;
-pub use contexts::Context;
+pub use contexts::{Context, MAX_HANDLERS};
 pub use outputs::Outputs;
 pub use place_laws::place_law;
 pub use ports::Port;

@@ -1,3 +1,5 @@
+//! The work list: envelopes that were put out, the oldest first.
+
 ghost use Rattle.std.specs.Prelude.{◌≡◌, ◌+◌, ◌<◌, ◌≤◌, ◌∷◌, ◌++◌, [], length, not, IfOk, OnOk, OnErr, IfNone, ◌==◌, ◌&&◌};
 ghost use Rattle.std.specs.Option.{option_to_list};
 ghost use Rattle.pl_context.specs.Stops.{HasPlaces, no_stops, any_stopped};
@@ -13,7 +15,7 @@ use std::marker::Model;
 /// The envelopes that contexts put out, first in first out: a work list.
 ///
 /// It has reserved places, one for each data lane that is ever put into it. Where it finds no memory for an item of a
-/// data lane, a failure for want of memory takes the item's number in the place of its lane, and what the lane brings
+/// data lane, a failure (out of memory) takes the item's number in the place of its lane, and what the lane brings
 /// later is discarded. A flag is discarded, and its lane stops.
 #[derive(Debug, Drop)]
 pub struct Outputs {
@@ -55,20 +57,21 @@ impl Outputs {
         self.envelopes.pop_front()
     }
 
+    /// Whether no envelope waits.
     pub fn is_empty(&self) -> bool
         ensures { result ≡ (length self.now.items == 0) }
     {
         self.envelopes.is_empty()
     }
 
-    /// Whether a lane has stopped: a growth was refused for an item of it, and what it brings later is discarded.
+    /// Whether a lane has stopped: memory ran out for an item of it, and what it brings later is discarded.
     pub fn has_stopped(&self) -> bool
         ensures { result ≡ any_stopped self.now.stopped }
     {
         self.stops.has_any()
     }
 
-    /// Makes room for so many envelopes, beside the reserved places. An `Err` changes nothing.
+    /// Makes room for a given number of envelopes, beside the reserved places. An `Err` changes nothing.
     pub fn reserve(&mut self, additional: usize) -> Result<(), AllocError>
         ensures items { self.new.items ≡ self.old.items }
         ensures stopped { self.new.stopped ≡ self.old.stopped }

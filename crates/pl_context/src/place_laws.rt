@@ -1,3 +1,5 @@
+//! That reserved places last.
+
 ghost use Rattle.std.specs.Prelude.{◌≤◌, ℕ, List, [], ◌∷◌, length, map};
 ghost use Rattle.pl_event.specs.declared.envelopes.Envelope.{Envelope};
 ghost use Rattle.pl_event.specs.declared.envelopes.Lane.{Lane};
@@ -5,7 +7,7 @@ ghost use Rattle.pl_context.specs.declared.added.Added.{Added};
 ghost use Rattle.pl_context.specs.Stops.{StopsView, HasPlaces, AreAmong, no_stops};
 ghost use Rattle.pl_context.specs.OutputsViews.{OutputsView, Puts, PutsAll};
 
-/// Reserved places last: a new list has one for each of so many lanes, and lanes that have places have them still
+/// Reserved places last: a new list has one for each lane, up to a given number, and lanes that have places have them still
 /// whatever is put on the list on those lanes.
 pub fn place_law()
     ensures start { (places : ℕ) (lanes : List Lane) → length lanes ≤ places → HasPlaces (no_stops places) lanes }

@@ -1,13 +1,16 @@
+//! The lanes that a context or a head writes.
+
 ghost use Rattle.std.specs.Prelude.{◌≡◌, ◌+◌, ◌<◌, ◌≤◌, ◌^◌, ◌∷◌, ◌++◌, [], length, true, false, if◌then◌else◌};
 ghost use Rattle.pl_event.specs.declared.envelopes.Item.TheVariants as item;
 ghost use Rattle.pl_event.specs.Fitting.{goes_on};
 ghost use Rattle.pl_context.specs.Stops.{HasPlaces};
 ghost use Rattle.pl_context.specs.OutputsViews.{PutsAll, Appends};
+ghost use Rattle.pl_context.specs.ContextViews.{new_port};
 ghost use Rattle.pl_context.specs.Ports.{as_items, offered, put_out, port_after, end_after, FlagPasses};
 
 use crate::added::Added;
 use crate::outputs::Outputs;
-use pl_event::{Envelope, Event, Item, Lane, Turned};
+use pl_event::{Envelope, Event, Item, Kind, Lane, Turned};
 
 /// Where a lane is written: how many items it has been given, and whether more may follow.
 ///
@@ -21,6 +24,17 @@ pub struct Port {
 }
 
 impl Port {
+    /// A lane that was given nothing yet.
+    pub fn new(channel: u16, kind: Kind, hop: u16, is_open: bool) -> Self
+        ensures { result ≡ new_port channel kind hop is_open }
+    {
+        Port {
+            lane: Lane { channel, kind, hop },
+            made: 0,
+            is_open,
+        }
+    }
+
     /// Gives the lane one item, unless it is closed.
     pub(crate) fn put(&mut self, item: Item, outputs: &mut Outputs)
         requires place { self.old.is_open ≡ true → HasPlaces outputs.old.stopped (self.old.lane ∷ []) }
@@ -85,10 +99,14 @@ impl Port {
     }
 
     /// Hands a flag on, unless the lane has stopped. It stops where a flag finds no place.
-    pub(crate) fn pass(&mut self, value: bool, outputs: &mut Outputs)
+    pub fn pass(&mut self, value: bool, outputs: &mut Outputs)
         requires place { self.old.is_open ≡ true → HasPlaces outputs.old.stopped (self.old.lane ∷ []) }
-        requires small { self.old.is_open ≡ true → self.old.made ≤ 2 ^ 40 }
-        ensures { FlagPasses self.old value outputs.old self.new outputs.new }
+        requires small { self.old.is_open ≡ true → self.old.made + 1 < 2 ^ 64 }
+        ensures passes { FlagPasses self.old value outputs.old self.new outputs.new }
+        ensures count { self.new.made < self.old.made + 2 }
+        ensures lane { self.new.lane ≡ self.old.lane }
+        ensures sent { self.new.is_open ≡ true → self.new.made ≡ self.old.made + 1 }
+        ensures open { self.new.is_open ≡ true → self.old.is_open ≡ true }
     {
         if !self.is_open {
             return;

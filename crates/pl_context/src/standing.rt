@@ -1,7 +1,7 @@
 //! How a context or the tail stands, and what it answers.
 
 ghost use Rattle.std.specs.Prelude.{◌≡◌};
-ghost use Rattle.pl_context.specs.Standings.{is_over, has_failed};
+ghost use Rattle.pl_context.specs.Standings.{is_over, has_failed, cause_of};
 
 use pl_event::Cause;
 
@@ -28,22 +28,34 @@ pub enum Took {
     Dropped,
 }
 
-/// Whether something that stands so has ended or failed.
-pub(crate) fn is_over(standing: Standing) -> bool
-    ensures { result ≡ is_over standing }
-{
-    match standing {
-        Standing::Open => false,
-        Standing::Ended | Standing::Failed(_) => true,
+impl Standing {
+    /// Whether it is an end or a failure.
+    pub fn is_over(self) -> bool
+        ensures { result ≡ is_over self }
+    {
+        match self {
+            Standing::Open => false,
+            Standing::Ended | Standing::Failed(_) => true,
+        }
     }
-}
 
-/// Whether something that stands so has failed.
-pub(crate) fn has_failed(standing: Standing) -> bool
-    ensures { result ≡ has_failed standing }
-{
-    match standing {
-        Standing::Open | Standing::Ended => false,
-        Standing::Failed(_) => true,
+    /// Whether it is a failure.
+    pub fn has_failed(self) -> bool
+        ensures { result ≡ has_failed self }
+    {
+        match self {
+            Standing::Open | Standing::Ended => false,
+            Standing::Failed(_) => true,
+        }
+    }
+
+    /// The cause of a failure, and None where it is not one.
+    pub fn cause(self) -> Option<Cause>
+        ensures { result ≡ cause_of self }
+    {
+        match self {
+            Standing::Open | Standing::Ended => None,
+            Standing::Failed(cause) => Some(cause),
+        }
     }
 }

@@ -1,3 +1,5 @@
+//! The lanes that have stopped on a list.
+
 ghost use Rattle.std.specs.Prelude.{◌≡◌, ◌+◌, ◌<◌, ◌≤◌, ◌==◌, ◌&&◌, ◌∷◌, ◌++◌, [], length, not, IfOk, true, false, vec_capacity};
 ghost use Rattle.std.specs.List.{list_any};
 ghost use Rattle.pl_event.specs.declared.envelopes.Kind.TheVariants as kind;
@@ -9,7 +11,7 @@ use std::marker::Model;
 
 /// The lanes that have stopped on a list of envelopes, and how many places are reserved for failures.
 ///
-/// Room for them is taken at the start, so noting one takes no memory. Nothing is noted until a growth is refused, so
+/// Room for them is taken at the start, so noting one takes no memory. Nothing is noted until memory runs out, so
 /// asking for a lane costs nothing until then.
 #[derive(Debug, Drop)]
 pub(crate) struct Stops {
@@ -30,6 +32,7 @@ impl Model for Stops {
 }
 
 impl Stops {
+    /// No lane has stopped.
     pub(crate) fn new(alloc: Global, places: u16) -> Result<Self, AllocError>
         ensures { IfOk result (λ s. s ≡ no_stops places) }
     {
@@ -60,7 +63,7 @@ impl Stops {
     /// How many reserved places are left.
     pub(crate) fn left(&self) -> usize
         ensures left { result + length self.now.lanes ≡ self.now.places }
-        ensures within { result ≤ 65535 }
+        ensures within { result ≤ u16.MAX }
     {
         self.places as usize - self.lanes.len()
     }
@@ -82,6 +85,7 @@ impl Stops {
     }
 }
 
+/// Whether a lane of the same hop is among these.
 fn holds(lanes: &[Lane], lane: Lane) -> bool
     ensures { result ≡ list_any (same_hop lane) lanes.now }
 {

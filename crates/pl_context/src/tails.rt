@@ -1,3 +1,5 @@
+//! The end of the inbound handlers of a channel.
+
 ghost use Rattle.std.specs.Prelude.{◌≡◌, ◌+◌, ◌<◌, ◌^◌, ◌∷◌, ◌++◌, [], Option, Some, None, true, false};
 ghost use Rattle.pl_event.specs.declared.envelopes.Kind.{Kind};
 ghost use Rattle.pl_event.specs.declared.envelopes.Kind.TheVariants as kind;
@@ -7,7 +9,7 @@ ghost use Rattle.pl_context.specs.Standings.{is_over, has_failed, cause_of};
 ghost use Rattle.pl_context.specs.ContextViews.{number_limit, one_of};
 ghost use Rattle.pl_context.specs.TailViews.{new_tail, EntersTail, kind_taken, taken_of, counted, RecordsItem, RecordsFlagItem, RecordsFlag, SamePlace};
 
-use crate::standing::{Standing, Took, has_failed, is_over};
+use crate::standing::{Standing, Took};
 use pl_event::{Cause, Envelope, Event, Item, Kind, Lane, Sequence};
 use std::alloc::Global;
 use std::marker::Model;
@@ -15,15 +17,15 @@ use std::marker::Model;
 /// The end of a channel's inbound handlers, which keeps a record of what comes to it.
 #[derive(Debug, Drop)]
 pub struct Tail {
-    pub(crate) channel: u16,
-    pub(crate) hop: u16,
+    channel: u16,
+    hop: u16,
     /// Of the data lane.
     taken: u64,
     flags_taken: u64,
     standing: Standing,
     events: Sequence<Event>,
     flags: Vec<bool>,
-    /// A growth was refused for a flag.
+    /// Memory ran out for a flag.
     flags_stopped: bool,
 }
 
@@ -55,7 +57,7 @@ impl Tail {
     }
 
     /// Takes the next item of one of its lanes. It answers as a context does: `Failed` where it is open and takes a
-    /// failure, or a growth is refused for an event.
+    /// failure, or there is no memory for an event.
     pub fn take(&mut self, envelope: Envelope) -> Took
         requires enters { EntersTail self.old envelope.lane }
         requires number { envelope.number ≡ kind_taken self.old envelope.lane.kind }
@@ -74,14 +76,14 @@ impl Tail {
         }
     }
 
-    /// The events that it took, until a growth for one was refused.
+    /// The events that it took, until memory ran out for one.
     pub fn record(&self) -> &[Event]
         ensures { result.now ≡ self.now.events }
     {
         self.events.as_slice()
     }
 
-    /// The flags that it took and did not drop, until a growth for one was refused.
+    /// The flags that it took and did not drop, until memory ran out for one.
     pub fn flags(&self) -> &[bool]
         ensures { result.now ≡ self.now.flags }
     {
@@ -100,16 +102,24 @@ impl Tail {
     pub fn is_ended(&self) -> bool
         ensures { result ≡ is_over self.now.standing }
     {
-        is_over(self.standing)
+        self.standing.is_over()
     }
 
     /// Why it has failed, or None.
     pub fn cause(&self) -> Option<Cause>
         ensures { result ≡ cause_of self.now.standing }
     {
-        match self.standing {
-            Standing::Open | Standing::Ended => None,
-            Standing::Failed(cause) => Some(cause),
+        self.standing.cause()
+    }
+
+    /// The data lane that enters it. The flags lane of the same hop enters it too.
+    pub fn lane(&self) -> Lane
+        ensures { result ≡ record { channel = self.now.channel; kind = kind.Data; hop = self.now.hop } }
+    {
+        Lane {
+            channel: self.channel,
+            kind: Kind::Data,
+            hop: self.hop,
         }
     }
 
@@ -127,6 +137,7 @@ impl Tail {
         }
     }
 
+    /// Takes an item of the data lane.
     fn take_item(&mut self, item: Item) -> Took
         requires { self.old.taken < 2 ^ 31 }
         ensures place { SamePlace (counted kind.Data self.old) self.new }
@@ -142,6 +153,7 @@ impl Tail {
         }
     }
 
+    /// Takes an item of the data lane, while it is open.
     fn take_open(&mut self, item: Item) -> Took
         ensures place { SamePlace self.old self.new }
         ensures takes { RecordsItem self.old item result self.new }
@@ -167,6 +179,7 @@ impl Tail {
         }
     }
 
+    /// Takes an item of the flags lane.
     fn take_flag(&mut self, item: Item) -> Took
         requires { self.old.flags_taken < 2 ^ 32 }
         ensures place { SamePlace (counted kind.Flags self.old) self.new }
@@ -174,7 +187,7 @@ impl Tail {
         ensures dropped { has_failed self.old.standing ≡ true → (result ≡ took.Dropped) × (self.new ≡ counted kind.Flags self.old) }
     {
         self.flags_taken += 1;
-        if has_failed(self.standing) {
+        if self.standing.has_failed() {
             return Took::Dropped;
         }
         match item {
@@ -184,6 +197,7 @@ impl Tail {
         Took::Ran
     }
 
+    /// Records a flag, unless memory has run out for one before.
     fn add_flag(&mut self, value: bool)
         ensures place { SamePlace self.old self.new }
         ensures flag { RecordsFlag self.old value self.new }

@@ -1,8 +1,9 @@
--- Lanes by their place, and lanes of a longer input.
-use Rattle.std.proofs.Common.{◌≡◌, ℕ, ◌+◌, ◌-◌, ◌<◌, ◌≤◌, Bool, true, false, ◌||◌, cond, List, [], ◌∷◌, ◌++◌, length, take, drop, map, sym, ap, ◌∙◌, refl, arith, leb, append-nil}
+-- Lanes by their hop, and lanes of a longer input.
+use Rattle.std.proofs.Common.{◌≡◌, ℕ, ◌+◌, ◌-◌, ◌<◌, ◌≤◌, Bool, true, false, cond, List, [], ◌∷◌, ◌++◌, length, take, drop, map, sym, ap, ◌∙◌, refl, arith, leb, append-nil}
 use Rattle.std.specs.List.{flat_map, list_any}
-use Rattle.std.proofs.lemmas.Bool.{le-leb, leb-true}
+use Rattle.std.proofs.lemmas.Bool.{le-leb, leb-true, or_parts}
 use Rattle.std.proofs.lemmas.List.{take_all, take-append-drop}
+use Rattle.std.proofs.lemmas.List.Folds.{flat_map-map}
 use Rattle.std.proofs.lemmas.Grind.{flat_map-append}
 use Rattle.pl_event.specs.declared.events.Event.{Event}
 use Rattle.pl_event.specs.declared.events.Event.TheVariants.{Active}
@@ -35,9 +36,9 @@ module _ (inbound out : List Meaning) (input : List Event) where
 
   pub head_lane-through : head_lane inbound out input ≡ out_through out (written inbound input)
   head_lane-through =
-      let places : length inbound + 1 + length out - length inbound - 1 ≡ length out = omega arith in
+      let count : length inbound + 1 + length out - length inbound - 1 ≡ length out = omega arith in
       lane-far (length inbound + 1 + length out) (omega arith)
-      ∙ ap (λ (ms : List Meaning). out_through ms (written inbound input)) (ap (λ (n : ℕ). take n out) places ∙ take_all (length out) out (omega arith))
+      ∙ ap (λ (ms : List Meaning). out_through ms (written inbound input)) (ap (λ (n : ℕ). take n out) count ∙ take_all (length out) out (omega arith))
 
 made-prefix : (f : List Event → Event → List Event) (xs ys : List Event) → IsPrefixOf xs ys → IsPrefixOf (made_after f [] xs) (made_after f [] ys)
 made-prefix f xs ys p =
@@ -78,14 +79,10 @@ lane-prefix inbound out hop xs ys p =
 abbrev whole : List Event → List Event
 whole step = step
 
-flat_map-map : (bursts : List (List (List ℕ))) → flat_map whole (map burst_events bursts) ≡ flat_map burst_events bursts
-flat_map-map [] = refl
-flat_map-map (b ∷ bs) = ap (λ (t : List Event). burst_events b ++ t) (flat_map-map bs)
-
 -- all read steps bring the recorded input
 pub read_steps-bring : (bursts : List (List (List ℕ))) → flat_map whole (read_steps bursts) ≡ recorded_input bursts
 read_steps-bring bursts =
-    ap (λ (t : List Event). Active ∷ t) (flat_map-append whole (map burst_events bursts) ([] ∷ []) ∙ append-nil (flat_map whole (map burst_events bursts)) ∙ flat_map-map bursts)
+    ap (λ (t : List Event). Active ∷ t) (flat_map-append whole (map burst_events bursts) ([] ∷ []) ∙ append-nil (flat_map whole (map burst_events bursts)) ∙ flat_map-map whole burst_events bursts)
 
 -- the first ones bring a prefix of it
 pub input_after-prefix : (n : ℕ) (bursts : List (List (List ℕ))) → IsPrefixOf (input_after n bursts) (recorded_input bursts)
@@ -101,15 +98,7 @@ input_after-all n bursts all = ap (flat_map whole) (take_all n (read_steps burst
 
 -- ---- the turn
 
-none-first : (b c : Bool) → (b || c) ≡ false → b ≡ false
-none-first true c h = cc
-none-first false c h = refl
-
-none-rest : (b c : Bool) → (b || c) ≡ false → c ≡ false
-none-rest true c h = cc
-none-rest false c h = h
-
--- what a handler that is no turn leaves to those behind it
+-- what a handler that is not the turn leaves to those after it
 passes : (d : Direction) (m : Meaning) (ms : List Meaning) (xs : List Event) → is_turn d ≡ false
     → (elim d [ Turn ↦ down_of m xs | Inbound ↦ written ms (up_of m xs) | Outbound ↦ written ms (up_of m xs) ]) ≡ written ms (up_of m xs)
 passes Inbound m ms xs h = refl
@@ -139,6 +128,6 @@ pub written-turn : (ms : List Meaning) (m : Meaning) (rest : List Meaning) (xs :
     → (written (ms ++ m ∷ rest) xs ≡ down_of m (through ms xs)) × (turn_ended (ms ++ m ∷ rest) xs ≡ m.ended (through ms xs))
 written-turn [] m rest xs none turn = (writes m.direction m rest xs turn, writes_end m.direction m rest xs turn)
 written-turn (k ∷ ms) m rest xs none turn =
-    let off = none-first (is_turn k.direction) (list_any (λ (n : Meaning). is_turn n.direction) ms) none in
-    let behind = written-turn ms m rest (up_of k xs) (none-rest (is_turn k.direction) (list_any (λ (n : Meaning). is_turn n.direction) ms) none) turn in
-    (passes k.direction k (ms ++ m ∷ rest) xs off ∙ behind.0, passes_end k.direction k (ms ++ m ∷ rest) xs off ∙ behind.1)
+    let off = or_parts (is_turn k.direction) (list_any (λ (n : Meaning). is_turn n.direction) ms) none in
+    let rest_of = written-turn ms m rest (up_of k xs) off.1 turn in
+    (passes k.direction k (ms ++ m ∷ rest) xs off.0 ∙ rest_of.0, passes_end k.direction k (ms ++ m ∷ rest) xs off.0 ∙ rest_of.1)

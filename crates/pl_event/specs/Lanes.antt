@@ -40,7 +40,7 @@ lane inbound out input hop =
 abbrev pub tail_lane : List Meaning → List Meaning → List Event → List Event
 tail_lane inbound out input = lane inbound out input (length inbound)
 
--- what reaches the head, which the last hop enters, behind all m outbound stages
+-- what reaches the head, which the last hop enters, after all outbound stages
 abbrev pub head_lane : List Meaning → List Meaning → List Event → List Event
 head_lane inbound out input = lane inbound out input (length inbound + 1 + length out)
 

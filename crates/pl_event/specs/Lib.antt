@@ -4,3 +4,4 @@ pub mod Inputs
 pub mod Paths
 pub mod Lanes
 pub mod Fitting
+pub mod Mappings

@@ -27,7 +27,7 @@ up_of m xs = made_after m.up [] xs
 abbrev pub down_of : Meaning → List Event → List Event
 down_of m xs = made_after m.down [] xs
 
--- what a step answers that leaves the events xs behind it
+-- what the step answers after which a stage stands after the events xs
 abbrev pub turned_after : Meaning → List Event → Turned
 turned_after m xs = if m.ended xs then Ended else Open
 

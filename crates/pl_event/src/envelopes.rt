@@ -29,11 +29,11 @@ pub enum Item {
     End,
     /// Nothing follows: the lane failed.
     Fail(Cause),
-    /// Whether the channel is writable. It stands on flags lanes alone.
+    /// Whether the channel is writable. Only flags lanes carry it.
     Flag(bool),
 }
 
-/// An item with its place on its lane.
+/// An item with its lane and its number there.
 #[derive(Clone, Debug, PartialEq, Eq, Drop)]
 pub struct Envelope {
     pub lane: Lane,

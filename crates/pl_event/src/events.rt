@@ -12,7 +12,7 @@ pub enum Event {
     Read(Message),
     /// The burst that brought the last reads is over: `channelReadComplete`.
     ReadComplete,
-    /// A handler met input that is no message: `exceptionCaught`.
+    /// A handler met input that is not a message: `exceptionCaught`.
     Caught(Caught),
     /// A message goes out: `write`.
     Write(Message),
@@ -61,7 +61,7 @@ pub enum Fault {
     TooLong,
     /// A total would be above its limit.
     Range,
-    /// As many keys are held as may be.
+    /// As many keys are held as there may be.
     Full,
 }
 

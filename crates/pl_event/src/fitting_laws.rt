@@ -1,3 +1,5 @@
+//! What a reader of a lane has of the items that fit on it.
+
 ghost use Rattle.std.specs.Prelude.{◌≡◌, ℕ, ◌+◌, ◌%◌, ◌==◌, ◌<◌, List, [], ◌∷◌, ◌++◌, length, slice_get, Some, true, false, Bool};
 ghost use Rattle.pl_event.specs.declared.events.Event.{Event};
 ghost use Rattle.pl_event.specs.declared.envelopes.Item.{Item};

@@ -1,3 +1,5 @@
+//! The names of totals.
+
 ghost use Rattle.std.specs.Prelude.{◌≡◌, ◌||◌, ◌&&◌, length, IsSome, IfSome, IsTrue, nat_eq, nat_le, is_some};
 ghost use Rattle.std.specs.List.{list_all};
 ghost use Rattle.std.specs.Cmp;
@@ -8,9 +10,11 @@ use crate::byte_string::ByteString;
 use std::alloc::AllocError;
 use std::marker::Model;
 
-const LONGEST: usize = 16;
+/// The longest name of a key, in bytes. The shortest has one byte.
+pub const MAX_KEY_LENGTH: usize = 16;
 
-/// The name of a total: 1 to 16 bytes, each `a` to `z` or `0` to `9`. Contracts see it as the list of its bytes.
+/// The name of a total: 1 to [`MAX_KEY_LENGTH`] bytes, each `a` to `z` or `0` to `9`. Contracts see it as the list of
+/// its bytes.
 #[derive(Debug, Drop)]
 pub struct Key {
     name: ByteString,
@@ -28,7 +32,7 @@ impl Model for Key {
 }
 
 impl Key {
-    /// The key of this name, or None where no key may have it.
+    /// The key of this name, or None where no key may have it. It takes no memory.
     pub fn new(name: ByteString) -> Option<Self>
         ensures found { is_some result ≡ is_key name }
         ensures name { IfSome result (λ key. key ≡ name) }
@@ -40,7 +44,7 @@ impl Key {
         }
     }
 
-    /// The bytes of its name.
+    /// The bytes of its name, lent.
     pub fn as_slice(&self) -> &[u8]
         ensures name { result.now ≡ self.now }
         ensures key { IsTrue (is_key self.now) }
@@ -49,22 +53,25 @@ impl Key {
     }
 }
 
+/// Whether a name may have this byte.
 fn is_name_byte(byte: u8) -> bool
     ensures { result ≡ is_key_byte byte }
 {
     byte.is_ascii_lowercase() || byte.is_ascii_digit()
 }
 
+/// Whether a name may have each of these bytes.
 fn are_name_bytes(name: &[u8]) -> bool
     ensures { result ≡ list_all is_key_byte name.now }
 {
     name.iter().all(|byte| is_name_byte(*byte))
 }
 
+/// Whether a key may have this name.
 fn is_name(name: &[u8]) -> bool
     ensures { result ≡ is_key name.now }
 {
-    !name.is_empty() && name.len() <= LONGEST && are_name_bytes(name)
+    !name.is_empty() && name.len() <= MAX_KEY_LENGTH && are_name_bytes(name)
 }
 
 impl Clone for Key {

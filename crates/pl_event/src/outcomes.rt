@@ -5,7 +5,7 @@
 pub enum Outcome {
     /// Its last byte was accepted by the transport.
     Success,
-    /// It was not flushed when the pipeline ended, or the channel was aborted.
+    /// It was not flushed when the pipeline ended, or the channel was aborted, or its head ran out of memory.
     Closed,
     /// The transport failed before its last byte.
     Fault,
@@ -16,7 +16,7 @@ pub enum Outcome {
 /// Why a channel, or a handler of it, failed.
 #[derive(Clone, Copy, Debug, PartialEq, Eq)]
 pub enum Cause {
-    /// A growth was refused.
+    /// Out of memory.
     Memory,
     /// The transport failed.
     Transport,

@@ -1,9 +1,11 @@
+//! Elements that contracts see as a list.
+
 ghost use Rattle.std.specs.Prelude.{◌≡◌, ◌==◌, ◌++◌, ◌∷◌, [], length, OnOk, IfErr, if◌then◌else◌, is_ok};
 
 use std::alloc::{AllocFailed, Global};
 use std::marker::Model;
 
-/// Elements in order, which contracts see as a list.
+/// Elements, in order. Contracts see them as a list.
 #[derive(Debug, Drop)]
 pub struct Sequence<T> {
     elements: Vec<T>,
@@ -27,14 +29,14 @@ impl<T> Sequence<T> {
         }
     }
 
-    /// Takes the elements of a `Vec`, and no memory.
+    /// Takes a `Vec` over. It takes no memory.
     pub fn from_vec(elements: Vec<T>) -> Self
         ensures { result ≡ elements.items }
     {
         Sequence { elements }
     }
 
-    /// Gives the `Vec` back, and takes no memory.
+    /// Gives the `Vec` back. It takes no memory.
     pub fn into_vec(self) -> Vec<T>
         ensures { result.items ≡ self }
     {
@@ -42,7 +44,7 @@ impl<T> Sequence<T> {
         elements
     }
 
-    /// Adds an element at the end. An `Err` hands it back and changes nothing.
+    /// Adds an element at the end. An `Err` is out of memory: it hands the element back, and changes nothing.
     pub fn push(&mut self, element: T) -> Result<(), AllocFailed<T>>
         ensures items { self.new ≡ (if is_ok result then self.old ++ element ∷ [] else self.old) }
         ensures value_returned { IfErr result (λ refused. refused.value ≡ element) }
@@ -50,18 +52,21 @@ impl<T> Sequence<T> {
         self.elements.push(element)
     }
 
+    /// The elements, lent.
     pub fn as_slice(&self) -> &[T]
         ensures { result.now ≡ self.now }
     {
         self.elements.as_slice()
     }
 
+    /// How many elements there are.
     pub fn len(&self) -> usize
         ensures { result ≡ length self.now }
     {
         self.elements.len()
     }
 
+    /// Whether there is no element.
     pub fn is_empty(&self) -> bool
         ensures { result ≡ (length self.now == 0) }
     {

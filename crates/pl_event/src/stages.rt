@@ -1,6 +1,9 @@
+//! What a handler of a pipeline is: the trait `Stage`, and its law.
+
 ghost use Rattle.std.specs.Prelude.{◌≡◌, Bool, true, List, [], ◌∷◌, ◌++◌, IfOk, IsErr, OnErr};
 ghost use Rattle.pl_event.specs.declared.events.Event.{Event};
 ghost use Rattle.pl_event.specs.Meaning.{Meaning, IsLawful, IsPrefixOf, up_of, down_of, turned_after};
+ghost use Rattle.pl_event.specs.Paths.{is_turn, is_outbound};
 
 use crate::events::Event;
 
@@ -10,6 +13,28 @@ pub enum Direction {
     Inbound,
     Outbound,
     Turn,
+}
+
+impl Direction {
+    /// Whether it is the turn, which takes inbound events and also writes.
+    pub fn is_turn(&self) -> bool
+        ensures { result ≡ is_turn self.now }
+    {
+        match self {
+            Direction::Turn => true,
+            Direction::Inbound | Direction::Outbound => false,
+        }
+    }
+
+    /// Whether outbound events visit it. Inbound events visit every other.
+    pub fn is_outbound(&self) -> bool
+        ensures { result ≡ is_outbound self.now }
+    {
+        match self {
+            Direction::Outbound => true,
+            Direction::Inbound | Direction::Turn => false,
+        }
+    }
 }
 
 /// Whether a stage has quit.
@@ -22,11 +47,51 @@ pub enum Turned {
 /// Why a step made nothing.
 #[derive(Clone, Copy, Debug, PartialEq, Eq)]
 pub enum StageFault {
-    /// A growth was refused.
+    /// Out of memory.
     Memory,
 }
 
-/// A handler of a pipeline. It keeps no list of what it took: `stands_after` relates it to that list.
+/// A handler of a pipeline: it takes events one by one, and hands on what it makes of them. Whoever has a handler of
+/// their own implements this, or [`Mapping`](crate::Mapping) where it makes one event of each whatever came before, or
+/// [`BareStage`](crate::BareStage) where it may fail and remembers no fault; the last two are shorter.
+///
+/// What a handler *means* is said of whole lists: of an event x, after the events xs, it makes `up xs x` for the next
+/// inbound handler or the tail, and `down xs x` for the next outbound handler or the head; `ended xs` says whether it
+/// has quit after xs. The handler keeps no list of what it took. `stands_after` says which lists it may stand after.
+///
+/// The law of a step:
+///
+/// - a step doesn't change what the handler means (`same_meaning`);
+/// - after whichever events it stood, it now stands after those and this one (`stands`);
+/// - it has added to the end of each list what this event makes after those, and nothing else (`up`, `down`);
+/// - it answers `Ended` exactly where it has quit after them (`turned`);
+/// - or it answers a fault, and the same at each further step (`fault`, `spent`), and the lists are as they were
+///   (`up_kept`, `down_kept`).
+///
+/// The law of a meaning (`lawful`), and what would break without it:
+///
+/// - it starts open, and once it has quit it has quit for good and makes nothing more downwards: the head ends with the
+///   quit, so a later write would be lost;
+/// - an inbound handler makes nothing downwards, an outbound one nothing upwards: nobody takes the other list;
+/// - only a turn quits: nobody asks another handler, so its quit would go unseen.
+///
+/// A handler that echoes each line until there is an empty one, and then quits, is a turn:
+///
+/// ```text
+/// step                answer    up              down
+/// Active              Open      Active
+/// Read(Line("a"))     Open                      Write(Line("a"))
+/// ReadComplete        Open      ReadComplete    Flush
+/// Read(Line(""))      Ended                     Flush
+/// Read(Line("b"))     Ended
+/// ```
+///
+/// The same in code, with other handlers: `Write your own` in the README of this crate.
+///
+/// The check proves the law of each handler, so that none can break it. What it cannot see is a handler that means the
+/// wrong thing, or stands after nothing: with a `stands_after` that no list meets, `stands`, `up`, `down` and `turned`
+/// promise nothing, and one that is spent from the start may answer its fault always. So a constructor says that the new
+/// handler stands after `[]`, which whoever builds a pipeline has to show, and that it is not spent.
 pub trait Stage: Drop {
     /// What it makes of whole lists of events.
     ghost meaning: { Self → Meaning };
@@ -34,13 +99,14 @@ pub trait Stage: Drop {
     /// It may stand after these events.
     ghost stands_after: { Self → List Event → Type 0 };
 
-    /// It has met a fault, and each further step meets it again.
+    /// It has met a fault, and meets it again at each further step.
     ghost is_spent: { Self → Bool };
 
+    /// Which way its input flows.
     fn direction(&self) -> Direction
         ensures { result ≡ (meaning self.now).direction };
 
-    /// Takes the next event, and adds what it makes of it to the two lists.
+    /// Takes the next event, and adds what it makes of it to the two lists. An `Err` is out of memory.
     fn step(
         &mut self,
         event: Event,

@@ -1,3 +1,5 @@
+//! The bytes, the sequences and the keys, each call once.
+
 use super::*;
 use std::alloc::{AllocError, Global};
 use std::test::Fail;

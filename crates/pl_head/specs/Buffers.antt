@@ -37,7 +37,7 @@ pub record SameMarks (b b' : WriteBufferView) : Type 0 where
   pub high : b'.high ≡ b.high
   pub lane : b'.flags.lane ≡ b.flags.lane
 
--- the sizes that writes add: none for a message that is no bytes
+-- the sizes that writes add: none for a message that is not bytes
 abbrev pub write_sizes : List (Option (List ℕ)) → List Change
 write_sizes [] = []
 write_sizes (None ∷ ws) = write_sizes ws

@@ -21,7 +21,7 @@ FlagsPass [] p before p' after = (p' ≡ p) × (after ≡ before)
 FlagsPass (value ∷ values) p before p' after =
     (mid : Port) × (between : OutputsView) × FlagPasses p value before mid between × FlagsPass values mid between p' after
 
--- All of these flags were sent: they stand behind the others with the next numbers, and the lane goes on.
+-- All of these flags were sent: they stand after the others with the next numbers, and the lane goes on.
 pub record AllSent (values : List Bool) (p : Port) (before : OutputsView) (p' : Port) (after : OutputsView) : Type 0 where
   pub items : after.items ≡ before.items ++ numbered p.lane p.made (as_flags values)
   pub stopped : after.stopped ≡ before.stopped

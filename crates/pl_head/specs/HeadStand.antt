@@ -53,7 +53,7 @@ module _ {T : Type 0} (state : T → TransportState) where
   abbrev pub is_held : List (List (List ℕ)) → ℕ → HeadView T → List Event → Bool
   is_held bursts reads h ys = is_burst bursts reads && h.buffer.is_unwritable && not (is_idle h ys)
 
--- so many read steps of these bursts were made
+-- this many read steps of these bursts were made
 abbrev pub ReadsStand : {T : Type 0} → List (List (List ℕ)) → ℕ → HeadView T → Type 0
 ReadsStand bursts reads h = InputStands bursts reads h.input
 
@@ -87,7 +87,7 @@ standing_after has_failed item.End = if has_failed then stands.Open else stands.
 standing_after has_failed (item.Fail c) = if has_failed then stands.Open else stands.Failed c
 standing_after has_failed (item.Flag v) = stands.Open
 
--- What an open head answers to an item: an event runs, or a growth is refused for it. (A flag does not stand on its
+-- What an open head answers to an item: an event runs, or memory runs out for it. (A flag does not stand on its
 -- lane, and nothing comes of it.)
 abbrev pub Answers : Item → Took → Type 0
 Answers (item.Event e) answer = (answer ≡ took.Ran) ⊎ (answer ≡ took.Failed Memory)

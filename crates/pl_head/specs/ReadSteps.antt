@@ -1,4 +1,4 @@
--- The items that the read steps of a channel bring to its first lane: the events of each step, and behind all of them
+-- The items that the read steps of a channel bring to its first lane: the events of each step, and after all of them
 -- the end.
 use Rattle.std.specs.Prelude.{ℕ, ◌+◌, List, [], ◌∷◌, ◌++◌, length, Bool, ◌&&◌, if◌then◌else◌, nat_le, nat_lt, slice_index_or}
 use Rattle.pl_event.specs.declared.envelopes.Kind.TheVariants.{Data}

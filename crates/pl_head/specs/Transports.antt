@@ -31,7 +31,7 @@ pub record MemoryTransportView : Type 0 where
 abbrev pub FailsNext : MemoryTransportView → Type 0
 FailsNext s = s.fail_at ≡ Some (counted s.calls)
 
--- how many of so many bytes a call accepts
+-- how many bytes a call accepts of those that it is offered
 abbrev pub accepted_count : MemoryTransportView → ℕ → ℕ
 accepted_count s size = min size s.window
 

@@ -69,12 +69,12 @@ closed (Some b) = Some Closed
 abbrev pub unflushed_outcome : Bool → Option (List ℕ) → Option Outcome
 unflushed_outcome ended w = if ended then closed w else waiting w
 
--- Head outcome: that of each write of the events ys, after so many bytes accepted, and whether the lane has ended.
+-- Head outcome: that of each write of the events ys, after this many bytes were accepted, and whether the lane has ended.
 abbrev pub outcomes : List Event → ℕ → Bool → List (Option Outcome)
 outcomes ys accepted ended =
     outcomes_from 0 accepted (flushed_writes ys) ++ map (unflushed_outcome ended) (unflushed_writes ys)
 
--- How many bytes one write to the transport offers once so many were accepted: what is left of the first of these
+-- How many bytes one write to the transport offers once this many were accepted: what is left of the first of these
 -- messages that has not left whole. start is where the first message begins in the output.
 abbrev pub offered : ℕ → ℕ → List (Option (List ℕ)) → ℕ
 offered start accepted [] = 0
@@ -90,6 +90,6 @@ open_size (None ∷ ws) (o ∷ os) = open_size ws os
 open_size (Some b ∷ ws) (None ∷ os) = length b + open_size ws os
 open_size (Some b ∷ ws) (Some o ∷ os) = open_size ws os
 
--- Waiting bytes: those of all writes without an outcome, after these events and so many bytes accepted.
+-- Waiting bytes: those of all writes without an outcome, after these events and this many bytes accepted.
 abbrev pub waiting_bytes : List Event → ℕ → Bool → ℕ
 waiting_bytes ys accepted ended = open_size (flushed_writes ys ++ unflushed_writes ys) (outcomes ys accepted ended)

@@ -9,12 +9,15 @@ use pl_event::{ByteString, Event, Message};
 /// What an event asks of a head.
 #[derive(Debug, Drop)]
 pub(crate) enum Effect {
+    /// A write of these bytes.
     Bytes(ByteString),
+    /// A write of a message that is not bytes.
     Unsupported,
     Flush,
     Nothing,
 }
 
+/// What this event asks of a head.
 pub(crate) fn effect_of(event: Event) -> Effect
     ensures write { write_by event ≡ write_of result }
     ensures flush { is_flush event ≡ flushes result }

@@ -7,7 +7,7 @@ ghost use Rattle.pl_context.specs.Stops.{has_stopped, HasPlaces, AreAmong};
 ghost use Rattle.pl_context.specs.OutputsViews.{OutputsView};
 ghost use Rattle.pl_head.specs.FlagLanes.{FlagsPass, AllSent};
 
-/// Flags that pass, one after another, are all sent where the lane is open behind them. On an open lane they are where
+/// Flags that pass, one after another, are all sent where the lane is open after them. On an open lane they are where
 /// there was room for them, or no lane has stopped. A closed lane sends none.
 pub fn flag_law()
     ensures open { (values : List Bool) (p p' : Port) (before after : OutputsView) → FlagsPass values p before p' after → p'.is_open ≡ true → AllSent values p before p' after }

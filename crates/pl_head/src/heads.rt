@@ -21,14 +21,14 @@ use crate::inputs::Input;
 use crate::transports::Transport;
 use crate::write_buffer::WriteBuffer;
 use pl_context::{Outputs, Standing, Took};
-use pl_event::{ByteString, Cause, Envelope, Event, Item, Outcome, Sequence};
+use pl_event::{ByteString, Cause, Envelope, Event, Item, Kind, Lane, Outcome, Sequence};
 use std::alloc::{AllocError, Global};
 use std::marker::Model;
 
 /// What one write to the transport did.
 #[derive(Clone, Copy, Debug, PartialEq, Eq)]
 pub enum OutStep {
-    /// The transport accepted so many bytes.
+    /// The transport accepted this many bytes.
     Wrote(usize),
     /// It was not called: no flushed byte waits, or the head has failed.
     Idle,
@@ -47,14 +47,23 @@ pub enum ReadStep {
     Done,
 }
 
+/// What a head has written.
+#[derive(Debug, Drop)]
+pub struct Written {
+    /// The bytes that the transport accepted.
+    pub bytes: ByteString,
+    /// The outcome of each write, by its number: None for one that waits.
+    pub outcomes: Sequence<Option<Outcome>>,
+}
+
 /// The end of a channel at its transport: bytes leave by it, and the recorded input comes in by it.
 #[derive(Debug, Drop)]
 pub struct Head<T> {
     transport: T,
-    pub(crate) channel: u16,
-    pub(crate) hop: u16,
-    pub(crate) taken: u64,
-    pub(crate) standing: Standing,
+    channel: u16,
+    hop: u16,
+    taken: u64,
+    standing: Standing,
     /// Why it failed by itself.
     failure: Option<Cause>,
     buffer: WriteBuffer,
@@ -286,6 +295,31 @@ impl<T: Transport> Head<T> {
         }
     }
 
+    /// The lane that enters it.
+    pub fn lane(&self) -> Lane
+        ensures { EntersHead self.now result }
+    {
+        Lane {
+            channel: self.channel,
+            kind: Kind::Data,
+            hop: self.hop,
+        }
+    }
+
+    /// How many items of its lane it has taken: the number of the next.
+    pub fn taken(&self) -> u64
+        ensures { result ≡ self.now.taken }
+    {
+        self.taken
+    }
+
+    /// How its lane stands. A head that has failed by itself notes no end of it.
+    pub fn standing(&self) -> Standing
+        ensures { result ≡ self.now.standing }
+    {
+        self.standing
+    }
+
     /// The bytes that the transport accepted.
     pub fn bytes(&self) -> &[u8]
         ensures accepted { result.now ≡ (T.state self.now.transport).accepted }
@@ -329,23 +363,14 @@ impl<T: Transport> Head<T> {
         if self.failure.is_some() {
             return self.failure;
         }
-        match self.standing {
-            Standing::Open | Standing::Ended => None,
-            Standing::Failed(cause) => Some(cause),
-        }
+        self.standing.cause()
     }
 
     /// Whether it took an end or a failure, or has failed by itself.
     pub fn is_ended(&self) -> bool
         ensures { result ≡ (is_over self.now.standing || is_some self.now.failure) }
     {
-        if self.failure.is_some() {
-            return true;
-        }
-        match self.standing {
-            Standing::Open => false,
-            Standing::Ended | Standing::Failed(_) => true,
-        }
+        self.standing.is_over() || self.failure.is_some()
     }
 
     /// Whether no flushed byte waits.
@@ -370,6 +395,27 @@ impl<T: Transport> Head<T> {
         let bytes = self.transport.bytes().to_vec(alloc)?;
         let outcomes = Vec::from_slice(alloc, self.buffer.outcomes())?;
         Ok((ByteString::from_vec(bytes), Sequence::from_vec(outcomes)))
+    }
+
+    /// Gives the head up for what it has written. The outcomes are moved, and so are the bytes where the transport moves
+    /// them (`Transport::into_bytes`): there it takes no memory. An `Err` is the transport's.
+    pub fn into_written(self, alloc: Global) -> Result<Written, AllocError>
+        ensures bytes { IfOk result (λ written. written.bytes ≡ (T.state self.transport).accepted) }
+        ensures prefix { IfOk result (λ written. (ys : List Event) (sizes : List Change) → StandsAfter T.state self ys sizes
+            → written.bytes ≡ take (length (T.state self.transport).accepted) (out ys)) }
+        ensures outcomes { IfOk result (λ written. (ys : List Event) (sizes : List Change) → StandsAfter T.state self ys sizes
+            → written.outcomes ≡ outcomes ys (length (T.state self.transport).accepted) (is_over self.standing)) }
+    {
+        let Head {
+            transport,
+            buffer,
+            ..
+        } = self;
+        let bytes = transport.into_bytes(alloc)?;
+        Ok(Written {
+            bytes: ByteString::from_vec(bytes),
+            outcomes: buffer.into_outcomes(),
+        })
     }
 }
 

@@ -9,7 +9,7 @@ ghost use Rattle.pl_head.specs.ReadSteps.{step_count, step_items, is_burst};
 ghost use Rattle.pl_head.specs.InputStand.{InputStands, new_input, next_items, left_after, burst_next, input_after_step, items_left};
 
 use pl_context::{Outputs, Port};
-use pl_event::{ByteString, Envelope, Event, Item, Kind, Lane, Message, Sequence};
+use pl_event::{ByteString, Envelope, Event, Item, Kind, Message, Sequence};
 use std::marker::Model;
 
 /// The recorded input of a channel: what is left of it, and the lane of the first hop, to which it is given.
@@ -44,15 +44,7 @@ impl Input {
         let mut left = bursts.into_vec();
         left.reverse();
         Input {
-            port: Port {
-                lane: Lane {
-                    channel,
-                    kind: Kind::Data,
-                    hop: 0,
-                },
-                made: 0,
-                is_open: true,
-            },
+            port: Port::new(channel, Kind::Data, 0, true),
             left,
             steps: 0,
         }

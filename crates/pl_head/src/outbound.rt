@@ -33,6 +33,7 @@ pub(crate) struct Outbound {
 impl Outbound {
     ghost use Rattle.pl_head.specs.OutboundStand.{Holds, IsAtRest};
 
+    /// Nothing waits, and nothing was written. It takes no memory.
     pub(crate) fn new(alloc: Global) -> Self
         ensures holds { Holds result [] [] [] false }
         ensures rest { IsAtRest result }
@@ -65,7 +66,7 @@ impl Outbound {
         Ok(())
     }
 
-    /// Settles a write that is no bytes.
+    /// Settles a write whose message is not bytes.
     pub(crate) fn add_unsupported(&mut self) -> Result<(), AllocError>
         ensures holds { OnOk result ((flushed unflushed : List (Option (List ℕ))) (left : List ℕ) → Holds self.old flushed unflushed left false → Holds self.new flushed (unflushed ++ None ∷ []) left false) }
         ensures queue { self.new.queue.items ≡ self.old.queue.items }
@@ -114,7 +115,7 @@ impl Outbound {
         self.offset += count;
     }
 
-    /// The first flushed message has left whole.
+    /// Whether the first flushed message has left whole.
     fn is_front_written(&self) -> bool
         ensures { IsTrue result ↔ ((0 < self.now.flushed) × (self.now.offset ≡ first_size self.now.queue.items)) }
     {
@@ -173,7 +174,7 @@ impl Outbound {
         size
     }
 
-    /// Notes that the message at a place of the queue is closed, and answers its length in bytes.
+    /// Notes that the message at a position is closed, and answers its length in bytes.
     fn close(&mut self, place: usize) -> usize
         requires { place < length self.old.queue.items }
         ensures queue { self.new.queue.items ≡ self.old.queue.items }

@@ -1,21 +1,22 @@
 //! Where the bytes of a channel leave.
 
-ghost use Rattle.std.specs.Prelude.{◌≡◌, ℕ, ◌+◌, ◌≤◌, ◌↔◌, ◌++◌, length, take, min, Option, Some, IfOk, OnOk, OnErr, IsErr, IsTrue};
+ghost use Rattle.std.specs.Prelude.{◌≡◌, ℕ, ◌+◌, ◌≤◌, ◌↔◌, ◌++◌, length, take, min, Option, Some, IfOk, OnOk, OnErr, IsOk, IsErr, IsTrue};
 ghost use Rattle.pl_head.specs.Transports.{TransportState, new_state, counted, FailsNext, accepted_count, MayFail};
 
-use std::alloc::Global;
+use std::alloc::{AllocError, Global};
 use std::marker::Model;
 
 /// Why a transport accepted nothing.
 #[derive(Clone, Copy, Debug, PartialEq, Eq)]
 pub enum TransportFault {
+    /// The call failed.
     Failed,
 }
 
 /// Where a head's bytes go. Whoever has a transport of their own implements this.
 ///
 /// The law: the bytes accepted so far are what `bytes` gives. A call of `write` accepts the first n bytes that it is
-/// offered, for an n up to all of them and 0 too, puts them behind the others and answers `Ok(n)`; or it accepts none
+/// offered, for an n up to all of them and 0 too, puts them after the others and answers `Ok(n)`; or it accepts none
 /// and answers `Err`. It counts itself as one call, and as one failure where it answers `Err`. What a call did not
 /// accept is offered again, from its first byte, by whoever has it.
 ///
@@ -29,7 +30,7 @@ pub enum TransportFault {
 /// write("NG\r\n")       Ok(4)     "+PONG\r\n"   4      1
 /// ```
 ///
-/// The same in code: the transport of the module `transport_tests` accepts a byte at every second call.
+/// The same in code: the transport of `transport_tests`, in `pl_nodes_tests`, accepts a byte at every second call.
 ///
 /// The check proves the law of each transport. Were it broken, a head that stands on it would promise what is not so:
 /// with an n that is larger than what was kept, bytes would be missing from the output, and a write would be a success
@@ -53,6 +54,16 @@ pub trait Transport: Drop {
     /// The bytes accepted so far.
     fn bytes(&self) -> &[u8]
         ensures { result.now ≡ (state self.now).accepted };
+
+    /// Gives the transport up for the bytes accepted so far. What stands here copies them, and an `Err` is a copy for
+    /// which there was no memory; a transport that keeps its bytes in a `Vec` moves it out instead.
+    fn into_bytes(self, alloc: Global) -> Result<Vec<u8>, AllocError>
+    where
+        Self: Sized,
+        ensures { IfOk result (λ bytes. bytes.items ≡ (state self).accepted) }
+    {
+        self.bytes().to_vec(alloc)
+    }
 }
 
 /// A transport over memory, which accepts a window of bytes a call, and may fail at one call.
@@ -75,7 +86,7 @@ impl Model for MemoryTransport {
 }
 
 impl MemoryTransport {
-    /// One that was not called. A call accepts at most `window` bytes; the call of number `fail_at`, from 1, fails. It
+    /// A transport that has not been called. A call accepts at most `window` bytes; the call of number `fail_at`, from 1, fails. It
     /// takes no memory.
     pub fn new(alloc: Global, window: u32, fail_at: Option<u32>) -> Self
         ensures state { ⟦<MemoryTransport as Transport>⟧.state result ≡ new_state (Some window) }
@@ -112,8 +123,8 @@ impl MemoryTransport {
 impl Transport for MemoryTransport {
     ghost state = { λ t. record { accepted = t.bytes; calls = t.calls; failures = t.failures; window = Some t.window } };
 
-    /// Accepts the lesser of the length and the window. It fails at the call of number `fail_at`, and else only where a
-    /// growth of its memory is refused.
+    /// Accepts the lesser of the length and the window. It fails at the call of number `fail_at`, and else only where
+    /// there is no memory for what it accepts.
     fn write(&mut self, bytes: &[u8]) -> Result<usize, TransportFault>
         ensures within { IfOk result (λ n. n ≤ length bytes.now) }
         ensures accepts { IfOk result (λ n. self.new.bytes ≡ self.old.bytes ++ take n bytes.now) }
@@ -142,5 +153,14 @@ impl Transport for MemoryTransport {
 
     fn bytes(&self) -> &[u8] {
         self.bytes.as_slice()
+    }
+
+    /// Moves its bytes out. It takes no memory.
+    fn into_bytes(self, _alloc: Global) -> Result<Vec<u8>, AllocError>
+        ensures bytes { IfOk result (λ bytes. bytes.items ≡ self.bytes) }
+        ensures moves { IsOk result }
+    {
+        let MemoryTransport { bytes, .. } = self;
+        Ok(bytes)
     }
 }

@@ -5,9 +5,9 @@ ghost use Rattle.pl_context.specs.Stops.{HasPlaces};
 ghost use Rattle.pl_head.specs.Marks.{Change, Added, Removed};
 ghost use Rattle.pl_head.specs.FlagLanes.{flags_lane};
 
-use crate::flag_lane::{flag_port, send_flag};
 use crate::marks::Marks;
 use pl_context::{Outputs, Port};
+use pl_event::Kind;
 
 /// The bytes that wait against two marks, and the lane on which flags go up.
 #[derive(Debug, Drop)]
@@ -31,7 +31,7 @@ impl Writability {
     {
         Writability {
             marks: Marks::new(low, high),
-            port: flag_port(channel),
+            port: Port::new(channel, Kind::Flags, 0, true),
         }
     }
 
@@ -50,7 +50,7 @@ impl Writability {
         ensures count { flag_bound self.new ≤ flag_bound self.old + 2 }
     {
         if let Some(value) = self.marks.add(size) {
-            send_flag(&mut self.port, value, outputs);
+            self.port.pass(value, outputs);
         }
     }
 
@@ -69,7 +69,7 @@ impl Writability {
         ensures count { flag_bound self.new ≤ flag_bound self.old }
     {
         if let Some(value) = self.marks.remove(size) {
-            send_flag(&mut self.port, value, outputs);
+            self.port.pass(value, outputs);
         }
     }
 }

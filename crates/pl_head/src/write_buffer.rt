@@ -13,7 +13,7 @@ use crate::effects::{Effect, effect_of};
 use crate::outbound::Outbound;
 use crate::writability::Writability;
 use pl_context::Outputs;
-use pl_event::{ByteString, Event, Outcome};
+use pl_event::{ByteString, Event, Outcome, Sequence};
 use std::alloc::{AllocError, Global};
 
 /// The messages that wait to be written, and the marks against which their bytes are counted.
@@ -82,6 +82,7 @@ impl WriteBuffer {
         }
     }
 
+    /// Adds a message, unflushed, and sends the flag of its size. An `Err` changes no list.
     fn add(&mut self, bytes: ByteString, outputs: &mut Outputs) -> Result<(), AllocError>
         requires fits { self.old.writability.marks.pending + 2 ^ 64 < 2 ^ 128 }
         requires room { flag_bound self.old.writability + 1 < 2 ^ 64 }
@@ -184,6 +185,7 @@ impl WriteBuffer {
         self.writability.marks.pending
     }
 
+    /// Whether the channel is writable.
     pub(crate) fn is_writable(&self) -> bool
         ensures view { result ≡ not self.now.writability.marks.is_unwritable }
         ensures sizes { (accepted : List ℕ) (ys : List Event) (ended : Bool) (sizes : List Change) → BufferStands accepted (write_buffer_view self.now) ys ended sizes
@@ -207,5 +209,14 @@ impl WriteBuffer {
         ensures { (accepted : List ℕ) (ys : List Event) (ended : Bool) (sizes : List Change) → BufferStands accepted (write_buffer_view self.now) ys ended sizes → result.now ≡ outcomes ys (length accepted) ended }
     {
         self.messages.outcomes.as_slice()
+    }
+
+    /// Gives the buffer up for the outcome of each write. It takes no memory.
+    pub(crate) fn into_outcomes(self) -> Sequence<Option<Outcome>>
+        ensures { (accepted : List ℕ) (ys : List Event) (ended : Bool) (sizes : List Change) → BufferStands accepted (write_buffer_view self) ys ended sizes → result ≡ outcomes ys (length accepted) ended }
+    {
+        let WriteBuffer { messages, .. } = self;
+        let Outbound { outcomes, .. } = messages;
+        Sequence::from_vec(outcomes)
     }
 }

@@ -5,11 +5,13 @@ use pl_tool::{refuse_words, run_tool};
 use std::process::ExitCode;
 use std::{env, io};
 
+/// The words of the command line.
 fn words(rt: &HostRuntime) -> io::Result<Vec<String>> {
     let words = env::args(rt)?.collect(rt.alloc())?;
     Ok(words)
 }
 
+/// Runs the program on the process's words and streams, and gives its status.
 fn run(rt: &HostRuntime) -> u8 {
     match words(rt) {
         Ok(words) => run_tool(

@@ -2,10 +2,10 @@
 use Rattle.std.proofs.Common.{◌≡◌, ◌≢◌, ℕ, suc, ◌+◌, ◌<◌, ◌≤◌, Bool, true, cond, Option, Some, List, [], ◌∷◌, ◌++◌, length, map, get_or, set, take, drop, refl, sym, ap, ◌∙◌, subst, arith, inl, inr, length-append, append-nil}
 use Rattle.std.specs.List.{All, filter, find, position, remove, slice_get}
 use Rattle.std.specs.Option.{option_map}
-use Rattle.std.proofs.lemmas.List.{map-append, drop-map, get_or_append_left, get_or-set_same, get_or-set_other, length-set}
+use Rattle.std.proofs.lemmas.List.{map-append, drop-map, get_or_append_left, length-set}
 use Rattle.std.proofs.lemmas.List.Elements.{All-nil, All-push, All-append, All-take, All-drop, All-weaker, filter-append}
 use Rattle.std.proofs.lemmas.List.Quantifiers.{all_pairs_push, all_pairs_remove}
-use Rattle.std.proofs.lemmas.Option.{none-some, slice_get-map, slice_get_within, slice_get-get_or, slice_get_read, get_or_from_slice_get}
+use Rattle.std.proofs.lemmas.Option.{slice_get-map, slice_get_within, slice_get-get_or, slice_get_read, get_or_from_slice_get}
 use Rattle.std.proofs.lemmas.Bool.{cases_eq, cases_lt, eqb-true, ne_eqb, false≢true}
 use Rattle.pl_event.specs.declared.envelopes.Lane.{Lane}
 use Rattle.pl_event.specs.declared.envelopes.Envelope.{Envelope}
@@ -19,15 +19,8 @@ use Rattle.pl_replay.specs.BacklogStand.{Aged, IsByAge, is_for, is_aged_for, ent
 use Rattle.pl_replay.specs.declared.executors.Executor.{Executor}
 use Rattle.pl_context.specs.Backlogs.{BacklogView}
 use Rattle.std.proofs.Math.Seq.{get_or-append_seam}
-use Rattle.pl_replay.proofs.Firsts.{IsFirst, find-filter, find-map, option_map-map, position-first, position-map, filter-remove_first, filter-remove_other}
-
--- ---- ages
-
-pub by_age-head : (first : Aged) (rest : List Aged) → IsByAge (first ∷ rest) → All (λ later. first.age < later.age) rest
-by_age-head first rest order = λ k d below. order 0 (suc k) d (omega arith) (omega (arith, below))
-
-pub by_age-tail : (first : Aged) (rest : List Aged) → IsByAge (first ∷ rest) → IsByAge rest
-by_age-tail first rest order = λ i j d before below. order (suc i) (suc j) d (omega (arith, before)) (omega (arith, below))
+use Rattle.pl_event.proofs.Lists.{at_set_same, at_set_other, find-map, option_map-map, position-map}
+use Rattle.pl_replay.proofs.Firsts.{IsFirst, find-filter, position-first, filter-remove_first, filter-remove_other}
 
 -- ---- what waits for one executor
 
@@ -64,33 +57,28 @@ module _ (plan : Plan) (y : ℕ) (aged : List Aged) (places : ℕ) (w : BacklogV
   pub front-age : option_map (λ (entry : Envelope × ℕ). entry.1) (slice_get w.items 0) ≡ option_map (λ (i : Aged). i.age) front
   front-age =
       ap (option_map (λ (entry : Envelope × ℕ). entry.1)) front-entry
-      ∙ option_map-map (entry_at plan) (λ (entry : Envelope × ℕ). entry.1) front
+      ∙ option_map-map (λ (entry : Envelope × ℕ). entry.1) (entry_at plan) front
 
   pub front-envelope : (backlog : List Place) → backlog ≡ map (λ (i : Aged). i.place) aged
       → option_map (λ (entry : Envelope × ℕ). entry.0) (slice_get w.items 0) ≡ option_map (envelope_at plan) (find (is_for plan y) backlog)
   front-envelope backlog is =
       ap (option_map (λ (entry : Envelope × ℕ). entry.0)) front-entry
-      ∙ option_map-map (entry_at plan) (λ (entry : Envelope × ℕ). entry.0) front
+      ∙ option_map-map (λ (entry : Envelope × ℕ). entry.0) (entry_at plan) front
       ∙ sym (ap (λ (l : List Place). option_map (envelope_at plan) (find (is_for plan y) l)) is
-      ∙ ap (option_map (envelope_at plan)) (find-map (λ (i : Aged). i.place) (is_for plan y) aged)
-      ∙ option_map-map (λ (i : Aged). i.place) (envelope_at plan) front)
+      ∙ ap (option_map (envelope_at plan)) (find-map (is_for plan y) (λ (i : Aged). i.place) aged)
+      ∙ option_map-map (envelope_at plan) (λ (i : Aged). i.place) front)
 
 -- ---- one of the parts has changed
 
 -- what holds of each, where one was written
 each-set : (ws : List (BacklogView ℕ)) (y : ℕ) (new : BacklogView ℕ) (P : ℕ → BacklogView ℕ → Type 0) → ((z : ℕ) (w : BacklogView ℕ) → z ≢ y → slice_get ws z ≡ Some w → P z w) → P y new
     → (z : ℕ) (w : BacklogView ℕ) → slice_get (set ws y new) z ≡ Some w → P z w
-each-set ws y new P others here z w at =
-    let within : z < length ws = omega (arith, slice_get_within (set ws y new) z w at, length-set ws y new) in
-    elim (cases_eq z y) [
-      | inl same ↦
-          let is = sym (get_or-set_same ws y new w (subst (λ (n : ℕ). n < length ws) same within)) ∙ get_or_from_slice_get (set ws y new) y w w (subst (λ (n : ℕ). slice_get (set ws y new) n ≡ Some w) same at) in
-          subst (λ (n : ℕ). P n w) (sym same) (subst (P y) is here)
-      | inr other ↦
-          others z w other
-          (slice_get-get_or ws z w within
-          ∙ ap (λ (v : BacklogView ℕ). Some v) (sym (get_or-set_other ws y z new w other) ∙ get_or_from_slice_get (set ws y new) z w w at))
-    ]
+each-set ws y new P others here z w at = elim (cases_eq z y) [
+  | inl same ↦
+      let is = at_set_same ws y new w (subst (λ (n : ℕ). slice_get (set ws y new) n ≡ Some w) same at) in
+      subst (λ (n : ℕ). P n w) (sym same) (subst (P y) (sym is) here)
+  | inr other ↦ others z w other (at_set_other ws y z new w other at)
+]
 
 module _ (plan : Plan) (places : ℕ → ℕ) (aged : List Aged) (e : Executor) (b : BacklogStands plan places aged e) (y : ℕ) (new : BacklogView ℕ) (after : Executor)
     (written : after.waiting.items ≡ set e.waiting.items y new) where
@@ -175,7 +163,7 @@ module _ (plan : Plan) (places : ℕ → ℕ) (aged : List Aged) (e : Executor) 
 pub aged-first : (plan : Plan) (y : ℕ) (aged : List Aged) (backlog : List Place) (i : ℕ) → backlog ≡ map (λ (a : Aged). a.place) aged → position (is_for plan y) backlog ≡ Some i → IsFirst (is_aged_for plan y) aged i
 aged-first plan y aged backlog i is found =
     position-first (is_aged_for plan y) aged i
-    (sym (position-map (λ (a : Aged). a.place) (is_for plan y) aged) ∙ ap (position (is_for plan y)) (sym is) ∙ found)
+    (sym (position-map (is_for plan y) (λ (a : Aged). a.place) aged) ∙ ap (position (is_for plan y)) (sym is) ∙ found)
 
 pub stands-kept : (plan : Plan) (places : ℕ → ℕ) (s : ExecutorState) (before after : Executor) → Keeps before after → ExecutorStands plan places s before → ExecutorStands plan places s after
 stands-kept plan places s before after k st = record {
@@ -195,9 +183,6 @@ pub record IsIdle (places : ℕ) (w : BacklogView ℕ) : Type 0 where
 pub record AreIdle (places : List ℕ) (n : ℕ) (ws : List (BacklogView ℕ)) : Type 0 where
   pub size : length ws ≡ n
   pub each : (y : ℕ) (w : BacklogView ℕ) → slice_get ws y ≡ Some w → IsIdle (get_or places y 0) w
-
-pub idle-none : (places : List ℕ) → AreIdle places 0 []
-idle-none places = record { size = refl; each = λ y w at. absurd (none-some w at) }
 
 pub idle-push : (places : List ℕ) (n : ℕ) (ws : List (BacklogView ℕ)) (new : BacklogView ℕ) → AreIdle places n ws → IsIdle (get_or places n 0) new → AreIdle places (n + 1) (ws ++ new ∷ [])
 idle-push places n ws new idle here = record {

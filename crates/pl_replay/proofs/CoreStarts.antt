@@ -1,13 +1,12 @@
 -- A net begins with placed channels and idle executors.
-use Rattle.std.proofs.Common.{◌≡◌, ℕ, List, [], ◌∷◌, ◌++◌, length, map, get_or, Some, refl, sym, ap, ◌∙◌, subst, arith, inl, inr, ◌⊎◌, length-append}
+use Rattle.std.proofs.Common.{◌≡◌, ℕ, List, [], ◌∷◌, ◌++◌, length, map, Some, refl, sym, ap, ◌∙◌, subst, arith, inl, inr}
 use Rattle.std.specs.List.{All, slice_get}
-use Rattle.std.proofs.lemmas.List.{map-append, length-map, get_or_append_left}
-use Rattle.std.proofs.Math.Seq.{get_or-append_seam}
-use Rattle.std.proofs.lemmas.Bool.{cases_lt}
+use Rattle.std.proofs.lemmas.List.{map-append, length-map}
 use Rattle.std.proofs.lemmas.List.Elements.{All-get_or}
-use Rattle.std.proofs.lemmas.Option.{slice_get_within, slice_get-get_or, get_or_from_slice_get}
+use Rattle.std.proofs.lemmas.Option.{slice_get_within, get_or_from_slice_get}
 use Rattle.pl_event.specs.declared.events.Event.{Event}
 use Rattle.pl_event.specs.Meaning.{Meaning}
+use Rattle.pl_event.proofs.Lists.{slice_get-push}
 use Rattle.pl_context.specs.Stops.{no_stops}
 use Rattle.pl_channel.specs.declared.placed_channels.PlacedChannel.{PlacedChannel}
 use Rattle.pl_replay.specs.declared.executors.Executor.{Executor}
@@ -26,19 +25,6 @@ use Rattle.pl_replay.specs.NetStand.{lanes_between, CoreStands}
 use Rattle.pl_replay.specs.PlacedStand.{AreAtRest}
 use Rattle.pl_replay.proofs.Starting.{channel_rests, accounted_start}
 use Rattle.pl_replay.proofs.Pending.{pending-none}
-
--- an element of a list that grew is one of those before, or the last
-slice_get-push : {X : Type 0} (xs : List X) (x y : X) (i : ℕ) → slice_get (xs ++ x ∷ []) i ≡ Some y → (slice_get xs i ≡ Some y) ⊎ ((i ≡ length xs) × (x ≡ y))
-slice_get-push {X = X} xs x y i at =
-    let within = slice_get_within (xs ++ x ∷ []) i y at in
-    let is = get_or_from_slice_get (xs ++ x ∷ []) i y y at in
-    elim (cases_lt i (length xs)) [
-      | inl before ↦
-          inl (slice_get-get_or xs i y before ∙ ap (λ (v : X). Some v) (sym (get_or_append_left xs (x ∷ []) y i before) ∙ is))
-      | inr behind ↦
-          let last : i ≡ length xs = omega (arith, within, behind, length-append xs (x ∷ [])) in
-          inr (last, sym (get_or-append_seam xs x [] y) ∙ ap (λ (k : ℕ). get_or (xs ++ x ∷ []) k y) (sym last) ∙ is)
-    ]
 
 module _ {S T : Type 0} (meaning : S → Meaning) (stands_after : S → List Event → Type 0) (state : T → TransportState) where
   -- ---- channels
@@ -76,8 +62,8 @@ module _ {S T : Type 0} (meaning : S → Meaning) (stands_after : S → List Eve
               | inr last ↦ elim (slice_get-push channels channel d c at) [
                 | inl d_before ↦ absurd (omega (arith, slice_get_within channels c d d_before, last.0, size))
                 | inr d_last ↦
-                    subst (λ (t : ChannelPlan). ChannelStands meaning stands_after state c t (at_rest t) d) last.1
-                    (subst (λ (t : PlacedChannel S T). ChannelStands meaning stands_after state c p (at_rest p) t) d_last.1
+                    subst (λ (t : ChannelPlan). ChannelStands meaning stands_after state c t (at_rest t) d) (sym last.1)
+                    (subst (λ (t : PlacedChannel S T). ChannelStands meaning stands_after state c p (at_rest p) t) (sym d_last.1)
                     (subst (λ (k : ℕ). ChannelStands meaning stands_after state k p (at_rest p) channel) (sym d_last.0) here))
               ]
             ];

@@ -1,12 +1,13 @@
 -- What a core holds when its work list, one of its executors or one of its channels has changed.
-use Rattle.std.proofs.Common.{◌≡◌, ◌≢◌, ℕ, ◌+◌, ◌<◌, ◌≤◌, Some, None, List, [], ◌∷◌, length, set, get_or, sym, ap, ◌∙◌, subst, arith, inl, inr}
+use Rattle.std.proofs.Common.{◌≡◌, ℕ, ◌+◌, ◌<◌, ◌≤◌, Some, List, length, set, sym, ap, ◌∙◌, subst, arith, inl, inr}
 use Rattle.std.specs.List.{slice_get}
-use Rattle.std.proofs.lemmas.List.{length-set, get_or-set_same, get_or-set_other}
+use Rattle.std.proofs.lemmas.List.{length-set}
 use Rattle.std.proofs.lemmas.List.Elements.{All-get_or}
-use Rattle.std.proofs.lemmas.Option.{none-some, slice_get_cases, slice_get_within, slice_get-get_or, get_or_from_slice_get, same_Some}
-use Rattle.std.proofs.lemmas.Bool.{cases_eq, cases_lt}
+use Rattle.std.proofs.lemmas.Option.{slice_get_cases, slice_get_within, get_or_from_slice_get, same_Some}
+use Rattle.std.proofs.lemmas.Bool.{cases_eq}
 use Rattle.pl_event.specs.declared.events.Event.{Event}
 use Rattle.pl_event.specs.Meaning.{Meaning}
+use Rattle.pl_event.proofs.Lists.{at_set_same, at_set_other}
 use Rattle.pl_channel.specs.declared.placed_channels.PlacedChannel.{PlacedChannel}
 use Rattle.pl_replay.specs.declared.executors.Executor.{Executor}
 use Rattle.pl_replay.specs.declared.nets.Core.{Core}
@@ -21,26 +22,6 @@ use Rattle.pl_replay.specs.BacklogStand.{ExecutorStands}
 use Rattle.pl_replay.specs.NetStand.{lanes_between, all_made, CoreHolds}
 use Rattle.pl_channel.specs.ChannelStand.{ChannelStands}
 use Rattle.pl_replay.proofs.StateLemmas.{channel_at-same, channel_at-other, executor_at-same, executor_at-other}
-
--- ---- a list in which one has changed
-
-at_set_same : {A : Type 0} (xs : List A) (i : ℕ) (a y : A) → i < length xs → slice_get (set xs i a) i ≡ Some y → a ≡ y
-at_set_same xs i a y within here =
-    sym (get_or-set_same xs i a a within) ∙ get_or_from_slice_get (set xs i a) i y a here
-
-at_set_other : {A : Type 0} (xs : List A) (i j : ℕ) (a y : A) → j ≢ i → slice_get (set xs i a) j ≡ Some y → slice_get xs j ≡ Some y
-at_set_other {A = A} xs i j a y other here =
-    let within = slice_get_within (set xs i a) j y here in
-    let size = length-set xs i a in
-    slice_get-get_or xs j y (omega (arith, within, size))
-    ∙ ap (λ (z : A). Some z) (sym (get_or-set_other xs i j a y other) ∙ get_or_from_slice_get (set xs i a) j y y here)
-
-pub slice_get_none : {A : Type 0} (xs : List A) (i : ℕ) → slice_get xs i ≡ None → length xs ≤ i
-slice_get_none [] i gone = omega arith
-slice_get_none (x ∷ xs) i gone = elim (cases_lt i (length (x ∷ xs))) [
-  | inl within ↦ absurd (none-some (get_or (x ∷ xs) i x) (sym gone ∙ slice_get-get_or (x ∷ xs) i x within))
-  | inr past ↦ past
-]
 
 -- ---- plans
 
@@ -91,7 +72,7 @@ module _ {S T : Type 0} (meaning : S → Meaning) (stands_after : S → List Eve
       channels = λ c p channel here at. h.channels c p channel here (ap (λ (l : List (PlacedChannel S T)). slice_get l c) (sym channels) ∙ at);
       executors = λ z f at. let found = ap (λ (l : List Executor). slice_get l z) (sym executors) ∙ at in elim (cases_eq z y) [
         | inl same ↦
-            let is = at_set_same core.executors.items y e f within (ap (λ (k : ℕ). slice_get (set core.executors.items y e) k) (sym same) ∙ found) in
+            let is = sym (at_set_same core.executors.items y e f (ap (λ (k : ℕ). slice_get (set core.executors.items y e) k) (sym same) ∙ found)) in
             subst (λ (k : ℕ). ExecutorStands plan (lanes_between plan k) (executor_at (with_executor s y now) k) f) (sym same)
             (subst (λ (g : Executor). ExecutorStands plan (lanes_between plan y) (executor_at (with_executor s y now) y) g) is
             (subst (λ (t : ExecutorState). ExecutorStands plan (lanes_between plan y) t e) (sym (executor_at-same s y now there)) stands))
@@ -101,7 +82,7 @@ module _ {S T : Type 0} (meaning : S → Meaning) (stands_after : S → List Eve
       ];
       ages = λ z f at. let found = ap (λ (l : List Executor). slice_get l z) (sym executors) ∙ at in elim (cases_eq z y) [
         | inl same ↦
-            let is = at_set_same core.executors.items y e f within (ap (λ (k : ℕ). slice_get (set core.executors.items y e) k) (sym same) ∙ found) in
+            let is = sym (at_set_same core.executors.items y e f (ap (λ (k : ℕ). slice_get (set core.executors.items y e) k) (sym same) ∙ found)) in
             subst (λ (g : Executor). g.next_age + length later ≤ all_made plan s) is young
         | inr other ↦ let old = h.ages z f (at_set_other core.executors.items y z e f other found) in omega (arith, old, shorter)
       ];
@@ -123,7 +104,7 @@ module _ {S T : Type 0} (meaning : S → Meaning) (stands_after : S → List Eve
           channel_count = ap (λ (l : List (PlacedChannel S T)). length l) channels ∙ length-set core.channels.items c channel ∙ h.channel_count;
           channels = λ d q other here_too at. let found = ap (λ (l : List (PlacedChannel S T)). slice_get l d) (sym channels) ∙ at in elim (cases_eq d c) [
             | inl same ↦
-                let is = at_set_same core.channels.items c channel other within (ap (λ (k : ℕ). slice_get (set core.channels.items c channel) k) (sym same) ∙ found) in
+                let is = sym (at_set_same core.channels.items c channel other (ap (λ (k : ℕ). slice_get (set core.channels.items c channel) k) (sym same) ∙ found)) in
                 let plan_is : p ≡ q = same_Some p q (sym here ∙ ap (λ (k : ℕ). slice_get plan.channels k) (sym same) ∙ here_too) in
                 subst (λ (k : ℕ). ChannelStands meaning stands_after state k q (channel_at (with_channel s c now) k) other) (sym same)
                 (subst (λ (r : ChannelPlan). ChannelStands meaning stands_after state c r (channel_at (with_channel s c now) c) other) plan_is

@@ -4,8 +4,9 @@ use Rattle.std.specs.List.{All, filter, range_with_len, slice_get}
 use Rattle.std.specs.Option.{option_map_or}
 use Rattle.std.proofs.lemmas.List.{map-append, get_or_past}
 use Rattle.std.proofs.lemmas.List.Elements.{filter-append, All-map}
-use Rattle.std.proofs.lemmas.Option.{none-some, slice_get_cases}
+use Rattle.std.proofs.lemmas.Option.{slice_get_cases}
 use Rattle.std.proofs.lemmas.Bool.{cases_Bool, eq-eqb}
+use Rattle.std.proofs.lemmas.Simd.{map-map}
 use Rattle.pl_event.specs.declared.events.Event.{Event}
 use Rattle.pl_event.specs.declared.envelopes.Kind.{Kind}
 use Rattle.pl_event.specs.declared.envelopes.Kind.TheVariants.{Data, Flags}
@@ -14,6 +15,7 @@ use Rattle.pl_event.specs.declared.envelopes.Item.{Item}
 use Rattle.pl_event.specs.declared.envelopes.Item.TheVariants as item
 use Rattle.pl_event.specs.declared.envelopes.Envelope.{Envelope}
 use Rattle.pl_event.specs.Fitting.{FitFrom, FitFromAsFlags}
+use Rattle.pl_event.proofs.Lists.{filter-map, slice_get_none}
 use Rattle.pl_replay.specs.CoreMoves.{target}
 use Rattle.pl_world.specs.Plans.{ChannelPlan, Plan, content}
 use Rattle.pl_world.specs.PlanRules.{IsPlan}
@@ -37,18 +39,6 @@ use Rattle.pl_channel.proofs.LaneItems.{envelopes_at-channel}
 
 -- ---- lists
 
-filter-map : {X Y : Type 0} (f : X → Y) (test : Y → Bool) (xs : List X) → filter test (map f xs) ≡ map f (filter (λ x. test (f x)) xs)
-filter-map f test [] = refl
-filter-map {X} {Y} f test (x ∷ xs) =
-    elim (test (f x)) as (λ (b : Bool). cond b (f x ∷ filter test (map f xs)) (filter test (map f xs)) ≡ map f (cond b (x ∷ filter (λ y. test (f y)) xs) (filter (λ y. test (f y)) xs))) [
-      | true ↦ ap (λ (l : List Y). f x ∷ l) (filter-map f test xs)
-      | false ↦ filter-map f test xs
-    ]
-
-map-map : {X Y Z : Type 0} (f : X → Y) (g : Y → Z) (xs : List X) → map g (map f xs) ≡ map (λ x. g (f x)) xs
-map-map f g [] = refl
-map-map {Z = Z} f g (x ∷ xs) = ap (λ (l : List Z). g (f x) ∷ l) (map-map f g xs)
-
 -- what passes one test passes the other too
 filter-wider : {X : Type 0} (p q : X → Bool) → ((x : X) → p x ≡ true → q x ≡ true) → (xs : List X) → filter p (filter q xs) ≡ filter p xs
 filter-wider p q wider [] = refl
@@ -66,9 +56,6 @@ filter-wider {X} p q wider (x ∷ xs) = elim (cases_Bool (p x)) [
   where
     skipped : (l : List X) → p x ≡ false → filter p (x ∷ l) ≡ filter p l
     skipped l off = ap (λ (b : Bool). cond b (x ∷ filter p l) (filter p l)) off
-
-none-past : {X : Type 0} (xs : List X) (n : ℕ) → slice_get xs n ≡ None → length xs ≤ n
-none-past xs n none = elim (slice_get_cases xs n).1 [ inl here ↦ absurd (none-some here.0 (sym none ∙ here.2)) | inr past ↦ past.0 ]
 
 -- ---- the items of one lane
 
@@ -109,7 +96,7 @@ fit_from events n (suc count) within = by (slice_get events n) refl (fit_from ev
         subst (λ (o : Option Event). FitFrom events n (option_map_or (λ event. item.Event event) o item.End ∷ items_from events (n + 1) count)) (sym is)
         (is, (λ ends. absurd (cc ends)), rest)
     by None is rest =
-        let past = none-past events n is in
+        let past = slice_get_none events n is in
         let last : n ≡ length events = omega (arith, past, within) in
         let none : count ≡ 0 = omega (arith, past, within) in
         subst (λ (o : Option Event). FitFrom events n (option_map_or (λ event. item.Event event) o item.End ∷ items_from events (n + 1) count)) (sym is)
@@ -149,7 +136,7 @@ module _ (plan : Plan) (ok : IsPlan plan) (s : State) (a : IsAccounted plan 0 s 
       by (Some e) is = ap (λ (o : Option Executor). option_map_or (λ e. e.queue.items) o []) is ∙ (stand y e is).queue
       by None is =
           ap (λ (o : Option Executor). option_map_or (λ e. e.queue.items) o []) is
-          ∙ sym (ap (λ (t : ExecutorState). envelopes_at plan t.queue) (get_or_past s.executors y nothing_waits (omega (arith, none-past executors y is, size, a.executors))))
+          ∙ sym (ap (λ (t : ExecutorState). envelopes_at plan t.queue) (get_or_past s.executors y nothing_waits (omega (arith, slice_get_none executors y is, size, a.executors))))
 
   -- what one executor keeps for another that is there
   kept-is : (x y : ℕ) → y < plan.executors → kept_for executors x y ≡ envelopes_at plan (filter (is_for plan y) (backlog_at s x))
@@ -161,9 +148,9 @@ module _ (plan : Plan) (ok : IsPlan plan) (s : State) (a : IsAccounted plan 0 s 
             let ws = st.stands.waiting y at.0 at.2 in
             ap (λ (o : Option (BacklogView ℕ)). option_map_or (λ w. map (λ entry. entry.0) w.items) o []) at.2
             ∙ ap (map (λ (entry : Envelope × ℕ). entry.0)) ws.items
-            ∙ map-map (entry_at plan) (λ (entry : Envelope × ℕ). entry.0) (filter (is_aged_for plan y) st.aged)
-            ∙ sym (map-map (λ (i : Aged). i.place) (envelope_at plan) (filter (is_aged_for plan y) st.aged))
-            ∙ ap (envelopes_at plan) (sym (filter-map (λ (i : Aged). i.place) (is_for plan y) st.aged) ∙ ap (filter (is_for plan y)) (sym st.backlog))
+            ∙ map-map (λ (entry : Envelope × ℕ). entry.0) (entry_at plan) (filter (is_aged_for plan y) st.aged)
+            ∙ sym (map-map (envelope_at plan) (λ (i : Aged). i.place) (filter (is_aged_for plan y) st.aged))
+            ∙ ap (envelopes_at plan) (sym (filter-map (is_for plan y) (λ (i : Aged). i.place) st.aged) ∙ ap (filter (is_for plan y)) (sym st.backlog))
         | inr past ↦ absurd (omega (arith, past.0, st.stands.targets, there))
       ]
 
@@ -171,7 +158,7 @@ module _ (plan : Plan) (ok : IsPlan plan) (s : State) (a : IsAccounted plan 0 s 
       by (Some e) is = ap (λ (o : Option Executor). kept_of o y) is ∙ one e (stand x e is)
       by None is =
           ap (λ (o : Option Executor). kept_of o y) is
-          ∙ sym (ap (λ (t : ExecutorState). envelopes_at plan (filter (is_for plan y) t.backlog)) (get_or_past s.executors x nothing_waits (omega (arith, none-past executors x is, size, a.executors))))
+          ∙ sym (ap (λ (t : ExecutorState). envelopes_at plan (filter (is_for plan y) t.backlog)) (get_or_past s.executors x nothing_waits (omega (arith, slice_get_none executors x is, size, a.executors))))
 
   module _ (lane : Lane) (p : ChannelPlan) (here : slice_get plan.channels lane.channel ≡ Some p) (within : lane.hop ≤ last_hop p lane.kind) where
     abbrev y : ℕ
@@ -191,7 +178,7 @@ module _ (plan : Plan) (ok : IsPlan plan) (s : State) (a : IsAccounted plan 0 s 
         let envelope = envelope_at plan in
         ap₂ (λ (l r : List Envelope). filter (on_lane lane) (l ++ r)) (queued-is y) (kept-is (origin_by p lane.hop) y there)
         ∙ ap (filter (on_lane lane)) (sym (map-append envelope q (filter (is_for plan y) b)))
-        ∙ filter-map envelope (on_lane lane) (q ++ filter (is_for plan y) b)
+        ∙ filter-map (on_lane lane) envelope (q ++ filter (is_for plan y) b)
         ∙ ap (envelopes_at plan)
         (filter-append (is_on lane) q (filter (is_for plan y) b)
         ∙ ap (λ (l : List Place). filter (is_on lane) q ++ l) (filter-wider (is_on lane) (is_for plan y) (λ i on. eq-eqb (target plan i) y (to_lane plan lane p here i on)) b)

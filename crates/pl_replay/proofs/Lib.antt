@@ -29,6 +29,5 @@ pub mod Reported
 pub mod InFlightLemmas
 pub mod MadeOfTaken
 pub mod NewNets
-pub mod CountingLemmas
 pub mod Totals
 mod Told

@@ -14,7 +14,8 @@ use Rattle.pl_channel.specs.MadeItems.{has_end, one_if, up_items, down_items, tu
 use Rattle.pl_channel.specs.ChannelStates.{ChannelState}
 use Rattle.pl_replay.specs.LaneAccount.{data_made}
 use Rattle.pl_replay.specs.InFlight.{MakesOfTaken}
-use Rattle.pl_channel.proofs.Items.{take-prefix_whole, content-input, content-up, content-down, content-turn, items_made-inbound, items_made-turn, items_made-outbound}
+use Rattle.pl_event.proofs.Lists.{take-prefix_whole}
+use Rattle.pl_channel.proofs.Items.{content-input, content-up, content-down, content-turn, items_made-inbound, items_made-turn, items_made-outbound}
 use Rattle.pl_channel.proofs.StageItems.{down_of-quit}
 use Rattle.pl_replay.proofs.Making.{writer-turn, writer-other}
 

@@ -12,7 +12,8 @@ use Rattle.pl_replay.specs.CoreMoves.{target, has_room, oldest, no_place}
 use Rattle.pl_replay.specs.BacklogStand.{Aged, is_for, is_aged_for, BacklogStands, ExecutorStands, ExecutorsStand, older_of, IsOldest}
 use Rattle.pl_replay.specs.declared.executors.Executor.{Executor}
 use Rattle.pl_replay.proofs.StateLemmas.{backlog_at}
-use Rattle.pl_replay.proofs.Firsts.{find-All, find-none, find-agree, find-map, find-first, find-None-position, find-Some-position, position-first, position-is}
+use Rattle.pl_event.proofs.Lists.{find-agree, find-map}
+use Rattle.pl_replay.proofs.Firsts.{find-All, find-none, find-first, find-None-position, find-Some-position, position-first, position-is}
 
 -- ---- a list in the order of its ages
 
@@ -177,7 +178,7 @@ module _ (plan : Plan) (places : ℕ → ℕ) (s : State) (x n : ℕ) (e : Execu
       all = is ∙ oldest_below-all to (λ i. i.age) (room_at plan s) n st.aged aged-there
 
       places_found : find (has_room plan s) (backlog_at s x) ≡ option_map (λ (a : Aged). a.place) (find (λ a. has_room plan s a.place) st.aged)
-      places_found = ap (find (has_room plan s)) st.backlog ∙ find-map (λ (a : Aged). a.place) (has_room plan s) st.aged
+      places_found = ap (find (has_room plan s)) st.backlog ∙ find-map (has_room plan s) (λ (a : Aged). a.place) st.aged
 
       by : (o : Option Aged) → find (λ a. has_room plan s a.place) st.aged ≡ o → IsOldest plan s x (option_map (λ f. f.0) found)
       by None nothing =

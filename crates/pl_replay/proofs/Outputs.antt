@@ -4,7 +4,7 @@ use Rattle.std.proofs.lemmas.Bool.{cases_Bool, or_cases, or_left, or_right, or_p
 use Rattle.pl_event.specs.declared.events.Event.{Event}
 use Rattle.pl_event.specs.Meaning.{IsPrefixOf}
 use Rattle.pl_head.specs.Writes.{write_by, is_flush, has_flush, flushed_writes, bytes_of, out, offered}
-use Rattle.pl_channel.proofs.Items.{length-prefix, take-prefix}
+use Rattle.pl_event.proofs.Lists.{length-prefix, take-prefix}
 
 has_flush-longer : (xs ys : List Event) → has_flush xs ≡ true → has_flush (xs ++ ys) ≡ true
 has_flush-longer [] ys h = cc h

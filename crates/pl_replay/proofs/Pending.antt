@@ -8,7 +8,7 @@ use Rattle.std.proofs.lemmas.Bool.{eq-eqb, ne_eqb}
 use Rattle.pl_world.specs.Plans.{ChannelPlan, Plan}
 use Rattle.pl_channel.specs.MadeItems.{Place}
 use Rattle.pl_replay.specs.States.{ExecutorState, State, channel_at, with_channel, with_waiting}
-use Rattle.pl_replay.specs.CoreMoves.{Work, target, passed_on, made_from, with_taken, after_call, Settles}
+use Rattle.pl_replay.specs.CoreMoves.{Work, target, passed_on, made_from, with_taken, after_call}
 use Rattle.pl_channel.specs.ChannelMoves.{after_taking}
 use Rattle.pl_replay.specs.LaneAccount.{IsAccounted, IsWork, IsWaiting}
 use Rattle.pl_world.specs.PlanRules.{IsPlan}
@@ -16,7 +16,6 @@ use Rattle.pl_replay.specs.NetStand.{pending}
 use Rattle.pl_replay.proofs.StateLemmas.{queue_at, backlog_at, backlog_at-with_waiting, length-with_executor}
 use Rattle.pl_replay.proofs.Passing.{with_waiting-append, passed_on-none, passed_on-append}
 use Rattle.pl_replay.proofs.CallSteps.{accounted_call}
-use Rattle.pl_replay.proofs.Runs.{settles-done, settles_unique}
 
 module _ (plan : Plan) (x : ℕ) (s : State) where
   -- with an empty list
@@ -26,10 +25,6 @@ module _ (plan : Plan) (x : ℕ) (s : State) where
   pub pending-size : (calling listed : List Place) → length (pending plan x s calling listed).state.executors ≡ length s.executors
   pending-size calling listed =
       length-with_executor s x (record { queue = queue_at s x; backlog = backlog_at s x ++ filter (λ i. not (eqb (target plan i) x)) listed })
-
-  pub pending-done : (end : State) → Settles plan x (pending plan x s [] []) end → end ≡ s
-  pending-done end settled =
-      sym (settles_unique plan x (record { state = s; items = [] }) s end (settles-done plan x s) (subst (λ (w : Work). Settles plan x w end) (pending-none []) settled))
 
   abbrev parted : State → List Place → Bool → Place → List Place → Work
   parted now calling b item rest = record {

@@ -1,7 +1,7 @@
 -- The lanes between executors, counted.
-use Rattle.std.proofs.Common.{◌≡◌, ℕ, ◌+◌, ◌<◌, ◌≤◌, true, false, Some, List, [], ◌∷◌, ◌++◌, length, map, get_or, take, sym, ap, ◌∙◌, subst, arith, inl, inr, length-append}
+use Rattle.std.proofs.Common.{◌≡◌, ℕ, ◌+◌, ◌*◌, ◌<◌, ◌≤◌, true, false, Some, List, [], ◌∷◌, ◌++◌, length, map, get_or, take, sym, ap, ◌∙◌, subst, arith, inl, inr, length-append}
 use Rattle.std.specs.List.{All, count_by, sum_by, range_with_len, slice_get}
-use Rattle.std.proofs.lemmas.List.{length-map, length-take-le, take_all, get_or-map, get_or_append_left}
+use Rattle.std.proofs.lemmas.List.{length-map, take_all, get_or-map, get_or_append_left}
 use Rattle.std.proofs.lemmas.Option.{slice_get_within, slice_get-get_or, get_or_from_slice_get}
 use Rattle.std.proofs.Math.Seq.{get_or-append_seam}
 use Rattle.std.proofs.lemmas.List.Sums.{count_by-le-length, count_by_more_yes, count_by_more_no, sum_by-le, sum_by_more, sum_by_more_le, sum_by_more_le_part}
@@ -10,6 +10,8 @@ use Rattle.std.proofs.lemmas.List.FromFn.{length-range_with_len, get_or-range_wi
 use Rattle.std.proofs.lemmas.Bool.{cases_lt}
 use Rattle.pl_event.specs.Meaning.{Meaning}
 use Rattle.pl_head.specs.Transports.{TransportState}
+use Rattle.pl_build.specs.declared.limits.TheConstants.{MAX_HANDLERS}
+use Rattle.pl_world.specs.declared.limits.TheConstants.{MAX_CHANNELS}
 use Rattle.pl_world.specs.Plans.{ChannelPlan, Plan, head_hop}
 use Rattle.pl_replay.specs.States.{ExecutorState, nothing_waits, start}
 use Rattle.pl_replay.specs.BacklogStand.{ExecutorStands, ExecutorsStand}
@@ -18,7 +20,7 @@ use Rattle.pl_replay.specs.NetStand.{goes, lanes_between}
 use Rattle.pl_replay.specs.PlacedStand.{ArePlaced, lanes_of}
 use Rattle.pl_channel.specs.declared.placed_channels.PlacedChannel.{PlacedChannel}
 use Rattle.pl_replay.specs.declared.executors.Executor.{Executor}
-use Rattle.pl_channel.proofs.PlacedLemmas.{get_or-replicate_any}
+use Rattle.pl_event.proofs.Lists.{get_or-replicate_any}
 
 -- ---- the lanes of one channel
 
@@ -29,11 +31,6 @@ module _ (x y : ℕ) (p : ChannelPlan) where
   -- those among the first n
   abbrev pub lanes_upto : ℕ → ℕ
   lanes_upto n = count_by (goes x y p) (take n (hops_of p))
-
-  pub lanes_upto-le : (n : ℕ) → n ≤ head_hop p + 1 → lanes_upto n ≤ n
-  lanes_upto-le n within =
-      let size = length-range_with_len 0 (head_hop p + 1) in
-      omega (arith, count_by-le-length (goes x y p) (take n (hops_of p)), length-take-le n (hops_of p) (omega (arith, within, size)))
 
   pub lanes_of-le : lanes_of x y p ≤ head_hop p + 1
   lanes_of-le = omega (arith, count_by-le-length (goes x y p) (hops_of p), length-range_with_len 0 (head_hop p + 1))
@@ -98,11 +95,11 @@ sum_upto-all meaning state f channels n all plan is =
     ap (sum_by f) (take_all n (map (channel_plan meaning state) channels) (omega (arith, all, length-map channels (channel_plan meaning state))) ∙ sym is)
 
 -- there are few
-pub hops-few : {S T : Type 0} (meaning : S → Meaning) (state : T → TransportState) (channels : List (PlacedChannel S T)) → ArePlaced meaning state channels → sum_by (λ q. head_hop q + 1) (map (channel_plan meaning state) channels) ≤ 544
+pub hops-few : {S T : Type 0} (meaning : S → Meaning) (state : T → TransportState) (channels : List (PlacedChannel S T)) → ArePlaced meaning state channels → sum_by (λ q. head_hop q + 1) (map (channel_plan meaning state) channels) ≤ MAX_CHANNELS * (MAX_HANDLERS + 2)
 hops-few {S} {T} meaning state channels placed =
-    let each : All (λ (c : PlacedChannel S T). head_hop (channel_plan meaning state c) + 1 ≤ 34) channels =
+    let each : All (λ (c : PlacedChannel S T). head_hop (channel_plan meaning state c) + 1 ≤ MAX_HANDLERS + 2) channels =
     λ i d below. let one = placed.each i d below in omega (arith, one.hops, one.few) in
-    let all = sum_by-le (λ (q : ChannelPlan). head_hop q + 1) 34 (map (channel_plan meaning state) channels) (All-map (λ (q : ChannelPlan). head_hop q + 1 ≤ 34) (channel_plan meaning state) channels each) in
+    let all = sum_by-le (λ (q : ChannelPlan). head_hop q + 1) (MAX_HANDLERS + 2) (map (channel_plan meaning state) channels) (All-map (λ (q : ChannelPlan). head_hop q + 1 ≤ MAX_HANDLERS + 2) (channel_plan meaning state) channels each) in
     omega (arith, all, length-map channels (channel_plan meaning state), placed.few)
 
 -- ---- executors with places

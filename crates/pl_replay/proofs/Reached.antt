@@ -3,6 +3,7 @@ use Rattle.std.proofs.Common.{◌≡◌, ℕ, zero, suc, ◌+◌, ◌<◌, Bool,
 use Rattle.std.specs.List.{list_all}
 use Rattle.std.proofs.lemmas.List.{take_more}
 use Rattle.std.proofs.lemmas.List.Folds.{list_all_more}
+use Rattle.std.proofs.Math.Bool.{and-false}
 use Rattle.pl_world.specs.declared.moves.Move.{Move}
 use Rattle.pl_world.specs.Plans.{Plan}
 use Rattle.pl_replay.specs.States.{State}
@@ -27,8 +28,4 @@ pub there_stops : (plan : Plan) (ms : List Move) (i : ℕ) (d : Move) → i < le
 there_stops plan [] i d within off = absurd (omega (arith, within))
 there_stops plan (m ∷ ms) zero d within off = ap (λ (b : Bool). b && list_all (is_there plan) ms) off
 there_stops plan (m ∷ ms) (suc i) d within off =
-    ap (λ (b : Bool). is_there plan m && b) (there_stops plan ms i d (omega (arith, within)) off) ∙ and_false (is_there plan m)
-  where
-    and_false : (b : Bool) → (b && false) ≡ false
-    and_false true = refl
-    and_false false = refl
+    ap (λ (b : Bool). is_there plan m && b) (there_stops plan ms i d (omega (arith, within)) off) ∙ and-false (is_there plan m)

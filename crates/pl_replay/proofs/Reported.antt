@@ -4,6 +4,7 @@ use Rattle.std.specs.List.{list_all, slice_get, AllZip}
 use Rattle.std.specs.Prelude.{if◌then◌else◌, nat_le}
 use Rattle.std.proofs.lemmas.List.{take_all}
 use Rattle.std.proofs.lemmas.Option.{slice_get_within}
+use Rattle.std.proofs.Math.Bool.{and-false}
 use Rattle.pl_event.specs.declared.events.Event.{Event}
 use Rattle.pl_event.specs.Meaning.{Meaning}
 use Rattle.pl_head.specs.Transports.{TransportState}
@@ -49,11 +50,7 @@ one_open (q ∷ ps) (s ∷ ss) zero p here within open_one =
     let same : q ≡ p = cc here in
     ap (λ (b : Bool). b && list_all is_drained (reports_at ps ss)) (ap (λ (r : ChannelPlan). is_drained (report_at r s)) same ∙ open_one)
 one_open (q ∷ ps) (s ∷ ss) (suc k) p here within open_one =
-    ap (λ (b : Bool). is_drained (report_at q s) && b) (one_open ps ss k p here (omega (arith, within)) open_one) ∙ and_false (is_drained (report_at q s))
-  where
-    and_false : (b : Bool) → (b && false) ≡ false
-    and_false true = refl
-    and_false false = refl
+    ap (λ (b : Bool). is_drained (report_at q s) && b) (one_open ps ss k p here (omega (arith, within)) open_one) ∙ and-false (is_drained (report_at q s))
 
 -- a report that says so is of a channel whose transport has failed
 failed_is : (failed a b c : Bool) (cause : Cause) → (if failed then Failed Transport else if a && b && c then Drained else Open) ≡ Failed cause → failed ≡ true

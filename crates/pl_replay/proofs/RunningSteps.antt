@@ -38,12 +38,13 @@ use Rattle.pl_replay.proofs.CallSteps.{planned-at, executor-there, last_hop-le, 
 use Rattle.pl_replay.proofs.Taking.{known_of}
 use Rattle.pl_replay.proofs.Flights.{lane_of}
 use Rattle.pl_replay.proofs.Runs.{front-next, front-le, settles-call, untaken_falls}
+use Rattle.pl_event.proofs.Lists.{slice_get_none}
 use Rattle.pl_channel.proofs.Items.{turn-within}
 use Rattle.pl_channel.proofs.LaneItems.{envelope_at-channel, envelopes_at-channel}
 use Rattle.pl_replay.proofs.Pending.{pending-none, pending-size, pending-own, pending-other, pending-waits, pending-works, pending-call, accounted-call}
 use Rattle.pl_replay.proofs.QueueSteps.{accounted_any}
 use Rattle.pl_replay.proofs.AllMade.{all_made-grows, all_made-few}
-use Rattle.pl_replay.proofs.CoreSteps.{slice_get_none, small_at, channel_there, holds_work, holds_executor, holds_channel}
+use Rattle.pl_replay.proofs.CoreSteps.{small_at, channel_there, holds_work, holds_executor, holds_channel}
 
 -- ---- lanes from one executor to another
 

@@ -1,4 +1,4 @@
--- Every run from the start keeps the account; direct calls come to an end, and to one end only.
+-- Every run from the start keeps the account, and each direct call leaves less to take.
 use Rattle.std.proofs.Common.{◌≡◌, ℕ, zero, suc, ◌+◌, ◌<◌, ◌≤◌, true, false, Option, Some, None, List, [], ◌∷◌, refl, sym, ap, ◌∙◌, subst, arith, inl, inr, le_refl}
 use Rattle.std.specs.List.{slice_get}
 use Rattle.std.specs.Option.{MatchOption, option_map_or}
@@ -62,40 +62,10 @@ module _ (plan : Plan) (ok : IsPlan plan) (x : ℕ) (there : x < plan.executors)
       let below = front-below s item items a p here in
       omega (arith, below, front-next s item items a, made_at-le plan ok x s (item ∷ items) a item.lane.channel p here item.lane.kind item.lane.hop within)
 
-  settles_within : (most : ℕ) (s : State) (items : List Place) → IsAccounted plan x s items → untaken plan s ≤ most → (end : State) × Settles plan x (record { state = s; items = items }) end
-  settles_within most s [] a few = (s, (0, refl))
-  settles_within zero s (item ∷ items) a few = absurd (omega (arith, few, untaken_falls s item items a))
-  settles_within (suc most) s (item ∷ items) a few =
-      let next = after_call plan x (record { state = s; items = item ∷ items }) in
-      let rest = settles_within most next.state next.items (accounted_call plan ok x there s (item ∷ items) a) (omega (arith, few, untaken_falls s item items a)) in
-      (rest.0, (suc rest.1.0, rest.1.1))
-
-  -- so every list is worked off
-  pub settles : (w : Work) → IsAccountedWork plan x w → (end : State) × Settles plan x w end
-  settles w a = settles_within (untaken plan w.state) w.state w.items a (le_refl (untaken plan w.state))
-
--- in one way
 module _ (plan : Plan) (x : ℕ) where
   -- for a loop that makes one call after another
-  pub settles-done : (s : State) → Settles plan x (record { state = s; items = [] }) s
-  settles-done s = (0, refl)
-
   pub settles-call : (w : Work) (end : State) → Settles plan x (after_call plan x w) end → Settles plan x w end
   settles-call w end rest = (suc rest.0, rest.1)
-
-  stays : (n : ℕ) (end : State) → after_calls plan x n (record { state = end; items = [] }) ≡ record { state = end; items = [] }
-  stays zero end = refl
-  stays (suc n) end = stays n end
-
-  same_end : (n m : ℕ) (w : Work) (a b : State) → after_calls plan x n w ≡ record { state = a; items = [] } → after_calls plan x m w ≡ record { state = b; items = [] } → a ≡ b
-  same_end zero m w a b here there =
-      ap (λ (v : Work). v.state) (sym (stays m a) ∙ ap (λ (v : Work). after_calls plan x m v) (sym here) ∙ there)
-  same_end (suc n) zero w a b here there =
-      ap (λ (v : Work). v.state) (sym here ∙ ap (λ (v : Work). after_calls plan x (suc n) v) there ∙ stays (suc n) b)
-  same_end (suc n) (suc m) w a b here there = same_end n m (after_call plan x w) a b here there
-
-  pub settles_unique : (w : Work) (a b : State) → Settles plan x w a → Settles plan x w b → a ≡ b
-  settles_unique w a b here there = same_end here.0 there.0 w a b here.1 there.1
 
 -- ---- moves
 

@@ -19,7 +19,7 @@ use Rattle.pl_replay.proofs.Flights.{lane_of}
 use Rattle.pl_channel.proofs.Numbers.{range_none}
 use Rattle.pl_channel.proofs.Items.{items_made-none, read_items-none}
 use Rattle.pl_replay.proofs.CallSteps.{planned-at}
-use Rattle.pl_channel.proofs.PlacedLemmas.{get_or-replicate_any}
+use Rattle.pl_event.proofs.Lists.{get_or-replicate_any}
 
 module _ (plan : Plan) where
   pub executor_rests : (x : ℕ) → executor_at (start plan) x ≡ nothing_waits

@@ -3,7 +3,6 @@ pub mod Replays
 pub mod BacklogStand
 pub mod NetStand
 pub mod InFlight
-pub mod CountingStage
 pub mod PlacedStand
 pub mod CoreMoves
 pub mod LaneAccount

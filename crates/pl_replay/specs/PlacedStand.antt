@@ -4,6 +4,7 @@ use Rattle.std.specs.List.{range_with_len}
 use Rattle.pl_event.specs.declared.events.Event.{Event}
 use Rattle.pl_event.specs.Meaning.{Meaning}
 use Rattle.pl_head.specs.Transports.{TransportState}
+use Rattle.pl_world.specs.declared.limits.TheConstants.{MAX_CHANNELS}
 use Rattle.pl_world.specs.Plans.{ChannelPlan, head_hop}
 use Rattle.pl_channel.specs.ChannelStates.{at_rest}
 use Rattle.pl_channel.specs.ChannelStand.{channel_plan, ChannelStands, IsPlaced}
@@ -15,9 +16,9 @@ abbrev pub lanes_of : ℕ → ℕ → ChannelPlan → ℕ
 lanes_of x y p = count_by (goes x y p) (range_with_len 0 (head_hop p + 1))
 
 module _ {S T : Type 0} (meaning : S → Meaning) (state : T → TransportState) where
-  -- at most 16 channels, each placed
+  -- few channels, each placed
   pub record ArePlaced (channels : List (PlacedChannel S T)) : Type 0 where
-    pub few : length channels ≤ 16
+    pub few : length channels ≤ MAX_CHANNELS
     pub each : All (IsPlaced meaning state) channels
 
   -- The channels are those of these plans, each under its number, before any move.

@@ -1,3 +1,5 @@
+//! What waits in a net between two moves, as a law.
+
 ghost use Rattle.std.specs.Prelude.{◌≡◌, ◌≤◌, ℕ, List, [], Some, slice_get};
 ghost use Rattle.pl_event.specs.declared.envelopes.Lane.{Lane};
 ghost use Rattle.pl_world.specs.declared.moves.Move.{Move};

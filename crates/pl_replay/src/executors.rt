@@ -29,7 +29,7 @@ impl Executor {
     ghost use Rattle.pl_replay.specs.NetStand.{waits_at};
     ghost use Rattle.pl_replay.specs.BacklogStand.{Aged, is_for, is_aged_for, BacklogStands, ExecutorStands, Keeps, TakesFront, HasSpace, with_task, with_late, without_late};
 
-    /// One at which nothing waits. For each executor it has places for so many lanes.
+    /// One at which nothing waits. For each executor it has places for that number of lanes.
     pub(crate) fn new(alloc: Global, places: &[u16]) -> Result<Self, AllocError>
         ensures stands { IfOk result (λ e. (plan : Plan) (lanes : ℕ → ℕ) → length places.now ≡ plan.executors
             → ((y : ℕ) → y < plan.executors → get_or places.now y 0 ≡ lanes y) → ExecutorStands plan lanes nothing_waits e) }
@@ -55,7 +55,7 @@ impl Executor {
         self.queue.pop_front()
     }
 
-    /// Whether its queue has room, where one holds so many items.
+    /// Whether its queue has room, where one holds `capacity` items.
     pub(crate) fn has_room(&self, capacity: usize) -> bool
         ensures { (plan : Plan) (places : ℕ → ℕ) (s : ExecutorState) → ExecutorStands plan places s self.now → result ≡ nat_lt (length s.queue) capacity }
     {
@@ -80,8 +80,8 @@ impl Executor {
         self.queue.push_back_reserved(envelope);
     }
 
-    /// Puts an item for another executor at the end of the backlog. An `Err` says that memory was wanted, and leaves a
-    /// backlog of which nothing is promised.
+    /// Puts an item for another executor at the end of the backlog. An `Err` says that a growth was refused, and leaves
+    /// a backlog of which nothing is promised.
     pub(crate) fn add(&mut self, target: usize, envelope: Envelope) -> Result<(), AllocError>
         requires stands { (plan : Plan) × (places : ℕ → ℕ) × (s : ExecutorState) × ExecutorStands plan places s self.old × (target < plan.executors) × (1 ≤ places target) }
         requires age { self.old.next_age + 1 < 2 ^ 64 }

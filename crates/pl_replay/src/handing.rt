@@ -8,7 +8,7 @@ ghost use Rattle.pl_replay.specs.BacklogStand.{ExecutorsStand, older_of, IsOldes
 
 use crate::executors::Executor;
 
-/// The target of the oldest item of an executor's backlog whose queue has room, where a queue holds so many items.
+/// The target of the oldest item of an executor's backlog whose queue has room, where a queue holds `capacity` items.
 pub(crate) fn oldest_target(executors: &[Executor], origin: usize, capacity: usize) -> Option<usize>
     requires there { origin < length executors.now }
     requires stand { (plan : Plan) × (places : ℕ → ℕ → ℕ) × (s : State) × ExecutorsStand plan places s executors.now }

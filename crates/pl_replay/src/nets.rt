@@ -4,6 +4,7 @@ ghost use Rattle.std.specs.Prelude.{◌≡◌, ◌<◌, ◌≤◌, ◌^◌, ◌=
 ghost use Rattle.std.specs.List.{list_all, AllZip};
 ghost use Rattle.pl_event.specs.declared.envelopes.Lane.{Lane};
 ghost use Rattle.pl_world.specs.declared.faults.ReplayFault.TheVariants as fault;
+ghost use Rattle.pl_world.specs.declared.limits.TheConstants.{MAX_CAPACITY};
 ghost use Rattle.pl_world.specs.declared.moves.Move.TheVariants as move;
 ghost use Rattle.pl_world.specs.Plans.{Plan, ChannelPlan, planned, tail_hop};
 ghost use Rattle.pl_replay.specs.MoveModel.{is_there};
@@ -29,7 +30,7 @@ use std::marker::Model;
 pub struct Net<S: Stage, T: Transport> {
     alloc: Global,
     core: Core<S, T>,
-    /// Something failed for want of memory, so the net can't go on.
+    /// Something ran out of memory, so the net can't go on.
     is_spent: bool,
 }
 
@@ -52,9 +53,10 @@ impl<S: Stage, T: Transport> Net<S, T> {
     ghost use Rattle.pl_replay.specs.InFlight.{IsInOrder, MakesOfTaken};
     ghost use Rattle.pl_replay.specs.Replays.{IsTied};
 
-    /// A world before any move, whose queues hold so many items. An `Err` is `Memory`.
+    /// A world before any move, whose queues hold at most `capacity` items each, from 1 to `MAX_CAPACITY`. An `Err` is
+    /// `Memory`.
     pub fn new(alloc: Global, world: World<S, T>, capacity: u32) -> Result<Self, ReplayFault>
-        requires capacity { (1 ≤ capacity) × (capacity ≤ 65536) }
+        requires capacity { (1 ≤ capacity) × (capacity ≤ MAX_CAPACITY) }
         ensures starts { IfOk result (λ net. NetStarts S.meaning S.stands_after T.state (planned S.meaning T.state capacity world.executors world.channels) net) }
         ensures memory { IfErr result (λ e. e ≡ fault.Memory) }
     {
@@ -111,7 +113,7 @@ impl<S: Stage, T: Transport> Net<S, T> {
         !self.is_spent && self.core.is_drained()
     }
 
-    /// What became of each channel. An `Err` is `Memory`, and leaves the net as it was.
+    /// What became of each channel: a copy, and the net goes on. An `Err` is `Memory`, and leaves the net as it was.
     pub fn report(&self) -> Result<Report, ReplayFault>
         ensures stands { OnOk result ((plan : Plan) × (s : State) × NetStands S.meaning S.stands_after T.state plan s self.now) }
         ensures report { IfOk result (λ report. (plan : Plan) (s : State) → NetStands S.meaning S.stands_after T.state plan s self.now →
@@ -135,6 +137,26 @@ impl<S: Stage, T: Transport> Net<S, T> {
         Ok(Report { channels })
     }
 
+    /// The report of a net that is used no more. What each tail recorded and each transport accepted is moved into it,
+    /// where `report` copies it. An `Err` is `Memory`.
+    pub fn into_report(self) -> Result<Report, ReplayFault>
+        ensures stands { OnOk result ((plan : Plan) × (s : State) × NetStands S.meaning S.stands_after T.state plan s self) }
+        ensures report { IfOk result (λ report. (plan : Plan) (s : State) → NetStands S.meaning S.stands_after T.state plan s self →
+            report.channels ≡ reports_at plan.channels s.channels) }
+        ensures kept { IfOk result (λ report. (plan : Plan) (s : State) → NetStands S.meaning S.stands_after T.state plan s self →
+            AllKeepToPlan plan.channels report.channels) }
+        ensures tied { IfOk result (λ report. AllZip (IsTied T.state) self.core.channels.items report.channels) }
+        ensures memory { IfErr result (λ e. e ≡ fault.Memory) }
+        ensures spent { self.is_spent ≡ true → result ≡ Err fault.Memory }
+    {
+        if self.is_spent {
+            return Err(ReplayFault::Memory);
+        }
+        let Net { alloc, core, .. } = self;
+        let channels = core.into_reports(alloc)?;
+        Ok(Report { channels })
+    }
+
     /// The flags that a channel's tail has taken: false where the channel became not writable, true where it became
     /// writable again. None where there is no such channel. A spent net gives what the tail took until then.
     pub fn flags(&self, channel: u16) -> Option<&[bool]>
@@ -152,7 +174,7 @@ impl<S: Stage, T: Transport> Net<S, T> {
 /// The channels and executors of a net.
 #[derive(Drop)]
 struct Core<S: Stage, T: Transport> {
-    /// How many items a queue holds.
+    /// How many items a queue holds at most.
     capacity: usize,
     channels: Vec<PlacedChannel<S, T>>,
     executors: Vec<Executor>,
@@ -230,7 +252,7 @@ impl<S: Stage, T: Transport> Core<S, T> {
     }
 
     /// What a channel's head has put on the work list is worked off by the executor on which the channel lives. An `Err`
-    /// says that something failed for want of memory.
+    /// says that something ran out of memory.
     fn settle(&mut self, channel: usize) -> Result<(), AllocError>
         requires there { channel < vec_len self.old.channels }
         requires puts { (plan : Plan) × (s : State) × (listed : List Place) × HasPut S.meaning S.stands_after T.state plan channel s listed self.old }
@@ -374,5 +396,17 @@ impl<S: Stage, T: Transport> Core<S, T> {
             reports.push(channel.report(alloc)?)?;
         }
         Ok(Sequence::from_vec(reports))
+    }
+    /// The same of a core that is used no more: what is copied there is moved here.
+    fn into_reports(self, alloc: Global) -> Result<Sequence<ChannelReport>, AllocError>
+        ensures { IfOk result (λ reports. (plan : Plan) (s : State) → CoreStands S.meaning S.stands_after T.state plan s self
+            → reports ≡ reports_at plan.channels s.channels) }
+    {
+        let Core { channels, .. } = self;
+        let mut moved = Vec::with_capacity(alloc, channels.len())?;
+        for channel in channels {
+            moved.push(channel.into_report(alloc)?)?;
+        }
+        Ok(Sequence::from_vec(moved))
     }
 }

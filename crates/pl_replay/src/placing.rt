@@ -2,6 +2,8 @@
 
 ghost use Rattle.std.specs.Prelude.{◌≡◌, ℕ, ◌+◌, ◌<◌, ◌≤◌, ◌^◌, map, get_or, length, vec_len, All, IfOk};
 ghost use Rattle.pl_event.specs.Inputs.{recorded_input};
+ghost use Rattle.pl_build.specs.declared.limits.TheConstants.{MAX_HANDLERS};
+ghost use Rattle.pl_world.specs.declared.limits.TheConstants.{MAX_CHANNELS};
 ghost use Rattle.pl_world.specs.Worlds.{IsUncalled};
 ghost use Rattle.pl_world.specs.Plans.{Plan, channel_planned};
 ghost use Rattle.pl_world.specs.PlanRules.{lane_count};
@@ -23,7 +25,7 @@ pub(crate) fn placed<S: Stage, T: Transport>(
     alloc: Global,
     recorded: Vec<Recorded<S, T>>,
 ) -> Result<Vec<PlacedChannel<S, T>>, AllocError>
-    requires count { vec_len recorded ≤ 16 }
+    requires count { vec_len recorded ≤ MAX_CHANNELS }
     requires few { All (λ r. length (recorded_input r.bursts) + 1 < 2 ^ 31) recorded.items }
     requires uncalled { All (λ r. IsUncalled (T.state r.transport)) recorded.items }
     ensures rest { IfOk result (λ channels. AreAtRest S.meaning T.state S.stands_after (map (channel_planned S.meaning T.state) recorded.items) channels.items) }
@@ -100,7 +102,7 @@ fn lanes_of<S: Stage, T: Transport>(
 ) -> u16
     requires { IsPlaced S.meaning T.state channel.now }
     ensures lanes { result ≡ lanes_of origin target (channel_plan S.meaning T.state channel.now) }
-    ensures few { result ≤ 34 }
+    ensures few { result ≤ MAX_HANDLERS + 2 }
 {
     let mut lanes = 0;
     for hop in 0..channel.hops() {

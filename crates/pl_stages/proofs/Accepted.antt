@@ -19,7 +19,7 @@ stops true later y front more = refl
 stops false true y front more = refl
 stops false false y front more = refl
 
--- one event more stands before the first quit, unless it is one or one came
+-- one event more is before the first quit, unless it is one or one came
 pub before_quit-push : (xs : List Event) (x : Event)
     → before_quit (xs ++ x ∷ []) ≡ cond (has_quit xs) (before_quit xs) (before_quit xs ++ before_quit (x ∷ []))
 before_quit-push [] x = refl
@@ -29,22 +29,22 @@ before_quit-push (y ∷ ys) x =
     ∙ stops (is_quit y) (has_quit ys) y (before_quit ys) (before_quit (x ∷ []))
     ∙ ap (λ (t : List Event). cond (is_quit y || has_quit ys) t (t ++ before_quit (x ∷ []))) (sym (take_while-cons (λ (e : Event). not (is_quit e)) y ys))
 
--- what one event adds alone: a quit adds nothing
-added_alone : (additions : List Addition) (x : Event)
+-- what one event adds by itself: a quit adds nothing
+added_by-one : (additions : List Addition) (x : Event)
     → fold (λ (done : List Addition) (e : Event). done ++ added_by done e) additions (before_quit (x ∷ [])) ≡ additions ++ added_by additions x
-added_alone additions (Read (Command Ping)) = refl
-added_alone additions (Read (Command Quit)) = sym (append-nil additions)
-added_alone additions (Read (Command (Echo text))) = refl
-added_alone additions (Read (Command (Add key n))) = refl
-added_alone additions (Read (Command (Get key))) = refl
-added_alone additions (Read (Bytes b)) = refl
-added_alone additions (Read (Line b)) = refl
-added_alone additions (Read (Reply r)) = refl
-added_alone additions Active = refl
-added_alone additions ReadComplete = refl
-added_alone additions (Caught c) = refl
-added_alone additions (Write m) = refl
-added_alone additions Flush = refl
+added_by-one additions (Read (Command Ping)) = refl
+added_by-one additions (Read (Command Quit)) = sym (append-nil additions)
+added_by-one additions (Read (Command (Echo text))) = refl
+added_by-one additions (Read (Command (Add key n))) = refl
+added_by-one additions (Read (Command (Get key))) = refl
+added_by-one additions (Read (Bytes b)) = refl
+added_by-one additions (Read (Line b)) = refl
+added_by-one additions (Read (Reply r)) = refl
+added_by-one additions Active = refl
+added_by-one additions ReadComplete = refl
+added_by-one additions (Caught c) = refl
+added_by-one additions (Write m) = refl
+added_by-one additions Flush = refl
 
 accept_all : (quit : Bool) (front more : List Event) (x : Event) → more ≡ before_quit (x ∷ [])
     → fold (λ (done : List Addition) (e : Event). done ++ added_by done e) [] (cond quit front (front ++ more))
@@ -52,7 +52,7 @@ accept_all : (quit : Bool) (front more : List Event) (x : Event) → more ≡ be
 accept_all true front more x e = refl
 accept_all false front more x e =
     let accept = λ (done : List Addition) (e : Event). done ++ added_by done e in
-    fold-append accept [] front more ∙ ap (fold accept (fold accept [] front)) e ∙ added_alone (fold accept [] front) x
+    fold-append accept [] front more ∙ ap (fold accept (fold accept [] front)) e ∙ added_by-one (fold accept [] front) x
 
 -- an event before any quit adds what it adds after the additions accepted before it; a later one adds nothing
 pub accepted-push : (xs : List Event) (x : Event)

@@ -9,6 +9,7 @@ use Rattle.std.specs.Cmp.Lexicographic.{nat_list_eq_equiv}
 use Rattle.std.specs.Str.{bytes_eq}
 use Rattle.pl_event.specs.declared.events.Fault.{Fault}
 use Rattle.pl_event.specs.declared.events.Fault.TheVariants.{Range, Full}
+use Rattle.pl_stages.specs.declared.limits.TheConstants.{MAX_TOTAL, MAX_KEYS}
 use Rattle.pl_stages.specs.declared.totals.Totals.{Totals}
 use Rattle.pl_stages.specs.Service.{Addition, total_of, is_held, held_keys, refusal_of}
 use Rattle.pl_stages.specs.Totals.{KeepsTotals, kept_total, kept_count}
@@ -122,18 +123,18 @@ KeepsTotals-add old new additions key number total keeps puts count is =
     }
 
 -- the total that is looked at does not wrap: it stays at 2^64 - 1
-small_or_large : (sum : ℕ) → ltb (10 ^ 15) (min sum (2 ^ 64 - 1)) ≡ ltb (10 ^ 15) sum
+small_or_large : (sum : ℕ) → ltb MAX_TOTAL (min sum (2 ^ 64 - 1)) ≡ ltb MAX_TOTAL sum
 small_or_large sum = grind (arith, nat_tests)
 
 -- the code's test is the refusal
 pub refusal_of-kept : (totals : Totals) (additions : List Addition) (key : List ℕ) (n : ℕ) (held : Option ℕ) (total : ℕ) → KeepsTotals totals additions
     → held ≡ kept_total key totals → total ≡ min (unwrap_or held 0 + n) (2 ^ 64 - 1)
-    → cond (ltb (10 ^ 15) total) (Some Range) (cond (not (is_some held) && leb 256 (kept_count totals)) (Some Full) None) ≡ refusal_of key n additions
+    → cond (ltb MAX_TOTAL total) (Some Range) (cond (not (is_some held) && leb MAX_KEYS (kept_count totals)) (Some Full) None) ≡ refusal_of key n additions
 refusal_of-kept totals additions key n held total keeps found is =
     let sum : unwrap_or held 0 + n ≡ total_of key additions + n =
     ap (λ (o : Option ℕ). unwrap_or o 0 + n) found ∙ ap (λ (t : ℕ). t + n) (kept-total totals additions key keeps) in
-    let large : ltb (10 ^ 15) total ≡ ltb (10 ^ 15) (total_of key additions + n) =
-    ap (ltb (10 ^ 15)) is ∙ small_or_large (unwrap_or held 0 + n) ∙ ap (ltb (10 ^ 15)) sum in
+    let large : ltb MAX_TOTAL total ≡ ltb MAX_TOTAL (total_of key additions + n) =
+    ap (ltb MAX_TOTAL) is ∙ small_or_large (unwrap_or held 0 + n) ∙ ap (ltb MAX_TOTAL) sum in
     rw (large, found, kept-held totals additions key keeps, keeps.count)
 
 refused_small : (large : Bool) (o : Option Fault) → cond large (Some Range) o ≡ None → large ≡ false
@@ -141,23 +142,23 @@ refused_small true o e = cc
 refused_small false o e = refl
 
 -- a total that is not refused is exact
-pub exact_total : (sum total : ℕ) (o : Option Fault) → total ≡ min sum (2 ^ 64 - 1) → cond (ltb (10 ^ 15) total) (Some Range) o ≡ None → total ≡ sum
+pub exact_total : (sum total : ℕ) (o : Option Fault) → total ≡ min sum (2 ^ 64 - 1) → cond (ltb MAX_TOTAL total) (Some Range) o ≡ None → total ≡ sum
 exact_total sum total o is accepted =
-    let small = refused_small (ltb (10 ^ 15) total) o accepted in
+    let small = refused_small (ltb MAX_TOTAL total) o accepted in
     grind (arith, nat_tests, small, is)
 
 -- where the code adds, the addition is not refused, and the total is exact
 pub adds_exactly : (totals : Totals) (additions : List Addition) (key : List ℕ) (n : ℕ) (held : Option ℕ) (total : ℕ) → KeepsTotals totals additions
     → held ≡ kept_total key totals → total ≡ min (unwrap_or held 0 + n) (2 ^ 64 - 1)
-    → cond (ltb (10 ^ 15) total) (Some Range) (cond (not (is_some held) && leb 256 (kept_count totals)) (Some Full) None) ≡ None
+    → cond (ltb MAX_TOTAL total) (Some Range) (cond (not (is_some held) && leb MAX_KEYS (kept_count totals)) (Some Full) None) ≡ None
     → (refusal_of key n additions ≡ None) × (total ≡ total_of key additions + n)
 adds_exactly totals additions key n held total keeps found is accepted = (
   sym (refusal_of-kept totals additions key n held total keeps found is) ∙ accepted,
-  exact_total (unwrap_or held 0 + n) total (cond (not (is_some held) && leb 256 (kept_count totals)) (Some Full) None) is accepted
+  exact_total (unwrap_or held 0 + n) total (cond (not (is_some held) && leb MAX_KEYS (kept_count totals)) (Some Full) None) is accepted
       ∙ ap (λ (o : Option ℕ). unwrap_or o 0 + n) found ∙ ap (λ (t : ℕ). t + n) (kept-total totals additions key keeps),
 )
 
--- each key that is held stands once among the keys held
+-- each key that is held is once among the keys held
 count_first : (held_first : Bool) (key first : List ℕ) (keys : List (List ℕ))
     → count_by (bytes_eq key) (cond held_first keys (first ∷ keys))
     ≡ cond held_first (count_by (bytes_eq key) keys) (cond (bytes_eq key first) 1 0 + count_by (bytes_eq key) keys)

@@ -1,5 +1,5 @@
 -- Flushes, one more.
-use Rattle.std.proofs.Common.{◌≡◌, ℕ, ◌+◌, ◌%◌, ◌<◌, List, [], ◌∷◌, ◌++◌, Bool, true, false, not, ◌||◌, cond, eqb, sym, ap, ◌∙◌, append-nil, arith}
+use Rattle.std.proofs.Common.{◌≡◌, ℕ, ◌+◌, ◌%◌, ◌<◌, List, [], ◌∷◌, ◌++◌, Bool, true, false, not, ◌||◌, cond, eqb, sym, ap, ◌∙◌, arith}
 use Rattle.std.proofs.lemmas.Bool.Decides.{nat_tests}
 use Rattle.std.proofs.lemmas.List.Sums.{sum_by_push}
 use Rattle.pl_event.specs.declared.events.Event.{Event}
@@ -26,8 +26,3 @@ pub passes-held : (n k : ℕ) (xs : List Event) (x : Event) → is_flush x ≡ t
 passes-held n k xs x flush is below =
     ap (λ (b : Bool). not b || eqb (flushes (xs ++ x ∷ []) % n) 0) flush
     ∙ ap (λ (r : ℕ). eqb r 0) (sym (counted-held n k xs x flush is below)) ∙ no_multiple k
-
-pub nothing_passes : (n k : ℕ) (xs ys : List Event) (x : Event) → is_flush x ≡ true → k ≡ flushes xs % n → k + 1 < n
-    → ys ≡ ys ++ cond (passes n xs x) (x ∷ []) []
-nothing_passes n k xs ys x flush is below =
-    sym (ap (λ (b : Bool). ys ++ cond b (x ∷ []) []) (passes-held n k xs x flush is below) ∙ append-nil ys)

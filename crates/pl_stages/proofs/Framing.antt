@@ -133,13 +133,13 @@ line_framing_up-read max xs b =
     ap (drop (length (lines_of max (joined xs)))) (lines_of-append max (joined xs) b)
     ∙ drop_at (lines_of max (joined xs)) (lines_of max (open_part (joined xs) ++ b)) (length (lines_of max (joined xs))) refl
 
--- a line feed behind what is open leaves nothing open
+-- a line feed after what is open leaves nothing open
 pub open_part_at : (xs ys : List ℕ) → open_part (xs ++ 10 ∷ ys) ≡ open_part ys
 open_part_at xs ys =
     ap open_part (sym (append_assoc xs (10 ∷ []) ys)) ∙ open_part-append (xs ++ 10 ∷ []) ys
     ∙ ap (λ (t : List ℕ). open_part (t ++ ys)) (open_part-push xs 10)
 
--- a line feed behind what is open makes a line of it
+-- a line feed after what is open makes a line of it
 pub lines_of_at : (max : ℕ) (xs ys : List ℕ) → closed_parts xs ≡ []
     → lines_of max (xs ++ 10 ∷ ys) ≡ framed max xs ∷ lines_of max ys
 lines_of_at max xs ys none =
@@ -182,7 +182,7 @@ pub closed_parts_none : (bytes : List ℕ) → IsFirstByte (is_byte 10) bytes No
 unfolding HasNoFeed
 closed_parts_none bytes none = closed_parts-no_feed bytes (λ k h. none k (omega arith) h)
 
--- where a search finds the first line feed, none stands before it
+-- where a search finds the first line feed, none is before it
 pub closed_parts_before : (bytes : List ℕ) (at : ℕ) → IsFirstByte (is_byte 10) bytes (Some at)
     → closed_parts (take at bytes) ≡ []
 unfolding HasNoFeed
@@ -244,10 +244,10 @@ Resumes-open max before whole partial partial' is_overlong is_overlong' up rest 
       sym (append-nil up) ∙ ap (λ (t : List Event). up ++ t) (sym (lines_of-none max (r.part ++ rest) none)) ∙ r.lines_kept,
     )
 
--- what stands behind the line feed that `more` begins with
-pub behind_feed : (rest more : List ℕ) (at : ℕ) → more ≡ drop at rest
+-- what is after the line feed that `more` begins with
+pub after_feed : (rest more : List ℕ) (at : ℕ) → more ≡ drop at rest
     → take (length more - 1) (drop 1 more) ≡ drop (at + 1) rest
-behind_feed rest more at e = take_rest more 1 ∙ ap (drop 1) e ∙ drop-drop 1 at rest
+after_feed rest more at e = take_rest more 1 ∙ ap (drop 1) e ∙ drop-drop 1 at rest
 
 -- where nothing is kept, nothing is open
 pub kept_none : (max : ℕ) (partial part : List ℕ) (is_overlong : Bool) → (is_overlong ≡ false) × (partial ≡ [])
@@ -259,7 +259,7 @@ pub keeps_none : (max : ℕ) (partial : List ℕ) (is_overlong : Bool) → (is_o
 keeps_none max partial is_overlong nothing =
     subst (λ (b : Bool). KeepsPart max partial b []) (sym nothing.0) nothing.1
 
--- a chunk that ends at its first line feed, behind no open part
+-- a chunk that ends at its first line feed, after no open part
 pub chunk_round : (part chunk : List ℕ) (at : ℕ) → part ≡ [] → IsFirstByte (is_byte 10) chunk (Some at)
     → at + 1 ≡ length chunk → part ++ chunk ≡ take at chunk ++ 10 ∷ []
 chunk_round part chunk at empty first whole =
@@ -278,7 +278,7 @@ lines_of_chunk max part chunk at empty first whole =
     ap (lines_of max) (chunk_round part chunk at empty first whole)
     ∙ lines_of_at max (take at chunk) [] (closed_parts_before chunk at first)
 
--- a chunk with no line feed, behind no open part
+-- a chunk with no line feed, after no open part
 pub keeps_chunk : (max : ℕ) (partial part chunk : List ℕ) (is_overlong : Bool)
     → (is_overlong ≡ false) × (partial ≡ []) → KeepsPart max partial is_overlong part
     → IsFirstByte (is_byte 10) chunk None → KeepsPart max chunk is_overlong (open_part (part ++ chunk))
@@ -300,7 +300,7 @@ split_more true b bs rest parts h = refl
 split_more false b bs rest [] h = ap (λ (r : List ℕ). (b ∷ r) ∷ []) (h refl)
 split_more false b bs rest (p ∷ ps) h = refl
 
--- the closed parts, and behind them the open part
+-- the closed parts, and the open part after them
 pub slice_split-feeds : (bytes : List ℕ) → slice_split (λ b. b == 10) bytes ≡ closed_parts bytes ++ open_part bytes ∷ []
 slice_split-feeds [] = refl
 slice_split-feeds (b ∷ bs) =

@@ -16,8 +16,9 @@ use Rattle.pl_event.specs.declared.events.Command.{Command}
 use Rattle.pl_event.specs.declared.events.Command.TheVariants.{Ping, Quit, Echo, Add, Get}
 use Rattle.pl_event.specs.declared.events.Caught.{Caught}
 use Rattle.pl_event.specs.declared.events.Caught.TheVariants.{Unknown, Syntax, TooLong}
+use Rattle.pl_stages.specs.declared.limits.TheConstants.{MAX_DIGITS}
 use Rattle.pl_stages.specs.Numbers.{number_in}
-use Rattle.pl_stages.specs.Commands.{is_space, before_space, behind_space, verb_of, key_in, ping_with, quit_with, echo_with, add_with, addition_of, get_with, get_of, command_of}
+use Rattle.pl_stages.specs.Commands.{is_space, before_space, after_space, verb_of, key_in, ping_with, quit_with, echo_with, add_with, addition_of, get_with, get_of, command_of}
 use Rattle.pl_stages.proofs.Spaces.{whole_of, split_of}
 use Rattle.pl_stages.proofs.PrintedNumbers.{number_in-printed, number_in-decimal}
 
@@ -26,7 +27,7 @@ pub addition_of-no_number : (key : Option (List ℕ)) → Err Syntax ≡ additio
 addition_of-no_number None = refl
 addition_of-no_number (Some key) = refl
 
--- ECHO, ADD and GET want something behind them
+-- something follows ECHO, ADD and GET
 pub needs_more : (p q e a g : Bool) → p ≡ false → q ≡ false → true ≡ (e || a || g)
     → Err Syntax ≡ cond p (Ok Ping) (cond q (Ok Quit) (cond e (Err Syntax) (cond a (Err Syntax) (cond g (Err Syntax) (Err Unknown)))))
 needs_more true q e a g np nq some = cc
@@ -75,7 +76,7 @@ addition-IsOf (Some key) (Some n) = refl
 add-IsOf : (a : Option (List ℕ)) → IsOf 4 (add_with a)
 unfolding kind IsOf
 add-IsOf None = refl
-add-IsOf (Some x) = addition-IsOf (key_in (before_space x)) (option_and_then number_in (behind_space x))
+add-IsOf (Some x) = addition-IsOf (key_in (before_space x)) (option_and_then number_in (after_space x))
 
 got-IsOf : (key : Option (List ℕ)) → IsOf 5 (get_of key)
 unfolding kind IsOf
@@ -107,18 +108,18 @@ chosen false false false false false rp rq re ra rg r h = unknown (refl, refl, r
 
 ChosenOf : List ℕ → Result Command Caught → Type 0
 ChosenOf line r =
-    let v = verb_of line in let a = behind_space line in
+    let v = verb_of line in let a = after_space line in
     Chosen (bytes_eq v (codes "PING")) (bytes_eq v (codes "QUIT")) (bytes_eq v (codes "ECHO")) (bytes_eq v (codes "ADD")) (bytes_eq v (codes "GET"))
     (ping_with a) (quit_with a) (echo_with a) (add_with a) (get_with a) r
 
 chosen_of : (line : List ℕ) (r : Result Command Caught) → command_of line ≡ r → ChosenOf line r
 unfolding ChosenOf
 chosen_of line r h =
-    let v = verb_of line in let a = behind_space line in
+    let v = verb_of line in let a = after_space line in
     chosen (bytes_eq v (codes "PING")) (bytes_eq v (codes "QUIT")) (bytes_eq v (codes "ECHO")) (bytes_eq v (codes "ADD")) (bytes_eq v (codes "GET"))
     (ping_with a) (quit_with a) (echo_with a) (add_with a) (get_with a) r h
 
--- a command other than a wrong syntax is of its own verb alone
+-- a command other than a wrong syntax is of its own verb only
 only : (verb : ℕ) (answer : Result Command Caught) (r : Result Command Caught) → IsOf verb answer → answer ≡ r
     → (kind r == 0 || kind r == verb) ≡ false → ⊥
 unfolding IsOf
@@ -127,21 +128,21 @@ only verb answer r of e apart = false≢true (sym apart ∙ rw e at of)
 verb_is : (line verb : List ℕ) → bytes_eq (verb_of line) verb ≡ true → verb_of line ≡ verb
 verb_is line verb e = (bytes_eq-Decides (verb_of line) verb).0 e
 
-alone : (line verb : List ℕ) → bytes_eq (verb_of line) verb ≡ true → behind_space line ≡ None → line ≡ verb
+alone : (line verb : List ℕ) → bytes_eq (verb_of line) verb ≡ true → after_space line ≡ None → line ≡ verb
 alone line verb e lone = whole_of line lone ∙ verb_is line verb e
 
-followed : (line verb argument : List ℕ) → bytes_eq (verb_of line) verb ≡ true → behind_space line ≡ Some argument
+followed : (line verb argument : List ℕ) → bytes_eq (verb_of line) verb ≡ true → after_space line ≡ Some argument
     → line ≡ verb ++ 32 ∷ argument
 followed line verb argument e some =
     split_of line argument some ∙ ap (λ (v : List ℕ). v ++ 32 ∷ argument) (verb_is line verb e)
 
-ping_alone : (a : Option (List ℕ)) → ping_with a ≡ Ok Ping → a ≡ None
-ping_alone None e = refl
-ping_alone (Some x) e = cc
+ping_with-none : (a : Option (List ℕ)) → ping_with a ≡ Ok Ping → a ≡ None
+ping_with-none None e = refl
+ping_with-none (Some x) e = cc
 
-quit_alone : (a : Option (List ℕ)) → quit_with a ≡ Ok Quit → a ≡ None
-quit_alone None e = refl
-quit_alone (Some x) e = cc
+quit_with-none : (a : Option (List ℕ)) → quit_with a ≡ Ok Quit → a ≡ None
+quit_with-none None e = refl
+quit_with-none (Some x) e = cc
 
 echo_text : (a : Option (List ℕ)) (text : List ℕ) → echo_with a ≡ Ok (Echo text) → a ≡ Some text
 echo_text None text e = cc
@@ -164,21 +165,21 @@ got_is None key e = cc
 -- a key and a number, with a space between them
 record IsAddition (argument key : List ℕ) (n : ℕ) : Type 0 where
   named : is_key key ≡ true
-  small : n < 10 ^ 9
+  small : n < 10 ^ MAX_DIGITS
   text : argument ≡ key ++ 32 ∷ decimal n
 
-number_behind : (behind : Option (List ℕ)) (n : ℕ) → option_and_then number_in behind ≡ Some n
-    → (text : List ℕ) × (behind ≡ Some text) × (number_in text ≡ Some n)
-number_behind None n e = cc
-number_behind (Some text) n e = (text, refl, e)
+number_after : (after : Option (List ℕ)) (n : ℕ) → option_and_then number_in after ≡ Some n
+    → (text : List ℕ) × (after ≡ Some text) × (number_in text ≡ Some n)
+number_after None n e = cc
+number_after (Some text) n e = (text, refl, e)
 
 IsAddition-from : (argument key : List ℕ) (n : ℕ)
-    → addition_of (key_in (before_space argument)) (option_and_then number_in (behind_space argument)) ≡ Ok (Add key n)
+    → addition_of (key_in (before_space argument)) (option_and_then number_in (after_space argument)) ≡ Ok (Add key n)
     → IsAddition argument key n
 IsAddition-from argument key n e =
-    let parts = addition_is (key_in (before_space argument)) (option_and_then number_in (behind_space argument)) key n e in
+    let parts = addition_is (key_in (before_space argument)) (option_and_then number_in (after_space argument)) key n e in
     let name = key_is (is_key (before_space argument)) (before_space argument) key parts.0 in
-    let number = number_behind (behind_space argument) n parts.1 in
+    let number = number_after (after_space argument) n parts.1 in
     let printed = number_in-printed number.0 n number.2 in
     record {
       named = ap is_key (sym name.1) ∙ name.0;
@@ -198,7 +199,7 @@ get_is (Some name) key e =
     let found = key_is (is_key name) name key (got_is (key_in name) key e) in
     (ap is_key (sym found.1) ∙ found.0, ap Some found.1)
 
--- a byte of a key is no space
+-- a byte of a key is not a space
 key_byte : (b : ℕ) → is_key_byte b ≡ true → is_space b ≡ false
 key_byte b e = grind (arith, nat_tests, e)
 
@@ -218,30 +219,30 @@ drop_seam key rest =
     ∙ drop_at (key ++ 32 ∷ []) rest (length key + 1) (length-append key (32 ∷ []))
 
 key_then : (key rest : List ℕ) → is_key key ≡ true
-    → (before_space (key ++ 32 ∷ rest) ≡ key) × (behind_space (key ++ 32 ∷ rest) ≡ Some rest)
+    → (before_space (key ++ 32 ∷ rest) ≡ key) × (after_space (key ++ 32 ∷ rest) ≡ Some rest)
 key_then key rest named =
     let none = no_space key (of_key (length key == 0) (leb (length key) 16) (list_all is_key_byte key) named) in
     let text = key ++ 32 ∷ rest in
     let long = length-append key (32 ∷ rest) in
     let at : get_or text (length key) 0 ≡ 32 = get_or-append_seam key 32 rest 0 in
-    let place : position_or_len is_space text ≡ length key =
+    let first : position_or_len is_space text ≡ length key =
     position_or_len_is is_space text (length key) 0 (omega arith)
     (λ k h. ap is_space (get_or-append key (32 ∷ rest) 0 k h) ∙ none k h) (λ h. ap is_space at) in
     let some : list_any is_space text ≡ true = list_any_at is_space text (length key) 0 (omega arith) (ap is_space at) in (
-      ap (λ (k : ℕ). take k text) place ∙ take_at key (32 ∷ rest) (length key) refl,
+      ap (λ (k : ℕ). take k text) first ∙ take_at key (32 ∷ rest) (length key) refl,
       ap (λ (b : Bool). cond b (Some (after_first is_space text)) None) some
-          ∙ ap (λ (k : ℕ). Some (drop (k + 1) text)) place ∙ ap Some (drop_seam key rest),
+          ∙ ap (λ (k : ℕ). Some (drop (k + 1) text)) first ∙ ap Some (drop_seam key rest),
     )
 
 pub command_of-ping : (line : List ℕ) → (command_of line ≡ Ok Ping) ↔ (line ≡ codes "PING")
 unfolding ChosenOf kind
 command_of-ping line = (
   λ h. elim (chosen_of line (Ok Ping) h) [
-    | ping v e ↦ alone line (codes "PING") v (ping_alone (behind_space line) e)
-    | quit v e ↦ absurd (only 2 (quit_with (behind_space line)) (Ok Ping) (quit-IsOf (behind_space line)) e refl)
-    | echo v e ↦ absurd (only 3 (echo_with (behind_space line)) (Ok Ping) (echo-IsOf (behind_space line)) e refl)
-    | add v e ↦ absurd (only 4 (add_with (behind_space line)) (Ok Ping) (add-IsOf (behind_space line)) e refl)
-    | get v e ↦ absurd (only 5 (get_with (behind_space line)) (Ok Ping) (get-IsOf (behind_space line)) e refl)
+    | ping v e ↦ alone line (codes "PING") v (ping_with-none (after_space line) e)
+    | quit v e ↦ absurd (only 2 (quit_with (after_space line)) (Ok Ping) (quit-IsOf (after_space line)) e refl)
+    | echo v e ↦ absurd (only 3 (echo_with (after_space line)) (Ok Ping) (echo-IsOf (after_space line)) e refl)
+    | add v e ↦ absurd (only 4 (add_with (after_space line)) (Ok Ping) (add-IsOf (after_space line)) e refl)
+    | get v e ↦ absurd (only 5 (get_with (after_space line)) (Ok Ping) (get-IsOf (after_space line)) e refl)
     | unknown v e ↦ cc
   ],
   λ e. rw e,
@@ -251,11 +252,11 @@ pub command_of-quit : (line : List ℕ) → (command_of line ≡ Ok Quit) ↔ (l
 unfolding ChosenOf kind
 command_of-quit line = (
   λ h. elim (chosen_of line (Ok Quit) h) [
-    | ping v e ↦ absurd (only 1 (ping_with (behind_space line)) (Ok Quit) (ping-IsOf (behind_space line)) e refl)
-    | quit v e ↦ alone line (codes "QUIT") v (quit_alone (behind_space line) e)
-    | echo v e ↦ absurd (only 3 (echo_with (behind_space line)) (Ok Quit) (echo-IsOf (behind_space line)) e refl)
-    | add v e ↦ absurd (only 4 (add_with (behind_space line)) (Ok Quit) (add-IsOf (behind_space line)) e refl)
-    | get v e ↦ absurd (only 5 (get_with (behind_space line)) (Ok Quit) (get-IsOf (behind_space line)) e refl)
+    | ping v e ↦ absurd (only 1 (ping_with (after_space line)) (Ok Quit) (ping-IsOf (after_space line)) e refl)
+    | quit v e ↦ alone line (codes "QUIT") v (quit_with-none (after_space line) e)
+    | echo v e ↦ absurd (only 3 (echo_with (after_space line)) (Ok Quit) (echo-IsOf (after_space line)) e refl)
+    | add v e ↦ absurd (only 4 (add_with (after_space line)) (Ok Quit) (add-IsOf (after_space line)) e refl)
+    | get v e ↦ absurd (only 5 (get_with (after_space line)) (Ok Quit) (get-IsOf (after_space line)) e refl)
     | unknown v e ↦ cc
   ],
   λ e. rw e,
@@ -265,11 +266,11 @@ pub command_of-echo : (line text : List ℕ) → (command_of line ≡ Ok (Echo t
 unfolding ChosenOf kind
 command_of-echo line text = (
   λ h. elim (chosen_of line (Ok (Echo text)) h) [
-    | ping v e ↦ absurd (only 1 (ping_with (behind_space line)) (Ok (Echo text)) (ping-IsOf (behind_space line)) e refl)
-    | quit v e ↦ absurd (only 2 (quit_with (behind_space line)) (Ok (Echo text)) (quit-IsOf (behind_space line)) e refl)
-    | echo v e ↦ followed line (codes "ECHO") text v (echo_text (behind_space line) text e)
-    | add v e ↦ absurd (only 4 (add_with (behind_space line)) (Ok (Echo text)) (add-IsOf (behind_space line)) e refl)
-    | get v e ↦ absurd (only 5 (get_with (behind_space line)) (Ok (Echo text)) (get-IsOf (behind_space line)) e refl)
+    | ping v e ↦ absurd (only 1 (ping_with (after_space line)) (Ok (Echo text)) (ping-IsOf (after_space line)) e refl)
+    | quit v e ↦ absurd (only 2 (quit_with (after_space line)) (Ok (Echo text)) (quit-IsOf (after_space line)) e refl)
+    | echo v e ↦ followed line (codes "ECHO") text v (echo_text (after_space line) text e)
+    | add v e ↦ absurd (only 4 (add_with (after_space line)) (Ok (Echo text)) (add-IsOf (after_space line)) e refl)
+    | get v e ↦ absurd (only 5 (get_with (after_space line)) (Ok (Echo text)) (get-IsOf (after_space line)) e refl)
     | unknown v e ↦ cc
   ],
   λ e. rw e,
@@ -277,18 +278,18 @@ command_of-echo line text = (
 
 -- the line of an addition
 IsAdd : (line key : List ℕ) (n : ℕ) → Type 0
-IsAdd line key n = (is_key key ≡ true) × (n < 10 ^ 9) × (line ≡ codes "ADD " ++ key ++ codes " " ++ decimal n)
+IsAdd line key n = (is_key key ≡ true) × (n < 10 ^ MAX_DIGITS) × (line ≡ codes "ADD " ++ key ++ codes " " ++ decimal n)
 
 add_line : (line key argument : List ℕ) (n : ℕ) → bytes_eq (verb_of line) (codes "ADD") ≡ true
-    → behind_space line ≡ Some argument → IsAddition argument key n → IsAdd line key n
+    → after_space line ≡ Some argument → IsAddition argument key n → IsAdd line key n
 unfolding IsAdd
 add_line line key argument n v some is =
     (is.named, is.small, followed line (codes "ADD") argument v some ∙ ap (λ (t : List ℕ). codes "ADD " ++ t) is.text ∙ sym (append_assoc (codes "ADD " ++ key) (codes " ") (decimal n)))
 
-add_read : (argument key text : List ℕ) (n : ℕ) → (before_space argument ≡ key) × (behind_space argument ≡ Some text)
+add_read : (argument key text : List ℕ) (n : ℕ) → (before_space argument ≡ key) × (after_space argument ≡ Some text)
     → is_key key ≡ true → number_in text ≡ Some n → add_with (Some argument) ≡ Ok (Add key n)
 add_read argument key text n parts named number =
-    ap (λ (k : List ℕ). addition_of (key_in k) (option_and_then number_in (behind_space argument))) parts.0
+    ap (λ (k : List ℕ). addition_of (key_in k) (option_and_then number_in (after_space argument))) parts.0
     ∙ ap (λ (b : Option (List ℕ)). addition_of (key_in key) (option_and_then number_in b)) parts.1
     ∙ ap (addition_of (key_in key)) number ∙ ap (λ (b : Bool). addition_of (cond b (Some key) None) (Some n)) named
 
@@ -299,15 +300,15 @@ add_from line key n is =
     ∙ add_read (key ++ 32 ∷ decimal n) key (decimal n) n (key_then key (decimal n) is.0) is.0 (number_in-decimal n is.1)
 
 pub command_of-add : (line key : List ℕ) (n : ℕ)
-    → (command_of line ≡ Ok (Add key n)) ↔ ((is_key key ≡ true) × (n < 10 ^ 9) × (line ≡ codes "ADD " ++ key ++ codes " " ++ decimal n))
+    → (command_of line ≡ Ok (Add key n)) ↔ ((is_key key ≡ true) × (n < 10 ^ MAX_DIGITS) × (line ≡ codes "ADD " ++ key ++ codes " " ++ decimal n))
 unfolding ChosenOf kind IsAdd
 command_of-add line key n = (
   λ h. elim (chosen_of line (Ok (Add key n)) h) [
-    | ping v e ↦ absurd (only 1 (ping_with (behind_space line)) (Ok (Add key n)) (ping-IsOf (behind_space line)) e refl)
-    | quit v e ↦ absurd (only 2 (quit_with (behind_space line)) (Ok (Add key n)) (quit-IsOf (behind_space line)) e refl)
-    | echo v e ↦ absurd (only 3 (echo_with (behind_space line)) (Ok (Add key n)) (echo-IsOf (behind_space line)) e refl)
-    | add v e ↦ let is = add_is (behind_space line) key n e in add_line line key is.0 n v is.1 is.2
-    | get v e ↦ absurd (only 5 (get_with (behind_space line)) (Ok (Add key n)) (get-IsOf (behind_space line)) e refl)
+    | ping v e ↦ absurd (only 1 (ping_with (after_space line)) (Ok (Add key n)) (ping-IsOf (after_space line)) e refl)
+    | quit v e ↦ absurd (only 2 (quit_with (after_space line)) (Ok (Add key n)) (quit-IsOf (after_space line)) e refl)
+    | echo v e ↦ absurd (only 3 (echo_with (after_space line)) (Ok (Add key n)) (echo-IsOf (after_space line)) e refl)
+    | add v e ↦ let is = add_is (after_space line) key n e in add_line line key is.0 n v is.1 is.2
+    | get v e ↦ absurd (only 5 (get_with (after_space line)) (Ok (Add key n)) (get-IsOf (after_space line)) e refl)
     | unknown v e ↦ cc
   ],
   λ is. add_from line key n is,
@@ -318,11 +319,11 @@ pub command_of-get : (line key : List ℕ)
 unfolding ChosenOf kind
 command_of-get line key = (
   λ h. elim (chosen_of line (Ok (Get key)) h) [
-    | ping v e ↦ absurd (only 1 (ping_with (behind_space line)) (Ok (Get key)) (ping-IsOf (behind_space line)) e refl)
-    | quit v e ↦ absurd (only 2 (quit_with (behind_space line)) (Ok (Get key)) (quit-IsOf (behind_space line)) e refl)
-    | echo v e ↦ absurd (only 3 (echo_with (behind_space line)) (Ok (Get key)) (echo-IsOf (behind_space line)) e refl)
-    | add v e ↦ absurd (only 4 (add_with (behind_space line)) (Ok (Get key)) (add-IsOf (behind_space line)) e refl)
-    | get v e ↦ let is = get_is (behind_space line) key e in (is.0, followed line (codes "GET") key v is.1)
+    | ping v e ↦ absurd (only 1 (ping_with (after_space line)) (Ok (Get key)) (ping-IsOf (after_space line)) e refl)
+    | quit v e ↦ absurd (only 2 (quit_with (after_space line)) (Ok (Get key)) (quit-IsOf (after_space line)) e refl)
+    | echo v e ↦ absurd (only 3 (echo_with (after_space line)) (Ok (Get key)) (echo-IsOf (after_space line)) e refl)
+    | add v e ↦ absurd (only 4 (add_with (after_space line)) (Ok (Get key)) (add-IsOf (after_space line)) e refl)
+    | get v e ↦ let is = get_is (after_space line) key e in (is.0, followed line (codes "GET") key v is.1)
     | unknown v e ↦ cc
   ],
   λ is. rw (is.1, is.0),
@@ -339,11 +340,11 @@ pub command_of-unknown : (line : List ℕ) → (command_of line ≡ Err Unknown)
 unfolding ChosenOf kind
 command_of-unknown line = (
   λ h. elim (chosen_of line (Err Unknown) h) [
-    | ping v e ↦ absurd (only 1 (ping_with (behind_space line)) (Err Unknown) (ping-IsOf (behind_space line)) e refl)
-    | quit v e ↦ absurd (only 2 (quit_with (behind_space line)) (Err Unknown) (quit-IsOf (behind_space line)) e refl)
-    | echo v e ↦ absurd (only 3 (echo_with (behind_space line)) (Err Unknown) (echo-IsOf (behind_space line)) e refl)
-    | add v e ↦ absurd (only 4 (add_with (behind_space line)) (Err Unknown) (add-IsOf (behind_space line)) e refl)
-    | get v e ↦ absurd (only 5 (get_with (behind_space line)) (Err Unknown) (get-IsOf (behind_space line)) e refl)
+    | ping v e ↦ absurd (only 1 (ping_with (after_space line)) (Err Unknown) (ping-IsOf (after_space line)) e refl)
+    | quit v e ↦ absurd (only 2 (quit_with (after_space line)) (Err Unknown) (quit-IsOf (after_space line)) e refl)
+    | echo v e ↦ absurd (only 3 (echo_with (after_space line)) (Err Unknown) (echo-IsOf (after_space line)) e refl)
+    | add v e ↦ absurd (only 4 (add_with (after_space line)) (Err Unknown) (add-IsOf (after_space line)) e refl)
+    | get v e ↦ absurd (only 5 (get_with (after_space line)) (Err Unknown) (get-IsOf (after_space line)) e refl)
     | unknown v e ↦ (unequal line (codes "PING") v.0, unequal line (codes "QUIT") v.1, unequal line (codes "ECHO") v.2, unequal line (codes "ADD") v.3, unequal line (codes "GET") v.4)
   ],
   λ apart. rw (differs line (codes "PING") apart.0, differs line (codes "QUIT") apart.1, differs line (codes "ECHO") apart.2, differs line (codes "ADD") apart.3, differs line (codes "GET") apart.4),
@@ -353,10 +354,10 @@ pub command_of-never_long : (line : List ℕ) → command_of line ≢ Err TooLon
 unfolding ChosenOf kind
 command_of-never_long line h =
     elim (chosen_of line (Err TooLong) h) [
-      | ping v e ↦ only 1 (ping_with (behind_space line)) (Err TooLong) (ping-IsOf (behind_space line)) e refl
-      | quit v e ↦ only 2 (quit_with (behind_space line)) (Err TooLong) (quit-IsOf (behind_space line)) e refl
-      | echo v e ↦ only 3 (echo_with (behind_space line)) (Err TooLong) (echo-IsOf (behind_space line)) e refl
-      | add v e ↦ only 4 (add_with (behind_space line)) (Err TooLong) (add-IsOf (behind_space line)) e refl
-      | get v e ↦ only 5 (get_with (behind_space line)) (Err TooLong) (get-IsOf (behind_space line)) e refl
+      | ping v e ↦ only 1 (ping_with (after_space line)) (Err TooLong) (ping-IsOf (after_space line)) e refl
+      | quit v e ↦ only 2 (quit_with (after_space line)) (Err TooLong) (quit-IsOf (after_space line)) e refl
+      | echo v e ↦ only 3 (echo_with (after_space line)) (Err TooLong) (echo-IsOf (after_space line)) e refl
+      | add v e ↦ only 4 (add_with (after_space line)) (Err TooLong) (add-IsOf (after_space line)) e refl
+      | get v e ↦ only 5 (get_with (after_space line)) (Err TooLong) (get-IsOf (after_space line)) e refl
       | unknown v e ↦ cc
     ]

@@ -7,3 +7,5 @@ pub mod TotalsByName
 pub mod Accepted
 pub mod ServiceLimits
 pub mod FlushCounts
+pub mod Thrifty
+pub mod HandlerLaws

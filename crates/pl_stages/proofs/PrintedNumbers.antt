@@ -1,4 +1,4 @@
--- Numbers: the texts that are one are the printed numbers below 10^9.
+-- Numbers: the texts that are one are the printed numbers below 10^MAX_DIGITS.
 use Rattle.std.proofs.Common.{◌≡◌, ◌↔◌, ◌<◌, ◌≤◌, ℕ, zero, suc, ◌^◌, List, length, get_or, Some, None, Result, Ok, Bool, true, false, cond, not, ◌&&◌, ◌||◌, eqb, leb, decimal, refl, sym, ap, ◌∙◌, arith, rules}
 use Rattle.std.specs.List.{list_all}
 use Rattle.std.specs.Char.{is_ascii_digit}
@@ -9,6 +9,7 @@ use Rattle.std.proofs.lemmas.Str.{IsUtf8-from_ascii}
 use Rattle.std.proofs.lemmas.Str.Ascii.{IsAscii-from_reads}
 use Rattle.std.proofs.lemmas.Str.Parse.{IsNumeralModel, numerals_by_value, digit_at, digits_value_short, parse_gives}
 use Rattle.std.proofs.lemmas.Fmt.{decimal-digits_value, digits_decimal, digits_value-decimal, decimal_nonempty, length-decimal-le, first_decimal, decimal_digit}
+use Rattle.pl_stages.specs.declared.limits.TheConstants.{MAX_DIGITS}
 use Rattle.pl_stages.specs.Numbers.{is_number, number_in}
 
 digits : IsNumeralModel (λ ds. list_all is_ascii_digit ds ≡ true) (digits_value 10)
@@ -17,7 +18,7 @@ digits = numerals_by_value _ (search rules)
 -- what makes a text a number
 record IsNumber (text : List ℕ) : Type 0 where
   not_empty : 0 < length text
-  short : length text ≤ 9
+  short : length text ≤ MAX_DIGITS
   of_digits : list_all is_ascii_digit text ≡ true
   no_leading_zero : get_or text 0 0 ≡ 48 → length text ≡ 1
 
@@ -32,7 +33,7 @@ parts_of false true false true true e = cc
 
 IsNumber-from : (text : List ℕ) → is_number text ≡ true → IsNumber text
 IsNumber-from text e =
-    let parts = parts_of (eqb (length text) 0) (leb (length text) 9) (eqb (length text) 1) (eqb (get_or text 0 0) 48) (list_all is_ascii_digit text) e in
+    let parts = parts_of (eqb (length text) 0) (leb (length text) MAX_DIGITS) (eqb (length text) 1) (eqb (get_or text 0 0) 48) (list_all is_ascii_digit text) e in
     record {
       not_empty = grind (arith, nat_tests, parts.0);
       short = grind (arith, nat_tests, parts.1);
@@ -40,8 +41,8 @@ IsNumber-from text e =
       no_leading_zero = λ z. grind (arith, nat_tests, parts.3);
     }
 
-value-lt : (text : List ℕ) → IsNumber text → digits_value 10 text < 10 ^ 9
-value-lt text is = digits_value_short digits text 9 is.of_digits is.short
+value-lt : (text : List ℕ) → IsNumber text → digits_value 10 text < 10 ^ MAX_DIGITS
+value-lt text is = digits_value_short digits text MAX_DIGITS is.of_digits is.short
 
 -- a number is text, and parses
 pub number_is_text : (text : List ℕ) → is_number text ≡ true → IsUtf8 text
@@ -64,7 +65,7 @@ number_of true value n e = (refl, cc)
 number_of false value n e = cc
 
 -- a text is a number where it is how that is printed
-pub number_in-printed : (text : List ℕ) (n : ℕ) → number_in text ≡ Some n → (text ≡ decimal n) × (n < 10 ^ 9)
+pub number_in-printed : (text : List ℕ) (n : ℕ) → number_in text ≡ Some n → (text ≡ decimal n) × (n < 10 ^ MAX_DIGITS)
 number_in-printed text n e =
     let found = number_of (is_number text) (digits_value 10 text) n e in
     let is = IsNumber-from text found.0 in
@@ -76,17 +77,17 @@ number_in-printed text n e =
 above_zero : (first long : ℕ) → 48 < first → (not (eqb first 48) || eqb long 1) ≡ true
 above_zero first long h = grind (arith, nat_tests, h)
 
-no_zero : (n : ℕ) → n < 10 ^ 9 → (not (eqb (get_or (decimal n) 0 0) 48) || eqb (length (decimal n)) 1) ≡ true
+no_zero : (n : ℕ) → n < 10 ^ MAX_DIGITS → (not (eqb (get_or (decimal n) 0 0) 48) || eqb (length (decimal n)) 1) ≡ true
 no_zero zero h = rw (decimal_digit 0 (omega arith))
 no_zero (suc n) h = above_zero _ _ (first_decimal (suc n) (omega arith) (omega arith))
 
-pub number_in-decimal : (n : ℕ) → n < 10 ^ 9 → number_in (decimal n) ≡ Some n
+pub number_in-decimal : (n : ℕ) → n < 10 ^ MAX_DIGITS → number_in (decimal n) ≡ Some n
 number_in-decimal n small =
     let full : eqb (length (decimal n)) 0 ≡ false = let h = decimal_nonempty n (omega arith) in grind (arith, nat_tests, h) in
-    let short : leb (length (decimal n)) 9 ≡ true = let h = length-decimal-le 9 n (omega arith) small (omega arith) in grind (arith, nat_tests, h) in
+    let short : leb (length (decimal n)) MAX_DIGITS ≡ true = let h = length-decimal-le MAX_DIGITS n (omega arith) small (omega arith) in grind (arith, nat_tests, h) in
     rw (full, short, digits_decimal digits n (omega arith), no_zero n small, digits_value-decimal digits n (omega arith))
 
-pub number_in-is : (text : List ℕ) (n : ℕ) → (number_in text ≡ Some n) ↔ ((n < 10 ^ 9) × (text ≡ decimal n))
+pub number_in-is : (text : List ℕ) (n : ℕ) → (number_in text ≡ Some n) ↔ ((n < 10 ^ MAX_DIGITS) × (text ≡ decimal n))
 number_in-is text n = (
   λ e. let printed = number_in-printed text n e in (printed.1, printed.0),
   λ is. ap number_in is.1 ∙ number_in-decimal n is.0,

@@ -1,5 +1,5 @@
 -- What the accepted additions come to: their limits, and what changes them.
-use Rattle.std.proofs.Common.{◌≡◌, ◌≢◌, ◌↔◌, ℕ, ◌+◌, ◌^◌, ◌≤◌, ◌<◌, List, [], ◌∷◌, ◌++◌, length, Bool, true, false, not, ◌&&◌, cond, ltb, leb, Option, Some, None, refl, sym, ap, subst, ◌∙◌, append-nil, append_assoc, arith}
+use Rattle.std.proofs.Common.{◌≡◌, ◌≢◌, ◌↔◌, ℕ, ◌+◌, ◌≤◌, ◌<◌, List, [], ◌∷◌, ◌++◌, length, Bool, true, false, not, ◌&&◌, cond, ltb, leb, Option, Some, None, refl, sym, ap, subst, ◌∙◌, append-nil, append_assoc, arith}
 use Rattle.std.proofs.lemmas.Bool.Decides.{nat_tests}
 use Rattle.std.proofs.lemmas.Slice.Eq.{bytes_eq-Decides}
 use Rattle.std.specs.List.{fold}
@@ -10,14 +10,15 @@ use Rattle.pl_event.specs.declared.events.Message.TheVariants.{Bytes, Line, Comm
 use Rattle.pl_event.specs.declared.events.Command.TheVariants.{Ping, Quit, Echo, Add, Get}
 use Rattle.pl_event.specs.declared.events.Fault.{Fault}
 use Rattle.pl_event.specs.declared.events.Fault.TheVariants.{Range, Full}
+use Rattle.pl_stages.specs.declared.limits.TheConstants.{MAX_TOTAL, MAX_KEYS}
 use Rattle.pl_stages.specs.Service.{Addition, accepted, added_by, before_quit, has_quit, held_keys, is_held, refusal_of, total_of, unless_refused, line_service-lawful}
 use Rattle.pl_stages.proofs.Accepted.{accepted-open, accepted-ended, accepted-push}
 use Rattle.pl_stages.proofs.Additions.{total_of-push, held_keys-push}
 
--- no total is above 10^15, and at most 256 keys are held
+-- no total is above the greatest, and at most MAX_KEYS keys are held
 record IsWithin (additions : List Addition) : Type 0 where
-  totals : (key : List ℕ) → total_of key additions ≤ 10 ^ 15
-  keys : length (held_keys additions) ≤ 256
+  totals : (key : List ℕ) → total_of key additions ≤ MAX_TOTAL
+  keys : length (held_keys additions) ≤ MAX_KEYS
 
 -- why an addition is refused, by the tests on it
 range_refused : (large full : Bool) → (cond large (Some Range) (cond full (Some Full) None) ≡ Some Range) ↔ (large ≡ true)
@@ -35,13 +36,13 @@ not_refused true full e = cc
 not_refused false true e = cc
 not_refused false false e = (refl, refl)
 
-large-is : (sum : ℕ) → (ltb (10 ^ 15) sum ≡ true) ↔ (10 ^ 15 < sum)
+large-is : (sum : ℕ) → (ltb MAX_TOTAL sum ≡ true) ↔ (MAX_TOTAL < sum)
 large-is sum = (λ e. grind (arith, nat_tests, e), λ h. grind (arith, nat_tests, h))
 
-small-is : (sum : ℕ) → (ltb (10 ^ 15) sum ≡ false) ↔ (sum ≤ 10 ^ 15)
+small-is : (sum : ℕ) → (ltb MAX_TOTAL sum ≡ false) ↔ (sum ≤ MAX_TOTAL)
 small-is sum = (λ e. grind (arith, nat_tests, e), λ h. grind (arith, nat_tests, h))
 
-many-is : (n : ℕ) → (leb 256 n ≡ true) ↔ (256 ≤ n)
+many-is : (n : ℕ) → (leb MAX_KEYS n ≡ true) ↔ (MAX_KEYS ≤ n)
 many-is n = (λ e. grind (arith, nat_tests, e), λ h. grind (arith, nat_tests, h))
 
 both : (held many : Bool) → ((not held && many) ≡ true) ↔ ((held ≡ false) × (many ≡ true))
@@ -49,32 +50,32 @@ both true many = (λ e. cc, λ e. cc)
 both false many = (λ e. (refl, e), λ e. e.1)
 
 pub refusal_of-range : (key : List ℕ) (n : ℕ) (additions : List Addition)
-    → (refusal_of key n additions ≡ Some Range) ↔ (10 ^ 15 < total_of key additions + n)
+    → (refusal_of key n additions ≡ Some Range) ↔ (MAX_TOTAL < total_of key additions + n)
 refusal_of-range key n additions =
     let sum = total_of key additions + n in
-    let r = range_refused (ltb (10 ^ 15) sum) (not (is_held key additions) && leb 256 (length (held_keys additions))) in
+    let r = range_refused (ltb MAX_TOTAL sum) (not (is_held key additions) && leb MAX_KEYS (length (held_keys additions))) in
     (λ e. (large-is sum).0 (r.0 e), λ h. r.1 ((large-is sum).1 h))
 
 pub refusal_of-full : (key : List ℕ) (n : ℕ) (additions : List Addition)
     → (refusal_of key n additions ≡ Some Full)
-    ↔ ((total_of key additions + n ≤ 10 ^ 15) × (is_held key additions ≡ false) × (256 ≤ length (held_keys additions)))
+    ↔ ((total_of key additions + n ≤ MAX_TOTAL) × (is_held key additions ≡ false) × (MAX_KEYS ≤ length (held_keys additions)))
 refusal_of-full key n additions =
     let sum = total_of key additions + n in
     let held = is_held key additions in
-    let many = leb 256 (length (held_keys additions)) in
-    let r = full_refused (ltb (10 ^ 15) sum) (not held && many) in (
+    let many = leb MAX_KEYS (length (held_keys additions)) in
+    let r = full_refused (ltb MAX_TOTAL sum) (not held && many) in (
       λ e. let t = (both held many).0 (r.0 e).1 in ((small-is sum).0 (r.0 e).0, t.0, (many-is (length (held_keys additions))).0 t.1),
       λ h. r.1 ((small-is sum).1 h.0, (both held many).1 (h.1, (many-is (length (held_keys additions))).1 h.2)),
     )
 
 raised : (same : Bool) (name key : List ℕ) (old n : ℕ) (additions : List Addition) → bytes_eq name key ≡ same
-    → old ≡ total_of name additions → old ≤ 10 ^ 15 → total_of key additions + n ≤ 10 ^ 15 → old + cond same n 0 ≤ 10 ^ 15
+    → old ≡ total_of name additions → old ≤ MAX_TOTAL → total_of key additions + n ≤ MAX_TOTAL → old + cond same n 0 ≤ MAX_TOTAL
 raised true name key old n additions e is h k =
     let same = ap (λ (l : List ℕ). total_of l additions) ((bytes_eq-Decides name key).0 e) in omega arith
 raised false name key old n additions e is h k = omega arith
 
-few_enough : (held many : Bool) (old : ℕ) → leb 256 old ≡ many → (not held && many) ≡ false → old ≤ 256
-    → old + cond held 0 1 ≤ 256
+few_enough : (held many : Bool) (old : ℕ) → leb MAX_KEYS old ≡ many → (not held && many) ≡ false → old ≤ MAX_KEYS
+    → old + cond held 0 1 ≤ MAX_KEYS
 few_enough true many old e f h = omega arith
 few_enough false true old e f h = cc
 few_enough false false old e f h = grind (arith, nat_tests, e)
@@ -85,8 +86,8 @@ IsWithin-add additions key n (Some why) e is = subst IsWithin (sym (append-nil a
 IsWithin-add additions key n None e is =
     let a : Addition = record { key = key; number = n } in
     let held = is_held key additions in
-    let many = leb 256 (length (held_keys additions)) in
-    let fits = not_refused (ltb (10 ^ 15) (total_of key additions + n)) (not held && many) e in
+    let many = leb MAX_KEYS (length (held_keys additions)) in
+    let fits = not_refused (ltb MAX_TOTAL (total_of key additions + n)) (not held && many) e in
     let small = (small-is (total_of key additions + n)).0 fits.0 in
     record {
       totals = λ name.
@@ -123,10 +124,10 @@ none_within = record { totals = λ key. omega arith; keys = omega arith }
 accepted-IsWithin : (xs : List Event) → IsWithin (accepted xs)
 accepted-IsWithin xs = IsWithin-fold [] (before_quit xs) none_within
 
-pub total_of-le : (xs : List Event) (key : List ℕ) → total_of key (accepted xs) ≤ 10 ^ 15
+pub total_of-le : (xs : List Event) (key : List ℕ) → total_of key (accepted xs) ≤ MAX_TOTAL
 total_of-le xs = (accepted-IsWithin xs).totals
 
-pub held_keys-le : (xs : List Event) → length (held_keys (accepted xs)) ≤ 256
+pub held_keys-le : (xs : List Event) → length (held_keys (accepted xs)) ≤ MAX_KEYS
 held_keys-le xs = (accepted-IsWithin xs).keys
 
 -- an addition that is not refused raises its own total

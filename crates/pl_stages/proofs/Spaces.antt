@@ -1,4 +1,4 @@
--- A text by the place of its first space.
+-- A text by the position of its first space.
 use Rattle.std.proofs.Common.{◌≡◌, ℕ, ◌+◌, ◌<◌, List, ◌∷◌, ◌++◌, length, get_or, take, drop, Some, None, Bool, true, false, cond, refl, sym, ap, ◌∙◌, ⊎_elim, arith}
 use Rattle.std.proofs.lemmas.Bool.{false_from_ne_true, both_ways, cases_lt, eqb-true}
 use Rattle.std.proofs.lemmas.List.{take_all}
@@ -7,17 +7,17 @@ use Rattle.std.proofs.lemmas.List.Folds.{list_any_none, list_any_at}
 use Rattle.std.proofs.lemmas.List.Sums.{position_or_len_is, split_at_first, fails_before_first, passes_at_first}
 use Rattle.std.specs.List.{list_any, position_or_len, after_first}
 use Rattle.memchr.specs.Find.{IsFirstByte, is_byte}
-use Rattle.pl_stages.specs.Commands.{is_space, before_space, behind_space}
+use Rattle.pl_stages.specs.Commands.{is_space, before_space, after_space}
 
--- with no space, all stands before it
+-- with no space, all is before it
 pub before_space-none : (text : List ℕ) → IsFirstByte (is_byte 32) text None → before_space text ≡ text
 before_space-none text none =
     let fails : (k : ℕ) → k < length text → is_space (get_or text k 0) ≡ false = λ k h. false_from_ne_true _ (none k (omega arith) h) in
-    let place = position_or_len_is is_space text (length text) 0 (omega arith) fails (λ h. absurd (omega arith)) in
-    rw (place, take_all (length text) text (omega arith))
+    let at = position_or_len_is is_space text (length text) 0 (omega arith) fails (λ h. absurd (omega arith)) in
+    rw (at, take_all (length text) text (omega arith))
 
-pub behind_space-none : (text : List ℕ) → IsFirstByte (is_byte 32) text None → behind_space text ≡ None
-behind_space-none text none =
+pub after_space-none : (text : List ℕ) → IsFirstByte (is_byte 32) text None → after_space text ≡ None
+after_space-none text none =
     let fails : (k : ℕ) → k < length text → is_space (get_or text k 0) ≡ false = λ k h. false_from_ne_true _ (none k (omega arith) h) in
     rw (list_any_none is_space text (All-from_get_or (λ b. is_space b ≡ false) text 0 fails))
 
@@ -25,22 +25,22 @@ position_at : (text : List ℕ) (at : ℕ) → IsFirstByte (is_byte 32) text (So
 position_at text at first =
     position_or_len_is is_space text at 0 (omega (arith, first.0.high)) (λ k h. false_from_ne_true _ (first.0.before k (omega arith) h)) (λ h. first.1)
 
--- where the first space stands
+-- where the first space is
 pub before_space-at : (text : List ℕ) (at : ℕ) → IsFirstByte (is_byte 32) text (Some at) → before_space text ≡ take at text
 before_space-at text at first = ap (λ (k : ℕ). take k text) (position_at text at first)
 
-pub behind_space-at : (text : List ℕ) (at : ℕ) → IsFirstByte (is_byte 32) text (Some at)
-    → behind_space text ≡ Some (drop (at + 1) text)
-behind_space-at text at first =
+pub after_space-at : (text : List ℕ) (at : ℕ) → IsFirstByte (is_byte 32) text (Some at)
+    → after_space text ≡ Some (drop (at + 1) text)
+after_space-at text at first =
     rw (position_at text at first, list_any_at is_space text at 0 first.0.high first.1)
 
--- a text with nothing behind a space is all before it
+-- a text with nothing after a space is all before it
 pub before_space_whole : (text : List ℕ) → list_any is_space text ≡ false → before_space text ≡ text
 before_space_whole text none =
     let fails : (k : ℕ) → k < length text → is_space (get_or text k 0) ≡ false =
     λ k h. false_from_ne_true _ (λ e. both_ways (list_any is_space text) none (list_any_at is_space text k 0 h e)) in
-    let place = position_or_len_is is_space text (length text) 0 (omega arith) fails (λ h. absurd (omega arith)) in
-    rw (place, take_all (length text) text (omega arith))
+    let at = position_or_len_is is_space text (length text) 0 (omega arith) fails (λ h. absurd (omega arith)) in
+    rw (at, take_all (length text) text (omega arith))
 
 split_at_space : (text : List ℕ) → list_any is_space text ≡ true → text ≡ before_space text ++ 32 ∷ after_first is_space text
 split_at_space text some =
@@ -52,19 +52,19 @@ split_at_space text some =
     split_at_first is_space text 0 inside
     ∙ ap (λ (b : ℕ). before_space text ++ b ∷ after_first is_space text) (eqb-true _ 32 (passes_at_first is_space text 0 inside))
 
-behind_none : (b : Bool) (text : List ℕ) → cond b (Some text) None ≡ None → b ≡ false
-behind_none true text e = cc
-behind_none false text e = refl
+after_none : (b : Bool) (text : List ℕ) → cond b (Some text) None ≡ None → b ≡ false
+after_none true text e = cc
+after_none false text e = refl
 
-behind_some : (b : Bool) (text other : List ℕ) → cond b (Some text) None ≡ Some other → (b ≡ true) × (text ≡ other)
-behind_some true text other e = (refl, cc)
-behind_some false text other e = cc
+after_some : (b : Bool) (text other : List ℕ) → cond b (Some text) None ≡ Some other → (b ≡ true) × (text ≡ other)
+after_some true text other e = (refl, cc)
+after_some false text other e = cc
 
-pub whole_of : (text : List ℕ) → behind_space text ≡ None → text ≡ before_space text
-whole_of text e = sym (before_space_whole text (behind_none (list_any is_space text) (after_first is_space text) e))
+pub whole_of : (text : List ℕ) → after_space text ≡ None → text ≡ before_space text
+whole_of text e = sym (before_space_whole text (after_none (list_any is_space text) (after_first is_space text) e))
 
--- a text is what stands before its first space, the space and what stands behind it
-pub split_of : (text behind : List ℕ) → behind_space text ≡ Some behind → text ≡ before_space text ++ 32 ∷ behind
-split_of text behind e =
-    let found = behind_some (list_any is_space text) (after_first is_space text) behind e in
+-- a text is what is before its first space, the space and what is after it
+pub split_of : (text after : List ℕ) → after_space text ≡ Some after → text ≡ before_space text ++ 32 ∷ after
+split_of text after e =
+    let found = after_some (list_any is_space text) (after_first is_space text) after e in
     split_at_space text found.0 ∙ ap (λ (t : List ℕ). before_space text ++ 32 ∷ t) found.1

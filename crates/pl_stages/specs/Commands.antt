@@ -11,25 +11,25 @@ use Rattle.pl_event.specs.declared.events.Command.TheVariants.{Ping, Quit, Echo,
 use Rattle.pl_event.specs.declared.events.Caught.{Caught}
 use Rattle.pl_event.specs.declared.events.Caught.TheVariants.{Unknown, Syntax}
 use Rattle.pl_event.specs.Meaning.{Meaning}
-use Rattle.pl_stages.specs.Mappings.{mapping_up}
+use Rattle.pl_event.specs.Mappings.{mapping_up}
 use Rattle.pl_stages.specs.Numbers.{number_in}
 
 abbrev pub is_space : ℕ → Bool
 is_space b = b == 32
 
--- what stands before the first space, or all where there is none
+-- what is before the first space, or all where there is none
 abbrev pub before_space : List ℕ → List ℕ
 before_space text = before_first is_space text
 
--- what stands behind the first space, where there is one
-abbrev pub behind_space : List ℕ → Option (List ℕ)
-behind_space text = if list_any is_space text then Some (after_first is_space text) else None
+-- what is after the first space, where there is one
+abbrev pub after_space : List ℕ → Option (List ℕ)
+after_space text = if list_any is_space text then Some (after_first is_space text) else None
 
 -- the key of this name
 abbrev pub key_in : List ℕ → Option (List ℕ)
 key_in name = if is_key name then Some name else None
 
--- PING and QUIT stand alone
+-- nothing follows PING and QUIT
 abbrev pub ping_with : Option (List ℕ) → Result Command Caught
 ping_with None = Ok Ping
 ping_with (Some argument) = Err Syntax
@@ -53,7 +53,7 @@ addition_of None n = Err Syntax
 abbrev pub add_with : Option (List ℕ) → Result Command Caught
 add_with None = Err Syntax
 add_with (Some argument) =
-    addition_of (key_in (before_space argument)) (option_and_then number_in (behind_space argument))
+    addition_of (key_in (before_space argument)) (option_and_then number_in (after_space argument))
 
 abbrev pub get_of : Option (List ℕ) → Result Command Caught
 get_of (Some key) = Ok (Get key)
@@ -64,7 +64,7 @@ abbrev pub get_with : Option (List ℕ) → Result Command Caught
 get_with None = Err Syntax
 get_with (Some argument) = get_of (key_in argument)
 
--- the command of a verb and of what stands behind its space
+-- the command of a verb and of what is after its space
 abbrev pub command_with : List ℕ → Option (List ℕ) → Result Command Caught
 command_with verb argument =
     if bytes_eq verb (codes "PING") then ping_with argument
@@ -74,13 +74,13 @@ command_with verb argument =
     else (if bytes_eq verb (codes "GET") then get_with argument
     else Err Unknown))))
 
--- The verb of a line is what stands before its first space, or the whole line.
+-- The verb of a line is what is before its first space, or the whole line.
 abbrev pub verb_of : List ℕ → List ℕ
 verb_of line = before_space line
 
 -- the command of a line, or what is wrong with the line
 abbrev pub command_of : List ℕ → Result Command Caught
-command_of line = command_with (verb_of line) (behind_space line)
+command_of line = command_with (verb_of line) (after_space line)
 
 -- what a line is read as
 abbrev pub read_as : Result Command Caught → Event
@@ -90,14 +90,7 @@ read_as (Err caught) = event.Caught caught
 -- each line becomes its command, or what was wrong with it
 abbrev pub decoded : Event → Event
 decoded (event.Read (message.Line line)) = read_as (command_of line)
-decoded (event.Read (message.Bytes b)) = event.Read (message.Bytes b)
-decoded (event.Read (message.Command c)) = event.Read (message.Command c)
-decoded (event.Read (message.Reply r)) = event.Read (message.Reply r)
-decoded event.Active = event.Active
-decoded event.ReadComplete = event.ReadComplete
-decoded (event.Caught c) = event.Caught c
-decoded (event.Write m) = event.Write m
-decoded event.Flush = event.Flush
+decoded other = other
 
 abbrev pub command_decoding : Meaning
 command_decoding = mapping_up decoded

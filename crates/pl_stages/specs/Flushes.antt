@@ -1,17 +1,13 @@
 -- Every n-th flush (docs/FORMATS.md, "Handlers").
 use Rattle.std.specs.Prelude.{ℕ, ◌%◌, List, [], ◌∷◌, ◌++◌, count_by, Bool, true, false, not, ◌||◌, ◌==◌, if◌then◌else◌, refl}
 use Rattle.pl_event.specs.declared.events.Event.{Event}
-use Rattle.pl_event.specs.declared.events.Event.TheVariants.{Active, Read, ReadComplete, Caught, Write, Flush}
+use Rattle.pl_event.specs.declared.events.Event.TheVariants.{Flush}
 use Rattle.pl_event.specs.declared.stages.Direction.TheVariants.{Outbound}
 use Rattle.pl_event.specs.Meaning.{Meaning, IsLawful}
 
 abbrev pub is_flush : Event → Bool
 is_flush Flush = true
-is_flush Active = false
-is_flush (Read m) = false
-is_flush ReadComplete = false
-is_flush (Caught c) = false
-is_flush (Write m) = false
+is_flush other = false
 
 -- how many of these events are flushes
 abbrev pub flushes : List Event → ℕ

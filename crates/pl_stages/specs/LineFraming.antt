@@ -3,8 +3,8 @@
 use Rattle.std.specs.Prelude.{◌≡◌, ℕ, ◌+◌, ◌-◌, ◌<◌, List, [], ◌∷◌, ◌++◌, length, take, drop, map, Bool, false, if◌then◌else◌, nat_le, ◌==◌, slice_index, MatchBool, refl}
 use Rattle.std.specs.List.{flat_map}
 use Rattle.pl_event.specs.declared.events.Event.{Event}
-use Rattle.pl_event.specs.declared.events.Event.TheVariants.{Active, Read, ReadComplete, Caught, Write, Flush}
-use Rattle.pl_event.specs.declared.events.Message.TheVariants.{Bytes, Line, Command, Reply}
+use Rattle.pl_event.specs.declared.events.Event.TheVariants.{Read, Caught}
+use Rattle.pl_event.specs.declared.events.Message.TheVariants.{Bytes, Line}
 use Rattle.pl_event.specs.declared.events.Caught.TheVariants.{TooLong}
 use Rattle.pl_event.specs.declared.stages.Direction.TheVariants.{Inbound}
 use Rattle.pl_event.specs.Meaning.{Meaning, IsLawful}
@@ -35,14 +35,7 @@ lines_of max bytes = map (framed max) (closed_parts bytes)
 -- the bytes that an event brings
 abbrev pub read_bytes : Event → List ℕ
 read_bytes (Read (Bytes b)) = b
-read_bytes (Read (Line b)) = []
-read_bytes (Read (Command c)) = []
-read_bytes (Read (Reply r)) = []
-read_bytes Active = []
-read_bytes ReadComplete = []
-read_bytes (Caught c) = []
-read_bytes (Write m) = []
-read_bytes Flush = []
+read_bytes other = []
 
 -- all bytes read, joined
 abbrev pub joined : List Event → List ℕ
@@ -51,14 +44,7 @@ joined xs = flat_map read_bytes xs
 -- A read of bytes makes the lines of the whole with it, less those of the whole without it. Other events pass.
 abbrev pub line_framing_up : ℕ → List Event → Event → List Event
 line_framing_up max xs (Read (Bytes b)) = drop (length (lines_of max (joined xs))) (lines_of max (joined xs ++ b))
-line_framing_up max xs (Read (Line b)) = Read (Line b) ∷ []
-line_framing_up max xs (Read (Command c)) = Read (Command c) ∷ []
-line_framing_up max xs (Read (Reply r)) = Read (Reply r) ∷ []
-line_framing_up max xs Active = Active ∷ []
-line_framing_up max xs ReadComplete = ReadComplete ∷ []
-line_framing_up max xs (Caught c) = Caught c ∷ []
-line_framing_up max xs (Write m) = Write m ∷ []
-line_framing_up max xs Flush = Flush ∷ []
+line_framing_up max xs other = other ∷ []
 
 -- the framing of lines of at most max bytes
 abbrev pub line_framing : ℕ → Meaning

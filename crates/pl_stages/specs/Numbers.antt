@@ -3,11 +3,12 @@ use Rattle.std.specs.Prelude.{ℕ, List, length, Bool, ◌&&◌, ◌||◌, not, 
 use Rattle.std.specs.List.{list_all}
 use Rattle.std.specs.Char.{is_ascii_digit}
 use Rattle.std.specs.Str.Parse.{digits_value}
+use Rattle.pl_stages.specs.declared.limits.TheConstants.{MAX_DIGITS}
 
--- 1 to 9 decimal digits, and no leading zero (byte 48) unless it stands alone
+-- 1 to MAX_DIGITS decimal digits, and no leading zero (byte 48) unless it is the only one
 abbrev pub is_number : List ℕ → Bool
 is_number text =
-    (not (length text == 0) && nat_le (length text) 9 && list_all is_ascii_digit text)
+    (not (length text == 0) && nat_le (length text) MAX_DIGITS && list_all is_ascii_digit text)
     && (not (slice_index text 0 == 48) || length text == 1)
 
 -- the number that a text is

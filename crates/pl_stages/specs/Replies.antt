@@ -8,7 +8,7 @@ use Rattle.pl_event.specs.declared.events.Reply.TheVariants.{Pong, Text, Total, 
 use Rattle.pl_event.specs.declared.events.Fault.{Fault}
 use Rattle.pl_event.specs.declared.events.Fault.TheVariants.{Unknown, Syntax, TooLong, Range, Full}
 use Rattle.pl_event.specs.Meaning.{Meaning}
-use Rattle.pl_stages.specs.Mappings.{mapping_down}
+use Rattle.pl_event.specs.Mappings.{mapping_down}
 
 -- the text of an error reply
 abbrev pub fault_text : Fault → List ℕ
@@ -29,14 +29,7 @@ reply_text (Error fault) = fault_text fault
 -- each write of a reply becomes a write of its text
 abbrev pub encoded : Event → Event
 encoded (event.Write (message.Reply reply)) = event.Write (message.Bytes (reply_text reply))
-encoded (event.Write (message.Bytes b)) = event.Write (message.Bytes b)
-encoded (event.Write (message.Line b)) = event.Write (message.Line b)
-encoded (event.Write (message.Command c)) = event.Write (message.Command c)
-encoded event.Active = event.Active
-encoded (event.Read m) = event.Read m
-encoded event.ReadComplete = event.ReadComplete
-encoded (event.Caught c) = event.Caught c
-encoded event.Flush = event.Flush
+encoded other = other
 
 abbrev pub reply_encoding : Meaning
 reply_encoding = mapping_down encoded

@@ -1,10 +1,10 @@
 -- The line service: it replies to commands and keeps totals until it is told to quit (docs/FORMATS.md, "Service").
-use Rattle.std.specs.Prelude.{◌≡◌, ℕ, ◌+◌, ◌^◌, List, [], ◌∷◌, ◌++◌, length, filter, sum_by, Bool, true, false, not, ◌&&◌, ◌||◌, if◌then◌else◌, nat_lt, nat_le, Option, Some, None, refl}
+use Rattle.std.specs.Prelude.{◌≡◌, ℕ, ◌+◌, List, [], ◌∷◌, ◌++◌, length, filter, sum_by, Bool, true, false, not, ◌&&◌, ◌||◌, if◌then◌else◌, nat_lt, nat_le, Option, Some, None, refl}
 use Rattle.std.specs.List.{list_any, take_while, fold}
 use Rattle.std.specs.Str.{bytes_eq}
 use Rattle.pl_event.specs.declared.events.Event.{Event}
-use Rattle.pl_event.specs.declared.events.Event.TheVariants.{Active, Read, ReadComplete, Caught, Write, Flush}
-use Rattle.pl_event.specs.declared.events.Message.TheVariants.{Bytes, Line, Command, Reply}
+use Rattle.pl_event.specs.declared.events.Event.TheVariants.{Read, ReadComplete, Caught, Write, Flush}
+use Rattle.pl_event.specs.declared.events.Message.TheVariants.{Command, Reply}
 use Rattle.pl_event.specs.declared.events.Command.TheVariants.{Ping, Quit, Echo, Add, Get}
 use Rattle.pl_event.specs.declared.events.Reply.{Reply as ReplyKind}
 use Rattle.pl_event.specs.declared.events.Reply.TheVariants.{Pong, Text, Total, Bye, Error}
@@ -14,21 +14,11 @@ use Rattle.pl_event.specs.declared.events.Fault.{Fault}
 use Rattle.pl_event.specs.declared.events.Fault.TheVariants as fault
 use Rattle.pl_event.specs.declared.stages.Direction.TheVariants.{Turn}
 use Rattle.pl_event.specs.Meaning.{Meaning, IsLawful}
+use Rattle.pl_stages.specs.declared.limits.TheConstants.{MAX_TOTAL, MAX_KEYS}
 
 abbrev pub is_quit : Event → Bool
 is_quit (Read (Command Quit)) = true
-is_quit (Read (Command Ping)) = false
-is_quit (Read (Command (Echo text))) = false
-is_quit (Read (Command (Add key n))) = false
-is_quit (Read (Command (Get key))) = false
-is_quit (Read (Bytes b)) = false
-is_quit (Read (Line b)) = false
-is_quit (Read (Reply r)) = false
-is_quit Active = false
-is_quit ReadComplete = false
-is_quit (Caught c) = false
-is_quit (Write m) = false
-is_quit Flush = false
+is_quit other = false
 
 -- a quit is among these events
 abbrev pub has_quit : List Event → Bool
@@ -56,12 +46,12 @@ abbrev pub held_keys : List Addition → List (List ℕ)
 held_keys [] = []
 held_keys (a ∷ additions) = if is_held a.key additions then held_keys additions else a.key ∷ held_keys additions
 
--- Why a number is not added to a key after these additions: its total would be above 10^15, or the key is not held and
--- 256 keys are.
+-- Why a number is not added to a key after these additions: its total would be above the greatest, or the key is not
+-- held and the most keys are.
 abbrev pub refusal_of : List ℕ → ℕ → List Addition → Option Fault
 refusal_of key n additions =
-    if nat_lt (10 ^ 15) (total_of key additions + n) then Some fault.Range
-    else (if not (is_held key additions) && nat_le 256 (length (held_keys additions)) then Some fault.Full else None)
+    if nat_lt MAX_TOTAL (total_of key additions + n) then Some fault.Range
+    else (if not (is_held key additions) && nat_le MAX_KEYS (length (held_keys additions)) then Some fault.Full else None)
 
 abbrev pub unless_refused : Option Fault → List Addition → List Addition
 unless_refused None added = added
@@ -71,18 +61,7 @@ unless_refused (Some why) added = []
 abbrev pub added_by : List Addition → Event → List Addition
 added_by additions (Read (Command (Add key n))) =
     unless_refused (refusal_of key n additions) (record { key = key; number = n } ∷ [])
-added_by additions (Read (Command Ping)) = []
-added_by additions (Read (Command Quit)) = []
-added_by additions (Read (Command (Echo text))) = []
-added_by additions (Read (Command (Get key))) = []
-added_by additions (Read (Bytes b)) = []
-added_by additions (Read (Line b)) = []
-added_by additions (Read (Reply r)) = []
-added_by additions Active = []
-added_by additions ReadComplete = []
-added_by additions (Caught c) = []
-added_by additions (Write m) = []
-added_by additions Flush = []
+added_by additions other = []
 
 -- The additions accepted among these events: of those before any quit, each with regard to the ones accepted before it.
 abbrev pub accepted : List Event → List Addition
@@ -109,14 +88,9 @@ replies_to additions (Read (Command Quit)) = Write (Reply Bye) ∷ Flush ∷ []
 replies_to additions (Read (Command (Echo text))) = Write (Reply (Text text)) ∷ []
 replies_to additions (Read (Command (Add key n))) = Write (Reply (addition_reply key n additions)) ∷ []
 replies_to additions (Read (Command (Get key))) = Write (Reply (Total (total_of key additions))) ∷ []
-replies_to additions (Read (Bytes b)) = []
-replies_to additions (Read (Line b)) = []
-replies_to additions (Read (Reply r)) = []
-replies_to additions Active = []
 replies_to additions ReadComplete = Flush ∷ []
 replies_to additions (Caught c) = Write (Reply (Error (fault_of c))) ∷ []
-replies_to additions (Write m) = []
-replies_to additions Flush = []
+replies_to additions other = []
 
 -- Until it has quit, it passes each event on and writes the replies; after that it makes nothing.
 abbrev pub line_service : Meaning

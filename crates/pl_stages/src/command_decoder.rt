@@ -1,16 +1,15 @@
-ghost use Rattle.std.specs.Prelude.{◌≡◌, false, ◌+◌, ◌<◌, ◌≤◌, ◌++◌, ◌∷◌, [], length, take, drop, Some, None, vec_len, OnOk, OnErr, ⊤, ◌||◌, codes};
+//! The handler that reads lines as commands.
+
+ghost use Rattle.std.specs.Prelude.{◌≡◌, false, ◌+◌, ◌<◌, ◌≤◌, [], take, drop, Some, None, vec_len, ◌||◌, codes};
 ghost use Rattle.std.specs.Str.{bytes_eq};
 ghost use Rattle.pl_stages.specs.Commands.{command_decoding, command_of, command_with, add_with, addition_of, get_with, key_in, decoded};
-ghost use Rattle.pl_stages.specs.Mappings.{mapping_up-lawful};
 
 use crate::numbers::number_in;
 use memchr::memchr;
-use pl_event::{
-    ByteString, Caught, Command, Direction, Event, Key, Message, Stage, StageFault, Turned,
-};
+use pl_event::{ByteString, Caught, Command, Event, Key, MapUp, Mapping, Message, Stage};
 use std::alloc::AllocError;
 
-const SPACE: u8 = 32;
+const SPACE: u8 = b' ';
 
 const PING: &[u8] = b"PING";
 
@@ -24,70 +23,30 @@ const GET: &[u8] = b"GET";
 
 /// Reads each line as a command, or says what is wrong with it (`docs/FORMATS.md`, "Commands").
 #[derive(Debug, Drop)]
-pub struct CommandDecoder {
-    is_spent: bool,
-}
+pub struct CommandDecoder;
 
 impl CommandDecoder {
-    pub fn new() -> Self
-        ensures meaning { ⟦<CommandDecoder as Stage>⟧.meaning result ≡ command_decoding }
-        ensures stands { ⟦<CommandDecoder as Stage>⟧.stands_after result [] }
-        ensures unspent { ⟦<CommandDecoder as Stage>⟧.is_spent result ≡ false }
+    /// The handler. It takes no memory until its first step.
+    pub fn new() -> MapUp<Self>
+        ensures meaning { ⟦<MapUp<CommandDecoder> as Stage>⟧.meaning result ≡ command_decoding }
+        ensures stands { ⟦<MapUp<CommandDecoder> as Stage>⟧.stands_after result [] }
+        ensures unspent { ⟦<MapUp<CommandDecoder> as Stage>⟧.is_spent result ≡ false }
     {
-        CommandDecoder { is_spent: false }
+        MapUp::new(CommandDecoder)
     }
 }
 
-impl Stage for CommandDecoder {
-    ghost meaning = { λ s. command_decoding };
+impl Mapping for CommandDecoder {
+    ghost made_of = { λ s. decoded };
 
-    ghost stands_after = { λ s xs. ⊤ };
-
-    ghost is_spent = { λ s. s.is_spent };
-
-    fn direction(&self) -> Direction {
-        Direction::Inbound
-    }
-
-    fn step(
-        &mut self,
-        event: Event,
-        up: &mut Vec<Event>,
-        _down: &mut Vec<Event>,
-    ) -> Result<Turned, StageFault> {
-        if self.is_spent {
-            return Err(StageFault::Memory);
-        }
-        match pass(event, up) {
-            Ok(()) => Ok(Turned::Open),
-            Err(_) => {
-                self.is_spent = true;
-                Err(StageFault::Memory)
-            }
-        }
-    }
-
-    ghost lawful = { λ s. mapping_up-lawful decoded };
-}
-
-// Passes an event on, a line as its command.
-fn pass(event: Event, up: &mut Vec<Event>) -> Result<(), AllocError>
-    ensures ok { OnOk result (up.new.items ≡ up.old.items ++ decoded event ∷ []) }
-    ensures err { OnErr result (up.new.items ≡ up.old.items) }
-{
-    up.push(decoded(event))?;
-    Ok(())
-}
-
-fn decoded(event: Event) -> Event
-    ensures { result ≡ decoded event }
-{
-    match event {
-        Event::Read(Message::Line(line)) => match command_of(line.into_vec()) {
-            Ok(command) => Event::Read(Message::Command(command)),
-            Err(caught) => Event::Caught(caught),
-        },
-        other => other,
+    fn map(&self, event: Event) -> Result<Event, AllocError> {
+        Ok(match event {
+            Event::Read(Message::Line(line)) => match command_of(line.into_vec()) {
+                Ok(command) => Event::Read(Message::Command(command)),
+                Err(caught) => Event::Caught(caught),
+            },
+            other => other,
+        })
     }
 }
 
@@ -100,7 +59,7 @@ fn command_of(line: Vec<u8>) -> Result<Command, Caught>
     }
 }
 
-// The command of a verb with nothing behind it.
+/// The command of a verb that nothing follows.
 fn command_alone(verb: &[u8]) -> Result<Command, Caught>
     ensures { result ≡ command_with verb.now None }
 {
@@ -121,7 +80,7 @@ fn takes_argument(verb: &[u8]) -> bool
     verb == ECHO || verb == ADD || verb == GET
 }
 
-// The command of a line whose first space stands at `end`.
+/// The command of a line whose first space is at `end`.
 fn command_followed(line: Vec<u8>, end: usize) -> Result<Command, Caught>
     requires { end < vec_len line }
     ensures { result ≡ command_with (take end line.items) (Some (drop (end + 1) line.items)) }
@@ -140,7 +99,7 @@ fn command_followed(line: Vec<u8>, end: usize) -> Result<Command, Caught>
     }
 }
 
-// What stands behind the first `count` bytes.
+/// The bytes after the first `count`.
 fn without_front(mut bytes: Vec<u8>, count: usize) -> Vec<u8>
     requires { count ≤ vec_len bytes }
     ensures { result.items ≡ drop count bytes.items }
@@ -149,7 +108,7 @@ fn without_front(mut bytes: Vec<u8>, count: usize) -> Vec<u8>
     bytes
 }
 
-// The addition of a key, a space and a number.
+/// The addition of a key, a space and a number.
 fn add_with(argument: Vec<u8>) -> Result<Command, Caught>
     ensures { result ≡ add_with (Some argument.items) }
 {

@@ -1,3 +1,5 @@
+//! Laws of the definitions in `specs/`: functions without a body, whose contracts are the laws.
+
 ghost use Rattle.std.specs.Prelude.{◌≡◌, ◌≢◌, ◌↔◌, ℕ, ◌+◌, ◌^◌, ◌<◌, ◌≤◌, ◌==◌, List, [], ◌∷◌, ◌++◌, length, count_by, true, false, None, decimal, codes, if◌then◌else◌};
 ghost use Rattle.std.specs.List.{slice_split};
 ghost use Rattle.std.specs.Str.{bytes_eq};
@@ -20,6 +22,7 @@ ghost use Rattle.pl_stages.specs.Flushes.{flush_every};
 ghost use Rattle.pl_stages.specs.Counts.{IsThrifty};
 
 use crate::handlers::Handler;
+use crate::limits::{MAX_DIGITS, MAX_KEYS, MAX_TOTAL};
 use pl_event::Stage;
 
 /// How much a handler makes of a whole list of events: upwards no more weight than it takes, one for each event and
@@ -38,10 +41,10 @@ pub fn count_law()
 /// raises the total of its own key, and nothing else changes any total.
 pub fn service_law()
     ensures range { (key : List ℕ) (n : ℕ) (additions : List Addition)
-        → (refusal_of key n additions ≡ Some Range) ↔ (10 ^ 15 < total_of key additions + n) }
+        → (refusal_of key n additions ≡ Some Range) ↔ (MAX_TOTAL < total_of key additions + n) }
     ensures full { (key : List ℕ) (n : ℕ) (additions : List Addition)
         → (refusal_of key n additions ≡ Some Full)
-        ↔ ((total_of key additions + n ≤ 10 ^ 15) × (is_held key additions ≡ false) × (256 ≤ length (held_keys additions))) }
+        ↔ ((total_of key additions + n ≤ MAX_TOTAL) × (is_held key additions ≡ false) × (MAX_KEYS ≤ length (held_keys additions))) }
     ensures added { (xs : List Event) (key : List ℕ) (n : ℕ) (name : List ℕ)
         → has_quit xs ≡ false → refusal_of key n (accepted xs) ≡ None
         → total_of name (accepted (xs ++ Read (Command (Add key n)) ∷ []))
@@ -53,14 +56,14 @@ pub fn service_law()
         → accepted (xs ++ x ∷ []) ≡ accepted xs }
     ensures after_quit { (xs ys : List Event) → has_quit xs ≡ true → accepted (xs ++ ys) ≡ accepted xs }
 
-    // No total is ever above 10^15, and at most 256 keys are held. Each stands once among the keys held.
-    ensures totals { (xs : List Event) (key : List ℕ) → total_of key (accepted xs) ≤ 10 ^ 15 }
-    ensures keys { (xs : List Event) → length (held_keys (accepted xs)) ≤ 256 }
+    // No total is ever above the greatest, and no more keys are held than the most. Each is once among the keys held.
+    ensures totals { (xs : List Event) (key : List ℕ) → total_of key (accepted xs) ≤ MAX_TOTAL }
+    ensures keys { (xs : List Event) → length (held_keys (accepted xs)) ≤ MAX_KEYS }
     ensures each_once { (key : List ℕ) (additions : List Addition)
         → count_by (bytes_eq key) (held_keys additions) ≡ (if is_held key additions then 1 else 0) }
 {}
 
-/// The parts that line feeds close, and behind them the open part, are what a split at each line feed gives.
+/// The parts that line feeds close, and the open part after them, are what a split at each line feed gives.
 pub fn framing_law()
     ensures { (bytes : List ℕ) → slice_split (λ b. b == 10) bytes ≡ closed_parts bytes ++ open_part bytes ∷ [] }
 {}
@@ -71,12 +74,12 @@ pub fn command_law()
     ensures quit { (line : List ℕ) → (command_of line ≡ Ok Quit) ↔ (line ≡ codes "QUIT") }
     ensures echo { (line text : List ℕ) → (command_of line ≡ Ok (Echo text)) ↔ (line ≡ codes "ECHO " ++ text) }
     ensures add { (line key : List ℕ) (n : ℕ) → (command_of line ≡ Ok (Add key n))
-        ↔ ((is_key key ≡ true) × (n < 10 ^ 9) × (line ≡ codes "ADD " ++ key ++ codes " " ++ decimal n)) }
+        ↔ ((is_key key ≡ true) × (n < 10 ^ MAX_DIGITS) × (line ≡ codes "ADD " ++ key ++ codes " " ++ decimal n)) }
     ensures get { (line key : List ℕ) → (command_of line ≡ Ok (Get key)) ↔ ((is_key key ≡ true) × (line ≡ codes "GET " ++ key)) }
-    // A text is a number of 1 to 9 digits without a leading zero exactly where it is how one below 10^9 is printed.
-    ensures number { (text : List ℕ) (n : ℕ) → (number_in text ≡ Some n) ↔ ((n < 10 ^ 9) × (text ≡ decimal n)) }
+    // A text is a number exactly where it is how one of at most MAX_DIGITS digits is printed, without a leading zero.
+    ensures number { (text : List ℕ) (n : ℕ) → (number_in text ≡ Some n) ↔ ((n < 10 ^ MAX_DIGITS) × (text ≡ decimal n)) }
     ensures unknown { (line : List ℕ) → (command_of line ≡ Err Unknown)
         ↔ ((verb_of line ≢ codes "PING") × (verb_of line ≢ codes "QUIT") × (verb_of line ≢ codes "ECHO") × (verb_of line ≢ codes "ADD") × (verb_of line ≢ codes "GET")) }
-    // So every other line is one of wrong syntax.
+    // So every other line has wrong syntax.
     ensures never_long { (line : List ℕ) → command_of line ≢ Err TooLong }
 {}

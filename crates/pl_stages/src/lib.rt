@@ -5,20 +5,22 @@ mod command_decoder;
 mod flush_every;
 mod handlers;
 mod laws;
+mod limits;
 mod line_end;
 mod line_framer;
 mod line_service;
 mod numbers;
 mod reply_encoder;
-#[cfg(test)]
-mod tests;
+mod stage_refusal;
 mod totals;
 
 pub use command_decoder::CommandDecoder;
 pub use flush_every::FlushEvery;
 pub use handlers::Handler;
 pub use laws::{command_law, count_law, framing_law, service_law};
+pub use limits::{MAX_DIGITS, MAX_FLUSHES, MAX_KEYS, MAX_LINE, MAX_TOTAL};
 pub use line_end::LineEnd;
-pub use line_framer::{LineFramer, StageRefusal};
+pub use line_framer::LineFramer;
 pub use line_service::LineService;
 pub use reply_encoder::{ReplyEncoder, add_reply_text};
+pub use stage_refusal::StageRefusal;

@@ -1,10 +1,12 @@
+//! The handler that replies to commands.
+
 ghost use Rattle.std.specs.Prelude.{◌≡◌, false, List, ◌++◌, ◌∷◌, [], OnErr, OnOk};
 ghost use Rattle.pl_stages.specs.Service.{line_service, line_service-lawful, has_quit, is_quit, Addition, accepted, added_by, replies_to, fault_of};
 ghost use Rattle.pl_stages.specs.Totals.{KeepsTotals};
 
 use crate::totals::Totals;
 use pl_event::{
-    Caught, Command, Direction, Event, Fault, Message, Reply, Stage, StageFault, Turned,
+    BareStage, Caught, Command, Direction, Event, Fault, Fused, Message, Reply, Stage, Turned,
 };
 use std::alloc::{AllocError, Global};
 
@@ -13,57 +15,44 @@ use std::alloc::{AllocError, Global};
 pub struct LineService {
     totals: Totals,
     has_quit: bool,
-    is_spent: bool,
 }
 
 impl LineService {
-    pub fn new(alloc: Global) -> Self
-        ensures meaning { ⟦<LineService as Stage>⟧.meaning result ≡ line_service }
-        ensures stands { ⟦<LineService as Stage>⟧.stands_after result [] }
-        ensures unspent { ⟦<LineService as Stage>⟧.is_spent result ≡ false }
+    /// The service, which holds no totals yet. It takes its memory from `alloc`.
+    pub fn new(alloc: Global) -> Fused<Self>
+        ensures meaning { ⟦<Fused<LineService> as Stage>⟧.meaning result ≡ line_service }
+        ensures stands { ⟦<Fused<LineService> as Stage>⟧.stands_after result [] }
+        ensures unspent { ⟦<Fused<LineService> as Stage>⟧.is_spent result ≡ false }
     {
-        LineService {
+        Fused::new(LineService {
             totals: Totals::new(alloc),
             has_quit: false,
-            is_spent: false,
-        }
+        })
     }
 }
 
-impl Stage for LineService {
+impl BareStage for LineService {
     ghost meaning = { λ s. line_service };
 
     ghost stands_after = { λ s xs. (s.has_quit ≡ has_quit xs) × KeepsTotals s.totals (accepted xs) };
-
-    ghost is_spent = { λ s. s.is_spent };
 
     fn direction(&self) -> Direction {
         Direction::Turn
     }
 
-    fn step(
+    fn take(
         &mut self,
         event: Event,
         up: &mut Vec<Event>,
         down: &mut Vec<Event>,
-    ) -> Result<Turned, StageFault> {
-        if self.is_spent {
-            return Err(StageFault::Memory);
-        }
+    ) -> Result<Turned, AllocError> {
         if self.has_quit {
             return Ok(Turned::Ended);
         }
         let quits = is_quit(&event);
-        match serve(&mut self.totals, event, up, down) {
-            Ok(()) => {
-                self.has_quit = quits;
-                Ok(if quits { Turned::Ended } else { Turned::Open })
-            }
-            Err(_) => {
-                self.is_spent = true;
-                Err(StageFault::Memory)
-            }
-        }
+        serve(&mut self.totals, event, up, down)?;
+        self.has_quit = quits;
+        Ok(if quits { Turned::Ended } else { Turned::Open })
     }
 
     ghost lawful = { λ s. line_service-lawful };
@@ -78,7 +67,7 @@ fn is_quit(event: &Event) -> bool
     }
 }
 
-// Passes an event on, and writes the replies to it.
+/// Passes an event on, and writes the replies to it.
 fn serve(
     totals: &mut Totals,
     event: Event,

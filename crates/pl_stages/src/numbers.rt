@@ -1,9 +1,11 @@
+//! Numbers as additions have them: decimal texts.
+
 ghost use Rattle.std.specs.Prelude.{◌≡◌, ◌<◌, length, not, ◌||◌, ◌==◌, slice_index};
 ghost use Rattle.std.specs.List.{list_all};
 ghost use Rattle.std.specs.Char.{is_ascii_digit};
 ghost use Rattle.pl_stages.specs.Numbers.{is_number, number_in};
 
-const LONGEST: usize = 9;
+use crate::limits::MAX_DIGITS;
 
 /// The number that a text is, if it is one.
 pub(crate) fn number_in(text: &[u8]) -> Option<u32>
@@ -21,7 +23,7 @@ pub(crate) fn number_in(text: &[u8]) -> Option<u32>
 fn is_number(text: &[u8]) -> bool
     ensures { result ≡ is_number text.now }
 {
-    !text.is_empty() && text.len() <= LONGEST && are_digits(text) && has_no_leading_zero(text)
+    !text.is_empty() && text.len() <= MAX_DIGITS && are_digits(text) && has_no_leading_zero(text)
 }
 
 fn are_digits(text: &[u8]) -> bool
@@ -30,7 +32,7 @@ fn are_digits(text: &[u8]) -> bool
     text.iter().all(|byte| byte.is_ascii_digit())
 }
 
-// A zero stands alone.
+/// A text that begins with a zero is that zero only.
 fn has_no_leading_zero(text: &[u8]) -> bool
     requires { 0 < length text.now }
     ensures { result ≡ (not (slice_index text.now 0 == 48) || length text.now == 1) }

@@ -1,70 +1,55 @@
-ghost use Rattle.std.specs.Prelude.{◌≡◌, false, ◌++◌, ◌∷◌, [], IfOk, OnOk, OnErr, ⊤};
+//! The handler that writes replies as bytes, and the texts of replies.
+
+ghost use Rattle.std.specs.Prelude.{◌≡◌, false, ◌++◌, [], IfOk, OnOk, OnErr, ⊤};
+ghost use Rattle.pl_event.specs.Mappings.{mapping_down-lawful};
 ghost use Rattle.pl_stages.specs.Replies.{reply_encoding, encoded, reply_text, fault_text};
-ghost use Rattle.pl_stages.specs.Mappings.{mapping_down-lawful};
 
 use itoa::Buffer;
-use pl_event::{ByteString, Direction, Event, Fault, Message, Reply, Stage, StageFault, Turned};
+use pl_event::{
+    BareStage, ByteString, Direction, Event, Fault, Fused, Message, Reply, Stage, Turned,
+};
 use std::alloc::{AllocError, Global};
 
 /// Writes each reply as its text (`docs/FORMATS.md`, "Replies").
 #[derive(Debug, Drop)]
-pub struct ReplyEncoder {
-    is_spent: bool,
-}
+pub struct ReplyEncoder;
 
 impl ReplyEncoder {
-    pub fn new() -> Self
-        ensures meaning { ⟦<ReplyEncoder as Stage>⟧.meaning result ≡ reply_encoding }
-        ensures stands { ⟦<ReplyEncoder as Stage>⟧.stands_after result [] }
-        ensures unspent { ⟦<ReplyEncoder as Stage>⟧.is_spent result ≡ false }
+    /// The handler. It takes no memory until its first step.
+    pub fn new() -> Fused<Self>
+        ensures meaning { ⟦<Fused<ReplyEncoder> as Stage>⟧.meaning result ≡ reply_encoding }
+        ensures stands { ⟦<Fused<ReplyEncoder> as Stage>⟧.stands_after result [] }
+        ensures unspent { ⟦<Fused<ReplyEncoder> as Stage>⟧.is_spent result ≡ false }
     {
-        ReplyEncoder { is_spent: false }
+        Fused::new(ReplyEncoder)
     }
 }
 
-impl Stage for ReplyEncoder {
+// A `Mapping` has no list of events, whose allocator the texts are made with.
+impl BareStage for ReplyEncoder {
     ghost meaning = { λ s. reply_encoding };
 
     ghost stands_after = { λ s xs. ⊤ };
-
-    ghost is_spent = { λ s. s.is_spent };
 
     fn direction(&self) -> Direction {
         Direction::Outbound
     }
 
-    fn step(
+    fn take(
         &mut self,
         event: Event,
         _up: &mut Vec<Event>,
         down: &mut Vec<Event>,
-    ) -> Result<Turned, StageFault> {
-        if self.is_spent {
-            return Err(StageFault::Memory);
-        }
-        match pass(event, down) {
-            Ok(()) => Ok(Turned::Open),
-            Err(_) => {
-                self.is_spent = true;
-                Err(StageFault::Memory)
-            }
-        }
+    ) -> Result<Turned, AllocError> {
+        let encoded = encoded(*down.allocator(), event)?;
+        down.push(encoded)?;
+        Ok(Turned::Open)
     }
 
     ghost lawful = { λ s. mapping_down-lawful encoded };
 }
 
-// Passes an event on, a reply as its text, which is made where the list of events has its memory.
-fn pass(event: Event, down: &mut Vec<Event>) -> Result<(), AllocError>
-    ensures ok { OnOk result (down.new.items ≡ down.old.items ++ encoded event ∷ []) }
-    ensures err { OnErr result (down.new.items ≡ down.old.items) }
-{
-    let alloc = *down.allocator();
-    let encoded = encoded(alloc, event)?;
-    down.push(encoded)?;
-    Ok(())
-}
-
+/// The event with its reply, if it is a write of one, as text.
 fn encoded(alloc: Global, event: Event) -> Result<Event, AllocError>
     ensures { IfOk result (λ made. made ≡ encoded event) }
 {
@@ -92,7 +77,7 @@ pub fn add_reply_text(text: &mut Vec<u8>, reply: &Reply) -> Result<(), AllocErro
     }
 }
 
-// Adds a mark and what it stands before. An `Err` adds neither.
+/// Adds a mark and what it marks. An `Err` adds neither.
 fn add_marked(text: &mut Vec<u8>, mark: &[u8], marked: &[u8]) -> Result<(), AllocError>
     ensures ok { OnOk result (text.new.items ≡ text.old.items ++ (mark.now ++ marked.now)) }
     ensures err { OnErr result (text.new.items ≡ text.old.items) }

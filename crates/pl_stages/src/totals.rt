@@ -1,15 +1,14 @@
-ghost use Rattle.std.specs.Prelude.{◌≡◌, ◌+◌, ◌^◌, ◌++◌, ◌∷◌, [], ℕ, List, Option, Some, None, IfOk, OnOk, if◌then◌else◌, is_some, not, ◌&&◌, nat_lt, nat_le};
+//! The totals that a service keeps.
+
+ghost use Rattle.std.specs.Prelude.{◌≡◌, ◌+◌, ◌++◌, ◌∷◌, [], ℕ, List, Option, Some, None, IfOk, OnOk, if◌then◌else◌, is_some, not, ◌&&◌, nat_lt, nat_le};
 ghost use Rattle.std.specs.Str.{bytes_eq};
 ghost use Rattle.pl_stages.specs.Service.{Addition, total_of, refusal_of, unless_refused, addition_reply};
 ghost use Rattle.pl_stages.specs.Totals.{KeepsTotals, kept_total, kept_count};
 
+use crate::limits::{MAX_KEYS, MAX_TOTAL};
 use pl_event::{Fault, Key, Reply};
 use std::alloc::{AllocError, Global};
 use std::collections::HashMap;
-
-const LARGEST: u64 = 1_000_000_000_000_000;
-
-const MOST_KEYS: usize = 256;
 
 /// The total of each key that is held.
 #[derive(Debug, Drop)]
@@ -58,21 +57,21 @@ impl Totals {
         self.by_name.get(key.as_slice()).copied()
     }
 
-    // Why a key may not get this total.
+    /// Why a key may not get this total.
     fn refusal(&self, is_held: bool, total: u64) -> Option<Fault>
-        ensures { result ≡ (if nat_lt (10 ^ 15) total then Some Fault.Range
-            else (if not is_held && nat_le 256 (kept_count self.now) then Some Fault.Full else None)) }
+        ensures { result ≡ (if nat_lt MAX_TOTAL total then Some Fault.Range
+            else (if not is_held && nat_le MAX_KEYS (kept_count self.now) then Some Fault.Full else None)) }
     {
-        if total > LARGEST {
+        if total > MAX_TOTAL {
             return Some(Fault::Range);
         }
-        if !is_held && self.by_name.len() >= MOST_KEYS {
+        if !is_held && self.by_name.len() >= MAX_KEYS {
             return Some(Fault::Full);
         }
         None
     }
 
-    // Sets the total of a key, which is held from then on.
+    /// Sets the total of a key, which is held from then on.
     fn put(&mut self, key: &Key, total: u64) -> Result<(), AllocError>
         ensures totals { OnOk result ((name : List ℕ)
             → kept_total name self.new ≡ (if bytes_eq key.now name then Some total else kept_total name self.old)) }

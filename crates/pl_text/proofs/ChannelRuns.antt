@@ -1,5 +1,5 @@
 -- Channels built one after the other, over the same groups.
-use Rattle.std.proofs.Common.{◌≡◌, ℕ, List, [], ◌∷◌, ◌++◌, length, map, Option, Result, Ok, Err, sym, refl, ap, subst, ◌∙◌, append_assoc, arith}
+use Rattle.std.proofs.Common.{◌≡◌, ℕ, List, [], ◌∷◌, ◌++◌, map, Option, Result, Ok, Err, sym, refl, ap, subst, ◌∙◌, append_assoc}
 use Rattle.std.specs.List.{AllByRecursion}
 use Rattle.std.proofs.lemmas.List.{map-append, append-nil}
 use Rattle.pl_event.specs.Meaning.{Meaning}
@@ -18,7 +18,7 @@ use Rattle.pl_text.specs.SessionBuilding.{pipeline_built, channel_built, channel
 abbrev onto : List ChannelPlan → Result (List ChannelPlan) BuildFault → Result (List ChannelPlan) BuildFault
 onto plans more = more >>= λ ps. Ok (plans ++ ps)
 
--- The groups have placed channels, and those that are left, built behind them, complete these plans to the whole.
+-- The groups have placed channels, and those that are left, built after them, complete these plans to the whole.
 pub record IsUnderWay (groups : GroupsView) (plans : List ChannelPlan) (left : List ChannelOutline) (whole : Result (List ChannelPlan) BuildFault) : Type 0 where
   pub earlier : List (List (Option (List ℕ)))
   pub placed : HasPlaced groups earlier
@@ -67,7 +67,7 @@ ends groups plans left whole none so_far =
     so_far.whole_is ∙ ap (λ (cs : List ChannelOutline). onto plans (channels_built groups.loops (sizes_of groups) so_far.earlier cs)) none
     ∙ ap (λ (ps : List ChannelPlan). Ok ps) (append-nil plans)
 
--- the same of recorded channels that are pushed behind one another
+-- the same of recorded channels that are pushed one after another
 pub pushed : {S T : Type 0} (meaning : S → Meaning) (state : T → TransportState) (before after : GroupsView) (old new : List (Recorded S T)) (channel : ChannelOutline) (was left : List ChannelOutline) (made : Recorded S T) (whole : Result (List ChannelPlan) BuildFault)
     → (after.loops ≡ before.loops) × (sizes_of after ≡ sizes_of before) → IsChannelBuilt before after channel (channel_planned meaning state made) → was ≡ channel ∷ left → new ≡ old ++ made ∷ []
     → IsUnderWay before (map (channel_planned meaning state) old) was whole → IsUnderWay after (map (channel_planned meaning state) new) left whole
@@ -79,7 +79,3 @@ pushed meaning state before after old new channel was left made whole same built
 
 pub all_first : (channel : ChannelOutline) (was left : List ChannelOutline) → was ≡ channel ∷ left → AllByRecursion IsChannelOutlineWithin was → IsChannelOutlineWithin channel × AllByRecursion IsChannelOutlineWithin left
 all_first channel was left next all = subst (AllByRecursion IsChannelOutlineWithin) next all
-
-pub nil_from_length : {X : Type 0} (xs : List X) → length xs ≡ 0 → xs ≡ []
-nil_from_length [] e = refl
-nil_from_length (x ∷ xs) e = absurd (omega (arith, e))

@@ -10,7 +10,7 @@ use Rattle.pl_text.specs.declared.session_text.outline.Edit.{Edit}
 use Rattle.pl_text.specs.SessionReading.{◌>>=◌}
 use Rattle.pl_text.specs.SessionBuilding.{edited, all_edited}
 
--- what holds of each element holds of the one at a place
+-- what holds of each element holds of the one at an index
 pub all_at : {X : Type 0} (P : X → Type 0) (xs : List X) (i : ℕ) (x : X) → AllByRecursion P xs → i < length xs → x ≡ get_or xs i x → P x
 all_at P [] i x all lt is = absurd (omega arith)
 all_at {X} P (y ∷ ys) zero x all lt is = subst P (sym is) all.0

@@ -10,13 +10,13 @@ use Rattle.pl_event.specs.Meaning.{Meaning}
 use Rattle.pl_build.specs.declared.named_stages.NamedStage.{NamedStage}
 use Rattle.pl_build.specs.declared.faults.BuildFault.{BuildFault}
 use Rattle.pl_build.specs.declared.faults.BuildFault.TheVariants.{NoSuchName, Memory}
-use Rattle.pl_build.specs.Pipelines.{PipelineBuilderView, handler_of, is_named, place_of, without, stage_of}
+use Rattle.pl_build.specs.Pipelines.{PipelineBuilderView, handler_of, is_named, index_of, without, stage_of}
 use Rattle.pl_build.specs.Refusals.{naming_fault, beside_fault}
 use Rattle.pl_text.specs.declared.session_text.outline.Addition.{Addition}
 use Rattle.pl_text.specs.SessionHandlers.{meaning_of}
 use Rattle.pl_text.specs.SessionBuilding.{meant, made_unless, added, put_before, put_after}
-use Rattle.pl_text.proofs.Lists.{insert-map, remove-map}
-use Rattle.pl_text.proofs.MeantPipelines.{one, place_of-meant, naming_fault-meant, beside_fault-meant}
+use Rattle.pl_event.proofs.Lists.{insert-map, remove-map}
+use Rattle.pl_text.proofs.MeantPipelines.{one, index_of-meant, naming_fault-meant, beside_fault-meant}
 
 -- ---- refusals
 
@@ -28,8 +28,8 @@ unless_some : {A : Type 0} (o : Option BuildFault) (made : A) (f : BuildFault) �
 unless_some None made f is other = absurd (other is)
 unless_some (Some g) made f is other = ap (λ (h : BuildFault). Err h) (sym is)
 
-is_there : (naming : Option BuildFault) (place : Option ℕ) → (if is_some naming then naming else if is_some place then None else Some NoSuchName) ≡ None → is_some place ≡ true
-is_there (Some f) place e = cc
+is_there : (naming : Option BuildFault) (index : Option ℕ) → (if is_some naming then naming else if is_some index then None else Some NoSuchName) ≡ None → is_some index ≡ true
+is_there (Some f) index e = cc
 is_there None (Some n) e = refl
 is_there None None e = cc
 
@@ -93,20 +93,20 @@ module _ {S : Type 0} (meaning : S → Meaning) where
   beside_refused a at to name old made f named given is other =
       ap (λ (o : Option BuildFault). made_unless o made) (beside_is a at to name old named given) ∙ unless_some (beside_fault to name old) made f is other
 
-  -- a handler put in at a place that is there
-  put_in : (shift : ℕ → ℕ) (o : Option ℕ) (handler : NamedStage S) (old new : PipelineBuilderView S) → is_some o ≡ true → IfSome o (λ place. new ≡ record old { handlers = insert old.handlers (shift place) handler })
-      → option_map_or (λ place. insert (meant meaning old.handlers) (shift place) (one meaning handler)) o (meant meaning old.handlers) ≡ meant meaning new.handlers
+  -- a handler put in at an index that is there
+  put_in : (shift : ℕ → ℕ) (o : Option ℕ) (handler : NamedStage S) (old new : PipelineBuilderView S) → is_some o ≡ true → IfSome o (λ index. new ≡ record old { handlers = insert old.handlers (shift index) handler })
+      → option_map_or (λ index. insert (meant meaning old.handlers) (shift index) (one meaning handler)) o (meant meaning old.handlers) ≡ meant meaning new.handlers
   put_in shift None handler old new there is = cc
-  put_in shift (Some place) handler old new there is =
-      insert-map (one meaning) old.handlers (shift place) handler ∙ ap (λ (p : PipelineBuilderView S). meant meaning p.handlers) (sym is)
+  put_in shift (Some index) handler old new there is =
+      insert-map (one meaning) old.handlers (shift index) handler ∙ ap (λ (p : PipelineBuilderView S). meant meaning p.handlers) (sym is)
 
   put_beside : (shift : ℕ → ℕ) (a : Addition) (at to name : List ℕ) (group : Option (List ℕ)) (stage : S) (old new : PipelineBuilderView S) → name ≡ a.name → to ≡ at → group ≡ a.group → meaning stage ≡ meaning_of a.handler
-      → beside_fault to name old.handlers ≡ None → IfSome (place_of to old.handlers) (λ place. new ≡ record old { handlers = insert old.handlers (shift place) (handler_of name group stage) })
-      → option_map_or (λ place. insert (meant meaning old.handlers) (shift place) (added a)) (place_of at (meant meaning old.handlers)) (meant meaning old.handlers) ≡ meant meaning new.handlers
+      → beside_fault to name old.handlers ≡ None → IfSome (index_of to old.handlers) (λ index. new ≡ record old { handlers = insert old.handlers (shift index) (handler_of name group stage) })
+      → option_map_or (λ index. insert (meant meaning old.handlers) (shift index) (added a)) (index_of at (meant meaning old.handlers)) (meant meaning old.handlers) ≡ meant meaning new.handlers
   put_beside shift a at to name group stage old new named given grouped means none is =
-      let place = place_of-meant meaning at old.handlers ∙ ap (λ (t : List ℕ). place_of t old.handlers) (sym given) in
-      ap₂ (λ (o : Option ℕ) (h : NamedStage Meaning). option_map_or (λ place. insert (meant meaning old.handlers) (shift place) h) o (meant meaning old.handlers)) place (sym (one_added a name group stage named grouped means))
-      ∙ put_in shift (place_of to old.handlers) (handler_of name group stage) old new (is_there (naming_fault name old.handlers) (place_of to old.handlers) none) is
+      let index = index_of-meant meaning at old.handlers ∙ ap (λ (t : List ℕ). index_of t old.handlers) (sym given) in
+      ap₂ (λ (o : Option ℕ) (h : NamedStage Meaning). option_map_or (λ index. insert (meant meaning old.handlers) (shift index) h) o (meant meaning old.handlers)) index (sym (one_added a name group stage named grouped means))
+      ∙ put_in shift (index_of to old.handlers) (handler_of name group stage) old new (is_there (naming_fault name old.handlers) (index_of to old.handlers) none) is
 
   beside_made : (a : Addition) (at to name : List ℕ) (old : List (NamedStage S)) (made : List (NamedStage Meaning)) → name ≡ a.name → to ≡ at → beside_fault to name old ≡ None
       → made_unless (beside_fault at a.name (meant meaning old)) made ≡ Ok made
@@ -114,14 +114,14 @@ module _ {S : Type 0} (meaning : S → Meaning) where
       unless_none (beside_fault at a.name (meant meaning old)) made (beside_is a at to name old named given ∙ none)
 
   pub before_made : (a : Addition) (at to name : List ℕ) (group : Option (List ℕ)) (stage : S) (old new : PipelineBuilderView S) → name ≡ a.name → to ≡ at → group ≡ a.group → meaning stage ≡ meaning_of a.handler
-      → beside_fault to name old.handlers ≡ None → IfSome (place_of to old.handlers) (λ place. new ≡ record old { handlers = insert old.handlers place (handler_of name group stage) })
+      → beside_fault to name old.handlers ≡ None → IfSome (index_of to old.handlers) (λ index. new ≡ record old { handlers = insert old.handlers index (handler_of name group stage) })
       → made_unless (beside_fault at a.name (meant meaning old.handlers)) (put_before at (added a) (meant meaning old.handlers)) ≡ Ok (meant meaning new.handlers)
   before_made a at to name group stage old new named given grouped means none is =
       beside_made a at to name old.handlers (put_before at (added a) (meant meaning old.handlers)) named given none
       ∙ ap (λ (hs : List (NamedStage Meaning)). Ok hs) (put_beside (λ n. n) a at to name group stage old new named given grouped means none is)
 
   pub after_made : (a : Addition) (at to name : List ℕ) (group : Option (List ℕ)) (stage : S) (old new : PipelineBuilderView S) → name ≡ a.name → to ≡ at → group ≡ a.group → meaning stage ≡ meaning_of a.handler
-      → beside_fault to name old.handlers ≡ None → IfSome (place_of to old.handlers) (λ place. new ≡ record old { handlers = insert old.handlers (place + 1) (handler_of name group stage) })
+      → beside_fault to name old.handlers ≡ None → IfSome (index_of to old.handlers) (λ index. new ≡ record old { handlers = insert old.handlers (index + 1) (handler_of name group stage) })
       → made_unless (beside_fault at a.name (meant meaning old.handlers)) (put_after at (added a) (meant meaning old.handlers)) ≡ Ok (meant meaning new.handlers)
   after_made a at to name group stage old new named given grouped means none is =
       beside_made a at to name old.handlers (put_after at (added a) (meant meaning old.handlers)) named given none
@@ -131,15 +131,15 @@ module _ {S : Type 0} (meaning : S → Meaning) where
 
   without-meant : (name : List ℕ) (old : List (NamedStage S)) → without name (meant meaning old) ≡ meant meaning (without name old)
   without-meant name old =
-      ap (λ (o : Option ℕ). option_map_or (λ place. remove (meant meaning old) place) o (meant meaning old)) (place_of-meant meaning name old) ∙ taken (place_of name old)
+      ap (λ (o : Option ℕ). option_map_or (λ index. remove (meant meaning old) index) o (meant meaning old)) (index_of-meant meaning name old) ∙ taken (index_of name old)
     where
-      taken : (o : Option ℕ) → option_map_or (λ place. remove (meant meaning old) place) o (meant meaning old) ≡ meant meaning (option_map_or (λ place. remove old place) o old)
+      taken : (o : Option ℕ) → option_map_or (λ index. remove (meant meaning old) index) o (meant meaning old) ≡ meant meaning (option_map_or (λ index. remove old index) o old)
       taken None = refl
-      taken (Some place) = remove-map (one meaning) old place
+      taken (Some index) = remove-map (one meaning) old index
 
-  place_is_some : (name : List ℕ) (old : List (NamedStage S)) → is_some (place_of name (meant meaning old)) ≡ is_some (find (is_named name) old)
-  place_is_some name old =
-      ap is_some (place_of-meant meaning name old)
+  index_is_some : (name : List ℕ) (old : List (NamedStage S)) → is_some (index_of name (meant meaning old)) ≡ is_some (find (is_named name) old)
+  index_is_some name old =
+      ap is_some (index_of-meant meaning name old)
       ∙ test_is_some (nat_lt (position_or_len (is_named name) old) (length old)) (position_or_len (is_named name) old)
       ∙ sym (ap is_some (find_at (is_named name) old) ∙ slice_is_some old (position_or_len (is_named name) old))
 
@@ -152,16 +152,16 @@ module _ {S : Type 0} (meaning : S → Meaning) where
   by_fault (Some h) f e = cc
 
   pub removed : (name to : List ℕ) (stage : S) (old new : PipelineBuilderView S) → to ≡ name → stage_of to old.handlers ≡ Ok stage → new ≡ record old { handlers = without to old.handlers }
-      → (if is_some (place_of name (meant meaning old.handlers)) then Ok (without name (meant meaning old.handlers)) else Err NoSuchName) ≡ Ok (meant meaning new.handlers)
+      → (if is_some (index_of name (meant meaning old.handlers)) then Ok (without name (meant meaning old.handlers)) else Err NoSuchName) ≡ Ok (meant meaning new.handlers)
   removed name to stage old new given was is =
-      let there = place_is_some name old.handlers ∙ ap (λ (t : List ℕ). is_some (find (is_named t) old.handlers)) (sym given) ∙ by_stage (find (is_named to) old.handlers) stage was in
+      let there = index_is_some name old.handlers ∙ ap (λ (t : List ℕ). is_some (find (is_named t) old.handlers)) (sym given) ∙ by_stage (find (is_named to) old.handlers) stage was in
       ap (λ (b : Bool). if b then Ok (without name (meant meaning old.handlers)) else Err NoSuchName) there
       ∙ ap (λ (hs : List (NamedStage Meaning)). Ok hs) (without-meant name old.handlers ∙ ap (λ (t : List ℕ). meant meaning (without t old.handlers)) (sym given))
       ∙ ap (λ (p : PipelineBuilderView S). Ok (meant meaning p.handlers)) (sym is)
 
   pub not_removed : (name to : List ℕ) (f : BuildFault) (old : List (NamedStage S)) → to ≡ name → stage_of to old ≡ Err f
-      → (if is_some (place_of name (meant meaning old)) then Ok (without name (meant meaning old)) else Err NoSuchName) ≡ Err f
+      → (if is_some (index_of name (meant meaning old)) then Ok (without name (meant meaning old)) else Err NoSuchName) ≡ Err f
   not_removed name to f old given was =
       let p = by_fault (find (is_named to) old) f was in
-      let there = place_is_some name old ∙ ap (λ (t : List ℕ). is_some (find (is_named t) old)) (sym given) ∙ p.0 in
+      let there = index_is_some name old ∙ ap (λ (t : List ℕ). is_some (find (is_named t) old)) (sym given) ∙ p.0 in
       ap (λ (b : Bool). if b then Ok (without name (meant meaning old)) else Err NoSuchName) there ∙ ap (λ (g : BuildFault). Err g) (sym p.1)

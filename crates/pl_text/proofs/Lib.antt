@@ -3,7 +3,6 @@ pub mod KeyNames
 pub mod MovesNumbers
 pub mod MovesUnique
 pub mod MovesWords
-pub mod Lists
 pub mod MeantPipelines
 pub mod SessionLimitLaws
 pub mod EditSteps
@@ -12,4 +11,3 @@ pub mod ChannelSteps
 pub mod ChannelRuns
 pub mod PipelineLimits
 pub mod SessionWithin
-pub mod SessionWorldSteps

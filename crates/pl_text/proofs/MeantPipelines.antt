@@ -2,35 +2,37 @@
 use Rattle.std.proofs.Common.{◌≡◌, ℕ, Bool, not, List, [], ◌∷◌, ◌++◌, map, filter, reverse, Option, Some, None, sym, ap, ap₂, ◌∙◌}
 use Rattle.std.specs.Prelude.{nat_le, is_some, if◌then◌else◌, ◌==◌, ◌||◌}
 use Rattle.std.proofs.lemmas.List.{length-map}
+use Rattle.std.proofs.lemmas.Simd.{map-map}
 use Rattle.std.proofs.lemmas.List.Folds.{list_all-map}
 use Rattle.pl_event.specs.Meaning.{Meaning}
+use Rattle.pl_event.proofs.Lists.{position-map, take_while-map, filter-map, map-reverse, count_by-map}
+use Rattle.pl_build.specs.declared.limits.TheConstants.{MAX_HANDLERS}
 use Rattle.pl_build.specs.declared.named_stages.NamedStage.{NamedStage}
 use Rattle.pl_build.specs.declared.faults.BuildFault.{BuildFault}
 use Rattle.pl_build.specs.declared.faults.BuildFault.TheVariants.{DuplicateName, NoSuchName, Limit, NoSuchGroup, NoTurn, TwoTurns}
 use Rattle.pl_build.specs.Names.{is_name}
-use Rattle.pl_build.specs.Pipelines.{handler_of, is_named, place_of, meanings, is_outbound, is_inbound, is_turn, inbound_handlers, before_turn, outbound_handlers}
+use Rattle.pl_build.specs.Pipelines.{handler_of, is_named, index_of, meanings, is_outbound, is_inbound, is_turn, inbound_handlers, before_turn, outbound_handlers}
 use Rattle.pl_build.specs.Refusals.{naming_fault, beside_fault, building_fault, is_known}
 use Rattle.pl_build.specs.Executors.{hop_executors, groups_of}
 use Rattle.pl_text.specs.SessionBuilding.{meant}
-use Rattle.pl_text.proofs.Lists.{map-map, position-map, take_while-map, filter-map, map-reverse, count_by-map}
 
 module _ {S : Type 0} (meaning : S → Meaning) where
   -- one handler with what its stage means
   abbrev pub one : NamedStage S → NamedStage Meaning
   one handler = handler_of handler.name handler.group (meaning handler.stage)
 
-  pub place_of-meant : (name : List ℕ) (handlers : List (NamedStage S)) → place_of name (meant meaning handlers) ≡ place_of name handlers
-  place_of-meant name handlers = position-map (is_named name) one handlers
+  pub index_of-meant : (name : List ℕ) (handlers : List (NamedStage S)) → index_of name (meant meaning handlers) ≡ index_of name handlers
+  index_of-meant name handlers = position-map (is_named name) one handlers
 
   pub naming_fault-meant : (name : List ℕ) (handlers : List (NamedStage S)) → naming_fault name (meant meaning handlers) ≡ naming_fault name handlers
   naming_fault-meant name handlers =
-      ap₂ (λ (n : ℕ) (p : Option ℕ). if not (is_name name) || nat_le 32 n then Some Limit else if is_some p then Some DuplicateName else None)
-      (length-map handlers one) (place_of-meant name handlers)
+      ap₂ (λ (n : ℕ) (p : Option ℕ). if not (is_name name) || nat_le MAX_HANDLERS n then Some Limit else if is_some p then Some DuplicateName else None)
+      (length-map handlers one) (index_of-meant name handlers)
 
   pub beside_fault-meant : (at name : List ℕ) (handlers : List (NamedStage S)) → beside_fault at name (meant meaning handlers) ≡ beside_fault at name handlers
   beside_fault-meant at name handlers =
       ap₂ (λ (f : Option BuildFault) (p : Option ℕ). if is_some f then f else if is_some p then None else Some NoSuchName)
-      (naming_fault-meant name handlers) (place_of-meant at handlers)
+      (naming_fault-meant name handlers) (index_of-meant at handlers)
 
   pub groups_of-meant : (handlers : List (NamedStage S)) → groups_of (meant meaning handlers) ≡ groups_of handlers
   groups_of-meant handlers = map-map (λ (h : NamedStage Meaning). h.group) one handlers

@@ -6,6 +6,7 @@ use Rattle.std.proofs.lemmas.Str.Pattern.{IsSplitOnceResult, split_after, split_
 use Rattle.std.proofs.lemmas.List.{append-nil, length-append}
 use Rattle.std.proofs.Math.Seq.{get_or-append_seam}
 use denote.Ref.{Bor}
+use Rattle.pl_text.specs.declared.moves_text.words.TheConstants.{MAX_COUNT}
 use Rattle.pl_text.specs.MovesTexts.{AreInRange, count_text}
 
 -- no digit is an x
@@ -28,7 +29,7 @@ pub not_both : (o : Option ℕ) (n : ℕ) → o ≡ Some n → o ≡ None → �
 not_both o n p q = cc
 
 -- a text that is printed from a count is not printed from 0
-pub count_is_not_0 : (bs : List ℕ) (m n : ℕ) → bs ≡ decimal m → bs ≡ decimal n → m ≡ 0 → 1 ≤ n → n ≤ 1000000 → ⊥
+pub count_is_not_0 : (bs : List ℕ) (m n : ℕ) → bs ≡ decimal m → bs ≡ decimal n → m ≡ 0 → 1 ≤ n → n ≤ MAX_COUNT → ⊥
 count_is_not_0 bs m n p q zero above below =
     let same : n ≡ m = decimal_injective n m (omega arith) (omega arith) (sym q ∙ p) in
     omega arith
@@ -41,7 +42,7 @@ no_x_says bs n (Some m) r none cut fit e =
 
 -- a text with x says the number before it and the count after it
 pub with_x_says : (bs : List ℕ) (n : ℕ) (count : Option ℕ) (r : Option (Bor (List ℕ) × Bor (List ℕ))) (p : Bor (List ℕ) × Bor (List ℕ)) → r ≡ Some p → IsSplitOnceResult 120 bs r → AreInRange n count → bs ≡ decimal n ++ count_text count
-    → (m : ℕ) × ((1 ≤ m) × (m ≤ 1000000)) × ((p.0.now ≡ decimal n) × (p.1.now ≡ decimal m))
+    → (m : ℕ) × ((1 ≤ m) × (m ≤ MAX_COUNT)) × ((p.0.now ≡ decimal n) × (p.1.now ≡ decimal m))
 with_x_says bs n None r p some cut fit e =
     let parts = rw some at (split_parts 120 bs r cut (omega arith)) in
     let whole : decimal n ≡ p.0.now ++ 120 ∷ p.1.now = sym (e ∙ append-nil (decimal n)) ∙ parts.0 in

@@ -19,7 +19,7 @@ head_is c d cs ds e = cc
 tail_is : (c d : ℕ) (cs ds : List ℕ) → c ∷ cs ≡ d ∷ ds → cs ≡ ds
 tail_is c d cs ds e = cc
 
--- what stands before the first x, and what stands behind it
+-- what comes before the first x, and what comes after it
 parts_at_x : (cs ds xs ys : List ℕ) → Lacks cs → Lacks ds → cs ++ 120 ∷ xs ≡ ds ++ 120 ∷ ys → (cs ≡ ds) × (xs ≡ ys)
 parts_at_x [] [] xs ys p q e = (refl, tail_is 120 120 xs ys e)
 parts_at_x [] (d ∷ ds) xs ys p q e = absurd (q 0 (omega arith) (sym (head_is 120 d xs (ds ++ 120 ∷ ys) e)))

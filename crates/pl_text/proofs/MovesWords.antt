@@ -10,7 +10,7 @@ pub fits_push : (ws : List Word) (w : Word) → AllByRecursion Fits ws → Fits 
 fits_push [] w fits fit = (fit, tt)
 fits_push (v ∷ ws) w fits fit = (fits.0, fits_push ws w fits.1 fit)
 
--- a part that is no word stands in no list of words
+-- a part that is not a word is in no list of words
 no_words : (p : List ℕ) (n : ℕ) (ws : List Word) → ((w : Word) → Fits w → p ≢ word_text w) → n < length (map word_text ws) → p ≡ get_or (map word_text ws) n p → AllByRecursion Fits ws → ⊥
 no_words p n [] none lt e fits = absurd (omega arith)
 no_words p zero (w ∷ ws) none lt e fits = none w fits.0 e
@@ -25,7 +25,7 @@ words_more ps n ws w p lt is text so_far =
 pub parts_of_some : (text : List ℕ) (b : Bool) → b ≡ (length text == 0) → b ≡ false → parts text ≡ slice_split (λ x. x == 32) text
 parts_of_some text b is off = rw (sym is ∙ off) refl
 
--- a part that is no word leaves the text without words
+-- a part that is not a word leaves the text without words
 pub is_stopped : (text : List ℕ) (ps : List (List ℕ)) (n : ℕ) (p : List ℕ) → parts text ≡ ps → n < length ps → p ≡ get_or ps n p → ((w : Word) → Fits w → p ≢ word_text w) → (ws : List Word) → Says text ws → ⊥
 is_stopped text ps n p e lt is none ws says =
     let same : ps ≡ map word_text ws = sym e ∙ says.parts_are in

@@ -1,4 +1,4 @@
--- The handlers of a pipeline that is built are at most 32, each of a built-in kind.
+-- The handlers of a pipeline that is built are few, each of a built-in kind.
 use Rattle.std.proofs.Common.{◌≡◌, ℕ, zero, ◌+◌, ◌<◌, ◌≤◌, Bool, true, false, cond, not, List, [], ◌∷◌, ◌++◌, length, take, drop, filter, reverse, suc, Option, Some, None, Ok, Err, sym, refl, ap, subst, arith, length-append}
 use Rattle.std.specs.Prelude.{All, is_some, if◌then◌else◌, nat_le, nat_lt, ◌||◌, insert, remove}
 use Rattle.std.specs.List.{prefix_len}
@@ -14,8 +14,9 @@ use Rattle.pl_event.specs.Paths.{inbound_chain, outbound_chain, is_outbound, is_
 use Rattle.pl_build.specs.declared.named_stages.NamedStage.{NamedStage}
 use Rattle.pl_build.specs.declared.faults.BuildFault.{BuildFault}
 use Rattle.pl_build.specs.declared.faults.BuildFault.TheVariants.{NoSuchName, Limit, Marks}
+use Rattle.pl_build.specs.declared.limits.TheConstants.{MAX_HANDLERS, MAX_MARK}
 use Rattle.pl_build.specs.Names.{is_name}
-use Rattle.pl_build.specs.Pipelines.{place_of, without, meanings}
+use Rattle.pl_build.specs.Pipelines.{index_of, without, meanings}
 use Rattle.pl_build.specs.Refusals.{unless, naming_fault, beside_fault, marks_answer, building_fault}
 use Rattle.pl_text.specs.declared.session_text.outline.HandlerKind.{HandlerKind}
 use Rattle.pl_text.specs.declared.session_text.outline.HandlerKind.TheVariants.{Lines, Decode, LineEnd, Encode, Service, FlushEvery}
@@ -25,7 +26,8 @@ use Rattle.pl_text.specs.declared.session_text.outline.Edit.TheVariants.{First, 
 use Rattle.pl_text.specs.declared.session_text.outline.ChannelOutline.{ChannelOutline}
 use Rattle.pl_text.specs.SessionHandlers.{meaning_of}
 use Rattle.pl_text.specs.SessionBuilding.{made_unless, added, put_before, put_after, edited, all_edited, pipeline_built}
-use Rattle.pl_stages.specs.Counts.{IsThrifty, line_framing-thrifty, command_decoding-thrifty, line_ending-thrifty, reply_encoding-thrifty, line_service-thrifty, flush_every-thrifty}
+use Rattle.pl_stages.specs.Counts.{IsThrifty}
+use Rattle.pl_stages.proofs.Thrifty.{line_framing-thrifty, command_decoding-thrifty, line_ending-thrifty, reply_encoding-thrifty, line_service-thrifty, flush_every-thrifty}
 use Rattle.pl_text.proofs.SessionLimitLaws.{bind-ok, choice-ok}
 
 meaning_thrifty : (kind : HandlerKind) → IsThrifty (meaning_of kind)
@@ -39,10 +41,10 @@ meaning_thrifty (FlushEvery n) = flush_every-thrifty n
 abbrev IsBuiltIn : NamedStage Meaning → Type 0
 IsBuiltIn handler = IsThrifty handler.stage
 
--- at most 32 handlers, each of a built-in kind
+-- few handlers, each of a built-in kind
 pub record AreWithin (handlers : List (NamedStage Meaning)) : Type 0 where
   pub built_in : All IsBuiltIn handlers
-  pub at_most : length handlers ≤ 32
+  pub at_most : length handlers ≤ MAX_HANDLERS
 
 -- ---- edits
 
@@ -55,9 +57,9 @@ room_by true true o e = cc
 room_by true false o e = refl
 room_by false full o e = cc
 
-room : (name : List ℕ) (handlers : List (NamedStage Meaning)) → naming_fault name handlers ≡ None → length handlers < 32
+room : (name : List ℕ) (handlers : List (NamedStage Meaning)) → naming_fault name handlers ≡ None → length handlers < MAX_HANDLERS
 room name handlers e =
-    let full : nat_le 32 (length handlers) ≡ false = room_by (is_name name) (nat_le 32 (length handlers)) _ e in
+    let full : nat_le MAX_HANDLERS (length handlers) ≡ false = room_by (is_name name) (nat_le MAX_HANDLERS (length handlers)) _ e in
     grind (arith, nat_tests)
 
 naming_of : (naming : Option BuildFault) (there : Bool) → (if is_some naming then naming else if there then None else Some NoSuchName) ≡ None → naming ≡ None
@@ -67,23 +69,23 @@ naming_of (Some f) there e = cc
 added_within : (a : Addition) → IsBuiltIn (added a)
 added_within a = meaning_thrifty a.handler
 
-insert_within : (handlers : List (NamedStage Meaning)) (place : ℕ) (a : Addition) → AreWithin handlers → length handlers < 32 → AreWithin (insert handlers place (added a))
-insert_within handlers place a within free = record {
-  built_in = All-append IsBuiltIn (take place handlers) (added a ∷ drop place handlers) (All-take IsBuiltIn place handlers within.built_in)
-      (All-cons IsBuiltIn (added a) (drop place handlers) (added_within a) (All-drop IsBuiltIn place handlers within.built_in));
-  at_most = omega (arith, length-append (take place handlers) (added a ∷ drop place handlers), ap (λ (hs : List (NamedStage Meaning)). length hs) (take-append-drop place handlers), length-append (take place handlers) (drop place handlers));
+insert_within : (handlers : List (NamedStage Meaning)) (index : ℕ) (a : Addition) → AreWithin handlers → length handlers < MAX_HANDLERS → AreWithin (insert handlers index (added a))
+insert_within handlers index a within free = record {
+  built_in = All-append IsBuiltIn (take index handlers) (added a ∷ drop index handlers) (All-take IsBuiltIn index handlers within.built_in)
+      (All-cons IsBuiltIn (added a) (drop index handlers) (added_within a) (All-drop IsBuiltIn index handlers within.built_in));
+  at_most = omega (arith, length-append (take index handlers) (added a ∷ drop index handlers), ap (λ (hs : List (NamedStage Meaning)). length hs) (take-append-drop index handlers), length-append (take index handlers) (drop index handlers));
 }
 
-insert_at_within : (o : Option ℕ) (shift : ℕ → ℕ) (handlers : List (NamedStage Meaning)) (a : Addition) → AreWithin handlers → length handlers < 32
-    → AreWithin (option_map_or (λ place. insert handlers (shift place) (added a)) o handlers)
+insert_at_within : (o : Option ℕ) (shift : ℕ → ℕ) (handlers : List (NamedStage Meaning)) (a : Addition) → AreWithin handlers → length handlers < MAX_HANDLERS
+    → AreWithin (option_map_or (λ index. insert handlers (shift index) (added a)) o handlers)
 insert_at_within None shift handlers a within free = within
-insert_at_within (Some place) shift handlers a within free = insert_within handlers (shift place) a within free
+insert_at_within (Some index) shift handlers a within free = insert_within handlers (shift index) a within free
 
-remove_within : (o : Option ℕ) (handlers : List (NamedStage Meaning)) → AreWithin handlers → AreWithin (option_map_or (λ place. remove handlers place) o handlers)
+remove_within : (o : Option ℕ) (handlers : List (NamedStage Meaning)) → AreWithin handlers → AreWithin (option_map_or (λ index. remove handlers index) o handlers)
 remove_within None handlers within = within
-remove_within (Some place) handlers within = record {
-  built_in = All-append IsBuiltIn (take place handlers) (drop (suc place) handlers) (All-take IsBuiltIn place handlers within.built_in) (All-drop IsBuiltIn (suc place) handlers within.built_in);
-  at_most = omega (arith, within.at_most, length-append (take place handlers) (drop (suc place) handlers), length-take place handlers, length-drop (suc place) handlers);
+remove_within (Some index) handlers within = record {
+  built_in = All-append IsBuiltIn (take index handlers) (drop (suc index) handlers) (All-take IsBuiltIn index handlers within.built_in) (All-drop IsBuiltIn (suc index) handlers within.built_in);
+  at_most = omega (arith, within.at_most, length-append (take index handlers) (drop (suc index) handlers), length-take index handlers, length-drop (suc index) handlers);
 }
 
 edited-within : (handlers next : List (NamedStage Meaning)) (edit : Edit) → edited handlers edit ≡ Ok next → AreWithin handlers → AreWithin next
@@ -101,15 +103,15 @@ edited-within handlers next (Last a) e within =
     })
 edited-within handlers next (Before at a) e within =
     let p = unless-ok (beside_fault at a.name handlers) (put_before at (added a) handlers) next e in
-    let free = room a.name handlers (naming_of (naming_fault a.name handlers) (is_some (place_of at handlers)) p.0) in
-    subst AreWithin p.1 (insert_at_within (place_of at handlers) (λ n. n) handlers a within free)
+    let free = room a.name handlers (naming_of (naming_fault a.name handlers) (is_some (index_of at handlers)) p.0) in
+    subst AreWithin p.1 (insert_at_within (index_of at handlers) (λ n. n) handlers a within free)
 edited-within handlers next (After at a) e within =
     let p = unless-ok (beside_fault at a.name handlers) (put_after at (added a) handlers) next e in
-    let free = room a.name handlers (naming_of (naming_fault a.name handlers) (is_some (place_of at handlers)) p.0) in
-    subst AreWithin p.1 (insert_at_within (place_of at handlers) (λ n. n + 1) handlers a within free)
+    let free = room a.name handlers (naming_of (naming_fault a.name handlers) (is_some (index_of at handlers)) p.0) in
+    subst AreWithin p.1 (insert_at_within (index_of at handlers) (λ n. n + 1) handlers a within free)
 edited-within handlers next (Remove name) e within =
-    let p = choice-ok (is_some (place_of name handlers)) (without name handlers) next NoSuchName e in
-    subst AreWithin p.1 (remove_within (place_of name handlers) handlers within)
+    let p = choice-ok (is_some (index_of name handlers)) (without name handlers) next NoSuchName e in
+    subst AreWithin p.1 (remove_within (index_of name handlers) handlers within)
 
 all_edited-within : (handlers last : List (NamedStage Meaning)) (edits : List Edit) → all_edited handlers edits ≡ Ok last → AreWithin handlers → AreWithin last
 all_edited-within handlers last [] e within = let is : handlers ≡ last = cc in subst AreWithin is within
@@ -125,16 +127,16 @@ marks_by false true above u e = cc
 marks_by false false true u e = cc
 marks_by false false false u e = (refl, refl)
 
-marks-within : (low high : ℕ) (u : Unit {0}) → marks_answer low high ≡ Ok u → (low ≤ high) × (high ≤ 1073741824)
+marks-within : (low high : ℕ) (u : Unit {0}) → marks_answer low high ≡ Ok u → (low ≤ high) × (high ≤ MAX_MARK)
 marks-within low high u e =
-    let p = marks_by (nat_lt 1073741824 low) (nat_lt 1073741824 high) (nat_lt high low) u e in
-    (below high low p.1, below 1073741824 high p.0)
+    let p = marks_by (nat_lt MAX_MARK low) (nat_lt MAX_MARK high) (nat_lt high low) u e in
+    (below high low p.1, below MAX_MARK high p.0)
   where
     below : (a b : ℕ) → nat_lt a b ≡ false → b ≤ a
     below a b e = grind (arith, nat_tests)
 
 pub pipeline-within : (sizes : List (List ℕ × ℕ)) (channel : ChannelOutline) (handlers : List (NamedStage Meaning)) → pipeline_built sizes channel ≡ Ok handlers
-    → AreWithin handlers × (channel.low ≤ channel.high) × (channel.high ≤ 1073741824)
+    → AreWithin handlers × (channel.low ≤ channel.high) × (channel.high ≤ MAX_MARK)
 unfolding pipeline_built
 pipeline-within sizes channel handlers e =
     let edits = bind-ok (all_edited [] channel.edits) _ handlers e in

@@ -2,11 +2,13 @@
 use Rattle.std.proofs.Common.{◌≡◌, ◌≤◌, ℕ, ◌&&◌, Bool, true, false, List, [], ◌∷◌, length, Option, Some, None, Result, Ok, Err, refl, ap, subst, arith, suc}
 use Rattle.std.specs.Prelude.{nat_le, if◌then◌else◌, codes}
 use Rattle.std.specs.List.{AllByRecursion}
-use Rattle.std.proofs.lemmas.Bool.{and_parts, and_from, le-leb}
 use Rattle.std.proofs.lemmas.Bool.Decides.{nat_tests}
 use Rattle.serde_json.specs.Data.{Data}
 use Rattle.serde_json.specs.Find.{get}
-use Rattle.pl_world.specs.Limits.{chunk_count, byte_count, fits}
+use Rattle.pl_build.specs.declared.limits.TheConstants.{MAX_EXECUTORS, DEFAULT_LOW, DEFAULT_HIGH}
+use Rattle.pl_world.specs.declared.limits.TheConstants.{MAX_BURSTS, MAX_CAPACITY, MAX_CHANNELS}
+use Rattle.pl_text.specs.declared.session_text.limits.TheConstants.{MAX_EDITS, MAX_LINE, MAX_FLUSHES, MAX_WINDOW, DEFAULT_WINDOW}
+use Rattle.pl_world.specs.Limits.{fits}
 use Rattle.pl_text.specs.declared.session_text.outline.HandlerKind.{HandlerKind}
 use Rattle.pl_text.specs.declared.session_text.outline.HandlerKind.TheVariants.{Lines, Decode, LineEnd, Encode, Service, FlushEvery}
 use Rattle.pl_text.specs.declared.session_text.outline.Operation.{Operation}
@@ -93,15 +95,15 @@ handler_among-within false false false false false false lines flushes handler h
 
 lines-within : (edit : Data) (handler : HandlerKind) → lines_in edit ≡ Ok handler → IsHandlerWithin handler
 lines-within edit handler h =
-    let max = bind-ok (required (codes "max") (whole_in 1 8192) edit) _ handler h in
+    let max = bind-ok (required (codes "max") (whole_in 1 MAX_LINE) edit) _ handler h in
     let is : Lines max.0 ≡ handler = cc in
-    subst IsHandlerWithin is (number-within (codes "max") 1 8192 edit max.0 max.1)
+    subst IsHandlerWithin is (number-within (codes "max") 1 MAX_LINE edit max.0 max.1)
 
 flush_every-within : (edit : Data) (handler : HandlerKind) → flush_every_in edit ≡ Ok handler → IsHandlerWithin handler
 flush_every-within edit handler h =
-    let n = bind-ok (required (codes "n") (whole_in 1 65535) edit) _ handler h in
+    let n = bind-ok (required (codes "n") (whole_in 1 MAX_FLUSHES) edit) _ handler h in
     let is : FlushEvery n.0 ≡ handler = cc in
-    subst IsHandlerWithin is (number-within (codes "n") 1 65535 edit n.0 n.1)
+    subst IsHandlerWithin is (number-within (codes "n") 1 MAX_FLUSHES edit n.0 n.1)
 
 handler_in-within : (edit : Data) (handler : HandlerKind) → handler_in edit ≡ Ok handler → IsHandlerWithin handler
 unfolding handler_in
@@ -157,37 +159,32 @@ with_default-within : {A : Type 0} (Q : A → Type 0) (read : Data → Result A 
 with_default-within Q read default None x is each h = let same : default ≡ x = cc in subst Q same is
 with_default-within Q read default (Some d) x is each h = each d x h
 
-window_in-within : (d : Data) (window : ℕ) → window_in d ≡ Ok window → (1 ≤ window) × (window ≤ 65536)
+window_in-within : (d : Data) (window : ℕ) → window_in d ≡ Ok window → (1 ≤ window) × (window ≤ MAX_WINDOW)
 unfolding window_in
 window_in-within d window h =
-    with_default-within (λ (n : ℕ). (1 ≤ n) × (n ≤ 65536)) (whole_in 1 65536) 65536 (present (codes "window") d) window (omega arith, omega arith) (whole_in-within 1 65536) h
+    with_default-within (λ (n : ℕ). (1 ≤ n) × (n ≤ MAX_WINDOW)) (whole_in 1 MAX_WINDOW) DEFAULT_WINDOW (present (codes "window") d) window (omega arith, omega arith) (whole_in-within 1 MAX_WINDOW) h
 
 bursts_in-within : (d : Data) (bursts : List (List (List ℕ))) → bursts_in d ≡ Ok bursts → fits bursts ≡ true
 unfolding bursts_in
 bursts_in-within d bursts h =
-    let p = bind-ok (array_in 0 4096 (array_of text) d) limited bursts h in
-    let room = choice-ok _ _ _ _ p.2 in
-    let array = array_in-within (λ (_ : List (List ℕ)). Unit {0}) 0 4096 (array_of text) (λ _ _ _. tt) d p.0 p.1 in
-    let few = nat_le (length p.0) 4096 in
-    let short = nat_le (chunk_count p.0) 16384 in
-    let small = nat_le (byte_count p.0) 1048576 in
-    let both = and_parts short small room.0 in
-    subst (λ (t : List (List (List ℕ))). fits t ≡ true) room.1 (and_from (few && short) small (and_from few short (le-leb (length p.0) 4096 array.1) both.0) both.1)
+    let p = bind-ok (array_in 0 MAX_BURSTS (array_of text) d) limited bursts h in
+    let within = choice-ok _ _ _ _ p.2 in
+    subst (λ (t : List (List (List ℕ))). fits t ≡ true) within.1 within.0
 
 channel_in-within : (d : Data) (channel : ChannelOutline) → channel_in d ≡ Ok channel → IsChannelOutlineWithin channel
 unfolding channel_in
 channel_in-within d channel h =
     let object = bind-ok (an_object d) _ channel h in
-    let edits = bind-ok (required (codes "handlers") (array_in 0 256 edit_in) object.0) _ channel object.2 in
-    let low = bind-ok (mark_in (codes "low") 32768 object.0) _ channel edits.2 in
-    let high = bind-ok (mark_in (codes "high") 65536 object.0) _ channel low.2 in
+    let edits = bind-ok (required (codes "handlers") (array_in 0 MAX_EDITS edit_in) object.0) _ channel object.2 in
+    let low = bind-ok (mark_in (codes "low") DEFAULT_LOW object.0) _ channel edits.2 in
+    let high = bind-ok (mark_in (codes "high") DEFAULT_HIGH object.0) _ channel low.2 in
     let window = bind-ok (window_in object.0) _ channel high.2 in
     let fail_at = bind-ok (absent (codes "fail_at") Limit object.0) _ channel window.2 in
     let bursts = bind-ok (required (codes "bursts") bursts_in object.0) _ channel fail_at.2 in
     let abort_after = bind-ok (absent (codes "abort_after") Limit object.0) _ channel bursts.2 in
-    let handlers = required-ok (codes "handlers") (array_in 0 256 edit_in) object.0 edits.0 edits.1 in
+    let handlers = required-ok (codes "handlers") (array_in 0 MAX_EDITS edit_in) object.0 edits.0 edits.1 in
     let recorded = required-ok (codes "bursts") bursts_in object.0 bursts.0 bursts.1 in
-    let all = array_in-within IsEditWithin 0 256 edit_in edit_in-within handlers.0 edits.0 handlers.1 in
+    let all = array_in-within IsEditWithin 0 MAX_EDITS edit_in edit_in-within handlers.0 edits.0 handlers.1 in
     let room = window_in-within object.0 window.0 window.1 in
     let is : record { edits = edits.0; low = low.0; high = high.0; window = window.0; bursts = bursts.0 } ≡ channel = same_ok _ channel _ refl abort_after.2 in
     subst IsChannelOutlineWithin is (record {
@@ -204,12 +201,12 @@ unfolding outline_in
 outline_is_within d outline h =
     let object = bind-ok (an_object d) _ outline h in
     let version = bind-ok (required (codes "version") version_in object.0) _ outline object.2 in
-    let capacity = bind-ok (required (codes "capacity") (whole_in 1 65536) object.0) _ outline version.2 in
-    let loops = bind-ok (required (codes "loops") (whole_in 1 16) object.0) _ outline capacity.2 in
+    let capacity = bind-ok (required (codes "capacity") (whole_in 1 MAX_CAPACITY) object.0) _ outline version.2 in
+    let loops = bind-ok (required (codes "loops") (whole_in 1 MAX_EXECUTORS) object.0) _ outline capacity.2 in
     let groups = bind-ok (groups_in object.0) _ outline loops.2 in
-    let channels = bind-ok (required (codes "channels") (array_in 0 16 channel_in) object.0) _ outline groups.2 in
-    let array = required-ok (codes "channels") (array_in 0 16 channel_in) object.0 channels.0 channels.1 in
-    let range = number-within (codes "capacity") 1 65536 object.0 capacity.0 capacity.1 in
-    let all = array_in-within IsChannelOutlineWithin 0 16 channel_in channel_in-within array.0 channels.0 array.1 in
+    let channels = bind-ok (required (codes "channels") (array_in 0 MAX_CHANNELS channel_in) object.0) _ outline groups.2 in
+    let array = required-ok (codes "channels") (array_in 0 MAX_CHANNELS channel_in) object.0 channels.0 channels.1 in
+    let range = number-within (codes "capacity") 1 MAX_CAPACITY object.0 capacity.0 capacity.1 in
+    let all = array_in-within IsChannelOutlineWithin 0 MAX_CHANNELS channel_in channel_in-within array.0 channels.0 array.1 in
     let is : record { capacity = capacity.0; loops = loops.0; groups = groups.0; channels = channels.0 } ≡ outline = cc in
     subst IsOutlineWithin is (record { capacity_at_least = range.0; capacity_at_most = range.1; channels_at_most = all.1; each_channel = all.2 })

@@ -11,6 +11,7 @@ use Rattle.pl_event.specs.Paths.{inbound_chain, outbound_chain}
 use Rattle.pl_build.specs.declared.named_stages.NamedStage.{NamedStage}
 use Rattle.pl_build.specs.declared.faults.BuildFault.{BuildFault}
 use Rattle.pl_build.specs.declared.faults.BuildFault.TheVariants as build
+use Rattle.pl_build.specs.declared.limits.TheConstants.{MAX_EXECUTORS}
 use Rattle.pl_build.specs.Names.{is_name}
 use Rattle.pl_build.specs.Pipelines.{meanings}
 use Rattle.pl_build.specs.Refusals.{unless, grouping_fault, is_within, has_double, executor_count}
@@ -47,7 +48,7 @@ channel_built-within loops sizes earlier outline handlers given h =
       lanes = λ hop below. lanes_small (inbound_chain ms) (outbound_chain ms) outline.bursts (inbound-all IsThrifty ms all) (outbound-all IsThrifty ms all) (outbound-out ms) given.bursts hop;
     }
 
-channels_built-within : (loops : ℕ) (sizes : List (List ℕ × ℕ)) (earlier : List (List (Option (List ℕ)))) (outlines : List ChannelOutline) (plans : List ChannelPlan)
+pub channels_built-within : (loops : ℕ) (sizes : List (List ℕ × ℕ)) (earlier : List (List (Option (List ℕ)))) (outlines : List ChannelOutline) (plans : List ChannelPlan)
     → AllByRecursion IsChannelOutlineWithin outlines → channels_built loops sizes earlier outlines ≡ Ok plans → AllByRecursion IsChannelWithin plans × (length plans ≡ length outlines)
 channels_built-within loops sizes earlier [] plans given h =
     let e : [] ≡ plans = cc in
@@ -70,13 +71,13 @@ within_by : (within double : Bool) → (if not within then Some build.Limit else
 within_by true double e = refl
 within_by false double e = cc
 
-executors_within : (loops : ℕ) (sizes : List (List ℕ × ℕ)) → grouping_fault loops sizes ≡ None → (1 ≤ executor_count loops sizes) × (executor_count loops sizes ≤ 16)
+executors_within : (loops : ℕ) (sizes : List (List ℕ × ℕ)) → grouping_fault loops sizes ≡ None → (1 ≤ executor_count loops sizes) × (executor_count loops sizes ≤ MAX_EXECUTORS)
 executors_within loops sizes e =
     let all = within_by (is_within loops sizes) (has_double sizes) e in
-    let parts = and_parts (nat_le 1 loops && list_all (λ (g : List ℕ × ℕ). is_name g.0 && nat_le 1 g.1) sizes) (nat_le (executor_count loops sizes) 16) all in
+    let parts = and_parts (nat_le 1 loops && list_all (λ (g : List ℕ × ℕ). is_name g.0 && nat_le 1 g.1) sizes) (nat_le (executor_count loops sizes) MAX_EXECUTORS) all in
     let fronts = and_parts (nat_le 1 loops) (list_all (λ (g : List ℕ × ℕ). is_name g.0 && nat_le 1 g.1) sizes) parts.0 in
     let some = leb-true 1 loops fronts.0 in
-    let few = leb-true (executor_count loops sizes) 16 parts.1 in
+    let few = leb-true (executor_count loops sizes) MAX_EXECUTORS parts.1 in
     (omega (arith, some), omega (arith, few))
 
 -- ---- the session

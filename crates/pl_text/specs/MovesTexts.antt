@@ -1,4 +1,4 @@
--- The text of a list of moves (docs/FORMATS.md, "Moves"). A number stands as it is printed, so with no zero before it.
+-- The text of a list of moves (docs/FORMATS.md, "Moves"). A number is written as it is printed, so with no zero before it.
 use Rattle.std.specs.Prelude.{◌≡◌, ℕ, ◌≤◌, ◌<◌, ◌==◌, List, [], ◌∷◌, ◌++◌, length, map, sum_by, replicate, decimal, if◌then◌else◌, Option, Some, None, IfSome}
 use Rattle.std.specs.List.{slice_split, flat_map, AllByRecursion}
 use Rattle.pl_world.specs.declared.moves.Move.{Move}
@@ -6,6 +6,8 @@ use Rattle.pl_world.specs.declared.moves.Move.TheVariants.{Read, Task, Hand, Out
 use Rattle.pl_text.specs.declared.moves_text.fault.MovesFault.{MovesFault}
 use Rattle.pl_text.specs.declared.moves_text.fault.MovesFault.TheVariants as fault
 use Rattle.pl_text.specs.declared.moves_text.words.Word.{Word}
+use Rattle.pl_text.specs.declared.moves_text.words.TheConstants.{MAX_NUMBER, MAX_COUNT}
+use Rattle.pl_text.specs.declared.moves_text.TheConstants.{MAX_MOVES}
 
 -- R, T, H or O, and the number
 abbrev pub move_text : Move → List ℕ
@@ -29,10 +31,10 @@ number_of (Task n) = n
 number_of (Hand n) = n
 number_of (Out n) = n
 
--- a number up to 65,535, and a count from 1 to 1,000,000
+-- a number and a count within their limits
 pub record AreInRange (number : ℕ) (count : Option ℕ) : Type 0 where
-  pub number_fits : number ≤ 65535
-  pub count_fits : IfSome count (λ n. (1 ≤ n) × (n ≤ 1000000))
+  pub number_fits : number ≤ MAX_NUMBER
+  pub count_fits : IfSome count (λ n. (1 ≤ n) × (n ≤ MAX_COUNT))
 
 abbrev pub Fits : Word → Type 0
 Fits w = AreInRange (number_of w.step) w.count
@@ -62,12 +64,12 @@ total ws = sum_by times ws
 abbrev pub moves_of_words : List Word → List Move
 moves_of_words ws = flat_map (λ w. replicate (times w) w.step) ws
 
--- these are the moves of the words that the text says, at most 1,000,000
+-- these are the moves of the words that the text says, at most `MAX_MOVES`
 abbrev pub MeansMoves : List ℕ → List Move → Type 0
-MeansMoves text moves = (ws : List Word) × Says text ws × (total ws ≤ 1000000) × (moves ≡ moves_of_words ws)
+MeansMoves text moves = (ws : List Word) × Says text ws × (total ws ≤ MAX_MOVES) × (moves ≡ moves_of_words ws)
 
--- the text has a part that is no word, or says too many moves
+-- the text has a part that is not a word, or says too many moves
 abbrev pub IsNoMoves : MovesFault → List ℕ → Type 0
 IsNoMoves fault.Form text = (ws : List Word) → Says text ws → ⊥
-IsNoMoves fault.Limit text = (ws : List Word) × Says text ws × (1000000 < total ws)
+IsNoMoves fault.Limit text = (ws : List Word) × Says text ws × (MAX_MOVES < total ws)
 IsNoMoves fault.Memory text = ⊥

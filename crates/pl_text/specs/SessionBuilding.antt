@@ -1,5 +1,5 @@
 -- What is built of the members of a session (docs/FORMATS.md, "Session"): the groups first, and then channel by channel
--- its edits in order, its marks, and its pipeline, placed behind those of the earlier channels. The first refusal is the
+-- its edits in order, its marks, and its pipeline, placed after those of the earlier channels. The first refusal is the
 -- answer.
 use Rattle.std.specs.Prelude.{◌≡◌, ◌≢◌, ℕ, ◌+◌, List, [], ◌∷◌, ◌++◌, map, insert, is_some, if◌then◌else◌, Option, Result, Ok, Err, Some}
 use Rattle.std.specs.Option.{option_map_or}
@@ -8,7 +8,7 @@ use Rattle.pl_event.specs.Paths.{inbound_chain, outbound_chain}
 use Rattle.pl_build.specs.declared.named_stages.NamedStage.{NamedStage}
 use Rattle.pl_build.specs.declared.faults.BuildFault.{BuildFault}
 use Rattle.pl_build.specs.declared.faults.BuildFault.TheVariants.{NoSuchName, Memory}
-use Rattle.pl_build.specs.Pipelines.{handler_of, place_of, without, meanings}
+use Rattle.pl_build.specs.Pipelines.{handler_of, index_of, without, meanings}
 use Rattle.pl_build.specs.Refusals.{unless, naming_fault, beside_fault, marks_answer, building_fault, grouping_fault, executor_count}
 use Rattle.pl_build.specs.Executors.{GroupsView, HasPlaced, sizes_of, executor_after, hop_executors, groups_of}
 use Rattle.pl_world.specs.Plans.{ChannelPlan, Plan}
@@ -40,12 +40,12 @@ made_unless fault made = unless fault >>= λ _. Ok made
 abbrev pub added : Addition → NamedStage Meaning
 added a = handler_of a.name a.group (meaning_of a.handler)
 
--- a handler just in front of the one of a name, and just behind it
+-- a handler just before the one of a name, and just after it
 abbrev pub put_before : List ℕ → NamedStage Meaning → List (NamedStage Meaning) → List (NamedStage Meaning)
-put_before at handler handlers = option_map_or (λ place. insert handlers place handler) (place_of at handlers) handlers
+put_before at handler handlers = option_map_or (λ index. insert handlers index handler) (index_of at handlers) handlers
 
 abbrev pub put_after : List ℕ → NamedStage Meaning → List (NamedStage Meaning) → List (NamedStage Meaning)
-put_after at handler handlers = option_map_or (λ place. insert handlers (place + 1) handler) (place_of at handlers) handlers
+put_after at handler handlers = option_map_or (λ index. insert handlers (index + 1) handler) (index_of at handlers) handlers
 
 -- the handlers of a pipeline after an edit
 unfoldable pub edited : List (NamedStage Meaning) → Edit → Result (List (NamedStage Meaning)) BuildFault
@@ -53,7 +53,7 @@ edited handlers (First a) = made_unless (naming_fault a.name handlers) (added a 
 edited handlers (Last a) = made_unless (naming_fault a.name handlers) (handlers ++ added a ∷ [])
 edited handlers (Before at a) = made_unless (beside_fault at a.name handlers) (put_before at (added a) handlers)
 edited handlers (After at a) = made_unless (beside_fault at a.name handlers) (put_after at (added a) handlers)
-edited handlers (Remove name) = if is_some (place_of name handlers) then Ok (without name handlers) else Err NoSuchName
+edited handlers (Remove name) = if is_some (index_of name handlers) then Ok (without name handlers) else Err NoSuchName
 
 abbrev pub all_edited : List (NamedStage Meaning) → List Edit → Result (List (NamedStage Meaning)) BuildFault
 all_edited handlers [] = Ok handlers
@@ -69,7 +69,7 @@ pipeline_built sizes channel = do
   _ ← unless (building_fault (λ m. m) sizes handlers)
   Ok handlers
 
--- the plan of a channel with these handlers, behind channels whose handlers have the groups `earlier`
+-- the plan of a channel with these handlers, after channels whose handlers have the groups `earlier`
 abbrev pub channel_built : ℕ → List (List ℕ × ℕ) → List (List (Option (List ℕ))) → ChannelOutline → List (NamedStage Meaning) → ChannelPlan
 channel_built loops sizes earlier channel handlers = record {
   inbound = inbound_chain (meanings (λ m. m) handlers);

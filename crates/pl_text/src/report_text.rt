@@ -8,8 +8,6 @@ ghost use Rattle.pl_text.specs.ReportTexts.{report_text};
 mod channels;
 mod events;
 mod fault;
-#[cfg(test)]
-mod tests;
 
 use channels::add_channel;
 pub use fault::PrintFault;
@@ -17,6 +15,7 @@ use pl_world::Report;
 use std::alloc::{AllocError, Global};
 use std::io::Write;
 
+/// The text of a report.
 fn text_of(alloc: Global, report: &Report) -> Result<String, AllocError>
     ensures { IfOk result (λ text. string_bytes text ≡ report_text report.now) }
 {
@@ -29,7 +28,7 @@ fn text_of(alloc: Global, report: &Report) -> Result<String, AllocError>
 
 /// Writes the text of a report (`docs/FORMATS.md`, "Report"), which it makes whole before it writes.
 ///
-/// Memory: a growth was refused, and nothing was written. Output: the writer failed; how much it wrote is not known.
+/// `Memory`: an allocation failed, and nothing was written. `Output`: the writer failed; how much it wrote is not known.
 pub fn print_report<W: Write>(
     alloc: Global,
     report: &Report,

@@ -11,6 +11,7 @@ mod building;
 mod channels;
 mod edits;
 mod fault;
+mod limits;
 mod names;
 mod outline;
 mod tables;
@@ -19,6 +20,7 @@ mod values;
 use crate::session_text::building::session_built;
 use crate::session_text::tables::outline_in;
 pub use fault::SessionFault;
+pub use limits::MAX_SESSION_TEXT;
 use pl_event::Stage;
 use pl_head::{MemoryTransport, Transport};
 use pl_stages::Handler;
@@ -26,17 +28,14 @@ use pl_world::Session;
 use serde_json::Value;
 use std::alloc::Global;
 
-/// How many bytes a session text has at most.
-const MAX_TEXT: usize = 33_554_432;
-
 /// Reads a session from its text, which is JSON of version 1.
 ///
 /// Each session that is read is within the limits of its numbers, handlers, bursts, chunks, bytes and lanes. The first
-/// fault in reading order is the answer: a text of more than 33,554,432 bytes is `Limit`, one that is no JSON text
+/// fault in reading order is the answer: a text of more than `MAX_SESSION_TEXT` bytes is `Limit`, one that is not JSON
 /// `NotJson`. Then the members are read in the order of the tables of `docs/FORMATS.md`, "Session", of an array its length
-/// first and then each element wholly before the next. Behind all members the groups are made, and for each channel in
-/// order its edits, its marks and its pipeline, which may be refused by `Build`. `Memory` comes where a growth was
-/// refused, and at any of these places.
+/// first and then each element wholly before the next. After all members the groups are made, and for each channel in
+/// order its edits, its marks and its pipeline, which may be refused by `Build`. `Memory` is answered where an allocation
+/// failed, at any of these steps.
 #[tactic(auto, using(crate::proofs::SessionLimitLaws::outline_is_within), unfolding(crate::specs::SessionTexts::session_of, crate::specs::SessionTexts::session_in))]
 pub fn read_session(alloc: Global, text: &str) -> Result<Session, SessionFault>
     ensures meaning { Answers (seen (plan_of ⟦<Handler as Stage>⟧.meaning ⟦<MemoryTransport as Transport>⟧.state) result) (session_of text.now) }
@@ -44,7 +43,7 @@ pub fn read_session(alloc: Global, text: &str) -> Result<Session, SessionFault>
     ensures steady { IfOk result (λ session. All IsSteady session.world.channels) }
     ensures within { IfOk result (λ session. IsWithinLimits (plan_of ⟦<Handler as Stage>⟧.meaning ⟦<MemoryTransport as Transport>⟧.state session)) }
 {
-    if text.len() > MAX_TEXT {
+    if text.len() > MAX_SESSION_TEXT {
         return Err(SessionFault::Limit);
     }
     let value = match Value::from_str(alloc, text) {
@@ -55,6 +54,3 @@ pub fn read_session(alloc: Global, text: &str) -> Result<Session, SessionFault>
     let outline = outline_in(alloc, &value)?;
     Ok(session_built(alloc, outline)?)
 }
-
-#[cfg(test)]
-mod tests;

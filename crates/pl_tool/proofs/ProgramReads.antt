@@ -1,4 +1,4 @@
--- What clap finds on a command line is what it asks for.
+-- What clap finds on a command line is what it requests.
 use Rattle.std.proofs.Common.{◌≡◌, ◌∙◌, List, [], ◌∷◌, Bool, true, false, not, ◌&&◌, map, drop, Option, Some, None, refl, sym, ap, ap₂, codes, Bor, string_bytes, String, Global, arith}
 use Rattle.std.proofs.lemmas.Bool.Decides.{nat_tests}
 use Rattle.std.specs.Prelude.{if◌then◌else◌, option_map, option_and_then, unwrap_or, Box}
@@ -15,7 +15,7 @@ use Rattle.clap.specs.declared.error.kind.ErrorKind.{ErrorKind}
 use Rattle.clap.specs.declared.parser.matches.Found.{Found}
 use Rattle.clap.specs.declared.parser.matches.ArgMatches.TheViews.{out-SubCommand}
 use Rattle.clap.specs.declared.parser.matches.SubCommand.{SubCommand}
-use Rattle.pl_tool.specs.ProgramLines.{Request, Replay, asked_of, has_dash, program, request_of}
+use Rattle.pl_tool.specs.ProgramLines.{RequestView, Replay, has_dash, program, request_of, request_of_subcommand}
 
 map_drop : (words : List (String Global)) → map string_bytes (drop 1 words) ≡ drop 1 (map string_bytes words)
 map_drop [] = refl
@@ -35,9 +35,9 @@ pub option_value : (got : Option (Bor Text)) (chosen empty : Bor Text) (first : 
 option_value got chosen empty first is chose none =
     ap (λ (t : Bor Text). t.now) chose ∙ now_or_empty got empty none ∙ ap (λ (o : Option Text). unwrap_or o []) is
 
-pub replay_asks : (found : Found) (name value : Text) → name ≡ codes "replay" → value ≡ unwrap_or (first_value found (codes "moves")) [] → Some (Replay value) ≡ asked_of (name, rows_of found)
-replay_asks found name value is chose = sym (
-    ap (λ (n : Text). asked_of (n, rows_of found)) is
+pub replay_is_requested : (found : Found) (name value : Text) → name ≡ codes "replay" → value ≡ unwrap_or (first_value found (codes "moves")) [] → Some (Replay value) ≡ request_of_subcommand (name, rows_of found)
+replay_is_requested found name value is chose = sym (
+    ap (λ (n : Text). request_of_subcommand (n, rows_of found)) is
     ∙ ap (λ (o : Option Text). Some (Replay (unwrap_or o []))) (sym (first_value-rows found (codes "moves"))) ∙ ap (λ (t : Text). Some (Replay t)) (sym chose))
 
 found_is : {Z : Type 0} (s : Option (Box SubCommand Z)) (name : Text) (rows : List Row) → Some name ≡ option_map (λ b. (out-SubCommand (box_value b)).name.now) s
@@ -46,44 +46,44 @@ found_is None name rows a b = cc
 found_is (Some sub) name rows a b =
     ap₂ (λ (x : Text) (y : List Row). Some (x, y)) (sym (ap (λ o. unwrap_or o name) a)) (sym (ap (λ o. unwrap_or o rows) b))
 
--- what is asked for by what was found of the subcommand
-pub asked_is : {Z : Type 0} (s : Option (Box SubCommand Z)) (name : Text) (rows : List Row) (request : Option Request) → Some name ≡ option_map (λ b. (out-SubCommand (box_value b)).name.now) s
-    → Some rows ≡ option_map (λ p. p.1) (subcommand_rows s) → request ≡ asked_of (name, rows) → request ≡ option_and_then asked_of (subcommand_rows s)
-asked_is s name rows request named has asked = asked ∙ ap (option_and_then asked_of) (sym (found_is s name rows named has))
+-- the request of a line by what was found of its subcommand
+pub subcommand_is_requested : {Z : Type 0} (s : Option (Box SubCommand Z)) (name : Text) (rows : List Row) (request : Option RequestView) → Some name ≡ option_map (λ b. (out-SubCommand (box_value b)).name.now) s
+    → Some rows ≡ option_map (λ p. p.1) (subcommand_rows s) → request ≡ request_of_subcommand (name, rows) → request ≡ option_and_then request_of_subcommand (subcommand_rows s)
+subcommand_is_requested s name rows request named has requested = requested ∙ ap (option_and_then request_of_subcommand) (sym (found_is s name rows named has))
 
 -- ---- the line
 
-request_if : Bool → Kinds → Option Request → Option Request
+request_if : Bool → Kinds → Option RequestView → Option RequestView
 request_if dash faults found = if not dash && is_empty faults then found else None
 
 is_some_fault : (k : ErrorKind) (ks : Kinds) → is_empty (k ∷ ks) ≡ false
 is_some_fault k ks = grind (arith, nat_tests)
 
-no_request : (dash : Bool) (faults : Kinds) (found : Option Request) (k : ErrorKind) → IsAmong k faults → request_if dash faults found ≡ None
+no_request : (dash : Bool) (faults : Kinds) (found : Option RequestView) (k : ErrorKind) → IsAmong k faults → request_if dash faults found ≡ None
 unfolding request_if
 no_request dash [] found k h = absurd h
 no_request true (x ∷ xs) found k h = refl
 no_request false (x ∷ xs) found k h = ap (λ (b : Bool). if b then found else None) (is_some_fault x xs)
 
 request_is : (words : List (String Global)) → request_of (map string_bytes words)
-    ≡ request_if (list_any (λ w. bytes_eq (codes "-") (string_bytes w)) (drop 1 words)) (fault_of program (map string_bytes words)) (option_and_then asked_of (subcommand_of program (map string_bytes words)))
+    ≡ request_if (list_any (λ w. bytes_eq (codes "-") (string_bytes w)) (drop 1 words)) (fault_of program (map string_bytes words)) (option_and_then request_of_subcommand (subcommand_of program (map string_bytes words)))
 unfolding request_if
-request_is words = ap (λ (b : Bool). request_if b (fault_of program (map string_bytes words)) (option_and_then asked_of (subcommand_of program (map string_bytes words)))) (sym (has_dash_is words))
+request_is words = ap (λ (b : Bool). request_if b (fault_of program (map string_bytes words)) (option_and_then request_of_subcommand (subcommand_of program (map string_bytes words)))) (sym (has_dash_is words))
 
 -- a line with a lone -
 pub dash_is_refused : (words : List (String Global)) → list_any (λ w. bytes_eq (codes "-") (string_bytes w)) (drop 1 words) ≡ true → None ≡ request_of (map string_bytes words)
 unfolding request_if
-dash_is_refused words dash = sym (request_is words ∙ ap (λ (b : Bool). request_if b (fault_of program (map string_bytes words)) (option_and_then asked_of (subcommand_of program (map string_bytes words)))) dash)
+dash_is_refused words dash = sym (request_is words ∙ ap (λ (b : Bool). request_if b (fault_of program (map string_bytes words)) (option_and_then request_of_subcommand (subcommand_of program (map string_bytes words)))) dash)
 
 -- a line of which clap has a fault to tell
 pub fault_is_refused : (words : List (String Global)) (k : ErrorKind) → IsAmong k (fault_of program (map string_bytes words)) → None ≡ request_of (map string_bytes words)
 fault_is_refused words k among = sym (request_is words ∙ no_request _ _ _ k among)
 
 -- a line that is read
-pub line_is_read : (words : List (String Global)) (dash : Bool) (rows : Option (Text × List Row)) (request : Option Request) → request ≡ option_and_then asked_of rows
+pub line_is_read : (words : List (String Global)) (dash : Bool) (rows : Option (Text × List Row)) (request : Option RequestView) → request ≡ option_and_then request_of_subcommand rows
     → rows ≡ subcommand_of program (map string_bytes words) → fault_of program (map string_bytes words) ≡ []
     → dash ≡ list_any (λ w. bytes_eq (codes "-") (string_bytes w)) (drop 1 words) → dash ≡ false → request ≡ request_of (map string_bytes words)
 unfolding request_if
-line_is_read words dash rows request asked is no_fault dash_is no_dash =
-    asked ∙ ap (option_and_then asked_of) is
-    ∙ sym (request_is words ∙ ap₂ (λ (b : Bool) (f : Kinds). request_if b f (option_and_then asked_of (subcommand_of program (map string_bytes words)))) (sym dash_is ∙ no_dash) no_fault)
+line_is_read words dash rows request requested is no_fault dash_is no_dash =
+    requested ∙ ap (option_and_then request_of_subcommand) is
+    ∙ sym (request_is words ∙ ap₂ (λ (b : Bool) (f : Kinds). request_if b f (option_and_then request_of_subcommand (subcommand_of program (map string_bytes words)))) (sym dash_is ∙ no_dash) no_fault)

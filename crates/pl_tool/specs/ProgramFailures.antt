@@ -25,7 +25,7 @@ status_of (Session f) = 3
 status_of Memory = 4
 status_of Output = 4
 
--- want of memory is one failure, wherever it is met
+-- out of memory is one failure, wherever it comes from
 abbrev pub failure_of_moves : MovesFault → Failure
 failure_of_moves moves.Memory = Memory
 failure_of_moves moves.Form = Moves moves.Form
@@ -43,7 +43,7 @@ abbrev pub failure_of_print : PrintFault → Failure
 failure_of_print print.Memory = Memory
 failure_of_print print.Output = Output
 
--- words that cannot be taken are a command line that is not read, want of memory aside
+-- words that cannot be taken are a command line that is not read, unless memory ran out
 abbrev pub failure_of_words : ErrorKind → Failure
 failure_of_words OutOfMemory = Memory
 failure_of_words _ = Usage
@@ -53,7 +53,7 @@ abbrev pub failure_of_read : ErrorKind → Option Failure
 failure_of_read Interrupted = None
 failure_of_read _ = Some Input
 
--- ---- lines: a text and LF. A fault for want of memory is no fault of what was read, and has the line of that.
+-- ---- lines: a text and LF. A fault that says out of memory is not one of what was read, and has that line.
 
 abbrev pub line : List ℕ → List ℕ
 line text = text ++ 10 ∷ []

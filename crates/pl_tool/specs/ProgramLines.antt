@@ -1,4 +1,4 @@
--- What the command line asks for (docs/FORMATS.md, "Program"), in clap's words for what it finds on a command line.
+-- What the command line requests (docs/FORMATS.md, "Program"), in clap's words for what it finds on a command line.
 use Rattle.std.specs.Prelude.{List, [], ◌&&◌, drop, codes, Bool, not, Option, Some, None, unwrap_or, option_and_then, if◌then◌else◌}
 use Rattle.std.specs.List.{list_any}
 use Rattle.std.specs.Str.{bytes_eq}
@@ -6,8 +6,8 @@ use Rattle.clap.specs.Walk.{Row, Rule, Text, first_of, is_empty}
 use Rattle.clap.specs.Faults.{fault_of}
 use Rattle.clap.specs.Simple.{App, new_app, new_rule, subcommand_of, with_rule, with_subcommand}
 use Rattle.clap.specs.declared.builder.action.ArgAction.TheVariants.{Set}
-use Rattle.pl_tool.specs.declared.program.command_line.Asked.{Asked}
-use Rattle.pl_tool.specs.declared.program.command_line.Asked.TheVariants as asked
+use Rattle.pl_tool.specs.declared.program.command_line.Request.{Request}
+use Rattle.pl_tool.specs.declared.program.command_line.Request.TheVariants as request
 
 -- --moves MOVES
 abbrev pub moves_option : Rule
@@ -25,26 +25,26 @@ abbrev pub program : App
 program = with_subcommand (with_subcommand (new_app (codes "pl_tool")) replay_command.top) plain_command.top
 
 -- A request: the report of a replay by the moves of a text, or the whole report.
-pub data Request : Type 0 where
-  Replay : Text → Request
-  Plain : Request
+pub data RequestView : Type 0 where
+  Replay : Text → RequestView
+  Plain : RequestView
 
--- the request that the code holds
-abbrev pub request_seen : Asked → Request
-request_seen (asked.Replay text) = Replay text.now
-request_seen asked.Plain = Plain
+-- what contracts see of a request
+abbrev pub request_view : Request → RequestView
+request_view (request.Replay text) = Replay text.now
+request_view request.Plain = Plain
 
 -- a replay by the moves of the option's text, which is empty where it is not given
-abbrev pub replay_asked : List Row → Request
-replay_asked rows = Replay (unwrap_or (first_of (codes "moves") rows) [])
+abbrev pub replay_request : List Row → RequestView
+replay_request rows = Replay (unwrap_or (first_of (codes "moves") rows) [])
 
--- what a subcommand asks for, by its name and what was found of it
-abbrev pub asked_of : Text × List Row → Option Request
-asked_of found =
-    if bytes_eq (codes "replay") found.0 then Some (replay_asked found.1)
+-- the request of a subcommand, by its name and what was found of it
+abbrev pub request_of_subcommand : Text × List Row → Option RequestView
+request_of_subcommand found =
+    if bytes_eq (codes "replay") found.0 then Some (replay_request found.1)
     else if bytes_eq (codes "plain") found.0 then Some Plain else None
 
--- a lone - is no word of a line that is read
+-- a line that is read has no lone - among its words
 abbrev pub has_dash : List Text → Bool
 has_dash words = list_any (bytes_eq (codes "-")) (drop 1 words)
 
@@ -52,6 +52,6 @@ has_dash words = list_any (bytes_eq (codes "-")) (drop 1 words)
 abbrev pub is_read : List Text → Bool
 is_read words = not (has_dash words) && is_empty (fault_of program words)
 
--- what a command line asks for; its first word is the program's name
-abbrev pub request_of : List Text → Option Request
-request_of words = if is_read words then option_and_then asked_of (subcommand_of program words) else None
+-- what a command line requests; its first word is the program's name
+abbrev pub request_of : List Text → Option RequestView
+request_of words = if is_read words then option_and_then request_of_subcommand (subcommand_of program words) else None

@@ -12,6 +12,7 @@ use Rattle.pl_text.specs.declared.session_text.fault.SessionFault.TheVariants.{L
 use Rattle.pl_text.specs.declared.session_text.fault.SessionFault.TheVariants as session
 use Rattle.pl_text.specs.declared.moves_text.fault.MovesFault.{MovesFault}
 use Rattle.pl_world.specs.declared.faults.ReplayFault.TheVariants as replay
+use Rattle.pl_tool.specs.declared.program.input.TheConstants.{MAX_SESSION_TEXT}
 use Rattle.pl_tool.specs.declared.program.failure.Failure.{Failure}
 use Rattle.pl_tool.specs.declared.program.failure.Failure.TheVariants.{Usage, Moves, Replay, Input, Session, Memory, Output}
 use Rattle.pl_event.specs.Meaning.{IsPrefixOf}
@@ -23,7 +24,7 @@ use Rattle.pl_text.specs.SessionTexts.{session_of}
 use Rattle.pl_text.specs.MovesTexts.{MeansMoves, IsNoMoves}
 use Rattle.pl_text.specs.ReportTexts.{report_text}
 use Rattle.pl_tool.specs.ProgramFailures.{status_of, failure_line}
-use Rattle.pl_tool.specs.ProgramLines.{Request, Replay as AsksReplay, Plain}
+use Rattle.pl_tool.specs.ProgramLines.{RequestView, Replay as ReplayRequest, Plain}
 
 abbrev pub is_drained : Stands → Bool
 is_drained Drained = true
@@ -38,10 +39,10 @@ all_drained report = list_all (λ c. is_drained c.stands) report.channels
 abbrev pub TakesAtMost : ℕ → Option (List ℕ) → Option (List ℕ) → Type 0
 TakesAtMost most unread left = (bytes : List ℕ) × Consumes unread left bytes × (length bytes ≤ most)
 
--- the session that bytes mean: one that is too long is no session, whatever its bytes
+-- the session that bytes mean: a text that is too long means none, whatever its bytes
 abbrev pub session_of_bytes : List ℕ → Result Plan SessionFault
 session_of_bytes input =
-    if nat_lt 33554432 (length input) then Err Limit else if is_utf8 input then session_of input else Err NotJson
+    if nat_lt MAX_SESSION_TEXT (length input) then Err Limit else if is_utf8 input then session_of input else Err NotJson
 
 -- bytes were taken to the end of the input, and mean this session
 pub record TakesSession (unread left : Option (List ℕ)) (session : Plan) : Type 0 where
@@ -58,57 +59,57 @@ pub record IsReplayedBy (text : List ℕ) (session : Plan) (report : Report) : T
   pub is_replayed : IsReplayed session moves report
   pub none_failed : NoneFails report.channels
 
--- this is the report of the session that is asked for
-abbrev pub IsAnswer : Request → Plan → Report → Type 0
-IsAnswer (AsksReplay text) session report = IsReplayedBy text session report
+-- this is the report of the session that is requested
+abbrev pub IsAnswer : RequestView → Plan → Report → Type 0
+IsAnswer (ReplayRequest text) session report = IsReplayedBy text session report
 IsAnswer Plain session report = report.channels ≡ map whole_report session.channels
 
--- The command line asks for something, a session was taken, and this is the report of it that is asked for.
-pub record IsReported (asked : Option Request) (unread left : Option (List ℕ)) (report : Report) : Type 0 where
-  pub request : Request
-  pub given : asked ≡ Some request
+-- The command line requests something, a session was taken, and this is the report of it that is requested.
+pub record IsReported (requested : Option RequestView) (unread left : Option (List ℕ)) (report : Report) : Type 0 where
+  pub request : RequestView
+  pub given : requested ≡ Some request
   pub session : Plan
   pub taken : TakesSession unread left session
   pub is_answer : IsAnswer request session report
 
 -- The text of the report was added to what the writer holds.
-pub record HasPrinted (drained : Bool) (asked : Option Request) (unread left before after : Option (List ℕ)) : Type 0 where
+pub record HasPrinted (drained : Bool) (requested : Option RequestView) (unread left before after : Option (List ℕ)) : Type 0 where
   pub report : Report
-  pub is_reported : IsReported asked unread left report
+  pub is_reported : IsReported requested unread left report
   pub stands : drained ≡ all_drained report
   pub written : Appends before after (report_text report)
 
 -- ---- why no report was printed
 
--- the text of the replay that is asked for is no moves
-pub record RefusesMoves (fault : MovesFault) (asked : Option Request) : Type 0 where
+-- the text of the requested replay is not moves
+pub record RefusesMoves (fault : MovesFault) (requested : Option RequestView) : Type 0 where
   pub text : List ℕ
-  pub given : asked ≡ Some (AsksReplay text)
+  pub given : requested ≡ Some (ReplayRequest text)
   pub is_none : IsNoMoves fault text
 
 -- the text of a replay gives moves
-abbrev pub HasMoves : Request → Type 0
-HasMoves (AsksReplay text) = (moves : List Move) × MeansMoves text moves
+abbrev pub HasMoves : RequestView → Type 0
+HasMoves (ReplayRequest text) = (moves : List Move) × MeansMoves text moves
 HasMoves Plain = ⊤
 
 -- the command line and its moves were read
-pub record IsLineRead (asked : Option Request) : Type 0 where
-  pub request : Request
-  pub given : asked ≡ Some request
+pub record IsLineRead (requested : Option RequestView) : Type 0 where
+  pub request : RequestView
+  pub given : requested ≡ Some request
   pub moves : HasMoves request
 
--- The bytes that were taken, to the end of the input or to one more than a session may have, are no session.
+-- The bytes that were taken, to the end of the input or to one more than a session may have, are not a session.
 pub record RefusesSession (fault : SessionFault) (unread left : Option (List ℕ)) : Type 0 where
   pub input : List ℕ
   pub taken : Consumes unread left input
-  pub at_end : length input ≤ 33554432 → IsAtEnd left
+  pub at_end : length input ≤ MAX_SESSION_TEXT → IsAtEnd left
   pub means : session_of_bytes input ≡ Err fault
   pub is_named : fault ≢ session.Memory
 
 -- A session was taken, and a move names what is not there.
-pub record NamesMissing (asked : Option Request) (unread left : Option (List ℕ)) : Type 0 where
+pub record NamesMissing (requested : Option RequestView) (unread left : Option (List ℕ)) : Type 0 where
   pub text : List ℕ
-  pub given : asked ≡ Some (AsksReplay text)
+  pub given : requested ≡ Some (ReplayRequest text)
   pub moves : List Move
   pub means : MeansMoves text moves
   pub session : Plan
@@ -123,21 +124,21 @@ RefusesInput Memory unread left = ⊤
 RefusesInput _ unread left = ⊥
 
 -- What a failure says of the command line and of what was taken from the reader. Why a read or a write failed, and
--- whether memory was wanting, is not seen here. So Usage says only that nothing was taken, Input that the line and its
+-- whether memory ran out, is not seen here. So Usage says only that nothing was taken, Input that the line and its
 -- moves were read, Output that there was a report, and Memory nothing.
-abbrev pub IsCause : Failure → Option Request → Option (List ℕ) → Option (List ℕ) → Type 0
-IsCause Usage asked unread left = Keeps unread left
-IsCause (Moves f) asked unread left = RefusesMoves f asked × Keeps unread left
-IsCause (Replay replay.NoSuch) asked unread left = NamesMissing asked unread left
-IsCause (Replay replay.Memory) asked unread left = ⊥
-IsCause Input asked unread left = IsLineRead asked
-IsCause (Session f) asked unread left = IsLineRead asked × RefusesSession f unread left
-IsCause Memory asked unread left = ⊤
-IsCause Output asked unread left = (report : Report) × IsReported asked unread left report
+abbrev pub IsCause : Failure → Option RequestView → Option (List ℕ) → Option (List ℕ) → Type 0
+IsCause Usage requested unread left = Keeps unread left
+IsCause (Moves f) requested unread left = RefusesMoves f requested × Keeps unread left
+IsCause (Replay replay.NoSuch) requested unread left = NamesMissing requested unread left
+IsCause (Replay replay.Memory) requested unread left = ⊥
+IsCause Input requested unread left = IsLineRead requested
+IsCause (Session f) requested unread left = IsLineRead requested × RefusesSession f unread left
+IsCause Memory requested unread left = ⊤
+IsCause Output requested unread left = (report : Report) × IsReported requested unread left report
 
 -- A failure left the first writer as it was. Of a writer that failed itself nothing is said.
-abbrev pub Explains : Failure → Option Request → Option (List ℕ) → Option (List ℕ) → Option (List ℕ) → Option (List ℕ) → Type 0
-Explains failure asked unread left before after = IsCause failure asked unread left × (failure ≢ Output → Keeps before after)
+abbrev pub Explains : Failure → Option RequestView → Option (List ℕ) → Option (List ℕ) → Option (List ℕ) → Option (List ℕ) → Type 0
+Explains failure requested unread left before after = IsCause failure requested unread left × (failure ≢ Output → Keeps before after)
 
 -- A beginning of these bytes, which may be all or none of them, was added to what the writer holds.
 pub record AppendsPrefixOf (whole : List ℕ) (before after : Option (List ℕ)) : Type 0 where
@@ -146,8 +147,8 @@ pub record AppendsPrefixOf (whole : List ℕ) (before after : Option (List ℕ))
   pub added : Appends before after part
 
 -- The program ended with a status by a failure, and what the second writer got begins the line of that failure.
-pub record HasFailed (status : ℕ) (asked : Option Request) (unread left before after silent spoken : Option (List ℕ)) : Type 0 where
+pub record HasFailed (status : ℕ) (requested : Option RequestView) (unread left before after silent spoken : Option (List ℕ)) : Type 0 where
   pub failure : Failure
   pub ended : status ≡ status_of failure
-  pub explained : Explains failure asked unread left before after
+  pub explained : Explains failure requested unread left before after
   pub said : AppendsPrefixOf (failure_line failure) silent spoken

@@ -5,29 +5,29 @@ ghost use Rattle.std.specs.IoError.{error_kind};
 ghost use Rattle.std.specs.Io.KnownBytes.{Keeps};
 ghost use Rattle.pl_tool.specs.declared.program.failure.Failure.TheVariants as failure;
 ghost use Rattle.pl_tool.specs.ProgramFailures.{failure_line, failure_of_words, status_of};
-ghost use Rattle.pl_tool.specs.ProgramLines.{Plain, Replay, request_of, request_seen};
+ghost use Rattle.pl_tool.specs.ProgramLines.{Plain, Replay, request_of, request_view};
 ghost use Rattle.pl_tool.specs.ProgramOutcomes.{AppendsPrefixOf, Explains, HasFailed, HasPrinted, IsCause, IsReported, TakesAtMost, all_drained};
 
 mod command_line;
 mod failure;
 mod input;
 mod telling;
-#[cfg(test)]
-mod tests;
 
-use command_line::{Asked, request_of};
+use command_line::{Request, request_of};
 use failure::Failure;
+pub use input::MAX_INPUT;
 use input::take_session;
-use pl_replay::{Report, Stands, plain, replay};
+use pl_replay::replay;
 use pl_text::{print_report, read_moves};
+use pl_world::{Report, Stands, plain};
 use std::alloc::Global;
 use std::io;
 use std::io::{Read, Write};
 use telling::tell;
 
-/// What the command line asks for. A growth that is refused inside `clap` counts as a line that is not read.
-fn request<'a>(alloc: Global, words: &'a [String]) -> Result<Asked<'a>, Failure>
-    ensures ok { IfOk result (λ asked. request_of (map string_bytes words.entry.now) ≡ Some (request_seen asked)) }
+/// What the command line requests. Out of memory inside `clap` counts as a line that is not read.
+fn request_or_usage<'a>(alloc: Global, words: &'a [String]) -> Result<Request<'a>, Failure>
+    ensures ok { IfOk result (λ request. request_of (map string_bytes words.entry.now) ≡ Some (request_view request)) }
     ensures err { IfErr result (λ e. e ≡ failure.Usage) }
 {
     request_of(alloc, words)
@@ -39,7 +39,7 @@ fn request<'a>(alloc: Global, words: &'a [String]) -> Result<Asked<'a>, Failure>
 fn replayed<R: Read>(alloc: Global, text: &str, reader: &mut R) -> Result<Report, Failure>
     ensures ok { IfOk result (λ report. IsReported (Some (Replay text.now)) (R.remaining reader.old) (R.remaining reader.new) report) }
     ensures err { IfErr result (λ e. IsCause e (Some (Replay text.now)) (R.remaining reader.old) (R.remaining reader.new)) }
-    ensures at_most { TakesAtMost 33554433 (R.remaining reader.old) (R.remaining reader.new) }
+    ensures at_most { TakesAtMost MAX_INPUT (R.remaining reader.old) (R.remaining reader.new) }
 {
     let moves = read_moves(alloc, text)?;
     let session = take_session(alloc, reader)?;
@@ -51,27 +51,31 @@ fn replayed<R: Read>(alloc: Global, text: &str, reader: &mut R) -> Result<Report
 fn composed<R: Read>(alloc: Global, reader: &mut R) -> Result<Report, Failure>
     ensures ok { IfOk result (λ report. IsReported (Some Plain) (R.remaining reader.old) (R.remaining reader.new) report) }
     ensures err { IfErr result (λ e. IsCause e (Some Plain) (R.remaining reader.old) (R.remaining reader.new)) }
-    ensures at_most { TakesAtMost 33554433 (R.remaining reader.old) (R.remaining reader.new) }
+    ensures at_most { TakesAtMost MAX_INPUT (R.remaining reader.old) (R.remaining reader.new) }
 {
     let session = take_session(alloc, reader)?;
     let report = plain(alloc, session)?;
     Ok(report)
 }
 
-/// The report that is asked for.
-fn report_of<R: Read>(alloc: Global, asked: Asked<'_>, reader: &mut R) -> Result<Report, Failure>
-    ensures ok { IfOk result (λ report. IsReported (Some (request_seen asked.entry)) (R.remaining reader.old) (R.remaining reader.new) report) }
-    ensures err { IfErr result (λ e. IsCause e (Some (request_seen asked.entry)) (R.remaining reader.old) (R.remaining reader.new)) }
-    ensures at_most { TakesAtMost 33554433 (R.remaining reader.old) (R.remaining reader.new) }
+/// The report that is requested.
+fn report_of<R: Read>(
+    alloc: Global,
+    request: Request<'_>,
+    reader: &mut R,
+) -> Result<Report, Failure>
+    ensures ok { IfOk result (λ report. IsReported (Some (request_view request.entry)) (R.remaining reader.old) (R.remaining reader.new) report) }
+    ensures err { IfErr result (λ e. IsCause e (Some (request_view request.entry)) (R.remaining reader.old) (R.remaining reader.new)) }
+    ensures at_most { TakesAtMost MAX_INPUT (R.remaining reader.old) (R.remaining reader.new) }
 {
-    match asked {
-        Asked::Replay(text) => replayed(alloc, text, reader),
-        Asked::Plain => composed(alloc, reader),
+    match request {
+        Request::Replay(text) => replayed(alloc, text, reader),
+        Request::Plain => composed(alloc, reader),
     }
 }
 
 /// Whether every channel is drained.
-fn is_drained(report: &Report) -> bool
+fn all_drained(report: &Report) -> bool
     ensures { result ≡ all_drained report.now }
 {
     report
@@ -81,7 +85,7 @@ fn is_drained(report: &Report) -> bool
         .all(|channel| channel.stands == Stands::Drained)
 }
 
-/// Reads the command line, the moves and the session, in this order, and prints the report that is asked for. It says
+/// Reads the command line, the moves and the session, in this order, and prints the report that is requested. It says
 /// whether every channel is drained.
 fn run<R: Read, W: Write>(
     alloc: Global,
@@ -93,30 +97,30 @@ fn run<R: Read, W: Write>(
         (R.remaining reader.old) (R.remaining reader.new) (W.contents out.old) (W.contents out.new)) }
     ensures err { IfErr result (λ e. Explains e (request_of (map string_bytes words.now))
         (R.remaining reader.old) (R.remaining reader.new) (W.contents out.old) (W.contents out.new)) }
-    ensures at_most { TakesAtMost 33554433 (R.remaining reader.old) (R.remaining reader.new) }
+    ensures at_most { TakesAtMost MAX_INPUT (R.remaining reader.old) (R.remaining reader.new) }
 {
-    let asked = request(alloc, words)?;
-    let report = report_of(alloc, asked, reader)?;
+    let request = request_or_usage(alloc, words)?;
+    let report = report_of(alloc, request, reader)?;
     print_report(alloc, &report, out)?;
-    Ok(is_drained(&report))
+    Ok(all_drained(&report))
 }
 
 /// The program (`docs/FORMATS.md`, "Program"): reads the command line `words`, of which the first is the program's
 /// name, then the moves of a `replay`, then a session from the reader. It replays the session by these moves or, for
 /// `plain`, takes it whole, and writes the text of the report to `out`.
 ///
-/// The status is 0 where every channel is drained, 1 where the report was printed and some channel is not. Else one
-/// line on `err` says why: 2 where the command line or its moves were not read or name what is not there, 3 where the
-/// session was refused or a read failed, 4 where memory was wanting or `out` failed. Where the line or its moves were
-/// not read, nothing was taken from the reader; unless `out` failed, nothing was written to it. An `err` that fails
+/// The status is 0 where every channel is drained, 1 where the report was printed and some channel is not drained. Else
+/// one line on `err` says why: 2 where the command line or its moves were not read or name what is not there, 3 where
+/// the session was refused or a read failed, 4 where it ran out of memory or `out` failed. Where the line or its moves
+/// were not read, nothing was taken from the reader; unless `out` failed, nothing was written to it. An `err` that fails
 /// changes no status, and holds a beginning of the line.
 ///
-/// No contract sees that a read or a write fails, that memory is wanting, or what a writer would have taken. So these
-/// bodies meet this one too: one that answers `out of memory` at any time, or at once the usage line, as for a growth
-/// that is refused inside `clap`; one that answers `input refused` once the line and its moves were read; one that
-/// answers `output refused` once there is a report, whatever it then wrote to `out`; and one that tells a part of the
-/// line, or nothing. That these come only where they should is tested.
-#[tactic(auto, using(crate::proofs::ProgramAnswers::open_is_no_plain))]
+/// No contract sees that a read or a write fails, that memory runs out, or what a writer would have taken. So these
+/// bodies meet this one too: one that answers `out of memory` at any time, or at once the usage line, as where `clap`
+/// runs out of memory; one that answers `input refused` once the line and its moves were read; one that answers `output
+/// refused` once there is a report, whatever it then wrote to `out`; and one that tells a part of the line, or nothing.
+/// That these come only where they should is tested.
+#[tactic(auto, using(crate::proofs::ProgramAnswers::open_is_not_plain))]
 pub fn run_tool<R: Read, W: Write, E: Write>(
     alloc: Global,
     words: &[String],
@@ -138,7 +142,7 @@ pub fn run_tool<R: Read, W: Write, E: Write>(
         (E.contents err.old) (E.contents err.new) }
 
     // Whatever the status, one byte more than a session text may have is all that is taken.
-    ensures at_most { TakesAtMost 33554433 (R.remaining reader.old) (R.remaining reader.new) }
+    ensures at_most { TakesAtMost MAX_INPUT (R.remaining reader.old) (R.remaining reader.new) }
 {
     match run(alloc, words, reader, out) {
         Ok(true) => 0,
@@ -148,8 +152,8 @@ pub fn run_tool<R: Read, W: Write, E: Write>(
 }
 
 /// How the program ends where its words could not be taken from the system, by the error of that: with status 4 where
-/// memory was wanting, and else, as where a word is no UTF-8, with status 2. The line of that goes to `err`, which may
-/// fail as that of `run_tool` may.
+/// it ran out of memory, and else, as where a word is not UTF-8, with status 2. The line of that goes to `err`, which
+/// may fail as that of `run_tool` may.
 pub fn refuse_words<E: Write>(error: &io::Error, err: &mut E) -> u8
     ensures status { result ≡ status_of (failure_of_words (error_kind error.now)) }
     ensures said { AppendsPrefixOf (failure_line (failure_of_words (error_kind error.now)))

@@ -11,12 +11,12 @@ through_by-append : (makes : Meaning → List Event → List Event) (ms ns : Lis
 through_by-append makes [] ns xs = refl
 through_by-append makes (m ∷ ms) ns xs = through_by-append makes ms ns (makes m xs)
 
-module _ (before : List Meaning) (turn : Meaning) (behind outbound : List Meaning) (xs : List Event) where
-  pub tail_is : tail_lane (before ++ turn ∷ behind) outbound xs ≡ through behind (up_of turn (through before xs))
+module _ (before : List Meaning) (turn : Meaning) (after outbound : List Meaning) (xs : List Event) where
+  pub tail_is : tail_lane (before ++ turn ∷ after) outbound xs ≡ through after (up_of turn (through before xs))
   tail_is =
-      tail_lane-through (before ++ turn ∷ behind) outbound xs ∙ through_by-append up_of before (turn ∷ behind) xs
+      tail_lane-through (before ++ turn ∷ after) outbound xs ∙ through_by-append up_of before (turn ∷ after) xs
 
-  pub head_is : list_any (λ m. is_turn m.direction) before ≡ false → is_turn turn.direction ≡ true → head_lane (before ++ turn ∷ behind) outbound xs ≡ out_through outbound (down_of turn (through before xs))
+  pub head_is : list_any (λ m. is_turn m.direction) before ≡ false → is_turn turn.direction ≡ true → head_lane (before ++ turn ∷ after) outbound xs ≡ out_through outbound (down_of turn (through before xs))
   head_is none first =
-      head_lane-through (before ++ turn ∷ behind) outbound xs
-      ∙ ap (λ (ys : List Event). out_through outbound ys) (written-turn before turn behind xs none first).0
+      head_lane-through (before ++ turn ∷ after) outbound xs
+      ∙ ap (λ (ys : List Event). out_through outbound ys) (written-turn before turn after xs none first).0

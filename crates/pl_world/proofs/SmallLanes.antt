@@ -16,9 +16,9 @@ use Rattle.pl_event.specs.Meaning.{Meaning, up_of, down_of}
 use Rattle.pl_event.specs.Paths.{is_outbound}
 use Rattle.pl_event.specs.Inputs.{burst_events, recorded_input}
 use Rattle.pl_event.specs.Lanes.{lane, through, out_through, written}
-use Rattle.pl_stages.specs.Counts.{IsThrifty, event_weight, weight, line_framing-thrifty, command_decoding-thrifty, line_ending-thrifty, reply_encoding-thrifty, line_service-thrifty, flush_every-thrifty}
+use Rattle.pl_stages.specs.Counts.{IsThrifty, event_weight, weight}
+use Rattle.pl_stages.proofs.HandlerLaws.{handler-thrifty}
 use Rattle.pl_stages.specs.declared.handlers.Handler.{Handler}
-use Rattle.pl_stages.specs.declared.handlers.Handler.TheVariants as handler
 use Rattle.pl_stages.specs.contracts.handlers.HandlerStage.TheImpl.{meaning-value}
 use Rattle.pl_build.specs.Pipelines.{PlacedView}
 use Rattle.pl_build.specs.Paths.{IsPath}
@@ -26,8 +26,9 @@ use Rattle.pl_head.specs.Transports.{TransportState}
 use Rattle.pl_world.specs.declared.session.Recorded.{Recorded}
 use Rattle.pl_world.specs.Plans.{channel_planned}
 use Rattle.pl_world.specs.PlanRules.{IsSmallChannel}
-use Rattle.pl_world.specs.Limits.{chunk_count, byte_count, fits, is_within}
-use Rattle.pl_world.specs.Worlds.{recorded}
+use Rattle.pl_world.specs.declared.limits.TheConstants.{MAX_BURSTS, MAX_CHUNKS, MAX_BYTES}
+use Rattle.pl_world.specs.Limits.{chunk_count, byte_count, fits}
+use Rattle.pl_world.specs.Worlds.{HaveSmallLanes}
 use Rattle.pl_world.proofs.WorldLimits.{Inputs, all_recorded, all_true, all_any, within_parts}
 
 -- ---- the recorded input
@@ -114,11 +115,11 @@ pub lanes_small : (inbound outbound : List Meaning) (bursts : List (List (List �
 lanes_small inbound outbound bursts thrifty below out within hop =
     let size = input_weight bursts in
     let h = lane_small inbound outbound (recorded_input bursts) hop thrifty below out in
-    let few = nat_le (length bursts) 4096 in
-    let short = nat_le (chunk_count bursts) 16384 in
-    let parts = and_parts (few && short) (nat_le (byte_count bursts) 1048576) within in
+    let few = nat_le (length bursts) MAX_BURSTS in
+    let short = nat_le (chunk_count bursts) MAX_CHUNKS in
+    let parts = and_parts (few && short) (nat_le (byte_count bursts) MAX_BYTES) within in
     let counts = and_parts few short parts.0 in
-    omega (arith, size, h, leb-true (length bursts) 4096 counts.0, leb-true (chunk_count bursts) 16384 counts.1, leb-true (byte_count bursts) 1048576 parts.1)
+    omega (arith, size, h, leb-true (length bursts) MAX_BURSTS counts.0, leb-true (chunk_count bursts) MAX_CHUNKS counts.1, leb-true (byte_count bursts) MAX_BYTES parts.1)
 
 -- ---- stages that make no more than they take
 
@@ -134,27 +135,21 @@ module _ {S T : Type 0} (meaning : S → Meaning) (stands_after : S → List Eve
   all_out : (stages : List S) → All (λ s. is_outbound (meaning s).direction ≡ true) stages → All (λ m. m.direction ≡ Outbound) (map meaning stages)
   all_out stages all = All-map (λ (m : Meaning). m.direction ≡ Outbound) meaning stages (λ k d below. is_out (meaning (get_or stages k d)).direction (all k d below))
 
-  -- within the limits of a world each of their lanes has few items
-  pub stages_small : (pipelines : List (PlacedView S)) (inputs : Inputs) (transports : List T) (executors : ℕ) → is_within pipelines inputs transports executors ≡ true
-      → All (IsPath meaning stands_after) pipelines → All (λ (c : Recorded S T). IsSmallChannel (channel_planned meaning state c)) (recorded pipelines inputs transports)
+  -- each data lane of a channel has few items, where its input is within the limits
+  pub channel_small : (c : Recorded S T) → IsPath meaning stands_after c.pipeline → fits c.bursts ≡ true → IsSmallChannel (channel_planned meaning state c)
+  channel_small c path fit = λ hop below.
+      lanes_small (map meaning c.pipeline.inbound) (map meaning c.pipeline.outbound) c.bursts (all_thrifty c.pipeline.inbound) (all_thrifty c.pipeline.outbound) (all_out c.pipeline.outbound path.downwards) fit hop
+
+  -- so the channels of a world do
+  pub stages_small : (pipelines : List (PlacedView S)) (inputs : Inputs) (transports : List T) (executors : ℕ) → HaveSmallLanes meaning stands_after state pipelines inputs transports executors
   stages_small pipelines inputs transports executors within kept =
       all_recorded (λ (c : Recorded S T). IsSmallChannel (channel_planned meaning state c)) (IsPath meaning stands_after) (λ bursts. fits bursts ≡ true) (λ t. Unit {0})
-      (λ p bursts t path fit any. λ hop below.
-      lanes_small (map meaning p.inbound) (map meaning p.outbound) bursts (all_thrifty p.inbound) (all_thrifty p.outbound) (all_out p.outbound path.downwards) fit hop)
+      (λ p bursts t path fit any. channel_small (record { pipeline = p; bursts = bursts; transport = t }) path fit)
       pipelines inputs transports kept (all_true fits inputs (within_parts pipelines inputs transports executors within).fit) (all_any transports)
 
 -- ---- handlers
 
-pub handler_thrifty : (h : Handler) → IsThrifty (meaning-value.it h)
-handler_thrifty (handler.Lines s) = line_framing-thrifty s.max
-handler_thrifty (handler.Decode s) = command_decoding-thrifty
-handler_thrifty (handler.LineEnd s) = line_ending-thrifty
-handler_thrifty (handler.Encode s) = reply_encoding-thrifty
-handler_thrifty (handler.FlushEvery s) = flush_every-thrifty s.n
-handler_thrifty (handler.Service s) = line_service-thrifty
-
--- within the limits of a world each lane of built-in handlers has few items
+-- the channels of a world of built-in handlers have few items in each data lane
 pub handlers_small : {T : Type 0} (stands_after : Handler → List Event → Type 0) (state : T → TransportState) (pipelines : List (PlacedView Handler)) (inputs : Inputs) (transports : List T) (executors : ℕ)
-    → is_within pipelines inputs transports executors ≡ true → All (IsPath meaning-value.it stands_after) pipelines
-    → All (λ (c : Recorded Handler T). IsSmallChannel (channel_planned meaning-value.it state c)) (recorded pipelines inputs transports)
-handlers_small stands_after state = stages_small meaning-value.it stands_after state handler_thrifty
+    → HaveSmallLanes meaning-value.it stands_after state pipelines inputs transports executors
+handlers_small stands_after state = stages_small meaning-value.it stands_after state handler-thrifty

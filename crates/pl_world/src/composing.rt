@@ -13,18 +13,32 @@ use crate::recorded_events::recorded_events;
 use crate::report::{ChannelReport, Report, Stands};
 use crate::session::{Recorded, Session};
 use crate::settling::settled;
+use crate::worlds::World;
 use pl_event::{Sequence, Stage};
 use pl_head::{MemoryTransport, Transport};
 use pl_stages::Handler;
 use std::alloc::Global;
 
 /// The report of a session when all is read and written: each channel's handlers take its whole input, one handler
-/// after another. Refused for want of memory alone.
+/// after another. Refused only as `Memory`.
 pub fn plain(alloc: Global, session: Session) -> Result<Report, ReplayFault>
     ensures whole { IfOk result (λ report. report.channels ≡ map whole_report (plan_of ⟦<Handler as Stage>⟧.meaning ⟦<MemoryTransport as Transport>⟧.state session).channels) }
     ensures memory { IfErr result (λ e. e ≡ fault.Memory) }
 {
     let Session { world, .. } = session;
+    plain_world(alloc, world)
+}
+
+/// The report of a world when all is read and written, with stages and transports of any kind: each channel's handlers
+/// take its whole input, one handler after another. Each byte is taken to be accepted, whatever the transports would
+/// say. Refused only as `Memory`.
+pub fn plain_world<S: Stage, T: Transport>(
+    alloc: Global,
+    world: World<S, T>,
+) -> Result<Report, ReplayFault>
+    ensures whole { IfOk result (λ report. report.channels ≡ map whole_report (map (channel_planned S.meaning T.state) world.channels)) }
+    ensures memory { IfErr result (λ e. e ≡ fault.Memory) }
+{
     let reports = whole_reports(alloc, world.into_channels().into_vec())?;
     Ok(Report {
         channels: Sequence::from_vec(reports),
@@ -32,7 +46,7 @@ pub fn plain(alloc: Global, session: Session) -> Result<Report, ReplayFault>
 }
 
 /// The report of each channel, in order.
-pub fn whole_reports<S: Stage, T: Transport>(
+fn whole_reports<S: Stage, T: Transport>(
     alloc: Global,
     recorded: Vec<Recorded<S, T>>,
 ) -> Result<Vec<ChannelReport>, ReplayFault>
@@ -60,16 +74,17 @@ fn whole<S: Stage, T: Transport>(
         bursts,
         ..
     } = recorded;
+    let hop = pipeline.turn() as usize;
     let (inbound, outbound) = pipeline.into_chains();
     let Parted {
         before,
         turn,
-        behind,
-    } = part(inbound)?;
+        after,
+    } = part(inbound, hop)?;
     let input = recorded_events(alloc, bursts)?;
     let at_turn = feed_up(alloc, before, input)?;
     let made = pass(alloc, turn, at_turn)?;
-    let at_tail = feed_up(alloc, behind, made.up)?;
+    let at_tail = feed_up(alloc, after, made.up)?;
     let at_head = feed_down(alloc, outbound, made.down)?;
     let (bytes, writes) = settled(alloc, at_head)?;
     Ok(ChannelReport {

@@ -10,10 +10,10 @@ use thiserror::Error;
 /// Why a session was not replayed. No report is made then.
 #[derive(Clone, Copy, Debug, PartialEq, Eq, Error)]
 pub enum ReplayFault {
-    /// A move names a channel or an executor that is not there.
+    /// A move names a channel or an executor that does not exist.
     #[error("1 NoSuch")]
     NoSuch,
-    /// A growth was refused.
+    /// An allocation failed.
     #[error("2 Memory")]
     Memory,
 }

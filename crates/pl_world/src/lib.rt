@@ -5,6 +5,7 @@
 mod chains;
 mod composing;
 mod faults;
+mod limits;
 mod moves;
 mod parted;
 mod recorded_events;
@@ -13,10 +14,10 @@ mod session;
 mod settling;
 mod worlds;
 
-pub use composing::{plain, whole_reports};
+pub use composing::{plain, plain_world};
 pub use faults::ReplayFault;
+pub use limits::{MAX_BURSTS, MAX_BYTES, MAX_CAPACITY, MAX_CHANNELS, MAX_CHUNKS, fits};
 pub use moves::Move;
-pub use parted::place_of_turn;
 pub use report::{ChannelReport, Report, Stands};
 pub use session::{Recorded, Session};
 pub use worlds::{World, WorldRefusal};

@@ -2,12 +2,14 @@
 
 use pl_event::{ByteString, Cause, Event, Outcome, Sequence};
 
-/// How a channel stands.
+/// What became of a channel in all.
 #[derive(Clone, Copy, Debug, PartialEq, Eq)]
 pub enum Stands {
     /// Its tail and its head have taken their end, and no flushed byte waits.
     Drained,
+    /// Neither drained nor failed: it may have moves left.
     Open,
+    /// It failed, for this cause.
     Failed(Cause),
 }
 
@@ -19,7 +21,7 @@ pub struct ChannelReport {
     pub tail: Sequence<Event>,
     /// The bytes that the transport accepted.
     pub bytes: ByteString,
-    /// How each write stands, by its number: None while it is not settled.
+    /// The outcome of each write, by its number: None while it is not settled.
     pub writes: Sequence<Option<Outcome>>,
 }
 

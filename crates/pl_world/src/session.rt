@@ -1,6 +1,8 @@
 //! A session as it is recorded, before any of its moves.
 
-ghost use Rattle.std.specs.Prelude.{◌≤◌};
+ghost use Rattle.std.specs.Prelude.{◌≡◌, ◌≤◌};
+ghost use Rattle.pl_build.specs.Paths.{IsPath};
+ghost use Rattle.pl_world.specs.declared.limits.TheConstants.{MAX_CAPACITY};
 
 use crate::worlds::World;
 use pl_build::Placed;
@@ -18,6 +20,22 @@ pub struct Recorded<S: Stage, T: Transport> {
     pub transport: T,
 }
 
+impl<S: Stage, T: Transport> Recorded<S, T> {
+    /// A channel of this pipeline, with its input and its transport, and what the pipeline keeps to.
+    pub fn new(pipeline: Placed<S>, bursts: Sequence<Sequence<ByteString>>, transport: T) -> Self
+        ensures made { result ≡ record { pipeline = pipeline; bursts = bursts; transport = transport } }
+        ensures path { IsPath S.meaning S.stands_after result.pipeline }
+    {
+        // `Placed` shows its invariant to those who ask it something.
+        let _inbound = pipeline.inbound();
+        Recorded {
+            pipeline,
+            bursts,
+            transport,
+        }
+    }
+}
+
 /// A world of built-in handlers over memory, with queues.
 #[derive(Drop)]
 pub struct Session {
@@ -25,5 +43,5 @@ pub struct Session {
     /// How many items a queue between executors holds.
     pub capacity: u32,
     pub ghost holds_one: { 1 ≤ capacity },
-    pub ghost within: { capacity ≤ 65536 },
+    pub ghost within: { capacity ≤ MAX_CAPACITY },
 }

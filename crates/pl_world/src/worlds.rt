@@ -1,36 +1,25 @@
-//! The world of a replay: channels, each with its pipeline and its input, on executors.
+//! The world of a replay: channels, each with its pipeline, its input and its transport, on executors.
 
-ghost use Rattle.std.specs.Prelude.{◌≡◌, ℕ, ◌+◌, ◌-◌, ◌≤◌, true, IfOk, IfErr, OnOk, SomeIff, IsTrue, All, length, sum_by, if◌then◌else◌};
+ghost use Rattle.std.specs.Prelude.{◌≡◌, ℕ, ◌+◌, ◌≤◌, true, IfOk, IfErr, OnOk, IsTrue, All, length, if◌then◌else◌};
 ghost use Rattle.std.specs.List.{list_all};
 ghost use Rattle.pl_build.specs.Paths.{IsPath};
-ghost use Rattle.pl_world.specs.Worlds.{IsUncalled, recorded};
+ghost use Rattle.pl_world.specs.Worlds.{IsUncalled, FitsWorld, HaveSmallLanes, recorded};
 ghost use Rattle.pl_world.specs.declared.worlds.WorldRefusal.TheVariants as refusal;
-ghost use Rattle.pl_world.specs.Plans.{channel_planned};
-ghost use Rattle.pl_world.specs.PlanRules.{IsSmallChannel};
 ghost use Rattle.pl_world.specs.Limits.{fits, is_placed, is_within};
 
+use crate::limits::{MAX_CHANNELS, fits};
 use crate::session::Recorded;
-use pl_build::Placed;
+use pl_build::{MAX_EXECUTORS, Placed};
 use pl_event::{ByteString, Sequence, Stage};
 use pl_head::Transport;
 use std::alloc::{AllocError, AllocFailed, Global};
 use std::marker::Model;
 use thiserror::Error;
 
-const MAX_CHANNELS: usize = 16;
-
-const MAX_EXECUTORS: u16 = 16;
-
-const MAX_BURSTS: usize = 4_096;
-
-const MAX_CHUNKS: usize = 16_384;
-
-const MAX_BYTES: usize = 1_048_576;
-
 /// Why a world was not made.
 #[derive(Clone, Copy, Debug, PartialEq, Eq, Error)]
 pub enum WorldRefusal {
-    /// A growth was refused.
+    /// An allocation failed.
     #[error("1 Memory")]
     Memory,
     /// There are too many channels or executors, not as many inputs as pipelines, an input is too long, or a pipeline
@@ -75,8 +64,24 @@ impl<S: Stage, T: Transport> Model for World<S, T> {
 impl<S: Stage, T: Transport> World<S, T> {
     ghost use Rattle.pl_world.specs.Worlds.{IsWorld};
 
-    /// Channels with these pipelines and inputs, in order. An input is the chunks of each burst. Refused as `Limit`
-    /// where the world would not be within its limits, then as `Memory`.
+    /// The world of these channels, in order, on a given number of executors. The condition is that each channel fits
+    /// it; nothing is tested, and no memory is taken.
+    pub fn of(channels: Sequence<Recorded<S, T>>, executors: u16) -> Self
+        requires executors { executors ≤ MAX_EXECUTORS }
+        requires channels { length channels ≤ MAX_CHANNELS }
+        requires each { All (FitsWorld S.meaning S.stands_after T.state executors) channels }
+        ensures executors { result.executors ≡ executors }
+        ensures channels { result.channels ≡ channels }
+    {
+        World {
+            executors,
+            channels,
+        }
+    }
+
+    /// Channels with these pipelines, inputs and transports, in order, on a given number of executors. An input is the
+    /// chunks of each burst. Refused as `Limit` where the world would not be within its limits, then as `Memory`; what
+    /// was handed in is gone then.
     pub fn new(
         alloc: Global,
         pipelines: Sequence<Placed<S>>,
@@ -84,9 +89,7 @@ impl<S: Stage, T: Transport> World<S, T> {
         transports: Sequence<T>,
         executors: u16,
     ) -> Result<Self, WorldRefusal>
-        // Within the limits each lane has few items, its end among them. Lanes of built-in handlers do.
-        requires small { is_within pipelines inputs transports executors ≡ true → All (IsPath S.meaning S.stands_after) pipelines
-            → All (λ c. IsSmallChannel (channel_planned S.meaning T.state c)) (recorded pipelines inputs transports) }
+        requires small { HaveSmallLanes S.meaning S.stands_after T.state pipelines inputs transports executors }
         requires uncalled { All (λ transport. IsUncalled (T.state transport)) transports }
         ensures executors { IfOk result (λ world. world.executors ≡ executors) }
         ensures channels { IfOk result (λ world. world.channels ≡ recorded pipelines inputs transports) }
@@ -107,10 +110,7 @@ impl<S: Stage, T: Transport> World<S, T> {
             inputs.into_vec(),
             transports.into_vec(),
         )?;
-        Ok(World {
-            executors,
-            channels: Sequence::from_vec(channels),
-        })
+        Ok(World::of(Sequence::from_vec(channels), executors))
     }
 
     /// How many executors there are.
@@ -174,6 +174,7 @@ fn is_within<S: Stage, T: Transport>(
         && all_fit(inputs)
 }
 
+/// Whether each pipeline is placed on executors that are there.
 fn all_placed<S: Stage>(pipelines: &[Placed<S>], executors: u16) -> bool
     ensures placed { result ≡ list_all (is_placed executors) pipelines.now }
     ensures paths { IsTrue result → All (IsPath S.meaning S.stands_after) pipelines.now }
@@ -202,41 +203,9 @@ fn is_placed<S: Stage>(pipeline: &Placed<S>, executors: u16) -> bool
     true
 }
 
+/// Whether each input is within the limits.
 fn all_fit(inputs: &[Sequence<Sequence<ByteString>>]) -> bool
     ensures { result ≡ list_all fits inputs.now }
 {
     inputs.iter().all(|bursts| fits(bursts.as_slice()))
-}
-
-/// Whether the bursts of a channel, their chunks and their bytes are within their limits.
-fn fits(bursts: &[Sequence<ByteString>]) -> bool
-    ensures { result ≡ fits bursts.now }
-{
-    if bursts.len() > MAX_BURSTS {
-        return false;
-    }
-    let mut chunks = MAX_CHUNKS;
-    let mut bytes = MAX_BYTES;
-    for burst in bursts {
-        let burst = burst.as_slice();
-        match (chunks.checked_sub(burst.len()), left_of(bytes, burst)) {
-            (Some(chunks_left), Some(bytes_left)) => {
-                chunks = chunks_left;
-                bytes = bytes_left;
-            }
-            _ => return false,
-        }
-    }
-    true
-}
-
-/// What is left of a limit behind the bytes of these chunks, or None where they pass it.
-fn left_of(limit: usize, chunks: &[ByteString]) -> Option<usize>
-    ensures { SomeIff result (sum_by length chunks.now ≤ limit) (limit - sum_by length chunks.now) }
-{
-    let mut left = limit;
-    for chunk in chunks {
-        left = left.checked_sub(chunk.len())?;
-    }
-    Some(left)
 }

@@ -7,6 +7,7 @@ use super::words::Word;
 use pl_world::Move;
 use std::alloc::{AllocError, Global};
 
+/// How often the move of a word is made: once where it has no count.
 fn times(word: &Word) -> u32
     ensures { result ≡ times word.now }
 {

@@ -6,12 +6,15 @@ ghost use Rattle.pl_text.specs.declared.moves_text.words.Letter.{Letter};
 ghost use Rattle.pl_text.specs.MovesTexts.{Fits, AreInRange, word_text, count_text};
 ghost use Rattle.pl_text.specs.MovesLetters.{letter_code, move_of};
 
+use super::MAX_MOVES;
 use itoa::Buffer;
 use pl_world::Move;
 
+/// The greatest number of a channel or an executor that a word can say.
 const MAX_NUMBER: u32 = 65_535;
 
-const MAX_COUNT: u32 = 1_000_000;
+/// The greatest count of a word.
+const MAX_COUNT: u32 = MAX_MOVES as u32;
 
 /// A move, and how often it is made where the word says so.
 #[derive(Clone, Copy, Debug, PartialEq, Eq)]
@@ -44,7 +47,7 @@ fn number(text: &str, max: u32) -> Option<u32>
     Some(number)
 }
 
-/// The letter that a word begins with, and what stands after it.
+/// The letter that a word begins with, and what follows it.
 fn split_letter(text: &str) -> Option<(Letter, &str)>
     ensures some { IfSome result (λ p. text.now ≡ letter_code p.0 ∷ p.1.now) }
     ensures none { IfNone result ((letter : Letter) (rest : List ℕ) → text.now ≢ letter_code letter ∷ rest) }
@@ -64,6 +67,7 @@ fn split_letter(text: &str) -> Option<(Letter, &str)>
     None
 }
 
+/// The move of a letter, at a number.
 fn move_of(letter: Letter, number: u16) -> Move
     ensures { result ≡ move_of letter number }
 {
@@ -96,7 +100,7 @@ fn numbers(text: &str) -> Option<(u16, Option<u32>)>
     }
 }
 
-/// The word that a text is.
+/// The word that a text is, or None where it is not a word.
 pub(crate) fn read_word(text: &str) -> Option<Word>
     ensures some { IfSome result (λ w. (text.now ≡ word_text w) × Fits w) }
     ensures none { IfNone result ((w : Word) → Fits w → text.now ≢ word_text w) }

@@ -10,6 +10,7 @@ use pl_world::{ChannelReport, Stands};
 use std::alloc::AllocError;
 use std::fmt::Write as _;
 
+/// What became of a channel, in words.
 fn stands_text(stands: Stands) -> &'static str
     ensures { result.now ≡ stands_text stands }
 {
@@ -23,6 +24,7 @@ fn stands_text(stands: Stands) -> &'static str
     }
 }
 
+/// The outcome of a write, or `Open` where there is none yet.
 fn outcome_text(outcome: &Option<Outcome>) -> &'static str
     ensures { result.now ≡ outcome_text outcome.now }
 {

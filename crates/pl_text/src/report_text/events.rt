@@ -30,6 +30,7 @@ fn name_of(key: &Key) -> &str
     }
 }
 
+/// Adds a reply, as the hex of the bytes that it is sent as.
 fn add_reply(text: &mut String, reply: &Reply) -> Result<(), AllocError>
     ensures { OnOk result (string_bytes text.new ≡ string_bytes text.old ++ codes "Reply " ++ hex_text (reply_text reply.now)) }
 {
@@ -39,6 +40,7 @@ fn add_reply(text: &mut String, reply: &Reply) -> Result<(), AllocError>
     add_hex(text, bytes.as_slice())
 }
 
+/// Adds a command with what it names.
 fn add_command(text: &mut String, command: &Command) -> Result<(), AllocError>
     ensures { OnOk result (string_bytes text.new ≡ string_bytes text.old ++ command_text command.now) }
 {
@@ -54,6 +56,7 @@ fn add_command(text: &mut String, command: &Command) -> Result<(), AllocError>
     }
 }
 
+/// Adds a message: its kind, and its bytes as hex.
 fn add_message(text: &mut String, message: &Message) -> Result<(), AllocError>
     ensures { OnOk result (string_bytes text.new ≡ string_bytes text.old ++ message_text message.now) }
 {

@@ -1,3 +1,5 @@
+//! Why a report is not printed.
+
 ghost use Rattle.std.specs.Prelude.{◌≡◌};
 ghost use Rattle.pl_text.specs.declared.report_text.fault.PrintFault.TheVariants.{Memory};
 
@@ -7,7 +9,7 @@ use thiserror::Error;
 /// Why a report was not printed.
 #[derive(Clone, Copy, Debug, PartialEq, Eq, Error)]
 pub enum PrintFault {
-    /// A growth was refused; nothing was written.
+    /// An allocation failed; nothing was written.
     #[error("1 Memory")]
     Memory,
     /// The writer failed; how much it wrote is not known.

@@ -4,30 +4,30 @@ ghost use Rattle.std.specs.Prelude.{◌≡◌, ◌≢◌, ◌∷◌, [], ◌++�
 ghost use Rattle.std.specs.List.{AllByRecursion};
 ghost use Rattle.std.specs.Option.{option_copied};
 ghost use Rattle.pl_build.specs.Names.{names_and_sizes};
-ghost use Rattle.pl_build.specs.Pipelines.{place_of, without};
+ghost use Rattle.pl_build.specs.Pipelines.{index_of, without};
 ghost use Rattle.pl_build.specs.Refusals.{naming_fault, beside_fault, grouping_fault, executor_count};
 ghost use Rattle.pl_build.specs.Executors.{HasPlaced, sizes_of};
 ghost use Rattle.pl_build.specs.declared.faults.BuildFault.TheVariants.{NoSuchName, Memory};
 ghost use Rattle.pl_world.specs.Plans.{channel_planned};
 ghost use Rattle.pl_world.specs.Sessions.{plan_of};
-ghost use Rattle.pl_world.specs.Worlds.{recorded};
+ghost use Rattle.pl_world.specs.Worlds.{FitsWorld};
 ghost use Rattle.pl_text.specs.SessionReading.{seen};
 ghost use Rattle.pl_text.specs.SessionHandlers.{meaning_of};
 ghost use Rattle.pl_text.specs.SessionOutlines.{IsHandlerWithin, IsEditWithin, IsChannelOutlineWithin, IsOutlineWithin};
-ghost use Rattle.pl_text.specs.SessionWorlds.{IsSteady, FitsWorld, AreWorldly};
+ghost use Rattle.pl_text.specs.SessionWorlds.{IsSteady};
 ghost use Rattle.pl_text.specs.SessionBuilding.{Builds, IsChannelBuilt, added, all_edited, channels_built, edited, group_sizes, made_unless, meant, pipeline_built, put_after, put_before, session_built};
 
 use crate::session_text::names::Name;
 use crate::session_text::outline::{
     Addition, ChannelOutline, Edit, GroupOutline, HandlerKind, Outline,
 };
-use pl_build::{BuildFault, Groups, PipelineBuilder, Placed};
-use pl_event::{ByteString, Sequence, Stage};
+use pl_build::{BuildFault, Groups, PipelineBuilder};
+use pl_event::{Sequence, Stage};
 use pl_head::{MemoryTransport, Transport};
 use pl_stages::{
     CommandDecoder, FlushEvery, Handler, LineEnd, LineFramer, LineService, ReplyEncoder,
 };
-use pl_world::{Recorded, Session, World, WorldRefusal};
+use pl_world::{Recorded, Session, World};
 use std::alloc::{AllocError, Global};
 
 /// Builds a session of what its members say.
@@ -46,68 +46,15 @@ pub(crate) fn session_built(alloc: Global, outline: Outline) -> Result<Session, 
     let mut groups = groups_made(alloc, loops, groups.as_slice())?;
     let executors = groups.executors();
     let channels = channels_built(alloc, &mut groups, channels)?;
-    let world = world_built(alloc, executors, channels)?;
-    Ok(Session { world, capacity })
-}
-
-// ---- the world
-
-/// The world of these channels, which is within the limits of worlds.
-fn world_built(
-    alloc: Global,
-    executors: u16,
-    channels: Sequence<Recorded<Handler, MemoryTransport>>,
-) -> Result<World<Handler, MemoryTransport>, AllocError>
-    requires { AreWorldly ⟦<MemoryTransport as Transport>⟧.state executors channels }
-    ensures executors { IfOk result (λ world. world.executors ≡ executors) }
-    ensures channels { IfOk result (λ world. world.channels ≡ channels) }
-{
-    let (pipelines, inputs, transports) = parted(alloc, channels)?;
-    match World::new(alloc, pipelines, inputs, transports, executors) {
-        Ok(world) => Ok(world),
-        Err(WorldRefusal::Memory) => Err(AllocError),
-        Err(WorldRefusal::Limit) => unreachable!(),
-    }
-}
-
-/// The pipelines of channels, their inputs and their transports.
-fn parted(
-    alloc: Global,
-    channels: Sequence<Recorded<Handler, MemoryTransport>>,
-) -> Result<
-    (
-        Sequence<Placed<Handler>>,
-        Sequence<Sequence<Sequence<ByteString>>>,
-        Sequence<MemoryTransport>,
-    ),
-    AllocError,
->
-    ensures inputs { IfOk result (λ parts. length parts.0 ≡ length parts.1) }
-    ensures transports { IfOk result (λ parts. length parts.0 ≡ length parts.2) }
-    ensures whole { IfOk result (λ parts. recorded parts.0 parts.1 parts.2 ≡ channels) }
-{
-    let mut pipelines = Vec::with_capacity(alloc, channels.len())?;
-    let mut inputs = Vec::with_capacity(alloc, channels.len())?;
-    let mut transports = Vec::with_capacity(alloc, channels.len())?;
-    for channel in channels.into_vec() {
-        let Recorded {
-            pipeline,
-            bursts,
-            transport,
-        } = channel;
-        pipelines.push(pipeline)?;
-        inputs.push(bursts)?;
-        transports.push(transport)?;
-    }
-    Ok((
-        Sequence::from_vec(pipelines),
-        Sequence::from_vec(inputs),
-        Sequence::from_vec(transports),
-    ))
+    Ok(Session {
+        world: World::of(channels, executors),
+        capacity,
+    })
 }
 
 // ---- groups
 
+/// The loops and the groups, with no handler placed yet.
 fn groups_made(alloc: Global, loops: u16, groups: &[GroupOutline]) -> Result<Groups, BuildFault>
     ensures loops { IfOk result (λ made. made.loops ≡ loops) }
     ensures sizes { IfOk result (λ made. sizes_of made ≡ group_sizes groups.now) }
@@ -119,6 +66,7 @@ fn groups_made(alloc: Global, loops: u16, groups: &[GroupOutline]) -> Result<Gro
     Groups::new(alloc, loops, named.as_slice())
 }
 
+/// The groups as `Groups::new` takes them.
 fn names_and_sizes(alloc: Global, groups: &[GroupOutline]) -> Result<Vec<(&str, u16)>, AllocError>
     ensures { IfOk result (λ named. names_and_sizes named.items ≡ group_sizes groups.now) }
 {
@@ -141,7 +89,9 @@ fn channels_built(
     requires unused { HasPlaced groups.old [] }
     ensures built { Builds (seen (map (channel_planned ⟦<Handler as Stage>⟧.meaning ⟦<MemoryTransport as Transport>⟧.state)) result)
         (channels_built groups.old.loops (sizes_of groups.old) [] channels) }
-    ensures fit { IfOk result (λ channels. All (FitsWorld ⟦<MemoryTransport as Transport>⟧.state (executor_count groups.old.loops (sizes_of groups.old))) channels) }
+    ensures fit { IfOk result (λ channels. All (FitsWorld ⟦<Handler as Stage>⟧.meaning ⟦<Handler as Stage>⟧.stands_after ⟦<MemoryTransport as Transport>⟧.state
+        (executor_count groups.old.loops (sizes_of groups.old))) channels) }
+    ensures steady { IfOk result (λ channels. All IsSteady channels) }
 {
     let mut built = Vec::with_capacity(alloc, channels.len())?;
     for channel in channels.into_vec() {
@@ -159,7 +109,9 @@ fn channel_built(
 ) -> Result<Recorded<Handler, MemoryTransport>, BuildFault>
     requires { IsChannelOutlineWithin channel }
     ensures built { IfOk result (λ recorded. IsChannelBuilt groups.old groups.new channel (channel_planned ⟦<Handler as Stage>⟧.meaning ⟦<MemoryTransport as Transport>⟧.state recorded)) }
-    ensures fits { IfOk result (λ recorded. FitsWorld ⟦<MemoryTransport as Transport>⟧.state (executor_count groups.old.loops (sizes_of groups.old)) recorded) }
+    ensures fits { IfOk result (FitsWorld ⟦<Handler as Stage>⟧.meaning ⟦<Handler as Stage>⟧.stands_after ⟦<MemoryTransport as Transport>⟧.state
+        (executor_count groups.old.loops (sizes_of groups.old))) }
+    ensures steady { IfOk result IsSteady }
     ensures refused { IfErr result (λ e. e ≢ Memory → pipeline_built (sizes_of groups.old) channel ≡ Err e) }
     ensures same_groups { (groups.new.loops ≡ groups.old.loops) × (sizes_of groups.new ≡ sizes_of groups.old) }
 {
@@ -173,11 +125,10 @@ fn channel_built(
     let mut builder = all_edited(alloc, edits.as_slice())?;
     builder.marks(low, high)?;
     match builder.build(groups) {
-        Ok(pipeline) => Ok(Recorded {
-            pipeline,
-            bursts,
-            transport: MemoryTransport::new(alloc, window, None),
-        }),
+        Ok(pipeline) => {
+            let transport = MemoryTransport::new(alloc, window, None);
+            Ok(Recorded::new(pipeline, bursts, transport))
+        }
         Err(unbuilt) => Err(unbuilt.fault),
     }
 }
@@ -196,6 +147,7 @@ fn all_edited(alloc: Global, edits: &[Edit]) -> Result<PipelineBuilder<Handler>,
     Ok(builder)
 }
 
+/// Makes one edit.
 #[tactic(auto, unfolding(crate::specs::SessionBuilding::edited))]
 fn make_edit(
     alloc: Global,
@@ -215,6 +167,7 @@ fn make_edit(
     }
 }
 
+/// Adds a handler before all others.
 fn add_first(
     alloc: Global,
     builder: &mut PipelineBuilder<Handler>,
@@ -232,6 +185,7 @@ fn add_first(
     }
 }
 
+/// Adds a handler after all others.
 fn add_last(
     alloc: Global,
     builder: &mut PipelineBuilder<Handler>,
@@ -249,6 +203,7 @@ fn add_last(
     }
 }
 
+/// Adds a handler just before the one of the name `at`.
 fn add_before(
     alloc: Global,
     builder: &mut PipelineBuilder<Handler>,
@@ -268,6 +223,7 @@ fn add_before(
     }
 }
 
+/// Adds a handler just after the one of the name `at`.
 fn add_after(
     alloc: Global,
     builder: &mut PipelineBuilder<Handler>,
@@ -287,9 +243,10 @@ fn add_after(
     }
 }
 
+/// Takes the handler of this name out.
 fn remove(builder: &mut PipelineBuilder<Handler>, name: &Name) -> Result<(), BuildFault>
     ensures { Builds (seen (λ _. meant ⟦<Handler as Stage>⟧.meaning builder.new.handlers) result)
-        (if is_some (place_of name.now (meant ⟦<Handler as Stage>⟧.meaning builder.old.handlers))
+        (if is_some (index_of name.now (meant ⟦<Handler as Stage>⟧.meaning builder.old.handlers))
         then Ok (without name.now (meant ⟦<Handler as Stage>⟧.meaning builder.old.handlers)) else Err NoSuchName) }
 {
     builder.remove(name.as_str())?;

@@ -6,15 +6,12 @@ ghost use Rattle.pl_text.specs.SessionReading.{Answers};
 ghost use Rattle.pl_text.specs.SessionChannels.{operation_in, handler_in, addition_in, edit_of, edit_in};
 
 use crate::session_text::fault::SessionFault;
+use crate::session_text::limits::{MAX_FLUSHES, MAX_LINE};
 use crate::session_text::names::Name;
 use crate::session_text::outline::{Addition, Edit, HandlerKind, Operation};
 use crate::session_text::values::{FromData, an_object, optional, required, text, whole_in};
 use serde_json::Value;
 use std::alloc::Global;
-
-const MAX_LINE: u64 = 8_192;
-
-const MAX_FLUSHES: u64 = 65_535;
 
 impl FromData for Edit {
     ghost meaning = { edit_in };
@@ -28,6 +25,7 @@ impl FromData for Edit {
     }
 }
 
+/// The operation of this name.
 #[tactic(auto, unfolding(crate::specs::SessionChannels::operation_in))]
 fn operation_in(value: &Value) -> Result<Operation, SessionFault>
     ensures { result ≡ operation_in (view value.now) }
@@ -42,7 +40,7 @@ fn operation_in(value: &Value) -> Result<Operation, SessionFault>
     }
 }
 
-/// The edit of an operation, with the members that it alone has.
+/// The edit of an operation, with the members that only this operation has.
 #[tactic(auto, unfolding(crate::specs::SessionChannels::edit_of))]
 fn edit_of(
     alloc: Global,
@@ -81,14 +79,14 @@ fn addition_in(alloc: Global, name: Name, edit: &Value) -> Result<Addition, Sess
     })
 }
 
-/// The handler of an edit: its kind, and the members that this kind alone has.
+/// The handler of an edit: its kind, and the members that only this kind has.
 #[tactic(auto, unfolding(crate::specs::SessionChannels::handler_in))]
 fn handler_in(edit: &Value) -> Result<HandlerKind, SessionFault>
     ensures { result ≡ handler_in (view edit.now) }
 {
     match text(required(edit, "kind")?)? {
         "lines" => {
-            let max = whole_in(1, MAX_LINE, required(edit, "max")?)?;
+            let max = whole_in(1, u64::from(MAX_LINE), required(edit, "max")?)?;
             Ok(HandlerKind::Lines { max: max as u16 })
         }
         "decode" => Ok(HandlerKind::Decode),
@@ -96,7 +94,7 @@ fn handler_in(edit: &Value) -> Result<HandlerKind, SessionFault>
         "encode" => Ok(HandlerKind::Encode),
         "service" => Ok(HandlerKind::Service),
         "flush_every" => {
-            let n = whole_in(1, MAX_FLUSHES, required(edit, "n")?)?;
+            let n = whole_in(1, u64::from(MAX_FLUSHES), required(edit, "n")?)?;
             Ok(HandlerKind::FlushEvery { n: n as u16 })
         }
         _ => Err(SessionFault::Kind),

@@ -11,7 +11,7 @@ use thiserror::Error;
 /// Why a session text was refused, each with its number (`docs/FORMATS.md`, "Session").
 #[derive(Clone, Copy, Debug, PartialEq, Eq, Error)]
 pub enum SessionFault {
-    /// The text is no JSON text.
+    /// The text is not JSON.
     #[error("1 NotJson")]
     NotJson,
     /// The version is a whole number that is not known.
@@ -29,7 +29,7 @@ pub enum SessionFault {
     /// Its members were read, and its pipelines could not be built.
     #[error("6 Build {0}")]
     Build(BuildFault),
-    /// A growth was refused.
+    /// An allocation failed.
     #[error("7 Memory")]
     Memory,
 }
@@ -50,7 +50,7 @@ impl<T: Drop> From<AllocFailed<T>> for SessionFault {
     }
 }
 
-/// A build that memory refused is no other fault of the session.
+/// A build that was out of memory is out of memory here too, and each other refusal a `Build`.
 impl From<BuildFault> for SessionFault {
     ghost from_gives = { λ refused e. e ≡ fault_of_build refused };
 

@@ -20,7 +20,7 @@ impl Model for Name {
 }
 
 impl Name {
-    /// A name that keeps a copy of the text. An `Err` is want of memory.
+    /// A name that keeps a copy of the text. An `Err` is out of memory.
     pub(crate) fn new(alloc: Global, text: &str) -> Result<Name, AllocError>
         ensures { IfOk result (λ name. name ≡ text.now) }
     {
@@ -29,6 +29,7 @@ impl Name {
         })
     }
 
+    /// Its text.
     pub(crate) fn as_str(&self) -> &str
         ensures { result.now ≡ self.now }
     {

@@ -3,7 +3,7 @@
 use crate::session_text::names::Name;
 use pl_event::{ByteString, Sequence};
 
-/// A handler of a pipeline by its kind, with the numbers that this kind alone has.
+/// A handler of a pipeline by its kind, with the numbers that only this kind has.
 #[derive(Clone, Copy, Debug, PartialEq, Eq)]
 pub(crate) enum HandlerKind {
     /// Cuts the bytes read into lines.
@@ -15,9 +15,9 @@ pub(crate) enum HandlerKind {
     LineEnd,
     Encode,
     Service,
-    /// Lets some flushes pass.
+    /// Lets every n-th flush pass.
     FlushEvery {
-        /// Each how manieth passes.
+        /// Every n-th flush passes.
         n: u16,
     },
 }
@@ -44,13 +44,13 @@ pub(crate) struct Addition {
 /// One edit of a pipeline.
 #[derive(Debug, Drop)]
 pub(crate) enum Edit {
-    /// Adds in front of all others.
+    /// Adds before all others.
     First(Addition),
-    /// Adds behind all others.
+    /// Adds after all others.
     Last(Addition),
-    /// Adds just in front of the handler of this name.
+    /// Adds just before the handler of this name.
     Before(Name, Addition),
-    /// Adds just behind the handler of this name.
+    /// Adds just after the handler of this name.
     After(Name, Addition),
     /// Takes the handler of this name out.
     Remove(Name),

@@ -20,6 +20,7 @@ pub(crate) trait FromData: Sized + Drop {
 
     ghost meaning: { Data → Result Self SessionFault };
 
+    /// Reads the value. An `Err` is its first fault, or `Memory`.
     fn from_data(alloc: Global, value: &Value) -> Result<Self, SessionFault>
         ensures { Answers result (meaning (view value.now)) };
 }
@@ -46,6 +47,7 @@ pub(crate) fn whole_in(low: u64, high: u64, value: &Value) -> Result<u64, Sessio
     }
 }
 
+/// A text.
 #[tactic(auto, unfolding(crate::specs::SessionReading::text))]
 pub(crate) fn text(value: &Value) -> Result<&str, SessionFault>
     ensures { seen (λ s. s.now) result ≡ text (view value.now) }
@@ -53,6 +55,7 @@ pub(crate) fn text(value: &Value) -> Result<&str, SessionFault>
     value.as_str().ok_or(SessionFault::Kind)
 }
 
+/// An object.
 #[tactic(auto, unfolding(crate::specs::SessionReading::an_object))]
 pub(crate) fn an_object(value: &Value) -> Result<&Value, SessionFault>
     ensures { seen (λ v. view v.now) result ≡ an_object (view value.now) }
@@ -105,6 +108,7 @@ pub(crate) fn absent(object: &Value, name: &str, fault: SessionFault) -> Result<
     }
 }
 
+/// The elements of an array.
 #[tactic(auto, using(crate::proofs::SessionElements::elements_items_of), unfolding(crate::specs::SessionReading::elements_of))]
 pub(crate) fn elements_of(value: &Value) -> Result<&[Value], SessionFault>
     ensures { seen (λ vs. map view vs.now) result ≡ elements_of (view value.now) }

@@ -1,24 +1,25 @@
-//! What the command line asks for, as `clap` reads it.
+//! What the command line requests, as `clap` reads it.
 
 ghost use Rattle.std.specs.Prelude.{◌≡◌, [], codes, drop, map, option_and_then, option_map, string_bytes, unwrap_or, IfOk};
 ghost use Rattle.std.specs.List.{list_any};
 ghost use Rattle.std.specs.Str.{bytes_eq};
 ghost use Rattle.clap.specs.Words.{FailsBy, app_of, fault_of, first_value, found_of, rows_of, subcommand_of, subcommand_rows_of};
-ghost use Rattle.pl_tool.specs.ProgramLines.{asked_of, program, request_of, request_seen};
+ghost use Rattle.pl_tool.specs.ProgramLines.{program, request_of, request_of_subcommand, request_view};
 
 use clap::error::ErrorKind;
 use clap::{Arg, ArgAction, ArgMatches, Command, Error};
 use std::alloc::{AllocError, Global};
 
-/// What a command line asks for.
+/// What a command line requests.
 #[derive(Clone, Copy)]
-pub(crate) enum Asked<'a> {
+pub(crate) enum Request<'a> {
     /// The report of a replay by the moves of a text.
     Replay(&'a str),
     /// The whole report.
     Plain,
 }
 
+/// The program's command line, as `clap` is told of it.
 fn command<'a>(alloc: Global) -> Result<Command<'a>, AllocError>
     ensures { IfOk result (λ made. app_of made ≡ program) }
 {
@@ -34,18 +35,19 @@ fn command<'a>(alloc: Global) -> Result<Command<'a>, AllocError>
     )
 }
 
+/// Whether a word is a lone `-`.
 fn is_any_dash(words: &[String]) -> bool
     ensures { result ≡ list_any (λ word. bytes_eq (codes "-") (string_bytes word)) words.now }
 {
     words.iter().any(|word| "-" == word.as_str())
 }
 
-/// Whether a word behind the program's name is a lone `-`, which `clap` takes for a value and not for an option.
+/// Whether a word after the program's name is a lone `-`, which `clap` takes for a value and not for an option.
 fn has_dash(words: &[String]) -> bool
     ensures { result ≡ list_any (λ word. bytes_eq (codes "-") (string_bytes word)) (drop 1 words.now) }
 {
     match words.split_first() {
-        Some((_, behind)) => is_any_dash(behind),
+        Some((_, rest)) => is_any_dash(rest),
         None => false,
     }
 }
@@ -59,49 +61,49 @@ fn matches_of<'a>(alloc: Global, words: &'a [String]) -> Result<ArgMatches<'a>, 
     command.try_get_matches_from(words)
 }
 
-/// The value of the option of `replay`, empty where it is not given.
+/// The text of the option `--moves` of `replay`, empty where it is not given.
 #[tactic(auto, using(crate::proofs::ProgramReads::option_value))]
-fn option_text<'a>(replay: &ArgMatches<'a>) -> &'a str
+fn moves_text<'a>(replay: &ArgMatches<'a>) -> &'a str
     ensures { result.now ≡ unwrap_or (first_value (found_of replay.now) (codes "moves")) [] }
 {
     replay.get_str("moves").unwrap_or("")
 }
 
-/// What a subcommand asks for.
-fn asked_of<'a>(name: &str, found: &ArgMatches<'a>) -> Option<Asked<'a>>
-    ensures { option_map request_seen result ≡ asked_of (name.now, rows_of (found_of found.now)) }
+/// The request of a subcommand, by its name and what was found of it.
+fn request_of_subcommand<'a>(name: &str, found: &ArgMatches<'a>) -> Option<Request<'a>>
+    ensures { option_map request_view result ≡ request_of_subcommand (name.now, rows_of (found_of found.now)) }
 {
     if name == "replay" {
-        return Some(Asked::Replay(option_text(found)));
+        return Some(Request::Replay(moves_text(found)));
     }
     if name == "plain" {
-        return Some(Asked::Plain);
+        return Some(Request::Plain);
     }
     None
 }
 
-/// What the subcommand asks for, or None where there is none.
-fn asked_in<'a>(matches: &ArgMatches<'a>) -> Option<Asked<'a>>
-    ensures { option_map request_seen result ≡ option_and_then asked_of (subcommand_rows_of matches.now) }
+/// The request of the subcommand that was found, or None where there is none.
+fn request_in<'a>(matches: &ArgMatches<'a>) -> Option<Request<'a>>
+    ensures { option_map request_view result ≡ option_and_then request_of_subcommand (subcommand_rows_of matches.now) }
 {
     let (name, found) = matches.subcommand()?;
-    asked_of(name, found)
+    request_of_subcommand(name, found)
 }
 
-/// What the command line asks for, or None where it is not read. The first word is the program's name. It fails only
-/// where a growth was refused.
+/// What the command line requests, or None where it is not read. The first word is the program's name. It fails only
+/// out of memory.
 #[tactic(auto, using(crate::proofs::ProgramReads::dash_is_refused, crate::proofs::ProgramReads::fault_is_refused))]
 pub(crate) fn request_of<'a>(
     alloc: Global,
     words: &'a [String],
-) -> Result<Option<Asked<'a>>, AllocError>
-    ensures { IfOk result (λ asked. option_map request_seen asked ≡ request_of (map string_bytes words.entry.now)) }
+) -> Result<Option<Request<'a>>, AllocError>
+    ensures { IfOk result (λ request. option_map request_view request ≡ request_of (map string_bytes words.entry.now)) }
 {
     if has_dash(words) {
         return Ok(None);
     }
     match matches_of(alloc, words) {
-        Ok(matches) => Ok(asked_in(&matches)),
+        Ok(matches) => Ok(request_in(&matches)),
         Err(error) if error.kind() == ErrorKind::OutOfMemory => Err(AllocError),
         Err(_) => Ok(None),
     }

@@ -5,8 +5,8 @@ ghost use Rattle.std.specs.IoError.{error_kind};
 ghost use Rattle.pl_tool.specs.ProgramFailures.{failure_of_moves, failure_of_session, failure_of_replay, failure_of_print, failure_of_read, failure_of_words, status_of, failure_line, moves_line, replay_line, build_line, session_line};
 
 use pl_build::BuildFault;
-use pl_replay::ReplayFault;
 use pl_text::{MovesFault, PrintFault, SessionFault};
+use pl_world::ReplayFault;
 use std::io;
 use std::io::ErrorKind;
 
@@ -15,12 +15,15 @@ use std::io::ErrorKind;
 pub(crate) enum Failure {
     /// The command line was not read.
     Usage,
+    /// The moves were not read.
     Moves(MovesFault),
+    /// A move names what is not there.
     Replay(ReplayFault),
     /// A read failed.
     Input,
+    /// The session was refused.
     Session(SessionFault),
-    /// A growth was refused.
+    /// Out of memory.
     Memory,
     /// The first writer failed.
     Output,
@@ -76,6 +79,7 @@ impl Failure {
     }
 }
 
+/// The line of moves that were refused.
 fn moves_line(fault: MovesFault) -> &'static str
     ensures { result.now ≡ moves_line fault }
 {
@@ -86,6 +90,7 @@ fn moves_line(fault: MovesFault) -> &'static str
     }
 }
 
+/// The line of a replay that was refused.
 fn replay_line(fault: ReplayFault) -> &'static str
     ensures { result.now ≡ replay_line fault }
 {
@@ -95,6 +100,7 @@ fn replay_line(fault: ReplayFault) -> &'static str
     }
 }
 
+/// The line of pipelines or groups that were not built.
 fn build_line(fault: BuildFault) -> &'static str
     ensures { result.now ≡ build_line fault }
 {
@@ -110,6 +116,7 @@ fn build_line(fault: BuildFault) -> &'static str
     }
 }
 
+/// The line of a session that was refused.
 fn session_line(fault: SessionFault) -> &'static str
     ensures { result.now ≡ session_line fault }
 {

@@ -11,21 +11,22 @@ ghost use Rattle.pl_tool.specs.ProgramOutcomes.{RefusesInput, TakesAtMost, Takes
 use super::failure::Failure;
 use pl_event::Stage;
 use pl_head::{MemoryTransport, Transport};
-use pl_replay::Session;
 use pl_stages::Handler;
 use pl_text::{SessionFault, read_session};
+use pl_world::Session;
 use std::alloc::Global;
 use std::io::Read;
 
-/// The longest text of a session, in bytes.
-const MAX_TEXT: usize = 33_554_432;
-/// One byte more than a text may have shows that it is too long.
-const MAX_INPUT: usize = 33_554_433;
+/// How many bytes the text of a session has at most.
+pub(crate) const MAX_SESSION_TEXT: usize = 33_554_432;
+/// How many bytes `run_tool` takes from its reader at most: one more than the text of a session may have shows that it is
+/// too long.
+pub const MAX_INPUT: usize = MAX_SESSION_TEXT + 1;
 /// How many bytes one read asks for at most.
-const CHUNK: usize = 8_192;
+const MAX_READ: usize = 8_192;
 
-/// Makes one read and adds its bytes, and says whether more may come: not at the end. The buffer is the room for them.
-/// An interrupted read adds none.
+/// Makes one read of at most the buffer's length, adds its bytes to the input, and says whether more may come: not at
+/// the end. An interrupted read adds none.
 fn read_chunk<R: Read>(
     reader: &mut R,
     buffer: &mut [u8],
@@ -53,13 +54,13 @@ fn read_chunk<R: Read>(
 fn read_input<R: Read>(reader: &mut R, input: &mut Vec<u8>) -> Result<(), Failure>
     requires { input.old.items ≡ [] }
     ensures taken { OnOk result (Consumes (R.remaining reader.old) (R.remaining reader.new) input.new.items) }
-    ensures whole { OnOk result (length input.new.items < 33554433 → IsAtEnd (R.remaining reader.new)) }
-    ensures at_most { TakesAtMost 33554433 (R.remaining reader.old) (R.remaining reader.new) }
+    ensures whole { OnOk result (length input.new.items < MAX_INPUT → IsAtEnd (R.remaining reader.new)) }
+    ensures at_most { TakesAtMost MAX_INPUT (R.remaining reader.old) (R.remaining reader.new) }
     ensures err { IfErr result (λ e. (e ≡ failure.Input) ⊎ (e ≡ failure.Memory)) }
 {
-    let mut buffer = [0u8; CHUNK];
+    let mut buffer = [0u8; MAX_READ];
     for _ in 0..MAX_INPUT {
-        let room = (MAX_INPUT - input.len()).min(CHUNK);
+        let room = (MAX_INPUT - input.len()).min(MAX_READ);
         if room == 0 {
             return Ok(());
         }
@@ -78,7 +79,7 @@ fn session_in(alloc: Global, input: &[u8]) -> Result<Session, SessionFault>
     ensures means { Answers (seen (plan_of ⟦<Handler as Stage>⟧.meaning ⟦<MemoryTransport as Transport>⟧.state) result) (session_of_bytes input.now) }
     ensures steady { IfOk result (λ session. All IsSteady session.world.channels) }
 {
-    if input.len() > MAX_TEXT {
+    if input.len() > MAX_SESSION_TEXT {
         return Err(SessionFault::Limit);
     }
     match str::from_utf8(input) {
@@ -91,7 +92,7 @@ fn session_in(alloc: Global, input: &[u8]) -> Result<Session, SessionFault>
 pub(crate) fn take_session<R: Read>(alloc: Global, reader: &mut R) -> Result<Session, Failure>
     ensures ok { IfOk result (λ session. TakesSession (R.remaining reader.old) (R.remaining reader.new) (plan_of ⟦<Handler as Stage>⟧.meaning ⟦<MemoryTransport as Transport>⟧.state session)) }
     ensures steady { IfOk result (λ session. All IsSteady session.world.channels) }
-    ensures at_most { TakesAtMost 33554433 (R.remaining reader.old) (R.remaining reader.new) }
+    ensures at_most { TakesAtMost MAX_INPUT (R.remaining reader.old) (R.remaining reader.new) }
     ensures err { IfErr result (λ e. RefusesInput e (R.remaining reader.old) (R.remaining reader.new)) }
 {
     let mut input = Vec::new(alloc);

@@ -7,10 +7,10 @@ use Rattle.pl_build.proofs.splitting.before_turn.Goals as goal
 
 pub returns-in-Some : goal.returns-in-Some
 returns-in-Some g c =
-    let at = position_is (is_turn g.S.Stage.meaning) c.args.handlers.now c.in-Some.place (sym c.place_of_turn.ensures ∙ c.in-Some.is) in
+    let at = position_is (is_turn g.S.Stage.meaning) c.args.handlers.now c.in-Some.index (sym c.turn_index.ensures ∙ c.in-Some.is) in
     ap (λ (n : ℕ). take n c.args.handlers.now) (sym at.0)
 
 pub returns-in-None : goal.returns-in-None
 returns-in-None g c =
-    let past = position_none (is_turn g.S.Stage.meaning) c.args.handlers.now (sym c.place_of_turn.ensures ∙ c.in-None.is) in
+    let past = position_none (is_turn g.S.Stage.meaning) c.args.handlers.now (sym c.turn_index.ensures ∙ c.in-None.is) in
     sym (take_all (position_or_len (is_turn g.S.Stage.meaning) c.args.handlers.now) c.args.handlers.now past)

@@ -8,9 +8,10 @@ use Rattle.pl_build.proofs.splitting.split.Given as goal
 abbrev pub invariant-loop-handler : goal.invariant-loop-handler
 invariant-loop-handler g l = record {
   rest : l.yielded ++ into_iter_items l.handler-iterator ≡ l.fn.handlers.items;
-  inbound : l.inbound.items ≡ map (λ handler. handler.stage) (filter (is_inbound g.S.Stage.meaning) l.yielded);
-  outbound : l.outbound.items ≡ map (λ handler. handler.stage) (filter (is_outbound g.S.Stage.meaning) (before_turn g.S.Stage.meaning l.yielded));
+  inbound : l.chains.inbound.items ≡ map (λ handler. handler.stage) (filter (is_inbound g.S.Stage.meaning) l.yielded);
+  outbound : l.chains.outbound.items ≡ map (λ handler. handler.stage) (filter (is_outbound g.S.Stage.meaning) (before_turn g.S.Stage.meaning l.yielded));
+  turn : l.chains.turn ≡ length (filter (is_inbound g.S.Stage.meaning) (before_turn g.S.Stage.meaning l.yielded));
   is_before : l.is_before ≡ list_all (λ handler. not (is_turn g.S.Stage.meaning handler)) l.yielded;
-  inbound_room : length l.fn.handlers.items ≤ vec_capacity l.inbound;
-  outbound_room : length l.fn.handlers.items ≤ vec_capacity l.outbound;
+  inbound_room : length l.fn.handlers.items ≤ vec_capacity l.chains.inbound;
+  outbound_room : length l.fn.handlers.items ≤ vec_capacity l.chains.outbound;
 }

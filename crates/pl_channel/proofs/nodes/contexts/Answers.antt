@@ -4,7 +4,8 @@ use Rattle.std.proofs.lemmas.List.{map-append}
 use Rattle.pl_event.specs.Meaning.{Meaning}
 use Rattle.pl_context.specs.ContextViews.{ContextView}
 use Rattle.pl_channel.specs.ContextStand.{ContextStands}
-use Rattle.pl_channel.proofs.NodeStarts.{slice_get-push, starts-stand}
+use Rattle.pl_event.proofs.Lists.{slice_get-push}
+use Rattle.pl_channel.proofs.NodeStarts.{starts-stand}
 use Rattle.pl_channel.proofs.nodes.contexts.Goals as goal
 
 pub loop-stage-preserved : goal.loop-stage-preserved

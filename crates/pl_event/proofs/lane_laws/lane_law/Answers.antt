@@ -22,15 +22,15 @@ returns-clause-written c = λ inbound out input.
     ∙ ap (λ (n : ℕ). out_through (take n out) (written inbound input)) none
 
 pub returns-clause-outbound : goal.returns-clause-outbound
-returns-clause-outbound c = λ inbound out input place m at_place.
-    let within = slice_get_within out place m at_place in
-    let next : length inbound + 2 + place - length inbound - 1 ≡ place + 1 = omega arith in
-    let here : length inbound + 1 + place - length inbound - 1 ≡ place = omega arith in
-    lane-far inbound out input (length inbound + 2 + place) (omega arith)
+returns-clause-outbound c = λ inbound out input index m at_index.
+    let within = slice_get_within out index m at_index in
+    let next : length inbound + 2 + index - length inbound - 1 ≡ index + 1 = omega arith in
+    let here : length inbound + 1 + index - length inbound - 1 ≡ index = omega arith in
+    lane-far inbound out input (length inbound + 2 + index) (omega arith)
     ∙ ap (λ (n : ℕ). out_through (take n out) (written inbound input)) next
-    ∙ ap (λ (ms : List Meaning). out_through ms (written inbound input)) (take_more out place m within ∙ ap (λ (n : Meaning). take place out ++ n ∷ []) (get_or_from_slice_get out place m m at_place))
-    ∙ through_by-push down_of (take place out) m (written inbound input)
-    ∙ ap (down_of m) (sym (lane-far inbound out input (length inbound + 1 + place) (omega arith) ∙ ap (λ (n : ℕ). out_through (take n out) (written inbound input)) here))
+    ∙ ap (λ (ms : List Meaning). out_through ms (written inbound input)) (take_more out index m within ∙ ap (λ (n : Meaning). take index out ++ n ∷ []) (get_or_from_slice_get out index m m at_index))
+    ∙ through_by-push down_of (take index out) m (written inbound input)
+    ∙ ap (down_of m) (sym (lane-far inbound out input (length inbound + 1 + index) (omega arith) ∙ ap (λ (n : ℕ). out_through (take n out) (written inbound input)) here))
 
 pub returns-clause-grows : goal.returns-clause-grows
 returns-clause-grows c = λ inbound out input more hop longer. lane-prefix inbound out hop input more longer

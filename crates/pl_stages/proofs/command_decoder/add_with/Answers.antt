@@ -1,17 +1,17 @@
 use Rattle.std.proofs.Common.{arith}
 use Rattle.std.proofs.lemmas.Grind.{common_steps}
 use Rattle.pl_stages.specs.Commands.{key_in, before_space}
-use Rattle.pl_stages.proofs.Spaces.{behind_space-none, before_space-at, behind_space-at}
+use Rattle.pl_stages.proofs.Spaces.{after_space-none, before_space-at, after_space-at}
 use Rattle.pl_stages.proofs.Grammar.{addition_of-no_number}
 use Rattle.pl_stages.proofs.command_decoder.add_with.Goals as goal
 
 pub returns-in-None : goal.returns-in-None
 returns-in-None c =
-    let none = behind_space-none c.args.argument.items (rw c.as_slice.ensures.value at c.in-None.ensures) in
+    let none = after_space-none c.args.argument.items (rw c.as_slice.ensures.value at c.in-None.ensures) in
     rw none (addition_of-no_number (key_in (before_space c.args.argument.items)))
 
 pub returns-in-Some : goal.returns-in-Some
 returns-in-Some c =
     let name = before_space-at c.args.argument.items c.in-Some.end (rw c.as_slice.ensures.value at c.in-Some.ensures) in
-    let number = behind_space-at c.args.argument.items c.in-Some.end (rw c.as_slice.ensures.value at c.in-Some.ensures) in
+    let number = after_space-at c.args.argument.items c.in-Some.end (rw c.as_slice.ensures.value at c.in-Some.ensures) in
     rw (name, number) (grind (arith, common_steps))

@@ -1,14 +1,14 @@
-use Rattle.pl_stages.proofs.Spaces.{before_space-none, behind_space-none, before_space-at, behind_space-at}
+use Rattle.pl_stages.proofs.Spaces.{before_space-none, after_space-none, before_space-at, after_space-at}
 use Rattle.pl_stages.proofs.command_decoder.command_of.Goals as goal
 
 pub returns-in-None : goal.returns-in-None
 returns-in-None c =
     let none = rw c.as_slice.ensures.value at c.in-None.ensures in
-    rw (before_space-none c.args.line.items none, behind_space-none c.args.line.items none)
+    rw (before_space-none c.args.line.items none, after_space-none c.args.line.items none)
     (rw c.as_slice-in-None.ensures.value at c.command_alone.ensures)
 
 pub returns-in-Some : goal.returns-in-Some
 returns-in-Some c =
     let first = rw c.as_slice.ensures.value at c.in-Some.ensures in
-    rw (before_space-at c.args.line.items c.in-Some.end first, behind_space-at c.args.line.items c.in-Some.end first)
+    rw (before_space-at c.args.line.items c.in-Some.end first, after_space-at c.args.line.items c.in-Some.end first)
     c.command_followed.ensures

@@ -9,24 +9,25 @@ use Rattle.pl_event.specs.Paths.{is_turn}
 use Rattle.pl_world.specs.Plans.{channel_planned}
 use Rattle.pl_world.specs.Reports.{tail_of, head_of}
 use Rattle.pl_head.specs.Writes.{out, outcomes}
-use Rattle.pl_world.proofs.Parting.{list_any_map, parted_new}
+use Rattle.pl_event.proofs.Lists.{list_any-map}
+use Rattle.pl_world.proofs.Parting.{parted_new}
 use Rattle.pl_world.proofs.PathLanes.{tail_is, head_is}
 use Rattle.pl_world.proofs.composing.whole.Goals as goal
 
 pub feed_up-requires : goal.feed_up-requires
 feed_up-requires g c =
     let parted = c.in_ok-before.field-0 in
-    record { new = (parted_new g.S.Stage.stands_after c.into_chains-inbound.result.0.items parted.before.items parted.turn parted.behind.items c.in_ok-before.ensures.whole c.into_chains-inbound.ensures.new_inbound).0 }
+    record { new = (parted_new g.S.Stage.stands_after c.into_chains-inbound.result.0.items parted.before.items parted.turn parted.after.items c.in_ok-before.ensures.whole c.into_chains-inbound.ensures.new_inbound).0 }
 
 pub pass-requires : goal.pass-requires
 pass-requires g c =
     let parted = c.in_ok-before.field-0 in
-    record { new = (parted_new g.S.Stage.stands_after c.into_chains-inbound.result.0.items parted.before.items parted.turn parted.behind.items c.in_ok-before.ensures.whole c.into_chains-inbound.ensures.new_inbound).1 }
+    record { new = (parted_new g.S.Stage.stands_after c.into_chains-inbound.result.0.items parted.before.items parted.turn parted.after.items c.in_ok-before.ensures.whole c.into_chains-inbound.ensures.new_inbound).1 }
 
 pub feed_up-requires-2 : goal.feed_up-requires-2
 feed_up-requires-2 g c =
     let parted = c.in_ok-before.field-0 in
-    record { new = (parted_new g.S.Stage.stands_after c.into_chains-inbound.result.0.items parted.before.items parted.turn parted.behind.items c.in_ok-before.ensures.whole c.into_chains-inbound.ensures.new_inbound).2 }
+    record { new = (parted_new g.S.Stage.stands_after c.into_chains-inbound.result.0.items parted.before.items parted.turn parted.after.items c.in_ok-before.ensures.whole c.into_chains-inbound.ensures.new_inbound).2 }
 
 pub returns-clause-whole : goal.returns-clause-whole
 returns-clause-whole g c =
@@ -35,24 +36,24 @@ returns-clause-whole g c =
     let parted = c.in_ok-before.field-0 in
     let before : List Meaning = map meaning parted.before.items in
     let turn : Meaning = meaning parted.turn in
-    let behind : List Meaning = map meaning parted.behind.items in
+    let after : List Meaning = map meaning parted.after.items in
     let input = recorded_input p.bursts in
-    let inbound : p.inbound ≡ before ++ turn ∷ behind =
-    ap (map meaning) (sym c.into_chains-inbound.ensures.inbound ∙ c.in_ok-before.ensures.whole) ∙ map-append meaning parted.before.items (parted.turn ∷ parted.behind.items) in
+    let inbound : p.inbound ≡ before ++ turn ∷ after =
+    ap (map meaning) (sym c.into_chains-inbound.ensures.inbound ∙ c.in_ok-before.ensures.whole) ∙ map-append meaning parted.before.items (parted.turn ∷ parted.after.items) in
     let outbound : map meaning c.into_chains-inbound.result.1.items ≡ p.outbound = ap (map meaning) c.into_chains-inbound.ensures.outbound in
     let none : list_any (λ (m : Meaning). is_turn m.direction) before ≡ false =
-    list_any_map (λ (m : Meaning). is_turn m.direction) meaning parted.before.items ∙ c.in_ok-before.ensures.before in
+    list_any-map (λ (m : Meaning). is_turn m.direction) meaning parted.before.items ∙ c.in_ok-before.ensures.before in
     let at_turn : c.in_ok-at_turn.at_turn.items ≡ through before input = c.in_ok-at_turn.ensures ∙ ap (through before) c.in_ok-input.ensures in
     let up : c.in_ok-made.made.up.items ≡ up_of turn (through before input) = c.in_ok-made.ensures.up ∙ ap (up_of turn) at_turn in
     let down : c.in_ok-made.made.down.items ≡ down_of turn (through before input) = c.in_ok-made.ensures.down ∙ ap (down_of turn) at_turn in
     let tail : c.in_ok-at_tail.at_tail.items ≡ tail_of p =
-    c.in_ok-at_tail.ensures ∙ ap (through behind) up ∙ sym (tail_is before turn behind p.outbound input)
+    c.in_ok-at_tail.ensures ∙ ap (through after) up ∙ sym (tail_is before turn after p.outbound input)
     ∙ ap (λ (ms : List Meaning). tail_lane ms p.outbound input) (sym inbound) in
     let head : c.in_ok-at_head.at_head.items ≡ head_of p =
     c.in_ok-at_head.ensures
     ∙ ap (λ (ms : List Meaning). out_through ms c.in_ok-made.made.down.items) outbound
     ∙ ap (out_through p.outbound) down
-    ∙ sym (head_is before turn behind p.outbound input none c.in_ok-before.ensures.turn)
+    ∙ sym (head_is before turn after p.outbound input none c.in_ok-before.ensures.turn)
     ∙ ap (λ (ms : List Meaning). head_lane ms p.outbound input) (sym inbound) in
     let tail_is_whole = c.from_vec.ensures ∙ tail in
     let bytes = c.in_ok-bytes.ensures.bytes ∙ ap out head in

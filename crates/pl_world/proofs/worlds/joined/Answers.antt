@@ -1,7 +1,7 @@
 use Rattle.std.proofs.Common.{inl, inr, arith}
 use Rattle.std.proofs.lemmas.List.{nil_from_length}
 use Rattle.pl_world.specs.Worlds.{recorded}
-use Rattle.pl_world.proofs.WorldLimits.{none_left, none_beside, none_behind}
+use Rattle.pl_world.proofs.WorldLimits.{no_pipeline_left, no_input_left, no_transport_left}
 use Rattle.pl_world.proofs.worlds.joined.Goals as goal
 
 pub returns : goal.returns
@@ -13,8 +13,8 @@ returns g c =
     let all = recorded c.args.pipelines.items c.args.inputs.items c.args.transports.items in
     elim c.in-None.ensures.steps [
       | inl h ↦ elim h.1 [
-        | inl i ↦ none_left c.loop-pipeline.channels.items pipelines.items inputs.items transports.items all (nil_from_length pipelines.items (omega (arith, i.1.0, pipelines.ok))) c.loop-pipeline.invariant
-        | inr i ↦ none_beside c.loop-pipeline.channels.items pipelines.items inputs.items transports.items all (nil_from_length inputs.items (omega (arith, i.1.0, inputs.ok))) c.loop-pipeline.invariant
+        | inl i ↦ no_pipeline_left c.loop-pipeline.channels.items pipelines.items inputs.items transports.items all (nil_from_length pipelines.items (omega (arith, i.1.0, pipelines.ok))) c.loop-pipeline.invariant
+        | inr i ↦ no_input_left c.loop-pipeline.channels.items pipelines.items inputs.items transports.items all (nil_from_length inputs.items (omega (arith, i.1.0, inputs.ok))) c.loop-pipeline.invariant
       ]
-      | inr h ↦ none_behind c.loop-pipeline.channels.items pipelines.items inputs.items transports.items all (nil_from_length transports.items (omega (arith, h.1.0, transports.ok))) c.loop-pipeline.invariant
+      | inr h ↦ no_transport_left c.loop-pipeline.channels.items pipelines.items inputs.items transports.items all (nil_from_length transports.items (omega (arith, h.1.0, transports.ok))) c.loop-pipeline.invariant
     ]

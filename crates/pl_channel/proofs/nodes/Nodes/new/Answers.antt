@@ -6,8 +6,8 @@ use Rattle.pl_event.specs.Paths.{is_outbound}
 use Rattle.pl_context.specs.TailViews.{TailView, new_tail}
 use Rattle.pl_world.specs.Plans.{content, tail_hop, head_hop}
 use Rattle.pl_channel.specs.TailStand.{TailStands}
-use Rattle.pl_channel.proofs.NodeStarts.{get_or-zeros, inbound-hop, outbound-hop, starts-tail, same-stand, same-tail}
-use Rattle.pl_channel.proofs.NodeSteps.{All-at}
+use Rattle.pl_event.proofs.Lists.{All-at, get_or-replicate_any}
+use Rattle.pl_channel.proofs.NodeStarts.{inbound-hop, outbound-hop, starts-tail, same-stand, same-tail}
 use Rattle.pl_channel.proofs.nodes.Nodes.new.Goals as goal
 
 pub contexts-requires-clause-hops : goal.contexts-requires-clause-hops
@@ -33,8 +33,8 @@ returns-clause-stand g c = λ p in_is out_is head.
     let channel = c.args.channel in
     let zeros : List ℕ = replicate (head_hop p + 1) 0 in
     let flag_zeros : List ℕ = replicate (tail_hop p + 1) 0 in
-    let none = λ (i : ℕ). sym (get_or-zeros (head_hop p + 1) i) in
-    let no_flags = λ (i : ℕ). sym (get_or-zeros (tail_hop p + 1) i) in
+    let none : (i : ℕ) → 0 ≡ get_or zeros i 0 = λ i. sym (get_or-replicate_any (head_hop p + 1) i 0) in
+    let no_flags : (i : ℕ) → 0 ≡ get_or flag_zeros i 0 = λ i. sym (get_or-replicate_any (tail_hop p + 1) i 0) in
     let chain = sym (length-map c.args.inbound.items meaning) ∙ ap (λ (ms : List Meaning). length ms) (sym in_is) in
     let k : c.len-k.result ≡ tail_hop p = omega (arith, c.len-k.ensures, chain) in
     record {

@@ -1,14 +1,14 @@
 use Rattle.std.proofs.Common.{◌≡◌, ℕ, List, map, refl, sym, ap, ◌∙◌, arith}
-use Rattle.std.specs.List.{position_or_len}
 use Rattle.std.proofs.lemmas.List.{length-map}
 use Rattle.pl_event.specs.Meaning.{Meaning}
 use Rattle.pl_event.specs.Paths.{is_turn}
+use Rattle.pl_event.proofs.Lists.{position_or_len-map}
 use Rattle.pl_context.specs.declared.ports.Port.{Port}
 use Rattle.pl_head.specs.Transports.{TransportState}
 use Rattle.pl_world.specs.Plans.{channel_planned, head_hop}
 use Rattle.pl_channel.specs.ChannelStates.{at_rest}
 use Rattle.pl_channel.specs.HeadStand.{HeadStands}
-use Rattle.pl_channel.proofs.PlacedLemmas.{position_or_len-map, stands-plan, stands-placed, recorded-hops, head_rests}
+use Rattle.pl_channel.proofs.PlacedLemmas.{stands-plan, stands-placed, recorded-hops, head_rests}
 use Rattle.pl_channel.proofs.placed_channels.PlacedChannel.new.Goals as goal
 
 pub new-head-requires-clause-fresh : goal.new-head-requires-clause-fresh
@@ -26,13 +26,10 @@ returns-clause-stands g c =
     let head : HeadStands state c.args.number p (at_rest p) c.new-head.result =
     head_rests state c.args.number p c.new-head.result c.args.recorded.transport made.place.0 hop (made.marks.0 ∙ c.low-low.ensures.low) (made.marks.1 ∙ c.high-high.ensures.high)
     made.transport c.requires.uncalled refl made.reads made.taken made.standing made.stands made.failure (ap (λ (q : Port). q.is_open) made.flags) (ap (λ (q : Port). q.lane) made.flags) made.few in
-    let inbound = c.as_slice.ensures.value ∙ chains.inbound in
     record {
       nodes = c.in_ok-new.ensures.stand p (ap (map meaning) (sym chains.inbound)) (ap (map meaning) (sym chains.outbound)) head;
       executors = c.in_ok-executors.ensures.executors;
-      turn =
-          c.turn_hop-turn.ensures ∙ ap (λ (t : List g.row.S.Denot). position_or_len (λ s. is_turn (meaning s).direction) t) inbound
-          ∙ sym (position_or_len-map (λ (m : Meaning). is_turn m.direction) meaning path.inbound);
+      turn = c.turn-turn.ensures.hop ∙ sym (position_or_len-map (λ (m : Meaning). is_turn m.direction) meaning path.inbound);
     }
 
 pub returns-clause-placed : goal.returns-clause-placed

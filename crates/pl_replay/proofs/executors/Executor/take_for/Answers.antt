@@ -2,7 +2,7 @@ use Rattle.std.proofs.Common.{◌<◌, ap, ◌∙◌, refl, arith, List}
 use Rattle.std.specs.List.{remove}
 use Rattle.pl_channel.specs.MadeItems.{Place}
 use Rattle.pl_replay.specs.BacklogStand.{Aged}
-use Rattle.pl_replay.proofs.Firsts.{remove-map}
+use Rattle.pl_event.proofs.Lists.{remove-map}
 use Rattle.pl_replay.proofs.Backlogs.{waiting-at, aged-first, front-envelope, set-stands-less}
 use Rattle.pl_replay.proofs.executors.Executor.take_for.Goals as goal
 

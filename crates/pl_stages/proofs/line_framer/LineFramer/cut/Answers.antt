@@ -1,7 +1,7 @@
 use Rattle.std.proofs.Common.{◌∙◌}
 use Rattle.std.proofs.lemmas.Result.{on_ok_weaker}
 use Rattle.pl_event.specs.Meaning.{IsPrefixOf-trans}
-use Rattle.pl_stages.proofs.Framing.{Resumes-closed, Resumes-open, behind_feed}
+use Rattle.pl_stages.proofs.Framing.{Resumes-closed, Resumes-open, after_feed}
 use Rattle.pl_stages.proofs.line_framer.LineFramer.cut.Goals as goal
 
 pub loop-end-preserved : goal.loop-end-preserved
@@ -10,7 +10,7 @@ loop-end-preserved c = record {
   resumes = λ part none keeps.
       let line = rw (c.loop-end.invariant.max, c.split_at.ensures.front) at c.in_ok-close.ensures.line in
       let empty = rw c.loop-end.invariant.max at c.in_ok-close.ensures.empty in
-      rw (behind_feed c.loop-end.rest.now c.split_at.result.1.now c.in-Some.end c.split_at.ensures.back)
+      rw (after_feed c.loop-end.rest.now c.split_at.result.1.now c.in-Some.end c.split_at.ensures.back)
       (Resumes-closed _ _ _ _ _ _ _ _ _ _ _ (c.loop-end.invariant.resumes part none keeps) c.in-Some.ensures empty line);
   begins = IsPrefixOf-trans _ _ _ c.loop-end.invariant.begins c.close.ensures.begins;
 }

@@ -1,21 +1,44 @@
-use Rattle.std.proofs.Common.{Some, sym, ap, ◌∙◌}
-use Rattle.pl_stages.specs.contracts.handlers.HandlerStage.TheImpl.{meaning-value}
-use Rattle.pl_head.specs.Transports.{TransportState}
+use Rattle.std.proofs.Common.{Some, sym, ap, subst, ◌∙◌}
+use Rattle.pl_stages.specs.declared.handlers.Handler.{Handler}
+use Rattle.pl_stages.specs.contracts.handlers.HandlerStage.TheImpl.{meaning-value, stands_after-value}
+use Rattle.pl_build.specs.Paths.{IsPath}
+use Rattle.pl_build.specs.Executors.{sizes_of}
+use Rattle.pl_build.specs.Refusals.{executor_count}
+use Rattle.pl_head.specs.Transports.{MemoryTransportView, TransportState}
 use Rattle.pl_head.specs.contracts.transports.MemoryTransportTransport.TheImpl.{state-value}
+use Rattle.pl_world.specs.declared.session.Recorded.{Recorded}
+use Rattle.pl_world.specs.Plans.{channel_planned}
+use Rattle.pl_world.specs.Worlds.{FitsWorld}
 use Rattle.pl_world.proofs.WorldLimits.{is_uncalled}
-use Rattle.pl_text.specs.SessionBuilding.{all_edited}
+use Rattle.pl_stages.proofs.HandlerLaws.{handler-thrifty}
+use Rattle.pl_world.proofs.SmallLanes.{channel_small}
+use Rattle.pl_text.specs.SessionBuilding.{all_edited, IsChannelBuilt}
 use Rattle.pl_text.proofs.ChannelSteps.{channel_is_built, pipeline_refused}
 use Rattle.pl_text.proofs.session_text.building.channel_built.Goals as goal
 
 pub returns-in-Ok-clause-built : goal.returns-in-Ok-clause-built
 returns-in-Ok-clause-built c =
     let built = c.in-Ok.ensures in
-    channel_is_built meaning-value.it state-value.it c.args.groups.now c.build.new.groups c.args.channel c.in_ok-builder.builder c.marks.new.self c.in-Ok.pipeline c.new.result _
+    let IsBuilt : Recorded Handler MemoryTransportView → Type 0 =
+    λ r. IsChannelBuilt c.args.groups.now c.build.new.groups c.args.channel (channel_planned meaning-value.it state-value.it r) in
+    subst IsBuilt (sym c.new.ensures.made)
+    (channel_is_built meaning-value.it state-value.it c.args.groups.now c.build.new.groups c.args.channel c.in_ok-builder.builder c.marks.new.self c.in-Ok.pipeline c.new-transport.result _
     (ap (all_edited _) (sym c.as_slice.ensures) ∙ c.in_ok-builder.ensures) (sym c.in_ok-marks.ensures.answer) c.in_ok-marks.ensures.set
-    built.allowed built.inbound_path built.outbound_path built.executors built.marks built.counted (ap (λ (s : TransportState). s.window) c.new.ensures.state)
+    built.allowed built.inbound_path built.outbound_path built.executors built.marks built.counted (ap (λ (s : TransportState). s.window) c.new-transport.ensures.state))
 
 pub returns-in-Ok-clause-fits : goal.returns-in-Ok-clause-fits
-returns-in-Ok-clause-fits c = record { placed = c.in-Ok.ensures.executors_are_there; input = c.requires.bursts; transport = is_uncalled (state-value.it c.new.result) (Some c.args.channel.window) c.new.ensures.state; steady = c.new.ensures.fail_at }
+returns-in-Ok-clause-fits c =
+    let Fits : Recorded Handler MemoryTransportView → Type 0 =
+    FitsWorld meaning-value.it stands_after-value.it state-value.it (executor_count c.args.groups.now.loops (sizes_of c.args.groups.now)) in
+    let path : IsPath meaning-value.it stands_after-value.it c.in-Ok.pipeline =
+    subst (λ (r : Recorded Handler MemoryTransportView). IsPath meaning-value.it stands_after-value.it r.pipeline) c.new.ensures.made c.new.ensures.path in
+    subst Fits (sym c.new.ensures.made) (record {
+      path = path;
+      placed = c.in-Ok.ensures.executors_are_there;
+      input = c.requires.bursts;
+      transport = is_uncalled (state-value.it c.new-transport.result) (Some c.args.channel.window) c.new-transport.ensures.state;
+      small = channel_small meaning-value.it stands_after-value.it state-value.it handler-thrifty (record { pipeline = c.in-Ok.pipeline; bursts = c.args.channel.bursts; transport = c.new-transport.result }) path c.requires.bursts;
+    })
 
 pub returns-clause-refused : goal.returns-clause-refused
 returns-clause-refused c other =

@@ -1,10 +1,11 @@
-use Rattle.std.proofs.Common.{◌≡◌, ℕ, List, ◌∷◌, Ok, refl, sym, ap, ap₂, subst, map, ◌∙◌, arith}
+use Rattle.std.proofs.Common.{◌≡◌, ℕ, List, [], ◌∷◌, Ok, refl, sym, ap, ap₂, subst, map, ◌∙◌, arith}
 use Rattle.std.specs.Prelude.{All}
 use Rattle.std.specs.List.{AllByRecursion}
 use Rattle.std.specs.Vec.Iter.{into_iter_items}
 use Rattle.std.proofs.lemmas.Result.{err_from_is_err_and}
-use Rattle.pl_stages.specs.contracts.handlers.HandlerStage.TheImpl.{meaning-value}
-use Rattle.std.proofs.lemmas.List.Elements.{All-push}
+use Rattle.pl_stages.specs.contracts.handlers.HandlerStage.TheImpl.{meaning-value, stands_after-value}
+use Rattle.std.proofs.lemmas.List.{nil_from_length}
+use Rattle.std.proofs.lemmas.List.Elements.{All-nil, All-push}
 use Rattle.pl_build.specs.Executors.{sizes_of}
 use Rattle.pl_build.specs.Refusals.{executor_count}
 use Rattle.pl_stages.specs.declared.handlers.Handler.{Handler}
@@ -12,10 +13,14 @@ use Rattle.pl_head.specs.Transports.{MemoryTransportView}
 use Rattle.pl_head.specs.contracts.transports.MemoryTransportTransport.TheImpl.{state-value}
 use Rattle.pl_world.specs.declared.session.Recorded.{Recorded}
 use Rattle.pl_world.specs.Plans.{channel_planned}
-use Rattle.pl_text.specs.SessionWorlds.{FitsWorld}
+use Rattle.pl_world.specs.Worlds.{FitsWorld}
+use Rattle.pl_text.specs.SessionWorlds.{IsSteady}
 use Rattle.pl_text.specs.SessionOutlines.{IsChannelOutlineWithin}
-use Rattle.pl_text.proofs.ChannelRuns.{begins, pushed, stops, ends, all_first, nil_from_length}
+use Rattle.pl_text.proofs.ChannelRuns.{begins, pushed, stops, ends, all_first}
 use Rattle.pl_text.proofs.session_text.building.channels_built.Goals as goal
+
+none_yet : (P : Recorded Handler MemoryTransportView → Type 0) (built : List (Recorded Handler MemoryTransportView)) → built ≡ [] → All P built
+none_yet P built none = subst (All P) (sym none) (All-nil P)
 
 pub loop-channel-init : goal.loop-channel-init
 loop-channel-init c =
@@ -25,7 +30,8 @@ loop-channel-init c =
       within = subst (AllByRecursion IsChannelOutlineWithin) (sym all) c.requires.within;
       under_way = begins c.args.groups.now _ c.args.channels _ (ap (map (channel_planned meaning-value.it state-value.it)) c.in_ok-built.ensures.items) all c.requires.unused;
       same = (refl, refl);
-      fit = subst (λ (t : List (Recorded Handler MemoryTransportView)). All (FitsWorld state-value.it (executor_count c.args.groups.now.loops (sizes_of c.args.groups.now))) t) (sym c.in_ok-built.ensures.items) (λ k d below. absurd (omega (arith, below)));
+      fit = none_yet (FitsWorld meaning-value.it stands_after-value.it state-value.it (executor_count c.args.groups.now.loops (sizes_of c.args.groups.now))) c.in_ok-built.built.items c.in_ok-built.ensures.items;
+      steady = none_yet IsSteady c.in_ok-built.built.items c.in_ok-built.ensures.items;
     }
 
 pub channel_built-requires : goal.channel_built-requires
@@ -36,7 +42,8 @@ loop-channel-preserved c =
     let built = c.in_ok-channel_built.ensures in
     let same = c.loop-channel.invariant.same in
     let made = c.in_ok-channel_built.field-0 in
-    let Fits : Recorded Handler MemoryTransportView → Type 0 = FitsWorld state-value.it (executor_count c.args.groups.now.loops (sizes_of c.args.groups.now)) in
+    let FitsAt : ℕ → Recorded Handler MemoryTransportView → Type 0 = FitsWorld meaning-value.it stands_after-value.it state-value.it in
+    let Fits = FitsAt (executor_count c.args.groups.now.loops (sizes_of c.args.groups.now)) in
     let count : executor_count c.loop-channel.groups.loops (sizes_of c.loop-channel.groups) ≡ executor_count c.args.groups.now.loops (sizes_of c.args.groups.now) = ap₂ executor_count same.0 same.1 in
     let next : into_iter_items c.loop-channel.channel-iterator ≡ c.in-Some.channel ∷ into_iter_items c.next.new.self = c.in-Some.ensures.steps.0 in
     record {
@@ -44,8 +51,9 @@ loop-channel-preserved c =
       under_way = pushed meaning-value.it state-value.it c.loop-channel.groups c.channel_built.new.groups c.loop-channel.built.items c.push.new.self.items c.in-Some.channel _ _ c.in_ok-channel_built.field-0 _ built.same_groups built.built next c.in_ok-push.ensures.items c.loop-channel.invariant.under_way;
       same = (built.same_groups.0 ∙ same.0, built.same_groups.1 ∙ same.1);
       fit =
-          subst (λ (t : List (Recorded Handler MemoryTransportView)). All Fits t) (sym c.in_ok-push.ensures.items)
-          (All-push Fits c.loop-channel.built.items made c.loop-channel.invariant.fit (subst (λ (n : ℕ). FitsWorld state-value.it n made) count built.fits));
+          subst (All Fits) (sym c.in_ok-push.ensures.items)
+          (All-push Fits c.loop-channel.built.items made c.loop-channel.invariant.fit (subst (λ (n : ℕ). FitsAt n made) count built.fits));
+      steady = subst (All IsSteady) (sym c.in_ok-push.ensures.items) (All-push IsSteady c.loop-channel.built.items made c.loop-channel.invariant.steady built.steady);
     }
 
 pub returns-in_err-channel_built-clause-built : goal.returns-in_err-channel_built-clause-built

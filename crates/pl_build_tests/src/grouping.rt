@@ -1,0 +1,59 @@
+//! Placing on loops and groups, and groups that are refused.
+
+use crate::sample::{built, line_protocol};
+use pl_build::{BuildFault, Groups};
+use std::test::Fail;
+
+#[test]
+fn group_placing(rt: HostRuntime) -> Result<(), Fail> {
+    let mut groups = Groups::new(rt.alloc(), 1, &[("g", 2)])?;
+    assert_eq!(rt; groups.executors(), 3);
+    for executor in [1, 2, 1] {
+        let placed = built(line_protocol(rt.alloc(), Some("g"))?, &mut groups)?;
+        assert_eq!(rt; placed.inbound(), 3);
+        assert_eq!(rt; placed.outbound(), 2);
+        assert_eq!(rt; placed.turn(), 2);
+        for hop in 0..7u16 {
+            let want = if hop == 1 || hop == 2 { executor } else { 0 };
+            assert_eq!(rt; placed.executor_of(hop), Some(want), "at hop {hop}");
+        }
+        assert_eq!(rt; placed.executor_of(7), None);
+    }
+    Ok(())
+}
+
+#[test]
+fn channels_in_turn_on_loops(rt: HostRuntime) -> Result<(), Fail> {
+    let mut groups = Groups::new(rt.alloc(), 2, &[("a", 1), ("b", 3)])?;
+    for (group, place, executor) in [
+        (None, 0, 0),
+        (Some("b"), 1, 3),
+        (Some("a"), 0, 2),
+        (Some("b"), 1, 4),
+    ] {
+        let placed = built(line_protocol(rt.alloc(), group)?, &mut groups)?;
+        assert_eq!(rt; placed.executor_of(0), Some(place));
+        assert_eq!(rt; placed.executor_of(1), Some(executor));
+        assert_eq!(rt; placed.executor_of(3), Some(place));
+        assert_eq!(rt; placed.executor_of(6), Some(place));
+    }
+    Ok(())
+}
+
+#[test]
+fn group_refusals(rt: HostRuntime) {
+    let cases: [(u16, &[(&str, u16)], BuildFault); 6] = [
+        (0, &[], BuildFault::Limit),
+        (16, &[("g", 1)], BuildFault::Limit),
+        (1, &[("g", 1), ("g", 1)], BuildFault::DuplicateName),
+        (1, &[("g", 1), ("g", 15)], BuildFault::Limit),
+        (1, &[("g", 0)], BuildFault::Limit),
+        (1, &[("", 1)], BuildFault::Limit),
+    ];
+    for (loops, groups, fault) in cases {
+        match Groups::new(rt.alloc(), loops, groups) {
+            Ok(_) => panic!(rt; "they are made"),
+            Err(refused) => assert_eq!(rt; refused, fault),
+        }
+    }
+}

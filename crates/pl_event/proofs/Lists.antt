@@ -1,0 +1,146 @@
+-- Lists through `map`, `filter`, `position`, `set`, a push, and prefixes: what std does not say of them.
+use Rattle.std.proofs.Common.{◌≡◌, ◌≢◌, ℕ, zero, suc, ◌+◌, ◌≤◌, Bool, true, false, ◌||◌, ◌&&◌, not, cond, nat_lt, Option, Some, None, List, [], ◌∷◌, ◌++◌, length, map, filter, reverse, get_or, set, replicate, take, drop, sum_by, sym, refl, ap, ap₂, subst, ◌∙◌, arith, inl, inr, append_assoc}
+use Rattle.std.specs.Prelude.{◌⊎◌}
+use Rattle.std.specs.List.{All, list_any, list_all, take_while, prefix_len, position, position_or_len, insert, remove, count_by, find, slice_get}
+use Rattle.std.specs.Option.{option_map}
+use Rattle.std.proofs.lemmas.List.{map-append, take-map, drop-map, reverse-append, length-map, length-set, length-append, get_or-set_same, get_or-set_other, get_or-replicate, get_or_past, take-take, take-append-drop, take_at, length-replicate}
+use Rattle.std.proofs.lemmas.List.Folds.{fold-map}
+use Rattle.std.proofs.lemmas.List.Elements.{All-get_or, All-nil, All-cons, All-head, All-tail}
+use Rattle.std.proofs.lemmas.Option.{none-some, slice_get_within, slice_get-get_or, get_or_from_slice_get, slice_get_cases}
+use Rattle.std.proofs.lemmas.Bool.{cases_lt, and_parts}
+use Rattle.pl_event.specs.Meaning.{IsPrefixOf}
+
+-- ---- through a map
+
+pub filter-map : {X Y : Type 0} (p : Y → Bool) (f : X → Y) (xs : List X) → filter p (map f xs) ≡ map f (filter (λ x. p (f x)) xs)
+filter-map p f [] = refl
+filter-map p f (x ∷ xs) =
+    let rest = filter-map p f xs in
+    elim (p (f x)) as (λ b. cond b (f x ∷ filter p (map f xs)) (filter p (map f xs)) ≡ map f (cond b (x ∷ filter (λ z. p (f z)) xs) (filter (λ z. p (f z)) xs))) [ true ↦ ap (λ t. f x ∷ t) rest | false ↦ rest ]
+
+pub list_any-map : {X Y : Type 0} (p : Y → Bool) (f : X → Y) (xs : List X) → list_any p (map f xs) ≡ list_any (λ x. p (f x)) xs
+list_any-map p f [] = refl
+list_any-map p f (x ∷ xs) = ap (λ (b : Bool). p (f x) || b) (list_any-map p f xs)
+
+pub sum_by-map : {X Y : Type 0} (g : Y → ℕ) (f : X → Y) (xs : List X) → sum_by g (map f xs) ≡ sum_by (λ x. g (f x)) xs
+sum_by-map g f xs = fold-map (λ a y. a + g y) f 0 xs
+
+pub count_by-map : {X Y : Type 0} (p : Y → Bool) (f : X → Y) (xs : List X) → count_by p (map f xs) ≡ count_by (λ x. p (f x)) xs
+count_by-map p f xs = fold-map (λ a y. a + cond (p y) 1 0) f 0 xs
+
+pub prefix_len-map : {X Y : Type 0} (p : Y → Bool) (f : X → Y) (xs : List X) → prefix_len p (map f xs) ≡ prefix_len (λ x. p (f x)) xs
+prefix_len-map p f [] = refl
+prefix_len-map p f (x ∷ xs) = ap (λ (n : ℕ). cond (p (f x)) (1 + n) 0) (prefix_len-map p f xs)
+
+pub take_while-map : {X Y : Type 0} (p : Y → Bool) (f : X → Y) (xs : List X) → take_while p (map f xs) ≡ map f (take_while (λ x. p (f x)) xs)
+take_while-map p f xs =
+    ap (λ (n : ℕ). take n (map f xs)) (prefix_len-map p f xs) ∙ take-map f (prefix_len (λ x. p (f x)) xs) xs
+
+pub position_or_len-map : {X Y : Type 0} (p : Y → Bool) (f : X → Y) (xs : List X) → position_or_len p (map f xs) ≡ position_or_len (λ x. p (f x)) xs
+position_or_len-map p f xs = prefix_len-map (λ y. not (p y)) f xs
+
+pub position-map : {X Y : Type 0} (p : Y → Bool) (f : X → Y) (xs : List X) → position p (map f xs) ≡ position (λ x. p (f x)) xs
+position-map p f xs =
+    ap₂ (λ (n m : ℕ). cond (nat_lt n m) (Some n) None) (position_or_len-map p f xs) (length-map xs f)
+
+pub option_map-map : {X Y Z : Type 0} (g : Y → Z) (f : X → Y) (o : Option X) → option_map g (option_map f o) ≡ option_map (λ x. g (f x)) o
+option_map-map g f None = refl
+option_map-map g f (Some x) = refl
+
+pub find-map : {X Y : Type 0} (p : Y → Bool) (f : X → Y) (xs : List X) → find p (map f xs) ≡ option_map f (find (λ x. p (f x)) xs)
+find-map p f [] = refl
+find-map p f (x ∷ xs) =
+    elim (p (f x)) as (λ b. cond b (Some (f x)) (find p (map f xs)) ≡ option_map f (cond b (Some x) (find (λ z. p (f z)) xs))) [ true ↦ refl | false ↦ find-map p f xs ]
+
+pub insert-map : {X Y : Type 0} (f : X → Y) (xs : List X) (i : ℕ) (x : X) → insert (map f xs) i (f x) ≡ map f (insert xs i x)
+insert-map f xs i x =
+    ap₂ (λ s t. s ++ f x ∷ t) (take-map f i xs) (drop-map f i xs) ∙ sym (map-append f (take i xs) (x ∷ drop i xs))
+
+pub remove-map : {X Y : Type 0} (f : X → Y) (xs : List X) (i : ℕ) → remove (map f xs) i ≡ map f (remove xs i)
+remove-map f xs i =
+    ap₂ (λ s t. s ++ t) (take-map f i xs) (drop-map f (suc i) xs) ∙ sym (map-append f (take i xs) (drop (suc i) xs))
+
+pub map-reverse : {X Y : Type 0} (f : X → Y) (xs : List X) → map f (reverse xs) ≡ reverse (map f xs)
+map-reverse f [] = refl
+map-reverse f (x ∷ xs) =
+    ap (λ t. map f t) (reverse-append (x ∷ []) xs) ∙ map-append f (reverse xs) (x ∷ []) ∙ ap (λ t. t ++ f x ∷ []) (map-reverse f xs)
+    ∙ sym (reverse-append (f x ∷ []) (map f xs))
+
+-- ---- a list in which one element was replaced, and one that grew
+
+pub slice_get_none : {A : Type 0} (xs : List A) (i : ℕ) → slice_get xs i ≡ None → length xs ≤ i
+slice_get_none xs i none = elim (slice_get_cases xs i).1 [ inl here ↦ absurd (none-some here.0 (sym none ∙ here.2)) | inr past ↦ past.0 ]
+
+pub at_set_same : {A : Type 0} (xs : List A) (i : ℕ) (a x : A) → slice_get (set xs i a) i ≡ Some x → x ≡ a
+at_set_same xs i a x here =
+    let within = slice_get_within (set xs i a) i x here in
+    let size = length-set xs i a in
+    sym (get_or_from_slice_get (set xs i a) i x x here) ∙ get_or-set_same xs i a x (omega (arith, within, size))
+
+pub at_set_other : {A : Type 0} (xs : List A) (i j : ℕ) (a x : A) → j ≢ i → slice_get (set xs i a) j ≡ Some x → slice_get xs j ≡ Some x
+at_set_other {A = A} xs i j a x other here =
+    let within = slice_get_within (set xs i a) j x here in
+    let size = length-set xs i a in
+    slice_get-get_or xs j x (omega (arith, within, size))
+    ∙ ap (λ (z : A). Some z) (sym (get_or-set_other xs i j a x other) ∙ get_or_from_slice_get (set xs i a) j x x here)
+
+-- an element of a list that grew by one is one of those before, or the last
+pub slice_get-push : {A : Type 0} (xs : List A) (x y : A) (i : ℕ) → slice_get (xs ++ x ∷ []) i ≡ Some y → (slice_get xs i ≡ Some y) ⊎ ((i ≡ length xs) × (y ≡ x))
+slice_get-push [] x y zero here = let same : y ≡ x = cc in inr (refl, same)
+slice_get-push [] x y (suc i) here = cc
+slice_get-push (z ∷ zs) x y zero here = inl here
+slice_get-push (z ∷ zs) x y (suc i) here = elim (slice_get-push zs x y i here) [
+  | inl inside ↦ inl inside
+  | inr last ↦ inr (ap (λ (n : ℕ). suc n) last.0, last.1)
+]
+
+pub get_or-replicate_any : {A : Type 0} (n i : ℕ) (a : A) → get_or (replicate n a) i a ≡ a
+get_or-replicate_any n i a = elim (cases_lt i n) [
+  | inl within ↦ get_or-replicate n i a a within
+  | inr past ↦ get_or_past (replicate n a) i a (omega (arith, past, length-replicate n a))
+]
+
+-- ---- each of a list
+
+pub All-at : {A : Type 0} (P : A → Type 0) (xs : List A) (i : ℕ) (x : A) → All P xs → slice_get xs i ≡ Some x → P x
+All-at P xs i x all here =
+    subst P (get_or_from_slice_get xs i x x here) (All-get_or P xs i x (slice_get_within xs i x here) all)
+
+pub All-from_list_all : {X : Type 0} (p : X → Bool) (xs : List X) → list_all p xs ≡ true → All (λ x. p x ≡ true) xs
+All-from_list_all p [] all = All-nil (λ x. p x ≡ true)
+All-from_list_all p (x ∷ xs) all =
+    let parts = and_parts (p x) (list_all p xs) all in
+    All-cons (λ y. p y ≡ true) x xs parts.0 (All-from_list_all p xs parts.1)
+
+pub list_all_push : {X : Type 0} (p : X → Bool) (xs : List X) (x : X) → list_all p (xs ++ x ∷ []) ≡ (list_all p xs && p x)
+list_all_push p [] x = elim (p x) as (λ b. (b && true) ≡ b) [ true ↦ refl | false ↦ refl ]
+list_all_push p (y ∷ xs) x =
+    let tail = list_all_push p xs x in
+    elim (p y) as (λ b. (b && list_all p (xs ++ x ∷ [])) ≡ ((b && list_all p xs) && p x)) [ true ↦ tail | false ↦ refl ]
+
+-- tests that agree on a list find the same
+pub find-agree : {X : Type 0} (p q : X → Bool) (xs : List X) → All (λ x. p x ≡ q x) xs → find p xs ≡ find q xs
+find-agree p q [] same = refl
+find-agree {X} p q (x ∷ xs) same =
+    ap₂ (λ (b : Bool) (o : Option X). cond b (Some x) o) (All-head (λ y. p y ≡ q y) x xs same) (find-agree p q xs (All-tail (λ y. p y ≡ q y) x xs same))
+
+-- ---- prefixes
+
+pub prefix-trans : {A : Type 0} (xs ys zs : List A) → IsPrefixOf xs ys → IsPrefixOf ys zs → IsPrefixOf xs zs
+prefix-trans {A = A} xs ys zs p q = (p.0 ++ q.0, sym (append_assoc xs p.0 q.0) ∙ ap (λ (l : List A). l ++ q.0) p.1 ∙ q.1)
+
+pub length-prefix : {A : Type 0} (xs ys : List A) → IsPrefixOf xs ys → length xs ≤ length ys
+length-prefix {A = A} xs ys p =
+    let size : length ys ≡ length xs + length p.0 = ap (λ (l : List A). length l) (sym p.1) ∙ length-append xs p.0 in
+    omega (arith, size)
+
+pub take-prefix : {A : Type 0} (n k : ℕ) (xs : List A) → n ≤ k → IsPrefixOf (take n xs) (take k xs)
+take-prefix {A = A} n k xs below =
+    (drop n (take k xs), ap (λ (l : List A). l ++ drop n (take k xs)) (sym (take-take n k xs below)) ∙ take-append-drop n (take k xs))
+
+pub take-prefix_whole : {A : Type 0} (n : ℕ) (xs : List A) → IsPrefixOf (take n xs) xs
+take-prefix_whole n xs = (drop n xs, take-append-drop n xs)
+
+-- a list that only grew, cut at its old length, is the old list
+pub take-of_prefix : {A : Type 0} (xs ys : List A) → IsPrefixOf xs ys → take (length xs) ys ≡ xs
+take-of_prefix {A = A} xs ys p = ap (λ (l : List A). take (length xs) l) (sym p.1) ∙ take_at xs p.0 (length xs) refl

@@ -1,0 +1,15 @@
+//! Tests of contexts, of the tail, of outputs and backlogs, and of the head with its transports.
+#![tactic(auto)]
+
+#[cfg(test)]
+mod context_tests;
+#[cfg(test)]
+mod head_tests;
+#[cfg(test)]
+mod input_tests;
+#[cfg(test)]
+mod load_tests;
+#[cfg(test)]
+mod transport_tests;
+#[cfg(test)]
+mod watermark_tests;

@@ -1,0 +1,135 @@
+//! Transports: windows, a call that fails, and one of a user's own.
+
+ghost use Rattle.std.specs.Prelude.{◌≡◌, None};
+ghost use Rattle.pl_head.specs.Transports.{new_state};
+
+use pl_head::{MemoryTransport, Transport, TransportFault};
+use std::alloc::{AllocError, Global};
+use std::test::Fail;
+
+/// A transport of a user's own, which accepts no byte at each odd call and one byte at each even call.
+#[derive(Debug, Drop)]
+pub(crate) struct Trickle {
+    bytes: Vec<u8>,
+    calls: u64,
+    failures: u64,
+}
+
+impl Trickle {
+    pub(crate) fn new(alloc: Global) -> Self
+        ensures { ⟦<Trickle as Transport>⟧.state result ≡ new_state None }
+    {
+        Trickle {
+            bytes: Vec::new(alloc),
+            calls: 0,
+            failures: 0,
+        }
+    }
+}
+
+impl Transport for Trickle {
+    ghost state = { λ t. record { accepted = t.bytes.items; calls = t.calls; failures = t.failures; window = None } };
+
+    fn write(&mut self, bytes: &[u8]) -> Result<usize, TransportFault> {
+        let count = if self.calls % 2 == 0 {
+            0
+        } else {
+            bytes.len().min(1)
+        };
+        self.calls = self.calls.saturating_add(1);
+        if self.bytes.extend_from_slice(&bytes[..count]).is_err() {
+            self.failures = self.failures.saturating_add(1);
+            return Err(TransportFault::Failed);
+        }
+        Ok(count)
+    }
+
+    fn bytes(&self) -> &[u8] {
+        self.bytes.as_slice()
+    }
+}
+
+/// Offers a text again and again, what is left of it each time, and answers what each call answered.
+fn offer<T: Transport>(
+    alloc: Global,
+    transport: &mut T,
+    text: &[u8],
+    calls: usize,
+) -> Result<Vec<Result<usize, TransportFault>>, AllocError> {
+    let mut answers = Vec::new(alloc);
+    let mut offset = 0;
+    for _ in 0..calls {
+        if offset > text.len() {
+            break;
+        }
+        let answer = transport.write(&text[offset..text.len()]);
+        if let Ok(count) = answer {
+            offset = offset.saturating_add(count);
+        }
+        answers.push(answer)?;
+    }
+    Ok(answers)
+}
+
+#[test]
+fn window_of_3(rt: HostRuntime) -> Result<(), Fail> {
+    let alloc = rt.alloc();
+    let mut transport = MemoryTransport::new(alloc, 3, None);
+    let answers = offer(alloc, &mut transport, b"+PONG\r\n", 4)?;
+    assert_eq!(rt; answers.as_slice(), [Ok(3), Ok(3), Ok(1), Ok(0)].as_slice());
+    assert_eq!(rt; transport.bytes(), b"+PONG\r\n".as_slice());
+    assert_eq!(rt;
+        transport.into_bytes(alloc)?.as_slice(),
+        b"+PONG\r\n".as_slice()
+    );
+    Ok(())
+}
+
+#[test]
+fn window_of_1(rt: HostRuntime) -> Result<(), Fail> {
+    let alloc = rt.alloc();
+    let mut transport = MemoryTransport::new(alloc, 1, None);
+    let answers = offer(alloc, &mut transport, b"ab", 3)?;
+    assert_eq!(rt; answers.as_slice(), [Ok(1), Ok(1), Ok(0)].as_slice());
+    assert_eq!(rt; transport.bytes(), b"ab".as_slice());
+    Ok(())
+}
+
+#[test]
+fn window_of_65536(rt: HostRuntime) -> Result<(), Fail> {
+    let alloc = rt.alloc();
+    let mut transport = MemoryTransport::new(alloc, 65_536, None);
+    let text = vec![in alloc; b'x'; 65_537]?;
+    let answers = offer(alloc, &mut transport, text.as_slice(), 2)?;
+    assert_eq!(rt; answers.as_slice(), [Ok(65_536), Ok(1)].as_slice());
+    assert_eq!(rt; transport.bytes().len(), 65_537);
+    Ok(())
+}
+
+#[test]
+fn fails_at_call_2(rt: HostRuntime) -> Result<(), Fail> {
+    let alloc = rt.alloc();
+    let mut transport = MemoryTransport::new(alloc, 4, Some(2));
+    assert_eq!(rt; transport.fail_at(), Some(2));
+    let answers = offer(alloc, &mut transport, b"+PONG\r\n", 3)?;
+    assert_eq!(rt;
+        answers.as_slice(),
+        [Ok(4), Err(TransportFault::Failed), Ok(3)].as_slice()
+    );
+    assert_eq!(rt; transport.bytes(), b"+PONG\r\n".as_slice());
+    Ok(())
+}
+
+#[test]
+fn a_byte_at_every_second_call(rt: HostRuntime) -> Result<(), Fail> {
+    let alloc = rt.alloc();
+    let mut transport = Trickle::new(alloc);
+    let answers = offer(alloc, &mut transport, b"ab", 5)?;
+    assert_eq!(rt;
+        answers.as_slice(),
+        [Ok(0), Ok(1), Ok(0), Ok(1), Ok(0)].as_slice()
+    );
+    assert_eq!(rt; transport.bytes(), b"ab".as_slice());
+    assert_eq!(rt; transport.into_bytes(alloc)?.as_slice(), b"ab".as_slice());
+    Ok(())
+}

@@ -1,0 +1,192 @@
+-- Which handlers are thrifty: any, by what it makes of each event, and the built-in ones.
+use Rattle.std.specs.Prelude.{◌≡◌, ℕ, ◌+◌, ◌*◌, ◌≤◌, List, [], ◌∷◌, ◌++◌, length, map, drop, Bool, true, false, ◌==◌, nat_le, Result, Ok, Err, if◌then◌else◌}
+use Rattle.std.proofs.Common.{ap, arith, length-append}
+use Rattle.std.proofs.lemmas.List.{length-map, length-drop, drop-map}
+use Rattle.std.proofs.lemmas.List.Sums.{sum_by-append, sum_by-cons}
+use Rattle.pl_event.specs.declared.events.Event.{Event}
+use Rattle.pl_event.specs.declared.events.Event.TheVariants.{Active, Read, ReadComplete, Caught, Write, Flush}
+use Rattle.pl_event.specs.declared.events.Message.TheVariants.{Bytes, Line, Command, Reply}
+use Rattle.pl_event.specs.declared.events.Command.{Command as CommandKind}
+use Rattle.pl_event.specs.declared.events.Command.TheVariants.{Ping, Quit, Echo, Add, Get}
+use Rattle.pl_event.specs.declared.events.Caught.{Caught as CaughtKind}
+use Rattle.pl_event.specs.declared.events.Caught.TheVariants.{TooLong}
+use Rattle.pl_event.specs.declared.stages.Direction.TheVariants.{Outbound}
+use Rattle.pl_event.specs.Meaning.{Meaning, made_after}
+use Rattle.pl_event.specs.Mappings.{mapping_up, mapping_down}
+use Rattle.pl_stages.specs.Counts.{IsThrifty, event_weight, weight}
+use Rattle.pl_stages.specs.LineFraming.{line_framing, line_framing_up, onto_first_part, closed_parts, lines_of, framed, without_return, joined}
+use Rattle.pl_stages.specs.Commands.{command_decoding, command_of, decoded, read_as}
+use Rattle.pl_stages.specs.Service.{line_service, has_quit, replies_to, accepted, Addition}
+use Rattle.pl_stages.specs.Replies.{reply_encoding, encoded}
+use Rattle.pl_stages.specs.LineEnding.{line_ending, with_line_end}
+use Rattle.pl_stages.specs.Flushes.{flush_every, passes}
+
+-- at most n events for each one
+length-made_after-le : (f : List Event → Event → List Event) (n : ℕ)
+    → ((before : List Event) (x : Event) → length (f before x) ≤ n)
+    → (before xs : List Event) → length (made_after f before xs) ≤ n * length xs
+length-made_after-le f n each before [] = omega arith
+length-made_after-le f n each before (x ∷ xs) =
+    let first = each before x in
+    let rest = length-made_after-le f n each (before ++ x ∷ []) xs in
+    omega (arith, first, rest, length-append (f before x) (made_after f (before ++ x ∷ []) xs))
+
+-- no more weight for each one
+weight-made_after-le : (f : List Event → Event → List Event)
+    → ((before : List Event) (x : Event) → weight (f before x) ≤ event_weight x)
+    → (before xs : List Event) → weight (made_after f before xs) ≤ weight xs
+weight-made_after-le f each before [] = omega arith
+weight-made_after-le f each before (x ∷ xs) =
+    let first = each before x in
+    let rest = weight-made_after-le f each (before ++ x ∷ []) xs in
+    let made = sum_by-append event_weight (f before x) (made_after f (before ++ x ∷ []) xs) in
+    let taken = sum_by-cons event_weight x xs in
+    omega (arith, first, rest, made, taken)
+
+-- A handler is thrifty where what it makes of each event weighs no more, and is at most two events downwards, of an
+-- outbound handler at most one.
+pub thrifty : (m : Meaning)
+    → ((before : List Event) (x : Event) → weight (m.up before x) ≤ event_weight x)
+    → ((before : List Event) (x : Event) → length (m.down before x) ≤ 2)
+    → (m.direction ≡ Outbound → (before : List Event) (x : Event) → length (m.down before x) ≤ 1)
+    → IsThrifty m
+thrifty m up down out = record {
+  upwards = weight-made_after-le m.up up [];
+  downwards = length-made_after-le m.down 2 down [];
+  outbound = λ e xs. let h = length-made_after-le m.down 1 (out e) [] xs in omega (arith, h);
+}
+
+-- one event of no greater weight for each one
+pub mapping_up-thrifty : (f : Event → Event) → ((x : Event) → event_weight (f x) ≤ event_weight x) → IsThrifty (mapping_up f)
+mapping_up-thrifty f each =
+    thrifty (mapping_up f) (λ before x. let h = each x in omega (arith, h)) (λ before x. omega arith) (λ e before x. omega arith)
+
+pub mapping_down-thrifty : (f : Event → Event) → IsThrifty (mapping_down f)
+mapping_down-thrifty f =
+    thrifty (mapping_down f) (λ before x. omega arith) (λ before x. omega arith) (λ e before x. omega arith)
+
+part_more : (is_feed : Bool) (b : ℕ) (parts more : List (List ℕ)) (n : ℕ) → length more ≤ length parts + n
+    → length (if is_feed then [] ∷ more else onto_first_part b more) ≤ length (if is_feed then [] ∷ parts else onto_first_part b parts) + n
+part_more true b parts more n h = omega arith
+part_more false b [] [] n h = omega arith
+part_more false b [] (m ∷ more) n h = omega arith
+part_more false b (p ∷ parts) [] n h = omega arith
+part_more false b (p ∷ parts) (m ∷ more) n h = omega arith
+
+part_first : (is_feed : Bool) (b : ℕ) (parts : List (List ℕ)) (n : ℕ) → length parts ≤ n
+    → length (if is_feed then [] ∷ parts else onto_first_part b parts) ≤ n + 1
+part_first true b parts n h = omega arith
+part_first false b [] n h = omega arith
+part_first false b (p ∷ parts) n h = omega arith
+
+length-closed_parts-le : (bytes : List ℕ) → length (closed_parts bytes) ≤ length bytes
+length-closed_parts-le [] = omega arith
+length-closed_parts-le (b ∷ bs) =
+    let h = part_first (b == 10) b (closed_parts bs) (length bs) (length-closed_parts-le bs) in omega (arith, h)
+
+-- each byte more closes at most one part
+length-closed_parts-append-le : (xs ys : List ℕ) → length (closed_parts (xs ++ ys)) ≤ length (closed_parts xs) + length ys
+length-closed_parts-append-le [] ys = let h = length-closed_parts-le ys in omega (arith, h)
+length-closed_parts-append-le (b ∷ bs) ys =
+    part_more (b == 10) b (closed_parts bs) (closed_parts (bs ++ ys)) (length ys) (length-closed_parts-append-le bs ys)
+
+-- a line weighs one
+framed_weight : (fits : Bool) (line : List ℕ) → event_weight (if fits then Read (Line line) else Caught TooLong) ≤ 1
+framed_weight true line = omega arith
+framed_weight false line = omega arith
+
+line_weight : (max : ℕ) (part : List ℕ) → event_weight (framed max part) ≤ 1
+line_weight max part = framed_weight (nat_le (length (without_return part)) max) (without_return part)
+
+lines_weight : (max : ℕ) (parts : List (List ℕ)) → weight (map (framed max) parts) ≤ length parts
+lines_weight max [] = omega arith
+lines_weight max (part ∷ parts) =
+    let first = line_weight max part in
+    let rest = lines_weight max parts in
+    omega (arith, first, rest, sum_by-cons event_weight (framed max part) (map (framed max) parts))
+
+lines_more : (max : ℕ) (xs ys : List ℕ) → weight (drop (length (lines_of max xs)) (lines_of max (xs ++ ys))) ≤ length ys
+lines_more max xs ys =
+    let fewer = length-closed_parts-append-le xs ys in
+    let n = length (lines_of max xs) in
+    let lines = length-map (closed_parts xs) (framed max) in
+    let later = drop n (closed_parts (xs ++ ys)) in
+    let light = lines_weight max later in
+    let same = ap weight (drop-map (framed max) n (closed_parts (xs ++ ys))) in
+    omega (arith, fewer, lines, light, same, length-drop n (closed_parts (xs ++ ys)))
+
+framed_more : (max : ℕ) (xs : List Event) (x : Event) → weight (line_framing_up max xs x) ≤ event_weight x
+framed_more max xs (Read (Bytes b)) = let h = lines_more max (joined xs) b in omega (arith, h)
+framed_more max xs (Read (Line b)) = omega arith
+framed_more max xs (Read (Command c)) = omega arith
+framed_more max xs (Read (Reply r)) = omega arith
+framed_more max xs Active = omega arith
+framed_more max xs ReadComplete = omega arith
+framed_more max xs (Caught c) = omega arith
+framed_more max xs (Write m) = omega arith
+framed_more max xs Flush = omega arith
+
+pub line_framing-thrifty : (max : ℕ) → IsThrifty (line_framing max)
+line_framing-thrifty max =
+    thrifty (line_framing max) (framed_more max) (λ before x. omega arith) (λ e before x. omega arith)
+
+read_as_weight : (r : Result CommandKind CaughtKind) → event_weight (read_as r) ≤ 1
+read_as_weight (Ok c) = omega arith
+read_as_weight (Err c) = omega arith
+
+decoded_weight : (x : Event) → event_weight (decoded x) ≤ event_weight x
+decoded_weight (Read (Line line)) = read_as_weight (command_of line)
+decoded_weight (Read (Bytes b)) = omega arith
+decoded_weight (Read (Command c)) = omega arith
+decoded_weight (Read (Reply r)) = omega arith
+decoded_weight Active = omega arith
+decoded_weight ReadComplete = omega arith
+decoded_weight (Caught c) = omega arith
+decoded_weight (Write m) = omega arith
+decoded_weight Flush = omega arith
+
+pub command_decoding-thrifty : IsThrifty command_decoding
+command_decoding-thrifty = mapping_up-thrifty decoded decoded_weight
+
+unless_quit : (quits : Bool) (xs : List Event) (n : ℕ) → length xs ≤ n → length (if quits then [] else xs) ≤ n
+unless_quit true xs n h = omega arith
+unless_quit false xs n h = h
+
+passed_weight : (quits : Bool) (x : Event) → weight (if quits then [] else x ∷ []) ≤ event_weight x
+passed_weight true x = omega arith
+passed_weight false x = omega arith
+
+replies_few : (additions : List Addition) (x : Event) → length (replies_to additions x) ≤ 2
+replies_few additions (Read (Command Ping)) = omega arith
+replies_few additions (Read (Command Quit)) = omega arith
+replies_few additions (Read (Command (Echo text))) = omega arith
+replies_few additions (Read (Command (Add key n))) = omega arith
+replies_few additions (Read (Command (Get key))) = omega arith
+replies_few additions (Read (Bytes b)) = omega arith
+replies_few additions (Read (Line b)) = omega arith
+replies_few additions (Read (Reply r)) = omega arith
+replies_few additions Active = omega arith
+replies_few additions ReadComplete = omega arith
+replies_few additions (Caught c) = omega arith
+replies_few additions (Write m) = omega arith
+replies_few additions Flush = omega arith
+
+pub line_service-thrifty : IsThrifty line_service
+line_service-thrifty =
+    thrifty line_service (λ before x. passed_weight (has_quit before) x)
+    (λ before x. unless_quit (has_quit before) (replies_to (accepted before) x) 2 (replies_few (accepted before) x)) (λ e before x. cc)
+
+pub reply_encoding-thrifty : IsThrifty reply_encoding
+reply_encoding-thrifty = mapping_down-thrifty encoded
+
+pub line_ending-thrifty : IsThrifty line_ending
+line_ending-thrifty = mapping_down-thrifty with_line_end
+
+one_or_none : (is : Bool) (x : Event) (n : ℕ) → 1 ≤ n → length (if is then x ∷ [] else []) ≤ n
+one_or_none true x n h = omega arith
+one_or_none false x n h = omega arith
+
+pub flush_every-thrifty : (n : ℕ) → IsThrifty (flush_every n)
+flush_every-thrifty n =
+    thrifty (flush_every n) (λ before x. omega arith) (λ before x. one_or_none (passes n before x) x 2 (omega arith))
+    (λ e before x. one_or_none (passes n before x) x 1 (omega arith))

@@ -1,0 +1,427 @@
+//! The worked examples of `docs/FORMATS.md`, by the steps of the handlers.
+
+use pl_event::{
+    ByteString, Caught, Command, Event, Fault, Fused, Key, Message, Reply, Stage, Turned,
+};
+use pl_stages::{
+    CommandDecoder, FlushEvery, Handler, LineEnd, LineFramer, LineService, ReplyEncoder,
+    add_reply_text,
+};
+use std::alloc::{AllocError, Global};
+use std::test::Fail;
+
+fn text(alloc: Global, bytes: &[u8]) -> Result<ByteString, AllocError> {
+    Ok(ByteString::from_vec(Vec::from_slice(alloc, bytes)?))
+}
+
+fn chunk(alloc: Global, bytes: &[u8]) -> Result<Event, AllocError> {
+    Ok(Event::Read(Message::Bytes(text(alloc, bytes)?)))
+}
+
+fn echo(alloc: Global, bytes: &[u8]) -> Result<Event, AllocError> {
+    Ok(Event::Read(Message::Command(Command::Echo(text(alloc, bytes)?))))
+}
+
+fn ping_command() -> Event {
+    Event::Read(Message::Command(Command::Ping))
+}
+
+fn quit_command() -> Event {
+    Event::Read(Message::Command(Command::Quit))
+}
+
+fn key(alloc: Global, name: &[u8]) -> Result<Key, Fail> {
+    Ok(Key::new(text(alloc, name)?).ok_or("no key")?)
+}
+
+fn add(alloc: Global, name: &[u8], number: u32) -> Result<Event, Fail> {
+    Ok(Event::Read(Message::Command(Command::Add(key(alloc, name)?, number))))
+}
+
+fn get(alloc: Global, name: &[u8]) -> Result<Event, Fail> {
+    Ok(Event::Read(Message::Command(Command::Get(key(alloc, name)?))))
+}
+
+fn written(reply: Reply) -> Event {
+    Event::Write(Message::Reply(reply))
+}
+
+/// What a handler makes of events: upwards and downwards.
+fn made(
+    alloc: Global,
+    handler: Handler,
+    events: Vec<Event>,
+) -> Result<(Vec<Event>, Vec<Event>), Fail> {
+    let mut handler = handler;
+    let mut up = Vec::new(alloc);
+    let mut down = Vec::new(alloc);
+    for event in events {
+        handler.step(event, &mut up, &mut down)?;
+    }
+    Ok((up, down))
+}
+
+/// What reaches the tail of the line protocol, and what bytes reach its head.
+fn served(alloc: Global, max: usize, events: Vec<Event>) -> Result<(Vec<Event>, Vec<u8>), Fail> {
+    let framer = LineFramer::new(alloc, max)?;
+    let (lines, _) = made(alloc, Handler::Lines(framer), events)?;
+    let (commands, _) = made(alloc, Handler::Decode(CommandDecoder::new()), lines)?;
+    let (tail, replies) = made(alloc, Handler::Service(LineService::new(alloc)), commands)?;
+    let (_, texts) = made(alloc, Handler::Encode(ReplyEncoder::new()), replies)?;
+    let (_, ended) = made(alloc, Handler::LineEnd(LineEnd::new()), texts)?;
+    let mut bytes = Vec::new(alloc);
+    for event in &ended {
+        if let Event::Write(Message::Bytes(text)) = event {
+            bytes.extend_from_slice(text.as_slice())?;
+        }
+    }
+    Ok((tail, bytes))
+}
+
+#[test]
+fn ping(rt: HostRuntime) -> Result<(), Fail> {
+    let alloc = rt.alloc();
+    let events = vec![in alloc;
+        Event::Active,
+        chunk(alloc, b"PING\r\n")?,
+        Event::ReadComplete,
+    ]?;
+    let (tail, bytes) = served(alloc, 64, events)?;
+    assert_eq!(rt;
+        tail,
+        vec![in alloc; Event::Active, ping_command(), Event::ReadComplete]?
+    );
+    assert_eq!(rt; bytes.as_slice(), b"+PONG\r\n".as_slice());
+    Ok(())
+}
+
+#[test]
+fn line_across_bursts(rt: HostRuntime) -> Result<(), Fail> {
+    let alloc = rt.alloc();
+    let events = vec![in alloc;
+        Event::Active,
+        chunk(alloc, b"PI")?,
+        Event::ReadComplete,
+        chunk(alloc, b"NG\n")?,
+        Event::ReadComplete,
+    ]?;
+    let (tail, bytes) = served(alloc, 64, events)?;
+    let wanted = vec![in alloc;
+        Event::Active,
+        Event::ReadComplete,
+        ping_command(),
+        Event::ReadComplete,
+    ]?;
+    assert_eq!(rt; tail, wanted);
+    assert_eq!(rt; bytes.as_slice(), b"+PONG\r\n".as_slice());
+    Ok(())
+}
+
+#[test]
+fn cr_and_lf_apart(rt: HostRuntime) -> Result<(), Fail> {
+    let alloc = rt.alloc();
+    let events = vec![in alloc; chunk(alloc, b"PING\r")?, chunk(alloc, b"\n")?]?;
+    let (tail, bytes) = served(alloc, 4, events)?;
+    assert_eq!(rt; tail, vec![in alloc; ping_command()]?);
+    assert_eq!(rt; bytes.as_slice(), b"+PONG\r\n".as_slice());
+    Ok(())
+}
+
+#[test]
+fn line_too_long(rt: HostRuntime) -> Result<(), Fail> {
+    let alloc = rt.alloc();
+    let (tail, bytes) = served(alloc, 3, vec![in alloc; chunk(alloc, b"PING\n")?]?)?;
+    assert_eq!(rt; tail, vec![in alloc; Event::Caught(Caught::TooLong)]?);
+    assert_eq!(rt; bytes.as_slice(), b"-ERR toolong\r\n".as_slice());
+    Ok(())
+}
+
+#[test]
+fn echo_and_faults(rt: HostRuntime) -> Result<(), Fail> {
+    let alloc = rt.alloc();
+    let (tail, bytes) = served(
+        alloc,
+        64,
+        vec![in alloc; chunk(alloc, b"ECHO \nECHO\n\n")?]?,
+    )?;
+    let wanted = vec![in alloc;
+        echo(alloc, b"")?,
+        Event::Caught(Caught::Syntax),
+        Event::Caught(Caught::Unknown),
+    ]?;
+    assert_eq!(rt; tail, wanted);
+    assert_eq!(rt;
+        bytes.as_slice(),
+        b"+\r\n-ERR syntax\r\n-ERR unknown\r\n".as_slice()
+    );
+    Ok(())
+}
+
+#[test]
+fn cr_inside_line(rt: HostRuntime) -> Result<(), Fail> {
+    let alloc = rt.alloc();
+    let (tail, bytes) = served(alloc, 64, vec![in alloc; chunk(alloc, b"ECHO a\r\r\n")?]?)?;
+    assert_eq!(rt; tail, vec![in alloc; echo(alloc, b"a\r")?]?);
+    assert_eq!(rt; bytes.as_slice(), b"+a\r\r\n".as_slice());
+    Ok(())
+}
+
+#[test]
+fn totals(rt: HostRuntime) -> Result<(), Fail> {
+    let alloc = rt.alloc();
+    let lines = chunk(alloc, b"ADD a 7\nADD b 1\nADD a 5\nGET a\n")?;
+    let (tail, bytes) = served(alloc, 64, vec![in alloc; lines]?)?;
+    let wanted = vec![in alloc;
+        add(alloc, b"a", 7)?,
+        add(alloc, b"b", 1)?,
+        add(alloc, b"a", 5)?,
+        get(alloc, b"a")?,
+    ]?;
+    assert_eq!(rt; tail, wanted);
+    assert_eq!(rt; bytes.as_slice(), b":7\r\n:1\r\n:12\r\n:12\r\n".as_slice());
+    Ok(())
+}
+
+#[test]
+fn leading_zero(rt: HostRuntime) -> Result<(), Fail> {
+    let alloc = rt.alloc();
+    let (tail, bytes) = served(alloc, 64, vec![in alloc; chunk(alloc, b"ADD a 0123\n")?]?)?;
+    assert_eq!(rt; tail, vec![in alloc; Event::Caught(Caught::Syntax)]?);
+    assert_eq!(rt; bytes.as_slice(), b"-ERR syntax\r\n".as_slice());
+    Ok(())
+}
+
+#[test]
+fn nine_digits(rt: HostRuntime) -> Result<(), Fail> {
+    let alloc = rt.alloc();
+    let lines = chunk(alloc, b"ADD a 999999999\nADD a 1234567890\nGET zz\n")?;
+    let (_, bytes) = served(alloc, 64, vec![in alloc; lines]?)?;
+    assert_eq!(rt;
+        bytes.as_slice(),
+        b":999999999\r\n-ERR syntax\r\n:0\r\n".as_slice()
+    );
+    Ok(())
+}
+
+#[test]
+fn quit(rt: HostRuntime) -> Result<(), Fail> {
+    let alloc = rt.alloc();
+    let events = vec![in alloc;
+        Event::Active,
+        chunk(alloc, b"PING\nQUIT\nPING\nPI")?,
+        Event::ReadComplete,
+    ]?;
+    let (tail, bytes) = served(alloc, 64, events)?;
+    assert_eq!(rt;
+        tail,
+        vec![in alloc; Event::Active, ping_command(), quit_command()]?
+    );
+    assert_eq!(rt; bytes.as_slice(), b"+PONG\r\n+BYE\r\n".as_slice());
+    Ok(())
+}
+
+/// What the decoder makes of one line.
+fn decoded(alloc: Global, line: &[u8]) -> Result<Option<Event>, Fail> {
+    let mut decoder = CommandDecoder::new();
+    let mut up = Vec::new(alloc);
+    let mut down = Vec::new(alloc);
+    let line = Event::Read(Message::Line(text(alloc, line)?));
+    decoder.step(line, &mut up, &mut down)?;
+    Ok(up.pop())
+}
+
+#[test]
+fn forms_of_commands(rt: HostRuntime) -> Result<(), Fail> {
+    let alloc = rt.alloc();
+    let zero = Some(add(alloc, b"k", 0)?);
+    assert_eq!(rt; decoded(alloc, b"ADD k 0")?, zero);
+    let digits = Some(add(alloc, b"0", 10)?);
+    assert_eq!(rt; decoded(alloc, b"ADD 0 10")?, digits);
+    let longest = Some(get(alloc, b"abcdefghijklmnop")?);
+    assert_eq!(rt; decoded(alloc, b"GET abcdefghijklmnop")?, longest);
+    assert_eq!(rt; decoded(alloc, b"QUIT")?, Some(quit_command()));
+    Ok(())
+}
+
+#[test]
+fn wrong_forms_of_commands(rt: HostRuntime) -> Result<(), Fail> {
+    let alloc = rt.alloc();
+    for line in [
+        "PING ",
+        "QUIT now",
+        "ECHO",
+        "ADD",
+        "ADD ",
+        "ADD k",
+        "ADD k ",
+        "ADD  1",
+        "ADD k  1",
+        "ADD k 1 ",
+        "ADD k +1",
+        "ADD k 00",
+        "ADD k 1a",
+        "ADD K 1",
+        "ADD abcdefghijklmnopq 1",
+        "GET",
+        "GET ",
+        "GET k ",
+        "GET K",
+    ] {
+        let made = decoded(alloc, line.as_bytes())?;
+        assert_eq!(rt; made, Some(Event::Caught(Caught::Syntax)), "of {line:?}");
+    }
+    Ok(())
+}
+
+#[test]
+fn unknown_verbs(rt: HostRuntime) -> Result<(), Fail> {
+    let alloc = rt.alloc();
+    for line in ["", " PING", "ping", "PINGS", "ADDS k 1", "GETk"] {
+        let made = decoded(alloc, line.as_bytes())?;
+        assert_eq!(rt; made, Some(Event::Caught(Caught::Unknown)), "of {line:?}");
+    }
+    Ok(())
+}
+
+/// The last that a service writes in answer to an event.
+fn answer(
+    alloc: Global,
+    service: &mut Fused<LineService>,
+    event: Event,
+) -> Result<Option<Event>, Fail> {
+    let mut up = Vec::new(alloc);
+    let mut down = Vec::new(alloc);
+    service.step(event, &mut up, &mut down)?;
+    Ok(down.pop())
+}
+
+#[test]
+fn service_limits(rt: HostRuntime) -> Result<(), Fail> {
+    let alloc = rt.alloc();
+    let mut service = LineService::new(alloc);
+    for _ in 0..999_999 {
+        answer(alloc, &mut service, add(alloc, b"a", 999_999_999)?)?;
+    }
+    let largest = Some(written(Reply::Total(999_999_999_000_000)));
+    let range = Some(written(Reply::Error(Fault::Range)));
+    let event = add(alloc, b"a", 999_999_999)?;
+    assert_eq!(rt; answer(alloc, &mut service, event)?, largest);
+    let event = add(alloc, b"a", 999_999_999)?;
+    assert_eq!(rt; answer(alloc, &mut service, event)?, range);
+    let event = get(alloc, b"a")?;
+    assert_eq!(rt; answer(alloc, &mut service, event)?, largest);
+
+    let event = add(alloc, b"a", 1_000_001)?;
+    assert_eq!(rt; answer(alloc, &mut service, event)?, range);
+    let event = add(alloc, b"a", 1_000_000)?;
+    let whole = Some(written(Reply::Total(1_000_000_000_000_000)));
+    assert_eq!(rt; answer(alloc, &mut service, event)?, whole);
+    Ok(())
+}
+
+/// A service that holds 256 keys, each by an addition of this number.
+fn full_service(alloc: Global, number: u32) -> Result<Fused<LineService>, Fail> {
+    let mut service = LineService::new(alloc);
+    for high in b'a'..=b'p' {
+        for low in b'a'..=b'p' {
+            answer(alloc, &mut service, add(alloc, &[high, low], number)?)?;
+        }
+    }
+    Ok(service)
+}
+
+#[test]
+fn key_limit(rt: HostRuntime) -> Result<(), Fail> {
+    let alloc = rt.alloc();
+    let full = Some(written(Reply::Error(Fault::Full)));
+    let mut service = full_service(alloc, 1)?;
+    let event = add(alloc, b"other", 1)?;
+    assert_eq!(rt; answer(alloc, &mut service, event)?, full);
+    let event = get(alloc, b"other")?;
+    let nothing = Some(written(Reply::Total(0)));
+    assert_eq!(rt; answer(alloc, &mut service, event)?, nothing);
+    let event = add(alloc, b"aa", 1)?;
+    let two = Some(written(Reply::Total(2)));
+    assert_eq!(rt; answer(alloc, &mut service, event)?, two);
+
+    // An addition of 0 makes a key held, too.
+    let mut service = full_service(alloc, 0)?;
+    let event = add(alloc, b"other", 1)?;
+    assert_eq!(rt; answer(alloc, &mut service, event)?, full);
+    Ok(())
+}
+
+#[test]
+fn flush_every(rt: HostRuntime) -> Result<(), Fail> {
+    let alloc = rt.alloc();
+    for (n, passed) in [(1, 5), (2, 2), (5, 1), (6, 0)] {
+        let handler = Handler::FlushEvery(FlushEvery::new(n)?);
+        let mut events = Vec::new(alloc);
+        let mut wanted = Vec::new(alloc);
+        for count in 1..=5 {
+            events.push(written(Reply::Pong))?;
+            wanted.push(written(Reply::Pong))?;
+            events.push(Event::Flush)?;
+            if count % n == 0 {
+                wanted.push(Event::Flush)?;
+            }
+        }
+        let (up, down) = made(alloc, handler, events)?;
+        assert_eq!(rt; up.is_empty(), true);
+        assert_eq!(rt; down, wanted, "every {n}");
+        assert_eq!(rt; down.len(), 5 + passed, "every {n}");
+    }
+    Ok(())
+}
+
+#[test]
+fn limits_of_flush_every(rt: HostRuntime) {
+    for (n, is_made) in [(0, false), (1, true), (65_535, true), (65_536, false)] {
+        assert_eq!(rt; FlushEvery::new(n).is_ok(), is_made, "at {n}");
+    }
+}
+
+#[test]
+fn limits_of_lines(rt: HostRuntime) {
+    for (max, is_made) in [(0, false), (1, true), (8192, true), (8193, false)] {
+        assert_eq!(rt;
+            LineFramer::new(rt.alloc(), max).is_ok(),
+            is_made,
+            "at {max}"
+        );
+    }
+}
+
+#[test]
+fn quits_once(rt: HostRuntime) -> Result<(), Fail> {
+    let alloc = rt.alloc();
+    let mut service = Handler::Service(LineService::new(alloc));
+    let mut up = Vec::new(alloc);
+    let mut down = Vec::new(alloc);
+    assert_eq!(rt;
+        service.step(quit_command(), &mut up, &mut down)?,
+        Turned::Ended
+    );
+    assert_eq!(rt;
+        service.step(ping_command(), &mut up, &mut down)?,
+        Turned::Ended
+    );
+    assert_eq!(rt; up, vec![in alloc; quit_command()]?);
+    assert_eq!(rt; down, vec![in alloc; written(Reply::Bye), Event::Flush]?);
+    Ok(())
+}
+
+#[test]
+fn texts_of_replies(rt: HostRuntime) -> Result<(), Fail> {
+    let alloc = rt.alloc();
+    let mut text = Vec::new(alloc);
+    add_reply_text(&mut text, &Reply::Total(999_999_999_000_000))?;
+    add_reply_text(&mut text, &Reply::Bye)?;
+    add_reply_text(&mut text, &Reply::Error(Fault::Range))?;
+    add_reply_text(&mut text, &Reply::Error(Fault::Full))?;
+    assert_eq!(rt;
+        text.as_slice(),
+        b":999999999000000+BYE-ERR range-ERR full".as_slice()
+    );
+    Ok(())
+}

@@ -1,9 +1,0 @@
-use Rattle.std.proofs.Common.{◌≡◌, ◌+◌, take}
-use Rattle.pl_world.specs.Limits.{chunk_count, byte_count}
-use Rattle.pl_text.proofs.session_text.channels.fits.Given as goal
-
-abbrev pub invariant-loop-burst : goal.invariant-loop-burst
-invariant-loop-burst l = record {
-  chunks : l.chunks + chunk_count (take l.burst-index l.bursts) ≡ 16384;
-  bytes : l.bytes + byte_count (take l.burst-index l.bursts) ≡ 1048576;
-}

@@ -1,0 +1,190 @@
+//! The printed text of reports.
+
+use pl_event::{
+    ByteString, Caught, Cause, Command, Event, Fault, Key, Message, Outcome, Reply, Sequence,
+};
+use pl_text::print_report;
+use pl_world::{ChannelReport, Report, Stands};
+use std::test::Fail;
+
+const PING: &str = "channel 0 drained
+tail 3
+Active
+Read Ping
+ReadComplete
+bytes 7 2b504f4e470d0a
+writes 1
+0 Success
+";
+
+const NO_BURSTS: &str = "channel 0 drained
+tail 1
+Active
+bytes 0 -
+writes 0
+";
+
+const TRANSPORT_FAULT: &str = "channel 0 failed Transport
+tail 3
+Active
+Read Ping
+ReadComplete
+bytes 4 2b504f4e
+writes 1
+0 Fault
+";
+
+const EVERY_EVENT: &str = "channel 0 open
+tail 17
+Active
+Read Ping
+Read Quit
+Read Echo -
+Read Echo 610d
+Read Add a7 999999999
+Read Get zz
+Caught TooLong
+Caught Unknown
+Caught Syntax
+Read Bytes 00ff
+Write Line 0d
+Write Reply 2b504f4e47
+Write Reply 3a31323334353637383930
+Write Reply 2d4552522072616e6765
+Flush
+ReadComplete
+bytes 0 -
+writes 3
+0 Open
+1 Closed
+2 Unsupported
+channel 1 failed Refused
+tail 0
+bytes 0 -
+writes 0
+";
+
+fn bytes(rt: &HostRuntime, text: &[u8]) -> Result<ByteString, Fail> {
+    Ok(ByteString::from_vec(Vec::from_slice(rt.alloc(), text)?))
+}
+
+fn key(rt: &HostRuntime, name: &[u8]) -> Result<Key, Fail> {
+    Ok(Key::new(bytes(rt, name)?).ok_or("no key")?)
+}
+
+fn channel(
+    stands: Stands,
+    tail: Vec<Event>,
+    bytes: ByteString,
+    writes: Vec<Option<Outcome>>,
+) -> ChannelReport {
+    ChannelReport {
+        stands,
+        tail: Sequence::from_vec(tail),
+        bytes,
+        writes: Sequence::from_vec(writes),
+    }
+}
+
+fn after_ping(
+    rt: &HostRuntime,
+    stands: Stands,
+    sent: &[u8],
+    outcome: Outcome,
+) -> Result<ChannelReport, Fail> {
+    let tail = vec![in rt.alloc();
+        Event::Active,
+        Event::Read(Message::Command(Command::Ping)),
+        Event::ReadComplete,
+    ]?;
+    let writes = vec![in rt.alloc(); Some(outcome)]?;
+    Ok(channel(stands, tail, bytes(rt, sent)?, writes))
+}
+
+fn printed(rt: &HostRuntime, channels: Vec<ChannelReport>) -> Result<Vec<u8>, Fail> {
+    let report = Report {
+        channels: Sequence::from_vec(channels),
+    };
+    let mut text = Vec::new(rt.alloc());
+    print_report(rt.alloc(), &report, &mut text)?;
+    Ok(text)
+}
+
+#[test]
+fn ping(rt: HostRuntime) -> Result<(), Fail> {
+    let channel = after_ping(&rt, Stands::Drained, b"+PONG\r\n", Outcome::Success)?;
+    let text = printed(&rt, vec![in rt.alloc(); channel]?)?;
+    assert_eq!(rt; text.as_slice(), PING.as_bytes());
+    Ok(())
+}
+
+#[test]
+fn no_bursts(rt: HostRuntime) -> Result<(), Fail> {
+    let tail = vec![in rt.alloc(); Event::Active]?;
+    let channel = channel(
+        Stands::Drained,
+        tail,
+        bytes(&rt, b"")?,
+        Vec::new(rt.alloc()),
+    );
+    let text = printed(&rt, vec![in rt.alloc(); channel]?)?;
+    assert_eq!(rt; text.as_slice(), NO_BURSTS.as_bytes());
+    Ok(())
+}
+
+#[test]
+fn transport_fault(rt: HostRuntime) -> Result<(), Fail> {
+    let stands = Stands::Failed(Cause::Transport);
+    let channel = after_ping(&rt, stands, b"+PON", Outcome::Fault)?;
+    let text = printed(&rt, vec![in rt.alloc(); channel]?)?;
+    assert_eq!(rt; text.as_slice(), TRANSPORT_FAULT.as_bytes());
+    Ok(())
+}
+
+#[test]
+fn no_channels(rt: HostRuntime) -> Result<(), Fail> {
+    let text = printed(&rt, Vec::new(rt.alloc()))?;
+    assert_eq!(rt; text.len(), 0);
+    Ok(())
+}
+
+#[test]
+fn every_event(rt: HostRuntime) -> Result<(), Fail> {
+    let mut tail = Vec::new(rt.alloc());
+    tail.push(Event::Active)?;
+    for command in [
+        Command::Ping,
+        Command::Quit,
+        Command::Echo(bytes(&rt, b"")?),
+        Command::Echo(bytes(&rt, b"a\r")?),
+        Command::Add(key(&rt, b"a7")?, 999_999_999),
+        Command::Get(key(&rt, b"zz")?),
+    ] {
+        tail.push(Event::Read(Message::Command(command)))?;
+    }
+    for caught in [Caught::TooLong, Caught::Unknown, Caught::Syntax] {
+        tail.push(Event::Caught(caught))?;
+    }
+    tail.push(Event::Read(Message::Bytes(bytes(&rt, b"\x00\xff")?)))?;
+    tail.push(Event::Write(Message::Line(bytes(&rt, b"\r")?)))?;
+    for reply in [
+        Reply::Pong,
+        Reply::Total(1_234_567_890),
+        Reply::Error(Fault::Range),
+    ] {
+        tail.push(Event::Write(Message::Reply(reply)))?;
+    }
+    tail.push(Event::Flush)?;
+    tail.push(Event::ReadComplete)?;
+    let writes = vec![in rt.alloc(); None, Some(Outcome::Closed), Some(Outcome::Unsupported)]?;
+    let open = channel(Stands::Open, tail, bytes(&rt, b"")?, writes);
+    let refused = channel(
+        Stands::Failed(Cause::Refused),
+        Vec::new(rt.alloc()),
+        bytes(&rt, b"")?,
+        Vec::new(rt.alloc()),
+    );
+    let text = printed(&rt, vec![in rt.alloc(); open, refused]?)?;
+    assert_eq!(rt; text.as_slice(), EVERY_EVENT.as_bytes());
+    Ok(())
+}

@@ -1,0 +1,809 @@
+//! Session texts: what is read from them, and which fault is answered first.
+
+use pl_build::BuildFault;
+use pl_text::{MAX_SESSION_TEXT, SessionFault, read_session};
+use std::test::Fail;
+
+/// One PING through the line protocol.
+const PING: &str = r#"{"version":1,"capacity":4,"loops":1,"channels":[{"handlers":[
+{"op":"last","name":"lines","kind":"lines","max":64},
+{"op":"last","name":"decode","kind":"decode"},
+{"op":"last","name":"lineend","kind":"lineend"},
+{"op":"last","name":"encode","kind":"encode"},
+{"op":"last","name":"service","kind":"service"}],
+"bursts":[["PING\r\n"]]}]}"#;
+
+/// What a text is refused for.
+fn refusal(rt: &HostRuntime, text: &str) -> Option<SessionFault> {
+    read_session(rt.alloc(), text).err()
+}
+
+/// A session of one channel with these edits, and with what follows its bursts.
+fn with_edits(rt: &HostRuntime, edits: &str, more: &str) -> Result<String, Fail> {
+    Ok(format!(in rt.alloc();
+        "{{\"version\":1,\"capacity\":4,\"loops\":1,\"channels\":[{{\"handlers\":[{edits}],\"bursts\":[]{more}}}]}}"
+    )?)
+}
+
+const SERVICE: &str = r#"{"op":"last","name":"service","kind":"service"}"#;
+
+#[test]
+fn ping_session(rt: HostRuntime) -> Result<(), Fail> {
+    let session = read_session(rt.alloc(), PING)?;
+    assert_eq!(rt; session.capacity, 4);
+    assert_eq!(rt; session.world.executors(), 1);
+    let channels = session.world.channels();
+    assert_eq!(rt; channels.len(), 1);
+    assert_eq!(rt; channels[0].pipeline.inbound(), 3);
+    assert_eq!(rt; channels[0].pipeline.outbound(), 2);
+    assert_eq!(rt; channels[0].pipeline.low(), 32_768);
+    assert_eq!(rt; channels[0].pipeline.high(), 65_536);
+    let bursts = channels[0].bursts.as_slice();
+    assert_eq!(rt; bursts.len(), 1);
+    let chunks = bursts[0].as_slice();
+    assert_eq!(rt; chunks.len(), 1);
+    assert_eq!(rt; chunks[0].as_slice(), b"PING\r\n".as_slice());
+    Ok(())
+}
+
+#[test]
+fn no_channels(rt: HostRuntime) -> Result<(), Fail> {
+    let text =
+        r#"{"version":1,"capacity":1,"loops":3,"groups":[{"name":"g","size":2}],"channels":[]}"#;
+    let session = read_session(rt.alloc(), text)?;
+    assert_eq!(rt; session.world.executors(), 5);
+    assert_eq!(rt; session.world.channels().len(), 0);
+    Ok(())
+}
+
+#[test]
+fn refused_sessions(rt: HostRuntime) {
+    for (text, fault) in [
+        (r#"{"version":1"#, SessionFault::NotJson),
+        ("[]", SessionFault::Kind),
+        (r#"{"version":9}"#, SessionFault::Version),
+        (r#"{"version":1}"#, SessionFault::Missing),
+        (r#"{"version":1,"capacity":0}"#, SessionFault::Limit),
+    ] {
+        assert_eq!(rt;
+            read_session(rt.alloc(), text).err(),
+            Some(fault),
+            "at {text}"
+        );
+    }
+}
+
+#[test]
+fn truncated_session(rt: HostRuntime) -> Result<(), Fail> {
+    for end in 0..PING.len() {
+        let prefix = PING.get(..end).ok_or("the session is ASCII")?;
+        assert_eq!(rt;
+            read_session(rt.alloc(), prefix).err(),
+            Some(SessionFault::NotJson),
+            "at {prefix}"
+        );
+    }
+    let deep = "[".repeat(rt.alloc(), 200)?;
+    assert_eq!(rt;
+        read_session(rt.alloc(), deep.as_str()).err(),
+        Some(SessionFault::NotJson)
+    );
+    Ok(())
+}
+
+/// Parts of the top object, each put for another.
+const HOSTILE_MEMBERS: &[(&str, &str, Option<SessionFault>)] = &[
+    (
+        r#""version":1"#,
+        r#""version":1.5"#,
+        Some(SessionFault::Kind),
+    ),
+    (
+        r#""version":1"#,
+        r#""version":"1""#,
+        Some(SessionFault::Kind),
+    ),
+    (
+        r#""version":1"#,
+        r#""version":0"#,
+        Some(SessionFault::Version),
+    ),
+    (
+        r#""version":1"#,
+        r#""version":null"#,
+        Some(SessionFault::Kind),
+    ),
+    (
+        r#""capacity":4"#,
+        r#""capacity":null"#,
+        Some(SessionFault::Kind),
+    ),
+    (r#""capacity":4"#, r#""capacity":65536"#, None),
+    (
+        r#""capacity":4"#,
+        r#""capacity":65537"#,
+        Some(SessionFault::Limit),
+    ),
+    (r#""loops":1"#, r#""loops":16"#, None),
+    (r#""loops":1"#, r#""loops":17"#, Some(SessionFault::Limit)),
+    (r#""loops":1"#, r#""loops":0"#, Some(SessionFault::Limit)),
+    (
+        r#""loops":1"#,
+        r#""loops":1,"groups":7"#,
+        Some(SessionFault::Kind),
+    ),
+    (
+        r#""loops":1"#,
+        r#""loops":1,"groups":[7]"#,
+        Some(SessionFault::Kind),
+    ),
+    (r#""loops":1"#, r#""loops":1,"groups":[]"#, None),
+    (r#""loops":1"#, r#""loops":1,"groups":null"#, None),
+    (
+        r#""loops":1"#,
+        r#""loops":1,"groups":[{"name":"g"}]"#,
+        Some(SessionFault::Missing),
+    ),
+    (
+        r#""loops":1"#,
+        r#""loops":1,"groups":[{"size":7,"name":null}]"#,
+        Some(SessionFault::Kind),
+    ),
+    (
+        r#""loops":1"#,
+        r#""loops":1,"groups":[{"name":"g","size":65536}]"#,
+        Some(SessionFault::Limit),
+    ),
+    (
+        r#"[{"handlers""#,
+        r#"[7,{"handlers""#,
+        Some(SessionFault::Kind),
+    ),
+    (r#"{"handlers""#, r#"{"more""#, Some(SessionFault::Missing)),
+];
+
+/// Parts of an edit.
+const HOSTILE_EDITS: &[(&str, &str, Option<SessionFault>)] = &[
+    (
+        r#""op":"last","name":"decode""#,
+        r#""name":"decode""#,
+        Some(SessionFault::Missing),
+    ),
+    (
+        r#""op":"last","name":"decode""#,
+        r#""op":"Last","name":"decode""#,
+        Some(SessionFault::Kind),
+    ),
+    (
+        r#""op":"last","name":"decode""#,
+        r#""op":"first","name":7"#,
+        Some(SessionFault::Kind),
+    ),
+    (
+        r#""op":"last","name":"decode""#,
+        r#""op":"before","name":"decode""#,
+        Some(SessionFault::Missing),
+    ),
+    (
+        r#""op":"last","name":"decode""#,
+        r#""op":"after","name":"decode","at":null"#,
+        Some(SessionFault::Kind),
+    ),
+    (r#""name":"decode""#, r#""name":"other""#, None),
+    (
+        r#""kind":"decode""#,
+        r#""kind":"length""#,
+        Some(SessionFault::Kind),
+    ),
+    (
+        r#""kind":"decode""#,
+        r#""kind":"flush_every""#,
+        Some(SessionFault::Missing),
+    ),
+    (
+        r#""kind":"decode""#,
+        r#""kind":"flush_every","n":0"#,
+        Some(SessionFault::Limit),
+    ),
+    (
+        r#""kind":"decode""#,
+        r#""kind":"flush_every","n":65536"#,
+        Some(SessionFault::Limit),
+    ),
+    (
+        r#""kind":"decode""#,
+        r#""kind":"flush_every","n":65535"#,
+        None,
+    ),
+    (
+        r#""kind":"decode""#,
+        r#""kind":"decode","group":null"#,
+        None,
+    ),
+    (
+        r#""kind":"decode""#,
+        r#""kind":"decode","group":7"#,
+        Some(SessionFault::Kind),
+    ),
+    (r#""max":64"#, r#""max":0"#, Some(SessionFault::Limit)),
+    (r#""max":64"#, r#""max":8192"#, None),
+    (r#""max":64"#, r#""max":8193"#, Some(SessionFault::Limit)),
+    (r#""max":64"#, r#""max":null"#, Some(SessionFault::Kind)),
+];
+
+/// Parts of a channel.
+const HOSTILE_CHANNELS: &[(&str, &str, Option<SessionFault>)] = &[
+    (r#""bursts":"#, r#""low":null,"high":null,"bursts":"#, None),
+    (
+        r#""bursts":"#,
+        r#""high":"8","bursts":"#,
+        Some(SessionFault::Kind),
+    ),
+    (r#""bursts":"#, r#""high":1073741824,"bursts":"#, None),
+    (
+        r#""bursts":"#,
+        r#""high":1073741825,"bursts":"#,
+        Some(SessionFault::Limit),
+    ),
+    (
+        r#""bursts":"#,
+        r#""low":1073741825,"bursts":"#,
+        Some(SessionFault::Limit),
+    ),
+    (r#""bursts":"#, r#""low":0,"high":0,"bursts":"#, None),
+    (
+        r#""bursts":"#,
+        r#""window":"x","bursts":"#,
+        Some(SessionFault::Kind),
+    ),
+    (
+        r#""bursts":"#,
+        r#""window":0,"bursts":"#,
+        Some(SessionFault::Limit),
+    ),
+    (r#""bursts":"#, r#""window":1,"bursts":"#, None),
+    (r#""bursts":"#, r#""window":65536,"bursts":"#, None),
+    (
+        r#""bursts":"#,
+        r#""window":65537,"bursts":"#,
+        Some(SessionFault::Limit),
+    ),
+    (
+        r#""bursts":"#,
+        r#""window":1.5,"bursts":"#,
+        Some(SessionFault::Kind),
+    ),
+    (
+        r#""bursts":"#,
+        r#""fail_at":1,"bursts":"#,
+        Some(SessionFault::Limit),
+    ),
+    (
+        r#""bursts":"#,
+        r#""abort_after":1,"bursts":"#,
+        Some(SessionFault::Limit),
+    ),
+    (
+        r#""bursts":"#,
+        r#""window":null,"fail_at":null,"abort_after":null,"bursts":"#,
+        None,
+    ),
+    (
+        r#""bursts":[["PING\r\n"]]"#,
+        r#""bursts":[["PING"],[7]]"#,
+        Some(SessionFault::Kind),
+    ),
+    (
+        r#""bursts":[["PING\r\n"]]"#,
+        r#""bursts":7"#,
+        Some(SessionFault::Kind),
+    ),
+    (
+        r#""bursts":[["PING\r\n"]]"#,
+        r#""bursts":null"#,
+        Some(SessionFault::Kind),
+    ),
+];
+
+/// Each is the session of one PING with one part of its text put for another.
+#[test]
+fn hostile_members(rt: HostRuntime) -> Result<(), Fail> {
+    for (part, other, fault) in HOSTILE_MEMBERS {
+        let text = PING.replace(rt.alloc(), part, other)?;
+        assert_eq!(rt; refusal(&rt, text.as_str()), *fault, "at {other}");
+    }
+    Ok(())
+}
+
+#[test]
+fn hostile_edits(rt: HostRuntime) -> Result<(), Fail> {
+    for (part, other, fault) in HOSTILE_EDITS {
+        let text = PING.replace(rt.alloc(), part, other)?;
+        assert_eq!(rt; refusal(&rt, text.as_str()), *fault, "at {other}");
+    }
+    Ok(())
+}
+
+#[test]
+fn hostile_channels(rt: HostRuntime) -> Result<(), Fail> {
+    for (part, other, fault) in HOSTILE_CHANNELS {
+        let text = PING.replace(rt.alloc(), part, other)?;
+        assert_eq!(rt; refusal(&rt, text.as_str()), *fault, "at {other}");
+    }
+    Ok(())
+}
+
+#[test]
+fn numbers_that_are_not_whole(rt: HostRuntime) -> Result<(), Fail> {
+    for number in ["1.0", "1e0", "-0", "-1", "18446744073709551616", "true"] {
+        for part in [r#""loops":1"#, r#""max":64"#] {
+            let (member, _) = part.split_once(':').ok_or("a member has a colon")?;
+            let other = format!(in rt.alloc(); "{member}:{number}")?;
+            let text = PING.replace(rt.alloc(), part, other.as_str())?;
+            assert_eq!(rt;
+                refusal(&rt, text.as_str()),
+                Some(SessionFault::Kind),
+                "at {other}"
+            );
+        }
+    }
+    Ok(())
+}
+
+#[test]
+fn texts_that_are_no_json(rt: HostRuntime) -> Result<(), Fail> {
+    for (part, other) in [
+        (r#""name":"decode""#, r#""name":"\ud800""#),
+        (r#""loops":1"#, r#""loops":1e999"#),
+        ("{\"version\"", "\u{feff}{\"version\""),
+        ("]}]}", "]}]} 7"),
+    ] {
+        let text = PING.replace(rt.alloc(), part, other)?;
+        assert_eq!(rt;
+            refusal(&rt, text.as_str()),
+            Some(SessionFault::NotJson),
+            "at {other}"
+        );
+    }
+    Ok(())
+}
+
+/// Of equal keys the last counts.
+#[test]
+fn equal_keys(rt: HostRuntime) -> Result<(), Fail> {
+    let text = PING.replace(rt.alloc(), r#""loops":1"#, r#""loops":"x","loops":2"#)?;
+    let session = read_session(rt.alloc(), text.as_str())?;
+    assert_eq!(rt; session.world.executors(), 2);
+    Ok(())
+}
+
+/// The first fault in reading order is the answer.
+#[test]
+fn reading_order(rt: HostRuntime) -> Result<(), Fail> {
+    let edit_7 = r#"{"op":"fly","name":7,"at":7,"kind":7}"#;
+    for (text, fault) in [
+        (r#"{"capacity":0,"version":2}"#, SessionFault::Version),
+        (
+            r#"{"version":1,"capacity":1,"loops":0,"groups":7}"#,
+            SessionFault::Limit,
+        ),
+        (
+            r#"{"version":1,"capacity":1,"loops":1,"groups":[{"name":"g","size":65536},7]}"#,
+            SessionFault::Limit,
+        ),
+        (
+            r#"{"version":1,"capacity":1,"loops":1,"channels":[{"low":0},{"handlers":7}]}"#,
+            SessionFault::Missing,
+        ),
+        (
+            r#"{"version":1,"capacity":1,"loops":1,"channels":[{"handlers":[],"high":-1,"low":1073741825}]}"#,
+            SessionFault::Limit,
+        ),
+    ] {
+        assert_eq!(rt; refusal(&rt, text), Some(fault), "at {text}");
+    }
+    for (edit, fault) in [
+        (edit_7, SessionFault::Kind),
+        (
+            r#"{"op":"before","name":"a","kind":7}"#,
+            SessionFault::Missing,
+        ),
+        (
+            r#"{"op":"last","name":"a","kind":"lines","max":0,"group":7}"#,
+            SessionFault::Limit,
+        ),
+        (
+            r#"{"op":"after","name":"a","at":"b","max":0,"n":0}"#,
+            SessionFault::Missing,
+        ),
+    ] {
+        let text = with_edits(&rt, edit, "")?;
+        assert_eq!(rt; refusal(&rt, text.as_str()), Some(fault), "at {edit}");
+    }
+    Ok(())
+}
+
+/// Members that an edit does not have may have any value.
+#[test]
+fn members_not_read(rt: HostRuntime) -> Result<(), Fail> {
+    let edits = r#"
+        {"op":"first","name":"a","at":7,"kind":"service","max":"x","n":[]},
+        {"op":"last","name":"b","kind":"decode","max":0},
+        {"op":"remove","name":"b","at":7,"kind":7,"group":7}"#;
+    let session = read_session(rt.alloc(), with_edits(&rt, edits, "")?.as_str())?;
+    let channels = session.world.channels();
+    assert_eq!(rt; channels.len(), 1);
+    assert_eq!(rt; channels[0].pipeline.inbound(), 1);
+    Ok(())
+}
+
+/// After these edits the order is c, a, d.
+#[test]
+fn builder_order(rt: HostRuntime) -> Result<(), Fail> {
+    let edits = r#"
+        {"op":"last","name":"a","kind":"service"},
+        {"op":"first","name":"b","kind":"lines","max":64},
+        {"op":"before","at":"a","name":"c","kind":"lines","max":64},
+        {"op":"after","at":"a","name":"d","kind":"encode"},
+        {"op":"remove","name":"b"}"#;
+    let session = read_session(rt.alloc(), with_edits(&rt, edits, "")?.as_str())?;
+    let channels = session.world.channels();
+    assert_eq!(rt; channels.len(), 1);
+    assert_eq!(rt; channels[0].pipeline.inbound(), 2);
+    assert_eq!(rt; channels[0].pipeline.outbound(), 0);
+    assert_eq!(rt; channels[0].pipeline.executor_of(3), Some(0));
+    assert_eq!(rt; channels[0].pipeline.executor_of(4), None);
+    Ok(())
+}
+
+/// Outbound handlers before the turn count, and those after it do not.
+#[test]
+fn edit_sides(rt: HostRuntime) -> Result<(), Fail> {
+    for (edit, outbound) in [
+        (r#"{"op":"first","name":"e","kind":"encode"}"#, 1),
+        (r#"{"op":"last","name":"e","kind":"encode"}"#, 0),
+        (
+            r#"{"op":"before","at":"service","name":"e","kind":"encode"}"#,
+            1,
+        ),
+        (
+            r#"{"op":"after","at":"service","name":"e","kind":"encode"}"#,
+            0,
+        ),
+    ] {
+        let edits = format!(in rt.alloc(); "{SERVICE},{edit}")?;
+        let session = read_session(rt.alloc(), with_edits(&rt, edits.as_str(), "")?.as_str())?;
+        let channels = session.world.channels();
+        assert_eq!(rt; channels.len(), 1);
+        assert_eq!(rt; channels[0].pipeline.outbound(), outbound, "at {edit}");
+    }
+    Ok(())
+}
+
+#[test]
+fn builder_refusals(rt: HostRuntime) -> Result<(), Fail> {
+    for (edit, fault) in [
+        (
+            r#"{"op":"first","name":"service","kind":"lines","max":64}"#,
+            BuildFault::DuplicateName,
+        ),
+        (
+            r#"{"op":"before","at":"nobody","name":"service","kind":"decode"}"#,
+            BuildFault::DuplicateName,
+        ),
+        (
+            r#"{"op":"before","at":"nobody","name":"lines","kind":"lines","max":64}"#,
+            BuildFault::NoSuchName,
+        ),
+        (
+            r#"{"op":"after","at":"","name":"lines","kind":"lines","max":64}"#,
+            BuildFault::NoSuchName,
+        ),
+        (r#"{"op":"remove","name":"nobody"}"#, BuildFault::NoSuchName),
+        (r#"{"op":"remove","name":""}"#, BuildFault::NoSuchName),
+        (
+            r#"{"op":"after","at":"nobody","name":"","kind":"decode"}"#,
+            BuildFault::Limit,
+        ),
+    ] {
+        let edits = format!(in rt.alloc(); "{SERVICE},{edit}")?;
+        let text = with_edits(&rt, edits.as_str(), "")?;
+        assert_eq!(rt;
+            refusal(&rt, text.as_str()),
+            Some(SessionFault::Build(fault)),
+            "at {edit}"
+        );
+    }
+    Ok(())
+}
+
+#[test]
+fn build_refusals(rt: HostRuntime) -> Result<(), Fail> {
+    let unknown_group = r#"{"op":"last","name":"a","kind":"service","group":"x"}"#;
+    let empty_group = r#"{"op":"last","name":"a","kind":"service","group":""}"#;
+    let second_service = r#"{"op":"last","name":"b","kind":"service"},
+        {"op":"last","name":"c","kind":"service"}"#;
+    let no_name = r#"{"op":"last","name":"","kind":"service"}"#;
+    for (edits, more, fault) in [
+        (unknown_group, "", BuildFault::NoSuchGroup),
+        (empty_group, "", BuildFault::NoSuchGroup),
+        ("", "", BuildFault::NoTurn),
+        (second_service, "", BuildFault::TwoTurns),
+        (SERVICE, r#","low":9,"high":8"#, BuildFault::Marks),
+        (SERVICE, r#","high":100"#, BuildFault::Marks),
+        (SERVICE, r#","low":65537"#, BuildFault::Marks),
+        (no_name, "", BuildFault::Limit),
+    ] {
+        let text = with_edits(&rt, edits, more)?;
+        assert_eq!(rt;
+            refusal(&rt, text.as_str()),
+            Some(SessionFault::Build(fault)),
+            "at {edits}{more}"
+        );
+    }
+    Ok(())
+}
+
+/// Groups are made first, and then for each channel its edits, its marks and its pipeline.
+#[test]
+fn building_order(rt: HostRuntime) -> Result<(), Fail> {
+    let nobody = r#"{"op":"remove","name":"nobody"}"#;
+    for (edits, more, fault) in [
+        (
+            nobody,
+            r#"}],"groups":[{"name":"g","size":0}],"more":[{"x":1"#,
+            BuildFault::Limit,
+        ),
+        (nobody, r#","low":9,"high":8"#, BuildFault::NoSuchName),
+        ("", r#","low":9,"high":8"#, BuildFault::Marks),
+        (
+            SERVICE,
+            r#","low":9,"high":8},{"handlers":[],"bursts":[]"#,
+            BuildFault::Marks,
+        ),
+        (
+            SERVICE,
+            r#"},{"handlers":[],"bursts":[]},{"handlers":[],"bursts":[],"low":9,"high":8"#,
+            BuildFault::NoTurn,
+        ),
+    ] {
+        let text = with_edits(&rt, edits, more)?;
+        assert_eq!(rt;
+            refusal(&rt, text.as_str()),
+            Some(SessionFault::Build(fault)),
+            "at {edits}{more}"
+        );
+    }
+    Ok(())
+}
+
+#[test]
+fn name_lengths(rt: HostRuntime) -> Result<(), Fail> {
+    for (copies, fault) in [
+        (31, None),
+        (32, Some(SessionFault::Build(BuildFault::Limit))),
+    ] {
+        let name = "é".repeat(rt.alloc(), copies)?;
+        let edit = format!(in rt.alloc();
+            "{{\"op\":\"last\",\"name\":\"{name}é\",\"kind\":\"service\"}}"
+        )?;
+        let text = with_edits(&rt, edit.as_str(), "")?;
+        assert_eq!(rt; refusal(&rt, text.as_str()), fault, "at {copies}");
+    }
+    Ok(())
+}
+
+/// A given number of handlers, and some of them taken out again.
+#[test]
+fn many_handlers(rt: HostRuntime) -> Result<(), Fail> {
+    let limit = Some(SessionFault::Build(BuildFault::Limit));
+    for (count, end, fault) in [
+        (31, "", None),
+        (32, "", limit),
+        (32, r#",{"op":"remove","name":"0"}"#, limit),
+    ] {
+        let mut edits = String::from_str(rt.alloc(), SERVICE)?;
+        for number in 0..count {
+            let edit = format!(in rt.alloc();
+                ",{{\"op\":\"first\",\"name\":\"{number}\",\"kind\":\"decode\"}}"
+            )?;
+            edits.push_str(edit.as_str())?;
+        }
+        edits.push_str(end)?;
+        let text = with_edits(&rt, edits.as_str(), "")?;
+        assert_eq!(rt; refusal(&rt, text.as_str()), fault, "at {count}{end}");
+    }
+    Ok(())
+}
+
+#[test]
+fn many_edits(rt: HostRuntime) -> Result<(), Fail> {
+    let pair = r#",{"op":"last","name":"a","kind":"decode"},{"op":"remove","name":"a"}"#;
+    let pairs = pair.repeat(rt.alloc(), 127)?;
+    for (end, fault) in [
+        (r#",{"op":"last","name":"a","kind":"decode"}"#, None),
+        (pair, Some(SessionFault::Limit)),
+    ] {
+        let edits = format!(in rt.alloc(); "{SERVICE}{pairs}{end}")?;
+        let text = with_edits(&rt, edits.as_str(), "")?;
+        assert_eq!(rt; refusal(&rt, text.as_str()), fault, "at {end}");
+    }
+    Ok(())
+}
+
+#[test]
+fn many_channels(rt: HostRuntime) -> Result<(), Fail> {
+    for (copies, fault) in [(15, None), (16, Some(SessionFault::Limit))] {
+        let more = format!(in rt.alloc(); "}},{{\"handlers\":[{SERVICE}],\"bursts\":[]")?;
+        let text = with_edits(&rt, SERVICE, more.repeat(rt.alloc(), copies)?.as_str())?;
+        assert_eq!(rt; refusal(&rt, text.as_str()), fault, "at {copies}");
+    }
+    Ok(())
+}
+
+#[test]
+fn group_refusals(rt: HostRuntime) -> Result<(), Fail> {
+    for (members, fault) in [
+        (r#""loops":16,"groups":[{"name":"g","size":1}]"#, 3),
+        (
+            r#""loops":1,"groups":[{"name":"g","size":1},{"name":"g","size":1}]"#,
+            1,
+        ),
+        (
+            r#""loops":1,"groups":[{"name":"g","size":1},{"name":"g","size":0}]"#,
+            3,
+        ),
+        (r#""loops":1,"groups":[{"name":"g","size":0}]"#, 3),
+        (r#""loops":1,"groups":[{"name":"g","size":65535}]"#, 3),
+        (r#""loops":1,"groups":[{"name":"","size":1}]"#, 3),
+        (r#""loops":1,"groups":[{"name":"g","size":15}]"#, 0),
+    ] {
+        let text = PING.replace(rt.alloc(), r#""loops":1"#, members)?;
+        let expected = match fault {
+            1 => Some(SessionFault::Build(BuildFault::DuplicateName)),
+            3 => Some(SessionFault::Build(BuildFault::Limit)),
+            _ => None,
+        };
+        assert_eq!(rt; refusal(&rt, text.as_str()), expected, "at {members}");
+    }
+    Ok(())
+}
+
+/// Three channels, each with its decoder and its service in a group of two.
+#[test]
+fn group_placing(rt: HostRuntime) -> Result<(), Fail> {
+    let channel = r#"{"handlers":[
+        {"op":"last","name":"lines","kind":"lines","max":64},
+        {"op":"last","name":"decode","kind":"decode","group":"g"},
+        {"op":"last","name":"lineend","kind":"lineend"},
+        {"op":"last","name":"encode","kind":"encode"},
+        {"op":"last","name":"service","kind":"service","group":"g"}],"bursts":[["PING\n"]]}"#;
+    let text = format!(in rt.alloc();
+        "{{\"version\":1,\"capacity\":4,\"loops\":1,\"groups\":[{{\"name\":\"g\",\"size\":2}}],\"channels\":[{channel},{channel},{channel}]}}"
+    )?;
+    let session = read_session(rt.alloc(), text.as_str())?;
+    assert_eq!(rt; session.world.executors(), 3);
+    assert_eq!(rt; session.world.channels().len(), 3);
+    for (channel, executor) in session.world.channels().iter().zip([1, 2, 1]) {
+        for hop in 0..7 {
+            let expected = if hop == 1 || hop == 2 { executor } else { 0 };
+            assert_eq!(rt;
+                channel.pipeline.executor_of(hop),
+                Some(expected),
+                "at hop {hop}"
+            );
+        }
+        assert_eq!(rt; channel.pipeline.executor_of(7), None);
+    }
+    Ok(())
+}
+
+/// Channels live on the loops in turn.
+#[test]
+fn loops_in_turn(rt: HostRuntime) -> Result<(), Fail> {
+    let more = format!(in rt.alloc(); "}},{{\"handlers\":[{SERVICE}],\"bursts\":[]")?;
+    let text = with_edits(&rt, SERVICE, more.repeat(rt.alloc(), 2)?.as_str())?;
+    let text = text.replace(rt.alloc(), r#""loops":1"#, r#""loops":2"#)?;
+    let session = read_session(rt.alloc(), text.as_str())?;
+    assert_eq!(rt; session.world.executors(), 2);
+    for (channel, executor) in session.world.channels().iter().zip([0, 1, 0]) {
+        assert_eq!(rt; channel.pipeline.executor_of(0), Some(executor));
+    }
+    Ok(())
+}
+
+#[test]
+fn marks_are_kept(rt: HostRuntime) -> Result<(), Fail> {
+    let text = with_edits(&rt, SERVICE, r#","low":4,"high":8"#)?;
+    let session = read_session(rt.alloc(), text.as_str())?;
+    let channels = session.world.channels();
+    assert_eq!(rt; channels.len(), 1);
+    assert_eq!(rt; channels[0].pipeline.low(), 4);
+    assert_eq!(rt; channels[0].pipeline.high(), 8);
+    Ok(())
+}
+
+/// The bursts are copies of a part between two ends.
+#[test]
+fn burst_limits(rt: HostRuntime) -> Result<(), Fail> {
+    let limit = Some(SessionFault::Limit);
+    for (begin, part, copies, end, fault) in [
+        ("[[]", ",[]", 4_095, "]", None),
+        ("[[]", ",[]", 4_096, "]", limit),
+        (r#"[["""#, r#","""#, 16_383, "]]", None),
+        (r#"[["""#, r#","""#, 16_384, "]]", limit),
+        (r#"[["a"],[""#, "é", 524_287, r#"b"]]"#, None),
+        (r#"[["aa"],[""#, "é", 524_287, r#"b"]]"#, limit),
+    ] {
+        let copied = part.repeat(rt.alloc(), copies)?;
+        let bursts = format!(in rt.alloc(); "{begin}{copied}{end}")?;
+        let text = PING.replace(rt.alloc(), r#"[["PING\r\n"]]"#, bursts.as_str())?;
+        assert_eq!(rt;
+            read_session(rt.alloc(), text.as_str()).err(),
+            fault,
+            "at {copies} of {part}"
+        );
+    }
+    Ok(())
+}
+
+#[test]
+fn text_too_long(rt: HostRuntime) -> Result<(), Fail> {
+    let long = " ".repeat(rt.alloc(), MAX_SESSION_TEXT + 1)?;
+    assert_eq!(rt; refusal(&rt, long.as_str()), Some(SessionFault::Limit));
+    Ok(())
+}
+
+/// The number of bursts comes before them, and the chunks and bytes after them.
+#[test]
+fn burst_order(rt: HostRuntime) -> Result<(), Fail> {
+    for (begin, part, copies, end, fault) in [
+        ("[7", ",[]", 4_096, "]", SessionFault::Limit),
+        (r#"[["""#, r#","""#, 16_384, "],[7]]", SessionFault::Kind),
+    ] {
+        let copied = part.repeat(rt.alloc(), copies)?;
+        let bursts = format!(in rt.alloc(); "{begin}{copied}{end}")?;
+        let text = PING.replace(rt.alloc(), r#"[["PING\r\n"]]"#, bursts.as_str())?;
+        assert_eq!(rt;
+            refusal(&rt, text.as_str()),
+            Some(fault),
+            "at {copies} of {part}"
+        );
+    }
+    Ok(())
+}
+
+#[test]
+fn fault_texts(rt: HostRuntime) -> Result<(), Fail> {
+    for (fault, text) in [
+        (SessionFault::NotJson, "1 NotJson"),
+        (SessionFault::Version, "2 Version"),
+        (SessionFault::Missing, "3 Missing"),
+        (SessionFault::Kind, "4 Kind"),
+        (SessionFault::Limit, "5 Limit"),
+        (
+            SessionFault::Build(BuildFault::DuplicateName),
+            "6 Build 1 DuplicateName",
+        ),
+        (
+            SessionFault::Build(BuildFault::NoSuchName),
+            "6 Build 2 NoSuchName",
+        ),
+        (SessionFault::Build(BuildFault::Limit), "6 Build 3 Limit"),
+        (
+            SessionFault::Build(BuildFault::NoSuchGroup),
+            "6 Build 4 NoSuchGroup",
+        ),
+        (SessionFault::Build(BuildFault::NoTurn), "6 Build 5 NoTurn"),
+        (
+            SessionFault::Build(BuildFault::TwoTurns),
+            "6 Build 6 TwoTurns",
+        ),
+        (SessionFault::Build(BuildFault::Marks), "6 Build 7 Marks"),
+        (BuildFault::Memory.into(), "7 Memory"),
+    ] {
+        let told = format!(in rt.alloc(); "{fault}")?;
+        assert_eq!(rt; told.as_str(), text);
+    }
+    Ok(())
+}
