@@ -19,6 +19,7 @@ use crate::placing::Placed;
 use crate::splitting::{Chains, Room, hop_executors, split};
 use pl_event::Stage;
 use std::alloc::Global;
+use std::fmt;
 use std::marker::Model;
 
 /// A pipeline that is being built: handlers in order, each with a name of its own and perhaps in a group of executors,
@@ -47,6 +48,15 @@ impl<S: Stage> Model for PipelineBuilder<S> {
 pub struct Unbuilt<S: Stage> {
     pub fault: BuildFault,
     pub builder: PipelineBuilder<S>,
+}
+
+/// By its fault, since a stage need not have a `Debug`.
+impl<S: Stage> fmt::Debug for Unbuilt<S> {
+    fn fmt<W: fmt::Write>(&self, f: &mut fmt::Formatter<W>) -> fmt::Result {
+        f.debug_struct("Unbuilt")
+            .field("fault", &self.fault)
+            .finish_non_exhaustive()
+    }
 }
 
 impl<S: Stage> From<Unbuilt<S>> for BuildFault {

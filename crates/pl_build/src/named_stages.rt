@@ -12,6 +12,7 @@ use crate::faults::BuildFault;
 use crate::names::{has_text, kept};
 use pl_event::{ByteString, Stage};
 use std::alloc::{AllocError, Global};
+use std::fmt;
 
 /// A handler of a pipeline: a stage under its name, in a group of executors or in none.
 #[derive(Drop)]
@@ -26,6 +27,15 @@ pub struct NamedStage<S> {
 pub struct Unadded<S> {
     pub fault: BuildFault,
     pub stage: S,
+}
+
+/// By its fault, since a stage need not have a `Debug`.
+impl<S> fmt::Debug for Unadded<S> {
+    fn fmt<W: fmt::Write>(&self, f: &mut fmt::Formatter<W>) -> fmt::Result {
+        f.debug_struct("Unadded")
+            .field("fault", &self.fault)
+            .finish_non_exhaustive()
+    }
 }
 
 impl<S: Drop> From<Unadded<S>> for BuildFault {

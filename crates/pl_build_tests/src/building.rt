@@ -34,6 +34,28 @@ fn builder_refusals(rt: HostRuntime) -> Result<(), Fail> {
 }
 
 #[test]
+fn refusals_by_their_fault(rt: HostRuntime) -> Result<(), Fail> {
+    let alloc = rt.alloc();
+    let mut builder = PipelineBuilder::new(alloc);
+    builder.add_last("one", None, inbound(1))?;
+    match builder.add_last("one", None, inbound(2)) {
+        Ok(()) => panic!(rt; "it is added"),
+        Err(unadded) => assert_eq!(rt;
+            format!(in alloc; "{unadded:?}")?.as_str(),
+            "Unadded { fault: DuplicateName, .. }"
+        ),
+    }
+    match builder.build(&mut Groups::new(alloc, 1, &[])?) {
+        Ok(_) => panic!(rt; "it is built"),
+        Err(unbuilt) => assert_eq!(rt;
+            format!(in alloc; "{unbuilt:?}")?.as_str(),
+            "Unbuilt { fault: NoTurn, .. }"
+        ),
+    }
+    Ok(())
+}
+
+#[test]
 fn builder_order(rt: HostRuntime) -> Result<(), Fail> {
     let mut groups = Groups::new(rt.alloc(), 1, &[])?;
     let mut builder = PipelineBuilder::new(rt.alloc());

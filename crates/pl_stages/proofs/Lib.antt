@@ -7,5 +7,4 @@ pub mod TotalsByName
 pub mod Accepted
 pub mod ServiceLimits
 pub mod FlushCounts
-pub mod Thrifty
 pub mod HandlerLaws

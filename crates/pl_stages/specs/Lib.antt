@@ -7,3 +7,5 @@ pub mod Replies
 pub mod LineEnding
 pub mod Flushes
 pub mod Counts
+pub mod Thrift
+pub mod HandlerThrift

@@ -12,6 +12,7 @@ mod line_service;
 mod numbers;
 mod reply_encoder;
 mod stage_refusal;
+mod thrifty;
 mod totals;
 
 pub use command_decoder::CommandDecoder;
@@ -24,3 +25,4 @@ pub use line_framer::LineFramer;
 pub use line_service::LineService;
 pub use reply_encoder::{ReplyEncoder, add_reply_text};
 pub use stage_refusal::StageRefusal;
+pub use thrifty::{Thrifty, ThriftyBare, ThriftyMapping};

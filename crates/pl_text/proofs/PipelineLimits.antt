@@ -27,7 +27,7 @@ use Rattle.pl_text.specs.declared.session_text.outline.ChannelOutline.{ChannelOu
 use Rattle.pl_text.specs.SessionHandlers.{meaning_of}
 use Rattle.pl_text.specs.SessionBuilding.{made_unless, added, put_before, put_after, edited, all_edited, pipeline_built}
 use Rattle.pl_stages.specs.Counts.{IsThrifty}
-use Rattle.pl_stages.proofs.Thrifty.{line_framing-thrifty, command_decoding-thrifty, line_ending-thrifty, reply_encoding-thrifty, line_service-thrifty, flush_every-thrifty}
+use Rattle.pl_stages.specs.Thrift.{line_framing-thrifty, command_decoding-thrifty, line_ending-thrifty, reply_encoding-thrifty, line_service-thrifty, flush_every-thrifty}
 use Rattle.pl_text.proofs.SessionLimitLaws.{bind-ok, choice-ok}
 
 meaning_thrifty : (kind : HandlerKind) → IsThrifty (meaning_of kind)

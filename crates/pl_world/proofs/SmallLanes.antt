@@ -17,7 +17,7 @@ use Rattle.pl_event.specs.Paths.{is_outbound}
 use Rattle.pl_event.specs.Inputs.{burst_events, recorded_input}
 use Rattle.pl_event.specs.Lanes.{lane, through, out_through, written}
 use Rattle.pl_stages.specs.Counts.{IsThrifty, event_weight, weight}
-use Rattle.pl_stages.proofs.HandlerLaws.{handler-thrifty}
+use Rattle.pl_stages.specs.HandlerThrift.{handler-thrifty}
 use Rattle.pl_stages.specs.declared.handlers.Handler.{Handler}
 use Rattle.pl_stages.specs.contracts.handlers.HandlerStage.TheImpl.{meaning-value}
 use Rattle.pl_build.specs.Pipelines.{PlacedView}

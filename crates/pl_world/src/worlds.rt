@@ -12,6 +12,7 @@ use crate::session::Recorded;
 use pl_build::{MAX_EXECUTORS, Placed};
 use pl_event::{ByteString, Sequence, Stage};
 use pl_head::Transport;
+use pl_stages::Thrifty;
 use std::alloc::{AllocError, AllocFailed, Global};
 use std::marker::Model;
 use thiserror::Error;
@@ -133,6 +134,27 @@ impl<S: Stage, T: Transport> World<S, T> {
         ensures is_world { IsWorld S.meaning T.state self }
     {
         self.channels
+    }
+}
+
+impl<S: Thrifty, T: Transport> World<S, T> {
+    /// [`World::new`] of handlers that make no more than they take, so that their lanes are small whatever comes in and
+    /// nothing is to be shown of them. Refused as `Limit` where the world would not be within its limits, then as
+    /// `Memory`; what was handed in is gone then.
+    pub fn of_thrifty(
+        alloc: Global,
+        pipelines: Sequence<Placed<S>>,
+        inputs: Sequence<Sequence<Sequence<ByteString>>>,
+        transports: Sequence<T>,
+        executors: u16,
+    ) -> Result<Self, WorldRefusal>
+        requires { All (λ transport. IsUncalled (T.state transport)) transports }
+        ensures executors { IfOk result (λ world. world.executors ≡ executors) }
+        ensures channels { IfOk result (λ world. world.channels ≡ recorded pipelines inputs transports) }
+        ensures allowed { OnOk result (is_within pipelines inputs transports executors ≡ true) }
+        ensures refused { IfErr result (λ e. e ≡ (if is_within pipelines inputs transports executors then refusal.Memory else refusal.Limit)) }
+    {
+        World::new(alloc, pipelines, inputs, transports, executors)
     }
 }
 

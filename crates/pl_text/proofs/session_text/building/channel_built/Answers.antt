@@ -10,7 +10,7 @@ use Rattle.pl_world.specs.declared.session.Recorded.{Recorded}
 use Rattle.pl_world.specs.Plans.{channel_planned}
 use Rattle.pl_world.specs.Worlds.{FitsWorld}
 use Rattle.pl_world.proofs.WorldLimits.{is_uncalled}
-use Rattle.pl_stages.proofs.HandlerLaws.{handler-thrifty}
+use Rattle.pl_stages.specs.HandlerThrift.{handler-thrifty}
 use Rattle.pl_world.proofs.SmallLanes.{channel_small}
 use Rattle.pl_text.specs.SessionBuilding.{all_edited, IsChannelBuilt}
 use Rattle.pl_text.proofs.ChannelSteps.{channel_is_built, pipeline_refused}

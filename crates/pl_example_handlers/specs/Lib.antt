@@ -1,0 +1,2 @@
+pub mod OddLines
+pub mod UpperCase

@@ -1,0 +1,47 @@
+//! A transport that accepts half of what it is offered.
+
+ghost use Rattle.std.specs.Prelude.{◌≡◌, None};
+ghost use Rattle.pl_head.specs.Transports.{new_state};
+
+use pl_head::{Transport, TransportFault};
+use std::alloc::Global;
+
+/// Accepts the first half of what each call offers, rounded up, and keeps it in memory. A call fails where that finds no
+/// memory.
+#[derive(Debug, Drop)]
+pub struct Halves {
+    bytes: Vec<u8>,
+    calls: u64,
+    failures: u64,
+}
+
+impl Halves {
+    /// A transport that has not been called. It takes no memory.
+    pub fn new(alloc: Global) -> Self
+        ensures { ⟦<Halves as Transport>⟧.state result ≡ new_state None }
+    {
+        Halves {
+            bytes: Vec::new(alloc),
+            calls: 0,
+            failures: 0,
+        }
+    }
+}
+
+impl Transport for Halves {
+    ghost state = { λ t. record { accepted = t.bytes.items; calls = t.calls; failures = t.failures; window = None } };
+
+    fn write(&mut self, bytes: &[u8]) -> Result<usize, TransportFault> {
+        let count = bytes.len() - bytes.len() / 2;
+        self.calls = self.calls.saturating_add(1);
+        if self.bytes.extend_from_slice(&bytes[..count]).is_err() {
+            self.failures = self.failures.saturating_add(1);
+            return Err(TransportFault::Failed);
+        }
+        Ok(count)
+    }
+
+    fn bytes(&self) -> &[u8] {
+        self.bytes.as_slice()
+    }
+}
