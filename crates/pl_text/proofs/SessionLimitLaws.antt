@@ -7,7 +7,8 @@ use Rattle.serde_json.specs.Data.{Data}
 use Rattle.serde_json.specs.Find.{get}
 use Rattle.pl_build.specs.declared.limits.TheConstants.{MAX_EXECUTORS, DEFAULT_LOW, DEFAULT_HIGH}
 use Rattle.pl_world.specs.declared.limits.TheConstants.{MAX_BURSTS, MAX_CAPACITY, MAX_CHANNELS}
-use Rattle.pl_text.specs.declared.session_text.limits.TheConstants.{MAX_EDITS, MAX_LINE, MAX_FLUSHES, MAX_WINDOW, DEFAULT_WINDOW}
+use Rattle.pl_stages.specs.declared.limits.TheConstants.{MAX_LINE, MAX_FLUSHES}
+use Rattle.pl_text.specs.declared.session_text.limits.TheConstants.{MAX_EDITS, MAX_WINDOW, DEFAULT_WINDOW}
 use Rattle.pl_world.specs.Limits.{fits}
 use Rattle.pl_text.specs.declared.session_text.outline.HandlerKind.{HandlerKind}
 use Rattle.pl_text.specs.declared.session_text.outline.HandlerKind.TheVariants.{Lines, Decode, LineEnd, Encode, Service, FlushEvery}

@@ -4,7 +4,8 @@ use Rattle.serde_json.specs.Data.{Data}
 use Rattle.pl_build.specs.declared.limits.TheConstants.{MAX_MARK, DEFAULT_LOW, DEFAULT_HIGH}
 use Rattle.pl_world.specs.declared.limits.TheConstants.{MAX_BURSTS}
 use Rattle.pl_world.specs.Limits.{fits}
-use Rattle.pl_text.specs.declared.session_text.limits.TheConstants.{MAX_EDITS, MAX_LINE, MAX_FLUSHES, MAX_WINDOW, DEFAULT_WINDOW}
+use Rattle.pl_stages.specs.declared.limits.TheConstants.{MAX_LINE, MAX_FLUSHES}
+use Rattle.pl_text.specs.declared.session_text.limits.TheConstants.{MAX_EDITS, MAX_WINDOW, DEFAULT_WINDOW}
 use Rattle.pl_text.specs.declared.session_text.fault.SessionFault.{SessionFault}
 use Rattle.pl_text.specs.declared.session_text.fault.SessionFault.TheVariants.{Kind, Limit}
 use Rattle.pl_text.specs.declared.session_text.outline.HandlerKind.{HandlerKind}

@@ -6,30 +6,37 @@ use Rattle.std.proofs.lemmas.Bool.Decides.{nat_tests}
 use Rattle.std.proofs.lemmas.Str.{IsUtf8-from_is_utf8, is_utf8-from_IsUtf8}
 use Rattle.pl_text.specs.declared.session_text.fault.SessionFault.{SessionFault}
 use Rattle.pl_text.specs.declared.session_text.fault.SessionFault.TheVariants.{Limit, NotJson}
-use Rattle.pl_tool.specs.declared.program.input.TheConstants.{MAX_SESSION_TEXT}
+use Rattle.pl_text.specs.declared.session_text.limits.TheConstants.{MAX_SESSION_TEXT}
 use Rattle.pl_world.specs.Plans.{Plan}
 use Rattle.pl_tool.specs.ProgramOutcomes.{session_of_bytes}
 use Rattle.pl_text.specs.SessionReading.{Answers}
 use Rattle.pl_text.specs.SessionTexts.{session_of}
 
-is_short : (n : ℕ) → n ≤ MAX_SESSION_TEXT → nat_lt MAX_SESSION_TEXT n ≡ false
-is_short n le = grind (arith, nat_tests)
-
 is_false : (b : Bool) → (b ≡ true → ⊥) → b ≡ false
 is_false true h = absurd (h refl)
 is_false false h = refl
 
--- bytes of no more than the limit mean by whether they are a text
-short_means : (input : List ℕ) (b : Bool) → length input ≤ MAX_SESSION_TEXT → is_utf8 input ≡ b → session_of_bytes input ≡ (if b then session_of input else Err NotJson)
-short_means input b small is =
-    ap (λ (long : Bool). if long then Err Limit else (if is_utf8 input then session_of input else Err NotJson)) (is_short (length input) small)
-    ∙ ap (λ (text : Bool). if text then session_of input else Err NotJson) is
+-- reading a text tests its length once more
+read_once : {A : Type 0} (is_long : Bool) (too_long read : A) → (if is_long then too_long else (if is_long then too_long else read)) ≡ (if is_long then too_long else read)
+read_once true too_long read = refl
+read_once false too_long read = refl
 
-pub text_means : (input text : List ℕ) (answer : Result Plan SessionFault) → length input ≤ MAX_SESSION_TEXT → (text ≡ input) × IsUtf8 input → Answers answer (session_of text) → Answers answer (session_of_bytes input)
-text_means input text answer small is means =
-    let same : session_of text ≡ session_of_bytes input = ap session_of is.0 ∙ sym (short_means input true small (is_utf8-from_IsUtf8 input is.1)) in
-    subst (λ (m : Result Plan SessionFault). Answers answer m) same means
+-- a text means what it is read as
+text_session : (input : List ℕ) → is_utf8 input ≡ true → session_of input ≡ session_of_bytes input
+unfolding session_of
+text_session input is =
+    sym (ap (λ (is_text : Bool). if nat_lt MAX_SESSION_TEXT (length input) then Err Limit else (if is_text then session_of input else Err NotJson)) is
+    ∙ read_once (nat_lt MAX_SESSION_TEXT (length input)) (Err Limit) _)
 
+pub text_means : (input text : List ℕ) (answer : Result Plan SessionFault) → (text ≡ input) × IsUtf8 input → Answers answer (session_of text) → Answers answer (session_of_bytes input)
+text_means input text answer is means =
+    subst (λ (m : Result Plan SessionFault). Answers answer m) (ap session_of is.0 ∙ text_session input (is_utf8-from_IsUtf8 input is.1)) means
+
+is_short : (n : ℕ) → n ≤ MAX_SESSION_TEXT → nat_lt MAX_SESSION_TEXT n ≡ false
+is_short n le = grind (arith, nat_tests)
+
+-- bytes of no more than the limit that are no text mean none
 pub not_text_means : (input : List ℕ) → length input ≤ MAX_SESSION_TEXT → (IsUtf8 input → ⊥) → session_of_bytes input ≡ Err NotJson
 not_text_means input small none =
-    short_means input false small (is_false (is_utf8 input) (λ e. none (IsUtf8-from_is_utf8 input e)))
+    ap (λ (is_long : Bool). if is_long then Err Limit else (if is_utf8 input then session_of input else Err NotJson)) (is_short (length input) small)
+    ∙ ap (λ (is_text : Bool). if is_text then session_of input else Err NotJson) (is_false (is_utf8 input) (λ e. none (IsUtf8-from_is_utf8 input e)))

@@ -6,6 +6,7 @@ use Rattle.pl_text.specs.declared.moves_text.fault.MovesFault.{MovesFault}
 use Rattle.pl_text.specs.declared.moves_text.fault.MovesFault.TheVariants as moves
 use Rattle.pl_build.specs.declared.faults.BuildFault.{BuildFault}
 use Rattle.pl_build.specs.declared.faults.BuildFault.TheVariants as build
+use Rattle.pl_build.specs.Refusals.{build_fault_text}
 use Rattle.pl_text.specs.declared.session_text.fault.SessionFault.{SessionFault}
 use Rattle.pl_text.specs.declared.session_text.fault.SessionFault.TheVariants as session
 use Rattle.pl_world.specs.declared.faults.ReplayFault.{ReplayFault}
@@ -71,14 +72,8 @@ replay_line replay.NoSuch = line (codes "replay refused: 1 NoSuch")
 replay_line replay.Memory = memory_line
 
 abbrev pub build_line : BuildFault → List ℕ
-build_line build.DuplicateName = line (codes "session refused: 6 Build 1 DuplicateName")
-build_line build.NoSuchName = line (codes "session refused: 6 Build 2 NoSuchName")
-build_line build.Limit = line (codes "session refused: 6 Build 3 Limit")
-build_line build.NoSuchGroup = line (codes "session refused: 6 Build 4 NoSuchGroup")
-build_line build.NoTurn = line (codes "session refused: 6 Build 5 NoTurn")
-build_line build.TwoTurns = line (codes "session refused: 6 Build 6 TwoTurns")
-build_line build.Marks = line (codes "session refused: 6 Build 7 Marks")
 build_line build.Memory = memory_line
+build_line fault = line (codes "session refused: 6 Build " ++ build_fault_text fault)
 
 abbrev pub session_line : SessionFault → List ℕ
 session_line session.NotJson = line (codes "session refused: 1 NotJson")

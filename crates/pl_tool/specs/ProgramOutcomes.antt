@@ -12,7 +12,7 @@ use Rattle.pl_text.specs.declared.session_text.fault.SessionFault.TheVariants.{L
 use Rattle.pl_text.specs.declared.session_text.fault.SessionFault.TheVariants as session
 use Rattle.pl_text.specs.declared.moves_text.fault.MovesFault.{MovesFault}
 use Rattle.pl_world.specs.declared.faults.ReplayFault.TheVariants as replay
-use Rattle.pl_tool.specs.declared.program.input.TheConstants.{MAX_SESSION_TEXT}
+use Rattle.pl_text.specs.declared.session_text.limits.TheConstants.{MAX_SESSION_TEXT}
 use Rattle.pl_tool.specs.declared.program.failure.Failure.{Failure}
 use Rattle.pl_tool.specs.declared.program.failure.Failure.TheVariants.{Usage, Moves, Replay, Input, Session, Memory, Output}
 use Rattle.pl_event.specs.Meaning.{IsPrefixOf}

@@ -272,13 +272,11 @@ fn stage_of(alloc: Global, kind: HandlerKind) -> Handler
     ensures stands { ⟦<Handler as Stage>⟧.stands_after result [] }
 {
     match kind {
-        HandlerKind::Lines { max } => {
-            Handler::Lines(LineFramer::new(alloc, max as usize).unwrap())
-        }
+        HandlerKind::Lines { max } => Handler::Lines(LineFramer::new(alloc, max).unwrap()),
         HandlerKind::Decode => Handler::Decode(CommandDecoder::new()),
         HandlerKind::LineEnd => Handler::LineEnd(LineEnd::new()),
         HandlerKind::Encode => Handler::Encode(ReplyEncoder::new()),
         HandlerKind::Service => Handler::Service(LineService::new(alloc)),
-        HandlerKind::FlushEvery { n } => Handler::FlushEvery(FlushEvery::new(n as usize).unwrap()),
+        HandlerKind::FlushEvery { n } => Handler::FlushEvery(FlushEvery::new(n).unwrap()),
     }
 }

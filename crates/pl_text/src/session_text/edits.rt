@@ -6,10 +6,10 @@ ghost use Rattle.pl_text.specs.SessionReading.{Answers};
 ghost use Rattle.pl_text.specs.SessionChannels.{operation_in, handler_in, addition_in, edit_of, edit_in};
 
 use crate::session_text::fault::SessionFault;
-use crate::session_text::limits::{MAX_FLUSHES, MAX_LINE};
 use crate::session_text::names::Name;
 use crate::session_text::outline::{Addition, Edit, HandlerKind, Operation};
 use crate::session_text::values::{FromData, an_object, optional, required, text, whole_in};
+use pl_stages::{MAX_FLUSHES, MAX_LINE};
 use serde_json::Value;
 use std::alloc::Global;
 
@@ -86,16 +86,16 @@ fn handler_in(edit: &Value) -> Result<HandlerKind, SessionFault>
 {
     match text(required(edit, "kind")?)? {
         "lines" => {
-            let max = whole_in(1, u64::from(MAX_LINE), required(edit, "max")?)?;
-            Ok(HandlerKind::Lines { max: max as u16 })
+            let max = whole_in(1, MAX_LINE as u64, required(edit, "max")?)?;
+            Ok(HandlerKind::Lines { max: max as usize })
         }
         "decode" => Ok(HandlerKind::Decode),
         "lineend" => Ok(HandlerKind::LineEnd),
         "encode" => Ok(HandlerKind::Encode),
         "service" => Ok(HandlerKind::Service),
         "flush_every" => {
-            let n = whole_in(1, u64::from(MAX_FLUSHES), required(edit, "n")?)?;
-            Ok(HandlerKind::FlushEvery { n: n as u16 })
+            let n = whole_in(1, MAX_FLUSHES as u64, required(edit, "n")?)?;
+            Ok(HandlerKind::FlushEvery { n: n as usize })
         }
         _ => Err(SessionFault::Kind),
     }

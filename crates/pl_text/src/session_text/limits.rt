@@ -1,4 +1,5 @@
-//! The limits of a session text (`docs/FORMATS.md`, "Session") that are not those of a world or of a pipeline.
+//! The limits of a session text (`docs/FORMATS.md`, "Session") that are not those of a world, of a pipeline or of a
+//! handler.
 
 /// How many bytes a session text has at most.
 pub const MAX_SESSION_TEXT: usize = 33_554_432;
@@ -8,12 +9,6 @@ pub(crate) const MAX_GROUP_SIZE: u16 = 65_535;
 
 /// How many edits a channel has at most.
 pub(crate) const MAX_EDITS: usize = 256;
-
-/// How many bytes a line has at most, where a handler of kind `lines` cuts them.
-pub(crate) const MAX_LINE: u16 = 8_192;
-
-/// The greatest `n` of a handler of kind `flush_every`.
-pub(crate) const MAX_FLUSHES: u16 = 65_535;
 
 /// How many bytes a transport accepts at most in one call.
 pub(crate) const MAX_WINDOW: u32 = 65_536;

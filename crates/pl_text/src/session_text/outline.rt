@@ -9,7 +9,7 @@ pub(crate) enum HandlerKind {
     /// Cuts the bytes read into lines.
     Lines {
         /// The longest line, in bytes.
-        max: u16,
+        max: usize,
     },
     Decode,
     LineEnd,
@@ -18,7 +18,7 @@ pub(crate) enum HandlerKind {
     /// Lets every n-th flush pass.
     FlushEvery {
         /// Every n-th flush passes.
-        n: u16,
+        n: usize,
     },
 }
 

@@ -12,13 +12,11 @@ use super::failure::Failure;
 use pl_event::Stage;
 use pl_head::{MemoryTransport, Transport};
 use pl_stages::Handler;
-use pl_text::{SessionFault, read_session};
+use pl_text::{MAX_SESSION_TEXT, SessionFault, read_session};
 use pl_world::Session;
 use std::alloc::Global;
 use std::io::Read;
 
-/// How many bytes the text of a session has at most.
-pub(crate) const MAX_SESSION_TEXT: usize = 33_554_432;
 /// How many bytes `run_tool` takes from its reader at most: one more than the text of a session may have shows that it is
 /// too long.
 pub const MAX_INPUT: usize = MAX_SESSION_TEXT + 1;
@@ -79,11 +77,9 @@ fn session_in(alloc: Global, input: &[u8]) -> Result<Session, SessionFault>
     ensures means { Answers (seen (plan_of ⟦<Handler as Stage>⟧.meaning ⟦<MemoryTransport as Transport>⟧.state) result) (session_of_bytes input.now) }
     ensures steady { IfOk result (λ session. All IsSteady session.world.channels) }
 {
-    if input.len() > MAX_SESSION_TEXT {
-        return Err(SessionFault::Limit);
-    }
     match str::from_utf8(input) {
         Ok(text) => read_session(alloc, text),
+        Err(_) if input.len() > MAX_SESSION_TEXT => Err(SessionFault::Limit),
         Err(_) => Err(SessionFault::NotJson),
     }
 }

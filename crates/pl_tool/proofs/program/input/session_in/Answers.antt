@@ -8,7 +8,7 @@ use Rattle.pl_tool.proofs.program.input.session_in.Goals as goal
 
 pub returns-in-Ok-clause-means : goal.returns-in-Ok-clause-means
 returns-in-Ok-clause-means c =
-    text_means c.args.input.now c.in-Ok.text.now (seen (plan_of meaning-value.it state-value.it) c.read_session.result) (omega arith) c.in-Ok.ensures.cases c.read_session.ensures.meaning
+    text_means c.args.input.now c.in-Ok.text.now (seen (plan_of meaning-value.it state-value.it) c.read_session.result) c.in-Ok.ensures.cases c.read_session.ensures.meaning
 
-pub returns-in-Err-clause-means : goal.returns-in-Err-clause-means
-returns-in-Err-clause-means c _ = not_text_means c.args.input.now (omega arith) c.in-Err.ensures.cases.0
+pub returns-in-Err-2-clause-means : goal.returns-in-Err-2-clause-means
+returns-in-Err-2-clause-means c _ = not_text_means c.args.input.now (omega arith) c.in-Err-2.ensures.cases.0
