@@ -1,13 +1,13 @@
 -- The first, third, fifth and so on of the lines that are read.
-use Rattle.std.specs.Prelude.{◌%◌, ◌==◌, ◌≤◌, ◌&&◌, List, [], ◌∷◌, count_by, Bool, true, false, if◌then◌else◌, refl}
+use Rattle.std.specs.Prelude.{◌%◌, ◌==◌, ◌≤◌, ◌&&◌, List, [], ◌∷◌, count_by, Bool, true, false, if◌then◌else◌}
 use Rattle.std.proofs.Common.{arith}
 use Rattle.pl_event.specs.declared.events.Event.{Event}
 use Rattle.pl_event.specs.declared.events.Event.TheVariants.{Read}
 use Rattle.pl_event.specs.declared.events.Message.TheVariants.{Line}
-use Rattle.pl_event.specs.declared.stages.Direction.TheVariants.{Inbound}
-use Rattle.pl_event.specs.Meaning.{Meaning, IsLawful}
+use Rattle.pl_event.specs.Meaning.{Meaning}
+use Rattle.pl_stages.specs.Passing.{passing_up}
 use Rattle.pl_stages.specs.Counts.{IsThrifty, event_weight, weight}
-use Rattle.pl_stages.specs.Thrift.{thrifty}
+use Rattle.pl_stages.specs.Thrift.{passing_up-thrifty}
 
 abbrev pub is_line : Event → Bool
 is_line (Read (Line line)) = true
@@ -22,22 +22,11 @@ abbrev pub passed : List Event → Event → List Event
 passed xs x = if is_line x && is_odd xs then [] else x ∷ []
 
 abbrev pub odd_lines : Meaning
-odd_lines = record { direction = Inbound; up = passed; down = λ xs x. []; ended = λ xs. false }
-
-pub odd_lines-lawful : IsLawful odd_lines
-odd_lines-lawful = record {
-  starts_open = refl;
-  stays_ended = λ xs x e. e;
-  quiet = λ xs x e. refl;
-  inbound = λ e xs x. refl;
-  outbound = λ e xs x. cc;
-  turn_alone = λ e xs. refl;
-}
+odd_lines = passing_up passed
 
 passed-light : (is_dropped : Bool) (x : Event) → weight (if is_dropped then [] else x ∷ []) ≤ event_weight x
 passed-light true x = omega arith
 passed-light false x = omega arith
 
 pub odd_lines-thrifty : IsThrifty odd_lines
-odd_lines-thrifty =
-    thrifty odd_lines (λ before x. passed-light (is_line x && is_odd before) x) (λ before x. omega arith) (λ e before x. cc)
+odd_lines-thrifty = passing_up-thrifty passed (λ before x. passed-light (is_line x && is_odd before) x)

@@ -1,7 +1,8 @@
 //! Every second line is dropped: a handler that remembers something.
 
 ghost use Rattle.std.specs.Prelude.{◌≡◌, []};
-ghost use Rattle.pl_example_handlers.specs.OddLines.{is_odd, odd_lines, odd_lines-lawful, odd_lines-thrifty};
+ghost use Rattle.pl_example_handlers.specs.OddLines.{is_odd, odd_lines, odd_lines-thrifty, passed};
+ghost use Rattle.pl_stages.specs.Passing.{passing_up-lawful};
 
 use pl_event::{BareStage, Direction, Event, Fused, Message, Stage, Turned};
 use pl_stages::ThriftyBare;
@@ -50,7 +51,7 @@ impl BareStage for OddLines {
         Ok(Turned::Open)
     }
 
-    ghost lawful = { λ s. odd_lines-lawful };
+    ghost lawful = { λ s. passing_up-lawful passed };
 }
 
 impl ThriftyBare for OddLines {

@@ -1,9 +1,9 @@
 -- Every n-th flush (docs/FORMATS.md, "Handlers").
-use Rattle.std.specs.Prelude.{ℕ, ◌%◌, List, [], ◌∷◌, ◌++◌, count_by, Bool, true, false, not, ◌||◌, ◌==◌, if◌then◌else◌, refl}
+use Rattle.std.specs.Prelude.{ℕ, ◌%◌, List, [], ◌∷◌, ◌++◌, count_by, Bool, true, false, not, ◌||◌, ◌==◌, if◌then◌else◌}
 use Rattle.pl_event.specs.declared.events.Event.{Event}
 use Rattle.pl_event.specs.declared.events.Event.TheVariants.{Flush}
-use Rattle.pl_event.specs.declared.stages.Direction.TheVariants.{Outbound}
 use Rattle.pl_event.specs.Meaning.{Meaning, IsLawful}
+use Rattle.pl_stages.specs.Passing.{passing_down, passing_down-lawful}
 
 abbrev pub is_flush : Event → Bool
 is_flush Flush = true
@@ -17,20 +17,11 @@ flushes xs = count_by is_flush xs
 abbrev pub passes : ℕ → List Event → Event → Bool
 passes n xs x = not (is_flush x) || flushes (xs ++ x ∷ []) % n == 0
 
+abbrev pub flush_every_down : ℕ → List Event → Event → List Event
+flush_every_down n xs x = if passes n xs x then x ∷ [] else []
+
 abbrev pub flush_every : ℕ → Meaning
-flush_every n = record {
-  direction = Outbound;
-  up = λ xs x. [];
-  down = λ xs x. if passes n xs x then x ∷ [] else [];
-  ended = λ xs. false;
-}
+flush_every n = passing_down (flush_every_down n)
 
 pub flush_every-lawful : (n : ℕ) → IsLawful (flush_every n)
-flush_every-lawful n = record {
-  starts_open = refl;
-  stays_ended = λ xs x e. e;
-  quiet = λ xs x e. cc;
-  inbound = λ e xs x. cc;
-  outbound = λ e xs x. refl;
-  turn_alone = λ e xs. refl;
-}
+flush_every-lawful n = passing_down-lawful (flush_every_down n)

@@ -1,3 +1,4 @@
+pub mod Passing
 pub mod LineFraming
 pub mod Numbers
 pub mod Commands

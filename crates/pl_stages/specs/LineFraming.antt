@@ -1,13 +1,13 @@
 -- Line framing: the bytes read are joined and cut at each line feed (Netty's LineBasedFrameDecoder;
 -- docs/FORMATS.md, "Handlers").
-use Rattle.std.specs.Prelude.{◌≡◌, ℕ, ◌+◌, ◌-◌, ◌<◌, List, [], ◌∷◌, ◌++◌, length, take, drop, map, Bool, false, if◌then◌else◌, nat_le, ◌==◌, slice_index, MatchBool, refl}
+use Rattle.std.specs.Prelude.{◌≡◌, ℕ, ◌+◌, ◌-◌, ◌<◌, List, [], ◌∷◌, ◌++◌, length, take, drop, map, Bool, if◌then◌else◌, nat_le, ◌==◌, slice_index, MatchBool}
 use Rattle.std.specs.List.{flat_map}
 use Rattle.pl_event.specs.declared.events.Event.{Event}
 use Rattle.pl_event.specs.declared.events.Event.TheVariants.{Read, Caught}
 use Rattle.pl_event.specs.declared.events.Message.TheVariants.{Bytes, Line}
 use Rattle.pl_event.specs.declared.events.Caught.TheVariants.{TooLong}
-use Rattle.pl_event.specs.declared.stages.Direction.TheVariants.{Inbound}
 use Rattle.pl_event.specs.Meaning.{Meaning, IsLawful}
+use Rattle.pl_stages.specs.Passing.{passing_up, passing_up-lawful}
 
 -- a byte before the first of these parts, if there is one
 abbrev pub onto_first_part : ℕ → List (List ℕ) → List (List ℕ)
@@ -48,17 +48,10 @@ line_framing_up max xs other = other ∷ []
 
 -- the framing of lines of at most max bytes
 abbrev pub line_framing : ℕ → Meaning
-line_framing max = record { direction = Inbound; up = line_framing_up max; down = λ xs x. []; ended = λ xs. false }
+line_framing max = passing_up (line_framing_up max)
 
 pub line_framing-lawful : (max : ℕ) → IsLawful (line_framing max)
-line_framing-lawful max = record {
-  starts_open = refl;
-  stays_ended = λ xs x e. e;
-  quiet = λ xs x e. refl;
-  inbound = λ e xs x. refl;
-  outbound = λ e xs x. cc;
-  turn_alone = λ e xs. refl;
-}
+line_framing-lawful max = passing_up-lawful (line_framing_up max)
 
 -- the second list where the first is empty, and else the third
 abbrev pub unless_closed : List (List ℕ) → List ℕ → List ℕ → List ℕ

@@ -19,7 +19,8 @@ use Rattle.pl_stages.specs.Commands.{command_decoding, command_of, decoded, read
 use Rattle.pl_stages.specs.Service.{line_service, has_quit, replies_to, accepted, Addition}
 use Rattle.pl_stages.specs.Replies.{reply_encoding, encoded}
 use Rattle.pl_stages.specs.LineEnding.{line_ending, with_line_end}
-use Rattle.pl_stages.specs.Flushes.{flush_every, passes}
+use Rattle.pl_stages.specs.Flushes.{flush_every, flush_every_down, passes}
+use Rattle.pl_stages.specs.Passing.{passing_up, passing_down}
 
 -- at most n events for each one
 length-made_after-le : (f : List Event → Event → List Event) (n : ℕ)
@@ -55,6 +56,15 @@ thrifty m up down out = record {
   downwards = length-made_after-le m.down 2 down [];
   outbound = λ e xs. let h = length-made_after-le m.down 1 (out e) [] xs in omega (arith, h);
 }
+
+-- what is made upwards of each event weighs no more
+pub passing_up-thrifty : (f : List Event → Event → List Event) → ((before : List Event) (x : Event) → weight (f before x) ≤ event_weight x) → IsThrifty (passing_up f)
+passing_up-thrifty f each = thrifty (passing_up f) each (λ before x. omega arith) (λ e before x. omega arith)
+
+-- at most one event downwards of each
+pub passing_down-thrifty : (f : List Event → Event → List Event) → ((before : List Event) (x : Event) → length (f before x) ≤ 1) → IsThrifty (passing_down f)
+passing_down-thrifty f each =
+    thrifty (passing_down f) (λ before x. omega arith) (λ before x. let h = each before x in omega (arith, h)) (λ e before x. each before x)
 
 -- one event of no greater weight for each one
 pub mapping_up-thrifty : (f : Event → Event) → ((x : Event) → event_weight (f x) ≤ event_weight x) → IsThrifty (mapping_up f)
@@ -128,7 +138,7 @@ framed_more max xs Flush = omega arith
 
 pub line_framing-thrifty : (max : ℕ) → IsThrifty (line_framing max)
 line_framing-thrifty max =
-    thrifty (line_framing max) (framed_more max) (λ before x. omega arith) (λ e before x. omega arith)
+    passing_up-thrifty (line_framing_up max) (framed_more max)
 
 read_as_weight : (r : Result CommandKind CaughtKind) → event_weight (read_as r) ≤ 1
 read_as_weight (Ok c) = omega arith
@@ -182,11 +192,9 @@ reply_encoding-thrifty = mapping_down-thrifty encoded
 pub line_ending-thrifty : IsThrifty line_ending
 line_ending-thrifty = mapping_down-thrifty with_line_end
 
-one_or_none : (is : Bool) (x : Event) (n : ℕ) → 1 ≤ n → length (if is then x ∷ [] else []) ≤ n
-one_or_none true x n h = omega arith
-one_or_none false x n h = omega arith
+one_or_none : (is : Bool) (x : Event) → length (if is then x ∷ [] else []) ≤ 1
+one_or_none true x = omega arith
+one_or_none false x = omega arith
 
 pub flush_every-thrifty : (n : ℕ) → IsThrifty (flush_every n)
-flush_every-thrifty n =
-    thrifty (flush_every n) (λ before x. omega arith) (λ before x. one_or_none (passes n before x) x 2 (omega arith))
-    (λ e before x. one_or_none (passes n before x) x 1 (omega arith))
+flush_every-thrifty n = passing_down-thrifty (flush_every_down n) (λ before x. one_or_none (passes n before x) x)

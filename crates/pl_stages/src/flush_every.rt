@@ -4,10 +4,10 @@ ghost use Rattle.std.specs.Prelude.{◌≡◌, ◌%◌, ◌<◌, ◌≤◌, ◌�
 ghost use Rattle.pl_event.specs.declared.events.Event.{Event};
 ghost use Rattle.pl_stages.specs.Flushes.{flush_every, flush_every-lawful, flushes, is_flush, passes};
 
+use crate::Taken;
 use crate::limits::MAX_FLUSHES;
 use crate::stage_refusal::StageRefusal;
 use pl_event::{BareStage, Direction, Event, Fused, Stage, Turned};
-use std::alloc::AllocError;
 
 /// Passes every n-th flush, and every event that is not a flush (`docs/FORMATS.md`, "Handlers").
 #[derive(Debug, Drop)]
@@ -71,12 +71,7 @@ impl BareStage for FlushEvery {
         Direction::Outbound
     }
 
-    fn take(
-        &mut self,
-        event: Event,
-        _up: &mut Vec<Event>,
-        down: &mut Vec<Event>,
-    ) -> Result<Turned, AllocError> {
+    fn take(&mut self, event: Event, _up: &mut Vec<Event>, down: &mut Vec<Event>) -> Taken {
         if self.passes(&event) {
             down.push(event)?;
         }

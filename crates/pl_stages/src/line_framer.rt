@@ -6,6 +6,7 @@ ghost use Rattle.pl_stages.specs.declared.limits.TheConstants.{MAX_LINE};
 ghost use Rattle.pl_event.specs.declared.events.Event.{Event};
 ghost use Rattle.pl_stages.specs.LineFraming.{line_framing, line_framing-lawful, lines_of, framed, without_return, joined, open_part, closed_parts, KeepsPart};
 
+use crate::Taken;
 use crate::limits::MAX_LINE;
 use crate::stage_refusal::StageRefusal;
 use memchr::memchr;
@@ -183,12 +184,7 @@ impl BareStage for LineFramer {
         Direction::Inbound
     }
 
-    fn take(
-        &mut self,
-        event: Event,
-        up: &mut Vec<Event>,
-        _down: &mut Vec<Event>,
-    ) -> Result<Turned, AllocError> {
+    fn take(&mut self, event: Event, up: &mut Vec<Event>, _down: &mut Vec<Event>) -> Taken {
         match event {
             Event::Read(Message::Bytes(chunk)) => self.take_chunk(chunk.into_vec(), up)?,
             other => up.push(other)?,

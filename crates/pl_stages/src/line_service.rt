@@ -4,6 +4,7 @@ ghost use Rattle.std.specs.Prelude.{◌≡◌, false, List, ◌++◌, ◌∷◌,
 ghost use Rattle.pl_stages.specs.Service.{line_service, line_service-lawful, has_quit, is_quit, Addition, accepted, added_by, replies_to, fault_of};
 ghost use Rattle.pl_stages.specs.Totals.{KeepsTotals};
 
+use crate::Taken;
 use crate::totals::Totals;
 use pl_event::{
     BareStage, Caught, Command, Direction, Event, Fault, Fused, Message, Reply, Stage, Turned,
@@ -40,12 +41,7 @@ impl BareStage for LineService {
         Direction::Turn
     }
 
-    fn take(
-        &mut self,
-        event: Event,
-        up: &mut Vec<Event>,
-        down: &mut Vec<Event>,
-    ) -> Result<Turned, AllocError> {
+    fn take(&mut self, event: Event, up: &mut Vec<Event>, down: &mut Vec<Event>) -> Taken {
         if self.has_quit {
             return Ok(Turned::Ended);
         }

@@ -4,6 +4,7 @@ ghost use Rattle.std.specs.Prelude.{◌≡◌, false, ◌++◌, [], IfOk, OnOk, 
 ghost use Rattle.pl_event.specs.Mappings.{mapping_down-lawful};
 ghost use Rattle.pl_stages.specs.Replies.{reply_encoding, encoded, reply_text, fault_text};
 
+use crate::Taken;
 use itoa::Buffer;
 use pl_event::{
     BareStage, ByteString, Direction, Event, Fault, Fused, Message, Reply, Stage, Turned,
@@ -35,12 +36,7 @@ impl BareStage for ReplyEncoder {
         Direction::Outbound
     }
 
-    fn take(
-        &mut self,
-        event: Event,
-        _up: &mut Vec<Event>,
-        down: &mut Vec<Event>,
-    ) -> Result<Turned, AllocError> {
+    fn take(&mut self, event: Event, _up: &mut Vec<Event>, down: &mut Vec<Event>) -> Taken {
         let encoded = encoded(*down.allocator(), event)?;
         down.push(encoded)?;
         Ok(Turned::Open)
