@@ -1,5 +1,6 @@
 -- A stage of a user's own, for tests: in place of each read it passes the number of the reads so far on.
-use Rattle.std.specs.Prelude.{◌≡◌, ℕ, ◌+◌, List, [], ◌∷◌, count_by, Bool, true, false, if◌then◌else◌, refl}
+use Rattle.std.specs.Prelude.{◌≡◌, ℕ, ◌+◌, ◌≤◌, List, [], ◌∷◌, count_by, Bool, true, false, if◌then◌else◌, refl}
+use Rattle.std.proofs.Common.{arith}
 use Rattle.pl_event.specs.declared.events.Event.{Event}
 use Rattle.pl_event.specs.declared.events.Event.TheVariants.{Active, Read, ReadComplete, Caught, Write, Flush}
 use Rattle.pl_event.specs.declared.events.Message.TheVariants.{Reply}
@@ -7,6 +8,8 @@ use Rattle.pl_event.specs.declared.events.Reply.TheVariants.{Total}
 use Rattle.pl_event.specs.declared.stages.Direction.{Direction}
 use Rattle.pl_event.specs.declared.stages.Direction.TheVariants.{Inbound, Outbound, Turn}
 use Rattle.pl_event.specs.Meaning.{Meaning, IsLawful}
+use Rattle.pl_stages.specs.Counts.{IsThrifty, event_weight}
+use Rattle.pl_stages.specs.Thrift.{thrifty}
 
 abbrev pub is_read : Event → Bool
 is_read (Read m) = true
@@ -53,3 +56,15 @@ counting-lawful turns = record {
   outbound = λ e xs x. not_outbound turns e xs x;
   turn_alone = λ e xs. refl;
 }
+
+with_number-light : (xs : List Event) (x : Event) → event_weight (with_number xs x) ≤ event_weight x
+with_number-light xs (Read m) = omega arith
+with_number-light xs Active = omega arith
+with_number-light xs ReadComplete = omega arith
+with_number-light xs (Caught c) = omega arith
+with_number-light xs (Write m) = omega arith
+with_number-light xs Flush = omega arith
+
+pub counting-thrifty : (turns : Bool) → IsThrifty (counting turns)
+counting-thrifty turns =
+    thrifty (counting turns) (λ before x. let h = with_number-light before x in omega (arith, h)) (λ before x. omega arith) (λ e before x. omega arith)

@@ -9,10 +9,11 @@ use std::alloc::Global;
 use std::process::Abort;
 use std::test::Fail;
 
-/// The channel becomes active, and its burst comes; what comes first has no reply and crosses both groups.
-const BEGINNING: [Move; 8] = [
-    Move::Read(0),
-    Move::Read(0),
+/// The channel becomes active, and its burst comes.
+const BEGINNING: [Move; 2] = [Move::Read(0), Move::Read(0)];
+
+/// An event crosses both groups, and what becomes of it comes back to the loop.
+const ACROSS: [Move; 6] = [
     Move::Hand(0),
     Move::Task(1),
     Move::Hand(1),
@@ -21,17 +22,8 @@ const BEGINNING: [Move; 8] = [
     Move::Task(0),
 ];
 
-/// A line crosses both groups, and its command and its reply come back to the loop.
-const ACROSS: [Move; 8] = [
-    Move::Hand(0),
-    Move::Task(1),
-    Move::Hand(1),
-    Move::Task(2),
-    Move::Hand(2),
-    Move::Task(0),
-    Move::Hand(2),
-    Move::Task(0),
-];
+/// So does the reply to it.
+const REPLY: [Move; 2] = [Move::Hand(2), Move::Task(0)];
 
 fn assert_enabled(
     rt: &impl Abort,
@@ -56,8 +48,10 @@ fn hand_overs(rt: &impl Abort, alloc: Global, rounds: usize) -> Result<(), Fail>
     let world = world(alloc, &groups, &kinds, &[&[&[chunk.as_slice()]]])?;
     let mut net = Net::new(alloc, world, 1)?;
     assert_enabled(rt, &mut net, &BEGINNING)?;
+    assert_enabled(rt, &mut net, &ACROSS)?;
     for _ in 1..rounds {
         assert_enabled(rt, &mut net, &ACROSS)?;
+        assert_enabled(rt, &mut net, &REPLY)?;
     }
     Ok(())
 }

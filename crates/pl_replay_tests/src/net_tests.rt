@@ -1,19 +1,19 @@
 //! Replays on several executors. The channels are those of docs/FORMATS.md.
 ghost use Rattle.std.specs.Prelude.{◌<◌};
 
-use crate::tests::{Kind, added, assert_channel, built, handler, ping_tail, read_command, text};
+use crate::tests::{
+    Kind, SUCCESS, assert_channel, assert_one, assert_ping, handler, ping_tail, read_command, text,
+};
 use crate::world_tests::world_of;
 use pl_build::{Groups, PipelineBuilder, Placed};
-use pl_event::{ByteString, Command, Event, Outcome, Sequence};
+use pl_event::{ByteString, Command, Event, Sequence};
 use pl_head::MemoryTransport;
 use pl_replay::{Net, replay_world};
 use pl_stages::Handler;
-use pl_world::{ChannelReport, Move, ReplayFault, Report, Stands, World, plain_world};
+use pl_world::{ChannelReport, Move, ReplayFault, Stands, World, plain_world};
 use std::alloc::Global;
 use std::process::Abort;
 use std::test::Fail;
-
-const SUCCESS: Option<Outcome> = Some(Outcome::Success);
 
 /// These handlers, each in a group or in none, with names made of their places.
 fn builder_of(
@@ -24,7 +24,7 @@ fn builder_of(
     for (place, (kind, group)) in kinds.iter().enumerate() {
         let name = format!(in alloc; "h{place}")?;
         let stage = handler(alloc, *kind)?;
-        added(builder.add_last(name.as_str(), *group, stage))?;
+        builder.add_last(name.as_str(), *group, stage)?;
     }
     Ok(builder)
 }
@@ -35,7 +35,7 @@ pub(crate) fn pipeline(
     groups: &mut Groups,
     kinds: &[(Kind, Option<&str>)],
 ) -> Result<Placed<Handler>, Fail> {
-    Ok(built(builder_of(alloc, kinds)?, groups)?)
+    Ok(builder_of(alloc, kinds)?.build(groups)?)
 }
 
 /// The same with marks, in bytes.
@@ -48,7 +48,7 @@ pub(crate) fn marked_pipeline(
 ) -> Result<Placed<Handler>, Fail> {
     let mut builder = builder_of(alloc, kinds)?;
     builder.marks(low, high)?;
-    Ok(built(builder, groups)?)
+    Ok(builder.build(groups)?)
 }
 
 /// The handlers of the line protocol, the decoder and the service each in a group or in none.
@@ -115,19 +115,6 @@ fn handed_over(alloc: Global) -> Result<Vec<Move>, Fail> {
     Ok(moves)
 }
 
-pub(crate) fn assert_one(
-    rt: &impl Abort,
-    report: &Report,
-    stands: Stands,
-    tail: &[Event],
-    bytes: &[u8],
-    writes: &[Option<Outcome>],
-) {
-    assert_eq!(rt; report.channels.len(), 1);
-    let channel = &report.channels.as_slice()[0];
-    assert_channel(rt, channel, stands, tail, bytes, writes);
-}
-
 #[test]
 fn full_queue_of_one(rt: HostRuntime) -> Result<(), Fail> {
     let mut net = Net::new(rt.alloc(), decoder_apart(rt.alloc())?, 1)?;
@@ -154,14 +141,7 @@ fn handover_drained(rt: HostRuntime) -> Result<(), Fail> {
     let mut moves = handed_over(rt.alloc())?;
     moves.push(Move::Out(0))?;
     let report = replay_world(rt.alloc(), world, 1, moves.as_slice())?;
-    assert_one(
-        &rt,
-        &report,
-        Stands::Drained,
-        &ping_tail(),
-        b"+PONG\r\n",
-        &[SUCCESS],
-    );
+    assert_ping(&rt, &report);
     Ok(())
 }
 

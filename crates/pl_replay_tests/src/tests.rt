@@ -2,7 +2,7 @@
 ghost use Rattle.std.specs.Prelude.{[], IfOk};
 
 use crate::world_tests::world_of;
-use pl_build::{BuildFault, Groups, PipelineBuilder, Placed, Unadded};
+use pl_build::{Groups, PipelineBuilder, Placed};
 use pl_event::{ByteString, Command, Event, Message, Outcome, Sequence, Stage};
 use pl_head::MemoryTransport;
 use pl_replay::replay;
@@ -13,6 +13,8 @@ use pl_world::{ChannelReport, Move, Recorded, ReplayFault, Report, Session, Stan
 use std::alloc::{AllocError, Global};
 use std::process::Abort;
 use std::test::Fail;
+
+pub(crate) const SUCCESS: Option<Outcome> = Some(Outcome::Success);
 
 #[derive(Clone, Copy)]
 pub(crate) enum Kind {
@@ -52,32 +54,15 @@ pub(crate) fn handler(alloc: Global, kind: Kind) -> Result<Handler, Fail>
     }
 }
 
-pub(crate) fn added(answer: Result<(), Unadded<Handler>>) -> Result<(), BuildFault> {
-    match answer {
-        Ok(()) => Ok(()),
-        Err(unadded) => Err(unadded.fault),
-    }
-}
-
-pub(crate) fn built(
-    builder: PipelineBuilder<Handler>,
-    groups: &mut Groups,
-) -> Result<Placed<Handler>, BuildFault> {
-    match builder.build(groups) {
-        Ok(placed) => Ok(placed),
-        Err(unbuilt) => Err(unbuilt.fault),
-    }
-}
-
 /// A pipeline of these handlers, in order, with names made of their places.
 fn pipeline(alloc: Global, groups: &mut Groups, kinds: &[Kind]) -> Result<Placed<Handler>, Fail> {
     let mut builder = PipelineBuilder::new(alloc);
     for (place, kind) in kinds.iter().enumerate() {
         let name = format!(in alloc; "h{place}")?;
         let stage = handler(alloc, *kind)?;
-        added(builder.add_last(name.as_str(), None, stage))?;
+        builder.add_last(name.as_str(), None, stage)?;
     }
-    Ok(built(builder, groups)?)
+    Ok(builder.build(groups)?)
 }
 
 pub(crate) fn text(alloc: Global, bytes: &[u8]) -> Result<ByteString, AllocError> {
@@ -165,7 +150,7 @@ pub(crate) fn assert_channel(
     assert_eq!(rt; report.writes.as_slice(), writes);
 }
 
-fn assert_one(
+pub(crate) fn assert_one(
     rt: &impl Abort,
     report: &Report,
     stands: Stands,
@@ -174,14 +159,14 @@ fn assert_one(
     writes: &[Option<Outcome>],
 ) {
     assert_eq!(rt; report.channels.len(), 1);
-    assert_channel(
-        rt,
-        &report.channels.as_slice()[0],
-        stands,
-        tail,
-        bytes,
-        writes,
-    );
+    let channel = &report.channels.as_slice()[0];
+    assert_channel(rt, channel, stands, tail, bytes, writes);
+}
+
+/// Asserts that `PING` was served, and its reply written.
+pub(crate) fn assert_ping(rt: &impl Abort, report: &Report) {
+    let stands = Stands::Drained;
+    assert_one(rt, report, stands, &ping_tail(), b"+PONG\r\n", &[SUCCESS]);
 }
 
 pub(crate) fn read_command(command: Command) -> Event {
@@ -209,15 +194,7 @@ fn no_bursts(rt: HostRuntime) -> Result<(), Fail> {
 fn ping(rt: HostRuntime) -> Result<(), Fail> {
     let moves = [Move::Read(0), Move::Read(0), Move::Read(0), Move::Out(0)];
     let report = replay_one(rt.alloc(), &LINE_PROTOCOL, Some(b"PING\r\n"), &moves)?;
-    let writes = [Some(Outcome::Success)];
-    assert_one(
-        &rt,
-        &report,
-        Stands::Drained,
-        &ping_tail(),
-        b"+PONG\r\n",
-        &writes,
-    );
+    assert_ping(&rt, &report);
     Ok(())
 }
 
@@ -351,8 +328,6 @@ fn no_channels(rt: HostRuntime) -> Result<(), Fail> {
     Ok(())
 }
 
-const SUCCESS: Option<Outcome> = Some(Outcome::Success);
-
 #[test]
 fn plain_no_bursts(rt: HostRuntime) -> Result<(), Fail> {
     let report = plain_one(rt.alloc(), &LINE_PROTOCOL, None)?;
@@ -363,15 +338,7 @@ fn plain_no_bursts(rt: HostRuntime) -> Result<(), Fail> {
 #[test]
 fn plain_ping(rt: HostRuntime) -> Result<(), Fail> {
     let report = plain_one(rt.alloc(), &LINE_PROTOCOL, Some(b"PING\r\n"))?;
-    let tail = ping_tail();
-    assert_one(
-        &rt,
-        &report,
-        Stands::Drained,
-        &tail,
-        b"+PONG\r\n",
-        &[SUCCESS],
-    );
+    assert_ping(&rt, &report);
     Ok(())
 }
 

@@ -2,19 +2,18 @@
 ghost use Rattle.std.specs.Prelude.{◌≤◌, None};
 ghost use Rattle.pl_world.specs.Worlds.{IsUncalled};
 
-use crate::net_tests::{assert_one, bursts, line_protocol, pipeline};
-use crate::tests::ping_tail;
-use crate::world_tests::{one_transport, windowed_world, world_over};
+use crate::net_tests::{bursts, line_protocol, pipeline};
+use crate::tests::{assert_one, assert_ping, ping_tail};
+use crate::world_tests::{one_transport, world_over};
 use pl_build::Groups;
-use pl_event::{Cause, Outcome, Sequence};
+use pl_event::{Cause, Sequence};
 use pl_head::{MemoryTransport, Transport, TransportFault};
 use pl_replay::{Net, replay, replay_world};
-use pl_world::{Move, Session, Stands};
+use pl_stages::Handler;
+use pl_world::{Move, Session, Stands, World};
 use std::alloc::Global;
 use std::process::Abort;
 use std::test::Fail;
-
-const SUCCESS: Option<Outcome> = Some(Outcome::Success);
 
 /// A transport that accepts no byte at each odd call and one byte at each even call.
 #[derive(Debug, Drop)]
@@ -58,36 +57,9 @@ impl Transport for Trickle {
     }
 }
 
-#[test]
-fn one_byte_transport(rt: HostRuntime) -> Result<(), Fail> {
-    let alloc = rt.alloc();
-    let mut groups = Groups::new(alloc, 1, &[])?;
-    let mut pipelines = Sequence::new(alloc);
-    let kinds = line_protocol(None, None);
-    pipelines.push(pipeline(alloc, &mut groups, &kinds)?)?;
-    let mut inputs = Sequence::new(alloc);
-    inputs.push(bursts(alloc, &[&[b"PING\r\n"]])?)?;
-    let transports = one_transport(alloc, Trickle::new(alloc))?;
-    let world = world_over(alloc, pipelines, inputs, transports, groups.executors())?;
-    let mut moves = vec![in alloc; Move::Read(0); 3]?;
-    for _ in 0..14 {
-        moves.push(Move::Out(0))?;
-    }
-    let report = replay_world(alloc, world, 4, moves.as_slice())?;
-    assert_one(
-        &rt,
-        &report,
-        Stands::Drained,
-        &ping_tail(),
-        b"+PONG\r\n",
-        &[SUCCESS],
-    );
-    Ok(())
-}
-
-/// With a window of `window` bytes `+PONG` and its line end leave in `calls` calls, and not in one less.
-fn assert_leaves(rt: &impl Abort, alloc: Global, window: u32, calls: u16) -> Result<(), Fail>
-    requires { 1 ≤ window }
+/// A channel of the line protocol that reads `PING`, on one loop over a transport that was not called.
+fn ping_over<T: Transport>(alloc: Global, transport: T) -> Result<World<Handler, T>, Fail>
+    requires { IsUncalled (T.state transport) }
 {
     let mut groups = Groups::new(alloc, 1, &[])?;
     let mut pipelines = Sequence::new(alloc);
@@ -95,7 +67,28 @@ fn assert_leaves(rt: &impl Abort, alloc: Global, window: u32, calls: u16) -> Res
     pipelines.push(pipeline(alloc, &mut groups, &kinds)?)?;
     let mut inputs = Sequence::new(alloc);
     inputs.push(bursts(alloc, &[&[b"PING\r\n"]])?)?;
-    let world = windowed_world(alloc, pipelines, inputs, window, groups.executors())?;
+    let transports = one_transport(alloc, transport)?;
+    Ok(world_over(alloc, pipelines, inputs, transports, groups.executors())?)
+}
+
+#[test]
+fn one_byte_transport(rt: HostRuntime) -> Result<(), Fail> {
+    let alloc = rt.alloc();
+    let world = ping_over(alloc, Trickle::new(alloc))?;
+    let mut moves = vec![in alloc; Move::Read(0); 3]?;
+    for _ in 0..14 {
+        moves.push(Move::Out(0))?;
+    }
+    let report = replay_world(alloc, world, 4, moves.as_slice())?;
+    assert_ping(&rt, &report);
+    Ok(())
+}
+
+/// With a window of `window` bytes `+PONG` and its line end leave in `calls` calls, and not in one less.
+fn assert_leaves(rt: &impl Abort, alloc: Global, window: u32, calls: u16) -> Result<(), Fail>
+    requires { 1 ≤ window }
+{
+    let world = ping_over(alloc, MemoryTransport::new(alloc, window, None))?;
     let mut net = Net::new(alloc, world, 4)?;
     for _ in 0..3 {
         assert_eq!(rt; net.apply(Move::Read(0))?, true);
@@ -106,14 +99,7 @@ fn assert_leaves(rt: &impl Abort, alloc: Global, window: u32, calls: u16) -> Res
     }
     assert_eq!(rt; net.apply(Move::Out(0))?, false);
     let report = net.report()?;
-    assert_one(
-        rt,
-        &report,
-        Stands::Drained,
-        &ping_tail(),
-        b"+PONG\r\n",
-        &[SUCCESS],
-    );
+    assert_ping(rt, &report);
     Ok(())
 }
 
@@ -128,14 +114,7 @@ fn windows(rt: HostRuntime) -> Result<(), Fail> {
 #[test]
 fn failed_transport(rt: HostRuntime) -> Result<(), Fail> {
     let alloc = rt.alloc();
-    let mut groups = Groups::new(alloc, 1, &[])?;
-    let mut pipelines = Sequence::new(alloc);
-    let kinds = line_protocol(None, None);
-    pipelines.push(pipeline(alloc, &mut groups, &kinds)?)?;
-    let mut inputs = Sequence::new(alloc);
-    inputs.push(bursts(alloc, &[&[b"PING\n"]])?)?;
-    let transports = one_transport(alloc, MemoryTransport::new(alloc, 65_536, Some(1)))?;
-    let world = world_over(alloc, pipelines, inputs, transports, groups.executors())?;
+    let world = ping_over(alloc, MemoryTransport::new(alloc, 65_536, Some(1)))?;
     let moves = [Move::Read(0), Move::Read(0), Move::Out(0), Move::Out(0)];
     let report = replay(alloc, Session { world, capacity: 1 }, &moves)?;
     let stands = Stands::Failed(Cause::Transport);

@@ -1,15 +1,15 @@
 //! A stage of a user's own, with a state, in two placings.
-ghost use Rattle.std.specs.Prelude.{◌≡◌, ◌+◌, ℕ, List, [], ◌∷◌, ◌++◌, OnOk, OnErr, IfOk, Bool, false};
-ghost use Rattle.pl_event.specs.declared.events.Event.{Event};
-ghost use Rattle.pl_replay_tests.specs.CountingStage.{is_read, reads, with_number, counting, counting-lawful};
+ghost use Rattle.std.specs.Prelude.{◌≡◌, []};
+ghost use Rattle.pl_replay_tests.specs.CountingStage.{reads, counting, counting-lawful, counting-thrifty};
 
 use crate::net_tests::bursts;
 use crate::tests::assert_channel;
 use crate::world_tests::one_transport;
-use pl_build::{Groups, PipelineBuilder, Placed, Unadded};
-use pl_event::{Direction, Event, Message, Reply, Sequence, Stage, StageFault, Turned};
+use pl_build::{Groups, PipelineBuilder, Placed};
+use pl_event::{BareStage, Direction, Event, Fused, Message, Reply, Sequence, Stage, Turned};
 use pl_head::MemoryTransport;
 use pl_replay::replay_world;
+use pl_stages::ThriftyBare;
 use pl_world::{Move, Stands, World};
 use std::alloc::{AllocError, Global};
 use std::process::Abort;
@@ -20,46 +20,20 @@ use std::test::Fail;
 struct Counter {
     is_turn: bool,
     seen: u64,
-    is_spent: bool,
 }
 
 impl Counter {
-    fn new(is_turn: bool) -> Self
-        ensures kind { result.is_turn ≡ is_turn }
-        ensures seen { result.seen ≡ 0 }
+    fn new(is_turn: bool) -> Fused<Self>
+        ensures { ⟦<Fused<Counter> as Stage>⟧.stands_after result [] }
     {
-        Counter {
-            is_turn,
-            seen: 0,
-            is_spent: false,
-        }
-    }
-
-    fn pass(&mut self, event: Event, up: &mut Vec<Event>) -> Result<(), AllocError>
-        ensures kind { self.new.is_turn ≡ self.old.is_turn }
-        ensures counted { OnOk result ((xs : List Event) → self.old.seen ≡ reads xs → self.new.seen ≡ reads (xs ++ event ∷ [])) }
-        ensures passed { OnOk result ((xs : List Event) → self.old.seen ≡ reads xs → up.new.items ≡ up.old.items ++ with_number xs event ∷ []) }
-        ensures err { OnErr result (up.new.items ≡ up.old.items) }
-    {
-        match event {
-            Event::Read(message) => {
-                drop(message);
-                let number = self.seen.checked_add(1).ok_or(AllocError)?;
-                up.push(Event::Read(Message::Reply(Reply::Total(number))))?;
-                self.seen = number;
-            }
-            other => up.push(other)?,
-        }
-        Ok(())
+        Fused::new(Counter { is_turn, seen: 0 })
     }
 }
 
-impl Stage for Counter {
+impl BareStage for Counter {
     ghost meaning = { λ s. counting s.is_turn };
 
     ghost stands_after = { λ s xs. s.seen ≡ reads xs };
-
-    ghost is_spent = { λ s. s.is_spent };
 
     fn direction(&self) -> Direction {
         if self.is_turn {
@@ -69,37 +43,29 @@ impl Stage for Counter {
         }
     }
 
-    fn step(
+    fn take(
         &mut self,
         event: Event,
         up: &mut Vec<Event>,
         _down: &mut Vec<Event>,
-    ) -> Result<Turned, StageFault> {
-        if self.is_spent {
-            return Err(StageFault::Memory);
-        }
-        match self.pass(event, up) {
-            Ok(()) => Ok(Turned::Open),
-            Err(_) => {
-                self.is_spent = true;
-                Err(StageFault::Memory)
+    ) -> Result<Turned, AllocError> {
+        match event {
+            Event::Read(message) => {
+                drop(message);
+                let number = self.seen.checked_add(1).ok_or(AllocError)?;
+                up.push(Event::Read(Message::Reply(Reply::Total(number))))?;
+                self.seen = number;
             }
+            other => up.push(other)?,
         }
+        Ok(Turned::Open)
     }
 
     ghost lawful = { λ s. counting-lawful s.is_turn };
 }
 
-fn add(
-    builder: &mut PipelineBuilder<Counter>,
-    name: &str,
-    group: Option<&str>,
-    is_turn: bool,
-) -> Result<(), Fail> {
-    match builder.add_last(name, group, Counter::new(is_turn)) {
-        Ok(()) => Ok(()),
-        Err(unadded) => Err(unadded.fault)?,
-    }
+impl ThriftyBare for Counter {
+    ghost thrifty = { λ s. counting-thrifty s.is_turn };
 }
 
 /// A counter and a turn, which counts too; the counter in a group or in none.
@@ -107,25 +73,25 @@ fn pipeline(
     alloc: Global,
     groups: &mut Groups,
     group: Option<&str>,
-) -> Result<Placed<Counter>, Fail> {
+) -> Result<Placed<Fused<Counter>>, Fail> {
     let mut builder = PipelineBuilder::new(alloc);
-    add(&mut builder, "count", group, false)?;
-    add(&mut builder, "turn", None, true)?;
-    match builder.build(groups) {
-        Ok(placed) => Ok(placed),
-        Err(unbuilt) => Err(unbuilt.fault)?,
-    }
+    builder.add_last("count", group, Counter::new(false))?;
+    builder.add_last("turn", None, Counter::new(true))?;
+    Ok(builder.build(groups)?)
 }
 
 /// Two bursts, of two chunks and of one, on one channel.
-fn world(alloc: Global, group: Option<&str>) -> Result<World<Counter, MemoryTransport>, Fail> {
+fn world(
+    alloc: Global,
+    group: Option<&str>,
+) -> Result<World<Fused<Counter>, MemoryTransport>, Fail> {
     let mut groups = Groups::new(alloc, 1, &[("a", 1)])?;
     let mut pipelines = Sequence::new(alloc);
     pipelines.push(pipeline(alloc, &mut groups, group)?)?;
     let mut inputs = Sequence::new(alloc);
     inputs.push(bursts(alloc, &[&[b"a", b"b"], &[b"c"]])?)?;
     let transports = one_transport(alloc, MemoryTransport::new(alloc, 65_536, None))?;
-    Ok(World::new(alloc, pipelines, inputs, transports, groups.executors())?)
+    Ok(World::of_thrifty(alloc, pipelines, inputs, transports, groups.executors())?)
 }
 
 fn number(n: u64) -> Event {

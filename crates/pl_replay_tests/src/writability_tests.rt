@@ -2,13 +2,12 @@
 ghost use Rattle.std.specs.Prelude.{◌≤◌, ◌<◌};
 
 use crate::net_tests::{
-    assert_one, bursts, drain, keeps_to_plain, line_protocol, marked_pipeline, move_by,
-    next_number, whole,
+    bursts, drain, keeps_to_plain, line_protocol, marked_pipeline, move_by, next_number, whole,
 };
-use crate::tests::{Kind, ping_tail, read_command};
+use crate::tests::{Kind, SUCCESS, assert_one, ping_tail, read_command};
 use crate::world_tests::windowed_world;
 use pl_build::Groups;
-use pl_event::{Command, Event, Outcome, Sequence};
+use pl_event::{Command, Event, Sequence};
 use pl_head::MemoryTransport;
 use pl_replay::Net;
 use pl_stages::Handler;
@@ -16,8 +15,6 @@ use pl_world::{Move, Stands, World};
 use std::alloc::Global;
 use std::process::Abort;
 use std::test::Fail;
-
-const SUCCESS: Option<Outcome> = Some(Outcome::Success);
 
 /// One channel of these handlers on one loop, with marks and a window.
 fn marked_world(
