@@ -69,26 +69,18 @@ fn begins(part: &ChannelReport, whole: &ChannelReport) -> bool {
 }
 
 fn assert_begins(rt: &impl Abort, part: &Report, whole: &Report, text: &str) {
-    assert_eq!(rt; part.channels.len(), whole.channels.len());
-    for (part, whole) in part
-        .channels
-        .as_slice()
-        .iter()
-        .zip(whole.channels.as_slice())
-    {
+    let (parts, wholes) = (part.channels.as_slice(), whole.channels.as_slice());
+    assert_eq!(rt; parts.len(), wholes.len());
+    for (part, whole) in parts.iter().zip(wholes) {
         assert!(rt; begins(part, whole), "{text}");
     }
 }
 
 /// Each channel has the whole report.
 fn assert_whole(rt: &impl Abort, part: &Report, whole: &Report, text: &str) {
-    assert_eq!(rt; part.channels.len(), whole.channels.len());
-    for (part, whole) in part
-        .channels
-        .as_slice()
-        .iter()
-        .zip(whole.channels.as_slice())
-    {
+    let (parts, wholes) = (part.channels.as_slice(), whole.channels.as_slice());
+    assert_eq!(rt; parts.len(), wholes.len());
+    for (part, whole) in parts.iter().zip(wholes) {
         assert_eq!(rt; part.stands, whole.stands, "{text}");
         assert_eq!(rt; part.tail.as_slice(), whole.tail.as_slice(), "{text}");
         assert_eq!(rt; part.bytes.as_slice(), whole.bytes.as_slice(), "{text}");

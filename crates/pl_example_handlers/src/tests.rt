@@ -86,14 +86,9 @@ const INPUT: &[&[&[u8]]] = &[
 fn rounds(alloc: Global, count: u16) -> Result<Vec<Move>, AllocError> {
     let mut moves = Vec::new(alloc);
     for _ in 0..count {
-        moves.extend_from_slice(&[
-            Move::Read(0),
-            Move::Hand(0),
-            Move::Task(1),
-            Move::Hand(1),
-            Move::Task(0),
-            Move::Out(0),
-        ])?;
+        // Into the handlers of `own`, and what they make back to the loop and out.
+        moves.extend_from_slice(&[Move::Read(0), Move::Hand(0), Move::Task(1)])?;
+        moves.extend_from_slice(&[Move::Hand(1), Move::Task(0), Move::Out(0)])?;
     }
     Ok(moves)
 }

@@ -35,7 +35,7 @@ text_means input text answer is means =
 is_short : (n : ℕ) → n ≤ MAX_SESSION_TEXT → nat_lt MAX_SESSION_TEXT n ≡ false
 is_short n le = grind (arith, nat_tests)
 
--- bytes of no more than the limit that are no text mean none
+-- bytes within the limit that are not a text mean no session
 pub not_text_means : (input : List ℕ) → length input ≤ MAX_SESSION_TEXT → (IsUtf8 input → ⊥) → session_of_bytes input ≡ Err NotJson
 not_text_means input small none =
     ap (λ (is_long : Bool). if is_long then Err Limit else (if is_utf8 input then session_of input else Err NotJson)) (is_short (length input) small)
