@@ -152,7 +152,7 @@ was-open p q is e o = by p.is_open (sym (ap (λ (t : Port). t.is_open) e) ∙ o)
     by true h = refl
     by false h = h
 
--- and has been given so many at most
+-- and has been given that many at most
 pub made-after : (p q : Port) (is : List Item) → q ≡ port_after is p → q.made ≤ p.made + length is
 made-after p q is e = subst (λ (k : ℕ). k ≤ p.made + length is) (sym (ap (λ (t : Port). t.made) e)) (by p.is_open)
   where

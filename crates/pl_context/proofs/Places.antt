@@ -156,7 +156,7 @@ places-after-up before after up down flags i h puts =
 
 -- ---- what callers may know
 
--- a new list has places for so many lanes
+-- a new list has places for that many lanes
 pub places-start : (places : ℕ) (lanes : List Lane) → length lanes ≤ places → HasPlaces (no_stops places) lanes
 places-start places lanes few = record { hops = lanes; few = few; stopped = λ q h. cc; stopped_flags = λ q h. cc; own = λ q h. h }
 
