@@ -1,0 +1,5 @@
+pub mod AdmissionSums
+pub mod AdmissionMoves
+pub mod Gathering
+pub mod PromiseMoves
+pub mod WatermarkMoves

@@ -1,0 +1,30 @@
+-- The phase of an admission, as its word has it.
+use Rattle.std.specs.Prelude.{ℕ, zero, suc, ◌%◌, Bool, true, false}
+use Rattle.pl_words.specs.declared.status.Status.{Status}
+use Rattle.pl_words.specs.declared.status.Status.TheVariants.{Accepting, Closing, Closed}
+
+-- what a phase adds to the word; a later phase adds more
+abbrev pub rank : Status → ℕ
+rank Accepting = 0
+rank Closing = 1
+rank Closed = 3
+
+abbrev pub phase_of_bits : ℕ → Status
+phase_of_bits zero = Accepting
+phase_of_bits (suc zero) = Closing
+phase_of_bits (suc (suc bits)) = Closed
+
+-- the phase that a word has, in its last two bits
+abbrev pub phase_in : ℕ → Status
+phase_in word = phase_of_bits (word % 4)
+
+-- the phase once closing has begun
+abbrev pub begun : Status → Status
+begun Accepting = Closing
+begun Closing = Closing
+begun Closed = Closed
+
+abbrev pub is_closing : Status → Bool
+is_closing Accepting = false
+is_closing Closing = true
+is_closing Closed = false

@@ -1,0 +1,39 @@
+-- What contracts see of a watermark and its seats, and what a look does to a reader's.
+use Rattle.std.specs.Prelude.{◌≡◌, ℕ, ◌+◌, ◌<◌, ◌≤◌, Bool, true, false}
+use Rattle.pl_words.specs.Names.{Name}
+
+-- which watermark it is
+pub record WatermarkView : Type 0 where
+  pub name : Name
+
+-- the head's seat: whose it is, the two marks, how often it has set the mark, and what it set last
+pub record HeadSeatView : Type 0 where
+  pub name : Name
+  pub low : ℕ
+  pub high : ℕ
+  pub sets : ℕ
+  pub pending : ℕ
+  pub unwritable : Bool
+
+-- a reader's seat: whose it is, the version and the flag that it has seen last, and the steps that it made on the word
+pub record ReadSeatView : Type 0 where
+  pub name : Name
+  pub version : ℕ
+  pub unwritable : Bool
+  pub steps : ℕ
+
+-- above the high mark only unwritable, below the low one only writable
+abbrev pub IsMarked : ℕ → ℕ → ℕ → Bool → Type 0
+IsMarked low high pending unwritable = (high < pending → unwritable ≡ true) × (pending < low → unwritable ≡ false)
+
+abbrev pub new_head_seat : Name → ℕ → ℕ → HeadSeatView
+new_head_seat name low high = record { name = name; low = low; high = high; sets = 0; pending = 0; unwritable = false }
+
+abbrev pub new_reader : Name → ReadSeatView
+new_reader name = record { name = name; version = 0; unwritable = false; steps = 0 }
+
+-- One look: it finds no older version than the seat has seen, and the same version with the same flag.
+pub record Looks (s t : ReadSeatView) : Type 0 where
+  pub same : t ≡ record s { version = t.version; unwritable = t.unwritable; steps = s.steps + 1 }
+  pub later : s.version ≤ t.version
+  pub still : s.version ≡ t.version → s.unwritable ≡ t.unwritable

@@ -1,0 +1,19 @@
+//! Words that threads share without locks: who may still send, whether a channel is writable, how each write ended.
+#![tactic(auto)]
+
+mod admission;
+mod admission_steps;
+mod laws;
+mod promise_steps;
+pub mod promises;
+mod status;
+pub mod watermark;
+mod watermark_steps;
+
+pub use admission::{
+    Admission, Admitted, MAX_ADMISSIONS, NO_COUNT, OwnerSeat, Refused, SendSeat, StillOpen,
+};
+pub use laws::{admission_law, mark_law, promise_law};
+pub use promises::{MAX_PROMISES, Promises, SettleSeat};
+pub use status::Status;
+pub use watermark::{HeadSeat, MAX_SETS, Mark, Watermark};

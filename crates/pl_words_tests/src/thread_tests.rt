@@ -1,0 +1,31 @@
+//! The words under threads.
+
+use crate::feeding::feed_and_close;
+use pl_words::{Admission, Promises, Watermark};
+use std::test::Fail;
+
+/// How often each thread tries to send.
+const TIMES: u32 = 200_000;
+
+#[test]
+fn three_feed_while_closing(rt: HostRuntime) -> Result<(), Fail> {
+    let counter = feed_and_close(&rt, rt.alloc(), TIMES)?;
+    assert_eq!(rt;
+        counter.counted,
+        counter.first + counter.second + counter.third
+    );
+    if let Some(run) = counter.closed_with {
+        assert_eq!(rt; counter.counted, run);
+    }
+    Ok(())
+}
+
+#[test]
+fn refused_memory(rt: HostRuntime) -> Result<(), Fail> {
+    // Where an allocation is made to fail, the first call is refused, and the second finds memory.
+    let alloc = rt.alloc();
+    assert!(rt; Admission::new(alloc, 3).is_ok() || Admission::new(alloc, 3).is_ok());
+    assert!(rt; Watermark::new(alloc, 4, 8, 3).is_ok() || Watermark::new(alloc, 4, 8, 3).is_ok());
+    assert!(rt; Promises::new(alloc, 5, 3, 3).is_ok() || Promises::new(alloc, 5, 3, 3).is_ok());
+    Ok(())
+}
