@@ -1,3 +1,4 @@
 pub mod Lists
 pub mod LaneLemmas
 pub mod FittingLemmas
+pub mod SameLanes

@@ -5,3 +5,5 @@ pub mod Paths
 pub mod Lanes
 pub mod Fitting
 pub mod Mappings
+pub mod Hops
+pub mod Worlds

@@ -1,0 +1,45 @@
+-- Counting lanes, and what is within the limits.
+use Rattle.std.proofs.Common.{◌≡◌, ◌≤◌, ◌<◌, ◌+◌, ◌∙◌, ◌++◌, ◌∷◌, [], ℕ, List, Bool, true, false, not, ap, sym, subst, length, map, take, drop, suc, get_or, ⊎_elim, arith, refl, eqb, add-one}
+use Rattle.std.proofs.lemmas.Bool.{leb-true, le-leb, and_parts, and_from, cases_Bool, cases_eq, both_ways, ne_eqb}
+use Rattle.std.proofs.lemmas.List.{length-append, length-map}
+use Rattle.pl_event.specs.declared.envelopes.Lane.{Lane}
+use Rattle.pl_queue.specs.Left.{all_lanes}
+use Rattle.pl_queue.specs.Limits.{is_within}
+use Rattle.pl_queue.specs.Views.{take_count, fresh_take_counts}
+use Rattle.pl_queue.proofs.Lists.{lanes-more, lanes-split}
+
+-- one list more
+pub count-more : {A : Type 0} (f : A → List Lane) (xs : List A) (i : ℕ) (x : A) → i < length xs → x ≡ get_or xs i x
+    → length (all_lanes (map f (take (i + 1) xs))) ≡ length (all_lanes (map f (take i xs))) + length (f x)
+count-more f xs i x h e = ap length (lanes-more f xs i x h e) ∙ length-append (all_lanes (map f (take i xs))) (f x)
+
+-- the first lists have no more lanes than all
+pub count-part : {A : Type 0} (f : A → List Lane) (xs : List A) (i : ℕ) (x : A) → i < length xs → x ≡ get_or xs i x
+    → length (all_lanes (map f (take i xs))) + length (f x) ≤ length (all_lanes (map f xs))
+count-part f xs i x h e =
+    let before = all_lanes (map f (take i xs)) in
+    let rest = all_lanes (map f (drop (suc i) xs)) in
+    omega (arith, ap length (lanes-split f xs i x h e) ∙ length-append before (f x ++ rest), length-append (f x) rest)
+
+pub beyond : (lanes : List (List Lane)) (capacity : ℕ) → 8192 < length (all_lanes lanes) → false ≡ is_within lanes capacity
+beyond lanes capacity h = ⊎_elim
+    (λ (t : is_within lanes capacity ≡ true). absurd (omega (arith, leb-true (length (all_lanes lanes)) 8192 (and_parts _ _ t).1, h)))
+    (λ (t : is_within lanes capacity ≡ false). sym t)
+    (cases_Bool (is_within lanes capacity))
+
+nonzero : (n : ℕ) → (n ≡ 0 → ⊥) → not (eqb n 0) ≡ true
+nonzero n h = ap not (ne_eqb n 0 h)
+
+pub within : (lanes : List (List Lane)) (capacity : ℕ) → (capacity ≡ 0 → ⊥) → capacity ≤ 65536 → length lanes ≤ 65535 → length (all_lanes lanes) ≤ 8192 → is_within lanes capacity ≡ true
+within lanes capacity a b c d =
+    and_from _ _ (and_from _ _ (and_from _ _ (nonzero capacity a) (le-leb capacity 65536 b)) (le-leb (length lanes) 65535 c)) (le-leb (length (all_lanes lanes)) 8192 d)
+
+-- within the limits there are few lanes, and some room
+pub few-counts : (lanes : List (List Lane)) (capacity : ℕ) → is_within lanes capacity ≡ true → length (fresh_take_counts (all_lanes lanes)) ≤ 8192
+few-counts lanes capacity t = omega (arith, leb-true (length (all_lanes lanes)) 8192 (and_parts _ _ t).1, length-map (all_lanes lanes) (λ l. take_count l 0))
+
+pub some-room : (lanes : List (List Lane)) (capacity : ℕ) → is_within lanes capacity ≡ true → 0 < capacity
+some-room lanes capacity t = ⊎_elim
+    (λ (e : capacity ≡ 0). absurd (both_ways (not (eqb capacity 0)) (ap (λ n. not (eqb n 0)) e) (and_parts _ _ (and_parts _ _ (and_parts _ _ t).0).0).0))
+    (λ (ne : capacity ≡ 0 → ⊥). omega (arith, ne))
+    (cases_eq capacity 0)

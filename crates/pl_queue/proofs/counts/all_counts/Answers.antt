@@ -1,0 +1,12 @@
+use Rattle.std.proofs.Common.{ap, sym, ◌∙◌, ◌++◌, ◌<◌, length, arith}
+use Rattle.pl_queue.specs.Left.{own_lanes}
+use Rattle.pl_queue.specs.Views.{fresh_take_counts}
+use Rattle.pl_queue.proofs.Lists.{counts-more}
+use Rattle.pl_queue.proofs.counts.all_counts.Goals as goal
+
+pub loop-own-preserved : goal.loop-own-preserved
+loop-own-preserved c =
+    let lt : c.loop-own.own-index < length c.args.lanes.now = omega arith in
+    c.in_ok-add_counts.ensures
+    ∙ ap (λ ms. ms ++ fresh_take_counts c.as_slice.result.now) c.loop-own.invariant
+    ∙ sym (counts-more own_lanes c.args.lanes.now c.loop-own.own-index c.own-item.result c.as_slice.result.now lt c.own-item.is c.as_slice.ensures.value)

@@ -1,0 +1,129 @@
+//! What every mailbox promises.
+
+ghost use Rattle.std.specs.Prelude.{◌≡◌, ◌<◌, ◌^◌, ℕ, Bool, true, false, Some, None, map, vec_len, unwrap_or, IfOk, IfErr, MatchResult, MatchOption};
+ghost use Rattle.pl_event.specs.Worlds.{FitsWorld};
+ghost use Rattle.pl_queue.specs.declared.views.SenderView.{SenderView};
+ghost use Rattle.pl_queue.specs.declared.views.TakerView.{TakerView};
+ghost use Rattle.pl_queue.specs.declared.mailbox.OpenRefusal.TheVariants.{Memory};
+ghost use Rattle.pl_queue.specs.Limits.{opening_fault};
+ghost use Rattle.pl_queue.specs.Rule.{SenderSees, TakerSees, WasOnce, Each};
+ghost use Rattle.pl_queue.specs.Views.{sent_of, next_of, after_offer, after_take, takes, fresh_sends, fresh_take_counts};
+ghost use Rattle.pl_queue.specs.Left.{held_of, send_counts_of, Apart, all_lanes, AreAll, IsAllLeft};
+
+use crate::left::Left;
+use pl_event::{Envelope, Lane, Named};
+use std::alloc::{AllocError, Global};
+use std::sync::Wait;
+
+/// The queue was full at some moment of the call. Hands the envelope back; the sender is as it was.
+#[derive(Debug, Drop)]
+pub struct Full {
+    pub envelope: Envelope,
+}
+
+/// Why no mailbox was opened.
+#[derive(Clone, Copy, Debug, PartialEq, Eq, Drop)]
+pub enum OpenRefusal {
+    /// The capacity is not 1 to `MAX_CAPACITY`, or there are more than `MAX_LANES` lanes or `MAX_SENDERS` senders.
+    Limit,
+    /// Out of memory, within the limits.
+    Memory,
+}
+
+impl From<AllocError> for OpenRefusal {
+    fn from(_error: AllocError) -> OpenRefusal {
+        OpenRefusal::Memory
+    }
+
+    ghost from_gives = { λ e r. r ≡ Memory };
+}
+
+/// A queue from some senders to one taker. Each lane has one sender. A sender and a taker are used with the mailbox that
+/// made them.
+///
+/// The world `W` says what each data lane carries in all, in contracts alone. At every moment the queued numbers of each
+/// lane, from the front, are exactly those from the taker's next up to its sender's next; each queued envelope fits the
+/// world; and nothing follows an end or a failure. Not promised: that a waiting call returns, which of two senders comes
+/// first, and that anyone is woken.
+pub trait Mailbox<W: Named>: Sized {
+    type Sender;
+
+    type Taker;
+
+    /// The most envelopes that it holds.
+    ghost capacity_of: { Self → ℕ };
+
+    /// What a sender knows: of each lane of its own the next number, and whether `End` or `Fail` was sent; and the count of
+    /// its pushes.
+    ghost sends_of: { Self.Sender → SenderView };
+
+    /// What the taker knows: its next number of each lane, and the count of its pops.
+    ghost takes_of: { Self.Taker → TakerView };
+
+    /// The mailbox made this sender.
+    ghost is_sender: { Self → Self.Sender → Type 0 };
+
+    /// The mailbox made this taker.
+    ghost is_taker: { Self → Self.Taker → Type 0 };
+
+    /// A mailbox of this capacity, with a sender for each list of lanes, and its taker. No lane stands twice, and there is at
+    /// least one sender.
+    ///
+    /// Errors: `Limit` exactly where capacity, lanes or senders are past the limits; else `Memory`, where memory is refused.
+    /// Nothing was opened then.
+    fn open(
+        alloc: Global,
+        lanes: Vec<Vec<Lane>>,
+        capacity: usize,
+    ) -> Result<(Self, Vec<Self::Sender>, Self::Taker), OpenRefusal>
+        requires some { 0 < vec_len lanes }
+        requires apart { Apart (all_lanes (map (λ v. v.items) lanes.items)) }
+        ensures refused { IfErr result (λ refusal. refusal ≡ unwrap_or (opening_fault (map (λ v. v.items) lanes.items) capacity) Memory) }
+        ensures opened { IfOk result (λ r. (opening_fault (map (λ v. v.items) lanes.items) capacity ≡ None) × (capacity_of r.0 ≡ capacity)) }
+        ensures senders { IfOk result (λ r. Each (λ s. is_sender r.0 s) r.1.items × (map sends_of r.1.items ≡ map (λ v. fresh_sends v.items) lanes.items)) }
+        ensures taker { IfOk result (λ r. is_taker r.0 r.2 × (takes_of r.2 ≡ takes (fresh_take_counts (all_lanes (map (λ v. v.items) lanes.items))) 0)) };
+
+    /// Puts the envelope at the queue's back, in one step. Its lane is the sender's and has had no `End` or `Fail`, its number
+    /// is the next one there and below 2^32, and it fits the world. The lane's next number and the count of pushes rise by
+    /// one, and nothing else of the sender changes.
+    ///
+    /// Error: `Full` hands the same envelope back. The queue was full at some moment of the call, and the sender is as it was.
+    fn offer<R: Wait>(
+        &self,
+        rt: &R,
+        sender: &mut Self::Sender,
+        envelope: Envelope,
+    ) -> Result<(), Full>
+        requires sender { is_sender self.now sender.old }
+        requires next { sent_of envelope.lane (sends_of sender.old).send_counts ≡ Some (envelope.number, false) }
+        requires small { envelope.number < 2 ^ 32 }
+        requires fits { FitsWorld W.world envelope }
+        ensures sender { is_sender self.now sender.new }
+        ensures sent { MatchResult result
+            (λ _. sends_of sender.new ≡ after_offer (sends_of sender.old) envelope)
+            (λ full. (full.envelope ≡ envelope) × (sends_of sender.new ≡ sends_of sender.old) × WasOnce (capacity_of self.now) (SenderSees W.world (sends_of sender.old))) };
+
+    /// TakerView the front.
+    fn take<R: Wait>(&self, rt: &R, taker: &mut Self::Taker) -> Option<Envelope>
+        requires taker { is_taker self.now taker.old }
+        ensures taker { is_taker self.now taker.new }
+        ensures taken { MatchOption result
+            ((takes_of taker.new ≡ takes_of taker.old) × WasOnce 0 (TakerSees W.world (takes_of taker.old)))
+            (λ x. (next_of x.lane (takes_of taker.old).counts ≡ Some x.number) × (x.number < 2 ^ 32) × FitsWorld W.world x × (takes_of taker.new ≡ after_take (takes_of taker.old) x)) };
+
+    /// Ends the mailbox, given all its senders, in any order, and its taker. For each lane it says how many numbers were handed
+    /// over and taken, and which envelopes are left: those from `taken` on, in order.
+    ///
+    /// Error: out of memory. The mailbox is gone then, with what was left in it.
+    fn finish<R: Wait>(
+        self,
+        rt: &R,
+        alloc: Global,
+        senders: Vec<Self::Sender>,
+        taker: Self::Taker,
+    ) -> Result<Left, AllocError>
+        requires senders { Each (λ s. is_sender self s) senders.items }
+        requires taker { is_taker self taker }
+        requires all { AreAll (send_counts_of (map sends_of senders.items)) (takes_of taker).counts }
+        ensures left { IfOk result (λ left. IsAllLeft W.world (send_counts_of (map sends_of senders.items)) (takes_of taker).counts (map held_of left.lanes.items)) };
+}

@@ -1,0 +1,37 @@
+//! What contracts see of a sender and of the taker. No value of a view is made.
+
+use pl_event::Lane;
+use std::collections::LinkedList;
+
+/// A lane of a sender: the next number, and whether End or Fail was sent.
+pub struct SendCount {
+    pub lane: Lane,
+    pub next: u64,
+    pub ended: bool,
+}
+
+/// What a sender knows: its lanes, and the count of its pushes.
+pub struct SenderView {
+    pub send_counts: LinkedList<SendCount>,
+    pub pushes: u64,
+}
+
+/// The taker's next number of a lane.
+#[derive(Clone, Copy, Debug, Drop)]
+pub struct TakeCount {
+    pub lane: Lane,
+    pub next: u64,
+}
+
+/// What the taker knows: its next number of each lane, and the count of its pops.
+pub struct TakerView {
+    pub counts: LinkedList<TakeCount>,
+    pub pops: u64,
+}
+
+/// What contracts see of either: a sender takes nothing, and the taker sends nothing until `finish`.
+pub struct PassView {
+    pub taker: bool,
+    pub sends: SenderView,
+    pub takes: TakerView,
+}

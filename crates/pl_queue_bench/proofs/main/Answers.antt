@@ -1,0 +1,13 @@
+use Rattle.std.proofs.Common.{refl, ◌∙◌}
+use Rattle.std.proofs.lemmas.Bool.{cond-true}
+use Rattle.pl_event.specs.Hops.{data_lane, same_lane}
+use Rattle.pl_event.proofs.SameLanes.{same_lane-self}
+use Rattle.pl_queue_bench.proofs.main.Goals as goal
+
+pub one_by_ring-moved-requires-clause-world : goal.one_by_ring-moved-requires-clause-world
+unfolding same_lane
+one_by_ring-moved-requires-clause-world g c κs = refl
+
+pub one_by_waiting-moved-requires-clause-world : goal.one_by_waiting-moved-requires-clause-world
+unfolding same_lane
+one_by_waiting-moved-requires-clause-world g c κs = refl

@@ -1,0 +1,2 @@
+pub mod RelayLemmas
+pub mod OpeningLemmas

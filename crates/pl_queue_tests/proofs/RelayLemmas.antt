@@ -1,0 +1,160 @@
+-- What a relay sends fits, and which lanes its senders and its taker have.
+use Rattle.std.proofs.Common.{◌≡◌, ◌+◌, ◌<◌, ◌≤◌, ℕ, zero, suc, Bool, true, false, cond, List, [], ◌∷◌, ◌++◌, Option, Some, None, replicate, slice_get, map, length, refl, ap, sym, ◌∙◌, subst, ⊎_elim, arith}
+use Rattle.std.proofs.lemmas.Bool.{cond-true, cond-false, cases_Bool}
+use Rattle.pl_event.specs.declared.envelopes.Envelope.{Envelope}
+use Rattle.pl_event.specs.declared.envelopes.Item.TheVariants as item
+use Rattle.pl_event.specs.declared.envelopes.Kind.{Kind}
+use Rattle.pl_event.specs.declared.envelopes.Kind.TheVariants.{Data}
+use Rattle.pl_event.specs.declared.envelopes.Lane.{Lane}
+use Rattle.pl_event.specs.declared.events.Event.{Event}
+use Rattle.pl_event.specs.declared.events.Event.TheVariants.{Active, ReadComplete}
+use Rattle.pl_event.specs.Hops.{same_lane}
+use Rattle.pl_event.specs.Worlds.{World, content_of, FitsWorld, FitsAsKind}
+use Rattle.pl_event.proofs.SameLanes.{same_lane-self}
+use Rattle.pl_queue.specs.declared.views.SendCount.{SendCount}
+use Rattle.pl_queue.specs.declared.views.SenderView.{SenderView}
+use Rattle.pl_queue.specs.declared.views.TakeCount.{TakeCount}
+use Rattle.pl_queue.specs.declared.views.TakerView.{TakerView}
+use Rattle.pl_queue.specs.Left.{send_counts_of, all_lanes, AreAll}
+use Rattle.pl_queue.specs.Rule.{Each}
+use Rattle.pl_queue.specs.Views.{fresh_sends, send_count, sent_of, set_send_count, lanes_of_send_counts, lanes_of_counts, after_offer, after_take, takes, fresh_take_counts}
+use Rattle.pl_queue.proofs.Drains.{set_send_count-lanes, set_take_count-lanes, all-given}
+use Rattle.pl_queue.proofs.Lists.{none-some, map-append}
+use Rattle.pl_queue_tests.specs.Relays.{IsFresh, lane_events, event_at, two_lanes, sending_lanes, taking_lanes}
+
+in_replicate : {A : Type 0} (a : A) (n count : ℕ) → n < count → slice_get (replicate count a) n ≡ Some a
+in_replicate a n zero h = absurd (omega arith)
+in_replicate a zero (suc count) h = refl
+in_replicate a (suc n) (suc count) h = in_replicate a n count (omega arith)
+
+in_lane : (n last : ℕ) → n < last → slice_get (lane_events last) n ≡ Some (event_at n)
+in_lane n zero h = absurd (omega arith)
+in_lane zero (suc last) h = refl
+in_lane (suc n) (suc last) h = in_replicate ReadComplete n last (omega arith)
+
+count_replicate : {A : Type 0} (a : A) (n : ℕ) → n ≡ length (replicate n a)
+count_replicate a zero = refl
+count_replicate a (suc n) = ap suc (count_replicate a n)
+
+lane_length : (last : ℕ) → last ≡ length (lane_events last)
+lane_length zero = refl
+lane_length (suc last) = ap suc (count_replicate ReadComplete last)
+
+pub later-event : (n : ℕ) → (n ≡ 0 → ⊥) → ReadComplete ≡ event_at n
+later-event zero h = absurd (h refl)
+later-event (suc n) h = refl
+
+pub event-fits : (world : World) (l : Lane) (n last : ℕ) (e : Event) → l.kind ≡ Data → content_of world l ≡ Some (lane_events last) → n < last → e ≡ event_at n
+    → FitsWorld world (record { lane = l; number = n; item = item.Event e })
+unfolding FitsWorld
+event-fits world l n last e kind is h same =
+    subst (λ k. FitsAsKind world k (record { lane = l; number = n; item = item.Event e })) (sym kind) (lane_events last, is, in_lane n last h ∙ ap Some (sym same))
+
+pub last-fits : (world : World) (l : Lane) (last : ℕ) → l.kind ≡ Data → content_of world l ≡ Some (lane_events last) → FitsWorld world (record { lane = l; number = last; item = item.End })
+unfolding FitsWorld
+last-fits world l last kind is =
+    subst (λ k. FitsAsKind world k (record { lane = l; number = last; item = item.End })) (sym kind) (lane_events last, is, lane_length last)
+
+-- a count that was found is found as it was set
+pub sent_of-this : (l : Lane) (n : ℕ) (e : Bool) (ss : List SendCount) (k : ℕ) (f : Bool) → sent_of l ss ≡ Some (k, f) → sent_of l (set_send_count l n e ss) ≡ Some (n, e)
+sent_of-this l n e [] k f h = absurd (none-some (k, f) h)
+sent_of-this l n e (s ∷ ss) k f h = ⊎_elim
+    (λ (t : same_lane l s.lane ≡ true).
+    subst (λ b. sent_of l (cond b (send_count s.lane n e ∷ ss) (s ∷ set_send_count l n e ss)) ≡ Some (n, e)) (sym t) (cond-true (same_lane l s.lane) (Some (n, e)) (sent_of l ss) t))
+    (λ (t : same_lane l s.lane ≡ false).
+    let g = sym (cond-false (same_lane l s.lane) (Some (s.next, s.ended)) (sent_of l ss) t) ∙ h in
+    subst (λ b. sent_of l (cond b (send_count s.lane n e ∷ ss) (s ∷ set_send_count l n e ss)) ≡ Some (n, e)) (sym t)
+    (cond-false (same_lane l s.lane) (Some (s.next, s.ended)) (sent_of l (set_send_count l n e ss)) t ∙ sent_of-this l n e ss k f g))
+    (cases_Bool (same_lane l s.lane))
+
+pub lanes-stay : (s : SenderView) (x : Envelope) → sending_lanes (after_offer s x) ≡ sending_lanes s
+lanes-stay s x = set_send_count-lanes x.lane _ _ s.send_counts
+
+pub taken-lanes-stay : (t : TakerView) (x : Envelope) → taking_lanes (after_take t x) ≡ taking_lanes t
+taken-lanes-stay t x = set_take_count-lanes x.lane _ t.counts
+
+size : {A B : Type 0} (f : A → B) (r : List A) (x y : A) → 0 < length (map f ((r ++ x ∷ []) ++ y ∷ []))
+size f [] x y = omega arith
+size f (z ∷ r) x y = omega arith
+
+three : {A B : Type 0} (f : A → B) (r : List A) (x y : A) (a b : B) (z : A) → map f (((z ∷ r) ++ x ∷ []) ++ y ∷ []) ≡ a ∷ b ∷ [] → ⊥
+three f [] x y a b z e = cc
+three f (w ∷ r) x y a b z e = let n = ap length e in omega (arith, n, size f r x y)
+
+-- the last two of a list whose images are two
+pub last_two : {A B : Type 0} (f : A → B) (r : List A) (x y : A) (a b : B) → map f ((r ++ x ∷ []) ++ y ∷ []) ≡ a ∷ b ∷ [] → (f x ≡ a) × (f y ≡ b)
+last_two f [] x y a b e = (cc, cc)
+last_two f (z ∷ r) x y a b e = absurd (three f r x y a b z e)
+
+Each-two : {S : Type 0} (P : S → Type 0) (r : List S) (x y : S) → Each P ((r ++ x ∷ []) ++ y ∷ []) → P x × P y
+Each-two P [] x y h = (h.0, h.1.0)
+Each-two P (z ∷ r) x y h = Each-two P r x y h.1
+
+fresh : (l : Lane) (s : SenderView) → s ≡ fresh_sends (l ∷ []) → IsFresh l s
+fresh l s e =
+    (ap (λ (t : SenderView). sent_of l t.send_counts) e ∙ cond-true (same_lane l l) (Some (0, false)) None (same_lane-self l), ap sending_lanes e)
+
+-- the two senders of a mailbox with a lane each
+pub opened_two : {S V : Type 0} (P : S → Type 0) (f : S → SenderView) (h : V → List Lane) (all front r : List S) (x y : S) (lanes : List V) (a b : V) (first second : Lane)
+    → Each P all → map f all ≡ map (λ v. fresh_sends (h v)) lanes → all ≡ front ++ y ∷ [] → front ≡ r ++ x ∷ [] → lanes ≡ a ∷ b ∷ [] → h a ≡ first ∷ [] → h b ≡ second ∷ []
+    → (P x × IsFresh first (f x)) × (P y × IsFresh second (f y))
+opened_two P f h all front r x y lanes a b first second each is e d l p q =
+    let w : all ≡ (r ++ x ∷ []) ++ y ∷ [] = e ∙ ap (λ xs. xs ++ y ∷ []) d in
+    let m : map f ((r ++ x ∷ []) ++ y ∷ []) ≡ fresh_sends (h a) ∷ fresh_sends (h b) ∷ [] = ap (λ xs. map f xs) (sym w) ∙ is ∙ ap (λ vs. map (λ v. fresh_sends (h v)) vs) l in
+    let two = last_two f r x y (fresh_sends (h a)) (fresh_sends (h b)) m in
+    let these = Each-two P r x y (subst (λ xs. Each P xs) w each) in
+    ((these.0, fresh first (f x) (two.0 ∙ ap fresh_sends p)), (these.1, fresh second (f y) (two.1 ∙ ap fresh_sends q)))
+
+-- the taker of such a mailbox
+pub opened_taker : {V : Type 0} (h : V → List Lane) (t : TakerView) (lanes : List V) (a b : V) (first second : Lane)
+    → t ≡ takes (fresh_take_counts (all_lanes (map h lanes))) 0 → lanes ≡ a ∷ b ∷ [] → h a ≡ first ∷ [] → h b ≡ second ∷ [] → taking_lanes t ≡ first ∷ second ∷ []
+opened_taker h t lanes a b first second is l p q =
+    ap taking_lanes is ∙ ap (λ vs. lanes_of_counts (fresh_take_counts (all_lanes (map h vs)))) l
+    ∙ ap (λ ls. lanes_of_counts (fresh_take_counts (ls ++ (h b ++ [])))) p
+    ∙ ap (λ ls. lanes_of_counts (fresh_take_counts (first ∷ (ls ++ [])))) q
+
+-- both senders' lanes are all that the taker has
+pub both-given : (s u : SenderView) (t : TakerView) (first second : Lane) → sending_lanes s ≡ first ∷ [] → sending_lanes u ≡ second ∷ [] → taking_lanes t ≡ first ∷ second ∷ []
+    → AreAll (send_counts_of (s ∷ u ∷ [])) t.counts
+both-given s u t first second p q r = all-given (send_counts_of (s ∷ u ∷ [])) t.counts
+    (map-append (λ (c : SendCount). c.lane) s.send_counts (u.send_counts ++ [])
+    ∙ ap (λ ls. lanes_of_send_counts s.send_counts ++ ls) (map-append (λ (c : SendCount). c.lane) u.send_counts [] ∙ ap (λ ls. ls ++ []) q)
+    ∙ ap (λ ls. ls ++ second ∷ []) p
+    ∙ sym r)
+
+pub both-senders : {S : Type 0} (f : S → SenderView) (all : List S) (x y : S) (t : TakerView) (first second : Lane) → all ≡ x ∷ y ∷ [] → sending_lanes (f x) ≡ first ∷ [] → sending_lanes (f y) ≡ second ∷ []
+    → taking_lanes t ≡ first ∷ second ∷ [] → AreAll (send_counts_of (map f all)) t.counts
+both-senders f all x y t first second is p q r =
+    subst (λ ss. AreAll (send_counts_of (map f ss)) t.counts) (sym is) (both-given (f x) (f y) t first second p q r)
+
+last_one : {A B : Type 0} (f : A → B) (r : List A) (x : A) (a : B) → map f (r ++ x ∷ []) ≡ a ∷ [] → f x ≡ a
+last_one f [] x a e = cc
+last_one f (z ∷ []) x a e = absurd (let n = ap length e in omega (arith, n))
+last_one f (z ∷ w ∷ r) x a e = absurd (let n = ap length e in omega (arith, n))
+
+Each-last : {S : Type 0} (P : S → Type 0) (r : List S) (x : S) → Each P (r ++ x ∷ []) → P x
+Each-last P [] x h = h.0
+Each-last P (z ∷ r) x h = Each-last P r x h.1
+
+-- the sender of a mailbox with one lane
+pub opened_one : {S V : Type 0} (P : S → Type 0) (f : S → SenderView) (h : V → List Lane) (all front : List S) (x : S) (lanes : List V) (a : V) (first : Lane)
+    → Each P all → map f all ≡ map (λ v. fresh_sends (h v)) lanes → all ≡ front ++ x ∷ [] → lanes ≡ a ∷ [] → h a ≡ first ∷ [] → P x × IsFresh first (f x)
+opened_one P f h all front x lanes a first each is e l p =
+    let m : map f (front ++ x ∷ []) ≡ fresh_sends (h a) ∷ [] = ap (λ xs. map f xs) (sym e) ∙ is ∙ ap (λ vs. map (λ v. fresh_sends (h v)) vs) l in
+    (Each-last P front x (subst (λ xs. Each P xs) e each), fresh first (f x) (last_one f front x (fresh_sends (h a)) m ∙ ap fresh_sends p))
+
+-- its taker, and all that it has
+pub one-sender : {S V : Type 0} (f : S → SenderView) (all : List S) (x : S) (t u : TakerView) (h : V → List Lane) (lanes : List V) (a : V) (first : Lane) → all ≡ x ∷ [] → sending_lanes (f x) ≡ first ∷ []
+    → taking_lanes u ≡ taking_lanes t → t ≡ takes (fresh_take_counts (all_lanes (map h lanes))) 0 → lanes ≡ a ∷ [] → h a ≡ first ∷ [] → AreAll (send_counts_of (map f all)) u.counts
+one-sender f all x t u h lanes a first is own stays old l p =
+    let taker : taking_lanes u ≡ first ∷ [] = stays ∙ ap taking_lanes old ∙ ap (λ vs. lanes_of_counts (fresh_take_counts (all_lanes (map h vs)))) l
+    ∙ ap (λ ls. lanes_of_counts (fresh_take_counts (ls ++ []))) p in
+    subst (λ ss. AreAll (send_counts_of (map f ss)) u.counts) (sym is)
+    (all-given (send_counts_of (f x ∷ [])) u.counts (map-append (λ (c : SendCount). c.lane) (f x).send_counts [] ∙ ap (λ ls. ls ++ []) own ∙ sym taker))
+
+-- a world of two lanes
+pub in_first : (a b : Lane) (last : ℕ) → content_of (two_lanes a b last) a ≡ Some (lane_events last)
+in_first a b last = cond-true (same_lane a a) _ _ (same_lane-self a)
+
+pub in_second : (a b : Lane) (last : ℕ) → same_lane b a ≡ false → content_of (two_lanes a b last) b ≡ Some (lane_events last)
+in_second a b last e = cond-false (same_lane b a) _ _ e ∙ cond-true (same_lane b b) _ _ (same_lane-self b)

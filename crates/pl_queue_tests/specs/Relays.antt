@@ -1,0 +1,33 @@
+-- What the two lanes of a relay carry.
+use Rattle.std.specs.Prelude.{◌≡◌, Some, false, ℕ, zero, suc, List, [], ◌∷◌, replicate}
+use Rattle.pl_event.specs.declared.envelopes.Lane.{Lane}
+use Rattle.pl_event.specs.declared.events.Event.{Event}
+use Rattle.pl_event.specs.declared.events.Event.TheVariants.{Active, ReadComplete}
+use Rattle.pl_event.specs.Worlds.{World}
+use Rattle.pl_queue.specs.declared.views.SenderView.{SenderView}
+use Rattle.pl_queue.specs.declared.views.TakerView.{TakerView}
+use Rattle.pl_queue.specs.Views.{sent_of, lanes_of_send_counts, lanes_of_counts}
+
+-- so many events: a channel becomes active, and its bursts are empty
+abbrev pub lane_events : ℕ → List Event
+lane_events zero = []
+lane_events (suc n) = Active ∷ replicate n ReadComplete
+
+-- the event with this number
+abbrev pub event_at : ℕ → Event
+event_at zero = Active
+event_at (suc n) = ReadComplete
+
+-- a world of two lanes
+abbrev pub two_lanes : Lane → Lane → ℕ → World
+two_lanes first second last = (first, lane_events last) ∷ (second, lane_events last) ∷ []
+
+abbrev pub sending_lanes : SenderView → List Lane
+sending_lanes s = lanes_of_send_counts s.send_counts
+
+abbrev pub taking_lanes : TakerView → List Lane
+taking_lanes t = lanes_of_counts t.counts
+
+-- a sender with one lane, of which nothing was sent
+abbrev pub IsFresh : Lane → SenderView → Type 0
+IsFresh l s = (sent_of l s.send_counts ≡ Some (0, false)) × (sending_lanes s ≡ l ∷ [])
