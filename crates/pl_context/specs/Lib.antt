@@ -6,3 +6,4 @@ pub mod ContextViews
 pub mod Contexts
 pub mod TailViews
 pub mod Backlogs
+pub mod WaitingViews

@@ -51,6 +51,13 @@ impl<A> Backlog<A> {
         self.entries.is_empty()
     }
 
+    /// How many envelopes wait.
+    pub fn len(&self) -> usize
+        ensures { result ≡ length self.now.items }
+    {
+        self.entries.len()
+    }
+
     /// The oldest envelope with its token, or None where there is none.
     pub fn front(&self) -> Option<&(Envelope, A)>
         ensures some { IfSome result (λ entry. slice_get self.now.items 0 ≡ Some entry.now) }

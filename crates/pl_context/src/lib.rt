@@ -10,6 +10,7 @@ mod ports;
 mod standing;
 mod stops;
 mod tails;
+mod waiting;
 
 pub use added::Added;
 pub use backlog::Backlog;
@@ -19,3 +20,4 @@ pub use place_laws::place_law;
 pub use ports::Port;
 pub use standing::{Standing, Took};
 pub use tails::Tail;
+pub use waiting::Waiting;

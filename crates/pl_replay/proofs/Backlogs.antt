@@ -1,28 +1,34 @@
 -- What the steps of an executor do to its queue and its backlog, in the terms of the model.
-use Rattle.std.proofs.Common.{◌≡◌, ◌≢◌, ℕ, suc, ◌+◌, ◌<◌, ◌≤◌, Bool, true, cond, Option, Some, List, [], ◌∷◌, ◌++◌, length, map, get_or, set, take, drop, refl, sym, ap, ◌∙◌, subst, arith, inl, inr, length-append, append-nil}
-use Rattle.std.specs.List.{All, filter, find, position, remove, slice_get}
-use Rattle.std.specs.Option.{option_map}
-use Rattle.std.proofs.lemmas.List.{map-append, drop-map, get_or_append_left, length-set}
-use Rattle.std.proofs.lemmas.List.Elements.{All-nil, All-push, All-append, All-take, All-drop, All-weaker, filter-append}
-use Rattle.std.proofs.lemmas.List.Quantifiers.{all_pairs_push, all_pairs_remove}
-use Rattle.std.proofs.lemmas.Option.{slice_get-map, slice_get_within, slice_get-get_or, slice_get_read, get_or_from_slice_get}
-use Rattle.std.proofs.lemmas.Bool.{cases_eq, cases_lt, eqb-true, ne_eqb, false≢true}
+use Rattle.std.proofs.Common.{◌≡◌, ◌≢◌, ℕ, ◌+◌, ◌<◌, ◌≤◌, Bool, true, false, Option, Some, None, List, [], ◌∷◌, ◌++◌, length, map, get_or, refl, sym, ap, ◌∙◌, subst, arith, inl, inr}
+use Rattle.std.specs.List.{find, list_any, position, remove, slice_get}
+use Rattle.std.specs.Option.{option_map, option_map_or}
+use Rattle.std.proofs.lemmas.List.{map-append, length-map}
+use Rattle.std.proofs.lemmas.Option.{slice_get-map, slice_get-get_or, same_Some, none-some}
+use Rattle.std.proofs.lemmas.Bool.{cases_eq, eqb-true, false≢true}
+use Rattle.pl_event.specs.declared.envelopes.Kind.{Kind}
+use Rattle.pl_event.specs.declared.envelopes.Kind.TheVariants.{Data, Flags}
 use Rattle.pl_event.specs.declared.envelopes.Lane.{Lane}
 use Rattle.pl_event.specs.declared.envelopes.Envelope.{Envelope}
-use Rattle.pl_context.specs.Stops.{StopsView, HasPlaces, no_stops}
+use Rattle.pl_event.proofs.Lists.{position-map, remove-map, option_map-map}
+use Rattle.pl_context.specs.declared.added.Added.{Added}
+use Rattle.pl_context.specs.declared.added.Added.TheVariants.{Last, Refused, Discarded}
+use Rattle.pl_context.specs.declared.waiting.Late.{Late}
+use Rattle.pl_context.specs.Backlogs.{BacklogView}
+use Rattle.pl_context.specs.OutputsViews.{added_items, stopped_after}
+use Rattle.pl_context.specs.Stops.{StopsView, HasPlaces, no_stops, any_stopped, has_stopped, same_hop}
+use Rattle.pl_context.specs.WaitingViews.{WaitingView, Entry, Holds, WaitingAdds, Takes, stops_for}
+use Rattle.pl_context.specs.WaitingViews.{is_for as entry_is_for}
+use Rattle.pl_context.proofs.Firsts.{find-Some-position, position-first, find-first}
 use Rattle.pl_world.specs.Plans.{Plan}
 use Rattle.pl_channel.specs.MadeItems.{Place}
+use Rattle.pl_channel.specs.Envelopes.{envelope_at}
 use Rattle.pl_replay.specs.States.{ExecutorState, nothing_waits}
 use Rattle.pl_replay.specs.CoreMoves.{target}
-use Rattle.pl_channel.specs.Envelopes.{envelope_at}
-use Rattle.pl_replay.specs.BacklogStand.{Aged, IsByAge, is_for, is_aged_for, entry_at, WaitingStands, BacklogStands, ExecutorStands, Keeps}
+use Rattle.pl_replay.specs.BacklogStand.{is_for, waits_for, ExecutorStands, Keeps, with_late, without_late}
 use Rattle.pl_replay.specs.declared.executors.Executor.{Executor}
-use Rattle.pl_context.specs.Backlogs.{BacklogView}
-use Rattle.std.proofs.Math.Seq.{get_or-append_seam}
-use Rattle.pl_event.proofs.Lists.{at_set_same, at_set_other, find-map, option_map-map, position-map}
-use Rattle.pl_replay.proofs.Firsts.{IsFirst, find-filter, position-first, filter-remove_first, filter-remove_other}
 
--- ---- what waits for one executor
+abbrev entry-at : ℕ → Envelope → Entry Unit
+entry-at y envelope = record { target = y; envelope = envelope; token = tt }
 
 -- there is a place for one lane
 pub places-one : (places : ℕ) (lane : Lane) → 1 ≤ places → HasPlaces (no_stops places) (lane ∷ [])
@@ -34,188 +40,121 @@ places-one places lane some = record {
   own = λ other among. among;
 }
 
-module _ (plan : Plan) (places : ℕ → ℕ) (aged : List Aged) (e : Executor) (b : BacklogStands plan places aged e) where
-  pub waiting-at : (y : ℕ) (w : BacklogView ℕ) → y < plan.executors → w ≡ get_or e.waiting.items y w → WaitingStands plan y aged (places y) w
-  waiting-at y w there is =
-      b.waiting y w (slice_get_read e.waiting.items (length e.waiting.items) y w refl (omega (arith, there, b.targets)) is)
+-- ---- an addition
 
-  pub waiting-place : (y : ℕ) (w : BacklogView ℕ) (lane : Lane) → WaitingStands plan y aged (places y) w → 1 ≤ places y → HasPlaces w.stopped (lane ∷ [])
-  waiting-place y w lane ws some =
-      subst (λ (t : StopsView). HasPlaces t (lane ∷ [])) (sym ws.stopped) (places-one (places y) lane some)
+module _ (plan : Plan) (places : ℕ → ℕ) (s : ExecutorState) (e : Executor) (st : ExecutorStands plan places s e) (y : ℕ) (there : y < plan.executors) where
+  pub place-for : (lane : Lane) → 1 ≤ places y → HasPlaces (stops_for e.waiting y) (lane ∷ [])
+  place-for lane some = subst (λ (t : StopsView). HasPlaces t (lane ∷ [])) (sym (st.stopped y there)) (places-one (places y) lane some)
 
--- what its front is
-module _ (plan : Plan) (y : ℕ) (aged : List Aged) (places : ℕ) (w : BacklogView ℕ) (ws : WaitingStands plan y aged places w) where
-  abbrev front : Option Aged
-  front = find (is_aged_for plan y) aged
+  module _ (envelope : Envelope) (result : Option Unit) (after : Executor) (queue : after.queue.items ≡ e.queue.items) (adds : WaitingAdds e.waiting y envelope tt result after.waiting)
+      (goes_on : any_stopped (stops_for after.waiting y) ≡ false) where
+    before-is : stops_for e.waiting y ≡ no_stops (places y)
+    before-is = st.stopped y there
 
-  front-entry : slice_get w.items 0 ≡ option_map (entry_at plan) front
-  front-entry =
-      ap (λ (l : List (Envelope × ℕ)). slice_get l 0) ws.items
-      ∙ slice_get-map (entry_at plan) (filter (is_aged_for plan y) aged) 0
-      ∙ ap (option_map (entry_at plan)) (sym (find-filter (is_aged_for plan y) aged))
+    -- it was added, since nothing has stopped
+    is-last : adds.answer ≡ Last
+    is-last = by adds.answer refl
+      where
+        noted : (k : Kind) → any_stopped (elim k [ Data ↦ record (no_stops (places y)) { lanes = envelope.lane ∷ [] } | Flags ↦ record (no_stops (places y)) { flag_lanes = envelope.lane ∷ [] } ]) ≡ true
+        noted Data = refl
+        noted Flags = refl
 
-  pub front-age : option_map (λ (entry : Envelope × ℕ). entry.1) (slice_get w.items 0) ≡ option_map (λ (i : Aged). i.age) front
-  front-age =
-      ap (option_map (λ (entry : Envelope × ℕ). entry.1)) front-entry
-      ∙ option_map-map (λ (entry : Envelope × ℕ). entry.1) (entry_at plan) front
+        going : (k : Kind) → elim k [ Data ↦ list_any (same_hop envelope.lane) [] | Flags ↦ list_any (same_hop envelope.lane) [] ] ≡ false
+        going Data = refl
+        going Flags = refl
 
-  pub front-envelope : (backlog : List Place) → backlog ≡ map (λ (i : Aged). i.place) aged
-      → option_map (λ (entry : Envelope × ℕ). entry.0) (slice_get w.items 0) ≡ option_map (envelope_at plan) (find (is_for plan y) backlog)
-  front-envelope backlog is =
-      ap (option_map (λ (entry : Envelope × ℕ). entry.0)) front-entry
-      ∙ option_map-map (λ (entry : Envelope × ℕ). entry.0) (entry_at plan) front
-      ∙ sym (ap (λ (l : List Place). option_map (envelope_at plan) (find (is_for plan y) l)) is
-      ∙ ap (option_map (envelope_at plan)) (find-map (is_for plan y) (λ (i : Aged). i.place) aged)
-      ∙ option_map-map (envelope_at plan) (λ (i : Aged). i.place) front)
+        by : (a : Added) → adds.answer ≡ a → a ≡ Last
+        by Last is = refl
+        by Refused is =
+            let now = adds.stopped ∙ ap (λ (b : Added). stopped_after b (stops_for e.waiting y) envelope.lane) is ∙ ap (λ (t : StopsView). stopped_after Refused t envelope.lane) before-is in
+            absurd (false≢true (sym goes_on ∙ ap any_stopped now ∙ noted envelope.lane.kind))
+        by Discarded is =
+            absurd (false≢true (sym (going envelope.lane.kind) ∙ ap (λ (t : StopsView). has_stopped t envelope.lane) (sym before-is) ∙ adds.discarded.0 is))
 
--- ---- one of the parts has changed
+    stops-for : (a b : WaitingView Unit) (z : ℕ) → slice_get a.targets z ≡ slice_get b.targets z → stops_for a z ≡ stops_for b z
+    stops-for a b z same = ap (λ (o : Option (BacklogView (Late Unit))). option_map_or (λ t. t.stopped) o (no_stops 0)) same
 
--- what holds of each, where one was written
-each-set : (ws : List (BacklogView ℕ)) (y : ℕ) (new : BacklogView ℕ) (P : ℕ → BacklogView ℕ → Type 0) → ((z : ℕ) (w : BacklogView ℕ) → z ≢ y → slice_get ws z ≡ Some w → P z w) → P y new
-    → (z : ℕ) (w : BacklogView ℕ) → slice_get (set ws y new) z ≡ Some w → P z w
-each-set ws y new P others here z w at = elim (cases_eq z y) [
-  | inl same ↦
-      let is = at_set_same ws y new w (subst (λ (n : ℕ). slice_get (set ws y new) n ≡ Some w) same at) in
-      subst (λ (n : ℕ). P n w) (sym same) (subst (P y) (sym is) here)
-  | inr other ↦ others z w other (at_set_other ws y z new w other at)
-]
+    pub stands-late : (item : Place) → envelope ≡ envelope_at plan item → is_for plan y item ≡ true → ExecutorStands plan places (with_late s item) after
+    stands-late item is for = record {
+      queue = queue ∙ st.queue;
+      targets = adds.targets ∙ st.targets;
+      waiting =
+          let entry : map (entry-at y) (added_items adds.answer envelope) ≡ waits_for plan item ∷ [] =
+          ap (λ (a : Added). map (entry-at y) (added_items a envelope)) is-last
+          ∙ ap (λ (x : Envelope). entry-at y x ∷ []) is
+          ∙ ap (λ (n : ℕ). entry-at n (envelope_at plan item) ∷ []) (sym (eqb-true (target plan item) y for)) in
+          subst (Holds after.waiting) (ap (λ (l : List (Entry Unit)). map (waits_for plan) s.backlog ++ l) entry ∙ sym (map-append (waits_for plan) s.backlog (item ∷ [])))
+          (adds.holds (map (waits_for plan) s.backlog) st.waiting);
+      stopped = λ z below. elim (cases_eq z y) [
+        | inl same ↦ subst (λ (n : ℕ). stops_for after.waiting n ≡ no_stops (places n)) (sym same)
+            (adds.stopped ∙ ap (λ (a : Added). stopped_after a (stops_for e.waiting y) envelope.lane) is-last ∙ before-is)
+        | inr other ↦ stops-for after.waiting e.waiting z (adds.others z other) ∙ st.stopped z below
+      ];
+    }
 
-module _ (plan : Plan) (places : ℕ → ℕ) (aged : List Aged) (e : Executor) (b : BacklogStands plan places aged e) (y : ℕ) (new : BacklogView ℕ) (after : Executor)
-    (written : after.waiting.items ≡ set e.waiting.items y new) where
-  set-stands : (now : List Aged) → IsByAge now → All (λ i. i.age < after.next_age) now → WaitingStands plan y now (places y) new
-      → ((z : ℕ) → z ≢ y → filter (is_aged_for plan z) now ≡ filter (is_aged_for plan z) aged) → BacklogStands plan places now after
-  set-stands now order younger here others = record {
-    order = order;
-    younger = younger;
-    targets = ap (λ (l : List (BacklogView ℕ)). length l) written ∙ length-set e.waiting.items y new ∙ b.targets;
-    waiting = λ z w at. each-set e.waiting.items y new (λ z w. WaitingStands plan z now (places z) w)
-        (λ z w other at. let was = b.waiting z w at in record {
-          items = was.items ∙ ap (map (entry_at plan)) (sym (others z other));
-          stopped = was.stopped;
-        })
-        here z w (subst (λ (l : List (BacklogView ℕ)). slice_get l z ≡ Some w) written at);
-  }
+-- ---- a taking
 
-  -- one item more
-  module _ (item : Place) (for : is_for plan y item ≡ true) where
-    abbrev late : Aged
-    late = record { place = item; age = e.next_age }
+module _ (plan : Plan) (places : ℕ → ℕ) (s : ExecutorState) (e : Executor) (st : ExecutorStands plan places s e) (y : ℕ) where
+  place-is : (i : ℕ) → position (entry_is_for y) (map (waits_for plan) s.backlog) ≡ Some i → position (is_for plan y) s.backlog ≡ Some i
+  place-is i found = sym (position-map (entry_is_for y) (waits_for plan) s.backlog) ∙ found
 
-    abbrev more : List Aged
-    more = aged ++ late ∷ []
+  -- the envelope of the first item for an executor
+  pub front-is : (result : Option (Envelope × Unit)) (after : WaitingView Unit) → Takes e.waiting (map (waits_for plan) s.backlog) y result after
+      → option_map (λ (x : Envelope × Unit). x.0) result ≡ option_map (envelope_at plan) (find (is_for plan y) s.backlog)
+  front-is None after takes = sym (ap (option_map (envelope_at plan)) (none (find (is_for plan y) s.backlog) refl))
+    where
+      none : (o : Option Place) → find (is_for plan y) s.backlog ≡ o → find (is_for plan y) s.backlog ≡ None
+      none None is = is
+      none (Some item) is =
+          let at = find-Some-position (is_for plan y) s.backlog item is in
+          absurd (none-some at.0 (sym (sym (position-map (entry_is_for y) (waits_for plan) s.backlog) ∙ takes.taken.0) ∙ at.1))
+  front-is (Some (envelope, token)) after takes =
+      let t = takes.taken in
+      let first = position-first (is_for plan y) s.backlog t.0 (place-is t.0 t.1) in
+      sym (ap (option_map (envelope_at plan)) (find-first (is_for plan y) s.backlog t.0 first)
+      ∙ sym (option_map-map (λ (x : Entry Unit). x.envelope) (waits_for plan) (slice_get s.backlog t.0))
+      ∙ ap (option_map (λ (x : Entry Unit). x.envelope)) (sym (slice_get-map (waits_for plan) s.backlog t.0) ∙ t.2))
 
-    more-same : filter (is_aged_for plan y) more ≡ filter (is_aged_for plan y) aged ++ late ∷ []
-    more-same =
-        filter-append (is_aged_for plan y) aged (late ∷ [])
-        ∙ ap (λ (t : Bool). filter (is_aged_for plan y) aged ++ cond t (late ∷ []) []) for
-
-    more-other : (z : ℕ) → z ≢ y → filter (is_aged_for plan z) more ≡ filter (is_aged_for plan z) aged
-    more-other z other =
-        filter-append (is_aged_for plan z) aged (late ∷ [])
-        ∙ ap (λ (t : Bool). filter (is_aged_for plan z) aged ++ cond t (late ∷ []) []) (ne_eqb (target plan item) z (λ same. other (sym same ∙ eqb-true (target plan item) y for)))
-        ∙ append-nil (filter (is_aged_for plan z) aged)
-
-    pub set-stands-more : (w : BacklogView ℕ) → WaitingStands plan y aged (places y) w → after.next_age ≡ e.next_age + 1
-        → new.items ≡ w.items ++ (envelope_at plan item, e.next_age) ∷ [] → new.stopped ≡ w.stopped
-        → BacklogStands plan places more after
-    set-stands-more w was age items stopped =
-        set-stands more
-        (all_pairs_push (λ (older later : Aged). older.age < later.age) aged late b.order b.younger)
-        (subst (λ (n : ℕ). All (λ i. i.age < n) more) (sym age)
-        (All-push (λ (i : Aged). i.age < e.next_age + 1) aged late
-        (All-weaker (λ (i : Aged). i.age < e.next_age) (λ (i : Aged). i.age < e.next_age + 1) (λ i h. omega (arith, h)) aged b.younger) (omega arith)))
-        (record {
-          items = items
-              ∙ ap (λ (l : List (Envelope × ℕ)). l ++ entry_at plan late ∷ []) was.items
-              ∙ sym (map-append (entry_at plan) (filter (is_aged_for plan y) aged) (late ∷ []))
-              ∙ ap (map (entry_at plan)) (sym more-same);
-          stopped = stopped ∙ was.stopped;
-        })
-        more-other
-
-  -- the front is gone
-  module _ (i : ℕ) (first : IsFirst (is_aged_for plan y) aged i) where
-    less-other : (z : ℕ) → z ≢ y → filter (is_aged_for plan z) (remove aged i) ≡ filter (is_aged_for plan z) aged
-    less-other z other =
-        filter-remove_other (is_aged_for plan z) aged i first.within
-        (λ d. ne_eqb (target plan (get_or aged i d).place) z (λ same. other (sym same ∙ eqb-true (target plan (get_or aged i d).place) y (first.passes d))))
-
-    pub set-stands-less : (w : BacklogView ℕ) → WaitingStands plan y aged (places y) w → after.next_age ≡ e.next_age
-        → new.items ≡ drop 1 w.items → new.stopped ≡ w.stopped
-        → BacklogStands plan places (remove aged i) after
-    set-stands-less w was age items stopped =
-        set-stands (remove aged i)
-        (all_pairs_remove (λ (older later : Aged). older.age < later.age) aged i first.within b.order)
-        (subst (λ (n : ℕ). All (λ i. i.age < n) (remove aged i)) (sym age)
-        (All-append (λ (i : Aged). i.age < e.next_age) (take i aged) (drop (suc i) aged) (All-take (λ (i : Aged). i.age < e.next_age) i aged b.younger) (All-drop (λ (i : Aged). i.age < e.next_age) (suc i) aged b.younger)))
-        (record {
-          items = items
-              ∙ ap (drop 1) was.items
-              ∙ drop-map (entry_at plan) 1 (filter (is_aged_for plan y) aged)
-              ∙ ap (map (entry_at plan)) (sym (filter-remove_first (is_aged_for plan y) aged i first));
-          stopped = stopped ∙ was.stopped;
-        })
-        less-other
-
--- ---- with the queue
-
--- the first item for an executor, by its place in the model's backlog
-pub aged-first : (plan : Plan) (y : ℕ) (aged : List Aged) (backlog : List Place) (i : ℕ) → backlog ≡ map (λ (a : Aged). a.place) aged → position (is_for plan y) backlog ≡ Some i → IsFirst (is_aged_for plan y) aged i
-aged-first plan y aged backlog i is found =
-    position-first (is_aged_for plan y) aged i
-    (sym (position-map (is_for plan y) (λ (a : Aged). a.place) aged) ∙ ap (position (is_for plan y)) (sym is) ∙ found)
+  -- without it
+  pub stands-less : (result : Option (Envelope × Unit)) (after : Executor) → after.queue.items ≡ e.queue.items → Takes e.waiting (map (waits_for plan) s.backlog) y result after.waiting
+      → (i : ℕ) → position (is_for plan y) s.backlog ≡ Some i → ExecutorStands plan places (without_late s i) after
+  stands-less None after queue takes i found =
+      absurd (none-some i (sym (sym (position-map (entry_is_for y) (waits_for plan) s.backlog) ∙ takes.taken.0) ∙ found))
+  stands-less (Some taken) after queue takes i found =
+      let t = takes.taken in
+      let same : t.0 ≡ i = same_Some t.0 i (sym (place-is t.0 t.1) ∙ found) in record {
+        queue = queue ∙ st.queue;
+        targets = takes.targets ∙ st.targets;
+        waiting = subst (Holds after.waiting) (ap (remove (map (waits_for plan) s.backlog)) same ∙ remove-map (waits_for plan) s.backlog i) t.3;
+        stopped = λ z below. takes.stopped z ∙ st.stopped z below;
+      }
 
 pub stands-kept : (plan : Plan) (places : ℕ → ℕ) (s : ExecutorState) (before after : Executor) → Keeps before after → ExecutorStands plan places s before → ExecutorStands plan places s after
 stands-kept plan places s before after k st = record {
   queue = k.queue ∙ st.queue;
-  aged = st.aged;
-  backlog = st.backlog;
-  stands = k.backlog plan places st.aged st.stands;
+  targets = ap (λ (w : WaitingView Unit). length w.targets) k.waiting ∙ st.targets;
+  waiting = subst (λ (w : WaitingView Unit). Holds w (map (waits_for plan) s.backlog)) (sym k.waiting) st.waiting;
+  stopped = λ y below. ap (λ (w : WaitingView Unit). stops_for w y) k.waiting ∙ st.stopped y below;
 }
 
 -- ---- at the start
 
--- nothing waits, with places for so many lanes
-pub record IsIdle (places : ℕ) (w : BacklogView ℕ) : Type 0 where
-  pub items : w.items ≡ []
-  pub stopped : w.stopped ≡ no_stops places
-
-pub record AreIdle (places : List ℕ) (n : ℕ) (ws : List (BacklogView ℕ)) : Type 0 where
-  pub size : length ws ≡ n
-  pub each : (y : ℕ) (w : BacklogView ℕ) → slice_get ws y ≡ Some w → IsIdle (get_or places y 0) w
-
-pub idle-push : (places : List ℕ) (n : ℕ) (ws : List (BacklogView ℕ)) (new : BacklogView ℕ) → AreIdle places n ws → IsIdle (get_or places n 0) new → AreIdle places (n + 1) (ws ++ new ∷ [])
-idle-push places n ws new idle here = record {
-  size = omega (arith, length-append ws (new ∷ []), idle.size);
-  each = λ y w at.
-      let within = slice_get_within (ws ++ new ∷ []) y w at in
-      let is = get_or_from_slice_get (ws ++ new ∷ []) y w w at in
-      elim (cases_lt y (length ws)) [
-        | inl before ↦
-            idle.each y w (slice_get-get_or ws y w before ∙ ap (λ (v : BacklogView ℕ). Some v) (sym (get_or_append_left ws (new ∷ []) w y before) ∙ is))
-        | inr behind ↦
-            let last : y ≡ length ws = omega (arith, within, behind, length-append ws (new ∷ [])) in
-            let same = sym (get_or-append_seam ws new [] w) ∙ ap (λ (k : ℕ). get_or (ws ++ new ∷ []) k w) (sym last) ∙ is in
-            subst (λ (v : BacklogView ℕ). IsIdle (get_or places y 0) v) same (subst (λ (k : ℕ). IsIdle (get_or places k 0) new) (sym idle.size ∙ sym last) here)
-      ];
-}
+stop-of : (o : Option (BacklogView (Late Unit))) → option_map_or (λ b. b.stopped) o (no_stops 0) ≡ option_map_or (λ (t : StopsView). t) (option_map (λ b. b.stopped) o) (no_stops 0)
+stop-of None = refl
+stop-of (Some b) = refl
 
 pub stands-idle : (plan : Plan) (lanes : ℕ → ℕ) (places : List ℕ) (e : Executor) → length places ≡ plan.executors → ((y : ℕ) → y < plan.executors → get_or places y 0 ≡ lanes y)
-    → e.queue.items ≡ [] → AreIdle places (length places) e.waiting.items → ExecutorStands plan lanes nothing_waits e
-stands-idle plan lanes places e size same empty idle = record {
+    → e.queue.items ≡ [] → Holds e.waiting [] → map (λ b. b.stopped) e.waiting.targets ≡ map no_stops places → ExecutorStands plan lanes nothing_waits e
+stands-idle plan lanes places e size same empty idle stops = record {
   queue = empty;
-  aged = [];
-  backlog = refl;
-  stands = record {
-    order = λ i j d before below. absurd (omega (arith, below));
-    younger = All-nil (λ (i : Aged). i.age < e.next_age);
-    targets = idle.size ∙ size;
-    waiting = λ y w at.
-        let here = idle.each y w at in
-        let within = slice_get_within e.waiting.items y w at in
-        record {
-          items = here.items;
-          stopped = here.stopped ∙ ap no_stops (same y (omega (arith, within, idle.size, size)));
-        };
-  };
+  targets =
+      let counted = ap (λ (l : List StopsView). length l) stops in
+      omega (arith, counted, size, length-map e.waiting.targets (λ b. b.stopped), length-map places no_stops);
+  waiting = idle;
+  stopped = λ y below.
+      stop-of (slice_get e.waiting.targets y)
+      ∙ ap (λ (o : Option StopsView). option_map_or (λ (t : StopsView). t) o (no_stops 0))
+      (sym (slice_get-map (λ b. b.stopped) e.waiting.targets y) ∙ ap (λ (l : List StopsView). slice_get l y) stops ∙ slice_get-map no_stops places y
+      ∙ ap (option_map no_stops) (slice_get-get_or places y 0 (omega (arith, below, size))))
+      ∙ ap no_stops (same y below);
 }

@@ -76,7 +76,7 @@ module _ {S T : Type 0} (meaning : S → Meaning) (stands_after : S → List Eve
 
   pub core_starts : (plan : Plan) → IsPlan plan → IsSmallPlan plan → (core : Core S T) → core.capacity ≡ plan.capacity → length core.executors.items ≡ plan.executors
       → AreAtRest meaning state stands_after plan.channels core.channels.items → ExecutorsStand plan (lanes_between plan) (start plan) core.executors.items
-      → All (λ e. e.next_age ≡ 0) core.executors.items → core.work.items ≡ [] → core.work.stopped ≡ no_stops (lane_count plan)
+      → All (λ e. e.waiting.added ≡ 0) core.executors.items → core.work.items ≡ [] → core.work.stopped ≡ no_stops (lane_count plan)
       → CoreStands meaning stands_after state plan (start plan) core
   core_starts plan ok small core capacity count rest idle ages none stopped = record {
     ruled = ok;
@@ -88,10 +88,10 @@ module _ {S T : Type 0} (meaning : S → Meaning) (stands_after : S → List Eve
       channels = λ c p channel here at.
           subst (λ (t : ChannelState). ChannelStands meaning stands_after state c p t channel) (sym (channel_rests plan c p here)) (rest.each c p channel here at);
       executors = idle.each;
-      ages = λ y e at.
-          let first : e.next_age ≡ 0 =
-          subst (λ (t : Executor). t.next_age ≡ 0) (get_or_from_slice_get core.executors.items y e e at)
-          (All-get_or (λ (t : Executor). t.next_age ≡ 0) core.executors.items y e (slice_get_within core.executors.items y e at) ages) in
+      added = λ y e at.
+          let first : e.waiting.added ≡ 0 =
+          subst (λ (t : Executor). t.waiting.added ≡ 0) (get_or_from_slice_get core.executors.items y e e at)
+          (All-get_or (λ (t : Executor). t.waiting.added ≡ 0) core.executors.items y e (slice_get_within core.executors.items y e at) ages) in
           omega (arith, first);
       work = none;
       stopped = stopped;

@@ -56,14 +56,14 @@ module _ {S T : Type 0} (meaning : S → Meaning) (stands_after : S → List Eve
       channel_count = ap (λ (l : List (PlacedChannel S T)). length l) channels ∙ h.channel_count;
       channels = λ c p channel here at. h.channels c p channel here (ap (λ (l : List (PlacedChannel S T)). slice_get l c) (sym channels) ∙ at);
       executors = λ y e at. h.executors y e (ap (λ (l : List Executor). slice_get l y) (sym executors) ∙ at);
-      ages = λ y e at. let old = h.ages y e (ap (λ (l : List Executor). slice_get l y) (sym executors) ∙ at) in omega (arith, old, shorter);
+      added = λ y e at. let old = h.added y e (ap (λ (l : List Executor). slice_get l y) (sym executors) ∙ at) in omega (arith, old, shorter);
       work = work;
       stopped = stopped ∙ h.stopped;
     }
 
     -- so does an executor
     pub holds_executor : (y : ℕ) (e : Executor) (now : ExecutorState) → after.channels.items ≡ core.channels.items → after.executors.items ≡ set core.executors.items y e
-        → y < length core.executors.items → y < length s.executors → ExecutorStands plan (lanes_between plan y) now e → length later ≤ length listed → e.next_age + length later ≤ all_made plan s
+        → y < length core.executors.items → y < length s.executors → ExecutorStands plan (lanes_between plan y) now e → length later ≤ length listed → e.waiting.added + length later ≤ all_made plan s
         → CoreHolds meaning stands_after state plan (with_executor s y now) later after
     holds_executor y e now channels executors within there stands shorter young = record {
       capacity = capacity ∙ h.capacity;
@@ -80,11 +80,11 @@ module _ {S T : Type 0} (meaning : S → Meaning) (stands_after : S → List Eve
             subst (λ (t : ExecutorState). ExecutorStands plan (lanes_between plan z) t f) (sym (executor_at-other s y z now other))
             (h.executors z f (at_set_other core.executors.items y z e f other found))
       ];
-      ages = λ z f at. let found = ap (λ (l : List Executor). slice_get l z) (sym executors) ∙ at in elim (cases_eq z y) [
+      added = λ z f at. let found = ap (λ (l : List Executor). slice_get l z) (sym executors) ∙ at in elim (cases_eq z y) [
         | inl same ↦
             let is = sym (at_set_same core.executors.items y e f (ap (λ (k : ℕ). slice_get (set core.executors.items y e) k) (sym same) ∙ found)) in
-            subst (λ (g : Executor). g.next_age + length later ≤ all_made plan s) is young
-        | inr other ↦ let old = h.ages z f (at_set_other core.executors.items y z e f other found) in omega (arith, old, shorter)
+            subst (λ (g : Executor). g.waiting.added + length later ≤ all_made plan s) is young
+        | inr other ↦ let old = h.added z f (at_set_other core.executors.items y z e f other found) in omega (arith, old, shorter)
       ];
       work = work;
       stopped = stopped ∙ h.stopped;
@@ -115,7 +115,7 @@ module _ {S T : Type 0} (meaning : S → Meaning) (stands_after : S → List Eve
                 (h.channels d q other here_too (at_set_other core.channels.items c d channel other off found))
           ];
           executors = λ y e at. h.executors y e (ap (λ (l : List Executor). slice_get l y) (sym executors) ∙ at);
-          ages = λ y e at. let young = h.ages y e (ap (λ (l : List Executor). slice_get l y) (sym executors) ∙ at) in omega (arith, young, grown);
+          added = λ y e at. let young = h.added y e (ap (λ (l : List Executor). slice_get l y) (sym executors) ∙ at) in omega (arith, young, grown);
           work = work;
           stopped = stopped ∙ h.stopped;
         }

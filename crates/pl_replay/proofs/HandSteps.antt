@@ -8,6 +8,7 @@ use Rattle.std.proofs.lemmas.List.Quantifiers.{position-Some}
 use Rattle.std.proofs.lemmas.Option.{slice_get_read}
 use Rattle.std.specs.Vec.{with_item}
 use Rattle.pl_context.specs.OutputsViews.{OutputsView}
+use Rattle.pl_context.specs.WaitingViews.{WaitingView}
 use Rattle.pl_event.specs.declared.events.Event.{Event}
 use Rattle.pl_event.specs.declared.envelopes.Envelope.{Envelope}
 use Rattle.pl_event.specs.Meaning.{Meaning}
@@ -127,8 +128,8 @@ module _ {S T : Type 0} (meaning : S → Meaning) (stands_after : S → List Eve
           pub last_space : HasSpace room → HasSpace last
           last_space space = subst HasSpace (sym last_room) space
 
-          module _ (left_stands : ExecutorStands plan (lanes_between plan x) (without_late (executor_at s x) i) left) (left_age : left.next_age ≡ from.next_age)
-              (full : Executor) (full_stands : ExecutorStands plan (lanes_between plan y) (with_task (executor_at s y) item) full) (full_age : full.next_age ≡ last.next_age)
+          module _ (left_stands : ExecutorStands plan (lanes_between plan x) (without_late (executor_at s x) i) left) (left_age : left.waiting.added ≡ from.waiting.added)
+              (full : Executor) (full_stands : ExecutorStands plan (lanes_between plan y) (with_task (executor_at s y) item) full) (full_age : full.waiting.added ≡ last.waiting.added)
               (after : Core S T) (capacity : after.capacity ≡ core.capacity) (channels : after.channels.items ≡ core.channels.items) (executors : after.executors.items ≡ set (set roomy x left) y full) (work : after.work ≡ core.work) where
             abbrev less : State
             less = with_executor s x (without_late (executor_at s x) i)
@@ -148,22 +149,22 @@ module _ {S T : Type 0} (meaning : S → Meaning) (stands_after : S → List Eve
 
             holds_ready : CoreHolds meaning stands_after state plan s [] ready
             holds_ready =
-                let young = r.holds.ages y to to_at in
-                let same = keeps.next_age in
+                let young = r.holds.added y to to_at in
+                let same = ap (λ (w : WaitingView Unit). w.added) keeps.waiting in
                 subst (λ (t : State). CoreHolds meaning stands_after state plan t [] ready) (with_same_executor s y)
                 (holds_executor meaning stands_after state plan s [] core r.holds ready [] refl r.holds.work refl y room (executor_at s y) refl refl to_in (omega (arith, to_in, size)) room_stands (omega arith) (omega (arith, young, same)))
 
             holds_taken : CoreHolds meaning stands_after state plan less [] taken
             holds_taken =
-                let young = r.holds.ages x from from_at in
+                let young = r.holds.added x from from_at in
                 let long = length-set core.executors.items y room in
                 holds_executor meaning stands_after state plan s [] ready holds_ready taken [] refl r.holds.work refl x left (without_late (executor_at s x) i) refl refl (omega (arith, from_in, long)) from_there left_stands (omega arith) (omega (arith, young, left_age))
 
             holds_full : CoreHolds meaning stands_after state plan (with_executor less y (with_task (executor_at less y) item)) [] after
             holds_full =
-                let young = r.holds.ages y to to_at in
-                let same = keeps.next_age in
-                let last_age = ap (λ (e : Executor). e.next_age) last_room in
+                let young = r.holds.added y to to_at in
+                let same = ap (λ (w : WaitingView Unit). w.added) keeps.waiting in
+                let last_age = ap (λ (e : Executor). e.waiting.added) last_room in
                 let long = length-set core.executors.items y room in
                 let longer = length-set roomy x left in
                 let size_less = length-with_executor s x (without_late (executor_at s x) i) in

@@ -25,10 +25,14 @@ use Rattle.pl_replay.specs.States.{ExecutorState, State, nothing_waits, channel_
 use Rattle.pl_replay.specs.LaneAccount.{made_at, is_on, numbers_on, IsAccounted}
 use Rattle.pl_channel.specs.ChannelMoves.{origin_by}
 use Rattle.pl_channel.specs.Envelopes.{items_from, flag_by, item_of, envelopes_of, envelope_at, envelopes_at}
-use Rattle.pl_replay.specs.BacklogStand.{Aged, is_for, is_aged_for, entry_at, ExecutorStands}
+use Rattle.pl_replay.specs.BacklogStand.{is_for, waits_for, ExecutorStands}
 use Rattle.pl_replay.specs.InFlight.{on_lane, queued_at, kept_for, waiting_on, first_items, FitOn, IsInOrder}
 use Rattle.pl_replay.specs.declared.executors.Executor.{Executor}
 use Rattle.pl_context.specs.Backlogs.{BacklogView}
+use Rattle.pl_context.specs.declared.waiting.Late.{Late}
+use Rattle.pl_context.specs.WaitingViews.{Entry}
+use Rattle.pl_context.specs.WaitingViews.{is_for as entry_is_for}
+use Rattle.pl_context.proofs.WaitingCalls.{envelopes-for}
 use Rattle.pl_channel.proofs.Numbers.{range-append}
 use Rattle.pl_replay.proofs.Flights.{lane_of, is_on-lane}
 use Rattle.pl_replay.proofs.StateLemmas.{queue_at, backlog_at}
@@ -124,7 +128,7 @@ first_items-more p lane taken made within =
 -- ---- the executors of a net
 
 abbrev kept_of : Option Executor → ℕ → List Envelope
-kept_of o y = option_map_or (λ e. option_map_or (λ w. map (λ entry. entry.0) w.items) (slice_get e.waiting.items y) []) o []
+kept_of o y = option_map_or (λ e. option_map_or (λ w. map (λ entry. entry.0) w.items) (slice_get e.waiting.targets y) []) o []
 
 module _ (plan : Plan) (ok : IsPlan plan) (s : State) (a : IsAccounted plan 0 s []) (executors : List Executor) (size : length executors ≡ plan.executors) (places_for : ℕ → ℕ → ℕ)
     (stand : (y : ℕ) (e : Executor) → slice_get executors y ≡ Some e → ExecutorStands plan (places_for y) (executor_at s y) e) where
@@ -142,16 +146,14 @@ module _ (plan : Plan) (ok : IsPlan plan) (s : State) (a : IsAccounted plan 0 s 
   kept-is : (x y : ℕ) → y < plan.executors → kept_for executors x y ≡ envelopes_at plan (filter (is_for plan y) (backlog_at s x))
   kept-is x y there = by (slice_get executors x) refl
     where
-      one : (e : Executor) → ExecutorStands plan (places_for x) (executor_at s x) e → option_map_or (λ w. map (λ entry. entry.0) w.items) (slice_get e.waiting.items y) [] ≡ envelopes_at plan (filter (is_for plan y) (backlog_at s x))
-      one e st = elim (slice_get_cases e.waiting.items y).1 [
+      one : (e : Executor) → ExecutorStands plan (places_for x) (executor_at s x) e → option_map_or (λ w. map (λ entry. entry.0) w.items) (slice_get e.waiting.targets y) [] ≡ envelopes_at plan (filter (is_for plan y) (backlog_at s x))
+      one e st = elim (slice_get_cases e.waiting.targets y).1 [
         | inl at ↦
-            let ws = st.stands.waiting y at.0 at.2 in
-            ap (λ (o : Option (BacklogView ℕ)). option_map_or (λ w. map (λ entry. entry.0) w.items) o []) at.2
-            ∙ ap (map (λ (entry : Envelope × ℕ). entry.0)) ws.items
-            ∙ map-map (λ (entry : Envelope × ℕ). entry.0) (entry_at plan) (filter (is_aged_for plan y) st.aged)
-            ∙ sym (map-map (envelope_at plan) (λ (i : Aged). i.place) (filter (is_aged_for plan y) st.aged))
-            ∙ ap (envelopes_at plan) (sym (filter-map (is_for plan y) (λ (i : Aged). i.place) st.aged) ∙ ap (filter (is_for plan y)) (sym st.backlog))
-        | inr past ↦ absurd (omega (arith, past.0, st.stands.targets, there))
+            ap (λ (o : Option (BacklogView (Late Unit))). option_map_or (λ w. map (λ entry. entry.0) w.items) o []) at.2
+            ∙ envelopes-for e.waiting (map (waits_for plan) (backlog_at s x)) st.waiting y at.0 at.2
+            ∙ ap (map (λ (x : Entry Unit). x.envelope)) (filter-map (entry_is_for y) (waits_for plan) (backlog_at s x))
+            ∙ map-map (λ (x : Entry Unit). x.envelope) (waits_for plan) (filter (is_for plan y) (backlog_at s x))
+        | inr past ↦ absurd (omega (arith, past.0, st.targets, there))
       ]
 
       by : (o : Option Executor) → slice_get executors x ≡ o → kept_for executors x y ≡ envelopes_at plan (filter (is_for plan y) (backlog_at s x))

@@ -19,7 +19,6 @@ pub mod AllMade
 pub mod RunningSteps
 pub mod MoveSteps
 pub mod HandSteps
-pub mod Firsts
 pub mod Backlogs
 pub mod Oldest
 pub mod PlacedLanes

@@ -339,7 +339,7 @@ module _ {S T : Type 0} (meaning : S → Meaning) (stands_after : S → List Eve
 
   -- ---- the front of a queue
 
-  module _ (plan : Plan) (s : State) (core : Core S T) (r : CoreStands meaning stands_after state plan s core) (x : ℕ) (old e : Executor) (at : slice_get core.executors.items x ≡ Some old) (age : e.next_age ≡ old.next_age)
+  module _ (plan : Plan) (s : State) (core : Core S T) (r : CoreStands meaning stands_after state plan s core) (x : ℕ) (old e : Executor) (at : slice_get core.executors.items x ≡ Some old) (age : e.waiting.added ≡ old.waiting.added)
       (after : Core S T) (capacity : after.capacity ≡ core.capacity) (channels : after.channels.items ≡ core.channels.items) (executors : after.executors.items ≡ set core.executors.items x e) (work : after.work ≡ core.work) where
     inside : x < length core.executors.items
     inside = slice_get_within core.executors.items x old at
@@ -352,7 +352,7 @@ module _ {S T : Type 0} (meaning : S → Meaning) (stands_after : S → List Eve
 
     holds_task : (t : ExecutorState) → ExecutorStands plan (lanes_between plan x) t e → CoreHolds meaning stands_after state plan (with_executor s x t) [] after
     holds_task t stands =
-        let young = r.holds.ages x old at in
+        let young = r.holds.added x old at in
         holds_executor meaning stands_after state plan s [] core r.holds after [] capacity (ap (λ (w : OutputsView). w.items) work ∙ r.holds.work) (ap (λ (w : OutputsView). w.stopped) work)
         x e t channels executors inside placed stands (omega arith) (omega (arith, young, age))
 

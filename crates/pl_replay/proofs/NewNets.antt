@@ -27,7 +27,7 @@ module _ {S T : Type 0} (meaning : S → Meaning) (stands_after : S → List Eve
       → plan.channels ≡ map (channel_planned meaning state) records → AreAtRest meaning state stands_after (map (channel_planned meaning state) records) core.channels.items
       → once ≡ core.channels.items → twice ≡ core.channels.items
       → (plan.channels ≡ map (channel_plan meaning state) once → ExecutorsStand plan (lanes_between plan) (start plan) core.executors.items)
-      → All (λ e. e.next_age ≡ 0) core.executors.items
+      → All (λ e. e.waiting.added ≡ 0) core.executors.items
       → (plan.channels ≡ map (channel_plan meaning state) twice → lanes ≡ lane_count plan)
       → core.work.items ≡ [] → core.work.stopped ≡ no_stops lanes → CoreStands meaning stands_after state plan (start plan) core
   new_starts plan ok small core records once twice lanes capacity planned rest one two idle ages counted empty places =

@@ -111,7 +111,7 @@ module _ {S T : Type 0} (meaning : S → Meaning) (state : T → TransportState)
   -- Nothing waits at executor x of these channels, and it has places for the lanes from it.
   pub record Rests (x : ℕ) (e : Executor) : Type 0 where
     pub stands : (plan : Plan) → plan.executors ≡ count → plan.channels ≡ map (channel_plan meaning state) channels → ExecutorStands plan (lanes_between plan x) nothing_waits e
-    pub next_age : e.next_age ≡ 0
+    pub added : e.waiting.added ≡ 0
 
   -- one that has these places
   pub stands-from : (x : ℕ) (places : List ℕ) (e : Executor) → places ≡ map (count_at x) (range_with_len 0 count)
@@ -147,5 +147,5 @@ module _ {S T : Type 0} (meaning : S → Meaning) (state : T → TransportState)
         subst (λ (s : ExecutorState). ExecutorStands plan (lanes_between plan y) s e) (sym (get_or-replicate_any plan.executors y nothing_waits)) ((each y e at).stands plan planned lanes);
   }
 
-  pub rests-ages : (executors : List Executor) → ((y : ℕ) (e : Executor) → slice_get executors y ≡ Some e → Rests y e) → All (λ e. e.next_age ≡ 0) executors
-  rests-ages executors each = λ y d below. (each y (get_or executors y d) (slice_get-get_or executors y d below)).next_age
+  pub rests-ages : (executors : List Executor) → ((y : ℕ) (e : Executor) → slice_get executors y ≡ Some e → Rests y e) → All (λ e. e.waiting.added ≡ 0) executors
+  rests-ages executors each = λ y d below. (each y (get_or executors y d) (slice_get-get_or executors y d below)).added

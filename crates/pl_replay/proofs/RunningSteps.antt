@@ -193,9 +193,9 @@ module _ {S T : Type 0} (meaning : S → Meaning) (stands_after : S → List Eve
         lane_counted plan x (target plan item) item.lane.channel item.lane.hop of.0 of.1 (last_hop-le of.0 item.lane.kind item.lane.hop of.2) from to
 
     -- the next age is a number
-    pub first_age : (e : Executor) → slice_get core.executors.items x ≡ Some e → e.next_age + 1 < 2 ^ 64
+    pub first_age : (e : Executor) → slice_get core.executors.items x ≡ Some e → e.waiting.added + 1 < 2 ^ 64
     first_age e at =
-        let young = r.holds.ages x e at in
+        let young = r.holds.added x e at in
         let few = all_made-few plan r.ruled r.small (pending plan x s [] (item ∷ rest)).state x (pending plan x s [] (item ∷ rest)).items r.accounted (small_at plan r.small) (flags_few plan x s [] (item ∷ rest) core r) in
         omega (arith, young, few)
 
@@ -234,11 +234,11 @@ module _ {S T : Type 0} (meaning : S → Meaning) (stands_after : S → List Eve
         omega (arith, is, there)
 
     -- and joins the backlog
-    pub next_passed : target plan f.item ≢ x → (old e : Executor) → slice_get core.executors.items x ≡ Some old → ExecutorStands plan (lanes_between plan x) (with_late (executor_at s x) f.item) e → e.next_age ≡ old.next_age + 1
+    pub next_passed : target plan f.item ≢ x → (old e : Executor) → slice_get core.executors.items x ≡ Some old → ExecutorStands plan (lanes_between plan x) (with_late (executor_at s x) f.item) e → e.waiting.added ≡ old.waiting.added + 1
         → (after : Core S T) → after.capacity ≡ core.capacity → after.channels.items ≡ core.channels.items → after.executors.items ≡ set core.executors.items x e → after.work ≡ work
         → IsRunning meaning stands_after state plan x (with_waiting s x (f.item ∷ [])) [] f.rest after
     next_passed other old e at stands age after capacity channels executors works =
-        let young = f.running.holds.ages x old at in
+        let young = f.running.holds.added x old at in
         running_other plan x s f.item f.rest core f.running after
         (holds_executor meaning stands_after state plan s f.rest (record core { work = work }) f.holds after f.rest capacity (ap (λ (w : OutputsView). w.items) works ∙ f.holds.work) (ap (λ (w : OutputsView). w.stopped) works)
         x e (with_late (executor_at s x) f.item) channels executors (slice_get_within core.executors.items x old at) f.there stands (omega arith) (omega (arith, young, age)))

@@ -30,7 +30,7 @@ queued_at executors y = option_map_or (λ e. e.queue.items) (slice_get executors
 -- what waits at executor x for another, and is not handed over
 abbrev pub kept_for : List Executor → ℕ → ℕ → List Envelope
 kept_for executors x y =
-    option_map_or (λ e. option_map_or (λ w. map (λ entry. entry.0) w.items) (slice_get e.waiting.items y) []) (slice_get executors x) []
+    option_map_or (λ e. option_map_or (λ w. map (λ entry. entry.0) w.items) (slice_get e.waiting.targets y) []) (slice_get executors x) []
 
 -- those on a lane, in this order
 abbrev pub waiting_on : List Executor → ChannelPlan → Lane → List Envelope

@@ -6,7 +6,7 @@ use Rattle.pl_event.specs.declared.events.Event.{Event}
 use Rattle.pl_event.specs.declared.envelopes.Envelope.{Envelope}
 use Rattle.pl_event.specs.Meaning.{Meaning}
 use Rattle.pl_context.specs.Stops.{no_stops}
-use Rattle.pl_context.specs.Backlogs.{BacklogView}
+use Rattle.pl_context.specs.WaitingViews.{WaitingView}
 use Rattle.pl_head.specs.Transports.{TransportState}
 use Rattle.pl_world.specs.Plans.{ChannelPlan, Plan, tail_hop, head_hop}
 use Rattle.pl_channel.specs.MadeItems.{Place}
@@ -65,8 +65,8 @@ module _ {S T : Type 0} (meaning : S → Meaning) (stands_after : S → List Eve
         → ChannelStands meaning stands_after state c p (channel_at s c) channel
     pub executors : (y : ℕ) (e : Executor) → slice_get core.executors.items y ≡ Some e
         → ExecutorStands plan (lanes_between plan y) (executor_at s y) e
-    -- an age for each item that was made, but for those on the work list
-    pub ages : (y : ℕ) (e : Executor) → slice_get core.executors.items y ≡ Some e → e.next_age + length listed ≤ all_made plan s
+    -- at most one addition for each item that was made, but for those on the work list
+    pub added : (y : ℕ) (e : Executor) → slice_get core.executors.items y ≡ Some e → e.waiting.added + length listed ≤ all_made plan s
     pub work : core.work.items ≡ envelopes_at plan listed
     pub stopped : core.work.stopped ≡ no_stops (lane_count plan)
 
@@ -124,11 +124,10 @@ module _ {S T : Type 0} (meaning : S → Meaning) (stands_after : S → List Eve
 -- what waits at an executor; how much more its queue could hold without a growth is not seen
 pub record Waits : Type 0 where
   pub queue : List Envelope
-  pub waiting : List (BacklogView ℕ)
-  pub next_age : ℕ
+  pub waiting : WaitingView Unit
 
 abbrev pub waits_at : Executor → Waits
-waits_at e = record { queue = e.queue.items; waiting = e.waiting.items; next_age = e.next_age }
+waits_at e = record { queue = e.queue.items; waiting = e.waiting }
 
 -- Nothing has moved: what waits is the same, and so is each context, tail, head and transport.
 pub record IsUnmoved {S T : Type 0} (before after : Core S T) : Type 0 where

@@ -3,7 +3,6 @@
 
 mod account_laws;
 mod executors;
-mod handing;
 mod nets;
 mod placing;
 mod running;

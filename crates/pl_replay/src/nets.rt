@@ -14,8 +14,7 @@ ghost use Rattle.pl_replay.specs.CoreMoves.{made_from, with_taken, home_of, is_e
 ghost use Rattle.pl_channel.specs.Envelopes.{envelope_at, first_flags};
 ghost use Rattle.pl_world.specs.Reports.{AllKeepToPlan};
 
-use crate::executors::Executor;
-use crate::handing::oldest_target;
+use crate::executors::{Executor, oldest_target};
 use crate::placing::{all_lanes, idle_executors, placed};
 use pl_channel::PlacedChannel;
 use pl_context::Outputs;

@@ -49,7 +49,7 @@ pub(crate) fn idle_executors<S: Stage, T: Transport>(
     requires { ArePlaced S.meaning T.state channels.now }
     ensures stand { IfOk result (λ executors. (plan : Plan) → plan.executors ≡ count → plan.channels ≡ map (channel_plan S.meaning T.state) channels.now
         → ExecutorsStand plan (lanes_between plan) (start plan) executors.items) }
-    ensures ages { IfOk result (λ executors. All (λ e. e.next_age ≡ 0) executors.items) }
+    ensures added { IfOk result (λ executors. All (λ e. e.waiting.added ≡ 0) executors.items) }
 {
     let mut executors = Vec::with_capacity(alloc, count)?;
     for origin in 0..count {
@@ -69,7 +69,7 @@ fn idle_executor<S: Stage, T: Transport>(
     requires { ArePlaced S.meaning T.state channels.now }
     ensures stands { IfOk result (λ e. (plan : Plan) → plan.executors ≡ count → plan.channels ≡ map (channel_plan S.meaning T.state) channels.now
         → ExecutorStands plan (lanes_between plan origin) nothing_waits e) }
-    ensures age { IfOk result (λ e. e.next_age ≡ 0) }
+    ensures added { IfOk result (λ e. e.waiting.added ≡ 0) }
 {
     let mut places = Vec::with_capacity(alloc, count)?;
     for target in 0..count {

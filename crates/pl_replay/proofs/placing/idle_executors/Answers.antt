@@ -8,7 +8,7 @@ pub loop-origin-preserved : goal.loop-origin-preserved
 loop-origin-preserved g c =
     let m = g.S.Stage.meaning in
     let state = g.T.Transport.state in
-    let here : Rests m state c.args.count c.args.channels.now c.loop-origin.origin c.in_ok-executor.executor = record { stands = c.in_ok-executor.ensures.stands; next_age = c.in_ok-executor.ensures.age } in
+    let here : Rests m state c.args.count c.args.channels.now c.loop-origin.origin c.in_ok-executor.executor = record { stands = c.in_ok-executor.ensures.stands; added = c.in_ok-executor.ensures.added } in
     let P : List Executor → Type 0 = λ l. (y : ℕ) (e : Executor) → slice_get l y ≡ Some e → Rests m state c.args.count c.args.channels.now y e in
     record {
       size = omega (arith, c.in_ok-push.ensures.len, c.loop-origin.invariant.size);
@@ -22,5 +22,5 @@ returns-clause-stand g c =
     let size : length c.loop-origin.executors.items ≡ c.args.count = omega (arith, c.loop-origin.executors.ok.0, c.loop-origin.invariant.size) in
     rests-stand g.S.Stage.meaning g.T.Transport.state c.args.count c.args.channels.now c.loop-origin.executors.items size c.loop-origin.invariant.each
 
-pub returns-clause-ages : goal.returns-clause-ages
-returns-clause-ages g c = rests-ages g.S.Stage.meaning g.T.Transport.state c.args.count c.args.channels.now c.loop-origin.executors.items c.loop-origin.invariant.each
+pub returns-clause-added : goal.returns-clause-added
+returns-clause-added g c = rests-ages g.S.Stage.meaning g.T.Transport.state c.args.count c.args.channels.now c.loop-origin.executors.items c.loop-origin.invariant.each

@@ -18,15 +18,6 @@ index_mut-requires g c =
     let bound = to_in meaning stands state w.0 w.1 core w.2 c.args.executor c.args.target w.3.0 w.3.1 w.3.2 in
     omega (arith, bound, core.executors.ok.0)
 
-pub take_for-requires : goal.take_for-requires
-take_for-requires g c =
-    let w = c.requires in
-    let meaning = g.S.Stage.meaning in
-    let stands = g.S.Stage.stands_after in
-    let state = g.T.Transport.state in
-    let core = c.args.self.now in
-    (w.0, lanes_between w.0 c.args.executor, executor_at w.1 c.args.executor, from_stands meaning stands state w.0 w.1 core w.2 c.args.executor c.args.target w.3.0 w.3.1 w.3.2 c.index_mut.result.now c.reserve.new.self c.index_mut.ensures.value c.reserve.ensures.keeps c.index_mut-2.result.now c.index_mut-2.ensures.value, to_planned meaning stands state w.0 w.1 core w.2 c.args.executor c.args.target w.3.0 w.3.1 w.3.2)
-
 pub index_mut-requires-in-Some : goal.index_mut-requires-in-Some
 index_mut-requires-in-Some g c =
     let w = c.requires in
@@ -60,7 +51,7 @@ returns-in-Some g c = λ plan s r old.
     let envelope_is = same_Some c.in-Some.envelope (envelope_at plan item) (sym c.in-Some.is ∙ taken) in
     let left = c.take_for.ensures.stands plan (lanes_between plan x) (executor_at s x) old.0 from (item_place meaning stands state plan s core r c.args.executor c.args.target old.0 old.1 old.2) in
     let full = c.hand_over.ensures.stands plan (lanes_between plan y) (executor_at s y) item (last_stands meaning stands state plan s core r c.args.executor c.args.target old.0 old.1 old.2 c.index_mut.result.now c.reserve.new.self c.index_mut.ensures.value c.reserve.ensures.keeps c.index_mut-2.result.now c.index_mut-2.ensures.value c.take_for.new.self c.index_mut-in-Some.result.now c.index_mut-in-Some.ensures.value) envelope_is in
-    hand_done meaning stands state plan s core r c.args.executor c.args.target old.0 old.1 old.2 c.index_mut.result.now c.reserve.new.self c.index_mut.ensures.value c.reserve.ensures.keeps c.index_mut-2.result.now c.index_mut-2.ensures.value c.take_for.new.self c.index_mut-in-Some.result.now c.index_mut-in-Some.ensures.value left c.take_for.ensures.next_age c.hand_over.new.self full c.hand_over.ensures.next_age _ refl refl refl refl
+    hand_done meaning stands state plan s core r c.args.executor c.args.target old.0 old.1 old.2 c.index_mut.result.now c.reserve.new.self c.index_mut.ensures.value c.reserve.ensures.keeps c.index_mut-2.result.now c.index_mut-2.ensures.value c.take_for.new.self c.index_mut-in-Some.result.now c.index_mut-in-Some.ensures.value left c.take_for.ensures.added c.hand_over.new.self full c.hand_over.ensures.added _ refl refl refl refl
 
 pub returns-in_default : goal.returns-in_default
 returns-in_default g c = λ plan s r old.

@@ -75,8 +75,8 @@ add-requires-clause-stands g c =
     let places = ap (lanes_between w.0 x) is in
     (w.0, lanes_between w.0 x, executor_at i.0 x, i.3.holds.executors x c.index_mut.result.now at, omega (arith, is, to), omega (arith, between, places))
 
-pub add-requires-clause-age : goal.add-requires-clause-age
-add-requires-clause-age g c =
+pub add-requires-clause-few : goal.add-requires-clause-few
+add-requires-clause-few g c =
     let meaning = g.S.Stage.meaning in
     let stands = g.S.Stage.stands_after in
     let state = g.T.Transport.state in
@@ -108,7 +108,7 @@ loop-envelope-preserved g c = λ plan s listed r.
       with_waiting i.0 x (f.item ∷ []),
       f.rest,
       next_pending meaning stands state plan x i.0 i.1 core c.in-Some.envelope c.next.new.self f other s listed i.2,
-      next_passed meaning stands state plan x i.0 i.1 core c.in-Some.envelope c.next.new.self f other c.index_mut.result.now c.add.new.self at added c.in_ok-add.ensures.next_age _ refl refl refl refl,
+      next_passed meaning stands state plan x i.0 i.1 core c.in-Some.envelope c.next.new.self f other c.index_mut.result.now c.add.new.self at added c.in_ok-add.ensures.added _ refl refl refl refl,
     )
 
 pub returns : goal.returns

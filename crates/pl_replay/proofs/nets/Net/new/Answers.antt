@@ -30,7 +30,7 @@ invariant_of-result g c = λ live.
     let core : Core g.row.S.Denot g.row.T.Denot = record { capacity = c.args.capacity; channels = c.in_ok-channels.channels; executors = c.in_ok-executors.executors; work = c.in_ok-new.field-0 } in
     let starts = new_starts meaning stands state plan (world.ruled c.args.capacity c.requires.capacity.0) (world.small c.args.capacity) core c.into_vec.result.items c.as_slice.result.now c.as_slice-2.result.now c.all_lanes-lanes.result refl
     (ap (λ (l : List (Recorded g.row.S.Denot g.row.T.Denot)). map (channel_planned meaning state) l) (sym (c.into_vec.ensures ∙ c.into_channels.ensures.channels))) c.in_ok-channels.ensures.rest c.as_slice.ensures.value c.as_slice-2.ensures.value
-    (c.in_ok-executors.ensures.stand plan (sym c.executors-count.ensures)) c.in_ok-executors.ensures.ages (c.all_lanes-lanes.ensures plan) c.in_ok-new.ensures.empty c.in_ok-new.ensures.places in
+    (c.in_ok-executors.ensures.stand plan (sym c.executors-count.ensures)) c.in_ok-executors.ensures.added (c.all_lanes-lanes.ensures plan) c.in_ok-new.ensures.empty c.in_ok-new.ensures.places in
     (plan, start plan, starts)
 
 pub returns-clause-starts : goal.returns-clause-starts
@@ -43,5 +43,5 @@ returns-clause-starts g c =
     let core : Core g.row.S.Denot g.row.T.Denot = record { capacity = c.args.capacity; channels = c.in_ok-channels.channels; executors = c.in_ok-executors.executors; work = c.in_ok-new.field-0 } in
     let starts = new_starts meaning stands state plan (world.ruled c.args.capacity c.requires.capacity.0) (world.small c.args.capacity) core c.into_vec.result.items c.as_slice.result.now c.as_slice-2.result.now c.all_lanes-lanes.result refl
     (ap (λ (l : List (Recorded g.row.S.Denot g.row.T.Denot)). map (channel_planned meaning state) l) (sym (c.into_vec.ensures ∙ c.into_channels.ensures.channels))) c.in_ok-channels.ensures.rest c.as_slice.ensures.value c.as_slice-2.ensures.value
-    (c.in_ok-executors.ensures.stand plan (sym c.executors-count.ensures)) c.in_ok-executors.ensures.ages (c.all_lanes-lanes.ensures plan) c.in_ok-new.ensures.empty c.in_ok-new.ensures.places in
+    (c.in_ok-executors.ensures.stand plan (sym c.executors-count.ensures)) c.in_ok-executors.ensures.added (c.all_lanes-lanes.ensures plan) c.in_ok-new.ensures.empty c.in_ok-new.ensures.places in
     record { live = refl; core = starts }
