@@ -38,6 +38,21 @@ at-set_there (y ∷ ys) zero (suc j) x other = refl
 at-set_there (y ∷ ys) (suc i) zero x other = refl
 at-set_there (y ∷ ys) (suc i) (suc j) x other = at-set_there ys i j x (λ same. other (ap (λ (n : ℕ). suc n) same))
 
+-- the lanes that have stopped on the way to one of these
+abbrev pub stops_in : {A : Type 0} → List (BacklogView (Late A)) → ℕ → StopsView
+stops_in targets y = option_map_or (λ b. b.stopped) (slice_get targets y) (no_stops 0)
+
+-- they are the same where the part that was written stops as before
+pub stops-kept : {A : Type 0} (targets : List (BacklogView (Late A))) (target : ℕ) (b new : BacklogView (Late A)) → slice_get targets target ≡ Some b
+    → new.stopped ≡ b.stopped → (y : ℕ) → stops_in (set targets target new) y ≡ stops_in targets y
+stops-kept {A} targets target b new at stopped y = elim (cases_eq y target) [
+  | inl same ↦ subst (λ (n : ℕ). stops_in (set targets target new) n ≡ stops_in targets n) (sym same)
+      (ap (λ (o : Option (BacklogView (Late A))). option_map_or (λ b. b.stopped) o (no_stops 0)) (at-set_here targets target new (slice_get_within targets target b at))
+      ∙ stopped
+      ∙ sym (ap (λ (o : Option (BacklogView (Late A))). option_map_or (λ b. b.stopped) o (no_stops 0)) at))
+  | inr other ↦ ap (λ (o : Option (BacklogView (Late A))). option_map_or (λ b. b.stopped) o (no_stops 0)) (at-set_there targets target y new other)
+]
+
 -- ---- an addition
 
 added-few : (answer : Added) (e : Envelope) → length (added_items answer e) ≤ 1
@@ -166,17 +181,6 @@ module _ {A : Type 0} (before : WaitingView A) (entries : List (Entry A)) (h : H
           ap (λ (t : ℕ). entry-by t (late found.0)) on
           ∙ ap (entry-by target) found.2
 
-      at-after : (y : ℕ) → stops_for after y ≡ stops_for before y
-      at-after y = elim (cases_eq y target) [
-        | inl same ↦ subst (λ (n : ℕ). stops_for after n ≡ stops_for before n) (sym same)
-            (ap (λ (l : List (BacklogView (Late A))). option_map_or (λ b. b.stopped) (slice_get l target) (no_stops 0)) written
-            ∙ ap (λ (o : Option (BacklogView (Late A))). option_map_or (λ b. b.stopped) o (no_stops 0)) (at-set_here before.targets target new within-taken)
-            ∙ stopped
-            ∙ sym (ap (λ (o : Option (BacklogView (Late A))). option_map_or (λ b. b.stopped) o (no_stops 0)) at))
-        | inr other ↦ ap (λ (l : List (BacklogView (Late A))). option_map_or (λ b. b.stopped) (slice_get l y) (no_stops 0)) written
-            ∙ ap (λ (o : Option (BacklogView (Late A))). option_map_or (λ b. b.stopped) o (no_stops 0)) (at-set_there before.targets target y new other)
-      ]
-
       roomy : 0 < room_for after target
       roomy =
           let is = ap (λ (l : List (BacklogView (Late A))). option_map_or (λ b. b.room) (slice_get l target) 0) written
@@ -195,7 +199,7 @@ module _ {A : Type 0} (before : WaitingView A) (entries : List (Entry A)) (h : H
               (less-misses before after h.aged h.holds target place.0 first b new at items written added
               (λ d. ap (λ (x : Aged A). x.age) (is-found d) ∙ ap (λ (x : Envelope × Late A). x.1.age) found.2 ∙ sym taken) roomy),
         );
-        stopped = at-after;
+        stopped = λ y. ap (λ (l : List (BacklogView (Late A))). stops_in l y) written ∙ stops-kept before.targets target b new at stopped y;
         targets = ap (λ (l : List (BacklogView (Late A))). length l) written ∙ length-set before.targets target new;
       }
 

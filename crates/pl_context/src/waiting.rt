@@ -112,6 +112,8 @@ impl<A: Drop> Waiting<A> {
         ensures back { (entries : List (Entry A)) (i : ℕ) (entry : Entry A) → slice_get entries i ≡ Some entry → entry.target ≡ target → Misses self.old entries i
             → Holds self.new (slice_set entries i (record { target = target; envelope = envelope; token = token })) }
         ensures added { self.new.added ≡ self.old.added }
+        ensures stopped { (y : ℕ) → stops_for self.new y ≡ stops_for self.old y }
+        ensures targets { length self.new.targets ≡ length self.old.targets }
     {
         let late = Late {
             age: self.taken,
