@@ -83,7 +83,7 @@ impl<T> Model for Head<T> {
 }
 
 impl<T: Transport> Head<T> {
-    ghost use Rattle.pl_head.specs.Buffers.{SameMarks};
+    ghost use Rattle.pl_head.specs.Buffers.{SameMarks, SameButRoom, LacksRoom};
     ghost use Rattle.pl_head.specs.HeadStand.{StandsAfter, ReadsStand, waiting_at, is_idle, is_held, read_answer, EntersHead, Answers, IsPlaced, item_events, item_sizes, step_sizes, standing_after, cause_of_item, cause_of_step, head_cause, HasFewFlags};
 
     /// A head that has taken nothing, of a transport that has accepted nothing, with the bursts that it is to read: with
@@ -183,36 +183,73 @@ impl<T: Transport> Head<T> {
     /// Takes the next item of its lane. It answers `Ran` for an event, `Failed(Memory)` where it finds no memory for
     /// one, `Ended` for an end, and `Failed` for a failure. An end or a failure closes the writes that are not flushed,
     /// unless the head has failed by itself before. After `Failed(Memory)` the head has failed: it writes nothing more,
-    /// and its outcomes stay as they are.
+    /// and its outcomes stay as they are. What comes after an end or a failure is counted, and nothing else comes of it.
     pub fn take(&mut self, envelope: Envelope, outputs: &mut Outputs) -> Took
         requires enters { EntersHead self.old envelope.lane }
-        requires open { self.old.standing ≡ stands.Open }
         requires number { envelope.number ≡ self.old.taken }
         requires limit { envelope.number < 2 ^ 31 }
         requires places { HasPlaces outputs.old.stopped (flags_lane self.old.channel ∷ []) }
-        ensures answer { Answers envelope.item result }
+        ensures taken { self.new.taken ≡ self.old.taken + 1 }
+        ensures answer { self.old.standing ≡ stands.Open → Answers envelope.item result }
 
         // After whichever events it stood, it stands after those and what the item brought.
-        ensures stands { IsPlaced envelope.item result → (ys : List Event) (sizes : List Change) → StandsAfter T.state self.old ys sizes
+        ensures stands { self.old.standing ≡ stands.Open → IsPlaced envelope.item result → (ys : List Event) (sizes : List Change) → StandsAfter T.state self.old ys sizes
             → StandsAfter T.state self.new (ys ++ item_events envelope.item)
             (sizes ++ item_sizes (is_some self.old.failure) envelope.item (waiting_at T.state self.old ys) (waiting_at T.state self.new (ys ++ item_events envelope.item))) }
-        ensures flags { IsPlaced envelope.item result → (ys : List Event) (sizes : List Change) → StandsAfter T.state self.old ys sizes
+        ensures flags { self.old.standing ≡ stands.Open → IsPlaced envelope.item result → (ys : List Event) (sizes : List Change) → StandsAfter T.state self.old ys sizes
             → SendsFlags self.old.buffer.low self.old.buffer.high sizes
             (item_sizes (is_some self.old.failure) envelope.item (waiting_at T.state self.old ys) (waiting_at T.state self.new (ys ++ item_events envelope.item)))
             self.old.buffer.flags outputs.old self.new.buffer.flags outputs.new }
 
-        // An event for which there is no memory sends no flag, and the head has failed.
-        ensures refused { (event : Event) → envelope.item ≡ Item.Event event → result ≢ took.Ran → outputs.new ≡ outputs.old }
-        ensures failure { self.new.failure ≡ first_cause self.old.failure (cause_of_item envelope.item result) }
+        // An event is refused only where it is a write for which there is no room. It changes nothing, and the head has
+        // failed.
+        ensures refused { self.old.standing ≡ stands.Open → (event : Event) → envelope.item ≡ Item.Event event → result ≢ took.Ran → outputs.new ≡ outputs.old }
+        ensures refused_same { self.old.standing ≡ stands.Open → (event : Event) → envelope.item ≡ Item.Event event → result ≢ took.Ran → SameButRoom self.old.buffer self.new.buffer }
+        ensures refused_full { self.old.standing ≡ stands.Open → (event : Event) → envelope.item ≡ Item.Event event → result ≢ took.Ran → LacksRoom event self.old.buffer }
+        ensures failure { self.old.standing ≡ stands.Open → self.new.failure ≡ first_cause self.old.failure (cause_of_item envelope.item result) }
+        ensures standing { self.old.standing ≡ stands.Open → self.new.standing ≡ standing_after (is_some self.old.failure) envelope.item }
+
+        // After an end or a failure it only counts.
+        ensures over { is_over self.old.standing ≡ true → (result ≡ took.Ran) × (self.new ≡ record self.old { taken = self.new.taken }) × (outputs.new ≡ outputs.old) }
+        ensures same { self.new ≡ record self.old { taken = self.new.taken; standing = self.new.standing; failure = self.new.failure; buffer = self.new.buffer } }
+        ensures marks { SameMarks self.old.buffer self.new.buffer }
+        ensures few { HasFewFlags self.new }
+    {
+        match self.standing {
+            Standing::Open => self.take_open(envelope.item, outputs),
+            Standing::Ended | Standing::Failed(_) => {
+                self.taken += 1;
+                Took::Ran
+            }
+        }
+    }
+
+    /// Takes the next item of its lane, while that is open.
+    fn take_open(&mut self, item: Item, outputs: &mut Outputs) -> Took
+        requires open { self.old.standing ≡ stands.Open }
+        requires limit { self.old.taken < 2 ^ 31 }
+        requires places { HasPlaces outputs.old.stopped (flags_lane self.old.channel ∷ []) }
+        ensures answer { Answers item result }
+        ensures stands { IsPlaced item result → (ys : List Event) (sizes : List Change) → StandsAfter T.state self.old ys sizes
+            → StandsAfter T.state self.new (ys ++ item_events item)
+            (sizes ++ item_sizes (is_some self.old.failure) item (waiting_at T.state self.old ys) (waiting_at T.state self.new (ys ++ item_events item))) }
+        ensures flags { IsPlaced item result → (ys : List Event) (sizes : List Change) → StandsAfter T.state self.old ys sizes
+            → SendsFlags self.old.buffer.low self.old.buffer.high sizes
+            (item_sizes (is_some self.old.failure) item (waiting_at T.state self.old ys) (waiting_at T.state self.new (ys ++ item_events item)))
+            self.old.buffer.flags outputs.old self.new.buffer.flags outputs.new }
+        ensures refused { (event : Event) → item ≡ Item.Event event → result ≢ took.Ran → outputs.new ≡ outputs.old }
+        ensures refused_same { (event : Event) → item ≡ Item.Event event → result ≢ took.Ran → SameButRoom self.old.buffer self.new.buffer }
+        ensures refused_full { (event : Event) → item ≡ Item.Event event → result ≢ took.Ran → LacksRoom event self.old.buffer }
+        ensures failure { self.new.failure ≡ first_cause self.old.failure (cause_of_item item result) }
         ensures taken { self.new.taken ≡ self.old.taken + 1 }
-        ensures standing { self.new.standing ≡ standing_after (is_some self.old.failure) envelope.item }
+        ensures standing { self.new.standing ≡ standing_after (is_some self.old.failure) item }
         ensures same { self.new ≡ record self.old { taken = self.new.taken; standing = self.new.standing; failure = self.new.failure; buffer = self.new.buffer } }
         ensures marks { SameMarks self.old.buffer self.new.buffer }
         ensures few { HasFewFlags self.new }
     {
         self.taken += 1;
         let has_failed = self.failure.is_some();
-        match envelope.item {
+        match item {
             Item::Event(event) => match self.buffer.take(event, outputs) {
                 Ok(()) => Took::Ran,
                 Err(_) => {

@@ -1,6 +1,7 @@
 //! The messages that wait to be written (Netty's `ChannelOutboundBuffer`).
 
-ghost use Rattle.std.specs.Prelude.{◌≡◌, ℕ, ◌+◌, ◌<◌, ◌≤◌, ◌^◌, ◌↔◌, ◌∷◌, ◌++◌, List, [], length, drop, Bool, true, false, Option, Some, None, IsTrue, IsSome, IfSome, IfNone, OnSome, OnOk, OnErr, All};
+ghost use Rattle.std.specs.Prelude.{◌≡◌, ℕ, ◌+◌, ◌<◌, ◌≤◌, ◌^◌, ◌↔◌, ◌⊎◌, ◌∷◌, ◌++◌, List, [], length, drop, Bool, true, false, Option, Some, None, IsTrue, IsSome, IfSome, IfNone, OnSome, OnOk, OnErr, All, vec_len, vec_capacity};
+ghost use Rattle.std.specs.VecDeque.{deque_len, deque_capacity};
 ghost use Rattle.pl_head.specs.Writes.{bytes_of};
 ghost use Rattle.pl_head.specs.WaitingMessages.{closed_all, first_size, queue_size};
 
@@ -54,9 +55,12 @@ impl Outbound {
         ensures rest { IsAtRest self.old → IsAtRest self.new }
         ensures flushed { self.new.flushed ≡ self.old.flushed }
 
-        // An `Err` changes nothing.
-        ensures err { OnErr result ((flushed unflushed : List (Option (List ℕ))) (left : List ℕ) (ended : Bool) → Holds self.old flushed unflushed left ended → Holds self.new flushed unflushed left ended) }
-        ensures err_size { OnErr result (queue_size self.new.queue.items ≡ queue_size self.old.queue.items) }
+        ensures offset { self.new.offset ≡ self.old.offset }
+
+        // An `Err` changes nothing, and there was no room.
+        ensures err_queue { OnErr result (self.new.queue.items ≡ self.old.queue.items) }
+        ensures err_outcomes { OnErr result (self.new.outcomes.items ≡ self.old.outcomes.items) }
+        ensures err_full { OnErr result ((deque_capacity self.old.queue ≤ deque_len self.old.queue) ⊎ (vec_capacity self.old.outcomes ≤ vec_len self.old.outcomes)) }
     {
         self.outcomes.reserve(1)?;
         self.queue.reserve(1)?;
@@ -72,7 +76,9 @@ impl Outbound {
         ensures queue { self.new.queue.items ≡ self.old.queue.items }
         ensures rest { IsAtRest self.old → IsAtRest self.new }
         ensures flushed { self.new.flushed ≡ self.old.flushed }
-        ensures err { OnErr result ((flushed unflushed : List (Option (List ℕ))) (left : List ℕ) (ended : Bool) → Holds self.old flushed unflushed left ended → Holds self.new flushed unflushed left ended) }
+        ensures offset { self.new.offset ≡ self.old.offset }
+        ensures err { OnErr result (self.new.outcomes.items ≡ self.old.outcomes.items) }
+        ensures err_full { OnErr result (vec_capacity self.old.outcomes ≤ vec_len self.old.outcomes) }
     {
         self.outcomes.push(Some(Outcome::Unsupported))?;
         Ok(())

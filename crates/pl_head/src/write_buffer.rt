@@ -1,6 +1,6 @@
 //! What waits to be written, against the marks of writability.
 
-ghost use Rattle.std.specs.Prelude.{◌≡◌, ℕ, ◌+◌, ◌-◌, ◌<◌, ◌≤◌, ◌^◌, ◌∷◌, ◌++◌, List, [], length, Bool, true, false, Option, Some, None, IfSome, IfNone, OnSome, OnOk, OnErr, not, nat_le};
+ghost use Rattle.std.specs.Prelude.{◌≡◌, ℕ, ◌+◌, ◌-◌, ◌<◌, ◌≤◌, ◌^◌, ◌⊎◌, ◌∷◌, ◌++◌, List, [], length, Bool, true, false, Option, Some, None, IfSome, IfNone, OnSome, OnOk, OnErr, not, nat_le};
 ghost use Rattle.pl_event.specs.declared.events.Event.{Event};
 ghost use Rattle.pl_context.specs.Stops.{HasPlaces};
 ghost use Rattle.pl_head.specs.Writes.{bytes_of, flushed_writes, out, outcomes, offered, waiting_bytes};
@@ -28,7 +28,7 @@ pub(crate) struct WriteBuffer {
 impl WriteBuffer {
     ghost use Rattle.pl_head.specs.OutboundStand.{Holds};
     ghost use Rattle.pl_head.specs.WritabilityStand.{WritabilityStand, SendsFlags, flag_bound};
-    ghost use Rattle.pl_head.specs.Buffers.{BufferStands, SameMarks};
+    ghost use Rattle.pl_head.specs.Buffers.{BufferStands, SameMarks, SameButRoom, LacksRoom};
     ghost use Rattle.pl_head.specs.WriteBuffers.{write_buffer_view};
 
     /// Nothing waits. It takes no memory.
@@ -47,7 +47,7 @@ impl WriteBuffer {
         }
     }
 
-    /// Takes an event. An `Err` is a write for which there was no place.
+    /// Takes an event. An `Err` is a write for which there was no place, and changes nothing.
     pub(crate) fn take(&mut self, event: Event, outputs: &mut Outputs) -> Result<(), AllocError>
         requires fits { self.old.writability.marks.pending + 2 ^ 64 < 2 ^ 128 }
         requires room { flag_bound self.old.writability + 1 < 2 ^ 64 }
@@ -61,6 +61,8 @@ impl WriteBuffer {
             (waiting_bytes ys (length accepted) false)
             (waiting_bytes (ys ++ event ∷ []) (length accepted) false)) self.old.writability.port outputs.old self.new.writability.port outputs.new) }
         ensures err { OnErr result (outputs.new ≡ outputs.old) }
+        ensures err_same { OnErr result (SameButRoom (write_buffer_view self.old) (write_buffer_view self.new)) }
+        ensures err_full { OnErr result (LacksRoom event (write_buffer_view self.old)) }
         ensures same { SameMarks (write_buffer_view self.old) (write_buffer_view self.new) }
         ensures pending { self.new.writability.marks.pending ≤ self.old.writability.marks.pending + 2 ^ 64 }
         ensures count { flag_bound self.new.writability ≤ flag_bound self.old.writability + 2 }
@@ -92,6 +94,8 @@ impl WriteBuffer {
         ensures flags { OnOk result ((cs : List Change) → WritabilityStand self.old.writability cs
             → SendsFlags self.old.writability.marks.low self.old.writability.marks.high cs (Added (length bytes) ∷ []) self.old.writability.port outputs.old self.new.writability.port outputs.new) }
         ensures err { OnErr result (outputs.new ≡ outputs.old) }
+        ensures err_same { OnErr result (SameButRoom (write_buffer_view self.old) (write_buffer_view self.new)) }
+        ensures err_full { OnErr result (((write_buffer_view self.old).messages_room ≡ 0) ⊎ ((write_buffer_view self.old).outcomes_room ≡ 0)) }
         ensures same { SameMarks (write_buffer_view self.old) (write_buffer_view self.new) }
         ensures pending { self.new.writability.marks.pending ≤ self.old.writability.marks.pending + 2 ^ 64 }
         ensures count { flag_bound self.new.writability ≤ flag_bound self.old.writability + 2 }
