@@ -50,7 +50,7 @@ module _ (channel hop : ℕ) (events : List Event) (n flags : ℕ) (envelope : E
   tail-open = next.stands.standing ∙ ap (λ (b : Bool). cond b stands.Ended stands.Open) (before_end events n next.there)
 
   module _ (answer : Took) (t' : TailView) where
-    event-stands : (e : Event) → slice_get events n ≡ Some e → t' ≡ record (counted Data t) { events = t.events ++ e ∷ [] } → TailStands channel hop events (n + 1) flags t'
+    event-stands : (e : Event) → slice_get events n ≡ Some e → t' ≡ record (counted Data t) { events = t.events ++ e ∷ []; room = t'.room } → TailStands channel hop events (n + 1) flags t'
     event-stands e here same = record {
       channel_is = ap (λ (r : TailView). r.channel) same ∙ next.stands.channel_is;
       hop_is = ap (λ (r : TailView). r.hop) same ∙ next.stands.hop_is;
@@ -84,7 +84,7 @@ module _ (channel hop : ℕ) (events : List Event) (n flags : ℕ) (envelope : E
           let event_is : envelope.item ≡ item.Event (get_or events n Active) = item_is ∙ ap (λ (o : Option Event). option_map_or (λ event. item.Event event) o item.End) here in
           let taken = subst (λ (i : Item). RecordsItem (counted Data t) i answer t') event_is takes in
           elim kept [
-            | inl is ↦ event-stands e here (subst (λ (a : Took). RecordsEvent (counted Data t) e a t') is taken)
+            | inl is ↦ event-stands e here (subst (λ (a : Took). RecordsEvent (counted Data t) e a t') is taken).0
             | inr is ↦ absurd (subst (λ (a : Took). RecordsEvent (counted Data t) e a t') is taken)
           ]
       | inr past ↦

@@ -31,7 +31,7 @@ module _ (channel hop : ℕ) (events : List Event) (n flags : ℕ) (envelope : E
 
     pub flag-kept : TailStands channel hop events n (flags + 1) t'
     flag-kept = elim (recorded.goes_on next.stands.flags_go_on) [
-      | inl same ↦ record {
+      | inl kept ↦ let same = kept.same in record {
         channel_is = ap (λ (r : TailView). r.channel) same ∙ next.stands.channel_is;
         hop_is = ap (λ (r : TailView). r.hop) same ∙ next.stands.hop_is;
         taken = ap (λ (r : TailView). r.taken) same ∙ next.stands.taken;
@@ -41,5 +41,5 @@ module _ (channel hop : ℕ) (events : List Event) (n flags : ℕ) (envelope : E
         flags_are = ap (λ (r : TailView). r.flags) same ∙ ap (λ (l : List Bool). l ++ flag_by flags ∷ []) next.stands.flags_are ∙ sym (first-more flags);
         flags_go_on = ap (λ (r : TailView). r.flags_stopped) same ∙ next.stands.flags_go_on;
       }
-      | inr same ↦ absurd (more (ap (λ (r : TailView). length r.flags) same))
+      | inr lost ↦ absurd (more (ap (λ (r : TailView). length r.flags) lost.same))
     ]

@@ -13,6 +13,7 @@ use Rattle.pl_context.specs.declared.standing.Took.{Took}
 use Rattle.pl_context.specs.declared.standing.Took.TheVariants as took
 use Rattle.pl_context.specs.Stops.{same_hop}
 
+-- For how many more events, and more flags, there is room without a growth, stands beside them.
 pub record TailView : Type 0 where
   pub channel : ℕ
   pub hop : ℕ
@@ -22,6 +23,8 @@ pub record TailView : Type 0 where
   pub events : List Event
   pub flags : List Bool
   pub flags_stopped : Bool
+  pub room : ℕ
+  pub flags_room : ℕ
 
 -- a tail that has taken nothing
 abbrev pub new_tail : ℕ → ℕ → TailView
@@ -34,6 +37,8 @@ new_tail channel k = record {
   events = [];
   flags = [];
   flags_stopped = false;
+  room = 0;
+  flags_room = 0;
 }
 
 -- a lane enters the tail
@@ -55,10 +60,10 @@ abbrev pub counted : Kind → TailView → TailView
 counted Data t = record t { taken = t.taken + 1 }
 counted Flags t = record t { flags_taken = t.flags_taken + 1 }
 
--- An open tail records an event, or fails where memory runs out.
+-- An open tail records an event wherever there is room, and else fails where memory runs out.
 abbrev pub RecordsEvent : TailView → Event → Took → TailView → Type 0
-RecordsEvent t x took.Ran t' = t' ≡ record t { events = t.events ++ x ∷ [] }
-RecordsEvent t x (took.Failed cause) t' = (cause ≡ Memory) × (t' ≡ record t { standing = stands.Failed Memory })
+RecordsEvent t x took.Ran t' = (t' ≡ record t { events = t.events ++ x ∷ []; room = t'.room }) × (t.room ≤ t'.room + 1)
+RecordsEvent t x (took.Failed cause) t' = (cause ≡ Memory) × (t.room ≡ 0) × (t' ≡ record t { standing = stands.Failed Memory; room = t'.room })
 RecordsEvent t x took.Ended t' = ⊥
 RecordsEvent t x took.Dropped t' = ⊥
 
@@ -69,9 +74,19 @@ RecordsItem t item.End answer t' = (answer ≡ took.Ended) × (t' ≡ record t {
 RecordsItem t (item.Fail cause) answer t' = (answer ≡ took.Failed cause) × (t' ≡ record t { standing = stands.Failed cause })
 RecordsItem t (item.Flag value) answer t' = (answer ≡ took.Ran) × (t' ≡ t)
 
--- A flag is recorded until memory runs out for one, and none from then on.
+-- One flag more is recorded.
+pub record AddsFlag (t : TailView) (value : Bool) (t' : TailView) : Type 0 where
+  pub same : t' ≡ record t { flags = t.flags ++ value ∷ []; flags_room = t'.flags_room }
+  pub room : t.flags_room ≤ t'.flags_room + 1
+
+-- There is no room for a flag, and no later one is recorded.
+pub record LosesFlag (t t' : TailView) : Type 0 where
+  pub same : t' ≡ record t { flags_stopped = true; flags_room = t'.flags_room }
+  pub full : t.flags_room ≡ 0
+
+-- A flag is recorded wherever there is room, until memory runs out for one, and none from then on.
 pub record RecordsFlag (t : TailView) (value : Bool) (t' : TailView) : Type 0 where
-  pub goes_on : t.flags_stopped ≡ false → (t' ≡ record t { flags = t.flags ++ value ∷ [] }) ⊎ (t' ≡ record t { flags_stopped = true })
+  pub goes_on : t.flags_stopped ≡ false → AddsFlag t value t' ⊎ LosesFlag t t'
   pub stopped : t.flags_stopped ≡ true → t' ≡ t
 
 -- Nothing comes of any other item, which does not stand on a flags lane.

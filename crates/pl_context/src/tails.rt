@@ -23,18 +23,19 @@ pub struct Tail {
     taken: u64,
     flags_taken: u64,
     standing: Standing,
-    events: Sequence<Event>,
+    events: Vec<Event>,
     flags: Vec<bool>,
     /// Memory ran out for a flag.
     flags_stopped: bool,
 }
 
 impl Model for Tail {
+    ghost use Rattle.std.specs.Prelude.{◌-◌, vec_len, vec_capacity};
     ghost use Rattle.pl_context.specs.TailViews.{TailView, IsTail};
 
     ghost Value = { TailView };
 
-    ghost view = { λ t. record { channel = t.channel; hop = t.hop; taken = t.taken; flags_taken = t.flags_taken; standing = t.standing; events = t.events; flags = t.flags.items; flags_stopped = t.flags_stopped } };
+    ghost view = { λ t. record { channel = t.channel; hop = t.hop; taken = t.taken; flags_taken = t.flags_taken; standing = t.standing; events = t.events.items; flags = t.flags.items; flags_stopped = t.flags_stopped; room = vec_capacity t.events - vec_len t.events; flags_room = vec_capacity t.flags - vec_len t.flags } };
 
     ghost invariant = { λ t. IsTail t.taken t.flags_taken };
 }
@@ -50,14 +51,14 @@ impl Tail {
             taken: 0,
             flags_taken: 0,
             standing: Standing::Open,
-            events: Sequence::new(alloc),
+            events: Vec::new(alloc),
             flags: Vec::new(alloc),
             flags_stopped: false,
         }
     }
 
     /// Takes the next item of one of its lanes. It answers as a context does: `Failed` where it is open and takes a
-    /// failure, or there is no memory for an event.
+    /// failure, or there is no memory for an event: only where there was no room for it.
     pub fn take(&mut self, envelope: Envelope) -> Took
         requires enters { EntersTail self.old envelope.lane }
         requires number { envelope.number ≡ kind_taken self.old envelope.lane.kind }
@@ -95,7 +96,7 @@ impl Tail {
         ensures { result ≡ self.events }
     {
         let Tail { events, .. } = self;
-        events
+        Sequence::from_vec(events)
     }
 
     /// Whether it has ended or failed.
