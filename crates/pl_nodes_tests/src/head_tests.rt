@@ -94,7 +94,7 @@ fn item_of(alloc: Global, call: Call) -> Result<Option<Item>, AllocError> {
     }
 }
 
-/// Gives the next item to a head that is open.
+/// Gives the next item to a head.
 pub(crate) fn give<T: Transport>(
     rt: &impl Abort,
     alloc: Global,
@@ -102,8 +102,6 @@ pub(crate) fn give<T: Transport>(
     item: Item,
 ) -> Result<(Answer, Outputs), AllocError> {
     let mut outputs = outputs_of_one(alloc)?;
-    let standing = head.standing();
-    assert!(rt; standing == Standing::Open);
     let lane = head.lane();
     let number = head.taken();
     assert!(rt; number < 1_000_000);
@@ -403,6 +401,27 @@ fn failed_transport(rt: HostRuntime) -> Result<(), Fail> {
     assert!(rt; head.is_ended());
     // An end that comes later closes nothing.
     assert!(rt; head.outcomes() == [None, None].as_slice());
+    Ok(())
+}
+
+const AFTER_ITS_END: [Expected; 5] = [
+    (Call::Write(3), RAN, Some(false), 3),
+    (Call::End, Answer::Took(Took::Ended), Some(true), 0),
+    (Call::Write(3), RAN, None, 0),
+    (Call::Fail(Cause::Refused), RAN, None, 0),
+    (Call::End, RAN, None, 0),
+];
+
+/// What comes after the end is counted, and nothing else comes of it.
+#[test]
+fn item_after_the_end_is_counted(rt: HostRuntime) -> Result<(), Fail> {
+    let alloc = rt.alloc();
+    let mut head = head(alloc, 4, None, 1, 2);
+    run(&rt, alloc, &mut head, AFTER_ITS_END.as_slice())?;
+    assert_eq!(rt; head.taken(), 5);
+    assert!(rt; head.standing() == Standing::Ended);
+    assert!(rt; head.cause().is_none());
+    assert!(rt; head.outcomes() == [Some(Outcome::Closed)].as_slice());
     Ok(())
 }
 
