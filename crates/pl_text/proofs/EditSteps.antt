@@ -1,7 +1,8 @@
 -- One edit of a builder is one edit of what its handlers mean.
-use Rattle.std.proofs.Common.{◌≡◌, ◌≢◌, ℕ, zero, suc, ◌+◌, Bool, true, false, List, [], ◌∷◌, ◌++◌, length, Option, Some, None, Ok, Err, sym, refl, ap, ap₂, ◌∙◌, unwrap_or, IfSome, arith}
-use Rattle.std.specs.Prelude.{is_some, if◌then◌else◌, insert, remove, find, nat_lt, slice_get}
+use Rattle.std.proofs.Common.{◌≡◌, ◌≢◌, ℕ, zero, suc, ◌+◌, Bool, true, false, List, [], ◌∷◌, ◌++◌, length, Option, Some, None, Ok, Err, sym, refl, ap, ap₂, ◌∙◌, unwrap_or, IfSome, subst, arith}
+use Rattle.std.specs.Prelude.{IsErr, Result, is_some, if◌then◌else◌, insert, remove, find, nat_lt, slice_get}
 use Rattle.std.specs.List.{position_or_len}
+use Rattle.std.specs.Result.{IsErrAnd}
 use Rattle.std.specs.Option.{option_map_or}
 use Rattle.std.proofs.lemmas.Bool.Decides.{nat_tests}
 use Rattle.std.proofs.lemmas.List.{map-append}
@@ -14,11 +15,19 @@ use Rattle.pl_build.specs.Pipelines.{PipelineBuilderView, handler_of, is_named, 
 use Rattle.pl_build.specs.Refusals.{naming_fault, beside_fault}
 use Rattle.pl_text.specs.declared.session_text.outline.Addition.{Addition}
 use Rattle.pl_text.specs.SessionHandlers.{meaning_of}
-use Rattle.pl_text.specs.SessionBuilding.{meant, made_unless, added, put_before, put_after}
+use Rattle.pl_text.specs.SessionReading.{seen}
+use Rattle.pl_text.specs.SessionBuilding.{Builds, meant, made_unless, added, put_before, put_after}
 use Rattle.pl_event.proofs.Lists.{insert-map, remove-map}
 use Rattle.pl_text.proofs.MeantPipelines.{one, index_of-meant, naming_fault-meant, beside_fault-meant}
 
 -- ---- refusals
+
+-- a refusal that is passed on says what the edit is refused for
+pub passed_on : {A B : Type 0} (answer : Result A BuildFault) (view : A → B) (made : Result B BuildFault) (f : BuildFault)
+    → IsErr answer × IsErrAnd answer (λ e. e ≡ f) → (f ≢ Memory → made ≡ Err f) → Builds (seen view answer) made
+passed_on (Ok x) view made f is refused = absurd is.1
+passed_on (Err e) view made f is refused =
+    subst (λ (g : BuildFault). g ≢ Memory → made ≡ Err g) (sym is.1) refused
 
 unless_none : {A : Type 0} (o : Option BuildFault) (made : A) → o ≡ None → made_unless o made ≡ Ok made
 unless_none None made e = refl

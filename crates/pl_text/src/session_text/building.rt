@@ -179,10 +179,8 @@ fn add_first(
         (added addition.now ∷ meant ⟦<Handler as Stage>⟧.meaning builder.old.handlers)) }
 {
     let stage = stage_of(alloc, addition.handler);
-    match builder.add_first(addition.name.as_str(), group_of(addition), stage) {
-        Ok(()) => Ok(()),
-        Err(unadded) => Err(unadded.fault),
-    }
+    builder.add_first(addition.name.as_str(), group_of(addition), stage)?;
+    Ok(())
 }
 
 /// Adds a handler after all others.
@@ -197,10 +195,8 @@ fn add_last(
         (meant ⟦<Handler as Stage>⟧.meaning builder.old.handlers ++ added addition.now ∷ [])) }
 {
     let stage = stage_of(alloc, addition.handler);
-    match builder.add_last(addition.name.as_str(), group_of(addition), stage) {
-        Ok(()) => Ok(()),
-        Err(unadded) => Err(unadded.fault),
-    }
+    builder.add_last(addition.name.as_str(), group_of(addition), stage)?;
+    Ok(())
 }
 
 /// Adds a handler just before the one of the name `at`.
@@ -217,10 +213,8 @@ fn add_before(
 {
     let stage = stage_of(alloc, addition.handler);
     let name = addition.name.as_str();
-    match builder.add_before(at.as_str(), name, group_of(addition), stage) {
-        Ok(()) => Ok(()),
-        Err(unadded) => Err(unadded.fault),
-    }
+    builder.add_before(at.as_str(), name, group_of(addition), stage)?;
+    Ok(())
 }
 
 /// Adds a handler just after the one of the name `at`.
@@ -237,10 +231,8 @@ fn add_after(
 {
     let stage = stage_of(alloc, addition.handler);
     let name = addition.name.as_str();
-    match builder.add_after(at.as_str(), name, group_of(addition), stage) {
-        Ok(()) => Ok(()),
-        Err(unadded) => Err(unadded.fault),
-    }
+    builder.add_after(at.as_str(), name, group_of(addition), stage)?;
+    Ok(())
 }
 
 /// Takes the handler of this name out.
