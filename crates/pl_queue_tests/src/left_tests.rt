@@ -30,8 +30,8 @@ fn one_is_left(rt: &impl Abort, relayed: Relayed) -> Result<(), Fail> {
 }
 
 // With ample memory as above. An allocation that is refused is told by `open` or `finish`, or came before them.
-fn left_or_refused(rt: &impl Abort, result: Result<Relayed, Stopped>) -> Result<(), Fail> {
-    match result {
+fn left_or_refused(rt: &impl Abort, ended: Result<Relayed, Stopped>) -> Result<(), Fail> {
+    match ended {
         Ok(relayed) => one_is_left(rt, relayed),
         Err(stopped) => {
             let is_refusal = matches!(
@@ -65,8 +65,8 @@ fn refused_memory_ring(rt: HostRuntime) -> Result<(), Fail> {
         kind: Kind::Data,
         hop: 0,
     };
-    let result = leave_one_by_ring::<Brand, _>(&rt, rt.alloc(), lane);
-    left_or_refused(&rt, result)
+    let ended = leave_one_by_ring::<Brand, _>(&rt, rt.alloc(), lane);
+    left_or_refused(&rt, ended)
 }
 
 #[test]
@@ -90,6 +90,6 @@ fn refused_memory_waiting(rt: HostRuntime) -> Result<(), Fail> {
         kind: Kind::Data,
         hop: 0,
     };
-    let result = leave_one_by_waiting::<Brand, _>(&rt, rt.alloc(), lane);
-    left_or_refused(&rt, result)
+    let ended = leave_one_by_waiting::<Brand, _>(&rt, rt.alloc(), lane);
+    left_or_refused(&rt, ended)
 }

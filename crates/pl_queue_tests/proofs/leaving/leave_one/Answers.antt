@@ -10,7 +10,7 @@ offer_one-requires-clause-next g c =
     let opened = c.in-Ok-open.opened in
     let told = c.in-Ok-open.ensures.senders in
     (opened_one (λ s. g.M.Mailbox.is_sender opened.0 s) g.M.Mailbox.sends_of own_lanes opened.1.items c.pop.new.self.items c.in-Some.sender
-        c.in-Ok-from_array.lanes.items c.in-Ok.own c.args.lane told.0 told.1 c.in-Some.ensures.items c.in-Ok-from_array.ensures.items c.in-Ok.ensures.items).1.0
+    c.in-Ok-from_array.lanes.items c.in-Ok.own c.args.lane told.0 told.1 c.in-Some.ensures.items c.in-Ok-from_array.ensures.items c.in-Ok.ensures.items).1.0
 
 pub offer_one-requires-clause-fits : goal.offer_one-requires-clause-fits
 offer_one-requires-clause-fits g c =
@@ -21,9 +21,9 @@ offer_one-requires-2-clause-next g c =
     let opened = c.in-Ok-open.opened in
     let told = c.in-Ok-open.ensures.senders in
     let fresh = (opened_one (λ s. g.M.Mailbox.is_sender opened.0 s) g.M.Mailbox.sends_of own_lanes opened.1.items c.pop.new.self.items c.in-Some.sender
-        c.in-Ok-from_array.lanes.items c.in-Ok.own c.args.lane told.0 told.1 c.in-Some.ensures.items c.in-Ok-from_array.ensures.items c.in-Ok.ensures.items).1.0 in
+    c.in-Ok-from_array.lanes.items c.in-Ok.own c.args.lane told.0 told.1 c.in-Some.ensures.items c.in-Ok-from_array.ensures.items c.in-Ok.ensures.items).1.0 in
     ap (λ (s : SenderView). sent_of c.args.lane s.send_counts) (c.if-not-offer_one.ensures.sent refl)
-        ∙ sent_of-this c.args.lane 1 false (g.M.Mailbox.sends_of c.in-Some.sender).send_counts 0 false fresh
+    ∙ sent_of-this c.args.lane 1 false (g.M.Mailbox.sends_of c.in-Some.sender).send_counts 0 false fresh
 
 pub offer_one-requires-2-clause-fits : goal.offer_one-requires-2-clause-fits
 offer_one-requires-2-clause-fits g c =
@@ -34,7 +34,7 @@ finish-requires-clause-all g c =
     let opened = c.in-Ok-open.opened in
     let told = c.in-Ok-open.ensures.senders in
     let fresh = (opened_one (λ s. g.M.Mailbox.is_sender opened.0 s) g.M.Mailbox.sends_of own_lanes opened.1.items c.pop.new.self.items c.in-Some.sender
-        c.in-Ok-from_array.lanes.items c.in-Ok.own c.args.lane told.0 told.1 c.in-Some.ensures.items c.in-Ok-from_array.ensures.items c.in-Ok.ensures.items).1.1 in
+    c.in-Ok-from_array.lanes.items c.in-Ok.own c.args.lane told.0 told.1 c.in-Some.ensures.items c.in-Ok-from_array.ensures.items c.in-Ok.ensures.items).1.1 in
     one-sender g.M.Mailbox.sends_of c.in-Ok-from_array-3.senders.items c.offer_one-2.new.sender (g.M.Mailbox.takes_of opened.2) (g.M.Mailbox.takes_of c.take_one.new.taker)
-        own_lanes c.in-Ok-from_array.lanes.items c.in-Ok.own c.args.lane c.in-Ok-from_array-3.ensures.items
-        (c.offer_one-2.ensures.lanes ∙ c.offer_one.ensures.lanes ∙ fresh) c.take_one.ensures.lanes c.in-Ok-open.ensures.taker.1 c.in-Ok-from_array.ensures.items c.in-Ok.ensures.items
+    own_lanes c.in-Ok-from_array.lanes.items c.in-Ok.own c.args.lane c.in-Ok-from_array-3.ensures.items
+    (c.offer_one-2.ensures.lanes ∙ c.offer_one.ensures.lanes ∙ fresh) c.take_one.ensures.lanes c.in-Ok-open.ensures.taker.1 c.in-Ok-from_array.ensures.items c.in-Ok.ensures.items
