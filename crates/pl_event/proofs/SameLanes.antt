@@ -1,10 +1,10 @@
 -- Lanes that are the same are equal.
-use Rattle.std.proofs.Common.{◌≡◌, ℕ, Bool, true, false, ◌&&◌, eqb, refl, ap, sym, subst, ⊎_elim}
+use Rattle.std.proofs.Common.{◌≡◌, true, false, refl, subst, ⊎_elim}
 use Rattle.std.proofs.lemmas.Bool.{false≢true, and_parts, and_from, eqb-true, eq-eqb, cases_Bool, both_ways}
 use Rattle.pl_event.specs.declared.envelopes.Kind.{Kind}
 use Rattle.pl_event.specs.declared.envelopes.Kind.TheVariants.{Data, Flags}
 use Rattle.pl_event.specs.declared.envelopes.Lane.{Lane}
-use Rattle.pl_event.specs.Hops.{same_hop, same_kind, same_lane}
+use Rattle.pl_event.specs.Hops.{same_kind, same_lane}
 
 same_kind-equal : (a b : Kind) → same_kind a b ≡ true → a ≡ b
 same_kind-equal Data Data e = refl

@@ -1,5 +1,5 @@
 -- Counting lanes, and what is within the limits.
-use Rattle.std.proofs.Common.{◌≡◌, ◌≤◌, ◌<◌, ◌+◌, ◌∙◌, ◌++◌, ◌∷◌, [], ℕ, List, Bool, true, false, not, ap, sym, subst, length, map, take, drop, suc, get_or, ⊎_elim, arith, refl, eqb, add-one}
+use Rattle.std.proofs.Common.{◌≡◌, ◌≤◌, ◌<◌, ◌+◌, ◌∙◌, ◌++◌, ℕ, List, true, false, not, ap, sym, length, map, take, drop, suc, get_or, ⊎_elim, arith, eqb}
 use Rattle.std.proofs.lemmas.Bool.{leb-true, le-leb, and_parts, and_from, cases_Bool, cases_eq, both_ways, ne_eqb}
 use Rattle.std.proofs.lemmas.List.{length-append, length-map}
 use Rattle.pl_event.specs.declared.envelopes.Lane.{Lane}

@@ -1,6 +1,6 @@
 -- Each kind of step keeps the queue rule.
-use Rattle.std.proofs.Common.{◌≡◌, ◌≢◌, ◌⊎◌, ◌+◌, ◌<◌, ◌≤◌, ◌^◌, ℕ, zero, suc, Bool, true, false, cond, eqb, List, [], ◌∷◌, ◌++◌, length, set, Option, Some, None, refl, ap, sym, ◌∙◌, subst, inl, inr, ⊎_elim, arith, true≢false}
-use Rattle.std.proofs.lemmas.Bool.{cond-true, cond-false, cases_Bool, both_ways, eqb-true, ne_eqb, eq-eqb}
+use Rattle.std.proofs.Common.{◌≡◌, ◌≢◌, ◌⊎◌, ◌+◌, ◌<◌, ◌^◌, ℕ, zero, suc, Bool, true, false, cond, eqb, List, [], ◌∷◌, ◌++◌, length, set, Option, Some, None, refl, ap, sym, ◌∙◌, subst, inl, inr, ⊎_elim, arith, true≢false}
+use Rattle.std.proofs.lemmas.Bool.{cond-true, cond-false, cases_Bool, both_ways, ne_eqb, eq-eqb}
 use mathlib.Core.Option.{some, some-ne-none}
 use lib.ListN.{get_elem?}
 use Rattle.crossbeam_queue.specs.Fifo.{Pushes, Pops, Forks, Merges, Learns}
@@ -10,10 +10,8 @@ use Rattle.pl_event.specs.declared.envelopes.Envelope.{Envelope}
 use Rattle.pl_event.specs.Hops.{same_lane}
 use Rattle.pl_event.specs.Worlds.{World, FitsWorld, closes}
 use Rattle.pl_event.proofs.SameLanes.{same_lane-equal, same_lane-self}
-use Rattle.pl_queue.specs.declared.views.SendCount.{SendCount}
-use Rattle.pl_queue.specs.declared.views.TakeCount.{TakeCount}
 use Rattle.pl_queue.specs.declared.views.PassView.{PassView}
-use Rattle.pl_queue.specs.Views.{sent_of, next_of, set_send_count, set_take_count, fresh_send_counts, fresh_take_counts, has_lane, offered, taken as after, dealing, dealt, joined, spent, newcomer}
+use Rattle.pl_queue.specs.Views.{sent_of, next_of, fresh_take_counts, has_lane, offered, taken as after, dealing, dealt, joined, spent, newcomer}
 use Rattle.pl_queue.specs.Rule.{numbers_of, IsRun, Each, IsQueued, IsSeat, Keeps, IsNext, SenderSees, TakerSees, BothSee}
 use Rattle.pl_queue.proofs.Lists.{at_lane, at_this, at_other, numbers_of-snoc, IsRun-le, IsRun-more, IsRun-less, Each-snoc, Each-weaker, some-equal, none-some, sent_of-set, next_of-set, sent_of-append, sent_of-fresh, next_of-append, next_of-front, next_of-fresh}
 

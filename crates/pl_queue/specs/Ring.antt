@@ -1,5 +1,4 @@
 -- What the passes of a ring tell.
-use Rattle.std.specs.Prelude.{ℕ}
 use Rattle.crossbeam_queue.specs.Passes.{Pass, view}
 use Rattle.pl_event.specs.declared.envelopes.Envelope.{Envelope}
 use Rattle.pl_queue.specs.declared.views.SenderView.{SenderView}

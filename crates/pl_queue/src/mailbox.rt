@@ -103,7 +103,7 @@ pub trait Mailbox<W: Named>: Sized {
             (λ _. sends_of sender.new ≡ after_offer (sends_of sender.old) envelope)
             (λ full. (full.envelope ≡ envelope) × (sends_of sender.new ≡ sends_of sender.old) × WasOnce (capacity_of self.now) (SenderSees W.world (sends_of sender.old))) };
 
-    /// TakerView the front.
+    /// Takes the front.
     fn take<R: Wait>(&self, rt: &R, taker: &mut Self::Taker) -> Option<Envelope>
         requires taker { is_taker self.now taker.old }
         ensures taker { is_taker self.now taker.new }

@@ -1,7 +1,5 @@
-use Rattle.std.proofs.Common.{refl, ◌∙◌}
-use Rattle.std.proofs.lemmas.Bool.{cond-true}
-use Rattle.pl_event.specs.Hops.{data_lane, same_lane}
-use Rattle.pl_event.proofs.SameLanes.{same_lane-self}
+use Rattle.std.proofs.Common.{refl}
+use Rattle.pl_event.specs.Hops.{same_lane}
 use Rattle.pl_queue_bench.proofs.main.Goals as goal
 
 pub one_by_ring-moved-requires-clause-world : goal.one_by_ring-moved-requires-clause-world

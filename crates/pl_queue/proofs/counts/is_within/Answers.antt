@@ -1,8 +1,6 @@
-use Rattle.std.proofs.Common.{◌≡◌, ◌≤◌, ◌<◌, ◌+◌, ◌∙◌, ◌&&◌, Bool, true, false, ap, sym, subst, length, map, take, ⊎_elim, arith, refl}
-use Rattle.std.proofs.lemmas.Bool.{leb-true, le-leb, and_parts, and_from, cases_Bool}
+use Rattle.std.proofs.Common.{◌≤◌, ◌∙◌, ap, sym, subst, length, map, arith, refl}
 use Rattle.std.proofs.lemmas.List.{length-map, take_all}
 use Rattle.pl_queue.specs.Left.{all_lanes, own_lanes}
-use Rattle.pl_queue.specs.Limits.{is_within as is_within_limits}
 use Rattle.pl_queue.proofs.LimitLemmas.{count-more, count-part, beyond, within}
 use Rattle.pl_queue.proofs.counts.is_within.Goals as goal
 

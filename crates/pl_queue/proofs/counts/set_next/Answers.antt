@@ -1,4 +1,4 @@
-use Rattle.std.proofs.Common.{◌+◌, ◌∙◌, ap, sym, set, get_or, arith}
+use Rattle.std.proofs.Common.{◌∙◌, ap, sym, set, get_or, arith}
 use Rattle.pl_queue.specs.Views.{take_count}
 use Rattle.pl_queue.specs.declared.views.TakeCount.{TakeCount}
 use Rattle.pl_queue.proofs.PlaceLemmas.{count-there}

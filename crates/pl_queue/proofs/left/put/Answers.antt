@@ -1,6 +1,6 @@
-use Rattle.std.proofs.Common.{◌≡◌, ◌+◌, ◌++◌, ◌∷◌, [], ◌∙◌, ap, sym, subst, set, map, get_or, refl, arith}
+use Rattle.std.proofs.Common.{◌≡◌, ◌+◌, ◌++◌, ◌∷◌, [], ◌∙◌, ap, set, map, get_or, arith}
 use Rattle.pl_queue.specs.declared.left.LaneLeft.{LaneLeft}
-use Rattle.pl_queue.specs.Left.{held, held_of, put_held}
+use Rattle.pl_queue.specs.Left.{held, held_of}
 use Rattle.pl_queue.proofs.PlaceLemmas.{entry-there}
 use Rattle.pl_queue.proofs.left.put.Goals as goal
 

@@ -1,11 +1,11 @@
-use Rattle.std.proofs.Common.{◌≡◌, ◌+◌, ◌∷◌, [], true, refl, ap, ap₂, sym, subst, ◌∙◌, ◌++◌, ◌<◌, length, map, arith}
+use Rattle.std.proofs.Common.{◌∷◌, [], true, ap, ap₂, sym, subst, ◌∙◌, ◌++◌, ◌<◌, length, map, arith}
 use Rattle.crossbeam_channel.specs.Claims.{IsSeatAt}
 use Rattle.crossbeam_channel.specs.Ends.{sends_on}
 use Rattle.pl_queue.specs.declared.waiting.WaitingSender.{WaitingSender}
 use Rattle.pl_queue.specs.Left.{own_lanes}
 use Rattle.pl_queue.specs.Waiting.{sends_by}
 use Rattle.pl_queue.specs.Rule.{Each}
-use Rattle.pl_queue.specs.Views.{fresh_take_counts, fresh_sends, dealing, view_of, no_sends, takes, next_of, has_lane}
+use Rattle.pl_queue.specs.Views.{fresh_sends, dealing, view_of, no_sends, takes, next_of, has_lane}
 use Rattle.pl_queue.proofs.Lists.{counts-more, lanes-new, Each-snoc, map-append, map-more}
 use Rattle.pl_queue.proofs.waiting.deal_all.Goals as goal
 

@@ -1,4 +1,4 @@
-use Rattle.std.proofs.Common.{◌≡◌, map, List, [], subst, sym, ◌∙◌}
+use Rattle.std.proofs.Common.{map, List, subst, sym}
 use Rattle.crossbeam_channel.specs.Claims.{view}
 use Rattle.pl_queue.specs.declared.views.PassView.{PassView}
 use Rattle.pl_queue.specs.Left.{LaneLeftView, held_of, IsEmptying}

@@ -1,6 +1,6 @@
 use Rattle.std.proofs.Common.{◌≡◌, ◌++◌, map, take, length}
 use Rattle.crossbeam_channel.specs.Claims.{view, IsSeatAt}
-use Rattle.crossbeam_channel.specs.Ends.{sends_on, receives_on}
+use Rattle.crossbeam_channel.specs.Ends.{sends_on}
 use Rattle.pl_queue.specs.Waiting.{sends_by}
 use Rattle.pl_queue.specs.Left.{send_counts_of}
 use Rattle.pl_queue.proofs.waiting.unite.Given as goal

@@ -1,4 +1,4 @@
-use Rattle.std.proofs.Common.{◌≡◌, ap, refl, false, Some, ◌∙◌, arith}
+use Rattle.std.proofs.Common.{ap, refl, false, ◌∙◌, arith}
 use Rattle.pl_queue.specs.declared.views.SenderView.{SenderView}
 use Rattle.pl_queue.specs.Left.{own_lanes}
 use Rattle.pl_queue.specs.Views.{sent_of}

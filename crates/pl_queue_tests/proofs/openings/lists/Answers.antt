@@ -1,4 +1,4 @@
-use Rattle.std.proofs.Common.{ap, sym, subst, ◌∙◌, ◌<◌, ◌++◌, ◌∷◌, [], length, map, arith, append-nil}
+use Rattle.std.proofs.Common.{ap, sym, subst, ◌∙◌, ◌++◌, ◌∷◌, [], length, map, arith, append-nil}
 use Rattle.std.proofs.lemmas.List.{length_push}
 use Rattle.pl_queue.specs.Left.{Apart, all_lanes, own_lanes}
 use Rattle.pl_queue_tests.proofs.OpeningLemmas.{no-lanes-more, hops-apart}

@@ -1,4 +1,4 @@
-use Rattle.std.proofs.Common.{refl, ap, sym, ◌∙◌}
+use Rattle.std.proofs.Common.{ap, sym}
 use Rattle.pl_queue_tests.specs.Relays.{event_at as the_event_at}
 use Rattle.pl_queue_tests.proofs.RelayLemmas.{later-event}
 use Rattle.pl_queue_tests.proofs.relays.event_at.Goals as goal

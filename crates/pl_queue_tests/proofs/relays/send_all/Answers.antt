@@ -1,4 +1,4 @@
-use Rattle.std.proofs.Common.{◌≡◌, ◌+◌, false, Some, ap, sym, refl, ◌∙◌, arith}
+use Rattle.std.proofs.Common.{◌+◌, false, ap, refl, ◌∙◌, arith}
 use Rattle.pl_queue.specs.declared.views.SenderView.{SenderView}
 use Rattle.pl_queue.specs.Views.{sent_of}
 use Rattle.pl_queue_tests.proofs.RelayLemmas.{event-fits, last-fits, sent_of-this}

@@ -1,6 +1,6 @@
-use Rattle.std.proofs.Common.{◌≡◌, ◌≤◌, ◌<◌, ◌∙◌, ap, sym, subst, length, get_or, arith}
+use Rattle.std.proofs.Common.{◌∙◌, ap, sym, length, get_or, arith}
 use Rattle.std.proofs.lemmas.Bool.{leb-false, leb-true}
-use Rattle.pl_queue.specs.Places.{row_of as the_row_of, row_at}
+use Rattle.pl_queue.specs.Places.{row_of as the_row_of}
 use Rattle.pl_queue.proofs.Lists.{get_or-any}
 use Rattle.pl_queue.proofs.PlaceLemmas.{row_at-past, row_at-found, get_or-past}
 use Rattle.pl_queue.proofs.places.Places.find.Goals as goal

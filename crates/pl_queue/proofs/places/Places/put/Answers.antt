@@ -1,6 +1,6 @@
 use Rattle.std.specs.Global.{Vec}
-use Rattle.std.proofs.Common.{◌≡◌, ◌≢◌, ◌≤◌, ◌<◌, ◌∙◌, ℕ, ap, sym, subst, set, length, get_or, arith}
-use Rattle.pl_queue.specs.Places.{row_of as the_row_of, row_at, place_of}
+use Rattle.std.proofs.Common.{◌∙◌, ℕ, ap, sym, set, get_or, arith}
+use Rattle.pl_queue.specs.Places.{row_of as the_row_of, place_of}
 use Rattle.pl_queue.proofs.PlaceLemmas.{place-here, place-others}
 use Rattle.pl_queue.proofs.places.Places.put.Goals as goal
 

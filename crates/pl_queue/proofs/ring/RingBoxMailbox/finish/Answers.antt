@@ -1,14 +1,12 @@
-use Rattle.std.proofs.Common.{◌≡◌, ◌++◌, ◌∷◌, List, map, length, drop, refl, ap, sym, subst, ◌∙◌, arith}
+use Rattle.std.proofs.Common.{◌≡◌, ◌++◌, List, map, refl, ap, sym, subst, ◌∙◌}
 use Rattle.crossbeam_queue.specs.Passes.{view}
-use Rattle.pl_queue.specs.declared.left.LaneLeft.{LaneLeft}
 use Rattle.pl_queue.specs.declared.ring.RingSender.{RingSender}
 use Rattle.pl_queue.specs.declared.views.SendCount.{SendCount}
 use Rattle.pl_queue.specs.declared.views.TakeCount.{TakeCount}
 use Rattle.pl_queue.specs.declared.views.TakerView.{TakerView}
-use Rattle.pl_queue.specs.Left.{LaneLeftView, held_of, unheld, send_counts_of, AreAll, IsEmptying, IsAllLeft}
+use Rattle.pl_queue.specs.Left.{LaneLeftView, unheld, send_counts_of, AreAll, IsEmptying}
 use Rattle.pl_queue.specs.Ring.{sends_by}
 use Rattle.pl_queue.proofs.Drains.{emptying-begins}
-use Rattle.pl_queue.proofs.Lists.{whole_back}
 use Rattle.pl_queue.proofs.ring.RingBoxMailbox.finish.Goals as goal
 
 pub empty-requires-clause-emptying : goal.empty-requires-clause-emptying
