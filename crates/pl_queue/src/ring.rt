@@ -87,7 +87,7 @@ fn deal_all<W: Named>(
     Ok(senders)
 }
 
-// TakerView in what all senders know.
+// Takes in what all senders know.
 fn unite<W: Named>(
     queue: &Ring<W>,
     pass: &mut Pass<Envelope, PassView>,
@@ -108,7 +108,7 @@ fn unite<W: Named>(
     }
 }
 
-// TakerView what is left.
+// Takes what is left.
 fn empty<W: Named, R: Wait>(
     rt: &R,
     queue: &Ring<W>,

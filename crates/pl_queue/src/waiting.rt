@@ -92,7 +92,7 @@ fn deal_all<W: Named>(
     Ok(senders)
 }
 
-// TakerView in what all senders know.
+// Takes in what all senders know.
 fn unite<W: Named>(
     queue: &To<W>,
     pass: &mut Pass<Envelope, PassView>,
@@ -113,7 +113,7 @@ fn unite<W: Named>(
     }
 }
 
-// TakerView what is left.
+// Takes what is left.
 fn empty<W: Named, R: Wait>(
     rt: &R,
     queue: &Out<W>,
