@@ -1,7 +1,7 @@
 #!/bin/sh
 # Refuses each allocation of the two tests of pl_queue_tests that allow for it, in turn.
 #
-# usage: checks/refused_mailbox.sh TESTS     crates/pl_queue_tests/out/pl_queue_tests_tests, which `rt test` leaves there
+# usage: checks/refused_mailbox.sh TESTS     crates/pl_queue_tests/out/pl_queue_tests_tests, which `rt ci` leaves there
 #
 # A test whose N-th allocation is refused has to pass: it ends with what is left in the mailbox, or `open` or `finish` has
 # answered Memory.

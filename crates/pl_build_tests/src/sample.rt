@@ -4,7 +4,7 @@ ghost use Rattle.std.specs.Prelude.{◌≡◌, [], false, refl};
 ghost use Rattle.pl_build_tests.specs.declared.sample.Small.{Small};
 
 use pl_build::{BuildFault, Groups, PipelineBuilder, Placed, Unadded};
-use pl_event::{Direction, Event, Stage, StageFault, Turned};
+use pl_event::{Direction, Event, Stage, Stepped, Turned};
 use std::alloc::Global;
 use std::process::Abort;
 use std::test::Fail;
@@ -27,12 +27,7 @@ impl Stage for Small {
         self.direction
     }
 
-    fn step(
-        &mut self,
-        _event: Event,
-        _up: &mut Vec<Event>,
-        _down: &mut Vec<Event>,
-    ) -> Result<Turned, StageFault> {
+    fn step(&mut self, _event: Event, _up: &mut Vec<Event>, _down: &mut Vec<Event>) -> Stepped {
         Ok(Turned::Open)
     }
 

@@ -1,6 +1,7 @@
 -- An element taken out of a list and put back.
 use Rattle.std.proofs.Common.{◌≡◌, ℕ, ◌<◌, List, [], ◌∷◌, length, zero, suc, sym, ap, ◌∙◌, refl, get_or, arith}
-use Rattle.std.specs.Prelude.{insert, remove, Option, Some, None, IfSome, OnSome, IsSome}
+use Rattle.std.specs.Prelude.{insert, remove, slice_get, Option, Some, None, IfSome, OnSome, IsSome}
+use Rattle.std.proofs.lemmas.Option.{slice_get_read}
 
 pub insert-remove : {X : Type 0} (xs : List X) (i : ℕ) (d : X) → i < length xs → insert (remove xs i) i (get_or xs i d) ≡ xs
 insert-remove [] i d h = absurd (omega (arith, h))
@@ -11,3 +12,7 @@ pub gap-after : {X : Type 0} (xs ys : List X) (i : ℕ) (r : Option X) → IfSom
 gap-after xs ys i None is cut within = tt
 gap-after {X} xs ys i (Some y) is cut within =
     sym (insert-remove xs i y (within refl)) ∙ ap (λ (z : X). insert (remove xs i) i z) (sym is) ∙ ap (λ (zs : List X). insert zs i y) (sym cut)
+
+pub at-taken : {X : Type 0} (xs : List X) (i : ℕ) (r : Option X) → IfSome r (λ y. y ≡ get_or xs i y) → (IsSome r → i < length xs) → IfSome r (λ e. slice_get xs i ≡ Some e)
+at-taken xs i None is within = tt
+at-taken xs i (Some y) is within = slice_get_read xs (length xs) i y refl (within refl) is

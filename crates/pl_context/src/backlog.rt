@@ -80,6 +80,7 @@ impl<A> Backlog<A> {
         ensures { Adds self.old envelope token result self.new }
     {
         if self.stops.has(envelope.lane) {
+            drop(envelope);
             return Some(token);
         }
         if self.entries.reserve(self.stops.left() + 1).is_ok() {

@@ -214,11 +214,12 @@ impl<S: Stage> Context<S> {
     {
         self.flags_taken += 1;
         if self.standing.has_failed() {
+            drop(item);
             return Took::Dropped;
         }
         match item {
             Item::Flag(value) => self.flags.pass(value, outputs),
-            _ => {}
+            other => drop(other),
         }
         Took::Ran
     }

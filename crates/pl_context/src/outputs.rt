@@ -91,6 +91,7 @@ impl Outputs {
         ensures { Puts self.old envelope result self.new }
     {
         if self.stops.has(envelope.lane) {
+            drop(envelope);
             return Added::Discarded;
         }
         if self.envelopes.reserve(self.stops.left() + 1).is_ok() {
@@ -100,7 +101,7 @@ impl Outputs {
         self.stops.stop(envelope.lane);
         match envelope.lane.kind {
             Kind::Data => self.envelopes.push_back_reserved(failure(envelope)),
-            Kind::Flags => {}
+            Kind::Flags => drop(envelope),
         }
         Added::Refused
     }

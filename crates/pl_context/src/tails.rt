@@ -147,11 +147,13 @@ impl Tail {
         ensures dropped { has_failed self.old.standing ≡ true → (result ≡ took.Dropped) × (self.new ≡ counted kind.Data self.old) }
     {
         self.taken += 1;
-        match self.standing {
-            Standing::Open => self.take_open(item),
+        let took = match self.standing {
+            Standing::Open => return self.take_open(item),
             Standing::Ended => Took::Ran,
             Standing::Failed(_) => Took::Dropped,
-        }
+        };
+        drop(item);
+        took
     }
 
     /// Takes an item of the data lane, while it is open.
@@ -189,11 +191,12 @@ impl Tail {
     {
         self.flags_taken += 1;
         if self.standing.has_failed() {
+            drop(item);
             return Took::Dropped;
         }
         match item {
             Item::Flag(value) => self.add_flag(value),
-            _ => {}
+            other => drop(other),
         }
         Took::Ran
     }

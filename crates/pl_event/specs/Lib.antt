@@ -4,6 +4,7 @@ pub mod Inputs
 pub mod Paths
 pub mod Lanes
 pub mod Fitting
+pub mod Passing
 pub mod Mappings
 pub mod Hops
 pub mod Worlds

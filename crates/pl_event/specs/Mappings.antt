@@ -1,33 +1,19 @@
 -- Handlers that make one event of each event, whatever came before.
-use Rattle.std.specs.Prelude.{[], ◌∷◌, false, refl}
+use Rattle.std.specs.Prelude.{[], ◌∷◌}
 use Rattle.pl_event.specs.declared.events.Event.{Event}
-use Rattle.pl_event.specs.declared.stages.Direction.TheVariants.{Inbound, Outbound}
 use Rattle.pl_event.specs.Meaning.{Meaning, IsLawful}
+use Rattle.pl_event.specs.Passing.{passing_up, passing_up-lawful, passing_down, passing_down-lawful}
 
 -- an inbound handler that makes f x of each event x
 abbrev pub mapping_up : (Event → Event) → Meaning
-mapping_up f = record { direction = Inbound; up = λ xs x. f x ∷ []; down = λ xs x. []; ended = λ xs. false }
+mapping_up f = passing_up (λ xs x. f x ∷ [])
 
 -- an outbound handler that makes f x of each event x
 abbrev pub mapping_down : (Event → Event) → Meaning
-mapping_down f = record { direction = Outbound; up = λ xs x. []; down = λ xs x. f x ∷ []; ended = λ xs. false }
+mapping_down f = passing_down (λ xs x. f x ∷ [])
 
 pub mapping_up-lawful : (f : Event → Event) → IsLawful (mapping_up f)
-mapping_up-lawful f = record {
-  starts_open = refl;
-  stays_ended = λ xs x e. e;
-  quiet = λ xs x e. refl;
-  inbound = λ e xs x. refl;
-  outbound = λ e xs x. cc;
-  turn_alone = λ e xs. refl;
-}
+mapping_up-lawful f = passing_up-lawful (λ xs x. f x ∷ [])
 
 pub mapping_down-lawful : (f : Event → Event) → IsLawful (mapping_down f)
-mapping_down-lawful f = record {
-  starts_open = refl;
-  stays_ended = λ xs x e. e;
-  quiet = λ xs x e. cc;
-  inbound = λ e xs x. cc;
-  outbound = λ e xs x. refl;
-  turn_alone = λ e xs. refl;
-}
+mapping_down-lawful f = passing_down-lawful (λ xs x. f x ∷ [])

@@ -5,8 +5,11 @@ ghost use Rattle.pl_event.specs.declared.events.Event.{Event};
 ghost use Rattle.pl_event.specs.Meaning.{Meaning, IsLawful, IsPrefixOf, turned_after};
 
 use crate::events::Event;
-use crate::stages::{Direction, Stage, StageFault, Turned};
+use crate::stages::{Direction, Stage, StageFault, Stepped, Turned};
 use std::alloc::AllocError;
+
+/// What a bare stage answers to an event: whether it has quit. An `Err` is out of memory.
+pub type Taken = Result<Turned, AllocError>;
 
 /// A handler that may run out of memory in the middle of a step, and then cleans nothing up: [`Fused`] makes a
 /// [`Stage`] of it, which does.
@@ -26,12 +29,7 @@ pub trait BareStage: Drop {
         ensures { result ≡ (meaning self.now).direction };
 
     /// Takes the next event, and adds what it makes of it to the two lists. An `Err` is out of memory.
-    fn take(
-        &mut self,
-        event: Event,
-        up: &mut Vec<Event>,
-        down: &mut Vec<Event>,
-    ) -> Result<Turned, AllocError>
+    fn take(&mut self, event: Event, up: &mut Vec<Event>, down: &mut Vec<Event>) -> Taken
         ensures same_meaning { meaning self.new ≡ meaning self.old }
         ensures stands { IfOk result (λ turned. (xs : List Event) → stands_after self.old xs → stands_after self.new (xs ++ event ∷ [])) }
         ensures up { IfOk result (λ turned. (xs : List Event) → stands_after self.old xs → up.new.items ≡ up.old.items ++ (meaning self.old).up xs event) }
@@ -78,12 +76,7 @@ impl<S: BareStage> Stage for Fused<S> {
         self.stage.direction()
     }
 
-    fn step(
-        &mut self,
-        event: Event,
-        up: &mut Vec<Event>,
-        down: &mut Vec<Event>,
-    ) -> Result<Turned, StageFault> {
+    fn step(&mut self, event: Event, up: &mut Vec<Event>, down: &mut Vec<Event>) -> Stepped {
         if self.is_spent {
             return Err(StageFault::Memory);
         }

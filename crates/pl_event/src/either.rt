@@ -3,7 +3,7 @@
 ghost use Rattle.pl_event.specs.declared.either.Either.TheVariants.{Left, Right};
 
 use crate::events::Event;
-use crate::stages::{Direction, Stage, StageFault, Turned};
+use crate::stages::{Direction, Stage, Stepped};
 
 /// A stage of one kind or of another. It means what the stage inside means, and is spent when that is.
 ///
@@ -29,12 +29,7 @@ impl<A: Stage, B: Stage> Stage for Either<A, B> {
         }
     }
 
-    fn step(
-        &mut self,
-        event: Event,
-        up: &mut Vec<Event>,
-        down: &mut Vec<Event>,
-    ) -> Result<Turned, StageFault> {
+    fn step(&mut self, event: Event, up: &mut Vec<Event>, down: &mut Vec<Event>) -> Stepped {
         match self {
             Either::Left(stage) => stage.step(event, up, down),
             Either::Right(stage) => stage.step(event, up, down),

@@ -36,10 +36,8 @@ mod named;
 mod outcomes;
 mod sequence;
 mod stages;
-#[cfg(test)]
-mod tests;
 
-pub use bare_stages::{BareStage, Fused};
+pub use bare_stages::{BareStage, Fused, Taken};
 pub use byte_string::ByteString;
 pub use either::Either;
 pub use envelopes::{Envelope, Item, Kind, Lane};
@@ -51,4 +49,4 @@ pub use mappings::{MapDown, MapUp, Mapping};
 pub use named::Named;
 pub use outcomes::{Cause, Outcome};
 pub use sequence::Sequence;
-pub use stages::{Direction, Stage, StageFault, Turned, stage_law};
+pub use stages::{Direction, Stage, StageFault, Stepped, Turned, stage_law};

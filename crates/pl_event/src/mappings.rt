@@ -5,7 +5,7 @@ ghost use Rattle.pl_event.specs.declared.events.Event.{Event};
 ghost use Rattle.pl_event.specs.Mappings.{mapping_up, mapping_down, mapping_up-lawful, mapping_down-lawful};
 
 use crate::events::Event;
-use crate::stages::{Direction, Stage, StageFault, Turned};
+use crate::stages::{Direction, Stage, StageFault, Stepped, Turned};
 use std::alloc::AllocError;
 
 /// One event made of each event, whatever came before (as Netty's `MessageToMessageCodec` is mostly used): [`MapUp`] and
@@ -69,12 +69,7 @@ impl<M: Mapping> Stage for MapUp<M> {
         Direction::Inbound
     }
 
-    fn step(
-        &mut self,
-        event: Event,
-        up: &mut Vec<Event>,
-        _down: &mut Vec<Event>,
-    ) -> Result<Turned, StageFault> {
+    fn step(&mut self, event: Event, up: &mut Vec<Event>, _down: &mut Vec<Event>) -> Stepped {
         self.each.pass(event, up)
     }
 
@@ -93,12 +88,7 @@ impl<M: Mapping> Stage for MapDown<M> {
         Direction::Outbound
     }
 
-    fn step(
-        &mut self,
-        event: Event,
-        _up: &mut Vec<Event>,
-        down: &mut Vec<Event>,
-    ) -> Result<Turned, StageFault> {
+    fn step(&mut self, event: Event, _up: &mut Vec<Event>, down: &mut Vec<Event>) -> Stepped {
         self.each.pass(event, down)
     }
 
@@ -124,7 +114,7 @@ impl<M: Mapping> OneForOne<M> {
     }
 
     /// Adds what the mapping makes of the event. A fault adds nothing, and comes again from then on.
-    fn pass(&mut self, event: Event, made: &mut Vec<Event>) -> Result<Turned, StageFault>
+    fn pass(&mut self, event: Event, made: &mut Vec<Event>) -> Stepped
         ensures mapping { self.new.mapping ≡ self.old.mapping }
         ensures ok { OnOk result (made.new.items ≡ made.old.items ++ M.made_of self.old.mapping event ∷ []) }
         ensures open { IfOk result (λ turned. turned ≡ Turned.Open) }

@@ -51,6 +51,9 @@ pub enum StageFault {
     Memory,
 }
 
+/// What a step of a stage answers: whether it has quit, or its fault.
+pub type Stepped = Result<Turned, StageFault>;
+
 /// A handler of a pipeline: it takes events one by one, and hands on what it makes of them. Whoever has a handler of
 /// their own implements this, or [`Mapping`](crate::Mapping) where it makes one event of each whatever came before, or
 /// [`BareStage`](crate::BareStage) where it may fail and remembers no fault; the last two are shorter.
@@ -107,12 +110,7 @@ pub trait Stage: Drop {
         ensures { result ≡ (meaning self.now).direction };
 
     /// Takes the next event, and adds what it makes of it to the two lists. An `Err` is out of memory.
-    fn step(
-        &mut self,
-        event: Event,
-        up: &mut Vec<Event>,
-        down: &mut Vec<Event>,
-    ) -> Result<Turned, StageFault>
+    fn step(&mut self, event: Event, up: &mut Vec<Event>, down: &mut Vec<Event>) -> Stepped
         ensures same_meaning { meaning self.new ≡ meaning self.old }
 
         // After whichever events it stood, it stands after those and this one,

@@ -5,7 +5,7 @@ use Rattle.pl_event.specs.declared.events.Event.{Event}
 use Rattle.pl_event.specs.declared.events.Event.TheVariants.{Read}
 use Rattle.pl_event.specs.declared.events.Message.TheVariants.{Line}
 use Rattle.pl_event.specs.Meaning.{Meaning}
-use Rattle.pl_stages.specs.Passing.{passing_up}
+use Rattle.pl_event.specs.Passing.{passing_up}
 use Rattle.pl_stages.specs.Counts.{IsThrifty, event_weight, weight}
 use Rattle.pl_stages.specs.Thrift.{passing_up-thrifty}
 

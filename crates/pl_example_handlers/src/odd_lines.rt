@@ -2,11 +2,10 @@
 
 ghost use Rattle.std.specs.Prelude.{◌≡◌, []};
 ghost use Rattle.pl_example_handlers.specs.OddLines.{is_odd, odd_lines, odd_lines-thrifty, passed};
-ghost use Rattle.pl_stages.specs.Passing.{passing_up-lawful};
+ghost use Rattle.pl_event.specs.Passing.{passing_up-lawful};
 
-use pl_event::{BareStage, Direction, Event, Fused, Message, Stage, Turned};
+use pl_event::{BareStage, Direction, Event, Fused, Message, Stage, Taken, Turned};
 use pl_stages::ThriftyBare;
-use std::alloc::AllocError;
 
 /// Drops the second, fourth, sixth and so on of the lines that are read, and hands on all else.
 #[derive(Debug, Drop)]
@@ -34,12 +33,7 @@ impl BareStage for OddLines {
         Direction::Inbound
     }
 
-    fn take(
-        &mut self,
-        event: Event,
-        up: &mut Vec<Event>,
-        _down: &mut Vec<Event>,
-    ) -> Result<Turned, AllocError> {
+    fn take(&mut self, event: Event, up: &mut Vec<Event>, _down: &mut Vec<Event>) -> Taken {
         let is_line = match &event {
             Event::Read(Message::Line(_)) => true,
             _ => false,

@@ -4,3 +4,4 @@ pub mod Drains
 pub mod PlaceLemmas
 pub mod LimitLemmas
 pub mod RoomLemmas
+mod TakerLemmas

@@ -1,5 +1,8 @@
 //! Through the plain queue of the crate that each box stands on.
 
+ghost use Rattle.std.specs.Prelude.{◌<◌, ◌^◌};
+ghost use denote.Param.Send.{IsSync};
+
 use crate::CAPACITY;
 use crate::boxes::lane;
 use crossbeam_channel::{Receiver, Sender, bounded};
@@ -11,44 +14,103 @@ use std::sync::Wait;
 use std::thread;
 use std::thread::Threads;
 
-// Envelope n of a lane that ends after `last` events.
-fn envelope_of(lane: Lane, number: u64, last: u64) -> Envelope {
-    let item = if number < last {
-        Item::Event(event_at(number))
-    } else {
-        Item::End
-    };
-    Envelope { lane, number, item }
+/// A queue without a rule.
+pub trait Plain: Sized {
+    fn open(alloc: Global) -> Option<Self>;
+
+    /// Puts the envelope in, as soon as there is room.
+    fn put<R: Wait>(&self, rt: &R, envelope: Envelope);
+
+    fn next<R: Wait>(&self, rt: &R) -> Option<Envelope>;
 }
 
-fn push_one<R: Wait>(rt: &R, queue: &ArrayQueue<Envelope>, mut envelope: Envelope) {
-    for _ in rt.forever() {
-        match queue.push::<R>(rt, envelope) {
-            Ok(()) => return,
-            Err(refused) => {
-                envelope = refused;
-                thread::yield_now();
+/// The lock-free ring.
+#[derive(Drop)]
+pub struct PlainRing {
+    queue: ArrayQueue<Envelope>,
+}
+
+impl Plain for PlainRing {
+    fn open(alloc: Global) -> Option<PlainRing> {
+        let queue = ArrayQueue::<Envelope>::new(alloc, CAPACITY).ok()?;
+        Some(PlainRing { queue })
+    }
+
+    fn put<R: Wait>(&self, rt: &R, mut envelope: Envelope) {
+        for _ in rt.forever() {
+            match self.queue.push::<R>(rt, envelope) {
+                Ok(()) => return,
+                Err(refused) => {
+                    envelope = refused;
+                    thread::yield_now();
+                }
             }
         }
+        unreachable!()
     }
-    unreachable!()
+
+    fn next<R: Wait>(&self, rt: &R) -> Option<Envelope> {
+        self.queue.pop::<R>(rt)
+    }
 }
 
-fn push_all<R: Wait>(rt: &R, queue: &ArrayQueue<Envelope>, lane: Lane, last: u64) -> bool {
-    for number in 0..last {
-        push_one::<R>(rt, queue, envelope_of(lane, number, last));
+/// The bounded channel, whose `send` waits for room.
+#[derive(Drop)]
+pub struct PlainWaiting {
+    sender: Sender<Envelope>,
+    receiver: Receiver<Envelope>,
+}
+
+impl Plain for PlainWaiting {
+    fn open(alloc: Global) -> Option<PlainWaiting> {
+        let (sender, receiver) = bounded::<Envelope, Global>(alloc, CAPACITY).ok()?;
+        Some(PlainWaiting { sender, receiver })
     }
-    push_one::<R>(rt, queue, envelope_of(lane, last, last));
+
+    fn put<R: Wait>(&self, rt: &R, mut envelope: Envelope) {
+        for _ in rt.forever() {
+            match self.sender.send::<R>(rt, envelope) {
+                Ok(()) => return,
+                Err(refused) => {
+                    envelope = refused.into_inner();
+                    thread::yield_now();
+                }
+            }
+        }
+        unreachable!()
+    }
+
+    fn next<R: Wait>(&self, rt: &R) -> Option<Envelope> {
+        match self.receiver.try_recv::<R>(rt) {
+            Ok(envelope) => Some(envelope),
+            Err(_) => None,
+        }
+    }
+}
+
+// Puts in all that a lane carries, and its end.
+fn put_all<Q: Plain, R: Wait>(rt: &R, queue: &Q, lane: Lane, last: u64) -> bool {
+    for number in 0..last {
+        let item = Item::Event(event_at(number));
+        queue.put::<R>(rt, Envelope { lane, number, item });
+    }
+    let end = Envelope {
+        lane,
+        number: last,
+        item: Item::End,
+    };
+    queue.put::<R>(rt, end);
     true
 }
 
-fn pop_all<R: Wait>(rt: &R, queue: &ArrayQueue<Envelope>, count: u64) -> u64 {
+// Takes so many envelopes.
+fn take_all<Q: Plain, R: Wait>(rt: &R, queue: &Q, count: u64) -> u64 {
     let mut taken = 0;
     for _ in rt.forever() {
         if taken >= count {
             break;
         }
-        match queue.pop::<R>(rt) {
+        match queue.next::<R>(rt) {
             Some(_envelope) => taken += 1,
             None => thread::yield_now(),
         }
@@ -56,56 +118,75 @@ fn pop_all<R: Wait>(rt: &R, queue: &ArrayQueue<Envelope>, count: u64) -> u64 {
     taken
 }
 
-/// Through an `ArrayQueue`.
-pub fn ring_one<R: Threads + Wait + Sync>(rt: &R, alloc: Global, count: u64) -> Option<u64> {
-    let Ok(queue) = ArrayQueue::<Envelope>::new(alloc, CAPACITY) else {
-        return None;
-    };
-    let queue = &queue;
+/// From one thread.
+pub fn one<Q: Plain + Drop + Send + Sync, R: Threads + Wait + Sync>(
+    rt: &R,
+    alloc: Global,
+    last: u64,
+) -> Option<u64> {
+    let queue = &Q::open(alloc)?;
     let (_sent, taken) = thread::join(
         rt,
-        move || -> bool { push_all::<R>(rt, queue, lane(0), count) },
-        move || -> u64 { pop_all::<R>(rt, queue, count) },
+        move || -> bool { put_all::<Q, R>(rt, queue, lane(0), last) },
+        move || -> u64 { take_all::<Q, R>(rt, queue, last) },
     );
     Some(taken)
 }
 
-fn send_each<R: Wait>(rt: &R, sender: &Sender<Envelope>, lane: Lane, last: u64) -> bool {
-    for number in 0..last {
-        if sender
-            .send::<R>(rt, envelope_of(lane, number, last))
-            .is_err()
-        {
-            return false;
-        }
-    }
-    sender.send::<R>(rt, envelope_of(lane, last, last)).is_ok()
+// Two threads send, each on a lane of its own.
+fn put_by_two<Q: Plain + Send + Sync, R: Threads + Wait + Sync>(
+    rt: &R,
+    queue: &Q,
+    first: Lane,
+    second: Lane,
+    last: u64,
+) -> bool {
+    let (sent, all) = thread::join(
+        rt,
+        move || -> bool { put_all::<Q, R>(rt, queue, first, last) },
+        move || -> bool { put_all::<Q, R>(rt, queue, second, last) },
+    );
+    sent && all
 }
 
-fn receive_all<R: Wait>(rt: &R, receiver: &Receiver<Envelope>, count: u64) -> u64 {
-    let mut taken = 0;
-    for _ in rt.forever() {
-        if taken >= count {
-            break;
-        }
-        match receiver.try_recv::<R>(rt) {
-            Ok(_envelope) => taken += 1,
-            Err(_) => thread::yield_now(),
-        }
-    }
+// Two threads send, and one takes what four send.
+fn by_two<Q: Plain + Send + Sync, R: Threads + Wait + Sync>(
+    rt: &R,
+    queue: &Q,
+    first: Lane,
+    second: Lane,
+    last: u64,
+) -> u64
+    requires { last < 2 ^ 32 }
+{
+    let count = 4 * last;
+    let (_sent, taken) = thread::join(
+        rt,
+        move || -> bool
+            requires { IsSync R.row }
+        { put_by_two::<Q, R>(rt, queue, first, second, last) },
+        move || -> u64 { take_all::<Q, R>(rt, queue, count) },
+    );
     taken
 }
 
-/// Through a bounded channel.
-pub fn waiting_one<R: Threads + Wait + Sync>(rt: &R, alloc: Global, count: u64) -> Option<u64> {
-    let Ok((sender, receiver)) = bounded::<Envelope, Global>(alloc, CAPACITY) else {
-        return None;
-    };
-    let (sender, receiver) = (&sender, &receiver);
+/// From four threads, each of which sends so many.
+pub fn four<Q: Plain + Drop + Send + Sync, R: Threads + Wait + Sync>(
+    rt: &R,
+    alloc: Global,
+    each: u64,
+) -> Option<u64>
+    requires { each < 2 ^ 32 }
+{
+    let queue = &Q::open(alloc)?;
     let (_sent, taken) = thread::join(
         rt,
-        move || -> bool { send_each::<R>(rt, sender, lane(0), count) },
-        move || -> u64 { receive_all::<R>(rt, receiver, count) },
+        move || -> bool
+            requires { IsSync R.row }
+        { put_by_two::<Q, R>(rt, queue, lane(0), lane(1), each) },
+        move || -> u64
+            requires { (each < 2 ^ 32) × IsSync R.row }
+        { by_two::<Q, R>(rt, queue, lane(2), lane(3), each) },
     );
     Some(taken)
 }

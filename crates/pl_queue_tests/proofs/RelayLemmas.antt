@@ -1,13 +1,15 @@
 -- What a relay sends fits, and which lanes its senders and its taker have.
-use Rattle.std.proofs.Common.{◌≡◌, ◌<◌, ℕ, zero, suc, Bool, true, false, cond, List, [], ◌∷◌, ◌++◌, Some, None, replicate, slice_get, map, length, refl, ap, sym, ◌∙◌, subst, ⊎_elim, arith}
+use Rattle.std.proofs.Common.{◌≡◌, ◌<◌, ℕ, zero, suc, Bool, true, false, cond, List, [], ◌∷◌, ◌++◌, Some, None, replicate, slice_get, get_or, map, length, refl, ap, sym, ◌∙◌, subst, ⊎_elim, arith}
 use Rattle.std.proofs.lemmas.Bool.{cond-true, cond-false, cases_Bool}
 use Rattle.pl_event.specs.declared.envelopes.Envelope.{Envelope}
+use Rattle.pl_event.specs.declared.envelopes.Item.{Item}
 use Rattle.pl_event.specs.declared.envelopes.Item.TheVariants as item
 use Rattle.pl_event.specs.declared.envelopes.Kind.TheVariants.{Data}
 use Rattle.pl_event.specs.declared.envelopes.Lane.{Lane}
 use Rattle.pl_event.specs.declared.events.Event.{Event}
 use Rattle.pl_event.specs.declared.events.Event.TheVariants.{ReadComplete}
 use Rattle.pl_event.specs.Hops.{same_lane}
+use Rattle.pl_event.specs.Fitting.{Fits}
 use Rattle.pl_event.specs.Worlds.{World, content_of, FitsWorld, FitsAsKind}
 use Rattle.pl_event.proofs.SameLanes.{same_lane-self}
 use Rattle.pl_queue.specs.declared.views.SendCount.{SendCount}
@@ -18,6 +20,7 @@ use Rattle.pl_queue.specs.Rule.{Each}
 use Rattle.pl_queue.specs.Views.{fresh_sends, send_count, sent_of, set_send_count, lanes_of_send_counts, lanes_of_counts, after_offer, after_take, takes, fresh_take_counts}
 use Rattle.pl_queue.proofs.Drains.{set_send_count-lanes, set_take_count-lanes, all-given}
 use Rattle.pl_queue.proofs.Lists.{none-some, map-append}
+use Rattle.pl_queue_tests.specs.Lines.{CarriesLines, line_read}
 use Rattle.pl_queue_tests.specs.Relays.{IsFresh, lane_events, event_at, two_lanes, sending_lanes, taking_lanes}
 
 in_replicate : {A : Type 0} (a : A) (n count : ℕ) → n < count → slice_get (replicate count a) n ≡ Some a
@@ -42,16 +45,33 @@ pub later-event : (n : ℕ) → (n ≡ 0 → ⊥) → ReadComplete ≡ event_at 
 later-event zero h = absurd (h refl)
 later-event (suc n) h = refl
 
+pub item-fits : (world : World) (l : Lane) (n : ℕ) (events : List Event) (i : Item) → l.kind ≡ Data → content_of world l ≡ Some events → Fits events n i
+    → FitsWorld world (record { lane = l; number = n; item = i })
+unfolding FitsWorld
+item-fits world l n events i kind is fits = subst (λ k. FitsAsKind world k (record { lane = l; number = n; item = i })) (sym kind) (events, is, fits)
+
 pub event-fits : (world : World) (l : Lane) (n last : ℕ) (e : Event) → l.kind ≡ Data → content_of world l ≡ Some (lane_events last) → n < last → e ≡ event_at n
     → FitsWorld world (record { lane = l; number = n; item = item.Event e })
-unfolding FitsWorld
-event-fits world l n last e kind is h same =
-    subst (λ k. FitsAsKind world k (record { lane = l; number = n; item = item.Event e })) (sym kind) (lane_events last, is, in_lane n last h ∙ ap Some (sym same))
+event-fits world l n last e kind is h same = item-fits world l n (lane_events last) (item.Event e) kind is (in_lane n last h ∙ ap Some (sym same))
 
 pub last-fits : (world : World) (l : Lane) (last : ℕ) → l.kind ≡ Data → content_of world l ≡ Some (lane_events last) → FitsWorld world (record { lane = l; number = last; item = item.End })
-unfolding FitsWorld
-last-fits world l last kind is =
-    subst (λ k. FitsAsKind world k (record { lane = l; number = last; item = item.End })) (sym kind) (lane_events last, is, lane_length last)
+last-fits world l last kind is = item-fits world l last (lane_events last) item.End kind is (lane_length last)
+
+at-map : {A B : Type 0} (f : A → B) (xs : List A) (n : ℕ) (x : A) → n < length xs → x ≡ get_or xs n x → slice_get (map f xs) n ≡ Some (f x)
+at-map f [] n x h e = absurd (omega arith)
+at-map f (y ∷ ys) zero x h e = ap (λ z. Some (f z)) (sym e)
+at-map f (y ∷ ys) (suc n) x h e = at-map f ys n x (omega arith) e
+
+map-length : {A B : Type 0} (f : A → B) (xs : List A) → length xs ≡ length (map f xs)
+map-length f [] = refl
+map-length f (x ∷ xs) = ap suc (map-length f xs)
+
+pub line-fits : (world : World) (l : Lane) (lines : List (List ℕ)) (n : ℕ) (line : List ℕ) → CarriesLines world l lines → n < length lines → line ≡ get_or lines n line
+    → FitsWorld world (record { lane = l; number = n; item = item.Event (line_read line) })
+line-fits world l lines n line c h e = item-fits world l n (map line_read lines) (item.Event (line_read line)) c.kind c.content (at-map line_read lines n line h e)
+
+pub lines-end : (world : World) (l : Lane) (lines : List (List ℕ)) (n : ℕ) → CarriesLines world l lines → n ≡ length lines → FitsWorld world (record { lane = l; number = n; item = item.End })
+lines-end world l lines n c e = item-fits world l n (map line_read lines) item.End c.kind c.content (e ∙ map-length line_read lines)
 
 -- a count that was found is found as it was set
 pub sent_of-this : (l : Lane) (n : ℕ) (e : Bool) (ss : List SendCount) (k : ℕ) (f : Bool) → sent_of l ss ≡ Some (k, f) → sent_of l (set_send_count l n e ss) ≡ Some (n, e)
@@ -88,7 +108,7 @@ Each-two : {S : Type 0} (P : S → Type 0) (r : List S) (x y : S) → Each P ((r
 Each-two P [] x y h = (h.0, h.1.0)
 Each-two P (z ∷ r) x y h = Each-two P r x y h.1
 
-fresh : (l : Lane) (s : SenderView) → s ≡ fresh_sends (l ∷ []) → IsFresh l s
+pub fresh : (l : Lane) (s : SenderView) → s ≡ fresh_sends (l ∷ []) → IsFresh l s
 fresh l s e =
     (ap (λ (t : SenderView). sent_of l t.send_counts) e ∙ cond-true (same_lane l l) (Some (0, false)) None (same_lane-self l), ap sending_lanes e)
 

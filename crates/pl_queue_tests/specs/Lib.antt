@@ -1,2 +1,3 @@
 pub mod Relays
 pub mod Openings
+pub mod Lines

@@ -7,12 +7,16 @@ mod leaving;
 mod left_tests;
 #[cfg(test)]
 mod limit_tests;
+#[cfg(test)]
+mod line_tests;
+mod lines;
 mod openings;
 #[cfg(test)]
 mod relay_tests;
 mod relays;
 
-pub use boxes::{relay_by_ring, relay_by_waiting};
+pub use boxes::{lines_by_ring, lines_by_waiting, relay_by_ring, relay_by_waiting};
 pub use leaving::{Stopped, leave_one, leave_one_by_ring, leave_one_by_waiting};
+pub use lines::{hand_over, send_lines, take_lanes, two_threads_hand_over_lines};
 pub use openings::{refusal, refusal_by_ring, refusal_by_waiting};
 pub use relays::{Relayed, event_at, offer_one, relay, send_all, take_all, take_one};

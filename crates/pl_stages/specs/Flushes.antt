@@ -3,7 +3,7 @@ use Rattle.std.specs.Prelude.{ℕ, ◌%◌, List, [], ◌∷◌, ◌++◌, count
 use Rattle.pl_event.specs.declared.events.Event.{Event}
 use Rattle.pl_event.specs.declared.events.Event.TheVariants.{Flush}
 use Rattle.pl_event.specs.Meaning.{Meaning, IsLawful}
-use Rattle.pl_stages.specs.Passing.{passing_down, passing_down-lawful}
+use Rattle.pl_event.specs.Passing.{passing_down, passing_down-lawful}
 
 abbrev pub is_flush : Event → Bool
 is_flush Flush = true

@@ -1,4 +1,3 @@
-pub mod Passing
 pub mod LineFraming
 pub mod Numbers
 pub mod Commands

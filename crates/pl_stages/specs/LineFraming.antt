@@ -7,7 +7,7 @@ use Rattle.pl_event.specs.declared.events.Event.TheVariants.{Read, Caught}
 use Rattle.pl_event.specs.declared.events.Message.TheVariants.{Bytes, Line}
 use Rattle.pl_event.specs.declared.events.Caught.TheVariants.{TooLong}
 use Rattle.pl_event.specs.Meaning.{Meaning, IsLawful}
-use Rattle.pl_stages.specs.Passing.{passing_up, passing_up-lawful}
+use Rattle.pl_event.specs.Passing.{passing_up, passing_up-lawful}
 
 -- a byte before the first of these parts, if there is one
 abbrev pub onto_first_part : ℕ → List (List ℕ) → List (List ℕ)

@@ -20,7 +20,7 @@ use Rattle.pl_stages.specs.Service.{line_service, has_quit, replies_to, accepted
 use Rattle.pl_stages.specs.Replies.{reply_encoding, encoded}
 use Rattle.pl_stages.specs.LineEnding.{line_ending, with_line_end}
 use Rattle.pl_stages.specs.Flushes.{flush_every, flush_every_down, passes}
-use Rattle.pl_stages.specs.Passing.{passing_up, passing_down}
+use Rattle.pl_event.specs.Passing.{passing_up, passing_down}
 
 -- at most n events for each one
 length-made_after-le : (f : List Event → Event → List Event) (n : ℕ)
@@ -68,12 +68,10 @@ passing_down-thrifty f each =
 
 -- one event of no greater weight for each one
 pub mapping_up-thrifty : (f : Event → Event) → ((x : Event) → event_weight (f x) ≤ event_weight x) → IsThrifty (mapping_up f)
-mapping_up-thrifty f each =
-    thrifty (mapping_up f) (λ before x. let h = each x in omega (arith, h)) (λ before x. omega arith) (λ e before x. omega arith)
+mapping_up-thrifty f each = passing_up-thrifty (λ xs x. f x ∷ []) (λ before x. let h = each x in omega (arith, h))
 
 pub mapping_down-thrifty : (f : Event → Event) → IsThrifty (mapping_down f)
-mapping_down-thrifty f =
-    thrifty (mapping_down f) (λ before x. omega arith) (λ before x. omega arith) (λ e before x. omega arith)
+mapping_down-thrifty f = passing_down-thrifty (λ xs x. f x ∷ []) (λ before x. omega arith)
 
 part_more : (is_feed : Bool) (b : ℕ) (parts more : List (List ℕ)) (n : ℕ) → length more ≤ length parts + n
     → length (if is_feed then [] ∷ more else onto_first_part b more) ≤ length (if is_feed then [] ∷ parts else onto_first_part b parts) + n

@@ -4,10 +4,9 @@ ghost use Rattle.std.specs.Prelude.{◌≡◌, ◌%◌, ◌<◌, ◌≤◌, ◌�
 ghost use Rattle.pl_event.specs.declared.events.Event.{Event};
 ghost use Rattle.pl_stages.specs.Flushes.{flush_every, flush_every-lawful, flushes, is_flush, passes};
 
-use crate::Taken;
 use crate::limits::MAX_FLUSHES;
 use crate::stage_refusal::StageRefusal;
-use pl_event::{BareStage, Direction, Event, Fused, Stage, Turned};
+use pl_event::{BareStage, Direction, Event, Fused, Stage, Taken, Turned};
 
 /// Passes every n-th flush, and every event that is not a flush (`docs/FORMATS.md`, "Handlers").
 #[derive(Debug, Drop)]
@@ -74,6 +73,8 @@ impl BareStage for FlushEvery {
     fn take(&mut self, event: Event, _up: &mut Vec<Event>, down: &mut Vec<Event>) -> Taken {
         if self.passes(&event) {
             down.push(event)?;
+        } else {
+            drop(event);
         }
         Ok(Turned::Open)
     }

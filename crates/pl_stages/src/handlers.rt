@@ -6,7 +6,7 @@ use crate::line_end::LineEnd;
 use crate::line_framer::LineFramer;
 use crate::line_service::LineService;
 use crate::reply_encoder::ReplyEncoder;
-use pl_event::{Direction, Event, Fused, MapDown, MapUp, Stage, StageFault, Turned};
+use pl_event::{Direction, Event, Fused, MapDown, MapUp, Stage, Stepped};
 
 /// Any of the built-in handlers. It means what the handler inside means.
 #[derive(Debug, Drop)]
@@ -60,12 +60,7 @@ impl Stage for Handler {
         }
     }
 
-    fn step(
-        &mut self,
-        event: Event,
-        up: &mut Vec<Event>,
-        down: &mut Vec<Event>,
-    ) -> Result<Turned, StageFault> {
+    fn step(&mut self, event: Event, up: &mut Vec<Event>, down: &mut Vec<Event>) -> Stepped {
         match self {
             Handler::Lines(stage) => stage.step(event, up, down),
             Handler::Decode(stage) => stage.step(event, up, down),

@@ -26,6 +26,3 @@ pub use line_service::LineService;
 pub use reply_encoder::{ReplyEncoder, add_reply_text};
 pub use stage_refusal::StageRefusal;
 pub use thrifty::{Thrifty, ThriftyBare, ThriftyMapping};
-
-/// What a handler answers to an event that it takes.
-type Taken = Result<pl_event::Turned, std::alloc::AllocError>;

@@ -6,11 +6,12 @@ ghost use Rattle.pl_stages.specs.declared.limits.TheConstants.{MAX_LINE};
 ghost use Rattle.pl_event.specs.declared.events.Event.{Event};
 ghost use Rattle.pl_stages.specs.LineFraming.{line_framing, line_framing-lawful, lines_of, framed, without_return, joined, open_part, closed_parts, KeepsPart};
 
-use crate::Taken;
 use crate::limits::MAX_LINE;
 use crate::stage_refusal::StageRefusal;
 use memchr::memchr;
-use pl_event::{BareStage, ByteString, Caught, Direction, Event, Fused, Message, Stage, Turned};
+use pl_event::{
+    BareStage, ByteString, Caught, Direction, Event, Fused, Message, Stage, Taken, Turned,
+};
 use std::alloc::{AllocError, Global};
 use std::mem;
 

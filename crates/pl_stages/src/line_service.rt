@@ -1,13 +1,14 @@
 //! The handler that replies to commands.
 
-ghost use Rattle.std.specs.Prelude.{◌≡◌, false, List, ◌++◌, ◌∷◌, [], OnErr, OnOk};
+ghost use Rattle.std.specs.Prelude.{◌≡◌, false, List, ◌++◌, ◌∷◌, [], OnOk};
+ghost use Rattle.pl_event.specs.Meaning.{IsPrefixOf};
 ghost use Rattle.pl_stages.specs.Service.{line_service, line_service-lawful, has_quit, is_quit, Addition, accepted, added_by, replies_to, fault_of};
 ghost use Rattle.pl_stages.specs.Totals.{KeepsTotals};
 
-use crate::Taken;
 use crate::totals::Totals;
 use pl_event::{
-    BareStage, Caught, Command, Direction, Event, Fault, Fused, Message, Reply, Stage, Turned,
+    BareStage, Caught, Command, Direction, Event, Fault, Fused, Message, Reply, Stage, Taken,
+    Turned,
 };
 use std::alloc::{AllocError, Global};
 
@@ -43,10 +44,13 @@ impl BareStage for LineService {
 
     fn take(&mut self, event: Event, up: &mut Vec<Event>, down: &mut Vec<Event>) -> Taken {
         if self.has_quit {
+            drop(event);
             return Ok(Turned::Ended);
         }
         let quits = is_quit(&event);
-        serve(&mut self.totals, event, up, down)?;
+        let replied = write_replies(&mut self.totals, &event, down);
+        up.push(event)?;
+        replied?;
         self.has_quit = quits;
         Ok(if quits { Turned::Ended } else { Turned::Open })
     }
@@ -63,27 +67,7 @@ fn is_quit(event: &Event) -> bool
     }
 }
 
-/// Passes an event on, and writes the replies to it.
-fn serve(
-    totals: &mut Totals,
-    event: Event,
-    up: &mut Vec<Event>,
-    down: &mut Vec<Event>,
-) -> Result<(), AllocError>
-    ensures up { OnOk result (up.new.items ≡ up.old.items ++ event ∷ []) }
-    ensures down { OnOk result ((additions : List Addition) → KeepsTotals totals.old additions
-        → down.new.items ≡ down.old.items ++ replies_to additions event) }
-    ensures totals { OnOk result ((additions : List Addition) → KeepsTotals totals.old additions
-        → KeepsTotals totals.new (additions ++ added_by additions event)) }
-    ensures up_kept { OnErr result (up.new.items ≡ up.old.items) }
-    ensures down_kept { OnErr result (down.new.items ≡ down.old.items) }
-{
-    up.reserve(1)?;
-    write_replies(totals, &event, down)?;
-    up.push_reserved(event);
-    Ok(())
-}
-
+/// Writes the replies to an event.
 fn write_replies(
     totals: &mut Totals,
     event: &Event,
@@ -93,7 +77,7 @@ fn write_replies(
         → down.new.items ≡ down.old.items ++ replies_to additions event.now) }
     ensures totals { OnOk result ((additions : List Addition) → KeepsTotals totals.old additions
         → KeepsTotals totals.new (additions ++ added_by additions event.now)) }
-    ensures err { OnErr result (down.new.items ≡ down.old.items) }
+    ensures begins { IsPrefixOf down.old.items down.new.items }
 {
     match event {
         Event::Read(Message::Command(command)) => answer(totals, command, down)?,
@@ -109,7 +93,7 @@ fn answer(totals: &mut Totals, command: &Command, down: &mut Vec<Event>) -> Resu
         → down.new.items ≡ down.old.items ++ replies_to additions (Event.Read (Message.Command command.now))) }
     ensures totals { OnOk result ((additions : List Addition) → KeepsTotals totals.old additions
         → KeepsTotals totals.new (additions ++ added_by additions (Event.Read (Message.Command command.now)))) }
-    ensures err { OnErr result (down.new.items ≡ down.old.items) }
+    ensures begins { IsPrefixOf down.old.items down.new.items }
 {
     match command {
         Command::Ping => down.push(written(Reply::Pong))?,

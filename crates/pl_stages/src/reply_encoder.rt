@@ -4,10 +4,9 @@ ghost use Rattle.std.specs.Prelude.{◌≡◌, false, ◌++◌, [], IfOk, OnOk, 
 ghost use Rattle.pl_event.specs.Mappings.{mapping_down-lawful};
 ghost use Rattle.pl_stages.specs.Replies.{reply_encoding, encoded, reply_text, fault_text};
 
-use crate::Taken;
 use itoa::Buffer;
 use pl_event::{
-    BareStage, ByteString, Direction, Event, Fault, Fused, Message, Reply, Stage, Turned,
+    BareStage, ByteString, Direction, Event, Fault, Fused, Message, Reply, Stage, Taken, Turned,
 };
 use std::alloc::{AllocError, Global};
 

@@ -1,5 +1,8 @@
-//! Tests of the built-in handlers: the worked examples of the line protocol, by the steps of the handlers.
+//! Tests of the built-in handlers: the worked examples of the line protocol, by the steps of the handlers. And of the
+//! bytes, sequences and keys of events.
 #![tactic(auto)]
 
+#[cfg(test)]
+mod event_tests;
 #[cfg(test)]
 mod tests;

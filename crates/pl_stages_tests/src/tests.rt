@@ -1,18 +1,13 @@
 //! The worked examples of `docs/FORMATS.md`, by the steps of the handlers.
 
-use pl_event::{
-    ByteString, Caught, Command, Event, Fault, Fused, Key, Message, Reply, Stage, Turned,
-};
+use crate::event_tests::text;
+use pl_event::{Caught, Command, Event, Fault, Fused, Key, Message, Reply, Stage, Turned};
 use pl_stages::{
     CommandDecoder, FlushEvery, Handler, LineEnd, LineFramer, LineService, ReplyEncoder,
     add_reply_text,
 };
 use std::alloc::{AllocError, Global};
 use std::test::Fail;
-
-fn text(alloc: Global, bytes: &[u8]) -> Result<ByteString, AllocError> {
-    Ok(ByteString::from_vec(Vec::from_slice(alloc, bytes)?))
-}
 
 fn chunk(alloc: Global, bytes: &[u8]) -> Result<Event, AllocError> {
     Ok(Event::Read(Message::Bytes(text(alloc, bytes)?)))

@@ -1,10 +1,10 @@
 //! The bytes, the sequences and the keys, each call once.
 
-use super::*;
+use pl_event::{ByteString, Event, Key, Sequence};
 use std::alloc::{AllocError, Global};
 use std::test::Fail;
 
-fn text(alloc: Global, bytes: &[u8]) -> Result<ByteString, AllocError> {
+pub(crate) fn text(alloc: Global, bytes: &[u8]) -> Result<ByteString, AllocError> {
     Ok(ByteString::from_vec(Vec::from_slice(alloc, bytes)?))
 }
 
