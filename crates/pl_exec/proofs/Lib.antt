@@ -1,0 +1,5 @@
+pub mod SentLemmas
+pub mod OutboxLemmas
+pub mod AddSteps
+pub mod OfferSteps
+pub mod RunLemmas

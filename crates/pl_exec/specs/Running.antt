@@ -1,0 +1,44 @@
+-- An executor while it works its list off: of each lane that its nodes write, what stands on the list follows what went on,
+-- up to what was made.
+use Rattle.std.specs.Prelude.{◌≡◌, ◌≢◌, ℕ, ◌<◌, Bool, true, false, List, [], ◌∷◌, length, Some}
+use Rattle.pl_event.specs.declared.envelopes.Envelope.{Envelope}
+use Rattle.pl_event.specs.declared.envelopes.Lane.{Lane}
+use Rattle.pl_event.specs.Worlds.{World}
+use Rattle.pl_context.specs.Stops.{has_stopped, HasPlaces, AreAmong}
+use Rattle.pl_context.specs.OutputsViews.{OutputsView}
+use Rattle.pl_context.specs.WaitingViews.{stops_for}
+use Rattle.pl_queue.specs.declared.views.TakeCount.{TakeCount}
+use Rattle.pl_queue.specs.declared.views.TakerView.{TakerView}
+use Rattle.pl_queue.specs.Views.{next_of}
+use Rattle.pl_flow.specs.Flows.{Point, point, on, IsFlow, past}
+use Rattle.pl_exec.specs.OutboxViews.{OutboxesView, reached, is_cut}
+
+-- What stands on the list of a lane follows the point behind which it stands, and goes up to what was made; unless it is
+-- cut off behind, or has stopped on the list.
+pub record LaneRuns (world : World) (base : Point) (cut stopped : Bool) (items : List Envelope) (made : Point) : Type 0 where
+  pub flow : cut ≡ false → IsFlow world base items
+  pub up_to : cut ≡ false → stopped ≡ false → past base items ≡ made
+
+-- The executor's number; by lane the executor that it enters, whether the nodes write it, how many items of it they have
+-- taken, and how far they have made it.
+module _ (world : World) (me : ℕ) (target : Lane → ℕ) (writes : Lane → Bool) (taken : Lane → ℕ) (came : Lane → Point) where
+  pub record Runs (o : OutboxesView) (work : OutputsView) : Type 0 where
+    pub own : (l : Lane) → target l ≡ me → writes l ≡ true → (over : Bool) × LaneRuns world (point (taken l) over) false (has_stopped work.stopped l) (on l work.items) (came l)
+    pub away : (l : Lane) → target l ≢ me → writes l ≡ true → LaneRuns world (reached o (target l) l) (is_cut o (target l) l) (has_stopped work.stopped l) (on l work.items) (came l)
+    pub others : (l : Lane) → writes l ≡ false → on l work.items ≡ []
+    -- each lane that is written has its target, with a place there
+    pub there : (l : Lane) → writes l ≡ true → target l ≢ me → target l < length o.outboxes
+    pub hops : ℕ → List Lane
+    pub placed : (y : ℕ) → y < length o.outboxes → HasPlaces (stops_for o.waiting y) (hops y)
+    pub among : (l : Lane) → writes l ≡ true → AreAmong (l ∷ []) (hops (target l))
+
+-- What a taker is to take enters one of the executor's nodes, none of which writes it, and is their next of its lane.
+abbrev pub IsTaking : ℕ → (Lane → ℕ) → (Lane → Bool) → (Lane → ℕ) → List TakeCount → Type 0
+IsTaking me target writes taken counts =
+    (l : Lane) (n : ℕ) → next_of l counts ≡ Some n → (target l ≡ me) × (writes l ≡ false) × (taken l ≡ n)
+
+-- An executor between two of its steps: its number, its way out, and what it knows of its queue.
+pub record ExecutorView : Type 0 where
+  pub number : ℕ
+  pub outboxes : OutboxesView
+  pub takes : TakerView

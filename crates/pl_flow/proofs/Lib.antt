@@ -1,0 +1,5 @@
+pub mod FlowLemmas
+pub mod ItemLemmas
+pub mod MakeLemmas
+pub mod PortFlows
+pub mod StageFlows

@@ -1,0 +1,414 @@
+-- A context takes the next item of one of its lanes: how it stands then, and what it has put out.
+use Rattle.std.proofs.Common.{◌≡◌, ℕ, suc, ◌+◌, ◌<◌, ◌≤◌, ◌^◌, Bool, true, false, not, ◌&&◌, List, [], ◌∷◌, ◌++◌, length, take, Some, refl, ap, sym, ◌∙◌, subst, ⊎_elim, arith, length-append}
+use Rattle.std.specs.Prelude.{◌%◌, ◌==◌}
+use Rattle.std.specs.List.{slice_get}
+use Rattle.std.proofs.lemmas.List.{take_all}
+use Rattle.std.proofs.lemmas.Option.{slice_get_within}
+use Rattle.std.proofs.lemmas.Bool.{cases_Bool, both_ways}
+use Rattle.pl_event.specs.declared.events.Event.{Event}
+use Rattle.pl_event.specs.declared.outcomes.Cause.{Cause}
+use Rattle.pl_event.specs.declared.outcomes.Cause.TheVariants.{Memory}
+use Rattle.pl_event.specs.declared.envelopes.Kind.{Kind}
+use Rattle.pl_event.specs.declared.envelopes.Kind.TheVariants.{Data, Flags}
+use Rattle.pl_event.specs.declared.envelopes.Item.{Item}
+use Rattle.pl_event.specs.declared.envelopes.Item.TheVariants as item
+use Rattle.pl_event.specs.declared.envelopes.Envelope.{Envelope}
+use Rattle.pl_event.specs.Meaning.{Meaning, IsLawful, up_of, down_of, turned_after}
+use Rattle.pl_event.specs.Fitting.{Fits, FitsAsFlag}
+use Rattle.pl_context.specs.declared.added.Added.{Added}
+use Rattle.pl_context.specs.declared.added.Added.TheVariants.{Last, Refused, Discarded}
+use Rattle.pl_context.specs.declared.standing.Standing.{Standing}
+use Rattle.pl_context.specs.declared.standing.Standing.TheVariants as stands
+use Rattle.pl_context.specs.declared.standing.Took.{Took}
+use Rattle.pl_context.specs.declared.standing.Took.TheVariants as took
+use Rattle.pl_context.specs.Standings.{is_over, has_failed}
+use Rattle.pl_context.specs.OutputsViews.{OutputsView}
+use Rattle.pl_context.specs.Ports.{as_items, end_after, port_after, all_go_on, flag_port_after}
+use Rattle.pl_context.specs.ContextViews.{ContextView, has_up, has_down, Enters, kind_taken, number_limit}
+use Rattle.pl_context.specs.Contexts.{StandsAfter, MakesFew, Runs, Closes, TakesItem, TakesFlag, counted, ups, downs, last_item}
+use Rattle.pl_context.proofs.PortLemmas.{all_go_on-events, all_go_on-append}
+use Rattle.pl_context.proofs.ContextLemmas.{closed-port}
+use Rattle.pl_event.specs.Worlds.{World, FitsWorld, FitsAsKind, content_of}
+use Rattle.pl_flow.specs.Flows.{IsGood}
+use Rattle.pl_event.specs.Hops.{data_lane}
+use Rattle.pl_flow.specs.Makes.{Makes}
+use Rattle.pl_flow.proofs.MakeLemmas.{makes-none}
+use Rattle.pl_flow.specs.Makes.{AreGood}
+use Rattle.pl_flow.proofs.StageFlows.{ups-good, downs-good}
+use Rattle.pl_flow.proofs.ItemLemmas.{failure-good, end-good}
+use Rattle.pl_part.specs.ContextHolds.{HoldsWith, context_writes, context_came}
+use Rattle.pl_part.proofs.EventLists.{some-equal, split-at, length-items, made-le, made-more, length-end, goes-on-end, still-closed, ends-good}
+use Rattle.pl_part.proofs.PortMakes.{both-put, both-append, flag-put}
+
+pub and-left : (a b : Bool) → (a && b) ≡ true → a ≡ true
+and-left true b e = refl
+and-left false b e = e
+
+and-true : (b : Bool) → (b && true) ≡ b
+and-true true = refl
+and-true false = refl
+
+open-over : (s : Standing) → s ≡ stands.Open → is_over s ≡ true → ⊥
+open-over s e f = both_ways (is_over s) (ap is_over e) f
+
+open-failed : (s : Standing) → s ≡ stands.Open → has_failed s ≡ true → ⊥
+open-failed s e f = both_ways (has_failed s) (ap has_failed e) f
+
+next-take : (n : ℕ) (events : List Event) → take (n + 1) events ≡ take (suc n) events
+next-take n events = let same : n + 1 ≡ suc n = omega arith in ap (λ k. take k events) same
+
+module _ {S : Type 0} (world : World) (meaning : S → Meaning) (stands_after : S → List Event → Type 0) (is_spent : S → Bool) (lawful : (s : S) → IsLawful (meaning s)) (events : List Event) (c : ContextView S)
+    (h : HoldsWith world meaning stands_after (meaning c.stage) events c) where
+  -- what a step owes
+  abbrev Stepped : OutputsView → ContextView S → OutputsView → Type 0
+  Stepped b c' a = HoldsWith world meaning stands_after (meaning c.stage) events c'
+      × Makes world (context_writes (meaning c.stage).direction c) (context_came (meaning c.stage).direction c) (context_came (meaning c.stage).direction c') b a
+
+  module _ (live : c.standing ≡ stands.Open) where
+    up-has : c.up.is_open ≡ true → has_up (meaning c.stage).direction ≡ true
+    up-has o = sym (h.up_open live) ∙ o
+
+    down-has : c.down.is_open ≡ true → has_down (meaning c.stage).direction ≡ true
+    down-has o = and-left (has_down (meaning c.stage).direction) (not ((meaning c.stage).ended (take c.taken events))) (sym (h.down_open live) ∙ o)
+
+    -- ---- an event
+
+    module _ (x : Event) (fits : slice_get events c.taken ≡ Some x) where
+      small-up : c.up.is_open ≡ true → c.up.made + length (ups (meaning c.stage) (take c.taken events) x) ≤ 2 ^ 31
+      small-up o =
+          let s = split-at events c.taken x fits in
+          let made = (h.stood live).above o in
+          let more = made-more (meaning c.stage).up events (take c.taken events) s.0 x s.1 in
+          let size = length-items ((meaning c.stage).up (take c.taken events) x) in
+          let few = h.wired.few_up (up-has o) in
+          omega (arith, made, more, size, few)
+
+      small-down : c.down.is_open ≡ true → c.down.made + length (downs (meaning c.stage) (take c.taken events) x) ≤ 2 ^ 31
+      small-down o =
+          let s = split-at events c.taken x fits in
+          let made = (h.stood live).below o in
+          let more = made-more (meaning c.stage).down events (take c.taken events) s.0 x s.1 in
+          let size = length-items ((meaning c.stage).down (take c.taken events) x) in
+          let few = h.wired.few_down (down-has o) in
+          let end = length-end (turned_after (meaning c.stage) (take c.taken events ++ x ∷ [])) in
+          let both = length-append (as_items ((meaning c.stage).down (take c.taken events) x)) (end_after (turned_after (meaning c.stage) (take c.taken events ++ x ∷ []))) in
+          omega (arith, made, more, size, few, end, both)
+
+      event-few : MakesFew meaning stands_after c (item.Event x)
+      event-few = (take c.taken events, record { stands = (h.stood live).stands; above = small-up; below = small-down })
+
+      ups-are-good : c.up.is_open ≡ true → AreGood world c.up.lane c.up.made (ups (meaning c.stage) (take c.taken events) x)
+      ups-are-good o =
+          let s = split-at events c.taken x fits in
+          ups-good world (meaning c.stage) c.up.lane events (take c.taken events) s.0 x c.up.made h.wired.up_kind (h.wired.up (up-has o)) (h.wired.few_up (up-has o)) s.1 ((h.stood live).above o)
+
+      downs-are-good : c.down.is_open ≡ true → AreGood world c.down.lane c.down.made (downs (meaning c.stage) (take c.taken events) x)
+      downs-are-good o =
+          let s = split-at events c.taken x fits in
+          let d = down-has o in
+          ends-good world (meaning c.stage) (lawful c.stage) c.down.lane events (take c.taken events) s.0 x c.down.made h.wired.down_kind (h.wired.down d) (h.wired.few_down d) s.1 ((h.stood live).below o)
+          (downs-good world (meaning c.stage) c.down.lane events (take c.taken events) s.0 x c.down.made h.wired.down_kind (h.wired.down d) (h.wired.few_down d) s.1 ((h.stood live).below o))
+
+      ran : (b a : OutputsView) (c' : ContextView S) → meaning c'.stage ≡ meaning c.stage → Runs meaning stands_after (counted Data c) x b c' a → Stepped b c' a
+      ran b a c' meant r =
+          let s = split-at events c.taken x fits in
+          let before = take c.taken events in
+          let at = (h.stood live).stands in
+          let U = ups (meaning c.stage) before x in
+          let D = downs (meaning c.stage) before x in
+          let z : ContextView S = record (counted Data c) { stage = c'.stage; up = port_after U c.up; down = port_after D c.down } in
+          let same : c' ≡ z = r.same ∙ (λ i. record (counted Data c) { stage = c'.stage; up = r.up before at i; down = r.down before at i }) in
+          let more : take (c.taken + 1) events ≡ before ++ x ∷ [] = next-take c.taken events ∙ s.2 in
+          let ended = (meaning c.stage).ended in
+          let within = slice_get_within events c.taken x fits in
+          let stood : StandsAfter meaning stands_after z (take (c.taken + 1) events) = subst (λ (y : ContextView S × List Event). StandsAfter meaning stands_after y.0 y.1) (λ i. (same i, sym more i)) (r.stands before (h.stood live)) in
+          let shut : (c.down.is_open && all_go_on D) ≡ (has_down (meaning c.stage).direction && not (ended (take (c.taken + 1) events))) =
+          (λ i. h.down_open live i && (all_go_on-append (as_items ((meaning c.stage).down before x)) (end_after (turned_after (meaning c.stage) (before ++ x ∷ []))) (all_go_on-events ((meaning c.stage).down before x)) ∙ goes-on-end (ended (before ++ x ∷ []))) i)
+          ∙ still-closed (has_down (meaning c.stage).direction) (ended before) (ended (before ++ x ∷ [])) ((lawful c.stage).stays_ended before x)
+          ∙ ap (λ zs. has_down (meaning c.stage).direction && not (ended zs)) (sym more) in (
+            subst (λ (y : ContextView S). HoldsWith world meaning stands_after (meaning c.stage) events y) (sym same) (record {
+              meant = meant;
+              wired = h.wired;
+              within = λ o. omega (arith, within);
+              stood = λ o. stood;
+              up_open = λ o. (λ i. h.up_open live i && all_go_on-events ((meaning c.stage).up before x) i) ∙ and-true (has_up (meaning c.stage).direction);
+              down_open = λ o. shut;
+              up_over = λ o. absurd (open-over c.standing live o);
+              down_over = λ o. absurd (open-over c.standing live o);
+              flags_open = h.flags_open;
+              flags = h.flags;
+              by_call = h.by_call;
+            }),
+            subst (λ (y : ContextView S). Makes world (context_writes (meaning c.stage).direction c) (context_came (meaning c.stage).direction c) (context_came (meaning c.stage).direction y) b a) (sym same)
+                (both-append (has_up (meaning c.stage).direction) (has_down (meaning c.stage).direction) c.up c.down c.flags up-has down-has h.wired.apart world U D ups-are-good downs-are-good b a (r.out before at)),
+          )
+
+    -- ---- the last item of its lanes
+
+    closing : (standing : Standing) → is_over standing ≡ true → (st : S) (t : ℕ) (fb : Bool) → meaning st ≡ meaning c.stage → (fb ≡ true → has_failed standing ≡ true)
+        → (c.up.is_open ≡ true → IsGood world (record { lane = c.up.lane; number = c.up.made; item = last_item standing }))
+        → (c.down.is_open ≡ true → IsGood world (record { lane = c.down.lane; number = c.down.made; item = last_item standing }))
+        → (b a : OutputsView) (c' : ContextView S) → Closes standing (record c { stage = st; taken = t; failed_by_call = fb }) b c' a → Stepped b c' a
+    closing standing over st t fb meant call up down b a c' k =
+        let last = last_item standing ∷ [] in
+        let z : ContextView S = record c { stage = st; taken = t; failed_by_call = fb; standing = standing; up = port_after last c.up; down = port_after last c.down } in
+        let same : c' ≡ z = k.context in (
+          subst (λ (y : ContextView S). HoldsWith world meaning stands_after (meaning c.stage) events y) (sym same) (record {
+            meant = meant;
+            wired = h.wired;
+            within = λ o. absurd (open-over standing o over);
+            stood = λ o. absurd (open-over standing o over);
+            up_open = λ o. absurd (open-over standing o over);
+            down_open = λ o. absurd (open-over standing o over);
+            up_over = λ o. closed-port standing c.up (port_after last c.up) (last_item standing) refl refl;
+            down_over = λ o. closed-port standing c.down (port_after last c.down) (last_item standing) refl refl;
+            flags_open = h.flags_open;
+            flags = λ f. h.flags (ap has_failed live);
+            by_call = call;
+          }),
+          subst (λ (y : ContextView S). Makes world (context_writes (meaning c.stage).direction c) (context_came (meaning c.stage).direction c) (context_came (meaning c.stage).direction y) b a) (sym same)
+              (both-put (has_up (meaning c.stage).direction) (has_down (meaning c.stage).direction) c.up c.down c.flags up-has down-has h.wired.apart world last last
+              (λ o. (up o, (λ e. refl), tt)) (λ o. (down o, (λ e. refl), tt)) b a k.out),
+        )
+
+    not-called : (standing : Standing) → c.failed_by_call ≡ true → has_failed standing ≡ true
+    not-called standing e = absurd (open-failed c.standing live (h.by_call e))
+
+    failing : (cause : Cause) (st : S) (t : ℕ) (fb : Bool) → meaning st ≡ meaning c.stage → (b a : OutputsView) (c' : ContextView S)
+        → Closes (stands.Failed cause) (record c { stage = st; taken = t; failed_by_call = fb }) b c' a → Stepped b c' a
+    failing cause st t fb meant b a c' k = closing (stands.Failed cause) refl st t fb meant (λ e. refl)
+        (λ o. let made = (h.stood live).above o in let le = made-le (meaning c.stage).up c.taken events in
+        failure-good world c.up.lane (up_of (meaning c.stage) events) c.up.made h.wired.up_kind (h.wired.up (up-has o)) (h.wired.few_up (up-has o)) cause (omega (arith, made, le)))
+        (λ o. let made = (h.stood live).below o in let le = made-le (meaning c.stage).down c.taken events in
+        failure-good world c.down.lane (down_of (meaning c.stage) events) c.down.made h.wired.down_kind (h.wired.down (down-has o)) (h.wired.few_down (down-has o)) cause (omega (arith, made, le)))
+        b a c' k
+
+    ending : c.taken ≡ length events → (b a : OutputsView) (c' : ContextView S) → Closes stands.Ended (counted Data c) b c' a → Stepped b c' a
+    ending last b a c' k =
+        let all : take c.taken events ≡ events = take_all c.taken events (omega (arith, last)) in
+        closing stands.Ended refl c.stage (c.taken + 1) c.failed_by_call refl (not-called stands.Ended)
+        (λ o. end-good world c.up.lane (up_of (meaning c.stage) events) c.up.made h.wired.up_kind (h.wired.up (up-has o)) (h.wired.few_up (up-has o)) ((h.stood live).above o ∙ ap (λ zs. length (up_of (meaning c.stage) zs)) all))
+        (λ o. end-good world c.down.lane (down_of (meaning c.stage) events) c.down.made h.wired.down_kind (h.wired.down (down-has o)) (h.wired.few_down (down-has o)) ((h.stood live).below o ∙ ap (λ zs. length (down_of (meaning c.stage) zs)) all))
+        b a c' k
+
+    -- ---- any item of its data lane
+
+    pub taken-open : (i : Item) → Fits events c.taken i → (answer : Took) (b a : OutputsView) (c' : ContextView S) → meaning c'.stage ≡ meaning c.stage
+        → TakesItem meaning stands_after is_spent (counted Data c) i b answer c' a → Stepped b c' a
+    taken-open (item.Event x) fits took.Ran b a c' meant t = ran x fits b a c' meant t
+    taken-open (item.Event x) fits (took.Failed cause) b a c' meant t = failing Memory c'.stage (c.taken + 1) c.failed_by_call meant b a c' t.1.closes
+    taken-open (item.Event x) fits took.Ended b a c' meant t = absurd t
+    taken-open (item.Event x) fits took.Dropped b a c' meant t = absurd t
+    taken-open item.End fits answer b a c' meant t = ending fits b a c' t.1
+    taken-open (item.Fail cause) fits answer b a c' meant t = failing cause c.stage (c.taken + 1) c.failed_by_call refl b a c' t.1
+    taken-open (item.Flag value) fits answer b a c' meant t = absurd fits
+
+    pub few-open : (i : Item) → Fits events c.taken i → MakesFew meaning stands_after c i
+    few-open (item.Event x) fits = event-few x fits
+    few-open item.End fits = tt
+    few-open (item.Fail cause) fits = tt
+    few-open (item.Flag value) fits = absurd fits
+
+  -- ---- one that has ended or failed
+
+  failed-over : (s : Standing) → has_failed s ≡ true → is_over s ≡ true
+  failed-over stands.Open e = e
+  failed-over stands.Ended e = refl
+  failed-over (stands.Failed cause) e = refl
+
+  counted-over : is_over c.standing ≡ true → (b a : OutputsView) (c' : ContextView S) → c' ≡ counted Data c → a ≡ b → Stepped b c' a
+  counted-over over b a c' same none = (
+    subst (λ (y : ContextView S). HoldsWith world meaning stands_after (meaning c.stage) events y) (sym same) (record {
+      meant = refl;
+      wired = h.wired;
+      within = λ o. absurd (open-over c.standing o over);
+      stood = λ o. absurd (open-over c.standing o over);
+      up_open = λ o. absurd (open-over c.standing o over);
+      down_open = λ o. absurd (open-over c.standing o over);
+      up_over = h.up_over;
+      down_over = h.down_over;
+      flags_open = h.flags_open;
+      flags = h.flags;
+      by_call = h.by_call;
+    }),
+    subst (λ (y : ContextView S × OutputsView). Makes world (context_writes (meaning c.stage).direction c) (context_came (meaning c.stage).direction c) (context_came (meaning c.stage).direction y.0) b y.1) (λ i. (sym same i, sym none i))
+        (makes-none world (context_writes (meaning c.stage).direction c) (context_came (meaning c.stage).direction c) b b refl refl),
+  )
+
+  -- a flag that is not handed on
+  counted-flag : (c.flags.is_open ≡ true → has_failed c.standing ≡ true) → (b a : OutputsView) (c' : ContextView S) → c' ≡ counted Flags c → a ≡ b → Stepped b c' a
+  counted-flag shut b a c' same none = (
+    subst (λ (y : ContextView S). HoldsWith world meaning stands_after (meaning c.stage) events y) (sym same) (record {
+      meant = refl;
+      wired = h.wired;
+      within = h.within;
+      stood = h.stood;
+      up_open = h.up_open;
+      down_open = h.down_open;
+      up_over = h.up_over;
+      down_over = h.down_over;
+      flags_open = h.flags_open;
+      flags = λ f o. absurd (both_ways (has_failed c.standing) f (shut o));
+      by_call = h.by_call;
+    }),
+    subst (λ (y : ContextView S × OutputsView). Makes world (context_writes (meaning c.stage).direction c) (context_came (meaning c.stage).direction c) (context_came (meaning c.stage).direction y.0) b y.1) (λ i. (sym same i, sym none i))
+        (makes-none world (context_writes (meaning c.stage).direction c) (context_came (meaning c.stage).direction c) b b refl refl),
+  )
+
+  dropped : (k : Kind) → has_failed c.standing ≡ true → (b a : OutputsView) (c' : ContextView S) → c' ≡ counted k c → a ≡ b → Stepped b c' a
+  dropped Data f b a c' same none = counted-over (failed-over c.standing f) b a c' same none
+  dropped Flags f b a c' same none = counted-flag (λ o. f) b a c' same none
+
+  -- ---- flags
+
+  flag-held : c.flags.is_open ≡ true → (answer : Added) → HoldsWith world meaning stands_after (meaning c.stage) events (record (counted Flags c) { flags = flag_port_after answer c.flags })
+  flag-held goes Last = record {
+    meant = refl;
+    wired = h.wired;
+    within = h.within;
+    stood = h.stood;
+    up_open = h.up_open;
+    down_open = h.down_open;
+    up_over = h.up_over;
+    down_over = h.down_over;
+    by_call = h.by_call;
+    flags_open = h.flags_open;
+    flags = λ f o. ap (λ n. n + 1) (h.flags f goes);
+  }
+  flag-held goes Refused = record {
+    meant = refl;
+    wired = h.wired;
+    within = h.within;
+    stood = h.stood;
+    up_open = h.up_open;
+    down_open = h.down_open;
+    up_over = h.up_over;
+    down_over = h.down_over;
+    by_call = h.by_call;
+    flags_open = λ o. h.flags_open goes;
+    flags = λ f o. absurd (both_ways false refl o);
+  }
+  flag-held goes Discarded = record {
+    meant = refl;
+    wired = h.wired;
+    within = h.within;
+    stood = h.stood;
+    up_open = h.up_open;
+    down_open = h.down_open;
+    up_over = h.up_over;
+    down_over = h.down_over;
+    by_call = h.by_call;
+    flags_open = λ o. h.flags_open goes;
+    flags = λ f o. absurd (both_ways false refl o);
+  }
+
+  flag-good : (value : Bool) → value ≡ (c.flags_taken % 2 == 1) → c.flags_taken < 2 ^ 32 → has_failed c.standing ≡ false → c.flags.is_open ≡ true
+      → IsGood world (record { lane = c.flags.lane; number = c.flags.made; item = item.Flag value })
+  unfolding FitsWorld
+  flag-good value fits small f o =
+      let same = h.flags f o in record {
+        fits = subst (λ k. FitsAsKind world k (record { lane = c.flags.lane; number = c.flags.made; item = item.Flag value })) (sym h.wired.flags_kind) (fits ∙ ap (λ n. n % 2 == 1) (sym same));
+        small = omega (arith, same, small);
+      }
+
+  flag-taken : (value : Bool) → value ≡ (c.flags_taken % 2 == 1) → c.flags_taken < 2 ^ 32 → has_failed c.standing ≡ false → (answer : Took) (b a : OutputsView) (c' : ContextView S)
+      → TakesFlag (counted Flags c) (item.Flag value) b answer c' a → Stepped b c' a
+  flag-taken value fits small f answer b a c' t = ⊎_elim
+      (λ (o : c.flags.is_open ≡ true).
+      let put = t.2.put o in
+      let same : c' ≡ record (counted Flags c) { flags = flag_port_after put.0 c.flags } = t.1 ∙ (λ i. record (counted Flags c) { flags = put.1 i }) in (
+        subst (λ (y : ContextView S). HoldsWith world meaning stands_after (meaning c.stage) events y) (sym same) (flag-held o put.0),
+        subst (λ (y : ContextView S). Makes world (context_writes (meaning c.stage).direction c) (context_came (meaning c.stage).direction c) (context_came (meaning c.stage).direction y) b a) (sym same)
+            (flag-put (has_up (meaning c.stage).direction) (has_down (meaning c.stage).direction) c.up c.down c.flags h.flags_open h.wired.flags_kind h.wired.up_kind h.wired.down_kind world o value (flag-good value fits small f o) b a put.0 put.2),
+      ))
+      (λ (o : c.flags.is_open ≡ false).
+      let none = t.2.closed o in
+      let same : c' ≡ counted Flags c = t.1 ∙ (λ i. record (counted Flags c) { flags = none.0 i }) in
+      counted-flag (λ g. absurd (both_ways c.flags.is_open o g)) b a c' same none.1)
+      (cases_Bool c.flags.is_open)
+
+  flags-taken : (i : Item) → FitsAsFlag c.flags_taken i → c.flags_taken < 2 ^ 32 → has_failed c.standing ≡ false → (answer : Took) (b a : OutputsView) (c' : ContextView S)
+      → TakesFlag (counted Flags c) i b answer c' a → Stepped b c' a
+  flags-taken (item.Event x) fits small f answer b a c' t = absurd fits
+  flags-taken item.End fits small f answer b a c' t = absurd fits
+  flags-taken (item.Fail cause) fits small f answer b a c' t = absurd fits
+  flags-taken (item.Flag value) fits small f answer b a c' t = flag-taken value fits small f answer b a c' t
+
+  -- ---- any item of its lanes
+
+  module _ (e : Envelope) (enters : Enters c e.lane) (number : e.number ≡ kind_taken c e.lane.kind) (good : IsGood world e) where
+    here : (k : Kind) → e.lane.kind ≡ k → e.number ≡ kind_taken c k
+    here k is = number ∙ ap (λ k. kind_taken c k) is
+
+    data-fits : e.lane.kind ≡ Data → Fits events c.taken e.item
+    unfolding FitsWorld
+    data-fits is =
+        let f = subst (λ k. FitsAsKind world k e) is good.fits in
+        let lane : e.lane ≡ data_lane c.channel c.hop = (λ i. record { channel = enters.channel i; kind = is i; hop = enters.hop i }) in
+        let all : f.0 ≡ events = some-equal f.0 events (sym f.1 ∙ ap (λ l. content_of world l) lane ∙ h.wired.own) in
+        subst (λ (y : List Event × ℕ). Fits y.0 y.1 e.item) (λ i. (all i, here Data is i)) f.2
+
+    flag-fits : e.lane.kind ≡ Flags → FitsAsFlag c.flags_taken e.item
+    unfolding FitsWorld
+    flag-fits is =
+        let f = subst (λ k. FitsAsKind world k e) is good.fits in
+        subst (λ n. FitsAsFlag n e.item) (here Flags is) f
+
+    fits-within : (i : Item) → Fits events c.taken i → c.taken ≤ length events
+    fits-within (item.Event x) fits = let within = slice_get_within events c.taken x fits in omega (arith, within)
+    fits-within item.End fits = omega (arith, fits)
+    fits-within (item.Fail cause) fits = fits
+    fits-within (item.Flag value) fits = absurd fits
+
+    pub next-limit : e.number < number_limit e.lane.kind
+    next-limit = by e.lane.kind refl
+      where
+        by : (k : Kind) → e.lane.kind ≡ k → e.number < number_limit k
+        by Data is =
+            let within = fits-within e.item (data-fits is) in
+            let few = h.wired.few in
+            let n = here Data is in
+            omega (arith, within, few, n)
+        by Flags is = good.small
+
+    pub next-few : e.lane.kind ≡ Data → c.standing ≡ stands.Open → MakesFew meaning stands_after c e.item
+    next-few is live = few-open live e.item (data-fits is)
+
+    pub context-taken : (b a : OutputsView) (c' : ContextView S) (answer : Took) → meaning c'.stage ≡ meaning c.stage
+        → (e.lane.kind ≡ Data → c.standing ≡ stands.Open → TakesItem meaning stands_after is_spent (counted Data c) e.item b answer c' a)
+        → (e.lane.kind ≡ Data → c.standing ≡ stands.Ended → (answer ≡ took.Ran) × (c' ≡ counted Data c) × (a ≡ b))
+        → (e.lane.kind ≡ Flags → has_failed c.standing ≡ false → TakesFlag (counted Flags c) e.item b answer c' a)
+        → (has_failed c.standing ≡ true → (answer ≡ took.Dropped) × (c' ≡ counted e.lane.kind c) × (a ≡ b))
+        → Stepped b c' a
+    context-taken b a c' answer meant item ended flag drops = by e.lane.kind refl c.standing refl
+      where
+        small : e.lane.kind ≡ Flags → c.flags_taken < 2 ^ 32
+        small is = subst (λ n. n < 2 ^ 32) (here Flags is) good.small
+
+        by : (k : Kind) → e.lane.kind ≡ k → (s : Standing) → c.standing ≡ s → Stepped b c' a
+        by Data is stands.Open live = taken-open live e.item (data-fits is) answer b a c' meant (item is live)
+        by Data is stands.Ended over = let t = ended is over in counted-over (ap is_over over) b a c' t.1 t.2
+        by Data is (stands.Failed cause) over = let t = drops (ap has_failed over) in dropped e.lane.kind (ap has_failed over) b a c' t.1 t.2
+        by Flags is stands.Open live = flags-taken e.item (flag-fits is) (small is) (ap has_failed live) answer b a c' (flag is (ap has_failed live))
+        by Flags is stands.Ended live = flags-taken e.item (flag-fits is) (small is) (ap has_failed live) answer b a c' (flag is (ap has_failed live))
+        by Flags is (stands.Failed cause) over = let t = drops (ap has_failed over) in dropped e.lane.kind (ap has_failed over) b a c' t.1 t.2
+
+  -- ---- it is made to fail
+
+  pub context-failed : (cause : Cause) (b a : OutputsView) (c' : ContextView S)
+      → (c.standing ≡ stands.Open → Closes (stands.Failed cause) (record c { failed_by_call = true }) b c' a)
+      → (is_over c.standing ≡ true → (c' ≡ c) × (a ≡ b))
+      → Stepped b c' a
+  context-failed cause b a c' closes over = by c.standing refl
+    where
+      same : (c' ≡ c) × (a ≡ b) → Stepped b c' a
+      same t = subst (λ (y : ContextView S × OutputsView). Stepped b y.0 y.1) (λ i. (sym t.0 i, sym t.1 i))
+          (h, makes-none world (context_writes (meaning c.stage).direction c) (context_came (meaning c.stage).direction c) b b refl refl)
+
+      by : (s : Standing) → c.standing ≡ s → Stepped b c' a
+      by stands.Open live = failing live cause c.stage c.taken true refl b a c' (closes live)
+      by stands.Ended is = same (over (ap is_over is))
+      by (stands.Failed other) is = same (over (ap is_over is))
+
+  pub context-kept : (b a : OutputsView) → a ≡ b → Stepped b c a
+  context-kept b a same = subst (λ (y : OutputsView). Stepped b c y) (sym same) (h, makes-none world (context_writes (meaning c.stage).direction c) (context_came (meaning c.stage).direction c) b b refl refl)

@@ -1,0 +1,9 @@
+mod EventLists
+mod PortMakes
+mod ContextSteps
+mod ContextPlaces
+mod ContextStarts
+mod TailSteps
+mod TakenCounts
+mod PartSteps
+mod NewContexts

@@ -1,0 +1,236 @@
+-- A tail takes the next item of one of its lanes: how it stands then.
+use Rattle.std.proofs.Common.{◌≡◌, ℕ, suc, ◌+◌, ◌<◌, ◌≤◌, ◌^◌, Bool, true, false, List, [], ◌∷◌, ◌++◌, length, take, Some, refl, ap, sym, ◌∙◌, subst, ⊎_elim, arith, length-append}
+use Rattle.std.specs.Prelude.{◌%◌, ◌==◌}
+use Rattle.std.specs.List.{slice_get}
+use Rattle.std.proofs.lemmas.List.{take_all}
+use Rattle.std.proofs.lemmas.Option.{slice_get_within}
+use Rattle.std.proofs.lemmas.Bool.{cases_Bool, both_ways}
+use Rattle.pl_event.specs.declared.events.Event.{Event}
+use Rattle.pl_event.specs.declared.outcomes.Cause.{Cause}
+use Rattle.pl_event.specs.declared.outcomes.Cause.TheVariants.{Memory}
+use Rattle.pl_event.specs.declared.envelopes.Kind.{Kind}
+use Rattle.pl_event.specs.declared.envelopes.Kind.TheVariants.{Data, Flags}
+use Rattle.pl_event.specs.declared.envelopes.Item.{Item}
+use Rattle.pl_event.specs.declared.envelopes.Item.TheVariants as item
+use Rattle.pl_event.specs.declared.envelopes.Envelope.{Envelope}
+use Rattle.pl_event.specs.Fitting.{Fits, FitsAsFlag}
+use Rattle.pl_context.specs.declared.standing.Standing.{Standing}
+use Rattle.pl_context.specs.declared.standing.Standing.TheVariants as stands
+use Rattle.pl_context.specs.declared.standing.Took.{Took}
+use Rattle.pl_context.specs.declared.standing.Took.TheVariants as took
+use Rattle.pl_context.specs.Standings.{is_over, has_failed}
+use Rattle.pl_context.specs.ContextViews.{number_limit}
+use Rattle.pl_context.specs.TailViews.{TailView, new_tail, EntersTail, kind_taken, counted, RecordsItem, AddsFlag, LosesFlag, RecordsFlag, RecordsFlagItem}
+use Rattle.pl_event.specs.Worlds.{World, FitsWorld, FitsAsKind, content_of}
+use Rattle.pl_flow.specs.Flows.{IsGood}
+use Rattle.pl_event.specs.Hops.{data_lane}
+use Rattle.pl_part.specs.TailHolds.{TailHoldsWith, Alternate}
+use Rattle.pl_part.proofs.EventLists.{some-equal, split-at}
+
+pub alternate-more : (n : ℕ) (bs : List Bool) (b : Bool) → Alternate n bs → b ≡ ((n + length bs) % 2 == 1) → Alternate n (bs ++ b ∷ [])
+alternate-more n [] b h e = let same : n + 0 ≡ n = omega arith in (e ∙ ap (λ k. k % 2 == 1) same, tt)
+alternate-more n (x ∷ xs) b h e =
+    let same : n + length (x ∷ xs) ≡ n + 1 + length xs = omega arith in
+    (h.0, alternate-more (n + 1) xs b h.1 (e ∙ ap (λ k. k % 2 == 1) same))
+
+next-take : (n : ℕ) (events : List Event) → take (n + 1) events ≡ take (suc n) events
+next-take n events = let same : n + 1 ≡ suc n = omega arith in ap (λ k. take k events) same
+
+module _ (world : World) (events : List Event) (t : TailView) (h : TailHoldsWith world events t) where
+  abbrev Held : TailView → Type 0
+  Held z = TailHoldsWith world events z
+
+  -- ---- its data lane
+
+  recorded : t.standing ≡ stands.Open → (x : Event) → slice_get events t.taken ≡ Some x → (room : ℕ) → Held (record t { taken = t.taken + 1; events = t.events ++ x ∷ []; room = room })
+  recorded live x fits room =
+      let s = split-at events t.taken x fits in
+      let within = slice_get_within events t.taken x fits in record {
+        own = h.own;
+        few = h.few;
+        taken = λ o. (omega (arith, within), ap (λ zs. zs ++ x ∷ []) (h.taken live).1 ∙ sym s.2 ∙ sym (next-take t.taken events));
+        ended = λ o. absurd (both_ways (is_over t.standing) (ap is_over live) (ap is_over o));
+        failed = λ o. absurd (both_ways (has_failed t.standing) (ap has_failed live) o);
+        flags = h.flags;
+        flags_most = h.flags_most;
+        flags_all = h.flags_all;
+      }
+
+  failing : t.standing ≡ stands.Open → (cause : Cause) → (room : ℕ) → Held (record t { taken = t.taken + 1; standing = stands.Failed cause; room = room })
+  failing live cause room = record {
+    own = h.own;
+    few = h.few;
+    taken = λ o. absurd (both_ways false refl (sym (ap is_over o)));
+    ended = λ o. absurd (both_ways false refl (sym (ap has_failed o)));
+    failed = λ o. (t.taken, (h.taken live).0, (h.taken live).1);
+    flags = h.flags;
+    flags_most = h.flags_most;
+    flags_all = λ f. absurd (both_ways true f refl);
+  }
+
+  ending : t.standing ≡ stands.Open → t.taken ≡ length events → Held (record t { taken = t.taken + 1; standing = stands.Ended })
+  ending live last = record {
+    own = h.own;
+    few = h.few;
+    taken = λ o. absurd (both_ways false refl (sym (ap is_over o)));
+    ended = λ o. (h.taken live).1 ∙ take_all t.taken events (omega (arith, last));
+    failed = λ o. absurd (both_ways false refl o);
+    flags = h.flags;
+    flags_most = h.flags_most;
+    flags_all = λ f. h.flags_all (ap has_failed live);
+  }
+
+  counted-over : is_over t.standing ≡ true → Held (counted Data t)
+  counted-over over = record {
+    own = h.own;
+    few = h.few;
+    taken = λ o. absurd (both_ways (is_over t.standing) (ap is_over o) over);
+    ended = h.ended;
+    failed = h.failed;
+    flags = h.flags;
+    flags_most = h.flags_most;
+    flags_all = h.flags_all;
+  }
+
+  taken-open : t.standing ≡ stands.Open → (i : Item) → Fits events t.taken i → (answer : Took) (t' : TailView) → RecordsItem (counted Data t) i answer t' → Held t'
+  taken-open live (item.Event x) fits took.Ran t' r = subst (λ (z : TailView). Held z) (sym r.0) (recorded live x fits t'.room)
+  taken-open live (item.Event x) fits (took.Failed cause) t' r = subst (λ (z : TailView). Held z) (sym r.2) (failing live Memory t'.room)
+  taken-open live (item.Event x) fits took.Ended t' r = absurd r
+  taken-open live (item.Event x) fits took.Dropped t' r = absurd r
+  taken-open live item.End fits answer t' r = subst (λ (z : TailView). Held z) (sym r.1) (ending live fits)
+  taken-open live (item.Fail cause) fits answer t' r = subst (λ (z : TailView). Held z) (sym r.1) (failing live cause t.room)
+  taken-open live (item.Flag value) fits answer t' r = absurd fits
+
+  -- ---- its flags lane
+
+  -- no flag is added
+  flag-lost : (has_failed t.standing ≡ false → t.flags_stopped ≡ false → ⊥) → Held (counted Flags t)
+  flag-lost none =
+      let most = h.flags_most in record {
+        own = h.own;
+        few = h.few;
+        taken = h.taken;
+        ended = h.ended;
+        failed = h.failed;
+        flags = h.flags;
+        flags_most = omega (arith, most);
+        flags_all = λ f s. absurd (none f s);
+      }
+
+  flag-stops : (room : ℕ) → Held (record (counted Flags t) { flags_stopped = true; flags_room = room })
+  flag-stops room =
+      let most = h.flags_most in record {
+        own = h.own;
+        few = h.few;
+        taken = h.taken;
+        ended = h.ended;
+        failed = h.failed;
+        flags = h.flags;
+        flags_most = omega (arith, most);
+        flags_all = λ f s. absurd (both_ways true s refl);
+      }
+
+  flag-added : (value : Bool) → value ≡ (t.flags_taken % 2 == 1) → has_failed t.standing ≡ false → t.flags_stopped ≡ false → (room : ℕ) → Held (record (counted Flags t) { flags = t.flags ++ value ∷ []; flags_room = room })
+  flag-added value fits f goes room =
+      let all = h.flags_all f goes in
+      let size = length-append t.flags (value ∷ []) in
+      let at : t.flags_taken ≡ 0 + length t.flags = omega (arith, all) in record {
+        own = h.own;
+        few = h.few;
+        taken = h.taken;
+        ended = h.ended;
+        failed = h.failed;
+        flags = alternate-more 0 t.flags value h.flags (fits ∙ ap (λ k. k % 2 == 1) at);
+        flags_most = omega (arith, all, size);
+        flags_all = λ f s. omega (arith, all, size);
+      }
+
+  flag-recorded : (value : Bool) → value ≡ (t.flags_taken % 2 == 1) → has_failed t.standing ≡ false → (t' : TailView) → RecordsFlag (counted Flags t) value t' → Held t'
+  flag-recorded value fits f t' r = ⊎_elim
+      (λ (s : t.flags_stopped ≡ true). subst (λ (z : TailView). Held z) (sym (r.stopped s)) (flag-lost (λ f n. both_ways t.flags_stopped n s)))
+      (λ (s : t.flags_stopped ≡ false). ⊎_elim
+      (λ (e : AddsFlag (counted Flags t) value t'). subst (λ (z : TailView). Held z) (sym e.same) (flag-added value fits f s t'.flags_room))
+      (λ (e : LosesFlag (counted Flags t) t'). subst (λ (z : TailView). Held z) (sym e.same) (flag-stops t'.flags_room))
+      (r.goes_on s))
+      (cases_Bool t.flags_stopped)
+
+  flags-taken : (i : Item) → FitsAsFlag t.flags_taken i → has_failed t.standing ≡ false → (t' : TailView) → RecordsFlagItem (counted Flags t) i t' → Held t'
+  flags-taken (item.Flag value) fits f t' r = flag-recorded value fits f t' r
+  flags-taken (item.Event x) fits f t' r = absurd fits
+  flags-taken item.End fits f t' r = absurd fits
+  flags-taken (item.Fail cause) fits f t' r = absurd fits
+
+  dropped : (k : Kind) → has_failed t.standing ≡ true → Held (counted k t)
+  dropped Data f = counted-over (failed-over t.standing f)
+    where
+      failed-over : (s : Standing) → has_failed s ≡ true → is_over s ≡ true
+      failed-over stands.Open e = e
+      failed-over stands.Ended e = refl
+      failed-over (stands.Failed cause) e = refl
+  dropped Flags f = flag-lost (λ n s. both_ways (has_failed t.standing) n f)
+
+  -- ---- any item of its lanes
+
+  module _ (e : Envelope) (enters : EntersTail t e.lane) (number : e.number ≡ kind_taken t e.lane.kind) (good : IsGood world e) where
+    here : (k : Kind) → e.lane.kind ≡ k → e.number ≡ kind_taken t k
+    here k is = number ∙ ap (λ k. kind_taken t k) is
+
+    data-fits : e.lane.kind ≡ Data → Fits events t.taken e.item
+    unfolding FitsWorld
+    data-fits is =
+        let f = subst (λ k. FitsAsKind world k e) is good.fits in
+        let lane : e.lane ≡ data_lane t.channel t.hop = (λ i. record { channel = enters.channel i; kind = is i; hop = enters.hop i }) in
+        let all : f.0 ≡ events = some-equal f.0 events (sym f.1 ∙ ap (λ l. content_of world l) lane ∙ h.own) in
+        subst (λ (y : List Event × ℕ). Fits y.0 y.1 e.item) (λ i. (all i, here Data is i)) f.2
+
+    flag-fits : e.lane.kind ≡ Flags → FitsAsFlag t.flags_taken e.item
+    unfolding FitsWorld
+    flag-fits is =
+        let f = subst (λ k. FitsAsKind world k e) is good.fits in
+        subst (λ n. FitsAsFlag n e.item) (here Flags is) f
+
+    fits-within : (i : Item) → Fits events t.taken i → t.taken ≤ length events
+    fits-within (item.Event x) fits = let within = slice_get_within events t.taken x fits in omega (arith, within)
+    fits-within item.End fits = omega (arith, fits)
+    fits-within (item.Fail cause) fits = fits
+    fits-within (item.Flag value) fits = absurd fits
+
+    pub tail-limit : e.number < number_limit e.lane.kind
+    tail-limit = by e.lane.kind refl
+      where
+        by : (k : Kind) → e.lane.kind ≡ k → e.number < number_limit k
+        by Data is =
+            let within = fits-within e.item (data-fits is) in
+            let few = h.few in
+            let n = here Data is in
+            omega (arith, within, few, n)
+        by Flags is = good.small
+
+    pub tail-taken : (t' : TailView) (answer : Took)
+        → (e.lane.kind ≡ Data → t.standing ≡ stands.Open → RecordsItem (counted Data t) e.item answer t')
+        → (e.lane.kind ≡ Data → t.standing ≡ stands.Ended → (answer ≡ took.Ran) × (t' ≡ counted Data t))
+        → (e.lane.kind ≡ Flags → has_failed t.standing ≡ false → (answer ≡ took.Ran) × RecordsFlagItem (counted Flags t) e.item t')
+        → (has_failed t.standing ≡ true → (answer ≡ took.Dropped) × (t' ≡ counted e.lane.kind t))
+        → Held t'
+    tail-taken t' answer item ended flag drops = by e.lane.kind refl t.standing refl
+      where
+        by : (k : Kind) → e.lane.kind ≡ k → (s : Standing) → t.standing ≡ s → Held t'
+        by Data is stands.Open live = taken-open live e.item (data-fits is) answer t' (item is live)
+        by Data is stands.Ended over = subst (λ (z : TailView). Held z) (sym (ended is over).1) (counted-over (ap is_over over))
+        by k is (stands.Failed cause) over = subst (λ (z : TailView). Held z) (sym (drops (ap has_failed over)).1) (dropped e.lane.kind (ap has_failed over))
+        by Flags is stands.Open live = flags-taken e.item (flag-fits is) (ap has_failed live) t' (flag is (ap has_failed live)).1
+        by Flags is stands.Ended live = flags-taken e.item (flag-fits is) (ap has_failed live) t' (flag is (ap has_failed live)).1
+
+-- ---- one that has taken nothing
+
+pub new-holds : (world : World) (channel k : ℕ) (events : List Event) → content_of world (data_lane channel k) ≡ Some events → length events + 1 < 2 ^ 31 → TailHoldsWith world events (new_tail channel k)
+new-holds world channel k events own few = record {
+  own = own;
+  few = few;
+  taken = λ o. (omega arith, refl);
+  ended = λ o. absurd (both_ways false refl (sym (ap is_over (sym o))));
+  failed = λ o. absurd (both_ways false refl o);
+  flags = tt;
+  flags_most = omega arith;
+  flags_all = λ f s. refl;
+}

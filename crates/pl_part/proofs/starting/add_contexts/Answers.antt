@@ -1,0 +1,61 @@
+use Rattle.std.proofs.Common.{◌≡◌, ℕ, ◌+◌, [], ◌∷◌, ◌++◌, List, Bool, Some, Option, length, map, replicate, true, slice_get, sym, ap, subst, ◌∙◌, arith, append_assoc, length-append}
+use Rattle.std.specs.Prelude.{is_some}
+use Rattle.std.proofs.lemmas.List.{map-append}
+use Rattle.pl_context.specs.ContextViews.{ContextView, IsHop}
+use Rattle.pl_part.specs.NewParts.{AreNew, IsNewAt, IsPlannedAt}
+use Rattle.pl_part.proofs.NewContexts.{new-at, new-push, slice_get-behind, replicate-push}
+use Rattle.pl_part.proofs.starting.add_contexts.Goals as goal
+
+pub overflow_cast-hop : goal.overflow_cast-hop
+overflow_cast-hop g c =
+    let before = c.loop-stage.invariant in
+    let whole = ap (λ (t : List g.row.S.Denot). length t) before.rest in
+    let sum = length-append c.loop-stage.yielded c.loop-stage.stage-iterator.rest.items in
+    omega (arith, before.count, whole, sum, c.requires.few, c.len-hop.ensures, c.loop-stage.contexts.ok.0)
+
+pub new-requires-clause-hop : goal.new-requires-clause-hop
+new-requires-clause-hop g c =
+    let before = c.loop-stage.invariant in
+    let stages = c.loop-stage.yielded in
+    let stage = c.in-Some.stage in
+    let there : slice_get c.args.stages.items (length stages) ≡ Some stage =
+    ap (λ (t : List g.row.S.Denot). slice_get t (length stages)) (sym before.rest ∙ ap (λ (t : List g.row.S.Denot). stages ++ t) c.in-Some.ensures.steps.0) ∙ slice_get-behind stages c.next.new.self.rest.items stage in
+    let hop : length c.args.contexts.now.items + length stages ≡ c.len-hop.result = omega (arith, before.count, c.len-hop.ensures, c.loop-stage.contexts.ok.0) in
+    subst (λ (h : ℕ). IsHop (g.S.Stage.meaning stage).direction h c.args.k) hop (c.requires.hops (length stages) stage there)
+
+pub loop-stage-preserved : goal.loop-stage-preserved
+loop-stage-preserved g c =
+    let before = c.loop-stage.invariant in
+    let stages : List g.row.S.Denot = c.loop-stage.yielded in
+    let stage = c.in-Some.stage in
+    let slots : List (Option (ContextView g.row.S.Denot)) = c.loop-stage.contexts.items in
+    let old : List (Option (ContextView g.row.S.Denot)) = c.args.contexts.now.items in
+    let filled = (λ (slot : Option (ContextView g.row.S.Denot)). is_some slot) in
+    let context = c.new.result in
+    let added = c.in_ok-push.ensures.items in
+    let longer = length-append stages (stage ∷ []) in
+    let there : slice_get c.args.stages.items (length stages) ≡ Some stage =
+    ap (λ (t : List g.row.S.Denot). slice_get t (length stages)) (sym before.rest ∙ ap (λ (t : List g.row.S.Denot). stages ++ t) c.in-Some.ensures.steps.0) ∙ slice_get-behind stages c.next.new.self.rest.items stage in
+    let hop : length old + length stages ≡ c.len-hop.result = omega (arith, before.count, c.len-hop.ensures, c.loop-stage.contexts.ok.0) in
+    record {
+      rest =
+          append_assoc stages (stage ∷ []) c.next.new.self.rest.items ∙ ap (λ (t : List g.row.S.Denot). stages ++ t) (sym c.in-Some.ensures.steps.0) ∙ before.rest;
+      count =
+          let more = ap (λ (l : List (Option (ContextView g.row.S.Denot))). length l) added ∙ length-append slots (Some context ∷ []) in
+          omega (arith, more, before.count, longer);
+      filled =
+          ap (λ (l : List (Option (ContextView g.row.S.Denot))). map filled l) added
+          ∙ map-append filled slots (Some context ∷ [])
+          ∙ ap (λ (bs : List Bool). bs ++ true ∷ []) before.filled
+          ∙ append_assoc (map filled old) (replicate (length stages) true) (true ∷ [])
+          ∙ ap (λ (bs : List Bool). map filled old ++ bs) (sym (replicate-push stages stage true));
+      new = λ turn planned are.
+          let at = c.len-hop.result in
+          let length-is : at ≡ length slots = omega (arith, c.len-hop.ensures, c.loop-stage.contexts.ok.0) in
+          let is : IsNewAt g.W.Named.world g.S.Stage.meaning c.args.channel c.args.k turn g.S.Stage.stands_after at context =
+          new-at g.W.Named.world g.S.Stage.meaning c.args.channel c.args.k turn g.S.Stage.stands_after g.met.S.Stage.lawful at stage context
+          (subst (λ (h : ℕ). IsPlannedAt g.W.Named.world g.S.Stage.meaning c.args.channel c.args.k turn h stage) hop (planned (length stages) stage there)) c.new.ensures.context c.new.ensures.stands in
+          subst (λ (l : List (Option (ContextView g.row.S.Denot))). AreNew g.W.Named.world g.S.Stage.meaning c.args.channel c.args.k turn g.S.Stage.stands_after l) (sym added)
+          (new-push g.W.Named.world g.S.Stage.meaning c.args.channel c.args.k turn g.S.Stage.stands_after slots context (before.new turn planned are)
+          (subst (λ (h : ℕ). IsNewAt g.W.Named.world g.S.Stage.meaning c.args.channel c.args.k turn g.S.Stage.stands_after h context) length-is is));
+    }

@@ -1,0 +1,36 @@
+-- Parts whose nodes have taken nothing, in a world that knows their lanes.
+use Rattle.std.specs.Prelude.{◌≡◌, ℕ, ◌+◌, true, false, List, get_or, slice_get, Option, Some, None}
+use Rattle.pl_event.specs.declared.events.Event.{Event}
+use Rattle.pl_event.specs.declared.envelopes.Kind.{Kind}
+use Rattle.pl_event.specs.declared.envelopes.Lane.{Lane}
+use Rattle.pl_event.specs.Meaning.{Meaning}
+use Rattle.pl_event.specs.Paths.{is_turn}
+use Rattle.pl_event.specs.Worlds.{World}
+use Rattle.pl_context.specs.ContextViews.{ContextView, IsHop, kind_taken}
+use Rattle.pl_flow.specs.Flows.{point}
+use Rattle.pl_part.specs.ContextHolds.{ContextHolds, IsPlanned, context_writes, context_came}
+use Rattle.pl_part.specs.Parts.{IsAt}
+
+module _ {S : Type 0} (world : World) (meaning : S → Meaning) (channel k turn : ℕ) where
+  -- A stage may stand at a hop, and the world knows its lanes there.
+  pub record IsPlannedAt (hop : ℕ) (stage : S) : Type 0 where
+    pub at : IsHop (meaning stage).direction hop k
+    pub turned : is_turn (meaning stage).direction ≡ true → hop ≡ turn
+    pub events : List Event
+    pub plan : IsPlanned world (meaning stage) events channel hop k
+
+  -- These may, at consecutive hops.
+  abbrev pub ArePlanned : ℕ → List S → Type 0
+  ArePlanned first stages = (i : ℕ) (stage : S) → slice_get stages i ≡ Some stage → IsPlannedAt (first + i) stage
+
+  module _ (stands_after : S → List Event → Type 0) where
+    -- A context holds at its hop, and has taken nothing and written nothing.
+    pub record IsNewAt (hop : ℕ) (c : ContextView S) : Type 0 where
+      pub holds : ContextHolds world meaning stands_after c
+      pub at : IsAt meaning channel hop k turn c
+      pub none_taken : (kind : Kind) → kind_taken c kind ≡ 0
+      pub starts : (l : Lane) → context_writes (meaning c.stage).direction c l ≡ true → context_came (meaning c.stage).direction c l ≡ point 0 false
+
+    -- So do those of these slots, by hop.
+    abbrev pub AreNew : List (Option (ContextView S)) → Type 0
+    AreNew slots = (hop : ℕ) (c : ContextView S) → get_or slots hop None ≡ Some c → IsNewAt hop c

@@ -1,0 +1,31 @@
+-- What a node answers to the next item of one of its lanes, what it puts out, and how it stands then.
+use Rattle.std.specs.Prelude.{◌≡◌, List, Bool, true, false}
+use Rattle.pl_event.specs.declared.events.Event.{Event}
+use Rattle.pl_event.specs.declared.envelopes.Envelope.{Envelope}
+use Rattle.pl_event.specs.declared.envelopes.Kind.TheVariants.{Data, Flags}
+use Rattle.pl_event.specs.Meaning.{Meaning}
+use Rattle.pl_context.specs.declared.standing.Standing.TheVariants as stands
+use Rattle.pl_context.specs.declared.standing.Took.{Took}
+use Rattle.pl_context.specs.declared.standing.Took.TheVariants as took
+use Rattle.pl_context.specs.Standings.{has_failed}
+use Rattle.pl_context.specs.ContextViews.{ContextView}
+use Rattle.pl_context.specs.Contexts.{TakesItem, TakesFlag, counted}
+use Rattle.pl_context.specs.OutputsViews.{OutputsView}
+use Rattle.pl_context.specs.TailViews.{TailView, RecordsItem, RecordsFlagItem, counted as tail_counted}
+
+module _ {S : Type 0} (meaning : S → Meaning) (stands_after : S → List Event → Type 0) (is_spent : S → Bool) where
+  -- An open context puts out what its stage makes of the item. One that has ended hands flags on, and nothing else. One that has
+  -- failed puts out nothing.
+  pub record ContextTakes (c : ContextView S) (e : Envelope) (before : OutputsView) (answer : Took) (c' : ContextView S) (after : OutputsView) : Type 0 where
+    pub meant : meaning c'.stage ≡ meaning c.stage
+    pub open_item : e.lane.kind ≡ Data → c.standing ≡ stands.Open → TakesItem meaning stands_after is_spent (counted Data c) e.item before answer c' after
+    pub ended : e.lane.kind ≡ Data → c.standing ≡ stands.Ended → (answer ≡ took.Ran) × (c' ≡ counted Data c) × (after ≡ before)
+    pub flags : e.lane.kind ≡ Flags → has_failed c.standing ≡ false → TakesFlag (counted Flags c) e.item before answer c' after
+    pub dropped : has_failed c.standing ≡ true → (answer ≡ took.Dropped) × (c' ≡ counted e.lane.kind c) × (after ≡ before)
+
+-- An open tail records the item. One that has ended records flags, and nothing else. One that has failed records nothing.
+pub record TailTakes (t : TailView) (e : Envelope) (answer : Took) (t' : TailView) : Type 0 where
+  pub open_item : e.lane.kind ≡ Data → t.standing ≡ stands.Open → RecordsItem (tail_counted Data t) e.item answer t'
+  pub ended : e.lane.kind ≡ Data → t.standing ≡ stands.Ended → (answer ≡ took.Ran) × (t' ≡ tail_counted Data t)
+  pub flags : e.lane.kind ≡ Flags → has_failed t.standing ≡ false → (answer ≡ took.Ran) × RecordsFlagItem (tail_counted Flags t) e.item t'
+  pub dropped : has_failed t.standing ≡ true → (answer ≡ took.Dropped) × (t' ≡ tail_counted e.lane.kind t)

@@ -1,0 +1,225 @@
+//! The nodes of a channel that are on one executor.
+
+ghost use Rattle.std.specs.Prelude.{◌≡◌, ◌+◌, ◌<◌, ◌≤◌, ◌^◌, ◌++◌, ◌∷◌, [], List, All, IfOk, Some, map, replicate, is_some, cond, length, get_or, true, false, ◌==◌};
+ghost use Rattle.std.specs.List.{list_all};
+ghost use Rattle.std.specs.Option.{option_map_or};
+ghost use Rattle.pl_event.specs.declared.envelopes.Lane.{Lane};
+ghost use Rattle.pl_event.specs.declared.events.Event.{Event};
+ghost use Rattle.pl_event.specs.declared.envelopes.Kind.TheVariants as kind;
+ghost use Rattle.pl_event.specs.Hops.{same_lane, data_lane};
+ghost use Rattle.pl_event.specs.Worlds.{content_of};
+ghost use Rattle.pl_context.specs.declared.contexts.TheConstants.{MAX_HANDLERS};
+ghost use Rattle.pl_context.specs.Standings.{is_over};
+ghost use Rattle.pl_context.specs.ContextViews.{ContextView};
+ghost use Rattle.pl_context.specs.Stops.{HasPlaces, AreAmong};
+ghost use Rattle.pl_context.specs.TailViews.{TailView, new_tail};
+ghost use Rattle.pl_flow.specs.Flows.{IsGood};
+ghost use Rattle.pl_flow.specs.Makes.{Makes};
+ghost use Rattle.pl_part.specs.NewParts.{ArePlanned, AreNew};
+ghost use Rattle.pl_part.specs.PartCalls.{IsNextFor, Taken, Refused};
+ghost use Rattle.pl_part.specs.Parts.{PartHolds, PartTakes, SamePart, context_at, writer_hop, has_entered, all_over, is_slot_over, part_taken, part_lanes, part_writes, part_came};
+
+use crate::nodes::{refuse_at, take_at, take_at_tail};
+use crate::starting::add_contexts;
+use pl_context::{Context, Outputs, Tail, Took};
+use pl_event::{Envelope, Lane, Named, Stage};
+use std::alloc::{AllocError, Global};
+use std::marker::Model;
+
+/// The nodes of a channel that are on one executor: contexts by hop, and the tail where the executor is the channel's
+/// loop.
+#[derive(Drop)]
+pub struct ChannelPart<S: Stage> {
+    channel: u16,
+    /// The executor of each hop, of those elsewhere too: where an item goes.
+    executors: Vec<u16>,
+    /// By hop: `None` where the context is elsewhere, and at the tail's hop.
+    contexts: Vec<Option<Context<S>>>,
+    tail: Option<Tail>,
+    tail_hop: usize,
+    /// The hop of the turn.
+    turn: usize,
+}
+
+impl<S: Stage> Model for ChannelPart<S> {
+    ghost use Rattle.std.specs.Prelude.{length};
+    ghost use Rattle.pl_part.specs.PartCalls.{IsNextFor, Taken, Refused};
+    ghost use Rattle.pl_part.specs.Parts.{PartView, IsPart};
+
+    ghost Value = { PartView S };
+
+    ghost view = { λ p. record { channel = p.channel; executors = p.executors.items; contexts = p.contexts.items; tail = p.tail; tail_hop = p.tail_hop; turn = p.turn } };
+
+    ghost invariant = { λ p. IsPart (length p.executors.items) (length p.contexts.items) p.tail_hop p.turn };
+}
+
+impl<S: Stage> ChannelPart<S> {
+    /// All nodes of a channel but its head: stages that have had no step, in the order of their hops, and the executor of each
+    /// hop. The world knows the lanes of each.
+    pub fn whole<W: Named>(
+        alloc: Global,
+        channel: u16,
+        executors: Vec<u16>,
+        inbound: Vec<S>,
+        outbound: Vec<S>,
+        turn: usize,
+    ) -> Result<Self, AllocError>
+        requires few { length inbound.items + length outbound.items ≤ MAX_HANDLERS }
+        requires hops { length executors.items ≡ length inbound.items + length outbound.items + 2 }
+        requires turn { turn < length inbound.items }
+        requires new_inbound { All (λ stage. S.stands_after stage []) inbound.items }
+        requires new_outbound { All (λ stage. S.stands_after stage []) outbound.items }
+        requires planned_inbound { ArePlanned W.world S.meaning channel (length inbound.items) turn 0 inbound.items }
+        requires planned_tail { (events : List Event) × (content_of W.world (data_lane channel (length inbound.items)) ≡ Some events) × (length events + 1 < 2 ^ 31) }
+        requires planned_outbound { ArePlanned W.world S.meaning channel (length inbound.items) turn (length inbound.items + 1) outbound.items }
+        ensures place { IfOk result (λ part. (part.channel ≡ channel) × (part.executors ≡ executors.items) × (part.tail_hop ≡ length inbound.items) × (part.turn ≡ turn)) }
+        ensures filled { IfOk result (λ part. map (λ slot. is_some slot) part.contexts ≡ replicate (length inbound.items) true ++ false ∷ replicate (length outbound.items) true) }
+        ensures tail { IfOk result (λ part. part.tail ≡ Some (new_tail channel (length inbound.items))) }
+        ensures new { IfOk result (λ part. AreNew W.world S.meaning channel (length inbound.items) turn S.stands_after part.contexts) }
+        ensures holds { IfOk result (λ part. PartHolds W.world S.meaning S.stands_after part) }
+    {
+        let k = inbound.len() as u16;
+        let mut contexts = Vec::new(alloc);
+        add_contexts::<W, S>(alloc, &mut contexts, channel, k, inbound)?;
+        contexts.push(None)?;
+        add_contexts::<W, S>(alloc, &mut contexts, channel, k, outbound)?;
+        Ok(ChannelPart {
+            channel,
+            executors,
+            contexts,
+            tail: Some(Tail::new(alloc, channel, k)),
+            tail_hop: k as usize,
+            turn,
+        })
+    }
+
+    /// The executor of what the lanes of a hop enter.
+    pub fn target(&self, hop: usize) -> usize
+        requires { hop < length self.now.executors }
+        ensures { result ≡ get_or self.now.executors hop 0 }
+    {
+        self.executors[hop] as usize
+    }
+
+    /// The hop of the context that writes the lanes of a hop: the one before, but the turn writes the first lane after the
+    /// tail's. The lanes of hop 0 are the head's: its hop.
+    pub fn writer(&self, hop: usize) -> usize
+        ensures { result ≡ writer_hop self.now hop }
+    {
+        if hop == 0 {
+            self.contexts.len()
+        } else if hop == self.tail_hop + 1 {
+            self.turn
+        } else {
+            hop - 1
+        }
+    }
+
+    /// The node that the envelope's lane enters takes it, the next item of that lane. It answers what the node answers.
+    pub fn take<W: Named>(&mut self, envelope: Envelope, work: &mut Outputs) -> Took
+        requires holds { PartHolds W.world S.meaning S.stands_after self.old }
+        requires entered { has_entered self.old envelope.lane ≡ true }
+        requires number { envelope.number ≡ part_taken self.old envelope.lane }
+        requires good { IsGood W.world envelope }
+        requires places { HasPlaces work.old.stopped (part_lanes self.old) }
+        ensures takes { PartTakes S.meaning S.stands_after S.is_spent self.old envelope work.old result self.new work.new }
+        ensures holds { PartHolds W.world S.meaning S.stands_after self.new }
+        ensures same { SamePart self.old self.new }
+        ensures taken { (l : Lane) → part_taken self.new l ≡ cond (same_lane l envelope.lane) (envelope.number + 1) (part_taken self.old l) }
+        ensures writes { (l : Lane) → part_writes S.meaning self.new l ≡ part_writes S.meaning self.old l }
+        ensures made { Makes W.world (part_writes S.meaning self.old) (part_came S.meaning self.old) (part_came S.meaning self.new) work.old work.new }
+        ensures placed { (lanes : List Lane) → AreAmong (part_lanes self.old) lanes → HasPlaces work.old.stopped lanes → HasPlaces work.new.stopped lanes }
+    {
+        if envelope.lane.hop as usize == self.tail_hop {
+            self.take_at_tail::<W>(envelope, work)
+        } else {
+            self.take_at_context::<W>(envelope, work)
+        }
+    }
+
+    /// The context that writes a lane fails, since nothing more of that is accepted. Nothing comes of flags that are refused, nor
+    /// of what the head writes.
+    pub fn refuse<W: Named>(&mut self, lane: Lane, work: &mut Outputs)
+        requires holds { PartHolds W.world S.meaning S.stands_after self.old }
+        requires places { HasPlaces work.old.stopped (part_lanes self.old) }
+        ensures holds { PartHolds W.world S.meaning S.stands_after self.new }
+        ensures same { SamePart self.old self.new }
+        ensures taken { (l : Lane) → part_taken self.new l ≡ part_taken self.old l }
+        ensures writes { (l : Lane) → part_writes S.meaning self.new l ≡ part_writes S.meaning self.old l }
+        ensures over { lane.kind ≡ kind.Data → (c : ContextView S) → context_at self.new (writer_hop self.new lane.hop) ≡ Some c → is_over c.standing ≡ true }
+        ensures made { Makes W.world (part_writes S.meaning self.old) (part_came S.meaning self.old) (part_came S.meaning self.new) work.old work.new }
+        ensures placed { (lanes : List Lane) → AreAmong (part_lanes self.old) lanes → HasPlaces work.old.stopped lanes → HasPlaces work.new.stopped lanes }
+    {
+        let hop = self.writer(lane.hop as usize);
+        self.refuse_at_hop::<W>(hop, lane, work)
+    }
+
+    /// Whether all of its nodes have ended or failed.
+    pub fn has_ended(&self) -> bool
+        ensures { result ≡ all_over self.now }
+    {
+        are_over(&self.contexts) && is_tail_over(&self.tail)
+    }
+
+    fn take_at_context<W: Named>(&mut self, envelope: Envelope, work: &mut Outputs) -> Took
+        requires next { IsNextFor W.world S.meaning S.stands_after self.old envelope work.old }
+        requires elsewhere { (envelope.lane.hop == self.old.tail_hop) ≡ false }
+        ensures { Taken W.world S.meaning S.stands_after S.is_spent self.old envelope work.old result self.new work.new }
+    {
+        match &mut self.contexts[envelope.lane.hop as usize] {
+            Some(context) => take_at::<W, S>(context, envelope, work),
+            None => unreachable!(),
+        }
+    }
+
+    fn take_at_tail<W: Named>(&mut self, envelope: Envelope, work: &mut Outputs) -> Took
+        requires next { IsNextFor W.world S.meaning S.stands_after self.old envelope work.old }
+        requires there { (envelope.lane.hop == self.old.tail_hop) ≡ true }
+        ensures { Taken W.world S.meaning S.stands_after S.is_spent self.old envelope work.old result self.new work.new }
+    {
+        match &mut self.tail {
+            Some(tail) => take_at_tail::<W>(tail, envelope),
+            None => unreachable!(),
+        }
+    }
+
+    fn refuse_at_hop<W: Named>(&mut self, hop: usize, lane: Lane, work: &mut Outputs)
+        requires holds { PartHolds W.world S.meaning S.stands_after self.old }
+        requires places { HasPlaces work.old.stopped (part_lanes self.old) }
+        requires writer { hop ≡ writer_hop self.old lane.hop }
+        ensures { Refused W.world S.meaning S.stands_after self.old lane work.old self.new work.new }
+    {
+        if hop < self.contexts.len() {
+            if let Some(context) = &mut self.contexts[hop] {
+                refuse_at::<W, S>(context, lane, work);
+            }
+        }
+    }
+}
+
+/// Whether each of these contexts has ended or failed.
+fn are_over<S: Stage>(contexts: &[Option<Context<S>>]) -> bool
+    ensures { result ≡ list_all (λ slot. is_slot_over slot) contexts.now }
+{
+    contexts.iter().all(|slot| is_over_at(slot))
+}
+
+/// Whether a context has ended or failed, where there is one.
+fn is_over_at<S: Stage>(slot: &Option<Context<S>>) -> bool
+    ensures { result ≡ is_slot_over slot.now }
+{
+    match slot {
+        Some(context) => context.is_ended(),
+        None => true,
+    }
+}
+
+/// Whether a tail has ended or failed, where there is one.
+fn is_tail_over(tail: &Option<Tail>) -> bool
+    ensures { result ≡ option_map_or (λ (t : TailView). is_over t.standing) tail.now true }
+{
+    match tail {
+        Some(tail) => tail.is_ended(),
+        None => true,
+    }
+}
