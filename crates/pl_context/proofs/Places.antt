@@ -10,9 +10,10 @@ use Rattle.std.proofs.lemmas.Map.Made.{length-le_from_is_member}
 use Rattle.pl_event.specs.declared.envelopes.Kind.{Kind}
 use Rattle.pl_event.specs.declared.envelopes.Kind.TheVariants.{Data, Flags}
 use Rattle.pl_event.specs.declared.envelopes.Lane.{Lane}
+use Rattle.pl_event.specs.Hops.{same_hop}
 use Rattle.pl_context.specs.declared.added.Added.{Added}
 use Rattle.pl_context.specs.declared.added.Added.TheVariants.{Last, Refused, Discarded}
-use Rattle.pl_context.specs.Stops.{StopsView, same_hop, has_stopped, with_stop, HasPlaces, AreAmong, no_stops}
+use Rattle.pl_context.specs.Stops.{StopsView, has_stopped, with_stop, HasPlaces, AreAmong, no_stops}
 use Rattle.pl_event.specs.declared.envelopes.Item.{Item}
 use Rattle.pl_event.specs.declared.envelopes.Envelope.{Envelope}
 use Rattle.pl_context.specs.declared.ports.Port.{Port}

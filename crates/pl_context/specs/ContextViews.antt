@@ -6,11 +6,11 @@ use Rattle.pl_event.specs.declared.envelopes.Kind.TheVariants.{Data, Flags}
 use Rattle.pl_event.specs.declared.envelopes.Lane.{Lane}
 use Rattle.pl_event.specs.declared.stages.Direction.{Direction}
 use Rattle.pl_event.specs.declared.stages.Direction.TheVariants.{Inbound, Outbound, Turn}
+use Rattle.pl_event.specs.Hops.{same_hop}
 use Rattle.pl_context.specs.declared.contexts.TheConstants.{MAX_HANDLERS}
 use Rattle.pl_context.specs.declared.ports.Port.{Port}
 use Rattle.pl_context.specs.declared.standing.Standing.{Standing}
 use Rattle.pl_context.specs.declared.standing.Standing.TheVariants as stands
-use Rattle.pl_context.specs.Stops.{same_hop}
 
 -- A stage at its place: taken counts the items of its data lane, flags_taken those of its flags lane.
 pub record ContextView (S : Type 0) : Type 0 where

@@ -3,6 +3,7 @@ use Rattle.std.specs.Prelude.{◌≡◌, ℕ, ◌≤◌, List, [], ◌∷◌, �
 use Rattle.std.specs.List.{list_any, IsDistinct}
 use Rattle.pl_event.specs.declared.envelopes.Lane.{Lane}
 use Rattle.pl_event.specs.declared.envelopes.Kind.TheVariants.{Data, Flags}
+pub use Rattle.pl_event.specs.Hops.{same_hop}
 
 -- The data lanes and the flags lanes that have stopped: what such a lane brings is discarded. There is a reserved
 -- place for a failure on each data lane, and a data lane and the flags lane of its hop count as one.
@@ -10,10 +11,6 @@ pub record StopsView : Type 0 where
   pub lanes : List Lane
   pub flag_lanes : List Lane
   pub places : ℕ
-
--- two lanes enter the same context
-abbrev pub same_hop : Lane → Lane → Bool
-same_hop a b = (a.channel == b.channel) && (a.hop == b.hop)
 
 abbrev pub has_stopped : StopsView → Lane → Bool
 has_stopped s lane = elim lane.kind [ Data ↦ list_any (same_hop lane) s.lanes | Flags ↦ list_any (same_hop lane) s.flag_lanes ]

@@ -3,7 +3,8 @@
 ghost use Rattle.std.specs.Prelude.{◌≡◌, ◌+◌, ◌<◌, ◌≤◌, ◌==◌, ◌&&◌, ◌∷◌, ◌++◌, [], length, not, IfOk, true, false, vec_capacity};
 ghost use Rattle.std.specs.List.{list_any};
 ghost use Rattle.pl_event.specs.declared.envelopes.Kind.TheVariants as kind;
-ghost use Rattle.pl_context.specs.Stops.{same_hop, has_stopped, any_stopped, with_stop, HasPlaces, no_stops};
+ghost use Rattle.pl_event.specs.Hops.{same_hop};
+ghost use Rattle.pl_context.specs.Stops.{has_stopped, any_stopped, with_stop, HasPlaces, no_stops};
 
 use pl_event::{Kind, Lane};
 use std::alloc::{AllocError, Global};

@@ -1,5 +1,5 @@
 -- An executor's work list, step by step.
-use Rattle.std.proofs.Common.{◌≡◌, ◌≢◌, ℕ, ◌+◌, ◌<◌, Bool, true, false, ◌&&◌, ◌==◌, cond, List, [], ◌∷◌, ◌++◌, length, Some, refl, ap, sym, ◌∙◌, subst, ⊎_elim, append-nil, arith}
+use Rattle.std.proofs.Common.{◌≡◌, ◌≢◌, ℕ, ◌+◌, ◌<◌, Bool, true, false, ◌&&◌, ◌==◌, cond, List, [], ◌∷◌, ◌++◌, length, Some, refl, ap, sym, ◌∙◌, subst, ⊎_elim, arith}
 use Rattle.std.specs.Option.{option_map, option_map_or}
 use Rattle.std.proofs.lemmas.Bool.{cond-true, cond-false, cases_Bool, both_ways, eq-eqb, cases_eq}
 use Rattle.std.proofs.lemmas.Option.{same_Some}
@@ -19,38 +19,13 @@ use Rattle.pl_queue.specs.declared.views.TakeCount.{TakeCount}
 use Rattle.pl_queue.specs.Views.{next_of, set_take_count, after_offer}
 use Rattle.pl_queue.proofs.Lists.{next_of-set}
 use Rattle.pl_words.specs.Admissions.{AdmittedView}
-use Rattle.pl_flow.specs.Flows.{Point, point, after, on, IsGood, IsNext, IsFlow, past}
-use Rattle.pl_flow.specs.Makes.{LaneGrows, Makes}
-use Rattle.pl_flow.proofs.FlowLemmas.{on-append, past-append, IsFlow-append, on-own, on-other}
+use Rattle.pl_flow.specs.Flows.{Point, point, after, on, IsGood, IsNext, IsFlow}
+use Rattle.pl_flow.specs.LaneRuns.{LaneRuns}
+use Rattle.pl_flow.specs.Makes.{Makes}
+use Rattle.pl_flow.proofs.FlowLemmas.{on-append, on-own, on-other}
+use Rattle.pl_flow.proofs.LaneRunLemmas.{lane-grows, lane-leaves, lane-behind}
 use Rattle.pl_exec.specs.OutboxViews.{OutboxesView, reached, is_cut, Adds, SameFor, Sends, Stays}
-use Rattle.pl_exec.specs.Running.{LaneRuns, Runs, IsTaking}
-
--- ---- one lane
-
--- what nodes add of it
-lane-grows : (world : World) (writes stopped stopped' cut : Bool) (base from to : Point) (items added : List Envelope) → LaneRuns world base cut stopped items from
-    → LaneGrows world writes stopped stopped' from added to → LaneRuns world base cut stopped' (items ++ added) to
-lane-grows world writes stopped stopped' cut base from to items added r g = record {
-  flow = λ c. ⊎_elim
-      (λ (t : stopped ≡ true). subst (λ zs. IsFlow world base zs) (sym (ap (λ zs. items ++ zs) (g.discards t).0 ∙ append-nil items)) (r.flow c))
-      (λ (f : stopped ≡ false). IsFlow-append world base items added (r.flow c) (subst (λ p. IsFlow world p added) (sym (r.up_to c f)) (g.flow f)))
-      (cases_Bool stopped);
-  up_to = λ c e. ⊎_elim
-      (λ (t : stopped ≡ true). absurd (both_ways stopped' e (g.discards t).1))
-      (λ (f : stopped ≡ false). past-append base items added ∙ ap (λ p. past p added) (r.up_to c f) ∙ g.up_to e)
-      (cases_Bool stopped);
-}
-
--- its front leaves
-lane-leaves : (world : World) (stopped cut : Bool) (base made : Point) (x : Envelope) (items : List Envelope) → LaneRuns world base cut stopped (x ∷ items) made → LaneRuns world (after x) cut stopped items made
-lane-leaves world stopped cut base made x items r = record { flow = λ c. (r.flow c).1; up_to = λ c e. r.up_to c e }
-
--- it stands behind another point, where it is not cut off
-lane-behind : (world : World) (stopped cut cut' : Bool) (base base' made : Point) (items : List Envelope) → LaneRuns world base cut stopped items made → (cut' ≡ false → (cut ≡ false) × (base' ≡ base)) → LaneRuns world base' cut' stopped items made
-lane-behind world stopped cut cut' base base' made items r moves = record {
-  flow = λ c. subst (λ p. IsFlow world p items) (sym (moves c).1) (r.flow (moves c).0);
-  up_to = λ c e. ap (λ p. past p items) (moves c).1 ∙ r.up_to (moves c).0 e;
-}
+use Rattle.pl_exec.specs.Running.{Runs, IsTaking}
 
 cons-none : {A : Type 0} (x : A) (xs : List A) → x ∷ xs ≡ [] → ⊥
 cons-none x xs e = cc

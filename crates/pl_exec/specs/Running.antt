@@ -1,7 +1,6 @@
 -- An executor while it works its list off: of each lane that its nodes write, what stands on the list follows what went on,
 -- up to what was made.
 use Rattle.std.specs.Prelude.{◌≡◌, ◌≢◌, ℕ, ◌<◌, Bool, true, false, List, [], ◌∷◌, length, Some}
-use Rattle.pl_event.specs.declared.envelopes.Envelope.{Envelope}
 use Rattle.pl_event.specs.declared.envelopes.Lane.{Lane}
 use Rattle.pl_event.specs.Worlds.{World}
 use Rattle.pl_context.specs.Stops.{has_stopped, HasPlaces, AreAmong}
@@ -10,14 +9,9 @@ use Rattle.pl_context.specs.WaitingViews.{stops_for}
 use Rattle.pl_queue.specs.declared.views.TakeCount.{TakeCount}
 use Rattle.pl_queue.specs.declared.views.TakerView.{TakerView}
 use Rattle.pl_queue.specs.Views.{next_of}
-use Rattle.pl_flow.specs.Flows.{Point, point, on, IsFlow, past}
+use Rattle.pl_flow.specs.Flows.{Point, point, on}
+use Rattle.pl_flow.specs.LaneRuns.{LaneRuns}
 use Rattle.pl_exec.specs.OutboxViews.{OutboxesView, reached, is_cut}
-
--- What stands on the list of a lane follows the point behind which it stands, and goes up to what was made; unless it is
--- cut off behind, or has stopped on the list.
-pub record LaneRuns (world : World) (base : Point) (cut stopped : Bool) (items : List Envelope) (made : Point) : Type 0 where
-  pub flow : cut ≡ false → IsFlow world base items
-  pub up_to : cut ≡ false → stopped ≡ false → past base items ≡ made
 
 -- The executor's number; by lane the executor that it enters, whether the nodes write it, how many items of it they have
 -- taken, and how far they have made it.

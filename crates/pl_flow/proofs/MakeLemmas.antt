@@ -8,12 +8,12 @@ use Rattle.pl_event.specs.declared.envelopes.Envelope.{Envelope}
 use Rattle.pl_event.specs.declared.envelopes.Kind.{Kind}
 use Rattle.pl_event.specs.declared.envelopes.Kind.TheVariants.{Data, Flags}
 use Rattle.pl_event.specs.declared.envelopes.Lane.{Lane}
-use Rattle.pl_event.specs.Hops.{same_kind, same_lane}
+use Rattle.pl_event.specs.Hops.{same_hop, same_kind, same_lane}
 use Rattle.pl_event.specs.Worlds.{World}
 use Rattle.pl_event.proofs.SameLanes.{same_lane-equal, same_lane-self}
 use Rattle.pl_context.specs.declared.added.Added.{Added}
 use Rattle.pl_context.specs.declared.added.Added.TheVariants.{Last, Refused, Discarded}
-use Rattle.pl_context.specs.Stops.{StopsView, same_hop, has_stopped, with_stop}
+use Rattle.pl_context.specs.Stops.{StopsView, has_stopped, with_stop}
 use Rattle.pl_context.specs.OutputsViews.{OutputsView, Puts, PutsAll, added_items, stopped_after, failure_of, stand_in}
 use Rattle.pl_flow.specs.Flows.{Point, after, on, IsNext, IsFlow, past}
 use Rattle.pl_flow.specs.Makes.{made_one, made_all, AreNext, LaneGrows, Makes}
@@ -162,6 +162,30 @@ makes-none world writes from b a items stops = record {
   items = items ∙ sym (append-nil b.items);
   lanes = λ l. record { idle = λ w. refl; discards = λ t. (refl, ap (λ (s : StopsView). has_stopped s l) stops ∙ t); flow = λ f. tt; up_to = λ f. refl };
 }
+
+-- Nodes that are among others, which put nothing on the list: what these make, all of them make.
+pub makes-among : (world : World) (writes all : Lane → Bool) (from to all_from all_to : Lane → Point) (b a : OutputsView)
+    → ((l : Lane) → writes l ≡ true → (all l ≡ true) × (all_from l ≡ from l) × (all_to l ≡ to l)) → ((l : Lane) → writes l ≡ false → all_from l ≡ all_to l)
+    → Makes world writes from to b a → Makes world all all_from all_to b a
+makes-among world writes all from to all_from all_to b a own other m = record {
+  added = m.added;
+  items = m.items;
+  lanes = λ l. ⊎_elim (λ (t : writes l ≡ true). mine l t (own l t)) (λ (f : writes l ≡ false). others l f) (cases_Bool (writes l));
+}
+  where
+    mine : (l : Lane) → writes l ≡ true → (all l ≡ true) × (all_from l ≡ from l) × (all_to l ≡ to l)
+        → LaneGrows world (all l) (has_stopped b.stopped l) (has_stopped a.stopped l) (all_from l) (on l m.added) (all_to l)
+    mine l t same = subst (λ (y : Bool × Point × Point). LaneGrows world y.0 (has_stopped b.stopped l) (has_stopped a.stopped l) y.1 (on l m.added) y.2)
+        (λ i. ((t ∙ sym same.0) i, sym same.1 i, sym same.2 i)) (m.lanes l)
+
+    others : (l : Lane) → writes l ≡ false → LaneGrows world (all l) (has_stopped b.stopped l) (has_stopped a.stopped l) (all_from l) (on l m.added) (all_to l)
+    others l f =
+        let none = (m.lanes l).idle f in record {
+          idle = λ w. none;
+          discards = (m.lanes l).discards;
+          flow = λ s. subst (λ zs. IsFlow world (all_from l) zs) (sym none) tt;
+          up_to = λ s. ap (λ zs. past (all_from l) zs) none ∙ other l f;
+        }
 
 -- all that nodes give their lanes is put
 pub all-put : (world : World) (writes : Lane → Bool) (xs : List Envelope) (from : Lane → Point) (b a : OutputsView) → AreNext world writes from xs → PutsAll b xs a → Makes world writes from (made_all from xs) b a

@@ -22,11 +22,11 @@ use Rattle.pl_context.specs.declared.standing.Took.{Took}
 use Rattle.pl_context.specs.Standings.{is_over}
 use Rattle.pl_context.specs.ContextViews.{ContextView, Enters, IsHop, has_up, has_down, down_hop, kind_taken, one_of, taken_of}
 use Rattle.pl_context.specs.OutputsViews.{OutputsView}
-use Rattle.pl_context.specs.Stops.{HasPlaces, AreAmong, same_hop, has_stopped}
+use Rattle.pl_context.specs.Stops.{HasPlaces, AreAmong, same_hop}
 use Rattle.pl_context.specs.TailViews.{TailView, EntersTail, kind_taken as tail_kind_taken, taken_of as tail_taken_of}
-use Rattle.pl_flow.specs.Flows.{Point, nowhere, on, IsFlow, past}
-use Rattle.pl_flow.specs.Makes.{Makes, LaneGrows}
-use Rattle.pl_flow.proofs.MakeLemmas.{makes-none}
+use Rattle.pl_flow.specs.Flows.{nowhere, IsGood}
+use Rattle.pl_flow.specs.Makes.{Makes}
+use Rattle.pl_flow.proofs.MakeLemmas.{makes-none, makes-among}
 use Rattle.pl_part.specs.ContextHolds.{ContextHolds, ports_write, ports_came, port_point, context_writes, context_came, context_lanes}
 use Rattle.pl_part.specs.TailHolds.{TailHolds}
 use Rattle.pl_part.specs.Taking.{ContextTakes, TailTakes}
@@ -118,13 +118,10 @@ came-nowhere hu hd p q f l e =
 
 -- ---- a context moves
 
-module _ {S : Type 0} (world : World) (meaning : S → Meaning) (stands_after : S → List Event → Type 0) (v : PartView S) (inv : IsPart (length v.executors) (length v.contexts) v.tail_hop v.turn)
-    (holds : PartHolds world meaning stands_after v) (hop : ℕ) (c : ContextView S) (at : context_at v hop ≡ Some c) where
+module _ {S : Type 0} (meaning : S → Meaning) (stands_after : S → List Event → Type 0) (v : PartView S) (inv : IsPart (length v.executors) (length v.contexts) v.tail_hop v.turn)
+    (some : (world : World) × PartHolds world meaning stands_after v) (hop : ℕ) (c : ContextView S) (at : context_at v hop ≡ Some c) where
   is : IsAt meaning v.channel hop v.tail_hop v.turn c
-  is = (holds.contexts hop c at).1
-
-  pub context-holds : ContextHolds world meaning stands_after c
-  context-holds = (holds.contexts hop c at).0
+  is = (some.1.contexts hop c at).1
 
   within : hop < length v.contexts
   within = filled-there v.contexts hop c at
@@ -254,66 +251,46 @@ module _ {S : Type 0} (world : World) (meaning : S → Meaning) (stands_after : 
         ∙ sym (came-nowhere (has_up d) (has_down d) c'.up c'.down c'.flags l (still-writes l ∙ f)) ∙ sym (now-came l _ now))
         (λ same. ap (λ (z : Option (ContextView S)). option_map_or (λ (y : ContextView S). context_came (meaning y.stage).direction y l) z nowhere) (sym same))
 
-    module _ (before after : OutputsView)
-        (made : Makes world (context_writes (meaning c.stage).direction c) (context_came (meaning c.stage).direction c) (context_came (meaning c.stage).direction c') before after) where
-      grows : (l : Lane) → LaneGrows world (part_writes meaning v l) (has_stopped before.stopped l) (has_stopped after.stopped l) (part_came meaning v l) (on l made.added) (part_came meaning moved_part l)
-      grows l =
-          let m = made.lanes l in
-          ⊎_elim
-          (λ (t : context_writes (meaning c.stage).direction c l ≡ true).
-          let e = own-writer l t in
-          let old = wrote l _ c (ap (λ (h : ℕ). context_at v h) e ∙ at) in
-          let from = came l _ c (ap (λ (h : ℕ). context_at v h) e ∙ at) in
-          let to = now-came l _ (ap (λ (h : ℕ). context_at moved_part h) (same-writer l.hop ∙ e) ∙ now-here) in record {
-            idle = λ f. absurd (both_ways (context_writes (meaning c.stage).direction c l) (sym old ∙ f) t);
-            discards = m.discards;
-            flow = λ s. subst (λ (p : Point). IsFlow world p (on l made.added)) (sym from) (m.flow s);
-            up_to = λ s. ap (λ (p : Point). past p (on l made.added)) from ∙ m.up_to s ∙ sym to;
-          })
-          (λ (f : context_writes (meaning c.stage).direction c l ≡ false).
-          let none = m.idle f in record {
-            idle = λ w. none;
-            discards = m.discards;
-            flow = λ s. subst (λ (xs : List Envelope). IsFlow world (part_came meaning v l) xs) (sym none) tt;
-            up_to = λ s. ap (λ (xs : List Envelope). past (part_came meaning v l) xs) none ∙ same-came l f;
-          })
-          (cases_Bool (context_writes (meaning c.stage).direction c l))
+    part-makes : (world : World) (before after : OutputsView)
+        → Makes world (context_writes (meaning c.stage).direction c) (context_came (meaning c.stage).direction c) (context_came (meaning c.stage).direction c') before after
+        → Makes world (part_writes meaning v) (part_came meaning v) (part_came meaning moved_part) before after
+    part-makes world before after = makes-among world (context_writes (meaning c.stage).direction c) (part_writes meaning v)
+        (context_came (meaning c.stage).direction c) (context_came (meaning c.stage).direction c') (part_came meaning v) (part_came meaning moved_part) before after
+        (λ l t. let e = own-writer l t in (
+          wrote l _ c (ap (λ (h : ℕ). context_at v h) e ∙ at) ∙ t,
+          came l _ c (ap (λ (h : ℕ). context_at v h) e ∙ at),
+          now-came l _ (ap (λ (h : ℕ). context_at moved_part h) (same-writer l.hop ∙ e) ∙ now-here),
+        ))
+        (λ l f. same-came l f)
 
-      part-makes : Makes world (part_writes meaning v) (part_came meaning v) (part_came meaning moved_part) before after
-      part-makes = record { added = made.added; items = made.items; lanes = λ l. grows l }
+    still-at : IsAt meaning v.channel hop v.tail_hop v.turn c'
+    still-at = record {
+      channel_is = place.0 ∙ is.channel_is;
+      hop_is = place.1 ∙ is.hop_is;
+      fits = subst (λ (m : Meaning). IsHop m.direction hop v.tail_hop) (sym meant) is.fits;
+      turned = λ t. is.turned (ap (λ (m : Meaning). is_turn m.direction) (sym meant) ∙ t);
+      lanes = lanes ∙ is.lanes ∙ ap (λ (m : Meaning). data_lane v.channel (hop + 1) ∷ data_lane v.channel (down_hop m.direction hop v.tail_hop) ∷ flags_lane v.channel (hop + 1) ∷ []) (sym meant);
+    }
 
-      still-at : IsAt meaning v.channel hop v.tail_hop v.turn c'
-      still-at = record {
-        channel_is = place.0 ∙ is.channel_is;
-        hop_is = place.1 ∙ is.hop_is;
-        fits = subst (λ (m : Meaning). IsHop m.direction hop v.tail_hop) (sym meant) is.fits;
-        turned = λ t. is.turned (ap (λ (m : Meaning). is_turn m.direction) (sym meant) ∙ t);
-        lanes = lanes ∙ is.lanes ∙ ap (λ (m : Meaning). data_lane v.channel (hop + 1) ∷ data_lane v.channel (down_hop m.direction hop v.tail_hop) ∷ flags_lane v.channel (hop + 1) ∷ []) (sym meant);
-      }
+    part-holds : (world : World) → PartHolds world meaning stands_after v → ContextHolds world meaning stands_after c' → PartHolds world meaning stands_after moved_part
+    part-holds world holds held = record {
+      contexts = λ h x e. ⊎_elim
+          (λ (t : (h == hop) ≡ true).
+          let same = eqb-true h hop t in
+          let x-is : c' ≡ x = some-equal c' x (sym now-here ∙ ap (λ (k : ℕ). context_at moved_part k) (sym same) ∙ e) in
+          subst (λ (y : ℕ × ContextView S). ContextHolds world meaning stands_after y.1 × IsAt meaning v.channel y.0 v.tail_hop v.turn y.1) (λ i. (sym same i, x-is i)) (held, still-at))
+          (λ (f : (h == hop) ≡ false).
+          holds.contexts h x (sym (still-there h (λ k. both_ways (h == hop) f (eq-eqb h hop k))) ∙ e))
+          (cases_Bool (h == hop));
+      tail = holds.tail;
+    }
 
-      part-holds : ContextHolds world meaning stands_after c' → PartHolds world meaning stands_after moved_part
-      part-holds held = record {
-        contexts = λ h x e. ⊎_elim
-            (λ (t : (h == hop) ≡ true).
-            let same = eqb-true h hop t in
-            let x-is : c' ≡ x = some-equal c' x (sym now-here ∙ ap (λ (k : ℕ). context_at moved_part k) (sym same) ∙ e) in
-            subst (λ (y : ℕ × ContextView S). ContextHolds world meaning stands_after y.1 × IsAt meaning v.channel y.0 v.tail_hop v.turn y.1) (λ i. (sym same i, x-is i)) (held, still-at))
-            (λ (f : (h == hop) ≡ false).
-            holds.contexts h x (sym (still-there h (λ k. both_ways (h == hop) f (eq-eqb h hop k))) ∙ e))
-            (cases_Bool (h == hop));
-        tail = holds.tail;
-      }
-
-      pub context-puts : ContextHolds world meaning stands_after c'
-          → ((hops : List Lane) → AreAmong (context_lanes c) hops → HasPlaces before.stopped hops → HasPlaces after.stopped hops)
-          → Puts world meaning stands_after v before moved_part after
-      context-puts held placed = record {
-        holds = part-holds held;
-        same = record { channel = refl; executors = refl; contexts = same-filled v.contexts hop c c' at; tail = refl; tail_hop = refl; turn = refl };
-        writes = λ l. writes-same l;
-        made = part-makes;
-        placed = λ hops among p. placed hops (λ l a. among l (context-among l a)) p;
-      }
+    context-puts : (before after : OutputsView) → ((hops : List Lane) → AreAmong (context_lanes c) hops → HasPlaces before.stopped hops → HasPlaces after.stopped hops) → Puts meaning v before moved_part after
+    context-puts before after placed = record {
+      same = record { channel = refl; executors = refl; contexts = same-filled v.contexts hop c c' at; tail = refl; tail_hop = refl; turn = refl };
+      writes = λ l. writes-same l;
+      placed = λ hops among p. placed hops (λ l a. among l (context-among l a)) p;
+    }
 
     pub taken-by : (to : Lane → ℕ → ℕ) → ((l : Lane) → l.hop ≡ hop → taken_of c' l ≡ to l (taken_of c l)) → ((l : Lane) (n : ℕ) → l.hop ≢ hop → to l n ≡ n)
         → (l : Lane) → part_taken moved_part l ≡ to l (part_taken v l)
@@ -329,8 +306,12 @@ module _ {S : Type 0} (world : World) (meaning : S → Meaning) (stands_after : 
 
     pub context-taken : (is_spent : S → Bool) (e : Envelope) (before after : OutputsView) (answer : Took) → e.lane.hop ≡ hop → Enters c e.lane → e.number ≡ kind_taken c e.lane.kind
         → ContextTakes meaning stands_after is_spent c e before answer c' after → ((k : Kind) → kind_taken c' k ≡ kind_taken c k + one_of k e.lane.kind)
-        → Puts world meaning stands_after v before moved_part after → Taken world meaning stands_after is_spent v e before answer moved_part after
-    context-taken is_spent e before after answer on_hop enters number takes counts puts = record {
+        → ((world : World) → ContextHolds world meaning stands_after c → IsGood world e → ContextHolds world meaning stands_after c')
+        → ((world : World) → ContextHolds world meaning stands_after c → IsGood world e
+        → Makes world (context_writes (meaning c.stage).direction c) (context_came (meaning c.stage).direction c) (context_came (meaning c.stage).direction c') before after)
+        → ((hops : List Lane) → AreAmong (context_lanes c) hops → HasPlaces before.stopped hops → HasPlaces after.stopped hops)
+        → Taken meaning stands_after is_spent v e before answer moved_part after
+    context-taken is_spent e before after answer on_hop enters number takes counts held made placed = record {
       takes = record {
         context = λ x off found. (
           c',
@@ -345,50 +326,61 @@ module _ {S : Type 0} (world : World) (meaning : S → Meaning) (stands_after : 
           (λ l on_same. (λ i. place_taken (place.0 i) (place.1 i) (λ k. kind_taken c' k) l)
           ∙ taken-next c.channel c.hop e.lane enters.channel enters.hop (λ k. kind_taken c k) (λ k. kind_taken c' k) e.number number counts l)
           (λ l n off. cond-false (same_lane l e.lane) (e.number + 1) n (other-hop l e.lane (λ same. off (same ∙ on_hop))));
-      puts = puts;
+      puts = context-puts before after placed;
+      holds = λ world holds good. part-holds world holds (held world (holds.contexts hop c at).0 good);
+      made = λ world holds good. part-makes world before after (made world (holds.contexts hop c at).0 good);
     }
 
     pub context-refused : (lane : Lane) (before after : OutputsView) → hop ≡ writer_hop v lane.hop → (lane.kind ≡ Data → is_over c'.standing ≡ true) → ((k : Kind) → kind_taken c' k ≡ kind_taken c k)
-        → Puts world meaning stands_after v before moved_part after → Refused world meaning stands_after v lane before moved_part after
-    context-refused lane before after writer over counts puts = record {
+        → ((world : World) → ContextHolds world meaning stands_after c → ContextHolds world meaning stands_after c')
+        → ((world : World) → ContextHolds world meaning stands_after c
+        → Makes world (context_writes (meaning c.stage).direction c) (context_came (meaning c.stage).direction c) (context_came (meaning c.stage).direction c') before after)
+        → ((hops : List Lane) → AreAmong (context_lanes c) hops → HasPlaces before.stopped hops → HasPlaces after.stopped hops)
+        → Refused meaning stands_after v lane before moved_part after
+    context-refused lane before after writer over counts held made placed = record {
       over = λ k x found. subst (λ (y : ContextView S). is_over y.standing ≡ true)
           (some-equal c' x (sym (ap (λ (h : ℕ). context_at moved_part h) (same-writer lane.hop ∙ sym writer) ∙ now-here) ∙ found)) (over k);
       taken = taken-by (λ l n. n) (λ l on_same. (λ i. place_taken (place.0 i) (place.1 i) (λ k. counts k i) l)) (λ l n off. refl);
-      puts = puts;
+      puts = context-puts before after placed;
+      holds = λ world holds. part-holds world holds (held world (holds.contexts hop c at).0);
+      made = λ world holds. part-makes world before after (made world (holds.contexts hop c at).0);
     }
 
 -- ---- the tail moves, and nothing does
 
-module _ {S : Type 0} (world : World) (meaning : S → Meaning) (stands_after : S → List Event → Type 0) (v : PartView S) (holds : PartHolds world meaning stands_after v) where
+module _ {S : Type 0} (meaning : S → Meaning) (stands_after : S → List Event → Type 0) (v : PartView S) where
   beyond : {A : Type 0} (xs : List (Option A)) (i : ℕ) → length xs ≤ i → get_or xs i None ≡ None
   beyond [] i le = refl
   beyond (x ∷ xs) zero le = absurd (omega (arith, le))
   beyond (x ∷ xs) (suc i) le = beyond xs i (omega (arith, le))
 
-  pub none-refused : (lane : Lane) (before : OutputsView) → context_at v (writer_hop v lane.hop) ≡ None → Refused world meaning stands_after v lane before v before
+  pub none-refused : (lane : Lane) (before : OutputsView) → context_at v (writer_hop v lane.hop) ≡ None → Refused meaning stands_after v lane before v before
   none-refused lane before none = record {
     over = λ k x found. absurd (no (sym none ∙ found));
     taken = λ l. refl;
     puts = record {
-      holds = holds;
       same = record { channel = refl; executors = refl; contexts = refl; tail = refl; tail_hop = refl; turn = refl };
       writes = λ l. refl;
-      made = makes-none world (part_writes meaning v) (part_came meaning v) before before refl refl;
       placed = λ hops among p. p;
     };
+    holds = λ world holds. holds;
+    made = λ world holds. makes-none world (part_writes meaning v) (part_came meaning v) before before refl refl;
   }
     where
       no : {x : ContextView S} → None ≡ Some x → ⊥
       no e = cc
 
-  pub beyond-refused : (lane : Lane) (before : OutputsView) → length v.contexts ≤ writer_hop v lane.hop → Refused world meaning stands_after v lane before v before
+  pub beyond-refused : (lane : Lane) (before : OutputsView) → length v.contexts ≤ writer_hop v lane.hop → Refused meaning stands_after v lane before v before
   beyond-refused lane before past = none-refused lane before (beyond v.contexts (writer_hop v lane.hop) past)
 
-  module _ (t : TailView) (at : v.tail ≡ Some t) (e : Envelope) (there : (e.lane.hop == v.tail_hop) ≡ true) where
+  module _ (some : (world : World) × PartHolds world meaning stands_after v) (t : TailView) (at : v.tail ≡ Some t) (e : Envelope) (there : (e.lane.hop == v.tail_hop) ≡ true) where
+    place : (t.channel ≡ v.channel) × (t.hop ≡ v.tail_hop)
+    place = let held = some.1.tail t at in (held.1, held.2)
+
     pub tail-enters : has_entered v e.lane ≡ true → EntersTail t e.lane
     tail-enters entered = record {
-      channel = eqb-true e.lane.channel v.channel (and_parts (e.lane.channel == v.channel) _ entered).0 ∙ sym (holds.tail t at).1;
-      hop = eqb-true e.lane.hop v.tail_hop there ∙ sym (holds.tail t at).2;
+      channel = eqb-true e.lane.channel v.channel (and_parts (e.lane.channel == v.channel) _ entered).0 ∙ sym place.0;
+      hop = eqb-true e.lane.hop v.tail_hop there ∙ sym place.1;
     }
 
     taken-there : (p : PartView S) (x : TailView) (l : Lane) → (l.hop == p.tail_hop) ≡ true → p.tail ≡ Some x → part_taken p l ≡ tail_taken_of x l
@@ -398,9 +390,10 @@ module _ {S : Type 0} (world : World) (meaning : S → Meaning) (stands_after : 
     tail-number enters number = number ∙ taken-there v t e.lane there at ∙ taken-kind t.channel t.hop e.lane enters.channel enters.hop (λ k. tail_kind_taken t k)
 
     pub tail-taken : (is_spent : S → Bool) (before : OutputsView) (answer : Took) (t' : TailView) → EntersTail t e.lane → e.number ≡ tail_kind_taken t e.lane.kind
-        → TailTakes t e answer t' → TailHolds world t' → (t'.channel ≡ t.channel) × (t'.hop ≡ t.hop) → ((k : Kind) → tail_kind_taken t' k ≡ tail_kind_taken t k + one_of k e.lane.kind)
-        → Taken world meaning stands_after is_spent v e before answer (record v { tail = Some t' }) before
-    tail-taken is_spent before answer t' enters number takes held place counts = record {
+        → TailTakes t e answer t' → ((world : World) → TailHolds world t → IsGood world e → TailHolds world t') → (t'.channel ≡ t.channel) × (t'.hop ≡ t.hop)
+        → ((k : Kind) → tail_kind_taken t' k ≡ tail_kind_taken t k + one_of k e.lane.kind)
+        → Taken meaning stands_after is_spent v e before answer (record v { tail = Some t' }) before
+    tail-taken is_spent before answer t' enters number takes held still counts = record {
       takes = record {
         context = λ x off found. absurd (both_ways (e.lane.hop == v.tail_hop) off there);
         tail = λ x on found. (t', refl, subst (λ (y : TailView). TailTakes y e answer t') (some-equal t x (sym at ∙ found)) takes, refl);
@@ -408,7 +401,7 @@ module _ {S : Type 0} (world : World) (meaning : S → Meaning) (stands_after : 
       };
       taken = λ l. ⊎_elim
           (λ (on : (l.hop == v.tail_hop) ≡ true).
-          taken-there (record v { tail = Some t' }) t' l on refl ∙ (λ i. place_taken (place.0 i) (place.1 i) (λ k. tail_kind_taken t' k) l)
+          taken-there (record v { tail = Some t' }) t' l on refl ∙ (λ i. place_taken (still.0 i) (still.1 i) (λ k. tail_kind_taken t' k) l)
           ∙ taken-next t.channel t.hop e.lane enters.channel enters.hop (λ k. tail_kind_taken t k) (λ k. tail_kind_taken t' k) e.number number counts l
           ∙ ap (λ (n : ℕ). cond (same_lane l e.lane) (e.number + 1) n) (sym (taken-there v t l on at)))
           (λ (off : (l.hop == v.tail_hop) ≡ false).
@@ -417,16 +410,16 @@ module _ {S : Type 0} (world : World) (meaning : S → Meaning) (stands_after : 
           (other-hop l e.lane (λ same. both_ways (l.hop == v.tail_hop) off (ap (λ (h : ℕ). h == v.tail_hop) same ∙ there)))))
           (cases_Bool (l.hop == v.tail_hop));
       puts = record {
-        holds = record {
-          contexts = holds.contexts;
-          tail = λ x found. subst (λ (y : TailView). TailHolds world y × (y.channel ≡ v.channel) × (y.hop ≡ v.tail_hop)) (some-equal t' x found)
-              (held, place.0 ∙ (holds.tail t at).1, place.1 ∙ (holds.tail t at).2);
-        };
         same = record { channel = refl; executors = refl; contexts = refl; tail = sym (ap (λ (o : Option TailView). is_some o) at); tail_hop = refl; turn = refl };
         writes = λ l. refl;
-        made = makes-none world (part_writes meaning v) (part_came meaning v) before before refl refl;
         placed = λ hops among p. p;
       };
+      holds = λ world holds good. record {
+        contexts = holds.contexts;
+        tail = λ x found. subst (λ (y : TailView). TailHolds world y × (y.channel ≡ v.channel) × (y.hop ≡ v.tail_hop)) (some-equal t' x found)
+            (held world (holds.tail t at).0 good, still.0 ∙ place.0, still.1 ∙ place.1);
+      };
+      made = λ world holds good. makes-none world (part_writes meaning v) (part_came meaning v) before before refl refl;
     }
 
 -- ---- for a view of the same part
@@ -436,9 +429,9 @@ pub entered-within : {S : Type 0} (world : World) (meaning : S → Meaning) (sta
 entered-within world meaning stands_after v e before next off =
     filled-within v.contexts e.lane.hop (sym (cond-false (e.lane.hop == v.tail_hop) (is_some v.tail) (is_some (context_at v e.lane.hop)) off) ∙ (and_parts (e.lane.channel == v.channel) _ next.entered).1)
 
-module _ {S : Type 0} (world : World) (meaning : S → Meaning) (stands_after : S → List Event → Type 0) (p v : PartView S) (same : v ≡ p) (before : OutputsView) (v' : PartView S) (after : OutputsView) where
-  pub taken-of : (is_spent : S → Bool) (e : Envelope) (answer : Took) → Taken world meaning stands_after is_spent v e before answer v' after → Taken world meaning stands_after is_spent p e before answer v' after
-  taken-of is_spent e answer t = subst (λ (y : PartView S). Taken world meaning stands_after is_spent y e before answer v' after) same t
+module _ {S : Type 0} (meaning : S → Meaning) (stands_after : S → List Event → Type 0) (p v : PartView S) (same : v ≡ p) (before : OutputsView) (v' : PartView S) (after : OutputsView) where
+  pub taken-of : (is_spent : S → Bool) (e : Envelope) (answer : Took) → Taken meaning stands_after is_spent v e before answer v' after → Taken meaning stands_after is_spent p e before answer v' after
+  taken-of is_spent e answer t = subst (λ (y : PartView S). Taken meaning stands_after is_spent y e before answer v' after) same t
 
-  pub refused-of : (l : Lane) → Refused world meaning stands_after v l before v' after → Refused world meaning stands_after p l before v' after
-  refused-of l t = subst (λ (y : PartView S). Refused world meaning stands_after y l before v' after) same t
+  pub refused-of : (l : Lane) → Refused meaning stands_after v l before v' after → Refused meaning stands_after p l before v' after
+  refused-of l t = subst (λ (y : PartView S). Refused meaning stands_after y l before v' after) same t

@@ -1,11 +1,12 @@
 -- Parts whose nodes have taken nothing, in a world that knows their lanes.
-use Rattle.std.specs.Prelude.{◌≡◌, ℕ, ◌+◌, true, false, List, get_or, slice_get, Option, Some, None}
+use Rattle.std.specs.Prelude.{◌≡◌, ℕ, ◌+◌, ◌<◌, ◌^◌, true, false, List, get_or, length, slice_get, Option, Some, None}
 use Rattle.pl_event.specs.declared.events.Event.{Event}
 use Rattle.pl_event.specs.declared.envelopes.Kind.{Kind}
 use Rattle.pl_event.specs.declared.envelopes.Lane.{Lane}
+use Rattle.pl_event.specs.Hops.{data_lane}
 use Rattle.pl_event.specs.Meaning.{Meaning}
 use Rattle.pl_event.specs.Paths.{is_turn}
-use Rattle.pl_event.specs.Worlds.{World}
+use Rattle.pl_event.specs.Worlds.{World, content_of}
 use Rattle.pl_context.specs.ContextViews.{ContextView, IsHop, kind_taken}
 use Rattle.pl_flow.specs.Flows.{point}
 use Rattle.pl_part.specs.ContextHolds.{ContextHolds, IsPlanned, context_writes, context_came}
@@ -34,3 +35,9 @@ module _ {S : Type 0} (world : World) (meaning : S → Meaning) (channel k turn 
     -- So do those of these slots, by hop.
     abbrev pub AreNew : List (Option (ContextView S)) → Type 0
     AreNew slots = (hop : ℕ) (c : ContextView S) → get_or slots hop None ≡ Some c → IsNewAt hop c
+
+-- The handlers of a channel may stand at their hops, the tail between them, and the world knows the lanes of each.
+pub record ArePlannedWith {S : Type 0} (world : World) (meaning : S → Meaning) (channel turn : ℕ) (inbound outbound : List S) : Type 0 where
+  pub planned_inbound : ArePlanned world meaning channel (length inbound) turn 0 inbound
+  pub planned_tail : (events : List Event) × (content_of world (data_lane channel (length inbound)) ≡ Some events) × (length events + 1 < 2 ^ 31)
+  pub planned_outbound : ArePlanned world meaning channel (length inbound) turn (length inbound + 1) outbound

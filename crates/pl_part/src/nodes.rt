@@ -9,6 +9,7 @@ ghost use Rattle.pl_context.specs.Standings.{is_over};
 ghost use Rattle.pl_context.specs.Stops.{HasPlaces, AreAmong};
 ghost use Rattle.pl_context.specs.ContextViews.{Enters, kind_taken, one_of};
 ghost use Rattle.pl_context.specs.TailViews.{EntersTail, kind_taken as tail_taken};
+ghost use Rattle.pl_event.specs.Worlds.{World};
 ghost use Rattle.pl_flow.specs.Flows.{IsGood};
 ghost use Rattle.pl_flow.specs.Makes.{Makes};
 ghost use Rattle.pl_part.specs.ContextHolds.{ContextHolds, context_writes, context_came, context_lanes};
@@ -16,41 +17,36 @@ ghost use Rattle.pl_part.specs.TailHolds.{TailHolds};
 ghost use Rattle.pl_part.specs.Taking.{ContextTakes, TailTakes};
 
 use pl_context::{Context, Outputs, Tail, Took};
-use pl_event::{Cause, Envelope, Kind, Lane, Named, Stage};
+use pl_event::{Cause, Envelope, Kind, Lane, Stage};
 
 /// A context takes the next item of one of its lanes.
-pub fn take_at<W: Named, S: Stage>(
-    context: &mut Context<S>,
-    envelope: Envelope,
-    work: &mut Outputs,
-) -> Took
-    requires holds { ContextHolds W.world S.meaning S.stands_after context.old }
+pub fn take_at<S: Stage>(context: &mut Context<S>, envelope: Envelope, work: &mut Outputs) -> Took
+    requires holds { (world : World) × ContextHolds world S.meaning S.stands_after context.old × IsGood world envelope }
     requires enters { Enters context.old envelope.lane }
     requires number { envelope.number ≡ kind_taken context.old envelope.lane.kind }
-    requires good { IsGood W.world envelope }
     requires places { HasPlaces work.old.stopped (context_lanes context.old) }
     ensures takes { ContextTakes S.meaning S.stands_after S.is_spent context.old envelope work.old result context.new work.new }
-    ensures holds { ContextHolds W.world S.meaning S.stands_after context.new }
+    ensures holds { (world : World) → ContextHolds world S.meaning S.stands_after context.old → IsGood world envelope → ContextHolds world S.meaning S.stands_after context.new }
     ensures place { (context.new.channel ≡ context.old.channel) × (context.new.hop ≡ context.old.hop) }
     ensures taken { (k : Kind) → kind_taken context.new k ≡ kind_taken context.old k + one_of k envelope.lane.kind }
     ensures lanes { context_lanes context.new ≡ context_lanes context.old }
-    ensures made { Makes W.world (context_writes (S.meaning context.old.stage).direction context.old) (context_came (S.meaning context.old.stage).direction context.old) (context_came (S.meaning context.old.stage).direction context.new) work.old work.new }
+    ensures made { (world : World) → ContextHolds world S.meaning S.stands_after context.old → IsGood world envelope → Makes world (context_writes (S.meaning context.old.stage).direction context.old) (context_came (S.meaning context.old.stage).direction context.old) (context_came (S.meaning context.old.stage).direction context.new) work.old work.new }
     ensures placed { (lanes : List Lane) → AreAmong (context_lanes context.old) lanes → HasPlaces work.old.stopped lanes → HasPlaces work.new.stopped lanes }
 {
     context.take(envelope, work)
 }
 
 /// The writer of a lane fails, since nothing more of it is accepted. (Flags that are refused are lost, and nothing else.)
-pub fn refuse_at<W: Named, S: Stage>(context: &mut Context<S>, lane: Lane, work: &mut Outputs)
-    requires holds { ContextHolds W.world S.meaning S.stands_after context.old }
+pub fn refuse_at<S: Stage>(context: &mut Context<S>, lane: Lane, work: &mut Outputs)
+    requires holds { (world : World) × ContextHolds world S.meaning S.stands_after context.old }
     requires places { HasPlaces work.old.stopped (context_lanes context.old) }
-    ensures holds { ContextHolds W.world S.meaning S.stands_after context.new }
+    ensures holds { (world : World) → ContextHolds world S.meaning S.stands_after context.old → ContextHolds world S.meaning S.stands_after context.new }
     ensures meaning { S.meaning context.new.stage ≡ S.meaning context.old.stage }
     ensures place { (context.new.channel ≡ context.old.channel) × (context.new.hop ≡ context.old.hop) }
     ensures taken { (k : Kind) → kind_taken context.new k ≡ kind_taken context.old k }
     ensures lanes { context_lanes context.new ≡ context_lanes context.old }
     ensures over { lane.kind ≡ kind.Data → is_over context.new.standing ≡ true }
-    ensures made { Makes W.world (context_writes (S.meaning context.old.stage).direction context.old) (context_came (S.meaning context.old.stage).direction context.old) (context_came (S.meaning context.old.stage).direction context.new) work.old work.new }
+    ensures made { (world : World) → ContextHolds world S.meaning S.stands_after context.old → Makes world (context_writes (S.meaning context.old.stage).direction context.old) (context_came (S.meaning context.old.stage).direction context.old) (context_came (S.meaning context.old.stage).direction context.new) work.old work.new }
     ensures placed { (lanes : List Lane) → AreAmong (context_lanes context.old) lanes → HasPlaces work.old.stopped lanes → HasPlaces work.new.stopped lanes }
 {
     match lane.kind {
@@ -60,13 +56,12 @@ pub fn refuse_at<W: Named, S: Stage>(context: &mut Context<S>, lane: Lane, work:
 }
 
 /// The tail takes the next item of one of its lanes.
-pub fn take_at_tail<W: Named>(tail: &mut Tail, envelope: Envelope) -> Took
-    requires holds { TailHolds W.world tail.old }
+pub fn take_at_tail(tail: &mut Tail, envelope: Envelope) -> Took
+    requires holds { (world : World) × TailHolds world tail.old × IsGood world envelope }
     requires enters { EntersTail tail.old envelope.lane }
     requires number { envelope.number ≡ tail_taken tail.old envelope.lane.kind }
-    requires good { IsGood W.world envelope }
     ensures takes { TailTakes tail.old envelope result tail.new }
-    ensures holds { TailHolds W.world tail.new }
+    ensures holds { (world : World) → TailHolds world tail.old → IsGood world envelope → TailHolds world tail.new }
     ensures place { (tail.new.channel ≡ tail.old.channel) × (tail.new.hop ≡ tail.old.hop) }
     ensures taken { (k : Kind) → tail_taken tail.new k ≡ tail_taken tail.old k + one_of k envelope.lane.kind }
 {

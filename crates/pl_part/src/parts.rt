@@ -4,10 +4,9 @@ ghost use Rattle.std.specs.Prelude.{◌≡◌, ◌+◌, ◌<◌, ◌≤◌, ◌^
 ghost use Rattle.std.specs.List.{list_all};
 ghost use Rattle.std.specs.Option.{option_map_or};
 ghost use Rattle.pl_event.specs.declared.envelopes.Lane.{Lane};
-ghost use Rattle.pl_event.specs.declared.events.Event.{Event};
 ghost use Rattle.pl_event.specs.declared.envelopes.Kind.TheVariants as kind;
-ghost use Rattle.pl_event.specs.Hops.{same_lane, data_lane};
-ghost use Rattle.pl_event.specs.Worlds.{content_of};
+ghost use Rattle.pl_event.specs.Hops.{same_lane};
+ghost use Rattle.pl_event.specs.Worlds.{World};
 ghost use Rattle.pl_context.specs.declared.contexts.TheConstants.{MAX_HANDLERS};
 ghost use Rattle.pl_context.specs.Standings.{is_over};
 ghost use Rattle.pl_context.specs.ContextViews.{ContextView};
@@ -15,14 +14,14 @@ ghost use Rattle.pl_context.specs.Stops.{HasPlaces, AreAmong};
 ghost use Rattle.pl_context.specs.TailViews.{TailView, new_tail};
 ghost use Rattle.pl_flow.specs.Flows.{IsGood};
 ghost use Rattle.pl_flow.specs.Makes.{Makes};
-ghost use Rattle.pl_part.specs.NewParts.{ArePlanned, AreNew};
+ghost use Rattle.pl_part.specs.NewParts.{ArePlannedWith, AreNew};
 ghost use Rattle.pl_part.specs.PartCalls.{IsNextFor, Taken, Refused};
 ghost use Rattle.pl_part.specs.Parts.{PartHolds, PartTakes, SamePart, context_at, writer_hop, has_entered, all_over, is_slot_over, part_taken, part_lanes, part_writes, part_came};
 
 use crate::nodes::{refuse_at, take_at, take_at_tail};
 use crate::starting::add_contexts;
 use pl_context::{Context, Outputs, Tail, Took};
-use pl_event::{Envelope, Lane, Named, Stage};
+use pl_event::{Envelope, Lane, Stage};
 use std::alloc::{AllocError, Global};
 use std::marker::Model;
 
@@ -56,7 +55,7 @@ impl<S: Stage> Model for ChannelPart<S> {
 impl<S: Stage> ChannelPart<S> {
     /// All nodes of a channel but its head: stages that have had no step, in the order of their hops, and the executor of each
     /// hop. The world knows the lanes of each.
-    pub fn whole<W: Named>(
+    pub fn whole(
         alloc: Global,
         channel: u16,
         executors: Vec<u16>,
@@ -69,20 +68,18 @@ impl<S: Stage> ChannelPart<S> {
         requires turn { turn < length inbound.items }
         requires new_inbound { All (λ stage. S.stands_after stage []) inbound.items }
         requires new_outbound { All (λ stage. S.stands_after stage []) outbound.items }
-        requires planned_inbound { ArePlanned W.world S.meaning channel (length inbound.items) turn 0 inbound.items }
-        requires planned_tail { (events : List Event) × (content_of W.world (data_lane channel (length inbound.items)) ≡ Some events) × (length events + 1 < 2 ^ 31) }
-        requires planned_outbound { ArePlanned W.world S.meaning channel (length inbound.items) turn (length inbound.items + 1) outbound.items }
+        requires planned { (world : World) × ArePlannedWith world S.meaning channel turn inbound.items outbound.items }
         ensures place { IfOk result (λ part. (part.channel ≡ channel) × (part.executors ≡ executors.items) × (part.tail_hop ≡ length inbound.items) × (part.turn ≡ turn)) }
         ensures filled { IfOk result (λ part. map (λ slot. is_some slot) part.contexts ≡ replicate (length inbound.items) true ++ false ∷ replicate (length outbound.items) true) }
         ensures tail { IfOk result (λ part. part.tail ≡ Some (new_tail channel (length inbound.items))) }
-        ensures new { IfOk result (λ part. AreNew W.world S.meaning channel (length inbound.items) turn S.stands_after part.contexts) }
-        ensures holds { IfOk result (λ part. PartHolds W.world S.meaning S.stands_after part) }
+        ensures new { IfOk result (λ part. (world : World) → ArePlannedWith world S.meaning channel turn inbound.items outbound.items → AreNew world S.meaning channel (length inbound.items) turn S.stands_after part.contexts) }
+        ensures holds { IfOk result (λ part. (world : World) → ArePlannedWith world S.meaning channel turn inbound.items outbound.items → PartHolds world S.meaning S.stands_after part) }
     {
         let k = inbound.len() as u16;
         let mut contexts = Vec::new(alloc);
-        add_contexts::<W, S>(alloc, &mut contexts, channel, k, inbound)?;
+        add_contexts(alloc, &mut contexts, channel, k, inbound)?;
         contexts.push(None)?;
-        add_contexts::<W, S>(alloc, &mut contexts, channel, k, outbound)?;
+        add_contexts(alloc, &mut contexts, channel, k, outbound)?;
         Ok(ChannelPart {
             channel,
             executors,
@@ -116,42 +113,38 @@ impl<S: Stage> ChannelPart<S> {
     }
 
     /// The node that the envelope's lane enters takes it, the next item of that lane. It answers what the node answers.
-    pub fn take<W: Named>(&mut self, envelope: Envelope, work: &mut Outputs) -> Took
-        requires holds { PartHolds W.world S.meaning S.stands_after self.old }
-        requires entered { has_entered self.old envelope.lane ≡ true }
-        requires number { envelope.number ≡ part_taken self.old envelope.lane }
-        requires good { IsGood W.world envelope }
-        requires places { HasPlaces work.old.stopped (part_lanes self.old) }
+    pub fn take(&mut self, envelope: Envelope, work: &mut Outputs) -> Took
+        requires next { (world : World) × IsNextFor world S.meaning S.stands_after self.old envelope work.old }
         ensures takes { PartTakes S.meaning S.stands_after S.is_spent self.old envelope work.old result self.new work.new }
-        ensures holds { PartHolds W.world S.meaning S.stands_after self.new }
+        ensures holds { (world : World) → PartHolds world S.meaning S.stands_after self.old → IsGood world envelope → PartHolds world S.meaning S.stands_after self.new }
         ensures same { SamePart self.old self.new }
         ensures taken { (l : Lane) → part_taken self.new l ≡ cond (same_lane l envelope.lane) (envelope.number + 1) (part_taken self.old l) }
         ensures writes { (l : Lane) → part_writes S.meaning self.new l ≡ part_writes S.meaning self.old l }
-        ensures made { Makes W.world (part_writes S.meaning self.old) (part_came S.meaning self.old) (part_came S.meaning self.new) work.old work.new }
+        ensures made { (world : World) → PartHolds world S.meaning S.stands_after self.old → IsGood world envelope → Makes world (part_writes S.meaning self.old) (part_came S.meaning self.old) (part_came S.meaning self.new) work.old work.new }
         ensures placed { (lanes : List Lane) → AreAmong (part_lanes self.old) lanes → HasPlaces work.old.stopped lanes → HasPlaces work.new.stopped lanes }
     {
         if envelope.lane.hop as usize == self.tail_hop {
-            self.take_at_tail::<W>(envelope, work)
+            self.take_at_tail(envelope, work)
         } else {
-            self.take_at_context::<W>(envelope, work)
+            self.take_at_context(envelope, work)
         }
     }
 
     /// The context that writes a lane fails, since nothing more of that is accepted. Nothing comes of flags that are refused, nor
     /// of what the head writes.
-    pub fn refuse<W: Named>(&mut self, lane: Lane, work: &mut Outputs)
-        requires holds { PartHolds W.world S.meaning S.stands_after self.old }
+    pub fn refuse(&mut self, lane: Lane, work: &mut Outputs)
+        requires holds { (world : World) × PartHolds world S.meaning S.stands_after self.old }
         requires places { HasPlaces work.old.stopped (part_lanes self.old) }
-        ensures holds { PartHolds W.world S.meaning S.stands_after self.new }
+        ensures holds { (world : World) → PartHolds world S.meaning S.stands_after self.old → PartHolds world S.meaning S.stands_after self.new }
         ensures same { SamePart self.old self.new }
         ensures taken { (l : Lane) → part_taken self.new l ≡ part_taken self.old l }
         ensures writes { (l : Lane) → part_writes S.meaning self.new l ≡ part_writes S.meaning self.old l }
         ensures over { lane.kind ≡ kind.Data → (c : ContextView S) → context_at self.new (writer_hop self.new lane.hop) ≡ Some c → is_over c.standing ≡ true }
-        ensures made { Makes W.world (part_writes S.meaning self.old) (part_came S.meaning self.old) (part_came S.meaning self.new) work.old work.new }
+        ensures made { (world : World) → PartHolds world S.meaning S.stands_after self.old → Makes world (part_writes S.meaning self.old) (part_came S.meaning self.old) (part_came S.meaning self.new) work.old work.new }
         ensures placed { (lanes : List Lane) → AreAmong (part_lanes self.old) lanes → HasPlaces work.old.stopped lanes → HasPlaces work.new.stopped lanes }
     {
         let hop = self.writer(lane.hop as usize);
-        self.refuse_at_hop::<W>(hop, lane, work)
+        self.refuse_at_hop(hop, lane, work)
     }
 
     /// Whether all of its nodes have ended or failed.
@@ -161,37 +154,37 @@ impl<S: Stage> ChannelPart<S> {
         are_over(&self.contexts) && is_tail_over(&self.tail)
     }
 
-    fn take_at_context<W: Named>(&mut self, envelope: Envelope, work: &mut Outputs) -> Took
-        requires next { IsNextFor W.world S.meaning S.stands_after self.old envelope work.old }
+    fn take_at_context(&mut self, envelope: Envelope, work: &mut Outputs) -> Took
+        requires next { (world : World) × IsNextFor world S.meaning S.stands_after self.old envelope work.old }
         requires elsewhere { (envelope.lane.hop == self.old.tail_hop) ≡ false }
-        ensures { Taken W.world S.meaning S.stands_after S.is_spent self.old envelope work.old result self.new work.new }
+        ensures { Taken S.meaning S.stands_after S.is_spent self.old envelope work.old result self.new work.new }
     {
         match &mut self.contexts[envelope.lane.hop as usize] {
-            Some(context) => take_at::<W, S>(context, envelope, work),
+            Some(context) => take_at(context, envelope, work),
             None => unreachable!(),
         }
     }
 
-    fn take_at_tail<W: Named>(&mut self, envelope: Envelope, work: &mut Outputs) -> Took
-        requires next { IsNextFor W.world S.meaning S.stands_after self.old envelope work.old }
+    fn take_at_tail(&mut self, envelope: Envelope, work: &mut Outputs) -> Took
+        requires next { (world : World) × IsNextFor world S.meaning S.stands_after self.old envelope work.old }
         requires there { (envelope.lane.hop == self.old.tail_hop) ≡ true }
-        ensures { Taken W.world S.meaning S.stands_after S.is_spent self.old envelope work.old result self.new work.new }
+        ensures { Taken S.meaning S.stands_after S.is_spent self.old envelope work.old result self.new work.new }
     {
         match &mut self.tail {
-            Some(tail) => take_at_tail::<W>(tail, envelope),
+            Some(tail) => take_at_tail(tail, envelope),
             None => unreachable!(),
         }
     }
 
-    fn refuse_at_hop<W: Named>(&mut self, hop: usize, lane: Lane, work: &mut Outputs)
-        requires holds { PartHolds W.world S.meaning S.stands_after self.old }
+    fn refuse_at_hop(&mut self, hop: usize, lane: Lane, work: &mut Outputs)
+        requires holds { (world : World) × PartHolds world S.meaning S.stands_after self.old }
         requires places { HasPlaces work.old.stopped (part_lanes self.old) }
         requires writer { hop ≡ writer_hop self.old lane.hop }
-        ensures { Refused W.world S.meaning S.stands_after self.old lane work.old self.new work.new }
+        ensures { Refused S.meaning S.stands_after self.old lane work.old self.new work.new }
     {
         if hop < self.contexts.len() {
             if let Some(context) = &mut self.contexts[hop] {
-                refuse_at::<W, S>(context, lane, work);
+                refuse_at(context, lane, work);
             }
         }
     }

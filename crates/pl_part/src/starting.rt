@@ -3,14 +3,15 @@
 ghost use Rattle.std.specs.Prelude.{◌≡◌, ℕ, ◌+◌, ◌≤◌, ◌++◌, [], List, length, slice_get, Some, OnOk, All, true, map, replicate, is_some};
 ghost use Rattle.pl_context.specs.declared.contexts.TheConstants.{MAX_HANDLERS};
 ghost use Rattle.pl_context.specs.ContextViews.{IsHop};
+ghost use Rattle.pl_event.specs.Worlds.{World};
 ghost use Rattle.pl_part.specs.NewParts.{ArePlanned, AreNew};
 
 use pl_context::Context;
-use pl_event::{Named, Stage};
+use pl_event::Stage;
 use std::alloc::{AllocError, Global};
 
 /// Stages that have had no step stand at the next hops.
-pub fn add_contexts<W: Named, S: Stage>(
+pub fn add_contexts<S: Stage>(
     alloc: Global,
     contexts: &mut Vec<Option<Context<S>>>,
     channel: u16,
@@ -22,8 +23,8 @@ pub fn add_contexts<W: Named, S: Stage>(
     requires hops { (i : ℕ) (stage : S) → slice_get stages.items i ≡ Some stage → IsHop (S.meaning stage).direction (length contexts.old.items + i) k }
     ensures count { OnOk result (length contexts.new.items ≡ length contexts.old.items + length stages.items) }
     ensures filled { OnOk result (map (λ slot. is_some slot) contexts.new.items ≡ map (λ slot. is_some slot) contexts.old.items ++ replicate (length stages.items) true) }
-    ensures new { OnOk result ((turn : ℕ) → ArePlanned W.world S.meaning channel k turn (length contexts.old.items) stages.items
-        → AreNew W.world S.meaning channel k turn S.stands_after contexts.old.items → AreNew W.world S.meaning channel k turn S.stands_after contexts.new.items) }
+    ensures new { OnOk result ((world : World) (turn : ℕ) → ArePlanned world S.meaning channel k turn (length contexts.old.items) stages.items
+        → AreNew world S.meaning channel k turn S.stands_after contexts.old.items → AreNew world S.meaning channel k turn S.stands_after contexts.new.items) }
 {
     for stage in stages {
         let hop = contexts.len() as u16;

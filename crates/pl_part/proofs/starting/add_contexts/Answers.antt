@@ -49,13 +49,13 @@ loop-stage-preserved g c =
           ∙ ap (λ (bs : List Bool). bs ++ true ∷ []) before.filled
           ∙ append_assoc (map filled old) (replicate (length stages) true) (true ∷ [])
           ∙ ap (λ (bs : List Bool). map filled old ++ bs) (sym (replicate-push stages stage true));
-      new = λ turn planned are.
+      new = λ world turn planned are.
           let at = c.len-hop.result in
           let length-is : at ≡ length slots = omega (arith, c.len-hop.ensures, c.loop-stage.contexts.ok.0) in
-          let is : IsNewAt g.W.Named.world g.S.Stage.meaning c.args.channel c.args.k turn g.S.Stage.stands_after at context =
-          new-at g.W.Named.world g.S.Stage.meaning c.args.channel c.args.k turn g.S.Stage.stands_after g.met.S.Stage.lawful at stage context
-          (subst (λ (h : ℕ). IsPlannedAt g.W.Named.world g.S.Stage.meaning c.args.channel c.args.k turn h stage) hop (planned (length stages) stage there)) c.new.ensures.context c.new.ensures.stands in
-          subst (λ (l : List (Option (ContextView g.row.S.Denot))). AreNew g.W.Named.world g.S.Stage.meaning c.args.channel c.args.k turn g.S.Stage.stands_after l) (sym added)
-          (new-push g.W.Named.world g.S.Stage.meaning c.args.channel c.args.k turn g.S.Stage.stands_after slots context (before.new turn planned are)
-          (subst (λ (h : ℕ). IsNewAt g.W.Named.world g.S.Stage.meaning c.args.channel c.args.k turn g.S.Stage.stands_after h context) length-is is));
+          let is : IsNewAt world g.S.Stage.meaning c.args.channel c.args.k turn g.S.Stage.stands_after at context =
+          new-at world g.S.Stage.meaning c.args.channel c.args.k turn g.S.Stage.stands_after g.met.S.Stage.lawful at stage context
+          (subst (λ (h : ℕ). IsPlannedAt world g.S.Stage.meaning c.args.channel c.args.k turn h stage) hop (planned (length stages) stage there)) c.new.ensures.context c.new.ensures.stands in
+          subst (λ (l : List (Option (ContextView g.row.S.Denot))). AreNew world g.S.Stage.meaning c.args.channel c.args.k turn g.S.Stage.stands_after l) (sym added)
+          (new-push world g.S.Stage.meaning c.args.channel c.args.k turn g.S.Stage.stands_after slots context (before.new world turn planned are)
+          (subst (λ (h : ℕ). IsNewAt world g.S.Stage.meaning c.args.channel c.args.k turn g.S.Stage.stands_after h context) length-is is));
     }

@@ -1,7 +1,7 @@
 use Rattle.std.proofs.Common.{List, length, sym, subst, ap, arith}
 use Rattle.std.specs.List.{IsDistinct}
 use Rattle.pl_event.specs.declared.envelopes.Lane.{Lane}
-use Rattle.pl_context.specs.Stops.{same_hop}
+use Rattle.pl_event.specs.Hops.{same_hop}
 use Rattle.pl_context.proofs.Places.{distinct-nil}
 use Rattle.pl_context.proofs.stops.Stops.new.Goals as goal
 

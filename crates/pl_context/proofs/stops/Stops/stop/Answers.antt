@@ -2,7 +2,8 @@ use Rattle.std.proofs.Common.{◌≡◌, ◌∷◌, [], List, length, sym, subst
 use Rattle.std.specs.List.{IsDistinct}
 use Rattle.std.proofs.lemmas.Map.Keys.{IsDistinct-push}
 use Rattle.pl_event.specs.declared.envelopes.Lane.{Lane}
-use Rattle.pl_context.specs.Stops.{StopsView, HasPlaces, has_stopped, same_hop}
+use Rattle.pl_event.specs.Hops.{same_hop}
+use Rattle.pl_context.specs.Stops.{StopsView, HasPlaces, has_stopped}
 use Rattle.pl_context.proofs.Places.{fewer-data, fewer-flags, not-stopped-data, not-stopped-flags, same_hop-laws}
 use Rattle.pl_context.proofs.stops.Stops.stop.Goals as goal
 

@@ -16,7 +16,7 @@ add_contexts-requires-clause-hops g c = λ i stage e.
     let none = ap (λ (l : List (Option (ContextView g.row.S.Denot))). length l) c.new-contexts.ensures.items in
     let first : 0 + i ≡ length c.new-contexts.result.items + i = omega (arith, none) in
     let k : length c.args.inbound.items ≡ c.len-k.result = omega (arith, c.len-k.ensures, c.args.inbound.ok.0) in
-    subst (λ (y : ℕ × ℕ). IsHop (g.S.Stage.meaning stage).direction y.0 y.1) (λ j. (first j, k j)) (c.requires.planned_inbound i stage e).at
+    subst (λ (y : ℕ × ℕ). IsHop (g.S.Stage.meaning stage).direction y.0 y.1) (λ j. (first j, k j)) (c.requires.planned.1.planned_inbound i stage e).at
 
 pub add_contexts-requires-2-clause-few : goal.add_contexts-requires-2-clause-few
 add_contexts-requires-2-clause-few g c =
@@ -32,7 +32,7 @@ add_contexts-requires-2-clause-hops g c = λ i stage e.
     let sum = length-append c.add_contexts.new.contexts.items (None ∷ []) in
     let first : length c.args.inbound.items + 1 + i ≡ length c.push.new.self.items + i = omega (arith, none, more, sum, c.in_ok-add_contexts.ensures.count) in
     let k : length c.args.inbound.items ≡ c.len-k.result = omega (arith, c.len-k.ensures, c.args.inbound.ok.0) in
-    subst (λ (y : ℕ × ℕ). IsHop (g.S.Stage.meaning stage).direction y.0 y.1) (λ j. (first j, k j)) (c.requires.planned_outbound i stage e).at
+    subst (λ (y : ℕ × ℕ). IsHop (g.S.Stage.meaning stage).direction y.0 y.1) (λ j. (first j, k j)) (c.requires.planned.1.planned_outbound i stage e).at
 
 pub invariant_of-result : goal.invariant_of-result
 invariant_of-result g c =
@@ -48,8 +48,7 @@ invariant_of-result g c =
     }
 
 pub returns-clause-new : goal.returns-clause-new
-returns-clause-new g c =
-    let world = g.W.Named.world in
+returns-clause-new g c = λ world planned.
     let meaning = g.S.Stage.meaning in
     let stands = g.S.Stage.stands_after in
     let channel = c.args.channel in
@@ -60,22 +59,21 @@ returns-clause-new g c =
     let k : length c.args.inbound.items ≡ c.len-k.result = omega (arith, c.len-k.ensures, c.args.inbound.ok.0) in
     let zero : 0 ≡ length c.new-contexts.result.items = sym none in
     let first : length c.args.inbound.items + 1 ≡ length c.push.new.self.items = omega (arith, none, more, sum, c.in_ok-add_contexts.ensures.count) in
-    let inbound = subst (λ (y : ℕ × ℕ). ArePlanned world meaning channel y.1 turn y.0 c.args.inbound.items) (λ j. (zero j, k j)) c.requires.planned_inbound in
-    let outbound = subst (λ (y : ℕ × ℕ). ArePlanned world meaning channel y.1 turn y.0 c.args.outbound.items) (λ j. (first j, k j)) c.requires.planned_outbound in
-    let one = c.in_ok-add_contexts.ensures.new turn inbound (none-new world meaning channel c.len-k.result turn stands c.new-contexts.result.items c.new-contexts.ensures.items) in
+    let inbound = subst (λ (y : ℕ × ℕ). ArePlanned world meaning channel y.1 turn y.0 c.args.inbound.items) (λ j. (zero j, k j)) planned.planned_inbound in
+    let outbound = subst (λ (y : ℕ × ℕ). ArePlanned world meaning channel y.1 turn y.0 c.args.outbound.items) (λ j. (first j, k j)) planned.planned_outbound in
+    let one = c.in_ok-add_contexts.ensures.new world turn inbound (none-new world meaning channel c.len-k.result turn stands c.new-contexts.result.items c.new-contexts.ensures.items) in
     let two = subst (λ (l : List (Option (ContextView g.row.S.Denot))). AreNew world meaning channel c.len-k.result turn stands l) (sym c.in_ok-push.ensures.items)
     (none-push world meaning channel c.len-k.result turn stands c.add_contexts.new.contexts.items one) in
-    subst (λ (n : ℕ). AreNew world meaning channel n turn stands c.add_contexts-2.new.contexts.items) (sym k) (c.in_ok-add_contexts-2.ensures.new turn outbound two)
+    subst (λ (n : ℕ). AreNew world meaning channel n turn stands c.add_contexts-2.new.contexts.items) (sym k) (c.in_ok-add_contexts-2.ensures.new world turn outbound two)
 
 pub returns-clause-holds : goal.returns-clause-holds
-returns-clause-holds g c =
-    let world = g.W.Named.world in
+returns-clause-holds g c = λ world planned.
     let k : length c.args.inbound.items ≡ c.len-k.result = omega (arith, c.len-k.ensures, c.args.inbound.ok.0) in
-    let are = subst (λ (n : ℕ). AreNew world g.S.Stage.meaning c.args.channel n c.args.turn g.S.Stage.stands_after c.add_contexts-2.new.contexts.items) k (returns-clause-new g c) in
-    let planned = subst (λ (n : ℕ). (events : List Event) × (content_of world (data_lane c.args.channel n) ≡ Some events) × (length events + 1 < 2 ^ 31)) k c.requires.planned_tail in
+    let are = subst (λ (n : ℕ). AreNew world g.S.Stage.meaning c.args.channel n c.args.turn g.S.Stage.stands_after c.add_contexts-2.new.contexts.items) k (returns-clause-new g c world planned) in
+    let tail = subst (λ (n : ℕ). (events : List Event) × (content_of world (data_lane c.args.channel n) ≡ Some events) × (length events + 1 < 2 ^ 31)) k planned.planned_tail in
     record {
       contexts = λ hop x found. let n = are hop x found in (n.holds, n.at);
       tail = λ t found.
           subst (λ (y : TailView). TailHolds world y × (y.channel ≡ c.args.channel) × (y.hop ≡ c.len-k.result)) (sym c.new.ensures ∙ some-equal c.new.result t found)
-          (record { events = planned.0; holds = new-holds world c.args.channel c.len-k.result planned.0 planned.1 planned.2 }, refl, refl);
+          (record { events = tail.0; holds = new-holds world c.args.channel c.len-k.result tail.0 tail.1 tail.2 }, refl, refl);
     }

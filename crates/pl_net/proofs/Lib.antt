@@ -1,0 +1,9 @@
+pub mod LaneSteps
+pub mod OneExecutor
+pub mod NetSteps
+pub mod KeepSteps
+pub mod TaskSteps
+pub mod HandSteps
+pub mod CoreSteps
+pub mod Oldest
+pub mod Numbers

@@ -1,0 +1,142 @@
+-- What is on its way, step by step.
+use Rattle.std.proofs.Common.{◌≡◌, ℕ, ◌+◌, ◌<◌, Bool, true, false, ◌==◌, cond, List, [], ◌∷◌, ◌++◌, length, ap, sym, subst, ◌∙◌, ⊎_elim}
+use Rattle.std.proofs.lemmas.Bool.{and_parts, cond-true, cond-false, cases_Bool, both_ways, eqb-true}
+use Rattle.pl_event.specs.declared.envelopes.Envelope.{Envelope}
+use Rattle.pl_event.specs.declared.envelopes.Lane.{Lane}
+use Rattle.pl_event.specs.Hops.{same_lane}
+use Rattle.pl_event.specs.Worlds.{World, closes}
+use Rattle.pl_event.proofs.SameLanes.{same_lane-equal, same_lane-self}
+use Rattle.pl_context.specs.Stops.{StopsView, has_stopped}
+use Rattle.pl_context.specs.OutputsViews.{OutputsView}
+use Rattle.pl_context.specs.WaitingViews.{Entry}
+use Rattle.pl_flow.specs.Flows.{point, after, on, IsGood, IsNext}
+use Rattle.pl_flow.proofs.FlowLemmas.{on-append, on-own, on-other}
+use Rattle.pl_net.specs.NodesViews.{NodesView, written_by, SameRoutes, NodesMake}
+use Rattle.pl_net.specs.Nets.{ExecutorView, queue_at, stops_at, envelopes, LaneStands, NetRuns}
+use Rattle.pl_net.proofs.LaneSteps.{lane-puts, lane-next, lane-called}
+
+pub cons-none : {A : Type 0} (x : A) (xs : List A) → x ∷ xs ≡ [] → ⊥
+cons-none x xs e = cc
+
+-- how many of each lane were taken, once this one was
+abbrev pub taken_with : NodesView → Envelope → Lane → ℕ
+taken_with v e l = cond (same_lane l e.lane) (e.number + 1) (v.taken l)
+
+module _ (world : World) (v : NodesView) (x : ℕ) (executors : List ExecutorView) (backlogs : ℕ → List (Entry (Unit {0}))) where
+  -- ---- what nodes put on the list
+
+  -- lanes go the same ways, and this many items of each were taken
+  moved : (t : Lane → ℕ) (v' : NodesView) (work : OutputsView) → SameRoutes v v' → ((l : Lane) → v'.taken l ≡ t l)
+      → NetRuns world (record v' { target = v.target; origin = v.origin; writes = v.writes; taken = t }) x executors backlogs work → NetRuns world v' x executors backlogs work
+  moved t v' work r n runs =
+      subst (λ (u : NodesView). NetRuns world u x executors backlogs work)
+      (λ i. record v' { target = λ l. sym (r.target l) i; origin = λ l. sym (r.origin l) i; writes = λ l. sym (r.writes l) i; taken = λ l. sym (n l) i }) runs
+
+  pub nets-put : (v' : NodesView) (before after : OutputsView) → NetRuns world v x executors backlogs before → SameRoutes v v' → ((l : Lane) → v'.taken l ≡ v.taken l) → NodesMake world v x before v' after
+      → NetRuns world v' x executors backlogs after
+  nets-put v' before after runs routes taken makes = moved v.taken v' after routes taken (record {
+    lanes = λ l w.
+        let s = runs.lanes l w in (
+          s.0,
+          subst (λ zs. LaneStands world (point (v.taken l) s.0) (on l (queue_at executors (v.target l))) (on l (envelopes (backlogs (v.origin l)))) (has_stopped (stops_at executors (v.origin l) (v.target l)) l) (has_stopped after.stopped l) zs (v'.came l)) (sym (more l))
+              (lane-puts world (written_by v x l) (has_stopped (stops_at executors (v.origin l) (v.target l)) l) (has_stopped before.stopped l) (has_stopped after.stopped l) (point (v.taken l) s.0) (v.came l) (v'.came l)
+              (on l (queue_at executors (v.target l))) (on l (envelopes (backlogs (v.origin l)))) (on l before.items) (on l makes.added) s.1 (makes.lanes l)),
+        );
+    direct = runs.direct;
+    listed = λ l n. more l ∙ ap (λ zs. zs ++ on l makes.added) (runs.listed l n) ∙ (makes.lanes l).idle n;
+    queued = runs.queued;
+    waits = runs.waits;
+    entries = runs.entries;
+    holds = runs.holds;
+    targets = runs.targets;
+    there = runs.there;
+    hops = runs.hops;
+    placed = runs.placed;
+    among = runs.among;
+  })
+    where
+      more : (l : Lane) → on l after.items ≡ on l before.items ++ on l makes.added
+      more l = ap (λ zs. on l zs) makes.items ∙ on-append l before.items makes.added
+
+  -- ---- the front of the list
+
+  module _ (before mid : OutputsView) (e : Envelope) (runs : NetRuns world v x executors backlogs before) (front : before.items ≡ e ∷ mid.items) (stops : mid.stopped ≡ before.stopped) where
+    pub there-on : (l : Lane) → same_lane l e.lane ≡ true → on l before.items ≡ e ∷ on l mid.items
+    there-on l t = ap (λ zs. on l zs) front ∙ on-own l e mid.items t
+
+    pub same-on : (l : Lane) → same_lane l e.lane ≡ false → on l before.items ≡ on l mid.items
+    same-on l t = ap (λ zs. on l zs) front ∙ on-other l e mid.items t
+
+    -- it is of a lane that is written here
+    pub front-here : written_by v x e.lane ≡ true
+    front-here = ⊎_elim (λ t. t) (λ f. absurd (cons-none e (on e.lane mid.items) (sym (there-on e.lane (same_lane-self e.lane)) ∙ runs.listed e.lane f))) (cases_Bool (written_by v x e.lane))
+
+    pub front-written : v.writes e.lane ≡ true
+    front-written = (and_parts (v.writes e.lane) (v.origin e.lane == x) front-here).0
+
+    pub front-origin : v.origin e.lane ≡ x
+    front-origin = eqb-true (v.origin e.lane) x ((and_parts (v.writes e.lane) (v.origin e.lane == x) front-here).1)
+
+    pub front-there : v.target e.lane < length executors
+    front-there = (runs.there e.lane front-written).1
+
+    pub listed-left : (l : Lane) → written_by v x l ≡ false → on l mid.items ≡ []
+    listed-left l n = ⊎_elim
+        (λ (t : same_lane l e.lane ≡ true). absurd (both_ways (written_by v x l) n (subst (λ m. written_by v x m ≡ true) (sym (same_lane-equal l e.lane t)) front-here)))
+        (λ (f : same_lane l e.lane ≡ false). sym (same-on l f) ∙ runs.listed l n)
+        (cases_Bool (same_lane l e.lane))
+
+    -- ---- it is for the executor that runs: a direct call
+
+    module _ (here : v.target e.lane ≡ x) where
+      abbrev over : Bool
+      over = (runs.lanes e.lane front-written).0
+
+      alone : LaneStands world (point (v.taken e.lane) over) [] [] false (has_stopped before.stopped e.lane) (e ∷ on e.lane mid.items) (v.came e.lane)
+      alone =
+          let d = runs.direct e.lane front-written (front-origin ∙ sym here) in
+          subst (λ (y : List Envelope × List Envelope × Bool × List Envelope). LaneStands world (point (v.taken e.lane) over) y.0 y.1 y.2 (has_stopped before.stopped e.lane) y.3 (v.came e.lane))
+          (λ i. (d.0 i, d.1 i, d.2 i, there-on e.lane (same_lane-self e.lane) i)) (runs.lanes e.lane front-written).1
+
+      call-next : IsNext world (point (v.taken e.lane) over) e
+      call-next = lane-next world (has_stopped before.stopped e.lane) (point (v.taken e.lane) over) (v.came e.lane) e (on e.lane mid.items) alone
+
+      pub call-number : e.number ≡ v.taken e.lane
+      call-number = call-next.number
+
+      pub call-good : IsGood world e
+      call-good = call-next.good
+
+      called-here : LaneStands world (point (taken_with v e e.lane) (closes e.item)) (on e.lane (queue_at executors (v.target e.lane))) (on e.lane (envelopes (backlogs (v.origin e.lane))))
+          (has_stopped (stops_at executors (v.origin e.lane) (v.target e.lane)) e.lane) (has_stopped mid.stopped e.lane) (on e.lane mid.items) (v.came e.lane)
+      called-here =
+          let d = runs.direct e.lane front-written (front-origin ∙ sym here) in
+          subst (λ (y : List Envelope × List Envelope × Bool × ℕ × StopsView). LaneStands world (point y.3 (closes e.item)) y.0 y.1 y.2 (has_stopped y.4 e.lane) (on e.lane mid.items) (v.came e.lane))
+          (λ i. (sym d.0 i, sym d.1 i, sym d.2 i, sym (cond-true (same_lane e.lane e.lane) (e.number + 1) (v.taken e.lane) (same_lane-self e.lane)) i, sym stops i))
+          (lane-called world false (has_stopped before.stopped e.lane) (point (v.taken e.lane) over) (v.came e.lane) e (on e.lane mid.items) alone)
+
+      pub called : NetRuns world (record v { taken = taken_with v e }) x executors backlogs mid
+      called = record {
+        lanes = λ l w. ⊎_elim
+            (λ (t : same_lane l e.lane ≡ true).
+            subst (λ (m : Lane). (o : Bool) × LaneStands world (point (taken_with v e m) o) (on m (queue_at executors (v.target m))) (on m (envelopes (backlogs (v.origin m)))) (has_stopped (stops_at executors (v.origin m) (v.target m)) m) (has_stopped mid.stopped m) (on m mid.items) (v.came m))
+            (sym (same_lane-equal l e.lane t)) (closes e.item, called-here))
+            (λ (f : same_lane l e.lane ≡ false).
+            let s = runs.lanes l w in (
+              s.0,
+              subst (λ (y : ℕ × StopsView × List Envelope). LaneStands world (point y.0 s.0) (on l (queue_at executors (v.target l))) (on l (envelopes (backlogs (v.origin l)))) (has_stopped (stops_at executors (v.origin l) (v.target l)) l) (has_stopped y.1 l) y.2 (v.came l))
+                  (λ i. (sym (cond-false (same_lane l e.lane) (e.number + 1) (v.taken l) f) i, sym stops i, same-on l f i)) s.1,
+            ))
+            (cases_Bool (same_lane l e.lane));
+        direct = runs.direct;
+        listed = listed-left;
+        queued = runs.queued;
+        waits = runs.waits;
+        entries = runs.entries;
+        holds = runs.holds;
+        targets = runs.targets;
+        there = runs.there;
+        hops = runs.hops;
+        placed = runs.placed;
+        among = runs.among;
+      }

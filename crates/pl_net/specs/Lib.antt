@@ -1,0 +1,4 @@
+pub mod NodesViews
+pub mod Nets
+pub mod Cores
+pub mod Numbers

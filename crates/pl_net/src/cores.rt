@@ -1,0 +1,229 @@
+//! Executors of which one runs at a time.
+
+ghost use Rattle.std.specs.Prelude.{◌≡◌, ◌<◌, ◌≤◌, ◌+◌, [], ℕ, List, Some, None, Ok, OnErr, position, IfOk, vec_len, false, true};
+ghost use Rattle.pl_event.specs.Worlds.{World};
+ghost use Rattle.pl_context.specs.Stops.{HasPlaces, no_stops};
+ghost use Rattle.pl_context.specs.WaitingViews.{Entry, is_for};
+ghost use Rattle.pl_net.specs.Nets.{CoreStands, IsStart, no_backlogs, IsStep, Settles, RunsTask, Gives, HandsOver, has_room, memory_at, queue_at, done_by};
+
+use crate::executors::{Executor, oldest_target};
+use crate::nodes::Nodes;
+use pl_context::Outputs;
+use std::alloc::{AllocError, Global};
+
+/// The nodes of all channels, and what is on its way between their executors.
+#[derive(Drop)]
+pub struct Core<N: Nodes + Drop> {
+    /// How many items a queue holds at most.
+    pub(crate) capacity: usize,
+    pub(crate) nodes: N,
+    pub(crate) executors: Vec<Executor>,
+    /// What the running executor has still to take or to add to its backlog. Empty between two moves.
+    pub(crate) work: Outputs,
+}
+
+impl<N: Nodes + Drop> Core<N> {
+    ghost use Rattle.pl_net.specs.Cores.{core_view, IsUnmoved, IsUnmovedButRoom};
+
+    /// Nodes that have taken nothing, and executors at which nothing waits, whose queues hold at most `capacity` items
+    /// each. There are so many places on the work list.
+    pub fn new(
+        alloc: Global,
+        capacity: usize,
+        nodes: N,
+        executors: Vec<Executor>,
+        places: u16,
+    ) -> Result<Self, AllocError>
+        requires start { IsStart (N.view_of nodes) executors.items }
+        requires places { HasPlaces (no_stops places) (N.view_of nodes).lanes }
+        ensures nodes { IfOk result (λ core. core.nodes ≡ nodes) }
+        ensures executors { IfOk result (λ core. core.executors.items ≡ executors.items) }
+        ensures capacity { IfOk result (λ core. core.capacity ≡ capacity) }
+        ensures rests { IfOk result (λ core. core.work.items ≡ []) }
+        ensures stands { IfOk result (λ core. (world : World) (x : ℕ) → N.stands world nodes → CoreStands N.view_of N.stands world x (core_view core no_backlogs)) }
+    {
+        Ok(Core {
+            capacity,
+            nodes,
+            executors,
+            work: Outputs::new(alloc, places)?,
+        })
+    }
+
+    /// The nodes.
+    pub fn nodes(&self) -> &N
+        ensures { result.now ≡ self.now.nodes }
+    {
+        &self.nodes
+    }
+
+    /// The nodes, and the rest is given up.
+    pub fn into_nodes(self) -> N
+        ensures { result ≡ self.nodes }
+    {
+        let Core { nodes, .. } = self;
+        nodes
+    }
+
+    /// The executor that runs takes the front of its list: a direct call, or an item for another executor, which its
+    /// backlog keeps. False where the list is empty.
+    fn step(&mut self, me: usize) -> bool
+        requires there { me < vec_len self.old.executors }
+        requires stands { (world : World) × (backlogs : ℕ → List (Entry Unit)) × CoreStands N.view_of N.stands world me (core_view self.old backlogs) }
+        ensures steps { result ≡ true → (world : World) (backlogs : ℕ → List (Entry Unit)) → CoreStands N.view_of N.stands world me (core_view self.old backlogs)
+            → (after : ℕ → List (Entry Unit)) × CoreStands N.view_of N.stands world me (core_view self.new after) × IsStep N.view_of N.takes me (core_view self.old backlogs) (core_view self.new after) }
+        ensures more { result ≡ true → done_by (N.view_of self.old.nodes) me self.old.executors.items + 1 ≤ done_by (N.view_of self.new.nodes) me self.new.executors.items }
+        ensures empty { result ≡ false → (self.old.work.items ≡ []) × (self.new ≡ self.old) }
+        ensures capacity { self.new.capacity ≡ self.old.capacity }
+        ensures count { vec_len self.new.executors ≡ vec_len self.old.executors }
+    {
+        if self.work.is_empty() {
+            return false;
+        }
+        match self.work.next() {
+            Some(envelope) => {
+                let target = self.nodes.target(envelope.lane);
+                if target == me {
+                    self.nodes.take(envelope, &mut self.work);
+                } else {
+                    self.executors[me].add(target, envelope);
+                }
+                true
+            }
+            None => unreachable!(),
+        }
+    }
+
+    /// The executor that runs works its list off.
+    fn work_off(&mut self, me: usize)
+        requires there { me < vec_len self.old.executors }
+        requires stands { (world : World) × (backlogs : ℕ → List (Entry Unit)) × CoreStands N.view_of N.stands world me (core_view self.old backlogs) }
+        ensures settles { (world : World) (backlogs : ℕ → List (Entry Unit)) → CoreStands N.view_of N.stands world me (core_view self.old backlogs)
+            → (after : ℕ → List (Entry Unit)) × CoreStands N.view_of N.stands world me (core_view self.new after) × Settles N.view_of N.takes me (core_view self.old backlogs) (core_view self.new after) }
+        ensures capacity { self.new.capacity ≡ self.old.capacity }
+        ensures empty { self.new.work.items ≡ [] }
+        ensures count { vec_len self.new.executors ≡ vec_len self.old.executors }
+    {
+        // Each step takes an item, and there are fewer items than this.
+        for _ in 0..u64::MAX {
+            if !self.step(me) {
+                return;
+            }
+        }
+        unreachable!()
+    }
+
+    /// The front of an executor's queue is taken, with its direct calls. False where the queue is empty.
+    pub fn run_task(&mut self, me: usize) -> bool
+        requires there { me < vec_len self.old.executors }
+        requires rests { self.old.work.items ≡ [] }
+        requires stands { (world : World) × (backlogs : ℕ → List (Entry Unit)) × CoreStands N.view_of N.stands world me (core_view self.old backlogs) }
+        ensures runs { result ≡ true → (world : World) (backlogs : ℕ → List (Entry Unit)) → CoreStands N.view_of N.stands world me (core_view self.old backlogs)
+            → (after : ℕ → List (Entry Unit)) × CoreStands N.view_of N.stands world me (core_view self.new after)
+            × RunsTask N.view_of N.takes me (core_view self.old backlogs) (core_view self.new after) }
+        ensures rests { self.new.work.items ≡ [] }
+        ensures idle { result ≡ false → (queue_at self.old.executors.items me ≡ []) × IsUnmoved self.old self.new }
+        ensures capacity { self.new.capacity ≡ self.old.capacity }
+        ensures count { vec_len self.new.executors ≡ vec_len self.old.executors }
+    {
+        match self.executors[me].next_task() {
+            None => false,
+            Some(envelope) => {
+                self.nodes.take(envelope, &mut self.work);
+                self.work_off(me);
+                true
+            }
+        }
+    }
+
+    /// A channel's next read step, with its direct calls. False where none is left, or it is held.
+    pub fn read(&mut self, channel: usize) -> bool
+        requires there { channel < N.count self.old.nodes }
+        requires home { (N.view_of self.old.nodes).home channel < vec_len self.old.executors }
+        requires rests { self.old.work.items ≡ [] }
+        requires stands { (world : World) × (x : ℕ) × (backlogs : ℕ → List (Entry Unit)) × CoreStands N.view_of N.stands world x (core_view self.old backlogs) }
+        ensures enabled { result ≡ N.may_read self.old.nodes channel }
+        ensures runs { result ≡ true → (world : World) (x : ℕ) (backlogs : ℕ → List (Entry Unit)) → CoreStands N.view_of N.stands world x (core_view self.old backlogs)
+            → (after : ℕ → List (Entry Unit)) × CoreStands N.view_of N.stands world ((N.view_of self.old.nodes).home channel) (core_view self.new after)
+            × Gives N.view_of N.takes N.reads ((N.view_of self.old.nodes).home channel) channel (core_view self.old backlogs) (core_view self.new after) }
+        ensures rests { self.new.work.items ≡ [] }
+        ensures idle { result ≡ false → self.new ≡ self.old }
+        ensures capacity { self.new.capacity ≡ self.old.capacity }
+        ensures count { vec_len self.new.executors ≡ vec_len self.old.executors }
+    {
+        let home = self.nodes.home(channel);
+        if !self.nodes.read(channel, &mut self.work) {
+            return false;
+        }
+        self.work_off(home);
+        true
+    }
+
+    /// A write to a channel's transport, with the direct calls of what comes of it. False where no flushed byte waits, or
+    /// the head has failed.
+    pub fn write(&mut self, channel: usize) -> bool
+        requires there { channel < N.count self.old.nodes }
+        requires home { (N.view_of self.old.nodes).home channel < vec_len self.old.executors }
+        requires rests { self.old.work.items ≡ [] }
+        requires stands { (world : World) × (x : ℕ) × (backlogs : ℕ → List (Entry Unit)) × CoreStands N.view_of N.stands world x (core_view self.old backlogs) }
+        ensures enabled { result ≡ N.may_write self.old.nodes channel }
+        ensures runs { result ≡ true → (world : World) (x : ℕ) (backlogs : ℕ → List (Entry Unit)) → CoreStands N.view_of N.stands world x (core_view self.old backlogs)
+            → (after : ℕ → List (Entry Unit)) × CoreStands N.view_of N.stands world ((N.view_of self.old.nodes).home channel) (core_view self.new after)
+            × Gives N.view_of N.takes N.writes ((N.view_of self.old.nodes).home channel) channel (core_view self.old backlogs) (core_view self.new after) }
+        ensures rests { self.new.work.items ≡ [] }
+        ensures idle { result ≡ false → self.new ≡ self.old }
+        ensures capacity { self.new.capacity ≡ self.old.capacity }
+        ensures count { vec_len self.new.executors ≡ vec_len self.old.executors }
+    {
+        let home = self.nodes.home(channel);
+        if !self.nodes.write(channel, &mut self.work) {
+            return false;
+        }
+        self.work_off(home);
+        true
+    }
+
+    /// The oldest item of an executor's backlog whose target has room goes into its queue. False where there is none.
+    ///
+    /// Error: the queue could not grow. Nothing was handed over.
+    pub fn hand(&mut self, me: usize) -> Result<bool, AllocError>
+        requires there { me < vec_len self.old.executors }
+        requires stands { (world : World) × (x : ℕ) × (backlogs : ℕ → List (Entry Unit)) × CoreStands N.view_of N.stands world x (core_view self.old backlogs) }
+        ensures hands { result ≡ Ok true → (world : World) (x : ℕ) (backlogs : ℕ → List (Entry Unit)) → CoreStands N.view_of N.stands world x (core_view self.old backlogs)
+            → (after : ℕ → List (Entry Unit)) × CoreStands N.view_of N.stands world x (core_view self.new after)
+            × ((i : ℕ) × (position (λ entry. has_room self.old.executors.items self.old.capacity entry.target) (backlogs me) ≡ Some i) × HandsOver me i (core_view self.old backlogs) (core_view self.new after)) }
+        ensures none { result ≡ Ok false → (world : World) (x : ℕ) (backlogs : ℕ → List (Entry Unit)) → CoreStands N.view_of N.stands world x (core_view self.old backlogs)
+            → position (λ entry. has_room self.old.executors.items self.old.capacity entry.target) (backlogs me) ≡ None }
+        ensures idle { result ≡ Ok false → self.new ≡ self.old }
+        ensures err { OnErr result (IsUnmovedButRoom self.old self.new) }
+        ensures capacity { self.new.capacity ≡ self.old.capacity }
+        ensures count { vec_len self.new.executors ≡ vec_len self.old.executors }
+    {
+        match oldest_target(&self.executors, me, self.capacity) {
+            None => Ok(false),
+            Some(target) => {
+                if let Err(refused) = self.executors[target].reserve() {
+                    return Err(refused);
+                }
+                self.hand_to(me, target);
+                Ok(true)
+            }
+        }
+    }
+
+    /// The oldest item of an executor's backlog for a target goes into the queue of that, which has memory for it.
+    fn hand_to(&mut self, me: usize, target: usize)
+        requires there { (me < vec_len self.old.executors) × (target < vec_len self.old.executors) }
+        requires memory { 0 < memory_at self.old.executors.items target }
+        requires stands { (world : World) × (x : ℕ) × (backlogs : ℕ → List (Entry Unit)) × (i : ℕ) × CoreStands N.view_of N.stands world x (core_view self.old backlogs) × (position (is_for target) (backlogs me) ≡ Some i) }
+        ensures hands { (world : World) (x : ℕ) (backlogs : ℕ → List (Entry Unit)) (i : ℕ) → CoreStands N.view_of N.stands world x (core_view self.old backlogs) → position (is_for target) (backlogs me) ≡ Some i
+            → (after : ℕ → List (Entry Unit)) × CoreStands N.view_of N.stands world x (core_view self.new after) × HandsOver me i (core_view self.old backlogs) (core_view self.new after) }
+        ensures capacity { self.new.capacity ≡ self.old.capacity }
+        ensures count { vec_len self.new.executors ≡ vec_len self.old.executors }
+    {
+        match self.executors[me].take_for(target) {
+            Some(envelope) => self.executors[target].hand_over(envelope),
+            None => unreachable!(),
+        }
+    }
+}

@@ -1,0 +1,84 @@
+//! What executors run: contexts, tails and heads.
+
+ghost use Rattle.std.specs.Prelude.{◌≡◌, ◌<◌, ℕ, Bool, false, true};
+ghost use Rattle.pl_event.specs.declared.envelopes.Envelope.{Envelope};
+ghost use Rattle.pl_event.specs.Worlds.{World};
+ghost use Rattle.pl_context.specs.OutputsViews.{OutputsView};
+ghost use Rattle.pl_context.specs.Stops.{HasPlaces};
+ghost use Rattle.pl_flow.specs.Flows.{IsGood};
+ghost use Rattle.pl_net.specs.NodesViews.{NodesView, NodesTake, NodesGive, NodesMake};
+
+use pl_context::Outputs;
+use pl_event::{Envelope, Lane};
+
+/// The nodes of all channels. What they make of an item they put on a work list, lane by lane the next items of that lane.
+pub trait Nodes: Sized {
+    /// Where their lanes go, and how far they have come.
+    ghost view_of: { Self → NodesView };
+
+    /// What holds of them between two calls, in a world.
+    ghost stands: { World → Self → Type 0 };
+
+    /// What a node has done with an envelope that it took.
+    ghost takes: { Self → Envelope → OutputsView → Self → OutputsView → Type 0 };
+
+    /// What the head of a channel has done in a read step that it made, and in a write.
+    ghost reads: { Self → ℕ → OutputsView → Self → OutputsView → Type 0 };
+
+    ghost writes: { Self → ℕ → OutputsView → Self → OutputsView → Type 0 };
+
+    /// Whether the channel's next read step, or a write to its transport, is enabled.
+    ghost may_read: { Self → ℕ → Bool };
+
+    ghost may_write: { Self → ℕ → Bool };
+
+    /// How many channels there are.
+    ghost count: { Self → ℕ };
+
+    /// The executor of a channel's head.
+    fn home(&self, channel: usize) -> usize
+        requires { channel < count self.now }
+        ensures { result ≡ (view_of self.now).home channel };
+
+    /// The executor that a lane enters.
+    fn target(&self, lane: Lane) -> usize
+        requires { (view_of self.now).writes lane ≡ true }
+        ensures { result ≡ (view_of self.now).target lane };
+
+    /// The node that the envelope's lane enters takes it.
+    fn take(&mut self, envelope: Envelope, work: &mut Outputs)
+        requires next { (world : World) × stands world self.old × IsGood world envelope }
+        requires written { (view_of self.old).writes envelope.lane ≡ true }
+        requires number { envelope.number ≡ (view_of self.old).taken envelope.lane }
+        requires places { HasPlaces work.old.stopped (view_of self.old).lanes }
+        ensures takes { takes self.old envelope work.old self.new work.new }
+        ensures view { NodesTake (view_of self.old) envelope work.old (view_of self.new) work.new }
+        ensures stands { (world : World) → stands world self.old → IsGood world envelope → stands world self.new }
+        ensures makes { (world : World) → stands world self.old → IsGood world envelope
+            → NodesMake world (view_of self.old) ((view_of self.old).target envelope.lane) work.old (view_of self.new) work.new };
+
+    /// The head of a channel makes its next read step, where one is left and not held. False where it made none.
+    fn read(&mut self, channel: usize, work: &mut Outputs) -> bool
+        requires there { channel < count self.old }
+        requires stands { (world : World) × stands world self.old }
+        requires places { HasPlaces work.old.stopped (view_of self.old).lanes }
+        ensures enabled { result ≡ may_read self.old channel }
+        ensures idle { result ≡ false → (self.new ≡ self.old) × (work.new ≡ work.old) }
+        ensures reads { result ≡ true → reads self.old channel work.old self.new work.new }
+        ensures view { result ≡ true → NodesGive (view_of self.old) ((view_of self.old).home channel) work.old (view_of self.new) work.new }
+        ensures stands { (world : World) → stands world self.old → stands world self.new }
+        ensures makes { (world : World) → stands world self.old → NodesMake world (view_of self.old) ((view_of self.old).home channel) work.old (view_of self.new) work.new };
+
+    /// The head of a channel makes a write to its transport, where a flushed byte waits and it has not failed. False where
+    /// it made none.
+    fn write(&mut self, channel: usize, work: &mut Outputs) -> bool
+        requires there { channel < count self.old }
+        requires stands { (world : World) × stands world self.old }
+        requires places { HasPlaces work.old.stopped (view_of self.old).lanes }
+        ensures enabled { result ≡ may_write self.old channel }
+        ensures idle { result ≡ false → (self.new ≡ self.old) × (work.new ≡ work.old) }
+        ensures writes { result ≡ true → writes self.old channel work.old self.new work.new }
+        ensures view { result ≡ true → NodesGive (view_of self.old) ((view_of self.old).home channel) work.old (view_of self.new) work.new }
+        ensures stands { (world : World) → stands world self.old → stands world self.new }
+        ensures makes { (world : World) → stands world self.old → NodesMake world (view_of self.old) ((view_of self.old).home channel) work.old (view_of self.new) work.new };
+}

@@ -1,0 +1,3 @@
+pub mod Relays
+pub mod Playing
+pub mod SampleParts

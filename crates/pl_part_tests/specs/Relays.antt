@@ -1,0 +1,25 @@
+-- Stages for the tests: one of each direction. An event goes on as it is; the turn writes a flush for each.
+use Rattle.std.specs.Prelude.{List, [], ◌∷◌, false, refl}
+use Rattle.pl_event.specs.declared.events.Event.{Event}
+use Rattle.pl_event.specs.declared.events.Event.TheVariants.{Flush}
+use Rattle.pl_event.specs.declared.stages.Direction.{Direction}
+use Rattle.pl_event.specs.declared.stages.Direction.TheVariants.{Inbound, Outbound, Turn}
+use Rattle.pl_event.specs.Meaning.{Meaning, IsLawful}
+
+abbrev pub passed_up : Direction → Event → List Event
+passed_up Inbound x = x ∷ []
+passed_up Turn x = x ∷ []
+passed_up Outbound x = []
+
+abbrev pub passed_down : Direction → Event → List Event
+passed_down Inbound x = []
+passed_down Turn x = Flush ∷ []
+passed_down Outbound x = x ∷ []
+
+abbrev pub relaying : Direction → Meaning
+relaying d = record { direction = d; up = λ xs x. passed_up d x; down = λ xs x. passed_down d x; ended = λ xs. false }
+
+pub relaying-lawful : (d : Direction) → IsLawful (relaying d)
+relaying-lawful Inbound = record { starts_open = refl; stays_ended = λ xs x e. e; quiet = λ xs x e. refl; inbound = λ e xs x. refl; outbound = λ e xs x. cc; turn_alone = λ e xs. refl }
+relaying-lawful Outbound = record { starts_open = refl; stays_ended = λ xs x e. e; quiet = λ xs x e. cc; inbound = λ e xs x. cc; outbound = λ e xs x. refl; turn_alone = λ e xs. refl }
+relaying-lawful Turn = record { starts_open = refl; stays_ended = λ xs x e. e; quiet = λ xs x e. cc; inbound = λ e xs x. cc; outbound = λ e xs x. cc; turn_alone = λ e xs. refl }
