@@ -3,3 +3,4 @@ pub mod OutboxLemmas
 pub mod AddSteps
 pub mod OfferSteps
 pub mod RunLemmas
+pub mod CountLemmas

@@ -1,9 +1,9 @@
 -- One outbox among all, and what waits for its target.
-use Rattle.std.proofs.Common.{◌≡◌, ◌≢◌, ℕ, suc, ◌+◌, ◌*◌, ◌<◌, ◌≤◌, ◌^◌, Bool, true, false, List, [], ◌∷◌, length, map, set, slice_get, Option, Some, None, refl, ap, sym, ◌∙◌, subst, ⊎_elim, arith}
+use Rattle.std.proofs.Common.{◌≡◌, ◌≢◌, ℕ, suc, ◌+◌, ◌*◌, ◌<◌, ◌≤◌, ◌^◌, Bool, true, false, List, [], ◌∷◌, length, map, set, slice_get, Option, Some, None, refl, ap, sym, ◌∙◌, subst, ⊎_elim, arith, ◌==◌}
 use Rattle.std.specs.Prelude.{IfSome}
 use Rattle.std.specs.List.{All, filter, sum_by, find}
 use Rattle.std.specs.Option.{option_map, option_map_or}
-use Rattle.std.proofs.lemmas.Bool.{cases_eq}
+use Rattle.std.proofs.lemmas.Bool.{cases_eq, eqb-true}
 use Rattle.std.proofs.lemmas.List.{length-set}
 use Rattle.std.proofs.lemmas.List.Elements.{All-nil, All-cons, All-head, All-tail}
 use Rattle.std.proofs.lemmas.List.Sums.{sum_by-set, sum_by-le, length-filter}
@@ -166,3 +166,11 @@ found-there world o is opens found e = subst (λ (f : Option ℕ). IfSome f (λ 
     by (Some x) e =
         find-All (λ (e : Entry AdmittedView). opens e.target) (λ (e : Entry AdmittedView). e.target < length o.outboxes) is.entries x
         (subst (λ (zs : List (Entry AdmittedView)). All (λ e. e.target < length o.outboxes) zs) (sym is.holds.entries_are) (there is.holds.aged is.holds.holds.there)) e
+
+-- where no entry is, nothing waits for any target
+pub none-wait : (w : WaitingView AdmittedView) (entries : List (Entry AdmittedView)) → Holds w entries → (length entries == 0) ≡ true → (y : ℕ) → waits_in w y ≡ []
+none-wait w entries holds e y = waits-entries w entries holds y ∙ none entries e
+  where
+    none : (zs : List (Entry AdmittedView)) → (length zs == 0) ≡ true → map (λ (z : Entry AdmittedView). z.envelope) (filter (is_for y) zs) ≡ []
+    none [] f = refl
+    none (z ∷ zs) f = let h = eqb-true (length (z ∷ zs)) 0 f in absurd (omega (arith, h))

@@ -1,6 +1,7 @@
 -- An executor while it works its list off: of each lane that its nodes write, what stands on the list follows what went on,
 -- up to what was made.
-use Rattle.std.specs.Prelude.{◌≡◌, ◌≢◌, ℕ, ◌<◌, Bool, true, false, List, [], ◌∷◌, length, Some}
+use Rattle.std.specs.Prelude.{◌≡◌, ◌≢◌, ℕ, ◌<◌, ◌^◌, ◌-◌, min, Bool, true, false, List, [], ◌∷◌, length, Some}
+use Rattle.pl_event.specs.declared.envelopes.Envelope.{Envelope}
 use Rattle.pl_event.specs.declared.envelopes.Lane.{Lane}
 use Rattle.pl_event.specs.Worlds.{World}
 use Rattle.pl_context.specs.Stops.{has_stopped, HasPlaces, AreAmong}
@@ -9,9 +10,10 @@ use Rattle.pl_context.specs.WaitingViews.{stops_for}
 use Rattle.pl_queue.specs.declared.views.TakeCount.{TakeCount}
 use Rattle.pl_queue.specs.declared.views.TakerView.{TakerView}
 use Rattle.pl_queue.specs.Views.{next_of}
+use Rattle.pl_words.specs.Admissions.{OwnerSeatView}
 use Rattle.pl_flow.specs.Flows.{Point, point, on}
 use Rattle.pl_flow.specs.LaneRuns.{LaneRuns}
-use Rattle.pl_exec.specs.OutboxViews.{OutboxesView, reached, is_cut}
+use Rattle.pl_exec.specs.OutboxViews.{OutboxesView, reached, is_cut, is_closed}
 
 -- The executor's number; by lane the executor that it enters, whether the nodes write it, how many items of it they have
 -- taken, and how far they have made it.
@@ -31,8 +33,18 @@ abbrev pub IsTaking : ℕ → (Lane → ℕ) → (Lane → Bool) → (Lane → �
 IsTaking me target writes taken counts =
     (l : Lane) (n : ℕ) → next_of l counts ≡ Some n → (target l ≡ me) × (writes l ≡ false) × (taken l ≡ n)
 
--- An executor between two of its steps: its number, its way out, and what it knows of its queue.
-pub record ExecutorView : Type 0 where
+-- An executor between two of its turns: its number, its nodes, its way out, what it knows of its queue, its right to close
+-- that, and the number of its next turn.
+pub record ExecutorView (N : Type 0) : Type 0 where
   pub number : ℕ
+  pub part : N
   pub outboxes : OutboxesView
   pub takes : TakerView
+  pub owner : OwnerSeatView
+  pub turns : ℕ
+
+-- How many envelopes were taken from a queue, up to the last number of a u64, and whether it was closed: then with as many.
+pub record IsCounting (owner : OwnerSeatView) (shut : Bool) (ran pops : ℕ) : Type 0 where
+  pub closed : shut ≡ is_closed owner.phase
+  pub run : ran ≡ min pops (2 ^ 64 - 1)
+  pub count : is_closed owner.phase ≡ true → owner.run ≡ pops

@@ -1,6 +1,6 @@
 //! The work list of an executor, and its direct calls.
 
-ghost use Rattle.std.specs.Prelude.{◌≡◌, ◌+◌, ℕ, [], cond, false, true, IfSome, IfNone};
+ghost use Rattle.std.specs.Prelude.{◌≡◌, ◌+◌, ◌<◌, ℕ, [], cond, false, true, IfSome, IfNone};
 ghost use Rattle.pl_event.specs.declared.envelopes.Lane.{Lane};
 ghost use Rattle.pl_event.specs.Hops.{same_lane};
 ghost use Rattle.pl_context.specs.Stops.{HasPlaces};
@@ -48,6 +48,7 @@ where
         ensures number { self.new.number ≡ self.old.number }
         ensures routes { (l : Lane) → N.target_of self.new.part l ≡ N.target_of self.old.part l }
         ensures writes { (l : Lane) → N.writes self.new.part l ≡ N.writes self.old.part l }
+        ensures count { N.count self.new.part ≡ N.count self.old.part }
         ensures sends { (y : ℕ) → sends_for self.new.outboxes y ≡ sends_for self.old.outboxes y }
         ensures taken { (l : Lane) → N.writes self.old.part l ≡ false → N.taken_of self.new.part l ≡ N.taken_of self.old.part l }
         ensures empty { result ≡ false → self.new.work.items ≡ [] }
@@ -86,6 +87,7 @@ where
         ensures number { self.new.number ≡ self.old.number }
         ensures routes { (l : Lane) → N.target_of self.new.part l ≡ N.target_of self.old.part l }
         ensures writes { (l : Lane) → N.writes self.new.part l ≡ N.writes self.old.part l }
+        ensures count { N.count self.new.part ≡ N.count self.old.part }
         ensures sends { (y : ℕ) → sends_for self.new.outboxes y ≡ sends_for self.old.outboxes y }
         ensures taken { (l : Lane) → N.taken_of self.new.part l ≡ cond (same_lane l task.lane) (task.number + 1) (N.taken_of self.old.part l) }
     {
@@ -107,6 +109,7 @@ where
         ensures number { self.new.number ≡ self.old.number }
         ensures routes { (l : Lane) → N.target_of self.new.part l ≡ N.target_of self.old.part l }
         ensures writes { (l : Lane) → N.writes self.new.part l ≡ N.writes self.old.part l }
+        ensures count { N.count self.new.part ≡ N.count self.old.part }
         ensures sends { (y : ℕ) → sends_for self.new.outboxes y ≡ sends_for self.old.outboxes y }
         ensures taken { (l : Lane) → N.writes self.old.part l ≡ false → N.taken_of self.new.part l ≡ N.taken_of self.old.part l }
         ensures empty { self.new.work.items ≡ [] }
@@ -117,6 +120,68 @@ where
             }
         }
         unreachable!()
+    }
+
+    /// A channel's next read step, with the direct calls that follow. False where it is not enabled.
+    pub fn read<R: Wait>(&mut self, rt: &R, channel: usize) -> bool
+        requires there { channel < N.count self.old.part }
+        requires stands { N.stands self.old.part }
+        requires home { N.home self.old.part ≡ self.old.number }
+        requires places { HasPlaces self.old.work.stopped (N.lanes self.old.part) }
+        requires runs { Runs W.world self.old.number (N.target_of self.old.part) (N.writes self.old.part) (N.taken_of self.old.part) (N.came self.old.part) self.old.outboxes self.old.work }
+        requires why { N.was_refused self.old.part ≡ true → SomeRefuses self.old.outboxes }
+        requires empty { self.old.work.items ≡ [] }
+        ensures enabled { result ≡ N.may_read self.old.part channel }
+        ensures idle { result ≡ false → self.new ≡ self.old }
+        ensures stands { N.stands self.new.part }
+        ensures home { N.home self.new.part ≡ self.new.number }
+        ensures places { HasPlaces self.new.work.stopped (N.lanes self.new.part) }
+        ensures runs { Runs W.world self.new.number (N.target_of self.new.part) (N.writes self.new.part) (N.taken_of self.new.part) (N.came self.new.part) self.new.outboxes self.new.work }
+        ensures why { N.was_refused self.new.part ≡ true → SomeRefuses self.new.outboxes }
+        ensures number { self.new.number ≡ self.old.number }
+        ensures routes { (l : Lane) → N.target_of self.new.part l ≡ N.target_of self.old.part l }
+        ensures writes { (l : Lane) → N.writes self.new.part l ≡ N.writes self.old.part l }
+        ensures count { N.count self.new.part ≡ N.count self.old.part }
+        ensures sends { (y : ℕ) → sends_for self.new.outboxes y ≡ sends_for self.old.outboxes y }
+        ensures taken { (l : Lane) → N.writes self.old.part l ≡ false → N.taken_of self.new.part l ≡ N.taken_of self.old.part l }
+        ensures empty { self.new.work.items ≡ [] }
+    {
+        if !self.part.read(channel, &mut self.work) {
+            return false;
+        }
+        self.work_off(rt);
+        true
+    }
+
+    /// A write to a channel's transport, with the direct calls that follow. False where it is not enabled.
+    pub fn write<R: Wait>(&mut self, rt: &R, channel: usize) -> bool
+        requires there { channel < N.count self.old.part }
+        requires stands { N.stands self.old.part }
+        requires home { N.home self.old.part ≡ self.old.number }
+        requires places { HasPlaces self.old.work.stopped (N.lanes self.old.part) }
+        requires runs { Runs W.world self.old.number (N.target_of self.old.part) (N.writes self.old.part) (N.taken_of self.old.part) (N.came self.old.part) self.old.outboxes self.old.work }
+        requires why { N.was_refused self.old.part ≡ true → SomeRefuses self.old.outboxes }
+        requires empty { self.old.work.items ≡ [] }
+        ensures enabled { result ≡ N.may_write self.old.part channel }
+        ensures idle { result ≡ false → self.new ≡ self.old }
+        ensures stands { N.stands self.new.part }
+        ensures home { N.home self.new.part ≡ self.new.number }
+        ensures places { HasPlaces self.new.work.stopped (N.lanes self.new.part) }
+        ensures runs { Runs W.world self.new.number (N.target_of self.new.part) (N.writes self.new.part) (N.taken_of self.new.part) (N.came self.new.part) self.new.outboxes self.new.work }
+        ensures why { N.was_refused self.new.part ≡ true → SomeRefuses self.new.outboxes }
+        ensures number { self.new.number ≡ self.old.number }
+        ensures routes { (l : Lane) → N.target_of self.new.part l ≡ N.target_of self.old.part l }
+        ensures writes { (l : Lane) → N.writes self.new.part l ≡ N.writes self.old.part l }
+        ensures count { N.count self.new.part ≡ N.count self.old.part }
+        ensures sends { (y : ℕ) → sends_for self.new.outboxes y ≡ sends_for self.old.outboxes y }
+        ensures taken { (l : Lane) → N.writes self.old.part l ≡ false → N.taken_of self.new.part l ≡ N.taken_of self.old.part l }
+        ensures empty { self.new.work.items ≡ [] }
+    {
+        if !self.part.write(channel, &mut self.work) {
+            return false;
+        }
+        self.work_off(rt);
+        true
     }
 
     /// Hands over the oldest envelope whose queue has room: each queue is tried once. The target to which it went, or None

@@ -3,13 +3,15 @@
 
 mod cores;
 mod executors;
+mod gate;
 mod inbox;
 mod outbox;
 mod outboxes;
 mod part;
 
 pub use cores::Core;
-pub use executors::Executor;
+pub use executors::{Executor, Turn};
+pub use gate::Gate;
 pub use inbox::Inbox;
 pub use outbox::Outbox;
 pub use outboxes::{Offered, Outboxes};

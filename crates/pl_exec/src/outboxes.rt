@@ -165,7 +165,8 @@ where
 
     /// Whether nothing waits.
     pub fn is_empty(&self) -> bool
-        ensures { (entries : List (Entry AdmittedView)) → Holds self.now.waiting entries → result ≡ (length entries == 0) }
+        ensures counts { (entries : List (Entry AdmittedView)) → Holds self.now.waiting entries → result ≡ (length entries == 0) }
+        ensures empty { result ≡ true → (y : ℕ) → waits_for self.now y ≡ [] }
     {
         self.waiting.is_empty()
     }

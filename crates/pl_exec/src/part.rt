@@ -1,6 +1,6 @@
 //! What an executor runs: contexts, tails and heads.
 
-ghost use Rattle.std.specs.Prelude.{◌≡◌, ◌+◌, ℕ, Bool, List, cond};
+ghost use Rattle.std.specs.Prelude.{◌≡◌, ◌+◌, ◌<◌, ℕ, Bool, false, true, List, cond};
 ghost use Rattle.pl_event.specs.declared.envelopes.Lane.{Lane};
 ghost use Rattle.pl_event.specs.Hops.{same_lane};
 ghost use Rattle.pl_context.specs.Stops.{HasPlaces, AreAmong};
@@ -33,6 +33,18 @@ pub trait Part<W: Named>: Sized {
     /// Whether one of them has failed by `refuse`.
     ghost was_refused: { Self → Bool };
 
+    /// How many channels there are.
+    ghost count: { Self → ℕ };
+
+    /// Whether the next read step of a channel, or a write to its transport, is enabled: its head is one of these nodes,
+    /// and a step is left and not held, or a flushed byte waits and the head has not failed.
+    ghost may_read: { Self → ℕ → Bool };
+
+    ghost may_write: { Self → ℕ → Bool };
+
+    /// Whether each context, tail and head of these has ended or failed, no read step is left, and no flushed byte is left.
+    ghost are_over: { Self → Bool };
+
     /// What holds of them between two calls.
     ghost stands: { Self → Type 0 };
 
@@ -53,6 +65,7 @@ pub trait Part<W: Named>: Sized {
         ensures taken { (l : Lane) → taken_of self.new l ≡ cond (same_lane l envelope.lane) (envelope.number + 1) (taken_of self.old l) }
         ensures home { home self.new ≡ home self.old }
         ensures lanes { lanes self.new ≡ lanes self.old }
+        ensures count { count self.new ≡ count self.old }
         ensures placed { (hops : List Lane) → AreAmong (lanes self.old) hops → HasPlaces work.old.stopped hops → HasPlaces work.new.stopped hops }
         ensures refused { was_refused self.new ≡ was_refused self.old }
         ensures made { Makes W.world (writes self.old) (came self.old) (came self.new) work.old work.new };
@@ -68,6 +81,52 @@ pub trait Part<W: Named>: Sized {
         ensures taken { (l : Lane) → taken_of self.new l ≡ taken_of self.old l }
         ensures home { home self.new ≡ home self.old }
         ensures lanes { lanes self.new ≡ lanes self.old }
+        ensures count { count self.new ≡ count self.old }
         ensures placed { (hops : List Lane) → AreAmong (lanes self.old) hops → HasPlaces work.old.stopped hops → HasPlaces work.new.stopped hops }
         ensures made { Makes W.world (writes self.old) (came self.old) (came self.new) work.old work.new };
+
+    /// How many channels there are, those too of which no node is here.
+    fn channels(&self) -> usize
+        ensures { result ≡ count self.now };
+
+    /// The head of a channel makes its next read step, where that is enabled. False where it made none.
+    fn read(&mut self, channel: usize, work: &mut Outputs) -> bool
+        requires there { channel < count self.old }
+        requires stands { stands self.old }
+        requires places { HasPlaces work.old.stopped (lanes self.old) }
+        ensures enabled { result ≡ may_read self.old channel }
+        ensures idle { result ≡ false → (self.new ≡ self.old) × (work.new ≡ work.old) }
+        ensures stands { stands self.new }
+        ensures routes { (l : Lane) → target_of self.new l ≡ target_of self.old l }
+        ensures writes { (l : Lane) → writes self.new l ≡ writes self.old l }
+        ensures taken { (l : Lane) → taken_of self.new l ≡ taken_of self.old l }
+        ensures home { home self.new ≡ home self.old }
+        ensures lanes { lanes self.new ≡ lanes self.old }
+        ensures count { count self.new ≡ count self.old }
+        ensures placed { (hops : List Lane) → AreAmong (lanes self.old) hops → HasPlaces work.old.stopped hops → HasPlaces work.new.stopped hops }
+        ensures refused { was_refused self.new ≡ was_refused self.old }
+        ensures made { Makes W.world (writes self.old) (came self.old) (came self.new) work.old work.new };
+
+    /// The head of a channel makes a write to its transport, where that is enabled. False where it made none.
+    fn write(&mut self, channel: usize, work: &mut Outputs) -> bool
+        requires there { channel < count self.old }
+        requires stands { stands self.old }
+        requires places { HasPlaces work.old.stopped (lanes self.old) }
+        ensures enabled { result ≡ may_write self.old channel }
+        ensures idle { result ≡ false → (self.new ≡ self.old) × (work.new ≡ work.old) }
+        ensures stands { stands self.new }
+        ensures routes { (l : Lane) → target_of self.new l ≡ target_of self.old l }
+        ensures writes { (l : Lane) → writes self.new l ≡ writes self.old l }
+        ensures taken { (l : Lane) → taken_of self.new l ≡ taken_of self.old l }
+        ensures home { home self.new ≡ home self.old }
+        ensures lanes { lanes self.new ≡ lanes self.old }
+        ensures count { count self.new ≡ count self.old }
+        ensures placed { (hops : List Lane) → AreAmong (lanes self.old) hops → HasPlaces work.old.stopped hops → HasPlaces work.new.stopped hops }
+        ensures refused { was_refused self.new ≡ was_refused self.old }
+        ensures made { Makes W.world (writes self.old) (came self.old) (came self.new) work.old work.new };
+
+    /// Whether each of them has ended or failed, and no read step and no flushed byte is left.
+    fn has_ended(&self) -> bool
+        ensures over { result ≡ are_over self.now }
+        ensures rest { result ≡ true → (c : ℕ) → c < count self.now → (may_read self.now c ≡ false) × (may_write self.now c ≡ false) };
 }

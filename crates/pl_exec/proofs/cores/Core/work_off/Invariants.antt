@@ -10,6 +10,7 @@ invariant-loop g l = record {
   number : l.self.number ≡ l.fn.self.number;
   routes : (m : Lane) → g.N.Part.target_of l.self.part m ≡ g.N.Part.target_of l.fn.self.part m;
   writes : (m : Lane) → g.N.Part.writes l.self.part m ≡ g.N.Part.writes l.fn.self.part m;
+  count : g.N.Part.count l.self.part ≡ g.N.Part.count l.fn.self.part;
   taken : (m : Lane) → g.N.Part.writes l.fn.self.part m ≡ false → g.N.Part.taken_of l.self.part m ≡ g.N.Part.taken_of l.fn.self.part m;
   sends : (y : ℕ) → sends_for l.self.outboxes y ≡ sends_for l.fn.self.outboxes y;
   home : g.N.Part.home l.self.part ≡ l.self.number;

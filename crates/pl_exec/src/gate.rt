@@ -1,0 +1,13 @@
+//! Who is told of each turn.
+
+ghost use Rattle.std.specs.Prelude.{ℕ};
+
+/// Is told of each turn of each executor, before anything is done in it.
+pub trait Gate {
+    /// It was told of this turn of this executor.
+    ghost was_entered: { Self → ℕ → ℕ → Type 0 } = { λ g executor turn. Unit {0} };
+
+    /// A turn of an executor begins. The number 2^64 - 1 stays once it is reached.
+    fn enter(&self, executor: u16, turn: u64)
+        ensures { was_entered self.now executor turn };
+}
