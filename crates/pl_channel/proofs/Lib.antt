@@ -1,18 +1,11 @@
-pub mod CallItems
-pub mod ContextSteps
-pub mod EndSteps
-pub mod EventClones
-pub mod HeadTakes
-pub mod Items
-pub mod LaneItems
-pub mod NodeStarts
-pub mod NodeSteps
-pub mod Numbers
-pub mod PassedFlags
-pub mod PlacedLemmas
-pub mod StageItems
-pub mod TailFlags
-pub mod WorkLists
-pub mod HeadMoves
-pub mod FlagPlaces
-pub mod InputSteps
+pub mod LaneContents
+pub mod WorldChannels
+pub mod MovedParts
+mod Lists
+mod Contents
+mod PlannedLanes
+mod NewHeads
+mod NewChannels
+mod EventClones
+mod EndReports
+pub mod PlanLemmas

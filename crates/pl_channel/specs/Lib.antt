@@ -1,10 +1,4 @@
-pub mod ContextStand
-pub mod Envelopes
-pub mod HeadStand
-pub mod MadeItems
-pub mod NodeStand
-pub mod TailStand
-pub mod Unstopped
-pub mod ChannelMoves
-pub mod ChannelStand
-pub mod ChannelStates
+pub mod Lanes
+pub mod Placing
+pub mod Ends
+pub mod PlanStand

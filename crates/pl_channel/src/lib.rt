@@ -1,8 +1,8 @@
-//! One channel of a replay: its contexts, its tail and its head, each on an executor.
+//! One channel of a session: its part, with all its nodes, from its recording, and its report, from its two ends.
 #![tactic(auto)]
 
-mod nodes;
-mod placed_channels;
+mod placing;
+mod reports;
 
-pub use nodes::Nodes;
-pub use placed_channels::PlacedChannel;
+pub use placing::place;
+pub use reports::{into_report, report, stands};

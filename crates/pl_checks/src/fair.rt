@@ -51,7 +51,7 @@ fn go_round(net: &mut Net<Handler, MemoryTransport>, moves: &[Move]) -> Result<(
     Ok(())
 }
 
-fn is_prefix<T: PartialEq>(part: &[T], whole: &[T]) -> bool {
+pub(crate) fn is_prefix<T: PartialEq>(part: &[T], whole: &[T]) -> bool {
     if part.len() > whole.len() {
         return false;
     }

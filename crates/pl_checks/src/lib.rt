@@ -5,6 +5,10 @@
 #[cfg(test)]
 mod drained;
 #[cfg(test)]
+mod every_allocation_refused;
+#[cfg(test)]
+mod failed;
+#[cfg(test)]
 mod fair;
 #[cfg(test)]
 mod program;

@@ -63,7 +63,7 @@ pub(crate) fn piped(rt: &HostRuntime, edits: &str, bursts: &str) -> Result<Strin
     marked(rt, edits, "", bursts)
 }
 
-/// The same with marks and a window: members of the channel, each after a comma.
+/// The same with further members of the channel, each after a comma.
 fn marked(rt: &HostRuntime, edits: &str, marks: &str, bursts: &str) -> Result<String, AllocError> {
     format!(in rt.alloc();
         "{{\"version\":1,\"capacity\":4,\"loops\":1,\"channels\":[{{\"handlers\":[{edits}]{marks},\"bursts\":{bursts}}}]}}\n"
@@ -75,6 +75,17 @@ pub(crate) fn line_session(rt: &HostRuntime, session: LineSession) -> Result<Str
     let (max, bursts) = session;
     let edits = line_protocol(rt, max)?;
     piped(rt, edits.as_str(), bursts)
+}
+
+/// The same with further members of the channel, each after a comma: how its transport fails, or when it is aborted.
+pub(crate) fn failing_session(
+    rt: &HostRuntime,
+    session: LineSession,
+    members: &str,
+) -> Result<String, AllocError> {
+    let (max, bursts) = session;
+    let edits = line_protocol(rt, max)?;
+    marked(rt, edits.as_str(), members, bursts)
 }
 
 /// The writes of the service do not pass the encoder.

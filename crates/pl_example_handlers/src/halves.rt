@@ -1,6 +1,6 @@
 //! A transport that accepts half of what it is offered.
 
-ghost use Rattle.std.specs.Prelude.{◌≡◌, None};
+ghost use Rattle.std.specs.Prelude.{◌≡◌, ◌-◌, ◌<◌, None, vec_len, vec_capacity};
 ghost use Rattle.pl_head.specs.Transports.{new_state};
 
 use pl_head::{Transport, TransportFault};
@@ -18,7 +18,7 @@ pub struct Halves {
 impl Halves {
     /// A transport that has not been called. It takes no memory.
     pub fn new(alloc: Global) -> Self
-        ensures { ⟦<Halves as Transport>⟧.state result ≡ new_state None }
+        ensures { ⟦<Halves as Transport>⟧.state result ≡ new_state None None }
     {
         Halves {
             bytes: Vec::new(alloc),
@@ -29,7 +29,9 @@ impl Halves {
 }
 
 impl Transport for Halves {
-    ghost state = { λ t. record { accepted = t.bytes.items; calls = t.calls; failures = t.failures; window = None } };
+    ghost state = { λ t. record { accepted = t.bytes.items; calls = t.calls; failures = t.failures; window = None; fail_at = None } };
+
+    ghost may_refuse = { λ t size. vec_capacity t.bytes - vec_len t.bytes < size };
 
     fn write(&mut self, bytes: &[u8]) -> Result<usize, TransportFault> {
         let count = bytes.len() - bytes.len() / 2;

@@ -3,7 +3,7 @@
 use crate::{Halves, OddLines, UpperCase};
 use pl_build::{Groups, PipelineBuilder, Placed};
 use pl_event::{ByteString, Command, Either, Event, Fused, MapUp, Message, Sequence, Stage};
-use pl_head::Transport;
+use pl_head::{ReadPlan, Transport};
 use pl_replay::replay_world;
 use pl_stages::{CommandDecoder, Handler, LineEnd, LineFramer, LineService, ReplyEncoder};
 use pl_world::{ChannelReport, Move, Report, Stands, World, plain_world};
@@ -70,7 +70,10 @@ fn world(alloc: Global, input: &[&[&[u8]]]) -> Result<World<Any, Halves>, Fail> 
     let mut pipelines = Sequence::new(alloc);
     pipelines.push(pipeline(alloc, &mut groups)?)?;
     let mut inputs = Sequence::new(alloc);
-    inputs.push(bursts(alloc, input)?)?;
+    inputs.push(ReadPlan {
+        bursts: bursts(alloc, input)?,
+        abort_after: None,
+    })?;
     let mut transports = Sequence::new(alloc);
     transports.push(Halves::new(alloc))?;
     Ok(World::of_thrifty(alloc, pipelines, inputs, transports, groups.executors())?)

@@ -6,8 +6,9 @@ use Rattle.std.proofs.lemmas.Bool.Decides.{nat_tests}
 use Rattle.pl_event.specs.declared.outcomes.Outcome.{Outcome}
 use Rattle.pl_event.specs.declared.outcomes.Outcome.TheVariants.{Success, Closed, Unsupported}
 use Rattle.pl_head.specs.declared.outbound.Waiting.{Waiting}
-use Rattle.pl_head.specs.Writes.{bytes_of, waiting, closed, unflushed_outcome, outcomes_from}
-use Rattle.pl_head.specs.WaitingMessages.{closed_all, numbered, settled, first_size, MessagesStand}
+use Rattle.pl_head.specs.Writes.{bytes_of, waiting, late_outcome, unflushed_outcome, outcomes_from}
+use Rattle.pl_head.specs.Failures.{settled_by}
+use Rattle.pl_head.specs.WaitingMessages.{settled_all, numbered, settled, first_size, MessagesStand}
 
 pub numbered-append : (n : ℕ) (xs ys : List (Option (List ℕ))) → numbered n (xs ++ ys) ≡ numbered n xs ++ numbered (n + length xs) ys
 numbered-append n [] ys = let e : n ≡ n + 0 = omega arith in ap (λ (k : ℕ). numbered k ys) e
@@ -302,25 +303,39 @@ pub first_size-read : (queue : List Waiting) (first : Waiting) → 0 < length qu
 first_size-read [] first h is = absurd (omega (arith, h))
 first_size-read (w ∷ ws) first h is = ap (λ (v : Waiting). length v.bytes) (sym is)
 
--- the outcomes of unflushed writes, once they are closed
-closed-numbered : (n : ℕ) (before : List (Option Outcome)) (ws : List (Option (List ℕ))) → length before ≡ n → closed_all (numbered n ws) (before ++ map waiting ws) ≡ before ++ map closed ws
-closed-numbered n before [] h = refl
-closed-numbered n before (None ∷ ws) h =
+-- ---- messages that are settled before they were sent
+
+settled_all-append : (o : Outcome) (ws vs : List Waiting) (os : List (Option Outcome)) → settled_all o (ws ++ vs) os ≡ settled_all o vs (settled_all o ws os)
+settled_all-append o [] vs os = refl
+settled_all-append o (w ∷ ws) vs os = settled_all-append o ws vs (set os w.number (Some o))
+
+-- the outcomes of writes that wait, once they are settled
+late-numbered : (o : Outcome) (n : ℕ) (before more : List (Option Outcome)) (ws : List (Option (List ℕ))) → length before ≡ n
+    → settled_all o (numbered n ws) (before ++ (map waiting ws ++ more)) ≡ before ++ (map (late_outcome o) ws ++ more)
+late-numbered o n before more [] h = refl
+late-numbered o n before more (None ∷ ws) h =
     let size : length (before ++ Some Unsupported ∷ []) ≡ n + 1 = omega (arith, h, length-append before (Some Unsupported ∷ [])) in
-    ap (λ (os : List (Option Outcome)). closed_all (numbered (n + 1) ws) os) (sym (append_assoc before (Some Unsupported ∷ []) (map waiting ws)))
-    ∙ closed-numbered (n + 1) (before ++ Some Unsupported ∷ []) ws size
-    ∙ append_assoc before (Some Unsupported ∷ []) (map closed ws)
-closed-numbered n before (Some b ∷ ws) h =
-    let size : length (before ++ Some Closed ∷ []) ≡ n + 1 = omega (arith, h, length-append before (Some Closed ∷ [])) in
-    let here : set (before ++ None ∷ map waiting ws) n (Some Closed) ≡ before ++ Some Closed ∷ map waiting ws =
-    rw (← h) (set-append_seam before None (map waiting ws) (Some Closed)) in
-    ap (λ (os : List (Option Outcome)). closed_all (numbered (n + 1) ws) os) (here ∙ sym (append_assoc before (Some Closed ∷ []) (map waiting ws)))
-    ∙ closed-numbered (n + 1) (before ++ Some Closed ∷ []) ws size
-    ∙ append_assoc before (Some Closed ∷ []) (map closed ws)
+    ap (λ (os : List (Option Outcome)). settled_all o (numbered (n + 1) ws) os) (sym (append_assoc before (Some Unsupported ∷ []) (map waiting ws ++ more)))
+    ∙ late-numbered o (n + 1) (before ++ Some Unsupported ∷ []) more ws size
+    ∙ append_assoc before (Some Unsupported ∷ []) (map (late_outcome o) ws ++ more)
+late-numbered o n before more (Some b ∷ ws) h =
+    let size : length (before ++ Some o ∷ []) ≡ n + 1 = omega (arith, h, length-append before (Some o ∷ [])) in
+    let here : set (before ++ None ∷ (map waiting ws ++ more)) n (Some o) ≡ before ++ Some o ∷ (map waiting ws ++ more) =
+    rw (← h) (set-append_seam before None (map waiting ws ++ more) (Some o)) in
+    ap (λ (os : List (Option Outcome)). settled_all o (numbered (n + 1) ws) os) (here ∙ sym (append_assoc before (Some o ∷ []) (map waiting ws ++ more)))
+    ∙ late-numbered o (n + 1) (before ++ Some o ∷ []) more ws size
+    ∙ append_assoc before (Some o ∷ []) (map (late_outcome o) ws ++ more)
+
+late-last : (o : Outcome) (n : ℕ) (before : List (Option Outcome)) (ws : List (Option (List ℕ))) → length before ≡ n
+    → settled_all o (numbered n ws) (before ++ map waiting ws) ≡ before ++ map (late_outcome o) ws
+late-last o n before ws h =
+    ap (λ (os : List (Option Outcome)). settled_all o (numbered n ws) (before ++ os)) (sym (append-nil (map waiting ws)))
+    ∙ late-numbered o n before [] ws h
+    ∙ ap (λ (os : List (Option Outcome)). before ++ os) (append-nil (map (late_outcome o) ws))
 
 -- all unflushed messages are closed
 pub closes : (queue : List Waiting) (offset count : ℕ) (outcomes : List (Option Outcome)) (flushed unflushed : List (Option (List ℕ))) (left : List ℕ)
-    → MessagesStand queue offset count outcomes flushed unflushed left false → MessagesStand (take count queue) offset count (closed_all (drop count queue) outcomes) flushed unflushed left true
+    → MessagesStand queue offset count outcomes flushed unflushed left false → MessagesStand (take count queue) offset count (settled_all Closed (drop count queue) outcomes) flushed unflushed left true
 closes queue offset count outcomes flushed unflushed left s =
     let front : List Waiting = numbered (length s.done) s.mid in
     let tail : List Waiting = numbered (length flushed) unflushed in
@@ -338,10 +353,54 @@ closes queue offset count outcomes flushed unflushed left s =
       queue_is = front_is ∙ sym (append-nil front);
       count_is = s.count_is;
       outcomes_are =
-          ap (λ (ws : List Waiting). closed_all ws outcomes) rest_is
-          ∙ ap (λ (os : List (Option Outcome)). closed_all tail os) outcomes_split
-          ∙ closed-numbered (length flushed) before unflushed size
-          ∙ append_assoc (map settled s.done) (map waiting s.mid) (map closed unflushed);
+          ap (λ (ws : List Waiting). settled_all Closed ws outcomes) rest_is
+          ∙ ap (λ (os : List (Option Outcome)). settled_all Closed tail os) outcomes_split
+          ∙ late-last Closed (length flushed) before unflushed size
+          ∙ append_assoc (map settled s.done) (map waiting s.mid) (map (late_outcome Closed) unflushed);
       rest = s.rest;
       fits = s.fits;
     }
+
+-- what is settled stays
+by-settled : (o : Outcome) (ws : List (Option (List ℕ))) → map (settled_by o) (map settled ws) ≡ map settled ws
+by-settled o [] = refl
+by-settled o (None ∷ ws) = ap (λ (os : List (Option Outcome)). Some Unsupported ∷ os) (by-settled o ws)
+by-settled o (Some b ∷ ws) = ap (λ (os : List (Option Outcome)). Some Success ∷ os) (by-settled o ws)
+
+by-late : (o before : Outcome) (ws : List (Option (List ℕ))) → map (settled_by o) (map (late_outcome before) ws) ≡ map (late_outcome before) ws
+by-late o before [] = refl
+by-late o before (None ∷ ws) = ap (λ (os : List (Option Outcome)). Some Unsupported ∷ os) (by-late o before ws)
+by-late o before (Some b ∷ ws) = ap (λ (os : List (Option Outcome)). Some before ∷ os) (by-late o before ws)
+
+-- what waits is settled
+by-waiting : (o : Outcome) (ws : List (Option (List ℕ))) → map (settled_by o) (map waiting ws) ≡ map (late_outcome o) ws
+by-waiting o [] = refl
+by-waiting o (None ∷ ws) = ap (λ (os : List (Option Outcome)). Some Unsupported ∷ os) (by-waiting o ws)
+by-waiting o (Some b ∷ ws) = ap (λ (os : List (Option Outcome)). Some o ∷ os) (by-waiting o ws)
+
+-- all messages are settled
+pub fails : (o : Outcome) (queue : List Waiting) (offset count : ℕ) (outcomes : List (Option Outcome)) (flushed unflushed : List (Option (List ℕ))) (left : List ℕ) (ended : Bool)
+    → MessagesStand queue offset count outcomes flushed unflushed left ended → settled_all o queue outcomes ≡ map (settled_by o) outcomes
+fails o queue offset count outcomes flushed unflushed left ended s =
+    let front : List Waiting = numbered (length s.done) s.mid in
+    let tail : List Waiting = if ended then [] else numbered (length flushed) unflushed in
+    let more : List (Option Outcome) = map (unflushed_outcome ended) unflushed in
+    let late : List (Option Outcome) = map (late_outcome o) s.mid in
+    let before : length (map settled s.done ++ late) ≡ length flushed =
+    rw (← s.split) (omega (arith, length-append (map settled s.done) late, length-append s.done s.mid, length-map s.done settled, length-map s.mid (late_outcome o))) in
+    ap (λ (ws : List Waiting). settled_all o ws outcomes) s.queue_is
+    ∙ ap (λ (os : List (Option Outcome)). settled_all o (front ++ tail) os) s.outcomes_are
+    ∙ settled_all-append o front tail (map settled s.done ++ (map waiting s.mid ++ more))
+    ∙ ap (λ (os : List (Option Outcome)). settled_all o tail os) (late-numbered o (length s.done) (map settled s.done) more s.mid (length-map s.done settled) ∙ sym (append_assoc (map settled s.done) late more))
+    ∙ rest ended (length flushed) (map settled s.done ++ late) unflushed before
+    ∙ append_assoc (map settled s.done) late (map (settled_by o) more)
+    ∙ sym (ap (λ (os : List (Option Outcome)). map (settled_by o) os) s.outcomes_are
+    ∙ map-append (settled_by o) (map settled s.done) (map waiting s.mid ++ more)
+    ∙ ap (λ (os : List (Option Outcome)). map (settled_by o) (map settled s.done) ++ os) (map-append (settled_by o) (map waiting s.mid) more)
+    ∙ ap (λ (os : List (Option Outcome)). os ++ (map (settled_by o) (map waiting s.mid) ++ map (settled_by o) more)) (by-settled o s.done)
+    ∙ ap (λ (os : List (Option Outcome)). map settled s.done ++ (os ++ map (settled_by o) more)) (by-waiting o s.mid))
+  where
+    rest : (ended : Bool) (n : ℕ) (before : List (Option Outcome)) (ws : List (Option (List ℕ))) → length before ≡ n
+        → settled_all o (if ended then [] else numbered n ws) (before ++ map (unflushed_outcome ended) ws) ≡ before ++ map (settled_by o) (map (unflushed_outcome ended) ws)
+    rest true n before ws h = ap (λ (os : List (Option Outcome)). before ++ os) (sym (by-late o Closed ws))
+    rest false n before ws h = late-last o n before ws h ∙ ap (λ (os : List (Option Outcome)). before ++ os) (sym (by-waiting o ws))

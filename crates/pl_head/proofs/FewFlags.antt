@@ -6,6 +6,7 @@ use Rattle.pl_event.specs.declared.events.Message.TheVariants.{Bytes, Line, Comm
 use Rattle.pl_event.specs.declared.envelopes.Item.{Item}
 use Rattle.pl_event.specs.declared.envelopes.Item.TheVariants as item
 use Rattle.pl_context.specs.declared.ports.Port.{Port}
+use Rattle.pl_context.specs.declared.standing.Took.{Took}
 use Rattle.pl_context.specs.Stops.{has_stopped}
 use Rattle.pl_context.specs.OutputsViews.{OutputsView}
 use Rattle.pl_head.specs.declared.heads.OutStep.{OutStep}
@@ -14,7 +15,7 @@ use Rattle.pl_head.specs.Marks.{Change, Removed, flags, is_unwritable, turning}
 use Rattle.pl_head.specs.FlagLanes.{AllSent}
 use Rattle.pl_head.specs.WritabilityStand.{SendsFlags}
 use Rattle.pl_head.specs.Buffers.{event_sizes}
-use Rattle.pl_head.specs.HeadStand.{item_sizes, step_sizes}
+use Rattle.pl_head.specs.HeadStand.{is_ran, item_sizes, step_sizes}
 use Rattle.pl_head.proofs.MarkLaws.{change_turns}
 use Rattle.pl_head.proofs.FlagSteps.{all_sent, open_by_room}
 
@@ -60,12 +61,17 @@ one-few : (b : Bool) (size : ℕ) → length (if b then [] else Removed size ∷
 one-few true size = omega arith
 one-few false size = omega arith
 
+event-few : (has_failed ran : Bool) (e : Event) (before after : ℕ) → length (if has_failed then [] else (if ran then event_sizes e before after else Removed before ∷ [])) ≤ 1
+event-few true ran e before after = omega arith
+event-few false true e before after = event_sizes-few e before after
+event-few false false e before after = omega arith
+
 -- an item adds or removes at most once, and so does a write to the transport
-pub item_sizes-few : (has_failed : Bool) (i : Item) (before after : ℕ) → length (item_sizes has_failed i before after) ≤ 1
-item_sizes-few has_failed (item.Event e) before after = event_sizes-few e before after
-item_sizes-few has_failed item.End before after = one-few has_failed (before - after)
-item_sizes-few has_failed (item.Fail c) before after = one-few has_failed (before - after)
-item_sizes-few has_failed (item.Flag v) before after = omega arith
+pub item_sizes-few : (has_failed : Bool) (i : Item) (answer : Took) (before after : ℕ) → length (item_sizes has_failed i answer before after) ≤ 1
+item_sizes-few has_failed (item.Event e) answer before after = event-few has_failed (is_ran answer) e before after
+item_sizes-few has_failed item.End answer before after = one-few has_failed (before - after)
+item_sizes-few has_failed (item.Fail c) answer before after = one-few has_failed (before - after)
+item_sizes-few has_failed (item.Flag v) answer before after = omega arith
 
 pub step_sizes-few : (s : OutStep) (before after : ℕ) → length (step_sizes s before after) ≤ 1
 step_sizes-few (step.Wrote n) before after = one-few (nat_eq n 0) (before - after)

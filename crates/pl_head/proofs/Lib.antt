@@ -4,12 +4,15 @@ pub mod ReadSteps
 pub mod Feeding
 pub mod FlagSteps
 pub mod Buffering
+pub mod Accounts
 pub mod Flushing
 pub mod Offering
 pub mod HeadSteps
 pub mod Taking
 pub mod WaitingSizes
 pub mod BufferSteps
+pub mod Failing
+pub mod HeadAfter
 pub mod Accepting
 pub mod ReadAnswers
 pub mod Appending

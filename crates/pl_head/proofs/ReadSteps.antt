@@ -1,10 +1,10 @@
 -- A read step: what it brings, and what is left behind it.
-use Rattle.std.proofs.Common.{◌≡◌, ℕ, zero, suc, ◌+◌, ◌-◌, ◌<◌, ◌≤◌, Bool, true, false, List, [], ◌∷◌, ◌++◌, length, map, take, drop, get_or, refl, sym, ap, ap₂, subst, ◌∙◌, arith, append-nil, length-append}
+use Rattle.std.proofs.Common.{◌≡◌, ℕ, zero, suc, ◌+◌, ◌-◌, ◌<◌, ◌≤◌, Bool, true, false, List, [], ◌∷◌, ◌++◌, length, map, take, drop, get_or, refl, sym, ap, ap₂, subst, ◌∙◌, arith, append-nil, length-append, add-zero, not, Option, Some, None}
 use Rattle.std.specs.Prelude.{◌&&◌, if◌then◌else◌, nat_le, nat_lt}
 use Rattle.std.specs.List.{flat_map}
-use Rattle.std.proofs.lemmas.List.{length-map, take_more, nil_from_length, length-drop}
+use Rattle.std.proofs.lemmas.List.{length-map, take_more, take-append-drop, nil_from_length, length-drop}
 use Rattle.std.proofs.lemmas.List.Concat.{flat_map-cons}
-use Rattle.std.proofs.lemmas.Bool.{lt-leb, le-leb, lt-ltb, le-ltb, ltb-true}
+use Rattle.std.proofs.lemmas.Bool.{lt-leb, le-leb, lt-ltb, le-ltb, ltb-true, leb-false}
 use Rattle.std.proofs.lemmas.Grind.{flat_map-append}
 use Rattle.pl_event.specs.declared.events.Event.{Event}
 use Rattle.pl_event.specs.declared.events.Event.TheVariants as event
@@ -15,8 +15,9 @@ use Rattle.pl_event.specs.Inputs.{burst_events, read_steps, input_after}
 use Rattle.pl_context.specs.declared.ports.Port.{Port}
 use Rattle.pl_context.specs.Ports.{as_items, all_go_on, port_after}
 use Rattle.pl_context.proofs.PortLemmas.{all_go_on-events}
-use Rattle.pl_head.specs.ReadSteps.{step_count, end_if, step_items, read_items, is_burst}
-use Rattle.pl_head.specs.InputStand.{InputView, next_items, left_after, burst_next, input_after_step, InputStands, items_left}
+use Rattle.pl_head.specs.declared.inputs.ReadPlan.{ReadPlan}
+use Rattle.pl_head.specs.ReadSteps.{step_count, end_if, step_items, read_items, is_burst, bursts_before, bursts_read, is_aborted, plan_steps, is_abort, has_step}
+use Rattle.pl_head.specs.InputStand.{InputView, next_items, left_after, burst_next, last_next, abort_next, input_after_step, failed_input, InputStands, items_left}
 
 -- ---- the steps of bursts
 
@@ -61,6 +62,16 @@ length-burst chunks =
 pub left-burst : (chunks : List (List ℕ)) (left : List (List (List ℕ))) → length (flat_map burst_events (chunks ∷ left)) ≡ length (burst_events chunks) + length (flat_map burst_events left)
 left-burst chunks left = ap (λ (es : List Event). length es) (flat_map-cons burst_events chunks left) ∙ length-append (burst_events chunks) (flat_map burst_events left)
 
+-- the bursts before an abort bring no more than all
+pub few_before : (count : Option ℕ) (bursts : List (List (List ℕ))) → length (flat_map burst_events (bursts_before count bursts)) ≤ length (flat_map burst_events bursts)
+few_before None bursts = omega arith
+few_before (Some count) bursts =
+    let first : List Event = flat_map burst_events (take count bursts) in
+    let rest : List Event = flat_map burst_events (drop count bursts) in
+    let split = ap (λ (bs : List (List (List ℕ))). length (flat_map burst_events bs)) (sym (take-append-drop count bursts)) in
+    let parts = ap (λ (es : List Event). length es) (flat_map-append burst_events (take count bursts) (drop count bursts)) in
+    omega (arith, split, parts, length-append first rest)
+
 -- ---- the next one
 
 -- what the next step is, by the count of steps and what is left
@@ -100,6 +111,7 @@ pub record NextStep (bursts : List (List (List ℕ))) (n : ℕ) (left : List (Li
   pub rest : left_after n left ≡ drop n bursts
   pub goes_on : all_go_on (next_items n left) ≡ nat_lt (n + 1) (step_count bursts)
   pub burst : burst_next n left ≡ is_burst bursts n
+  pub last : last_next n left ≡ nat_le (step_count bursts) (n + 1)
 
 no_end : (bursts : List (List (List ℕ))) (n : ℕ) (is : List Item) → n + 1 < step_count bursts → is ++ end_if (nat_le (step_count bursts) (n + 1)) ≡ is
 no_end bursts n is more = ap (λ (b : Bool). is ++ end_if b) (lt-leb (step_count bursts) (n + 1) more) ∙ append-nil is
@@ -112,6 +124,7 @@ next_step bursts zero left within is =
       rest = is;
       goes_on = sym (lt-ltb (0 + 1) (step_count bursts) more);
       burst = refl;
+      last = sym (lt-leb (step_count bursts) (0 + 1) more);
     }
 next_step bursts (suc j) (chunks ∷ left) within is =
     let place : suc j - 1 ≡ j = omega arith in
@@ -123,6 +136,7 @@ next_step bursts (suc j) (chunks ∷ left) within is =
       rest = drop-next j chunks left bursts here;
       goes_on = all_go_on-events (burst_events chunks) ∙ sym (lt-ltb (suc j + 1) (step_count bursts) more);
       burst = sym (ap₂ (λ (a b : Bool). a && b) (lt-ltb 0 (suc j) (omega arith)) (le-leb (suc j) (length bursts) (omega (arith, some))));
+      last = sym (lt-leb (step_count bursts) (suc j + 1) more);
     }
 next_step bursts (suc j) [] within is =
     let place : suc j - 1 ≡ j = omega arith in
@@ -139,6 +153,7 @@ next_step bursts (suc j) [] within is =
       rest = sym (nil_from_length (drop (suc j) bursts) (omega (arith, length-drop (suc j) bursts, last)));
       goes_on = sym (le-ltb (suc j + 1) (step_count bursts) past);
       burst = sym (ap₂ (λ (a b : Bool). a && b) (lt-ltb 0 (suc j) (omega arith)) (lt-leb (suc j) (length bursts) (omega (arith, last))));
+      last = sym (le-leb (step_count bursts) (suc j + 1) past);
     }
 
 -- ---- how many items
@@ -162,25 +177,71 @@ count_step bursts n within =
 
 -- ---- one step more was made
 
-module _ (bursts : List (List (List ℕ))) (reads : ℕ) (r : InputView) (s : InputStands bursts reads r) (open_ : r.port.is_open ≡ true) where
+open-not-failed : (p : ReadPlan) (n : ℕ) (failed : Bool) → has_step p n failed ≡ true → (failed ≡ false) × (nat_lt n (plan_steps p) ≡ true)
+open-not-failed p n false e = (refl, e)
+open-not-failed p n true e = cc e
+
+module _ (p : ReadPlan) (reads : ℕ) (failed : Bool) (r : InputView) (s : InputStands p reads failed r) (open_ : r.port.is_open ≡ true) where
+  abbrev bursts : List (List (List ℕ))
+  bursts = bursts_read p
+
+  goes : (failed ≡ false) × (nat_lt reads (plan_steps p) ≡ true)
+  goes = open-not-failed p reads failed (sym s.is_open ∙ open_)
+
   is_left : reads < step_count bursts
-  is_left = ltb-true reads (step_count bursts) (sym s.is_open ∙ open_)
+  is_left = ltb-true reads (step_count bursts) goes.1
 
   next : NextStep bursts reads r.left
   next = next_step bursts reads r.left is_left s.left
 
-  pub items_of_step : next_items r.steps r.left ≡ step_items bursts reads
+  made_is : r.port.made ≡ read_items bursts reads
+  made_is = s.made ∙ ap (λ (b : Bool). read_items bursts reads + (if b then 1 else 0)) goes.0 ∙ add-zero (read_items bursts reads)
+
+  pub items_of_step : next_items r.steps r.left ≡ step_items (bursts_read p) reads
   items_of_step = ap (λ (n : ℕ). next_items n r.left) s.steps ∙ next.items
 
-  pub stands_after : InputStands bursts (reads + 1) (input_after_step r)
-  stands_after =
+  -- the number of the next item
+  pub number_of_step : r.port.made ≡ read_items (bursts_read p) reads
+  number_of_step = made_is
+
+  pub burst_is : burst_next r.steps r.left ≡ is_burst (bursts_read p) reads
+  burst_is = ap (λ (n : ℕ). burst_next n r.left) s.steps ∙ next.burst
+
+  pub abort_is : abort_next r ≡ is_abort p reads
+  abort_is = ap₂ (λ (a b : Bool). a && b) s.aborts (ap (λ (n : ℕ). last_next n r.left) s.steps ∙ next.last)
+
+  -- a step that is not the abort
+  pub stands_after : abort_next r ≡ false → InputStands p (reads + 1) failed (input_after_step r)
+  stands_after other =
       let place : reads + 1 - 1 ≡ reads = omega arith in
       let more = ap (λ (is : List Item). length is) items_of_step in
       let count = count_step bursts reads is_left in
       record {
         steps = ap (λ (n : ℕ). n + 1) s.steps;
         within = omega (arith, is_left);
+        before_abort = λ aborts. before_last (sym abort_is ∙ other) aborts;
         left = ap (λ (n : ℕ). left_after n r.left) s.steps ∙ next.rest ∙ ap (λ (n : ℕ). drop n bursts) (sym place);
-        made = ap (λ (b : Bool). if b then r.port.made + length (next_items r.steps r.left) else r.port.made) open_ ∙ (omega (arith, s.made, more, count));
-        is_open = ap (λ (b : Bool). b && all_go_on (next_items r.steps r.left)) open_ ∙ ap (λ (n : ℕ). all_go_on (next_items n r.left)) s.steps ∙ next.goes_on;
+        aborts = s.aborts;
+        made =
+            ap (λ (b : Bool). if b then r.port.made + length (next_items r.steps r.left) else r.port.made) open_
+            ∙ (omega (arith, made_is, more, count))
+            ∙ sym (ap (λ (b : Bool). read_items bursts (reads + 1) + (if b then 1 else 0)) goes.0 ∙ add-zero (read_items bursts (reads + 1)));
+        is_open =
+            ap (λ (b : Bool). b && all_go_on (next_items r.steps r.left)) open_ ∙ ap (λ (n : ℕ). all_go_on (next_items n r.left)) s.steps ∙ next.goes_on
+            ∙ sym (ap (λ (b : Bool). not b && nat_lt (reads + 1) (plan_steps p)) goes.0);
       }
+    where
+      before_last : is_abort p reads ≡ false → is_aborted p ≡ true → reads + 1 < plan_steps p
+      before_last none aborts = leb-false (plan_steps p) (reads + 1) (sym (ap (λ (b : Bool). b && nat_le (plan_steps p) (reads + 1)) aborts) ∙ none)
+
+  -- a failure in its place
+  pub stands_failed : InputStands p reads true (failed_input r)
+  stands_failed = record {
+    steps = s.steps;
+    within = s.within;
+    before_abort = s.before_abort;
+    left = s.left;
+    aborts = s.aborts;
+    made = ap (λ (b : Bool). if b then r.port.made + 1 else r.port.made) open_ ∙ ap (λ (n : ℕ). n + 1) made_is;
+    is_open = refl;
+  }

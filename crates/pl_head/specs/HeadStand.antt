@@ -1,17 +1,21 @@
 -- What contracts see of a head, and the events and sizes after which it may stand.
-use Rattle.std.specs.Prelude.{◌≡◌, ◌⊎◌, ℕ, ◌+◌, ◌*◌, ◌-◌, ◌≤◌, ◌^◌, List, [], ◌∷◌, length, Bool, ◌||◌, ◌&&◌, not, is_some, nat_le, Option, Some, None, if◌then◌else◌, ◌==◌}
+use Rattle.std.specs.Prelude.{◌≡◌, ◌⊎◌, ℕ, ◌+◌, ◌*◌, ◌-◌, ◌≤◌, ◌^◌, List, [], ◌∷◌, ◌++◌, length, Bool, true, false, ◌||◌, ◌&&◌, not, is_some, nat_le, Option, Some, None, if◌then◌else◌, ◌==◌}
 use Rattle.pl_event.specs.declared.events.Event.{Event}
 use Rattle.pl_event.specs.declared.envelopes.Kind.TheVariants.{Data}
 use Rattle.pl_event.specs.declared.envelopes.Lane.{Lane}
 use Rattle.pl_event.specs.declared.envelopes.Item.{Item}
 use Rattle.pl_event.specs.declared.envelopes.Item.TheVariants as item
 use Rattle.pl_event.specs.declared.outcomes.Cause.{Cause}
-use Rattle.pl_event.specs.declared.outcomes.Cause.TheVariants.{Memory, Transport}
+use Rattle.pl_event.specs.declared.outcomes.Cause.TheVariants.{Memory, Transport, Aborted}
+use Rattle.pl_event.specs.declared.outcomes.Outcome.{Outcome}
 use Rattle.pl_context.specs.declared.standing.Standing.{Standing}
 use Rattle.pl_context.specs.declared.standing.Standing.TheVariants as stands
 use Rattle.pl_context.specs.declared.standing.Took.{Took}
 use Rattle.pl_context.specs.declared.standing.Took.TheVariants as took
 use Rattle.pl_context.specs.Standings.{is_over, cause_of}
+use Rattle.pl_context.specs.OutputsViews.{OutputsView, PutsAll}
+use Rattle.pl_context.specs.Ports.{offered}
+use Rattle.pl_head.specs.declared.inputs.ReadPlan.{ReadPlan}
 use Rattle.pl_head.specs.declared.heads.OutStep.{OutStep}
 use Rattle.pl_head.specs.declared.heads.OutStep.TheVariants as step
 use Rattle.pl_head.specs.declared.heads.ReadStep.{ReadStep}
@@ -20,9 +24,12 @@ use Rattle.pl_head.specs.Writes.{out, waiting_bytes}
 use Rattle.pl_head.specs.Marks.{Change, Removed}
 use Rattle.pl_head.specs.FlagLanes.{flags_lane}
 use Rattle.pl_head.specs.Transports.{TransportState}
-use Rattle.pl_head.specs.Buffers.{WriteBufferView, BufferStands, event_sizes}
-use Rattle.pl_head.specs.ReadSteps.{entrance, is_burst}
-use Rattle.pl_head.specs.InputStand.{InputView, InputStands}
+use Rattle.pl_head.specs.WritabilityStand.{SendsFlags}
+use Rattle.pl_head.specs.Failures.{failure_outcome, AreOutcomes}
+use Rattle.pl_head.specs.Settling.{AreSettled}
+use Rattle.pl_head.specs.Buffers.{WriteBufferView, BufferStands, BufferFailed, event_sizes}
+use Rattle.pl_head.specs.ReadSteps.{entrance, is_burst, bursts_read}
+use Rattle.pl_head.specs.InputStand.{InputView, InputStands, failed_input}
 
 -- The end of a channel at its transport: how many items of its lane it has taken, how that lane ended, why the head
 -- failed by itself, what waits to be written, and what is left to read.
@@ -36,26 +43,37 @@ pub record HeadView (T : Type 0) : Type 0 where
   pub buffer : WriteBufferView
   pub input : InputView
 
-module _ {T : Type 0} (state : T → TransportState) where
-  -- The head may stand after it took these events, and after these sizes were added and removed.
-  abbrev pub StandsAfter : HeadView T → List Event → List Change → Type 0
-  StandsAfter h ys sizes = BufferStands (state h.transport).accepted h.buffer ys (is_over h.standing) sizes
+-- the buffer of a head that has failed by itself for this cause, or not
+abbrev pub BufferAfter : Option Cause → List ℕ → WriteBufferView → List Event → List Event → Bool → List Change → Type 0
+BufferAfter None accepted b ys zs ended sizes = (zs ≡ []) × BufferStands accepted b ys ended sizes
+BufferAfter (Some cause) accepted b ys zs ended sizes = BufferFailed (failure_outcome cause) accepted b ys zs ended sizes
 
-  -- how many bytes wait, once it has taken these events
+module _ {T : Type 0} (state : T → TransportState) where
+  -- The head may stand after it took the events ys, then failed by itself and took the events zs, and after these sizes
+  -- were added and removed. The event that found no room is the first of zs, and there are none while the head has not
+  -- failed by itself. So ys and then zs are the events that it took while its lane was open.
+  abbrev pub StandsAfter : HeadView T → List Event → List Event → List Change → Type 0
+  StandsAfter h ys zs sizes = BufferAfter h.failure (state h.transport).accepted h.buffer ys zs (is_over h.standing) sizes
+
+  -- how many bytes wait, once it has taken these events: none after a failure of its own
   abbrev pub waiting_at : HeadView T → List Event → ℕ
-  waiting_at h ys = waiting_bytes ys (length (state h.transport).accepted) (is_over h.standing)
+  waiting_at h ys = if is_some h.failure then 0 else waiting_bytes ys (length (state h.transport).accepted) (is_over h.standing)
+
+  -- the outcomes of its writes, after these events
+  abbrev pub HasOutcomes : HeadView T → List Event → List Event → List (Option Outcome) → Type 0
+  HasOutcomes h ys zs os = AreOutcomes h.failure h.buffer.is_full ys zs (length (state h.transport).accepted) (is_over h.standing) os
 
   -- a write would be idle: no flushed byte waits, or the head has failed
   abbrev pub is_idle : HeadView T → List Event → Bool
   is_idle h ys = is_some h.failure || nat_le (length (out ys)) (length (state h.transport).accepted)
 
   -- The next read step is held: it is a burst, the channel is not writable, and a write would not be idle.
-  abbrev pub is_held : List (List (List ℕ)) → ℕ → HeadView T → List Event → Bool
-  is_held bursts reads h ys = is_burst bursts reads && h.buffer.is_unwritable && not (is_idle h ys)
+  abbrev pub is_held : ReadPlan → ℕ → HeadView T → List Event → Bool
+  is_held p reads h ys = is_burst (bursts_read p) reads && h.buffer.is_unwritable && not (is_idle h ys)
 
--- this many read steps of these bursts were made
-abbrev pub ReadsStand : {T : Type 0} → List (List (List ℕ)) → ℕ → HeadView T → Type 0
-ReadsStand bursts reads h = InputStands bursts reads h.input
+-- this many read steps were made, and a failure has closed their lane or not
+abbrev pub ReadsStand : {T : Type 0} → ReadPlan → ℕ → Bool → HeadView T → Type 0
+ReadsStand p reads failed h = InputStands p reads failed h.input
 
 -- what a read step answers, where one is left or not, and held or not
 abbrev pub read_answer : Bool → Bool → ReadStep
@@ -65,20 +83,35 @@ read_answer left held = if left then (if held then reads.Held else reads.Gave) e
 abbrev pub EntersHead : {T : Type 0} → HeadView T → Lane → Type 0
 EntersHead h lane = lane ≡ record { channel = h.channel; kind = Data; hop = h.hop }
 
--- the event that an item brings, if it brings one
-abbrev pub item_events : Item → List Event
-item_events (item.Event e) = e ∷ []
-item_events item.End = []
-item_events (item.Fail c) = []
-item_events (item.Flag v) = []
+-- an event ran in a head that had not failed
+abbrev pub is_ran : Took → Bool
+is_ran took.Ran = true
+is_ran took.Ended = false
+is_ran (took.Failed c) = false
+is_ran took.Dropped = false
 
--- the sizes that an item adds or removes, by the bytes that waited before it and after; where the head has failed by
--- itself, the end of its lane closes nothing
-abbrev pub item_sizes : Bool → Item → ℕ → ℕ → List Change
-item_sizes has_failed (item.Event e) before after = event_sizes e before after
-item_sizes has_failed item.End before after = if has_failed then [] else Removed (before - after) ∷ []
-item_sizes has_failed (item.Fail c) before after = if has_failed then [] else Removed (before - after) ∷ []
-item_sizes has_failed (item.Flag v) before after = []
+-- The event that an item brings, if it brings one, as one that was taken before a failure of the head's own, or from it
+-- on: one that did not run is the failure.
+abbrev pub events_before : Bool → Item → Took → List Event
+events_before has_failed (item.Event e) answer = if not has_failed && is_ran answer then e ∷ [] else []
+events_before has_failed item.End answer = []
+events_before has_failed (item.Fail c) answer = []
+events_before has_failed (item.Flag v) answer = []
+
+abbrev pub events_from : Bool → Item → Took → List Event
+events_from has_failed (item.Event e) answer = if not has_failed && is_ran answer then [] else e ∷ []
+events_from has_failed item.End answer = []
+events_from has_failed (item.Fail c) answer = []
+events_from has_failed (item.Flag v) answer = []
+
+-- the sizes that an item adds or removes, by the bytes that waited before it and after: none where the head has failed
+-- by itself, and all that waited where it fails by this item
+abbrev pub item_sizes : Bool → Item → Took → ℕ → ℕ → List Change
+item_sizes has_failed (item.Event e) answer before after =
+    if has_failed then [] else (if is_ran answer then event_sizes e before after else Removed before ∷ [])
+item_sizes has_failed item.End answer before after = if has_failed then [] else Removed (before - after) ∷ []
+item_sizes has_failed (item.Fail c) answer before after = if has_failed then [] else Removed (before - after) ∷ []
+item_sizes has_failed (item.Flag v) answer before after = []
 
 -- how the lane of an open head stands after an item: one that has failed by itself notes no end of it
 abbrev pub standing_after : Bool → Item → Standing
@@ -87,20 +120,13 @@ standing_after has_failed item.End = if has_failed then stands.Open else stands.
 standing_after has_failed (item.Fail c) = if has_failed then stands.Open else stands.Failed c
 standing_after has_failed (item.Flag v) = stands.Open
 
--- What an open head answers to an item: an event runs, or memory runs out for it. (A flag does not stand on its
--- lane, and nothing comes of it.)
-abbrev pub Answers : Item → Took → Type 0
-Answers (item.Event e) answer = (answer ≡ took.Ran) ⊎ (answer ≡ took.Failed Memory)
-Answers item.End answer = answer ≡ took.Ended
-Answers (item.Fail c) answer = answer ≡ took.Failed c
-Answers (item.Flag v) answer = answer ≡ took.Ran
-
--- the head found a place for what the item brought
-abbrev pub IsPlaced : Item → Took → Type 0
-IsPlaced (item.Event e) answer = answer ≡ took.Ran
-IsPlaced item.End answer = Unit {0}
-IsPlaced (item.Fail c) answer = Unit {0}
-IsPlaced (item.Flag v) answer = Unit {0}
+-- What an open head answers to an item: an event runs, or memory runs out for it where the head has not failed before. (A
+-- flag does not stand on its lane, and nothing comes of it.)
+abbrev pub Answers : Bool → Item → Took → Type 0
+Answers has_failed (item.Event e) answer = (answer ≡ took.Ran) ⊎ ((answer ≡ took.Failed Memory) × (has_failed ≡ false))
+Answers has_failed item.End answer = answer ≡ took.Ended
+Answers has_failed (item.Fail c) answer = answer ≡ took.Failed c
+Answers has_failed (item.Flag v) answer = answer ≡ took.Ran
 
 -- the first cause stays
 abbrev pub first_cause : Option Cause → Option Cause → Option Cause
@@ -123,11 +149,11 @@ cause_of_step (step.Wrote n) = None
 cause_of_step step.Idle = None
 cause_of_step step.Failed = Some Transport
 
--- the sizes that a write to the transport removes, by the bytes that waited before it and after
+-- the sizes that a write to the transport removes, by the bytes that waited before it and after: all where it fails
 abbrev pub step_sizes : OutStep → ℕ → ℕ → List Change
 step_sizes (step.Wrote n) before after = if n == 0 then [] else Removed (before - after) ∷ []
 step_sizes step.Idle before after = []
-step_sizes step.Failed before after = []
+step_sizes step.Failed before after = Removed before ∷ []
 
 -- why it has failed: by itself, or else by the failure that it took
 abbrev pub head_cause : {T : Type 0} → HeadView T → Option Cause
@@ -137,10 +163,23 @@ head_cause h = first_cause h.failure (cause_of h.standing)
 abbrev pub HasFewFlags : {T : Type 0} → HeadView T → Type 0
 HasFewFlags h = h.buffer.flags.made + (if h.buffer.is_unwritable then 1 else 0) ≤ 2 * h.taken
 
+-- a head that has not failed is aborted: it fails, which sends a flag where one is due, and then gives the failure to the
+-- lane of its reads, where that is open
+pub record Aborts {T : Type 0} (state : T → TransportState) (h : HeadView T) (before : OutputsView) (h' : HeadView T) (after : OutputsView) : Type 0 where
+  pub between : OutputsView
+  pub stands : (ys zs : List Event) (sizes : List Change) → StandsAfter state h ys zs sizes → StandsAfter state h' ys zs (sizes ++ Removed (waiting_at state h ys) ∷ [])
+  pub flags : (ys zs : List Event) (sizes : List Change) → StandsAfter state h ys zs sizes
+      → SendsFlags h.buffer.low h.buffer.high sizes (Removed (waiting_at state h ys) ∷ []) h.buffer.flags before h'.buffer.flags between
+  pub puts : PutsAll between (offered h.input.port (item.Fail Aborted ∷ [])) after
+  pub same : h' ≡ record h { failure = Some Aborted; buffer = h'.buffer; input = failed_input h.input }
+
 -- what is true of every head
-pub record IsHead (channel taken : ℕ) (b : WriteBufferView) (input : InputView) : Type 0 where
+pub record IsHead (channel taken : ℕ) (failure : Option Cause) (b : WriteBufferView) (input : InputView) : Type 0 where
   pub lane : b.flags.lane ≡ flags_lane channel
   pub entrance_is : input.port.lane ≡ entrance channel
   pub pending : b.pending ≤ taken * 2 ^ 64
   pub few : taken ≤ 2 ^ 31
   pub few_flags : b.flags.made + (if b.is_unwritable then 1 else 0) ≤ 2 * taken
+  pub numbering : failure ≡ None → b.is_full ≡ false
+  pub settled : AreSettled b.settled b.outcomes
+  pub told : b.told ≤ length b.settled

@@ -1,5 +1,5 @@
 -- What contracts see of a recorded input that is read step by step, and how many of its read steps were made.
-use Rattle.std.specs.Prelude.{◌≡◌, ℕ, zero, suc, ◌+◌, ◌-◌, ◌<◌, ◌≤◌, ◌^◌, List, [], ◌∷◌, length, drop, Bool, true, false, nat_lt}
+use Rattle.std.specs.Prelude.{◌≡◌, ℕ, zero, suc, ◌+◌, ◌-◌, ◌<◌, ◌≤◌, ◌^◌, List, [], ◌∷◌, length, drop, Bool, true, false, ◌&&◌, if◌then◌else◌}
 use Rattle.std.specs.List.{flat_map}
 use Rattle.pl_event.specs.declared.events.Event.TheVariants as event
 use Rattle.pl_event.specs.declared.envelopes.Item.{Item}
@@ -7,18 +7,21 @@ use Rattle.pl_event.specs.declared.envelopes.Item.TheVariants as item
 use Rattle.pl_event.specs.Inputs.{burst_events}
 use Rattle.pl_context.specs.declared.ports.Port.{Port}
 use Rattle.pl_context.specs.Ports.{as_items, port_after}
-use Rattle.pl_head.specs.ReadSteps.{entrance, step_count, read_items}
+use Rattle.pl_head.specs.declared.inputs.ReadPlan.{ReadPlan}
+use Rattle.pl_head.specs.ReadSteps.{entrance, read_items, bursts_read, is_aborted, plan_steps, has_step}
 
--- The lane that the items are given to, closed once the end was; the bursts that are left; how many steps were made.
+-- The lane that the items are given to, closed once the end or a failure was; the bursts that are left; how many steps
+-- were made; and whether an abort comes after the bursts, in the place of the end.
 pub record InputView : Type 0 where
   pub port : Port
   pub left : List (List (List ℕ))
   pub steps : ℕ
+  pub aborts : Bool
 
--- no step of these bursts was made
-abbrev pub new_input : ℕ → List (List (List ℕ)) → InputView
-new_input channel bursts =
-    record { port = record { lane = entrance channel; made = 0; is_open = true }; left = bursts; steps = 0 }
+-- no step was made
+abbrev pub new_input : ℕ → ReadPlan → InputView
+new_input channel p =
+    record { port = record { lane = entrance channel; made = 0; is_open = true }; left = bursts_read p; steps = 0; aborts = is_aborted p }
 
 -- what the next step brings, by the count of steps made and the bursts that are left
 abbrev pub next_items : ℕ → List (List (List ℕ)) → List Item
@@ -37,21 +40,39 @@ burst_next zero left = false
 burst_next (suc n) [] = false
 burst_next (suc n) (chunks ∷ left) = true
 
+-- no step is left but the end or the abort
+abbrev pub last_next : ℕ → List (List (List ℕ)) → Bool
+last_next zero left = false
+last_next (suc n) [] = true
+last_next (suc n) (chunks ∷ left) = false
+
+-- the next step is the abort
+abbrev pub abort_next : InputView → Bool
+abort_next r = r.aborts && last_next r.steps r.left
+
 -- one step more was made
 abbrev pub input_after_step : InputView → InputView
 input_after_step r = record {
   port = port_after (next_items r.steps r.left) r.port;
   left = left_after r.steps r.left;
   steps = r.steps + 1;
+  aborts = r.aborts;
 }
 
--- So many read steps of these bursts were made, and given to the lane.
-pub record InputStands (bursts : List (List (List ℕ))) (reads : ℕ) (r : InputView) : Type 0 where
+-- a failure has closed the lane, if it was open
+abbrev pub failed_input : InputView → InputView
+failed_input r = record r { port = record r.port { made = if r.port.is_open then r.port.made + 1 else r.port.made; is_open = false } }
+
+-- So many read steps were made, and given to the lane, or then a failure, which has closed it. The abort is a failure,
+-- and is not counted.
+pub record InputStands (p : ReadPlan) (reads : ℕ) (failed : Bool) (r : InputView) : Type 0 where
   pub steps : r.steps ≡ reads
-  pub within : reads ≤ step_count bursts
-  pub left : r.left ≡ drop (reads - 1) bursts
-  pub made : r.port.made ≡ read_items bursts reads
-  pub is_open : r.port.is_open ≡ nat_lt reads (step_count bursts)
+  pub within : reads ≤ plan_steps p
+  pub before_abort : is_aborted p ≡ true → reads < plan_steps p
+  pub left : r.left ≡ drop (reads - 1) (bursts_read p)
+  pub aborts : r.aborts ≡ is_aborted p
+  pub made : r.port.made ≡ read_items (bursts_read p) reads + (if failed then 1 else 0)
+  pub is_open : r.port.is_open ≡ has_step p reads failed
 
 -- how many items are still to come, while the lane is open
 abbrev pub items_left : ℕ → List (List (List ℕ)) → ℕ

@@ -1,4 +1,6 @@
 pub mod Writes
+pub mod Failures
+pub mod Settling
 pub mod Effects
 pub mod WaitingMessages
 pub mod OutboundStand

@@ -1,12 +1,14 @@
 -- The items that the read steps of a channel bring to its first lane: the events of each step, and after all of them
--- the end.
-use Rattle.std.specs.Prelude.{ℕ, ◌+◌, List, [], ◌∷◌, ◌++◌, length, Bool, ◌&&◌, if◌then◌else◌, nat_le, nat_lt, slice_index_or}
+-- the end. Where the channel is aborted, the abort is the last step, in the place of the end, and fewer bursts may come.
+use Rattle.std.specs.Prelude.{ℕ, ◌+◌, List, [], ◌∷◌, ◌++◌, length, take, Bool, ◌&&◌, ◌||◌, not, is_some, if◌then◌else◌, nat_le, nat_lt, slice_index_or, Option, Some, None}
 use Rattle.pl_event.specs.declared.envelopes.Kind.TheVariants.{Data}
 use Rattle.pl_event.specs.declared.envelopes.Lane.{Lane}
 use Rattle.pl_event.specs.declared.envelopes.Item.{Item}
 use Rattle.pl_event.specs.declared.envelopes.Item.TheVariants as item
+use Rattle.pl_event.specs.declared.outcomes.Cause.{Cause}
 use Rattle.pl_event.specs.Inputs.{read_steps, input_after}
 use Rattle.pl_context.specs.Ports.{as_items}
+use Rattle.pl_head.specs.declared.inputs.ReadPlan.{ReadPlan}
 
 -- the lane on which a channel's input comes in
 abbrev pub entrance : ℕ → Lane
@@ -30,3 +32,46 @@ read_items bursts n = length (input_after n bursts) + (if nat_le (step_count bur
 -- read step n is a burst
 abbrev pub is_burst : List (List (List ℕ)) → ℕ → Bool
 is_burst bursts n = nat_lt 0 n && nat_le n (length bursts)
+
+-- ---- with an abort
+
+-- all of these bursts, or as many as come before an abort
+abbrev pub bursts_before : Option ℕ → List (List (List ℕ)) → List (List (List ℕ))
+bursts_before None bursts = bursts
+bursts_before (Some count) bursts = take count bursts
+
+-- the bursts that are read
+abbrev pub bursts_read : ReadPlan → List (List (List ℕ))
+bursts_read p = bursts_before p.abort_after p.bursts
+
+abbrev pub is_aborted : ReadPlan → Bool
+is_aborted p = is_some p.abort_after
+
+-- how many read steps there are, the abort among them
+abbrev pub plan_steps : ReadPlan → ℕ
+plan_steps p = step_count (bursts_read p)
+
+-- read step n is the abort
+abbrev pub is_abort : ReadPlan → ℕ → Bool
+is_abort p n = is_aborted p && nat_le (plan_steps p) (n + 1)
+
+-- a read step is left, when n were made: the lane is open, and no failure has closed it
+abbrev pub has_step : ReadPlan → ℕ → Bool → Bool
+has_step p n failed = not failed && nat_lt n (plan_steps p)
+
+-- Once a head has failed by itself, its next read step brings the failure.
+abbrev pub brings_failure : ReadPlan → ℕ → Option Cause → Bool
+brings_failure p n failure = is_some failure || is_abort p n
+
+-- the next read step aborts the head
+abbrev pub brings_abort : ReadPlan → ℕ → Option Cause → Bool
+brings_abort p n failure = not (is_some failure) && is_abort p n
+
+-- the items of a read step that does not abort the head
+abbrev pub next_step_items : ReadPlan → ℕ → Option Cause → List Item
+next_step_items p n None = step_items (bursts_read p) n
+next_step_items p n (Some cause) = item.Fail cause ∷ []
+
+-- how many read steps were made after it: one that brings a failure is not counted
+abbrev pub steps_after : ReadPlan → ℕ → Option Cause → ℕ
+steps_after p n failure = if brings_failure p n failure then n else n + 1

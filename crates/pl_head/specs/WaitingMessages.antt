@@ -1,7 +1,7 @@
 -- Messages that wait in a buffer.
 use Rattle.std.specs.Prelude.{slice_set, ◌≡◌, ℕ, ◌+◌, ◌≤◌, List, [], ◌∷◌, ◌++◌, length, drop, map, Bool, Option, Some, None, sum_by, if◌then◌else◌}
 use Rattle.pl_event.specs.declared.outcomes.Outcome.{Outcome}
-use Rattle.pl_event.specs.declared.outcomes.Outcome.TheVariants.{Success, Closed, Unsupported}
+use Rattle.pl_event.specs.declared.outcomes.Outcome.TheVariants.{Success, Unsupported}
 use Rattle.pl_head.specs.Writes.{bytes_of, waiting, unflushed_outcome}
 use Rattle.pl_head.specs.declared.outbound.Waiting.{Waiting}
 
@@ -38,7 +38,11 @@ pub record MessagesStand (queue : List Waiting) (offset count : ℕ) (outcomes :
   pub rest : drop offset (bytes_of mid) ≡ left
   pub fits : offset ≤ length (bytes_of mid)
 
--- the outcomes once these messages are closed
-abbrev pub closed_all : List Waiting → List (Option Outcome) → List (Option Outcome)
-closed_all [] os = os
-closed_all (w ∷ ws) os = closed_all ws (slice_set os w.number (Some Closed))
+-- the numbers of their writes
+abbrev pub numbers_of : List Waiting → List ℕ
+numbers_of ws = map (λ w. w.number) ws
+
+-- the outcomes once these messages are settled by this one
+abbrev pub settled_all : Outcome → List Waiting → List (Option Outcome) → List (Option Outcome)
+settled_all o [] os = os
+settled_all o (w ∷ ws) os = settled_all o ws (slice_set os w.number (Some o))

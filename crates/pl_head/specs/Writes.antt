@@ -31,6 +31,11 @@ abbrev pub has_flush : List Event → Bool
 has_flush [] = false
 has_flush (y ∷ ys) = is_flush y || has_flush ys
 
+-- all writes
+abbrev pub writes_by : List Event → List (Option (List ℕ))
+writes_by [] = []
+writes_by (y ∷ ys) = write_by y ++ writes_by ys
+
 -- the writes before the last flush, and those after it
 abbrev pub flushed_writes : List Event → List (Option (List ℕ))
 flushed_writes [] = []
@@ -62,12 +67,13 @@ abbrev pub waiting : Option (List ℕ) → Option Outcome
 waiting None = Some Unsupported
 waiting (Some b) = None
 
-abbrev pub closed : Option (List ℕ) → Option Outcome
-closed None = Some Unsupported
-closed (Some b) = Some Closed
+-- the outcome of a write that is settled by this one before it was sent: a message that is not bytes is unsupported
+abbrev pub late_outcome : Outcome → Option (List ℕ) → Option Outcome
+late_outcome o None = Some Unsupported
+late_outcome o (Some b) = Some o
 
 abbrev pub unflushed_outcome : Bool → Option (List ℕ) → Option Outcome
-unflushed_outcome ended w = if ended then closed w else waiting w
+unflushed_outcome ended w = if ended then late_outcome Closed w else waiting w
 
 -- Head outcome: that of each write of the events ys, after this many bytes were accepted, and whether the lane has ended.
 abbrev pub outcomes : List Event → ℕ → Bool → List (Option Outcome)

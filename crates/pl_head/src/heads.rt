@@ -1,7 +1,8 @@
 //! The end of a channel at its transport.
 
-ghost use Rattle.std.specs.Prelude.{◌≡◌, ℕ, ◌+◌, ◌≤◌, ◌<◌, ◌^◌, ◌↔◌, ◌≢◌, ◌∷◌, ◌++◌, ◌⊎◌, List, [], length, take, min, true, false, Option, Some, None, IsSome, IfOk, is_some, not, ◌||◌, nat_le, nat_lt};
+ghost use Rattle.std.specs.Prelude.{◌≡◌, ℕ, ◌+◌, ◌≤◌, ◌<◌, ◌^◌, ◌↔◌, ◌≢◌, ◌∷◌, ◌++◌, ◌⊎◌, List, [], length, take, min, Bool, true, false, Option, Some, None, IsSome, IfSome, IfNone, IfOk, is_some, not, ◌||◌, slice_index_or};
 ghost use Rattle.pl_event.specs.declared.events.Event.{Event};
+ghost use Rattle.pl_event.specs.declared.outcomes.Cause.TheVariants.{Aborted};
 ghost use Rattle.pl_event.specs.Inputs.{recorded_input};
 ghost use Rattle.pl_context.specs.declared.standing.Standing.TheVariants as stands;
 ghost use Rattle.pl_context.specs.declared.standing.Took.TheVariants as took;
@@ -9,15 +10,17 @@ ghost use Rattle.pl_context.specs.Standings.{is_over};
 ghost use Rattle.pl_context.specs.Stops.{HasPlaces};
 ghost use Rattle.pl_context.specs.OutputsViews.{PutsAll};
 ghost use Rattle.pl_context.specs.Ports.{numbered};
-ghost use Rattle.pl_head.specs.ReadSteps.{entrance, step_count, step_items, read_items};
-ghost use Rattle.pl_head.specs.Writes.{out, outcomes, offered, flushed_writes};
-ghost use Rattle.pl_head.specs.Marks.{Change, pending_after, added_by, removed_by, is_unwritable};
+ghost use Rattle.pl_head.specs.ReadSteps.{entrance, bursts_read, has_step, read_items, brings_failure, brings_abort, next_step_items, steps_after};
+ghost use Rattle.pl_head.specs.Writes.{out, offered, flushed_writes};
+ghost use Rattle.pl_head.specs.Failures.{failure_outcome};
+ghost use Rattle.pl_head.specs.Settling.{AreSettled};
+ghost use Rattle.pl_head.specs.Marks.{Change, Removed, pending_after, added_by, removed_by, is_unwritable};
 ghost use Rattle.pl_head.specs.FlagLanes.{flags_lane};
 ghost use Rattle.pl_head.specs.WritabilityStand.{SendsFlags};
-ghost use Rattle.pl_head.specs.Transports.{counted};
+ghost use Rattle.pl_head.specs.Transports.{counted, FailsNext};
 ghost use Rattle.pl_head.specs.HeadStand.{first_cause};
 
-use crate::inputs::Input;
+use crate::inputs::{Input, ReadPlan};
 use crate::transports::Transport;
 use crate::write_buffer::WriteBuffer;
 use pl_context::{Outputs, Standing, Took};
@@ -64,7 +67,7 @@ pub struct Head<T> {
     hop: u16,
     taken: u64,
     standing: Standing,
-    /// Why it failed by itself.
+    /// Why it failed by itself: nothing waits then, and nothing is written any more.
     failure: Option<Cause>,
     buffer: WriteBuffer,
     input: Input,
@@ -79,12 +82,12 @@ impl<T> Model for Head<T> {
 
     ghost view = { λ h. record { transport = h.transport; channel = h.channel; hop = h.hop; taken = h.taken; standing = h.standing; failure = h.failure; buffer = write_buffer_view h.buffer; input = h.input } };
 
-    ghost invariant = { λ h. IsHead h.channel h.taken (write_buffer_view h.buffer) h.input };
+    ghost invariant = { λ h. IsHead h.channel h.taken h.failure (write_buffer_view h.buffer) h.input };
 }
 
 impl<T: Transport> Head<T> {
-    ghost use Rattle.pl_head.specs.Buffers.{SameMarks, SameButRoom, LacksRoom};
-    ghost use Rattle.pl_head.specs.HeadStand.{StandsAfter, ReadsStand, waiting_at, is_idle, is_held, read_answer, EntersHead, Answers, IsPlaced, item_events, item_sizes, step_sizes, standing_after, cause_of_item, cause_of_step, head_cause, HasFewFlags};
+    ghost use Rattle.pl_head.specs.Buffers.{SameMarks, SettlesMore, StopsNumbers, LacksRoom, untold};
+    ghost use Rattle.pl_head.specs.HeadStand.{StandsAfter, HasOutcomes, ReadsStand, Aborts, waiting_at, is_idle, is_held, read_answer, EntersHead, Answers, events_before, events_from, item_sizes, step_sizes, standing_after, cause_of_item, cause_of_step, head_cause, HasFewFlags};
 
     /// A head that has taken nothing, of a transport that has accepted nothing, with the bursts that it is to read: with
     /// the end they bring fewer than 2^31 items. `hop` is the head's own hop. It takes no memory.
@@ -92,16 +95,17 @@ impl<T: Transport> Head<T> {
         alloc: Global,
         channel: u16,
         hop: u16,
-        input: Sequence<Sequence<ByteString>>,
+        input: ReadPlan,
         transport: T,
         low: u32,
         high: u32,
     ) -> Self
         requires marks { low ≤ high }
         requires fresh { (T.state transport).accepted ≡ [] }
-        requires few { length (recorded_input input) + 1 < 2 ^ 31 }
-        ensures stands { StandsAfter T.state result [] [] }
-        ensures reads { ReadsStand input 0 result }
+        requires few { length (recorded_input input.bursts) + 1 < 2 ^ 31 }
+        ensures stands { StandsAfter T.state result [] [] [] }
+        ensures reads { ReadsStand input 0 false result }
+        ensures entrance { result.input.port.lane ≡ entrance channel }
         ensures transport { result.transport ≡ transport }
         ensures place { (result.channel ≡ channel) × (result.hop ≡ hop) }
         ensures marks { (result.buffer.low ≡ low) × (result.buffer.high ≡ high) }
@@ -109,6 +113,7 @@ impl<T: Transport> Head<T> {
         ensures taken { result.taken ≡ 0 }
         ensures standing { result.standing ≡ stands.Open }
         ensures failure { result.failure ≡ None }
+        ensures told { (result.buffer.settled ≡ []) × (result.buffer.told ≡ 0) }
         ensures few { HasFewFlags result }
     {
         Head {
@@ -124,41 +129,69 @@ impl<T: Transport> Head<T> {
     }
 
     /// Makes the next read step: the channel becomes active; then each burst comes, chunk by chunk, with its
-    /// completion; then the end. Its items are put on the data lane of the first hop. A burst is held, and nothing is
-    /// put, while the channel is not writable and a flushed byte waits to be written; a head that has failed holds
-    /// none.
+    /// completion; then the end, or the abort. Its items are put on the data lane of the first hop. A burst is held, and
+    /// nothing is put, while the channel is not writable and a flushed byte waits to be written. Once the head has failed
+    /// by itself one read step is left where that lane is open: it gives the failure, and closes the lane.
     pub fn next_read(&mut self, outputs: &mut Outputs) -> ReadStep
         requires places { HasPlaces outputs.old.stopped (entrance self.old.channel ∷ []) }
 
         // Which of the three, whichever steps were made, and whichever events were taken.
-        ensures done { (bursts : List (List (List ℕ))) (reads : ℕ) → ReadsStand bursts reads self.old → (result ≡ ReadStep.Done) ↔ (nat_le (step_count bursts) reads ≡ true) }
-        ensures answer { (bursts : List (List (List ℕ))) (reads : ℕ) (ys : List Event) (sizes : List Change) → ReadsStand bursts reads self.old → StandsAfter T.state self.old ys sizes
-            → result ≡ read_answer (nat_lt reads (step_count bursts)) (is_held T.state bursts reads self.old ys) }
-        ensures failed { IsSome self.old.failure → result ≢ ReadStep.Held }
+        ensures done { (p : ReadPlan) (reads : ℕ) (failed : Bool) → ReadsStand p reads failed self.old → (result ≡ ReadStep.Done) ↔ (has_step p reads failed ≡ false) }
+        ensures answer { (p : ReadPlan) (reads : ℕ) (failed : Bool) (ys zs : List Event) (sizes : List Change) → ReadsStand p reads failed self.old → StandsAfter T.state self.old ys zs sizes
+            → result ≡ read_answer (has_step p reads failed) (is_held T.state p reads self.old ys) }
+        ensures never_held { IsSome self.old.failure → result ≢ ReadStep.Held }
+        ensures open { (result ≡ ReadStep.Done) ↔ (self.old.input.port.is_open ≡ false) }
 
         // What it gives.
         ensures idle { result ≢ ReadStep.Gave → (self.new ≡ self.old) × (outputs.new ≡ outputs.old) }
-        ensures reads { result ≡ ReadStep.Gave → (bursts : List (List (List ℕ))) (reads : ℕ) → ReadsStand bursts reads self.old → ReadsStand bursts (reads + 1) self.new }
-        ensures puts { result ≡ ReadStep.Gave → (bursts : List (List (List ℕ))) (reads : ℕ) → ReadsStand bursts reads self.old
-            → PutsAll outputs.old (numbered (entrance self.old.channel) (read_items bursts reads) (step_items bursts reads)) outputs.new }
-        ensures same { self.new ≡ record self.old { input = self.new.input } }
+        ensures reads { result ≡ ReadStep.Gave → (p : ReadPlan) (reads : ℕ) (failed : Bool) → ReadsStand p reads failed self.old
+            → ReadsStand p (steps_after p reads self.old.failure) (brings_failure p reads self.old.failure) self.new }
+        ensures puts { result ≡ ReadStep.Gave → (p : ReadPlan) (reads : ℕ) (failed : Bool) → ReadsStand p reads failed self.old → brings_abort p reads self.old.failure ≡ false
+            → PutsAll outputs.old (numbered (entrance self.old.channel) (read_items (bursts_read p) reads) (next_step_items p reads self.old.failure)) outputs.new }
+        ensures same { result ≡ ReadStep.Gave → (p : ReadPlan) (reads : ℕ) (failed : Bool) → ReadsStand p reads failed self.old → brings_abort p reads self.old.failure ≡ false
+            → self.new ≡ record self.old { input = self.new.input } }
+
+        ensures entrance { self.new.input.port.lane ≡ self.old.input.port.lane }
+
+        // The abort step does what `abort` does.
+        ensures aborts { result ≡ ReadStep.Gave → (p : ReadPlan) (reads : ℕ) (failed : Bool) → ReadsStand p reads failed self.old → brings_abort p reads self.old.failure ≡ true
+            → Aborts T.state self.old outputs.old self.new outputs.new }
+        ensures numbering { self.new.buffer.is_full ≡ self.old.buffer.is_full }
+        ensures marks { SameMarks self.old.buffer self.new.buffer }
+        ensures settles { SettlesMore self.old.buffer self.new.buffer }
         ensures few { HasFewFlags self.new }
     {
-        if self.input.is_done() {
+        if !self.input.has_step() {
             return ReadStep::Done;
+        }
+        if let Some(cause) = self.failure {
+            self.input.fail(cause, outputs);
+            return ReadStep::Gave;
         }
         if self.is_held() {
             return ReadStep::Held;
+        }
+        if self.input.is_abort_next() {
+            self.abort(outputs);
+            return ReadStep::Gave;
         }
         self.input.put_step(outputs);
         ReadStep::Gave
     }
 
+    /// Whether a read step is left.
+    pub fn has_read_step(&self) -> bool
+        ensures open { result ≡ self.now.input.port.is_open }
+        ensures reads { (p : ReadPlan) (reads : ℕ) (failed : Bool) → ReadsStand p reads failed self.now → result ≡ has_step p reads failed }
+    {
+        self.input.has_step()
+    }
+
     /// Whether the next read step is a burst that is held.
     fn is_held(&self) -> bool
-        ensures held { (bursts : List (List (List ℕ))) (reads : ℕ) (ys : List Event) (sizes : List Change) → ReadsStand bursts reads self.now → StandsAfter T.state self.now ys sizes
-            → result ≡ is_held T.state bursts reads self.now ys }
-        ensures failed { IsSome self.now.failure → result ≡ false }
+        requires left { self.now.input.port.is_open ≡ true }
+        ensures held { (p : ReadPlan) (reads : ℕ) (failed : Bool) (ys zs : List Event) (sizes : List Change) → ReadsStand p reads failed self.now → StandsAfter T.state self.now ys zs sizes
+            → result ≡ is_held T.state p reads self.now ys }
     {
         if !self.input.is_burst_next() {
             return false;
@@ -166,46 +199,60 @@ impl<T: Transport> Head<T> {
         if self.buffer.is_writable() {
             return false;
         }
-        !self.is_idle()
+        !self.is_written()
     }
 
-    /// Whether a write would be idle.
-    fn is_idle(&self) -> bool
-        ensures idle { (ys : List Event) (sizes : List Change) → StandsAfter T.state self.now ys sizes → result ≡ is_idle T.state self.now ys }
-        ensures failed { IsSome self.now.failure → result ≡ true }
+    /// Aborts the channel: a head that has not failed by itself fails, and what waits is closed. The failure is put on
+    /// the data lane of the first hop, where that is open, and closes it. A head that has failed is unchanged.
+    pub fn abort(&mut self, outputs: &mut Outputs)
+        requires places { HasPlaces outputs.old.stopped (entrance self.old.channel ∷ []) }
+        ensures aborts { self.old.failure ≡ None → Aborts T.state self.old outputs.old self.new outputs.new }
+        ensures reads { self.old.failure ≡ None → (p : ReadPlan) (reads : ℕ) (failed : Bool) → ReadsStand p reads failed self.old
+            → ReadsStand p reads (self.old.input.port.is_open || failed) self.new }
+        ensures failed { IsSome self.old.failure → (self.new ≡ self.old) × (outputs.new ≡ outputs.old) }
+        ensures failure { self.new.failure ≡ first_cause self.old.failure (Some Aborted) }
+        ensures numbering { self.new.buffer.is_full ≡ self.old.buffer.is_full }
+        ensures marks { SameMarks self.old.buffer self.new.buffer }
+        ensures settles { SettlesMore self.old.buffer self.new.buffer }
+        ensures few { HasFewFlags self.new }
     {
         if self.failure.is_some() {
-            return true;
+            return;
         }
-        self.is_written()
+        self.buffer.fail(Outcome::Closed, outputs);
+        self.failure = Some(Cause::Aborted);
+        self.input.fail(Cause::Aborted, outputs);
     }
 
-    /// Takes the next item of its lane. It answers `Ran` for an event, `Failed(Memory)` where it finds no memory for
-    /// one, `Ended` for an end, and `Failed` for a failure. An end or a failure closes the writes that are not flushed,
-    /// unless the head has failed by itself before. After `Failed(Memory)` the head has failed: it writes nothing more,
-    /// and its outcomes stay as they are. What comes after an end or a failure is counted, and nothing else comes of it.
+    /// Takes the next item of its lane. It answers `Ran` for an event, `Failed(Memory)` for a write for which it finds no
+    /// memory, `Ended` for an end, and `Failed` for a failure. An end or a failure closes the writes that are not
+    /// flushed.
+    ///
+    /// After `Failed(Memory)` the head has failed by itself: all that waits is closed, and it writes nothing more. Then a
+    /// write is settled at once, an end or a failure is counted, and neither changes anything else. Once a write has
+    /// found no place for its outcome, none gets a number. What comes after an end or a failure is counted, and nothing
+    /// else comes of it.
     pub fn take(&mut self, envelope: Envelope, outputs: &mut Outputs) -> Took
         requires enters { EntersHead self.old envelope.lane }
         requires number { envelope.number ≡ self.old.taken }
         requires limit { envelope.number < 2 ^ 31 }
         requires places { HasPlaces outputs.old.stopped (flags_lane self.old.channel ∷ []) }
         ensures taken { self.new.taken ≡ self.old.taken + 1 }
-        ensures answer { self.old.standing ≡ stands.Open → Answers envelope.item result }
+        ensures answer { self.old.standing ≡ stands.Open → Answers (is_some self.old.failure) envelope.item result }
 
         // After whichever events it stood, it stands after those and what the item brought.
-        ensures stands { self.old.standing ≡ stands.Open → IsPlaced envelope.item result → (ys : List Event) (sizes : List Change) → StandsAfter T.state self.old ys sizes
-            → StandsAfter T.state self.new (ys ++ item_events envelope.item)
-            (sizes ++ item_sizes (is_some self.old.failure) envelope.item (waiting_at T.state self.old ys) (waiting_at T.state self.new (ys ++ item_events envelope.item))) }
-        ensures flags { self.old.standing ≡ stands.Open → IsPlaced envelope.item result → (ys : List Event) (sizes : List Change) → StandsAfter T.state self.old ys sizes
+        ensures stands { self.old.standing ≡ stands.Open → (ys zs : List Event) (sizes : List Change) → StandsAfter T.state self.old ys zs sizes
+            → StandsAfter T.state self.new (ys ++ events_before (is_some self.old.failure) envelope.item result) (zs ++ events_from (is_some self.old.failure) envelope.item result)
+            (sizes ++ item_sizes (is_some self.old.failure) envelope.item result (waiting_at T.state self.old ys) (waiting_at T.state self.new (ys ++ events_before (is_some self.old.failure) envelope.item result))) }
+        ensures flags { self.old.standing ≡ stands.Open → (ys zs : List Event) (sizes : List Change) → StandsAfter T.state self.old ys zs sizes
             → SendsFlags self.old.buffer.low self.old.buffer.high sizes
-            (item_sizes (is_some self.old.failure) envelope.item (waiting_at T.state self.old ys) (waiting_at T.state self.new (ys ++ item_events envelope.item)))
+            (item_sizes (is_some self.old.failure) envelope.item result (waiting_at T.state self.old ys) (waiting_at T.state self.new (ys ++ events_before (is_some self.old.failure) envelope.item result)))
             self.old.buffer.flags outputs.old self.new.buffer.flags outputs.new }
 
-        // An event is refused only where it is a write for which there is no room. It changes nothing, and the head has
-        // failed.
-        ensures refused { self.old.standing ≡ stands.Open → (event : Event) → envelope.item ≡ Item.Event event → result ≢ took.Ran → outputs.new ≡ outputs.old }
-        ensures refused_same { self.old.standing ≡ stands.Open → (event : Event) → envelope.item ≡ Item.Event event → result ≢ took.Ran → SameButRoom self.old.buffer self.new.buffer }
-        ensures refused_full { self.old.standing ≡ stands.Open → (event : Event) → envelope.item ≡ Item.Event event → result ≢ took.Ran → LacksRoom event self.old.buffer }
+        // An event is refused only where it is a write for which there is no room. Numbering stops only where there is no
+        // room for an outcome.
+        ensures refused { self.old.standing ≡ stands.Open → (event : Event) → envelope.item ≡ Item.Event event → result ≢ took.Ran → LacksRoom event self.old.buffer }
+        ensures stops { StopsNumbers self.old.buffer self.new.buffer }
         ensures failure { self.old.standing ≡ stands.Open → self.new.failure ≡ first_cause self.old.failure (cause_of_item envelope.item result) }
         ensures standing { self.old.standing ≡ stands.Open → self.new.standing ≡ standing_after (is_some self.old.failure) envelope.item }
 
@@ -213,11 +260,13 @@ impl<T: Transport> Head<T> {
         ensures over { is_over self.old.standing ≡ true → (result ≡ took.Ran) × (self.new ≡ record self.old { taken = self.new.taken }) × (outputs.new ≡ outputs.old) }
         ensures same { self.new ≡ record self.old { taken = self.new.taken; standing = self.new.standing; failure = self.new.failure; buffer = self.new.buffer } }
         ensures marks { SameMarks self.old.buffer self.new.buffer }
+        ensures settles { SettlesMore self.old.buffer self.new.buffer }
         ensures few { HasFewFlags self.new }
     {
         match self.standing {
             Standing::Open => self.take_open(envelope.item, outputs),
             Standing::Ended | Standing::Failed(_) => {
+                drop(envelope);
                 self.taken += 1;
                 Took::Ran
             }
@@ -229,54 +278,78 @@ impl<T: Transport> Head<T> {
         requires open { self.old.standing ≡ stands.Open }
         requires limit { self.old.taken < 2 ^ 31 }
         requires places { HasPlaces outputs.old.stopped (flags_lane self.old.channel ∷ []) }
-        ensures answer { Answers item result }
-        ensures stands { IsPlaced item result → (ys : List Event) (sizes : List Change) → StandsAfter T.state self.old ys sizes
-            → StandsAfter T.state self.new (ys ++ item_events item)
-            (sizes ++ item_sizes (is_some self.old.failure) item (waiting_at T.state self.old ys) (waiting_at T.state self.new (ys ++ item_events item))) }
-        ensures flags { IsPlaced item result → (ys : List Event) (sizes : List Change) → StandsAfter T.state self.old ys sizes
+        ensures answer { Answers (is_some self.old.failure) item result }
+        ensures stands { (ys zs : List Event) (sizes : List Change) → StandsAfter T.state self.old ys zs sizes
+            → StandsAfter T.state self.new (ys ++ events_before (is_some self.old.failure) item result) (zs ++ events_from (is_some self.old.failure) item result)
+            (sizes ++ item_sizes (is_some self.old.failure) item result (waiting_at T.state self.old ys) (waiting_at T.state self.new (ys ++ events_before (is_some self.old.failure) item result))) }
+        ensures flags { (ys zs : List Event) (sizes : List Change) → StandsAfter T.state self.old ys zs sizes
             → SendsFlags self.old.buffer.low self.old.buffer.high sizes
-            (item_sizes (is_some self.old.failure) item (waiting_at T.state self.old ys) (waiting_at T.state self.new (ys ++ item_events item)))
+            (item_sizes (is_some self.old.failure) item result (waiting_at T.state self.old ys) (waiting_at T.state self.new (ys ++ events_before (is_some self.old.failure) item result)))
             self.old.buffer.flags outputs.old self.new.buffer.flags outputs.new }
-        ensures refused { (event : Event) → item ≡ Item.Event event → result ≢ took.Ran → outputs.new ≡ outputs.old }
-        ensures refused_same { (event : Event) → item ≡ Item.Event event → result ≢ took.Ran → SameButRoom self.old.buffer self.new.buffer }
-        ensures refused_full { (event : Event) → item ≡ Item.Event event → result ≢ took.Ran → LacksRoom event self.old.buffer }
+        ensures refused { (event : Event) → item ≡ Item.Event event → result ≢ took.Ran → LacksRoom event self.old.buffer }
+        ensures stops { StopsNumbers self.old.buffer self.new.buffer }
         ensures failure { self.new.failure ≡ first_cause self.old.failure (cause_of_item item result) }
         ensures taken { self.new.taken ≡ self.old.taken + 1 }
         ensures standing { self.new.standing ≡ standing_after (is_some self.old.failure) item }
         ensures same { self.new ≡ record self.old { taken = self.new.taken; standing = self.new.standing; failure = self.new.failure; buffer = self.new.buffer } }
         ensures marks { SameMarks self.old.buffer self.new.buffer }
+        ensures settles { SettlesMore self.old.buffer self.new.buffer }
         ensures few { HasFewFlags self.new }
     {
         self.taken += 1;
-        let has_failed = self.failure.is_some();
-        match item {
-            Item::Event(event) => match self.buffer.take(event, outputs) {
-                Ok(()) => Took::Ran,
-                Err(_) => {
-                    self.failure = first_cause(self.failure, Cause::Memory);
-                    Took::Failed(Cause::Memory)
-                }
-            },
-            Item::End => {
-                if !has_failed {
+        match self.failure {
+            Some(cause) => self.take_late(item, cause),
+            None => match item {
+                Item::Event(event) => match self.buffer.take(event, outputs) {
+                    Ok(()) => Took::Ran,
+                    Err(_) => {
+                        self.failure = Some(Cause::Memory);
+                        Took::Failed(Cause::Memory)
+                    }
+                },
+                Item::End => {
                     self.buffer.close(outputs);
                     self.standing = Standing::Ended;
+                    Took::Ended
                 }
-                Took::Ended
-            }
-            Item::Fail(cause) => {
-                if !has_failed {
+                Item::Fail(cause) => {
                     self.buffer.close(outputs);
                     self.standing = Standing::Failed(cause);
+                    Took::Failed(cause)
                 }
-                Took::Failed(cause)
+                Item::Flag(_) => Took::Ran,
+            },
+        }
+    }
+
+    /// Takes an item after a failure of its own, of this cause.
+    fn take_late(&mut self, item: Item, cause: Cause) -> Took
+        requires failed { self.old.failure ≡ Some cause }
+        ensures answer { Answers true item result }
+        ensures stands { (ys zs : List Event) (sizes : List Change) → StandsAfter T.state self.old ys zs sizes → StandsAfter T.state self.new ys (zs ++ events_from true item result) sizes }
+        ensures ran { (event : Event) → item ≡ Item.Event event → result ≡ took.Ran }
+        ensures stops { StopsNumbers self.old.buffer self.new.buffer }
+        ensures same { self.new ≡ record self.old { buffer = self.new.buffer } }
+        ensures flags { self.new.buffer.flags ≡ self.old.buffer.flags }
+        ensures pending { self.new.buffer.pending ≡ self.old.buffer.pending }
+        ensures writable { self.new.buffer.is_unwritable ≡ self.old.buffer.is_unwritable }
+        ensures marks { SameMarks self.old.buffer self.new.buffer }
+        ensures settles { SettlesMore self.old.buffer self.new.buffer }
+    {
+        match item {
+            Item::Event(event) => {
+                self.buffer.take_late(event, outcome_of(cause));
+                Took::Ran
             }
+            Item::End => Took::Ended,
+            Item::Fail(cause) => Took::Failed(cause),
             Item::Flag(_) => Took::Ran,
         }
     }
 
     /// Makes one write to the transport, of what is left of the first flushed message and of no other. It is idle, and
-    /// makes no call, where no flushed byte waits or the head has failed.
+    /// makes no call, where no flushed byte waits or the head has failed. Where the transport fails the head has failed:
+    /// each message that has not left whole is a fault.
     pub fn write_once(&mut self, outputs: &mut Outputs) -> OutStep
         requires places { HasPlaces outputs.old.stopped (flags_lane self.old.channel ∷ []) }
 
@@ -289,28 +362,38 @@ impl<T: Transport> Head<T> {
         ensures sound { (n : ℕ) → result ≡ OutStep.Wrote n → (T.state self.new.transport).failures ≡ (T.state self.old.transport).failures }
         ensures failed { result ≡ OutStep.Failed → (T.state self.new.transport).failures ≡ counted (T.state self.old.transport).failures }
         ensures kept { result ≡ OutStep.Failed → (T.state self.new.transport).accepted ≡ (T.state self.old.transport).accepted }
-        ensures nothing { (result ≡ OutStep.Failed) ⊎ (result ≡ OutStep.Wrote 0) → (self.new.buffer ≡ self.old.buffer) × (outputs.new ≡ outputs.old) }
+        ensures nothing { result ≡ OutStep.Wrote 0 → (self.new.buffer ≡ self.old.buffer) × (outputs.new ≡ outputs.old) }
         ensures window { (T.state self.new.transport).window ≡ (T.state self.old.transport).window }
+        ensures fail_at { (T.state self.new.transport).fail_at ≡ (T.state self.old.transport).fail_at }
 
         // It offers what is left of the first flushed message.
-        ensures within { (n : ℕ) (ys : List Event) (sizes : List Change) → result ≡ OutStep.Wrote n → StandsAfter T.state self.old ys sizes
+        ensures within { (n : ℕ) (ys zs : List Event) (sizes : List Change) → result ≡ OutStep.Wrote n → StandsAfter T.state self.old ys zs sizes
             → n ≤ offered 0 (length (T.state self.old.transport).accepted) (flushed_writes ys) }
-        ensures full { (n w : ℕ) (ys : List Event) (sizes : List Change) → result ≡ OutStep.Wrote n → StandsAfter T.state self.old ys sizes
+        ensures full { (n w : ℕ) (ys zs : List Event) (sizes : List Change) → result ≡ OutStep.Wrote n → StandsAfter T.state self.old ys zs sizes
             → (T.state self.old.transport).window ≡ Some w → n ≡ min (offered 0 (length (T.state self.old.transport).accepted) (flushed_writes ys)) w }
 
+        // It fails at the call that the transport was told to fail at, and else only where the transport may refuse what is
+        // offered.
+        ensures told { (n : ℕ) → result ≡ OutStep.Wrote n → FailsNext (T.state self.old.transport) → ⊥ }
+        ensures untold { (ys zs : List Event) (sizes : List Change) → result ≡ OutStep.Failed → StandsAfter T.state self.old ys zs sizes
+            → FailsNext (T.state self.old.transport) ⊎ T.may_refuse self.old.transport (offered 0 (length (T.state self.old.transport).accepted) (flushed_writes ys)) }
+
         // It is idle exactly where no flushed byte waits or the head has failed.
-        ensures waits { (ys : List Event) (sizes : List Change) → StandsAfter T.state self.old ys sizes → (result ≡ OutStep.Idle) ↔ (is_idle T.state self.old ys ≡ true) }
+        ensures waits { (ys zs : List Event) (sizes : List Change) → StandsAfter T.state self.old ys zs sizes → (result ≡ OutStep.Idle) ↔ (is_idle T.state self.old ys ≡ true) }
         ensures rests { IsSome self.old.failure → result ≡ OutStep.Idle }
 
-        // After whichever events it stood, it stands after those, and the sizes of what has left whole are removed.
-        ensures stands { (ys : List Event) (sizes : List Change) → StandsAfter T.state self.old ys sizes
-            → StandsAfter T.state self.new ys (sizes ++ step_sizes result (waiting_at T.state self.old ys) (waiting_at T.state self.new ys)) }
-        ensures flags { (ys : List Event) (sizes : List Change) → StandsAfter T.state self.old ys sizes
+        // After whichever events it stood, it stands after those, and the sizes of what has left whole are removed; where
+        // it fails, those of all that waited.
+        ensures stands { (ys zs : List Event) (sizes : List Change) → StandsAfter T.state self.old ys zs sizes
+            → StandsAfter T.state self.new ys zs (sizes ++ step_sizes result (waiting_at T.state self.old ys) (waiting_at T.state self.new ys)) }
+        ensures flags { (ys zs : List Event) (sizes : List Change) → StandsAfter T.state self.old ys zs sizes
             → SendsFlags self.old.buffer.low self.old.buffer.high sizes (step_sizes result (waiting_at T.state self.old ys) (waiting_at T.state self.new ys))
             self.old.buffer.flags outputs.old self.new.buffer.flags outputs.new }
         ensures failure { self.new.failure ≡ first_cause self.old.failure (cause_of_step result) }
         ensures same { self.new ≡ record self.old { transport = self.new.transport; failure = self.new.failure; buffer = self.new.buffer } }
+        ensures numbering { self.new.buffer.is_full ≡ self.old.buffer.is_full }
         ensures marks { SameMarks self.old.buffer self.new.buffer }
+        ensures settles { SettlesMore self.old.buffer self.new.buffer }
         ensures few { HasFewFlags self.new }
     {
         if self.failure.is_some() {
@@ -325,11 +408,27 @@ impl<T: Transport> Head<T> {
                     OutStep::Wrote(count)
                 }
                 Err(_) => {
+                    self.buffer.fail(Outcome::Fault, outputs);
                     self.failure = Some(Cause::Transport);
                     OutStep::Failed
                 }
             },
         }
+    }
+
+    /// The first settled write that was not told yet, with its outcome: each write is told once, in the order of
+    /// settling. It takes no memory.
+    pub fn next_settled(&mut self) -> Option<(u64, Outcome)>
+        ensures some { IfSome result (λ next. untold self.old.buffer ≡ next.0 ∷ untold self.new.buffer) }
+        ensures outcome { IfSome result (λ next. slice_index_or self.old.buffer.outcomes next.0 None ≡ Some next.1) }
+        ensures none { IfNone result (untold self.old.buffer ≡ []) }
+        ensures same { self.new ≡ record self.old { buffer = record self.old.buffer { told = self.new.buffer.told } } }
+        ensures none_same { IfNone result (self.new ≡ self.old) }
+
+        // The list has each write with an outcome, once.
+        ensures once { AreSettled self.new.buffer.settled self.new.buffer.outcomes }
+    {
+        self.buffer.next_settled()
     }
 
     /// The lane that enters it.
@@ -360,7 +459,7 @@ impl<T: Transport> Head<T> {
     /// The bytes that the transport accepted.
     pub fn bytes(&self) -> &[u8]
         ensures accepted { result.now ≡ (T.state self.now.transport).accepted }
-        ensures prefix { (ys : List Event) (sizes : List Change) → StandsAfter T.state self.now ys sizes → (rest : List ℕ) × (result.now ++ rest ≡ out ys) }
+        ensures prefix { (ys zs : List Event) (sizes : List Change) → StandsAfter T.state self.now ys zs sizes → (rest : List ℕ) × (result.now ++ rest ≡ out ys) }
     {
         self.transport.bytes()
     }
@@ -368,9 +467,9 @@ impl<T: Transport> Head<T> {
     /// How many bytes the writes hold that have no outcome yet.
     pub fn pending(&self) -> u128
         // What was added less what was removed.
-        ensures exact { (ys : List Event) (sizes : List Change) → StandsAfter T.state self.now ys sizes → result + removed_by sizes ≡ added_by sizes }
-        ensures sizes { (ys : List Event) (sizes : List Change) → StandsAfter T.state self.now ys sizes → result ≡ pending_after sizes }
-        ensures waiting { (ys : List Event) (sizes : List Change) → StandsAfter T.state self.now ys sizes → result ≡ waiting_at T.state self.now ys }
+        ensures exact { (ys zs : List Event) (sizes : List Change) → StandsAfter T.state self.now ys zs sizes → result + removed_by sizes ≡ added_by sizes }
+        ensures sizes { (ys zs : List Event) (sizes : List Change) → StandsAfter T.state self.now ys zs sizes → result ≡ pending_after sizes }
+        ensures waiting { (ys zs : List Event) (sizes : List Change) → StandsAfter T.state self.now ys zs sizes → result ≡ waiting_at T.state self.now ys }
     {
         self.buffer.pending()
     }
@@ -379,16 +478,17 @@ impl<T: Transport> Head<T> {
     /// low one.
     pub fn is_writable(&self) -> bool
         ensures view { result ≡ not self.now.buffer.is_unwritable }
-        ensures sizes { (ys : List Event) (sizes : List Change) → StandsAfter T.state self.now ys sizes
+        ensures sizes { (ys zs : List Event) (sizes : List Change) → StandsAfter T.state self.now ys zs sizes
             → result ≡ not (is_unwritable self.now.buffer.low self.now.buffer.high sizes) }
     {
         self.buffer.is_writable()
     }
 
-    /// The outcome of each write, None for one that waits.
+    /// The outcome of each write that has a number, None for one that waits.
     pub fn outcomes(&self) -> &[Option<Outcome>]
-        ensures { (ys : List Event) (sizes : List Change) → StandsAfter T.state self.now ys sizes
-            → result.now ≡ outcomes ys (length (T.state self.now.transport).accepted) (is_over self.now.standing) }
+        ensures view { result.now ≡ self.now.buffer.outcomes }
+        ensures stands { (ys zs : List Event) (sizes : List Change) → StandsAfter T.state self.now ys zs sizes
+            → HasOutcomes T.state self.now ys zs result.now }
     {
         self.buffer.outcomes()
     }
@@ -410,11 +510,14 @@ impl<T: Transport> Head<T> {
         self.standing.is_over() || self.failure.is_some()
     }
 
-    /// Whether no flushed byte waits.
+    /// Whether no flushed byte waits, or the head has failed by itself: a write would be idle.
     pub fn is_written(&self) -> bool
-        ensures { (ys : List Event) (sizes : List Change) → StandsAfter T.state self.now ys sizes
-            → result ≡ nat_le (length (out ys)) (length (T.state self.now.transport).accepted) }
+        ensures stands { (ys zs : List Event) (sizes : List Change) → StandsAfter T.state self.now ys zs sizes → result ≡ is_idle T.state self.now ys }
+        ensures failed { IsSome self.now.failure → result ≡ true }
     {
+        if self.failure.is_some() {
+            return true;
+        }
         self.buffer.is_written()
     }
 
@@ -424,10 +527,10 @@ impl<T: Transport> Head<T> {
         alloc: Global,
     ) -> Result<(ByteString, Sequence<Option<Outcome>>), AllocError>
         ensures bytes { IfOk result (λ parts. parts.0 ≡ (T.state self.now.transport).accepted) }
-        ensures prefix { IfOk result (λ parts. (ys : List Event) (sizes : List Change) → StandsAfter T.state self.now ys sizes
+        ensures prefix { IfOk result (λ parts. (ys zs : List Event) (sizes : List Change) → StandsAfter T.state self.now ys zs sizes
             → parts.0 ≡ take (length (T.state self.now.transport).accepted) (out ys)) }
-        ensures outcomes { IfOk result (λ parts. (ys : List Event) (sizes : List Change) → StandsAfter T.state self.now ys sizes
-            → parts.1 ≡ outcomes ys (length (T.state self.now.transport).accepted) (is_over self.now.standing)) }
+        ensures outcomes { IfOk result (λ parts. (ys zs : List Event) (sizes : List Change) → StandsAfter T.state self.now ys zs sizes
+            → HasOutcomes T.state self.now ys zs parts.1) }
     {
         let bytes = self.transport.bytes().to_vec(alloc)?;
         let outcomes = Vec::from_slice(alloc, self.buffer.outcomes())?;
@@ -438,10 +541,10 @@ impl<T: Transport> Head<T> {
     /// them (`Transport::into_bytes`): there it takes no memory. An `Err` is the transport's.
     pub fn into_written(self, alloc: Global) -> Result<Written, AllocError>
         ensures bytes { IfOk result (λ written. written.bytes ≡ (T.state self.transport).accepted) }
-        ensures prefix { IfOk result (λ written. (ys : List Event) (sizes : List Change) → StandsAfter T.state self ys sizes
+        ensures prefix { IfOk result (λ written. (ys zs : List Event) (sizes : List Change) → StandsAfter T.state self ys zs sizes
             → written.bytes ≡ take (length (T.state self.transport).accepted) (out ys)) }
-        ensures outcomes { IfOk result (λ written. (ys : List Event) (sizes : List Change) → StandsAfter T.state self ys sizes
-            → written.outcomes ≡ outcomes ys (length (T.state self.transport).accepted) (is_over self.standing)) }
+        ensures outcomes { IfOk result (λ written. (ys zs : List Event) (sizes : List Change) → StandsAfter T.state self ys zs sizes
+            → HasOutcomes T.state self ys zs written.outcomes) }
     {
         let Head {
             transport,
@@ -456,12 +559,12 @@ impl<T: Transport> Head<T> {
     }
 }
 
-/// The first cause stays.
-fn first_cause(first: Option<Cause>, later: Cause) -> Option<Cause>
-    ensures { result ≡ first_cause first (Some later) }
+/// The outcome by which a failure settles what was not sent.
+fn outcome_of(cause: Cause) -> Outcome
+    ensures { result ≡ failure_outcome cause }
 {
-    match first {
-        Some(cause) => Some(cause),
-        None => Some(later),
+    match cause {
+        Cause::Transport => Outcome::Fault,
+        Cause::Memory | Cause::Aborted | Cause::Refused => Outcome::Closed,
     }
 }

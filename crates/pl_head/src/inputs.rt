@@ -1,16 +1,25 @@
 //! The recorded input of a channel, read step by step.
 
-ghost use Rattle.std.specs.Prelude.{◌≡◌, ℕ, ◌+◌, ◌<◌, ◌^◌, ◌≤◌, [], ◌∷◌, List, length, true, false, not, nat_le, reverse};
+ghost use Rattle.std.specs.Prelude.{◌≡◌, ℕ, ◌+◌, ◌<◌, ◌^◌, ◌≤◌, [], ◌∷◌, List, length, Bool, true, false, not, is_some, ◌&&◌, reverse};
 ghost use Rattle.pl_event.specs.Inputs.{burst_events, recorded_input};
 ghost use Rattle.pl_context.specs.Stops.{HasPlaces};
 ghost use Rattle.pl_context.specs.OutputsViews.{PutsAll};
-ghost use Rattle.pl_context.specs.Ports.{as_items, numbered, port_after};
-ghost use Rattle.pl_head.specs.ReadSteps.{step_count, step_items, is_burst};
-ghost use Rattle.pl_head.specs.InputStand.{InputStands, new_input, next_items, left_after, burst_next, input_after_step, items_left};
+ghost use Rattle.pl_event.specs.declared.envelopes.Item.TheVariants as item;
+ghost use Rattle.pl_context.specs.Ports.{as_items, numbered, offered, port_after};
+ghost use Rattle.pl_head.specs.ReadSteps.{step_items, is_burst, is_abort, bursts_before, bursts_read, has_step};
+ghost use Rattle.pl_head.specs.InputStand.{InputStands, new_input, next_items, left_after, burst_next, abort_next, last_next, input_after_step, failed_input, items_left};
 
 use pl_context::{Outputs, Port};
-use pl_event::{ByteString, Envelope, Event, Item, Kind, Message, Sequence};
+use pl_event::{ByteString, Cause, Envelope, Event, Item, Kind, Message, Sequence};
 use std::marker::Model;
+
+/// What a channel is to read: bursts of chunks, and then the end; or, where it is aborted, as many of them as are to be
+/// read before the abort. A count past the last burst counts as all.
+#[derive(Debug, Drop)]
+pub struct ReadPlan {
+    pub bursts: Sequence<Sequence<ByteString>>,
+    pub abort_after: Option<u32>,
+}
 
 /// The recorded input of a channel: what is left of it, and the lane of the first hop, to which it is given.
 ///
@@ -21,6 +30,8 @@ pub(crate) struct Input {
     /// The bursts that are left, the last first.
     left: Vec<Sequence<ByteString>>,
     steps: u64,
+    /// An abort comes after the bursts, in the place of the end.
+    aborts: bool,
 }
 
 impl Model for Input {
@@ -29,57 +40,100 @@ impl Model for Input {
 
     ghost Value = { InputView };
 
-    ghost view = { λ i. record { port = i.port; left = reverse i.left.items; steps = i.steps } };
+    ghost view = { λ i. record { port = i.port; left = reverse i.left.items; steps = i.steps; aborts = i.aborts } };
 
     ghost invariant = { λ i. IsInput i.port (reverse i.left.items) i.steps };
 }
 
 impl Input {
-    /// No read step was made of these bursts. With the end they bring fewer than 2^31 items.
-    pub(crate) fn new(channel: u16, bursts: Sequence<Sequence<ByteString>>) -> Self
-        requires { length (recorded_input bursts) + 1 < 2 ^ 31 }
-        ensures reading { result ≡ new_input channel bursts }
-        ensures stands { InputStands bursts 0 result }
+    /// No read step was made of this plan. With the end all its bursts bring fewer than 2^31 items.
+    pub(crate) fn new(channel: u16, plan: ReadPlan) -> Self
+        requires { length (recorded_input plan.bursts) + 1 < 2 ^ 31 }
+        ensures reading { result ≡ new_input channel plan }
+        ensures stands { InputStands plan 0 false result }
     {
-        let mut left = bursts.into_vec();
+        let ReadPlan {
+            bursts,
+            abort_after,
+        } = plan;
+        let mut left = bursts_before(abort_after, bursts);
         left.reverse();
         Input {
             port: Port::new(channel, Kind::Data, 0, true),
             left,
             steps: 0,
+            aborts: abort_after.is_some(),
         }
     }
 
-    /// Whether no read step is left.
-    pub(crate) fn is_done(&self) -> bool
-        ensures port { result ≡ not self.now.port.is_open }
-        ensures steps { (bursts : List (List (List ℕ))) (reads : ℕ) → InputStands bursts reads self.now → result ≡ nat_le (step_count bursts) reads }
+    /// Whether a read step is left: its lane is open.
+    pub(crate) fn has_step(&self) -> bool
+        ensures port { result ≡ self.now.port.is_open }
+        ensures steps { (p : ReadPlan) (reads : ℕ) (failed : Bool) → InputStands p reads failed self.now → result ≡ has_step p reads failed }
     {
-        !self.port.is_open
+        self.port.is_open
     }
 
     /// Whether the next read step is a burst.
     pub(crate) fn is_burst_next(&self) -> bool
+        requires left { self.now.port.is_open ≡ true }
         ensures next { result ≡ burst_next self.now.steps self.now.left }
-        ensures steps { (bursts : List (List (List ℕ))) (reads : ℕ) → InputStands bursts reads self.now → result ≡ is_burst bursts reads }
+        ensures steps { (p : ReadPlan) (reads : ℕ) (failed : Bool) → InputStands p reads failed self.now → result ≡ is_burst (bursts_read p) reads }
     {
         self.steps > 0 && !self.left.is_empty()
     }
 
-    /// Makes the next read step: the channel becomes active; or a burst comes, each chunk as a read, and then its
-    /// completion; or the end comes.
-    #[tactic(auto, using(crate::proofs::ReadSteps::stands_after, crate::proofs::ReadSteps::items_of_step))]
+    /// Whether the next read step is the abort.
+    pub(crate) fn is_abort_next(&self) -> bool
+        requires left { self.now.port.is_open ≡ true }
+        ensures next { result ≡ abort_next self.now }
+        ensures steps { (p : ReadPlan) (reads : ℕ) (failed : Bool) → InputStands p reads failed self.now → result ≡ is_abort p reads }
+    {
+        self.aborts && self.steps > 0 && self.left.is_empty()
+    }
+
+    /// Makes the next read step, which is not the abort: the channel becomes active; or a burst comes, each chunk as a
+    /// read, and then its completion; or the end comes.
     pub(crate) fn put_step(&mut self, outputs: &mut Outputs)
         requires left { self.old.port.is_open ≡ true }
+        requires no_abort { abort_next self.old ≡ false }
         requires place { HasPlaces outputs.old.stopped (self.old.port.lane ∷ []) }
         ensures after { self.new ≡ input_after_step self.old }
         ensures puts { PutsAll outputs.old (numbered self.old.port.lane self.old.port.made (next_items self.old.steps self.old.left)) outputs.new }
-        ensures stands { (bursts : List (List (List ℕ))) (reads : ℕ) → InputStands bursts reads self.old → InputStands bursts (reads + 1) self.new }
-        ensures items { (bursts : List (List (List ℕ))) (reads : ℕ) → InputStands bursts reads self.old → next_items self.old.steps self.old.left ≡ step_items bursts reads }
+        ensures stands { (p : ReadPlan) (reads : ℕ) (failed : Bool) → InputStands p reads failed self.old → InputStands p (reads + 1) failed self.new }
+        ensures items { (p : ReadPlan) (reads : ℕ) (failed : Bool) → InputStands p reads failed self.old → next_items self.old.steps self.old.left ≡ step_items (bursts_read p) reads }
     {
         put_next(&mut self.port, &mut self.left, self.steps, outputs);
         self.steps += 1;
     }
+
+    /// Gives a failure to the lane, where that is open, and closes it: no read step is left.
+    pub(crate) fn fail(&mut self, cause: Cause, outputs: &mut Outputs)
+        requires place { HasPlaces outputs.old.stopped (self.old.port.lane ∷ []) }
+        ensures after { self.new ≡ failed_input self.old }
+        ensures puts { PutsAll outputs.old (offered self.old.port (item.Fail cause ∷ [])) outputs.new }
+        ensures stands { self.old.port.is_open ≡ true → (p : ReadPlan) (reads : ℕ) (failed : Bool) → InputStands p reads failed self.old → InputStands p reads true self.new }
+    {
+        if !self.port.is_open {
+            return;
+        }
+        put_item(&mut self.port, Item::Fail(cause), outputs);
+        self.port.is_open = false;
+    }
+}
+
+/// All of these bursts, or as many as come before an abort.
+fn bursts_before(
+    abort_after: Option<u32>,
+    bursts: Sequence<Sequence<ByteString>>,
+) -> Vec<Sequence<ByteString>>
+    ensures { result.items ≡ bursts_before abort_after bursts }
+{
+    let mut left = bursts.into_vec();
+    if let Some(count) = abort_after {
+        left.truncate(count as usize);
+    }
+    left
 }
 
 /// Gives the items of the next read step to a lane: the bursts that are left stand the last first.

@@ -14,5 +14,6 @@ mod write_buffer;
 
 pub use flag_laws::flag_law;
 pub use heads::{Head, OutStep, ReadStep, Written};
+pub use inputs::ReadPlan;
 pub use transports::{MemoryTransport, Transport, TransportFault};
 pub use watermark_laws::watermark_law;

@@ -1,7 +1,7 @@
 //! Where the bytes of a channel leave.
 
-ghost use Rattle.std.specs.Prelude.{◌≡◌, ℕ, ◌+◌, ◌≤◌, ◌↔◌, ◌++◌, length, take, min, Option, Some, IfOk, OnOk, OnErr, IsOk, IsErr, IsTrue};
-ghost use Rattle.pl_head.specs.Transports.{TransportState, new_state, counted, FailsNext, accepted_count, MayFail};
+ghost use Rattle.std.specs.Prelude.{◌≡◌, ℕ, ◌+◌, ◌≤◌, ◌↔◌, ◌++◌, ◌⊎◌, length, take, min, Option, Some, IfOk, OnOk, OnErr, IsOk, IsErr, IsTrue};
+ghost use Rattle.pl_head.specs.Transports.{TransportState, new_state, counted, FailsNext, memory_state, accepted_count, MayRefuse};
 
 use std::alloc::{AllocError, Global};
 use std::marker::Model;
@@ -18,7 +18,8 @@ pub enum TransportFault {
 /// The law: the bytes accepted so far are what `bytes` gives. A call of `write` accepts the first n bytes that it is
 /// offered, for an n up to all of them and 0 too, puts them after the others and answers `Ok(n)`; or it accepts none
 /// and answers `Err`. It counts itself as one call, and as one failure where it answers `Err`. What a call did not
-/// accept is offered again, from its first byte, by whoever has it.
+/// accept is offered again, from its first byte, by whoever has it. A transport that was told to fail at one of its calls
+/// fails at that call. At any other it fails only where it may of its own, as `may_refuse` says.
 ///
 /// So `+PONG\r\n` may leave in four calls, of which one fails:
 ///
@@ -37,8 +38,13 @@ pub enum TransportFault {
 /// that never left; with a smaller one, bytes would leave twice. No check sees what becomes of the bytes beyond
 /// `bytes`.
 pub trait Transport: Drop {
-    /// What it has accepted, how often it was called, and how much it accepts of what it is offered.
+    /// What it has accepted, how often it was called, how much it accepts of what it is offered, and at which call it was
+    /// told to fail.
     ghost state: { Self → TransportState };
+
+    /// Whether a call that offers so many bytes may fail though it was not told to, as where there is no memory for what it
+    /// would accept.
+    ghost may_refuse: { Self → ℕ → Type 0 };
 
     /// Offers bytes. The first `Ok(n)` of them are accepted; an `Err` accepts none.
     fn write(&mut self, bytes: &[u8]) -> Result<usize, TransportFault>
@@ -49,7 +55,12 @@ pub trait Transport: Drop {
         ensures sound { OnOk result ((state self.new).failures ≡ (state self.old).failures) }
         ensures failed { OnErr result ((state self.new).failures ≡ counted (state self.old).failures) }
         ensures window { (state self.new).window ≡ (state self.old).window }
-        ensures full { IfOk result (λ n. (w : ℕ) → (state self.old).window ≡ Some w → n ≡ min (length bytes.now) w) };
+        ensures full { IfOk result (λ n. (w : ℕ) → (state self.old).window ≡ Some w → n ≡ min (length bytes.now) w) }
+
+        // It fails at the call that it was told to fail at, and else only where it may refuse.
+        ensures told { OnOk result (FailsNext (state self.old) → ⊥) }
+        ensures untold { OnErr result (FailsNext (state self.old) ⊎ may_refuse self.old (length bytes.now)) }
+        ensures fail_at { (state self.new).fail_at ≡ (state self.old).fail_at };
 
     /// The bytes accepted so far.
     fn bytes(&self) -> &[u8]
@@ -89,7 +100,7 @@ impl MemoryTransport {
     /// A transport that has not been called. A call accepts at most `window` bytes; the call of number `fail_at`, from 1, fails. It
     /// takes no memory.
     pub fn new(alloc: Global, window: u32, fail_at: Option<u32>) -> Self
-        ensures state { ⟦<MemoryTransport as Transport>⟧.state result ≡ new_state (Some window) }
+        ensures state { ⟦<MemoryTransport as Transport>⟧.state result ≡ new_state (Some window) fail_at }
         ensures window { result.window ≡ window }
         ensures fail_at { result.fail_at ≡ fail_at }
     {
@@ -111,7 +122,7 @@ impl MemoryTransport {
 
     /// Whether the next call is the one that fails.
     fn fails_next(&self) -> bool
-        ensures { IsTrue result ↔ FailsNext self.now }
+        ensures { IsTrue result ↔ FailsNext (memory_state self.now) }
     {
         match self.fail_at {
             Some(at) => u64::from(at) == self.calls.saturating_add(1),
@@ -121,7 +132,9 @@ impl MemoryTransport {
 }
 
 impl Transport for MemoryTransport {
-    ghost state = { λ t. record { accepted = t.bytes; calls = t.calls; failures = t.failures; window = Some t.window } };
+    ghost state = { memory_state };
+
+    ghost may_refuse = { MayRefuse };
 
     /// Accepts the lesser of the length and the window. It fails at the call of number `fail_at`, and else only where
     /// there is no memory for what it accepts.
@@ -133,8 +146,8 @@ impl Transport for MemoryTransport {
         ensures sound { OnOk result (self.new.failures ≡ self.old.failures) }
         ensures failed { OnErr result (self.new.failures ≡ counted self.old.failures) }
         ensures count { IfOk result (λ n. n ≡ accepted_count self.old (length bytes.now)) }
-        ensures fails { FailsNext self.old → IsErr result }
-        ensures else_memory { OnErr result (MayFail self.old (length bytes.now)) }
+        ensures told { OnOk result (FailsNext (memory_state self.old) → ⊥) }
+        ensures untold { OnErr result (FailsNext (memory_state self.old) ⊎ MayRefuse self.old (length bytes.now)) }
         ensures full { IfOk result (λ n. (w : ℕ) → Some self.old.window ≡ Some w → n ≡ min (length bytes.now) w) }
         ensures window { self.new.window ≡ self.old.window }
         ensures fail_at { self.new.fail_at ≡ self.old.fail_at }

@@ -1,7 +1,8 @@
 //! The bytes that wait against two marks, and the flags that go up.
 
 ghost use Rattle.std.specs.Prelude.{◌≡◌, ◌+◌, ◌<◌, ◌≤◌, ◌^◌, ◌∷◌, ◌++◌, List, [], true};
-ghost use Rattle.pl_context.specs.Stops.{HasPlaces};
+ghost use Rattle.pl_event.specs.declared.envelopes.Lane.{Lane};
+ghost use Rattle.pl_context.specs.Stops.{HasPlaces, AreAmong};
 ghost use Rattle.pl_head.specs.Marks.{Change, Added, Removed};
 ghost use Rattle.pl_head.specs.FlagLanes.{flags_lane};
 
@@ -67,6 +68,7 @@ impl Writability {
         ensures high { self.new.marks.high ≡ self.old.marks.high }
         ensures lane { self.new.port.lane ≡ self.old.port.lane }
         ensures count { flag_bound self.new ≤ flag_bound self.old }
+        ensures places { (lanes : List Lane) → HasPlaces outputs.old.stopped lanes → AreAmong (self.old.port.lane ∷ []) lanes → HasPlaces outputs.new.stopped lanes }
     {
         if let Some(value) = self.marks.remove(size) {
             self.port.pass(value, outputs);

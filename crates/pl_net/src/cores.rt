@@ -57,6 +57,13 @@ impl<N: Nodes + Drop> Core<N> {
         &self.nodes
     }
 
+    /// How many executors there are.
+    pub fn executors(&self) -> usize
+        ensures { result ≡ vec_len self.now.executors }
+    {
+        self.executors.len()
+    }
+
     /// The nodes, and the rest is given up.
     pub fn into_nodes(self) -> N
         ensures { result ≡ self.nodes }
@@ -142,7 +149,7 @@ impl<N: Nodes + Drop> Core<N> {
         requires home { (N.view_of self.old.nodes).home channel < vec_len self.old.executors }
         requires rests { self.old.work.items ≡ [] }
         requires stands { (world : World) × (x : ℕ) × (backlogs : ℕ → List (Entry Unit)) × CoreStands N.view_of N.stands world x (core_view self.old backlogs) }
-        ensures enabled { result ≡ N.may_read self.old.nodes channel }
+        ensures enabled { N.may_read self.old.nodes channel result }
         ensures runs { result ≡ true → (world : World) (x : ℕ) (backlogs : ℕ → List (Entry Unit)) → CoreStands N.view_of N.stands world x (core_view self.old backlogs)
             → (after : ℕ → List (Entry Unit)) × CoreStands N.view_of N.stands world ((N.view_of self.old.nodes).home channel) (core_view self.new after)
             × Gives N.view_of N.takes N.reads ((N.view_of self.old.nodes).home channel) channel (core_view self.old backlogs) (core_view self.new after) }
@@ -166,7 +173,7 @@ impl<N: Nodes + Drop> Core<N> {
         requires home { (N.view_of self.old.nodes).home channel < vec_len self.old.executors }
         requires rests { self.old.work.items ≡ [] }
         requires stands { (world : World) × (x : ℕ) × (backlogs : ℕ → List (Entry Unit)) × CoreStands N.view_of N.stands world x (core_view self.old backlogs) }
-        ensures enabled { result ≡ N.may_write self.old.nodes channel }
+        ensures enabled { N.may_write self.old.nodes channel result }
         ensures runs { result ≡ true → (world : World) (x : ℕ) (backlogs : ℕ → List (Entry Unit)) → CoreStands N.view_of N.stands world x (core_view self.old backlogs)
             → (after : ℕ → List (Entry Unit)) × CoreStands N.view_of N.stands world ((N.view_of self.old.nodes).home channel) (core_view self.new after)
             × Gives N.view_of N.takes N.writes ((N.view_of self.old.nodes).home channel) channel (core_view self.old backlogs) (core_view self.new after) }
@@ -196,6 +203,7 @@ impl<N: Nodes + Drop> Core<N> {
             → position (λ entry. has_room self.old.executors.items self.old.capacity entry.target) (backlogs me) ≡ None }
         ensures idle { result ≡ Ok false → self.new ≡ self.old }
         ensures err { OnErr result (IsUnmovedButRoom self.old self.new) }
+        ensures stays { OnErr result ((world : World) (x : ℕ) (backlogs : ℕ → List (Entry Unit)) → CoreStands N.view_of N.stands world x (core_view self.old backlogs) → CoreStands N.view_of N.stands world x (core_view self.new backlogs)) }
         ensures capacity { self.new.capacity ≡ self.old.capacity }
         ensures count { vec_len self.new.executors ≡ vec_len self.old.executors }
     {

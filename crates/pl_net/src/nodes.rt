@@ -28,16 +28,17 @@ pub trait Nodes: Sized {
     ghost writes: { Self → ℕ → OutputsView → Self → OutputsView → Type 0 };
 
     /// Whether the channel's next read step, or a write to its transport, is enabled.
-    ghost may_read: { Self → ℕ → Bool };
+    ghost may_read: { Self → ℕ → Bool → Type 0 };
 
-    ghost may_write: { Self → ℕ → Bool };
+    ghost may_write: { Self → ℕ → Bool → Type 0 };
 
     /// How many channels there are.
     ghost count: { Self → ℕ };
 
     /// The executor of a channel's head.
     fn home(&self, channel: usize) -> usize
-        requires { channel < count self.now }
+        requires there { channel < count self.now }
+        requires stands { (world : World) × stands world self.now }
         ensures { result ≡ (view_of self.now).home channel };
 
     /// The executor that a lane enters.
@@ -62,7 +63,7 @@ pub trait Nodes: Sized {
         requires there { channel < count self.old }
         requires stands { (world : World) × stands world self.old }
         requires places { HasPlaces work.old.stopped (view_of self.old).lanes }
-        ensures enabled { result ≡ may_read self.old channel }
+        ensures enabled { may_read self.old channel result }
         ensures idle { result ≡ false → (self.new ≡ self.old) × (work.new ≡ work.old) }
         ensures reads { result ≡ true → reads self.old channel work.old self.new work.new }
         ensures view { result ≡ true → NodesGive (view_of self.old) ((view_of self.old).home channel) work.old (view_of self.new) work.new }
@@ -75,7 +76,7 @@ pub trait Nodes: Sized {
         requires there { channel < count self.old }
         requires stands { (world : World) × stands world self.old }
         requires places { HasPlaces work.old.stopped (view_of self.old).lanes }
-        ensures enabled { result ≡ may_write self.old channel }
+        ensures enabled { may_write self.old channel result }
         ensures idle { result ≡ false → (self.new ≡ self.old) × (work.new ≡ work.old) }
         ensures writes { result ≡ true → writes self.old channel work.old self.new work.new }
         ensures view { result ≡ true → NodesGive (view_of self.old) ((view_of self.old).home channel) work.old (view_of self.new) work.new }

@@ -349,6 +349,56 @@ fn turn_quits(rt: HostRuntime) -> Result<(), Fail> {
     Ok(())
 }
 
+/// A failure goes into each lane with its cause, and what comes behind it is dropped.
+#[test]
+fn failure_keeps_its_cause(rt: HostRuntime) -> Result<(), Fail> {
+    let alloc = rt.alloc();
+    for cause in [
+        Cause::Memory,
+        Cause::Transport,
+        Cause::Aborted,
+        Cause::Refused,
+    ] {
+        let mut handler = context_of(alloc, Direction::Inbound, 9);
+        let (took, put) = give(&rt, alloc, &mut handler, Kind::Data, Item::Fail(cause))?;
+        assert_eq!(rt; took, Took::Failed(cause));
+        assert_eq!(rt; put.as_slice(), [data(2, 0, Item::Fail(cause))].as_slice());
+
+        let mut turn = context_of(alloc, Direction::Turn, 9);
+        let (took, put) = give(&rt, alloc, &mut turn, Kind::Data, Item::Fail(cause))?;
+        assert_eq!(rt; took, Took::Failed(cause));
+        let want = [data(2, 0, Item::Fail(cause)), data(4, 0, Item::Fail(cause))];
+        assert_eq!(rt; put.as_slice(), want.as_slice());
+        assert_eq!(rt; turn.is_ended(), true);
+
+        let (took, put) = give(&rt, alloc, &mut turn, Kind::Data, Item::End)?;
+        assert_eq!(rt; took, Took::Dropped);
+        assert_eq!(rt; put.is_empty(), true);
+        let (took, put) = give(&rt, alloc, &mut turn, Kind::Flags, Item::Flag(false))?;
+        assert_eq!(rt; took, Took::Dropped);
+        assert_eq!(rt; put.is_empty(), true);
+    }
+    Ok(())
+}
+
+/// The lane downwards has ended with the turn: a failure goes upwards alone.
+#[test]
+fn failure_behind_a_quit(rt: HostRuntime) -> Result<(), Fail> {
+    let alloc = rt.alloc();
+    let mut turn = context_of(alloc, Direction::Turn, 9);
+    let complete = Item::Event(Event::ReadComplete);
+    let (took, put) = give(&rt, alloc, &mut turn, Kind::Data, complete)?;
+    assert_eq!(rt; took, Took::Ran);
+    assert_eq!(rt; put.len(), 3);
+
+    let failure = Item::Fail(Cause::Transport);
+    let (took, put) = give(&rt, alloc, &mut turn, Kind::Data, failure)?;
+    assert_eq!(rt; took, Took::Failed(Cause::Transport));
+    let want = [data(2, 1, Item::Fail(Cause::Transport))];
+    assert_eq!(rt; put.as_slice(), want.as_slice());
+    Ok(())
+}
+
 #[test]
 fn flags_pass(rt: HostRuntime) -> Result<(), Fail> {
     let alloc = rt.alloc();

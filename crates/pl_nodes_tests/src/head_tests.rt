@@ -1,23 +1,23 @@
 //! A head: writes, flushes, ends, failures, marks, windows, and bursts that are held.
 
-ghost use Rattle.std.specs.Prelude.{◌+◌, ◌<◌, ◌≤◌, ◌^◌, length, IfOk};
+ghost use Rattle.std.specs.Prelude.{◌≡◌, ◌+◌, ◌<◌, ◌≤◌, ◌^◌, [], length, IfOk};
 ghost use Rattle.pl_event.specs.Inputs.{recorded_input};
 
 use crate::input_tests::outputs_of_one;
 use crate::transport_tests::Trickle;
 use pl_context::{Outputs, Standing, Took};
 use pl_event::{ByteString, Cause, Envelope, Event, Item, Message, Outcome, Sequence};
-use pl_head::{Head, MemoryTransport, OutStep, ReadStep, Transport};
+use pl_head::{Head, MemoryTransport, OutStep, ReadPlan, ReadStep, Transport};
 use std::alloc::{AllocError, Global};
 use std::process::Abort;
 use std::test::Fail;
 
 /// What a message of bytes begins with.
-const PONG: &[u8] = b"+PONG\r\n";
+pub(crate) const PONG: &[u8] = b"+PONG\r\n";
 
 /// A call of a head.
 #[derive(Clone, Copy, Debug)]
-enum Call {
+pub(crate) enum Call {
     /// A write of this many bytes, up to all of `PONG`.
     Write(usize),
     /// A write of `ab`.
@@ -28,6 +28,7 @@ enum Call {
     Fail(Cause),
     Out,
     Read,
+    Abort,
 }
 
 /// What a call answers.
@@ -36,29 +37,43 @@ pub(crate) enum Answer {
     Took(Took),
     Out(OutStep),
     Read(ReadStep),
+    Aborted,
 }
 
 /// A call, what it is to answer, the first flag that it is to send, and how many bytes are to wait after it.
-type Expected = (Call, Answer, Option<bool>, u128);
+pub(crate) type Expected = (Call, Answer, Option<bool>, u128);
 
-const RAN: Answer = Answer::Took(Took::Ran);
+pub(crate) const RAN: Answer = Answer::Took(Took::Ran);
 
-const IDLE: Answer = Answer::Out(OutStep::Idle);
+pub(crate) const IDLE: Answer = Answer::Out(OutStep::Idle);
 
-const GAVE: Answer = Answer::Read(ReadStep::Gave);
+pub(crate) const GAVE: Answer = Answer::Read(ReadStep::Gave);
 
-/// Two bursts of one chunk each.
-fn two_bursts(alloc: Global) -> Result<Sequence<Sequence<ByteString>>, AllocError>
-    ensures { IfOk result (λ bursts. length (recorded_input bursts) + 1 < 2 ^ 31) }
+/// No burst, and no abort.
+pub(crate) fn nothing_to_read(alloc: Global) -> ReadPlan
+    ensures { result.bursts ≡ [] }
+{
+    ReadPlan {
+        bursts: Sequence::new(alloc),
+        abort_after: None,
+    }
+}
+
+/// Two bursts of one chunk each, with an abort after some of them or none.
+pub(crate) fn two_bursts(alloc: Global, abort_after: Option<u32>) -> Result<ReadPlan, AllocError>
+    ensures { IfOk result (λ plan. length (recorded_input plan.bursts) + 1 < 2 ^ 31) }
 {
     let first = vec![in alloc; ByteString::from_vec(Vec::from_slice(alloc, b"PING\n")?)]?;
     let second = vec![in alloc; ByteString::from_vec(Vec::from_slice(alloc, b"PING\n")?)]?;
     let bursts = vec![in alloc; Sequence::from_vec(first), Sequence::from_vec(second)]?;
-    Ok(Sequence::from_vec(bursts))
+    Ok(ReadPlan {
+        bursts: Sequence::from_vec(bursts),
+        abort_after,
+    })
 }
 
 /// A head of channel 0 at hop 3, over memory, with nothing to read.
-fn head(
+pub(crate) fn head(
     alloc: Global,
     window: u32,
     fail_at: Option<u32>,
@@ -68,7 +83,7 @@ fn head(
     requires { low ≤ high }
 {
     let transport = MemoryTransport::new(alloc, window, fail_at);
-    Head::new(alloc, 0, 3, Sequence::new(alloc), transport, low, high)
+    Head::new(alloc, 0, 3, nothing_to_read(alloc), transport, low, high)
 }
 
 /// The item that a call gives to the head, if it gives one.
@@ -90,7 +105,7 @@ fn item_of(alloc: Global, call: Call) -> Result<Option<Item>, AllocError> {
         Call::Flush => Ok(Some(Item::Event(Event::Flush))),
         Call::End => Ok(Some(Item::End)),
         Call::Fail(cause) => Ok(Some(Item::Fail(cause))),
-        Call::Out | Call::Read => Ok(None),
+        Call::Out | Call::Read | Call::Abort => Ok(None),
     }
 }
 
@@ -124,6 +139,12 @@ fn read<T: Transport>(alloc: Global, head: &mut Head<T>) -> Result<(Answer, Outp
     Ok((Answer::Read(read), outputs))
 }
 
+fn abort<T: Transport>(alloc: Global, head: &mut Head<T>) -> Result<(Answer, Outputs), AllocError> {
+    let mut outputs = outputs_of_one(alloc)?;
+    head.abort(&mut outputs);
+    Ok((Answer::Aborted, outputs))
+}
+
 /// Makes a call, and answers what it answers and puts out.
 fn apply<T: Transport>(
     rt: &impl Abort,
@@ -135,6 +156,7 @@ fn apply<T: Transport>(
         Some(item) => give(rt, alloc, head, item),
         None => match call {
             Call::Read => read(alloc, head),
+            Call::Abort => abort(alloc, head),
             _ => write_once(alloc, head),
         },
     }
@@ -153,7 +175,7 @@ fn flag_of(outputs: Outputs) -> Option<bool> {
 }
 
 /// Makes these calls, one after another.
-fn run<T: Transport>(
+pub(crate) fn run<T: Transport>(
     rt: &impl Abort,
     alloc: Global,
     head: &mut Head<T>,
@@ -229,7 +251,15 @@ const TRICKLED: [Expected; 2] = [
 #[test]
 fn one_byte_transport(rt: HostRuntime) -> Result<(), Fail> {
     let alloc = rt.alloc();
-    let mut head = Head::new(alloc, 0, 3, Sequence::new(alloc), Trickle::new(alloc), 4, 8);
+    let mut head = Head::new(
+        alloc,
+        0,
+        3,
+        nothing_to_read(alloc),
+        Trickle::new(alloc),
+        4,
+        8,
+    );
     run(&rt, alloc, &mut head, TRICKLES.as_slice())?;
     assert!(rt; head.outcomes() == [None].as_slice());
     run(&rt, alloc, &mut head, TRICKLED.as_slice())?;
@@ -312,7 +342,7 @@ const HELD: [Expected; 13] = [
 fn burst_held(rt: HostRuntime) -> Result<(), Fail> {
     let alloc = rt.alloc();
     let transport = MemoryTransport::new(alloc, 65536, None);
-    let mut head = Head::new(alloc, 0, 3, two_bursts(alloc)?, transport, 1, 2);
+    let mut head = Head::new(alloc, 0, 3, two_bursts(alloc, None)?, transport, 1, 2);
     run(&rt, alloc, &mut head, HELD.as_slice())?;
     assert!(rt; head.is_ended());
     assert!(rt; head.cause() == None);
@@ -339,7 +369,7 @@ const NOTHING_FLUSHED: [Expected; 10] = [
 fn burst_comes_where_nothing_is_flushed(rt: HostRuntime) -> Result<(), Fail> {
     let alloc = rt.alloc();
     let transport = MemoryTransport::new(alloc, 65536, None);
-    let mut head = Head::new(alloc, 0, 3, two_bursts(alloc)?, transport, 1, 2);
+    let mut head = Head::new(alloc, 0, 3, two_bursts(alloc, None)?, transport, 1, 2);
     run(&rt, alloc, &mut head, NOTHING_FLUSHED.as_slice())?;
     Ok(())
 }
@@ -378,29 +408,40 @@ fn failure_closes_what_is_not_flushed(rt: HostRuntime) -> Result<(), Fail> {
     Ok(())
 }
 
-const TRANSPORT_FAILS: [Expected; 10] = [
+const TRANSPORT_FAILS: [Expected; 14] = [
     (Call::Read, GAVE, None, 0),
     (Call::Write(7), RAN, Some(false), 7),
     (Call::Flush, RAN, None, 7),
-    (Call::Out, Answer::Out(OutStep::Wrote(4)), None, 7),
-    (Call::Out, Answer::Out(OutStep::Failed), None, 7),
-    (Call::Out, IDLE, None, 7),
-    (Call::Read, GAVE, None, 7),
-    (Call::Write(3), RAN, None, 10),
-    (Call::End, Answer::Took(Took::Ended), None, 10),
-    (Call::Out, IDLE, None, 10),
+    (Call::Write(2), RAN, None, 9),
+    (Call::Out, Answer::Out(OutStep::Wrote(4)), None, 9),
+    (Call::Out, Answer::Out(OutStep::Failed), Some(true), 0),
+    (Call::Out, IDLE, None, 0),
+    (Call::Read, GAVE, None, 0),
+    (Call::Read, Answer::Read(ReadStep::Done), None, 0),
+    (Call::Write(3), RAN, None, 0),
+    (Call::WriteLine, RAN, None, 0),
+    (Call::Flush, RAN, None, 0),
+    (Call::End, Answer::Took(Took::Ended), None, 0),
+    (Call::Out, IDLE, None, 0),
 ];
 
 #[test]
 fn failed_transport(rt: HostRuntime) -> Result<(), Fail> {
     let alloc = rt.alloc();
     let transport = MemoryTransport::new(alloc, 4, Some(2));
-    let mut head = Head::new(alloc, 0, 3, two_bursts(alloc)?, transport, 1, 2);
+    let mut head = Head::new(alloc, 0, 3, two_bursts(alloc, None)?, transport, 1, 2);
     run(&rt, alloc, &mut head, TRANSPORT_FAILS.as_slice())?;
     assert!(rt; head.cause() == Some(Cause::Transport));
     assert!(rt; head.is_ended());
-    // An end that comes later closes nothing.
-    assert!(rt; head.outcomes() == [None, None].as_slice());
+    let want = [
+        Some(Outcome::Fault),
+        Some(Outcome::Fault),
+        Some(Outcome::Fault),
+        Some(Outcome::Unsupported),
+    ];
+    assert!(rt; head.outcomes() == want.as_slice());
+    assert!(rt; head.standing() == Standing::Open);
+    assert_eq!(rt; head.taken(), 7);
     Ok(())
 }
 
@@ -430,8 +471,8 @@ const FAILS_AFTER_ITS_END: [Expected; 6] = [
     (Call::Flush, RAN, None, 7),
     (Call::Write(3), RAN, None, 10),
     (Call::End, Answer::Took(Took::Ended), None, 7),
-    (Call::Out, Answer::Out(OutStep::Failed), None, 7),
-    (Call::Out, IDLE, None, 7),
+    (Call::Out, Answer::Out(OutStep::Failed), Some(true), 0),
+    (Call::Out, IDLE, None, 0),
 ];
 
 /// What the end closed stays closed.
@@ -441,6 +482,6 @@ fn transport_fails_after_the_end(rt: HostRuntime) -> Result<(), Fail> {
     let mut head = head(alloc, 4, Some(1), 1, 2);
     run(&rt, alloc, &mut head, FAILS_AFTER_ITS_END.as_slice())?;
     assert!(rt; head.cause() == Some(Cause::Transport));
-    assert!(rt; head.outcomes() == [None, Some(Outcome::Closed)].as_slice());
+    assert!(rt; head.outcomes() == [Some(Outcome::Fault), Some(Outcome::Closed)].as_slice());
     Ok(())
 }

@@ -8,7 +8,7 @@ use crate::head_tests::{give, write_once};
 use crate::load_tests::write_of;
 use pl_context::Outputs;
 use pl_event::{ByteString, Envelope, Event, Item, Kind, Lane, Message, Sequence};
-use pl_head::{Head, MemoryTransport, ReadStep};
+use pl_head::{Head, MemoryTransport, ReadPlan, ReadStep};
 use std::alloc::{AllocError, Global};
 use std::process::Abort;
 use std::test::Fail;
@@ -73,7 +73,11 @@ fn two_bursts(alloc: Global) -> Result<Head<MemoryTransport>, AllocError> {
     ]?;
     let bursts = vec![in alloc; Sequence::from_vec(chunks), Sequence::new(alloc)]?;
     let transport = MemoryTransport::new(alloc, 2, None);
-    Ok(Head::new(alloc, 7, 3, Sequence::from_vec(bursts), transport, 1, 1))
+    let plan = ReadPlan {
+        bursts: Sequence::from_vec(bursts),
+        abort_after: None,
+    };
+    Ok(Head::new(alloc, 7, 3, plan, transport, 1, 1))
 }
 
 #[test]

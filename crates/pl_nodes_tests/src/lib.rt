@@ -4,6 +4,8 @@
 #[cfg(test)]
 mod context_tests;
 #[cfg(test)]
+mod failure_tests;
+#[cfg(test)]
 mod head_tests;
 #[cfg(test)]
 mod input_tests;

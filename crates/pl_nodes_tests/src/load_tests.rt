@@ -2,8 +2,8 @@
 
 ghost use Rattle.std.specs.Prelude.{◌<◌};
 
-use crate::head_tests::{give, write_once};
-use pl_event::{ByteString, Event, Item, Message, Outcome, Sequence};
+use crate::head_tests::{give, nothing_to_read, write_once};
+use pl_event::{ByteString, Event, Item, Message, Outcome};
 use pl_head::{Head, MemoryTransport};
 use std::alloc::{AllocError, Global};
 use std::process::Abort;
@@ -11,7 +11,7 @@ use std::test::Fail;
 
 fn new_head(alloc: Global) -> Head<MemoryTransport> {
     let transport = MemoryTransport::new(alloc, 1, None);
-    Head::new(alloc, 0, 3, Sequence::new(alloc), transport, 4, 8)
+    Head::new(alloc, 0, 3, nothing_to_read(alloc), transport, 4, 8)
 }
 
 /// A write of a message of this size.

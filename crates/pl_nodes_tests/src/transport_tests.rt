@@ -1,6 +1,6 @@
-//! Transports: windows, a call that fails, and one of a user's own.
+//! Transports: windows, a call that fails, and two of a user's own.
 
-ghost use Rattle.std.specs.Prelude.{◌≡◌, None};
+ghost use Rattle.std.specs.Prelude.{◌≡◌, ◌-◌, ◌<◌, [], None, vec_len, vec_capacity};
 ghost use Rattle.pl_head.specs.Transports.{new_state};
 
 use pl_head::{MemoryTransport, Transport, TransportFault};
@@ -17,7 +17,7 @@ pub(crate) struct Trickle {
 
 impl Trickle {
     pub(crate) fn new(alloc: Global) -> Self
-        ensures { ⟦<Trickle as Transport>⟧.state result ≡ new_state None }
+        ensures { ⟦<Trickle as Transport>⟧.state result ≡ new_state None None }
     {
         Trickle {
             bytes: Vec::new(alloc),
@@ -28,7 +28,9 @@ impl Trickle {
 }
 
 impl Transport for Trickle {
-    ghost state = { λ t. record { accepted = t.bytes.items; calls = t.calls; failures = t.failures; window = None } };
+    ghost state = { λ t. record { accepted = t.bytes.items; calls = t.calls; failures = t.failures; window = None; fail_at = None } };
+
+    ghost may_refuse = { λ t size. vec_capacity t.bytes - vec_len t.bytes < size };
 
     fn write(&mut self, bytes: &[u8]) -> Result<usize, TransportFault> {
         let count = if self.calls % 2 == 0 {
@@ -46,6 +48,35 @@ impl Transport for Trickle {
 
     fn bytes(&self) -> &[u8] {
         self.bytes.as_slice()
+    }
+}
+
+/// A transport of a user's own whose calls all fail.
+#[derive(Debug, Drop)]
+pub(crate) struct Broken {
+    calls: u64,
+}
+
+impl Broken {
+    pub(crate) fn new() -> Self
+        ensures { ⟦<Broken as Transport>⟧.state result ≡ new_state None None }
+    {
+        Broken { calls: 0 }
+    }
+}
+
+impl Transport for Broken {
+    ghost state = { λ t. record { accepted = []; calls = t.calls; failures = t.calls; window = None; fail_at = None } };
+
+    ghost may_refuse = { λ _ _. Unit {0} };
+
+    fn write(&mut self, _bytes: &[u8]) -> Result<usize, TransportFault> {
+        self.calls = self.calls.saturating_add(1);
+        Err(TransportFault::Failed)
+    }
+
+    fn bytes(&self) -> &[u8] {
+        &[]
     }
 }
 
@@ -131,5 +162,17 @@ fn a_byte_at_every_second_call(rt: HostRuntime) -> Result<(), Fail> {
     );
     assert_eq!(rt; transport.bytes(), b"ab".as_slice());
     assert_eq!(rt; transport.into_bytes(alloc)?.as_slice(), b"ab".as_slice());
+    Ok(())
+}
+
+#[test]
+fn each_call_fails(rt: HostRuntime) -> Result<(), Fail> {
+    let alloc = rt.alloc();
+    let mut transport = Broken::new();
+    let answers = offer(alloc, &mut transport, b"ab", 2)?;
+    let fault = Err(TransportFault::Failed);
+    assert_eq!(rt; answers.as_slice(), [fault, fault].as_slice());
+    assert_eq!(rt; transport.bytes().len(), 0);
+    assert_eq!(rt; transport.into_bytes(alloc)?.len(), 0);
     Ok(())
 }

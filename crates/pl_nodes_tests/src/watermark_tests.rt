@@ -2,9 +2,9 @@
 
 ghost use Rattle.std.specs.Prelude.{◌≤◌};
 
-use crate::head_tests::{Answer, give, write_once};
+use crate::head_tests::{Answer, give, nothing_to_read, write_once};
 use crate::load_tests::write_of;
-use pl_event::{Event, Item, Sequence};
+use pl_event::{Event, Item};
 use pl_head::{Head, MemoryTransport, OutStep};
 use std::alloc::{AllocError, Global};
 use std::process::Abort;
@@ -23,7 +23,7 @@ fn head(alloc: Global, low: u32, high: u32) -> Head<MemoryTransport>
     requires { low ≤ high }
 {
     let transport = MemoryTransport::new(alloc, 65_536, None);
-    Head::new(alloc, 0, 3, Sequence::new(alloc), transport, low, high)
+    Head::new(alloc, 0, 3, nothing_to_read(alloc), transport, low, high)
 }
 
 /// Adds or removes a size, and answers the number and the value of the flag that this sent.

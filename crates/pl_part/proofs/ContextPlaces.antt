@@ -44,7 +44,7 @@ numbered-among : (lanes : List Lane) (lane : Lane) (n : ℕ) (is : List Item) �
 numbered-among lanes lane n [] h = tt
 numbered-among lanes lane n (i ∷ is) h = (h, numbered-among lanes lane (n + 1) is h)
 
-offered-among : (lanes : List Lane) (p : Port) (is : List Item) → AreAmong (p.lane ∷ []) lanes → AllAmong lanes (offered p is)
+pub offered-among : (lanes : List Lane) (p : Port) (is : List Item) → AreAmong (p.lane ∷ []) lanes → AllAmong lanes (offered p is)
 offered-among lanes p is h = ⊎_elim
     (λ (t : p.is_open ≡ true). subst (λ (es : List Envelope). AllAmong lanes es) (sym (cond-true p.is_open (numbered p.lane p.made is) [] t)) (numbered-among lanes p.lane p.made is h))
     (λ (f : p.is_open ≡ false). subst (λ (es : List Envelope). AllAmong lanes es) (sym (cond-false p.is_open (numbered p.lane p.made is) [] f)) tt)

@@ -65,6 +65,7 @@ module _ {S : Type 0} (world : World) (meaning : S → Meaning) (stands_after : 
     flags_open = λ o. o;
     flags = λ f o. refl;
     by_call = λ e. absurd (both_ways false refl e);
+    few = record { taken = omega arith; flags_taken = omega arith; up = omega arith; down = omega arith; flags = omega arith };
   }
     where
       and-true : (b : Bool) → (b && true) ≡ b

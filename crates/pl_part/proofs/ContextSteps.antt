@@ -1,5 +1,5 @@
 -- A context takes the next item of one of its lanes: how it stands then, and what it has put out.
-use Rattle.std.proofs.Common.{◌≡◌, ℕ, suc, ◌+◌, ◌<◌, ◌≤◌, ◌^◌, Bool, true, false, not, ◌&&◌, List, [], ◌∷◌, ◌++◌, length, take, Some, refl, ap, sym, ◌∙◌, subst, ⊎_elim, arith, length-append}
+use Rattle.std.proofs.Common.{◌≡◌, ℕ, suc, ◌+◌, ◌<◌, ◌≤◌, ◌^◌, Bool, true, false, not, ◌&&◌, cond, List, [], ◌∷◌, ◌++◌, length, take, Some, refl, ap, sym, ◌∙◌, subst, ⊎_elim, arith, length-append}
 use Rattle.std.specs.Prelude.{◌%◌, ◌==◌}
 use Rattle.std.specs.List.{slice_get}
 use Rattle.std.proofs.lemmas.List.{take_all}
@@ -36,8 +36,9 @@ use Rattle.pl_flow.proofs.MakeLemmas.{makes-none}
 use Rattle.pl_flow.specs.Makes.{AreGood}
 use Rattle.pl_flow.proofs.StageFlows.{ups-good, downs-good}
 use Rattle.pl_flow.proofs.ItemLemmas.{failure-good, end-good}
-use Rattle.pl_part.specs.ContextHolds.{HoldsWith, context_writes, context_came}
-use Rattle.pl_part.proofs.EventLists.{some-equal, split-at, length-items, made-le, made-more, length-end, goes-on-end, still-closed, ends-good}
+use Rattle.pl_context.specs.declared.ports.Port.{Port}
+use Rattle.pl_part.specs.ContextHolds.{HoldsWith, HasFewItems, context_writes, context_came}
+use Rattle.pl_part.proofs.EventLists.{some-equal, split-at, fits-within, length-items, made-le, made-more, length-end, goes-on-end, still-closed, ends-good}
 use Rattle.pl_part.proofs.PortMakes.{both-put, both-append, flag-put}
 
 pub and-left : (a b : Bool) → (a && b) ≡ true → a ≡ true
@@ -57,12 +58,21 @@ open-failed s e f = both_ways (has_failed s) (ap has_failed e) f
 next-take : (n : ℕ) (events : List Event) → take (n + 1) events ≡ take (suc n) events
 next-take n events = let same : n + 1 ≡ suc n = omega arith in ap (λ k. take k events) same
 
+-- how many items a port was given, once it was given more
+made-few : (n m : ℕ) (o : Bool) → m ≤ 2 ^ 31 → (o ≡ true → m + n ≤ 2 ^ 31) → cond o (m + n) m ≤ 2 ^ 31
+made-few n m true still more = more refl
+made-few n m false still more = still
+
 module _ {S : Type 0} (world : World) (meaning : S → Meaning) (stands_after : S → List Event → Type 0) (is_spent : S → Bool) (lawful : (s : S) → IsLawful (meaning s)) (events : List Event) (c : ContextView S)
     (h : HoldsWith world meaning stands_after (meaning c.stage) events c) where
   -- what a step owes
   abbrev Stepped : OutputsView → ContextView S → OutputsView → Type 0
   Stepped b c' a = HoldsWith world meaning stands_after (meaning c.stage) events c'
       × Makes world (context_writes (meaning c.stage).direction c) (context_came (meaning c.stage).direction c) (context_came (meaning c.stage).direction c') b a
+
+  -- one item more of its data lane is few
+  taken-few : (i : Item) → Fits events c.taken i → c.taken + 1 ≤ 2 ^ 31
+  taken-few i fits = let within = fits-within events c.taken i fits in let few = h.wired.few in omega (arith, within, few)
 
   module _ (live : c.standing ≡ stands.Open) where
     up-has : c.up.is_open ≡ true → has_up (meaning c.stage).direction ≡ true
@@ -138,6 +148,13 @@ module _ {S : Type 0} (world : World) (meaning : S → Meaning) (stands_after : 
               flags_open = h.flags_open;
               flags = h.flags;
               by_call = h.by_call;
+              few = record {
+                taken = taken-few (item.Event x) fits;
+                flags_taken = h.few.flags_taken;
+                up = made-few (length U) c.up.made c.up.is_open h.few.up small-up;
+                down = made-few (length D) c.down.made c.down.is_open h.few.down small-down;
+                flags = h.few.flags;
+              };
             }),
             subst (λ (y : ContextView S). Makes world (context_writes (meaning c.stage).direction c) (context_came (meaning c.stage).direction c) (context_came (meaning c.stage).direction y) b a) (sym same)
                 (both-append (has_up (meaning c.stage).direction) (has_down (meaning c.stage).direction) c.up c.down c.flags up-has down-has h.wired.apart world U D ups-are-good downs-are-good b a (r.out before at)),
@@ -145,11 +162,26 @@ module _ {S : Type 0} (world : World) (meaning : S → Meaning) (stands_after : 
 
     -- ---- the last item of its lanes
 
-    closing : (standing : Standing) → is_over standing ≡ true → (st : S) (t : ℕ) (fb : Bool) → meaning st ≡ meaning c.stage → (fb ≡ true → has_failed standing ≡ true)
+    -- one item more of a lane is few
+    last-up : c.up.is_open ≡ true → c.up.made + 1 ≤ 2 ^ 31
+    last-up o =
+        let made = (h.stood live).above o in
+        let le = made-le (meaning c.stage).up c.taken events in
+        let few = h.wired.few_up (up-has o) in
+        omega (arith, made, le, few)
+
+    last-down : c.down.is_open ≡ true → c.down.made + 1 ≤ 2 ^ 31
+    last-down o =
+        let made = (h.stood live).below o in
+        let le = made-le (meaning c.stage).down c.taken events in
+        let few = h.wired.few_down (down-has o) in
+        omega (arith, made, le, few)
+
+    closing : (standing : Standing) → is_over standing ≡ true → (st : S) (t : ℕ) (fb : Bool) → t ≤ 2 ^ 31 → meaning st ≡ meaning c.stage → (fb ≡ true → has_failed standing ≡ true)
         → (c.up.is_open ≡ true → IsGood world (record { lane = c.up.lane; number = c.up.made; item = last_item standing }))
         → (c.down.is_open ≡ true → IsGood world (record { lane = c.down.lane; number = c.down.made; item = last_item standing }))
         → (b a : OutputsView) (c' : ContextView S) → Closes standing (record c { stage = st; taken = t; failed_by_call = fb }) b c' a → Stepped b c' a
-    closing standing over st t fb meant call up down b a c' k =
+    closing standing over st t fb small meant call up down b a c' k =
         let last = last_item standing ∷ [] in
         let z : ContextView S = record c { stage = st; taken = t; failed_by_call = fb; standing = standing; up = port_after last c.up; down = port_after last c.down } in
         let same : c' ≡ z = k.context in (
@@ -165,6 +197,13 @@ module _ {S : Type 0} (world : World) (meaning : S → Meaning) (stands_after : 
             flags_open = h.flags_open;
             flags = λ f. h.flags (ap has_failed live);
             by_call = call;
+            few = record {
+              taken = small;
+              flags_taken = h.few.flags_taken;
+              up = made-few 1 c.up.made c.up.is_open h.few.up last-up;
+              down = made-few 1 c.down.made c.down.is_open h.few.down last-down;
+              flags = h.few.flags;
+            };
           }),
           subst (λ (y : ContextView S). Makes world (context_writes (meaning c.stage).direction c) (context_came (meaning c.stage).direction c) (context_came (meaning c.stage).direction y) b a) (sym same)
               (both-put (has_up (meaning c.stage).direction) (has_down (meaning c.stage).direction) c.up c.down c.flags up-has down-has h.wired.apart world last last
@@ -174,9 +213,9 @@ module _ {S : Type 0} (world : World) (meaning : S → Meaning) (stands_after : 
     not-called : (standing : Standing) → c.failed_by_call ≡ true → has_failed standing ≡ true
     not-called standing e = absurd (open-failed c.standing live (h.by_call e))
 
-    failing : (cause : Cause) (st : S) (t : ℕ) (fb : Bool) → meaning st ≡ meaning c.stage → (b a : OutputsView) (c' : ContextView S)
+    failing : (cause : Cause) (st : S) (t : ℕ) (fb : Bool) → t ≤ 2 ^ 31 → meaning st ≡ meaning c.stage → (b a : OutputsView) (c' : ContextView S)
         → Closes (stands.Failed cause) (record c { stage = st; taken = t; failed_by_call = fb }) b c' a → Stepped b c' a
-    failing cause st t fb meant b a c' k = closing (stands.Failed cause) refl st t fb meant (λ e. refl)
+    failing cause st t fb small meant b a c' k = closing (stands.Failed cause) refl st t fb small meant (λ e. refl)
         (λ o. let made = (h.stood live).above o in let le = made-le (meaning c.stage).up c.taken events in
         failure-good world c.up.lane (up_of (meaning c.stage) events) c.up.made h.wired.up_kind (h.wired.up (up-has o)) (h.wired.few_up (up-has o)) cause (omega (arith, made, le)))
         (λ o. let made = (h.stood live).below o in let le = made-le (meaning c.stage).down c.taken events in
@@ -186,7 +225,7 @@ module _ {S : Type 0} (world : World) (meaning : S → Meaning) (stands_after : 
     ending : c.taken ≡ length events → (b a : OutputsView) (c' : ContextView S) → Closes stands.Ended (counted Data c) b c' a → Stepped b c' a
     ending last b a c' k =
         let all : take c.taken events ≡ events = take_all c.taken events (omega (arith, last)) in
-        closing stands.Ended refl c.stage (c.taken + 1) c.failed_by_call refl (not-called stands.Ended)
+        closing stands.Ended refl c.stage (c.taken + 1) c.failed_by_call (taken-few item.End last) refl (not-called stands.Ended)
         (λ o. end-good world c.up.lane (up_of (meaning c.stage) events) c.up.made h.wired.up_kind (h.wired.up (up-has o)) (h.wired.few_up (up-has o)) ((h.stood live).above o ∙ ap (λ zs. length (up_of (meaning c.stage) zs)) all))
         (λ o. end-good world c.down.lane (down_of (meaning c.stage) events) c.down.made h.wired.down_kind (h.wired.down (down-has o)) (h.wired.few_down (down-has o)) ((h.stood live).below o ∙ ap (λ zs. length (down_of (meaning c.stage) zs)) all))
         b a c' k
@@ -196,11 +235,11 @@ module _ {S : Type 0} (world : World) (meaning : S → Meaning) (stands_after : 
     pub taken-open : (i : Item) → Fits events c.taken i → (answer : Took) (b a : OutputsView) (c' : ContextView S) → meaning c'.stage ≡ meaning c.stage
         → TakesItem meaning stands_after is_spent (counted Data c) i b answer c' a → Stepped b c' a
     taken-open (item.Event x) fits took.Ran b a c' meant t = ran x fits b a c' meant t
-    taken-open (item.Event x) fits (took.Failed cause) b a c' meant t = failing Memory c'.stage (c.taken + 1) c.failed_by_call meant b a c' t.1.closes
+    taken-open (item.Event x) fits (took.Failed cause) b a c' meant t = failing Memory c'.stage (c.taken + 1) c.failed_by_call (taken-few (item.Event x) fits) meant b a c' t.1.closes
     taken-open (item.Event x) fits took.Ended b a c' meant t = absurd t
     taken-open (item.Event x) fits took.Dropped b a c' meant t = absurd t
     taken-open item.End fits answer b a c' meant t = ending fits b a c' t.1
-    taken-open (item.Fail cause) fits answer b a c' meant t = failing cause c.stage (c.taken + 1) c.failed_by_call refl b a c' t.1
+    taken-open (item.Fail cause) fits answer b a c' meant t = failing cause c.stage (c.taken + 1) c.failed_by_call (taken-few (item.Fail cause) fits) refl b a c' t.1
     taken-open (item.Flag value) fits answer b a c' meant t = absurd fits
 
     pub few-open : (i : Item) → Fits events c.taken i → MakesFew meaning stands_after c i
@@ -216,8 +255,8 @@ module _ {S : Type 0} (world : World) (meaning : S → Meaning) (stands_after : 
   failed-over stands.Ended e = refl
   failed-over (stands.Failed cause) e = refl
 
-  counted-over : is_over c.standing ≡ true → (b a : OutputsView) (c' : ContextView S) → c' ≡ counted Data c → a ≡ b → Stepped b c' a
-  counted-over over b a c' same none = (
+  counted-over : is_over c.standing ≡ true → c.taken + 1 ≤ 2 ^ 31 → (b a : OutputsView) (c' : ContextView S) → c' ≡ counted Data c → a ≡ b → Stepped b c' a
+  counted-over over small b a c' same none = (
     subst (λ (y : ContextView S). HoldsWith world meaning stands_after (meaning c.stage) events y) (sym same) (record {
       meant = refl;
       wired = h.wired;
@@ -230,14 +269,21 @@ module _ {S : Type 0} (world : World) (meaning : S → Meaning) (stands_after : 
       flags_open = h.flags_open;
       flags = h.flags;
       by_call = h.by_call;
+      few = record { taken = small; flags_taken = h.few.flags_taken; up = h.few.up; down = h.few.down; flags = h.few.flags };
     }),
     subst (λ (y : ContextView S × OutputsView). Makes world (context_writes (meaning c.stage).direction c) (context_came (meaning c.stage).direction c) (context_came (meaning c.stage).direction y.0) b y.1) (λ i. (sym same i, sym none i))
         (makes-none world (context_writes (meaning c.stage).direction c) (context_came (meaning c.stage).direction c) b b refl refl),
   )
 
+  -- a flag more was taken, and handed on or not
+  flag-few : c.flags_taken < 2 ^ 32 → (p : Port) → p.made ≤ c.flags.made + 1 → HasFewItems (record (counted Flags c) { flags = p })
+  flag-few small p most =
+      let few = h.few.flags in
+      record { taken = h.few.taken; flags_taken = omega (arith, small); up = h.few.up; down = h.few.down; flags = omega (arith, most, few) }
+
   -- a flag that is not handed on
-  counted-flag : (c.flags.is_open ≡ true → has_failed c.standing ≡ true) → (b a : OutputsView) (c' : ContextView S) → c' ≡ counted Flags c → a ≡ b → Stepped b c' a
-  counted-flag shut b a c' same none = (
+  counted-flag : (c.flags.is_open ≡ true → has_failed c.standing ≡ true) → c.flags_taken < 2 ^ 32 → (b a : OutputsView) (c' : ContextView S) → c' ≡ counted Flags c → a ≡ b → Stepped b c' a
+  counted-flag shut small b a c' same none = (
     subst (λ (y : ContextView S). HoldsWith world meaning stands_after (meaning c.stage) events y) (sym same) (record {
       meant = refl;
       wired = h.wired;
@@ -250,19 +296,20 @@ module _ {S : Type 0} (world : World) (meaning : S → Meaning) (stands_after : 
       flags_open = h.flags_open;
       flags = λ f o. absurd (both_ways (has_failed c.standing) f (shut o));
       by_call = h.by_call;
+      few = flag-few small c.flags (omega arith);
     }),
     subst (λ (y : ContextView S × OutputsView). Makes world (context_writes (meaning c.stage).direction c) (context_came (meaning c.stage).direction c) (context_came (meaning c.stage).direction y.0) b y.1) (λ i. (sym same i, sym none i))
         (makes-none world (context_writes (meaning c.stage).direction c) (context_came (meaning c.stage).direction c) b b refl refl),
   )
 
-  dropped : (k : Kind) → has_failed c.standing ≡ true → (b a : OutputsView) (c' : ContextView S) → c' ≡ counted k c → a ≡ b → Stepped b c' a
-  dropped Data f b a c' same none = counted-over (failed-over c.standing f) b a c' same none
-  dropped Flags f b a c' same none = counted-flag (λ o. f) b a c' same none
+  dropped : (k : Kind) → has_failed c.standing ≡ true → (k ≡ Data → c.taken + 1 ≤ 2 ^ 31) → (k ≡ Flags → c.flags_taken < 2 ^ 32) → (b a : OutputsView) (c' : ContextView S) → c' ≡ counted k c → a ≡ b → Stepped b c' a
+  dropped Data f items flags b a c' same none = counted-over (failed-over c.standing f) (items refl) b a c' same none
+  dropped Flags f items flags b a c' same none = counted-flag (λ o. f) (flags refl) b a c' same none
 
   -- ---- flags
 
-  flag-held : c.flags.is_open ≡ true → (answer : Added) → HoldsWith world meaning stands_after (meaning c.stage) events (record (counted Flags c) { flags = flag_port_after answer c.flags })
-  flag-held goes Last = record {
+  flag-held : c.flags.is_open ≡ true → c.flags_taken < 2 ^ 32 → (answer : Added) → HoldsWith world meaning stands_after (meaning c.stage) events (record (counted Flags c) { flags = flag_port_after answer c.flags })
+  flag-held goes small Last = record {
     meant = refl;
     wired = h.wired;
     within = h.within;
@@ -274,8 +321,9 @@ module _ {S : Type 0} (world : World) (meaning : S → Meaning) (stands_after : 
     by_call = h.by_call;
     flags_open = h.flags_open;
     flags = λ f o. ap (λ n. n + 1) (h.flags f goes);
+    few = flag-few small (flag_port_after Last c.flags) (omega arith);
   }
-  flag-held goes Refused = record {
+  flag-held goes small Refused = record {
     meant = refl;
     wired = h.wired;
     within = h.within;
@@ -287,8 +335,9 @@ module _ {S : Type 0} (world : World) (meaning : S → Meaning) (stands_after : 
     by_call = h.by_call;
     flags_open = λ o. h.flags_open goes;
     flags = λ f o. absurd (both_ways false refl o);
+    few = flag-few small (flag_port_after Refused c.flags) (omega arith);
   }
-  flag-held goes Discarded = record {
+  flag-held goes small Discarded = record {
     meant = refl;
     wired = h.wired;
     within = h.within;
@@ -300,6 +349,7 @@ module _ {S : Type 0} (world : World) (meaning : S → Meaning) (stands_after : 
     by_call = h.by_call;
     flags_open = λ o. h.flags_open goes;
     flags = λ f o. absurd (both_ways false refl o);
+    few = flag-few small (flag_port_after Discarded c.flags) (omega arith);
   }
 
   flag-good : (value : Bool) → value ≡ (c.flags_taken % 2 == 1) → c.flags_taken < 2 ^ 32 → has_failed c.standing ≡ false → c.flags.is_open ≡ true
@@ -317,14 +367,14 @@ module _ {S : Type 0} (world : World) (meaning : S → Meaning) (stands_after : 
       (λ (o : c.flags.is_open ≡ true).
       let put = t.2.put o in
       let same : c' ≡ record (counted Flags c) { flags = flag_port_after put.0 c.flags } = t.1 ∙ (λ i. record (counted Flags c) { flags = put.1 i }) in (
-        subst (λ (y : ContextView S). HoldsWith world meaning stands_after (meaning c.stage) events y) (sym same) (flag-held o put.0),
+        subst (λ (y : ContextView S). HoldsWith world meaning stands_after (meaning c.stage) events y) (sym same) (flag-held o small put.0),
         subst (λ (y : ContextView S). Makes world (context_writes (meaning c.stage).direction c) (context_came (meaning c.stage).direction c) (context_came (meaning c.stage).direction y) b a) (sym same)
             (flag-put (has_up (meaning c.stage).direction) (has_down (meaning c.stage).direction) c.up c.down c.flags h.flags_open h.wired.flags_kind h.wired.up_kind h.wired.down_kind world o value (flag-good value fits small f o) b a put.0 put.2),
       ))
       (λ (o : c.flags.is_open ≡ false).
       let none = t.2.closed o in
       let same : c' ≡ counted Flags c = t.1 ∙ (λ i. record (counted Flags c) { flags = none.0 i }) in
-      counted-flag (λ g. absurd (both_ways c.flags.is_open o g)) b a c' same none.1)
+      counted-flag (λ g. absurd (both_ways c.flags.is_open o g)) small b a c' same none.1)
       (cases_Bool c.flags.is_open)
 
   flags-taken : (i : Item) → FitsAsFlag c.flags_taken i → c.flags_taken < 2 ^ 32 → has_failed c.standing ≡ false → (answer : Took) (b a : OutputsView) (c' : ContextView S)
@@ -354,18 +404,12 @@ module _ {S : Type 0} (world : World) (meaning : S → Meaning) (stands_after : 
         let f = subst (λ k. FitsAsKind world k e) is good.fits in
         subst (λ n. FitsAsFlag n e.item) (here Flags is) f
 
-    fits-within : (i : Item) → Fits events c.taken i → c.taken ≤ length events
-    fits-within (item.Event x) fits = let within = slice_get_within events c.taken x fits in omega (arith, within)
-    fits-within item.End fits = omega (arith, fits)
-    fits-within (item.Fail cause) fits = fits
-    fits-within (item.Flag value) fits = absurd fits
-
     pub next-limit : e.number < number_limit e.lane.kind
     next-limit = by e.lane.kind refl
       where
         by : (k : Kind) → e.lane.kind ≡ k → e.number < number_limit k
         by Data is =
-            let within = fits-within e.item (data-fits is) in
+            let within = fits-within events c.taken e.item (data-fits is) in
             let few = h.wired.few in
             let n = here Data is in
             omega (arith, within, few, n)
@@ -385,13 +429,16 @@ module _ {S : Type 0} (world : World) (meaning : S → Meaning) (stands_after : 
         small : e.lane.kind ≡ Flags → c.flags_taken < 2 ^ 32
         small is = subst (λ n. n < 2 ^ 32) (here Flags is) good.small
 
+        next : e.lane.kind ≡ Data → c.taken + 1 ≤ 2 ^ 31
+        next is = taken-few e.item (data-fits is)
+
         by : (k : Kind) → e.lane.kind ≡ k → (s : Standing) → c.standing ≡ s → Stepped b c' a
         by Data is stands.Open live = taken-open live e.item (data-fits is) answer b a c' meant (item is live)
-        by Data is stands.Ended over = let t = ended is over in counted-over (ap is_over over) b a c' t.1 t.2
-        by Data is (stands.Failed cause) over = let t = drops (ap has_failed over) in dropped e.lane.kind (ap has_failed over) b a c' t.1 t.2
+        by Data is stands.Ended over = let t = ended is over in counted-over (ap is_over over) (next is) b a c' t.1 t.2
+        by Data is (stands.Failed cause) over = let t = drops (ap has_failed over) in dropped e.lane.kind (ap has_failed over) next small b a c' t.1 t.2
         by Flags is stands.Open live = flags-taken e.item (flag-fits is) (small is) (ap has_failed live) answer b a c' (flag is (ap has_failed live))
         by Flags is stands.Ended live = flags-taken e.item (flag-fits is) (small is) (ap has_failed live) answer b a c' (flag is (ap has_failed live))
-        by Flags is (stands.Failed cause) over = let t = drops (ap has_failed over) in dropped e.lane.kind (ap has_failed over) b a c' t.1 t.2
+        by Flags is (stands.Failed cause) over = let t = drops (ap has_failed over) in dropped e.lane.kind (ap has_failed over) next small b a c' t.1 t.2
 
   -- ---- it is made to fail
 
@@ -406,7 +453,7 @@ module _ {S : Type 0} (world : World) (meaning : S → Meaning) (stands_after : 
           (h, makes-none world (context_writes (meaning c.stage).direction c) (context_came (meaning c.stage).direction c) b b refl refl)
 
       by : (s : Standing) → c.standing ≡ s → Stepped b c' a
-      by stands.Open live = failing live cause c.stage c.taken true refl b a c' (closes live)
+      by stands.Open live = failing live cause c.stage c.taken true h.few.taken refl b a c' (closes live)
       by stands.Ended is = same (over (ap is_over is))
       by (stands.Failed other) is = same (over (ap is_over is))
 

@@ -11,6 +11,7 @@ use Rattle.pl_event.specs.declared.envelopes.Kind.TheVariants.{Data}
 use Rattle.pl_event.specs.declared.envelopes.Lane.{Lane}
 use Rattle.pl_event.specs.declared.stages.Turned.{Turned}
 use Rattle.pl_event.specs.declared.stages.Turned.TheVariants.{Open, Ended}
+use Rattle.pl_event.specs.Fitting.{Fits}
 use Rattle.pl_event.specs.Meaning.{Meaning, IsLawful, made_after, made_after-append, made-push, down_of, turned_after}
 use Rattle.pl_context.specs.Ports.{as_items, end_after, all_go_on}
 use Rattle.pl_event.specs.Worlds.{World, content_of}
@@ -28,6 +29,13 @@ split-at (y ∷ ys) zero x e =
     let same : y ≡ x = some-equal y x e in (ys, ap (λ z. z ∷ ys) (sym same), ap (λ z. z ∷ []) same)
 split-at (y ∷ ys) (suc n) x e =
     let r = split-at ys n x e in (r.0, ap (λ zs. y ∷ zs) r.1, ap (λ zs. y ∷ zs) r.2)
+
+-- what fits behind the first ones is of the lane, or its end or failure
+pub fits-within : (events : List Event) (n : ℕ) (i : Item) → Fits events n i → n ≤ length events
+fits-within events n (item.Event x) fits = let within = slice_get_within events n x fits in omega (arith, within)
+fits-within events n item.End fits = omega (arith, fits)
+fits-within events n (item.Fail cause) fits = fits
+fits-within events n (item.Flag value) fits = absurd fits
 
 -- ---- how much is made
 

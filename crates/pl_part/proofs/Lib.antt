@@ -2,8 +2,15 @@ mod EventLists
 mod PortMakes
 mod ContextSteps
 mod ContextPlaces
+mod ContextCounts
 mod ContextStarts
 mod TailSteps
 mod TakenCounts
-mod PartSteps
+mod PathSteps
 mod NewContexts
+mod HeadFlags
+mod ReadItems
+mod HeadMoves
+pub mod PartCounts
+mod PartSteps
+mod HeadReports

@@ -1,437 +1,439 @@
 -- A node of a part moves: how the part stands then, and what it has put out.
-use Rattle.std.proofs.Common.{◌≡◌, ◌≢◌, ℕ, zero, suc, ◌+◌, ◌-◌, ◌<◌, ◌≤◌, Bool, true, false, ◌||◌, ◌&&◌, cond, List, [], ◌∷◌, length, map, get_or, set, Option, Some, None, refl, ap, sym, ◌∙◌, subst, ⊎_elim, arith}
-use Rattle.std.specs.Prelude.{◌==◌, is_some, if◌then◌else◌}
-use Rattle.std.specs.List.{list_any, range_with_len}
+use Rattle.std.proofs.Common.{◌≡◌, ℕ, ◌+◌, ◌≤◌, Bool, true, false, ◌||◌, ◌&&◌, cond, List, ◌∷◌, ◌++◌, length, map, Option, Some, None, refl, ap, sym, ◌∙◌, subst, ⊎_elim, arith, length-append}
+use Rattle.std.specs.Prelude.{◌==◌, is_some, replicate, if◌then◌else◌}
 use Rattle.std.specs.Option.{option_map_or}
-use Rattle.std.proofs.lemmas.List.{length-set, get_or-set_same, get_or-set_other}
-use Rattle.std.proofs.lemmas.Bool.{cond-true, cond-false, cases_Bool, both_ways, and_parts, eqb-true, eq-eqb, ne_eqb}
+use Rattle.std.proofs.lemmas.List.{length-map, length-replicate}
+use Rattle.std.proofs.lemmas.Bool.{cond-true, cond-false, cases_Bool, both_ways, and_parts, and_from, eqb-true, eq-eqb}
 use Rattle.pl_event.specs.declared.events.Event.{Event}
-use Rattle.pl_event.specs.declared.envelopes.Kind.{Kind}
-use Rattle.pl_event.specs.declared.envelopes.Kind.TheVariants.{Data}
 use Rattle.pl_event.specs.declared.envelopes.Lane.{Lane}
 use Rattle.pl_event.specs.declared.envelopes.Envelope.{Envelope}
-use Rattle.pl_event.specs.declared.stages.Direction.{Direction}
-use Rattle.pl_event.specs.declared.stages.Direction.TheVariants.{Inbound, Outbound, Turn}
-use Rattle.pl_event.specs.Hops.{same_lane, data_lane, flags_lane}
+use Rattle.pl_event.specs.Hops.{same_hop, same_lane, data_lane, flags_lane}
 use Rattle.pl_event.specs.Meaning.{Meaning}
-use Rattle.pl_event.specs.Paths.{is_turn}
 use Rattle.pl_event.specs.Worlds.{World}
-use Rattle.pl_event.proofs.SameLanes.{same_lane-equal}
-use Rattle.pl_context.specs.declared.ports.Port.{Port}
+use Rattle.pl_event.proofs.SameLanes.{same_lane-equal, same_lane-self}
 use Rattle.pl_context.specs.declared.standing.Took.{Took}
-use Rattle.pl_context.specs.Standings.{is_over}
-use Rattle.pl_context.specs.ContextViews.{ContextView, Enters, IsHop, has_up, has_down, down_hop, kind_taken, one_of, taken_of}
+use Rattle.pl_context.specs.ContextViews.{ContextView}
 use Rattle.pl_context.specs.OutputsViews.{OutputsView}
-use Rattle.pl_context.specs.Stops.{HasPlaces, AreAmong, same_hop}
-use Rattle.pl_context.specs.TailViews.{TailView, EntersTail, kind_taken as tail_kind_taken, taken_of as tail_taken_of}
-use Rattle.pl_flow.specs.Flows.{nowhere, IsGood}
+use Rattle.pl_context.specs.Stops.{HasPlaces, AreAmong}
+use Rattle.pl_flow.specs.Flows.{Point, nowhere, IsGood}
 use Rattle.pl_flow.specs.Makes.{Makes}
-use Rattle.pl_flow.proofs.MakeLemmas.{makes-none, makes-among}
-use Rattle.pl_part.specs.ContextHolds.{ContextHolds, ports_write, ports_came, port_point, context_writes, context_came, context_lanes}
-use Rattle.pl_part.specs.TailHolds.{TailHolds}
-use Rattle.pl_part.specs.Taking.{ContextTakes, TailTakes}
-use Rattle.pl_part.specs.Parts.{PartView, PartHolds, IsPart, IsAt, context_at, writer_hop, has_entered, part_taken, part_lanes, part_writes, part_came}
-use Rattle.pl_part.specs.PartCalls.{IsNextFor, Puts, Taken, Refused}
+use Rattle.pl_flow.proofs.MakeLemmas.{makes-among, makes-none}
+use Rattle.pl_head.specs.Transports.{TransportState}
+use Rattle.pl_head.specs.HeadStand.{HeadView, EntersHead}
+use Rattle.pl_part.specs.ContextHolds.{port_point, context_writes}
+use Rattle.pl_part.specs.Paths.{PathView, PathHolds, PathTakes, SamePath, context_at, writer_hop, path_taken, path_lanes, path_writes, path_writes_at, path_came, enters_path}
+use Rattle.pl_part.specs.PathCalls.{IsNextOnPath}
+use Rattle.pl_part.specs.HeadHolds.{HeadHolds, head_writes, head_came, head_lanes, head_taken}
+use Rattle.pl_head.specs.declared.heads.OutStep.{OutStep}
+use Rattle.pl_head.specs.declared.heads.ReadStep.{ReadStep}
+use Rattle.pl_part.specs.HeadCalls.{HeadTakes, HeadReads, HeadWrites, HeadAborts}
+use Rattle.pl_part.specs.Parts.{PartView, PartHolds, PartReads, PartWrites, PartAborts, SamePart, head_hop, has_entered, part_taken, part_lanes, part_writes, writes_at, part_came}
+use Rattle.pl_part.specs.PartCalls.{IsNextFor, Puts, Taken, Given}
+use Rattle.pl_part.specs.Counts.{head_done, path_done, part_done}
 use Rattle.pl_part.proofs.EventLists.{some-equal}
-use Rattle.pl_part.proofs.TakenCounts.{place_taken, taken-kind, taken-next}
+use Rattle.pl_part.proofs.PathSteps.{among-hops, other-hop, beyond}
+use Rattle.pl_part.proofs.PartCounts.{part-few}
 
--- ---- slots
+or-two : (a b : Bool) → (a || b) ≡ false → (a ≡ false) × (b ≡ false)
+or-two false b e = (refl, e)
+or-two true b e = absurd (both_ways true e refl)
 
-filled-there : {A : Type 0} (xs : List (Option A)) (i : ℕ) (x : A) → get_or xs i None ≡ Some x → i < length xs
-filled-there [] i x e = absurd (no e)
+or-same : (a : Bool) → (a || (a || false)) ≡ true → a ≡ true
+or-same true e = refl
+or-same false e = e
+
+and-on : (a b : Bool) → (a && b) ≡ false → b ≡ true → a ≡ false
+and-on true b e t = absurd (both_ways b e t)
+and-on false b e t = refl
+
+no-same : {A : Type 0} {G : Type 0} (x : A) → None ≡ Some x → G
+no-same x e = absurd (no e)
   where
     no : None ≡ Some x → ⊥
     no e = cc
-filled-there (y ∷ ys) zero x e = omega arith
-filled-there (y ∷ ys) (suc i) x e = let t = filled-there ys i x e in omega (arith, t)
 
--- the slot that was lent is that of the list
-pub slot-at : {A : Type 0} (xs : List (Option A)) (i : ℕ) (slot lent : Option A) → i < length xs → slot ≡ get_or xs i slot → slot ≡ lent → get_or xs i None ≡ lent
-slot-at [] i slot lent lt value is = absurd (omega (arith, lt))
-slot-at (y ∷ ys) zero slot lent lt value is = sym value ∙ is
-slot-at (y ∷ ys) (suc i) slot lent lt value is = slot-at ys i slot lent (omega (arith, lt)) value is
+makes-longer : (world : World) (writes : Lane → Bool) (from to : Lane → Point) (b a : OutputsView) → Makes world writes from to b a → length b.items ≤ length a.items
+makes-longer world writes from to b a m = let size = ap length m.items ∙ length-append b.items m.added in omega (arith, size)
 
-filled-within : {A : Type 0} (xs : List (Option A)) (i : ℕ) → is_some (get_or xs i None) ≡ true → i < length xs
-filled-within [] i e = absurd (both_ways false refl e)
-filled-within (y ∷ ys) zero e = omega arith
-filled-within (y ∷ ys) (suc i) e = let t = filled-within ys i e in omega (arith, t)
+-- ---- the head's lanes
 
-pub set-same : {A : Type 0} (xs : List A) (i : ℕ) (d : A) → d ≡ get_or xs i d → set xs i d ≡ xs
-set-same [] i d e = refl
-set-same (y ∷ ys) zero d e = ap (λ z. z ∷ ys) e
-set-same (y ∷ ys) (suc i) d e = ap (λ zs. y ∷ zs) (set-same ys i d e)
+module _ {T : Type 0} (h : HeadView T) (l : Lane) where
+  -- they enter hop 0
+  head-first : head_writes h l ≡ true → (l.hop == 0) ≡ true
+  head-first w = ⊎_elim
+      (λ (t : same_lane l (data_lane h.channel 0) ≡ true). ap (λ (m : Lane). m.hop == 0) (same_lane-equal l (data_lane h.channel 0) t))
+      (λ (f : same_lane l (data_lane h.channel 0) ≡ false).
+      ap (λ (m : Lane). m.hop == 0) (same_lane-equal l (flags_lane h.channel 0) (sym (ap (λ (b : Bool). b || same_lane l (flags_lane h.channel 0)) f) ∙ w)))
+      (cases_Bool (same_lane l (data_lane h.channel 0)))
 
-same-filled : {A : Type 0} (xs : List (Option A)) (i : ℕ) (x y : A) → get_or xs i None ≡ Some x → map (λ (slot : Option A). is_some slot) (set xs i (Some y)) ≡ map (λ (slot : Option A). is_some slot) xs
-same-filled [] i x y e = refl
-same-filled (z ∷ zs) zero x y e = ap (λ (b : Bool). b ∷ map (λ (slot : Option _). is_some slot) zs) (sym (ap (λ (slot : Option _). is_some slot) e))
-same-filled (z ∷ zs) (suc i) x y e = ap (λ (ws : List Bool). is_some z ∷ ws) (same-filled zs i x y e)
+  -- no other has come anywhere
+  head-nowhere : head_writes h l ≡ false → head_came h l ≡ nowhere
+  head-nowhere w =
+      let none = or-two (same_lane l (data_lane h.channel 0)) (same_lane l (flags_lane h.channel 0)) w in
+      cond-false (same_lane l (data_lane h.channel 0)) (port_point h.input.port) _ none.0 ∙ cond-false (same_lane l (flags_lane h.channel 0)) (port_point h.buffer.flags) nowhere none.1
 
--- ---- small facts
+module _ {S T : Type 0} (meaning : S → Meaning) (stands_after : S → List Event → Type 0) (state : T → TransportState) (p : PartView S T) where
+  -- the head writes the lanes of hop 0, and none of the contexts does
+  first-writer : (l : Lane) → (l.hop == 0) ≡ true → writer_hop p.path l.hop ≡ head_hop p
+  first-writer l z = cond-true (l.hop == 0) (head_hop p) _ z
 
-one-of-three : {G : Type 0} (a b c : Bool) → (a || (b || c)) ≡ true → (a ≡ true → G) → (b ≡ true → G) → (c ≡ true → G) → G
-one-of-three true b c e f g h = f refl
-one-of-three false true c e f g h = g refl
-one-of-three false false c e f g h = h e
+  none-first : (l : Lane) → (l.hop == 0) ≡ true → context_at p.path (writer_hop p.path l.hop) ≡ None
+  none-first l z = beyond p.path.contexts (writer_hop p.path l.hop) (let w = first-writer l z in omega (arith, w))
 
-none-of-three : (a b c : Bool) → (a || (b || c)) ≡ false → (a ≡ false) × (b ≡ false) × (c ≡ false)
-none-of-three false false c e = (refl, refl, e)
-none-of-three false true c e = absurd (both_ways true e refl)
-none-of-three true b c e = absurd (both_ways true e refl)
+  path-quiet : (l : Lane) → (l.hop == 0) ≡ true → path_writes meaning p.path l ≡ false
+  path-quiet l z = ap (λ (o : Option (ContextView S)). option_map_or (λ (c : ContextView S). context_writes (meaning c.stage).direction c l) o false) (none-first l z)
 
-three-lanes : (a b c a' b' c' : Lane) → a ∷ b ∷ c ∷ [] ≡ a' ∷ b' ∷ c' ∷ [] → (a ≡ a') × (b ≡ b') × (c ≡ c')
-three-lanes a b c a' b' c' e = (cc, cc, cc)
+  -- ---- the head moves
 
-apart-tail : (d : Direction) (hop k : ℕ) → IsHop d hop k → hop ≢ k
-apart-tail Inbound hop k is e = let less = is.0 in omega (arith, less, e)
-apart-tail Turn hop k is e = let less = is.0 in omega (arith, less, e)
-apart-tail Outbound hop k is e = let less = is.0 in omega (arith, less, e)
+  module _ (h : HeadView T) (at : p.head ≡ Some h) (h' : HeadView T) (place : (h'.channel ≡ h.channel) × (h'.hop ≡ h.hop)) where
+    abbrev pub with_head : PartView S T
+    with_head = record p { head = Some h' }
 
-or-either : (a b : Bool) → a ≡ true → (a || b) ≡ true
-or-either true b e = refl
-or-either false b e = absurd (both_ways false refl e)
+    same-head-writes : (l : Lane) → head_writes h' l ≡ head_writes h l
+    same-head-writes l = (λ i. same_lane l (data_lane (place.0 i) 0) || same_lane l (flags_lane (place.0 i) 0))
 
-or-other : (a b : Bool) → b ≡ true → (a || b) ≡ true
-or-other true b e = refl
-or-other false b e = e
+    wrote : (l : Lane) → option_map_or (λ (x : HeadView T). head_writes x l) p.head false ≡ head_writes h l
+    wrote l = ap (λ (o : Option (HeadView T)). option_map_or (λ (x : HeadView T). head_writes x l) o false) at
 
--- a hop of a channel is among its lanes
-among-hops : (lane : Lane) (channel hop n first : ℕ) → same_hop lane (data_lane channel hop) ≡ true → first ≤ hop → hop < first + n → list_any (same_hop lane) (map (λ k. data_lane channel k) (range_with_len first n)) ≡ true
-among-hops lane channel hop zero first same from to = absurd (omega (arith, from, to))
-among-hops lane channel hop (suc n) first same from to = ⊎_elim
-    (λ (t : (first == hop) ≡ true).
-    or-either (same_hop lane (data_lane channel first)) _ (ap (λ (k : ℕ). same_hop lane (data_lane channel k)) (eqb-true first hop t) ∙ same))
-    (λ (f : (first == hop) ≡ false).
-    let n-eq : first ≢ hop = (λ e. both_ways (first == hop) f (eq-eqb first hop e)) in
-    or-other (same_hop lane (data_lane channel first)) _ (among-hops lane channel hop n (first + 1) same (omega (arith, from, n-eq)) (omega (arith, to))))
-    (cases_Bool (first == hop))
+    came : (l : Lane) → option_map_or (λ (x : HeadView T). head_came x l) p.head nowhere ≡ head_came h l
+    came l = ap (λ (o : Option (HeadView T)). option_map_or (λ (x : HeadView T). head_came x l) o nowhere) at
 
--- lanes of two hops are two
-other-hop : (l m : Lane) → (l.hop ≡ m.hop → ⊥) → same_lane l m ≡ false
-other-hop l m off = ⊎_elim (λ (t : same_lane l m ≡ true). absurd (off (ap (λ (k : Lane). k.hop) (same_lane-equal l m t)))) (λ (f : same_lane l m ≡ false). f) (cases_Bool (same_lane l m))
+    head-writes : (l : Lane) → part_writes meaning with_head l ≡ part_writes meaning p l
+    head-writes l = ap (λ (b : Bool). if l.hop == 0 then b else path_writes meaning p.path l) (same-head-writes l ∙ sym (wrote l))
 
--- a lane that a stage does not write has come nowhere
-came-nowhere : (hu hd : Bool) (p q f : Port) (l : Lane) → ports_write hu hd p.lane q.lane f.lane l ≡ false → ports_came hu hd p q f l ≡ nowhere
-came-nowhere hu hd p q f l e =
-    let n = none-of-three (hu && same_lane l p.lane) (hd && same_lane l q.lane) (hu && same_lane l f.lane) e in
-    cond-false (hu && same_lane l p.lane) (port_point p) _ n.0 ∙ cond-false (hd && same_lane l q.lane) (port_point q) _ n.1
-    ∙ cond-false (hu && same_lane l f.lane) (port_point f) nowhere n.2
+    first-came : (l : Lane) → (l.hop == 0) ≡ true → head_writes h l ≡ false → part_came meaning with_head l ≡ part_came meaning p l
+    first-came l z w =
+        cond-true (l.hop == 0) (head_came h' l) (path_came meaning p.path l) z ∙ head-nowhere h' l (same-head-writes l ∙ w) ∙ sym (head-nowhere h l w) ∙ sym (came l)
+        ∙ sym (cond-true (l.hop == 0) (option_map_or (λ (x : HeadView T). head_came x l) p.head nowhere) (path_came meaning p.path l) z)
 
--- ---- a context moves
+    later-came : (l : Lane) → (l.hop == 0) ≡ false → part_came meaning with_head l ≡ part_came meaning p l
+    later-came l z =
+        cond-false (l.hop == 0) (head_came h' l) (path_came meaning p.path l) z
+        ∙ sym (cond-false (l.hop == 0) (option_map_or (λ (x : HeadView T). head_came x l) p.head nowhere) (path_came meaning p.path l) z)
 
-module _ {S : Type 0} (meaning : S → Meaning) (stands_after : S → List Event → Type 0) (v : PartView S) (inv : IsPart (length v.executors) (length v.contexts) v.tail_hop v.turn)
-    (some : (world : World) × PartHolds world meaning stands_after v) (hop : ℕ) (c : ContextView S) (at : context_at v hop ≡ Some c) where
-  is : IsAt meaning v.channel hop v.tail_hop v.turn c
-  is = (some.1.contexts hop c at).1
+    head-others : (l : Lane) → writes_at meaning p (head_hop p) l ≡ false → part_came meaning with_head l ≡ part_came meaning p l
+    head-others l w = ⊎_elim
+        (λ (z : (l.hop == 0) ≡ true).
+        let part = and-on (part_writes meaning p l) (writer_hop p.path l.hop == head_hop p) w (eq-eqb (writer_hop p.path l.hop) (head_hop p) (first-writer l z)) in
+        first-came l z (sym (wrote l) ∙ sym (cond-true (l.hop == 0) (option_map_or (λ (x : HeadView T). head_writes x l) p.head false) (path_writes meaning p.path l) z) ∙ part))
+        (λ (z : (l.hop == 0) ≡ false). later-came l z)
+        (cases_Bool (l.hop == 0))
 
-  within : hop < length v.contexts
-  within = filled-there v.contexts hop c at
+    head-makes : (world : World) (b a : OutputsView) → Makes world (head_writes h) (head_came h) (head_came h') b a → Makes world (writes_at meaning p (head_hop p)) (part_came meaning p) (part_came meaning with_head) b a
+    head-makes world b a = makes-among world (head_writes h) (writes_at meaning p (head_hop p)) (head_came h) (head_came h') (part_came meaning p) (part_came meaning with_head) b a
+        (λ l t. let z = head-first h l t in (
+          and_from _ _ (cond-true (l.hop == 0) (option_map_or (λ (x : HeadView T). head_writes x l) p.head false) (path_writes meaning p.path l) z ∙ wrote l ∙ t)
+              (eq-eqb (writer_hop p.path l.hop) (head_hop p) (first-writer l z)),
+          cond-true (l.hop == 0) (option_map_or (λ (x : HeadView T). head_came x l) p.head nowhere) (path_came meaning p.path l) z ∙ came l,
+          cond-true (l.hop == 0) (head_came h' l) (path_came meaning p.path l) z,
+        ))
+        (λ l f. sym (⊎_elim (λ (z : (l.hop == 0) ≡ true). first-came l z f) (λ (z : (l.hop == 0) ≡ false). later-came l z) (cases_Bool (l.hop == 0))))
 
-  own-lanes : (c.up.lane ≡ data_lane v.channel (hop + 1)) × (c.down.lane ≡ data_lane v.channel (down_hop (meaning c.stage).direction hop v.tail_hop)) × (c.flags.lane ≡ flags_lane v.channel (hop + 1))
-  own-lanes = three-lanes c.up.lane c.down.lane c.flags.lane _ _ _ is.lanes
+    head-same : SamePart p with_head
+    head-same = record {
+      path = record { channel = refl; executors = refl; contexts = refl; tail = refl; tail_hop = refl; turn = refl };
+      head = sym (ap (λ (o : Option (HeadView T)). is_some o) at);
+    }
 
-  pub apart : hop ≢ v.tail_hop
-  apart = apart-tail (meaning c.stage).direction hop v.tail_hop is.fits
+    head-holds : (world : World) → PartHolds world meaning stands_after state p → HeadHolds state world h' → PartHolds world meaning stands_after state with_head
+    head-holds world holds held = record {
+      path = holds.path;
+      head = λ x found.
+          let own = holds.head h at in
+          subst (λ (y : HeadView T). HeadHolds state world y × (y.channel ≡ p.path.channel) × (y.hop ≡ head_hop p)) (some-equal h' x found) (held, place.0 ∙ own.1, place.1 ∙ own.2);
+      hops = holds.hops;
+    }
 
-  -- ---- its counts
+    -- ---- in a world where the part holds
 
-  taken-at : (l : Lane) → l.hop ≡ hop → (p : PartView S) (x : ContextView S) → p.tail_hop ≡ v.tail_hop → context_at p hop ≡ Some x → part_taken p l ≡ taken_of x l
-  taken-at l e p x k has =
-      let n = apart in
-      cond-false (l.hop == p.tail_hop) _ _ (ne_eqb l.hop p.tail_hop (λ z. n (omega (arith, e, z, k))))
-      ∙ ap (λ (o : Option (ContextView S)). option_map_or (λ (y : ContextView S). taken_of y l) o 0) (ap (λ (h : ℕ). context_at p h) e ∙ has)
+    module _ (some : (world : World) × PartHolds world meaning stands_after state p) where
+      own-channel : h.channel ≡ p.path.channel
+      own-channel = (some.1.head h at).1
 
-  pub context-enters : (e : Envelope) → e.lane.hop ≡ hop → has_entered v e.lane ≡ true → Enters c e.lane
-  context-enters e on_hop entered = record {
-    channel = eqb-true e.lane.channel v.channel (and_parts (e.lane.channel == v.channel) _ entered).0 ∙ sym is.channel_is;
-    hop = on_hop ∙ sym is.hop_is;
+      own-hop : h.hop ≡ head_hop p
+      own-hop = (some.1.head h at).2
+
+      pub head-among : AreAmong (head_lanes h) (part_lanes p)
+      head-among lane any =
+          let hops = some.1.hops in
+          among-hops lane p.path.channel 0 (length p.path.executors) 0
+          (ap (λ (n : ℕ). same_hop lane (data_lane n 0)) (sym own-channel) ∙ or-same (same_hop lane (data_lane h.channel 0)) any) (omega arith) (omega (arith, hops))
+
+      head-puts : (b a : OutputsView) → ((lanes : List Lane) → AreAmong (head_lanes h) lanes → HasPlaces b.stopped lanes → HasPlaces a.stopped lanes)
+          → HeadHolds state some.0 h' → Makes some.0 (head_writes h) (head_came h) (head_came h') b a → Puts meaning p (head_hop p) b with_head a
+      head-puts b a placed held makes = record {
+        same = head-same;
+        writes = head-writes;
+        others = head-others;
+        placed = λ lanes among places. placed lanes (λ l any. among l (head-among l any)) places;
+        longer = makes-longer some.0 (head_writes h) (head_came h) (head_came h') b a makes;
+        few = part-few some.0 meaning stands_after state with_head (head-holds some.0 some.1 held);
+      }
+
+      -- more was done by the head, and by no other
+      head-done : part_done with_head + head_done h ≡ part_done p + head_done h'
+      head-done = let old = ap (λ (o : Option (HeadView T)). option_map_or (λ (x : HeadView T). head_done x) o 0) at in omega (arith, old)
+
+      pub head-given : (b a : OutputsView) → h'.taken ≡ h.taken → ((world : World) → HeadHolds state world h → HeadHolds state world h')
+          → ((world : World) → HeadHolds state world h → Makes world (head_writes h) (head_came h) (head_came h') b a)
+          → ((lanes : List Lane) → AreAmong (head_lanes h) lanes → HasPlaces b.stopped lanes → HasPlaces a.stopped lanes)
+          → head_done h + length a.items ≤ head_done h' + length b.items → Given meaning stands_after state p (head_hop p) b with_head a
+      head-given b a count held made placed more = record {
+        taken = λ l.
+            ap (λ (n : ℕ). if l.hop == head_hop p then n else path_taken p.path l)
+            ((λ i. cond (same_lane l (data_lane (place.0 i) (place.1 i))) (count i) 0) ∙ sym (ap (λ (o : Option (HeadView T)). option_map_or (λ (x : HeadView T). head_taken x l) o 0) at));
+        puts = let own = (some.1.head h at).0 in head-puts b a placed (held some.0 own) (made some.0 own);
+        holds = λ world holds. head-holds world holds (held world (holds.head h at).0);
+        made = λ world holds. head-makes world b a (made world (holds.head h at).0);
+        more = let done = head-done in omega (arith, done, more);
+      }
+
+      module _ (e : Envelope) (there : (e.lane.hop == head_hop p) ≡ true) where
+        pub head-enters : has_entered p e.lane ≡ true → EntersHead h e.lane
+        head-enters entered =
+            let here = and_parts (is_some p.head) (same_lane e.lane (data_lane p.path.channel (head_hop p))) (sym (cond-true (e.lane.hop == head_hop p) _ (enters_path p.path e.lane) there) ∙ entered) in
+            same_lane-equal e.lane (data_lane p.path.channel (head_hop p)) here.1 ∙ (λ i. data_lane (sym own-channel i) (sym own-hop i))
+
+        taken-there : (l : Lane) → (l.hop == head_hop p) ≡ true → part_taken p l ≡ head_taken h l
+        taken-there l on = cond-true (l.hop == head_hop p) _ (path_taken p.path l) on ∙ ap (λ (o : Option (HeadView T)). option_map_or (λ (x : HeadView T). head_taken x l) o 0) at
+
+        pub head-number : EntersHead h e.lane → e.number ≡ part_taken p e.lane → e.number ≡ h.taken
+        head-number enters number =
+            number ∙ taken-there e.lane there
+            ∙ cond-true (same_lane e.lane (data_lane h.channel h.hop)) h.taken 0 (ap (λ (m : Lane). same_lane m (data_lane h.channel h.hop)) enters ∙ same_lane-self (data_lane h.channel h.hop))
+
+        head-counts : EntersHead h e.lane → e.number ≡ h.taken → h'.taken ≡ h.taken + 1 → (l : Lane) → part_taken with_head l ≡ cond (same_lane l e.lane) (e.number + 1) (part_taken p l)
+        head-counts enters number count l = ⊎_elim
+            (λ (on : (l.hop == head_hop p) ≡ true).
+            cond-true (l.hop == head_hop p) (head_taken h' l) (path_taken p.path l) on
+            ∙ (λ i. cond (same_lane l (data_lane (place.0 i) (place.1 i))) (count i) 0)
+            ∙ ap (λ (m : Lane). cond (same_lane l m) (h.taken + 1) 0) (sym enters)
+            ∙ ⊎_elim
+            (λ (t : same_lane l e.lane ≡ true).
+            cond-true (same_lane l e.lane) (h.taken + 1) 0 t ∙ ap (λ (n : ℕ). n + 1) (sym number) ∙ sym (cond-true (same_lane l e.lane) (e.number + 1) (part_taken p l) t))
+            (λ (f : same_lane l e.lane ≡ false).
+            cond-false (same_lane l e.lane) (h.taken + 1) 0 f
+            ∙ sym (cond-false (same_lane l (data_lane h.channel h.hop)) h.taken 0 (ap (λ (m : Lane). same_lane l m) (sym enters) ∙ f)) ∙ sym (taken-there l on)
+            ∙ sym (cond-false (same_lane l e.lane) (e.number + 1) (part_taken p l) f))
+            (cases_Bool (same_lane l e.lane)))
+            (λ (off : (l.hop == head_hop p) ≡ false).
+            cond-false (l.hop == head_hop p) (head_taken h' l) (path_taken p.path l) off
+            ∙ sym (cond-false (l.hop == head_hop p) (option_map_or (λ (x : HeadView T). head_taken x l) p.head 0) (path_taken p.path l) off)
+            ∙ sym (cond-false (same_lane l e.lane) (e.number + 1) (part_taken p l)
+            (other-hop l e.lane (λ same. both_ways (l.hop == head_hop p) off (ap (λ (n : ℕ). n == head_hop p) same ∙ there)))))
+            (cases_Bool (l.hop == head_hop p))
+
+        pub head-taken : IsGood some.0 e → (is_spent : S → Bool) (b a : OutputsView) (answer : Took) → EntersHead h e.lane → e.number ≡ h.taken → HeadTakes state h e b answer h' a
+            → ((world : World) → HeadHolds state world h → IsGood world e → HeadHolds state world h')
+            → ((world : World) → HeadHolds state world h → IsGood world e → Makes world (head_writes h) (head_came h) (head_came h') b a)
+            → ((lanes : List Lane) → AreAmong (head_lanes h) lanes → HasPlaces b.stopped lanes → HasPlaces a.stopped lanes)
+            → head_done h + length a.items + 1 ≤ head_done h' + length b.items → Taken meaning stands_after state is_spent p e b answer with_head a
+        head-taken fits is_spent b a answer enters number takes held made placed more =
+            let own = (some.1.head h at).0 in
+            let on : head_hop p ≡ e.lane.hop = sym (eqb-true e.lane.hop (head_hop p) there) in
+            record {
+              takes = record {
+                path = λ off. absurd (both_ways (e.lane.hop == head_hop p) off there);
+                head = λ x t found. (h', refl, subst (λ (y : HeadView T). HeadTakes state y e b answer h' a) (some-equal h x (sym at ∙ found)) takes, refl);
+              };
+              taken = λ l. head-counts enters number takes.taken l;
+              puts = subst (λ (n : ℕ). Puts meaning p n b with_head a) on (head-puts b a placed (held some.0 own fits) (made some.0 own fits));
+              holds = λ world holds good. head-holds world holds (held world (holds.head h at).0 good);
+              made = λ world holds good.
+                  subst (λ (n : ℕ). Makes world (writes_at meaning p n) (part_came meaning p) (part_came meaning with_head) b a) on (head-makes world b a (made world (holds.head h at).0 good));
+              more = let done = head-done in omega (arith, done, more);
+            }
+
+  pub head-places : (some : (world : World) × PartHolds world meaning stands_after state p) (h : HeadView T) → p.head ≡ Some h → (b : OutputsView) → HasPlaces b.stopped (part_lanes p) → HasPlaces b.stopped (head_lanes h)
+  head-places some h at b places = record {
+    hops = places.hops;
+    few = places.few;
+    stopped = places.stopped;
+    stopped_flags = places.stopped_flags;
+    own = λ l any. places.own l (head-among h at h (refl, refl) some l any);
   }
 
-  pub context-number : (e : Envelope) → e.lane.hop ≡ hop → Enters c e.lane → e.number ≡ part_taken v e.lane → e.number ≡ kind_taken c e.lane.kind
-  context-number e on_hop enters number = number ∙ taken-at e.lane on_hop v c refl at ∙ taken-kind c.channel c.hop e.lane enters.channel enters.hop (λ k. kind_taken c k)
+  -- ---- nothing moves
 
-  -- ---- its places
-
-  below : (d : Direction) → IsHop d hop v.tail_hop → down_hop d hop v.tail_hop < length v.executors
-  below Inbound i = let w = within in let h = inv.hops_are in omega (arith, w, h)
-  below Outbound i = let w = within in let h = inv.hops_are in omega (arith, w, h)
-  below Turn i = let w = inv.within in let h = inv.hops_are in omega (arith, w, h)
-
-  pub context-among : AreAmong (context_lanes c) (part_lanes v)
-  context-among lane any =
-      let up = data_lane v.channel (hop + 1) in
-      let down = data_lane v.channel (down_hop (meaning c.stage).direction hop v.tail_hop) in
-      let w = within in
-      let h = inv.hops_are in
-      let next : hop + 1 < 0 + length v.executors = omega (arith, w, h) in
-      one-of-three (same_hop lane up) (same_hop lane down) (same_hop lane (flags_lane v.channel (hop + 1)) || false) (sym (ap (λ (ls : List Lane). list_any (same_hop lane) ls) is.lanes) ∙ any)
-      (λ t. among-hops lane v.channel (hop + 1) (length v.executors) 0 t (omega arith) next)
-      (λ t. among-hops lane v.channel (down_hop (meaning c.stage).direction hop v.tail_hop) (length v.executors) 0 t (omega arith) (let b = below (meaning c.stage).direction is.fits in omega (arith, b)))
-      (λ t. among-hops lane v.channel (hop + 1) (length v.executors) 0 (or-false (same_hop lane up) t) (omega arith) next)
-    where
-      or-false : (a : Bool) → (a || false) ≡ true → a ≡ true
-      or-false true e = refl
-      or-false false e = e
-
-  pub context-places : (before : OutputsView) → HasPlaces before.stopped (part_lanes v) → HasPlaces before.stopped (context_lanes c)
-  context-places before p = record { hops = p.hops; few = p.few; stopped = p.stopped; stopped_flags = p.stopped_flags; own = λ l a. p.own l (context-among l a) }
-
-  -- ---- who writes a lane
-
-  writer-next : (h : ℕ) → h ≡ hop + 1 → writer_hop v h ≡ hop
-  writer-next h e =
-      let n = apart in
-      cond-false (h == 0) _ _ (ne_eqb h 0 (λ z. omega (arith, e, z))) ∙ cond-false (h == v.tail_hop + 1) _ _ (ne_eqb h (v.tail_hop + 1) (λ z. n (omega (arith, e, z)))) ∙ omega (arith, e)
-
-  writer-down : (d : Direction) → (is_turn d ≡ true → hop ≡ v.turn) → has_down d ≡ true → (h : ℕ) → h ≡ down_hop d hop v.tail_hop → writer_hop v h ≡ hop
-  writer-down Inbound t has h e = absurd (both_ways false refl has)
-  writer-down Outbound t has h e = writer-next h e
-  writer-down Turn t has h e =
-      cond-false (h == 0) _ _ (ne_eqb h 0 (λ z. omega (arith, e, z))) ∙ cond-true (h == v.tail_hop + 1) v.turn (h - 1) (eq-eqb h (v.tail_hop + 1) e) ∙ sym (t refl)
-
-  own-writer : (l : Lane) → context_writes (meaning c.stage).direction c l ≡ true → writer_hop v l.hop ≡ hop
-  own-writer l w =
-      let d = (meaning c.stage).direction in
-      one-of-three (has_up d && same_lane l c.up.lane) (has_down d && same_lane l c.down.lane) (has_up d && same_lane l c.flags.lane) w
-      (λ t. writer-next l.hop (ap (λ (m : Lane). m.hop) (same_lane-equal l c.up.lane (and_parts _ _ t).1 ∙ own-lanes.0)))
-      (λ t. let p = and_parts _ _ t in writer-down d is.turned p.0 l.hop (ap (λ (m : Lane). m.hop) (same_lane-equal l c.down.lane p.1 ∙ own-lanes.1)))
-      (λ t. writer-next l.hop (ap (λ (m : Lane). m.hop) (same_lane-equal l c.flags.lane (and_parts _ _ t).1 ∙ own-lanes.2)))
-
-  module _ (c' : ContextView S) (meant : meaning c'.stage ≡ meaning c.stage) (place : (c'.channel ≡ c.channel) × (c'.hop ≡ c.hop)) (lanes : context_lanes c' ≡ context_lanes c) where
-    abbrev pub moved_part : PartView S
-    moved_part = record v { contexts = set v.contexts hop (Some c') }
-
-    pub now-here : context_at moved_part hop ≡ Some c'
-    now-here = get_or-set_same v.contexts hop (Some c') None within
-
-    pub still-there : (h : ℕ) → h ≢ hop → context_at moved_part h ≡ context_at v h
-    still-there h n = get_or-set_other v.contexts hop h (Some c') None n
-
-    same-writer : (h : ℕ) → writer_hop moved_part h ≡ writer_hop v h
-    same-writer h = ap (λ (n : ℕ). if h == 0 then n else if h == v.tail_hop + 1 then v.turn else h - 1) (length-set v.contexts hop (Some c'))
-
-    -- a lane by its writer: this context, or another
-    by-writer : {G : Type 0} (l : Lane) → (writer_hop v l.hop ≡ hop → context_at v (writer_hop v l.hop) ≡ Some c → context_at moved_part (writer_hop moved_part l.hop) ≡ Some c' → G)
-        → (context_at moved_part (writer_hop moved_part l.hop) ≡ context_at v (writer_hop v l.hop) → G) → G
-    by-writer l own other = ⊎_elim
-        (λ (t : (writer_hop v l.hop == hop) ≡ true).
-        let e = eqb-true (writer_hop v l.hop) hop t in
-        own e (ap (λ (h : ℕ). context_at v h) e ∙ at) (ap (λ (h : ℕ). context_at moved_part h) (same-writer l.hop ∙ e) ∙ now-here))
-        (λ (f : (writer_hop v l.hop == hop) ≡ false).
-        other (ap (λ (h : ℕ). context_at moved_part h) (same-writer l.hop) ∙ still-there (writer_hop v l.hop) (λ e. both_ways (writer_hop v l.hop == hop) f (eq-eqb (writer_hop v l.hop) hop e))))
-        (cases_Bool (writer_hop v l.hop == hop))
-
-    wrote : (l : Lane) (o : Option (ContextView S)) (x : ContextView S) → o ≡ Some x
-        → option_map_or (λ (y : ContextView S). context_writes (meaning y.stage).direction y l) o false ≡ context_writes (meaning x.stage).direction x l
-    wrote l o x e = ap (λ (z : Option (ContextView S)). option_map_or (λ (y : ContextView S). context_writes (meaning y.stage).direction y l) z false) e
-
-    came : (l : Lane) (o : Option (ContextView S)) (x : ContextView S) → o ≡ Some x
-        → option_map_or (λ (y : ContextView S). context_came (meaning y.stage).direction y l) o nowhere ≡ context_came (meaning x.stage).direction x l
-    came l o x e = ap (λ (z : Option (ContextView S)). option_map_or (λ (y : ContextView S). context_came (meaning y.stage).direction y l) z nowhere) e
-
-    still-writes : (l : Lane) → context_writes (meaning c.stage).direction c' l ≡ context_writes (meaning c.stage).direction c l
-    still-writes l =
-        let d = (meaning c.stage).direction in
-        let e = three-lanes c'.up.lane c'.down.lane c'.flags.lane _ _ _ lanes in
-        (λ i. ports_write (has_up d) (has_down d) (e.0 i) (e.1 i) (e.2 i) l)
-
-    now-came : (l : Lane) (o : Option (ContextView S)) → o ≡ Some c'
-        → option_map_or (λ (y : ContextView S). context_came (meaning y.stage).direction y l) o nowhere ≡ context_came (meaning c.stage).direction c' l
-    now-came l o e = came l o c' e ∙ ap (λ (m : Meaning). context_came m.direction c' l) meant
-
-    pub writes-same : (l : Lane) → part_writes meaning moved_part l ≡ part_writes meaning v l
-    writes-same l = by-writer l
-        (λ e old now. wrote l _ c' now ∙ ap (λ (m : Meaning). context_writes m.direction c' l) meant ∙ still-writes l ∙ sym (wrote l _ c old))
-        (λ same. ap (λ (z : Option (ContextView S)). option_map_or (λ (y : ContextView S). context_writes (meaning y.stage).direction y l) z false) same)
-
-    same-came : (l : Lane) → context_writes (meaning c.stage).direction c l ≡ false → part_came meaning v l ≡ part_came meaning moved_part l
-    same-came l f =
-        let d = (meaning c.stage).direction in
-        by-writer l
-        (λ e old now. came l _ c old ∙ came-nowhere (has_up d) (has_down d) c.up c.down c.flags l f
-        ∙ sym (came-nowhere (has_up d) (has_down d) c'.up c'.down c'.flags l (still-writes l ∙ f)) ∙ sym (now-came l _ now))
-        (λ same. ap (λ (z : Option (ContextView S)). option_map_or (λ (y : ContextView S). context_came (meaning y.stage).direction y l) z nowhere) (sym same))
-
-    part-makes : (world : World) (before after : OutputsView)
-        → Makes world (context_writes (meaning c.stage).direction c) (context_came (meaning c.stage).direction c) (context_came (meaning c.stage).direction c') before after
-        → Makes world (part_writes meaning v) (part_came meaning v) (part_came meaning moved_part) before after
-    part-makes world before after = makes-among world (context_writes (meaning c.stage).direction c) (part_writes meaning v)
-        (context_came (meaning c.stage).direction c) (context_came (meaning c.stage).direction c') (part_came meaning v) (part_came meaning moved_part) before after
-        (λ l t. let e = own-writer l t in (
-          wrote l _ c (ap (λ (h : ℕ). context_at v h) e ∙ at) ∙ t,
-          came l _ c (ap (λ (h : ℕ). context_at v h) e ∙ at),
-          now-came l _ (ap (λ (h : ℕ). context_at moved_part h) (same-writer l.hop ∙ e) ∙ now-here),
-        ))
-        (λ l f. same-came l f)
-
-    still-at : IsAt meaning v.channel hop v.tail_hop v.turn c'
-    still-at = record {
-      channel_is = place.0 ∙ is.channel_is;
-      hop_is = place.1 ∙ is.hop_is;
-      fits = subst (λ (m : Meaning). IsHop m.direction hop v.tail_hop) (sym meant) is.fits;
-      turned = λ t. is.turned (ap (λ (m : Meaning). is_turn m.direction) (sym meant) ∙ t);
-      lanes = lanes ∙ is.lanes ∙ ap (λ (m : Meaning). data_lane v.channel (hop + 1) ∷ data_lane v.channel (down_hop m.direction hop v.tail_hop) ∷ flags_lane v.channel (hop + 1) ∷ []) (sym meant);
-    }
-
-    part-holds : (world : World) → PartHolds world meaning stands_after v → ContextHolds world meaning stands_after c' → PartHolds world meaning stands_after moved_part
-    part-holds world holds held = record {
-      contexts = λ h x e. ⊎_elim
-          (λ (t : (h == hop) ≡ true).
-          let same = eqb-true h hop t in
-          let x-is : c' ≡ x = some-equal c' x (sym now-here ∙ ap (λ (k : ℕ). context_at moved_part k) (sym same) ∙ e) in
-          subst (λ (y : ℕ × ContextView S). ContextHolds world meaning stands_after y.1 × IsAt meaning v.channel y.0 v.tail_hop v.turn y.1) (λ i. (sym same i, x-is i)) (held, still-at))
-          (λ (f : (h == hop) ≡ false).
-          holds.contexts h x (sym (still-there h (λ k. both_ways (h == hop) f (eq-eqb h hop k))) ∙ e))
-          (cases_Bool (h == hop));
-      tail = holds.tail;
-    }
-
-    context-puts : (before after : OutputsView) → ((hops : List Lane) → AreAmong (context_lanes c) hops → HasPlaces before.stopped hops → HasPlaces after.stopped hops) → Puts meaning v before moved_part after
-    context-puts before after placed = record {
-      same = record { channel = refl; executors = refl; contexts = same-filled v.contexts hop c c' at; tail = refl; tail_hop = refl; turn = refl };
-      writes = λ l. writes-same l;
-      placed = λ hops among p. placed hops (λ l a. among l (context-among l a)) p;
-    }
-
-    pub taken-by : (to : Lane → ℕ → ℕ) → ((l : Lane) → l.hop ≡ hop → taken_of c' l ≡ to l (taken_of c l)) → ((l : Lane) (n : ℕ) → l.hop ≢ hop → to l n ≡ n)
-        → (l : Lane) → part_taken moved_part l ≡ to l (part_taken v l)
-    taken-by to own other l = ⊎_elim
-        (λ (t : (l.hop == hop) ≡ true).
-        let e = eqb-true l.hop hop t in
-        taken-at l e moved_part c' refl now-here ∙ own l e ∙ ap (λ (n : ℕ). to l n) (sym (taken-at l e v c refl at)))
-        (λ (f : (l.hop == hop) ≡ false).
-        let n : l.hop ≢ hop = (λ e. both_ways (l.hop == hop) f (eq-eqb l.hop hop e)) in
-        ap (λ (o : Option (ContextView S)). if l.hop == v.tail_hop then option_map_or (λ (y : TailView). tail_taken_of y l) v.tail 0 else option_map_or (λ (y : ContextView S). taken_of y l) o 0) (still-there l.hop n)
-        ∙ sym (other l (part_taken v l) n))
-        (cases_Bool (l.hop == hop))
-
-    pub context-taken : (is_spent : S → Bool) (e : Envelope) (before after : OutputsView) (answer : Took) → e.lane.hop ≡ hop → Enters c e.lane → e.number ≡ kind_taken c e.lane.kind
-        → ContextTakes meaning stands_after is_spent c e before answer c' after → ((k : Kind) → kind_taken c' k ≡ kind_taken c k + one_of k e.lane.kind)
-        → ((world : World) → ContextHolds world meaning stands_after c → IsGood world e → ContextHolds world meaning stands_after c')
-        → ((world : World) → ContextHolds world meaning stands_after c → IsGood world e
-        → Makes world (context_writes (meaning c.stage).direction c) (context_came (meaning c.stage).direction c) (context_came (meaning c.stage).direction c') before after)
-        → ((hops : List Lane) → AreAmong (context_lanes c) hops → HasPlaces before.stopped hops → HasPlaces after.stopped hops)
-        → Taken meaning stands_after is_spent v e before answer moved_part after
-    context-taken is_spent e before after answer on_hop enters number takes counts held made placed = record {
-      takes = record {
-        context = λ x off found. (
-          c',
-          ap (λ (h : ℕ). context_at moved_part h) on_hop ∙ now-here,
-          subst (λ (y : ContextView S). ContextTakes meaning stands_after is_spent y e before answer c' after)
-              (some-equal c x (sym at ∙ ap (λ (h : ℕ). context_at v h) (sym on_hop) ∙ found)) takes,
-        );
-        tail = λ t on found. absurd (apart (sym on_hop ∙ eqb-true e.lane.hop v.tail_hop on));
-        others = λ h f. still-there h (λ k. both_ways (h == e.lane.hop) f (eq-eqb h e.lane.hop (k ∙ sym on_hop)));
-      };
-      taken = taken-by (λ l n. cond (same_lane l e.lane) (e.number + 1) n)
-          (λ l on_same. (λ i. place_taken (place.0 i) (place.1 i) (λ k. kind_taken c' k) l)
-          ∙ taken-next c.channel c.hop e.lane enters.channel enters.hop (λ k. kind_taken c k) (λ k. kind_taken c' k) e.number number counts l)
-          (λ l n off. cond-false (same_lane l e.lane) (e.number + 1) n (other-hop l e.lane (λ same. off (same ∙ on_hop))));
-      puts = context-puts before after placed;
-      holds = λ world holds good. part-holds world holds (held world (holds.contexts hop c at).0 good);
-      made = λ world holds good. part-makes world before after (made world (holds.contexts hop c at).0 good);
-    }
-
-    pub context-refused : (lane : Lane) (before after : OutputsView) → hop ≡ writer_hop v lane.hop → (lane.kind ≡ Data → is_over c'.standing ≡ true) → ((k : Kind) → kind_taken c' k ≡ kind_taken c k)
-        → ((world : World) → ContextHolds world meaning stands_after c → ContextHolds world meaning stands_after c')
-        → ((world : World) → ContextHolds world meaning stands_after c
-        → Makes world (context_writes (meaning c.stage).direction c) (context_came (meaning c.stage).direction c) (context_came (meaning c.stage).direction c') before after)
-        → ((hops : List Lane) → AreAmong (context_lanes c) hops → HasPlaces before.stopped hops → HasPlaces after.stopped hops)
-        → Refused meaning stands_after v lane before moved_part after
-    context-refused lane before after writer over counts held made placed = record {
-      over = λ k x found. subst (λ (y : ContextView S). is_over y.standing ≡ true)
-          (some-equal c' x (sym (ap (λ (h : ℕ). context_at moved_part h) (same-writer lane.hop ∙ sym writer) ∙ now-here) ∙ found)) (over k);
-      taken = taken-by (λ l n. n) (λ l on_same. (λ i. place_taken (place.0 i) (place.1 i) (λ k. counts k i) l)) (λ l n off. refl);
-      puts = context-puts before after placed;
-      holds = λ world holds. part-holds world holds (held world (holds.contexts hop c at).0);
-      made = λ world holds. part-makes world before after (made world (holds.contexts hop c at).0);
-    }
-
--- ---- the tail moves, and nothing does
-
-module _ {S : Type 0} (meaning : S → Meaning) (stands_after : S → List Event → Type 0) (v : PartView S) where
-  beyond : {A : Type 0} (xs : List (Option A)) (i : ℕ) → length xs ≤ i → get_or xs i None ≡ None
-  beyond [] i le = refl
-  beyond (x ∷ xs) zero le = absurd (omega (arith, le))
-  beyond (x ∷ xs) (suc i) le = beyond xs i (omega (arith, le))
-
-  pub none-refused : (lane : Lane) (before : OutputsView) → context_at v (writer_hop v lane.hop) ≡ None → Refused meaning stands_after v lane before v before
-  none-refused lane before none = record {
-    over = λ k x found. absurd (no (sym none ∙ found));
+  pub none-given : (some : (world : World) × PartHolds world meaning stands_after state p) (hop : ℕ) (b : OutputsView) → Given meaning stands_after state p hop b p b
+  none-given some hop b = record {
     taken = λ l. refl;
     puts = record {
-      same = record { channel = refl; executors = refl; contexts = refl; tail = refl; tail_hop = refl; turn = refl };
+      same = record { path = record { channel = refl; executors = refl; contexts = refl; tail = refl; tail_hop = refl; turn = refl }; head = refl };
       writes = λ l. refl;
-      placed = λ hops among p. p;
+      others = λ l f. refl;
+      placed = λ lanes among places. places;
+      longer = omega arith;
+      few = part-few some.0 meaning stands_after state p some.1;
     };
     holds = λ world holds. holds;
-    made = λ world holds. makes-none world (part_writes meaning v) (part_came meaning v) before before refl refl;
+    made = λ world holds. makes-none world (writes_at meaning p hop) (part_came meaning p) b b refl refl;
+    more = omega arith;
   }
-    where
-      no : {x : ContextView S} → None ≡ Some x → ⊥
-      no e = cc
 
-  pub beyond-refused : (lane : Lane) (before : OutputsView) → length v.contexts ≤ writer_hop v lane.hop → Refused meaning stands_after v lane before v before
-  beyond-refused lane before past = none-refused lane before (beyond v.contexts (writer_hop v lane.hop) past)
+  -- ---- a context or the tail moves
 
-  module _ (some : (world : World) × PartHolds world meaning stands_after v) (t : TailView) (at : v.tail ≡ Some t) (e : Envelope) (there : (e.lane.hop == v.tail_hop) ≡ true) where
-    place : (t.channel ≡ v.channel) × (t.hop ≡ v.tail_hop)
-    place = let held = some.1.tail t at in (held.1, held.2)
+  module _ (v' : PathView S) (same : SamePath p.path v') where
+    abbrev pub with_path : PartView S T
+    with_path = record p { path = v' }
 
-    pub tail-enters : has_entered v e.lane ≡ true → EntersTail t e.lane
-    tail-enters entered = record {
-      channel = eqb-true e.lane.channel v.channel (and_parts (e.lane.channel == v.channel) _ entered).0 ∙ sym place.0;
-      hop = eqb-true e.lane.hop v.tail_hop there ∙ sym place.1;
+    same-hop : head_hop with_path ≡ head_hop p
+    same-hop =
+        sym (length-map v'.contexts (λ (slot : Option (ContextView S)). is_some slot)) ∙ ap length same.contexts ∙ length-map p.path.contexts (λ (slot : Option (ContextView S)). is_some slot)
+
+    path-same : SamePart p with_path
+    path-same = record { path = same; head = refl }
+
+    path-holds : (world : World) → PartHolds world meaning stands_after state p → PathHolds world meaning stands_after v' → PartHolds world meaning stands_after state with_path
+    path-holds world holds held = record {
+      path = held;
+      head = λ h found. let own = holds.head h found in (own.0, own.1 ∙ sym same.channel, own.2 ∙ sym same-hop);
+      hops = ap length same.executors ∙ holds.hops ∙ ap (λ (n : ℕ). n + 1) (sym same-hop);
     }
 
-    taken-there : (p : PartView S) (x : TailView) (l : Lane) → (l.hop == p.tail_hop) ≡ true → p.tail ≡ Some x → part_taken p l ≡ tail_taken_of x l
-    taken-there p x l on found = cond-true (l.hop == p.tail_hop) _ _ on ∙ ap (λ (o : Option TailView). option_map_or (λ (y : TailView). tail_taken_of y l) o 0) found
+    module _ (hop : ℕ) (writes : (l : Lane) → path_writes meaning v' l ≡ path_writes meaning p.path l)
+        (others : (l : Lane) → path_writes_at meaning p.path hop l ≡ false → path_came meaning v' l ≡ path_came meaning p.path l) where
+      path-others : (l : Lane) → (l.hop == 0) ≡ true → part_came meaning with_path l ≡ part_came meaning p l
+      path-others l z =
+          cond-true (l.hop == 0) (option_map_or (λ (x : HeadView T). head_came x l) p.head nowhere) (path_came meaning v' l) z
+          ∙ sym (cond-true (l.hop == 0) (option_map_or (λ (x : HeadView T). head_came x l) p.head nowhere) (path_came meaning p.path l) z)
 
-    pub tail-number : EntersTail t e.lane → e.number ≡ part_taken v e.lane → e.number ≡ tail_kind_taken t e.lane.kind
-    tail-number enters number = number ∙ taken-there v t e.lane there at ∙ taken-kind t.channel t.hop e.lane enters.channel enters.hop (λ k. tail_kind_taken t k)
+      later-came-path : (l : Lane) → (l.hop == 0) ≡ false → path_writes_at meaning p.path hop l ≡ false → part_came meaning with_path l ≡ part_came meaning p l
+      later-came-path l z f =
+          cond-false (l.hop == 0) (option_map_or (λ (x : HeadView T). head_came x l) p.head nowhere) (path_came meaning v' l) z ∙ others l f
+          ∙ sym (cond-false (l.hop == 0) (option_map_or (λ (x : HeadView T). head_came x l) p.head nowhere) (path_came meaning p.path l) z)
 
-    pub tail-taken : (is_spent : S → Bool) (before : OutputsView) (answer : Took) (t' : TailView) → EntersTail t e.lane → e.number ≡ tail_kind_taken t e.lane.kind
-        → TailTakes t e answer t' → ((world : World) → TailHolds world t → IsGood world e → TailHolds world t') → (t'.channel ≡ t.channel) × (t'.hop ≡ t.hop)
-        → ((k : Kind) → tail_kind_taken t' k ≡ tail_kind_taken t k + one_of k e.lane.kind)
-        → Taken meaning stands_after is_spent v e before answer (record v { tail = Some t' }) before
-    tail-taken is_spent before answer t' enters number takes held still counts = record {
-      takes = record {
-        context = λ x off found. absurd (both_ways (e.lane.hop == v.tail_hop) off there);
-        tail = λ x on found. (t', refl, subst (λ (y : TailView). TailTakes y e answer t') (some-equal t x (sym at ∙ found)) takes, refl);
-        others = λ h f. refl;
-      };
+      later-writes : (l : Lane) → (l.hop == 0) ≡ false → path_writes_at meaning p.path hop l ≡ writes_at meaning p hop l
+      later-writes l z =
+          ap (λ (b : Bool). b && (writer_hop p.path l.hop == hop)) (sym (cond-false (l.hop == 0) (option_map_or (λ (x : HeadView T). head_writes x l) p.head false) (path_writes meaning p.path l) z))
+
+      path-puts : (some : (world : World) × PartHolds world meaning stands_after state p) (b a : OutputsView)
+          → ((lanes : List Lane) → AreAmong (path_lanes p.path) lanes → HasPlaces b.stopped lanes → HasPlaces a.stopped lanes)
+          → PathHolds some.0 meaning stands_after v' → Makes some.0 (path_writes_at meaning p.path hop) (path_came meaning p.path) (path_came meaning v') b a → Puts meaning p hop b with_path a
+      path-puts some b a placed held makes = record {
+        same = path-same;
+        writes = λ l. ap (λ (x : Bool). if l.hop == 0 then option_map_or (λ (y : HeadView T). head_writes y l) p.head false else x) (writes l);
+        others = λ l f. ⊎_elim (λ (z : (l.hop == 0) ≡ true). path-others l z) (λ (z : (l.hop == 0) ≡ false). later-came-path l z (later-writes l z ∙ f)) (cases_Bool (l.hop == 0));
+        placed = placed;
+        longer = makes-longer some.0 (path_writes_at meaning p.path hop) (path_came meaning p.path) (path_came meaning v') b a makes;
+        few = part-few some.0 meaning stands_after state with_path (path-holds some.0 some.1 held);
+      }
+
+      path-makes : (world : World) (b a : OutputsView) → Makes world (path_writes_at meaning p.path hop) (path_came meaning p.path) (path_came meaning v') b a
+          → Makes world (writes_at meaning p hop) (part_came meaning p) (part_came meaning with_path) b a
+      path-makes world b a = makes-among world (path_writes_at meaning p.path hop) (writes_at meaning p hop) (path_came meaning p.path) (path_came meaning v') (part_came meaning p) (part_came meaning with_path) b a
+          (λ l t. let z = not-first l t in (
+            sym (later-writes l z) ∙ t,
+            cond-false (l.hop == 0) (option_map_or (λ (x : HeadView T). head_came x l) p.head nowhere) (path_came meaning p.path l) z,
+            cond-false (l.hop == 0) (option_map_or (λ (x : HeadView T). head_came x l) p.head nowhere) (path_came meaning v' l) z,
+          ))
+          (λ l f. sym (⊎_elim (λ (z : (l.hop == 0) ≡ true). path-others l z) (λ (z : (l.hop == 0) ≡ false). later-came-path l z f) (cases_Bool (l.hop == 0))))
+        where
+          not-first : (l : Lane) → path_writes_at meaning p.path hop l ≡ true → (l.hop == 0) ≡ false
+          not-first l t = ⊎_elim
+              (λ (z : (l.hop == 0) ≡ true). absurd (both_ways (path_writes meaning p.path l) (path-quiet l z) (and_parts _ _ t).0))
+              (λ (z : (l.hop == 0) ≡ false). z)
+              (cases_Bool (l.hop == 0))
+
+      pub path-given : (some : (world : World) × PartHolds world meaning stands_after state p) (b a : OutputsView) → ((l : Lane) → path_taken v' l ≡ path_taken p.path l)
+          → ((lanes : List Lane) → AreAmong (path_lanes p.path) lanes → HasPlaces b.stopped lanes → HasPlaces a.stopped lanes)
+          → ((world : World) → PathHolds world meaning stands_after p.path → PathHolds world meaning stands_after v')
+          → ((world : World) → PathHolds world meaning stands_after p.path → Makes world (path_writes_at meaning p.path hop) (path_came meaning p.path) (path_came meaning v') b a)
+          → path_done p.path + length a.items ≤ path_done v' + length b.items
+          → Given meaning stands_after state p hop b with_path a
+      path-given some b a counts placed held made more = record {
+        taken = λ l. (λ i. if l.hop == same-hop i then option_map_or (λ (x : HeadView T). head_taken x l) p.head 0 else counts l i);
+        puts = path-puts some b a placed (held some.0 some.1.path) (made some.0 some.1.path);
+        holds = λ world holds. path-holds world holds (held world holds.path);
+        made = λ world holds. path-makes world b a (made world holds.path);
+        more = omega (arith, more);
+      }
+
+  -- the envelope goes to a context or to the tail
+  module _ (e : Envelope) (off : (e.lane.hop == head_hop p) ≡ false) where
+    pub next-on-path : (world : World) (b : OutputsView) → IsNextFor world meaning stands_after state p e b → IsNextOnPath world meaning stands_after p.path e b
+    next-on-path world b next = record {
+      holds = next.holds.path;
+      entered = sym (cond-false (e.lane.hop == head_hop p) (is_some p.head && same_lane e.lane (data_lane p.path.channel (head_hop p))) (enters_path p.path e.lane) off) ∙ next.entered;
+      number = next.number ∙ cond-false (e.lane.hop == head_hop p) (option_map_or (λ (x : HeadView T). head_taken x e.lane) p.head 0) (path_taken p.path e.lane) off;
+      good = next.good;
+      places = next.places;
+    }
+
+    pub path-taken : (v' : PathView S) (same : SamePath p.path v') (some : (world : World) × PartHolds world meaning stands_after state p) → IsGood some.0 e → (is_spent : S → Bool) (b a : OutputsView) (answer : Took) → PathTakes meaning stands_after is_spent p.path e b answer v' a
+        → ((l : Lane) → path_taken v' l ≡ cond (same_lane l e.lane) (e.number + 1) (path_taken p.path l))
+        → ((l : Lane) → path_writes meaning v' l ≡ path_writes meaning p.path l)
+        → ((l : Lane) → path_writes_at meaning p.path e.lane.hop l ≡ false → path_came meaning v' l ≡ path_came meaning p.path l)
+        → ((lanes : List Lane) → AreAmong (path_lanes p.path) lanes → HasPlaces b.stopped lanes → HasPlaces a.stopped lanes)
+        → ((world : World) → PathHolds world meaning stands_after p.path → IsGood world e → PathHolds world meaning stands_after v')
+        → ((world : World) → PathHolds world meaning stands_after p.path → IsGood world e → Makes world (path_writes_at meaning p.path e.lane.hop) (path_came meaning p.path) (path_came meaning v') b a)
+        → path_done p.path + length a.items + 1 ≤ path_done v' + length b.items
+        → Taken meaning stands_after state is_spent p e b answer (with_path v' same) a
+    path-taken v' same some fits is_spent b a answer takes counts writes others placed held made more = record {
+      takes = record { path = λ f. (takes, refl); head = λ h on found. absurd (both_ways (e.lane.hop == head_hop p) off on) };
       taken = λ l. ⊎_elim
-          (λ (on : (l.hop == v.tail_hop) ≡ true).
-          taken-there (record v { tail = Some t' }) t' l on refl ∙ (λ i. place_taken (still.0 i) (still.1 i) (λ k. tail_kind_taken t' k) l)
-          ∙ taken-next t.channel t.hop e.lane enters.channel enters.hop (λ k. tail_kind_taken t k) (λ k. tail_kind_taken t' k) e.number number counts l
-          ∙ ap (λ (n : ℕ). cond (same_lane l e.lane) (e.number + 1) n) (sym (taken-there v t l on at)))
-          (λ (off : (l.hop == v.tail_hop) ≡ false).
-          cond-false (l.hop == v.tail_hop) _ _ off ∙ sym (cond-false (l.hop == v.tail_hop) _ _ off)
-          ∙ sym (cond-false (same_lane l e.lane) (e.number + 1) (part_taken v l)
-          (other-hop l e.lane (λ same. both_ways (l.hop == v.tail_hop) off (ap (λ (h : ℕ). h == v.tail_hop) same ∙ there)))))
-          (cases_Bool (l.hop == v.tail_hop));
-      puts = record {
-        same = record { channel = refl; executors = refl; contexts = refl; tail = sym (ap (λ (o : Option TailView). is_some o) at); tail_hop = refl; turn = refl };
-        writes = λ l. refl;
-        placed = λ hops among p. p;
-      };
-      holds = λ world holds good. record {
-        contexts = holds.contexts;
-        tail = λ x found. subst (λ (y : TailView). TailHolds world y × (y.channel ≡ v.channel) × (y.hop ≡ v.tail_hop)) (some-equal t' x found)
-            (held world (holds.tail t at).0 good, still.0 ∙ place.0, still.1 ∙ place.1);
-      };
-      made = λ world holds good. makes-none world (part_writes meaning v) (part_came meaning v) before before refl refl;
+          (λ (on : (l.hop == head_hop p) ≡ true).
+          (λ i. if l.hop == same-hop v' same i then option_map_or (λ (x : HeadView T). head_taken x l) p.head 0 else path_taken v' l)
+          ∙ cond-true (l.hop == head_hop p) (option_map_or (λ (x : HeadView T). head_taken x l) p.head 0) (path_taken v' l) on
+          ∙ sym (cond-true (l.hop == head_hop p) (option_map_or (λ (x : HeadView T). head_taken x l) p.head 0) (path_taken p.path l) on)
+          ∙ sym (cond-false (same_lane l e.lane) (e.number + 1) (part_taken p l) (other-hop l e.lane (λ q. both_ways (e.lane.hop == head_hop p) off (ap (λ (n : ℕ). n == head_hop p) (sym q) ∙ on)))))
+          (λ (f : (l.hop == head_hop p) ≡ false).
+          (λ i. if l.hop == same-hop v' same i then option_map_or (λ (x : HeadView T). head_taken x l) p.head 0 else path_taken v' l)
+          ∙ cond-false (l.hop == head_hop p) (option_map_or (λ (x : HeadView T). head_taken x l) p.head 0) (path_taken v' l) f
+          ∙ counts l
+          ∙ ap (λ (n : ℕ). cond (same_lane l e.lane) (e.number + 1) n) (sym (cond-false (l.hop == head_hop p) (option_map_or (λ (x : HeadView T). head_taken x l) p.head 0) (path_taken p.path l) f)))
+          (cases_Bool (l.hop == head_hop p));
+      puts = path-puts v' same e.lane.hop writes others some b a placed (held some.0 some.1.path fits) (made some.0 some.1.path fits);
+      holds = λ world holds good. path-holds v' same world holds (held world holds.path good);
+      made = λ world holds good. path-makes v' same e.lane.hop writes others world b a (made world holds.path good);
+      more = omega (arith, more);
     }
 
 -- ---- for a view of the same part
 
-pub entered-within : {S : Type 0} (world : World) (meaning : S → Meaning) (stands_after : S → List Event → Type 0) (v : PartView S) (e : Envelope) (before : OutputsView) → IsNextFor world meaning stands_after v e before
-    → (e.lane.hop == v.tail_hop) ≡ false → e.lane.hop < length v.contexts
-entered-within world meaning stands_after v e before next off =
-    filled-within v.contexts e.lane.hop (sym (cond-false (e.lane.hop == v.tail_hop) (is_some v.tail) (is_some (context_at v e.lane.hop)) off) ∙ (and_parts (e.lane.channel == v.channel) _ next.entered).1)
+module _ {S T : Type 0} (meaning : S → Meaning) (stands_after : S → List Event → Type 0) (state : T → TransportState) (p v : PartView S T) (same : v ≡ p) (before : OutputsView) (v' : PartView S T) (after : OutputsView) where
+  pub taken-of : (is_spent : S → Bool) (e : Envelope) (answer : Took) → Taken meaning stands_after state is_spent v e before answer v' after → Taken meaning stands_after state is_spent p e before answer v' after
+  taken-of is_spent e answer t = subst (λ (y : PartView S T). Taken meaning stands_after state is_spent y e before answer v' after) same t
 
-module _ {S : Type 0} (meaning : S → Meaning) (stands_after : S → List Event → Type 0) (p v : PartView S) (same : v ≡ p) (before : OutputsView) (v' : PartView S) (after : OutputsView) where
-  pub taken-of : (is_spent : S → Bool) (e : Envelope) (answer : Took) → Taken meaning stands_after is_spent v e before answer v' after → Taken meaning stands_after is_spent p e before answer v' after
-  taken-of is_spent e answer t = subst (λ (y : PartView S). Taken meaning stands_after is_spent y e before answer v' after) same t
+  pub refused-of : (hop : ℕ) → Given meaning stands_after state v (writer_hop v.path hop) before v' after → Given meaning stands_after state p (writer_hop p.path hop) before v' after
+  refused-of hop t = subst (λ (y : PartView S T). Given meaning stands_after state y (writer_hop y.path hop) before v' after) same t
 
-  pub refused-of : (l : Lane) → Refused meaning stands_after v l before v' after → Refused meaning stands_after p l before v' after
-  refused-of l t = subst (λ (y : PartView S). Refused meaning stands_after y l before v' after) same t
+  pub given-of : Given meaning stands_after state v (head_hop v) before v' after → Given meaning stands_after state p (head_hop p) before v' after
+  given-of t = subst (λ (y : PartView S T). Given meaning stands_after state y (head_hop y) before v' after) same t
+
+  module _ (h : HeadView T) (at : v.head ≡ Some h) (h' : HeadView T) where
+    abbrev moved_head : PartView S T
+    moved_head = record v { head = Some h' }
+
+    pub reads-of : (answer : ReadStep) → HeadReads state h before answer h' after → PartReads state p before answer moved_head after
+    reads-of answer r = subst (λ (y : PartView S T). PartReads state y before answer moved_head after) same
+        (record {
+          head = λ x found. (h', refl, subst (λ (y : HeadView T). HeadReads state y before answer h' after) (some-equal h x (sym at ∙ found)) r);
+          none = λ n. no-same h (sym n ∙ at);
+          path = refl;
+        })
+
+    pub writes-of : (may_refuse : T → ℕ → Type 0) (answer : OutStep) → HeadWrites state may_refuse h before answer h' after → PartWrites state may_refuse p before answer moved_head after
+    writes-of may_refuse answer r = subst (λ (y : PartView S T). PartWrites state may_refuse y before answer moved_head after) same
+        (record {
+          head = λ x found. (h', refl, subst (λ (y : HeadView T). HeadWrites state may_refuse y before answer h' after) (some-equal h x (sym at ∙ found)) r);
+          none = λ n. no-same h (sym n ∙ at);
+          path = refl;
+        })
+
+    pub aborts-of : HeadAborts state h before h' after → PartAborts state p before moved_head after
+    aborts-of r = subst (λ (y : PartView S T). PartAborts state y before moved_head after) same
+        (record {
+          head = λ x found. (h', refl, subst (λ (y : HeadView T). HeadAborts state y before h' after) (some-equal h x (sym at ∙ found)) r);
+          none = λ n. no-same h (sym n ∙ at);
+          path = refl;
+        })
+
+-- ---- all nodes of a channel
+
+pub filled-length : {A : Type 0} (xs : List (Option A)) (n m : ℕ) → map (λ (slot : Option A). is_some slot) xs ≡ replicate n true ++ false ∷ replicate m true → length xs ≡ n + m + 1
+filled-length xs n m e =
+    let size = sym (length-map xs (λ (slot : Option _). is_some slot)) ∙ ap length e ∙ length-append (replicate n true) (false ∷ replicate m true) in
+    let one = length-replicate n true in
+    let two = length-replicate m true in
+    omega (arith, size, one, two)

@@ -25,7 +25,7 @@ use Rattle.pl_event.specs.Worlds.{World, FitsWorld, FitsAsKind, content_of}
 use Rattle.pl_flow.specs.Flows.{IsGood}
 use Rattle.pl_event.specs.Hops.{data_lane}
 use Rattle.pl_part.specs.TailHolds.{TailHoldsWith, Alternate}
-use Rattle.pl_part.proofs.EventLists.{some-equal, split-at}
+use Rattle.pl_part.proofs.EventLists.{some-equal, split-at, fits-within}
 
 pub alternate-more : (n : ℕ) (bs : List Bool) (b : Bool) → Alternate n bs → b ≡ ((n + length bs) % 2 == 1) → Alternate n (bs ++ b ∷ [])
 alternate-more n [] b h e = let same : n + 0 ≡ n = omega arith in (e ∙ ap (λ k. k % 2 == 1) same, tt)
@@ -42,6 +42,10 @@ module _ (world : World) (events : List Event) (t : TailView) (h : TailHoldsWith
 
   -- ---- its data lane
 
+  -- one item more is few
+  taken-few : (i : Item) → Fits events t.taken i → t.taken + 1 ≤ 2 ^ 31
+  taken-few i fits = let within = fits-within events t.taken i fits in let few = h.few in omega (arith, within, few)
+
   recorded : t.standing ≡ stands.Open → (x : Event) → slice_get events t.taken ≡ Some x → (room : ℕ) → Held (record t { taken = t.taken + 1; events = t.events ++ x ∷ []; room = room })
   recorded live x fits room =
       let s = split-at events t.taken x fits in
@@ -54,6 +58,8 @@ module _ (world : World) (events : List Event) (t : TailView) (h : TailHoldsWith
         flags = h.flags;
         flags_most = h.flags_most;
         flags_all = h.flags_all;
+        few_taken = taken-few (item.Event x) fits;
+        few_flags = h.few_flags;
       }
 
   failing : t.standing ≡ stands.Open → (cause : Cause) → (room : ℕ) → Held (record t { taken = t.taken + 1; standing = stands.Failed cause; room = room })
@@ -66,6 +72,8 @@ module _ (world : World) (events : List Event) (t : TailView) (h : TailHoldsWith
     flags = h.flags;
     flags_most = h.flags_most;
     flags_all = λ f. absurd (both_ways true f refl);
+    few_taken = let most = (h.taken live).0 in let few = h.few in omega (arith, most, few);
+    few_flags = h.few_flags;
   }
 
   ending : t.standing ≡ stands.Open → t.taken ≡ length events → Held (record t { taken = t.taken + 1; standing = stands.Ended })
@@ -78,10 +86,12 @@ module _ (world : World) (events : List Event) (t : TailView) (h : TailHoldsWith
     flags = h.flags;
     flags_most = h.flags_most;
     flags_all = λ f. h.flags_all (ap has_failed live);
+    few_taken = taken-few item.End last;
+    few_flags = h.few_flags;
   }
 
-  counted-over : is_over t.standing ≡ true → Held (counted Data t)
-  counted-over over = record {
+  counted-over : is_over t.standing ≡ true → t.taken + 1 ≤ 2 ^ 31 → Held (counted Data t)
+  counted-over over small = record {
     own = h.own;
     few = h.few;
     taken = λ o. absurd (both_ways (is_over t.standing) (ap is_over o) over);
@@ -90,6 +100,8 @@ module _ (world : World) (events : List Event) (t : TailView) (h : TailHoldsWith
     flags = h.flags;
     flags_most = h.flags_most;
     flags_all = h.flags_all;
+    few_taken = small;
+    few_flags = h.few_flags;
   }
 
   taken-open : t.standing ≡ stands.Open → (i : Item) → Fits events t.taken i → (answer : Took) (t' : TailView) → RecordsItem (counted Data t) i answer t' → Held t'
@@ -104,8 +116,8 @@ module _ (world : World) (events : List Event) (t : TailView) (h : TailHoldsWith
   -- ---- its flags lane
 
   -- no flag is added
-  flag-lost : (has_failed t.standing ≡ false → t.flags_stopped ≡ false → ⊥) → Held (counted Flags t)
-  flag-lost none =
+  flag-lost : (has_failed t.standing ≡ false → t.flags_stopped ≡ false → ⊥) → t.flags_taken < 2 ^ 32 → Held (counted Flags t)
+  flag-lost none small =
       let most = h.flags_most in record {
         own = h.own;
         few = h.few;
@@ -115,10 +127,12 @@ module _ (world : World) (events : List Event) (t : TailView) (h : TailHoldsWith
         flags = h.flags;
         flags_most = omega (arith, most);
         flags_all = λ f s. absurd (none f s);
+        few_taken = h.few_taken;
+        few_flags = omega (arith, small);
       }
 
-  flag-stops : (room : ℕ) → Held (record (counted Flags t) { flags_stopped = true; flags_room = room })
-  flag-stops room =
+  flag-stops : t.flags_taken < 2 ^ 32 → (room : ℕ) → Held (record (counted Flags t) { flags_stopped = true; flags_room = room })
+  flag-stops small room =
       let most = h.flags_most in record {
         own = h.own;
         few = h.few;
@@ -128,10 +142,12 @@ module _ (world : World) (events : List Event) (t : TailView) (h : TailHoldsWith
         flags = h.flags;
         flags_most = omega (arith, most);
         flags_all = λ f s. absurd (both_ways true s refl);
+        few_taken = h.few_taken;
+        few_flags = omega (arith, small);
       }
 
-  flag-added : (value : Bool) → value ≡ (t.flags_taken % 2 == 1) → has_failed t.standing ≡ false → t.flags_stopped ≡ false → (room : ℕ) → Held (record (counted Flags t) { flags = t.flags ++ value ∷ []; flags_room = room })
-  flag-added value fits f goes room =
+  flag-added : t.flags_taken < 2 ^ 32 → (value : Bool) → value ≡ (t.flags_taken % 2 == 1) → has_failed t.standing ≡ false → t.flags_stopped ≡ false → (room : ℕ) → Held (record (counted Flags t) { flags = t.flags ++ value ∷ []; flags_room = room })
+  flag-added small value fits f goes room =
       let all = h.flags_all f goes in
       let size = length-append t.flags (value ∷ []) in
       let at : t.flags_taken ≡ 0 + length t.flags = omega (arith, all) in record {
@@ -143,31 +159,33 @@ module _ (world : World) (events : List Event) (t : TailView) (h : TailHoldsWith
         flags = alternate-more 0 t.flags value h.flags (fits ∙ ap (λ k. k % 2 == 1) at);
         flags_most = omega (arith, all, size);
         flags_all = λ f s. omega (arith, all, size);
+        few_taken = h.few_taken;
+        few_flags = omega (arith, small);
       }
 
-  flag-recorded : (value : Bool) → value ≡ (t.flags_taken % 2 == 1) → has_failed t.standing ≡ false → (t' : TailView) → RecordsFlag (counted Flags t) value t' → Held t'
-  flag-recorded value fits f t' r = ⊎_elim
-      (λ (s : t.flags_stopped ≡ true). subst (λ (z : TailView). Held z) (sym (r.stopped s)) (flag-lost (λ f n. both_ways t.flags_stopped n s)))
+  flag-recorded : t.flags_taken < 2 ^ 32 → (value : Bool) → value ≡ (t.flags_taken % 2 == 1) → has_failed t.standing ≡ false → (t' : TailView) → RecordsFlag (counted Flags t) value t' → Held t'
+  flag-recorded small value fits f t' r = ⊎_elim
+      (λ (s : t.flags_stopped ≡ true). subst (λ (z : TailView). Held z) (sym (r.stopped s)) (flag-lost (λ f n. both_ways t.flags_stopped n s) small))
       (λ (s : t.flags_stopped ≡ false). ⊎_elim
-      (λ (e : AddsFlag (counted Flags t) value t'). subst (λ (z : TailView). Held z) (sym e.same) (flag-added value fits f s t'.flags_room))
-      (λ (e : LosesFlag (counted Flags t) t'). subst (λ (z : TailView). Held z) (sym e.same) (flag-stops t'.flags_room))
+      (λ (e : AddsFlag (counted Flags t) value t'). subst (λ (z : TailView). Held z) (sym e.same) (flag-added small value fits f s t'.flags_room))
+      (λ (e : LosesFlag (counted Flags t) t'). subst (λ (z : TailView). Held z) (sym e.same) (flag-stops small t'.flags_room))
       (r.goes_on s))
       (cases_Bool t.flags_stopped)
 
-  flags-taken : (i : Item) → FitsAsFlag t.flags_taken i → has_failed t.standing ≡ false → (t' : TailView) → RecordsFlagItem (counted Flags t) i t' → Held t'
-  flags-taken (item.Flag value) fits f t' r = flag-recorded value fits f t' r
-  flags-taken (item.Event x) fits f t' r = absurd fits
-  flags-taken item.End fits f t' r = absurd fits
-  flags-taken (item.Fail cause) fits f t' r = absurd fits
+  flags-taken : t.flags_taken < 2 ^ 32 → (i : Item) → FitsAsFlag t.flags_taken i → has_failed t.standing ≡ false → (t' : TailView) → RecordsFlagItem (counted Flags t) i t' → Held t'
+  flags-taken small (item.Flag value) fits f t' r = flag-recorded small value fits f t' r
+  flags-taken small (item.Event x) fits f t' r = absurd fits
+  flags-taken small item.End fits f t' r = absurd fits
+  flags-taken small (item.Fail cause) fits f t' r = absurd fits
 
-  dropped : (k : Kind) → has_failed t.standing ≡ true → Held (counted k t)
-  dropped Data f = counted-over (failed-over t.standing f)
+  dropped : (k : Kind) → has_failed t.standing ≡ true → (k ≡ Data → t.taken + 1 ≤ 2 ^ 31) → (k ≡ Flags → t.flags_taken < 2 ^ 32) → Held (counted k t)
+  dropped Data f items flags = counted-over (failed-over t.standing f) (items refl)
     where
       failed-over : (s : Standing) → has_failed s ≡ true → is_over s ≡ true
       failed-over stands.Open e = e
       failed-over stands.Ended e = refl
       failed-over (stands.Failed cause) e = refl
-  dropped Flags f = flag-lost (λ n s. both_ways (has_failed t.standing) n f)
+  dropped Flags f items flags = flag-lost (λ n s. both_ways (has_failed t.standing) n f) (flags refl)
 
   -- ---- any item of its lanes
 
@@ -189,18 +207,12 @@ module _ (world : World) (events : List Event) (t : TailView) (h : TailHoldsWith
         let f = subst (λ k. FitsAsKind world k e) is good.fits in
         subst (λ n. FitsAsFlag n e.item) (here Flags is) f
 
-    fits-within : (i : Item) → Fits events t.taken i → t.taken ≤ length events
-    fits-within (item.Event x) fits = let within = slice_get_within events t.taken x fits in omega (arith, within)
-    fits-within item.End fits = omega (arith, fits)
-    fits-within (item.Fail cause) fits = fits
-    fits-within (item.Flag value) fits = absurd fits
-
     pub tail-limit : e.number < number_limit e.lane.kind
     tail-limit = by e.lane.kind refl
       where
         by : (k : Kind) → e.lane.kind ≡ k → e.number < number_limit k
         by Data is =
-            let within = fits-within e.item (data-fits is) in
+            let within = fits-within events t.taken e.item (data-fits is) in
             let few = h.few in
             let n = here Data is in
             omega (arith, within, few, n)
@@ -214,12 +226,18 @@ module _ (world : World) (events : List Event) (t : TailView) (h : TailHoldsWith
         → Held t'
     tail-taken t' answer item ended flag drops = by e.lane.kind refl t.standing refl
       where
+        small : e.lane.kind ≡ Flags → t.flags_taken < 2 ^ 32
+        small is = subst (λ n. n < 2 ^ 32) (here Flags is) good.small
+
+        next : e.lane.kind ≡ Data → t.taken + 1 ≤ 2 ^ 31
+        next is = taken-few e.item (data-fits is)
+
         by : (k : Kind) → e.lane.kind ≡ k → (s : Standing) → t.standing ≡ s → Held t'
         by Data is stands.Open live = taken-open live e.item (data-fits is) answer t' (item is live)
-        by Data is stands.Ended over = subst (λ (z : TailView). Held z) (sym (ended is over).1) (counted-over (ap is_over over))
-        by k is (stands.Failed cause) over = subst (λ (z : TailView). Held z) (sym (drops (ap has_failed over)).1) (dropped e.lane.kind (ap has_failed over))
-        by Flags is stands.Open live = flags-taken e.item (flag-fits is) (ap has_failed live) t' (flag is (ap has_failed live)).1
-        by Flags is stands.Ended live = flags-taken e.item (flag-fits is) (ap has_failed live) t' (flag is (ap has_failed live)).1
+        by Data is stands.Ended over = subst (λ (z : TailView). Held z) (sym (ended is over).1) (counted-over (ap is_over over) (next is))
+        by k is (stands.Failed cause) over = subst (λ (z : TailView). Held z) (sym (drops (ap has_failed over)).1) (dropped e.lane.kind (ap has_failed over) next small)
+        by Flags is stands.Open live = flags-taken (small is) e.item (flag-fits is) (ap has_failed live) t' (flag is (ap has_failed live)).1
+        by Flags is stands.Ended live = flags-taken (small is) e.item (flag-fits is) (ap has_failed live) t' (flag is (ap has_failed live)).1
 
 -- ---- one that has taken nothing
 
@@ -233,4 +251,6 @@ new-holds world channel k events own few = record {
   flags = tt;
   flags_most = omega arith;
   flags_all = λ f s. refl;
+  few_taken = omega arith;
+  few_flags = omega arith;
 }

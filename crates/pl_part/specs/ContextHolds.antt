@@ -57,6 +57,14 @@ pub record IsWired (world : World) (m : Meaning) (events : List Event) (channel 
   pub few_up : has_up m.direction ≡ true → length (up_of m events) + 1 < 2 ^ 31
   pub few_down : has_down m.direction ≡ true → length (down_of m events) + 1 < 2 ^ 31
 
+-- It took few items, and made few.
+pub record HasFewItems {S : Type 0} (c : ContextView S) : Type 0 where
+  pub taken : c.taken ≤ 2 ^ 31
+  pub flags_taken : c.flags_taken ≤ 2 ^ 32
+  pub up : c.up.made ≤ 2 ^ 31
+  pub down : c.down.made ≤ 2 ^ 31
+  pub flags : c.flags.made ≤ c.flags_taken
+
 module _ {S : Type 0} (world : World) (meaning : S → Meaning) (stands_after : S → List Event → Type 0) where
   -- While it is open it stands after the events that it took, and has given its lanes what its stage makes of them. Once it has
   -- ended or failed its data lanes are closed, whatever they were given.
@@ -73,6 +81,7 @@ module _ {S : Type 0} (world : World) (meaning : S → Meaning) (stands_after : 
     pub flags : has_failed c.standing ≡ false → c.flags.is_open ≡ true → c.flags.made ≡ c.flags_taken
     -- why it has failed, where a call made it fail
     pub by_call : c.failed_by_call ≡ true → has_failed c.standing ≡ true
+    pub few : HasFewItems c
 
   -- It holds for some content of its lane. (The world says which.)
   pub record ContextHolds (c : ContextView S) : Type 0 where

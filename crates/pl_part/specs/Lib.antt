@@ -1,6 +1,11 @@
 pub mod ContextHolds
 pub mod TailHolds
 pub mod Taking
-pub mod Parts
-pub mod PartCalls
+pub mod Paths
+pub mod PathCalls
 pub mod NewParts
+pub mod HeadHolds
+pub mod HeadCalls
+pub mod Parts
+pub mod Counts
+pub mod PartCalls

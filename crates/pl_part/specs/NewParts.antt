@@ -10,7 +10,7 @@ use Rattle.pl_event.specs.Worlds.{World, content_of}
 use Rattle.pl_context.specs.ContextViews.{ContextView, IsHop, kind_taken}
 use Rattle.pl_flow.specs.Flows.{point}
 use Rattle.pl_part.specs.ContextHolds.{ContextHolds, IsPlanned, context_writes, context_came}
-use Rattle.pl_part.specs.Parts.{IsAt}
+use Rattle.pl_part.specs.Paths.{IsAt}
 
 module _ {S : Type 0} (world : World) (meaning : S → Meaning) (channel k turn : ℕ) where
   -- A stage may stand at a hop, and the world knows its lanes there.

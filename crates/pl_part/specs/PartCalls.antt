@@ -1,50 +1,57 @@
 -- What the calls of a part ask for, and what they do.
-use Rattle.std.specs.Prelude.{◌≡◌, ◌+◌, Bool, true, List, Some, cond}
+use Rattle.std.specs.Prelude.{◌≡◌, ℕ, ◌+◌, ◌≤◌, ◌<◌, ◌^◌, Bool, true, false, List, length, cond}
 use Rattle.pl_event.specs.declared.events.Event.{Event}
 use Rattle.pl_event.specs.declared.envelopes.Envelope.{Envelope}
 use Rattle.pl_event.specs.declared.envelopes.Lane.{Lane}
-use Rattle.pl_event.specs.declared.envelopes.Kind.TheVariants.{Data}
 use Rattle.pl_event.specs.Hops.{same_lane}
 use Rattle.pl_event.specs.Meaning.{Meaning}
 use Rattle.pl_event.specs.Worlds.{World}
 use Rattle.pl_context.specs.declared.standing.Took.{Took}
-use Rattle.pl_context.specs.Standings.{is_over}
-use Rattle.pl_context.specs.ContextViews.{ContextView}
 use Rattle.pl_context.specs.OutputsViews.{OutputsView}
 use Rattle.pl_context.specs.Stops.{HasPlaces, AreAmong}
 use Rattle.pl_flow.specs.Flows.{IsGood}
 use Rattle.pl_flow.specs.Makes.{Makes}
-use Rattle.pl_part.specs.Parts.{PartView, PartHolds, PartTakes, SamePart, context_at, writer_hop, has_entered, part_taken, part_lanes, part_writes, part_came}
+use Rattle.pl_head.specs.Transports.{TransportState}
+use Rattle.pl_part.specs.Parts.{PartView, PartHolds, PartTakes, SamePart, has_entered, part_taken, part_lanes, part_writes, writes_at, part_came}
+use Rattle.pl_part.specs.Counts.{part_done}
 
 -- An envelope is the next of its lane, which enters one of the nodes, and there are places for what they write.
-pub record IsNextFor {S : Type 0} (world : World) (meaning : S → Meaning) (stands_after : S → List Event → Type 0) (p : PartView S) (e : Envelope) (before : OutputsView) : Type 0 where
-  pub holds : PartHolds world meaning stands_after p
+pub record IsNextFor {S T : Type 0} (world : World) (meaning : S → Meaning) (stands_after : S → List Event → Type 0) (state : T → TransportState) (p : PartView S T) (e : Envelope) (before : OutputsView) : Type 0 where
+  pub holds : PartHolds world meaning stands_after state p
   pub entered : has_entered p e.lane ≡ true
   pub number : e.number ≡ part_taken p e.lane
   pub good : IsGood world e
   pub places : HasPlaces before.stopped (part_lanes p)
 
-module _ {S : Type 0} (meaning : S → Meaning) where
-  -- Nodes have put something on a work list: they are the same nodes, which write the same lanes, and the places stay.
-  pub record Puts (p : PartView S) (before : OutputsView) (p' : PartView S) (after : OutputsView) : Type 0 where
+module _ {S T : Type 0} (meaning : S → Meaning) where
+  -- The node at a hop has put something on a work list: they are the same nodes, which write the same lanes; no other lane has
+  -- come further; and the places stay. The list is as long or longer, and little was done.
+  pub record Puts (p : PartView S T) (hop : ℕ) (before : OutputsView) (p' : PartView S T) (after : OutputsView) : Type 0 where
     pub same : SamePart p p'
     pub writes : (l : Lane) → part_writes meaning p' l ≡ part_writes meaning p l
+    pub others : (l : Lane) → writes_at meaning p hop l ≡ false → part_came meaning p' l ≡ part_came meaning p l
     pub placed : (lanes : List Lane) → AreAmong (part_lanes p) lanes → HasPlaces before.stopped lanes → HasPlaces after.stopped lanes
+    pub longer : length before.items ≤ length after.items
+    pub few : part_done p' < 2 ^ 50
 
-  module _ (stands_after : S → List Event → Type 0) where
+  module _ (stands_after : S → List Event → Type 0) (state : T → TransportState) where
     -- A node has taken an envelope. In each world where the nodes held, and where the envelope may stand, they hold again, and
-    -- what they have put is the next of their lanes.
-    pub record Taken (is_spent : S → Bool) (p : PartView S) (e : Envelope) (before : OutputsView) (answer : Took) (p' : PartView S) (after : OutputsView) : Type 0 where
-      pub takes : PartTakes meaning stands_after is_spent p e before answer p' after
+    -- what that node has put is the next of its lanes.
+    pub record Taken (is_spent : S → Bool) (p : PartView S T) (e : Envelope) (before : OutputsView) (answer : Took) (p' : PartView S T) (after : OutputsView) : Type 0 where
+      pub takes : PartTakes meaning stands_after is_spent state p e before answer p' after
       pub taken : (l : Lane) → part_taken p' l ≡ cond (same_lane l e.lane) (e.number + 1) (part_taken p l)
-      pub puts : Puts p before p' after
-      pub holds : (world : World) → PartHolds world meaning stands_after p → IsGood world e → PartHolds world meaning stands_after p'
-      pub made : (world : World) → PartHolds world meaning stands_after p → IsGood world e → Makes world (part_writes meaning p) (part_came meaning p) (part_came meaning p') before after
+      pub puts : Puts p e.lane.hop before p' after
+      pub holds : (world : World) → PartHolds world meaning stands_after state p → IsGood world e → PartHolds world meaning stands_after state p'
+      pub made : (world : World) → PartHolds world meaning stands_after state p → IsGood world e
+          → Makes world (writes_at meaning p e.lane.hop) (part_came meaning p) (part_came meaning p') before after
+      -- what came on the list was made, and an item more was taken
+      pub more : part_done p + length after.items + 1 ≤ part_done p' + length before.items
 
-    -- The writer of a lane was made to fail.
-    pub record Refused (p : PartView S) (l : Lane) (before : OutputsView) (p' : PartView S) (after : OutputsView) : Type 0 where
-      pub over : l.kind ≡ Data → (c : ContextView S) → context_at p' (writer_hop p' l.hop) ≡ Some c → is_over c.standing ≡ true
-      pub taken : (m : Lane) → part_taken p' m ≡ part_taken p m
-      pub puts : Puts p before p' after
-      pub holds : (world : World) → PartHolds world meaning stands_after p → PartHolds world meaning stands_after p'
-      pub made : (world : World) → PartHolds world meaning stands_after p → Makes world (part_writes meaning p) (part_came meaning p) (part_came meaning p') before after
+    -- The node at a hop has put something, and none has taken anything.
+    pub record Given (p : PartView S T) (hop : ℕ) (before : OutputsView) (p' : PartView S T) (after : OutputsView) : Type 0 where
+      pub taken : (l : Lane) → part_taken p' l ≡ part_taken p l
+      pub puts : Puts p hop before p' after
+      pub holds : (world : World) → PartHolds world meaning stands_after state p → PartHolds world meaning stands_after state p'
+      pub made : (world : World) → PartHolds world meaning stands_after state p → Makes world (writes_at meaning p hop) (part_came meaning p) (part_came meaning p') before after
+      -- what came on the list was made
+      pub more : part_done p + length after.items ≤ part_done p' + length before.items

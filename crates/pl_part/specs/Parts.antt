@@ -1,116 +1,105 @@
--- The nodes of a channel that are on one executor: which they are, what they have taken, and how far their lanes have come.
-use Rattle.std.specs.Prelude.{◌≡◌, ℕ, ◌+◌, ◌-◌, ◌<◌, ◌≤◌, ◌==◌, ◌&&◌, Bool, true, false, List, [], ◌∷◌, length, map, get_or, Option, Some, None, is_some, if◌then◌else◌}
-use Rattle.std.specs.List.{list_all, range_with_len}
+-- The nodes of a channel that are on one executor, with the head where that is the channel's loop: which they are, what
+-- they have taken, and how far their lanes have come.
+use Rattle.std.specs.Prelude.{◌≡◌, ℕ, ◌+◌, ◌==◌, ◌&&◌, ◌||◌, Bool, true, false, List, length, Option, Some, None, is_some, if◌then◌else◌}
 use Rattle.std.specs.Option.{option_map_or}
 use Rattle.pl_event.specs.declared.events.Event.{Event}
 use Rattle.pl_event.specs.declared.envelopes.Envelope.{Envelope}
 use Rattle.pl_event.specs.declared.envelopes.Lane.{Lane}
-use Rattle.pl_event.specs.Hops.{data_lane, flags_lane}
+use Rattle.pl_event.specs.Hops.{same_lane, data_lane}
 use Rattle.pl_event.specs.Meaning.{Meaning}
-use Rattle.pl_event.specs.Paths.{is_turn}
 use Rattle.pl_event.specs.Worlds.{World}
-use Rattle.pl_context.specs.declared.contexts.TheConstants.{MAX_HANDLERS}
 use Rattle.pl_context.specs.declared.standing.Took.{Took}
 use Rattle.pl_context.specs.Standings.{is_over}
-use Rattle.pl_context.specs.ContextViews.{ContextView, IsHop, down_hop, taken_of}
 use Rattle.pl_context.specs.OutputsViews.{OutputsView}
-use Rattle.pl_context.specs.TailViews.{TailView, taken_of as tail_taken_of}
 use Rattle.pl_flow.specs.Flows.{Point, nowhere}
-use Rattle.pl_part.specs.ContextHolds.{ContextHolds, context_writes, context_came, context_lanes}
-use Rattle.pl_part.specs.TailHolds.{TailHolds}
-use Rattle.pl_part.specs.Taking.{ContextTakes, TailTakes}
+use Rattle.pl_head.specs.declared.heads.OutStep.{OutStep}
+use Rattle.pl_head.specs.declared.heads.OutStep.TheVariants as step
+use Rattle.pl_head.specs.declared.heads.ReadStep.{ReadStep}
+use Rattle.pl_head.specs.declared.heads.ReadStep.TheVariants as reading
+use Rattle.pl_head.specs.Transports.{TransportState}
+use Rattle.pl_head.specs.HeadStand.{HeadView}
+use Rattle.pl_part.specs.Paths.{PathView, SamePath, PathHolds, PathTakes, writer_hop, enters_path, path_over, path_taken, path_lanes, path_writes, path_came}
+use Rattle.pl_part.specs.HeadHolds.{HeadHolds, head_writes, head_came, head_taken}
+use Rattle.pl_part.specs.HeadCalls.{HeadTakes, HeadReads, HeadWrites, HeadAborts}
 
-pub record PartView (S : Type 0) : Type 0 where
-  pub channel : ℕ
-  -- the executor of each hop
-  pub executors : List ℕ
-  -- by hop: none where the context is elsewhere, and none at the tail's hop
-  pub contexts : List (Option (ContextView S))
-  pub tail : Option TailView
-  pub tail_hop : ℕ
-  -- the hop of the turn
-  pub turn : ℕ
+pub record PartView (S T : Type 0) : Type 0 where
+  -- the contexts and the tail
+  pub path : PathView S
+  pub head : Option (HeadView T)
 
--- Each hop has an executor: those of the contexts, that of the tail among them, and the last, which is the head's.
-pub record IsPart (hops contexts tail_hop turn : ℕ) : Type 0 where
-  pub hops_are : hops ≡ contexts + 1
-  pub few : contexts ≤ MAX_HANDLERS + 1
-  pub within : tail_hop < contexts
-  pub turned : turn < tail_hop
+-- the head's hop, behind the last context's
+abbrev pub head_hop : {S T : Type 0} → PartView S T → ℕ
+head_hop p = length p.path.contexts
 
 -- the same nodes of the same channel
-pub record SamePart {S : Type 0} (p p' : PartView S) : Type 0 where
-  pub channel : p'.channel ≡ p.channel
-  pub executors : p'.executors ≡ p.executors
-  pub contexts : map (λ (slot : Option (ContextView S)). is_some slot) p'.contexts ≡ map (λ (slot : Option (ContextView S)). is_some slot) p.contexts
-  pub tail : is_some p'.tail ≡ is_some p.tail
-  pub tail_hop : p'.tail_hop ≡ p.tail_hop
-  pub turn : p'.turn ≡ p.turn
-
--- ---- its nodes
-
--- the context that a hop enters, where it is one of the part's
-abbrev pub context_at : {S : Type 0} → PartView S → ℕ → Option (ContextView S)
-context_at p hop = get_or p.contexts hop None
-
--- The hop of the context that writes the lanes of a hop: the one before; but the turn writes the first lane after the
--- tail's, and the head those of hop 0.
-abbrev pub writer_hop : {S : Type 0} → PartView S → ℕ → ℕ
-writer_hop p hop = if hop == 0 then length p.contexts else if hop == p.tail_hop + 1 then p.turn else hop - 1
+pub record SamePart {S T : Type 0} (p p' : PartView S T) : Type 0 where
+  pub path : SamePath p.path p'.path
+  pub head : is_some p'.head ≡ is_some p.head
 
 -- a lane enters one of its nodes
-abbrev pub has_entered : {S : Type 0} → PartView S → Lane → Bool
-has_entered p l = (l.channel == p.channel) && (if l.hop == p.tail_hop then is_some p.tail else is_some (context_at p l.hop))
-
--- a context has ended or failed, where there is one
-abbrev pub is_slot_over : {S : Type 0} → Option (ContextView S) → Bool
-is_slot_over slot = option_map_or (λ (c : ContextView _). is_over c.standing) slot true
+abbrev pub has_entered : {S T : Type 0} → PartView S T → Lane → Bool
+has_entered p l = if l.hop == head_hop p then is_some p.head && same_lane l (data_lane p.path.channel (head_hop p)) else enters_path p.path l
 
 -- all of its nodes have ended or failed
-abbrev pub all_over : {S : Type 0} → PartView S → Bool
-all_over p = list_all (λ (slot : Option (ContextView _)). is_slot_over slot) p.contexts
-    && option_map_or (λ (t : TailView). is_over t.standing) p.tail true
+abbrev pub all_over : {S T : Type 0} → PartView S T → Bool
+all_over p = path_over p.path && option_map_or (λ (h : HeadView _). is_over h.standing || is_some h.failure) p.head true
+
+-- a read step is left
+abbrev pub has_read : {S T : Type 0} → PartView S T → Bool
+has_read p = option_map_or (λ (h : HeadView _). h.input.port.is_open) p.head false
 
 -- ---- its lanes
 
 -- how many items of a lane its nodes have taken
-abbrev pub part_taken : {S : Type 0} → PartView S → Lane → ℕ
-part_taken p l =
-    if l.hop == p.tail_hop
-    then option_map_or (λ (t : TailView). tail_taken_of t l) p.tail 0
-    else option_map_or (λ (c : ContextView _). taken_of c l) (context_at p l.hop) 0
+abbrev pub part_taken : {S T : Type 0} → PartView S T → Lane → ℕ
+part_taken p l = if l.hop == head_hop p then option_map_or (λ (h : HeadView _). head_taken h l) p.head 0 else path_taken p.path l
 
 -- the data lanes of its channel: for these it needs places on a work list
-abbrev pub part_lanes : {S : Type 0} → PartView S → List Lane
-part_lanes p = map (λ hop. data_lane p.channel hop) (range_with_len 0 (length p.executors))
+abbrev pub part_lanes : {S T : Type 0} → PartView S T → List Lane
+part_lanes p = path_lanes p.path
 
-module _ {S : Type 0} (meaning : S → Meaning) where
-  -- whether one of its contexts writes a lane
-  abbrev pub part_writes : PartView S → Lane → Bool
-  part_writes p l = option_map_or (λ (c : ContextView S). context_writes (meaning c.stage).direction c l) (context_at p (writer_hop p l.hop)) false
+module _ {S T : Type 0} (meaning : S → Meaning) where
+  -- Whether one of its nodes writes a lane: the head those of hop 0, contexts the others.
+  abbrev pub part_writes : PartView S T → Lane → Bool
+  part_writes p l = if l.hop == 0 then option_map_or (λ (h : HeadView T). head_writes h l) p.head false else path_writes meaning p.path l
+
+  -- the same, of the node at a hop
+  abbrev pub writes_at : PartView S T → ℕ → Lane → Bool
+  writes_at p hop l = part_writes p l && (writer_hop p.path l.hop == hop)
 
   -- how far a lane has come
-  abbrev pub part_came : PartView S → Lane → Point
-  part_came p l = option_map_or (λ (c : ContextView S). context_came (meaning c.stage).direction c l) (context_at p (writer_hop p l.hop)) nowhere
+  abbrev pub part_came : PartView S T → Lane → Point
+  part_came p l = if l.hop == 0 then option_map_or (λ (h : HeadView T). head_came h l) p.head nowhere else path_came meaning p.path l
 
-  -- A context stands at its hop: inbound ones before the tail's, the turn at its own, outbound ones after the tail's.
-  pub record IsAt (channel hop tail_hop turn : ℕ) (c : ContextView S) : Type 0 where
-    pub channel_is : c.channel ≡ channel
-    pub hop_is : c.hop ≡ hop
-    pub fits : IsHop (meaning c.stage).direction hop tail_hop
-    pub turned : is_turn (meaning c.stage).direction ≡ true → hop ≡ turn
-    pub lanes : context_lanes c ≡ data_lane channel (hop + 1) ∷ data_lane channel (down_hop (meaning c.stage).direction hop tail_hop) ∷ flags_lane channel (hop + 1) ∷ []
+module _ {S T : Type 0} (meaning : S → Meaning) (stands_after : S → List Event → Type 0) (is_spent : S → Bool) (state : T → TransportState) where
+  -- The node that the envelope's lane enters takes it. The others are as they were.
+  pub record PartTakes (p : PartView S T) (e : Envelope) (before : OutputsView) (answer : Took) (p' : PartView S T) (after : OutputsView) : Type 0 where
+    pub path : (e.lane.hop == head_hop p) ≡ false → PathTakes meaning stands_after is_spent p.path e before answer p'.path after × (p'.head ≡ p.head)
+    pub head : (h : HeadView T) → (e.lane.hop == head_hop p) ≡ true → p.head ≡ Some h
+        → (h' : HeadView T) × (p'.head ≡ Some h') × HeadTakes state h e before answer h' after × (p'.path ≡ p.path)
 
-  module _ (stands_after : S → List Event → Type 0) (is_spent : S → Bool) where
-    -- The node that the envelope's lane enters takes it. The others are as they were.
-    pub record PartTakes (p : PartView S) (e : Envelope) (before : OutputsView) (answer : Took) (p' : PartView S) (after : OutputsView) : Type 0 where
-      pub context : (c : ContextView S) → (e.lane.hop == p.tail_hop) ≡ false → context_at p e.lane.hop ≡ Some c
-          → (c' : ContextView S) × (context_at p' e.lane.hop ≡ Some c') × ContextTakes meaning stands_after is_spent c e before answer c' after
-      pub tail : (t : TailView) → (e.lane.hop == p.tail_hop) ≡ true → p.tail ≡ Some t → (t' : TailView) × (p'.tail ≡ Some t') × TailTakes t e answer t' × (after ≡ before)
-      pub others : (hop : ℕ) → (hop == e.lane.hop) ≡ false → context_at p' hop ≡ context_at p hop
+module _ {S T : Type 0} (state : T → TransportState) where
+  -- The head makes its next read step, where it is one of its nodes. The others are as they were.
+  pub record PartReads (p : PartView S T) (before : OutputsView) (answer : ReadStep) (p' : PartView S T) (after : OutputsView) : Type 0 where
+    pub head : (h : HeadView T) → p.head ≡ Some h → (h' : HeadView T) × (p'.head ≡ Some h') × HeadReads state h before answer h' after
+    pub none : p.head ≡ None → (answer ≡ reading.Done) × (p' ≡ p) × (after ≡ before)
+    pub path : p'.path ≡ p.path
 
-module _ {S : Type 0} (world : World) (meaning : S → Meaning) (stands_after : S → List Event → Type 0) where
-  -- Each of its nodes holds, and stands at its place.
-  pub record PartHolds (p : PartView S) : Type 0 where
-    pub contexts : (hop : ℕ) (c : ContextView S) → context_at p hop ≡ Some c → ContextHolds world meaning stands_after c × IsAt meaning p.channel hop p.tail_hop p.turn c
-    pub tail : (t : TailView) → p.tail ≡ Some t → TailHolds world t × (t.channel ≡ p.channel) × (t.hop ≡ p.tail_hop)
+  -- The head makes a write.
+  pub record PartWrites (may_refuse : T → ℕ → Type 0) (p : PartView S T) (before : OutputsView) (answer : OutStep) (p' : PartView S T) (after : OutputsView) : Type 0 where
+    pub head : (h : HeadView T) → p.head ≡ Some h → (h' : HeadView T) × (p'.head ≡ Some h') × HeadWrites state may_refuse h before answer h' after
+    pub none : p.head ≡ None → (answer ≡ step.Idle) × (p' ≡ p) × (after ≡ before)
+    pub path : p'.path ≡ p.path
+
+  -- The head is aborted.
+  pub record PartAborts (p : PartView S T) (before : OutputsView) (p' : PartView S T) (after : OutputsView) : Type 0 where
+    pub head : (h : HeadView T) → p.head ≡ Some h → (h' : HeadView T) × (p'.head ≡ Some h') × HeadAborts state h before h' after
+    pub none : p.head ≡ None → (p' ≡ p) × (after ≡ before)
+    pub path : p'.path ≡ p.path
+
+module _ {S T : Type 0} (world : World) (meaning : S → Meaning) (stands_after : S → List Event → Type 0) (state : T → TransportState) where
+  -- Each of its nodes holds, and stands at its place; and each hop has an executor.
+  pub record PartHolds (p : PartView S T) : Type 0 where
+    pub path : PathHolds world meaning stands_after p.path
+    pub head : (h : HeadView T) → p.head ≡ Some h → HeadHolds state world h × (h.channel ≡ p.path.channel) × (h.hop ≡ head_hop p)
+    pub hops : length p.path.executors ≡ head_hop p + 1

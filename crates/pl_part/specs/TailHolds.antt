@@ -23,6 +23,9 @@ pub record TailHoldsWith (world : World) (events : List Event) (t : TailView) : 
   pub flags : Alternate 0 t.flags
   pub flags_most : length t.flags ≤ t.flags_taken
   pub flags_all : has_failed t.standing ≡ false → t.flags_stopped ≡ false → length t.flags ≡ t.flags_taken
+  -- It took few items.
+  pub few_taken : t.taken ≤ 2 ^ 31
+  pub few_flags : t.flags_taken ≤ 2 ^ 32
 
 pub record TailHolds (world : World) (t : TailView) : Type 0 where
   pub events : List Event

@@ -1,8 +1,14 @@
 //! Parts of channels: the nodes of a channel that are on one executor, where lanes may fail.
 #![tactic(auto)]
 
+mod ends;
+mod laws;
 mod nodes;
 mod parts;
+mod paths;
 mod starting;
 
+pub use ends::new_head;
+pub use laws::head_law;
 pub use parts::ChannelPart;
+pub use paths::PathPart;

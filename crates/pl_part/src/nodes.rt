@@ -1,6 +1,6 @@
 //! The nodes of a channel, one by one, where lanes may fail.
 
-ghost use Rattle.std.specs.Prelude.{◌≡◌, ◌+◌};
+ghost use Rattle.std.specs.Prelude.{◌≡◌, ◌+◌, ◌≤◌, length};
 ghost use Rattle.pl_event.specs.declared.envelopes.Lane.{Lane};
 ghost use Rattle.pl_event.specs.declared.envelopes.Kind.{Kind};
 ghost use Rattle.pl_event.specs.declared.envelopes.Kind.TheVariants as kind;
@@ -15,6 +15,7 @@ ghost use Rattle.pl_flow.specs.Makes.{Makes};
 ghost use Rattle.pl_part.specs.ContextHolds.{ContextHolds, context_writes, context_came, context_lanes};
 ghost use Rattle.pl_part.specs.TailHolds.{TailHolds};
 ghost use Rattle.pl_part.specs.Taking.{ContextTakes, TailTakes};
+ghost use Rattle.pl_part.specs.Counts.{context_done};
 
 use pl_context::{Context, Outputs, Tail, Took};
 use pl_event::{Cause, Envelope, Kind, Lane, Stage};
@@ -32,6 +33,7 @@ pub fn take_at<S: Stage>(context: &mut Context<S>, envelope: Envelope, work: &mu
     ensures lanes { context_lanes context.new ≡ context_lanes context.old }
     ensures made { (world : World) → ContextHolds world S.meaning S.stands_after context.old → IsGood world envelope → Makes world (context_writes (S.meaning context.old.stage).direction context.old) (context_came (S.meaning context.old.stage).direction context.old) (context_came (S.meaning context.old.stage).direction context.new) work.old work.new }
     ensures placed { (lanes : List Lane) → AreAmong (context_lanes context.old) lanes → HasPlaces work.old.stopped lanes → HasPlaces work.new.stopped lanes }
+    ensures more { context_done context.old + length work.new.items + 1 ≤ context_done context.new + length work.old.items }
 {
     context.take(envelope, work)
 }
@@ -48,6 +50,7 @@ pub fn refuse_at<S: Stage>(context: &mut Context<S>, lane: Lane, work: &mut Outp
     ensures over { lane.kind ≡ kind.Data → is_over context.new.standing ≡ true }
     ensures made { (world : World) → ContextHolds world S.meaning S.stands_after context.old → Makes world (context_writes (S.meaning context.old.stage).direction context.old) (context_came (S.meaning context.old.stage).direction context.old) (context_came (S.meaning context.old.stage).direction context.new) work.old work.new }
     ensures placed { (lanes : List Lane) → AreAmong (context_lanes context.old) lanes → HasPlaces work.old.stopped lanes → HasPlaces work.new.stopped lanes }
+    ensures more { context_done context.old + length work.new.items ≤ context_done context.new + length work.old.items }
 {
     match lane.kind {
         Kind::Data => context.fail(Cause::Refused, work),

@@ -1,7 +1,6 @@
-//! The nodes of a channel that are on one executor.
+//! The nodes of a channel that are on one executor, with the head.
 
-ghost use Rattle.std.specs.Prelude.{◌≡◌, ◌+◌, ◌<◌, ◌≤◌, ◌^◌, ◌++◌, ◌∷◌, [], List, All, IfOk, Some, map, replicate, is_some, cond, length, get_or, true, false, ◌==◌};
-ghost use Rattle.std.specs.List.{list_all};
+ghost use Rattle.std.specs.Prelude.{◌≡◌, ◌+◌, ◌<◌, ◌≤◌, ◌^◌, ◌==◌, ◌++◌, ◌∷◌, [], List, All, IfOk, IfSome, IfNone, Some, None, ◌||◌, map, replicate, is_some, cond, length, get_or, true, false};
 ghost use Rattle.std.specs.Option.{option_map_or};
 ghost use Rattle.pl_event.specs.declared.envelopes.Lane.{Lane};
 ghost use Rattle.pl_event.specs.declared.envelopes.Kind.TheVariants as kind;
@@ -11,50 +10,46 @@ ghost use Rattle.pl_context.specs.declared.contexts.TheConstants.{MAX_HANDLERS};
 ghost use Rattle.pl_context.specs.Standings.{is_over};
 ghost use Rattle.pl_context.specs.ContextViews.{ContextView};
 ghost use Rattle.pl_context.specs.Stops.{HasPlaces, AreAmong};
-ghost use Rattle.pl_context.specs.TailViews.{TailView, new_tail};
+ghost use Rattle.pl_context.specs.TailViews.{new_tail};
 ghost use Rattle.pl_flow.specs.Flows.{IsGood};
 ghost use Rattle.pl_flow.specs.Makes.{Makes};
+ghost use Rattle.pl_head.specs.HeadStand.{HeadView, StandsAfter, is_idle};
+ghost use Rattle.pl_event.specs.declared.events.Event.{Event};
+ghost use Rattle.pl_head.specs.Marks.{Change};
 ghost use Rattle.pl_part.specs.NewParts.{ArePlannedWith, AreNew};
-ghost use Rattle.pl_part.specs.PartCalls.{IsNextFor, Taken, Refused};
-ghost use Rattle.pl_part.specs.Parts.{PartHolds, PartTakes, SamePart, context_at, writer_hop, has_entered, all_over, is_slot_over, part_taken, part_lanes, part_writes, part_came};
+ghost use Rattle.pl_part.specs.HeadHolds.{HeadHolds};
+ghost use Rattle.pl_part.specs.Paths.{context_at, writer_hop};
+ghost use Rattle.pl_part.specs.Parts.{PartHolds, PartTakes, PartReads, PartWrites, PartAborts, SamePart, head_hop, has_entered, has_read, all_over, part_taken, part_lanes, part_writes, writes_at, part_came};
+ghost use Rattle.pl_part.specs.Counts.{head_done, part_done};
+ghost use Rattle.pl_part.specs.PartCalls.{IsNextFor, Taken, Given};
 
-use crate::nodes::{refuse_at, take_at, take_at_tail};
-use crate::starting::add_contexts;
-use pl_context::{Context, Outputs, Tail, Took};
+use crate::ends::{abort_at_head, read_at_head, take_at_head, write_at_head};
+use crate::paths::PathPart;
+use pl_context::{Outputs, Tail, Took};
 use pl_event::{Envelope, Lane, Stage};
+use pl_head::{Head, OutStep, ReadStep, Transport};
 use std::alloc::{AllocError, Global};
 use std::marker::Model;
 
-/// The nodes of a channel that are on one executor: contexts by hop, and the tail where the executor is the channel's
-/// loop.
+/// The nodes of a channel that are on one executor: contexts by hop, and where the executor is the channel's loop the
+/// tail and the head.
 #[derive(Drop)]
-pub struct ChannelPart<S: Stage> {
-    channel: u16,
-    /// The executor of each hop, of those elsewhere too: where an item goes.
-    executors: Vec<u16>,
-    /// By hop: `None` where the context is elsewhere, and at the tail's hop.
-    contexts: Vec<Option<Context<S>>>,
-    tail: Option<Tail>,
-    tail_hop: usize,
-    /// The hop of the turn.
-    turn: usize,
+pub struct ChannelPart<S: Stage, T: Transport> {
+    path: PathPart<S>,
+    head: Option<Head<T>>,
 }
 
-impl<S: Stage> Model for ChannelPart<S> {
-    ghost use Rattle.std.specs.Prelude.{length};
-    ghost use Rattle.pl_part.specs.PartCalls.{IsNextFor, Taken, Refused};
-    ghost use Rattle.pl_part.specs.Parts.{PartView, IsPart};
+impl<S: Stage, T: Transport> Model for ChannelPart<S, T> {
+    ghost use Rattle.pl_part.specs.Parts.{PartView};
 
-    ghost Value = { PartView S };
+    ghost Value = { PartView S T };
 
-    ghost view = { λ p. record { channel = p.channel; executors = p.executors.items; contexts = p.contexts.items; tail = p.tail; tail_hop = p.tail_hop; turn = p.turn } };
-
-    ghost invariant = { λ p. IsPart (length p.executors.items) (length p.contexts.items) p.tail_hop p.turn };
+    ghost view = { λ p. record { path = p.path; head = p.head } };
 }
 
-impl<S: Stage> ChannelPart<S> {
-    /// All nodes of a channel but its head: stages that have had no step, in the order of their hops, and the executor of each
-    /// hop. The world knows the lanes of each.
+impl<S: Stage, T: Transport> ChannelPart<S, T> {
+    /// All nodes of a channel: stages that have had no step, in the order of their hops, the executor of each hop, and the head.
+    /// The world knows the lanes of each.
     pub fn whole(
         alloc: Global,
         channel: u16,
@@ -62,6 +57,7 @@ impl<S: Stage> ChannelPart<S> {
         inbound: Vec<S>,
         outbound: Vec<S>,
         turn: usize,
+        head: Head<T>,
     ) -> Result<Self, AllocError>
         requires few { length inbound.items + length outbound.items ≤ MAX_HANDLERS }
         requires hops { length executors.items ≡ length inbound.items + length outbound.items + 2 }
@@ -69,150 +65,276 @@ impl<S: Stage> ChannelPart<S> {
         requires new_inbound { All (λ stage. S.stands_after stage []) inbound.items }
         requires new_outbound { All (λ stage. S.stands_after stage []) outbound.items }
         requires planned { (world : World) × ArePlannedWith world S.meaning channel turn inbound.items outbound.items }
-        ensures place { IfOk result (λ part. (part.channel ≡ channel) × (part.executors ≡ executors.items) × (part.tail_hop ≡ length inbound.items) × (part.turn ≡ turn)) }
-        ensures filled { IfOk result (λ part. map (λ slot. is_some slot) part.contexts ≡ replicate (length inbound.items) true ++ false ∷ replicate (length outbound.items) true) }
-        ensures tail { IfOk result (λ part. part.tail ≡ Some (new_tail channel (length inbound.items))) }
-        ensures new { IfOk result (λ part. (world : World) → ArePlannedWith world S.meaning channel turn inbound.items outbound.items → AreNew world S.meaning channel (length inbound.items) turn S.stands_after part.contexts) }
-        ensures holds { IfOk result (λ part. (world : World) → ArePlannedWith world S.meaning channel turn inbound.items outbound.items → PartHolds world S.meaning S.stands_after part) }
+        requires last { (head.channel ≡ channel) × (head.hop ≡ length inbound.items + length outbound.items + 1) }
+        ensures place { IfOk result (λ part. (part.path.channel ≡ channel) × (part.path.executors ≡ executors.items) × (part.path.tail_hop ≡ length inbound.items) × (part.path.turn ≡ turn)) }
+        ensures filled { IfOk result (λ part. map (λ slot. is_some slot) part.path.contexts ≡ replicate (length inbound.items) true ++ false ∷ replicate (length outbound.items) true) }
+        ensures tail { IfOk result (λ part. part.path.tail ≡ Some (new_tail channel (length inbound.items))) }
+        ensures head { IfOk result (λ part. part.head ≡ Some head) }
+        ensures new { IfOk result (λ part. (world : World) → ArePlannedWith world S.meaning channel turn inbound.items outbound.items → AreNew world S.meaning channel (length inbound.items) turn S.stands_after part.path.contexts) }
+        ensures holds { IfOk result (λ part. (world : World) → ArePlannedWith world S.meaning channel turn inbound.items outbound.items → HeadHolds T.state world head → PartHolds world S.meaning S.stands_after T.state part) }
+        ensures done { IfOk result (λ part. part_done part ≡ head_done head) }
+        ensures few { IfOk result (λ part. (world : World) → HeadHolds T.state world head → part_done part < 2 ^ 50) }
     {
-        let k = inbound.len() as u16;
-        let mut contexts = Vec::new(alloc);
-        add_contexts(alloc, &mut contexts, channel, k, inbound)?;
-        contexts.push(None)?;
-        add_contexts(alloc, &mut contexts, channel, k, outbound)?;
+        let path = PathPart::whole(alloc, channel, executors, inbound, outbound, turn)?;
         Ok(ChannelPart {
-            channel,
-            executors,
-            contexts,
-            tail: Some(Tail::new(alloc, channel, k)),
-            tail_hop: k as usize,
-            turn,
+            path,
+            head: Some(head),
         })
     }
 
     /// The executor of what the lanes of a hop enter.
     pub fn target(&self, hop: usize) -> usize
-        requires { hop < length self.now.executors }
-        ensures { result ≡ get_or self.now.executors hop 0 }
+        requires { hop < length self.now.path.executors }
+        ensures { result ≡ get_or self.now.path.executors hop 0 }
     {
-        self.executors[hop] as usize
+        self.path.target(hop)
     }
 
-    /// The hop of the context that writes the lanes of a hop: the one before, but the turn writes the first lane after the
-    /// tail's. The lanes of hop 0 are the head's: its hop.
+    /// The hop of the node that writes the lanes of a hop: the one before, but the turn writes the first lane after the
+    /// tail's, and the head those of hop 0.
     pub fn writer(&self, hop: usize) -> usize
-        ensures { result ≡ writer_hop self.now hop }
+        ensures { result ≡ writer_hop self.now.path hop }
     {
-        if hop == 0 {
-            self.contexts.len()
-        } else if hop == self.tail_hop + 1 {
-            self.turn
-        } else {
-            hop - 1
-        }
+        self.path.writer(hop)
+    }
+
+    /// How many hops there are. The last is the head's.
+    pub fn hops(&self) -> usize
+        ensures { result ≡ length self.now.path.executors }
+    {
+        self.path.hops()
     }
 
     /// The node that the envelope's lane enters takes it, the next item of that lane. It answers what the node answers.
     pub fn take(&mut self, envelope: Envelope, work: &mut Outputs) -> Took
-        requires next { (world : World) × IsNextFor world S.meaning S.stands_after self.old envelope work.old }
-        ensures takes { PartTakes S.meaning S.stands_after S.is_spent self.old envelope work.old result self.new work.new }
-        ensures holds { (world : World) → PartHolds world S.meaning S.stands_after self.old → IsGood world envelope → PartHolds world S.meaning S.stands_after self.new }
+        requires next { (world : World) × IsNextFor world S.meaning S.stands_after T.state self.old envelope work.old }
+        ensures takes { PartTakes S.meaning S.stands_after S.is_spent T.state self.old envelope work.old result self.new work.new }
+        ensures holds { (world : World) → PartHolds world S.meaning S.stands_after T.state self.old → IsGood world envelope → PartHolds world S.meaning S.stands_after T.state self.new }
         ensures same { SamePart self.old self.new }
         ensures taken { (l : Lane) → part_taken self.new l ≡ cond (same_lane l envelope.lane) (envelope.number + 1) (part_taken self.old l) }
         ensures writes { (l : Lane) → part_writes S.meaning self.new l ≡ part_writes S.meaning self.old l }
-        ensures made { (world : World) → PartHolds world S.meaning S.stands_after self.old → IsGood world envelope → Makes world (part_writes S.meaning self.old) (part_came S.meaning self.old) (part_came S.meaning self.new) work.old work.new }
+        ensures made { (world : World) → PartHolds world S.meaning S.stands_after T.state self.old → IsGood world envelope
+            → Makes world (writes_at S.meaning self.old envelope.lane.hop) (part_came S.meaning self.old) (part_came S.meaning self.new) work.old work.new }
+        ensures others { (l : Lane) → writes_at S.meaning self.old envelope.lane.hop l ≡ false → part_came S.meaning self.new l ≡ part_came S.meaning self.old l }
         ensures placed { (lanes : List Lane) → AreAmong (part_lanes self.old) lanes → HasPlaces work.old.stopped lanes → HasPlaces work.new.stopped lanes }
+        ensures more { part_done self.old + length work.new.items + 1 ≤ part_done self.new + length work.old.items }
+        ensures longer { length work.old.items ≤ length work.new.items }
+        ensures few { part_done self.new < 2 ^ 50 }
     {
-        if envelope.lane.hop as usize == self.tail_hop {
-            self.take_at_tail(envelope, work)
+        if envelope.lane.hop as usize == self.path.head_hop() {
+            self.take_at_head(envelope, work)
         } else {
-            self.take_at_context(envelope, work)
+            self.take_on_path(envelope, work)
         }
     }
 
-    /// The context that writes a lane fails, since nothing more of that is accepted. Nothing comes of flags that are refused, nor
-    /// of what the head writes.
+    /// The node that writes a lane fails, since nothing more of that is accepted, where it is a context. Nothing comes of flags
+    /// that are refused, nor of what the head writes: what comes of that later is refused too.
     pub fn refuse(&mut self, lane: Lane, work: &mut Outputs)
-        requires holds { (world : World) × PartHolds world S.meaning S.stands_after self.old }
+        requires holds { (world : World) × PartHolds world S.meaning S.stands_after T.state self.old }
         requires places { HasPlaces work.old.stopped (part_lanes self.old) }
-        ensures holds { (world : World) → PartHolds world S.meaning S.stands_after self.old → PartHolds world S.meaning S.stands_after self.new }
+        ensures holds { (world : World) → PartHolds world S.meaning S.stands_after T.state self.old → PartHolds world S.meaning S.stands_after T.state self.new }
+        ensures same { SamePart self.old self.new }
+        ensures head { self.new.head ≡ self.old.head }
+        ensures taken { (l : Lane) → part_taken self.new l ≡ part_taken self.old l }
+        ensures writes { (l : Lane) → part_writes S.meaning self.new l ≡ part_writes S.meaning self.old l }
+        ensures over { lane.kind ≡ kind.Data → (c : ContextView S) → context_at self.new.path (writer_hop self.new.path lane.hop) ≡ Some c → is_over c.standing ≡ true }
+        ensures made { (world : World) → PartHolds world S.meaning S.stands_after T.state self.old
+            → Makes world (writes_at S.meaning self.old (writer_hop self.old.path lane.hop)) (part_came S.meaning self.old) (part_came S.meaning self.new) work.old work.new }
+        ensures others { (l : Lane) → writes_at S.meaning self.old (writer_hop self.old.path lane.hop) l ≡ false → part_came S.meaning self.new l ≡ part_came S.meaning self.old l }
+        ensures placed { (lanes : List Lane) → AreAmong (part_lanes self.old) lanes → HasPlaces work.old.stopped lanes → HasPlaces work.new.stopped lanes }
+        ensures more { part_done self.old + length work.new.items ≤ part_done self.new + length work.old.items }
+        ensures longer { length work.old.items ≤ length work.new.items }
+        ensures few { part_done self.new < 2 ^ 50 }
+    {
+        self.refuse_on_path(lane, work)
+    }
+
+    /// The head makes its next read step, where one is left and not held. Where no head is among the nodes none is left.
+    pub fn next_read(&mut self, work: &mut Outputs) -> ReadStep
+        requires holds { (world : World) × PartHolds world S.meaning S.stands_after T.state self.old }
+        requires places { HasPlaces work.old.stopped (part_lanes self.old) }
+        ensures reads { PartReads T.state self.old work.old result self.new work.new }
+        ensures holds { (world : World) → PartHolds world S.meaning S.stands_after T.state self.old → PartHolds world S.meaning S.stands_after T.state self.new }
         ensures same { SamePart self.old self.new }
         ensures taken { (l : Lane) → part_taken self.new l ≡ part_taken self.old l }
         ensures writes { (l : Lane) → part_writes S.meaning self.new l ≡ part_writes S.meaning self.old l }
-        ensures over { lane.kind ≡ kind.Data → (c : ContextView S) → context_at self.new (writer_hop self.new lane.hop) ≡ Some c → is_over c.standing ≡ true }
-        ensures made { (world : World) → PartHolds world S.meaning S.stands_after self.old → Makes world (part_writes S.meaning self.old) (part_came S.meaning self.old) (part_came S.meaning self.new) work.old work.new }
+        ensures made { (world : World) → PartHolds world S.meaning S.stands_after T.state self.old
+            → Makes world (writes_at S.meaning self.old (head_hop self.old)) (part_came S.meaning self.old) (part_came S.meaning self.new) work.old work.new }
+        ensures others { (l : Lane) → writes_at S.meaning self.old (head_hop self.old) l ≡ false → part_came S.meaning self.new l ≡ part_came S.meaning self.old l }
         ensures placed { (lanes : List Lane) → AreAmong (part_lanes self.old) lanes → HasPlaces work.old.stopped lanes → HasPlaces work.new.stopped lanes }
+        ensures more { part_done self.old + length work.new.items ≤ part_done self.new + length work.old.items }
+        ensures longer { length work.old.items ≤ length work.new.items }
+        ensures few { part_done self.new < 2 ^ 50 }
     {
-        let hop = self.writer(lane.hop as usize);
-        self.refuse_at_hop(hop, lane, work)
+        self.read_there(work)
+    }
+
+    /// The head makes a write to its transport, where a flushed byte waits and it has not failed. Where no head is among the
+    /// nodes nothing waits.
+    pub fn write_once(&mut self, work: &mut Outputs) -> OutStep
+        requires holds { (world : World) × PartHolds world S.meaning S.stands_after T.state self.old }
+        requires places { HasPlaces work.old.stopped (part_lanes self.old) }
+        ensures writes_out { PartWrites T.state T.may_refuse self.old work.old result self.new work.new }
+        ensures holds { (world : World) → PartHolds world S.meaning S.stands_after T.state self.old → PartHolds world S.meaning S.stands_after T.state self.new }
+        ensures same { SamePart self.old self.new }
+        ensures taken { (l : Lane) → part_taken self.new l ≡ part_taken self.old l }
+        ensures writes { (l : Lane) → part_writes S.meaning self.new l ≡ part_writes S.meaning self.old l }
+        ensures made { (world : World) → PartHolds world S.meaning S.stands_after T.state self.old
+            → Makes world (writes_at S.meaning self.old (head_hop self.old)) (part_came S.meaning self.old) (part_came S.meaning self.new) work.old work.new }
+        ensures others { (l : Lane) → writes_at S.meaning self.old (head_hop self.old) l ≡ false → part_came S.meaning self.new l ≡ part_came S.meaning self.old l }
+        ensures placed { (lanes : List Lane) → AreAmong (part_lanes self.old) lanes → HasPlaces work.old.stopped lanes → HasPlaces work.new.stopped lanes }
+        ensures more { part_done self.old + length work.new.items ≤ part_done self.new + length work.old.items }
+        ensures longer { length work.old.items ≤ length work.new.items }
+        ensures few { part_done self.new < 2 ^ 50 }
+    {
+        self.write_there(work)
+    }
+
+    /// The channel is aborted: its head fails, where it is among the nodes and has not failed.
+    pub fn abort(&mut self, work: &mut Outputs)
+        requires holds { (world : World) × PartHolds world S.meaning S.stands_after T.state self.old }
+        requires places { HasPlaces work.old.stopped (part_lanes self.old) }
+        ensures aborts { PartAborts T.state self.old work.old self.new work.new }
+        ensures holds { (world : World) → PartHolds world S.meaning S.stands_after T.state self.old → PartHolds world S.meaning S.stands_after T.state self.new }
+        ensures same { SamePart self.old self.new }
+        ensures taken { (l : Lane) → part_taken self.new l ≡ part_taken self.old l }
+        ensures writes { (l : Lane) → part_writes S.meaning self.new l ≡ part_writes S.meaning self.old l }
+        ensures made { (world : World) → PartHolds world S.meaning S.stands_after T.state self.old
+            → Makes world (writes_at S.meaning self.old (head_hop self.old)) (part_came S.meaning self.old) (part_came S.meaning self.new) work.old work.new }
+        ensures others { (l : Lane) → writes_at S.meaning self.old (head_hop self.old) l ≡ false → part_came S.meaning self.new l ≡ part_came S.meaning self.old l }
+        ensures placed { (lanes : List Lane) → AreAmong (part_lanes self.old) lanes → HasPlaces work.old.stopped lanes → HasPlaces work.new.stopped lanes }
+        ensures more { part_done self.old + length work.new.items ≤ part_done self.new + length work.old.items }
+        ensures longer { length work.old.items ≤ length work.new.items }
+        ensures few { part_done self.new < 2 ^ 50 }
+    {
+        self.abort_there(work)
     }
 
     /// Whether all of its nodes have ended or failed.
     pub fn has_ended(&self) -> bool
         ensures { result ≡ all_over self.now }
     {
-        are_over(&self.contexts) && is_tail_over(&self.tail)
+        self.path.has_ended() && is_head_over(&self.head)
     }
 
-    fn take_at_context(&mut self, envelope: Envelope, work: &mut Outputs) -> Took
-        requires next { (world : World) × IsNextFor world S.meaning S.stands_after self.old envelope work.old }
-        requires elsewhere { (envelope.lane.hop == self.old.tail_hop) ≡ false }
-        ensures { Taken S.meaning S.stands_after S.is_spent self.old envelope work.old result self.new work.new }
+    /// Whether a read step is left. None is where no head is among the nodes.
+    pub fn has_read_step(&self) -> bool
+        ensures { result ≡ has_read self.now }
     {
-        match &mut self.contexts[envelope.lane.hop as usize] {
-            Some(context) => take_at(context, envelope, work),
+        match &self.head {
+            Some(head) => head.has_read_step(),
+            None => false,
+        }
+    }
+
+    /// Whether a write would be idle: no flushed byte waits, or the head has failed, or none is among the nodes.
+    pub fn is_written(&self) -> bool
+        ensures head { (h : HeadView T) (ys zs : List Event) (sizes : List Change) → self.now.head ≡ Some h → StandsAfter T.state h ys zs sizes → result ≡ is_idle T.state h ys }
+        ensures none { self.now.head ≡ None → result ≡ true }
+    {
+        match &self.head {
+            Some(head) => head.is_written(),
+            None => true,
+        }
+    }
+
+    /// Gives the part up for the channel's ends, where they are among its nodes.
+    pub fn into_ends(self) -> (Option<Tail>, Option<Head<T>>)
+        ensures tail { result.0 ≡ self.path.tail }
+        ensures head { result.1 ≡ self.head }
+    {
+        (self.path.into_tail(), self.head)
+    }
+
+    /// The tail, where it is among the nodes.
+    pub fn tail(&self) -> Option<&Tail>
+        ensures some { IfSome result (λ tail. self.now.path.tail ≡ Some tail.now) }
+        ensures none { IfNone result (self.now.path.tail ≡ None) }
+    {
+        self.path.tail()
+    }
+
+    /// The head, where it is among the nodes.
+    pub fn head(&self) -> Option<&Head<T>>
+        ensures some { IfSome result (λ head. self.now.head ≡ Some head.now) }
+        ensures none { IfNone result (self.now.head ≡ None) }
+    {
+        self.head.as_ref()
+    }
+
+    fn take_on_path(&mut self, envelope: Envelope, work: &mut Outputs) -> Took
+        requires next { (world : World) × IsNextFor world S.meaning S.stands_after T.state self.old envelope work.old }
+        requires elsewhere { (envelope.lane.hop == head_hop self.old) ≡ false }
+        ensures { Taken S.meaning S.stands_after T.state S.is_spent self.old envelope work.old result self.new work.new }
+    {
+        self.path.take(envelope, work)
+    }
+
+    fn take_at_head(&mut self, envelope: Envelope, work: &mut Outputs) -> Took
+        requires next { (world : World) × IsNextFor world S.meaning S.stands_after T.state self.old envelope work.old }
+        requires there { (envelope.lane.hop == head_hop self.old) ≡ true }
+        ensures { Taken S.meaning S.stands_after T.state S.is_spent self.old envelope work.old result self.new work.new }
+    {
+        match &mut self.head {
+            Some(head) => take_at_head(head, envelope, work),
             None => unreachable!(),
         }
     }
 
-    fn take_at_tail(&mut self, envelope: Envelope, work: &mut Outputs) -> Took
-        requires next { (world : World) × IsNextFor world S.meaning S.stands_after self.old envelope work.old }
-        requires there { (envelope.lane.hop == self.old.tail_hop) ≡ true }
-        ensures { Taken S.meaning S.stands_after S.is_spent self.old envelope work.old result self.new work.new }
-    {
-        match &mut self.tail {
-            Some(tail) => take_at_tail(tail, envelope),
-            None => unreachable!(),
-        }
-    }
-
-    fn refuse_at_hop(&mut self, hop: usize, lane: Lane, work: &mut Outputs)
-        requires holds { (world : World) × PartHolds world S.meaning S.stands_after self.old }
+    fn refuse_on_path(&mut self, lane: Lane, work: &mut Outputs)
+        requires holds { (world : World) × PartHolds world S.meaning S.stands_after T.state self.old }
         requires places { HasPlaces work.old.stopped (part_lanes self.old) }
-        requires writer { hop ≡ writer_hop self.old lane.hop }
-        ensures { Refused S.meaning S.stands_after self.old lane work.old self.new work.new }
+        ensures head { self.new.head ≡ self.old.head }
+        ensures over { lane.kind ≡ kind.Data → (c : ContextView S) → context_at self.new.path (writer_hop self.new.path lane.hop) ≡ Some c → is_over c.standing ≡ true }
+        ensures given { Given S.meaning S.stands_after T.state self.old (writer_hop self.old.path lane.hop) work.old self.new work.new }
     {
-        if hop < self.contexts.len() {
-            if let Some(context) = &mut self.contexts[hop] {
-                refuse_at(context, lane, work);
-            }
-        }
+        self.path.refuse(lane, work)
+    }
+
+    fn read_there(&mut self, work: &mut Outputs) -> ReadStep
+        requires holds { (world : World) × PartHolds world S.meaning S.stands_after T.state self.old }
+        requires places { HasPlaces work.old.stopped (part_lanes self.old) }
+        ensures reads { PartReads T.state self.old work.old result self.new work.new }
+        ensures given { Given S.meaning S.stands_after T.state self.old (head_hop self.old) work.old self.new work.new }
+    {
+        let Some(head) = &mut self.head else {
+            return ReadStep::Done;
+        };
+        read_at_head(head, work)
+    }
+
+    fn write_there(&mut self, work: &mut Outputs) -> OutStep
+        requires holds { (world : World) × PartHolds world S.meaning S.stands_after T.state self.old }
+        requires places { HasPlaces work.old.stopped (part_lanes self.old) }
+        ensures writes { PartWrites T.state T.may_refuse self.old work.old result self.new work.new }
+        ensures given { Given S.meaning S.stands_after T.state self.old (head_hop self.old) work.old self.new work.new }
+    {
+        let Some(head) = &mut self.head else {
+            return OutStep::Idle;
+        };
+        write_at_head(head, work)
+    }
+
+    fn abort_there(&mut self, work: &mut Outputs)
+        requires holds { (world : World) × PartHolds world S.meaning S.stands_after T.state self.old }
+        requires places { HasPlaces work.old.stopped (part_lanes self.old) }
+        ensures aborts { PartAborts T.state self.old work.old self.new work.new }
+        ensures given { Given S.meaning S.stands_after T.state self.old (head_hop self.old) work.old self.new work.new }
+    {
+        let Some(head) = &mut self.head else {
+            return;
+        };
+        abort_at_head(head, work)
     }
 }
 
-/// Whether each of these contexts has ended or failed.
-fn are_over<S: Stage>(contexts: &[Option<Context<S>>]) -> bool
-    ensures { result ≡ list_all (λ slot. is_slot_over slot) contexts.now }
+/// Whether a head has ended or failed, where there is one.
+fn is_head_over<T: Transport>(head: &Option<Head<T>>) -> bool
+    ensures { result ≡ option_map_or (λ (h : HeadView _). is_over h.standing || is_some h.failure) head.now true }
 {
-    contexts.iter().all(|slot| is_over_at(slot))
-}
-
-/// Whether a context has ended or failed, where there is one.
-fn is_over_at<S: Stage>(slot: &Option<Context<S>>) -> bool
-    ensures { result ≡ is_slot_over slot.now }
-{
-    match slot {
-        Some(context) => context.is_ended(),
-        None => true,
-    }
-}
-
-/// Whether a tail has ended or failed, where there is one.
-fn is_tail_over(tail: &Option<Tail>) -> bool
-    ensures { result ≡ option_map_or (λ (t : TailView). is_over t.standing) tail.now true }
-{
-    match tail {
-        Some(tail) => tail.is_ended(),
+    match head {
+        Some(head) => head.is_ended(),
         None => true,
     }
 }

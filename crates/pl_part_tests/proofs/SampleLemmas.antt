@@ -1,37 +1,48 @@
 -- The part of the tests: what it is made of, and that it stays ready.
-use Rattle.std.proofs.Common.{◌≡◌, ℕ, zero, suc, ◌+◌, ◌<◌, ◌≤◌, Bool, true, false, ◌&&◌, cond, List, [], ◌∷◌, ◌++◌, length, map, replicate, get_or, slice_get, Option, Some, None, Result, Ok, Err, IfOk, refl, ap, sym, ◌∙◌, subst, arith}
-use Rattle.std.specs.Prelude.{◌==◌, is_some, if◌then◌else◌}
+use Rattle.std.proofs.Common.{◌≡◌, ℕ, zero, suc, ◌+◌, ◌<◌, ◌≤◌, ◌^◌, Bool, true, false, ◌&&◌, ◌||◌, not, cond, List, [], ◌∷◌, ◌++◌, length, map, replicate, get_or, slice_get, Option, Some, None, Result, Ok, Err, IfOk, refl, ap, ap₂, sym, ◌∙◌, subst, ⊎_elim, arith}
+use Rattle.std.specs.Prelude.{◌==◌, nat_lt, is_some, if◌then◌else◌}
 use Rattle.std.specs.Option.{option_map_or}
-use Rattle.std.proofs.lemmas.Bool.{cond-true, cond-false, both_ways, ne_eqb}
+use Rattle.std.proofs.lemmas.Bool.{cond-true, cond-false, cases_Bool, both_ways, ne_eqb, lt-leb, lt-ltb, ltb-true, ltb-false}
+use Rattle.std.proofs.lemmas.List.{length-map}
 use Rattle.std.specs.declared.alloc.AllocError.{AllocError}
 use Rattle.pl_event.specs.declared.envelopes.Envelope.{Envelope}
-use Rattle.pl_event.specs.declared.envelopes.Item.{Item}
 use Rattle.pl_event.specs.declared.envelopes.Kind.{Kind}
 use Rattle.pl_event.specs.declared.envelopes.Kind.TheVariants.{Data, Flags}
 use Rattle.pl_event.specs.declared.envelopes.Lane.{Lane}
 use Rattle.pl_event.specs.declared.stages.Direction.{Direction}
 use Rattle.pl_event.specs.declared.stages.Direction.TheVariants.{Inbound, Outbound, Turn}
-use Rattle.pl_event.specs.Fitting.{Fits}
-use Rattle.pl_event.specs.Hops.{same_lane, data_lane}
+use Rattle.pl_event.specs.Hops.{same_lane, same_kind, data_lane, flags_lane}
+use Rattle.pl_event.specs.Inputs.{recorded_input}
 use Rattle.pl_event.specs.Meaning.{up_of, down_of}
-use Rattle.pl_event.specs.Worlds.{World, FitsWorld}
-use Rattle.pl_event.proofs.SameLanes.{same_lane-self}
+use Rattle.pl_event.specs.Worlds.{World, content_of}
+use Rattle.pl_context.specs.declared.ports.Port.{Port}
+use Rattle.pl_context.specs.declared.standing.Standing.TheVariants as stands
+use Rattle.pl_context.specs.Standings.{is_over}
 use Rattle.pl_context.specs.ContextViews.{ContextView, kind_taken, taken_of}
 use Rattle.pl_context.specs.OutputsViews.{OutputsView}
 use Rattle.pl_context.specs.Stops.{StopsView, HasPlaces, AreAmong, no_stops, has_stopped}
 use Rattle.pl_context.specs.TailViews.{TailView, new_tail, kind_taken as tail_kind_taken, taken_of as tail_taken_of}
 use Rattle.pl_context.proofs.Places.{places-start}
-use Rattle.pl_flow.specs.Flows.{point, nowhere, on, IsGood}
+use Rattle.pl_flow.specs.Flows.{Point, point, nowhere, on, IsGood}
 use Rattle.pl_flow.specs.Makes.{Makes}
-use Rattle.pl_part.specs.ContextHolds.{context_writes, context_came}
+use Rattle.pl_head.specs.declared.inputs.ReadPlan.{ReadPlan}
+use Rattle.pl_head.specs.ReadSteps.{plan_steps}
+use Rattle.pl_head.specs.Transports.{MemoryTransportView, memory_state}
+use Rattle.pl_head.specs.HeadStand.{HeadView, StandsAfter, ReadsStand, HasFewFlags}
+use Rattle.pl_part.specs.ContextHolds.{context_writes, context_came, port_point}
+use Rattle.pl_part.specs.HeadHolds.{HeadHolds, head_writes, head_came, head_taken}
 use Rattle.pl_part.specs.NewParts.{IsPlannedAt, ArePlannedWith, AreNew}
-use Rattle.pl_part.specs.Parts.{PartView, PartHolds, SamePart, writer_hop, has_entered, part_taken, part_lanes, part_writes, part_came}
+use Rattle.pl_part.specs.Paths.{PathView, writer_hop, path_taken, path_lanes, path_writes, path_came}
+use Rattle.pl_part.specs.Parts.{PartView, PartHolds, SamePart, head_hop, has_entered, part_taken, part_lanes, part_writes, writes_at, part_came}
 use Rattle.pl_part.specs.PartCalls.{IsNextFor}
 use Rattle.pl_part_tests.specs.declared.relays.Relay.{Relay}
 use Rattle.pl_part_tests.specs.Relays.{relaying}
 use Rattle.pl_part_tests.specs.Playing.{Waits}
-use Rattle.pl_part_tests.specs.SampleParts.{sample_meaning, anywhere, sample_events, sample_world, IsSample, IsReady}
-use Rattle.pl_part_tests.proofs.PlayLemmas.{slot-filled, plays-gone, plays-front, plays-fed, plays-refused, front-number, front-good, front-places, front-written}
+use Rattle.pl_part_tests.specs.SampleParts.{sample_meaning, anywhere, sample_bursts, sample_events, sample_world, IsSample, IsReady}
+use Rattle.pl_part_tests.proofs.PlayLemmas.{slot-filled, plays-gone, plays-front, plays-given, front-number, front-good, front-places}
+
+abbrev Part : Type 0
+Part = PartView Relay MemoryTransportView
 
 some-equal : {A : Type 0} (a b : A) → Some a ≡ Some b → a ≡ b
 some-equal a b e = cc
@@ -41,128 +52,126 @@ some-equal a b e = cc
 abbrev at_node : ℕ → Bool
 at_node hop = if hop == 2 then true else get_or (true ∷ true ∷ false ∷ true ∷ []) hop false
 
-node-entered : (p : PartView Relay) → IsSample p → (l : Lane) → has_entered p l ≡ ((l.channel == 7) && at_node l.hop)
+-- by a lane's channel, hop and kind
+abbrev at_lane : Bool → ℕ → Kind → Bool
+at_lane here hop kind = if hop == 4 then (here && (hop == 4)) && same_kind kind Data else here && at_node hop
+
+node-entered : (p : Part) → IsSample p → (l : Lane) → has_entered p l ≡ at_lane (l.channel == 7) l.hop l.kind
+unfolding same_lane
 node-entered p s l =
-    let slot = slot-filled p l.hop ∙ ap (λ (bs : List Bool). get_or bs l.hop false) s.filled in
-    (λ i. (l.channel == s.channel i) && (if l.hop == s.tail_hop i then s.tail i else slot i))
+    let slot = slot-filled p.path l.hop ∙ ap (λ (bs : List Bool). get_or bs l.hop false) s.filled in
+    let count : length p.path.contexts ≡ 4 = sym (length-map p.path.contexts (λ (slot : Option (ContextView Relay)). is_some slot)) ∙ ap (λ (bs : List Bool). length bs) s.filled in
+    (λ i. if l.hop == count i then s.head i && same_lane l (data_lane (s.channel i) (count i)) else ((l.channel == s.channel i) && (if l.hop == s.tail_hop i then s.tail i else slot i)))
 
-below : (hop : ℕ) → hop < 4 → at_node hop ≡ true
-below zero h = refl
-below (suc zero) h = refl
-below (suc (suc zero)) h = refl
-below (suc (suc (suc zero))) h = refl
-below (suc (suc (suc (suc n)))) h = absurd (omega (arith, h))
+on-path : (hop : ℕ) (kind : Kind) → hop < 4 → at_lane true hop kind ≡ true
+on-path zero kind h = refl
+on-path (suc zero) kind h = refl
+on-path (suc (suc zero)) kind h = refl
+on-path (suc (suc (suc zero))) kind h = refl
+on-path (suc (suc (suc (suc n)))) kind h = absurd (omega (arith, h))
 
-beyond : (hop : ℕ) → 4 ≤ hop → at_node hop ≡ false
-beyond hop h = cond-false (hop == 2) true _ (ne_eqb hop 2 (λ e. omega (arith, h, e))) ∙ none hop h
+behind : (hop : ℕ) (kind : Kind) → 5 ≤ hop → at_lane true hop kind ≡ false
+behind hop kind h = cond-false (hop == 4) _ _ (ne_eqb hop 4 (λ e. omega (arith, h, e))) ∙ cond-false (hop == 2) true _ (ne_eqb hop 2 (λ e. omega (arith, h, e))) ∙ none hop h
   where
-    none : (n : ℕ) → 4 ≤ n → get_or (true ∷ true ∷ false ∷ true ∷ []) n false ≡ false
+    none : (n : ℕ) → 5 ≤ n → get_or (true ∷ true ∷ false ∷ true ∷ []) n false ≡ false
     none zero h = absurd (omega (arith, h))
     none (suc zero) h = absurd (omega (arith, h))
     none (suc (suc zero)) h = absurd (omega (arith, h))
     none (suc (suc (suc zero))) h = absurd (omega (arith, h))
     none (suc (suc (suc (suc n)))) h = refl
 
-pub entered-here : (p : PartView Relay) → IsSample p → (l : Lane) → (l.channel == 7) ≡ true → l.hop < 4 → true ≡ has_entered p l
-entered-here p s l c h = sym (node-entered p s l ∙ (λ i. c i && below l.hop h i))
-
-pub entered-behind : (p : PartView Relay) → IsSample p → (l : Lane) → (l.channel == 7) ≡ true → 4 ≤ l.hop → false ≡ has_entered p l
-entered-behind p s l c h = sym (node-entered p s l ∙ (λ i. c i && beyond l.hop h i))
-
-pub entered-elsewhere : (p : PartView Relay) → IsSample p → (l : Lane) → (l.channel == 7) ≡ false → false ≡ has_entered p l
-entered-elsewhere p s l c = sym (node-entered p s l ∙ ap (λ (b : Bool). b && at_node l.hop) c)
-
-same-sample : (p p' : PartView Relay) → SamePart p p' → IsSample p → IsSample p'
-same-sample p p' same s = record {
-  channel = same.channel ∙ s.channel;
-  executors = same.executors ∙ s.executors;
-  filled = same.contexts ∙ s.filled;
-  tail = same.tail ∙ s.tail;
-  tail_hop = same.tail_hop ∙ s.tail_hop;
-}
-
--- the lane of the first hop, which the head writes
-abbrev pub first_lane : Lane
-first_lane = data_lane 7 0
-
-unwritten : (p : PartView Relay) → part_writes sample_meaning p first_lane ≡ false
-unwritten p = ap (λ (o : Option (ContextView Relay)). option_map_or (λ (c : ContextView Relay). context_writes (sample_meaning c.stage).direction c first_lane) o false) (at-end p.contexts)
+away : (hop : ℕ) (kind : Kind) → at_lane false hop kind ≡ false
+away hop kind = by (hop == 4)
   where
-    at-end : {A : Type 0} (xs : List (Option A)) → get_or xs (length xs) None ≡ None
-    at-end [] = refl
-    at-end (x ∷ xs) = at-end xs
+    by : (b : Bool) → (if b then false && same_kind kind Data else false) ≡ false
+    by true = refl
+    by false = refl
+
+data-node : (hop : ℕ) → hop < 5 → at_lane true hop Data ≡ true
+data-node zero h = refl
+data-node (suc zero) h = refl
+data-node (suc (suc zero)) h = refl
+data-node (suc (suc (suc zero))) h = refl
+data-node (suc (suc (suc (suc zero)))) h = refl
+data-node (suc (suc (suc (suc (suc n))))) h = absurd (omega (arith, h))
+
+flags-behind : (hop : ℕ) → 4 ≤ hop → at_lane true hop Flags ≡ false
+flags-behind zero h = absurd (omega (arith, h))
+flags-behind (suc zero) h = absurd (omega (arith, h))
+flags-behind (suc (suc zero)) h = absurd (omega (arith, h))
+flags-behind (suc (suc (suc zero))) h = absurd (omega (arith, h))
+flags-behind (suc (suc (suc (suc zero)))) h = refl
+flags-behind (suc (suc (suc (suc (suc n))))) h = behind (suc (suc (suc (suc (suc n))))) Flags (omega arith)
+
+module _ (p : Part) (s : IsSample p) (l : Lane) where
+  as-lane : (here : Bool) (kind : Kind) → (l.channel == 7) ≡ here → l.kind ≡ kind → has_entered p l ≡ at_lane here l.hop kind
+  as-lane here kind c k = node-entered p s l ∙ (λ i. at_lane (c i) l.hop (k i))
+
+  pub entered-data : l.kind ≡ Data → (l.channel == 7) ≡ true → nat_lt l.hop 5 ≡ has_entered p l
+  entered-data k c = ⊎_elim
+      (λ (t : nat_lt l.hop 5 ≡ true). t ∙ sym (as-lane true Data c k ∙ data-node l.hop (ltb-true l.hop 5 t)))
+      (λ (f : nat_lt l.hop 5 ≡ false). f ∙ sym (as-lane true Data c k ∙ behind l.hop Data (ltb-false l.hop 5 f)))
+      (cases_Bool (nat_lt l.hop 5))
+
+  pub entered-flags : l.kind ≡ Flags → (l.channel == 7) ≡ true → nat_lt l.hop 4 ≡ has_entered p l
+  entered-flags k c = ⊎_elim
+      (λ (t : nat_lt l.hop 4 ≡ true). t ∙ sym (as-lane true Flags c k ∙ on-path l.hop Flags (ltb-true l.hop 4 t)))
+      (λ (f : nat_lt l.hop 4 ≡ false). f ∙ sym (as-lane true Flags c k ∙ flags-behind l.hop (ltb-false l.hop 4 f)))
+      (cases_Bool (nat_lt l.hop 4))
+
+  pub entered-elsewhere : (l.channel == 7) ≡ false → (l.channel == 7) ≡ has_entered p l
+  entered-elsewhere c = c ∙ sym (as-lane false l.kind c refl ∙ away l.hop l.kind)
+
+same-sample : (p p' : Part) → SamePart p p' → IsSample p → IsSample p'
+same-sample p p' same s = record {
+  channel = same.path.channel ∙ s.channel;
+  executors = same.path.executors ∙ s.executors;
+  filled = same.path.contexts ∙ s.filled;
+  tail = same.path.tail ∙ s.tail;
+  tail_hop = same.path.tail_hop ∙ s.tail_hop;
+  head = same.head ∙ s.head;
+}
 
 -- ---- it stays ready
 
--- an item that fits the first lane may stand there
-pub first-good : (n : ℕ) (i : Item) → n < 100 → Fits sample_events n i → IsGood sample_world (record { lane = first_lane; number = n; item = i })
-unfolding FitsWorld same_lane
-first-good n i small fits = record { fits = (sample_events, refl, fits); small = omega (arith, small) }
-
-module _ (n : ℕ) (p : PartView Relay) (b m : OutputsView) (x : Envelope) (items : b.items ≡ x ∷ m.items) (stops : m.stopped ≡ b.stopped) (ready : IsReady n p b) where
-  pub ready-gone : has_entered p x.lane ≡ false → IsReady n p m
+module _ (p : Part) (b m : OutputsView) (x : Envelope) (items : b.items ≡ x ∷ m.items) (stops : m.stopped ≡ b.stopped) (ready : IsReady p b) where
+  pub ready-gone : has_entered p x.lane ≡ false → IsReady p m
   ready-gone away = record {
     sample = ready.sample;
-    plays = plays-gone sample_world sample_meaning anywhere p b m x items stops ready.plays away;
-    fed_is = ready.fed_is;
+    plays = plays-gone sample_world sample_meaning anywhere memory_state p b m x items stops ready.plays away;
   }
 
   module _ (entered : has_entered p x.lane ≡ true) where
-    pub front-next : IsNextFor sample_world sample_meaning anywhere p x m
+    pub front-next : IsNextFor sample_world sample_meaning anywhere memory_state p x m
     front-next = record {
       holds = ready.plays.holds;
       entered = entered;
-      number = front-number sample_world sample_meaning anywhere p b m x items stops ready.plays entered;
-      good = front-good sample_world sample_meaning anywhere p b m x items stops ready.plays entered;
-      places = front-places sample_world sample_meaning anywhere p b m x items stops ready.plays entered;
+      number = front-number sample_world sample_meaning anywhere memory_state p b m x items stops ready.plays entered;
+      good = front-good sample_world sample_meaning anywhere memory_state p b m x items stops ready.plays entered;
+      places = front-places sample_world sample_meaning anywhere memory_state p b m x items stops ready.plays entered;
     }
 
-    pub ready-front : (p' : PartView Relay) (a : OutputsView) → SamePart p p' → ((l : Lane) → part_taken p' l ≡ cond (same_lane l x.lane) (x.number + 1) (part_taken p l))
+    pub ready-front : (p' : Part) (a : OutputsView) → SamePart p p' → ((l : Lane) → part_taken p' l ≡ cond (same_lane l x.lane) (x.number + 1) (part_taken p l))
         → ((l : Lane) → part_writes sample_meaning p' l ≡ part_writes sample_meaning p l)
-        → ((world : World) → PartHolds world sample_meaning anywhere p → IsGood world x → PartHolds world sample_meaning anywhere p')
-        → ((world : World) → PartHolds world sample_meaning anywhere p → IsGood world x → Makes world (part_writes sample_meaning p) (part_came sample_meaning p) (part_came sample_meaning p') m a)
-        → ((lanes : List Lane) → AreAmong (part_lanes p) lanes → HasPlaces m.stopped lanes → HasPlaces a.stopped lanes) → IsReady n p' a
+        → ((world : World) → PartHolds world sample_meaning anywhere memory_state p → IsGood world x → PartHolds world sample_meaning anywhere memory_state p')
+        → ((world : World) → PartHolds world sample_meaning anywhere memory_state p → IsGood world x
+        → Makes world (writes_at sample_meaning p x.lane.hop) (part_came sample_meaning p) (part_came sample_meaning p') m a)
+        → ((lanes : List Lane) → AreAmong (part_lanes p) lanes → HasPlaces m.stopped lanes → HasPlaces a.stopped lanes) → IsReady p' a
     ready-front p' a same counts writes holds made placed = record {
       sample = same-sample p p' same ready.sample;
-      plays = plays-front sample_world sample_meaning anywhere p b m x items stops ready.plays entered p' a same counts writes
+      plays = plays-front sample_world sample_meaning anywhere memory_state p b m x items stops ready.plays entered p' x.lane.hop a same counts writes
           (holds sample_world ready.plays.holds front-next.good) (made sample_world ready.plays.holds front-next.good) placed;
-      fed_is = counts first_lane
-          ∙ cond-false (same_lane first_lane x.lane) (x.number + 1) (part_taken p first_lane) (front-written sample_world sample_meaning anywhere p b m x items stops ready.plays entered first_lane (unwritten p))
-          ∙ ready.fed_is;
     }
 
-module _ (n : ℕ) (p : PartView Relay) (b : OutputsView) (ready : IsReady n p b) where
-  pub first-next : (i : Item) → n < 100 → Fits sample_events n i → IsNextFor sample_world sample_meaning anywhere p (record { lane = first_lane; number = n; item = i }) b
-  first-next i small fits = record {
-    holds = ready.plays.holds;
-    entered = sym (entered-here p ready.sample first_lane refl (omega arith));
-    number = sym ready.fed_is;
-    good = first-good n i small fits;
-    places = ready.plays.places;
-  }
-
-  module _ (p' : PartView Relay) (a : OutputsView) (same : SamePart p p') (writes : (l : Lane) → part_writes sample_meaning p' l ≡ part_writes sample_meaning p l)
-      (placed : (lanes : List Lane) → AreAmong (part_lanes p) lanes → HasPlaces b.stopped lanes → HasPlaces a.stopped lanes) where
-    pub ready-fed : (i : Item) → n < 100 → Fits sample_events n i → ((l : Lane) → part_taken p' l ≡ cond (same_lane l first_lane) (n + 1) (part_taken p l))
-        → ((world : World) → PartHolds world sample_meaning anywhere p → IsGood world (record { lane = first_lane; number = n; item = i }) → PartHolds world sample_meaning anywhere p')
-        → ((world : World) → PartHolds world sample_meaning anywhere p → IsGood world (record { lane = first_lane; number = n; item = i })
-        → Makes world (part_writes sample_meaning p) (part_came sample_meaning p) (part_came sample_meaning p') b a)
-        → IsReady (n + 1) p' a
-    ready-fed i small fits counts holds made =
-        let good = first-good n i small fits in record {
-          sample = same-sample p p' same ready.sample;
-          plays = plays-fed sample_world sample_meaning anywhere p p' b a ready.plays same writes (holds sample_world ready.plays.holds good) (made sample_world ready.plays.holds good) placed
-              (record { lane = first_lane; number = n; item = i }) (unwritten p) counts;
-          fed_is = counts first_lane ∙ cond-true (same_lane first_lane first_lane) (n + 1) (part_taken p first_lane) (same_lane-self first_lane);
-        }
-
-    pub ready-refused : ((l : Lane) → part_taken p' l ≡ part_taken p l) → ((world : World) → PartHolds world sample_meaning anywhere p → PartHolds world sample_meaning anywhere p')
-        → ((world : World) → PartHolds world sample_meaning anywhere p → Makes world (part_writes sample_meaning p) (part_came sample_meaning p) (part_came sample_meaning p') b a) → IsReady n p' a
-    ready-refused counts holds made = record {
-      sample = same-sample p p' same ready.sample;
-      plays = plays-refused sample_world sample_meaning anywhere p p' b a ready.plays same writes (holds sample_world ready.plays.holds) (made sample_world ready.plays.holds) placed counts;
-      fed_is = counts first_lane ∙ ready.fed_is;
-    }
+-- a node at a hop has put something out, and nothing is taken
+pub ready-given : (p p' : Part) (hop : ℕ) (b a : OutputsView) → IsReady p b → SamePart p p' → ((l : Lane) → part_writes sample_meaning p' l ≡ part_writes sample_meaning p l)
+    → ((lanes : List Lane) → AreAmong (part_lanes p) lanes → HasPlaces b.stopped lanes → HasPlaces a.stopped lanes) → ((l : Lane) → part_taken p' l ≡ part_taken p l)
+    → ((world : World) → PartHolds world sample_meaning anywhere memory_state p → PartHolds world sample_meaning anywhere memory_state p')
+    → ((world : World) → PartHolds world sample_meaning anywhere memory_state p → Makes world (writes_at sample_meaning p hop) (part_came sample_meaning p) (part_came sample_meaning p') b a) → IsReady p' a
+ready-given p p' hop b a ready same writes placed counts holds made = record {
+  sample = same-sample p p' same ready.sample;
+  plays = plays-given sample_world sample_meaning anywhere memory_state p p' hop b a ready.plays same writes (holds sample_world ready.plays.holds) (made sample_world ready.plays.holds) placed counts;
+}
 
 -- ---- it is ready at first
 
@@ -220,7 +229,80 @@ pub sample-planned : (inbound outbound : List Relay) (s0 s1 s2 : Relay) → inbo
     → ArePlannedWith sample_world sample_meaning 7 1 inbound outbound
 sample-planned inbound outbound s0 s1 s2 i o e0 e1 e2 = subst (λ (y : List Relay × List Relay). ArePlannedWith sample_world sample_meaning 7 1 y.0 y.1) (λ j. (sym i j, sym o j)) (all-planned s0 s1 s2 e0 e1 e2)
 
-module _ (p : PartView Relay) (sample : IsSample p) (holds : PartHolds sample_world sample_meaning anywhere p) (new : AreNew sample_world sample_meaning 7 2 1 anywhere p.contexts) (tail : p.tail ≡ Some (new_tail 7 2)) where
+-- ---- its head
+
+-- what `Head::new` says of it
+pub record IsFresh (plan : ReadPlan) (h : HeadView MemoryTransportView) : Type 0 where
+  pub after : StandsAfter memory_state h [] [] []
+  pub reads : ReadsStand plan 0 false h
+  pub entrance : h.input.port.lane ≡ data_lane 7 0
+  pub place : (h.channel ≡ 7) × (h.hop ≡ 4)
+  pub flags : h.buffer.flags ≡ record { lane = flags_lane 7 0; made = 0; is_open = true }
+  pub taken : h.taken ≡ 0
+  pub standing : h.standing ≡ stands.Open
+  pub few : HasFewFlags h
+
+module _ (plan : ReadPlan) (h : HeadView MemoryTransportView) (bursts : plan.bursts ≡ sample_bursts) (new : IsFresh plan h) where
+  pub head-holds : HeadHolds memory_state sample_world h
+  unfolding same_lane
+  head-holds = record {
+    plan = plan;
+    events = down_of (relaying Outbound) (down_of (relaying Turn) (up_of (relaying Inbound) sample_events));
+    holds = record {
+      own = (λ i. content_of sample_world (data_lane (new.place.0 i) (new.place.1 i))) ∙ refl;
+      few = omega arith;
+      took = record {
+        ys = [];
+        zs = [];
+        sizes = [];
+        after = new.after;
+        count = 0;
+        within = omega arith;
+        before = refl;
+        later = omega arith;
+        running = λ live sound. new.taken;
+        ended = λ ended. absurd (both_ways false refl (ap is_over (sym new.standing ∙ ended)));
+        none_late = λ over. refl;
+      };
+      most = omega (arith, new.taken);
+      input = (λ i. content_of sample_world (data_lane (new.place.0 i) 0)) ∙ ap (λ bs. Some (recorded_input bs)) (sym bursts);
+      few_input = subst (λ (bs : List (List (List ℕ))). length (recorded_input bs) + 1 < 2 ^ 31) (sym bursts) (omega arith);
+      reads = (0, false, new.reads);
+      entrance = new.entrance ∙ ap (λ n. data_lane n 0) (sym new.place.0);
+      flags = ap (λ (p : Port). p.lane) new.flags ∙ ap (λ n. flags_lane n 0) (sym new.place.0);
+      few_flags = new.few;
+    };
+  }
+
+  some-steps : 0 < plan_steps plan
+  some-steps = omega arith
+
+  reads-start : port_point h.input.port ≡ point 0 false
+  reads-start =
+      ap₂ (λ (n : ℕ) (goes_on : Bool). point n (not goes_on))
+      (new.reads.made ∙ ap {B = ℕ} (λ (b : Bool). (0 + cond b 1 0) + 0) (lt-leb (plan_steps plan) 0 some-steps))
+      (new.reads.is_open ∙ lt-ltb 0 (plan_steps plan) some-steps)
+
+  pub head-starts : (l : Lane) → head_writes h l ≡ true → head_came h l ≡ point 0 false
+  head-starts l writes = by (same_lane l (data_lane h.channel 0)) (same_lane l (flags_lane h.channel 0)) writes
+    where
+      by : (a b : Bool) → (a || b) ≡ true → cond a (port_point h.input.port) (cond b (port_point h.buffer.flags) nowhere) ≡ point 0 false
+      by true b w = reads-start
+      by false true w = ap port_point new.flags
+      by false false w = cc
+
+  pub head-untaken : (l : Lane) → head_taken h l ≡ 0
+  head-untaken l = by (same_lane l (data_lane h.channel h.hop))
+    where
+      by : (b : Bool) → cond b h.taken 0 ≡ 0
+      by true = new.taken
+      by false = refl
+
+-- ---- all of it
+
+module _ (p : Part) (sample : IsSample p) (holds : PartHolds sample_world sample_meaning anywhere memory_state p) (new : AreNew sample_world sample_meaning 7 2 1 anywhere p.path.contexts)
+    (tail : p.path.tail ≡ Some (new_tail 7 2)) (h : HeadView MemoryTransportView) (head : p.head ≡ Some h)
+    (head_starts : (l : Lane) → head_writes h l ≡ true → head_came h l ≡ point 0 false) (head_untaken : (l : Lane) → head_taken h l ≡ 0) where
   if-none : (b : Bool) (n : ℕ) → n ≡ 0 → (if b then n else 0) ≡ 0
   if-none true n e = e
   if-none false n e = refl
@@ -233,26 +315,42 @@ module _ (p : PartView Relay) (sample : IsSample p) (holds : PartHolds sample_wo
   tail-none Data = refl
   tail-none Flags = refl
 
-  nothing-taken : (l : Lane) → part_taken p l ≡ 0
-  nothing-taken l = both (l.hop == p.tail_hop)
-      (ap (λ (o : Option TailView). option_map_or (λ (t : TailView). tail_taken_of t l) o 0) tail ∙ if-none ((l.channel == 7) && (l.hop == 2)) (tail_kind_taken (new_tail 7 2) l.kind) (tail-none l.kind))
-      (none-taken l (get_or p.contexts l.hop None) (λ c found k. (new l.hop c found).none_taken k))
-    where
-      both : (b : Bool) {m n : ℕ} → m ≡ 0 → n ≡ 0 → (if b then m else n) ≡ 0
-      both true e f = e
-      both false e f = f
+  both : (b : Bool) {m n : ℕ} → m ≡ 0 → n ≡ 0 → (if b then m else n) ≡ 0
+  both true e f = e
+  both false e f = f
 
-  starts-at : (l : Lane) (o : Option (ContextView Relay))
+  path-untaken : (l : Lane) → path_taken p.path l ≡ 0
+  path-untaken l = both (l.hop == p.path.tail_hop)
+      (ap (λ (o : Option TailView). option_map_or (λ (t : TailView). tail_taken_of t l) o 0) tail ∙ if-none ((l.channel == 7) && (l.hop == 2)) (tail_kind_taken (new_tail 7 2) l.kind) (tail-none l.kind))
+      (none-taken l (get_or p.path.contexts l.hop None) (λ c found k. (new l.hop c found).none_taken k))
+
+  nothing-taken : (l : Lane) → part_taken p l ≡ 0
+  nothing-taken l = both (l.hop == head_hop p) (ap (λ (o : Option (HeadView MemoryTransportView)). option_map_or (λ (h : HeadView MemoryTransportView). head_taken h l) o 0) head ∙ head_untaken l) (path-untaken l)
+
+  path-starts : (l : Lane) (o : Option (ContextView Relay))
       → ((c : ContextView Relay) → o ≡ Some c → context_writes (sample_meaning c.stage).direction c l ≡ true → context_came (sample_meaning c.stage).direction c l ≡ point 0 false)
       → option_map_or (λ (c : ContextView Relay). context_writes (sample_meaning c.stage).direction c l) o false ≡ true
       → option_map_or (λ (c : ContextView Relay). context_came (sample_meaning c.stage).direction c l) o nowhere ≡ point 0 false
-  starts-at l None starts e = absurd (both_ways false refl e)
-  starts-at l (Some c) starts e = starts c refl e
+  path-starts l None starts e = absurd (both_ways false refl e)
+  path-starts l (Some c) starts e = starts c refl e
+
+  starts-at : (l : Lane) → part_writes sample_meaning p l ≡ true → part_came sample_meaning p l ≡ point 0 false
+  starts-at l writes = by (l.hop == 0) writes
+    where
+      at-head : option_map_or (λ (h : HeadView MemoryTransportView). head_writes h l) p.head false ≡ true → option_map_or (λ (h : HeadView MemoryTransportView). head_came h l) p.head nowhere ≡ point 0 false
+      at-head w =
+          ap (λ (o : Option (HeadView MemoryTransportView)). option_map_or (λ (h : HeadView MemoryTransportView). head_came h l) o nowhere) head
+          ∙ head_starts l (sym (ap (λ (o : Option (HeadView MemoryTransportView)). option_map_or (λ (h : HeadView MemoryTransportView). head_writes h l) o false) head) ∙ w)
+
+      by : (b : Bool) → (if b then option_map_or (λ (h : HeadView MemoryTransportView). head_writes h l) p.head false else path_writes sample_meaning p.path l) ≡ true
+          → (if b then option_map_or (λ (h : HeadView MemoryTransportView). head_came h l) p.head nowhere else path_came sample_meaning p.path l) ≡ point 0 false
+      by true w = at-head w
+      by false w = path-starts l (get_or p.path.contexts (writer_hop p.path l.hop) None) (λ c found. (new (writer_hop p.path l.hop) c found).starts l) w
 
   abbrev places-of : List ℕ → List Lane
-  places-of executors = part_lanes {S = Relay} (record p { executors = executors })
+  places-of executors = path_lanes {S = Relay} (record p.path { executors = executors })
 
-  pub ready-at-first : (w : OutputsView) → w.items ≡ [] → w.stopped ≡ no_stops 5 → IsReady 0 p w
+  pub ready-at-first : (w : OutputsView) → w.items ≡ [] → w.stopped ≡ no_stops 5 → IsReady p w
   ready-at-first w empty stops = record {
     sample = sample;
     plays = record {
@@ -261,44 +359,46 @@ module _ (p : PartView Relay) (sample : IsSample p) (holds : PartHolds sample_wo
         over = false;
         flow = tt;
         idle = λ not. refl;
-        up_to = λ own goes. sym (starts-at l (get_or p.contexts (writer_hop p l.hop) None) (λ c found. (new (writer_hop p l.hop) c found).starts l) own);
+        up_to = λ own goes. sym (starts-at l own);
       });
       places = subst (λ (y : StopsView × List Lane). HasPlaces y.0 y.1) (λ i. (sym stops i, places-of (sym sample.executors i)))
-          (places-start 5 (places-of (2 ∷ 0 ∷ 2 ∷ 2 ∷ 1 ∷ [])) (omega arith));
+          (places-start 5 (places-of (2 ∷ 0 ∷ 2 ∷ 1 ∷ 2 ∷ [])) (omega arith));
     };
-    fed_is = nothing-taken first_lane;
   }
 
 -- a part that was made so is one of these, and ready
-module _ (r : Result (PartView Relay) AllocError) (inbound outbound : List Relay) (two : length inbound ≡ 2) (tail : IfOk r (λ p. p.tail ≡ Some (new_tail 7 (length inbound)))) where
-  pub made-sample : (executors : List ℕ) → length outbound ≡ 1 → executors ≡ 2 ∷ 0 ∷ 2 ∷ 2 ∷ 1 ∷ []
-      → IfOk r (λ p. (p.channel ≡ 7) × (p.executors ≡ executors) × (p.tail_hop ≡ length inbound) × (p.turn ≡ 1))
-      → IfOk r (λ p. map (λ (slot : Option (ContextView Relay)). is_some slot) p.contexts ≡ replicate (length inbound) true ++ false ∷ replicate (length outbound) true)
+module _ (r : Result Part AllocError) (inbound outbound : List Relay) (two : length inbound ≡ 2) (tail : IfOk r (λ p. p.path.tail ≡ Some (new_tail 7 (length inbound))))
+    (h : HeadView MemoryTransportView) (head : IfOk r (λ p. p.head ≡ Some h)) where
+  pub made-sample : (executors : List ℕ) → length outbound ≡ 1 → executors ≡ 2 ∷ 0 ∷ 2 ∷ 1 ∷ 2 ∷ []
+      → IfOk r (λ p. (p.path.channel ≡ 7) × (p.path.executors ≡ executors) × (p.path.tail_hop ≡ length inbound) × (p.path.turn ≡ 1))
+      → IfOk r (λ p. map (λ (slot : Option (ContextView Relay)). is_some slot) p.path.contexts ≡ replicate (length inbound) true ++ false ∷ replicate (length outbound) true)
       → IfOk r (λ p. IsSample p)
-  made-sample executors one are place filled = by r place filled tail
+  made-sample executors one are place filled = by r place filled tail head
     where
-      by : (r : Result (PartView Relay) AllocError) → IfOk r (λ p. (p.channel ≡ 7) × (p.executors ≡ executors) × (p.tail_hop ≡ length inbound) × (p.turn ≡ 1))
-          → IfOk r (λ p. map (λ (slot : Option (ContextView Relay)). is_some slot) p.contexts ≡ replicate (length inbound) true ++ false ∷ replicate (length outbound) true)
-          → IfOk r (λ p. p.tail ≡ Some (new_tail 7 (length inbound))) → IfOk r (λ p. IsSample p)
-      by (Ok p) place filled tail = record {
+      by : (r : Result Part AllocError) → IfOk r (λ p. (p.path.channel ≡ 7) × (p.path.executors ≡ executors) × (p.path.tail_hop ≡ length inbound) × (p.path.turn ≡ 1))
+          → IfOk r (λ p. map (λ (slot : Option (ContextView Relay)). is_some slot) p.path.contexts ≡ replicate (length inbound) true ++ false ∷ replicate (length outbound) true)
+          → IfOk r (λ p. p.path.tail ≡ Some (new_tail 7 (length inbound))) → IfOk r (λ p. p.head ≡ Some h) → IfOk r (λ p. IsSample p)
+      by (Ok p) place filled tail head = record {
         channel = place.0;
         executors = place.1 ∙ are;
         filled = filled ∙ (λ i. replicate (two i) true ++ false ∷ replicate (one i) true);
         tail = ap (λ (o : Option TailView). is_some o) tail;
         tail_hop = place.2 ∙ two;
+        head = ap (λ (o : Option (HeadView MemoryTransportView)). is_some o) head;
       }
-      by (Err e) place filled tail = tt
+      by (Err e) place filled tail head = tt
 
-  pub made-ready : ArePlannedWith sample_world sample_meaning 7 1 inbound outbound → IfOk r (λ p. IsSample p)
-      → IfOk r (λ p. (world : World) → ArePlannedWith world sample_meaning 7 1 inbound outbound → AreNew world sample_meaning 7 (length inbound) 1 anywhere p.contexts)
-      → IfOk r (λ p. (world : World) → ArePlannedWith world sample_meaning 7 1 inbound outbound → PartHolds world sample_meaning anywhere p)
-      → IfOk r (λ p. (w : OutputsView) → w.items ≡ [] → w.stopped ≡ no_stops 5 → IsReady 0 p w)
-  made-ready planned sample new holds = by r sample tail new holds
+  pub made-ready : (plan : ReadPlan) → plan.bursts ≡ sample_bursts → IsFresh plan h → ArePlannedWith sample_world sample_meaning 7 1 inbound outbound → IfOk r (λ p. IsSample p)
+      → IfOk r (λ p. (world : World) → ArePlannedWith world sample_meaning 7 1 inbound outbound → AreNew world sample_meaning 7 (length inbound) 1 anywhere p.path.contexts)
+      → IfOk r (λ p. (world : World) → ArePlannedWith world sample_meaning 7 1 inbound outbound → HeadHolds memory_state world h → PartHolds world sample_meaning anywhere memory_state p)
+      → IfOk r (λ p. (w : OutputsView) → w.items ≡ [] → w.stopped ≡ no_stops 5 → IsReady p w)
+  made-ready plan bursts fresh planned sample new holds = by r sample tail head new holds
     where
-      by : (r : Result (PartView Relay) AllocError) → IfOk r (λ p. IsSample p) → IfOk r (λ p. p.tail ≡ Some (new_tail 7 (length inbound)))
-          → IfOk r (λ p. (world : World) → ArePlannedWith world sample_meaning 7 1 inbound outbound → AreNew world sample_meaning 7 (length inbound) 1 anywhere p.contexts)
-          → IfOk r (λ p. (world : World) → ArePlannedWith world sample_meaning 7 1 inbound outbound → PartHolds world sample_meaning anywhere p)
-          → IfOk r (λ p. (w : OutputsView) → w.items ≡ [] → w.stopped ≡ no_stops 5 → IsReady 0 p w)
-      by (Ok p) sample tail new holds =
-          ready-at-first p sample (holds sample_world planned) (subst (λ (n : ℕ). AreNew sample_world sample_meaning 7 n 1 anywhere p.contexts) two (new sample_world planned)) (tail ∙ ap (λ (n : ℕ). Some (new_tail 7 n)) two)
-      by (Err e) sample tail new holds = tt
+      by : (r : Result Part AllocError) → IfOk r (λ p. IsSample p) → IfOk r (λ p. p.path.tail ≡ Some (new_tail 7 (length inbound))) → IfOk r (λ p. p.head ≡ Some h)
+          → IfOk r (λ p. (world : World) → ArePlannedWith world sample_meaning 7 1 inbound outbound → AreNew world sample_meaning 7 (length inbound) 1 anywhere p.path.contexts)
+          → IfOk r (λ p. (world : World) → ArePlannedWith world sample_meaning 7 1 inbound outbound → HeadHolds memory_state world h → PartHolds world sample_meaning anywhere memory_state p)
+          → IfOk r (λ p. (w : OutputsView) → w.items ≡ [] → w.stopped ≡ no_stops 5 → IsReady p w)
+      by (Ok p) sample tail head new holds =
+          ready-at-first p sample (holds sample_world planned (head-holds plan h bursts fresh)) (subst (λ (n : ℕ). AreNew sample_world sample_meaning 7 n 1 anywhere p.path.contexts) two (new sample_world planned))
+          (tail ∙ ap (λ (n : ℕ). Some (new_tail 7 n)) two) h head (head-starts plan h bursts fresh) (head-untaken plan h bursts fresh)
+      by (Err e) sample tail head new holds = tt

@@ -1,19 +1,36 @@
--- Stages for the tests: one of each direction. An event goes on as it is; the turn writes a flush for each.
+-- Stages for the tests: one of each direction. An event goes on as it is; the turn writes back what is read, and a flush for
+-- each other event, which it hands on.
 use Rattle.std.specs.Prelude.{List, [], ◌∷◌, false, refl}
 use Rattle.pl_event.specs.declared.events.Event.{Event}
-use Rattle.pl_event.specs.declared.events.Event.TheVariants.{Flush}
+use Rattle.pl_event.specs.declared.events.Event.TheVariants.{Active, Read, ReadComplete, Caught, Write, Flush}
 use Rattle.pl_event.specs.declared.stages.Direction.{Direction}
 use Rattle.pl_event.specs.declared.stages.Direction.TheVariants.{Inbound, Outbound, Turn}
 use Rattle.pl_event.specs.Meaning.{Meaning, IsLawful}
 
+abbrev pub turned_up : Event → List Event
+turned_up Active = Active ∷ []
+turned_up (Read m) = []
+turned_up ReadComplete = ReadComplete ∷ []
+turned_up (Caught c) = Caught c ∷ []
+turned_up (Write m) = Write m ∷ []
+turned_up Flush = Flush ∷ []
+
+abbrev pub turned_down : Event → List Event
+turned_down Active = Flush ∷ []
+turned_down (Read m) = Write m ∷ []
+turned_down ReadComplete = Flush ∷ []
+turned_down (Caught c) = Flush ∷ []
+turned_down (Write m) = Flush ∷ []
+turned_down Flush = Flush ∷ []
+
 abbrev pub passed_up : Direction → Event → List Event
 passed_up Inbound x = x ∷ []
-passed_up Turn x = x ∷ []
+passed_up Turn x = turned_up x
 passed_up Outbound x = []
 
 abbrev pub passed_down : Direction → Event → List Event
 passed_down Inbound x = []
-passed_down Turn x = Flush ∷ []
+passed_down Turn x = turned_down x
 passed_down Outbound x = x ∷ []
 
 abbrev pub relaying : Direction → Meaning

@@ -2,6 +2,8 @@
 #![tactic(auto)]
 
 #[cfg(test)]
+mod head_failure_tests;
+#[cfg(test)]
 mod part_tests;
 #[cfg(test)]
 mod playing;

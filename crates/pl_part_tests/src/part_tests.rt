@@ -1,139 +1,241 @@
-//! A part with all nodes of a channel: an event through it, its end, and writers that are refused.
+//! A part with all nodes of a channel: events through it, its end, and writers that are refused.
 
-use crate::playing::{assert_seen, data_lane, play, read, refuse};
-use crate::relays::{sample_part, sample_run};
+use crate::playing::{Answer, Call, Expected, play};
+use crate::relays::{Faults, NO_FAULTS, Relay, sample_part, sample_run};
 use pl_context::Took;
-use pl_event::{Cause, Envelope, Event, Item};
+use pl_event::{Cause, Event, Outcome};
+use pl_head::{MemoryTransport, OutStep, ReadStep};
+use pl_part::ChannelPart;
+use std::process::Abort;
 use std::test::Fail;
 
-fn to_head(number: u64, item: Item) -> Envelope {
-    Envelope {
-        lane: data_lane(4),
-        number,
-        item,
-    }
+pub(crate) const GAVE: Answer = Answer::Read(ReadStep::Gave);
+
+pub(crate) const DONE: Answer = Answer::Read(ReadStep::Done);
+
+/// A byte has left.
+pub(crate) const WROTE: Answer = Answer::Wrote(OutStep::Wrote(1));
+
+pub(crate) const IDLE: Answer = Answer::Wrote(OutStep::Idle);
+
+/// Nothing came for any node.
+pub(crate) const NONE: &[(u16, Took)] = &[];
+
+/// An event has come through all nodes.
+pub(crate) const PASSED: &[(u16, Took)] = &[
+    (0, Took::Ran),
+    (1, Took::Ran),
+    (2, Took::Ran),
+    (3, Took::Ran),
+    (4, Took::Ran),
+];
+
+/// The burst has: handlers take its read and its completion in turn.
+pub(crate) const BURST: &[(u16, Took)] = &[
+    (0, Took::Ran),
+    (0, Took::Ran),
+    (1, Took::Ran),
+    (1, Took::Ran),
+    (3, Took::Ran),
+    (2, Took::Ran),
+    (3, Took::Ran),
+    (4, Took::Ran),
+    (4, Took::Ran),
+];
+
+/// The end has.
+pub(crate) const ENDED: &[(u16, Took)] = &[
+    (0, Took::Ended),
+    (1, Took::Ended),
+    (2, Took::Ended),
+    (3, Took::Ended),
+    (4, Took::Ended),
+];
+
+/// A flag has come to the tail.
+pub(crate) const FLAG: &[(u16, Took)] = &[(0, Took::Ran), (1, Took::Ran), (2, Took::Ran)];
+
+/// The tail has recorded these events and flags, and has failed for this.
+pub(crate) fn assert_tail(
+    rt: &impl Abort,
+    part: &ChannelPart<Relay, MemoryTransport>,
+    events: &[Event],
+    flags: &[bool],
+    cause: Option<Cause>,
+) {
+    let Some(tail) = part.tail() else {
+        panic!(rt; "no tail")
+    };
+    assert!(rt; tail.record() == events);
+    assert!(rt; tail.flags() == flags);
+    assert!(rt; tail.cause() == cause);
 }
 
-/// All nodes have answered this, in their order.
-fn all(took: Took) -> [(u16, Took); 4] {
-    [(0, took), (1, took), (2, took), (3, took)]
+/// The head has sent these bytes, its writes have come to this, and it has failed for this.
+pub(crate) fn assert_head(
+    rt: &impl Abort,
+    part: &ChannelPart<Relay, MemoryTransport>,
+    bytes: &[u8],
+    outcomes: &[Option<Outcome>],
+    cause: Option<Cause>,
+) {
+    let Some(head) = part.head() else {
+        panic!(rt; "no head")
+    };
+    assert!(rt; head.bytes() == bytes);
+    assert!(rt; head.outcomes() == outcomes);
+    assert!(rt; head.cause() == cause);
 }
+
+/// What the tail records of the burst.
+pub(crate) const RECORD: [Event; 2] = [Event::Active, Event::ReadComplete];
+
+const TO_THE_END: [Expected; 2] = [
+    (Call::Read, GAVE, PASSED, NONE),
+    (Call::Read, GAVE, BURST, FLAG),
+];
+
+const THE_END: [Expected; 4] = [
+    (Call::Read, GAVE, ENDED, NONE),
+    // What was flushed before the end is still written.
+    (Call::Write, WROTE, NONE, NONE),
+    (Call::Write, WROTE, NONE, FLAG),
+    (Call::Write, IDLE, NONE, NONE),
+];
 
 #[test]
 fn events_pass_and_end(rt: HostRuntime) -> Result<(), Fail> {
     let alloc = rt.alloc();
-    let (mut part, mut work) = sample_run(alloc, 9)?;
-    let seen = play(alloc, &mut part, &mut work, 0, Item::Event(Event::Active))?;
-    let flush = to_head(0, Item::Event(Event::Flush));
-    assert_seen(&rt, &seen, &all(Took::Ran), &[flush]);
-
-    let seen = play(alloc, &mut part, &mut work, 1, read(alloc))?;
-    let flush = to_head(1, Item::Event(Event::Flush));
-    assert_seen(&rt, &seen, &all(Took::Ran), &[flush]);
+    let (mut part, mut work) = sample_run(alloc, NO_FAULTS)?;
+    play(&rt, alloc, &mut part, &mut work, TO_THE_END.as_slice())?;
+    assert!(rt; part.has_read_step());
+    assert!(rt; !part.is_written());
     assert!(rt; !part.has_ended());
-
-    let seen = play(
-        alloc,
-        &mut part,
-        &mut work,
-        2,
-        Item::Event(Event::ReadComplete),
-    )?;
-    let flush = to_head(2, Item::Event(Event::Flush));
-    assert_seen(&rt, &seen, &all(Took::Ran), &[flush]);
-
-    let seen = play(alloc, &mut part, &mut work, 3, Item::End)?;
-    assert_seen(&rt, &seen, &all(Took::Ended), &[to_head(3, Item::End)]);
+    play(&rt, alloc, &mut part, &mut work, THE_END.as_slice())?;
+    assert!(rt; !part.has_read_step());
+    assert!(rt; part.is_written());
     assert!(rt; part.has_ended());
+    assert_tail(&rt, &part, &RECORD, &[false, true], None);
+    assert_head(&rt, &part, b"ab", &[Some(Outcome::Success)], None);
+    let (tail, head) = part.into_ends();
+    assert!(rt; tail.is_some());
+    assert!(rt; head.is_some());
     Ok(())
 }
+
+const REFUSED: Took = Took::Failed(Cause::Refused);
+
+const HANDLER_REFUSED: [Expected; 4] = [
+    (Call::Read, GAVE, PASSED, NONE),
+    (
+        Call::Refuse(1),
+        Answer::Nothing,
+        &[(1, REFUSED), (2, REFUSED), (3, REFUSED), (4, REFUSED)],
+        NONE,
+    ),
+    (
+        Call::Read,
+        GAVE,
+        &[(0, Took::Dropped), (0, Took::Dropped)],
+        NONE,
+    ),
+    (Call::Refuse(1), Answer::Nothing, NONE, NONE),
+];
 
 /// Nothing more of the first handler's lane is accepted: the failure follows the event that it has handed on.
 #[test]
 fn refused_handler_fails(rt: HostRuntime) -> Result<(), Fail> {
     let alloc = rt.alloc();
-    let (mut part, mut work) = sample_run(alloc, 9)?;
-    let seen = play(alloc, &mut part, &mut work, 0, Item::Event(Event::Active))?;
-    let flush = to_head(0, Item::Event(Event::Flush));
-    assert_seen(&rt, &seen, &all(Took::Ran), &[flush]);
-
-    let seen = refuse(alloc, &mut part, &mut work, 1)?;
-    let failed = Took::Failed(Cause::Refused);
-    let failure = to_head(1, Item::Fail(Cause::Refused));
-    assert_seen(
-        &rt,
-        &seen,
-        &[(1, failed), (2, failed), (3, failed)],
-        &[failure],
-    );
+    let (mut part, mut work) = sample_run(alloc, NO_FAULTS)?;
+    play(&rt, alloc, &mut part, &mut work, HANDLER_REFUSED.as_slice())?;
     assert!(rt; part.has_ended());
-
-    let seen = play(alloc, &mut part, &mut work, 1, read(alloc))?;
-    assert_seen(&rt, &seen, &[(0, Took::Dropped)], &[]);
-    let seen = refuse(alloc, &mut part, &mut work, 1)?;
-    assert_seen(&rt, &seen, &[], &[]);
     Ok(())
 }
+
+const WRITERS_REFUSED: [Expected; 4] = [
+    (Call::Refuse(4), Answer::Nothing, &[(4, REFUSED)], NONE),
+    (
+        Call::Read,
+        GAVE,
+        &[
+            (0, Took::Ran),
+            (1, Took::Ran),
+            (2, Took::Ran),
+            (3, Took::Dropped),
+        ],
+        NONE,
+    ),
+    (
+        Call::Refuse(3),
+        Answer::Nothing,
+        &[(2, REFUSED), (3, Took::Dropped)],
+        NONE,
+    ),
+    (Call::Refuse(0), Answer::Nothing, NONE, NONE),
+];
+
+const THEN_ABORTED: [Expected; 1] = [(
+    Call::Abort,
+    Answer::Nothing,
+    &[(0, Took::Failed(Cause::Aborted)), (1, Took::Dropped)],
+    NONE,
+)];
 
 /// The first lane after the tail is the turn's, the head's lane the outbound handler's, and the first hop's the head's.
 #[test]
 fn refused_writers(rt: HostRuntime) -> Result<(), Fail> {
     let alloc = rt.alloc();
-    let (mut part, mut work) = sample_run(alloc, 9)?;
-    let seen = refuse(alloc, &mut part, &mut work, 4)?;
-    assert_seen(&rt, &seen, &[], &[to_head(0, Item::Fail(Cause::Refused))]);
-
-    let seen = play(alloc, &mut part, &mut work, 0, Item::Event(Event::Active))?;
-    let ran = Took::Ran;
-    let answers = [(0, ran), (1, ran), (2, ran), (3, Took::Dropped)];
-    assert_seen(&rt, &seen, &answers, &[]);
-
-    let seen = refuse(alloc, &mut part, &mut work, 3)?;
-    let failed = Took::Failed(Cause::Refused);
-    assert_seen(&rt, &seen, &[(2, failed), (3, Took::Dropped)], &[]);
+    let (mut part, mut work) = sample_run(alloc, NO_FAULTS)?;
+    play(&rt, alloc, &mut part, &mut work, WRITERS_REFUSED.as_slice())?;
     assert!(rt; !part.has_ended());
-
-    let seen = refuse(alloc, &mut part, &mut work, 0)?;
-    assert_seen(&rt, &seen, &[], &[]);
-    let seen = play(alloc, &mut part, &mut work, 1, Item::Fail(Cause::Aborted))?;
-    let failed = Took::Failed(Cause::Aborted);
-    assert_seen(&rt, &seen, &[(0, failed), (1, Took::Dropped)], &[]);
+    play(&rt, alloc, &mut part, &mut work, THEN_ABORTED.as_slice())?;
     assert!(rt; part.has_ended());
     Ok(())
 }
+
+const MEMORY: Took = Took::Failed(Cause::Memory);
+
+const WITHOUT_MEMORY: [Expected; 3] = [
+    (Call::Read, GAVE, PASSED, NONE),
+    (
+        Call::Read,
+        GAVE,
+        &[
+            (0, MEMORY),
+            (0, Took::Dropped),
+            (1, MEMORY),
+            (2, MEMORY),
+            (3, MEMORY),
+            (4, MEMORY),
+        ],
+        NONE,
+    ),
+    (Call::Read, GAVE, &[(0, Took::Dropped)], NONE),
+];
 
 /// A handler whose second step finds no memory: its failure follows what it has handed on, and the rest is dropped.
 #[test]
 fn handler_without_memory(rt: HostRuntime) -> Result<(), Fail> {
     let alloc = rt.alloc();
-    let (mut part, mut work) = sample_run(alloc, 1)?;
-    let seen = play(alloc, &mut part, &mut work, 0, Item::Event(Event::Active))?;
-    let flush = to_head(0, Item::Event(Event::Flush));
-    assert_seen(&rt, &seen, &all(Took::Ran), &[flush]);
-
-    let seen = play(alloc, &mut part, &mut work, 1, read(alloc))?;
-    let failure = to_head(1, Item::Fail(Cause::Memory));
-    assert_seen(&rt, &seen, &all(Took::Failed(Cause::Memory)), &[failure]);
+    let faults = Faults {
+        steps: 1,
+        ..NO_FAULTS
+    };
+    let (mut part, mut work) = sample_run(alloc, faults)?;
+    play(&rt, alloc, &mut part, &mut work, WITHOUT_MEMORY.as_slice())?;
     assert!(rt; part.has_ended());
-
-    let seen = play(
-        alloc,
-        &mut part,
-        &mut work,
-        2,
-        Item::Event(Event::ReadComplete),
-    )?;
-    assert_seen(&rt, &seen, &[(0, Took::Dropped)], &[]);
     Ok(())
 }
 
 /// Where the lanes of each hop go, and who writes them.
 #[test]
 fn targets_and_writers(rt: HostRuntime) -> Result<(), Fail> {
-    let part = sample_part(rt.alloc(), 9)?;
+    let part = sample_part(rt.alloc(), NO_FAULTS)?;
+    assert!(rt; part.hops() == 5);
     assert!(rt; part.target(0) == 2);
     assert!(rt; part.target(1) == 0);
-    assert!(rt; part.target(4) == 1);
+    assert!(rt; part.target(3) == 1);
+    assert!(rt; part.target(4) == 2);
     assert!(rt; part.writer(0) == 4);
     assert!(rt; part.writer(2) == 1);
     assert!(rt; part.writer(3) == 1);

@@ -1,118 +1,156 @@
 //! A part and its work list, run by hand.
 
-ghost use Rattle.std.specs.Prelude.{◌≡◌, ◌+◌, ◌<◌, ℕ, OnOk, [], true, false};
-ghost use Rattle.pl_event.specs.declared.events.Event.TheVariants as event;
-ghost use Rattle.pl_event.specs.declared.events.Message.TheVariants.{Bytes};
-ghost use Rattle.pl_event.specs.declared.envelopes.Item.TheVariants as item;
-ghost use Rattle.pl_event.specs.Fitting.{Fits};
+ghost use Rattle.std.specs.Prelude.{◌≡◌, OnOk};
+ghost use Rattle.pl_head.specs.Transports.{MemoryTransportView};
 ghost use Rattle.pl_part.specs.Parts.{PartView, has_entered};
 ghost use Rattle.pl_part_tests.specs.declared.relays.Relay.{Relay};
-ghost use Rattle.pl_part_tests.specs.SampleParts.{IsReady, IsSample, sample_events};
+ghost use Rattle.pl_part_tests.specs.SampleParts.{IsReady, IsSample};
 
 use crate::relays::Relay;
 use pl_context::{Outputs, Took};
-use pl_event::{ByteString, Envelope, Event, Item, Kind, Lane, Message};
+use pl_event::{Envelope, Kind, Lane};
+use pl_head::{MemoryTransport, OutStep, ReadStep};
 use pl_part::ChannelPart;
 use std::alloc::{AllocError, Global};
 use std::process::Abort;
 
-/// What the nodes of a part have answered, each with its hop, and what came for the head.
+/// A call of a part.
+#[derive(Clone, Copy, Debug)]
+pub(crate) enum Call {
+    /// The head's next read step.
+    Read,
+    /// A write of the head.
+    Write,
+    Abort,
+    /// The writer of the data lane of a hop is refused.
+    Refuse(u16),
+}
+
+/// What a call answers.
+#[derive(Clone, Copy, Debug, PartialEq, Eq)]
+pub(crate) enum Answer {
+    Read(ReadStep),
+    Wrote(OutStep),
+    Nothing,
+}
+
+/// A call, what it is to answer, and what the nodes are to answer then to items of their data lanes and to flags, each
+/// with its hop.
+pub(crate) type Expected = (Call, Answer, &'static [(u16, Took)], &'static [(u16, Took)]);
+
+/// What the nodes of a part have answered, and what came for none of them.
 #[derive(Drop)]
-pub(crate) struct Seen {
-    pub(crate) answers: Vec<(u16, Took)>,
-    pub(crate) head: Vec<Envelope>,
+struct Seen {
+    data: Vec<(u16, Took)>,
+    flags: Vec<(u16, Took)>,
+    astray: Vec<Envelope>,
 }
 
 impl Seen {
     fn new(alloc: Global) -> Self {
         Seen {
-            answers: Vec::new(alloc),
-            head: Vec::new(alloc),
+            data: Vec::new(alloc),
+            flags: Vec::new(alloc),
+            astray: Vec::new(alloc),
         }
     }
-}
 
-/// The nodes have answered this, and this came for the head.
-pub(crate) fn assert_seen(
-    rt: &impl Abort,
-    seen: &Seen,
-    answers: &[(u16, Took)],
-    head: &[Envelope],
-) {
-    assert!(rt; seen.answers.as_slice() == answers);
-    assert!(rt; seen.head.as_slice() == head);
-}
-
-/// A data lane of channel 7.
-pub(crate) fn data_lane(hop: u16) -> Lane {
-    Lane {
-        channel: 7,
-        kind: Kind::Data,
-        hop,
+    fn push(&mut self, lane: Lane, took: Took) -> Result<(), AllocError> {
+        let answers = match lane.kind {
+            Kind::Data => &mut self.data,
+            Kind::Flags => &mut self.flags,
+        };
+        answers.push((lane.hop, took))?;
+        Ok(())
     }
 }
 
-/// The first hop takes the next item of its lane, and then the part runs until nothing waits.
+/// Makes these calls, one after another. After each the part runs until nothing waits.
 pub(crate) fn play(
+    rt: &impl Abort,
     alloc: Global,
-    part: &mut ChannelPart<Relay>,
+    part: &mut ChannelPart<Relay, MemoryTransport>,
     work: &mut Outputs,
-    number: u64,
-    item: Item,
-) -> Result<Seen, AllocError>
-    requires small { number < 100 }
-    requires ready { IsReady number part.old work.old }
-    requires fits { Fits sample_events number item }
-    ensures ready { OnOk result (IsReady (number + 1) part.new work.new) }
+    rows: &[Expected],
+) -> Result<(), AllocError>
+    requires ready { IsReady part.old work.old }
+    ensures ready { OnOk result (IsReady part.new work.new) }
 {
-    let mut seen = Seen::new(alloc);
-    let lane = Lane {
-        channel: 7,
-        kind: Kind::Data,
-        hop: 0,
-    };
-    let took = part.take(Envelope { lane, number, item }, work);
-    seen.answers.push((0, took))?;
-    run(part, work, &mut seen)?;
-    Ok(seen)
-}
-
-/// The writer of the data lane of a hop is refused, and then the part runs until nothing waits.
-pub(crate) fn refuse(
-    alloc: Global,
-    part: &mut ChannelPart<Relay>,
-    work: &mut Outputs,
-    hop: u16,
-) -> Result<Seen, AllocError>
-    requires ready { (n : ℕ) × IsReady n part.old work.old }
-    ensures ready { OnOk result ((n : ℕ) → IsReady n part.old work.old → IsReady n part.new work.new) }
-{
-    let mut seen = Seen::new(alloc);
-    part.refuse(data_lane(hop), work);
-    run(part, work, &mut seen)?;
-    Ok(seen)
-}
-
-fn run(part: &mut ChannelPart<Relay>, work: &mut Outputs, seen: &mut Seen) -> Result<(), AllocError>
-    requires ready { (n : ℕ) × IsReady n part.old work.old }
-    ensures ready { OnOk result ((n : ℕ) → IsReady n part.old work.old → IsReady n part.new work.new) }
-{
-    for _ in 0..100 {
-        if !goes_on(part, work, seen)? {
-            break;
-        }
+    for row in rows {
+        play_one(rt, alloc, part, work, row)?;
     }
     Ok(())
 }
 
+fn play_one(
+    rt: &impl Abort,
+    alloc: Global,
+    part: &mut ChannelPart<Relay, MemoryTransport>,
+    work: &mut Outputs,
+    row: &Expected,
+) -> Result<(), AllocError>
+    requires ready { IsReady part.old work.old }
+    ensures ready { OnOk result (IsReady part.new work.new) }
+{
+    let answer = apply(part, work, row.0);
+    assert!(rt; answer == row.1);
+    let seen = run(alloc, part, work)?;
+    assert!(rt; seen.data.as_slice() == row.2);
+    assert!(rt; seen.flags.as_slice() == row.3);
+    assert!(rt; seen.astray.is_empty());
+    Ok(())
+}
+
+/// Makes a call, and answers what it answers.
+fn apply(part: &mut ChannelPart<Relay, MemoryTransport>, work: &mut Outputs, call: Call) -> Answer
+    requires ready { IsReady part.old work.old }
+    ensures ready { IsReady part.new work.new }
+{
+    match call {
+        Call::Read => Answer::Read(part.next_read(work)),
+        Call::Write => Answer::Wrote(part.write_once(work)),
+        Call::Abort => {
+            part.abort(work);
+            Answer::Nothing
+        }
+        Call::Refuse(hop) => {
+            let lane = Lane {
+                channel: 7,
+                kind: Kind::Data,
+                hop,
+            };
+            part.refuse(lane, work);
+            Answer::Nothing
+        }
+    }
+}
+
+/// The part runs until nothing waits.
+fn run(
+    alloc: Global,
+    part: &mut ChannelPart<Relay, MemoryTransport>,
+    work: &mut Outputs,
+) -> Result<Seen, AllocError>
+    requires ready { IsReady part.old work.old }
+    ensures ready { OnOk result (IsReady part.new work.new) }
+{
+    let mut seen = Seen::new(alloc);
+    for _ in 0..100 {
+        if !goes_on(part, work, &mut seen)? {
+            break;
+        }
+    }
+    Ok(seen)
+}
+
 /// The node that it enters takes the front of the work list. It answers whether there was one.
 fn goes_on(
-    part: &mut ChannelPart<Relay>,
+    part: &mut ChannelPart<Relay, MemoryTransport>,
     work: &mut Outputs,
     seen: &mut Seen,
 ) -> Result<bool, AllocError>
-    requires ready { (n : ℕ) × IsReady n part.old work.old }
-    ensures ready { OnOk result ((n : ℕ) → IsReady n part.old work.old → IsReady n part.new work.new) }
+    requires ready { IsReady part.old work.old }
+    ensures ready { OnOk result (IsReady part.new work.new) }
 {
     let Some(envelope) = work.next() else {
         return Ok(false);
@@ -120,23 +158,19 @@ fn goes_on(
     let lane = envelope.lane;
     if enters(lane) {
         let took = part.take(envelope, work);
-        seen.answers.push((lane.hop, took))?;
+        seen.push(lane, took)?;
     } else {
-        seen.head.push(envelope)?;
+        seen.astray.push(envelope)?;
     }
     Ok(true)
 }
 
 /// Whether a lane enters one of the part's nodes.
 fn enters(lane: Lane) -> bool
-    ensures { (p : PartView Relay) → IsSample p → result ≡ has_entered p lane }
+    ensures { (p : PartView Relay MemoryTransportView) → IsSample p → result ≡ has_entered p lane }
 {
-    lane.channel == 7 && lane.hop < 4
-}
-
-/// A read of no bytes.
-pub(crate) fn read(alloc: Global) -> Item
-    ensures { result ≡ item.Event (event.Read (Bytes [])) }
-{
-    Item::Event(Event::Read(Message::Bytes(ByteString::from_vec(Vec::new(alloc)))))
+    match lane.kind {
+        Kind::Data => lane.channel == 7 && lane.hop < 5,
+        Kind::Flags => lane.channel == 7 && lane.hop < 4,
+    }
 }

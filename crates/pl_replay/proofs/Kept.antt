@@ -1,80 +1,90 @@
--- Whatever the moves, each report begins what its plan makes, and is all of it where the channel is drained.
-use Rattle.std.proofs.Common.{◌≡◌, ℕ, suc, ◌≤◌, Bool, true, false, ◌&&◌, if◌then◌else◌, nat_le, Option, Some, List, [], ◌∷◌, length, take, get_or, refl, sym, ap, subst, ◌∙◌, arith}
-use Rattle.std.specs.List.{slice_get}
-use Rattle.std.proofs.lemmas.Bool.{leb-true}
+-- What nodes keep at each call they keep in each move, and so do the channels of a net keep to their plan.
+use Rattle.std.proofs.Common.{◌≡◌, ◌≢◌, ℕ, zero, suc, Bool, List, length, Some, ap, sym, ◌∙◌, subst, inl, inr}
+use Rattle.std.specs.Prelude.{slice_get}
+use Rattle.std.proofs.Math.ListN.{set}
+use Rattle.std.proofs.lemmas.Bool.Decides.{eqb_tells}
+use Rattle.std.proofs.lemmas.List.{length-set}
 use Rattle.pl_event.specs.declared.events.Event.{Event}
-use Rattle.pl_event.specs.declared.outcomes.Cause.TheVariants.{Transport}
-use Rattle.pl_event.specs.declared.outcomes.Outcome.{Outcome}
-use Rattle.pl_world.specs.declared.report.Stands.{Stands}
-use Rattle.pl_world.specs.declared.report.Stands.TheVariants.{Drained, Open, Failed}
-use Rattle.pl_world.specs.declared.report.ChannelReport.{ChannelReport}
-use Rattle.pl_world.specs.Plans.{ChannelPlan, Plan, content, tail_hop, head_hop}
-use Rattle.pl_head.specs.Writes.{out, outcomes}
-use Rattle.pl_channel.specs.MadeItems.{has_end, data_lane}
-use Rattle.pl_world.specs.PlanRules.{IsPlan}
-use Rattle.pl_channel.specs.ChannelStates.{ChannelState, has_failed, no_numbers}
-use Rattle.pl_replay.specs.States.{State, channel_at, taken_at}
-use Rattle.pl_channel.specs.ChannelMoves.{at_head, has_closed}
-use Rattle.pl_replay.specs.LaneAccount.{IsAccounted}
-use Rattle.pl_world.specs.Reports.{tail_of, head_of, whole_report, KeepsToPlan, AllKeepToPlan}
-use Rattle.pl_replay.specs.NetStand.{pending, reports_at}
-use Rattle.pl_channel.specs.ChannelStand.{report_at}
-use Rattle.pl_channel.proofs.HeadMoves.{sound-taken}
-use Rattle.pl_replay.proofs.Passing.{with_waiting-none}
-use Rattle.pl_replay.proofs.Reading.{taken-prefix, taken-whole, accepted-le, accepted-prefix, accepted-whole}
+use Rattle.pl_event.specs.declared.envelopes.Envelope.{Envelope}
+use Rattle.pl_event.specs.Meaning.{Meaning}
+use Rattle.pl_event.proofs.Lists.{at_set_same, at_set_other}
+use Rattle.pl_context.specs.declared.standing.Took.{Took}
+use Rattle.pl_head.specs.declared.heads.OutStep.{OutStep}
+use Rattle.pl_head.specs.declared.heads.OutStep.TheVariants as step
+use Rattle.pl_head.specs.declared.heads.ReadStep.TheVariants as reading
+use Rattle.pl_context.specs.OutputsViews.{OutputsView}
+use Rattle.pl_head.specs.Transports.{TransportState}
+use Rattle.pl_net.specs.NodesViews.{NodesView}
+use Rattle.pl_net.specs.Nets.{CoreView, IsStep, Steps, Settles, RunsTask, Gives}
+use Rattle.pl_part.specs.Parts.{PartView, SamePart, PartTakes, PartReads, PartWrites}
+use Rattle.pl_channel.specs.PlanStand.{PartKeepsPlan, PartsKeepPlan}
+use Rattle.pl_channel.proofs.PlanLemmas.{part-takes-keeps, part-reads-keeps, part-writes-keeps}
+use Rattle.pl_replay.specs.Channels.{HasMoved, home_of}
+use Rattle.pl_replay.specs.Moves.{nodes_view, nodes_take, nodes_read, nodes_write, Makes}
+use Rattle.pl_replay.specs.declared.channels.Channels.{Channels}
+use Rattle.pl_world.specs.declared.moves.Move.{Move}
+use Rattle.pl_world.specs.declared.moves.Move.TheVariants.{Read, Task, Hand, Out}
+use Rattle.pl_world.specs.Plans.{ChannelPlan, Plan}
 
-drained-parts : (failed a b c : Bool) → (if failed then Failed Transport else if a && b && c then Drained else Open) ≡ Drained → (failed ≡ false) × (a ≡ true) × (b ≡ true) × (c ≡ true)
-drained-parts true a b c h = cc
-drained-parts false true true true h = (refl, refl, refl, refl)
-drained-parts false true true false h = cc
-drained-parts false true false c h = cc
-drained-parts false false b c h = cc
+module _ {N : Type 0} (view_of : N → NodesView) (takes : N → Envelope → OutputsView → N → OutputsView → Type 0) (P : N → Type 0)
+    (keeps : (n n' : N) (e : Envelope) (before after : OutputsView) → takes n e before n' after → P n → P n') where
+  step-keeps : (x : ℕ) (c c' : CoreView N) → IsStep view_of takes x c c' → P c.nodes → P c'.nodes
+  step-keeps x c c' s held = elim s.becomes [
+    | inl call ↦ keeps c.nodes c'.nodes s.envelope s.mid c'.work call.taken held
+    | inr keep ↦ subst P (sym keep.nodes) held
+  ]
 
-abbrev report_with : Stands → List Event → List ℕ → List (Option Outcome) → ChannelReport
-report_with stands tail bytes writes = record { stands = stands; tail = tail; bytes = bytes; writes = writes }
+  steps-keep : (n x : ℕ) (c c' : CoreView N) → Steps view_of takes x n c c' → P c.nodes → P c'.nodes
+  steps-keep zero x c c' s held = subst (λ (v : CoreView N). P v.nodes) (sym s) held
+  steps-keep (suc n) x c c' s held = step-keeps x s.0 c' s.2 (steps-keep n x c s.0 s.1 held)
 
-same_report : (a b : Stands) (t u : List Event) (x y : List ℕ) (w v : List (Option Outcome)) → a ≡ b → t ≡ u → x ≡ y → w ≡ v
-    → report_with a t x w ≡ report_with b u y v
-same_report a b t u x y w v stands tail bytes writes = cc
+  settles-keep : (x : ℕ) (c c' : CoreView N) → Settles view_of takes x c c' → P c.nodes → P c'.nodes
+  settles-keep x c c' s held = steps-keep s.count x c c' s.steps held
 
-module _ (plan : Plan) (ok : IsPlan plan) (s : State) (a : IsAccounted plan 0 s []) where
-  module _ (c : ℕ) (p : ChannelPlan) (here : slice_get plan.channels c ≡ Some p) where
-    now : ChannelState
-    now = channel_at s c
+  pub task-keeps : (x : ℕ) (c c' : CoreView N) → RunsTask view_of takes x c c' → P c.nodes → P c'.nodes
+  task-keeps x c c' r held = settles-keep x r.mid c' r.settles (keeps c.nodes r.mid.nodes r.envelope c.work r.mid.work r.taken held)
 
-    all_of_it : (report_at p (channel_at s c)).stands ≡ Drained → report_at p (channel_at s c) ≡ whole_report p
-    all_of_it drained =
-        let tail_ended = has_end (content p (tail_hop p)) (taken_at s (data_lane c (tail_hop p))) in
-        let head = at_head p (channel_at s c) in
-        let parts = drained-parts (has_failed (channel_at s c)) tail_ended (has_closed p (channel_at s c)) (nat_le (length (out head)) (channel_at s c).accepted) drained in
-        let all : length (out head) ≤ (channel_at s c).accepted = leb-true (length (out head)) (channel_at s c).accepted parts.3 in
-        let ended : has_end (content p (head_hop p)) (taken_at s (data_lane c (head_hop p))) ≡ true =
-        ap (has_end (content p (head_hop p))) (sym (sound-taken p (channel_at s c) parts.0)) ∙ parts.2 in
-        let size : (channel_at s c).accepted ≡ length (out head) = omega (arith, all, accepted-le plan ok 0 s [] a c p here) in
-        let tail : take (taken_at s (data_lane c (tail_hop p))) (content p (tail_hop p)) ≡ tail_of p = taken-whole plan ok 0 s [] a c p here (tail_hop p) (omega arith) parts.1 in
-        let lane : head ≡ head_of p = taken-whole plan ok 0 s [] a c p here (head_hop p) (omega arith) ended in
-        let bytes : take (channel_at s c).accepted (out head) ≡ out (head_of p) = accepted-whole plan ok 0 s [] a c p here ended all in
-        let writes : (report_at p (channel_at s c)).writes ≡ (whole_report p).writes =
-        ap (outcomes head (channel_at s c).accepted) parts.2 ∙ ap (λ (k : ℕ). outcomes head k true) size ∙ ap (λ (ys : List Event). outcomes ys (length (out ys)) true) lane in
-        same_report _ Drained _ (tail_of p) _ (out (head_of p)) _ (whole_report p).writes drained tail bytes writes
+  pub gives-keep : (gives : N → ℕ → OutputsView → N → OutputsView → Type 0) → ((n n' : N) (channel : ℕ) (before after : OutputsView) → gives n channel before n' after → P n → P n')
+      → (x channel : ℕ) (c c' : CoreView N) → Gives view_of takes gives x channel c c' → P c.nodes → P c'.nodes
+  gives-keep gives kept x channel c c' g held = settles-keep x (record c { nodes = g.nodes; work = g.work }) c' g.settles (kept c.nodes g.nodes channel c.work g.work g.given held)
 
-    keeps : KeepsToPlan p (report_at p (channel_at s c))
-    keeps = record {
-      tail = taken-prefix plan ok 0 s [] a c p here (tail_hop p) (omega arith);
-      bytes = accepted-prefix plan ok 0 s [] a c p here;
-      whole = all_of_it;
-    }
+-- ---- the plan
 
-all_keep : (ps : List ChannelPlan) (ss : List ChannelState) → length ss ≡ length ps → ((c : ℕ) (p : ChannelPlan) → slice_get ps c ≡ Some p → KeepsToPlan p (report_at p (get_or ss c no_numbers)))
-    → AllKeepToPlan ps (reports_at ps ss)
-all_keep [] ss size each = tt
-all_keep (p ∷ ps) [] size each = absurd (omega (arith, size))
-all_keep (p ∷ ps) (s ∷ ss) size each = (each 0 p refl, all_keep ps ss (omega (arith, size)) (λ c q at. each (suc c) q at))
+module _ {S T : Type 0} (meaning : S → Meaning) (stands_after : S → List Event → Type 0) (is_spent : S → Bool) (state : T → TransportState) (may_refuse : T → ℕ → Type 0) (plan : Plan) where
+  moved-keeps : (does : PartView S T → PartView S T → Type 0) → ((p : ChannelPlan) (part part' : PartView S T) → SamePart part part' → does part part' → PartKeepsPlan state p part → PartKeepsPlan state p part')
+      → (ps ps' : List (PartView S T)) (c : ℕ) → HasMoved does ps c ps' → PartsKeepPlan state plan ps → PartsKeepPlan state plan ps'
+  moved-keeps does kept ps ps' c m k = record {
+    count = ap length m.becomes ∙ length-set ps c m.after ∙ k.count;
+    each = each;
+  }
+    where
+      each : (d : ℕ) (p : ChannelPlan) (part : PartView S T) → slice_get plan.channels d ≡ Some p → slice_get ps' d ≡ Some part → PartKeepsPlan state p part
+      each d p part planned is =
+          let now : slice_get (set ps c m.after) d ≡ Some part = sym (ap (λ (l : List (PartView S T)). slice_get l d) m.becomes) ∙ is in
+          elim (eqb_tells d c) [
+            | inl here ↦
+                let same = at_set_same ps c m.after part (subst (λ (i : ℕ). slice_get (set ps c m.after) i ≡ Some part) here.1 now) in
+                subst (PartKeepsPlan state p) (sym same) (kept p m.before m.after m.same m.done (k.each c p m.before (subst (λ (i : ℕ). slice_get plan.channels i ≡ Some p) here.1 planned) m.was))
+            | inr there ↦ k.each d p part planned (at_set_other ps c d m.after part there.1 now)
+          ]
 
--- between two moves nothing is on its way
-pub accounted : (plan : Plan) (s : State) → IsAccounted plan 0 (pending plan 0 s [] []).state [] → IsAccounted plan 0 s []
-accounted plan s a = subst (λ (t : State). IsAccounted plan 0 t []) (with_waiting-none s 0) a
+  abbrev keeps : Channels S T → Type 0
+  keeps n = PartsKeepPlan state plan n.parts.items
 
--- the reports of all channels
-pub reports_keep : (plan : Plan) → IsPlan plan → (s : State) → IsAccounted plan 0 s [] → AllKeepToPlan plan.channels (reports_at plan.channels s.channels)
-reports_keep plan ok s a = all_keep plan.channels s.channels a.channels (keeps plan ok s a)
+  takes-kept : (n n' : Channels S T) (e : Envelope) (before after : OutputsView) → nodes_take meaning stands_after is_spent state n e before n' after → keeps n → keeps n'
+  takes-kept n n' e before after t = moved-keeps (λ part part'. (answer : Took) × PartTakes meaning stands_after is_spent state part e before answer part' after)
+      (λ p part part' same w. part-takes-keeps meaning stands_after is_spent state p part part' e before after w.0 same w.1) n.parts.items n'.parts.items e.lane.channel t
+
+  -- Whatever move is made, the nodes of all channels go on as the plan has them.
+  pub makes-keeps : (capacity : ℕ) (move : Move) (c c' : CoreView (Channels S T)) → Makes meaning stands_after is_spent state may_refuse capacity move c c'
+      → PartsKeepPlan state plan c.nodes.parts.items → PartsKeepPlan state plan c'.nodes.parts.items
+  makes-keeps capacity (Read channel) c c' m k = gives-keep (nodes_view meaning) (nodes_take meaning stands_after is_spent state) keeps takes-kept (nodes_read state)
+      (λ n n' d before after r. moved-keeps (λ part part'. PartReads state part before reading.Gave part' after)
+      (λ p part part' same. part-reads-keeps meaning stands_after is_spent state p part part' before after same) n.parts.items n'.parts.items d r)
+      (home_of c.nodes.parts.items channel) channel c c' m k
+  makes-keeps capacity (Task x) c c' m k = task-keeps (nodes_view meaning) (nodes_take meaning stands_after is_spent state) keeps takes-kept x c c' m k
+  makes-keeps capacity (Hand x) c c' m k = subst keeps (sym m.hands.nodes) k
+  makes-keeps capacity (Out channel) c c' m k = gives-keep (nodes_view meaning) (nodes_take meaning stands_after is_spent state) keeps takes-kept (nodes_write state may_refuse)
+      (λ n n' d before after r. moved-keeps (λ part part'. (answer : OutStep) × (answer ≢ step.Idle) × PartWrites state may_refuse part before answer part' after)
+      (λ p part part' same w. part-writes-keeps meaning stands_after is_spent state p may_refuse part part' before after w.0 same w.2) n.parts.items n'.parts.items d r)
+      (home_of c.nodes.parts.items channel) channel c c' m k

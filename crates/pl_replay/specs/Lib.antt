@@ -1,10 +1,8 @@
+pub mod Channels
+pub mod Placed
+pub mod Starts
 pub mod MoveModel
-pub mod Replays
-pub mod BacklogStand
+pub mod Moves
 pub mod NetStand
-pub mod InFlight
-pub mod PlacedStand
-pub mod CoreMoves
-pub mod LaneAccount
-pub mod States
-pub mod Untaken
+pub mod Reported
+pub mod Replays

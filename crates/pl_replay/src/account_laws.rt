@@ -1,27 +1,47 @@
-//! What waits in a net between two moves, as a law.
+//! What is on its way in a net between two moves, as a law.
 
-ghost use Rattle.std.specs.Prelude.{◌≡◌, ◌≤◌, ℕ, List, [], Some, slice_get};
+ghost use Rattle.std.specs.Prelude.{◌≡◌, ◌==◌, ◌&&◌, ◌++◌, ◌≤◌, ℕ, List, Bool, [], true, false};
 ghost use Rattle.pl_event.specs.declared.envelopes.Lane.{Lane};
-ghost use Rattle.pl_world.specs.declared.moves.Move.{Move};
-ghost use Rattle.pl_world.specs.Plans.{ChannelPlan, Plan};
-ghost use Rattle.pl_world.specs.PlanRules.{IsChannelPlan, IsPlan};
-ghost use Rattle.pl_channel.specs.MadeItems.{last_hop};
-ghost use Rattle.pl_channel.specs.ChannelStates.{ChannelState};
-ghost use Rattle.pl_replay.specs.States.{State, start};
-ghost use Rattle.pl_replay.specs.CoreMoves.{Reaches};
-ghost use Rattle.pl_replay.specs.LaneAccount.{IsAccounted};
-ghost use Rattle.pl_replay.specs.NetStand.{NetView, NetStands};
-ghost use Rattle.pl_replay.specs.InFlight.{IsInOrder, MakesOfTaken};
+ghost use Rattle.pl_context.specs.Stops.{has_stopped};
+ghost use Rattle.pl_context.specs.WaitingViews.{Entry};
+ghost use Rattle.pl_flow.specs.Flows.{point, on, IsFlow, past};
+ghost use Rattle.pl_net.specs.Nets.{queue_at, stops_at, envelopes};
+ghost use Rattle.pl_net.specs.Numbers.{handed_of, made_of};
+ghost use Rattle.pl_net.specs.declared.cores.Core.{Core};
+ghost use Rattle.pl_channel.specs.Lanes.{lanes_of};
+ghost use Rattle.pl_world.specs.Plans.{Plan};
+ghost use Rattle.pl_replay.specs.Channels.{channels_view, target_of, origin_of, taken_of, writes_of, came_of};
+ghost use Rattle.pl_replay.specs.NetStand.{NetStands};
+ghost use Rattle.pl_replay.specs.declared.channels.Channels.{Channels};
 
 use pl_event::Stage;
 use pl_head::Transport;
 
-/// What waits in a net between two moves: of each lane the items taken, then those queued, then those in the backlog
-/// are in this order its first items that were made, and they fit; the events made are what each stage makes of those
-/// it took. And after every list of moves the numbers account for all lanes.
+/// Of each lane that a node of a net writes, what is queued follows what was taken, and what waits follows that: each is the
+/// next item of the lane, it is what the plan's lane carries at its number, and nothing follows an end or a failure. It goes up
+/// to all that was made, unless the lane was cut off by a refused growth. Nothing of a lane is queued at another executor than
+/// the one it enters, nor waits at another than the one that writes it, and nothing of any other lane is anywhere.
 pub fn account_law<S: Stage, T: Transport>()
-    ensures run { (plan : Plan) (moves : List Move) (end : State) → IsPlan plan → Reaches plan (start plan) moves end → IsAccounted plan 0 end [] }
-    ensures order { (plan : Plan) (net : NetView S T) (s : State) (lane : Lane) (p : ChannelPlan) → NetStands S.meaning S.stands_after T.state plan s net
-        → slice_get plan.channels lane.channel ≡ Some p → lane.hop ≤ last_hop p lane.kind → IsInOrder net.core.executors.items p lane s }
-    ensures made { (executors : ℕ) (p : ChannelPlan) (s : ChannelState) → IsChannelPlan executors p → MakesOfTaken p s }
-{}
+    ensures order { (plan : Plan) (backlogs : ℕ → List (Entry Unit)) (net : Core (Channels S T)) → NetStands S.meaning S.stands_after T.state plan backlogs net
+        → (l : Lane) → writes_of S.meaning net.nodes.parts.items l ≡ true
+        → (over : Bool) × IsFlow (lanes_of plan) (point (taken_of net.nodes.parts.items l) over)
+        (on l (queue_at net.executors.items (target_of net.nodes.parts.items l)) ++ on l (envelopes (backlogs (origin_of net.nodes.parts.items l)))) }
+    ensures all { (plan : Plan) (backlogs : ℕ → List (Entry Unit)) (net : Core (Channels S T)) → NetStands S.meaning S.stands_after T.state plan backlogs net
+        → (l : Lane) → writes_of S.meaning net.nodes.parts.items l ≡ true
+        → has_stopped (stops_at net.executors.items (origin_of net.nodes.parts.items l) (target_of net.nodes.parts.items l)) l ≡ false → has_stopped net.work.stopped l ≡ false
+        → (over : Bool) × (past (point (taken_of net.nodes.parts.items l) over)
+        (on l (queue_at net.executors.items (target_of net.nodes.parts.items l)) ++ on l (envelopes (backlogs (origin_of net.nodes.parts.items l)))) ≡ came_of S.meaning net.nodes.parts.items l) }
+    ensures elsewhere { (plan : Plan) (backlogs : ℕ → List (Entry Unit)) (net : Core (Channels S T)) → NetStands S.meaning S.stands_after T.state plan backlogs net
+        → (y : ℕ) (l : Lane) → ((writes_of S.meaning net.nodes.parts.items l && (target_of net.nodes.parts.items l == y)) ≡ false → on l (queue_at net.executors.items y) ≡ [])
+        × ((writes_of S.meaning net.nodes.parts.items l && (origin_of net.nodes.parts.items l == y)) ≡ false → on l (envelopes (backlogs y)) ≡ []) }
+    // How many items of a lane were taken, handed over and made; of a lane inside one executor all that was made was taken.
+    ensures numbers { (backlogs : ℕ → List (Entry Unit)) (net : Core (Channels S T)) (l : Lane)
+        → (taken_of net.nodes.parts.items l ≤ handed_of (channels_view S.meaning net.nodes.parts.items) net.executors.items l)
+        × (handed_of (channels_view S.meaning net.nodes.parts.items) net.executors.items l ≤ made_of (channels_view S.meaning net.nodes.parts.items) net.executors.items backlogs l) }
+    ensures direct { (plan : Plan) (backlogs : ℕ → List (Entry Unit)) (net : Core (Channels S T)) → NetStands S.meaning S.stands_after T.state plan backlogs net
+        → (l : Lane) → writes_of S.meaning net.nodes.parts.items l ≡ true → origin_of net.nodes.parts.items l ≡ target_of net.nodes.parts.items l
+        → (handed_of (channels_view S.meaning net.nodes.parts.items) net.executors.items l ≡ taken_of net.nodes.parts.items l)
+        × (made_of (channels_view S.meaning net.nodes.parts.items) net.executors.items backlogs l ≡ taken_of net.nodes.parts.items l) }
+{
+    pl_net::account_law()
+}

@@ -2,10 +2,12 @@
 #![tactic(auto)]
 
 mod account_laws;
-mod executors;
+mod channels;
 mod nets;
 mod placing;
+mod reporting;
 mod running;
+mod starting;
 
 pub use account_laws::account_law;
 pub use nets::Net;

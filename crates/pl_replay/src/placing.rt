@@ -1,60 +1,28 @@
-//! Channels and executors before any move.
+//! Executors before any move, with places for the lanes between them.
 
-ghost use Rattle.std.specs.Prelude.{◌≡◌, ℕ, ◌+◌, ◌<◌, ◌≤◌, ◌^◌, map, get_or, length, vec_len, All, IfOk};
-ghost use Rattle.pl_event.specs.Inputs.{recorded_input};
-ghost use Rattle.pl_build.specs.declared.limits.TheConstants.{MAX_HANDLERS};
-ghost use Rattle.pl_world.specs.declared.limits.TheConstants.{MAX_CHANNELS};
-ghost use Rattle.pl_world.specs.Worlds.{IsUncalled};
-ghost use Rattle.pl_world.specs.Plans.{Plan, channel_planned};
-ghost use Rattle.pl_world.specs.PlanRules.{lane_count};
-ghost use Rattle.pl_replay.specs.States.{start, nothing_waits};
-ghost use Rattle.pl_replay.specs.BacklogStand.{ExecutorStands, ExecutorsStand};
-ghost use Rattle.pl_channel.specs.ChannelStand.{channel_plan, IsPlaced};
-ghost use Rattle.pl_replay.specs.NetStand.{lanes_between};
-ghost use Rattle.pl_replay.specs.PlacedStand.{lanes_of, ArePlaced, AreAtRest};
+ghost use Rattle.std.specs.Prelude.{◌≡◌, ◌<◌, ◌^◌, All, IfOk, length, map};
+ghost use Rattle.std.specs.List.{range_with_len};
+ghost use Rattle.pl_replay.specs.Placed.{HasExecutors, ArePlaceable, IsIdle, AreIdle, all_lanes, goes_between, lanes_between, hops_between};
 
-use crate::executors::Executor;
-use pl_channel::PlacedChannel;
 use pl_event::Stage;
 use pl_head::Transport;
-use pl_world::Recorded;
+use pl_net::Executor;
+use pl_part::ChannelPart;
 use std::alloc::{AllocError, Global};
 
-/// Recorded channels before any move, each with its number.
-pub(crate) fn placed<S: Stage, T: Transport>(
-    alloc: Global,
-    recorded: Vec<Recorded<S, T>>,
-) -> Result<Vec<PlacedChannel<S, T>>, AllocError>
-    requires count { vec_len recorded ≤ MAX_CHANNELS }
-    requires few { All (λ r. length (recorded_input r.bursts) + 1 < 2 ^ 31) recorded.items }
-    requires uncalled { All (λ r. IsUncalled (T.state r.transport)) recorded.items }
-    ensures rest { IfOk result (λ channels. AreAtRest S.meaning T.state S.stands_after (map (channel_planned S.meaning T.state) recorded.items) channels.items) }
-    ensures placed { IfOk result (λ channels. ArePlaced S.meaning T.state channels.items) }
-{
-    let mut channels = Vec::with_capacity(alloc, recorded.len())?;
-    for record in recorded {
-        let number = channels.len() as u16;
-        let channel = PlacedChannel::new(alloc, number, record)?;
-        channels.push(channel)?;
-    }
-    Ok(channels)
-}
-
-/// Executors at which nothing waits, each with places for the lanes from it to another.
+/// Executors at which nothing waits, each with places for the lanes from it to each.
 pub(crate) fn idle_executors<S: Stage, T: Transport>(
     alloc: Global,
     count: usize,
-    channels: &[PlacedChannel<S, T>],
+    parts: &[ChannelPart<S, T>],
 ) -> Result<Vec<Executor>, AllocError>
-    requires { ArePlaced S.meaning T.state channels.now }
-    ensures stand { IfOk result (λ executors. (plan : Plan) → plan.executors ≡ count → plan.channels ≡ map (channel_plan S.meaning T.state) channels.now
-        → ExecutorsStand plan (lanes_between plan) (start plan) executors.items) }
-    ensures added { IfOk result (λ executors. All (λ e. e.waiting.added ≡ 0) executors.items) }
+    requires few { length (all_lanes parts.now) < 2 ^ 16 }
+    requires hops { All HasExecutors parts.now }
+    ensures { IfOk result (λ executors. AreIdle parts.now count executors.items) }
 {
     let mut executors = Vec::with_capacity(alloc, count)?;
     for origin in 0..count {
-        let executor = idle_executor(alloc, count, channels, origin)?;
-        executors.push(executor)?;
+        executors.push(idle_executor(alloc, count, parts, origin)?)?;
     }
     Ok(executors)
 }
@@ -63,64 +31,76 @@ pub(crate) fn idle_executors<S: Stage, T: Transport>(
 fn idle_executor<S: Stage, T: Transport>(
     alloc: Global,
     count: usize,
-    channels: &[PlacedChannel<S, T>],
+    parts: &[ChannelPart<S, T>],
     origin: usize,
 ) -> Result<Executor, AllocError>
-    requires { ArePlaced S.meaning T.state channels.now }
-    ensures stands { IfOk result (λ e. (plan : Plan) → plan.executors ≡ count → plan.channels ≡ map (channel_plan S.meaning T.state) channels.now
-        → ExecutorStands plan (lanes_between plan origin) nothing_waits e) }
-    ensures added { IfOk result (λ e. e.waiting.added ≡ 0) }
+    requires { ArePlaceable parts.now }
+    ensures { IfOk result (λ executor. IsIdle parts.now count origin executor) }
 {
-    let mut places = Vec::with_capacity(alloc, count)?;
-    for target in 0..count {
-        places.push(lanes_between(channels, origin, target))?;
-    }
+    let places = places_from(alloc, count, parts, origin)?;
     Executor::new(alloc, places.as_slice())
 }
 
-/// How many lanes there are from one executor to another.
-fn lanes_between<S: Stage, T: Transport>(
-    channels: &[PlacedChannel<S, T>],
+/// How many lanes there are from an executor to each.
+fn places_from<S: Stage, T: Transport>(
+    alloc: Global,
+    count: usize,
+    parts: &[ChannelPart<S, T>],
     origin: usize,
-    target: usize,
-) -> u16
-    requires { ArePlaced S.meaning T.state channels.now }
-    ensures { (plan : Plan) → plan.channels ≡ map (channel_plan S.meaning T.state) channels.now → result ≡ lanes_between plan origin target }
+) -> Result<Vec<u16>, AllocError>
+    requires { ArePlaceable parts.now }
+    ensures { IfOk result (λ places. places.items ≡ map (λ target. length (lanes_between parts.now origin target)) (range_with_len 0 count)) }
 {
-    let mut lanes = 0;
-    for channel in channels {
-        lanes += lanes_of(channel, origin, target);
-    }
-    lanes
+    (0..count)
+        .map(|target| count_between(parts, origin, target))
+        .collect(alloc)
 }
 
-/// How many lanes of a channel there are from one executor to another.
-fn lanes_of<S: Stage, T: Transport>(
-    channel: &PlacedChannel<S, T>,
+/// How many lanes there are from one executor to another.
+fn count_between<S: Stage, T: Transport>(
+    parts: &[ChannelPart<S, T>],
     origin: usize,
     target: usize,
 ) -> u16
-    requires { IsPlaced S.meaning T.state channel.now }
-    ensures lanes { result ≡ lanes_of origin target (channel_plan S.meaning T.state channel.now) }
-    ensures few { result ≤ MAX_HANDLERS + 2 }
+    requires { ArePlaceable parts.now }
+    ensures { result ≡ length (lanes_between parts.now origin target) }
 {
-    let mut lanes = 0;
-    for hop in 0..channel.hops() {
-        if channel.origin(hop) == origin && channel.target(hop) == target {
-            lanes += 1;
-        }
-    }
-    lanes
+    let lanes: usize = parts
+        .iter()
+        .map(|part| count_of(part, origin, target))
+        .sum();
+    lanes as u16
+}
+
+/// How many lanes of a part there are from one executor to another.
+fn count_of<S: Stage, T: Transport>(part: &ChannelPart<S, T>, origin: usize, target: usize) -> usize
+    requires { HasExecutors part.now }
+    ensures { result ≡ length (hops_between origin target part.now) }
+{
+    (0..part.hops())
+        .filter(|hop| goes_between(part, *hop, origin, target))
+        .count()
+}
+
+/// Whether the lanes of a hop go from one executor to another.
+fn goes_between<S: Stage, T: Transport>(
+    part: &ChannelPart<S, T>,
+    hop: usize,
+    origin: usize,
+    target: usize,
+) -> bool
+    requires hops { HasExecutors part.now }
+    requires there { hop < length part.now.path.executors }
+    ensures { result ≡ goes_between origin target part.now hop }
+{
+    part.target(part.writer(hop)) == origin && part.target(hop) == target
 }
 
 /// How many lanes all channels have.
-pub(crate) fn all_lanes<S: Stage, T: Transport>(channels: &[PlacedChannel<S, T>]) -> u16
-    requires { ArePlaced S.meaning T.state channels.now }
-    ensures { (plan : Plan) → plan.channels ≡ map (channel_plan S.meaning T.state) channels.now → result ≡ lane_count plan }
+pub(crate) fn lane_count<S: Stage, T: Transport>(parts: &[ChannelPart<S, T>]) -> u16
+    requires { length (all_lanes parts.now) < 2 ^ 16 }
+    ensures { result ≡ length (all_lanes parts.now) }
 {
-    let mut lanes = 0;
-    for channel in channels {
-        lanes += channel.hops() as u16;
-    }
-    lanes
+    let lanes: usize = parts.iter().map(|part| part.hops()).sum();
+    lanes as u16
 }

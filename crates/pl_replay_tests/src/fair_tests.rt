@@ -1,7 +1,7 @@
 //! A fair schedule drains a session in each placing, and gives the report that plain gives.
 ghost use Rattle.std.specs.Prelude.{◌≤◌};
 
-use crate::net_tests::{bursts, line_protocol, marked_pipeline};
+use crate::net_tests::{PLACINGS, line_protocol, marked_pipeline, to_its_end};
 use crate::tests::assert_channel;
 use crate::world_tests::windowed_world;
 use pl_build::Groups;
@@ -27,9 +27,9 @@ fn session(
     let mut inputs = Sequence::new(alloc);
     let kinds = line_protocol(decode, service);
     pipelines.push(marked_pipeline(alloc, &mut groups, &kinds, window, window * 2)?)?;
-    inputs.push(bursts(alloc, &[&[b"ADD k 5\r\nGET k\r\n"], &[b"PI", b"NG\r\n"]])?)?;
+    inputs.push(to_its_end(alloc, &[&[b"ADD k 5\r\nGET k\r\n"], &[b"PI", b"NG\r\n"]])?)?;
     pipelines.push(marked_pipeline(alloc, &mut groups, &kinds, window, window * 2)?)?;
-    inputs.push(bursts(alloc, &[&[b"PING\r\nQUIT\r\n"]])?)?;
+    inputs.push(to_its_end(alloc, &[&[b"PING\r\nQUIT\r\n"]])?)?;
     let world = windowed_world(alloc, pipelines, inputs, window, groups.executors())?;
     Ok(Session { world, capacity: 2 })
 }
@@ -89,10 +89,10 @@ fn assert_drains(
 fn assert_each_drains(rt: &impl Abort, alloc: Global, window: u32) -> Result<(), Fail>
     requires { (1 ≤ window) × (window ≤ 65536) }
 {
-    assert_drains(rt, alloc, None, None, window)?;
-    assert_drains(rt, alloc, Some("a"), None, window)?;
-    assert_drains(rt, alloc, None, Some("b"), window)?;
-    assert_drains(rt, alloc, Some("a"), Some("b"), window)
+    for (decode, service) in PLACINGS {
+        assert_drains(rt, alloc, decode, service, window)?;
+    }
+    Ok(())
 }
 
 #[test]

@@ -2,6 +2,8 @@
 #![tactic(auto)]
 
 #[cfg(test)]
+mod failure_tests;
+#[cfg(test)]
 mod fair_tests;
 #[cfg(test)]
 mod load_tests;

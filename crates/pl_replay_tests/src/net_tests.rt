@@ -7,7 +7,7 @@ use crate::tests::{
 use crate::world_tests::world_of;
 use pl_build::{Groups, PipelineBuilder, Placed};
 use pl_event::{ByteString, Command, Event, Sequence};
-use pl_head::MemoryTransport;
+use pl_head::{MemoryTransport, ReadPlan, Transport};
 use pl_replay::{Net, replay_world};
 use pl_stages::Handler;
 use pl_world::{ChannelReport, Move, ReplayFault, Stands, World, plain_world};
@@ -65,6 +65,17 @@ pub(crate) fn line_protocol<'a>(
     ]
 }
 
+/// The groups of the decoder and of the service, each with one executor.
+pub(crate) const GROUPS: [(&str, u16); 2] = [("a", 1), ("b", 1)];
+
+/// Each placing of the decoder and the service: on the loop, or in a group.
+pub(crate) const PLACINGS: [(Option<&str>, Option<&str>); 4] = [
+    (None, None),
+    (Some("a"), None),
+    (None, Some("b")),
+    (Some("a"), Some("b")),
+];
+
 pub(crate) fn bursts(
     alloc: Global,
     input: &[&[&[u8]]],
@@ -80,6 +91,14 @@ pub(crate) fn bursts(
     Ok(bursts)
 }
 
+/// These bursts, and then the end.
+pub(crate) fn to_its_end(alloc: Global, input: &[&[&[u8]]]) -> Result<ReadPlan, Fail> {
+    Ok(ReadPlan {
+        bursts: bursts(alloc, input)?,
+        abort_after: None,
+    })
+}
+
 /// A world of this many equal channels on one loop, with groups of these sizes.
 pub(crate) fn world(
     alloc: Global,
@@ -92,7 +111,7 @@ pub(crate) fn world(
     let mut all = Sequence::new(alloc);
     for input in inputs {
         pipelines.push(pipeline(alloc, &mut groups, kinds)?)?;
-        all.push(bursts(alloc, input)?)?;
+        all.push(to_its_end(alloc, input)?)?;
     }
     Ok(world_of(alloc, pipelines, all, groups.executors())?)
 }
@@ -165,8 +184,8 @@ fn no_such_executor(rt: HostRuntime) -> Result<(), Fail> {
 }
 
 /// Makes every move in turn until nothing is enabled, and answers whether all channels are drained then.
-pub(crate) fn drain(
-    net: &mut Net<Handler, MemoryTransport>,
+pub(crate) fn drain<T: Transport>(
+    net: &mut Net<Handler, T>,
     channels: u16,
     executors: u16,
 ) -> Result<bool, Fail> {
@@ -264,7 +283,7 @@ fn three_channels_share_a_group(rt: HostRuntime) -> Result<(), Fail> {
 }
 
 /// Whether a report begins another one.
-fn begins(part: &ChannelReport, whole: &ChannelReport) -> bool {
+pub(crate) fn begins(part: &ChannelReport, whole: &ChannelReport) -> bool {
     is_prefix(part.tail.as_slice(), whole.tail.as_slice())
         && is_prefix(part.bytes.as_slice(), whole.bytes.as_slice())
         && part.writes.len() <= whole.writes.len()
@@ -300,11 +319,11 @@ pub(crate) fn move_by(number: u64, channels: u16, executors: u16) -> Move
 }
 
 /// Each report of a random schedule begins the plain one, and where all channels are drained it is the plain one.
-pub(crate) fn keeps_to_plain(
+pub(crate) fn keeps_to_plain<T: Transport>(
     rt: &impl Abort,
     alloc: Global,
     seed: u64,
-    world: World<Handler, MemoryTransport>,
+    world: World<Handler, T>,
     whole: &[ChannelReport],
 ) -> Result<(), Fail>
     requires { seed < 2147483647 }
@@ -340,9 +359,9 @@ pub(crate) fn keeps_to_plain(
 }
 
 /// The whole report of each channel of a world.
-pub(crate) fn whole(
+pub(crate) fn whole<T: Transport>(
     alloc: Global,
-    world: World<Handler, MemoryTransport>,
+    world: World<Handler, T>,
 ) -> Result<Sequence<ChannelReport>, Fail> {
     Ok(plain_world(alloc, world)?.channels)
 }

@@ -4,7 +4,7 @@ ghost use Rattle.std.specs.Prelude.{[], IfOk};
 use crate::world_tests::world_of;
 use pl_build::{Groups, PipelineBuilder, Placed};
 use pl_event::{ByteString, Command, Event, Message, Outcome, Sequence, Stage};
-use pl_head::MemoryTransport;
+use pl_head::{MemoryTransport, ReadPlan};
 use pl_replay::replay;
 use pl_stages::{
     CommandDecoder, FlushEvery, Handler, LineEnd, LineFramer, LineService, ReplyEncoder,
@@ -15,6 +15,10 @@ use std::process::Abort;
 use std::test::Fail;
 
 pub(crate) const SUCCESS: Option<Outcome> = Some(Outcome::Success);
+
+pub(crate) const FAULT: Option<Outcome> = Some(Outcome::Fault);
+
+pub(crate) const CLOSED: Option<Outcome> = Some(Outcome::Closed);
 
 #[derive(Clone, Copy)]
 pub(crate) enum Kind {
@@ -83,9 +87,13 @@ fn channel(
         burst.push(text(alloc, bytes)?)?;
         bursts.push(burst)?;
     }
+    let input = ReadPlan {
+        bursts,
+        abort_after: None,
+    };
     Ok(Recorded {
         pipeline,
-        bursts,
+        input,
         transport: MemoryTransport::new(alloc, 65_536, None),
     })
 }
@@ -101,11 +109,11 @@ fn session(
     for recorded in channels {
         let Recorded {
             pipeline,
-            bursts,
+            input,
             ..
         } = recorded;
         pipelines.push(pipeline)?;
-        inputs.push(bursts)?;
+        inputs.push(input)?;
     }
     let world = world_of(alloc, pipelines, inputs, groups.executors())?;
     Ok(Session { world, capacity: 4 })
@@ -404,7 +412,7 @@ fn plain_flush_never_comes(rt: HostRuntime) -> Result<(), Fail> {
         Kind::Service,
     ];
     let report = plain_one(rt.alloc(), &kinds, Some(b"PING\n"))?;
-    let writes = [Some(Outcome::Closed)];
+    let writes = [CLOSED];
     assert_one(&rt, &report, Stands::Drained, &ping_tail(), b"", &writes);
     Ok(())
 }

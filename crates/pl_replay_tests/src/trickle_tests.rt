@@ -1,9 +1,11 @@
 //! A transport of a user's own, and windows: the report is that of docs/FORMATS.md, whatever a transport accepts a call.
-ghost use Rattle.std.specs.Prelude.{◌≤◌, None};
+ghost use Rattle.std.specs.Prelude.{◌≡◌, ◌≤◌, ◌-◌, ◌<◌, ◌⊎◌, None, Some, vec_len, vec_capacity};
 ghost use Rattle.pl_world.specs.Worlds.{IsUncalled};
 
-use crate::net_tests::{bursts, line_protocol, pipeline};
-use crate::tests::{assert_one, assert_ping, ping_tail};
+use crate::net_tests::{
+    GROUPS, PLACINGS, drain, keeps_to_plain, line_protocol, pipeline, to_its_end, whole,
+};
+use crate::tests::{FAULT, SUCCESS, assert_one, assert_ping, ping_tail};
 use crate::world_tests::{one_transport, world_over};
 use pl_build::Groups;
 use pl_event::{Cause, Sequence};
@@ -36,7 +38,9 @@ impl Trickle {
 }
 
 impl Transport for Trickle {
-    ghost state = { λ t. record { accepted = t.bytes.items; calls = t.calls; failures = t.failures; window = None } };
+    ghost state = { λ t. record { accepted = t.bytes.items; calls = t.calls; failures = t.failures; window = None; fail_at = None } };
+
+    ghost may_refuse = { λ t size. vec_capacity t.bytes - vec_len t.bytes < size };
 
     fn write(&mut self, bytes: &[u8]) -> Result<usize, TransportFault> {
         let count = if self.calls % 2 == 0 {
@@ -57,18 +61,74 @@ impl Transport for Trickle {
     }
 }
 
-/// A channel of the line protocol that reads `PING`, on one loop over a transport that was not called.
+/// A transport with room for a number of bytes, which accepts one byte a call. With no room left each call fails.
+#[derive(Debug, Drop)]
+struct Narrow {
+    bytes: Vec<u8>,
+    room: usize,
+    calls: u64,
+    failures: u64,
+}
+
+impl Narrow {
+    fn new(alloc: Global, room: usize) -> Self
+        ensures { IsUncalled (⟦<Narrow as Transport>⟧.state result) }
+    {
+        Narrow {
+            bytes: Vec::new(alloc),
+            room,
+            calls: 0,
+            failures: 0,
+        }
+    }
+}
+
+impl Transport for Narrow {
+    ghost state = { λ t. record { accepted = t.bytes.items; calls = t.calls; failures = t.failures; window = Some 1; fail_at = None } };
+
+    ghost may_refuse = { λ t size. (t.room ≤ vec_len t.bytes) ⊎ (vec_capacity t.bytes - vec_len t.bytes < size) };
+
+    fn write(&mut self, bytes: &[u8]) -> Result<usize, TransportFault> {
+        let count = bytes.len().min(1);
+        let is_full = self.room <= self.bytes.len();
+        self.calls = self.calls.saturating_add(1);
+        if is_full || self.bytes.extend_from_slice(&bytes[..count]).is_err() {
+            self.failures = self.failures.saturating_add(1);
+            return Err(TransportFault::Failed);
+        }
+        Ok(count)
+    }
+
+    fn bytes(&self) -> &[u8] {
+        self.bytes.as_slice()
+    }
+}
+
+/// A channel of the line protocol that reads `PING`, over a transport that was not called: the decoder and the service
+/// each in a group or in none.
+fn placed_ping_over<T: Transport>(
+    alloc: Global,
+    decode: Option<&str>,
+    service: Option<&str>,
+    transport: T,
+) -> Result<World<Handler, T>, Fail>
+    requires { IsUncalled (T.state transport) }
+{
+    let mut groups = Groups::new(alloc, 1, &GROUPS)?;
+    let mut pipelines = Sequence::new(alloc);
+    let kinds = line_protocol(decode, service);
+    pipelines.push(pipeline(alloc, &mut groups, &kinds)?)?;
+    let mut inputs = Sequence::new(alloc);
+    inputs.push(to_its_end(alloc, &[&[b"PING\r\n"]])?)?;
+    let transports = one_transport(alloc, transport)?;
+    Ok(world_over(alloc, pipelines, inputs, transports, groups.executors())?)
+}
+
+/// The same on one loop.
 fn ping_over<T: Transport>(alloc: Global, transport: T) -> Result<World<Handler, T>, Fail>
     requires { IsUncalled (T.state transport) }
 {
-    let mut groups = Groups::new(alloc, 1, &[])?;
-    let mut pipelines = Sequence::new(alloc);
-    let kinds = line_protocol(None, None);
-    pipelines.push(pipeline(alloc, &mut groups, &kinds)?)?;
-    let mut inputs = Sequence::new(alloc);
-    inputs.push(bursts(alloc, &[&[b"PING\r\n"]])?)?;
-    let transports = one_transport(alloc, transport)?;
-    Ok(world_over(alloc, pipelines, inputs, transports, groups.executors())?)
+    placed_ping_over(alloc, None, None, transport)
 }
 
 #[test]
@@ -118,6 +178,52 @@ fn failed_transport(rt: HostRuntime) -> Result<(), Fail> {
     let moves = [Move::Read(0), Move::Read(0), Move::Out(0), Move::Out(0)];
     let report = replay(alloc, Session { world, capacity: 1 }, &moves)?;
     let stands = Stands::Failed(Cause::Transport);
-    assert_one(&rt, &report, stands, &ping_tail(), b"", &[None]);
+    assert_one(&rt, &report, stands, &ping_tail(), b"", &[FAULT]);
+    Ok(())
+}
+
+/// In each placing a transport of a user's own that accepts one byte a call leaves a channel drained, however random
+/// the schedule begins.
+#[test]
+fn slow_transport(rt: HostRuntime) -> Result<(), Fail> {
+    let alloc = rt.alloc();
+    for (decode, service) in PLACINGS {
+        let world = placed_ping_over(alloc, decode, service, Narrow::new(alloc, 7))?;
+        let reports = whole(alloc, world)?;
+        for seed in 1..5 {
+            let world = placed_ping_over(alloc, decode, service, Narrow::new(alloc, 7))?;
+            keeps_to_plain(&rt, alloc, seed, world, reports.as_slice())?;
+        }
+    }
+    Ok(())
+}
+
+/// In each placing one that has room for less than the reply fails its channel, with as many bytes as it had room for.
+#[test]
+fn own_transport_fails(rt: HostRuntime) -> Result<(), Fail> {
+    let alloc = rt.alloc();
+    let pong = b"+PONG\r\n".as_slice();
+    for (decode, service) in PLACINGS {
+        for room in 0..8 {
+            let world = placed_ping_over(alloc, decode, service, Narrow::new(alloc, room))?;
+            let mut net = Net::new(alloc, world, 1)?;
+            assert_eq!(rt; drain(&mut net, 1, 3)?, room == 7);
+            let report = net.report()?;
+            if room < 7 {
+                let stands = Stands::Failed(Cause::Transport);
+                let bytes = &pong[..room];
+                assert_one(&rt, &report, stands, &ping_tail(), bytes, &[FAULT]);
+            } else {
+                assert_one(
+                    &rt,
+                    &report,
+                    Stands::Drained,
+                    &ping_tail(),
+                    pong,
+                    &[SUCCESS],
+                );
+            }
+        }
+    }
     Ok(())
 }

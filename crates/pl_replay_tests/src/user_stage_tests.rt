@@ -2,9 +2,9 @@
 ghost use Rattle.std.specs.Prelude.{◌≡◌, []};
 ghost use Rattle.pl_replay_tests.specs.CountingStage.{reads, counting, counting-lawful, counting-thrifty};
 
-use crate::net_tests::bursts;
+use crate::net_tests::to_its_end;
 use crate::tests::assert_channel;
-use crate::world_tests::one_transport;
+use crate::world_tests::one_memory_transport;
 use pl_build::{Groups, PipelineBuilder, Placed};
 use pl_event::{BareStage, Direction, Event, Fused, Message, Reply, Sequence, Stage, Turned};
 use pl_head::MemoryTransport;
@@ -89,8 +89,8 @@ fn world(
     let mut pipelines = Sequence::new(alloc);
     pipelines.push(pipeline(alloc, &mut groups, group)?)?;
     let mut inputs = Sequence::new(alloc);
-    inputs.push(bursts(alloc, &[&[b"a", b"b"], &[b"c"]])?)?;
-    let transports = one_transport(alloc, MemoryTransport::new(alloc, 65_536, None))?;
+    inputs.push(to_its_end(alloc, &[&[b"a", b"b"], &[b"c"]])?)?;
+    let transports = one_memory_transport(alloc, 65_536, None)?;
     Ok(World::of_thrifty(alloc, pipelines, inputs, transports, groups.executors())?)
 }
 

@@ -2,11 +2,11 @@
 ghost use Rattle.std.specs.Prelude.{◌≤◌, All, IfOk};
 ghost use Rattle.pl_world.specs.Worlds.{IsUncalled};
 
-use crate::net_tests::{bursts, line_protocol, pipeline};
+use crate::net_tests::{line_protocol, pipeline, to_its_end};
 use crate::trickle_tests::Trickle;
 use pl_build::{Groups, Placed};
-use pl_event::{ByteString, Sequence};
-use pl_head::{MemoryTransport, Transport};
+use pl_event::Sequence;
+use pl_head::{MemoryTransport, ReadPlan, Transport};
 use pl_stages::Handler;
 use pl_world::{World, WorldRefusal};
 use std::alloc::{AllocError, Global};
@@ -16,7 +16,7 @@ use std::test::Fail;
 pub(crate) fn world_over<T: Transport>(
     alloc: Global,
     pipelines: Sequence<Placed<Handler>>,
-    inputs: Sequence<Sequence<Sequence<ByteString>>>,
+    inputs: Sequence<ReadPlan>,
     transports: Sequence<T>,
     executors: u16,
 ) -> Result<World<Handler, T>, WorldRefusal>
@@ -38,11 +38,22 @@ pub(crate) fn one_transport<T: Transport>(
     Ok(transports)
 }
 
+/// One transport over memory.
+pub(crate) fn one_memory_transport(
+    alloc: Global,
+    window: u32,
+    fail_at: Option<u32>,
+) -> Result<Sequence<MemoryTransport>, AllocError>
+    ensures { IfOk result (λ transports. All (λ t. IsUncalled (⟦<MemoryTransport as Transport>⟧.state t)) transports) }
+{
+    one_transport(alloc, MemoryTransport::new(alloc, window, fail_at))
+}
+
 /// The same over memory, with windows of a given number of bytes.
 pub(crate) fn windowed_world(
     alloc: Global,
     pipelines: Sequence<Placed<Handler>>,
-    inputs: Sequence<Sequence<Sequence<ByteString>>>,
+    inputs: Sequence<ReadPlan>,
     window: u32,
     executors: u16,
 ) -> Result<World<Handler, MemoryTransport>, WorldRefusal>
@@ -59,7 +70,7 @@ pub(crate) fn windowed_world(
 pub(crate) fn world_of(
     alloc: Global,
     pipelines: Sequence<Placed<Handler>>,
-    inputs: Sequence<Sequence<Sequence<ByteString>>>,
+    inputs: Sequence<ReadPlan>,
     executors: u16,
 ) -> Result<World<Handler, MemoryTransport>, WorldRefusal> {
     windowed_world(alloc, pipelines, inputs, 65_536, executors)
@@ -81,7 +92,7 @@ fn refusal(
     }
     let mut all = Sequence::new(alloc);
     for _ in 0..inputs {
-        all.push(bursts(alloc, input)?)?;
+        all.push(to_its_end(alloc, input)?)?;
     }
     match world_of(alloc, pipelines, all, executors) {
         Ok(_) => Ok(None),
@@ -114,7 +125,7 @@ fn refusal_over_one(alloc: Global, channels: usize) -> Result<Option<WorldRefusa
     for _ in 0..channels {
         let kinds = line_protocol(None, None);
         pipelines.push(pipeline(alloc, &mut groups, &kinds)?)?;
-        inputs.push(bursts(alloc, &[&[b"PING\n"]])?)?;
+        inputs.push(to_its_end(alloc, &[&[b"PING\n"]])?)?;
     }
     let transports = one_transport(alloc, Trickle::new(alloc))?;
     match world_over(alloc, pipelines, inputs, transports, groups.executors()) {

@@ -2,7 +2,7 @@
 ghost use Rattle.std.specs.Prelude.{◌≤◌, ◌<◌};
 
 use crate::net_tests::{
-    bursts, drain, keeps_to_plain, line_protocol, marked_pipeline, move_by, next_number, whole,
+    drain, keeps_to_plain, line_protocol, marked_pipeline, move_by, next_number, to_its_end, whole,
 };
 use crate::tests::{Kind, SUCCESS, assert_one, ping_tail, read_command};
 use crate::world_tests::windowed_world;
@@ -31,7 +31,7 @@ fn marked_world(
     let mut pipelines = Sequence::new(alloc);
     pipelines.push(marked_pipeline(alloc, &mut groups, kinds, low, high)?)?;
     let mut inputs = Sequence::new(alloc);
-    inputs.push(bursts(alloc, input)?)?;
+    inputs.push(to_its_end(alloc, input)?)?;
     let executors = groups.executors();
     Ok(windowed_world(alloc, pipelines, inputs, window, executors)?)
 }

@@ -2,14 +2,15 @@
 use Rattle.std.proofs.Common.{◌≡◌, ◌≤◌, ℕ, ◌&&◌, Bool, true, false, List, [], ◌∷◌, length, Option, Some, None, Result, Ok, Err, refl, ap, subst, arith, suc}
 use Rattle.std.specs.Prelude.{nat_le, if◌then◌else◌, codes}
 use Rattle.std.specs.List.{AllByRecursion}
+use Rattle.std.proofs.lemmas.Bool.{le-leb}
 use Rattle.std.proofs.lemmas.Bool.Decides.{nat_tests}
 use Rattle.serde_json.specs.Data.{Data}
 use Rattle.serde_json.specs.Find.{get}
 use Rattle.pl_build.specs.declared.limits.TheConstants.{MAX_EXECUTORS, DEFAULT_LOW, DEFAULT_HIGH}
 use Rattle.pl_world.specs.declared.limits.TheConstants.{MAX_BURSTS, MAX_CAPACITY, MAX_CHANNELS}
 use Rattle.pl_stages.specs.declared.limits.TheConstants.{MAX_LINE, MAX_FLUSHES}
-use Rattle.pl_text.specs.declared.session_text.limits.TheConstants.{MAX_EDITS, MAX_WINDOW, DEFAULT_WINDOW}
-use Rattle.pl_world.specs.Limits.{fits}
+use Rattle.pl_text.specs.declared.session_text.limits.TheConstants.{MAX_EDITS, MAX_WINDOW, MAX_FAIL_AT, DEFAULT_WINDOW}
+use Rattle.pl_world.specs.Limits.{fits, aborts_within}
 use Rattle.pl_text.specs.declared.session_text.outline.HandlerKind.{HandlerKind}
 use Rattle.pl_text.specs.declared.session_text.outline.HandlerKind.TheVariants.{Lines, Decode, LineEnd, Encode, Service, FlushEvery}
 use Rattle.pl_text.specs.declared.session_text.outline.Operation.{Operation}
@@ -21,9 +22,9 @@ use Rattle.pl_text.specs.declared.session_text.outline.Edit.{Edit}
 use Rattle.pl_text.specs.declared.session_text.outline.Edit.TheVariants.{First, Last, Before, After, Remove}
 use Rattle.pl_text.specs.declared.session_text.outline.ChannelOutline.{ChannelOutline}
 use Rattle.pl_text.specs.declared.session_text.outline.Outline.{Outline}
-use Rattle.pl_text.specs.SessionReading.{◌>>=◌, known, whole, whole_in, between, text, same_text, an_object, required, optional, absent, present, read_or, each, elements_of, of_length, array_in, array_of}
-use Rattle.pl_text.specs.SessionChannels.{operation_in, lines_in, flush_every_in, handler_named, handler_in, addition_in, edit_of, edit_in, mark_in, window_in, limited, bursts_in, channel_in}
-use Rattle.pl_text.specs.SessionOutlines.{IsHandlerWithin, IsEditWithin, IsChannelOutlineWithin, IsOutlineWithin, version_in, groups_in, outline_in}
+use Rattle.pl_text.specs.SessionReading.{◌>>=◌, known, whole, whole_in, between, text, same_text, an_object, required, optional, present, read_or, each, elements_of, of_length, array_in, array_of}
+use Rattle.pl_text.specs.SessionChannels.{operation_in, lines_in, flush_every_in, handler_named, handler_in, addition_in, edit_of, edit_in, mark_in, window_in, fail_at_in, limited, bursts_in, abort_after_in, channel_in}
+use Rattle.pl_text.specs.SessionOutlines.{IsHandlerWithin, IsEditWithin, IsCallWithin, IsChannelOutlineWithin, IsOutlineWithin, version_in, groups_in, outline_in}
 
 -- ---- results
 
@@ -172,6 +173,27 @@ bursts_in-within d bursts h =
     let within = choice-ok _ _ _ _ p.2 in
     subst (λ (t : List (List (List ℕ))). fits t ≡ true) within.1 within.0
 
+-- a number of which there may be none
+optional-within : (Q : Option ℕ → Type 0) (name : List ℕ) (low high : ℕ) (d : Data) (number : Option ℕ)
+    → Q None → ((n : ℕ) → low ≤ n → n ≤ high → Q (Some n)) → optional name (whole_in low high) d ≡ Ok number → Q number
+optional-within Q name low high d number none some h =
+    with_default-within Q (λ member. whole_in low high member >>= λ x. Ok (Some x)) None (present name d) number none
+    (λ e y is.
+    let p = bind-ok (whole_in low high e) _ y is in
+    let range = whole_in-within low high e p.0 p.1 in
+    let same : Some p.0 ≡ y = cc in
+    subst Q same (some p.0 range.0 range.1))
+    h
+
+fail_at_in-within : (d : Data) (call : Option ℕ) → fail_at_in d ≡ Ok call → IsCallWithin call
+unfolding fail_at_in
+fail_at_in-within d call h = optional-within IsCallWithin (codes "fail_at") 1 MAX_FAIL_AT d call tt (λ n low high. (low, high)) h
+
+abort_after_in-within : (count : ℕ) (d : Data) (after : Option ℕ) → abort_after_in count d ≡ Ok after → aborts_within after count ≡ true
+unfolding abort_after_in
+abort_after_in-within count d after h =
+    optional-within (λ (o : Option ℕ). aborts_within o count ≡ true) (codes "abort_after") 0 count d after refl (λ n low high. le-leb n count high) h
+
 channel_in-within : (d : Data) (channel : ChannelOutline) → channel_in d ≡ Ok channel → IsChannelOutlineWithin channel
 unfolding channel_in
 channel_in-within d channel h =
@@ -180,19 +202,21 @@ channel_in-within d channel h =
     let low = bind-ok (mark_in (codes "low") DEFAULT_LOW object.0) _ channel edits.2 in
     let high = bind-ok (mark_in (codes "high") DEFAULT_HIGH object.0) _ channel low.2 in
     let window = bind-ok (window_in object.0) _ channel high.2 in
-    let fail_at = bind-ok (absent (codes "fail_at") Limit object.0) _ channel window.2 in
+    let fail_at = bind-ok (fail_at_in object.0) _ channel window.2 in
     let bursts = bind-ok (required (codes "bursts") bursts_in object.0) _ channel fail_at.2 in
-    let abort_after = bind-ok (absent (codes "abort_after") Limit object.0) _ channel bursts.2 in
+    let abort_after = bind-ok (abort_after_in (length bursts.0) object.0) _ channel bursts.2 in
     let handlers = required-ok (codes "handlers") (array_in 0 MAX_EDITS edit_in) object.0 edits.0 edits.1 in
     let recorded = required-ok (codes "bursts") bursts_in object.0 bursts.0 bursts.1 in
     let all = array_in-within IsEditWithin 0 MAX_EDITS edit_in edit_in-within handlers.0 edits.0 handlers.1 in
     let room = window_in-within object.0 window.0 window.1 in
-    let is : record { edits = edits.0; low = low.0; high = high.0; window = window.0; bursts = bursts.0 } ≡ channel = same_ok _ channel _ refl abort_after.2 in
+    let is : record { edits = edits.0; low = low.0; high = high.0; window = window.0; fail_at = fail_at.0; bursts = bursts.0; abort_after = abort_after.0 } ≡ channel = same_ok _ channel _ refl abort_after.2 in
     subst IsChannelOutlineWithin is (record {
       edits = all.2;
       window_at_least = room.0;
       window_at_most = room.1;
+      fail_at = fail_at_in-within object.0 fail_at.0 fail_at.1;
       bursts = bursts_in-within recorded.0 bursts.0 recorded.1;
+      abort_after = abort_after_in-within (length bursts.0) object.0 abort_after.0 abort_after.1;
     })
 
 -- ---- the top object

@@ -16,7 +16,7 @@ use Rattle.pl_build.specs.Names.{is_name}
 use Rattle.pl_build.specs.Pipelines.{meanings}
 use Rattle.pl_build.specs.Refusals.{unless, grouping_fault, is_within, has_double, executor_count}
 use Rattle.pl_build.specs.Executors.{groups_of}
-use Rattle.pl_world.specs.Plans.{ChannelPlan, Plan}
+use Rattle.pl_world.specs.Plans.{Plan, ChannelPlan}
 use Rattle.pl_world.proofs.SmallLanes.{lanes_small}
 use Rattle.pl_text.specs.declared.session_text.fault.SessionFault.TheVariants.{NotJson, Limit}
 use Rattle.pl_text.specs.declared.session_text.outline.ChannelOutline.{ChannelOutline}
@@ -44,7 +44,9 @@ channel_built-within loops sizes earlier outline handlers given h =
       order = within.1;
       high_at_most = within.2;
       window = (given.window_at_least, given.window_at_most);
+      fail_at = given.fail_at;
       bursts = given.bursts;
+      abort_after = given.abort_after;
       lanes = λ hop below. lanes_small (inbound_chain ms) (outbound_chain ms) outline.bursts (inbound-all IsThrifty ms all) (outbound-all IsThrifty ms all) (outbound-out ms) given.bursts hop;
     }
 

@@ -6,6 +6,5 @@ pub mod SessionLimits
 pub mod SessionChannels
 pub mod SessionOutlines
 pub mod SessionBuilding
-pub mod SessionWorlds
 pub mod SessionTexts
 pub mod ReportTexts

@@ -11,7 +11,7 @@ use Rattle.pl_build.specs.declared.faults.BuildFault.TheVariants.{NoSuchName, Me
 use Rattle.pl_build.specs.Pipelines.{handler_of, index_of, without, meanings}
 use Rattle.pl_build.specs.Refusals.{unless, naming_fault, beside_fault, marks_answer, building_fault, grouping_fault, executor_count}
 use Rattle.pl_build.specs.Executors.{GroupsView, HasPlaced, sizes_of, executor_after, hop_executors, groups_of}
-use Rattle.pl_world.specs.Plans.{ChannelPlan, Plan}
+use Rattle.pl_world.specs.Plans.{Plan, ChannelPlan}
 use Rattle.pl_text.specs.declared.session_text.outline.Addition.{Addition}
 use Rattle.pl_text.specs.declared.session_text.outline.Edit.{Edit}
 use Rattle.pl_text.specs.declared.session_text.outline.Edit.TheVariants.{First, Last, Before, After, Remove}
@@ -78,7 +78,9 @@ channel_built loops sizes earlier channel handlers = record {
   low = channel.low;
   high = channel.high;
   window = Some channel.window;
+  fail_at = channel.fail_at;
   bursts = channel.bursts;
+  abort_after = channel.abort_after;
 }
 
 -- the channels in order, each with the groups of the earlier ones

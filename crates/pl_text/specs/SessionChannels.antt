@@ -1,11 +1,11 @@
 -- What a channel and an edit mean, row by row (docs/FORMATS.md, "Session").
-use Rattle.std.specs.Prelude.{ℕ, List, if◌then◌else◌, Result, Ok, Err, codes}
+use Rattle.std.specs.Prelude.{ℕ, List, length, Option, if◌then◌else◌, Result, Ok, Err, codes}
 use Rattle.serde_json.specs.Data.{Data}
 use Rattle.pl_build.specs.declared.limits.TheConstants.{MAX_MARK, DEFAULT_LOW, DEFAULT_HIGH}
 use Rattle.pl_world.specs.declared.limits.TheConstants.{MAX_BURSTS}
 use Rattle.pl_world.specs.Limits.{fits}
 use Rattle.pl_stages.specs.declared.limits.TheConstants.{MAX_LINE, MAX_FLUSHES}
-use Rattle.pl_text.specs.declared.session_text.limits.TheConstants.{MAX_EDITS, MAX_WINDOW, DEFAULT_WINDOW}
+use Rattle.pl_text.specs.declared.session_text.limits.TheConstants.{MAX_EDITS, MAX_WINDOW, MAX_FAIL_AT, DEFAULT_WINDOW}
 use Rattle.pl_text.specs.declared.session_text.fault.SessionFault.{SessionFault}
 use Rattle.pl_text.specs.declared.session_text.fault.SessionFault.TheVariants.{Kind, Limit}
 use Rattle.pl_text.specs.declared.session_text.outline.HandlerKind.{HandlerKind}
@@ -16,7 +16,7 @@ use Rattle.pl_text.specs.declared.session_text.outline.Addition.{Addition}
 use Rattle.pl_text.specs.declared.session_text.outline.Edit.{Edit}
 use Rattle.pl_text.specs.declared.session_text.outline.Edit.TheVariants.{First, Last, Before, After, Remove}
 use Rattle.pl_text.specs.declared.session_text.outline.ChannelOutline.{ChannelOutline}
-use Rattle.pl_text.specs.SessionReading.{◌>>=◌, whole_in, text, same_text, an_object, required, optional, with_default, absent, array_in, array_of}
+use Rattle.pl_text.specs.SessionReading.{◌>>=◌, whole_in, text, same_text, an_object, required, optional, with_default, array_in, array_of}
 
 -- ---- edits
 
@@ -98,12 +98,20 @@ mark_in name default channel = with_default name (whole_in 0 MAX_MARK) default c
 unfoldable pub window_in : Data → Result ℕ SessionFault
 window_in channel = with_default (codes "window") (whole_in 1 MAX_WINDOW) DEFAULT_WINDOW channel
 
+-- the call of the transport that fails, from 1, if one does
+unfoldable pub fail_at_in : Data → Result (Option ℕ) SessionFault
+fail_at_in channel = optional (codes "fail_at") (whole_in 1 MAX_FAIL_AT) channel
+
 -- the limits on chunks and bytes come after all bursts
 abbrev pub limited : List (List (List ℕ)) → Result (List (List (List ℕ))) SessionFault
 limited bursts = if fits bursts then Ok bursts else Err Limit
 
 unfoldable pub bursts_in : Data → Result (List (List (List ℕ))) SessionFault
 bursts_in d = array_in 0 MAX_BURSTS (array_of text) d >>= limited
+
+-- after how many of the bursts it is aborted, if it is
+unfoldable pub abort_after_in : ℕ → Data → Result (Option ℕ) SessionFault
+abort_after_in count channel = optional (codes "abort_after") (whole_in 0 count) channel
 
 unfoldable pub channel_in : Data → Result ChannelOutline SessionFault
 channel_in d = do
@@ -112,7 +120,7 @@ channel_in d = do
   low ← mark_in (codes "low") DEFAULT_LOW channel
   high ← mark_in (codes "high") DEFAULT_HIGH channel
   window ← window_in channel
-  _ ← absent (codes "fail_at") Limit channel
+  fail_at ← fail_at_in channel
   bursts ← required (codes "bursts") bursts_in channel
-  _ ← absent (codes "abort_after") Limit channel
-  Ok (record { edits = edits; low = low; high = high; window = window; bursts = bursts })
+  abort_after ← abort_after_in (length bursts) channel
+  Ok (record { edits = edits; low = low; high = high; window = window; fail_at = fail_at; bursts = bursts; abort_after = abort_after })

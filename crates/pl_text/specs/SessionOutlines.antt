@@ -1,12 +1,12 @@
 -- What the members of a session say, row by row (docs/FORMATS.md, "Session").
-use Rattle.std.specs.Prelude.{◌≡◌, ◌≤◌, ℕ, ◌==◌, List, [], length, true, if◌then◌else◌, Result, Ok, Err, codes}
+use Rattle.std.specs.Prelude.{◌≡◌, ◌≤◌, ℕ, ◌==◌, List, [], length, true, if◌then◌else◌, Option, IfSome, Result, Ok, Err, codes}
 use Rattle.std.specs.List.{AllByRecursion}
 use Rattle.serde_json.specs.Data.{Data}
 use Rattle.pl_build.specs.declared.limits.TheConstants.{MAX_EXECUTORS}
 use Rattle.pl_world.specs.declared.limits.TheConstants.{MAX_CAPACITY, MAX_CHANNELS}
-use Rattle.pl_world.specs.Limits.{fits}
+use Rattle.pl_world.specs.Limits.{fits, aborts_within}
 use Rattle.pl_stages.specs.declared.limits.TheConstants.{MAX_LINE, MAX_FLUSHES}
-use Rattle.pl_text.specs.declared.session_text.limits.TheConstants.{MAX_GROUP_SIZE, MAX_WINDOW}
+use Rattle.pl_text.specs.declared.session_text.limits.TheConstants.{MAX_GROUP_SIZE, MAX_WINDOW, MAX_FAIL_AT}
 use Rattle.pl_text.specs.declared.session_text.fault.SessionFault.{SessionFault}
 use Rattle.pl_text.specs.declared.session_text.fault.SessionFault.TheVariants.{Version}
 use Rattle.pl_text.specs.declared.session_text.outline.HandlerKind.{HandlerKind}
@@ -65,11 +65,17 @@ IsEditWithin (Before at addition) = IsHandlerWithin addition.handler
 IsEditWithin (After at addition) = IsHandlerWithin addition.handler
 IsEditWithin (Remove name) = Unit {0}
 
+-- the number of a call, where there is one
+abbrev pub IsCallWithin : Option ℕ → Type 0
+IsCallWithin call = IfSome call (λ n. (1 ≤ n) × (n ≤ MAX_FAIL_AT))
+
 pub record IsChannelOutlineWithin (channel : ChannelOutline) : Type 0 where
   pub edits : AllByRecursion IsEditWithin channel.edits
   pub window_at_least : 1 ≤ channel.window
   pub window_at_most : channel.window ≤ MAX_WINDOW
+  pub fail_at : IsCallWithin channel.fail_at
   pub bursts : fits channel.bursts ≡ true
+  pub abort_after : aborts_within channel.abort_after (length channel.bursts) ≡ true
 
 pub record IsOutlineWithin (outline : Outline) : Type 0 where
   pub capacity_at_least : 1 ≤ outline.capacity

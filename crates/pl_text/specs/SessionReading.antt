@@ -104,10 +104,6 @@ with_default name read default d = read_or read default (present name d)
 abbrev pub optional : {A : Type 0} → List ℕ → (Data → Result A SessionFault) → Data → Result (Option A) SessionFault
 optional name read d = with_default name (λ member. read member >>= λ x. Ok (Some x)) None d
 
--- a member that is not read yet, and refused with this fault
-abbrev pub absent : List ℕ → SessionFault → Data → Result (Unit {0}) SessionFault
-absent name fault d = with_default name (λ _. Err fault) tt d
-
 -- ---- arrays
 
 abbrev pub elements : Items → List Data

@@ -1,11 +1,11 @@
 //! The text of a session (`docs/FORMATS.md`, "Session").
 
-ghost use Rattle.std.specs.Prelude.{IfOk, All};
+ghost use Rattle.std.specs.Prelude.{All, IfOk};
 ghost use Rattle.pl_world.specs.Sessions.{plan_of};
+ghost use Rattle.pl_world.specs.Worlds.{IsUncalled};
 ghost use Rattle.pl_text.specs.SessionReading.{Answers, seen};
 ghost use Rattle.pl_text.specs.SessionLimits.{IsWithinLimits};
 ghost use Rattle.pl_text.specs.SessionTexts.{session_of};
-ghost use Rattle.pl_text.specs.SessionWorlds.{IsSteady};
 
 mod building;
 mod channels;
@@ -39,8 +39,7 @@ use std::alloc::Global;
 #[tactic(auto, using(crate::proofs::SessionLimitLaws::outline_is_within), unfolding(crate::specs::SessionTexts::session_of, crate::specs::SessionTexts::session_in))]
 pub fn read_session(alloc: Global, text: &str) -> Result<Session, SessionFault>
     ensures meaning { Answers (seen (plan_of ⟦<Handler as Stage>⟧.meaning ⟦<MemoryTransport as Transport>⟧.state) result) (session_of text.now) }
-    // None of its transports is to fail.
-    ensures steady { IfOk result (λ session. All IsSteady session.world.channels) }
+    ensures uncalled { IfOk result (λ session. All (λ c. IsUncalled (⟦<MemoryTransport as Transport>⟧.state c.transport)) session.world.channels) }
     ensures within { IfOk result (λ session. IsWithinLimits (plan_of ⟦<Handler as Stage>⟧.meaning ⟦<MemoryTransport as Transport>⟧.state session)) }
 {
     if text.len() > MAX_SESSION_TEXT {

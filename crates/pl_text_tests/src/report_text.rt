@@ -34,6 +34,39 @@ writes 1
 0 Fault
 ";
 
+const ABORT: &str = "channel 0 failed Aborted
+tail 3
+Active
+Read Ping
+ReadComplete
+bytes 0 -
+writes 1
+0 Closed
+channel 1 failed Aborted
+tail 3
+Active
+Read Ping
+ReadComplete
+bytes 7 2b504f4e470d0a
+writes 1
+0 Success
+channel 2 failed Memory
+tail 0
+bytes 0 -
+writes 0
+";
+
+const FAULT_AT_THE_THIRD_CALL: &str = "channel 0 failed Transport
+tail 3
+Active
+Read Ping
+Read Quit
+bytes 7 2b504f4e470d0a
+writes 2
+0 Success
+1 Fault
+";
+
 const EVERY_EVENT: &str = "channel 0 open
 tail 17
 Active
@@ -138,6 +171,39 @@ fn transport_fault(rt: HostRuntime) -> Result<(), Fail> {
     let channel = after_ping(&rt, stands, b"+PON", Outcome::Fault)?;
     let text = printed(&rt, vec![in rt.alloc(); channel]?)?;
     assert_eq!(rt; text.as_slice(), TRANSPORT_FAULT.as_bytes());
+    Ok(())
+}
+
+/// A channel that is aborted before its write and one behind it, and one that finds no memory.
+#[test]
+fn abort(rt: HostRuntime) -> Result<(), Fail> {
+    let aborted = Stands::Failed(Cause::Aborted);
+    let before = after_ping(&rt, aborted, b"", Outcome::Closed)?;
+    let behind = after_ping(&rt, aborted, b"+PONG\r\n", Outcome::Success)?;
+    let without_memory = channel(
+        Stands::Failed(Cause::Memory),
+        Vec::new(rt.alloc()),
+        bytes(&rt, b"")?,
+        Vec::new(rt.alloc()),
+    );
+    let text = printed(&rt, vec![in rt.alloc(); before, behind, without_memory]?)?;
+    assert_eq!(rt; text.as_slice(), ABORT.as_bytes());
+    Ok(())
+}
+
+/// The first of two messages has left, and the transport fails in the second.
+#[test]
+fn fault_at_the_third_call(rt: HostRuntime) -> Result<(), Fail> {
+    let tail = vec![in rt.alloc();
+        Event::Active,
+        Event::Read(Message::Command(Command::Ping)),
+        Event::Read(Message::Command(Command::Quit)),
+    ]?;
+    let writes = vec![in rt.alloc(); Some(Outcome::Success), Some(Outcome::Fault)]?;
+    let stands = Stands::Failed(Cause::Transport);
+    let channel = channel(stands, tail, bytes(&rt, b"+PONG\r\n")?, writes);
+    let text = printed(&rt, vec![in rt.alloc(); channel]?)?;
+    assert_eq!(rt; text.as_slice(), FAULT_AT_THE_THIRD_CALL.as_bytes());
     Ok(())
 }
 

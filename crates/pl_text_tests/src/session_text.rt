@@ -38,11 +38,117 @@ fn ping_session(rt: HostRuntime) -> Result<(), Fail> {
     assert_eq!(rt; channels[0].pipeline.outbound(), 2);
     assert_eq!(rt; channels[0].pipeline.low(), 32_768);
     assert_eq!(rt; channels[0].pipeline.high(), 65_536);
-    let bursts = channels[0].bursts.as_slice();
+    let bursts = channels[0].input.bursts.as_slice();
     assert_eq!(rt; bursts.len(), 1);
     let chunks = bursts[0].as_slice();
     assert_eq!(rt; chunks.len(), 1);
     assert_eq!(rt; chunks[0].as_slice(), b"PING\r\n".as_slice());
+    assert_eq!(rt; channels[0].input.abort_after, None);
+    assert_eq!(rt; channels[0].transport.fail_at(), None);
+    Ok(())
+}
+
+/// The session of one PING, whose transport fails at a call.
+#[test]
+fn call_to_fail(rt: HostRuntime) -> Result<(), Fail> {
+    for call in [1u32, 2, 65_537, 4_294_967_295] {
+        let other = format!(in rt.alloc(); "\"fail_at\":{call},\"bursts\":")?;
+        let text = PING.replace(rt.alloc(), r#""bursts":"#, other.as_str())?;
+        let session = read_session(rt.alloc(), text.as_str())?;
+        let channels = session.world.channels();
+        assert_eq!(rt; channels.len(), 1);
+        assert_eq!(rt; channels[0].transport.fail_at(), Some(call));
+        assert_eq!(rt; channels[0].input.abort_after, None);
+    }
+    Ok(())
+}
+
+/// The session of one PING, aborted after so many bursts: none, one, or all three.
+#[test]
+fn aborted_channels(rt: HostRuntime) -> Result<(), Fail> {
+    for after in [0u32, 1, 3] {
+        let other = format!(in rt.alloc();
+            "\"bursts\":[[],[\"PI\"],[\"NG\"]],\"abort_after\":{after}"
+        )?;
+        let text = PING.replace(rt.alloc(), r#""bursts":[["PING\r\n"]]"#, other.as_str())?;
+        let session = read_session(rt.alloc(), text.as_str())?;
+        let channels = session.world.channels();
+        assert_eq!(rt; channels.len(), 1);
+        assert_eq!(rt; channels[0].input.abort_after, Some(after));
+        assert_eq!(rt; channels[0].input.bursts.len(), 3);
+        assert_eq!(rt; channels[0].transport.fail_at(), None);
+    }
+    Ok(())
+}
+
+/// Each channel has its own.
+#[test]
+fn channels_that_fail_apart(rt: HostRuntime) -> Result<(), Fail> {
+    let channel = |more: &str| -> Result<String, Fail> {
+        Ok(format!(in rt.alloc(); "{{\"handlers\":[{SERVICE}],\"bursts\":[[]]{more}}}")?)
+    };
+    let first = channel(r#","fail_at":7"#)?;
+    let second = channel("")?;
+    let third = channel(r#","abort_after":1,"fail_at":8"#)?;
+    let text = format!(in rt.alloc();
+        "{{\"version\":1,\"capacity\":4,\"loops\":1,\"channels\":[{first},{second},{third}]}}"
+    )?;
+    let session = read_session(rt.alloc(), text.as_str())?;
+    let channels = session.world.channels();
+    assert_eq!(rt; channels.len(), 3);
+    assert_eq!(rt; channels[0].transport.fail_at(), Some(7));
+    assert_eq!(rt; channels[0].input.abort_after, None);
+    assert_eq!(rt; channels[1].transport.fail_at(), None);
+    assert_eq!(rt; channels[1].input.abort_after, None);
+    assert_eq!(rt; channels[2].transport.fail_at(), Some(8));
+    assert_eq!(rt; channels[2].input.abort_after, Some(1));
+    Ok(())
+}
+
+/// A channel that fails at a call, or is aborted, by no whole number.
+#[test]
+fn failures_that_are_not_whole(rt: HostRuntime) -> Result<(), Fail> {
+    for member in ["fail_at", "abort_after"] {
+        for number in [
+            "1.0",
+            "1e0",
+            "-0",
+            "-1",
+            "18446744073709551616",
+            "true",
+            "\"1\"",
+        ] {
+            let more = format!(in rt.alloc(); ",\"{member}\":{number}")?;
+            let text = with_edits(&rt, SERVICE, more.as_str())?;
+            assert_eq!(rt;
+                refusal(&rt, text.as_str()),
+                Some(SessionFault::Kind),
+                "at {more}"
+            );
+        }
+    }
+    Ok(())
+}
+
+/// With no bursts an abort comes after none. All channels are read before any is built.
+#[test]
+fn failures_in_reading_order(rt: HostRuntime) -> Result<(), Fail> {
+    let limit = Some(SessionFault::Limit);
+    for (edits, more, fault) in [
+        (SERVICE, r#","abort_after":0"#, None),
+        (SERVICE, r#","abort_after":1"#, limit),
+        ("", r#","fail_at":0"#, limit),
+        ("", r#","abort_after":1"#, limit),
+        ("", r#"},{"handlers":[],"bursts":[],"fail_at":0"#, limit),
+        (
+            "",
+            r#","fail_at":1,"abort_after":0"#,
+            Some(SessionFault::Build(BuildFault::NoTurn)),
+        ),
+    ] {
+        let text = with_edits(&rt, edits, more)?;
+        assert_eq!(rt; refusal(&rt, text.as_str()), fault, "at {edits}{more}");
+    }
     Ok(())
 }
 
@@ -273,15 +379,80 @@ const HOSTILE_CHANNELS: &[(&str, &str, Option<SessionFault>)] = &[
         r#""window":1.5,"bursts":"#,
         Some(SessionFault::Kind),
     ),
+    (r#""bursts":"#, r#""fail_at":1,"bursts":"#, None),
+    (r#""bursts":"#, r#""fail_at":4294967295,"bursts":"#, None),
     (
         r#""bursts":"#,
-        r#""fail_at":1,"bursts":"#,
+        r#""fail_at":0,"bursts":"#,
         Some(SessionFault::Limit),
     ),
     (
         r#""bursts":"#,
-        r#""abort_after":1,"bursts":"#,
+        r#""fail_at":4294967296,"bursts":"#,
         Some(SessionFault::Limit),
+    ),
+    (
+        r#""bursts":"#,
+        r#""fail_at":-1,"bursts":"#,
+        Some(SessionFault::Kind),
+    ),
+    (
+        r#""bursts":"#,
+        r#""fail_at":1.0,"bursts":"#,
+        Some(SessionFault::Kind),
+    ),
+    (
+        r#""bursts":"#,
+        r#""fail_at":"1","bursts":"#,
+        Some(SessionFault::Kind),
+    ),
+    (r#""bursts":"#, r#""abort_after":0,"bursts":"#, None),
+    (r#""bursts":"#, r#""abort_after":1,"bursts":"#, None),
+    (
+        r#""bursts":"#,
+        r#""abort_after":2,"bursts":"#,
+        Some(SessionFault::Limit),
+    ),
+    (
+        r#""bursts":"#,
+        r#""abort_after":4294967296,"bursts":"#,
+        Some(SessionFault::Limit),
+    ),
+    (
+        r#""bursts":"#,
+        r#""abort_after":-1,"bursts":"#,
+        Some(SessionFault::Kind),
+    ),
+    (
+        r#""bursts":"#,
+        r#""abort_after":[1],"bursts":"#,
+        Some(SessionFault::Kind),
+    ),
+    // The window comes before the call that fails, that before the bursts, and those before the abort.
+    (
+        r#""bursts":"#,
+        r#""fail_at":"x","window":0,"bursts":"#,
+        Some(SessionFault::Limit),
+    ),
+    (
+        r#""bursts":[["PING\r\n"]]"#,
+        r#""bursts":7,"fail_at":0"#,
+        Some(SessionFault::Limit),
+    ),
+    (
+        r#""bursts":[["PING\r\n"]]"#,
+        r#""abort_after":2,"bursts":[[7]]"#,
+        Some(SessionFault::Kind),
+    ),
+    (
+        r#""bursts":"#,
+        r#""abort_after":"x","fail_at":0,"bursts":"#,
+        Some(SessionFault::Limit),
+    ),
+    (
+        r#""bursts":[["PING\r\n"]]"#,
+        r#""abort_after":0"#,
+        Some(SessionFault::Missing),
     ),
     (
         r#""bursts":"#,
@@ -754,12 +925,19 @@ fn text_too_long(rt: HostRuntime) -> Result<(), Fail> {
     Ok(())
 }
 
-/// The number of bursts comes before them, and the chunks and bytes after them.
+/// The number of bursts comes before them, and the chunks and bytes after them, before an abort.
 #[test]
 fn burst_order(rt: HostRuntime) -> Result<(), Fail> {
     for (begin, part, copies, end, fault) in [
         ("[7", ",[]", 4_096, "]", SessionFault::Limit),
         (r#"[["""#, r#","""#, 16_384, "],[7]]", SessionFault::Kind),
+        (
+            r#"[["""#,
+            r#","""#,
+            16_384,
+            r#"]],"abort_after":"x""#,
+            SessionFault::Limit,
+        ),
     ] {
         let copied = part.repeat(rt.alloc(), copies)?;
         let bursts = format!(in rt.alloc(); "{begin}{copied}{end}")?;

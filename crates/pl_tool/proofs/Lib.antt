@@ -3,4 +3,4 @@ pub mod ProgramBytes
 pub mod ProgramInputs
 pub mod ProgramReads
 pub mod ProgramTelling
-mod NoFailures
+mod SessionTransports

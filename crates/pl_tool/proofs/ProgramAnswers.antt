@@ -5,7 +5,8 @@ use Rattle.std.specs.List.{list_all}
 use Rattle.pl_world.specs.Plans.{ChannelPlan}
 use Rattle.pl_world.specs.Reports.{whole_report}
 use Rattle.pl_tool.specs.ProgramLines.{RequestView, Plain}
-use Rattle.pl_tool.specs.ProgramOutcomes.{HasPrinted, IsAnswer, is_drained}
+use Rattle.pl_replay.specs.Reported.{is_drained}
+use Rattle.pl_tool.specs.ProgramOutcomes.{HasPrinted, IsAnswer}
 
 all_whole : (ps : List ChannelPlan) → list_all (λ c. is_drained c.stands) (map whole_report ps) ≡ true
 all_whole [] = refl

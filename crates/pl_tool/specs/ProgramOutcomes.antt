@@ -1,12 +1,10 @@
 -- What the program has done (docs/FORMATS.md, "Program").
-use Rattle.std.specs.Prelude.{◌≡◌, ◌≢◌, ℕ, ◌≤◌, List, length, map, Bool, true, false, ⊤, Option, Some, Result, Ok, Err, nat_lt, if◌then◌else◌}
+use Rattle.std.specs.Prelude.{◌≡◌, ◌≢◌, ℕ, ◌≤◌, List, length, map, Bool, false, ⊤, Option, Some, Result, Ok, Err, nat_lt, if◌then◌else◌}
 use Rattle.std.specs.List.{list_all}
 use Rattle.std.specs.Str.{is_utf8}
 use Rattle.std.specs.Io.KnownBytes.{Appends, Consumes, IsAtEnd, Keeps}
 use Rattle.pl_world.specs.declared.moves.Move.{Move}
 use Rattle.pl_world.specs.declared.report.Report.{Report}
-use Rattle.pl_world.specs.declared.report.Stands.{Stands}
-use Rattle.pl_world.specs.declared.report.Stands.TheVariants.{Drained, Open, Failed}
 use Rattle.pl_text.specs.declared.session_text.fault.SessionFault.{SessionFault}
 use Rattle.pl_text.specs.declared.session_text.fault.SessionFault.TheVariants.{Limit, NotJson}
 use Rattle.pl_text.specs.declared.session_text.fault.SessionFault.TheVariants as session
@@ -16,20 +14,18 @@ use Rattle.pl_text.specs.declared.session_text.limits.TheConstants.{MAX_SESSION_
 use Rattle.pl_tool.specs.declared.program.failure.Failure.{Failure}
 use Rattle.pl_tool.specs.declared.program.failure.Failure.TheVariants.{Usage, Moves, Replay, Input, Session, Memory, Output}
 use Rattle.pl_event.specs.Meaning.{IsPrefixOf}
+use Rattle.pl_stages.specs.contracts.handlers.HandlerStage.TheImpl as handler
+use Rattle.pl_head.specs.Transports.{MemoryTransportView, MayRefuse, memory_state, new_state}
 use Rattle.pl_replay.specs.MoveModel.{is_there}
+use Rattle.pl_replay.specs.Reported.{is_drained}
 use Rattle.pl_world.specs.Plans.{Plan}
-use Rattle.pl_replay.specs.Replays.{IsReplayed, NoneFails}
+use Rattle.pl_replay.specs.Replays.{IsReplayed}
 use Rattle.pl_world.specs.Reports.{whole_report}
 use Rattle.pl_text.specs.SessionTexts.{session_of}
 use Rattle.pl_text.specs.MovesTexts.{MeansMoves, IsNoMoves}
 use Rattle.pl_text.specs.ReportTexts.{report_text}
 use Rattle.pl_tool.specs.ProgramFailures.{status_of, failure_line}
 use Rattle.pl_tool.specs.ProgramLines.{RequestView, Replay as ReplayRequest, Plain}
-
-abbrev pub is_drained : Stands → Bool
-is_drained Drained = true
-is_drained Open = false
-is_drained (Failed c) = false
 
 -- whether every channel of the report is drained
 abbrev pub all_drained : Report → Bool
@@ -51,13 +47,23 @@ pub record TakesSession (unread left : Option (List ℕ)) (session : Plan) : Typ
   pub at_end : IsAtEnd left
   pub means : session_of_bytes input ≡ Ok session
 
--- The text gives moves, and this is the report of the session's replay by them. No channel of it has failed, since no
--- session text tells a transport to fail.
+-- These are the transports of the session's channels, in order. None was called, and each has the window and is to fail at
+-- the call that the session says.
+abbrev pub AreTransportsOf : Plan → List MemoryTransportView → Type 0
+AreTransportsOf session transports = map memory_state transports ≡ map (λ channel. new_state channel.window channel.fail_at) session.channels
+
+-- a report of the replay of a session by moves, with the built-in handlers, over transports to memory
+abbrev pub IsReplayedOver : List MemoryTransportView → Plan → List Move → Report → Type 0
+IsReplayedOver transports session moves report =
+    IsReplayed handler.meaning-value.it handler.stands_after-value.it handler.is_spent-value.it memory_state MayRefuse session transports moves report
+
+-- The text gives moves, and this is the report of the session's replay by them.
 pub record IsReplayedBy (text : List ℕ) (session : Plan) (report : Report) : Type 0 where
   pub moves : List Move
   pub means : MeansMoves text moves
-  pub is_replayed : IsReplayed session moves report
-  pub none_failed : NoneFails report.channels
+  pub transports : List MemoryTransportView
+  pub are_its : AreTransportsOf session transports
+  pub is_replayed : IsReplayedOver transports session moves report
 
 -- this is the report of the session that is requested
 abbrev pub IsAnswer : RequestView → Plan → Report → Type 0

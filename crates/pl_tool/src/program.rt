@@ -107,7 +107,8 @@ fn run<R: Read, W: Write>(
 
 /// The program (`docs/FORMATS.md`, "Program"): reads the command line `words`, of which the first is the program's
 /// name, then the moves of a `replay`, then a session from the reader. It replays the session by these moves or, for
-/// `plain`, takes it whole, and writes the text of the report to `out`.
+/// `plain`, takes it whole, and writes the text of the report to `out`. A transport that fails, an abort, and a growth that
+/// is refused in a move do not end the replay: the report tells what became of each channel.
 ///
 /// The status is 0 where every channel is drained, 1 where the report was printed and some channel is not drained. Else
 /// one line on `err` says why: 2 where the command line or its moves were not read or name what is not there, 3 where
@@ -117,9 +118,9 @@ fn run<R: Read, W: Write>(
 ///
 /// No contract sees that a read or a write fails, that memory runs out, or what a writer would have taken. So these
 /// bodies meet this one too: one that answers `out of memory` at any time, or at once the usage line, as where `clap`
-/// runs out of memory; one that answers `input refused` once the line and its moves were read; one that answers `output
-/// refused` once there is a report, whatever it then wrote to `out`; and one that tells a part of the line, or nothing.
-/// That these come only where they should is tested.
+/// runs out of memory; one whose report tells that memory ran out for a channel; one that answers `input refused` once the
+/// line and its moves were read; one that answers `output refused` once there is a report, whatever it then wrote to
+/// `out`; and one that tells a part of the line, or nothing. That these come only where they should is tested.
 #[tactic(auto, using(crate::proofs::ProgramAnswers::open_is_not_plain))]
 pub fn run_tool<R: Read, W: Write, E: Write>(
     alloc: Global,

@@ -6,8 +6,8 @@ use Rattle.std.proofs.lemmas.Bool.Decides.{nat_tests}
 use Rattle.pl_event.specs.declared.events.Event.{Event}
 use Rattle.pl_event.specs.declared.events.Event.TheVariants.{Active, Read, ReadComplete, Caught, Write, Flush}
 use Rattle.pl_event.specs.declared.outcomes.Outcome.{Outcome}
-use Rattle.pl_event.specs.declared.outcomes.Outcome.TheVariants.{Success, Unsupported}
-use Rattle.pl_head.specs.Writes.{write_by, is_flush, flushed_writes, unflushed_writes, bytes_of, out, outcomes_from, outcomes, closed}
+use Rattle.pl_event.specs.declared.outcomes.Outcome.TheVariants.{Success, Closed, Unsupported}
+use Rattle.pl_head.specs.Writes.{write_by, is_flush, flushed_writes, unflushed_writes, bytes_of, out, outcomes_from, outcomes, late_outcome}
 use Rattle.pl_head.specs.WaitingMessages.{settled}
 use Rattle.pl_head.proofs.Flushing.{flushed-keep, unflushed-push, flushed-flush, unflushed-flush}
 use Rattle.pl_head.proofs.Buffering.{bytes_of-append}
@@ -83,6 +83,6 @@ outcomes-all start accepted (Some b ∷ ws) h =
     let test : leb (start + length b) accepted ≡ true = grind (arith, nat_tests) in
     rw test (ap (λ (t : List (Option Outcome)). Some Success ∷ t) (outcomes-all (start + length b) accepted ws (omega (arith, size, h))))
 
-pub outcomes_end : (ys : List Event) → map settled (flushed_writes ys) ++ map closed (unflushed_writes ys) ≡ outcomes ys (length (out ys)) true
+pub outcomes_end : (ys : List Event) → map settled (flushed_writes ys) ++ map (late_outcome Closed) (unflushed_writes ys) ≡ outcomes ys (length (out ys)) true
 outcomes_end ys =
-    ap (λ (os : List (Option Outcome)). os ++ map closed (unflushed_writes ys)) (sym (outcomes-all 0 (length (out ys)) (flushed_writes ys) (omega arith)))
+    ap (λ (os : List (Option Outcome)). os ++ map (late_outcome Closed) (unflushed_writes ys)) (sym (outcomes-all 0 (length (out ys)) (flushed_writes ys) (omega arith)))

@@ -22,12 +22,13 @@ use Rattle.pl_stages.specs.declared.handlers.Handler.{Handler}
 use Rattle.pl_stages.specs.contracts.handlers.HandlerStage.TheImpl.{meaning-value}
 use Rattle.pl_build.specs.Pipelines.{PlacedView}
 use Rattle.pl_build.specs.Paths.{IsPath}
+use Rattle.pl_head.specs.declared.inputs.ReadPlan.{ReadPlan}
 use Rattle.pl_head.specs.Transports.{TransportState}
 use Rattle.pl_world.specs.declared.session.Recorded.{Recorded}
 use Rattle.pl_world.specs.Plans.{channel_planned}
 use Rattle.pl_world.specs.PlanRules.{IsSmallChannel}
 use Rattle.pl_world.specs.declared.limits.TheConstants.{MAX_BURSTS, MAX_CHUNKS, MAX_BYTES}
-use Rattle.pl_world.specs.Limits.{chunk_count, byte_count, fits}
+use Rattle.pl_world.specs.Limits.{chunk_count, byte_count, fits, aborts_within, input_fits}
 use Rattle.pl_world.specs.Worlds.{HaveSmallLanes}
 use Rattle.pl_world.proofs.WorldLimits.{Inputs, all_recorded, all_true, all_any, within_parts}
 
@@ -121,6 +122,10 @@ lanes_small inbound outbound bursts thrifty below out within hop =
     let counts = and_parts few short parts.0 in
     omega (arith, size, h, leb-true (length bursts) MAX_BURSTS counts.0, leb-true (chunk_count bursts) MAX_CHUNKS counts.1, leb-true (byte_count bursts) MAX_BYTES parts.1)
 
+-- an input that fits has bursts that do
+pub bursts_fit : (input : ReadPlan) → input_fits input ≡ true → fits input.bursts ≡ true
+bursts_fit input fit = (and_parts (fits input.bursts) (aborts_within input.abort_after (length input.bursts)) fit).0
+
 -- ---- stages that make no more than they take
 
 is_out : (d : Direction) → is_outbound d ≡ true → d ≡ Outbound
@@ -136,16 +141,16 @@ module _ {S T : Type 0} (meaning : S → Meaning) (stands_after : S → List Eve
   all_out stages all = All-map (λ (m : Meaning). m.direction ≡ Outbound) meaning stages (λ k d below. is_out (meaning (get_or stages k d)).direction (all k d below))
 
   -- each data lane of a channel has few items, where its input is within the limits
-  pub channel_small : (c : Recorded S T) → IsPath meaning stands_after c.pipeline → fits c.bursts ≡ true → IsSmallChannel (channel_planned meaning state c)
+  pub channel_small : (c : Recorded S T) → IsPath meaning stands_after c.pipeline → fits c.input.bursts ≡ true → IsSmallChannel (channel_planned meaning state c)
   channel_small c path fit = λ hop below.
-      lanes_small (map meaning c.pipeline.inbound) (map meaning c.pipeline.outbound) c.bursts (all_thrifty c.pipeline.inbound) (all_thrifty c.pipeline.outbound) (all_out c.pipeline.outbound path.downwards) fit hop
+      lanes_small (map meaning c.pipeline.inbound) (map meaning c.pipeline.outbound) c.input.bursts (all_thrifty c.pipeline.inbound) (all_thrifty c.pipeline.outbound) (all_out c.pipeline.outbound path.downwards) fit hop
 
   -- so the channels of a world do
   pub stages_small : (pipelines : List (PlacedView S)) (inputs : Inputs) (transports : List T) (executors : ℕ) → HaveSmallLanes meaning stands_after state pipelines inputs transports executors
   stages_small pipelines inputs transports executors within kept =
-      all_recorded (λ (c : Recorded S T). IsSmallChannel (channel_planned meaning state c)) (IsPath meaning stands_after) (λ bursts. fits bursts ≡ true) (λ t. Unit {0})
-      (λ p bursts t path fit any. channel_small (record { pipeline = p; bursts = bursts; transport = t }) path fit)
-      pipelines inputs transports kept (all_true fits inputs (within_parts pipelines inputs transports executors within).fit) (all_any transports)
+      all_recorded (λ (c : Recorded S T). IsSmallChannel (channel_planned meaning state c)) (IsPath meaning stands_after) (λ input. input_fits input ≡ true) (λ t. Unit {0})
+      (λ p input t path fit any. channel_small (record { pipeline = p; input = input; transport = t }) path (bursts_fit input fit))
+      pipelines inputs transports kept (all_true input_fits inputs (within_parts pipelines inputs transports executors within).fit) (all_any transports)
 
 -- ---- handlers
 

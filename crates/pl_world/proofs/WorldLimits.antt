@@ -1,10 +1,10 @@
 -- The limits of a world, and what is left of them.
-use Rattle.std.proofs.Common.{◌≡◌, ℕ, ◌+◌, ◌*◌, ◌<◌, ◌≤◌, ◌==◌, Bool, List, [], ◌∷◌, ◌++◌, length, take, map, get_or, sum_by, true, false, nat_lt, nat_le, Option, Some, ap, sym, ◌∙◌, ◌&&◌, refl, arith, append-nil}
+use Rattle.std.proofs.Common.{◌≡◌, ℕ, ◌+◌, ◌*◌, ◌<◌, ◌≤◌, ◌==◌, Bool, List, [], ◌∷◌, ◌++◌, length, take, map, get_or, sum_by, true, false, nat_lt, nat_le, Option, Some, ap, ap₂, sym, ◌∙◌, ◌&&◌, refl, arith, append-nil}
 use Rattle.std.specs.Prelude.{slice_get, All}
 use Rattle.std.specs.List.{list_all}
 use Rattle.std.proofs.lemmas.Bool.{and_parts, leb-true, ltb-true, lt-ltb, le-ltb}
 use Rattle.std.proofs.lemmas.Option.{slice_get_within, get_or_from_slice_get}
-use Rattle.std.proofs.lemmas.List.Elements.{All-nil, All-cons, All-head, All-tail, All-map, All-push}
+use Rattle.std.proofs.lemmas.List.Elements.{All-nil, All-cons, All-head, All-tail, All-map}
 use Rattle.std.proofs.lemmas.List.Folds.{list_all_at, list_all_more}
 use Rattle.std.proofs.lemmas.List.Sums.{sum_by-cons}
 use Rattle.std.proofs.lemmas.List.{length-map}
@@ -14,13 +14,14 @@ use Rattle.pl_event.specs.Meaning.{Meaning, IsLawful}
 use Rattle.pl_event.specs.Paths.{is_outbound, is_turn}
 use Rattle.pl_build.specs.Pipelines.{PlacedView}
 use Rattle.pl_build.specs.Paths.{IsPath}
+use Rattle.pl_head.specs.declared.inputs.ReadPlan.{ReadPlan}
 use Rattle.pl_head.specs.Transports.{TransportState, new_state}
 use Rattle.pl_world.specs.declared.session.Recorded.{Recorded}
 use Rattle.pl_world.specs.Plans.{ChannelPlan, channel_planned, head_hop}
 use Rattle.pl_world.specs.PlanRules.{IsSmallChannel, IsChannelPlan}
 use Rattle.pl_build.specs.declared.limits.TheConstants.{MAX_EXECUTORS, MAX_HANDLERS}
 use Rattle.pl_world.specs.declared.limits.TheConstants.{MAX_CHANNELS}
-use Rattle.pl_world.specs.Limits.{fits, is_placed, is_within}
+use Rattle.pl_world.specs.Limits.{input_fits, is_placed, is_within}
 use Rattle.pl_world.specs.Worlds.{recorded, IsUncalled, FitsWorld, HaveSmallLanes, IsWorld}
 
 -- ---- hops
@@ -49,7 +50,7 @@ all_there count (x ∷ executors) all =
 -- ---- channels
 
 abbrev pub Inputs : Type 0
-Inputs = List (List (List (List ℕ)))
+Inputs = List ReadPlan
 
 module _ {S T : Type 0} where
   -- no pipeline is left, or no input, or no transport
@@ -62,33 +63,33 @@ module _ {S T : Type 0} where
       → inputs ≡ [] → joined ++ recorded pipelines inputs transports ≡ all → joined ≡ all
   no_input_left joined [] inputs transports all none is = sym (append-nil joined) ∙ is
   no_input_left joined (p ∷ pipelines) [] transports all none is = sym (append-nil joined) ∙ is
-  no_input_left joined (p ∷ pipelines) (bursts ∷ inputs) transports all none is = cc
+  no_input_left joined (p ∷ pipelines) (input ∷ inputs) transports all none is = cc
 
   pub no_transport_left : (joined : List (Recorded S T)) (pipelines : List (PlacedView S)) (inputs : Inputs) (transports : List T) (all : List (Recorded S T))
       → transports ≡ [] → joined ++ recorded pipelines inputs transports ≡ all → joined ≡ all
   no_transport_left joined [] inputs transports all none is = sym (append-nil joined) ∙ is
   no_transport_left joined (p ∷ pipelines) [] transports all none is = sym (append-nil joined) ∙ is
-  no_transport_left joined (p ∷ pipelines) (bursts ∷ inputs) [] all none is = sym (append-nil joined) ∙ is
-  no_transport_left joined (p ∷ pipelines) (bursts ∷ inputs) (t ∷ transports) all none is = cc
+  no_transport_left joined (p ∷ pipelines) (input ∷ inputs) [] all none is = sym (append-nil joined) ∙ is
+  no_transport_left joined (p ∷ pipelines) (input ∷ inputs) (t ∷ transports) all none is = cc
 
   few_recorded : (pipelines : List (PlacedView S)) (inputs : Inputs) (transports : List T) → length (recorded pipelines inputs transports) ≤ length pipelines
   few_recorded [] inputs transports = omega arith
   few_recorded (p ∷ pipelines) [] transports = omega arith
-  few_recorded (p ∷ pipelines) (bursts ∷ inputs) [] = omega arith
-  few_recorded (p ∷ pipelines) (bursts ∷ inputs) (t ∷ transports) = let rest = few_recorded pipelines inputs transports in omega (arith, rest)
+  few_recorded (p ∷ pipelines) (input ∷ inputs) [] = omega arith
+  few_recorded (p ∷ pipelines) (input ∷ inputs) (t ∷ transports) = let rest = few_recorded pipelines inputs transports in omega (arith, rest)
 
   -- What is true of each pipeline with any input and transport of these is true of each channel.
-  pub all_recorded : (Holds : Recorded S T → Type 0) (Is : PlacedView S → Type 0) (Fits : List (List (List ℕ)) → Type 0) (Leaves : T → Type 0)
-      → ((p : PlacedView S) (bursts : List (List (List ℕ))) (t : T) → Is p → Fits bursts → Leaves t → Holds (record { pipeline = p; bursts = bursts; transport = t }))
+  pub all_recorded : (Holds : Recorded S T → Type 0) (Is : PlacedView S → Type 0) (Fits : ReadPlan → Type 0) (Leaves : T → Type 0)
+      → ((p : PlacedView S) (input : ReadPlan) (t : T) → Is p → Fits input → Leaves t → Holds (record { pipeline = p; input = input; transport = t }))
       → (pipelines : List (PlacedView S)) (inputs : Inputs) (transports : List T) → All Is pipelines → All Fits inputs → All Leaves transports
       → All Holds (recorded pipelines inputs transports)
   all_recorded Holds Is Fits Leaves each [] inputs transports is fit leave = All-nil Holds
   all_recorded Holds Is Fits Leaves each (p ∷ pipelines) [] transports is fit leave = All-nil Holds
-  all_recorded Holds Is Fits Leaves each (p ∷ pipelines) (bursts ∷ inputs) [] is fit leave = All-nil Holds
-  all_recorded Holds Is Fits Leaves each (p ∷ pipelines) (bursts ∷ inputs) (t ∷ transports) is fit leave =
-      All-cons Holds (record { pipeline = p; bursts = bursts; transport = t }) (recorded pipelines inputs transports)
-      (each p bursts t (All-head Is p pipelines is) (All-head Fits bursts inputs fit) (All-head Leaves t transports leave))
-      (all_recorded Holds Is Fits Leaves each pipelines inputs transports (All-tail Is p pipelines is) (All-tail Fits bursts inputs fit) (All-tail Leaves t transports leave))
+  all_recorded Holds Is Fits Leaves each (p ∷ pipelines) (input ∷ inputs) [] is fit leave = All-nil Holds
+  all_recorded Holds Is Fits Leaves each (p ∷ pipelines) (input ∷ inputs) (t ∷ transports) is fit leave =
+      All-cons Holds (record { pipeline = p; input = input; transport = t }) (recorded pipelines inputs transports)
+      (each p input t (All-head Is p pipelines is) (All-head Fits input inputs fit) (All-head Leaves t transports leave))
+      (all_recorded Holds Is Fits Leaves each pipelines inputs transports (All-tail Is p pipelines is) (All-tail Fits input inputs fit) (All-tail Leaves t transports leave))
 
 -- ---- the limits, one by one
 
@@ -96,7 +97,7 @@ pub record Limits {S T : Type 0} (pipelines : List (PlacedView S)) (inputs : Inp
   pub executors_at_most : executors ≤ MAX_EXECUTORS
   pub channels_at_most : length pipelines ≤ MAX_CHANNELS
   pub placed : list_all (is_placed executors) pipelines ≡ true
-  pub fit : list_all fits inputs ≡ true
+  pub fit : list_all input_fits inputs ≡ true
 
 pub within_parts : {S T : Type 0} (pipelines : List (PlacedView S)) (inputs : Inputs) (transports : List T) (executors : ℕ) → is_within pipelines inputs transports executors ≡ true
     → Limits pipelines inputs transports executors
@@ -106,7 +107,7 @@ within_parts pipelines inputs transports executors within =
     let same = length pipelines == length inputs in
     let beside = length pipelines == length transports in
     let placed = list_all (is_placed executors) pipelines in
-    let five = and_parts (few && short && same && beside && placed) (list_all fits inputs) within in
+    let five = and_parts (few && short && same && beside && placed) (list_all input_fits inputs) within in
     let four = and_parts (few && short && same && beside) placed five.0 in
     let three = and_parts (few && short && same) beside four.0 in
     let two = and_parts (few && short) same three.0 in
@@ -132,15 +133,8 @@ all_any xs = λ k d below. tt
 -- ---- transports
 
 -- a transport in a new state was not called
-pub is_uncalled : (state : TransportState) (window : Option ℕ) → state ≡ new_state window → IsUncalled state
-is_uncalled state window is = is ∙ ap new_state (sym (ap (λ (s : TransportState). s.window) is))
-
-module _ {T : Type 0} (state : T → TransportState) where
-  pub one_uncalled : (t : T) (window : Option ℕ) → state t ≡ new_state window → All (λ u. IsUncalled (state u)) (t ∷ [])
-  one_uncalled t window is = All-cons (λ u. IsUncalled (state u)) t [] (is_uncalled (state t) window is) (All-nil (λ u. IsUncalled (state u)))
-
-  pub uncalled_more : (ts : List T) (t : T) (window : Option ℕ) → All (λ u. IsUncalled (state u)) ts → state t ≡ new_state window → All (λ u. IsUncalled (state u)) (ts ++ t ∷ [])
-  uncalled_more ts t window all is = All-push (λ u. IsUncalled (state u)) ts t all (is_uncalled (state t) window is)
+pub is_uncalled : (state : TransportState) (window fail_at : Option ℕ) → state ≡ new_state window fail_at → IsUncalled state
+is_uncalled state window fail_at is = is ∙ ap₂ new_state (sym (ap (λ (s : TransportState). s.window) is)) (sym (ap (λ (s : TransportState). s.fail_at) is))
 
 -- ---- rules
 
@@ -198,7 +192,7 @@ module _ {S T : Type 0} (meaning : S → Meaning) (stands_after : S → List Eve
   record Fits (c : Recorded S T) : Type 0 where
     path : IsPath meaning stands_after c.pipeline
     placed : is_placed executors c.pipeline ≡ true
-    input : fits c.bursts ≡ true
+    input : input_fits c.input ≡ true
     transport : IsUncalled (state c.transport)
 
   pub all_fit : All (IsPath meaning stands_after) pipelines → HaveSmallLanes meaning stands_after state pipelines inputs transports executors → All (λ (t : T). IsUncalled (state t)) transports
@@ -207,9 +201,9 @@ module _ {S T : Type 0} (meaning : S → Meaning) (stands_after : S → List Eve
       let limits = within_parts pipelines inputs transports executors within in
       let Placed : PlacedView S → Type 0 = λ p. IsPath meaning stands_after p × (is_placed executors p ≡ true) in
       let are_placed : All Placed pipelines = λ k d below. (paths k d below, all_true (is_placed executors) pipelines limits.placed k d below) in
-      let each = all_recorded Fits Placed (λ bursts. fits bursts ≡ true) (λ (t : T). IsUncalled (state t))
-      (λ p bursts t is fit leaves. record { path = is.0; placed = is.1; input = fit; transport = leaves })
-      pipelines inputs transports are_placed (all_true fits inputs limits.fit) uncalled in
+      let each = all_recorded Fits Placed (λ input. input_fits input ≡ true) (λ (t : T). IsUncalled (state t))
+      (λ p input t is fit leaves. record { path = is.0; placed = is.1; input = fit; transport = leaves })
+      pipelines inputs transports are_placed (all_true input_fits inputs limits.fit) uncalled in
       λ k d below.
       let c = get_or (recorded pipelines inputs transports) k d in
       let fit = each k d below in

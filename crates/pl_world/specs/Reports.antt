@@ -1,32 +1,79 @@
--- How a channel stands at its numbers, and the whole report of a drained session (docs/FORMATS.md, "Report").
-use Rattle.std.specs.Prelude.{◌≡◌, ℕ, List, length, take, Bool, true, if◌then◌else◌, nat_le, ◌&&◌}
+-- How a channel stands, what a report says of it, and the whole report of a drained session (docs/FORMATS.md, "Report").
+use Rattle.std.specs.Prelude.{◌≡◌, ℕ, ◌≤◌, List, [], ◌++◌, length, take, Bool, true, false, if◌then◌else◌, nat_le, ◌&&◌, is_some, Option, Some, None}
 use Rattle.std.specs.List.{AllZip}
 use Rattle.pl_event.specs.declared.events.Event.{Event}
-use Rattle.pl_event.specs.declared.outcomes.Cause.TheVariants.{Transport}
+use Rattle.pl_event.specs.declared.outcomes.Cause.{Cause}
+use Rattle.pl_event.specs.declared.outcomes.Cause.TheVariants.{Aborted}
 use Rattle.pl_event.specs.Meaning.{IsPrefixOf}
 use Rattle.pl_event.specs.Inputs.{recorded_input}
 use Rattle.pl_event.specs.Lanes.{tail_lane, head_lane}
+use Rattle.pl_context.specs.declared.standing.Standing.{Standing}
+use Rattle.pl_context.specs.declared.standing.Standing.TheVariants as standing
+use Rattle.pl_context.specs.Standings.{is_over, cause_of}
+use Rattle.pl_head.specs.Writes.{writes_by, out, outcomes}
+use Rattle.pl_head.specs.Failures.{head_outcomes, AreOutcomes}
+use Rattle.pl_head.specs.HeadStand.{first_cause}
 use Rattle.pl_world.specs.declared.report.Stands.{Stands}
 use Rattle.pl_world.specs.declared.report.Stands.TheVariants.{Drained, Open, Failed}
 use Rattle.pl_world.specs.declared.report.ChannelReport.{ChannelReport}
-use Rattle.pl_head.specs.Writes.{out, outcomes}
 use Rattle.pl_world.specs.Plans.{ChannelPlan}
 
--- Stands: a channel has failed where its transport has; it is drained where tail and head have taken the end of their lanes
--- and no flushed byte is left.
-abbrev pub stands : Bool → Bool → Bool → List Event → ℕ → Stands
-stands has_failed tail_has_ended head_has_ended head accepted =
-    if has_failed then Failed Transport
-    else if tail_has_ended && head_has_ended && nat_le (length (out head)) accepted then Drained else Open
+-- The two ends of a channel, from which its report is made.
+pub record Ends : Type 0 where
+  -- what the tail recorded, and how it stands: failed where it took a failure or failed by itself
+  pub tail : List Event
+  pub tail_stands : Standing
+  -- what the head took before a failure of its own, and what it took from it on
+  pub head : List Event
+  pub late : List Event
+  -- why the head failed by itself, if it did, and how its lane stands
+  pub failure : Option Cause
+  pub head_stands : Standing
+  -- how many bytes its transport accepted, and whether writes get no number any more
+  pub accepted : ℕ
+  pub is_full : Bool
 
--- What became of a channel, by the events that reached its tail and its head, whether its transport has failed, whether tail
--- and head have taken the end of their lanes, and how many bytes were accepted.
-abbrev pub channel_report : List Event → List Event → Bool → Bool → Bool → ℕ → ChannelReport
-channel_report tail head has_failed tail_has_ended head_has_ended accepted = record {
-  stands = stands has_failed tail_has_ended head_has_ended head accepted;
-  tail = tail;
-  bytes = take accepted (out head);
-  writes = outcomes head accepted head_has_ended;
+-- ---- how a channel stands
+
+-- the end of its lane was taken
+abbrev pub has_ended : Standing → Bool
+has_ended standing.Open = false
+has_ended standing.Ended = true
+has_ended (standing.Failed cause) = false
+
+-- Why a channel has failed: its head has by itself, else the head took a failure, else its tail took one or has failed.
+abbrev pub channel_cause : Ends → Option Cause
+channel_cause e = first_cause (first_cause e.failure (cause_of e.head_stands)) (cause_of e.tail_stands)
+
+-- Its tail and its head have taken the end of their lanes, and no flushed byte is left.
+abbrev pub is_written_out : Ends → Bool
+is_written_out e = has_ended e.tail_stands && has_ended e.head_stands && nat_le (length (out e.head)) e.accepted
+
+abbrev pub stands_by : Option Cause → Bool → Stands
+stands_by (Some cause) is_drained = Failed cause
+stands_by None is_drained = if is_drained then Drained else Open
+
+-- Stands: failed where it has a cause, else drained where all is taken and written, else open.
+abbrev pub stands : Ends → Stands
+stands e = stands_by (channel_cause e) (is_written_out e)
+
+-- ---- its report
+
+-- What a report says of a channel, by its two ends: the outcomes are the head's, and those after a failure of the head's own
+-- are those of the writes that got a number.
+pub record IsChannelReport (e : Ends) (r : ChannelReport) : Type 0 where
+  pub stands_is : r.stands ≡ stands e
+  pub tail_is : r.tail ≡ e.tail
+  pub bytes_are : r.bytes ≡ take e.accepted (out e.head)
+  pub writes_are : AreOutcomes e.failure e.is_full e.head e.late e.accepted (is_over e.head_stands) r.writes
+
+-- the report of two ends where each write has a number
+abbrev pub channel_report : Ends → ChannelReport
+channel_report e = record {
+  stands = stands e;
+  tail = e.tail;
+  bytes = take e.accepted (out e.head);
+  writes = head_outcomes e.failure e.head (writes_by e.late) e.accepted (is_over e.head_stands);
 }
 
 -- what the whole recorded input brings to the tail, and to the head
@@ -55,3 +102,24 @@ pub record KeepsToPlan (p : ChannelPlan) (r : ChannelReport) : Type 0 where
 -- so does each channel of a session
 abbrev pub AllKeepToPlan : List ChannelPlan → List ChannelReport → Type 0
 AllKeepToPlan = AllZip KeepsToPlan
+
+-- ---- the ends of a planned channel
+
+-- Tail and head took prefixes of their lanes, in order, and all where they took the end. The head took nothing late and
+-- numbers its writes while it has not failed by itself, and it is aborted only where its plan says so.
+pub record EndsKeepToPlan (p : ChannelPlan) (e : Ends) : Type 0 where
+  pub tail : IsPrefixOf e.tail (tail_of p)
+  pub tail_whole : has_ended e.tail_stands ≡ true → e.tail ≡ tail_of p
+  pub head : IsPrefixOf (e.head ++ e.late) (head_of p)
+  pub head_whole : has_ended e.head_stands ≡ true → e.head ++ e.late ≡ head_of p
+  pub accepted : e.accepted ≤ length (out e.head)
+  pub late : e.failure ≡ None → e.late ≡ []
+  pub numbering : e.failure ≡ None → e.is_full ≡ false
+  pub aborted : e.failure ≡ Some Aborted → is_some p.abort_after ≡ true
+
+-- A report of a channel with this plan: how it stands, its outcomes, its tail and its bytes are those of two ends that keep
+-- to the plan. So the report keeps to the plan.
+pub record ReportsPlan (p : ChannelPlan) (r : ChannelReport) : Type 0 where
+  pub ends : Ends
+  pub ends_keep : EndsKeepToPlan p ends
+  pub reports : IsChannelReport ends r

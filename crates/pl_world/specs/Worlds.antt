@@ -4,13 +4,14 @@ use Rattle.pl_event.specs.declared.events.Event.{Event}
 use Rattle.pl_event.specs.Meaning.{Meaning}
 use Rattle.pl_build.specs.Pipelines.{PlacedView}
 use Rattle.pl_build.specs.Paths.{IsPath}
+use Rattle.pl_head.specs.declared.inputs.ReadPlan.{ReadPlan}
 use Rattle.pl_head.specs.Transports.{TransportState, new_state}
 use Rattle.pl_world.specs.declared.session.Recorded.{Recorded}
 use Rattle.pl_build.specs.declared.limits.TheConstants.{MAX_EXECUTORS}
 use Rattle.pl_world.specs.declared.limits.TheConstants.{MAX_CHANNELS}
 use Rattle.pl_world.specs.Plans.{channel_planned, planned}
 use Rattle.pl_world.specs.PlanRules.{IsPlan, IsSmallChannel, IsSmallPlan}
-use Rattle.pl_world.specs.Limits.{fits, is_within}
+use Rattle.pl_world.specs.Limits.{input_fits, is_within}
 
 pub record WorldView (S T : Type 0) : Type 0 where
   pub executors : ℕ
@@ -18,27 +19,27 @@ pub record WorldView (S T : Type 0) : Type 0 where
 
 -- no call of a transport was made
 abbrev pub IsUncalled : TransportState → Type 0
-IsUncalled state = state ≡ new_state state.window
+IsUncalled state = state ≡ new_state state.window state.fail_at
 
 -- each pipeline with its input and its transport
-abbrev pub recorded : {S T : Type 0} → List (PlacedView S) → List (List (List (List ℕ))) → List T → List (Recorded S T)
+abbrev pub recorded : {S T : Type 0} → List (PlacedView S) → List ReadPlan → List T → List (Recorded S T)
 recorded [] inputs transports = []
 recorded (pipeline ∷ pipelines) [] transports = []
-recorded (pipeline ∷ pipelines) (bursts ∷ inputs) [] = []
-recorded (pipeline ∷ pipelines) (bursts ∷ inputs) (transport ∷ transports) =
-    record { pipeline = pipeline; bursts = bursts; transport = transport } ∷ recorded pipelines inputs transports
+recorded (pipeline ∷ pipelines) (input ∷ inputs) [] = []
+recorded (pipeline ∷ pipelines) (input ∷ inputs) (transport ∷ transports) =
+    record { pipeline = pipeline; input = input; transport = transport } ∷ recorded pipelines inputs transports
 
 -- A channel that a world on a given number of executors can have: its pipeline is as it was built, each of its hops has an
 -- executor that is there, its input is within the limits, its transport was not called, and its data lanes have few items.
 pub record FitsWorld {S T : Type 0} (meaning : S → Meaning) (stands_after : S → List Event → Type 0) (state : T → TransportState) (executors : ℕ) (c : Recorded S T) : Type 0 where
   pub path : IsPath meaning stands_after c.pipeline
   pub placed : All (λ executor. executor < executors) c.pipeline.executors
-  pub input : fits c.bursts ≡ true
+  pub input : input_fits c.input ≡ true
   pub transport : IsUncalled (state c.transport)
   pub small : IsSmallChannel (channel_planned meaning state c)
 
 -- where these make a world within its limits, each of its data lanes has few items
-abbrev pub HaveSmallLanes : {S T : Type 0} → (S → Meaning) → (S → List Event → Type 0) → (T → TransportState) → List (PlacedView S) → List (List (List (List ℕ))) → List T → ℕ → Type 0
+abbrev pub HaveSmallLanes : {S T : Type 0} → (S → Meaning) → (S → List Event → Type 0) → (T → TransportState) → List (PlacedView S) → List ReadPlan → List T → ℕ → Type 0
 HaveSmallLanes meaning stands_after state pipelines inputs transports executors =
     is_within pipelines inputs transports executors ≡ true → All (IsPath meaning stands_after) pipelines
     → All (λ c. IsSmallChannel (channel_planned meaning state c)) (recorded pipelines inputs transports)
@@ -48,7 +49,7 @@ HaveSmallLanes meaning stands_after state pipelines inputs transports executors 
 pub record IsWorld {S T : Type 0} (meaning : S → Meaning) (state : T → TransportState) (w : WorldView S T) : Type 0 where
   pub executors : w.executors ≤ MAX_EXECUTORS
   pub channels : length w.channels ≤ MAX_CHANNELS
-  pub inputs : All (λ c. fits c.bursts ≡ true) w.channels
+  pub inputs : All (λ c. input_fits c.input ≡ true) w.channels
   pub transports : All (λ c. IsUncalled (state c.transport)) w.channels
   pub ruled : (capacity : ℕ) → 1 ≤ capacity → IsPlan (planned meaning state capacity w.executors w.channels)
   pub small : (capacity : ℕ) → IsSmallPlan (planned meaning state capacity w.executors w.channels)

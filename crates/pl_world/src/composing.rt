@@ -71,7 +71,7 @@ fn whole<S: Stage, T: Transport>(
 {
     let Recorded {
         pipeline,
-        bursts,
+        input,
         ..
     } = recorded;
     let hop = pipeline.turn() as usize;
@@ -81,8 +81,8 @@ fn whole<S: Stage, T: Transport>(
         turn,
         after,
     } = part(inbound, hop)?;
-    let input = recorded_events(alloc, bursts)?;
-    let at_turn = feed_up(alloc, before, input)?;
+    let events = recorded_events(alloc, input.bursts)?;
+    let at_turn = feed_up(alloc, before, events)?;
     let made = pass(alloc, turn, at_turn)?;
     let at_tail = feed_up(alloc, after, made.up)?;
     let at_head = feed_down(alloc, outbound, made.down)?;

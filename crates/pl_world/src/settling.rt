@@ -2,7 +2,8 @@
 
 ghost use Rattle.std.specs.Prelude.{◌≡◌, ◌∷◌, ◌++◌, [], length, map, true, IfOk, OnOk, if◌then◌else◌};
 ghost use Rattle.pl_event.specs.declared.events.Event.TheVariants as event;
-ghost use Rattle.pl_head.specs.Writes.{write_by, is_flush, bytes_of, out, outcomes, closed};
+ghost use Rattle.pl_event.specs.declared.outcomes.Outcome.TheVariants.{Closed};
+ghost use Rattle.pl_head.specs.Writes.{write_by, is_flush, bytes_of, out, outcomes, late_outcome};
 
 use pl_event::{ByteString, Event, Message, Outcome, Sequence};
 use std::alloc::{AllocError, Global};
@@ -81,7 +82,7 @@ impl Writes {
     /// The bytes, and the outcome of each write. What is unflushed is closed.
     fn close(self) -> Result<(ByteString, Sequence<Option<Outcome>>), AllocError>
         ensures bytes { IfOk result (λ parts. parts.0 ≡ self.bytes.items) }
-        ensures outcomes { IfOk result (λ parts. parts.1 ≡ self.outcomes.items ++ map closed self.unflushed.items) }
+        ensures outcomes { IfOk result (λ parts. parts.1 ≡ self.outcomes.items ++ map (late_outcome Closed) self.unflushed.items) }
     {
         let Writes {
             bytes,

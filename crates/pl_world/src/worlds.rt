@@ -5,13 +5,13 @@ ghost use Rattle.std.specs.List.{list_all};
 ghost use Rattle.pl_build.specs.Paths.{IsPath};
 ghost use Rattle.pl_world.specs.Worlds.{IsUncalled, FitsWorld, HaveSmallLanes, recorded};
 ghost use Rattle.pl_world.specs.declared.worlds.WorldRefusal.TheVariants as refusal;
-ghost use Rattle.pl_world.specs.Limits.{fits, is_placed, is_within};
+ghost use Rattle.pl_world.specs.Limits.{input_fits, is_placed, is_within};
 
-use crate::limits::{MAX_CHANNELS, fits};
+use crate::limits::{MAX_CHANNELS, input_fits};
 use crate::session::Recorded;
 use pl_build::{MAX_EXECUTORS, Placed};
-use pl_event::{ByteString, Sequence, Stage};
-use pl_head::Transport;
+use pl_event::{Sequence, Stage};
+use pl_head::{ReadPlan, Transport};
 use pl_stages::Thrifty;
 use std::alloc::{AllocError, AllocFailed, Global};
 use std::marker::Model;
@@ -23,8 +23,8 @@ pub enum WorldRefusal {
     /// An allocation failed.
     #[error("1 Memory")]
     Memory,
-    /// There are too many channels or executors, not as many inputs as pipelines, an input is too long, or a pipeline
-    /// names an executor that is not there.
+    /// There are too many channels or executors, not as many inputs as pipelines, an input is too long or aborted after more
+    /// bursts than it has, or a pipeline names an executor that is not there.
     #[error("2 Limit")]
     Limit,
 }
@@ -81,12 +81,12 @@ impl<S: Stage, T: Transport> World<S, T> {
     }
 
     /// Channels with these pipelines, inputs and transports, in order, on a given number of executors. An input is the
-    /// chunks of each burst. Refused as `Limit` where the world would not be within its limits, then as `Memory`; what
+    /// chunks of each burst, and after how many bursts an abort comes. Refused as `Limit` where the world would not be within its limits, then as `Memory`; what
     /// was handed in is gone then.
     pub fn new(
         alloc: Global,
         pipelines: Sequence<Placed<S>>,
-        inputs: Sequence<Sequence<Sequence<ByteString>>>,
+        inputs: Sequence<ReadPlan>,
         transports: Sequence<T>,
         executors: u16,
     ) -> Result<Self, WorldRefusal>
@@ -144,7 +144,7 @@ impl<S: Thrifty, T: Transport> World<S, T> {
     pub fn of_thrifty(
         alloc: Global,
         pipelines: Sequence<Placed<S>>,
-        inputs: Sequence<Sequence<Sequence<ByteString>>>,
+        inputs: Sequence<ReadPlan>,
         transports: Sequence<T>,
         executors: u16,
     ) -> Result<Self, WorldRefusal>
@@ -162,16 +162,16 @@ impl<S: Thrifty, T: Transport> World<S, T> {
 fn joined<S: Stage, T: Transport>(
     alloc: Global,
     pipelines: Vec<Placed<S>>,
-    inputs: Vec<Sequence<Sequence<ByteString>>>,
+    inputs: Vec<ReadPlan>,
     transports: Vec<T>,
 ) -> Result<Vec<Recorded<S, T>>, AllocError>
     ensures { IfOk result (λ channels. channels.items ≡ recorded pipelines.items inputs.items transports.items) }
 {
     let mut channels = Vec::with_capacity(alloc, pipelines.len())?;
-    for ((pipeline, bursts), transport) in pipelines.into_iter().zip(inputs).zip(transports) {
+    for ((pipeline, input), transport) in pipelines.into_iter().zip(inputs).zip(transports) {
         channels.push(Recorded {
             pipeline,
-            bursts,
+            input,
             transport,
         })?;
     }
@@ -181,7 +181,7 @@ fn joined<S: Stage, T: Transport>(
 /// Whether a world of these is within its limits.
 fn is_within<S: Stage, T: Transport>(
     pipelines: &[Placed<S>],
-    inputs: &[Sequence<Sequence<ByteString>>],
+    inputs: &[ReadPlan],
     transports: &[T],
     executors: u16,
 ) -> bool
@@ -226,8 +226,8 @@ fn is_placed<S: Stage>(pipeline: &Placed<S>, executors: u16) -> bool
 }
 
 /// Whether each input is within the limits.
-fn all_fit(inputs: &[Sequence<Sequence<ByteString>>]) -> bool
-    ensures { result ≡ list_all fits inputs.now }
+fn all_fit(inputs: &[ReadPlan]) -> bool
+    ensures { result ≡ list_all input_fits inputs.now }
 {
-    inputs.iter().all(|bursts| fits(bursts.as_slice()))
+    inputs.iter().all(input_fits)
 }

@@ -10,11 +10,10 @@ ghost use Rattle.pl_build.specs.Executors.{HasPlaced, sizes_of};
 ghost use Rattle.pl_build.specs.declared.faults.BuildFault.TheVariants.{NoSuchName, Memory};
 ghost use Rattle.pl_world.specs.Plans.{channel_planned};
 ghost use Rattle.pl_world.specs.Sessions.{plan_of};
-ghost use Rattle.pl_world.specs.Worlds.{FitsWorld};
+ghost use Rattle.pl_world.specs.Worlds.{FitsWorld, IsUncalled};
 ghost use Rattle.pl_text.specs.SessionReading.{seen};
 ghost use Rattle.pl_text.specs.SessionHandlers.{meaning_of};
 ghost use Rattle.pl_text.specs.SessionOutlines.{IsHandlerWithin, IsEditWithin, IsChannelOutlineWithin, IsOutlineWithin};
-ghost use Rattle.pl_text.specs.SessionWorlds.{IsSteady};
 ghost use Rattle.pl_text.specs.SessionBuilding.{Builds, IsChannelBuilt, added, all_edited, channels_built, edited, group_sizes, made_unless, meant, pipeline_built, put_after, put_before, session_built};
 
 use crate::session_text::names::Name;
@@ -23,7 +22,7 @@ use crate::session_text::outline::{
 };
 use pl_build::{BuildFault, Groups, PipelineBuilder};
 use pl_event::{Sequence, Stage};
-use pl_head::{MemoryTransport, Transport};
+use pl_head::{MemoryTransport, ReadPlan, Transport};
 use pl_stages::{
     CommandDecoder, FlushEvery, Handler, LineEnd, LineFramer, LineService, ReplyEncoder,
 };
@@ -35,7 +34,7 @@ use std::alloc::{AllocError, Global};
 pub(crate) fn session_built(alloc: Global, outline: Outline) -> Result<Session, BuildFault>
     requires { IsOutlineWithin outline }
     ensures built { Builds (seen (plan_of ⟦<Handler as Stage>⟧.meaning ⟦<MemoryTransport as Transport>⟧.state) result) (session_built outline) }
-    ensures steady { IfOk result (λ session. All IsSteady session.world.channels) }
+    ensures uncalled { IfOk result (λ session. All (λ c. IsUncalled (⟦<MemoryTransport as Transport>⟧.state c.transport)) session.world.channels) }
 {
     let Outline {
         capacity,
@@ -91,7 +90,6 @@ fn channels_built(
         (channels_built groups.old.loops (sizes_of groups.old) [] channels) }
     ensures fit { IfOk result (λ channels. All (FitsWorld ⟦<Handler as Stage>⟧.meaning ⟦<Handler as Stage>⟧.stands_after ⟦<MemoryTransport as Transport>⟧.state
         (executor_count groups.old.loops (sizes_of groups.old))) channels) }
-    ensures steady { IfOk result (λ channels. All IsSteady channels) }
 {
     let mut built = Vec::with_capacity(alloc, channels.len())?;
     for channel in channels.into_vec() {
@@ -111,7 +109,6 @@ fn channel_built(
     ensures built { IfOk result (λ recorded. IsChannelBuilt groups.old groups.new channel (channel_planned ⟦<Handler as Stage>⟧.meaning ⟦<MemoryTransport as Transport>⟧.state recorded)) }
     ensures fits { IfOk result (FitsWorld ⟦<Handler as Stage>⟧.meaning ⟦<Handler as Stage>⟧.stands_after ⟦<MemoryTransport as Transport>⟧.state
         (executor_count groups.old.loops (sizes_of groups.old))) }
-    ensures steady { IfOk result IsSteady }
     ensures refused { IfErr result (λ e. e ≢ Memory → pipeline_built (sizes_of groups.old) channel ≡ Err e) }
     ensures same_groups { (groups.new.loops ≡ groups.old.loops) × (sizes_of groups.new ≡ sizes_of groups.old) }
 {
@@ -120,14 +117,20 @@ fn channel_built(
         low,
         high,
         window,
+        fail_at,
         bursts,
+        abort_after,
     } = channel;
     let mut builder = all_edited(alloc, edits.as_slice())?;
     builder.marks(low, high)?;
     match builder.build(groups) {
         Ok(pipeline) => {
-            let transport = MemoryTransport::new(alloc, window, None);
-            Ok(Recorded::new(pipeline, bursts, transport))
+            let transport = MemoryTransport::new(alloc, window, fail_at);
+            let input = ReadPlan {
+                bursts,
+                abort_after,
+            };
+            Ok(Recorded::new(pipeline, input, transport))
         }
         Err(unbuilt) => Err(unbuilt.fault),
     }

@@ -1,16 +1,15 @@
 //! Reads the members of a channel.
 
-ghost use Rattle.std.specs.Prelude.{◌≡◌};
+ghost use Rattle.std.specs.Prelude.{◌≡◌, ◌≤◌, length, IfOk};
 ghost use Rattle.serde_json.specs.View.{view};
+ghost use Rattle.pl_world.specs.declared.limits.TheConstants.{MAX_BURSTS};
 ghost use Rattle.pl_text.specs.SessionReading.{Answers};
-ghost use Rattle.pl_text.specs.SessionChannels.{mark_in, window_in, bursts_in, channel_in};
+ghost use Rattle.pl_text.specs.SessionChannels.{mark_in, window_in, fail_at_in, bursts_in, abort_after_in, channel_in};
 
 use crate::session_text::fault::SessionFault;
-use crate::session_text::limits::{DEFAULT_WINDOW, MAX_EDITS, MAX_WINDOW};
+use crate::session_text::limits::{DEFAULT_WINDOW, MAX_EDITS, MAX_FAIL_AT, MAX_WINDOW};
 use crate::session_text::outline::ChannelOutline;
-use crate::session_text::values::{
-    FromData, absent, an_object, array_in, present, required, whole_in,
-};
+use crate::session_text::values::{FromData, an_object, array_in, present, required, whole_in};
 use pl_build::{DEFAULT_HIGH, DEFAULT_LOW, MAX_MARK};
 use pl_event::{ByteString, Sequence};
 use pl_world::{MAX_BURSTS, fits};
@@ -27,15 +26,17 @@ impl FromData for ChannelOutline {
         let low = mark_in("low", DEFAULT_LOW, channel)?;
         let high = mark_in("high", DEFAULT_HIGH, channel)?;
         let window = window_in(channel)?;
-        absent(channel, "fail_at", SessionFault::Limit)?;
+        let fail_at = fail_at_in(channel)?;
         let bursts = bursts_in(alloc, required(channel, "bursts")?)?;
-        absent(channel, "abort_after", SessionFault::Limit)?;
+        let abort_after = abort_after_in(bursts.len(), channel)?;
         Ok(ChannelOutline {
             edits,
             low,
             high,
             window,
+            fail_at,
             bursts,
+            abort_after,
         })
     }
 }
@@ -62,10 +63,34 @@ fn window_in(channel: &Value) -> Result<u32, SessionFault>
     }
 }
 
+/// The call of a channel's transport that fails, if one does.
+#[tactic(auto, unfolding(crate::specs::SessionChannels::fail_at_in))]
+fn fail_at_in(channel: &Value) -> Result<Option<u32>, SessionFault>
+    ensures { result ≡ fail_at_in (view channel.now) }
+{
+    match present(channel, "fail_at") {
+        Some(value) => Ok(Some(whole_in(1, u64::from(MAX_FAIL_AT), value)? as u32)),
+        None => Ok(None),
+    }
+}
+
+/// After how many of its bursts a channel is aborted, if it is.
+#[tactic(auto, unfolding(crate::specs::SessionChannels::abort_after_in))]
+fn abort_after_in(count: usize, channel: &Value) -> Result<Option<u32>, SessionFault>
+    requires { count ≤ MAX_BURSTS }
+    ensures { result ≡ abort_after_in count (view channel.now) }
+{
+    match present(channel, "abort_after") {
+        Some(value) => Ok(Some(whole_in(0, count as u64, value)? as u32)),
+        None => Ok(None),
+    }
+}
+
 /// The bursts of a channel. The number of bursts is looked at first, their chunks and bytes after all are read.
 #[tactic(auto, unfolding(crate::specs::SessionChannels::bursts_in))]
 fn bursts_in(alloc: Global, value: &Value) -> Result<Sequence<Sequence<ByteString>>, SessionFault>
-    ensures { Answers result (bursts_in (view value.now)) }
+    ensures meaning { Answers result (bursts_in (view value.now)) }
+    ensures few { IfOk result (λ bursts. length bursts ≤ MAX_BURSTS) }
 {
     let bursts = array_in(alloc, 0, MAX_BURSTS, value)?;
     if !fits(bursts.as_slice()) {

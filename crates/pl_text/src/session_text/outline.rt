@@ -65,8 +65,12 @@ pub(crate) struct ChannelOutline {
     pub(crate) high: u32,
     /// How many bytes the transport accepts in one call.
     pub(crate) window: u32,
+    /// The call of the transport that fails, from 1, if one does.
+    pub(crate) fail_at: Option<u32>,
     /// The chunks of each burst.
     pub(crate) bursts: Sequence<Sequence<ByteString>>,
+    /// After how many bursts the channel is aborted, if it is.
+    pub(crate) abort_after: Option<u32>,
 }
 
 /// What the members of a group of executors say.

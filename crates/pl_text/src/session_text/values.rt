@@ -4,7 +4,7 @@ ghost use Rattle.std.specs.Prelude.{◌≡◌, option_map, map, IfOk, ◌≤◌}
 ghost use Rattle.serde_json.specs.View.{view};
 ghost use Rattle.serde_json.specs.Find.{get};
 ghost use Rattle.pl_text.specs.declared.session_text.fault.SessionFault.TheVariants.{Missing};
-ghost use Rattle.pl_text.specs.SessionReading.{Answers, known, seen, whole, whole_in, text, an_object, present, optional, absent, elements_of, each, array_in, array_of};
+ghost use Rattle.pl_text.specs.SessionReading.{Answers, known, seen, whole, whole_in, text, an_object, present, optional, elements_of, each, array_in, array_of};
 
 use crate::session_text::fault::SessionFault;
 use crate::session_text::names::Name;
@@ -95,16 +95,6 @@ pub(crate) fn optional<T: FromData>(
     match present(object, name) {
         Some(value) => Ok(Some(T::from_data(alloc, value)?)),
         None => Ok(None),
-    }
-}
-
-/// Refuses a member that is there.
-pub(crate) fn absent(object: &Value, name: &str, fault: SessionFault) -> Result<(), SessionFault>
-    ensures { result ≡ absent name.now fault (view object.now) }
-{
-    match present(object, name) {
-        Some(_) => Err(fault),
-        None => Ok(()),
     }
 }
 

@@ -4,8 +4,8 @@ ghost use Rattle.std.specs.Prelude.{◌≡◌, ◌⊎◌, ◌≤◌, ◌<◌, Li
 ghost use Rattle.std.specs.Io.KnownBytes.{Consumes, IsAtEnd};
 ghost use Rattle.pl_tool.specs.declared.program.failure.Failure.TheVariants as failure;
 ghost use Rattle.pl_world.specs.Sessions.{plan_of};
+ghost use Rattle.pl_world.specs.Worlds.{IsUncalled};
 ghost use Rattle.pl_text.specs.SessionReading.{Answers, seen};
-ghost use Rattle.pl_text.specs.SessionWorlds.{IsSteady};
 ghost use Rattle.pl_tool.specs.ProgramOutcomes.{RefusesInput, TakesAtMost, TakesSession, session_of_bytes};
 
 use super::failure::Failure;
@@ -75,7 +75,7 @@ fn read_input<R: Read>(reader: &mut R, input: &mut Vec<u8>) -> Result<(), Failur
 /// The session that bytes mean.
 fn session_in(alloc: Global, input: &[u8]) -> Result<Session, SessionFault>
     ensures means { Answers (seen (plan_of ⟦<Handler as Stage>⟧.meaning ⟦<MemoryTransport as Transport>⟧.state) result) (session_of_bytes input.now) }
-    ensures steady { IfOk result (λ session. All IsSteady session.world.channels) }
+    ensures uncalled { IfOk result (λ session. All (λ c. IsUncalled (⟦<MemoryTransport as Transport>⟧.state c.transport)) session.world.channels) }
 {
     match str::from_utf8(input) {
         Ok(text) => read_session(alloc, text),
@@ -87,7 +87,7 @@ fn session_in(alloc: Global, input: &[u8]) -> Result<Session, SessionFault>
 /// Reads a session from the whole input.
 pub(crate) fn take_session<R: Read>(alloc: Global, reader: &mut R) -> Result<Session, Failure>
     ensures ok { IfOk result (λ session. TakesSession (R.remaining reader.old) (R.remaining reader.new) (plan_of ⟦<Handler as Stage>⟧.meaning ⟦<MemoryTransport as Transport>⟧.state session)) }
-    ensures steady { IfOk result (λ session. All IsSteady session.world.channels) }
+    ensures uncalled { IfOk result (λ session. All (λ c. IsUncalled (⟦<MemoryTransport as Transport>⟧.state c.transport)) session.world.channels) }
     ensures at_most { TakesAtMost MAX_INPUT (R.remaining reader.old) (R.remaining reader.new) }
     ensures err { IfErr result (λ e. RefusesInput e (R.remaining reader.old) (R.remaining reader.new)) }
 {

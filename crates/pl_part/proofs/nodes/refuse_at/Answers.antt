@@ -4,6 +4,7 @@ use Rattle.pl_event.specs.declared.outcomes.Cause.TheVariants.{Refused}
 use Rattle.pl_part.specs.ContextHolds.{HoldsWith}
 use Rattle.pl_part.proofs.ContextSteps.{context-failed}
 use Rattle.pl_part.proofs.ContextPlaces.{fail-places}
+use Rattle.pl_part.proofs.ContextCounts.{failed-more}
 use Rattle.pl_part.proofs.nodes.refuse_at.Goals as goal
 
 pub returns-in-Data-clause-holds : goal.returns-in-Data-clause-holds
@@ -23,3 +24,8 @@ pub returns-in-Data-clause-placed : goal.returns-in-Data-clause-placed
 returns-in-Data-clause-placed g c = λ lanes within places.
     fail-places g.S.Stage.meaning g.S.Stage.stands_after g.S.Stage.is_spent c.args.context.now lanes within c.args.work.now c.fail.new.outputs places
     Refused c.fail.new.self c.fail.ensures.open c.fail.ensures.over
+
+pub returns-in-Data-clause-more : goal.returns-in-Data-clause-more
+returns-in-Data-clause-more g c =
+    failed-more g.S.Stage.meaning g.S.Stage.stands_after g.S.Stage.is_spent c.args.context.now c.args.work.now c.fail.new.outputs c.fail.new.self
+    Refused c.fail.ensures.open c.fail.ensures.over

@@ -3,6 +3,7 @@ use Rattle.pl_event.specs.Meaning.{Meaning}
 use Rattle.pl_part.specs.ContextHolds.{HoldsWith}
 use Rattle.pl_part.proofs.ContextSteps.{next-limit, next-few, context-taken}
 use Rattle.pl_part.proofs.ContextPlaces.{context-places}
+use Rattle.pl_part.proofs.ContextCounts.{context-more}
 use Rattle.pl_part.proofs.nodes.take_at.Goals as goal
 
 pub take-requires-clause-limit : goal.take-requires-clause-limit
@@ -42,3 +43,12 @@ returns-clause-placed g c = λ lanes within places.
     let h = c.requires.holds.1 in
     context-places g.S.Stage.meaning g.S.Stage.stands_after g.S.Stage.is_spent context lanes within c.args.work.now c.take.new.outputs places c.args.envelope c.take.new.self c.take.result
     (λ live. (take context.taken h.events, (h.holds.stood live).stands)) t.open t.ended t.flags t.dropped
+
+pub returns-clause-more : goal.returns-clause-more
+returns-clause-more g c =
+    let t = c.take.ensures in
+    let context = c.args.context.now in
+    let h = c.requires.holds.1 in
+    context-more g.S.Stage.meaning g.S.Stage.stands_after g.S.Stage.is_spent context c.args.work.now c.take.new.outputs c.take.new.self c.args.envelope c.take.result
+    (λ live. (take context.taken h.events, (h.holds.stood live).stands)) h.holds.wired.flags_kind
+    (record { meant = t.meaning; open_item = t.open; ended = t.ended; flags = t.flags; dropped = t.dropped })

@@ -1,7 +1,10 @@
 use Rattle.std.proofs.Common.{◌≡◌, ℕ, ◌+◌, [], ◌∷◌, ◌++◌, List, Bool, Some, Option, length, map, replicate, true, slice_get, sym, ap, subst, ◌∙◌, arith, append_assoc, length-append}
 use Rattle.std.specs.Prelude.{is_some}
+use Rattle.std.specs.List.{sum_by}
 use Rattle.std.proofs.lemmas.List.{map-append}
+use Rattle.std.proofs.lemmas.List.Sums.{sum_by_push}
 use Rattle.pl_context.specs.ContextViews.{ContextView, IsHop}
+use Rattle.pl_part.specs.Counts.{context_done, slot_done}
 use Rattle.pl_part.specs.NewParts.{AreNew, IsNewAt, IsPlannedAt}
 use Rattle.pl_part.proofs.NewContexts.{new-at, new-push, slice_get-behind, replicate-push}
 use Rattle.pl_part.proofs.starting.add_contexts.Goals as goal
@@ -58,4 +61,8 @@ loop-stage-preserved g c =
           subst (λ (l : List (Option (ContextView g.row.S.Denot))). AreNew world g.S.Stage.meaning c.args.channel c.args.k turn g.S.Stage.stands_after l) (sym added)
           (new-push world g.S.Stage.meaning c.args.channel c.args.k turn g.S.Stage.stands_after slots context (before.new world turn planned are)
           (subst (λ (h : ℕ). IsNewAt world g.S.Stage.meaning c.args.channel c.args.k turn g.S.Stage.stands_after h context) length-is is));
+      done =
+          let none = ap (λ (x : ContextView g.row.S.Denot). context_done x) c.new.ensures.context in
+          let more = ap (λ (l : List (Option (ContextView g.row.S.Denot))). sum_by (λ slot. slot_done slot) l) added ∙ sum_by_push (λ slot. slot_done slot) slots (Some context) in
+          omega (arith, none, more, before.done);
     }

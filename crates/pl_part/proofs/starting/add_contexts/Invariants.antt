@@ -1,8 +1,10 @@
 use Rattle.std.proofs.Common.{◌≡◌, ℕ, ◌+◌, ◌++◌, length, map, replicate, true}
 use Rattle.std.specs.Prelude.{is_some}
+use Rattle.std.specs.List.{sum_by}
 use Rattle.std.specs.Vec.Iter.{into_iter_items}
 use Rattle.pl_event.specs.Worlds.{World}
 use Rattle.pl_part.specs.NewParts.{ArePlanned, AreNew}
+use Rattle.pl_part.specs.Counts.{slot_done}
 use Rattle.pl_part.proofs.starting.add_contexts.Given as goal
 
 -- the stages so far stand at their hops
@@ -14,4 +16,5 @@ invariant-loop-stage g l = record {
   new : (world : World) (turn : ℕ) → ArePlanned world g.S.Stage.meaning l.fn.channel l.fn.k turn (length l.fn.contexts.items) l.fn.stages.items
       → AreNew world g.S.Stage.meaning l.fn.channel l.fn.k turn g.S.Stage.stands_after l.fn.contexts.items
       → AreNew world g.S.Stage.meaning l.fn.channel l.fn.k turn g.S.Stage.stands_after l.contexts.items;
+  done : sum_by (λ slot. slot_done slot) l.contexts.items ≡ sum_by (λ slot. slot_done slot) l.fn.contexts.items;
 }

@@ -8,20 +8,22 @@ take-took-requires c =
     let r = c.requires.ready in
     let p = c.args.part.now in
     let x = c.in-Some.envelope in
-    record { next = (sample_world, front-next r.0 p c.args.work.now c.next.new.self x c.in-Some.ensures.front c.in-Some.ensures.stopped r.1 (sym (c.enters.ensures p r.1.sample) ∙ c.if-enters.true)) }
+    record { next = (sample_world, front-next p c.args.work.now c.next.new.self x c.in-Some.ensures.front c.in-Some.ensures.stopped r (sym (c.enters.ensures p r.sample) ∙ c.if-enters.true)) }
 
 pub returns-in_ok-push : goal.returns-in_ok-push
 returns-in_ok-push c =
+    let r = c.requires.ready in
     let p = c.args.part.now in
     let x = c.in-Some.envelope in
     let t = c.take-took.ensures in
     record {
-      ready = λ n r. ready-front n p c.args.work.now c.next.new.self x c.in-Some.ensures.front c.in-Some.ensures.stopped r (sym (c.enters.ensures p r.sample) ∙ c.if-enters.true)
+      ready = ready-front p c.args.work.now c.next.new.self x c.in-Some.ensures.front c.in-Some.ensures.stopped r (sym (c.enters.ensures p r.sample) ∙ c.if-enters.true)
           c.take-took.new.self c.take-took.new.work t.same t.taken t.writes t.holds t.made t.placed;
     }
 
 pub returns-in_ok-push-2 : goal.returns-in_ok-push-2
 returns-in_ok-push-2 c =
+    let r = c.requires.ready in
     let p = c.args.part.now in
     let x = c.in-Some.envelope in
-    record { ready = λ n r. ready-gone n p c.args.work.now c.next.new.self x c.in-Some.ensures.front c.in-Some.ensures.stopped r (sym (c.enters.ensures p r.sample) ∙ c.if-enters.false) }
+    record { ready = ready-gone p c.args.work.now c.next.new.self x c.in-Some.ensures.front c.in-Some.ensures.stopped r (sym (c.enters.ensures p r.sample) ∙ c.if-enters.false) }

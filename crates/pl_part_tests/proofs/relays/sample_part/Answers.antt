@@ -1,7 +1,7 @@
 use Rattle.std.proofs.Common.{length, ap, List}
 use Rattle.pl_part_tests.specs.declared.relays.Relay.{Relay}
 use Rattle.pl_part_tests.specs.SampleParts.{sample_world}
-use Rattle.pl_part_tests.proofs.SampleLemmas.{sample-planned, made-sample, made-ready}
+use Rattle.pl_part_tests.proofs.SampleLemmas.{IsFresh, sample-planned, made-sample, made-ready}
 use Rattle.pl_part_tests.proofs.relays.sample_part.Goals as goal
 
 pub whole-requires-clause-planned : goal.whole-requires-clause-planned
@@ -16,7 +16,7 @@ returns-clause-sample c =
     let i = c.in_ok-inbound.inbound.items in
     let o = c.in_ok-outbound.outbound.items in
     let t = c.whole.ensures in
-    made-sample c.whole.result i o (ap (λ (l : List Relay). length l) c.in_ok-inbound.ensures.items) t.tail c.in_ok-executors.executors.items (ap (λ (l : List Relay). length l) c.in_ok-outbound.ensures.items)
+    made-sample c.whole.result i o (ap (λ (l : List Relay). length l) c.in_ok-inbound.ensures.items) t.tail c.new-head.result t.head c.in_ok-executors.executors.items (ap (λ (l : List Relay). length l) c.in_ok-outbound.ensures.items)
     c.in_ok-executors.ensures.items t.place t.filled
 
 pub returns-clause-ready : goal.returns-clause-ready
@@ -24,6 +24,9 @@ returns-clause-ready c =
     let i = c.in_ok-inbound.inbound.items in
     let o = c.in_ok-outbound.outbound.items in
     let t = c.whole.ensures in
-    made-ready c.whole.result i o (ap (λ (l : List Relay). length l) c.in_ok-inbound.ensures.items) t.tail
+    let made = c.new-head.ensures in
+    made-ready c.whole.result i o (ap (λ (l : List Relay). length l) c.in_ok-inbound.ensures.items) t.tail c.new-head.result t.head
+    c.in_ok-plan.plan c.in_ok-plan.ensures
+    (record { after = made.stands; reads = made.reads; entrance = made.entrance; place = made.place; flags = made.flags; taken = made.taken; standing = made.standing; few = made.few })
     (sample-planned i o _ _ _ c.in_ok-inbound.ensures.items c.in_ok-outbound.ensures.items c.new_relay.ensures c.new_relay-2.ensures c.new_relay-3.ensures)
     (returns-clause-sample c) t.new t.holds

@@ -1,16 +1,18 @@
-use Rattle.pl_replay.specs.NetStand.{lanes_between}
-use Rattle.pl_replay.proofs.Runs.{accounted_run}
-use Rattle.pl_replay.proofs.Kept.{accounted}
-use Rattle.pl_replay.proofs.InFlightLemmas.{in_order}
-use Rattle.pl_replay.proofs.MadeOfTaken.{makes_of_taken}
+use Rattle.pl_channel.specs.Lanes.{lanes_of}
+use Rattle.pl_replay.specs.Channels.{channels_view}
 use Rattle.pl_replay.proofs.account_laws.account_law.Goals as goal
 
-pub returns-clause-run : goal.returns-clause-run
-returns-clause-run g c = λ plan moves end ok reaches. accounted_run plan ok moves end reaches
-
 pub returns-clause-order : goal.returns-clause-order
-returns-clause-order g c = λ plan net s lane p st here within.
-    in_order plan st.core.ruled s (accounted plan s st.core.accounted) net.core.executors.items st.core.holds.executor_count (lanes_between plan) st.core.holds.executors lane p here within
+returns-clause-order g c = λ plan backlogs net n l w. c.account_law.ensures.order (lanes_of plan) (channels_view g.S.Stage.meaning net.nodes.parts.items) 0 net.executors.items backlogs net.work n.stands.runs l w
 
-pub returns-clause-made : goal.returns-clause-made
-returns-clause-made g c = λ executors p s planned. makes_of_taken executors p s planned
+pub returns-clause-all : goal.returns-clause-all
+returns-clause-all g c = λ plan backlogs net n l w a b. c.account_law.ensures.all (lanes_of plan) (channels_view g.S.Stage.meaning net.nodes.parts.items) 0 net.executors.items backlogs net.work n.stands.runs n.rests l w a b
+
+pub returns-clause-elsewhere : goal.returns-clause-elsewhere
+returns-clause-elsewhere g c = λ plan backlogs net n y l. c.account_law.ensures.elsewhere (lanes_of plan) (channels_view g.S.Stage.meaning net.nodes.parts.items) 0 net.executors.items backlogs net.work n.stands.runs y l
+
+pub returns-clause-numbers : goal.returns-clause-numbers
+returns-clause-numbers g c = λ backlogs net l. c.account_law.ensures.order_of_numbers (channels_view g.S.Stage.meaning net.nodes.parts.items) net.executors.items backlogs l
+
+pub returns-clause-direct : goal.returns-clause-direct
+returns-clause-direct g c = λ plan backlogs net n l w same. c.account_law.ensures.direct (lanes_of plan) (channels_view g.S.Stage.meaning net.nodes.parts.items) 0 net.executors.items backlogs net.work n.stands.runs n.rests l w same

@@ -1,4 +1,4 @@
-use Rattle.std.proofs.Common.{◌≡◌, [], ◌∷◌, ◌++◌, Some, sym, subst, rules}
+use Rattle.std.proofs.Common.{◌≡◌, [], ◌∷◌, ◌++◌, Some, None, sym, subst, rules}
 use Rattle.std.specs.Prelude.{All}
 use Rattle.std.proofs.lemmas.List.Elements.{All-nil, All-push}
 use Rattle.pl_head.specs.Transports.{MemoryTransportView}
@@ -18,4 +18,4 @@ loop-preserved c =
     let made = c.new.result in
     let pushed : c.push.new.self ≡ c.loop.transports ++ made ∷ [] = search rules in
     subst (All Uncalled) (sym pushed)
-    (All-push Uncalled c.loop.transports made c.loop.invariant (is_uncalled (state-value.it made) (Some c.args.window) c.new.ensures.state))
+    (All-push Uncalled c.loop.transports made c.loop.invariant (is_uncalled (state-value.it made) (Some c.args.window) None c.new.ensures.state))

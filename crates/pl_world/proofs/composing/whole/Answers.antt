@@ -43,7 +43,7 @@ returns-clause-whole g c =
     let outbound : map meaning c.into_chains-inbound.result.1.items ≡ p.outbound = ap (map meaning) c.into_chains-inbound.ensures.outbound in
     let none : list_any (λ (m : Meaning). is_turn m.direction) before ≡ false =
     list_any-map (λ (m : Meaning). is_turn m.direction) meaning parted.before.items ∙ c.in_ok-before.ensures.before in
-    let at_turn : c.in_ok-at_turn.at_turn.items ≡ through before input = c.in_ok-at_turn.ensures ∙ ap (through before) c.in_ok-input.ensures in
+    let at_turn : c.in_ok-at_turn.at_turn.items ≡ through before input = c.in_ok-at_turn.ensures ∙ ap (through before) c.in_ok-events.ensures in
     let up : c.in_ok-made.made.up.items ≡ up_of turn (through before input) = c.in_ok-made.ensures.up ∙ ap (up_of turn) at_turn in
     let down : c.in_ok-made.made.down.items ≡ down_of turn (through before input) = c.in_ok-made.ensures.down ∙ ap (down_of turn) at_turn in
     let tail : c.in_ok-at_tail.at_tail.items ≡ tail_of p =

@@ -1,16 +1,19 @@
 use Rattle.std.proofs.Common.{◌≡◌, ℕ, ◌+◌, List, reverse, sym, ap, subst, ◌∙◌}
 use Rattle.pl_context.specs.declared.ports.Port.{Port}
 use Rattle.pl_head.specs.InputStand.{InputView, InputStands, input_after_step, left_after}
-use Rattle.pl_head.proofs.ReadSteps.{stands_after}
+use Rattle.pl_head.proofs.ReadSteps.{stands_after, items_of_step}
 use Rattle.pl_head.proofs.inputs.Input.put_step.Goals as goal
 
 pub returns-clause-stands : goal.returns-clause-stands
-returns-clause-stands c = λ bursts reads s.
+returns-clause-stands c = λ p reads failed s.
     let inside = c.self.inside in
     let steps = inside.steps + 1 in
     let rest = left_after inside.steps (reverse inside.left.items) in
-    let after : input_after_step c.args.self.now ≡ record { port = c.put_next.new.port; left = reverse c.put_next.new.left.items; steps = steps } =
+    let after : input_after_step c.args.self.now ≡ record { port = c.put_next.new.port; left = reverse c.put_next.new.left.items; steps = steps; aborts = inside.aborts } =
     ap input_after_step (sym c.self.view_is)
-    ∙ ap (λ (p : Port). record { port = p; left = rest; steps = steps }) (sym c.put_next.ensures.port)
-    ∙ ap (λ (l : List (List (List ℕ))). record { port = c.put_next.new.port; left = l; steps = steps }) (sym c.put_next.ensures.left) in
-    subst (λ (r : InputView). InputStands bursts (reads + 1) r) after (stands_after bursts reads c.args.self.now s c.requires.left)
+    ∙ ap (λ (q : Port). record { port = q; left = rest; steps = steps; aborts = inside.aborts }) (sym c.put_next.ensures.port)
+    ∙ ap (λ (l : List (List (List ℕ))). record { port = c.put_next.new.port; left = l; steps = steps; aborts = inside.aborts }) (sym c.put_next.ensures.left) in
+    subst (λ (r : InputView). InputStands p (reads + 1) failed r) after (stands_after p reads failed c.args.self.now s c.requires.left c.requires.no_abort)
+
+pub returns-clause-items : goal.returns-clause-items
+returns-clause-items c = λ p reads failed s. items_of_step p reads failed c.args.self.now s c.requires.left

@@ -4,6 +4,9 @@ use Rattle.pl_net.specs.Cores.{core_view}
 use Rattle.pl_net.proofs.CoreSteps.{give-stands, rest-stands}
 use Rattle.pl_net.proofs.cores.Core.write.Goals as goal
 
+pub home-home-requires-clause-stands : goal.home-home-requires-clause-stands
+home-home-requires-clause-stands g c = let w = c.requires.stands in (w.0, w.3.hold)
+
 pub work_off-requires-clause-stands : goal.work_off-requires-clause-stands
 work_off-requires-clause-stands g c =
     let w = c.requires.stands in

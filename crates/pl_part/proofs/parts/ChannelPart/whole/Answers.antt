@@ -1,79 +1,25 @@
-use Rattle.std.proofs.Common.{◌≡◌, ◌+◌, ◌<◌, ◌^◌, ℕ, [], ◌∷◌, List, Option, None, Some, length, refl, ap, sym, subst, ◌∙◌, arith, length-append}
-use Rattle.pl_event.specs.declared.events.Event.{Event}
-use Rattle.pl_event.specs.Hops.{data_lane}
-use Rattle.pl_event.specs.Worlds.{content_of}
-use Rattle.pl_context.specs.ContextViews.{ContextView, IsHop}
-use Rattle.pl_context.specs.TailViews.{TailView}
-use Rattle.pl_part.specs.TailHolds.{TailHolds}
-use Rattle.pl_part.specs.NewParts.{ArePlanned, AreNew}
+use Rattle.std.proofs.Common.{◌≡◌, length, ap, sym, subst, ◌∙◌, arith}
+use Rattle.pl_head.specs.HeadStand.{HeadView}
+use Rattle.pl_part.specs.HeadHolds.{HeadHolds}
 use Rattle.pl_part.proofs.EventLists.{some-equal}
-use Rattle.pl_part.proofs.NewContexts.{none-new, none-push}
-use Rattle.pl_part.proofs.TailSteps.{new-holds}
+use Rattle.pl_part.proofs.HeadMoves.{head-few}
+use Rattle.pl_part.proofs.PartSteps.{filled-length}
 use Rattle.pl_part.proofs.parts.ChannelPart.whole.Goals as goal
 
-pub add_contexts-requires-clause-hops : goal.add_contexts-requires-clause-hops
-add_contexts-requires-clause-hops g c = λ i stage e.
-    let none = ap (λ (l : List (Option (ContextView g.row.S.Denot))). length l) c.new-contexts.ensures.items in
-    let first : 0 + i ≡ length c.new-contexts.result.items + i = omega (arith, none) in
-    let k : length c.args.inbound.items ≡ c.len-k.result = omega (arith, c.len-k.ensures, c.args.inbound.ok.0) in
-    subst (λ (y : ℕ × ℕ). IsHop (g.S.Stage.meaning stage).direction y.0 y.1) (λ j. (first j, k j)) (c.requires.planned.1.planned_inbound i stage e).at
-
-pub add_contexts-requires-2-clause-few : goal.add_contexts-requires-2-clause-few
-add_contexts-requires-2-clause-few g c =
-    let none = ap (λ (l : List (Option (ContextView g.row.S.Denot))). length l) c.new-contexts.ensures.items in
-    let more = ap (λ (l : List (Option (ContextView g.row.S.Denot))). length l) c.in_ok-push.ensures.items in
-    let sum = length-append c.add_contexts.new.contexts.items (None ∷ []) in
-    omega (arith, none, more, sum, c.in_ok-add_contexts.ensures.count, c.requires.few)
-
-pub add_contexts-requires-2-clause-hops : goal.add_contexts-requires-2-clause-hops
-add_contexts-requires-2-clause-hops g c = λ i stage e.
-    let none = ap (λ (l : List (Option (ContextView g.row.S.Denot))). length l) c.new-contexts.ensures.items in
-    let more = ap (λ (l : List (Option (ContextView g.row.S.Denot))). length l) c.in_ok-push.ensures.items in
-    let sum = length-append c.add_contexts.new.contexts.items (None ∷ []) in
-    let first : length c.args.inbound.items + 1 + i ≡ length c.push.new.self.items + i = omega (arith, none, more, sum, c.in_ok-add_contexts.ensures.count) in
-    let k : length c.args.inbound.items ≡ c.len-k.result = omega (arith, c.len-k.ensures, c.args.inbound.ok.0) in
-    subst (λ (y : ℕ × ℕ). IsHop (g.S.Stage.meaning stage).direction y.0 y.1) (λ j. (first j, k j)) (c.requires.planned.1.planned_outbound i stage e).at
-
-pub invariant_of-result : goal.invariant_of-result
-invariant_of-result g c =
-    let none = ap (λ (l : List (Option (ContextView g.row.S.Denot))). length l) c.new-contexts.ensures.items in
-    let more = ap (λ (l : List (Option (ContextView g.row.S.Denot))). length l) c.in_ok-push.ensures.items in
-    let sum = length-append c.add_contexts.new.contexts.items (None ∷ []) in
-    let k : length c.args.inbound.items ≡ c.len-k.result = omega (arith, c.len-k.ensures, c.args.inbound.ok.0) in
-    record {
-      hops_are = omega (arith, none, more, sum, c.in_ok-add_contexts.ensures.count, c.in_ok-add_contexts-2.ensures.count, c.requires.hops);
-      few = omega (arith, none, more, sum, c.in_ok-add_contexts.ensures.count, c.in_ok-add_contexts-2.ensures.count, c.requires.few);
-      within = omega (arith, none, more, sum, k, c.in_ok-add_contexts.ensures.count, c.in_ok-add_contexts-2.ensures.count);
-      turned = omega (arith, k, c.requires.turn);
-    }
-
-pub returns-clause-new : goal.returns-clause-new
-returns-clause-new g c = λ world planned.
-    let meaning = g.S.Stage.meaning in
-    let stands = g.S.Stage.stands_after in
-    let channel = c.args.channel in
-    let turn = c.args.turn in
-    let none = ap (λ (l : List (Option (ContextView g.row.S.Denot))). length l) c.new-contexts.ensures.items in
-    let more = ap (λ (l : List (Option (ContextView g.row.S.Denot))). length l) c.in_ok-push.ensures.items in
-    let sum = length-append c.add_contexts.new.contexts.items (None ∷ []) in
-    let k : length c.args.inbound.items ≡ c.len-k.result = omega (arith, c.len-k.ensures, c.args.inbound.ok.0) in
-    let zero : 0 ≡ length c.new-contexts.result.items = sym none in
-    let first : length c.args.inbound.items + 1 ≡ length c.push.new.self.items = omega (arith, none, more, sum, c.in_ok-add_contexts.ensures.count) in
-    let inbound = subst (λ (y : ℕ × ℕ). ArePlanned world meaning channel y.1 turn y.0 c.args.inbound.items) (λ j. (zero j, k j)) planned.planned_inbound in
-    let outbound = subst (λ (y : ℕ × ℕ). ArePlanned world meaning channel y.1 turn y.0 c.args.outbound.items) (λ j. (first j, k j)) planned.planned_outbound in
-    let one = c.in_ok-add_contexts.ensures.new world turn inbound (none-new world meaning channel c.len-k.result turn stands c.new-contexts.result.items c.new-contexts.ensures.items) in
-    let two = subst (λ (l : List (Option (ContextView g.row.S.Denot))). AreNew world meaning channel c.len-k.result turn stands l) (sym c.in_ok-push.ensures.items)
-    (none-push world meaning channel c.len-k.result turn stands c.add_contexts.new.contexts.items one) in
-    subst (λ (n : ℕ). AreNew world meaning channel n turn stands c.add_contexts-2.new.contexts.items) (sym k) (c.in_ok-add_contexts-2.ensures.new world turn outbound two)
-
 pub returns-clause-holds : goal.returns-clause-holds
-returns-clause-holds g c = λ world planned.
-    let k : length c.args.inbound.items ≡ c.len-k.result = omega (arith, c.len-k.ensures, c.args.inbound.ok.0) in
-    let are = subst (λ (n : ℕ). AreNew world g.S.Stage.meaning c.args.channel n c.args.turn g.S.Stage.stands_after c.add_contexts-2.new.contexts.items) k (returns-clause-new g c world planned) in
-    let tail = subst (λ (n : ℕ). (events : List Event) × (content_of world (data_lane c.args.channel n) ≡ Some events) × (length events + 1 < 2 ^ 31)) k planned.planned_tail in
+returns-clause-holds g c = λ world planned held.
+    let t = c.in_ok-path.ensures in
+    let size = filled-length c.in_ok-path.path.contexts (length c.args.inbound.items) (length c.args.outbound.items) t.filled in
+    let executors = ap length t.place.1 in
     record {
-      contexts = λ hop x found. let n = are hop x found in (n.holds, n.at);
-      tail = λ t found.
-          subst (λ (y : TailView). TailHolds world y × (y.channel ≡ c.args.channel) × (y.hop ≡ c.len-k.result)) (sym c.new.ensures ∙ some-equal c.new.result t found)
-          (record { events = tail.0; holds = new-holds world c.args.channel c.len-k.result tail.0 tail.1 tail.2 }, refl, refl);
+      path = t.holds world planned;
+      head = λ x found.
+          subst (λ (y : HeadView _). HeadHolds g.T.Transport.state world y × (y.channel ≡ c.in_ok-path.path.channel) × (y.hop ≡ length c.in_ok-path.path.contexts)) (some-equal c.args.head x found)
+          (held, c.requires.last.0 ∙ sym t.place.0, c.requires.last.1 ∙ sym size);
+      hops = omega (arith, executors, c.requires.hops, size);
     }
+
+pub returns-clause-few : goal.returns-clause-few
+returns-clause-few g c = λ world held.
+    let few = head-few g.T.Transport.state world held.plan held.events c.args.head held.holds in
+    omega (arith, few, c.in_ok-path.ensures.done)

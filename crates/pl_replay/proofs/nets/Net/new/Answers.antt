@@ -1,47 +1,68 @@
-use Rattle.std.proofs.Common.{◌+◌, ◌<◌, ◌^◌, ◌∙◌, List, length, map, refl, sym, ap, subst}
-use Rattle.std.specs.List.{All}
-use Rattle.pl_event.specs.Inputs.{recorded_input}
-use Rattle.pl_world.specs.Plans.{Plan, channel_planned, planned}
-use Rattle.pl_replay.specs.States.{start}
-use Rattle.pl_world.specs.Worlds.{IsUncalled}
+use Rattle.std.proofs.Common.{◌<◌, ◌^◌, ℕ, List, length, slice_get, refl, ap, sym, ◌∙◌, subst}
+use Rattle.std.specs.Prelude.{All}
+use Rattle.pl_context.specs.Stops.{HasPlaces, no_stops}
+use Rattle.pl_net.specs.Nets.{no_backlogs}
+use Rattle.pl_part.specs.Parts.{PartView}
+use Rattle.pl_channel.specs.Lanes.{lanes_of}
 use Rattle.pl_world.specs.declared.session.Recorded.{Recorded}
-use Rattle.pl_replay.specs.declared.nets.Core.{Core}
-use Rattle.pl_replay.proofs.NewNets.{new_starts, inputs_few}
+use Rattle.pl_world.specs.Plans.{planned, channel_planned}
+use Rattle.pl_replay.specs.Placed.{HasExecutors, AreIdle, all_lanes}
+use Rattle.pl_replay.specs.Starts.{ArePlaced, NetBegins, transports_of}
+use Rattle.pl_replay.proofs.LanePlaces.{places-all}
+use Rattle.pl_channel.proofs.WorldChannels.{channel-small}
+use Rattle.pl_world.specs.PlanRules.{IsSmallChannel}
+use Rattle.pl_replay.specs.declared.channels.Channels.{Channels}
+use Rattle.pl_replay.proofs.NetStarts.{All-from-at, lanes-few, all-have-executors, starts, world-begins}
 use Rattle.pl_replay.proofs.nets.Net.new.Goals as goal
 
-pub placed-requires-clause-few : goal.placed-requires-clause-few
-placed-requires-clause-few g c =
-    let world = c.into_channels.ensures.is_world in
-    subst (λ (l : List (Recorded g.row.S.Denot g.row.T.Denot)). All (λ r. length (recorded_input r.bursts) + 1 < 2 ^ 31) l) (sym (c.into_vec.ensures ∙ c.into_channels.ensures.channels))
-    (inputs_few g.S.Stage.meaning g.T.Transport.state c.args.capacity c.args.world.executors c.args.world.channels (world.small c.args.capacity))
+pub placed-requires-clause-small : goal.placed-requires-clause-small
+placed-requires-clause-small g c =
+    let same = c.into_vec.ensures ∙ c.into_channels.ensures.channels in
+    All-from-at (λ (r : Recorded g.row.S.Denot g.row.T.Denot). IsSmallChannel (channel_planned g.S.Stage.meaning g.T.Transport.state r)) c.into_vec.result.items
+    (λ i r at. channel-small g.S.Stage.meaning g.T.Transport.state c.args.world c.into_channels.ensures.is_world i r (sym (ap (λ (l : List (Recorded g.row.S.Denot g.row.T.Denot)). slice_get l i) same) ∙ at))
 
-pub placed-requires-clause-uncalled : goal.placed-requires-clause-uncalled
-placed-requires-clause-uncalled g c =
-    subst (λ (l : List (Recorded g.row.S.Denot g.row.T.Denot)). All (λ r. IsUncalled (g.T.Transport.state r.transport)) l) (sym (c.into_vec.ensures ∙ c.into_channels.ensures.channels))
-    c.into_channels.ensures.is_world.transports
+pub idle_executors-requires-clause-few : goal.idle_executors-requires-clause-few
+idle_executors-requires-clause-few g c =
+    let placed = subst (λ (rs : List (Recorded g.row.S.Denot g.row.T.Denot)). ArePlaced g.S.Stage.meaning g.S.Stage.stands_after g.T.Transport.state rs c.in_ok-parts.parts.items) (c.into_vec.ensures ∙ c.into_channels.ensures.channels) c.in_ok-parts.ensures in
+    subst (λ (l : List (PartView g.row.S.Denot g.row.T.Denot)). length (all_lanes l) < 2 ^ 16) (sym c.as_slice.ensures.value)
+    (lanes-few g.S.Stage.meaning g.S.Stage.stands_after g.T.Transport.state (planned g.S.Stage.meaning g.T.Transport.state c.args.capacity c.args.world.executors c.args.world.channels) c.args.world.channels refl c.in_ok-parts.parts.items placed (c.into_channels.ensures.is_world.small c.args.capacity))
+
+pub idle_executors-requires-clause-hops : goal.idle_executors-requires-clause-hops
+idle_executors-requires-clause-hops g c =
+    let placed = subst (λ (rs : List (Recorded g.row.S.Denot g.row.T.Denot)). ArePlaced g.S.Stage.meaning g.S.Stage.stands_after g.T.Transport.state rs c.in_ok-parts.parts.items) (c.into_vec.ensures ∙ c.into_channels.ensures.channels) c.in_ok-parts.ensures in
+    subst (λ (l : List (PartView g.row.S.Denot g.row.T.Denot)). All HasExecutors l) (sym c.as_slice.ensures.value)
+    (all-have-executors g.S.Stage.meaning g.S.Stage.stands_after g.T.Transport.state (planned g.S.Stage.meaning g.T.Transport.state c.args.capacity c.args.world.executors c.args.world.channels) c.args.world.channels refl c.in_ok-parts.parts.items placed)
+
+pub lane_count-lanes-requires : goal.lane_count-lanes-requires
+lane_count-lanes-requires g c =
+    let placed = subst (λ (rs : List (Recorded g.row.S.Denot g.row.T.Denot)). ArePlaced g.S.Stage.meaning g.S.Stage.stands_after g.T.Transport.state rs c.in_ok-parts.parts.items) (c.into_vec.ensures ∙ c.into_channels.ensures.channels) c.in_ok-parts.ensures in
+    subst (λ (l : List (PartView g.row.S.Denot g.row.T.Denot)). length (all_lanes l) < 2 ^ 16) (sym c.as_slice-2.ensures.value)
+    (lanes-few g.S.Stage.meaning g.S.Stage.stands_after g.T.Transport.state (planned g.S.Stage.meaning g.T.Transport.state c.args.capacity c.args.world.executors c.args.world.channels) c.args.world.channels refl c.in_ok-parts.parts.items placed (c.into_channels.ensures.is_world.small c.args.capacity))
+
+pub new-requires-clause-start : goal.new-requires-clause-start
+new-requires-clause-start g c =
+    let placed = subst (λ (rs : List (Recorded g.row.S.Denot g.row.T.Denot)). ArePlaced g.S.Stage.meaning g.S.Stage.stands_after g.T.Transport.state rs c.in_ok-parts.parts.items) (c.into_vec.ensures ∙ c.into_channels.ensures.channels) c.in_ok-parts.ensures in
+    let idle = subst (λ (l : List (PartView g.row.S.Denot g.row.T.Denot)). AreIdle l c.args.world.executors c.in_ok-executors.executors.items) c.as_slice.ensures.value
+    (subst (λ (n : ℕ). AreIdle c.as_slice.result.now n c.in_ok-executors.executors.items) c.executors-count.ensures c.in_ok-executors.ensures) in
+    let is = c.into_channels.ensures.is_world in
+    starts g.S.Stage.meaning g.S.Stage.stands_after g.T.Transport.state (planned g.S.Stage.meaning g.T.Transport.state c.args.capacity c.args.world.executors c.args.world.channels) c.args.world.channels refl c.in_ok-parts.parts.items placed (is.ruled c.args.capacity c.requires.capacity.0) is.channels c.in_ok-executors.executors.items idle
+
+pub new-requires-clause-places : goal.new-requires-clause-places
+new-requires-clause-places g c =
+    subst (λ (n : ℕ). HasPlaces (no_stops n) (all_lanes c.in_ok-parts.parts.items)) (ap (λ (l : List (PartView g.row.S.Denot g.row.T.Denot)). length (all_lanes l)) (sym c.as_slice-2.ensures.value) ∙ sym c.lane_count-lanes.ensures)
+    (places-all c.in_ok-parts.parts.items)
+
+net-begins : (g : _) (c : goal.In_ok-core g) → NetBegins g.S.Stage.meaning g.S.Stage.stands_after g.T.Transport.state (planned g.S.Stage.meaning g.T.Transport.state c.args.capacity c.args.world.executors c.args.world.channels) (transports_of c.args.world.channels) c.in_ok-core.core
+net-begins g c =
+    let placed = subst (λ (rs : List (Recorded g.row.S.Denot g.row.T.Denot)). ArePlaced g.S.Stage.meaning g.S.Stage.stands_after g.T.Transport.state rs c.in_ok-parts.parts.items) (c.into_vec.ensures ∙ c.into_channels.ensures.channels) c.in_ok-parts.ensures in
+    let idle = subst (λ (l : List (PartView g.row.S.Denot g.row.T.Denot)). AreIdle l c.args.world.executors c.in_ok-executors.executors.items) c.as_slice.ensures.value
+    (subst (λ (n : ℕ). AreIdle c.as_slice.result.now n c.in_ok-executors.executors.items) c.executors-count.ensures c.in_ok-executors.ensures) in
+    let made = c.in_ok-core.ensures in
+    world-begins g.S.Stage.meaning g.S.Stage.stands_after g.T.Transport.state c.args.world c.into_channels.ensures.is_world c.args.capacity c.requires.capacity.0 c.in_ok-parts.parts.items placed c.in_ok-executors.executors.items idle
+    c.in_ok-core.core (ap (λ (n : Channels g.row.S.Denot g.row.T.Denot). n.parts.items) made.nodes) made.executors made.capacity made.rests (λ s. made.stands (lanes_of (planned g.S.Stage.meaning g.T.Transport.state c.args.capacity c.args.world.executors c.args.world.channels)) 0 s)
 
 pub invariant_of-result : goal.invariant_of-result
-invariant_of-result g c = λ live.
-    let meaning = g.S.Stage.meaning in
-    let stands = g.S.Stage.stands_after in
-    let state = g.T.Transport.state in
-    let world = c.into_channels.ensures.is_world in
-    let plan : Plan = planned meaning state c.args.capacity c.args.world.executors c.args.world.channels in
-    let core : Core g.row.S.Denot g.row.T.Denot = record { capacity = c.args.capacity; channels = c.in_ok-channels.channels; executors = c.in_ok-executors.executors; work = c.in_ok-new.field-0 } in
-    let starts = new_starts meaning stands state plan (world.ruled c.args.capacity c.requires.capacity.0) (world.small c.args.capacity) core c.into_vec.result.items c.as_slice.result.now c.as_slice-2.result.now c.all_lanes-lanes.result refl
-    (ap (λ (l : List (Recorded g.row.S.Denot g.row.T.Denot)). map (channel_planned meaning state) l) (sym (c.into_vec.ensures ∙ c.into_channels.ensures.channels))) c.in_ok-channels.ensures.rest c.as_slice.ensures.value c.as_slice-2.ensures.value
-    (c.in_ok-executors.ensures.stand plan (sym c.executors-count.ensures)) c.in_ok-executors.ensures.added (c.all_lanes-lanes.ensures plan) c.in_ok-new.ensures.empty c.in_ok-new.ensures.places in
-    (plan, start plan, starts)
+invariant_of-result g c = ((planned g.S.Stage.meaning g.T.Transport.state c.args.capacity c.args.world.executors c.args.world.channels), no_backlogs, (net-begins g c).stands)
 
-pub returns-clause-starts : goal.returns-clause-starts
-returns-clause-starts g c =
-    let meaning = g.S.Stage.meaning in
-    let stands = g.S.Stage.stands_after in
-    let state = g.T.Transport.state in
-    let world = c.into_channels.ensures.is_world in
-    let plan : Plan = planned meaning state c.args.capacity c.args.world.executors c.args.world.channels in
-    let core : Core g.row.S.Denot g.row.T.Denot = record { capacity = c.args.capacity; channels = c.in_ok-channels.channels; executors = c.in_ok-executors.executors; work = c.in_ok-new.field-0 } in
-    let starts = new_starts meaning stands state plan (world.ruled c.args.capacity c.requires.capacity.0) (world.small c.args.capacity) core c.into_vec.result.items c.as_slice.result.now c.as_slice-2.result.now c.all_lanes-lanes.result refl
-    (ap (λ (l : List (Recorded g.row.S.Denot g.row.T.Denot)). map (channel_planned meaning state) l) (sym (c.into_vec.ensures ∙ c.into_channels.ensures.channels))) c.in_ok-channels.ensures.rest c.as_slice.ensures.value c.as_slice-2.ensures.value
-    (c.in_ok-executors.ensures.stand plan (sym c.executors-count.ensures)) c.in_ok-executors.ensures.added (c.all_lanes-lanes.ensures plan) c.in_ok-new.ensures.empty c.in_ok-new.ensures.places in
-    record { live = refl; core = starts }
+pub returns-clause-begins : goal.returns-clause-begins
+returns-clause-begins g c = net-begins g c

@@ -1,47 +1,10 @@
-use Rattle.std.proofs.Common.{List, ap, sym, subst}
-use Rattle.std.specs.List.{AllZip}
-use Rattle.pl_world.specs.declared.report.ChannelReport.{ChannelReport}
-use Rattle.pl_replay.specs.declared.nets.Core.{Core}
-use Rattle.pl_replay.specs.NetStand.{NetView, NetStands, CoreStands, lanes_between}
-use Rattle.pl_replay.specs.Replays.{IsTied}
-use Rattle.pl_replay.specs.States.{channel_at}
-use Rattle.pl_replay.proofs.Reported.{reported_kept, reported_tied}
-use Rattle.pl_replay.proofs.Kept.{accounted}
-use Rattle.pl_replay.proofs.InFlightLemmas.{in_order}
-use Rattle.pl_replay.proofs.CallSteps.{planned-at}
-use Rattle.pl_replay.proofs.MadeOfTaken.{makes_of_taken}
+use Rattle.std.proofs.Common.{List, sym, subst}
+use Rattle.pl_part.specs.Parts.{PartView}
+use Rattle.pl_replay.specs.Reported.{HaveEnds}
+use Rattle.pl_replay.proofs.NetEnds.{have-ends}
 use Rattle.pl_replay.proofs.nets.Net.report.Goals as goal
 
-pub returns-clause-stands : goal.returns-clause-stands
-returns-clause-stands g c =
-    let was = c.self.invariant c.if-self.false in
-    (was.0, was.1, subst (λ (net : NetView g.row.S.Denot g.row.T.Denot). NetStands g.S.Stage.meaning g.S.Stage.stands_after g.T.Transport.state was.0 was.1 net) c.self.view_is (record { live = c.if-self.false; core = was.2 }))
-
-pub returns-clause-report : goal.returns-clause-report
-returns-clause-report g c = λ plan s r.
-    let shown = sym (ap (λ (v : NetView g.row.S.Denot g.row.T.Denot). v.core) c.self.view_is) in
-    c.in_ok-channels.ensures plan s (subst (λ (core : Core g.row.S.Denot g.row.T.Denot). CoreStands g.S.Stage.meaning g.S.Stage.stands_after g.T.Transport.state plan s core) shown r.core)
-
 pub returns-clause-kept : goal.returns-clause-kept
-returns-clause-kept g c = λ plan s r.
-    let shown = sym (ap (λ (v : NetView g.row.S.Denot g.row.T.Denot). v.core) c.self.view_is) in
-    let here = subst (λ (core : Core g.row.S.Denot g.row.T.Denot). CoreStands g.S.Stage.meaning g.S.Stage.stands_after g.T.Transport.state plan s core) shown r.core in
-    reported_kept g.S.Stage.meaning g.S.Stage.stands_after g.T.Transport.state plan s c.self.inside.core here c.in_ok-channels.channels (c.in_ok-channels.ensures plan s here)
-
-pub returns-clause-order : goal.returns-clause-order
-returns-clause-order g c = λ plan s lane p st here within.
-    in_order plan st.core.ruled s (accounted plan s st.core.accounted) c.args.self.now.core.executors.items st.core.holds.executor_count (lanes_between plan) st.core.holds.executors lane p here within
-
-pub returns-clause-made : goal.returns-clause-made
-returns-clause-made g c = λ plan s channel p st here.
-    makes_of_taken plan.executors p (channel_at s channel) (planned-at plan st.core.ruled channel p here)
-
-pub returns-clause-tied : goal.returns-clause-tied
-returns-clause-tied g c =
-    let meaning = g.S.Stage.meaning in
-    let stands = g.S.Stage.stands_after in
-    let state = g.T.Transport.state in
-    let was = returns-clause-stands g c in
-    let is = returns-clause-report g c was.0 was.1 was.2 in
-    subst (λ (l : List ChannelReport). AllZip (IsTied state) c.args.self.now.core.channels.items l) (sym is)
-    (reported_tied meaning stands state was.0 was.1 c.args.self.now.core was.2.core)
+returns-clause-kept g c = λ plan backlogs n.
+    c.in_ok-channels.ensures.kept plan (subst (λ (l : List (PartView g.row.S.Denot g.row.T.Denot)). HaveEnds g.T.Transport.state plan l) (sym c.parts.ensures.items)
+    (have-ends g.S.Stage.meaning g.S.Stage.stands_after g.T.Transport.state plan backlogs c.args.self.now n))

@@ -1,13 +1,15 @@
-use Rattle.std.proofs.Common.{Some, sym, ap, subst, ◌∙◌}
+use Rattle.std.proofs.Common.{Some, length, sym, ap, subst, ◌∙◌}
+use Rattle.std.proofs.lemmas.Bool.{and_from}
 use Rattle.pl_stages.specs.declared.handlers.Handler.{Handler}
 use Rattle.pl_stages.specs.contracts.handlers.HandlerStage.TheImpl.{meaning-value, stands_after-value}
 use Rattle.pl_build.specs.Paths.{IsPath}
 use Rattle.pl_build.specs.Executors.{sizes_of}
 use Rattle.pl_build.specs.Refusals.{executor_count}
-use Rattle.pl_head.specs.Transports.{MemoryTransportView, TransportState}
+use Rattle.pl_head.specs.Transports.{MemoryTransportView}
 use Rattle.pl_head.specs.contracts.transports.MemoryTransportTransport.TheImpl.{state-value}
 use Rattle.pl_world.specs.declared.session.Recorded.{Recorded}
 use Rattle.pl_world.specs.Plans.{channel_planned}
+use Rattle.pl_world.specs.Limits.{fits, aborts_within}
 use Rattle.pl_world.specs.Worlds.{FitsWorld}
 use Rattle.pl_world.proofs.WorldLimits.{is_uncalled}
 use Rattle.pl_stages.specs.HandlerThrift.{handler-thrifty}
@@ -24,7 +26,7 @@ returns-in-Ok-clause-built c =
     subst IsBuilt (sym c.new.ensures.made)
     (channel_is_built meaning-value.it state-value.it c.args.groups.now c.build.new.groups c.args.channel c.in_ok-builder.builder c.marks.new.self c.in-Ok.pipeline c.new-transport.result _
     (ap (all_edited _) (sym c.as_slice.ensures) ∙ c.in_ok-builder.ensures) (sym c.in_ok-marks.ensures.answer) c.in_ok-marks.ensures.set
-    built.allowed built.inbound_path built.outbound_path built.executors built.marks built.counted (ap (λ (s : TransportState). s.window) c.new-transport.ensures.state))
+    built.allowed built.inbound_path built.outbound_path built.executors built.marks built.counted c.new-transport.ensures.state)
 
 pub returns-in-Ok-clause-fits : goal.returns-in-Ok-clause-fits
 returns-in-Ok-clause-fits c =
@@ -35,9 +37,9 @@ returns-in-Ok-clause-fits c =
     subst Fits (sym c.new.ensures.made) (record {
       path = path;
       placed = c.in-Ok.ensures.executors_are_there;
-      input = c.requires.bursts;
-      transport = is_uncalled (state-value.it c.new-transport.result) (Some c.args.channel.window) c.new-transport.ensures.state;
-      small = channel_small meaning-value.it stands_after-value.it state-value.it handler-thrifty (record { pipeline = c.in-Ok.pipeline; bursts = c.args.channel.bursts; transport = c.new-transport.result }) path c.requires.bursts;
+      input = and_from (fits c.args.channel.bursts) (aborts_within c.args.channel.abort_after (length c.args.channel.bursts)) c.requires.bursts c.requires.abort_after;
+      transport = is_uncalled (state-value.it c.new-transport.result) (Some c.args.channel.window) c.args.channel.fail_at c.new-transport.ensures.state;
+      small = channel_small meaning-value.it stands_after-value.it state-value.it handler-thrifty (record { pipeline = c.in-Ok.pipeline; input = record { bursts = c.args.channel.bursts; abort_after = c.args.channel.abort_after }; transport = c.new-transport.result }) path c.requires.bursts;
     })
 
 pub returns-clause-refused : goal.returns-clause-refused

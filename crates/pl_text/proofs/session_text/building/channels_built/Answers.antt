@@ -14,7 +14,6 @@ use Rattle.pl_head.specs.contracts.transports.MemoryTransportTransport.TheImpl.{
 use Rattle.pl_world.specs.declared.session.Recorded.{Recorded}
 use Rattle.pl_world.specs.Plans.{channel_planned}
 use Rattle.pl_world.specs.Worlds.{FitsWorld}
-use Rattle.pl_text.specs.SessionWorlds.{IsSteady}
 use Rattle.pl_text.specs.SessionOutlines.{IsChannelOutlineWithin}
 use Rattle.pl_text.proofs.ChannelRuns.{begins, pushed, stops, ends, all_first}
 use Rattle.pl_text.proofs.session_text.building.channels_built.Goals as goal
@@ -31,7 +30,6 @@ loop-channel-init c =
       under_way = begins c.args.groups.now _ c.args.channels _ (ap (map (channel_planned meaning-value.it state-value.it)) c.in_ok-built.ensures.items) all c.requires.unused;
       same = (refl, refl);
       fit = none_yet (FitsWorld meaning-value.it stands_after-value.it state-value.it (executor_count c.args.groups.now.loops (sizes_of c.args.groups.now))) c.in_ok-built.built.items c.in_ok-built.ensures.items;
-      steady = none_yet IsSteady c.in_ok-built.built.items c.in_ok-built.ensures.items;
     }
 
 pub channel_built-requires : goal.channel_built-requires
@@ -53,7 +51,6 @@ loop-channel-preserved c =
       fit =
           subst (All Fits) (sym c.in_ok-push.ensures.items)
           (All-push Fits c.loop-channel.built.items made c.loop-channel.invariant.fit (subst (λ (n : ℕ). FitsAt n made) count built.fits));
-      steady = subst (All IsSteady) (sym c.in_ok-push.ensures.items) (All-push IsSteady c.loop-channel.built.items made c.loop-channel.invariant.steady built.steady);
     }
 
 pub returns-in_err-channel_built-clause-built : goal.returns-in_err-channel_built-clause-built

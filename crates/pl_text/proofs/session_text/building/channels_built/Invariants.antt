@@ -10,7 +10,6 @@ use Rattle.pl_world.specs.Plans.{channel_planned}
 use Rattle.pl_world.specs.Worlds.{FitsWorld}
 use Rattle.pl_text.specs.SessionOutlines.{IsChannelOutlineWithin}
 use Rattle.pl_text.specs.SessionBuilding.{channels_built}
-use Rattle.pl_text.specs.SessionWorlds.{IsSteady}
 use Rattle.pl_text.proofs.ChannelRuns.{IsUnderWay}
 use Rattle.pl_text.proofs.session_text.building.channels_built.Given as goal
 
@@ -21,5 +20,4 @@ invariant-loop-channel l = record {
       (channels_built l.fn.groups.loops (sizes_of l.fn.groups) [] l.fn.channels);
   same : (l.groups.loops ≡ l.fn.groups.loops) × (sizes_of l.groups ≡ sizes_of l.fn.groups);
   fit : All (FitsWorld meaning-value.it stands_after-value.it state-value.it (executor_count l.fn.groups.loops (sizes_of l.fn.groups))) l.built.items;
-  steady : All IsSteady l.built.items;
 }

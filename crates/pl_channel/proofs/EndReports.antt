@@ -1,0 +1,181 @@
+-- A report of two ends keeps to the plan where these hold.
+use Rattle.std.proofs.Common.{◌≡◌, ℕ, Bool, true, false, List, [], ◌∷◌, ◌++◌, length, take, Option, Some, None, refl, sym, ap, subst, ◌∙◌, arith, length-append, append-nil}
+use Rattle.std.specs.Prelude.{is_some}
+use Rattle.std.proofs.lemmas.List.{take_all}
+use Rattle.pl_event.specs.declared.events.Event.{Event}
+use Rattle.pl_event.specs.declared.outcomes.Cause.{Cause}
+use Rattle.pl_event.specs.declared.outcomes.Cause.TheVariants.{Aborted}
+use Rattle.pl_event.specs.Hops.{data_lane}
+use Rattle.pl_event.specs.Meaning.{IsPrefixOf}
+use Rattle.pl_event.specs.Worlds.{content_of}
+use Rattle.pl_event.proofs.Lists.{prefix-trans, take-prefix_whole}
+use Rattle.pl_context.specs.declared.standing.Standing.{Standing}
+use Rattle.pl_context.specs.declared.standing.Standing.TheVariants as standing
+use Rattle.pl_context.specs.Standings.{is_over, has_failed, cause_of}
+use Rattle.pl_context.specs.TailViews.{TailView}
+use Rattle.pl_head.specs.Marks.{Change}
+use Rattle.pl_head.specs.Transports.{TransportState}
+use Rattle.pl_head.specs.Writes.{out, writes_by}
+use Rattle.pl_head.specs.HeadStand.{HeadView, BufferAfter, StandsAfter, first_cause, head_cause}
+use Rattle.pl_part.specs.HeadHolds.{HeadTook}
+use Rattle.pl_world.specs.declared.report.ChannelReport.{ChannelReport}
+use Rattle.pl_world.specs.Plans.{ChannelPlan, Plan, tail_hop, head_hop}
+use Rattle.pl_world.specs.Reports.{has_ended, channel_cause, is_written_out, IsChannelReport, tail_of, head_of, KeepsToPlan, EndsKeepToPlan, ReportsPlan}
+use Rattle.pl_world.proofs.PlannedReports.{out-prefix, drained_parts, report_keeps}
+use Rattle.pl_channel.specs.Lanes.{lanes_of}
+use Rattle.pl_channel.specs.Ends.{ends_of, EndsHold, FailedInOrder}
+use Rattle.pl_channel.proofs.LaneContents.{content-planned}
+
+no-first : (first later : Option Cause) → first_cause first later ≡ None → (first ≡ None) × (later ≡ None)
+no-first None later e = (refl, e)
+no-first (Some cause) later e = cc
+
+some-same : {A : Type 0} (x y : A) → Some x ≡ Some y → x ≡ y
+some-same x y e = cc
+
+append-none : {A : Type 0} (xs ys : List A) → xs ++ ys ≡ [] → ys ≡ []
+append-none [] ys e = e
+append-none (x ∷ xs) ys e = cc
+
+ended-is : (s : Standing) → has_ended s ≡ true → s ≡ standing.Ended
+ended-is standing.Open e = cc
+ended-is standing.Ended e = refl
+ended-is (standing.Failed cause) e = cc
+
+first-of : (n : ℕ) (some all : List Event) → some ≡ take n all → IsPrefixOf some all
+first-of n some all e = subst (λ (xs : List Event). IsPrefixOf xs all) (sym e) (take-prefix_whole n all)
+
+module _ {T : Type 0} (state : T → TransportState) (plan : Plan) (number : ℕ) (p : ChannelPlan) (tail : TailView) (head : HeadView T) (held : EndsHold state plan number p tail head) where
+  -- what comes to the tail in all
+  to-tail : held.tail_holds.events ≡ tail_of p
+  to-tail = some-same held.tail_holds.events (tail_of p)
+      (sym held.tail_holds.holds.own
+      ∙ (λ i. content_of (lanes_of plan) (data_lane (held.tail_channel i) (held.tail_at i)))
+      ∙ content-planned plan number p held.planned (tail_hop p) (omega arith))
+
+  tail-first : IsPrefixOf tail.events (tail_of p)
+  tail-first = subst (λ (xs : List Event). IsPrefixOf tail.events xs) to-tail (by tail.standing refl)
+    where
+      by : (s : Standing) → tail.standing ≡ s → IsPrefixOf tail.events held.tail_holds.events
+      by standing.Open is = first-of tail.taken tail.events held.tail_holds.events (held.tail_holds.holds.taken is).1
+      by standing.Ended is = ([], append-nil tail.events ∙ held.tail_holds.holds.ended is)
+      by (standing.Failed cause) is =
+          let some = held.tail_holds.holds.failed (ap has_failed is) in
+          first-of some.0 tail.events held.tail_holds.events some.2
+
+  tail-whole : has_ended tail.standing ≡ true → tail.events ≡ tail_of p
+  tail-whole ended = held.tail_holds.holds.ended (ended-is tail.standing ended) ∙ to-tail
+
+  -- what comes to the head in all
+  to-head : held.head_holds.events ≡ head_of p
+  to-head = some-same held.head_holds.events (head_of p)
+      (sym held.head_holds.holds.own
+      ∙ (λ i. content_of (lanes_of plan) (data_lane (held.head_channel i) (held.head_at i)))
+      ∙ content-planned plan number p held.planned (head_hop p) (omega arith))
+
+  abbrev took : HeadTook state held.head_holds.events head
+  took = held.head_holds.holds.took
+
+  abbrev accepted : List ℕ
+  accepted = (state head.transport).accepted
+
+  head-first : IsPrefixOf took.ys (head_of p)
+  head-first = subst (λ (xs : List Event). IsPrefixOf took.ys xs) to-head (first-of took.count took.ys held.head_holds.events took.before)
+
+  head-whole : has_ended head.standing ≡ true → took.ys ++ took.zs ≡ head_of p
+  head-whole ended =
+      let is = ended-is head.standing ended in
+      ap (λ (zs : List Event). took.ys ++ zs) (took.none_late (ap is_over is)) ∙ append-nil took.ys ∙ took.before
+      ∙ take_all took.count held.head_holds.events (omega (arith, took.ended is)) ∙ to-head
+
+  -- ends of which the head took these events keep to the plan, where they begin its lane
+  module _ (ys zs : List Event) (sizes : List Change) (after : StandsAfter state head ys zs sizes) where
+    pub none-late : head.failure ≡ None → zs ≡ []
+    none-late sound = (subst (λ (f : Option Cause). BufferAfter f accepted head.buffer ys zs (is_over head.standing) sizes) sound after).0
+
+    output : (left : List ℕ) × (accepted ++ left ≡ out ys)
+    output = by head.failure after
+      where
+        by : (f : Option Cause) → BufferAfter f accepted head.buffer ys zs (is_over head.standing) sizes → (left : List ℕ) × (accepted ++ left ≡ out ys)
+        by None a = (a.1.left, a.1.output)
+        by (Some cause) a = (a.left, a.output)
+
+    pub keep : (full : Bool) → IsPrefixOf (ys ++ zs) (head_of p) → (has_ended head.standing ≡ true → ys ++ zs ≡ head_of p) → (head.failure ≡ None → full ≡ false)
+        → (head.failure ≡ Some Aborted → is_some p.abort_after ≡ true) → EndsKeepToPlan p (record (ends_of state tail head ys zs) { is_full = full })
+    keep full first whole numbering aborted = record {
+      tail = tail-first;
+      tail_whole = tail-whole;
+      head = first;
+      head_whole = whole;
+      accepted = omega (arith, ap (λ (bs : List ℕ). length bs) output.1, length-append accepted output.0);
+      late = none-late;
+      numbering = numbering;
+      aborted = aborted;
+    }
+
+  module _ (r : ChannelReport) (reports : (ys zs : List Event) (sizes : List Change) → StandsAfter state head ys zs sizes → IsChannelReport (ends_of state tail head ys zs) r) where
+    is : IsChannelReport (ends_of state tail head took.ys took.zs) r
+    is = reports took.ys took.zs took.sizes took.after
+
+    -- Of a head that has not failed by itself. (Whether writes get no number any more is nothing of it then.)
+    sound-reports : head.failure ≡ None → ReportsPlan p r
+    sound-reports sound = record {
+      ends = record (ends_of state tail head took.ys took.zs) { is_full = false };
+      ends_keep =
+          keep took.ys took.zs took.sizes took.after false
+          (subst (λ (zs : List Event). IsPrefixOf (took.ys ++ zs) (head_of p)) (sym none) (subst (λ (ys : List Event). IsPrefixOf ys (head_of p)) (sym (append-nil took.ys)) head-first))
+          head-whole (λ e. refl) (λ aborted. absurd (no (sym sound ∙ aborted)));
+      reports = record {
+        stands_is = is.stands_is;
+        tail_is = is.tail_is;
+        bytes_are = is.bytes_are;
+        writes_are = record {
+          late = is.writes_are.late;
+          unnumbered = is.writes_are.unnumbered;
+          split = is.writes_are.split;
+          all = λ going. append-none is.writes_are.late is.writes_are.unnumbered (is.writes_are.split ∙ ap writes_by none);
+          outcomes_are = is.writes_are.outcomes_are;
+        };
+      };
+    }
+      where
+        no : None ≡ Some Aborted → ⊥
+        no e = cc
+
+        none : took.zs ≡ []
+        none = none-late took.ys took.zs took.sizes took.after sound
+
+    -- a report of ends that hold is one of a channel with the plan
+    pub ends-report : (is_some head.failure ≡ true → FailedInOrder state p head) → ReportsPlan p r
+    ends-report order = by head.failure refl
+      where
+        by : (f : Option Cause) → head.failure ≡ f → ReportsPlan p r
+        by None sound = sound-reports sound
+        by (Some cause) failed =
+            let took = order (ap (λ (f : Option Cause). is_some f) failed) in
+            record {
+              ends = ends_of state tail head took.before took.late;
+              ends_keep = keep took.before took.late took.sizes took.after head.buffer.is_full took.in_order took.whole (λ none. absurd (no (sym failed ∙ none))) took.aborted;
+              reports = reports took.before took.late took.sizes took.after;
+            }
+          where
+            no : Some cause ≡ None → ⊥
+            no e = cc
+
+    -- and keeps to the plan
+    pub ends-keep : KeepsToPlan p r
+    ends-keep = by head.failure refl
+      where
+        by : (f : Option Cause) → head.failure ≡ f → KeepsToPlan p r
+        by None sound = report_keeps p r (sound-reports sound)
+        by (Some cause) failed = record {
+          tail = subst (λ (xs : List Event). IsPrefixOf xs (tail_of p)) (sym is.tail_is) tail-first;
+          bytes = subst (λ (bs : List ℕ). IsPrefixOf bs (out (head_of p))) (sym is.bytes_are)
+              (prefix-trans (take (length accepted) (out took.ys)) (out took.ys) (out (head_of p)) (take-prefix_whole (length accepted) (out took.ys)) (out-prefix took.ys (head_of p) head-first));
+          whole = λ drained.
+              let none = (drained_parts (channel_cause (ends_of state tail head took.ys took.zs)) (is_written_out (ends_of state tail head took.ys took.zs)) (sym is.stands_is ∙ drained)).0 in
+              absurd (no (sym failed ∙ (no-first head.failure (cause_of head.standing) (no-first (head_cause head) (cause_of tail.standing) none).0).0));
+        }
+          where
+            no : Some cause ≡ None → ⊥
+            no e = cc

@@ -1,0 +1,128 @@
+use Rattle.std.proofs.Common.{◌≡◌, ◌++◌, ◌∷◌, ℕ, true, false, length, replicate, Result, Ok, Err, Some, refl, sym, ap, ap₂, ◌∙◌, arith}
+use Rattle.std.specs.Prelude.{IfOk}
+use Rattle.std.proofs.lemmas.List.{length-map}
+use Rattle.std.proofs.lemmas.Result.{IfOk-at_ok}
+use Rattle.pl_event.specs.Meaning.{Meaning}
+use Rattle.pl_event.specs.Paths.{is_turn}
+use Rattle.pl_event.specs.Worlds.{World}
+use Rattle.pl_event.proofs.Lists.{position_or_len-map}
+use Rattle.pl_context.specs.TailViews.{new_tail}
+use Rattle.pl_part.specs.NewParts.{ArePlannedWith}
+use Rattle.pl_world.specs.Plans.{channel_planned, head_hop}
+use Rattle.pl_channel.specs.Lanes.{channel_lanes, lanes_of}
+use Rattle.pl_channel.proofs.LaneContents.{channel-lane, content-planned}
+use Rattle.pl_channel.proofs.PlannedLanes.{Knows, are-planned, few-input, head-planned}
+use Rattle.pl_channel.proofs.NewHeads.{IsFresh, new-holds, new-came, new-taken}
+use Rattle.pl_channel.proofs.NewChannels.{new-unmoved}
+use Rattle.pl_channel.proofs.placing.place.Goals as goal
+use Rattle.pl_channel.proofs.placing.place.Goals.{After-whole}
+use Rattle.pl_channel.proofs.placing.place.Given.{Over}
+
+if-ok : {X E : Type 0} (r : Result X E) (P : X → Type 0) → ((x : X) → r ≡ Ok x → P x) → IfOk r P
+if-ok (Ok x) P holds = holds x refl
+if-ok (Err e) P holds = tt
+
+pub new-head-requires-clause-few : goal.new-head-requires-clause-few
+new-head-requires-clause-few g c =
+    let p = channel_planned g.S.Stage.meaning g.T.Transport.state c.args.recorded in
+    few-input g.S.Stage.meaning g.S.Stage.stands_after g.T.Transport.state c.args.recorded c.inbound.ensures.path c.requires.small (channel_lanes c.args.number p) c.args.number (channel-lane c.args.number p)
+
+pub whole-requires-clause-planned : goal.whole-requires-clause-planned
+whole-requires-clause-planned g c =
+    let p = channel_planned g.S.Stage.meaning g.T.Transport.state c.args.recorded in
+    let chains = c.into_chains-inbound.ensures in (
+      channel_lanes c.args.number p,
+      are-planned g.S.Stage.meaning g.S.Stage.stands_after g.T.Transport.state c.args.recorded c.inbound.ensures.path c.requires.small (channel_lanes c.args.number p) c.args.number (channel-lane c.args.number p)
+          c.turn-turn.result c.into_chains-inbound.result.0.items c.into_chains-inbound.result.1.items c.turn-turn.ensures.hop chains.inbound chains.outbound,
+    )
+
+-- the head is new, at the last hop
+head-fresh : (g : Over) (c : After-whole g) → IsFresh g.T.Transport.state c.args.recorded.input c.args.number (head_hop (channel_planned g.S.Stage.meaning g.T.Transport.state c.args.recorded)) c.new-head.result
+head-fresh g c =
+    let meaning = g.S.Stage.meaning in
+    let path = c.args.recorded.pipeline in
+    let made = c.new-head.ensures in
+    record {
+      after = made.stands;
+      reads = made.reads;
+      entrance = made.entrance;
+      place = (made.place.0, omega (arith, made.place.1, c.inbound.ensures.count, c.outbound.ensures.count, length-map path.inbound meaning, length-map path.outbound meaning));
+      flags = made.flags;
+      taken = made.taken;
+      standing = made.standing;
+      few = made.few;
+    }
+
+-- a world that knows the channel's lanes knows them for the two chains
+chains-planned : (g : Over) (c : After-whole g) (world : World) → Knows world c.args.number (channel_planned g.S.Stage.meaning g.T.Transport.state c.args.recorded)
+    → ArePlannedWith world g.S.Stage.meaning c.args.number c.turn-turn.result c.into_chains-inbound.result.0.items c.into_chains-inbound.result.1.items
+chains-planned g c world knows =
+    let chains = c.into_chains-inbound.ensures in
+    are-planned g.S.Stage.meaning g.S.Stage.stands_after g.T.Transport.state c.args.recorded c.inbound.ensures.path c.requires.small world c.args.number knows
+    c.turn-turn.result c.into_chains-inbound.result.0.items c.into_chains-inbound.result.1.items c.turn-turn.ensures.hop chains.inbound chains.outbound
+
+pub returns-clause-whole : goal.returns-clause-whole
+returns-clause-whole g c = if-ok c.whole.result _ (λ part is.
+    let meaning = g.S.Stage.meaning in
+    let path = c.args.recorded.pipeline in
+    let chains = c.into_chains-inbound.ensures in
+    let made = c.new-head.ensures in
+    let above = length-map path.inbound meaning in
+    let below = length-map path.outbound meaning in
+    let up = ap length chains.inbound ∙ sym above in
+    let down = ap length chains.outbound ∙ sym below in
+    let place = IfOk-at_ok _ is c.whole.ensures.place in
+    record {
+      channel_is = place.0;
+      executors_are = place.1 ∙ c.in_ok-executors.ensures;
+      hops = omega (arith, c.inbound.ensures.path.hops, above, below);
+      few = omega (arith, c.inbound.ensures.path.within, above, below);
+      tail_hop_is = place.2 ∙ up;
+      turn_is = place.3 ∙ c.turn-turn.ensures.hop ∙ sym (position_or_len-map (λ (m : Meaning). is_turn m.direction) meaning path.inbound);
+      turned = omega (arith, place.3, place.2, c.turn-turn.ensures.within, ap length chains.inbound);
+      filled = IfOk-at_ok _ is c.whole.ensures.filled ∙ ap₂ (λ (n m : ℕ). replicate n true ++ false ∷ replicate m true) up down;
+      tail = IfOk-at_ok _ is c.whole.ensures.tail ∙ ap (λ (k : ℕ). Some (new_tail c.args.number k)) up;
+      head = (
+        c.new-head.result,
+        IfOk-at_ok _ is c.whole.ensures.head,
+        record {
+          channel_is = made.place.0;
+          hop_is = (head-fresh g c).place.1;
+          transport_is = made.transport;
+          low = made.marks.0 ∙ c.low-low.ensures.low;
+          high = made.marks.1 ∙ c.high-high.ensures.high;
+          taken = made.taken;
+          standing = made.standing;
+          failure = made.failure;
+          reads = made.reads;
+          after = made.stands;
+          settled = made.told.0;
+          told = made.told.1;
+        },
+      );
+    })
+
+pub returns-clause-unmoved : goal.returns-clause-unmoved
+returns-clause-unmoved g c = if-ok c.whole.result _ (λ part is.
+    let p = channel_planned g.S.Stage.meaning g.T.Transport.state c.args.recorded in
+    let world = channel_lanes c.args.number p in
+    let state = g.T.Transport.state in
+    let fresh = head-fresh g c in
+    new-unmoved g.S.Stage.meaning g.S.Stage.stands_after world c.args.number (length c.into_chains-inbound.result.0.items) c.turn-turn.result part
+    (IfOk-at_ok _ is c.whole.ensures.new world (chains-planned g c world (channel-lane c.args.number p)))
+    (IfOk-at_ok _ is c.whole.ensures.tail) c.new-head.result (IfOk-at_ok _ is c.whole.ensures.head)
+    (new-came state c.args.recorded.input c.args.number (head_hop p) c.new-head.result fresh)
+    (new-taken state c.args.recorded.input c.args.number (head_hop p) c.new-head.result fresh))
+
+pub returns-clause-holds : goal.returns-clause-holds
+returns-clause-holds g c = if-ok c.whole.result _ (λ part is plan at.
+    let meaning = g.S.Stage.meaning in
+    let stands_after = g.S.Stage.stands_after in
+    let state = g.T.Transport.state in
+    let recorded = c.args.recorded in
+    let p = channel_planned meaning state recorded in
+    let knows = content-planned plan c.args.number p at in
+    let head = head-planned meaning stands_after state recorded c.inbound.ensures.path c.requires.small (lanes_of plan) c.args.number knows in
+    let few = few-input meaning stands_after state recorded c.inbound.ensures.path c.requires.small (lanes_of plan) c.args.number knows in
+    IfOk-at_ok _ is c.whole.ensures.holds (lanes_of plan) (chains-planned g c (lanes_of plan) knows)
+    (new-holds state recorded.input c.args.number (head_hop p) c.new-head.result (head-fresh g c) (lanes_of plan) head few))

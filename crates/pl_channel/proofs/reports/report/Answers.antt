@@ -1,0 +1,20 @@
+use Rattle.std.proofs.Common.{◌∙◌}
+use Rattle.pl_channel.proofs.EventClones.{clone-event}
+use Rattle.pl_channel.proofs.EndReports.{ends-report, ends-keep}
+use Rattle.pl_channel.proofs.reports.report.Goals as goal
+
+pub returns-clause-ends : goal.returns-clause-ends
+returns-clause-ends g c = λ ys zs sizes after. record {
+  stands_is = c.stands.ensures ys zs sizes after;
+  tail_is = c.from_vec.ensures ∙ c.in_ok-to_vec.ensures.items_if_clones_equal clone-event ∙ c.record.ensures;
+  bytes_are = c.in_ok-bytes.ensures.prefix ys zs sizes after;
+  writes_are = c.in_ok-bytes.ensures.outcomes ys zs sizes after;
+}
+
+pub returns-clause-keeps : goal.returns-clause-keeps
+returns-clause-keeps g c = λ plan number p held.
+    ends-keep g.T.Transport.state plan number p c.args.tail.now c.args.head.now held _ (returns-clause-ends g c)
+
+pub returns-clause-planned : goal.returns-clause-planned
+returns-clause-planned g c = λ plan number p held order.
+    ends-report g.T.Transport.state plan number p c.args.tail.now c.args.head.now held _ (returns-clause-ends g c) order

@@ -1,0 +1,53 @@
+-- A channel before any move: which nodes it has, and that none of them has taken or made anything.
+use Rattle.std.specs.Prelude.{◌≡◌, ℕ, ◌+◌, ◌<◌, ◌≤◌, [], ◌∷◌, ◌++◌, length, map, replicate, Option, Some, None, is_some, true, false}
+use Rattle.std.specs.List.{position_or_len}
+use Rattle.pl_event.specs.declared.envelopes.Lane.{Lane}
+use Rattle.pl_event.specs.Meaning.{Meaning}
+use Rattle.pl_event.specs.Paths.{is_turn}
+use Rattle.pl_build.specs.declared.limits.TheConstants.{MAX_HANDLERS}
+use Rattle.pl_context.specs.declared.standing.Standing.TheVariants as stands
+use Rattle.pl_context.specs.ContextViews.{ContextView}
+use Rattle.pl_context.specs.TailViews.{new_tail}
+use Rattle.pl_flow.specs.Flows.{point}
+use Rattle.pl_head.specs.Transports.{TransportState}
+use Rattle.pl_head.specs.HeadStand.{HeadView, StandsAfter, ReadsStand}
+use Rattle.pl_part.specs.Parts.{PartView, part_taken, part_writes, part_came}
+use Rattle.pl_world.specs.Plans.{ChannelPlan, read_plan, tail_hop, head_hop}
+
+-- the hop of the turn, the first of the inbound handlers that is one
+abbrev pub turn_hop : ChannelPlan → ℕ
+turn_hop p = position_or_len (λ m. is_turn m.direction) p.inbound
+
+-- A head at the last hop of a channel with this plan, over this transport. It has taken nothing and read nothing.
+pub record IsNewHead {T : Type 0} (state : T → TransportState) (number : ℕ) (p : ChannelPlan) (transport : T) (h : HeadView T) : Type 0 where
+  pub channel_is : h.channel ≡ number
+  pub hop_is : h.hop ≡ head_hop p
+  pub transport_is : h.transport ≡ transport
+  pub low : h.buffer.low ≡ p.low
+  pub high : h.buffer.high ≡ p.high
+  pub taken : h.taken ≡ 0
+  pub standing : h.standing ≡ stands.Open
+  pub failure : h.failure ≡ None
+  pub reads : ReadsStand (read_plan p) 0 false h
+  pub after : StandsAfter state h [] [] []
+  pub settled : h.buffer.settled ≡ []
+  pub told : h.buffer.told ≡ 0
+
+-- A part has all nodes of a channel with this plan, each at its hop: contexts in each slot but the tail's, the tail, and
+-- the head.
+pub record IsWhole {S T : Type 0} (state : T → TransportState) (number : ℕ) (p : ChannelPlan) (transport : T) (part : PartView S T) : Type 0 where
+  pub channel_is : part.path.channel ≡ number
+  pub executors_are : part.path.executors ≡ p.executors
+  pub hops : length p.executors ≡ head_hop p + 1
+  pub few : head_hop p ≤ MAX_HANDLERS + 1
+  pub tail_hop_is : part.path.tail_hop ≡ tail_hop p
+  pub turn_is : part.path.turn ≡ turn_hop p
+  pub turned : part.path.turn < part.path.tail_hop
+  pub filled : map (λ (slot : Option (ContextView S)). is_some slot) part.path.contexts ≡ replicate (length p.inbound) true ++ false ∷ replicate (length p.outbound) true
+  pub tail : part.path.tail ≡ Some (new_tail number (tail_hop p))
+  pub head : (h : HeadView T) × (part.head ≡ Some h) × IsNewHead state number p transport h
+
+-- Nothing was taken of a lane, and each lane that one of its nodes writes is at its start.
+pub record IsUnmoved {S T : Type 0} (meaning : S → Meaning) (part : PartView S T) : Type 0 where
+  pub taken : (l : Lane) → part_taken part l ≡ 0
+  pub came : (l : Lane) → part_writes meaning part l ≡ true → part_came meaning part l ≡ point 0 false

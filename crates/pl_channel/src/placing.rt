@@ -1,0 +1,60 @@
+//! A recorded channel, before any move.
+
+ghost use Rattle.std.specs.Prelude.{◌≡◌, IfOk, Some, slice_get};
+ghost use Rattle.pl_part.specs.Parts.{PartHolds};
+ghost use Rattle.pl_world.specs.Plans.{Plan, channel_planned};
+ghost use Rattle.pl_world.specs.PlanRules.{IsSmallChannel};
+ghost use Rattle.pl_world.specs.Worlds.{IsUncalled};
+ghost use Rattle.pl_channel.specs.Lanes.{lanes_of};
+ghost use Rattle.pl_channel.specs.Placing.{IsWhole, IsUnmoved};
+
+use pl_build::Placed;
+use pl_event::Stage;
+use pl_head::{Head, Transport};
+use pl_part::ChannelPart;
+use pl_world::Recorded;
+use std::alloc::{AllocError, Global};
+
+/// A recorded channel before any move: all its nodes in one part. It is channel `number` of its session.
+pub fn place<S: Stage, T: Transport>(
+    alloc: Global,
+    number: u16,
+    recorded: Recorded<S, T>,
+) -> Result<ChannelPart<S, T>, AllocError>
+    requires uncalled { IsUncalled (T.state recorded.transport) }
+    requires small { IsSmallChannel (channel_planned S.meaning T.state recorded) }
+    ensures whole { IfOk result (λ part. IsWhole T.state number (channel_planned S.meaning T.state recorded) recorded.transport part) }
+    ensures unmoved { IfOk result (λ part. IsUnmoved S.meaning part) }
+
+    // It holds in the world of each plan in which it has this number.
+    ensures holds { IfOk result (λ part. (plan : Plan) → slice_get plan.channels number ≡ Some (channel_planned S.meaning T.state recorded)
+        → PartHolds (lanes_of plan) S.meaning S.stands_after T.state part) }
+{
+    let Recorded {
+        pipeline,
+        input,
+        transport,
+    } = recorded;
+    let executors = executors_of(alloc, &pipeline)?;
+    let hop = pipeline.inbound() + 1 + pipeline.outbound();
+    let low = pipeline.low();
+    let high = pipeline.high();
+    let turn = pipeline.turn() as usize;
+    let (inbound, outbound) = pipeline.into_chains();
+    let head = Head::new(alloc, number, hop, input, transport, low, high);
+    ChannelPart::whole(alloc, number, executors, inbound, outbound, turn, head)
+}
+
+/// The executor of each hop.
+fn executors_of<S: Stage>(alloc: Global, pipeline: &Placed<S>) -> Result<Vec<u16>, AllocError>
+    ensures { IfOk result (λ executors. executors.items ≡ pipeline.now.executors) }
+{
+    let hops = pipeline.inbound() + pipeline.outbound() + 2;
+    let mut executors = Vec::with_capacity(alloc, hops as usize)?;
+    for hop in 0..hops {
+        if let Some(executor) = pipeline.executor_of(hop) {
+            executors.push(executor)?;
+        }
+    }
+    Ok(executors)
+}

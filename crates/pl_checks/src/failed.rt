@@ -1,0 +1,141 @@
+//! Transports that fail, and aborts: the report that a schedule leaves, and its status. `plain` takes no account of them.
+
+use crate::running::{answers, composed, replayed};
+use crate::sessions::{LINE_ACROSS_BURSTS, LineSession, PING, QUIT, failing_session};
+use std::test::Fail;
+
+/// Says that a schedule of a session with these further members reports this, with this status.
+fn reports(
+    rt: &HostRuntime,
+    session: LineSession,
+    members: &str,
+    moves: &str,
+    status: u8,
+    report: &str,
+) -> Result<(), Fail> {
+    let text = failing_session(rt, session, members)?;
+    answers(replayed(rt, text.as_str(), moves)?, status, report, "")?;
+    Ok(())
+}
+
+/// Says that `plain` reports this of it.
+fn composes(
+    rt: &HostRuntime,
+    session: LineSession,
+    members: &str,
+    report: &str,
+) -> Result<(), Fail> {
+    let text = failing_session(rt, session, members)?;
+    answers(composed(rt, text.as_str())?, 0, report, "")?;
+    Ok(())
+}
+
+const DRAINED_PING: &str =
+    "channel 0 drained\ntail 3\nActive\nRead Ping\nReadComplete\nbytes 7 2b504f4e470d0a\nwrites 1\n0 Success\n";
+
+#[test]
+fn transport_fault(rt: HostRuntime) -> Result<(), Fail> {
+    let session = (64, r#"[["PING\n"]]"#);
+    let members = r#","window":4,"fail_at":2"#;
+    let report =
+        "channel 0 failed Transport\ntail 3\nActive\nRead Ping\nReadComplete\nbytes 4 2b504f4e\nwrites 1\n0 Fault\n";
+    reports(&rt, session, members, "R0x2 O0x2 R0", 1, report)?;
+    composes(&rt, session, members, DRAINED_PING)
+}
+
+/// The tail of the session that quits.
+const QUIT_TAIL: &str = "tail 3\nActive\nRead Ping\nRead Quit\n";
+
+#[test]
+fn fault_at_each_call(rt: HostRuntime) -> Result<(), Fail> {
+    for (call, status, stands, bytes, first, second) in [
+        (1, 1, "failed Transport", "0 -", "Fault", "Fault"),
+        (2, 1, "failed Transport", "4 2b504f4e", "Fault", "Fault"),
+        (
+            3,
+            1,
+            "failed Transport",
+            "7 2b504f4e470d0a",
+            "Success",
+            "Fault",
+        ),
+        (
+            4,
+            1,
+            "failed Transport",
+            "11 2b504f4e470d0a2b425945",
+            "Success",
+            "Fault",
+        ),
+        (
+            5,
+            0,
+            "drained",
+            "13 2b504f4e470d0a2b4259450d0a",
+            "Success",
+            "Success",
+        ),
+    ] {
+        let members = format!(in rt.alloc(); ",\"window\":4,\"fail_at\":{call}")?;
+        let report = format!(in rt.alloc();
+            "channel 0 {stands}\n{QUIT_TAIL}bytes {bytes}\nwrites 2\n0 {first}\n1 {second}\n"
+        )?;
+        let moves = "R0x2 O0x4 R0";
+        reports(&rt, QUIT, members.as_str(), moves, status, report.as_str())?;
+    }
+    Ok(())
+}
+
+/// The abort comes before the reply has left, and after it.
+#[test]
+fn abort(rt: HostRuntime) -> Result<(), Fail> {
+    let members = r#","abort_after":1"#;
+    let before =
+        "channel 0 failed Aborted\ntail 3\nActive\nRead Ping\nReadComplete\nbytes 0 -\nwrites 1\n0 Closed\n";
+    reports(&rt, PING, members, "R0x3", 1, before)?;
+    let after =
+        "channel 0 failed Aborted\ntail 3\nActive\nRead Ping\nReadComplete\nbytes 7 2b504f4e470d0a\nwrites 1\n0 Success\n";
+    reports(&rt, PING, members, "R0x2 O0 R0", 1, after)?;
+    composes(&rt, PING, members, DRAINED_PING)
+}
+
+#[test]
+fn abort_at_each_burst(rt: HostRuntime) -> Result<(), Fail> {
+    for (count, tail, writes) in [
+        (0, "tail 1\nActive", "writes 0"),
+        (1, "tail 2\nActive\nReadComplete", "writes 0"),
+        (
+            2,
+            "tail 4\nActive\nReadComplete\nRead Ping\nReadComplete",
+            "writes 1\n0 Closed",
+        ),
+    ] {
+        let members = format!(in rt.alloc(); ",\"abort_after\":{count}")?;
+        let report = format!(in rt.alloc();
+            "channel 0 failed Aborted\n{tail}\nbytes 0 -\n{writes}\n"
+        )?;
+        let members = members.as_str();
+        reports(
+            &rt,
+            LINE_ACROSS_BURSTS,
+            members,
+            "R0x4 O0",
+            1,
+            report.as_str(),
+        )?;
+    }
+    Ok(())
+}
+
+/// Where a transport fails and the channel is aborted, the first of the two decides.
+#[test]
+fn first_failure_stays(rt: HostRuntime) -> Result<(), Fail> {
+    let members = r#","fail_at":1,"abort_after":1"#;
+    let transport =
+        "channel 0 failed Transport\ntail 3\nActive\nRead Ping\nReadComplete\nbytes 0 -\nwrites 1\n0 Fault\n";
+    reports(&rt, PING, members, "R0x2 O0 R0x2", 1, transport)?;
+    let aborted =
+        "channel 0 failed Aborted\ntail 3\nActive\nRead Ping\nReadComplete\nbytes 0 -\nwrites 1\n0 Closed\n";
+    reports(&rt, PING, members, "R0x3 O0", 1, aborted)?;
+    composes(&rt, PING, members, DRAINED_PING)
+}

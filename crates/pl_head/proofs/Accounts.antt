@@ -1,0 +1,162 @@
+-- Each write waits or is settled, whatever is added or settled.
+use Rattle.std.proofs.Common.{◌≡◌, ℕ, zero, suc, ◌+◌, ◌<◌, ◌≤◌, List, [], ◌∷◌, ◌++◌, length, take, drop, set, get_or, Option, Some, None, ap, sym, subst, ◌∙◌, refl, arith, append_assoc, append-nil, length-append, add-zero}
+use Rattle.std.proofs.lemmas.List.{length-set, map-append, take-append-drop, drop_all}
+use Rattle.std.proofs.Math.Seq.{drop-cons}
+use Rattle.pl_event.specs.declared.outcomes.Outcome.{Outcome}
+use Rattle.pl_head.specs.declared.outbound.Waiting.{Waiting}
+use Rattle.pl_head.specs.WaitingMessages.{numbers_of}
+use Rattle.pl_head.specs.Settling.{same_as, times, settled_at, open_at, Account, GoesOn}
+
+same_as-same : (n : ℕ) → same_as n n ≡ 1
+same_as-same zero = refl
+same_as-same (suc n) = same_as-same n
+
+times-append : (n : ℕ) (xs ys : List ℕ) → times n (xs ++ ys) ≡ times n xs + times n ys
+times-append n [] ys = omega arith
+times-append n (x ∷ xs) ys = let rest = times-append n xs ys in omega (arith, rest)
+
+-- ---- one outcome more
+
+open_at-open : (n : ℕ) (os : List (Option Outcome)) → open_at n (os ++ None ∷ []) ≡ open_at n os + same_as n (length os)
+open_at-open zero [] = refl
+open_at-open (suc n) [] = refl
+open_at-open zero (None ∷ os) = refl
+open_at-open zero (Some o ∷ os) = refl
+open_at-open (suc n) (o ∷ os) = open_at-open n os
+
+settled_at-open : (n : ℕ) (os : List (Option Outcome)) → settled_at n (os ++ None ∷ []) ≡ settled_at n os
+settled_at-open zero [] = refl
+settled_at-open (suc n) [] = refl
+settled_at-open zero (None ∷ os) = refl
+settled_at-open zero (Some o ∷ os) = refl
+settled_at-open (suc n) (o ∷ os) = settled_at-open n os
+
+open_at-settled : (n : ℕ) (os : List (Option Outcome)) (new : Outcome) → open_at n (os ++ Some new ∷ []) ≡ open_at n os
+open_at-settled zero [] new = refl
+open_at-settled (suc n) [] new = refl
+open_at-settled zero (None ∷ os) new = refl
+open_at-settled zero (Some o ∷ os) new = refl
+open_at-settled (suc n) (o ∷ os) new = open_at-settled n os new
+
+settled_at-settled : (n : ℕ) (os : List (Option Outcome)) (new : Outcome) → settled_at n (os ++ Some new ∷ []) ≡ settled_at n os + same_as n (length os)
+settled_at-settled zero [] new = refl
+settled_at-settled (suc n) [] new = refl
+settled_at-settled zero (None ∷ os) new = refl
+settled_at-settled zero (Some o ∷ os) new = refl
+settled_at-settled (suc n) (o ∷ os) new = settled_at-settled n os new
+
+-- ---- one that waits is settled
+
+open_at-few : (n : ℕ) (os : List (Option Outcome)) → open_at n os ≤ 1
+open_at-few n [] = omega arith
+open_at-few zero (None ∷ os) = omega arith
+open_at-few zero (Some o ∷ os) = omega arith
+open_at-few (suc n) (o ∷ os) = open_at-few n os
+
+open_at-set : (n k : ℕ) (os : List (Option Outcome)) (new : Outcome) → open_at k os ≡ 1 → open_at n (set os k (Some new)) + same_as n k ≡ open_at n os
+open_at-set n k [] new h = absurd (omega (arith, h))
+open_at-set zero zero (None ∷ os) new h = refl
+open_at-set (suc n) zero (None ∷ os) new h = add-zero (open_at n os)
+open_at-set n zero (Some o ∷ os) new h = absurd (omega (arith, h))
+open_at-set zero (suc k) (None ∷ os) new h = refl
+open_at-set zero (suc k) (Some o ∷ os) new h = refl
+open_at-set (suc n) (suc k) (o ∷ os) new h = open_at-set n k os new h
+
+settled_at-set : (n k : ℕ) (os : List (Option Outcome)) (new : Outcome) → open_at k os ≡ 1 → settled_at n (set os k (Some new)) ≡ settled_at n os + same_as n k
+settled_at-set n k [] new h = absurd (omega (arith, h))
+settled_at-set zero zero (None ∷ os) new h = refl
+settled_at-set (suc n) zero (None ∷ os) new h = sym (add-zero (settled_at n os))
+settled_at-set n zero (Some o ∷ os) new h = absurd (omega (arith, h))
+settled_at-set zero (suc k) (None ∷ os) new h = refl
+settled_at-set zero (suc k) (Some o ∷ os) new h = refl
+settled_at-set (suc n) (suc k) (o ∷ os) new h = settled_at-set n k os new h
+
+-- ---- accounts
+
+module _ (waiting settled : List ℕ) (os : List (Option Outcome)) where
+  -- a write that waits
+  pub account-waits : Account waiting settled os → Account (waiting ++ length os ∷ []) settled (os ++ None ∷ [])
+  account-waits a = record {
+    size = omega (arith, a.size, length-append waiting (length os ∷ []), length-append os (None ∷ []));
+    once = λ n. a.once n ∙ sym (settled_at-open n os);
+    waits = λ n. omega (arith, times-append n waiting (length os ∷ []), a.waits n, open_at-open n os);
+  }
+
+  -- a write that is settled at once
+  pub account-adds : (new : Outcome) → Account waiting settled os → Account waiting (settled ++ length os ∷ []) (os ++ Some new ∷ [])
+  account-adds new a = record {
+    size = omega (arith, a.size, length-append settled (length os ∷ []), length-append os (Some new ∷ []));
+    once = λ n. omega (arith, times-append n settled (length os ∷ []), a.once n, settled_at-settled n os new);
+    waits = λ n. a.waits n ∙ sym (open_at-settled n os new);
+  }
+
+-- one that waits is settled
+pub account-settles : (before after settled : List ℕ) (k : ℕ) (os : List (Option Outcome)) (new : Outcome) → Account (before ++ k ∷ after) settled os
+    → Account (before ++ after) (settled ++ k ∷ []) (set os k (Some new))
+account-settles before after settled k os new a =
+    let here = times-append k before (k ∷ after) in
+    let waits : open_at k os ≡ 1 = omega (arith, a.waits k, here, same_as-same k, open_at-few k os) in
+    record {
+      size = omega (arith, a.size, length-append settled (k ∷ []), length-append before (k ∷ after), length-append before after, length-set os k (Some new));
+      once = λ n. omega (arith, times-append n settled (k ∷ []), a.once n, settled_at-set n k os new waits);
+      waits = λ n. omega (arith, times-append n before (k ∷ after), times-append n before after, a.waits n, open_at-set n k os new waits);
+    }
+
+-- ---- the settled ones, told one after another
+
+settled_some : (n : ℕ) (os : List (Option Outcome)) → 0 < settled_at n os → (o : Outcome) × (get_or os n None ≡ Some o) × (n < length os)
+settled_some n [] h = absurd (omega (arith, h))
+settled_some zero (None ∷ os) h = absurd (omega (arith, h))
+settled_some zero (Some o ∷ os) h = (o, refl, omega arith)
+settled_some (suc n) (x ∷ os) h = let rest = settled_some n os h in (rest.0, rest.1, omega (arith, rest.2))
+
+times-at : (xs : List ℕ) (i d : ℕ) → i < length xs → 0 < times (get_or xs i d) xs
+times-at [] i d h = absurd (omega (arith, h))
+times-at (x ∷ xs) zero d h = omega (arith, same_as-same x)
+times-at (x ∷ xs) (suc i) d h = let rest = times-at xs i d (omega (arith, h)) in omega (arith, rest)
+
+-- the write that stands at a place of the list is settled
+pub told_some : {waiting : List ℕ} (settled : List ℕ) (os : List (Option Outcome)) (i n : ℕ) → Account waiting settled os → n ≡ get_or settled i n → i < length settled
+    → (o : Outcome) × (get_or os n None ≡ Some o) × (n < length os)
+told_some settled os i n a is h =
+    let some : 0 < times n settled = subst (λ (k : ℕ). 0 < times k settled) (sym is) (times-at settled i n h) in
+    settled_some n os (omega (arith, a.once n, some))
+
+pub get_or-there : {A : Type 0} (xs : List A) (i : ℕ) (d e : A) → i < length xs → get_or xs i d ≡ get_or xs i e
+get_or-there [] i d e h = absurd (omega (arith, h))
+get_or-there (x ∷ xs) zero d e h = refl
+get_or-there (x ∷ xs) (suc i) d e h = get_or-there xs i d e (omega (arith, h))
+
+-- ---- more are settled
+
+pub goes_on-same : (xs : List ℕ) → GoesOn xs xs
+goes_on-same xs = ([], sym (append-nil xs))
+
+pub goes_on-then : (xs ys zs : List ℕ) → GoesOn xs ys → GoesOn ys zs → GoesOn xs zs
+goes_on-then xs ys zs a b = (a.0 ++ b.0, b.1 ∙ ap (λ (t : List ℕ). t ++ b.0) a.1 ∙ append_assoc xs a.0 b.0)
+
+-- ---- accounts of messages
+
+pub account-same : {waiting waiting' settled settled' : List ℕ} {os os' : List (Option Outcome)} → waiting' ≡ waiting → settled' ≡ settled → os' ≡ os → Account waiting settled os → Account waiting' settled' os'
+account-same w s o a = rw (w, s, o) a
+
+-- the message at a place is settled
+pub account-at : (queue : List Waiting) (place : ℕ) (message : Waiting) (before settled : List ℕ) (os : List (Option Outcome)) (new : Outcome) → place < length queue → message ≡ get_or queue place message
+    → Account (before ++ numbers_of (drop place queue)) settled os → Account (before ++ numbers_of (drop (suc place) queue)) (settled ++ message.number ∷ []) (set os message.number (Some new))
+account-at queue place message before settled os new within is a =
+    let here : drop place queue ≡ message ∷ drop (suc place) queue =
+    drop-cons queue place message within ∙ ap (λ (w : Waiting). w ∷ drop (suc place) queue) (sym is) in
+    account-settles before (numbers_of (drop (suc place) queue)) settled message.number os new
+    (subst (λ (ws : List Waiting). Account (before ++ numbers_of ws) settled os) here a)
+
+-- what a queue holds up to a place, and behind it
+pub account-split : (queue : List Waiting) (place : ℕ) {settled : List ℕ} {os : List (Option Outcome)} → Account (numbers_of queue) settled os → Account (numbers_of (take place queue) ++ numbers_of (drop place queue)) settled os
+account-split queue place {settled = settled} {os = os} a =
+    subst (λ (ns : List ℕ). Account ns settled os)
+    (ap (λ (ws : List Waiting). numbers_of ws) (sym (take-append-drop place queue)) ∙ map-append (λ (w : Waiting). w.number) (take place queue) (drop place queue)) a
+
+-- and nothing behind it
+pub account-end : (before : List ℕ) (queue : List Waiting) (place : ℕ) {settled : List ℕ} {os : List (Option Outcome)} → length queue ≤ place → Account (before ++ numbers_of (drop place queue)) settled os → Account before settled os
+account-end before queue place {settled = settled} {os = os} past a =
+    subst (λ (ns : List ℕ). Account ns settled os)
+    (ap (λ (ws : List Waiting). before ++ numbers_of ws) (drop_all place queue past) ∙ append-nil before) a

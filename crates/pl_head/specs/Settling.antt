@@ -1,0 +1,43 @@
+-- In which order writes are settled: the numbers of those that have an outcome, each once.
+use Rattle.std.specs.Prelude.{◌≡◌, ℕ, zero, suc, ◌+◌, List, [], ◌∷◌, ◌++◌, length, Option, Some, None}
+use Rattle.pl_event.specs.declared.outcomes.Outcome.{Outcome}
+
+-- 1 where the two are the same, else 0
+abbrev pub same_as : ℕ → ℕ → ℕ
+same_as zero zero = 1
+same_as zero (suc k) = 0
+same_as (suc n) zero = 0
+same_as (suc n) (suc k) = same_as n k
+
+-- how often a number stands in a list
+abbrev pub times : ℕ → List ℕ → ℕ
+times n [] = 0
+times n (k ∷ ks) = same_as n k + times n ks
+
+-- 1 where write n has an outcome, else 0
+abbrev pub settled_at : ℕ → List (Option Outcome) → ℕ
+settled_at n [] = 0
+settled_at zero (None ∷ os) = 0
+settled_at zero (Some o ∷ os) = 1
+settled_at (suc n) (o ∷ os) = settled_at n os
+
+-- 1 where write n has none yet, else 0
+abbrev pub open_at : ℕ → List (Option Outcome) → ℕ
+open_at n [] = 0
+open_at zero (None ∷ os) = 1
+open_at zero (Some o ∷ os) = 0
+open_at (suc n) (o ∷ os) = open_at n os
+
+-- Each write with an outcome stands once in the list of settled numbers, and no other number does.
+abbrev pub AreSettled : List ℕ → List (Option Outcome) → Type 0
+AreSettled settled os = (n : ℕ) → times n settled ≡ settled_at n os
+
+-- Each write waits, or is settled.
+pub record Account (waiting settled : List ℕ) (os : List (Option Outcome)) : Type 0 where
+  pub size : length settled + length waiting ≡ length os
+  pub once : AreSettled settled os
+  pub waits : (n : ℕ) → times n waiting ≡ open_at n os
+
+-- more are settled after these
+abbrev pub GoesOn : List ℕ → List ℕ → Type 0
+GoesOn before after = (more : List ℕ) × (after ≡ before ++ more)

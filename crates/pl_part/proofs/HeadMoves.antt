@@ -1,0 +1,868 @@
+-- A head moves: how it stands then, and what it has put out.
+use Rattle.std.proofs.Common.{◌≡◌, ℕ, suc, ◌+◌, ◌≤◌, ◌<◌, ◌^◌, Bool, true, false, not, ◌||◌, ◌&&◌, cond, List, [], ◌∷◌, ◌++◌, length, take, Option, Some, None, refl, sym, ap, ◌∙◌, subst, ⊎_elim, arith, inl, inr, append-nil}
+use Rattle.std.specs.Prelude.{is_some, if◌then◌else◌, nat_lt}
+use Rattle.std.specs.List.{slice_get}
+use Rattle.std.proofs.lemmas.Option.{slice_get_within}
+use Rattle.std.proofs.lemmas.Bool.{cases_Bool, both_ways, cond-true, cond-false, and_parts, ltb-true}
+use Rattle.pl_event.specs.declared.events.Event.{Event}
+use Rattle.pl_event.specs.declared.outcomes.Cause.{Cause}
+use Rattle.pl_event.specs.declared.outcomes.Cause.TheVariants.{Memory, Aborted}
+use Rattle.pl_event.specs.declared.envelopes.Kind.TheVariants.{Data, Flags}
+use Rattle.pl_event.specs.declared.envelopes.Item.{Item}
+use Rattle.pl_event.specs.declared.envelopes.Item.TheVariants as item
+use Rattle.pl_event.specs.declared.envelopes.Lane.{Lane}
+use Rattle.pl_event.specs.declared.envelopes.Envelope.{Envelope}
+use Rattle.pl_event.specs.Fitting.{Fits}
+use Rattle.pl_event.specs.Hops.{same_hop, same_lane, data_lane, flags_lane}
+use Rattle.pl_event.specs.Inputs.{recorded_input}
+use Rattle.pl_event.specs.Worlds.{World, FitsWorld, FitsAsKind, content_of}
+use Rattle.pl_event.proofs.SameLanes.{same_lane-equal, same_lane-self}
+use Rattle.pl_context.specs.declared.ports.Port.{Port}
+use Rattle.pl_context.specs.declared.standing.Standing.{Standing}
+use Rattle.pl_context.specs.declared.standing.Standing.TheVariants as stands
+use Rattle.pl_context.specs.declared.standing.Took.{Took}
+use Rattle.pl_context.specs.declared.standing.Took.TheVariants as took
+use Rattle.pl_context.specs.Standings.{is_over}
+use Rattle.pl_context.specs.Stops.{HasPlaces, AreAmong}
+use Rattle.pl_context.specs.OutputsViews.{OutputsView, PutsAll}
+use Rattle.pl_context.specs.Ports.{numbered, offered, port_after, all_go_on}
+use Rattle.pl_flow.specs.Flows.{Point, point, nowhere, IsGood}
+use Rattle.pl_flow.specs.Makes.{Makes, AreGood}
+use Rattle.pl_flow.proofs.ItemLemmas.{failure-good}
+use Rattle.pl_flow.proofs.MakeLemmas.{makes-none, makes-then}
+use Rattle.pl_head.specs.declared.inputs.ReadPlan.{ReadPlan}
+use Rattle.pl_head.specs.declared.heads.OutStep.{OutStep}
+use Rattle.pl_head.specs.declared.heads.ReadStep.{ReadStep}
+use Rattle.pl_head.specs.declared.heads.ReadStep.TheVariants as reading
+use Rattle.pl_head.specs.Marks.{Change, Removed, flags}
+use Rattle.pl_head.specs.Transports.{TransportState}
+use Rattle.pl_head.specs.WritabilityStand.{SendsFlags}
+use Rattle.pl_head.specs.ReadSteps.{entrance, bursts_read, plan_steps, has_step, read_items, step_items, is_abort, brings_failure, brings_abort, next_step_items, steps_after}
+use Rattle.pl_head.specs.InputStand.{InputView, InputStands}
+use Rattle.pl_head.specs.HeadStand.{HeadView, BufferAfter, StandsAfter, ReadsStand, Aborts, EntersHead, Answers, waiting_at, events_before, events_from, item_sizes, standing_after, step_sizes, cause_of_item, cause_of_step, first_cause, HasFewFlags}
+use Rattle.pl_head.proofs.ReadSteps.{items_of_step, number_of_step, abort_is, stands_after}
+use Rattle.pl_head.proofs.FlagSteps.{places_stay}
+use Rattle.pl_part.specs.ContextHolds.{port_point}
+use Rattle.pl_part.specs.HeadHolds.{HeadHolds, HeadHoldsWith, IsHeadPlanned, HeadTook, Picked, head_writes, head_came, head_lanes}
+use Rattle.pl_part.specs.HeadCalls.{HeadTakes, HeadReads, HeadWrites, HeadAborts}
+use Rattle.pl_part.specs.Counts.{head_done}
+use Rattle.pl_part.proofs.EventLists.{some-equal, split-at, fits-within}
+use Rattle.pl_part.proofs.PortMakes.{makes-to, moved, port-puts}
+use Rattle.pl_part.proofs.HeadFlags.{flags-fit, flags-make, passes-more, with_port}
+use Rattle.pl_part.proofs.ReadItems.{step-good, number-within, one-most, items-most}
+use Rattle.pl_part.proofs.ContextPlaces.{puts-places, offered-among}
+use Rattle.pl_part.proofs.ContextCounts.{puts-length, offered-length}
+
+-- ---- events that were picked
+
+picked-later : (events : List Event) (from : ℕ) (zs : List Event) (to to' : ℕ) → to ≤ to' → Picked events from zs to → Picked events from zs to'
+picked-later events from [] to to' le h = omega (arith, le, h)
+picked-later events from (z ∷ zs) to to' le h = (h.0, h.1, h.2, picked-later events (h.0 + 1) zs to to' le h.3)
+
+picked-one : (events : List Event) (from : ℕ) (zs : List Event) (n to : ℕ) (x : Event) → Picked events from zs n → slice_get events n ≡ Some x → n + 1 ≤ to → Picked events from (zs ++ x ∷ []) to
+picked-one events from [] n to x h at le = (n, h, at, le)
+picked-one events from (z ∷ zs) n to x h at le = (h.0, h.1, h.2, picked-one events (h.0 + 1) zs n to x h.3 at le)
+
+picked-from : (events : List Event) (from : ℕ) (zs : List Event) (to : ℕ) → Picked events from zs to → from ≤ to
+picked-from events from [] to h = h
+picked-from events from (z ∷ zs) to h = let rest = picked-from events (h.0 + 1) zs to h.3 in let le = h.1 in omega (arith, rest, le)
+
+-- ---- causes
+
+no-cause : (a : Option Cause) (b : Option Cause) → first_cause a b ≡ None → a ≡ None
+no-cause None b e = refl
+no-cause (Some c) b e = e
+
+none-some : {A : Type 0} {G : Type 0} (x : A) → Some x ≡ None → G
+none-some x e = absurd (no e)
+  where
+    no : Some x ≡ None → ⊥
+    no e = cc
+
+some-is : {A : Type 0} (o : Option A) → is_some o ≡ false → o ≡ None
+some-is None e = refl
+some-is (Some x) e = absurd (both_ways true e refl)
+
+-- ---- the lanes of a head
+
+apart : (channel : ℕ) (l : Lane) → same_lane l (data_lane channel 0) ≡ true → same_lane l (flags_lane channel 0) ≡ false
+apart channel l d = ⊎_elim
+    (λ (t : same_lane l (flags_lane channel 0) ≡ true).
+    let both : data_lane channel 0 ≡ flags_lane channel 0 = sym (same_lane-equal l (data_lane channel 0) d) ∙ same_lane-equal l (flags_lane channel 0) t in
+    absurd (no (ap (λ (m : Lane). m.kind) both)))
+    (λ (f : same_lane l (flags_lane channel 0) ≡ false). f)
+    (cases_Bool (same_lane l (flags_lane channel 0)))
+  where
+    no : Data ≡ Flags → ⊥
+    no e = cc
+
+-- how far two lanes have come
+abbrev pub two_came : ℕ → Point → Point → Lane → Point
+two_came channel x y l = cond (same_lane l (data_lane channel 0)) x (cond (same_lane l (flags_lane channel 0)) y nowhere)
+
+flags-came : (channel : ℕ) (x : Point) (f f' : Port) → f.lane ≡ flags_lane channel 0 → (l : Lane) → two_came channel x (port_point f') l ≡ with_port (two_came channel x (port_point f)) f f' l
+flags-came channel x f f' lane l = ⊎_elim
+    (λ (t : same_lane l f.lane ≡ true).
+    let here = ap (λ (m : Lane). same_lane l m) (sym lane) ∙ t in
+    let other : same_lane l (data_lane channel 0) ≡ false = ⊎_elim
+    (λ (d : same_lane l (data_lane channel 0) ≡ true). absurd (both_ways (same_lane l (flags_lane channel 0)) (apart channel l d) here))
+    (λ (d : same_lane l (data_lane channel 0) ≡ false). d)
+    (cases_Bool (same_lane l (data_lane channel 0))) in
+    cond-false (same_lane l (data_lane channel 0)) x _ other
+    ∙ cond-true (same_lane l (flags_lane channel 0)) (port_point f') nowhere here
+    ∙ sym (cond-true (same_lane l f.lane) (port_point f') (two_came channel x (port_point f) l) t))
+    (λ (n : same_lane l f.lane ≡ false).
+    let off = ap (λ (m : Lane). same_lane l m) (sym lane) ∙ n in
+    ap (λ (p : Point). cond (same_lane l (data_lane channel 0)) x p)
+    (cond-false (same_lane l (flags_lane channel 0)) (port_point f') nowhere off ∙ sym (cond-false (same_lane l (flags_lane channel 0)) (port_point f) nowhere off))
+    ∙ sym (cond-false (same_lane l f.lane) (port_point f') (two_came channel x (port_point f) l) n))
+    (cases_Bool (same_lane l f.lane))
+
+reads-came : (channel : ℕ) (p : Port) (is : List Item) (x y : Point) → p.lane ≡ data_lane channel 0 → x ≡ port_point (port_after is p)
+    → (l : Lane) → two_came channel x y l ≡ moved (two_came channel (port_point p) y) p (port_after is p) l
+reads-came channel p is x y lane at l = ⊎_elim
+    (λ (t : same_lane l (data_lane channel 0) ≡ true).
+    let here = ap (λ (m : Lane). same_lane l m) lane ∙ t in
+    cond-true (same_lane l (data_lane channel 0)) x _ t ∙ at
+    ∙ ⊎_elim
+    (λ (o : p.is_open ≡ true). sym (cond-true (p.is_open && same_lane l p.lane) (port_point (port_after is p)) (two_came channel (port_point p) y l) (ap (λ (b : Bool). b && same_lane l p.lane) o ∙ here)))
+    (λ (s : p.is_open ≡ false).
+    ap (λ (b : Bool). point (cond b (p.made + length is) p.made) (not (b && all_go_on is))) s ∙ ap (λ (b : Bool). point p.made (not b)) (sym s)
+    ∙ sym (cond-true (same_lane l (data_lane channel 0)) (port_point p) _ t)
+    ∙ sym (cond-false (p.is_open && same_lane l p.lane) (port_point (port_after is p)) (two_came channel (port_point p) y l) (ap (λ (b : Bool). b && same_lane l p.lane) s)))
+    (cases_Bool p.is_open))
+    (λ (n : same_lane l (data_lane channel 0) ≡ false).
+    let off = ap (λ (m : Lane). same_lane l m) lane ∙ n in
+    cond-false (same_lane l (data_lane channel 0)) x _ n
+    ∙ sym (cond-false (same_lane l (data_lane channel 0)) (port_point p) _ n)
+    ∙ sym (cond-false (p.is_open && same_lane l p.lane) (port_point (port_after is p)) (two_came channel (port_point p) y l) (and-off p.is_open (same_lane l p.lane) off)))
+    (cases_Bool (same_lane l (data_lane channel 0)))
+  where
+    and-off : (a b : Bool) → b ≡ false → (a && b) ≡ false
+    and-off true b e = e
+    and-off false b e = refl
+
+module _ {T : Type 0} (state : T → TransportState) (h : HeadView T) where
+  -- the flags that were sent, whichever sizes were added and removed
+  flags-sent : (ys zs : List Event) (sizes : List Change) → StandsAfter state h ys zs sizes → h.buffer.flags.is_open ≡ true → h.buffer.flags.made ≡ length (flags h.buffer.low h.buffer.high sizes)
+  flags-sent ys zs sizes after o = by h.failure after
+    where
+      by : (f : Option Cause) → BufferAfter f (state h.transport).accepted h.buffer ys zs (is_over h.standing) sizes → h.buffer.flags.made ≡ length (flags h.buffer.low h.buffer.high sizes)
+      by None a = a.1.marks.sent o
+      by (Some c) a = a.marks.sent o
+
+  -- before a failure of its own nothing is taken late
+  none-late : (ys zs : List Event) (sizes : List Change) → StandsAfter state h ys zs sizes → h.failure ≡ None → zs ≡ []
+  none-late ys zs sizes after e = (subst (λ (f : Option Cause). BufferAfter f (state h.transport).accepted h.buffer ys zs (is_over h.standing) sizes) e after).0
+
+module _ {T : Type 0} (state : T → TransportState) (world : World) (plan : ReadPlan) (events : List Event) (h : HeadView T) (k : HeadHoldsWith state world plan events h) where
+  abbrev Held : HeadView T → Type 0
+  Held z = HeadHoldsWith state world plan events z
+
+  -- it holds again, at its place
+  again : (h' : HeadView T) → h'.channel ≡ h.channel → h'.hop ≡ h.hop → h'.taken ≤ length events + 1 → HeadTook state events h' → (reads : ℕ) × (failed : Bool) × ReadsStand plan reads failed h'
+      → h'.input.port.lane ≡ h.input.port.lane → h'.buffer.flags.lane ≡ h.buffer.flags.lane → HasFewFlags h' → Held h'
+  again h' c p most t reads entrance fl few = record {
+    own = (λ i. content_of world (data_lane (c i) (p i))) ∙ k.own;
+    few = k.few;
+    took = t;
+    most = most;
+    input = (λ i. content_of world (data_lane (c i) 0)) ∙ k.input;
+    few_input = k.few_input;
+    reads = reads;
+    entrance = entrance ∙ k.entrance ∙ ap (λ n. data_lane n 0) (sym c);
+    flags = fl ∙ k.flags ∙ ap (λ n. flags_lane n 0) (sym c);
+    few_flags = few;
+  }
+
+  -- ---- its lanes
+
+  writes-flags : head_writes h h.buffer.flags.lane ≡ true
+  writes-flags = or-other (same_lane h.buffer.flags.lane (data_lane h.channel 0)) _ (ap (λ (m : Lane). same_lane m (flags_lane h.channel 0)) k.flags ∙ same_lane-self (flags_lane h.channel 0))
+    where
+      or-other : (a b : Bool) → b ≡ true → (a || b) ≡ true
+      or-other true b e = refl
+      or-other false b e = e
+
+  writes-reads : head_writes h h.input.port.lane ≡ true
+  writes-reads = or-one (same_lane h.input.port.lane (data_lane h.channel 0)) _ (ap (λ (m : Lane). same_lane m (data_lane h.channel 0)) k.entrance ∙ same_lane-self (data_lane h.channel 0))
+    where
+      or-one : (a b : Bool) → a ≡ true → (a || b) ≡ true
+      or-one true b e = refl
+      or-one false b e = absurd (both_ways false refl e)
+
+  few-made : (h' : HeadView T) → h'.taken ≤ length events + 1 → HasFewFlags h' → h'.buffer.flags.made < 2 ^ 32
+  few-made h' most few = let small = k.few in omega (arith, most, few, small)
+
+  -- flags that sizes send, with the reads where they are
+  flags-makes : (x : Point) (ys zs : List Event) (sizes more : List Change) (b a : OutputsView) (f : Port) → StandsAfter state h ys zs sizes
+      → SendsFlags h.buffer.low h.buffer.high sizes more h.buffer.flags b f a → f.made < 2 ^ 32
+      → Makes world (head_writes h) (two_came h.channel x (port_point h.buffer.flags)) (two_came h.channel x (port_point f)) b a
+  flags-makes x ys zs sizes more b a f after sends small =
+      let from = two_came h.channel x (port_point h.buffer.flags) in
+      makes-to world (head_writes h) from (with_port from h.buffer.flags f) (two_came h.channel x (port_point f)) b a
+      (flags-make world (head_writes h) sends.added h.buffer.flags f b a from (ap (λ (m : Lane). m.kind) k.flags) writes-flags
+      (λ o. flags-fit h.buffer.low h.buffer.high sizes more sends.added h.buffer.flags.made sends.flags_are (flags-sent state h ys zs sizes after o)) small
+      (flags-at x) sends.passes)
+      (λ l n. flags-came h.channel x h.buffer.flags f k.flags l)
+    where
+      flags-at : (x : Point) → two_came h.channel x (port_point h.buffer.flags) h.buffer.flags.lane ≡ port_point h.buffer.flags
+      flags-at x =
+          ap (λ (m : Lane). two_came h.channel x (port_point h.buffer.flags) m) k.flags
+          ∙ cond-false (same_lane (flags_lane h.channel 0) (data_lane h.channel 0)) x _ (off (same_lane (flags_lane h.channel 0) (data_lane h.channel 0)) refl)
+          ∙ cond-true (same_lane (flags_lane h.channel 0) (flags_lane h.channel 0)) (port_point h.buffer.flags) nowhere (same_lane-self (flags_lane h.channel 0))
+        where
+          off : (b : Bool) → same_lane (flags_lane h.channel 0) (data_lane h.channel 0) ≡ b → same_lane (flags_lane h.channel 0) (data_lane h.channel 0) ≡ false
+          off false e = e
+          off true e = absurd (both_ways (same_lane (flags_lane h.channel 0) (flags_lane h.channel 0)) (apart h.channel (flags_lane h.channel 0) e) (same_lane-self (flags_lane h.channel 0)))
+
+  -- items of the lane of its reads, with the flags where they are
+  reads-makes : (y x : Point) (is : List Item) (b a : OutputsView) → (h.input.port.is_open ≡ true → AreGood world h.input.port.lane h.input.port.made is) → x ≡ port_point (port_after is h.input.port)
+      → PutsAll b (offered h.input.port is) a → Makes world (head_writes h) (two_came h.channel (port_point h.input.port) y) (two_came h.channel x y) b a
+  reads-makes y x is b a good at puts =
+      let from = two_came h.channel (port_point h.input.port) y in
+      makes-to world (head_writes h) from (moved from h.input.port (port_after is h.input.port)) (two_came h.channel x y) b a
+      (port-puts world (head_writes h) from h.input.port (λ o. writes-reads)
+      (λ o. ap (λ (m : Lane). from m) k.entrance ∙ cond-true (same_lane (data_lane h.channel 0) (data_lane h.channel 0)) (port_point h.input.port) _ (same_lane-self (data_lane h.channel 0))
+      ∙ ap (λ (q : Bool). point h.input.port.made (not q)) o) is good b a puts)
+      (λ l n. reads-came h.channel h.input.port is x y k.entrance at l)
+
+  -- nothing was put
+  stays-makes : (h' : HeadView T) (b a : OutputsView) → h' ≡ h → a ≡ b → Makes world (head_writes h) (head_came h) (head_came h') b a
+  stays-makes h' b a same out =
+      subst (λ (z : HeadView T). Makes world (head_writes h) (head_came h) (head_came z) b a) (sym same)
+      (makes-none world (head_writes h) (head_came h) b a (ap (λ (o : OutputsView). o.items) out) (ap (λ (o : OutputsView). o.stopped) out))
+
+  -- flags that came on the list were given to their port
+  flags-more : (sizes more : List Change) (b a : OutputsView) (f : Port) → SendsFlags h.buffer.low h.buffer.high sizes more h.buffer.flags b f a
+      → h.buffer.flags.made + length a.items ≤ f.made + length b.items
+  flags-more sizes more b a f sends = passes-more sends.added h.buffer.flags f b a (ap (λ (m : Lane). m.kind) k.flags) sends.passes
+
+  -- and so were items of its reads
+  reads-more : (is : List Item) (b a : OutputsView) → PutsAll b (offered h.input.port is) a → h.input.port.made + length a.items ≤ (port_after is h.input.port).made + length b.items
+  reads-more is b a puts =
+      let put = puts-length (offered h.input.port is) b a puts in
+      let given = offered-length h.input.port is in
+      omega (arith, put, given)
+
+  stays-more : (h' : HeadView T) (b a : OutputsView) → h' ≡ h → a ≡ b → head_done h + length a.items ≤ head_done h' + length b.items
+  stays-more h' b a same out =
+      let now = ap (λ (z : HeadView T). head_done z) same in
+      let none = ap (λ (o : OutputsView). length o.items) out in
+      omega (arith, now, none)
+
+  -- it took little, and made little
+  pub head-few : head_done h < 2 ^ 34
+  head-few =
+      let most = k.most in
+      let few = k.few in
+      let flags_few = k.few_flags in
+      let input_few = k.few_input in
+      let items = items-most plan k.reads.0 in
+      let made = k.reads.2.made in
+      let end = one-most k.reads.1 in
+      omega (arith, most, few, flags_few, input_few, items, made, end)
+
+  -- the places stay while flags are sent
+  flags-places : (lanes : List Lane) → AreAmong (head_lanes h) lanes → (ys zs : List Event) (sizes more : List Change) (b a : OutputsView) (f : Port)
+      → SendsFlags h.buffer.low h.buffer.high sizes more h.buffer.flags b f a → HasPlaces b.stopped lanes → HasPlaces a.stopped lanes
+  flags-places lanes among ys zs sizes more b a f sends places =
+      places_stay sends.added h.buffer.flags f b a lanes sends.passes places
+      (λ q m. among q (or-next (same_hop q (data_lane h.channel 0)) _ (ap (λ (g : Lane). same_hop q g || false) (sym k.flags) ∙ m)))
+    where
+      or-next : (a b : Bool) → b ≡ true → (a || b) ≡ true
+      or-next true b e = refl
+      or-next false b e = e
+
+  -- and while items of its reads are put
+  reads-places : (lanes : List Lane) → AreAmong (head_lanes h) lanes → (is : List Item) (b a : OutputsView) → PutsAll b (offered h.input.port is) a → HasPlaces b.stopped lanes → HasPlaces a.stopped lanes
+  reads-places lanes among is b a puts places =
+      puts-places lanes (offered h.input.port is) b a
+      (offered-among lanes h.input.port is (λ q m. among q (or-first (same_hop q (data_lane h.channel 0)) _ (ap (λ (g : Lane). same_hop q g || false) (sym k.entrance) ∙ m)))) places puts
+    where
+      or-first : (a b : Bool) → (a || false) ≡ true → (a || b) ≡ true
+      or-first true b e = refl
+      or-first false b e = absurd (both_ways false refl e)
+
+  -- ---- it takes an item
+
+  module _ (e : Envelope) (enters : EntersHead h e.lane) (number : e.number ≡ h.taken) (good : IsGood world e) where
+    item-fits : Fits events h.taken e.item
+    unfolding FitsWorld
+    item-fits =
+        let f = subst (λ q. FitsAsKind world q e) (ap (λ (m : Lane). m.kind) enters) good.fits in
+        let all : f.0 ≡ events = some-equal f.0 events (sym f.1 ∙ ap (λ l. content_of world l) enters ∙ k.own) in
+        subst (λ (y : List Event × ℕ). Fits y.0 y.1 e.item) (λ i. (all i, number i)) f.2
+
+    pub head-limit : e.number < 2 ^ 31
+    head-limit = let within = fits-within events h.taken e.item item-fits in let few = k.few in omega (arith, within, few, number)
+
+    module _ (b a : OutputsView) (answer : Took) (h' : HeadView T) (t : HeadTakes state h e b answer h' a) where
+      now-taken : h'.taken ≤ length events + 1
+      now-taken = let within = fits-within events h.taken e.item item-fits in let one = t.taken in omega (arith, within, one)
+
+      up-to : h.taken ≤ h'.taken
+      up-to = let one = t.taken in omega (arith, one)
+
+      abbrev some-sizes : List Event → List Change → List Change
+      some-sizes ys sizes = sizes ++ item_sizes (is_some h.failure) e.item answer (waiting_at state h ys) (waiting_at state h' (ys ++ events_before (is_some h.failure) e.item answer))
+
+      -- after the events that it took, and what the item brought
+      stood-now : h.standing ≡ stands.Open → (f : Bool) (i : Item) (r : Took) → is_some h.failure ≡ f → e.item ≡ i → answer ≡ r
+          → StandsAfter state h' (k.took.ys ++ events_before f i r) (k.took.zs ++ events_from f i r) (some-sizes k.took.ys k.took.sizes)
+      stood-now live f i r ef ei er =
+          subst (λ (y : Bool × Item × Took). StandsAfter state h' (k.took.ys ++ events_before y.0 y.1 y.2) (k.took.zs ++ events_from y.0 y.1 y.2) (some-sizes k.took.ys k.took.sizes)) (λ j. (ef j, ei j, er j))
+          (t.stood live k.took.ys k.took.zs k.took.sizes k.took.after)
+
+      failure-now : h.standing ≡ stands.Open → (i : Item) (r : Took) → e.item ≡ i → answer ≡ r → h'.failure ≡ first_cause h.failure (cause_of_item i r)
+      failure-now live i r ei er = t.failure live ∙ (λ j. first_cause h.failure (cause_of_item (ei j) (er j)))
+
+      standing-now : h.standing ≡ stands.Open → (f : Bool) (i : Item) → is_some h.failure ≡ f → e.item ≡ i → h'.standing ≡ standing_after f i
+      standing-now live f i ef ei = t.standing live ∙ (λ j. standing_after (ef j) (ei j))
+
+      -- nothing more is known of the lane than before
+      unmoved : (zs : List Event) (sizes : List Change) → StandsAfter state h' (k.took.ys ++ []) zs sizes → Picked events k.took.count zs h'.taken
+          → (h'.standing ≡ stands.Open → h'.failure ≡ None → h'.taken ≡ k.took.count) → (h'.standing ≡ stands.Ended → k.took.count ≡ length events) → (is_over h'.standing ≡ true → zs ≡ []) → HeadTook state events h'
+      unmoved zs sizes after later running ended none = record {
+        ys = k.took.ys ++ [];
+        zs = zs;
+        sizes = sizes;
+        after = after;
+        count = k.took.count;
+        within = k.took.within;
+        before = append-nil k.took.ys ∙ k.took.before;
+        later = later;
+        running = running;
+        ended = ended;
+        none_late = none;
+      }
+
+      still-none : h.failure ≡ None → (zs : List Event) → zs ≡ [] → k.took.zs ++ zs ≡ []
+      still-none f zs e = ap (λ (y : List Event). y ++ zs) (none-late state h k.took.ys k.took.zs k.took.sizes k.took.after f) ∙ e
+
+      still-picked : Picked events k.took.count (k.took.zs ++ []) h'.taken
+      still-picked = subst (λ (z : List Event). Picked events k.took.count z h'.taken) (sym (append-nil k.took.zs)) (picked-later events k.took.count k.took.zs h.taken h'.taken up-to k.took.later)
+
+      late : {G : Type 0} → h.standing ≡ stands.Open → (c : Cause) → h.failure ≡ Some c → (i : Item) (r : Took) → e.item ≡ i → answer ≡ r → h'.failure ≡ None → G
+      late live c f i r ei er n = none-some c (sym f ∙ no-cause h.failure (cause_of_item i r) (sym (failure-now live i r ei er) ∙ n))
+
+      over-not : {G : Type 0} (s : Standing) → h'.standing ≡ s → is_over s ≡ false → is_over h'.standing ≡ true → G
+      over-not s is n o = absurd (both_ways (is_over h'.standing) (ap is_over is ∙ n) o)
+
+      ended-not : {G : Type 0} (s : Standing) → h'.standing ≡ s → (s ≡ stands.Ended → ⊥) → h'.standing ≡ stands.Ended → G
+      ended-not s is n o = absurd (n (sym is ∙ o))
+
+      open-no : stands.Open ≡ stands.Ended → ⊥
+      open-no q = absurd (both_ways false refl (ap is_over q))
+
+      -- the head has not failed before
+      first-took : h.standing ≡ stands.Open → h.failure ≡ None → (i : Item) → e.item ≡ i → Fits events h.taken i → (r : Took) → answer ≡ r → Answers false i r → HeadTook state events h'
+      first-took live none (item.Event x) ei fits r er (inl ran) =
+          let er' : answer ≡ took.Ran = er ∙ ran in
+          let after = stood-now live false (item.Event x) took.Ran (ap is_some none) ei er' in
+          let count : h.taken ≡ k.took.count = k.took.running live none in
+          let fits' : slice_get events k.took.count ≡ Some x = ap (λ n. slice_get events n) (sym count) ∙ fits in
+          let s = split-at events k.took.count x fits' in
+          let next : k.took.count + 1 ≡ suc k.took.count = omega arith in
+          let within = slice_get_within events k.took.count x fits' in
+          let one = t.taken in
+          let late-none = still-none none [] refl in
+          record {
+            ys = k.took.ys ++ x ∷ [];
+            zs = k.took.zs ++ [];
+            sizes = some-sizes k.took.ys k.took.sizes;
+            after = after;
+            count = k.took.count + 1;
+            within = omega (arith, within);
+            before = ap (λ (y : List Event). y ++ x ∷ []) k.took.before ∙ sym s.2 ∙ ap (λ n. take n events) (sym next);
+            later = subst (λ (z : List Event). Picked events (k.took.count + 1) z h'.taken) (sym late-none) (omega (arith, one, count));
+            running = λ o f. omega (arith, one, count);
+            ended = λ o. ended-not stands.Open (standing-now live false (item.Event x) (ap is_some none) ei) open-no o;
+            none_late = λ o. late-none;
+          }
+      first-took live none (item.Event x) ei fits r er (inr failed) =
+          let er' : answer ≡ took.Failed Memory = er ∙ failed.0 in
+          let count : h.taken ≡ k.took.count = k.took.running live none in
+          let one = t.taken in
+          let standing = standing-now live false (item.Event x) (ap is_some none) ei in
+          unmoved (k.took.zs ++ x ∷ []) (some-sizes k.took.ys k.took.sizes) (stood-now live false (item.Event x) (took.Failed Memory) (ap is_some none) ei er')
+          (picked-one events k.took.count k.took.zs h.taken h'.taken x k.took.later fits (omega (arith, one)))
+          (λ o f. none-some Memory (sym (failure-now live (item.Event x) (took.Failed Memory) ei er' ∙ ap (λ (q : Option Cause). first_cause q (Some Memory)) none) ∙ f))
+          (λ o. ended-not stands.Open standing open-no o)
+          (λ o. over-not stands.Open standing refl o)
+      first-took live none item.End ei fits r er ans =
+          let count : h.taken ≡ k.took.count = k.took.running live none in
+          unmoved (k.took.zs ++ []) (some-sizes k.took.ys k.took.sizes) (stood-now live false item.End r (ap is_some none) ei er) still-picked
+          (λ o f. absurd (both_ways false refl (sym (ap is_over (sym (standing-now live false item.End (ap is_some none) ei) ∙ o)))))
+          (λ o. omega (arith, count, fits))
+          (λ o. still-none none [] refl)
+      first-took live none (item.Fail c) ei fits r er ans =
+          let standing = standing-now live false (item.Fail c) (ap is_some none) ei in
+          unmoved (k.took.zs ++ []) (some-sizes k.took.ys k.took.sizes) (stood-now live false (item.Fail c) r (ap is_some none) ei er) still-picked
+          (λ o f. absurd (both_ways false refl (sym (ap is_over (sym standing ∙ o)))))
+          (λ o. ended-not (stands.Failed c) standing (λ q. failed-no c q) o)
+          (λ o. still-none none [] refl)
+        where
+          failed-no : (c : Cause) → stands.Failed c ≡ stands.Ended → ⊥
+          failed-no c q = cc
+      first-took live none (item.Flag v) ei fits r er ans = absurd fits
+
+      -- it has failed before
+      late-took : h.standing ≡ stands.Open → (c : Cause) → h.failure ≡ Some c → (i : Item) → e.item ≡ i → Fits events h.taken i → HeadTook state events h'
+      late-took live c f (item.Event x) ei fits =
+          let one = t.taken in
+          let standing = standing-now live true (item.Event x) (ap is_some f) ei in
+          unmoved (k.took.zs ++ x ∷ []) (some-sizes k.took.ys k.took.sizes) (stood-now live true (item.Event x) answer (ap is_some f) ei refl)
+          (picked-one events k.took.count k.took.zs h.taken h'.taken x k.took.later fits (omega (arith, one)))
+          (λ o n. late live c f (item.Event x) answer ei refl n) (λ o. ended-not stands.Open standing open-no o) (λ o. over-not stands.Open standing refl o)
+      late-took live c f item.End ei fits =
+          let standing = standing-now live true item.End (ap is_some f) ei in
+          unmoved (k.took.zs ++ []) (some-sizes k.took.ys k.took.sizes) (stood-now live true item.End answer (ap is_some f) ei refl) still-picked
+          (λ o n. late live c f item.End answer ei refl n) (λ o. ended-not stands.Open standing open-no o) (λ o. over-not stands.Open standing refl o)
+      late-took live c f (item.Fail d) ei fits =
+          let standing = standing-now live true (item.Fail d) (ap is_some f) ei in
+          unmoved (k.took.zs ++ []) (some-sizes k.took.ys k.took.sizes) (stood-now live true (item.Fail d) answer (ap is_some f) ei refl) still-picked
+          (λ o n. late live c f (item.Fail d) answer ei refl n) (λ o. ended-not stands.Open standing open-no o) (λ o. over-not stands.Open standing refl o)
+      late-took live c f (item.Flag v) ei fits = absurd fits
+
+      -- its lane is over: it only counts
+      over-took : is_over h.standing ≡ true → HeadTook state events h'
+      over-took over =
+          subst (λ (z : HeadView T). HeadTook state events z) (sym (t.over over).1)
+          (record {
+            ys = k.took.ys;
+            zs = k.took.zs;
+            sizes = k.took.sizes;
+            after = k.took.after;
+            count = k.took.count;
+            within = k.took.within;
+            before = k.took.before;
+            later = picked-later events k.took.count k.took.zs h.taken h'.taken up-to k.took.later;
+            running = λ o f. absurd (both_ways (is_over h.standing) (ap is_over o) over);
+            ended = k.took.ended;
+            none_late = k.took.none_late;
+          })
+
+      now-took : HeadTook state events h'
+      now-took = by h.standing refl
+        where
+          live-took : h.standing ≡ stands.Open → (f : Option Cause) → h.failure ≡ f → HeadTook state events h'
+          live-took live None f = first-took live f e.item refl item-fits answer refl (subst (λ (q : Bool). Answers q e.item answer) (ap is_some f) (t.answers live))
+          live-took live (Some c) f = late-took live c f e.item refl item-fits
+
+          by : (s : Standing) → h.standing ≡ s → HeadTook state events h'
+          by stands.Open is = live-took is h.failure refl
+          by stands.Ended is = over-took (ap is_over is)
+          by (stands.Failed c) is = over-took (ap is_over is)
+
+      pub take-holds : Held h'
+      take-holds =
+          again h' (ap (λ (z : HeadView T). z.channel) t.same) (ap (λ (z : HeadView T). z.hop) t.same) now-taken now-took
+          (k.reads.0, k.reads.1, subst (λ (i : InputView). InputStands plan k.reads.0 k.reads.1 i) (sym (ap (λ (z : HeadView T). z.input) t.same)) k.reads.2)
+          (ap (λ (z : HeadView T). z.input.port.lane) t.same) t.marks.lane t.few
+
+      moved-makes : (s : Standing) → h.standing ≡ s → Makes world (head_writes h) (head_came h) (two_came h.channel (port_point h.input.port) (port_point h'.buffer.flags)) b a
+      moved-makes stands.Open is =
+          flags-makes (port_point h.input.port) k.took.ys k.took.zs k.took.sizes _ b a h'.buffer.flags k.took.after (t.flags is k.took.ys k.took.zs k.took.sizes k.took.after)
+          (few-made h' now-taken t.few)
+      moved-makes stands.Ended is = stays h.standing (ap is_over is)
+        where
+          stays : (s : Standing) → is_over h.standing ≡ true → Makes world (head_writes h) (head_came h) (two_came h.channel (port_point h.input.port) (port_point h'.buffer.flags)) b a
+          stays s o =
+              let over = t.over o in
+              subst (λ (f : Port). Makes world (head_writes h) (head_came h) (two_came h.channel (port_point h.input.port) (port_point f)) b a) (sym (ap (λ (z : HeadView T). z.buffer.flags) over.1))
+              (stays-makes h b a refl over.2)
+      moved-makes (stands.Failed c) is = stays h.standing (ap is_over is)
+        where
+          stays : (s : Standing) → is_over h.standing ≡ true → Makes world (head_writes h) (head_came h) (two_came h.channel (port_point h.input.port) (port_point h'.buffer.flags)) b a
+          stays s o =
+              let over = t.over o in
+              subst (λ (f : Port). Makes world (head_writes h) (head_came h) (two_came h.channel (port_point h.input.port) (port_point f)) b a) (sym (ap (λ (z : HeadView T). z.buffer.flags) over.1))
+              (stays-makes h b a refl over.2)
+
+      pub take-makes : Makes world (head_writes h) (head_came h) (head_came h') b a
+      take-makes =
+          subst (λ (y : ℕ × Point). Makes world (head_writes h) (head_came h) (two_came y.0 y.1 (port_point h'.buffer.flags)) b a)
+          (λ i. (ap (λ (z : HeadView T). z.channel) (sym t.same) i, ap (λ (z : HeadView T). port_point z.input.port) (sym t.same) i)) (moved-makes h.standing refl)
+
+      -- what came on the list was made, and one item more was taken
+      pub take-more : head_done h + length a.items + 1 ≤ head_done h' + length b.items
+      take-more = by h.standing refl
+        where
+          over : is_over h.standing ≡ true → head_done h + length a.items + 1 ≤ head_done h' + length b.items
+          over o =
+              let n = t.over o in
+              let one = t.taken in
+              let reads = ap (λ (z : HeadView T). z.input.port.made) n.1 in
+              let made = ap (λ (z : HeadView T). z.buffer.flags.made) n.1 in
+              let none = ap (λ (y : OutputsView). length y.items) n.2 in
+              omega (arith, one, reads, made, none)
+
+          by : (s : Standing) → h.standing ≡ s → head_done h + length a.items + 1 ≤ head_done h' + length b.items
+          by stands.Open is =
+              let put = flags-more k.took.sizes _ b a h'.buffer.flags (t.flags is k.took.ys k.took.zs k.took.sizes k.took.after) in
+              let one = t.taken in
+              let reads = ap (λ (z : HeadView T). z.input.port.made) t.same in
+              omega (arith, put, one, reads)
+          by stands.Ended is = over (ap is_over is)
+          by (stands.Failed c) is = over (ap is_over is)
+
+      pub take-places : (lanes : List Lane) → AreAmong (head_lanes h) lanes → HasPlaces b.stopped lanes → HasPlaces a.stopped lanes
+      take-places lanes among places = by h.standing refl
+        where
+          out : a ≡ b → HasPlaces a.stopped lanes
+          out same = subst (λ (o : OutputsView). HasPlaces o.stopped lanes) (sym same) places
+
+          by : (s : Standing) → h.standing ≡ s → HasPlaces a.stopped lanes
+          by stands.Open is = flags-places lanes among k.took.ys k.took.zs k.took.sizes _ b a h'.buffer.flags (t.flags is k.took.ys k.took.zs k.took.sizes k.took.after) places
+          by stands.Ended is = out (t.over (ap is_over is)).2
+          by (stands.Failed c) is = out (t.over (ap is_over is)).2
+
+  -- ---- it makes a write
+
+  module _ (may_refuse : T → ℕ → Type 0) (b a : OutputsView) (answer : OutStep) (h' : HeadView T) (w : HeadWrites state may_refuse h b answer h' a) where
+    write-taken : h'.taken ≡ h.taken
+    write-taken = ap (λ (z : HeadView T). z.taken) w.same
+
+    write-most : h'.taken ≤ length events + 1
+    write-most = let most = k.most in let same = write-taken in omega (arith, most, same)
+
+    write-standing : h'.standing ≡ h.standing
+    write-standing = ap (λ (z : HeadView T). z.standing) w.same
+
+    write-took : HeadTook state events h'
+    write-took = record {
+      ys = k.took.ys;
+      zs = k.took.zs;
+      sizes = k.took.sizes ++ step_sizes answer (waiting_at state h k.took.ys) (waiting_at state h' k.took.ys);
+      after = w.stood k.took.ys k.took.zs k.took.sizes k.took.after;
+      count = k.took.count;
+      within = k.took.within;
+      before = k.took.before;
+      later = subst (λ n. Picked events k.took.count k.took.zs n) (sym write-taken) k.took.later;
+      running = λ o f. write-taken ∙ k.took.running (sym write-standing ∙ o) (no-cause h.failure (cause_of_step answer) (sym w.failure ∙ f));
+      ended = λ o. k.took.ended (sym write-standing ∙ o);
+      none_late = λ o. k.took.none_late (ap is_over (sym write-standing) ∙ o);
+    }
+
+    pub write-holds : Held h'
+    write-holds =
+        again h' (ap (λ (z : HeadView T). z.channel) w.same) (ap (λ (z : HeadView T). z.hop) w.same) write-most write-took
+        (k.reads.0, k.reads.1, subst (λ (i : InputView). InputStands plan k.reads.0 k.reads.1 i) (sym (ap (λ (z : HeadView T). z.input) w.same)) k.reads.2)
+        (ap (λ (z : HeadView T). z.input.port.lane) w.same) w.marks.lane w.few
+
+    pub write-makes : Makes world (head_writes h) (head_came h) (head_came h') b a
+    write-makes =
+        subst (λ (y : ℕ × Point). Makes world (head_writes h) (head_came h) (two_came y.0 y.1 (port_point h'.buffer.flags)) b a)
+        (λ i. (ap (λ (z : HeadView T). z.channel) (sym w.same) i, ap (λ (z : HeadView T). port_point z.input.port) (sym w.same) i))
+        (flags-makes (port_point h.input.port) k.took.ys k.took.zs k.took.sizes _ b a h'.buffer.flags k.took.after (w.flags k.took.ys k.took.zs k.took.sizes k.took.after)
+        (few-made h' write-most w.few))
+
+    pub write-more : head_done h + length a.items ≤ head_done h' + length b.items
+    write-more =
+        let put = flags-more k.took.sizes _ b a h'.buffer.flags (w.flags k.took.ys k.took.zs k.took.sizes k.took.after) in
+        let count = write-taken in
+        let reads = ap (λ (z : HeadView T). z.input.port.made) w.same in
+        omega (arith, put, count, reads)
+
+    pub write-places : (lanes : List Lane) → AreAmong (head_lanes h) lanes → HasPlaces b.stopped lanes → HasPlaces a.stopped lanes
+    write-places lanes among places = flags-places lanes among k.took.ys k.took.zs k.took.sizes _ b a h'.buffer.flags (w.flags k.took.ys k.took.zs k.took.sizes k.took.after) places
+
+  -- ---- it fails, and its reads with it
+
+  reads-kind : h.input.port.lane.kind ≡ Data
+  reads-kind = ap (λ (m : Lane). m.kind) k.entrance
+
+  reads-content : content_of world h.input.port.lane ≡ Some (recorded_input plan.bursts)
+  reads-content = ap (λ (m : Lane). content_of world m) k.entrance ∙ k.input
+
+  steps-left : h.input.port.is_open ≡ true → (k.reads.1 ≡ false) × (k.reads.0 < plan_steps plan)
+  steps-left o =
+      let both = and_parts (not k.reads.1) (nat_lt k.reads.0 (plan_steps plan)) (sym k.reads.2.is_open ∙ o) in
+      (not-true k.reads.1 both.0, ltb-true k.reads.0 (plan_steps plan) both.1)
+    where
+      not-true : (b : Bool) → not b ≡ true → b ≡ false
+      not-true false e = refl
+      not-true true e = absurd (both_ways false refl e)
+
+  failure-next : (cause : Cause) → h.input.port.is_open ≡ true → AreGood world h.input.port.lane h.input.port.made (item.Fail cause ∷ [])
+  failure-next cause o =
+      let early = number-within plan k.reads.0 (steps-left o).1 in
+      let number = number_of_step plan k.reads.0 k.reads.1 h.input k.reads.2 o in
+      (failure-good world h.input.port.lane (recorded_input plan.bursts) h.input.port.made reads-kind reads-content k.few_input cause (omega (arith, early, number)), (λ g. refl), tt)
+
+  and-none : (b : Bool) → (b && false) ≡ false
+  and-none true = refl
+  and-none false = refl
+
+  module _ (b a : OutputsView) (h' : HeadView T) (f : Aborts state h b h' a) (reads : (reads : ℕ) × (failed : Bool) × ReadsStand plan reads failed h') (lane : h'.buffer.flags.lane ≡ h.buffer.flags.lane) (few : HasFewFlags h') where
+    abort-most : h'.taken ≤ length events + 1
+    abort-most = let most = k.most in let same = ap (λ (z : HeadView T). z.taken) f.same in omega (arith, most, same)
+
+    abort-took : HeadTook state events h'
+    abort-took = record {
+      ys = k.took.ys;
+      zs = k.took.zs;
+      sizes = k.took.sizes ++ Removed (waiting_at state h k.took.ys) ∷ [];
+      after = f.stands k.took.ys k.took.zs k.took.sizes k.took.after;
+      count = k.took.count;
+      within = k.took.within;
+      before = k.took.before;
+      later = subst (λ n. Picked events k.took.count k.took.zs n) (sym (ap (λ (z : HeadView T). z.taken) f.same)) k.took.later;
+      running = λ o n. none-some Aborted (sym (ap (λ (z : HeadView T). z.failure) f.same) ∙ n);
+      ended = λ o. k.took.ended (sym (ap (λ (z : HeadView T). z.standing) f.same) ∙ o);
+      none_late = λ o. k.took.none_late (sym (ap (λ (z : HeadView T). is_over z.standing) f.same) ∙ o);
+    }
+
+    abort-holds : Held h'
+    abort-holds =
+        again h' (ap (λ (z : HeadView T). z.channel) f.same) (ap (λ (z : HeadView T). z.hop) f.same) abort-most abort-took reads
+        (ap (λ (z : HeadView T). z.input.port.lane) f.same) lane few
+
+    abort-makes : Makes world (head_writes h) (head_came h) (head_came h') b a
+    abort-makes =
+        let is = item.Fail Aborted ∷ [] in
+        let mid = two_came h.channel (port_point h.input.port) (port_point h'.buffer.flags) in
+        let last = two_came h.channel (port_point h'.input.port) (port_point h'.buffer.flags) in
+        subst (λ (n : ℕ). Makes world (head_writes h) (head_came h) (two_came n (port_point h'.input.port) (port_point h'.buffer.flags)) b a) (ap (λ (z : HeadView T). z.channel) (sym f.same))
+        (makes-then world (head_writes h) (head_came h) mid last b f.between a
+        (flags-makes (port_point h.input.port) k.took.ys k.took.zs k.took.sizes (Removed (waiting_at state h k.took.ys) ∷ []) b f.between h'.buffer.flags k.took.after
+        (f.flags k.took.ys k.took.zs k.took.sizes k.took.after) (few-made h' abort-most few))
+        (reads-makes (port_point h'.buffer.flags) (port_point h'.input.port) is f.between a (failure-next Aborted)
+        (ap (λ (z : HeadView T). port_point z.input.port) f.same ∙ ap (λ (q : Bool). point (cond h.input.port.is_open (h.input.port.made + 1) h.input.port.made) (not q)) (sym (and-none h.input.port.is_open)))
+        f.puts))
+
+    abort-more : head_done h + length a.items ≤ head_done h' + length b.items
+    abort-more =
+        let sent = flags-more k.took.sizes (Removed (waiting_at state h k.took.ys) ∷ []) b f.between h'.buffer.flags (f.flags k.took.ys k.took.zs k.took.sizes k.took.after) in
+        let put = reads-more (item.Fail Aborted ∷ []) f.between a f.puts in
+        let count = ap (λ (z : HeadView T). z.taken) f.same in
+        let reads = ap (λ (z : HeadView T). z.input.port.made) f.same in
+        omega (arith, sent, put, count, reads)
+
+    abort-places : (lanes : List Lane) → AreAmong (head_lanes h) lanes → HasPlaces b.stopped lanes → HasPlaces a.stopped lanes
+    abort-places lanes among places =
+        reads-places lanes among (item.Fail Aborted ∷ []) f.between a f.puts
+        (flags-places lanes among k.took.ys k.took.zs k.took.sizes (Removed (waiting_at state h k.took.ys) ∷ []) b f.between h'.buffer.flags (f.flags k.took.ys k.took.zs k.took.sizes k.took.after) places)
+
+  stays-holds : (h' : HeadView T) → h' ≡ h → Held h'
+  stays-holds h' same = subst (λ (z : HeadView T). Held z) (sym same) k
+
+  stays-places : (b a : OutputsView) → a ≡ b → (lanes : List Lane) → HasPlaces b.stopped lanes → HasPlaces a.stopped lanes
+  stays-places b a same lanes places = subst (λ (o : OutputsView). HasPlaces o.stopped lanes) (sym same) places
+
+  -- ---- it makes a read step
+
+  module _ (b a : OutputsView) (answer : ReadStep) (h' : HeadView T) (r : HeadReads state h b answer h' a) where
+    by-answer : {G : Type 0} → (answer ≡ reading.Gave → G) → (h' ≡ h → a ≡ b → G) → G
+    by-answer {G = G} gave idle = go answer refl
+      where
+        held-no : reading.Held ≡ reading.Gave → ⊥
+        held-no e = cc
+
+        done-no : reading.Done ≡ reading.Gave → ⊥
+        done-no e = cc
+
+        go : (s : ReadStep) → answer ≡ s → G
+        go reading.Gave e = gave e
+        go reading.Held e = let i = r.idle (λ g. held-no (sym e ∙ g)) in idle i.0 i.1
+        go reading.Done e = let i = r.idle (λ g. done-no (sym e ∙ g)) in idle i.0 i.1
+
+    module _ (gave : answer ≡ reading.Gave) where
+      left : h.input.port.is_open ≡ true
+      left = ⊎_elim (λ (t : h.input.port.is_open ≡ true). t) (λ (s : h.input.port.is_open ≡ false). absurd (no (sym gave ∙ r.is_left.1 s))) (cases_Bool h.input.port.is_open)
+        where
+          no : reading.Gave ≡ reading.Done → ⊥
+          no e = cc
+
+      reads-now : (reads : ℕ) × (failed : Bool) × ReadsStand plan reads failed h'
+      reads-now = (steps_after plan k.reads.0 h.failure, brings_failure plan k.reads.0 h.failure, r.reads gave plan k.reads.0 k.reads.1 k.reads.2)
+
+      -- What it brings, and where that leaves its lane.
+      module _ (off : brings_abort plan k.reads.0 h.failure ≡ false) where
+        abbrev items : List Item
+        items = next_step_items plan k.reads.0 h.failure
+
+        same : h' ≡ record h { input = h'.input }
+        same = r.same gave plan k.reads.0 k.reads.1 k.reads.2 off
+
+        number : h.input.port.made ≡ read_items (bursts_read plan) k.reads.0
+        number = number_of_step plan k.reads.0 k.reads.1 h.input k.reads.2 left
+
+        put : PutsAll b (offered h.input.port items) a
+        put =
+            subst (λ (es : List Envelope). PutsAll b es a)
+            ((λ i. numbered (sym k.entrance i) (sym number i) items) ∙ sym (cond-true h.input.port.is_open (numbered h.input.port.lane h.input.port.made items) [] left))
+            (r.puts gave plan k.reads.0 k.reads.1 k.reads.2 off)
+
+        good : (f : Option Cause) → h.failure ≡ f → AreGood world h.input.port.lane h.input.port.made (next_step_items plan k.reads.0 f)
+        good None e =
+            subst (λ (m : ℕ). AreGood world h.input.port.lane m (step_items (bursts_read plan) k.reads.0)) (sym number)
+            (step-good plan k.reads.0 (steps-left left).1 world h.input.port.lane reads-kind reads-content k.few_input (ap (λ (f : Option Cause). brings_abort plan k.reads.0 f) (sym e) ∙ off))
+        good (Some c) e = failure-next c left
+
+        at : (f : Option Cause) → h.failure ≡ f → port_point h'.input.port ≡ port_point (port_after (next_step_items plan k.reads.0 f) h.input.port)
+        at None e =
+            let none : is_abort plan k.reads.0 ≡ false = ap (λ (q : Option Cause). brings_abort plan k.reads.0 q) (sym e) ∙ off in
+            let one = subst (λ (q : Option Cause). InputStands plan (steps_after plan k.reads.0 q) (brings_failure plan k.reads.0 q) h'.input) e (r.reads gave plan k.reads.0 k.reads.1 k.reads.2) in
+            let now : InputStands plan (k.reads.0 + 1) false h'.input = subst (λ (q : Bool). InputStands plan (if q then k.reads.0 else k.reads.0 + 1) q h'.input) none one in
+            let stepped = stands_after plan k.reads.0 k.reads.1 h.input k.reads.2 left (abort_is plan k.reads.0 k.reads.1 h.input k.reads.2 left ∙ none) in
+            let made = now.made ∙ ap (λ (q : Bool). read_items (bursts_read plan) (k.reads.0 + 1) + (if q then 1 else 0)) (sym (steps-left left).0) ∙ sym stepped.made in
+            let open_ = now.is_open ∙ ap (λ (q : Bool). has_step plan (k.reads.0 + 1) q) (sym (steps-left left).0) ∙ sym stepped.is_open in
+            (λ i. point (made i) (not (open_ i)))
+            ∙ ap (λ (is : List Item). port_point (port_after is h.input.port)) (items_of_step plan k.reads.0 k.reads.1 h.input k.reads.2 left)
+        at (Some c) e =
+            let now : InputStands plan k.reads.0 true h'.input =
+            subst (λ (q : Option Cause). InputStands plan (steps_after plan k.reads.0 q) (brings_failure plan k.reads.0 q) h'.input) e (r.reads gave plan k.reads.0 k.reads.1 k.reads.2) in
+            let made : h'.input.port.made ≡ h.input.port.made + 1 = now.made ∙ ap (λ (m : ℕ). m + 1) (sym number) in
+            let more : h.input.port.made + 1 ≡ cond h.input.port.is_open (h.input.port.made + 1) h.input.port.made = sym (cond-true h.input.port.is_open (h.input.port.made + 1) h.input.port.made left) in
+            let shut : h'.input.port.is_open ≡ (h.input.port.is_open && false) = now.is_open ∙ sym (and-none h.input.port.is_open) in
+            (λ i. point ((made ∙ more) i) (not (shut i)))
+
+        step-took : HeadTook state events h'
+        step-took =
+            subst (λ (z : HeadView T). HeadTook state events z) (sym same)
+            (record {
+              ys = k.took.ys;
+              zs = k.took.zs;
+              sizes = k.took.sizes;
+              after = k.took.after;
+              count = k.took.count;
+              within = k.took.within;
+              before = k.took.before;
+              later = k.took.later;
+              running = k.took.running;
+              ended = k.took.ended;
+              none_late = k.took.none_late;
+            })
+
+        step-holds : Held h'
+        step-holds =
+            again h' (ap (λ (z : HeadView T). z.channel) same) (ap (λ (z : HeadView T). z.hop) same)
+            (let most = k.most in let still = ap (λ (z : HeadView T). z.taken) same in omega (arith, most, still)) step-took reads-now
+            r.entrance_stays r.marks.lane r.few
+
+        step-makes : Makes world (head_writes h) (head_came h) (head_came h') b a
+        step-makes =
+            subst (λ (y : ℕ × Point). Makes world (head_writes h) (head_came h) (two_came y.0 (port_point h'.input.port) y.1) b a)
+            (λ i. (ap (λ (z : HeadView T). z.channel) (sym same) i, ap (λ (z : HeadView T). port_point z.buffer.flags) (sym same) i))
+            (reads-makes (port_point h.buffer.flags) (port_point h'.input.port) items b a (λ o. good h.failure refl) (at h.failure refl) put)
+
+        step-more : head_done h + length a.items ≤ head_done h' + length b.items
+        step-more =
+            let given = reads-more items b a put in
+            let reads = ap (λ (p : Point). p.next) (at h.failure refl) in
+            let count = ap (λ (z : HeadView T). z.taken) same in
+            let sent = ap (λ (z : HeadView T). z.buffer.flags.made) same in
+            omega (arith, given, reads, count, sent)
+
+      failed-now : brings_abort plan k.reads.0 h.failure ≡ true → Aborts state h b h' a
+      failed-now on = r.aborts gave plan k.reads.0 k.reads.1 k.reads.2 on
+
+    pub read-holds : Held h'
+    read-holds = by-answer
+        (λ gave. ⊎_elim
+        (λ (on : brings_abort plan k.reads.0 h.failure ≡ true). abort-holds b a h' (failed-now gave on) (reads-now gave) r.marks.lane r.few)
+        (λ (off : brings_abort plan k.reads.0 h.failure ≡ false). step-holds gave off)
+        (cases_Bool (brings_abort plan k.reads.0 h.failure)))
+        (λ same out. stays-holds h' same)
+
+    pub read-makes : Makes world (head_writes h) (head_came h) (head_came h') b a
+    read-makes = by-answer
+        (λ gave. ⊎_elim
+        (λ (on : brings_abort plan k.reads.0 h.failure ≡ true). abort-makes b a h' (failed-now gave on) (reads-now gave) r.marks.lane r.few)
+        (λ (off : brings_abort plan k.reads.0 h.failure ≡ false). step-makes gave off)
+        (cases_Bool (brings_abort plan k.reads.0 h.failure)))
+        (λ same out. stays-makes h' b a same out)
+
+    pub read-more : head_done h + length a.items ≤ head_done h' + length b.items
+    read-more = by-answer
+        (λ gave. ⊎_elim
+        (λ (on : brings_abort plan k.reads.0 h.failure ≡ true). abort-more b a h' (failed-now gave on) (reads-now gave) r.marks.lane r.few)
+        (λ (off : brings_abort plan k.reads.0 h.failure ≡ false). step-more gave off)
+        (cases_Bool (brings_abort plan k.reads.0 h.failure)))
+        (λ same out. stays-more h' b a same out)
+
+    pub read-places : (lanes : List Lane) → AreAmong (head_lanes h) lanes → HasPlaces b.stopped lanes → HasPlaces a.stopped lanes
+    read-places lanes among places = by-answer
+        (λ gave. ⊎_elim
+        (λ (on : brings_abort plan k.reads.0 h.failure ≡ true). abort-places b a h' (failed-now gave on) (reads-now gave) r.marks.lane r.few lanes among places)
+        (λ (off : brings_abort plan k.reads.0 h.failure ≡ false). reads-places lanes among (items gave off) b a (put gave off) places)
+        (cases_Bool (brings_abort plan k.reads.0 h.failure)))
+        (λ same out. stays-places b a out lanes places)
+
+    pub read-taken : h'.taken ≡ h.taken
+    read-taken = by-answer
+        (λ gave. ⊎_elim
+        (λ (on : brings_abort plan k.reads.0 h.failure ≡ true). ap (λ (z : HeadView T). z.taken) (failed-now gave on).same)
+        (λ (off : brings_abort plan k.reads.0 h.failure ≡ false). ap (λ (z : HeadView T). z.taken) (same gave off))
+        (cases_Bool (brings_abort plan k.reads.0 h.failure)))
+        (λ same out. ap (λ (z : HeadView T). z.taken) same)
+
+    pub read-place : (h'.channel ≡ h.channel) × (h'.hop ≡ h.hop)
+    read-place = by-answer
+        (λ gave. ⊎_elim
+        (λ (on : brings_abort plan k.reads.0 h.failure ≡ true). (ap (λ (z : HeadView T). z.channel) (failed-now gave on).same, ap (λ (z : HeadView T). z.hop) (failed-now gave on).same))
+        (λ (off : brings_abort plan k.reads.0 h.failure ≡ false). (ap (λ (z : HeadView T). z.channel) (same gave off), ap (λ (z : HeadView T). z.hop) (same gave off)))
+        (cases_Bool (brings_abort plan k.reads.0 h.failure)))
+        (λ same out. (ap (λ (z : HeadView T). z.channel) same, ap (λ (z : HeadView T). z.hop) same))
+
+  -- ---- it is aborted
+
+  module _ (b a : OutputsView) (h' : HeadView T) (f : HeadAborts state h b h' a) where
+    by-failure : {G : Type 0} → (h.failure ≡ None → G) → (h' ≡ h → a ≡ b → G) → G
+    by-failure {G = G} live idle = go h.failure refl
+      where
+        go : (s : Option Cause) → h.failure ≡ s → G
+        go None e = live e
+        go (Some c) e = let i = f.failed (ap (λ (q : Option Cause). is_some q) e) in idle i.0 i.1
+
+    failed-reads : h.failure ≡ None → (reads : ℕ) × (failed : Bool) × ReadsStand plan reads failed h'
+    failed-reads live = (k.reads.0, h.input.port.is_open || k.reads.1, f.reads live plan k.reads.0 k.reads.1 k.reads.2)
+
+    pub aborted-holds : Held h'
+    aborted-holds = by-failure (λ live. abort-holds b a h' (f.aborts live) (failed-reads live) f.marks.lane f.few) (λ same out. stays-holds h' same)
+
+    pub aborted-makes : Makes world (head_writes h) (head_came h) (head_came h') b a
+    aborted-makes = by-failure (λ live. abort-makes b a h' (f.aborts live) (failed-reads live) f.marks.lane f.few) (λ same out. stays-makes h' b a same out)
+
+    pub aborted-more : head_done h + length a.items ≤ head_done h' + length b.items
+    aborted-more = by-failure (λ live. abort-more b a h' (f.aborts live) (failed-reads live) f.marks.lane f.few) (λ same out. stays-more h' b a same out)
+
+    pub aborted-places : (lanes : List Lane) → AreAmong (head_lanes h) lanes → HasPlaces b.stopped lanes → HasPlaces a.stopped lanes
+    aborted-places lanes among places =
+        by-failure (λ live. abort-places b a h' (f.aborts live) (failed-reads live) f.marks.lane f.few lanes among places) (λ same out. stays-places b a out lanes places)
+
+-- ---- one that has taken nothing
+
+pub new-holds : {T : Type 0} (state : T → TransportState) (world : World) (plan : ReadPlan) (channel hop : ℕ) → IsHeadPlanned world plan channel hop → length (recorded_input plan.bursts) + 1 < 2 ^ 31
+    → (h : HeadView T) → StandsAfter state h [] [] [] → ReadsStand plan 0 false h → h.input.port.lane ≡ data_lane channel 0 → (h.channel ≡ channel) × (h.hop ≡ hop)
+    → h.buffer.flags.lane ≡ flags_lane channel 0 → h.taken ≡ 0 → h.standing ≡ stands.Open → HasFewFlags h → HeadHolds state world h
+new-holds state world plan channel hop p few h after reads entrance place fl none live flags_few = record {
+  plan = plan;
+  events = p.events;
+  holds = record {
+    own = (λ i. content_of world (data_lane (place.0 i) (place.1 i))) ∙ p.own;
+    few = p.few;
+    took = record {
+      ys = [];
+      zs = [];
+      sizes = [];
+      after = after;
+      count = 0;
+      within = omega arith;
+      before = refl;
+      later = omega arith;
+      running = λ o f. none;
+      ended = λ o. absurd (both_ways false refl (ap is_over (sym live ∙ o)));
+      none_late = λ o. refl;
+    };
+    most = omega (arith, none);
+    input = (λ i. content_of world (data_lane (place.0 i) 0)) ∙ p.input;
+    few_input = few;
+    reads = (0, false, reads);
+    entrance = entrance ∙ ap (λ n. data_lane n 0) (sym place.0);
+    flags = fl ∙ ap (λ n. flags_lane n 0) (sym place.0);
+    few_flags = flags_few;
+  };
+}

@@ -1,0 +1,51 @@
+-- Each channel of a net has its two ends, and they hold in the world of the plan.
+use Rattle.std.proofs.Common.{◌≡◌, ℕ, true, List, slice_get, Option, Some, None, refl, ◌∙◌}
+use Rattle.std.specs.Prelude.{is_some, All}
+use Rattle.pl_event.specs.declared.events.Event.{Event}
+use Rattle.pl_event.specs.Meaning.{Meaning}
+use Rattle.pl_context.specs.WaitingViews.{Entry}
+use Rattle.pl_head.specs.Transports.{TransportState}
+use Rattle.pl_net.specs.declared.cores.Core.{Core}
+use Rattle.pl_part.specs.Parts.{PartView}
+use Rattle.pl_replay.specs.NetStand.{NetStands}
+use Rattle.pl_replay.specs.Reported.{HasEnds, HaveEnds}
+use Rattle.pl_replay.specs.declared.channels.Channels.{Channels}
+use Rattle.pl_replay.proofs.NetStarts.{All-from-at}
+use Rattle.pl_world.specs.Plans.{Plan}
+
+some-of : {A : Type 0} (o : Option A) → is_some o ≡ true → (x : A) × (o ≡ Some x)
+some-of (Some x) h = (x, refl)
+some-of None h = cc
+
+module _ {S T : Type 0} (meaning : S → Meaning) (stands_after : S → List Event → Type 0) (state : T → TransportState) (plan : Plan) (backlogs : ℕ → List (Entry (Unit {0}))) (core : Core (Channels S T)) (n : NetStands meaning stands_after state plan backlogs core) where
+  has-ends : (c : ℕ) (part : PartView S T) → slice_get core.nodes.parts.items c ≡ Some part → HasEnds part
+  has-ends c part at =
+      let whole = (n.stands.hold.parts c part at).whole in
+      let tail = some-of part.path.tail whole.tail in
+      let head = some-of part.head whole.head in
+      record { tail = tail.0; head = head.0; has_tail = tail.1; has_head = head.1 }
+
+  pub all-have-ends : All HasEnds core.nodes.parts.items
+  all-have-ends = All-from-at HasEnds core.nodes.parts.items has-ends
+
+  pub have-ends : HaveEnds state plan core.nodes.parts.items
+  have-ends = record {
+    count = n.keeps.count;
+    each = λ c p part planned at.
+        let stands = n.stands.hold.parts c part at in
+        let keeps = n.keeps.each c p part planned at in
+        let ends = has-ends c part at in
+        let tail = stands.holds.path.tail ends.tail ends.has_tail in
+        let head = stands.holds.head ends.head ends.has_head in (
+          ends,
+          record {
+            planned = planned;
+            tail_holds = tail.0;
+            tail_channel = tail.1 ∙ stands.channel;
+            tail_at = tail.2 ∙ keeps.tail_at;
+            head_holds = head.0;
+            head_channel = head.1 ∙ stands.channel;
+            head_at = head.2 ∙ keeps.head_at;
+          },
+        );
+  }

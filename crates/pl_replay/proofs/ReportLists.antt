@@ -1,0 +1,76 @@
+-- Lists of reports, one for each part.
+use Rattle.std.proofs.Common.{◌≡◌, ◌≢◌, false, ℕ, ◌∷◌, ◌++◌, ◌&&◌, List, [], length, Bool, Some, suc, refl, sym, subst, ap, ◌∙◌, ◌+◌, ◌<◌, ◌≤◌, take, get_or, arith}
+use Rattle.std.specs.List.{AllZip, slice_get}
+use Rattle.std.proofs.lemmas.Option.{same_Some}
+use Rattle.std.proofs.lemmas.List.{take_all, take_more}
+use Rattle.pl_event.proofs.Lists.{list_all_push}
+use Rattle.pl_context.specs.TailViews.{TailView}
+use Rattle.pl_head.specs.Transports.{TransportState}
+use Rattle.pl_head.specs.HeadStand.{HeadView}
+use Rattle.pl_part.specs.Parts.{PartView}
+use Rattle.pl_channel.specs.Ends.{EndsHold}
+use Rattle.pl_world.specs.declared.report.ChannelReport.{ChannelReport}
+use Rattle.pl_world.specs.declared.report.Stands.{Stands}
+use Rattle.pl_world.specs.declared.report.Stands.TheVariants as stands
+use Rattle.pl_world.specs.Plans.{ChannelPlan, Plan}
+use Rattle.pl_world.specs.Reports.{AllKeepToPlan, KeepsToPlan}
+use Rattle.pl_replay.specs.Reported.{AreDrained, HasEnds, HaveEnds, IsPartStands, KeepsItsPlan, is_drained}
+
+-- one more of each
+pub zip_push : {A B : Type 0} (R : A → B → Type 0) (xs : List A) (ys : List B) (x : A) (y : B) → AllZip R xs ys → R x y → AllZip R (xs ++ x ∷ []) (ys ++ y ∷ [])
+zip_push R [] [] x y all one = (one, tt)
+zip_push R (a ∷ xs) (b ∷ ys) x y all one = (all.0, zip_push R xs ys x y all.1 one)
+zip_push R [] (b ∷ ys) x y all one = elim all [ ]
+zip_push R (a ∷ xs) [] x y all one = elim all [ ]
+
+-- the next of them, and what goes with it
+pub zip_more : {A B : Type 0} (R : A → B → Type 0) (xs : List A) (i : ℕ) (x : A) (ys : List B) (y : B) (zs : List B) → i < length xs → x ≡ get_or xs i x → zs ≡ ys ++ y ∷ []
+    → AllZip R (take i xs) ys → R x y → AllZip R (take (i + 1) xs) zs
+zip_more R xs i x ys y zs there is pushed all one =
+    let taken : take (i + 1) xs ≡ take i xs ++ x ∷ [] = take_more xs i x there ∙ ap (λ z. take i xs ++ z ∷ []) (sym is) in
+    rw (taken, pushed) (zip_push R (take i xs) ys x y all one)
+
+-- what stands at the same place
+pub zip_through : {A B C : Type 0} (R : B → C → Type 0) (Q : A → C → Type 0) (xs : List A) (ys : List B) (zs : List C) → length ys ≡ length xs
+    → ((k : ℕ) (x : A) (y : B) → slice_get xs k ≡ Some x → slice_get ys k ≡ Some y → (z : C) → R y z → Q x z) → AllZip R ys zs → AllZip Q xs zs
+zip_through R Q [] [] [] same leads all = tt
+zip_through R Q [] [] (z ∷ zs) same leads all = elim all [ ]
+zip_through R Q (x ∷ xs) (y ∷ ys) [] same leads all = elim all [ ]
+zip_through R Q [] (y ∷ ys) zs same leads all = let none : ⊥ = omega (arith, same) in elim none [ ]
+zip_through R Q (x ∷ xs) [] zs same leads all = let none : ⊥ = omega (arith, same) in elim none [ ]
+zip_through R Q (x ∷ xs) (y ∷ ys) (z ∷ zs) same leads all = (leads 0 x y refl refl z all.0, zip_through R Q xs ys zs (omega (arith, same)) (λ k. leads (suc k)) all.1)
+
+-- all of them were taken
+pub zip_whole : {A B : Type 0} (R : A → B → Type 0) (xs : List A) (i : ℕ) (ys zs : List B) → length xs ≤ i → zs ≡ ys → AllZip R (take i xs) ys → AllZip R xs zs
+zip_whole R xs i ys zs end same all = rw same (subst (λ (front : List _). AllZip R front ys) (take_all i xs end) all)
+
+module _ {S T : Type 0} (state : T → TransportState) where
+  -- the ends of a part are the only ones that it has
+  pub keeps_its_plan : (part : PartView S T) (own : HasEnds part) (report : ChannelReport) → ((plan : Plan) (number : ℕ) (p : ChannelPlan) → EndsHold state plan number p own.tail own.head → KeepsToPlan p report)
+      → KeepsItsPlan state part report
+  keeps_its_plan part own report keeps plan number p ends held =
+      keeps plan number p
+      (subst (λ (tail : TailView). EndsHold state plan number p tail own.head) (same_Some ends.tail own.tail (sym ends.has_tail ∙ own.has_tail))
+      (subst (λ (head : HeadView T). EndsHold state plan number p ends.tail head) (same_Some ends.head own.head (sym ends.has_head ∙ own.has_head)) held))
+
+  -- each report keeps to the plan of its channel
+  pub all_keep : (plan : Plan) (parts : List (PartView S T)) (reports : List ChannelReport) → AllZip (KeepsItsPlan state) parts reports → HaveEnds state plan parts → AllKeepToPlan plan.channels reports
+  all_keep plan parts reports each have =
+      zip_through (KeepsItsPlan state) KeepsToPlan plan.channels parts reports have.count
+      (λ c p part planned there r keeps. let held = have.each c p part planned there in keeps plan c p held.0 held.1)
+      each
+
+  -- the next part is looked at
+  pub one_more_drained : (parts : List (PartView S T)) (i : ℕ) (part : PartView S T) (b : Bool) (s : Stands) (here : Bool) → i < length parts → part ≡ get_or parts i part → here ≡ is_drained s
+      → AreDrained state (take i parts) b → IsPartStands state part s → AreDrained state (take (i + 1) parts) (b && here)
+  one_more_drained parts i part b s here there item is so_far one = record {
+    stands = so_far.stands ++ s ∷ [];
+    each = zip_more (IsPartStands state) parts i part so_far.stands s (so_far.stands ++ s ∷ []) there item refl so_far.each one;
+    is = ap (λ (drained : Bool). b && drained) is ∙ ap (λ (drained : Bool). drained && is_drained s) so_far.is ∙ sym (list_all_push is_drained so_far.stands s);
+  }
+
+-- only a channel that stands drained is
+pub not_drained : (s : Stands) → s ≢ stands.Drained → is_drained s ≡ false
+not_drained stands.Drained other = elim (other refl) [ ]
+not_drained stands.Open other = refl
+not_drained (stands.Failed cause) other = refl

@@ -1,0 +1,36 @@
+use Rattle.std.proofs.Common.{List, length, sym, subst, ◌∙◌, rules}
+use Rattle.std.specs.List.{AllZip}
+use Rattle.std.proofs.lemmas.List.{map-id}
+use Rattle.std.proofs.lemmas.List.Elements.{All-get_or}
+use Rattle.std.proofs.lemmas.Iterator.Adapters.{YieldsList-from_vec}
+use Rattle.std.proofs.lemmas.Iterator.Consumers.{YieldsList-turn, YieldsList-end}
+use Rattle.pl_part.specs.Parts.{PartView}
+use Rattle.pl_replay.specs.Reported.{HasEnds, IsPartReport, KeepsItsPlan}
+use Rattle.pl_replay.proofs.ReportLists.{zip_push, all_keep}
+use Rattle.pl_replay.proofs.reporting.into_reports.Goals as goal
+
+pub report_from-requires : goal.report_from-requires
+report_from-requires g c =
+    let so_far = c.loop-part in
+    let yields = YieldsList-from_vec {s = c.into_iter-part-iterator.result} c.args.parts.items (search rules) (search rules) in
+    let turn = YieldsList-turn yields so_far.yielded so_far.part-iterator so_far.yielded_by c.next.result c.next.new.self c.in-Some.part c.in-Some.is c.next.ensures.steps in
+    subst HasEnds (sym turn.1) (All-get_or HasEnds c.args.parts.items (length so_far.yielded) c.in-Some.part turn.0 c.requires.ends)
+
+pub loop-part-preserved : goal.loop-part-preserved
+loop-part-preserved g c =
+    let state = g.T.Transport.state in
+    let so_far = c.loop-part in
+    let report = c.in_ok-report_from in
+    record {
+      reported = rw c.in_ok-push.ensures.items (zip_push (IsPartReport state) so_far.yielded so_far.moved.items c.in-Some.part report.field-0 so_far.invariant.reported report.ensures.reports);
+      kept = rw c.in_ok-push.ensures.items (zip_push (KeepsItsPlan state) so_far.yielded so_far.moved.items c.in-Some.part report.field-0 so_far.invariant.kept report.ensures.keeps);
+    }
+
+pub returns-clause-kept : goal.returns-clause-kept
+returns-clause-kept g c =
+    let state = g.T.Transport.state in
+    let so_far = c.loop-part in
+    let yields = YieldsList-from_vec {s = c.into_iter-part-iterator.result} c.args.parts.items (search rules) (search rules) in
+    let end = YieldsList-end yields so_far.yielded so_far.part-iterator so_far.yielded_by c.next.result c.next.new.self c.in-None.is c.next.ensures.steps in
+    λ plan. all_keep state plan c.args.parts.items c.from_vec.result
+    (rw c.from_vec.ensures (subst (λ (parts : List (PartView g.row.S.Denot g.row.T.Denot)). AllZip (KeepsItsPlan state) parts so_far.moved.items) (sym (map-id so_far.yielded) ∙ end.0) so_far.invariant.kept))

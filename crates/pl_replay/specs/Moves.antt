@@ -1,0 +1,77 @@
+-- What moves do to a net, and when each is enabled (Netty: EventLoop, whose tasks run one after another).
+use Rattle.std.specs.Prelude.{◌≡◌, ℕ, List, [], ◌∷◌, map, nat_lt, length, is_some, position, Bool, true, false, Option, Some}
+use Rattle.pl_event.specs.declared.events.Event.{Event}
+use Rattle.pl_event.specs.declared.envelopes.Envelope.{Envelope}
+use Rattle.pl_event.specs.Meaning.{Meaning}
+use Rattle.pl_event.specs.Worlds.{World}
+use Rattle.pl_context.specs.OutputsViews.{OutputsView}
+use Rattle.pl_head.specs.Transports.{TransportState}
+use Rattle.pl_net.specs.Cores.{waits_of}
+use Rattle.pl_net.specs.NodesViews.{NodesView}
+use Rattle.pl_net.specs.Nets.{CoreView, RunsTask, Gives, HandsOver, has_room, queue_at}
+use Rattle.pl_replay.specs.Channels.{channels_view, ChannelsStand, home_of, IsTakenBy, HasRead, HasWritten, MayRead, MayWrite}
+use Rattle.pl_replay.specs.declared.channels.Channels.{Channels}
+use Rattle.pl_world.specs.declared.moves.Move.{Move}
+use Rattle.pl_world.specs.declared.moves.Move.TheVariants.{Read, Task, Hand, Out}
+
+-- where the oldest item of an executor's backlog stands whose target has room
+abbrev pub oldest : {N : Type 0} → ℕ → CoreView N → ℕ → Option ℕ
+oldest capacity c x = position (λ entry. has_room c.executors capacity entry.target) (c.backlogs x)
+
+-- Nothing has moved, but for how much memory queues have.
+pub record Rests {N : Type 0} (c c' : CoreView N) : Type 0 where
+  pub nodes : c'.nodes ≡ c.nodes
+  pub executors : map waits_of c'.executors ≡ map waits_of c.executors
+  pub backlogs : c'.backlogs ≡ c.backlogs
+  pub work : c'.work ≡ c.work
+
+-- The oldest item that can be handed over is.
+pub record HandsOldest {N : Type 0} (capacity x : ℕ) (c c' : CoreView N) : Type 0 where
+  pub at : ℕ
+  pub is : oldest capacity c x ≡ Some at
+  pub hands : HandsOver x at c c'
+
+-- ---- the nodes, as executors see them
+
+abbrev pub nodes_view : {S T : Type 0} → (S → Meaning) → Channels S T → NodesView
+nodes_view meaning n = channels_view meaning n.parts.items
+
+abbrev pub nodes_stand : {S T : Type 0} → (S → Meaning) → (S → List Event → Type 0) → (T → TransportState) → World → Channels S T → Type 0
+nodes_stand meaning stands_after state world n = ChannelsStand world meaning stands_after state n.parts.items
+
+abbrev pub nodes_take : {S T : Type 0} → (S → Meaning) → (S → List Event → Type 0) → (S → Bool) → (T → TransportState) → Channels S T → Envelope → OutputsView → Channels S T → OutputsView → Type 0
+nodes_take meaning stands_after is_spent state n e before n' after = IsTakenBy meaning stands_after is_spent state n.parts.items e before n'.parts.items after
+
+abbrev pub nodes_read : {S T : Type 0} → (T → TransportState) → Channels S T → ℕ → OutputsView → Channels S T → OutputsView → Type 0
+nodes_read state n channel before n' after = HasRead state n.parts.items channel before n'.parts.items after
+
+abbrev pub nodes_write : {S T : Type 0} → (T → TransportState) → (T → ℕ → Type 0) → Channels S T → ℕ → OutputsView → Channels S T → OutputsView → Type 0
+nodes_write state may_refuse n channel before n' after = HasWritten state may_refuse n.parts.items channel before n'.parts.items after
+
+-- ---- moves
+
+module _ {S T : Type 0} (meaning : S → Meaning) (stands_after : S → List Event → Type 0) (is_spent : S → Bool) (state : T → TransportState) (may_refuse : T → ℕ → Type 0) where
+  -- whether a move is enabled, where queues hold so many items
+  abbrev pub IsEnabled : ℕ → Move → CoreView (Channels S T) → Bool → Type 0
+  IsEnabled capacity (Read channel) c b = MayRead state c.nodes.parts.items channel b
+  IsEnabled capacity (Task x) c b = b ≡ nat_lt 0 (length (queue_at c.executors x))
+  IsEnabled capacity (Hand x) c b = b ≡ is_some (oldest capacity c x)
+  IsEnabled capacity (Out channel) c b = MayWrite state c.nodes.parts.items channel b
+
+  -- what one that is enabled does
+  abbrev pub Makes : ℕ → Move → CoreView (Channels S T) → CoreView (Channels S T) → Type 0
+  Makes capacity (Read channel) c c' = Gives (nodes_view meaning) (nodes_take meaning stands_after is_spent state) (nodes_read state) (home_of c.nodes.parts.items channel) channel c c'
+  Makes capacity (Task x) c c' = RunsTask (nodes_view meaning) (nodes_take meaning stands_after is_spent state) x c c'
+  Makes capacity (Hand x) c c' = HandsOldest capacity x c c'
+  Makes capacity (Out channel) c c' = Gives (nodes_view meaning) (nodes_take meaning stands_after is_spent state) (nodes_write state may_refuse) (home_of c.nodes.parts.items channel) channel c c'
+
+  -- A move was made where it is enabled, and one that was not changes nothing.
+  pub record LeadsTo (capacity : ℕ) (move : Move) (c : CoreView (Channels S T)) (made : Bool) (c' : CoreView (Channels S T)) : Type 0 where
+    pub enabled : IsEnabled capacity move c made
+    pub makes : made ≡ true → Makes capacity move c c'
+    pub rests : made ≡ false → Rests c c'
+
+  -- so do several, one after another
+  abbrev pub Reaches : ℕ → List Move → CoreView (Channels S T) → CoreView (Channels S T) → Type 0
+  Reaches capacity [] c c' = c' ≡ c
+  Reaches capacity (move ∷ moves) c c' = (made : Bool) × (mid : CoreView (Channels S T)) × LeadsTo capacity move c made mid × Reaches capacity moves mid c'
