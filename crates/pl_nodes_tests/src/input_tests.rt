@@ -80,6 +80,32 @@ fn two_bursts(alloc: Global) -> Result<Head<MemoryTransport>, AllocError> {
     Ok(Head::new(alloc, 7, 3, plan, transport, 1, 1))
 }
 
+/// The next read step answers so, and puts out these.
+fn assert_step(
+    rt: &impl Abort,
+    alloc: Global,
+    head: &mut Head<MemoryTransport>,
+    answer: ReadStep,
+    want: &[Envelope],
+) -> Result<(), AllocError> {
+    let (got, envelopes) = step(alloc, head)?;
+    assert_eq!(rt; got, answer);
+    assert_eq!(rt; envelopes.as_slice(), want);
+    Ok(())
+}
+
+/// The step that is next is held until what waits is written.
+fn assert_held(
+    rt: &impl Abort,
+    alloc: Global,
+    head: &mut Head<MemoryTransport>,
+) -> Result<(), AllocError> {
+    block(rt, alloc, head)?;
+    assert_step(rt, alloc, head, ReadStep::Held, &[])?;
+    write_once(alloc, head)?;
+    Ok(())
+}
+
 #[test]
 fn burst_by_burst(rt: HostRuntime) -> Result<(), Fail> {
     let alloc = rt.alloc();
@@ -87,45 +113,27 @@ fn burst_by_burst(rt: HostRuntime) -> Result<(), Fail> {
 
     // The first step is not a burst, and so it is not held.
     block(&rt, alloc, &mut head)?;
-    let (answer, first) = step(alloc, &mut head)?;
-    assert_eq!(rt; answer, ReadStep::Gave);
-    assert_eq!(rt;
-        first.as_slice(),
-        [item(0, Item::Event(Event::Active))].as_slice()
-    );
+    let active = [item(0, Item::Event(Event::Active))];
+    assert_step(&rt, alloc, &mut head, ReadStep::Gave, active.as_slice())?;
 
-    let (answer, held) = step(alloc, &mut head)?;
-    assert_eq!(rt; answer, ReadStep::Held);
-    assert!(rt; held.is_empty());
+    // It still waits.
+    assert_step(&rt, alloc, &mut head, ReadStep::Held, &[])?;
     write_once(alloc, &mut head)?;
-    let (answer, second) = step(alloc, &mut head)?;
-    assert_eq!(rt; answer, ReadStep::Gave);
-    let want = [
+    let first = [
         item(1, read(alloc, b"ab")?),
         item(2, read(alloc, b"c")?),
         item(3, Item::Event(Event::ReadComplete)),
     ];
-    assert_eq!(rt; second.as_slice(), want.as_slice());
+    assert_step(&rt, alloc, &mut head, ReadStep::Gave, first.as_slice())?;
 
-    block(&rt, alloc, &mut head)?;
-    let (answer, held) = step(alloc, &mut head)?;
-    assert_eq!(rt; answer, ReadStep::Held);
-    assert!(rt; held.is_empty());
-    write_once(alloc, &mut head)?;
-    let (answer, third) = step(alloc, &mut head)?;
-    assert_eq!(rt; answer, ReadStep::Gave);
-    assert_eq!(rt;
-        third.as_slice(),
-        [item(4, Item::Event(Event::ReadComplete))].as_slice()
-    );
+    assert_held(&rt, alloc, &mut head)?;
+    let second = [item(4, Item::Event(Event::ReadComplete))];
+    assert_step(&rt, alloc, &mut head, ReadStep::Gave, second.as_slice())?;
 
     // Nor is the end.
     block(&rt, alloc, &mut head)?;
-    let (answer, last) = step(alloc, &mut head)?;
-    assert_eq!(rt; answer, ReadStep::Gave);
-    assert_eq!(rt; last.as_slice(), [item(5, Item::End)].as_slice());
-    let (answer, nothing) = step(alloc, &mut head)?;
-    assert_eq!(rt; answer, ReadStep::Done);
-    assert!(rt; nothing.is_empty());
+    let end = [item(5, Item::End)];
+    assert_step(&rt, alloc, &mut head, ReadStep::Gave, end.as_slice())?;
+    assert_step(&rt, alloc, &mut head, ReadStep::Done, &[])?;
     Ok(())
 }
