@@ -1,5 +1,6 @@
 # Whether a report begins the whole report of its session: `awk -v status=STATUS -f begins_plain.awk WHOLE REPORT`. It says
-# what is wrong, and ends with status 1 where something is. STATUS is that of the program which printed the report.
+# what is wrong, and ends with status 1 where something is. STATUS is that of the program which printed the report. With
+# `-v is_run=1` it is the report of a run on threads: no channel stands open, and one may have been refused.
 
 function is_wrong(what) {
     print what
@@ -30,7 +31,8 @@ END {
     if (channels[2] != channels[1]) is_wrong("another number of channels")
     all_drained = 1
     for (c = 0; c < channels[1]; c++) {
-        if (stands[2, c] !~ /^(drained|open|failed (Memory|Transport|Aborted))$/) is_wrong("channel " c " stands " stands[2, c])
+        allowed = is_run ? "^(drained|failed (Memory|Transport|Aborted|Refused))$" : "^(drained|open|failed (Memory|Transport|Aborted))$"
+        if (stands[2, c] !~ allowed) is_wrong("channel " c " stands " stands[2, c])
         if (size[2, c, "tail"] > size[1, c, "tail"]) is_wrong("the tail of channel " c " is too long")
         for (i = 1; i <= size[2, c, "tail"]; i++)
             if (line[2, c, "tail", i] != line[1, c, "tail", i]) is_wrong("event " i - 1 " of channel " c)

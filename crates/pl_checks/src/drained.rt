@@ -1,20 +1,24 @@
 //! The worked sessions that drain: the report, by a schedule and by `plain`, the status, and nothing on standard error.
 
-use crate::running::{answers, composed, replayed};
+use crate::running::{Runtime, answers, composed, ran_over, replayed};
 use crate::sessions;
 use crate::sessions::{LineSession, line_session};
 use std::test::Fail;
 
 /// Says that a session of the line protocol drains with this report.
-fn drains(rt: &HostRuntime, session: LineSession, moves: &str, report: &str) -> Result<(), Fail> {
+fn drains(rt: &impl Runtime, session: LineSession, moves: &str, report: &str) -> Result<(), Fail> {
     let text = line_session(rt, session)?;
     gives(rt, text.as_str(), moves, report)
 }
 
-/// Says that these moves drain the session of a text with this report, which `plain` gives as well.
-fn gives(rt: &HostRuntime, text: &str, moves: &str, report: &str) -> Result<(), Fail> {
+/// Says that these moves drain the session of a text with this report, which `plain` gives as well, and so does a run
+/// over each queue.
+fn gives(rt: &impl Runtime, text: &str, moves: &str, report: &str) -> Result<(), Fail> {
     answers(replayed(rt, text, moves)?, 0, report, "")?;
     answers(composed(rt, text)?, 0, report, "")?;
+    answers(ran_over(rt, text, "ring")?, 0, report, "")?;
+    let roomy = sessions::with_room(rt, text)?;
+    answers(ran_over(rt, roomy.as_str(), "waiting")?, 0, report, "")?;
     Ok(())
 }
 

@@ -1,12 +1,12 @@
 //! Transports that fail, and aborts: the report that a schedule leaves, and its status. `plain` takes no account of them.
 
-use crate::running::{answers, composed, replayed};
+use crate::running::{Runtime, answers, composed, replayed};
 use crate::sessions::{LINE_ACROSS_BURSTS, LineSession, PING, QUIT, failing_session};
 use std::test::Fail;
 
 /// Says that a schedule of a session with these further members reports this, with this status.
 fn reports(
-    rt: &HostRuntime,
+    rt: &impl Runtime,
     session: LineSession,
     members: &str,
     moves: &str,
@@ -20,7 +20,7 @@ fn reports(
 
 /// Says that `plain` reports this of it.
 fn composes(
-    rt: &HostRuntime,
+    rt: &impl Runtime,
     session: LineSession,
     members: &str,
     report: &str,

@@ -1,5 +1,6 @@
 //! The program on any words, readers and writers: its statuses, its lines on standard error, and what it reads.
 
+use crate::running::Runtime;
 use crate::streams::{Failing, Interrupted, Repeated, Slow};
 use pl_build::BuildFault;
 use pl_replay::replay;
@@ -64,7 +65,13 @@ const WRONG_LINES: &[&[&str]] = &[
     &["plain", "--help"],
     &["plain", "-"],
     &["plain", "plain"],
-    &["run", "--queue", "ring"],
+    &["run", "ring"],
+    &["run", "--queue", "ring", "waiting"],
+    &["run", "--queue", "ring", "--queue", "ring"],
+    &["run", "--queue", "ring", "-"],
+    &["run", "--queue", "ring", "--moves", "R0"],
+    &["run", "--moves", "R0"],
+    &["run", "--help"],
     &["help"],
     &["--help"],
     &["-h"],
@@ -81,7 +88,7 @@ const WRONG_LINES: &[&[&str]] = &[
     &["--moves", "R0", "replay"],
 ];
 
-fn words(rt: &HostRuntime, line: &[&str]) -> Result<Vec<String>, Fail> {
+fn words(rt: &impl AllocGlobal, line: &[&str]) -> Result<Vec<String>, Fail> {
     let mut words = Vec::new(rt.alloc());
     words.push(String::from_str(rt.alloc(), "pl_tool")?)?;
     for word in line {
@@ -91,12 +98,13 @@ fn words(rt: &HostRuntime, line: &[&str]) -> Result<Vec<String>, Fail> {
 }
 
 /// Runs the program on a text, and gives the status and what it wrote to each writer.
-fn ran(rt: &HostRuntime, line: &[&str], input: &[u8]) -> Result<(u8, Vec<u8>, Vec<u8>), Fail> {
+fn ran(rt: &impl Runtime, line: &[&str], input: &[u8]) -> Result<(u8, Vec<u8>, Vec<u8>), Fail> {
     let words = words(rt, line)?;
     let mut reader = input;
     let mut out = Vec::new(rt.alloc());
     let mut err = Vec::new(rt.alloc());
     let status = run_tool(
+        rt,
         rt.alloc(),
         words.as_slice(),
         &mut reader,
@@ -113,6 +121,64 @@ fn wrong_command_lines(rt: HostRuntime) -> Result<(), Fail> {
         assert_eq!(rt; status, 2, "of {line:?}");
         assert_eq!(rt; out.len(), 0, "of {line:?}");
         assert_eq!(rt; err.as_slice(), USAGE.as_bytes(), "of {line:?}");
+    }
+    Ok(())
+}
+
+/// Says that a line is not read, and that the session is left where it is.
+fn is_not_read(rt: &impl Runtime, line: &[&str]) -> Result<bool, Fail> {
+    let words = words(rt, line)?;
+    let mut reader = SESSION.as_bytes();
+    let mut out = Vec::new(rt.alloc());
+    let mut err = Vec::new(rt.alloc());
+    let status = run_tool(
+        rt,
+        rt.alloc(),
+        words.as_slice(),
+        &mut reader,
+        &mut out,
+        &mut err,
+    );
+    Ok(
+        status == 2
+            && reader.len() == SESSION.len()
+            && out.is_empty()
+            && err.as_slice() == USAGE.as_bytes(),
+    )
+}
+
+#[test]
+fn run_needs_a_queue(rt: HostRuntime) -> Result<(), Fail> {
+    for line in [["run"].as_slice(), ["run", "--queue"].as_slice()] {
+        assert!(rt; is_not_read(&rt, line)?, "of {line:?}");
+    }
+    Ok(())
+}
+
+#[test]
+fn no_such_queue(rt: HostRuntime) -> Result<(), Fail> {
+    for name in ["", "stack", "Ring", "rings", "waitin", "ring waiting"] {
+        assert!(rt; is_not_read(&rt, &["run", "--queue", name])?, "of {name}");
+    }
+    Ok(())
+}
+
+/// `run` prints what `plain` prints of a session that drains, whichever the queue, and as `--queue=`.
+#[test]
+fn run_of_a_session(rt: HostRuntime) -> Result<(), Fail> {
+    for line in [
+        ["run", "--queue", "waiting"].as_slice(),
+        ["run", "--queue", "ring"].as_slice(),
+        ["run", "--queue=waiting"].as_slice(),
+        ["run", "--queue=ring", "--"].as_slice(),
+    ] {
+        let (status, out, err) = ran(&rt, line, SESSION.as_bytes())?;
+        assert_eq!(rt; status, 0, "of {line:?}");
+        assert_eq!(rt; out.as_slice(), REPORT.as_bytes(), "of {line:?}");
+        assert_eq!(rt; err.len(), 0, "of {line:?}");
+        let (status, out, err) = ran(&rt, line, b"{}")?;
+        assert_eq!(rt; (status, out.len()), (3, 0));
+        assert_eq!(rt; err.as_slice(), b"session refused: 3 Missing\n".as_slice());
     }
     Ok(())
 }
@@ -194,6 +260,7 @@ fn plain_of_no_session(rt: HostRuntime) -> Result<(), Fail> {
     let mut reader = SESSION.as_bytes();
     let mut err = Vec::new(rt.alloc());
     let status = run_tool(
+        &rt,
         rt.alloc(),
         words.as_slice(),
         &mut reader,
@@ -214,6 +281,7 @@ fn line_before_session(rt: HostRuntime) -> Result<(), Fail> {
         let mut out = Vec::new(rt.alloc());
         let mut err = Vec::new(rt.alloc());
         let status = run_tool(
+            &rt,
             rt.alloc(),
             words.as_slice(),
             &mut reader,
@@ -268,6 +336,7 @@ fn failing_reads(rt: HostRuntime) -> Result<(), Fail> {
         let mut out = Vec::new(rt.alloc());
         let mut err = Vec::new(rt.alloc());
         let status = run_tool(
+            &rt,
             rt.alloc(),
             words.as_slice(),
             &mut reader,
@@ -303,6 +372,7 @@ fn interrupted_reads(rt: HostRuntime) -> Result<(), Fail> {
         let mut out = Vec::new(rt.alloc());
         let mut err = Vec::new(rt.alloc());
         let status = run_tool(
+            &rt,
             rt.alloc(),
             words.as_slice(),
             &mut reader,
@@ -347,6 +417,7 @@ fn slow_second_writer(rt: HostRuntime) -> Result<(), Fail> {
             tries: 0,
         };
         let status = run_tool(
+            &rt,
             rt.alloc(),
             words.as_slice(),
             &mut reader,
@@ -379,7 +450,7 @@ fn refused_words(rt: HostRuntime) -> Result<(), Fail> {
 }
 
 /// Each fault of a session that a text can have, and a text that has it.
-fn refused_texts(rt: &HostRuntime) -> Result<Vec<(SessionFault, String)>, Fail> {
+fn refused_texts(rt: &impl AllocGlobal) -> Result<Vec<(SessionFault, String)>, Fail> {
     let alloc = rt.alloc();
     let mut texts = Vec::new(alloc);
     for (fault, text) in [
@@ -446,6 +517,7 @@ fn failing_writes(rt: HostRuntime) -> Result<(), Fail> {
         let mut out = Failing { room };
         let mut err = Vec::new(rt.alloc());
         let status = run_tool(
+            &rt,
             rt.alloc(),
             words.as_slice(),
             &mut reader,
@@ -466,6 +538,7 @@ fn failing_second_writer(rt: HostRuntime) -> Result<(), Fail> {
         let mut reader = b"".as_slice();
         let mut out = Vec::new(rt.alloc());
         let status = run_tool(
+            &rt,
             rt.alloc(),
             words.as_slice(),
             &mut reader,
@@ -478,6 +551,7 @@ fn failing_second_writer(rt: HostRuntime) -> Result<(), Fail> {
     let words = words(&rt, &["replay"])?;
     let mut reader = SESSION.as_bytes();
     let status = run_tool(
+        &rt,
         rt.alloc(),
         words.as_slice(),
         &mut reader,

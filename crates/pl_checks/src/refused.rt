@@ -1,11 +1,11 @@
 //! Sessions and schedules that are refused: the status, the line on standard error, and nothing on standard output.
 
-use crate::running::{answers, replayed};
+use crate::running::{Runtime, answers, replayed};
 use crate::sessions::{DECODER_APART, PING, line_protocol, line_session, piped};
 use std::alloc::AllocError;
 use std::test::Fail;
 
-fn refuses(rt: &HostRuntime, text: &str, moves: &str, status: u8, line: &str) -> Result<(), Fail> {
+fn refuses(rt: &impl Runtime, text: &str, moves: &str, status: u8, line: &str) -> Result<(), Fail> {
     answers(replayed(rt, text, moves)?, status, "", line)?;
     Ok(())
 }
@@ -28,7 +28,12 @@ fn refused_sessions(rt: HostRuntime) -> Result<(), Fail> {
 }
 
 /// A session with these groups, and of one channel these marks and these edits after the line protocol.
-fn built(rt: &HostRuntime, groups: &str, marks: &str, more: &str) -> Result<String, AllocError> {
+fn built(
+    rt: &impl AllocGlobal,
+    groups: &str,
+    marks: &str,
+    more: &str,
+) -> Result<String, AllocError> {
     let edits = line_protocol(rt, 64)?;
     format!(in rt.alloc();
         "{{\"version\":1,\"capacity\":4,\"loops\":1,\"groups\":[{groups}],\"channels\":[{{\"handlers\":[{edits}{more}],{marks}\"bursts\":[]}}]}}"
@@ -36,7 +41,7 @@ fn built(rt: &HostRuntime, groups: &str, marks: &str, more: &str) -> Result<Stri
 }
 
 /// Says that a session is refused when its pipelines are built, with this reason.
-fn refuses_to_build(rt: &HostRuntime, text: &str, reason: &str) -> Result<(), Fail> {
+fn refuses_to_build(rt: &impl Runtime, text: &str, reason: &str) -> Result<(), Fail> {
     let line = format!(in rt.alloc(); "session refused: 6 Build {reason}\n")?;
     refuses(rt, text, "", 3, line.as_str())
 }

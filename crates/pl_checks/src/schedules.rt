@@ -1,17 +1,17 @@
 //! Schedules that leave a ping open, and what each has made of it.
 
-use crate::running::{answers, replayed};
+use crate::running::{Runtime, answers, replayed};
 use crate::sessions::{DECODER_APART, PING, burst_held, line_session, watermarks};
 use std::test::Fail;
 
 /// Says that a schedule of the session of a text reports this, and leaves a channel open.
-fn leaves(rt: &HostRuntime, text: &str, moves: &str, report: &str) -> Result<(), Fail> {
+fn leaves(rt: &impl Runtime, text: &str, moves: &str, report: &str) -> Result<(), Fail> {
     answers(replayed(rt, text, moves)?, 1, report, "")?;
     Ok(())
 }
 
 /// Says that a schedule of the ping session reports this, and leaves the channel open.
-fn leaves_open(rt: &HostRuntime, moves: &str, report: &str) -> Result<(), Fail> {
+fn leaves_open(rt: &impl Runtime, moves: &str, report: &str) -> Result<(), Fail> {
     let text = line_session(rt, PING)?;
     leaves(rt, text.as_str(), moves, report)
 }

@@ -52,26 +52,38 @@ const BEHIND_LINES: &str = r#"{"op":"last","name":"decode","kind":"decode"},
 {"op":"last","name":"service","kind":"service"}"#;
 
 /// The edits of the line protocol, with lines of at most `max` bytes.
-pub(crate) fn line_protocol(rt: &HostRuntime, max: u16) -> Result<String, AllocError> {
+pub(crate) fn line_protocol(rt: &impl AllocGlobal, max: u16) -> Result<String, AllocError> {
     format!(in rt.alloc();
         "{{\"op\":\"last\",\"name\":\"lines\",\"kind\":\"lines\",\"max\":{max}}},\n{BEHIND_LINES}"
     )
 }
 
 /// A session of one channel with these edits and these bursts, each as JSON.
-pub(crate) fn piped(rt: &HostRuntime, edits: &str, bursts: &str) -> Result<String, AllocError> {
+pub(crate) fn piped(
+    rt: &impl AllocGlobal,
+    edits: &str,
+    bursts: &str,
+) -> Result<String, AllocError> {
     marked(rt, edits, "", bursts)
 }
 
 /// The same with further members of the channel, each after a comma.
-fn marked(rt: &HostRuntime, edits: &str, marks: &str, bursts: &str) -> Result<String, AllocError> {
+fn marked(
+    rt: &impl AllocGlobal,
+    edits: &str,
+    marks: &str,
+    bursts: &str,
+) -> Result<String, AllocError> {
     format!(in rt.alloc();
         "{{\"version\":1,\"capacity\":4,\"loops\":1,\"channels\":[{{\"handlers\":[{edits}]{marks},\"bursts\":{bursts}}}]}}\n"
     )
 }
 
 /// The text of a session of the line protocol.
-pub(crate) fn line_session(rt: &HostRuntime, session: LineSession) -> Result<String, AllocError> {
+pub(crate) fn line_session(
+    rt: &impl AllocGlobal,
+    session: LineSession,
+) -> Result<String, AllocError> {
     let (max, bursts) = session;
     let edits = line_protocol(rt, max)?;
     piped(rt, edits.as_str(), bursts)
@@ -79,7 +91,7 @@ pub(crate) fn line_session(rt: &HostRuntime, session: LineSession) -> Result<Str
 
 /// The same with further members of the channel, each after a comma: how its transport fails, or when it is aborted.
 pub(crate) fn failing_session(
-    rt: &HostRuntime,
+    rt: &impl AllocGlobal,
     session: LineSession,
     members: &str,
 ) -> Result<String, AllocError> {
@@ -89,7 +101,7 @@ pub(crate) fn failing_session(
 }
 
 /// The writes of the service do not pass the encoder.
-pub(crate) fn encoder_behind_turn(rt: &HostRuntime) -> Result<String, AllocError> {
+pub(crate) fn encoder_behind_turn(rt: &impl AllocGlobal) -> Result<String, AllocError> {
     piped(
         rt,
         r#"{"op":"last","name":"lines","kind":"lines","max":64},
@@ -102,7 +114,7 @@ pub(crate) fn encoder_behind_turn(rt: &HostRuntime) -> Result<String, AllocError
 }
 
 /// The line protocol after a handler that lets each second flush pass.
-fn every_second_flush(rt: &HostRuntime) -> Result<String, AllocError> {
+fn every_second_flush(rt: &impl AllocGlobal) -> Result<String, AllocError> {
     let rest = line_protocol(rt, 64)?;
     format!(in rt.alloc();
         "{{\"op\":\"last\",\"name\":\"flush_every\",\"kind\":\"flush_every\",\"n\":2}},\n{rest}"
@@ -110,34 +122,34 @@ fn every_second_flush(rt: &HostRuntime) -> Result<String, AllocError> {
 }
 
 /// One flush of two passes, and there is only one.
-pub(crate) fn flush_never_comes(rt: &HostRuntime) -> Result<String, AllocError> {
+pub(crate) fn flush_never_comes(rt: &impl AllocGlobal) -> Result<String, AllocError> {
     let edits = every_second_flush(rt)?;
     piped(rt, edits.as_str(), r#"[["PING\n"]]"#)
 }
 
 /// Two replies pass the high mark, and leave three bytes a call.
-pub(crate) fn watermarks(rt: &HostRuntime) -> Result<String, AllocError> {
+pub(crate) fn watermarks(rt: &impl AllocGlobal) -> Result<String, AllocError> {
     let edits = line_protocol(rt, 64)?;
     let marks = r#","low":4,"high":8,"window":3"#;
     marked(rt, edits.as_str(), marks, r#"[["PING\nPING\n"]]"#)
 }
 
 /// Each of two bursts brings a reply that passes the high mark.
-pub(crate) fn burst_held(rt: &HostRuntime) -> Result<String, AllocError> {
+pub(crate) fn burst_held(rt: &impl AllocGlobal) -> Result<String, AllocError> {
     let edits = line_protocol(rt, 64)?;
     let marks = r#","low":1,"high":2"#;
     marked(rt, edits.as_str(), marks, r#"[["PING\n"],["PING\n"]]"#)
 }
 
 /// The same, where only the second of two flushes passes.
-pub(crate) fn burst_not_held(rt: &HostRuntime) -> Result<String, AllocError> {
+pub(crate) fn burst_not_held(rt: &impl AllocGlobal) -> Result<String, AllocError> {
     let edits = every_second_flush(rt)?;
     let marks = r#","low":1,"high":2"#;
     marked(rt, edits.as_str(), marks, r#"[["PING\n"],["PING\n"]]"#)
 }
 
 /// All five edits.
-pub(crate) fn edits_in_any_order(rt: &HostRuntime) -> Result<String, AllocError> {
+pub(crate) fn edits_in_any_order(rt: &impl AllocGlobal) -> Result<String, AllocError> {
     piped(
         rt,
         r#"{"op":"last","name":"service","kind":"service"},
@@ -160,8 +172,15 @@ const IN_A_GROUP: &str = r#"{"op":"last","name":"lines","kind":"lines","max":64}
 {"op":"last","name":"encode","kind":"encode"},
 {"op":"last","name":"service","kind":"service","group":"g"}"#;
 
+/// The line protocol with the decoder in one group and the service in another.
+const ACROSS_GROUPS: &str = r#"{"op":"last","name":"lines","kind":"lines","max":64},
+{"op":"last","name":"decode","kind":"decode","group":"a"},
+{"op":"last","name":"lineend","kind":"lineend"},
+{"op":"last","name":"encode","kind":"encode"},
+{"op":"last","name":"service","kind":"service","group":"b"}"#;
+
 /// Three channels with two handlers in a group of two executors.
-pub(crate) fn group_placing(rt: &HostRuntime) -> Result<String, AllocError> {
+pub(crate) fn group_placing(rt: &impl AllocGlobal) -> Result<String, AllocError> {
     let channel = format!(in rt.alloc();
         "{{\"handlers\":[{IN_A_GROUP}],\"bursts\":[[\"PING\\n\"]]}}"
     )?;
@@ -180,8 +199,27 @@ pub(crate) const DECODER_APART: &str =
 {"op":"last","name":"service","kind":"service"}],
 "bursts":[["PING\r\n"]]}]}"#;
 
+/// Additions to two keys, with the decoder and the service each on an executor of its own, queues of so many items, and
+/// further members of the channel, each after a comma.
+pub(crate) fn totals_across_groups(
+    rt: &impl AllocGlobal,
+    capacity: u16,
+    members: &str,
+) -> Result<String, AllocError> {
+    let (_, bursts) = TOTALS;
+    format!(in rt.alloc();
+        "{{\"version\":1,\"capacity\":{capacity},\"loops\":1,\"groups\":[{{\"name\":\"a\",\"size\":1}},{{\"name\":\"b\",\"size\":1}}],\"channels\":[{{\"handlers\":[{ACROSS_GROUPS}]{members},\"bursts\":{bursts}}}]}}"
+    )
+}
+
+/// The same session with queues that have room for all of its items, where they had room for four: executors that wait for
+/// room in one another's queues may wait for ever.
+pub(crate) fn with_room(rt: &impl AllocGlobal, text: &str) -> Result<String, AllocError> {
+    text.replace(rt.alloc(), r#""capacity":4,"#, r#""capacity":64,"#)
+}
+
 /// The text of each example's session, each once.
-pub(crate) fn examples(rt: &HostRuntime) -> Result<Vec<String>, AllocError> {
+pub(crate) fn examples(rt: &impl AllocGlobal) -> Result<Vec<String>, AllocError> {
     let alloc = rt.alloc();
     let mut texts = Vec::new(alloc);
     for session in LINE_SESSIONS {

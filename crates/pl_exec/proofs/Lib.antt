@@ -1,6 +1,19 @@
-pub mod SentLemmas
-pub mod OutboxLemmas
-pub mod AddSteps
-pub mod OfferSteps
-pub mod RunLemmas
-pub mod CountLemmas
+pub mod ListSteps
+pub mod RowLemmas
+pub mod LaneLemmas
+pub mod StartLemmas
+pub mod OwnNodeLemmas
+pub mod CallLemmas
+pub mod OverLemmas
+pub mod MovedNodes
+pub mod Ready
+pub mod SharesMade
+pub mod SharesStand
+pub mod Fits
+pub mod FitsStart
+pub mod LeftEnds
+pub mod RunReports
+mod LaneTablesSums
+mod LaneTablesEvery
+mod LaneTablesSteps
+pub mod LaneTables

@@ -1,4 +1,6 @@
-pub mod Sent
-pub mod OutboxViews
-pub mod Running
-pub mod Turning
+pub mod Opening
+pub mod OwnNodes
+pub mod Lanes
+pub mod Sharing
+pub mod Reported
+pub mod Starting

@@ -1,18 +1,14 @@
-//! Executors on threads: each runs its tasks one after another, and hands what it makes for others to their queues.
+//! A run of a session: executors on threads, each with its inbox, that hand one another what they make.
 #![tactic(auto)]
 
-mod cores;
-mod executors;
-mod gate;
-mod inbox;
-mod outbox;
-mod outboxes;
-mod part;
+mod lanes;
+mod nodes;
+mod opening;
+mod planned;
+mod reporting;
+mod running;
+mod sharing;
 
-pub use cores::Core;
-pub use executors::{Executor, Turn};
-pub use gate::Gate;
-pub use inbox::Inbox;
-pub use outbox::Outbox;
-pub use outboxes::{Offered, Outboxes};
-pub use part::Part;
+pub use pl_executor::{Gate, RunFault};
+pub use planned::Planned;
+pub use running::{QueueKind, run, run_world};

@@ -1,4 +1,5 @@
-//! `pl_tool`: replays recorded sessions. The session comes on standard input, and its report goes to standard output.
+//! `pl_tool`: replays recorded sessions, and runs them. The session comes on standard input, and its report goes to
+//! standard output.
 #![tactic(auto)]
 
 use pl_tool::{refuse_words, run_tool};
@@ -11,10 +12,10 @@ fn words(rt: &HostRuntime) -> io::Result<Vec<String>> {
     Ok(words)
 }
 
-/// Runs the program on the process's words and streams, and gives its status.
-fn run(rt: &HostRuntime) -> u8 {
-    match words(rt) {
+fn main(rt: HostRuntime) -> ExitCode {
+    let status = match words(&rt) {
         Ok(words) => run_tool(
+            &rt,
             rt.alloc(),
             words.as_slice(),
             &mut rt.stdin(),
@@ -22,9 +23,6 @@ fn run(rt: &HostRuntime) -> u8 {
             &mut rt.stderr(),
         ),
         Err(error) => refuse_words(&error, &mut rt.stderr()),
-    }
-}
-
-fn main(rt: HostRuntime) -> ExitCode {
-    ExitCode::from(run(&rt))
+    };
+    ExitCode::from(status)
 }

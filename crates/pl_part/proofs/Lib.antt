@@ -14,3 +14,5 @@ mod HeadMoves
 pub mod PartCounts
 mod PartSteps
 mod HeadReports
+mod TakenSlots
+pub mod ShareLemmas

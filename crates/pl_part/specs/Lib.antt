@@ -9,3 +9,4 @@ pub mod HeadCalls
 pub mod Parts
 pub mod Counts
 pub mod PartCalls
+pub mod Shares

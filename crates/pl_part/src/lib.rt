@@ -6,6 +6,7 @@ mod laws;
 mod nodes;
 mod parts;
 mod paths;
+mod shares;
 mod starting;
 
 pub use ends::new_head;

@@ -1,6 +1,6 @@
 //! The nodes of a channel that are on one executor, but its head.
 
-ghost use Rattle.std.specs.Prelude.{◌≡◌, ◌+◌, ◌<◌, ◌≤◌, ◌^◌, ◌++◌, ◌∷◌, [], List, All, IfOk, IfSome, IfNone, Some, None, map, replicate, is_some, cond, length, get_or, true, false, ◌==◌};
+ghost use Rattle.std.specs.Prelude.{◌≡◌, ◌+◌, ◌<◌, ◌≤◌, ◌^◌, ◌++◌, ◌∷◌, [], List, All, IfOk, IfSome, IfNone, Some, None, map, replicate, is_some, cond, length, get_or, true, false, ◌==◌, OnOk, not};
 ghost use Rattle.std.specs.List.{list_all};
 ghost use Rattle.std.specs.Option.{option_map_or};
 ghost use Rattle.pl_event.specs.declared.envelopes.Lane.{Lane};
@@ -18,8 +18,10 @@ ghost use Rattle.pl_part.specs.NewParts.{ArePlannedWith, AreNew};
 ghost use Rattle.pl_part.specs.Counts.{path_done};
 ghost use Rattle.pl_part.specs.PathCalls.{IsNextOnPath, PathTaken, PathRefused};
 ghost use Rattle.pl_part.specs.Paths.{PathHolds, PathTakes, SamePath, context_at, writer_hop, enters_path, path_over, is_slot_over, path_taken, path_lanes, path_writes, path_writes_at, path_came};
+ghost use Rattle.pl_part.specs.Shares.{IsPathShare, executor_of};
 
 use crate::nodes::{refuse_at, take_at, take_at_tail};
+use crate::shares::{take_contexts, take_where};
 use crate::starting::add_contexts;
 use pl_context::{Context, Outputs, Tail, Took};
 use pl_event::{Envelope, Lane, Stage};
@@ -191,6 +193,35 @@ impl<S: Stage> PathPart<S> {
         ensures { result ≡ path_over self.now }
     {
         are_over(&self.contexts) && is_tail_over(&self.tail)
+    }
+
+    /// The executor of the head's hop, which is the last.
+    pub(crate) fn head_executor(&self) -> usize
+        ensures { result ≡ executor_of self.now (length self.now.contexts) }
+    {
+        self.executors[self.contexts.len()] as usize
+    }
+
+    /// Takes the nodes of an executor out. Those of the others stay.
+    pub(crate) fn take_share(
+        &mut self,
+        alloc: Global,
+        executor: usize,
+    ) -> Result<PathPart<S>, AllocError>
+        ensures share { IfOk result (λ share. IsPathShare (λ e. e == executor) self.old share) }
+        ensures rest { OnOk result (IsPathShare (λ e. not (e == executor)) self.old self.new) }
+    {
+        let is_wanted = self.target(self.tail_hop) == executor;
+        let executors = self.executors.to_vec(alloc)?;
+        let contexts = take_contexts(alloc, &mut self.contexts, &self.executors, executor)?;
+        Ok(PathPart {
+            channel: self.channel,
+            executors,
+            contexts,
+            tail: take_where(&mut self.tail, is_wanted),
+            tail_hop: self.tail_hop,
+            turn: self.turn,
+        })
     }
 
     fn take_at_context(&mut self, envelope: Envelope, work: &mut Outputs) -> Took

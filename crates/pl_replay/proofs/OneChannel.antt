@@ -31,7 +31,7 @@ use Rattle.pl_part.specs.PartCalls.{IsNextFor, Puts, Taken, Given}
 use Rattle.pl_net.specs.NodesViews.{SameRoutes, NodesPut, NodesTake, NodesGive, NodesMake, written_by}
 use Rattle.pl_part.specs.Counts.{part_done}
 use Rattle.pl_replay.specs.Channels.{executor_at, home_of, target_of, origin_of, taken_of, lanes_of, done_of, writes_here, writes_of, came_of, channels_view, IsWhole, PartStands, ChannelsStand}
-use Rattle.pl_replay.proofs.Wholes.{IsWritten, written}
+use Rattle.pl_replay.proofs.Wholes.{IsWritten, written, tail-within, enters}
 
 -- ---- lists
 
@@ -41,7 +41,7 @@ joined-same f [] i x y at same = refl
 joined-same f (z ∷ zs) zero x y at same = let e : z ≡ x = cc in ap (λ ws. ws ++ flat_map f zs) (same ∙ ap f (sym e))
 joined-same f (z ∷ zs) (suc i) x y at same = ap (λ ws. f z ++ ws) (joined-same f zs i x y at same)
 
-among-joined : {A : Type 0} (f : A → List Lane) (xs : List A) (i : ℕ) (x : A) → slice_get xs i ≡ Some x → AreAmong (f x) (flat_map f xs)
+pub among-joined : {A : Type 0} (f : A → List Lane) (xs : List A) (i : ℕ) (x : A) → slice_get xs i ≡ Some x → AreAmong (f x) (flat_map f xs)
 among-joined f [] i x at = absurd (no at)
   where
     no : None ≡ Some x → ⊥
@@ -59,13 +59,13 @@ few-sum f (x ∷ xs) n each =
 -- ---- the same part
 
 module _ {S T : Type 0} (p p' : PartView S T) (same : SamePart p p') where
-  same-hops : head_hop p' ≡ head_hop p
+  pub same-hops : head_hop p' ≡ head_hop p
   same-hops = sym (length-map p'.path.contexts (λ (slot : Option (ContextView S)). is_some slot)) ∙ ap length same.path.contexts ∙ length-map p.path.contexts (λ (slot : Option (ContextView S)). is_some slot)
 
   same-writer : (hop : ℕ) → writer_hop p'.path hop ≡ writer_hop p.path hop
   same-writer hop = λ i. cond (hop == 0) (same-hops i) (cond (hop == same.path.tail_hop i + 1) (same.path.turn i) (hop - 1))
 
-  same-executor : (hop : ℕ) → executor_at p' hop ≡ executor_at p hop
+  pub same-executor : (hop : ℕ) → executor_at p' hop ≡ executor_at p hop
   same-executor hop = ap (λ (es : List ℕ). get_or es hop 0) same.path.executors
 
   same-lanes : part_lanes p' ≡ part_lanes p
@@ -93,13 +93,13 @@ module _ {S T : Type 0} (ps : List (PartView S T)) (c : ℕ) (p p' : PartView S 
   pub at-was : {A : Type 0} (f : PartView S T → A) (none : A) (k : ℕ) → k ≡ c → option_map_or f (slice_get ps k) none ≡ f p
   at-was f none k e = ap (λ (o : Option (PartView S T)). option_map_or f o none) (ap (λ (n : ℕ). slice_get ps n) e ∙ was)
 
-  at-is : {A : Type 0} (f : PartView S T → A) (none : A) (k : ℕ) → k ≡ c → option_map_or f (slice_get changed k) none ≡ f p'
+  pub at-is : {A : Type 0} (f : PartView S T → A) (none : A) (k : ℕ) → k ≡ c → option_map_or f (slice_get changed k) none ≡ f p'
   at-is f none k e = ap (λ (o : Option (PartView S T)). option_map_or f o none) (ap (λ (n : ℕ). slice_get changed n) e ∙ is)
 
   elsewhere : {A : Type 0} (f : PartView S T → A) (none : A) (k : ℕ) → k ≢ c → option_map_or f (slice_get changed k) none ≡ option_map_or f (slice_get ps k) none
   elsewhere f none k other = ap (λ (o : Option (PartView S T)). option_map_or f o none) (at-set_there ps c k p' other)
 
-  unchanged : {A : Type 0} (f : PartView S T → A) (none : A) → f p' ≡ f p → (k : ℕ) → option_map_or f (slice_get changed k) none ≡ option_map_or f (slice_get ps k) none
+  pub unchanged : {A : Type 0} (f : PartView S T → A) (none : A) → f p' ≡ f p → (k : ℕ) → option_map_or f (slice_get changed k) none ≡ option_map_or f (slice_get ps k) none
   unchanged f none same k = ⊎_elim
       (λ (e : k ≡ c). at-is f none k e ∙ same ∙ sym (at-was f none k e))
       (λ (other : k ≢ c). elsewhere f none k other)
@@ -125,7 +125,7 @@ module _ {S T : Type 0} (ps : List (PartView S T)) (c : ℕ) (p p' : PartView S 
     still-writes : (l : Lane) → writes_here meaning p' l ≡ writes_here meaning p l
     still-writes l = λ i. nat_lt l.hop (length (same.path.executors i)) && writes l i
 
-    routes : SameRoutes (channels_view meaning ps) (channels_view meaning changed)
+    pub routes : SameRoutes (channels_view meaning ps) (channels_view meaning changed)
     routes = record {
       home = λ k. unchanged (λ (q : PartView S T). executor_at q (head_hop q)) 0 (λ i. get_or (same.path.executors i) (same-hops p p' same i) 0) k;
       target = λ l. unchanged (λ (q : PartView S T). executor_at q l.hop) 0 (same-executor p p' same l.hop) l.channel;
@@ -170,8 +170,11 @@ module _ {S T : Type 0} (ps : List (PartView S T)) (c : ℕ) (p p' : PartView S 
           let last : hops - 1 ≡ head_hop p = omega (arith, e, h) in
           is ∙ ap (λ (k : ℕ). executor_at p k) last ∙ sym (at-was (λ (q : PartView S T). executor_at q (head_hop q)) 0 c refl)
 
-      pub is-written : (l : Lane) → part_writes meaning p l ≡ true → IsWritten world meaning stands_after state p part-stands.holds part-stands.whole l
-      is-written l w = written world meaning stands_after state p part-stands.holds part-stands.whole l w
+      pub below : p.path.tail_hop < head_hop p
+      below = tail-within p part-stands.holds.hops part-stands.whole
+
+      pub is-written : (l : Lane) → part_writes meaning p l ≡ true → IsWritten world meaning stands_after state p part-stands.holds below l
+      is-written l w = written world meaning stands_after state p part-stands.holds below l w
 
       -- what its nodes write is of its channel,
       own-channel : (l : Lane) → part_writes meaning p l ≡ true → l.channel ≡ c
@@ -277,7 +280,9 @@ module _ {S T : Type 0} (ps : List (PartView S T)) (c : ℕ) (p p' : PartView S 
           → IsNextFor world meaning stands_after state p e b
       next-for e b of writes number good places = record {
         holds = part-stands.holds;
-        entered = (is-written e.lane (and_parts (nat_lt e.lane.hop (length p.path.executors)) (part_writes meaning p e.lane) (sym (at-was (λ (q : PartView S T). writes_here meaning q e.lane) false e.lane.channel of) ∙ writes)).1).entered;
+        entered =
+            let w = is-written e.lane (and_parts (nat_lt e.lane.hop (length p.path.executors)) (part_writes meaning p e.lane) (sym (at-was (λ (q : PartView S T). writes_here meaning q e.lane) false e.lane.channel of) ∙ writes)).1 in
+            enters p part-stands.holds.hops part-stands.whole e.lane w.channel w.hop;
         number = number ∙ at-was (λ (q : PartView S T). part_taken q e.lane) 0 e.lane.channel of;
         good = good;
         places = places-of b places;

@@ -1,9 +1,11 @@
 -- The nodes of all channels, as contracts see them: by the number of a channel the part with all of its nodes.
-use Rattle.std.specs.Prelude.{◌≡◌, ◌≢◌, ℕ, ◌<◌, ◌≤◌, ◌^◌, Bool, true, false, not, ◌&&◌, List, ◌∷◌, ◌++◌, length, map, replicate, get_or, nat_lt, slice_get, slice_set, sum_by, flat_map, Option, Some, is_some}
+use Rattle.std.specs.Prelude.{◌≡◌, ◌≢◌, ℕ, ◌+◌, ◌<◌, ◌≤◌, ◌^◌, Bool, true, false, not, ◌&&◌, ◌||◌, ◌==◌, List, ◌∷◌, ◌++◌, length, map, replicate, get_or, nat_lt, slice_get, slice_set, sum_by, flat_map, Option, Some, is_some}
 use Rattle.std.specs.Option.{option_map_or}
 use Rattle.pl_event.specs.declared.events.Event.{Event}
 use Rattle.pl_event.specs.declared.envelopes.Envelope.{Envelope}
 use Rattle.pl_event.specs.declared.envelopes.Lane.{Lane}
+use Rattle.pl_event.specs.declared.envelopes.Kind.TheVariants.{Data}
+use Rattle.pl_event.specs.Hops.{same_kind}
 use Rattle.pl_event.specs.Meaning.{Meaning}
 use Rattle.pl_event.specs.Worlds.{World}
 use Rattle.pl_context.specs.declared.standing.Took.{Took}
@@ -24,6 +26,10 @@ use Rattle.pl_net.specs.NodesViews.{NodesView}
 use Rattle.pl_part.specs.Counts.{part_done}
 
 -- ---- where lanes go, and how far they have come
+
+-- a lane enters a node of the part's channel, wherever that is: at the last hop, the head's, data alone
+abbrev pub is_hop : {S T : Type 0} → PartView S T → Lane → Bool
+is_hop p l = nat_lt (l.hop + 1) (length p.path.executors) || ((l.hop + 1 == length p.path.executors) && same_kind l.kind Data)
 
 -- the executor of what the lanes of a hop enter
 abbrev pub executor_at : {S T : Type 0} → PartView S T → ℕ → ℕ

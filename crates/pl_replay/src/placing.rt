@@ -42,7 +42,7 @@ fn idle_executor<S: Stage, T: Transport>(
 }
 
 /// How many lanes there are from an executor to each.
-fn places_from<S: Stage, T: Transport>(
+pub fn places_from<S: Stage, T: Transport>(
     alloc: Global,
     count: usize,
     parts: &[ChannelPart<S, T>],
@@ -97,7 +97,7 @@ fn goes_between<S: Stage, T: Transport>(
 }
 
 /// How many lanes all channels have.
-pub(crate) fn lane_count<S: Stage, T: Transport>(parts: &[ChannelPart<S, T>]) -> u16
+pub fn lane_count<S: Stage, T: Transport>(parts: &[ChannelPart<S, T>]) -> u16
     requires { length (all_lanes parts.now) < 2 ^ 16 }
     ensures { result ≡ length (all_lanes parts.now) }
 {

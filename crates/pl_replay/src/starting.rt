@@ -15,7 +15,7 @@ use pl_world::Recorded;
 use std::alloc::{AllocError, Global};
 
 /// Recorded channels before any move, each with its number.
-pub(crate) fn placed<S: Stage, T: Transport>(
+pub fn placed<S: Stage, T: Transport>(
     alloc: Global,
     recorded: Vec<Recorded<S, T>>,
 ) -> Result<Vec<ChannelPart<S, T>>, AllocError>

@@ -15,7 +15,7 @@ use Rattle.clap.specs.declared.error.kind.ErrorKind.{ErrorKind}
 use Rattle.clap.specs.declared.parser.matches.Found.{Found}
 use Rattle.clap.specs.declared.parser.matches.ArgMatches.TheViews.{out-SubCommand}
 use Rattle.clap.specs.declared.parser.matches.SubCommand.{SubCommand}
-use Rattle.pl_tool.specs.ProgramLines.{RequestView, Replay, has_dash, program, request_of, request_of_subcommand}
+use Rattle.pl_tool.specs.ProgramLines.{RequestView, Replay, Run, has_dash, program, queue_named, request_of, request_of_subcommand}
 
 map_drop : (words : List (String Global)) → map string_bytes (drop 1 words) ≡ drop 1 (map string_bytes words)
 map_drop [] = refl
@@ -24,7 +24,7 @@ map_drop (w ∷ ws) = refl
 has_dash_is : (words : List (String Global)) → list_any (λ w. bytes_eq (codes "-") (string_bytes w)) (drop 1 words) ≡ has_dash (map string_bytes words)
 has_dash_is words = list_any-map (bytes_eq (codes "-")) string_bytes (drop 1 words) ∙ ap (list_any (bytes_eq (codes "-"))) (map_drop words)
 
--- ---- the option of the subcommand
+-- ---- the option of a subcommand
 
 now_or_empty : (got : Option (Bor Text)) (empty : Bor Text) → empty.now ≡ [] → (unwrap_or got empty).now ≡ unwrap_or (option_map (λ t. t.now) got) []
 now_or_empty None empty e = e
@@ -39,6 +39,12 @@ pub replay_is_requested : (found : Found) (name value : Text) → name ≡ codes
 replay_is_requested found name value is chose = sym (
     ap (λ (n : Text). request_of_subcommand (n, rows_of found)) is
     ∙ ap (λ (o : Option Text). Some (Replay (unwrap_or o []))) (sym (first_value-rows found (codes "moves"))) ∙ ap (λ (t : Text). Some (Replay t)) (sym chose))
+
+pub run_is_requested : (found : Found) (name : Text) (request : Option RequestView) → name ≡ codes "run" → request ≡ option_map Run (option_and_then queue_named (first_value found (codes "queue")))
+    → request ≡ request_of_subcommand (name, rows_of found)
+run_is_requested found name request is chose =
+    chose ∙ ap (λ (o : Option Text). option_map Run (option_and_then queue_named o)) (first_value-rows found (codes "queue"))
+    ∙ sym (ap (λ (n : Text). request_of_subcommand (n, rows_of found)) is)
 
 found_is : {Z : Type 0} (s : Option (Box SubCommand Z)) (name : Text) (rows : List Row) → Some name ≡ option_map (λ b. (out-SubCommand (box_value b)).name.now) s
     → Some rows ≡ option_map (λ p. p.1) (subcommand_rows s) → subcommand_rows s ≡ Some (name, rows)

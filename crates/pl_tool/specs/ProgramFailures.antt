@@ -11,18 +11,21 @@ use Rattle.pl_text.specs.declared.session_text.fault.SessionFault.{SessionFault}
 use Rattle.pl_text.specs.declared.session_text.fault.SessionFault.TheVariants as session
 use Rattle.pl_world.specs.declared.faults.ReplayFault.{ReplayFault}
 use Rattle.pl_world.specs.declared.faults.ReplayFault.TheVariants as replay
+use Rattle.pl_executor.specs.declared.threads.RunFault.{RunFault}
+use Rattle.pl_executor.specs.declared.threads.RunFault.TheVariants as run
 use Rattle.pl_text.specs.declared.report_text.fault.PrintFault.{PrintFault}
 use Rattle.pl_text.specs.declared.report_text.fault.PrintFault.TheVariants as print
 use Rattle.pl_tool.specs.declared.program.failure.Failure.{Failure}
-use Rattle.pl_tool.specs.declared.program.failure.Failure.TheVariants.{Usage, Moves, Replay, Input, Session, Memory, Output}
+use Rattle.pl_tool.specs.declared.program.failure.Failure.TheVariants.{Usage, Moves, Replay, Input, Session, Run, Memory, Output}
 
--- 2: the command line or the moves were not read, or name what is not there; 3: the session; 4: memory, or a writer
+-- 2: the command line or the moves were not read, or name what is not there; 3: the session; 4: a thread, memory, or a writer
 abbrev pub status_of : Failure → ℕ
 status_of Usage = 2
 status_of (Moves f) = 2
 status_of (Replay f) = 2
 status_of Input = 3
 status_of (Session f) = 3
+status_of (Run f) = 4
 status_of Memory = 4
 status_of Output = 4
 
@@ -39,6 +42,10 @@ failure_of_session f = Session f
 abbrev pub failure_of_replay : ReplayFault → Failure
 failure_of_replay replay.Memory = Memory
 failure_of_replay replay.NoSuch = Replay replay.NoSuch
+
+abbrev pub failure_of_run : RunFault → Failure
+failure_of_run run.Memory = Memory
+failure_of_run run.Spawn = Run run.Spawn
 
 abbrev pub failure_of_print : PrintFault → Failure
 failure_of_print print.Memory = Memory
@@ -71,6 +78,10 @@ abbrev pub replay_line : ReplayFault → List ℕ
 replay_line replay.NoSuch = line (codes "replay refused: 1 NoSuch")
 replay_line replay.Memory = memory_line
 
+abbrev pub run_line : RunFault → List ℕ
+run_line run.Spawn = line (codes "run refused: 2 Spawn")
+run_line run.Memory = memory_line
+
 abbrev pub build_line : BuildFault → List ℕ
 build_line build.Memory = memory_line
 build_line fault = line (codes "session refused: 6 Build " ++ build_fault_text fault)
@@ -90,5 +101,6 @@ failure_line (Moves f) = moves_line f
 failure_line (Replay f) = replay_line f
 failure_line Input = line (codes "input refused")
 failure_line (Session f) = session_line f
+failure_line (Run f) = run_line f
 failure_line Memory = memory_line
 failure_line Output = line (codes "output refused")

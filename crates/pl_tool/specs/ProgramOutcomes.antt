@@ -11,8 +11,9 @@ use Rattle.pl_text.specs.declared.session_text.fault.SessionFault.TheVariants as
 use Rattle.pl_text.specs.declared.moves_text.fault.MovesFault.{MovesFault}
 use Rattle.pl_world.specs.declared.faults.ReplayFault.TheVariants as replay
 use Rattle.pl_text.specs.declared.session_text.limits.TheConstants.{MAX_SESSION_TEXT}
+use Rattle.pl_executor.specs.declared.threads.RunFault.TheVariants as run
 use Rattle.pl_tool.specs.declared.program.failure.Failure.{Failure}
-use Rattle.pl_tool.specs.declared.program.failure.Failure.TheVariants.{Usage, Moves, Replay, Input, Session, Memory, Output}
+use Rattle.pl_tool.specs.declared.program.failure.Failure.TheVariants.{Usage, Moves, Replay, Input, Session, Run, Memory, Output}
 use Rattle.pl_event.specs.Meaning.{IsPrefixOf}
 use Rattle.pl_stages.specs.contracts.handlers.HandlerStage.TheImpl as handler
 use Rattle.pl_head.specs.Transports.{MemoryTransportView, MayRefuse, memory_state, new_state}
@@ -21,11 +22,13 @@ use Rattle.pl_replay.specs.Reported.{is_drained}
 use Rattle.pl_world.specs.Plans.{Plan}
 use Rattle.pl_replay.specs.Replays.{IsReplayed}
 use Rattle.pl_world.specs.Reports.{whole_report}
+use Rattle.pl_exec.specs.Reported.{IsRunReport}
+use Rattle.pl_exec.specs.declared.running.QueueKind.{QueueKind}
 use Rattle.pl_text.specs.SessionTexts.{session_of}
 use Rattle.pl_text.specs.MovesTexts.{MeansMoves, IsNoMoves}
 use Rattle.pl_text.specs.ReportTexts.{report_text}
 use Rattle.pl_tool.specs.ProgramFailures.{status_of, failure_line}
-use Rattle.pl_tool.specs.ProgramLines.{RequestView, Replay as ReplayRequest, Plain}
+use Rattle.pl_tool.specs.ProgramLines.{RequestView, Replay as ReplayRequest, Run as RunRequest, Plain}
 
 -- whether every channel of the report is drained
 abbrev pub all_drained : Report → Bool
@@ -68,6 +71,7 @@ pub record IsReplayedBy (text : List ℕ) (session : Plan) (report : Report) : T
 -- this is the report of the session that is requested
 abbrev pub IsAnswer : RequestView → Plan → Report → Type 0
 IsAnswer (ReplayRequest text) session report = IsReplayedBy text session report
+IsAnswer (RunRequest queue) session report = IsRunReport session report
 IsAnswer Plain session report = report.channels ≡ map whole_report session.channels
 
 -- The command line requests something, a session was taken, and this is the report of it that is requested.
@@ -96,6 +100,7 @@ pub record RefusesMoves (fault : MovesFault) (requested : Option RequestView) : 
 -- the text of a replay gives moves
 abbrev pub HasMoves : RequestView → Type 0
 HasMoves (ReplayRequest text) = (moves : List Move) × MeansMoves text moves
+HasMoves (RunRequest queue) = ⊤
 HasMoves Plain = ⊤
 
 -- the command line and its moves were read
@@ -122,6 +127,13 @@ pub record NamesMissing (requested : Option RequestView) (unread left : Option (
   pub taken : TakesSession unread left session
   pub missing : list_all (is_there session) moves ≡ false
 
+-- A session was taken for a run.
+pub record IsForRun (requested : Option RequestView) (unread left : Option (List ℕ)) : Type 0 where
+  pub queue : QueueKind
+  pub given : requested ≡ Some (RunRequest queue)
+  pub session : Plan
+  pub taken : TakesSession unread left session
+
 -- a failure at the session
 abbrev pub RefusesInput : Failure → Option (List ℕ) → Option (List ℕ) → Type 0
 RefusesInput Input unread left = ⊤
@@ -129,9 +141,10 @@ RefusesInput (Session f) unread left = RefusesSession f unread left
 RefusesInput Memory unread left = ⊤
 RefusesInput _ unread left = ⊥
 
--- What a failure says of the command line and of what was taken from the reader. Why a read or a write failed, and
--- whether memory ran out, is not seen here. So Usage says only that nothing was taken, Input that the line and its
--- moves were read, Output that there was a report, and Memory nothing.
+-- What a failure says of the command line and of what was taken from the reader. Why a read or a write failed, why no
+-- thread was started, and whether memory ran out, is not seen here. So Usage says only that nothing was taken, Input that
+-- the line and its moves were read, Run that a run was requested and a session taken, Output that there was a report,
+-- and Memory nothing.
 abbrev pub IsCause : Failure → Option RequestView → Option (List ℕ) → Option (List ℕ) → Type 0
 IsCause Usage requested unread left = Keeps unread left
 IsCause (Moves f) requested unread left = RefusesMoves f requested × Keeps unread left
@@ -139,6 +152,8 @@ IsCause (Replay replay.NoSuch) requested unread left = NamesMissing requested un
 IsCause (Replay replay.Memory) requested unread left = ⊥
 IsCause Input requested unread left = IsLineRead requested
 IsCause (Session f) requested unread left = IsLineRead requested × RefusesSession f unread left
+IsCause (Run run.Spawn) requested unread left = IsForRun requested unread left
+IsCause (Run run.Memory) requested unread left = ⊥
 IsCause Memory requested unread left = ⊤
 IsCause Output requested unread left = (report : Report) × IsReported requested unread left report
 

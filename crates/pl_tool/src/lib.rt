@@ -1,5 +1,5 @@
-//! The program as a function: it replays a recorded session or takes it whole. `pl_text` reads and prints for it,
-//! `pl_replay` replays, and `pl_world` takes a session whole; the types are theirs.
+//! The program as a function: it replays a recorded session, runs it, or takes it whole. `pl_text` reads and prints for
+//! it, `pl_replay` replays, `pl_exec` runs, and `pl_world` takes a session whole; the types are theirs.
 #![tactic(auto)]
 
 mod program;

@@ -5,7 +5,7 @@ ghost use Rattle.std.specs.IoError.{error_kind};
 ghost use Rattle.std.specs.Io.KnownBytes.{Keeps};
 ghost use Rattle.pl_tool.specs.declared.program.failure.Failure.TheVariants as failure;
 ghost use Rattle.pl_tool.specs.ProgramFailures.{failure_line, failure_of_words, status_of};
-ghost use Rattle.pl_tool.specs.ProgramLines.{Plain, Replay, request_of, request_view};
+ghost use Rattle.pl_tool.specs.ProgramLines.{Plain, Replay, Run, request_of, request_view};
 ghost use Rattle.pl_tool.specs.ProgramOutcomes.{AppendsPrefixOf, Explains, HasFailed, HasPrinted, IsCause, IsReported, TakesAtMost, all_drained};
 
 mod command_line;
@@ -17,13 +17,24 @@ use command_line::{Request, request_of};
 use failure::Failure;
 pub use input::MAX_INPUT;
 use input::take_session;
+use pl_exec::{Gate, QueueKind, run};
 use pl_replay::replay;
 use pl_text::{print_report, read_moves};
 use pl_world::{Report, Stands, plain};
 use std::alloc::Global;
 use std::io;
 use std::io::{Read, Write};
+use std::sync::Wait;
+use std::thread::Threads;
 use telling::tell;
+
+/// A gate that does nothing.
+#[derive(Drop)]
+struct NoGate;
+
+impl Gate for NoGate {
+    fn enter(&self, _executor: u16, _turn: u64) {}
+}
 
 /// What the command line requests. Out of memory inside `clap` counts as a line that is not read.
 fn request_or_usage<'a>(alloc: Global, words: &'a [String]) -> Result<Request<'a>, Failure>
@@ -47,6 +58,22 @@ fn replayed<R: Read>(alloc: Global, text: &str, reader: &mut R) -> Result<Report
     Ok(report)
 }
 
+/// The report of a run by executors with these queues.
+fn ran<T: Threads + Wait + Sync, R: Read>(
+    rt: &T,
+    alloc: Global,
+    queue: QueueKind,
+    reader: &mut R,
+) -> Result<Report, Failure>
+    ensures ok { IfOk result (λ report. IsReported (Some (Run queue)) (R.remaining reader.old) (R.remaining reader.new) report) }
+    ensures err { IfErr result (λ e. IsCause e (Some (Run queue)) (R.remaining reader.old) (R.remaining reader.new)) }
+    ensures at_most { TakesAtMost MAX_INPUT (R.remaining reader.old) (R.remaining reader.new) }
+{
+    let session = take_session(alloc, reader)?;
+    let report = run(rt, alloc, session, queue, &NoGate)?;
+    Ok(report)
+}
+
 /// The whole report of a session.
 fn composed<R: Read>(alloc: Global, reader: &mut R) -> Result<Report, Failure>
     ensures ok { IfOk result (λ report. IsReported (Some Plain) (R.remaining reader.old) (R.remaining reader.new) report) }
@@ -59,7 +86,8 @@ fn composed<R: Read>(alloc: Global, reader: &mut R) -> Result<Report, Failure>
 }
 
 /// The report that is requested.
-fn report_of<R: Read>(
+fn report_of<T: Threads + Wait + Sync, R: Read>(
+    rt: &T,
     alloc: Global,
     request: Request<'_>,
     reader: &mut R,
@@ -70,6 +98,7 @@ fn report_of<R: Read>(
 {
     match request {
         Request::Replay(text) => replayed(alloc, text, reader),
+        Request::Run(queue) => ran(rt, alloc, queue, reader),
         Request::Plain => composed(alloc, reader),
     }
 }
@@ -87,7 +116,8 @@ fn all_drained(report: &Report) -> bool
 
 /// Reads the command line, the moves and the session, in this order, and prints the report that is requested. It says
 /// whether every channel is drained.
-fn run<R: Read, W: Write>(
+fn print_requested<T: Threads + Wait + Sync, R: Read, W: Write>(
+    rt: &T,
     alloc: Global,
     words: &[String],
     reader: &mut R,
@@ -100,29 +130,34 @@ fn run<R: Read, W: Write>(
     ensures at_most { TakesAtMost MAX_INPUT (R.remaining reader.old) (R.remaining reader.new) }
 {
     let request = request_or_usage(alloc, words)?;
-    let report = report_of(alloc, request, reader)?;
+    let report = report_of(rt, alloc, request, reader)?;
     print_report(alloc, &report, out)?;
     Ok(all_drained(&report))
 }
 
 /// The program (`docs/FORMATS.md`, "Program"): reads the command line `words`, of which the first is the program's
-/// name, then the moves of a `replay`, then a session from the reader. It replays the session by these moves or, for
-/// `plain`, takes it whole, and writes the text of the report to `out`. A transport that fails, an abort, and a growth that
-/// is refused in a move do not end the replay: the report tells what became of each channel.
+/// name, then the moves of a `replay`, then a session from the reader. It replays the session by these moves, runs it by
+/// executors in threads for `run` or, for `plain`, takes it whole, and writes the text of the report to `out`. A transport
+/// that fails, an abort, and a growth that is refused in a move do not end the replay or the run: the report tells what
+/// became of each channel.
 ///
 /// The status is 0 where every channel is drained, 1 where the report was printed and some channel is not drained. Else
 /// one line on `err` says why: 2 where the command line or its moves were not read or name what is not there, 3 where
-/// the session was refused or a read failed, 4 where it ran out of memory or `out` failed. Where the line or its moves
-/// were not read, nothing was taken from the reader; unless `out` failed, nothing was written to it. An `err` that fails
-/// changes no status, and holds a beginning of the line.
+/// the session was refused or a read failed, 4 where no thread could be started for a run, it ran out of memory or `out`
+/// failed. Where the line or its moves were not read, nothing was taken from the reader; unless `out` failed, nothing was
+/// written to it. An `err` that fails changes no status, and holds a beginning of the line.
 ///
-/// No contract sees that a read or a write fails, that memory runs out, or what a writer would have taken. So these
-/// bodies meet this one too: one that answers `out of memory` at any time, or at once the usage line, as where `clap`
-/// runs out of memory; one whose report tells that memory ran out for a channel; one that answers `input refused` once the
-/// line and its moves were read; one that answers `output refused` once there is a report, whatever it then wrote to
-/// `out`; and one that tells a part of the line, or nothing. That these come only where they should is tested.
+/// No contract sees that a read or a write fails, that a thread is not started, that memory runs out, or what a writer
+/// would have taken. So these bodies meet this one too: one that answers `out of memory` at any time, or at once the
+/// usage line, as where `clap` runs out of memory; one whose report tells that memory ran out for a channel; one that
+/// answers `input refused` once the line and its moves were read; one that answers `run refused: 2 Spawn` once a run is
+/// requested and a session was taken; one whose run has queues of the other kind; one that answers `output refused` once
+/// there is a report, whatever it then wrote to `out`; and one that tells a part of the line, or nothing. That these come
+/// only where they should is tested, but for a thread that is not started. A run may wait for ever, and then answers
+/// nothing.
 #[tactic(auto, using(crate::proofs::ProgramAnswers::open_is_not_plain))]
-pub fn run_tool<R: Read, W: Write, E: Write>(
+pub fn run_tool<T: Threads + Wait + Sync, R: Read, W: Write, E: Write>(
+    rt: &T,
     alloc: Global,
     words: &[String],
     reader: &mut R,
@@ -145,7 +180,7 @@ pub fn run_tool<R: Read, W: Write, E: Write>(
     // Whatever the status, one byte more than a session text may have is all that is taken.
     ensures at_most { TakesAtMost MAX_INPUT (R.remaining reader.old) (R.remaining reader.new) }
 {
-    match run(alloc, words, reader, out) {
+    match print_requested(rt, alloc, words, reader, out) {
         Ok(true) => 0,
         Ok(false) => 1,
         Err(failure) => tell(failure, err),

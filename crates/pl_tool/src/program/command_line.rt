@@ -3,11 +3,12 @@
 ghost use Rattle.std.specs.Prelude.{◌≡◌, [], codes, drop, map, option_and_then, option_map, string_bytes, unwrap_or, IfOk};
 ghost use Rattle.std.specs.List.{list_any};
 ghost use Rattle.std.specs.Str.{bytes_eq};
-ghost use Rattle.clap.specs.Words.{FailsBy, app_of, fault_of, first_value, found_of, rows_of, subcommand_of, subcommand_rows_of};
-ghost use Rattle.pl_tool.specs.ProgramLines.{program, request_of, request_of_subcommand, request_view};
+ghost use Rattle.clap.specs.Words.{FailsBy, app_of, fault_of, first_value, found_of, rows_of, subcommand_of, subcommand_rows_of, with_subcommand};
+ghost use Rattle.pl_tool.specs.ProgramLines.{Run, program, queue_named, replay_command, request_of, request_of_subcommand, request_view, run_command};
 
 use clap::error::ErrorKind;
 use clap::{Arg, ArgAction, ArgMatches, Command, Error};
+use pl_exec::QueueKind;
 use std::alloc::{AllocError, Global};
 
 /// What a command line requests.
@@ -15,24 +16,40 @@ use std::alloc::{AllocError, Global};
 pub(crate) enum Request<'a> {
     /// The report of a replay by the moves of a text.
     Replay(&'a str),
+    /// The report of a run, by executors with such queues.
+    Run(QueueKind),
     /// The whole report.
     Plain,
+}
+
+/// Tells `clap` of the subcommand `replay`.
+fn with_replay<'a>(alloc: Global, command: Command<'a>) -> Result<Command<'a>, AllocError>
+    ensures { IfOk result (λ made. app_of made ≡ with_subcommand (app_of command.entry) replay_command.top) }
+{
+    let moves = Arg::new(alloc, "moves")
+        .long("moves")
+        .action(ArgAction::Set);
+    command.subcommand(Command::new(alloc, "replay").arg(moves)?)
+}
+
+/// Tells `clap` of the subcommand `run`.
+fn with_run<'a>(alloc: Global, command: Command<'a>) -> Result<Command<'a>, AllocError>
+    ensures { IfOk result (λ made. app_of made ≡ with_subcommand (app_of command.entry) run_command.top) }
+{
+    let queue = Arg::new(alloc, "queue")
+        .long("queue")
+        .action(ArgAction::Set);
+    command.subcommand(Command::new(alloc, "run").arg(queue)?)
 }
 
 /// The program's command line, as `clap` is told of it.
 fn command<'a>(alloc: Global) -> Result<Command<'a>, AllocError>
     ensures { IfOk result (λ made. app_of made ≡ program) }
 {
-    let moves = Arg::new(alloc, "moves")
-        .long("moves")
-        .action(ArgAction::Set);
-    let replay = Command::new(alloc, "replay").arg(moves)?;
+    let program = Command::new(alloc, "pl_tool");
+    let program = with_run(alloc, with_replay(alloc, program)?)?;
     let plain = Command::new(alloc, "plain");
-    Ok(
-        Command::new(alloc, "pl_tool")
-            .subcommand(replay)?
-            .subcommand(plain)?,
-    )
+    program.subcommand(plain)
 }
 
 /// Whether a word is a lone `-`.
@@ -69,12 +86,34 @@ fn moves_text<'a>(replay: &ArgMatches<'a>) -> &'a str
     replay.get_str("moves").unwrap_or("")
 }
 
+/// The queue of this name, or None where it is none's.
+fn queue_named(name: &str) -> Option<QueueKind>
+    ensures { result ≡ queue_named name.now }
+{
+    match name {
+        "waiting" => Some(QueueKind::Waiting),
+        "ring" => Some(QueueKind::Ring),
+        _ => None,
+    }
+}
+
+/// The run with the queue that the option `--queue` names, or None where it is not given or names none.
+fn run_request<'a>(run: &ArgMatches<'_>) -> Option<Request<'a>>
+    ensures { option_map request_view result ≡ option_map Run (option_and_then queue_named (first_value (found_of run.now) (codes "queue"))) }
+{
+    let queue = queue_named(run.get_str("queue")?)?;
+    Some(Request::Run(queue))
+}
+
 /// The request of a subcommand, by its name and what was found of it.
 fn request_of_subcommand<'a>(name: &str, found: &ArgMatches<'a>) -> Option<Request<'a>>
     ensures { option_map request_view result ≡ request_of_subcommand (name.now, rows_of (found_of found.now)) }
 {
     if name == "replay" {
         return Some(Request::Replay(moves_text(found)));
+    }
+    if name == "run" {
+        return run_request(found);
     }
     if name == "plain" {
         return Some(Request::Plain);

@@ -2,9 +2,10 @@
 
 ghost use Rattle.std.specs.Prelude.{◌≡◌};
 ghost use Rattle.std.specs.IoError.{error_kind};
-ghost use Rattle.pl_tool.specs.ProgramFailures.{failure_of_moves, failure_of_session, failure_of_replay, failure_of_print, failure_of_read, failure_of_words, status_of, failure_line, moves_line, replay_line, build_line, session_line};
+ghost use Rattle.pl_tool.specs.ProgramFailures.{failure_of_moves, failure_of_session, failure_of_replay, failure_of_run, failure_of_print, failure_of_read, failure_of_words, status_of, failure_line, moves_line, replay_line, run_line, build_line, session_line};
 
 use pl_build::BuildFault;
+use pl_exec::RunFault;
 use pl_text::{MovesFault, PrintFault, SessionFault};
 use pl_world::ReplayFault;
 use std::io;
@@ -23,6 +24,8 @@ pub(crate) enum Failure {
     Input,
     /// The session was refused.
     Session(SessionFault),
+    /// No thread could be started for a run.
+    Run(RunFault),
     /// Out of memory.
     Memory,
     /// The first writer failed.
@@ -57,7 +60,7 @@ impl Failure {
         match self {
             Failure::Usage | Failure::Moves(_) | Failure::Replay(_) => 2,
             Failure::Input | Failure::Session(_) => 3,
-            Failure::Memory | Failure::Output => 4,
+            Failure::Run(_) | Failure::Memory | Failure::Output => 4,
         }
     }
 
@@ -73,6 +76,7 @@ impl Failure {
             Failure::Replay(fault) => replay_line(fault),
             Failure::Input => "input refused\n",
             Failure::Session(fault) => session_line(fault),
+            Failure::Run(fault) => run_line(fault),
             Failure::Memory => "out of memory\n",
             Failure::Output => "output refused\n",
         }
@@ -97,6 +101,16 @@ fn replay_line(fault: ReplayFault) -> &'static str
     match fault {
         ReplayFault::NoSuch => "replay refused: 1 NoSuch\n",
         ReplayFault::Memory => "out of memory\n",
+    }
+}
+
+/// The line of a run that was refused.
+fn run_line(fault: RunFault) -> &'static str
+    ensures { result.now ≡ run_line fault }
+{
+    match fault {
+        RunFault::Spawn => "run refused: 2 Spawn\n",
+        RunFault::Memory => "out of memory\n",
     }
 }
 
@@ -160,6 +174,17 @@ impl From<ReplayFault> for Failure {
         match fault {
             ReplayFault::Memory => Failure::Memory,
             _ => Failure::Replay(fault),
+        }
+    }
+}
+
+impl From<RunFault> for Failure {
+    ghost from_gives = { λ fault failure. failure ≡ failure_of_run fault };
+
+    fn from(fault: RunFault) -> Failure {
+        match fault {
+            RunFault::Memory => Failure::Memory,
+            RunFault::Spawn => Failure::Run(fault),
         }
     }
 }

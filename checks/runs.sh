@@ -1,0 +1,53 @@
+#!/bin/sh
+# Runs each example on threads, over both queues, and compares its report with that of `plain`.
+#
+# usage: checks/runs.sh PROGRAM [TIMES]     each is run once, or so many times
+#
+# Where nothing fails the report is that of `plain`, and the status 0. Where a transport fails or the channel is aborted, each
+# tail and the bytes of each channel begin those of `plain`, and no channel stands open. Each run has a minute. With waiting
+# queues executors may wait for each other in a circle, so these have room for all there is.
+set -eu
+program=$1
+times=${2:-1}
+here=$(cd "$(dirname "$0")" && pwd)
+examples=$here/../examples
+work=$(mktemp -d)
+trap 'rm -rf "$work"' EXIT
+
+fail() {
+    echo "runs: ${example#"$examples"/}, $queue: $1"
+    exit 1
+}
+
+# Runs the session, and compares what it printed.
+run_once() {
+    status=0
+    timeout 60 "$program" run --queue "$queue" <"$work/session" >"$work/out" 2>"$work/err" || status=$?
+    [ ! -s "$work/err" ] || fail "$(cat "$work/err")"
+    if grep -qE '"(fail_at|abort_after)":[0-9]' "$session"; then
+        awk -v status="$status" -v is_run=1 -f "$here/begins_plain.awk" "$work/plain" "$work/out" || fail "the report"
+    else
+        [ "$status" -eq 0 ] || fail "status $status"
+        cmp -s "$work/plain" "$work/out" || fail "another report than that of plain"
+    fi
+}
+
+ran=0
+for session in "$examples"/*/session.json "$examples"/*/*/session.json; do
+    example=$(dirname "$session")
+    "$program" plain <"$session" >"$work/plain" 2>/dev/null || continue
+    for queue in waiting ring; do
+        case $queue in
+            waiting) sed 's/"capacity":[0-9]*/"capacity":65536/' "$session" >"$work/session" ;;
+            ring) cp "$session" "$work/session" ;;
+        esac
+        number=0
+        while [ "$number" -lt "$times" ]; do
+            run_once
+            number=$((number + 1))
+        done
+        ran=$((ran + times))
+    done
+done
+[ "$ran" -gt 0 ] || { echo "runs: no example ran"; exit 1; }
+echo "runs: $ran as plain, or a beginning of it"

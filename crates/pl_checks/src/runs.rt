@@ -1,0 +1,161 @@
+//! Sessions that are run, over each queue: no channel is left open, what each channel's tail and transport got begins what
+//! `plain` gives, and is all of it where the channel is drained.
+
+use crate::fair::is_prefix;
+use crate::running::{Runtime, answers, ran_over};
+use crate::sessions;
+use crate::sessions::{LINE_ACROSS_BURSTS, LineSession, PING, QUIT, failing_session};
+use pl_event::Cause;
+use pl_exec::{Gate, QueueKind, run};
+use pl_text::read_session;
+use pl_world::{ChannelReport, Report, Stands, plain};
+use std::process::Abort;
+use std::test::Fail;
+
+/// A gate that does nothing.
+#[derive(Drop)]
+struct NoGate;
+
+impl Gate for NoGate {
+    fn enter(&self, _executor: u16, _turn: u64) {}
+}
+
+const QUEUES: [QueueKind; 2] = [QueueKind::Waiting, QueueKind::Ring];
+
+/// How a channel ended is told, and what its tail and transport got begins this report, and is all of it where it is
+/// drained.
+fn ends(part: &ChannelReport, whole: &ChannelReport) -> bool {
+    let is_whole = part.tail.as_slice() == whole.tail.as_slice()
+        && part.bytes.as_slice() == whole.bytes.as_slice()
+        && part.writes.as_slice() == whole.writes.as_slice();
+    is_prefix(part.tail.as_slice(), whole.tail.as_slice())
+        && is_prefix(part.bytes.as_slice(), whole.bytes.as_slice())
+        && part.stands != Stands::Open
+        && (part.stands != Stands::Drained || is_whole)
+}
+
+/// What a run of the session of a text reports. It is looked at whether its channels have ended as they should.
+fn ended<R: Abort + Runtime>(rt: &R, text: &str, queue: QueueKind) -> Result<Report, Fail> {
+    let alloc = rt.alloc();
+    let report = run(rt, alloc, read_session(alloc, text)?, queue, &NoGate)?;
+    let whole = plain(alloc, read_session(alloc, text)?)?;
+    let (parts, wholes) = (report.channels.as_slice(), whole.channels.as_slice());
+    assert_eq!(rt; parts.len(), wholes.len());
+    for (part, whole) in parts.iter().zip(wholes) {
+        assert!(rt; ends(part, whole), "{queue:?}: {part:?} of {text}");
+    }
+    Ok(report)
+}
+
+/// Says that each channel of a session is drained by a run.
+fn drains<R: Abort + Runtime>(rt: &R, text: &str, queue: QueueKind) -> Result<(), Fail> {
+    for channel in ended(rt, text, queue)?.channels.as_slice() {
+        assert_eq!(rt; channel.stands, Stands::Drained, "{queue:?}: {text}");
+    }
+    Ok(())
+}
+
+#[test]
+fn runs_drain_every_example(rt: HostRuntime) -> Result<(), Fail> {
+    for text in sessions::examples(&rt)? {
+        drains(&rt, text.as_str(), QueueKind::Ring)?;
+        let roomy = sessions::with_room(&rt, text.as_str())?;
+        drains(&rt, roomy.as_str(), QueueKind::Waiting)?;
+    }
+    Ok(())
+}
+
+/// The decoder and the service, each on an executor of its own: every item goes there and back through a ring of one.
+#[test]
+fn totals_across_groups(rt: HostRuntime) -> Result<(), Fail> {
+    let text = sessions::totals_across_groups(&rt, 1, "")?;
+    for _ in 0..100 {
+        drains(&rt, text.as_str(), QueueKind::Ring)?;
+    }
+    Ok(())
+}
+
+#[test]
+fn totals_across_groups_waiting(rt: HostRuntime) -> Result<(), Fail> {
+    let text = sessions::totals_across_groups(&rt, 16, "")?;
+    for _ in 0..100 {
+        drains(&rt, text.as_str(), QueueKind::Waiting)?;
+    }
+    Ok(())
+}
+
+/// Says that the one channel of a session with these further members has this failure, whichever the queue.
+fn fails<R: Abort + Runtime>(
+    rt: &R,
+    session: LineSession,
+    members: &str,
+    stands: Stands,
+) -> Result<(), Fail> {
+    let text = failing_session(rt, session, members)?;
+    for queue in QUEUES {
+        for channel in ended(rt, text.as_str(), queue)?.channels.as_slice() {
+            assert_eq!(rt; channel.stands, stands, "{queue:?}: {members}");
+        }
+    }
+    Ok(())
+}
+
+#[test]
+fn transport_fault(rt: HostRuntime) -> Result<(), Fail> {
+    let members = r#","window":4,"fail_at":2"#;
+    fails(&rt, PING, members, Stands::Failed(Cause::Transport))
+}
+
+/// Two replies are four calls: the fifth never comes.
+#[test]
+fn fault_at_each_call(rt: HostRuntime) -> Result<(), Fail> {
+    for (call, stands) in [
+        (1, Stands::Failed(Cause::Transport)),
+        (2, Stands::Failed(Cause::Transport)),
+        (3, Stands::Failed(Cause::Transport)),
+        (4, Stands::Failed(Cause::Transport)),
+        (5, Stands::Drained),
+    ] {
+        let members = format!(in rt.alloc(); ",\"window\":4,\"fail_at\":{call}")?;
+        fails(&rt, QUIT, members.as_str(), stands)?;
+    }
+    Ok(())
+}
+
+#[test]
+fn abort(rt: HostRuntime) -> Result<(), Fail> {
+    let aborted = Stands::Failed(Cause::Aborted);
+    fails(&rt, PING, r#","abort_after":1"#, aborted)?;
+    for count in 0..3 {
+        let members = format!(in rt.alloc(); ",\"abort_after\":{count}")?;
+        fails(&rt, LINE_ACROSS_BURSTS, members.as_str(), aborted)?;
+    }
+    Ok(())
+}
+
+/// Whichever of the two failures is the first, and at whichever call: it goes from executor to executor, past items that
+/// wait for room.
+#[test]
+fn failures_across_groups(rt: HostRuntime) -> Result<(), Fail> {
+    for call in 1..9 {
+        for rest in ["", r#","abort_after":0"#, r#","abort_after":1"#] {
+            let members = format!(in rt.alloc(); ",\"window\":3,\"fail_at\":{call}{rest}")?;
+            let text = sessions::totals_across_groups(&rt, 1, members.as_str())?;
+            for queue in QUEUES {
+                ended(&rt, text.as_str(), queue)?;
+            }
+        }
+    }
+    Ok(())
+}
+
+/// A failed channel is told by the status, and not on standard error.
+#[test]
+fn status_of_a_failed_run(rt: HostRuntime) -> Result<(), Fail> {
+    let text = failing_session(&rt, PING, r#","abort_after":0"#)?;
+    let report = "channel 0 failed Aborted\ntail 1\nActive\nbytes 0 -\nwrites 0\n";
+    for queue in ["waiting", "ring"] {
+        answers(ran_over(&rt, text.as_str(), queue)?, 1, report, "")?;
+    }
+    Ok(())
+}

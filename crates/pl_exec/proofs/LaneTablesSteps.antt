@@ -1,0 +1,63 @@
+-- Lists that are made element by element, and which lanes go from one executor to another.
+use Rattle.std.proofs.Common.{◌≡◌, ◌≢◌, ℕ, ◌+◌, ◌<◌, ◌==◌, ◌&&◌, not, Bool, true, false, List, [], ◌∷◌, ◌++◌, cond, length, map, filter, take, get_or, slice_get, Option, Some, refl, inl, inr, ap, sym, ◌∙◌, arith, append_assoc}
+use Rattle.std.specs.List.{flat_map, range_with_len}
+use Rattle.std.specs.Option.{option_map_or}
+use Rattle.std.proofs.lemmas.Bool.{cases_lt, false≢true, ne_eqb}
+use Rattle.std.proofs.lemmas.List.{append-nil, map-id, map_push}
+use Rattle.std.proofs.lemmas.List.Concat.{flat_map-append}
+use Rattle.std.proofs.lemmas.List.Elements.{filter_more}
+use Rattle.std.proofs.lemmas.List.FromFn.{map-range_with_len_more}
+use Rattle.std.proofs.lemmas.Option.{slice_get_past, slice_get_read}
+use Rattle.pl_event.specs.declared.envelopes.Lane.{Lane}
+use Rattle.pl_part.specs.Paths.{writer_hop}
+use Rattle.pl_part.specs.Parts.{PartView}
+use Rattle.pl_replay.specs.Channels.{executor_at, is_hop}
+use Rattle.pl_replay.specs.Placed.{goes_between}
+use Rattle.pl_exec.specs.Lanes.{crosses, is_lane}
+
+-- one number more
+range-more : (n : ℕ) → range_with_len 0 (n + 1) ≡ range_with_len 0 n ++ n ∷ []
+range-more n = sym (map-id (range_with_len 0 (n + 1))) ∙ map-range_with_len_more (λ k. k) 0 n n (omega arith) ∙ ap (λ ks. ks ++ n ∷ []) (map-id (range_with_len 0 n))
+
+pub joined-more : {A : Type 0} (f : ℕ → List A) (start before after : List A) (n : ℕ) → before ≡ start ++ flat_map f (range_with_len 0 n) → after ≡ before ++ f n → after ≡ start ++ flat_map f (range_with_len 0 (n + 1))
+joined-more f start before after n was grown =
+    grown
+    ∙ ap (λ l. l ++ f n) was
+    ∙ append_assoc start (flat_map f (range_with_len 0 n)) (f n)
+    ∙ ap (λ l. start ++ (flat_map f (range_with_len 0 n) ++ l)) (sym (append-nil (f n)))
+    ∙ ap (λ l. start ++ l) (sym (flat_map-append f (range_with_len 0 n) (n ∷ [])) ∙ ap (flat_map f) (sym (range-more n)))
+
+pub made-more : {A B : Type 0} (view : A → B) (f : ℕ → B) (before after : List A) (new : A) (n : ℕ) → map view before ≡ map f (range_with_len 0 n) → after ≡ before ++ new ∷ [] → view new ≡ f n
+    → map view after ≡ map f (range_with_len 0 (n + 1))
+made-more view f before after new n was grown is =
+    ap (map view) grown
+    ∙ map_push view before new
+    ∙ (λ i. was i ++ is i ∷ [])
+    ∙ sym (map-range_with_len_more f 0 n n (omega arith))
+
+-- one element more passed a filter, or did not
+module _ {A : Type 0} (p : A → Bool) (xs before : List A) (i : ℕ) (d : A) (answer : Bool) (below : i < length xs) (was : before ≡ filter p (take i xs)) (test : answer ≡ p (get_or xs i d)) where
+  more : filter p (take (i + 1) xs) ≡ before ++ cond answer (get_or xs i d ∷ []) []
+  more = filter_more p xs i d below ∙ sym (λ j. was j ++ cond (test j) (get_or xs i d ∷ []) [])
+
+  pub kept-more : (after : List A) → answer ≡ true → after ≡ before ++ get_or xs i d ∷ [] → after ≡ filter p (take (i + 1) xs)
+  kept-more after passes grown = grown ∙ sym (more ∙ ap (λ b. before ++ cond b (get_or xs i d ∷ []) []) passes)
+
+  pub left-more : answer ≡ false → before ≡ filter p (take (i + 1) xs)
+  left-more fails = sym (more ∙ ap (λ b. before ++ cond b (get_or xs i d ∷ []) []) fails ∙ append-nil before)
+
+module _ {S T : Type 0} (ps : List (PartView S T)) where
+  lane-within : (l : Lane) → is_lane ps l ≡ true → l.channel < length ps
+  lane-within l is = elim (cases_lt l.channel (length ps)) [
+    | inl below ↦ below
+    | inr past ↦ absurd (false≢true (ap (λ o. option_map_or (λ (p : PartView S T). is_hop p l) o false) (sym (slice_get_past ps l.channel past)) ∙ is))
+  ]
+
+  -- a lane crosses where its hop does
+  pub crosses-there : (l : Lane) (x y : ℕ) (p : PartView S T) → is_lane ps l ≡ true → p ≡ get_or ps l.channel p → x ≢ y → goes_between x y p l.hop ≡ crosses ps x y l
+  crosses-there l x y p is here apart =
+      let at : Some p ≡ slice_get ps l.channel = sym (slice_get_read ps (length ps) l.channel p refl (lane-within l is) here) in
+      ap (λ b. not b && goes_between x y p l.hop) (sym (ne_eqb x y apart)) ∙ ap through at
+    where
+      through : Option (PartView S T) → Bool
+      through o = not (x == y) && ((option_map_or (λ (q : PartView S T). executor_at q (writer_hop q.path l.hop)) o 0 == x) && (option_map_or (λ (q : PartView S T). executor_at q l.hop) o 0 == y))

@@ -1,0 +1,243 @@
+-- The ends of channels among the nodes of executors: which of them were found, part by part and executor by executor.
+use Rattle.std.proofs.Common.{◌≡◌, ◌≢◌, ℕ, zero, suc, ◌+◌, ◌<◌, ◌≤◌, Bool, true, false, List, [], ◌∷◌, ◌++◌, length, map, set, get_or, replicate, slice_get, Option, Some, None, ⊎_elim, refl, ap, sym, subst, ◌∙◌, arith, zero-add, length-append, ◌||◌}
+use Rattle.std.specs.Prelude.{◌==◌, is_some, if◌then◌else◌}
+use Rattle.std.specs.List.{list_all, range_with_len}
+use Rattle.std.specs.Option.{option_map, option_map_or, option_or}
+use Rattle.std.proofs.lemmas.Bool.{false≢true, cases_eq, eq-eqb, ne_eqb, and_parts, cond-true, cond-false}
+use Rattle.std.proofs.lemmas.List.{length-map, length-replicate, get_or-replicate}
+use Rattle.std.proofs.lemmas.List.Elements.{All-get_or}
+use Rattle.std.proofs.lemmas.List.FromFn.{get_or-range_with_len, length-range_with_len}
+use Rattle.std.proofs.lemmas.Option.{none-some, same_Some, slice_get_read, slice_get_within, slice_get-map, get_or_from_slice_get}
+use Rattle.pl_event.specs.declared.events.Event.{Event}
+use Rattle.pl_event.specs.Meaning.{Meaning}
+use Rattle.pl_event.specs.Worlds.{World}
+use Rattle.pl_event.proofs.Lists.{All-at}
+use Rattle.pl_context.specs.ContextViews.{ContextView}
+use Rattle.pl_context.specs.Standings.{is_over}
+use Rattle.pl_context.specs.TailViews.{TailView}
+use Rattle.pl_head.specs.Transports.{TransportState}
+use Rattle.pl_head.specs.HeadStand.{HeadView}
+use Rattle.pl_part.specs.Paths.{context_at, is_slot_over, path_over}
+use Rattle.pl_part.specs.Parts.{PartView, head_hop}
+use Rattle.pl_channel.specs.Lanes.{lanes_of}
+use Rattle.pl_channel.specs.PlanStand.{PartKeepsPlan}
+use Rattle.pl_replay.specs.Channels.{executor_at}
+use Rattle.pl_world.specs.Plans.{ChannelPlan, Plan, tail_hop}
+use Rattle.pl_world.specs.Plans.{head_hop as planned_head_hop}
+use Rattle.pl_world.specs.PlanRules.{IsChannelPlan, IsPlan}
+use Rattle.pl_exec.specs.declared.reporting.Found.{Found}
+use Rattle.pl_exec.specs.OwnNodes.{PartStands, NodesStand, IsPartOver, AreOver}
+use Rattle.pl_exec.specs.Reported.{IsLeftTail, IsLeftHead, AreLeft, nothing_found, with_part, with_parts}
+
+-- ---- the parts of one executor
+
+-- before the first part is looked at
+pub no-parts : (S : Type 0) {T : Type 0} (fs : List (Found T)) → with_parts {S = S} fs [] ≡ fs
+no-parts S [] = refl
+no-parts S (f ∷ fs) = refl
+
+parts-count : {S T : Type 0} (fs : List (Found T)) (parts : List (PartView S T)) → length (with_parts fs parts) ≡ length fs
+parts-count [] parts = refl
+parts-count (f ∷ fs) [] = refl
+parts-count (f ∷ fs) (part ∷ parts) = ap suc (parts-count fs parts)
+
+-- while parts are looked at, there is a channel for the next one
+pub parts-within : {S T : Type 0} (fs : List (Found T)) (parts done rest left : List (PartView S T)) (part : PartView S T) → done ++ rest ≡ parts → rest ≡ part ∷ left → length parts ≡ length fs → length done < length (with_parts fs done)
+parts-within {S = S} {T = T} fs parts done rest left part whole front count =
+    let sum = length-append done rest in
+    let all = ap (λ (l : List (PartView S T)). length l) whole in
+    let next = ap (λ (l : List (PartView S T)). length l) front in
+    omega (arith, sum, all, next, count, parts-count fs done)
+
+parts-push : {S T : Type 0} (fs : List (Found T)) (done : List (PartView S T)) (part : PartView S T) (f : Found T) → slice_get (with_parts fs done) (length done) ≡ Some f
+    → set (with_parts fs done) (length done) (with_part f part) ≡ with_parts fs (done ++ part ∷ [])
+parts-push [] done part f found = absurd (none-some f found)
+parts-push {S = S} {T = T} (g ∷ fs) [] part f found = ap (λ (z : Found T). with_part z part ∷ fs) (sym (same_Some g f found)) ∙ ap (λ (l : List (Found T)). with_part g part ∷ l) (sym (no-parts S fs))
+parts-push {T = T} (g ∷ fs) (d ∷ done) part f found = ap (λ (l : List (Found T)). with_part g d ∷ l) (parts-push fs done part f found)
+
+-- the next part is looked at
+pub parts-step : {S T : Type 0} (fs now : List (Found T)) (done : List (PartView S T)) (part : PartView S T) (c : ℕ) (f g : Found T) → now ≡ with_parts fs done → c ≡ length done → c < length now → f ≡ get_or now c f
+    → g ≡ with_part f part → set now c g ≡ with_parts fs (done ++ part ∷ [])
+parts-step {T = T} fs now done part c f g is at within read noted =
+    let found : slice_get (with_parts fs done) (length done) ≡ Some f =
+    (λ i. slice_get (sym is i) (sym at i)) ∙ slice_get_read now (length now) c f refl within read in
+    ap (λ (z : Found T). set now c z) noted ∙ (λ i. set (is i) (at i) (with_part f part)) ∙ parts-push fs done part f found
+
+-- What is found of a channel is what was found before, with the ends among the nodes of its part.
+record Noted {S T : Type 0} (fs : List (Found T)) (parts : List (PartView S T)) (c : ℕ) (g : Found T) : Type 0 where
+  pub before : Found T
+  pub part : PartView S T
+  pub was : slice_get fs c ≡ Some before
+  pub own : slice_get parts c ≡ Some part
+  pub is : with_part before part ≡ g
+
+noted-at : {S T : Type 0} (fs : List (Found T)) (parts : List (PartView S T)) (c : ℕ) (g : Found T) → length parts ≡ length fs → slice_get (with_parts fs parts) c ≡ Some g → Noted fs parts c g
+noted-at [] parts c g count found = absurd (none-some g found)
+noted-at (f ∷ fs) [] c g count found = absurd (omega (arith, count))
+noted-at (f ∷ fs) (part ∷ parts) zero g count found = record { before = f; part = part; was = refl; own = refl; is = same_Some (with_part f part) g found }
+noted-at (f ∷ fs) (part ∷ parts) (suc c) g count found =
+    let n = noted-at fs parts c g (omega (arith, count)) found in
+    record { before = n.before; part = n.part; was = n.was; own = n.own; is = n.is }
+
+-- ---- one end
+
+-- One end of a channel, as far as it was found: what was found is right, and it was found where its executor is one of the
+-- first.
+pub record IsEnd {A : Type 0} (Right : A → Type 0) (executor first : ℕ) (o : Option A) : Type 0 where
+  pub right : (x : A) → o ≡ Some x → Right x
+  pub there : executor < first → is_some o ≡ true
+
+end-none : {A : Type 0} (Right : A → Type 0) (executor : ℕ) → IsEnd Right executor 0 None
+end-none Right executor = record { right = λ x is. absurd (none-some x is); there = λ lt. absurd (omega (arith, lt)) }
+
+-- the next executor has it, or not
+end-next : {A : Type 0} (Right : A → Type 0) (executor first : ℕ) (own o : Option A) → ((x : A) → own ≡ Some x → Right x) → is_some own ≡ (executor == first) → IsEnd Right executor first o
+    → IsEnd Right executor (first + 1) (option_or own o)
+end-next Right executor first (Some x) o right here e = record { right = right; there = λ lt. refl }
+end-next Right executor first None o right here e = record {
+  right = e.right;
+  there = λ lt. ⊎_elim
+      (λ (s : executor ≡ first). absurd (false≢true (here ∙ eq-eqb executor first s)))
+      (λ (n : executor ≢ first). e.there (omega (arith, lt, n)))
+      (cases_eq executor first);
+}
+
+-- every executor was looked through
+end-all : {A : Type 0} (Right : A → Type 0) (executor count : ℕ) (o : Option A) → IsEnd Right executor count o → executor < count → (x : A) × (o ≡ Some x) × Right x
+end-all Right executor count (Some x) e lt = (x, refl, e.right x refl)
+end-all Right executor count None e lt = absurd (false≢true (e.there lt))
+
+-- ---- both ends of a channel
+
+-- the executor of a hop
+abbrev pub executor_of : ChannelPlan → ℕ → ℕ
+executor_of p hop = get_or p.executors hop 0
+
+module _ {T : Type 0} (state : T → TransportState) (plan : Plan) where
+  -- The ends of a channel, as far as they are among the nodes of the first executors.
+  pub record IsFound (first c : ℕ) (p : ChannelPlan) (f : Found T) : Type 0 where
+    pub tail : IsEnd (IsLeftTail plan c p) (executor_of p (tail_hop p)) first f.tail
+    pub head : IsEnd (IsLeftHead state plan c p) (executor_of p (planned_head_hop p)) first f.head
+
+  -- So are those of each channel.
+  pub record AreFound (first : ℕ) (fs : List (Found T)) : Type 0 where
+    pub count : length fs ≡ length plan.channels
+    pub each : (c : ℕ) (p : ChannelPlan) (f : Found T) → slice_get plan.channels c ≡ Some p → slice_get fs c ≡ Some f → IsFound first c p f
+
+  -- before the first executor is looked through
+  pub none-found : (fs : List (Found T)) → fs ≡ replicate (length plan.channels) nothing_found → AreFound 0 fs
+  none-found fs are = record {
+    count = ap (λ (l : List (Found T)). length l) are ∙ length-replicate (length plan.channels) nothing_found;
+    each = λ c p f planned found.
+        let within = slice_get_within plan.channels c p planned in
+        let none : nothing_found ≡ f =
+        sym (get_or-replicate (length plan.channels) c nothing_found f within) ∙ ap (λ (l : List (Found T)). get_or l c f) (sym are) ∙ get_or_from_slice_get fs c f f found in
+        subst (λ (z : Found T). IsFound 0 c p z) none
+        (record { tail = end-none (IsLeftTail plan c p) (executor_of p (tail_hop p)); head = end-none (IsLeftHead state plan c p) (executor_of p (planned_head_hop p)) });
+  }
+
+  -- each hop has an executor
+  placed : (p : ChannelPlan) → IsChannelPlan plan.executors p → (hop : ℕ) → hop ≤ planned_head_hop p → executor_of p hop < plan.executors
+  placed p is hop within = All-get_or (λ (x : ℕ). x < plan.executors) p.executors hop 0 (let hops = is.hops in omega (arith, hops, within)) is.placed
+
+  -- behind the last
+  pub all-left : (fs : List (Found T)) → IsPlan plan → AreFound plan.executors fs → AreLeft state plan fs
+  all-left fs is are = record {
+    count = are.count;
+    each = λ c p f planned found.
+        let each = are.each c p f planned found in
+        let own = All-at (IsChannelPlan plan.executors) plan.channels c p is.channels planned in
+        let tail = end-all (IsLeftTail plan c p) (executor_of p (tail_hop p)) plan.executors f.tail each.tail (placed p own (tail_hop p) (omega arith)) in
+        let head = end-all (IsLeftHead state plan c p) (executor_of p (planned_head_hop p)) plan.executors f.head each.head (placed p own (planned_head_hop p) (omega arith)) in
+        record { tail = tail.0; has_tail = tail.1; left_tail = tail.2; head = head.0; has_head = head.1; left_head = head.2 };
+  }
+
+  -- ---- the nodes of an executor that has ended
+
+  module _ {S : Type 0} (meaning : S → Meaning) (stands_after : S → List Event → Type 0) (me : ℕ) (refused : Bool) where
+    module _ (c : ℕ) (p : ChannelPlan) (part : PartView S T) (stands : PartStands (lanes_of plan) meaning stands_after state me refused c part) (keeps : PartKeepsPlan state p part) (over : IsPartOver state part) where
+      -- the tail that is there
+      left-tail : (t : TailView) → part.path.tail ≡ Some t → IsLeftTail plan c p t
+      left-tail t there =
+          let own = stands.holds.path.tail t there in
+          let ended = (and_parts (path_over part.path) (option_map_or (λ (h : HeadView T). is_over h.standing || is_some h.failure) part.head true) over.over).0 in
+          record {
+            holds = own.0;
+            channel = own.1 ∙ stands.channel;
+            at = own.2 ∙ keeps.tail_at;
+            over = sym (ap (λ (o : Option TailView). option_map_or (λ (t : TailView). is_over t.standing) o true) there)
+                ∙ (and_parts (list_all (λ (slot : Option (ContextView S)). is_slot_over slot) part.path.contexts) (option_map_or (λ (t : TailView). is_over t.standing) part.path.tail true) ended).1;
+          }
+
+      -- the head
+      left-head : (h : HeadView T) → part.head ≡ Some h → IsLeftHead state plan c p h
+      left-head h there =
+          let own = stands.holds.head h there in
+          let ended = (and_parts (path_over part.path) (option_map_or (λ (h : HeadView T). is_over h.standing || is_some h.failure) part.head true) over.over).1 in
+          record {
+            holds = own.0;
+            channel = own.1 ∙ stands.channel;
+            at = own.2 ∙ keeps.head_at;
+            over = sym (ap (λ (o : Option (HeadView T)). option_map_or (λ (h : HeadView T). is_over h.standing || is_some h.failure) o true) there) ∙ ended;
+            written = λ ys zs sizes after. over.written h ys zs sizes there after;
+          }
+
+      -- the executor that the plan gives a hop
+      planned-at : (hop planned : ℕ) → hop ≡ planned → executor_at part hop ≡ executor_of p planned
+      planned-at hop planned is = λ i. get_or (keeps.executors i) (is i) 0
+
+      -- the tail is there just where its executor is this one
+      tail-here : is_some part.path.tail ≡ (executor_of p (tail_hop p) == me)
+      tail-here =
+          let hop = part.path.tail_hop in
+          let elsewhere : (hop == head_hop part) ≡ false = ne_eqb hop (head_hop part) (let within = stands.within in omega (arith, within)) in
+          sym (cond-true (hop == hop) (is_some part.path.tail) (is_some (context_at part.path hop)) (eq-eqb hop hop refl))
+          ∙ sym (cond-false (hop == head_hop part) (is_some part.head) (if hop == hop then is_some part.path.tail else is_some (context_at part.path hop)) elsewhere)
+          ∙ stands.resident.nodes hop (let within = stands.within in omega (arith, within))
+          ∙ ap (λ (x : ℕ). x == me) (planned-at hop (tail_hop p) keeps.tail_at)
+
+      -- so is the head
+      head-here : is_some part.head ≡ (executor_of p (planned_head_hop p) == me)
+      head-here =
+          let hop = head_hop part in
+          sym (cond-true (hop == hop) (is_some part.head) (if hop == part.path.tail_hop then is_some part.path.tail else is_some (context_at part.path hop)) (eq-eqb hop hop refl))
+          ∙ stands.resident.nodes hop (omega arith)
+          ∙ ap (λ (x : ℕ). x == me) (planned-at hop (planned_head_hop p) keeps.head_at)
+
+      -- what was found before, with the ends that are there
+      found-next : (f : Found T) → IsFound me c p f → IsFound (me + 1) c p (with_part f part)
+      found-next f is = record {
+        tail = end-next (IsLeftTail plan c p) (executor_of p (tail_hop p)) me part.path.tail f.tail left-tail tail-here is.tail;
+        head = end-next (IsLeftHead state plan c p) (executor_of p (planned_head_hop p)) me part.head f.head left-head head-here is.head;
+      }
+
+    -- one executor more is looked through
+    next-executor : (fs : List (Found T)) (parts : List (PartView S T)) → NodesStand (lanes_of plan) plan meaning stands_after state me refused parts → AreOver state parts → AreFound me fs → AreFound (me + 1) (with_parts fs parts)
+    next-executor fs parts stand over are = record {
+      count = parts-count fs parts ∙ are.count;
+      each = λ c p g planned found.
+          let n = noted-at fs parts c g (stand.keeps.count ∙ sym are.count) found in
+          subst (λ (z : Found T). IsFound (me + 1) c p z) n.is
+          (found-next c p n.part (stand.parts c n.part n.own) (stand.keeps.each c p n.part planned n.own) (over c n.part n.own) n.before (are.each c p n.before planned n.was));
+    }
+
+    -- The next executor has ended, and left these nodes.
+    pub next-finished : (world : World) (k : ℕ) (fs now : List (Found T)) (parts : List (PartView S T)) → world ≡ lanes_of plan → NodesStand world plan meaning stands_after state me refused parts → AreOver state parts → me ≡ k → AreFound k fs
+        → now ≡ with_parts fs parts → AreFound (k + 1) now
+    next-finished world k fs now parts of stand over own are is =
+        subst (λ (x : ℕ). AreFound (x + 1) now) own
+        (subst (λ (l : List (Found T)). AreFound (me + 1) l) (sym is)
+        (next-executor fs parts (subst (λ (w : World). NodesStand w plan meaning stands_after state me refused parts) of stand) over (subst (λ (x : ℕ). AreFound x fs) (sym own) are)))
+
+-- ---- the numbers of executors: 0, 1 and so on
+
+-- as many as there are numbers
+pub numbers-count : {A : Type 0} (number : A → ℕ) (all : List A) (count : ℕ) → map number all ≡ range_with_len 0 count → length all ≡ count
+numbers-count number all count are = sym (length-map all number) ∙ ap (λ (l : List ℕ). length l) are ∙ length-range_with_len 0 count
+
+-- the next of them has the next number
+pub number-at : {A : Type 0} (number : A → ℕ) (all : List A) (count k : ℕ) (x : A) → map number all ≡ range_with_len 0 count → slice_get all k ≡ Some x → number x ≡ k
+number-at number all count k x are found =
+    let within = slice_get_within all k x found in
+    sym (get_or_from_slice_get (map number all) k (number x) 0 (slice_get-map number all k ∙ ap (option_map number) found))
+    ∙ ap (λ (l : List ℕ). get_or l k 0) are ∙ get_or-range_with_len 0 count k 0 (omega (arith, within, numbers-count number all count are)) ∙ zero-add k

@@ -1,0 +1,103 @@
+-- The nodes of an executor stand, whatever one of them has done.
+use Rattle.std.proofs.Common.{◌≡◌, ℕ, Bool, true, false, List, Some, slice_get, ap, sym, ◌∙◌, subst}
+use Rattle.pl_event.specs.declared.events.Event.{Event}
+use Rattle.pl_event.specs.declared.envelopes.Envelope.{Envelope}
+use Rattle.pl_event.specs.declared.envelopes.Lane.{Lane}
+use Rattle.pl_event.specs.Meaning.{Meaning}
+use Rattle.pl_event.specs.Worlds.{World}
+use Rattle.pl_context.specs.declared.standing.Took.{Took}
+use Rattle.pl_context.specs.OutputsViews.{OutputsView}
+use Rattle.pl_context.specs.Stops.{HasPlaces, AreAmong}
+use Rattle.pl_flow.specs.Flows.{IsGood}
+use Rattle.pl_head.specs.declared.heads.OutStep.{OutStep}
+use Rattle.pl_head.specs.declared.heads.ReadStep.{ReadStep}
+use Rattle.pl_head.specs.declared.heads.ReadStep.TheVariants as reading
+use Rattle.pl_head.specs.Transports.{TransportState}
+use Rattle.pl_part.specs.Paths.{context_at}
+use Rattle.pl_part.specs.Parts.{PartView, SamePart, PartReads, PartWrites, head_hop, part_lanes}
+use Rattle.pl_part.specs.PartCalls.{Taken, Given}
+use Rattle.pl_channel.specs.PlanStand.{PartKeepsPlan}
+use Rattle.pl_channel.proofs.PlanLemmas.{part-takes-keeps, part-reads-keeps, part-writes-keeps}
+use Rattle.pl_replay.specs.Channels.{lanes_of}
+use Rattle.pl_replay.proofs.HeadMoves.{read-idle}
+use Rattle.pl_replay.proofs.OneChannel.{changed, at-was, among-joined}
+use Rattle.pl_exec.specs.OwnNodes.{NoneRefused, NodesStand, enters, nobody, target_of}
+use Rattle.pl_exec.proofs.OwnNodeLemmas.{own-stands, enters-here, head-there, nodes-stand, refused-keeps}
+use Rattle.pl_exec.proofs.CallLemmas.{take-refuses-none}
+use Rattle.pl_world.specs.Plans.{ChannelPlan, Plan}
+
+held-gave : reading.Held ≡ reading.Gave → ⊥
+held-gave e = cc
+
+done-gave : reading.Done ≡ reading.Gave → ⊥
+done-gave e = cc
+
+-- the head of a part has made a read step, or none
+read-keeps : {S T : Type 0} (meaning : S → Meaning) (stands_after : S → List Event → Type 0) (is_spent : S → Bool) (state : T → TransportState) (q : ChannelPlan) (p p' : PartView S T) (b a : OutputsView) (answer : ReadStep)
+    → SamePart p p' → PartReads state p b answer p' a → PartKeepsPlan state q p → PartKeepsPlan state q p'
+read-keeps meaning stands_after is_spent state q p p' b a reading.Gave same r k = part-reads-keeps meaning stands_after is_spent state q p p' b a same r k
+read-keeps meaning stands_after is_spent state q p p' b a reading.Held same r k = subst (PartKeepsPlan state q) (sym (read-idle state p b p' a reading.Held r held-gave).0) k
+read-keeps meaning stands_after is_spent state q p p' b a reading.Done same r k = subst (PartKeepsPlan state q) (sym (read-idle state p b p' a reading.Done r done-gave).0) k
+
+module _ {S T : Type 0} (ps : List (PartView S T)) (c : ℕ) (p p' : PartView S T) (was : slice_get ps c ≡ Some p) where
+  -- what one has put stays within the places
+  pub places-stay : (b a : OutputsView) → ((lanes : List Lane) → AreAmong (part_lanes p) lanes → HasPlaces b.stopped lanes → HasPlaces a.stopped lanes)
+      → (hops : List Lane) → AreAmong (lanes_of ps) hops → HasPlaces b.stopped hops → HasPlaces a.stopped hops
+  places-stay b a placed hops among places = placed hops (λ l any. among l (among-joined (λ (q : PartView S T). part_lanes q) ps c p was l any)) places
+
+  module _ (world : World) (plan : Plan) (meaning : S → Meaning) (stands_after : S → List Event → Type 0) (is_spent : S → Bool) (state : T → TransportState) (me : ℕ) (refused : Bool)
+      (stand : NodesStand world plan meaning stands_after state me refused ps) where
+    -- one has taken what is for this executor
+    pub take-stands : (e : Envelope) (b : OutputsView) (answer : Took) (a : OutputsView) → e.lane.channel ≡ c → target_of ps e.lane ≡ me → IsGood world e → Taken meaning stands_after state is_spent p e b answer p' a
+        → NodesStand world plan meaning stands_after state me refused (changed ps c p p' was)
+    take-stands e b answer a of here good t =
+        let own = own-stands ps c p p' was world plan meaning stands_after state me refused stand in
+        let holds = t.holds world own.holds good in
+        let entered = enters-here me c p own.resident own.channel own.holds.hops e.lane stand.number of (sym (at-was ps c p p' was (λ (q : PartView S T). enters q e.lane) nobody e.lane.channel of) ∙ here) in
+        nodes-stand ps c p p' was world plan meaning stands_after state me refused stand refused (λ r. r) t.puts.same holds
+        (λ r. take-refuses-none world meaning stands_after is_spent state p p' e b answer a t.puts.same holds t.takes (head-there p e.lane entered) (own.called r))
+        (λ q k. part-takes-keeps meaning stands_after is_spent state q p p' e b a answer t.puts.same t.takes k)
+
+    -- the contexts are as they were
+    same-calls : p'.path ≡ p.path → refused ≡ false → NoneRefused p'
+    same-calls path r hop x at =
+        let own = own-stands ps c p p' was world plan meaning stands_after state me refused stand in
+        own.called r hop x (sym (ap (λ z. context_at z hop) path) ∙ at)
+
+    -- its head has made a read step, or none
+    pub read-stands : (b : OutputsView) (answer : ReadStep) (a : OutputsView) → Given meaning stands_after state p (head_hop p) b p' a → PartReads state p b answer p' a
+        → NodesStand world plan meaning stands_after state me refused (changed ps c p p' was)
+    read-stands b answer a t r =
+        let own = own-stands ps c p p' was world plan meaning stands_after state me refused stand in
+        nodes-stand ps c p p' was world plan meaning stands_after state me refused stand refused (λ s. s) t.puts.same (t.holds world own.holds) (same-calls r.path)
+        (λ q k. read-keeps meaning stands_after is_spent state q p p' b a answer t.puts.same r k)
+
+    -- its head has made a write, or none
+    pub write-stands : (may_refuse : T → ℕ → Type 0) (b : OutputsView) (answer : OutStep) (a : OutputsView) → Given meaning stands_after state p (head_hop p) b p' a → PartWrites state may_refuse p b answer p' a
+        → NodesStand world plan meaning stands_after state me refused (changed ps c p p' was)
+    write-stands may_refuse b answer a t w =
+        let own = own-stands ps c p p' was world plan meaning stands_after state me refused stand in
+        nodes-stand ps c p p' was world plan meaning stands_after state me refused stand refused (λ s. s) t.puts.same (t.holds world own.holds) (same-calls w.path)
+        (λ q k. part-writes-keeps meaning stands_after is_spent state q may_refuse p p' b a answer t.puts.same w k)
+
+    -- something that it wrote was refused
+    pub refuse-stands : (hop : ℕ) (b a : OutputsView) → Given meaning stands_after state p hop b p' a → p'.head ≡ p.head → NodesStand world plan meaning stands_after state me true (changed ps c p p' was)
+    refuse-stands hop b a t head =
+        let own = own-stands ps c p p' was world plan meaning stands_after state me refused stand in
+        nodes-stand ps c p p' was world plan meaning stands_after state me refused stand true (λ s. absurd (never s)) t.puts.same (t.holds world own.holds) (λ s. absurd (never s))
+        (λ q k. refused-keeps state q p p' t.puts.same head k)
+      where
+        never : true ≡ false → ⊥
+        never s = cc
+
+-- something was refused, and there is no channel that wrote it
+pub none-stands : {S T : Type 0} (ps : List (PartView S T)) (world : World) (plan : Plan) (meaning : S → Meaning) (stands_after : S → List Event → Type 0) (state : T → TransportState) (me : ℕ) (refused : Bool)
+    → NodesStand world plan meaning stands_after state me refused ps → NodesStand world plan meaning stands_after state me true ps
+none-stands ps world plan meaning stands_after state me refused stand = record {
+  parts = λ c p at. let s = stand.parts c p at in record { holds = s.holds; channel = s.channel; within = s.within; resident = s.resident; called = λ e. absurd (never e) };
+  keeps = stand.keeps;
+  number = stand.number;
+}
+  where
+    never : true ≡ false → ⊥
+    never s = cc

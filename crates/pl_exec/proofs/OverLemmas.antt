@@ -1,0 +1,67 @@
+-- What a head has left, and what its steps answer, where it is on the executor or elsewhere.
+use Rattle.std.proofs.Common.{◌≡◌, ◌≢◌, ℕ, Bool, true, false, List, Option, Some, None, slice_get, length, ◌<◌, ◌≤◌, ◌+◌, refl, ap, sym, subst, ◌∙◌, ⊎_elim, arith}
+use Rattle.std.proofs.lemmas.Bool.{cases_Bool, cases_eq}
+use Rattle.std.proofs.lemmas.Option.{same_Some, slice_get_within}
+use Rattle.pl_context.specs.OutputsViews.{OutputsView}
+use Rattle.pl_head.specs.declared.heads.OutStep.{OutStep}
+use Rattle.pl_head.specs.declared.heads.OutStep.TheVariants as step
+use Rattle.pl_head.specs.declared.heads.ReadStep.{ReadStep}
+use Rattle.pl_head.specs.declared.heads.ReadStep.TheVariants as reading
+use Rattle.pl_head.specs.Transports.{TransportState}
+use Rattle.pl_head.specs.Marks.{Change}
+use Rattle.pl_head.specs.HeadStand.{HeadView, StandsAfter, is_idle}
+use Rattle.pl_event.specs.declared.events.Event.{Event}
+use Rattle.pl_event.specs.Meaning.{Meaning}
+use Rattle.pl_event.specs.Worlds.{World}
+use Rattle.pl_part.specs.Parts.{PartView, PartHolds, PartReads, PartWrites}
+use Rattle.pl_replay.proofs.HeadMoves.{may-read, may-write}
+use Rattle.pl_exec.specs.OwnNodes.{MayReadHere, MayWriteHere, IsPartOver, AreOver}
+
+done-gave : reading.Done ≡ reading.Gave → ⊥
+done-gave e = cc
+
+module _ {S T : Type 0} (state : T → TransportState) (ps : List (PartView S T)) (c : ℕ) (p : PartView S T) (own : slice_get ps c ≡ Some p) (b : OutputsView) (p' : PartView S T) (a : OutputsView) (r : Bool) where
+  pub may-read-here : (answer : ReadStep) → PartReads state p b answer p' a → (r ≡ false → answer ≢ reading.Gave) → (r ≡ true → answer ≡ reading.Gave) → MayReadHere state ps c r
+  may-read-here answer reads other gives = record {
+    here = may-read state p b p' a answer reads ps c own r other gives;
+    elsewhere = λ q at none. ⊎_elim
+        (λ (t : r ≡ true). absurd (done-gave (sym (reads.none (sym (ap (λ (x : PartView S T). x.head) (same_Some q p (sym at ∙ own))) ∙ none)).0 ∙ gives t)))
+        (λ (f : r ≡ false). f)
+        (cases_Bool r);
+  }
+
+  pub may-write-here : (may_refuse : T → ℕ → Type 0) (answer : OutStep) → PartWrites state may_refuse p b answer p' a → (r ≡ false → answer ≡ step.Idle) → (r ≡ true → answer ≢ step.Idle) → MayWriteHere state ps c r
+  may-write-here may_refuse answer writes idle moves = record {
+    here = may-write state p b p' a may_refuse answer writes ps c own r idle moves;
+    elsewhere = λ q at none. ⊎_elim
+        (λ (t : r ≡ true). absurd (moves t (writes.none (sym (ap (λ (x : PartView S T). x.head) (same_Some q p (sym at ∙ own))) ∙ none)).0))
+        (λ (f : r ≡ false). f)
+        (cases_Bool r);
+  }
+
+-- where a part is over, its head is written out
+pub written-over : {S T : Type 0} (world : World) (meaning : S → Meaning) (stands_after : S → List Event → Type 0) (state : T → TransportState) (p : PartView S T) → PartHolds world meaning stands_after state p → IsPartOver state p
+    → (b : Bool) → ((h : HeadView T) (ys zs : List Event) (sizes : List Change) → p.head ≡ Some h → StandsAfter state h ys zs sizes → b ≡ is_idle state h ys) → (p.head ≡ None → b ≡ true) → b ≡ true
+written-over world meaning stands_after state p holds over b some none = by p.head refl
+  where
+    by : (o : Option (HeadView _)) → p.head ≡ o → b ≡ true
+    by None at = none at
+    by (Some h) at =
+        let t = (holds.head h at).0.holds.took in
+        some h t.ys t.zs t.sizes at t.after ∙ over.written h t.ys t.zs t.sizes at t.after
+
+-- ---- several parts
+
+module _ {S T : Type 0} (state : T → TransportState) (ps : List (PartView S T)) where
+  -- the first ones are over
+  abbrev pub FirstOver : ℕ → Type 0
+  FirstOver n = (c : ℕ) (p : PartView S T) → c < n → slice_get ps c ≡ Some p → IsPartOver state p
+
+  pub one-more-over : (n : ℕ) (p : PartView S T) → slice_get ps n ≡ Some p → FirstOver n → IsPartOver state p → FirstOver (n + 1)
+  one-more-over n p at first over c q lt is = ⊎_elim
+      (λ (e : c ≡ n). subst (λ (z : PartView S T). IsPartOver state z) (same_Some p q (sym at ∙ ap (λ (k : ℕ). slice_get ps k) (sym e) ∙ is)) over)
+      (λ (other : c ≢ n). first c q (omega (arith, lt, other)) is)
+      (cases_eq c n)
+
+  pub all-over : (n : ℕ) → length ps ≤ n → FirstOver n → AreOver state ps
+  all-over n most first c p at = let lt = slice_get_within ps c p at in first c p (omega (arith, lt, most)) at

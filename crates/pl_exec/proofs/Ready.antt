@@ -1,0 +1,111 @@
+-- What is true of channels that are ready to start.
+use Rattle.std.proofs.Common.{◌≡◌, ℕ, suc, ◌+◌, ◌<◌, ◌≤◌, ◌^◌, List, [], ◌∷◌, length, map, slice_get, Some, refl, ap, ap₂, sym, ◌∙◌, subst, inl, inr, arith}
+use Rattle.std.specs.Prelude.{All}
+use Rattle.std.specs.List.{range_with_len}
+use Rattle.std.specs.Option.{option_map}
+use Rattle.std.proofs.lemmas.Option.{slice_get_within, slice_get_cases, slice_get-map}
+use Rattle.std.proofs.lemmas.List.{length-map}
+use Rattle.pl_build.specs.declared.limits.TheConstants.{MAX_HANDLERS}
+use Rattle.pl_channel.specs.Lanes.{lanes_of}
+use Rattle.pl_event.specs.declared.events.Event.{Event}
+use Rattle.pl_event.specs.Meaning.{Meaning}
+use Rattle.pl_event.specs.Worlds.{World}
+use Rattle.pl_executor.specs.Running.{ExecutorView}
+use Rattle.pl_head.specs.Transports.{TransportState}
+use Rattle.pl_part.specs.Parts.{PartView}
+use Rattle.pl_queue.specs.declared.views.SenderView.{SenderView}
+use Rattle.pl_queue.specs.declared.views.TakerView.{TakerView}
+use Rattle.pl_replay.specs.Channels.{taken_of, writes_of, came_of}
+use Rattle.pl_replay.specs.Channels.{lanes_of as data_lanes_of}
+use Rattle.pl_replay.specs.Placed.{HasExecutors, all_lanes}
+use Rattle.pl_replay.specs.Starts.{IsPlaced}
+use Rattle.pl_replay.proofs.NetStarts.{All-from-at, all-have-executors, lanes-few}
+use Rattle.pl_world.specs.declared.session.Recorded.{Recorded}
+use Rattle.pl_world.specs.Plans.{Plan, channel_planned}
+use Rattle.pl_exec.specs.declared.nodes.OwnNodes.{OwnNodes}
+use Rattle.pl_exec.specs.Lanes.{AreLaid, lane_table}
+use Rattle.pl_exec.specs.Opening.{LaneTable, InboxView, WaysView, PlacesView, IsSquare, CanOpen, AreOpened, IsFirst, CanStart}
+use Rattle.pl_exec.specs.OwnNodes.{target_of}
+use Rattle.pl_exec.specs.Sharing.{AreShared, places_of}
+use Rattle.pl_exec.specs.Starting.{AreReady}
+use Rattle.pl_exec.proofs.Fits.{IsTable}
+use Rattle.pl_exec.proofs.FitsStart.{Stands, can-start}
+use Rattle.pl_exec.proofs.LaneTables.{table-square, table-length, table-open, crossing-there, entering-crosses}
+
+at-index : {X : Type 0} (xs : List X) (i : ℕ) → i < length xs → (x : X) × (slice_get xs i ≡ Some x)
+at-index xs i h = elim (slice_get_cases xs i).1 [
+  | inl at ↦ (at.0, at.2)
+  | inr past ↦ absurd (omega (arith, h, past.0))
+]
+
+module _ {S T : Type 0} (meaning : S → Meaning) (stands_after : S → List Event → Type 0) (state : T → TransportState) (plan : Plan) (parts : List (PartView S T)) (ready : AreReady meaning stands_after state plan parts) where
+  pub ready-count : length parts ≡ length plan.channels
+  ready-count = ready.placed.count ∙ sym (length-map ready.recorded (channel_planned meaning state)) ∙ sym (ap length ready.planned)
+
+  pub ready-hops : All HasExecutors parts
+  ready-hops = all-have-executors meaning stands_after state plan ready.recorded ready.planned parts ready.placed
+
+  pub ready-few : length (all_lanes parts) < 2 ^ 16
+  ready-few = lanes-few meaning stands_after state plan ready.recorded ready.planned parts ready.placed ready.small
+
+  placed-at : (c : ℕ) (part : PartView S T) → slice_get parts c ≡ Some part → (r : Recorded S T) × IsPlaced meaning stands_after state c r part
+  placed-at c part at =
+      let r = at-index ready.recorded c (let size = ready.placed.count in let within = slice_get_within parts c part at in omega (arith, size, within)) in
+      (r.0, ready.placed.each c r.0 part r.1 at)
+
+  pub ready-laid : AreLaid parts
+  ready-laid = record {
+    channels = let size = ready.placed.count in let few = ready.channels in omega (arith, size, few);
+    hops = ready-hops;
+    few = All-from-at (λ (p : PartView S T). length p.path.executors ≤ MAX_HANDLERS + 2) parts (λ c part at.
+        let whole = (placed-at c part at).1.whole in
+        let same = ap length whole.executors_are in
+        let hops = whole.hops in
+        let few = whole.few in
+        omega (arith, same, hops, few));
+  }
+
+-- where each is numbered by its place, the numbers are those from the first on
+pub numbered-in-order : {A : Type 0} (f : A → ℕ) (xs : List A) (first : ℕ) → ((i : ℕ) (x : A) → slice_get xs i ≡ Some x → f x ≡ first + i) → map f xs ≡ range_with_len first (length xs)
+numbered-in-order f [] first each = refl
+numbered-in-order f (x ∷ xs) first each =
+    ap₂ (λ (n : ℕ) (ns : List ℕ). n ∷ ns) (each 0 x refl ∙ omega arith) (numbered-in-order f xs (first + 1) (λ i y at. each (suc i) y at ∙ omega arith))
+
+-- Executors with these parts, each with the number of its place, are numbered from 0 on.
+pub executors-in-order : {P N : Type 0} (first : P → ExecutorView N) (executors : List P) (nodes : List N) (count : ℕ) → map (λ e. (first e).part) executors ≡ nodes → length nodes ≡ count
+    → ((y : ℕ) (e : ExecutorView N) → slice_get (map first executors) y ≡ Some e → IsFirst y e) → map (λ e. (first e).number) executors ≡ range_with_len 0 count
+executors-in-order {P = P} {N = N} first executors nodes count parts size numbered =
+    numbered-in-order (λ (e : P). (first e).number) executors 0 (λ i e at. (numbered i (first e) (slice_get-map first executors i ∙ ap (option_map first) at)).numbered ∙ omega arith)
+    ∙ ap (range_with_len 0) (sym (length-map executors (λ (e : P). (first e).part)) ∙ ap length parts ∙ size)
+
+module _ {S T : Type 0} (meaning : S → Meaning) (stands_after : S → List Event → Type 0) (state : T → TransportState) (plan : Plan) (parts : List (PartView S T)) (ready : AreReady meaning stands_after state plan parts)
+    (count : ℕ) (all : count ≡ plan.executors) (lanes : LaneTable) (are : lanes ≡ lane_table parts count) where
+  pub ready-square : IsSquare lanes
+  ready-square = subst IsSquare (sym are) (table-square parts count)
+
+  ready-size : length lanes ≡ count
+  ready-size = ap length are ∙ table-length parts count
+
+  pub ready-executors : length lanes < 2 ^ 16
+  ready-executors = let few = ready.executors in let size = ready-size in omega (arith, few, size, all)
+
+  pub ready-open : (capacity : ℕ) → capacity ≡ plan.capacity → All (CanOpen capacity) lanes
+  ready-open capacity is =
+      let few = ready.executors in
+      let some = ready.ruled.capacity in
+      let most = ready.capacity in
+      subst (All (CanOpen capacity)) (sym are) (table-open parts (ready-laid meaning stands_after state plan parts ready) count capacity (omega (arith, few, all)) (omega (arith, some, is)) (omega (arith, most, is)))
+
+  pub table-is : IsTable parts plan.executors lanes
+  table-is = subst (λ (z : ℕ × LaneTable). IsTable parts z.0 z.1) (λ i. (all i, sym are i))
+      (record { size = table-length parts count; crossing = crossing-there parts count; entering = entering-crosses parts count })
+
+  module _ (world : World) (is_world : world ≡ lanes_of plan) {M K D : Type 0} (is_taker : M → K → Type 0) (takes_of : K → TakerView) (is_sender : M → D → Type 0) (sends_of : D → SenderView) where
+    pub ready-start : (inboxes : List (InboxView M)) (ways : List (WaysView K D)) (nodes : List (OwnNodes S T)) (places : List PlacesView) → AreOpened is_taker takes_of is_sender sends_of lanes inboxes ways
+        → AreShared meaning stands_after state parts count nodes → places ≡ places_of parts count
+        → CanStart is_taker takes_of is_sender sends_of (Stands meaning stands_after state world plan is_world ready.recorded ready.planned parts ready.placed ready.ruled ready.executors lanes table-is) (λ n. n.number)
+        (λ n. data_lanes_of n.parts.items) (λ n l. target_of n.parts.items l) (λ n l. writes_of meaning n.parts.items l) (λ n l. taken_of n.parts.items l) (λ n l. came_of meaning n.parts.items l) (λ n. n.was_refused)
+        inboxes ways nodes places
+    ready-start inboxes ways nodes places opened shared reserved =
+        can-start meaning stands_after state world plan is_world ready.recorded ready.planned parts ready.placed ready.ruled ready.executors lanes table-is is_taker takes_of is_sender sends_of inboxes ways nodes places opened
+        (subst (λ (n : ℕ). AreShared meaning stands_after state parts n nodes) all shared) (reserved ∙ ap (places_of parts) all)

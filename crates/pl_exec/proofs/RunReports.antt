@@ -1,0 +1,96 @@
+-- The reports of channels whose ends were found.
+use Rattle.std.proofs.Common.{◌≡◌, ◌≢◌, ℕ, Bool, true, false, ◌||◌, ◌&&◌, List, [], ◌∷◌, length, slice_get, Option, Some, None, Ok, Err, inl, inr, ap, sym, subst, ◌∙◌, arith}
+use Rattle.std.specs.Prelude.{Result, IfOk, is_some, nat_le, All}
+use Rattle.std.specs.List.{AllZip}
+use Rattle.std.specs.declared.alloc.AllocError.{AllocError}
+use Rattle.std.proofs.lemmas.Bool.{false≢true}
+use Rattle.std.proofs.lemmas.List.Elements.{All-nil, All-cons}
+use Rattle.std.proofs.lemmas.Option.{same_Some, slice_get_within, slice_get_cases}
+use Rattle.pl_event.specs.declared.events.Event.{Event}
+use Rattle.pl_event.specs.declared.outcomes.Cause.{Cause}
+use Rattle.pl_context.specs.declared.standing.Standing.{Standing}
+use Rattle.pl_context.specs.declared.standing.Standing.TheVariants as standing
+use Rattle.pl_context.specs.Standings.{is_over, cause_of}
+use Rattle.pl_context.specs.TailViews.{TailView}
+use Rattle.pl_head.specs.Writes.{out}
+use Rattle.pl_head.specs.Marks.{Change}
+use Rattle.pl_head.specs.Transports.{TransportState}
+use Rattle.pl_head.specs.HeadStand.{HeadView, StandsAfter, first_cause}
+use Rattle.pl_channel.specs.Ends.{EndsHold, ends_of}
+use Rattle.pl_replay.proofs.ReportLists.{zip_through}
+use Rattle.pl_world.specs.declared.report.ChannelReport.{ChannelReport}
+use Rattle.pl_world.specs.declared.report.Stands.TheVariants.{Open}
+use Rattle.pl_world.specs.Plans.{ChannelPlan, Plan}
+use Rattle.pl_world.specs.Reports.{IsChannelReport, KeepsToPlan, has_ended, stands_by}
+use Rattle.pl_exec.specs.declared.reporting.Found.{Found}
+use Rattle.pl_exec.specs.Reported.{IsLeftTail, IsLeftHead, AreLeft, IsFinalReport, IsRunReport}
+
+-- ---- how a channel stands
+
+-- Not open: its tail and its head have ended or failed, and no flushed byte is left.
+not-open : (failure : Option Cause) (head tail : Standing) (written : Bool) → is_over tail ≡ true → (is_over head || is_some failure) ≡ true → (is_some failure || written) ≡ true
+    → stands_by (first_cause (first_cause failure (cause_of head)) (cause_of tail)) (has_ended tail && has_ended head && written) ≡ Open → ⊥
+not-open (Some cause) head tail written over ended idle stays = cc
+not-open None (standing.Failed cause) tail written over ended idle stays = cc
+not-open None standing.Open tail written over ended idle stays = false≢true ended
+not-open None standing.Ended (standing.Failed cause) written over ended idle stays = cc
+not-open None standing.Ended standing.Open written over ended idle stays = false≢true over
+not-open None standing.Ended standing.Ended true over ended idle stays = cc
+not-open None standing.Ended standing.Ended false over ended idle stays = false≢true idle
+
+-- ---- one report
+
+module _ {T : Type 0} (state : T → TransportState) (f : Found T) (tail : TailView) (head : HeadView T) (has_tail : f.tail ≡ Some tail) (has_head : f.head ≡ Some head) where
+  -- what the report of two ends says of them
+  abbrev pub OfEnds : ChannelReport → Type 0
+  OfEnds r = (ys zs : List Event) (sizes : List Change) → StandsAfter state head ys zs sizes → IsChannelReport (ends_of state tail head ys zs) r
+
+  -- and that it keeps to each plan by which they hold
+  abbrev pub KeepsByEnds : ChannelReport → Type 0
+  KeepsByEnds r = (plan : Plan) (number : ℕ) (p : ChannelPlan) → EndsHold state plan number p tail head → KeepsToPlan p r
+
+  -- so where both were found it is their report
+  final-report : (r : ChannelReport) → OfEnds r → KeepsByEnds r → IsFinalReport state f r
+  final-report r ends keeps plan c p planned left =
+      let own : IsLeftTail plan c p tail = subst (λ (t : TailView). IsLeftTail plan c p t) (same_Some left.tail tail (sym left.has_tail ∙ has_tail)) left.left_tail in
+      let last : IsLeftHead state plan c p head = subst (λ (h : HeadView T). IsLeftHead state plan c p h) (same_Some left.head head (sym left.has_head ∙ has_head)) left.left_head in
+      let took = last.holds.holds.took in
+      let report = ends took.ys took.zs took.sizes took.after in (
+        keeps plan c p (record { planned = planned; tail_holds = own.holds; tail_channel = own.channel; tail_at = own.at; head_holds = last.holds; head_channel = last.channel; head_at = last.at }),
+        λ stays. not-open head.failure head.standing tail.standing (nat_le (length (out took.ys)) (length (state head.transport).accepted)) own.over last.over
+            (last.written took.ys took.zs took.sizes took.after) (sym report.stands_is ∙ stays),
+      )
+
+  -- the same where memory may have run out
+  pub final-result : (r : Result ChannelReport AllocError) → IfOk r OfEnds → IfOk r KeepsByEnds → IfOk r (λ report. IsFinalReport state f report)
+  final-result (Ok report) ends keeps = final-report report ends keeps
+  final-result (Err e) ends keeps = tt
+
+-- ---- all reports
+
+-- what is said of the second of each two alone
+all-second : {A B : Type 0} (P : B → Type 0) (xs : List A) (ys : List B) → AllZip (λ (x : A) (y : B). P y) xs ys → All P ys
+all-second P [] [] each = All-nil P
+all-second P [] (y ∷ ys) each = elim each [ ]
+all-second P (x ∷ xs) [] each = elim each [ ]
+all-second P (x ∷ xs) (y ∷ ys) each = All-cons P y ys each.0 (all-second P xs ys each.1)
+
+module _ {T : Type 0} (state : T → TransportState) (plan : Plan) (fs : List (Found T)) (are : AreLeft state plan fs) where
+  -- both ends of a channel are there
+  pub both-there : (k : ℕ) (f : Found T) → slice_get fs k ≡ Some f → (is_some f.tail ≡ true) × (is_some f.head ≡ true)
+  both-there k f found =
+      let within = slice_get_within fs k f found in
+      let count = are.count in
+      elim (slice_get_cases plan.channels k).1 as (λ _. (is_some f.tail ≡ true) × (is_some f.head ≡ true)) [
+        | inl here ↦ let left = are.each k here.0 f here.2 found in (ap (λ (o : Option TailView). is_some o) left.has_tail, ap (λ (o : Option (HeadView T)). is_some o) left.has_head)
+        | inr past ↦ let most = past.0 in absurd (omega (arith, within, count, most))
+      ]
+
+  -- the reports of all make the report of the run
+  pub run-report : (reports : List ChannelReport) → AllZip (IsFinalReport state) fs reports → IsRunReport plan (record { channels = reports })
+  run-report reports each = record {
+    keeps = zip_through (IsFinalReport state) KeepsToPlan plan.channels fs reports are.count (λ c p f planned found r final. (final plan c p planned (are.each c p f planned found)).0) each;
+    ended =
+        all-second (λ (r : ChannelReport). r.stands ≢ Open) plan.channels reports
+        (zip_through (IsFinalReport state) (λ (p : ChannelPlan) (r : ChannelReport). r.stands ≢ Open) plan.channels fs reports are.count (λ c p f planned found r final. (final plan c p planned (are.each c p f planned found)).1) each);
+  }

@@ -1,0 +1,70 @@
+use Rattle.std.proofs.Common.{◌≡◌, ◌<◌, length, slice_get, Some, refl, subst, ◌∙◌}
+use Rattle.std.proofs.lemmas.Option.{slice_get_read}
+use Rattle.pl_part.specs.Paths.{writer_hop}
+use Rattle.pl_part.specs.PartCalls.{Given}
+use Rattle.pl_replay.proofs.OneChannel.{places-of, routes, taken-none}
+use Rattle.pl_exec.proofs.OwnNodeLemmas.{targets-stay, made-here}
+use Rattle.pl_exec.proofs.MovedNodes.{places-stay, refuse-stands, none-stands}
+use Rattle.pl_exec.proofs.nodes.OwnNodesPart.refuse.Goals as goal
+
+pub refuse-requires-clause-holds : goal.refuse-requires-clause-holds
+refuse-requires-clause-holds g c =
+    let ps = c.args.self.now.parts.items in
+    let p = c.index_mut.result.now in
+    let s = c.requires.stands.1 in
+    let own = slice_get_read ps (length ps) c.args.lane.channel p refl (subst (λ n. c.args.lane.channel < n) (c.len.ensures ∙ c.args.self.now.parts.ok.0) c.if-channel-len.true) c.index_mut.ensures.value in
+    (g.W.Named.world, (s.parts c.args.lane.channel p own).holds)
+
+pub refuse-requires-clause-places : goal.refuse-requires-clause-places
+refuse-requires-clause-places g c =
+    let ps = c.args.self.now.parts.items in
+    let p = c.index_mut.result.now in
+    let s = c.requires.stands.1 in
+    let own = slice_get_read ps (length ps) c.args.lane.channel p refl (subst (λ n. c.args.lane.channel < n) (c.len.ensures ∙ c.args.self.now.parts.ok.0) c.if-channel-len.true) c.index_mut.ensures.value in
+    places-of ps c.args.lane.channel p p own c.args.work.now c.requires.places
+
+own : (g : _) (c : goal.After-self-then-channel-len-1 g) → slice_get c.args.self.now.parts.items c.args.lane.channel ≡ Some c.index_mut.result.now
+own g c =
+    let ps = c.args.self.now.parts.items in
+    slice_get_read ps (length ps) c.args.lane.channel c.index_mut.result.now refl (subst (λ n. c.args.lane.channel < n) (c.len.ensures ∙ c.args.self.now.parts.ok.0) c.if-channel-len.true) c.index_mut.ensures.value
+
+-- what the call of the part has done
+given : (g : _) (c : goal.After-self-then-channel-len-1 g)
+    → Given g.S.Stage.meaning g.S.Stage.stands_after g.T.Transport.state c.index_mut.result.now (writer_hop c.index_mut.result.now.path c.args.lane.hop) c.args.work.now c.refuse.new.self c.refuse.new.work
+given g c = let t = c.refuse.ensures in record { taken = t.taken; puts = record { same = t.same; writes = t.writes; others = t.others; placed = t.placed; longer = t.longer; few = t.few }; holds = t.holds; made = t.made; more = t.more }
+
+pub returns-then-channel-len-clause-stands : goal.returns-then-channel-len-clause-stands
+returns-then-channel-len-clause-stands g c = (
+  c.requires.stands.0,
+  refuse-stands c.args.self.now.parts.items c.args.lane.channel c.index_mut.result.now c.refuse.new.self (own g c) g.W.Named.world g.W.Planned.plan g.S.Stage.meaning g.S.Stage.stands_after g.S.Stage.is_spent g.T.Transport.state
+      c.args.self.now.number c.args.self.now.was_refused c.requires.stands.1 (writer_hop c.index_mut.result.now.path c.args.lane.hop) c.args.work.now c.refuse.new.work (given g c) c.refuse.ensures.head,
+)
+
+pub returns-then-channel-len-clause-routes : goal.returns-then-channel-len-clause-routes
+returns-then-channel-len-clause-routes g c = targets-stay c.args.self.now.parts.items c.args.lane.channel c.index_mut.result.now c.refuse.new.self (own g c) c.refuse.ensures.same
+
+pub returns-then-channel-len-clause-writes : goal.returns-then-channel-len-clause-writes
+returns-then-channel-len-clause-writes g c = (routes c.args.self.now.parts.items c.args.lane.channel c.index_mut.result.now c.refuse.new.self (own g c) g.S.Stage.meaning c.refuse.ensures.same c.refuse.ensures.writes).writes
+
+pub returns-then-channel-len-clause-taken : goal.returns-then-channel-len-clause-taken
+returns-then-channel-len-clause-taken g c = taken-none c.args.self.now.parts.items c.args.lane.channel c.index_mut.result.now c.refuse.new.self (own g c) c.refuse.ensures.taken
+
+pub returns-then-channel-len-clause-lanes : goal.returns-then-channel-len-clause-lanes
+returns-then-channel-len-clause-lanes g c = (routes c.args.self.now.parts.items c.args.lane.channel c.index_mut.result.now c.refuse.new.self (own g c) g.S.Stage.meaning c.refuse.ensures.same c.refuse.ensures.writes).lanes
+
+pub returns-then-channel-len-clause-placed : goal.returns-then-channel-len-clause-placed
+returns-then-channel-len-clause-placed g c = places-stay c.args.self.now.parts.items c.args.lane.channel c.index_mut.result.now c.refuse.new.self (own g c) c.args.work.now c.refuse.new.work c.refuse.ensures.placed
+
+pub returns-then-channel-len-clause-made : goal.returns-then-channel-len-clause-made
+returns-then-channel-len-clause-made g c =
+    let ps = c.args.self.now.parts.items in
+    let p = c.index_mut.result.now in
+    let s = c.requires.stands.1 in
+    made-here ps c.args.lane.channel p c.refuse.new.self (own g c) g.W.Named.world g.W.Planned.plan g.S.Stage.meaning g.S.Stage.stands_after g.T.Transport.state c.args.self.now.number c.args.self.now.was_refused s
+    (writer_hop p.path c.args.lane.hop) c.args.work.now c.refuse.new.work c.refuse.ensures.others (c.refuse.ensures.made g.W.Named.world (s.parts c.args.lane.channel p (own g c)).holds)
+
+pub returns-else-channel-len-clause-stands : goal.returns-else-channel-len-clause-stands
+returns-else-channel-len-clause-stands g c = (
+  c.requires.stands.0,
+  none-stands c.args.self.now.parts.items g.W.Named.world g.W.Planned.plan g.S.Stage.meaning g.S.Stage.stands_after g.T.Transport.state c.args.self.now.number c.args.self.now.was_refused c.requires.stands.1,
+)

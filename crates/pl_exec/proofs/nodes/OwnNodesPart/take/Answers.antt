@@ -1,0 +1,62 @@
+use Rattle.std.proofs.Common.{◌≡◌, length, slice_get, Some, refl}
+use Rattle.std.proofs.lemmas.Option.{slice_get_read}
+use Rattle.pl_part.specs.PartCalls.{Taken}
+use Rattle.pl_replay.proofs.OneChannel.{routes, taken-one}
+use Rattle.pl_exec.proofs.OwnNodeLemmas.{channel-here, next-here, targets-stay, made-here}
+use Rattle.pl_exec.proofs.MovedNodes.{places-stay, take-stands}
+use Rattle.pl_exec.proofs.nodes.OwnNodesPart.take.Goals as goal
+
+pub take-requires : goal.take-requires
+take-requires g c =
+    let ps = c.args.self.now.parts.items in
+    let p = c.index_mut.result.now in
+    let e = c.args.envelope in
+    let s = c.requires.stands.1 in
+    let own = slice_get_read ps (length ps) e.lane.channel p refl (channel-here ps c.args.self.now.number e.lane s.number c.requires.here) c.index_mut.ensures.value in
+    record {
+      next = (
+        g.W.Named.world,
+        next-here ps e.lane.channel p p own g.W.Named.world g.W.Planned.plan g.S.Stage.meaning g.S.Stage.stands_after g.T.Transport.state c.args.self.now.number c.args.self.now.was_refused s
+            e c.args.work.now refl c.requires.here c.requires.number c.requires.good c.requires.places,
+      );
+    }
+
+own : (g : _) (c : goal.After-self-1 g) → slice_get c.args.self.now.parts.items c.args.envelope.lane.channel ≡ Some c.index_mut.result.now
+own g c =
+    let ps = c.args.self.now.parts.items in
+    let e = c.args.envelope in
+    slice_get_read ps (length ps) e.lane.channel c.index_mut.result.now refl (channel-here ps c.args.self.now.number e.lane c.requires.stands.1.number c.requires.here) c.index_mut.ensures.value
+
+-- what the call of the part has done
+taken : (g : _) (c : goal.After-self-1 g) → Taken g.S.Stage.meaning g.S.Stage.stands_after g.T.Transport.state g.S.Stage.is_spent c.index_mut.result.now c.args.envelope c.args.work.now c.take.result c.take.new.self c.take.new.work
+taken g c = let t = c.take.ensures in record { takes = t.takes; taken = t.taken; puts = record { same = t.same; writes = t.writes; others = t.others; placed = t.placed; longer = t.longer; few = t.few }; holds = t.holds; made = t.made; more = t.more }
+
+pub returns-clause-stands : goal.returns-clause-stands
+returns-clause-stands g c = (
+  c.requires.stands.0,
+  take-stands c.args.self.now.parts.items c.args.envelope.lane.channel c.index_mut.result.now c.take.new.self (own g c) g.W.Named.world g.W.Planned.plan g.S.Stage.meaning g.S.Stage.stands_after g.S.Stage.is_spent g.T.Transport.state
+      c.args.self.now.number c.args.self.now.was_refused c.requires.stands.1 c.args.envelope c.args.work.now c.take.result c.take.new.work refl c.requires.here c.requires.good (taken g c),
+)
+
+pub returns-clause-routes : goal.returns-clause-routes
+returns-clause-routes g c = targets-stay c.args.self.now.parts.items c.args.envelope.lane.channel c.index_mut.result.now c.take.new.self (own g c) c.take.ensures.same
+
+pub returns-clause-writes : goal.returns-clause-writes
+returns-clause-writes g c = (routes c.args.self.now.parts.items c.args.envelope.lane.channel c.index_mut.result.now c.take.new.self (own g c) g.S.Stage.meaning c.take.ensures.same c.take.ensures.writes).writes
+
+pub returns-clause-taken : goal.returns-clause-taken
+returns-clause-taken g c = taken-one c.args.self.now.parts.items c.args.envelope.lane.channel c.index_mut.result.now c.take.new.self (own g c) c.args.envelope refl c.take.ensures.taken
+
+pub returns-clause-lanes : goal.returns-clause-lanes
+returns-clause-lanes g c = (routes c.args.self.now.parts.items c.args.envelope.lane.channel c.index_mut.result.now c.take.new.self (own g c) g.S.Stage.meaning c.take.ensures.same c.take.ensures.writes).lanes
+
+pub returns-clause-placed : goal.returns-clause-placed
+returns-clause-placed g c = places-stay c.args.self.now.parts.items c.args.envelope.lane.channel c.index_mut.result.now c.take.new.self (own g c) c.args.work.now c.take.new.work c.take.ensures.placed
+
+pub returns-clause-made : goal.returns-clause-made
+returns-clause-made g c =
+    let ps = c.args.self.now.parts.items in
+    let p = c.index_mut.result.now in
+    let s = c.requires.stands.1 in
+    made-here ps c.args.envelope.lane.channel p c.take.new.self (own g c) g.W.Named.world g.W.Planned.plan g.S.Stage.meaning g.S.Stage.stands_after g.T.Transport.state c.args.self.now.number c.args.self.now.was_refused s
+    c.args.envelope.lane.hop c.args.work.now c.take.new.work c.take.ensures.others (c.take.ensures.made g.W.Named.world (s.parts c.args.envelope.lane.channel p (own g c)).holds c.requires.good)

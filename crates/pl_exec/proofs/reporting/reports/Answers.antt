@@ -1,0 +1,34 @@
+use Rattle.std.proofs.Common.{◌++◌, ◌∷◌, [], List, length, refl, ap, sym, subst, ◌∙◌, arith, append_assoc}
+use Rattle.std.specs.List.{AllZip}
+use Rattle.std.proofs.lemmas.List.{nil_from_length}
+use Rattle.pl_replay.proofs.ReportLists.{zip_push}
+use Rattle.pl_exec.specs.declared.reporting.Found.{Found}
+use Rattle.pl_exec.specs.Reported.{IsFinalReport}
+use Rattle.pl_exec.proofs.ListSteps.{at-next, all-done}
+use Rattle.pl_exec.proofs.RunReports.{both-there, run-report}
+use Rattle.pl_exec.proofs.reporting.reports.Goals as goal
+
+pub report_from-requires : goal.report_from-requires
+report_from-requires g c =
+    let done = c.loop-found.yielded in
+    let at = at-next c.args.all.items done c.loop-found.found-iterator.rest.items c.next.new.self.rest.items c.in-Some.found (length done) c.loop-found.invariant.rest c.in-Some.ensures.steps.0 refl in
+    let both = both-there g.T.Transport.state g.W.Planned.plan c.args.all.items c.requires (length done) c.in-Some.found at in
+    record { tail = both.0; head = both.1 }
+
+pub loop-found-preserved : goal.loop-found-preserved
+loop-found-preserved g c =
+    let inv = c.loop-found.invariant in
+    let done = c.loop-found.yielded in
+    let found = c.in-Some.found in
+    record {
+      rest = append_assoc done (found ∷ []) c.next.new.self.rest.items ∙ ap (λ (t : List (Found g.row.T.Denot)). done ++ t) (sym c.in-Some.ensures.steps.0) ∙ inv.rest;
+      reported = rw c.in_ok-push.ensures.items (zip_push (IsFinalReport g.T.Transport.state) done c.loop-found.reports.items found c.in_ok-report_from.field-0 inv.reported c.in_ok-report_from.ensures);
+    }
+
+pub returns : goal.returns
+returns g c =
+    let inv = c.loop-found.invariant in
+    let whole = all-done c.args.all.items c.loop-found.yielded c.loop-found.found-iterator.rest.items (nil_from_length c.loop-found.found-iterator.rest.items (omega (arith, c.in-None.ensures.steps.0, c.loop-found.found-iterator.rest.ok))) inv.rest in
+    rw c.from_vec.ensures
+    (run-report g.T.Transport.state g.W.Planned.plan c.args.all.items c.requires c.loop-found.reports.items
+    (subst (λ (fs : List (Found g.row.T.Denot)). AllZip (IsFinalReport g.T.Transport.state) fs c.loop-found.reports.items) whole inv.reported))

@@ -1,0 +1,31 @@
+use Rattle.std.proofs.Common.{List, slice_get, ap, sym, ◌∙◌, subst}
+use Rattle.pl_channel.proofs.WorldChannels.{channel-small}
+use Rattle.pl_replay.specs.Starts.{ArePlaced}
+use Rattle.pl_replay.proofs.NetStarts.{All-from-at}
+use Rattle.pl_world.specs.declared.session.Recorded.{Recorded}
+use Rattle.pl_world.specs.Plans.{Plan, channel_planned, planned}
+use Rattle.pl_world.specs.PlanRules.{IsSmallChannel}
+use Rattle.pl_exec.specs.Starting.{AreReady}
+use Rattle.pl_exec.proofs.running.run_by.Goals as goal
+
+pub placed-requires-clause-small : goal.placed-requires-clause-small
+placed-requires-clause-small g c =
+    let same = c.into_vec.ensures ∙ c.into_channels.ensures.channels in
+    All-from-at (λ (r : Recorded g.row.S.Denot g.row.T.Denot). IsSmallChannel (channel_planned g.S.Stage.meaning g.T.Transport.state r)) c.into_vec.result.items
+    (λ i r at. channel-small g.S.Stage.meaning g.T.Transport.state c.args.world c.into_channels.ensures.is_world i r (sym (ap (λ (l : List (Recorded g.row.S.Denot g.row.T.Denot)). slice_get l i) same) ∙ at))
+
+pub run_parts-requires-clause-ready : goal.run_parts-requires-clause-ready
+run_parts-requires-clause-ready g c κs lives =
+    let is = c.into_channels.ensures.is_world in
+    let plan = planned g.S.Stage.meaning g.T.Transport.state c.args.capacity c.args.world.executors c.args.world.channels in
+    subst (λ (p : Plan). AreReady g.S.Stage.meaning g.S.Stage.stands_after g.T.Transport.state p c.in_ok-parts.parts.items) (sym c.requires.plan)
+    (record {
+      recorded = c.args.world.channels;
+      planned = λ i. plan.channels;
+      placed = subst (λ (rs : List (Recorded g.row.S.Denot g.row.T.Denot)). ArePlaced g.S.Stage.meaning g.S.Stage.stands_after g.T.Transport.state rs c.in_ok-parts.parts.items) (c.into_vec.ensures ∙ c.into_channels.ensures.channels) c.in_ok-parts.ensures;
+      ruled = is.ruled c.args.capacity c.requires.capacity.0;
+      small = is.small c.args.capacity;
+      channels = is.channels;
+      executors = is.executors;
+      capacity = c.requires.capacity.1;
+    })

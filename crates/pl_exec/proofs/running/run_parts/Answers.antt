@@ -1,0 +1,67 @@
+use Rattle.std.proofs.Common.{◌<◌, ◌^◌, List, length, map, ap, sym, ◌∙◌, subst, arith}
+use Rattle.std.specs.Prelude.{All}
+use Rattle.std.proofs.lemmas.List.{length-map}
+use Rattle.pl_part.specs.Parts.{PartView}
+use Rattle.pl_replay.specs.Placed.{HasExecutors, all_lanes}
+use Rattle.pl_executor.specs.declared.inbox.Inbox.{Inbox}
+use Rattle.pl_exec.specs.Lanes.{AreLaid, lane_table}
+use Rattle.pl_exec.specs.Opening.{InboxView, AreOpened, lanes_in}
+use Rattle.pl_exec.specs.Sharing.{places_of}
+use Rattle.pl_exec.proofs.Ready.{ready-count, ready-few, ready-hops, ready-laid, ready-square, ready-executors, ready-open, ready-start, executors-in-order}
+use Rattle.pl_exec.proofs.running.run_parts.Goals as goal
+
+pub places-requires-clause-few : goal.places-requires-clause-few
+places-requires-clause-few g c =
+    subst (λ (l : List (PartView g.row.S.Denot g.row.T.Denot)). length (all_lanes l) < 2 ^ 16) (sym c.as_slice.ensures.value)
+    (ready-few g.S.Stage.meaning g.S.Stage.stands_after g.T.Transport.state g.W.Planned.plan c.args.parts.items c.requires.ready)
+
+pub places-requires-clause-hops : goal.places-requires-clause-hops
+places-requires-clause-hops g c =
+    subst (λ (l : List (PartView g.row.S.Denot g.row.T.Denot)). All HasExecutors l) (sym c.as_slice.ensures.value)
+    (ready-hops g.S.Stage.meaning g.S.Stage.stands_after g.T.Transport.state g.W.Planned.plan c.args.parts.items c.requires.ready)
+
+pub lane_table-requires : goal.lane_table-requires
+lane_table-requires g c =
+    subst (λ (l : List (PartView g.row.S.Denot g.row.T.Denot)). AreLaid l) (sym c.as_slice-2.ensures.value)
+    (ready-laid g.S.Stage.meaning g.S.Stage.stands_after g.T.Transport.state g.W.Planned.plan c.args.parts.items c.requires.ready)
+
+pub open_all-requires-clause-square : goal.open_all-requires-clause-square
+open_all-requires-clause-square g c =
+    ready-square g.S.Stage.meaning g.S.Stage.stands_after g.T.Transport.state g.W.Planned.plan c.args.parts.items c.requires.ready c.args.count c.requires.executors (lanes_in c.in_ok-lanes.lanes.items) (c.in_ok-lanes.ensures ∙ ap (λ (l : List (PartView g.row.S.Denot g.row.T.Denot)). lane_table l c.args.count) c.as_slice-2.ensures.value)
+
+pub open_all-requires-clause-few : goal.open_all-requires-clause-few
+open_all-requires-clause-few g c =
+    let few = ready-executors g.S.Stage.meaning g.S.Stage.stands_after g.T.Transport.state g.W.Planned.plan c.args.parts.items c.requires.ready c.args.count c.requires.executors (lanes_in c.in_ok-lanes.lanes.items) (c.in_ok-lanes.ensures ∙ ap (λ (l : List (PartView g.row.S.Denot g.row.T.Denot)). lane_table l c.args.count) c.as_slice-2.ensures.value) in
+    omega (arith, few, length-map c.in_ok-lanes.lanes.items (λ target. map (λ sender. sender.items) target.items))
+
+pub open_all-requires-clause-open : goal.open_all-requires-clause-open
+open_all-requires-clause-open g c =
+    ready-open g.S.Stage.meaning g.S.Stage.stands_after g.T.Transport.state g.W.Planned.plan c.args.parts.items c.requires.ready c.args.count c.requires.executors (lanes_in c.in_ok-lanes.lanes.items) (c.in_ok-lanes.ensures ∙ ap (λ (l : List (PartView g.row.S.Denot g.row.T.Denot)). lane_table l c.args.count) c.as_slice-2.ensures.value) c.args.capacity c.requires.capacity
+
+pub executors-requires-clause-few : goal.executors-requires-clause-few
+executors-requires-clause-few g c =
+    let view : Inbox g.row.W.Denot g.row.M.Denot g.row.M-Sender.Denot g.row.M-Taker.Denot → InboxView g.row.M.Denot = λ (i : Inbox g.row.W.Denot g.row.M.Denot g.row.M-Sender.Denot g.row.M-Taker.Denot). record { mailbox = i.mailbox; name = i.admission.name } in
+    let few = ready-executors g.S.Stage.meaning g.S.Stage.stands_after g.T.Transport.state g.W.Planned.plan c.args.parts.items c.requires.ready c.args.count c.requires.executors (lanes_in c.in_ok-lanes.lanes.items) (c.in_ok-lanes.ensures ∙ ap (λ (l : List (PartView g.row.S.Denot g.row.T.Denot)). lane_table l c.args.count) c.as_slice-2.ensures.value) in
+    let same = ap (λ (l : List (Inbox g.row.W.Denot g.row.M.Denot g.row.M-Sender.Denot g.row.M-Taker.Denot)). length l) c.as_slice-3.ensures.value in
+    let size = c.in_ok-inboxes.ensures.opened.count in
+    omega (arith, few, same, size, length-map c.in_ok-inboxes.inboxes.items view)
+
+pub executors-requires-clause-start : goal.executors-requires-clause-start
+executors-requires-clause-start g c =
+    let view : Inbox g.row.W.Denot g.row.M.Denot g.row.M-Sender.Denot g.row.M-Taker.Denot → InboxView g.row.M.Denot = λ (i : Inbox g.row.W.Denot g.row.M.Denot g.row.M-Sender.Denot g.row.M-Taker.Denot). record { mailbox = i.mailbox; name = i.admission.name } in
+    let opened = subst (λ (l : List (Inbox g.row.W.Denot g.row.M.Denot g.row.M-Sender.Denot g.row.M-Taker.Denot)). AreOpened g.M.Mailbox.is_taker g.M.Mailbox.takes_of g.M.Mailbox.is_sender g.M.Mailbox.sends_of (lanes_in c.in_ok-lanes.lanes.items) (map view l) c.in_ok-inboxes.ways.items)
+    (sym c.as_slice-3.ensures.value) c.in_ok-inboxes.ensures.opened in
+    let reserved = c.in_ok-places.ensures ∙ ap (λ (l : List (PartView g.row.S.Denot g.row.T.Denot)). places_of l c.args.count) c.as_slice.ensures.value in
+    ready-start g.S.Stage.meaning g.S.Stage.stands_after g.T.Transport.state g.W.Planned.plan c.args.parts.items c.requires.ready c.args.count c.requires.executors (lanes_in c.in_ok-lanes.lanes.items) (c.in_ok-lanes.ensures ∙ ap (λ (l : List (PartView g.row.S.Denot g.row.T.Denot)). lane_table l c.args.count) c.as_slice-2.ensures.value)
+    g.W.Named.world c.requires.world g.M.Mailbox.is_taker g.M.Mailbox.takes_of g.M.Mailbox.is_sender g.M.Mailbox.sends_of
+    (map view c.as_slice-3.result.now) c.in_ok-inboxes.ways.items c.in_ok-nodes.nodes.items c.in_ok-places.places.items opened c.in_ok-nodes.ensures reserved
+
+pub report_of-requires-clause-executors : goal.report_of-requires-clause-executors
+report_of-requires-clause-executors g c =
+    c.in_ok-all.ensures
+    ∙ executors-in-order (λ e. e.0) c.in_ok-executors.executors.items c.in_ok-nodes.nodes.items g.W.Planned.plan.executors c.in_ok-executors.ensures.parts (c.in_ok-nodes.ensures.count ∙ c.requires.executors) c.in_ok-executors.ensures.first
+
+pub report_of-requires-clause-channels : goal.report_of-requires-clause-channels
+report_of-requires-clause-channels g c =
+    c.len-channels.ensures ∙ sym c.as_slice.ensures.len ∙ ap (λ (l : List (PartView g.row.S.Denot g.row.T.Denot)). length l) c.as_slice.ensures.value
+    ∙ ready-count g.S.Stage.meaning g.S.Stage.stands_after g.T.Transport.state g.W.Planned.plan c.args.parts.items c.requires.ready

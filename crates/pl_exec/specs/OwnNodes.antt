@@ -1,0 +1,82 @@
+-- The nodes of an executor, as contracts see them: by the number of a channel the part of it that is there.
+use Rattle.std.specs.Prelude.{◌≡◌, ℕ, ◌<◌, ◌≤◌, ◌^◌, ◌==◌, Bool, true, false, List, slice_get, Some, None, is_some, if◌then◌else◌}
+use Rattle.std.specs.Option.{option_map_or}
+use Rattle.pl_event.specs.declared.events.Event.{Event}
+use Rattle.pl_event.specs.declared.envelopes.Lane.{Lane}
+use Rattle.pl_event.specs.Meaning.{Meaning}
+use Rattle.pl_event.specs.Worlds.{World}
+use Rattle.pl_context.specs.ContextViews.{ContextView}
+use Rattle.pl_head.specs.Marks.{Change}
+use Rattle.pl_head.specs.Transports.{TransportState}
+use Rattle.pl_head.specs.HeadStand.{HeadView, StandsAfter, is_idle}
+use Rattle.pl_part.specs.Paths.{context_at}
+use Rattle.pl_part.specs.Parts.{PartView, PartHolds, head_hop, all_over, has_read}
+use Rattle.pl_channel.specs.PlanStand.{PartsKeepPlan}
+use Rattle.pl_replay.specs.Channels.{MayRead, MayWrite, executor_at, is_hop}
+use Rattle.pl_world.specs.Plans.{Plan}
+
+-- ---- where lanes go
+
+-- no executor has this number
+abbrev pub nobody : ℕ
+nobody = 2 ^ 16
+
+-- the executor of the node that a lane enters
+abbrev pub enters : {S T : Type 0} → PartView S T → Lane → ℕ
+enters p l = if is_hop p l then executor_at p l.hop else nobody
+
+-- by lane, where it has a channel
+abbrev pub target_of : {S T : Type 0} → List (PartView S T) → Lane → ℕ
+target_of ps l = option_map_or (λ (p : PartView _ _). enters p l) (slice_get ps l.channel) nobody
+
+-- ---- which nodes are here
+
+-- the node at a hop is one of the part's
+abbrev pub has_node : {S T : Type 0} → PartView S T → ℕ → Bool
+has_node p hop = if hop == head_hop p then is_some p.head else if hop == p.path.tail_hop then is_some p.path.tail else is_some (context_at p.path hop)
+
+-- A part has the nodes of its channel whose executor this is, and no others.
+pub record IsResident {S T : Type 0} (me : ℕ) (p : PartView S T) : Type 0 where
+  pub nodes : (hop : ℕ) → hop ≤ head_hop p → has_node p hop ≡ (executor_at p hop == me)
+
+-- no context of it has failed by a refusal
+abbrev pub NoneRefused : {S T : Type 0} → PartView S T → Type 0
+NoneRefused p = (hop : ℕ) (c : ContextView _) → context_at p.path hop ≡ Some c → c.failed_by_call ≡ false
+
+module _ {S T : Type 0} (world : World) (meaning : S → Meaning) (stands_after : S → List Event → Type 0) (state : T → TransportState) where
+  -- The part of a channel that is on an executor. Something of a lane that one of its contexts writes was refused, or not.
+  pub record PartStands (me : ℕ) (refused : Bool) (c : ℕ) (p : PartView S T) : Type 0 where
+    pub holds : PartHolds world meaning stands_after state p
+    pub channel : p.path.channel ≡ c
+    pub within : p.path.tail_hop < head_hop p
+    pub resident : IsResident me p
+    pub called : refused ≡ false → NoneRefused p
+
+-- The nodes that are on an executor hold in a world, and go on as the plan has them.
+pub record NodesStand {S T : Type 0} (world : World) (plan : Plan) (meaning : S → Meaning) (stands_after : S → List Event → Type 0) (state : T → TransportState) (me : ℕ) (refused : Bool) (ps : List (PartView S T)) : Type 0 where
+  pub parts : (c : ℕ) (p : PartView S T) → slice_get ps c ≡ Some p → PartStands world meaning stands_after state me refused c p
+  pub keeps : PartsKeepPlan state plan ps
+  pub number : me < nobody
+
+-- ---- what is enabled
+
+module _ {S T : Type 0} (state : T → TransportState) where
+  -- Whether the next read step of a channel's head is enabled: none is where the head is elsewhere.
+  pub record MayReadHere (ps : List (PartView S T)) (c : ℕ) (b : Bool) : Type 0 where
+    pub here : MayRead state ps c b
+    pub elsewhere : (p : PartView S T) → slice_get ps c ≡ Some p → p.head ≡ None → b ≡ false
+
+  -- Whether a write of it is.
+  pub record MayWriteHere (ps : List (PartView S T)) (c : ℕ) (b : Bool) : Type 0 where
+    pub here : MayWrite state ps c b
+    pub elsewhere : (p : PartView S T) → slice_get ps c ≡ Some p → p.head ≡ None → b ≡ false
+
+  -- All nodes of a part have ended or failed; where the head is one of them, no read step and no flushed byte is left.
+  pub record IsPartOver (p : PartView S T) : Type 0 where
+    pub over : all_over p ≡ true
+    pub read : has_read p ≡ false
+    pub written : (h : HeadView T) (ys zs : List Event) (sizes : List Change) → p.head ≡ Some h → StandsAfter state h ys zs sizes → is_idle state h ys ≡ true
+
+  -- So it is with all parts.
+  abbrev pub AreOver : List (PartView S T) → Type 0
+  AreOver ps = (c : ℕ) (p : PartView S T) → slice_get ps c ≡ Some p → IsPartOver p

@@ -1,0 +1,126 @@
+//! The nodes of an executor.
+
+ghost use Rattle.std.specs.Prelude.{◌≡◌, ◌<◌, ◌^◌, ◌||◌, ◌&&◌, length, slice_get, Some, ℕ, true, false};
+ghost use Rattle.pl_exec.specs.OwnNodes.{NodesStand, MayReadHere, MayWriteHere, AreOver, IsPartOver, enters, target_of};
+ghost use Rattle.pl_channel.specs.Lanes.{lanes_of};
+ghost use Rattle.pl_part.specs.Parts.{PartView, PartHolds};
+ghost use Rattle.pl_replay.specs.Channels.{came_of, taken_of, writes_of};
+ghost use Rattle.pl_replay.specs.Channels.{lanes_of as data_lanes_of};
+ghost use Rattle.pl_event.specs.Worlds.{World};
+
+use crate::planned::Planned;
+use pl_context::Outputs;
+use pl_event::{Envelope, Kind, Lane, Stage};
+use pl_executor::Part;
+use pl_head::{OutStep, ReadStep, Transport};
+use pl_part::ChannelPart;
+
+/// No executor has this number.
+const NOBODY: usize = 65_536;
+
+/// The nodes that are on an executor: for each channel, by number, the part of it that is there.
+#[derive(Drop)]
+pub(crate) struct OwnNodes<S: Stage, T: Transport> {
+    /// The executor's number.
+    pub(crate) number: usize,
+    pub(crate) parts: Vec<ChannelPart<S, T>>,
+    /// Something of a lane that one of its contexts writes was refused.
+    pub(crate) was_refused: bool,
+}
+
+impl<W: Planned, S: Stage, T: Transport> Part<W> for OwnNodes<S, T> {
+    ghost home = { λ n. n.number };
+
+    ghost lanes = { λ n. data_lanes_of n.parts.items };
+
+    ghost target_of = { λ n lane. target_of n.parts.items lane };
+
+    ghost writes = { λ n lane. writes_of S.meaning n.parts.items lane };
+
+    ghost taken_of = { λ n lane. taken_of n.parts.items lane };
+
+    ghost came = { λ n lane. came_of S.meaning n.parts.items lane };
+
+    ghost was_refused = { λ n. n.was_refused };
+
+    ghost count = { λ n. length n.parts.items };
+
+    ghost may_read = { λ n channel answer. MayReadHere T.state n.parts.items channel answer };
+
+    ghost may_write = { λ n channel answer. MayWriteHere T.state n.parts.items channel answer };
+
+    ghost are_over = { λ n. AreOver T.state n.parts.items };
+
+    ghost stands = { λ n. (W.world ≡ lanes_of W.plan) × NodesStand W.world W.plan S.meaning S.stands_after T.state n.number n.was_refused n.parts.items };
+
+    fn target(&self, lane: Lane) -> usize {
+        match self.parts.get(lane.channel as usize) {
+            Some(part) => entered(part, lane),
+            None => NOBODY,
+        }
+    }
+
+    fn take(&mut self, envelope: Envelope, work: &mut Outputs) {
+        let _ = self.parts[envelope.lane.channel as usize].take(envelope, work);
+    }
+
+    fn refuse(&mut self, lane: Lane, work: &mut Outputs) {
+        self.was_refused = true;
+        let channel = lane.channel as usize;
+        if channel < self.parts.len() {
+            self.parts[channel].refuse(lane, work);
+        }
+    }
+
+    fn channels(&self) -> usize {
+        self.parts.len()
+    }
+
+    fn read(&mut self, channel: usize, work: &mut Outputs) -> bool {
+        matches!(self.parts[channel].next_read(work), ReadStep::Gave)
+    }
+
+    fn write(&mut self, channel: usize, work: &mut Outputs) -> bool {
+        !matches!(self.parts[channel].write_once(work), OutStep::Idle)
+    }
+
+    fn has_ended(&self) -> bool {
+        are_over(self.parts.as_slice())
+    }
+}
+
+/// The executor of the node that a lane enters, on whichever executor that is. At the last hop, the head's, there is data
+/// alone.
+fn entered<S: Stage, T: Transport>(part: &ChannelPart<S, T>, lane: Lane) -> usize
+    ensures { result ≡ enters part.now lane }
+{
+    let hop = lane.hop as usize;
+    if hop + 1 < part.hops() || (hop + 1 == part.hops() && lane.kind == Kind::Data) {
+        part.target(hop)
+    } else {
+        NOBODY
+    }
+}
+
+/// Whether all nodes of these parts have ended or failed, no read step is left, and no flushed byte waits.
+fn are_over<S: Stage, T: Transport>(parts: &[ChannelPart<S, T>]) -> bool
+    requires holds { (world : World) × ((c : ℕ) (p : PartView S T) → slice_get parts.now c ≡ Some p → PartHolds world S.meaning S.stands_after T.state p) }
+    ensures over { result ≡ true → AreOver T.state parts.now }
+    ensures not_over { result ≡ false → AreOver T.state parts.now → ⊥ }
+{
+    for part in parts {
+        if !is_over(part) {
+            return false;
+        }
+    }
+    true
+}
+
+/// Whether all of a part's nodes have ended or failed, no read step is left, and no flushed byte waits.
+fn is_over<S: Stage, T: Transport>(part: &ChannelPart<S, T>) -> bool
+    requires holds { (world : World) × PartHolds world S.meaning S.stands_after T.state part.now }
+    ensures over { result ≡ true → IsPartOver T.state part.now }
+    ensures not_over { result ≡ false → IsPartOver T.state part.now → ⊥ }
+{
+    part.has_ended() && !part.has_read_step() && part.is_written()
+}

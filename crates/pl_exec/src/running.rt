@@ -1,0 +1,155 @@
+//! A session, run by executors on threads of their own.
+
+ghost use Rattle.std.specs.Prelude.{◌≡◌, ◌≤◌, IfOk};
+ghost use Rattle.pl_channel.specs.Lanes.{lanes_of};
+ghost use Rattle.pl_world.specs.declared.limits.TheConstants.{MAX_CAPACITY};
+ghost use Rattle.pl_world.specs.Plans.{planned};
+ghost use Rattle.pl_world.specs.Sessions.{plan_of};
+ghost use Rattle.pl_exec.specs.Reported.{IsRunReport};
+ghost use Rattle.pl_exec.specs.Starting.{AreReady};
+
+use crate::lanes::lane_table;
+use crate::opening::{executors, open_all};
+use crate::planned::Planned;
+use crate::reporting::report_of;
+use crate::sharing::{places, shares};
+use pl_event::Stage;
+use pl_executor::{Gate, RunFault, run_all};
+use pl_head::{MemoryTransport, Transport};
+use pl_part::ChannelPart;
+use pl_queue::{Mailbox, RingBox, WaitingBox};
+use pl_replay::placed;
+use pl_stages::Handler;
+use pl_world::{Report, Session, World};
+use std::alloc::Global;
+use std::marker::Brand;
+use std::sync::Wait;
+use std::thread::Threads;
+
+/// What the queues between executors are.
+#[derive(Clone, Copy, Debug, PartialEq, Eq)]
+pub enum QueueKind {
+    /// Who hands something over waits for room.
+    Waiting,
+    /// A ring without locks. Who finds it full goes on with something else.
+    Ring,
+}
+
+/// Runs a session: each executor in a thread of its own.
+pub fn run<G: Gate + Sync, R: Threads + Wait + Sync>(
+    rt: &R,
+    alloc: Global,
+    session: Session,
+    queue: QueueKind,
+    gate: &G,
+) -> Result<Report, RunFault>
+    ensures { IfOk result (λ report. IsRunReport (plan_of ⟦<Handler as Stage>⟧.meaning ⟦<MemoryTransport as Transport>⟧.state session) report) }
+{
+    let Session { world, capacity } = session;
+    run_world(rt, alloc, world, capacity, queue, gate)
+}
+
+/// Runs a world of any stages and transports, whose queues hold `capacity` items each, from 1 to `MAX_CAPACITY`.
+pub fn run_world<S: Stage + Send, T: Transport + Send, G: Gate + Sync, R: Threads + Wait + Sync>(
+    rt: &R,
+    alloc: Global,
+    world: World<S, T>,
+    capacity: u32,
+    queue: QueueKind,
+    gate: &G,
+) -> Result<Report, RunFault>
+    requires capacity { (1 ≤ capacity) × (capacity ≤ MAX_CAPACITY) }
+    ensures { IfOk result (λ report. IsRunReport (planned S.meaning T.state capacity world.executors world.channels) report) }
+{
+    match queue {
+        QueueKind::Waiting => run_waiting::<Brand, S, T, G, R>(rt, alloc, world, capacity, gate),
+        QueueKind::Ring => run_ring::<Brand, S, T, G, R>(rt, alloc, world, capacity, gate),
+    }
+}
+
+fn run_waiting<
+    W: Planned + Send + Sync,
+    S: Stage + Send,
+    T: Transport + Send,
+    G: Gate + Sync,
+    R: Threads + Wait + Sync,
+>(rt: &R, alloc: Global, world: World<S, T>, capacity: u32, gate: &G) -> Result<Report, RunFault>
+    requires capacity { (1 ≤ capacity) × (capacity ≤ MAX_CAPACITY) }
+    requires world { W.world ≡ lanes_of W.plan }
+    requires plan { W.plan ≡ planned S.meaning T.state capacity world.executors world.channels }
+    ensures { IfOk result (λ report. IsRunReport W.plan report) }
+{
+    run_by::<W, WaitingBox<W>, S, T, G, R>(rt, alloc, world, capacity, gate)
+}
+
+fn run_ring<
+    W: Planned + Send + Sync,
+    S: Stage + Send,
+    T: Transport + Send,
+    G: Gate + Sync,
+    R: Threads + Wait + Sync,
+>(rt: &R, alloc: Global, world: World<S, T>, capacity: u32, gate: &G) -> Result<Report, RunFault>
+    requires capacity { (1 ≤ capacity) × (capacity ≤ MAX_CAPACITY) }
+    requires world { W.world ≡ lanes_of W.plan }
+    requires plan { W.plan ≡ planned S.meaning T.state capacity world.executors world.channels }
+    ensures { IfOk result (λ report. IsRunReport W.plan report) }
+{
+    run_by::<W, RingBox<W>, S, T, G, R>(rt, alloc, world, capacity, gate)
+}
+
+/// Runs a world over mailboxes of one kind.
+fn run_by<
+    W: Planned + Send + Sync,
+    M: Mailbox<W> + Drop + Send + Sync,
+    S: Stage + Send,
+    T: Transport + Send,
+    G: Gate + Sync,
+    R: Threads + Wait + Sync,
+>(rt: &R, alloc: Global, world: World<S, T>, capacity: u32, gate: &G) -> Result<Report, RunFault>
+where
+    M::Sender: Drop + Send,
+    M::Taker: Drop + Send,
+    requires capacity { (1 ≤ capacity) × (capacity ≤ MAX_CAPACITY) }
+    requires world { W.world ≡ lanes_of W.plan }
+    requires plan { W.plan ≡ planned S.meaning T.state capacity world.executors world.channels }
+    ensures { IfOk result (λ report. IsRunReport W.plan report) }
+{
+    let count = world.executors() as usize;
+    let parts = placed(alloc, world.into_channels().into_vec())?;
+    run_parts::<W, M, S, T, G, R>(rt, alloc, parts, count, capacity as usize, gate)
+}
+
+/// Runs the channels of the plan on so many executors, with queues of this capacity.
+fn run_parts<
+    W: Planned + Send + Sync,
+    M: Mailbox<W> + Drop + Send + Sync,
+    S: Stage + Send,
+    T: Transport + Send,
+    G: Gate + Sync,
+    R: Threads + Wait + Sync,
+>(
+    rt: &R,
+    alloc: Global,
+    parts: Vec<ChannelPart<S, T>>,
+    count: usize,
+    capacity: usize,
+    gate: &G,
+) -> Result<Report, RunFault>
+where
+    M::Sender: Drop + Send,
+    M::Taker: Drop + Send,
+    requires world { W.world ≡ lanes_of W.plan }
+    requires ready { AreReady S.meaning S.stands_after T.state W.plan parts.items }
+    requires executors { count ≡ W.plan.executors }
+    requires capacity { capacity ≡ W.plan.capacity }
+    ensures { IfOk result (λ report. IsRunReport W.plan report) }
+{
+    let channels = parts.len();
+    let places = places(alloc, count, parts.as_slice())?;
+    let lanes = lane_table(alloc, parts.as_slice(), count)?;
+    let nodes = shares(alloc, parts, count)?;
+    let (inboxes, ways) = open_all::<W, M>(alloc, lanes, capacity)?;
+    let executors = executors(alloc, inboxes.as_slice(), ways, nodes, places)?;
+    let all = run_all(rt, alloc, gate, executors)?;
+    Ok(report_of(alloc, all, channels)?)
+}

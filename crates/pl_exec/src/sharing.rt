@@ -1,0 +1,94 @@
+//! The nodes of all channels, each at its executor.
+
+ghost use Rattle.std.specs.Prelude.{◌≡◌, ◌<◌, ◌^◌, [], length, All, IfOk, OnOk};
+ghost use Rattle.pl_replay.specs.Placed.{HasExecutors, all_lanes};
+ghost use Rattle.pl_exec.specs.Sharing.{AreShared, Gets, EachGets, places_of};
+
+use crate::nodes::OwnNodes;
+use crate::opening::Places;
+use pl_event::Stage;
+use pl_head::Transport;
+use pl_part::ChannelPart;
+use pl_replay::{lane_count, places_from};
+use std::alloc::{AllocError, Global};
+
+/// The nodes of these channels, divided among so many executors.
+pub(crate) fn shares<S: Stage, T: Transport>(
+    alloc: Global,
+    parts: Vec<ChannelPart<S, T>>,
+    count: usize,
+) -> Result<Vec<OwnNodes<S, T>>, AllocError>
+    ensures { IfOk result (λ all. AreShared S.meaning S.stands_after T.state parts.items count all.items) }
+{
+    let mut all = no_nodes(alloc, count)?;
+    for part in parts {
+        add_shares(&mut all, part.split(alloc, count)?)?;
+    }
+    Ok(all)
+}
+
+/// So many executors, each with its number, and without nodes.
+fn no_nodes<S: Stage, T: Transport>(
+    alloc: Global,
+    count: usize,
+) -> Result<Vec<OwnNodes<S, T>>, AllocError>
+    ensures { IfOk result (λ all. AreShared S.meaning S.stands_after T.state [] count all.items) }
+{
+    let mut all = Vec::with_capacity(alloc, count)?;
+    for number in 0..count {
+        all.push(OwnNodes {
+            number,
+            parts: Vec::new(alloc),
+            was_refused: false,
+        })?;
+    }
+    Ok(all)
+}
+
+/// One channel more: each executor gets its share.
+fn add_shares<S: Stage, T: Transport>(
+    all: &mut Vec<OwnNodes<S, T>>,
+    shares: Vec<ChannelPart<S, T>>,
+) -> Result<(), AllocError>
+    requires { length shares.items ≡ length all.old.items }
+    ensures { OnOk result (EachGets all.old.items shares.items all.new.items) }
+{
+    let mut number = 0;
+    for share in shares {
+        add_share(&mut all[number], share)?;
+        number += 1;
+    }
+    Ok(())
+}
+
+/// One channel more.
+fn add_share<S: Stage, T: Transport>(
+    nodes: &mut OwnNodes<S, T>,
+    share: ChannelPart<S, T>,
+) -> Result<(), AllocError>
+    ensures { OnOk result (Gets nodes.old share nodes.new) }
+{
+    nodes.parts.push(share)?;
+    Ok(())
+}
+
+/// The places of each executor.
+pub(crate) fn places<S: Stage, T: Transport>(
+    alloc: Global,
+    count: usize,
+    parts: &[ChannelPart<S, T>],
+) -> Result<Vec<Places>, AllocError>
+    requires few { length (all_lanes parts.now) < 2 ^ 16 }
+    requires hops { All HasExecutors parts.now }
+    ensures { IfOk result (λ places. places.items ≡ places_of parts.now count) }
+{
+    let work = lane_count(parts);
+    let mut all = Vec::with_capacity(alloc, count)?;
+    for number in 0..count {
+        all.push(Places {
+            work,
+            targets: places_from(alloc, count, parts, number)?,
+        })?;
+    }
+    Ok(all)
+}

@@ -1,0 +1,156 @@
+//! What a gate is told of the turns of executors.
+
+use pl_exec::{Gate, QueueKind, run};
+use pl_text::read_session;
+use pl_world::{Report, Stands};
+use std::alloc::Global;
+use std::hint::spin_loop;
+use std::process::Abort;
+use std::sync::Wait;
+use std::sync::atomic::{AtomicU64, Ordering};
+use std::test::Fail;
+use std::thread::Threads;
+
+/// How often an executor looks for another.
+const LOOKS: u32 = 10_000_000;
+
+/// Two loops, each with a channel that takes PING.
+const TWO_LOOPS: &str = r#"{"version":1,"capacity":4,"loops":2,"channels":[{"handlers":[
+{"op":"last","name":"lines","kind":"lines","max":64},
+{"op":"last","name":"decode","kind":"decode"},
+{"op":"last","name":"lineend","kind":"lineend"},
+{"op":"last","name":"encode","kind":"encode"},
+{"op":"last","name":"service","kind":"service"}],
+"bursts":[["PING\r\n"]]},
+{"handlers":[
+{"op":"last","name":"lines","kind":"lines","max":64},
+{"op":"last","name":"decode","kind":"decode"},
+{"op":"last","name":"lineend","kind":"lineend"},
+{"op":"last","name":"encode","kind":"encode"},
+{"op":"last","name":"service","kind":"service"}],
+"bursts":[["PING\r\n"]]}]}"#;
+
+/// One channel, whose decoder is on an executor of its own.
+const DECODER_APART: &str =
+    r#"{"version":1,"capacity":1,"loops":1,"groups":[{"name":"a","size":1}],"channels":[{"handlers":[
+{"op":"last","name":"lines","kind":"lines","max":64},
+{"op":"last","name":"decode","kind":"decode","group":"a"},
+{"op":"last","name":"lineend","kind":"lineend"},
+{"op":"last","name":"encode","kind":"encode"},
+{"op":"last","name":"service","kind":"service"}],
+"bursts":[["PING\r\n"]]}]}"#;
+
+/// The first turn of each of two executors waits until the other's has begun.
+#[derive(Drop)]
+struct Meeting {
+    first: AtomicU64,
+    second: AtomicU64,
+    /// How many have seen the other.
+    met: AtomicU64,
+}
+
+impl Gate for Meeting {
+    fn enter(&self, executor: u16, turn: u64) {
+        if turn > 0 {
+            return;
+        }
+        let (own, other) = if executor == 0 {
+            (&self.first, &self.second)
+        } else {
+            (&self.second, &self.first)
+        };
+        own.store(1, Ordering::SeqCst);
+        for _ in 0..LOOKS {
+            if other.load(Ordering::SeqCst) == 1 {
+                self.met.fetch_add(1, Ordering::SeqCst);
+                return;
+            }
+            spin_loop();
+        }
+    }
+}
+
+/// Counts the turns of each of two executors, while they come one after another from 0.
+#[derive(Drop)]
+struct Counting {
+    first: AtomicU64,
+    second: AtomicU64,
+    /// How many turns were out of this order.
+    wrong: AtomicU64,
+}
+
+impl Gate for Counting {
+    fn enter(&self, executor: u16, turn: u64) {
+        let turns = if executor == 0 {
+            &self.first
+        } else {
+            &self.second
+        };
+        if turns.fetch_add(1, Ordering::SeqCst) != turn {
+            self.wrong.fetch_add(1, Ordering::SeqCst);
+        }
+    }
+}
+
+/// What a run of a session leaves.
+fn ran<R: Abort + Threads + Wait + Sync, G: Gate + Sync>(
+    rt: &R,
+    alloc: Global,
+    text: &str,
+    queue: QueueKind,
+    gate: &G,
+) -> Option<Report> {
+    let session = read_session(alloc, text).ok()?;
+    run(rt, alloc, session, queue, gate).ok()
+}
+
+/// Whether there is a report of so many channels, each of them drained.
+fn is_drained(report: Option<Report>, channels: usize) -> bool {
+    match report {
+        None => false,
+        Some(report) => {
+            let reports = report.channels.as_slice();
+            reports.len() == channels
+                && reports
+                    .iter()
+                    .all(|channel| channel.stands == Stands::Drained)
+        }
+    }
+}
+
+fn two_meet<R: Abort + Threads + Wait + Sync>(rt: &R, alloc: Global, queue: QueueKind) {
+    let meeting = Meeting {
+        first: AtomicU64::new(0),
+        second: AtomicU64::new(0),
+        met: AtomicU64::new(0),
+    };
+    assert!(rt; is_drained(ran(rt, alloc, TWO_LOOPS, queue, &meeting), 2));
+    assert_eq!(rt; meeting.met.load(Ordering::SeqCst), 2);
+}
+
+fn turns_come_in_order<R: Abort + Threads + Wait + Sync>(rt: &R, alloc: Global, queue: QueueKind) {
+    let counting = Counting {
+        first: AtomicU64::new(0),
+        second: AtomicU64::new(0),
+        wrong: AtomicU64::new(0),
+    };
+    assert!(rt; is_drained(ran(rt, alloc, DECODER_APART, queue, &counting), 1));
+    assert_eq!(rt; counting.wrong.load(Ordering::SeqCst), 0);
+    // `Active`, the line, `ReadComplete` and the end go to each of the two, at most one in each turn.
+    assert!(rt; counting.first.load(Ordering::SeqCst) >= 4);
+    assert!(rt; counting.second.load(Ordering::SeqCst) >= 4);
+}
+
+#[test]
+fn gate_needs_two_threads(rt: HostRuntime) -> Result<(), Fail> {
+    two_meet(&rt, rt.alloc(), QueueKind::Ring);
+    two_meet(&rt, rt.alloc(), QueueKind::Waiting);
+    Ok(())
+}
+
+#[test]
+fn turns_are_told_in_order(rt: HostRuntime) -> Result<(), Fail> {
+    turns_come_in_order(&rt, rt.alloc(), QueueKind::Ring);
+    turns_come_in_order(&rt, rt.alloc(), QueueKind::Waiting);
+    Ok(())
+}

@@ -1,0 +1,123 @@
+use Rattle.std.proofs.Common.{◌≡◌, ◌<◌, true, length, set, refl, sym, subst, ap, ◌∙◌}
+use Rattle.std.proofs.lemmas.Option.{slice_get_read}
+use Rattle.pl_event.specs.declared.envelopes.Envelope.{Envelope}
+use Rattle.pl_context.specs.WaitingViews.{Holds}
+use Rattle.pl_executor.specs.declared.outboxes.Offered.TheVariants.{Handed, Full, Nothing}
+use Rattle.pl_executor.specs.OutboxViews.{OutboxView, OutboxesView, was_tried, Offers, Stays}
+use Rattle.pl_executor.proofs.OutboxLemmas.{replaces-set, tried-on}
+use Rattle.pl_executor.proofs.OfferSteps.{nothing-offers, nothing-stays, may-offer, handed-hold, handed-offers, handed-stays, full-hold, full-offers, full-stays}
+use Rattle.pl_executor.proofs.outboxes.Outboxes.offer.Goals as goal
+
+-- ---- nothing waits
+
+pub returns-in_default-clause-offers : goal.returns-in_default-clause-offers
+returns-in_default-clause-offers g c =
+    subst (λ (v : OutboxesView). Offers v c.args.target Nothing (record { outboxes = c.self.inside.outboxes.items; waiting = c.take.new.self })) c.self.view_is
+    (nothing-offers g.W.Named.world c.self.inside.outboxes.items c.self.inside.waiting c.self.invariant c.args.target c.take.new.self (c.in_default.ensures.first c.self.invariant.entries c.self.invariant.holds))
+
+pub returns-in_default-clause-stays : goal.returns-in_default-clause-stays
+returns-in_default-clause-stays g c =
+    subst (λ (v : OutboxesView). Stays v (record { outboxes = c.self.inside.outboxes.items; waiting = c.take.new.self })) c.self.view_is
+    (nothing-stays g.W.Named.world c.self.inside.outboxes.items c.self.inside.waiting c.self.invariant c.args.target c.take.new.self (c.in_default.ensures.first c.self.invariant.entries c.self.invariant.holds))
+
+pub returns-in_default-clause-tried : goal.returns-in_default-clause-tried
+returns-in_default-clause-tried g c = λ y e.
+    subst (λ (v : OutboxesView). was_tried v y ≡ true) (sym (returns-in_default-clause-offers g c).0) e
+
+-- ---- the first is offered
+
+pub offer-requires-clause-next : goal.offer-requires-clause-next
+offer-requires-clause-next g c =
+    let os = c.self.inside.outboxes.items in
+    let at = slice_get_read os (length os) c.args.target c.index_mut.result.now refl (subst (λ (v : OutboxesView). c.args.target < length v.outboxes) (sym c.self.view_is) c.requires.there) c.index_mut.ensures.value in
+    (may-offer g.W.Named.world os c.self.inside.waiting c.self.invariant c.args.target c.in-Some.envelope c.in-Some.admitted c.take.new.self (c.in-Some.ensures.first c.self.invariant.entries c.self.invariant.holds) c.index_mut.result.now at).0
+
+pub offer-requires-clause-small : goal.offer-requires-clause-small
+offer-requires-clause-small g c =
+    let os = c.self.inside.outboxes.items in
+    let at = slice_get_read os (length os) c.args.target c.index_mut.result.now refl (subst (λ (v : OutboxesView). c.args.target < length v.outboxes) (sym c.self.view_is) c.requires.there) c.index_mut.ensures.value in
+    (may-offer g.W.Named.world os c.self.inside.waiting c.self.invariant c.args.target c.in-Some.envelope c.in-Some.admitted c.take.new.self (c.in-Some.ensures.first c.self.invariant.entries c.self.invariant.holds) c.index_mut.result.now at).1.small
+
+pub offer-requires-clause-fits : goal.offer-requires-clause-fits
+offer-requires-clause-fits g c =
+    let os = c.self.inside.outboxes.items in
+    let at = slice_get_read os (length os) c.args.target c.index_mut.result.now refl (subst (λ (v : OutboxesView). c.args.target < length v.outboxes) (sym c.self.view_is) c.requires.there) c.index_mut.ensures.value in
+    (may-offer g.W.Named.world os c.self.inside.waiting c.self.invariant c.args.target c.in-Some.envelope c.in-Some.admitted c.take.new.self (c.in-Some.ensures.first c.self.invariant.entries c.self.invariant.holds) c.index_mut.result.now at).1.fits
+
+-- ---- it is sent
+
+pub invariant_of-self-in-Ok : goal.invariant_of-self-in-Ok
+invariant_of-self-in-Ok g c =
+    let os = c.self.inside.outboxes.items in
+    let at = slice_get_read os (length os) c.args.target c.index_mut.result.now refl (subst (λ (v : OutboxesView). c.args.target < length v.outboxes) (sym c.self.view_is) c.requires.there) c.index_mut.ensures.value in
+    handed-hold g.W.Named.world os c.self.inside.waiting c.self.invariant c.args.target c.in-Some.envelope c.in-Some.admitted c.take.new.self (c.in-Some.ensures.first c.self.invariant.entries c.self.invariant.holds)
+    c.index_mut.result.now c.offer.new.self at c.in-Ok.ensures c.take.ensures.added
+
+pub returns-in-Ok-clause-offers : goal.returns-in-Ok-clause-offers
+returns-in-Ok-clause-offers g c =
+    let os = c.self.inside.outboxes.items in
+    let at = slice_get_read os (length os) c.args.target c.index_mut.result.now refl (subst (λ (v : OutboxesView). c.args.target < length v.outboxes) (sym c.self.view_is) c.requires.there) c.index_mut.ensures.value in
+    subst (λ (v : OutboxesView). Offers v c.args.target Handed (record { outboxes = set os c.args.target c.offer.new.self; waiting = c.take.new.self })) c.self.view_is
+    (handed-offers g.W.Named.world os c.self.inside.waiting c.self.invariant c.args.target c.in-Some.envelope c.in-Some.admitted c.take.new.self (c.in-Some.ensures.first c.self.invariant.entries c.self.invariant.holds)
+    c.index_mut.result.now c.offer.new.self at c.in-Ok.ensures c.take.ensures.added)
+
+pub returns-in-Ok-clause-stays : goal.returns-in-Ok-clause-stays
+returns-in-Ok-clause-stays g c =
+    let os = c.self.inside.outboxes.items in
+    let at = slice_get_read os (length os) c.args.target c.index_mut.result.now refl (subst (λ (v : OutboxesView). c.args.target < length v.outboxes) (sym c.self.view_is) c.requires.there) c.index_mut.ensures.value in
+    subst (λ (v : OutboxesView). Stays v (record { outboxes = set os c.args.target c.offer.new.self; waiting = c.take.new.self })) c.self.view_is
+    (handed-stays g.W.Named.world os c.self.inside.waiting c.self.invariant c.args.target c.in-Some.envelope c.in-Some.admitted c.take.new.self (c.in-Some.ensures.first c.self.invariant.entries c.self.invariant.holds)
+    c.index_mut.result.now c.offer.new.self at c.in-Ok.ensures c.take.ensures.added)
+
+pub returns-in-Ok-clause-tried : goal.returns-in-Ok-clause-tried
+returns-in-Ok-clause-tried g c = λ y e.
+    let os = c.self.inside.outboxes.items in
+    let at = slice_get_read os (length os) c.args.target c.index_mut.result.now refl (subst (λ (v : OutboxesView). c.args.target < length v.outboxes) (sym c.self.view_is) c.requires.there) c.index_mut.ensures.value in
+    tried-on os (set os c.args.target c.offer.new.self) c.args.target c.index_mut.result.now c.offer.new.self (replaces-set os c.args.target c.index_mut.result.now c.offer.new.self at)
+    (λ t. ap (λ (o : OutboxView). o.tried) c.in-Ok.ensures ∙ t) y (subst (λ (v : OutboxesView). was_tried v y ≡ true) (sym c.self.view_is) e)
+
+-- ---- its queue was full
+
+pub put_back-requires : goal.put_back-requires
+put_back-requires g c =
+    let takes = c.in-Some.ensures.first c.self.invariant.entries c.self.invariant.holds in
+    (c.self.invariant.entries, takes.taken.0, record { target = c.args.target; envelope = c.in-Some.envelope; token = c.in-Some.admitted }, takes.taken.2, refl, takes.taken.4)
+
+held : (g : _) (c : goal.After-put_back g) → Holds c.put_back.new.self (set c.self.invariant.entries (c.in-Some.ensures.first c.self.invariant.entries c.self.invariant.holds).taken.0 (record { target = c.args.target; envelope = c.in-Some.envelope; token = c.in-Some.admitted }))
+held g c =
+    let takes = c.in-Some.ensures.first c.self.invariant.entries c.self.invariant.holds in
+    subst (λ (x : Envelope). Holds c.put_back.new.self (set c.self.invariant.entries takes.taken.0 (record { target = c.args.target; envelope = x; token = c.in-Some.admitted }))) c.in-Err.ensures.0
+    (c.put_back.ensures.back c.self.invariant.entries takes.taken.0 (record { target = c.args.target; envelope = c.in-Some.envelope; token = c.in-Some.admitted }) takes.taken.2 refl takes.taken.4)
+
+pub invariant_of-self-in-Err : goal.invariant_of-self-in-Err
+invariant_of-self-in-Err g c =
+    let os = c.self.inside.outboxes.items in
+    let at = slice_get_read os (length os) c.args.target c.index_mut.result.now refl (subst (λ (v : OutboxesView). c.args.target < length v.outboxes) (sym c.self.view_is) c.requires.there) c.index_mut.ensures.value in
+    let takes = c.in-Some.ensures.first c.self.invariant.entries c.self.invariant.holds in
+    full-hold g.W.Named.world os c.self.inside.waiting c.self.invariant c.args.target c.in-Some.envelope c.in-Some.admitted c.take.new.self takes
+    c.index_mut.result.now c.offer.new.self at c.in-Err.ensures.1 c.put_back.new.self (held g c) (c.put_back.ensures.added ∙ c.take.ensures.added) (λ y. c.put_back.ensures.stopped y ∙ takes.stopped y) (c.put_back.ensures.targets ∙ takes.targets)
+
+pub returns-in-Err-clause-offers : goal.returns-in-Err-clause-offers
+returns-in-Err-clause-offers g c =
+    let os = c.self.inside.outboxes.items in
+    let at = slice_get_read os (length os) c.args.target c.index_mut.result.now refl (subst (λ (v : OutboxesView). c.args.target < length v.outboxes) (sym c.self.view_is) c.requires.there) c.index_mut.ensures.value in
+    let takes = c.in-Some.ensures.first c.self.invariant.entries c.self.invariant.holds in
+    subst (λ (v : OutboxesView). Offers v c.args.target Full (record { outboxes = set os c.args.target c.offer.new.self; waiting = c.put_back.new.self })) c.self.view_is
+    (full-offers g.W.Named.world os c.self.inside.waiting c.self.invariant c.args.target c.in-Some.envelope c.in-Some.admitted c.take.new.self takes
+    c.index_mut.result.now c.offer.new.self at c.in-Err.ensures.1 c.put_back.new.self (held g c) (c.put_back.ensures.added ∙ c.take.ensures.added) (λ y. c.put_back.ensures.stopped y ∙ takes.stopped y) (c.put_back.ensures.targets ∙ takes.targets))
+
+pub returns-in-Err-clause-stays : goal.returns-in-Err-clause-stays
+returns-in-Err-clause-stays g c =
+    let os = c.self.inside.outboxes.items in
+    let at = slice_get_read os (length os) c.args.target c.index_mut.result.now refl (subst (λ (v : OutboxesView). c.args.target < length v.outboxes) (sym c.self.view_is) c.requires.there) c.index_mut.ensures.value in
+    let takes = c.in-Some.ensures.first c.self.invariant.entries c.self.invariant.holds in
+    subst (λ (v : OutboxesView). Stays v (record { outboxes = set os c.args.target c.offer.new.self; waiting = c.put_back.new.self })) c.self.view_is
+    (full-stays g.W.Named.world os c.self.inside.waiting c.self.invariant c.args.target c.in-Some.envelope c.in-Some.admitted c.take.new.self takes
+    c.index_mut.result.now c.offer.new.self at c.in-Err.ensures.1 c.put_back.new.self (held g c) (c.put_back.ensures.added ∙ c.take.ensures.added) (λ y. c.put_back.ensures.stopped y ∙ takes.stopped y) (c.put_back.ensures.targets ∙ takes.targets))
+
+pub returns-in-Err-clause-tried : goal.returns-in-Err-clause-tried
+returns-in-Err-clause-tried g c = λ y e.
+    let os = c.self.inside.outboxes.items in
+    let at = slice_get_read os (length os) c.args.target c.index_mut.result.now refl (subst (λ (v : OutboxesView). c.args.target < length v.outboxes) (sym c.self.view_is) c.requires.there) c.index_mut.ensures.value in
+    tried-on os (set os c.args.target c.offer.new.self) c.args.target c.index_mut.result.now c.offer.new.self (replaces-set os c.args.target c.index_mut.result.now c.offer.new.self at)
+    (λ t. ap (λ (o : OutboxView). o.tried) c.in-Err.ensures.1) y (subst (λ (v : OutboxesView). was_tried v y ≡ true) (sym c.self.view_is) e)

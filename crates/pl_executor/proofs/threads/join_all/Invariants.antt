@@ -1,0 +1,7 @@
+use Rattle.std.proofs.Common.{◌≡◌, ◌++◌, map}
+use Rattle.std.specs.Vec.Iter.{into_iter_items}
+use Rattle.pl_executor.proofs.threads.join_all.Given as goal
+
+abbrev pub invariant-loop-handle : goal.invariant-loop-handle
+invariant-loop-handle g l =
+    map (λ f. g.N.Part.home f) l.all.items ++ map (λ h. h.promise.number) (into_iter_items l.handle-iterator) ≡ map (λ h. h.promise.number) l.fn.handles.items

@@ -1,0 +1,7 @@
+use Rattle.std.proofs.Common.{◌≡◌, ◌++◌, map}
+use Rattle.std.specs.Vec.Iter.{into_iter_items}
+use Rattle.pl_executor.proofs.threads.start_each.Given as goal
+
+abbrev pub invariant-loop-executor : goal.invariant-loop-executor
+invariant-loop-executor g l =
+    map (λ h. h.promise.number) l.handles.items ++ map (λ e. e.0.number) (into_iter_items l.executor-iterator) ≡ map (λ e. e.0.number) l.fn.executors.items

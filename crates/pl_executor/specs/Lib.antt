@@ -1,0 +1,4 @@
+pub mod Sent
+pub mod OutboxViews
+pub mod Running
+pub mod Turning

@@ -1,0 +1,49 @@
+-- An executor while it works its list off: of each lane that its nodes write, what stands on the list follows what went on,
+-- up to what was made.
+use Rattle.std.specs.Prelude.{◌≡◌, ◌≢◌, ℕ, ◌<◌, ◌^◌, ◌-◌, min, Bool, true, false, List, [], ◌∷◌, length, Some}
+use Rattle.pl_event.specs.declared.envelopes.Lane.{Lane}
+use Rattle.pl_event.specs.Worlds.{World}
+use Rattle.pl_context.specs.Stops.{has_stopped, HasPlaces, AreAmong}
+use Rattle.pl_context.specs.OutputsViews.{OutputsView}
+use Rattle.pl_context.specs.WaitingViews.{stops_for}
+use Rattle.pl_queue.specs.declared.views.TakeCount.{TakeCount}
+use Rattle.pl_queue.specs.declared.views.TakerView.{TakerView}
+use Rattle.pl_queue.specs.Views.{next_of}
+use Rattle.pl_words.specs.Admissions.{OwnerSeatView}
+use Rattle.pl_flow.specs.Flows.{Point, point, on}
+use Rattle.pl_flow.specs.LaneRuns.{LaneRuns}
+use Rattle.pl_executor.specs.OutboxViews.{OutboxesView, reached, is_cut, is_closed}
+
+-- The executor's number; by lane the executor that it enters, whether the nodes write it, how many items of it they have
+-- taken, and how far they have made it.
+module _ (world : World) (me : ℕ) (target : Lane → ℕ) (writes : Lane → Bool) (taken : Lane → ℕ) (came : Lane → Point) where
+  pub record Runs (o : OutboxesView) (work : OutputsView) : Type 0 where
+    pub own : (l : Lane) → target l ≡ me → writes l ≡ true → (over : Bool) × LaneRuns world (point (taken l) over) false (has_stopped work.stopped l) (on l work.items) (came l)
+    pub away : (l : Lane) → target l ≢ me → writes l ≡ true → LaneRuns world (reached o (target l) l) (is_cut o (target l) l) (has_stopped work.stopped l) (on l work.items) (came l)
+    pub others : (l : Lane) → writes l ≡ false → on l work.items ≡ []
+    -- each lane that is written has its target, with a place there
+    pub there : (l : Lane) → writes l ≡ true → target l ≢ me → target l < length o.outboxes
+    pub hops : ℕ → List Lane
+    pub placed : (y : ℕ) → y < length o.outboxes → HasPlaces (stops_for o.waiting y) (hops y)
+    pub among : (l : Lane) → writes l ≡ true → AreAmong (l ∷ []) (hops (target l))
+
+-- What a taker is to take enters one of the executor's nodes, none of which writes it, and is their next of its lane.
+abbrev pub IsTaking : ℕ → (Lane → ℕ) → (Lane → Bool) → (Lane → ℕ) → List TakeCount → Type 0
+IsTaking me target writes taken counts =
+    (l : Lane) (n : ℕ) → next_of l counts ≡ Some n → (target l ≡ me) × (writes l ≡ false) × (taken l ≡ n)
+
+-- An executor between two of its turns: its number, its nodes, its way out, what it knows of its queue, its right to close
+-- that, and the number of its next turn.
+pub record ExecutorView (N : Type 0) : Type 0 where
+  pub number : ℕ
+  pub part : N
+  pub outboxes : OutboxesView
+  pub takes : TakerView
+  pub owner : OwnerSeatView
+  pub turns : ℕ
+
+-- How many envelopes were taken from a queue, up to the last number of a u64, and whether it was closed: then with as many.
+pub record IsCounting (owner : OwnerSeatView) (shut : Bool) (ran pops : ℕ) : Type 0 where
+  pub closed : shut ≡ is_closed owner.phase
+  pub run : ran ≡ min pops (2 ^ 64 - 1)
+  pub count : is_closed owner.phase ≡ true → owner.run ≡ pops

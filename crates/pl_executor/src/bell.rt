@@ -1,0 +1,65 @@
+//! How an executor that rests is woken.
+
+use crossbeam_utils::sync::Unparker;
+use std::sync::atomic::{AtomicU64, Ordering};
+
+/// The most executors that are told apart among those that wait.
+const MAX_BITS: usize = 64;
+
+/// Wakes an executor, and knows who waits for room in its queue. No contract speaks of it: that anyone is woken is not
+/// proved.
+#[derive(Drop)]
+pub(crate) struct Bell {
+    unparker: Unparker,
+    /// The bits of `Waiters`.
+    waiting: AtomicU64,
+}
+
+/// The executors that wait for room in a queue. Bit b is that of each executor whose number is b modulo 64, so where there
+/// are more than 64 some may be woken for nothing.
+#[derive(Clone, Copy, Debug)]
+pub(crate) struct Waiters {
+    bits: u64,
+}
+
+impl Bell {
+    pub(crate) fn new(unparker: Unparker) -> Bell {
+        Bell {
+            unparker,
+            waiting: AtomicU64::new(0),
+        }
+    }
+
+    /// Wakes its executor, or keeps it from its next rest.
+    pub(crate) fn ring(&self) {
+        self.unparker.unpark();
+    }
+
+    /// Notes that an executor waits for room.
+    pub(crate) fn note_waiting(&self, executor: usize) {
+        self.waiting.fetch_or(bit_of(executor), Ordering::SeqCst);
+    }
+
+    /// Those that wait for room. Nobody does any more.
+    pub(crate) fn take_waiting(&self) -> Waiters {
+        let bits = match self.waiting.load(Ordering::SeqCst) {
+            0 => 0,
+            _ => self.waiting.swap(0, Ordering::SeqCst),
+        };
+        Waiters { bits }
+    }
+}
+
+impl Waiters {
+    pub(crate) fn is_empty(self) -> bool {
+        self.bits == 0
+    }
+
+    pub(crate) fn has(self, executor: usize) -> bool {
+        self.bits & bit_of(executor) != 0
+    }
+}
+
+fn bit_of(executor: usize) -> u64 {
+    1 << (executor % MAX_BITS)
+}

@@ -1,0 +1,209 @@
+//! The work list of an executor, and its direct calls.
+
+ghost use Rattle.std.specs.Prelude.{◌≡◌, ◌+◌, ◌<◌, ℕ, [], cond, false, true, IfSome, IfNone};
+ghost use Rattle.pl_event.specs.declared.envelopes.Lane.{Lane};
+ghost use Rattle.pl_event.specs.Hops.{same_lane};
+ghost use Rattle.pl_context.specs.Stops.{HasPlaces};
+ghost use Rattle.pl_flow.specs.Flows.{IsGood};
+ghost use Rattle.pl_executor.specs.OutboxViews.{sends_for, SomeRefuses, SameFor, Sends};
+ghost use Rattle.pl_executor.specs.Running.{Runs};
+
+use crate::outboxes::{Offered, Outboxes};
+use crate::part::Part;
+use pl_context::Outputs;
+use pl_event::{Envelope, Named};
+use pl_queue::Mailbox;
+use std::sync::Wait;
+
+/// The nodes of an executor, the list on which they put what they make, and what waits for others.
+#[derive(Drop)]
+pub struct Core<'a, W: Named, M: Mailbox<W> + Drop, N: Part<W> + Drop>
+where
+    M::Sender: Drop,
+{
+    /// The executor's number.
+    pub number: usize,
+    pub part: N,
+    pub outboxes: Outboxes<'a, W, M>,
+    pub work: Outputs,
+}
+
+impl<'a, W: Named, M: Mailbox<W> + Drop, N: Part<W> + Drop> Core<'a, W, M, N>
+where
+    M::Sender: Drop,
+{
+    /// Takes the front of the work list: a direct call, or an item for another executor, to its outbox. Where that refuses
+    /// it, the context that wrote it fails. False where the list is empty.
+    pub fn step(&mut self) -> bool
+        requires stands { N.stands self.old.part }
+        requires home { N.home self.old.part ≡ self.old.number }
+        requires places { HasPlaces self.old.work.stopped (N.lanes self.old.part) }
+        requires runs { Runs W.world self.old.number (N.target_of self.old.part) (N.writes self.old.part) (N.taken_of self.old.part) (N.came self.old.part) self.old.outboxes self.old.work }
+        requires why { N.was_refused self.old.part ≡ true → SomeRefuses self.old.outboxes }
+        ensures stands { N.stands self.new.part }
+        ensures home { N.home self.new.part ≡ self.new.number }
+        ensures places { HasPlaces self.new.work.stopped (N.lanes self.new.part) }
+        ensures runs { Runs W.world self.new.number (N.target_of self.new.part) (N.writes self.new.part) (N.taken_of self.new.part) (N.came self.new.part) self.new.outboxes self.new.work }
+        ensures why { N.was_refused self.new.part ≡ true → SomeRefuses self.new.outboxes }
+        ensures number { self.new.number ≡ self.old.number }
+        ensures routes { (l : Lane) → N.target_of self.new.part l ≡ N.target_of self.old.part l }
+        ensures writes { (l : Lane) → N.writes self.new.part l ≡ N.writes self.old.part l }
+        ensures count { N.count self.new.part ≡ N.count self.old.part }
+        ensures sends { (y : ℕ) → sends_for self.new.outboxes y ≡ sends_for self.old.outboxes y }
+        ensures taken { (l : Lane) → N.writes self.old.part l ≡ false → N.taken_of self.new.part l ≡ N.taken_of self.old.part l }
+        ensures empty { result ≡ false → self.new.work.items ≡ [] }
+    {
+        let Some(envelope) = self.work.next() else {
+            return false;
+        };
+        let target = self.part.target(envelope.lane);
+        if target == self.number {
+            self.part.take(envelope, &mut self.work);
+            return true;
+        }
+        let lane = envelope.lane;
+        if let Err(_refused) = self.outboxes.add(target, envelope) {
+            self.part.refuse(lane, &mut self.work);
+        }
+        true
+    }
+
+    /// An item of a lane that another executor writes is taken.
+    pub fn take(&mut self, task: Envelope)
+        requires stands { N.stands self.old.part }
+        requires home { N.home self.old.part ≡ self.old.number }
+        requires places { HasPlaces self.old.work.stopped (N.lanes self.old.part) }
+        requires runs { Runs W.world self.old.number (N.target_of self.old.part) (N.writes self.old.part) (N.taken_of self.old.part) (N.came self.old.part) self.old.outboxes self.old.work }
+        requires why { N.was_refused self.old.part ≡ true → SomeRefuses self.old.outboxes }
+        requires here { N.target_of self.old.part task.lane ≡ self.old.number }
+        requires foreign { N.writes self.old.part task.lane ≡ false }
+        requires number { task.number ≡ N.taken_of self.old.part task.lane }
+        requires good { IsGood W.world task }
+        ensures stands { N.stands self.new.part }
+        ensures home { N.home self.new.part ≡ self.new.number }
+        ensures places { HasPlaces self.new.work.stopped (N.lanes self.new.part) }
+        ensures runs { Runs W.world self.new.number (N.target_of self.new.part) (N.writes self.new.part) (N.taken_of self.new.part) (N.came self.new.part) self.new.outboxes self.new.work }
+        ensures why { N.was_refused self.new.part ≡ true → SomeRefuses self.new.outboxes }
+        ensures number { self.new.number ≡ self.old.number }
+        ensures routes { (l : Lane) → N.target_of self.new.part l ≡ N.target_of self.old.part l }
+        ensures writes { (l : Lane) → N.writes self.new.part l ≡ N.writes self.old.part l }
+        ensures count { N.count self.new.part ≡ N.count self.old.part }
+        ensures sends { (y : ℕ) → sends_for self.new.outboxes y ≡ sends_for self.old.outboxes y }
+        ensures taken { (l : Lane) → N.taken_of self.new.part l ≡ cond (same_lane l task.lane) (task.number + 1) (N.taken_of self.old.part l) }
+    {
+        self.part.take(task, &mut self.work);
+    }
+
+    /// Works the list off.
+    pub fn work_off<R: Wait>(&mut self, rt: &R)
+        requires stands { N.stands self.old.part }
+        requires home { N.home self.old.part ≡ self.old.number }
+        requires places { HasPlaces self.old.work.stopped (N.lanes self.old.part) }
+        requires runs { Runs W.world self.old.number (N.target_of self.old.part) (N.writes self.old.part) (N.taken_of self.old.part) (N.came self.old.part) self.old.outboxes self.old.work }
+        requires why { N.was_refused self.old.part ≡ true → SomeRefuses self.old.outboxes }
+        ensures stands { N.stands self.new.part }
+        ensures home { N.home self.new.part ≡ self.new.number }
+        ensures places { HasPlaces self.new.work.stopped (N.lanes self.new.part) }
+        ensures runs { Runs W.world self.new.number (N.target_of self.new.part) (N.writes self.new.part) (N.taken_of self.new.part) (N.came self.new.part) self.new.outboxes self.new.work }
+        ensures why { N.was_refused self.new.part ≡ true → SomeRefuses self.new.outboxes }
+        ensures number { self.new.number ≡ self.old.number }
+        ensures routes { (l : Lane) → N.target_of self.new.part l ≡ N.target_of self.old.part l }
+        ensures writes { (l : Lane) → N.writes self.new.part l ≡ N.writes self.old.part l }
+        ensures count { N.count self.new.part ≡ N.count self.old.part }
+        ensures sends { (y : ℕ) → sends_for self.new.outboxes y ≡ sends_for self.old.outboxes y }
+        ensures taken { (l : Lane) → N.writes self.old.part l ≡ false → N.taken_of self.new.part l ≡ N.taken_of self.old.part l }
+        ensures empty { self.new.work.items ≡ [] }
+    {
+        for _ in rt.forever() {
+            if !self.step() {
+                return;
+            }
+        }
+        unreachable!()
+    }
+
+    /// A channel's next read step, with the direct calls that follow. False where it is not enabled.
+    pub fn read<R: Wait>(&mut self, rt: &R, channel: usize) -> bool
+        requires there { channel < N.count self.old.part }
+        requires stands { N.stands self.old.part }
+        requires home { N.home self.old.part ≡ self.old.number }
+        requires places { HasPlaces self.old.work.stopped (N.lanes self.old.part) }
+        requires runs { Runs W.world self.old.number (N.target_of self.old.part) (N.writes self.old.part) (N.taken_of self.old.part) (N.came self.old.part) self.old.outboxes self.old.work }
+        requires why { N.was_refused self.old.part ≡ true → SomeRefuses self.old.outboxes }
+        requires empty { self.old.work.items ≡ [] }
+        ensures enabled { N.may_read self.old.part channel result }
+        ensures idle { result ≡ false → self.new ≡ self.old }
+        ensures stands { N.stands self.new.part }
+        ensures home { N.home self.new.part ≡ self.new.number }
+        ensures places { HasPlaces self.new.work.stopped (N.lanes self.new.part) }
+        ensures runs { Runs W.world self.new.number (N.target_of self.new.part) (N.writes self.new.part) (N.taken_of self.new.part) (N.came self.new.part) self.new.outboxes self.new.work }
+        ensures why { N.was_refused self.new.part ≡ true → SomeRefuses self.new.outboxes }
+        ensures number { self.new.number ≡ self.old.number }
+        ensures routes { (l : Lane) → N.target_of self.new.part l ≡ N.target_of self.old.part l }
+        ensures writes { (l : Lane) → N.writes self.new.part l ≡ N.writes self.old.part l }
+        ensures count { N.count self.new.part ≡ N.count self.old.part }
+        ensures sends { (y : ℕ) → sends_for self.new.outboxes y ≡ sends_for self.old.outboxes y }
+        ensures taken { (l : Lane) → N.writes self.old.part l ≡ false → N.taken_of self.new.part l ≡ N.taken_of self.old.part l }
+        ensures empty { self.new.work.items ≡ [] }
+    {
+        if !self.part.read(channel, &mut self.work) {
+            return false;
+        }
+        self.work_off(rt);
+        true
+    }
+
+    /// A write to a channel's transport, with the direct calls that follow. False where it is not enabled.
+    pub fn write<R: Wait>(&mut self, rt: &R, channel: usize) -> bool
+        requires there { channel < N.count self.old.part }
+        requires stands { N.stands self.old.part }
+        requires home { N.home self.old.part ≡ self.old.number }
+        requires places { HasPlaces self.old.work.stopped (N.lanes self.old.part) }
+        requires runs { Runs W.world self.old.number (N.target_of self.old.part) (N.writes self.old.part) (N.taken_of self.old.part) (N.came self.old.part) self.old.outboxes self.old.work }
+        requires why { N.was_refused self.old.part ≡ true → SomeRefuses self.old.outboxes }
+        requires empty { self.old.work.items ≡ [] }
+        ensures enabled { N.may_write self.old.part channel result }
+        ensures idle { result ≡ false → self.new ≡ self.old }
+        ensures stands { N.stands self.new.part }
+        ensures home { N.home self.new.part ≡ self.new.number }
+        ensures places { HasPlaces self.new.work.stopped (N.lanes self.new.part) }
+        ensures runs { Runs W.world self.new.number (N.target_of self.new.part) (N.writes self.new.part) (N.taken_of self.new.part) (N.came self.new.part) self.new.outboxes self.new.work }
+        ensures why { N.was_refused self.new.part ≡ true → SomeRefuses self.new.outboxes }
+        ensures number { self.new.number ≡ self.old.number }
+        ensures routes { (l : Lane) → N.target_of self.new.part l ≡ N.target_of self.old.part l }
+        ensures writes { (l : Lane) → N.writes self.new.part l ≡ N.writes self.old.part l }
+        ensures count { N.count self.new.part ≡ N.count self.old.part }
+        ensures sends { (y : ℕ) → sends_for self.new.outboxes y ≡ sends_for self.old.outboxes y }
+        ensures taken { (l : Lane) → N.writes self.old.part l ≡ false → N.taken_of self.new.part l ≡ N.taken_of self.old.part l }
+        ensures empty { self.new.work.items ≡ [] }
+    {
+        if !self.part.write(channel, &mut self.work) {
+            return false;
+        }
+        self.work_off(rt);
+        true
+    }
+
+    /// Hands over the oldest envelope whose queue has room: each queue is tried once. The target to which it went, or None
+    /// where nothing waits but for queues that are full.
+    pub fn hand<R: Wait>(&mut self, rt: &R) -> Option<usize>
+        requires runs { Runs W.world self.old.number (N.target_of self.old.part) (N.writes self.old.part) (N.taken_of self.old.part) (N.came self.old.part) self.old.outboxes self.old.work }
+        requires why { N.was_refused self.old.part ≡ true → SomeRefuses self.old.outboxes }
+        ensures runs { Runs W.world self.new.number (N.target_of self.new.part) (N.writes self.new.part) (N.taken_of self.new.part) (N.came self.new.part) self.new.outboxes self.new.work }
+        ensures why { N.was_refused self.new.part ≡ true → SomeRefuses self.new.outboxes }
+        ensures part { self.new.part ≡ self.old.part }
+        ensures number { self.new.number ≡ self.old.number }
+        ensures work { self.new.work ≡ self.old.work }
+        ensures handed { IfSome result (λ target. Sends self.old.outboxes target self.new.outboxes) }
+        ensures none { IfNone result ((y : ℕ) → SameFor self.old.outboxes self.new.outboxes y) }
+    {
+        self.outboxes.forget_tries();
+        for _ in rt.forever() {
+            let target = self.outboxes.oldest()?;
+            if let Offered::Handed = self.outboxes.offer(rt, target) {
+                return Some(target);
+            }
+        }
+        unreachable!()
+    }
+}

@@ -1,0 +1,325 @@
+//! An executor, which runs its tasks one after another.
+
+ghost use Rattle.std.specs.Prelude.{◌≡◌, ◌≢◌, ◌⊎◌, ◌+◌, ◌-◌, ◌<◌, ◌≤◌, ◌^◌, ℕ, min, [], IfSome, IfNone, true, false};
+ghost use Rattle.pl_event.specs.declared.envelopes.Envelope.{Envelope};
+ghost use Rattle.pl_queue.specs.Views.{after_take};
+ghost use Rattle.pl_context.specs.Stops.{HasPlaces};
+ghost use Rattle.pl_words.specs.declared.status.Status.TheVariants.{Accepting};
+ghost use Rattle.pl_words.specs.Phases.{rank};
+ghost use Rattle.pl_words.specs.Admissions.{OwnerSeatView, new_owner_seat};
+ghost use Rattle.pl_executor.specs.declared.executors.Turn.TheVariants.{Worked, Idle, Done};
+ghost use Rattle.pl_executor.specs.OutboxViews.{sends_for, waits_for, is_closed, SomeRefuses, SameFor, Sends};
+ghost use Rattle.pl_executor.specs.Running.{Runs, IsTaking};
+ghost use Rattle.pl_executor.specs.Turning.{SendsAtMostOne, TakesAtMostOne, IsStill};
+
+use crate::cores::Core;
+use crate::finished::Finished;
+use crate::gate::Gate;
+use crate::inbox::Inbox;
+use crate::part::Part;
+use crate::start::Start;
+use crossbeam_utils::sync::Parker;
+use pl_event::Named;
+use pl_queue::Mailbox;
+use pl_words::OwnerSeat;
+use std::marker::Model;
+use std::sync::Wait;
+
+/// What became of a turn.
+#[derive(Clone, Copy, Debug, PartialEq, Eq)]
+pub enum Turn {
+    /// Something was handed over, taken, read or written.
+    Worked,
+    /// Nothing was.
+    Idle,
+    /// Nothing was, its queue is closed, and nothing waits for others.
+    Done,
+}
+
+/// An executor between two of its steps: its nodes with what waits for others, and its own queue with the right to close it.
+/// Nothing is on its work list.
+#[derive(Drop)]
+pub struct Executor<'a, W: Named, M: Mailbox<W> + Drop, N: Part<W> + Drop>
+where
+    M::Sender: Drop,
+    M::Taker: Drop,
+{
+    core: Core<'a, W, M, N>,
+    inbox: &'a Inbox<W, M>,
+    taker: M::Taker,
+    owner: OwnerSeat,
+    /// The envelopes taken from its queue, up to 2^64 - 1.
+    run: u64,
+    /// Its queue was closed, with as many.
+    is_closed: bool,
+    /// The number of the next turn; 2^64 - 1 stays.
+    turns: u64,
+}
+
+impl<'a, W: Named, M: Mailbox<W> + Drop, N: Part<W> + Drop> Model for Executor<'a, W, M, N>
+where
+    M::Sender: Drop,
+    M::Taker: Drop,
+{
+    ghost use Rattle.std.specs.Prelude.{◌≡◌, ◌<◌, ◌^◌, [], true};
+    ghost use Rattle.pl_executor.specs.OutboxViews.{SomeRefuses};
+    ghost use Rattle.pl_context.specs.Stops.{HasPlaces};
+    ghost use Rattle.pl_executor.specs.Running.{ExecutorView, Runs, IsTaking, IsCounting};
+
+    ghost Value = { ExecutorView N };
+
+    ghost view = { λ e. record { number = e.core.number; part = e.core.part; outboxes = e.core.outboxes; takes = M.takes_of e.taker; owner = e.owner; turns = e.turns } };
+
+    ghost invariant = { λ e. N.stands e.core.part
+        × (N.home e.core.part ≡ e.core.number)
+        × HasPlaces e.core.work.stopped (N.lanes e.core.part)
+        × Runs W.world e.core.number (N.target_of e.core.part) (N.writes e.core.part) (N.taken_of e.core.part) (N.came e.core.part) e.core.outboxes e.core.work
+        × (e.core.work.items ≡ [])
+        × (N.was_refused e.core.part ≡ true → SomeRefuses e.core.outboxes)
+        × M.is_taker e.inbox.now.mailbox e.taker
+        × IsTaking e.core.number (N.target_of e.core.part) (N.writes e.core.part) (N.taken_of e.core.part) (M.takes_of e.taker).counts
+        × (e.owner.name ≡ e.inbox.now.admission.name)
+        × IsCounting e.owner e.is_closed e.run (M.takes_of e.taker).pops
+        × (e.core.number < 2 ^ 16) };
+}
+
+impl<'a, W: Named, M: Mailbox<W> + Drop, N: Part<W> + Drop> Executor<'a, W, M, N>
+where
+    M::Sender: Drop,
+    M::Taker: Drop,
+{
+    /// An executor with these nodes and outboxes, and the taker and the owner's seat of its own inbox, from which nothing was
+    /// taken, and which is accepting. What the taker is to take first is the next of its lane for the nodes.
+    pub fn new(
+        core: Core<'a, W, M, N>,
+        inbox: &'a Inbox<W, M>,
+        taker: M::Taker,
+        owner: OwnerSeat,
+    ) -> Self
+        requires stands { N.stands core.part }
+        requires home { N.home core.part ≡ core.number }
+        requires places { HasPlaces core.work.stopped (N.lanes core.part) }
+        requires runs { Runs W.world core.number (N.target_of core.part) (N.writes core.part) (N.taken_of core.part) (N.came core.part) core.outboxes core.work }
+        requires why { N.was_refused core.part ≡ true → SomeRefuses core.outboxes }
+        requires empty { core.work.items ≡ [] }
+        requires taker { M.is_taker inbox.now.mailbox taker }
+        requires taking { IsTaking core.number (N.target_of core.part) (N.writes core.part) (N.taken_of core.part) (M.takes_of taker).counts }
+        requires fresh { (M.takes_of taker).pops ≡ 0 }
+        requires owner { owner ≡ new_owner_seat inbox.now.admission.name }
+        requires number { core.number < 2 ^ 16 }
+        ensures { result ≡ record { number = core.entry.number; part = core.entry.part; outboxes = core.entry.outboxes; takes = M.takes_of taker; owner = owner; turns = 0 } }
+    {
+        Executor {
+            core,
+            inbox,
+            taker,
+            owner,
+            run: 0,
+            is_closed: false,
+            turns: 0,
+        }
+    }
+
+    /// One turn, of which the gate is told first: at most one envelope is handed over and one task is run, and each channel
+    /// makes at most one read step and one write. Where nothing moved and all here has ended, it closes its queue if it can.
+    pub fn turn<R: Wait, G: Gate>(&mut self, rt: &R, gate: &G) -> Turn
+        ensures number { self.new.number ≡ self.old.number }
+        ensures turns { self.new.turns ≡ min (self.old.turns + 1) (2 ^ 64 - 1) }
+        // The gate was told of this turn.
+        ensures entered { G.was_entered gate.now self.old.number self.old.turns }
+        ensures takes { TakesAtMostOne self.old self.new }
+        ensures sends { SendsAtMostOne self.old.outboxes self.new.outboxes }
+        ensures idle { result ≢ Worked → IsStill self.old self.new × ((c : ℕ) → c < N.count self.new.part → N.may_read self.new.part c false × N.may_write self.new.part c false) }
+        ensures done { result ≡ Done → (is_closed self.new.owner.phase ≡ true) × N.are_over self.new.part × ((y : ℕ) → waits_for self.new.outboxes y ≡ []) }
+        // It begins to close, and closes, only where all here has ended.
+        ensures closes { (self.new.owner ≡ self.old.owner) ⊎ N.are_over self.new.part }
+        ensures later { rank self.old.owner.phase ≤ rank self.new.owner.phase }
+        ensures count { is_closed self.new.owner.phase ≡ true → self.new.owner.run ≡ self.new.takes.pops }
+    {
+        gate.enter(self.core.number as u16, self.turns);
+        let has_moved = self.moves(rt, gate);
+        self.turns = self.turns.saturating_add(1);
+        if has_moved {
+            return Turn::Worked;
+        }
+        if self.close() && self.is_drained() {
+            return Turn::Done;
+        }
+        Turn::Idle
+    }
+
+    /// What a turn moves, once the gate was told of it. False where nothing was enabled.
+    fn moves<R: Wait, G: Gate>(&mut self, rt: &R, gate: &G) -> bool
+        requires entered { G.was_entered gate.now self.old.number self.old.turns }
+        ensures number { self.new.number ≡ self.old.number }
+        ensures owner { self.new.owner ≡ self.old.owner }
+        ensures turns { self.new.turns ≡ self.old.turns }
+        ensures takes { TakesAtMostOne self.old self.new }
+        ensures sends { SendsAtMostOne self.old.outboxes self.new.outboxes }
+        ensures idle { result ≡ false → IsStill self.old self.new × ((c : ℕ) → c < N.count self.new.part → N.may_read self.new.part c false × N.may_write self.new.part c false) }
+    {
+        let handed = self.hand(rt).is_some();
+        let ran = self.run_task(rt);
+        let served = self.serve_all(rt);
+        handed || ran || served
+    }
+
+    /// Takes the front of its queue, wakes those that waited for room there, and makes all direct calls that follow. False
+    /// where the queue was empty, or is closed.
+    pub fn run_task<R: Wait>(&mut self, rt: &R) -> bool
+        ensures number { self.new.number ≡ self.old.number }
+        ensures task { result ≡ true → (is_closed self.old.owner.phase ≡ false) × (x : Envelope) × (self.new.takes ≡ after_take self.old.takes x) }
+        ensures none { result ≡ false → self.new ≡ self.old }
+        ensures sends { (y : ℕ) → sends_for self.new.outboxes y ≡ sends_for self.old.outboxes y }
+        ensures owner { self.new.owner ≡ self.old.owner }
+        ensures turns { self.new.turns ≡ self.old.turns }
+    {
+        if self.is_closed {
+            return false;
+        }
+        match self.inbox.mailbox.take::<R>(rt, &mut self.taker) {
+            None => false,
+            Some(envelope) => {
+                self.core.outboxes.ring(self.inbox.bell.take_waiting());
+                self.run = self.run.saturating_add(1);
+                self.core.take(envelope);
+                self.core.work_off(rt);
+                true
+            }
+        }
+    }
+
+    /// Hands over the oldest envelope whose queue has room. The executor to which it went, or None where nothing waits but
+    /// for queues that are full.
+    pub fn hand<R: Wait>(&mut self, rt: &R) -> Option<usize>
+        ensures same { self.new ≡ record self.old { outboxes = self.new.outboxes } }
+        ensures handed { IfSome result (λ target. Sends self.old.outboxes target self.new.outboxes) }
+        ensures none { IfNone result ((y : ℕ) → SameFor self.old.outboxes self.new.outboxes y) }
+    {
+        self.core.hand(rt)
+    }
+
+    /// For each channel one read step and one write. False where none was enabled.
+    fn serve_all<R: Wait>(&mut self, rt: &R) -> bool
+        ensures number { self.new.number ≡ self.old.number }
+        ensures takes { self.new.takes ≡ self.old.takes }
+        ensures sends { (y : ℕ) → sends_for self.new.outboxes y ≡ sends_for self.old.outboxes y }
+        ensures owner { self.new.owner ≡ self.old.owner }
+        ensures turns { self.new.turns ≡ self.old.turns }
+        ensures idle { result ≡ false → (self.new ≡ self.old) × ((c : ℕ) → c < N.count self.new.part → N.may_read self.new.part c false × N.may_write self.new.part c false) }
+    {
+        let mut has_moved = false;
+        for channel in 0..self.channels() {
+            if self.serve(rt, channel) {
+                has_moved = true;
+            }
+        }
+        has_moved
+    }
+
+    /// How many channels there are.
+    fn channels(&self) -> usize
+        ensures { result ≡ N.count self.now.part }
+    {
+        self.core.part.channels()
+    }
+
+    /// One read step and one write of a channel. False where neither was enabled.
+    fn serve<R: Wait>(&mut self, rt: &R, channel: usize) -> bool
+        requires there { channel < N.count self.old.part }
+        ensures number { self.new.number ≡ self.old.number }
+        ensures count { N.count self.new.part ≡ N.count self.old.part }
+        ensures takes { self.new.takes ≡ self.old.takes }
+        ensures sends { (y : ℕ) → sends_for self.new.outboxes y ≡ sends_for self.old.outboxes y }
+        ensures owner { self.new.owner ≡ self.old.owner }
+        ensures turns { self.new.turns ≡ self.old.turns }
+        ensures idle { result ≡ false → (self.new ≡ self.old) × N.may_read self.old.part channel false × N.may_write self.old.part channel false }
+    {
+        let has_read = self.core.read(rt, channel);
+        let has_written = self.core.write(rt, channel);
+        has_read || has_written
+    }
+
+    /// Begins to close its queue, and closes it where that has taken as many as were admitted. It does neither where not all
+    /// here has ended. True where the queue is closed and all has ended.
+    fn close(&mut self) -> bool
+        ensures same { self.new ≡ record self.old { owner = self.new.owner } }
+        ensures over { N.are_over self.old.part ⊎ ((result ≡ false) × (self.new.owner ≡ self.old.owner)) }
+        ensures begun { N.are_over self.old.part → (result ≡ is_closed self.new.owner.phase) × (self.new.owner.phase ≢ Accepting) }
+        ensures later { rank self.old.owner.phase ≤ rank self.new.owner.phase }
+        ensures count { is_closed self.new.owner.phase ≡ true → self.new.owner.run ≡ self.new.takes.pops }
+    {
+        if !self.core.part.has_ended() {
+            return false;
+        }
+        self.inbox.admission.begin_close(&mut self.owner);
+        match self.inbox.admission.finish(&mut self.owner, self.run) {
+            Ok(()) => {
+                self.is_closed = true;
+                true
+            }
+            Err(_still_open) => false,
+        }
+    }
+
+    /// Runs its turns until it is done, and gives its nodes. It waits for the start before the first one; None where it is
+    /// told to leave. Where a turn was idle it rests on the parker of its inbox: until something is sent to it, or a queue
+    /// that it found full has room.
+    pub fn run<R: Wait, G: Gate>(
+        mut self,
+        rt: &R,
+        gate: &G,
+        start: &Start,
+        parker: Parker,
+    ) -> Option<Finished<W, N>>
+        ensures { IfSome result (λ finished. N.home finished ≡ self.entry.number) }
+    {
+        if !start.wait(rt) {
+            return None;
+        }
+        // Before it rests it notes where it waits for room, and looks once more.
+        let mut is_noted = false;
+        for _ in rt.forever() {
+            match self.turn(rt, gate) {
+                Turn::Worked => is_noted = false,
+                Turn::Done => return Some(self.into_finished()),
+                Turn::Idle => {
+                    is_noted = !is_noted && self.note_waiting();
+                    if !is_noted {
+                        parker.park(rt);
+                    }
+                }
+            }
+        }
+        unreachable!()
+    }
+
+    /// Its number.
+    pub(crate) fn number(&self) -> usize
+        ensures { result ≡ self.now.number }
+    {
+        self.core.number
+    }
+
+    /// Notes at each queue that was full in the last turn that it waits for room. False where none was.
+    fn note_waiting(&self) -> bool {
+        self.core.outboxes.note_waiting(self.core.number)
+    }
+
+    /// Its nodes, all of which are over.
+    fn into_finished(self) -> Finished<W, N>
+        requires over { N.are_over self.part }
+        ensures { N.home result ≡ self.entry.number }
+    {
+        let Executor { core, .. } = self;
+        let Core { part, .. } = core;
+        Finished::new(part)
+    }
+
+    /// Whether nothing waits for others.
+    fn is_drained(&self) -> bool
+        ensures { result ≡ true → (y : ℕ) → waits_for self.now.outboxes y ≡ [] }
+    {
+        self.core.outboxes.is_empty()
+    }
+}

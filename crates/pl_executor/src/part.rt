@@ -1,0 +1,133 @@
+//! What an executor runs: contexts, tails and heads.
+
+ghost use Rattle.std.specs.Prelude.{◌≡◌, ◌+◌, ◌<◌, ℕ, Bool, false, true, List, cond};
+ghost use Rattle.pl_event.specs.declared.envelopes.Lane.{Lane};
+ghost use Rattle.pl_event.specs.Hops.{same_lane};
+ghost use Rattle.pl_context.specs.Stops.{HasPlaces, AreAmong};
+ghost use Rattle.pl_flow.specs.Flows.{Point, IsGood};
+ghost use Rattle.pl_flow.specs.Makes.{Makes};
+
+use pl_context::Outputs;
+use pl_event::{Envelope, Lane, Named};
+
+/// The nodes of an executor. What they make of an item they put on a work list, lane by lane the next items of that lane.
+pub trait Part<W: Named>: Sized {
+    /// The executor that these nodes are on.
+    ghost home: { Self → ℕ };
+
+    /// The lanes for which they need places on a work list.
+    ghost lanes: { Self → List Lane };
+
+    /// The executor that a lane enters: the nodes' own only where one of them is entered.
+    ghost target_of: { Self → Lane → ℕ };
+
+    /// Whether one of these nodes writes a lane.
+    ghost writes: { Self → Lane → Bool };
+
+    /// How many items of a lane were taken.
+    ghost taken_of: { Self → Lane → ℕ };
+
+    /// How far a lane was made.
+    ghost came: { Self → Lane → Point };
+
+    /// Whether one of them has failed by `refuse`.
+    ghost was_refused: { Self → Bool };
+
+    /// How many channels there are.
+    ghost count: { Self → ℕ };
+
+    /// Whether the next read step of a channel, or a write to its transport, is enabled: its head is one of these nodes,
+    /// and a step is left and not held, or a flushed byte waits and the head has not failed.
+    ghost may_read: { Self → ℕ → Bool → Type 0 };
+
+    ghost may_write: { Self → ℕ → Bool → Type 0 };
+
+    /// Each context, tail and head of these has ended or failed, no read step is left, and no flushed byte is left.
+    ghost are_over: { Self → Type 0 };
+
+    /// What holds of them between two calls.
+    ghost stands: { Self → Type 0 };
+
+    /// The executor that a lane enters.
+    fn target(&self, lane: Lane) -> usize
+        ensures { result ≡ target_of self.now lane };
+
+    /// The node that the envelope's lane enters takes it.
+    fn take(&mut self, envelope: Envelope, work: &mut Outputs)
+        requires stands { stands self.old }
+        requires here { target_of self.old envelope.lane ≡ home self.old }
+        requires number { envelope.number ≡ taken_of self.old envelope.lane }
+        requires good { IsGood W.world envelope }
+        requires places { HasPlaces work.old.stopped (lanes self.old) }
+        ensures stands { stands self.new }
+        ensures routes { (l : Lane) → target_of self.new l ≡ target_of self.old l }
+        ensures writes { (l : Lane) → writes self.new l ≡ writes self.old l }
+        ensures taken { (l : Lane) → taken_of self.new l ≡ cond (same_lane l envelope.lane) (envelope.number + 1) (taken_of self.old l) }
+        ensures home { home self.new ≡ home self.old }
+        ensures lanes { lanes self.new ≡ lanes self.old }
+        ensures count { count self.new ≡ count self.old }
+        ensures placed { (hops : List Lane) → AreAmong (lanes self.old) hops → HasPlaces work.old.stopped hops → HasPlaces work.new.stopped hops }
+        ensures refused { was_refused self.new ≡ was_refused self.old }
+        ensures made { Makes W.world (writes self.old) (came self.old) (came self.new) work.old work.new };
+
+    /// Nothing more of a lane is accepted: the context that writes it fails. A flags lane, and a lane that a head writes,
+    /// go on, and what they bring is refused again.
+    fn refuse(&mut self, lane: Lane, work: &mut Outputs)
+        requires stands { stands self.old }
+        requires places { HasPlaces work.old.stopped (lanes self.old) }
+        ensures stands { stands self.new }
+        ensures routes { (l : Lane) → target_of self.new l ≡ target_of self.old l }
+        ensures writes { (l : Lane) → writes self.new l ≡ writes self.old l }
+        ensures taken { (l : Lane) → taken_of self.new l ≡ taken_of self.old l }
+        ensures home { home self.new ≡ home self.old }
+        ensures lanes { lanes self.new ≡ lanes self.old }
+        ensures count { count self.new ≡ count self.old }
+        ensures placed { (hops : List Lane) → AreAmong (lanes self.old) hops → HasPlaces work.old.stopped hops → HasPlaces work.new.stopped hops }
+        ensures made { Makes W.world (writes self.old) (came self.old) (came self.new) work.old work.new };
+
+    /// How many channels there are, those too of which no node is here.
+    fn channels(&self) -> usize
+        ensures { result ≡ count self.now };
+
+    /// The head of a channel makes its next read step, where that is enabled. False where it made none.
+    fn read(&mut self, channel: usize, work: &mut Outputs) -> bool
+        requires there { channel < count self.old }
+        requires stands { stands self.old }
+        requires places { HasPlaces work.old.stopped (lanes self.old) }
+        ensures enabled { may_read self.old channel result }
+        ensures idle { result ≡ false → (self.new ≡ self.old) × (work.new ≡ work.old) }
+        ensures stands { stands self.new }
+        ensures routes { (l : Lane) → target_of self.new l ≡ target_of self.old l }
+        ensures writes { (l : Lane) → writes self.new l ≡ writes self.old l }
+        ensures taken { (l : Lane) → taken_of self.new l ≡ taken_of self.old l }
+        ensures home { home self.new ≡ home self.old }
+        ensures lanes { lanes self.new ≡ lanes self.old }
+        ensures count { count self.new ≡ count self.old }
+        ensures placed { (hops : List Lane) → AreAmong (lanes self.old) hops → HasPlaces work.old.stopped hops → HasPlaces work.new.stopped hops }
+        ensures refused { was_refused self.new ≡ was_refused self.old }
+        ensures made { Makes W.world (writes self.old) (came self.old) (came self.new) work.old work.new };
+
+    /// The head of a channel makes a write to its transport, where that is enabled. False where it made none.
+    fn write(&mut self, channel: usize, work: &mut Outputs) -> bool
+        requires there { channel < count self.old }
+        requires stands { stands self.old }
+        requires places { HasPlaces work.old.stopped (lanes self.old) }
+        ensures enabled { may_write self.old channel result }
+        ensures idle { result ≡ false → (self.new ≡ self.old) × (work.new ≡ work.old) }
+        ensures stands { stands self.new }
+        ensures routes { (l : Lane) → target_of self.new l ≡ target_of self.old l }
+        ensures writes { (l : Lane) → writes self.new l ≡ writes self.old l }
+        ensures taken { (l : Lane) → taken_of self.new l ≡ taken_of self.old l }
+        ensures home { home self.new ≡ home self.old }
+        ensures lanes { lanes self.new ≡ lanes self.old }
+        ensures count { count self.new ≡ count self.old }
+        ensures placed { (hops : List Lane) → AreAmong (lanes self.old) hops → HasPlaces work.old.stopped hops → HasPlaces work.new.stopped hops }
+        ensures refused { was_refused self.new ≡ was_refused self.old }
+        ensures made { Makes W.world (writes self.old) (came self.old) (came self.new) work.old work.new };
+
+    /// Whether each of them has ended or failed, and no read step and no flushed byte is left.
+    fn has_ended(&self) -> bool
+        requires stands { stands self.now }
+        ensures over { result ≡ true → are_over self.now }
+        ensures not_over { result ≡ false → are_over self.now → ⊥ };
+}

@@ -1,0 +1,170 @@
+//! Executors in threads of their own, as many as a list has.
+
+ghost use Rattle.std.specs.Prelude.{◌≡◌, [], map, IfOk, IfSome};
+
+use crate::executors::Executor;
+use crate::finished::Finished;
+use crate::gate::Gate;
+use crate::part::Part;
+use crate::start::Start;
+use crossbeam_utils::sync::Parker;
+use pl_event::Named;
+use pl_queue::Mailbox;
+use std::alloc::{AllocError, Global};
+use std::sync::Wait;
+use std::thread;
+use std::thread::{PromisedHandle, Scope, Threads};
+
+/// Why executors did not run. None of them made a turn.
+#[derive(Clone, Copy, Debug, PartialEq, Eq)]
+pub enum RunFault {
+    /// Out of memory.
+    Memory,
+    /// A thread could not be started.
+    Spawn,
+}
+
+impl From<AllocError> for RunFault {
+    fn from(_error: AllocError) -> RunFault {
+        RunFault::Memory
+    }
+}
+
+/// The nodes that a thread gives are those of the executor of this number.
+#[derive(Clone, Copy, Debug, PartialEq, Eq)]
+struct Numbered {
+    number: usize,
+}
+
+impl<W: Named, N: Part<W> + Drop> thread::Promise<Option<Finished<W, N>>> for Numbered {
+    ghost use Rattle.std.specs.Prelude.{◌≡◌, IfSome};
+
+    ghost kept_by = { λ p r. IfSome r (λ finished. N.home finished ≡ p.number) };
+}
+
+/// Starts each executor in a thread of its own. They wait there until they are told to begin.
+fn start_each<
+    's,
+    'a: 's,
+    E,
+    W: Named + Send + Sync + 's,
+    M: Mailbox<W> + Drop + Send + Sync + 's,
+    N: Part<W> + Drop + Send + 's,
+    G: Gate + Sync + 's,
+    R: Threads + Wait + Sync + 's,
+>(
+    rt: &'s R,
+    alloc: Global,
+    scope: &'s Scope<'s, E>,
+    gate: &'s G,
+    start: &'s Start,
+    executors: Vec<(Executor<'a, W, M, N>, Parker)>,
+) -> Result<Vec<PromisedHandle<Option<Finished<W, N>>, Numbered>>, RunFault>
+where
+    M::Sender: Drop + Send + 's,
+    M::Taker: Drop + Send + 's,
+    ensures { IfOk result (λ handles. map (λ h. h.promise.number) handles.items ≡ map (λ e. e.0.number) executors.entry.items) }
+{
+    let mut handles = Vec::with_capacity(alloc, executors.len())?;
+    for (executor, parker) in executors {
+        let promise = Numbered {
+            number: executor.number(),
+        };
+        let spawned = scope.spawn_with(
+            promise,
+            move || -> Option<Finished<W, N>>
+                ensures { IfSome result (λ finished. N.home finished ≡ executor.entry.number) }
+            { executor.run(rt, gate, start, parker) },
+        );
+        match spawned {
+            Ok(handle) => handles.push(handle).map_err(AllocError::from)?,
+            Err(_) => return Err(RunFault::Spawn),
+        }
+    }
+    Ok(handles)
+}
+
+/// Starts each executor in a thread of its own, and tells all to begin, or to leave where one could not be started.
+fn start_all<
+    's,
+    'a: 's,
+    E,
+    W: Named + Send + Sync + 's,
+    M: Mailbox<W> + Drop + Send + Sync + 's,
+    N: Part<W> + Drop + Send + 's,
+    G: Gate + Sync + 's,
+    R: Threads + Wait + Sync + 's,
+>(
+    rt: &'s R,
+    alloc: Global,
+    scope: &'s Scope<'s, E>,
+    gate: &'s G,
+    start: &'s Start,
+    executors: Vec<(Executor<'a, W, M, N>, Parker)>,
+) -> Result<Vec<PromisedHandle<Option<Finished<W, N>>, Numbered>>, RunFault>
+where
+    M::Sender: Drop + Send + 's,
+    M::Taker: Drop + Send + 's,
+    ensures { IfOk result (λ handles. map (λ h. h.promise.number) handles.items ≡ map (λ e. e.0.number) executors.entry.items) }
+{
+    let handles = start_each(rt, alloc, scope, gate, start, executors);
+    start.tell(handles.is_ok());
+    handles
+}
+
+/// What all executors leave, in their order, in a list that has room for it.
+fn join_all<W: Named, N: Part<W> + Drop, R: Threads>(
+    rt: &R,
+    handles: Vec<PromisedHandle<Option<Finished<W, N>>, Numbered>>,
+    mut all: Vec<Finished<W, N>>,
+) -> Result<Vec<Finished<W, N>>, RunFault>
+    requires { all.items ≡ [] }
+    ensures { IfOk result (λ all. map (λ f. N.home f) all.items ≡ map (λ h. h.promise.number) handles.items) }
+{
+    for handle in handles {
+        let Some(finished) = handle.join(rt) else {
+            return Err(RunFault::Spawn);
+        };
+        all.push(finished).map_err(AllocError::from)?;
+    }
+    Ok(all)
+}
+
+/// Runs each executor, with the parker of its inbox, in a thread of its own, and gives what they leave, in their order. No
+/// executor makes a turn before all threads were started. All threads that were started have ended when it answers.
+///
+/// Errors: `Memory`, where memory is refused for a list; `Spawn`, where a thread could not be started. No executor has made a
+/// turn then.
+pub fn run_all<
+    'a,
+    W: Named + Send + Sync,
+    M: Mailbox<W> + Drop + Send + Sync,
+    N: Part<W> + Drop + Send,
+    G: Gate + Sync,
+    R: Threads + Wait + Sync,
+>(
+    rt: &R,
+    alloc: Global,
+    gate: &G,
+    executors: Vec<(Executor<'a, W, M, N>, Parker)>,
+) -> Result<Vec<Finished<W, N>>, RunFault>
+where
+    M::Sender: Drop + Send,
+    M::Taker: Drop + Send,
+    ensures { IfOk result (λ all. map (λ f. N.home f) all.items ≡ map (λ e. e.0.number) executors.entry.items) }
+{
+    let all = Vec::with_capacity(alloc, executors.len())?;
+    let start = Start::new();
+    let start = &start;
+    thread::scope(
+        thread::scope_env(),
+        rt,
+        |scope| -> Result<Vec<Finished<W, N>>, RunFault>
+            requires { all.items ≡ [] }
+            ensures { IfOk result (λ all. map (λ f. N.home f) all.items ≡ map (λ e. e.0.number) executors.entry.items) }
+        {
+            let handles = start_all(rt, alloc, scope, gate, start, executors)?;
+            join_all(rt, handles, all)
+        },
+    )
+}

@@ -1,0 +1,33 @@
+use Rattle.std.proofs.Common.{◌≡◌, ◌<◌, get_or, length, not, sym, ◌∙◌, arith, ℕ}
+use Rattle.std.specs.Prelude.{◌==◌}
+use Rattle.pl_part.proofs.TakenSlots.{taken-more, left-more, behind-more, of-all}
+use Rattle.pl_part.proofs.shares.take_contexts.Goals as goal
+
+pub loop-hop-preserved : goal.loop-hop-preserved
+loop-hop-preserved g c =
+    let before = c.loop-hop.invariant in
+    let h = c.loop-hop.hop in
+    let now = c.loop-hop.contexts in
+    let old = c.args.contexts.now in
+    let wanted = (λ (k : ℕ). get_or c.args.executors.now k 0 == c.args.executor) in
+    let within : h < length now = omega (arith, c.loop-hop-test.true, c.loop-hop.auto.contexts) in
+    let slot = c.index-contexts-hop.result in
+    let more = taken-more wanted old h now before.behind c.loop-hop.taken.items before.slots before.taken slot c.take_where.result c.push.new.self.items within c.take_where.ensures.taken c.in_ok-push.ensures.items in
+    record {
+      slots = more.0;
+      taken = more.1;
+      left = left-more wanted old h now before.behind before.left slot c.take_where.new.slot within c.take_where.ensures.left;
+      behind = behind-more wanted old h now before.behind c.take_where.new.slot;
+    }
+
+pub returns-clause-taken : goal.returns-clause-taken
+returns-clause-taken g c =
+    let before = c.loop-hop.invariant in
+    let end : length c.args.contexts.now ≡ c.loop-hop.hop = omega (arith, c.loop-hop-test.false, c.loop-hop.auto.hop-end) in
+    of-all (λ (k : ℕ). get_or c.args.executors.now k 0 == c.args.executor) c.args.contexts.now c.loop-hop.taken.items (before.slots ∙ sym end) (λ k lt. before.taken k (omega (arith, lt, end)))
+
+pub returns-clause-left : goal.returns-clause-left
+returns-clause-left g c =
+    let before = c.loop-hop.invariant in
+    let end : length c.args.contexts.now ≡ c.loop-hop.hop = omega (arith, c.loop-hop-test.false, c.loop-hop.auto.hop-end) in
+    of-all (λ (k : ℕ). not (get_or c.args.executors.now k 0 == c.args.executor)) c.args.contexts.now c.loop-hop.contexts c.loop-hop.auto.contexts (λ k lt. before.left k (omega (arith, lt, end)))
