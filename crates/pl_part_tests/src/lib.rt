@@ -8,3 +8,5 @@ mod part_tests;
 #[cfg(test)]
 mod playing;
 mod relays;
+#[cfg(test)]
+mod share_tests;
