@@ -11,6 +11,8 @@ const MAX_BITS: usize = 64;
 #[derive(Drop)]
 pub(crate) struct Bell {
     unparker: Unparker,
+    /// 1 where its executor is about to rest, or rests; 0 where nobody needs to wake it.
+    resting: AtomicU64,
     /// The bits of `Waiters`.
     waiting: AtomicU64,
 }
@@ -26,13 +28,22 @@ impl Bell {
     pub(crate) fn new(unparker: Unparker) -> Bell {
         Bell {
             unparker,
+            resting: AtomicU64::new(0),
             waiting: AtomicU64::new(0),
         }
     }
 
-    /// Wakes its executor, or keeps it from its next rest.
+    /// Its executor is about to rest. Whoever has something for it from now on wakes it; what was there before it must
+    /// look for once more.
+    pub(crate) fn announce_rest(&self) {
+        self.resting.store(1, Ordering::SeqCst);
+    }
+
+    /// Wakes its executor where that rests, or keeps it from the rest that it has announced.
     pub(crate) fn ring(&self) {
-        self.unparker.unpark();
+        if self.resting.load(Ordering::SeqCst) != 0 && self.resting.swap(0, Ordering::SeqCst) != 0 {
+            self.unparker.unpark();
+        }
     }
 
     /// Notes that an executor waits for room.

@@ -277,17 +277,19 @@ where
         if !start.wait(rt) {
             return None;
         }
-        // Before it rests it notes where it waits for room, and looks once more.
-        let mut is_noted = false;
+        // Before it rests it says so, notes where it waits for room, and looks once more.
+        let mut is_announced = false;
         for _ in rt.forever() {
             match self.turn(rt, gate) {
-                Turn::Worked => is_noted = false,
+                Turn::Worked => is_announced = false,
                 Turn::Done => return Some(self.into_finished()),
+                Turn::Idle if is_announced => {
+                    parker.park(rt);
+                    is_announced = false;
+                }
                 Turn::Idle => {
-                    is_noted = !is_noted && self.note_waiting();
-                    if !is_noted {
-                        parker.park(rt);
-                    }
+                    self.announce_rest();
+                    is_announced = true;
                 }
             }
         }
@@ -301,9 +303,10 @@ where
         self.core.number
     }
 
-    /// Notes at each queue that was full in the last turn that it waits for room. False where none was.
-    fn note_waiting(&self) -> bool {
-        self.core.outboxes.note_waiting(self.core.number)
+    /// Says that it is about to rest, and notes at each queue that was full in the last turn that it waits for room.
+    fn announce_rest(&self) {
+        self.inbox.bell.announce_rest();
+        self.core.outboxes.note_waiting(self.core.number);
     }
 
     /// Its nodes, all of which are over.

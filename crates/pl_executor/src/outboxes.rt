@@ -172,16 +172,13 @@ where
         self.waiting.is_empty()
     }
 
-    /// Notes at each queue that was found full in this turn that an executor waits for room there. False where none was.
-    pub(crate) fn note_waiting(&self, executor: usize) -> bool {
-        let mut waits = false;
+    /// Notes at each queue that was found full in this turn that an executor waits for room there.
+    pub(crate) fn note_waiting(&self, executor: usize) {
         for outbox in &self.outboxes {
             if outbox.was_tried() {
                 outbox.note_waiting(executor);
-                waits = true;
             }
         }
-        waits
     }
 
     /// Wakes those that waited for room.
