@@ -12,6 +12,7 @@ pub mod SharesStand
 pub mod Fits
 pub mod FitsStart
 pub mod LeftEnds
+mod RunEnds
 pub mod RunReports
 mod LaneTablesSums
 mod LaneTablesEvery

@@ -23,7 +23,8 @@ use Rattle.pl_world.specs.declared.report.Stands.TheVariants.{Open}
 use Rattle.pl_world.specs.Plans.{ChannelPlan, Plan}
 use Rattle.pl_world.specs.Reports.{IsChannelReport, KeepsToPlan, has_ended, stands_by}
 use Rattle.pl_exec.specs.declared.reporting.Found.{Found}
-use Rattle.pl_exec.specs.Reported.{IsLeftTail, IsLeftHead, AreLeft, IsFinalReport, IsRunReport}
+use Rattle.pl_exec.specs.Reported.{IsLeft, IsLeftTail, IsLeftHead, AreLeft, IsFinalReport, IsRunReport, ReportsRun}
+use Rattle.pl_exec.proofs.RunEnds.{HasOutcome, reports-run, run-settled}
 
 -- ---- how a channel stands
 
@@ -49,22 +50,34 @@ module _ {T : Type 0} (state : T → TransportState) (f : Found T) (tail : TailV
   abbrev pub KeepsByEnds : ChannelReport → Type 0
   KeepsByEnds r = (plan : Plan) (number : ℕ) (p : ChannelPlan) → EndsHold state plan number p tail head → KeepsToPlan p r
 
-  -- so where both were found it is their report
-  final-report : (r : ChannelReport) → OfEnds r → KeepsByEnds r → IsFinalReport state f r
-  final-report r ends keeps plan c p planned left =
-      let own : IsLeftTail plan c p tail = subst (λ (t : TailView). IsLeftTail plan c p t) (same_Some left.tail tail (sym left.has_tail ∙ has_tail)) left.left_tail in
-      let last : IsLeftHead state plan c p head = subst (λ (h : HeadView T). IsLeftHead state plan c p h) (same_Some left.head head (sym left.has_head ∙ has_head)) left.left_head in
-      let took = last.holds.holds.took in
-      let report = ends took.ys took.zs took.sizes took.after in (
-        keeps plan c p (record { planned = planned; tail_holds = own.holds; tail_channel = own.channel; tail_at = own.at; head_holds = last.holds; head_channel = last.channel; head_at = last.at }),
-        λ stays. not-open head.failure head.standing tail.standing (nat_le (length (out took.ys)) (length (state head.transport).accepted)) own.over last.over
-            (last.written took.ys took.zs took.sizes took.after) (sym report.stands_is ∙ stays),
-      )
-
-  -- the same where memory may have run out
+  -- so where both were found it is their report, if memory has not run out
   pub final-result : (r : Result ChannelReport AllocError) → IfOk r OfEnds → IfOk r KeepsByEnds → IfOk r (λ report. IsFinalReport state f report)
-  final-result (Ok report) ends keeps = final-report report ends keeps
+  final-result (Ok report) ends keeps = record { tail = tail; has_tail = has_tail; head = head; has_head = has_head; reports = ends; keeps = keeps }
   final-result (Err e) ends keeps = tt
+
+-- ---- one channel
+
+module _ {T : Type 0} (state : T → TransportState) (plan : Plan) (c : ℕ) (p : ChannelPlan) (planned : slice_get plan.channels c ≡ Some p) (f : Found T) (left : IsLeft state plan c p f)
+    (r : ChannelReport) (final : IsFinalReport state f r) where
+  -- the ends that were found are the ones that the report is of
+  own : IsLeftTail plan c p final.tail
+  own = subst (λ (t : TailView). IsLeftTail plan c p t) (same_Some left.tail final.tail (sym left.has_tail ∙ final.has_tail)) left.left_tail
+
+  last : IsLeftHead state plan c p final.head
+  last = subst (λ (h : HeadView T). IsLeftHead state plan c p h) (same_Some left.head final.head (sym left.has_head ∙ final.has_head)) left.left_head
+
+  channel-keeps : KeepsToPlan p r
+  channel-keeps = final.keeps plan c p (record { planned = planned; tail_holds = own.holds; tail_channel = own.channel; tail_at = own.at; head_holds = last.holds; head_channel = last.channel; head_at = last.at })
+
+  channel-closed : r.stands ≢ Open
+  channel-closed =
+      let took = last.holds.holds.took in
+      let report = final.reports took.ys took.zs took.sizes took.after in
+      λ stays. not-open final.head.failure final.head.standing final.tail.standing (nat_le (length (out took.ys)) (length (state final.head.transport).accepted)) own.over last.over
+          (last.written took.ys took.zs took.sizes took.after) (sym report.stands_is ∙ stays)
+
+  channel-reports : ReportsRun p r
+  channel-reports = reports-run state plan c p final.tail final.head planned own last r final.reports
 
 -- ---- all reports
 
@@ -86,11 +99,21 @@ module _ {T : Type 0} (state : T → TransportState) (plan : Plan) (fs : List (F
         | inr past ↦ let most = past.0 in absurd (omega (arith, within, count, most))
       ]
 
+  -- what the report of each channel says, all of them say
+  each-report : (Q : ChannelPlan → ChannelReport → Type 0)
+      → ((c : ℕ) (p : ChannelPlan) → slice_get plan.channels c ≡ Some p → (f : Found T) → IsLeft state plan c p f → (r : ChannelReport) → IsFinalReport state f r → Q p r)
+      → (reports : List ChannelReport) → AllZip (IsFinalReport state) fs reports → AllZip Q plan.channels reports
+  each-report Q says reports each =
+      zip_through (IsFinalReport state) Q plan.channels fs reports are.count (λ c p f planned found r final. says c p planned f (are.each c p f planned found) r final) each
+
   -- the reports of all make the report of the run
   pub run-report : (reports : List ChannelReport) → AllZip (IsFinalReport state) fs reports → IsRunReport plan (record { channels = reports })
-  run-report reports each = record {
-    keeps = zip_through (IsFinalReport state) KeepsToPlan plan.channels fs reports are.count (λ c p f planned found r final. (final plan c p planned (are.each c p f planned found)).0) each;
-    ended =
-        all-second (λ (r : ChannelReport). r.stands ≢ Open) plan.channels reports
-        (zip_through (IsFinalReport state) (λ (p : ChannelPlan) (r : ChannelReport). r.stands ≢ Open) plan.channels fs reports are.count (λ c p f planned found r final. (final plan c p planned (are.each c p f planned found)).1) each);
-  }
+  run-report reports each =
+      let closed = each-report (λ (p : ChannelPlan) (r : ChannelReport). r.stands ≢ Open) (channel-closed state plan) reports each in
+      let settled = each-report (λ (p : ChannelPlan) (r : ChannelReport). All HasOutcome r.writes) (λ c p planned f left r final. run-settled p r (channel-reports state plan c p planned f left r final)) reports each in
+      record {
+        keeps = each-report KeepsToPlan (channel-keeps state plan) reports each;
+        ended = all-second (λ (r : ChannelReport). r.stands ≢ Open) plan.channels reports closed;
+        settled = all-second (λ (r : ChannelReport). All HasOutcome r.writes) plan.channels reports settled;
+        made = each-report ReportsRun (channel-reports state plan) reports each;
+      }

@@ -1,28 +1,60 @@
 -- The report of a run.
-use Rattle.std.specs.Prelude.{◌≡◌, ◌≢◌, ℕ, ◌||◌, true, All, List, [], ◌∷◌, length, slice_get, Some, None, is_some}
+use Rattle.std.specs.Prelude.{◌≡◌, ◌≢◌, ℕ, ◌||◌, ◌&&◌, true, All, List, [], ◌∷◌, ◌++◌, length, drop, slice_get, Some, None, is_some}
+use Rattle.std.specs.List.{AllZip}
 use Rattle.std.specs.Option.{option_or}
 use Rattle.pl_event.specs.declared.events.Event.{Event}
+use Rattle.pl_event.specs.declared.outcomes.Cause.TheVariants.{Aborted}
 use Rattle.pl_context.specs.Standings.{is_over}
 use Rattle.pl_context.specs.TailViews.{TailView}
 use Rattle.pl_head.specs.Marks.{Change}
+use Rattle.pl_head.specs.Writes.{out}
 use Rattle.pl_head.specs.Transports.{TransportState}
 use Rattle.pl_head.specs.HeadStand.{HeadView, StandsAfter, is_idle}
 use Rattle.pl_part.specs.HeadHolds.{HeadHolds}
 use Rattle.pl_part.specs.Parts.{PartView}
 use Rattle.pl_part.specs.TailHolds.{TailHolds}
+use Rattle.pl_channel.specs.Ends.{ends_of, EndsHold}
 use Rattle.pl_channel.specs.Lanes.{lanes_of}
 use Rattle.pl_world.specs.declared.report.ChannelReport.{ChannelReport}
 use Rattle.pl_world.specs.declared.report.Report.{Report}
 use Rattle.pl_world.specs.declared.report.Stands.TheVariants.{Open}
 use Rattle.pl_world.specs.Plans.{ChannelPlan, Plan, tail_hop, head_hop}
-use Rattle.pl_world.specs.Reports.{AllKeepToPlan, KeepsToPlan}
+use Rattle.pl_world.specs.Reports.{AllKeepToPlan, Ends, EndsKeepToPlan, IsChannelReport, KeepsToPlan, head_of}
 use Rattle.pl_exec.specs.declared.reporting.Found.{Found}
 
+-- These stand among the others in their order: the first of them, and the rest behind it.
+abbrev pub InOrder : List Event → List Event → Type 0
+InOrder [] others = Unit {0}
+InOrder (x ∷ xs) others = (before : List Event) × (after : List Event) × (before ++ x ∷ after ≡ others) × InOrder xs after
+
+-- the two ends, but for what the head took from a failure of its own on
+abbrev pub without_late : Ends → Ends
+without_late e = record e { late = [] }
+
+-- The two ends of a channel, as a run leaves them. But for what the head took from a failure of its own on, they keep to the
+-- plan; and that is some of what its lane brings next, in order, and nothing where the lane is over. Tail and head have ended
+-- or failed, and where the head has not failed by itself all flushed bytes were accepted.
+pub record AreRunEnds (p : ChannelPlan) (e : Ends) : Type 0 where
+  pub keep : EndsKeepToPlan p (without_late e)
+  pub late : InOrder e.late (drop (length e.head) (head_of p))
+  pub none_late : is_over e.head_stands ≡ true → e.late ≡ []
+  pub over : (is_over e.tail_stands && (is_over e.head_stands || is_some e.failure)) ≡ true
+  pub accepted : e.failure ≡ None → e.accepted ≡ length (out e.head)
+
+-- The report of a channel is that of two ends, as a run leaves them.
+pub record ReportsRun (p : ChannelPlan) (r : ChannelReport) : Type 0 where
+  pub ends : Ends
+  pub ends_are : AreRunEnds p ends
+  pub reports : IsChannelReport ends r
+
 -- Each channel's tail and bytes begin what the handlers, composed on whole lists, make of its recorded input, and are all of
--- it, with the whole report, where it is drained. No channel stands open.
+-- it, with the whole report, where it is drained. No channel stands open, and each write has an outcome. How a channel
+-- stands, its tail, its bytes and the outcomes are those of two ends.
 pub record IsRunReport (plan : Plan) (report : Report) : Type 0 where
   pub keeps : AllKeepToPlan plan.channels report.channels
   pub ended : All (λ (r : ChannelReport). r.stands ≢ Open) report.channels
+  pub settled : All (λ (r : ChannelReport). All (λ outcome. is_some outcome ≡ true) r.writes) report.channels
+  pub made : AllZip ReportsRun plan.channels report.channels
 
 -- ---- the ends that executors leave
 
@@ -33,13 +65,14 @@ pub record IsLeftTail (plan : Plan) (c : ℕ) (p : ChannelPlan) (tail : TailView
   pub at : tail.hop ≡ tail_hop p
   pub over : is_over tail.standing ≡ true
 
--- So does its head, which has no flushed byte left.
+-- So does its head, which has no flushed byte left, and is aborted only where the plan says so.
 pub record IsLeftHead {T : Type 0} (state : T → TransportState) (plan : Plan) (c : ℕ) (p : ChannelPlan) (head : HeadView T) : Type 0 where
   pub holds : HeadHolds state (lanes_of plan) head
   pub channel : head.channel ≡ c
   pub at : head.hop ≡ head_hop p
   pub over : (is_over head.standing || is_some head.failure) ≡ true
   pub written : (ys zs : List Event) (sizes : List Change) → StandsAfter state head ys zs sizes → is_idle state head ys ≡ true
+  pub aborted : head.failure ≡ Some Aborted → is_some p.abort_after ≡ true
 
 -- ---- the ends of a channel, as far as they were found
 
@@ -71,7 +104,11 @@ module _ {T : Type 0} (state : T → TransportState) where
     pub count : length fs ≡ length plan.channels
     pub each : (c : ℕ) (p : ChannelPlan) (f : Found T) → slice_get plan.channels c ≡ Some p → slice_get fs c ≡ Some f → IsLeft plan c p f
 
-  -- This is the report of the ends that were found: it keeps to each plan by which they hold, and the channel does not stand
-  -- open.
-  abbrev pub IsFinalReport : Found T → ChannelReport → Type 0
-  IsFinalReport f r = (plan : Plan) (c : ℕ) (p : ChannelPlan) → slice_get plan.channels c ≡ Some p → IsLeft plan c p f → KeepsToPlan p r × (r.stands ≢ Open)
+  -- This is the report of the ends that were found, and keeps to each plan by which they hold.
+  pub record IsFinalReport (f : Found T) (r : ChannelReport) : Type 0 where
+    pub tail : TailView
+    pub has_tail : f.tail ≡ Some tail
+    pub head : HeadView T
+    pub has_head : f.head ≡ Some head
+    pub reports : (ys zs : List Event) (sizes : List Change) → StandsAfter state head ys zs sizes → IsChannelReport (ends_of state tail head ys zs) r
+    pub keeps : (plan : Plan) (c : ℕ) (p : ChannelPlan) → EndsHold state plan c p tail head → KeepsToPlan p r

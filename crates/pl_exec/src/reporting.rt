@@ -1,7 +1,7 @@
 //! What became of each channel, by the nodes that all executors leave.
 
 ghost use Rattle.std.specs.Prelude.{◌≡◌, IfOk, is_some, length, map, replicate, true};
-ghost use Rattle.std.specs.List.{range_with_len};
+ghost use Rattle.std.specs.List.{AllZip, range_with_len};
 ghost use Rattle.pl_world.specs.PlanRules.{IsPlan};
 ghost use Rattle.pl_exec.specs.Reported.{AreLeft, IsFinalReport, IsRunReport, nothing_found, with_part, with_parts};
 
@@ -85,7 +85,8 @@ fn reports<W: Planned, T: Transport>(
     all: Vec<Found<T>>,
 ) -> Result<Sequence<ChannelReport>, AllocError>
     requires { AreLeft T.state W.plan all.items }
-    ensures { IfOk result (λ reports. IsRunReport W.plan (record { channels = reports })) }
+    ensures ends { IfOk result (λ reports. AllZip (IsFinalReport T.state) all.items reports) }
+    ensures run { IfOk result (λ reports. IsRunReport W.plan (record { channels = reports })) }
 {
     let mut reports = Vec::with_capacity(alloc, all.len())?;
     for found in all {

@@ -25,8 +25,14 @@ loop-found-preserved g c =
       reported = rw c.in_ok-push.ensures.items (zip_push (IsFinalReport g.T.Transport.state) done c.loop-found.reports.items found c.in_ok-report_from.field-0 inv.reported c.in_ok-report_from.ensures);
     }
 
-pub returns : goal.returns
-returns g c =
+pub returns-clause-ends : goal.returns-clause-ends
+returns-clause-ends g c =
+    let inv = c.loop-found.invariant in
+    let whole = all-done c.args.all.items c.loop-found.yielded c.loop-found.found-iterator.rest.items (nil_from_length c.loop-found.found-iterator.rest.items (omega (arith, c.in-None.ensures.steps.0, c.loop-found.found-iterator.rest.ok))) inv.rest in
+    rw c.from_vec.ensures (subst (λ (fs : List (Found g.row.T.Denot)). AllZip (IsFinalReport g.T.Transport.state) fs c.loop-found.reports.items) whole inv.reported)
+
+pub returns-clause-run : goal.returns-clause-run
+returns-clause-run g c =
     let inv = c.loop-found.invariant in
     let whole = all-done c.args.all.items c.loop-found.yielded c.loop-found.found-iterator.rest.items (nil_from_length c.loop-found.found-iterator.rest.items (omega (arith, c.in-None.ensures.steps.0, c.loop-found.found-iterator.rest.ok))) inv.rest in
     rw c.from_vec.ensures
