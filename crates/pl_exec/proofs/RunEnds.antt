@@ -1,5 +1,5 @@
 -- The two ends of a channel that executors leave, and what their report says of its writes.
-use Rattle.std.proofs.Common.{◌≡◌, ℕ, zero, suc, ◌+◌, ◌≤◌, Bool, true, false, leb, ◌||◌, ◌&&◌, List, [], ◌∷◌, ◌++◌, length, take, drop, map, slice_get, Option, Some, None, refl, sym, ap, ap₂, subst, ◌∙◌, arith, length-append, append-nil}
+use Rattle.std.proofs.Common.{◌≡◌, ℕ, zero, suc, ◌+◌, ◌≤◌, Bool, true, false, ◌||◌, ◌&&◌, List, [], ◌∷◌, ◌++◌, length, take, drop, map, slice_get, Option, Some, None, refl, sym, ap, ap₂, subst, ◌∙◌, arith, length-append, append-nil}
 use Rattle.std.specs.Prelude.{All, is_some, nat_le}
 use Rattle.std.proofs.Math.Seq.{drop-append-add}
 use Rattle.std.proofs.lemmas.Bool.{and_parts, leb-true}
@@ -20,7 +20,7 @@ use Rattle.pl_context.specs.Standings.{is_over, has_failed}
 use Rattle.pl_context.specs.TailViews.{TailView}
 use Rattle.pl_head.specs.Marks.{Change}
 use Rattle.pl_head.specs.Transports.{TransportState}
-use Rattle.pl_head.specs.Failures.{AreOutcomes, failure_outcome, head_outcomes, settled_by}
+use Rattle.pl_head.specs.Failures.{failure_outcome, head_outcomes, settled_by}
 use Rattle.pl_head.specs.WaitingMessages.{settled}
 use Rattle.pl_head.specs.Writes.{flushed_writes, late_outcome, out, outcomes, unflushed_writes, writes_by}
 use Rattle.pl_head.specs.HeadStand.{HeadView, BufferAfter, StandsAfter}
@@ -30,7 +30,7 @@ use Rattle.pl_channel.specs.Lanes.{lanes_of}
 use Rattle.pl_channel.proofs.LaneContents.{content-planned}
 use Rattle.pl_world.specs.declared.report.ChannelReport.{ChannelReport}
 use Rattle.pl_world.specs.Plans.{ChannelPlan, Plan, tail_hop, head_hop}
-use Rattle.pl_world.specs.Reports.{Ends, IsChannelReport, has_ended, head_of, tail_of}
+use Rattle.pl_world.specs.Reports.{IsChannelReport, has_ended, head_of, tail_of}
 use Rattle.pl_world.proofs.SettledWrites.{outcomes_end}
 use Rattle.pl_exec.specs.Reported.{AreRunEnds, InOrder, IsLeftHead, IsLeftTail, ReportsRun}
 
@@ -51,8 +51,7 @@ picked-order events from (z ∷ zs) to h =
     let within = slice_get_within events n z h.2 in
     let size : length (take n events) ≡ n = length-take-le n events (omega (arith, within)) in
     let rest : drop (n + 1) events ≡ split.0 =
-    (λ i. drop (sym size i + 1) (sym split.1 i)) ∙ drop-append-add (take n events) (z ∷ split.0) 1 in
-    (
+    (λ i. drop (sym size i + 1) (sym split.1 i)) ∙ drop-append-add (take n events) (z ∷ split.0) 1 in (
       drop from (take n events),
       split.0,
       sym (drop-append-le from (take n events) (z ∷ split.0) (let first = h.1 in omega (arith, first, size))) ∙ ap (λ (l : List Event). drop from l) split.1,

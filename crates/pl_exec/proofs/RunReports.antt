@@ -74,7 +74,7 @@ module _ {T : Type 0} (state : T → TransportState) (plan : Plan) (c : ℕ) (p 
       let took = last.holds.holds.took in
       let report = final.reports took.ys took.zs took.sizes took.after in
       λ stays. not-open final.head.failure final.head.standing final.tail.standing (nat_le (length (out took.ys)) (length (state final.head.transport).accepted)) own.over last.over
-          (last.written took.ys took.zs took.sizes took.after) (sym report.stands_is ∙ stays)
+      (last.written took.ys took.zs took.sizes took.after) (sym report.stands_is ∙ stays)
 
   channel-reports : ReportsRun p r
   channel-reports = reports-run state plan c p final.tail final.head planned own last r final.reports
