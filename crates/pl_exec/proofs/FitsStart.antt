@@ -19,7 +19,7 @@ use Rattle.pl_world.specs.Plans.{Plan, channel_planned}
 use Rattle.pl_world.specs.PlanRules.{IsPlan}
 use Rattle.pl_exec.specs.declared.nodes.OwnNodes.{OwnNodes}
 use Rattle.pl_exec.specs.Opening.{LaneTable, InboxView, WaysView, PlacesView, AreOpened, FitsLanes, CanStart}
-use Rattle.pl_exec.specs.OwnNodes.{target_of, NodesStand}
+use Rattle.pl_exec.specs.OwnNodes.{target_of, heads_of, NodesStand}
 use Rattle.pl_exec.specs.Sharing.{AreSharesOf, AreShared, places_at, places_of}
 use Rattle.pl_exec.proofs.Fits.{IsTable, numbered-at, shares-fit}
 use Rattle.pl_exec.proofs.SharesStand.{shares-stand}
@@ -28,13 +28,14 @@ module _ {S T : Type 0} (meaning : S → Meaning) (stands_after : S → List Eve
     (planned : plan.channels ≡ map (channel_planned meaning state) rs) (wholes : List (PartView S T)) (placed : ArePlaced meaning stands_after state rs wholes) (ruled : IsPlan plan) (few : plan.executors ≤ MAX_EXECUTORS)
     (lanes : LaneTable) (table : IsTable wholes plan.executors lanes) where
   abbrev pub Stands : OwnNodes S T → Type 0
-  Stands n = (world ≡ lanes_of plan) × NodesStand world plan meaning stands_after state n.number n.was_refused n.parts.items
+  Stands n = (world ≡ lanes_of plan) × NodesStand world plan meaning stands_after state n.number n.was_refused n.parts.items × (n.own.items ≡ heads_of n.parts.items)
 
   stand : (x : ℕ) (nodes : OwnNodes S T) → x < plan.executors → AreSharesOf meaning stands_after state wholes x nodes → Stands nodes
   stand x nodes below are = (
     is_world,
     subst (λ (z : World × ℕ). NodesStand z.0 plan meaning stands_after state z.1 nodes.was_refused nodes.parts.items) (λ i. (sym is_world i, sym are.number i))
         (shares-stand meaning stands_after state plan rs planned wholes placed x nodes are few below),
+    are.own,
   )
 
   module _ {M K D : Type 0} (is_taker : M → K → Type 0) (takes_of : K → TakerView) (is_sender : M → D → Type 0) (sends_of : D → SenderView) where

@@ -3,6 +3,7 @@ pub mod RowLemmas
 pub mod LaneLemmas
 pub mod StartLemmas
 pub mod OwnNodeLemmas
+pub mod HeadLists
 pub mod CallLemmas
 pub mod OverLemmas
 pub mod MovedNodes

@@ -1,5 +1,6 @@
 -- The nodes of executors, to which those of one channel after another are added.
 use Rattle.std.proofs.Common.{◌≡◌, ℕ, ◌+◌, ◌<◌, false, List, [], ◌∷◌, ◌++◌, length, map, get_or, set, slice_get, Some, refl, ap, sym, ◌∙◌, subst, arith, inl, inr}
+use Rattle.std.specs.Prelude.{cond, is_some}
 use Rattle.std.specs.List.{range_with_len}
 use Rattle.std.proofs.lemmas.List.{length-set, length_push}
 use Rattle.std.proofs.lemmas.List.FromFn.{map-range_with_len_more}
@@ -13,7 +14,9 @@ use Rattle.pl_part.specs.Shares.{EachPart}
 use Rattle.pl_replay.specs.Placed.{all_lanes, lanes_between}
 use Rattle.pl_exec.specs.declared.nodes.OwnNodes.{OwnNodes}
 use Rattle.pl_exec.specs.Opening.{PlacesView}
+use Rattle.pl_exec.specs.OwnNodes.{heads_of}
 use Rattle.pl_exec.specs.Sharing.{IsShareOf, AreSharesOf, AreShared, Gets, EachGets, places_at}
+use Rattle.pl_exec.proofs.HeadLists.{heads-more}
 
 pub at-index : {A : Type 0} (xs : List A) (i : ℕ) → i < length xs → (x : A) × (slice_get xs i ≡ Some x)
 at-index xs i within = elim (slice_get_cases xs i).1 [
@@ -64,9 +67,9 @@ module _ {S T : Type 0} (meaning : S → Meaning) (stands_after : S → List Eve
   }
 
   -- one executor more, without nodes
-  pub executor-shared : (all grown : List (OwnNodes S T)) (n : ℕ) (new : OwnNodes S T) → new.number ≡ n → new.was_refused ≡ false → new.parts.items ≡ [] → grown ≡ all ++ new ∷ []
+  pub executor-shared : (all grown : List (OwnNodes S T)) (n : ℕ) (new : OwnNodes S T) → new.number ≡ n → new.was_refused ≡ false → new.parts.items ≡ [] → new.own.items ≡ [] → grown ≡ all ++ new ∷ []
       → AreShared meaning stands_after state [] n all → AreShared meaning stands_after state [] (n + 1) grown
-  executor-shared all grown n new number unrefused none added so_far = record {
+  executor-shared all grown n new number unrefused none ownless added so_far = record {
     count = ap length added ∙ length_push all new ∙ ap (λ (k : ℕ). k + 1) so_far.count;
     each = λ x nodes at. elim (slice_get-push all new nodes x (ap (λ (l : List (OwnNodes S T)). slice_get l x) (sym added) ∙ at)) [
       | inl earlier ↦ so_far.each x nodes earlier
@@ -75,7 +78,7 @@ module _ {S T : Type 0} (meaning : S → Meaning) (stands_after : S → List Eve
   }
     where
       here : AreSharesOf meaning stands_after state [] n new
-      here = record { number = number; unrefused = unrefused; count = ap length none; each = λ c whole share at there. absurd (none-some whole at) }
+      here = record { number = number; unrefused = unrefused; count = ap length none; each = λ c whole share at there. absurd (none-some whole at); own = ownless ∙ ap (λ (l : List (PartView S T)). heads_of l) (sym none) }
 
   module _ (wholes : List (PartView S T)) (whole : PartView S T) where
     one-more : (x : ℕ) (old new : OwnNodes S T) (share : PartView S T) → AreSharesOf meaning stands_after state wholes x old → IsShareOf meaning stands_after state x whole share → Gets old share new
@@ -85,6 +88,7 @@ module _ {S T : Type 0} (meaning : S → Meaning) (stands_after : S → List Eve
       unrefused = got.refused ∙ had.unrefused;
       count = ap length got.parts ∙ length_push old.parts.items share ∙ ap (λ (k : ℕ). k + 1) had.count ∙ sym (length_push wholes whole);
       each = each;
+      own = got.own ∙ ap (λ (l : List ℕ). l ++ cond (is_some share.head) (length old.parts.items ∷ []) []) had.own ∙ sym (heads-more old.parts.items share) ∙ ap (λ (l : List (PartView S T)). heads_of l) (sym got.parts);
     }
       where
         each : (c : ℕ) (w s : PartView S T) → slice_get (wholes ++ whole ∷ []) c ≡ Some w → slice_get new.parts.items c ≡ Some s → IsShareOf meaning stands_after state x w s

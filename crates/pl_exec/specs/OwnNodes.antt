@@ -1,5 +1,5 @@
 -- The nodes of an executor, as contracts see them: by the number of a channel the part of it that is there.
-use Rattle.std.specs.Prelude.{◌≡◌, ℕ, ◌<◌, ◌≤◌, ◌^◌, ◌==◌, Bool, true, false, List, slice_get, Some, None, is_some, if◌then◌else◌}
+use Rattle.std.specs.Prelude.{◌≡◌, ℕ, ◌+◌, ◌<◌, ◌≤◌, ◌^◌, ◌==◌, Bool, true, false, List, [], ◌∷◌, map, slice_get, Some, None, is_some, if◌then◌else◌}
 use Rattle.std.specs.Option.{option_map_or}
 use Rattle.pl_event.specs.declared.events.Event.{Event}
 use Rattle.pl_event.specs.declared.envelopes.Lane.{Lane}
@@ -58,6 +58,17 @@ pub record NodesStand {S T : Type 0} (world : World) (plan : Plan) (meaning : S 
   pub keeps : PartsKeepPlan state plan ps
   pub number : me < nobody
 
+-- ---- which heads are here
+
+-- the numbers of those that are true, the first of which has this number
+abbrev pub numbered_from : ℕ → List Bool → List ℕ
+numbered_from n [] = []
+numbered_from n (b ∷ bs) = if b then n ∷ numbered_from (n + 1) bs else numbered_from (n + 1) bs
+
+-- the channels whose heads are among these nodes, in order
+abbrev pub heads_of : {S T : Type 0} → List (PartView S T) → List ℕ
+heads_of ps = numbered_from 0 (map (λ (p : PartView _ _). is_some p.head) ps)
+
 -- ---- what is enabled
 
 module _ {S T : Type 0} (state : T → TransportState) where
@@ -70,6 +81,17 @@ module _ {S T : Type 0} (state : T → TransportState) where
   pub record MayWriteHere (ps : List (PartView S T)) (c : ℕ) (b : Bool) : Type 0 where
     pub here : MayWrite state ps c b
     pub elsewhere : (p : PartView S T) → slice_get ps c ≡ Some p → p.head ≡ None → b ≡ false
+
+  -- Whether they are for the channel at a place of this list.
+  pub record MayReadOwn (ps : List (PartView S T)) (own : List ℕ) (at : ℕ) (b : Bool) : Type 0 where
+    pub channel : ℕ
+    pub is : slice_get own at ≡ Some channel
+    pub may : MayReadHere ps channel b
+
+  pub record MayWriteOwn (ps : List (PartView S T)) (own : List ℕ) (at : ℕ) (b : Bool) : Type 0 where
+    pub channel : ℕ
+    pub is : slice_get own at ≡ Some channel
+    pub may : MayWriteHere ps channel b
 
   -- All nodes of a part have ended or failed; where the head is one of them, no read step and no flushed byte is left.
   pub record IsPartOver (p : PartView S T) : Type 0 where

@@ -1,5 +1,5 @@
 -- The nodes of all channels, each at its executor.
-use Rattle.std.specs.Prelude.{◌≡◌, ℕ, ◌≤◌, ◌==◌, ◌&&◌, false, List, [], ◌∷◌, ◌++◌, length, map, cond, slice_get, Some}
+use Rattle.std.specs.Prelude.{◌≡◌, ℕ, ◌≤◌, ◌==◌, ◌&&◌, false, List, [], ◌∷◌, ◌++◌, length, map, cond, slice_get, Some, is_some}
 use Rattle.std.specs.List.{range_with_len}
 use Rattle.pl_event.specs.declared.events.Event.{Event}
 use Rattle.pl_event.specs.declared.envelopes.Lane.{Lane}
@@ -13,6 +13,7 @@ use Rattle.pl_part.specs.Shares.{IsShare, executor_of}
 use Rattle.pl_replay.specs.Placed.{all_lanes, lanes_between}
 use Rattle.pl_exec.specs.declared.nodes.OwnNodes.{OwnNodes}
 use Rattle.pl_exec.specs.Opening.{PlacesView}
+use Rattle.pl_exec.specs.OwnNodes.{heads_of}
 
 module _ {S T : Type 0} (meaning : S → Meaning) (stands_after : S → List Event → Type 0) (state : T → TransportState) where
   -- Of a channel's nodes those of an executor: it holds where the whole does, and its lanes are as far as those of the whole.
@@ -30,6 +31,7 @@ module _ {S T : Type 0} (meaning : S → Meaning) (stands_after : S → List Eve
     pub unrefused : nodes.was_refused ≡ false
     pub count : length nodes.parts.items ≡ length wholes
     pub each : (c : ℕ) (whole share : PartView S T) → slice_get wholes c ≡ Some whole → slice_get nodes.parts.items c ≡ Some share → IsShareOf x whole share
+    pub own : nodes.own.items ≡ heads_of nodes.parts.items
 
   -- So are those of each of so many executors, by number.
   pub record AreShared (wholes : List (PartView S T)) (so_many : ℕ) (all : List (OwnNodes S T)) : Type 0 where
@@ -44,6 +46,7 @@ module _ {S T : Type 0} where
     pub number : after.number ≡ before.number
     pub refused : after.was_refused ≡ before.was_refused
     pub parts : after.parts.items ≡ before.parts.items ++ share ∷ []
+    pub own : after.own.items ≡ before.own.items ++ cond (is_some share.head) (length before.parts.items ∷ []) []
 
   -- Each gets its own, by number, as far as these shares go. The others are as they were.
   pub record EachGets (before : List (OwnNodes S T)) (shares : List (PartView S T)) (after : List (OwnNodes S T)) : Type 0 where

@@ -1,7 +1,7 @@
 //! The nodes of an executor.
 
 ghost use Rattle.std.specs.Prelude.{◌≡◌, ◌<◌, ◌^◌, ◌||◌, ◌&&◌, length, slice_get, Some, ℕ, true, false};
-ghost use Rattle.pl_exec.specs.OwnNodes.{NodesStand, MayReadHere, MayWriteHere, AreOver, IsPartOver, enters, target_of};
+ghost use Rattle.pl_exec.specs.OwnNodes.{NodesStand, MayReadOwn, MayWriteOwn, AreOver, IsPartOver, enters, heads_of, target_of};
 ghost use Rattle.pl_channel.specs.Lanes.{lanes_of};
 ghost use Rattle.pl_part.specs.Parts.{PartView, PartHolds};
 ghost use Rattle.pl_replay.specs.Channels.{came_of, taken_of, writes_of};
@@ -24,6 +24,8 @@ pub(crate) struct OwnNodes<S: Stage, T: Transport> {
     /// The executor's number.
     pub(crate) number: usize,
     pub(crate) parts: Vec<ChannelPart<S, T>>,
+    /// The channels whose heads are among these nodes, in order. Only these are read and written here.
+    pub(crate) own: Vec<usize>,
     /// Something of a lane that one of its contexts writes was refused.
     pub(crate) was_refused: bool,
 }
@@ -43,15 +45,15 @@ impl<W: Planned, S: Stage, T: Transport> Part<W> for OwnNodes<S, T> {
 
     ghost was_refused = { λ n. n.was_refused };
 
-    ghost count = { λ n. length n.parts.items };
+    ghost count = { λ n. length n.own.items };
 
-    ghost may_read = { λ n channel answer. MayReadHere T.state n.parts.items channel answer };
+    ghost may_read = { λ n at answer. MayReadOwn T.state n.parts.items n.own.items at answer };
 
-    ghost may_write = { λ n channel answer. MayWriteHere T.state n.parts.items channel answer };
+    ghost may_write = { λ n at answer. MayWriteOwn T.state n.parts.items n.own.items at answer };
 
     ghost are_over = { λ n. AreOver T.state n.parts.items };
 
-    ghost stands = { λ n. (W.world ≡ lanes_of W.plan) × NodesStand W.world W.plan S.meaning S.stands_after T.state n.number n.was_refused n.parts.items };
+    ghost stands = { λ n. (W.world ≡ lanes_of W.plan) × NodesStand W.world W.plan S.meaning S.stands_after T.state n.number n.was_refused n.parts.items × (n.own.items ≡ heads_of n.parts.items) };
 
     fn target(&self, lane: Lane) -> usize {
         match self.parts.get(lane.channel as usize) {
@@ -73,14 +75,16 @@ impl<W: Planned, S: Stage, T: Transport> Part<W> for OwnNodes<S, T> {
     }
 
     fn channels(&self) -> usize {
-        self.parts.len()
+        self.own.len()
     }
 
-    fn read(&mut self, channel: usize, work: &mut Outputs) -> bool {
+    fn read(&mut self, at: usize, work: &mut Outputs) -> bool {
+        let channel = self.own[at];
         matches!(self.parts[channel].next_read(work), ReadStep::Gave)
     }
 
-    fn write(&mut self, channel: usize, work: &mut Outputs) -> bool {
+    fn write(&mut self, at: usize, work: &mut Outputs) -> bool {
+        let channel = self.own[at];
         !matches!(self.parts[channel].write_once(work), OutStep::Idle)
     }
 

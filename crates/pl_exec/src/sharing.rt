@@ -39,6 +39,7 @@ fn no_nodes<S: Stage, T: Transport>(
         all.push(OwnNodes {
             number,
             parts: Vec::new(alloc),
+            own: Vec::new(alloc),
             was_refused: false,
         })?;
     }
@@ -61,13 +62,16 @@ fn add_shares<S: Stage, T: Transport>(
     Ok(())
 }
 
-/// One channel more.
+/// One channel more, which is its own where the head is among its nodes.
 fn add_share<S: Stage, T: Transport>(
     nodes: &mut OwnNodes<S, T>,
     share: ChannelPart<S, T>,
 ) -> Result<(), AllocError>
     ensures { OnOk result (Gets nodes.old share nodes.new) }
 {
+    if share.head().is_some() {
+        nodes.own.push(nodes.parts.len())?;
+    }
     nodes.parts.push(share)?;
     Ok(())
 }

@@ -217,7 +217,7 @@ where
         has_moved
     }
 
-    /// How many channels there are.
+    /// How many channels have their heads here.
     fn channels(&self) -> usize
         ensures { result ≡ N.count self.now.part }
     {

@@ -33,7 +33,7 @@ pub trait Part<W: Named>: Sized {
     /// Whether one of them has failed by `refuse`.
     ghost was_refused: { Self → Bool };
 
-    /// How many channels there are.
+    /// How many channels have their heads among these nodes. A call names one of them by its place.
     ghost count: { Self → ℕ };
 
     /// Whether the next read step of a channel, or a write to its transport, is enabled: its head is one of these nodes,
@@ -85,7 +85,7 @@ pub trait Part<W: Named>: Sized {
         ensures placed { (hops : List Lane) → AreAmong (lanes self.old) hops → HasPlaces work.old.stopped hops → HasPlaces work.new.stopped hops }
         ensures made { Makes W.world (writes self.old) (came self.old) (came self.new) work.old work.new };
 
-    /// How many channels there are, those too of which no node is here.
+    /// How many channels have their heads among these nodes: those that a turn reads and writes.
     fn channels(&self) -> usize
         ensures { result ≡ count self.now };
 

@@ -1,6 +1,6 @@
 //! The channels and executors of a replay, and the moves that they make.
 
-ghost use Rattle.std.specs.Prelude.{◌≡◌, ◌≤◌, All, ℕ, List, length, Ok, Err, false, IfOk, IfErr, MatchOption, slice_get, Some};
+ghost use Rattle.std.specs.Prelude.{◌≡◌, ◌≤◌, All, ℕ, List, length, Ok, Err, false, true, IfOk, IfErr, MatchOption, slice_get, Some};
 ghost use Rattle.pl_context.specs.WaitingViews.{Entry};
 ghost use Rattle.pl_context.specs.TailViews.{TailView};
 ghost use Rattle.pl_net.specs.Cores.{core_view, IsUnmoved, IsUnmovedButRoom};
@@ -12,7 +12,7 @@ ghost use Rattle.pl_replay.specs.Starts.{NetBegins, transports_of};
 ghost use Rattle.std.specs.List.{AllZip};
 ghost use Rattle.pl_world.specs.Reports.{AllKeepToPlan};
 ghost use Rattle.pl_replay.specs.Reported.{AreDrained, HasEnds, IsPartReport};
-ghost use Rattle.pl_replay.specs.MoveModel.{is_there};
+ghost use Rattle.pl_replay.specs.MoveModel.{is_there, is_hand};
 
 use crate::channels::Channels;
 use crate::placing::{idle_executors, lane_count};
@@ -86,7 +86,10 @@ impl<S: Stage, T: Transport> Net<S, T> {
         ensures there { (plan : Plan) (backlogs : ℕ → List (Entry Unit)) → NetStands S.meaning S.stands_after T.state plan backlogs self.old → is_there plan step ≡ false → result ≡ Err fault.NoSuch }
         ensures no_such { result ≡ Err fault.NoSuch → (plan : Plan) (backlogs : ℕ → List (Entry Unit)) → NetStands S.meaning S.stands_after T.state plan backlogs self.old → is_there plan step ≡ false }
         ensures same { result ≡ Err fault.NoSuch → self.new ≡ self.old }
+        // `Memory` is answered only of a hand-over, and the net goes on by the same plan: its capacity is as it was.
+        ensures hand_alone { result ≡ Err fault.Memory → is_hand step ≡ true }
         ensures memory { result ≡ Err fault.Memory → IsUnmovedButRoom self.old self.new }
+        ensures goes_on { result ≡ Err fault.Memory → (plan : Plan) (backlogs : ℕ → List (Entry Unit)) → NetStands S.meaning S.stands_after T.state plan backlogs self.old → NetStands S.meaning S.stands_after T.state plan backlogs self.new }
     {
         if !self.is_there(step) {
             return Err(ReplayFault::NoSuch);

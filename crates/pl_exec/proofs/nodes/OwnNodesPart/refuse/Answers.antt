@@ -1,8 +1,9 @@
-use Rattle.std.proofs.Common.{◌≡◌, ◌<◌, length, slice_get, Some, refl, subst, ◌∙◌}
+use Rattle.std.proofs.Common.{◌≡◌, ◌<◌, length, slice_get, Some, refl, sym, subst, ◌∙◌}
 use Rattle.std.proofs.lemmas.Option.{slice_get_read}
 use Rattle.pl_part.specs.Paths.{writer_hop}
 use Rattle.pl_part.specs.PartCalls.{Given}
 use Rattle.pl_replay.proofs.OneChannel.{places-of, routes, taken-none}
+use Rattle.pl_exec.proofs.HeadLists.{heads-stay}
 use Rattle.pl_exec.proofs.OwnNodeLemmas.{targets-stay, made-here}
 use Rattle.pl_exec.proofs.MovedNodes.{places-stay, refuse-stands, none-stands}
 use Rattle.pl_exec.proofs.nodes.OwnNodesPart.refuse.Goals as goal
@@ -38,6 +39,7 @@ returns-then-channel-len-clause-stands g c = (
   c.requires.stands.0,
   refuse-stands c.args.self.now.parts.items c.args.lane.channel c.index_mut.result.now c.refuse.new.self (own g c) g.W.Named.world g.W.Planned.plan g.S.Stage.meaning g.S.Stage.stands_after g.S.Stage.is_spent g.T.Transport.state
       c.args.self.now.number c.args.self.now.was_refused c.requires.stands.1 (writer_hop c.index_mut.result.now.path c.args.lane.hop) c.args.work.now c.refuse.new.work (given g c) c.refuse.ensures.head,
+  c.requires.stands.2 ∙ sym (heads-stay c.args.self.now.parts.items c.args.lane.channel c.index_mut.result.now c.refuse.new.self (own g c) c.refuse.ensures.same),
 )
 
 pub returns-then-channel-len-clause-routes : goal.returns-then-channel-len-clause-routes
@@ -67,4 +69,5 @@ pub returns-else-channel-len-clause-stands : goal.returns-else-channel-len-claus
 returns-else-channel-len-clause-stands g c = (
   c.requires.stands.0,
   none-stands c.args.self.now.parts.items g.W.Named.world g.W.Planned.plan g.S.Stage.meaning g.S.Stage.stands_after g.T.Transport.state c.args.self.now.number c.args.self.now.was_refused c.requires.stands.1,
+  c.requires.stands.2,
 )

@@ -1,7 +1,8 @@
-use Rattle.std.proofs.Common.{◌≡◌, length, slice_get, Some, refl}
+use Rattle.std.proofs.Common.{◌≡◌, length, slice_get, Some, refl, sym, ◌∙◌}
 use Rattle.std.proofs.lemmas.Option.{slice_get_read}
 use Rattle.pl_part.specs.PartCalls.{Taken}
 use Rattle.pl_replay.proofs.OneChannel.{routes, taken-one}
+use Rattle.pl_exec.proofs.HeadLists.{heads-stay}
 use Rattle.pl_exec.proofs.OwnNodeLemmas.{channel-here, next-here, targets-stay, made-here}
 use Rattle.pl_exec.proofs.MovedNodes.{places-stay, take-stands}
 use Rattle.pl_exec.proofs.nodes.OwnNodesPart.take.Goals as goal
@@ -36,6 +37,7 @@ returns-clause-stands g c = (
   c.requires.stands.0,
   take-stands c.args.self.now.parts.items c.args.envelope.lane.channel c.index_mut.result.now c.take.new.self (own g c) g.W.Named.world g.W.Planned.plan g.S.Stage.meaning g.S.Stage.stands_after g.S.Stage.is_spent g.T.Transport.state
       c.args.self.now.number c.args.self.now.was_refused c.requires.stands.1 c.args.envelope c.args.work.now c.take.result c.take.new.work refl c.requires.here c.requires.good (taken g c),
+  c.requires.stands.2 ∙ sym (heads-stay c.args.self.now.parts.items c.args.envelope.lane.channel c.index_mut.result.now c.take.new.self (own g c) c.take.ensures.same),
 )
 
 pub returns-clause-routes : goal.returns-clause-routes

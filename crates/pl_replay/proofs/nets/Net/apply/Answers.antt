@@ -7,7 +7,7 @@ use Rattle.pl_world.specs.declared.moves.Move.{Move}
 use Rattle.pl_world.specs.declared.moves.Move.TheVariants.{Read, Task, Out}
 use Rattle.pl_channel.specs.Lanes.{lanes_of}
 use Rattle.pl_replay.specs.Channels.{home_of}
-use Rattle.pl_replay.specs.MoveModel.{is_there}
+use Rattle.pl_replay.specs.MoveModel.{is_there, is_hand}
 use Rattle.pl_replay.specs.Moves.{LeadsTo, nodes_view, nodes_stand}
 use Rattle.pl_replay.specs.NetStand.{NetStands}
 use Rattle.pl_replay.specs.declared.channels.Channels.{Channels}
@@ -138,3 +138,12 @@ invariant_of-self-in_err-hand-in-Hand g c =
       room-goes-on g.S.Stage.meaning g.S.Stage.stands_after g.S.Stage.is_spent g.T.Transport.state g.T.Transport.may_refuse c.self.inside.core c.hand.new.self w.0 w.1 c.in_err-hand-in-Hand.ensures.err (c.in_err-hand-in-Hand.ensures.stays (lanes_of w.0) 0 w.1 w.2.stands)
           c.hand.ensures.capacity (sym c.hand.new.self.executors.ok.0 ∙ c.hand.ensures.count ∙ c.self.inside.core.executors.ok.0) w.2,
     )
+
+pub returns-in_err-hand-in-Hand-clause-hand_alone : goal.returns-in_err-hand-in-Hand-clause-hand_alone
+returns-in_err-hand-in-Hand-clause-hand_alone g c = λ _. ap is_hand c.in-Hand.is
+
+pub returns-in_err-hand-in-Hand-clause-goes_on : goal.returns-in_err-hand-in-Hand-clause-goes_on
+returns-in_err-hand-in-Hand-clause-goes_on g c = λ _ plan backlogs.
+    subst (λ (k : Core (Channels g.row.S.Denot g.row.T.Denot)). NetStands g.S.Stage.meaning g.S.Stage.stands_after g.T.Transport.state plan backlogs k → NetStands g.S.Stage.meaning g.S.Stage.stands_after g.T.Transport.state plan backlogs c.hand.new.self) c.self.view_is
+    (λ n. room-goes-on g.S.Stage.meaning g.S.Stage.stands_after g.S.Stage.is_spent g.T.Transport.state g.T.Transport.may_refuse c.self.inside.core c.hand.new.self plan backlogs c.in_err-hand-in-Hand.ensures.err (c.in_err-hand-in-Hand.ensures.stays (lanes_of plan) 0 backlogs n.stands)
+        c.hand.ensures.capacity (sym c.hand.new.self.executors.ok.0 ∙ c.hand.ensures.count ∙ c.self.inside.core.executors.ok.0) n)

@@ -1,0 +1,62 @@
+-- The list of the channels whose heads are on an executor.
+use Rattle.std.proofs.Common.{◌≡◌, ℕ, ◌+◌, ◌<◌, ◌≤◌, Bool, true, false, cond, List, [], ◌∷◌, ◌++◌, length, map, set, slice_get, Option, Some, None, refl, ap, sym, ◌∙◌, subst, arith}
+use Rattle.std.specs.Prelude.{is_some, if◌then◌else◌, All}
+use Rattle.std.proofs.lemmas.List.{length-map, map-append}
+use Rattle.std.proofs.lemmas.Option.{get_or_from_slice_get}
+use Rattle.std.proofs.Math.Seq.{map-set_same}
+use Rattle.pl_event.proofs.Lists.{All-at}
+use Rattle.pl_part.specs.Parts.{PartView, SamePart}
+use Rattle.pl_replay.proofs.OneChannel.{changed}
+use Rattle.pl_exec.specs.OwnNodes.{numbered_from, heads_of}
+
+-- ---- one more
+
+next-appended : (b : Bool) (n : ℕ) (xs ys : List ℕ) → (if b then n ∷ (xs ++ ys) else (xs ++ ys)) ≡ (if b then n ∷ xs else xs) ++ ys
+next-appended true n xs ys = refl
+next-appended false n xs ys = refl
+
+first-added : (b : Bool) (n m : ℕ) → n ≡ m → (if b then n ∷ [] else []) ≡ cond b (m ∷ []) []
+first-added true n m same = ap (λ (k : ℕ). k ∷ []) same
+first-added false n m same = refl
+
+numbered-more : (n : ℕ) (bs : List Bool) (b : Bool) (m : ℕ) → m ≡ n + length bs → numbered_from n (bs ++ b ∷ []) ≡ numbered_from n bs ++ cond b (m ∷ []) []
+numbered-more n [] b m same = first-added b n m (omega (arith, same))
+numbered-more n (a ∷ as) b m same =
+    ap (λ (l : List ℕ). if a then n ∷ l else l) (numbered-more (n + 1) as b m (omega (arith, same)))
+    ∙ next-appended a n (numbered_from (n + 1) as) (cond b (m ∷ []) [])
+
+-- ---- which they are
+
+in-range : (n : ℕ) (bs : List Bool) (k : ℕ) → k ≤ n → All (λ c. (k ≤ c) × (c < n + length bs)) (numbered_from n bs)
+in-range n [] k within = trivial
+in-range n (b ∷ bs) k within = by b
+  where
+    later : All (λ c. (k ≤ c) × (c < n + length (b ∷ bs))) (numbered_from (n + 1) bs)
+    later = subst (λ (m : ℕ). All (λ c. (k ≤ c) × (c < m)) (numbered_from (n + 1) bs)) (omega arith) (in-range (n + 1) bs k (omega (arith, within)))
+
+    by : (a : Bool) → All (λ c. (k ≤ c) × (c < n + length (b ∷ bs))) (if a then n ∷ numbered_from (n + 1) bs else numbered_from (n + 1) bs)
+    by true = ((within, omega arith), later)
+    by false = later
+
+module _ {S T : Type 0} (ps : List (PartView S T)) where
+  -- each is a channel
+  pub head-within : (own : List ℕ) (i c : ℕ) → own ≡ heads_of ps → slice_get own i ≡ Some c → c < length ps
+  head-within own i c are at =
+      let size = length-map ps (λ (p : PartView S T). is_some p.head) in
+      let r = All-at (λ c. (0 ≤ c) × (c < 0 + length (map (λ (p : PartView S T). is_some p.head) ps))) own i c
+          (subst (λ (l : List ℕ). All (λ c. (0 ≤ c) × (c < 0 + length (map (λ (p : PartView S T). is_some p.head) ps))) l) (sym are) (in-range 0 (map (λ (p : PartView S T). is_some p.head) ps) 0 (omega arith))) at in
+      omega (arith, r.1, size)
+
+  -- with the next channel's part
+  pub heads-more : (p : PartView S T) → heads_of (ps ++ p ∷ []) ≡ heads_of ps ++ cond (is_some p.head) (length ps ∷ []) []
+  heads-more p =
+      let size = length-map ps (λ (q : PartView S T). is_some q.head) in
+      ap (λ (bs : List Bool). numbered_from 0 bs) (map-append (λ (q : PartView S T). is_some q.head) ps (p ∷ []))
+      ∙ numbered-more 0 (map (λ (q : PartView S T). is_some q.head) ps) (is_some p.head) (length ps) (omega (arith, size))
+
+-- ---- one of all parts
+
+module _ {S T : Type 0} (ps : List (PartView S T)) (c : ℕ) (p p' : PartView S T) (was : slice_get ps c ≡ Some p) where
+  -- they stay where the same nodes are there
+  pub heads-stay : SamePart p p' → heads_of (changed ps c p p' was) ≡ heads_of ps
+  heads-stay same = ap (λ (bs : List Bool). numbered_from 0 bs) (map-set_same (λ (q : PartView S T). is_some q.head) ps c p' p (same.head ∙ ap (λ (q : PartView S T). is_some q.head) (sym (get_or_from_slice_get ps c p p was))))
