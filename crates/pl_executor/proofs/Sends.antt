@@ -24,6 +24,7 @@ use Rattle.pl_context.specs.contracts.waiting.Waiting as waiting
 use Rattle.pl_context.proofs.waiting.Waiting.TheSendSync as waits
 use Rattle.pl_context.proofs.outputs.Outputs.TheSendSync as outputs
 use Rattle.pl_executor.specs.declared.part.Part as part
+use Rattle.pl_executor.specs.contracts.bell.Waiters as waiters
 use Rattle.pl_executor.specs.contracts.outboxes.Outboxes as outboxes
 use Rattle.pl_executor.specs.contracts.outboxes.Outboxes.TheInside as outboxes_inside
 use Rattle.pl_executor.specs.contracts.cores.Core as core
@@ -38,12 +39,18 @@ admitted_send = search sendable depth 20
 waiting_send : IsSend (waiting.the_row admitted.the_row)
 waiting_send = waits.the_send admitted.the_row admitted_send
 
+waiters_send : IsSend (waiters.the_field).row
+waiters_send =
+    let O = waiters.the_type in
+    let all : AllSend (fields O) = (search sendable, tt) in
+    struct_send (shape O) all
+
 module _ (a : NamedLft) (W M N S T : RattleType) (w : named.Ghosts W.Denot) (m : mailbox.Ghosts M.Denot W.Denot S.Denot T.Denot) where
   outboxes_send : IsSend S → IsSync M → IsSend (outboxes.the_row a W M S T w m)
   outboxes_send s y =
       let o = outbox.the_send a W M S T w m s y in
       let O = outboxes_inside.the_type a W M S T w m in
-      let all : AllSend (fields O) = (vec.the_send _ _ _ o global.the_send global_allocator.the_frees, (waiting_send, tt)) in
+      let all : AllSend (fields O) = (vec.the_send _ _ _ o global.the_send global_allocator.the_frees, (waiting_send, (waiters_send, (search sendable, tt)))) in
       view_send _ _ _ _ _ (recorded_send _ _ O.to O.to_one (struct_send (shape O) all))
 
   core_send : IsSend N → IsSend S → IsSync M → IsSend (core.the_field a W M N S T w m).row

@@ -6,6 +6,9 @@ use std::sync::atomic::{AtomicU64, Ordering};
 /// The most executors that are told apart among those that wait.
 const MAX_BITS: usize = 64;
 
+/// So many envelopes are taken from a queue, at most, before those that wait for room there are woken.
+const MAX_UNTOLD: u64 = 32;
+
 /// Wakes an executor, and knows who waits for room in its queue. No contract speaks of it: that anyone is woken is not
 /// proved.
 #[derive(Drop)]
@@ -17,8 +20,8 @@ pub(crate) struct Bell {
     waiting: AtomicU64,
 }
 
-/// The executors that wait for room in a queue. Bit b is that of each executor whose number is b modulo 64, so where there
-/// are more than 64 some may be woken for nothing.
+/// Executors that are to be woken. Bit b is that of each executor whose number is b modulo 64, so where there are more than
+/// 64 some may be woken for nothing.
 #[derive(Clone, Copy, Debug)]
 pub(crate) struct Waiters {
     bits: u64,
@@ -59,9 +62,28 @@ impl Bell {
         };
         Waiters { bits }
     }
+
+    /// Those that wait for room, where they are to be woken though more may be taken, after so many envelopes.
+    pub(crate) fn take_waiting_after(&self, taken: u64) -> Waiters {
+        if taken % MAX_UNTOLD == 0 {
+            self.take_waiting()
+        } else {
+            Waiters::none()
+        }
+    }
 }
 
 impl Waiters {
+    pub(crate) fn none() -> Waiters {
+        Waiters { bits: 0 }
+    }
+
+    pub(crate) fn with(self, executor: usize) -> Waiters {
+        Waiters {
+            bits: self.bits | bit_of(executor),
+        }
+    }
+
     pub(crate) fn is_empty(self) -> bool {
         self.bits == 0
     }

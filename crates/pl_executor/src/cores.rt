@@ -199,8 +199,12 @@ where
     {
         self.outboxes.forget_tries();
         for _ in rt.forever() {
-            let target = self.outboxes.oldest()?;
+            let Some(target) = self.outboxes.oldest() else {
+                self.outboxes.ring_for_sent();
+                return None;
+            };
             if let Offered::Handed = self.outboxes.offer(rt, target) {
+                self.outboxes.ring_for_many();
                 return Some(target);
             }
         }

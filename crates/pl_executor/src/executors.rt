@@ -160,8 +160,11 @@ where
     {
         let handed = self.hand(rt).is_some();
         let ran = self.run_task(rt);
-        let served = self.serve_all(rt);
-        handed || ran || served
+        if handed || ran {
+            self.serve_one(rt, handed);
+            return true;
+        }
+        self.serve_first(rt)
     }
 
     /// Takes the front of its queue, wakes those that waited for room there, and makes all direct calls that follow. False
@@ -178,9 +181,13 @@ where
             return false;
         }
         match self.inbox.mailbox.take::<R>(rt, &mut self.taker) {
-            None => false,
-            Some(envelope) => {
+            None => {
                 self.core.outboxes.ring(self.inbox.bell.take_waiting());
+                false
+            }
+            Some(envelope) => {
+                let waiters = self.inbox.bell.take_waiting_after(self.run);
+                self.core.outboxes.ring(waiters);
                 self.run = self.run.saturating_add(1);
                 self.core.take(envelope);
                 self.core.work_off(rt);
@@ -199,8 +206,29 @@ where
         self.core.hand(rt)
     }
 
-    /// For each channel one read step and one write. False where none was enabled.
-    fn serve_all<R: Wait>(&mut self, rt: &R) -> bool
+    /// A write of one channel, whose turn it is, beside other work; and a read step, where nothing is left to hand over.
+    fn serve_one<R: Wait>(&mut self, rt: &R, handed: bool)
+        ensures number { self.new.number ≡ self.old.number }
+        ensures takes { self.new.takes ≡ self.old.takes }
+        ensures sends { (y : ℕ) → sends_for self.new.outboxes y ≡ sends_for self.old.outboxes y }
+        ensures owner { self.new.owner ≡ self.old.owner }
+        ensures turns { self.new.turns ≡ self.old.turns }
+    {
+        let count = self.channels();
+        if count == 0 {
+            return;
+        }
+        let channel = self.turns as usize % count;
+        if !handed && self.is_drained() {
+            self.serve(rt, channel);
+        } else {
+            self.write(rt, channel);
+        }
+    }
+
+    /// One read step and one write of the first channel, from the one on whose turn it is, that has any enabled. False where
+    /// none has.
+    fn serve_first<R: Wait>(&mut self, rt: &R) -> bool
         ensures number { self.new.number ≡ self.old.number }
         ensures takes { self.new.takes ≡ self.old.takes }
         ensures sends { (y : ℕ) → sends_for self.new.outboxes y ≡ sends_for self.old.outboxes y }
@@ -208,13 +236,31 @@ where
         ensures turns { self.new.turns ≡ self.old.turns }
         ensures idle { result ≡ false → (self.new ≡ self.old) × ((c : ℕ) → c < N.count self.new.part → N.may_read self.new.part c false × N.may_write self.new.part c false) }
     {
-        let mut has_moved = false;
-        for channel in 0..self.channels() {
+        let count = self.channels();
+        if count == 0 {
+            return false;
+        }
+        let first = self.turns as usize % count;
+        self.serve_between(rt, first, count) || self.serve_between(rt, 0, first)
+    }
+
+    /// One read step and one write of the first channel from one on, up to another, that has any enabled. False where none has.
+    fn serve_between<R: Wait>(&mut self, rt: &R, from: usize, to: usize) -> bool
+        requires there { to ≤ N.count self.old.part }
+        ensures number { self.new.number ≡ self.old.number }
+        ensures takes { self.new.takes ≡ self.old.takes }
+        ensures sends { (y : ℕ) → sends_for self.new.outboxes y ≡ sends_for self.old.outboxes y }
+        ensures owner { self.new.owner ≡ self.old.owner }
+        ensures turns { self.new.turns ≡ self.old.turns }
+        ensures same { result ≡ false → self.new ≡ self.old }
+        ensures idle { result ≡ false → (c : ℕ) → from ≤ c → c < to → N.may_read self.old.part c false × N.may_write self.old.part c false }
+    {
+        for channel in from..to {
             if self.serve(rt, channel) {
-                has_moved = true;
+                return true;
             }
         }
-        has_moved
+        false
     }
 
     /// How many channels have their heads here.
@@ -228,16 +274,45 @@ where
     fn serve<R: Wait>(&mut self, rt: &R, channel: usize) -> bool
         requires there { channel < N.count self.old.part }
         ensures number { self.new.number ≡ self.old.number }
-        ensures count { N.count self.new.part ≡ N.count self.old.part }
         ensures takes { self.new.takes ≡ self.old.takes }
         ensures sends { (y : ℕ) → sends_for self.new.outboxes y ≡ sends_for self.old.outboxes y }
         ensures owner { self.new.owner ≡ self.old.owner }
         ensures turns { self.new.turns ≡ self.old.turns }
         ensures idle { result ≡ false → (self.new ≡ self.old) × N.may_read self.old.part channel false × N.may_write self.old.part channel false }
     {
-        let has_read = self.core.read(rt, channel);
-        let has_written = self.core.write(rt, channel);
+        let has_read = self.read(rt, channel);
+        let has_written = self.write(rt, channel);
         has_read || has_written
+    }
+
+    /// One read step of a channel. False where it was not enabled.
+    fn read<R: Wait>(&mut self, rt: &R, channel: usize) -> bool
+        requires there { channel < N.count self.old.part }
+        ensures number { self.new.number ≡ self.old.number }
+        ensures count { N.count self.new.part ≡ N.count self.old.part }
+        ensures takes { self.new.takes ≡ self.old.takes }
+        ensures sends { (y : ℕ) → sends_for self.new.outboxes y ≡ sends_for self.old.outboxes y }
+        ensures owner { self.new.owner ≡ self.old.owner }
+        ensures turns { self.new.turns ≡ self.old.turns }
+        ensures enabled { N.may_read self.old.part channel result }
+        ensures idle { result ≡ false → self.new ≡ self.old }
+    {
+        self.core.read(rt, channel)
+    }
+
+    /// One write of a channel. False where it was not enabled.
+    fn write<R: Wait>(&mut self, rt: &R, channel: usize) -> bool
+        requires there { channel < N.count self.old.part }
+        ensures number { self.new.number ≡ self.old.number }
+        ensures count { N.count self.new.part ≡ N.count self.old.part }
+        ensures takes { self.new.takes ≡ self.old.takes }
+        ensures sends { (y : ℕ) → sends_for self.new.outboxes y ≡ sends_for self.old.outboxes y }
+        ensures owner { self.new.owner ≡ self.old.owner }
+        ensures turns { self.new.turns ≡ self.old.turns }
+        ensures enabled { N.may_write self.old.part channel result }
+        ensures idle { result ≡ false → self.new ≡ self.old }
+    {
+        self.core.write(rt, channel)
     }
 
     /// Begins to close its queue, and closes it where that has taken as many as were admitted. It does neither where not all

@@ -92,7 +92,7 @@ where
         self.inbox.bell.ring();
     }
 
-    /// Offers an envelope to the queue. Where it is there, the executor is woken.
+    /// Offers an envelope to the queue.
     pub(crate) fn offer<R: Wait>(&mut self, rt: &R, envelope: Envelope) -> Result<(), Full>
         requires next { sent_of envelope.lane self.old.sends.send_counts ≡ Some (envelope.number, false) }
         requires small { envelope.number < 2 ^ 32 }
@@ -106,10 +106,7 @@ where
             .mailbox
             .offer::<R>(rt, &mut self.sender, envelope)
         {
-            Ok(()) => {
-                self.inbox.bell.ring();
-                Ok(())
-            }
+            Ok(()) => Ok(()),
             Err(full) => {
                 self.tried = true;
                 Err(full)

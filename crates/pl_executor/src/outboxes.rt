@@ -18,6 +18,9 @@ use std::alloc::{AllocError, Global};
 use std::marker::Model;
 use std::sync::Wait;
 
+/// So many envelopes are sent, at most, before the executors to which they went are woken.
+const MAX_UNRUNG: u32 = 32;
+
 /// What became of the oldest envelope for a target.
 #[derive(Clone, Copy, Debug, PartialEq, Eq)]
 pub enum Offered {
@@ -41,6 +44,10 @@ where
 {
     outboxes: Vec<Outbox<'a, W, M>>,
     waiting: Waiting<Admitted>,
+    /// The executors to which something was sent, and which were not woken for it yet.
+    unrung: Waiters,
+    /// How many envelopes were sent to these.
+    count: u32,
 }
 
 impl<'a, W: Named, M: Mailbox<W> + Drop> Model for Outboxes<'a, W, M>
@@ -76,6 +83,8 @@ where
         Ok(Outboxes {
             waiting: Waiting::new(alloc, places)?,
             outboxes,
+            unrung: Waiters::none(),
+            count: 0,
         })
     }
 
@@ -155,6 +164,8 @@ where
         match self.outboxes[target].offer(rt, envelope) {
             Ok(()) => {
                 admitted.sent();
+                self.unrung = self.unrung.with(target);
+                self.count = self.count.saturating_add(1);
                 Offered::Handed
             }
             Err(Full { envelope }) => {
@@ -181,7 +192,27 @@ where
         }
     }
 
-    /// Wakes those that waited for room.
+    /// Wakes the executors to which something was sent, where it was so much that they do not wait for more, or the next
+    /// offer may wait for one of them.
+    pub(crate) fn ring_for_many(&mut self)
+        ensures { self.new ≡ self.old }
+    {
+        if self.count >= MAX_UNRUNG || M::may_wait() {
+            self.ring_for_sent();
+        }
+    }
+
+    /// Wakes the executors to which something was sent, where they were not woken for it yet.
+    pub(crate) fn ring_for_sent(&mut self)
+        ensures { self.new ≡ self.old }
+    {
+        let waiters = self.unrung;
+        self.unrung = Waiters::none();
+        self.count = 0;
+        self.ring(waiters);
+    }
+
+    /// Wakes these executors.
     pub(crate) fn ring(&self, waiters: Waiters) {
         if waiters.is_empty() {
             return;

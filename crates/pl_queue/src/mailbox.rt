@@ -83,6 +83,9 @@ pub trait Mailbox<W: Named>: Sized {
         ensures senders { IfOk result (λ r. Each (λ s. is_sender r.0 s) r.1.items × (map sends_of r.1.items ≡ map (λ v. fresh_sends v.items) lanes.items)) }
         ensures taker { IfOk result (λ r. is_taker r.0 r.2 × (takes_of r.2 ≡ takes (fresh_take_counts (all_lanes (map (λ v. v.items) lanes.items))) 0)) };
 
+    /// Whether `offer` may wait for room. It never answers `Full` then.
+    fn may_wait() -> bool;
+
     /// Puts the envelope at the queue's back, in one step. Its lane is the sender's and has had no `End` or `Fail`, its number
     /// is the next one there and below 2^32, and it fits the world. The lane's next number and the count of pushes rise by
     /// one, and nothing else of the sender changes.

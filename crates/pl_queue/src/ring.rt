@@ -168,6 +168,10 @@ impl<W: Named> Mailbox<W> for RingBox<W> {
         Ok((RingBox { queue }, senders, taker))
     }
 
+    fn may_wait() -> bool {
+        false
+    }
+
     fn offer<R: Wait>(
         &self,
         rt: &R,

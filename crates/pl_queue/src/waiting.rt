@@ -198,6 +198,10 @@ impl<W: Named> Mailbox<W> for WaitingBox<W> {
     }
 
     /// Waits for room.
+    fn may_wait() -> bool {
+        true
+    }
+
     fn offer<R: Wait>(
         &self,
         rt: &R,

@@ -1,0 +1,24 @@
+use Rattle.std.proofs.Common.{ℕ, ◌<◌, ◌^◌, sym, subst}
+use Rattle.pl_executor.specs.Running.{IsTaking}
+use Rattle.pl_executor.proofs.RunLemmas.{taking-stays}
+use Rattle.pl_executor.proofs.executors.Executor.write.Goals as goal
+
+pub invariant_of-self : goal.invariant_of-self
+invariant_of-self g c =
+    let before = c.self.inside.core in
+    let after = c.write.new.self in
+    let counts = (g.M.Mailbox.takes_of c.self.inside.taker).counts in
+    let stays = taking-stays before.number (g.N.Part.target_of before.part) (g.N.Part.target_of after.part) (g.N.Part.writes before.part) (g.N.Part.writes after.part) (g.N.Part.taken_of before.part) (g.N.Part.taken_of after.part)
+    counts c.self.invariant.7 c.write.ensures.routes c.write.ensures.writes c.write.ensures.taken in (
+      c.write.ensures.stands,
+      c.write.ensures.home,
+      c.write.ensures.places,
+      c.write.ensures.runs,
+      c.write.ensures.empty,
+      c.write.ensures.why,
+      c.self.invariant.6,
+      subst (λ (n : ℕ). IsTaking n (g.N.Part.target_of after.part) (g.N.Part.writes after.part) (g.N.Part.taken_of after.part) counts) (sym c.write.ensures.number) stays,
+      c.self.invariant.8,
+      c.self.invariant.9,
+      subst (λ (n : ℕ). n < 2 ^ 16) (sym c.write.ensures.number) c.self.invariant.10,
+    )
