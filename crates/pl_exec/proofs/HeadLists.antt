@@ -2,6 +2,7 @@
 use Rattle.std.proofs.Common.{◌≡◌, ℕ, ◌+◌, ◌<◌, ◌≤◌, Bool, true, false, cond, List, [], ◌∷◌, ◌++◌, length, map, set, slice_get, Option, Some, None, refl, ap, sym, ◌∙◌, subst, arith}
 use Rattle.std.specs.Prelude.{is_some, if◌then◌else◌, All}
 use Rattle.std.proofs.lemmas.List.{length-map, map-append}
+use Rattle.std.proofs.lemmas.List.Elements.{All-nil, All-cons}
 use Rattle.std.proofs.lemmas.Option.{get_or_from_slice_get}
 use Rattle.std.proofs.Math.Seq.{map-set_same}
 use Rattle.pl_event.proofs.Lists.{All-at}
@@ -21,22 +22,22 @@ first-added false n m same = refl
 
 numbered-more : (n : ℕ) (bs : List Bool) (b : Bool) (m : ℕ) → m ≡ n + length bs → numbered_from n (bs ++ b ∷ []) ≡ numbered_from n bs ++ cond b (m ∷ []) []
 numbered-more n [] b m same = first-added b n m (omega (arith, same))
-numbered-more n (a ∷ as) b m same =
-    ap (λ (l : List ℕ). if a then n ∷ l else l) (numbered-more (n + 1) as b m (omega (arith, same)))
-    ∙ next-appended a n (numbered_from (n + 1) as) (cond b (m ∷ []) [])
+numbered-more n (a ∷ rest) b m same =
+    ap (λ (l : List ℕ). if a then n ∷ l else l) (numbered-more (n + 1) rest b m (omega (arith, same)))
+    ∙ next-appended a n (numbered_from (n + 1) rest) (cond b (m ∷ []) [])
 
 -- ---- which they are
 
-in-range : (n : ℕ) (bs : List Bool) (k : ℕ) → k ≤ n → All (λ c. (k ≤ c) × (c < n + length bs)) (numbered_from n bs)
-in-range n [] k within = trivial
-in-range n (b ∷ bs) k within = by b
-  where
-    later : All (λ c. (k ≤ c) × (c < n + length (b ∷ bs))) (numbered_from (n + 1) bs)
-    later = subst (λ (m : ℕ). All (λ c. (k ≤ c) × (c < m)) (numbered_from (n + 1) bs)) (omega arith) (in-range (n + 1) bs k (omega (arith, within)))
+first-in-range : (b : Bool) (n k m : ℕ) (ns : List ℕ) → k ≤ n → n < m → All (λ c. (k ≤ c) × (c < m)) ns → All (λ c. (k ≤ c) × (c < m)) (if b then n ∷ ns else ns)
+first-in-range true n k m ns low high later = All-cons (λ c. (k ≤ c) × (c < m)) n ns (low, high) later
+first-in-range false n k m ns low high later = later
 
-    by : (a : Bool) → All (λ c. (k ≤ c) × (c < n + length (b ∷ bs))) (if a then n ∷ numbered_from (n + 1) bs else numbered_from (n + 1) bs)
-    by true = ((within, omega arith), later)
-    by false = later
+in-range : (n : ℕ) (bs : List Bool) (k : ℕ) → k ≤ n → All (λ c. (k ≤ c) × (c < n + length bs)) (numbered_from n bs)
+in-range n [] k within = All-nil (λ c. (k ≤ c) × (c < n + 0))
+in-range n (b ∷ bs) k within =
+    let later : All (λ c. (k ≤ c) × (c < n + length (b ∷ bs))) (numbered_from (n + 1) bs) =
+    subst (λ (m : ℕ). All (λ c. (k ≤ c) × (c < m)) (numbered_from (n + 1) bs)) (omega arith) (in-range (n + 1) bs k (omega (arith, within))) in
+    first-in-range b n k (n + length (b ∷ bs)) (numbered_from (n + 1) bs) within (omega arith) later
 
 module _ {S T : Type 0} (ps : List (PartView S T)) where
   -- each is a channel
@@ -44,7 +45,7 @@ module _ {S T : Type 0} (ps : List (PartView S T)) where
   head-within own i c are at =
       let size = length-map ps (λ (p : PartView S T). is_some p.head) in
       let r = All-at (λ c. (0 ≤ c) × (c < 0 + length (map (λ (p : PartView S T). is_some p.head) ps))) own i c
-          (subst (λ (l : List ℕ). All (λ c. (0 ≤ c) × (c < 0 + length (map (λ (p : PartView S T). is_some p.head) ps))) l) (sym are) (in-range 0 (map (λ (p : PartView S T). is_some p.head) ps) 0 (omega arith))) at in
+      (subst (λ (l : List ℕ). All (λ c. (0 ≤ c) × (c < 0 + length (map (λ (p : PartView S T). is_some p.head) ps))) l) (sym are) (in-range 0 (map (λ (p : PartView S T). is_some p.head) ps) 0 (omega arith))) at in
       omega (arith, r.1, size)
 
   -- with the next channel's part

@@ -1,6 +1,6 @@
 //! The nodes of all channels, each at its executor.
 
-ghost use Rattle.std.specs.Prelude.{◌≡◌, ◌<◌, ◌^◌, [], length, All, IfOk, OnOk};
+ghost use Rattle.std.specs.Prelude.{◌≡◌, ◌<◌, ◌^◌, ◌∷◌, ◌++◌, [], cond, length, All, IfOk, OnOk};
 ghost use Rattle.pl_replay.specs.Placed.{HasExecutors, all_lanes};
 ghost use Rattle.pl_exec.specs.Sharing.{AreShared, Gets, EachGets, places_of};
 
@@ -69,10 +69,18 @@ fn add_share<S: Stage, T: Transport>(
 ) -> Result<(), AllocError>
     ensures { OnOk result (Gets nodes.old share nodes.new) }
 {
-    if share.head().is_some() {
-        nodes.own.push(nodes.parts.len())?;
-    }
+    note_own(&mut nodes.own, nodes.parts.len(), share.head().is_some())?;
     nodes.parts.push(share)?;
+    Ok(())
+}
+
+/// Notes a channel where it is an executor's own.
+fn note_own(own: &mut Vec<usize>, channel: usize, is_own: bool) -> Result<(), AllocError>
+    ensures { OnOk result (own.new.items ≡ own.old.items ++ cond is_own (channel ∷ []) []) }
+{
+    if is_own {
+        own.push(channel)?;
+    }
     Ok(())
 }
 

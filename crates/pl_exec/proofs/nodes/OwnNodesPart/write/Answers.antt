@@ -1,4 +1,4 @@
-use Rattle.std.proofs.Common.{◌≡◌, ◌≢◌, true, false, not, length, slice_get, Some, refl, ap, sym, ◌∙◌}
+use Rattle.std.proofs.Common.{◌≡◌, ◌≢◌, true, false, not, length, slice_get, Some, refl, ap, sym, ◌∙◌, arith}
 use Rattle.std.proofs.lemmas.Bool.{both_ways}
 use Rattle.std.proofs.lemmas.Option.{slice_get_read}
 use Rattle.pl_head.specs.declared.heads.OutStep.TheVariants as step
@@ -14,24 +14,29 @@ use Rattle.pl_exec.proofs.MovedNodes.{places-stay, write-stands}
 use Rattle.pl_exec.proofs.nodes.OwnNodesPart.write.Goals as goal
 use Rattle.pl_exec.proofs.nodes.OwnNodesPart.write.Goals.{Joined-matches, in-Idle, in_default}
 
+pub index_mut-requires : goal.index_mut-requires
+index_mut-requires g c =
+    let within = head-within c.args.self.now.parts.items c.args.self.now.own.items c.args.at c.index-channel.result.now c.requires.stands.2 (slice_get_read c.args.self.now.own.items (length c.args.self.now.own.items) c.args.at c.index-channel.result.now refl c.requires.there c.index-channel.ensures) in
+    omega (arith, within, c.args.self.now.parts.ok.0)
+
 pub write_once-requires-clause-holds : goal.write_once-requires-clause-holds
 write_once-requires-clause-holds g c =
     let ps = c.args.self.now.parts.items in
     let p = c.index_mut.result.now in
-    let own = slice_get_read ps (length ps) CHAN p refl WITHIN c.index_mut.ensures.value in
-    (g.W.Named.world, (c.requires.stands.1.parts CHAN p own).holds)
+    let own = slice_get_read ps (length ps) c.index-channel.result.now p refl (head-within c.args.self.now.parts.items c.args.self.now.own.items c.args.at c.index-channel.result.now c.requires.stands.2 (slice_get_read c.args.self.now.own.items (length c.args.self.now.own.items) c.args.at c.index-channel.result.now refl c.requires.there c.index-channel.ensures)) c.index_mut.ensures.value in
+    (g.W.Named.world, (c.requires.stands.1.parts c.index-channel.result.now p own).holds)
 
 pub write_once-requires-clause-places : goal.write_once-requires-clause-places
 write_once-requires-clause-places g c =
     let ps = c.args.self.now.parts.items in
     let p = c.index_mut.result.now in
-    let own = slice_get_read ps (length ps) CHAN p refl WITHIN c.index_mut.ensures.value in
-    places-of ps CHAN p p own c.args.work.now c.requires.places
+    let own = slice_get_read ps (length ps) c.index-channel.result.now p refl (head-within c.args.self.now.parts.items c.args.self.now.own.items c.args.at c.index-channel.result.now c.requires.stands.2 (slice_get_read c.args.self.now.own.items (length c.args.self.now.own.items) c.args.at c.index-channel.result.now refl c.requires.there c.index-channel.ensures)) c.index_mut.ensures.value in
+    places-of ps c.index-channel.result.now p p own c.args.work.now c.requires.places
 
-own : (g : _) (c : Joined-matches g) → slice_get c.args.self.now.parts.items CHAN ≡ Some c.index_mut.result.now
+own : (g : _) (c : Joined-matches g) → slice_get c.args.self.now.parts.items c.index-channel.result.now ≡ Some c.index_mut.result.now
 own g c =
     let ps = c.args.self.now.parts.items in
-    slice_get_read ps (length ps) CHAN c.index_mut.result.now refl WITHIN c.index_mut.ensures.value
+    slice_get_read ps (length ps) c.index-channel.result.now c.index_mut.result.now refl (head-within c.args.self.now.parts.items c.args.self.now.own.items c.args.at c.index-channel.result.now c.requires.stands.2 (slice_get_read c.args.self.now.own.items (length c.args.self.now.own.items) c.args.at c.index-channel.result.now refl c.requires.there c.index-channel.ensures)) c.index_mut.ensures.value
 
 -- what the call of the part has done
 given : (g : _) (c : Joined-matches g)
@@ -46,43 +51,47 @@ moved : (g : _) (c : Joined-matches g) → not c.match-matches.matches ≡ true 
 moved g c e = elim c.match-matches.branch [ in-Idle w ↦ absurd (both_ways (not c.match-matches.matches) (ap not w.matches-is) e) | in_default w ↦ w.in_default.not-Idle ]
 
 pub returns-clause-enabled : goal.returns-clause-enabled
-returns-clause-enabled g c = record { channel = CHAN; is = AT; may = may-write-here g.T.Transport.state c.args.self.now.parts.items CHAN c.index_mut.result.now (own g c) c.args.work.now c.write_once.new.self c.write_once.new.work (not c.match-matches.matches)
-    g.T.Transport.may_refuse c.write_once.result c.write_once.ensures.writes_out (idle g c) (moved g c) }
+returns-clause-enabled g c = record {
+  channel = c.index-channel.result.now;
+  is = (slice_get_read c.args.self.now.own.items (length c.args.self.now.own.items) c.args.at c.index-channel.result.now refl c.requires.there c.index-channel.ensures);
+  may = may-write-here g.T.Transport.state c.args.self.now.parts.items c.index-channel.result.now c.index_mut.result.now (own g c) c.args.work.now c.write_once.new.self c.write_once.new.work (not c.match-matches.matches)
+      g.T.Transport.may_refuse c.write_once.result c.write_once.ensures.writes_out (idle g c) (moved g c);
+}
 
 pub returns-clause-idle : goal.returns-clause-idle
 returns-clause-idle g c = λ e.
     let p = c.index_mut.result.now in
     let n = c.args.self.now in
     let same = write-idle g.T.Transport.state p c.args.work.now c.write_once.new.self c.write_once.new.work g.T.Transport.may_refuse c.write_once.result c.write_once.ensures.writes_out (idle g c e) in
-    ((λ i. record { number = n.number; parts = put-back n.parts CHAN p c.write_once.new.self c.index_mut.ensures.value same.0 i; own = n.own; was_refused = n.was_refused }), same.1)
+    ((λ i. record { number = n.number; parts = put-back n.parts c.index-channel.result.now p c.write_once.new.self c.index_mut.ensures.value same.0 i; own = n.own; was_refused = n.was_refused }), same.1)
 
 pub returns-clause-stands : goal.returns-clause-stands
 returns-clause-stands g c = (
   c.requires.stands.0,
-  write-stands c.args.self.now.parts.items CHAN c.index_mut.result.now c.write_once.new.self (own g c) g.W.Named.world g.W.Planned.plan g.S.Stage.meaning g.S.Stage.stands_after g.S.Stage.is_spent g.T.Transport.state
+  write-stands c.args.self.now.parts.items c.index-channel.result.now c.index_mut.result.now c.write_once.new.self (own g c) g.W.Named.world g.W.Planned.plan g.S.Stage.meaning g.S.Stage.stands_after g.S.Stage.is_spent g.T.Transport.state
       c.args.self.now.number c.args.self.now.was_refused c.requires.stands.1 g.T.Transport.may_refuse c.args.work.now c.write_once.result c.write_once.new.work (given g c) c.write_once.ensures.writes_out,
-  c.requires.stands.2 ∙ sym (heads-stay c.args.self.now.parts.items CHAN c.index_mut.result.now c.write_once.new.self (own g c) c.write_once.ensures.same),
+  c.requires.stands.2 ∙ sym (heads-stay c.args.self.now.parts.items c.index-channel.result.now c.index_mut.result.now c.write_once.new.self (own g c) c.write_once.ensures.same),
 )
 
 pub returns-clause-routes : goal.returns-clause-routes
-returns-clause-routes g c = targets-stay c.args.self.now.parts.items CHAN c.index_mut.result.now c.write_once.new.self (own g c) c.write_once.ensures.same
+returns-clause-routes g c = targets-stay c.args.self.now.parts.items c.index-channel.result.now c.index_mut.result.now c.write_once.new.self (own g c) c.write_once.ensures.same
 
 pub returns-clause-writes : goal.returns-clause-writes
-returns-clause-writes g c = (routes c.args.self.now.parts.items CHAN c.index_mut.result.now c.write_once.new.self (own g c) g.S.Stage.meaning c.write_once.ensures.same c.write_once.ensures.writes).writes
+returns-clause-writes g c = (routes c.args.self.now.parts.items c.index-channel.result.now c.index_mut.result.now c.write_once.new.self (own g c) g.S.Stage.meaning c.write_once.ensures.same c.write_once.ensures.writes).writes
 
 pub returns-clause-taken : goal.returns-clause-taken
-returns-clause-taken g c = taken-none c.args.self.now.parts.items CHAN c.index_mut.result.now c.write_once.new.self (own g c) c.write_once.ensures.taken
+returns-clause-taken g c = taken-none c.args.self.now.parts.items c.index-channel.result.now c.index_mut.result.now c.write_once.new.self (own g c) c.write_once.ensures.taken
 
 pub returns-clause-lanes : goal.returns-clause-lanes
-returns-clause-lanes g c = (routes c.args.self.now.parts.items CHAN c.index_mut.result.now c.write_once.new.self (own g c) g.S.Stage.meaning c.write_once.ensures.same c.write_once.ensures.writes).lanes
+returns-clause-lanes g c = (routes c.args.self.now.parts.items c.index-channel.result.now c.index_mut.result.now c.write_once.new.self (own g c) g.S.Stage.meaning c.write_once.ensures.same c.write_once.ensures.writes).lanes
 
 pub returns-clause-placed : goal.returns-clause-placed
-returns-clause-placed g c = places-stay c.args.self.now.parts.items CHAN c.index_mut.result.now c.write_once.new.self (own g c) c.args.work.now c.write_once.new.work c.write_once.ensures.placed
+returns-clause-placed g c = places-stay c.args.self.now.parts.items c.index-channel.result.now c.index_mut.result.now c.write_once.new.self (own g c) c.args.work.now c.write_once.new.work c.write_once.ensures.placed
 
 pub returns-clause-made : goal.returns-clause-made
 returns-clause-made g c =
     let ps = c.args.self.now.parts.items in
     let p = c.index_mut.result.now in
     let s = c.requires.stands.1 in
-    made-here ps CHAN p c.write_once.new.self (own g c) g.W.Named.world g.W.Planned.plan g.S.Stage.meaning g.S.Stage.stands_after g.T.Transport.state c.args.self.now.number c.args.self.now.was_refused s
-    (head_hop p) c.args.work.now c.write_once.new.work c.write_once.ensures.others (c.write_once.ensures.made g.W.Named.world (s.parts CHAN p (own g c)).holds)
+    made-here ps c.index-channel.result.now p c.write_once.new.self (own g c) g.W.Named.world g.W.Planned.plan g.S.Stage.meaning g.S.Stage.stands_after g.T.Transport.state c.args.self.now.number c.args.self.now.was_refused s
+    (head_hop p) c.args.work.now c.write_once.new.work c.write_once.ensures.others (c.write_once.ensures.made g.W.Named.world (s.parts c.index-channel.result.now p (own g c)).holds)
