@@ -7,7 +7,7 @@ use std::sync::atomic::{AtomicU64, Ordering};
 const MAX_BITS: usize = 64;
 
 /// So many envelopes are taken from a queue, at most, before those that wait for room there are woken.
-const MAX_UNTOLD: u64 = 32;
+const MAX_UNTOLD: u64 = 56;
 
 /// Wakes an executor, and knows who waits for room in its queue. No contract speaks of it: that anyone is woken is not
 /// proved.

@@ -18,8 +18,9 @@ use std::alloc::{AllocError, Global};
 use std::marker::Model;
 use std::sync::Wait;
 
-/// So many envelopes are sent, at most, before the executors to which they went are woken.
-const MAX_UNRUNG: u32 = 32;
+/// So many envelopes are sent, at most, before the executors to which they went are woken. A queue of 64 has room for a few
+/// more, which come while its executor wakes.
+const MAX_UNRUNG: u32 = 56;
 
 /// What became of the oldest envelope for a target.
 #[derive(Clone, Copy, Debug, PartialEq, Eq)]
