@@ -156,6 +156,33 @@ fn give(
     Ok((took, drained(alloc, outputs)?))
 }
 
+/// A context that is given the next item of a lane answers so, and puts these out.
+fn assert_gives(
+    rt: &impl Abort,
+    alloc: Global,
+    context: &mut Context<Relay>,
+    kind: Kind,
+    item: Item,
+    answer: Took,
+    want: &[Envelope],
+) -> Result<(), AllocError> {
+    let (took, put) = give(rt, alloc, context, kind, item)?;
+    assert_eq!(rt; took, answer);
+    assert_eq!(rt; put.as_slice(), want);
+    Ok(())
+}
+
+/// A context that has failed drops an item, and puts nothing out.
+fn assert_drops(
+    rt: &impl Abort,
+    alloc: Global,
+    context: &mut Context<Relay>,
+    kind: Kind,
+    item: Item,
+) -> Result<(), AllocError> {
+    assert_gives(rt, alloc, context, kind, item, Took::Dropped, &[])
+}
+
 /// Fails a context, and answers what it puts out.
 fn fail(
     alloc: Global,
@@ -215,36 +242,30 @@ fn context_of(alloc: Global, direction: Direction, steps: u32) -> Context<Relay>
 fn fault_ends_context(rt: HostRuntime) -> Result<(), Fail> {
     let alloc = rt.alloc();
     let mut context = context_of(alloc, Direction::Inbound, 1);
-    let (took, put) = give(
+    let active = [data(2, 0, Item::Event(Event::Active))];
+    assert_gives(
         &rt,
         alloc,
         &mut context,
         Kind::Data,
         Item::Event(Event::Active),
+        Took::Ran,
+        active.as_slice(),
     )?;
-    assert_eq!(rt; took, Took::Ran);
-    assert_eq!(rt;
-        put.as_slice(),
-        [data(2, 0, Item::Event(Event::Active))].as_slice()
-    );
 
     let read = Event::Read(Message::Bytes(ByteString::from_vec(Vec::new(alloc))));
-    let (took, put) = give(&rt, alloc, &mut context, Kind::Data, Item::Event(read))?;
-    assert_eq!(rt; took, Took::Failed(Cause::Memory));
-    assert_eq!(rt;
-        put.as_slice(),
-        [data(2, 1, Item::Fail(Cause::Memory))].as_slice()
-    );
-
-    let (took, put) = give(
+    let failure = [data(2, 1, Item::Fail(Cause::Memory))];
+    assert_gives(
         &rt,
         alloc,
         &mut context,
         Kind::Data,
-        Item::Event(Event::ReadComplete),
+        Item::Event(read),
+        Took::Failed(Cause::Memory),
+        failure.as_slice(),
     )?;
-    assert_eq!(rt; took, Took::Dropped);
-    assert_eq!(rt; put.is_empty(), true);
+    let complete = Item::Event(Event::ReadComplete);
+    assert_drops(&rt, alloc, &mut context, Kind::Data, complete)?;
     assert_eq!(rt;
         context.taken(Lane {
             channel: 7,
@@ -277,36 +298,40 @@ fn fault_ends_context(rt: HostRuntime) -> Result<(), Fail> {
 fn refused_context(rt: HostRuntime) -> Result<(), Fail> {
     let alloc = rt.alloc();
     let mut context = context_of(alloc, Direction::Turn, 9);
-    let (took, put) = give(
+    let active = [
+        data(2, 0, Item::Event(Event::Active)),
+        data(4, 0, Item::Event(Event::Flush)),
+    ];
+    assert_gives(
         &rt,
         alloc,
         &mut context,
         Kind::Data,
         Item::Event(Event::Active),
+        Took::Ran,
+        active.as_slice(),
     )?;
-    assert_eq!(rt; took, Took::Ran);
-    assert_eq!(rt; put.len(), 2);
     assert_eq!(rt; context.is_ended(), false);
+    assert_refused(&rt, alloc, &mut context)?;
+    let complete = Item::Event(Event::ReadComplete);
+    assert_drops(&rt, alloc, &mut context, Kind::Data, complete)?;
+    assert_drops(&rt, alloc, &mut context, Kind::Flags, Item::Flag(false))?;
+    Ok(())
+}
 
-    let put = fail(alloc, &mut context, Cause::Refused)?;
-    let failure = Item::Fail(Cause::Refused);
-    assert_eq!(rt;
-        put.as_slice(),
-        [data(2, 1, failure.clone()?), data(4, 1, failure)].as_slice()
-    );
-    assert_eq!(rt; fail(alloc, &mut context, Cause::Memory)?.is_empty(), true);
-
-    let (took, put) = give(
-        &rt,
-        alloc,
-        &mut context,
-        Kind::Data,
-        Item::Event(Event::ReadComplete),
-    )?;
-    assert_eq!(rt; took, Took::Dropped);
-    assert_eq!(rt; put.is_empty(), true);
-    let (took, put) = give(&rt, alloc, &mut context, Kind::Flags, Item::Flag(false))?;
-    assert_eq!(rt; took, Took::Dropped);
+/// A turn that has put out one item on each lane, and is failed from outside, gives both lanes the failure, once.
+fn assert_refused(
+    rt: &impl Abort,
+    alloc: Global,
+    turn: &mut Context<Relay>,
+) -> Result<(), AllocError> {
+    let put = fail(alloc, turn, Cause::Refused)?;
+    let want = [
+        data(2, 1, Item::Fail(Cause::Refused)),
+        data(4, 1, Item::Fail(Cause::Refused)),
+    ];
+    assert_eq!(rt; put.as_slice(), want.as_slice());
+    let put = fail(alloc, turn, Cause::Memory)?;
     assert_eq!(rt; put.is_empty(), true);
     Ok(())
 }
@@ -315,38 +340,84 @@ fn refused_context(rt: HostRuntime) -> Result<(), Fail> {
 fn turn_quits(rt: HostRuntime) -> Result<(), Fail> {
     let alloc = rt.alloc();
     let mut turn = context_of(alloc, Direction::Turn, 9);
-    let (took, put) = give(
-        &rt,
-        alloc,
-        &mut turn,
-        Kind::Data,
-        Item::Event(Event::ReadComplete),
-    )?;
-    assert_eq!(rt; took, Took::Ran);
+    let complete = Item::Event(Event::ReadComplete);
     let want = [
         data(2, 0, Item::Event(Event::ReadComplete)),
         data(4, 0, Item::Event(Event::Flush)),
         data(4, 1, Item::End),
     ];
-    assert_eq!(rt; put.as_slice(), want.as_slice());
-
-    // It stays open for its input, and its lane downwards has ended once.
-    let (took, put) = give(
+    assert_gives(
         &rt,
         alloc,
         &mut turn,
         Kind::Data,
-        Item::Event(Event::Active),
+        complete,
+        Took::Ran,
+        want.as_slice(),
     )?;
-    assert_eq!(rt; took, Took::Ran);
-    assert_eq!(rt;
-        put.as_slice(),
-        [data(2, 1, Item::Event(Event::Active))].as_slice()
-    );
-    let (took, put) = give(&rt, alloc, &mut turn, Kind::Data, Item::End)?;
-    assert_eq!(rt; took, Took::Ended);
-    assert_eq!(rt; put.as_slice(), [data(2, 2, Item::End)].as_slice());
+    assert_ends_upwards(&rt, alloc, &mut turn)?;
     Ok(())
+}
+
+/// A turn that has quit stays open for its input, and its lane downwards has ended once.
+fn assert_ends_upwards(
+    rt: &impl Abort,
+    alloc: Global,
+    turn: &mut Context<Relay>,
+) -> Result<(), AllocError> {
+    let active = [data(2, 1, Item::Event(Event::Active))];
+    assert_gives(
+        rt,
+        alloc,
+        turn,
+        Kind::Data,
+        Item::Event(Event::Active),
+        Took::Ran,
+        active.as_slice(),
+    )?;
+    let end = [data(2, 2, Item::End)];
+    assert_gives(
+        rt,
+        alloc,
+        turn,
+        Kind::Data,
+        Item::End,
+        Took::Ended,
+        end.as_slice(),
+    )
+}
+
+/// A handler that fails hands the failure on with its cause.
+fn assert_handler_fails(rt: &impl Abort, alloc: Global, cause: Cause) -> Result<(), AllocError> {
+    let mut handler = context_of(alloc, Direction::Inbound, 9);
+    let want = [data(2, 0, Item::Fail(cause))];
+    assert_gives(
+        rt,
+        alloc,
+        &mut handler,
+        Kind::Data,
+        Item::Fail(cause),
+        Took::Failed(cause),
+        want.as_slice(),
+    )
+}
+
+/// So does a turn, into both lanes, and what comes behind it is dropped.
+fn assert_turn_fails(rt: &impl Abort, alloc: Global, cause: Cause) -> Result<(), AllocError> {
+    let mut turn = context_of(alloc, Direction::Turn, 9);
+    let want = [data(2, 0, Item::Fail(cause)), data(4, 0, Item::Fail(cause))];
+    assert_gives(
+        rt,
+        alloc,
+        &mut turn,
+        Kind::Data,
+        Item::Fail(cause),
+        Took::Failed(cause),
+        want.as_slice(),
+    )?;
+    assert_eq!(rt; turn.is_ended(), true);
+    assert_drops(rt, alloc, &mut turn, Kind::Data, Item::End)?;
+    assert_drops(rt, alloc, &mut turn, Kind::Flags, Item::Flag(false))
 }
 
 /// A failure goes into each lane with its cause, and what comes behind it is dropped.
@@ -359,24 +430,8 @@ fn failure_keeps_its_cause(rt: HostRuntime) -> Result<(), Fail> {
         Cause::Aborted,
         Cause::Refused,
     ] {
-        let mut handler = context_of(alloc, Direction::Inbound, 9);
-        let (took, put) = give(&rt, alloc, &mut handler, Kind::Data, Item::Fail(cause))?;
-        assert_eq!(rt; took, Took::Failed(cause));
-        assert_eq!(rt; put.as_slice(), [data(2, 0, Item::Fail(cause))].as_slice());
-
-        let mut turn = context_of(alloc, Direction::Turn, 9);
-        let (took, put) = give(&rt, alloc, &mut turn, Kind::Data, Item::Fail(cause))?;
-        assert_eq!(rt; took, Took::Failed(cause));
-        let want = [data(2, 0, Item::Fail(cause)), data(4, 0, Item::Fail(cause))];
-        assert_eq!(rt; put.as_slice(), want.as_slice());
-        assert_eq!(rt; turn.is_ended(), true);
-
-        let (took, put) = give(&rt, alloc, &mut turn, Kind::Data, Item::End)?;
-        assert_eq!(rt; took, Took::Dropped);
-        assert_eq!(rt; put.is_empty(), true);
-        let (took, put) = give(&rt, alloc, &mut turn, Kind::Flags, Item::Flag(false))?;
-        assert_eq!(rt; took, Took::Dropped);
-        assert_eq!(rt; put.is_empty(), true);
+        assert_handler_fails(&rt, alloc, cause)?;
+        assert_turn_fails(&rt, alloc, cause)?;
     }
     Ok(())
 }
@@ -403,31 +458,55 @@ fn failure_behind_a_quit(rt: HostRuntime) -> Result<(), Fail> {
 fn flags_pass(rt: HostRuntime) -> Result<(), Fail> {
     let alloc = rt.alloc();
     let mut context = context_of(alloc, Direction::Inbound, 9);
-    let (took, put) = give(&rt, alloc, &mut context, Kind::Flags, Item::Flag(false))?;
-    assert_eq!(rt; took, Took::Ran);
-    assert_eq!(rt; put.as_slice(), [flag(2, 0, false)].as_slice());
-
-    let (took, put) = give(&rt, alloc, &mut context, Kind::Data, Item::End)?;
-    assert_eq!(rt; took, Took::Ended);
-    assert_eq!(rt; put.as_slice(), [data(2, 0, Item::End)].as_slice());
-    let (took, put) = give(&rt, alloc, &mut context, Kind::Flags, Item::Flag(true))?;
-    assert_eq!(rt; took, Took::Ran);
-    assert_eq!(rt; put.as_slice(), [flag(2, 1, true)].as_slice());
-
-    let mut writer = context_of(alloc, Direction::Outbound, 9);
-    let (took, put) = give(
+    assert_passes(&rt, alloc, &mut context, 0, false)?;
+    let end = [data(2, 0, Item::End)];
+    assert_gives(
         &rt,
+        alloc,
+        &mut context,
+        Kind::Data,
+        Item::End,
+        Took::Ended,
+        end.as_slice(),
+    )?;
+    assert_passes(&rt, alloc, &mut context, 1, true)?;
+    assert_writer_fails(&rt, alloc)?;
+    Ok(())
+}
+
+/// A context hands a flag on, with this number.
+fn assert_passes(
+    rt: &impl Abort,
+    alloc: Global,
+    context: &mut Context<Relay>,
+    number: u64,
+    value: bool,
+) -> Result<(), AllocError> {
+    let want = [flag(2, number, value)];
+    assert_gives(
+        rt,
+        alloc,
+        context,
+        Kind::Flags,
+        Item::Flag(value),
+        Took::Ran,
+        want.as_slice(),
+    )
+}
+
+/// An outbound context hands a failure on, downwards.
+fn assert_writer_fails(rt: &impl Abort, alloc: Global) -> Result<(), AllocError> {
+    let mut writer = context_of(alloc, Direction::Outbound, 9);
+    let want = [data(2, 0, Item::Fail(Cause::Aborted))];
+    assert_gives(
+        rt,
         alloc,
         &mut writer,
         Kind::Data,
         Item::Fail(Cause::Aborted),
-    )?;
-    assert_eq!(rt; took, Took::Failed(Cause::Aborted));
-    assert_eq!(rt;
-        put.as_slice(),
-        [data(2, 0, Item::Fail(Cause::Aborted))].as_slice()
-    );
-    Ok(())
+        Took::Failed(Cause::Aborted),
+        want.as_slice(),
+    )
 }
 
 /// Gives the tail of channel 7 the next item of a lane.

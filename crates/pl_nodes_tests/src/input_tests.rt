@@ -106,34 +106,72 @@ fn assert_held(
     Ok(())
 }
 
-#[test]
-fn burst_by_burst(rt: HostRuntime) -> Result<(), Fail> {
-    let alloc = rt.alloc();
-    let mut head = two_bursts(alloc)?;
+/// The next read step gives this item alone.
+fn assert_gives(
+    rt: &impl Abort,
+    alloc: Global,
+    head: &mut Head<MemoryTransport>,
+    want: Envelope,
+) -> Result<(), AllocError> {
+    let want = [want];
+    assert_step(rt, alloc, head, ReadStep::Gave, want.as_slice())
+}
 
-    // The first step is not a burst, and so it is not held.
-    block(&rt, alloc, &mut head)?;
-    let active = [item(0, Item::Event(Event::Active))];
-    assert_step(&rt, alloc, &mut head, ReadStep::Gave, active.as_slice())?;
+/// The channel becomes active. That is not a burst, and so it is not held.
+fn assert_active(
+    rt: &impl Abort,
+    alloc: Global,
+    head: &mut Head<MemoryTransport>,
+) -> Result<(), AllocError> {
+    block(rt, alloc, head)?;
+    assert_gives(rt, alloc, head, item(0, Item::Event(Event::Active)))
+}
 
+/// The first burst comes, once what was flushed before it is written.
+fn assert_first(
+    rt: &impl Abort,
+    alloc: Global,
+    head: &mut Head<MemoryTransport>,
+) -> Result<(), AllocError> {
     // It still waits.
-    assert_step(&rt, alloc, &mut head, ReadStep::Held, &[])?;
-    write_once(alloc, &mut head)?;
+    assert_step(rt, alloc, head, ReadStep::Held, &[])?;
+    write_once(alloc, head)?;
     let first = [
         item(1, read(alloc, b"ab")?),
         item(2, read(alloc, b"c")?),
         item(3, Item::Event(Event::ReadComplete)),
     ];
-    assert_step(&rt, alloc, &mut head, ReadStep::Gave, first.as_slice())?;
+    assert_step(rt, alloc, head, ReadStep::Gave, first.as_slice())
+}
 
-    assert_held(&rt, alloc, &mut head)?;
-    let second = [item(4, Item::Event(Event::ReadComplete))];
-    assert_step(&rt, alloc, &mut head, ReadStep::Gave, second.as_slice())?;
+/// The second burst, of no chunk, is held, and then comes.
+fn assert_second(
+    rt: &impl Abort,
+    alloc: Global,
+    head: &mut Head<MemoryTransport>,
+) -> Result<(), AllocError> {
+    assert_held(rt, alloc, head)?;
+    assert_gives(rt, alloc, head, item(4, Item::Event(Event::ReadComplete)))
+}
 
-    // Nor is the end.
-    block(&rt, alloc, &mut head)?;
-    let end = [item(5, Item::End)];
-    assert_step(&rt, alloc, &mut head, ReadStep::Gave, end.as_slice())?;
-    assert_step(&rt, alloc, &mut head, ReadStep::Done, &[])?;
+/// The end is not held. No step is left behind it.
+fn assert_end(
+    rt: &impl Abort,
+    alloc: Global,
+    head: &mut Head<MemoryTransport>,
+) -> Result<(), AllocError> {
+    block(rt, alloc, head)?;
+    assert_gives(rt, alloc, head, item(5, Item::End))?;
+    assert_step(rt, alloc, head, ReadStep::Done, &[])
+}
+
+#[test]
+fn burst_by_burst(rt: HostRuntime) -> Result<(), Fail> {
+    let alloc = rt.alloc();
+    let mut head = two_bursts(alloc)?;
+    assert_active(&rt, alloc, &mut head)?;
+    assert_first(&rt, alloc, &mut head)?;
+    assert_second(&rt, alloc, &mut head)?;
+    assert_end(&rt, alloc, &mut head)?;
     Ok(())
 }
