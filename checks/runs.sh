@@ -1,7 +1,7 @@
 #!/bin/sh
 # Runs each example on threads, over both queues, and compares its report with that of `plain`.
 #
-# usage: checks/runs.sh PROGRAM [TIMES]     each is run once, or so many times
+# usage: checks/runs.sh PROGRAM [TIMES [EXAMPLE..]]     each is run once, or so many times; all, or only these
 #
 # Where nothing fails the report is that of `plain`, and the status 0. Where a transport fails or the channel is aborted, each
 # tail and the bytes of each channel begin those of `plain`, and no channel stands open. Each run has a minute. With waiting
@@ -11,6 +11,12 @@ program=$1
 times=${2:-1}
 here=$(cd "$(dirname "$0")" && pwd)
 examples=$here/../examples
+if [ $# -gt 2 ]; then
+    shift 2
+    wanted=" $* "
+else
+    wanted=
+fi
 work=$(mktemp -d)
 trap 'rm -rf "$work"' EXIT
 
@@ -35,6 +41,10 @@ run_once() {
 ran=0
 for session in "$examples"/*/session.json "$examples"/*/*/session.json; do
     example=$(dirname "$session")
+    case ${wanted:-" ${example#"$examples"/} "} in
+        *" ${example#"$examples"/} "*) ;;
+        *) continue ;;
+    esac
     "$program" plain <"$session" >"$work/plain" 2>/dev/null || continue
     for queue in waiting ring; do
         case $queue in

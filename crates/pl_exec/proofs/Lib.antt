@@ -19,3 +19,7 @@ mod LaneTablesSums
 mod LaneTablesEvery
 mod LaneTablesSteps
 pub mod LaneTables
+pub mod WordLemmas
+pub mod SeatLemmas
+pub mod ToldNodes
+pub mod TellingStart

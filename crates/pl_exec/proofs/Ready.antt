@@ -30,13 +30,8 @@ use Rattle.pl_exec.specs.Sharing.{AreShared, places_of}
 use Rattle.pl_exec.specs.Starting.{AreReady}
 use Rattle.pl_exec.proofs.Fits.{IsTable}
 use Rattle.pl_exec.proofs.FitsStart.{Stands, can-start}
+use Rattle.pl_exec.proofs.SharesMade.{at-index}
 use Rattle.pl_exec.proofs.LaneTables.{table-square, table-length, table-open, crossing-there, entering-crosses}
-
-at-index : {X : Type 0} (xs : List X) (i : ℕ) → i < length xs → (x : X) × (slice_get xs i ≡ Some x)
-at-index xs i h = elim (slice_get_cases xs i).1 [
-  | inl at ↦ (at.0, at.2)
-  | inr past ↦ absurd (omega (arith, h, past.0))
-]
 
 module _ {S T : Type 0} (meaning : S → Meaning) (stands_after : S → List Event → Type 0) (state : T → TransportState) (plan : Plan) (parts : List (PartView S T)) (ready : AreReady meaning stands_after state plan parts) where
   pub ready-count : length parts ≡ length plan.channels

@@ -4,3 +4,5 @@ pub mod Lanes
 pub mod Sharing
 pub mod Reported
 pub mod Starting
+pub mod SessionWords
+pub mod Telling

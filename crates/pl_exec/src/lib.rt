@@ -8,7 +8,10 @@ mod planned;
 mod reporting;
 mod running;
 mod sharing;
+mod telling;
+mod words;
 
 pub use pl_executor::{Gate, RunFault};
 pub use planned::Planned;
-pub use running::{QueueKind, run, run_world};
+pub use running::{QueueKind, run, run_with, run_world};
+pub use words::{HeadSeats, PROMISES, Reader, Words};

@@ -6,6 +6,8 @@ ghost use Rattle.pl_world.specs.declared.limits.TheConstants.{MAX_CAPACITY};
 ghost use Rattle.pl_world.specs.Plans.{planned};
 ghost use Rattle.pl_world.specs.Sessions.{plan_of};
 ghost use Rattle.pl_exec.specs.Reported.{IsRunReport};
+ghost use Rattle.pl_exec.specs.SessionWords.{AreHeadSeatsOf, HaveMarksOf};
+ghost use Rattle.pl_exec.specs.Telling.{HaveMarks};
 ghost use Rattle.pl_exec.specs.Starting.{AreReady};
 
 use crate::lanes::lane_table;
@@ -13,6 +15,8 @@ use crate::opening::{executors, open_all};
 use crate::planned::Planned;
 use crate::reporting::report_of;
 use crate::sharing::{places, shares};
+use crate::telling::telling;
+use crate::words::{HeadSeats, Words, words_of};
 use pl_event::Stage;
 use pl_executor::{Gate, RunFault, run_all};
 use pl_head::{MemoryTransport, Transport};
@@ -45,8 +49,30 @@ pub fn run<G: Gate + Sync, R: Threads + Wait + Sync>(
 ) -> Result<Report, RunFault>
     ensures { IfOk result (λ report. IsRunReport (plan_of ⟦<Handler as Stage>⟧.meaning ⟦<MemoryTransport as Transport>⟧.state session) report) }
 {
+    let (words, seats, _none) = Words::new(alloc, &session, 0)?;
+    run_with(rt, alloc, session, queue, gate, &words, seats)
+}
+
+/// Runs a session as `run` does, while any thread that has a reader of these words looks at them. The words and the seats
+/// are those that one `Words::new` gave for a session with the same marks in the same order of channels.
+///
+/// After each call on a channel's head its executor sets the channel's mark where the bytes that wait, or the flag, are
+/// others than it set last, up to `MAX_SETS - 1` times; and it settles the promise of each write that has ended.
+pub fn run_with<G: Gate + Sync, R: Threads + Wait + Sync>(
+    rt: &R,
+    alloc: Global,
+    session: Session,
+    queue: QueueKind,
+    gate: &G,
+    words: &Words,
+    seats: HeadSeats,
+) -> Result<Report, RunFault>
+    requires seats { AreHeadSeatsOf words.now seats }
+    requires marks { HaveMarksOf seats session.world.channels }
+    ensures { IfOk result (λ report. IsRunReport (plan_of ⟦<Handler as Stage>⟧.meaning ⟦<MemoryTransport as Transport>⟧.state session) report) }
+{
     let Session { world, capacity } = session;
-    run_world(rt, alloc, world, capacity, queue, gate)
+    run_world_with(rt, alloc, world, capacity, queue, gate, words, seats)
 }
 
 /// Runs a world of any stages and transports, whose queues hold `capacity` items each, from 1 to `MAX_CAPACITY`.
@@ -61,9 +87,33 @@ pub fn run_world<S: Stage + Send, T: Transport + Send, G: Gate + Sync, R: Thread
     requires capacity { (1 ≤ capacity) × (capacity ≤ MAX_CAPACITY) }
     ensures { IfOk result (λ report. IsRunReport (planned S.meaning T.state capacity world.executors world.channels) report) }
 {
+    let (words, seats, _none) = words_of(alloc, world.channels(), 0)?;
+    run_world_with(rt, alloc, world, capacity, queue, gate, &words, seats)
+}
+
+/// Runs a world whose heads tell these words.
+fn run_world_with<S: Stage + Send, T: Transport + Send, G: Gate + Sync, R: Threads + Wait + Sync>(
+    rt: &R,
+    alloc: Global,
+    world: World<S, T>,
+    capacity: u32,
+    queue: QueueKind,
+    gate: &G,
+    words: &Words,
+    seats: HeadSeats,
+) -> Result<Report, RunFault>
+    requires capacity { (1 ≤ capacity) × (capacity ≤ MAX_CAPACITY) }
+    requires seats { AreHeadSeatsOf words.now seats }
+    requires marks { HaveMarksOf seats world.channels }
+    ensures { IfOk result (λ report. IsRunReport (planned S.meaning T.state capacity world.executors world.channels) report) }
+{
     match queue {
-        QueueKind::Waiting => run_waiting::<Brand, S, T, G, R>(rt, alloc, world, capacity, gate),
-        QueueKind::Ring => run_ring::<Brand, S, T, G, R>(rt, alloc, world, capacity, gate),
+        QueueKind::Waiting => {
+            run_waiting::<Brand, S, T, G, R>(rt, alloc, world, capacity, gate, words, seats)
+        }
+        QueueKind::Ring => {
+            run_ring::<Brand, S, T, G, R>(rt, alloc, world, capacity, gate, words, seats)
+        }
     }
 }
 
@@ -73,13 +123,23 @@ fn run_waiting<
     T: Transport + Send,
     G: Gate + Sync,
     R: Threads + Wait + Sync,
->(rt: &R, alloc: Global, world: World<S, T>, capacity: u32, gate: &G) -> Result<Report, RunFault>
+>(
+    rt: &R,
+    alloc: Global,
+    world: World<S, T>,
+    capacity: u32,
+    gate: &G,
+    words: &Words,
+    seats: HeadSeats,
+) -> Result<Report, RunFault>
     requires capacity { (1 ≤ capacity) × (capacity ≤ MAX_CAPACITY) }
     requires world { W.world ≡ lanes_of W.plan }
     requires plan { W.plan ≡ planned S.meaning T.state capacity world.executors world.channels }
+    requires seats { AreHeadSeatsOf words.now seats }
+    requires marks { HaveMarksOf seats world.channels }
     ensures { IfOk result (λ report. IsRunReport W.plan report) }
 {
-    run_by::<W, WaitingBox<W>, S, T, G, R>(rt, alloc, world, capacity, gate)
+    run_by::<W, WaitingBox<W>, S, T, G, R>(rt, alloc, world, capacity, gate, words, seats)
 }
 
 fn run_ring<
@@ -88,13 +148,23 @@ fn run_ring<
     T: Transport + Send,
     G: Gate + Sync,
     R: Threads + Wait + Sync,
->(rt: &R, alloc: Global, world: World<S, T>, capacity: u32, gate: &G) -> Result<Report, RunFault>
+>(
+    rt: &R,
+    alloc: Global,
+    world: World<S, T>,
+    capacity: u32,
+    gate: &G,
+    words: &Words,
+    seats: HeadSeats,
+) -> Result<Report, RunFault>
     requires capacity { (1 ≤ capacity) × (capacity ≤ MAX_CAPACITY) }
     requires world { W.world ≡ lanes_of W.plan }
     requires plan { W.plan ≡ planned S.meaning T.state capacity world.executors world.channels }
+    requires seats { AreHeadSeatsOf words.now seats }
+    requires marks { HaveMarksOf seats world.channels }
     ensures { IfOk result (λ report. IsRunReport W.plan report) }
 {
-    run_by::<W, RingBox<W>, S, T, G, R>(rt, alloc, world, capacity, gate)
+    run_by::<W, RingBox<W>, S, T, G, R>(rt, alloc, world, capacity, gate, words, seats)
 }
 
 /// Runs a world over mailboxes of one kind.
@@ -105,18 +175,37 @@ fn run_by<
     T: Transport + Send,
     G: Gate + Sync,
     R: Threads + Wait + Sync,
->(rt: &R, alloc: Global, world: World<S, T>, capacity: u32, gate: &G) -> Result<Report, RunFault>
+>(
+    rt: &R,
+    alloc: Global,
+    world: World<S, T>,
+    capacity: u32,
+    gate: &G,
+    words: &Words,
+    seats: HeadSeats,
+) -> Result<Report, RunFault>
 where
     M::Sender: Drop + Send,
     M::Taker: Drop + Send,
     requires capacity { (1 ≤ capacity) × (capacity ≤ MAX_CAPACITY) }
     requires world { W.world ≡ lanes_of W.plan }
     requires plan { W.plan ≡ planned S.meaning T.state capacity world.executors world.channels }
+    requires seats { AreHeadSeatsOf words.now seats }
+    requires marks { HaveMarksOf seats world.channels }
     ensures { IfOk result (λ report. IsRunReport W.plan report) }
 {
     let count = world.executors() as usize;
     let parts = placed(alloc, world.into_channels().into_vec())?;
-    run_parts::<W, M, S, T, G, R>(rt, alloc, parts, count, capacity as usize, gate)
+    run_parts::<W, M, S, T, G, R>(
+        rt,
+        alloc,
+        parts,
+        count,
+        capacity as usize,
+        gate,
+        words,
+        seats,
+    )
 }
 
 /// Runs the channels of the plan on so many executors, with queues of this capacity.
@@ -134,6 +223,8 @@ fn run_parts<
     count: usize,
     capacity: usize,
     gate: &G,
+    words: &Words,
+    seats: HeadSeats,
 ) -> Result<Report, RunFault>
 where
     M::Sender: Drop + Send,
@@ -142,12 +233,15 @@ where
     requires ready { AreReady S.meaning S.stands_after T.state W.plan parts.items }
     requires executors { count ≡ W.plan.executors }
     requires capacity { capacity ≡ W.plan.capacity }
+    requires seats { AreHeadSeatsOf words.now seats }
+    requires marks { HaveMarks seats W.plan.channels }
     ensures { IfOk result (λ report. IsRunReport W.plan report) }
 {
     let channels = parts.len();
     let places = places(alloc, count, parts.as_slice())?;
     let lanes = lane_table(alloc, parts.as_slice(), count)?;
-    let nodes = shares(alloc, parts, count)?;
+    let own = shares(alloc, parts, count)?;
+    let nodes = telling::<W, S, T>(alloc, words, seats, own)?;
     let (inboxes, ways) = open_all::<W, M>(alloc, lanes, capacity)?;
     let executors = executors(alloc, inboxes.as_slice(), ways, nodes, places)?;
     let all = run_all(rt, alloc, gate, executors)?;

@@ -1,5 +1,6 @@
 //! What a gate is told of the turns of executors.
 
+use crate::sessions::{PING, decoded_apart, on_loops};
 use pl_exec::{Gate, QueueKind, run};
 use pl_text::read_session;
 use pl_world::{Report, Stands};
@@ -13,32 +14,6 @@ use std::thread::Threads;
 
 /// How often an executor looks for another.
 const LOOKS: u32 = 10_000_000;
-
-/// Two loops, each with a channel that takes PING.
-const TWO_LOOPS: &str = r#"{"version":1,"capacity":4,"loops":2,"channels":[{"handlers":[
-{"op":"last","name":"lines","kind":"lines","max":64},
-{"op":"last","name":"decode","kind":"decode"},
-{"op":"last","name":"lineend","kind":"lineend"},
-{"op":"last","name":"encode","kind":"encode"},
-{"op":"last","name":"service","kind":"service"}],
-"bursts":[["PING\r\n"]]},
-{"handlers":[
-{"op":"last","name":"lines","kind":"lines","max":64},
-{"op":"last","name":"decode","kind":"decode"},
-{"op":"last","name":"lineend","kind":"lineend"},
-{"op":"last","name":"encode","kind":"encode"},
-{"op":"last","name":"service","kind":"service"}],
-"bursts":[["PING\r\n"]]}]}"#;
-
-/// One channel, whose decoder is on an executor of its own.
-const DECODER_APART: &str =
-    r#"{"version":1,"capacity":1,"loops":1,"groups":[{"name":"a","size":1}],"channels":[{"handlers":[
-{"op":"last","name":"lines","kind":"lines","max":64},
-{"op":"last","name":"decode","kind":"decode","group":"a"},
-{"op":"last","name":"lineend","kind":"lineend"},
-{"op":"last","name":"encode","kind":"encode"},
-{"op":"last","name":"service","kind":"service"}],
-"bursts":[["PING\r\n"]]}]}"#;
 
 /// The first turn of each of two executors waits until the other's has begun.
 #[derive(Drop)]
@@ -118,39 +93,49 @@ fn is_drained(report: Option<Report>, channels: usize) -> bool {
     }
 }
 
-fn two_meet<R: Abort + Threads + Wait + Sync>(rt: &R, alloc: Global, queue: QueueKind) {
+fn two_meet<R: Abort + Threads + Wait + Sync>(
+    rt: &R,
+    alloc: Global,
+    queue: QueueKind,
+) -> Result<(), Fail> {
+    let session = on_loops(alloc, &[PING, PING])?;
     let meeting = Meeting {
         first: AtomicU64::new(0),
         second: AtomicU64::new(0),
         met: AtomicU64::new(0),
     };
-    assert!(rt; is_drained(ran(rt, alloc, TWO_LOOPS, queue, &meeting), 2));
+    assert!(rt; is_drained(ran(rt, alloc, session.as_str(), queue, &meeting), 2));
     assert_eq!(rt; meeting.met.load(Ordering::SeqCst), 2);
+    Ok(())
 }
 
-fn turns_come_in_order<R: Abort + Threads + Wait + Sync>(rt: &R, alloc: Global, queue: QueueKind) {
+fn turns_come_in_order<R: Abort + Threads + Wait + Sync>(
+    rt: &R,
+    alloc: Global,
+    queue: QueueKind,
+) -> Result<(), Fail> {
+    let session = decoded_apart(alloc, 1)?;
     let counting = Counting {
         first: AtomicU64::new(0),
         second: AtomicU64::new(0),
         wrong: AtomicU64::new(0),
     };
-    assert!(rt; is_drained(ran(rt, alloc, DECODER_APART, queue, &counting), 1));
+    assert!(rt; is_drained(ran(rt, alloc, session.as_str(), queue, &counting), 1));
     assert_eq!(rt; counting.wrong.load(Ordering::SeqCst), 0);
     // `Active`, the line, `ReadComplete` and the end go to each of the two, at most one in each turn.
     assert!(rt; counting.first.load(Ordering::SeqCst) >= 4);
     assert!(rt; counting.second.load(Ordering::SeqCst) >= 4);
+    Ok(())
 }
 
 #[test]
 fn gate_needs_two_threads(rt: HostRuntime) -> Result<(), Fail> {
-    two_meet(&rt, rt.alloc(), QueueKind::Ring);
-    two_meet(&rt, rt.alloc(), QueueKind::Waiting);
-    Ok(())
+    two_meet(&rt, rt.alloc(), QueueKind::Ring)?;
+    two_meet(&rt, rt.alloc(), QueueKind::Waiting)
 }
 
 #[test]
 fn turns_are_told_in_order(rt: HostRuntime) -> Result<(), Fail> {
-    turns_come_in_order(&rt, rt.alloc(), QueueKind::Ring);
-    turns_come_in_order(&rt, rt.alloc(), QueueKind::Waiting);
-    Ok(())
+    turns_come_in_order(&rt, rt.alloc(), QueueKind::Ring)?;
+    turns_come_in_order(&rt, rt.alloc(), QueueKind::Waiting)
 }

@@ -16,3 +16,4 @@ mod PartSteps
 mod HeadReports
 mod TakenSlots
 pub mod ShareLemmas
+pub mod ToldLemmas

@@ -23,12 +23,13 @@ ghost use Rattle.pl_part.specs.Parts.{PartHolds, PartTakes, PartReads, PartWrite
 ghost use Rattle.pl_part.specs.Counts.{head_done, part_done};
 ghost use Rattle.pl_part.specs.PartCalls.{IsNextFor, Taken, Given};
 ghost use Rattle.pl_part.specs.Shares.{IsShare, IsShareBy, EachPart, executor_of};
+ghost use Rattle.pl_part.specs.Told.{IsTold, TellsNext, part_untold};
 
 use crate::ends::{abort_at_head, read_at_head, take_at_head, write_at_head};
 use crate::paths::PathPart;
 use crate::shares::take_where;
 use pl_context::{Outputs, Tail, Took};
-use pl_event::{Envelope, Lane, Stage};
+use pl_event::{Envelope, Lane, Outcome, Stage};
 use pl_head::{Head, OutStep, ReadStep, Transport};
 use std::alloc::{AllocError, Global};
 use std::marker::Model;
@@ -260,6 +261,37 @@ impl<S: Stage, T: Transport> ChannelPart<S, T> {
             Some(head) => head.is_written(),
             None => true,
         }
+    }
+
+    /// How many bytes the head's writes hold that have no outcome yet, and whether the channel is writable. None where no head
+    /// is among the nodes.
+    pub fn mark(&self) -> Option<(u128, bool)>
+        requires holds { (world : World) × PartHolds world S.meaning S.stands_after T.state self.now }
+        ensures some { IfSome result (λ mark. (h : HeadView T) × (self.now.head ≡ Some h) × (mark.0 ≡ h.buffer.pending) × (mark.1 ≡ not h.buffer.is_unwritable)) }
+        ensures none { IfNone result (self.now.head ≡ None) }
+
+        // Above the high mark it is not writable, below the low one it is.
+        ensures above { IfSome result (λ mark. (h : HeadView T) → self.now.head ≡ Some h → h.buffer.low ≤ h.buffer.high → h.buffer.high < mark.0 → mark.1 ≡ false) }
+        ensures below { IfSome result (λ mark. (h : HeadView T) → self.now.head ≡ Some h → h.buffer.low ≤ h.buffer.high → mark.0 < h.buffer.low → mark.1 ≡ true) }
+    {
+        match &self.head {
+            Some(head) => Some((head.pending(), head.is_writable())),
+            None => None,
+        }
+    }
+
+    /// The head's first settled write that was not told yet, with its outcome: each write is told once, in the order of
+    /// settling. None where all were told, or no head is among the nodes. It takes no memory.
+    pub fn next_settled(&mut self) -> Option<(u64, Outcome)>
+        ensures some { IfSome result (λ next. TellsNext self.old next.0 next.1 self.new) }
+        ensures none { IfNone result ((part_untold self.old ≡ []) × (self.new ≡ self.old)) }
+        ensures told { IsTold self.old self.new }
+        ensures holds { (world : World) → PartHolds world S.meaning S.stands_after T.state self.old → PartHolds world S.meaning S.stands_after T.state self.new }
+    {
+        let Some(head) = &mut self.head else {
+            return None;
+        };
+        head.next_settled()
     }
 
     /// Gives the part up for the channel's ends, where they are among its nodes.

@@ -1,4 +1,4 @@
-use Rattle.std.proofs.Common.{List, slice_get, ap, sym, ◌∙◌, subst}
+use Rattle.std.proofs.Common.{List, map, slice_get, ap, sym, ◌∙◌, subst}
 use Rattle.pl_channel.proofs.WorldChannels.{channel-small}
 use Rattle.pl_replay.specs.Starts.{ArePlaced}
 use Rattle.pl_replay.proofs.NetStarts.{All-from-at}
@@ -6,6 +6,8 @@ use Rattle.pl_world.specs.declared.session.Recorded.{Recorded}
 use Rattle.pl_world.specs.Plans.{Plan, channel_planned, planned}
 use Rattle.pl_world.specs.PlanRules.{IsSmallChannel}
 use Rattle.pl_exec.specs.Starting.{AreReady}
+use Rattle.pl_exec.specs.Telling.{plan_marks}
+use Rattle.pl_exec.proofs.SeatLemmas.{planned-marks}
 use Rattle.pl_exec.proofs.running.run_by.Goals as goal
 
 pub placed-requires-clause-small : goal.placed-requires-clause-small
@@ -29,3 +31,8 @@ run_parts-requires-clause-ready g c κs lives =
       executors = is.executors;
       capacity = c.requires.capacity.1;
     })
+
+-- the seats have the marks of the plan's channels
+pub run_parts-requires-clause-marks : goal.run_parts-requires-clause-marks
+run_parts-requires-clause-marks g c κs lives =
+    c.requires.marks ∙ planned-marks g.S.Stage.meaning g.T.Transport.state c.args.world.channels ∙ sym (ap (λ (p : Plan). map plan_marks p.channels) c.requires.plan)

@@ -4,11 +4,16 @@ use Rattle.std.proofs.lemmas.List.{length-map}
 use Rattle.pl_part.specs.Parts.{PartView}
 use Rattle.pl_replay.specs.Placed.{HasExecutors, all_lanes}
 use Rattle.pl_executor.specs.declared.inbox.Inbox.{Inbox}
+use Rattle.pl_exec.specs.declared.nodes.OwnNodes.{OwnNodes}
 use Rattle.pl_exec.specs.Lanes.{AreLaid, lane_table}
 use Rattle.pl_exec.specs.Opening.{InboxView, AreOpened, lanes_in}
 use Rattle.pl_exec.specs.Sharing.{places_of}
 use Rattle.pl_exec.proofs.Ready.{ready-count, ready-few, ready-hops, ready-laid, ready-square, ready-executors, ready-open, ready-start, executors-in-order}
+use Rattle.pl_exec.proofs.TellingStart.{telling-start}
 use Rattle.pl_exec.proofs.running.run_parts.Goals as goal
+
+pub telling-requires-clause-plan : goal.telling-requires-clause-plan
+telling-requires-clause-plan g c = c.requires.ready.ruled
 
 pub places-requires-clause-few : goal.places-requires-clause-few
 places-requires-clause-few g c =
@@ -52,14 +57,17 @@ executors-requires-clause-start g c =
     let opened = subst (λ (l : List (Inbox g.row.W.Denot g.row.M.Denot g.row.M-Sender.Denot g.row.M-Taker.Denot)). AreOpened g.M.Mailbox.is_taker g.M.Mailbox.takes_of g.M.Mailbox.is_sender g.M.Mailbox.sends_of (lanes_in c.in_ok-lanes.lanes.items) (map view l) c.in_ok-inboxes.ways.items)
     (sym c.as_slice-3.ensures.value) c.in_ok-inboxes.ensures.opened in
     let reserved = c.in_ok-places.ensures ∙ ap (λ (l : List (PartView g.row.S.Denot g.row.T.Denot)). places_of l c.args.count) c.as_slice.ensures.value in
-    ready-start g.S.Stage.meaning g.S.Stage.stands_after g.T.Transport.state g.W.Planned.plan c.args.parts.items c.requires.ready c.args.count c.requires.executors (lanes_in c.in_ok-lanes.lanes.items) (c.in_ok-lanes.ensures ∙ ap (λ (l : List (PartView g.row.S.Denot g.row.T.Denot)). lane_table l c.args.count) c.as_slice-2.ensures.value)
+    telling-start g.S.Stage.meaning g.S.Stage.stands_after g.T.Transport.state g.W.Named.world g.W.Planned.plan g.M.Mailbox.is_taker g.M.Mailbox.takes_of g.M.Mailbox.is_sender g.M.Mailbox.sends_of
+    (map view c.as_slice-3.result.now) c.in_ok-inboxes.ways.items c.in_ok-own.own.items c.in_ok-nodes.nodes.items c.in_ok-places.places.items c.in_ok-nodes.ensures.nodes c.in_ok-nodes.ensures.seated
+    (ready-start g.S.Stage.meaning g.S.Stage.stands_after g.T.Transport.state g.W.Planned.plan c.args.parts.items c.requires.ready c.args.count c.requires.executors (lanes_in c.in_ok-lanes.lanes.items) (c.in_ok-lanes.ensures ∙ ap (λ (l : List (PartView g.row.S.Denot g.row.T.Denot)). lane_table l c.args.count) c.as_slice-2.ensures.value)
     g.W.Named.world c.requires.world g.M.Mailbox.is_taker g.M.Mailbox.takes_of g.M.Mailbox.is_sender g.M.Mailbox.sends_of
-    (map view c.as_slice-3.result.now) c.in_ok-inboxes.ways.items c.in_ok-nodes.nodes.items c.in_ok-places.places.items opened c.in_ok-nodes.ensures reserved
+    (map view c.as_slice-3.result.now) c.in_ok-inboxes.ways.items c.in_ok-own.own.items c.in_ok-places.places.items opened c.in_ok-own.ensures reserved)
 
 pub report_of-requires-clause-executors : goal.report_of-requires-clause-executors
 report_of-requires-clause-executors g c =
     c.in_ok-all.ensures
-    ∙ executors-in-order (λ e. e.0) c.in_ok-executors.executors.items c.in_ok-nodes.nodes.items g.W.Planned.plan.executors c.in_ok-executors.ensures.parts (c.in_ok-nodes.ensures.count ∙ c.requires.executors) c.in_ok-executors.ensures.first
+    ∙ executors-in-order (λ e. e.0) c.in_ok-executors.executors.items c.in_ok-nodes.nodes.items g.W.Planned.plan.executors c.in_ok-executors.ensures.parts
+    (sym (length-map c.in_ok-nodes.nodes.items (λ n. n.nodes)) ∙ ap (λ (l : List (OwnNodes g.row.S.Denot g.row.T.Denot)). length l) c.in_ok-nodes.ensures.nodes ∙ c.in_ok-own.ensures.count ∙ c.requires.executors) c.in_ok-executors.ensures.first
 
 pub report_of-requires-clause-channels : goal.report_of-requires-clause-channels
 report_of-requires-clause-channels g c =

@@ -1,6 +1,6 @@
 use Rattle.pl_channel.specs.Lanes.{lanes_of}
 use Rattle.pl_world.specs.Plans.{planned}
-use Rattle.pl_exec.proofs.running.run_world.Given as goal
+use Rattle.pl_exec.proofs.running.run_world_with.Given as goal
 
 abbrev pub ghosts-run_waiting-W-Named : goal.ghosts-run_waiting-W-Named
 ghosts-run_waiting-W-Named g a = record { world = lanes_of (planned g.S.Stage.meaning g.T.Transport.state a.capacity a.world.executors a.world.channels) }

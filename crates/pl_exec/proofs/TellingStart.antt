@@ -1,0 +1,60 @@
+-- Executors whose heads tell words can start where their nodes can.
+use Rattle.std.proofs.Common.{◌≡◌, ℕ, ◌≤◌, List, length, map, slice_get, Option, Some, ap, sym, ◌∙◌, subst}
+use Rattle.std.specs.Prelude.{All}
+use Rattle.std.specs.Option.{option_map}
+use Rattle.std.proofs.lemmas.List.{length-map}
+use Rattle.std.proofs.lemmas.Option.{slice_get-map, same_Some}
+use Rattle.pl_event.specs.declared.events.Event.{Event}
+use Rattle.pl_event.specs.Meaning.{Meaning}
+use Rattle.pl_event.specs.Worlds.{World}
+use Rattle.pl_event.proofs.Lists.{All-at}
+use Rattle.pl_queue.specs.declared.views.SenderView.{SenderView}
+use Rattle.pl_queue.specs.declared.views.TakerView.{TakerView}
+use Rattle.pl_head.specs.Transports.{TransportState}
+use Rattle.pl_channel.specs.Lanes.{lanes_of}
+use Rattle.pl_replay.specs.Channels.{taken_of, writes_of, came_of}
+use Rattle.pl_replay.specs.Channels.{lanes_of as data_lanes_of}
+use Rattle.pl_world.specs.Plans.{Plan}
+use Rattle.pl_exec.specs.declared.nodes.OwnNodes.{OwnNodes}
+use Rattle.pl_exec.specs.declared.telling.TellingNodes.{TellingNodes}
+use Rattle.pl_exec.specs.Opening.{InboxView, WaysView, PlacesView, CanStart}
+use Rattle.pl_exec.specs.OwnNodes.{target_of, heads_of, NodesStand}
+use Rattle.pl_exec.specs.Telling.{AreSeated}
+
+module _ {S T : Type 0} (meaning : S → Meaning) (stands_after : S → List Event → Type 0) (state : T → TransportState) (world : World) (plan : Plan) where
+  abbrev Own : OwnNodes S T → Type 0
+  Own n = (world ≡ lanes_of plan) × NodesStand world plan meaning stands_after state n.number n.was_refused n.parts.items × (n.own.items ≡ heads_of n.parts.items)
+
+  abbrev Telling : TellingNodes S T → Type 0
+  Telling n = (world ≡ lanes_of plan) × NodesStand world plan meaning stands_after state n.nodes.number n.nodes.was_refused n.nodes.parts.items × (n.nodes.own.items ≡ heads_of n.nodes.parts.items) × AreSeated n.words.now plan n.seats.items
+
+  module _ {M K D : Type 0} (is_taker : M → K → Type 0) (takes_of : K → TakerView) (is_sender : M → D → Type 0) (sends_of : D → SenderView) where
+    pub telling-start : (inboxes : List (InboxView M)) (ways : List (WaysView K D)) (own : List (OwnNodes S T)) (all : List (TellingNodes S T)) (places : List PlacesView) → map (λ n. n.nodes) all ≡ own
+        → All (λ n. AreSeated n.words.now plan n.seats.items) all
+        → CanStart is_taker takes_of is_sender sends_of Own (λ n. n.number) (λ n. data_lanes_of n.parts.items) (λ n l. target_of n.parts.items l) (λ n l. writes_of meaning n.parts.items l) (λ n l. taken_of n.parts.items l)
+        (λ n l. came_of meaning n.parts.items l) (λ n. n.was_refused) inboxes ways own places
+        → CanStart is_taker takes_of is_sender sends_of Telling (λ n. n.nodes.number) (λ n. data_lanes_of n.nodes.parts.items) (λ n l. target_of n.nodes.parts.items l) (λ n l. writes_of meaning n.nodes.parts.items l)
+        (λ n l. taken_of n.nodes.parts.items l) (λ n l. came_of meaning n.nodes.parts.items l) (λ n. n.nodes.was_refused) inboxes ways all places
+    telling-start inboxes ways own all places are seated can = record {
+      lanes = can.lanes;
+      opened = can.opened;
+      nodes_count = sym (length-map all (λ (n : TellingNodes S T). n.nodes)) ∙ ap length are ∙ can.nodes_count;
+      places_count = can.places_count;
+      fit = λ number part reserved at at-place.
+          let f = can.fit number part.nodes reserved (ap (λ (l : List (OwnNodes S T)). slice_get l number) (sym are) ∙ slice_get-map (λ (n : TellingNodes S T). n.nodes) all number ∙ ap (option_map (λ (n : TellingNodes S T). n.nodes)) at) at-place in
+          record {
+            stood = (f.stood.0, f.stood.1, f.stood.2, All-at (λ (n : TellingNodes S T). AreSeated n.words.now plan n.seats.items) all number part seated at);
+            at = f.at;
+            unrefused = f.unrefused;
+            fresh = f.fresh;
+            there = f.there;
+            own = f.own;
+            away = f.away;
+            entering = f.entering;
+            work = f.work;
+            targets = f.targets;
+            hops = f.hops;
+            placed = f.placed;
+            among = f.among;
+          };
+    }

@@ -1,0 +1,54 @@
+use Rattle.std.proofs.Common.{◌≡◌, length, slice_get, Option, Some, refl, ap, ◌∙◌, arith}
+use Rattle.std.proofs.lemmas.Option.{slice_get_read}
+use Rattle.pl_exec.specs.SessionWords.{SeatsView}
+use Rattle.pl_exec.proofs.SeatLemmas.{none-told-at, seat-marks, seat-told, told-at}
+use Rattle.pl_exec.proofs.telling.TellingNodes.tell.Goals as goal
+
+-- the part of the channel, and its seats
+part-at : (g : _) (c : goal.After-index_mut-in-Some g) → slice_get c.args.self.now.nodes.parts.items c.args.channel ≡ Some c.index_mut-in-Some.result.now
+part-at g c =
+    let ps = c.args.self.now.nodes.parts.items in
+    slice_get_read ps (length ps) c.args.channel c.index_mut-in-Some.result.now refl c.requires.there c.index_mut-in-Some.ensures.value
+
+seats-at : (g : _) (c : goal.After-index_mut-in-Some g) → slice_get c.args.self.now.seats.items c.args.channel ≡ Some (Some c.in-Some.seats)
+seats-at g c =
+    let seats = c.args.self.now.seats.items in
+    let stand = c.requires.stand in
+    let size = stand.2.count in
+    let parts = stand.3.keeps.count in
+    let there = c.requires.there in
+    slice_get_read seats (length seats) c.args.channel c.index_mut.result.now refl (omega (arith, size, parts, there)) c.index_mut.ensures.value ∙ ap (λ (s : Option SeatsView). Some s) c.in-Some.is
+
+pub tell-requires-clause-holds : goal.tell-requires-clause-holds
+tell-requires-clause-holds g c = let stand = c.requires.stand in (stand.0, (stand.3.parts c.args.channel c.index_mut-in-Some.result.now (part-at g c)).holds)
+
+pub tell-requires-clause-marks : goal.tell-requires-clause-marks
+tell-requires-clause-marks g c =
+    let self = c.args.self.now in
+    let stand = c.requires.stand in
+    seat-marks self.words.now stand.1 self.seats.items stand.2 c.args.channel stand.0 g.S.Stage.meaning g.S.Stage.stands_after g.T.Transport.state self.nodes.number self.nodes.was_refused self.nodes.parts.items
+    c.index_mut-in-Some.result.now c.in-Some.seats stand.3 (part-at g c) (seats-at g c)
+
+pub tell-requires-clause-ordered : goal.tell-requires-clause-ordered
+tell-requires-clause-ordered g c = (c.requires.stand.2.each c.args.channel c.in-Some.seats (seats-at g c)).ordered
+
+pub returns-in-Some-clause-told : goal.returns-in-Some-clause-told
+returns-in-Some-clause-told g c =
+    let ps = c.args.self.now.nodes.parts.items in
+    let p = c.index_mut-in-Some.result.now in
+    told-at ps c.args.channel p c.tell.new.part (slice_get_read ps (length ps) c.args.channel p refl c.requires.there c.index_mut-in-Some.ensures.value) c.tell.ensures.told
+
+pub returns-in-Some-clause-seated : goal.returns-in-Some-clause-seated
+returns-in-Some-clause-seated g c plan seated =
+    let self = c.args.self.now in
+    let seats = self.seats.items in
+    let stand = c.requires.stand in
+    let size = stand.2.count in
+    let parts = stand.3.keeps.count in
+    let there = c.requires.there in
+    seat-told self.words.now plan seats seated c.args.channel c.in-Some.seats c.tell.new.seats
+    (slice_get_read seats (length seats) c.args.channel c.index_mut.result.now refl (omega (arith, size, parts, there)) c.index_mut.ensures.value ∙ ap (λ (s : Option SeatsView). Some s) c.in-Some.is)
+    c.tell.ensures.own c.tell.ensures.same
+
+pub returns-in_default-clause-told : goal.returns-in_default-clause-told
+returns-in_default-clause-told g c = none-told-at c.args.self.now.nodes.parts.items c.args.channel c.requires.there

@@ -1,0 +1,45 @@
+use Rattle.std.proofs.Common.{◌∙◌, length, refl, arith}
+use Rattle.std.proofs.lemmas.Option.{slice_get_read}
+use Rattle.pl_exec.proofs.HeadLists.{head-within}
+use Rattle.pl_exec.proofs.ToldNodes.{told-targets, told-written, told-lanes, told-took, nodes-told, own-told, makes-told}
+use Rattle.pl_exec.proofs.telling.TellingNodesPart.read.Goals as goal
+
+pub tell-requires-clause-there : goal.tell-requires-clause-there
+tell-requires-clause-there g c =
+    let mid = c.read.new.self in
+    let there = c.requires.there in
+    let count = c.read.ensures.count in
+    head-within mid.parts.items mid.own.items c.args.at c.index-channel.result.now c.read.ensures.stands.2
+    (slice_get_read mid.own.items (length mid.own.items) c.args.at c.index-channel.result.now refl (omega (arith, there, count)) c.index-channel.ensures)
+
+pub tell-requires-clause-stand : goal.tell-requires-clause-stand
+tell-requires-clause-stand g c = (g.W.Named.world, g.W.Planned.plan, c.requires.stands.3, c.read.ensures.stands.1)
+
+pub returns-clause-stands : goal.returns-clause-stands
+returns-clause-stands g c =
+    let mid = c.read.new.self in
+    let now = c.tell.new.self in
+    let e = c.tell.ensures in (
+      c.requires.stands.0,
+      nodes-told mid now.nodes c.index-channel.result.now e.number e.refused e.own e.told g.W.Named.world g.W.Planned.plan g.S.Stage.meaning g.S.Stage.stands_after g.T.Transport.state c.read.ensures.stands.1,
+      own-told mid now.nodes c.index-channel.result.now e.number e.refused e.own e.told c.read.ensures.stands.2,
+      e.seated g.W.Planned.plan c.requires.stands.3,
+    )
+
+pub returns-clause-routes : goal.returns-clause-routes
+returns-clause-routes g c l = told-targets c.read.new.self.parts.items c.index-channel.result.now c.tell.new.self.nodes.parts.items c.tell.ensures.told l ∙ c.read.ensures.routes l
+
+pub returns-clause-writes : goal.returns-clause-writes
+returns-clause-writes g c l = told-written c.read.new.self.parts.items c.index-channel.result.now c.tell.new.self.nodes.parts.items c.tell.ensures.told g.S.Stage.meaning l ∙ c.read.ensures.writes l
+
+pub returns-clause-taken : goal.returns-clause-taken
+returns-clause-taken g c l = told-took c.read.new.self.parts.items c.index-channel.result.now c.tell.new.self.nodes.parts.items c.tell.ensures.told l ∙ c.read.ensures.taken l
+
+pub returns-clause-lanes : goal.returns-clause-lanes
+returns-clause-lanes g c = told-lanes c.read.new.self.parts.items c.index-channel.result.now c.tell.new.self.nodes.parts.items c.tell.ensures.told g.S.Stage.meaning ∙ c.read.ensures.lanes
+
+pub returns-clause-made : goal.returns-clause-made
+returns-clause-made g c =
+    let now = c.tell.new.self in
+    let e = c.tell.ensures in
+    makes-told c.read.new.self now.nodes c.index-channel.result.now e.number e.refused e.own e.told g.S.Stage.meaning g.W.Named.world _ _ c.args.work.now c.read.new.work c.read.ensures.made

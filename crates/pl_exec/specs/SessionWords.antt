@@ -1,0 +1,110 @@
+-- The words of a session's channels, the seats on them, and what each call does to a seat.
+use Rattle.std.specs.Prelude.{◌≡◌, ℕ, ◌+◌, ◌-◌, ◌==◌, ◌&&◌, ◌||◌, Bool, not, List, [], ◌∷◌, ◌++◌, map, nat_lt, slice_get, slice_set, Option, Some, if◌then◌else◌}
+use Rattle.std.specs.Bool.{beq}
+use Rattle.pl_event.specs.declared.outcomes.Outcome.{Outcome}
+use Rattle.pl_words.specs.declared.watermark.Mark.{Mark}
+use Rattle.pl_words.specs.declared.watermark.TheConstants.{MAX_SETS}
+use Rattle.pl_words.specs.Names.{Name}
+use Rattle.pl_words.specs.PromiseRule.{at}
+use Rattle.pl_words.specs.PromiseViews.{SettleSeatView, ReadSeatView as PromiseSeatView, Peeks, new_settler, new_reader as new_promise_seat}
+use Rattle.pl_words.specs.Watermarks.{HeadSeatView, ReadSeatView as MarkSeatView, Looks, new_head_seat, new_reader as new_mark_seat}
+use Rattle.pl_world.specs.declared.session.Recorded.{Recorded}
+use Rattle.pl_exec.specs.declared.words.TheConstants.{PROMISES}
+
+-- which mark and which promises a channel has
+pub record ChannelNames : Type 0 where
+  pub mark : Name
+  pub promises : Name
+
+-- the seats by which a channel's words are changed: its head's, and that of its only settler
+pub record SeatsView : Type 0 where
+  pub mark : HeadSeatView
+  pub settle : SettleSeatView
+
+-- the seats by which a reader sees a channel's words
+pub record SightView : Type 0 where
+  pub mark : MarkSeatView
+  pub promises : PromiseSeatView
+
+abbrev pub seats_names : SeatsView → ChannelNames
+seats_names s = record { mark = s.mark.name; promises = s.settle.name }
+
+abbrev pub sight_names : SightView → ChannelNames
+sight_names s = record { mark = s.mark.name; promises = s.promises.name }
+
+-- these are the seats of that channel
+abbrev pub AreSeatsOf : List ChannelNames → ℕ → SeatsView → Type 0
+AreSeatsOf words channel seats = slice_get words channel ≡ Some (seats_names seats)
+
+-- those of each channel, in order
+abbrev pub AreHeadSeatsOf : List ChannelNames → List SeatsView → Type 0
+AreHeadSeatsOf words heads = map seats_names heads ≡ words
+
+-- the two marks, of seats and of a channel
+abbrev pub seats_marks : SeatsView → ℕ × ℕ
+seats_marks s = (s.mark.low, s.mark.high)
+
+abbrev pub recorded_marks : {S T : Type 0} → Recorded S T → ℕ × ℕ
+recorded_marks c = (c.pipeline.low, c.pipeline.high)
+
+-- the seats have the marks of these channels, in order
+abbrev pub HaveMarksOf : {S T : Type 0} → List SeatsView → List (Recorded S T) → Type 0
+HaveMarksOf heads channels = map seats_marks heads ≡ map recorded_marks channels
+
+-- the reader was made with these words: it has seats of each channel, in order
+abbrev pub IsReaderOf : List ChannelNames → List SightView → Type 0
+IsReaderOf words reader = map sight_names reader ≡ words
+
+-- ---- new words
+
+-- the seats of a channel with these marks whose words nobody has changed
+abbrev pub new_seats : ChannelNames → ℕ → ℕ → SeatsView
+new_seats names low high = record { mark = new_head_seat names.mark low high; settle = new_settler names.promises PROMISES 1 }
+
+-- those of each channel, in order
+abbrev pub new_head_seats : {S T : Type 0} → List ChannelNames → List (Recorded S T) → List SeatsView
+new_head_seats [] channels = []
+new_head_seats (names ∷ words) [] = []
+new_head_seats (names ∷ words) (c ∷ channels) = new_seats names c.pipeline.low c.pipeline.high ∷ new_head_seats words channels
+
+-- a reader's seats of a channel of which it has seen nothing
+abbrev pub new_sight : ChannelNames → SightView
+new_sight names = record { mark = new_mark_seat names.mark; promises = new_promise_seat names.promises PROMISES }
+
+abbrev pub new_reader : List ChannelNames → List SightView
+new_reader words = map new_sight words
+
+-- the seats of one channel more for each reader
+abbrev pub with_row : List (List SightView) → List SightView → List (List SightView)
+with_row [] row = []
+with_row (reader ∷ readers) [] = reader ∷ readers
+with_row (reader ∷ readers) (sight ∷ row) = (reader ++ sight ∷ []) ∷ with_row readers row
+
+-- ---- calls
+
+-- This is not what the head's seat set last, and it may set the mark once more: its version stays below MAX_SETS.
+abbrev pub is_news : HeadSeatView → ℕ → Bool → Bool
+is_news s pending unwritable = (not (s.pending == pending) || not (beq s.unwritable unwritable)) && nat_lt s.sets (MAX_SETS - 1)
+
+-- the head's seat once it was told what is pending, and whether the channel is unwritable
+abbrev pub told : HeadSeatView → ℕ → Bool → HeadSeatView
+told s pending unwritable = if is_news s pending unwritable then record s { sets = s.sets + 1; pending = pending; unwritable = unwritable } else s
+
+-- One look at a channel's mark, by the reader's seat of that channel. The other seats stay.
+pub record LooksAt (before : List SightView) (channel : ℕ) (mark : Mark) (after : List SightView) : Type 0 where
+  pub sight : SightView
+  pub seen : MarkSeatView
+  pub there : slice_get before channel ≡ Some sight
+  pub looks : Looks sight.mark seen
+  pub found : (mark.version ≡ seen.version) × (mark.unwritable ≡ seen.unwritable)
+  pub others : after ≡ slice_set before channel (record sight { mark = seen })
+
+-- One look at promise n of a channel, by the reader's seat of that channel, which finds again what it has seen. The other
+-- seats stay.
+pub record PeeksAt (before : List SightView) (channel n : ℕ) (found : Option Outcome) (after : List SightView) : Type 0 where
+  pub sight : SightView
+  pub seen : PromiseSeatView
+  pub there : slice_get before channel ≡ Some sight
+  pub peeks : Peeks sight.promises n found seen
+  pub again : (outcome : Outcome) → at sight.promises.seen n ≡ Some outcome → found ≡ Some outcome
+  pub others : after ≡ slice_set before channel (record sight { promises = seen })

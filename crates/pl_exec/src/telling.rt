@@ -1,0 +1,225 @@
+//! The nodes of an executor, whose heads tell the words of their channels what becomes of writes.
+
+ghost use Rattle.std.specs.Prelude.{◌≡◌, ◌<◌, ◌≤◌, ◌⊎◌, ℕ, [], length, map, All, IfOk, Some, None};
+ghost use Rattle.pl_channel.specs.Lanes.{lanes_of};
+ghost use Rattle.pl_event.specs.Worlds.{World};
+ghost use Rattle.pl_head.specs.HeadStand.{HeadView};
+ghost use Rattle.pl_part.specs.Parts.{PartHolds};
+ghost use Rattle.pl_part.specs.Told.{IsTold, part_untold};
+ghost use Rattle.pl_replay.specs.Channels.{came_of, taken_of, writes_of};
+ghost use Rattle.pl_replay.specs.Channels.{lanes_of as data_lanes_of};
+ghost use Rattle.pl_world.specs.Plans.{Plan};
+ghost use Rattle.pl_world.specs.PlanRules.{IsPlan};
+ghost use Rattle.pl_exec.specs.OwnNodes.{NodesStand, MayReadOwn, MayWriteOwn, AreOver, heads_of, target_of};
+ghost use Rattle.pl_exec.specs.SessionWords.{AreSeatsOf, AreHeadSeatsOf, told};
+ghost use Rattle.pl_exec.specs.Telling.{AreSeated, IsToldAt, HaveMarks};
+
+use crate::nodes::OwnNodes;
+use crate::planned::Planned;
+use crate::words::{HeadSeats, Seats, Words};
+use pl_context::Outputs;
+use pl_event::{Envelope, Lane, Stage};
+use pl_executor::Part;
+use pl_head::Transport;
+use pl_part::ChannelPart;
+use std::alloc::{AllocError, Global};
+
+/// The nodes that are on an executor, with the words that their heads tell.
+#[derive(Drop)]
+pub(crate) struct TellingNodes<'a, S: Stage, T: Transport> {
+    pub(crate) nodes: OwnNodes<S, T>,
+    words: &'a Words,
+    /// By channel the seats on its words, where its head is one of the nodes.
+    seats: Vec<Option<Seats>>,
+}
+
+impl<'a, W: Planned, S: Stage, T: Transport> Part<W> for TellingNodes<'a, S, T> {
+    ghost home = { λ n. n.nodes.number };
+
+    ghost lanes = { λ n. data_lanes_of n.nodes.parts.items };
+
+    ghost target_of = { λ n lane. target_of n.nodes.parts.items lane };
+
+    ghost writes = { λ n lane. writes_of S.meaning n.nodes.parts.items lane };
+
+    ghost taken_of = { λ n lane. taken_of n.nodes.parts.items lane };
+
+    ghost came = { λ n lane. came_of S.meaning n.nodes.parts.items lane };
+
+    ghost was_refused = { λ n. n.nodes.was_refused };
+
+    ghost count = { λ n. length n.nodes.own.items };
+
+    ghost may_read = { λ n at answer. MayReadOwn T.state n.nodes.parts.items n.nodes.own.items at answer };
+
+    ghost may_write = { λ n at answer. MayWriteOwn T.state n.nodes.parts.items n.nodes.own.items at answer };
+
+    ghost are_over = { λ n. AreOver T.state n.nodes.parts.items };
+
+    ghost stands = { λ n. (W.world ≡ lanes_of W.plan)
+        × NodesStand W.world W.plan S.meaning S.stands_after T.state n.nodes.number n.nodes.was_refused n.nodes.parts.items
+        × (n.nodes.own.items ≡ heads_of n.nodes.parts.items)
+        × AreSeated n.words.now W.plan n.seats.items };
+
+    fn target(&self, lane: Lane) -> usize {
+        <OwnNodes<S, T> as Part<W>>::target(&self.nodes, lane)
+    }
+
+    fn take(&mut self, envelope: Envelope, work: &mut Outputs) {
+        let channel = envelope.lane.channel as usize;
+        <OwnNodes<S, T> as Part<W>>::take(&mut self.nodes, envelope, work);
+        self.tell(channel);
+    }
+
+    fn refuse(&mut self, lane: Lane, work: &mut Outputs) {
+        <OwnNodes<S, T> as Part<W>>::refuse(&mut self.nodes, lane, work);
+    }
+
+    fn channels(&self) -> usize {
+        <OwnNodes<S, T> as Part<W>>::channels(&self.nodes)
+    }
+
+    fn read(&mut self, at: usize, work: &mut Outputs) -> bool {
+        if !<OwnNodes<S, T> as Part<W>>::read(&mut self.nodes, at, work) {
+            return false;
+        }
+        let channel = self.nodes.own[at];
+        self.tell(channel);
+        true
+    }
+
+    fn write(&mut self, at: usize, work: &mut Outputs) -> bool {
+        if !<OwnNodes<S, T> as Part<W>>::write(&mut self.nodes, at, work) {
+            return false;
+        }
+        let channel = self.nodes.own[at];
+        self.tell(channel);
+        true
+    }
+
+    fn has_ended(&self) -> bool {
+        <OwnNodes<S, T> as Part<W>>::has_ended(&self.nodes)
+    }
+}
+
+impl<'a, S: Stage, T: Transport> TellingNodes<'a, S, T> {
+    /// Tells the words of a channel how its head stands, where that is one of the nodes.
+    fn tell(&mut self, channel: usize)
+        requires there { channel < length self.old.nodes.parts.items }
+        requires stand { (world : World) × (plan : Plan) × AreSeated self.old.words.now plan self.old.seats.items
+            × NodesStand world plan S.meaning S.stands_after T.state self.old.nodes.number self.old.nodes.was_refused self.old.nodes.parts.items }
+        ensures number { self.new.nodes.number ≡ self.old.nodes.number }
+        ensures refused { self.new.nodes.was_refused ≡ self.old.nodes.was_refused }
+        ensures own { self.new.nodes.own ≡ self.old.nodes.own }
+        ensures told { IsToldAt self.old.nodes.parts.items channel self.new.nodes.parts.items }
+        ensures seated { (plan : Plan) → AreSeated self.old.words.now plan self.old.seats.items → AreSeated self.new.words.now plan self.new.seats.items }
+    {
+        if let Some(seats) = &mut self.seats[channel] {
+            tell(self.words, channel, seats, &mut self.nodes.parts[channel]);
+        }
+    }
+}
+
+/// Tells the words of a channel how its head stands: sets its mark, and settles each write that has ended since.
+fn tell<S: Stage, T: Transport>(
+    words: &Words,
+    channel: usize,
+    seats: &mut Seats,
+    part: &mut ChannelPart<S, T>,
+)
+    requires own { AreSeatsOf words.now channel seats.old }
+    requires holds { (world : World) × PartHolds world S.meaning S.stands_after T.state part.old }
+    requires marks { (h : HeadView T) → part.old.head ≡ Some h → (seats.old.mark.low ≡ h.buffer.low) × (seats.old.mark.high ≡ h.buffer.high) }
+    requires ordered { seats.old.mark.low ≤ seats.old.mark.high }
+    ensures own { AreSeatsOf words.now channel seats.new }
+    ensures mark { (h : HeadView T) → part.old.head ≡ Some h → seats.new.mark ≡ told seats.old.mark h.buffer.pending h.buffer.is_unwritable }
+    ensures same { (seats.new.mark.low ≡ seats.old.mark.low) × (seats.new.mark.high ≡ seats.old.mark.high) }
+    ensures told { IsTold part.old part.new }
+    ensures all { part_untold part.new ≡ [] }
+{
+    if let Some((pending, is_writable)) = part.mark() {
+        words.tell_mark(channel, seats, pending, is_writable);
+    }
+    settle(words, channel, seats, part);
+}
+
+/// Settles each write of a channel that has ended since the last time.
+fn settle<S: Stage, T: Transport>(
+    words: &Words,
+    channel: usize,
+    seats: &mut Seats,
+    part: &mut ChannelPart<S, T>,
+)
+    requires { AreSeatsOf words.now channel seats.old }
+    ensures own { AreSeatsOf words.now channel seats.new }
+    ensures mark { seats.new.mark ≡ seats.old.mark }
+    ensures told { IsTold part.old part.new }
+    ensures all { part_untold part.new ≡ [] }
+{
+    while let Some((n, outcome)) = part.next_settled() {
+        words.settle(channel, seats, n, outcome);
+    }
+}
+
+/// The nodes of each executor, with the words that their heads tell, and the seats of each channel where its head is.
+pub(crate) fn telling<'a, W: Planned, S: Stage, T: Transport>(
+    alloc: Global,
+    words: &'a Words,
+    seats: HeadSeats,
+    nodes: Vec<OwnNodes<S, T>>,
+) -> Result<Vec<TellingNodes<'a, S, T>>, AllocError>
+    requires plan { IsPlan W.plan }
+    requires seats { AreHeadSeatsOf words.now seats }
+    requires marks { HaveMarks seats W.plan.channels }
+    ensures nodes { IfOk result (λ all. map (λ n. n.nodes) all.items ≡ nodes.items) }
+    ensures seated { IfOk result (λ all. All (λ n. AreSeated n.words.now W.plan n.seats.items) all.items) }
+{
+    let mut left = undealt(alloc, seats)?;
+    let mut all = Vec::with_capacity(alloc, nodes.len())?;
+    for own in nodes {
+        let dealt = deal::<W>(alloc, words, &mut left, own.own.as_slice())?;
+        all.push(TellingNodes {
+            nodes: own,
+            words,
+            seats: dealt,
+        })?;
+    }
+    Ok(all)
+}
+
+/// The seats of each channel, which no executor has yet.
+fn undealt(alloc: Global, seats: HeadSeats) -> Result<Vec<Option<Seats>>, AllocError>
+    ensures { IfOk result (λ left. left.items ≡ map (λ s. Some s) seats) }
+{
+    let mut left = Vec::with_capacity(alloc, seats.channels.len())?;
+    for seats in seats.channels {
+        left.push(Some(seats))?;
+    }
+    Ok(left)
+}
+
+/// By channel the seats that are left of those that an executor owns. Nobody else has them then.
+fn deal<W: Planned>(
+    alloc: Global,
+    words: &Words,
+    left: &mut Vec<Option<Seats>>,
+    own: &[usize],
+) -> Result<Vec<Option<Seats>>, AllocError>
+    requires { AreSeated words.now W.plan left.old.items }
+    ensures left { AreSeated words.now W.plan left.new.items }
+    ensures dealt { IfOk result (λ dealt. AreSeated words.now W.plan dealt.items) }
+{
+    let mut dealt = Vec::with_capacity(alloc, left.len())?;
+    for channel in 0..left.len() {
+        dealt.push(take_if(&mut left[channel], own.contains(&channel)))?;
+    }
+    Ok(dealt)
+}
+
+/// The seats, where they are wanted. Else they stay.
+fn take_if(seats: &mut Option<Seats>, wanted: bool) -> Option<Seats>
+    ensures taken { (result ≡ seats.old) ⊎ (result ≡ None) }
+    ensures left { (seats.new ≡ seats.old) ⊎ (seats.new ≡ None) }
+{
+    if wanted { seats.take() } else { None }
+}
