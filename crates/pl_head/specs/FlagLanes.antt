@@ -1,16 +1,10 @@
 -- Flags on the lane of a channel's first hop.
 use Rattle.std.specs.Prelude.{◌≡◌, ℕ, ◌+◌, List, [], ◌∷◌, ◌++◌, length, map, Bool}
-use Rattle.pl_event.specs.declared.envelopes.Kind.TheVariants.{Flags}
-use Rattle.pl_event.specs.declared.envelopes.Lane.{Lane}
 use Rattle.pl_event.specs.declared.envelopes.Item.{Item}
 use Rattle.pl_event.specs.declared.envelopes.Item.TheVariants as item
 use Rattle.pl_context.specs.declared.ports.Port.{Port}
 use Rattle.pl_context.specs.OutputsViews.{OutputsView}
 use Rattle.pl_context.specs.Ports.{FlagPasses, numbered}
-
--- the lane on which a channel's head sends flags
-abbrev pub flags_lane : ℕ → Lane
-flags_lane channel = record { channel = channel; kind = Flags; hop = 0 }
 
 abbrev pub as_flags : List Bool → List Item
 as_flags values = map (λ value. item.Flag value) values

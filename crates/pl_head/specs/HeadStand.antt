@@ -1,7 +1,7 @@
 -- What contracts see of a head, and the events and sizes after which it may stand.
 use Rattle.std.specs.Prelude.{◌≡◌, ◌⊎◌, ℕ, ◌+◌, ◌*◌, ◌-◌, ◌≤◌, ◌^◌, List, [], ◌∷◌, ◌++◌, length, Bool, true, false, ◌||◌, ◌&&◌, not, is_some, nat_le, Option, Some, None, if◌then◌else◌, ◌==◌}
+use Rattle.pl_event.specs.Hops.{data_lane, flags_lane}
 use Rattle.pl_event.specs.declared.events.Event.{Event}
-use Rattle.pl_event.specs.declared.envelopes.Kind.TheVariants.{Data}
 use Rattle.pl_event.specs.declared.envelopes.Lane.{Lane}
 use Rattle.pl_event.specs.declared.envelopes.Item.{Item}
 use Rattle.pl_event.specs.declared.envelopes.Item.TheVariants as item
@@ -22,7 +22,6 @@ use Rattle.pl_head.specs.declared.heads.ReadStep.{ReadStep}
 use Rattle.pl_head.specs.declared.heads.ReadStep.TheVariants as reads
 use Rattle.pl_head.specs.Writes.{out, waiting_bytes}
 use Rattle.pl_head.specs.Marks.{Change, Removed}
-use Rattle.pl_head.specs.FlagLanes.{flags_lane}
 use Rattle.pl_head.specs.Transports.{TransportState}
 use Rattle.pl_head.specs.WritabilityStand.{SendsFlags}
 use Rattle.pl_head.specs.Failures.{failure_outcome, AreOutcomes}
@@ -81,7 +80,7 @@ read_answer left held = if left then (if held then reads.Held else reads.Gave) e
 
 -- a lane enters the head
 abbrev pub EntersHead : {T : Type 0} → HeadView T → Lane → Type 0
-EntersHead h lane = lane ≡ record { channel = h.channel; kind = Data; hop = h.hop }
+EntersHead h lane = lane ≡ data_lane h.channel h.hop
 
 -- an event ran in a head that had not failed
 abbrev pub is_ran : Took → Bool
@@ -175,7 +174,7 @@ pub record Aborts {T : Type 0} (state : T → TransportState) (h : HeadView T) (
 
 -- what is true of every head
 pub record IsHead (channel taken : ℕ) (failure : Option Cause) (b : WriteBufferView) (input : InputView) : Type 0 where
-  pub lane : b.flags.lane ≡ flags_lane channel
+  pub lane : b.flags.lane ≡ flags_lane channel 0
   pub entrance_is : input.port.lane ≡ entrance channel
   pub pending : b.pending ≤ taken * 2 ^ 64
   pub few : taken ≤ 2 ^ 31

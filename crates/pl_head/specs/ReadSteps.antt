@@ -1,18 +1,18 @@
 -- The items that the read steps of a channel bring to its first lane: the events of each step, and after all of them
 -- the end. Where the channel is aborted, the abort is the last step, in the place of the end, and fewer bursts may come.
 use Rattle.std.specs.Prelude.{ℕ, ◌+◌, List, [], ◌∷◌, ◌++◌, length, take, Bool, ◌&&◌, ◌||◌, not, is_some, if◌then◌else◌, nat_le, nat_lt, slice_index_or, Option, Some, None}
-use Rattle.pl_event.specs.declared.envelopes.Kind.TheVariants.{Data}
 use Rattle.pl_event.specs.declared.envelopes.Lane.{Lane}
 use Rattle.pl_event.specs.declared.envelopes.Item.{Item}
 use Rattle.pl_event.specs.declared.envelopes.Item.TheVariants as item
 use Rattle.pl_event.specs.declared.outcomes.Cause.{Cause}
+use Rattle.pl_event.specs.Hops.{data_lane}
 use Rattle.pl_event.specs.Inputs.{read_steps, input_after}
 use Rattle.pl_context.specs.Ports.{as_items}
 use Rattle.pl_head.specs.declared.inputs.ReadPlan.{ReadPlan}
 
 -- the lane on which a channel's input comes in
 abbrev pub entrance : ℕ → Lane
-entrance channel = record { channel = channel; kind = Data; hop = 0 }
+entrance channel = data_lane channel 0
 
 -- how many read steps there are: the first, one for each burst, and the end
 abbrev pub step_count : List (List (List ℕ)) → ℕ

@@ -15,7 +15,7 @@ ghost use Rattle.pl_head.specs.Writes.{out, offered, flushed_writes};
 ghost use Rattle.pl_head.specs.Failures.{failure_outcome};
 ghost use Rattle.pl_head.specs.Settling.{AreSettled};
 ghost use Rattle.pl_head.specs.Marks.{Change, Removed, pending_after, added_by, removed_by, is_unwritable};
-ghost use Rattle.pl_head.specs.FlagLanes.{flags_lane};
+ghost use Rattle.pl_event.specs.Hops.{flags_lane};
 ghost use Rattle.pl_head.specs.WritabilityStand.{SendsFlags};
 ghost use Rattle.pl_head.specs.Transports.{counted, FailsNext};
 ghost use Rattle.pl_head.specs.HeadStand.{first_cause};
@@ -109,7 +109,7 @@ impl<T: Transport> Head<T> {
         ensures transport { result.transport ≡ transport }
         ensures place { (result.channel ≡ channel) × (result.hop ≡ hop) }
         ensures marks { (result.buffer.low ≡ low) × (result.buffer.high ≡ high) }
-        ensures flags { result.buffer.flags ≡ record { lane = flags_lane channel; made = 0; is_open = true } }
+        ensures flags { result.buffer.flags ≡ record { lane = flags_lane channel 0; made = 0; is_open = true } }
         ensures taken { result.taken ≡ 0 }
         ensures standing { result.standing ≡ stands.Open }
         ensures failure { result.failure ≡ None }
@@ -236,7 +236,7 @@ impl<T: Transport> Head<T> {
         requires enters { EntersHead self.old envelope.lane }
         requires number { envelope.number ≡ self.old.taken }
         requires limit { envelope.number < 2 ^ 31 }
-        requires places { HasPlaces outputs.old.stopped (flags_lane self.old.channel ∷ []) }
+        requires places { HasPlaces outputs.old.stopped (flags_lane self.old.channel 0 ∷ []) }
         ensures taken { self.new.taken ≡ self.old.taken + 1 }
         ensures answer { self.old.standing ≡ stands.Open → Answers (is_some self.old.failure) envelope.item result }
 
@@ -277,7 +277,7 @@ impl<T: Transport> Head<T> {
     fn take_open(&mut self, item: Item, outputs: &mut Outputs) -> Took
         requires open { self.old.standing ≡ stands.Open }
         requires limit { self.old.taken < 2 ^ 31 }
-        requires places { HasPlaces outputs.old.stopped (flags_lane self.old.channel ∷ []) }
+        requires places { HasPlaces outputs.old.stopped (flags_lane self.old.channel 0 ∷ []) }
         ensures answer { Answers (is_some self.old.failure) item result }
         ensures stands { (ys zs : List Event) (sizes : List Change) → StandsAfter T.state self.old ys zs sizes
             → StandsAfter T.state self.new (ys ++ events_before (is_some self.old.failure) item result) (zs ++ events_from (is_some self.old.failure) item result)
@@ -351,7 +351,7 @@ impl<T: Transport> Head<T> {
     /// makes no call, where no flushed byte waits or the head has failed. Where the transport fails the head has failed:
     /// each message that has not left whole is a fault.
     pub fn write_once(&mut self, outputs: &mut Outputs) -> OutStep
-        requires places { HasPlaces outputs.old.stopped (flags_lane self.old.channel ∷ []) }
+        requires places { HasPlaces outputs.old.stopped (flags_lane self.old.channel 0 ∷ []) }
 
         // One call, unless it is idle.
         ensures called { result ≢ OutStep.Idle → (T.state self.new.transport).calls ≡ counted (T.state self.old.transport).calls }

@@ -4,7 +4,7 @@ ghost use Rattle.std.specs.Prelude.{◌≡◌, ◌+◌, ◌<◌, ◌≤◌, ◌^
 ghost use Rattle.pl_event.specs.declared.envelopes.Lane.{Lane};
 ghost use Rattle.pl_context.specs.Stops.{HasPlaces, AreAmong};
 ghost use Rattle.pl_head.specs.Marks.{Change, Added, Removed};
-ghost use Rattle.pl_head.specs.FlagLanes.{flags_lane};
+ghost use Rattle.pl_event.specs.Hops.{flags_lane};
 
 use crate::marks::Marks;
 use pl_context::{Outputs, Port};
@@ -27,7 +27,7 @@ impl Writability {
         ensures low { result.marks.low ≡ low }
         ensures high { result.marks.high ≡ high }
         ensures pending { result.marks.pending ≡ 0 }
-        ensures port { result.port ≡ record { lane = flags_lane channel; made = 0; is_open = true } }
+        ensures port { result.port ≡ record { lane = flags_lane channel 0; made = 0; is_open = true } }
         ensures count { flag_bound result ≡ 0 }
     {
         Writability {

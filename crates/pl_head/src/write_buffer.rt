@@ -8,7 +8,7 @@ ghost use Rattle.pl_event.specs.declared.envelopes.Lane.{Lane};
 ghost use Rattle.pl_context.specs.Stops.{HasPlaces, AreAmong};
 ghost use Rattle.pl_head.specs.Writes.{bytes_of, flushed_writes, out, outcomes, offered, waiting_bytes};
 ghost use Rattle.pl_head.specs.Marks.{Change, Added, Removed, pending_after, added_by, removed_by, is_unwritable};
-ghost use Rattle.pl_head.specs.FlagLanes.{flags_lane};
+ghost use Rattle.pl_event.specs.Hops.{flags_lane};
 ghost use Rattle.pl_head.specs.WaitingMessages.{first_size, queue_size};
 ghost use Rattle.pl_head.specs.Buffers.{event_sizes};
 ghost use Rattle.pl_head.specs.OutboundStand.{IsAccounted};
@@ -42,7 +42,7 @@ impl WriteBuffer {
         ensures stands { BufferStands [] (write_buffer_view result) [] false [] }
         ensures low { result.writability.marks.low ≡ low }
         ensures high { result.writability.marks.high ≡ high }
-        ensures port { result.writability.port ≡ record { lane = flags_lane channel; made = 0; is_open = true } }
+        ensures port { result.writability.port ≡ record { lane = flags_lane channel 0; made = 0; is_open = true } }
         ensures pending { result.writability.marks.pending ≡ 0 }
         ensures count { flag_bound result.writability ≡ 0 }
         ensures numbering { result.messages.is_full ≡ false }
