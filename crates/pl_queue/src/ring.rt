@@ -168,7 +168,9 @@ impl<W: Named> Mailbox<W> for RingBox<W> {
         Ok((RingBox { queue }, senders, taker))
     }
 
-    fn may_wait() -> bool {
+    fn may_wait() -> bool
+        ensures { result ≡ false }
+    {
         false
     }
 

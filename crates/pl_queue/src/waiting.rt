@@ -198,7 +198,9 @@ impl<W: Named> Mailbox<W> for WaitingBox<W> {
     }
 
     /// Waits for room.
-    fn may_wait() -> bool {
+    fn may_wait() -> bool
+        ensures { result ≡ true }
+    {
         true
     }
 

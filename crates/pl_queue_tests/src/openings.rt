@@ -75,3 +75,11 @@ pub fn refusal_by_waiting<W: Named>(
 ) -> Option<OpenRefusal> {
     refusal::<W, WaitingBox<W>>(alloc, lanes, senders, capacity)
 }
+
+/// Whether who offers to a ring may wait for room, and who offers to a waiting queue.
+pub fn who_may_wait<W: Named>() -> (bool, bool) {
+    (
+        <RingBox<W> as Mailbox<W>>::may_wait(),
+        <WaitingBox<W> as Mailbox<W>>::may_wait(),
+    )
+}
