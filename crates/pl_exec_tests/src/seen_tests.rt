@@ -22,32 +22,28 @@ const LOOKS: u32 = 10_000_000;
 /// How often a promise is looked at that must not be settled.
 const LOOKS_WHILE_UNSET: u32 = 1_000_000;
 
-/// A gate that does nothing.
-#[derive(Drop)]
-struct NoGate;
-
-impl Gate for NoGate {
-    fn enter(&self, _executor: u16, _turn: u64) {}
+/// Which turns a gate holds up.
+#[derive(Clone, Copy, Debug, PartialEq, Eq)]
+enum Holds {
+    None,
+    /// The first turn of executor 0 waits for flag a, and that of executor 1 for flag b.
+    FirstTurns,
+    /// The second turn of executor 1 raises flag a, and waits for flag b.
+    SecondTurn,
 }
 
-/// Two flags, and how often one of them was looked for in vain.
+/// What the threads of a test share: the words of a session, and a gate with two flags.
 #[derive(Drop)]
-struct TwoFlags {
+struct Shared {
+    words: Words,
+    holds: Holds,
     a: AtomicU64,
     b: AtomicU64,
+    /// How often one of the flags was looked for in vain.
     missed: AtomicU64,
 }
 
-impl TwoFlags {
-    /// Neither is raised.
-    fn new() -> TwoFlags {
-        TwoFlags {
-            a: AtomicU64::new(0),
-            b: AtomicU64::new(0),
-            missed: AtomicU64::new(0),
-        }
-    }
-
+impl Shared {
     /// Waits until a flag is raised, or notes that it was not.
     fn wait_for(&self, flag: &AtomicU64) {
         for _ in 0..LOOKS {
@@ -60,63 +56,55 @@ impl TwoFlags {
     }
 }
 
-fn raise(flag: &AtomicU64) {
-    flag.store(1, Ordering::SeqCst);
-}
-
-/// The first turn of executor 0 waits for flag a, and that of executor 1 for flag b.
-#[derive(Drop)]
-struct InTurn {
-    flags: TwoFlags,
-}
-
-impl Gate for InTurn {
+impl Gate for Shared {
     fn enter(&self, executor: u16, turn: u64) {
-        match (executor, turn) {
-            (0, 0) => self.flags.wait_for(&self.flags.a),
-            (1, 0) => self.flags.wait_for(&self.flags.b),
+        match (self.holds, executor, turn) {
+            (Holds::FirstTurns, 0, 0) => self.wait_for(&self.a),
+            (Holds::FirstTurns, 1, 0) => self.wait_for(&self.b),
+            (Holds::SecondTurn, 1, 1) => {
+                raise(&self.a);
+                self.wait_for(&self.b);
+            }
             _ => {}
         }
     }
 }
 
-/// The second turn of executor 1 raises flag a, and waits for flag b.
-#[derive(Drop)]
-struct HeldUp {
-    flags: TwoFlags,
+fn raise(flag: &AtomicU64) {
+    flag.store(1, Ordering::SeqCst);
 }
 
-impl Gate for HeldUp {
-    fn enter(&self, executor: u16, turn: u64) {
-        if executor == 1 && turn == 1 {
-            raise(&self.flags.a);
-            self.flags.wait_for(&self.flags.b);
-        }
-    }
-}
-
-/// A session with its words, and one reader of them.
+/// A session with its words, one reader of them for another thread, and one for later.
 #[derive(Drop)]
 struct Watched {
     session: Session,
-    words: Words,
+    shared: Shared,
     seats: HeadSeats,
     reader: Reader,
+    later: Reader,
 }
 
-fn watch(alloc: Global, text: &str) -> Result<Watched, Fail>
-    ensures { IfOk result (λ w. AreHeadSeatsOf w.words w.seats × HaveMarksOf w.seats w.session.world.channels × IsReaderOf w.words w.reader) }
+fn watch(alloc: Global, text: &str, holds: Holds) -> Result<Watched, Fail>
+    ensures { IfOk result (λ w. AreHeadSeatsOf w.shared.words w.seats × HaveMarksOf w.seats w.session.world.channels × IsReaderOf w.shared.words w.reader × IsReaderOf w.shared.words w.later) }
 {
     let session = read_session(alloc, text)?;
-    let (words, seats, mut readers) = Words::new(alloc, &session, 1)?;
-    let Some(reader) = readers.pop() else {
+    let (words, seats, mut readers) = Words::new(alloc, &session, 2)?;
+    let (Some(later), Some(reader)) = (readers.pop(), readers.pop()) else {
         unreachable!()
+    };
+    let shared = Shared {
+        words,
+        holds,
+        a: AtomicU64::new(0),
+        b: AtomicU64::new(0),
+        missed: AtomicU64::new(0),
     };
     Ok(Watched {
         session,
-        words,
+        shared,
         seats,
         reader,
+        later,
     })
 }
 
@@ -125,7 +113,7 @@ fn first_outcome(words: &Words, channel: usize, reader: &mut Reader) -> Option<O
     requires { IsReaderOf words.now reader.old }
     ensures { IsReaderOf words.now reader.new }
 {
-    for _ in 0..LOOKS {
+    'looks: for _ in 0..LOOKS {
         let found = words.peek(channel, 0, reader);
         if found.is_some() {
             return found;
@@ -141,7 +129,7 @@ fn stays_unset(words: &Words, channel: usize, reader: &mut Reader, looks: u32) -
     ensures { IsReaderOf words.now reader.new }
 {
     let mut is_unset = true;
-    for _ in 0..looks {
+    'looks: for _ in 0..looks {
         if words.peek(channel, 0, reader).is_some() {
             is_unset = false;
         }
@@ -167,144 +155,106 @@ fn have_answered(report: &Report, channels: usize) -> bool {
     reports.len() == channels && reports.iter().all(|channel| has_answered(channel))
 }
 
-/// Another thread sees the promise of a write settled while the session runs, and so it stands afterwards.
-fn seen_while_running<R: Abort + Threads + Wait + Sync>(
-    rt: &R,
-    alloc: Global,
-    queue: QueueKind,
-) -> Result<(), Fail> {
-    let Watched {
-        session,
-        words,
-        seats,
-        reader,
-    } = watch(alloc, on_loops(alloc, &[PING])?.as_str())?;
-    let words = &words;
-    let (report, (seen, mut reader)) = thread::join(
-        rt,
-        move || -> Option<Report>
-            requires own { AreHeadSeatsOf words.now seats }
-            requires marks { HaveMarksOf seats session.world.channels }
-        { run_with(rt, alloc, session, queue, &NoGate, words, seats).ok() },
-        move || -> (Option<Outcome>, Reader)
-            requires { IsReaderOf words.now reader }
-            ensures { IsReaderOf words.now result.1 }
-        {
-            let mut reader = reader;
-            let seen = first_outcome(words, 0, &mut reader);
-            (seen, reader)
-        },
-    );
-    assert_eq!(rt; seen, Some(Outcome::Success));
-    assert_eq!(rt; words.peek(0, 0, &mut reader), Some(Outcome::Success));
-    assert!(rt;
-        words
-            .look(0, &mut reader)
-            .is_some_and(|mark| !mark.unwritable)
-    );
-    assert!(rt; report.is_some_and(|report| have_answered(&report, 1)));
-    Ok(())
-}
-
 /// Sees the first promise of channel 0 unset, lets its executor go on, and waits until it is settled; then so with channel 1.
-fn one_after_another(words: &Words, mut reader: Reader, flags: &TwoFlags) -> bool
-    requires { IsReaderOf words.now reader }
+fn one_after_another(shared: &Shared, mut reader: Reader) -> bool
+    requires { IsReaderOf shared.now.words reader }
 {
-    let is_first_unset = words.peek(0, 0, &mut reader).is_none();
-    raise(&flags.a);
-    let first = first_outcome(words, 0, &mut reader);
-    let is_second_unset = words.peek(1, 0, &mut reader).is_none();
-    raise(&flags.b);
+    let is_first_unset = shared.words.peek(0, 0, &mut reader).is_none();
+    raise(&shared.a);
+    let first = first_outcome(&shared.words, 0, &mut reader);
+    let is_second_unset = shared.words.peek(1, 0, &mut reader).is_none();
+    raise(&shared.b);
     is_first_unset && first == Some(Outcome::Success) && is_second_unset
-}
-
-fn channels_in_turn<R: Abort + Threads + Wait + Sync>(
-    rt: &R,
-    alloc: Global,
-    queue: QueueKind,
-) -> Result<(), Fail> {
-    let Watched {
-        session,
-        words,
-        seats,
-        reader,
-    } = watch(alloc, on_loops(alloc, &[PING, PING])?.as_str())?;
-    let words = &words;
-    let gate = &InTurn {
-        flags: TwoFlags::new(),
-    };
-    let (report, is_seen) = thread::join(
-        rt,
-        move || -> Option<Report>
-            requires own { AreHeadSeatsOf words.now seats }
-            requires marks { HaveMarksOf seats session.world.channels }
-        { run_with(rt, alloc, session, queue, gate, words, seats).ok() },
-        move || -> bool
-            requires { IsReaderOf words.now reader }
-        { one_after_another(words, reader, &gate.flags) },
-    );
-    assert!(rt; is_seen);
-    assert_eq!(rt; gate.flags.missed.load(Ordering::SeqCst), 0);
-    assert!(rt; report.is_some_and(|report| have_answered(&report, 2)));
-    Ok(())
 }
 
 /// Waits until the executor of the decoder is held up, sees the first promise unset, lets it go on, and waits until the
 /// promise is settled.
-fn while_held_up(words: &Words, mut reader: Reader, flags: &TwoFlags) -> bool
-    requires { IsReaderOf words.now reader }
+fn while_held_up(shared: &Shared, mut reader: Reader) -> bool
+    requires { IsReaderOf shared.now.words reader }
 {
-    flags.wait_for(&flags.a);
-    let is_unset = stays_unset(words, 0, &mut reader, LOOKS_WHILE_UNSET);
-    raise(&flags.b);
-    is_unset && first_outcome(words, 0, &mut reader) == Some(Outcome::Success)
+    shared.wait_for(&shared.a);
+    let is_unset = stays_unset(&shared.words, 0, &mut reader, LOOKS_WHILE_UNSET);
+    raise(&shared.b);
+    is_unset && first_outcome(&shared.words, 0, &mut reader) == Some(Outcome::Success)
 }
 
-fn decoded_elsewhere<R: Abort + Threads + Wait + Sync>(
+/// What this other thread sees.
+fn watches(shared: &Shared, mut reader: Reader) -> bool
+    requires { IsReaderOf shared.now.words reader }
+{
+    match shared.holds {
+        Holds::None => first_outcome(&shared.words, 0, &mut reader) == Some(Outcome::Success),
+        Holds::FirstTurns => one_after_another(shared, reader),
+        Holds::SecondTurn => while_held_up(shared, reader),
+    }
+}
+
+/// Runs a session whose channels take PING, while another thread looks at its words. Afterwards they still say so.
+fn seen_while_running<R: Abort + Threads + Wait + Sync>(
     rt: &R,
     alloc: Global,
+    text: &str,
+    channels: usize,
+    holds: Holds,
     queue: QueueKind,
 ) -> Result<(), Fail> {
     let Watched {
         session,
-        words,
+        shared,
         seats,
         reader,
-    } = watch(alloc, decoded_apart(alloc, 4)?.as_str())?;
-    let words = &words;
-    let gate = &HeldUp {
-        flags: TwoFlags::new(),
-    };
+        mut later,
+    } = watch(alloc, text, holds)?;
+    let shared = &shared;
     let (report, is_seen) = thread::join(
         rt,
         move || -> Option<Report>
-            requires own { AreHeadSeatsOf words.now seats }
+            requires own { AreHeadSeatsOf shared.now.words seats }
             requires marks { HaveMarksOf seats session.world.channels }
-        { run_with(rt, alloc, session, queue, gate, words, seats).ok() },
+        { run_with(rt, alloc, session, queue, shared, &shared.words, seats).ok() },
         move || -> bool
-            requires { IsReaderOf words.now reader }
-        { while_held_up(words, reader, &gate.flags) },
+            requires { IsReaderOf shared.now.words reader }
+        { watches(shared, reader) },
     );
     assert!(rt; is_seen);
-    assert_eq!(rt; gate.flags.missed.load(Ordering::SeqCst), 0);
-    assert!(rt; report.is_some_and(|report| have_answered(&report, 1)));
+    assert_eq!(rt; shared.words.peek(0, 0, &mut later), Some(Outcome::Success));
+    assert!(rt;
+        shared
+            .words
+            .look(0, &mut later)
+            .is_some_and(|mark| !mark.unwritable)
+    );
+    assert_eq!(rt; shared.missed.load(Ordering::SeqCst), 0);
+    assert!(rt; report.is_some_and(|report| have_answered(&report, channels)));
     Ok(())
+}
+
+/// So with each kind of queue.
+fn seen_over_both<R: Abort + Threads + Wait + Sync>(
+    rt: &R,
+    alloc: Global,
+    text: &str,
+    channels: usize,
+    holds: Holds,
+) -> Result<(), Fail> {
+    seen_while_running(rt, alloc, text, channels, holds, QueueKind::Ring)?;
+    seen_while_running(rt, alloc, text, channels, holds, QueueKind::Waiting)
 }
 
 #[test]
 fn promise_seen_by_another_thread(rt: HostRuntime) -> Result<(), Fail> {
-    seen_while_running(&rt, rt.alloc(), QueueKind::Ring)?;
-    seen_while_running(&rt, rt.alloc(), QueueKind::Waiting)
+    let session = on_loops(rt.alloc(), &[PING])?;
+    seen_over_both(&rt, rt.alloc(), session.as_str(), 1, Holds::None)
 }
 
 #[test]
 fn channel_by_channel(rt: HostRuntime) -> Result<(), Fail> {
-    channels_in_turn(&rt, rt.alloc(), QueueKind::Ring)?;
-    channels_in_turn(&rt, rt.alloc(), QueueKind::Waiting)
+    let session = on_loops(rt.alloc(), &[PING, PING])?;
+    seen_over_both(&rt, rt.alloc(), session.as_str(), 2, Holds::FirstTurns)
 }
 
 #[test]
 fn work_on_its_own_thread(rt: HostRuntime) -> Result<(), Fail> {
-    decoded_elsewhere(&rt, rt.alloc(), QueueKind::Ring)?;
-    decoded_elsewhere(&rt, rt.alloc(), QueueKind::Waiting)
+    let session = decoded_apart(rt.alloc(), 4)?;
+    seen_over_both(&rt, rt.alloc(), session.as_str(), 1, Holds::SecondTurn)
 }
