@@ -146,4 +146,4 @@ pub returns-in_err-hand-in-Hand-clause-goes_on : goal.returns-in_err-hand-in-Han
 returns-in_err-hand-in-Hand-clause-goes_on g c = λ _ plan backlogs.
     subst (λ (k : Core (Channels g.row.S.Denot g.row.T.Denot)). NetStands g.S.Stage.meaning g.S.Stage.stands_after g.T.Transport.state plan backlogs k → NetStands g.S.Stage.meaning g.S.Stage.stands_after g.T.Transport.state plan backlogs c.hand.new.self) c.self.view_is
     (λ n. room-goes-on g.S.Stage.meaning g.S.Stage.stands_after g.S.Stage.is_spent g.T.Transport.state g.T.Transport.may_refuse c.self.inside.core c.hand.new.self plan backlogs c.in_err-hand-in-Hand.ensures.err (c.in_err-hand-in-Hand.ensures.stays (lanes_of plan) 0 backlogs n.stands)
-        c.hand.ensures.capacity (sym c.hand.new.self.executors.ok.0 ∙ c.hand.ensures.count ∙ c.self.inside.core.executors.ok.0) n)
+    c.hand.ensures.capacity (sym c.hand.new.self.executors.ok.0 ∙ c.hand.ensures.count ∙ c.self.inside.core.executors.ok.0) n)
