@@ -9,6 +9,7 @@ use Rattle.pl_build.specs.declared.limits.TheConstants.{MAX_HANDLERS}
 use Rattle.pl_channel.specs.Lanes.{lanes_of}
 use Rattle.pl_event.specs.declared.events.Event.{Event}
 use Rattle.pl_event.specs.Meaning.{Meaning}
+use Rattle.pl_event.proofs.Lists.{All-at}
 use Rattle.pl_event.specs.Worlds.{World}
 use Rattle.pl_executor.specs.Running.{ExecutorView}
 use Rattle.pl_head.specs.Transports.{TransportState}
@@ -72,6 +73,15 @@ pub executors-in-order : {P N : Type 0} (first : P → ExecutorView N) (executor
 executors-in-order {P = P} {N = N} first executors nodes count parts size numbered =
     numbered-in-order (λ (e : P). (first e).number) executors 0 (λ i e at. (numbered i (first e) (slice_get-map first executors i ∙ ap (option_map first) at)).numbered ∙ omega arith)
     ∙ ap (range_with_len 0) (sym (length-map executors (λ (e : P). (first e).part)) ∙ ap length parts ∙ size)
+
+-- What holds of the first turn of each such executor holds of the turn 0 of each number.
+pub first-turns : {P N : Type 0} (first : P → ExecutorView N) (executors : List P) (nodes : List N) (count : ℕ) (W : ℕ → ℕ → Type 0) → map (λ e. (first e).part) executors ≡ nodes → length nodes ≡ count
+    → ((y : ℕ) (e : ExecutorView N) → slice_get (map first executors) y ≡ Some e → IsFirst y e) → All (λ e. W (first e).number (first e).turns) executors → (y : ℕ) → y < count → W y 0
+first-turns {P = P} {N = N} first executors nodes count W parts size numbered told y lt =
+    let long = sym (length-map executors (λ (e : P). (first e).part)) ∙ ap length parts ∙ size in
+    let here = at-index executors y (omega (arith, long, lt)) in
+    let is = numbered y (first here.0) (slice_get-map first executors y ∙ ap (option_map first) here.1) in
+    subst (λ t. W y t) is.turns (subst (λ n. W n (first here.0).turns) is.numbered (All-at (λ (e : P). W (first e).number (first e).turns) executors y here.0 told here.1))
 
 module _ {S T : Type 0} (meaning : S → Meaning) (stands_after : S → List Event → Type 0) (state : T → TransportState) (plan : Plan) (parts : List (PartView S T)) (ready : AreReady meaning stands_after state plan parts)
     (count : ℕ) (all : count ≡ plan.executors) (lanes : LaneTable) (are : lanes ≡ lane_table parts count) where

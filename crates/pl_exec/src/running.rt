@@ -1,6 +1,6 @@
 //! A session, run by executors on threads of their own.
 
-ghost use Rattle.std.specs.Prelude.{◌≡◌, ◌≤◌, IfOk};
+ghost use Rattle.std.specs.Prelude.{◌≡◌, ◌<◌, ◌≤◌, ℕ, IfOk};
 ghost use Rattle.pl_channel.specs.Lanes.{lanes_of};
 ghost use Rattle.pl_world.specs.declared.limits.TheConstants.{MAX_CAPACITY};
 ghost use Rattle.pl_world.specs.Plans.{planned};
@@ -47,7 +47,9 @@ pub fn run<G: Gate + Sync, R: Threads + Wait + Sync>(
     queue: QueueKind,
     gate: &G,
 ) -> Result<Report, RunFault>
-    ensures { IfOk result (λ report. IsRunReport (plan_of ⟦<Handler as Stage>⟧.meaning ⟦<MemoryTransport as Transport>⟧.state session) report) }
+    ensures report { IfOk result (λ report. IsRunReport (plan_of ⟦<Handler as Stage>⟧.meaning ⟦<MemoryTransport as Transport>⟧.state session) report) }
+    // The gate was told of the first turn of each executor.
+    ensures entered { IfOk result (λ _. (e : ℕ) → e < session.world.executors → G.was_entered gate.now e 0) }
 {
     let (words, seats, _none) = Words::new(alloc, &session, 0)?;
     run_with(rt, alloc, session, queue, gate, &words, seats)
@@ -69,7 +71,9 @@ pub fn run_with<G: Gate + Sync, R: Threads + Wait + Sync>(
 ) -> Result<Report, RunFault>
     requires seats { AreHeadSeatsOf words.now seats }
     requires marks { HaveMarksOf seats session.world.channels }
-    ensures { IfOk result (λ report. IsRunReport (plan_of ⟦<Handler as Stage>⟧.meaning ⟦<MemoryTransport as Transport>⟧.state session) report) }
+    ensures report { IfOk result (λ report. IsRunReport (plan_of ⟦<Handler as Stage>⟧.meaning ⟦<MemoryTransport as Transport>⟧.state session) report) }
+    // The gate was told of the first turn of each executor.
+    ensures entered { IfOk result (λ _. (e : ℕ) → e < session.world.executors → G.was_entered gate.now e 0) }
 {
     let Session { world, capacity } = session;
     run_world_with(rt, alloc, world, capacity, queue, gate, words, seats)
@@ -85,7 +89,8 @@ pub fn run_world<S: Stage + Send, T: Transport + Send, G: Gate + Sync, R: Thread
     gate: &G,
 ) -> Result<Report, RunFault>
     requires capacity { (1 ≤ capacity) × (capacity ≤ MAX_CAPACITY) }
-    ensures { IfOk result (λ report. IsRunReport (planned S.meaning T.state capacity world.executors world.channels) report) }
+    ensures report { IfOk result (λ report. IsRunReport (planned S.meaning T.state capacity world.executors world.channels) report) }
+    ensures entered { IfOk result (λ _. (e : ℕ) → e < world.executors → G.was_entered gate.now e 0) }
 {
     let (words, seats, _none) = words_of(alloc, world.channels(), 0)?;
     run_world_with(rt, alloc, world, capacity, queue, gate, &words, seats)
@@ -105,7 +110,8 @@ fn run_world_with<S: Stage + Send, T: Transport + Send, G: Gate + Sync, R: Threa
     requires capacity { (1 ≤ capacity) × (capacity ≤ MAX_CAPACITY) }
     requires seats { AreHeadSeatsOf words.now seats }
     requires marks { HaveMarksOf seats world.channels }
-    ensures { IfOk result (λ report. IsRunReport (planned S.meaning T.state capacity world.executors world.channels) report) }
+    ensures report { IfOk result (λ report. IsRunReport (planned S.meaning T.state capacity world.executors world.channels) report) }
+    ensures entered { IfOk result (λ _. (e : ℕ) → e < world.executors → G.was_entered gate.now e 0) }
 {
     match queue {
         QueueKind::Waiting => {
@@ -137,7 +143,8 @@ fn run_waiting<
     requires plan { W.plan ≡ planned S.meaning T.state capacity world.executors world.channels }
     requires seats { AreHeadSeatsOf words.now seats }
     requires marks { HaveMarksOf seats world.channels }
-    ensures { IfOk result (λ report. IsRunReport W.plan report) }
+    ensures report { IfOk result (λ report. IsRunReport W.plan report) }
+    ensures entered { IfOk result (λ _. (e : ℕ) → e < W.plan.executors → G.was_entered gate.now e 0) }
 {
     run_by::<W, WaitingBox<W>, S, T, G, R>(rt, alloc, world, capacity, gate, words, seats)
 }
@@ -162,7 +169,8 @@ fn run_ring<
     requires plan { W.plan ≡ planned S.meaning T.state capacity world.executors world.channels }
     requires seats { AreHeadSeatsOf words.now seats }
     requires marks { HaveMarksOf seats world.channels }
-    ensures { IfOk result (λ report. IsRunReport W.plan report) }
+    ensures report { IfOk result (λ report. IsRunReport W.plan report) }
+    ensures entered { IfOk result (λ _. (e : ℕ) → e < W.plan.executors → G.was_entered gate.now e 0) }
 {
     run_by::<W, RingBox<W>, S, T, G, R>(rt, alloc, world, capacity, gate, words, seats)
 }
@@ -192,7 +200,8 @@ where
     requires plan { W.plan ≡ planned S.meaning T.state capacity world.executors world.channels }
     requires seats { AreHeadSeatsOf words.now seats }
     requires marks { HaveMarksOf seats world.channels }
-    ensures { IfOk result (λ report. IsRunReport W.plan report) }
+    ensures report { IfOk result (λ report. IsRunReport W.plan report) }
+    ensures entered { IfOk result (λ _. (e : ℕ) → e < W.plan.executors → G.was_entered gate.now e 0) }
 {
     let count = world.executors() as usize;
     let parts = placed(alloc, world.into_channels().into_vec())?;
@@ -235,7 +244,8 @@ where
     requires capacity { capacity ≡ W.plan.capacity }
     requires seats { AreHeadSeatsOf words.now seats }
     requires marks { HaveMarks seats W.plan.channels }
-    ensures { IfOk result (λ report. IsRunReport W.plan report) }
+    ensures report { IfOk result (λ report. IsRunReport W.plan report) }
+    ensures entered { IfOk result (λ _. (e : ℕ) → e < W.plan.executors → G.was_entered gate.now e 0) }
 {
     let channels = parts.len();
     let places = places(alloc, count, parts.as_slice())?;

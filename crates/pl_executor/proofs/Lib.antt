@@ -5,3 +5,4 @@ pub mod OfferSteps
 pub mod RunLemmas
 pub mod CountLemmas
 pub mod Sends
+pub mod FirstTurns

@@ -29,3 +29,9 @@ pub record IsStill {N : Type 0} (e e' : ExecutorView N) : Type 0 where
   pub part : e'.part ≡ e.part
   pub takes : e'.takes ≡ e.takes
   pub outboxes : (y : ℕ) → SameFor e.outboxes e'.outboxes y
+
+-- The first turn of an executor in its thread, and who was told of it.
+pub record FirstTurn (G : Type 0) : Type 0 where
+  pub gate : G
+  pub number : ℕ
+  pub turn : ℕ

@@ -347,15 +347,18 @@ where
         start: &Start,
         parker: Parker,
     ) -> Option<Finished<W, N>>
-        ensures { IfSome result (λ finished. N.home finished ≡ self.entry.number) }
+        ensures home { IfSome result (λ finished. N.home finished ≡ self.entry.number) }
+        // The gate was told of its first turn here.
+        ensures entered { IfSome result (λ _. G.was_entered gate.now self.entry.number self.entry.turns) }
     {
         if !start.wait(rt) {
             return None;
         }
         // Before it rests it says so, notes where it waits for room, and looks once more.
         let mut is_announced = false;
+        let mut turn = self.turn(rt, gate);
         for _ in rt.forever() {
-            match self.turn(rt, gate) {
+            match turn {
                 Turn::Worked => is_announced = false,
                 Turn::Done => return Some(self.into_finished()),
                 Turn::Idle if is_announced => {
@@ -367,6 +370,7 @@ where
                     is_announced = true;
                 }
             }
+            turn = self.turn(rt, gate);
         }
         unreachable!()
     }
@@ -376,6 +380,13 @@ where
         ensures { result ≡ self.now.number }
     {
         self.core.number
+    }
+
+    /// The number of its next turn.
+    pub(crate) fn turns(&self) -> u64
+        ensures { result ≡ self.now.turns }
+    {
+        self.turns
     }
 
     /// Says that it is about to rest, and notes at each queue that was full in the last turn that it waits for room.

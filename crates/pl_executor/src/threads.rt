@@ -1,6 +1,6 @@
 //! Executors in threads of their own, as many as a list has.
 
-ghost use Rattle.std.specs.Prelude.{◌≡◌, [], map, IfOk, IfSome};
+ghost use Rattle.std.specs.Prelude.{◌≡◌, [], map, All, IfOk, IfSome};
 
 use crate::executors::Executor;
 use crate::finished::Finished;
@@ -11,6 +11,8 @@ use crossbeam_utils::sync::Parker;
 use pl_event::Named;
 use pl_queue::Mailbox;
 use std::alloc::{AllocError, Global};
+use std::marker::Model;
+use std::snapshot::Snapshot;
 use std::sync::Wait;
 use std::thread;
 use std::thread::{PromisedHandle, Scope, Threads};
@@ -30,16 +32,27 @@ impl From<AllocError> for RunFault {
     }
 }
 
-/// The nodes that a thread gives are those of the executor of this number.
-#[derive(Clone, Copy, Debug, PartialEq, Eq)]
-struct Numbered {
+/// The nodes that a thread gives are those of the executor of this number, which has told the gate of its first turn in the
+/// thread.
+#[derive(Drop)]
+struct Numbered<G: Gate> {
+    gate: Snapshot<G>,
     number: usize,
+    turn: u64,
 }
 
-impl<W: Named, N: Part<W> + Drop> thread::Promise<Option<Finished<W, N>>> for Numbered {
+impl<G: Gate> Model for Numbered<G> {
+    ghost use Rattle.pl_executor.specs.Turning.{FirstTurn};
+
+    ghost Value = { FirstTurn G };
+
+    ghost view = { λ n. record { gate = n.gate.value; number = n.number; turn = n.turn } };
+}
+
+impl<G: Gate, W: Named, N: Part<W> + Drop> thread::Promise<Option<Finished<W, N>>> for Numbered<G> {
     ghost use Rattle.std.specs.Prelude.{◌≡◌, IfSome};
 
-    ghost kept_by = { λ p r. IfSome r (λ finished. N.home finished ≡ p.number) };
+    ghost kept_by = { λ p r. IfSome r (λ finished. (N.home finished ≡ p.number) × G.was_entered p.gate p.number p.turn) };
 }
 
 /// Starts each executor in a thread of its own. They wait there until they are told to begin.
@@ -59,21 +72,23 @@ fn start_each<
     gate: &'s G,
     start: &'s Start,
     executors: Vec<(Executor<'a, W, M, N>, Parker)>,
-) -> Result<Vec<PromisedHandle<Option<Finished<W, N>>, Numbered>>, RunFault>
+) -> Result<Vec<PromisedHandle<Option<Finished<W, N>>, Numbered<G>>>, RunFault>
 where
     M::Sender: Drop + Send + 's,
     M::Taker: Drop + Send + 's,
-    ensures { IfOk result (λ handles. map (λ h. h.promise.number) handles.items ≡ map (λ e. e.0.number) executors.entry.items) }
+    ensures { IfOk result (λ handles. map (λ h. h.promise) handles.items ≡ map (λ e. record { gate = gate.now; number = e.0.number; turn = e.0.turns }) executors.entry.items) }
 {
     let mut handles = Vec::with_capacity(alloc, executors.len())?;
     for (executor, parker) in executors {
         let promise = Numbered {
+            gate: Snapshot::of(gate),
             number: executor.number(),
+            turn: executor.turns(),
         };
         let spawned = scope.spawn_with(
             promise,
             move || -> Option<Finished<W, N>>
-                ensures { IfSome result (λ finished. N.home finished ≡ executor.entry.number) }
+                ensures { IfSome result (λ finished. (N.home finished ≡ executor.entry.number) × G.was_entered gate.entry.now executor.entry.number executor.entry.turns) }
             { executor.run(rt, gate, start, parker) },
         );
         match spawned {
@@ -101,11 +116,11 @@ fn start_all<
     gate: &'s G,
     start: &'s Start,
     executors: Vec<(Executor<'a, W, M, N>, Parker)>,
-) -> Result<Vec<PromisedHandle<Option<Finished<W, N>>, Numbered>>, RunFault>
+) -> Result<Vec<PromisedHandle<Option<Finished<W, N>>, Numbered<G>>>, RunFault>
 where
     M::Sender: Drop + Send + 's,
     M::Taker: Drop + Send + 's,
-    ensures { IfOk result (λ handles. map (λ h. h.promise.number) handles.items ≡ map (λ e. e.0.number) executors.entry.items) }
+    ensures { IfOk result (λ handles. map (λ h. h.promise) handles.items ≡ map (λ e. record { gate = gate.now; number = e.0.number; turn = e.0.turns }) executors.entry.items) }
 {
     let handles = start_each(rt, alloc, scope, gate, start, executors);
     start.tell(handles.is_ok());
@@ -113,13 +128,14 @@ where
 }
 
 /// What all executors leave, in their order, in a list that has room for it.
-fn join_all<W: Named, N: Part<W> + Drop, R: Threads>(
+fn join_all<W: Named, N: Part<W> + Drop, G: Gate, R: Threads>(
     rt: &R,
-    handles: Vec<PromisedHandle<Option<Finished<W, N>>, Numbered>>,
+    handles: Vec<PromisedHandle<Option<Finished<W, N>>, Numbered<G>>>,
     mut all: Vec<Finished<W, N>>,
 ) -> Result<Vec<Finished<W, N>>, RunFault>
     requires { all.items ≡ [] }
-    ensures { IfOk result (λ all. map (λ f. N.home f) all.items ≡ map (λ h. h.promise.number) handles.items) }
+    ensures homes { IfOk result (λ all. map (λ f. N.home f) all.items ≡ map (λ h. h.promise.number) handles.items) }
+    ensures entered { IfOk result (λ _. All (λ h. G.was_entered h.promise.gate h.promise.number h.promise.turn) handles.items) }
 {
     for handle in handles {
         let Some(finished) = handle.join(rt) else {
@@ -131,7 +147,8 @@ fn join_all<W: Named, N: Part<W> + Drop, R: Threads>(
 }
 
 /// Runs each executor, with the parker of its inbox, in a thread of its own, and gives what they leave, in their order. No
-/// executor makes a turn before all threads were started. All threads that were started have ended when it answers.
+/// executor makes a turn before all threads were started, and then each makes one at least. All threads that were started have
+/// ended when it answers.
 ///
 /// Errors: `Memory`, where memory is refused for a list; `Spawn`, where a thread could not be started. No executor has made a
 /// turn then.
@@ -151,7 +168,9 @@ pub fn run_all<
 where
     M::Sender: Drop + Send,
     M::Taker: Drop + Send,
-    ensures { IfOk result (λ all. map (λ f. N.home f) all.items ≡ map (λ e. e.0.number) executors.entry.items) }
+    ensures homes { IfOk result (λ all. map (λ f. N.home f) all.items ≡ map (λ e. e.0.number) executors.entry.items) }
+    // The gate was told of the first turn of each.
+    ensures entered { IfOk result (λ _. All (λ e. G.was_entered gate.now e.0.number e.0.turns) executors.entry.items) }
 {
     let all = Vec::with_capacity(alloc, executors.len())?;
     let start = Start::new();
@@ -161,7 +180,8 @@ where
         rt,
         |scope| -> Result<Vec<Finished<W, N>>, RunFault>
             requires { all.items ≡ [] }
-            ensures { IfOk result (λ all. map (λ f. N.home f) all.items ≡ map (λ e. e.0.number) executors.entry.items) }
+            ensures homes { IfOk result (λ all. map (λ f. N.home f) all.items ≡ map (λ e. e.0.number) executors.entry.items) }
+            ensures entered { IfOk result (λ _. All (λ e. G.was_entered gate.entry.now e.0.number e.0.turns) executors.entry.items) }
         {
             let handles = start_all(rt, alloc, scope, gate, start, executors)?;
             join_all(rt, handles, all)

@@ -8,7 +8,7 @@ use Rattle.pl_exec.specs.declared.nodes.OwnNodes.{OwnNodes}
 use Rattle.pl_exec.specs.Lanes.{AreLaid, lane_table}
 use Rattle.pl_exec.specs.Opening.{InboxView, AreOpened, lanes_in}
 use Rattle.pl_exec.specs.Sharing.{places_of}
-use Rattle.pl_exec.proofs.Ready.{ready-count, ready-few, ready-hops, ready-laid, ready-square, ready-executors, ready-open, ready-start, executors-in-order}
+use Rattle.pl_exec.proofs.Ready.{ready-count, ready-few, ready-hops, ready-laid, ready-square, ready-executors, ready-open, ready-start, executors-in-order, first-turns}
 use Rattle.pl_exec.proofs.TellingStart.{telling-start}
 use Rattle.pl_exec.proofs.running.run_parts.Goals as goal
 
@@ -65,7 +65,7 @@ executors-requires-clause-start g c =
 
 pub report_of-requires-clause-executors : goal.report_of-requires-clause-executors
 report_of-requires-clause-executors g c =
-    c.in_ok-all.ensures
+    c.in_ok-all.ensures.homes
     ∙ executors-in-order (λ e. e.0) c.in_ok-executors.executors.items c.in_ok-nodes.nodes.items g.W.Planned.plan.executors c.in_ok-executors.ensures.parts
     (sym (length-map c.in_ok-nodes.nodes.items (λ n. n.nodes)) ∙ ap (λ (l : List (OwnNodes g.row.S.Denot g.row.T.Denot)). length l) c.in_ok-nodes.ensures.nodes ∙ c.in_ok-own.ensures.count ∙ c.requires.executors) c.in_ok-executors.ensures.first
 
@@ -73,3 +73,9 @@ pub report_of-requires-clause-channels : goal.report_of-requires-clause-channels
 report_of-requires-clause-channels g c =
     c.len-channels.ensures ∙ sym c.as_slice.ensures.len ∙ ap (λ (l : List (PartView g.row.S.Denot g.row.T.Denot)). length l) c.as_slice.ensures.value
     ∙ ready-count g.S.Stage.meaning g.S.Stage.stands_after g.T.Transport.state g.W.Planned.plan c.args.parts.items c.requires.ready
+
+-- each executor has told its first turn
+pub returns-clause-entered : goal.returns-clause-entered
+returns-clause-entered g c = λ e lt.
+    first-turns (λ e. e.0) c.in_ok-executors.executors.items c.in_ok-nodes.nodes.items g.W.Planned.plan.executors (g.G.Gate.was_entered c.args.gate.now) c.in_ok-executors.ensures.parts
+    (sym (length-map c.in_ok-nodes.nodes.items (λ n. n.nodes)) ∙ ap (λ (l : List (OwnNodes g.row.S.Denot g.row.T.Denot)). length l) c.in_ok-nodes.ensures.nodes ∙ c.in_ok-own.ensures.count ∙ c.requires.executors) c.in_ok-executors.ensures.first c.in_ok-all.ensures.entered e lt

@@ -1,4 +1,4 @@
-use Rattle.std.proofs.Common.{◌≡◌, sym, subst}
+use Rattle.std.proofs.Common.{◌≡◌, ℕ, sym, subst}
 use Rattle.std.specs.Option.{IfSome}
 use denote.Exit.{no}
 use denote.Param.{param}
@@ -22,4 +22,8 @@ spawn_with-spawned-requires-send-F g c κs within =
     param_send _ _ (arg_send _ no _ (captured_send _ _ _ _ _ _ executor rt gate begin parker_send))
 
 pub spawn_with-spawned-requires-clause-keeps : goal.spawn_with-spawned-requires-clause-keeps
-spawn_with-spawned-requires-clause-keeps g c κs within = λ r gave. subst (λ n. IfSome r (λ finished. g.N.Part.home finished ≡ n)) (sym c.number.ensures) gave
+spawn_with-spawned-requires-clause-keeps g c κs within = λ r gave.
+    let Keeps : g.row.G.Denot → ℕ → ℕ → Type 0 = λ gate number turn. IfSome r (λ finished. (g.N.Part.home finished ≡ number) × g.G.Gate.was_entered gate number turn) in
+    let told = subst (λ gate. Keeps gate c.in-Some.executor.number c.in-Some.executor.turns) (sym c.of.ensures) gave in
+    let numbered = subst (λ number. Keeps c.of.result.value number c.in-Some.executor.turns) (sym c.number.ensures) told in
+    subst (λ turn. Keeps c.of.result.value c.number.result turn) (sym c.turns.ensures) numbered

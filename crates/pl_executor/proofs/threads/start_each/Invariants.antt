@@ -4,4 +4,5 @@ use Rattle.pl_executor.proofs.threads.start_each.Given as goal
 
 abbrev pub invariant-loop-executor : goal.invariant-loop-executor
 invariant-loop-executor g l =
-    map (λ h. h.promise.number) l.handles.items ++ map (λ e. e.0.number) (into_iter_items l.executor-iterator) ≡ map (λ e. e.0.number) l.fn.executors.items
+    map (λ h. h.promise) l.handles.items ++ map (λ e. record { gate = l.fn.gate; number = e.0.number; turn = e.0.turns }) (into_iter_items l.executor-iterator)
+    ≡ map (λ e. record { gate = l.fn.gate; number = e.0.number; turn = e.0.turns }) l.fn.executors.items
