@@ -1,14 +1,16 @@
 #!/bin/sh
 # Runs each example on threads, over both queues, and compares its report with that of `plain`.
 #
-# usage: checks/runs.sh PROGRAM [TIMES [EXAMPLE..]]     each is run once, or so many times; all, or only these
+# usage: [MINUTES=M] checks/runs.sh PROGRAM [TIMES [EXAMPLE..]]     each is run once, or so many times; all, or only these
 #
 # Where nothing fails the report is that of `plain`, and the status 0. Where a transport fails or the channel is aborted, each
-# tail and the bytes of each channel begin those of `plain`, and no channel stands open. Each run has a minute. With waiting
-# queues executors may wait for each other in a circle, so these have room for all there is.
+# tail and the bytes of each channel begin those of `plain`, and no channel stands open. Each run has a minute, and all of them
+# together have M of them, 30 where none are given. With waiting queues executors may wait for each other in a circle, so these
+# have room for all there is.
 set -eu
 program=$1
 times=${2:-1}
+last=$(($(date +%s) + 60 * ${MINUTES:-30}))
 here=$(cd "$(dirname "$0")" && pwd)
 examples=$here/../examples
 if [ $# -gt 2 ]; then
@@ -27,6 +29,7 @@ fail() {
 
 # Runs the session, and compares what it printed.
 run_once() {
+    [ "$(date +%s)" -le "$last" ] || fail "not all ran within ${MINUTES:-30} minutes"
     status=0
     timeout 60 "$program" run --queue "$queue" <"$work/session" >"$work/out" 2>"$work/err" || status=$?
     [ ! -s "$work/err" ] || fail "$(cat "$work/err")"
