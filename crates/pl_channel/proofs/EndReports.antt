@@ -23,7 +23,7 @@ use Rattle.pl_world.specs.Plans.{ChannelPlan, Plan, tail_hop, head_hop}
 use Rattle.pl_world.specs.Reports.{has_ended, channel_cause, is_written_out, IsChannelReport, tail_of, head_of, KeepsToPlan, EndsKeepToPlan, ReportsPlan}
 use Rattle.pl_world.proofs.PlannedReports.{out-prefix, drained_parts, report_keeps}
 use Rattle.pl_channel.specs.Lanes.{lanes_of}
-use Rattle.pl_channel.specs.Ends.{ends_of, EndsHold, FailedInOrder}
+use Rattle.pl_channel.specs.Ends.{ends_of, EndsHold}
 use Rattle.pl_channel.proofs.LaneContents.{content-planned}
 
 no-first : (first later : Option Cause) → first_cause first later ≡ None → (first ≡ None) × (later ≡ None)
@@ -79,39 +79,36 @@ module _ {T : Type 0} (state : T → TransportState) (plan : Plan) (number : ℕ
   abbrev accepted : List ℕ
   accepted = (state head.transport).accepted
 
-  head-first : IsPrefixOf took.ys (head_of p)
-  head-first = subst (λ (xs : List Event). IsPrefixOf took.ys xs) to-head (first-of took.count took.ys held.head_holds.events took.before)
+  -- the head took the first events of it, with none left out
+  head-first : IsPrefixOf (took.ys ++ took.zs) (head_of p)
+  head-first = subst (λ (xs : List Event). IsPrefixOf (took.ys ++ took.zs) xs) to-head (first-of took.count (took.ys ++ took.zs) held.head_holds.events took.in_order)
 
   head-whole : has_ended head.standing ≡ true → took.ys ++ took.zs ≡ head_of p
-  head-whole ended =
-      let is = ended-is head.standing ended in
-      ap (λ (zs : List Event). took.ys ++ zs) (took.none_late (ap is_over is)) ∙ append-nil took.ys ∙ took.before
-      ∙ take_all took.count held.head_holds.events (omega (arith, took.ended is)) ∙ to-head
+  head-whole ended = took.in_order ∙ take_all took.count held.head_holds.events (omega (arith, took.ended (ended-is head.standing ended))) ∙ to-head
 
-  -- ends of which the head took these events keep to the plan, where they begin its lane
-  module _ (ys zs : List Event) (sizes : List Change) (after : StandsAfter state head ys zs sizes) where
-    pub none-late : head.failure ≡ None → zs ≡ []
-    none-late sound = (subst (λ (f : Option Cause). BufferAfter f accepted head.buffer ys zs (is_over head.standing) sizes) sound after).0
+  output : (left : List ℕ) × (accepted ++ left ≡ out took.ys)
+  output = by head.failure took.after
+    where
+      by : (f : Option Cause) → BufferAfter f accepted head.buffer took.ys took.zs (is_over head.standing) took.sizes → (left : List ℕ) × (accepted ++ left ≡ out took.ys)
+      by None a = (a.1.left, a.1.output)
+      by (Some cause) a = (a.left, a.output)
 
-    output : (left : List ℕ) × (accepted ++ left ≡ out ys)
-    output = by head.failure after
-      where
-        by : (f : Option Cause) → BufferAfter f accepted head.buffer ys zs (is_over head.standing) sizes → (left : List ℕ) × (accepted ++ left ≡ out ys)
-        by None a = (a.1.left, a.1.output)
-        by (Some cause) a = (a.left, a.output)
+  none-late : head.failure ≡ None → took.zs ≡ []
+  none-late sound = (subst (λ (f : Option Cause). BufferAfter f accepted head.buffer took.ys took.zs (is_over head.standing) took.sizes) sound took.after).0
 
-    pub keep : (full : Bool) → IsPrefixOf (ys ++ zs) (head_of p) → (has_ended head.standing ≡ true → ys ++ zs ≡ head_of p) → (head.failure ≡ None → full ≡ false)
-        → (head.failure ≡ Some Aborted → is_some p.abort_after ≡ true) → EndsKeepToPlan p (record (ends_of state tail head ys zs) { is_full = full })
-    keep full first whole numbering aborted = record {
-      tail = tail-first;
-      tail_whole = tail-whole;
-      head = first;
-      head_whole = whole;
-      accepted = omega (arith, ap (λ (bs : List ℕ). length bs) output.1, length-append accepted output.0);
-      late = none-late;
-      numbering = numbering;
-      aborted = aborted;
-    }
+  -- so the ends keep to the plan
+  pub keep : (full : Bool) → (head.failure ≡ None → full ≡ false) → (head.failure ≡ Some Aborted → is_some p.abort_after ≡ true)
+      → EndsKeepToPlan p (record (ends_of state tail head took.ys took.zs) { is_full = full })
+  keep full numbering aborted = record {
+    tail = tail-first;
+    tail_whole = tail-whole;
+    head = head-first;
+    head_whole = head-whole;
+    accepted = omega (arith, ap (λ (bs : List ℕ). length bs) output.1, length-append accepted output.0);
+    late = none-late;
+    numbering = numbering;
+    aborted = aborted;
+  }
 
   module _ (r : ChannelReport) (reports : (ys zs : List Event) (sizes : List Change) → StandsAfter state head ys zs sizes → IsChannelReport (ends_of state tail head ys zs) r) where
     is : IsChannelReport (ends_of state tail head took.ys took.zs) r
@@ -121,10 +118,7 @@ module _ {T : Type 0} (state : T → TransportState) (plan : Plan) (number : ℕ
     sound-reports : head.failure ≡ None → ReportsPlan p r
     sound-reports sound = record {
       ends = record (ends_of state tail head took.ys took.zs) { is_full = false };
-      ends_keep =
-          keep took.ys took.zs took.sizes took.after false
-          (subst (λ (zs : List Event). IsPrefixOf (took.ys ++ zs) (head_of p)) (sym none) (subst (λ (ys : List Event). IsPrefixOf ys (head_of p)) (sym (append-nil took.ys)) head-first))
-          head-whole (λ e. refl) (λ aborted. absurd (no (sym sound ∙ aborted)));
+      ends_keep = keep false (λ e. refl) (λ aborted. absurd (no (sym sound ∙ aborted)));
       reports = record {
         stands_is = is.stands_is;
         tail_is = is.tail_is;
@@ -133,7 +127,7 @@ module _ {T : Type 0} (state : T → TransportState) (plan : Plan) (number : ℕ
           late = is.writes_are.late;
           unnumbered = is.writes_are.unnumbered;
           split = is.writes_are.split;
-          all = λ going. append-none is.writes_are.late is.writes_are.unnumbered (is.writes_are.split ∙ ap writes_by none);
+          all = λ going. append-none is.writes_are.late is.writes_are.unnumbered (is.writes_are.split ∙ ap writes_by (none-late sound));
           outcomes_are = is.writes_are.outcomes_are;
         };
       };
@@ -142,27 +136,22 @@ module _ {T : Type 0} (state : T → TransportState) (plan : Plan) (number : ℕ
         no : None ≡ Some Aborted → ⊥
         no e = cc
 
-        none : took.zs ≡ []
-        none = none-late took.ys took.zs took.sizes took.after sound
-
     -- a report of ends that hold is one of a channel with the plan
-    pub ends-report : (is_some head.failure ≡ true → FailedInOrder state p head) → ReportsPlan p r
-    ends-report order = by head.failure refl
+    pub ends-report : (head.failure ≡ Some Aborted → is_some p.abort_after ≡ true) → ReportsPlan p r
+    ends-report aborted = by head.failure refl
       where
         by : (f : Option Cause) → head.failure ≡ f → ReportsPlan p r
         by None sound = sound-reports sound
-        by (Some cause) failed =
-            let took = order (ap (λ (f : Option Cause). is_some f) failed) in
-            record {
-              ends = ends_of state tail head took.before took.late;
-              ends_keep = keep took.before took.late took.sizes took.after head.buffer.is_full took.in_order took.whole (λ none. absurd (no (sym failed ∙ none))) took.aborted;
-              reports = reports took.before took.late took.sizes took.after;
-            }
+        by (Some cause) failed = record {
+          ends = ends_of state tail head took.ys took.zs;
+          ends_keep = keep head.buffer.is_full (λ none. absurd (no (sym failed ∙ none))) aborted;
+          reports = is;
+        }
           where
             no : Some cause ≡ None → ⊥
             no e = cc
 
-    -- and keeps to the plan
+    -- and keeps to the plan, whoever aborts it
     pub ends-keep : KeepsToPlan p r
     ends-keep = by head.failure refl
       where
@@ -171,7 +160,8 @@ module _ {T : Type 0} (state : T → TransportState) (plan : Plan) (number : ℕ
         by (Some cause) failed = record {
           tail = subst (λ (xs : List Event). IsPrefixOf xs (tail_of p)) (sym is.tail_is) tail-first;
           bytes = subst (λ (bs : List ℕ). IsPrefixOf bs (out (head_of p))) (sym is.bytes_are)
-              (prefix-trans (take (length accepted) (out took.ys)) (out took.ys) (out (head_of p)) (take-prefix_whole (length accepted) (out took.ys)) (out-prefix took.ys (head_of p) head-first));
+              (prefix-trans (take (length accepted) (out took.ys)) (out took.ys) (out (head_of p)) (take-prefix_whole (length accepted) (out took.ys))
+              (out-prefix took.ys (head_of p) (prefix-trans took.ys (took.ys ++ took.zs) (head_of p) (took.zs, refl) head-first)));
           whole = λ drained.
               let none = (drained_parts (channel_cause (ends_of state tail head took.ys took.zs)) (is_written_out (ends_of state tail head took.ys took.zs)) (sym is.stands_is ∙ drained)).0 in
               absurd (no (sym failed ∙ (no-first head.failure (cause_of head.standing) (no-first (head_cause head) (cause_of tail.standing) none).0).0));

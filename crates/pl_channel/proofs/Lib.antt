@@ -7,5 +7,5 @@ mod PlannedLanes
 mod NewHeads
 mod NewChannels
 mod EventClones
-mod EndReports
+pub mod EndReports
 pub mod PlanLemmas

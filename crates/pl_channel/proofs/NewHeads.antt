@@ -42,9 +42,8 @@ module _ {T : Type 0} (state : T → TransportState) (plan : ReadPlan) (channel 
         after = new.after;
         count = 0;
         within = omega arith;
-        before = refl;
-        later = omega arith;
-        running = λ live sound. new.taken;
+        in_order = refl;
+        running = λ live. new.taken;
         ended = λ ended. absurd (both_ways false refl (ap is_over (sym new.standing ∙ ended)));
         none_late = λ over. refl;
       };

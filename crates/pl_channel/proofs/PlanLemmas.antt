@@ -1,5 +1,5 @@
 -- The nodes of a channel go on as its plan has them.
-use Rattle.std.proofs.Common.{◌≡◌, ℕ, ◌≢◌, ◌==◌, Bool, true, false, not, List, length, Option, Some, None, refl, ap, sym, ◌∙◌, subst, inl, inr, ◌⊎◌}
+use Rattle.std.proofs.Common.{◌≡◌, ℕ, ◌≢◌, ◌==◌, ◌||◌, Bool, true, false, not, List, length, Option, Some, None, refl, ap, sym, ◌∙◌, subst, inl, inr, ◌⊎◌}
 use Rattle.std.specs.Prelude.{is_some}
 use Rattle.std.proofs.lemmas.List.{length-map}
 use Rattle.std.proofs.lemmas.Bool.{cases_Bool, and_parts}
@@ -22,7 +22,7 @@ use Rattle.pl_head.specs.declared.heads.ReadStep.TheVariants as reading
 use Rattle.pl_head.specs.ReadSteps.{brings_abort}
 use Rattle.pl_head.specs.Transports.{TransportState}
 use Rattle.pl_head.specs.InputStand.{InputStands}
-use Rattle.pl_head.specs.HeadStand.{HeadView, Answers, first_cause, cause_of_item, cause_of_step}
+use Rattle.pl_head.specs.HeadStand.{HeadView, lane_over, Answers, first_cause, cause_of_item, cause_of_step}
 use Rattle.pl_part.specs.HeadCalls.{HeadTakes, HeadReads, HeadWrites}
 use Rattle.pl_part.specs.Parts.{PartView, PartTakes, PartReads, PartWrites, SamePart, head_hop}
 use Rattle.pl_world.specs.Plans.{ChannelPlan, read_plan}
@@ -31,10 +31,10 @@ use Rattle.pl_channel.specs.PlanStand.{HeadKeepsPlan, PartKeepsPlan}
 -- ---- a head
 
 module _ {T : Type 0} (state : T → TransportState) (p : ChannelPlan) where
-  is-open : (s : Standing) → is_over s ≡ false → s ≡ stands.Open
-  is-open stands.Open o = refl
-  is-open stands.Ended o = cc
-  is-open (stands.Failed c) o = cc
+  is-open : (s : Standing) (closed : Bool) → (is_over s || closed) ≡ false → s ≡ stands.Open
+  is-open stands.Open closed o = refl
+  is-open stands.Ended closed o = cc
+  is-open (stands.Failed c) closed o = cc
 
   not-by-step : (s : OutStep) → cause_of_step s ≢ Some Aborted
   not-by-step (step.Wrote n) = λ c. cc
@@ -69,15 +69,15 @@ module _ {T : Type 0} (state : T → TransportState) (p : ChannelPlan) where
     aborted = aborted;
   }
     where
-      open-aborted : (f : Option Cause) → h.failure ≡ f → h.standing ≡ stands.Open → h'.failure ≡ Some Aborted → is_some p.abort_after ≡ true
-      open-aborted (Some c) f live a = k.aborted (f ∙ sym (ap (λ (x : Option Cause). first_cause x (cause_of_item e.item answer)) f) ∙ sym (t.failure live) ∙ a)
+      open-aborted : (f : Option Cause) → h.failure ≡ f → lane_over h ≡ false → h'.failure ≡ Some Aborted → is_some p.abort_after ≡ true
+      open-aborted (Some c) f live a = k.aborted (f ∙ sym (ap (λ (x : Option Cause). first_cause x (cause_of_item e.item answer)) f) ∙ sym (t.failure (is-open h.standing h.is_closed live)) ∙ a)
       open-aborted None f live a = absurd (not-by-item e.item answer (subst (λ (q : Bool). Answers q e.item answer) (ap is_some f) (t.answers live))
-          (sym (t.failure live ∙ ap (λ (x : Option Cause). first_cause x (cause_of_item e.item answer)) f) ∙ a))
+          (sym (t.failure (is-open h.standing h.is_closed live) ∙ ap (λ (x : Option Cause). first_cause x (cause_of_item e.item answer)) f) ∙ a))
 
       aborted : h'.failure ≡ Some Aborted → is_some p.abort_after ≡ true
-      aborted a = elim (cases_Bool (is_over h.standing)) [
+      aborted a = elim (cases_Bool (lane_over h)) [
         | inl over ↦ k.aborted (sym (ap (λ (x : HeadView T). x.failure) (t.over over).1) ∙ a)
-        | inr live ↦ open-aborted h.failure refl (is-open h.standing live) a
+        | inr live ↦ open-aborted h.failure refl live a
       ]
 
   -- a read step: only that of an abort aborts it

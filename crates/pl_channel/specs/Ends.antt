@@ -1,16 +1,13 @@
 -- The two ends of a channel, as its report has them, and as they hold in the world of a plan.
-use Rattle.std.specs.Prelude.{◌≡◌, ℕ, List, ◌++◌, length, slice_get, Some, is_some, true}
+use Rattle.std.specs.Prelude.{◌≡◌, ℕ, List, length, slice_get, Some}
 use Rattle.pl_event.specs.declared.events.Event.{Event}
-use Rattle.pl_event.specs.declared.outcomes.Cause.TheVariants.{Aborted}
-use Rattle.pl_event.specs.Meaning.{IsPrefixOf}
 use Rattle.pl_context.specs.TailViews.{TailView}
-use Rattle.pl_head.specs.Marks.{Change}
 use Rattle.pl_head.specs.Transports.{TransportState}
-use Rattle.pl_head.specs.HeadStand.{HeadView, StandsAfter}
+use Rattle.pl_head.specs.HeadStand.{HeadView}
 use Rattle.pl_part.specs.HeadHolds.{HeadHolds}
 use Rattle.pl_part.specs.TailHolds.{TailHolds}
 use Rattle.pl_world.specs.Plans.{ChannelPlan, Plan, tail_hop, head_hop}
-use Rattle.pl_world.specs.Reports.{Ends, has_ended, head_of}
+use Rattle.pl_world.specs.Reports.{Ends}
 use Rattle.pl_channel.specs.Lanes.{lanes_of}
 
 module _ {T : Type 0} (state : T → TransportState) where
@@ -36,14 +33,3 @@ module _ {T : Type 0} (state : T → TransportState) where
     pub head_holds : HeadHolds state (lanes_of plan) head
     pub head_channel : head.channel ≡ number
     pub head_at : head.hop ≡ head_hop p
-
-  -- A head that has failed by itself took the first events of its lane, in order: those before the failure, and behind them
-  -- those from it on, with nothing left out; all of them where the lane has ended. It is aborted only where its plan says so.
-  pub record FailedInOrder (p : ChannelPlan) (head : HeadView T) : Type 0 where
-    pub before : List Event
-    pub late : List Event
-    pub sizes : List Change
-    pub after : StandsAfter state head before late sizes
-    pub in_order : IsPrefixOf (before ++ late) (head_of p)
-    pub whole : has_ended head.standing ≡ true → before ++ late ≡ head_of p
-    pub aborted : head.failure ≡ Some Aborted → is_some p.abort_after ≡ true

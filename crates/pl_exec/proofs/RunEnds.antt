@@ -24,53 +24,20 @@ use Rattle.pl_head.specs.Failures.{failure_outcome, head_outcomes, settled_by}
 use Rattle.pl_head.specs.WaitingMessages.{settled}
 use Rattle.pl_head.specs.Writes.{flushed_writes, late_outcome, out, outcomes, unflushed_writes, writes_by}
 use Rattle.pl_head.specs.HeadStand.{HeadView, BufferAfter, StandsAfter}
-use Rattle.pl_part.specs.HeadHolds.{HeadTook, Picked}
-use Rattle.pl_channel.specs.Ends.{ends_of}
-use Rattle.pl_channel.specs.Lanes.{lanes_of}
-use Rattle.pl_channel.proofs.LaneContents.{content-planned}
+use Rattle.pl_part.specs.HeadHolds.{HeadTook}
+use Rattle.pl_channel.specs.Ends.{ends_of, EndsHold}
+use Rattle.pl_channel.proofs.EndReports.{keep}
 use Rattle.pl_world.specs.declared.report.ChannelReport.{ChannelReport}
 use Rattle.pl_world.specs.Plans.{ChannelPlan, Plan, tail_hop, head_hop}
 use Rattle.pl_world.specs.Reports.{IsChannelReport, has_ended, head_of, tail_of}
 use Rattle.pl_world.proofs.SettledWrites.{outcomes_end}
-use Rattle.pl_exec.specs.Reported.{AreRunEnds, InOrder, IsLeftHead, IsLeftTail, ReportsRun}
-
--- ---- events that were picked
-
--- an event with those before it and behind it
-split-at : (xs : List Event) (n : ℕ) (x : Event) → slice_get xs n ≡ Some x → (rest : List Event) × (take n xs ++ x ∷ rest ≡ xs)
-split-at [] n x found = let within = slice_get_within [] n x found in absurd (omega (arith, within))
-split-at (y ∷ ys) zero x found = (ys, ap (λ (z : Event). z ∷ ys) (sym (same_Some y x found)))
-split-at (y ∷ ys) (suc n) x found = let split = split-at ys n x found in (split.0, ap (λ (zs : List Event). y ∷ zs) split.1)
-
--- each of them stands behind the one before
-picked-order : (events : List Event) (from : ℕ) (zs : List Event) (to : ℕ) → Picked events from zs to → InOrder zs (drop from events)
-picked-order events from [] to h = tt
-picked-order events from (z ∷ zs) to h =
-    let n = h.0 in
-    let split = split-at events n z h.2 in
-    let within = slice_get_within events n z h.2 in
-    let size : length (take n events) ≡ n = length-take-le n events (omega (arith, within)) in
-    let rest : drop (n + 1) events ≡ split.0 =
-    (λ i. drop (sym size i + 1) (sym split.1 i)) ∙ drop-append-add (take n events) (z ∷ split.0) 1 in (
-      drop from (take n events),
-      split.0,
-      sym (drop-append-le from (take n events) (z ∷ split.0) (let first = h.1 in omega (arith, first, size))) ∙ ap (λ (l : List Event). drop from l) split.1,
-      subst (λ (l : List Event). InOrder zs l) rest (picked-order events (n + 1) zs to h.3),
-    )
+use Rattle.pl_exec.specs.Reported.{AreRunEnds, IsLeftHead, IsLeftTail, ReportsRun}
 
 -- ---- ends that executors leave
-
-ended-is : (s : Standing) → has_ended s ≡ true → s ≡ standing.Ended
-ended-is standing.Open e = cc
-ended-is standing.Ended e = refl
-ended-is (standing.Failed cause) e = cc
 
 append-none : {A : Type 0} (xs ys : List A) → xs ++ ys ≡ [] → ys ≡ []
 append-none [] ys e = e
 append-none (x ∷ xs) ys e = cc
-
-first-of : (n : ℕ) (some all : List Event) → some ≡ take n all → IsPrefixOf some all
-first-of n some all e = subst (λ (xs : List Event). IsPrefixOf xs all) (sym e) (take-prefix_whole n all)
 
 or-none : (over : Bool) (failure : Option Cause) → failure ≡ None → (over || is_some failure) ≡ true → over ≡ true
 or-none true failure none e = refl
@@ -78,85 +45,26 @@ or-none false failure none e = sym (ap (λ (f : Option Cause). is_some f) none) 
 
 module _ {T : Type 0} (state : T → TransportState) (plan : Plan) (c : ℕ) (p : ChannelPlan) (tail : TailView) (head : HeadView T) (planned : slice_get plan.channels c ≡ Some p)
     (own : IsLeftTail plan c p tail) (last : IsLeftHead state plan c p head) where
-  -- what comes to the tail in all
-  to-tail : own.holds.events ≡ tail_of p
-  to-tail = same_Some own.holds.events (tail_of p)
-      (sym own.holds.holds.own
-      ∙ (λ i. content_of (lanes_of plan) (data_lane (own.channel i) (own.at i)))
-      ∙ content-planned plan c p planned (tail_hop p) (omega arith))
-
-  tail-first : IsPrefixOf tail.events (tail_of p)
-  tail-first = subst (λ (xs : List Event). IsPrefixOf tail.events xs) to-tail (by tail.standing refl)
-    where
-      by : (s : Standing) → tail.standing ≡ s → IsPrefixOf tail.events own.holds.events
-      by standing.Open is = first-of tail.taken tail.events own.holds.events (own.holds.holds.taken is).1
-      by standing.Ended is = ([], append-nil tail.events ∙ own.holds.holds.ended is)
-      by (standing.Failed cause) is =
-          let some = own.holds.holds.failed (ap has_failed is) in
-          first-of some.0 tail.events own.holds.events some.2
-
-  -- what comes to the head in all
-  to-head : last.holds.events ≡ head_of p
-  to-head = same_Some last.holds.events (head_of p)
-      (sym last.holds.holds.own
-      ∙ (λ i. content_of (lanes_of plan) (data_lane (last.channel i) (last.at i)))
-      ∙ content-planned plan c p planned (head_hop p) (omega arith))
+  -- they hold in the world of the plan
+  abbrev pub held : EndsHold state plan c p tail head
+  held = record { planned = planned; tail_holds = own.holds; tail_channel = own.channel; tail_at = own.at; head_holds = last.holds; head_channel = last.channel; head_at = last.at }
 
   abbrev took : HeadTook state last.holds.events head
   took = last.holds.holds.took
 
-  abbrev accepted : List ℕ
-  accepted = (state head.transport).accepted
-
-  head-first : IsPrefixOf (took.ys ++ []) (head_of p)
-  head-first = subst (λ (xs : List Event). IsPrefixOf xs (head_of p)) (sym (append-nil took.ys))
-      (subst (λ (xs : List Event). IsPrefixOf took.ys xs) to-head (first-of took.count took.ys last.holds.events took.before))
-
-  head-whole : has_ended head.standing ≡ true → took.ys ++ [] ≡ head_of p
-  head-whole ended =
-      append-nil took.ys ∙ took.before ∙ take_all took.count last.holds.events (omega (arith, took.ended (ended-is head.standing ended))) ∙ to-head
-
-  head-later : InOrder took.zs (drop (length took.ys) (head_of p))
-  head-later =
-      let within = took.within in
-      let size : took.count ≡ length took.ys = sym (ap (λ (l : List Event). length l) took.before ∙ length-take-le took.count last.holds.events within) in
-      subst (λ (z : ℕ × List Event). InOrder took.zs (drop z.0 z.1)) (λ i. (size i, to-head i)) (picked-order last.holds.events took.count took.zs head.taken took.later)
-
-  output : (left : List ℕ) × (accepted ++ left ≡ out took.ys)
-  output = by head.failure took.after
-    where
-      by : (f : Option Cause) → BufferAfter f accepted head.buffer took.ys took.zs (is_over head.standing) took.sizes → (left : List ℕ) × (accepted ++ left ≡ out took.ys)
-      by None a = (a.1.left, a.1.output)
-      by (Some cause) a = (a.left, a.output)
-
-  accepted-most : length accepted ≤ length (out took.ys)
-  accepted-most = omega (arith, ap (λ (bs : List ℕ). length bs) output.1, length-append accepted output.0)
-
-  -- all flushed bytes, while the head has not failed by itself
-  accepted-all : head.failure ≡ None → length accepted ≡ length (out took.ys)
-  accepted-all none =
-      let written : nat_le (length (out took.ys)) (length accepted) ≡ true =
-      sym (ap (λ (f : Option Cause). is_some f || nat_le (length (out took.ys)) (length accepted)) none) ∙ last.written took.ys took.zs took.sizes took.after in
-      omega (arith, accepted-most, leb-true (length (out took.ys)) (length accepted) written)
-
   -- They are ends as a run leaves them. (Whether writes get no number any more is nothing of a head that has not failed.)
   run-ends : (full : Bool) → (head.failure ≡ None → full ≡ false) → AreRunEnds p (record (ends_of state tail head took.ys took.zs) { is_full = full })
-  run-ends full numbering = record {
-    keep = record {
-      tail = tail-first;
-      tail_whole = λ ended. own.holds.holds.ended (ended-is tail.standing ended) ∙ to-tail;
-      head = head-first;
-      head_whole = head-whole;
-      accepted = accepted-most;
-      late = λ none. refl;
-      numbering = numbering;
-      aborted = last.aborted;
-    };
-    late = head-later;
-    none_late = took.none_late;
-    over = (λ i. own.over i && last.over i);
-    accepted = accepted-all;
-  }
+  run-ends full numbering =
+      let ends = keep state plan c p tail head held full numbering last.aborted in
+      record {
+        keep = ends;
+        none_late = took.none_late;
+        over = (λ i. own.over i && last.over i);
+        accepted = λ none.
+            let written : nat_le (length (out took.ys)) (length (state head.transport).accepted) ≡ true =
+            sym (ap (λ (f : Option Cause). is_some f || nat_le (length (out took.ys)) (length (state head.transport).accepted)) none) ∙ last.written took.ys took.zs took.sizes took.after in
+            omega (arith, ends.accepted, leb-true (length (out took.ys)) (length (state head.transport).accepted) written);
+      }
 
   module _ (r : ChannelReport) (reports : (ys zs : List Event) (sizes : List Change) → StandsAfter state head ys zs sizes → IsChannelReport (ends_of state tail head ys zs) r) where
     -- so their report is one of a run

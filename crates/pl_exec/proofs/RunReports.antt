@@ -24,7 +24,7 @@ use Rattle.pl_world.specs.Plans.{ChannelPlan, Plan}
 use Rattle.pl_world.specs.Reports.{IsChannelReport, KeepsToPlan, has_ended, stands_by}
 use Rattle.pl_exec.specs.declared.reporting.Found.{Found}
 use Rattle.pl_exec.specs.Reported.{IsLeft, IsLeftTail, IsLeftHead, AreLeft, IsFinalReport, IsRunReport, ReportsRun}
-use Rattle.pl_exec.proofs.RunEnds.{HasOutcome, reports-run, run-settled}
+use Rattle.pl_exec.proofs.RunEnds.{HasOutcome, held, reports-run, run-settled}
 
 -- ---- how a channel stands
 
@@ -67,7 +67,7 @@ module _ {T : Type 0} (state : T → TransportState) (plan : Plan) (c : ℕ) (p 
   last = subst (λ (h : HeadView T). IsLeftHead state plan c p h) (same_Some left.head final.head (sym left.has_head ∙ final.has_head)) left.left_head
 
   channel-keeps : KeepsToPlan p r
-  channel-keeps = final.keeps plan c p (record { planned = planned; tail_holds = own.holds; tail_channel = own.channel; tail_at = own.at; head_holds = last.holds; head_channel = last.channel; head_at = last.at })
+  channel-keeps = final.keeps plan c p (held state plan c p final.tail final.head planned own last)
 
   channel-closed : r.stands ≢ Open
   channel-closed =

@@ -1,5 +1,5 @@
 -- The report of a run.
-use Rattle.std.specs.Prelude.{◌≡◌, ◌≢◌, ℕ, ◌||◌, ◌&&◌, true, All, List, [], ◌∷◌, ◌++◌, length, drop, slice_get, Some, None, is_some}
+use Rattle.std.specs.Prelude.{◌≡◌, ◌≢◌, ℕ, ◌||◌, ◌&&◌, true, All, List, [], ◌∷◌, length, slice_get, Some, None, is_some}
 use Rattle.std.specs.List.{AllZip}
 use Rattle.std.specs.Option.{option_or}
 use Rattle.pl_event.specs.declared.events.Event.{Event}
@@ -19,24 +19,14 @@ use Rattle.pl_world.specs.declared.report.ChannelReport.{ChannelReport}
 use Rattle.pl_world.specs.declared.report.Report.{Report}
 use Rattle.pl_world.specs.declared.report.Stands.TheVariants.{Open}
 use Rattle.pl_world.specs.Plans.{ChannelPlan, Plan, tail_hop, head_hop}
-use Rattle.pl_world.specs.Reports.{AllKeepToPlan, Ends, EndsKeepToPlan, IsChannelReport, KeepsToPlan, head_of}
+use Rattle.pl_world.specs.Reports.{AllKeepToPlan, Ends, EndsKeepToPlan, IsChannelReport, KeepsToPlan}
 use Rattle.pl_exec.specs.declared.reporting.Found.{Found}
 
--- These stand among the others in their order: the first of them, and the rest behind it.
-abbrev pub InOrder : List Event → List Event → Type 0
-InOrder [] others = Unit {0}
-InOrder (x ∷ xs) others = (before : List Event) × (after : List Event) × (before ++ x ∷ after ≡ others) × InOrder xs after
-
--- the two ends, but for what the head took from a failure of its own on
-abbrev pub without_late : Ends → Ends
-without_late e = record e { late = [] }
-
--- The two ends of a channel, as a run leaves them. But for what the head took from a failure of its own on, they keep to the
--- plan; and that is some of what its lane brings next, in order, and nothing where the lane is over. Tail and head have ended
--- or failed, and where the head has not failed by itself all flushed bytes were accepted.
+-- The two ends of a channel, as a run leaves them: they keep to the plan. The head took nothing late where its lane was over
+-- before it failed by itself. Tail and head have ended or failed, and where the head has not failed by itself all flushed
+-- bytes were accepted.
 pub record AreRunEnds (p : ChannelPlan) (e : Ends) : Type 0 where
-  pub keep : EndsKeepToPlan p (without_late e)
-  pub late : InOrder e.late (drop (length e.head) (head_of p))
+  pub keep : EndsKeepToPlan p e
   pub none_late : is_over e.head_stands ≡ true → e.late ≡ []
   pub over : (is_over e.tail_stands && (is_over e.head_stands || is_some e.failure)) ≡ true
   pub accepted : e.failure ≡ None → e.accepted ≡ length (out e.head)

@@ -31,7 +31,7 @@ use Rattle.pl_head.specs.ReadSteps.{entrance, is_burst, bursts_read}
 use Rattle.pl_head.specs.InputStand.{InputView, InputStands, failed_input}
 
 -- The end of a channel at its transport: how many items of its lane it has taken, how that lane ended, why the head
--- failed by itself, what waits to be written, and what is left to read.
+-- failed by itself, whether the lane has ended or failed since then, what waits to be written, and what is left to read.
 pub record HeadView (T : Type 0) : Type 0 where
   pub transport : T
   pub channel : ℕ
@@ -39,6 +39,7 @@ pub record HeadView (T : Type 0) : Type 0 where
   pub taken : ℕ
   pub standing : Standing
   pub failure : Option Cause
+  pub is_closed : Bool
   pub buffer : WriteBufferView
   pub input : InputView
 
@@ -78,6 +79,10 @@ ReadsStand p reads failed h = InputStands p reads failed h.input
 abbrev pub read_answer : Bool → Bool → ReadStep
 read_answer left held = if left then (if held then reads.Held else reads.Gave) else reads.Done
 
+-- Its lane is over: an end or a failure has come, before a failure of the head's own or after it.
+abbrev pub lane_over : {T : Type 0} → HeadView T → Bool
+lane_over h = is_over h.standing || h.is_closed
+
 -- a lane enters the head
 abbrev pub EntersHead : {T : Type 0} → HeadView T → Lane → Type 0
 EntersHead h lane = lane ≡ data_lane h.channel h.hop
@@ -112,14 +117,14 @@ item_sizes has_failed item.End answer before after = if has_failed then [] else 
 item_sizes has_failed (item.Fail c) answer before after = if has_failed then [] else Removed (before - after) ∷ []
 item_sizes has_failed (item.Flag v) answer before after = []
 
--- how the lane of an open head stands after an item: one that has failed by itself notes no end of it
+-- how an open lane stands after an item: a head that has failed by itself notes no end of it here
 abbrev pub standing_after : Bool → Item → Standing
 standing_after has_failed (item.Event e) = stands.Open
 standing_after has_failed item.End = if has_failed then stands.Open else stands.Ended
 standing_after has_failed (item.Fail c) = if has_failed then stands.Open else stands.Failed c
 standing_after has_failed (item.Flag v) = stands.Open
 
--- What an open head answers to an item: an event runs, or memory runs out for it where the head has not failed before. (A
+-- What a head answers to an item while its lane is open: an event runs, or memory runs out for it where the head has not failed before. (A
 -- flag does not stand on its lane, and nothing comes of it.)
 abbrev pub Answers : Bool → Item → Took → Type 0
 Answers has_failed (item.Event e) answer = (answer ≡ took.Ran) ⊎ ((answer ≡ took.Failed Memory) × (has_failed ≡ false))
@@ -173,12 +178,13 @@ pub record Aborts {T : Type 0} (state : T → TransportState) (h : HeadView T) (
   pub same : h' ≡ record h { failure = Some Aborted; buffer = h'.buffer; input = failed_input h.input }
 
 -- what is true of every head
-pub record IsHead (channel taken : ℕ) (failure : Option Cause) (b : WriteBufferView) (input : InputView) : Type 0 where
+pub record IsHead (channel taken : ℕ) (failure : Option Cause) (is_closed : Bool) (b : WriteBufferView) (input : InputView) : Type 0 where
   pub lane : b.flags.lane ≡ flags_lane channel 0
   pub entrance_is : input.port.lane ≡ entrance channel
   pub pending : b.pending ≤ taken * 2 ^ 64
   pub few : taken ≤ 2 ^ 31
   pub few_flags : b.flags.made + (if b.is_unwritable then 1 else 0) ≤ 2 * taken
   pub numbering : failure ≡ None → b.is_full ≡ false
+  pub closed : failure ≡ None → is_closed ≡ false
   pub settled : AreSettled b.settled b.outcomes
   pub told : b.told ≤ length b.settled

@@ -1,6 +1,6 @@
 //! The end of a channel at its transport.
 
-ghost use Rattle.std.specs.Prelude.{◌≡◌, ℕ, ◌+◌, ◌≤◌, ◌<◌, ◌^◌, ◌↔◌, ◌≢◌, ◌∷◌, ◌++◌, ◌⊎◌, List, [], length, take, min, Bool, true, false, Option, Some, None, IsSome, IfSome, IfNone, IfOk, is_some, not, ◌||◌, slice_index_or};
+ghost use Rattle.std.specs.Prelude.{◌≡◌, ℕ, ◌+◌, ◌≤◌, ◌<◌, ◌^◌, ◌↔◌, ◌≢◌, ◌∷◌, ◌++◌, ◌⊎◌, ◌&&◌, List, [], length, take, min, Bool, true, false, Option, Some, None, IsSome, IfSome, IfNone, IfOk, is_some, not, ◌||◌, slice_index_or};
 ghost use Rattle.pl_event.specs.declared.events.Event.{Event};
 ghost use Rattle.pl_event.specs.declared.outcomes.Cause.TheVariants.{Aborted};
 ghost use Rattle.pl_event.specs.Inputs.{recorded_input};
@@ -16,6 +16,7 @@ ghost use Rattle.pl_head.specs.Failures.{failure_outcome};
 ghost use Rattle.pl_head.specs.Settling.{AreSettled};
 ghost use Rattle.pl_head.specs.Marks.{Change, Removed, pending_after, added_by, removed_by, is_unwritable};
 ghost use Rattle.pl_event.specs.Hops.{flags_lane};
+ghost use Rattle.pl_event.specs.Worlds.{closes};
 ghost use Rattle.pl_head.specs.WritabilityStand.{SendsFlags};
 ghost use Rattle.pl_head.specs.Transports.{counted, FailsNext};
 ghost use Rattle.pl_head.specs.HeadStand.{first_cause};
@@ -69,6 +70,8 @@ pub struct Head<T> {
     standing: Standing,
     /// Why it failed by itself: nothing waits then, and nothing is written any more.
     failure: Option<Cause>,
+    /// Its lane has ended or failed since then, which its standing does not note.
+    is_closed: bool,
     buffer: WriteBuffer,
     input: Input,
 }
@@ -80,14 +83,14 @@ impl<T> Model for Head<T> {
 
     ghost use Rattle.pl_head.specs.WriteBuffers.{write_buffer_view};
 
-    ghost view = { λ h. record { transport = h.transport; channel = h.channel; hop = h.hop; taken = h.taken; standing = h.standing; failure = h.failure; buffer = write_buffer_view h.buffer; input = h.input } };
+    ghost view = { λ h. record { transport = h.transport; channel = h.channel; hop = h.hop; taken = h.taken; standing = h.standing; failure = h.failure; is_closed = h.is_closed; buffer = write_buffer_view h.buffer; input = h.input } };
 
-    ghost invariant = { λ h. IsHead h.channel h.taken h.failure (write_buffer_view h.buffer) h.input };
+    ghost invariant = { λ h. IsHead h.channel h.taken h.failure h.is_closed (write_buffer_view h.buffer) h.input };
 }
 
 impl<T: Transport> Head<T> {
     ghost use Rattle.pl_head.specs.Buffers.{SameMarks, SettlesMore, StopsNumbers, LacksRoom, untold};
-    ghost use Rattle.pl_head.specs.HeadStand.{StandsAfter, HasOutcomes, ReadsStand, Aborts, waiting_at, is_idle, is_held, read_answer, EntersHead, Answers, events_before, events_from, item_sizes, step_sizes, standing_after, cause_of_item, cause_of_step, head_cause, HasFewFlags};
+    ghost use Rattle.pl_head.specs.HeadStand.{StandsAfter, HasOutcomes, ReadsStand, Aborts, waiting_at, is_idle, is_held, read_answer, EntersHead, lane_over, Answers, events_before, events_from, item_sizes, step_sizes, standing_after, cause_of_item, cause_of_step, head_cause, HasFewFlags};
 
     /// A head that has taken nothing, of a transport that has accepted nothing, with the bursts that it is to read: with
     /// the end they bring fewer than 2^31 items. `hop` is the head's own hop. It takes no memory.
@@ -123,6 +126,7 @@ impl<T: Transport> Head<T> {
             taken: 0,
             standing: Standing::Open,
             failure: None,
+            is_closed: false,
             buffer: WriteBuffer::new(alloc, channel, low, high),
             input: Input::new(channel, input),
         }
@@ -229,22 +233,22 @@ impl<T: Transport> Head<T> {
     /// flushed.
     ///
     /// After `Failed(Memory)` the head has failed by itself: all that waits is closed, and it writes nothing more. Then a
-    /// write is settled at once, an end or a failure is counted, and neither changes anything else. Once a write has
-    /// found no place for its outcome, none gets a number. What comes after an end or a failure is counted, and nothing
-    /// else comes of it.
+    /// write is settled at once, and an end or a failure settles nothing. Once a write has found no place for its
+    /// outcome, none gets a number. What comes after an end or a failure, whether the head had failed before or not, is
+    /// counted, and nothing else comes of it.
     pub fn take(&mut self, envelope: Envelope, outputs: &mut Outputs) -> Took
         requires enters { EntersHead self.old envelope.lane }
         requires number { envelope.number ≡ self.old.taken }
         requires limit { envelope.number < 2 ^ 31 }
         requires places { HasPlaces outputs.old.stopped (flags_lane self.old.channel 0 ∷ []) }
         ensures taken { self.new.taken ≡ self.old.taken + 1 }
-        ensures answer { self.old.standing ≡ stands.Open → Answers (is_some self.old.failure) envelope.item result }
+        ensures answer { lane_over self.old ≡ false → Answers (is_some self.old.failure) envelope.item result }
 
         // After whichever events it stood, it stands after those and what the item brought.
-        ensures stands { self.old.standing ≡ stands.Open → (ys zs : List Event) (sizes : List Change) → StandsAfter T.state self.old ys zs sizes
+        ensures stands { lane_over self.old ≡ false → (ys zs : List Event) (sizes : List Change) → StandsAfter T.state self.old ys zs sizes
             → StandsAfter T.state self.new (ys ++ events_before (is_some self.old.failure) envelope.item result) (zs ++ events_from (is_some self.old.failure) envelope.item result)
             (sizes ++ item_sizes (is_some self.old.failure) envelope.item result (waiting_at T.state self.old ys) (waiting_at T.state self.new (ys ++ events_before (is_some self.old.failure) envelope.item result))) }
-        ensures flags { self.old.standing ≡ stands.Open → (ys zs : List Event) (sizes : List Change) → StandsAfter T.state self.old ys zs sizes
+        ensures flags { lane_over self.old ≡ false → (ys zs : List Event) (sizes : List Change) → StandsAfter T.state self.old ys zs sizes
             → SendsFlags self.old.buffer.low self.old.buffer.high sizes
             (item_sizes (is_some self.old.failure) envelope.item result (waiting_at T.state self.old ys) (waiting_at T.state self.new (ys ++ events_before (is_some self.old.failure) envelope.item result)))
             self.old.buffer.flags outputs.old self.new.buffer.flags outputs.new }
@@ -256,16 +260,17 @@ impl<T: Transport> Head<T> {
         ensures failure { self.old.standing ≡ stands.Open → self.new.failure ≡ first_cause self.old.failure (cause_of_item envelope.item result) }
         ensures standing { self.old.standing ≡ stands.Open → self.new.standing ≡ standing_after (is_some self.old.failure) envelope.item }
 
-        // After an end or a failure it only counts.
-        ensures over { is_over self.old.standing ≡ true → (result ≡ took.Ran) × (self.new ≡ record self.old { taken = self.new.taken }) × (outputs.new ≡ outputs.old) }
-        ensures same { self.new ≡ record self.old { taken = self.new.taken; standing = self.new.standing; failure = self.new.failure; buffer = self.new.buffer } }
+        // After an end or a failure of its lane it only counts. One that has failed by itself notes these too.
+        ensures closed { lane_over self.old ≡ false → self.new.is_closed ≡ (is_some self.old.failure && closes envelope.item) }
+        ensures over { lane_over self.old ≡ true → (result ≡ took.Ran) × (self.new ≡ record self.old { taken = self.new.taken }) × (outputs.new ≡ outputs.old) }
+        ensures same { self.new ≡ record self.old { taken = self.new.taken; standing = self.new.standing; failure = self.new.failure; is_closed = self.new.is_closed; buffer = self.new.buffer } }
         ensures marks { SameMarks self.old.buffer self.new.buffer }
         ensures settles { SettlesMore self.old.buffer self.new.buffer }
         ensures few { HasFewFlags self.new }
     {
         match self.standing {
-            Standing::Open => self.take_open(envelope.item, outputs),
-            Standing::Ended | Standing::Failed(_) => {
+            Standing::Open if !self.is_closed => self.take_open(envelope.item, outputs),
+            _ => {
                 drop(envelope);
                 self.taken += 1;
                 Took::Ran
@@ -276,6 +281,7 @@ impl<T: Transport> Head<T> {
     /// Takes the next item of its lane, while that is open.
     fn take_open(&mut self, item: Item, outputs: &mut Outputs) -> Took
         requires open { self.old.standing ≡ stands.Open }
+        requires not_closed { self.old.is_closed ≡ false }
         requires limit { self.old.taken < 2 ^ 31 }
         requires places { HasPlaces outputs.old.stopped (flags_lane self.old.channel 0 ∷ []) }
         ensures answer { Answers (is_some self.old.failure) item result }
@@ -291,7 +297,8 @@ impl<T: Transport> Head<T> {
         ensures failure { self.new.failure ≡ first_cause self.old.failure (cause_of_item item result) }
         ensures taken { self.new.taken ≡ self.old.taken + 1 }
         ensures standing { self.new.standing ≡ standing_after (is_some self.old.failure) item }
-        ensures same { self.new ≡ record self.old { taken = self.new.taken; standing = self.new.standing; failure = self.new.failure; buffer = self.new.buffer } }
+        ensures closed { self.new.is_closed ≡ (is_some self.old.failure && closes item) }
+        ensures same { self.new ≡ record self.old { taken = self.new.taken; standing = self.new.standing; failure = self.new.failure; is_closed = self.new.is_closed; buffer = self.new.buffer } }
         ensures marks { SameMarks self.old.buffer self.new.buffer }
         ensures settles { SettlesMore self.old.buffer self.new.buffer }
         ensures few { HasFewFlags self.new }
@@ -325,17 +332,20 @@ impl<T: Transport> Head<T> {
     /// Takes an item after a failure of its own, of this cause.
     fn take_late(&mut self, item: Item, cause: Cause) -> Took
         requires failed { self.old.failure ≡ Some cause }
+        requires not_closed { self.old.is_closed ≡ false }
         ensures answer { Answers true item result }
         ensures stands { (ys zs : List Event) (sizes : List Change) → StandsAfter T.state self.old ys zs sizes → StandsAfter T.state self.new ys (zs ++ events_from true item result) sizes }
         ensures ran { (event : Event) → item ≡ Item.Event event → result ≡ took.Ran }
         ensures stops { StopsNumbers self.old.buffer self.new.buffer }
-        ensures same { self.new ≡ record self.old { buffer = self.new.buffer } }
+        ensures closed { self.new.is_closed ≡ closes item }
+        ensures same { self.new ≡ record self.old { is_closed = self.new.is_closed; buffer = self.new.buffer } }
         ensures flags { self.new.buffer.flags ≡ self.old.buffer.flags }
         ensures pending { self.new.buffer.pending ≡ self.old.buffer.pending }
         ensures writable { self.new.buffer.is_unwritable ≡ self.old.buffer.is_unwritable }
         ensures marks { SameMarks self.old.buffer self.new.buffer }
         ensures settles { SettlesMore self.old.buffer self.new.buffer }
     {
+        self.is_closed = matches!(item, Item::End | Item::Fail(_));
         match item {
             Item::Event(event) => {
                 self.buffer.take_late(event, outcome_of(cause));

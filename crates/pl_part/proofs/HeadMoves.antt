@@ -1,5 +1,5 @@
 -- A head moves: how it stands then, and what it has put out.
-use Rattle.std.proofs.Common.{◌≡◌, ℕ, suc, ◌+◌, ◌≤◌, ◌<◌, ◌^◌, Bool, true, false, not, ◌||◌, ◌&&◌, cond, List, [], ◌∷◌, ◌++◌, length, take, Option, Some, None, refl, sym, ap, ◌∙◌, subst, ⊎_elim, arith, inl, inr, append-nil}
+use Rattle.std.proofs.Common.{◌≡◌, ℕ, suc, ◌+◌, ◌≤◌, ◌<◌, ◌^◌, Bool, true, false, not, ◌||◌, ◌&&◌, cond, List, [], ◌∷◌, ◌++◌, length, take, Option, Some, None, refl, sym, ap, ◌∙◌, subst, ⊎_elim, arith, inl, inr, append-nil, append_assoc}
 use Rattle.std.specs.Prelude.{is_some, if◌then◌else◌, nat_lt}
 use Rattle.std.specs.List.{slice_get}
 use Rattle.std.proofs.lemmas.Option.{slice_get_within}
@@ -15,7 +15,7 @@ use Rattle.pl_event.specs.declared.envelopes.Envelope.{Envelope}
 use Rattle.pl_event.specs.Fitting.{Fits}
 use Rattle.pl_event.specs.Hops.{same_hop, same_lane, data_lane, flags_lane}
 use Rattle.pl_event.specs.Inputs.{recorded_input}
-use Rattle.pl_event.specs.Worlds.{World, FitsWorld, FitsAsKind, content_of}
+use Rattle.pl_event.specs.Worlds.{World, FitsWorld, FitsAsKind, content_of, closes}
 use Rattle.pl_event.proofs.SameLanes.{same_lane-equal, same_lane-self}
 use Rattle.pl_context.specs.declared.ports.Port.{Port}
 use Rattle.pl_context.specs.declared.standing.Standing.{Standing}
@@ -39,11 +39,11 @@ use Rattle.pl_head.specs.Transports.{TransportState}
 use Rattle.pl_head.specs.WritabilityStand.{SendsFlags}
 use Rattle.pl_head.specs.ReadSteps.{entrance, bursts_read, plan_steps, has_step, read_items, step_items, is_abort, brings_failure, brings_abort, next_step_items, steps_after}
 use Rattle.pl_head.specs.InputStand.{InputView, InputStands}
-use Rattle.pl_head.specs.HeadStand.{HeadView, BufferAfter, StandsAfter, ReadsStand, Aborts, EntersHead, Answers, waiting_at, events_before, events_from, item_sizes, standing_after, step_sizes, cause_of_item, cause_of_step, first_cause, HasFewFlags}
+use Rattle.pl_head.specs.HeadStand.{HeadView, BufferAfter, StandsAfter, ReadsStand, Aborts, EntersHead, lane_over, Answers, waiting_at, events_before, events_from, item_sizes, standing_after, step_sizes, HasFewFlags}
 use Rattle.pl_head.proofs.ReadSteps.{items_of_step, number_of_step, abort_is, stands_after}
 use Rattle.pl_head.proofs.FlagSteps.{places_stay}
 use Rattle.pl_part.specs.ContextHolds.{port_point}
-use Rattle.pl_part.specs.HeadHolds.{HeadHolds, HeadHoldsWith, IsHeadPlanned, HeadTook, Picked, head_writes, head_came, head_lanes}
+use Rattle.pl_part.specs.HeadHolds.{HeadHolds, HeadHoldsWith, IsHeadPlanned, HeadTook, head_writes, head_came, head_lanes}
 use Rattle.pl_part.specs.HeadCalls.{HeadTakes, HeadReads, HeadWrites, HeadAborts}
 use Rattle.pl_part.specs.Counts.{head_done}
 use Rattle.pl_part.proofs.EventLists.{some-equal, split-at, fits-within}
@@ -53,35 +53,20 @@ use Rattle.pl_part.proofs.ReadItems.{step-good, number-within, one-most, items-m
 use Rattle.pl_part.proofs.ContextPlaces.{puts-places, offered-among}
 use Rattle.pl_part.proofs.ContextCounts.{puts-length, offered-length}
 
--- ---- events that were picked
+-- ---- a lane that is open
 
-picked-later : (events : List Event) (from : ℕ) (zs : List Event) (to to' : ℕ) → to ≤ to' → Picked events from zs to → Picked events from zs to'
-picked-later events from [] to to' le h = omega (arith, le, h)
-picked-later events from (z ∷ zs) to to' le h = (h.0, h.1, h.2, picked-later events (h.0 + 1) zs to to' le h.3)
+open-is : (s : Standing) (closed : Bool) → (is_over s || closed) ≡ false → s ≡ stands.Open
+open-is stands.Open closed e = refl
+open-is stands.Ended closed e = cc
+open-is (stands.Failed c) closed e = cc
 
-picked-one : (events : List Event) (from : ℕ) (zs : List Event) (n to : ℕ) (x : Event) → Picked events from zs n → slice_get events n ≡ Some x → n + 1 ≤ to → Picked events from (zs ++ x ∷ []) to
-picked-one events from [] n to x h at le = (n, h, at, le)
-picked-one events from (z ∷ zs) n to x h at le = (h.0, h.1, h.2, picked-one events (h.0 + 1) zs n to x h.3 at le)
+or-left : (a b : Bool) → a ≡ true → (a || b) ≡ true
+or-left true b e = refl
+or-left false b e = cc
 
-picked-from : (events : List Event) (from : ℕ) (zs : List Event) (to : ℕ) → Picked events from zs to → from ≤ to
-picked-from events from [] to h = h
-picked-from events from (z ∷ zs) to h = let rest = picked-from events (h.0 + 1) zs to h.3 in let le = h.1 in omega (arith, rest, le)
-
--- ---- causes
-
-no-cause : (a : Option Cause) (b : Option Cause) → first_cause a b ≡ None → a ≡ None
-no-cause None b e = refl
-no-cause (Some c) b e = e
-
-none-some : {A : Type 0} {G : Type 0} (x : A) → Some x ≡ None → G
-none-some x e = absurd (no e)
-  where
-    no : Some x ≡ None → ⊥
-    no e = cc
-
-some-is : {A : Type 0} (o : Option A) → is_some o ≡ false → o ≡ None
-some-is None e = refl
-some-is (Some x) e = absurd (both_ways true e refl)
+or-right : (a b : Bool) → b ≡ true → (a || b) ≡ true
+or-right true b e = refl
+or-right false b e = e
 
 -- ---- the lanes of a head
 
@@ -301,132 +286,127 @@ module _ {T : Type 0} (state : T → TransportState) (world : World) (plan : Rea
       now-taken : h'.taken ≤ length events + 1
       now-taken = let within = fits-within events h.taken e.item item-fits in let one = t.taken in omega (arith, within, one)
 
-      up-to : h.taken ≤ h'.taken
-      up-to = let one = t.taken in omega (arith, one)
-
       abbrev some-sizes : List Event → List Change → List Change
       some-sizes ys sizes = sizes ++ item_sizes (is_some h.failure) e.item answer (waiting_at state h ys) (waiting_at state h' (ys ++ events_before (is_some h.failure) e.item answer))
 
-      -- after the events that it took, and what the item brought
-      stood-now : h.standing ≡ stands.Open → (f : Bool) (i : Item) (r : Took) → is_some h.failure ≡ f → e.item ≡ i → answer ≡ r
-          → StandsAfter state h' (k.took.ys ++ events_before f i r) (k.took.zs ++ events_from f i r) (some-sizes k.took.ys k.took.sizes)
-      stood-now live f i r ef ei er =
-          subst (λ (y : Bool × Item × Took). StandsAfter state h' (k.took.ys ++ events_before y.0 y.1 y.2) (k.took.zs ++ events_from y.0 y.1 y.2) (some-sizes k.took.ys k.took.sizes)) (λ j. (ef j, ei j, er j))
-          (t.stood live k.took.ys k.took.zs k.took.sizes k.took.after)
+      -- its lane is open
+      module _ (live : lane_over h ≡ false) where
+        is-open : h.standing ≡ stands.Open
+        is-open = open-is h.standing h.is_closed live
 
-      failure-now : h.standing ≡ stands.Open → (i : Item) (r : Took) → e.item ≡ i → answer ≡ r → h'.failure ≡ first_cause h.failure (cause_of_item i r)
-      failure-now live i r ei er = t.failure live ∙ (λ j. first_cause h.failure (cause_of_item (ei j) (er j)))
+        count : h.taken ≡ k.took.count
+        count = k.took.running live
 
-      standing-now : h.standing ≡ stands.Open → (f : Bool) (i : Item) → is_some h.failure ≡ f → e.item ≡ i → h'.standing ≡ standing_after f i
-      standing-now live f i ef ei = t.standing live ∙ (λ j. standing_after (ef j) (ei j))
+        -- after the events that it took, and what the item brought
+        stood-now : (f : Bool) (i : Item) (r : Took) → is_some h.failure ≡ f → e.item ≡ i → answer ≡ r
+            → StandsAfter state h' (k.took.ys ++ events_before f i r) (k.took.zs ++ events_from f i r) (some-sizes k.took.ys k.took.sizes)
+        stood-now f i r ef ei er =
+            subst (λ (y : Bool × Item × Took). StandsAfter state h' (k.took.ys ++ events_before y.0 y.1 y.2) (k.took.zs ++ events_from y.0 y.1 y.2) (some-sizes k.took.ys k.took.sizes)) (λ j. (ef j, ei j, er j))
+            (t.stood live k.took.ys k.took.zs k.took.sizes k.took.after)
 
-      -- nothing more is known of the lane than before
-      unmoved : (zs : List Event) (sizes : List Change) → StandsAfter state h' (k.took.ys ++ []) zs sizes → Picked events k.took.count zs h'.taken
-          → (h'.standing ≡ stands.Open → h'.failure ≡ None → h'.taken ≡ k.took.count) → (h'.standing ≡ stands.Ended → k.took.count ≡ length events) → (is_over h'.standing ≡ true → zs ≡ []) → HeadTook state events h'
-      unmoved zs sizes after later running ended none = record {
-        ys = k.took.ys ++ [];
-        zs = zs;
-        sizes = sizes;
-        after = after;
-        count = k.took.count;
-        within = k.took.within;
-        before = append-nil k.took.ys ∙ k.took.before;
-        later = later;
-        running = running;
-        ended = ended;
-        none_late = none;
-      }
+        standing-now : (f : Bool) (i : Item) → is_some h.failure ≡ f → e.item ≡ i → h'.standing ≡ standing_after f i
+        standing-now f i ef ei = t.standing is-open ∙ (λ j. standing_after (ef j) (ei j))
 
-      still-none : h.failure ≡ None → (zs : List Event) → zs ≡ [] → k.took.zs ++ zs ≡ []
-      still-none f zs e = ap (λ (y : List Event). y ++ zs) (none-late state h k.took.ys k.took.zs k.took.sizes k.took.after f) ∙ e
+        closed-now : (f : Bool) (i : Item) → is_some h.failure ≡ f → e.item ≡ i → h'.is_closed ≡ (f && closes i)
+        closed-now f i ef ei = t.closed live ∙ (λ j. ef j && closes (ei j))
 
-      still-picked : Picked events k.took.count (k.took.zs ++ []) h'.taken
-      still-picked = subst (λ (z : List Event). Picked events k.took.count z h'.taken) (sym (append-nil k.took.zs)) (picked-later events k.took.count k.took.zs h.taken h'.taken up-to k.took.later)
+        -- before a failure of its own it took nothing late
+        none-before : h.failure ≡ None → k.took.zs ≡ []
+        none-before none = none-late state h k.took.ys k.took.zs k.took.sizes k.took.after none
 
-      late : {G : Type 0} → h.standing ≡ stands.Open → (c : Cause) → h.failure ≡ Some c → (i : Item) (r : Took) → e.item ≡ i → answer ≡ r → h'.failure ≡ None → G
-      late live c f i r ei er n = none-some c (sym f ∙ no-cause h.failure (cause_of_item i r) (sym (failure-now live i r ei er) ∙ n))
+        over-not : {G : Type 0} (s : Standing) → h'.standing ≡ s → is_over s ≡ false → is_over h'.standing ≡ true → G
+        over-not s is n o = absurd (both_ways (is_over h'.standing) (ap is_over is ∙ n) o)
 
-      over-not : {G : Type 0} (s : Standing) → h'.standing ≡ s → is_over s ≡ false → is_over h'.standing ≡ true → G
-      over-not s is n o = absurd (both_ways (is_over h'.standing) (ap is_over is ∙ n) o)
+        ended-not : {G : Type 0} (s : Standing) → h'.standing ≡ s → (s ≡ stands.Ended → ⊥) → h'.standing ≡ stands.Ended → G
+        ended-not s is n o = absurd (n (sym is ∙ o))
 
-      ended-not : {G : Type 0} (s : Standing) → h'.standing ≡ s → (s ≡ stands.Ended → ⊥) → h'.standing ≡ stands.Ended → G
-      ended-not s is n o = absurd (n (sym is ∙ o))
+        open-no : stands.Open ≡ stands.Ended → ⊥
+        open-no q = absurd (both_ways false refl (ap is_over q))
 
-      open-no : stands.Open ≡ stands.Ended → ⊥
-      open-no q = absurd (both_ways false refl (ap is_over q))
+        -- the item is the next event of its lane
+        one-more : (ys zs : List Event) (x : Event) → slice_get events h.taken ≡ Some x → ys ++ zs ≡ (k.took.ys ++ k.took.zs) ++ x ∷ []
+            → StandsAfter state h' ys zs (some-sizes k.took.ys k.took.sizes) → h'.standing ≡ stands.Open → HeadTook state events h'
+        one-more ys zs x fits same after standing =
+            let at : slice_get events k.took.count ≡ Some x = ap (λ n. slice_get events n) (sym count) ∙ fits in
+            let next : k.took.count + 1 ≡ suc k.took.count = omega arith in
+            let within = slice_get_within events k.took.count x at in
+            let one = t.taken in
+            record {
+              ys = ys;
+              zs = zs;
+              sizes = some-sizes k.took.ys k.took.sizes;
+              after = after;
+              count = k.took.count + 1;
+              within = omega (arith, within);
+              in_order = same ∙ ap (λ (seen : List Event). seen ++ x ∷ []) k.took.in_order ∙ sym (split-at events k.took.count x at).2 ∙ ap (λ n. take n events) (sym next);
+              running = λ o. omega (arith, one, count);
+              ended = λ o. ended-not stands.Open standing open-no o;
+              none_late = λ o. over-not stands.Open standing refl o;
+            }
 
-      -- the head has not failed before
-      first-took : h.standing ≡ stands.Open → h.failure ≡ None → (i : Item) → e.item ≡ i → Fits events h.taken i → (r : Took) → answer ≡ r → Answers false i r → HeadTook state events h'
-      first-took live none (item.Event x) ei fits r er (inl ran) =
-          let er' : answer ≡ took.Ran = er ∙ ran in
-          let after = stood-now live false (item.Event x) took.Ran (ap is_some none) ei er' in
-          let count : h.taken ≡ k.took.count = k.took.running live none in
-          let fits' : slice_get events k.took.count ≡ Some x = ap (λ n. slice_get events n) (sym count) ∙ fits in
-          let s = split-at events k.took.count x fits' in
-          let next : k.took.count + 1 ≡ suc k.took.count = omega arith in
-          let within = slice_get_within events k.took.count x fits' in
-          let one = t.taken in
-          let late-none = still-none none [] refl in
-          record {
-            ys = k.took.ys ++ x ∷ [];
-            zs = k.took.zs ++ [];
-            sizes = some-sizes k.took.ys k.took.sizes;
-            after = after;
-            count = k.took.count + 1;
-            within = omega (arith, within);
-            before = ap (λ (y : List Event). y ++ x ∷ []) k.took.before ∙ sym s.2 ∙ ap (λ n. take n events) (sym next);
-            later = subst (λ (z : List Event). Picked events (k.took.count + 1) z h'.taken) (sym late-none) (omega (arith, one, count));
-            running = λ o f. omega (arith, one, count);
-            ended = λ o. ended-not stands.Open (standing-now live false (item.Event x) (ap is_some none) ei) open-no o;
-            none_late = λ o. late-none;
-          }
-      first-took live none (item.Event x) ei fits r er (inr failed) =
-          let er' : answer ≡ took.Failed Memory = er ∙ failed.0 in
-          let count : h.taken ≡ k.took.count = k.took.running live none in
-          let one = t.taken in
-          let standing = standing-now live false (item.Event x) (ap is_some none) ei in
-          unmoved (k.took.zs ++ x ∷ []) (some-sizes k.took.ys k.took.sizes) (stood-now live false (item.Event x) (took.Failed Memory) (ap is_some none) ei er')
-          (picked-one events k.took.count k.took.zs h.taken h'.taken x k.took.later fits (omega (arith, one)))
-          (λ o f. none-some Memory (sym (failure-now live (item.Event x) (took.Failed Memory) ei er' ∙ ap (λ (q : Option Cause). first_cause q (Some Memory)) none) ∙ f))
-          (λ o. ended-not stands.Open standing open-no o)
-          (λ o. over-not stands.Open standing refl o)
-      first-took live none item.End ei fits r er ans =
-          let count : h.taken ≡ k.took.count = k.took.running live none in
-          unmoved (k.took.zs ++ []) (some-sizes k.took.ys k.took.sizes) (stood-now live false item.End r (ap is_some none) ei er) still-picked
-          (λ o f. absurd (both_ways false refl (sym (ap is_over (sym (standing-now live false item.End (ap is_some none) ei) ∙ o)))))
-          (λ o. omega (arith, count, fits))
-          (λ o. still-none none [] refl)
-      first-took live none (item.Fail c) ei fits r er ans =
-          let standing = standing-now live false (item.Fail c) (ap is_some none) ei in
-          unmoved (k.took.zs ++ []) (some-sizes k.took.ys k.took.sizes) (stood-now live false (item.Fail c) r (ap is_some none) ei er) still-picked
-          (λ o f. absurd (both_ways false refl (sym (ap is_over (sym standing ∙ o)))))
-          (λ o. ended-not (stands.Failed c) standing (λ q. failed-no c q) o)
-          (λ o. still-none none [] refl)
-        where
-          failed-no : (c : Cause) → stands.Failed c ≡ stands.Ended → ⊥
-          failed-no c q = cc
-      first-took live none (item.Flag v) ei fits r er ans = absurd fits
+        -- The item closes its lane.
+        no-more : StandsAfter state h' (k.took.ys ++ []) (k.took.zs ++ []) (some-sizes k.took.ys k.took.sizes) → lane_over h' ≡ true
+            → (h'.standing ≡ stands.Ended → h.taken ≡ length events) → (is_over h'.standing ≡ true → k.took.zs ≡ []) → HeadTook state events h'
+        no-more after over ended none = record {
+          ys = k.took.ys ++ [];
+          zs = k.took.zs ++ [];
+          sizes = some-sizes k.took.ys k.took.sizes;
+          after = after;
+          count = k.took.count;
+          within = k.took.within;
+          in_order = (λ i. append-nil k.took.ys i ++ append-nil k.took.zs i) ∙ k.took.in_order;
+          running = λ o. absurd (both_ways (lane_over h') o over);
+          ended = λ o. sym count ∙ ended o;
+          none_late = λ o. append-nil k.took.zs ∙ none o;
+        }
 
-      -- it has failed before
-      late-took : h.standing ≡ stands.Open → (c : Cause) → h.failure ≡ Some c → (i : Item) → e.item ≡ i → Fits events h.taken i → HeadTook state events h'
-      late-took live c f (item.Event x) ei fits =
-          let one = t.taken in
-          let standing = standing-now live true (item.Event x) (ap is_some f) ei in
-          unmoved (k.took.zs ++ x ∷ []) (some-sizes k.took.ys k.took.sizes) (stood-now live true (item.Event x) answer (ap is_some f) ei refl)
-          (picked-one events k.took.count k.took.zs h.taken h'.taken x k.took.later fits (omega (arith, one)))
-          (λ o n. late live c f (item.Event x) answer ei refl n) (λ o. ended-not stands.Open standing open-no o) (λ o. over-not stands.Open standing refl o)
-      late-took live c f item.End ei fits =
-          let standing = standing-now live true item.End (ap is_some f) ei in
-          unmoved (k.took.zs ++ []) (some-sizes k.took.ys k.took.sizes) (stood-now live true item.End answer (ap is_some f) ei refl) still-picked
-          (λ o n. late live c f item.End answer ei refl n) (λ o. ended-not stands.Open standing open-no o) (λ o. over-not stands.Open standing refl o)
-      late-took live c f (item.Fail d) ei fits =
-          let standing = standing-now live true (item.Fail d) (ap is_some f) ei in
-          unmoved (k.took.zs ++ []) (some-sizes k.took.ys k.took.sizes) (stood-now live true (item.Fail d) answer (ap is_some f) ei refl) still-picked
-          (λ o n. late live c f (item.Fail d) answer ei refl n) (λ o. ended-not stands.Open standing open-no o) (λ o. over-not stands.Open standing refl o)
-      late-took live c f (item.Flag v) ei fits = absurd fits
+        -- the head has not failed before
+        first-took : h.failure ≡ None → (i : Item) → e.item ≡ i → Fits events h.taken i → (r : Took) → answer ≡ r → Answers false i r → HeadTook state events h'
+        first-took none (item.Event x) ei fits r er (inl ran) =
+            one-more (k.took.ys ++ x ∷ []) (k.took.zs ++ []) x fits
+            ((λ i. (k.took.ys ++ x ∷ []) ++ (none-before none i ++ [])) ∙ append-nil (k.took.ys ++ x ∷ [])
+            ∙ ap (λ (seen : List Event). seen ++ x ∷ []) (sym (append-nil k.took.ys) ∙ (λ i. k.took.ys ++ sym (none-before none) i)))
+            (stood-now false (item.Event x) took.Ran (ap is_some none) ei (er ∙ ran)) (standing-now false (item.Event x) (ap is_some none) ei)
+        first-took none (item.Event x) ei fits r er (inr failed) =
+            one-more (k.took.ys ++ []) (k.took.zs ++ x ∷ []) x fits
+            ((λ i. append-nil k.took.ys i ++ (k.took.zs ++ x ∷ [])) ∙ sym (append_assoc k.took.ys k.took.zs (x ∷ [])))
+            (stood-now false (item.Event x) (took.Failed Memory) (ap is_some none) ei (er ∙ failed.0)) (standing-now false (item.Event x) (ap is_some none) ei)
+        first-took none item.End ei fits r er ans =
+            no-more (stood-now false item.End r (ap is_some none) ei er)
+            (or-left (is_over h'.standing) h'.is_closed (ap is_over (standing-now false item.End (ap is_some none) ei)))
+            (λ o. fits) (λ o. none-before none)
+        first-took none (item.Fail c) ei fits r er ans =
+            let standing = standing-now false (item.Fail c) (ap is_some none) ei in
+            no-more (stood-now false (item.Fail c) r (ap is_some none) ei er)
+            (or-left (is_over h'.standing) h'.is_closed (ap is_over standing))
+            (λ o. ended-not (stands.Failed c) standing (λ q. failed-no c q) o) (λ o. none-before none)
+          where
+            failed-no : (c : Cause) → stands.Failed c ≡ stands.Ended → ⊥
+            failed-no c q = cc
+        first-took none (item.Flag v) ei fits r er ans = absurd fits
+
+        -- it has failed before
+        late-took : (c : Cause) → h.failure ≡ Some c → (i : Item) → e.item ≡ i → Fits events h.taken i → HeadTook state events h'
+        late-took c f (item.Event x) ei fits =
+            one-more (k.took.ys ++ []) (k.took.zs ++ x ∷ []) x fits
+            ((λ i. append-nil k.took.ys i ++ (k.took.zs ++ x ∷ [])) ∙ sym (append_assoc k.took.ys k.took.zs (x ∷ [])))
+            (stood-now true (item.Event x) answer (ap is_some f) ei refl) (standing-now true (item.Event x) (ap is_some f) ei)
+        late-took c f item.End ei fits =
+            let standing = standing-now true item.End (ap is_some f) ei in
+            no-more (stood-now true item.End answer (ap is_some f) ei refl) (or-right (is_over h'.standing) h'.is_closed (closed-now true item.End (ap is_some f) ei))
+            (λ o. ended-not stands.Open standing open-no o) (λ o. over-not stands.Open standing refl o)
+        late-took c f (item.Fail d) ei fits =
+            let standing = standing-now true (item.Fail d) (ap is_some f) ei in
+            no-more (stood-now true (item.Fail d) answer (ap is_some f) ei refl) (or-right (is_over h'.standing) h'.is_closed (closed-now true (item.Fail d) (ap is_some f) ei))
+            (λ o. ended-not stands.Open standing open-no o) (λ o. over-not stands.Open standing refl o)
+        late-took c f (item.Flag v) ei fits = absurd fits
+
+        live-took : (f : Option Cause) → h.failure ≡ f → HeadTook state events h'
+        live-took None f = first-took f e.item refl item-fits answer refl (subst (λ (q : Bool). Answers q e.item answer) (ap is_some f) (t.answers live))
+        live-took (Some c) f = late-took c f e.item refl item-fits
 
       -- its lane is over: it only counts
-      over-took : is_over h.standing ≡ true → HeadTook state events h'
+      over-took : lane_over h ≡ true → HeadTook state events h'
       over-took over =
           subst (λ (z : HeadView T). HeadTook state events z) (sym (t.over over).1)
           (record {
@@ -436,24 +416,14 @@ module _ {T : Type 0} (state : T → TransportState) (world : World) (plan : Rea
             after = k.took.after;
             count = k.took.count;
             within = k.took.within;
-            before = k.took.before;
-            later = picked-later events k.took.count k.took.zs h.taken h'.taken up-to k.took.later;
-            running = λ o f. absurd (both_ways (is_over h.standing) (ap is_over o) over);
+            in_order = k.took.in_order;
+            running = λ live. absurd (both_ways (lane_over h) live over);
             ended = k.took.ended;
             none_late = k.took.none_late;
           })
 
       now-took : HeadTook state events h'
-      now-took = by h.standing refl
-        where
-          live-took : h.standing ≡ stands.Open → (f : Option Cause) → h.failure ≡ f → HeadTook state events h'
-          live-took live None f = first-took live f e.item refl item-fits answer refl (subst (λ (q : Bool). Answers q e.item answer) (ap is_some f) (t.answers live))
-          live-took live (Some c) f = late-took live c f e.item refl item-fits
-
-          by : (s : Standing) → h.standing ≡ s → HeadTook state events h'
-          by stands.Open is = live-took is h.failure refl
-          by stands.Ended is = over-took (ap is_over is)
-          by (stands.Failed c) is = over-took (ap is_over is)
+      now-took = ⊎_elim over-took (λ (live : lane_over h ≡ false). live-took live h.failure refl) (cases_Bool (lane_over h))
 
       pub take-holds : Held h'
       take-holds =
@@ -461,35 +431,27 @@ module _ {T : Type 0} (state : T → TransportState) (world : World) (plan : Rea
           (k.reads.0, k.reads.1, subst (λ (i : InputView). InputStands plan k.reads.0 k.reads.1 i) (sym (ap (λ (z : HeadView T). z.input) t.same)) k.reads.2)
           (ap (λ (z : HeadView T). z.input.port.lane) t.same) t.marks.lane t.few
 
-      moved-makes : (s : Standing) → h.standing ≡ s → Makes world (head_writes h) (head_came h) (two_came h.channel (port_point h.input.port) (port_point h'.buffer.flags)) b a
-      moved-makes stands.Open is =
-          flags-makes (port_point h.input.port) k.took.ys k.took.zs k.took.sizes _ b a h'.buffer.flags k.took.after (t.flags is k.took.ys k.took.zs k.took.sizes k.took.after)
-          (few-made h' now-taken t.few)
-      moved-makes stands.Ended is = stays h.standing (ap is_over is)
-        where
-          stays : (s : Standing) → is_over h.standing ≡ true → Makes world (head_writes h) (head_came h) (two_came h.channel (port_point h.input.port) (port_point h'.buffer.flags)) b a
-          stays s o =
-              let over = t.over o in
-              subst (λ (f : Port). Makes world (head_writes h) (head_came h) (two_came h.channel (port_point h.input.port) (port_point f)) b a) (sym (ap (λ (z : HeadView T). z.buffer.flags) over.1))
-              (stays-makes h b a refl over.2)
-      moved-makes (stands.Failed c) is = stays h.standing (ap is_over is)
-        where
-          stays : (s : Standing) → is_over h.standing ≡ true → Makes world (head_writes h) (head_came h) (two_came h.channel (port_point h.input.port) (port_point h'.buffer.flags)) b a
-          stays s o =
-              let over = t.over o in
-              subst (λ (f : Port). Makes world (head_writes h) (head_came h) (two_came h.channel (port_point h.input.port) (port_point f)) b a) (sym (ap (λ (z : HeadView T). z.buffer.flags) over.1))
-              (stays-makes h b a refl over.2)
+      moved-makes : Makes world (head_writes h) (head_came h) (two_came h.channel (port_point h.input.port) (port_point h'.buffer.flags)) b a
+      moved-makes = ⊎_elim
+          (λ (o : lane_over h ≡ true).
+          let over = t.over o in
+          subst (λ (f : Port). Makes world (head_writes h) (head_came h) (two_came h.channel (port_point h.input.port) (port_point f)) b a) (sym (ap (λ (z : HeadView T). z.buffer.flags) over.1))
+          (stays-makes h b a refl over.2))
+          (λ (live : lane_over h ≡ false).
+          flags-makes (port_point h.input.port) k.took.ys k.took.zs k.took.sizes _ b a h'.buffer.flags k.took.after (t.flags live k.took.ys k.took.zs k.took.sizes k.took.after)
+          (few-made h' now-taken t.few))
+          (cases_Bool (lane_over h))
 
       pub take-makes : Makes world (head_writes h) (head_came h) (head_came h') b a
       take-makes =
           subst (λ (y : ℕ × Point). Makes world (head_writes h) (head_came h) (two_came y.0 y.1 (port_point h'.buffer.flags)) b a)
-          (λ i. (ap (λ (z : HeadView T). z.channel) (sym t.same) i, ap (λ (z : HeadView T). port_point z.input.port) (sym t.same) i)) (moved-makes h.standing refl)
+          (λ i. (ap (λ (z : HeadView T). z.channel) (sym t.same) i, ap (λ (z : HeadView T). port_point z.input.port) (sym t.same) i)) moved-makes
 
       -- what came on the list was made, and one item more was taken
       pub take-more : head_done h + length a.items + 1 ≤ head_done h' + length b.items
-      take-more = by h.standing refl
+      take-more = ⊎_elim over live (cases_Bool (lane_over h))
         where
-          over : is_over h.standing ≡ true → head_done h + length a.items + 1 ≤ head_done h' + length b.items
+          over : lane_over h ≡ true → head_done h + length a.items + 1 ≤ head_done h' + length b.items
           over o =
               let n = t.over o in
               let one = t.taken in
@@ -498,25 +460,19 @@ module _ {T : Type 0} (state : T → TransportState) (world : World) (plan : Rea
               let none = ap (λ (y : OutputsView). length y.items) n.2 in
               omega (arith, one, reads, made, none)
 
-          by : (s : Standing) → h.standing ≡ s → head_done h + length a.items + 1 ≤ head_done h' + length b.items
-          by stands.Open is =
+          live : lane_over h ≡ false → head_done h + length a.items + 1 ≤ head_done h' + length b.items
+          live is =
               let put = flags-more k.took.sizes _ b a h'.buffer.flags (t.flags is k.took.ys k.took.zs k.took.sizes k.took.after) in
               let one = t.taken in
               let reads = ap (λ (z : HeadView T). z.input.port.made) t.same in
               omega (arith, put, one, reads)
-          by stands.Ended is = over (ap is_over is)
-          by (stands.Failed c) is = over (ap is_over is)
 
       pub take-places : (lanes : List Lane) → AreAmong (head_lanes h) lanes → HasPlaces b.stopped lanes → HasPlaces a.stopped lanes
-      take-places lanes among places = by h.standing refl
-        where
-          out : a ≡ b → HasPlaces a.stopped lanes
-          out same = subst (λ (o : OutputsView). HasPlaces o.stopped lanes) (sym same) places
-
-          by : (s : Standing) → h.standing ≡ s → HasPlaces a.stopped lanes
-          by stands.Open is = flags-places lanes among k.took.ys k.took.zs k.took.sizes _ b a h'.buffer.flags (t.flags is k.took.ys k.took.zs k.took.sizes k.took.after) places
-          by stands.Ended is = out (t.over (ap is_over is)).2
-          by (stands.Failed c) is = out (t.over (ap is_over is)).2
+      take-places lanes among places = ⊎_elim
+          (λ (over : lane_over h ≡ true). subst (λ (o : OutputsView). HasPlaces o.stopped lanes) (sym (t.over over).2) places)
+          (λ (live : lane_over h ≡ false).
+          flags-places lanes among k.took.ys k.took.zs k.took.sizes _ b a h'.buffer.flags (t.flags live k.took.ys k.took.zs k.took.sizes k.took.after) places)
+          (cases_Bool (lane_over h))
 
   -- ---- it makes a write
 
@@ -538,9 +494,8 @@ module _ {T : Type 0} (state : T → TransportState) (world : World) (plan : Rea
       after = w.stood k.took.ys k.took.zs k.took.sizes k.took.after;
       count = k.took.count;
       within = k.took.within;
-      before = k.took.before;
-      later = subst (λ n. Picked events k.took.count k.took.zs n) (sym write-taken) k.took.later;
-      running = λ o f. write-taken ∙ k.took.running (sym write-standing ∙ o) (no-cause h.failure (cause_of_step answer) (sym w.failure ∙ f));
+      in_order = k.took.in_order;
+      running = λ o. write-taken ∙ k.took.running (sym (ap (λ (z : HeadView T). lane_over z) w.same) ∙ o);
       ended = λ o. k.took.ended (sym write-standing ∙ o);
       none_late = λ o. k.took.none_late (ap is_over (sym write-standing) ∙ o);
     }
@@ -607,9 +562,8 @@ module _ {T : Type 0} (state : T → TransportState) (world : World) (plan : Rea
       after = f.stands k.took.ys k.took.zs k.took.sizes k.took.after;
       count = k.took.count;
       within = k.took.within;
-      before = k.took.before;
-      later = subst (λ n. Picked events k.took.count k.took.zs n) (sym (ap (λ (z : HeadView T). z.taken) f.same)) k.took.later;
-      running = λ o n. none-some Aborted (sym (ap (λ (z : HeadView T). z.failure) f.same) ∙ n);
+      in_order = k.took.in_order;
+      running = λ o. ap (λ (z : HeadView T). z.taken) f.same ∙ k.took.running (sym (ap (λ (z : HeadView T). lane_over z) f.same) ∙ o);
       ended = λ o. k.took.ended (sym (ap (λ (z : HeadView T). z.standing) f.same) ∙ o);
       none_late = λ o. k.took.none_late (sym (ap (λ (z : HeadView T). is_over z.standing) f.same) ∙ o);
     }
@@ -729,8 +683,7 @@ module _ {T : Type 0} (state : T → TransportState) (world : World) (plan : Rea
               after = k.took.after;
               count = k.took.count;
               within = k.took.within;
-              before = k.took.before;
-              later = k.took.later;
+              in_order = k.took.in_order;
               running = k.took.running;
               ended = k.took.ended;
               none_late = k.took.none_late;
@@ -851,9 +804,8 @@ new-holds state world plan channel hop p few h after reads entrance place fl non
       after = after;
       count = 0;
       within = omega arith;
-      before = refl;
-      later = omega arith;
-      running = λ o f. none;
+      in_order = refl;
+      running = λ o. none;
       ended = λ o. absurd (both_ways false refl (ap is_over (sym live ∙ o)));
       none_late = λ o. refl;
     };

@@ -67,8 +67,9 @@ module _ {T : Type 0} (state : T → TransportState) (h : HeadView T) where
   bytes-begin world k =
       let t = k.holds.took in
       let first = accepted-prefix t.ys t.zs t.sizes t.after in
-      let next = out-prefix t.ys (drop t.count k.events) in
-      let all : t.ys ++ drop t.count k.events ≡ k.events = ap (λ (ys : List Event). ys ++ drop t.count k.events) t.before ∙ take-append-drop t.count k.events in (
+      let next = out-prefix t.ys (t.zs ++ drop t.count k.events) in
+      let all : t.ys ++ (t.zs ++ drop t.count k.events) ≡ k.events =
+      sym (append_assoc t.ys t.zs (drop t.count k.events)) ∙ ap (λ (seen : List Event). seen ++ drop t.count k.events) t.in_order ∙ take-append-drop t.count k.events in (
         k.events,
         k.holds.own,
         first.0 ++ next.0,

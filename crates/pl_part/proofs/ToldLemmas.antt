@@ -107,8 +107,7 @@ module _ {T : Type 0} (state : T → TransportState) where
             after = told-after h.failure (state h.transport).accepted h.buffer n t.took.ys t.took.zs _ t.took.sizes t.took.after;
             count = t.took.count;
             within = t.took.within;
-            before = t.took.before;
-            later = t.took.later;
+            in_order = t.took.in_order;
             running = t.took.running;
             ended = t.took.ended;
             none_late = t.took.none_late;

@@ -1,13 +1,13 @@
 -- What a head does with the next item of its lane, in a read step, in a write, and when it is aborted.
-use Rattle.std.specs.Prelude.{◌≡◌, ◌≢◌, ◌↔◌, ℕ, ◌+◌, ◌≤◌, ◌++◌, ◌⊎◌, List, length, Bool, true, false, ◌||◌, is_some, Some, IsSome, None, min}
+use Rattle.std.specs.Prelude.{◌≡◌, ◌≢◌, ◌↔◌, ℕ, ◌+◌, ◌≤◌, ◌++◌, ◌⊎◌, List, length, Bool, true, false, ◌||◌, ◌&&◌, is_some, Some, IsSome, None, min}
 use Rattle.pl_event.specs.declared.events.Event.{Event}
 use Rattle.pl_event.specs.declared.envelopes.Envelope.{Envelope}
 use Rattle.pl_event.specs.declared.envelopes.Item.TheVariants as item
+use Rattle.pl_event.specs.Worlds.{closes}
 use Rattle.pl_event.specs.declared.outcomes.Cause.TheVariants.{Aborted}
 use Rattle.pl_context.specs.declared.standing.Standing.TheVariants as stands
 use Rattle.pl_context.specs.declared.standing.Took.{Took}
 use Rattle.pl_context.specs.declared.standing.Took.TheVariants as took
-use Rattle.pl_context.specs.Standings.{is_over}
 use Rattle.pl_context.specs.OutputsViews.{OutputsView, PutsAll}
 use Rattle.pl_context.specs.Ports.{numbered}
 use Rattle.pl_head.specs.declared.inputs.ReadPlan.{ReadPlan}
@@ -21,18 +21,18 @@ use Rattle.pl_head.specs.Buffers.{SameMarks, SettlesMore, StopsNumbers, LacksRoo
 use Rattle.pl_head.specs.WritabilityStand.{SendsFlags}
 use Rattle.pl_head.specs.Transports.{TransportState, counted, FailsNext}
 use Rattle.pl_head.specs.ReadSteps.{entrance, bursts_read, has_step, read_items, brings_failure, brings_abort, next_step_items, steps_after}
-use Rattle.pl_head.specs.HeadStand.{HeadView, StandsAfter, ReadsStand, Aborts, Answers, read_answer, is_held, is_idle, waiting_at, events_before, events_from, item_sizes, step_sizes, standing_after, cause_of_item, cause_of_step, first_cause, HasFewFlags}
+use Rattle.pl_head.specs.HeadStand.{HeadView, StandsAfter, ReadsStand, Aborts, lane_over, Answers, read_answer, is_held, is_idle, waiting_at, events_before, events_from, item_sizes, step_sizes, standing_after, cause_of_item, cause_of_step, first_cause, HasFewFlags}
 
 module _ {T : Type 0} (state : T → TransportState) where
   -- It takes the next item of its lane: after whichever events it stood, it stands after those and what the item brought. After
-  -- an end or a failure of that lane it only counts.
+  -- an end or a failure of that lane, which one that has failed by itself notes too, it only counts.
   pub record HeadTakes (h : HeadView T) (e : Envelope) (before : OutputsView) (answer : Took) (h' : HeadView T) (after : OutputsView) : Type 0 where
     pub taken : h'.taken ≡ h.taken + 1
-    pub answers : h.standing ≡ stands.Open → Answers (is_some h.failure) e.item answer
-    pub stood : h.standing ≡ stands.Open → (ys zs : List Event) (sizes : List Change) → StandsAfter state h ys zs sizes
+    pub answers : lane_over h ≡ false → Answers (is_some h.failure) e.item answer
+    pub stood : lane_over h ≡ false → (ys zs : List Event) (sizes : List Change) → StandsAfter state h ys zs sizes
         → StandsAfter state h' (ys ++ events_before (is_some h.failure) e.item answer) (zs ++ events_from (is_some h.failure) e.item answer)
         (sizes ++ item_sizes (is_some h.failure) e.item answer (waiting_at state h ys) (waiting_at state h' (ys ++ events_before (is_some h.failure) e.item answer)))
-    pub flags : h.standing ≡ stands.Open → (ys zs : List Event) (sizes : List Change) → StandsAfter state h ys zs sizes
+    pub flags : lane_over h ≡ false → (ys zs : List Event) (sizes : List Change) → StandsAfter state h ys zs sizes
         → SendsFlags h.buffer.low h.buffer.high sizes
         (item_sizes (is_some h.failure) e.item answer (waiting_at state h ys) (waiting_at state h' (ys ++ events_before (is_some h.failure) e.item answer)))
         h.buffer.flags before h'.buffer.flags after
@@ -40,8 +40,9 @@ module _ {T : Type 0} (state : T → TransportState) where
     pub stops : StopsNumbers h.buffer h'.buffer
     pub failure : h.standing ≡ stands.Open → h'.failure ≡ first_cause h.failure (cause_of_item e.item answer)
     pub standing : h.standing ≡ stands.Open → h'.standing ≡ standing_after (is_some h.failure) e.item
-    pub over : is_over h.standing ≡ true → (answer ≡ took.Ran) × (h' ≡ record h { taken = h'.taken }) × (after ≡ before)
-    pub same : h' ≡ record h { taken = h'.taken; standing = h'.standing; failure = h'.failure; buffer = h'.buffer }
+    pub closed : lane_over h ≡ false → h'.is_closed ≡ (is_some h.failure && closes e.item)
+    pub over : lane_over h ≡ true → (answer ≡ took.Ran) × (h' ≡ record h { taken = h'.taken }) × (after ≡ before)
+    pub same : h' ≡ record h { taken = h'.taken; standing = h'.standing; failure = h'.failure; is_closed = h'.is_closed; buffer = h'.buffer }
     pub marks : SameMarks h.buffer h'.buffer
     pub settles : SettlesMore h.buffer h'.buffer
     pub few : HasFewFlags h'

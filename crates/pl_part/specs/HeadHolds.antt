@@ -1,5 +1,5 @@
 -- How a head stands where lanes may fail: what it took of its own lane, what was read, and how far its lanes have come.
-use Rattle.std.specs.Prelude.{◌≡◌, ℕ, ◌+◌, ◌≤◌, ◌<◌, ◌^◌, List, [], ◌∷◌, length, take, slice_get, true, Bool, ◌||◌, cond, Some, None}
+use Rattle.std.specs.Prelude.{◌≡◌, ℕ, ◌+◌, ◌≤◌, ◌<◌, ◌^◌, List, [], ◌∷◌, ◌++◌, length, take, true, false, Bool, ◌||◌, cond, Some}
 use Rattle.pl_event.specs.declared.events.Event.{Event}
 use Rattle.pl_event.specs.declared.envelopes.Lane.{Lane}
 use Rattle.pl_event.specs.Hops.{same_lane, data_lane, flags_lane}
@@ -11,7 +11,7 @@ use Rattle.pl_flow.specs.Flows.{Point, nowhere}
 use Rattle.pl_head.specs.declared.inputs.ReadPlan.{ReadPlan}
 use Rattle.pl_head.specs.Marks.{Change}
 use Rattle.pl_head.specs.Transports.{TransportState}
-use Rattle.pl_head.specs.HeadStand.{HeadView, StandsAfter, ReadsStand, HasFewFlags}
+use Rattle.pl_head.specs.HeadStand.{HeadView, StandsAfter, ReadsStand, HasFewFlags, lane_over}
 use Rattle.pl_part.specs.ContextHolds.{port_point}
 
 -- ---- its lanes: that of its reads, and that of its flags
@@ -32,15 +32,10 @@ head_taken h l = cond (same_lane l (data_lane h.channel h.hop)) h.taken 0
 
 -- ---- the stand
 
--- Some of the events of a lane between two numbers, in their order.
-abbrev pub Picked : List Event → ℕ → List Event → ℕ → Type 0
-Picked events from [] to = from ≤ to
-Picked events from (z ∷ zs) to = (n : ℕ) × (from ≤ n) × (slice_get events n ≡ Some z) × Picked events (n + 1) zs to
-
 module _ {T : Type 0} (state : T → TransportState) where
-  -- What it took of its lane. Up to a failure of its own these are the first events there, all that it took while it was
-  -- open, and all there are where the lane has ended. What it took from that failure on are later events of the lane: some,
-  -- since a failure may have come between them. None were taken so once the lane is over.
+  -- What it took of its lane: the events ys up to a failure of its own, and zs from it on. Both together are the first
+  -- events of the lane, in order and with none left out: all that it took, while the lane is open. Where the lane has ended
+  -- before such a failure, ys are all there are; and from a failure behind the end or the failure of its lane it took none.
   pub record HeadTook (events : List Event) (h : HeadView T) : Type 0 where
     pub ys : List Event
     pub zs : List Event
@@ -48,9 +43,8 @@ module _ {T : Type 0} (state : T → TransportState) where
     pub after : StandsAfter state h ys zs sizes
     pub count : ℕ
     pub within : count ≤ length events
-    pub before : ys ≡ take count events
-    pub later : Picked events count zs h.taken
-    pub running : h.standing ≡ stands.Open → h.failure ≡ None → h.taken ≡ count
+    pub in_order : ys ++ zs ≡ take count events
+    pub running : lane_over h ≡ false → h.taken ≡ count
     pub ended : h.standing ≡ stands.Ended → count ≡ length events
     pub none_late : is_over h.standing ≡ true → zs ≡ []
 

@@ -258,9 +258,8 @@ module _ (plan : ReadPlan) (h : HeadView MemoryTransportView) (bursts : plan.bur
         after = new.after;
         count = 0;
         within = omega arith;
-        before = refl;
-        later = omega arith;
-        running = λ live sound. new.taken;
+        in_order = refl;
+        running = λ live. new.taken;
         ended = λ ended. absurd (both_ways false refl (ap is_over (sym new.standing ∙ ended)));
         none_late = λ over. refl;
       };

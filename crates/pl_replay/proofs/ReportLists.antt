@@ -1,8 +1,10 @@
 -- Lists of reports, one for each part.
 use Rattle.std.proofs.Common.{◌≡◌, ◌≢◌, false, ℕ, ◌∷◌, ◌++◌, ◌&&◌, List, [], length, Bool, Some, suc, refl, sym, subst, ap, ◌∙◌, ◌+◌, ◌<◌, ◌≤◌, take, get_or, arith}
+use Rattle.std.specs.Prelude.{is_some, true}
 use Rattle.std.specs.List.{AllZip, slice_get}
 use Rattle.std.proofs.lemmas.Option.{same_Some}
 use Rattle.std.proofs.lemmas.List.{take_all, take_more}
+use Rattle.pl_event.specs.declared.outcomes.Cause.TheVariants.{Aborted}
 use Rattle.pl_event.proofs.Lists.{list_all_push}
 use Rattle.pl_context.specs.TailViews.{TailView}
 use Rattle.pl_head.specs.Transports.{TransportState}
@@ -13,8 +15,9 @@ use Rattle.pl_world.specs.declared.report.ChannelReport.{ChannelReport}
 use Rattle.pl_world.specs.declared.report.Stands.{Stands}
 use Rattle.pl_world.specs.declared.report.Stands.TheVariants as stands
 use Rattle.pl_world.specs.Plans.{ChannelPlan, Plan}
-use Rattle.pl_world.specs.Reports.{AllKeepToPlan, KeepsToPlan}
-use Rattle.pl_replay.specs.Reported.{AreDrained, HasEnds, HaveEnds, IsPartStands, KeepsItsPlan, is_drained}
+use Rattle.pl_world.specs.Reports.{AllKeepToPlan, AllReportPlan, ReportsPlan}
+use Rattle.pl_world.proofs.PlannedReports.{report_keeps}
+use Rattle.pl_replay.specs.Reported.{AreDrained, HasEnds, HaveEnds, IsPartStands, ReportsItsPlan, is_drained}
 
 -- one more of each
 pub zip_push : {A B : Type 0} (R : A → B → Type 0) (xs : List A) (ys : List B) (x : A) (y : B) → AllZip R xs ys → R x y → AllZip R (xs ++ x ∷ []) (ys ++ y ∷ [])
@@ -44,20 +47,30 @@ zip_through R Q (x ∷ xs) (y ∷ ys) (z ∷ zs) same leads all = (leads 0 x y r
 pub zip_whole : {A B : Type 0} (R : A → B → Type 0) (xs : List A) (i : ℕ) (ys zs : List B) → length xs ≤ i → zs ≡ ys → AllZip R (take i xs) ys → AllZip R xs zs
 zip_whole R xs i ys zs end same all = rw same (subst (λ (front : List _). AllZip R front ys) (take_all i xs end) all)
 
+-- so each keeps to it
+pub all_keep : (ps : List ChannelPlan) (rs : List ChannelReport) → AllReportPlan ps rs → AllKeepToPlan ps rs
+all_keep [] [] each = tt
+all_keep (p ∷ ps) (r ∷ rs) each = (report_keeps p r each.0, all_keep ps rs each.1)
+all_keep [] (r ∷ rs) each = elim each [ ]
+all_keep (p ∷ ps) [] each = elim each [ ]
+
 module _ {S T : Type 0} (state : T → TransportState) where
   -- the ends of a part are the only ones that it has
-  pub keeps_its_plan : (part : PartView S T) (own : HasEnds part) (report : ChannelReport) → ((plan : Plan) (number : ℕ) (p : ChannelPlan) → EndsHold state plan number p own.tail own.head → KeepsToPlan p report)
-      → KeepsItsPlan state part report
-  keeps_its_plan part own report keeps plan number p ends held =
-      keeps plan number p
+  pub reports_its_plan : (part : PartView S T) (own : HasEnds part) (report : ChannelReport)
+      → ((plan : Plan) (number : ℕ) (p : ChannelPlan) → EndsHold state plan number p own.tail own.head → (own.head.failure ≡ Some Aborted → is_some p.abort_after ≡ true) → ReportsPlan p report)
+      → ReportsItsPlan state part report
+  reports_its_plan part own report planned plan number p ends held aborted =
+      let head = same_Some ends.head own.head (sym ends.has_head ∙ own.has_head) in
+      planned plan number p
       (subst (λ (tail : TailView). EndsHold state plan number p tail own.head) (same_Some ends.tail own.tail (sym ends.has_tail ∙ own.has_tail))
-      (subst (λ (head : HeadView T). EndsHold state plan number p ends.tail head) (same_Some ends.head own.head (sym ends.has_head ∙ own.has_head)) held))
+      (subst (λ (head : HeadView T). EndsHold state plan number p ends.tail head) head held))
+      (subst (λ (head : HeadView T). head.failure ≡ Some Aborted → is_some p.abort_after ≡ true) head aborted)
 
-  -- each report keeps to the plan of its channel
-  pub all_keep : (plan : Plan) (parts : List (PartView S T)) (reports : List ChannelReport) → AllZip (KeepsItsPlan state) parts reports → HaveEnds state plan parts → AllKeepToPlan plan.channels reports
-  all_keep plan parts reports each have =
-      zip_through (KeepsItsPlan state) KeepsToPlan plan.channels parts reports have.count
-      (λ c p part planned there r keeps. let held = have.each c p part planned there in keeps plan c p held.0 held.1)
+  -- each report is one of its channel's plan
+  pub all_planned : (plan : Plan) (parts : List (PartView S T)) (reports : List ChannelReport) → AllZip (ReportsItsPlan state) parts reports → HaveEnds state plan parts → AllReportPlan plan.channels reports
+  all_planned plan parts reports each have =
+      zip_through (ReportsItsPlan state) ReportsPlan plan.channels parts reports have.count
+      (λ c p part planned there r reported. let held = have.each c p part planned there in reported plan c p held.0 held.1 held.2)
       each
 
   -- the next part is looked at

@@ -1,5 +1,5 @@
 -- A part with all nodes of its channel: a lane that one of them writes enters another one.
-use Rattle.std.proofs.Common.{◌≡◌, ◌≢◌, ◌⊎◌, ℕ, zero, suc, ◌+◌, ◌-◌, ◌<◌, ◌≤◌, Bool, true, false, ◌||◌, ◌&&◌, List, [], ◌∷◌, ◌++◌, length, map, get_or, Option, Some, None, refl, ap, sym, ◌∙◌, subst, ⊎_elim, arith, length-append}
+use Rattle.std.proofs.Common.{◌≡◌, ◌≢◌, ◌⊎◌, ℕ, zero, suc, ◌+◌, ◌-◌, ◌<◌, ◌≤◌, Bool, true, false, ◌||◌, ◌&&◌, List, [], ◌∷◌, ◌++◌, length, map, get_or, Option, Some, None, refl, ap, sym, ◌∙◌, ⊎_elim, arith, length-append}
 use Rattle.std.specs.Prelude.{◌==◌, is_some, nat_lt, replicate, if◌then◌else◌}
 use Rattle.std.specs.Option.{option_map_or}
 use Rattle.std.proofs.lemmas.List.{length-map, length-replicate}
@@ -12,7 +12,7 @@ use Rattle.pl_event.specs.declared.envelopes.Kind.TheVariants.{Data}
 use Rattle.pl_event.specs.Hops.{same_hop, same_kind, same_lane, data_lane, flags_lane}
 use Rattle.pl_event.specs.Meaning.{Meaning}
 use Rattle.pl_event.specs.Worlds.{World}
-use Rattle.pl_event.proofs.SameLanes.{same_lane-equal, same_lane-self}
+use Rattle.pl_event.proofs.SameLanes.{same_lane-equal}
 use Rattle.pl_context.specs.ContextViews.{ContextView, IsHop, has_up, has_down, down_hop}
 use Rattle.pl_head.specs.HeadStand.{HeadView}
 use Rattle.pl_head.specs.Transports.{TransportState}

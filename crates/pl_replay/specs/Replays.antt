@@ -8,7 +8,7 @@ use Rattle.pl_net.specs.Nets.{CoreView}
 use Rattle.pl_world.specs.declared.moves.Move.{Move}
 use Rattle.pl_world.specs.declared.report.Report.{Report}
 use Rattle.pl_world.specs.Plans.{Plan}
-use Rattle.pl_world.specs.Reports.{AllKeepToPlan}
+use Rattle.pl_world.specs.Reports.{AllKeepToPlan, AllReportPlan}
 use Rattle.pl_replay.specs.MoveModel.{is_there}
 use Rattle.pl_replay.specs.Moves.{Reaches}
 use Rattle.pl_replay.specs.Starts.{Begins}
@@ -27,3 +27,5 @@ module _ {S T : Type 0} (meaning : S → Meaning) (stands_after : S → List Eve
     pub reports : AllZip (IsPartReport state) end.nodes.parts.items report.channels
     -- it begins what the handlers, composed on whole lists, make of the recorded input, and is all of it where drained
     pub kept : AllKeepToPlan plan.channels report.channels
+    -- and of each channel, whatever has failed, it is what two ends say that keep to the plan
+    pub planned : AllReportPlan plan.channels report.channels

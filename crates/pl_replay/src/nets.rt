@@ -10,7 +10,7 @@ ghost use Rattle.pl_world.specs.declared.limits.TheConstants.{MAX_CAPACITY};
 ghost use Rattle.pl_world.specs.Plans.{Plan, planned};
 ghost use Rattle.pl_replay.specs.Starts.{NetBegins, transports_of};
 ghost use Rattle.std.specs.List.{AllZip};
-ghost use Rattle.pl_world.specs.Reports.{AllKeepToPlan};
+ghost use Rattle.pl_world.specs.Reports.{AllKeepToPlan, AllReportPlan};
 ghost use Rattle.pl_replay.specs.Reported.{AreDrained, HasEnds, IsPartReport};
 ghost use Rattle.pl_replay.specs.MoveModel.{is_there, is_hand};
 
@@ -126,6 +126,8 @@ impl<S: Stage, T: Transport> Net<S, T> {
         ensures reports { IfOk result (λ report. AllZip (IsPartReport T.state) self.now.nodes.parts.items report.channels) }
         ensures kept { IfOk result (λ report. (plan : Plan) (backlogs : ℕ → List (Entry Unit)) → NetStands S.meaning S.stands_after T.state plan backlogs self.now
             → AllKeepToPlan plan.channels report.channels) }
+        ensures planned { IfOk result (λ report. (plan : Plan) (backlogs : ℕ → List (Entry Unit)) → NetStands S.meaning S.stands_after T.state plan backlogs self.now
+            → AllReportPlan plan.channels report.channels) }
         ensures memory { IfErr result (λ e. e ≡ fault.Memory) }
     {
         let channels = reports_of(self.alloc, self.parts())?;
@@ -138,6 +140,8 @@ impl<S: Stage, T: Transport> Net<S, T> {
         ensures reports { IfOk result (λ report. AllZip (IsPartReport T.state) self.nodes.parts.items report.channels) }
         ensures kept { IfOk result (λ report. (plan : Plan) (backlogs : ℕ → List (Entry Unit)) → NetStands S.meaning S.stands_after T.state plan backlogs self
             → AllKeepToPlan plan.channels report.channels) }
+        ensures planned { IfOk result (λ report. (plan : Plan) (backlogs : ℕ → List (Entry Unit)) → NetStands S.meaning S.stands_after T.state plan backlogs self
+            → AllReportPlan plan.channels report.channels) }
         ensures memory { IfErr result (λ e. e ≡ fault.Memory) }
     {
         let Net { alloc, core } = self;

@@ -3,8 +3,8 @@
 ghost use Rattle.std.specs.Prelude.{◌≡◌, All, IfOk, Some};
 ghost use Rattle.std.specs.List.{AllZip};
 ghost use Rattle.pl_world.specs.Plans.{Plan};
-ghost use Rattle.pl_world.specs.Reports.{AllKeepToPlan};
-ghost use Rattle.pl_replay.specs.Reported.{AreDrained, HasEnds, HaveEnds, IsPartReport, IsPartStands, KeepsItsPlan};
+ghost use Rattle.pl_world.specs.Reports.{AllReportPlan};
+ghost use Rattle.pl_replay.specs.Reported.{AreDrained, HasEnds, HaveEnds, IsPartReport, IsPartStands, ReportsItsPlan};
 
 use pl_channel::{into_report, report, stands};
 use pl_context::Tail;
@@ -21,7 +21,7 @@ pub(crate) fn reports_of<S: Stage, T: Transport>(
 ) -> Result<Sequence<ChannelReport>, AllocError>
     requires ends { All HasEnds parts.now }
     ensures reports { IfOk result (λ reports. AllZip (IsPartReport T.state) parts.now reports) }
-    ensures kept { IfOk result (λ reports. (plan : Plan) → HaveEnds T.state plan parts.now → AllKeepToPlan plan.channels reports) }
+    ensures planned { IfOk result (λ reports. (plan : Plan) → HaveEnds T.state plan parts.now → AllReportPlan plan.channels reports) }
 {
     let mut reports = Vec::with_capacity(alloc, parts.len())?;
     for part in parts {
@@ -37,7 +37,7 @@ pub(crate) fn into_reports<S: Stage, T: Transport>(
 ) -> Result<Sequence<ChannelReport>, AllocError>
     requires ends { All HasEnds parts.items }
     ensures reports { IfOk result (λ reports. AllZip (IsPartReport T.state) parts.items reports) }
-    ensures kept { IfOk result (λ reports. (plan : Plan) → HaveEnds T.state plan parts.items → AllKeepToPlan plan.channels reports) }
+    ensures planned { IfOk result (λ reports. (plan : Plan) → HaveEnds T.state plan parts.items → AllReportPlan plan.channels reports) }
 {
     let mut moved = Vec::with_capacity(alloc, parts.len())?;
     for part in parts {
@@ -65,7 +65,7 @@ fn report_of<S: Stage, T: Transport>(
 ) -> Result<ChannelReport, AllocError>
     requires { HasEnds part.now }
     ensures reports { IfOk result (λ report. IsPartReport T.state part.now report) }
-    ensures keeps { IfOk result (λ report. KeepsItsPlan T.state part.now report) }
+    ensures planned { IfOk result (λ report. ReportsItsPlan T.state part.now report) }
 {
     let (tail, head) = ends(part);
     report(alloc, tail, head)
@@ -78,7 +78,7 @@ fn report_from<S: Stage, T: Transport>(
 ) -> Result<ChannelReport, AllocError>
     requires { HasEnds part }
     ensures reports { IfOk result (λ report. IsPartReport T.state part report) }
-    ensures keeps { IfOk result (λ report. KeepsItsPlan T.state part report) }
+    ensures planned { IfOk result (λ report. ReportsItsPlan T.state part report) }
 {
     let (tail, head) = part.into_ends();
     into_report(alloc, tail.unwrap(), head.unwrap())

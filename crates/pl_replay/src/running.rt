@@ -28,7 +28,7 @@ use std::alloc::Global;
 pub fn replay(alloc: Global, session: Session, moves: &[Move]) -> Result<Report, ReplayFault>
     // The report is that of what the moves lead to, one after another, from the start of the session; whatever the
     // schedule, it begins what the handlers, composed on whole lists, make of the recorded input, and is all of it where a
-    // channel is drained.
+    // channel is drained. Of each channel, whatever has failed, it is what two ends say that keep to the plan.
     ensures replayed { IfOk result (λ report. IsReplayed ⟦<Handler as Stage>⟧.meaning ⟦<Handler as Stage>⟧.stands_after ⟦<Handler as Stage>⟧.is_spent ⟦<MemoryTransport as Transport>⟧.state ⟦<MemoryTransport as Transport>⟧.may_refuse
         (plan_of ⟦<Handler as Stage>⟧.meaning ⟦<MemoryTransport as Transport>⟧.state session) (transports_of session.world.channels) moves.now report) }
     // `NoSuch` comes only where a move names what is not there. With such a move no answer is `Ok`, as `IsReplayed`

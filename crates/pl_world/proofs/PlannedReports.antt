@@ -11,14 +11,14 @@ use Rattle.pl_context.specs.declared.standing.Standing.{Standing}
 use Rattle.pl_context.specs.declared.standing.Standing.TheVariants as standing
 use Rattle.pl_context.specs.Standings.{is_over, cause_of}
 use Rattle.pl_head.specs.Writes.{write_by, is_flush, has_flush, flushed_writes, bytes_of, out, outcomes, writes_by}
-use Rattle.pl_head.specs.Failures.{AreOutcomes, head_outcomes}
+use Rattle.pl_head.specs.Failures.{head_outcomes}
 use Rattle.pl_head.specs.HeadStand.{first_cause}
 use Rattle.pl_head.proofs.Buffering.{bytes_of-append}
 use Rattle.pl_world.specs.declared.report.Stands.{Stands}
 use Rattle.pl_world.specs.declared.report.Stands.TheVariants.{Drained}
 use Rattle.pl_world.specs.declared.report.ChannelReport.{ChannelReport}
 use Rattle.pl_world.specs.Plans.{ChannelPlan}
-use Rattle.pl_world.specs.Reports.{Ends, has_ended, channel_cause, is_written_out, stands_by, IsChannelReport, channel_report, tail_of, head_of, whole_report, KeepsToPlan, EndsKeepToPlan, ReportsPlan}
+use Rattle.pl_world.specs.Reports.{Ends, has_ended, channel_cause, is_written_out, stands_by, IsChannelReport, channel_report, head_of, whole_report, KeepsToPlan, EndsKeepToPlan, ReportsPlan}
 
 -- ---- the output of more events
 

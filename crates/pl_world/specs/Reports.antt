@@ -123,3 +123,7 @@ pub record ReportsPlan (p : ChannelPlan) (r : ChannelReport) : Type 0 where
   pub ends : Ends
   pub ends_keep : EndsKeepToPlan p ends
   pub reports : IsChannelReport ends r
+
+-- so is that of each channel of a session
+abbrev pub AllReportPlan : List ChannelPlan → List ChannelReport → Type 0
+AllReportPlan = AllZip ReportsPlan

@@ -9,7 +9,7 @@ returns-clause-holds g c = λ world h good.
       events = h.events;
       holds = take-holds g.T.Transport.state world h.plan h.events c.args.head.now h.holds c.args.envelope c.requires.enters c.requires.number good
           c.args.work.now c.take.new.outputs c.take.result c.take.new.self
-          (record { taken = t.taken; answers = t.answer; stood = t.stands; flags = t.flags; refused = t.refused; stops = t.stops; failure = t.failure; standing = t.standing; over = t.over; same = t.same; marks = t.marks; settles = t.settles; few = t.few });
+          (record { taken = t.taken; answers = t.answer; stood = t.stands; flags = t.flags; refused = t.refused; stops = t.stops; failure = t.failure; standing = t.standing; closed = t.closed; over = t.over; same = t.same; marks = t.marks; settles = t.settles; few = t.few });
     }
 
 pub returns-clause-made : goal.returns-clause-made
@@ -17,7 +17,7 @@ returns-clause-made g c = λ world h good.
     let t = c.take.ensures in
     take-makes g.T.Transport.state world h.plan h.events c.args.head.now h.holds c.args.envelope c.requires.enters c.requires.number good
     c.args.work.now c.take.new.outputs c.take.result c.take.new.self
-    (record { taken = t.taken; answers = t.answer; stood = t.stands; flags = t.flags; refused = t.refused; stops = t.stops; failure = t.failure; standing = t.standing; over = t.over; same = t.same; marks = t.marks; settles = t.settles; few = t.few })
+    (record { taken = t.taken; answers = t.answer; stood = t.stands; flags = t.flags; refused = t.refused; stops = t.stops; failure = t.failure; standing = t.standing; closed = t.closed; over = t.over; same = t.same; marks = t.marks; settles = t.settles; few = t.few })
 
 pub returns-clause-placed : goal.returns-clause-placed
 returns-clause-placed g c = λ lanes among places.
@@ -25,7 +25,7 @@ returns-clause-placed g c = λ lanes among places.
     let h = c.requires.holds in
     take-places g.T.Transport.state h.0 h.1.plan h.1.events c.args.head.now h.1.holds c.args.envelope c.requires.enters c.requires.number h.2
     c.args.work.now c.take.new.outputs c.take.result c.take.new.self
-    (record { taken = t.taken; answers = t.answer; stood = t.stands; flags = t.flags; refused = t.refused; stops = t.stops; failure = t.failure; standing = t.standing; over = t.over; same = t.same; marks = t.marks; settles = t.settles; few = t.few })
+    (record { taken = t.taken; answers = t.answer; stood = t.stands; flags = t.flags; refused = t.refused; stops = t.stops; failure = t.failure; standing = t.standing; closed = t.closed; over = t.over; same = t.same; marks = t.marks; settles = t.settles; few = t.few })
     lanes among places
 
 pub returns-clause-more : goal.returns-clause-more
@@ -34,4 +34,4 @@ returns-clause-more g c =
     let h = c.requires.holds in
     take-more g.T.Transport.state h.0 h.1.plan h.1.events c.args.head.now h.1.holds c.args.envelope c.requires.enters c.requires.number h.2
     c.args.work.now c.take.new.outputs c.take.result c.take.new.self
-    (record { taken = t.taken; answers = t.answer; stood = t.stands; flags = t.flags; refused = t.refused; stops = t.stops; failure = t.failure; standing = t.standing; over = t.over; same = t.same; marks = t.marks; settles = t.settles; few = t.few })
+    (record { taken = t.taken; answers = t.answer; stood = t.stands; flags = t.flags; refused = t.refused; stops = t.stops; failure = t.failure; standing = t.standing; closed = t.closed; over = t.over; same = t.same; marks = t.marks; settles = t.settles; few = t.few })

@@ -61,4 +61,5 @@ returns-clause-replayed g c =
       reached = subst (λ (t : List Move). Reaches g.S.Stage.meaning g.S.Stage.stands_after g.S.Stage.is_spent g.T.Transport.state g.T.Transport.may_refuse plan.capacity t so_far.start (core_view c.loop-step.net so_far.backlogs)) all so_far.reached;
       reports = IfOk-at_ok _ is c.into_report.ensures.reports;
       kept = IfOk-at_ok _ is c.into_report.ensures.kept plan so_far.backlogs so_far.stands;
+      planned = IfOk-at_ok _ is c.into_report.ensures.planned plan so_far.backlogs so_far.stands;
     })

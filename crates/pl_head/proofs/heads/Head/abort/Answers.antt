@@ -21,5 +21,5 @@ returns-clause-aborts g c =
       flags = λ ys zs sizes s. same_flags sizes (removed_all c.self.inside.failure _ none) (c.fail.ensures.flags accepted ys (is_over c.self.inside.standing) sizes (unfailed c.self.inside.failure accepted (write_buffer_view c.self.inside.buffer) ys zs (is_over c.self.inside.standing) sizes none s));
       puts = c.fail-2.ensures.puts;
       same =
-          ap (λ (i : InputView). record { transport = inside.transport; channel = inside.channel; hop = inside.hop; taken = inside.taken; standing = inside.standing; failure = Some Aborted; buffer = write_buffer_view c.fail.new.self; input = i }) c.fail-2.ensures.after;
+          ap (λ (i : InputView). record { transport = inside.transport; channel = inside.channel; hop = inside.hop; taken = inside.taken; standing = inside.standing; failure = Some Aborted; is_closed = inside.is_closed; buffer = write_buffer_view c.fail.new.self; input = i }) c.fail-2.ensures.after;
     })
