@@ -1,7 +1,9 @@
 #!/bin/sh
 # Runs each example on threads, over both queues, and compares its report with that of `plain`.
 #
-# usage: [MINUTES=M] checks/runs.sh PROGRAM [TIMES [EXAMPLE..]]     each is run once, or so many times; all, or only these
+# usage: [MINUTES=M] checks/runs.sh PROGRAM [TIMES [EXAMPLE..]]     each is run once, or TIMES times; all, or only these
+#
+# An example that is named has to be there, and has to be a session: else nothing was run for it, and the script fails.
 #
 # Where nothing fails the report is that of `plain`, and the status 0. Where a transport fails or the channel is aborted, each
 # tail and the bytes of each channel begin those of `plain`, and no channel stands open. Each run has a minute, and all of them
@@ -41,6 +43,13 @@ run_once() {
     fi
 }
 
+case $times in
+    '' | *[!0-9]*) echo "runs: $times is no number of times"; exit 1 ;;
+esac
+for name in $wanted; do
+    [ -f "$examples/$name/session.json" ] || { echo "runs: no example $name"; exit 1; }
+done
+
 ran=0
 for session in "$examples"/*/session.json "$examples"/*/*/session.json; do
     example=$(dirname "$session")
@@ -48,7 +57,10 @@ for session in "$examples"/*/session.json "$examples"/*/*/session.json; do
         *" ${example#"$examples"/} "*) ;;
         *) continue ;;
     esac
-    "$program" plain <"$session" >"$work/plain" 2>/dev/null || continue
+    # A session that has to be refused is not run.
+    if [ -z "$wanted" ] && [ "$(cat "$example/status" 2>/dev/null)" = 3 ]; then continue; fi
+    "$program" plain <"$session" >"$work/plain" 2>/dev/null ||
+        { echo "runs: plain has no report of ${example#"$examples"/}"; exit 1; }
     for queue in waiting ring; do
         case $queue in
             waiting) sed 's/"capacity":[0-9]*/"capacity":65536/' "$session" >"$work/session" ;;
