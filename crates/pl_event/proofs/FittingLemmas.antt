@@ -2,7 +2,7 @@
 use Rattle.std.proofs.Common.{◌≡◌, ℕ, ◌+◌, ◌≤◌, ◌%◌, ◌==◌, Bool, false, List, [], ◌∷◌, ◌++◌, length, drop, zero, suc, sym, ap, subst, ◌∙◌, refl, arith, add-one}
 use Rattle.std.specs.Prelude.{Some, slice_get}
 use Rattle.std.proofs.Math.Seq.{drop-cons}
-use Rattle.std.proofs.lemmas.Option.{slice_get_within, get_or_from_slice_get}
+use Rattle.std.proofs.lemmas.Option.{same_Some, slice_get_within, get_or_from_slice_get}
 use Rattle.std.proofs.lemmas.List.{drop_all}
 use Rattle.pl_event.specs.declared.events.Event.{Event}
 use Rattle.pl_event.specs.declared.envelopes.Item.{Item}
@@ -50,10 +50,7 @@ flags-alternate m [] n value h at_n = cc
 flags-alternate m (item.Event e ∷ is) n value h at_n = absurd h.0
 flags-alternate m (item.End ∷ is) n value h at_n = absurd h.0
 flags-alternate m (item.Fail cause ∷ is) n value h at_n = absurd h.0
-flags-alternate m (item.Flag v ∷ is) zero value h at_n = some_same v value at_n ∙ h.0 ∙ ap (λ (k : ℕ). k % 2 == 1) (omega arith)
-  where
-    some_same : (v w : Bool) → Some v ≡ Some w → w ≡ v
-    some_same v w e = cc
+flags-alternate m (item.Flag v ∷ is) zero value h at_n = sym (same_Some v value at_n) ∙ h.0 ∙ ap (λ (k : ℕ). k % 2 == 1) (omega arith)
 flags-alternate m (item.Flag v ∷ is) (suc n) value h at_n =
     let k : m + 1 + n ≡ m + suc n = omega arith in
     flags-alternate (m + 1) is n value h.1 at_n ∙ ap (λ (k : ℕ). k % 2 == 1) k

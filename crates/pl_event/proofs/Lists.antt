@@ -1,13 +1,14 @@
--- Lists through `map`, `filter`, `position`, `set`, a push, and prefixes: what std does not say of them.
-use Rattle.std.proofs.Common.{◌≡◌, ◌≢◌, ℕ, zero, suc, ◌+◌, ◌≤◌, Bool, true, false, ◌||◌, ◌&&◌, not, cond, nat_lt, Option, Some, None, List, [], ◌∷◌, ◌++◌, length, map, filter, reverse, get_or, set, replicate, take, drop, sum_by, sym, refl, ap, ap₂, subst, ◌∙◌, arith, inl, inr, append_assoc}
-use Rattle.std.specs.Prelude.{◌⊎◌}
-use Rattle.std.specs.List.{All, list_any, list_all, take_while, prefix_len, position, position_or_len, insert, remove, count_by, find, slice_get}
+-- Lists through `map`, `filter`, `position`, `set`, a push, and prefixes, and values that are there: what std does not say
+-- of them.
+use Rattle.std.proofs.Common.{◌≡◌, ◌≢◌, ℕ, zero, suc, ◌+◌, ◌≤◌, Bool, true, false, ◌||◌, ◌&&◌, not, cond, nat_lt, Option, Some, None, List, [], ◌∷◌, ◌++◌, length, map, filter, reverse, set, take, drop, sum_by, sym, refl, ap, ap₂, subst, ◌∙◌, arith, inl, inr, append_assoc}
+use Rattle.std.specs.Prelude.{◌⊎◌, is_some}
+use Rattle.std.specs.List.{All, list_any, list_all, take_while, prefix_len, position, position_or_len, insert, remove, count_by, find, flat_map, slice_get}
 use Rattle.std.specs.Option.{option_map}
-use Rattle.std.proofs.lemmas.List.{map-append, take-map, drop-map, reverse-append, length-map, length-set, length-append, get_or-set_same, get_or-set_other, get_or-replicate, get_or_past, take-take, take-append-drop, take_at, length-replicate}
-use Rattle.std.proofs.lemmas.List.Folds.{fold-map}
-use Rattle.std.proofs.lemmas.List.Elements.{All-get_or, All-nil, All-cons, All-head, All-tail}
-use Rattle.std.proofs.lemmas.Option.{none-some, slice_get_within, slice_get-get_or, get_or_from_slice_get, slice_get_cases}
-use Rattle.std.proofs.lemmas.Bool.{cases_lt, and_parts}
+use Rattle.std.proofs.lemmas.List.{map-append, take-map, drop-map, reverse-append, length-map, length-set, get_or-set_same, get_or-set_other, take-append-drop}
+use Rattle.std.proofs.lemmas.List.Folds.{fold-map, list_any-append}
+use Rattle.std.proofs.lemmas.List.Elements.{All-get_or, All-nil, All-cons, All-head, All-tail, All-push}
+use Rattle.std.proofs.lemmas.Option.{none-some, same_Some, slice_get_within, slice_get-get_or, get_or_from_slice_get, slice_get_cases}
+use Rattle.std.proofs.lemmas.Bool.{and_parts}
 use Rattle.pl_event.specs.Meaning.{IsPrefixOf}
 
 -- ---- through a map
@@ -66,6 +67,28 @@ map-reverse f (x ∷ xs) =
     ap (λ t. map f t) (reverse-append (x ∷ []) xs) ∙ map-append f (reverse xs) (x ∷ []) ∙ ap (λ t. t ++ f x ∷ []) (map-reverse f xs)
     ∙ sym (reverse-append (f x ∷ []) (map f xs))
 
+pub any-joined : {X Y : Type 0} (p : Y → Bool) (f : X → List Y) (xs : List X) → list_any p (flat_map f xs) ≡ list_any (λ x. list_any p (f x)) xs
+any-joined p f [] = refl
+any-joined p f (x ∷ xs) = list_any-append p (f x) (flat_map f xs) ∙ ap (λ b. list_any p (f x) || b) (any-joined p f xs)
+
+-- ---- a value that is there, and lists without elements
+
+pub some-of : {A : Type 0} (o : Option A) → is_some o ≡ true → (x : A) × (o ≡ Some x)
+some-of (Some x) h = (x, refl)
+some-of None h = cc
+
+pub cons-none : {A : Type 0} (x : A) (xs : List A) → x ∷ xs ≡ [] → ⊥
+cons-none x xs e = cc
+
+pub append-none : {A : Type 0} (xs ys : List A) → xs ++ ys ≡ [] → ys ≡ []
+append-none [] ys e = e
+append-none (x ∷ xs) ys e = cc
+
+-- the element that stands first, before the rest
+pub in-front : {A : Type 0} (items rest : List A) (e : A) → slice_get items 0 ≡ Some e → rest ≡ drop 1 items → items ≡ e ∷ rest
+in-front [] rest e at left = absurd (none-some e at)
+in-front (x ∷ xs) rest e at left = ap (λ y. y ∷ xs) (same_Some x e at) ∙ ap (λ ys. e ∷ ys) (sym left)
+
 -- ---- a list in which one element was replaced, and one that grew
 
 pub slice_get_none : {A : Type 0} (xs : List A) (i : ℕ) → slice_get xs i ≡ None → length xs ≤ i
@@ -94,12 +117,6 @@ slice_get-push (z ∷ zs) x y (suc i) here = elim (slice_get-push zs x y i here)
   | inr last ↦ inr (ap (λ (n : ℕ). suc n) last.0, last.1)
 ]
 
-pub get_or-replicate_any : {A : Type 0} (n i : ℕ) (a : A) → get_or (replicate n a) i a ≡ a
-get_or-replicate_any n i a = elim (cases_lt i n) [
-  | inl within ↦ get_or-replicate n i a a within
-  | inr past ↦ get_or_past (replicate n a) i a (omega (arith, past, length-replicate n a))
-]
-
 -- ---- each of a list
 
 pub All-at : {A : Type 0} (P : A → Type 0) (xs : List A) (i : ℕ) (x : A) → All P xs → slice_get xs i ≡ Some x → P x
@@ -118,6 +135,11 @@ list_all_push p (y ∷ xs) x =
     let tail = list_all_push p xs x in
     elim (p y) as (λ b. (b && list_all p (xs ++ x ∷ [])) ≡ ((b && list_all p xs) && p x)) [ true ↦ tail | false ↦ refl ]
 
+pub All-reverse : {X : Type 0} (P : X → Type 0) (xs : List X) → All P xs → All P (reverse xs)
+All-reverse P [] h = h
+All-reverse P (x ∷ xs) h =
+    subst (All P) (sym (reverse-append (x ∷ []) xs)) (All-push P (reverse xs) x (All-reverse P xs (All-tail P x xs h)) (All-head P x xs h))
+
 -- tests that agree on a list find the same
 pub find-agree : {X : Type 0} (p q : X → Bool) (xs : List X) → All (λ x. p x ≡ q x) xs → find p xs ≡ find q xs
 find-agree p q [] same = refl
@@ -129,18 +151,5 @@ find-agree {X} p q (x ∷ xs) same =
 pub prefix-trans : {A : Type 0} (xs ys zs : List A) → IsPrefixOf xs ys → IsPrefixOf ys zs → IsPrefixOf xs zs
 prefix-trans {A = A} xs ys zs p q = (p.0 ++ q.0, sym (append_assoc xs p.0 q.0) ∙ ap (λ (l : List A). l ++ q.0) p.1 ∙ q.1)
 
-pub length-prefix : {A : Type 0} (xs ys : List A) → IsPrefixOf xs ys → length xs ≤ length ys
-length-prefix {A = A} xs ys p =
-    let size : length ys ≡ length xs + length p.0 = ap (λ (l : List A). length l) (sym p.1) ∙ length-append xs p.0 in
-    omega (arith, size)
-
-pub take-prefix : {A : Type 0} (n k : ℕ) (xs : List A) → n ≤ k → IsPrefixOf (take n xs) (take k xs)
-take-prefix {A = A} n k xs below =
-    (drop n (take k xs), ap (λ (l : List A). l ++ drop n (take k xs)) (sym (take-take n k xs below)) ∙ take-append-drop n (take k xs))
-
 pub take-prefix_whole : {A : Type 0} (n : ℕ) (xs : List A) → IsPrefixOf (take n xs) xs
 take-prefix_whole n xs = (drop n xs, take-append-drop n xs)
-
--- a list that only grew, cut at its old length, is the old list
-pub take-of_prefix : {A : Type 0} (xs ys : List A) → IsPrefixOf xs ys → take (length xs) ys ≡ xs
-take-of_prefix {A = A} xs ys p = ap (λ (l : List A). take (length xs) l) (sym p.1) ∙ take_at xs p.0 (length xs) refl

@@ -103,6 +103,7 @@ struct OneForOne<M> {
 }
 
 impl<M: Mapping> OneForOne<M> {
+    /// The mapping at work, not yet spent.
     fn new(mapping: M) -> Self
         ensures mapping { result.mapping ≡ mapping }
         ensures unspent { result.is_spent ≡ false }
