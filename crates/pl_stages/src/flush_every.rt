@@ -52,6 +52,7 @@ impl FlushEvery {
     }
 }
 
+/// Whether the event is a flush.
 fn is_flush(event: &Event) -> bool
     ensures { result ≡ is_flush event.now }
 {

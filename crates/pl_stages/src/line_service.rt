@@ -58,6 +58,7 @@ impl BareStage for LineService {
     ghost lawful = { λ s. line_service-lawful };
 }
 
+/// Whether the event is the command to quit.
 fn is_quit(event: &Event) -> bool
     ensures { result ≡ is_quit event.now }
 {
@@ -88,6 +89,7 @@ fn write_replies(
     Ok(())
 }
 
+/// Carries a command out, and writes its reply.
 fn answer(totals: &mut Totals, command: &Command, down: &mut Vec<Event>) -> Result<(), AllocError>
     ensures down { OnOk result ((additions : List Addition) → KeepsTotals totals.old additions
         → down.new.items ≡ down.old.items ++ replies_to additions (Event.Read (Message.Command command.now))) }
@@ -109,12 +111,14 @@ fn answer(totals: &mut Totals, command: &Command, down: &mut Vec<Event>) -> Resu
     Ok(())
 }
 
+/// The write of a reply.
 fn written(reply: Reply) -> Event
     ensures { result ≡ Event.Write (Message.Reply reply) }
 {
     Event::Write(Message::Reply(reply))
 }
 
+/// What is replied to a line that is no command.
 fn fault_of(caught: Caught) -> Fault
     ensures { result ≡ fault_of caught }
 {

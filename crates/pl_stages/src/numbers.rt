@@ -20,12 +20,14 @@ pub(crate) fn number_in(text: &[u8]) -> Option<u32>
     digits.parse().ok()
 }
 
+/// Whether a text is a number: one digit or more, [`MAX_DIGITS`] at most, and no zero in front of others.
 fn is_number(text: &[u8]) -> bool
     ensures { result ≡ is_number text.now }
 {
     !text.is_empty() && text.len() <= MAX_DIGITS && are_digits(text) && has_no_leading_zero(text)
 }
 
+/// Whether each byte is a decimal digit.
 fn are_digits(text: &[u8]) -> bool
     ensures { result ≡ list_all is_ascii_digit text.now }
 {

@@ -82,6 +82,7 @@ fn add_marked(text: &mut Vec<u8>, mark: &[u8], marked: &[u8]) -> Result<(), Allo
     text.extend_from_slice(marked)
 }
 
+/// The text of a fault, without the line's end.
 fn fault_text(fault: Fault) -> &'static [u8]
     ensures { result.now ≡ fault_text fault }
 {

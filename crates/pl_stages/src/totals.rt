@@ -19,6 +19,7 @@ pub(crate) struct Totals {
 }
 
 impl Totals {
+    /// Totals that hold no key.
     pub(crate) fn new(alloc: Global) -> Self
         ensures { KeepsTotals result [] }
     {
@@ -51,6 +52,7 @@ impl Totals {
         Ok(Reply::Total(total))
     }
 
+    /// The total of a key, or None where it is not held.
     fn found(&self, key: &Key) -> Option<u64>
         ensures { result ≡ kept_total key.now self.now }
     {
