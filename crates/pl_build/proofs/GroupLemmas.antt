@@ -44,9 +44,6 @@ few loops left i groups past sum =
     let all = ap (λ (xs : List (Bor (List ℕ) × ℕ)). sum_by (λ group. group.1) xs) (take_all i groups past) in
     sym (le-leb (executor_count loops (names_and_sizes groups)) MAX_EXECUTORS (omega (arith, count, all)))
 
-pub too_many_loops : (loops : ℕ) (groups : List (Bor (List ℕ) × ℕ)) → MAX_EXECUTORS < loops → false ≡ leb (executor_count loops (names_and_sizes groups)) MAX_EXECUTORS
-too_many_loops loops groups more = sym (lt-leb (executor_count loops (names_and_sizes groups)) MAX_EXECUTORS (omega arith))
-
 pub not_doubled : (groups rest : List (Bor (List ℕ) × ℕ)) (first : Bor (List ℕ) × ℕ) → groups ≡ first ∷ rest → list_any (λ group. bytes_eq group.0.now first.0.now) rest ≡ false → has_double (names_and_sizes groups) ≡ has_double (names_and_sizes rest)
 not_doubled groups rest first e fresh =
     ap (λ (t : List (Bor (List ℕ) × ℕ)). has_double (names_and_sizes t)) e

@@ -1,12 +1,9 @@
--- Lists through `filter`, `reverse` and `take_while`.
-use Rattle.std.proofs.Common.{◌≡◌, ℕ, ◌+◌, ◌<◌, ◌≤◌, Bool, true, false, ◌&&◌, not, cond, List, [], ◌∷◌, ◌++◌, length, take, drop, filter, reverse, sym, refl, ap, ◌∙◌, arith}
+-- Lists through `filter` and `take_while`.
+use Rattle.std.proofs.Common.{◌≡◌, ℕ, ◌+◌, ◌<◌, ◌≤◌, Bool, true, false, ◌&&◌, not, cond, List, [], ◌∷◌, ◌++◌, length, take, drop, filter, sym, refl, ap, ◌∙◌, arith}
 use Rattle.std.specs.List.{list_all, take_while, prefix_len, position_or_len, count_by}
 use Rattle.std.proofs.lemmas.Bool.{and_parts}
-use Rattle.std.proofs.lemmas.List.{reverse-append, take-append-drop, length-append}
+use Rattle.std.proofs.lemmas.List.{take-append-drop, length-append}
 use Rattle.std.proofs.lemmas.List.Sums.{take_while-cons, sum_by-cons}
-
-pub reverse-append_one : {X : Type 0} (x : X) (xs : List X) → reverse (x ∷ xs) ≡ reverse xs ++ x ∷ []
-reverse-append_one x xs = reverse-append (x ∷ []) xs
 
 -- what stands before the first element that fails, with an element more at the end
 pub take_while_push : {X : Type 0} (p : X → Bool) (xs : List X) (x : X) → take_while p (xs ++ x ∷ []) ≡ take_while p xs ++ cond (list_all p xs && p x) (x ∷ []) []

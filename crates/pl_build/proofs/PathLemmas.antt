@@ -11,8 +11,8 @@ use Rattle.std.proofs.lemmas.List.Filters.{length-filter_both, sum_by-filter_bot
 use Rattle.std.proofs.lemmas.List.Folds.{find_at}
 use Rattle.std.proofs.lemmas.Option.{slice_get-get_or, slice_get_past}
 use Rattle.std.proofs.lemmas.Simd.{map-map}
-use Rattle.pl_event.proofs.Lists.{sum_by-map, filter-map, map-reverse, take_while-map, list_all_push, position_or_len-map}
-use Rattle.pl_build.proofs.Lists.{reverse-append_one, take_while_push, take_while_all, position_or_len-filter, first_within}
+use Rattle.pl_event.proofs.Lists.{All-reverse, sum_by-map, filter-map, map-reverse, take_while-map, list_all_push, position_or_len-map}
+use Rattle.pl_build.proofs.Lists.{take_while_push, take_while_all, position_or_len-filter, first_within}
 use Rattle.pl_event.specs.declared.events.Event.{Event}
 use Rattle.pl_event.specs.declared.stages.Direction.{Direction}
 use Rattle.pl_event.specs.declared.stages.Direction.TheVariants.{Inbound, Outbound, Turn}
@@ -94,12 +94,6 @@ chains_within {S = S} meaning handlers =
     let turned = length-reverse (filter (is_outbound meaning) (take n handlers)) in
     omega (arith, both, cut, parts, sum, turned)
 
-All-reverse : {X : Type 0} (P : X → Type 0) (xs : List X) → All P xs → All P (reverse xs)
-All-reverse P [] h = h
-All-reverse {X = X} P (x ∷ xs) h =
-    let Q : List X → Type 0 = λ ys. All P ys in
-    subst Q (sym (reverse-append_one x xs)) (All-append P (reverse xs) (x ∷ []) (All-reverse P xs (All-tail P x xs h)) (All-cons P x [] (All-head P x xs h) (All-nil P)))
-
 -- no outbound handler is the turn, so the inbound ones have all turns
 abbrev turn_count : Direction → ℕ
 turn_count d = cond (path.is_turn d) 1 0
@@ -159,9 +153,6 @@ IsPath-split {S = S} meaning stands_after pipeline inbound outbound executors h 
     }
 
 -- ---- executors
-
-pub length-hop_executors : {S : Type 0} (executor : Option (List ℕ) → ℕ) (meaning : S → Meaning) (handlers : List (NamedStage S)) → length (hop_executors executor meaning handlers) ≡ length (inbound_handlers meaning handlers) + length (outbound_handlers meaning handlers) + 2
-length-hop_executors {S = S} executor meaning handlers = simp (length-append, length-map) (omega arith)
 
 map_agree : {X Y : Type 0} (f g : X → Y) (xs : List X) → All (λ x. f x ≡ g x) xs → map f xs ≡ map g xs
 map_agree f g [] h = refl

@@ -3,8 +3,8 @@
 /// The most executors of a session: its loops, and those of each group.
 pub const MAX_EXECUTORS: u16 = 16;
 
-/// The most handlers of a pipeline.
-pub const MAX_HANDLERS: usize = 32;
+/// The most handlers of a pipeline, as a length of a list.
+pub const MAX_HANDLERS: usize = pl_event::MAX_HANDLERS as usize;
 
 /// The most bytes of the name of a handler or a group.
 pub const MAX_NAME_LENGTH: usize = 64;
