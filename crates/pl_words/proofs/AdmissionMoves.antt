@@ -14,7 +14,7 @@ use Rattle.pl_words.specs.declared.status.Status.TheVariants.{Accepting, Closing
 use Rattle.pl_words.specs.declared.admission_steps.AdmissionNotes.{AdmissionNotes}
 use Rattle.pl_words.specs.Phases.{rank, phase_of_bits, phase_in, begun}
 use Rattle.pl_words.specs.AdmissionRule.{total, seats_of, counted, given, IsSeat, IsAdmission, Sits, Rule, tried, given_up, Tried, TakenBack, Looked, GivenUp, Begun, Finished, owner_notes, fresh_notes, sender_notes, spent_notes, dealt, gathered}
-use Rattle.pl_words.proofs.AdmissionSums.{total_set, total_snoc, total_bound, total_least, total_whole, total_same}
+use Rattle.pl_words.proofs.AdmissionSums.{total_set, total_set_snoc, total_set_both, total_bound, total_least, total_whole, total_same}
 
 -- Phases
 
@@ -338,12 +338,9 @@ deals senders id seats v is some_left s r at =
     let idle : v.trial ≡ 0 = ap (λ u. u.trial) is in
     let left : AdmissionNotes = dealt v in
     let fits : IsSeat r.owner r.phase r.run id left = record { owns = f.owns; counts = f.counts; made = omega arith; trial = omega arith; seen = f.seen; late = f.late } in
-    let counted' = total_set counted s.views id v left at in
-    let counted'' = total_snoc counted (set s.views id left) sender_notes in
-    let given' = total_set given s.views id v left at in
-    let given'' = total_snoc given (set s.views id left) sender_notes in
-    let seats' = total_set seats_of s.views id v left at in
-    let seats'' = total_snoc seats_of (set s.views id left) sender_notes in
+    let counted' = total_set_snoc counted s.views id v left sender_notes at in
+    let given' = total_set_snoc given s.views id v left sender_notes at in
+    let seats' = total_set_snoc seats_of s.views id v left sender_notes at in
     let word = r.word in
     let all = r.seats in
     record {
@@ -387,12 +384,9 @@ gathers senders id other v w owns s r at away there =
       seen = omega arith;
       late = λ h. mine.1 ∙ ⊎_elim (λ (x : 0 < v.trial + v.late). saw_closed r.phase f (f.late x)) (λ (x : 0 < w.trial + w.late). saw_closed r.phase g (g.late x)) (either_some (v.trial + v.late) (w.trial + w.late) (omega arith));
     } in
-    let counted' = total_set counted s.views id v both at in
-    let counted'' = total_set counted (set s.views id both) other w spent_notes there in
-    let given' = total_set given s.views id v both at in
-    let given'' = total_set given (set s.views id both) other w spent_notes there in
-    let seats' = total_set seats_of s.views id v both at in
-    let seats'' = total_set seats_of (set s.views id both) other w spent_notes there in
+    let counted' = total_set_both counted s.views id other v both w spent_notes at there in
+    let given' = total_set_both given s.views id other v both w spent_notes at there in
+    let seats' = total_set_both seats_of s.views id other v both w spent_notes at there in
     let word = r.word in
     let all = r.seats in
     record {

@@ -15,6 +15,20 @@ pub total_snoc : (f : AdmissionNotes → ℕ) (notes : List AdmissionNotes) (w :
 total_snoc f [] w = omega arith
 total_snoc f (x ∷ xs) w = let r = total_snoc f xs w in omega arith
 
+-- one seat's notes change, and a seat is added, or another one's notes change too
+pub total_set_snoc : (f : AdmissionNotes → ℕ) (notes : List AdmissionNotes) (by : ℕ) (v w new : AdmissionNotes) → get_elem? notes by ≡ some v → total f (set notes by w ++ new ∷ []) + f v ≡ total f notes + f w + f new
+total_set_snoc f notes by v w new at =
+    let changed = total_set f notes by v w at in
+    let added = total_snoc f (set notes by w) new in
+    omega arith
+
+pub total_set_both : (f : AdmissionNotes → ℕ) (notes : List AdmissionNotes) (by other : ℕ) (v w u new : AdmissionNotes) → get_elem? notes by ≡ some v → get_elem? (set notes by w) other ≡ some u
+    → total f (set (set notes by w) other new) + f v + f u ≡ total f notes + f w + f new
+total_set_both f notes by other v w u new at there =
+    let changed = total_set f notes by v w at in
+    let last = total_set f (set notes by w) other u new there in
+    omega arith
+
 -- where no seat has more than the seats for which it stands allow, nor have all together
 pub total_bound : (f : AdmissionNotes → ℕ) (notes : List AdmissionNotes) → ((by : ℕ) (v : AdmissionNotes) → get_elem? notes by ≡ some v → f v ≤ v.seats * 35184372088832) → total f notes ≤ total seats_of notes * 35184372088832
 total_bound f [] h = omega arith

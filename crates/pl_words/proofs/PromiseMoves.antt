@@ -6,6 +6,7 @@ use native.Mathlib.Decide.{ℕ_discrete}
 use lib.ListN.{get_elem?}
 use lib.Seq.{map-set}
 use Rattle.std.proofs.lemmas.List.{length-replicate, set-get_or}
+use Rattle.std.proofs.lemmas.Option.{none-some}
 use prog.Atomic.{either}
 use Rattle.atomic_table.specs.Table.{State, step, keeps, opening, Allows, Splits}
 use Rattle.atomic_table.proofs.Lists.{at_set, at_snoc, set_else, at_longer}
@@ -31,12 +32,6 @@ pub word_at : (outcomes : List (Option Outcome)) (i : ℕ) → get_or (map code_
 word_at [] i = refl
 word_at (x ∷ xs) zero = refl
 word_at (x ∷ xs) (suc i) = word_at xs i
-
-pub some-same : (o p : Outcome) → Some o ≡ Some p → o ≡ p
-some-same o p e = cc
-
-none-some : (o : Outcome) → None ≢ Some o
-none-some o e = cc
 
 -- Lists of outcomes
 

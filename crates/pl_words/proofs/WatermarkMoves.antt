@@ -34,9 +34,6 @@ pub word-set : (k : ℕ) (b : Bool) (n : ℕ) → n ≡ bool_byte b → 2 * k + 
 word-set k false n e = omega arith
 word-set k true n e = omega arith
 
-pub flag-set : (k : ℕ) (b : Bool) (n : ℕ) → n ≡ bool_byte b → flag_in (2 * k + n) ≡ b
-flag-set k b n e = ap flag_in (word-set k b n e) ∙ flag_in-word k b
-
 -- the head sets the mark
 pub sets : (slots id old x : ℕ) (b : Bool) (me : Sits) → me.0.is_head ≡ true → me.0.sets ≡ old → x ≡ 2 * (old + 1) + bit b
     → Allows (Rule tt) slots id me 0 (λ _. x) (λ _. MarkSet (step slots 0 x 0 none) me x)

@@ -1,6 +1,7 @@
 use Rattle.std.proofs.Common.{ℕ, List, get_or, ap, sym, ◌∙◌}
+use Rattle.std.proofs.lemmas.Option.{same_Some}
 use Rattle.pl_words.specs.PromiseRule.{code_of}
-use Rattle.pl_words.proofs.PromiseMoves.{word_at, some-same}
+use Rattle.pl_words.proofs.PromiseMoves.{word_at}
 use Rattle.pl_words.proofs.laws.promise_law.Goals as goal
 
 pub returns-clause-word : goal.returns-clause-word
@@ -12,4 +13,4 @@ returns-clause-settled c = λ size words notes v n outcome r a seen. r.by_seats 
 
 pub returns-clause-agree : goal.returns-clause-agree
 returns-clause-agree c = λ size words notes v w n first second r a b one other.
-    some-same first second (sym ((r.each a.0 v a.1).seen.1 n first one) ∙ (r.each b.0 w b.1).seen.1 n second other)
+    same_Some first second (sym ((r.each a.0 v a.1).seen.1 n first one) ∙ (r.each b.0 w b.1).seen.1 n second other)
