@@ -16,9 +16,8 @@ use Rattle.pl_context.specs.Stops.{StopsView, has_stopped}
 use Rattle.pl_context.specs.OutputsViews.{OutputsView, PutsAll, Appends}
 use Rattle.pl_context.specs.Ports.{as_items, all_go_on, end_after, numbered, offered, put_out, port_after}
 use Rattle.pl_context.specs.ContextViews.{ContextView}
-use Rattle.pl_event.specs.declared.outcomes.Cause.TheVariants.{Memory}
-use Rattle.pl_context.specs.Contexts.{last_item, closed, Closes, ups, downs, offers, Runs, RunsOut}
-use Rattle.pl_context.proofs.PortLemmas.{puts_all-append, puts_all-from, appends-append, all_go_on-events, all_go_on-append, numbered-append, length-numbered}
+use Rattle.pl_context.specs.Contexts.{last_item, Closes, ups, downs, offers, Runs}
+use Rattle.pl_context.proofs.PortLemmas.{puts_all-append, appends-append, all_go_on-events, all_go_on-append, numbered-append, length-numbered}
 
 -- both ports were given the last item
 pub closes-from : {S : Type 0} (c : ContextView S) (standing : Standing) (before mid after : OutputsView) (i j : Item) (up down : Port)
@@ -152,14 +151,6 @@ was-open p q is e o = by p.is_open (sym (ap (λ (t : Port). t.is_open) e) ∙ o)
     by true h = refl
     by false h = h
 
--- and has been given that many at most
-pub made-after : (p q : Port) (is : List Item) → q ≡ port_after is p → q.made ≤ p.made + length is
-made-after p q is e = subst (λ (k : ℕ). k ≤ p.made + length is) (sym (ap (λ (t : Port). t.made) e)) (by p.is_open)
-  where
-    by : (b : Bool) → cond b (p.made + length is) p.made ≤ p.made + length is
-    by true = omega arith
-    by false = omega arith
-
 pub length-items : (xs : List Event) → length (as_items xs) ≡ length xs
 length-items xs = length-map xs (λ (y : Event). item.Event y)
 
@@ -215,23 +206,6 @@ module _ {S : Type 0} (meaning : S → Meaning) (stands_after : S → List Event
 
       below_is : (xs : List Event) → stands_after c.stage xs → down ≡ port_after (downs (meaning c.stage) xs x) c.down
       below_is xs h = f ∙ ap (λ (is : List Item). port_after is c.down) (downs_is xs h)
-
-  -- a context that found no memory, and then failed
-  pub runs-out-from : (is_spent : S → Bool) (c mid c' : ContextView S) (x : Event) (before between after : OutputsView)
-      → mid ≡ record c { stage = mid.stage } → between.items ≡ before.items → between.stopped ≡ before.stopped → before.room ≤ between.room
-      → Closes (stands.Failed Memory) mid between c' after
-      → (is_spent mid.stage ≡ false → (xs : List Event) → stands_after c.stage xs → before.room < length (offers c.up c.down (ups (meaning c.stage) xs x) (downs (meaning c.stage) xs x)))
-      → RunsOut meaning stands_after is_spent c x before c' after
-  runs-out-from is_spent c mid c' x before between after same i s r closes why =
-      let stage : c'.stage ≡ mid.stage = ap (λ (t : ContextView S). t.stage) closes.context in
-      record {
-        closes = record {
-          context = closes.context ∙ ap (λ (t : ContextView S). closed (stands.Failed Memory) t) same ∙ ap (λ (t : S). closed (stands.Failed Memory) (record c { stage = t })) (sym stage);
-          out = puts_all-from before between after (offers c.up c.down (item.Fail Memory ∷ []) (item.Fail Memory ∷ [])) i s r
-              (subst (λ (t : ContextView S). PutsAll between (offers t.up t.down (item.Fail Memory ∷ []) (item.Fail Memory ∷ [])) after) same closes.out);
-        };
-        why = λ unspent. why (ap is_spent (sym stage) ∙ unspent);
-      }
 
 -- what a step offers, whichever way it was made
 pub offers-made : (m : Meaning) (xs : List Event) (x : Event) (up down : Port) (above below : List Event) (turned : Turned) (n : ℕ)

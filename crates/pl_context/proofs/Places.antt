@@ -137,11 +137,6 @@ module _ (s : StopsView) (up down flags : Port) where
       let some : HasPlaces s (lane_of down) = places-for s (lane_of up ++ lane_of down ++ lane_of flags) (lane_of down) h (λ q m. within-left (lane_of up ++ lane_of down) (lane_of flags) q (within-right (lane_of up) (lane_of down) q m)) in
       subst (λ (t : List Lane). HasPlaces s t) (lane_of-open down o) some
 
-  pub places-flags : HasPlaces s (lane_of up ++ lane_of down ++ lane_of flags) → flags.is_open ≡ true → HasPlaces s (flags.lane ∷ [])
-  places-flags h o =
-      let some : HasPlaces s (lane_of flags) = places-for s (lane_of up ++ lane_of down ++ lane_of flags) (lane_of flags) h (within-right (lane_of up ++ lane_of down) (lane_of flags)) in
-      subst (λ (t : List Lane). HasPlaces s t) (lane_of-open flags o) some
-
 -- lanes that have places have them after one item was put on an open lane of theirs
 places-after-one : (before after : OutputsView) (p : Port) (i : Item) (lanes : List Lane) (b : Bool) → (b ≡ true → AreAmong (p.lane ∷ []) lanes) → HasPlaces before.stopped lanes
     → PutsAll before (if b then numbered p.lane p.made (i ∷ []) else []) after → HasPlaces after.stopped lanes

@@ -13,7 +13,6 @@ use Rattle.std.proofs.lemmas.Bool.{cases_eq, eq-eqb, eqb-true, ne_eqb, false≢t
 use Rattle.pl_event.specs.declared.envelopes.Envelope.{Envelope}
 use Rattle.pl_event.specs.declared.envelopes.Kind.{Kind}
 use Rattle.pl_event.specs.declared.envelopes.Kind.TheVariants.{Data, Flags}
-use Rattle.pl_event.specs.declared.envelopes.Lane.{Lane}
 use Rattle.pl_event.proofs.Lists.{position-map, remove-map, filter-map, slice_get_none, count_by-map}
 use Rattle.pl_context.specs.declared.added.Added.{Added}
 use Rattle.pl_context.specs.declared.added.Added.TheVariants.{Last, Refused, Discarded}
@@ -21,7 +20,7 @@ use Rattle.pl_context.specs.declared.waiting.Late.{Late}
 use Rattle.pl_context.specs.OutputsViews.{added_items, failure_of, stopped_after as put_stopped}
 use Rattle.pl_context.specs.Backlogs.{BacklogView, Adds, handed_back}
 use Rattle.pl_context.specs.Stops.{StopsView, no_stops, has_stopped}
-use Rattle.pl_context.specs.WaitingViews.{WaitingView, Entry, Aged, is_for, is_aged_for, late, stops_for, room_for, HoldsAged, Holds, Misses, WaitingAdds, Takes}
+use Rattle.pl_context.specs.WaitingViews.{WaitingView, Entry, Aged, is_for, is_aged_for, late, stops_for, room_for, Holds, Misses, WaitingAdds, Takes}
 use Rattle.pl_context.proofs.Firsts.{IsFirst, position-first, find-Some-position, find-None-position}
 use Rattle.pl_context.proofs.WaitingLemmas.{entry_of, holds-none, holds-more, front-first, count-waits, less-holds, less-misses}
 

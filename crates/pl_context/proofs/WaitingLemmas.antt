@@ -1,20 +1,20 @@
 -- One list, kept by target: what an addition, a taking and a putting back do to both.
-use Rattle.std.proofs.Common.{◌≡◌, ◌≢◌, ℕ, zero, suc, ◌+◌, ◌<◌, ◌≤◌, Bool, true, false, cond, eqb, Option, Some, None, List, [], ◌∷◌, ◌++◌, length, map, filter, get_or, set, take, drop, refl, sym, ap, ◌∙◌, subst, arith, inl, inr, length-append, append-nil}
-use Rattle.std.specs.List.{All, AllPairs, find, position, insert, remove, slice_get, slice_set, count_by}
+use Rattle.std.proofs.Common.{◌≡◌, ◌≢◌, ℕ, zero, suc, ◌+◌, ◌<◌, Bool, true, false, cond, Some, List, [], ◌∷◌, ◌++◌, length, map, filter, get_or, set, take, drop, refl, sym, ap, ◌∙◌, subst, arith, inl, inr, append-nil}
+use Rattle.std.specs.List.{All, find, insert, remove, slice_get, count_by}
 use Rattle.std.specs.Option.{option_map}
 use Rattle.std.proofs.lemmas.List.{map-append, map-set, drop-map, length-map, length-set, get_or-map}
 use Rattle.std.proofs.Math.Seq.{map-set_same}
 use Rattle.std.proofs.lemmas.List.Sums.{length-filter}
-use Rattle.std.proofs.lemmas.List.Elements.{All-nil, All-push, All-append, All-take, All-drop, All-weaker, filter-append}
+use Rattle.std.proofs.lemmas.List.Elements.{All-push, All-append, All-take, All-drop, All-weaker, filter-append}
 use Rattle.std.proofs.lemmas.List.Quantifiers.{all_pairs_push, all_pairs_remove}
-use Rattle.std.proofs.lemmas.Option.{slice_get-map, slice_get_within, slice_get-get_or, get_or_from_slice_get, same_Some}
+use Rattle.std.proofs.lemmas.Option.{slice_get-map, slice_get-get_or, same_Some}
 use Rattle.std.proofs.lemmas.Bool.{cases_eq, eq-eqb, eqb-true, ne_eqb}
 use Rattle.pl_event.specs.declared.envelopes.Envelope.{Envelope}
-use Rattle.pl_event.proofs.Lists.{at_set_same, at_set_other, find-map, position-map, remove-map, option_map-map, count_by-map}
+use Rattle.pl_event.proofs.Lists.{at_set_same, at_set_other, option_map-map, count_by-map}
 use Rattle.pl_context.specs.declared.waiting.Late.{Late}
 use Rattle.pl_context.specs.Backlogs.{BacklogView}
 use Rattle.pl_context.specs.WaitingViews.{WaitingView, Entry, Aged, is_for, is_aged_for, late, room_for, HoldsAged, Holds, Misses}
-use Rattle.pl_context.proofs.Firsts.{IsFirst, find-filter, position-first, position-is, find-first, filter-remove_first, filter-remove_other}
+use Rattle.pl_context.proofs.Firsts.{IsFirst, find-filter, filter-remove_first, filter-remove_other}
 
 abbrev pub entry_of : {A : Type 0} → Aged A → Entry A
 entry_of i = i.entry

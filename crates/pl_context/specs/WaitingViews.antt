@@ -1,5 +1,5 @@
 -- Envelopes that wait for several targets: one list that nobody stores, kept by target.
-use Rattle.std.specs.Prelude.{◌≡◌, ◌≢◌, ◌↔◌, ℕ, ◌+◌, ◌<◌, ◌==◌, Bool, cond, nat_lt, List, ◌++◌, length, map, filter, find, position, remove, slice_get, get_or, All, AllPairs, Option, Some, None, MatchOption, true, false}
+use Rattle.std.specs.Prelude.{◌≡◌, ◌≢◌, ◌↔◌, ℕ, ◌+◌, ◌<◌, ◌==◌, Bool, cond, nat_lt, List, ◌++◌, length, map, filter, position, remove, slice_get, get_or, All, AllPairs, Option, Some, None, MatchOption, true, false}
 use Rattle.std.specs.Option.{option_map_or}
 use Rattle.pl_event.specs.declared.envelopes.Envelope.{Envelope}
 use Rattle.pl_context.specs.declared.added.Added.{Added}

@@ -22,8 +22,8 @@ use pl_event::{Cause, Direction, Envelope, Event, Item, Kind, Lane, Stage, Stage
 use std::alloc::Global;
 use std::marker::Model;
 
-/// A pipeline has at most this many handlers: the hops of its lanes go up to one more, which is the head's.
-pub const MAX_HANDLERS: u16 = 32;
+/// The most handlers of a pipeline, as a hop.
+pub const MAX_HANDLERS: u16 = pl_event::MAX_HANDLERS;
 
 /// A stage at its place in a channel (Netty's `ChannelHandlerContext`).
 ///

@@ -29,15 +29,4 @@ invariant_of-self g c = record {
 pub returns : goal.returns
 returns g c =
     rw (← c.self.view_is)
-    (closes-from (record {
-      stage = c.self.inside.stage;
-      channel = c.self.inside.channel;
-      hop = c.self.inside.hop;
-      taken = c.self.inside.taken;
-      flags_taken = c.self.inside.flags_taken;
-      standing = c.self.inside.standing;
-      failed_by_call = c.self.inside.failed_by_call;
-      up = c.self.inside.up;
-      down = c.self.inside.down;
-      flags = c.self.inside.flags;
-    }) c.args.standing c.args.outputs.now c.put.new.outputs c.put-2.new.outputs c.last_item.result c.last_item-2.result c.put.new.self c.put-2.new.self c.last_item.ensures c.last_item-2.ensures c.put.ensures.port c.put-2.ensures.port c.put.ensures.out c.put-2.ensures.out)
+    (closes-from _ c.args.standing c.args.outputs.now c.put.new.outputs c.put-2.new.outputs c.last_item.result c.last_item-2.result c.put.new.self c.put-2.new.self c.last_item.ensures c.last_item-2.ensures c.put.ensures.port c.put-2.ensures.port c.put.ensures.out c.put-2.ensures.out)

@@ -62,16 +62,5 @@ returns-clause-runs g c =
     let above = λ (xs : List Event) (h : g.S.Stage.stands_after c.self.inside.stage xs). c.in_ok-turned.ensures.up xs h ∙ ap (λ (t : List Event). t ++ (g.S.Stage.meaning c.self.inside.stage).up xs c.args.event) c.self.invariant.up_empty in
     let below = λ (xs : List Event) (h : g.S.Stage.stands_after c.self.inside.stage xs). c.in_ok-turned.ensures.down xs h ∙ ap (λ (t : List Event). t ++ (g.S.Stage.meaning c.self.inside.stage).down xs c.args.event) c.self.invariant.down_empty in
     rw (← c.self.view_is)
-    (runs-from g.S.Stage.meaning g.S.Stage.stands_after (record {
-      stage = c.self.inside.stage;
-      channel = c.self.inside.channel;
-      hop = c.self.inside.hop;
-      taken = c.self.inside.taken;
-      flags_taken = c.self.inside.flags_taken;
-      standing = c.self.inside.standing;
-      failed_by_call = c.self.inside.failed_by_call;
-      up = c.self.inside.up;
-      down = c.self.inside.down;
-      flags = c.self.inside.flags;
-    }) c.args.event c.args.outputs.now c.put_made.new.outputs c.step.new.self c.put_made.new.up c.put_made.new.down c.step.new.up.items c.step.new.down.items c.in_ok-turned.turned
+    (runs-from g.S.Stage.meaning g.S.Stage.stands_after _ c.args.event c.args.outputs.now c.put_made.new.outputs c.step.new.self c.put_made.new.up c.put_made.new.down c.step.new.up.items c.step.new.down.items c.in_ok-turned.turned
     c.in_ok-turned.ensures.stands c.step.ensures.same_meaning above below c.in_ok-turned.ensures.turned c.in_ok-put_made.ensures.up c.in_ok-put_made.ensures.down c.in_ok-put_made.ensures.out)

@@ -1,4 +1,4 @@
-use Rattle.std.proofs.Common.{◌≡◌, ◌<◌, ℕ, Some, [], length}
+use Rattle.std.proofs.Common.{◌≡◌, ◌<◌, ℕ, Some, []}
 use Rattle.std.specs.List.{slice_get}
 use Rattle.pl_context.specs.declared.waiting.Late.{Late}
 use Rattle.pl_context.specs.Backlogs.{BacklogView}

@@ -1,4 +1,4 @@
-use Rattle.std.proofs.Common.{◌≡◌, ℕ, [], length, map, take}
+use Rattle.std.proofs.Common.{◌≡◌, [], map, take}
 use Rattle.std.specs.List.{All}
 use Rattle.pl_context.specs.Stops.{no_stops}
 use Rattle.pl_context.proofs.waiting.Waiting.new.Given as goal

@@ -1,6 +1,6 @@
-use Rattle.std.proofs.Common.{◌≡◌, ◌<◌, ℕ, List, length, refl, sym, subst, ap, ◌∙◌, arith}
+use Rattle.std.proofs.Common.{length, refl, sym, subst, ap, ◌∙◌, arith}
 use Rattle.std.proofs.lemmas.Option.{slice_get_read}
-use Rattle.pl_context.specs.WaitingViews.{WaitingView, Entry, Misses, stops_for}
+use Rattle.pl_context.specs.WaitingViews.{WaitingView, Misses, stops_for}
 use Rattle.pl_context.proofs.WaitingLemmas.{back-holds}
 use Rattle.pl_context.proofs.WaitingCalls.{missed-there, missed-room, stops-kept}
 use Rattle.pl_context.proofs.waiting.Waiting.put_back.Goals as goal
