@@ -3,10 +3,14 @@ use Rattle.std.proofs.Common.{◌≡◌, ℕ, ◌-◌, ◌<◌, List, [], ◌∷
 use Rattle.std.proofs.lemmas.List.{take-append-drop}
 use Rattle.std.proofs.lemmas.Bool.Decides.{nat_tests}
 use Rattle.pl_head.specs.declared.heads.OutStep.TheVariants.{Wrote}
-use Rattle.pl_head.specs.Marks.{Removed}
+use Rattle.pl_event.specs.declared.events.Event.{Event}
+use Rattle.pl_head.specs.Marks.{Change, Removed}
+use Rattle.pl_head.specs.Writes.{out}
+use Rattle.pl_head.specs.Buffers.{WriteBufferView, BufferStands}
 use Rattle.pl_event.specs.declared.outcomes.Cause.{Cause}
-use Rattle.pl_head.specs.HeadStand.{step_sizes}
-use Rattle.pl_head.proofs.HeadSteps.{none_waits}
+use Rattle.pl_head.specs.HeadStand.{BufferAfter, step_sizes}
+use Rattle.pl_head.proofs.HeadSteps.{none_waits, some_waits}
+use Rattle.pl_head.proofs.HeadAfter.{unfailed}
 
 pub wrote_sizes : (n before after : ℕ) → 0 < n → step_sizes (Wrote n) before after ≡ Removed (before - after) ∷ []
 wrote_sizes n before after some =
@@ -26,9 +30,16 @@ pub idle_or : (failure : Option Cause) {written : Bool} → written ≡ true →
 idle_or None e = e
 idle_or (Some cause) e = refl
 
-pub not_idle : (failure : Option Cause) {written : Bool} → is_some failure ≡ false → written ≡ false → (is_some failure || written) ≡ true → ⊥
+not_idle : (failure : Option Cause) {written : Bool} → is_some failure ≡ false → written ≡ false → (is_some failure || written) ≡ true → ⊥
 not_idle None none waits e = cc (waits, e)
 not_idle (Some cause) none waits e = cc none
+
+-- where a byte is offered, a head that has not failed is not idle
+pub never_idle : (failure : Option Cause) (accepted : List ℕ) (b : WriteBufferView) (ys zs : List Event) (ended : Bool) (sizes : List Change) (bytes : List ℕ) (size : ℕ) → is_some failure ≡ false → BufferAfter failure accepted b ys zs ended sizes → 0 < length bytes
+    → (BufferStands accepted b ys ended sizes → (length bytes ≡ size) × ((rest : List ℕ) × (accepted ++ (bytes ++ rest) ≡ out ys))) → (is_some failure || nat_le (length (out ys)) (length accepted)) ≡ true → ⊥
+never_idle failure accepted b ys zs ended sizes bytes size none s some offers idle =
+    let left = offers (unfailed failure accepted b ys zs ended sizes none s) in
+    not_idle failure none (sym (some_waits bytes left.1.0 (bytes ++ left.1.0) accepted (out ys) refl some left.1.1).1) idle
 
 pub unless_failed : (failure : Option Cause) {written : Bool} → is_some failure ≡ false → written ≡ (is_some failure || written)
 unless_failed None none = refl

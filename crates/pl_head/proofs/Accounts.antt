@@ -1,6 +1,6 @@
 -- Each write waits or is settled, whatever is added or settled.
-use Rattle.std.proofs.Common.{◌≡◌, ℕ, zero, suc, ◌+◌, ◌<◌, ◌≤◌, List, [], ◌∷◌, ◌++◌, length, take, drop, set, get_or, Option, Some, None, ap, sym, subst, ◌∙◌, refl, arith, append_assoc, append-nil, length-append, add-zero}
-use Rattle.std.proofs.lemmas.List.{length-set, map-append, take-append-drop, drop_all}
+use Rattle.std.proofs.Common.{◌≡◌, ℕ, zero, suc, ◌+◌, ◌<◌, ◌≤◌, List, [], ◌∷◌, ◌++◌, length, take, drop, set, get_or, Option, Some, None, ap, sym, subst, ◌∙◌, refl, arith, append-nil, length-append, add-zero}
+use Rattle.std.proofs.lemmas.List.{length-set, map-append, take-append-drop}
 use Rattle.std.proofs.Math.Seq.{drop-cons}
 use Rattle.pl_event.specs.declared.outcomes.Outcome.{Outcome}
 use Rattle.pl_head.specs.declared.outbound.Waiting.{Waiting}
@@ -122,18 +122,10 @@ told_some settled os i n a is h =
     let some : 0 < times n settled = subst (λ (k : ℕ). 0 < times k settled) (sym is) (times-at settled i n h) in
     settled_some n os (omega (arith, a.once n, some))
 
-pub get_or-there : {A : Type 0} (xs : List A) (i : ℕ) (d e : A) → i < length xs → get_or xs i d ≡ get_or xs i e
-get_or-there [] i d e h = absurd (omega (arith, h))
-get_or-there (x ∷ xs) zero d e h = refl
-get_or-there (x ∷ xs) (suc i) d e h = get_or-there xs i d e (omega (arith, h))
-
 -- ---- more are settled
 
 pub goes_on-same : (xs : List ℕ) → GoesOn xs xs
 goes_on-same xs = ([], sym (append-nil xs))
-
-pub goes_on-then : (xs ys zs : List ℕ) → GoesOn xs ys → GoesOn ys zs → GoesOn xs zs
-goes_on-then xs ys zs a b = (a.0 ++ b.0, b.1 ∙ ap (λ (t : List ℕ). t ++ b.0) a.1 ∙ append_assoc xs a.0 b.0)
 
 -- ---- accounts of messages
 
@@ -154,9 +146,3 @@ pub account-split : (queue : List Waiting) (place : ℕ) {settled : List ℕ} {o
 account-split queue place {settled = settled} {os = os} a =
     subst (λ (ns : List ℕ). Account ns settled os)
     (ap (λ (ws : List Waiting). numbers_of ws) (sym (take-append-drop place queue)) ∙ map-append (λ (w : Waiting). w.number) (take place queue) (drop place queue)) a
-
--- and nothing behind it
-pub account-end : (before : List ℕ) (queue : List Waiting) (place : ℕ) {settled : List ℕ} {os : List (Option Outcome)} → length queue ≤ place → Account (before ++ numbers_of (drop place queue)) settled os → Account before settled os
-account-end before queue place {settled = settled} {os = os} past a =
-    subst (λ (ns : List ℕ). Account ns settled os)
-    (ap (λ (ws : List Waiting). before ++ numbers_of ws) (drop_all place queue past) ∙ append-nil before) a

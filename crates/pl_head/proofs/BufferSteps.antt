@@ -1,5 +1,7 @@
 -- What a step of a write buffer leaves.
-use Rattle.std.proofs.Common.{◌≡◌, ℕ, ◌+◌, ◌-◌, ◌<◌, List, [], ◌∷◌, ◌++◌, length, Bool, true, false, if◌then◌else◌, Option, ap, sym, subst, ◌∙◌, arith, length-append, append-nil}
+use Rattle.std.proofs.Common.{◌≡◌, ℕ, ◌+◌, ◌-◌, ◌<◌, ◌≤◌, List, [], ◌∷◌, ◌++◌, length, drop, Bool, true, false, if◌then◌else◌, Option, ap, sym, subst, ◌∙◌, arith, length-append, append-nil, append_assoc}
+use Rattle.std.proofs.lemmas.List.{append_cancel_left}
+use Rattle.std.proofs.Math.Seq.{drop-append_seam}
 use Rattle.pl_event.specs.declared.events.Event.{Event}
 use Rattle.pl_event.specs.declared.outcomes.Outcome.{Outcome}
 use Rattle.pl_context.specs.declared.ports.Port.{Port}
@@ -12,6 +14,13 @@ use Rattle.pl_head.specs.WritabilityStand.{Watermarks, SendsFlags}
 use Rattle.pl_head.specs.Buffers.{WriteBufferView, BufferStands, write_sizes, event_sizes}
 use Rattle.pl_head.proofs.Buffering.{outcomes_stand}
 use Rattle.pl_head.proofs.WaitingSizes.{waiting_stand}
+
+-- once more bytes are accepted, they were left, and what is left after them is all that is left
+pub accepts-more : (accepted left more rest whole : List ℕ) (n : ℕ) → accepted ++ left ≡ whole → length more ≡ n → accepted ++ (more ++ rest) ≡ whole → (n ≤ length left) × ((accepted ++ more) ++ drop n left ≡ whole)
+accepts-more accepted left more rest whole n output count e =
+    let split : more ++ rest ≡ left = append_cancel_left accepted (more ++ rest) left (e ∙ sym output) in
+    let dropped : drop n left ≡ rest = ap (λ (t : List ℕ). drop n t) (sym split) ∙ ap (λ (k : ℕ). drop k (more ++ rest)) (sym count) ∙ drop-append_seam more rest in
+    (omega (arith, count, ap (λ (t : List ℕ). length t) split, length-append more rest), append_assoc accepted more (drop n left) ∙ ap (λ (t : List ℕ). accepted ++ (more ++ t)) dropped ∙ e)
 
 -- the bytes accepted and those left, together
 pub whole_size : (accepted left whole : List ℕ) → accepted ++ left ≡ whole → length accepted + length left ≡ length whole

@@ -1,5 +1,5 @@
 -- What a failure of a head's own leaves of its buffer, and what comes after it.
-use Rattle.std.proofs.Common.{◌≡◌, ℕ, ◌-◌, ◌≤◌, ◌⊎◌, inl, inr, min, List, [], ◌∷◌, ◌++◌, length, map, Bool, true, false, Option, Some, ap, sym, subst, ◌∙◌, refl, arith, append_assoc, append-nil}
+use Rattle.std.proofs.Common.{◌≡◌, ℕ, List, [], ◌∷◌, ◌++◌, length, map, Bool, true, false, Option, Some, ap, sym, subst, ◌∙◌, refl, append_assoc, append-nil}
 use Rattle.std.proofs.lemmas.List.{map-append}
 use Rattle.pl_event.specs.declared.events.Event.{Event}
 use Rattle.pl_event.specs.declared.outcomes.Outcome.{Outcome}
@@ -17,10 +17,6 @@ writes_by-append : (zs : List Event) (e : Event) → writes_by (zs ++ e ∷ []) 
 writes_by-append [] e = append-nil (write_by e)
 writes_by-append (z ∷ zs) e =
     ap (λ (ws : List (Option (List ℕ))). write_by z ++ ws) (writes_by-append zs e) ∙ sym (append_assoc (write_by z) (writes_by zs) (write_by e))
-
--- no room for one outcome more
-pub no_room : {len room settled_room : ℕ} → (room ≤ len) ⊎ (settled_room ≤ len) → min (room - len) (settled_room - len) ≡ 0
-no_room full = elim full [ inl h ↦ omega (arith, h) | inr h ↦ omega (arith, h) ]
 
 module _ (o : Outcome) (accepted : List ℕ) (ys zs : List Event) (ended : Bool) (sizes : List Change) (e : Event) where
   -- an event that makes no write

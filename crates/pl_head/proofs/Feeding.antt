@@ -1,5 +1,5 @@
 -- Chunks given to a lane one after another, as reads.
-use Rattle.std.proofs.Common.{◌≡◌, ℕ, ◌+◌, List, [], ◌∷◌, ◌++◌, length, map, sym, ap, subst, ◌∙◌, refl, arith, append_assoc, append-nil, add-zero, length-append}
+use Rattle.std.proofs.Common.{◌≡◌, ℕ, ◌+◌, List, [], ◌∷◌, ◌++◌, length, map, sym, ap, subst, ◌∙◌, refl, arith, append_assoc, append-nil, length-append}
 use Rattle.std.proofs.lemmas.List.{length-map}
 use Rattle.pl_event.specs.declared.events.Event.{Event}
 use Rattle.pl_event.specs.declared.events.Event.TheVariants as event
@@ -44,10 +44,6 @@ pub record Feeding (p q : Port) (before now : OutputsView) (all left : List (Lis
   pub port : q ≡ record p { made = p.made + length done }
   pub puts : PutsAll before (numbered p.lane p.made (reads_of done)) now
   pub place : HasPlaces now.stopped (p.lane ∷ [])
-
-pub feeding-start : (p : Port) (before : OutputsView) (all : List (List ℕ)) → HasPlaces before.stopped (p.lane ∷ []) → Feeding p p before before all all
-feeding-start p before all place =
-    record { done = []; split = refl; port = ap (λ (k : ℕ). record p { made = k }) (sym (add-zero p.made)); puts = (refl, refl, omega arith); place = place }
 
 pub feeding-step : (p q q' : Port) (before now after : OutputsView) (all left : List (List ℕ)) (chunk : List ℕ) → Feeding p q before now all (chunk ∷ left)
     → q' ≡ record q { made = q.made + 1 } → PutsAll now (numbered q.lane q.made (item.Event (read_of chunk) ∷ [])) after → HasPlaces after.stopped (q.lane ∷ [])

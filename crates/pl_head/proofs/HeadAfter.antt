@@ -3,17 +3,12 @@ use Rattle.std.proofs.Common.{◌≡◌, ℕ, ◌-◌, List, [], ◌∷◌, ◌+
 use Rattle.pl_event.specs.declared.events.Event.{Event}
 use Rattle.pl_event.specs.declared.outcomes.Outcome.{Outcome}
 use Rattle.pl_event.specs.declared.outcomes.Cause.{Cause}
-use Rattle.pl_head.specs.Writes.{out, writes_by, outcomes, waiting_bytes}
+use Rattle.pl_head.specs.Writes.{writes_by, outcomes, waiting_bytes}
 use Rattle.pl_head.specs.Failures.{AreOutcomes}
 use Rattle.pl_head.specs.Marks.{Change, Removed}
 use Rattle.pl_head.specs.WritabilityStand.{Watermarks}
 use Rattle.pl_head.specs.Buffers.{WriteBufferView, BufferStands, BufferFailed}
 use Rattle.pl_head.specs.HeadStand.{BufferAfter}
-
--- what was accepted is the first of the output
-pub prefix_after : (f : Option Cause) (accepted : List ℕ) (b : WriteBufferView) (ys zs : List Event) (ended : Bool) (sizes : List Change) → BufferAfter f accepted b ys zs ended sizes → (rest : List ℕ) × (accepted ++ rest ≡ out ys)
-prefix_after None accepted b ys zs ended sizes s = (s.1.left, s.1.output)
-prefix_after (Some cause) accepted b ys zs ended sizes s = (s.left, s.output)
 
 pub marks_after : (f : Option Cause) (accepted : List ℕ) (b : WriteBufferView) (ys zs : List Event) (ended : Bool) (sizes : List Change) → BufferAfter f accepted b ys zs ended sizes
     → Watermarks b.low b.high b.pending b.is_unwritable b.flags sizes

@@ -14,6 +14,4 @@ pub mod BufferSteps
 pub mod Failing
 pub mod HeadAfter
 pub mod Accepting
-pub mod ReadAnswers
 pub mod Appending
-pub mod FewFlags

@@ -8,7 +8,6 @@ use Rattle.std.proofs.lemmas.Bool.{lt-leb, le-leb, lt-ltb, le-ltb, ltb-true, leb
 use Rattle.std.proofs.lemmas.Grind.{flat_map-append}
 use Rattle.pl_event.specs.declared.events.Event.{Event}
 use Rattle.pl_event.specs.declared.events.Event.TheVariants as event
-use Rattle.pl_event.specs.declared.events.Message.TheVariants as message
 use Rattle.pl_event.specs.declared.envelopes.Item.{Item}
 use Rattle.pl_event.specs.declared.envelopes.Item.TheVariants as item
 use Rattle.pl_event.specs.Inputs.{burst_events, read_steps, input_after}
@@ -17,7 +16,7 @@ use Rattle.pl_context.specs.Ports.{as_items, all_go_on, port_after}
 use Rattle.pl_context.proofs.PortLemmas.{all_go_on-events}
 use Rattle.pl_head.specs.declared.inputs.ReadPlan.{ReadPlan}
 use Rattle.pl_head.specs.ReadSteps.{step_count, end_if, step_items, read_items, is_burst, bursts_before, bursts_read, is_aborted, plan_steps, is_abort, has_step}
-use Rattle.pl_head.specs.InputStand.{InputView, next_items, left_after, burst_next, last_next, abort_next, input_after_step, failed_input, InputStands, items_left}
+use Rattle.pl_head.specs.InputStand.{InputView, next_items, left_after, burst_next, last_next, abort_next, input_after_step, InputStands, items_left}
 
 -- ---- the steps of bursts
 
@@ -53,12 +52,6 @@ drop-some {A = A} j x xs ys h =
 
 -- ---- numbers
 
-pub length-burst : (chunks : List (List ℕ)) → length (burst_events chunks) ≡ length chunks + 1
-length-burst chunks =
-    let size = length-append (map (λ (chunk : List ℕ). event.Read (message.Bytes chunk)) chunks) (event.ReadComplete ∷ []) in
-    let each = length-map chunks (λ (chunk : List ℕ). event.Read (message.Bytes chunk)) in
-    omega (arith, size, each)
-
 pub left-burst : (chunks : List (List ℕ)) (left : List (List (List ℕ))) → length (flat_map burst_events (chunks ∷ left)) ≡ length (burst_events chunks) + length (flat_map burst_events left)
 left-burst chunks left = ap (λ (es : List Event). length es) (flat_map-cons burst_events chunks left) ∙ length-append (burst_events chunks) (flat_map burst_events left)
 
@@ -80,10 +73,6 @@ pub record NextIs (n : ℕ) (left : List (List (List ℕ))) (items : List Item) 
   pub rest_is : left_after n left ≡ rest
   pub count_is : items_left n left ≡ length items + count
 
-pub first_step : (n : ℕ) (left : List (List (List ℕ))) → n ≡ 0 → NextIs n left (item.Event event.Active ∷ []) left (items_left 1 left)
-first_step zero left h = record { items_are = refl; rest_is = refl; count_is = omega arith }
-first_step (suc n) left h = cc
-
 pub burst_step : (n : ℕ) (left : List (List (List ℕ))) (chunks : List (List ℕ)) (rest : List (List (List ℕ))) → 0 < n → left ≡ chunks ∷ rest
     → NextIs n left (as_items (burst_events chunks)) rest (items_left 1 rest)
 burst_step zero left chunks rest h is = absurd (omega (arith, h))
@@ -92,11 +81,6 @@ burst_step (suc n) left chunks rest h is =
     let each = length-map (burst_events chunks) (λ (x : Event). item.Event x) in
     subst (λ (l : List (List (List ℕ))). NextIs (suc n) l (as_items (burst_events chunks)) rest (items_left 1 rest)) (sym is)
     (record { items_are = refl; rest_is = refl; count_is = omega (arith, size, each) })
-
-pub end_step : (n : ℕ) (left : List (List (List ℕ))) → 0 < n → left ≡ [] → NextIs n left (item.End ∷ []) [] 0
-end_step zero left h is = absurd (omega (arith, h))
-end_step (suc n) left h is =
-    subst (λ (l : List (List (List ℕ))). NextIs (suc n) l (item.End ∷ []) [] 0) (sym is) (record { items_are = refl; rest_is = refl; count_is = refl })
 
 -- an open port after items
 pub port_after-open : (items : List Item) (p q : Port) (goes_on : Bool) → p.is_open ≡ true → all_go_on items ≡ goes_on → q ≡ record p { made = p.made + length items; is_open = goes_on } → q ≡ port_after items p
@@ -204,9 +188,6 @@ module _ (p : ReadPlan) (reads : ℕ) (failed : Bool) (r : InputView) (s : Input
   pub number_of_step : r.port.made ≡ read_items (bursts_read p) reads
   number_of_step = made_is
 
-  pub burst_is : burst_next r.steps r.left ≡ is_burst (bursts_read p) reads
-  burst_is = ap (λ (n : ℕ). burst_next n r.left) s.steps ∙ next.burst
-
   pub abort_is : abort_next r ≡ is_abort p reads
   abort_is = ap₂ (λ (a b : Bool). a && b) s.aborts (ap (λ (n : ℕ). last_next n r.left) s.steps ∙ next.last)
 
@@ -233,15 +214,3 @@ module _ (p : ReadPlan) (reads : ℕ) (failed : Bool) (r : InputView) (s : Input
     where
       before_last : is_abort p reads ≡ false → is_aborted p ≡ true → reads + 1 < plan_steps p
       before_last none aborts = leb-false (plan_steps p) (reads + 1) (sym (ap (λ (b : Bool). b && nat_le (plan_steps p) (reads + 1)) aborts) ∙ none)
-
-  -- a failure in its place
-  pub stands_failed : InputStands p reads true (failed_input r)
-  stands_failed = record {
-    steps = s.steps;
-    within = s.within;
-    before_abort = s.before_abort;
-    left = s.left;
-    aborts = s.aborts;
-    made = ap (λ (b : Bool). if b then r.port.made + 1 else r.port.made) open_ ∙ ap (λ (n : ℕ). n + 1) made_is;
-    is_open = refl;
-  }

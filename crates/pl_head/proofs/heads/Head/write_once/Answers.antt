@@ -3,12 +3,11 @@ use Rattle.std.proofs.lemmas.List.{length-take-le}
 use Rattle.pl_context.specs.Standings.{is_over}
 use Rattle.pl_head.specs.Writes.{out}
 use Rattle.pl_head.specs.Transports.{FailsNext}
-use Rattle.pl_head.proofs.HeadSteps.{some_waits}
 use Rattle.pl_head.specs.WriteBuffers.{write_buffer_view}
 use Rattle.pl_head.proofs.BufferSteps.{same_flags}
 use Rattle.pl_head.proofs.HeadAfter.{unfailed, wrote_after, removed_unfailed}
 use Rattle.pl_head.proofs.Accounts.{goes_on-same}
-use Rattle.pl_head.proofs.Accepting.{wrote_sizes, accepted_some, all_left, idle_or, not_idle}
+use Rattle.pl_head.proofs.Accepting.{wrote_sizes, accepted_some, all_left, idle_or, never_idle}
 use Rattle.pl_head.proofs.heads.Head.write_once.Goals as goal
 
 pub returns-in-None-clause-waits : goal.returns-in-None-clause-waits
@@ -26,33 +25,27 @@ returns-in-Ok-eq0-clause-waits g c =
     rw (← c.self.view_is)
     (λ ys zs sizes s.
     let none : is_some c.self.inside.failure ≡ false = sym c.is_some.ensures ∙ c.if-is_some.false in
-    let t = unfailed c.self.inside.failure (g.T.Transport.state c.self.inside.transport).accepted (write_buffer_view c.self.inside.buffer) ys zs (is_over c.self.inside.standing) sizes none s in
     let accepted = (g.T.Transport.state c.self.inside.transport).accepted in
-    let offers = c.in-Some.ensures.offers accepted ys (is_over c.self.inside.standing) sizes t in
-    let left = some_waits c.in-Some.bytes.now offers.1.0 (c.in-Some.bytes.now ++ offers.1.0) accepted (out ys) refl c.in-Some.ensures.some.0 offers.1.1 in
-    (λ e. cc e, λ e. absurd (not_idle c.self.inside.failure none (sym left.1) e)))
+    let offers = c.in-Some.ensures.offers accepted ys (is_over c.self.inside.standing) sizes in
+    (λ e. cc e, λ e. absurd (never_idle c.self.inside.failure accepted (write_buffer_view c.self.inside.buffer) ys zs (is_over c.self.inside.standing) sizes c.in-Some.bytes.now _ none s c.in-Some.ensures.some.0 offers e)))
 
 pub returns-in-Ok-clause-waits : goal.returns-in-Ok-clause-waits
 returns-in-Ok-clause-waits g c =
     rw (← c.self.view_is)
     (λ ys zs sizes s.
     let none : is_some c.self.inside.failure ≡ false = sym c.is_some.ensures ∙ c.if-is_some.false in
-    let t = unfailed c.self.inside.failure (g.T.Transport.state c.self.inside.transport).accepted (write_buffer_view c.self.inside.buffer) ys zs (is_over c.self.inside.standing) sizes none s in
     let accepted = (g.T.Transport.state c.self.inside.transport).accepted in
-    let offers = c.in-Some.ensures.offers accepted ys (is_over c.self.inside.standing) sizes t in
-    let left = some_waits c.in-Some.bytes.now offers.1.0 (c.in-Some.bytes.now ++ offers.1.0) accepted (out ys) refl c.in-Some.ensures.some.0 offers.1.1 in
-    (λ e. cc e, λ e. absurd (not_idle c.self.inside.failure none (sym left.1) e)))
+    let offers = c.in-Some.ensures.offers accepted ys (is_over c.self.inside.standing) sizes in
+    (λ e. cc e, λ e. absurd (never_idle c.self.inside.failure accepted (write_buffer_view c.self.inside.buffer) ys zs (is_over c.self.inside.standing) sizes c.in-Some.bytes.now _ none s c.in-Some.ensures.some.0 offers e)))
 
 pub returns-in-Err-clause-waits : goal.returns-in-Err-clause-waits
 returns-in-Err-clause-waits g c =
     rw (← c.self.view_is)
     (λ ys zs sizes s.
     let none : is_some c.self.inside.failure ≡ false = sym c.is_some.ensures ∙ c.if-is_some.false in
-    let t = unfailed c.self.inside.failure (g.T.Transport.state c.self.inside.transport).accepted (write_buffer_view c.self.inside.buffer) ys zs (is_over c.self.inside.standing) sizes none s in
     let accepted = (g.T.Transport.state c.self.inside.transport).accepted in
-    let offers = c.in-Some.ensures.offers accepted ys (is_over c.self.inside.standing) sizes t in
-    let left = some_waits c.in-Some.bytes.now offers.1.0 (c.in-Some.bytes.now ++ offers.1.0) accepted (out ys) refl c.in-Some.ensures.some.0 offers.1.1 in
-    (λ e. cc e, λ e. absurd (not_idle c.self.inside.failure none (sym left.1) e)))
+    let offers = c.in-Some.ensures.offers accepted ys (is_over c.self.inside.standing) sizes in
+    (λ e. cc e, λ e. absurd (never_idle c.self.inside.failure accepted (write_buffer_view c.self.inside.buffer) ys zs (is_over c.self.inside.standing) sizes c.in-Some.bytes.now _ none s c.in-Some.ensures.some.0 offers e)))
 
 pub returns-in-Ok-clause-within : goal.returns-in-Ok-clause-within
 returns-in-Ok-clause-within g c =
