@@ -1,4 +1,5 @@
-//! Words that threads share without locks: who may still send, whether a channel is writable, how each write ended.
+//! Words that threads share without locks: who may still send, whether a channel is writable, how each write ended. Two
+//! of them have modules, since each has a `ReadSeat`: [`watermark`] and [`promises`].
 #![tactic(auto)]
 
 mod admission;
@@ -14,6 +15,4 @@ pub use admission::{
     Admission, Admitted, MAX_ADMISSIONS, NO_COUNT, OwnerSeat, Refused, SendSeat, StillOpen,
 };
 pub use laws::{admission_law, mark_law, promise_law};
-pub use promises::{MAX_PROMISES, Promises, SettleSeat};
 pub use status::Status;
-pub use watermark::{HeadSeat, MAX_SETS, Mark, Watermark};

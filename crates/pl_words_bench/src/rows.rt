@@ -3,9 +3,9 @@
 ghost use Rattle.std.specs.Prelude.{◌≡◌, IfOk};
 
 use crate::{plain, steps};
-use pl_words::{
-    Admission, HeadSeat, Promises, SendSeat, SettleSeat, Watermark, promises, watermark,
-};
+use pl_words::promises::{Promises, SettleSeat};
+use pl_words::watermark::{HeadSeat, Watermark};
+use pl_words::{Admission, SendSeat, promises, watermark};
 use std::alloc::{AllocError, Global};
 use std::io;
 use std::sync::atomic::AtomicU64;

@@ -3,9 +3,9 @@
 ghost use Rattle.std.specs.Prelude.{◌≡◌, ℕ, ◌+◌};
 
 use pl_event::Outcome;
-use pl_words::{
-    Admission, HeadSeat, Promises, SendSeat, SettleSeat, Watermark, promises, watermark,
-};
+use pl_words::promises::{Promises, SettleSeat};
+use pl_words::watermark::{HeadSeat, Watermark};
+use pl_words::{Admission, SendSeat, promises, watermark};
 
 /// Answers how often it was admitted.
 pub(crate) fn admit(admission: &Admission, mut seat: SendSeat, count: u32) -> u64

@@ -4,8 +4,7 @@ ghost use Rattle.std.specs.Prelude.{◌≡◌, ◌≤◌, IfOk};
 ghost use Rattle.pl_words.specs.declared.promises.TheConstants.{MAX_PROMISES};
 
 use pl_event::Outcome;
-use pl_words::promises::ReadSeat;
-use pl_words::{MAX_PROMISES, Promises, SettleSeat};
+use pl_words::promises::{MAX_PROMISES, Promises, ReadSeat, SettleSeat};
 use std::alloc::{AllocError, Global};
 use std::test::Fail;
 

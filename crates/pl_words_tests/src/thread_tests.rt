@@ -1,7 +1,9 @@
 //! The words under threads.
 
 use crate::feeding::feed_and_close;
-use pl_words::{Admission, Promises, Watermark};
+use pl_words::Admission;
+use pl_words::promises::Promises;
+use pl_words::watermark::Watermark;
 use std::test::Fail;
 
 /// How often each thread tries to send.

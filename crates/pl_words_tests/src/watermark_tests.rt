@@ -2,8 +2,7 @@
 
 ghost use Rattle.std.specs.Prelude.{◌≡◌};
 
-use pl_words::watermark::ReadSeat;
-use pl_words::{Mark, Watermark};
+use pl_words::watermark::{Mark, ReadSeat, Watermark};
 use std::alloc::{AllocError, Global};
 use std::test::Fail;
 
