@@ -7,13 +7,14 @@ use Rattle.pl_event.specs.declared.outcomes.Outcome.{Outcome}
 use Rattle.pl_context.specs.declared.ports.Port.{Port}
 use Rattle.pl_context.specs.OutputsViews.{OutputsView}
 use Rattle.pl_head.specs.declared.outbound.Waiting.{Waiting}
-use Rattle.pl_head.specs.Writes.{write_by, is_flush, flushed_writes, unflushed_writes, out, outcomes, waiting_bytes}
+use Rattle.pl_head.specs.Writes.{bytes_of, write_by, is_flush, flushed_writes, unflushed_writes, out, outcomes, waiting_bytes}
 use Rattle.pl_head.specs.WaitingMessages.{MessagesStand, first_size, queue_size}
 use Rattle.pl_head.specs.Marks.{Change, Removed}
 use Rattle.pl_head.specs.WritabilityStand.{Watermarks, SendsFlags}
 use Rattle.pl_head.specs.Buffers.{WriteBufferView, BufferStands, write_sizes, event_sizes}
 use Rattle.pl_head.proofs.Buffering.{outcomes_stand}
 use Rattle.pl_head.proofs.WaitingSizes.{waiting_stand}
+use Rattle.pl_head.proofs.Taking.{stands-flush, output-flush}
 
 -- once more bytes are accepted, they were left, and what is left after them is all that is left
 pub accepts-more : (accepted left more rest whole : List ℕ) (n : ℕ) → accepted ++ left ≡ whole → length more ≡ n → accepted ++ (more ++ rest) ≡ whole → (n ≤ length left) × ((accepted ++ more) ++ drop n left ≡ whole)
@@ -68,3 +69,14 @@ pub sizes-flush : (e : Event) (before after : ℕ) → is_flush e ≡ true → w
 sizes-flush e before after on none =
     ap (λ (t : List (Option (List ℕ))). write_sizes t ++ (if is_flush e then Removed (before - after) ∷ [] else [])) none
     ∙ ap (λ (t : Bool). (if t then Removed (before - after) ∷ [] else [])) on
+
+-- what a flush removes, by what is pending before it and after
+pub flushed-sizes : (accepted : List ℕ) (b b' : WriteBufferView) (ys : List Event) (e : Event) (sizes : List Change) (s : BufferStands accepted b ys false sizes) → is_flush e ≡ true → write_by e ≡ []
+    → MessagesStand b'.queue b'.offset b'.flushed b'.outcomes (flushed_writes ys ++ unflushed_writes ys) [] (s.left ++ bytes_of (unflushed_writes ys)) false
+    → (0 < b.flushed → b.offset < first_size b.queue) → b.pending ≡ queue_size b.queue → (0 < b'.flushed → b'.offset < first_size b'.queue) → b'.pending ≡ queue_size b'.queue → b'.pending ≤ b.pending
+    → event_sizes e (waiting_bytes ys (length accepted) false) (waiting_bytes (ys ++ e ∷ []) (length accepted) false) ≡ Removed (b.pending - b'.pending) ∷ []
+flushed-sizes accepted b b' ys e sizes s on none queue rests is rests' is' less =
+    let parts : queue_size b.queue ≡ (b.pending - b'.pending) + queue_size b'.queue = omega (arith, is, is', less) in
+    let after = stands-flush ys e on none queue in
+    let output = output-flush ys e accepted s.left on none s.output in
+    sizes-flush e _ _ on none ∙ removed_size (removed accepted b ys false sizes s rests is accepted (ys ++ e ∷ []) false (b.pending - b'.pending) after rests' output parts)

@@ -1,10 +1,9 @@
-use Rattle.std.proofs.Common.{◌≡◌, ◌+◌, ◌-◌, ◌++◌, [], ◌∷◌, Some, None, false, not, refl, ap, sym, ◌∙◌, arith, append-nil}
+use Rattle.std.proofs.Common.{◌++◌, [], ◌∷◌, Some, None, false, not, refl, ap, sym, ◌∙◌, append-nil}
 use Rattle.pl_event.specs.declared.outcomes.Outcome.TheVariants.{Closed}
 use Rattle.pl_head.specs.Writes.{bytes_of, flushed_writes, unflushed_writes}
-use Rattle.pl_head.specs.WaitingMessages.{queue_size}
 use Rattle.pl_head.specs.WriteBuffers.{write_buffer_view}
 use Rattle.pl_head.proofs.Taking.{out-keep, stands-push, stands-flush, output-flush}
-use Rattle.pl_head.proofs.BufferSteps.{removed, same_marks, same_flags, removed_size, sizes-write, sizes-flush}
+use Rattle.pl_head.proofs.BufferSteps.{same_marks, same_flags, sizes-write, flushed-sizes}
 use Rattle.pl_head.proofs.Failing.{stands-same, failed-numbered, failed-unnumbered}
 use Rattle.pl_head.proofs.write_buffer.WriteBuffer.take.Goals as goal
 
@@ -86,16 +85,13 @@ returns-in-Flush-clause-stands c = λ accepted ys sizes s.
     let is = c.in-Flush.ensures in
     let h = c.args.self.now in
     let n = c.flush.new.self in
-    let queue = stands-flush ys c.args.event is.flush is.write (c.flush.ensures.holds (flushed_writes ys) (unflushed_writes ys) s.left s.queue) in
-    let output = output-flush ys c.args.event accepted s.left is.flush is.write s.output in
-    let parts : queue_size h.messages.queue.items ≡ (h.writability.marks.pending - n.writability.marks.pending) + queue_size n.messages.queue.items = omega (arith, h.pending_is, n.pending_is, c.flush.ensures.pending) in
-    let size = removed accepted (write_buffer_view h) ys false sizes s h.at_rest h.pending_is accepted (ys ++ c.args.event ∷ []) false (h.writability.marks.pending - n.writability.marks.pending) queue n.at_rest output parts in
+    let holds = c.flush.ensures.holds (flushed_writes ys) (unflushed_writes ys) s.left s.queue in
     record {
       left = s.left ++ bytes_of (unflushed_writes ys);
-      queue = queue;
-      output = output;
+      queue = stands-flush ys c.args.event is.flush is.write holds;
+      output = output-flush ys c.args.event accepted s.left is.flush is.write s.output;
       marks =
-          same_marks sizes (sizes-flush c.args.event _ _ is.flush is.write ∙ removed_size size) (c.flush.ensures.marks sizes s.marks);
+          same_marks sizes (flushed-sizes accepted (write_buffer_view h) (write_buffer_view n) ys c.args.event sizes s is.flush is.write holds h.at_rest h.pending_is n.at_rest n.pending_is c.flush.ensures.pending) (c.flush.ensures.marks sizes s.marks);
     }
 
 pub returns-in-Flush-clause-flags : goal.returns-in-Flush-clause-flags
@@ -103,8 +99,5 @@ returns-in-Flush-clause-flags c = λ accepted ys sizes s.
     let is = c.in-Flush.ensures in
     let h = c.args.self.now in
     let n = c.flush.new.self in
-    let queue = stands-flush ys c.args.event is.flush is.write (c.flush.ensures.holds (flushed_writes ys) (unflushed_writes ys) s.left s.queue) in
-    let output = output-flush ys c.args.event accepted s.left is.flush is.write s.output in
-    let parts : queue_size h.messages.queue.items ≡ (h.writability.marks.pending - n.writability.marks.pending) + queue_size n.messages.queue.items = omega (arith, h.pending_is, n.pending_is, c.flush.ensures.pending) in
-    let size = removed accepted (write_buffer_view h) ys false sizes s h.at_rest h.pending_is accepted (ys ++ c.args.event ∷ []) false (h.writability.marks.pending - n.writability.marks.pending) queue n.at_rest output parts in
-    same_flags sizes (sizes-flush c.args.event _ _ is.flush is.write ∙ removed_size size) (c.flush.ensures.flags sizes s.marks)
+    let holds = c.flush.ensures.holds (flushed_writes ys) (unflushed_writes ys) s.left s.queue in
+    same_flags sizes (flushed-sizes accepted (write_buffer_view h) (write_buffer_view n) ys c.args.event sizes s is.flush is.write holds h.at_rest h.pending_is n.at_rest n.pending_is c.flush.ensures.pending) (c.flush.ensures.flags sizes s.marks)
