@@ -75,7 +75,7 @@ fn command_alone(verb: &[u8]) -> Result<Command, Caught>
     }
 }
 
-/// Whether this verb is one that something follows.
+/// Whether an argument follows this verb.
 fn takes_argument(verb: &[u8]) -> bool
     ensures { result ≡ (bytes_eq verb.now (codes "ECHO") || bytes_eq verb.now (codes "ADD") || bytes_eq verb.now (codes "GET")) }
 {
@@ -125,7 +125,7 @@ fn add_with(argument: Vec<u8>) -> Result<Command, Caught>
     }
 }
 
-/// The addition to the key of this name, where both it and the number are ones.
+/// The addition of a number to the key of this name, where the name is one of a key and there is a number.
 fn addition_of(name: Vec<u8>, number: Option<u32>) -> Result<Command, Caught>
     ensures { result ≡ addition_of (key_in name.items) number }
 {
@@ -134,7 +134,7 @@ fn addition_of(name: Vec<u8>, number: Option<u32>) -> Result<Command, Caught>
     Ok(Command::Add(key, number))
 }
 
-/// The question for the total of the key of this name.
+/// The command that asks for the total of the key of this name.
 fn get_with(name: Vec<u8>) -> Result<Command, Caught>
     ensures { result ≡ get_with (Some name.items) }
 {
