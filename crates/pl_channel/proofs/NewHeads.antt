@@ -43,6 +43,7 @@ module _ {T : Type 0} (state : T → TransportState) (plan : ReadPlan) (channel 
         count = 0;
         within = omega arith;
         in_order = refl;
+        most = omega arith;
         running = λ live. new.taken;
         ended = λ ended. absurd (both_ways false refl (ap is_over (sym new.standing ∙ ended)));
         none_late = λ over. refl;

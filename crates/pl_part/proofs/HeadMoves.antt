@@ -339,6 +339,7 @@ module _ {T : Type 0} (state : T → TransportState) (world : World) (plan : Rea
               count = k.took.count + 1;
               within = omega (arith, within);
               in_order = same ∙ ap (λ (seen : List Event). seen ++ x ∷ []) k.took.in_order ∙ sym (split-at events k.took.count x at).2 ∙ ap (λ n. take n events) (sym next);
+              most = omega (arith, one, count);
               running = λ o. omega (arith, one, count);
               ended = λ o. ended-not stands.Open standing open-no o;
               none_late = λ o. over-not stands.Open standing refl o;
@@ -355,6 +356,7 @@ module _ {T : Type 0} (state : T → TransportState) (world : World) (plan : Rea
           count = k.took.count;
           within = k.took.within;
           in_order = (λ i. append-nil k.took.ys i ++ append-nil k.took.zs i) ∙ k.took.in_order;
+          most = let one = t.taken in omega (arith, one, count);
           running = λ o. absurd (both_ways (lane_over h') o over);
           ended = λ o. sym count ∙ ended o;
           none_late = λ o. append-nil k.took.zs ∙ none o;
@@ -417,6 +419,7 @@ module _ {T : Type 0} (state : T → TransportState) (world : World) (plan : Rea
             count = k.took.count;
             within = k.took.within;
             in_order = k.took.in_order;
+            most = let most = k.took.most in let one = t.taken in omega (arith, most, one);
             running = λ live. absurd (both_ways (lane_over h) live over);
             ended = k.took.ended;
             none_late = k.took.none_late;
@@ -495,6 +498,7 @@ module _ {T : Type 0} (state : T → TransportState) (world : World) (plan : Rea
       count = k.took.count;
       within = k.took.within;
       in_order = k.took.in_order;
+      most = let most = k.took.most in let same = write-taken in omega (arith, most, same);
       running = λ o. write-taken ∙ k.took.running (sym (ap (λ (z : HeadView T). lane_over z) w.same) ∙ o);
       ended = λ o. k.took.ended (sym write-standing ∙ o);
       none_late = λ o. k.took.none_late (ap is_over (sym write-standing) ∙ o);
@@ -563,6 +567,7 @@ module _ {T : Type 0} (state : T → TransportState) (world : World) (plan : Rea
       count = k.took.count;
       within = k.took.within;
       in_order = k.took.in_order;
+      most = let most = k.took.most in let same = ap (λ (z : HeadView T). z.taken) f.same in omega (arith, most, same);
       running = λ o. ap (λ (z : HeadView T). z.taken) f.same ∙ k.took.running (sym (ap (λ (z : HeadView T). lane_over z) f.same) ∙ o);
       ended = λ o. k.took.ended (sym (ap (λ (z : HeadView T). z.standing) f.same) ∙ o);
       none_late = λ o. k.took.none_late (sym (ap (λ (z : HeadView T). is_over z.standing) f.same) ∙ o);
@@ -684,6 +689,7 @@ module _ {T : Type 0} (state : T → TransportState) (world : World) (plan : Rea
               count = k.took.count;
               within = k.took.within;
               in_order = k.took.in_order;
+              most = k.took.most;
               running = k.took.running;
               ended = k.took.ended;
               none_late = k.took.none_late;
@@ -805,6 +811,7 @@ new-holds state world plan channel hop p few h after reads entrance place fl non
       count = 0;
       within = omega arith;
       in_order = refl;
+      most = omega arith;
       running = λ o. none;
       ended = λ o. absurd (both_ways false refl (ap is_over (sym live ∙ o)));
       none_late = λ o. refl;

@@ -108,6 +108,7 @@ module _ {T : Type 0} (state : T → TransportState) where
             count = t.took.count;
             within = t.took.within;
             in_order = t.took.in_order;
+            most = t.took.most;
             running = t.took.running;
             ended = t.took.ended;
             none_late = t.took.none_late;

@@ -34,8 +34,9 @@ head_taken h l = cond (same_lane l (data_lane h.channel h.hop)) h.taken 0
 
 module _ {T : Type 0} (state : T → TransportState) where
   -- What it took of its lane: the events ys up to a failure of its own, and zs from it on. Both together are the first
-  -- events of the lane, in order and with none left out: all that it took, while the lane is open. Where the lane has ended
-  -- before such a failure, ys are all there are; and from a failure behind the end or the failure of its lane it took none.
+  -- events of the lane, in order and with none left out: no more than the items that it took, and as many while the lane is
+  -- open. Where the lane has ended before such a failure, ys are all there are; and from a failure behind the end or the
+  -- failure of its lane it took none.
   pub record HeadTook (events : List Event) (h : HeadView T) : Type 0 where
     pub ys : List Event
     pub zs : List Event
@@ -44,6 +45,7 @@ module _ {T : Type 0} (state : T → TransportState) where
     pub count : ℕ
     pub within : count ≤ length events
     pub in_order : ys ++ zs ≡ take count events
+    pub most : count ≤ h.taken
     pub running : lane_over h ≡ false → h.taken ≡ count
     pub ended : h.standing ≡ stands.Ended → count ≡ length events
     pub none_late : is_over h.standing ≡ true → zs ≡ []

@@ -259,6 +259,7 @@ module _ (plan : ReadPlan) (h : HeadView MemoryTransportView) (bursts : plan.bur
         count = 0;
         within = omega arith;
         in_order = refl;
+        most = omega arith;
         running = λ live. new.taken;
         ended = λ ended. absurd (both_ways false refl (ap is_over (sym new.standing ∙ ended)));
         none_late = λ over. refl;
