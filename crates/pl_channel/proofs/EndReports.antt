@@ -45,13 +45,30 @@ ended-is (standing.Failed cause) e = cc
 first-of : (n : ℕ) (some all : List Event) → some ≡ take n all → IsPrefixOf some all
 first-of n some all e = subst (λ (xs : List Event). IsPrefixOf xs all) (sym e) (take-prefix_whole n all)
 
+-- The report of a head that has taken nothing late is as well that of one whose writes get numbers: that is nothing of it then.
+pub numbered-report : {T : Type 0} (state : T → TransportState) (tail : TailView) (head : HeadView T) (ys zs : List Event) (r : ChannelReport) → zs ≡ []
+    → IsChannelReport (ends_of state tail head ys zs) r → IsChannelReport (record (ends_of state tail head ys zs) { is_full = false }) r
+numbered-report state tail head ys zs r none is = record {
+  stands_is = is.stands_is;
+  tail_is = is.tail_is;
+  bytes_are = is.bytes_are;
+  writes_are = record {
+    late = is.writes_are.late;
+    unnumbered = is.writes_are.unnumbered;
+    split = is.writes_are.split;
+    all = λ going. append-none is.writes_are.late is.writes_are.unnumbered (is.writes_are.split ∙ ap writes_by none);
+    outcomes_are = is.writes_are.outcomes_are;
+  };
+}
+
 module _ {T : Type 0} (state : T → TransportState) (plan : Plan) (number : ℕ) (p : ChannelPlan) (tail : TailView) (head : HeadView T) (held : EndsHold state plan number p tail head) where
-  -- what comes to the tail in all
+  -- what comes to a hop of the channel in all
+  comes-to : (events content : List Event) (channel hop at : ℕ) → content_of (lanes_of plan) (data_lane channel hop) ≡ Some events → channel ≡ number → hop ≡ at
+      → content_of (lanes_of plan) (data_lane number at) ≡ Some content → events ≡ content
+  comes-to events content channel hop at own is there planned = some-same events content (sym own ∙ (λ i. content_of (lanes_of plan) (data_lane (is i) (there i))) ∙ planned)
+
   to-tail : held.tail_holds.events ≡ tail_of p
-  to-tail = some-same held.tail_holds.events (tail_of p)
-      (sym held.tail_holds.holds.own
-      ∙ (λ i. content_of (lanes_of plan) (data_lane (held.tail_channel i) (held.tail_at i)))
-      ∙ content-planned plan number p held.planned (tail_hop p) (omega arith))
+  to-tail = comes-to held.tail_holds.events (tail_of p) tail.channel tail.hop (tail_hop p) held.tail_holds.holds.own held.tail_channel held.tail_at (content-planned plan number p held.planned (tail_hop p) (omega arith))
 
   tail-first : IsPrefixOf tail.events (tail_of p)
   tail-first = subst (λ (xs : List Event). IsPrefixOf tail.events xs) to-tail (by tail.standing refl)
@@ -66,12 +83,8 @@ module _ {T : Type 0} (state : T → TransportState) (plan : Plan) (number : ℕ
   tail-whole : has_ended tail.standing ≡ true → tail.events ≡ tail_of p
   tail-whole ended = held.tail_holds.holds.ended (ended-is tail.standing ended) ∙ to-tail
 
-  -- what comes to the head in all
   to-head : held.head_holds.events ≡ head_of p
-  to-head = some-same held.head_holds.events (head_of p)
-      (sym held.head_holds.holds.own
-      ∙ (λ i. content_of (lanes_of plan) (data_lane (held.head_channel i) (held.head_at i)))
-      ∙ content-planned plan number p held.planned (head_hop p) (omega arith))
+  to-head = comes-to held.head_holds.events (head_of p) head.channel head.hop (head_hop p) held.head_holds.holds.own held.head_channel held.head_at (content-planned plan number p held.planned (head_hop p) (omega arith))
 
   abbrev took : HeadTook state held.head_holds.events head
   took = held.head_holds.holds.took
@@ -114,23 +127,12 @@ module _ {T : Type 0} (state : T → TransportState) (plan : Plan) (number : ℕ
     is : IsChannelReport (ends_of state tail head took.ys took.zs) r
     is = reports took.ys took.zs took.sizes took.after
 
-    -- Of a head that has not failed by itself. (Whether writes get no number any more is nothing of it then.)
+    -- of a head that has not failed by itself
     sound-reports : head.failure ≡ None → ReportsPlan p r
     sound-reports sound = record {
       ends = record (ends_of state tail head took.ys took.zs) { is_full = false };
       ends_keep = keep false (λ e. refl) (λ aborted. absurd (no (sym sound ∙ aborted)));
-      reports = record {
-        stands_is = is.stands_is;
-        tail_is = is.tail_is;
-        bytes_are = is.bytes_are;
-        writes_are = record {
-          late = is.writes_are.late;
-          unnumbered = is.writes_are.unnumbered;
-          split = is.writes_are.split;
-          all = λ going. append-none is.writes_are.late is.writes_are.unnumbered (is.writes_are.split ∙ ap writes_by (none-late sound));
-          outcomes_are = is.writes_are.outcomes_are;
-        };
-      };
+      reports = numbered-report state tail head took.ys took.zs r (none-late sound) is;
     }
       where
         no : None ≡ Some Aborted → ⊥

@@ -4,7 +4,6 @@ pub mod MovedParts
 mod Lists
 mod Contents
 mod PlannedLanes
-mod NewHeads
 mod NewChannels
 mod EventClones
 pub mod EndReports

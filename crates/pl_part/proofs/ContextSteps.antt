@@ -28,17 +28,16 @@ use Rattle.pl_context.specs.ContextViews.{ContextView, has_up, has_down, Enters,
 use Rattle.pl_context.specs.Contexts.{StandsAfter, MakesFew, Runs, Closes, TakesItem, TakesFlag, counted, ups, downs, last_item}
 use Rattle.pl_context.proofs.PortLemmas.{all_go_on-events, all_go_on-append}
 use Rattle.pl_context.proofs.ContextLemmas.{closed-port}
-use Rattle.pl_event.specs.Worlds.{World, FitsWorld, FitsAsKind, content_of}
+use Rattle.pl_event.specs.Worlds.{World, FitsWorld, FitsAsKind}
 use Rattle.pl_flow.specs.Flows.{IsGood}
-use Rattle.pl_event.specs.Hops.{data_lane}
 use Rattle.pl_flow.specs.Makes.{Makes}
 use Rattle.pl_flow.proofs.MakeLemmas.{makes-none}
 use Rattle.pl_flow.specs.Makes.{AreGood}
 use Rattle.pl_flow.proofs.StageFlows.{ups-good, downs-good}
 use Rattle.pl_flow.proofs.ItemLemmas.{failure-good, end-good}
-use Rattle.pl_context.specs.declared.ports.Port.{Port}
-use Rattle.pl_part.specs.ContextHolds.{HoldsWith, HasFewItems, context_writes, context_came}
-use Rattle.pl_part.proofs.EventLists.{some-equal, split-at, fits-within, length-items, made-le, made-more, length-end, goes-on-end, still-closed, ends-good}
+use Rattle.pl_part.specs.ContextHolds.{HoldsWith, context_writes, context_came}
+use Rattle.pl_part.proofs.EventLists.{split-at, fits-within, length-items, made-le, made-more, length-end, goes-on-end, still-closed, ends-good}
+use Rattle.pl_part.proofs.ItemFits.{data-fits, flag-fits, within-limit}
 use Rattle.pl_part.proofs.PortMakes.{both-put, both-append, flag-put}
 
 pub and-left : (a b : Bool) → (a && b) ≡ true → a ≡ true
@@ -275,29 +274,30 @@ module _ {S : Type 0} (world : World) (meaning : S → Meaning) (stands_after : 
         (makes-none world (context_writes (meaning c.stage).direction c) (context_came (meaning c.stage).direction c) b b refl refl),
   )
 
-  -- a flag more was taken, and handed on or not
-  flag-few : c.flags_taken < 2 ^ 32 → (p : Port) → p.made ≤ c.flags.made + 1 → HasFewItems (record (counted Flags c) { flags = p })
-  flag-few small p most =
-      let few = h.few.flags in
-      record { taken = h.few.taken; flags_taken = omega (arith, small); up = h.few.up; down = h.few.down; flags = omega (arith, most, few) }
+  -- A flag more was taken, and handed on or not: so many were made, and the port is open or not.
+  flag-held : c.flags_taken < 2 ^ 32 → (made : ℕ) (is_open : Bool) → made ≤ c.flags.made + 1 → (is_open ≡ true → has_up (meaning c.stage).direction ≡ true)
+      → (has_failed c.standing ≡ false → is_open ≡ true → made ≡ c.flags_taken + 1)
+      → HoldsWith world meaning stands_after (meaning c.stage) events (record (counted Flags c) { flags = record c.flags { made = made; is_open = is_open } })
+  flag-held small made is_open most opens all = record {
+    meant = refl;
+    wired = h.wired;
+    within = h.within;
+    stood = h.stood;
+    up_open = h.up_open;
+    down_open = h.down_open;
+    up_over = h.up_over;
+    down_over = h.down_over;
+    flags_open = opens;
+    flags = all;
+    by_call = h.by_call;
+    few = let few = h.few.flags in record { taken = h.few.taken; flags_taken = omega (arith, small); up = h.few.up; down = h.few.down; flags = omega (arith, most, few) };
+  }
 
   -- a flag that is not handed on
   counted-flag : (c.flags.is_open ≡ true → has_failed c.standing ≡ true) → c.flags_taken < 2 ^ 32 → (b a : OutputsView) (c' : ContextView S) → c' ≡ counted Flags c → a ≡ b → Stepped b c' a
   counted-flag shut small b a c' same none = (
-    subst (λ (y : ContextView S). HoldsWith world meaning stands_after (meaning c.stage) events y) (sym same) (record {
-      meant = refl;
-      wired = h.wired;
-      within = h.within;
-      stood = h.stood;
-      up_open = h.up_open;
-      down_open = h.down_open;
-      up_over = h.up_over;
-      down_over = h.down_over;
-      flags_open = h.flags_open;
-      flags = λ f o. absurd (both_ways (has_failed c.standing) f (shut o));
-      by_call = h.by_call;
-      few = flag-few small c.flags (omega arith);
-    }),
+    subst (λ (y : ContextView S). HoldsWith world meaning stands_after (meaning c.stage) events y) (sym same)
+        (flag-held small c.flags.made c.flags.is_open (omega arith) h.flags_open (λ f o. absurd (both_ways (has_failed c.standing) f (shut o)))),
     subst (λ (y : ContextView S × OutputsView). Makes world (context_writes (meaning c.stage).direction c) (context_came (meaning c.stage).direction c) (context_came (meaning c.stage).direction y.0) b y.1) (λ i. (sym same i, sym none i))
         (makes-none world (context_writes (meaning c.stage).direction c) (context_came (meaning c.stage).direction c) b b refl refl),
   )
@@ -308,49 +308,10 @@ module _ {S : Type 0} (world : World) (meaning : S → Meaning) (stands_after : 
 
   -- ---- flags
 
-  flag-held : c.flags.is_open ≡ true → c.flags_taken < 2 ^ 32 → (answer : Added) → HoldsWith world meaning stands_after (meaning c.stage) events (record (counted Flags c) { flags = flag_port_after answer c.flags })
-  flag-held goes small Last = record {
-    meant = refl;
-    wired = h.wired;
-    within = h.within;
-    stood = h.stood;
-    up_open = h.up_open;
-    down_open = h.down_open;
-    up_over = h.up_over;
-    down_over = h.down_over;
-    by_call = h.by_call;
-    flags_open = h.flags_open;
-    flags = λ f o. ap (λ n. n + 1) (h.flags f goes);
-    few = flag-few small (flag_port_after Last c.flags) (omega arith);
-  }
-  flag-held goes small Refused = record {
-    meant = refl;
-    wired = h.wired;
-    within = h.within;
-    stood = h.stood;
-    up_open = h.up_open;
-    down_open = h.down_open;
-    up_over = h.up_over;
-    down_over = h.down_over;
-    by_call = h.by_call;
-    flags_open = λ o. h.flags_open goes;
-    flags = λ f o. absurd (both_ways false refl o);
-    few = flag-few small (flag_port_after Refused c.flags) (omega arith);
-  }
-  flag-held goes small Discarded = record {
-    meant = refl;
-    wired = h.wired;
-    within = h.within;
-    stood = h.stood;
-    up_open = h.up_open;
-    down_open = h.down_open;
-    up_over = h.up_over;
-    down_over = h.down_over;
-    by_call = h.by_call;
-    flags_open = λ o. h.flags_open goes;
-    flags = λ f o. absurd (both_ways false refl o);
-    few = flag-few small (flag_port_after Discarded c.flags) (omega arith);
-  }
+  flag-passed : c.flags.is_open ≡ true → c.flags_taken < 2 ^ 32 → (answer : Added) → HoldsWith world meaning stands_after (meaning c.stage) events (record (counted Flags c) { flags = flag_port_after answer c.flags })
+  flag-passed goes small Last = flag-held small (c.flags.made + 1) c.flags.is_open (omega arith) h.flags_open (λ f o. ap (λ n. n + 1) (h.flags f goes))
+  flag-passed goes small Refused = flag-held small c.flags.made false (omega arith) (λ o. h.flags_open goes) (λ f o. absurd (both_ways false refl o))
+  flag-passed goes small Discarded = flag-held small c.flags.made false (omega arith) (λ o. h.flags_open goes) (λ f o. absurd (both_ways false refl o))
 
   flag-good : (value : Bool) → value ≡ (c.flags_taken % 2 == 1) → c.flags_taken < 2 ^ 32 → has_failed c.standing ≡ false → c.flags.is_open ≡ true
       → IsGood world (record { lane = c.flags.lane; number = c.flags.made; item = item.Flag value })
@@ -367,7 +328,7 @@ module _ {S : Type 0} (world : World) (meaning : S → Meaning) (stands_after : 
       (λ (o : c.flags.is_open ≡ true).
       let put = t.2.put o in
       let same : c' ≡ record (counted Flags c) { flags = flag_port_after put.0 c.flags } = t.1 ∙ (λ i. record (counted Flags c) { flags = put.1 i }) in (
-        subst (λ (y : ContextView S). HoldsWith world meaning stands_after (meaning c.stage) events y) (sym same) (flag-held o small put.0),
+        subst (λ (y : ContextView S). HoldsWith world meaning stands_after (meaning c.stage) events y) (sym same) (flag-passed o small put.0),
         subst (λ (y : ContextView S). Makes world (context_writes (meaning c.stage).direction c) (context_came (meaning c.stage).direction c) (context_came (meaning c.stage).direction y) b a) (sym same)
             (flag-put (has_up (meaning c.stage).direction) (has_down (meaning c.stage).direction) c.up c.down c.flags h.flags_open h.wired.flags_kind h.wired.up_kind h.wired.down_kind world o value (flag-good value fits small f o) b a put.0 put.2),
       ))
@@ -390,33 +351,14 @@ module _ {S : Type 0} (world : World) (meaning : S → Meaning) (stands_after : 
     here : (k : Kind) → e.lane.kind ≡ k → e.number ≡ kind_taken c k
     here k is = number ∙ ap (λ k. kind_taken c k) is
 
-    data-fits : e.lane.kind ≡ Data → Fits events c.taken e.item
-    unfolding FitsWorld
-    data-fits is =
-        let f = subst (λ k. FitsAsKind world k e) is good.fits in
-        let lane : e.lane ≡ data_lane c.channel c.hop = (λ i. record { channel = enters.channel i; kind = is i; hop = enters.hop i }) in
-        let all : f.0 ≡ events = some-equal f.0 events (sym f.1 ∙ ap (λ l. content_of world l) lane ∙ h.wired.own) in
-        subst (λ (y : List Event × ℕ). Fits y.0 y.1 e.item) (λ i. (all i, here Data is i)) f.2
-
-    flag-fits : e.lane.kind ≡ Flags → FitsAsFlag c.flags_taken e.item
-    unfolding FitsWorld
-    flag-fits is =
-        let f = subst (λ k. FitsAsKind world k e) is good.fits in
-        subst (λ n. FitsAsFlag n e.item) (here Flags is) f
+    next-fits : e.lane.kind ≡ Data → Fits events c.taken e.item
+    next-fits is = data-fits world e good c.channel c.hop enters.channel enters.hop events h.wired.own c.taken is (here Data is)
 
     pub next-limit : e.number < number_limit e.lane.kind
-    next-limit = by e.lane.kind refl
-      where
-        by : (k : Kind) → e.lane.kind ≡ k → e.number < number_limit k
-        by Data is =
-            let within = fits-within events c.taken e.item (data-fits is) in
-            let few = h.wired.few in
-            let n = here Data is in
-            omega (arith, within, few, n)
-        by Flags is = good.small
+    next-limit = within-limit world e good c.channel c.hop enters.channel enters.hop events h.wired.own c.taken h.wired.few (here Data)
 
     pub next-few : e.lane.kind ≡ Data → c.standing ≡ stands.Open → MakesFew meaning stands_after c e.item
-    next-few is live = few-open live e.item (data-fits is)
+    next-few is live = few-open live e.item (next-fits is)
 
     pub context-taken : (b a : OutputsView) (c' : ContextView S) (answer : Took) → meaning c'.stage ≡ meaning c.stage
         → (e.lane.kind ≡ Data → c.standing ≡ stands.Open → TakesItem meaning stands_after is_spent (counted Data c) e.item b answer c' a)
@@ -430,14 +372,14 @@ module _ {S : Type 0} (world : World) (meaning : S → Meaning) (stands_after : 
         small is = subst (λ n. n < 2 ^ 32) (here Flags is) good.small
 
         next : e.lane.kind ≡ Data → c.taken + 1 ≤ 2 ^ 31
-        next is = taken-few e.item (data-fits is)
+        next is = taken-few e.item (next-fits is)
 
         by : (k : Kind) → e.lane.kind ≡ k → (s : Standing) → c.standing ≡ s → Stepped b c' a
-        by Data is stands.Open live = taken-open live e.item (data-fits is) answer b a c' meant (item is live)
+        by Data is stands.Open live = taken-open live e.item (next-fits is) answer b a c' meant (item is live)
         by Data is stands.Ended over = let t = ended is over in counted-over (ap is_over over) (next is) b a c' t.1 t.2
         by Data is (stands.Failed cause) over = let t = drops (ap has_failed over) in dropped e.lane.kind (ap has_failed over) next small b a c' t.1 t.2
-        by Flags is stands.Open live = flags-taken e.item (flag-fits is) (small is) (ap has_failed live) answer b a c' (flag is (ap has_failed live))
-        by Flags is stands.Ended live = flags-taken e.item (flag-fits is) (small is) (ap has_failed live) answer b a c' (flag is (ap has_failed live))
+        by Flags is stands.Open live = flags-taken e.item (flag-fits world e good is c.flags_taken (here Flags is)) (small is) (ap has_failed live) answer b a c' (flag is (ap has_failed live))
+        by Flags is stands.Ended live = flags-taken e.item (flag-fits world e good is c.flags_taken (here Flags is)) (small is) (ap has_failed live) answer b a c' (flag is (ap has_failed live))
         by Flags is (stands.Failed cause) over = let t = drops (ap has_failed over) in dropped e.lane.kind (ap has_failed over) next small b a c' t.1 t.2
 
   -- ---- it is made to fail

@@ -15,7 +15,7 @@ use Rattle.pl_event.specs.declared.envelopes.Envelope.{Envelope}
 use Rattle.pl_event.specs.Fitting.{Fits}
 use Rattle.pl_event.specs.Hops.{same_hop, same_lane, data_lane, flags_lane}
 use Rattle.pl_event.specs.Inputs.{recorded_input}
-use Rattle.pl_event.specs.Worlds.{World, FitsWorld, FitsAsKind, content_of, closes}
+use Rattle.pl_event.specs.Worlds.{World, content_of, closes}
 use Rattle.pl_event.proofs.SameLanes.{same_lane-equal, same_lane-self}
 use Rattle.pl_context.specs.declared.ports.Port.{Port}
 use Rattle.pl_context.specs.declared.standing.Standing.{Standing}
@@ -43,10 +43,13 @@ use Rattle.pl_head.specs.HeadStand.{HeadView, BufferAfter, StandsAfter, ReadsSta
 use Rattle.pl_head.proofs.ReadSteps.{items_of_step, number_of_step, abort_is, stands_after}
 use Rattle.pl_head.proofs.FlagSteps.{places_stay}
 use Rattle.pl_part.specs.ContextHolds.{port_point}
-use Rattle.pl_part.specs.HeadHolds.{HeadHolds, HeadHoldsWith, IsHeadPlanned, HeadTook, head_writes, head_came, head_lanes}
+use Rattle.pl_part.specs.HeadHolds.{HeadHolds, HeadHoldsWith, HeadTook, head_writes, head_came, head_lanes}
 use Rattle.pl_part.specs.HeadCalls.{HeadTakes, HeadReads, HeadWrites, HeadAborts}
 use Rattle.pl_part.specs.Counts.{head_done}
-use Rattle.pl_part.proofs.EventLists.{some-equal, split-at, fits-within}
+use Rattle.pl_part.specs.PartCalls.{HeadGiven}
+use Rattle.pl_part.proofs.HeadTaken.{took-again, took-same}
+use Rattle.pl_part.proofs.EventLists.{split-at, fits-within}
+use Rattle.pl_part.proofs.ItemFits.{data-fits}
 use Rattle.pl_part.proofs.PortMakes.{makes-to, moved, port-puts}
 use Rattle.pl_part.proofs.HeadFlags.{flags-fit, flags-make, passes-more, with_port}
 use Rattle.pl_part.proofs.ReadItems.{step-good, number-within, one-most, items-most}
@@ -140,9 +143,22 @@ module _ {T : Type 0} (state : T → TransportState) (h : HeadView T) where
   none-late : (ys zs : List Event) (sizes : List Change) → StandsAfter state h ys zs sizes → h.failure ≡ None → zs ≡ []
   none-late ys zs sizes after e = (subst (λ (f : Option Cause). BufferAfter f (state h.transport).accepted h.buffer ys zs (is_over h.standing) sizes) e after).0
 
+-- It has taken nothing, and is at its place; it holds again, and what it has put is the next of its lanes.
+pub record Moved {T : Type 0} (state : T → TransportState) (world : World) (plan : ReadPlan) (events : List Event) (h h' : HeadView T) (b a : OutputsView) : Type 0 where
+  pub place : (h'.channel ≡ h.channel) × (h'.hop ≡ h.hop)
+  pub taken : h'.taken ≡ h.taken
+  pub holds : HeadHoldsWith state world plan events h'
+  pub makes : Makes world (head_writes h) (head_came h) (head_came h') b a
+  pub places : (lanes : List Lane) → AreAmong (head_lanes h) lanes → HasPlaces b.stopped lanes → HasPlaces a.stopped lanes
+  pub more : head_done h + length a.items ≤ head_done h' + length b.items
+
 module _ {T : Type 0} (state : T → TransportState) (world : World) (plan : ReadPlan) (events : List Event) (h : HeadView T) (k : HeadHoldsWith state world plan events h) where
   abbrev Held : HeadView T → Type 0
   Held z = HeadHoldsWith state world plan events z
+
+  -- What comes of a move in which it takes nothing.
+  abbrev Moves : HeadView T → OutputsView → OutputsView → Type 0
+  Moves z b a = Moved state world plan events h z b a
 
   -- it holds again, at its place
   again : (h' : HeadView T) → h'.channel ≡ h.channel → h'.hop ≡ h.hop → h'.taken ≤ length events + 1 → HeadTook state events h' → (reads : ℕ) × (failed : Bool) × ReadsStand plan reads failed h'
@@ -230,12 +246,6 @@ module _ {T : Type 0} (state : T → TransportState) (world : World) (plan : Rea
       let given = offered-length h.input.port is in
       omega (arith, put, given)
 
-  stays-more : (h' : HeadView T) (b a : OutputsView) → h' ≡ h → a ≡ b → head_done h + length a.items ≤ head_done h' + length b.items
-  stays-more h' b a same out =
-      let now = ap (λ (z : HeadView T). head_done z) same in
-      let none = ap (λ (o : OutputsView). length o.items) out in
-      omega (arith, now, none)
-
   -- it took little, and made little
   pub head-few : head_done h < 2 ^ 34
   head-few =
@@ -273,14 +283,7 @@ module _ {T : Type 0} (state : T → TransportState) (world : World) (plan : Rea
 
   module _ (e : Envelope) (enters : EntersHead h e.lane) (number : e.number ≡ h.taken) (good : IsGood world e) where
     item-fits : Fits events h.taken e.item
-    unfolding FitsWorld
-    item-fits =
-        let f = subst (λ q. FitsAsKind world q e) (ap (λ (m : Lane). m.kind) enters) good.fits in
-        let all : f.0 ≡ events = some-equal f.0 events (sym f.1 ∙ ap (λ l. content_of world l) enters ∙ k.own) in
-        subst (λ (y : List Event × ℕ). Fits y.0 y.1 e.item) (λ i. (all i, number i)) f.2
-
-    pub head-limit : e.number < 2 ^ 31
-    head-limit = let within = fits-within events h.taken e.item item-fits in let few = k.few in omega (arith, within, few, number)
+    item-fits = data-fits world e good h.channel h.hop (ap (λ (m : Lane). m.channel) enters) (ap (λ (m : Lane). m.hop) enters) events k.own h.taken (ap (λ (m : Lane). m.kind) enters) number
 
     module _ (b a : OutputsView) (answer : Took) (h' : HeadView T) (t : HeadTakes state h e b answer h' a) where
       now-taken : h'.taken ≤ length events + 1
@@ -411,19 +414,8 @@ module _ {T : Type 0} (state : T → TransportState) (world : World) (plan : Rea
       over-took : lane_over h ≡ true → HeadTook state events h'
       over-took over =
           subst (λ (z : HeadView T). HeadTook state events z) (sym (t.over over).1)
-          (record {
-            ys = k.took.ys;
-            zs = k.took.zs;
-            sizes = k.took.sizes;
-            after = k.took.after;
-            count = k.took.count;
-            within = k.took.within;
-            in_order = k.took.in_order;
-            most = let most = k.took.most in let one = t.taken in omega (arith, most, one);
-            running = λ live. absurd (both_ways (lane_over h) live over);
-            ended = k.took.ended;
-            none_late = k.took.none_late;
-          })
+          (took-again state events h (record h { taken = h'.taken }) k.took k.took.sizes k.took.after refl
+          (let most = k.took.most in let one = t.taken in omega (arith, most, one)) (λ live. absurd (both_ways (lane_over h) live over)))
 
       now-took : HeadTook state events h'
       now-took = ⊎_elim over-took (λ (live : lane_over h ≡ false). live-took live h.failure refl) (cases_Bool (lane_over h))
@@ -486,46 +478,40 @@ module _ {T : Type 0} (state : T → TransportState) (world : World) (plan : Rea
     write-most : h'.taken ≤ length events + 1
     write-most = let most = k.most in let same = write-taken in omega (arith, most, same)
 
-    write-standing : h'.standing ≡ h.standing
-    write-standing = ap (λ (z : HeadView T). z.standing) w.same
-
     write-took : HeadTook state events h'
-    write-took = record {
-      ys = k.took.ys;
-      zs = k.took.zs;
-      sizes = k.took.sizes ++ step_sizes answer (waiting_at state h k.took.ys) (waiting_at state h' k.took.ys);
-      after = w.stood k.took.ys k.took.zs k.took.sizes k.took.after;
-      count = k.took.count;
-      within = k.took.within;
-      in_order = k.took.in_order;
-      most = let most = k.took.most in let same = write-taken in omega (arith, most, same);
-      running = λ o. write-taken ∙ k.took.running (sym (ap (λ (z : HeadView T). lane_over z) w.same) ∙ o);
-      ended = λ o. k.took.ended (sym write-standing ∙ o);
-      none_late = λ o. k.took.none_late (ap is_over (sym write-standing) ∙ o);
-    }
+    write-took =
+        took-same state events h h' k.took (k.took.sizes ++ step_sizes answer (waiting_at state h k.took.ys) (waiting_at state h' k.took.ys)) (w.stood k.took.ys k.took.zs k.took.sizes k.took.after)
+        (ap (λ (z : HeadView T). z.standing) w.same) write-taken (ap (λ (z : HeadView T). lane_over z) w.same)
 
-    pub write-holds : Held h'
+    write-holds : Held h'
     write-holds =
         again h' (ap (λ (z : HeadView T). z.channel) w.same) (ap (λ (z : HeadView T). z.hop) w.same) write-most write-took
         (k.reads.0, k.reads.1, subst (λ (i : InputView). InputStands plan k.reads.0 k.reads.1 i) (sym (ap (λ (z : HeadView T). z.input) w.same)) k.reads.2)
         (ap (λ (z : HeadView T). z.input.port.lane) w.same) w.marks.lane w.few
 
-    pub write-makes : Makes world (head_writes h) (head_came h) (head_came h') b a
+    write-makes : Makes world (head_writes h) (head_came h) (head_came h') b a
     write-makes =
         subst (λ (y : ℕ × Point). Makes world (head_writes h) (head_came h) (two_came y.0 y.1 (port_point h'.buffer.flags)) b a)
         (λ i. (ap (λ (z : HeadView T). z.channel) (sym w.same) i, ap (λ (z : HeadView T). port_point z.input.port) (sym w.same) i))
         (flags-makes (port_point h.input.port) k.took.ys k.took.zs k.took.sizes _ b a h'.buffer.flags k.took.after (w.flags k.took.ys k.took.zs k.took.sizes k.took.after)
         (few-made h' write-most w.few))
 
-    pub write-more : head_done h + length a.items ≤ head_done h' + length b.items
+    write-more : head_done h + length a.items ≤ head_done h' + length b.items
     write-more =
         let put = flags-more k.took.sizes _ b a h'.buffer.flags (w.flags k.took.ys k.took.zs k.took.sizes k.took.after) in
         let count = write-taken in
         let reads = ap (λ (z : HeadView T). z.input.port.made) w.same in
         omega (arith, put, count, reads)
 
-    pub write-places : (lanes : List Lane) → AreAmong (head_lanes h) lanes → HasPlaces b.stopped lanes → HasPlaces a.stopped lanes
-    write-places lanes among places = flags-places lanes among k.took.ys k.took.zs k.took.sizes _ b a h'.buffer.flags (w.flags k.took.ys k.took.zs k.took.sizes k.took.after) places
+    pub write-moved : Moves h' b a
+    write-moved = record {
+      place = (ap (λ (z : HeadView T). z.channel) w.same, ap (λ (z : HeadView T). z.hop) w.same);
+      taken = write-taken;
+      holds = write-holds;
+      makes = write-makes;
+      places = λ lanes among. flags-places lanes among k.took.ys k.took.zs k.took.sizes _ b a h'.buffer.flags (w.flags k.took.ys k.took.zs k.took.sizes k.took.after);
+      more = write-more;
+    }
 
   -- ---- it fails, and its reads with it
 
@@ -559,19 +545,9 @@ module _ {T : Type 0} (state : T → TransportState) (world : World) (plan : Rea
     abort-most = let most = k.most in let same = ap (λ (z : HeadView T). z.taken) f.same in omega (arith, most, same)
 
     abort-took : HeadTook state events h'
-    abort-took = record {
-      ys = k.took.ys;
-      zs = k.took.zs;
-      sizes = k.took.sizes ++ Removed (waiting_at state h k.took.ys) ∷ [];
-      after = f.stands k.took.ys k.took.zs k.took.sizes k.took.after;
-      count = k.took.count;
-      within = k.took.within;
-      in_order = k.took.in_order;
-      most = let most = k.took.most in let same = ap (λ (z : HeadView T). z.taken) f.same in omega (arith, most, same);
-      running = λ o. ap (λ (z : HeadView T). z.taken) f.same ∙ k.took.running (sym (ap (λ (z : HeadView T). lane_over z) f.same) ∙ o);
-      ended = λ o. k.took.ended (sym (ap (λ (z : HeadView T). z.standing) f.same) ∙ o);
-      none_late = λ o. k.took.none_late (sym (ap (λ (z : HeadView T). is_over z.standing) f.same) ∙ o);
-    }
+    abort-took =
+        took-same state events h h' k.took (k.took.sizes ++ Removed (waiting_at state h k.took.ys) ∷ []) (f.stands k.took.ys k.took.zs k.took.sizes k.took.after)
+        (ap (λ (z : HeadView T). z.standing) f.same) (ap (λ (z : HeadView T). z.taken) f.same) (ap (λ (z : HeadView T). lane_over z) f.same)
 
     abort-holds : Held h'
     abort-holds =
@@ -599,34 +575,35 @@ module _ {T : Type 0} (state : T → TransportState) (world : World) (plan : Rea
         let reads = ap (λ (z : HeadView T). z.input.port.made) f.same in
         omega (arith, sent, put, count, reads)
 
-    abort-places : (lanes : List Lane) → AreAmong (head_lanes h) lanes → HasPlaces b.stopped lanes → HasPlaces a.stopped lanes
-    abort-places lanes among places =
-        reads-places lanes among (item.Fail Aborted ∷ []) f.between a f.puts
-        (flags-places lanes among k.took.ys k.took.zs k.took.sizes (Removed (waiting_at state h k.took.ys) ∷ []) b f.between h'.buffer.flags (f.flags k.took.ys k.took.zs k.took.sizes k.took.after) places)
+    abort-moved : Moves h' b a
+    abort-moved = record {
+      place = (ap (λ (z : HeadView T). z.channel) f.same, ap (λ (z : HeadView T). z.hop) f.same);
+      taken = ap (λ (z : HeadView T). z.taken) f.same;
+      holds = abort-holds;
+      makes = abort-makes;
+      places = λ lanes among places.
+          reads-places lanes among (item.Fail Aborted ∷ []) f.between a f.puts
+          (flags-places lanes among k.took.ys k.took.zs k.took.sizes (Removed (waiting_at state h k.took.ys) ∷ []) b f.between h'.buffer.flags (f.flags k.took.ys k.took.zs k.took.sizes k.took.after) places);
+      more = abort-more;
+    }
 
-  stays-holds : (h' : HeadView T) → h' ≡ h → Held h'
-  stays-holds h' same = subst (λ (z : HeadView T). Held z) (sym same) k
+  -- nothing moves
+  stays : (b : OutputsView) → Moves h b b
+  stays b = record {
+    place = (refl, refl);
+    taken = refl;
+    holds = k;
+    makes = stays-makes h b b refl refl;
+    places = λ lanes among places. places;
+    more = omega arith;
+  }
 
-  stays-places : (b a : OutputsView) → a ≡ b → (lanes : List Lane) → HasPlaces b.stopped lanes → HasPlaces a.stopped lanes
-  stays-places b a same lanes places = subst (λ (o : OutputsView). HasPlaces o.stopped lanes) (sym same) places
+  stays-moved : (h' : HeadView T) (b a : OutputsView) → h' ≡ h → a ≡ b → Moves h' b a
+  stays-moved h' b a same out = subst (λ (y : HeadView T × OutputsView). Moves y.0 b y.1) (λ i. (sym same i, sym out i)) (stays b)
 
   -- ---- it makes a read step
 
   module _ (b a : OutputsView) (answer : ReadStep) (h' : HeadView T) (r : HeadReads state h b answer h' a) where
-    by-answer : {G : Type 0} → (answer ≡ reading.Gave → G) → (h' ≡ h → a ≡ b → G) → G
-    by-answer {G = G} gave idle = go answer refl
-      where
-        held-no : reading.Held ≡ reading.Gave → ⊥
-        held-no e = cc
-
-        done-no : reading.Done ≡ reading.Gave → ⊥
-        done-no e = cc
-
-        go : (s : ReadStep) → answer ≡ s → G
-        go reading.Gave e = gave e
-        go reading.Held e = let i = r.idle (λ g. held-no (sym e ∙ g)) in idle i.0 i.1
-        go reading.Done e = let i = r.idle (λ g. done-no (sym e ∙ g)) in idle i.0 i.1
-
     module _ (gave : answer ≡ reading.Gave) where
       left : h.input.port.is_open ≡ true
       left = ⊎_elim (λ (t : h.input.port.is_open ≡ true). t) (λ (s : h.input.port.is_open ≡ false). absurd (no (sym gave ∙ r.is_left.1 s))) (cases_Bool h.input.port.is_open)
@@ -680,20 +657,7 @@ module _ {T : Type 0} (state : T → TransportState) (world : World) (plan : Rea
 
         step-took : HeadTook state events h'
         step-took =
-            subst (λ (z : HeadView T). HeadTook state events z) (sym same)
-            (record {
-              ys = k.took.ys;
-              zs = k.took.zs;
-              sizes = k.took.sizes;
-              after = k.took.after;
-              count = k.took.count;
-              within = k.took.within;
-              in_order = k.took.in_order;
-              most = k.took.most;
-              running = k.took.running;
-              ended = k.took.ended;
-              none_late = k.took.none_late;
-            })
+            subst (λ (z : HeadView T). HeadTook state events z) (sym same) (took-same state events h (record h { input = h'.input }) k.took k.took.sizes k.took.after refl refl refl)
 
         step-holds : Held h'
         step-holds =
@@ -715,113 +679,52 @@ module _ {T : Type 0} (state : T → TransportState) (world : World) (plan : Rea
             let sent = ap (λ (z : HeadView T). z.buffer.flags.made) same in
             omega (arith, given, reads, count, sent)
 
-      failed-now : brings_abort plan k.reads.0 h.failure ≡ true → Aborts state h b h' a
-      failed-now on = r.aborts gave plan k.reads.0 k.reads.1 k.reads.2 on
+        step-moved : Moves h' b a
+        step-moved = record {
+          place = (ap (λ (z : HeadView T). z.channel) same, ap (λ (z : HeadView T). z.hop) same);
+          taken = ap (λ (z : HeadView T). z.taken) same;
+          holds = step-holds;
+          makes = step-makes;
+          places = λ lanes among. reads-places lanes among items b a put;
+          more = step-more;
+        }
 
-    pub read-holds : Held h'
-    read-holds = by-answer
-        (λ gave. ⊎_elim
-        (λ (on : brings_abort plan k.reads.0 h.failure ≡ true). abort-holds b a h' (failed-now gave on) (reads-now gave) r.marks.lane r.few)
-        (λ (off : brings_abort plan k.reads.0 h.failure ≡ false). step-holds gave off)
-        (cases_Bool (brings_abort plan k.reads.0 h.failure)))
-        (λ same out. stays-holds h' same)
+    pub read-moved : Moves h' b a
+    read-moved = by answer refl
+      where
+        held-no : reading.Held ≡ reading.Gave → ⊥
+        held-no e = cc
 
-    pub read-makes : Makes world (head_writes h) (head_came h) (head_came h') b a
-    read-makes = by-answer
-        (λ gave. ⊎_elim
-        (λ (on : brings_abort plan k.reads.0 h.failure ≡ true). abort-makes b a h' (failed-now gave on) (reads-now gave) r.marks.lane r.few)
-        (λ (off : brings_abort plan k.reads.0 h.failure ≡ false). step-makes gave off)
-        (cases_Bool (brings_abort plan k.reads.0 h.failure)))
-        (λ same out. stays-makes h' b a same out)
+        done-no : reading.Done ≡ reading.Gave → ⊥
+        done-no e = cc
 
-    pub read-more : head_done h + length a.items ≤ head_done h' + length b.items
-    read-more = by-answer
-        (λ gave. ⊎_elim
-        (λ (on : brings_abort plan k.reads.0 h.failure ≡ true). abort-more b a h' (failed-now gave on) (reads-now gave) r.marks.lane r.few)
-        (λ (off : brings_abort plan k.reads.0 h.failure ≡ false). step-more gave off)
-        (cases_Bool (brings_abort plan k.reads.0 h.failure)))
-        (λ same out. stays-more h' b a same out)
-
-    pub read-places : (lanes : List Lane) → AreAmong (head_lanes h) lanes → HasPlaces b.stopped lanes → HasPlaces a.stopped lanes
-    read-places lanes among places = by-answer
-        (λ gave. ⊎_elim
-        (λ (on : brings_abort plan k.reads.0 h.failure ≡ true). abort-places b a h' (failed-now gave on) (reads-now gave) r.marks.lane r.few lanes among places)
-        (λ (off : brings_abort plan k.reads.0 h.failure ≡ false). reads-places lanes among (items gave off) b a (put gave off) places)
-        (cases_Bool (brings_abort plan k.reads.0 h.failure)))
-        (λ same out. stays-places b a out lanes places)
-
-    pub read-taken : h'.taken ≡ h.taken
-    read-taken = by-answer
-        (λ gave. ⊎_elim
-        (λ (on : brings_abort plan k.reads.0 h.failure ≡ true). ap (λ (z : HeadView T). z.taken) (failed-now gave on).same)
-        (λ (off : brings_abort plan k.reads.0 h.failure ≡ false). ap (λ (z : HeadView T). z.taken) (same gave off))
-        (cases_Bool (brings_abort plan k.reads.0 h.failure)))
-        (λ same out. ap (λ (z : HeadView T). z.taken) same)
-
-    pub read-place : (h'.channel ≡ h.channel) × (h'.hop ≡ h.hop)
-    read-place = by-answer
-        (λ gave. ⊎_elim
-        (λ (on : brings_abort plan k.reads.0 h.failure ≡ true). (ap (λ (z : HeadView T). z.channel) (failed-now gave on).same, ap (λ (z : HeadView T). z.hop) (failed-now gave on).same))
-        (λ (off : brings_abort plan k.reads.0 h.failure ≡ false). (ap (λ (z : HeadView T). z.channel) (same gave off), ap (λ (z : HeadView T). z.hop) (same gave off)))
-        (cases_Bool (brings_abort plan k.reads.0 h.failure)))
-        (λ same out. (ap (λ (z : HeadView T). z.channel) same, ap (λ (z : HeadView T). z.hop) same))
+        by : (s : ReadStep) → answer ≡ s → Moves h' b a
+        by reading.Gave gave = ⊎_elim
+            (λ (on : brings_abort plan k.reads.0 h.failure ≡ true). abort-moved b a h' (r.aborts gave plan k.reads.0 k.reads.1 k.reads.2 on) (reads-now gave) r.marks.lane r.few)
+            (λ (off : brings_abort plan k.reads.0 h.failure ≡ false). step-moved gave off)
+            (cases_Bool (brings_abort plan k.reads.0 h.failure))
+        by reading.Held e = let i = r.idle (λ g. held-no (sym e ∙ g)) in stays-moved h' b a i.0 i.1
+        by reading.Done e = let i = r.idle (λ g. done-no (sym e ∙ g)) in stays-moved h' b a i.0 i.1
 
   -- ---- it is aborted
 
-  module _ (b a : OutputsView) (h' : HeadView T) (f : HeadAborts state h b h' a) where
-    by-failure : {G : Type 0} → (h.failure ≡ None → G) → (h' ≡ h → a ≡ b → G) → G
-    by-failure {G = G} live idle = go h.failure refl
-      where
-        go : (s : Option Cause) → h.failure ≡ s → G
-        go None e = live e
-        go (Some c) e = let i = f.failed (ap (λ (q : Option Cause). is_some q) e) in idle i.0 i.1
+  pub aborted-moved : (b a : OutputsView) (h' : HeadView T) → HeadAborts state h b h' a → Moves h' b a
+  aborted-moved b a h' f = by h.failure refl
+    where
+      by : (s : Option Cause) → h.failure ≡ s → Moves h' b a
+      by None live = abort-moved b a h' (f.aborts live) (k.reads.0, h.input.port.is_open || k.reads.1, f.reads live plan k.reads.0 k.reads.1 k.reads.2) f.marks.lane f.few
+      by (Some c) e = let i = f.failed (ap (λ (q : Option Cause). is_some q) e) in stays-moved h' b a i.0 i.1
 
-    failed-reads : h.failure ≡ None → (reads : ℕ) × (failed : Bool) × ReadsStand plan reads failed h'
-    failed-reads live = (k.reads.0, h.input.port.is_open || k.reads.1, f.reads live plan k.reads.0 k.reads.1 k.reads.2)
-
-    pub aborted-holds : Held h'
-    aborted-holds = by-failure (λ live. abort-holds b a h' (f.aborts live) (failed-reads live) f.marks.lane f.few) (λ same out. stays-holds h' same)
-
-    pub aborted-makes : Makes world (head_writes h) (head_came h) (head_came h') b a
-    aborted-makes = by-failure (λ live. abort-makes b a h' (f.aborts live) (failed-reads live) f.marks.lane f.few) (λ same out. stays-makes h' b a same out)
-
-    pub aborted-more : head_done h + length a.items ≤ head_done h' + length b.items
-    aborted-more = by-failure (λ live. abort-more b a h' (f.aborts live) (failed-reads live) f.marks.lane f.few) (λ same out. stays-more h' b a same out)
-
-    pub aborted-places : (lanes : List Lane) → AreAmong (head_lanes h) lanes → HasPlaces b.stopped lanes → HasPlaces a.stopped lanes
-    aborted-places lanes among places =
-        by-failure (λ live. abort-places b a h' (f.aborts live) (failed-reads live) f.marks.lane f.few lanes among places) (λ same out. stays-places b a out lanes places)
-
--- ---- one that has taken nothing
-
-pub new-holds : {T : Type 0} (state : T → TransportState) (world : World) (plan : ReadPlan) (channel hop : ℕ) → IsHeadPlanned world plan channel hop → length (recorded_input plan.bursts) + 1 < 2 ^ 31
-    → (h : HeadView T) → StandsAfter state h [] [] [] → ReadsStand plan 0 false h → h.input.port.lane ≡ data_lane channel 0 → (h.channel ≡ channel) × (h.hop ≡ hop)
-    → h.buffer.flags.lane ≡ flags_lane channel 0 → h.taken ≡ 0 → h.standing ≡ stands.Open → HasFewFlags h → HeadHolds state world h
-new-holds state world plan channel hop p few h after reads entrance place fl none live flags_few = record {
-  plan = plan;
-  events = p.events;
-  holds = record {
-    own = (λ i. content_of world (data_lane (place.0 i) (place.1 i))) ∙ p.own;
-    few = p.few;
-    took = record {
-      ys = [];
-      zs = [];
-      sizes = [];
-      after = after;
-      count = 0;
-      within = omega arith;
-      in_order = refl;
-      most = omega arith;
-      running = λ o. none;
-      ended = λ o. absurd (both_ways false refl (ap is_over (sym live ∙ o)));
-      none_late = λ o. refl;
-    };
-    most = omega (arith, none);
-    input = (λ i. content_of world (data_lane (place.0 i) 0)) ∙ p.input;
-    few_input = few;
-    reads = (0, false, reads);
-    entrance = entrance ∙ ap (λ n. data_lane n 0) (sym place.0);
-    flags = fl ∙ ap (λ n. flags_lane n 0) (sym place.0);
-    few_flags = flags_few;
-  };
-}
+-- It is so in each world where it held.
+pub given : {T : Type 0} (state : T → TransportState) (h h' : HeadView T) (b a : OutputsView) → (world : World) × HeadHolds state world h
+    → ((world : World) (plan : ReadPlan) (events : List Event) → HeadHoldsWith state world plan events h → Moved state world plan events h h' b a) → HeadGiven state h b h' a
+given state h h' b a some moved =
+    let one = moved some.0 some.1.plan some.1.events some.1.holds in
+    record {
+      place = one.place;
+      taken = one.taken;
+      holds = λ world held. record { plan = held.plan; events = held.events; holds = (moved world held.plan held.events held.holds).holds };
+      made = λ world held. (moved world held.plan held.events held.holds).makes;
+      placed = one.places;
+      more = one.more;
+    }

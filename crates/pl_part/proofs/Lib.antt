@@ -1,4 +1,5 @@
 mod EventLists
+mod ItemFits
 mod PortMakes
 mod ContextSteps
 mod ContextPlaces
@@ -10,7 +11,9 @@ mod PathSteps
 mod NewContexts
 mod HeadFlags
 mod ReadItems
+mod HeadTaken
 mod HeadMoves
+pub mod NewHeads
 pub mod PartCounts
 mod PartSteps
 mod HeadReports

@@ -28,7 +28,7 @@ use Rattle.pl_head.specs.declared.heads.OutStep.{OutStep}
 use Rattle.pl_head.specs.declared.heads.ReadStep.{ReadStep}
 use Rattle.pl_part.specs.HeadCalls.{HeadTakes, HeadReads, HeadWrites, HeadAborts}
 use Rattle.pl_part.specs.Parts.{PartView, PartHolds, PartReads, PartWrites, PartAborts, SamePart, head_hop, has_entered, part_taken, part_lanes, part_writes, writes_at, part_came}
-use Rattle.pl_part.specs.PartCalls.{IsNextFor, Puts, Taken, Given}
+use Rattle.pl_part.specs.PartCalls.{IsNextFor, Puts, Taken, HeadGiven, Given}
 use Rattle.pl_part.specs.Counts.{head_done, path_done, part_done}
 use Rattle.pl_part.proofs.EventLists.{some-equal}
 use Rattle.pl_part.proofs.PathSteps.{among-hops, other-hop, beyond}
@@ -174,18 +174,15 @@ module _ {S T : Type 0} (meaning : S → Meaning) (stands_after : S → List Eve
       head-done : part_done with_head + head_done h ≡ part_done p + head_done h'
       head-done = let old = ap (λ (o : Option (HeadView T)). option_map_or (λ (x : HeadView T). head_done x) o 0) at in omega (arith, old)
 
-      pub head-given : (b a : OutputsView) → h'.taken ≡ h.taken → ((world : World) → HeadHolds state world h → HeadHolds state world h')
-          → ((world : World) → HeadHolds state world h → Makes world (head_writes h) (head_came h) (head_came h') b a)
-          → ((lanes : List Lane) → AreAmong (head_lanes h) lanes → HasPlaces b.stopped lanes → HasPlaces a.stopped lanes)
-          → head_done h + length a.items ≤ head_done h' + length b.items → Given meaning stands_after state p (head_hop p) b with_head a
-      head-given b a count held made placed more = record {
+      pub head-given : (b a : OutputsView) → HeadGiven state h b h' a → Given meaning stands_after state p (head_hop p) b with_head a
+      head-given b a t = record {
         taken = λ l.
             ap (λ (n : ℕ). if l.hop == head_hop p then n else path_taken p.path l)
-            ((λ i. cond (same_lane l (data_lane (place.0 i) (place.1 i))) (count i) 0) ∙ sym (ap (λ (o : Option (HeadView T)). option_map_or (λ (x : HeadView T). head_taken x l) o 0) at));
-        puts = let own = (some.1.head h at).0 in head-puts b a placed (held some.0 own) (made some.0 own);
-        holds = λ world holds. head-holds world holds (held world (holds.head h at).0);
-        made = λ world holds. head-makes world b a (made world (holds.head h at).0);
-        more = let done = head-done in omega (arith, done, more);
+            ((λ i. cond (same_lane l (data_lane (place.0 i) (place.1 i))) (t.taken i) 0) ∙ sym (ap (λ (o : Option (HeadView T)). option_map_or (λ (x : HeadView T). head_taken x l) o 0) at));
+        puts = let own = (some.1.head h at).0 in head-puts b a t.placed (t.holds some.0 own) (t.made some.0 own);
+        holds = λ world holds. head-holds world holds (t.holds world (holds.head h at).0);
+        made = λ world holds. head-makes world b a (t.made world (holds.head h at).0);
+        more = let done = head-done in let more = t.more in omega (arith, done, more);
       }
 
       module _ (e : Envelope) (there : (e.lane.hop == head_hop p) ≡ true) where
@@ -391,43 +388,81 @@ module _ {S T : Type 0} (meaning : S → Meaning) (stands_after : S → List Eve
 
 -- ---- for a view of the same part
 
-module _ {S T : Type 0} (meaning : S → Meaning) (stands_after : S → List Event → Type 0) (state : T → TransportState) (p v : PartView S T) (same : v ≡ p) (before : OutputsView) (v' : PartView S T) (after : OutputsView) where
-  pub taken-of : (is_spent : S → Bool) (e : Envelope) (answer : Took) → Taken meaning stands_after state is_spent v e before answer v' after → Taken meaning stands_after state is_spent p e before answer v' after
-  taken-of is_spent e answer t = subst (λ (y : PartView S T). Taken meaning stands_after state is_spent y e before answer v' after) same t
+-- The envelope is the next of the head.
+pub record IsNextAtHead {S T : Type 0} (world : World) (meaning : S → Meaning) (stands_after : S → List Event → Type 0) (state : T → TransportState) (v : PartView S T) (e : Envelope) (before : OutputsView) (h : HeadView T) : Type 0 where
+  pub next : IsNextFor world meaning stands_after state v e before
+  pub there : (e.lane.hop == head_hop v) ≡ true
+  pub enters : EntersHead h e.lane
+  pub number : e.number ≡ h.taken
 
-  pub refused-of : (hop : ℕ) → Given meaning stands_after state v (writer_hop v.path hop) before v' after → Given meaning stands_after state p (writer_hop p.path hop) before v' after
-  refused-of hop t = subst (λ (y : PartView S T). Given meaning stands_after state y (writer_hop y.path hop) before v' after) same t
+module _ {S T : Type 0} (meaning : S → Meaning) (stands_after : S → List Event → Type 0) (state : T → TransportState) (p v : PartView S T) (same : v ≡ p) (before : OutputsView) where
+  pub taken-of : (v' : PartView S T) (after : OutputsView) (is_spent : S → Bool) (e : Envelope) (answer : Took) → Taken meaning stands_after state is_spent v e before answer v' after
+      → Taken meaning stands_after state is_spent p e before answer v' after
+  taken-of v' after is_spent e answer t = subst (λ (y : PartView S T). Taken meaning stands_after state is_spent y e before answer v' after) same t
 
-  pub given-of : Given meaning stands_after state v (head_hop v) before v' after → Given meaning stands_after state p (head_hop p) before v' after
-  given-of t = subst (λ (y : PartView S T). Given meaning stands_after state y (head_hop y) before v' after) same t
+  pub refused-of : (v' : PartView S T) (after : OutputsView) (hop : ℕ) → Given meaning stands_after state v (writer_hop v.path hop) before v' after → Given meaning stands_after state p (writer_hop p.path hop) before v' after
+  refused-of v' after hop t = subst (λ (y : PartView S T). Given meaning stands_after state y (writer_hop y.path hop) before v' after) same t
 
-  module _ (h : HeadView T) (at : v.head ≡ Some h) (h' : HeadView T) where
-    abbrev moved_head : PartView S T
-    moved_head = record v { head = Some h' }
+  pub holds-of : (world : World) × PartHolds world meaning stands_after state p → (world : World) × PartHolds world meaning stands_after state v
+  holds-of holds = subst (λ (y : PartView S T). (world : World) × PartHolds world meaning stands_after state y) (sym same) holds
 
-    pub reads-of : (answer : ReadStep) → HeadReads state h before answer h' after → PartReads state p before answer moved_head after
-    reads-of answer r = subst (λ (y : PartView S T). PartReads state y before answer moved_head after) same
-        (record {
-          head = λ x found. (h', refl, subst (λ (y : HeadView T). HeadReads state y before answer h' after) (some-equal h x (sym at ∙ found)) r);
-          none = λ n. no-same h (sym n ∙ at);
-          path = refl;
-        })
+  -- ---- what it is to take
 
-    pub writes-of : (may_refuse : T → ℕ → Type 0) (answer : OutStep) → HeadWrites state may_refuse h before answer h' after → PartWrites state may_refuse p before answer moved_head after
-    writes-of may_refuse answer r = subst (λ (y : PartView S T). PartWrites state may_refuse y before answer moved_head after) same
-        (record {
-          head = λ x found. (h', refl, subst (λ (y : HeadView T). HeadWrites state may_refuse y before answer h' after) (some-equal h x (sym at ∙ found)) r);
-          none = λ n. no-same h (sym n ∙ at);
-          path = refl;
-        })
+  module _ (e : Envelope) (some : (world : World) × IsNextFor world meaning stands_after state p e before) where
+    pub next-of : (world : World) × IsNextFor world meaning stands_after state v e before
+    next-of = subst (λ (y : PartView S T). (world : World) × IsNextFor world meaning stands_after state y e before) (sym same) some
 
-    pub aborts-of : HeadAborts state h before h' after → PartAborts state p before moved_head after
-    aborts-of r = subst (λ (y : PartView S T). PartAborts state y before moved_head after) same
-        (record {
-          head = λ x found. (h', refl, subst (λ (y : HeadView T). HeadAborts state y before h' after) (some-equal h x (sym at ∙ found)) r);
-          none = λ n. no-same h (sym n ∙ at);
-          path = refl;
-        })
+    pub next-at-head : (e.lane.hop == head_hop p) ≡ true → (h : HeadView T) → v.head ≡ Some h → (world : World) × IsNextAtHead world meaning stands_after state v e before h
+    next-at-head at_head h at =
+        let next = next-of in
+        let there = subst (λ (y : PartView S T). (e.lane.hop == head_hop y) ≡ true) (sym same) at_head in
+        let enters = head-enters meaning stands_after state v h at h (refl, refl) (next.0, next.1.holds) e there next.1.entered in (
+          next.0,
+          record { next = next.1; there = there; enters = enters; number = head-number meaning stands_after state v h at h (refl, refl) (next.0, next.1.holds) e there enters next.1.number },
+        )
+
+  -- ---- what its head is to do
+
+  module _ (holds : (world : World) × PartHolds world meaning stands_after state p) where
+    -- it has none
+    pub given-none : Given meaning stands_after state p (head_hop p) before v before
+    given-none = subst (λ (y : PartView S T). Given meaning stands_after state y (head_hop y) before v before) same (none-given meaning stands_after state v (holds-of holds) (head_hop v) before)
+
+    module _ (h : HeadView T) (at : v.head ≡ Some h) where
+      pub places-there : HasPlaces before.stopped (part_lanes p) → HasPlaces before.stopped (head_lanes h)
+      places-there places = head-places meaning stands_after state v (holds-of holds) h at before (subst (λ (y : PartView S T). HasPlaces before.stopped (part_lanes y)) (sym same) places)
+
+      pub given-there : (h' : HeadView T) (after : OutputsView) → HeadGiven state h before h' after → Given meaning stands_after state p (head_hop p) before (record v { head = Some h' }) after
+      given-there h' after t = subst (λ (y : PartView S T). Given meaning stands_after state y (head_hop y) before (record v { head = Some h' }) after) same
+          (head-given meaning stands_after state v h at h' t.place (holds-of holds) before after t)
+
+module _ {S T : Type 0} (state : T → TransportState) (p v : PartView S T) (same : v ≡ p) (before : OutputsView) (h : HeadView T) (at : v.head ≡ Some h) (h' : HeadView T) (after : OutputsView) where
+  abbrev moved_head : PartView S T
+  moved_head = record v { head = Some h' }
+
+  pub reads-of : (answer : ReadStep) → HeadReads state h before answer h' after → PartReads state p before answer moved_head after
+  reads-of answer r = subst (λ (y : PartView S T). PartReads state y before answer moved_head after) same
+      (record {
+        head = λ x found. (h', refl, subst (λ (y : HeadView T). HeadReads state y before answer h' after) (some-equal h x (sym at ∙ found)) r);
+        none = λ n. no-same h (sym n ∙ at);
+        path = refl;
+      })
+
+  pub writes-of : (may_refuse : T → ℕ → Type 0) (answer : OutStep) → HeadWrites state may_refuse h before answer h' after → PartWrites state may_refuse p before answer moved_head after
+  writes-of may_refuse answer r = subst (λ (y : PartView S T). PartWrites state may_refuse y before answer moved_head after) same
+      (record {
+        head = λ x found. (h', refl, subst (λ (y : HeadView T). HeadWrites state may_refuse y before answer h' after) (some-equal h x (sym at ∙ found)) r);
+        none = λ n. no-same h (sym n ∙ at);
+        path = refl;
+      })
+
+  pub aborts-of : HeadAborts state h before h' after → PartAborts state p before moved_head after
+  aborts-of r = subst (λ (y : PartView S T). PartAborts state y before moved_head after) same
+      (record {
+        head = λ x found. (h', refl, subst (λ (y : HeadView T). HeadAborts state y before h' after) (some-equal h x (sym at ∙ found)) r);
+        none = λ n. no-same h (sym n ∙ at);
+        path = refl;
+      })
 
 -- ---- all nodes of a channel
 

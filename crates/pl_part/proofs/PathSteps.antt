@@ -493,6 +493,50 @@ pub entered-within : {S : Type 0} (world : World) (meaning : S → Meaning) (sta
 entered-within world meaning stands_after v e before next off =
     filled-within v.contexts e.lane.hop (sym (cond-false (e.lane.hop == v.tail_hop) (is_some v.tail) (is_some (context_at v e.lane.hop)) off) ∙ (and_parts (e.lane.channel == v.channel) _ next.entered).1)
 
+-- ---- for a view of the same nodes
+
+-- The envelope is the next of a context.
+pub record IsNextAt {S : Type 0} (world : World) (meaning : S → Meaning) (stands_after : S → List Event → Type 0) (v : PathView S) (e : Envelope) (before : OutputsView) (c : ContextView S) : Type 0 where
+  pub next : IsNextOnPath world meaning stands_after v e before
+  pub at : context_at v e.lane.hop ≡ Some c
+  pub enters : Enters c e.lane
+  pub number : e.number ≡ kind_taken c e.lane.kind
+
+-- It is the next of the tail.
+pub record IsNextAtTail {S : Type 0} (world : World) (meaning : S → Meaning) (stands_after : S → List Event → Type 0) (v : PathView S) (e : Envelope) (before : OutputsView) (t : TailView) : Type 0 where
+  pub next : IsNextOnPath world meaning stands_after v e before
+  pub there : (e.lane.hop == v.tail_hop) ≡ true
+  pub enters : EntersTail t e.lane
+  pub number : e.number ≡ tail_kind_taken t e.lane.kind
+
+module _ {S : Type 0} (meaning : S → Meaning) (stands_after : S → List Event → Type 0) (p v : PathView S) (same : v ≡ p) where
+  pub holds-of : (world : World) × PathHolds world meaning stands_after p → (world : World) × PathHolds world meaning stands_after v
+  holds-of holds = subst (λ (y : PathView S). (world : World) × PathHolds world meaning stands_after y) (sym same) holds
+
+  module _ (e : Envelope) (before : OutputsView) (some : (world : World) × IsNextOnPath world meaning stands_after p e before) where
+    next-of : (world : World) × IsNextOnPath world meaning stands_after v e before
+    next-of = subst (λ (y : PathView S). (world : World) × IsNextOnPath world meaning stands_after y e before) (sym same) some
+
+    pub next-at : IsPathPart (length v.executors) (length v.contexts) v.tail_hop v.turn → (e.lane.hop == p.tail_hop) ≡ false → (c : ContextView S) (slot : Option (ContextView S)) → slot ≡ get_or v.contexts e.lane.hop slot → slot ≡ Some c
+        → (world : World) × IsNextAt world meaning stands_after v e before c
+    next-at inv elsewhere c slot value is =
+        let next = next-of in
+        let off = subst (λ (y : PathView S). (e.lane.hop == y.tail_hop) ≡ false) (sym same) elsewhere in
+        let at = slot-at v.contexts e.lane.hop slot (Some c) (entered-within next.0 meaning stands_after v e before next.1 off) value is in
+        let enters = context-enters meaning stands_after v inv (next.0, next.1.holds) e.lane.hop c at e refl next.1.entered in (
+          next.0,
+          record { next = next.1; at = at; enters = enters; number = context-number meaning stands_after v inv (next.0, next.1.holds) e.lane.hop c at e refl enters next.1.number },
+        )
+
+    pub next-at-tail : (e.lane.hop == p.tail_hop) ≡ true → (t : TailView) → v.tail ≡ Some t → (world : World) × IsNextAtTail world meaning stands_after v e before t
+    next-at-tail at_tail t at =
+        let next = next-of in
+        let there = subst (λ (y : PathView S). (e.lane.hop == y.tail_hop) ≡ true) (sym same) at_tail in
+        let enters = tail-enters meaning stands_after v (next.0, next.1.holds) t at e there next.1.entered in (
+          next.0,
+          record { next = next.1; there = there; enters = enters; number = tail-number meaning stands_after v (next.0, next.1.holds) t at e there enters next.1.number },
+        )
+
 module _ {S : Type 0} (meaning : S → Meaning) (stands_after : S → List Event → Type 0) (p v : PathView S) (same : v ≡ p) (before : OutputsView) (v' : PathView S) (after : OutputsView) where
   pub taken-of : (is_spent : S → Bool) (e : Envelope) (answer : Took) → PathTaken meaning stands_after is_spent v e before answer v' after → PathTaken meaning stands_after is_spent p e before answer v' after
   taken-of is_spent e answer t = subst (λ (y : PathView S). PathTaken meaning stands_after is_spent y e before answer v' after) same t

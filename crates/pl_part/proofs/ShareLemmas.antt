@@ -212,22 +212,21 @@ module _ {S : Type 0} (mine : ℕ → Bool) (whole share : PathView S) (is : IsP
       ∙ ap (λ (n : ℕ). cond (mine (executor_of whole n)) (option_map_or (λ (t : TailView). tail_taken_of t l) whole.tail 0) 0) (sym (eqb-true l.hop whole.tail_hop on)))
       (λ off. only-of (λ (c : ContextView S). taken_of c l) 0 (mine (executor_of whole l.hop)) (context_at whole l.hop))
 
+  -- what is said of the writer of a lane
+  at-writer : {A : Type 0} (of : ContextView S → A) (none : A) (hop : ℕ)
+      → option_map_or of (context_at share (writer_hop share hop)) none ≡ cond (mine (executor_of whole (writer_hop whole hop))) (option_map_or of (context_at whole (writer_hop whole hop)) none) none
+  at-writer of none hop =
+      ap (λ (h : ℕ). option_map_or of (context_at share h) none) (same-writer hop)
+      ∙ ap (λ (o : Option (ContextView S)). option_map_or of o none) (is.contexts (writer_hop whole hop))
+      ∙ only-of of none (mine (executor_of whole (writer_hop whole hop))) (context_at whole (writer_hop whole hop))
+
   path-wrote : (meaning : S → Meaning) (l : Lane) → path_writes meaning share l ≡ (path_writes meaning whole l && mine (executor_of whole (writer_hop whole l.hop)))
   path-wrote meaning l =
-      let writes = (λ (c : ContextView S). context_writes (meaning c.stage).direction c l) in
-      let hop = writer_hop whole l.hop in
-      ap (λ (h : ℕ). option_map_or writes (context_at share h) false) (same-writer l.hop)
-      ∙ ap (λ (o : Option (ContextView S)). option_map_or writes o false) (is.contexts hop)
-      ∙ only-of writes false (mine (executor_of whole hop)) (context_at whole hop)
-      ∙ and-last (path_writes meaning whole l) (mine (executor_of whole hop))
+      at-writer (λ (c : ContextView S). context_writes (meaning c.stage).direction c l) false l.hop
+      ∙ and-last (path_writes meaning whole l) (mine (executor_of whole (writer_hop whole l.hop)))
 
   path-came : (meaning : S → Meaning) (l : Lane) → path_came meaning share l ≡ cond (mine (executor_of whole (writer_hop whole l.hop))) (path_came meaning whole l) nowhere
-  path-came meaning l =
-      let came = (λ (c : ContextView S). context_came (meaning c.stage).direction c l) in
-      let hop = writer_hop whole l.hop in
-      ap (λ (h : ℕ). option_map_or came (context_at share h) nowhere) (same-writer l.hop)
-      ∙ ap (λ (o : Option (ContextView S)). option_map_or came o nowhere) (is.contexts hop)
-      ∙ only-of came nowhere (mine (executor_of whole hop)) (context_at whole hop)
+  path-came meaning l = at-writer (λ (c : ContextView S). context_came (meaning c.stage).direction c l) nowhere l.hop
 
   path-done : path_done share ≤ path_done whole
   path-done =

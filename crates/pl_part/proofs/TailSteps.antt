@@ -21,11 +21,12 @@ use Rattle.pl_context.specs.declared.standing.Took.TheVariants as took
 use Rattle.pl_context.specs.Standings.{is_over, has_failed}
 use Rattle.pl_context.specs.ContextViews.{number_limit}
 use Rattle.pl_context.specs.TailViews.{TailView, new_tail, EntersTail, kind_taken, counted, RecordsItem, AddsFlag, LosesFlag, RecordsFlag, RecordsFlagItem}
-use Rattle.pl_event.specs.Worlds.{World, FitsWorld, FitsAsKind, content_of}
+use Rattle.pl_event.specs.Worlds.{World, content_of}
 use Rattle.pl_flow.specs.Flows.{IsGood}
 use Rattle.pl_event.specs.Hops.{data_lane}
 use Rattle.pl_part.specs.TailHolds.{TailHoldsWith, Alternate}
-use Rattle.pl_part.proofs.EventLists.{some-equal, split-at, fits-within}
+use Rattle.pl_part.proofs.EventLists.{split-at, fits-within}
+use Rattle.pl_part.proofs.ItemFits.{data-fits, flag-fits, within-limit}
 
 pub alternate-more : (n : ℕ) (bs : List Bool) (b : Bool) → Alternate n bs → b ≡ ((n + length bs) % 2 == 1) → Alternate n (bs ++ b ∷ [])
 alternate-more n [] b h e = let same : n + 0 ≡ n = omega arith in (e ∙ ap (λ k. k % 2 == 1) same, tt)
@@ -115,53 +116,34 @@ module _ (world : World) (events : List Event) (t : TailView) (h : TailHoldsWith
 
   -- ---- its flags lane
 
-  -- no flag is added
+  -- a flag more was taken, and added or not
+  flag-counted : t.flags_taken < 2 ^ 32 → (flags : List Bool) (stopped : Bool) (room : ℕ) → Alternate 0 flags → length flags ≤ t.flags_taken + 1
+      → (has_failed t.standing ≡ false → stopped ≡ false → length flags ≡ t.flags_taken + 1) → Held (record (counted Flags t) { flags = flags; flags_stopped = stopped; flags_room = room })
+  flag-counted small flags stopped room alternate most all = record {
+    own = h.own;
+    few = h.few;
+    taken = h.taken;
+    ended = h.ended;
+    failed = h.failed;
+    flags = alternate;
+    flags_most = most;
+    flags_all = all;
+    few_taken = h.few_taken;
+    few_flags = omega (arith, small);
+  }
+
   flag-lost : (has_failed t.standing ≡ false → t.flags_stopped ≡ false → ⊥) → t.flags_taken < 2 ^ 32 → Held (counted Flags t)
-  flag-lost none small =
-      let most = h.flags_most in record {
-        own = h.own;
-        few = h.few;
-        taken = h.taken;
-        ended = h.ended;
-        failed = h.failed;
-        flags = h.flags;
-        flags_most = omega (arith, most);
-        flags_all = λ f s. absurd (none f s);
-        few_taken = h.few_taken;
-        few_flags = omega (arith, small);
-      }
+  flag-lost none small = flag-counted small t.flags t.flags_stopped t.flags_room h.flags (let most = h.flags_most in omega (arith, most)) (λ f s. absurd (none f s))
 
   flag-stops : t.flags_taken < 2 ^ 32 → (room : ℕ) → Held (record (counted Flags t) { flags_stopped = true; flags_room = room })
-  flag-stops small room =
-      let most = h.flags_most in record {
-        own = h.own;
-        few = h.few;
-        taken = h.taken;
-        ended = h.ended;
-        failed = h.failed;
-        flags = h.flags;
-        flags_most = omega (arith, most);
-        flags_all = λ f s. absurd (both_ways true s refl);
-        few_taken = h.few_taken;
-        few_flags = omega (arith, small);
-      }
+  flag-stops small room = flag-counted small t.flags true room h.flags (let most = h.flags_most in omega (arith, most)) (λ f s. absurd (both_ways true s refl))
 
   flag-added : t.flags_taken < 2 ^ 32 → (value : Bool) → value ≡ (t.flags_taken % 2 == 1) → has_failed t.standing ≡ false → t.flags_stopped ≡ false → (room : ℕ) → Held (record (counted Flags t) { flags = t.flags ++ value ∷ []; flags_room = room })
   flag-added small value fits f goes room =
       let all = h.flags_all f goes in
       let size = length-append t.flags (value ∷ []) in
-      let at : t.flags_taken ≡ 0 + length t.flags = omega (arith, all) in record {
-        own = h.own;
-        few = h.few;
-        taken = h.taken;
-        ended = h.ended;
-        failed = h.failed;
-        flags = alternate-more 0 t.flags value h.flags (fits ∙ ap (λ k. k % 2 == 1) at);
-        flags_most = omega (arith, all, size);
-        flags_all = λ f s. omega (arith, all, size);
-        few_taken = h.few_taken;
-        few_flags = omega (arith, small);
-      }
+      let at : t.flags_taken ≡ 0 + length t.flags = omega (arith, all) in
+      flag-counted small (t.flags ++ value ∷ []) t.flags_stopped room (alternate-more 0 t.flags value h.flags (fits ∙ ap (λ k. k % 2 == 1) at)) (omega (arith, all, size)) (λ f s. omega (arith, all, size))
 
   flag-recorded : t.flags_taken < 2 ^ 32 → (value : Bool) → value ≡ (t.flags_taken % 2 == 1) → has_failed t.standing ≡ false → (t' : TailView) → RecordsFlag (counted Flags t) value t' → Held t'
   flag-recorded small value fits f t' r = ⊎_elim
@@ -193,30 +175,11 @@ module _ (world : World) (events : List Event) (t : TailView) (h : TailHoldsWith
     here : (k : Kind) → e.lane.kind ≡ k → e.number ≡ kind_taken t k
     here k is = number ∙ ap (λ k. kind_taken t k) is
 
-    data-fits : e.lane.kind ≡ Data → Fits events t.taken e.item
-    unfolding FitsWorld
-    data-fits is =
-        let f = subst (λ k. FitsAsKind world k e) is good.fits in
-        let lane : e.lane ≡ data_lane t.channel t.hop = (λ i. record { channel = enters.channel i; kind = is i; hop = enters.hop i }) in
-        let all : f.0 ≡ events = some-equal f.0 events (sym f.1 ∙ ap (λ l. content_of world l) lane ∙ h.own) in
-        subst (λ (y : List Event × ℕ). Fits y.0 y.1 e.item) (λ i. (all i, here Data is i)) f.2
-
-    flag-fits : e.lane.kind ≡ Flags → FitsAsFlag t.flags_taken e.item
-    unfolding FitsWorld
-    flag-fits is =
-        let f = subst (λ k. FitsAsKind world k e) is good.fits in
-        subst (λ n. FitsAsFlag n e.item) (here Flags is) f
+    next-fits : e.lane.kind ≡ Data → Fits events t.taken e.item
+    next-fits is = data-fits world e good t.channel t.hop enters.channel enters.hop events h.own t.taken is (here Data is)
 
     pub tail-limit : e.number < number_limit e.lane.kind
-    tail-limit = by e.lane.kind refl
-      where
-        by : (k : Kind) → e.lane.kind ≡ k → e.number < number_limit k
-        by Data is =
-            let within = fits-within events t.taken e.item (data-fits is) in
-            let few = h.few in
-            let n = here Data is in
-            omega (arith, within, few, n)
-        by Flags is = good.small
+    tail-limit = within-limit world e good t.channel t.hop enters.channel enters.hop events h.own t.taken h.few (here Data)
 
     pub tail-taken : (t' : TailView) (answer : Took)
         → (e.lane.kind ≡ Data → t.standing ≡ stands.Open → RecordsItem (counted Data t) e.item answer t')
@@ -230,14 +193,14 @@ module _ (world : World) (events : List Event) (t : TailView) (h : TailHoldsWith
         small is = subst (λ n. n < 2 ^ 32) (here Flags is) good.small
 
         next : e.lane.kind ≡ Data → t.taken + 1 ≤ 2 ^ 31
-        next is = taken-few e.item (data-fits is)
+        next is = taken-few e.item (next-fits is)
 
         by : (k : Kind) → e.lane.kind ≡ k → (s : Standing) → t.standing ≡ s → Held t'
-        by Data is stands.Open live = taken-open live e.item (data-fits is) answer t' (item is live)
+        by Data is stands.Open live = taken-open live e.item (next-fits is) answer t' (item is live)
         by Data is stands.Ended over = subst (λ (z : TailView). Held z) (sym (ended is over).1) (counted-over (ap is_over over) (next is))
         by k is (stands.Failed cause) over = subst (λ (z : TailView). Held z) (sym (drops (ap has_failed over)).1) (dropped e.lane.kind (ap has_failed over) next small)
-        by Flags is stands.Open live = flags-taken (small is) e.item (flag-fits is) (ap has_failed live) t' (flag is (ap has_failed live)).1
-        by Flags is stands.Ended live = flags-taken (small is) e.item (flag-fits is) (ap has_failed live) t' (flag is (ap has_failed live)).1
+        by Flags is stands.Open live = flags-taken (small is) e.item (flag-fits world e good is t.flags_taken (here Flags is)) (ap has_failed live) t' (flag is (ap has_failed live)).1
+        by Flags is stands.Ended live = flags-taken (small is) e.item (flag-fits world e good is t.flags_taken (here Flags is)) (ap has_failed live) t' (flag is (ap has_failed live)).1
 
 -- ---- one that has taken nothing
 

@@ -19,6 +19,7 @@ use Rattle.pl_part.specs.HeadHolds.{HeadHolds}
 use Rattle.pl_part.specs.Paths.{PathView}
 use Rattle.pl_part.specs.Parts.{PartView, PartHolds, SamePart, head_hop, part_taken, part_writes, part_came}
 use Rattle.pl_part.specs.Told.{told_head, told_part, part_untold, IsTold, TellsNext}
+use Rattle.pl_part.proofs.HeadTaken.{took-same}
 
 -- ---- the marks
 
@@ -100,19 +101,7 @@ module _ {T : Type 0} (state : T → TransportState) where
         holds = record {
           own = t.own;
           few = t.few;
-          took = record {
-            ys = t.took.ys;
-            zs = t.took.zs;
-            sizes = t.took.sizes;
-            after = told-after h.failure (state h.transport).accepted h.buffer n t.took.ys t.took.zs _ t.took.sizes t.took.after;
-            count = t.took.count;
-            within = t.took.within;
-            in_order = t.took.in_order;
-            most = t.took.most;
-            running = t.took.running;
-            ended = t.took.ended;
-            none_late = t.took.none_late;
-          };
+          took = took-same state s.events h (told_head n h) t.took t.took.sizes (told-after h.failure (state h.transport).accepted h.buffer n t.took.ys t.took.zs _ t.took.sizes t.took.after) refl refl refl;
           most = t.most;
           input = t.input;
           few_input = t.few_input;

@@ -11,9 +11,11 @@ use Rattle.pl_context.specs.OutputsViews.{OutputsView}
 use Rattle.pl_context.specs.Stops.{HasPlaces, AreAmong}
 use Rattle.pl_flow.specs.Flows.{IsGood}
 use Rattle.pl_flow.specs.Makes.{Makes}
+use Rattle.pl_head.specs.HeadStand.{HeadView}
 use Rattle.pl_head.specs.Transports.{TransportState}
+use Rattle.pl_part.specs.HeadHolds.{HeadHolds, head_writes, head_came, head_lanes}
 use Rattle.pl_part.specs.Parts.{PartView, PartHolds, PartTakes, SamePart, has_entered, part_taken, part_lanes, part_writes, writes_at, part_came}
-use Rattle.pl_part.specs.Counts.{part_done}
+use Rattle.pl_part.specs.Counts.{head_done, part_done}
 
 -- An envelope is the next of its lane, which enters one of the nodes, and there are places for what they write.
 pub record IsNextFor {S T : Type 0} (world : World) (meaning : S → Meaning) (stands_after : S → List Event → Type 0) (state : T → TransportState) (p : PartView S T) (e : Envelope) (before : OutputsView) : Type 0 where
@@ -22,6 +24,17 @@ pub record IsNextFor {S T : Type 0} (world : World) (meaning : S → Meaning) (s
   pub number : e.number ≡ part_taken p e.lane
   pub good : IsGood world e
   pub places : HasPlaces before.stopped (part_lanes p)
+
+-- A head has put something, and has taken nothing. In each world where it held it holds again, and what it has put is the next
+-- of its lanes.
+pub record HeadGiven {T : Type 0} (state : T → TransportState) (h : HeadView T) (before : OutputsView) (h' : HeadView T) (after : OutputsView) : Type 0 where
+  pub place : (h'.channel ≡ h.channel) × (h'.hop ≡ h.hop)
+  pub taken : h'.taken ≡ h.taken
+  pub holds : (world : World) → HeadHolds state world h → HeadHolds state world h'
+  pub made : (world : World) → HeadHolds state world h → Makes world (head_writes h) (head_came h) (head_came h') before after
+  pub placed : (lanes : List Lane) → AreAmong (head_lanes h) lanes → HasPlaces before.stopped lanes → HasPlaces after.stopped lanes
+  -- what came on the list was made
+  pub more : head_done h + length after.items ≤ head_done h' + length before.items
 
 module _ {S T : Type 0} (meaning : S → Meaning) where
   -- The node at a hop has put something on a work list: they are the same nodes, which write the same lanes; no other lane has

@@ -12,6 +12,7 @@ ghost use Rattle.pl_head.specs.HeadStand.{EntersHead, StandsAfter, ReadsStand};
 ghost use Rattle.pl_part.specs.HeadHolds.{HeadHolds, IsHeadPlanned, head_writes, head_came, head_lanes};
 ghost use Rattle.pl_part.specs.HeadCalls.{HeadTakes, HeadReads, HeadWrites, HeadAborts};
 ghost use Rattle.pl_part.specs.Counts.{head_done};
+ghost use Rattle.pl_part.specs.PartCalls.{HeadGiven};
 
 use pl_context::{Outputs, Took};
 use pl_event::Envelope;
@@ -69,12 +70,7 @@ pub fn read_at_head<T: Transport>(head: &mut Head<T>, work: &mut Outputs) -> Rea
     requires holds { (world : World) × HeadHolds T.state world head.old }
     requires places { HasPlaces work.old.stopped (head_lanes head.old) }
     ensures reads { HeadReads T.state head.old work.old result head.new work.new }
-    ensures holds { (world : World) → HeadHolds T.state world head.old → HeadHolds T.state world head.new }
-    ensures place { (head.new.channel ≡ head.old.channel) × (head.new.hop ≡ head.old.hop) }
-    ensures taken { head.new.taken ≡ head.old.taken }
-    ensures made { (world : World) → HeadHolds T.state world head.old → Makes world (head_writes head.old) (head_came head.old) (head_came head.new) work.old work.new }
-    ensures placed { (lanes : List Lane) → AreAmong (head_lanes head.old) lanes → HasPlaces work.old.stopped lanes → HasPlaces work.new.stopped lanes }
-    ensures more { head_done head.old + length work.new.items ≤ head_done head.new + length work.old.items }
+    ensures given { HeadGiven T.state head.old work.old head.new work.new }
 {
     head.next_read(work)
 }
@@ -84,12 +80,7 @@ pub fn write_at_head<T: Transport>(head: &mut Head<T>, work: &mut Outputs) -> Ou
     requires holds { (world : World) × HeadHolds T.state world head.old }
     requires places { HasPlaces work.old.stopped (head_lanes head.old) }
     ensures writes { HeadWrites T.state T.may_refuse head.old work.old result head.new work.new }
-    ensures holds { (world : World) → HeadHolds T.state world head.old → HeadHolds T.state world head.new }
-    ensures place { (head.new.channel ≡ head.old.channel) × (head.new.hop ≡ head.old.hop) }
-    ensures taken { head.new.taken ≡ head.old.taken }
-    ensures made { (world : World) → HeadHolds T.state world head.old → Makes world (head_writes head.old) (head_came head.old) (head_came head.new) work.old work.new }
-    ensures placed { (lanes : List Lane) → AreAmong (head_lanes head.old) lanes → HasPlaces work.old.stopped lanes → HasPlaces work.new.stopped lanes }
-    ensures more { head_done head.old + length work.new.items ≤ head_done head.new + length work.old.items }
+    ensures given { HeadGiven T.state head.old work.old head.new work.new }
 {
     head.write_once(work)
 }
@@ -99,12 +90,7 @@ pub fn abort_at_head<T: Transport>(head: &mut Head<T>, work: &mut Outputs)
     requires holds { (world : World) × HeadHolds T.state world head.old }
     requires places { HasPlaces work.old.stopped (head_lanes head.old) }
     ensures aborts { HeadAborts T.state head.old work.old head.new work.new }
-    ensures holds { (world : World) → HeadHolds T.state world head.old → HeadHolds T.state world head.new }
-    ensures place { (head.new.channel ≡ head.old.channel) × (head.new.hop ≡ head.old.hop) }
-    ensures taken { head.new.taken ≡ head.old.taken }
-    ensures made { (world : World) → HeadHolds T.state world head.old → Makes world (head_writes head.old) (head_came head.old) (head_came head.new) work.old work.new }
-    ensures placed { (lanes : List Lane) → AreAmong (head_lanes head.old) lanes → HasPlaces work.old.stopped lanes → HasPlaces work.new.stopped lanes }
-    ensures more { head_done head.old + length work.new.items ≤ head_done head.new + length work.old.items }
+    ensures given { HeadGiven T.state head.old work.old head.new work.new }
 {
     head.abort(work)
 }

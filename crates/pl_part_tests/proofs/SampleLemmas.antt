@@ -1,8 +1,8 @@
 -- The part of the tests: what it is made of, and that it stays ready.
-use Rattle.std.proofs.Common.{◌≡◌, ℕ, zero, suc, ◌+◌, ◌<◌, ◌≤◌, ◌^◌, Bool, true, false, ◌&&◌, ◌||◌, not, cond, List, [], ◌∷◌, ◌++◌, length, map, replicate, get_or, slice_get, Option, Some, None, Result, Ok, Err, IfOk, refl, ap, ap₂, sym, ◌∙◌, subst, ⊎_elim, arith}
+use Rattle.std.proofs.Common.{◌≡◌, ℕ, zero, suc, ◌+◌, ◌<◌, ◌≤◌, ◌^◌, Bool, true, false, ◌&&◌, cond, List, [], ◌∷◌, ◌++◌, length, map, replicate, get_or, slice_get, Option, Some, None, Result, Ok, Err, IfOk, refl, ap, sym, ◌∙◌, subst, ⊎_elim, arith}
 use Rattle.std.specs.Prelude.{◌==◌, nat_lt, is_some, if◌then◌else◌}
 use Rattle.std.specs.Option.{option_map_or}
-use Rattle.std.proofs.lemmas.Bool.{cond-true, cond-false, cases_Bool, both_ways, ne_eqb, lt-leb, lt-ltb, ltb-true, ltb-false}
+use Rattle.std.proofs.lemmas.Bool.{cond-false, cases_Bool, both_ways, ne_eqb, ltb-true, ltb-false}
 use Rattle.std.proofs.lemmas.List.{length-map}
 use Rattle.std.specs.declared.alloc.AllocError.{AllocError}
 use Rattle.pl_event.specs.declared.envelopes.Envelope.{Envelope}
@@ -11,30 +11,27 @@ use Rattle.pl_event.specs.declared.envelopes.Kind.TheVariants.{Data, Flags}
 use Rattle.pl_event.specs.declared.envelopes.Lane.{Lane}
 use Rattle.pl_event.specs.declared.stages.Direction.{Direction}
 use Rattle.pl_event.specs.declared.stages.Direction.TheVariants.{Inbound, Outbound, Turn}
-use Rattle.pl_event.specs.Hops.{same_lane, same_kind, data_lane, flags_lane}
+use Rattle.pl_event.specs.Hops.{same_lane, same_kind, data_lane}
 use Rattle.pl_event.specs.Inputs.{recorded_input}
 use Rattle.pl_event.specs.Meaning.{up_of, down_of}
-use Rattle.pl_event.specs.Worlds.{World, content_of}
-use Rattle.pl_context.specs.declared.ports.Port.{Port}
-use Rattle.pl_context.specs.declared.standing.Standing.TheVariants as stands
-use Rattle.pl_context.specs.Standings.{is_over}
+use Rattle.pl_event.specs.Worlds.{World}
 use Rattle.pl_context.specs.ContextViews.{ContextView, kind_taken, taken_of}
 use Rattle.pl_context.specs.OutputsViews.{OutputsView}
 use Rattle.pl_context.specs.Stops.{StopsView, HasPlaces, AreAmong, no_stops, has_stopped}
 use Rattle.pl_context.specs.TailViews.{TailView, new_tail, kind_taken as tail_kind_taken, taken_of as tail_taken_of}
 use Rattle.pl_context.proofs.Places.{places-start}
-use Rattle.pl_flow.specs.Flows.{Point, point, nowhere, on, IsGood}
+use Rattle.pl_flow.specs.Flows.{point, nowhere, on, IsGood}
 use Rattle.pl_flow.specs.Makes.{Makes}
 use Rattle.pl_head.specs.declared.inputs.ReadPlan.{ReadPlan}
-use Rattle.pl_head.specs.ReadSteps.{plan_steps}
 use Rattle.pl_head.specs.Transports.{MemoryTransportView, memory_state}
-use Rattle.pl_head.specs.HeadStand.{HeadView, StandsAfter, ReadsStand, HasFewFlags}
-use Rattle.pl_part.specs.ContextHolds.{context_writes, context_came, port_point}
+use Rattle.pl_head.specs.HeadStand.{HeadView}
+use Rattle.pl_part.specs.ContextHolds.{context_writes, context_came}
 use Rattle.pl_part.specs.HeadHolds.{HeadHolds, head_writes, head_came, head_taken}
 use Rattle.pl_part.specs.NewParts.{IsPlannedAt, ArePlannedWith, AreNew}
-use Rattle.pl_part.specs.Paths.{PathView, writer_hop, path_taken, path_lanes, path_writes, path_came}
+use Rattle.pl_part.specs.Paths.{writer_hop, path_taken, path_lanes, path_writes, path_came}
 use Rattle.pl_part.specs.Parts.{PartView, PartHolds, SamePart, head_hop, has_entered, part_taken, part_lanes, part_writes, writes_at, part_came}
 use Rattle.pl_part.specs.PartCalls.{IsNextFor}
+use Rattle.pl_part.proofs.NewHeads.{IsFresh, new-holds, new-came, new-taken}
 use Rattle.pl_part_tests.specs.declared.relays.Relay.{Relay}
 use Rattle.pl_part_tests.specs.Relays.{relaying}
 use Rattle.pl_part_tests.specs.Playing.{Waits}
@@ -231,72 +228,16 @@ sample-planned inbound outbound s0 s1 s2 i o e0 e1 e2 = subst (λ (y : List Rela
 
 -- ---- its head
 
--- what `Head::new` says of it
-pub record IsFresh (plan : ReadPlan) (h : HeadView MemoryTransportView) : Type 0 where
-  pub after : StandsAfter memory_state h [] [] []
-  pub reads : ReadsStand plan 0 false h
-  pub entrance : h.input.port.lane ≡ data_lane 7 0
-  pub place : (h.channel ≡ 7) × (h.hop ≡ 4)
-  pub flags : h.buffer.flags ≡ record { lane = flags_lane 7 0; made = 0; is_open = true }
-  pub taken : h.taken ≡ 0
-  pub standing : h.standing ≡ stands.Open
-  pub few : HasFewFlags h
-
-module _ (plan : ReadPlan) (h : HeadView MemoryTransportView) (bursts : plan.bursts ≡ sample_bursts) (new : IsFresh plan h) where
-  pub head-holds : HeadHolds memory_state sample_world h
-  unfolding same_lane
-  head-holds = record {
-    plan = plan;
-    events = down_of (relaying Outbound) (down_of (relaying Turn) (up_of (relaying Inbound) sample_events));
-    holds = record {
-      own = (λ i. content_of sample_world (data_lane (new.place.0 i) (new.place.1 i))) ∙ refl;
+head-holds : (plan : ReadPlan) (h : HeadView MemoryTransportView) → plan.bursts ≡ sample_bursts → IsFresh memory_state plan 7 4 h → HeadHolds memory_state sample_world h
+unfolding same_lane
+head-holds plan h bursts new = new-holds memory_state plan 7 4 h new sample_world
+    (record {
+      events = down_of (relaying Outbound) (down_of (relaying Turn) (up_of (relaying Inbound) sample_events));
+      own = refl;
       few = omega arith;
-      took = record {
-        ys = [];
-        zs = [];
-        sizes = [];
-        after = new.after;
-        count = 0;
-        within = omega arith;
-        in_order = refl;
-        most = omega arith;
-        running = λ live. new.taken;
-        ended = λ ended. absurd (both_ways false refl (ap is_over (sym new.standing ∙ ended)));
-        none_late = λ over. refl;
-      };
-      most = omega (arith, new.taken);
-      input = (λ i. content_of sample_world (data_lane (new.place.0 i) 0)) ∙ ap (λ bs. Some (recorded_input bs)) (sym bursts);
-      few_input = subst (λ (bs : List (List (List ℕ))). length (recorded_input bs) + 1 < 2 ^ 31) (sym bursts) (omega arith);
-      reads = (0, false, new.reads);
-      entrance = new.entrance ∙ ap (λ n. data_lane n 0) (sym new.place.0);
-      flags = ap (λ (p : Port). p.lane) new.flags ∙ ap (λ n. flags_lane n 0) (sym new.place.0);
-      few_flags = new.few;
-    };
-  }
-
-  some-steps : 0 < plan_steps plan
-  some-steps = omega arith
-
-  reads-start : port_point h.input.port ≡ point 0 false
-  reads-start =
-      ap₂ (λ (n : ℕ) (goes_on : Bool). point n (not goes_on))
-      (new.reads.made ∙ ap {B = ℕ} (λ (b : Bool). (0 + cond b 1 0) + 0) (lt-leb (plan_steps plan) 0 some-steps))
-      (new.reads.is_open ∙ lt-ltb 0 (plan_steps plan) some-steps)
-
-  pub head-starts : (l : Lane) → head_writes h l ≡ true → head_came h l ≡ point 0 false
-  head-starts l writes = by (same_lane l (data_lane h.channel 0)) (same_lane l (flags_lane h.channel 0)) writes
-    where
-      by : (a b : Bool) → (a || b) ≡ true → cond a (port_point h.input.port) (cond b (port_point h.buffer.flags) nowhere) ≡ point 0 false
-      by true b w = reads-start
-      by false true w = ap port_point new.flags
-      by false false w = cc
-
-  pub head-untaken : (l : Lane) → head_taken h l ≡ 0
-  head-untaken l = by (same_lane l (data_lane h.channel h.hop))
-    where
-      by : (b : Bool) → cond b h.taken 0 ≡ 0
-      by true = new.taken
-      by false = refl
+      input = ap (λ bs. Some (recorded_input bs)) (sym bursts);
+    })
+    (subst (λ (bs : List (List (List ℕ))). length (recorded_input bs) + 1 < 2 ^ 31) (sym bursts) (omega arith))
 
 -- ---- all of it
 
@@ -388,7 +329,7 @@ module _ (r : Result Part AllocError) (inbound outbound : List Relay) (two : len
       }
       by (Err e) place filled tail head = tt
 
-  pub made-ready : (plan : ReadPlan) → plan.bursts ≡ sample_bursts → IsFresh plan h → ArePlannedWith sample_world sample_meaning 7 1 inbound outbound → IfOk r (λ p. IsSample p)
+  pub made-ready : (plan : ReadPlan) → plan.bursts ≡ sample_bursts → IsFresh memory_state plan 7 4 h → ArePlannedWith sample_world sample_meaning 7 1 inbound outbound → IfOk r (λ p. IsSample p)
       → IfOk r (λ p. (world : World) → ArePlannedWith world sample_meaning 7 1 inbound outbound → AreNew world sample_meaning 7 (length inbound) 1 anywhere p.path.contexts)
       → IfOk r (λ p. (world : World) → ArePlannedWith world sample_meaning 7 1 inbound outbound → HeadHolds memory_state world h → PartHolds world sample_meaning anywhere memory_state p)
       → IfOk r (λ p. (w : OutputsView) → w.items ≡ [] → w.stopped ≡ no_stops 5 → IsReady p w)
@@ -400,5 +341,5 @@ module _ (r : Result Part AllocError) (inbound outbound : List Relay) (two : len
           → IfOk r (λ p. (w : OutputsView) → w.items ≡ [] → w.stopped ≡ no_stops 5 → IsReady p w)
       by (Ok p) sample tail head new holds =
           ready-at-first p sample (holds sample_world planned (head-holds plan h bursts fresh)) (subst (λ (n : ℕ). AreNew sample_world sample_meaning 7 n 1 anywhere p.path.contexts) two (new sample_world planned))
-          (tail ∙ ap (λ (n : ℕ). Some (new_tail 7 n)) two) h head (head-starts plan h bursts fresh) (head-untaken plan h bursts fresh)
+          (tail ∙ ap (λ (n : ℕ). Some (new_tail 7 n)) two) h head (new-came memory_state plan 7 4 h fresh) (new-taken memory_state plan 7 4 h fresh)
       by (Err e) sample tail head new holds = tt

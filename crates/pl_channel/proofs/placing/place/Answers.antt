@@ -8,11 +8,11 @@ use Rattle.pl_event.specs.Worlds.{World}
 use Rattle.pl_event.proofs.Lists.{position_or_len-map}
 use Rattle.pl_context.specs.TailViews.{new_tail}
 use Rattle.pl_part.specs.NewParts.{ArePlannedWith}
+use Rattle.pl_part.proofs.NewHeads.{IsFresh, new-holds, new-came, new-taken}
 use Rattle.pl_world.specs.Plans.{channel_planned, head_hop}
 use Rattle.pl_channel.specs.Lanes.{channel_lanes, lanes_of}
 use Rattle.pl_channel.proofs.LaneContents.{channel-lane, content-planned}
 use Rattle.pl_channel.proofs.PlannedLanes.{Knows, are-planned, few-input, head-planned}
-use Rattle.pl_channel.proofs.NewHeads.{IsFresh, new-holds, new-came, new-taken}
 use Rattle.pl_channel.proofs.NewChannels.{new-unmoved}
 use Rattle.pl_channel.proofs.placing.place.Goals as goal
 use Rattle.pl_channel.proofs.placing.place.Goals.{After-whole}

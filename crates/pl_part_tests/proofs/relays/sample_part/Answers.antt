@@ -1,7 +1,7 @@
 use Rattle.std.proofs.Common.{length, ap, List}
 use Rattle.pl_part_tests.specs.declared.relays.Relay.{Relay}
 use Rattle.pl_part_tests.specs.SampleParts.{sample_world}
-use Rattle.pl_part_tests.proofs.SampleLemmas.{IsFresh, sample-planned, made-sample, made-ready}
+use Rattle.pl_part_tests.proofs.SampleLemmas.{sample-planned, made-sample, made-ready}
 use Rattle.pl_part_tests.proofs.relays.sample_part.Goals as goal
 
 pub whole-requires-clause-planned : goal.whole-requires-clause-planned

@@ -1,43 +1,15 @@
-use Rattle.std.proofs.Common.{sym, subst}
-use Rattle.pl_event.specs.Worlds.{World}
-use Rattle.pl_context.specs.Stops.{HasPlaces}
-use Rattle.pl_part.specs.Parts.{PartView, PartHolds, head_hop, part_lanes}
-use Rattle.pl_part.proofs.PartSteps.{head-places, head-given, none-given, given-of, reads-of}
+use Rattle.pl_part.proofs.PartSteps.{given-none, places-there, given-there, reads-of}
 use Rattle.pl_part.proofs.parts.ChannelPart.read_there.Goals as goal
 
 pub returns-in_default-clause-given : goal.returns-in_default-clause-given
-returns-in_default-clause-given g c =
-    let meaning = g.S.Stage.meaning in
-    let stands = g.S.Stage.stands_after in
-    let state = g.T.Transport.state in
-    let v : PartView _ _ = record { path = c.self.inside.path; head = c.self.inside.head } in
-    let holds = subst (λ (y : PartView _ _). (world : World) × PartHolds world meaning stands state y) (sym c.self.view_is) c.requires.holds in
-    given-of meaning stands state _ v c.self.view_is c.args.work.now v c.args.work.now (none-given meaning stands state v holds (head_hop v) c.args.work.now)
+returns-in_default-clause-given g c = given-none g.S.Stage.meaning g.S.Stage.stands_after g.T.Transport.state _ _ c.self.view_is c.args.work.now c.requires.holds
 
 pub read_at_head-requires-clause-places : goal.read_at_head-requires-clause-places
-read_at_head-requires-clause-places g c =
-    let meaning = g.S.Stage.meaning in
-    let stands = g.S.Stage.stands_after in
-    let state = g.T.Transport.state in
-    let v : PartView _ _ = record { path = c.self.inside.path; head = c.self.inside.head } in
-    let holds = subst (λ (y : PartView _ _). (world : World) × PartHolds world meaning stands state y) (sym c.self.view_is) c.requires.holds in
-    head-places meaning stands state v holds c.in-Some.head c.in-Some.is c.args.work.now (subst (λ (y : PartView _ _). HasPlaces c.args.work.now.stopped (part_lanes y)) (sym c.self.view_is) c.requires.places)
+read_at_head-requires-clause-places g c = places-there g.S.Stage.meaning g.S.Stage.stands_after g.T.Transport.state _ _ c.self.view_is c.args.work.now c.requires.holds c.in-Some.head c.in-Some.is c.requires.places
 
 pub returns-clause-reads : goal.returns-clause-reads
-returns-clause-reads g c =
-    let meaning = g.S.Stage.meaning in
-    let stands = g.S.Stage.stands_after in
-    let state = g.T.Transport.state in
-    let v : PartView _ _ = record { path = c.self.inside.path; head = c.self.inside.head } in
-    reads-of meaning stands state _ v c.self.view_is c.args.work.now v c.read_at_head.new.work c.in-Some.head c.in-Some.is c.read_at_head.new.head c.read_at_head.result c.read_at_head.ensures.reads
+returns-clause-reads g c = reads-of g.T.Transport.state _ _ c.self.view_is c.args.work.now c.in-Some.head c.in-Some.is c.read_at_head.new.head c.read_at_head.new.work c.read_at_head.result c.read_at_head.ensures.reads
 
 pub returns-clause-given : goal.returns-clause-given
 returns-clause-given g c =
-    let meaning = g.S.Stage.meaning in
-    let stands = g.S.Stage.stands_after in
-    let state = g.T.Transport.state in
-    let v : PartView _ _ = record { path = c.self.inside.path; head = c.self.inside.head } in
-    let holds = subst (λ (y : PartView _ _). (world : World) × PartHolds world meaning stands state y) (sym c.self.view_is) c.requires.holds in
-    let t = c.read_at_head.ensures in
-    given-of meaning stands state _ v c.self.view_is _ _ _
-    (head-given meaning stands state v c.in-Some.head c.in-Some.is c.read_at_head.new.head t.place holds c.args.work.now c.read_at_head.new.work t.taken t.holds t.made t.placed t.more)
+    given-there g.S.Stage.meaning g.S.Stage.stands_after g.T.Transport.state _ _ c.self.view_is c.args.work.now c.requires.holds c.in-Some.head c.in-Some.is c.read_at_head.new.head c.read_at_head.new.work c.read_at_head.ensures.given

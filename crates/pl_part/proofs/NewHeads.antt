@@ -1,13 +1,12 @@
 -- A head that has taken nothing.
 use Rattle.std.proofs.Common.{◌≡◌, ℕ, ◌+◌, ◌<◌, ◌^◌, Bool, true, false, ◌||◌, cond, not, [], length, refl, sym, ap, ap₂, ◌∙◌, arith}
-use Rattle.std.proofs.lemmas.Bool.{both_ways, lt-leb, lt-ltb}
+use Rattle.std.proofs.lemmas.Bool.{lt-leb, lt-ltb}
 use Rattle.pl_event.specs.declared.envelopes.Lane.{Lane}
 use Rattle.pl_event.specs.Hops.{same_lane, data_lane, flags_lane}
 use Rattle.pl_event.specs.Inputs.{recorded_input}
 use Rattle.pl_event.specs.Worlds.{World, content_of}
 use Rattle.pl_context.specs.declared.standing.Standing.TheVariants as stands
 use Rattle.pl_context.specs.declared.ports.Port.{Port}
-use Rattle.pl_context.specs.Standings.{is_over}
 use Rattle.pl_flow.specs.Flows.{point, nowhere}
 use Rattle.pl_head.specs.declared.inputs.ReadPlan.{ReadPlan}
 use Rattle.pl_head.specs.ReadSteps.{plan_steps}
@@ -15,6 +14,7 @@ use Rattle.pl_head.specs.Transports.{TransportState}
 use Rattle.pl_head.specs.HeadStand.{HeadView, StandsAfter, ReadsStand, HasFewFlags}
 use Rattle.pl_part.specs.ContextHolds.{port_point}
 use Rattle.pl_part.specs.HeadHolds.{HeadHolds, IsHeadPlanned, head_writes, head_came, head_taken}
+use Rattle.pl_part.proofs.HeadTaken.{took-none}
 
 -- what `Head::new` says of a head
 pub record IsFresh {T : Type 0} (state : T → TransportState) (plan : ReadPlan) (channel hop : ℕ) (h : HeadView T) : Type 0 where
@@ -35,19 +35,7 @@ module _ {T : Type 0} (state : T → TransportState) (plan : ReadPlan) (channel 
     holds = record {
       own = (λ i. content_of world (data_lane (new.place.0 i) (new.place.1 i))) ∙ p.own;
       few = p.few;
-      took = record {
-        ys = [];
-        zs = [];
-        sizes = [];
-        after = new.after;
-        count = 0;
-        within = omega arith;
-        in_order = refl;
-        most = omega arith;
-        running = λ live. new.taken;
-        ended = λ ended. absurd (both_ways false refl (ap is_over (sym new.standing ∙ ended)));
-        none_late = λ over. refl;
-      };
+      took = took-none state p.events h new.after new.taken new.standing;
       most = omega (arith, new.taken);
       input = (λ i. content_of world (data_lane (new.place.0 i) 0)) ∙ p.input;
       few_input = few;

@@ -1,0 +1,47 @@
+-- What a head took of its lane, when it has taken no more events.
+use Rattle.std.proofs.Common.{◌≡◌, ◌≤◌, false, [], List, refl, sym, ap, ◌∙◌, arith}
+use Rattle.std.proofs.lemmas.Bool.{both_ways}
+use Rattle.pl_event.specs.declared.events.Event.{Event}
+use Rattle.pl_context.specs.declared.standing.Standing.TheVariants as stands
+use Rattle.pl_context.specs.Standings.{is_over}
+use Rattle.pl_head.specs.Marks.{Change}
+use Rattle.pl_head.specs.Transports.{TransportState}
+use Rattle.pl_head.specs.HeadStand.{HeadView, StandsAfter, lane_over}
+use Rattle.pl_part.specs.HeadHolds.{HeadTook}
+
+module _ {T : Type 0} (state : T → TransportState) (events : List Event) where
+  module _ (h h' : HeadView T) (t : HeadTook state events h) (sizes : List Change) (after : StandsAfter state h' t.ys t.zs sizes) (standing : h'.standing ≡ h.standing) where
+    pub took-again : t.count ≤ h'.taken → (lane_over h' ≡ false → h'.taken ≡ t.count) → HeadTook state events h'
+    took-again most running = record {
+      ys = t.ys;
+      zs = t.zs;
+      sizes = sizes;
+      after = after;
+      count = t.count;
+      within = t.within;
+      in_order = t.in_order;
+      most = most;
+      running = running;
+      ended = λ o. t.ended (sym standing ∙ o);
+      none_late = λ o. t.none_late (ap is_over (sym standing) ∙ o);
+    }
+
+    -- nor any item
+    pub took-same : h'.taken ≡ h.taken → lane_over h' ≡ lane_over h → HeadTook state events h'
+    took-same taken over = took-again (let most = t.most in omega (arith, most, taken)) (λ o. taken ∙ t.running (sym over ∙ o))
+
+  -- It has taken none yet.
+  pub took-none : (h : HeadView T) → StandsAfter state h [] [] [] → h.taken ≡ 0 → h.standing ≡ stands.Open → HeadTook state events h
+  took-none h after none live = record {
+    ys = [];
+    zs = [];
+    sizes = [];
+    after = after;
+    count = 0;
+    within = omega arith;
+    in_order = refl;
+    most = omega arith;
+    running = λ o. none;
+    ended = λ o. absurd (both_ways false refl (ap is_over (sym live ∙ o)));
+    none_late = λ o. refl;
+  }
