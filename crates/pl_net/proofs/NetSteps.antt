@@ -32,18 +32,15 @@ module _ (world : World) (v : NodesView) (x : ℕ) (executors : List ExecutorVie
       subst (λ (u : NodesView). NetRuns world u x executors backlogs work)
       (λ i. record v' { target = λ l. sym (r.target l) i; origin = λ l. sym (r.origin l) i; writes = λ l. sym (r.writes l) i; taken = λ l. sym (n l) i }) runs
 
-  pub nets-put : (v' : NodesView) (before after : OutputsView) → NetRuns world v x executors backlogs before → SameRoutes v v' → ((l : Lane) → v'.taken l ≡ v.taken l) → NodesMake world v x before v' after
-      → NetRuns world v' x executors backlogs after
-  nets-put v' before after runs routes taken makes = moved v.taken v' after routes taken (record {
-    lanes = λ l w.
-        let s = runs.lanes l w in (
-          s.0,
-          subst (λ zs. LaneStands world (point (v.taken l) s.0) (on l (queue_at executors (v.target l))) (on l (envelopes (backlogs (v.origin l)))) (has_stopped (stops_at executors (v.origin l) (v.target l)) l) (has_stopped after.stopped l) zs (v'.came l)) (sym (more l))
-              (lane-puts world (written_by v x l) (has_stopped (stops_at executors (v.origin l) (v.target l)) l) (has_stopped before.stopped l) (has_stopped after.stopped l) (point (v.taken l) s.0) (v.came l) (v'.came l)
-              (on l (queue_at executors (v.target l))) (on l (envelopes (backlogs (v.origin l)))) (on l before.items) (on l makes.added) s.1 (makes.lanes l)),
-        );
+  -- Another list, which another executor may run, and other numbers of what was taken: all else is as it was.
+  pub relisted : (v' : NodesView) (t : Lane → ℕ) (y : ℕ) (before after : OutputsView) → NetRuns world v x executors backlogs before
+      → ((l : Lane) → v.writes l ≡ true → (over : Bool) × LaneStands world (point (t l) over) (on l (queue_at executors (v.target l))) (on l (envelopes (backlogs (v.origin l)))) (has_stopped (stops_at executors (v.origin l) (v.target l)) l) (has_stopped after.stopped l) (on l after.items) (v'.came l))
+      → ((l : Lane) → written_by v y l ≡ false → on l after.items ≡ [])
+      → NetRuns world (record v' { target = v.target; origin = v.origin; writes = v.writes; taken = t }) y executors backlogs after
+  relisted v' t y before after runs lanes listed = record {
+    lanes = lanes;
     direct = runs.direct;
-    listed = λ l n. more l ∙ ap (λ zs. zs ++ on l makes.added) (runs.listed l n) ∙ (makes.lanes l).idle n;
+    listed = listed;
     queued = runs.queued;
     waits = runs.waits;
     entries = runs.entries;
@@ -53,7 +50,19 @@ module _ (world : World) (v : NodesView) (x : ℕ) (executors : List ExecutorVie
     hops = runs.hops;
     placed = runs.placed;
     among = runs.among;
-  })
+  }
+
+  pub nets-put : (v' : NodesView) (before after : OutputsView) → NetRuns world v x executors backlogs before → SameRoutes v v' → ((l : Lane) → v'.taken l ≡ v.taken l) → NodesMake world v x before v' after
+      → NetRuns world v' x executors backlogs after
+  nets-put v' before after runs routes taken makes = moved v.taken v' after routes taken (relisted v' v.taken x before after runs
+      (λ l w.
+      let s = runs.lanes l w in (
+        s.0,
+        subst (λ zs. LaneStands world (point (v.taken l) s.0) (on l (queue_at executors (v.target l))) (on l (envelopes (backlogs (v.origin l)))) (has_stopped (stops_at executors (v.origin l) (v.target l)) l) (has_stopped after.stopped l) zs (v'.came l)) (sym (more l))
+            (lane-puts world (written_by v x l) (has_stopped (stops_at executors (v.origin l) (v.target l)) l) (has_stopped before.stopped l) (has_stopped after.stopped l) (point (v.taken l) s.0) (v.came l) (v'.came l)
+            (on l (queue_at executors (v.target l))) (on l (envelopes (backlogs (v.origin l)))) (on l before.items) (on l makes.added) s.1 (makes.lanes l)),
+      ))
+      (λ l n. more l ∙ ap (λ zs. zs ++ on l makes.added) (runs.listed l n) ∙ (makes.lanes l).idle n))
     where
       more : (l : Lane) → on l after.items ≡ on l before.items ++ on l makes.added
       more l = ap (λ zs. on l zs) makes.items ∙ on-append l before.items makes.added
@@ -116,27 +125,16 @@ module _ (world : World) (v : NodesView) (x : ℕ) (executors : List ExecutorVie
           (lane-called world false (has_stopped before.stopped e.lane) (point (v.taken e.lane) over) (v.came e.lane) e (on e.lane mid.items) alone)
 
       pub called : NetRuns world (record v { taken = taken_with v e }) x executors backlogs mid
-      called = record {
-        lanes = λ l w. ⊎_elim
-            (λ (t : same_lane l e.lane ≡ true).
-            subst (λ (m : Lane). (o : Bool) × LaneStands world (point (taken_with v e m) o) (on m (queue_at executors (v.target m))) (on m (envelopes (backlogs (v.origin m)))) (has_stopped (stops_at executors (v.origin m) (v.target m)) m) (has_stopped mid.stopped m) (on m mid.items) (v.came m))
-            (sym (same_lane-equal l e.lane t)) (closes e.item, called-here))
-            (λ (f : same_lane l e.lane ≡ false).
-            let s = runs.lanes l w in (
-              s.0,
-              subst (λ (y : ℕ × StopsView × List Envelope). LaneStands world (point y.0 s.0) (on l (queue_at executors (v.target l))) (on l (envelopes (backlogs (v.origin l)))) (has_stopped (stops_at executors (v.origin l) (v.target l)) l) (has_stopped y.1 l) y.2 (v.came l))
-                  (λ i. (sym (cond-false (same_lane l e.lane) (e.number + 1) (v.taken l) f) i, sym stops i, same-on l f i)) s.1,
-            ))
-            (cases_Bool (same_lane l e.lane));
-        direct = runs.direct;
-        listed = listed-left;
-        queued = runs.queued;
-        waits = runs.waits;
-        entries = runs.entries;
-        holds = runs.holds;
-        targets = runs.targets;
-        there = runs.there;
-        hops = runs.hops;
-        placed = runs.placed;
-        among = runs.among;
-      }
+      called = relisted v (taken_with v e) x before mid runs
+          (λ l w. ⊎_elim
+          (λ (t : same_lane l e.lane ≡ true).
+          subst (λ (m : Lane). (o : Bool) × LaneStands world (point (taken_with v e m) o) (on m (queue_at executors (v.target m))) (on m (envelopes (backlogs (v.origin m)))) (has_stopped (stops_at executors (v.origin m) (v.target m)) m) (has_stopped mid.stopped m) (on m mid.items) (v.came m))
+          (sym (same_lane-equal l e.lane t)) (closes e.item, called-here))
+          (λ (f : same_lane l e.lane ≡ false).
+          let s = runs.lanes l w in (
+            s.0,
+            subst (λ (y : ℕ × StopsView × List Envelope). LaneStands world (point y.0 s.0) (on l (queue_at executors (v.target l))) (on l (envelopes (backlogs (v.origin l)))) (has_stopped (stops_at executors (v.origin l) (v.target l)) l) (has_stopped y.1 l) y.2 (v.came l))
+                (λ i. (sym (cond-false (same_lane l e.lane) (e.number + 1) (v.taken l) f) i, sym stops i, same-on l f i)) s.1,
+          ))
+          (cases_Bool (same_lane l e.lane)))
+          listed-left

@@ -16,24 +16,11 @@ use Rattle.pl_net.specs.NodesViews.{NodesView}
 use Rattle.pl_net.specs.Nets.{ExecutorView, queue_at, stops_at, envelopes, LaneStands, NetRuns, AreFew}
 use Rattle.pl_net.proofs.LaneSteps.{lane-task}
 use Rattle.pl_net.proofs.OneExecutor.{Replaces, on-executor, queue-here, queue-was, queue-there}
-use Rattle.pl_net.proofs.NetSteps.{cons-none, taken_with}
+use Rattle.pl_net.proofs.NetSteps.{cons-none, taken_with, relisted}
 
 -- Between two moves any executor may be the next to run.
 pub at-rest : (world : World) (v : NodesView) (x y : ℕ) (es : List ExecutorView) (backlogs : ℕ → List (Entry (Unit {0}))) (work : OutputsView) → work.items ≡ [] → NetRuns world v x es backlogs work → NetRuns world v y es backlogs work
-at-rest world v x y es backlogs work none runs = record {
-  lanes = runs.lanes;
-  direct = runs.direct;
-  listed = λ l n. ap (on l) none;
-  queued = runs.queued;
-  waits = runs.waits;
-  entries = runs.entries;
-  holds = runs.holds;
-  targets = runs.targets;
-  there = runs.there;
-  hops = runs.hops;
-  placed = runs.placed;
-  among = runs.among;
-}
+at-rest world v x y es backlogs work none runs = relisted world v x es backlogs v v.taken y work work runs runs.lanes (λ l n. ap (on l) none)
 
 module _ (world : World) (v : NodesView) (x : ℕ) (es : List ExecutorView) (backlogs : ℕ → List (Entry (Unit {0}))) (work : OutputsView) (runs : NetRuns world v x es backlogs work)
     (y : ℕ) (es' : List ExecutorView) (a a' : ExecutorView) (r : Replaces es es' y a a') (e : Envelope) (front : a.queue ≡ e ∷ a'.queue) (same : a'.waiting ≡ a.waiting) where

@@ -1,7 +1,6 @@
-use Rattle.std.proofs.Common.{refl, sym, subst, ℕ}
-use Rattle.pl_net.specs.Nets.{CoreView, CoreStands, Settles}
+use Rattle.std.proofs.Common.{refl}
 use Rattle.pl_net.specs.Cores.{core_view}
-use Rattle.pl_net.proofs.CoreSteps.{give-stands, rest-stands}
+use Rattle.pl_net.proofs.CoreSteps.{given-stands, given-settles}
 use Rattle.pl_net.proofs.cores.Core.read.Goals as goal
 
 pub home-home-requires-clause-stands : goal.home-home-requires-clause-stands
@@ -10,30 +9,17 @@ home-home-requires-clause-stands g c = let w = c.requires.stands in (w.0, w.3.ho
 pub work_off-requires-clause-stands : goal.work_off-requires-clause-stands
 work_off-requires-clause-stands g c =
     let w = c.requires.stands in
-    let from = core_view c.args.self.now w.2 in
-    let home = (g.N.Nodes.view_of c.args.self.now.nodes).home c.args.channel in (
+    let t = c.if-not-read.ensures in (
       w.0,
       w.2,
-      subst (λ (x : ℕ). CoreStands g.N.Nodes.view_of g.N.Nodes.stands w.0 x (record from { nodes = c.read.new.self; work = c.read.new.work })) (sym c.home-home.ensures)
-          (give-stands g.N.Nodes.view_of g.N.Nodes.stands w.0 home from (rest-stands g.N.Nodes.view_of g.N.Nodes.stands w.0 w.1 home from c.requires.rests w.3) c.read.new.self c.read.new.work
-          (c.if-not-read.ensures.view refl) (c.if-not-read.ensures.stands w.0 w.3.hold) (c.if-not-read.ensures.makes w.0 w.3.hold)),
+      given-stands g.N.Nodes.view_of g.N.Nodes.stands w.0 w.1 _ _ c.home-home.ensures (core_view c.args.self.now w.2) c.requires.rests w.3 c.read.new.self c.read.new.work
+          (t.view refl) (t.stands w.0 w.3.hold) (t.makes w.0 w.3.hold),
     )
 
 pub returns-clause-runs : goal.returns-clause-runs
 returns-clause-runs g c = λ is world x backlogs h.
+    let t = c.if-not-read.ensures in
     let from = core_view c.args.self.now backlogs in
-    let home = (g.N.Nodes.view_of c.args.self.now.nodes).home c.args.channel in
-    let to : CoreView g.row.N.Denot = record from { nodes = c.read.new.self; work = c.read.new.work } in
-    let s = c.work_off.ensures.settles world backlogs
-    (subst (λ (y : ℕ). CoreStands g.N.Nodes.view_of g.N.Nodes.stands world y to) (sym c.home-home.ensures)
-    (give-stands g.N.Nodes.view_of g.N.Nodes.stands world home from (rest-stands g.N.Nodes.view_of g.N.Nodes.stands world x home from c.requires.rests h) c.read.new.self c.read.new.work
-    (c.if-not-read.ensures.view refl) (c.if-not-read.ensures.stands world h.hold) (c.if-not-read.ensures.makes world h.hold))) in (
-      s.0,
-      subst (λ (y : ℕ). CoreStands g.N.Nodes.view_of g.N.Nodes.stands world y (core_view c.work_off.new.self s.0)) c.home-home.ensures s.1,
-      record {
-        nodes = c.read.new.self;
-        work = c.read.new.work;
-        given = c.if-not-read.ensures.reads refl;
-        settles = subst (λ (y : ℕ). Settles g.N.Nodes.view_of g.N.Nodes.takes y to (core_view c.work_off.new.self s.0)) c.home-home.ensures s.2;
-      },
-    )
+    let stands = given-stands g.N.Nodes.view_of g.N.Nodes.stands world x _ _ c.home-home.ensures from c.requires.rests h c.read.new.self c.read.new.work (t.view refl) (t.stands world h.hold) (t.makes world h.hold) in
+    given-settles g.N.Nodes.view_of g.N.Nodes.stands world x _ _ c.home-home.ensures from c.requires.rests h c.read.new.self c.read.new.work
+    g.N.Nodes.takes g.N.Nodes.reads c.args.channel (t.reads refl) (λ b. core_view c.work_off.new.self b) (c.work_off.ensures.settles world backlogs stands)

@@ -1,4 +1,4 @@
-use Rattle.std.proofs.Common.{◌≡◌, ◌≢◌, ◌<◌, ◌∷◌, [], ℕ, Some, length, set, slice_get, refl, sym, subst, ◌∙◌, arith, inl, inr}
+use Rattle.std.proofs.Common.{◌≡◌, ◌≢◌, ◌<◌, ◌+◌, ◌^◌, ◌∷◌, [], ℕ, Some, length, set, slice_get, refl, sym, subst, ◌∙◌, arith, inl, inr}
 use Rattle.std.proofs.lemmas.Option.{slice_get_read}
 use Rattle.pl_context.specs.Stops.{HasPlaces}
 use Rattle.pl_context.specs.WaitingViews.{stops_for}
@@ -39,28 +39,30 @@ own g c =
     let es = c.args.self.now.executors.items in
     slice_get_read es (length es) c.args.me c.index_mut.result.now refl (omega (arith, c.requires.there, c.args.self.now.executors.ok.0)) c.index_mut.ensures.value
 
-pub add-requires-clause-there : goal.add-requires-clause-there
-add-requires-clause-there g c =
+-- what its backlog is asked for
+asks : (g : _) (c : goal.After-index_mut g) → (c.target-target.result < length c.index_mut.result.now.waiting.targets) × HasPlaces (stops_for c.index_mut.result.now.waiting c.target-target.result) (c.in-Some.envelope.lane ∷ [])
+    × (c.index_mut.result.now.waiting.added + 1 < 2 ^ 64)
+asks g c =
     let w = c.requires.stands in
     let a = c.index_mut.result.now in
-    subst (λ (k : ℕ). k < length a.waiting.targets) (sym c.target-target.ensures)
-    (add-there g.N.Nodes.view_of g.N.Nodes.stands w.0 c.args.me (core_view c.args.self.now w.1) w.2 c.in-Some.envelope c.next.new.self c.in-Some.ensures.front c.in-Some.ensures.stopped
-    (λ e. c.if-target-me.false (c.target-target.ensures ∙ e)) (set c.args.self.now.executors.items c.args.me a) a a (replaces-set c.args.self.now.executors.items c.args.me a a (own g c)))
+    let es = set c.args.self.now.executors.items c.args.me a in
+    let r = replaces-set c.args.self.now.executors.items c.args.me a a (own g c) in
+    let away : (g.N.Nodes.view_of c.args.self.now.nodes).target c.in-Some.envelope.lane ≢ c.args.me = λ e. c.if-target-me.false (c.target-target.ensures ∙ e) in
+    let from = core_view c.args.self.now w.1 in (
+      subst (λ (k : ℕ). k < length a.waiting.targets) (sym c.target-target.ensures) (add-there g.N.Nodes.view_of g.N.Nodes.stands w.0 c.args.me from w.2 c.in-Some.envelope c.next.new.self c.in-Some.ensures.front c.in-Some.ensures.stopped away es a a r),
+      subst (λ (k : ℕ). HasPlaces (stops_for a.waiting k) (c.in-Some.envelope.lane ∷ [])) (sym c.target-target.ensures)
+          (add-placed g.N.Nodes.view_of g.N.Nodes.stands w.0 c.args.me from w.2 c.in-Some.envelope c.next.new.self c.in-Some.ensures.front c.in-Some.ensures.stopped away es a a r),
+      add-few g.N.Nodes.view_of g.N.Nodes.stands w.0 c.args.me from w.2 c.in-Some.envelope c.next.new.self c.in-Some.ensures.front c.in-Some.ensures.stopped away es a a r,
+    )
+
+pub add-requires-clause-there : goal.add-requires-clause-there
+add-requires-clause-there g c = (asks g c).0
 
 pub add-requires-clause-place : goal.add-requires-clause-place
-add-requires-clause-place g c =
-    let w = c.requires.stands in
-    let a = c.index_mut.result.now in
-    subst (λ (k : ℕ). HasPlaces (stops_for a.waiting k) (c.in-Some.envelope.lane ∷ [])) (sym c.target-target.ensures)
-    (add-placed g.N.Nodes.view_of g.N.Nodes.stands w.0 c.args.me (core_view c.args.self.now w.1) w.2 c.in-Some.envelope c.next.new.self c.in-Some.ensures.front c.in-Some.ensures.stopped
-    (λ e. c.if-target-me.false (c.target-target.ensures ∙ e)) (set c.args.self.now.executors.items c.args.me a) a a (replaces-set c.args.self.now.executors.items c.args.me a a (own g c)))
+add-requires-clause-place g c = (asks g c).1
 
 pub add-requires-clause-few : goal.add-requires-clause-few
-add-requires-clause-few g c =
-    let w = c.requires.stands in
-    let a = c.index_mut.result.now in
-    add-few g.N.Nodes.view_of g.N.Nodes.stands w.0 c.args.me (core_view c.args.self.now w.1) w.2 c.in-Some.envelope c.next.new.self c.in-Some.ensures.front c.in-Some.ensures.stopped
-    (λ e. c.if-target-me.false (c.target-target.ensures ∙ e)) (set c.args.self.now.executors.items c.args.me a) a a (replaces-set c.args.self.now.executors.items c.args.me a a (own g c))
+add-requires-clause-few g c = (asks g c).2
 
 pub returns-then-target-me-clause-steps : goal.returns-then-target-me-clause-steps
 returns-then-target-me-clause-steps g c = λ t world backlogs h.
