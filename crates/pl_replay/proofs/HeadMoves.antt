@@ -38,20 +38,19 @@ wrote false answer false is if own other = absurd (both_ways false refl (is (own
 
 -- ---- a head's part
 
-same-part : {S T : Type 0} (p p' : PartView S T) → p'.path ≡ p.path → p'.head ≡ p.head → p' ≡ p
-same-part p p' path head = λ i. record { path = path i; head = head i }
+-- it has not moved, where its head has not
+same-part : {S T : Type 0} (p p' : PartView S T) (b a : OutputsView) → p'.path ≡ p.path → ((h : HeadView T) → p.head ≡ Some h → (h' : HeadView T) × (p'.head ≡ Some h') × (h' ≡ h) × (a ≡ b))
+    → (p.head ≡ None → (p' ≡ p) × (a ≡ b)) → (p' ≡ p) × (a ≡ b)
+same-part p p' b a path some none = by p.head refl
+  where
+    by : (o : Option (HeadView _)) → p.head ≡ o → (p' ≡ p) × (a ≡ b)
+    by None at = none at
+    by (Some h) at = let m = some h at in ((λ i. record { path = path i; head = (m.1 ∙ ap (λ (x : HeadView _). Some x) m.2 ∙ sym at) i }), m.3)
 
 module _ {S T : Type 0} (state : T → TransportState) (p : PartView S T) (b : OutputsView) (p' : PartView S T) (a : OutputsView) where
   module _ (answer : ReadStep) (reads : PartReads state p b answer p' a) where
     pub read-idle : answer ≢ reading.Gave → (p' ≡ p) × (a ≡ b)
-    read-idle other = by p.head refl
-      where
-        by : (o : Option (HeadView T)) → p.head ≡ o → (p' ≡ p) × (a ≡ b)
-        by None at = let n = reads.none at in (n.1, n.2)
-        by (Some h) at =
-            let m = reads.head h at in
-            let i = m.2.idle other in
-            (same-part p p' reads.path (m.1 ∙ ap (λ (x : HeadView T). Some x) i.0 ∙ sym at), i.1)
+    read-idle other = same-part p p' b a reads.path (λ h at. let m = reads.head h at in let i = m.2.idle other in (m.0, m.1, i.0, i.1)) (λ at. let n = reads.none at in (n.1, n.2))
 
     pub may-read : (ps : List (PartView S T)) (c : ℕ) → slice_get ps c ≡ Some p → (r : Bool) → (r ≡ false → answer ≢ reading.Gave) → (r ≡ true → answer ≡ reading.Gave) → MayRead state ps c r
     may-read ps c own r other gives q h plan count failed ys zs sizes at head stood after =
@@ -61,14 +60,7 @@ module _ {S T : Type 0} (state : T → TransportState) (p : PartView S T) (b : O
 
   module _ (may_refuse : T → ℕ → Type 0) (answer : OutStep) (writes : PartWrites state may_refuse p b answer p' a) where
     pub write-idle : answer ≡ step.Idle → (p' ≡ p) × (a ≡ b)
-    write-idle idle = by p.head refl
-      where
-        by : (o : Option (HeadView T)) → p.head ≡ o → (p' ≡ p) × (a ≡ b)
-        by None at = let n = writes.none at in (n.1, n.2)
-        by (Some h) at =
-            let m = writes.head h at in
-            let i = m.2.idle idle in
-            (same-part p p' writes.path (m.1 ∙ ap (λ (x : HeadView T). Some x) i.0 ∙ sym at), i.1)
+    write-idle idle = same-part p p' b a writes.path (λ h at. let m = writes.head h at in let i = m.2.idle idle in (m.0, m.1, i.0, i.1)) (λ at. let n = writes.none at in (n.1, n.2))
 
     pub may-write : (ps : List (PartView S T)) (c : ℕ) → slice_get ps c ≡ Some p → (r : Bool) → (r ≡ false → answer ≡ step.Idle) → (r ≡ true → answer ≢ step.Idle) → MayWrite state ps c r
     may-write ps c own r idle moves q h ys zs sizes at head after =

@@ -45,6 +45,21 @@ not-moved c c' same = record {
 }
 
 module _ {S T : Type 0} (meaning : S → Meaning) (stands_after : S → List Event → Type 0) (is_spent : S → Bool) (state : T → TransportState) (may_refuse : T → ℕ → Type 0) where
+  -- A move was to be made: the net stands by the plan that it had, and the move has led there, or nothing has moved.
+  abbrev pub GoesOn : Move → Core (Channels S T) → Bool → Core (Channels S T) → Type 0
+  GoesOn move core made core' = (plan : Plan) (backlogs : ℕ → List (Entry (Unit {0}))) → NetStands meaning stands_after state plan backlogs core
+      → (after : ℕ → List (Entry (Unit {0}))) × NetStands meaning stands_after state plan after core'
+      × LeadsTo meaning stands_after is_spent state may_refuse plan.capacity move (core_view core backlogs) made (core_view core' after)
+
+  -- for another view of the core, and the same move
+  pub goes-on-as : (step move : Move) → step ≡ move → (core seen : Core (Channels S T)) → core ≡ seen → (made : Bool) (core' : Core (Channels S T)) → GoesOn move core made core' → GoesOn step seen made core'
+  goes-on-as step move is core seen view made core' on = subst (λ (y : Move × Core (Channels S T)). GoesOn y.0 y.1 made core') (λ i. (sym is i, view i)) on
+
+  -- so some plan is still kept
+  pub stands-on : (move : Move) (core : Core (Channels S T)) (made : Bool) (core' : Core (Channels S T)) → GoesOn move core made core'
+      → (plan : Plan) × (backlogs : ℕ → List (Entry (Unit {0}))) × NetStands meaning stands_after state plan backlogs core → (plan : Plan) × (backlogs : ℕ → List (Entry (Unit {0}))) × NetStands meaning stands_after state plan backlogs core'
+  stands-on move core made core' on some = let t = on some.0 some.1 some.2 in (some.0, t.0, t.1)
+
   -- A core that keeps its capacity and its executors, and whose nodes keep the plan, stands after a move as before it.
   goes-on : (plan : Plan) (backlogs after : ℕ → List (Entry (Unit {0}))) (core core' : Core (Channels S T)) (x : ℕ) → NetStands meaning stands_after state plan backlogs core
       → core'.capacity ≡ core.capacity → length core'.executors.items ≡ length core.executors.items → core'.work.items ≡ []

@@ -1,4 +1,4 @@
-use Rattle.std.proofs.Common.{length, refl}
+use Rattle.std.proofs.Common.{◌≡◌, length, slice_get, Some, refl}
 use Rattle.std.proofs.lemmas.Option.{slice_get_read}
 use Rattle.pl_part.specs.PartCalls.{Taken}
 use Rattle.pl_replay.proofs.OneChannel.{channel-there, next-for, take-view, take-stands, take-makes}
@@ -16,54 +16,30 @@ take-requires g c =
       next = (w.0, next-for ps e.lane.channel p p own meaning g.S.Stage.stands_after g.T.Transport.state w.0 w.1 e c.args.work.now refl c.requires.written c.requires.number w.2 c.requires.places);
     }
 
+own : (g : _) (c : goal.After-self-1 g) → slice_get c.args.self.now.parts.items c.args.envelope.lane.channel ≡ Some c.index_mut.result.now
+own g c =
+    let ps = c.args.self.now.parts.items in
+    slice_get_read ps (length ps) c.args.envelope.lane.channel c.index_mut.result.now refl (channel-there g.S.Stage.meaning ps c.args.envelope.lane c.requires.written) c.index_mut.ensures.value
+
 -- what the call of the part has done
 taken : (g : _) (c : goal.After-self-1 g) → Taken g.S.Stage.meaning g.S.Stage.stands_after g.T.Transport.state g.S.Stage.is_spent c.index_mut.result.now c.args.envelope c.args.work.now c.take.result c.take.new.self c.take.new.work
 taken g c = let t = c.take.ensures in record { takes = t.takes; taken = t.taken; puts = record { same = t.same; writes = t.writes; others = t.others; placed = t.placed; longer = t.longer; few = t.few }; holds = t.holds; made = t.made; more = t.more }
 
 pub returns-clause-takes : goal.returns-clause-takes
-returns-clause-takes g c =
-    let ps = c.args.self.now.parts.items in
-    let p = c.index_mut.result.now in
-    let e = c.args.envelope in
-    let own = slice_get_read ps (length ps) e.lane.channel p refl (channel-there g.S.Stage.meaning ps e.lane c.requires.written) c.index_mut.ensures.value in
-    record { before = p; after = c.take.new.self; was = own; becomes = refl; same = c.take.ensures.same; done = (c.take.result, c.take.ensures.takes) }
+returns-clause-takes g c = record { before = c.index_mut.result.now; after = c.take.new.self; was = own g c; becomes = refl; same = c.take.ensures.same; done = (c.take.result, c.take.ensures.takes) }
 
 pub returns-clause-view : goal.returns-clause-view
 returns-clause-view g c =
-    let ps = c.args.self.now.parts.items in
-    let p = c.index_mut.result.now in
-    let p' = c.take.new.self in
-    let e = c.args.envelope in
-    let b = c.args.work.now in
-    let a = c.take.new.work in
-    let meaning = g.S.Stage.meaning in
-    let stands = g.S.Stage.stands_after in
-    let state = g.T.Transport.state in
-    let own = slice_get_read ps (length ps) e.lane.channel p refl (channel-there meaning ps e.lane c.requires.written) c.index_mut.ensures.value in
     let w = c.requires.next in
-    let t = taken g c in
-    take-view ps e.lane.channel p p' own meaning stands state w.0 w.1 g.S.Stage.is_spent e b c.take.result a refl t
+    take-view c.args.self.now.parts.items c.args.envelope.lane.channel c.index_mut.result.now c.take.new.self (own g c) g.S.Stage.meaning g.S.Stage.stands_after g.T.Transport.state w.0 w.1 g.S.Stage.is_spent
+    c.args.envelope c.args.work.now c.take.result c.take.new.work refl (taken g c)
 
 pub returns-clause-stands : goal.returns-clause-stands
 returns-clause-stands g c = λ world held good.
-    let ps = c.args.self.now.parts.items in
-    let p = c.index_mut.result.now in
-    let p' = c.take.new.self in
-    let e = c.args.envelope in
-    let b = c.args.work.now in
-    let a = c.take.new.work in
-    let meaning = g.S.Stage.meaning in
-    let stands = g.S.Stage.stands_after in
-    let state = g.T.Transport.state in
-    let own = slice_get_read ps (length ps) e.lane.channel p refl (channel-there meaning ps e.lane c.requires.written) c.index_mut.ensures.value in
-    let t = taken g c in
-    take-stands ps e.lane.channel p p' own meaning stands state world held g.S.Stage.is_spent e b c.take.result a refl t good
+    take-stands c.args.self.now.parts.items c.args.envelope.lane.channel c.index_mut.result.now c.take.new.self (own g c) g.S.Stage.meaning g.S.Stage.stands_after g.T.Transport.state world held g.S.Stage.is_spent
+    c.args.envelope c.args.work.now c.take.result c.take.new.work refl (taken g c) good
 
 pub returns-clause-makes : goal.returns-clause-makes
 returns-clause-makes g c = λ world held good.
-    let ps = c.args.self.now.parts.items in
-    let p = c.index_mut.result.now in
-    let e = c.args.envelope in
-    let meaning = g.S.Stage.meaning in
-    let own = slice_get_read ps (length ps) e.lane.channel p refl (channel-there meaning ps e.lane c.requires.written) c.index_mut.ensures.value in
-    take-makes ps e.lane.channel p c.take.new.self own meaning g.S.Stage.stands_after g.T.Transport.state world held g.S.Stage.is_spent e c.args.work.now c.take.result c.take.new.work refl (taken g c) good
+    take-makes c.args.self.now.parts.items c.args.envelope.lane.channel c.index_mut.result.now c.take.new.self (own g c) g.S.Stage.meaning g.S.Stage.stands_after g.T.Transport.state world held g.S.Stage.is_spent
+    c.args.envelope c.args.work.now c.take.result c.take.new.work refl (taken g c) good

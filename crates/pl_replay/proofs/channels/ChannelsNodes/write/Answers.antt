@@ -8,27 +8,21 @@ use Rattle.pl_replay.proofs.Vecs.{put-back}
 use Rattle.pl_replay.proofs.HeadMoves.{write-idle, may-write}
 use Rattle.pl_replay.proofs.OneChannel.{places-of, give-view, give-stands, give-makes}
 use Rattle.pl_replay.proofs.channels.ChannelsNodes.write.Goals as goal
-use Rattle.pl_replay.proofs.channels.ChannelsNodes.write.Goals.{Joined-matches, in-Idle, in_default}
+use Rattle.pl_replay.proofs.channels.ChannelsNodes.write.Goals.{After-index_mut, Joined-matches, in-Idle, in_default}
 
-pub write_once-requires-clause-holds : goal.write_once-requires-clause-holds
-write_once-requires-clause-holds g c =
-    let ps = c.args.self.now.parts.items in
-    let p = c.index_mut.result.now in
-    let own = slice_get_read ps (length ps) c.args.channel p refl c.requires.there c.index_mut.ensures.value in
-    let w = c.requires.stands in
-    (w.0, (w.1.parts c.args.channel p own).holds)
-
-pub write_once-requires-clause-places : goal.write_once-requires-clause-places
-write_once-requires-clause-places g c =
-    let ps = c.args.self.now.parts.items in
-    let p = c.index_mut.result.now in
-    let own = slice_get_read ps (length ps) c.args.channel p refl c.requires.there c.index_mut.ensures.value in
-    places-of ps c.args.channel p p own c.args.work.now c.requires.places
-
-own : (g : _) (c : Joined-matches g) → slice_get c.args.self.now.parts.items c.args.channel ≡ Some c.index_mut.result.now
+own : (g : _) (c : After-index_mut g) → slice_get c.args.self.now.parts.items c.args.channel ≡ Some c.index_mut.result.now
 own g c =
     let ps = c.args.self.now.parts.items in
     slice_get_read ps (length ps) c.args.channel c.index_mut.result.now refl c.requires.there c.index_mut.ensures.value
+
+pub write_once-requires-clause-holds : goal.write_once-requires-clause-holds
+write_once-requires-clause-holds g c =
+    let w = c.requires.stands in
+    (w.0, (w.1.parts c.args.channel c.index_mut.result.now (own g (goal.at.write_once-requires-clause-holds g c).After-index_mut)).holds)
+
+pub write_once-requires-clause-places : goal.write_once-requires-clause-places
+write_once-requires-clause-places g c =
+    places-of c.args.self.now.parts.items c.args.channel c.index_mut.result.now c.index_mut.result.now (own g (goal.at.write_once-requires-clause-places g c).After-index_mut) c.args.work.now c.requires.places
 
 -- what the call of the part has done
 given : (g : _) (c : Joined-matches g)
@@ -45,7 +39,7 @@ moved g c e = elim c.match-matches.branch [ in-Idle w ↦ absurd (both_ways (not
 pub returns-clause-enabled : goal.returns-clause-enabled
 returns-clause-enabled g c =
     may-write g.T.Transport.state c.index_mut.result.now c.args.work.now c.write_once.new.self c.write_once.new.work g.T.Transport.may_refuse c.write_once.result c.write_once.ensures.writes_out
-    c.args.self.now.parts.items c.args.channel (own g c) (not c.match-matches.matches) (idle g c) (moved g c)
+    c.args.self.now.parts.items c.args.channel (own g (goal.at.returns-clause-enabled g c).After-index_mut) (not c.match-matches.matches) (idle g c) (moved g c)
 
 pub returns-clause-idle : goal.returns-clause-idle
 returns-clause-idle g c = λ e.
@@ -55,28 +49,13 @@ returns-clause-idle g c = λ e.
 
 pub returns-clause-writes : goal.returns-clause-writes
 returns-clause-writes g c = λ e.
-    record { before = c.index_mut.result.now; after = c.write_once.new.self; was = own g c; becomes = refl; same = c.write_once.ensures.same; done = (c.write_once.result, moved g c e, c.write_once.ensures.writes_out) }
+    record { before = c.index_mut.result.now; after = c.write_once.new.self; was = own g (goal.at.returns-clause-writes g c).After-index_mut; becomes = refl; same = c.write_once.ensures.same; done = (c.write_once.result, moved g c e, c.write_once.ensures.writes_out) }
 
 pub returns-clause-view : goal.returns-clause-view
-returns-clause-view g c = λ e.
-    let p = c.index_mut.result.now in
-    let p' = c.write_once.new.self in
-    let b = c.args.work.now in
-    let a = c.write_once.new.work in
-    let state = g.T.Transport.state in
-    let w = c.requires.stands in
-    give-view c.args.self.now.parts.items c.args.channel p p' (own g c) g.S.Stage.meaning g.S.Stage.stands_after state w.0 w.1 b a (given g c)
+returns-clause-view g c = λ e. give-view c.args.self.now.parts.items c.args.channel c.index_mut.result.now c.write_once.new.self (own g (goal.at.returns-clause-view g c).After-index_mut) g.S.Stage.meaning g.S.Stage.stands_after g.T.Transport.state c.requires.stands.0 c.requires.stands.1 c.args.work.now c.write_once.new.work (given g c)
 
 pub returns-clause-stands : goal.returns-clause-stands
-returns-clause-stands g c = λ world held.
-    let p = c.index_mut.result.now in
-    let p' = c.write_once.new.self in
-    let b = c.args.work.now in
-    let a = c.write_once.new.work in
-    let state = g.T.Transport.state in
-    give-stands c.args.self.now.parts.items c.args.channel p p' (own g c) g.S.Stage.meaning g.S.Stage.stands_after state world held b a (given g c)
+returns-clause-stands g c = λ world held. give-stands c.args.self.now.parts.items c.args.channel c.index_mut.result.now c.write_once.new.self (own g (goal.at.returns-clause-stands g c).After-index_mut) g.S.Stage.meaning g.S.Stage.stands_after g.T.Transport.state world held c.args.work.now c.write_once.new.work (given g c)
 
 pub returns-clause-makes : goal.returns-clause-makes
-returns-clause-makes g c = λ world held.
-    give-makes c.args.self.now.parts.items c.args.channel c.index_mut.result.now c.write_once.new.self (own g c) g.S.Stage.meaning g.S.Stage.stands_after g.T.Transport.state world held
-    c.args.work.now c.write_once.new.work (given g c)
+returns-clause-makes g c = λ world held. give-makes c.args.self.now.parts.items c.args.channel c.index_mut.result.now c.write_once.new.self (own g (goal.at.returns-clause-makes g c).After-index_mut) g.S.Stage.meaning g.S.Stage.stands_after g.T.Transport.state world held c.args.work.now c.write_once.new.work (given g c)

@@ -1,17 +1,14 @@
-use Rattle.std.proofs.Common.{ℕ, Bool, List, Ok, ap, sym, ◌∙◌, subst, arith}
-use Rattle.pl_context.specs.WaitingViews.{Entry}
+use Rattle.std.proofs.Common.{Bool, Ok, ap, sym, ◌∙◌, subst, arith}
 use Rattle.pl_net.specs.Cores.{core_view}
 use Rattle.pl_net.specs.declared.cores.Core.{Core}
-use Rattle.pl_world.specs.Plans.{Plan}
-use Rattle.pl_world.specs.declared.moves.Move.{Move}
-use Rattle.pl_world.specs.declared.moves.Move.TheVariants.{Read, Task, Out}
+use Rattle.pl_world.specs.declared.moves.Move.TheVariants.{Read, Task, Hand, Out}
 use Rattle.pl_channel.specs.Lanes.{lanes_of}
 use Rattle.pl_replay.specs.Channels.{home_of}
 use Rattle.pl_replay.specs.MoveModel.{is_there, is_hand}
-use Rattle.pl_replay.specs.Moves.{LeadsTo, nodes_view, nodes_stand}
+use Rattle.pl_replay.specs.Moves.{nodes_view, nodes_stand}
 use Rattle.pl_replay.specs.NetStand.{NetStands}
 use Rattle.pl_replay.specs.declared.channels.Channels.{Channels}
-use Rattle.pl_replay.proofs.MoveSteps.{made-goes-on, home-there, channel-there, not-moved, task-enabled, hand-goes-on, room-goes-on}
+use Rattle.pl_replay.proofs.MoveSteps.{GoesOn, goes-on-as, stands-on, made-goes-on, home-there, channel-there, not-moved, task-enabled, hand-goes-on, room-goes-on}
 use Rattle.pl_net.proofs.CoreSteps.{rest-stands}
 use Rattle.pl_replay.proofs.nets.Net.apply.Goals as goal
 
@@ -37,98 +34,69 @@ write-requires-clause-home g c =
     let home = home-there g.S.Stage.meaning g.S.Stage.stands_after g.T.Transport.state w.0 w.1 core c.in-Out.channel w.2 there in
     omega (arith, home, size)
 
-read-made : (g : _) (c : goal.After-read g) (plan : Plan) (backlogs : ℕ → List (Entry (Unit {0}))) → NetStands g.S.Stage.meaning g.S.Stage.stands_after g.T.Transport.state plan backlogs c.self.inside.core
-    → (after : ℕ → List (Entry (Unit {0}))) × NetStands g.S.Stage.meaning g.S.Stage.stands_after g.T.Transport.state plan after c.read.new.self
-    × LeadsTo g.S.Stage.meaning g.S.Stage.stands_after g.S.Stage.is_spent g.T.Transport.state g.T.Transport.may_refuse plan.capacity c.args.step (core_view c.self.inside.core backlogs) c.read.result (core_view c.read.new.self after)
-read-made g c plan backlogs n =
-    let r = made-goes-on g.S.Stage.meaning g.S.Stage.stands_after g.S.Stage.is_spent g.T.Transport.state g.T.Transport.may_refuse (Read c.in-Read.channel) c.self.inside.core c.read.new.self c.read.result (home_of c.self.inside.core.nodes.parts.items c.in-Read.channel) plan backlogs
+read-made : (g : _) (c : goal.After-read g) → GoesOn g.S.Stage.meaning g.S.Stage.stands_after g.S.Stage.is_spent g.T.Transport.state g.T.Transport.may_refuse (Read c.in-Read.channel) c.self.inside.core c.read.result c.read.new.self
+read-made g c = λ plan backlogs n.
+    made-goes-on g.S.Stage.meaning g.S.Stage.stands_after g.S.Stage.is_spent g.T.Transport.state g.T.Transport.may_refuse (Read c.in-Read.channel) c.self.inside.core c.read.new.self c.read.result (home_of c.self.inside.core.nodes.parts.items c.in-Read.channel) plan backlogs
     c.read.ensures.enabled
     (λ yes. c.read.ensures.runs yes (lanes_of plan) 0 backlogs n.stands)
     (λ no. not-moved c.self.inside.core c.read.new.self (c.read.ensures.idle no))
     c.read.ensures.capacity
     (sym c.read.new.self.executors.ok.0 ∙ c.read.ensures.count ∙ c.self.inside.core.executors.ok.0)
     c.read.ensures.rests
-    n in
-    (r.0, r.1, subst (λ (m : Move). LeadsTo g.S.Stage.meaning g.S.Stage.stands_after g.S.Stage.is_spent g.T.Transport.state g.T.Transport.may_refuse plan.capacity m (core_view c.self.inside.core backlogs) c.read.result (core_view c.read.new.self r.0)) (sym c.in-Read.is) r.2)
+    n
 
 pub returns-in-Read-clause-made : goal.returns-in-Read-clause-made
-returns-in-Read-clause-made g c = λ plan backlogs.
-    subst (λ (k : Core (Channels g.row.S.Denot g.row.T.Denot)). NetStands g.S.Stage.meaning g.S.Stage.stands_after g.T.Transport.state plan backlogs k → (after : ℕ → List (Entry (Unit {0}))) × NetStands g.S.Stage.meaning g.S.Stage.stands_after g.T.Transport.state plan after c.read.new.self
-    × LeadsTo g.S.Stage.meaning g.S.Stage.stands_after g.S.Stage.is_spent g.T.Transport.state g.T.Transport.may_refuse plan.capacity c.args.step (core_view k backlogs) c.read.result (core_view c.read.new.self after)) c.self.view_is (read-made g c plan backlogs)
+returns-in-Read-clause-made g c = goes-on-as g.S.Stage.meaning g.S.Stage.stands_after g.S.Stage.is_spent g.T.Transport.state g.T.Transport.may_refuse c.args.step (Read c.in-Read.channel) c.in-Read.is c.self.inside.core _ c.self.view_is c.read.result c.read.new.self (read-made g c)
 
 pub invariant_of-self : goal.invariant_of-self
-invariant_of-self g c =
-    let w = c.self.invariant in
-    let r = read-made g c w.0 w.1 w.2 in
-    (w.0, r.0, r.1)
+invariant_of-self g c = stands-on g.S.Stage.meaning g.S.Stage.stands_after g.S.Stage.is_spent g.T.Transport.state g.T.Transport.may_refuse (Read c.in-Read.channel) c.self.inside.core c.read.result c.read.new.self (read-made g c) c.self.invariant
 
-write-made : (g : _) (c : goal.After-write g) (plan : Plan) (backlogs : ℕ → List (Entry (Unit {0}))) → NetStands g.S.Stage.meaning g.S.Stage.stands_after g.T.Transport.state plan backlogs c.self.inside.core
-    → (after : ℕ → List (Entry (Unit {0}))) × NetStands g.S.Stage.meaning g.S.Stage.stands_after g.T.Transport.state plan after c.write.new.self
-    × LeadsTo g.S.Stage.meaning g.S.Stage.stands_after g.S.Stage.is_spent g.T.Transport.state g.T.Transport.may_refuse plan.capacity c.args.step (core_view c.self.inside.core backlogs) c.write.result (core_view c.write.new.self after)
-write-made g c plan backlogs n =
-    let r = made-goes-on g.S.Stage.meaning g.S.Stage.stands_after g.S.Stage.is_spent g.T.Transport.state g.T.Transport.may_refuse (Out c.in-Out.channel) c.self.inside.core c.write.new.self c.write.result (home_of c.self.inside.core.nodes.parts.items c.in-Out.channel) plan backlogs
+write-made : (g : _) (c : goal.After-write g) → GoesOn g.S.Stage.meaning g.S.Stage.stands_after g.S.Stage.is_spent g.T.Transport.state g.T.Transport.may_refuse (Out c.in-Out.channel) c.self.inside.core c.write.result c.write.new.self
+write-made g c = λ plan backlogs n.
+    made-goes-on g.S.Stage.meaning g.S.Stage.stands_after g.S.Stage.is_spent g.T.Transport.state g.T.Transport.may_refuse (Out c.in-Out.channel) c.self.inside.core c.write.new.self c.write.result (home_of c.self.inside.core.nodes.parts.items c.in-Out.channel) plan backlogs
     c.write.ensures.enabled
     (λ yes. c.write.ensures.runs yes (lanes_of plan) 0 backlogs n.stands)
     (λ no. not-moved c.self.inside.core c.write.new.self (c.write.ensures.idle no))
     c.write.ensures.capacity
     (sym c.write.new.self.executors.ok.0 ∙ c.write.ensures.count ∙ c.self.inside.core.executors.ok.0)
     c.write.ensures.rests
-    n in
-    (r.0, r.1, subst (λ (m : Move). LeadsTo g.S.Stage.meaning g.S.Stage.stands_after g.S.Stage.is_spent g.T.Transport.state g.T.Transport.may_refuse plan.capacity m (core_view c.self.inside.core backlogs) c.write.result (core_view c.write.new.self r.0)) (sym c.in-Out.is) r.2)
+    n
 
 pub returns-in-Out-clause-made : goal.returns-in-Out-clause-made
-returns-in-Out-clause-made g c = λ plan backlogs.
-    subst (λ (k : Core (Channels g.row.S.Denot g.row.T.Denot)). NetStands g.S.Stage.meaning g.S.Stage.stands_after g.T.Transport.state plan backlogs k → (after : ℕ → List (Entry (Unit {0}))) × NetStands g.S.Stage.meaning g.S.Stage.stands_after g.T.Transport.state plan after c.write.new.self
-    × LeadsTo g.S.Stage.meaning g.S.Stage.stands_after g.S.Stage.is_spent g.T.Transport.state g.T.Transport.may_refuse plan.capacity c.args.step (core_view k backlogs) c.write.result (core_view c.write.new.self after)) c.self.view_is (write-made g c plan backlogs)
+returns-in-Out-clause-made g c = goes-on-as g.S.Stage.meaning g.S.Stage.stands_after g.S.Stage.is_spent g.T.Transport.state g.T.Transport.may_refuse c.args.step (Out c.in-Out.channel) c.in-Out.is c.self.inside.core _ c.self.view_is c.write.result c.write.new.self (write-made g c)
 
 pub invariant_of-self-in-Out : goal.invariant_of-self-in-Out
-invariant_of-self-in-Out g c =
-    let w = c.self.invariant in
-    let r = write-made g c w.0 w.1 w.2 in
-    (w.0, r.0, r.1)
+invariant_of-self-in-Out g c = stands-on g.S.Stage.meaning g.S.Stage.stands_after g.S.Stage.is_spent g.T.Transport.state g.T.Transport.may_refuse (Out c.in-Out.channel) c.self.inside.core c.write.result c.write.new.self (write-made g c) c.self.invariant
 
-task-made : (g : _) (c : goal.After-run_task g) (plan : Plan) (backlogs : ℕ → List (Entry (Unit {0}))) → NetStands g.S.Stage.meaning g.S.Stage.stands_after g.T.Transport.state plan backlogs c.self.inside.core
-    → (after : ℕ → List (Entry (Unit {0}))) × NetStands g.S.Stage.meaning g.S.Stage.stands_after g.T.Transport.state plan after c.run_task.new.self
-    × LeadsTo g.S.Stage.meaning g.S.Stage.stands_after g.S.Stage.is_spent g.T.Transport.state g.T.Transport.may_refuse plan.capacity c.args.step (core_view c.self.inside.core backlogs) c.run_task.result (core_view c.run_task.new.self after)
-task-made g c plan backlogs n =
-    let r = made-goes-on g.S.Stage.meaning g.S.Stage.stands_after g.S.Stage.is_spent g.T.Transport.state g.T.Transport.may_refuse (Task c.in-Task.executor) c.self.inside.core c.run_task.new.self c.run_task.result c.in-Task.executor plan backlogs
+task-made : (g : _) (c : goal.After-run_task g) → GoesOn g.S.Stage.meaning g.S.Stage.stands_after g.S.Stage.is_spent g.T.Transport.state g.T.Transport.may_refuse (Task c.in-Task.executor) c.self.inside.core c.run_task.result c.run_task.new.self
+task-made g c = λ plan backlogs n.
+    made-goes-on g.S.Stage.meaning g.S.Stage.stands_after g.S.Stage.is_spent g.T.Transport.state g.T.Transport.may_refuse (Task c.in-Task.executor) c.self.inside.core c.run_task.new.self c.run_task.result c.in-Task.executor plan backlogs
     (task-enabled g.S.Stage.meaning g.S.Stage.stands_after g.S.Stage.is_spent g.T.Transport.state g.T.Transport.may_refuse (core_view c.self.inside.core backlogs) c.in-Task.executor c.run_task.result (λ yes. let r = c.run_task.ensures.runs yes (lanes_of plan) backlogs (rest-stands (nodes_view g.S.Stage.meaning) (nodes_stand g.S.Stage.meaning g.S.Stage.stands_after g.T.Transport.state) (lanes_of plan) 0 c.in-Task.executor (core_view c.self.inside.core backlogs) n.rests n.stands) in (core_view c.run_task.new.self r.0, r.2)) (λ no. (c.run_task.ensures.idle no).0))
     (λ yes. c.run_task.ensures.runs yes (lanes_of plan) backlogs (rest-stands (nodes_view g.S.Stage.meaning) (nodes_stand g.S.Stage.meaning g.S.Stage.stands_after g.T.Transport.state) (lanes_of plan) 0 c.in-Task.executor (core_view c.self.inside.core backlogs) n.rests n.stands))
     (λ no. (c.run_task.ensures.idle no).1)
     c.run_task.ensures.capacity
     (sym c.run_task.new.self.executors.ok.0 ∙ c.run_task.ensures.count ∙ c.self.inside.core.executors.ok.0)
     c.run_task.ensures.rests
-    n in
-    (r.0, r.1, subst (λ (m : Move). LeadsTo g.S.Stage.meaning g.S.Stage.stands_after g.S.Stage.is_spent g.T.Transport.state g.T.Transport.may_refuse plan.capacity m (core_view c.self.inside.core backlogs) c.run_task.result (core_view c.run_task.new.self r.0)) (sym c.in-Task.is) r.2)
+    n
 
 pub returns-in-Task-clause-made : goal.returns-in-Task-clause-made
-returns-in-Task-clause-made g c = λ plan backlogs.
-    subst (λ (k : Core (Channels g.row.S.Denot g.row.T.Denot)). NetStands g.S.Stage.meaning g.S.Stage.stands_after g.T.Transport.state plan backlogs k → (after : ℕ → List (Entry (Unit {0}))) × NetStands g.S.Stage.meaning g.S.Stage.stands_after g.T.Transport.state plan after c.run_task.new.self
-    × LeadsTo g.S.Stage.meaning g.S.Stage.stands_after g.S.Stage.is_spent g.T.Transport.state g.T.Transport.may_refuse plan.capacity c.args.step (core_view k backlogs) c.run_task.result (core_view c.run_task.new.self after)) c.self.view_is (task-made g c plan backlogs)
+returns-in-Task-clause-made g c = goes-on-as g.S.Stage.meaning g.S.Stage.stands_after g.S.Stage.is_spent g.T.Transport.state g.T.Transport.may_refuse c.args.step (Task c.in-Task.executor) c.in-Task.is c.self.inside.core _ c.self.view_is c.run_task.result c.run_task.new.self (task-made g c)
 
 pub invariant_of-self-in-Task : goal.invariant_of-self-in-Task
-invariant_of-self-in-Task g c =
-    let w = c.self.invariant in
-    let r = task-made g c w.0 w.1 w.2 in
-    (w.0, r.0, r.1)
+invariant_of-self-in-Task g c = stands-on g.S.Stage.meaning g.S.Stage.stands_after g.S.Stage.is_spent g.T.Transport.state g.T.Transport.may_refuse (Task c.in-Task.executor) c.self.inside.core c.run_task.result c.run_task.new.self (task-made g c) c.self.invariant
 
-hand-made : (g : _) (c : goal.In_ok-hand-in-Hand g) (plan : Plan) (backlogs : ℕ → List (Entry (Unit {0}))) → NetStands g.S.Stage.meaning g.S.Stage.stands_after g.T.Transport.state plan backlogs c.self.inside.core
-    → (after : ℕ → List (Entry (Unit {0}))) × NetStands g.S.Stage.meaning g.S.Stage.stands_after g.T.Transport.state plan after c.hand.new.self
-    × LeadsTo g.S.Stage.meaning g.S.Stage.stands_after g.S.Stage.is_spent g.T.Transport.state g.T.Transport.may_refuse plan.capacity c.args.step (core_view c.self.inside.core backlogs) c.in_ok-hand-in-Hand.field-0 (core_view c.hand.new.self after)
-hand-made g c plan backlogs n =
-    let r = hand-goes-on g.S.Stage.meaning g.S.Stage.stands_after g.S.Stage.is_spent g.T.Transport.state g.T.Transport.may_refuse c.self.inside.core c.hand.new.self c.in_ok-hand-in-Hand.field-0 c.in-Hand.executor plan backlogs
+hand-made : (g : _) (c : goal.In_ok-hand-in-Hand g) → GoesOn g.S.Stage.meaning g.S.Stage.stands_after g.S.Stage.is_spent g.T.Transport.state g.T.Transport.may_refuse (Hand c.in-Hand.executor) c.self.inside.core c.in_ok-hand-in-Hand.field-0 c.hand.new.self
+hand-made g c = λ plan backlogs n.
+    hand-goes-on g.S.Stage.meaning g.S.Stage.stands_after g.S.Stage.is_spent g.T.Transport.state g.T.Transport.may_refuse c.self.inside.core c.hand.new.self c.in_ok-hand-in-Hand.field-0 c.in-Hand.executor plan backlogs
     (λ yes. c.in_ok-hand-in-Hand.ensures.hands (ap (λ (b : Bool). Ok b) yes) (lanes_of plan) 0 backlogs n.stands)
     (λ no. c.in_ok-hand-in-Hand.ensures.none (ap (λ (b : Bool). Ok b) no) (lanes_of plan) 0 backlogs n.stands)
     (λ no. c.in_ok-hand-in-Hand.ensures.idle (ap (λ (b : Bool). Ok b) no))
     c.hand.ensures.capacity
     (sym c.hand.new.self.executors.ok.0 ∙ c.hand.ensures.count ∙ c.self.inside.core.executors.ok.0)
-    n in
-    (r.0, r.1, subst (λ (m : Move). LeadsTo g.S.Stage.meaning g.S.Stage.stands_after g.S.Stage.is_spent g.T.Transport.state g.T.Transport.may_refuse plan.capacity m (core_view c.self.inside.core backlogs) c.in_ok-hand-in-Hand.field-0 (core_view c.hand.new.self r.0)) (sym c.in-Hand.is) r.2)
+    n
 
 pub returns-in_ok-hand-in-Hand-clause-made : goal.returns-in_ok-hand-in-Hand-clause-made
-returns-in_ok-hand-in-Hand-clause-made g c = λ plan backlogs.
-    subst (λ (k : Core (Channels g.row.S.Denot g.row.T.Denot)). NetStands g.S.Stage.meaning g.S.Stage.stands_after g.T.Transport.state plan backlogs k → (after : ℕ → List (Entry (Unit {0}))) × NetStands g.S.Stage.meaning g.S.Stage.stands_after g.T.Transport.state plan after c.hand.new.self
-    × LeadsTo g.S.Stage.meaning g.S.Stage.stands_after g.S.Stage.is_spent g.T.Transport.state g.T.Transport.may_refuse plan.capacity c.args.step (core_view k backlogs) c.in_ok-hand-in-Hand.field-0 (core_view c.hand.new.self after)) c.self.view_is (hand-made g c plan backlogs)
+returns-in_ok-hand-in-Hand-clause-made g c = goes-on-as g.S.Stage.meaning g.S.Stage.stands_after g.S.Stage.is_spent g.T.Transport.state g.T.Transport.may_refuse c.args.step (Hand c.in-Hand.executor) c.in-Hand.is c.self.inside.core _ c.self.view_is c.in_ok-hand-in-Hand.field-0 c.hand.new.self (hand-made g c)
 
 pub invariant_of-self-in_err-hand-in-Hand : goal.invariant_of-self-in_err-hand-in-Hand
 invariant_of-self-in_err-hand-in-Hand g c =
