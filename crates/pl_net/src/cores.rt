@@ -192,7 +192,7 @@ impl<N: Nodes + Drop> Core<N> {
 
     /// The oldest item of an executor's backlog whose target has room goes into its queue. False where there is none.
     ///
-    /// Error: the queue could not grow. Nothing was handed over.
+    /// Error: the queue of that item, which has room, could not grow. Nothing was handed over.
     pub fn hand(&mut self, me: usize) -> Result<bool, AllocError>
         requires there { me < vec_len self.old.executors }
         requires stands { (world : World) × (x : ℕ) × (backlogs : ℕ → List (Entry Unit)) × CoreStands N.view_of N.stands world x (core_view self.old backlogs) }
@@ -204,6 +204,9 @@ impl<N: Nodes + Drop> Core<N> {
         ensures idle { result ≡ Ok false → self.new ≡ self.old }
         ensures err { OnErr result (IsUnmovedButRoom self.old self.new) }
         ensures stays { OnErr result ((world : World) (x : ℕ) (backlogs : ℕ → List (Entry Unit)) → CoreStands N.view_of N.stands world x (core_view self.old backlogs) → CoreStands N.view_of N.stands world x (core_view self.new backlogs)) }
+        // A queue is to grow only for an item that has room there.
+        ensures wanted { OnErr result ((world : World) (x : ℕ) (backlogs : ℕ → List (Entry Unit)) → CoreStands N.view_of N.stands world x (core_view self.old backlogs)
+            → (i : ℕ) × (position (λ entry. has_room self.old.executors.items self.old.capacity entry.target) (backlogs me) ≡ Some i)) }
         ensures capacity { self.new.capacity ≡ self.old.capacity }
         ensures count { vec_len self.new.executors ≡ vec_len self.old.executors }
     {

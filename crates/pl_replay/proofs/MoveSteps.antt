@@ -132,6 +132,11 @@ module _ {S T : Type 0} (meaning : S → Meaning) (stands_after : S → List Eve
       made-goes-on (Hand x) core core' false 0 plan backlogs (sym (ap (λ (o : Option ℕ). is_some o) (subst (λ (k : ℕ). oldest k (core_view core backlogs) x ≡ None) n.capacity (none refl))))
       (λ yes. absurd (both_ways false refl yes)) (λ _. not-moved core core' same) capacity count (ap (λ (k : Core (Channels S T)). k.work.items) same ∙ n.rests) n
 
+  -- a hand-over for which a queue is to grow is enabled
+  pub hand-wanted : (core : Core (Channels S T)) (x : ℕ) (plan : Plan) (backlogs : ℕ → List (Entry (Unit {0}))) → ((i : ℕ) × (oldest core.capacity (core_view core backlogs) x ≡ Some i))
+      → NetStands meaning stands_after state plan backlogs core → IsEnabled meaning stands_after is_spent state may_refuse plan.capacity (Hand x) (core_view core backlogs) true
+  hand-wanted core x plan backlogs found n = sym (ap (λ (o : Option ℕ). is_some o) (subst (λ (k : ℕ). oldest k (core_view core backlogs) x ≡ Some found.0) n.capacity found.1))
+
   -- where a queue could not grow, it stands as it stood
   pub room-goes-on : (core core' : Core (Channels S T)) (plan : Plan) (backlogs : ℕ → List (Entry (Unit {0}))) → IsUnmovedButRoom core core'
       → CoreStands (nodes_view meaning) (nodes_stand meaning stands_after state) (lanes_of plan) 0 (core_view core' backlogs) → core'.capacity ≡ core.capacity → length core'.executors.items ≡ length core.executors.items

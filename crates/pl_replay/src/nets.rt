@@ -49,7 +49,7 @@ impl<S: Stage, T: Transport> Model for Net<S, T> {
 }
 
 impl<S: Stage, T: Transport> Net<S, T> {
-    ghost use Rattle.pl_replay.specs.Moves.{LeadsTo};
+    ghost use Rattle.pl_replay.specs.Moves.{IsEnabled, LeadsTo};
     ghost use Rattle.pl_replay.specs.NetStand.{NetStands};
 
     /// A world before any move, whose queues hold at most `capacity` items each, from 1 to `MAX_CAPACITY`. An `Err` is
@@ -74,8 +74,8 @@ impl<S: Stage, T: Transport> Net<S, T> {
     }
 
     /// Makes a move, and answers whether it was enabled: one that was not changes nothing. A move that names what is
-    /// not there is refused as `NoSuch`, which changes nothing. `Memory` is answered where the queue of a hand-over could not
-    /// grow: nothing was handed over, and the net goes on as it was. A growth that is refused in a move ends what it was for, as
+    /// not there is refused as `NoSuch`, which changes nothing. `Memory` is answered where the queue of an enabled hand-over could
+    /// not grow: nothing was handed over, and the net goes on as it was. A growth that is refused in a move ends what it was for, as
     /// the report tells, and the move was made.
     pub fn apply(&mut self, step: Move) -> Result<bool, ReplayFault>
         ensures made { IfOk result (λ made. (plan : Plan) (backlogs : ℕ → List (Entry Unit)) → NetStands S.meaning S.stands_after T.state plan backlogs self.old
@@ -86,8 +86,10 @@ impl<S: Stage, T: Transport> Net<S, T> {
         ensures there { (plan : Plan) (backlogs : ℕ → List (Entry Unit)) → NetStands S.meaning S.stands_after T.state plan backlogs self.old → is_there plan step ≡ false → result ≡ Err fault.NoSuch }
         ensures no_such { result ≡ Err fault.NoSuch → (plan : Plan) (backlogs : ℕ → List (Entry Unit)) → NetStands S.meaning S.stands_after T.state plan backlogs self.old → is_there plan step ≡ false }
         ensures same { result ≡ Err fault.NoSuch → self.new ≡ self.old }
-        // `Memory` is answered only of a hand-over, and the net goes on by the same plan: its capacity is as it was.
+        // `Memory` is answered only of a hand-over that is enabled, and the net goes on by the same plan: its capacity is as it was.
         ensures hand_alone { result ≡ Err fault.Memory → is_hand step ≡ true }
+        ensures wanted { result ≡ Err fault.Memory → (plan : Plan) (backlogs : ℕ → List (Entry Unit)) → NetStands S.meaning S.stands_after T.state plan backlogs self.old
+            → IsEnabled S.meaning S.stands_after S.is_spent T.state T.may_refuse plan.capacity step (core_view self.old backlogs) true }
         ensures memory { result ≡ Err fault.Memory → IsUnmovedButRoom self.old self.new }
         ensures goes_on { result ≡ Err fault.Memory → (plan : Plan) (backlogs : ℕ → List (Entry Unit)) → NetStands S.meaning S.stands_after T.state plan backlogs self.old → NetStands S.meaning S.stands_after T.state plan backlogs self.new }
     {

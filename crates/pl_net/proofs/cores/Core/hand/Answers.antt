@@ -95,3 +95,10 @@ returns-in-Err-clause-stays g c = λ world x backlogs h.
     let b = c.index_mut.result.now in
     let r = replaces-set es c.in-Some.target b c.reserve.new.self (slice_get_read es (length es) c.in-Some.target b refl t c.index_mut.ensures.value) in
     room-stands g.N.Nodes.view_of g.N.Nodes.stands world x (core_view c.args.self.now backlogs) h c.in-Some.target (set es c.in-Some.target c.reserve.new.self) b c.reserve.new.self r (ap (λ (e : ExecutorView). e.queue) c.reserve.ensures.same) (ap (λ (e : ExecutorView). e.waiting) c.reserve.ensures.same)
+
+pub returns-in-Err-clause-wanted : goal.returns-in-Err-clause-wanted
+returns-in-Err-clause-wanted g c = λ world x backlogs h.
+    let size = c.args.self.now.executors.ok.0 in
+    let p = hand-oldest g.N.Nodes.view_of g.N.Nodes.stands world x (core_view c.args.self.now backlogs) h c.args.me c.args.self.now.capacity (omega (arith, c.requires.there, size)) c.deref.result.now c.deref.ensures.value c.oldest_target.result
+    c.oldest_target.ensures c.in-Some.target c.in-Some.is in
+    (p.i, p.open_at)

@@ -1,14 +1,15 @@
-use Rattle.std.proofs.Common.{Bool, Ok, ap, sym, ◌∙◌, subst, arith}
+use Rattle.std.proofs.Common.{Bool, true, Ok, ap, sym, ◌∙◌, subst, arith}
 use Rattle.pl_net.specs.Cores.{core_view}
 use Rattle.pl_net.specs.declared.cores.Core.{Core}
+use Rattle.pl_world.specs.declared.moves.Move.{Move}
 use Rattle.pl_world.specs.declared.moves.Move.TheVariants.{Read, Task, Hand, Out}
 use Rattle.pl_channel.specs.Lanes.{lanes_of}
 use Rattle.pl_replay.specs.Channels.{home_of}
 use Rattle.pl_replay.specs.MoveModel.{is_there, is_hand}
-use Rattle.pl_replay.specs.Moves.{nodes_view, nodes_stand}
+use Rattle.pl_replay.specs.Moves.{IsEnabled, nodes_view, nodes_stand}
 use Rattle.pl_replay.specs.NetStand.{NetStands}
 use Rattle.pl_replay.specs.declared.channels.Channels.{Channels}
-use Rattle.pl_replay.proofs.MoveSteps.{GoesOn, goes-on-as, stands-on, made-goes-on, home-there, channel-there, not-moved, task-enabled, hand-goes-on, room-goes-on}
+use Rattle.pl_replay.proofs.MoveSteps.{GoesOn, goes-on-as, stands-on, hand-wanted, made-goes-on, home-there, channel-there, not-moved, task-enabled, hand-goes-on, room-goes-on}
 use Rattle.pl_net.proofs.CoreSteps.{rest-stands}
 use Rattle.pl_replay.proofs.nets.Net.apply.Goals as goal
 
@@ -115,3 +116,11 @@ returns-in_err-hand-in-Hand-clause-goes_on g c = λ _ plan backlogs.
     subst (λ (k : Core (Channels g.row.S.Denot g.row.T.Denot)). NetStands g.S.Stage.meaning g.S.Stage.stands_after g.T.Transport.state plan backlogs k → NetStands g.S.Stage.meaning g.S.Stage.stands_after g.T.Transport.state plan backlogs c.hand.new.self) c.self.view_is
     (λ n. room-goes-on g.S.Stage.meaning g.S.Stage.stands_after g.S.Stage.is_spent g.T.Transport.state g.T.Transport.may_refuse c.self.inside.core c.hand.new.self plan backlogs c.in_err-hand-in-Hand.ensures.err (c.in_err-hand-in-Hand.ensures.stays (lanes_of plan) 0 backlogs n.stands)
     c.hand.ensures.capacity (sym c.hand.new.self.executors.ok.0 ∙ c.hand.ensures.count ∙ c.self.inside.core.executors.ok.0) n)
+
+pub returns-in_err-hand-in-Hand-clause-wanted : goal.returns-in_err-hand-in-Hand-clause-wanted
+returns-in_err-hand-in-Hand-clause-wanted g c = λ _ plan backlogs.
+    let enabled = λ (move : Move) (k : Core (Channels g.row.S.Denot g.row.T.Denot)). IsEnabled g.S.Stage.meaning g.S.Stage.stands_after g.S.Stage.is_spent g.T.Transport.state g.T.Transport.may_refuse plan.capacity move (core_view k backlogs) true in
+    subst (λ (k : Core (Channels g.row.S.Denot g.row.T.Denot)). NetStands g.S.Stage.meaning g.S.Stage.stands_after g.T.Transport.state plan backlogs k → enabled c.args.step k) c.self.view_is
+    (λ n. subst (λ (move : Move). enabled move c.self.inside.core) (sym c.in-Hand.is)
+    (hand-wanted g.S.Stage.meaning g.S.Stage.stands_after g.S.Stage.is_spent g.T.Transport.state g.T.Transport.may_refuse c.self.inside.core c.in-Hand.executor plan backlogs
+    (c.in_err-hand-in-Hand.ensures.wanted (lanes_of plan) 0 backlogs n.stands) n))
