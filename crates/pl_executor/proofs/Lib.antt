@@ -6,3 +6,4 @@ pub mod RunLemmas
 pub mod CountLemmas
 pub mod Sends
 pub mod FirstTurns
+pub mod TurnLemmas

@@ -33,7 +33,7 @@ none-passes {X} p xs none = none-long (filter p xs) (let h = slice_get_none (fil
     by None is = refl
     by (Some y) is = let f = find-Some-position p xs y is in absurd (none-some f.0 (sym none ∙ f.1))
 
-set-back : {A : Type 0} (xs : List A) (i : ℕ) (x : A) → slice_get xs i ≡ Some x → set xs i x ≡ xs
+pub set-back : {A : Type 0} (xs : List A) (i : ℕ) (x : A) → slice_get xs i ≡ Some x → set xs i x ≡ xs
 set-back xs i x at = ap (λ y. set xs i y) (sym (get_or_from_slice_get xs i x x at)) ∙ set-get_or xs i x
 
 module _ (world : World) (os : List OutboxView) (w : WaitingView AdmittedView) (is : IsOutboxes world (record { outboxes = os; waiting = w })) (target : ℕ) where
@@ -158,12 +158,12 @@ module _ (world : World) (os : List OutboxView) (w : WaitingView AdmittedView) (
     -- ---- its queue was full, and it was put back
 
     module _ (b b' : OutboxView) (at : slice_get os target ≡ Some b) (same : b' ≡ record b { tried = true }) (w'' : WaitingView AdmittedView)
-        (back : Holds w'' (set is.entries i entry)) (added : w''.added ≡ w.added) (stops : (y : ℕ) → stops_for w'' y ≡ stops_for w y) (targets : length w''.targets ≡ length w.targets) where
+        (back : (entries : List (Entry AdmittedView)) → Holds w entries → Holds w'' entries) (added : w''.added ≡ w.added) (stops : (y : ℕ) → stops_for w'' y ≡ stops_for w y) (targets : length w''.targets ≡ length w.targets) where
       s : Replaces os (set os target b') target b b'
       s = replaces-set os target b b' at
 
       holds : Holds w'' is.entries
-      holds = subst (λ (zs : List (Entry AdmittedView)). Holds w'' zs) (set-back is.entries i entry takes.taken.2) back
+      holds = back is.entries is.holds
 
       waits-same : (y : ℕ) → waits_in w'' y ≡ waits_in w y
       waits-same y = waits-entries w'' is.entries holds y ∙ sym (waits-entries w is.entries is.holds y)
@@ -177,10 +177,10 @@ module _ (world : World) (os : List OutboxView) (w : WaitingView AdmittedView) (
           (λ y other. refl) (omega (arith, added, made))
 
       pub full-offers : Offers (record { outboxes = os; waiting = w }) target Full (record { outboxes = set os target b'; waiting = w'' })
-      full-offers = (
-        (λ y. record { waits = waits-same y; sends = on-some (λ (c : OutboxView). c.sends) os (set os target b') target b b' s (ap (λ (o : OutboxView). o.sends) same) y }),
-        ap (λ o. option_map_or (λ (c : OutboxView). c.tried) o false) s.is ∙ ap (λ (o : OutboxView). o.tried) same,
-      )
+      full-offers = record {
+        each = λ y. record { waits = waits-same y; sends = on-some (λ (c : OutboxView). c.sends) os (set os target b') target b b' s (ap (λ (o : OutboxView). o.sends) same) y };
+        holds = back;
+      }
 
       pub full-stays : Stays (record { outboxes = os; waiting = w }) (record { outboxes = set os target b'; waiting = w'' })
       full-stays = record {

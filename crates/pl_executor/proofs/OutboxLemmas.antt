@@ -1,9 +1,9 @@
 -- One outbox among all, and what waits for its target.
-use Rattle.std.proofs.Common.{◌≡◌, ◌≢◌, ℕ, suc, ◌+◌, ◌*◌, ◌<◌, ◌≤◌, ◌^◌, Bool, true, false, List, [], ◌∷◌, length, map, set, slice_get, Option, Some, None, refl, ap, sym, ◌∙◌, subst, ⊎_elim, arith, ◌==◌}
+use Rattle.std.proofs.Common.{◌≡◌, ◌≢◌, ℕ, suc, ◌+◌, ◌*◌, ◌<◌, ◌≤◌, ◌^◌, Bool, true, false, ◌||◌, List, [], ◌∷◌, length, map, set, slice_get, Option, Some, None, refl, ap, sym, ◌∙◌, subst, ⊎_elim, arith, ◌==◌}
 use Rattle.std.specs.Prelude.{IfSome}
 use Rattle.std.specs.List.{All, filter, sum_by, find}
 use Rattle.std.specs.Option.{option_map, option_map_or}
-use Rattle.std.proofs.lemmas.Bool.{cases_eq, eqb-true}
+use Rattle.std.proofs.lemmas.Bool.{cases_eq, eq-eqb, eqb-true, ne_eqb}
 use Rattle.std.proofs.lemmas.List.{length-set}
 use Rattle.std.proofs.lemmas.List.Elements.{All-nil, All-cons, All-head, All-tail}
 use Rattle.std.proofs.lemmas.List.Sums.{sum_by-set, sum_by-le, length-filter}
@@ -78,14 +78,15 @@ refuses-on os os' w w' target b b' r on s = ⊎_elim
     (λ (e : s.target ≡ target → ⊥). record { target = s.target; outbox = s.outbox; is = r.others s.target e ∙ s.is; refused = s.refused })
     (cases_eq s.target target)
 
--- an outbox that was tried goes on to be so
-pub tried-on : (os os' : List OutboxView) (target : ℕ) (b b' : OutboxView) → Replaces os os' target b b' → (b.tried ≡ true → b'.tried ≡ true)
-    → (y : ℕ) → option_map_or (λ o. o.tried) (slice_get os y) false ≡ true → option_map_or (λ o. o.tried) (slice_get os' y) false ≡ true
-tried-on os os' target b b' r on y e = ⊎_elim
-    (λ (s : y ≡ target).
-    ap (λ k. option_map_or (λ o. o.tried) (slice_get os' k) false) s ∙ ap (λ o. option_map_or (λ o. o.tried) o false) r.is
-    ∙ on (sym (ap (λ o. option_map_or (λ (c : OutboxView). c.tried) o false) r.was) ∙ sym (ap (λ k. option_map_or (λ (c : OutboxView). c.tried) (slice_get os k) false) s) ∙ e))
-    (λ (s : y ≡ target → ⊥). ap (λ o. option_map_or (λ (c : OutboxView). c.tried) o false) (r.others y s) ∙ e)
+-- an outbox whose queue was found full is tried, and the others are as they were
+pub tried-more : (os os' : List OutboxView) (target : ℕ) (b b' : OutboxView) → Replaces os os' target b b' → b'.tried ≡ true
+    → (y : ℕ) → option_map_or (λ o. o.tried) (slice_get os' y) false ≡ ((y == target) || option_map_or (λ o. o.tried) (slice_get os y) false)
+tried-more os os' target b b' r full y =
+    let rest = option_map_or (λ (o : OutboxView). o.tried) (slice_get os y) false in
+    ⊎_elim
+    (λ (e : y ≡ target).
+    ap (λ k. option_map_or (λ (o : OutboxView). o.tried) (slice_get os' k) false) e ∙ ap (λ o. option_map_or (λ (c : OutboxView). c.tried) o false) r.is ∙ full ∙ sym (ap (λ (c : Bool). c || rest) (eq-eqb y target e)))
+    (λ (e : y ≡ target → ⊥). ap (λ o. option_map_or (λ (c : OutboxView). c.tried) o false) (r.others y e) ∙ sym (ap (λ (c : Bool). c || rest) (ne_eqb y target e)))
     (cases_eq y target)
 
 -- ---- what waits for a target

@@ -1,5 +1,5 @@
 -- What an executor made for others, and its right to it: what was sent to each, and what waits.
-use Rattle.std.specs.Prelude.{◌≡◌, ◌≢◌, ◌↔◌, ℕ, ◌+◌, ◌<◌, ◌≤◌, ◌^◌, Bool, true, false, ◌||◌, ◌&&◌, ◌==◌, cond, List, [], ◌∷◌, ◌++◌, map, filter, length, slice_get, sum_by, All, Option, Some}
+use Rattle.std.specs.Prelude.{◌≡◌, ◌≢◌, ◌↔◌, ℕ, ◌+◌, ◌<◌, ◌≤◌, ◌^◌, Bool, true, false, ◌||◌, ◌&&◌, ◌==◌, cond, List, [], ◌∷◌, ◌++◌, map, filter, find, not, length, slice_get, sum_by, All, Option, Some}
 use Rattle.std.specs.Option.{option_map, option_map_or}
 use Rattle.pl_event.specs.declared.envelopes.Envelope.{Envelope}
 use Rattle.pl_event.specs.declared.envelopes.Lane.{Lane}
@@ -47,6 +47,10 @@ sends_for o target = option_map (λ b. b.sends) (slice_get o.outboxes target)
 -- its queue was full in this turn
 abbrev pub was_tried : OutboxesView → ℕ → Bool
 was_tried o target = option_map_or (λ b. b.tried) (slice_get o.outboxes target) false
+
+-- the target of the oldest of these entries, among the targets whose queue was not full in this turn
+abbrev pub oldest_untried : OutboxesView → List (Entry AdmittedView) → Option ℕ
+oldest_untried o entries = option_map (λ e. e.target) (find (λ e. not (was_tried o e.target)) entries)
 
 -- ---- how far a lane has come
 
@@ -141,11 +145,27 @@ pub record Sends (o : OutboxesView) (target : ℕ) (o' : OutboxesView) : Type 0 
   pub sends : sends_for o' target ≡ option_map (λ s. after_offer s envelope) (sends_for o target)
   pub others : (y : ℕ) → y ≢ target → SameFor o o' y
 
+-- What waits is the same list in the same order, and nothing was sent.
+pub record Keeps (o o' : OutboxesView) : Type 0 where
+  pub each : (y : ℕ) → SameFor o o' y
+  pub holds : (entries : List (Entry AdmittedView)) → Holds o.waiting entries → Holds o'.waiting entries
+
 -- what became of the first that waits for a target
 abbrev pub Offers : OutboxesView → ℕ → Offered → OutboxesView → Type 0
 Offers o target Handed o' = Sends o target o'
-Offers o target Full o' = ((y : ℕ) → SameFor o o' y) × (was_tried o' target ≡ true)
+Offers o target Full o' = Keeps o o'
 Offers o target Nothing o' = (o' ≡ o) × (waits_for o target ≡ [])
+
+-- the targets whose queue was full in this turn, after an offer to one: that one too, where it was full
+abbrev pub tried_after : OutboxesView → ℕ → Offered → ℕ → Bool
+tried_after o target Handed y = was_tried o y
+tried_after o target Full y = (y == target) || was_tried o y
+tried_after o target Nothing y = was_tried o y
+
+-- Nothing was sent, and no queue was found full.
+pub record SendsNothing (o o' : OutboxesView) : Type 0 where
+  pub sends : (y : ℕ) → sends_for o' y ≡ sends_for o y
+  pub tried : (y : ℕ) → was_tried o' y ≡ was_tried o y
 
 -- Each lane has come as far as before, and nothing was stopped or refused.
 pub record Stays (o o' : OutboxesView) : Type 0 where

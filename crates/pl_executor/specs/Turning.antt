@@ -1,24 +1,32 @@
 -- What one turn of an executor does.
-use Rattle.std.specs.Prelude.{◌≡◌, ◌≢◌, ◌⊎◌, ℕ, false, List, ◌∷◌}
+use Rattle.std.specs.Prelude.{◌≡◌, ◌≢◌, ◌⊎◌, ℕ, false, List, ◌∷◌, Some, None}
 use Rattle.std.specs.Option.{option_map}
 use Rattle.pl_event.specs.declared.envelopes.Envelope.{Envelope}
+use Rattle.pl_context.specs.WaitingViews.{Entry, Holds}
 use Rattle.pl_queue.specs.declared.views.SenderView.{SenderView}
 use Rattle.pl_queue.specs.Views.{after_offer, after_take}
-use Rattle.pl_executor.specs.OutboxViews.{OutboxesView, sends_for, waits_for, SameFor, is_closed}
+use Rattle.pl_words.specs.Admissions.{AdmittedView}
+use Rattle.pl_executor.specs.OutboxViews.{OutboxesView, sends_for, waits_for, oldest_untried, SameFor, is_closed}
 use Rattle.pl_executor.specs.Running.{ExecutorView}
 
--- The first that waited for a target was sent there, and nothing else was sent.
+-- The oldest that waited for a target whose queue was not full was sent there, and nothing else was sent.
 pub record SendsOne (o o' : OutboxesView) : Type 0 where
   pub target : ℕ
+  pub oldest : (entries : List (Entry AdmittedView)) → Holds o.waiting entries → oldest_untried o' entries ≡ Some target
   pub envelope : Envelope
   pub behind : List Envelope
   pub first : waits_for o target ≡ envelope ∷ behind
   pub sends : sends_for o' target ≡ option_map (λ (s : SenderView). after_offer s envelope) (sends_for o target)
   pub others : (y : ℕ) → y ≢ target → sends_for o' y ≡ sends_for o y
 
+-- Nothing was sent, and nothing waited but for queues that were full.
+pub record SendsNone (o o' : OutboxesView) : Type 0 where
+  pub oldest : (entries : List (Entry AdmittedView)) → Holds o.waiting entries → oldest_untried o' entries ≡ None
+  pub sends : (y : ℕ) → sends_for o' y ≡ sends_for o y
+
 -- at most one envelope was sent
 abbrev pub SendsAtMostOne : OutboxesView → OutboxesView → Type 0
-SendsAtMostOne o o' = ((y : ℕ) → sends_for o' y ≡ sends_for o y) ⊎ SendsOne o o'
+SendsAtMostOne o o' = SendsNone o o' ⊎ SendsOne o o'
 
 -- At most one envelope was taken, and none once its queue was closed.
 abbrev pub TakesAtMostOne : {N : Type 0} → ExecutorView N → ExecutorView N → Type 0

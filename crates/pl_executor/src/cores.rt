@@ -1,11 +1,13 @@
 //! The work list of an executor, and its direct calls.
 
-ghost use Rattle.std.specs.Prelude.{◌≡◌, ◌+◌, ◌<◌, ℕ, [], cond, false, true, IfSome, IfNone};
+ghost use Rattle.std.specs.Prelude.{◌≡◌, ◌+◌, ◌<◌, ℕ, List, [], cond, false, true, IfSome, IfNone};
 ghost use Rattle.pl_event.specs.declared.envelopes.Lane.{Lane};
 ghost use Rattle.pl_event.specs.Hops.{same_lane};
 ghost use Rattle.pl_context.specs.Stops.{HasPlaces};
+ghost use Rattle.pl_context.specs.WaitingViews.{Entry, Holds};
+ghost use Rattle.pl_words.specs.Admissions.{AdmittedView};
 ghost use Rattle.pl_flow.specs.Flows.{IsGood};
-ghost use Rattle.pl_executor.specs.OutboxViews.{sends_for, SomeRefuses, SameFor, Sends};
+ghost use Rattle.pl_executor.specs.OutboxViews.{SomeRefuses, SameFor, Sends, SendsNothing, oldest_untried};
 ghost use Rattle.pl_executor.specs.Running.{Runs};
 
 use crate::outboxes::{Offered, Outboxes};
@@ -49,7 +51,7 @@ where
         ensures routes { (l : Lane) → N.target_of self.new.part l ≡ N.target_of self.old.part l }
         ensures writes { (l : Lane) → N.writes self.new.part l ≡ N.writes self.old.part l }
         ensures count { N.count self.new.part ≡ N.count self.old.part }
-        ensures sends { (y : ℕ) → sends_for self.new.outboxes y ≡ sends_for self.old.outboxes y }
+        ensures sends { SendsNothing self.old.outboxes self.new.outboxes }
         ensures taken { (l : Lane) → N.writes self.old.part l ≡ false → N.taken_of self.new.part l ≡ N.taken_of self.old.part l }
         ensures empty { result ≡ false → self.new.work.items ≡ [] }
     {
@@ -88,7 +90,7 @@ where
         ensures routes { (l : Lane) → N.target_of self.new.part l ≡ N.target_of self.old.part l }
         ensures writes { (l : Lane) → N.writes self.new.part l ≡ N.writes self.old.part l }
         ensures count { N.count self.new.part ≡ N.count self.old.part }
-        ensures sends { (y : ℕ) → sends_for self.new.outboxes y ≡ sends_for self.old.outboxes y }
+        ensures sends { SendsNothing self.old.outboxes self.new.outboxes }
         ensures taken { (l : Lane) → N.taken_of self.new.part l ≡ cond (same_lane l task.lane) (task.number + 1) (N.taken_of self.old.part l) }
     {
         self.part.take(task, &mut self.work);
@@ -110,7 +112,7 @@ where
         ensures routes { (l : Lane) → N.target_of self.new.part l ≡ N.target_of self.old.part l }
         ensures writes { (l : Lane) → N.writes self.new.part l ≡ N.writes self.old.part l }
         ensures count { N.count self.new.part ≡ N.count self.old.part }
-        ensures sends { (y : ℕ) → sends_for self.new.outboxes y ≡ sends_for self.old.outboxes y }
+        ensures sends { SendsNothing self.old.outboxes self.new.outboxes }
         ensures taken { (l : Lane) → N.writes self.old.part l ≡ false → N.taken_of self.new.part l ≡ N.taken_of self.old.part l }
         ensures empty { self.new.work.items ≡ [] }
     {
@@ -142,7 +144,7 @@ where
         ensures routes { (l : Lane) → N.target_of self.new.part l ≡ N.target_of self.old.part l }
         ensures writes { (l : Lane) → N.writes self.new.part l ≡ N.writes self.old.part l }
         ensures count { N.count self.new.part ≡ N.count self.old.part }
-        ensures sends { (y : ℕ) → sends_for self.new.outboxes y ≡ sends_for self.old.outboxes y }
+        ensures sends { SendsNothing self.old.outboxes self.new.outboxes }
         ensures taken { (l : Lane) → N.writes self.old.part l ≡ false → N.taken_of self.new.part l ≡ N.taken_of self.old.part l }
         ensures empty { self.new.work.items ≡ [] }
     {
@@ -173,7 +175,7 @@ where
         ensures routes { (l : Lane) → N.target_of self.new.part l ≡ N.target_of self.old.part l }
         ensures writes { (l : Lane) → N.writes self.new.part l ≡ N.writes self.old.part l }
         ensures count { N.count self.new.part ≡ N.count self.old.part }
-        ensures sends { (y : ℕ) → sends_for self.new.outboxes y ≡ sends_for self.old.outboxes y }
+        ensures sends { SendsNothing self.old.outboxes self.new.outboxes }
         ensures taken { (l : Lane) → N.writes self.old.part l ≡ false → N.taken_of self.new.part l ≡ N.taken_of self.old.part l }
         ensures empty { self.new.work.items ≡ [] }
     {
@@ -196,6 +198,7 @@ where
         ensures work { self.new.work ≡ self.old.work }
         ensures handed { IfSome result (λ target. Sends self.old.outboxes target self.new.outboxes) }
         ensures none { IfNone result ((y : ℕ) → SameFor self.old.outboxes self.new.outboxes y) }
+        ensures oldest { (entries : List (Entry AdmittedView)) → Holds self.old.outboxes.waiting entries → result ≡ oldest_untried self.new.outboxes entries }
     {
         self.outboxes.forget_tries();
         for _ in rt.forever() {

@@ -1,14 +1,15 @@
 //! An executor, which runs its tasks one after another.
 
-ghost use Rattle.std.specs.Prelude.{◌≡◌, ◌≢◌, ◌⊎◌, ◌+◌, ◌-◌, ◌<◌, ◌≤◌, ◌^◌, ℕ, min, [], IfSome, IfNone, true, false};
+ghost use Rattle.std.specs.Prelude.{◌≡◌, ◌≢◌, ◌⊎◌, ◌+◌, ◌-◌, ◌<◌, ◌≤◌, ◌^◌, ℕ, List, min, [], IfSome, IfNone, true, false};
 ghost use Rattle.pl_event.specs.declared.envelopes.Envelope.{Envelope};
 ghost use Rattle.pl_queue.specs.Views.{after_take};
 ghost use Rattle.pl_context.specs.Stops.{HasPlaces};
+ghost use Rattle.pl_context.specs.WaitingViews.{Entry, Holds};
 ghost use Rattle.pl_words.specs.declared.status.Status.TheVariants.{Accepting};
 ghost use Rattle.pl_words.specs.Phases.{rank};
-ghost use Rattle.pl_words.specs.Admissions.{OwnerSeatView, new_owner_seat};
+ghost use Rattle.pl_words.specs.Admissions.{AdmittedView, OwnerSeatView, new_owner_seat};
 ghost use Rattle.pl_executor.specs.declared.executors.Turn.TheVariants.{Worked, Idle, Done};
-ghost use Rattle.pl_executor.specs.OutboxViews.{sends_for, waits_for, is_closed, SomeRefuses, SameFor, Sends};
+ghost use Rattle.pl_executor.specs.OutboxViews.{waits_for, is_closed, SomeRefuses, SameFor, Sends, SendsNothing, oldest_untried};
 ghost use Rattle.pl_executor.specs.Running.{Runs, IsTaking};
 ghost use Rattle.pl_executor.specs.Turning.{SendsAtMostOne, TakesAtMostOne, IsStill};
 
@@ -173,7 +174,7 @@ where
         ensures number { self.new.number ≡ self.old.number }
         ensures task { result ≡ true → (is_closed self.old.owner.phase ≡ false) × (x : Envelope) × (self.new.takes ≡ after_take self.old.takes x) }
         ensures none { result ≡ false → self.new ≡ self.old }
-        ensures sends { (y : ℕ) → sends_for self.new.outboxes y ≡ sends_for self.old.outboxes y }
+        ensures sends { SendsNothing self.old.outboxes self.new.outboxes }
         ensures owner { self.new.owner ≡ self.old.owner }
         ensures turns { self.new.turns ≡ self.old.turns }
     {
@@ -202,6 +203,8 @@ where
         ensures same { self.new ≡ record self.old { outboxes = self.new.outboxes } }
         ensures handed { IfSome result (λ target. Sends self.old.outboxes target self.new.outboxes) }
         ensures none { IfNone result ((y : ℕ) → SameFor self.old.outboxes self.new.outboxes y) }
+        // The target of the oldest, among those whose queue was not found full by this call.
+        ensures oldest { (entries : List (Entry AdmittedView)) → Holds self.old.outboxes.waiting entries → result ≡ oldest_untried self.new.outboxes entries }
     {
         self.core.hand(rt)
     }
@@ -210,7 +213,7 @@ where
     fn serve_one<R: Wait>(&mut self, rt: &R, handed: bool)
         ensures number { self.new.number ≡ self.old.number }
         ensures takes { self.new.takes ≡ self.old.takes }
-        ensures sends { (y : ℕ) → sends_for self.new.outboxes y ≡ sends_for self.old.outboxes y }
+        ensures sends { SendsNothing self.old.outboxes self.new.outboxes }
         ensures owner { self.new.owner ≡ self.old.owner }
         ensures turns { self.new.turns ≡ self.old.turns }
     {
@@ -231,7 +234,7 @@ where
     fn serve_first<R: Wait>(&mut self, rt: &R) -> bool
         ensures number { self.new.number ≡ self.old.number }
         ensures takes { self.new.takes ≡ self.old.takes }
-        ensures sends { (y : ℕ) → sends_for self.new.outboxes y ≡ sends_for self.old.outboxes y }
+        ensures sends { SendsNothing self.old.outboxes self.new.outboxes }
         ensures owner { self.new.owner ≡ self.old.owner }
         ensures turns { self.new.turns ≡ self.old.turns }
         ensures idle { result ≡ false → (self.new ≡ self.old) × ((c : ℕ) → c < N.count self.new.part → N.may_read self.new.part c false × N.may_write self.new.part c false) }
@@ -249,7 +252,7 @@ where
         requires there { to ≤ N.count self.old.part }
         ensures number { self.new.number ≡ self.old.number }
         ensures takes { self.new.takes ≡ self.old.takes }
-        ensures sends { (y : ℕ) → sends_for self.new.outboxes y ≡ sends_for self.old.outboxes y }
+        ensures sends { SendsNothing self.old.outboxes self.new.outboxes }
         ensures owner { self.new.owner ≡ self.old.owner }
         ensures turns { self.new.turns ≡ self.old.turns }
         ensures same { result ≡ false → self.new ≡ self.old }
@@ -275,7 +278,7 @@ where
         requires there { channel < N.count self.old.part }
         ensures number { self.new.number ≡ self.old.number }
         ensures takes { self.new.takes ≡ self.old.takes }
-        ensures sends { (y : ℕ) → sends_for self.new.outboxes y ≡ sends_for self.old.outboxes y }
+        ensures sends { SendsNothing self.old.outboxes self.new.outboxes }
         ensures owner { self.new.owner ≡ self.old.owner }
         ensures turns { self.new.turns ≡ self.old.turns }
         ensures idle { result ≡ false → (self.new ≡ self.old) × N.may_read self.old.part channel false × N.may_write self.old.part channel false }
@@ -291,7 +294,7 @@ where
         ensures number { self.new.number ≡ self.old.number }
         ensures count { N.count self.new.part ≡ N.count self.old.part }
         ensures takes { self.new.takes ≡ self.old.takes }
-        ensures sends { (y : ℕ) → sends_for self.new.outboxes y ≡ sends_for self.old.outboxes y }
+        ensures sends { SendsNothing self.old.outboxes self.new.outboxes }
         ensures owner { self.new.owner ≡ self.old.owner }
         ensures turns { self.new.turns ≡ self.old.turns }
         ensures enabled { N.may_read self.old.part channel result }
@@ -306,7 +309,7 @@ where
         ensures number { self.new.number ≡ self.old.number }
         ensures count { N.count self.new.part ≡ N.count self.old.part }
         ensures takes { self.new.takes ≡ self.old.takes }
-        ensures sends { (y : ℕ) → sends_for self.new.outboxes y ≡ sends_for self.old.outboxes y }
+        ensures sends { SendsNothing self.old.outboxes self.new.outboxes }
         ensures owner { self.new.owner ≡ self.old.owner }
         ensures turns { self.new.turns ≡ self.old.turns }
         ensures enabled { N.may_write self.old.part channel result }

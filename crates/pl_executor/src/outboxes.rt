@@ -1,12 +1,12 @@
 //! What an executor made for others, and has not handed over.
 
-ghost use Rattle.std.specs.Prelude.{◌≡◌, ℕ, List, [], ◌∷◌, ◌<◌, ◌^◌, ◌==◌, length, map, find, slice_get, All, IfOk, IfErr, IfSome, false, true, not};
-ghost use Rattle.std.specs.Option.{option_map, option_map_or};
+ghost use Rattle.std.specs.Prelude.{◌≡◌, ℕ, List, [], ◌∷◌, ◌<◌, ◌^◌, ◌==◌, length, map, slice_get, All, IfOk, IfErr, IfSome, false, true, not};
+ghost use Rattle.std.specs.Option.{option_map_or};
 ghost use Rattle.pl_context.specs.Stops.{HasPlaces, no_stops};
 ghost use Rattle.pl_context.specs.WaitingViews.{Entry, Holds, stops_for};
 ghost use Rattle.pl_words.specs.Admissions.{AdmittedView};
 ghost use Rattle.pl_flow.specs.Flows.{IsNext};
-ghost use Rattle.pl_executor.specs.OutboxViews.{IsNew, waits_for, was_tried, reached, is_cut, Adds, Comes, RefusedBy, Offers, Stays, Forgets};
+ghost use Rattle.pl_executor.specs.OutboxViews.{IsNew, waits_for, was_tried, oldest_untried, tried_after, reached, is_cut, Adds, Comes, RefusedBy, Offers, Stays, Forgets};
 
 use crate::bell::Waiters;
 use crate::outbox::Outbox;
@@ -139,7 +139,7 @@ where
     pub fn oldest(&self) -> Option<usize>
         ensures there { IfSome result (λ target. target < length self.now.outboxes) }
         ensures oldest { (entries : List (Entry AdmittedView)) → Holds self.now.waiting entries
-            → result ≡ option_map (λ e. e.target) (find (λ e. not (was_tried self.now e.target)) entries) }
+            → result ≡ oldest_untried self.now entries }
     {
         let outboxes = &self.outboxes;
         self.waiting.oldest(
@@ -156,8 +156,7 @@ where
         requires there { target < length self.old.outboxes }
         ensures offers { Offers self.old target result self.new }
         ensures stays { Stays self.old self.new }
-        // A queue that was found full is not tried again in this turn.
-        ensures tried { (y : ℕ) → was_tried self.old y ≡ true → was_tried self.new y ≡ true }
+        ensures tried { (y : ℕ) → was_tried self.new y ≡ tried_after self.old target result y }
     {
         let Some((envelope, admitted)) = self.waiting.take(target) else {
             return Offered::Nothing;

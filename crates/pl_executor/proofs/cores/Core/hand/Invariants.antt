@@ -1,5 +1,5 @@
-use Rattle.std.proofs.Common.{◌≡◌, ℕ, true}
-use Rattle.pl_executor.specs.OutboxViews.{SameFor, SomeRefuses}
+use Rattle.std.proofs.Common.{◌≡◌, true}
+use Rattle.pl_executor.specs.OutboxViews.{Keeps, SomeRefuses}
 use Rattle.pl_executor.specs.Running.{Runs}
 use Rattle.pl_executor.proofs.cores.Core.hand.Given as goal
 
@@ -8,7 +8,7 @@ invariant-loop g l = record {
   number : l.self.number ≡ l.fn.self.number;
   part : l.self.part ≡ l.fn.self.part;
   work : l.self.work ≡ l.fn.self.work;
-  same : (y : ℕ) → SameFor l.fn.self.outboxes l.self.outboxes y;
+  keeps : Keeps l.fn.self.outboxes l.self.outboxes;
   why : g.N.Part.was_refused l.self.part ≡ true → SomeRefuses l.self.outboxes;
   runs : Runs g.W.Named.world l.self.number (g.N.Part.target_of l.self.part) (g.N.Part.writes l.self.part) (g.N.Part.taken_of l.self.part) (g.N.Part.came l.self.part) l.self.outboxes l.self.work;
 }

@@ -1,11 +1,12 @@
-use Rattle.std.proofs.Common.{◌≡◌, ◌<◌, true, length, set, refl, sym, subst, ap, ◌∙◌}
+use Rattle.std.proofs.Common.{◌≡◌, ◌<◌, ◌==◌, ◌||◌, ℕ, List, false, length, set, refl, sym, subst, ap, ◌∙◌}
 use Rattle.std.proofs.lemmas.Option.{slice_get_read}
 use Rattle.pl_event.specs.declared.envelopes.Envelope.{Envelope}
-use Rattle.pl_context.specs.WaitingViews.{Holds}
+use Rattle.pl_context.specs.WaitingViews.{Entry, Holds}
+use Rattle.pl_words.specs.Admissions.{AdmittedView}
 use Rattle.pl_executor.specs.declared.outboxes.Offered.TheVariants.{Handed, Full, Nothing}
 use Rattle.pl_executor.specs.OutboxViews.{OutboxView, OutboxesView, was_tried, Offers, Stays}
-use Rattle.pl_executor.proofs.OutboxLemmas.{replaces-set, tried-on}
-use Rattle.pl_executor.proofs.OfferSteps.{nothing-offers, nothing-stays, may-offer, handed-hold, handed-offers, handed-stays, full-hold, full-offers, full-stays}
+use Rattle.pl_executor.proofs.OutboxLemmas.{replaces-set, on-target, tried-more}
+use Rattle.pl_executor.proofs.OfferSteps.{set-back, nothing-offers, nothing-stays, may-offer, handed-hold, handed-offers, handed-stays, full-hold, full-offers, full-stays}
 use Rattle.pl_executor.proofs.outboxes.Outboxes.offer.Goals as goal
 
 -- ---- nothing waits
@@ -21,8 +22,7 @@ returns-in_default-clause-stays g c =
     (nothing-stays g.W.Named.world c.self.inside.outboxes.items c.self.inside.waiting c.self.invariant c.args.target c.take.new.self (c.in_default.ensures.first c.self.invariant.entries c.self.invariant.holds))
 
 pub returns-in_default-clause-tried : goal.returns-in_default-clause-tried
-returns-in_default-clause-tried g c = λ y e.
-    subst (λ (v : OutboxesView). was_tried v y ≡ true) (sym (returns-in_default-clause-offers g c).0) e
+returns-in_default-clause-tried g c = λ y. ap (λ (v : OutboxesView). was_tried v y) (returns-in_default-clause-offers g c).0
 
 -- ---- the first is offered
 
@@ -70,11 +70,12 @@ returns-in-Ok-clause-stays g c =
     c.index_mut.result.now c.offer.new.self at c.in-Ok.ensures c.take.ensures.added)
 
 pub returns-in-Ok-clause-tried : goal.returns-in-Ok-clause-tried
-returns-in-Ok-clause-tried g c = λ y e.
+returns-in-Ok-clause-tried g c = λ y.
     let os = c.self.inside.outboxes.items in
     let at = slice_get_read os (length os) c.args.target c.index_mut.result.now refl (subst (λ (v : OutboxesView). c.args.target < length v.outboxes) (sym c.self.view_is) c.requires.there) c.index_mut.ensures.value in
-    tried-on os (set os c.args.target c.offer.new.self) c.args.target c.index_mut.result.now c.offer.new.self (replaces-set os c.args.target c.index_mut.result.now c.offer.new.self at)
-    (λ t. ap (λ (o : OutboxView). o.tried) c.in-Ok.ensures ∙ t) y (subst (λ (v : OutboxesView). was_tried v y ≡ true) (sym c.self.view_is) e)
+    on-target (λ (o : OutboxView). o.tried) false os (set os c.args.target c.offer.new.self) c.args.target c.index_mut.result.now c.offer.new.self
+    (replaces-set os c.args.target c.index_mut.result.now c.offer.new.self at) (ap (λ (o : OutboxView). o.tried) c.in-Ok.ensures) y
+    ∙ ap (λ (v : OutboxesView). was_tried v y) c.self.view_is
 
 -- ---- its queue was full
 
@@ -83,11 +84,13 @@ put_back-requires g c =
     let takes = c.in-Some.ensures.first c.self.invariant.entries c.self.invariant.holds in
     (c.self.invariant.entries, takes.taken.0, record { target = c.args.target; envelope = c.in-Some.envelope; token = c.in-Some.admitted }, takes.taken.2, refl, takes.taken.4)
 
-held : (g : _) (c : goal.After-put_back g) → Holds c.put_back.new.self (set c.self.invariant.entries (c.in-Some.ensures.first c.self.invariant.entries c.self.invariant.holds).taken.0 (record { target = c.args.target; envelope = c.in-Some.envelope; token = c.in-Some.admitted }))
-held g c =
-    let takes = c.in-Some.ensures.first c.self.invariant.entries c.self.invariant.holds in
-    subst (λ (x : Envelope). Holds c.put_back.new.self (set c.self.invariant.entries takes.taken.0 (record { target = c.args.target; envelope = x; token = c.in-Some.admitted }))) c.in-Err.ensures.0
-    (c.put_back.ensures.back c.self.invariant.entries takes.taken.0 (record { target = c.args.target; envelope = c.in-Some.envelope; token = c.in-Some.admitted }) takes.taken.2 refl takes.taken.4)
+held : (g : _) (c : goal.After-put_back g) (entries : List (Entry AdmittedView)) → Holds c.self.inside.waiting entries → Holds c.put_back.new.self entries
+held g c entries holds =
+    let takes = c.in-Some.ensures.first entries holds in
+    let entry : Entry AdmittedView = record { target = c.args.target; envelope = c.in-Some.envelope; token = c.in-Some.admitted } in
+    subst (λ (zs : List (Entry AdmittedView)). Holds c.put_back.new.self zs) (set-back entries takes.taken.0 entry takes.taken.2)
+    (subst (λ (x : Envelope). Holds c.put_back.new.self (set entries takes.taken.0 (record { target = c.args.target; envelope = x; token = c.in-Some.admitted }))) c.in-Err.ensures.0
+    (c.put_back.ensures.back entries takes.taken.0 entry takes.taken.2 refl takes.taken.4))
 
 pub invariant_of-self-in-Err : goal.invariant_of-self-in-Err
 invariant_of-self-in-Err g c =
@@ -116,8 +119,9 @@ returns-in-Err-clause-stays g c =
     c.index_mut.result.now c.offer.new.self at c.in-Err.ensures.1 c.put_back.new.self (held g c) (c.put_back.ensures.added ∙ c.take.ensures.added) (λ y. c.put_back.ensures.stopped y ∙ takes.stopped y) (c.put_back.ensures.targets ∙ takes.targets))
 
 pub returns-in-Err-clause-tried : goal.returns-in-Err-clause-tried
-returns-in-Err-clause-tried g c = λ y e.
+returns-in-Err-clause-tried g c = λ y.
     let os = c.self.inside.outboxes.items in
     let at = slice_get_read os (length os) c.args.target c.index_mut.result.now refl (subst (λ (v : OutboxesView). c.args.target < length v.outboxes) (sym c.self.view_is) c.requires.there) c.index_mut.ensures.value in
-    tried-on os (set os c.args.target c.offer.new.self) c.args.target c.index_mut.result.now c.offer.new.self (replaces-set os c.args.target c.index_mut.result.now c.offer.new.self at)
-    (λ t. ap (λ (o : OutboxView). o.tried) c.in-Err.ensures.1) y (subst (λ (v : OutboxesView). was_tried v y ≡ true) (sym c.self.view_is) e)
+    tried-more os (set os c.args.target c.offer.new.self) c.args.target c.index_mut.result.now c.offer.new.self
+    (replaces-set os c.args.target c.index_mut.result.now c.offer.new.self at) (ap (λ (o : OutboxView). o.tried) c.in-Err.ensures.1) y
+    ∙ ap (λ (v : OutboxesView). (y == c.args.target) || was_tried v y) c.self.view_is
