@@ -11,7 +11,9 @@ ghost use Rattle.pl_exec.specs.SessionWords.{AreSeatsOf, AreHeadSeatsOf, HaveMar
 use pl_event::{Outcome, Stage};
 use pl_executor::RunFault;
 use pl_head::Transport;
-use pl_words::{HeadSeat, MAX_SETS, Mark, Promises, SettleSeat, Watermark, promises, watermark};
+use pl_words::promises::{Promises, SettleSeat};
+use pl_words::watermark::{HeadSeat, MAX_SETS, Mark, Watermark};
+use pl_words::{promises, watermark};
 use pl_world::{Recorded, Session};
 use std::alloc::{AllocError, Global};
 use std::marker::Model;

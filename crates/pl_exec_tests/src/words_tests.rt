@@ -6,7 +6,7 @@ ghost use Rattle.pl_exec.specs.SessionWords.{AreHeadSeatsOf, IsReaderOf};
 use crate::sessions::{NOTHING, PING, on_loops};
 use pl_exec::{HeadSeats, PROMISES, Reader, Words};
 use pl_text::read_session;
-use pl_words::Mark;
+use pl_words::watermark::Mark;
 use std::alloc::Global;
 use std::test::Fail;
 use std::thread;
