@@ -13,7 +13,7 @@ use Rattle.pl_event.specs.declared.envelopes.Kind.TheVariants.{Data, Flags}
 use Rattle.pl_event.specs.declared.envelopes.Item.{Item}
 use Rattle.pl_event.specs.declared.envelopes.Item.TheVariants as item
 use Rattle.pl_event.specs.declared.envelopes.Envelope.{Envelope}
-use Rattle.pl_event.specs.Meaning.{Meaning, IsLawful, up_of, down_of, turned_after}
+use Rattle.pl_event.specs.Meaning.{Meaning, IsLawful, made_after, up_of, down_of, turned_after}
 use Rattle.pl_event.specs.Fitting.{Fits, FitsAsFlag}
 use Rattle.pl_context.specs.declared.added.Added.{Added}
 use Rattle.pl_context.specs.declared.added.Added.TheVariants.{Last, Refused, Discarded}
@@ -83,25 +83,29 @@ module _ {S : Type 0} (world : World) (meaning : S → Meaning) (stands_after : 
     -- ---- an event
 
     module _ (x : Event) (fits : slice_get events c.taken ≡ Some x) where
+      -- what is made of it, and of the events before, is no more than what is made of all
+      made-within : (f : List Event → Event → List Event) → length (made_after f [] (take c.taken events)) + length (as_items (f (take c.taken events) x)) ≤ length (made_after f [] events)
+      made-within f =
+          let s = split-at events c.taken x fits in
+          let more = made-more f events (take c.taken events) s.0 x s.1 in
+          let size = length-items (f (take c.taken events) x) in
+          omega (arith, more, size)
+
       small-up : c.up.is_open ≡ true → c.up.made + length (ups (meaning c.stage) (take c.taken events) x) ≤ 2 ^ 31
       small-up o =
-          let s = split-at events c.taken x fits in
           let made = (h.stood live).above o in
-          let more = made-more (meaning c.stage).up events (take c.taken events) s.0 x s.1 in
-          let size = length-items ((meaning c.stage).up (take c.taken events) x) in
+          let more = made-within (meaning c.stage).up in
           let few = h.wired.few_up (up-has o) in
-          omega (arith, made, more, size, few)
+          omega (arith, made, more, few)
 
       small-down : c.down.is_open ≡ true → c.down.made + length (downs (meaning c.stage) (take c.taken events) x) ≤ 2 ^ 31
       small-down o =
-          let s = split-at events c.taken x fits in
           let made = (h.stood live).below o in
-          let more = made-more (meaning c.stage).down events (take c.taken events) s.0 x s.1 in
-          let size = length-items ((meaning c.stage).down (take c.taken events) x) in
+          let more = made-within (meaning c.stage).down in
           let few = h.wired.few_down (down-has o) in
           let end = length-end (turned_after (meaning c.stage) (take c.taken events ++ x ∷ [])) in
           let both = length-append (as_items ((meaning c.stage).down (take c.taken events) x)) (end_after (turned_after (meaning c.stage) (take c.taken events ++ x ∷ []))) in
-          omega (arith, made, more, size, few, end, both)
+          omega (arith, made, more, few, end, both)
 
       event-few : MakesFew meaning stands_after c (item.Event x)
       event-few = (take c.taken events, record { stands = (h.stood live).stands; above = small-up; below = small-down })

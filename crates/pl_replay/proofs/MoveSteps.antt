@@ -1,8 +1,8 @@
 -- A move leads from one stand of a net to the next.
-use Rattle.std.proofs.Common.{◌≡◌, ℕ, suc, ◌<◌, Bool, true, false, List, [], ◌∷◌, length, map, get_or, slice_get, nat_lt, Option, Some, None, refl, ap, sym, ◌∙◌, subst, inl, inr, arith}
+use Rattle.std.proofs.Common.{◌≡◌, ℕ, suc, ◌<◌, Bool, true, false, List, [], ◌∷◌, length, map, get_or, slice_get, nat_lt, Option, Some, None, refl, ap, sym, ◌∙◌, subst, arith}
 use Rattle.std.specs.Prelude.{is_some}
 use Rattle.std.proofs.lemmas.Bool.{ltb-true, lt-ltb, both_ways}
-use Rattle.std.proofs.lemmas.Option.{slice_get_cases, slice_get-get_or}
+use Rattle.std.proofs.lemmas.Option.{slice_get-get_or}
 use Rattle.pl_event.specs.declared.events.Event.{Event}
 use Rattle.pl_event.specs.Meaning.{Meaning}
 use Rattle.pl_event.proofs.Lists.{All-at}
@@ -23,16 +23,11 @@ use Rattle.pl_replay.specs.Moves.{nodes_view, nodes_stand, nodes_take, oldest, I
 use Rattle.pl_replay.specs.NetStand.{NetStands}
 use Rattle.pl_replay.specs.declared.channels.Channels.{Channels}
 use Rattle.pl_replay.proofs.Kept.{makes-keeps}
+use Rattle.pl_replay.proofs.NetStarts.{at-index}
 use Rattle.pl_world.specs.declared.moves.Move.{Move}
 use Rattle.pl_world.specs.declared.moves.Move.TheVariants.{Hand}
 use Rattle.pl_world.specs.Plans.{Plan}
 use Rattle.pl_world.specs.PlanRules.{IsChannelPlan}
-
-slice_get-at : {X : Type 0} (xs : List X) (i : ℕ) → i < length xs → (x : X) × (slice_get xs i ≡ Some x)
-slice_get-at xs i h = elim (slice_get_cases xs i).1 [
-  | inl at ↦ (at.0, at.2)
-  | inr past ↦ absurd (omega (arith, h, past.0))
-]
 
 same-view : {N : Type 0} (c c' : Core N) (backlogs : ℕ → List (Entry (Unit {0}))) → IsUnmoved c c' → core_view c' backlogs ≡ core_view c backlogs
 same-view c c' backlogs same = let n = same.nodes in let e = same.executors in let w = same.work in cc
@@ -161,8 +156,8 @@ module _ {S T : Type 0} (meaning : S → Meaning) (stands_after : S → List Eve
   pub home-there : (plan : Plan) (backlogs : ℕ → List (Entry (Unit {0}))) (core : Core (Channels S T)) (channel : ℕ) → NetStands meaning stands_after state plan backlogs core
       → channel < length core.nodes.parts.items → home_of core.nodes.parts.items channel < length core.executors.items
   home-there plan backlogs core channel n there =
-      let part = slice_get-at core.nodes.parts.items channel there in
-      let p = slice_get-at plan.channels channel (subst (λ (k : ℕ). channel < k) n.keeps.count there) in
+      let part = at-index core.nodes.parts.items channel there in
+      let p = at-index plan.channels channel (subst (λ (k : ℕ). channel < k) n.keeps.count there) in
       let keeps = n.keeps.each channel p.0 part.0 p.1 part.1 in
       let ruled = All-at (IsChannelPlan plan.executors) plan.channels channel p.0 n.ruled.channels p.1 in
       let hop : head_hop part.0 < length p.0.executors = subst (λ (k : ℕ). k < length p.0.executors) (sym keeps.head_at) (let h = ruled.hops in omega (arith, h)) in

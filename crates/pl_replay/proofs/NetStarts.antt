@@ -44,7 +44,7 @@ use Rattle.pl_world.specs.PlanRules.{IsPlan, IsChannelPlan, IsSmallPlan}
 use Rattle.pl_world.specs.Worlds.{WorldView, IsWorld}
 use Rattle.pl_world.specs.Plans.{planned as plan_of}
 
-at-index : {X : Type 0} (xs : List X) (i : ℕ) → i < length xs → (x : X) × (slice_get xs i ≡ Some x)
+pub at-index : {X : Type 0} (xs : List X) (i : ℕ) → i < length xs → (x : X) × (slice_get xs i ≡ Some x)
 at-index xs i h = elim (slice_get_cases xs i).1 [
   | inl at ↦ (at.0, at.2)
   | inr past ↦ absurd (omega (arith, h, past.0))
