@@ -23,3 +23,4 @@ pub mod WordLemmas
 pub mod SeatLemmas
 pub mod ToldNodes
 pub mod TellingStart
+pub mod ServedNodes

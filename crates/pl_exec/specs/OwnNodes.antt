@@ -12,6 +12,7 @@ use Rattle.pl_head.specs.HeadStand.{HeadView, StandsAfter, is_idle}
 use Rattle.pl_part.specs.Paths.{context_at}
 use Rattle.pl_part.specs.Parts.{PartView, PartHolds, head_hop, all_over, has_read}
 use Rattle.pl_channel.specs.PlanStand.{PartsKeepPlan}
+use Rattle.pl_executor.specs.Serving.{Served}
 use Rattle.pl_replay.specs.Channels.{MayRead, MayWrite, executor_at, is_hop}
 use Rattle.pl_world.specs.Plans.{Plan}
 
@@ -68,6 +69,16 @@ numbered_from n (b ∷ bs) = if b then n ∷ numbered_from (n + 1) bs else numbe
 -- the channels whose heads are among these nodes, in order
 abbrev pub heads_of : {S T : Type 0} → List (PartView S T) → List ℕ
 heads_of ps = numbered_from 0 (map (λ (p : PartView _ _). is_some p.head) ps)
+
+-- ---- how often they were served
+
+-- how often its head has read and written
+abbrev pub served_by : {S T : Type 0} → (T → TransportState) → PartView S T → Served
+served_by state p = option_map_or (λ (h : HeadView _). record { reads = h.input.steps; calls = (state h.transport).calls }) p.head (record { reads = 0; calls = 0 })
+
+-- by channel, where it has a part
+abbrev pub served_of : {S T : Type 0} → (T → TransportState) → List (PartView S T) → ℕ → Served
+served_of state ps c = option_map_or (λ (p : PartView _ _). served_by state p) (slice_get ps c) (record { reads = 0; calls = 0 })
 
 -- ---- what is enabled
 

@@ -1,7 +1,7 @@
 //! The nodes of an executor.
 
 ghost use Rattle.std.specs.Prelude.{◌≡◌, ◌<◌, ◌^◌, ◌||◌, ◌&&◌, length, slice_get, Some, ℕ, true, false};
-ghost use Rattle.pl_exec.specs.OwnNodes.{NodesStand, MayReadOwn, MayWriteOwn, AreOver, IsPartOver, enters, heads_of, target_of};
+ghost use Rattle.pl_exec.specs.OwnNodes.{NodesStand, MayReadOwn, MayWriteOwn, AreOver, IsPartOver, enters, served_of, heads_of, target_of};
 ghost use Rattle.pl_channel.specs.Lanes.{lanes_of};
 ghost use Rattle.pl_part.specs.Parts.{PartView, PartHolds};
 ghost use Rattle.pl_replay.specs.Channels.{came_of, taken_of, writes_of};
@@ -50,6 +50,8 @@ impl<W: Planned, S: Stage, T: Transport> Part<W> for OwnNodes<S, T> {
     ghost may_read = { λ n at answer. MayReadOwn T.state n.parts.items n.own.items at answer };
 
     ghost may_write = { λ n at answer. MayWriteOwn T.state n.parts.items n.own.items at answer };
+
+    ghost served = { λ n c. served_of T.state n.parts.items c };
 
     ghost are_over = { λ n. AreOver T.state n.parts.items };
 

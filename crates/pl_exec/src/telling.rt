@@ -10,7 +10,7 @@ ghost use Rattle.pl_replay.specs.Channels.{came_of, taken_of, writes_of};
 ghost use Rattle.pl_replay.specs.Channels.{lanes_of as data_lanes_of};
 ghost use Rattle.pl_world.specs.Plans.{Plan};
 ghost use Rattle.pl_world.specs.PlanRules.{IsPlan};
-ghost use Rattle.pl_exec.specs.OwnNodes.{NodesStand, MayReadOwn, MayWriteOwn, AreOver, heads_of, target_of};
+ghost use Rattle.pl_exec.specs.OwnNodes.{NodesStand, MayReadOwn, MayWriteOwn, AreOver, heads_of, served_of, target_of};
 ghost use Rattle.pl_exec.specs.SessionWords.{AreSeatsOf, AreHeadSeatsOf, told};
 ghost use Rattle.pl_exec.specs.Telling.{AreSeated, IsToldAt, HaveMarks};
 
@@ -53,6 +53,8 @@ impl<'a, W: Planned, S: Stage, T: Transport> Part<W> for TellingNodes<'a, S, T> 
     ghost may_read = { λ n at answer. MayReadOwn T.state n.nodes.parts.items n.nodes.own.items at answer };
 
     ghost may_write = { λ n at answer. MayWriteOwn T.state n.nodes.parts.items n.nodes.own.items at answer };
+
+    ghost served = { λ n c. served_of T.state n.nodes.parts.items c };
 
     ghost are_over = { λ n. AreOver T.state n.nodes.parts.items };
 

@@ -1,5 +1,5 @@
 -- The first turns of executors, as their threads promise them and as a list of them has them.
-use Rattle.std.proofs.Common.{arith, ◌≡◌, ◌<◌, ℕ, List, map, ap, sym, ◌∙◌, subst, length}
+use Rattle.std.proofs.Common.{arith, ◌≡◌, List, map, ap, sym, ◌∙◌, subst}
 use Rattle.std.specs.Prelude.{All}
 use Rattle.std.proofs.lemmas.List.{get_or-map, length-map}
 use Rattle.std.proofs.lemmas.List.Elements.{All-map}

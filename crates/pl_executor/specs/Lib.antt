@@ -2,3 +2,4 @@ pub mod Sent
 pub mod OutboxViews
 pub mod Running
 pub mod Turning
+pub mod Serving

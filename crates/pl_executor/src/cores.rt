@@ -9,6 +9,7 @@ ghost use Rattle.pl_words.specs.Admissions.{AdmittedView};
 ghost use Rattle.pl_flow.specs.Flows.{IsGood};
 ghost use Rattle.pl_executor.specs.OutboxViews.{SomeRefuses, SameFor, Sends, SendsNothing, oldest_untried};
 ghost use Rattle.pl_executor.specs.Running.{Runs};
+ghost use Rattle.pl_executor.specs.Serving.{ServesNone, ReadsAtMostOnce, WritesAtMostOnce};
 
 use crate::outboxes::{Offered, Outboxes};
 use crate::part::Part;
@@ -52,6 +53,7 @@ where
         ensures writes { (l : Lane) → N.writes self.new.part l ≡ N.writes self.old.part l }
         ensures count { N.count self.new.part ≡ N.count self.old.part }
         ensures sends { SendsNothing self.old.outboxes self.new.outboxes }
+        ensures served { ServesNone (N.served self.old.part) (N.served self.new.part) }
         ensures taken { (l : Lane) → N.writes self.old.part l ≡ false → N.taken_of self.new.part l ≡ N.taken_of self.old.part l }
         ensures empty { result ≡ false → self.new.work.items ≡ [] }
     {
@@ -91,6 +93,7 @@ where
         ensures writes { (l : Lane) → N.writes self.new.part l ≡ N.writes self.old.part l }
         ensures count { N.count self.new.part ≡ N.count self.old.part }
         ensures sends { SendsNothing self.old.outboxes self.new.outboxes }
+        ensures served { ServesNone (N.served self.old.part) (N.served self.new.part) }
         ensures taken { (l : Lane) → N.taken_of self.new.part l ≡ cond (same_lane l task.lane) (task.number + 1) (N.taken_of self.old.part l) }
     {
         self.part.take(task, &mut self.work);
@@ -113,6 +116,7 @@ where
         ensures writes { (l : Lane) → N.writes self.new.part l ≡ N.writes self.old.part l }
         ensures count { N.count self.new.part ≡ N.count self.old.part }
         ensures sends { SendsNothing self.old.outboxes self.new.outboxes }
+        ensures served { ServesNone (N.served self.old.part) (N.served self.new.part) }
         ensures taken { (l : Lane) → N.writes self.old.part l ≡ false → N.taken_of self.new.part l ≡ N.taken_of self.old.part l }
         ensures empty { self.new.work.items ≡ [] }
     {
@@ -145,6 +149,7 @@ where
         ensures writes { (l : Lane) → N.writes self.new.part l ≡ N.writes self.old.part l }
         ensures count { N.count self.new.part ≡ N.count self.old.part }
         ensures sends { SendsNothing self.old.outboxes self.new.outboxes }
+        ensures served { ReadsAtMostOnce (N.served self.old.part) (N.served self.new.part) }
         ensures taken { (l : Lane) → N.writes self.old.part l ≡ false → N.taken_of self.new.part l ≡ N.taken_of self.old.part l }
         ensures empty { self.new.work.items ≡ [] }
     {
@@ -176,6 +181,7 @@ where
         ensures writes { (l : Lane) → N.writes self.new.part l ≡ N.writes self.old.part l }
         ensures count { N.count self.new.part ≡ N.count self.old.part }
         ensures sends { SendsNothing self.old.outboxes self.new.outboxes }
+        ensures served { WritesAtMostOnce (N.served self.old.part) (N.served self.new.part) }
         ensures taken { (l : Lane) → N.writes self.old.part l ≡ false → N.taken_of self.new.part l ≡ N.taken_of self.old.part l }
         ensures empty { self.new.work.items ≡ [] }
     {

@@ -11,6 +11,7 @@ ghost use Rattle.pl_words.specs.Admissions.{AdmittedView, OwnerSeatView, new_own
 ghost use Rattle.pl_executor.specs.declared.executors.Turn.TheVariants.{Worked, Idle, Done};
 ghost use Rattle.pl_executor.specs.OutboxViews.{waits_for, is_closed, SomeRefuses, SameFor, Sends, SendsNothing, oldest_untried};
 ghost use Rattle.pl_executor.specs.Running.{Runs, IsTaking};
+ghost use Rattle.pl_executor.specs.Serving.{ServesNone, ReadsAtMostOnce, WritesAtMostOnce, ServesAtMostOnce};
 ghost use Rattle.pl_executor.specs.Turning.{SendsAtMostOne, TakesAtMostOne, IsStill};
 
 use crate::cores::Core;
@@ -130,6 +131,8 @@ where
         ensures entered { G.was_entered gate.now self.old.number self.old.turns }
         ensures takes { TakesAtMostOne self.old self.new }
         ensures sends { SendsAtMostOne self.old.outboxes self.new.outboxes }
+        // No channel makes more than one read step, or more than one call of its transport.
+        ensures served { ServesAtMostOnce (N.served self.old.part) (N.served self.new.part) }
         ensures idle { result ≢ Worked → IsStill self.old self.new × ((c : ℕ) → c < N.count self.new.part → N.may_read self.new.part c false × N.may_write self.new.part c false) }
         ensures done { result ≡ Done → (is_closed self.new.owner.phase ≡ true) × N.are_over self.new.part × ((y : ℕ) → waits_for self.new.outboxes y ≡ []) }
         // It begins to close, and closes, only where all here has ended.
@@ -157,6 +160,7 @@ where
         ensures turns { self.new.turns ≡ self.old.turns }
         ensures takes { TakesAtMostOne self.old self.new }
         ensures sends { SendsAtMostOne self.old.outboxes self.new.outboxes }
+        ensures served { ServesAtMostOnce (N.served self.old.part) (N.served self.new.part) }
         ensures idle { result ≡ false → IsStill self.old self.new × ((c : ℕ) → c < N.count self.new.part → N.may_read self.new.part c false × N.may_write self.new.part c false) }
     {
         let handed = self.hand(rt).is_some();
@@ -175,6 +179,7 @@ where
         ensures task { result ≡ true → (is_closed self.old.owner.phase ≡ false) × (x : Envelope) × (self.new.takes ≡ after_take self.old.takes x) }
         ensures none { result ≡ false → self.new ≡ self.old }
         ensures sends { SendsNothing self.old.outboxes self.new.outboxes }
+        ensures served { ServesNone (N.served self.old.part) (N.served self.new.part) }
         ensures owner { self.new.owner ≡ self.old.owner }
         ensures turns { self.new.turns ≡ self.old.turns }
     {
@@ -214,6 +219,7 @@ where
         ensures number { self.new.number ≡ self.old.number }
         ensures takes { self.new.takes ≡ self.old.takes }
         ensures sends { SendsNothing self.old.outboxes self.new.outboxes }
+        ensures served { ServesAtMostOnce (N.served self.old.part) (N.served self.new.part) }
         ensures owner { self.new.owner ≡ self.old.owner }
         ensures turns { self.new.turns ≡ self.old.turns }
     {
@@ -235,6 +241,7 @@ where
         ensures number { self.new.number ≡ self.old.number }
         ensures takes { self.new.takes ≡ self.old.takes }
         ensures sends { SendsNothing self.old.outboxes self.new.outboxes }
+        ensures served { ServesAtMostOnce (N.served self.old.part) (N.served self.new.part) }
         ensures owner { self.new.owner ≡ self.old.owner }
         ensures turns { self.new.turns ≡ self.old.turns }
         ensures idle { result ≡ false → (self.new ≡ self.old) × ((c : ℕ) → c < N.count self.new.part → N.may_read self.new.part c false × N.may_write self.new.part c false) }
@@ -253,6 +260,7 @@ where
         ensures number { self.new.number ≡ self.old.number }
         ensures takes { self.new.takes ≡ self.old.takes }
         ensures sends { SendsNothing self.old.outboxes self.new.outboxes }
+        ensures served { ServesAtMostOnce (N.served self.old.part) (N.served self.new.part) }
         ensures owner { self.new.owner ≡ self.old.owner }
         ensures turns { self.new.turns ≡ self.old.turns }
         ensures same { result ≡ false → self.new ≡ self.old }
@@ -279,6 +287,7 @@ where
         ensures number { self.new.number ≡ self.old.number }
         ensures takes { self.new.takes ≡ self.old.takes }
         ensures sends { SendsNothing self.old.outboxes self.new.outboxes }
+        ensures served { ServesAtMostOnce (N.served self.old.part) (N.served self.new.part) }
         ensures owner { self.new.owner ≡ self.old.owner }
         ensures turns { self.new.turns ≡ self.old.turns }
         ensures idle { result ≡ false → (self.new ≡ self.old) × N.may_read self.old.part channel false × N.may_write self.old.part channel false }
@@ -295,6 +304,7 @@ where
         ensures count { N.count self.new.part ≡ N.count self.old.part }
         ensures takes { self.new.takes ≡ self.old.takes }
         ensures sends { SendsNothing self.old.outboxes self.new.outboxes }
+        ensures served { ReadsAtMostOnce (N.served self.old.part) (N.served self.new.part) }
         ensures owner { self.new.owner ≡ self.old.owner }
         ensures turns { self.new.turns ≡ self.old.turns }
         ensures enabled { N.may_read self.old.part channel result }
@@ -310,6 +320,7 @@ where
         ensures count { N.count self.new.part ≡ N.count self.old.part }
         ensures takes { self.new.takes ≡ self.old.takes }
         ensures sends { SendsNothing self.old.outboxes self.new.outboxes }
+        ensures served { WritesAtMostOnce (N.served self.old.part) (N.served self.new.part) }
         ensures owner { self.new.owner ≡ self.old.owner }
         ensures turns { self.new.turns ≡ self.old.turns }
         ensures enabled { N.may_write self.old.part channel result }

@@ -6,6 +6,7 @@ ghost use Rattle.pl_event.specs.Hops.{same_lane};
 ghost use Rattle.pl_context.specs.Stops.{HasPlaces, AreAmong};
 ghost use Rattle.pl_flow.specs.Flows.{Point, IsGood};
 ghost use Rattle.pl_flow.specs.Makes.{Makes};
+ghost use Rattle.pl_executor.specs.Serving.{Served, ServesNone, ReadsAtMostOnce, WritesAtMostOnce};
 
 use pl_context::Outputs;
 use pl_event::{Envelope, Lane, Named};
@@ -42,6 +43,9 @@ pub trait Part<W: Named>: Sized {
 
     ghost may_write: { Self → ℕ → Bool → Type 0 };
 
+    /// By the number of a channel, how often its head, where it is one of these nodes, has read and written.
+    ghost served: { Self → ℕ → Served };
+
     /// Each context, tail and head of these has ended or failed, no read step is left, and no flushed byte is left.
     ghost are_over: { Self → Type 0 };
 
@@ -68,6 +72,7 @@ pub trait Part<W: Named>: Sized {
         ensures count { count self.new ≡ count self.old }
         ensures placed { (hops : List Lane) → AreAmong (lanes self.old) hops → HasPlaces work.old.stopped hops → HasPlaces work.new.stopped hops }
         ensures refused { was_refused self.new ≡ was_refused self.old }
+        ensures served { ServesNone (served self.old) (served self.new) }
         ensures made { Makes W.world (writes self.old) (came self.old) (came self.new) work.old work.new };
 
     /// Nothing more of a lane is accepted: the context that writes it fails. A flags lane, and a lane that a head writes,
@@ -83,6 +88,7 @@ pub trait Part<W: Named>: Sized {
         ensures lanes { lanes self.new ≡ lanes self.old }
         ensures count { count self.new ≡ count self.old }
         ensures placed { (hops : List Lane) → AreAmong (lanes self.old) hops → HasPlaces work.old.stopped hops → HasPlaces work.new.stopped hops }
+        ensures served { ServesNone (served self.old) (served self.new) }
         ensures made { Makes W.world (writes self.old) (came self.old) (came self.new) work.old work.new };
 
     /// How many channels have their heads among these nodes: those that a turn reads and writes.
@@ -105,6 +111,7 @@ pub trait Part<W: Named>: Sized {
         ensures count { count self.new ≡ count self.old }
         ensures placed { (hops : List Lane) → AreAmong (lanes self.old) hops → HasPlaces work.old.stopped hops → HasPlaces work.new.stopped hops }
         ensures refused { was_refused self.new ≡ was_refused self.old }
+        ensures served { ReadsAtMostOnce (served self.old) (served self.new) }
         ensures made { Makes W.world (writes self.old) (came self.old) (came self.new) work.old work.new };
 
     /// The head of a channel makes a write to its transport, where that is enabled. False where it made none.
@@ -123,6 +130,7 @@ pub trait Part<W: Named>: Sized {
         ensures count { count self.new ≡ count self.old }
         ensures placed { (hops : List Lane) → AreAmong (lanes self.old) hops → HasPlaces work.old.stopped hops → HasPlaces work.new.stopped hops }
         ensures refused { was_refused self.new ≡ was_refused self.old }
+        ensures served { WritesAtMostOnce (served self.old) (served self.new) }
         ensures made { Makes W.world (writes self.old) (came self.old) (came self.new) work.old work.new };
 
     /// Whether each of them has ended or failed, and no read step and no flushed byte is left.

@@ -10,6 +10,7 @@ use Rattle.pl_exec.proofs.HeadLists.{head-within, heads-stay}
 use Rattle.pl_exec.proofs.OwnNodeLemmas.{targets-stay, made-here}
 use Rattle.pl_exec.proofs.OverLemmas.{may-read-here}
 use Rattle.pl_exec.proofs.MovedNodes.{places-stay, read-stands}
+use Rattle.pl_exec.proofs.ServedNodes.{read-serves, reads-once}
 use Rattle.pl_exec.proofs.nodes.OwnNodesPart.read.Goals as goal
 use Rattle.pl_exec.proofs.nodes.OwnNodesPart.read.Goals.{In-Gave, In_default}
 
@@ -134,3 +135,15 @@ returns-in_default-clause-made g c =
     let s = c.requires.stands.1 in
     made-here ps c.index-channel.result.now p c.next_read.new.self (own-kept g c) g.W.Named.world g.W.Planned.plan g.S.Stage.meaning g.S.Stage.stands_after g.T.Transport.state c.args.self.now.number c.args.self.now.was_refused s
     (head_hop p) c.args.work.now c.next_read.new.work c.next_read.ensures.others (c.next_read.ensures.made g.W.Named.world (s.parts c.index-channel.result.now p (own-kept g c)).holds)
+
+pub returns-in-Gave-clause-served : goal.returns-in-Gave-clause-served
+returns-in-Gave-clause-served g c =
+    reads-once g.T.Transport.state c.args.self.now.parts.items c.index-channel.result.now c.index_mut.result.now c.next_read.new.self (own-gave g c)
+    (read-serves g.T.Transport.state g.W.Named.world g.S.Stage.meaning g.S.Stage.stands_after c.index_mut.result.now c.next_read.new.self c.args.work.now c.next_read.new.work c.next_read.result
+    (c.requires.stands.1.parts c.index-channel.result.now c.index_mut.result.now (own-gave g c)).holds c.next_read.ensures.reads)
+
+pub returns-in_default-clause-served : goal.returns-in_default-clause-served
+returns-in_default-clause-served g c =
+    reads-once g.T.Transport.state c.args.self.now.parts.items c.index-channel.result.now c.index_mut.result.now c.next_read.new.self (own-kept g c)
+    (read-serves g.T.Transport.state g.W.Named.world g.S.Stage.meaning g.S.Stage.stands_after c.index_mut.result.now c.next_read.new.self c.args.work.now c.next_read.new.work c.next_read.result
+    (c.requires.stands.1.parts c.index-channel.result.now c.index_mut.result.now (own-kept g c)).holds c.next_read.ensures.reads)

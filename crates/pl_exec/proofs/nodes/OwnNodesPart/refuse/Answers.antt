@@ -6,6 +6,7 @@ use Rattle.pl_replay.proofs.OneChannel.{places-of, routes, taken-none}
 use Rattle.pl_exec.proofs.HeadLists.{heads-stay}
 use Rattle.pl_exec.proofs.OwnNodeLemmas.{targets-stay, made-here}
 use Rattle.pl_exec.proofs.MovedNodes.{places-stay, refuse-stands, none-stands}
+use Rattle.pl_exec.proofs.ServedNodes.{heads-equal, serves-none}
 use Rattle.pl_exec.proofs.nodes.OwnNodesPart.refuse.Goals as goal
 
 pub refuse-requires-clause-holds : goal.refuse-requires-clause-holds
@@ -71,3 +72,7 @@ returns-else-channel-len-clause-stands g c = (
   none-stands c.args.self.now.parts.items g.W.Named.world g.W.Planned.plan g.S.Stage.meaning g.S.Stage.stands_after g.T.Transport.state c.args.self.now.number c.args.self.now.was_refused c.requires.stands.1,
   c.requires.stands.2,
 )
+
+pub returns-then-channel-len-clause-served : goal.returns-then-channel-len-clause-served
+returns-then-channel-len-clause-served g c =
+    serves-none g.T.Transport.state c.args.self.now.parts.items c.args.lane.channel c.index_mut.result.now c.refuse.new.self (own g c) (heads-equal g.T.Transport.state c.index_mut.result.now c.refuse.new.self c.refuse.ensures.head)

@@ -5,6 +5,7 @@ use Rattle.pl_replay.proofs.OneChannel.{routes, taken-one}
 use Rattle.pl_exec.proofs.HeadLists.{heads-stay}
 use Rattle.pl_exec.proofs.OwnNodeLemmas.{channel-here, next-here, targets-stay, made-here}
 use Rattle.pl_exec.proofs.MovedNodes.{places-stay, take-stands}
+use Rattle.pl_exec.proofs.ServedNodes.{take-serves, serves-none}
 use Rattle.pl_exec.proofs.nodes.OwnNodesPart.take.Goals as goal
 
 pub take-requires : goal.take-requires
@@ -62,3 +63,8 @@ returns-clause-made g c =
     let s = c.requires.stands.1 in
     made-here ps c.args.envelope.lane.channel p c.take.new.self (own g c) g.W.Named.world g.W.Planned.plan g.S.Stage.meaning g.S.Stage.stands_after g.T.Transport.state c.args.self.now.number c.args.self.now.was_refused s
     c.args.envelope.lane.hop c.args.work.now c.take.new.work c.take.ensures.others (c.take.ensures.made g.W.Named.world (s.parts c.args.envelope.lane.channel p (own g c)).holds c.requires.good)
+
+pub returns-clause-served : goal.returns-clause-served
+returns-clause-served g c =
+    serves-none g.T.Transport.state c.args.self.now.parts.items c.args.envelope.lane.channel c.index_mut.result.now c.take.new.self (own g c)
+    (take-serves g.T.Transport.state g.S.Stage.meaning g.S.Stage.stands_after g.S.Stage.is_spent c.index_mut.result.now c.take.new.self c.args.envelope c.args.work.now c.take.new.work c.take.result c.take.ensures.same c.take.ensures.takes)

@@ -11,6 +11,7 @@ use Rattle.pl_exec.proofs.HeadLists.{head-within, heads-stay}
 use Rattle.pl_exec.proofs.OwnNodeLemmas.{targets-stay, made-here}
 use Rattle.pl_exec.proofs.OverLemmas.{may-write-here}
 use Rattle.pl_exec.proofs.MovedNodes.{places-stay, write-stands}
+use Rattle.pl_exec.proofs.ServedNodes.{write-serves, writes-once}
 use Rattle.pl_exec.proofs.nodes.OwnNodesPart.write.Goals as goal
 use Rattle.pl_exec.proofs.nodes.OwnNodesPart.write.Goals.{Joined-matches, in-Idle, in_default}
 
@@ -95,3 +96,8 @@ returns-clause-made g c =
     let s = c.requires.stands.1 in
     made-here ps c.index-channel.result.now p c.write_once.new.self (own g c) g.W.Named.world g.W.Planned.plan g.S.Stage.meaning g.S.Stage.stands_after g.T.Transport.state c.args.self.now.number c.args.self.now.was_refused s
     (head_hop p) c.args.work.now c.write_once.new.work c.write_once.ensures.others (c.write_once.ensures.made g.W.Named.world (s.parts c.index-channel.result.now p (own g c)).holds)
+
+pub returns-clause-served : goal.returns-clause-served
+returns-clause-served g c =
+    writes-once g.T.Transport.state c.args.self.now.parts.items c.index-channel.result.now c.index_mut.result.now c.write_once.new.self (own g c)
+    (write-serves g.T.Transport.state g.T.Transport.may_refuse c.index_mut.result.now c.write_once.new.self c.args.work.now c.write_once.new.work c.write_once.result c.write_once.ensures.writes_out)

@@ -1,6 +1,7 @@
 use Rattle.std.proofs.Common.{◌∙◌, arith}
 use Rattle.pl_exec.proofs.OwnNodeLemmas.{channel-here}
 use Rattle.pl_exec.proofs.ToldNodes.{told-targets, told-written, told-lanes, told-took, nodes-told, own-told, makes-told}
+use Rattle.pl_exec.proofs.ServedNodes.{told-served}
 use Rattle.pl_exec.proofs.telling.TellingNodesPart.take.Goals as goal
 
 pub tell-requires-clause-there : goal.tell-requires-clause-there
@@ -44,3 +45,7 @@ returns-clause-made g c =
     let now = c.tell.new.self in
     let e = c.tell.ensures in
     makes-told c.take.new.self now.nodes c.args.envelope.lane.channel e.number e.refused e.own e.told g.S.Stage.meaning g.W.Named.world _ _ c.args.work.now c.take.new.work c.take.ensures.made
+
+pub returns-clause-served : goal.returns-clause-served
+returns-clause-served g c k =
+    told-served g.T.Transport.state c.take.new.self.parts.items c.args.envelope.lane.channel c.tell.new.self.nodes.parts.items c.tell.ensures.told k ∙ c.take.ensures.served k

@@ -1,7 +1,10 @@
-use Rattle.std.proofs.Common.{◌∙◌, length, refl, arith}
+use Rattle.std.proofs.Common.{◌≡◌, ◌≤◌, ◌+◌, ◌∙◌, length, refl, sym, subst, arith}
 use Rattle.std.proofs.lemmas.Option.{slice_get_read}
 use Rattle.pl_exec.proofs.HeadLists.{head-within}
 use Rattle.pl_exec.proofs.ToldNodes.{told-targets, told-written, told-lanes, told-took, nodes-told, own-told, makes-told}
+use Rattle.pl_executor.specs.Serving.{Served}
+use Rattle.pl_exec.specs.OwnNodes.{served_of}
+use Rattle.pl_exec.proofs.ServedNodes.{told-served}
 use Rattle.pl_exec.proofs.telling.TellingNodesPart.write.Goals as goal
 
 pub tell-requires-clause-there : goal.tell-requires-clause-there
@@ -43,3 +46,8 @@ returns-clause-made g c =
     let now = c.tell.new.self in
     let e = c.tell.ensures in
     makes-told c.write.new.self now.nodes c.index-channel.result.now e.number e.refused e.own e.told g.S.Stage.meaning g.W.Named.world _ _ c.args.work.now c.write.new.work c.write.ensures.made
+
+pub returns-clause-served : goal.returns-clause-served
+returns-clause-served g c k =
+    subst (λ (s : Served). (s.reads ≡ (served_of g.T.Transport.state c.args.self.now.nodes.parts.items k).reads) × (s.calls ≤ (served_of g.T.Transport.state c.args.self.now.nodes.parts.items k).calls + 1))
+    (sym (told-served g.T.Transport.state c.write.new.self.parts.items c.index-channel.result.now c.tell.new.self.nodes.parts.items c.tell.ensures.told k)) (c.write.ensures.served k)

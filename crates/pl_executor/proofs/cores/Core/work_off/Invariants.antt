@@ -3,6 +3,7 @@ use Rattle.pl_event.specs.declared.envelopes.Lane.{Lane}
 use Rattle.pl_context.specs.Stops.{HasPlaces}
 use Rattle.pl_executor.specs.OutboxViews.{SendsNothing, SomeRefuses}
 use Rattle.pl_executor.specs.Running.{Runs}
+use Rattle.pl_executor.specs.Serving.{ServesNone}
 use Rattle.pl_executor.proofs.cores.Core.work_off.Given as goal
 
 abbrev pub invariant-loop : goal.invariant-loop
@@ -12,6 +13,7 @@ invariant-loop g l = record {
   writes : (m : Lane) → g.N.Part.writes l.self.part m ≡ g.N.Part.writes l.fn.self.part m;
   count : g.N.Part.count l.self.part ≡ g.N.Part.count l.fn.self.part;
   taken : (m : Lane) → g.N.Part.writes l.fn.self.part m ≡ false → g.N.Part.taken_of l.self.part m ≡ g.N.Part.taken_of l.fn.self.part m;
+  served : ServesNone (g.N.Part.served l.fn.self.part) (g.N.Part.served l.self.part);
   sends : SendsNothing l.fn.self.outboxes l.self.outboxes;
   home : g.N.Part.home l.self.part ≡ l.self.number;
   places : HasPlaces l.self.work.stopped (g.N.Part.lanes l.self.part);

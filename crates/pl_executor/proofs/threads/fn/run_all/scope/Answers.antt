@@ -1,6 +1,5 @@
-use Rattle.std.proofs.Common.{◌≡◌, ◌∙◌}
+use Rattle.std.proofs.Common.{◌∙◌}
 use Rattle.std.proofs.lemmas.Result.{IfOk-weaker}
-use Rattle.pl_executor.specs.Turning.{FirstTurn}
 use Rattle.pl_executor.proofs.FirstTurns.{promised-numbers, promised-every}
 use Rattle.pl_executor.proofs.threads.fn.run_all.scope.Goals as goal
 

@@ -1,0 +1,189 @@
+-- How often the heads of an executor's nodes have read and written, after each of their calls.
+use Rattle.std.proofs.Common.{◌≡◌, ◌≢◌, ℕ, ◌+◌, ◌≤◌, Bool, true, false, List, Option, Some, None, slice_get, refl, ap, sym, ◌∙◌, subst, ⊎_elim, arith}
+use Rattle.std.specs.Prelude.{◌==◌, is_some, min, if◌then◌else◌}
+use Rattle.std.specs.Option.{option_map, option_map_or}
+use Rattle.std.proofs.lemmas.Bool.{cases_eq, cases_Bool, false≢true, both_ways}
+use Rattle.pl_event.specs.declared.events.Event.{Event}
+use Rattle.pl_event.specs.declared.envelopes.Envelope.{Envelope}
+use Rattle.pl_event.specs.Meaning.{Meaning}
+use Rattle.pl_event.specs.Worlds.{World}
+use Rattle.pl_context.specs.declared.standing.Took.{Took}
+use Rattle.pl_context.specs.OutputsViews.{OutputsView}
+use Rattle.pl_context.proofs.WaitingCalls.{at-set_there}
+use Rattle.pl_head.specs.declared.heads.OutStep.{OutStep}
+use Rattle.pl_head.specs.declared.heads.OutStep.TheVariants as step
+use Rattle.pl_head.specs.declared.heads.ReadStep.{ReadStep}
+use Rattle.pl_head.specs.declared.heads.ReadStep.TheVariants as reading
+use Rattle.pl_head.specs.declared.inputs.ReadPlan.{ReadPlan}
+use Rattle.pl_head.specs.HeadStand.{HeadView, ReadsStand}
+use Rattle.pl_head.specs.InputStand.{InputView}
+use Rattle.pl_head.specs.ReadSteps.{brings_abort, brings_failure, steps_after}
+use Rattle.pl_head.specs.Transports.{TransportState, counted}
+use Rattle.pl_part.specs.HeadCalls.{HeadReads, HeadWrites}
+use Rattle.pl_part.specs.Parts.{PartView, PartHolds, PartTakes, PartReads, PartWrites, SamePart, head_hop}
+use Rattle.pl_part.specs.Told.{IsTold, told_head}
+use Rattle.pl_replay.proofs.OneChannel.{changed, unchanged, at-was, at-is}
+use Rattle.pl_executor.specs.Serving.{Served, ServesNone, ReadsAtMostOnce, WritesAtMostOnce}
+use Rattle.pl_exec.specs.OwnNodes.{served_by, served_of}
+use Rattle.pl_exec.specs.Telling.{IsToldAt}
+
+-- ---- one head
+
+more : (n : ℕ) → n ≤ n + 1
+more n = omega arith
+
+head-none : {T : Type 0} (o : Option (HeadView T)) → is_some o ≡ false → o ≡ None
+head-none None e = refl
+head-none (Some h) e = absurd (both_ways true e refl)
+
+counted-most : (n : ℕ) → counted n ≤ n + 1
+counted-most n = omega arith
+
+-- it makes a read step, or none
+module _ {T : Type 0} (state : T → TransportState) where
+  read-steps : (q : ReadPlan) (reads : ℕ) (failed : Bool) (h h' : HeadView T) (b a : OutputsView) (answer : ReadStep) → ReadsStand q reads failed h → HeadReads state h b answer h' a
+      → (h'.input.steps ≤ h.input.steps + 1) × ((state h'.transport).calls ≡ (state h.transport).calls)
+  read-steps q reads failed h h' b a answer stands r = by answer refl
+    where
+      held-gave : reading.Held ≡ reading.Gave → ⊥
+      held-gave e = cc
+
+      done-gave : reading.Done ≡ reading.Gave → ⊥
+      done-gave e = cc
+
+      idle : answer ≢ reading.Gave → (h'.input.steps ≤ h.input.steps + 1) × ((state h'.transport).calls ≡ (state h.transport).calls)
+      idle never = let same = (r.idle never).0 in (subst (λ (x : HeadView T). x.input.steps ≤ h.input.steps + 1) (sym same) (more h.input.steps), ap (λ (x : HeadView T). (state x.transport).calls) same)
+
+      after-most : steps_after q reads h.failure ≤ reads + 1
+      after-most = ⊎_elim
+          (λ (e : brings_failure q reads h.failure ≡ true). subst (λ (c : Bool). (if c then reads else reads + 1) ≤ reads + 1) (sym e) (more reads))
+          (λ (e : brings_failure q reads h.failure ≡ false). subst (λ (c : Bool). (if c then reads else reads + 1) ≤ reads + 1) (sym e) (omega arith))
+          (cases_Bool (brings_failure q reads h.failure))
+
+      gave : answer ≡ reading.Gave → (h'.input.steps ≤ h.input.steps + 1) × ((state h'.transport).calls ≡ (state h.transport).calls)
+      gave e =
+          let was = stands.steps in
+          let is = (r.reads e q reads failed stands).steps in
+          let most = after-most in (
+            omega (arith, was, is, most),
+            ⊎_elim
+                (λ (aborts : brings_abort q reads h.failure ≡ true). ap (λ (x : HeadView T). (state x.transport).calls) (r.aborts e q reads failed stands aborts).same)
+                (λ (goes : brings_abort q reads h.failure ≡ false). ap (λ (x : HeadView T). (state x.transport).calls) (r.same e q reads failed stands goes))
+                (cases_Bool (brings_abort q reads h.failure)),
+          )
+
+      by : (x : ReadStep) → answer ≡ x → (h'.input.steps ≤ h.input.steps + 1) × ((state h'.transport).calls ≡ (state h.transport).calls)
+      by reading.Gave e = gave e
+      by reading.Held e = idle (λ (f : answer ≡ reading.Gave). held-gave (sym e ∙ f))
+      by reading.Done e = idle (λ (f : answer ≡ reading.Gave). done-gave (sym e ∙ f))
+
+-- ---- the head of a part
+
+module _ {S T : Type 0} (state : T → TransportState) where
+  -- of a part whose head stands like another's
+  same-served : (p p' : PartView S T) (h h' : HeadView T) → p.head ≡ Some h → p'.head ≡ Some h' → h'.input.steps ≡ h.input.steps → (state h'.transport).calls ≡ (state h.transport).calls
+      → served_by state p' ≡ served_by state p
+  same-served p p' h h' at at' steps calls =
+      ap (λ (o : Option (HeadView T)). option_map_or (λ (x : HeadView T). record { reads = x.input.steps; calls = (state x.transport).calls }) o (record { reads = 0; calls = 0 })) at'
+      ∙ (λ i. record { reads = steps i; calls = calls i })
+      ∙ sym (ap (λ (o : Option (HeadView T)). option_map_or (λ (x : HeadView T). record { reads = x.input.steps; calls = (state x.transport).calls }) o (record { reads = 0; calls = 0 })) at)
+
+  of-head : (p : PartView S T) (h : HeadView T) → p.head ≡ Some h → served_by state p ≡ record { reads = h.input.steps; calls = (state h.transport).calls }
+  of-head p h at = ap (λ (o : Option (HeadView T)). option_map_or (λ (x : HeadView T). record { reads = x.input.steps; calls = (state x.transport).calls }) o (record { reads = 0; calls = 0 })) at
+
+  pub heads-equal : (p p' : PartView S T) → p'.head ≡ p.head → served_by state p' ≡ served_by state p
+  heads-equal p p' e = ap (λ (o : Option (HeadView T)). option_map_or (λ (x : HeadView T). record { reads = x.input.steps; calls = (state x.transport).calls }) o (record { reads = 0; calls = 0 })) e
+
+  -- it takes an item
+  pub take-serves : (meaning : S → Meaning) (stands_after : S → List Event → Type 0) (is_spent : S → Bool) (p p' : PartView S T) (e : Envelope) (b a : OutputsView) (answer : Took)
+      → SamePart p p' → PartTakes meaning stands_after is_spent state p e b answer p' a → served_by state p' ≡ served_by state p
+  take-serves meaning stands_after is_spent p p' e b a answer same t = ⊎_elim
+      (λ (here : (e.lane.hop == head_hop p) ≡ true). by here p.head refl)
+      (λ (there : (e.lane.hop == head_hop p) ≡ false). heads-equal p p' (t.path there).1)
+      (cases_Bool (e.lane.hop == head_hop p))
+    where
+      by : (e.lane.hop == head_hop p) ≡ true → (o : Option (HeadView T)) → p.head ≡ o → served_by state p' ≡ served_by state p
+      by here None at = heads-equal p p' (head-none p'.head (same.head ∙ ap (λ (o : Option (HeadView T)). is_some o) at) ∙ sym at)
+      by here (Some h) at =
+          let r = t.head h here at in
+          same-served p p' h r.0 at r.1 (ap (λ (x : HeadView T). x.input.steps) r.2.same) (ap (λ (x : HeadView T). (state x.transport).calls) r.2.same)
+
+  -- it makes a read step, or none
+  pub read-serves : (world : World) (meaning : S → Meaning) (stands_after : S → List Event → Type 0) (p p' : PartView S T) (b a : OutputsView) (answer : ReadStep)
+      → PartHolds world meaning stands_after state p → PartReads state p b answer p' a
+      → ((served_by state p').reads ≤ (served_by state p).reads + 1) × ((served_by state p').calls ≡ (served_by state p).calls)
+  read-serves world meaning stands_after p p' b a answer holds r = by p.head refl
+    where
+      by : (o : Option (HeadView T)) → p.head ≡ o → ((served_by state p').reads ≤ (served_by state p).reads + 1) × ((served_by state p').calls ≡ (served_by state p).calls)
+      by None at =
+          let same = (r.none at).1 in
+          (subst (λ (x : PartView S T). (served_by state x).reads ≤ (served_by state p).reads + 1) (sym same) (more (served_by state p).reads), ap (λ (x : PartView S T). (served_by state x).calls) same)
+      by (Some h) at =
+          let x = r.head h at in
+          let stood = (holds.head h at).0 in
+          let reads = stood.holds.reads in
+          let s = read-steps state stood.plan reads.0 reads.1 h x.0 b a answer reads.2 x.2 in
+          subst (λ (z : Served × Served). (z.0.reads ≤ z.1.reads + 1) × (z.0.calls ≡ z.1.calls)) (λ i. (sym (of-head p' x.0 x.1) i, sym (of-head p h at) i)) s
+
+  -- it makes a write, or none
+  pub write-serves : (may_refuse : T → ℕ → Type 0) (p p' : PartView S T) (b a : OutputsView) (answer : OutStep) → PartWrites state may_refuse p b answer p' a
+      → ((served_by state p').reads ≡ (served_by state p).reads) × ((served_by state p').calls ≤ (served_by state p).calls + 1)
+  write-serves may_refuse p p' b a answer w = by p.head refl
+    where
+      wrote-idle : (n : ℕ) → step.Wrote n ≡ step.Idle → ⊥
+      wrote-idle n e = cc
+
+      failed-idle : step.Failed ≡ step.Idle → ⊥
+      failed-idle e = cc
+
+      calls : (h h' : HeadView T) → HeadWrites state may_refuse h b answer h' a → (x : OutStep) → answer ≡ x → (state h'.transport).calls ≤ (state h.transport).calls + 1
+      calls h h' hw step.Idle e = subst (λ (x : HeadView T). (state x.transport).calls ≤ (state h.transport).calls + 1) (sym (hw.idle e).0) (more (state h.transport).calls)
+      calls h h' hw (step.Wrote n) e = subst (λ (k : ℕ). k ≤ (state h.transport).calls + 1) (sym (hw.called (λ (f : answer ≡ step.Idle). wrote-idle n (sym e ∙ f)))) (counted-most (state h.transport).calls)
+      calls h h' hw step.Failed e = subst (λ (k : ℕ). k ≤ (state h.transport).calls + 1) (sym (hw.called (λ (f : answer ≡ step.Idle). failed-idle (sym e ∙ f)))) (counted-most (state h.transport).calls)
+
+      by : (o : Option (HeadView T)) → p.head ≡ o → ((served_by state p').reads ≡ (served_by state p).reads) × ((served_by state p').calls ≤ (served_by state p).calls + 1)
+      by None at =
+          let same = (w.none at).1 in
+          (ap (λ (x : PartView S T). (served_by state x).reads) same, subst (λ (x : PartView S T). (served_by state x).calls ≤ (served_by state p).calls + 1) (sym same) (more (served_by state p).calls))
+      by (Some h) at =
+          let x = w.head h at in
+          subst (λ (z : Served × Served). (z.0.reads ≡ z.1.reads) × (z.0.calls ≤ z.1.calls + 1)) (λ i. (sym (of-head p' x.0 x.1) i, sym (of-head p h at) i))
+          (ap (λ (y : HeadView T). y.input.steps) x.2.same, calls h x.0 x.2 answer refl)
+
+-- ---- all parts, of which one has changed
+
+module _ {S T : Type 0} (state : T → TransportState) (ps : List (PartView S T)) (c : ℕ) (p p' : PartView S T) (was : slice_get ps c ≡ Some p) where
+  pub serves-none : served_by state p' ≡ served_by state p → ServesNone (served_of state ps) (served_of state (changed ps c p p' was))
+  serves-none same = unchanged ps c p p' was (λ (q : PartView S T). served_by state q) (record { reads = 0; calls = 0 }) same
+
+  -- what holds of the one before and after holds of each
+  each : (R : Served → Served → Type 0) → ((s : Served) → R s s) → R (served_by state p) (served_by state p') → (k : ℕ) → R (served_of state ps k) (served_of state (changed ps c p p' was) k)
+  each R same one k = ⊎_elim
+      (λ (e : k ≡ c). subst (λ (z : Served × Served). R z.0 z.1)
+      (λ i. (sym (at-was ps c p p' was (λ (q : PartView S T). served_by state q) (record { reads = 0; calls = 0 }) k e) i, sym (at-is ps c p p' was (λ (q : PartView S T). served_by state q) (record { reads = 0; calls = 0 }) k e) i)) one)
+      (λ (other : k ≢ c). subst (λ (s : Served). R (served_of state ps k) s)
+      (sym (ap (λ (o : Option (PartView S T)). option_map_or (λ (q : PartView S T). served_by state q) o (record { reads = 0; calls = 0 })) (at-set_there ps c k p' other))) (same (served_of state ps k)))
+      (cases_eq k c)
+
+  pub reads-once : ((served_by state p').reads ≤ (served_by state p).reads + 1) × ((served_by state p').calls ≡ (served_by state p).calls)
+      → ReadsAtMostOnce (served_of state ps) (served_of state (changed ps c p p' was))
+  reads-once one = each (λ s t. (t.reads ≤ s.reads + 1) × (t.calls ≡ s.calls)) (λ s. (more s.reads, refl)) one
+
+  pub writes-once : ((served_by state p').reads ≡ (served_by state p).reads) × ((served_by state p').calls ≤ (served_by state p).calls + 1)
+      → WritesAtMostOnce (served_of state ps) (served_of state (changed ps c p p' was))
+  writes-once one = each (λ s t. (t.reads ≡ s.reads) × (t.calls ≤ s.calls + 1)) (λ s. (refl, more s.calls)) one
+
+-- ---- and where the head has told of its writes
+
+module _ {S T : Type 0} (state : T → TransportState) where
+  told-as-before : (p p' : PartView S T) → IsTold p p' → served_by state p' ≡ served_by state p
+  told-as-before p p' told =
+      heads-after p.head refl
+    where
+      heads-after : (o : Option (HeadView T)) → p.head ≡ o → served_by state p' ≡ served_by state p
+      heads-after None at = heads-equal state p p' (ap (λ (x : PartView S T). x.head) told.is ∙ ap (option_map (told_head told.so_many)) at ∙ sym at)
+      heads-after (Some h) at = same-served state p p' h (told_head told.so_many h) at (ap (λ (x : PartView S T). x.head) told.is ∙ ap (option_map (told_head told.so_many)) at) refl refl
+
+  pub told-served : (ps : List (PartView S T)) (c : ℕ) (ps' : List (PartView S T)) → IsToldAt ps c ps' → ServesNone (served_of state ps) (served_of state ps')
+  told-served ps c ps' t k =
+      ap (λ (x : List (PartView S T)). served_of state x k) t.becomes ∙ serves-none state ps c t.before t.after t.was (told-as-before t.before t.after t.told) k

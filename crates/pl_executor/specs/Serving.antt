@@ -1,0 +1,25 @@
+-- How often a channel was read and written by its head.
+use Rattle.std.specs.Prelude.{◌≡◌, ℕ, ◌+◌, ◌≤◌}
+
+-- How many of its read steps were made, but for one that only brings a failure, and how many calls of its transport.
+pub record Served : Type 0 where
+  pub reads : ℕ
+  pub calls : ℕ
+
+-- By channel, before and after.
+module _ (before after : ℕ → Served) where
+  -- no channel was read or written
+  abbrev pub ServesNone : Type 0
+  ServesNone = (c : ℕ) → after c ≡ before c
+
+  -- none was read more than once, and none was written
+  abbrev pub ReadsAtMostOnce : Type 0
+  ReadsAtMostOnce = (c : ℕ) → ((after c).reads ≤ (before c).reads + 1) × ((after c).calls ≡ (before c).calls)
+
+  -- none was written more than once, and none was read
+  abbrev pub WritesAtMostOnce : Type 0
+  WritesAtMostOnce = (c : ℕ) → ((after c).reads ≡ (before c).reads) × ((after c).calls ≤ (before c).calls + 1)
+
+  -- none was read more than once, or written more than once
+  abbrev pub ServesAtMostOnce : Type 0
+  ServesAtMostOnce = (c : ℕ) → ((after c).reads ≤ (before c).reads + 1) × ((after c).calls ≤ (before c).calls + 1)
