@@ -1,1 +1,1 @@
-mod Popping
+pub mod FlagSteps

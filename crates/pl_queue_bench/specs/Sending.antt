@@ -1,18 +1,14 @@
--- Who may send all that a lane carries.
-use Rattle.std.specs.Prelude.{◌≡◌, ◌<◌, ◌^◌, ℕ, Some}
-use Rattle.pl_event.specs.declared.envelopes.Kind.TheVariants.{Data}
-use Rattle.pl_event.specs.declared.envelopes.Lane.{Lane}
-use Rattle.pl_event.specs.Worlds.{World, content_of}
+-- What senders of flags have sent.
+use Rattle.std.specs.Prelude.{◌≡◌, ◌<◌, ◌≤◌, ℕ, false, List, get_or, Some}
+use Rattle.pl_event.specs.Hops.{flags_lane}
 use Rattle.pl_queue.specs.declared.views.SenderView.{SenderView}
-use Rattle.pl_queue_tests.specs.Relays.{IsFresh, lane_events}
+use Rattle.pl_queue.specs.Views.{sent_of}
 
--- the world has so many events on this data lane
-pub record Carries (world : World) (lane : Lane) (last : ℕ) : Type 0 where
-  pub small : last < 2 ^ 32
-  pub kind : lane.kind ≡ Data
-  pub content : content_of world lane ≡ Some (lane_events last)
+-- the next number of the flags lanes of these hops of a channel
+pub record HasNext (channel from to number : ℕ) (s : SenderView) : Type 0 where
+  pub next : (hop : ℕ) → from ≤ hop → hop < to → sent_of (flags_lane channel hop) s.send_counts ≡ Some (number, false)
 
--- a sender that sent nothing yet of such a lane, its only one
-pub record MaySend (world : World) (sends : SenderView) (lane : Lane) (last : ℕ) : Type 0 where
-  pub carries : Carries world lane last
-  pub fresh : IsFresh lane sends
+-- each of these senders, by its place, has a channel, of whose hops this is the next number
+abbrev pub AllHaveNext : {S : Type 0} → (S → Type 0) → (S → SenderView) → ℕ → ℕ → ℕ → ℕ → List S → Type 0
+AllHaveNext {S} made sends hops number from to senders =
+    (i : ℕ) (s : S) → from ≤ i → i < to → s ≡ get_or senders i s → made s × HasNext i 0 hops number (sends s)

@@ -1,55 +1,80 @@
-//! Through a mailbox.
+//! Through a mailbox: from as many threads as it has senders, or in turns on one thread.
 
-ghost use Rattle.std.specs.Prelude.{◌≡◌, ◌∷◌, []};
+ghost use Rattle.std.specs.Prelude.{◌≡◌, ◌+◌, ◌<◌, ◌≤◌, ◌^◌, length, vec_len, IfSome};
 ghost use denote.Param.Send.{IsSync};
-ghost use Rattle.pl_event.specs.Hops.{data_lane};
-ghost use Rattle.pl_queue.specs.Left.{Apart};
-ghost use Rattle.pl_queue_bench.specs.Sending.{Carries, MaySend};
+ghost use Rattle.pl_queue_bench.specs.Sending.{HasNext, AllHaveNext};
 
 use crate::CAPACITY;
-use pl_event::{Envelope, Item, Kind, Lane, Named};
-use pl_queue::{Mailbox, RingBox, WaitingBox};
-use pl_queue_tests::{event_at, hand_over};
+use pl_event::Named;
+use pl_queue::Mailbox;
+use pl_queue_tests::{flag, hand_over, lane, lists};
 use std::alloc::Global;
 use std::sync::Wait;
 use std::thread;
 use std::thread::Threads;
 
-/// The data lane of hop 0 of a channel.
-pub fn lane(channel: u16) -> Lane
-    ensures { result ≡ data_lane channel 0 }
+// A mailbox with so many senders. Each of the first ones has the flags lanes of so many hops of a channel.
+fn opened<W: Named, M: Mailbox<W> + Drop>(
+    alloc: Global,
+    hops: u16,
+    channels: u16,
+    senders: u32,
+) -> Option<(M, Vec<M::Sender>, M::Taker)>
+where
+    M::Sender: Drop,
+    M::Taker: Drop,
+    requires { (0 < channels) × (channels ≤ senders) }
+    ensures senders { IfSome result (λ r. (vec_len r.1 ≡ senders) × AllHaveNext (M.is_sender r.0) M.sends_of hops 0 0 channels r.1.items) }
+    ensures taker { IfSome result (λ r. M.is_taker r.0 r.2) }
 {
-    Lane {
-        channel,
-        kind: Kind::Data,
-        hop: 0,
+    let Ok(lists) = lists(alloc, hops, channels, senders) else {
+        return None;
+    };
+    match M::open(alloc, lists, CAPACITY) {
+        Ok(opened) => Some(opened),
+        Err(_) => None,
     }
 }
 
-// Offers all that a lane carries, and its end.
+// Offers so many flags on the first hop's lane of a channel.
 fn offer_all<W: Named, M: Mailbox<W>, R: Wait>(
     rt: &R,
     mailbox: &M,
-    mut sender: M::Sender,
-    lane: Lane,
-    last: u64,
-) -> bool
-where
-    M::Sender: Drop,
-    requires sender { M.is_sender mailbox.now sender }
-    requires ready { MaySend W.world (M.sends_of sender) lane last }
+    sender: &mut M::Sender,
+    channel: u16,
+    count: u64,
+)
+    requires sender { M.is_sender mailbox.now sender.old }
+    requires next { HasNext channel 0 1 0 (M.sends_of sender.old) }
+    requires small { count ≤ 2 ^ 32 }
 {
-    for number in 0..last {
-        let item = Item::Event(event_at(number));
-        hand_over::<W, M, R>(rt, mailbox, &mut sender, Envelope { lane, number, item });
+    for number in 0..count {
+        hand_over::<W, M, R>(rt, mailbox, sender, flag(lane(channel, 0), number));
     }
-    let end = Envelope {
-        lane,
-        number: last,
-        item: Item::End,
-    };
-    hand_over::<W, M, R>(rt, mailbox, &mut sender, end);
-    true
+}
+
+// Each sender offers so many, on a thread of its own.
+fn offer_by_threads<W: Named + Send + Sync, M: Mailbox<W> + Send + Sync, R: Threads + Wait + Sync>(
+    rt: &R,
+    mailbox: &M,
+    mut senders: Vec<M::Sender>,
+    each: u64,
+)
+where
+    M::Sender: Drop + Send,
+    requires few { (0 < vec_len senders) × (vec_len senders < 2 ^ 16) }
+    requires senders { AllHaveNext (M.is_sender mailbox.now) M.sends_of 1 0 0 (vec_len senders) senders.items }
+    requires small { each ≤ 2 ^ 32 }
+{
+    let threads = senders.len();
+    thread::for_each_mut(
+        rt,
+        senders.as_mut_slice(),
+        threads,
+        &|i: usize, sender: &mut M::Sender|
+            requires { (i < 2 ^ 16) × M.is_sender mailbox.now sender.now × HasNext i 0 1 0 (M.sends_of sender.now) × (each ≤ 2 ^ 32) }
+        { offer_all::<W, M, R>(rt, mailbox, sender, i as u16, each) },
+    );
 }
 
 // Takes so many envelopes.
@@ -76,257 +101,112 @@ where
     taken
 }
 
-// One thread sends, and one takes.
-fn by_one<W: Named + Send + Sync, M: Mailbox<W> + Send + Sync, R: Threads + Wait + Sync>(
-    rt: &R,
-    mailbox: &M,
-    sender: M::Sender,
-    taker: M::Taker,
-    lane: Lane,
-    last: u64,
-) -> u64
+/// From so many threads, each of which sends so many, to another.
+pub fn on_threads<
+    W: Named + Send + Sync,
+    M: Mailbox<W> + Drop + Send + Sync,
+    R: Threads + Wait + Sync,
+>(rt: &R, alloc: Global, threads: u16, each: u64) -> Option<u64>
 where
     M::Sender: Drop + Send,
     M::Taker: Drop + Send,
-    requires sender { M.is_sender mailbox.now sender }
-    requires ready { MaySend W.world (M.sends_of sender) lane last }
-    requires taker { M.is_taker mailbox.now taker }
+    requires { (0 < threads) × (each ≤ 2 ^ 32) }
 {
-    let (_sent, taken) = thread::join(
+    let (mailbox, senders, taker) = opened::<W, M>(alloc, 1, threads, u32::from(threads))?;
+    let mailbox = &mailbox;
+    let count = u64::from(threads) * each;
+    let ((), taken) = thread::join(
         rt,
-        move || -> bool
-            requires { M.is_sender mailbox.now sender × MaySend W.world (M.sends_of sender) lane last }
-        { offer_all::<W, M, R>(rt, mailbox, sender, lane, last) },
-        move || -> u64
-            requires { M.is_taker mailbox.now taker }
-        { take_all::<W, M, R>(rt, mailbox, taker, last) },
-    );
-    taken
-}
-
-// Opens a mailbox with one sender.
-fn one<W: Named + Send + Sync, M: Mailbox<W> + Drop + Send + Sync, R: Threads + Wait + Sync>(
-    rt: &R,
-    alloc: Global,
-    lane: Lane,
-    last: u64,
-) -> Option<u64>
-where
-    M::Sender: Drop + Send,
-    M::Taker: Drop + Send,
-    requires world { Carries W.world lane last }
-{
-    let Ok(own) = Vec::from_array(alloc, [lane]) else {
-        return None;
-    };
-    let Ok(lanes) = Vec::from_array(alloc, [own]) else {
-        return None;
-    };
-    let Ok((mailbox, mut senders, taker)) = M::open(alloc, lanes, CAPACITY) else {
-        return None;
-    };
-    let Some(sender) = senders.pop() else {
-        return None;
-    };
-    Some(by_one::<W, M, R>(rt, &mailbox, sender, taker, lane, last))
-}
-
-// Two threads send, each on a lane of its own.
-fn offer_by_two<W: Named + Send + Sync, M: Mailbox<W> + Send + Sync, R: Threads + Wait + Sync>(
-    rt: &R,
-    mailbox: &M,
-    one: M::Sender,
-    two: M::Sender,
-    first: Lane,
-    second: Lane,
-    last: u64,
-) -> bool
-where
-    M::Sender: Drop + Send,
-    requires one { M.is_sender mailbox.now one × MaySend W.world (M.sends_of one) first last }
-    requires two { M.is_sender mailbox.now two × MaySend W.world (M.sends_of two) second last }
-{
-    let (sent, all) = thread::join(
-        rt,
-        move || -> bool
-            requires { M.is_sender mailbox.now one × MaySend W.world (M.sends_of one) first last }
-        { offer_all::<W, M, R>(rt, mailbox, one, first, last) },
-        move || -> bool
-            requires { M.is_sender mailbox.now two × MaySend W.world (M.sends_of two) second last }
-        { offer_all::<W, M, R>(rt, mailbox, two, second, last) },
-    );
-    sent && all
-}
-
-// Two threads send, and one takes what four send.
-fn by_two<W: Named + Send + Sync, M: Mailbox<W> + Send + Sync, R: Threads + Wait + Sync>(
-    rt: &R,
-    mailbox: &M,
-    one: M::Sender,
-    two: M::Sender,
-    taker: M::Taker,
-    first: Lane,
-    second: Lane,
-    last: u64,
-) -> u64
-where
-    M::Sender: Drop + Send,
-    M::Taker: Drop + Send,
-    requires one { M.is_sender mailbox.now one × MaySend W.world (M.sends_of one) first last }
-    requires two { M.is_sender mailbox.now two × MaySend W.world (M.sends_of two) second last }
-    requires taker { M.is_taker mailbox.now taker }
-{
-    let count = 4 * last;
-    let (_sent, taken) = thread::join(
-        rt,
-        move || -> bool
-            requires { M.is_sender mailbox.now one × MaySend W.world (M.sends_of one) first last × M.is_sender mailbox.now two × MaySend W.world (M.sends_of two) second last × IsSync R.row }
-        { offer_by_two::<W, M, R>(rt, mailbox, one, two, first, second, last) },
+        move || -> ()
+            requires { (0 < vec_len senders) × (vec_len senders < 2 ^ 16) × AllHaveNext (M.is_sender mailbox.now) M.sends_of 1 0 0 (vec_len senders) senders.items × (each ≤ 2 ^ 32) × IsSync R.row }
+        { offer_by_threads::<W, M, R>(rt, mailbox, senders, each) },
         move || -> u64
             requires { M.is_taker mailbox.now taker }
         { take_all::<W, M, R>(rt, mailbox, taker, count) },
     );
-    taken
+    Some(taken)
 }
 
-// Four threads send, and one takes.
-fn by_four<W: Named + Send + Sync, M: Mailbox<W> + Send + Sync, R: Threads + Wait + Sync>(
+// Takes an envelope, where there is one. How many it took.
+fn take_one<W: Named, M: Mailbox<W>, R: Wait>(rt: &R, mailbox: &M, taker: &mut M::Taker) -> u64
+    requires taker { M.is_taker mailbox.now taker.old }
+    ensures taker { M.is_taker mailbox.now taker.new }
+    ensures one { result ≤ 1 }
+{
+    match mailbox.take::<R>(rt, taker) {
+        Some(_envelope) => 1,
+        None => 0,
+    }
+}
+
+// A flag on each lane of a sender, each taken at once. How many were.
+fn offer_and_take<W: Named, M: Mailbox<W>, R: Wait>(
     rt: &R,
     mailbox: &M,
-    one: M::Sender,
-    two: M::Sender,
-    three: M::Sender,
-    four: M::Sender,
-    taker: M::Taker,
-    first: Lane,
-    second: Lane,
-    third: Lane,
-    fourth: Lane,
-    last: u64,
+    sender: &mut M::Sender,
+    taker: &mut M::Taker,
+    channel: u16,
+    hops: u16,
+    number: u64,
 ) -> u64
-where
-    M::Sender: Drop + Send,
-    M::Taker: Drop + Send,
-    requires one { M.is_sender mailbox.now one × MaySend W.world (M.sends_of one) first last }
-    requires two { M.is_sender mailbox.now two × MaySend W.world (M.sends_of two) second last }
-    requires three { M.is_sender mailbox.now three × MaySend W.world (M.sends_of three) third last }
-    requires four { M.is_sender mailbox.now four × MaySend W.world (M.sends_of four) fourth last }
-    requires taker { M.is_taker mailbox.now taker }
+    requires sender { M.is_sender mailbox.now sender.old }
+    requires taker { M.is_taker mailbox.now taker.old }
+    requires next { HasNext channel 0 hops number (M.sends_of sender.old) }
+    requires small { number < 2 ^ 32 }
+    ensures sender { M.is_sender mailbox.now sender.new }
+    ensures taker { M.is_taker mailbox.now taker.new }
+    ensures next { HasNext channel 0 hops (number + 1) (M.sends_of sender.new) }
 {
-    let (_sent, taken) = thread::join(
-        rt,
-        move || -> bool
-            requires { M.is_sender mailbox.now one × MaySend W.world (M.sends_of one) first last × M.is_sender mailbox.now two × MaySend W.world (M.sends_of two) second last × IsSync R.row }
-        { offer_by_two::<W, M, R>(rt, mailbox, one, two, first, second, last) },
-        move || -> u64
-            requires { M.is_sender mailbox.now three × MaySend W.world (M.sends_of three) third last × M.is_sender mailbox.now four × MaySend W.world (M.sends_of four) fourth last × M.is_taker mailbox.now taker × IsSync R.row }
-        { by_two::<W, M, R>(rt, mailbox, three, four, taker, third, fourth, last) },
-    );
+    let mut taken = 0;
+    for hop in 0..hops {
+        hand_over::<W, M, R>(rt, mailbox, sender, flag(lane(channel, hop), number));
+        taken += take_one::<W, M, R>(rt, mailbox, taker);
+    }
     taken
 }
 
-// Opens a mailbox with four senders.
-fn four<W: Named + Send + Sync, M: Mailbox<W> + Drop + Send + Sync, R: Threads + Wait + Sync>(
+// The same with each sender in turn, so many times.
+fn all_in_turns<W: Named, M: Mailbox<W>, R: Wait>(
+    rt: &R,
+    mailbox: &M,
+    senders: &mut [M::Sender],
+    taker: &mut M::Taker,
+    channels: u16,
+    hops: u16,
+    rounds: u64,
+) -> u64
+    requires there { channels ≤ length senders.old }
+    requires senders { AllHaveNext (M.is_sender mailbox.now) M.sends_of hops 0 0 channels senders.old }
+    requires taker { M.is_taker mailbox.now taker.old }
+    requires small { rounds ≤ 2 ^ 32 }
+{
+    let mut taken: u64 = 0;
+    'rounds: for number in 0..rounds {
+        'channels: for channel in 0..channels {
+            let sender = &mut senders[usize::from(channel)];
+            let more = offer_and_take::<W, M, R>(rt, mailbox, sender, taker, channel, hops, number);
+            taken = taken.saturating_add(more);
+        }
+    }
+    taken
+}
+
+/// On one thread: lane by lane, an envelope is offered and taken, until each lane of these hops and channels has had so many.
+/// Each of the first senders has a channel.
+pub fn in_turns<W: Named, M: Mailbox<W> + Drop, R: Wait>(
     rt: &R,
     alloc: Global,
-    first: Lane,
-    second: Lane,
-    third: Lane,
-    fourth: Lane,
-    last: u64,
+    channels: u16,
+    hops: u16,
+    senders: u32,
+    rounds: u64,
 ) -> Option<u64>
 where
-    M::Sender: Drop + Send,
-    M::Taker: Drop + Send,
-    requires apart { Apart (first ∷ second ∷ third ∷ fourth ∷ []) }
-    requires world { Carries W.world first last × Carries W.world second last × Carries W.world third last × Carries W.world fourth last }
+    M::Sender: Drop,
+    M::Taker: Drop,
+    requires { (0 < channels) × (channels ≤ senders) × (rounds ≤ 2 ^ 32) }
 {
-    let Ok(one) = Vec::from_array(alloc, [first]) else {
-        return None;
-    };
-    let Ok(two) = Vec::from_array(alloc, [second]) else {
-        return None;
-    };
-    let Ok(three) = Vec::from_array(alloc, [third]) else {
-        return None;
-    };
-    let Ok(four) = Vec::from_array(alloc, [fourth]) else {
-        return None;
-    };
-    let Ok(lanes) = Vec::from_array(alloc, [one, two, three, four]) else {
-        return None;
-    };
-    let Ok((mailbox, mut senders, taker)) = M::open(alloc, lanes, CAPACITY) else {
-        return None;
-    };
-    let Some(sender_four) = senders.pop() else {
-        return None;
-    };
-    let Some(sender_three) = senders.pop() else {
-        return None;
-    };
-    let Some(sender_two) = senders.pop() else {
-        return None;
-    };
-    let Some(sender_one) = senders.pop() else {
-        return None;
-    };
-    Some(by_four::<W, M, R>(
-        rt,
-        &mailbox,
-        sender_one,
-        sender_two,
-        sender_three,
-        sender_four,
-        taker,
-        first,
-        second,
-        third,
-        fourth,
-        last,
-    ))
-}
-
-/// Over the lock-free ring, from one thread.
-pub fn one_by_ring<W: Named + Send + Sync, R: Threads + Wait + Sync>(
-    rt: &R,
-    alloc: Global,
-    count: u64,
-) -> Option<u64>
-    requires world { Carries W.world (data_lane 0 0) count }
-{
-    one::<W, RingBox<W>, R>(rt, alloc, lane(0), count)
-}
-
-/// Over the channel that waits for room, from one thread.
-pub fn one_by_waiting<W: Named + Send + Sync, R: Threads + Wait + Sync>(
-    rt: &R,
-    alloc: Global,
-    count: u64,
-) -> Option<u64>
-    requires world { Carries W.world (data_lane 0 0) count }
-{
-    one::<W, WaitingBox<W>, R>(rt, alloc, lane(0), count)
-}
-
-/// Over the lock-free ring, from four threads, each of which sends so many.
-pub fn four_by_ring<W: Named + Send + Sync, R: Threads + Wait + Sync>(
-    rt: &R,
-    alloc: Global,
-    each: u64,
-) -> Option<u64>
-    requires world { Carries W.world (data_lane 0 0) each × Carries W.world (data_lane 1 0) each × Carries W.world (data_lane 2 0) each × Carries W.world (data_lane 3 0) each }
-{
-    four::<W, RingBox<W>, R>(rt, alloc, lane(0), lane(1), lane(2), lane(3), each)
-}
-
-/// Over the channel that waits for room, from four threads, each of which sends so many.
-pub fn four_by_waiting<W: Named + Send + Sync, R: Threads + Wait + Sync>(
-    rt: &R,
-    alloc: Global,
-    each: u64,
-) -> Option<u64>
-    requires world { Carries W.world (data_lane 0 0) each × Carries W.world (data_lane 1 0) each × Carries W.world (data_lane 2 0) each × Carries W.world (data_lane 3 0) each }
-{
-    four::<W, WaitingBox<W>, R>(rt, alloc, lane(0), lane(1), lane(2), lane(3), each)
+    let (mailbox, mut senders, mut taker) = opened::<W, M>(alloc, hops, channels, senders)?;
+    let senders = senders.as_mut_slice();
+    Some(all_in_turns::<W, M, R>(rt, &mailbox, senders, &mut taker, channels, hops, rounds))
 }

@@ -1,13 +1,18 @@
-//! Moves envelopes from one thread or four to another, through a mailbox or through the plain queue of the same crate.
+//! Moves envelopes through a mailbox, or through the plain queue of the same crate.
 //!
-//! usage: pl_queue_bench WORKLOAD COUNT     From four threads a quarter of COUNT each. With no workload it moves nothing.
+//! usage: pl_queue_bench WORKLOAD COUNT     COUNT envelopes in all. With no workload it moves nothing.
 #![tactic(auto)]
 
 mod boxes;
 mod plain;
 
 use crate::plain::{PlainRing, PlainWaiting};
+use pl_event::Named;
+use pl_queue::{Mailbox, RingBox, WaitingBox};
+use std::alloc::Global;
 use std::marker::Brand;
+use std::sync::Wait;
+use std::thread::Threads;
 use std::{env, io};
 
 /// The capacity of every queue.
@@ -28,22 +33,38 @@ fn asked(rt: &HostRuntime) -> io::Result<Option<(String, u32)>> {
     )
 }
 
+// What one box does.
+fn by_box<W: Named + Send + Sync, M: Mailbox<W> + Drop + Send + Sync, R: Threads + Wait + Sync>(
+    rt: &R,
+    alloc: Global,
+    workload: &str,
+    count: u32,
+) -> Option<u64>
+where
+    M::Sender: Drop + Send,
+    M::Taker: Drop + Send,
+{
+    let count = u64::from(count);
+    match workload {
+        "1" => boxes::on_threads::<W, M, R>(rt, alloc, 1, count),
+        "4" => boxes::on_threads::<W, M, R>(rt, alloc, 4, count / 4),
+        "lane" => boxes::in_turns::<W, M, R>(rt, alloc, 1, 1, 1, count),
+        "lanes" => boxes::in_turns::<W, M, R>(rt, alloc, 1, 8_192, 1, count / 8_192),
+        "senders" => boxes::in_turns::<W, M, R>(rt, alloc, 8_192, 1, 65_535, count / 8_192),
+        _ => None,
+    }
+}
+
 fn main(rt: HostRuntime) -> io::Result<()> {
     let Some((workload, count)) = asked(&rt)? else {
         return Ok(());
     };
-    let count = u64::from(count);
-    let each = count / 4;
     let alloc = rt.alloc();
-    let moved = match workload.as_str() {
-        "ring_1" => boxes::one_by_ring::<Brand, _>(&rt, alloc, count),
-        "waiting_1" => boxes::one_by_waiting::<Brand, _>(&rt, alloc, count),
-        "plain_ring_1" => plain::one::<PlainRing, _>(&rt, alloc, count),
-        "plain_waiting_1" => plain::one::<PlainWaiting, _>(&rt, alloc, count),
-        "ring_4" => boxes::four_by_ring::<Brand, _>(&rt, alloc, each),
-        "waiting_4" => boxes::four_by_waiting::<Brand, _>(&rt, alloc, each),
-        "plain_ring_4" => plain::four::<PlainRing, _>(&rt, alloc, each),
-        "plain_waiting_4" => plain::four::<PlainWaiting, _>(&rt, alloc, each),
+    let moved = match workload.as_str().split_once('_') {
+        Some(("ring", rest)) => by_box::<Brand, RingBox<Brand>, _>(&rt, alloc, rest, count),
+        Some(("waiting", rest)) => by_box::<Brand, WaitingBox<Brand>, _>(&rt, alloc, rest, count),
+        Some(("plainring", rest)) => plain::by_queue::<PlainRing, _>(&rt, alloc, rest, count),
+        Some(("plainwaiting", rest)) => plain::by_queue::<PlainWaiting, _>(&rt, alloc, rest, count),
         _ => None,
     };
     match moved {

@@ -1,14 +1,12 @@
 //! Through the plain queue of the crate that each box stands on.
 
-ghost use Rattle.std.specs.Prelude.{◌<◌, ◌^◌};
-ghost use denote.Param.Send.{IsSync};
+ghost use Rattle.std.specs.Prelude.{◌≤◌, ◌<◌, ◌^◌};
 
 use crate::CAPACITY;
-use crate::boxes::lane;
 use crossbeam_channel::{Receiver, Sender, bounded};
 use crossbeam_queue::ArrayQueue;
-use pl_event::{Envelope, Item, Lane};
-use pl_queue_tests::event_at;
+use pl_event::Envelope;
+use pl_queue_tests::{flag, lane};
 use std::alloc::Global;
 use std::sync::Wait;
 use std::thread;
@@ -88,19 +86,11 @@ impl Plain for PlainWaiting {
     }
 }
 
-// Puts in all that a lane carries, and its end.
-fn put_all<Q: Plain, R: Wait>(rt: &R, queue: &Q, lane: Lane, last: u64) -> bool {
-    for number in 0..last {
-        let item = Item::Event(event_at(number));
-        queue.put::<R>(rt, Envelope { lane, number, item });
+// Puts in so many flags of the first hop's lane of a channel.
+fn put_all<Q: Plain, R: Wait>(rt: &R, queue: &Q, channel: u16, count: u64) {
+    for number in 0..count {
+        queue.put::<R>(rt, flag(lane(channel, 0), number));
     }
-    let end = Envelope {
-        lane,
-        number: last,
-        item: Item::End,
-    };
-    queue.put::<R>(rt, end);
-    true
 }
 
 // Takes so many envelopes.
@@ -118,75 +108,46 @@ fn take_all<Q: Plain, R: Wait>(rt: &R, queue: &Q, count: u64) -> u64 {
     taken
 }
 
-/// From one thread.
-pub fn one<Q: Plain + Drop + Send + Sync, R: Threads + Wait + Sync>(
+// From so many threads, each of which sends so many, to another.
+fn on_threads<Q: Plain + Drop + Send + Sync, R: Threads + Wait + Sync>(
     rt: &R,
     alloc: Global,
-    last: u64,
-) -> Option<u64> {
-    let queue = &Q::open(alloc)?;
-    let (_sent, taken) = thread::join(
-        rt,
-        move || -> bool { put_all::<Q, R>(rt, queue, lane(0), last) },
-        move || -> u64 { take_all::<Q, R>(rt, queue, last) },
-    );
-    Some(taken)
-}
-
-// Two threads send, each on a lane of its own.
-fn put_by_two<Q: Plain + Send + Sync, R: Threads + Wait + Sync>(
-    rt: &R,
-    queue: &Q,
-    first: Lane,
-    second: Lane,
-    last: u64,
-) -> bool {
-    let (sent, all) = thread::join(
-        rt,
-        move || -> bool { put_all::<Q, R>(rt, queue, first, last) },
-        move || -> bool { put_all::<Q, R>(rt, queue, second, last) },
-    );
-    sent && all
-}
-
-// Two threads send, and one takes what four send.
-fn by_two<Q: Plain + Send + Sync, R: Threads + Wait + Sync>(
-    rt: &R,
-    queue: &Q,
-    first: Lane,
-    second: Lane,
-    last: u64,
-) -> u64
-    requires { last < 2 ^ 32 }
-{
-    let count = 4 * last;
-    let (_sent, taken) = thread::join(
-        rt,
-        move || -> bool
-            requires { IsSync R.row }
-        { put_by_two::<Q, R>(rt, queue, first, second, last) },
-        move || -> u64 { take_all::<Q, R>(rt, queue, count) },
-    );
-    taken
-}
-
-/// From four threads, each of which sends so many.
-pub fn four<Q: Plain + Drop + Send + Sync, R: Threads + Wait + Sync>(
-    rt: &R,
-    alloc: Global,
+    threads: u16,
     each: u64,
 ) -> Option<u64>
-    requires { each < 2 ^ 32 }
+    requires { each ≤ 2 ^ 32 }
 {
     let queue = &Q::open(alloc)?;
-    let (_sent, taken) = thread::join(
+    let count = u64::from(threads) * each;
+    let (put, taken) = thread::join(
         rt,
-        move || -> bool
-            requires { IsSync R.row }
-        { put_by_two::<Q, R>(rt, queue, lane(0), lane(1), each) },
-        move || -> u64
-            requires { (each < 2 ^ 32) × IsSync R.row }
-        { by_two::<Q, R>(rt, queue, lane(2), lane(3), each) },
+        move || {
+            thread::map_indices(
+                rt,
+                alloc,
+                usize::from(threads),
+                &|i: usize|
+                    requires { i < 2 ^ 16 }
+                { put_all::<Q, R>(rt, queue, i as u16, each) },
+            )
+        },
+        move || -> u64 { take_all::<Q, R>(rt, queue, count) },
     );
+    put.ok()?;
     Some(taken)
+}
+
+/// From one thread or four.
+pub fn by_queue<Q: Plain + Drop + Send + Sync, R: Threads + Wait + Sync>(
+    rt: &R,
+    alloc: Global,
+    workload: &str,
+    count: u32,
+) -> Option<u64> {
+    let count = u64::from(count);
+    match workload {
+        "1" => on_threads::<Q, R>(rt, alloc, 1, count),
+        "4" => on_threads::<Q, R>(rt, alloc, 4, count / 4),
+        _ => None,
+    }
 }

@@ -4,7 +4,7 @@ use Rattle.std.proofs.lemmas.Bool.{cond-true, cond-false, cases_Bool}
 use Rattle.pl_event.specs.declared.envelopes.Envelope.{Envelope}
 use Rattle.pl_event.specs.declared.envelopes.Item.{Item}
 use Rattle.pl_event.specs.declared.envelopes.Item.TheVariants as item
-use Rattle.pl_event.specs.declared.envelopes.Kind.TheVariants.{Data}
+use Rattle.pl_event.specs.declared.envelopes.Kind.TheVariants.{Data, Flags}
 use Rattle.pl_event.specs.declared.envelopes.Lane.{Lane}
 use Rattle.pl_event.specs.declared.events.Event.{Event}
 use Rattle.pl_event.specs.declared.events.Event.TheVariants.{ReadComplete}
@@ -20,6 +20,7 @@ use Rattle.pl_queue.specs.Rule.{Each}
 use Rattle.pl_queue.specs.Views.{fresh_sends, send_count, sent_of, set_send_count, lanes_of_send_counts, lanes_of_counts, after_offer, after_take, takes, fresh_take_counts}
 use Rattle.pl_queue.proofs.Drains.{set_send_count-lanes, set_take_count-lanes, all-given}
 use Rattle.pl_queue.proofs.Lists.{none-some, map-append}
+use Rattle.pl_queue_tests.specs.Flags.{flag_at}
 use Rattle.pl_queue_tests.specs.Lines.{CarriesLines, line_read}
 use Rattle.pl_queue_tests.specs.Relays.{IsFresh, lane_events, event_at, two_lanes, sending_lanes, taking_lanes}
 
@@ -56,6 +57,11 @@ event-fits world l n last e kind is h same = item-fits world l n (lane_events la
 
 pub last-fits : (world : World) (l : Lane) (last : ℕ) → l.kind ≡ Data → content_of world l ≡ Some (lane_events last) → FitsWorld world (record { lane = l; number = last; item = item.End })
 last-fits world l last kind is = item-fits world l last (lane_events last) item.End kind is (lane_length last)
+
+-- a flag fits every world
+pub flag-fits : (world : World) (l : Lane) (n : ℕ) (x : Envelope) → l.kind ≡ Flags → x ≡ flag_at l n → FitsWorld world x
+unfolding FitsWorld
+flag-fits world l n x kind is = subst (FitsWorld world) (sym is) (subst (λ k. FitsAsKind world k (flag_at l n)) (sym kind) refl)
 
 at-map : {A B : Type 0} (f : A → B) (xs : List A) (n : ℕ) (x : A) → n < length xs → x ≡ get_or xs n x → slice_get (map f xs) n ≡ Some (f x)
 at-map f [] n x h e = absurd (omega arith)

@@ -1,3 +1,4 @@
 pub mod Relays
 pub mod Openings
 pub mod Lines
+pub mod Flags

@@ -1,22 +1,17 @@
-use Rattle.std.proofs.Common.{◌+◌, false, ap, ◌∙◌, arith}
-use Rattle.pl_queue.specs.declared.views.SenderView.{SenderView}
-use Rattle.pl_queue.specs.Views.{sent_of}
-use Rattle.pl_queue_tests.proofs.RelayLemmas.{event-fits, last-fits, sent_of-this}
+use Rattle.std.proofs.Common.{ap}
+use Rattle.pl_event.specs.declared.envelopes.Lane.{Lane}
+use Rattle.pl_queue_tests.proofs.RelayLemmas.{flag-fits}
+use Rattle.pl_queue_bench.proofs.FlagSteps.{now-sent}
 use Rattle.pl_queue_bench.proofs.boxes.offer_all.Goals as goal
 
 pub hand_over-requires-clause-fits : goal.hand_over-requires-clause-fits
-hand_over-requires-clause-fits g c =
-    event-fits g.W.Named.world c.args.lane c.loop-number.number c.args.last c.event_at.result c.requires.ready.carries.kind c.requires.ready.carries.content (omega arith) c.event_at.ensures
+hand_over-requires-clause-fits g c = flag-fits g.W.Named.world c.lane.result c.loop-number.number c.flag.result (ap (λ (l : Lane). l.kind) c.lane.ensures) c.flag.ensures
 
 pub loop-number-preserved : goal.loop-number-preserved
 loop-number-preserved g c =
-    let n = c.loop-number.number in
     let told = c.hand_over.ensures in
     record {
       sender = told.sender;
-      sent = ap (λ (s : SenderView). sent_of c.args.lane s.send_counts) told.sent
-          ∙ sent_of-this c.args.lane (n + 1) false (g.M.Mailbox.sends_of c.loop-number.sender).send_counts n false c.loop-number.invariant.sent;
+      sent = now-sent c.args.channel 0 c.loop-number.number (g.M.Mailbox.sends_of c.loop-number.sender) (g.M.Mailbox.sends_of c.hand_over.new.sender) c.lane.result c.flag.result
+          c.lane.ensures c.flag.ensures told.sent c.loop-number.invariant.sent;
     }
-
-pub hand_over-requires-2-clause-fits : goal.hand_over-requires-2-clause-fits
-hand_over-requires-2-clause-fits g c = last-fits g.W.Named.world c.args.lane c.args.last c.requires.ready.carries.kind c.requires.ready.carries.content

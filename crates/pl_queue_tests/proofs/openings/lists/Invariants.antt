@@ -1,10 +1,17 @@
-use Rattle.std.proofs.Common.{◌≡◌, ◌<◌, map, length}
-use Rattle.pl_queue.specs.Left.{all_lanes, own_lanes}
-use Rattle.pl_queue_tests.specs.Openings.{hops_below}
+use Rattle.std.proofs.Common.{◌≡◌, ◌≤◌, max, length}
+use Rattle.pl_queue_tests.proofs.OpeningLemmas.{AreLists}
 use Rattle.pl_queue_tests.proofs.openings.lists.Given as goal
 
-abbrev pub invariant-loop : goal.invariant-loop
-invariant-loop l = record {
-  some : 0 < length l.all.items;
-  lanes_are : all_lanes (map own_lanes l.all.items) ≡ hops_below l.fn.lanes;
+abbrev pub invariant-loop-channel : goal.invariant-loop-channel
+invariant-loop-channel l = record {
+  len : length l.all.items ≡ l.channel;
+  are : AreLists l.hops l.channel l.all.items;
+}
+
+abbrev pub invariant-loop-count : goal.invariant-loop-count
+invariant-loop-count l = record {
+  len : length l.all.items ≡ l.count;
+  least : l.fn.channels ≤ l.count;
+  most : l.count ≤ max l.fn.channels l.fn.senders;
+  are : AreLists l.fn.hops l.fn.channels l.all.items;
 }
