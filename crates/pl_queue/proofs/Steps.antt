@@ -11,6 +11,7 @@ use Rattle.pl_event.specs.Hops.{same_lane}
 use Rattle.pl_event.specs.Worlds.{World, FitsWorld, closes}
 use Rattle.pl_event.proofs.SameLanes.{same_lane-equal, same_lane-self}
 use Rattle.pl_queue.specs.declared.views.PassView.{PassView}
+use Rattle.pl_queue.specs.declared.views.SenderView.{SenderView}
 use Rattle.pl_queue.specs.Views.{sent_of, next_of, fresh_take_counts, has_lane, offered, taken as after, dealing, dealt, joined, spent, newcomer}
 use Rattle.pl_queue.specs.Rule.{numbers_of, IsRun, Each, IsQueued, IsSeat, Keeps, IsNext, SenderSees, TakerSees, BothSee}
 use Rattle.pl_queue.proofs.Lists.{at_lane, at_this, at_other, numbers_of-snoc, IsRun-le, IsRun-more, IsRun-less, Each-snoc, Each-weaker, some-equal, none-some, sent_of-set, next_of-set, sent_of-append, sent_of-fresh, next_of-append, next_of-front, next_of-fresh}
@@ -202,6 +203,15 @@ module _ (world : World) where
           refl,
         ),
       )
+
+  -- the same of an envelope that was handed back, and of a sender that is as it was
+  pub pushes_same : (n pass : ℕ) (v : PassView) (s : SenderView) (x y : Envelope) → x ≡ y → v.sends ≡ s → sent_of y.lane s.send_counts ≡ Some (y.number, false) → y.number < 2 ^ 32
+      → FitsWorld world y → Pushes (Keeps world) n pass v x (λ w. w ≡ offered v x)
+  pushes_same n pass v s x y same sent next small fits =
+      pushes n pass v x
+      (subst (λ (z : Envelope × SenderView). sent_of z.0.lane z.1.send_counts ≡ Some (z.0.number, false)) (λ i. (sym same i, sym sent i)) next)
+      (subst (λ (z : Envelope). z.number < 2 ^ 32) (sym same) small)
+      (subst (λ z. FitsWorld world z) (sym same) fits)
 
   -- the taker makes a sender of these lanes, none of which it has dealt before
   pub forks : (pass : ℕ) (v : PassView) (ls : List Lane) → v.taker ≡ true → ((l : Lane) → has_lane l ls ≡ true → next_of l v.takes.counts ≡ None)

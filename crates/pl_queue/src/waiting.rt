@@ -23,6 +23,10 @@ use pl_event::{Envelope, Lane, Named};
 use std::alloc::{AllocError, Global};
 use std::marker::{Brand, PhantomData};
 use std::sync::Wait;
+use std::thread;
+
+/// How often a sender yields before it sleeps.
+const YIELDS: u32 = 8;
 
 type To<W> = RuledSender<Envelope, PassView, LanesInTurn<W>>;
 
@@ -217,6 +221,17 @@ impl<W: Named> Mailbox<W> for WaitingBox<W> {
         ensures sender { IsSeatAt (sends_on self.now.to) sender.new.pass }
         ensures sent { (result ≡ Ok tt) × (sends_by sender.new.pass ≡ after_offer (sends_by sender.old.pass) envelope) }
     {
+        // A yield lets the taker take many; a sleep ends with the first that is taken.
+        'tries: for _ in 0..YIELDS {
+            match self
+                .to
+                .try_send_as::<Pushed<W>, R>(rt, &mut sender.pass, envelope)
+            {
+                Ok(()) => return Ok(()),
+                Err(full) => envelope = full.into_inner(),
+            }
+            thread::yield_now();
+        }
         for _ in rt.forever() {
             match self
                 .to
