@@ -14,7 +14,7 @@ use Rattle.pl_queue.specs.Rule.{Each}
 use Rattle.pl_queue.specs.Views.{send_count, sent_of, set_send_count, fresh_send_counts, fresh_sends, after_offer, has_lane}
 use Rattle.pl_queue.proofs.Lists.{Each-at}
 use Rattle.pl_queue_tests.specs.Openings.{hops_below, HaveChannels}
-use Rattle.pl_queue_tests.proofs.RelayLemmas.{sent_of-this}
+use Rattle.pl_queue_tests.proofs.RelayLemmas.{now-sent}
 use Rattle.pl_queue_tests.specs.Flags.{flag_at}
 use Rattle.pl_queue_bench.specs.Sending.{HasNext, AllHaveNext}
 
@@ -36,12 +36,6 @@ other-hop c h k differ = ⊎_elim
     (λ (t : same_lane (flags_lane c h) (flags_lane c k) ≡ true). absurd (differ (ap (λ (l : Lane). l.hop) (same_lane-equal (flags_lane c h) (flags_lane c k) t))))
     (λ (t : same_lane (flags_lane c h) (flags_lane c k) ≡ false). t)
     (cases_Bool (same_lane (flags_lane c h) (flags_lane c k)))
-
--- the hop's lane has had one more
-pub now-sent : (c hop n : ℕ) (s t : SenderView) (l : Lane) (x : Envelope) → l ≡ flags_lane c hop → x ≡ flag_at l n → t ≡ after_offer s x → sent_of (flags_lane c hop) s.send_counts ≡ Some (n, false)
-    → sent_of (flags_lane c hop) t.send_counts ≡ Some (n + 1, false)
-now-sent c hop n s t l x e f is h =
-    ap (λ (v : SenderView). sent_of (flags_lane c hop) v.send_counts) (is ∙ ap (λ y. after_offer s y) (f ∙ ap (λ m. flag_at m n) e)) ∙ sent_of-this (flags_lane c hop) (n + 1) false s.send_counts n false h
 
 -- the lanes of other hops have had no more
 still : (c from to hop n k : ℕ) (s : SenderView) → ((h : ℕ) → from ≤ h → h < to → h ≡ hop → ⊥) → HasNext c from to k s → HasNext c from to k (after_offer s (flag_at (flags_lane c hop) n))

@@ -77,6 +77,18 @@ where
     );
 }
 
+// Takes an envelope, where there is one. How many it took.
+fn take_one<W: Named, M: Mailbox<W>, R: Wait>(rt: &R, mailbox: &M, taker: &mut M::Taker) -> u64
+    requires taker { M.is_taker mailbox.now taker.old }
+    ensures taker { M.is_taker mailbox.now taker.new }
+    ensures one { result ≤ 1 }
+{
+    match mailbox.take::<R>(rt, taker) {
+        Some(_envelope) => 1,
+        None => 0,
+    }
+}
+
 // Takes so many envelopes.
 fn take_all<W: Named, M: Mailbox<W>, R: Wait>(
     rt: &R,
@@ -93,10 +105,11 @@ where
         if taken >= count {
             break;
         }
-        match mailbox.take::<R>(rt, &mut taker) {
-            Some(_envelope) => taken += 1,
-            None => thread::yield_now(),
+        let more = take_one::<W, M, R>(rt, mailbox, &mut taker);
+        if more == 0 {
+            thread::yield_now();
         }
+        taken += more;
     }
     taken
 }
@@ -125,18 +138,6 @@ where
         { take_all::<W, M, R>(rt, mailbox, taker, count) },
     );
     Some(taken)
-}
-
-// Takes an envelope, where there is one. How many it took.
-fn take_one<W: Named, M: Mailbox<W>, R: Wait>(rt: &R, mailbox: &M, taker: &mut M::Taker) -> u64
-    requires taker { M.is_taker mailbox.now taker.old }
-    ensures taker { M.is_taker mailbox.now taker.new }
-    ensures one { result ≤ 1 }
-{
-    match mailbox.take::<R>(rt, taker) {
-        Some(_envelope) => 1,
-        None => 0,
-    }
 }
 
 // A flag on each lane of a sender, each taken at once. How many were.

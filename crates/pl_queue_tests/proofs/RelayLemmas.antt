@@ -1,5 +1,5 @@
 -- What a relay sends fits, and which lanes its senders and its taker have.
-use Rattle.std.proofs.Common.{◌≡◌, ◌<◌, ℕ, zero, suc, Bool, true, false, cond, List, [], ◌∷◌, ◌++◌, Some, None, replicate, slice_get, get_or, map, length, refl, ap, sym, ◌∙◌, subst, ⊎_elim, arith}
+use Rattle.std.proofs.Common.{◌≡◌, ◌+◌, ◌<◌, ℕ, zero, suc, Bool, true, false, cond, List, [], ◌∷◌, ◌++◌, Some, None, replicate, slice_get, get_or, map, length, refl, ap, sym, ◌∙◌, subst, ⊎_elim, arith}
 use Rattle.std.proofs.lemmas.Bool.{cond-true, cond-false, cases_Bool}
 use Rattle.pl_event.specs.declared.envelopes.Envelope.{Envelope}
 use Rattle.pl_event.specs.declared.envelopes.Item.{Item}
@@ -8,7 +8,7 @@ use Rattle.pl_event.specs.declared.envelopes.Kind.TheVariants.{Data, Flags}
 use Rattle.pl_event.specs.declared.envelopes.Lane.{Lane}
 use Rattle.pl_event.specs.declared.events.Event.{Event}
 use Rattle.pl_event.specs.declared.events.Event.TheVariants.{ReadComplete}
-use Rattle.pl_event.specs.Hops.{same_lane}
+use Rattle.pl_event.specs.Hops.{flags_lane, same_lane}
 use Rattle.pl_event.specs.Fitting.{Fits}
 use Rattle.pl_event.specs.Worlds.{World, content_of, FitsWorld, FitsAsKind}
 use Rattle.pl_event.proofs.SameLanes.{same_lane-self}
@@ -90,6 +90,12 @@ sent_of-this l n e (s ∷ ss) k f h = ⊎_elim
     subst (λ b. sent_of l (cond b (send_count s.lane n e ∷ ss) (s ∷ set_send_count l n e ss)) ≡ Some (n, e)) (sym t)
     (cond-false (same_lane l s.lane) (Some (s.next, s.ended)) (sent_of l (set_send_count l n e ss)) t ∙ sent_of-this l n e ss k f g))
     (cases_Bool (same_lane l s.lane))
+
+-- a lane has had a flag more
+pub now-sent : (c hop n : ℕ) (s t : SenderView) (l : Lane) (x : Envelope) → l ≡ flags_lane c hop → x ≡ flag_at l n → t ≡ after_offer s x → sent_of (flags_lane c hop) s.send_counts ≡ Some (n, false)
+    → sent_of (flags_lane c hop) t.send_counts ≡ Some (n + 1, false)
+now-sent c hop n s t l x e f is h =
+    ap (λ (v : SenderView). sent_of (flags_lane c hop) v.send_counts) (is ∙ ap (λ y. after_offer s y) (f ∙ ap (λ m. flag_at m n) e)) ∙ sent_of-this (flags_lane c hop) (n + 1) false s.send_counts n false h
 
 pub lanes-stay : (s : SenderView) (x : Envelope) → sending_lanes (after_offer s x) ≡ sending_lanes s
 lanes-stay s x = set_send_count-lanes x.lane _ _ s.send_counts

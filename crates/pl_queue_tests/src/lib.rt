@@ -1,6 +1,9 @@
 //! Tests of mailboxes, and code over any mailbox, on threads.
 #![tactic(auto)]
 
+#[cfg(test)]
+mod answer_tests;
+mod answering;
 mod boxes;
 mod flags;
 mod leaving;
@@ -16,6 +19,7 @@ mod openings;
 mod relay_tests;
 mod relays;
 
+pub use answering::{Answer, answers, answers_by_ring, answers_by_waiting};
 pub use boxes::{lines_by_ring, lines_by_waiting, relay_by_ring, relay_by_waiting};
 pub use flags::{flag, lane};
 pub use leaving::{Stopped, leave_one, leave_one_by_ring, leave_one_by_waiting};

@@ -1,7 +1,6 @@
 use Rattle.std.proofs.Common.{ap}
 use Rattle.pl_event.specs.declared.envelopes.Lane.{Lane}
-use Rattle.pl_queue_tests.proofs.RelayLemmas.{flag-fits}
-use Rattle.pl_queue_bench.proofs.FlagSteps.{now-sent}
+use Rattle.pl_queue_tests.proofs.RelayLemmas.{flag-fits, now-sent}
 use Rattle.pl_queue_bench.proofs.boxes.offer_all.Goals as goal
 
 pub hand_over-requires-clause-fits : goal.hand_over-requires-clause-fits

@@ -1,0 +1,114 @@
+//! What a mailbox answers, call by call, on one thread.
+
+ghost use Rattle.std.specs.Prelude.{◌≡◌, ◌+◌, ◌<◌, ◌≤◌, ◌^◌, false, Some};
+ghost use Rattle.pl_event.specs.Hops.{flags_lane};
+ghost use Rattle.pl_queue.specs.Views.{sent_of};
+
+use crate::flags::{flag, lane};
+use pl_event::Named;
+use pl_queue::{Mailbox, RingBox, WaitingBox};
+use std::alloc::Global;
+use std::sync::Wait;
+
+/// What an offer or a take answered.
+#[derive(Clone, Copy, Debug, PartialEq, Eq)]
+pub enum Answer {
+    Sent,
+    Full,
+    /// The envelope with this number.
+    Took(u64),
+    Nothing,
+}
+
+// Offers the next flag of a lane.
+fn offer_next<W: Named, M: Mailbox<W>, R: Wait>(
+    rt: &R,
+    mailbox: &M,
+    sender: &mut M::Sender,
+    next: &mut u64,
+) -> Answer
+    requires sender { M.is_sender mailbox.now sender.old }
+    requires next { sent_of (flags_lane 0 0) (M.sends_of sender.old).send_counts ≡ Some (next.old, false) }
+    requires small { next.old < 2 ^ 32 }
+    ensures sender { M.is_sender mailbox.now sender.new }
+    ensures next { sent_of (flags_lane 0 0) (M.sends_of sender.new).send_counts ≡ Some (next.new, false) }
+    ensures small { next.new ≤ next.old + 1 }
+{
+    let number = *next;
+    match mailbox.offer::<R>(rt, sender, flag(lane(0, 0), number)) {
+        Ok(()) => {
+            *next = number + 1;
+            Answer::Sent
+        }
+        Err(_full) => Answer::Full,
+    }
+}
+
+// Takes what is there.
+fn take_next<W: Named, M: Mailbox<W>, R: Wait>(rt: &R, mailbox: &M, taker: &mut M::Taker) -> Answer
+    requires taker { M.is_taker mailbox.now taker.old }
+    ensures taker { M.is_taker mailbox.now taker.new }
+{
+    match mailbox.take::<R>(rt, taker) {
+        Some(envelope) => Answer::Took(envelope.number),
+        None => Answer::Nothing,
+    }
+}
+
+/// What a mailbox of capacity 2 answers: to a take, to so many offers, and to as many takes and one more. None where memory
+/// was refused.
+pub fn answers<W: Named, M: Mailbox<W> + Drop, R: Wait>(
+    rt: &R,
+    alloc: Global,
+    offers: u32,
+) -> Option<Vec<Answer>>
+where
+    M::Sender: Drop,
+    M::Taker: Drop,
+{
+    let Ok(own) = Vec::from_array(alloc, [lane(0, 0)]) else {
+        return None;
+    };
+    let Ok(lanes) = Vec::from_array(alloc, [own]) else {
+        return None;
+    };
+    let Ok((mailbox, mut senders, mut taker)) = M::open(alloc, lanes, 2) else {
+        return None;
+    };
+    let Some(mut sender) = senders.pop() else {
+        return None;
+    };
+    let mut answers = Vec::new(alloc);
+    answers
+        .push(take_next::<W, M, R>(rt, &mailbox, &mut taker))
+        .ok()?;
+    let mut next = 0;
+    'offers: for count in 0..offers {
+        let answer = offer_next::<W, M, R>(rt, &mailbox, &mut sender, &mut next);
+        answers.push(answer).ok()?;
+    }
+    'takes: for _ in 0..=offers {
+        answers
+            .push(take_next::<W, M, R>(rt, &mailbox, &mut taker))
+            .ok()?;
+    }
+    Some(answers)
+}
+
+/// Over the lock-free ring.
+pub fn answers_by_ring<W: Named, R: Wait>(
+    rt: &R,
+    alloc: Global,
+    offers: u32,
+) -> Option<Vec<Answer>> {
+    answers::<W, RingBox<W>, R>(rt, alloc, offers)
+}
+
+/// Over the channel that waits for room: more than 2 offers wait for ever.
+pub fn answers_by_waiting<W: Named, R: Wait>(
+    rt: &R,
+    alloc: Global,
+    offers: u32,
+) -> Option<Vec<Answer>> {
+    answers::<W, WaitingBox<W>, R>(rt, alloc, offers)
+}
