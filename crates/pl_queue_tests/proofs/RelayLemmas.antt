@@ -10,19 +10,19 @@ use Rattle.pl_event.specs.declared.events.Event.{Event}
 use Rattle.pl_event.specs.declared.events.Event.TheVariants.{ReadComplete}
 use Rattle.pl_event.specs.Hops.{flags_lane, same_lane}
 use Rattle.pl_event.specs.Fitting.{Fits}
-use Rattle.pl_event.specs.Worlds.{World, content_of, FitsWorld, FitsAsKind}
+use Rattle.pl_event.specs.Worlds.{World, content_of, FitsWorld, FitsAsKind, closes}
 use Rattle.pl_event.proofs.SameLanes.{same_lane-self}
 use Rattle.pl_queue.specs.declared.views.SendCount.{SendCount}
 use Rattle.pl_queue.specs.declared.views.SenderView.{SenderView}
 use Rattle.pl_queue.specs.declared.views.TakerView.{TakerView}
 use Rattle.pl_queue.specs.Left.{send_counts_of, all_lanes, AreAll}
 use Rattle.pl_queue.specs.Rule.{Each}
-use Rattle.pl_queue.specs.Views.{fresh_sends, send_count, sent_of, set_send_count, lanes_of_send_counts, lanes_of_counts, after_offer, after_take, takes, fresh_take_counts}
+use Rattle.pl_queue.specs.Views.{fresh_sends, send_count, sent_of, set_send_count, lanes_of_send_counts, lanes_of_counts, after_offer, after_take, sends, takes, fresh_take_counts}
 use Rattle.pl_queue.proofs.Drains.{set_send_count-lanes, set_take_count-lanes, all-given}
 use Rattle.pl_queue.proofs.Lists.{none-some, map-append}
 use Rattle.pl_queue_tests.specs.Flags.{flag_at}
 use Rattle.pl_queue_tests.specs.Lines.{CarriesLines, line_read}
-use Rattle.pl_queue_tests.specs.Relays.{IsFresh, lane_events, event_at, two_lanes, sending_lanes, taking_lanes}
+use Rattle.pl_queue_tests.specs.Relays.{IsFresh, lane_events, event_at, event, two_lanes, sending_lanes, taking_lanes}
 
 in_replicate : {A : Type 0} (a : A) (n count : ℕ) → n < count → slice_get (replicate count a) n ≡ Some a
 in_replicate a n zero h = absurd (omega arith)
@@ -51,9 +51,8 @@ pub item-fits : (world : World) (l : Lane) (n : ℕ) (events : List Event) (i : 
 unfolding FitsWorld
 item-fits world l n events i kind is fits = subst (λ k. FitsAsKind world k (record { lane = l; number = n; item = i })) (sym kind) (events, is, fits)
 
-pub event-fits : (world : World) (l : Lane) (n last : ℕ) (e : Event) → l.kind ≡ Data → content_of world l ≡ Some (lane_events last) → n < last → e ≡ event_at n
-    → FitsWorld world (record { lane = l; number = n; item = item.Event e })
-event-fits world l n last e kind is h same = item-fits world l n (lane_events last) (item.Event e) kind is (in_lane n last h ∙ ap Some (sym same))
+pub event-fits : (world : World) (l : Lane) (n last : ℕ) (x : Envelope) → l.kind ≡ Data → content_of world l ≡ Some (lane_events last) → n < last → x ≡ event l n → FitsWorld world x
+event-fits world l n last x kind is h same = subst (FitsWorld world) (sym same) (item-fits world l n (lane_events last) (item.Event (event_at n)) kind is (in_lane n last h))
 
 pub last-fits : (world : World) (l : Lane) (last : ℕ) → l.kind ≡ Data → content_of world l ≡ Some (lane_events last) → FitsWorld world (record { lane = l; number = last; item = item.End })
 last-fits world l last kind is = item-fits world l last (lane_events last) item.End kind is (lane_length last)
@@ -91,11 +90,20 @@ sent_of-this l n e (s ∷ ss) k f h = ⊎_elim
     (cond-false (same_lane l s.lane) (Some (s.next, s.ended)) (sent_of l (set_send_count l n e ss)) t ∙ sent_of-this l n e ss k f g))
     (cases_Bool (same_lane l s.lane))
 
+-- a lane has had an envelope more, which is not its last
+pub one-more : (s t : SenderView) (x : Envelope) → closes x.item ≡ false → t ≡ after_offer s x → sent_of x.lane s.send_counts ≡ Some (x.number, false) → sent_of x.lane t.send_counts ≡ Some (x.number + 1, false)
+one-more s t x goes_on is h =
+    ap (λ (v : SenderView). sent_of x.lane v.send_counts) (is ∙ ap (λ e. sends (set_send_count x.lane (x.number + 1) e s.send_counts) (s.pushes + 1)) goes_on)
+    ∙ sent_of-this x.lane (x.number + 1) false s.send_counts x.number false h
+
 -- a lane has had a flag more
 pub now-sent : (c hop n : ℕ) (s t : SenderView) (l : Lane) (x : Envelope) → l ≡ flags_lane c hop → x ≡ flag_at l n → t ≡ after_offer s x → sent_of (flags_lane c hop) s.send_counts ≡ Some (n, false)
     → sent_of (flags_lane c hop) t.send_counts ≡ Some (n + 1, false)
-now-sent c hop n s t l x e f is h =
-    ap (λ (v : SenderView). sent_of (flags_lane c hop) v.send_counts) (is ∙ ap (λ y. after_offer s y) (f ∙ ap (λ m. flag_at m n) e)) ∙ sent_of-this (flags_lane c hop) (n + 1) false s.send_counts n false h
+now-sent c hop n s t l x e f is h = one-more s t (flag_at (flags_lane c hop) n) refl (is ∙ ap (λ y. after_offer s y) (f ∙ ap (λ m. flag_at m n) e)) h
+
+-- a lane has had an event more
+pub event-sent : (l : Lane) (n : ℕ) (s t : SenderView) (x : Envelope) → x ≡ event l n → t ≡ after_offer s x → sent_of l s.send_counts ≡ Some (n, false) → sent_of l t.send_counts ≡ Some (n + 1, false)
+event-sent l n s t x e is h = one-more s t (event l n) refl (is ∙ ap (λ y. after_offer s y) e) h
 
 pub lanes-stay : (s : SenderView) (x : Envelope) → sending_lanes (after_offer s x) ≡ sending_lanes s
 lanes-stay s x = set_send_count-lanes x.lane _ _ s.send_counts
@@ -152,9 +160,11 @@ both-given s u t first second p q r = all-given (send_counts_of (s ∷ u ∷ [])
     ∙ ap (λ ls. ls ++ second ∷ []) p
     ∙ sym r)
 
-pub both-senders : {S : Type 0} (f : S → SenderView) (all : List S) (x y : S) (t : TakerView) (first second : Lane) → all ≡ x ∷ y ∷ [] → sending_lanes (f x) ≡ first ∷ [] → sending_lanes (f y) ≡ second ∷ []
-    → taking_lanes t ≡ first ∷ second ∷ [] → AreAll (send_counts_of (map f all)) t.counts
-both-senders f all x y t first second is p q r =
+-- the same of a list into which both were pushed
+pub both-senders : {S : Type 0} (f : S → SenderView) (none front all : List S) (x y : S) (t : TakerView) (first second : Lane) → none ≡ [] → front ≡ none ++ x ∷ [] → all ≡ front ++ y ∷ []
+    → sending_lanes (f x) ≡ first ∷ [] → sending_lanes (f y) ≡ second ∷ [] → taking_lanes t ≡ first ∷ second ∷ [] → AreAll (send_counts_of (map f all)) t.counts
+both-senders f none front all x y t first second a b c p q r =
+    let is : all ≡ x ∷ y ∷ [] = c ∙ ap (λ ss. ss ++ y ∷ []) (b ∙ ap (λ ss. ss ++ x ∷ []) a) in
     subst (λ ss. AreAll (send_counts_of (map f ss)) t.counts) (sym is) (both-given (f x) (f y) t first second p q r)
 
 last_one : {A B : Type 0} (f : A → B) (r : List A) (x : A) (a : B) → map f (r ++ x ∷ []) ≡ a ∷ [] → f x ≡ a
@@ -173,14 +183,18 @@ opened_one P f h all front x lanes a first each is e l p =
     let m : map f (front ++ x ∷ []) ≡ fresh_sends (h a) ∷ [] = ap (λ xs. map f xs) (sym e) ∙ is ∙ ap (λ vs. map (λ v. fresh_sends (h v)) vs) l in
     (Each-last P front x (subst (λ xs. Each P xs) e each), fresh first (f x) (last_one f front x (fresh_sends (h a)) m ∙ ap fresh_sends p))
 
--- its taker, and all that it has
-pub one-sender : {S V : Type 0} (f : S → SenderView) (all : List S) (x : S) (t u : TakerView) (h : V → List Lane) (lanes : List V) (a : V) (first : Lane) → all ≡ x ∷ [] → sending_lanes (f x) ≡ first ∷ []
-    → taking_lanes u ≡ taking_lanes t → t ≡ takes (fresh_take_counts (all_lanes (map h lanes))) 0 → lanes ≡ a ∷ [] → h a ≡ first ∷ [] → AreAll (send_counts_of (map f all)) u.counts
-one-sender f all x t u h lanes a first is own stays old l p =
-    let taker : taking_lanes u ≡ first ∷ [] = stays ∙ ap taking_lanes old ∙ ap (λ vs. lanes_of_counts (fresh_take_counts (all_lanes (map h vs)))) l
-    ∙ ap (λ ls. lanes_of_counts (fresh_take_counts (ls ++ []))) p in
-    subst (λ ss. AreAll (send_counts_of (map f ss)) u.counts) (sym is)
-    (all-given (send_counts_of (f x ∷ [])) u.counts (map-append (λ (c : SendCount). c.lane) (f x).send_counts [] ∙ ap (λ ls. ls ++ []) own ∙ sym taker))
+pub opened_one-taker : {V : Type 0} (h : V → List Lane) (t : TakerView) (lanes : List V) (a : V) (first : Lane)
+    → t ≡ takes (fresh_take_counts (all_lanes (map h lanes))) 0 → lanes ≡ a ∷ [] → h a ≡ first ∷ [] → taking_lanes t ≡ first ∷ []
+opened_one-taker h t lanes a first is l p =
+    ap taking_lanes is ∙ ap (λ vs. lanes_of_counts (fresh_take_counts (all_lanes (map h vs)))) l ∙ ap (λ ls. lanes_of_counts (fresh_take_counts (ls ++ []))) p
+
+-- its lane is all that the taker has
+pub one-sender : {S : Type 0} (f : S → SenderView) (none all : List S) (x : S) (t : TakerView) (first : Lane) → none ≡ [] → all ≡ none ++ x ∷ [] → sending_lanes (f x) ≡ first ∷ []
+    → taking_lanes t ≡ first ∷ [] → AreAll (send_counts_of (map f all)) t.counts
+one-sender f none all x t first a b own taker =
+    let is : all ≡ x ∷ [] = b ∙ ap (λ ss. ss ++ x ∷ []) a in
+    subst (λ ss. AreAll (send_counts_of (map f ss)) t.counts) (sym is)
+    (all-given (send_counts_of (f x ∷ [])) t.counts (map-append (λ (c : SendCount). c.lane) (f x).send_counts [] ∙ ap (λ ls. ls ++ []) own ∙ sym taker))
 
 -- a world of two lanes
 pub in_first : (a b : Lane) (last : ℕ) → content_of (two_lanes a b last) a ≡ Some (lane_events last)

@@ -1,5 +1,7 @@
 -- What the two lanes of a relay carry.
 use Rattle.std.specs.Prelude.{◌≡◌, Some, false, ℕ, zero, suc, List, [], ◌∷◌, replicate}
+use Rattle.pl_event.specs.declared.envelopes.Envelope.{Envelope}
+use Rattle.pl_event.specs.declared.envelopes.Item.TheVariants as item
 use Rattle.pl_event.specs.declared.envelopes.Lane.{Lane}
 use Rattle.pl_event.specs.declared.events.Event.{Event}
 use Rattle.pl_event.specs.declared.events.Event.TheVariants.{Active, ReadComplete}
@@ -17,6 +19,10 @@ lane_events (suc n) = Active ∷ replicate n ReadComplete
 abbrev pub event_at : ℕ → Event
 event_at zero = Active
 event_at (suc n) = ReadComplete
+
+-- the envelope with this number, where it is not the last
+abbrev pub event : Lane → ℕ → Envelope
+event lane n = record { lane = lane; number = n; item = item.Event (event_at n) }
 
 -- a world of two lanes
 abbrev pub two_lanes : Lane → Lane → ℕ → World

@@ -5,8 +5,9 @@ ghost use Rattle.pl_event.specs.Hops.{flags_lane};
 ghost use Rattle.pl_queue.specs.Views.{sent_of};
 
 use crate::flags::{flag, lane};
+use crate::openings::open_one;
 use pl_event::Named;
-use pl_queue::{Mailbox, RingBox, WaitingBox};
+use pl_queue::Mailbox;
 use std::alloc::Global;
 use std::sync::Wait;
 
@@ -66,18 +67,7 @@ where
     M::Sender: Drop,
     M::Taker: Drop,
 {
-    let Ok(own) = Vec::from_array(alloc, [lane(0, 0)]) else {
-        return None;
-    };
-    let Ok(lanes) = Vec::from_array(alloc, [own]) else {
-        return None;
-    };
-    let Ok((mailbox, mut senders, mut taker)) = M::open(alloc, lanes, 2) else {
-        return None;
-    };
-    let Some(mut sender) = senders.pop() else {
-        return None;
-    };
+    let (mailbox, mut sender, mut taker) = open_one::<W, M>(alloc, lane(0, 0)).ok()?;
     let mut answers = Vec::new(alloc);
     answers
         .push(take_next::<W, M, R>(rt, &mailbox, &mut taker))
@@ -93,22 +83,4 @@ where
             .ok()?;
     }
     Some(answers)
-}
-
-/// Over the lock-free ring.
-pub fn answers_by_ring<W: Named, R: Wait>(
-    rt: &R,
-    alloc: Global,
-    offers: u32,
-) -> Option<Vec<Answer>> {
-    answers::<W, RingBox<W>, R>(rt, alloc, offers)
-}
-
-/// Over the channel that waits for room: more than 2 offers wait for ever.
-pub fn answers_by_waiting<W: Named, R: Wait>(
-    rt: &R,
-    alloc: Global,
-    offers: u32,
-) -> Option<Vec<Answer>> {
-    answers::<W, WaitingBox<W>, R>(rt, alloc, offers)
 }

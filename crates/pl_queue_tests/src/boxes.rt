@@ -1,4 +1,4 @@
-//! The same over each box.
+//! The same over either box.
 
 ghost use Rattle.std.specs.Prelude.{◌≡◌, ◌<◌, ◌^◌, false, Some};
 ghost use Rattle.pl_event.specs.declared.envelopes.Kind.TheVariants.{Data};
@@ -7,16 +7,79 @@ ghost use Rattle.pl_event.specs.Worlds.{content_of};
 ghost use Rattle.pl_queue_tests.specs.Lines.{CarriesLines};
 ghost use Rattle.pl_queue_tests.specs.Relays.{lane_events};
 
+use crate::answering::{Answer, answers};
+use crate::leaving::{Stopped, leave_one};
 use crate::lines::two_threads_hand_over_lines;
+use crate::openings::refusal;
 use crate::relays::{Relayed, relay};
 use pl_event::{ByteString, Envelope, Lane, Named};
-use pl_queue::{RingBox, WaitingBox};
+use pl_queue::{Mailbox, OpenRefusal, RingBox, WaitingBox};
 use std::alloc::Global;
 use std::sync::Wait;
 use std::thread::Threads;
 
-/// Over the lock-free ring.
-pub fn relay_by_ring<W: Named + Send + Sync, R: Threads + Wait + Sync>(
+/// Which box.
+#[derive(Clone, Copy, Debug, PartialEq, Eq)]
+pub enum BoxKind {
+    /// The lock-free ring.
+    Ring,
+    /// The channel that waits for room.
+    Waiting,
+}
+
+/// Whether who offers to it may wait for room.
+pub fn may_wait_by<W: Named>(kind: BoxKind) -> bool {
+    match kind {
+        BoxKind::Ring => <RingBox<W> as Mailbox<W>>::may_wait(),
+        BoxKind::Waiting => <WaitingBox<W> as Mailbox<W>>::may_wait(),
+    }
+}
+
+/// [`refusal`] over a box.
+pub fn refusal_by<W: Named>(
+    kind: BoxKind,
+    alloc: Global,
+    lanes: u16,
+    senders: u32,
+    capacity: usize,
+) -> Option<OpenRefusal> {
+    match kind {
+        BoxKind::Ring => refusal::<W, RingBox<W>>(alloc, lanes, senders, capacity),
+        BoxKind::Waiting => refusal::<W, WaitingBox<W>>(alloc, lanes, senders, capacity),
+    }
+}
+
+/// [`answers`] over a box. More than 2 offers to a `WaitingBox` wait for ever.
+pub fn answers_by<W: Named, R: Wait>(
+    kind: BoxKind,
+    rt: &R,
+    alloc: Global,
+    offers: u32,
+) -> Option<Vec<Answer>> {
+    match kind {
+        BoxKind::Ring => answers::<W, RingBox<W>, R>(rt, alloc, offers),
+        BoxKind::Waiting => answers::<W, WaitingBox<W>, R>(rt, alloc, offers),
+    }
+}
+
+/// [`leave_one`] over a box.
+pub fn leave_one_by<W: Named, R: Wait>(
+    kind: BoxKind,
+    rt: &R,
+    alloc: Global,
+    lane: Lane,
+) -> Result<Relayed, Stopped>
+    requires world { (lane.kind ≡ Data) × (content_of W.world lane ≡ Some (lane_events 2)) }
+{
+    match kind {
+        BoxKind::Ring => leave_one::<W, RingBox<W>, R>(rt, alloc, lane),
+        BoxKind::Waiting => leave_one::<W, WaitingBox<W>, R>(rt, alloc, lane),
+    }
+}
+
+/// [`relay`] over a box.
+pub fn relay_by<W: Named + Send + Sync, R: Threads + Wait + Sync>(
+    kind: BoxKind,
     rt: &R,
     alloc: Global,
     first: Lane,
@@ -29,28 +92,15 @@ pub fn relay_by_ring<W: Named + Send + Sync, R: Threads + Wait + Sync>(
     requires first { (first.kind ≡ Data) × (content_of W.world first ≡ Some (lane_events last)) }
     requires second { (second.kind ≡ Data) × (content_of W.world second ≡ Some (lane_events last)) }
 {
-    relay::<W, RingBox<W>, R>(rt, alloc, first, second, last, capacity)
+    match kind {
+        BoxKind::Ring => relay::<W, RingBox<W>, R>(rt, alloc, first, second, last, capacity),
+        BoxKind::Waiting => relay::<W, WaitingBox<W>, R>(rt, alloc, first, second, last, capacity),
+    }
 }
 
-/// Over the channel that waits for room.
-pub fn relay_by_waiting<W: Named + Send + Sync, R: Threads + Wait + Sync>(
-    rt: &R,
-    alloc: Global,
-    first: Lane,
-    second: Lane,
-    last: u64,
-    capacity: usize,
-) -> Option<Relayed>
-    requires apart { same_lane first second ≡ false }
-    requires small { last < 2 ^ 31 }
-    requires first { (first.kind ≡ Data) × (content_of W.world first ≡ Some (lane_events last)) }
-    requires second { (second.kind ≡ Data) × (content_of W.world second ≡ Some (lane_events last)) }
-{
-    relay::<W, WaitingBox<W>, R>(rt, alloc, first, second, last, capacity)
-}
-
-/// Over the lock-free ring.
-pub fn lines_by_ring<W: Named + Send + Sync, R: Threads + Wait + Sync>(
+/// [`two_threads_hand_over_lines`] over a box.
+pub fn lines_by<W: Named + Send + Sync, R: Threads + Wait + Sync>(
+    kind: BoxKind,
     rt: &R,
     alloc: Global,
     first: Lane,
@@ -62,21 +112,12 @@ pub fn lines_by_ring<W: Named + Send + Sync, R: Threads + Wait + Sync>(
     requires lines { CarriesLines W.world first lines.items }
     requires others { CarriesLines W.world second others.items }
 {
-    two_threads_hand_over_lines::<W, RingBox<W>, R>(rt, alloc, first, second, lines, others)
-}
-
-/// Over the channel that waits for room.
-pub fn lines_by_waiting<W: Named + Send + Sync, R: Threads + Wait + Sync>(
-    rt: &R,
-    alloc: Global,
-    first: Lane,
-    second: Lane,
-    lines: Vec<ByteString>,
-    others: Vec<ByteString>,
-) -> Option<Vec<Envelope>>
-    requires apart { same_lane first second ≡ false }
-    requires lines { CarriesLines W.world first lines.items }
-    requires others { CarriesLines W.world second others.items }
-{
-    two_threads_hand_over_lines::<W, WaitingBox<W>, R>(rt, alloc, first, second, lines, others)
+    match kind {
+        BoxKind::Ring => two_threads_hand_over_lines::<W, RingBox<W>, R>(
+            rt, alloc, first, second, lines, others,
+        ),
+        BoxKind::Waiting => two_threads_hand_over_lines::<W, WaitingBox<W>, R>(
+            rt, alloc, first, second, lines, others,
+        ),
+    }
 }

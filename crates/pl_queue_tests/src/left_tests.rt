@@ -1,11 +1,14 @@
 //! What is left at the end, and where memory is refused.
 
-use crate::leaving::{Stopped, leave_one_by_ring, leave_one_by_waiting};
+use crate::boxes::{BoxKind, leave_one_by};
+use crate::leaving::Stopped;
 use crate::relays::Relayed;
 use pl_event::{Event, Item, Kind, Lane};
 use pl_queue::OpenRefusal;
+use std::alloc::Global;
 use std::marker::Brand;
 use std::process::Abort;
+use std::sync::Wait;
 use std::test::*;
 
 // Two were handed over, one was taken, and the envelope with the number 1 is left.
@@ -29,14 +32,14 @@ fn one_is_left(rt: &impl Abort, relayed: Relayed) -> Result<(), Fail> {
     Ok(())
 }
 
-// With ample memory as above. An allocation that is refused is told by `open` or `finish`, or came before them.
+// With ample memory as above. An allocation that is refused is told by `open` or `finish`, or was one of their lists.
 fn left_or_refused(rt: &impl Abort, ended: Result<Relayed, Stopped>) -> Result<(), Fail> {
     match ended {
         Ok(relayed) => one_is_left(rt, relayed),
         Err(stopped) => {
             let is_refusal = matches!(
                 stopped,
-                Stopped::Lists | Stopped::Open(OpenRefusal::Memory) | Stopped::Finish
+                Stopped::Open(OpenRefusal::Memory) | Stopped::Finish
             );
             assert!(rt; is_refusal);
             Ok(())
@@ -44,52 +47,39 @@ fn left_or_refused(rt: &impl Abort, ended: Result<Relayed, Stopped>) -> Result<(
     }
 }
 
-#[test]
-fn one_left_ring(rt: HostRuntime) -> Result<(), Fail> {
+fn left_by<R: Wait>(rt: &R, alloc: Global, kind: BoxKind) -> Result<Relayed, Stopped> {
     let lane = Lane {
         channel: 0,
         kind: Kind::Data,
         hop: 0,
     };
-    let Ok(relayed) = leave_one_by_ring::<Brand, _>(&rt, rt.alloc(), lane) else {
+    leave_one_by::<Brand, R>(kind, rt, alloc, lane)
+}
+
+fn one_left<R: Wait + Abort>(rt: &R, alloc: Global, kind: BoxKind) -> Result<(), Fail> {
+    let Ok(relayed) = left_by(rt, alloc, kind) else {
         assert!(rt; false);
         return Ok(());
     };
-    one_is_left(&rt, relayed)
+    one_is_left(rt, relayed)
 }
 
 #[test]
-fn refused_memory_ring(rt: HostRuntime) -> Result<(), Fail> {
-    let lane = Lane {
-        channel: 0,
-        kind: Kind::Data,
-        hop: 0,
-    };
-    let ended = leave_one_by_ring::<Brand, _>(&rt, rt.alloc(), lane);
-    left_or_refused(&rt, ended)
+fn one_left_ring(rt: HostRuntime) -> Result<(), Fail> {
+    one_left(&rt, rt.alloc(), BoxKind::Ring)
 }
 
 #[test]
 fn one_left_waiting(rt: HostRuntime) -> Result<(), Fail> {
-    let lane = Lane {
-        channel: 0,
-        kind: Kind::Data,
-        hop: 0,
-    };
-    let Ok(relayed) = leave_one_by_waiting::<Brand, _>(&rt, rt.alloc(), lane) else {
-        assert!(rt; false);
-        return Ok(());
-    };
-    one_is_left(&rt, relayed)
+    one_left(&rt, rt.alloc(), BoxKind::Waiting)
+}
+
+#[test]
+fn refused_memory_ring(rt: HostRuntime) -> Result<(), Fail> {
+    left_or_refused(&rt, left_by(&rt, rt.alloc(), BoxKind::Ring))
 }
 
 #[test]
 fn refused_memory_waiting(rt: HostRuntime) -> Result<(), Fail> {
-    let lane = Lane {
-        channel: 0,
-        kind: Kind::Data,
-        hop: 0,
-    };
-    let ended = leave_one_by_waiting::<Brand, _>(&rt, rt.alloc(), lane);
-    left_or_refused(&rt, ended)
+    left_or_refused(&rt, left_by(&rt, rt.alloc(), BoxKind::Waiting))
 }

@@ -18,11 +18,13 @@ mod openings;
 #[cfg(test)]
 mod relay_tests;
 mod relays;
+mod threads;
 
-pub use answering::{Answer, answers, answers_by_ring, answers_by_waiting};
-pub use boxes::{lines_by_ring, lines_by_waiting, relay_by_ring, relay_by_waiting};
+pub use answering::{Answer, answers};
+pub use boxes::{BoxKind, answers_by, leave_one_by, lines_by, may_wait_by, refusal_by, relay_by};
 pub use flags::{flag, lane};
-pub use leaving::{Stopped, leave_one, leave_one_by_ring, leave_one_by_waiting};
+pub use leaving::{Stopped, leave_one};
 pub use lines::{hand_over, send_lines, take_lanes, two_threads_hand_over_lines};
-pub use openings::{lists, refusal, refusal_by_ring, refusal_by_waiting};
-pub use relays::{Relayed, event_at, offer_one, relay, send_all, take_all, take_one};
+pub use openings::{lists, open_one, open_two, refusal};
+pub use relays::{Relayed, event, event_at, offer_one, relay, send_all, take_all, take_one};
+pub use threads::join_three;

@@ -1,11 +1,13 @@
 //! The lesson of pl_queue's README, run.
 
-use crate::boxes::{lines_by_ring, lines_by_waiting};
+use crate::boxes::{BoxKind, lines_by};
 use pl_event::{ByteString, Envelope, Event, Item, Kind, Lane, Message};
 use std::alloc::Global;
 use std::marker::Brand;
 use std::process::Abort;
+use std::sync::Wait;
 use std::test::*;
+use std::thread::Threads;
 
 fn line(alloc: Global, text: &str) -> Result<ByteString, Fail> {
     Ok(ByteString::from_vec(Vec::from_slice(alloc, text.as_bytes())?))
@@ -42,9 +44,11 @@ fn all_came(
     Ok(())
 }
 
-#[test]
-fn two_threads_hand_over_lines_ring(rt: HostRuntime) -> Result<(), Fail> {
-    let alloc = rt.alloc();
+fn two_threads_hand_over<R: Threads + Wait + Abort + Sync>(
+    rt: &R,
+    alloc: Global,
+    kind: BoxKind,
+) -> Result<(), Fail> {
     let first = Lane {
         channel: 0,
         kind: Kind::Data,
@@ -57,25 +61,16 @@ fn two_threads_hand_over_lines_ring(rt: HostRuntime) -> Result<(), Fail> {
     };
     let lines = Vec::from_array(alloc, [line(alloc, "one")?, line(alloc, "two")?])?;
     let others = Vec::from_array(alloc, [line(alloc, "three")?])?;
-    let taken = lines_by_ring::<Brand, _>(&rt, alloc, first, second, lines, others);
-    all_came(&rt, alloc, first, taken)
+    let taken = lines_by::<Brand, R>(kind, rt, alloc, first, second, lines, others);
+    all_came(rt, alloc, first, taken)
+}
+
+#[test]
+fn two_threads_hand_over_lines_ring(rt: HostRuntime) -> Result<(), Fail> {
+    two_threads_hand_over(&rt, rt.alloc(), BoxKind::Ring)
 }
 
 #[test]
 fn two_threads_hand_over_lines_waiting(rt: HostRuntime) -> Result<(), Fail> {
-    let alloc = rt.alloc();
-    let first = Lane {
-        channel: 0,
-        kind: Kind::Data,
-        hop: 0,
-    };
-    let second = Lane {
-        channel: 1,
-        kind: Kind::Data,
-        hop: 0,
-    };
-    let lines = Vec::from_array(alloc, [line(alloc, "one")?, line(alloc, "two")?])?;
-    let others = Vec::from_array(alloc, [line(alloc, "three")?])?;
-    let taken = lines_by_waiting::<Brand, _>(&rt, alloc, first, second, lines, others);
-    all_came(&rt, alloc, first, taken)
+    two_threads_hand_over(&rt, rt.alloc(), BoxKind::Waiting)
 }

@@ -9,6 +9,8 @@ ghost use Rattle.pl_queue.specs.Views.{sent_of, after_offer};
 ghost use Rattle.pl_queue_tests.specs.Lines.{CarriesLines};
 ghost use Rattle.pl_queue_tests.specs.Relays.{IsFresh};
 
+use crate::openings::open_two;
+use crate::threads::join_three;
 use pl_event::{ByteString, Envelope, Event, Item, Lane, Message, Named};
 use pl_queue::{Full, Mailbox};
 use std::alloc::{AllocError, Global};
@@ -98,34 +100,6 @@ where
     Ok(taken)
 }
 
-// One thread sends, and one takes what two send.
-fn send_and_take<W: Named + Send + Sync, M: Mailbox<W> + Send + Sync, R: Threads + Wait + Sync>(
-    rt: &R,
-    alloc: Global,
-    mailbox: &M,
-    sender: M::Sender,
-    taker: M::Taker,
-    lane: Lane,
-    lines: Vec<ByteString>,
-) -> Result<Vec<Envelope>, AllocError>
-where
-    M::Sender: Drop + Send,
-    M::Taker: Drop + Send,
-    requires sender { M.is_sender mailbox.now sender × IsFresh lane (M.sends_of sender) × CarriesLines W.world lane lines.items }
-    requires taker { M.is_taker mailbox.now taker }
-{
-    let (_sender, taken) = thread::join(
-        rt,
-        move || -> M::Sender
-            requires { M.is_sender mailbox.now sender × IsFresh lane (M.sends_of sender) × CarriesLines W.world lane lines.items }
-        { send_lines::<W, M, R>(rt, mailbox, sender, lane, lines) },
-        move || -> Result<Vec<Envelope>, AllocError>
-            requires { M.is_taker mailbox.now taker }
-        { take_lanes::<W, M, R>(rt, alloc, mailbox, taker, 2) },
-    );
-    taken
-}
-
 // Two threads send, and a third takes.
 fn all_three<W: Named + Send + Sync, M: Mailbox<W> + Send + Sync, R: Threads + Wait + Sync>(
     rt: &R,
@@ -146,14 +120,17 @@ where
     requires two { M.is_sender mailbox.now two × IsFresh second (M.sends_of two) × CarriesLines W.world second others.items }
     requires taker { M.is_taker mailbox.now taker }
 {
-    let (_sender, taken) = thread::join(
+    let (_one, _two, taken) = join_three(
         rt,
         move || -> M::Sender
             requires { M.is_sender mailbox.now one × IsFresh first (M.sends_of one) × CarriesLines W.world first lines.items }
         { send_lines::<W, M, R>(rt, mailbox, one, first, lines) },
+        move || -> M::Sender
+            requires { M.is_sender mailbox.now two × IsFresh second (M.sends_of two) × CarriesLines W.world second others.items }
+        { send_lines::<W, M, R>(rt, mailbox, two, second, others) },
         move || -> Result<Vec<Envelope>, AllocError>
-            requires { M.is_sender mailbox.now two × IsFresh second (M.sends_of two) × CarriesLines W.world second others.items × M.is_taker mailbox.now taker × IsSync R.row }
-        { send_and_take::<W, M, R>(rt, alloc, mailbox, two, taker, second, others) },
+            requires { M.is_taker mailbox.now taker }
+        { take_lanes::<W, M, R>(rt, alloc, mailbox, taker, 2) },
     );
     taken
 }
@@ -179,20 +156,7 @@ where
     requires lines { CarriesLines W.world first lines.items }
     requires others { CarriesLines W.world second others.items }
 {
-    let Ok(own) = Vec::from_array(alloc, [first]) else {
-        return None;
-    };
-    let Ok(other) = Vec::from_array(alloc, [second]) else {
-        return None;
-    };
-    let Ok(lanes) = Vec::from_array(alloc, [own, other]) else {
-        return None;
-    };
-    let Ok((mailbox, mut senders, taker)) = M::open(alloc, lanes, 2) else {
-        return None;
-    };
-    let two = senders.pop()?;
-    let one = senders.pop()?;
+    let (mailbox, one, two, taker) = open_two::<W, M>(alloc, first, second, 2).ok()?;
     all_three::<W, M, R>(
         rt, alloc, &mailbox, one, two, taker, first, second, lines, others,
     )

@@ -1,12 +1,14 @@
-//! What `open` answers, by the number of lanes and senders.
+//! Mailboxes as they are opened, and what `open` answers by the number of lanes and senders.
 
-ghost use Rattle.std.specs.Prelude.{◌≡◌, ◌<◌, ◌≤◌, max, map, vec_len, IfOk};
+ghost use Rattle.std.specs.Prelude.{◌≡◌, ◌∷◌, ◌<◌, max, map, vec_len, false, [], IfOk};
+ghost use Rattle.pl_event.specs.Hops.{same_lane};
 ghost use Rattle.pl_queue.specs.Left.{Apart, all_lanes, own_lanes};
 ghost use Rattle.pl_queue_tests.specs.Openings.{hops_below, HaveChannels};
+ghost use Rattle.pl_queue_tests.specs.Relays.{IsFresh, taking_lanes};
 
 use crate::flags::lane;
 use pl_event::{Lane, Named};
-use pl_queue::{Mailbox, OpenRefusal, RingBox, WaitingBox};
+use pl_queue::{Mailbox, OpenRefusal};
 use std::alloc::{AllocError, Global};
 
 // The flags lanes of so many hops of a channel.
@@ -62,30 +64,60 @@ where
     }
 }
 
-/// Over the lock-free ring.
-pub fn refusal_by_ring<W: Named>(
+/// A mailbox of capacity 2 with one sender, which has this lane.
+pub fn open_one<W: Named, M: Mailbox<W> + Drop>(
     alloc: Global,
-    lanes: u16,
-    senders: u32,
-    capacity: usize,
-) -> Option<OpenRefusal> {
-    refusal::<W, RingBox<W>>(alloc, lanes, senders, capacity)
+    lane: Lane,
+) -> Result<(M, M::Sender, M::Taker), OpenRefusal>
+where
+    M::Sender: Drop,
+    M::Taker: Drop,
+    ensures sender { IfOk result (λ r. M.is_sender r.0 r.1 × IsFresh lane (M.sends_of r.1)) }
+    ensures taker { IfOk result (λ r. M.is_taker r.0 r.2 × (taking_lanes (M.takes_of r.2) ≡ lane ∷ [])) }
+{
+    let Ok(own) = Vec::from_array(alloc, [lane]) else {
+        return Err(OpenRefusal::Memory);
+    };
+    let Ok(lanes) = Vec::from_array(alloc, [own]) else {
+        return Err(OpenRefusal::Memory);
+    };
+    let (mailbox, mut senders, taker) = M::open(alloc, lanes, 2)?;
+    let Some(sender) = senders.pop() else {
+        unreachable!()
+    };
+    Ok((mailbox, sender, taker))
 }
 
-/// Over the channel that waits for room.
-pub fn refusal_by_waiting<W: Named>(
+/// A mailbox with two senders, each of which has a lane.
+pub fn open_two<W: Named, M: Mailbox<W> + Drop>(
     alloc: Global,
-    lanes: u16,
-    senders: u32,
+    first: Lane,
+    second: Lane,
     capacity: usize,
-) -> Option<OpenRefusal> {
-    refusal::<W, WaitingBox<W>>(alloc, lanes, senders, capacity)
-}
-
-/// Whether who offers to a ring may wait for room, and who offers to a waiting queue.
-pub fn who_may_wait<W: Named>() -> (bool, bool) {
-    (
-        <RingBox<W> as Mailbox<W>>::may_wait(),
-        <WaitingBox<W> as Mailbox<W>>::may_wait(),
-    )
+) -> Result<(M, M::Sender, M::Sender, M::Taker), OpenRefusal>
+where
+    M::Sender: Drop,
+    M::Taker: Drop,
+    requires apart { same_lane first second ≡ false }
+    ensures one { IfOk result (λ r. M.is_sender r.0 r.1 × IsFresh first (M.sends_of r.1)) }
+    ensures two { IfOk result (λ r. M.is_sender r.0 r.2 × IsFresh second (M.sends_of r.2)) }
+    ensures taker { IfOk result (λ r. M.is_taker r.0 r.3 × (taking_lanes (M.takes_of r.3) ≡ first ∷ second ∷ [])) }
+{
+    let Ok(one) = Vec::from_array(alloc, [first]) else {
+        return Err(OpenRefusal::Memory);
+    };
+    let Ok(two) = Vec::from_array(alloc, [second]) else {
+        return Err(OpenRefusal::Memory);
+    };
+    let Ok(lanes) = Vec::from_array(alloc, [one, two]) else {
+        return Err(OpenRefusal::Memory);
+    };
+    let (mailbox, mut senders, taker) = M::open(alloc, lanes, capacity)?;
+    let Some(two) = senders.pop() else {
+        unreachable!()
+    };
+    let Some(one) = senders.pop() else {
+        unreachable!()
+    };
+    Ok((mailbox, one, two, taker))
 }

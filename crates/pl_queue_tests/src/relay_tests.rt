@@ -1,12 +1,14 @@
 //! Two lanes through one mailbox, each sent by a thread of its own and taken by a third.
 
-use crate::boxes::{relay_by_ring, relay_by_waiting};
+use crate::boxes::{BoxKind, relay_by};
 use crate::relays::Relayed;
 use pl_event::{Event, Item, Kind, Lane};
 use std::alloc::Global;
 use std::marker::Brand;
 use std::process::Abort;
+use std::sync::Wait;
 use std::test::*;
+use std::thread::Threads;
 
 // The lane that enters hop 0 of a channel.
 fn lane(channel: u16) -> Lane {
@@ -48,8 +50,11 @@ fn all_came(rt: &impl Abort, alloc: Global, relayed: Option<Relayed>) -> Result<
     Ok(())
 }
 
-#[test]
-fn two_lanes_one_mailbox_waiting(rt: HostRuntime) -> Result<(), Fail> {
+fn two_lanes_one_mailbox<R: Threads + Wait + Abort + Sync>(
+    rt: &R,
+    alloc: Global,
+    kind: BoxKind,
+) -> Result<(), Fail> {
     let first = Lane {
         channel: 0,
         kind: Kind::Data,
@@ -60,22 +65,16 @@ fn two_lanes_one_mailbox_waiting(rt: HostRuntime) -> Result<(), Fail> {
         kind: Kind::Data,
         hop: 0,
     };
-    let relayed = relay_by_waiting::<Brand, _>(&rt, rt.alloc(), first, second, 999, 2);
-    all_came(&rt, rt.alloc(), relayed)
+    let relayed = relay_by::<Brand, R>(kind, rt, alloc, first, second, 999, 2);
+    all_came(rt, alloc, relayed)
+}
+
+#[test]
+fn two_lanes_one_mailbox_waiting(rt: HostRuntime) -> Result<(), Fail> {
+    two_lanes_one_mailbox(&rt, rt.alloc(), BoxKind::Waiting)
 }
 
 #[test]
 fn two_lanes_one_mailbox_ring(rt: HostRuntime) -> Result<(), Fail> {
-    let first = Lane {
-        channel: 0,
-        kind: Kind::Data,
-        hop: 0,
-    };
-    let second = Lane {
-        channel: 1,
-        kind: Kind::Data,
-        hop: 0,
-    };
-    let relayed = relay_by_ring::<Brand, _>(&rt, rt.alloc(), first, second, 999, 2);
-    all_came(&rt, rt.alloc(), relayed)
+    two_lanes_one_mailbox(&rt, rt.alloc(), BoxKind::Ring)
 }

@@ -8,8 +8,10 @@ ghost use Rattle.pl_event.specs.Hops.{same_lane};
 ghost use Rattle.pl_event.specs.Worlds.{FitsWorld, content_of};
 ghost use Rattle.pl_queue.specs.Rule.{IsRun, numbers_of};
 ghost use Rattle.pl_queue.specs.Views.{sent_of, next_of, after_offer};
-ghost use Rattle.pl_queue_tests.specs.Relays.{IsFresh, sending_lanes, taking_lanes, lane_events, event_at as the_event_at};
+ghost use Rattle.pl_queue_tests.specs.Relays.{IsFresh, sending_lanes, taking_lanes, lane_events, event_at as the_event_at, event as the_event};
 
+use crate::openings::open_two;
+use crate::threads::join_three;
 use pl_event::{Envelope, Event, Item, Lane, Named};
 use pl_queue::{Full, Left, Mailbox};
 use std::alloc::{AllocError, Global};
@@ -77,6 +79,17 @@ pub fn event_at(number: u64) -> Event
     }
 }
 
+/// The envelope with this number, where it is not the last.
+pub fn event(lane: Lane, number: u64) -> Envelope
+    ensures { result ≡ the_event lane number }
+{
+    Envelope {
+        lane,
+        number,
+        item: Item::Event(event_at(number)),
+    }
+}
+
 /// Sends all that a lane carries: Active, ReadComplete up to the number `last`, and End. False where it gave up.
 pub fn send_all<W: Named, M: Mailbox<W>, R: Wait>(
     rt: &R,
@@ -93,12 +106,7 @@ pub fn send_all<W: Named, M: Mailbox<W>, R: Wait>(
     ensures lanes { sending_lanes (M.sends_of result.0) ≡ sending_lanes (M.sends_of sender) }
 {
     for number in 0..last {
-        let envelope = Envelope {
-            lane,
-            number,
-            item: Item::Event(event_at(number)),
-        };
-        if !offer_one::<W, M, R>(rt, mailbox, &mut sender, envelope) {
+        if !offer_one::<W, M, R>(rt, mailbox, &mut sender, event(lane, number)) {
             return (sender, false);
         }
     }
@@ -142,46 +150,6 @@ pub struct Relayed {
     pub left: Left,
 }
 
-// One thread sends, and one takes.
-fn send_and_take<W: Named + Send + Sync, M: Mailbox<W> + Send + Sync, R: Threads + Wait + Sync>(
-    rt: &R,
-    alloc: Global,
-    mailbox: &M,
-    sender: M::Sender,
-    taker: M::Taker,
-    lane: Lane,
-    last: u64,
-    total: u64,
-) -> (
-    (M::Sender, bool),
-    (M::Taker, Result<Vec<Envelope>, AllocError>),
-)
-where
-    M::Sender: Drop + Send,
-    M::Taker: Drop + Send,
-    requires sender { M.is_sender mailbox.now sender }
-    requires fresh { IsFresh lane (M.sends_of sender) }
-    requires small { last < 2 ^ 32 }
-    requires world { (lane.kind ≡ Data) × (content_of W.world lane ≡ Some (lane_events last)) }
-    requires taker { M.is_taker mailbox.now taker }
-    ensures sender { M.is_sender mailbox.now result.0.0 }
-    ensures sending { sending_lanes (M.sends_of result.0.0) ≡ sending_lanes (M.sends_of sender) }
-    ensures taker { M.is_taker mailbox.now result.1.0 }
-    ensures taking { taking_lanes (M.takes_of result.1.0) ≡ taking_lanes (M.takes_of taker) }
-{
-    thread::join(
-        rt,
-        move || -> (M::Sender, bool)
-            requires { M.is_sender mailbox.now sender × IsFresh lane (M.sends_of sender) × (last < 2 ^ 32) × (lane.kind ≡ Data) × (content_of W.world lane ≡ Some (lane_events last)) }
-            ensures { M.is_sender mailbox.entry.now result.0 × (sending_lanes (M.sends_of result.0) ≡ sending_lanes (M.sends_of sender)) }
-        { send_all::<W, M, R>(rt, mailbox, sender, lane, last) },
-        move || -> (M::Taker, Result<Vec<Envelope>, AllocError>)
-            requires { M.is_taker mailbox.now taker }
-            ensures { M.is_taker mailbox.entry.now result.0 × (taking_lanes (M.takes_of result.0) ≡ taking_lanes (M.takes_of taker)) }
-        { take_all::<W, M, R>(rt, alloc, mailbox, taker, total) },
-    )
-}
-
 // Two threads send, and a third takes.
 fn all_three<W: Named + Send + Sync, M: Mailbox<W> + Send + Sync, R: Threads + Wait + Sync>(
     rt: &R,
@@ -196,10 +164,8 @@ fn all_three<W: Named + Send + Sync, M: Mailbox<W> + Send + Sync, R: Threads + W
     total: u64,
 ) -> (
     (M::Sender, bool),
-    (
-        (M::Sender, bool),
-        (M::Taker, Result<Vec<Envelope>, AllocError>),
-    ),
+    (M::Sender, bool),
+    (M::Taker, Result<Vec<Envelope>, AllocError>),
 )
 where
     M::Sender: Drop + Send,
@@ -211,22 +177,23 @@ where
     requires second { (second.kind ≡ Data) × (content_of W.world second ≡ Some (lane_events last)) }
     requires taker { M.is_taker mailbox.now taker }
     ensures one { M.is_sender mailbox.now result.0.0 × (sending_lanes (M.sends_of result.0.0) ≡ sending_lanes (M.sends_of one)) }
-    ensures two { M.is_sender mailbox.now result.1.0.0 × (sending_lanes (M.sends_of result.1.0.0) ≡ sending_lanes (M.sends_of two)) }
-    ensures taker { M.is_taker mailbox.now result.1.1.0 × (taking_lanes (M.takes_of result.1.1.0) ≡ taking_lanes (M.takes_of taker)) }
+    ensures two { M.is_sender mailbox.now result.1.0 × (sending_lanes (M.sends_of result.1.0) ≡ sending_lanes (M.sends_of two)) }
+    ensures taker { M.is_taker mailbox.now result.2.0 × (taking_lanes (M.takes_of result.2.0) ≡ taking_lanes (M.takes_of taker)) }
 {
-    thread::join(
+    join_three(
         rt,
         move || -> (M::Sender, bool)
             requires { M.is_sender mailbox.now one × IsFresh first (M.sends_of one) × (last < 2 ^ 32) × (first.kind ≡ Data) × (content_of W.world first ≡ Some (lane_events last)) }
             ensures { M.is_sender mailbox.entry.now result.0 × (sending_lanes (M.sends_of result.0) ≡ sending_lanes (M.sends_of one)) }
         { send_all::<W, M, R>(rt, mailbox, one, first, last) },
-        move || -> (
-            (M::Sender, bool),
-            (M::Taker, Result<Vec<Envelope>, AllocError>),
-        )
-            requires { M.is_sender mailbox.now two × IsFresh second (M.sends_of two) × (last < 2 ^ 32) × (second.kind ≡ Data) × (content_of W.world second ≡ Some (lane_events last)) × M.is_taker mailbox.now taker × IsSync R.row }
-            ensures { M.is_sender mailbox.entry.now result.0.0 × (sending_lanes (M.sends_of result.0.0) ≡ sending_lanes (M.sends_of two)) × M.is_taker mailbox.entry.now result.1.0 × (taking_lanes (M.takes_of result.1.0) ≡ taking_lanes (M.takes_of taker)) }
-        { send_and_take::<W, M, R>(rt, alloc, mailbox, two, taker, second, last, total) },
+        move || -> (M::Sender, bool)
+            requires { M.is_sender mailbox.now two × IsFresh second (M.sends_of two) × (last < 2 ^ 32) × (second.kind ≡ Data) × (content_of W.world second ≡ Some (lane_events last)) }
+            ensures { M.is_sender mailbox.entry.now result.0 × (sending_lanes (M.sends_of result.0) ≡ sending_lanes (M.sends_of two)) }
+        { send_all::<W, M, R>(rt, mailbox, two, second, last) },
+        move || -> (M::Taker, Result<Vec<Envelope>, AllocError>)
+            requires { M.is_taker mailbox.now taker }
+            ensures { M.is_taker mailbox.entry.now result.0 × (taking_lanes (M.takes_of result.0) ≡ taking_lanes (M.takes_of taker)) }
+        { take_all::<W, M, R>(rt, alloc, mailbox, taker, total) },
     )
 }
 
@@ -248,40 +215,21 @@ where
     requires first { (first.kind ≡ Data) × (content_of W.world first ≡ Some (lane_events last)) }
     requires second { (second.kind ≡ Data) × (content_of W.world second ≡ Some (lane_events last)) }
 {
-    let Ok(one) = Vec::from_array(alloc, [first]) else {
-        return None;
-    };
-    let Ok(two) = Vec::from_array(alloc, [second]) else {
-        return None;
-    };
-    let Ok(lanes) = Vec::from_array(alloc, [one, two]) else {
-        return None;
-    };
-    let Ok((mailbox, mut senders, taker)) = M::open(alloc, lanes, capacity) else {
-        return None;
-    };
-    let Some(sender_two) = senders.pop() else {
-        return None;
-    };
-    let Some(sender_one) = senders.pop() else {
+    let Ok((mailbox, one, two, taker)) = open_two::<W, M>(alloc, first, second, capacity) else {
         return None;
     };
     let total = 2 * last + 2;
-    let (one, rest) = all_three::<W, M, R>(
-        rt, alloc, &mailbox, sender_one, sender_two, taker, first, second, last, total,
+    let ((one, _), (two, _), (taker, taken)) = all_three::<W, M, R>(
+        rt, alloc, &mailbox, one, two, taker, first, second, last, total,
     );
-    let (two, end) = rest;
-    let (sender_one, _) = one;
-    let (sender_two, _) = two;
-    let (taker, taken) = end;
-    let Ok(taken) = taken else {
+    let taken = taken.ok()?;
+    let mut senders = Vec::new(alloc);
+    let Ok(()) = senders.push(one) else {
         return None;
     };
-    let Ok(senders) = Vec::from_array(alloc, [sender_one, sender_two]) else {
+    let Ok(()) = senders.push(two) else {
         return None;
     };
-    match mailbox.finish::<R>(rt, alloc, senders, taker) {
-        Ok(left) => Some(Relayed { taken, left }),
-        Err(_) => None,
-    }
+    let left = mailbox.finish::<R>(rt, alloc, senders, taker).ok()?;
+    Some(Relayed { taken, left })
 }

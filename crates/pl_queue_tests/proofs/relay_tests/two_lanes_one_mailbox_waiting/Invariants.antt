@@ -1,5 +1,0 @@
-use Rattle.pl_queue_tests.specs.Relays.{two_lanes}
-use Rattle.pl_queue_tests.proofs.relay_tests.two_lanes_one_mailbox_waiting.Given as goal
-
-abbrev pub ghosts-relay_by_waiting : goal.ghosts-relay_by_waiting
-ghosts-relay_by_waiting g a = record { world = two_lanes a.first a.second a.last }
