@@ -211,7 +211,7 @@ not_both l (x ∷ xs) ys a h k = ⊎_elim
     (λ (t : same_lane l x ≡ false). not_both l xs ys a.1 (sym (cond-false (same_lane l x) true (has_lane l xs) t) ∙ h) k)
     (cases_Bool (same_lane l x))
 
-has-front : (l : Lane) (xs ys : List Lane) → has_lane l xs ≡ true → has_lane l (xs ++ ys) ≡ true
+pub has-front : (l : Lane) (xs ys : List Lane) → has_lane l xs ≡ true → has_lane l (xs ++ ys) ≡ true
 has-front l [] ys h = absurd (false≢true h)
 has-front l (x ∷ xs) ys h = ⊎_elim
     (λ (t : same_lane l x ≡ true). cond-true (same_lane l x) true (has_lane l (xs ++ ys)) t)

@@ -11,7 +11,6 @@ use Rattle.pl_event.specs.Hops.{same_lane}
 use Rattle.pl_event.specs.Worlds.{World, FitsWorld, closes}
 use Rattle.pl_event.proofs.SameLanes.{same_lane-equal, same_lane-self}
 use Rattle.pl_queue.specs.declared.views.PassView.{PassView}
-use Rattle.pl_queue.specs.declared.views.SenderView.{SenderView}
 use Rattle.pl_queue.specs.Views.{sent_of, next_of, fresh_take_counts, has_lane, offered, taken as after, dealing, dealt, joined, spent, newcomer}
 use Rattle.pl_queue.specs.Rule.{numbers_of, IsRun, Each, IsQueued, IsSeat, Keeps, IsNext, SenderSees, TakerSees, BothSee}
 use Rattle.pl_queue.proofs.Lists.{at_lane, at_this, at_other, numbers_of-snoc, IsRun-le, IsRun-more, IsRun-less, Each-snoc, Each-weaker, some-equal, none-some, sent_of-set, next_of-set, sent_of-append, sent_of-fresh, next_of-append, next_of-front, next_of-fresh}
@@ -204,12 +203,12 @@ module _ (world : World) where
         ),
       )
 
-  -- the same of an envelope that was handed back, and of a sender that is as it was
-  pub pushes_same : (n pass : ℕ) (v : PassView) (s : SenderView) (x y : Envelope) → x ≡ y → v.sends ≡ s → sent_of y.lane s.send_counts ≡ Some (y.number, false) → y.number < 2 ^ 32
-      → FitsWorld world y → Pushes (Keeps world) n pass v x (λ w. w ≡ offered v x)
-  pushes_same n pass v s x y same sent next small fits =
+  -- the same of an envelope that was handed back, by a pass whose view is as it was
+  pub pushes_same : (n pass : ℕ) (v w : PassView) (x y : Envelope) → x ≡ y → v ≡ w → sent_of y.lane w.sends.send_counts ≡ Some (y.number, false) → y.number < 2 ^ 32
+      → FitsWorld world y → Pushes (Keeps world) n pass v x (λ u. u ≡ offered v x)
+  pushes_same n pass v w x y same view next small fits =
       pushes n pass v x
-      (subst (λ (z : Envelope × SenderView). sent_of z.0.lane z.1.send_counts ≡ Some (z.0.number, false)) (λ i. (sym same i, sym sent i)) next)
+      (subst (λ (z : Envelope × PassView). sent_of z.0.lane z.1.sends.send_counts ≡ Some (z.0.number, false)) (λ i. (sym same i, sym view i)) next)
       (subst (λ (z : Envelope). z.number < 2 ^ 32) (sym same) small)
       (subst (λ z. FitsWorld world z) (sym same) fits)
 

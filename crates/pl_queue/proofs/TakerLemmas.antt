@@ -1,6 +1,6 @@
 -- A taker as `open` makes it, and as `finish` joins the senders to it.
 use Rattle.std.specs.Global.{Vec}
-use Rattle.std.proofs.Common.{◌≡◌, ◌<◌, ◌≤◌, ℕ, true, List, [], ◌∷◌, ◌++◌, length, map, take, get_or, ap, sym, subst, append_assoc, ◌∙◌}
+use Rattle.std.proofs.Common.{◌≡◌, ◌<◌, ◌≤◌, ℕ, true, List, [], ◌∷◌, ◌++◌, length, map, take, ◌+◌, get_or, ap, ap₂, sym, subst, append_assoc, ◌∙◌}
 use Rattle.std.proofs.lemmas.List.{length_push}
 use Rattle.pl_event.specs.declared.envelopes.Lane.{Lane}
 use Rattle.pl_queue.specs.declared.views.PassView.{PassView}
@@ -10,9 +10,10 @@ use Rattle.pl_queue.specs.declared.views.TakeCount.{TakeCount}
 use Rattle.pl_queue.specs.Left.{Apart, IsTaking, all_lanes, send_counts_of}
 use Rattle.pl_queue.specs.Limits.{is_within}
 use Rattle.pl_queue.specs.Places.{IsPlaced}
-use Rattle.pl_queue.specs.Views.{view_of, no_sends, takes, fresh_take_counts, lanes_of_counts}
+use Rattle.pl_queue.specs.Rule.{Each}
+use Rattle.pl_queue.specs.Views.{view_of, no_sends, takes, fresh_sends, fresh_take_counts, lanes_of_counts}
 use Rattle.pl_queue.proofs.LimitLemmas.{few-counts}
-use Rattle.pl_queue.proofs.Lists.{fresh_take_counts-lanes, map-more, send_counts_of-snoc}
+use Rattle.pl_queue.proofs.Lists.{Each-snoc, fresh_take_counts-lanes, map-append, map-more, send_counts_of-snoc}
 
 pub counts-apart : (lanes : List Lane) (counts : List TakeCount) → counts ≡ fresh_take_counts lanes → Apart lanes → Apart (lanes_of_counts counts)
 counts-apart lanes counts e apart = subst Apart (sym (ap lanes_of_counts e ∙ fresh_take_counts-lanes lanes)) apart
@@ -33,6 +34,15 @@ begins-taking v counts rows lanes is made apart placed =
       },
       ap (λ (w : PassView). w.takes) is,
     )
+
+-- one sender more has been made
+pub dealt-more : {S V : Type 0} (P : S → Type 0) (f : S → SenderView) (own : V → List Lane) (lanes : List V) (i : ℕ) (v : V) (before after : List S) (s : S) → i < length lanes → v ≡ get_or lanes i v
+    → after ≡ before ++ s ∷ [] → Each P before → P s → map f before ≡ map (λ w. fresh_sends (own w)) (take i lanes) → f s ≡ fresh_sends (own v)
+    → Each P after × (map f after ≡ map (λ w. fresh_sends (own w)) (take (i + 1) lanes))
+dealt-more P f own lanes i v before after s h e is made this sent fresh = (
+  subst (λ ss. Each P ss) (sym is) (Each-snoc P before s made this),
+  ap (λ ss. map f ss) is ∙ map-append f before (s ∷ []) ∙ ap₂ (λ a b. a ++ b ∷ []) sent fresh ∙ sym (map-more (λ w. fresh_sends (own w)) lanes i v h e),
+)
 
 -- one sender more has been joined
 pub joined-more : {S : Type 0} (f : S → SenderView) (senders done : List S) (x : S) (start now : List SendCount) → length done < length senders → x ≡ get_or senders (length done) x

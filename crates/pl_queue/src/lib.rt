@@ -19,9 +19,11 @@ mod left;
 mod limits;
 mod mailbox;
 mod places;
+mod queues;
 mod ring;
 mod room_laws;
 mod rule;
+mod seats;
 mod views;
 mod waiting;
 

@@ -1,145 +1,50 @@
 //! A mailbox over a bounded channel, in which a sender waits for room.
 
-ghost use Rattle.std.specs.Prelude.{◌≡◌, ◌++◌, ◌+◌, ◌<◌, ◌^◌, ℕ, Bool, true, false, List, [], Some, None, Ok, map, All, IfOk, MatchResult, MatchOption};
+ghost use Rattle.std.specs.Prelude.{◌≡◌, ◌<◌, ◌^◌, true, false, Some, None, Ok, map, IfOk, MatchResult, MatchOption};
 ghost use Rattle.crossbeam_channel.specs.Claims.{view, IsSeatAt};
 ghost use Rattle.crossbeam_channel.specs.Ends.{sends_on, receives_on, ruled_capacity};
 ghost use Rattle.pl_event.specs.declared.envelopes.Lane.{Lane};
-ghost use Rattle.pl_event.specs.Worlds.{FitsWorld, closes};
-ghost use Rattle.pl_queue.specs.Places.{IsPlaced};
-ghost use Rattle.pl_queue.specs.Rule.{Keeps, IsNext, SenderSees, TakerSees, BothSee, WasOnce, Each};
-ghost use Rattle.pl_queue.specs.Views.{offered, sent_of, next_of, after_offer, after_take, view_of, taken, dealing, newcomer, no_sends, takes, fresh_sends, fresh_take_counts, has_lane, lanes_of_counts};
+ghost use Rattle.pl_event.specs.Worlds.{FitsWorld};
 ghost use Rattle.pl_queue.specs.Waiting.{sends_by, takes_by};
-ghost use Rattle.pl_queue.specs.Left.{held_of, unheld, taken_count, send_counts_of, IsEntry, Apart, all_lanes, IsTaking, AreAll, IsEmptying, IsAllLeft};
+ghost use Rattle.pl_queue.specs.Rule.{Keeps, IsNext, SenderSees, BothSee, Each};
+ghost use Rattle.pl_queue.specs.Views.{offered, sent_of, after_offer, taken, newcomer};
+ghost use Rattle.pl_queue.specs.Left.{held_of, send_counts_of, IsTaking, AreAll, IsAllLeft};
 
-use crate::counts::{all_counts, is_within, set_next};
-use crate::left::{LaneLeft, Left, entries, put};
+use crate::left::Left;
 use crate::mailbox::{Full, Mailbox, OpenRefusal};
-use crate::places::Places;
+use crate::queues::RuledQueue;
 use crate::rule::{Deal, Dealt, LanesInTurn, Popped, Pushed, Unite};
-use crate::views::{PassView, TakeCount};
+use crate::seats::{Sender, Taker, finish_over, open_over, take_front};
+use crate::views::PassView;
 use crossbeam_channel::protocol::{Lesson, Outcome, Protocol};
 use crossbeam_channel::{Pass, RuledReceiver, RuledSender, bounded_with};
 use pl_event::{Envelope, Lane, Named};
 use std::alloc::{AllocError, Global};
-use std::marker::{Brand, PhantomData};
 use std::sync::Wait;
 use std::thread;
 
 /// How often a sender yields before it sleeps.
 const YIELDS: u32 = 8;
 
-type To<W> = RuledSender<Envelope, PassView, LanesInTurn<W>>;
-
-type Out<W> = RuledReceiver<Envelope, PassView, LanesInTurn<W>>;
+/// Both ends of a channel.
+#[derive(Drop)]
+pub struct Channel<W: Named> {
+    to: RuledSender<Envelope, PassView, LanesInTurn<W>>,
+    from: RuledReceiver<Envelope, PassView, LanesInTurn<W>>,
+}
 
 /// A mailbox over a bounded channel (crossbeam's `bounded`). `offer` waits for room and never answers `Full`: it returns
 /// once the envelope is in the queue. `take` waits for nothing.
 #[derive(Drop)]
 pub struct WaitingBox<W: Named> {
-    to: RuledSender<Envelope, PassView, LanesInTurn<W>>,
-    from: RuledReceiver<Envelope, PassView, LanesInTurn<W>>,
+    queue: Channel<W>,
 }
 
 /// A sender of a [`WaitingBox`].
-#[derive(Drop)]
-pub struct WaitingSender<W: Named> {
-    pass: Pass<Envelope, PassView>,
-    of: PhantomData<W>,
-}
+pub type WaitingSender<W> = Sender<W, Pass<Envelope, PassView>>;
 
 /// The taker of a [`WaitingBox`].
-#[derive(Drop)]
-pub struct WaitingTaker<W: Named> {
-    pass: Pass<Envelope, PassView>,
-    /// Its next number of each lane, in the order of `open`.
-    counts: Vec<TakeCount>,
-    /// Where the count of each lane stands.
-    places: Places,
-    of: PhantomData<W>,
-}
-
-// Makes a sender of these lanes.
-fn deal<W: Named, L: Dealt>(
-    queue: &To<W>,
-    pass: &mut Pass<Envelope, PassView>,
-    lanes: &[Lane],
-) -> WaitingSender<W>
-    requires picked { L.lanes ≡ lanes.now }
-    requires pass { IsSeatAt (sends_on queue.now) pass.old × ((view pass.old).taker ≡ true) }
-    requires fresh { (l : Lane) → has_lane l lanes.now ≡ true → next_of l (view pass.old).takes.counts ≡ None }
-    ensures pass { IsSeatAt (sends_on queue.now) pass.new × (view pass.new ≡ dealing lanes.now (view pass.old)) }
-    ensures sender { IsSeatAt (sends_on queue.now) result.pass × ((view result.pass).sends ≡ fresh_sends lanes.now) }
-{
-    WaitingSender {
-        pass: queue.another::<Deal<L>>(pass),
-        of: PhantomData,
-    }
-}
-
-// Makes a sender of each list of lanes.
-fn deal_all<W: Named>(
-    alloc: Global,
-    queue: &To<W>,
-    pass: &mut Pass<Envelope, PassView>,
-    lanes: &[Vec<Lane>],
-) -> Result<Vec<WaitingSender<W>>, AllocError>
-    requires pass { IsSeatAt (sends_on queue.now) pass.old × (view pass.old ≡ newcomer) }
-    requires apart { Apart (all_lanes (map (λ v. v.items) lanes.now)) }
-    ensures pass { IfOk result (λ _. IsSeatAt (sends_on queue.now) pass.new × (view pass.new ≡ view_of true no_sends (takes (fresh_take_counts (all_lanes (map (λ v. v.items) lanes.now))) 0))) }
-    ensures senders { IfOk result (λ v. Each (λ s. IsSeatAt (sends_on queue.now) s.pass) v.items × (map (λ s. sends_by s.pass) v.items ≡ map (λ v. fresh_sends v.items) lanes.now)) }
-{
-    let mut senders = Vec::new(alloc);
-    for own in lanes {
-        let sender = deal::<W, Brand>(queue, pass, own.as_slice());
-        senders.push(sender)?;
-    }
-    Ok(senders)
-}
-
-// Takes in what all senders know.
-fn unite<W: Named>(
-    queue: &To<W>,
-    pass: &mut Pass<Envelope, PassView>,
-    senders: Vec<WaitingSender<W>>,
-)
-    requires pass { IsSeatAt (sends_on queue.now) pass.old }
-    requires senders { Each (λ s. IsSeatAt (sends_on queue.now) s.pass) senders.items }
-    ensures pass { IsSeatAt (sends_on queue.now) pass.new }
-    ensures same { ((view pass.new).taker ≡ (view pass.old).taker) × ((view pass.new).takes ≡ (view pass.old).takes) }
-    ensures send_counts { (view pass.new).sends.send_counts ≡ (view pass.old).sends.send_counts ++ send_counts_of (map (λ s. sends_by s.pass) senders.items) }
-{
-    for sender in senders {
-        let WaitingSender {
-            pass: theirs,
-            of: _,
-        } = sender;
-        queue.absorb::<Unite>(pass, theirs);
-    }
-}
-
-// Takes what is left.
-fn empty<W: Named, R: Wait>(
-    rt: &R,
-    queue: &Out<W>,
-    pass: &mut Pass<Envelope, PassView>,
-    all: &mut Vec<LaneLeft>,
-    places: &Places,
-) -> Result<(), AllocError>
-    requires pass { IsSeatAt (receives_on queue.now) pass.old }
-    requires emptying { IsEmptying W.world (view pass.old).sends.send_counts (view pass.old).takes.counts (view pass.old) (map held_of all.old.items) }
-    requires apart { Apart (lanes_of_counts (view pass.old).takes.counts) }
-    requires placed { IsPlaced places.now.rows.items 0 (lanes_of_counts (view pass.old).takes.counts) }
-    requires lanes { AreAll (view pass.old).sends.send_counts (view pass.old).takes.counts }
-    ensures { IfOk result (λ _. IsAllLeft W.world (view pass.old).sends.send_counts (view pass.old).takes.counts (map held_of all.new.items)) }
-{
-    for _ in rt.forever() {
-        match queue.try_recv_as::<Popped<W>, R>(rt, pass) {
-            Ok(envelope) => put(all, places, envelope)?,
-            Err(_) => return Ok(()),
-        }
-    }
-    unreachable!()
-}
+pub type WaitingTaker<W> = Taker<W, Pass<Envelope, PassView>>;
 
 impl<W: Named> Protocol<Envelope, PassView> for LanesInTurn<W> {
     ghost holds = { λ items views. Keeps W.world items views };
@@ -163,42 +68,91 @@ impl<W: Named> Lesson<Envelope, PassView> for Popped<W> {
     ghost fact = { λ v items. BothSee W.world v items };
 }
 
+impl<W: Named> RuledQueue<W> for Channel<W> {
+    type Pass = Pass<Envelope, PassView>;
+
+    ghost view_of = { λ p. view p };
+
+    ghost is_pass = { λ q p. (receives_on q.from ≡ sends_on q.to) × IsSeatAt (sends_on q.to) p };
+
+    ghost most = { λ q. ruled_capacity (sends_on q.to) };
+
+    fn make(
+        alloc: Global,
+        capacity: usize,
+    ) -> Result<(Channel<W>, Pass<Envelope, PassView>), AllocError> {
+        let (to, from, pass) = bounded_with::<Envelope, PassView, LanesInTurn<W>, Global>(
+            alloc, capacity,
+        )?;
+        Ok((Channel { to, from }, pass))
+    }
+
+    fn deal<L: Dealt>(&self, pass: &mut Pass<Envelope, PassView>) -> Pass<Envelope, PassView> {
+        self.to.another::<Deal<L>>(pass)
+    }
+
+    fn unite(&self, pass: &mut Pass<Envelope, PassView>, theirs: Pass<Envelope, PassView>) {
+        self.to.absorb::<Unite>(pass, theirs);
+    }
+
+    fn pop<R: Wait>(&self, rt: &R, pass: &mut Pass<Envelope, PassView>) -> Option<Envelope> {
+        match self.from.try_recv_as::<Popped<W>, R>(rt, pass) {
+            Ok(envelope) => Some(envelope),
+            Err(_) => None,
+        }
+    }
+}
+
+impl<W: Named> Channel<W> {
+    // Tries some times, and yields after each. Hands the envelope back where it found no room.
+    fn try_push<R: Wait>(
+        &self,
+        rt: &R,
+        pass: &mut Pass<Envelope, PassView>,
+        mut envelope: Envelope,
+    ) -> Result<(), Envelope>
+        requires pass { IsSeatAt (sends_on self.now.to) pass.old }
+        requires next { sent_of envelope.lane (view pass.old).sends.send_counts ≡ Some (envelope.number, false) }
+        requires small { envelope.number < 2 ^ 32 }
+        requires fits { FitsWorld W.world envelope }
+        ensures pass { IsSeatAt (sends_on self.now.to) pass.new }
+        ensures sent { MatchResult result
+            (λ _. view pass.new ≡ offered (view pass.old) envelope)
+            (λ back. (back ≡ envelope) × (view pass.new ≡ view pass.old)) }
+    {
+        for _ in 0..YIELDS {
+            match self.to.try_send_as::<Pushed<W>, R>(rt, pass, envelope) {
+                Ok(()) => return Ok(()),
+                Err(full) => envelope = full.into_inner(),
+            }
+            thread::yield_now();
+        }
+        Err(envelope)
+    }
+}
+
 impl<W: Named> Mailbox<W> for WaitingBox<W> {
     type Sender = WaitingSender<W>;
 
     type Taker = WaitingTaker<W>;
 
-    ghost capacity_of = { λ q. ruled_capacity (sends_on q.to) };
+    ghost capacity_of = { λ q. ruled_capacity (sends_on q.queue.to) };
 
     ghost sends_of = { λ s. sends_by s.pass };
 
     ghost takes_of = { λ t. takes_by t.pass };
 
-    ghost is_sender = { λ q s. IsSeatAt (sends_on q.to) s.pass };
+    ghost is_sender = { λ q s. (receives_on q.queue.from ≡ sends_on q.queue.to) × IsSeatAt (sends_on q.queue.to) s.pass };
 
-    ghost is_taker = { λ q t. (receives_on q.from ≡ sends_on q.to) × IsSeatAt (sends_on q.to) t.pass × IsTaking (view t.pass) t.counts.items t.places.rows.items };
+    ghost is_taker = { λ q t. ((receives_on q.queue.from ≡ sends_on q.queue.to) × IsSeatAt (sends_on q.queue.to) t.pass) × IsTaking (view t.pass) t.counts.items t.places.rows.items };
 
     fn open(
         alloc: Global,
         lanes: Vec<Vec<Lane>>,
         capacity: usize,
     ) -> Result<(WaitingBox<W>, Vec<WaitingSender<W>>, WaitingTaker<W>), OpenRefusal> {
-        if !is_within(lanes.as_slice(), capacity) {
-            return Err(OpenRefusal::Limit);
-        }
-        let (to, from, mut pass) = bounded_with::<Envelope, PassView, LanesInTurn<W>, Global>(
-            alloc, capacity,
-        )?;
-        let counts = all_counts(alloc, lanes.as_slice())?;
-        let places = Places::new(alloc, counts.as_slice())?;
-        let senders = deal_all(alloc, &to, &mut pass, lanes.as_slice())?;
-        let taker = WaitingTaker {
-            pass,
-            counts,
-            places,
-            of: PhantomData,
-        };
-        Ok((WaitingBox { to, from }, senders, taker))
+        let (queue, senders, taker) = open_over::<W, Channel<W>>(alloc, lanes, capacity)?;
+        Ok((WaitingBox { queue }, senders, taker))
     }
 
     /// Waits for room.
@@ -212,28 +166,22 @@ impl<W: Named> Mailbox<W> for WaitingBox<W> {
         &self,
         rt: &R,
         sender: &mut WaitingSender<W>,
-        mut envelope: Envelope,
+        envelope: Envelope,
     ) -> Result<(), Full>
-        requires sender { IsSeatAt (sends_on self.now.to) sender.old.pass }
+        requires sender { (receives_on self.now.queue.from ≡ sends_on self.now.queue.to) × IsSeatAt (sends_on self.now.queue.to) sender.old.pass }
         requires next { sent_of envelope.lane (sends_by sender.old.pass).send_counts ≡ Some (envelope.number, false) }
         requires small { envelope.number < 2 ^ 32 }
         requires fits { FitsWorld W.world envelope }
-        ensures sender { IsSeatAt (sends_on self.now.to) sender.new.pass }
+        ensures sender { (receives_on self.now.queue.from ≡ sends_on self.now.queue.to) × IsSeatAt (sends_on self.now.queue.to) sender.new.pass }
         ensures sent { (result ≡ Ok tt) × (sends_by sender.new.pass ≡ after_offer (sends_by sender.old.pass) envelope) }
     {
         // A yield lets the taker take many; a sleep ends with the first that is taken.
-        'tries: for _ in 0..YIELDS {
-            match self
-                .to
-                .try_send_as::<Pushed<W>, R>(rt, &mut sender.pass, envelope)
-            {
-                Ok(()) => return Ok(()),
-                Err(full) => envelope = full.into_inner(),
-            }
-            thread::yield_now();
-        }
+        let Err(mut envelope) = self.queue.try_push::<R>(rt, &mut sender.pass, envelope) else {
+            return Ok(());
+        };
         for _ in rt.forever() {
             match self
+                .queue
                 .to
                 .send_as::<Pushed<W>, R>(rt, &mut sender.pass, envelope)
             {
@@ -245,18 +193,7 @@ impl<W: Named> Mailbox<W> for WaitingBox<W> {
     }
 
     fn take<R: Wait>(&self, rt: &R, taker: &mut WaitingTaker<W>) -> Option<Envelope> {
-        match self.from.try_recv_as::<Popped<W>, R>(rt, &mut taker.pass) {
-            Ok(envelope) => {
-                set_next(
-                    &mut taker.counts,
-                    &taker.places,
-                    envelope.lane,
-                    envelope.number + 1,
-                );
-                Some(envelope)
-            }
-            Err(_) => None,
-        }
+        take_front::<W, Channel<W>, R>(rt, &self.queue, taker)
     }
 
     fn finish<R: Wait>(
@@ -266,20 +203,11 @@ impl<W: Named> Mailbox<W> for WaitingBox<W> {
         senders: Vec<WaitingSender<W>>,
         taker: WaitingTaker<W>,
     ) -> Result<Left, AllocError>
-        requires senders { Each (λ s. IsSeatAt (sends_on self.to) s.pass) senders.items }
-        requires taker { (receives_on self.from ≡ sends_on self.to) × IsSeatAt (sends_on self.to) taker.pass × IsTaking (view taker.pass) taker.counts.items taker.places.rows.items }
+        requires senders { Each (λ s. (receives_on self.queue.from ≡ sends_on self.queue.to) × IsSeatAt (sends_on self.queue.to) s.pass) senders.items }
+        requires taker { ((receives_on self.queue.from ≡ sends_on self.queue.to) × IsSeatAt (sends_on self.queue.to) taker.pass) × IsTaking (view taker.pass) taker.counts.items taker.places.rows.items }
         requires all { AreAll (send_counts_of (map (λ s. sends_by s.pass) senders.items)) (takes_by taker.pass).counts }
         ensures left { IfOk result (λ left. IsAllLeft W.world (send_counts_of (map (λ s. sends_by s.pass) senders.items)) (takes_by taker.pass).counts (map held_of left.lanes.items)) }
     {
-        let WaitingTaker {
-            mut pass,
-            counts,
-            places,
-            of: _,
-        } = taker;
-        let mut all = entries(alloc, counts.as_slice())?;
-        unite(&self.to, &mut pass, senders);
-        empty(rt, &self.from, &mut pass, &mut all, &places)?;
-        Ok(Left { lanes: all })
+        finish_over::<W, Channel<W>, R>(rt, alloc, &self.queue, senders, taker)
     }
 }
