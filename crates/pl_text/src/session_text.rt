@@ -1,8 +1,10 @@
 //! The text of a session (`docs/FORMATS.md`, "Session").
 
-ghost use Rattle.std.specs.Prelude.{All, IfOk};
+ghost use Rattle.std.specs.Prelude.{◌≡◌, ◌<◌, length, All, Err, IfOk};
 ghost use Rattle.pl_world.specs.Sessions.{plan_of};
 ghost use Rattle.pl_world.specs.Worlds.{IsUncalled};
+ghost use Rattle.pl_text.specs.declared.session_text.limits.TheConstants.{MAX_SESSION_TEXT};
+ghost use Rattle.pl_text.specs.declared.session_text.fault.SessionFault.TheVariants.{Limit};
 ghost use Rattle.pl_text.specs.SessionReading.{Answers, seen};
 ghost use Rattle.pl_text.specs.SessionLimits.{IsWithinLimits};
 ghost use Rattle.pl_text.specs.SessionTexts.{session_of};
@@ -35,12 +37,15 @@ use std::alloc::Global;
 /// `NotJson`. Then the members are read in the order of the tables of `docs/FORMATS.md`, "Session", of an array its length
 /// first and then each element wholly before the next. After all members the groups are made, and for each channel in
 /// order its edits, its marks and its pipeline, which may be refused by `Build`. `Memory` is answered where an allocation
-/// failed, at any of these steps.
+/// failed, at any of these steps but the first: a text that is too long is always `Limit`.
 #[tactic(auto, using(crate::proofs::SessionLimitLaws::outline_is_within), unfolding(crate::specs::SessionTexts::session_of, crate::specs::SessionTexts::session_in))]
 pub fn read_session(alloc: Global, text: &str) -> Result<Session, SessionFault>
     ensures meaning { Answers (seen (plan_of ⟦<Handler as Stage>⟧.meaning ⟦<MemoryTransport as Transport>⟧.state) result) (session_of text.now) }
     ensures uncalled { IfOk result (λ session. All (λ c. IsUncalled (⟦<MemoryTransport as Transport>⟧.state c.transport)) session.world.channels) }
     ensures within { IfOk result (λ session. IsWithinLimits (plan_of ⟦<Handler as Stage>⟧.meaning ⟦<MemoryTransport as Transport>⟧.state session)) }
+
+    // Here `Memory` is no answer.
+    ensures too_long { MAX_SESSION_TEXT < length text.now → result ≡ Err Limit }
 {
     if text.len() > MAX_SESSION_TEXT {
         return Err(SessionFault::Limit);

@@ -42,3 +42,16 @@ fn moves_of_ping(rt: HostRuntime) -> Result<(), Fail> {
     assert_eq!(rt; moves.as_slice(), want.as_slice());
     Ok(())
 }
+
+#[test]
+fn moves_fault_texts(rt: HostRuntime) -> Result<(), Fail> {
+    for (fault, text) in [
+        (MovesFault::Form, "1 Form"),
+        (MovesFault::Limit, "2 Limit"),
+        (MovesFault::Memory, "3 Memory"),
+    ] {
+        let told = format!(in rt.alloc(); "{fault}")?;
+        assert_eq!(rt; told.as_str(), text);
+    }
+    Ok(())
+}

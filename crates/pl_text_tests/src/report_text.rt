@@ -3,8 +3,9 @@
 use pl_event::{
     ByteString, Caught, Cause, Command, Event, Fault, Key, Message, Outcome, Reply, Sequence,
 };
-use pl_text::print_report;
+use pl_text::{PrintFault, print_report};
 use pl_world::{ChannelReport, Report, Stands};
+use std::process::Abort;
 use std::test::Fail;
 
 const PING: &str = "channel 0 drained
@@ -97,14 +98,17 @@ bytes 0 -
 writes 0
 ";
 
+/// A byte string of these bytes.
 fn bytes(rt: &HostRuntime, text: &[u8]) -> Result<ByteString, Fail> {
     Ok(ByteString::from_vec(Vec::from_slice(rt.alloc(), text)?))
 }
 
+/// A key of this name.
 fn key(rt: &HostRuntime, name: &[u8]) -> Result<Key, Fail> {
     Ok(Key::new(bytes(rt, name)?).ok_or("no key")?)
 }
 
+/// The report of a channel, of its four parts.
 fn channel(
     stands: Stands,
     tail: Vec<Event>,
@@ -119,6 +123,7 @@ fn channel(
     }
 }
 
+/// The report of a channel that took `PING`, and sent so much of its reply.
 fn after_ping(
     rt: &HostRuntime,
     stands: Stands,
@@ -134,21 +139,25 @@ fn after_ping(
     Ok(channel(stands, tail, bytes(rt, sent)?, writes))
 }
 
-fn printed(rt: &HostRuntime, channels: Vec<ChannelReport>) -> Result<Vec<u8>, Fail> {
+/// Asserts that a report of these channels is printed as this text.
+fn assert_printed(
+    rt: &(impl Abort + AllocGlobal),
+    channels: Vec<ChannelReport>,
+    text: &str,
+) -> Result<(), Fail> {
     let report = Report {
         channels: Sequence::from_vec(channels),
     };
-    let mut text = Vec::new(rt.alloc());
-    print_report(rt.alloc(), &report, &mut text)?;
-    Ok(text)
+    let mut out = Vec::new(rt.alloc());
+    print_report(rt.alloc(), &report, &mut out)?;
+    assert_eq!(rt; out.as_slice(), text.as_bytes());
+    Ok(())
 }
 
 #[test]
 fn ping(rt: HostRuntime) -> Result<(), Fail> {
     let channel = after_ping(&rt, Stands::Drained, b"+PONG\r\n", Outcome::Success)?;
-    let text = printed(&rt, vec![in rt.alloc(); channel]?)?;
-    assert_eq!(rt; text.as_slice(), PING.as_bytes());
-    Ok(())
+    assert_printed(&rt, vec![in rt.alloc(); channel]?, PING)
 }
 
 #[test]
@@ -160,18 +169,14 @@ fn no_bursts(rt: HostRuntime) -> Result<(), Fail> {
         bytes(&rt, b"")?,
         Vec::new(rt.alloc()),
     );
-    let text = printed(&rt, vec![in rt.alloc(); channel]?)?;
-    assert_eq!(rt; text.as_slice(), NO_BURSTS.as_bytes());
-    Ok(())
+    assert_printed(&rt, vec![in rt.alloc(); channel]?, NO_BURSTS)
 }
 
 #[test]
 fn transport_fault(rt: HostRuntime) -> Result<(), Fail> {
     let stands = Stands::Failed(Cause::Transport);
     let channel = after_ping(&rt, stands, b"+PON", Outcome::Fault)?;
-    let text = printed(&rt, vec![in rt.alloc(); channel]?)?;
-    assert_eq!(rt; text.as_slice(), TRANSPORT_FAULT.as_bytes());
-    Ok(())
+    assert_printed(&rt, vec![in rt.alloc(); channel]?, TRANSPORT_FAULT)
 }
 
 /// A channel that is aborted before its write and one behind it, and one that finds no memory.
@@ -186,9 +191,11 @@ fn abort(rt: HostRuntime) -> Result<(), Fail> {
         bytes(&rt, b"")?,
         Vec::new(rt.alloc()),
     );
-    let text = printed(&rt, vec![in rt.alloc(); before, behind, without_memory]?)?;
-    assert_eq!(rt; text.as_slice(), ABORT.as_bytes());
-    Ok(())
+    assert_printed(
+        &rt,
+        vec![in rt.alloc(); before, behind, without_memory]?,
+        ABORT,
+    )
 }
 
 /// The first of two messages has left, and the transport fails in the second.
@@ -202,16 +209,12 @@ fn fault_at_the_third_call(rt: HostRuntime) -> Result<(), Fail> {
     let writes = vec![in rt.alloc(); Some(Outcome::Success), Some(Outcome::Fault)]?;
     let stands = Stands::Failed(Cause::Transport);
     let channel = channel(stands, tail, bytes(&rt, b"+PONG\r\n")?, writes);
-    let text = printed(&rt, vec![in rt.alloc(); channel]?)?;
-    assert_eq!(rt; text.as_slice(), FAULT_AT_THE_THIRD_CALL.as_bytes());
-    Ok(())
+    assert_printed(&rt, vec![in rt.alloc(); channel]?, FAULT_AT_THE_THIRD_CALL)
 }
 
 #[test]
 fn no_channels(rt: HostRuntime) -> Result<(), Fail> {
-    let text = printed(&rt, Vec::new(rt.alloc()))?;
-    assert_eq!(rt; text.len(), 0);
-    Ok(())
+    assert_printed(&rt, Vec::new(rt.alloc()), "")
 }
 
 #[test]
@@ -250,7 +253,17 @@ fn every_event(rt: HostRuntime) -> Result<(), Fail> {
         bytes(&rt, b"")?,
         Vec::new(rt.alloc()),
     );
-    let text = printed(&rt, vec![in rt.alloc(); open, refused]?)?;
-    assert_eq!(rt; text.as_slice(), EVERY_EVENT.as_bytes());
+    assert_printed(&rt, vec![in rt.alloc(); open, refused]?, EVERY_EVENT)
+}
+
+#[test]
+fn print_fault_texts(rt: HostRuntime) -> Result<(), Fail> {
+    for (fault, text) in [
+        (PrintFault::Memory, "1 Memory"),
+        (PrintFault::Output, "2 Output"),
+    ] {
+        let told = format!(in rt.alloc(); "{fault}")?;
+        assert_eq!(rt; told.as_str(), text);
+    }
     Ok(())
 }

@@ -2,6 +2,7 @@
 
 use pl_build::BuildFault;
 use pl_text::{MAX_SESSION_TEXT, SessionFault, read_session};
+use std::process::Abort;
 use std::test::Fail;
 
 /// One PING through the line protocol.
@@ -13,9 +14,16 @@ const PING: &str = r#"{"version":1,"capacity":4,"loops":1,"channels":[{"handlers
 {"op":"last","name":"service","kind":"service"}],
 "bursts":[["PING\r\n"]]}]}"#;
 
-/// What a text is refused for.
-fn refusal(rt: &HostRuntime, text: &str) -> Option<SessionFault> {
-    read_session(rt.alloc(), text).err()
+/// The faults that most texts are refused for.
+const MISSING: Option<SessionFault> = Some(SessionFault::Missing);
+
+const KIND: Option<SessionFault> = Some(SessionFault::Kind);
+
+const LIMIT: Option<SessionFault> = Some(SessionFault::Limit);
+
+/// A text has this answer: a fault, or None where it is read.
+fn assert_answer(rt: &(impl Abort + AllocGlobal), text: &str, fault: Option<SessionFault>) {
+    assert_eq!(rt; read_session(rt.alloc(), text).err(), fault, "at {text}");
 }
 
 /// A session of one channel with these edits, and with what follows its bursts.
@@ -25,6 +33,7 @@ fn with_edits(rt: &HostRuntime, edits: &str, more: &str) -> Result<String, Fail>
     )?)
 }
 
+/// One service, which is the turn.
 const SERVICE: &str = r#"{"op":"last","name":"service","kind":"service"}"#;
 
 #[test]
@@ -120,11 +129,7 @@ fn failures_that_are_not_whole(rt: HostRuntime) -> Result<(), Fail> {
         ] {
             let more = format!(in rt.alloc(); ",\"{member}\":{number}")?;
             let text = with_edits(&rt, SERVICE, more.as_str())?;
-            assert_eq!(rt;
-                refusal(&rt, text.as_str()),
-                Some(SessionFault::Kind),
-                "at {more}"
-            );
+            assert_answer(&rt, text.as_str(), Some(SessionFault::Kind));
         }
     }
     Ok(())
@@ -147,7 +152,7 @@ fn failures_in_reading_order(rt: HostRuntime) -> Result<(), Fail> {
         ),
     ] {
         let text = with_edits(&rt, edits, more)?;
-        assert_eq!(rt; refusal(&rt, text.as_str()), fault, "at {edits}{more}");
+        assert_answer(&rt, text.as_str(), fault);
     }
     Ok(())
 }
@@ -171,11 +176,7 @@ fn refused_sessions(rt: HostRuntime) {
         (r#"{"version":1}"#, SessionFault::Missing),
         (r#"{"version":1,"capacity":0}"#, SessionFault::Limit),
     ] {
-        assert_eq!(rt;
-            read_session(rt.alloc(), text).err(),
-            Some(fault),
-            "at {text}"
-        );
+        assert_answer(&rt, text, Some(fault));
     }
 }
 
@@ -183,324 +184,231 @@ fn refused_sessions(rt: HostRuntime) {
 fn truncated_session(rt: HostRuntime) -> Result<(), Fail> {
     for end in 0..PING.len() {
         let prefix = PING.get(..end).ok_or("the session is ASCII")?;
-        assert_eq!(rt;
-            read_session(rt.alloc(), prefix).err(),
-            Some(SessionFault::NotJson),
-            "at {prefix}"
-        );
+        assert_answer(&rt, prefix, Some(SessionFault::NotJson));
     }
     let deep = "[".repeat(rt.alloc(), 200)?;
-    assert_eq!(rt;
-        read_session(rt.alloc(), deep.as_str()).err(),
-        Some(SessionFault::NotJson)
-    );
+    assert_answer(&rt, deep.as_str(), Some(SessionFault::NotJson));
     Ok(())
 }
 
-/// Parts of the top object, each put for another.
-const HOSTILE_MEMBERS: &[(&str, &str, Option<SessionFault>)] = &[
-    (
-        r#""version":1"#,
-        r#""version":1.5"#,
-        Some(SessionFault::Kind),
-    ),
-    (
-        r#""version":1"#,
-        r#""version":"1""#,
-        Some(SessionFault::Kind),
-    ),
-    (
-        r#""version":1"#,
-        r#""version":0"#,
-        Some(SessionFault::Version),
-    ),
-    (
-        r#""version":1"#,
-        r#""version":null"#,
-        Some(SessionFault::Kind),
-    ),
-    (
-        r#""capacity":4"#,
-        r#""capacity":null"#,
-        Some(SessionFault::Kind),
-    ),
-    (r#""capacity":4"#, r#""capacity":65536"#, None),
-    (
-        r#""capacity":4"#,
-        r#""capacity":65537"#,
-        Some(SessionFault::Limit),
-    ),
-    (r#""loops":1"#, r#""loops":16"#, None),
-    (r#""loops":1"#, r#""loops":17"#, Some(SessionFault::Limit)),
-    (r#""loops":1"#, r#""loops":0"#, Some(SessionFault::Limit)),
-    (
-        r#""loops":1"#,
-        r#""loops":1,"groups":7"#,
-        Some(SessionFault::Kind),
-    ),
-    (
-        r#""loops":1"#,
-        r#""loops":1,"groups":[7]"#,
-        Some(SessionFault::Kind),
-    ),
-    (r#""loops":1"#, r#""loops":1,"groups":[]"#, None),
-    (r#""loops":1"#, r#""loops":1,"groups":null"#, None),
-    (
-        r#""loops":1"#,
-        r#""loops":1,"groups":[{"name":"g"}]"#,
-        Some(SessionFault::Missing),
-    ),
-    (
-        r#""loops":1"#,
-        r#""loops":1,"groups":[{"size":7,"name":null}]"#,
-        Some(SessionFault::Kind),
-    ),
-    (
-        r#""loops":1"#,
-        r#""loops":1,"groups":[{"name":"g","size":65536}]"#,
-        Some(SessionFault::Limit),
-    ),
-    (
-        r#"[{"handlers""#,
-        r#"[7,{"handlers""#,
-        Some(SessionFault::Kind),
-    ),
-    (r#"{"handlers""#, r#"{"more""#, Some(SessionFault::Missing)),
-];
+/// Each text in the place of a part of the session of one PING has this answer: a fault, or None where it is read.
+fn assert_answers(
+    rt: &(impl Abort + AllocGlobal),
+    part: &str,
+    fault: Option<SessionFault>,
+    others: &[&str],
+) -> Result<(), Fail> {
+    for other in others {
+        let text = PING.replace(rt.alloc(), part, other)?;
+        assert_answer(rt, text.as_str(), fault);
+    }
+    Ok(())
+}
 
-/// Parts of an edit.
-const HOSTILE_EDITS: &[(&str, &str, Option<SessionFault>)] = &[
-    (
-        r#""op":"last","name":"decode""#,
-        r#""name":"decode""#,
-        Some(SessionFault::Missing),
-    ),
-    (
-        r#""op":"last","name":"decode""#,
-        r#""op":"Last","name":"decode""#,
-        Some(SessionFault::Kind),
-    ),
-    (
-        r#""op":"last","name":"decode""#,
-        r#""op":"first","name":7"#,
-        Some(SessionFault::Kind),
-    ),
-    (
-        r#""op":"last","name":"decode""#,
-        r#""op":"before","name":"decode""#,
-        Some(SessionFault::Missing),
-    ),
-    (
-        r#""op":"last","name":"decode""#,
-        r#""op":"after","name":"decode","at":null"#,
-        Some(SessionFault::Kind),
-    ),
-    (r#""name":"decode""#, r#""name":"other""#, None),
-    (
-        r#""kind":"decode""#,
-        r#""kind":"length""#,
-        Some(SessionFault::Kind),
-    ),
-    (
-        r#""kind":"decode""#,
-        r#""kind":"flush_every""#,
-        Some(SessionFault::Missing),
-    ),
-    (
-        r#""kind":"decode""#,
-        r#""kind":"flush_every","n":0"#,
-        Some(SessionFault::Limit),
-    ),
-    (
-        r#""kind":"decode""#,
-        r#""kind":"flush_every","n":65536"#,
-        Some(SessionFault::Limit),
-    ),
-    (
-        r#""kind":"decode""#,
-        r#""kind":"flush_every","n":65535"#,
-        None,
-    ),
-    (
-        r#""kind":"decode""#,
-        r#""kind":"decode","group":null"#,
-        None,
-    ),
-    (
-        r#""kind":"decode""#,
-        r#""kind":"decode","group":7"#,
-        Some(SessionFault::Kind),
-    ),
-    (r#""max":64"#, r#""max":0"#, Some(SessionFault::Limit)),
-    (r#""max":64"#, r#""max":8192"#, None),
-    (r#""max":64"#, r#""max":8193"#, Some(SessionFault::Limit)),
-    (r#""max":64"#, r#""max":null"#, Some(SessionFault::Kind)),
-];
-
-/// Parts of a channel.
-const HOSTILE_CHANNELS: &[(&str, &str, Option<SessionFault>)] = &[
-    (r#""bursts":"#, r#""low":null,"high":null,"bursts":"#, None),
-    (
-        r#""bursts":"#,
-        r#""high":"8","bursts":"#,
-        Some(SessionFault::Kind),
-    ),
-    (r#""bursts":"#, r#""high":1073741824,"bursts":"#, None),
-    (
-        r#""bursts":"#,
-        r#""high":1073741825,"bursts":"#,
-        Some(SessionFault::Limit),
-    ),
-    (
-        r#""bursts":"#,
-        r#""low":1073741825,"bursts":"#,
-        Some(SessionFault::Limit),
-    ),
-    (r#""bursts":"#, r#""low":0,"high":0,"bursts":"#, None),
-    (
-        r#""bursts":"#,
-        r#""window":"x","bursts":"#,
-        Some(SessionFault::Kind),
-    ),
-    (
-        r#""bursts":"#,
-        r#""window":0,"bursts":"#,
-        Some(SessionFault::Limit),
-    ),
-    (r#""bursts":"#, r#""window":1,"bursts":"#, None),
-    (r#""bursts":"#, r#""window":65536,"bursts":"#, None),
-    (
-        r#""bursts":"#,
-        r#""window":65537,"bursts":"#,
-        Some(SessionFault::Limit),
-    ),
-    (
-        r#""bursts":"#,
-        r#""window":1.5,"bursts":"#,
-        Some(SessionFault::Kind),
-    ),
-    (r#""bursts":"#, r#""fail_at":1,"bursts":"#, None),
-    (r#""bursts":"#, r#""fail_at":4294967295,"bursts":"#, None),
-    (
-        r#""bursts":"#,
-        r#""fail_at":0,"bursts":"#,
-        Some(SessionFault::Limit),
-    ),
-    (
-        r#""bursts":"#,
-        r#""fail_at":4294967296,"bursts":"#,
-        Some(SessionFault::Limit),
-    ),
-    (
-        r#""bursts":"#,
-        r#""fail_at":-1,"bursts":"#,
-        Some(SessionFault::Kind),
-    ),
-    (
-        r#""bursts":"#,
-        r#""fail_at":1.0,"bursts":"#,
-        Some(SessionFault::Kind),
-    ),
-    (
-        r#""bursts":"#,
-        r#""fail_at":"1","bursts":"#,
-        Some(SessionFault::Kind),
-    ),
-    (r#""bursts":"#, r#""abort_after":0,"bursts":"#, None),
-    (r#""bursts":"#, r#""abort_after":1,"bursts":"#, None),
-    (
-        r#""bursts":"#,
-        r#""abort_after":2,"bursts":"#,
-        Some(SessionFault::Limit),
-    ),
-    (
-        r#""bursts":"#,
-        r#""abort_after":4294967296,"bursts":"#,
-        Some(SessionFault::Limit),
-    ),
-    (
-        r#""bursts":"#,
-        r#""abort_after":-1,"bursts":"#,
-        Some(SessionFault::Kind),
-    ),
-    (
-        r#""bursts":"#,
-        r#""abort_after":[1],"bursts":"#,
-        Some(SessionFault::Kind),
-    ),
-    // The window comes before the call that fails, that before the bursts, and those before the abort.
-    (
-        r#""bursts":"#,
-        r#""fail_at":"x","window":0,"bursts":"#,
-        Some(SessionFault::Limit),
-    ),
-    (
-        r#""bursts":[["PING\r\n"]]"#,
-        r#""bursts":7,"fail_at":0"#,
-        Some(SessionFault::Limit),
-    ),
-    (
-        r#""bursts":[["PING\r\n"]]"#,
-        r#""abort_after":2,"bursts":[[7]]"#,
-        Some(SessionFault::Kind),
-    ),
-    (
-        r#""bursts":"#,
-        r#""abort_after":"x","fail_at":0,"bursts":"#,
-        Some(SessionFault::Limit),
-    ),
-    (
-        r#""bursts":[["PING\r\n"]]"#,
-        r#""abort_after":0"#,
-        Some(SessionFault::Missing),
-    ),
-    (
-        r#""bursts":"#,
-        r#""window":null,"fail_at":null,"abort_after":null,"bursts":"#,
-        None,
-    ),
-    (
-        r#""bursts":[["PING\r\n"]]"#,
-        r#""bursts":[["PING"],[7]]"#,
-        Some(SessionFault::Kind),
-    ),
-    (
-        r#""bursts":[["PING\r\n"]]"#,
-        r#""bursts":7"#,
-        Some(SessionFault::Kind),
-    ),
-    (
-        r#""bursts":[["PING\r\n"]]"#,
-        r#""bursts":null"#,
-        Some(SessionFault::Kind),
-    ),
-];
-
-/// Each is the session of one PING with one part of its text put for another.
+/// Members of the top object.
 #[test]
 fn hostile_members(rt: HostRuntime) -> Result<(), Fail> {
-    for (part, other, fault) in HOSTILE_MEMBERS {
-        let text = PING.replace(rt.alloc(), part, other)?;
-        assert_eq!(rt; refusal(&rt, text.as_str()), *fault, "at {other}");
-    }
+    assert_answers(
+        &rt,
+        r#""version":1"#,
+        KIND,
+        &[r#""version":1.5"#, r#""version":"1""#, r#""version":null"#],
+    )?;
+    assert_answers(
+        &rt,
+        r#""version":1"#,
+        Some(SessionFault::Version),
+        &[r#""version":0"#],
+    )?;
+    assert_answers(&rt, r#""capacity":4"#, KIND, &[r#""capacity":null"#])?;
+    assert_answers(&rt, r#""capacity":4"#, None, &[r#""capacity":65536"#])?;
+    assert_answers(&rt, r#""capacity":4"#, LIMIT, &[r#""capacity":65537"#])?;
+    assert_answers(
+        &rt,
+        r#""loops":1"#,
+        None,
+        &[
+            r#""loops":16"#,
+            r#""loops":1,"groups":[]"#,
+            r#""loops":1,"groups":null"#,
+        ],
+    )?;
+    assert_answers(
+        &rt,
+        r#""loops":1"#,
+        LIMIT,
+        &[
+            r#""loops":17"#,
+            r#""loops":0"#,
+            r#""loops":1,"groups":[{"name":"g","size":65536}]"#,
+        ],
+    )?;
+    assert_answers(
+        &rt,
+        r#""loops":1"#,
+        KIND,
+        &[
+            r#""loops":1,"groups":7"#,
+            r#""loops":1,"groups":[7]"#,
+            r#""loops":1,"groups":[{"size":7,"name":null}]"#,
+        ],
+    )?;
+    assert_answers(
+        &rt,
+        r#""loops":1"#,
+        MISSING,
+        &[r#""loops":1,"groups":[{"name":"g"}]"#],
+    )?;
+    assert_answers(&rt, r#"[{"handlers""#, KIND, &[r#"[7,{"handlers""#])?;
+    assert_answers(&rt, r#"{"handlers""#, MISSING, &[r#"{"more""#])?;
     Ok(())
 }
 
+/// Members of an edit.
 #[test]
 fn hostile_edits(rt: HostRuntime) -> Result<(), Fail> {
-    for (part, other, fault) in HOSTILE_EDITS {
-        let text = PING.replace(rt.alloc(), part, other)?;
-        assert_eq!(rt; refusal(&rt, text.as_str()), *fault, "at {other}");
-    }
+    assert_answers(
+        &rt,
+        r#""op":"last","name":"decode""#,
+        MISSING,
+        &[r#""name":"decode""#, r#""op":"before","name":"decode""#],
+    )?;
+    assert_answers(
+        &rt,
+        r#""op":"last","name":"decode""#,
+        KIND,
+        &[
+            r#""op":"Last","name":"decode""#,
+            r#""op":"first","name":7"#,
+            r#""op":"after","name":"decode","at":null"#,
+        ],
+    )?;
+    assert_answers(&rt, r#""name":"decode""#, None, &[r#""name":"other""#])?;
+    assert_answers(
+        &rt,
+        r#""kind":"decode""#,
+        KIND,
+        &[r#""kind":"length""#, r#""kind":"decode","group":7"#],
+    )?;
+    assert_answers(
+        &rt,
+        r#""kind":"decode""#,
+        MISSING,
+        &[r#""kind":"flush_every""#],
+    )?;
+    assert_answers(
+        &rt,
+        r#""kind":"decode""#,
+        LIMIT,
+        &[
+            r#""kind":"flush_every","n":0"#,
+            r#""kind":"flush_every","n":65536"#,
+        ],
+    )?;
+    assert_answers(
+        &rt,
+        r#""kind":"decode""#,
+        None,
+        &[
+            r#""kind":"flush_every","n":65535"#,
+            r#""kind":"decode","group":null"#,
+        ],
+    )?;
+    assert_answers(&rt, r#""max":64"#, LIMIT, &[r#""max":0"#, r#""max":8193"#])?;
+    assert_answers(&rt, r#""max":64"#, None, &[r#""max":8192"#])?;
+    assert_answers(&rt, r#""max":64"#, KIND, &[r#""max":null"#])?;
     Ok(())
 }
 
+/// Members of a channel.
 #[test]
 fn hostile_channels(rt: HostRuntime) -> Result<(), Fail> {
-    for (part, other, fault) in HOSTILE_CHANNELS {
-        let text = PING.replace(rt.alloc(), part, other)?;
-        assert_eq!(rt; refusal(&rt, text.as_str()), *fault, "at {other}");
-    }
+    assert_answers(
+        &rt,
+        r#""bursts":"#,
+        None,
+        &[
+            r#""low":null,"high":null,"bursts":"#,
+            r#""high":1073741824,"bursts":"#,
+            r#""low":0,"high":0,"bursts":"#,
+            r#""window":1,"bursts":"#,
+            r#""window":65536,"bursts":"#,
+            r#""fail_at":1,"bursts":"#,
+            r#""fail_at":4294967295,"bursts":"#,
+            r#""abort_after":0,"bursts":"#,
+            r#""abort_after":1,"bursts":"#,
+        ],
+    )?;
+    assert_answers(
+        &rt,
+        r#""bursts":"#,
+        KIND,
+        &[
+            r#""high":"8","bursts":"#,
+            r#""window":"x","bursts":"#,
+            r#""window":1.5,"bursts":"#,
+            r#""fail_at":-1,"bursts":"#,
+            r#""fail_at":1.0,"bursts":"#,
+            r#""fail_at":"1","bursts":"#,
+            r#""abort_after":-1,"bursts":"#,
+            r#""abort_after":[1],"bursts":"#,
+        ],
+    )?;
+    assert_answers(
+        &rt,
+        r#""bursts":"#,
+        LIMIT,
+        &[
+            r#""high":1073741825,"bursts":"#,
+            r#""low":1073741825,"bursts":"#,
+            r#""window":0,"bursts":"#,
+            r#""window":65537,"bursts":"#,
+            r#""fail_at":0,"bursts":"#,
+            r#""fail_at":4294967296,"bursts":"#,
+            r#""abort_after":2,"bursts":"#,
+            r#""abort_after":4294967296,"bursts":"#,
+        ],
+    )?;
+
+    // The window comes before the call that fails, that before the bursts, and those before the abort.
+    assert_answers(
+        &rt,
+        r#""bursts":"#,
+        LIMIT,
+        &[
+            r#""fail_at":"x","window":0,"bursts":"#,
+            r#""abort_after":"x","fail_at":0,"bursts":"#,
+        ],
+    )?;
+    assert_answers(
+        &rt,
+        r#""bursts":[["PING\r\n"]]"#,
+        LIMIT,
+        &[r#""bursts":7,"fail_at":0"#],
+    )?;
+    assert_answers(
+        &rt,
+        r#""bursts":[["PING\r\n"]]"#,
+        KIND,
+        &[
+            r#""abort_after":2,"bursts":[[7]]"#,
+            r#""bursts":[["PING"],[7]]"#,
+            r#""bursts":7"#,
+            r#""bursts":null"#,
+        ],
+    )?;
+    assert_answers(
+        &rt,
+        r#""bursts":[["PING\r\n"]]"#,
+        MISSING,
+        &[r#""abort_after":0"#],
+    )?;
+    assert_answers(
+        &rt,
+        r#""bursts":"#,
+        None,
+        &[r#""window":null,"fail_at":null,"abort_after":null,"bursts":"#],
+    )?;
     Ok(())
 }
 
@@ -511,11 +419,7 @@ fn numbers_that_are_not_whole(rt: HostRuntime) -> Result<(), Fail> {
             let (member, _) = part.split_once(':').ok_or("a member has a colon")?;
             let other = format!(in rt.alloc(); "{member}:{number}")?;
             let text = PING.replace(rt.alloc(), part, other.as_str())?;
-            assert_eq!(rt;
-                refusal(&rt, text.as_str()),
-                Some(SessionFault::Kind),
-                "at {other}"
-            );
+            assert_answer(&rt, text.as_str(), Some(SessionFault::Kind));
         }
     }
     Ok(())
@@ -530,11 +434,7 @@ fn texts_that_are_no_json(rt: HostRuntime) -> Result<(), Fail> {
         ("]}]}", "]}]} 7"),
     ] {
         let text = PING.replace(rt.alloc(), part, other)?;
-        assert_eq!(rt;
-            refusal(&rt, text.as_str()),
-            Some(SessionFault::NotJson),
-            "at {other}"
-        );
+        assert_answer(&rt, text.as_str(), Some(SessionFault::NotJson));
     }
     Ok(())
 }
@@ -571,7 +471,7 @@ fn reading_order(rt: HostRuntime) -> Result<(), Fail> {
             SessionFault::Limit,
         ),
     ] {
-        assert_eq!(rt; refusal(&rt, text), Some(fault), "at {text}");
+        assert_answer(&rt, text, Some(fault));
     }
     for (edit, fault) in [
         (edit_7, SessionFault::Kind),
@@ -589,7 +489,7 @@ fn reading_order(rt: HostRuntime) -> Result<(), Fail> {
         ),
     ] {
         let text = with_edits(&rt, edit, "")?;
-        assert_eq!(rt; refusal(&rt, text.as_str()), Some(fault), "at {edit}");
+        assert_answer(&rt, text.as_str(), Some(fault));
     }
     Ok(())
 }
@@ -679,11 +579,7 @@ fn builder_refusals(rt: HostRuntime) -> Result<(), Fail> {
     ] {
         let edits = format!(in rt.alloc(); "{SERVICE},{edit}")?;
         let text = with_edits(&rt, edits.as_str(), "")?;
-        assert_eq!(rt;
-            refusal(&rt, text.as_str()),
-            Some(SessionFault::Build(fault)),
-            "at {edit}"
-        );
+        assert_answer(&rt, text.as_str(), Some(SessionFault::Build(fault)));
     }
     Ok(())
 }
@@ -706,11 +602,7 @@ fn build_refusals(rt: HostRuntime) -> Result<(), Fail> {
         (no_name, "", BuildFault::Limit),
     ] {
         let text = with_edits(&rt, edits, more)?;
-        assert_eq!(rt;
-            refusal(&rt, text.as_str()),
-            Some(SessionFault::Build(fault)),
-            "at {edits}{more}"
-        );
+        assert_answer(&rt, text.as_str(), Some(SessionFault::Build(fault)));
     }
     Ok(())
 }
@@ -739,11 +631,7 @@ fn building_order(rt: HostRuntime) -> Result<(), Fail> {
         ),
     ] {
         let text = with_edits(&rt, edits, more)?;
-        assert_eq!(rt;
-            refusal(&rt, text.as_str()),
-            Some(SessionFault::Build(fault)),
-            "at {edits}{more}"
-        );
+        assert_answer(&rt, text.as_str(), Some(SessionFault::Build(fault)));
     }
     Ok(())
 }
@@ -759,7 +647,7 @@ fn name_lengths(rt: HostRuntime) -> Result<(), Fail> {
             "{{\"op\":\"last\",\"name\":\"{name}é\",\"kind\":\"service\"}}"
         )?;
         let text = with_edits(&rt, edit.as_str(), "")?;
-        assert_eq!(rt; refusal(&rt, text.as_str()), fault, "at {copies}");
+        assert_answer(&rt, text.as_str(), fault);
     }
     Ok(())
 }
@@ -782,7 +670,7 @@ fn many_handlers(rt: HostRuntime) -> Result<(), Fail> {
         }
         edits.push_str(end)?;
         let text = with_edits(&rt, edits.as_str(), "")?;
-        assert_eq!(rt; refusal(&rt, text.as_str()), fault, "at {count}{end}");
+        assert_answer(&rt, text.as_str(), fault);
     }
     Ok(())
 }
@@ -797,7 +685,7 @@ fn many_edits(rt: HostRuntime) -> Result<(), Fail> {
     ] {
         let edits = format!(in rt.alloc(); "{SERVICE}{pairs}{end}")?;
         let text = with_edits(&rt, edits.as_str(), "")?;
-        assert_eq!(rt; refusal(&rt, text.as_str()), fault, "at {end}");
+        assert_answer(&rt, text.as_str(), fault);
     }
     Ok(())
 }
@@ -807,37 +695,38 @@ fn many_channels(rt: HostRuntime) -> Result<(), Fail> {
     for (copies, fault) in [(15, None), (16, Some(SessionFault::Limit))] {
         let more = format!(in rt.alloc(); "}},{{\"handlers\":[{SERVICE}],\"bursts\":[]")?;
         let text = with_edits(&rt, SERVICE, more.repeat(rt.alloc(), copies)?.as_str())?;
-        assert_eq!(rt; refusal(&rt, text.as_str()), fault, "at {copies}");
+        assert_answer(&rt, text.as_str(), fault);
     }
     Ok(())
 }
 
 #[test]
 fn group_refusals(rt: HostRuntime) -> Result<(), Fail> {
-    for (members, fault) in [
-        (r#""loops":16,"groups":[{"name":"g","size":1}]"#, 3),
-        (
-            r#""loops":1,"groups":[{"name":"g","size":1},{"name":"g","size":1}]"#,
-            1,
-        ),
-        (
+    let loops = r#""loops":1"#;
+    assert_answers(
+        &rt,
+        loops,
+        Some(SessionFault::Build(BuildFault::DuplicateName)),
+        &[r#""loops":1,"groups":[{"name":"g","size":1},{"name":"g","size":1}]"#],
+    )?;
+    assert_answers(
+        &rt,
+        loops,
+        Some(SessionFault::Build(BuildFault::Limit)),
+        &[
+            r#""loops":16,"groups":[{"name":"g","size":1}]"#,
             r#""loops":1,"groups":[{"name":"g","size":1},{"name":"g","size":0}]"#,
-            3,
-        ),
-        (r#""loops":1,"groups":[{"name":"g","size":0}]"#, 3),
-        (r#""loops":1,"groups":[{"name":"g","size":65535}]"#, 3),
-        (r#""loops":1,"groups":[{"name":"","size":1}]"#, 3),
-        (r#""loops":1,"groups":[{"name":"g","size":15}]"#, 0),
-    ] {
-        let text = PING.replace(rt.alloc(), r#""loops":1"#, members)?;
-        let expected = match fault {
-            1 => Some(SessionFault::Build(BuildFault::DuplicateName)),
-            3 => Some(SessionFault::Build(BuildFault::Limit)),
-            _ => None,
-        };
-        assert_eq!(rt; refusal(&rt, text.as_str()), expected, "at {members}");
-    }
-    Ok(())
+            r#""loops":1,"groups":[{"name":"g","size":0}]"#,
+            r#""loops":1,"groups":[{"name":"g","size":65535}]"#,
+            r#""loops":1,"groups":[{"name":"","size":1}]"#,
+        ],
+    )?;
+    assert_answers(
+        &rt,
+        loops,
+        None,
+        &[r#""loops":1,"groups":[{"name":"g","size":15}]"#],
+    )
 }
 
 /// Three channels, each with its decoder and its service in a group of two.
@@ -894,7 +783,19 @@ fn marks_are_kept(rt: HostRuntime) -> Result<(), Fail> {
     Ok(())
 }
 
-/// The bursts are copies of a part between two ends.
+/// The session of one PING with other bursts: copies of a part between two ends.
+fn with_bursts(
+    rt: &HostRuntime,
+    begin: &str,
+    part: &str,
+    copies: usize,
+    end: &str,
+) -> Result<String, Fail> {
+    let copied = part.repeat(rt.alloc(), copies)?;
+    let bursts = format!(in rt.alloc(); "{begin}{copied}{end}")?;
+    Ok(PING.replace(rt.alloc(), r#"[["PING\r\n"]]"#, bursts.as_str())?)
+}
+
 #[test]
 fn burst_limits(rt: HostRuntime) -> Result<(), Fail> {
     let limit = Some(SessionFault::Limit);
@@ -906,14 +807,8 @@ fn burst_limits(rt: HostRuntime) -> Result<(), Fail> {
         (r#"[["a"],[""#, "é", 524_287, r#"b"]]"#, None),
         (r#"[["aa"],[""#, "é", 524_287, r#"b"]]"#, limit),
     ] {
-        let copied = part.repeat(rt.alloc(), copies)?;
-        let bursts = format!(in rt.alloc(); "{begin}{copied}{end}")?;
-        let text = PING.replace(rt.alloc(), r#"[["PING\r\n"]]"#, bursts.as_str())?;
-        assert_eq!(rt;
-            read_session(rt.alloc(), text.as_str()).err(),
-            fault,
-            "at {copies} of {part}"
-        );
+        let text = with_bursts(&rt, begin, part, copies, end)?;
+        assert_answer(&rt, text.as_str(), fault);
     }
     Ok(())
 }
@@ -921,7 +816,7 @@ fn burst_limits(rt: HostRuntime) -> Result<(), Fail> {
 #[test]
 fn text_too_long(rt: HostRuntime) -> Result<(), Fail> {
     let long = " ".repeat(rt.alloc(), MAX_SESSION_TEXT + 1)?;
-    assert_eq!(rt; refusal(&rt, long.as_str()), Some(SessionFault::Limit));
+    assert_eq!(rt; read_session(rt.alloc(), long.as_str()).err(), LIMIT);
     Ok(())
 }
 
@@ -939,14 +834,8 @@ fn burst_order(rt: HostRuntime) -> Result<(), Fail> {
             SessionFault::Limit,
         ),
     ] {
-        let copied = part.repeat(rt.alloc(), copies)?;
-        let bursts = format!(in rt.alloc(); "{begin}{copied}{end}")?;
-        let text = PING.replace(rt.alloc(), r#"[["PING\r\n"]]"#, bursts.as_str())?;
-        assert_eq!(rt;
-            refusal(&rt, text.as_str()),
-            Some(fault),
-            "at {copies} of {part}"
-        );
+        let text = with_bursts(&rt, begin, part, copies, end)?;
+        assert_answer(&rt, text.as_str(), Some(fault));
     }
     Ok(())
 }

@@ -23,6 +23,7 @@ pub(crate) struct Word {
     pub(crate) count: Option<u32>,
 }
 
+/// What a word begins with.
 #[derive(Clone, Copy, Debug, PartialEq, Eq)]
 pub(crate) enum Letter {
     Read,
