@@ -1,7 +1,7 @@
 -- What a sender's next numbers are once it has sent a flag.
 use Rattle.std.specs.Global.{Vec}
-use Rattle.std.proofs.Common.{◌≡◌, ◌≢◌, ◌⊎◌, ◌+◌, ◌<◌, ◌≤◌, ℕ, zero, suc, Bool, true, false, cond, List, [], ◌∷◌, ◌++◌, Some, map, length, get_or, set, refl, ap, sym, ◌∙◌, subst, ⊎_elim, arith}
-use Rattle.std.proofs.lemmas.Bool.{cond-true, cond-false, cases_Bool, cases_eq, both_ways, false≢true}
+use Rattle.std.proofs.Common.{◌≡◌, ◌+◌, ◌<◌, ◌≤◌, ℕ, zero, suc, Bool, true, false, cond, List, [], ◌∷◌, ◌++◌, Some, map, length, get_or, set, refl, ap, sym, ◌∙◌, subst, ⊎_elim, arith}
+use Rattle.std.proofs.lemmas.Bool.{cond-true, cond-false, cases_Bool, cases_eq, false≢true}
 use Rattle.std.proofs.lemmas.List.{get_or-set_same, get_or-set_other, length-map}
 use Rattle.pl_event.specs.declared.envelopes.Envelope.{Envelope}
 use Rattle.pl_event.specs.declared.envelopes.Lane.{Lane}
@@ -9,10 +9,9 @@ use Rattle.pl_event.specs.Hops.{flags_lane, same_lane}
 use Rattle.pl_event.proofs.SameLanes.{same_lane-equal, same_lane-self}
 use Rattle.pl_queue.specs.declared.views.SendCount.{SendCount}
 use Rattle.pl_queue.specs.declared.views.SenderView.{SenderView}
-use Rattle.pl_queue.specs.Left.{own_lanes}
 use Rattle.pl_queue.specs.Rule.{Each}
 use Rattle.pl_queue.specs.Views.{send_count, sent_of, set_send_count, fresh_send_counts, fresh_sends, after_offer, has_lane}
-use Rattle.pl_queue.proofs.Lists.{Each-at}
+use Rattle.pl_queue.proofs.Lists.{Each-at, has-front}
 use Rattle.pl_queue_tests.specs.Openings.{hops_below, HaveChannels}
 use Rattle.pl_queue_tests.proofs.RelayLemmas.{now-sent}
 use Rattle.pl_queue_tests.specs.Flags.{flag_at}
@@ -93,14 +92,6 @@ in-fresh l (m ∷ ms) h = ⊎_elim
     (λ (t : same_lane l m ≡ false).
     cond-false (same_lane l m) (Some (0, false)) (sent_of l (fresh_send_counts ms)) t ∙ in-fresh l ms (sym (cond-false (same_lane l m) true (has_lane l ms) t) ∙ h))
     (cases_Bool (same_lane l m))
-
-has-front : (l : Lane) (xs ys : List Lane) → has_lane l xs ≡ true → has_lane l (xs ++ ys) ≡ true
-has-front l [] ys h = absurd (false≢true h)
-has-front l (x ∷ xs) ys h = ⊎_elim
-    (λ (t : same_lane l x ≡ true). cond-true (same_lane l x) true (has_lane l (xs ++ ys)) t)
-    (λ (t : same_lane l x ≡ false).
-    cond-false (same_lane l x) true (has_lane l (xs ++ ys)) t ∙ has-front l xs ys (sym (cond-false (same_lane l x) true (has_lane l xs) t) ∙ h))
-    (cases_Bool (same_lane l x))
 
 has-last : (l : Lane) (xs : List Lane) → has_lane l (xs ++ l ∷ []) ≡ true
 has-last l [] = cond-true (same_lane l l) true false (same_lane-self l)

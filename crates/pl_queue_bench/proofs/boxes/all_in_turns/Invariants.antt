@@ -1,4 +1,3 @@
-use Rattle.std.proofs.Common.{◌≤◌, length}
 use Rattle.pl_queue_bench.specs.Sending.{AllHaveNext}
 use Rattle.pl_queue_bench.proofs.FlagSteps.{AreAtChannel}
 use Rattle.pl_queue_bench.proofs.boxes.all_in_turns.Given as goal
