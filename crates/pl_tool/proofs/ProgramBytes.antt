@@ -3,7 +3,7 @@ use Rattle.std.proofs.Common.{◌≡◌, ℕ, ◌+◌, ◌≤◌, List, ◌++◌
 use Rattle.std.specs.Io.KnownBytes.{Consumes}
 use Rattle.pl_tool.specs.ProgramOutcomes.{TakesAtMost}
 
-consumes_more : (a b c : Option (List ℕ)) (bs cs : List ℕ) → Consumes a b bs → Consumes b c cs → Consumes a c (bs ++ cs)
+pub consumes_more : (a b c : Option (List ℕ)) (bs cs : List ℕ) → Consumes a b bs → Consumes b c cs → Consumes a c (bs ++ cs)
 consumes_more None b c bs cs p q = tt
 consumes_more (Some xs) None c bs cs p q = absurd p
 consumes_more (Some xs) (Some ys) None bs cs p q = absurd q

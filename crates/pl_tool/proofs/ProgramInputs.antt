@@ -1,14 +1,20 @@
 -- What the bytes of the input mean.
-use Rattle.std.proofs.Common.{◌≡◌, ℕ, ◌≤◌, Bool, true, false, List, length, refl, ap, ◌∙◌, sym, subst, arith}
-use Rattle.std.specs.Prelude.{if◌then◌else◌, nat_lt, Result, Err}
+use Rattle.std.proofs.Common.{◌≡◌, ℕ, ◌+◌, ◌≤◌, ◌<◌, Bool, true, false, List, ◌++◌, length, length-append, refl, ap, ◌∙◌, sym, subst, arith}
+use Rattle.std.specs.Prelude.{if◌then◌else◌, nat_lt, Option, Result, Ok, Err, IsErr, IfErr}
+use Rattle.std.specs.Io.KnownBytes.{Consumes}
+use Rattle.std.specs.Result.{IsErrAnd}
 use Rattle.std.specs.Str.{IsUtf8, is_utf8}
 use Rattle.std.proofs.lemmas.Bool.Decides.{nat_tests}
 use Rattle.std.proofs.lemmas.Str.{IsUtf8-from_is_utf8, is_utf8-from_IsUtf8}
 use Rattle.pl_text.specs.declared.session_text.fault.SessionFault.{SessionFault}
-use Rattle.pl_text.specs.declared.session_text.fault.SessionFault.TheVariants.{Limit, NotJson}
+use Rattle.pl_text.specs.declared.session_text.fault.SessionFault.TheVariants.{NotJson, Version, Missing, Kind, Limit, Build}
+use Rattle.pl_text.specs.declared.session_text.fault.SessionFault.TheVariants as session
 use Rattle.pl_text.specs.declared.session_text.limits.TheConstants.{MAX_SESSION_TEXT}
 use Rattle.pl_world.specs.Plans.{Plan}
-use Rattle.pl_tool.specs.ProgramOutcomes.{session_of_bytes}
+use Rattle.pl_tool.specs.declared.program.failure.Failure.{Failure}
+use Rattle.pl_tool.specs.declared.program.failure.Failure.TheVariants.{Usage, Moves, Replay, Input, Session, Run, Memory, Output}
+use Rattle.pl_tool.proofs.ProgramBytes.{consumes_more}
+use Rattle.pl_tool.specs.ProgramOutcomes.{EndsReading, RefusesInput, TakesAtMost, TakesSession, session_of_bytes}
 use Rattle.pl_text.specs.SessionReading.{Answers}
 use Rattle.pl_text.specs.SessionTexts.{session_of}
 
@@ -40,3 +46,54 @@ pub not_text_means : (input : List ℕ) → length input ≤ MAX_SESSION_TEXT �
 not_text_means input small none =
     ap (λ (is_long : Bool). if is_long then Err Limit else (if is_utf8 input then session_of input else Err NotJson)) (is_short (length input) small)
     ∙ ap (λ (is_text : Bool). if is_text then session_of input else Err NotJson) (is_false (is_utf8 input) (λ e. none (IsUtf8-from_is_utf8 input e)))
+
+-- ---- a text that is too long
+
+is_long : (n : ℕ) → MAX_SESSION_TEXT < n → nat_lt MAX_SESSION_TEXT n ≡ true
+is_long n lt = grind (arith, nat_tests)
+
+pub long_means : (input : List ℕ) → MAX_SESSION_TEXT < length input → session_of_bytes input ≡ Err Limit
+long_means input long =
+    ap (λ (is_long : Bool). if is_long then Err Limit else (if is_utf8 input then session_of input else Err NotJson)) (is_long (length input) long)
+
+not_long : {A F : Type 0} (is_long : Bool) (fault : F) (read : Result A F) (x : A) → (if is_long then Err fault else read) ≡ Ok x → is_long ≡ false
+not_long true fault read x e = cc
+not_long false fault read x e = refl
+
+at_most_from : (n : ℕ) → nat_lt MAX_SESSION_TEXT n ≡ false → n ≤ MAX_SESSION_TEXT
+at_most_from n e = grind (arith, nat_tests)
+
+-- a session is not one
+pub session_is_short : (unread left : Option (List ℕ)) (session : Plan) → TakesSession unread left session → TakesAtMost MAX_SESSION_TEXT unread left
+session_is_short unread left session taken =
+    (taken.input, taken.taken, at_most_from (length taken.input) (not_long (nat_lt MAX_SESSION_TEXT (length taken.input)) Limit _ session taken.means))
+
+-- a failure after bytes that were read before, and more that were taken
+pub input_refused : (a b c : Option (List ℕ)) (old bytes : List ℕ) (e : Failure) → Consumes a b old → Consumes b c bytes → EndsReading e (length old + length bytes) → RefusesInput e a c
+input_refused a b c old bytes Input p q n = (old ++ bytes, consumes_more a b c old bytes p q, omega (arith, length-append old bytes, n))
+input_refused a b c old bytes Memory p q n = (old ++ bytes, consumes_more a b c old bytes p q, omega (arith, length-append old bytes, n))
+input_refused a b c old bytes (Session Limit) p q n =
+    let long : MAX_SESSION_TEXT < length (old ++ bytes) = omega (arith, length-append old bytes, n) in
+    record {
+      input = old ++ bytes;
+      taken = consumes_more a b c old bytes p q;
+      at_end = λ short. absurd (omega (arith, long, short));
+      means = long_means (old ++ bytes) long;
+      is_named = λ e. cc;
+    }
+input_refused a b c old bytes (Session NotJson) p q n = absurd n
+input_refused a b c old bytes (Session Version) p q n = absurd n
+input_refused a b c old bytes (Session Missing) p q n = absurd n
+input_refused a b c old bytes (Session Kind) p q n = absurd n
+input_refused a b c old bytes (Session (Build f)) p q n = absurd n
+input_refused a b c old bytes (Session session.Memory) p q n = absurd n
+input_refused a b c old bytes Usage p q n = absurd n
+input_refused a b c old bytes (Moves f) p q n = absurd n
+input_refused a b c old bytes (Replay f) p q n = absurd n
+input_refused a b c old bytes (Run f) p q n = absurd n
+input_refused a b c old bytes Output p q n = absurd n
+
+-- a failure that is passed on
+pub passed_on : {A : Type 0} (answer : Result A Failure) (e : Failure) (a c : Option (List ℕ)) → IsErr answer × IsErrAnd answer (λ f. f ≡ e) → RefusesInput e a c → IfErr answer (λ f. RefusesInput f a c)
+passed_on (Ok x) e a c is refused = tt
+passed_on (Err f) e a c is refused = subst (λ (g : Failure). RefusesInput g a c) (sym is.1) refused

@@ -1,5 +1,5 @@
 -- What the program has done (docs/FORMATS.md, "Program").
-use Rattle.std.specs.Prelude.{◌≡◌, ◌≢◌, ℕ, ◌≤◌, List, length, map, Bool, false, ⊤, Option, Some, Result, Ok, Err, nat_lt, if◌then◌else◌}
+use Rattle.std.specs.Prelude.{◌≡◌, ◌≢◌, ℕ, ◌≤◌, ◌<◌, List, length, map, Bool, false, ⊤, Option, Some, Result, Ok, Err, nat_lt, if◌then◌else◌}
 use Rattle.std.specs.List.{list_all}
 use Rattle.std.specs.Str.{is_utf8}
 use Rattle.std.specs.Io.KnownBytes.{Appends, Consumes, IsAtEnd, Keeps}
@@ -134,27 +134,40 @@ pub record IsForRun (requested : Option RequestView) (unread left : Option (List
   pub session : Plan
   pub taken : TakesSession unread left session
 
+-- how reading may end after this many bytes: with more than a session may have, only as a session that is too long
+abbrev pub EndsReading : Failure → ℕ → Type 0
+EndsReading Input count = count ≤ MAX_SESSION_TEXT
+EndsReading (Session Limit) count = MAX_SESSION_TEXT < count
+EndsReading Memory count = count ≤ MAX_SESSION_TEXT
+EndsReading _ count = ⊥
+
 -- a failure at the session
 abbrev pub RefusesInput : Failure → Option (List ℕ) → Option (List ℕ) → Type 0
-RefusesInput Input unread left = ⊤
+RefusesInput Input unread left = TakesAtMost MAX_SESSION_TEXT unread left
 RefusesInput (Session f) unread left = RefusesSession f unread left
-RefusesInput Memory unread left = ⊤
+RefusesInput Memory unread left = TakesAtMost MAX_SESSION_TEXT unread left
 RefusesInput _ unread left = ⊥
+
+-- The command line requests something, and no more was taken than a session may have.
+pub record IsOutOfMemory (requested : Option RequestView) (unread left : Option (List ℕ)) : Type 0 where
+  pub request : RequestView
+  pub given : requested ≡ Some request
+  pub taken : TakesAtMost MAX_SESSION_TEXT unread left
 
 -- What a failure says of the command line and of what was taken from the reader. Why a read or a write failed, why no
 -- thread was started, and whether memory ran out, is not seen here. So Usage says only that nothing was taken, Input that
 -- the line and its moves were read, Run that a run was requested and a session taken, Output that there was a report,
--- and Memory nothing.
+-- and Memory that the line was read. Input and Memory do not come where more was taken than a session may have.
 abbrev pub IsCause : Failure → Option RequestView → Option (List ℕ) → Option (List ℕ) → Type 0
 IsCause Usage requested unread left = Keeps unread left
 IsCause (Moves f) requested unread left = RefusesMoves f requested × Keeps unread left
 IsCause (Replay replay.NoSuch) requested unread left = NamesMissing requested unread left
 IsCause (Replay replay.Memory) requested unread left = ⊥
-IsCause Input requested unread left = IsLineRead requested
+IsCause Input requested unread left = IsLineRead requested × TakesAtMost MAX_SESSION_TEXT unread left
 IsCause (Session f) requested unread left = IsLineRead requested × RefusesSession f unread left
 IsCause (Run run.Spawn) requested unread left = IsForRun requested unread left
 IsCause (Run run.Memory) requested unread left = ⊥
-IsCause Memory requested unread left = ⊤
+IsCause Memory requested unread left = IsOutOfMemory requested unread left
 IsCause Output requested unread left = (report : Report) × IsReported requested unread left report
 
 -- A failure left the first writer as it was. Of a writer that failed itself nothing is said.

@@ -1,6 +1,6 @@
 //! The program over a reader and two writers.
 
-ghost use Rattle.std.specs.Prelude.{◌≡◌, ◌≢◌, ◌⊎◌, ◌≤◌, List, ℕ, Bool, true, false, map, string_bytes, Some, IfErr, IfOk};
+ghost use Rattle.std.specs.Prelude.{◌≡◌, ◌≢◌, ◌⊎◌, ◌≤◌, List, ℕ, Bool, true, false, map, string_bytes, None, Some, IfErr, IfOk};
 ghost use Rattle.std.specs.IoError.{error_kind};
 ghost use Rattle.std.specs.Io.KnownBytes.{Keeps};
 ghost use Rattle.pl_tool.specs.declared.program.failure.Failure.TheVariants as failure;
@@ -33,6 +33,7 @@ use telling::tell;
 struct NoGate;
 
 impl Gate for NoGate {
+    /// Lets every turn begin.
     fn enter(&self, _executor: u16, _turn: u64) {}
 }
 
@@ -148,14 +149,14 @@ fn print_requested<T: Threads + Wait + Sync, R: Read, W: Write>(
 /// written to it. An `err` that fails changes no status, and holds a beginning of the line.
 ///
 /// No contract sees that a read or a write fails, that a thread is not started, that memory runs out, or what a writer
-/// would have taken. So these bodies meet this one too: one that answers `out of memory` at any time, or at once the
-/// usage line, as where `clap` runs out of memory; one whose report tells that memory ran out for a channel; one that
-/// answers `input refused` once the line and its moves were read; one that answers `run refused: 2 Spawn` once a run is
-/// requested and a session was taken; one whose run has queues of the other kind; one that answers `output refused` once
-/// there is a report, whatever it then wrote to `out`; and one that tells a part of the line, or nothing. That these come
-/// only where they should is tested, but for a thread that is not started. A run may wait for ever, and then answers
-/// nothing.
-#[tactic(auto, using(crate::proofs::ProgramAnswers::open_is_not_plain))]
+/// would have taken. So these bodies meet this one too: one that answers `out of memory` once the line was read, before
+/// it has taken more than a session text may have; one that answers the usage line at once, as where `clap` runs out of
+/// memory; one whose report tells that memory ran out for a channel; one that answers `input refused` once the line and
+/// its moves were read, likewise; one that answers `run refused: 2 Spawn` once a run is requested and a session was
+/// taken; one whose run has queues of the other kind; one that answers `output refused` once there is a report, whatever
+/// it then wrote to `out`; and one that tells a part of the line, or nothing. That these come only where they should is
+/// tested, but for a thread that is not started. A run may wait for ever, and then answers nothing.
+#[tactic(auto, using(crate::proofs::ProgramAnswers::open_is_not_plain, crate::proofs::ProgramAnswers::unread_is_usage))]
 pub fn run_tool<T: Threads + Wait + Sync, R: Read, W: Write, E: Write>(
     rt: &T,
     alloc: Global,
@@ -176,6 +177,9 @@ pub fn run_tool<T: Threads + Wait + Sync, R: Read, W: Write, E: Write>(
     ensures failed { 2 ≤ result → HasFailed result (request_of (map string_bytes words.now))
         (R.remaining reader.old) (R.remaining reader.new) (W.contents out.old) (W.contents out.new)
         (E.contents err.old) (E.contents err.new) }
+
+    // A line that is not read has no other status, whatever memory there is.
+    ensures unread { request_of (map string_bytes words.now) ≡ None → result ≡ 2 }
 
     // Whatever the status, one byte more than a session text may have is all that is taken.
     ensures at_most { TakesAtMost MAX_INPUT (R.remaining reader.old) (R.remaining reader.new) }

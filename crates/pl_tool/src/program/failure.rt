@@ -2,7 +2,7 @@
 
 ghost use Rattle.std.specs.Prelude.{◌≡◌};
 ghost use Rattle.std.specs.IoError.{error_kind};
-ghost use Rattle.pl_tool.specs.ProgramFailures.{failure_of_moves, failure_of_session, failure_of_replay, failure_of_run, failure_of_print, failure_of_read, failure_of_words, status_of, failure_line, moves_line, replay_line, run_line, build_line, session_line};
+ghost use Rattle.pl_tool.specs.ProgramFailures.{failure_of_moves, failure_of_session, failure_of_replay, failure_of_run, failure_of_print, failure_of_read, failure_of_words, status_of, failure_line, build_line};
 
 use pl_build::BuildFault;
 use pl_exec::RunFault;
@@ -72,45 +72,24 @@ impl Failure {
             Failure::Usage => {
                 "usage: pl_tool replay [--moves MOVES] | run --queue waiting|ring | plain\n"
             }
-            Failure::Moves(fault) => moves_line(fault),
-            Failure::Replay(fault) => replay_line(fault),
+            Failure::Moves(MovesFault::Form) => "moves refused: 1 Form\n",
+            Failure::Moves(MovesFault::Limit) => "moves refused: 2 Limit\n",
+            Failure::Replay(ReplayFault::NoSuch) => "replay refused: 1 NoSuch\n",
             Failure::Input => "input refused\n",
-            Failure::Session(fault) => session_line(fault),
-            Failure::Run(fault) => run_line(fault),
-            Failure::Memory => "out of memory\n",
+            Failure::Session(SessionFault::NotJson) => "session refused: 1 NotJson\n",
+            Failure::Session(SessionFault::Version) => "session refused: 2 Version\n",
+            Failure::Session(SessionFault::Missing) => "session refused: 3 Missing\n",
+            Failure::Session(SessionFault::Kind) => "session refused: 4 Kind\n",
+            Failure::Session(SessionFault::Limit) => "session refused: 5 Limit\n",
+            Failure::Session(SessionFault::Build(fault)) => build_line(fault),
+            Failure::Run(RunFault::Spawn) => "run refused: 2 Spawn\n",
             Failure::Output => "output refused\n",
+            Failure::Moves(MovesFault::Memory)
+            | Failure::Replay(ReplayFault::Memory)
+            | Failure::Session(SessionFault::Memory)
+            | Failure::Run(RunFault::Memory)
+            | Failure::Memory => "out of memory\n",
         }
-    }
-}
-
-/// The line of moves that were refused.
-fn moves_line(fault: MovesFault) -> &'static str
-    ensures { result.now ≡ moves_line fault }
-{
-    match fault {
-        MovesFault::Form => "moves refused: 1 Form\n",
-        MovesFault::Limit => "moves refused: 2 Limit\n",
-        MovesFault::Memory => "out of memory\n",
-    }
-}
-
-/// The line of a replay that was refused.
-fn replay_line(fault: ReplayFault) -> &'static str
-    ensures { result.now ≡ replay_line fault }
-{
-    match fault {
-        ReplayFault::NoSuch => "replay refused: 1 NoSuch\n",
-        ReplayFault::Memory => "out of memory\n",
-    }
-}
-
-/// The line of a run that was refused.
-fn run_line(fault: RunFault) -> &'static str
-    ensures { result.now ≡ run_line fault }
-{
-    match fault {
-        RunFault::Spawn => "run refused: 2 Spawn\n",
-        RunFault::Memory => "out of memory\n",
     }
 }
 
@@ -127,21 +106,6 @@ fn build_line(fault: BuildFault) -> &'static str
         BuildFault::TwoTurns => "session refused: 6 Build 6 TwoTurns\n",
         BuildFault::Marks => "session refused: 6 Build 7 Marks\n",
         BuildFault::Memory => "out of memory\n",
-    }
-}
-
-/// The line of a session that was refused.
-fn session_line(fault: SessionFault) -> &'static str
-    ensures { result.now ≡ session_line fault }
-{
-    match fault {
-        SessionFault::NotJson => "session refused: 1 NotJson\n",
-        SessionFault::Version => "session refused: 2 Version\n",
-        SessionFault::Missing => "session refused: 3 Missing\n",
-        SessionFault::Kind => "session refused: 4 Kind\n",
-        SessionFault::Limit => "session refused: 5 Limit\n",
-        SessionFault::Build(refused) => build_line(refused),
-        SessionFault::Memory => "out of memory\n",
     }
 }
 

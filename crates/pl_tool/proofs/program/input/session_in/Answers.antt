@@ -1,4 +1,3 @@
-use Rattle.std.proofs.Common.{arith}
 use Rattle.pl_head.specs.contracts.transports.MemoryTransportTransport.TheImpl.{state-value}
 use Rattle.pl_world.specs.Sessions.{plan_of}
 use Rattle.pl_stages.specs.contracts.handlers.HandlerStage.TheImpl.{meaning-value}
@@ -10,5 +9,5 @@ pub returns-in-Ok-clause-means : goal.returns-in-Ok-clause-means
 returns-in-Ok-clause-means c =
     text_means c.args.input.now c.in-Ok.text.now (seen (plan_of meaning-value.it state-value.it) c.read_session.result) c.in-Ok.ensures.cases c.read_session.ensures.meaning
 
-pub returns-in-Err-2-clause-means : goal.returns-in-Err-2-clause-means
-returns-in-Err-2-clause-means c _ = not_text_means c.args.input.now (omega arith) c.in-Err-2.ensures.cases.0
+pub returns-in-Err-clause-means : goal.returns-in-Err-clause-means
+returns-in-Err-clause-means c _ = not_text_means c.args.input.now c.requires c.in-Err.ensures.cases.0
