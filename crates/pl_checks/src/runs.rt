@@ -65,12 +65,24 @@ fn runs_drain_every_example(rt: HostRuntime) -> Result<(), Fail> {
     Ok(())
 }
 
-/// The decoder and the service, each on an executor of its own: every item goes there and back through a ring of one.
+/// Three channels, of which one has its handlers on another executor than the other two.
+#[test]
+fn group_placing(rt: HostRuntime) -> Result<(), Fail> {
+    let text = sessions::with_room(&rt, sessions::group_placing(&rt)?.as_str())?;
+    for queue in QUEUES {
+        drains(&rt, text.as_str(), queue)?;
+    }
+    Ok(())
+}
+
+/// The decoder and the service, each on an executor of its own: every item goes there and back, through a ring of one too.
 #[test]
 fn totals_across_groups(rt: HostRuntime) -> Result<(), Fail> {
-    let text = sessions::totals_across_groups(&rt, 1, "")?;
-    for _ in 0..100 {
-        drains(&rt, text.as_str(), QueueKind::Ring)?;
+    for capacity in [1, 16] {
+        let text = sessions::totals_across_groups(&rt, capacity, "")?;
+        for _ in 0..100 {
+            drains(&rt, text.as_str(), QueueKind::Ring)?;
+        }
     }
     Ok(())
 }
