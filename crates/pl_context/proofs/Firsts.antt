@@ -1,11 +1,13 @@
 -- The first element of a list that passes a test: found, and taken out.
+use Rattle.std.specs.Prelude.{◌⊎◌}
+use Rattle.std.specs.Map.{remove_entry}
 use Rattle.std.proofs.Common.{◌≡◌, ℕ, zero, suc, ◌+◌, ◌<◌, Bool, true, false, cond, not, ltb, Some, None, List, [], ◌∷◌, length, get_or, drop, refl, sym, ap, ◌∙◌, subst, arith, inl, inr}
-use Rattle.std.specs.List.{All, filter, find, position, position_or_len, remove, slice_get}
+use Rattle.std.specs.List.{All, AllPairs, filter, find, position, position_or_len, remove, slice_get}
 use Rattle.std.proofs.lemmas.List.Quantifiers.{position-Some}
 use Rattle.std.proofs.lemmas.List.Folds.{find_at}
 use Rattle.std.proofs.lemmas.List.Elements.{All-head, All-tail}
 use Rattle.std.proofs.lemmas.Option.{slice_get_within, slice_get_cases, none-some, same_Some, cond_some}
-use Rattle.std.proofs.lemmas.Bool.{cases_Bool, cond-true, cond-false, ltb-true, lt-ltb, le-ltb}
+use Rattle.std.proofs.lemmas.Bool.{cases_Bool, cond-true, cond-false, ltb-true, lt-ltb, le-ltb, true≢false, false_from_ne_true}
 
 -- the element at i passes, and none before it does
 pub record IsFirst {X : Type 0} (p : X → Bool) (xs : List X) (i : ℕ) : Type 0 where
@@ -89,7 +91,55 @@ module _ {X : Type 0} (p : X → Bool) where
     | inr fails ↦ find-All P xs y (All-tail P x xs all) (sym (cond-false (p x) (Some x) (find p xs) fails) ∙ found)
   ]
 
-pub find-none : {X : Type 0} (p : X → Bool) (xs : List X) → All (λ x. p x ≡ false) xs → find p xs ≡ None
-find-none p [] off = refl
-find-none {X} p (x ∷ xs) off =
-    ap (λ (b : Bool). cond b (Some x) (find p xs)) (All-head (λ y. p y ≡ false) x xs off) ∙ find-none p xs (All-tail (λ y. p y ≡ false) x xs off)
+  -- the one that is found passes
+  pub find-passes : (xs : List X) (x : X) → find p xs ≡ Some x → p x ≡ true
+  find-passes [] x found = absurd (none-some x found)
+  find-passes (y ∷ ys) x found = elim (cases_Bool (p y)) [
+    | inl passes ↦ ap p (sym (same_Some y x (sym (cond-true (p y) (Some y) (find p ys) passes) ∙ found))) ∙ passes
+    | inr fails ↦ find-passes ys x (sym (cond-false (p y) (Some y) (find p ys) fails) ∙ found)
+  ]
+
+-- ---- two tests, of which one passes all that the other does
+
+module _ {X : Type 0} (p q : X → Bool) (wider : (y : X) → q y ≡ true → p y ≡ true) where
+  fails-both : (y : X) → p y ≡ false → q y ≡ false
+  fails-both y fails = false_from_ne_true (q y) (λ on. true≢false (sym (wider y on) ∙ fails))
+
+  -- what the wider one finds, and the other passes, the other finds
+  pub find-narrow : (xs : List X) (x : X) → find p xs ≡ Some x → q x ≡ true → find q xs ≡ Some x
+  find-narrow [] x found on = found
+  find-narrow (y ∷ ys) x found on = elim (cases_Bool (p y)) [
+    | inl passes ↦
+        let same = same_Some y x (sym (cond-true (p y) (Some y) (find p ys) passes) ∙ found) in
+        cond-true (q y) (Some y) (find q ys) (ap q same ∙ on) ∙ ap (λ (z : X). Some z) same
+    | inr fails ↦
+        cond-false (q y) (Some y) (find q ys) (fails-both y fails) ∙ find-narrow ys x (sym (cond-false (p y) (Some y) (find p ys) fails) ∙ found) on
+  ]
+
+  -- where the other finds one, the wider one finds the same or an older, in a list by age
+  pub find-older : (age : X → ℕ) (xs : List X) → AllPairs (λ a b. age a < age b) xs → (z : X) → find q xs ≡ Some z
+      → (x : X) × (find p xs ≡ Some x) × ((x ≡ z) ⊎ (age x < age z))
+  find-older age [] order z found = absurd (none-some z found)
+  find-older age (y ∷ ys) order z found = elim (cases_Bool (p y)) [
+    | inl passes ↦ (
+      y,
+      cond-true (p y) (Some y) (find p ys) passes,
+      elim (cases_Bool (q y)) [
+        | inl on ↦ inl (same_Some y z (sym (cond-true (q y) (Some y) (find q ys) on) ∙ found))
+        | inr off ↦
+            inr (find-All q (λ (x : X). age y < age x) ys z (λ k d below. order 0 (suc k) d (omega arith) (omega (arith, below)))
+            (sym (cond-false (q y) (Some y) (find q ys) off) ∙ found))
+      ],
+    )
+    | inr fails ↦
+        let rest = find-older age ys (λ i j d before below. order (suc i) (suc j) d (omega (arith, before)) (omega (arith, below))) z (sym (cond-false (q y) (Some y) (find q ys) (fails-both y fails)) ∙ found) in
+        (rest.0, cond-false (p y) (Some y) (find p ys) fails ∙ rest.1, rest.2)
+  ]
+
+-- an entry, taken out by the place of the first with its key
+pub remove-entry : {K V : Type 0} (p : K → Bool) (es : List (K × V)) (i : ℕ) → IsFirst (λ e. p e.0) es i → remove es i ≡ remove_entry p es
+remove-entry p [] i f = absurd (omega (arith, f.within))
+remove-entry p (e ∷ es) zero f = sym (cond-true (p e.0) es (e ∷ remove_entry p es) (f.passes e))
+remove-entry {K} {V} p (e ∷ es) (suc i) f =
+    ap (λ (l : List (K × V)). e ∷ l) (remove-entry p es i (next (λ e. p e.0) e es i f))
+    ∙ sym (cond-false (p e.0) es (e ∷ remove_entry p es) (f.before 0 e (omega arith)))

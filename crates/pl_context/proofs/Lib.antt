@@ -1,8 +1,9 @@
 pub mod ListEdits
 pub mod Firsts
-pub mod Oldest
+pub mod FrontLemmas
 pub mod WaitingLemmas
 pub mod WaitingCalls
+pub mod WaitingFronts
 pub mod Places
 pub mod PortLemmas
 pub mod ContextLemmas

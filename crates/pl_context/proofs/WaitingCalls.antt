@@ -1,15 +1,14 @@
 -- What the calls of one list of envelopes, kept by target, do to it.
-use Rattle.std.proofs.Common.{◌≡◌, ◌≢◌, ℕ, zero, suc, ◌+◌, ◌<◌, ◌≤◌, Bool, true, false, cond, eqb, Option, Some, None, List, [], ◌∷◌, ◌++◌, length, map, get_or, set, refl, sym, ap, ◌∙◌, subst, arith, inl, inr, append-nil}
+use Rattle.std.proofs.Common.{◌≡◌, ◌≢◌, ℕ, zero, suc, ◌+◌, ◌<◌, ◌≤◌, Bool, true, cond, Option, Some, None, List, [], ◌∷◌, ◌++◌, length, map, get_or, set, refl, sym, ap, ◌∙◌, subst, arith, inl, inr, append-nil}
 use Rattle.std.specs.Prelude.{◌↔◌}
 use Rattle.std.specs.List.{All, filter, find, position, remove, slice_get, count_by}
 use Rattle.std.specs.Option.{option_map, option_map_or}
 use Rattle.std.proofs.lemmas.List.{get_or-set_same, length-set}
 use Rattle.std.proofs.lemmas.List.Elements.{All-head, All-tail}
 use Rattle.std.proofs.lemmas.List.Sums.{length-filter}
-use Rattle.std.proofs.Math.Dec.{eqb-suc-zero}
 use Rattle.std.proofs.lemmas.Simd.{map-map}
-use Rattle.std.proofs.lemmas.Option.{slice_get-get_or, slice_get-map, slice_get_cases, slice_get_within, get_or_from_slice_get, same_Some, none-some}
-use Rattle.std.proofs.lemmas.Bool.{cases_eq, eq-eqb, eqb-true, ne_eqb, false≢true}
+use Rattle.std.proofs.lemmas.Option.{slice_get-get_or, slice_get-map, slice_get_within, get_or_from_slice_get, same_Some, none-some}
+use Rattle.std.proofs.lemmas.Bool.{cases_eq, eqb-true, ne_eqb}
 use Rattle.pl_event.specs.declared.envelopes.Envelope.{Envelope}
 use Rattle.pl_event.specs.declared.envelopes.Kind.{Kind}
 use Rattle.pl_event.specs.declared.envelopes.Kind.TheVariants.{Data, Flags}
@@ -224,33 +223,6 @@ module _ {A : Type 0} (w : WaitingView A) (entries : List (Entry A)) (h : Holds 
   pub count-here : (target : ℕ) (b : BacklogView (Late A)) → slice_get w.targets target ≡ Some b → length b.items ≡ count_by (is_for target) entries
   count-here target b at = count-waits w h.aged h.holds target b at ∙ sym (counted target)
 
-  -- one waits where a target has one
-  pub some-waits : (target : ℕ) (b : BacklogView (Late A)) → slice_get w.targets target ≡ Some b → eqb (length b.items) 0 ≡ false → false ≡ eqb (length entries) 0
-  some-waits target b at some = by entries refl
-    where
-      by : (l : List (Entry A)) → entries ≡ l → false ≡ eqb (length l) 0
-      by [] is =
-          let n = count-here target b at ∙ ap (λ (l : List (Entry A)). count_by (is_for target) l) is in
-          absurd (false≢true (sym some ∙ eq-eqb (length b.items) 0 n))
-      by (x ∷ xs) is = sym (eqb-suc-zero (length xs))
-
-  -- nothing waits where no target has one
-  pub none-waits-at-all : ((target : ℕ) (b : BacklogView (Late A)) → slice_get w.targets target ≡ Some b → b.items ≡ []) → true ≡ eqb (length entries) 0
-  none-waits-at-all empty = sym (ap (λ (l : List (Entry A)). eqb (length l) 0) h.entries_are ∙ by h.aged refl)
-    where
-      by : (l : List (Aged A)) → h.aged ≡ l → eqb (length (map entry_of l)) 0 ≡ true
-      by [] is = refl
-      by (x ∷ xs) is =
-          let there = All-head (λ (i : Aged A). i.entry.target < length w.targets) x xs (subst (λ (l : List (Aged A)). All (λ i. i.entry.target < length w.targets) l) is h.holds.there) in
-          elim (slice_get_cases w.targets x.entry.target).1 [
-            | inl here ↦
-                let front = front-first w h.aged h.holds x.entry.target here.0 here.2 in
-                let first = ap (λ (l : List (Aged A)). option_map late (find (is_aged_for x.entry.target) l)) is
-                ∙ ap (λ (b : Bool). option_map late (cond b (Some x) (find (is_aged_for x.entry.target) xs))) (eq-eqb x.entry.target x.entry.target refl) in
-                absurd (none-some (late x) (sym (ap (λ (l : List (Envelope × Late A)). slice_get l 0) (empty x.entry.target here.0 here.2)) ∙ front ∙ first))
-            | inr past ↦ absurd (omega (arith, there, past.0))
-          ]
-
 -- ---- what was taken last
 
 pub none-long : {X : Type 0} (xs : List X) → length xs ≡ 0 → xs ≡ []
@@ -277,6 +249,18 @@ module _ {A : Type 0} (w : WaitingView A) (entries : List (Entry A)) (i : ℕ) (
       let room = subst (λ (n : ℕ). 0 < room_for w n) (missed-target d ∙ on) (m.room d) in
       let is = ap (λ (o : Option (BacklogView (Late A))). option_map_or (λ b. b.room) o 0) at_target in
       omega (arith, room, is)
+
+-- what was taken for a target, may be put back there
+module _ {A : Type 0} (w now : WaitingView A) (same : w ≡ now) (target : ℕ)
+    (r : (entries : List (Entry A)) × (i : ℕ) × (entry : Entry A) × (slice_get entries i ≡ Some entry) × (entry.target ≡ target) × Misses now entries i) where
+  missed : Misses w r.0 r.1
+  missed = subst (λ (v : WaitingView A). Misses v r.0 r.1) (sym same) r.5
+
+  pub back-there : target < length w.targets
+  back-there = let there = missed-there w r.0 r.1 missed r.2 r.3 in omega (arith, there, r.4)
+
+  pub back-room : (b : BacklogView (Late A)) → slice_get w.targets target ≡ Some b → 0 < b.room
+  back-room = missed-room w r.0 r.1 missed r.2 r.3 target r.4
 
 -- the envelopes that wait for a target, in their order
 pub envelopes-for : {A : Type 0} (w : WaitingView A) (entries : List (Entry A)) (h : Holds w entries) (target : ℕ) (b : BacklogView (Late A)) → slice_get w.targets target ≡ Some b

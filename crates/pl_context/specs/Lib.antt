@@ -6,4 +6,5 @@ pub mod ContextViews
 pub mod Contexts
 pub mod TailViews
 pub mod Backlogs
+pub mod Fronts
 pub mod WaitingViews

@@ -1,6 +1,6 @@
 -- Envelopes that wait for several targets: one list that nobody stores, kept by target.
-use Rattle.std.specs.Prelude.{◌≡◌, ◌≢◌, ◌↔◌, ℕ, ◌+◌, ◌<◌, ◌==◌, Bool, cond, nat_lt, List, ◌++◌, length, map, filter, position, remove, slice_get, get_or, All, AllPairs, Option, Some, None, MatchOption, true, false}
-use Rattle.std.specs.Option.{option_map_or}
+use Rattle.std.specs.Prelude.{◌≡◌, ◌≢◌, ◌↔◌, ℕ, ◌+◌, ◌<◌, ◌≤◌, ◌==◌, Bool, List, ◌++◌, length, map, filter, position, remove, slice_get, get_or, All, AllPairs, Option, Some, None, MatchOption, true, false}
+use Rattle.std.specs.Option.{option_map, option_map_or}
 use Rattle.pl_event.specs.declared.envelopes.Envelope.{Envelope}
 use Rattle.pl_context.specs.declared.added.Added.{Added}
 use Rattle.pl_context.specs.declared.added.Added.TheVariants.{Discarded, Last}
@@ -8,6 +8,7 @@ use Rattle.pl_context.specs.declared.waiting.Late.{Late}
 use Rattle.pl_context.specs.Stops.{StopsView, no_stops, has_stopped}
 use Rattle.pl_context.specs.OutputsViews.{added_items, stopped_after}
 use Rattle.pl_context.specs.Backlogs.{BacklogView, handed_back}
+use Rattle.pl_context.specs.Fronts.{FrontsView, age_for}
 
 -- What waits for each target; how many envelopes were added, and how many of them before the one that was taken last.
 pub record WaitingView (A : Type 0) : Type 0 where
@@ -96,10 +97,13 @@ pub record Takes {A : Type 0} (before : WaitingView A) (entries : List (Entry A)
   pub stopped : (y : ℕ) → stops_for after y ≡ stops_for before y
   pub targets : length after.targets ≡ length before.targets
 
--- the older of two, each with its target; nothing is older than one that is not there
-abbrev pub older_of : Option (ℕ × ℕ) → ℕ → Option ℕ → Option (ℕ × ℕ)
-older_of found target age =
-    elim age [
-      | None ↦ found
-      | Some a ↦ elim found [ None ↦ Some (target, a) | Some f ↦ cond (nat_lt a f.1) (Some (target, a)) (Some f) ]
-    ]
+-- ---- who may be the oldest
+
+-- the age of the front of what waits for a target
+abbrev pub front_age : {A : Type 0} → BacklogView (Late A) → Option ℕ
+front_age b = option_map (λ entry. entry.1.age) (slice_get b.items 0)
+
+-- Those targets are noted for which something waits, each with the age of its front.
+pub record AreFronts {A : Type 0} (fronts : FrontsView) (targets : List (BacklogView (Late A))) : Type 0 where
+  pub places : length targets ≤ fronts.places
+  pub ages : (y : ℕ) → age_for fronts y ≡ option_map_or front_age (slice_get targets y) None

@@ -4,6 +4,7 @@
 mod added;
 mod backlog;
 mod contexts;
+mod fronts;
 mod outputs;
 mod place_laws;
 mod ports;

@@ -4,22 +4,26 @@ ghost use Rattle.std.specs.Prelude.{◌≡◌, ◌≢◌, ℕ, Bool, List, [], �
 ghost use Rattle.std.specs.Option.{option_map};
 ghost use Rattle.pl_context.specs.Stops.{HasPlaces, no_stops, any_stopped};
 ghost use Rattle.pl_context.specs.Backlogs.{BacklogView};
-ghost use Rattle.pl_context.specs.WaitingViews.{older_of};
+ghost use Rattle.pl_context.specs.WaitingViews.{front_age as the_front_age};
 
 use crate::backlog::Backlog;
+use crate::fronts::Fronts;
 use pl_event::Envelope;
 use std::alloc::{AllocError, Global};
 use std::marker::Model;
 
 /// Envelopes that wait for several targets, each with a token.
 ///
-/// They are one list, in the order in which they were added. They are kept by target, so that the oldest one that may
-/// leave is found without a walk over the others: nothing here costs more where more envelopes wait. Each target has
-/// reserved places as a `Backlog` has, and the same rule where it finds no memory.
+/// They are one list, in the order in which they were added. They are kept by target, and the targets for which something
+/// waits by the age of their fronts, so that the oldest one that may leave is found without a walk over the others:
+/// nothing here costs more where more envelopes wait, or where there are more targets for which none does. Each target
+/// has reserved places as a `Backlog` has, and the same rule where it finds no memory.
 #[derive(Debug, Drop)]
 pub struct Waiting<A> {
     /// What waits for each target.
     targets: Vec<Backlog<Late<A>>>,
+    /// The targets for which something waits.
+    fronts: Fronts,
     /// How many were added before the next one.
     added: u64,
     /// How many were added before the one that was taken last.
@@ -34,11 +38,13 @@ struct Late<A> {
 }
 
 impl<A> Model for Waiting<A> {
-    ghost use Rattle.pl_context.specs.WaitingViews.{WaitingView};
+    ghost use Rattle.pl_context.specs.WaitingViews.{WaitingView, AreFronts};
 
     ghost Value = { WaitingView A };
 
     ghost view = { λ w. record { targets = w.targets.items; added = w.added; taken = w.taken } };
+
+    ghost invariant = { λ w. AreFronts w.fronts w.targets.items };
 }
 
 impl<A: Drop> Waiting<A> {
@@ -56,6 +62,7 @@ impl<A: Drop> Waiting<A> {
         }
         Ok(Waiting {
             targets,
+            fronts: Fronts::new(alloc, places.len())?,
             added: 0,
             taken: 0,
         })
@@ -74,8 +81,11 @@ impl<A: Drop> Waiting<A> {
             token,
         };
         self.added += 1;
-        let Late { token, .. } = self.targets[target].add(envelope, late)?;
-        Some(token)
+        let backlog = &mut self.targets[target];
+        let was = front_age(backlog);
+        let discarded = backlog.add(envelope, late);
+        self.fronts.set(target, was, front_age(backlog));
+        discarded.map(|late| late.token)
     }
 
     /// The target of the oldest envelope for one that is open. None where none waits for an open one.
@@ -85,13 +95,7 @@ impl<A: Drop> Waiting<A> {
             → ((target : ℕ) (answer : Bool) → target < length self.now.targets → F.post is_open target answer → answer ≡ opens target)
             → Holds self.now entries → result ≡ option_map (λ entry. entry.target) (find (λ entry. opens entry.target) entries) }
     {
-        let mut oldest = None;
-        for target in 0..self.targets.len() {
-            if is_open(target) {
-                oldest = older(oldest, target, front_age(&self.targets[target]));
-            }
-        }
-        oldest.map(|(target, _)| target)
+        self.fronts.oldest(is_open)
     }
 
     /// Takes the oldest envelope for a target. It takes no memory.
@@ -101,6 +105,7 @@ impl<A: Drop> Waiting<A> {
     {
         let backlog = self.targets.get_mut(target)?;
         let (envelope, Late { age, token }) = backlog.take_at(0)?;
+        self.fronts.set(target, Some(age), front_age(backlog));
         self.taken = age;
         Some((envelope, token))
     }
@@ -119,7 +124,10 @@ impl<A: Drop> Waiting<A> {
             age: self.taken,
             token,
         };
-        self.targets[target].put_back(0, envelope, late);
+        let backlog = &mut self.targets[target];
+        let was = front_age(backlog);
+        backlog.put_back(0, envelope, late);
+        self.fronts.set(target, was, front_age(backlog));
     }
 
     /// How many envelopes wait for a target.
@@ -136,12 +144,7 @@ impl<A: Drop> Waiting<A> {
     pub fn is_empty(&self) -> bool
         ensures { (entries : List (Entry A)) → Holds self.now entries → result ≡ (length entries == 0) }
     {
-        for backlog in &self.targets {
-            if !backlog.is_empty() {
-                return false;
-            }
-        }
-        true
+        self.fronts.is_empty()
     }
 
     /// Whether a lane has stopped on the way to a target: memory ran out for an item of it, and what it brings later is
@@ -158,25 +161,8 @@ impl<A: Drop> Waiting<A> {
 
 /// The age of the front of a backlog.
 fn front_age<A>(backlog: &Backlog<Late<A>>) -> Option<u64>
-    ensures { result ≡ option_map (λ entry. entry.1.age) (slice_get backlog.now.items 0) }
+    ensures { result ≡ the_front_age backlog.now }
 {
     let (_, late) = backlog.front()?;
     Some(late.age)
-}
-
-/// The older of two envelopes, each by its target and its age. Nothing is older than one that is not there.
-fn older(found: Option<(usize, u64)>, target: usize, age: Option<u64>) -> Option<(usize, u64)>
-    ensures { result ≡ older_of found target age }
-{
-    match (found, age) {
-        (_, None) => found,
-        (None, Some(age)) => Some((target, age)),
-        (Some((_, oldest)), Some(age)) => {
-            if age < oldest {
-                Some((target, age))
-            } else {
-                found
-            }
-        }
-    }
 }

@@ -1,12 +1,13 @@
 use Rattle.std.proofs.Common.{◌≡◌, ◌<◌, List, [], ◌∷◌, ◌++◌, length, map, take, get_or, refl, sym, subst, ap, ◌∙◌, arith}
 use Rattle.std.specs.List.{All}
-use Rattle.std.proofs.lemmas.List.{map-append, take_all, take_more}
+use Rattle.std.proofs.lemmas.List.{length-map, map-append, take_all, take_more}
 use Rattle.std.proofs.lemmas.List.Elements.{All-nil, All-push}
 use Rattle.pl_event.proofs.Lists.{All-at}
 use Rattle.pl_context.specs.declared.waiting.Late.{Late}
 use Rattle.pl_context.specs.Stops.{StopsView, no_stops}
 use Rattle.pl_context.specs.Backlogs.{BacklogView}
 use Rattle.pl_context.specs.WaitingViews.{Aged}
+use Rattle.pl_context.proofs.WaitingFronts.{fronts-empty}
 use Rattle.pl_context.proofs.waiting.Waiting.new.Goals as goal
 
 pub loop-count-init : goal.loop-count-init
@@ -44,3 +45,12 @@ returns-clause-empty g c = record {
 pub returns-clause-places : goal.returns-clause-places
 returns-clause-places g c =
     c.loop-count.invariant.1 ∙ ap (map no_stops) (take_all c.loop-count.count-index c.args.places.now c.loop-count-test.false)
+
+pub invariant_of-result : goal.invariant_of-result
+invariant_of-result g c =
+    let targets = c.loop-count.targets.items in
+    let places = c.args.places.now in
+    let same = ap (λ (l : List StopsView). length l) (c.loop-count.invariant.1 ∙ ap (map no_stops) (take_all c.loop-count.count-index places c.loop-count-test.false)) in
+    let long = length-map targets (λ (b : BacklogView (Late g.row.A.Denot)). b.stopped) in
+    let wide = length-map places no_stops in
+    fronts-empty targets c.in_ok-new-2.field-0 c.in_ok-new-2.ensures.empty (omega (arith, same, long, wide, c.in_ok-new-2.ensures.places)) c.loop-count.invariant.0
