@@ -44,16 +44,15 @@ fn sequences(rt: HostRuntime) -> Result<(), Fail> {
 
 #[test]
 fn keys(rt: HostRuntime) -> Result<(), Fail> {
-    let alloc = rt.alloc();
     for name in ["a", "z", "0", "9", "hits", "abcdefghijklmnop"] {
-        let bytes = text(alloc, name.as_bytes())?;
+        let bytes = text(rt.alloc(), name.as_bytes())?;
         let key = Key::new(bytes).ok_or(name)?;
         assert_eq!(rt; key.as_slice(), name.as_bytes());
         assert_eq!(rt; key.clone()?, key);
     }
     for name in ["", "abcdefghijklmnopq", "Hits", "hi ts", "{", "`", "\n"] {
         assert_eq!(rt;
-            Key::new(text(alloc, name.as_bytes())?).is_none(),
+            Key::new(text(rt.alloc(), name.as_bytes())?).is_none(),
             true,
             "of {name:?}"
         );

@@ -7,6 +7,7 @@ use pl_stages::{
     add_reply_text,
 };
 use std::alloc::{AllocError, Global};
+use std::process::Abort;
 use std::test::Fail;
 
 fn chunk(alloc: Global, bytes: &[u8]) -> Result<Event, AllocError> {
@@ -73,6 +74,32 @@ fn served(alloc: Global, max: usize, events: Vec<Event>) -> Result<(Vec<Event>, 
     Ok((tail, bytes))
 }
 
+/// The line protocol brings these events to its tail and these bytes to its head.
+fn assert_served(
+    rt: &(impl Abort + AllocGlobal),
+    max: usize,
+    events: Vec<Event>,
+    tail: Vec<Event>,
+    bytes: &[u8],
+) -> Result<(), Fail> {
+    let (reached, sent) = served(rt.alloc(), max, events)?;
+    assert_eq!(rt; reached, tail);
+    assert_eq!(rt; sent.as_slice(), bytes);
+    Ok(())
+}
+
+/// The same where one chunk comes in.
+fn assert_chunk_served(
+    rt: &(impl Abort + AllocGlobal),
+    max: usize,
+    lines: &[u8],
+    tail: Vec<Event>,
+    bytes: &[u8],
+) -> Result<(), Fail> {
+    let events = vec![in rt.alloc(); chunk(rt.alloc(), lines)?]?;
+    assert_served(rt, max, events, tail, bytes)
+}
+
 #[test]
 fn ping(rt: HostRuntime) -> Result<(), Fail> {
     let alloc = rt.alloc();
@@ -81,13 +108,8 @@ fn ping(rt: HostRuntime) -> Result<(), Fail> {
         chunk(alloc, b"PING\r\n")?,
         Event::ReadComplete,
     ]?;
-    let (tail, bytes) = served(alloc, 64, events)?;
-    assert_eq!(rt;
-        tail,
-        vec![in alloc; Event::Active, ping_command(), Event::ReadComplete]?
-    );
-    assert_eq!(rt; bytes.as_slice(), b"+PONG\r\n".as_slice());
-    Ok(())
+    let tail = vec![in alloc; Event::Active, ping_command(), Event::ReadComplete]?;
+    assert_served(&rt, 64, events, tail, b"+PONG\r\n")
 }
 
 #[test]
@@ -100,102 +122,75 @@ fn line_across_bursts(rt: HostRuntime) -> Result<(), Fail> {
         chunk(alloc, b"NG\n")?,
         Event::ReadComplete,
     ]?;
-    let (tail, bytes) = served(alloc, 64, events)?;
-    let wanted = vec![in alloc;
+    let tail = vec![in alloc;
         Event::Active,
         Event::ReadComplete,
         ping_command(),
         Event::ReadComplete,
     ]?;
-    assert_eq!(rt; tail, wanted);
-    assert_eq!(rt; bytes.as_slice(), b"+PONG\r\n".as_slice());
-    Ok(())
+    assert_served(&rt, 64, events, tail, b"+PONG\r\n")
 }
 
 #[test]
 fn cr_and_lf_apart(rt: HostRuntime) -> Result<(), Fail> {
     let alloc = rt.alloc();
     let events = vec![in alloc; chunk(alloc, b"PING\r")?, chunk(alloc, b"\n")?]?;
-    let (tail, bytes) = served(alloc, 4, events)?;
-    assert_eq!(rt; tail, vec![in alloc; ping_command()]?);
-    assert_eq!(rt; bytes.as_slice(), b"+PONG\r\n".as_slice());
-    Ok(())
+    let tail = vec![in alloc; ping_command()]?;
+    assert_served(&rt, 4, events, tail, b"+PONG\r\n")
 }
 
 #[test]
 fn line_too_long(rt: HostRuntime) -> Result<(), Fail> {
-    let alloc = rt.alloc();
-    let (tail, bytes) = served(alloc, 3, vec![in alloc; chunk(alloc, b"PING\n")?]?)?;
-    assert_eq!(rt; tail, vec![in alloc; Event::Caught(Caught::TooLong)]?);
-    assert_eq!(rt; bytes.as_slice(), b"-ERR toolong\r\n".as_slice());
-    Ok(())
+    let tail = vec![in rt.alloc(); Event::Caught(Caught::TooLong)]?;
+    assert_chunk_served(&rt, 3, b"PING\n", tail, b"-ERR toolong\r\n")
 }
 
 #[test]
 fn echo_and_faults(rt: HostRuntime) -> Result<(), Fail> {
-    let alloc = rt.alloc();
-    let (tail, bytes) = served(
-        alloc,
-        64,
-        vec![in alloc; chunk(alloc, b"ECHO \nECHO\n\n")?]?,
-    )?;
-    let wanted = vec![in alloc;
-        echo(alloc, b"")?,
+    let tail = vec![in rt.alloc();
+        echo(rt.alloc(), b"")?,
         Event::Caught(Caught::Syntax),
         Event::Caught(Caught::Unknown),
     ]?;
-    assert_eq!(rt; tail, wanted);
-    assert_eq!(rt;
-        bytes.as_slice(),
-        b"+\r\n-ERR syntax\r\n-ERR unknown\r\n".as_slice()
-    );
-    Ok(())
+    let bytes = b"+\r\n-ERR syntax\r\n-ERR unknown\r\n";
+    assert_chunk_served(&rt, 64, b"ECHO \nECHO\n\n", tail, bytes)
 }
 
 #[test]
 fn cr_inside_line(rt: HostRuntime) -> Result<(), Fail> {
-    let alloc = rt.alloc();
-    let (tail, bytes) = served(alloc, 64, vec![in alloc; chunk(alloc, b"ECHO a\r\r\n")?]?)?;
-    assert_eq!(rt; tail, vec![in alloc; echo(alloc, b"a\r")?]?);
-    assert_eq!(rt; bytes.as_slice(), b"+a\r\r\n".as_slice());
-    Ok(())
+    let tail = vec![in rt.alloc(); echo(rt.alloc(), b"a\r")?]?;
+    assert_chunk_served(&rt, 64, b"ECHO a\r\r\n", tail, b"+a\r\r\n")
 }
 
 #[test]
 fn totals(rt: HostRuntime) -> Result<(), Fail> {
     let alloc = rt.alloc();
-    let lines = chunk(alloc, b"ADD a 7\nADD b 1\nADD a 5\nGET a\n")?;
-    let (tail, bytes) = served(alloc, 64, vec![in alloc; lines]?)?;
-    let wanted = vec![in alloc;
+    let tail = vec![in alloc;
         add(alloc, b"a", 7)?,
         add(alloc, b"b", 1)?,
         add(alloc, b"a", 5)?,
         get(alloc, b"a")?,
     ]?;
-    assert_eq!(rt; tail, wanted);
-    assert_eq!(rt; bytes.as_slice(), b":7\r\n:1\r\n:12\r\n:12\r\n".as_slice());
-    Ok(())
+    let lines = b"ADD a 7\nADD b 1\nADD a 5\nGET a\n";
+    assert_chunk_served(&rt, 64, lines, tail, b":7\r\n:1\r\n:12\r\n:12\r\n")
 }
 
 #[test]
 fn leading_zero(rt: HostRuntime) -> Result<(), Fail> {
-    let alloc = rt.alloc();
-    let (tail, bytes) = served(alloc, 64, vec![in alloc; chunk(alloc, b"ADD a 0123\n")?]?)?;
-    assert_eq!(rt; tail, vec![in alloc; Event::Caught(Caught::Syntax)]?);
-    assert_eq!(rt; bytes.as_slice(), b"-ERR syntax\r\n".as_slice());
-    Ok(())
+    let tail = vec![in rt.alloc(); Event::Caught(Caught::Syntax)]?;
+    assert_chunk_served(&rt, 64, b"ADD a 0123\n", tail, b"-ERR syntax\r\n")
 }
 
 #[test]
 fn nine_digits(rt: HostRuntime) -> Result<(), Fail> {
     let alloc = rt.alloc();
-    let lines = chunk(alloc, b"ADD a 999999999\nADD a 1234567890\nGET zz\n")?;
-    let (_, bytes) = served(alloc, 64, vec![in alloc; lines]?)?;
-    assert_eq!(rt;
-        bytes.as_slice(),
-        b":999999999\r\n-ERR syntax\r\n:0\r\n".as_slice()
-    );
-    Ok(())
+    let tail = vec![in alloc;
+        add(alloc, b"a", 999_999_999)?,
+        Event::Caught(Caught::Syntax),
+        get(alloc, b"zz")?,
+    ]?;
+    let lines = b"ADD a 999999999\nADD a 1234567890\nGET zz\n";
+    assert_chunk_served(&rt, 64, lines, tail, b":999999999\r\n-ERR syntax\r\n:0\r\n")
 }
 
 #[test]
@@ -206,13 +201,8 @@ fn quit(rt: HostRuntime) -> Result<(), Fail> {
         chunk(alloc, b"PING\nQUIT\nPING\nPI")?,
         Event::ReadComplete,
     ]?;
-    let (tail, bytes) = served(alloc, 64, events)?;
-    assert_eq!(rt;
-        tail,
-        vec![in alloc; Event::Active, ping_command(), quit_command()]?
-    );
-    assert_eq!(rt; bytes.as_slice(), b"+PONG\r\n+BYE\r\n".as_slice());
-    Ok(())
+    let tail = vec![in alloc; Event::Active, ping_command(), quit_command()]?;
+    assert_served(&rt, 64, events, tail, b"+PONG\r\n+BYE\r\n")
 }
 
 /// What the decoder makes of one line.
