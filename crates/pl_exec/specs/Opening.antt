@@ -134,7 +134,7 @@ module _ {N : Type 0} (stands : N → Type 0) (home : N → ℕ) (hops_of : N �
 
 -- the outbox of a way: nothing was sent by it
 abbrev pub outbox_of : {S : Type 0} → (S → SenderView) → WayView S → OutboxView
-outbox_of sends_of way = record { sends = sends_of way.sender; seat = way.seat; tried = false }
+outbox_of sends_of way = record { sends = sends_of way.sender; seat = way.seat }
 
 -- Each is a way to the executor that the inbox of its number is of.
 abbrev pub AreWays : {M S : Type 0} → (M → S → Type 0) → List (InboxView M) → List (WayView S) → Type 0

@@ -7,3 +7,4 @@ pub mod CountLemmas
 pub mod Sends
 pub mod FirstTurns
 pub mod TurnLemmas
+pub mod TryLemmas

@@ -14,13 +14,13 @@ use Rattle.pl_context.specs.WaitingViews.{WaitingView, Entry, Holds, Takes, is_f
 use Rattle.pl_context.proofs.Firsts.{position-first, find-first, find-filter, filter-remove_first, filter-remove_other, find-Some-position}
 use Rattle.pl_context.proofs.WaitingCalls.{none-long}
 use Rattle.pl_queue.specs.Views.{sent_of, after_offer}
-use Rattle.pl_words.specs.Admissions.{AdmittedView, admitted_of}
+use Rattle.pl_words.specs.Admissions.{AdmittedView, SendSeatView, admitted_of}
 use Rattle.pl_flow.specs.Flows.{IsGood, on, past}
 use Rattle.pl_executor.specs.declared.outboxes.Offered.TheVariants.{Handed, Full, Nothing}
 use Rattle.pl_executor.specs.Sent.{sent_at, AreBehind, behind}
-use Rattle.pl_executor.specs.OutboxViews.{OutboxView, OutboxesView, IsOutboxes, waits_in, was_tried, reached, is_refused, Offers, Stays, Forgets}
+use Rattle.pl_executor.specs.OutboxViews.{OutboxView, IsOutboxes, waits_in, sent_to, reached, is_closed, is_refused, refuses, Offers, Stays, Forgets}
 use Rattle.pl_executor.proofs.SentLemmas.{front-sent, front-leaves, front-behind}
-use Rattle.pl_executor.proofs.OutboxLemmas.{Replaces, replaces-set, on-target, on-some, refuses-on, waits-entries, outboxes-hold, outbox-same}
+use Rattle.pl_executor.proofs.OutboxLemmas.{Replaces, replaces-set, on-target, closed-on, waits-entries, outboxes-hold}
 
 in-front : {A : Type 0} (items rest : List A) (e : A) → slice_get items 0 ≡ Some e → rest ≡ drop 1 items → items ≡ e ∷ rest
 in-front [] rest e at left = absurd (none-some e at)
@@ -36,19 +36,19 @@ none-passes {X} p xs none = none-long (filter p xs) (let h = slice_get_none (fil
 pub set-back : {A : Type 0} (xs : List A) (i : ℕ) (x : A) → slice_get xs i ≡ Some x → set xs i x ≡ xs
 set-back xs i x at = ap (λ y. set xs i y) (sym (get_or_from_slice_get xs i x x at)) ∙ set-get_or xs i x
 
-module _ (world : World) (os : List OutboxView) (w : WaitingView AdmittedView) (is : IsOutboxes world (record { outboxes = os; waiting = w })) (target : ℕ) where
+module _ (world : World) (os : List OutboxView) (w : WaitingView AdmittedView) (ts : List ℕ) (is : IsOutboxes world (record { outboxes = os; waiting = w; tried = ts })) (target : ℕ) where
   -- ---- nothing waits
 
   module _ (w' : WaitingView AdmittedView) (takes : Takes w is.entries target None w') where
-    pub nothing-offers : Offers (record { outboxes = os; waiting = w }) target Nothing (record { outboxes = os; waiting = w' })
+    pub nothing-offers : Offers (record { outboxes = os; waiting = w; tried = ts }) target Nothing (record { outboxes = os; waiting = w'; tried = ts })
     nothing-offers = (
-      ap (λ (v : WaitingView AdmittedView). record { outboxes = os; waiting = v }) takes.taken.1,
+      ap (λ (v : WaitingView AdmittedView). record { outboxes = os; waiting = v; tried = ts }) takes.taken.1,
       waits-entries w is.entries is.holds target ∙ ap (map (λ e. e.envelope)) (none-passes (is_for target) is.entries takes.taken.0),
     )
 
-    pub nothing-stays : Stays (record { outboxes = os; waiting = w }) (record { outboxes = os; waiting = w' })
-    nothing-stays = subst (λ (v : WaitingView AdmittedView). Stays (record { outboxes = os; waiting = w }) (record { outboxes = os; waiting = v })) (sym takes.taken.1)
-        (record { count = refl; reached = λ y l. refl; cut = λ y l. refl; stops = λ y. refl; refuses = λ s. record { target = s.target; outbox = s.outbox; is = s.is; refused = s.refused } })
+    pub nothing-stays : Stays (record { outboxes = os; waiting = w; tried = ts }) (record { outboxes = os; waiting = w'; tried = ts })
+    nothing-stays = subst (λ (v : WaitingView AdmittedView). Stays (record { outboxes = os; waiting = w; tried = ts }) (record { outboxes = os; waiting = v; tried = ts })) (sym takes.taken.1)
+        (record { count = refl; reached = λ y l. refl; cut = λ y l. refl; stops = λ y. refl; closed = λ s. record { target = s.target; outbox = s.outbox; is = s.is; closed = s.closed } })
 
   -- ---- the first is taken
 
@@ -106,7 +106,7 @@ module _ (world : World) (os : List OutboxView) (w : WaitingView AdmittedView) (
       waits-other y other =
           waits-entries w' (remove is.entries i) takes.taken.3 y ∙ ap (map (λ e. e.envelope)) (others-rest y other) ∙ sym (waits-entries w is.entries is.holds y)
 
-      pub handed-hold : IsOutboxes world (record { outboxes = set os target b'; waiting = w' })
+      pub handed-hold : IsOutboxes world (record { outboxes = set os target b'; waiting = w'; tried = ts })
       handed-hold =
           let outbox = is.each target b at in
           outboxes-hold world os (set os target b') w w' target b b' is r (remove is.entries i) takes.taken.3 takes.targets
@@ -123,7 +123,7 @@ module _ (world : World) (os : List OutboxView) (w : WaitingView AdmittedView) (
           })
           others-rest (let s = ap (λ s. s.made) is_seat in omega (arith, added, s))
 
-      pub handed-offers : Offers (record { outboxes = os; waiting = w }) target Handed (record { outboxes = set os target b'; waiting = w' })
+      pub handed-offers : Offers (record { outboxes = os; waiting = w; tried = ts }) target Handed (record { outboxes = set os target b'; waiting = w'; tried = ts })
       handed-offers = record {
         envelope = x;
         waits = waits-own ∙ ap (λ zs. x ∷ zs) (sym waits-rest);
@@ -131,19 +131,19 @@ module _ (world : World) (os : List OutboxView) (w : WaitingView AdmittedView) (
         others = λ y other. record { waits = waits-other y other; sends = ap (option_map (λ (o : OutboxView). o.sends)) (r.others y other) };
       }
 
-      pub handed-stays : Stays (record { outboxes = os; waiting = w }) (record { outboxes = set os target b'; waiting = w' })
+      pub handed-stays : Stays (record { outboxes = os; waiting = w; tried = ts }) (record { outboxes = set os target b'; waiting = w'; tried = ts })
       handed-stays = record {
         count = r.count;
         reached = λ y l. ⊎_elim
             (λ (e : y ≡ target).
-            ap (λ k. reached (record { outboxes = set os target b'; waiting = w' }) k l) e
+            ap (λ k. reached (record { outboxes = set os target b'; waiting = w'; tried = ts }) k l) e
             ∙ ap (λ o. past (option_map_or (λ (c : OutboxView). sent_at c.sends.send_counts l) o (record { next = 0; over = true })) (on l (waits_in w' target))) r.is
             ∙ ap (λ s. past (sent_at s.send_counts l) (on l (waits_in w' target))) is_sends
             ∙ ap (λ zs. behind (after_offer b.sends x).send_counts zs l) waits-rest
             ∙ front-behind world b.sends.send_counts x (map (λ e. e.envelope) rest) are l
             ∙ ap (λ zs. behind b.sends.send_counts zs l) (sym waits-own)
             ∙ ap (λ o. past (option_map_or (λ (c : OutboxView). sent_at c.sends.send_counts l) o (record { next = 0; over = true })) (on l (waits_in w target))) (sym at)
-            ∙ ap (λ k. reached (record { outboxes = os; waiting = w }) k l) (sym e))
+            ∙ ap (λ k. reached (record { outboxes = os; waiting = w; tried = ts }) k l) (sym e))
             (λ (e : y ≡ target → ⊥).
             ap (λ o. past (option_map_or (λ (c : OutboxView). sent_at c.sends.send_counts l) o (record { next = 0; over = true })) (on l (waits_in w' y))) (r.others y e)
             ∙ ap (λ zs. past (option_map_or (λ (c : OutboxView). sent_at c.sends.send_counts l) (slice_get os y) (record { next = 0; over = true })) (on l zs)) (waits-other y e))
@@ -152,98 +152,43 @@ module _ (world : World) (os : List OutboxView) (w : WaitingView AdmittedView) (
             ap (λ s. has_stopped s l || option_map_or (λ (c : OutboxView). is_refused c.seat) (slice_get (set os target b') y) true) (takes.stopped y)
             ∙ ap (λ c. has_stopped (stops_for w y) l || c) (on-target (λ (c : OutboxView). is_refused c.seat) true os (set os target b') target b b' r (ap is_refused is_seat) y);
         stops = takes.stopped;
-        refuses = refuses-on os (set os target b') w w' target b b' r (λ e. ap is_refused is_seat ∙ e);
+        closed = closed-on os (set os target b') w w' target b b' r (λ e. ap (λ (s : SendSeatView). is_closed s.seen) is_seat ∙ e);
       }
 
-    -- ---- its queue was full, and it was put back
+  -- ---- its queue was full, and it was put back
 
-    module _ (b b' : OutboxView) (at : slice_get os target ≡ Some b) (same : b' ≡ record b { tried = true }) (w'' : WaitingView AdmittedView)
-        (back : (entries : List (Entry AdmittedView)) → Holds w entries → Holds w'' entries) (added : w''.added ≡ w.added) (stops : (y : ℕ) → stops_for w'' y ≡ stops_for w y) (targets : length w''.targets ≡ length w.targets) where
-      s : Replaces os (set os target b') target b b'
-      s = replaces-set os target b b' at
+  module _ (w' : WaitingView AdmittedView) (ts' : List ℕ) (back : (entries : List (Entry AdmittedView)) → Holds w entries → Holds w' entries) (added : w'.added ≡ w.added)
+      (stops : (y : ℕ) → stops_for w' y ≡ stops_for w y) (targets : length w'.targets ≡ length w.targets) where
+    waits-same : (y : ℕ) → waits_in w' y ≡ waits_in w y
+    waits-same y = waits-entries w' is.entries (back is.entries is.holds) y ∙ sym (waits-entries w is.entries is.holds y)
 
-      holds : Holds w'' is.entries
-      holds = back is.entries is.holds
+    pub full-hold : IsOutboxes world (record { outboxes = os; waiting = w'; tried = ts' })
+    full-hold = record {
+      entries = is.entries;
+      holds = back is.entries is.holds;
+      each = is.each;
+      targets = targets ∙ is.targets;
+      added = let a = is.added in omega (arith, a, added);
+      few = is.few;
+    }
 
-      waits-same : (y : ℕ) → waits_in w'' y ≡ waits_in w y
-      waits-same y = waits-entries w'' is.entries holds y ∙ sym (waits-entries w is.entries is.holds y)
+    pub full-offers : Offers (record { outboxes = os; waiting = w; tried = ts }) target Full (record { outboxes = os; waiting = w'; tried = ts' })
+    full-offers = record { each = λ y. record { waits = waits-same y; sends = refl }; holds = back }
 
-      pub full-hold : IsOutboxes world (record { outboxes = set os target b'; waiting = w'' })
-      full-hold =
-          let outbox = is.each target b at in
-          let made = ap (λ (o : OutboxView). o.seat.made) same in
-          outboxes-hold world os (set os target b') w w'' target b b' is s is.entries holds targets
-          (outbox-same world b b' own outbox (ap (λ (o : OutboxView). o.sends) same) (ap (λ (o : OutboxView). o.seat.kept) same) (let m = outbox.made in omega (arith, m, made)) (ap (λ (o : OutboxView). admitted_of o.seat) same))
-          (λ y other. refl) (omega (arith, added, made))
-
-      pub full-offers : Offers (record { outboxes = os; waiting = w }) target Full (record { outboxes = set os target b'; waiting = w'' })
-      full-offers = record {
-        each = λ y. record { waits = waits-same y; sends = on-some (λ (c : OutboxView). c.sends) os (set os target b') target b b' s (ap (λ (o : OutboxView). o.sends) same) y };
-        holds = back;
-      }
-
-      pub full-stays : Stays (record { outboxes = os; waiting = w }) (record { outboxes = set os target b'; waiting = w'' })
-      full-stays = record {
-        count = s.count;
-        reached = λ y l.
-            ap (λ p. past p (on l (waits_in w'' y))) (on-target (λ (c : OutboxView). sent_at c.sends.send_counts l) (record { next = 0; over = true }) os (set os target b') target b b' s (ap (λ (o : OutboxView). sent_at o.sends.send_counts l) same) y)
-            ∙ ap (λ zs. past (option_map_or (λ (c : OutboxView). sent_at c.sends.send_counts l) (slice_get os y) (record { next = 0; over = true })) (on l zs)) (waits-same y);
-        cut = λ y l.
-            ap (λ s. has_stopped s l || option_map_or (λ (c : OutboxView). is_refused c.seat) (slice_get (set os target b') y) true) (stops y)
-            ∙ ap (λ c. has_stopped (stops_for w y) l || c) (on-target (λ (c : OutboxView). is_refused c.seat) true os (set os target b') target b b' s (ap (λ (o : OutboxView). is_refused o.seat) same) y);
-        stops = stops;
-        refuses = refuses-on os (set os target b') w w'' target b b' s (λ e. ap (λ (o : OutboxView). is_refused o.seat) same ∙ e);
-      }
+    pub full-stays : Stays (record { outboxes = os; waiting = w; tried = ts }) (record { outboxes = os; waiting = w'; tried = ts' })
+    full-stays = record {
+      count = refl;
+      reached = λ y l. ap (λ zs. past (sent_to (record { outboxes = os; waiting = w; tried = ts }) y l) (on l zs)) (waits-same y);
+      cut = λ y l. ap (λ s. has_stopped s l || refuses (record { outboxes = os; waiting = w; tried = ts }) y) (stops y);
+      stops = stops;
+      closed = λ s. record { target = s.target; outbox = s.outbox; is = s.is; closed = s.closed };
+    }
 
 -- ---- a turn begins
 
-module _ (world : World) (os : List OutboxView) (w : WaitingView AdmittedView) (is : IsOutboxes world (record { outboxes = os; waiting = w })) (target : ℕ) (b b' : OutboxView) (at : slice_get os target ≡ Some b)
-    (same : b' ≡ record b { tried = false }) where
-  f : Replaces os (set os target b') target b b'
-  f = replaces-set os target b b' at
-
-  pub forget-hold : IsOutboxes world (record { outboxes = set os target b'; waiting = w })
-  forget-hold =
-      let outbox = is.each target b at in
-      let made = ap (λ (o : OutboxView). o.seat.made) same in
-      outboxes-hold world os (set os target b') w w target b b' is f is.entries is.holds refl
-      (outbox-same world b b' (filter (is_for target) is.entries) outbox (ap (λ (o : OutboxView). o.sends) same) (ap (λ (o : OutboxView). o.seat.kept) same) (let m = outbox.made in omega (arith, m, made)) (ap (λ (o : OutboxView). admitted_of o.seat) same))
-      (λ y other. refl) (omega (arith, made))
-
-  pub forget-forgets : Forgets (record { outboxes = os; waiting = w }) (record { outboxes = set os target b'; waiting = w })
-  forget-forgets = record {
-    waiting = refl;
-    same = λ y. record { waits = refl; sends = on-some (λ (c : OutboxView). c.sends) os (set os target b') target b b' f (ap (λ (o : OutboxView). o.sends) same) y };
-    stays = record {
-      count = f.count;
-      reached = λ y l. ap (λ p. past p (on l (waits_in w y))) (on-target (λ (c : OutboxView). sent_at c.sends.send_counts l) (record { next = 0; over = true }) os (set os target b') target b b' f (ap (λ (o : OutboxView). sent_at o.sends.send_counts l) same) y);
-      cut = λ y l. ap (λ c. has_stopped (stops_for w y) l || c) (on-target (λ (c : OutboxView). is_refused c.seat) true os (set os target b') target b b' f (ap (λ (o : OutboxView). is_refused o.seat) same) y);
-      stops = λ y. refl;
-      refuses = refuses-on os (set os target b') w w target b b' f (λ e. ap (λ (o : OutboxView). is_refused o.seat) same ∙ e);
-    };
-  }
-
-  pub forget-others : (y : ℕ) → was_tried (record { outboxes = os; waiting = w }) y ≡ false → was_tried (record { outboxes = set os target b'; waiting = w }) y ≡ false
-  forget-others y e = ⊎_elim
-      (λ (t : y ≡ target). ap (λ k. was_tried (record { outboxes = set os target b'; waiting = w }) k) t ∙ ap (λ o. option_map_or (λ (c : OutboxView). c.tried) o false) f.is ∙ ap (λ (o : OutboxView). o.tried) same)
-      (λ (t : y ≡ target → ⊥). ap (λ o. option_map_or (λ (c : OutboxView). c.tried) o false) (f.others y t) ∙ e)
-      (cases_eq y target)
-
-  pub forget-here : was_tried (record { outboxes = set os target b'; waiting = w }) target ≡ false
-  forget-here = ap (λ o. option_map_or (λ (c : OutboxView). c.tried) o false) f.is ∙ ap (λ (o : OutboxView). o.tried) same
-
-pub forgets-none : (o : OutboxesView) → Forgets o o
-forgets-none o = record { waiting = refl; same = λ y. record { waits = refl; sends = refl }; stays = record { count = refl; reached = λ y l. refl; cut = λ y l. refl; stops = λ y. refl; refuses = λ s. s } }
-
-pub forgets-then : (o p q : OutboxesView) → Forgets o p → Forgets p q → Forgets o q
-forgets-then o p q f g = record {
-  waiting = g.waiting ∙ f.waiting;
-  same = λ y. record { waits = (g.same y).waits ∙ (f.same y).waits; sends = (g.same y).sends ∙ (f.same y).sends };
-  stays = record {
-    count = g.stays.count ∙ f.stays.count;
-    reached = λ y l. g.stays.reached y l ∙ f.stays.reached y l;
-    cut = λ y l. g.stays.cut y l ∙ f.stays.cut y l;
-    stops = λ y. g.stays.stops y ∙ f.stays.stops y;
-    refuses = λ s. g.stays.refuses (f.stays.refuses s);
-  };
+pub forgets : (os : List OutboxView) (w : WaitingView AdmittedView) (ts ts' : List ℕ) → Forgets (record { outboxes = os; waiting = w; tried = ts }) (record { outboxes = os; waiting = w; tried = ts' })
+forgets os w ts ts' = record {
+  waiting = refl;
+  same = λ y. record { waits = refl; sends = refl };
+  stays = record { count = refl; reached = λ y l. refl; cut = λ y l. refl; stops = λ y. refl; closed = λ s. record { target = s.target; outbox = s.outbox; is = s.is; closed = s.closed } };
 }

@@ -1,9 +1,9 @@
 -- One outbox among all, and what waits for its target.
-use Rattle.std.proofs.Common.{◌≡◌, ◌≢◌, ℕ, suc, ◌+◌, ◌*◌, ◌<◌, ◌≤◌, ◌^◌, Bool, true, false, ◌||◌, List, [], ◌∷◌, length, map, set, slice_get, Option, Some, None, refl, ap, sym, ◌∙◌, subst, ⊎_elim, arith, ◌==◌}
+use Rattle.std.proofs.Common.{◌≡◌, ◌≢◌, ℕ, suc, ◌+◌, ◌*◌, ◌<◌, ◌≤◌, ◌^◌, Bool, true, List, [], ◌∷◌, length, map, set, slice_get, Option, Some, None, refl, ap, sym, ◌∙◌, subst, ⊎_elim, arith, ◌==◌}
 use Rattle.std.specs.Prelude.{IfSome}
 use Rattle.std.specs.List.{All, filter, sum_by, find}
 use Rattle.std.specs.Option.{option_map, option_map_or}
-use Rattle.std.proofs.lemmas.Bool.{cases_eq, eq-eqb, eqb-true, ne_eqb}
+use Rattle.std.proofs.lemmas.Bool.{cases_eq, eqb-true}
 use Rattle.std.proofs.lemmas.List.{length-set}
 use Rattle.std.proofs.lemmas.List.Elements.{All-nil, All-cons, All-head, All-tail}
 use Rattle.std.proofs.lemmas.List.Sums.{sum_by-set, sum_by-le, length-filter}
@@ -18,7 +18,7 @@ use Rattle.pl_words.specs.declared.admission.TheConstants.{MAX_ADMISSIONS}
 use Rattle.pl_words.specs.Admissions.{AdmittedView, admitted_of}
 use Rattle.pl_queue.specs.declared.views.SenderView.{SenderView}
 use Rattle.pl_executor.specs.Sent.{AreBehind}
-use Rattle.pl_executor.specs.OutboxViews.{OutboxView, OutboxesView, IsOutbox, IsOutboxes, waits_in, is_refused, SomeRefuses}
+use Rattle.pl_executor.specs.OutboxViews.{OutboxView, OutboxesView, IsOutbox, IsOutboxes, waits_in, is_closed, SomeClosed}
 
 -- ---- a list in which one outbox has changed
 
@@ -68,26 +68,15 @@ on-some f os os' target b b' r same y = ⊎_elim
     (λ (e : y ≡ target → ⊥). ap (option_map f) (r.others y e))
     (cases_eq y target)
 
--- a target that refuses goes on to do so
-pub refuses-on : (os os' : List OutboxView) (w w' : WaitingView AdmittedView) (target : ℕ) (b b' : OutboxView) → Replaces os os' target b b' → (is_refused b.seat ≡ true → is_refused b'.seat ≡ true)
-    → SomeRefuses (record { outboxes = os; waiting = w }) → SomeRefuses (record { outboxes = os'; waiting = w' })
-refuses-on os os' w w' target b b' r on s = ⊎_elim
+-- a target that was seen closed goes on to be so
+pub closed-on : (os os' : List OutboxView) (w w' : WaitingView AdmittedView) {ts ts' : List ℕ} (target : ℕ) (b b' : OutboxView) → Replaces os os' target b b' → (is_closed b.seat.seen ≡ true → is_closed b'.seat.seen ≡ true)
+    → SomeClosed (record { outboxes = os; waiting = w; tried = ts }) → SomeClosed (record { outboxes = os'; waiting = w'; tried = ts' })
+closed-on os os' w w' target b b' r on s = ⊎_elim
     (λ (e : s.target ≡ target).
     let same : s.outbox ≡ b = same_Some s.outbox b (sym s.is ∙ ap (λ k. slice_get os k) e ∙ r.was) in
-    record { target = target; outbox = b'; is = r.is; refused = on (ap (λ (o : OutboxView). is_refused o.seat) (sym same) ∙ s.refused) })
-    (λ (e : s.target ≡ target → ⊥). record { target = s.target; outbox = s.outbox; is = r.others s.target e ∙ s.is; refused = s.refused })
+    record { target = target; outbox = b'; is = r.is; closed = on (ap (λ (o : OutboxView). is_closed o.seat.seen) (sym same) ∙ s.closed) })
+    (λ (e : s.target ≡ target → ⊥). record { target = s.target; outbox = s.outbox; is = r.others s.target e ∙ s.is; closed = s.closed })
     (cases_eq s.target target)
-
--- an outbox whose queue was found full is tried, and the others are as they were
-pub tried-more : (os os' : List OutboxView) (target : ℕ) (b b' : OutboxView) → Replaces os os' target b b' → b'.tried ≡ true
-    → (y : ℕ) → option_map_or (λ o. o.tried) (slice_get os' y) false ≡ ((y == target) || option_map_or (λ o. o.tried) (slice_get os y) false)
-tried-more os os' target b b' r full y =
-    let rest = option_map_or (λ (o : OutboxView). o.tried) (slice_get os y) false in
-    ⊎_elim
-    (λ (e : y ≡ target).
-    ap (λ k. option_map_or (λ (o : OutboxView). o.tried) (slice_get os' k) false) e ∙ ap (λ o. option_map_or (λ (c : OutboxView). c.tried) o false) r.is ∙ full ∙ sym (ap (λ (c : Bool). c || rest) (eq-eqb y target e)))
-    (λ (e : y ≡ target → ⊥). ap (λ o. option_map_or (λ (c : OutboxView). c.tried) o false) (r.others y e) ∙ sym (ap (λ (c : Bool). c || rest) (ne_eqb y target e)))
-    (cases_eq y target)
 
 -- ---- what waits for a target
 
@@ -103,10 +92,10 @@ waits-entries w entries h y = by (slice_get w.targets y) refl
 -- ---- what holds between two calls
 
 -- One outbox has changed, and what waits for its target.
-pub outboxes-hold : (world : World) (os os' : List OutboxView) (w w' : WaitingView AdmittedView) (target : ℕ) (b b' : OutboxView) (is : IsOutboxes world (record { outboxes = os; waiting = w }))
+pub outboxes-hold : (world : World) (os os' : List OutboxView) (w w' : WaitingView AdmittedView) (target : ℕ) (b b' : OutboxView) {ts ts' : List ℕ} (is : IsOutboxes world (record { outboxes = os; waiting = w; tried = ts }))
     → Replaces os os' target b b' → (entries : List (Entry AdmittedView)) → Holds w' entries → length w'.targets ≡ length w.targets
     → IsOutbox world b' (filter (is_for target) entries) → ((y : ℕ) → y ≢ target → filter (is_for y) entries ≡ filter (is_for y) is.entries)
-    → w'.added + b.seat.made ≤ w.added + b'.seat.made → IsOutboxes world (record { outboxes = os'; waiting = w' })
+    → w'.added + b.seat.made ≤ w.added + b'.seat.made → IsOutboxes world (record { outboxes = os'; waiting = w'; tried = ts' })
 outboxes-hold world os os' w w' target b b' is r entries holds targets here others more = record {
   entries = entries;
   holds = holds;

@@ -32,6 +32,7 @@ use Rattle.pl_executor.specs.contracts.executors.Executor as executor
 use Rattle.pl_executor.specs.contracts.executors.Executor.TheInside as executor_inside
 use Rattle.pl_executor.proofs.inbox.Inbox.TheSendSync as inbox
 use Rattle.pl_executor.proofs.outbox.Outbox.TheSendSync as outbox
+use Rattle.pl_executor.proofs.tries.Tries.TheSendSync as tries
 
 admitted_send : IsSend admitted.the_row
 admitted_send = search sendable depth 20
@@ -50,7 +51,7 @@ module _ (a : NamedLft) (W M N S T : RattleType) (w : named.Ghosts W.Denot) (m :
   outboxes_send s y =
       let o = outbox.the_send a W M S T w m s y in
       let O = outboxes_inside.the_type a W M S T w m in
-      let all : AllSend (fields O) = (vec.the_send _ _ _ o global.the_send global_allocator.the_frees, (waiting_send, (waiters_send, (search sendable, tt)))) in
+      let all : AllSend (fields O) = (vec.the_send _ _ _ o global.the_send global_allocator.the_frees, (waiting_send, (tries.the_send, (waiters_send, (search sendable, tt))))) in
       view_send _ _ _ _ _ (recorded_send _ _ O.to O.to_one (struct_send (shape O) all))
 
   core_send : IsSend N → IsSend S → IsSync M → IsSend (core.the_field a W M N S T w m).row

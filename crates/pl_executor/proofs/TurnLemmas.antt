@@ -7,6 +7,7 @@ use Rattle.pl_context.specs.WaitingViews.{Entry, Holds}
 use Rattle.pl_words.specs.Admissions.{AdmittedView}
 use Rattle.pl_executor.specs.declared.outboxes.Offered.{Offered}
 use Rattle.pl_executor.specs.declared.outboxes.Offered.TheVariants.{Handed, Full, Nothing}
+use Rattle.pl_executor.specs.Tries.{is_tried}
 use Rattle.pl_executor.specs.OutboxViews.{OutboxesView, was_tried, oldest_untried, SameFor, Keeps, Sends, SendsNothing, Offers}
 use Rattle.pl_executor.specs.Turning.{SendsAtMostOne}
 
@@ -14,10 +15,10 @@ pub untried-same : (o o' : OutboxesView) (entries : List (Entry AdmittedView)) �
 untried-same o o' entries same = ap (λ (f : ℕ → Bool). option_map (λ (e : Entry AdmittedView). e.target) (find (λ e. not (f e.target)) entries)) (λ i y. same y i)
 
 pub nothing-none : (o : OutboxesView) → SendsNothing o o
-nothing-none o = record { sends = λ y. refl; tried = λ y. refl }
+nothing-none o = record { sends = λ y. refl; tried = refl }
 
 pub nothing-then : (o p q : OutboxesView) → SendsNothing o p → SendsNothing p q → SendsNothing o q
-nothing-then o p q f g = record { sends = λ y. g.sends y ∙ f.sends y; tried = λ y. g.tried y ∙ f.tried y }
+nothing-then o p q f g = record { sends = λ y. g.sends y ∙ f.sends y; tried = g.tried ∙ f.tried }
 
 -- ---- an offer that is not taken
 
@@ -40,12 +41,12 @@ offer-keeps o o' target Nothing not_handed offers = subst (λ (v : OutboxesView)
 pub hand-sends : (o p q : OutboxesView) (handed : Option ℕ) → IfSome handed (λ target. Sends o target p) → IfNone handed ((y : ℕ) → SameFor o p y)
     → ((entries : List (Entry AdmittedView)) → Holds o.waiting entries → handed ≡ oldest_untried p entries) → SendsNothing p q → SendsAtMostOne o q
 hand-sends o p q None sent none oldest rest = inl (record {
-  oldest = λ entries holds. untried-same p q entries rest.tried ∙ sym (oldest entries holds);
+  oldest = λ entries holds. untried-same p q entries (λ y. ap (λ ts. is_tried ts y) rest.tried) ∙ sym (oldest entries holds);
   sends = λ y. rest.sends y ∙ (none y).sends;
 })
 hand-sends o p q (Some target) sent none oldest rest = inr (record {
   target = target;
-  oldest = λ entries holds. untried-same p q entries rest.tried ∙ sym (oldest entries holds);
+  oldest = λ entries holds. untried-same p q entries (λ y. ap (λ ts. is_tried ts y) rest.tried) ∙ sym (oldest entries holds);
   envelope = sent.envelope;
   behind = _;
   first = sent.waits;

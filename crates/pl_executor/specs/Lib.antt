@@ -1,4 +1,5 @@
 pub mod Sent
+pub mod Tries
 pub mod OutboxViews
 pub mod Running
 pub mod Turning

@@ -21,17 +21,19 @@ use Rattle.pl_flow.specs.Flows.{Point, nowhere, after, on, past}
 use Rattle.pl_executor.specs.declared.outboxes.Offered.{Offered}
 use Rattle.pl_executor.specs.declared.outboxes.Offered.TheVariants.{Handed, Full, Nothing}
 use Rattle.pl_executor.specs.Sent.{sent_at, AreBehind}
+use Rattle.pl_executor.specs.Tries.{is_tried}
 
--- The way to one executor: what was sent there, the seat with the admissions, and whether its queue was full in this turn.
+-- The way to one executor: what was sent there, and the seat with the admissions.
 pub record OutboxView : Type 0 where
   pub sends : SenderView
   pub seat : SendSeatView
-  pub tried : Bool
 
--- The ways to all executors, by number, and what waits for them, each with its admission.
+-- The ways to all executors, by number; what waits for them, each with its admission; and the targets whose queue was full
+-- in this turn.
 pub record OutboxesView : Type 0 where
   pub outboxes : List OutboxView
   pub waiting : WaitingView AdmittedView
+  pub tried : List ℕ
 
 -- what waits for a target, the oldest first
 abbrev pub waits_in : {A : Type 0} → WaitingView A → ℕ → List Envelope
@@ -46,7 +48,7 @@ sends_for o target = option_map (λ b. b.sends) (slice_get o.outboxes target)
 
 -- its queue was full in this turn
 abbrev pub was_tried : OutboxesView → ℕ → Bool
-was_tried o target = option_map_or (λ b. b.tried) (slice_get o.outboxes target) false
+was_tried o target = is_tried o.tried target
 
 -- the target of the oldest of these entries, among the targets whose queue was not full in this turn
 abbrev pub oldest_untried : OutboxesView → List (Entry AdmittedView) → Option ℕ
@@ -66,19 +68,19 @@ is_closed Accepting = false
 is_closed Closing = false
 is_closed Closed = true
 
--- a seat that gets no admission from now on
+-- a seat that gets no admission from now on: it has seen its target closed, or is spent
 abbrev pub is_refused : SendSeatView → Bool
 is_refused seat = is_closed seat.seen || (seat.made == MAX_ADMISSIONS)
 
 abbrev pub refuses : OutboxesView → ℕ → Bool
 refuses o target = option_map_or (λ b. is_refused b.seat) (slice_get o.outboxes target) true
 
--- some target refuses all: its seat has seen it closed, or is spent
-pub record SomeRefuses (o : OutboxesView) : Type 0 where
+-- some seat has seen its target closed
+pub record SomeClosed (o : OutboxesView) : Type 0 where
   pub target : ℕ
   pub outbox : OutboxView
   pub is : slice_get o.outboxes target ≡ Some outbox
-  pub refused : is_refused outbox.seat ≡ true
+  pub closed : is_closed outbox.seat.seen ≡ true
 
 -- nothing more of a lane gets in for a target: it has stopped there, or the target refuses all
 abbrev pub is_cut : OutboxesView → ℕ → Lane → Bool
@@ -108,11 +110,11 @@ pub record IsOutboxes (world : World) (o : OutboxesView) : Type 0 where
 pub record Adds (o : OutboxesView) (target : ℕ) (x : Envelope) (o' : OutboxesView) : Type 0 where
   pub count : length o'.outboxes ≡ length o.outboxes
   pub sends : (y : ℕ) → sends_for o' y ≡ sends_for o y
-  pub tried : (y : ℕ) → was_tried o' y ≡ was_tried o y
+  pub tried : o'.tried ≡ o.tried
   pub others : (y : ℕ) → y ≢ target → (slice_get o'.outboxes y ≡ slice_get o.outboxes y) × (slice_get o'.waiting.targets y ≡ slice_get o.waiting.targets y)
   pub cut : (y : ℕ) (l : Lane) → is_cut o' y l ≡ false → is_cut o y l ≡ false
   pub reached : (y : ℕ) (l : Lane) → is_cut o' y l ≡ false → reached o' y l ≡ cond ((y == target) && same_lane l x.lane) (after x) (reached o y l)
-  pub refuses : SomeRefuses o → SomeRefuses o'
+  pub closed : SomeClosed o → SomeClosed o'
   pub placed : (lanes : List Lane) → AreAmong (x.lane ∷ []) lanes → HasPlaces (stops_for o.waiting target) lanes → HasPlaces (stops_for o'.waiting target) lanes
 
 -- What comes last for the target: the envelope, or what stands in for it, or nothing where its lane has stopped. There is
@@ -165,7 +167,7 @@ tried_after o target Nothing y = was_tried o y
 -- Nothing was sent, and no queue was found full.
 pub record SendsNothing (o o' : OutboxesView) : Type 0 where
   pub sends : (y : ℕ) → sends_for o' y ≡ sends_for o y
-  pub tried : (y : ℕ) → was_tried o' y ≡ was_tried o y
+  pub tried : o'.tried ≡ o.tried
 
 -- Each lane has come as far as before, and nothing was stopped or refused.
 pub record Stays (o o' : OutboxesView) : Type 0 where
@@ -173,7 +175,7 @@ pub record Stays (o o' : OutboxesView) : Type 0 where
   pub reached : (y : ℕ) (l : Lane) → reached o' y l ≡ reached o y l
   pub cut : (y : ℕ) (l : Lane) → is_cut o' y l ≡ is_cut o y l
   pub stops : (y : ℕ) → stops_for o'.waiting y ≡ stops_for o.waiting y
-  pub refuses : SomeRefuses o → SomeRefuses o'
+  pub closed : SomeClosed o → SomeClosed o'
 
 -- Nothing has changed, but which targets were tried.
 pub record Forgets (o o' : OutboxesView) : Type 0 where

@@ -4,7 +4,7 @@ use crossbeam_utils::sync::Unparker;
 use std::sync::atomic::{AtomicU64, Ordering};
 
 /// The most executors that are told apart among those that wait.
-const MAX_BITS: usize = 64;
+pub(crate) const MAX_BITS: usize = 64;
 
 /// So many envelopes are taken from a queue, at most, before those that wait for room there are woken.
 const MAX_UNTOLD: u64 = 56;
@@ -84,12 +84,16 @@ impl Waiters {
         }
     }
 
-    pub(crate) fn is_empty(self) -> bool {
-        self.bits == 0
+    /// How many bits are set.
+    pub(crate) fn count(self) -> u32 {
+        self.bits.count_ones()
     }
 
-    pub(crate) fn has(self, executor: usize) -> bool {
-        self.bits & bit_of(executor) != 0
+    /// Takes out the least bit that is set.
+    pub(crate) fn take_bit(&mut self) -> usize {
+        let bit = self.bits.trailing_zeros() as usize;
+        self.bits &= self.bits.wrapping_sub(1);
+        bit
     }
 }
 

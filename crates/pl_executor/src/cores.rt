@@ -7,7 +7,7 @@ ghost use Rattle.pl_context.specs.Stops.{HasPlaces};
 ghost use Rattle.pl_context.specs.WaitingViews.{Entry, Holds};
 ghost use Rattle.pl_words.specs.Admissions.{AdmittedView};
 ghost use Rattle.pl_flow.specs.Flows.{IsGood};
-ghost use Rattle.pl_executor.specs.OutboxViews.{SomeRefuses, SameFor, Sends, SendsNothing, oldest_untried};
+ghost use Rattle.pl_executor.specs.OutboxViews.{SomeClosed, SameFor, Sends, SendsNothing, oldest_untried};
 ghost use Rattle.pl_executor.specs.Running.{Runs};
 ghost use Rattle.pl_executor.specs.Serving.{ServesNone, ReadsAtMostOnce, WritesAtMostOnce};
 
@@ -16,6 +16,7 @@ use crate::part::Part;
 use pl_context::Outputs;
 use pl_event::{Envelope, Named};
 use pl_queue::Mailbox;
+use pl_words::Refused;
 use std::sync::Wait;
 
 /// The nodes of an executor, the list on which they put what they make, and what waits for others.
@@ -35,19 +36,20 @@ impl<'a, W: Named, M: Mailbox<W> + Drop, N: Part<W> + Drop> Core<'a, W, M, N>
 where
     M::Sender: Drop,
 {
-    /// Takes the front of the work list: a direct call, or an item for another executor, to its outbox. Where that refuses
-    /// it, the context that wrote it fails. False where the list is empty.
+    /// Takes the front of the work list: a direct call, or an item for another executor, to its outbox. Where that executor
+    /// is closed, the context that wrote it fails; where the seat is spent, the item is dropped, and its lane is cut. False
+    /// where the list is empty.
     pub fn step(&mut self) -> bool
         requires stands { N.stands self.old.part }
         requires home { N.home self.old.part ≡ self.old.number }
         requires places { HasPlaces self.old.work.stopped (N.lanes self.old.part) }
         requires runs { Runs W.world self.old.number (N.target_of self.old.part) (N.writes self.old.part) (N.taken_of self.old.part) (N.came self.old.part) self.old.outboxes self.old.work }
-        requires why { N.was_refused self.old.part ≡ true → SomeRefuses self.old.outboxes }
+        requires why { N.was_refused self.old.part ≡ true → SomeClosed self.old.outboxes }
         ensures stands { N.stands self.new.part }
         ensures home { N.home self.new.part ≡ self.new.number }
         ensures places { HasPlaces self.new.work.stopped (N.lanes self.new.part) }
         ensures runs { Runs W.world self.new.number (N.target_of self.new.part) (N.writes self.new.part) (N.taken_of self.new.part) (N.came self.new.part) self.new.outboxes self.new.work }
-        ensures why { N.was_refused self.new.part ≡ true → SomeRefuses self.new.outboxes }
+        ensures why { N.was_refused self.new.part ≡ true → SomeClosed self.new.outboxes }
         ensures number { self.new.number ≡ self.old.number }
         ensures routes { (l : Lane) → N.target_of self.new.part l ≡ N.target_of self.old.part l }
         ensures writes { (l : Lane) → N.writes self.new.part l ≡ N.writes self.old.part l }
@@ -66,7 +68,7 @@ where
             return true;
         }
         let lane = envelope.lane;
-        if let Err(_refused) = self.outboxes.add(target, envelope) {
+        if let Err(Refused::Closed) = self.outboxes.add(target, envelope) {
             self.part.refuse(lane, &mut self.work);
         }
         true
@@ -78,7 +80,7 @@ where
         requires home { N.home self.old.part ≡ self.old.number }
         requires places { HasPlaces self.old.work.stopped (N.lanes self.old.part) }
         requires runs { Runs W.world self.old.number (N.target_of self.old.part) (N.writes self.old.part) (N.taken_of self.old.part) (N.came self.old.part) self.old.outboxes self.old.work }
-        requires why { N.was_refused self.old.part ≡ true → SomeRefuses self.old.outboxes }
+        requires why { N.was_refused self.old.part ≡ true → SomeClosed self.old.outboxes }
         requires here { N.target_of self.old.part task.lane ≡ self.old.number }
         requires foreign { N.writes self.old.part task.lane ≡ false }
         requires number { task.number ≡ N.taken_of self.old.part task.lane }
@@ -87,7 +89,7 @@ where
         ensures home { N.home self.new.part ≡ self.new.number }
         ensures places { HasPlaces self.new.work.stopped (N.lanes self.new.part) }
         ensures runs { Runs W.world self.new.number (N.target_of self.new.part) (N.writes self.new.part) (N.taken_of self.new.part) (N.came self.new.part) self.new.outboxes self.new.work }
-        ensures why { N.was_refused self.new.part ≡ true → SomeRefuses self.new.outboxes }
+        ensures why { N.was_refused self.new.part ≡ true → SomeClosed self.new.outboxes }
         ensures number { self.new.number ≡ self.old.number }
         ensures routes { (l : Lane) → N.target_of self.new.part l ≡ N.target_of self.old.part l }
         ensures writes { (l : Lane) → N.writes self.new.part l ≡ N.writes self.old.part l }
@@ -105,12 +107,12 @@ where
         requires home { N.home self.old.part ≡ self.old.number }
         requires places { HasPlaces self.old.work.stopped (N.lanes self.old.part) }
         requires runs { Runs W.world self.old.number (N.target_of self.old.part) (N.writes self.old.part) (N.taken_of self.old.part) (N.came self.old.part) self.old.outboxes self.old.work }
-        requires why { N.was_refused self.old.part ≡ true → SomeRefuses self.old.outboxes }
+        requires why { N.was_refused self.old.part ≡ true → SomeClosed self.old.outboxes }
         ensures stands { N.stands self.new.part }
         ensures home { N.home self.new.part ≡ self.new.number }
         ensures places { HasPlaces self.new.work.stopped (N.lanes self.new.part) }
         ensures runs { Runs W.world self.new.number (N.target_of self.new.part) (N.writes self.new.part) (N.taken_of self.new.part) (N.came self.new.part) self.new.outboxes self.new.work }
-        ensures why { N.was_refused self.new.part ≡ true → SomeRefuses self.new.outboxes }
+        ensures why { N.was_refused self.new.part ≡ true → SomeClosed self.new.outboxes }
         ensures number { self.new.number ≡ self.old.number }
         ensures routes { (l : Lane) → N.target_of self.new.part l ≡ N.target_of self.old.part l }
         ensures writes { (l : Lane) → N.writes self.new.part l ≡ N.writes self.old.part l }
@@ -135,7 +137,7 @@ where
         requires home { N.home self.old.part ≡ self.old.number }
         requires places { HasPlaces self.old.work.stopped (N.lanes self.old.part) }
         requires runs { Runs W.world self.old.number (N.target_of self.old.part) (N.writes self.old.part) (N.taken_of self.old.part) (N.came self.old.part) self.old.outboxes self.old.work }
-        requires why { N.was_refused self.old.part ≡ true → SomeRefuses self.old.outboxes }
+        requires why { N.was_refused self.old.part ≡ true → SomeClosed self.old.outboxes }
         requires empty { self.old.work.items ≡ [] }
         ensures enabled { N.may_read self.old.part channel result }
         ensures idle { result ≡ false → self.new ≡ self.old }
@@ -143,7 +145,7 @@ where
         ensures home { N.home self.new.part ≡ self.new.number }
         ensures places { HasPlaces self.new.work.stopped (N.lanes self.new.part) }
         ensures runs { Runs W.world self.new.number (N.target_of self.new.part) (N.writes self.new.part) (N.taken_of self.new.part) (N.came self.new.part) self.new.outboxes self.new.work }
-        ensures why { N.was_refused self.new.part ≡ true → SomeRefuses self.new.outboxes }
+        ensures why { N.was_refused self.new.part ≡ true → SomeClosed self.new.outboxes }
         ensures number { self.new.number ≡ self.old.number }
         ensures routes { (l : Lane) → N.target_of self.new.part l ≡ N.target_of self.old.part l }
         ensures writes { (l : Lane) → N.writes self.new.part l ≡ N.writes self.old.part l }
@@ -167,7 +169,7 @@ where
         requires home { N.home self.old.part ≡ self.old.number }
         requires places { HasPlaces self.old.work.stopped (N.lanes self.old.part) }
         requires runs { Runs W.world self.old.number (N.target_of self.old.part) (N.writes self.old.part) (N.taken_of self.old.part) (N.came self.old.part) self.old.outboxes self.old.work }
-        requires why { N.was_refused self.old.part ≡ true → SomeRefuses self.old.outboxes }
+        requires why { N.was_refused self.old.part ≡ true → SomeClosed self.old.outboxes }
         requires empty { self.old.work.items ≡ [] }
         ensures enabled { N.may_write self.old.part channel result }
         ensures idle { result ≡ false → self.new ≡ self.old }
@@ -175,7 +177,7 @@ where
         ensures home { N.home self.new.part ≡ self.new.number }
         ensures places { HasPlaces self.new.work.stopped (N.lanes self.new.part) }
         ensures runs { Runs W.world self.new.number (N.target_of self.new.part) (N.writes self.new.part) (N.taken_of self.new.part) (N.came self.new.part) self.new.outboxes self.new.work }
-        ensures why { N.was_refused self.new.part ≡ true → SomeRefuses self.new.outboxes }
+        ensures why { N.was_refused self.new.part ≡ true → SomeClosed self.new.outboxes }
         ensures number { self.new.number ≡ self.old.number }
         ensures routes { (l : Lane) → N.target_of self.new.part l ≡ N.target_of self.old.part l }
         ensures writes { (l : Lane) → N.writes self.new.part l ≡ N.writes self.old.part l }
@@ -196,9 +198,9 @@ where
     /// where nothing waits but for queues that are full.
     pub fn hand<R: Wait>(&mut self, rt: &R) -> Option<usize>
         requires runs { Runs W.world self.old.number (N.target_of self.old.part) (N.writes self.old.part) (N.taken_of self.old.part) (N.came self.old.part) self.old.outboxes self.old.work }
-        requires why { N.was_refused self.old.part ≡ true → SomeRefuses self.old.outboxes }
+        requires why { N.was_refused self.old.part ≡ true → SomeClosed self.old.outboxes }
         ensures runs { Runs W.world self.new.number (N.target_of self.new.part) (N.writes self.new.part) (N.taken_of self.new.part) (N.came self.new.part) self.new.outboxes self.new.work }
-        ensures why { N.was_refused self.new.part ≡ true → SomeRefuses self.new.outboxes }
+        ensures why { N.was_refused self.new.part ≡ true → SomeClosed self.new.outboxes }
         ensures part { self.new.part ≡ self.old.part }
         ensures number { self.new.number ≡ self.old.number }
         ensures work { self.new.work ≡ self.old.work }

@@ -9,7 +9,7 @@ ghost use Rattle.pl_words.specs.declared.status.Status.TheVariants.{Accepting};
 ghost use Rattle.pl_words.specs.Phases.{rank};
 ghost use Rattle.pl_words.specs.Admissions.{AdmittedView, OwnerSeatView, new_owner_seat};
 ghost use Rattle.pl_executor.specs.declared.executors.Turn.TheVariants.{Worked, Idle, Done};
-ghost use Rattle.pl_executor.specs.OutboxViews.{waits_for, is_closed, SomeRefuses, SameFor, Sends, SendsNothing, oldest_untried};
+ghost use Rattle.pl_executor.specs.OutboxViews.{waits_for, is_closed, SomeClosed, SameFor, Sends, SendsNothing, oldest_untried};
 ghost use Rattle.pl_executor.specs.Running.{Runs, IsTaking};
 ghost use Rattle.pl_executor.specs.Serving.{ServesNone, ReadsAtMostOnce, WritesAtMostOnce, ServesAtMostOnce};
 ghost use Rattle.pl_executor.specs.Turning.{SendsAtMostOne, TakesAtMostOne, IsStill};
@@ -64,7 +64,7 @@ where
     M::Taker: Drop,
 {
     ghost use Rattle.std.specs.Prelude.{◌≡◌, ◌<◌, ◌^◌, [], true};
-    ghost use Rattle.pl_executor.specs.OutboxViews.{SomeRefuses};
+    ghost use Rattle.pl_executor.specs.OutboxViews.{SomeClosed};
     ghost use Rattle.pl_context.specs.Stops.{HasPlaces};
     ghost use Rattle.pl_executor.specs.Running.{ExecutorView, Runs, IsTaking, IsCounting};
 
@@ -77,7 +77,7 @@ where
         × HasPlaces e.core.work.stopped (N.lanes e.core.part)
         × Runs W.world e.core.number (N.target_of e.core.part) (N.writes e.core.part) (N.taken_of e.core.part) (N.came e.core.part) e.core.outboxes e.core.work
         × (e.core.work.items ≡ [])
-        × (N.was_refused e.core.part ≡ true → SomeRefuses e.core.outboxes)
+        × (N.was_refused e.core.part ≡ true → SomeClosed e.core.outboxes)
         × M.is_taker e.inbox.now.mailbox e.taker
         × IsTaking e.core.number (N.target_of e.core.part) (N.writes e.core.part) (N.taken_of e.core.part) (M.takes_of e.taker).counts
         × (e.owner.name ≡ e.inbox.now.admission.name)
@@ -102,7 +102,7 @@ where
         requires home { N.home core.part ≡ core.number }
         requires places { HasPlaces core.work.stopped (N.lanes core.part) }
         requires runs { Runs W.world core.number (N.target_of core.part) (N.writes core.part) (N.taken_of core.part) (N.came core.part) core.outboxes core.work }
-        requires why { N.was_refused core.part ≡ true → SomeRefuses core.outboxes }
+        requires why { N.was_refused core.part ≡ true → SomeClosed core.outboxes }
         requires empty { core.work.items ≡ [] }
         requires taker { M.is_taker inbox.now.mailbox taker }
         requires taking { IsTaking core.number (N.target_of core.part) (N.writes core.part) (N.taken_of core.part) (M.takes_of taker).counts }
@@ -139,6 +139,8 @@ where
         ensures closes { (self.new.owner ≡ self.old.owner) ⊎ N.are_over self.new.part }
         ensures later { rank self.old.owner.phase ≤ rank self.new.owner.phase }
         ensures count { is_closed self.new.owner.phase ≡ true → self.new.owner.run ≡ self.new.takes.pops }
+        // One of its nodes has failed by a refusal only where some seat has seen its target closed.
+        ensures why { N.was_refused self.new.part ≡ true → SomeClosed self.new.outboxes }
     {
         gate.enter(self.core.number as u16, self.turns);
         let has_moved = self.moves(rt, gate);

@@ -12,6 +12,7 @@ mod outboxes;
 mod part;
 mod start;
 mod threads;
+mod tries;
 
 pub use cores::Core;
 pub use executors::{Executor, Turn};

@@ -1,6 +1,6 @@
 //! The way to one executor.
 
-ghost use Rattle.std.specs.Prelude.{◌≡◌, ◌<◌, ◌≤◌, ◌^◌, ◌∷◌, [], IfOk, IfErr, MatchResult, Some, false, true};
+ghost use Rattle.std.specs.Prelude.{◌≡◌, ◌<◌, ◌≤◌, ◌^◌, ◌∷◌, [], IfOk, IfErr, MatchResult, Some, false};
 ghost use Rattle.pl_event.specs.Worlds.{FitsWorld};
 ghost use Rattle.pl_queue.specs.Views.{sent_of, after_offer};
 ghost use Rattle.pl_words.specs.Phases.{rank};
@@ -22,8 +22,6 @@ where
     inbox: &'a Inbox<W, M>,
     sender: M::Sender,
     seat: SendSeat,
-    /// Its queue was full in this turn.
-    tried: bool,
 }
 
 impl<'a, W: Named, M: Mailbox<W> + Drop> Model for Outbox<'a, W, M>
@@ -35,7 +33,7 @@ where
 
     ghost Value = { OutboxView };
 
-    ghost view = { λ o. record { sends = M.sends_of o.sender; seat = o.seat; tried = o.tried } };
+    ghost view = { λ o. record { sends = M.sends_of o.sender; seat = o.seat } };
 
     ghost invariant = { λ o. M.is_sender o.inbox.now.mailbox o.sender × (o.seat.name ≡ o.inbox.now.admission.name) };
 }
@@ -48,28 +46,13 @@ where
     pub fn new(inbox: &'a Inbox<W, M>, sender: M::Sender, seat: SendSeat) -> Self
         requires sender { M.is_sender inbox.now.mailbox sender }
         requires seat { seat.name ≡ inbox.now.admission.name }
-        ensures { result ≡ record { sends = M.sends_of sender; seat = seat; tried = false } }
+        ensures { result ≡ record { sends = M.sends_of sender; seat = seat } }
     {
         Outbox {
             inbox,
             sender,
             seat,
-            tried: false,
         }
-    }
-
-    /// Whether its queue was full in this turn.
-    pub(crate) fn was_tried(&self) -> bool
-        ensures { result ≡ self.now.tried }
-    {
-        self.tried
-    }
-
-    /// A new turn: its queue was not found full.
-    pub(crate) fn forget_try(&mut self)
-        ensures { self.new ≡ record self.old { tried = false } }
-    {
-        self.tried = false;
     }
 
     /// An admission, for one envelope.
@@ -99,19 +82,11 @@ where
         requires fits { FitsWorld W.world envelope }
         ensures { MatchResult result
             (λ _. self.new ≡ record self.old { sends = after_offer self.old.sends envelope })
-            (λ full. (full.envelope ≡ envelope) × (self.new ≡ record self.old { tried = true })) }
+            (λ full. (full.envelope ≡ envelope) × (self.new ≡ self.old)) }
     {
-        match self
-            .inbox
+        self.inbox
             .mailbox
             .offer::<R>(rt, &mut self.sender, envelope)
-        {
-            Ok(()) => Ok(()),
-            Err(full) => {
-                self.tried = true;
-                Err(full)
-            }
-        }
     }
 
     /// Wakes the executor.

@@ -1,15 +1,16 @@
 //! What an executor made for others, and has not handed over.
 
-ghost use Rattle.std.specs.Prelude.{◌≡◌, ℕ, List, [], ◌∷◌, ◌<◌, ◌^◌, ◌==◌, length, map, slice_get, All, IfOk, IfErr, IfSome, false, true, not};
-ghost use Rattle.std.specs.Option.{option_map_or};
+ghost use Rattle.std.specs.Prelude.{◌≡◌, ℕ, List, [], ◌∷◌, ◌<◌, ◌^◌, ◌==◌, length, map, All, IfOk, IfErr, IfSome, false, true, not};
 ghost use Rattle.pl_context.specs.Stops.{HasPlaces, no_stops};
 ghost use Rattle.pl_context.specs.WaitingViews.{Entry, Holds, stops_for};
 ghost use Rattle.pl_words.specs.Admissions.{AdmittedView};
 ghost use Rattle.pl_flow.specs.Flows.{IsNext};
+ghost use Rattle.pl_executor.specs.Tries.{is_tried};
 ghost use Rattle.pl_executor.specs.OutboxViews.{IsNew, waits_for, was_tried, oldest_untried, tried_after, reached, is_cut, Adds, Comes, RefusedBy, Offers, Stays, Forgets};
 
-use crate::bell::Waiters;
+use crate::bell::{MAX_BITS, Waiters};
 use crate::outbox::Outbox;
+use crate::tries::Tries;
 use pl_context::Waiting;
 use pl_event::{Envelope, Named};
 use pl_queue::{Full, Mailbox};
@@ -45,6 +46,8 @@ where
 {
     outboxes: Vec<Outbox<'a, W, M>>,
     waiting: Waiting<Admitted>,
+    /// The targets whose queue was found full in this turn.
+    tries: Tries,
     /// The executors to which something was sent, and which were not woken for it yet.
     unrung: Waiters,
     /// How many envelopes were sent to these.
@@ -55,13 +58,14 @@ impl<'a, W: Named, M: Mailbox<W> + Drop> Model for Outboxes<'a, W, M>
 where
     M::Sender: Drop,
 {
+    ghost use Rattle.std.specs.Prelude.{◌≡◌, length};
     ghost use Rattle.pl_executor.specs.OutboxViews.{OutboxesView, IsOutboxes};
 
     ghost Value = { OutboxesView };
 
-    ghost view = { λ o. record { outboxes = o.outboxes.items; waiting = o.waiting } };
+    ghost view = { λ o. record { outboxes = o.outboxes.items; waiting = o.waiting; tried = o.tries.tried } };
 
-    ghost invariant = { λ o. IsOutboxes W.world (record { outboxes = o.outboxes.items; waiting = o.waiting }) };
+    ghost invariant = { λ o. IsOutboxes W.world (record { outboxes = o.outboxes.items; waiting = o.waiting; tried = o.tries.tried }) × (o.tries.count ≡ length o.outboxes.items) };
 }
 
 impl<'a, W: Named, M: Mailbox<W> + Drop> Outboxes<'a, W, M>
@@ -79,10 +83,12 @@ where
         requires few { length outboxes.items < 2 ^ 16 }
         ensures outboxes { IfOk result (λ new. new.outboxes ≡ outboxes.entry.items) }
         ensures waits { IfOk result (λ new. (y : ℕ) → waits_for new y ≡ []) }
+        ensures tried { IfOk result (λ new. new.tried ≡ []) }
         ensures places { IfOk result (λ new. map (λ b. b.stopped) new.waiting.targets ≡ map no_stops places.now) }
     {
         Ok(Outboxes {
             waiting: Waiting::new(alloc, places)?,
+            tries: Tries::new(alloc, outboxes.len())?,
             outboxes,
             unrung: Waiters::none(),
             count: 0,
@@ -120,19 +126,7 @@ where
         ensures forgets { Forgets self.old self.new }
         ensures none { (y : ℕ) → was_tried self.new y ≡ false }
     {
-        for target in 0..self.outboxes.len() {
-            self.forget_try(target);
-        }
-    }
-
-    /// The queue of a target was not found full.
-    fn forget_try(&mut self, target: usize)
-        requires there { target < length self.old.outboxes }
-        ensures forgets { Forgets self.old self.new }
-        ensures here { was_tried self.new target ≡ false }
-        ensures others { (y : ℕ) → was_tried self.old y ≡ false → was_tried self.new y ≡ false }
-    {
-        self.outboxes[target].forget_try();
+        self.tries.clear();
     }
 
     /// The target of the oldest envelope, among the targets whose queue was not found full in this turn.
@@ -141,12 +135,11 @@ where
         ensures oldest { (entries : List (Entry AdmittedView)) → Holds self.now.waiting entries
             → result ≡ oldest_untried self.now entries }
     {
-        let outboxes = &self.outboxes;
+        let tries = &self.tries;
         self.waiting.oldest(
             |target|
-                requires { target < length outboxes.now.items }
-                ensures { result ≡ not (option_map_or (λ b. b.tried) (slice_get outboxes.entry.now.items target) false) }
-            { !outboxes[target].was_tried() },
+                ensures { result ≡ not (is_tried tries.entry.now.tried target) }
+            { !tries.has(target) },
         )
     }
 
@@ -170,6 +163,7 @@ where
             }
             Err(Full { envelope }) => {
                 self.waiting.put_back(target, envelope, admitted);
+                self.tries.add(target);
                 Offered::Full
             }
         }
@@ -185,8 +179,8 @@ where
 
     /// Notes at each queue that was found full in this turn that an executor waits for room there.
     pub(crate) fn note_waiting(&self, executor: usize) {
-        for outbox in &self.outboxes {
-            if outbox.was_tried() {
+        for &target in self.tries.as_slice() {
+            if let Some(outbox) = self.outboxes.get(target) {
                 outbox.note_waiting(executor);
             }
         }
@@ -214,12 +208,13 @@ where
 
     /// Wakes these executors.
     pub(crate) fn ring(&self, waiters: Waiters) {
-        if waiters.is_empty() {
-            return;
-        }
-        for (executor, outbox) in self.outboxes.iter().enumerate() {
-            if waiters.has(executor) {
-                outbox.ring();
+        let mut waiters = waiters;
+        for _ in 0..waiters.count() {
+            let bit = waiters.take_bit();
+            for block in self.outboxes.chunks(MAX_BITS) {
+                if let Some(outbox) = block.get(bit) {
+                    outbox.ring();
+                }
             }
         }
     }

@@ -16,7 +16,7 @@ loop-preserved g c = record {
   work = c.loop.invariant.work;
   keeps = keeps-then c.args.self.now.outboxes c.loop.self.outboxes c.offer.new.self c.loop.invariant.keeps
       (offer-keeps c.loop.self.outboxes c.offer.new.self c.in-Some-oldest.target c.offer.result c.in_default-offer.not-Handed c.offer.ensures.offers);
-  why = λ e. c.offer.ensures.stays.refuses (c.loop.invariant.why e);
+  why = λ e. c.offer.ensures.stays.closed (c.loop.invariant.why e);
   runs = runs-stay g.W.Named.world c.loop.self.number (g.N.Part.target_of c.loop.self.part) (g.N.Part.writes c.loop.self.part) (g.N.Part.taken_of c.loop.self.part) (g.N.Part.came c.loop.self.part)
       c.loop.self.outboxes c.offer.new.self c.loop.self.work c.loop.invariant.runs c.offer.ensures.stays;
 }

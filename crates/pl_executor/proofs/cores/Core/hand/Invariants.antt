@@ -1,5 +1,5 @@
 use Rattle.std.proofs.Common.{◌≡◌, true}
-use Rattle.pl_executor.specs.OutboxViews.{Keeps, SomeRefuses}
+use Rattle.pl_executor.specs.OutboxViews.{Keeps, SomeClosed}
 use Rattle.pl_executor.specs.Running.{Runs}
 use Rattle.pl_executor.proofs.cores.Core.hand.Given as goal
 
@@ -9,6 +9,6 @@ invariant-loop g l = record {
   part : l.self.part ≡ l.fn.self.part;
   work : l.self.work ≡ l.fn.self.work;
   keeps : Keeps l.fn.self.outboxes l.self.outboxes;
-  why : g.N.Part.was_refused l.self.part ≡ true → SomeRefuses l.self.outboxes;
+  why : g.N.Part.was_refused l.self.part ≡ true → SomeClosed l.self.outboxes;
   runs : Runs g.W.Named.world l.self.number (g.N.Part.target_of l.self.part) (g.N.Part.writes l.self.part) (g.N.Part.taken_of l.self.part) (g.N.Part.came l.self.part) l.self.outboxes l.self.work;
 }

@@ -54,8 +54,8 @@ add-requires-clause-next g c =
     c.args.self.now.outboxes c.args.self.now.work c.next.new.self c.in-Some.envelope c.requires.runs c.in-Some.ensures.front c.in-Some.ensures.stopped
     (λ e. c.if-target-self.false (c.target-target.ensures ∙ e)))
 
-pub returns-in-Err-clause-runs : goal.returns-in-Err-clause-runs
-returns-in-Err-clause-runs g c =
+pub returns-in-Err-Closed-clause-runs : goal.returns-in-Err-Closed-clause-runs
+returns-in-Err-Closed-clause-runs g c =
     let part = c.args.self.now.part in
     let part' = c.refuse.new.self in
     runs-on g.W.Named.world c.args.self.now.number (g.N.Part.target_of part) (g.N.Part.target_of part') (g.N.Part.writes part) (g.N.Part.writes part') (g.N.Part.taken_of part) (g.N.Part.taken_of part')
@@ -65,11 +65,16 @@ returns-in-Err-clause-runs g c =
     c.add.new.self (λ e. c.if-target-self.false (c.target-target.ensures ∙ e)) (subst (λ (k : ℕ). Adds c.args.self.now.outboxes k c.in-Some.envelope c.add.new.self) c.target-target.ensures c.add.ensures.adds))
     c.refuse.ensures.made c.refuse.ensures.routes c.refuse.ensures.writes c.refuse.ensures.taken
 
-pub returns-in_default-add-clause-runs : goal.returns-in_default-add-clause-runs
-returns-in_default-add-clause-runs g c =
+-- its seat is spent
+pub returns-else-target-self-clause-runs : goal.returns-else-target-self-clause-runs
+returns-else-target-self-clause-runs g c =
     away-added g.W.Named.world c.args.self.now.number (g.N.Part.target_of c.args.self.now.part) (g.N.Part.writes c.args.self.now.part) (g.N.Part.taken_of c.args.self.now.part) (g.N.Part.came c.args.self.now.part)
     c.args.self.now.outboxes c.args.self.now.work c.next.new.self c.in-Some.envelope c.requires.runs c.in-Some.ensures.front c.in-Some.ensures.stopped
     c.add.new.self (λ e. c.if-target-self.false (c.target-target.ensures ∙ e)) (subst (λ (k : ℕ). Adds c.args.self.now.outboxes k c.in-Some.envelope c.add.new.self) c.target-target.ensures c.add.ensures.adds)
 
-pub returns-in_default-add-clause-why : goal.returns-in_default-add-clause-why
-returns-in_default-add-clause-why g c = λ e. c.add.ensures.adds.refuses (c.requires.why e)
+-- it waits there
+pub returns-else-target-self-2-clause-runs : goal.returns-else-target-self-2-clause-runs
+returns-else-target-self-2-clause-runs g c =
+    away-added g.W.Named.world c.args.self.now.number (g.N.Part.target_of c.args.self.now.part) (g.N.Part.writes c.args.self.now.part) (g.N.Part.taken_of c.args.self.now.part) (g.N.Part.came c.args.self.now.part)
+    c.args.self.now.outboxes c.args.self.now.work c.next.new.self c.in-Some.envelope c.requires.runs c.in-Some.ensures.front c.in-Some.ensures.stopped
+    c.add.new.self (λ e. c.if-target-self.false (c.target-target.ensures ∙ e)) (subst (λ (k : ℕ). Adds c.args.self.now.outboxes k c.in-Some.envelope c.add.new.self) c.target-target.ensures c.add.ensures.adds)

@@ -1,7 +1,7 @@
 use Rattle.std.proofs.Common.{◌≡◌, false, true}
 use Rattle.pl_event.specs.declared.envelopes.Lane.{Lane}
 use Rattle.pl_context.specs.Stops.{HasPlaces}
-use Rattle.pl_executor.specs.OutboxViews.{SendsNothing, SomeRefuses}
+use Rattle.pl_executor.specs.OutboxViews.{SendsNothing, SomeClosed}
 use Rattle.pl_executor.specs.Running.{Runs}
 use Rattle.pl_executor.specs.Serving.{ServesNone}
 use Rattle.pl_executor.proofs.cores.Core.work_off.Given as goal
@@ -17,7 +17,7 @@ invariant-loop g l = record {
   sends : SendsNothing l.fn.self.outboxes l.self.outboxes;
   home : g.N.Part.home l.self.part ≡ l.self.number;
   places : HasPlaces l.self.work.stopped (g.N.Part.lanes l.self.part);
-  why : g.N.Part.was_refused l.self.part ≡ true → SomeRefuses l.self.outboxes;
+  why : g.N.Part.was_refused l.self.part ≡ true → SomeClosed l.self.outboxes;
   stands : g.N.Part.stands l.self.part;
   runs : Runs g.W.Named.world l.self.number (g.N.Part.target_of l.self.part) (g.N.Part.writes l.self.part) (g.N.Part.taken_of l.self.part) (g.N.Part.came l.self.part) l.self.outboxes l.self.work;
 }

@@ -5,6 +5,6 @@ use Rattle.pl_executor.proofs.outboxes.Outboxes.is_empty.Goals as goal
 
 pub returns-clause-empty : goal.returns-clause-empty
 returns-clause-empty g c = λ e.
-    let is = c.self.invariant in
+    let is = c.self.invariant.0 in
     subst (λ (v : OutboxesView). (y : ℕ) → waits_for v y ≡ []) c.self.view_is
     (none-wait c.self.inside.waiting is.entries is.holds (sym (c.is_empty.ensures is.entries is.holds) ∙ e))

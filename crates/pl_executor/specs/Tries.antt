@@ -1,0 +1,16 @@
+-- The targets whose queue was found full in a turn.
+use Rattle.std.specs.Prelude.{◌≡◌, ℕ, ◌<◌, ◌==◌, Bool, true, List}
+use Rattle.std.specs.List.{list_any, IsDistinct}
+
+-- Which were tried, of how many.
+pub record TriesView : Type 0 where
+  pub tried : List ℕ
+  pub count : ℕ
+
+abbrev pub is_tried : List ℕ → ℕ → Bool
+is_tried tried target = list_any (λ t. target == t) tried
+
+-- None is noted twice, and each is there.
+pub record IsTries (v : TriesView) : Type 0 where
+  pub distinct : IsDistinct (λ a b. a == b) v.tried
+  pub there : (target : ℕ) → is_tried v.tried target ≡ true → target < v.count
