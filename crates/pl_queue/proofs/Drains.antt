@@ -13,8 +13,8 @@ use Rattle.pl_queue.specs.declared.views.PassView.{PassView}
 use Rattle.pl_queue.specs.Views.{send_count, set_send_count, lanes_of_send_counts, has_lane, take_count, sent_of, next_of, set_take_count, lanes_of_counts, taken as after}
 use Rattle.pl_queue.specs.Rule.{IsRun, Each, IsNext, BothSee}
 use Rattle.pl_queue.specs.Left.{lanes_left, LaneLeftView, held, put_held, taken_count, handed_count, unheld, IsLeft, IsEntry, IsLeftSoFar, IsEntrySoFar, Apart, AreAll, IsEmptying, IsAllLeft}
-use Rattle.pl_queue.specs.Places.{IsPlaced}
-use Rattle.pl_queue.proofs.PlaceLemmas.{lanes_left-handed, lanes_left-taken, next_of-has}
+use Rattle.pl_queue.specs.Positions.{ArePositions}
+use Rattle.pl_queue.proofs.PositionLemmas.{lanes_left-handed, lanes_left-taken, next_of-has}
 use Rattle.pl_queue.proofs.Lists.{IsRun-snoc, Each-snoc, Each-weaker, map-append, none-some, some-equal}
 
 pub Each-with : {A : Type 0} (P Q R : A → Type 0) → ((x : A) → P x → Q x → R x) → (xs : List A) → Each P xs → Each Q xs → Each R xs
@@ -106,15 +106,15 @@ module _ (world : World) (send_counts : List SendCount) where
         h.entries;
   }
 
-  -- the front has an entry, at the place of its lane
+  -- the front has an entry, at the position of its lane
   pub emptying-there : (first : List TakeCount) (v : PassView) (hs : List LaneLeftView) (x : Envelope) → IsEmptying world send_counts first v hs → IsNext world v x
       → has_lane x.lane (lanes_left hs) ≡ true
   emptying-there first v hs x h n =
       ap (λ ls. has_lane x.lane ls) (lanes_left-handed hs) ∙ next_of-has x.lane (map handed_count hs) x.number (ap (λ ms. next_of x.lane ms) h.handed ∙ n.number)
 
-  pub emptying-placed : (first : List TakeCount) (v : PassView) (hs : List LaneLeftView) (rows : List (Vec ℕ)) → IsEmptying world send_counts first v hs → IsPlaced rows 0 (lanes_of_counts first)
-      → IsPlaced rows 0 (lanes_left hs)
-  emptying-placed first v hs rows h p = subst (λ ls. IsPlaced rows 0 ls) (sym (lanes_left-taken hs ∙ ap lanes_of_counts h.taken)) p
+  pub emptying-positions : (first : List TakeCount) (v : PassView) (hs : List LaneLeftView) (rows : List (Vec ℕ)) → IsEmptying world send_counts first v hs → ArePositions rows 0 (lanes_of_counts first)
+      → ArePositions rows 0 (lanes_left hs)
+  emptying-positions first v hs rows h p = subst (λ ls. ArePositions rows 0 ls) (sym (lanes_left-taken hs ∙ ap lanes_of_counts h.taken)) p
 
 others : (f : LaneLeftView → ℕ) (l : Lane) (hs : List LaneLeftView) → Each (λ m. same_lane l m ≡ false) (lanes_of_counts (map (λ (h : LaneLeftView). take_count h.lane (f h)) hs))
     → Each (λ (h : LaneLeftView). same_lane h.lane l ≡ false) hs

@@ -1,7 +1,7 @@
 pub mod Lists
 pub mod Steps
 pub mod Drains
-pub mod PlaceLemmas
+pub mod PositionLemmas
 pub mod LimitLemmas
 pub mod RoomLemmas
 mod TakerLemmas

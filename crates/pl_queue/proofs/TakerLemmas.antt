@@ -9,7 +9,7 @@ use Rattle.pl_queue.specs.declared.views.SenderView.{SenderView}
 use Rattle.pl_queue.specs.declared.views.TakeCount.{TakeCount}
 use Rattle.pl_queue.specs.Left.{Apart, IsTaking, all_lanes, send_counts_of}
 use Rattle.pl_queue.specs.Limits.{is_within}
-use Rattle.pl_queue.specs.Places.{IsPlaced}
+use Rattle.pl_queue.specs.Positions.{ArePositions}
 use Rattle.pl_queue.specs.Rule.{Each}
 use Rattle.pl_queue.specs.Views.{view_of, no_sends, takes, fresh_sends, fresh_take_counts, lanes_of_counts}
 use Rattle.pl_queue.proofs.LimitLemmas.{few-counts}
@@ -22,15 +22,15 @@ pub counts-few : (lanes : List (List Lane)) (capacity : ℕ) (counts : List Take
 counts-few lanes capacity counts within e = subst (λ ms. length ms ≤ 8192) (sym e) (few-counts lanes capacity within)
 
 pub begins-taking : (v : PassView) (counts : List TakeCount) (rows : List (Vec ℕ)) (lanes : List Lane) → v ≡ view_of true no_sends (takes (fresh_take_counts lanes) 0)
-    → counts ≡ fresh_take_counts lanes → Apart lanes → IsPlaced rows 0 (lanes_of_counts counts) → IsTaking v counts rows × (v.takes ≡ takes (fresh_take_counts lanes) 0)
-begins-taking v counts rows lanes is made apart placed =
+    → counts ≡ fresh_take_counts lanes → Apart lanes → ArePositions rows 0 (lanes_of_counts counts) → IsTaking v counts rows × (v.takes ≡ takes (fresh_take_counts lanes) 0)
+begins-taking v counts rows lanes is made apart positions =
     let same : v.takes.counts ≡ fresh_take_counts lanes = ap (λ (w : PassView). w.takes.counts) is in (
       record {
         taker = ap (λ (w : PassView). w.taker) is;
         send_counts = ap (λ (w : PassView). w.sends.send_counts) is;
         counts_are = made ∙ sym same;
         apart = counts-apart lanes v.takes.counts same apart;
-        placed = subst (λ ms. IsPlaced rows 0 (lanes_of_counts ms)) (made ∙ sym same) placed;
+        positions = subst (λ ms. ArePositions rows 0 (lanes_of_counts ms)) (made ∙ sym same) positions;
       },
       ap (λ (w : PassView). w.takes) is,
     )

@@ -11,7 +11,7 @@ use Rattle.pl_queue.specs.declared.views.SenderView.{SenderView}
 use Rattle.pl_queue.specs.declared.views.PassView.{PassView}
 use Rattle.pl_queue.specs.declared.left.LaneLeft.{LaneLeft}
 use Rattle.pl_queue.specs.Views.{take_count, sent_of, next_of, lanes_of_counts}
-use Rattle.pl_queue.specs.Places.{IsPlaced}
+use Rattle.pl_queue.specs.Positions.{ArePositions}
 use Rattle.pl_queue.specs.Rule.{IsRun, Each}
 
 -- an entry, with the list of its envelopes
@@ -90,7 +90,7 @@ pub record IsTaking (v : PassView) (counts : List TakeCount) (rows : List (Vec �
   pub send_counts : v.sends.send_counts ≡ []
   pub counts_are : counts ≡ v.takes.counts
   pub apart : Apart (lanes_of_counts v.takes.counts)
-  pub placed : IsPlaced rows 0 (lanes_of_counts v.takes.counts)
+  pub positions : ArePositions rows 0 (lanes_of_counts v.takes.counts)
 
 -- each lane of the taker's stands in some sender's send_counts
 abbrev pub AreAll : List SendCount → List TakeCount → Type 0

@@ -1,6 +1,6 @@
 pub mod Views
 pub mod Limits
-pub mod Places
+pub mod Positions
 pub mod Rule
 pub mod Left
 pub mod Ring

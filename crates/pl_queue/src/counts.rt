@@ -3,23 +3,23 @@
 ghost use Rattle.std.specs.Prelude.{◌≡◌, ◌<◌, ◌≤◌, ◌++◌, map, IfOk, true};
 ghost use Rattle.pl_queue.specs.Left.{all_lanes};
 ghost use Rattle.pl_queue.specs.Limits.{is_within as is_within_limits};
-ghost use Rattle.pl_queue.specs.Places.{IsPlaced};
+ghost use Rattle.pl_queue.specs.Positions.{ArePositions};
 ghost use Rattle.pl_queue.specs.Views.{set_take_count, fresh_take_counts, lanes_of_counts, has_lane};
 
 use crate::limits::{MAX_CAPACITY, MAX_LANES, MAX_SENDERS};
-use crate::places::Places;
+use crate::positions::Positions;
 use crate::views::TakeCount;
 use pl_event::Lane;
 use std::alloc::{AllocError, Global};
 
-/// Sets the next number of a lane, at its place.
-pub fn set_next(counts: &mut Vec<TakeCount>, places: &Places, lane: Lane, next: u64)
-    requires placed { IsPlaced places.now.rows.items 0 (lanes_of_counts counts.old.items) }
+/// Sets the next number of a lane, at its position.
+pub fn set_next(counts: &mut Vec<TakeCount>, positions: &Positions, lane: Lane, next: u64)
+    requires positions { ArePositions positions.now.rows.items 0 (lanes_of_counts counts.old.items) }
     requires there { has_lane lane (lanes_of_counts counts.old.items) ≡ true }
     ensures { counts.new.items ≡ set_take_count lane next counts.old.items }
 {
-    let place = places.find(lane);
-    counts[place].next = next;
+    let position = positions.find(lane);
+    counts[position].next = next;
 }
 
 /// Adds a count at 0 for each of these lanes.

@@ -2,10 +2,10 @@
 
 ghost use Rattle.std.specs.Prelude.{◌≡◌, ◌<◌, ◌^◌, map, IfOk, true};
 ghost use Rattle.pl_queue.specs.Left.{held_of, lanes_left, put_held, unheld};
-ghost use Rattle.pl_queue.specs.Places.{IsPlaced};
+ghost use Rattle.pl_queue.specs.Positions.{ArePositions};
 ghost use Rattle.pl_queue.specs.Views.{has_lane};
 
-use crate::places::Places;
+use crate::positions::Positions;
 use crate::views::TakeCount;
 use pl_event::{Envelope, Lane};
 use std::alloc::{AllocError, Global};
@@ -47,15 +47,15 @@ pub fn entries(alloc: Global, counts: &[TakeCount]) -> Result<Vec<LaneLeft>, All
 /// Puts an envelope into its lane's entry.
 pub fn put(
     entries: &mut Vec<LaneLeft>,
-    places: &Places,
+    positions: &Positions,
     envelope: Envelope,
 ) -> Result<(), AllocError>
     requires small { envelope.number < 2 ^ 32 }
-    requires placed { IsPlaced places.now.rows.items 0 (lanes_left (map held_of entries.old.items)) }
+    requires positions { ArePositions positions.now.rows.items 0 (lanes_left (map held_of entries.old.items)) }
     requires there { has_lane envelope.lane (lanes_left (map held_of entries.old.items)) ≡ true }
     ensures { IfOk result (λ _. map held_of entries.new.items ≡ put_held envelope (map held_of entries.old.items)) }
 {
-    let entry = &mut entries[places.find(envelope.lane)];
+    let entry = &mut entries[positions.find(envelope.lane)];
     entry.handed = envelope.number + 1;
     entry.left.push(envelope)?;
     Ok(())

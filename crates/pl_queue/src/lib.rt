@@ -18,7 +18,7 @@ mod counts;
 mod left;
 mod limits;
 mod mailbox;
-mod places;
+mod positions;
 mod queues;
 mod ring;
 mod room_laws;

@@ -75,7 +75,7 @@ impl<W: Named> Mailbox<W> for RingBox<W> {
 
     ghost is_sender = { λ q s. IsPassOf q.queue s.pass };
 
-    ghost is_taker = { λ q t. IsPassOf q.queue t.pass × IsTaking (view t.pass) t.counts.items t.places.rows.items };
+    ghost is_taker = { λ q t. IsPassOf q.queue t.pass × IsTaking (view t.pass) t.counts.items t.positions.rows.items };
 
     fn open(
         alloc: Global,
@@ -119,7 +119,7 @@ impl<W: Named> Mailbox<W> for RingBox<W> {
         taker: RingTaker<W>,
     ) -> Result<Left, AllocError>
         requires senders { Each (λ s. IsPassOf self.queue s.pass) senders.items }
-        requires taker { IsPassOf self.queue taker.pass × IsTaking (view taker.pass) taker.counts.items taker.places.rows.items }
+        requires taker { IsPassOf self.queue taker.pass × IsTaking (view taker.pass) taker.counts.items taker.positions.rows.items }
         requires all { AreAll (send_counts_of (map (λ s. sends_by s.pass) senders.items)) (takes_by taker.pass).counts }
         ensures left { IfOk result (λ left. IsAllLeft W.world (send_counts_of (map (λ s. sends_by s.pass) senders.items)) (takes_by taker.pass).counts (map held_of left.lanes.items)) }
     {

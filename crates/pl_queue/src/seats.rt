@@ -5,7 +5,7 @@ ghost use Rattle.pl_event.specs.declared.envelopes.Lane.{Lane};
 ghost use Rattle.pl_event.specs.Worlds.{FitsWorld};
 ghost use Rattle.pl_queue.specs.declared.mailbox.OpenRefusal.TheVariants.{Memory};
 ghost use Rattle.pl_queue.specs.Limits.{opening_fault};
-ghost use Rattle.pl_queue.specs.Places.{IsPlaced};
+ghost use Rattle.pl_queue.specs.Positions.{ArePositions};
 ghost use Rattle.pl_queue.specs.Rule.{TakerSees, WasOnce, Each};
 ghost use Rattle.pl_queue.specs.Views.{next_of, has_lane, after_take, dealing, view_of as the_view_of, newcomer, no_sends, takes, fresh_sends, fresh_take_counts, lanes_of_counts};
 ghost use Rattle.pl_queue.specs.Left.{held_of, send_counts_of, Apart, all_lanes, IsTaking, AreAll, IsEmptying, IsAllLeft};
@@ -13,7 +13,7 @@ ghost use Rattle.pl_queue.specs.Left.{held_of, send_counts_of, Apart, all_lanes,
 use crate::counts::{all_counts, is_within, set_next};
 use crate::left::{LaneLeft, Left, entries, put};
 use crate::mailbox::OpenRefusal;
-use crate::places::Places;
+use crate::positions::Positions;
 use crate::queues::RuledQueue;
 use crate::rule::Dealt;
 use crate::views::TakeCount;
@@ -36,7 +36,7 @@ pub struct Taker<W, P: Drop> {
     /// Its next number of each lane, in the order of `open`.
     counts: Vec<TakeCount>,
     /// Where the count of each lane stands.
-    places: Places,
+    positions: Positions,
     of: PhantomData<W>,
 }
 
@@ -88,19 +88,19 @@ pub fn open_over<W: Named, Q: RuledQueue<W> + Drop>(
     ensures refused { IfErr result (λ refusal. refusal ≡ unwrap_or (opening_fault (map (λ v. v.items) lanes.items) capacity) Memory) }
     ensures opened { IfOk result (λ r. (opening_fault (map (λ v. v.items) lanes.items) capacity ≡ None) × (Q.most r.0 ≡ capacity)) }
     ensures senders { IfOk result (λ r. Each (λ s. Q.is_pass r.0 s.pass) r.1.items × (map (λ s. (Q.view_of s.pass).sends) r.1.items ≡ map (λ v. fresh_sends v.items) lanes.items)) }
-    ensures taker { IfOk result (λ r. (Q.is_pass r.0 r.2.pass × IsTaking (Q.view_of r.2.pass) r.2.counts.items r.2.places.rows.items) × ((Q.view_of r.2.pass).takes ≡ takes (fresh_take_counts (all_lanes (map (λ v. v.items) lanes.items))) 0)) }
+    ensures taker { IfOk result (λ r. (Q.is_pass r.0 r.2.pass × IsTaking (Q.view_of r.2.pass) r.2.counts.items r.2.positions.rows.items) × ((Q.view_of r.2.pass).takes ≡ takes (fresh_take_counts (all_lanes (map (λ v. v.items) lanes.items))) 0)) }
 {
     if !is_within(lanes.as_slice(), capacity) {
         return Err(OpenRefusal::Limit);
     }
     let (queue, mut pass) = Q::make(alloc, capacity)?;
     let counts = all_counts(alloc, lanes.as_slice())?;
-    let places = Places::new(alloc, counts.as_slice())?;
+    let positions = Positions::new(alloc, counts.as_slice())?;
     let senders = deal_all::<W, Q>(alloc, &queue, &mut pass, lanes.as_slice())?;
     let taker = Taker {
         pass,
         counts,
-        places,
+        positions,
         of: PhantomData,
     };
     Ok((queue, senders, taker))
@@ -112,8 +112,8 @@ pub fn take_front<W: Named, Q: RuledQueue<W>, R: Wait>(
     queue: &Q,
     taker: &mut Taker<W, Q::Pass>,
 ) -> Option<Envelope>
-    requires taker { Q.is_pass queue.now taker.old.pass × IsTaking (Q.view_of taker.old.pass) taker.old.counts.items taker.old.places.rows.items }
-    ensures taker { Q.is_pass queue.now taker.new.pass × IsTaking (Q.view_of taker.new.pass) taker.new.counts.items taker.new.places.rows.items }
+    requires taker { Q.is_pass queue.now taker.old.pass × IsTaking (Q.view_of taker.old.pass) taker.old.counts.items taker.old.positions.rows.items }
+    ensures taker { Q.is_pass queue.now taker.new.pass × IsTaking (Q.view_of taker.new.pass) taker.new.counts.items taker.new.positions.rows.items }
     ensures taken { MatchOption result
         (((Q.view_of taker.new.pass).takes ≡ (Q.view_of taker.old.pass).takes) × WasOnce 0 (TakerSees W.world (Q.view_of taker.old.pass).takes))
         (λ x. (next_of x.lane (Q.view_of taker.old.pass).takes.counts ≡ Some x.number) × (x.number < 2 ^ 32) × FitsWorld W.world x × ((Q.view_of taker.new.pass).takes ≡ after_take (Q.view_of taker.old.pass).takes x)) }
@@ -121,7 +121,7 @@ pub fn take_front<W: Named, Q: RuledQueue<W>, R: Wait>(
     let envelope = queue.pop::<R>(rt, &mut taker.pass)?;
     set_next(
         &mut taker.counts,
-        &taker.places,
+        &taker.positions,
         envelope.lane,
         envelope.number + 1,
     );
@@ -155,18 +155,18 @@ fn empty<W: Named, Q: RuledQueue<W>, R: Wait>(
     queue: &Q,
     pass: &mut Q::Pass,
     all: &mut Vec<LaneLeft>,
-    places: &Places,
+    positions: &Positions,
 ) -> Result<(), AllocError>
     requires pass { Q.is_pass queue.now pass.old }
     requires emptying { IsEmptying W.world (Q.view_of pass.old).sends.send_counts (Q.view_of pass.old).takes.counts (Q.view_of pass.old) (map held_of all.old.items) }
     requires apart { Apart (lanes_of_counts (Q.view_of pass.old).takes.counts) }
-    requires placed { IsPlaced places.now.rows.items 0 (lanes_of_counts (Q.view_of pass.old).takes.counts) }
+    requires positions { ArePositions positions.now.rows.items 0 (lanes_of_counts (Q.view_of pass.old).takes.counts) }
     requires lanes { AreAll (Q.view_of pass.old).sends.send_counts (Q.view_of pass.old).takes.counts }
     ensures { IfOk result (λ _. IsAllLeft W.world (Q.view_of pass.old).sends.send_counts (Q.view_of pass.old).takes.counts (map held_of all.new.items)) }
 {
     for _ in rt.forever() {
         match queue.pop::<R>(rt, pass) {
-            Some(envelope) => put(all, places, envelope)?,
+            Some(envelope) => put(all, positions, envelope)?,
             None => return Ok(()),
         }
     }
@@ -182,18 +182,18 @@ pub fn finish_over<W: Named, Q: RuledQueue<W>, R: Wait>(
     taker: Taker<W, Q::Pass>,
 ) -> Result<Left, AllocError>
     requires senders { Each (λ s. Q.is_pass queue.now s.pass) senders.items }
-    requires taker { Q.is_pass queue.now taker.pass × IsTaking (Q.view_of taker.pass) taker.counts.items taker.places.rows.items }
+    requires taker { Q.is_pass queue.now taker.pass × IsTaking (Q.view_of taker.pass) taker.counts.items taker.positions.rows.items }
     requires all { AreAll (send_counts_of (map (λ s. (Q.view_of s.pass).sends) senders.items)) (Q.view_of taker.pass).takes.counts }
     ensures left { IfOk result (λ left. IsAllLeft W.world (send_counts_of (map (λ s. (Q.view_of s.pass).sends) senders.items)) (Q.view_of taker.pass).takes.counts (map held_of left.lanes.items)) }
 {
     let Taker {
         mut pass,
         counts,
-        places,
+        positions,
         of: _,
     } = taker;
     let mut all = entries(alloc, counts.as_slice())?;
     unite_all::<W, Q>(queue, &mut pass, senders);
-    empty::<W, Q, R>(rt, queue, &mut pass, &mut all, &places)?;
+    empty::<W, Q, R>(rt, queue, &mut pass, &mut all, &positions)?;
     Ok(Left { lanes: all })
 }

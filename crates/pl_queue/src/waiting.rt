@@ -144,7 +144,7 @@ impl<W: Named> Mailbox<W> for WaitingBox<W> {
 
     ghost is_sender = { λ q s. (receives_on q.queue.from ≡ sends_on q.queue.to) × IsSeatAt (sends_on q.queue.to) s.pass };
 
-    ghost is_taker = { λ q t. ((receives_on q.queue.from ≡ sends_on q.queue.to) × IsSeatAt (sends_on q.queue.to) t.pass) × IsTaking (view t.pass) t.counts.items t.places.rows.items };
+    ghost is_taker = { λ q t. ((receives_on q.queue.from ≡ sends_on q.queue.to) × IsSeatAt (sends_on q.queue.to) t.pass) × IsTaking (view t.pass) t.counts.items t.positions.rows.items };
 
     fn open(
         alloc: Global,
@@ -204,7 +204,7 @@ impl<W: Named> Mailbox<W> for WaitingBox<W> {
         taker: WaitingTaker<W>,
     ) -> Result<Left, AllocError>
         requires senders { Each (λ s. (receives_on self.queue.from ≡ sends_on self.queue.to) × IsSeatAt (sends_on self.queue.to) s.pass) senders.items }
-        requires taker { ((receives_on self.queue.from ≡ sends_on self.queue.to) × IsSeatAt (sends_on self.queue.to) taker.pass) × IsTaking (view taker.pass) taker.counts.items taker.places.rows.items }
+        requires taker { ((receives_on self.queue.from ≡ sends_on self.queue.to) × IsSeatAt (sends_on self.queue.to) taker.pass) × IsTaking (view taker.pass) taker.counts.items taker.positions.rows.items }
         requires all { AreAll (send_counts_of (map (λ s. sends_by s.pass) senders.items)) (takes_by taker.pass).counts }
         ensures left { IfOk result (λ left. IsAllLeft W.world (send_counts_of (map (λ s. sends_by s.pass) senders.items)) (takes_by taker.pass).counts (map held_of left.lanes.items)) }
     {

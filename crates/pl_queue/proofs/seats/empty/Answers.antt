@@ -2,14 +2,14 @@ use Rattle.std.proofs.Common.{map, List, subst, sym}
 use Rattle.pl_queue.specs.declared.views.PassView.{PassView}
 use Rattle.pl_queue.specs.Left.{LaneLeftView, held_of, IsEmptying}
 use Rattle.pl_queue.specs.Rule.{BothSee}
-use Rattle.pl_queue.proofs.Drains.{emptying-more, emptying-ends, emptying-placed, emptying-there}
+use Rattle.pl_queue.proofs.Drains.{emptying-more, emptying-ends, emptying-positions, emptying-there}
 use Rattle.pl_queue.proofs.Lists.{no_items}
 use Rattle.pl_queue.proofs.seats.empty.Goals as goal
 
-pub put-requires-clause-placed : goal.put-requires-clause-placed
-put-requires-clause-placed g c =
+pub put-requires-clause-positions : goal.put-requires-clause-positions
+put-requires-clause-positions g c =
     let start = g.Q.RuledQueue.view_of c.args.pass.now in
-    emptying-placed g.W.Named.world start.sends.send_counts start.takes.counts (g.Q.RuledQueue.view_of c.loop.pass) (map held_of c.loop.all.items) c.args.places.now.rows.items c.loop.invariant.emptying c.requires.placed
+    emptying-positions g.W.Named.world start.sends.send_counts start.takes.counts (g.Q.RuledQueue.view_of c.loop.pass) (map held_of c.loop.all.items) c.args.positions.now.rows.items c.loop.invariant.emptying c.requires.positions
 
 pub put-requires-clause-there : goal.put-requires-clause-there
 put-requires-clause-there g c =

@@ -19,10 +19,10 @@ row_at (row ∷ rows) zero = row.items
 row_at (row ∷ rows) (suc n) = row_at rows n
 
 -- what the table has for a lane
-abbrev pub place_of : List (Vec ℕ) → Lane → ℕ
-place_of rows lane = get_or (row_at rows (row_of lane)) lane.hop 0
+abbrev pub position_of : List (Vec ℕ) → Lane → ℕ
+position_of rows lane = get_or (row_at rows (row_of lane)) lane.hop 0
 
--- the table has the place of each of these lanes, the first of which stands at n
-abbrev pub IsPlaced : List (Vec ℕ) → ℕ → List Lane → Type 0
-IsPlaced rows n [] = Unit {0}
-IsPlaced rows n (lane ∷ lanes) = (place_of rows lane ≡ n) × IsPlaced rows (n + 1) lanes
+-- the table has the position of each of these lanes, the first of which stands at n
+abbrev pub ArePositions : List (Vec ℕ) → ℕ → List Lane → Type 0
+ArePositions rows n [] = Unit {0}
+ArePositions rows n (lane ∷ lanes) = (position_of rows lane ≡ n) × ArePositions rows (n + 1) lanes

@@ -1,6 +1,6 @@
 use Rattle.std.proofs.Common.{◌≡◌, ◌≤◌, ℕ, length}
-use Rattle.pl_queue.specs.Places.{row_at}
-use Rattle.pl_queue.proofs.places.add_rows.Given as goal
+use Rattle.pl_queue.specs.Positions.{row_at}
+use Rattle.pl_queue.proofs.positions.add_rows.Given as goal
 
 abbrev pub invariant-loop : goal.invariant-loop
 invariant-loop l = record {

@@ -1,9 +1,9 @@
 use Rattle.std.proofs.Common.{◌∙◌, ap, sym, length, get_or, arith}
 use Rattle.std.proofs.lemmas.Bool.{leb-false, leb-true}
-use Rattle.pl_queue.specs.Places.{row_of as the_row_of}
+use Rattle.pl_queue.specs.Positions.{row_of as the_row_of}
 use Rattle.pl_queue.proofs.Lists.{get_or-any}
-use Rattle.pl_queue.proofs.PlaceLemmas.{row_at-past, row_at-found, get_or-past}
-use Rattle.pl_queue.proofs.places.Places.find.Goals as goal
+use Rattle.pl_queue.proofs.PositionLemmas.{row_at-past, row_at-found, get_or-past}
+use Rattle.pl_queue.proofs.positions.Positions.find.Goals as goal
 
 pub returns-in-None : goal.returns-in-None
 returns-in-None c =

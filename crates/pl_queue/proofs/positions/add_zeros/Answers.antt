@@ -1,7 +1,7 @@
 use Rattle.std.proofs.Common.{◌+◌, ◌≤◌, ◌∙◌, ap, sym, subst, length, get_or, refl, arith}
 use Rattle.std.proofs.lemmas.List.{length_push}
-use Rattle.pl_queue.proofs.PlaceLemmas.{get_or-zero}
-use Rattle.pl_queue.proofs.places.add_zeros.Goals as goal
+use Rattle.pl_queue.proofs.PositionLemmas.{get_or-zero}
+use Rattle.pl_queue.proofs.positions.add_zeros.Goals as goal
 
 pub loop-init : goal.loop-init
 loop-init c = record {

@@ -1,4 +1,4 @@
--- What is put into a table of places is found there.
+-- What is put into a table of positions is found there.
 use Rattle.std.specs.Global.{Vec}
 use Rattle.std.proofs.Common.{◌≡◌, ◌≢◌, Some, ◌+◌, ◌<◌, ◌≤◌, ℕ, zero, suc, true, false, List, [], ◌∷◌, ◌++◌, map, take, length, get_or, set, refl, ap, sym, ◌∙◌, subst, ⊎_elim, arith, add-one}
 use Rattle.std.proofs.lemmas.Bool.{cond-true, cond-false, cases_Bool, both_ways, false≢true, cases_eq}
@@ -11,7 +11,7 @@ use Rattle.pl_event.proofs.SameLanes.{same_lane-equal, same_lane-self}
 use Rattle.pl_queue.specs.declared.left.LaneLeft.{LaneLeft}
 use Rattle.pl_queue.specs.declared.views.TakeCount.{TakeCount}
 use Rattle.pl_queue.specs.Left.{LaneLeftView, held, held_of, put_held, lanes_left, taken_count, handed_count, Apart}
-use Rattle.pl_queue.specs.Places.{row_by, row_of, row_at, place_of, IsPlaced}
+use Rattle.pl_queue.specs.Positions.{row_by, row_of, row_at, position_of, ArePositions}
 use Rattle.pl_queue.specs.Rule.{Each}
 use Rattle.pl_queue.specs.Views.{take_count, set_take_count, lanes_of_counts, has_lane, next_of}
 use Rattle.pl_queue.proofs.Lists.{none-some, get_or-any}
@@ -73,11 +73,11 @@ same-by-row a b r e =
     let s = same-row a.kind b.kind a.channel b.channel r in
     λ i. record { channel = s.1 i; kind = s.0 i; hop = e i }
 
--- the place of every other lane stays, where one entry of one row has changed
-pub place-others : (rows more : List (Vec ℕ)) (lane : Lane) (row : Vec ℕ) (d : Vec ℕ) → ((n : ℕ) → row_at more n ≡ row_at rows n) → row_of lane < length more
+-- the position of every other lane stays, where one entry of one row has changed
+pub position-others : (rows more : List (Vec ℕ)) (lane : Lane) (row : Vec ℕ) (d : Vec ℕ) → ((n : ℕ) → row_at more n ≡ row_at rows n) → row_of lane < length more
     → ((n : ℕ) → n ≢ lane.hop → get_or row.items n 0 ≡ get_or (get_or more (row_of lane) d).items n 0)
-    → (l : Lane) → same_lane l lane ≡ false → place_of (set more (row_of lane) row) l ≡ place_of rows l
-place-others rows more lane row d same long others l apart = ⊎_elim
+    → (l : Lane) → same_lane l lane ≡ false → position_of (set more (row_of lane) row) l ≡ position_of rows l
+position-others rows more lane row d same long others l apart = ⊎_elim
     (λ (here : row_of l ≡ row_of lane).
     ⊎_elim
     (λ (hop : l.hop ≡ lane.hop). absurd (both_ways (same_lane l lane) apart (subst (λ y. same_lane l y ≡ true) (same-by-row l lane here hop) (same_lane-self l))))
@@ -92,19 +92,19 @@ place-others rows more lane row d same long others l apart = ⊎_elim
     ap (λ xs. get_or xs l.hop 0) (row_at-other more (row_of lane) (row_of l) row other ∙ same (row_of l)))
     (cases_eq (row_of l) (row_of lane))
 
-pub place-here : (more : List (Vec ℕ)) (lane : Lane) (row : Vec ℕ) (place : ℕ) → row_of lane < length more → get_or row.items lane.hop 0 ≡ place
-    → place_of (set more (row_of lane) row) lane ≡ place
-place-here more lane row place long is = ap (λ xs. get_or xs lane.hop 0) (row_at-set more (row_of lane) row long) ∙ is
+pub position-here : (more : List (Vec ℕ)) (lane : Lane) (row : Vec ℕ) (position : ℕ) → row_of lane < length more → get_or row.items lane.hop 0 ≡ position
+    → position_of (set more (row_of lane) row) lane ≡ position
+position-here more lane row position long is = ap (λ xs. get_or xs lane.hop 0) (row_at-set more (row_of lane) row long) ∙ is
 
 -- the table of the first lanes, and of one more
-placed-same : (rows more : List (Vec ℕ)) (lane : Lane) → ((l : Lane) → same_lane l lane ≡ false → place_of more l ≡ place_of rows l) → (n : ℕ) (lanes : List Lane)
-    → Each (λ l. same_lane l lane ≡ false) lanes → IsPlaced rows n lanes → IsPlaced more n lanes
-placed-same rows more lane others n [] each h = tt
-placed-same rows more lane others n (l ∷ ls) each h = (others l each.0 ∙ h.0, placed-same rows more lane others (n + 1) ls each.1 h.1)
+positions-same : (rows more : List (Vec ℕ)) (lane : Lane) → ((l : Lane) → same_lane l lane ≡ false → position_of more l ≡ position_of rows l) → (n : ℕ) (lanes : List Lane)
+    → Each (λ l. same_lane l lane ≡ false) lanes → ArePositions rows n lanes → ArePositions more n lanes
+positions-same rows more lane others n [] each h = tt
+positions-same rows more lane others n (l ∷ ls) each h = (others l each.0 ∙ h.0, positions-same rows more lane others (n + 1) ls each.1 h.1)
 
-placed-snoc : (rows : List (Vec ℕ)) (n : ℕ) (lanes : List Lane) (lane : Lane) → IsPlaced rows n lanes → place_of rows lane ≡ n + length lanes → IsPlaced rows n (lanes ++ lane ∷ [])
-placed-snoc rows n [] lane h e = (e ∙ omega arith, tt)
-placed-snoc rows n (l ∷ ls) lane h e = (h.0, placed-snoc rows (n + 1) ls lane h.1 (e ∙ omega arith))
+positions-snoc : (rows : List (Vec ℕ)) (n : ℕ) (lanes : List Lane) (lane : Lane) → ArePositions rows n lanes → position_of rows lane ≡ n + length lanes → ArePositions rows n (lanes ++ lane ∷ [])
+positions-snoc rows n [] lane h e = (e ∙ omega arith, tt)
+positions-snoc rows n (l ∷ ls) lane h e = (h.0, positions-snoc rows (n + 1) ls lane h.1 (e ∙ omega arith))
 
 earlier : (ms : List TakeCount) (i : ℕ) (m : TakeCount) → i < length ms → m ≡ get_or ms i m → Apart (lanes_of_counts ms) → Each (λ l. same_lane l m.lane ≡ false) (lanes_of_counts (take i ms))
 earlier [] i m h e a = absurd (omega arith)
@@ -127,41 +127,41 @@ lanes-count [] (suc i) h = absurd (omega arith)
 lanes-count (x ∷ xs) zero h = refl
 lanes-count (x ∷ xs) (suc i) h = ap suc (lanes-count xs i (omega arith))
 
-pub placed-more : (rows more : List (Vec ℕ)) (ms : List TakeCount) (i : ℕ) (m : TakeCount) → i < length ms → m ≡ get_or ms i m → Apart (lanes_of_counts ms)
-    → place_of more m.lane ≡ i → ((l : Lane) → same_lane l m.lane ≡ false → place_of more l ≡ place_of rows l)
-    → IsPlaced rows 0 (lanes_of_counts (take i ms)) → IsPlaced more 0 (lanes_of_counts (take (i + 1) ms))
-placed-more rows more ms i m h e apart here others placed =
-    subst (λ ls. IsPlaced more 0 ls) (sym (ap (λ n. lanes_of_counts (take n ms)) (add-one i) ∙ lanes-take ms i m h e))
-    (placed-snoc more 0 (lanes_of_counts (take i ms)) m.lane
-    (placed-same rows more m.lane others 0 (lanes_of_counts (take i ms)) (earlier ms i m h e apart) placed)
+pub positions-more : (rows more : List (Vec ℕ)) (ms : List TakeCount) (i : ℕ) (m : TakeCount) → i < length ms → m ≡ get_or ms i m → Apart (lanes_of_counts ms)
+    → position_of more m.lane ≡ i → ((l : Lane) → same_lane l m.lane ≡ false → position_of more l ≡ position_of rows l)
+    → ArePositions rows 0 (lanes_of_counts (take i ms)) → ArePositions more 0 (lanes_of_counts (take (i + 1) ms))
+positions-more rows more ms i m h e apart here others positions =
+    subst (λ ls. ArePositions more 0 ls) (sym (ap (λ n. lanes_of_counts (take n ms)) (add-one i) ∙ lanes-take ms i m h e))
+    (positions-snoc more 0 (lanes_of_counts (take i ms)) m.lane
+    (positions-same rows more m.lane others 0 (lanes_of_counts (take i ms)) (earlier ms i m h e apart) positions)
     (omega (arith, here, lanes-count ms i (omega arith))))
 
-pub placed-at : (rows more : List (Vec ℕ)) (ms : List TakeCount) (i : ℕ) (d : TakeCount) → i < length ms → Apart (lanes_of_counts ms)
-    → place_of more (get_or ms i d).lane ≡ i → ((l : Lane) → same_lane l (get_or ms i d).lane ≡ false → place_of more l ≡ place_of rows l)
-    → IsPlaced rows 0 (lanes_of_counts (take i ms)) → IsPlaced more 0 (lanes_of_counts (take (i + 1) ms))
-placed-at rows more ms i d h = placed-more rows more ms i (get_or ms i d) h (get_or-any ms i d (get_or ms i d) h)
+pub positions-at : (rows more : List (Vec ℕ)) (ms : List TakeCount) (i : ℕ) (d : TakeCount) → i < length ms → Apart (lanes_of_counts ms)
+    → position_of more (get_or ms i d).lane ≡ i → ((l : Lane) → same_lane l (get_or ms i d).lane ≡ false → position_of more l ≡ position_of rows l)
+    → ArePositions rows 0 (lanes_of_counts (take i ms)) → ArePositions more 0 (lanes_of_counts (take (i + 1) ms))
+positions-at rows more ms i d h = positions-more rows more ms i (get_or ms i d) h (get_or-any ms i d (get_or ms i d) h)
 
--- the place of a lane is where its count stands
-pub count-there : (rows : List (Vec ℕ)) (l : Lane) (next n : ℕ) (ms : List TakeCount) → IsPlaced rows n (lanes_of_counts ms) → has_lane l (lanes_of_counts ms) ≡ true
-    → (i : ℕ) × (place_of rows l ≡ n + i) × (i < length ms) × ((d : TakeCount) → set_take_count l next ms ≡ set ms i (take_count (get_or ms i d).lane next))
+-- the position of a lane is where its count stands
+pub count-there : (rows : List (Vec ℕ)) (l : Lane) (next n : ℕ) (ms : List TakeCount) → ArePositions rows n (lanes_of_counts ms) → has_lane l (lanes_of_counts ms) ≡ true
+    → (i : ℕ) × (position_of rows l ≡ n + i) × (i < length ms) × ((d : TakeCount) → set_take_count l next ms ≡ set ms i (take_count (get_or ms i d).lane next))
 count-there rows l next n [] p h = absurd (false≢true h)
 count-there rows l next n (m ∷ ms) p h = ⊎_elim
     (λ (t : same_lane l m.lane ≡ true).
-    (0, ap (λ y. place_of rows y) (same_lane-equal l m.lane t) ∙ p.0 ∙ omega arith, omega arith, λ d. cond-true (same_lane l m.lane) _ _ t))
+    (0, ap (λ y. position_of rows y) (same_lane-equal l m.lane t) ∙ p.0 ∙ omega arith, omega arith, λ d. cond-true (same_lane l m.lane) _ _ t))
     (λ (t : same_lane l m.lane ≡ false).
     let r = count-there rows l next (n + 1) ms p.1 (sym (cond-false (same_lane l m.lane) true (has_lane l (lanes_of_counts ms)) t) ∙ h) in
     (suc r.0, r.1 ∙ omega arith, omega (arith, r.2), λ d. cond-false (same_lane l m.lane) _ _ t ∙ ap (λ ks. m ∷ ks) (r.3 d)))
     (cases_Bool (same_lane l m.lane))
 
--- the place of a lane is where its entry stands
-pub entry-there : (rows : List (Vec ℕ)) (x : Envelope) (n : ℕ) (es : List LaneLeft) → IsPlaced rows n (lanes_left (map held_of es)) → has_lane x.lane (lanes_left (map held_of es)) ≡ true
-    → (i : ℕ) × (place_of rows x.lane ≡ n + i) × (i < length es)
+-- the position of a lane is where its entry stands
+pub entry-there : (rows : List (Vec ℕ)) (x : Envelope) (n : ℕ) (es : List LaneLeft) → ArePositions rows n (lanes_left (map held_of es)) → has_lane x.lane (lanes_left (map held_of es)) ≡ true
+    → (i : ℕ) × (position_of rows x.lane ≡ n + i) × (i < length es)
     × ((d new : LaneLeft) → held_of new ≡ held (get_or es i d).lane (x.number + 1) (get_or es i d).taken ((get_or es i d).left.items ++ x ∷ []) → map held_of (set es i new) ≡ put_held x (map held_of es))
 entry-there rows x n [] p h = absurd (false≢true h)
 entry-there rows x n (e ∷ es) p h = ⊎_elim
     (λ (t : same_lane x.lane e.lane ≡ true). (
       0,
-      ap (λ y. place_of rows y) (same_lane-equal x.lane e.lane t) ∙ p.0 ∙ omega arith,
+      ap (λ y. position_of rows y) (same_lane-equal x.lane e.lane t) ∙ p.0 ∙ omega arith,
       omega arith,
       λ d new is. ap (λ y. y ∷ map held_of es) is ∙ sym (cond-true (same_lane x.lane e.lane) _ _ t),
     ))

@@ -1,8 +1,8 @@
 use Rattle.std.proofs.Common.{◌+◌, ◌≤◌, ◌∙◌, ap, sym, subst, length, refl, arith}
 use Rattle.std.proofs.lemmas.List.{length_push}
-use Rattle.pl_queue.specs.Places.{row_at}
-use Rattle.pl_queue.proofs.PlaceLemmas.{row_at-more}
-use Rattle.pl_queue.proofs.places.add_rows.Goals as goal
+use Rattle.pl_queue.specs.Positions.{row_at}
+use Rattle.pl_queue.proofs.PositionLemmas.{row_at-more}
+use Rattle.pl_queue.proofs.positions.add_rows.Goals as goal
 
 pub loop-init : goal.loop-init
 loop-init c = record {

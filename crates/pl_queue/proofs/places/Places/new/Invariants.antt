@@ -1,7 +1,0 @@
-use Rattle.std.proofs.Common.{take}
-use Rattle.pl_queue.specs.Places.{IsPlaced}
-use Rattle.pl_queue.specs.Views.{lanes_of_counts}
-use Rattle.pl_queue.proofs.places.Places.new.Given as goal
-
-abbrev pub invariant-loop-i : goal.invariant-loop-i
-invariant-loop-i l = IsPlaced l.places.rows.items 0 (lanes_of_counts (take l.i l.counts))
