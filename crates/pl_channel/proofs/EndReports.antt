@@ -2,12 +2,13 @@
 use Rattle.std.proofs.Common.{◌≡◌, ℕ, Bool, true, false, List, [], ◌∷◌, ◌++◌, length, take, Option, Some, None, refl, sym, ap, subst, ◌∙◌, arith, length-append, append-nil}
 use Rattle.std.specs.Prelude.{is_some}
 use Rattle.std.proofs.lemmas.List.{take_all}
+use Rattle.std.proofs.lemmas.Bool.{both_ways}
 use Rattle.pl_event.specs.declared.events.Event.{Event}
 use Rattle.pl_event.specs.declared.outcomes.Cause.{Cause}
-use Rattle.pl_event.specs.declared.outcomes.Cause.TheVariants.{Aborted}
+use Rattle.pl_event.specs.declared.outcomes.Cause.TheVariants.{Aborted, Refused}
 use Rattle.pl_event.specs.Hops.{data_lane}
 use Rattle.pl_event.specs.Meaning.{IsPrefixOf}
-use Rattle.pl_event.specs.Worlds.{content_of}
+use Rattle.pl_event.specs.Worlds.{World, content_of, may_fail}
 use Rattle.pl_event.proofs.Lists.{prefix-trans, take-prefix_whole}
 use Rattle.pl_context.specs.declared.standing.Standing.{Standing}
 use Rattle.pl_context.specs.declared.standing.Standing.TheVariants as standing
@@ -17,12 +18,15 @@ use Rattle.pl_head.specs.Marks.{Change}
 use Rattle.pl_head.specs.Transports.{TransportState}
 use Rattle.pl_head.specs.Writes.{out, writes_by}
 use Rattle.pl_head.specs.HeadStand.{HeadView, BufferAfter, StandsAfter, first_cause, head_cause}
+use Rattle.pl_part.specs.TailHolds.{MayFailFor}
 use Rattle.pl_part.specs.HeadHolds.{HeadTook}
+use Rattle.pl_part.proofs.Causes.{may-first}
 use Rattle.pl_world.specs.declared.report.ChannelReport.{ChannelReport}
+use Rattle.pl_world.specs.declared.report.Stands.TheVariants.{Failed}
 use Rattle.pl_world.specs.Plans.{ChannelPlan, Plan, tail_hop, head_hop}
-use Rattle.pl_world.specs.Reports.{has_ended, channel_cause, is_written_out, IsChannelReport, tail_of, head_of, KeepsToPlan, EndsKeepToPlan, ReportsPlan}
-use Rattle.pl_world.proofs.PlannedReports.{out-prefix, drained_parts, report_keeps}
-use Rattle.pl_channel.specs.Lanes.{lanes_of}
+use Rattle.pl_world.specs.Reports.{Ends, has_ended, channel_cause, is_written_out, stands_by, IsChannelReport, tail_of, head_of, KeepsToPlan, EndsKeepToPlan, ReportsPlan}
+use Rattle.pl_world.proofs.PlannedReports.{out-prefix, drained_parts, ends_keep_report}
+use Rattle.pl_channel.specs.Lanes.{world_of}
 use Rattle.pl_channel.specs.Ends.{ends_of, EndsHold}
 use Rattle.pl_channel.proofs.LaneContents.{content-planned}
 
@@ -45,6 +49,15 @@ ended-is (standing.Failed cause) e = cc
 first-of : (n : ℕ) (some all : List Event) → some ≡ take n all → IsPrefixOf some all
 first-of n some all e = subst (λ (xs : List Event). IsPrefixOf xs all) (sym e) (take-prefix_whole n all)
 
+-- Where no lane is refused, no channel has failed for that.
+not-refused : (world : World) → world.refuses ≡ false → (cause : Option Cause) (drained : Bool) → MayFailFor world cause → stands_by cause drained ≡ Failed Refused → ⊥
+not-refused world none None true may e = cc
+not-refused world none None false may e = cc
+not-refused world none (Some cause) drained may e = both_ways world.refuses none (subst (λ (k : Cause). may_fail world k ≡ true) (same e) may)
+  where
+    same : Failed cause ≡ Failed Refused → cause ≡ Refused
+    same e = cc
+
 -- The report of a head that has taken nothing late is as well that of one whose writes get numbers: that is nothing of it then.
 pub numbered-report : {T : Type 0} (state : T → TransportState) (tail : TailView) (head : HeadView T) (ys zs : List Event) (r : ChannelReport) → zs ≡ []
     → IsChannelReport (ends_of state tail head ys zs) r → IsChannelReport (record (ends_of state tail head ys zs) { is_full = false }) r
@@ -61,11 +74,11 @@ numbered-report state tail head ys zs r none is = record {
   };
 }
 
-module _ {T : Type 0} (state : T → TransportState) (plan : Plan) (number : ℕ) (p : ChannelPlan) (tail : TailView) (head : HeadView T) (held : EndsHold state plan number p tail head) where
+module _ {T : Type 0} (state : T → TransportState) (refuses : Bool) (plan : Plan) (number : ℕ) (p : ChannelPlan) (tail : TailView) (head : HeadView T) (held : EndsHold state refuses plan number p tail head) where
   -- what comes to a hop of the channel in all
-  comes-to : (events content : List Event) (channel hop at : ℕ) → content_of (lanes_of plan) (data_lane channel hop) ≡ Some events → channel ≡ number → hop ≡ at
-      → content_of (lanes_of plan) (data_lane number at) ≡ Some content → events ≡ content
-  comes-to events content channel hop at own is there planned = some-same events content (sym own ∙ (λ i. content_of (lanes_of plan) (data_lane (is i) (there i))) ∙ planned)
+  comes-to : (events content : List Event) (channel hop at : ℕ) → content_of (world_of refuses plan) (data_lane channel hop) ≡ Some events → channel ≡ number → hop ≡ at
+      → content_of (world_of refuses plan) (data_lane number at) ≡ Some content → events ≡ content
+  comes-to events content channel hop at own is there planned = some-same events content (sym own ∙ (λ i. content_of (world_of refuses plan) (data_lane (is i) (there i))) ∙ planned)
 
   to-tail : held.tail_holds.events ≡ tail_of p
   to-tail = comes-to held.tail_holds.events (tail_of p) tail.channel tail.hop (tail_hop p) held.tail_holds.holds.own held.tail_channel held.tail_at (content-planned plan number p held.planned (tail_hop p) (omega arith))
@@ -127,27 +140,37 @@ module _ {T : Type 0} (state : T → TransportState) (plan : Plan) (number : ℕ
     is : IsChannelReport (ends_of state tail head took.ys took.zs) r
     is = reports took.ys took.zs took.sizes took.after
 
+    unrefused : refuses ≡ false → r.stands ≡ Failed Refused → ⊥
+    unrefused none e =
+        let world = world_of refuses plan in
+        let by_head = may-first world head.failure (cause_of head.standing) held.head_holds.holds.may_itself held.head_holds.holds.may in
+        not-refused world none (channel_cause (ends_of state tail head took.ys took.zs)) (is_written_out (ends_of state tail head took.ys took.zs))
+        (may-first world (head_cause head) (cause_of tail.standing) by_head held.tail_holds.holds.may) (sym is.stands_is ∙ e)
+
     -- of a head that has not failed by itself
-    sound-reports : head.failure ≡ None → ReportsPlan p r
-    sound-reports sound = record {
-      ends = record (ends_of state tail head took.ys took.zs) { is_full = false };
-      ends_keep = keep false (λ e. refl) (λ aborted. absurd (no (sym sound ∙ aborted)));
-      reports = numbered-report state tail head took.ys took.zs r (none-late sound) is;
-    }
+    abbrev sound_ends : Ends
+    sound_ends = record (ends_of state tail head took.ys took.zs) { is_full = false }
+
+    sound-keep : head.failure ≡ None → EndsKeepToPlan p sound_ends
+    sound-keep sound = keep false (λ e. refl) (λ aborted. absurd (no (sym sound ∙ aborted)))
       where
         no : None ≡ Some Aborted → ⊥
         no e = cc
 
+    sound-reports : head.failure ≡ None → IsChannelReport sound_ends r
+    sound-reports sound = numbered-report state tail head took.ys took.zs r (none-late sound) is
+
     -- a report of ends that hold is one of a channel with the plan
-    pub ends-report : (head.failure ≡ Some Aborted → is_some p.abort_after ≡ true) → ReportsPlan p r
-    ends-report aborted = by head.failure refl
+    pub ends-report : refuses ≡ false → (head.failure ≡ Some Aborted → is_some p.abort_after ≡ true) → ReportsPlan p r
+    ends-report none aborted = by head.failure refl
       where
         by : (f : Option Cause) → head.failure ≡ f → ReportsPlan p r
-        by None sound = sound-reports sound
+        by None sound = record { ends = sound_ends; ends_keep = sound-keep sound; reports = sound-reports sound; unrefused = unrefused none }
         by (Some cause) failed = record {
           ends = ends_of state tail head took.ys took.zs;
-          ends_keep = keep head.buffer.is_full (λ none. absurd (no (sym failed ∙ none))) aborted;
+          ends_keep = keep head.buffer.is_full (λ sound. absurd (no (sym failed ∙ sound))) aborted;
           reports = is;
+          unrefused = unrefused none;
         }
           where
             no : Some cause ≡ None → ⊥
@@ -158,7 +181,7 @@ module _ {T : Type 0} (state : T → TransportState) (plan : Plan) (number : ℕ
     ends-keep = by head.failure refl
       where
         by : (f : Option Cause) → head.failure ≡ f → KeepsToPlan p r
-        by None sound = report_keeps p r (sound-reports sound)
+        by None sound = ends_keep_report p sound_ends (sound-keep sound) r (sound-reports sound)
         by (Some cause) failed = record {
           tail = subst (λ (xs : List Event). IsPrefixOf xs (tail_of p)) (sym is.tail_is) tail-first;
           bytes = subst (λ (bs : List ℕ). IsPrefixOf bs (out (head_of p))) (sym is.bytes_are)

@@ -10,11 +10,11 @@ use Rattle.pl_head.specs.Transports.{TransportState}
 use Rattle.pl_head.specs.HeadStand.{HeadView}
 use Rattle.pl_part.specs.Parts.{PartView, PartHolds, SamePart}
 use Rattle.pl_world.specs.Plans.{ChannelPlan, Plan, head_hop}
-use Rattle.pl_channel.specs.Lanes.{lanes_of}
+use Rattle.pl_channel.specs.Lanes.{world_of}
 use Rattle.pl_channel.specs.Placing.{IsWhole}
 use Rattle.pl_channel.specs.Ends.{EndsHold}
 
-module _ {S T : Type 0} (meaning : S → Meaning) (stands_after : S → List Event → Type 0) (state : T → TransportState) (plan : Plan) (number : ℕ) (p : ChannelPlan) (transport : T)
+module _ {S T : Type 0} (meaning : S → Meaning) (stands_after : S → List Event → Type 0) (state : T → TransportState) (refuses : Bool) (plan : Plan) (number : ℕ) (p : ChannelPlan) (transport : T)
     (placed part : PartView S T) (whole : IsWhole state number p transport placed) (same : SamePart placed part) where
   -- it has a hop for each stage and the tail
   pub moved-size : length part.path.contexts ≡ head_hop p
@@ -30,8 +30,8 @@ module _ {S T : Type 0} (meaning : S → Meaning) (stands_after : S → List Eve
         length-replicate (length p.outbound) true,
       )
 
-  pub ends-hold : slice_get plan.channels number ≡ Some p → PartHolds (lanes_of plan) meaning stands_after state part
-      → (tail : TailView) → part.path.tail ≡ Some tail → (head : HeadView T) → part.head ≡ Some head → EndsHold state plan number p tail head
+  pub ends-hold : slice_get plan.channels number ≡ Some p → PartHolds (world_of refuses plan) meaning stands_after state part
+      → (tail : TailView) → part.path.tail ≡ Some tail → (head : HeadView T) → part.head ≡ Some head → EndsHold state refuses plan number p tail head
   ends-hold planned holds tail has_tail head has_head =
       let below = holds.path.tail tail has_tail in
       let above = holds.head head has_head in

@@ -1,5 +1,5 @@
 -- The two ends of a channel, as its report has them, and as they hold in the world of a plan.
-use Rattle.std.specs.Prelude.{◌≡◌, ℕ, List, length, slice_get, Some}
+use Rattle.std.specs.Prelude.{◌≡◌, ℕ, Bool, List, length, slice_get, Some}
 use Rattle.pl_event.specs.declared.events.Event.{Event}
 use Rattle.pl_context.specs.TailViews.{TailView}
 use Rattle.pl_head.specs.Transports.{TransportState}
@@ -8,7 +8,7 @@ use Rattle.pl_part.specs.HeadHolds.{HeadHolds}
 use Rattle.pl_part.specs.TailHolds.{TailHolds}
 use Rattle.pl_world.specs.Plans.{ChannelPlan, Plan, tail_hop, head_hop}
 use Rattle.pl_world.specs.Reports.{Ends}
-use Rattle.pl_channel.specs.Lanes.{lanes_of}
+use Rattle.pl_channel.specs.Lanes.{world_of}
 
 module _ {T : Type 0} (state : T → TransportState) where
   -- the two ends, where the head took the events ys before a failure of its own, and zs from it on
@@ -24,12 +24,13 @@ module _ {T : Type 0} (state : T → TransportState) where
     is_full = head.buffer.is_full;
   }
 
-  -- Tail and head are those of channel number of a plan, each at its hop, and hold in the world of that plan.
-  pub record EndsHold (plan : Plan) (number : ℕ) (p : ChannelPlan) (tail : TailView) (head : HeadView T) : Type 0 where
+  -- Tail and head are those of channel number of a plan, each at its hop, and hold in the world of that plan, where lanes are
+  -- refused or not.
+  pub record EndsHold (refuses : Bool) (plan : Plan) (number : ℕ) (p : ChannelPlan) (tail : TailView) (head : HeadView T) : Type 0 where
     pub planned : slice_get plan.channels number ≡ Some p
-    pub tail_holds : TailHolds (lanes_of plan) tail
+    pub tail_holds : TailHolds (world_of refuses plan) tail
     pub tail_channel : tail.channel ≡ number
     pub tail_at : tail.hop ≡ tail_hop p
-    pub head_holds : HeadHolds state (lanes_of plan) head
+    pub head_holds : HeadHolds state (world_of refuses plan) head
     pub head_channel : head.channel ≡ number
     pub head_at : head.hop ≡ head_hop p

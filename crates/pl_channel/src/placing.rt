@@ -1,11 +1,11 @@
 //! A recorded channel, before any move.
 
-ghost use Rattle.std.specs.Prelude.{◌≡◌, IfOk, Some, slice_get};
+ghost use Rattle.std.specs.Prelude.{◌≡◌, Bool, IfOk, Some, slice_get};
 ghost use Rattle.pl_part.specs.Parts.{PartHolds};
 ghost use Rattle.pl_world.specs.Plans.{Plan, channel_planned};
 ghost use Rattle.pl_world.specs.PlanRules.{IsSmallChannel};
 ghost use Rattle.pl_world.specs.Worlds.{IsUncalled};
-ghost use Rattle.pl_channel.specs.Lanes.{lanes_of};
+ghost use Rattle.pl_channel.specs.Lanes.{world_of};
 ghost use Rattle.pl_channel.specs.Placing.{IsWhole, IsUnmoved};
 
 use pl_build::Placed;
@@ -26,9 +26,9 @@ pub fn place<S: Stage, T: Transport>(
     ensures whole { IfOk result (λ part. IsWhole T.state number (channel_planned S.meaning T.state recorded) recorded.transport part) }
     ensures unmoved { IfOk result (λ part. IsUnmoved S.meaning part) }
 
-    // It holds in the world of each plan in which it has this number.
-    ensures holds { IfOk result (λ part. (plan : Plan) → slice_get plan.channels number ≡ Some (channel_planned S.meaning T.state recorded)
-        → PartHolds (lanes_of plan) S.meaning S.stands_after T.state part) }
+    // It holds in the worlds of each plan in which it has this number.
+    ensures holds { IfOk result (λ part. (refuses : Bool) (plan : Plan) → slice_get plan.channels number ≡ Some (channel_planned S.meaning T.state recorded)
+        → PartHolds (world_of refuses plan) S.meaning S.stands_after T.state part) }
 {
     let Recorded {
         pipeline,

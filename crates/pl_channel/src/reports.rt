@@ -1,6 +1,6 @@
 //! What became of a channel, by its two ends.
 
-ghost use Rattle.std.specs.Prelude.{◌≡◌, ℕ, List, Option, Some, IfOk, ◌&&◌, ◌||◌, IsSome, is_some};
+ghost use Rattle.std.specs.Prelude.{◌≡◌, ℕ, Bool, false, List, Option, Some, IfOk, ◌&&◌, ◌||◌, IsSome, is_some};
 ghost use Rattle.pl_event.specs.declared.events.Event.{Event};
 ghost use Rattle.pl_event.specs.declared.outcomes.Cause.TheVariants.{Aborted};
 ghost use Rattle.pl_head.specs.Marks.{Change};
@@ -26,10 +26,10 @@ pub fn report<T: Transport>(
     ensures ends { IfOk result (λ report. (ys zs : List Event) (sizes : List Change) → StandsAfter T.state head.now ys zs sizes
         → IsChannelReport (ends_of T.state tail.now head.now ys zs) report) }
 
-    // Where they hold in the world of a plan, it keeps to that plan; and where the head is aborted only as the plan says, it
-    // is what two ends say that keep to the plan.
-    ensures keeps { IfOk result (λ report. (plan : Plan) (number : ℕ) (p : ChannelPlan) → EndsHold T.state plan number p tail.now head.now → KeepsToPlan p report) }
-    ensures planned { IfOk result (λ report. (plan : Plan) (number : ℕ) (p : ChannelPlan) → EndsHold T.state plan number p tail.now head.now
+    // Where they hold in a world of a plan, it keeps to that plan. Where in that world no lane is refused, and the head is
+    // aborted only as the plan says, it is what two ends say that keep to the plan.
+    ensures keeps { IfOk result (λ report. (refuses : Bool) (plan : Plan) (number : ℕ) (p : ChannelPlan) → EndsHold T.state refuses plan number p tail.now head.now → KeepsToPlan p report) }
+    ensures planned { IfOk result (λ report. (plan : Plan) (number : ℕ) (p : ChannelPlan) → EndsHold T.state false plan number p tail.now head.now
         → (head.now.failure ≡ Some Aborted → IsSome p.abort_after) → ReportsPlan p report) }
 {
     let (bytes, writes) = head.copies(alloc)?;
@@ -49,8 +49,8 @@ pub fn into_report<T: Transport>(
 ) -> Result<ChannelReport, AllocError>
     ensures ends { IfOk result (λ report. (ys zs : List Event) (sizes : List Change) → StandsAfter T.state head ys zs sizes
         → IsChannelReport (ends_of T.state tail head ys zs) report) }
-    ensures keeps { IfOk result (λ report. (plan : Plan) (number : ℕ) (p : ChannelPlan) → EndsHold T.state plan number p tail head → KeepsToPlan p report) }
-    ensures planned { IfOk result (λ report. (plan : Plan) (number : ℕ) (p : ChannelPlan) → EndsHold T.state plan number p tail head
+    ensures keeps { IfOk result (λ report. (refuses : Bool) (plan : Plan) (number : ℕ) (p : ChannelPlan) → EndsHold T.state refuses plan number p tail head → KeepsToPlan p report) }
+    ensures planned { IfOk result (λ report. (plan : Plan) (number : ℕ) (p : ChannelPlan) → EndsHold T.state false plan number p tail head
         → (head.failure ≡ Some Aborted → IsSome p.abort_after) → ReportsPlan p report) }
 {
     let stands = stands(&tail, &head);

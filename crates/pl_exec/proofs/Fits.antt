@@ -20,7 +20,7 @@ use Rattle.pl_part.specs.Paths.{writer_hop}
 use Rattle.pl_part.specs.Parts.{PartView, head_hop, part_lanes, part_taken, part_writes, part_came}
 use Rattle.pl_part.specs.Shares.{executor_of}
 use Rattle.pl_part.proofs.ShareLemmas.{share-taken-none, share-came-same}
-use Rattle.pl_channel.specs.Lanes.{lanes_of}
+use Rattle.pl_channel.specs.Lanes.{world_of}
 use Rattle.pl_replay.specs.Channels.{executor_at, is_hop, origin_of, taken_of, writes_here, writes_of, came_of}
 use Rattle.pl_replay.specs.Channels.{lanes_of as data_lanes_of, target_of as whole_target}
 use Rattle.pl_replay.specs.Placed.{all_lanes as data_lanes, lanes_between as data_between}
@@ -116,7 +116,7 @@ module _ {S T : Type 0} (meaning : S → Meaning) (stands_after : S → List Eve
           let wrote = (and_parts _ (part_writes meaning share l) w).1 in
           let both = and_parts (part_writes meaning s.whole l) (executor_of s.whole.path (writer_hop s.whole.path l.hop) == x) (sym (s.is.writes l) ∙ wrote) in
           let below : s.whole.path.tail_hop < head_hop s.whole = let tail = s.keeps.tail_at in let head = s.keeps.head_at in omega (arith, tail, head) in
-          let is = written (lanes_of plan) meaning stands_after state s.whole s.holds below l both.0 in
+          let is = written (world_of true plan) meaning stands_after state s.whole s.holds below l both.0 in
           record {
             share = share;
             at = at;

@@ -1,5 +1,5 @@
 -- Executors whose nodes are their shares of channels before any move: they can start.
-use Rattle.std.proofs.Common.{◌≡◌, ℕ, ◌<◌, ◌≤◌, List, length, map, slice_get, ap, sym, ◌∙◌, subst, arith}
+use Rattle.std.proofs.Common.{◌≡◌, ℕ, ◌<◌, ◌≤◌, List, length, map, slice_get, ap, sym, ◌∙◌, subst, arith, true}
 use Rattle.std.proofs.lemmas.List.FromFn.{length-map-range_with_len}
 use Rattle.std.proofs.lemmas.Option.{slice_get_within}
 use Rattle.pl_event.specs.declared.events.Event.{Event}
@@ -10,7 +10,7 @@ use Rattle.pl_queue.specs.declared.views.SenderView.{SenderView}
 use Rattle.pl_queue.specs.declared.views.TakerView.{TakerView}
 use Rattle.pl_head.specs.Transports.{TransportState}
 use Rattle.pl_part.specs.Parts.{PartView}
-use Rattle.pl_channel.specs.Lanes.{lanes_of}
+use Rattle.pl_channel.specs.Lanes.{world_of}
 use Rattle.pl_replay.specs.Channels.{taken_of, writes_of, came_of}
 use Rattle.pl_replay.specs.Channels.{lanes_of as data_lanes_of}
 use Rattle.pl_replay.specs.Starts.{ArePlaced}
@@ -24,11 +24,11 @@ use Rattle.pl_exec.specs.Sharing.{AreSharesOf, AreShared, places_at, places_of}
 use Rattle.pl_exec.proofs.Fits.{IsTable, numbered-at, shares-fit}
 use Rattle.pl_exec.proofs.SharesStand.{shares-stand}
 
-module _ {S T : Type 0} (meaning : S → Meaning) (stands_after : S → List Event → Type 0) (state : T → TransportState) (world : World) (plan : Plan) (is_world : world ≡ lanes_of plan) (rs : List (Recorded S T))
+module _ {S T : Type 0} (meaning : S → Meaning) (stands_after : S → List Event → Type 0) (state : T → TransportState) (world : World) (plan : Plan) (is_world : world ≡ world_of true plan) (rs : List (Recorded S T))
     (planned : plan.channels ≡ map (channel_planned meaning state) rs) (wholes : List (PartView S T)) (placed : ArePlaced meaning stands_after state rs wholes) (ruled : IsPlan plan) (few : plan.executors ≤ MAX_EXECUTORS)
     (lanes : LaneTable) (table : IsTable wholes plan.executors lanes) where
   abbrev pub Stands : OwnNodes S T → Type 0
-  Stands n = (world ≡ lanes_of plan) × NodesStand world plan meaning stands_after state n.number n.was_refused n.parts.items × (n.own.items ≡ heads_of n.parts.items)
+  Stands n = (world ≡ world_of true plan) × NodesStand world plan meaning stands_after state n.number n.was_refused n.parts.items × (n.own.items ≡ heads_of n.parts.items)
 
   stand : (x : ℕ) (nodes : OwnNodes S T) → x < plan.executors → AreSharesOf meaning stands_after state wholes x nodes → Stands nodes
   stand x nodes below are = (

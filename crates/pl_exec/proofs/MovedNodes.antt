@@ -15,7 +15,7 @@ use Rattle.pl_head.specs.declared.heads.ReadStep.TheVariants as reading
 use Rattle.pl_head.specs.Transports.{TransportState}
 use Rattle.pl_part.specs.Paths.{context_at}
 use Rattle.pl_part.specs.Parts.{PartView, SamePart, PartReads, PartWrites, head_hop, part_lanes}
-use Rattle.pl_part.specs.PartCalls.{Taken, Given}
+use Rattle.pl_part.specs.PartCalls.{Taken, Given, PartRefused}
 use Rattle.pl_channel.specs.PlanStand.{PartKeepsPlan}
 use Rattle.pl_channel.proofs.PlanLemmas.{part-takes-keeps, part-reads-keeps, part-writes-keeps}
 use Rattle.pl_replay.specs.Channels.{lanes_of}
@@ -81,10 +81,10 @@ module _ {S T : Type 0} (ps : List (PartView S T)) (c : ℕ) (p p' : PartView S 
         (λ q k. part-writes-keeps meaning stands_after is_spent state q may_refuse p p' b a answer t.puts.same w k)
 
     -- something that it wrote was refused
-    pub refuse-stands : (hop : ℕ) (b a : OutputsView) → Given meaning stands_after state p hop b p' a → p'.head ≡ p.head → NodesStand world plan meaning stands_after state me true (changed ps c p p' was)
-    refuse-stands hop b a t head =
+    pub refuse-stands : (hop : ℕ) (b a : OutputsView) → world.refuses ≡ true → PartRefused meaning stands_after state p hop b p' a → p'.head ≡ p.head → NodesStand world plan meaning stands_after state me true (changed ps c p p' was)
+    refuse-stands hop b a refuses t head =
         let own = own-stands ps c p p' was world plan meaning stands_after state me refused stand in
-        nodes-stand ps c p p' was world plan meaning stands_after state me refused stand true (λ s. absurd (never s)) t.puts.same (t.holds world own.holds) (λ s. absurd (never s))
+        nodes-stand ps c p p' was world plan meaning stands_after state me refused stand true (λ s. absurd (never s)) t.puts.same (t.holds world refuses own.holds) (λ s. absurd (never s))
         (λ q k. refused-keeps state q p p' t.puts.same head k)
       where
         never : true ≡ false → ⊥

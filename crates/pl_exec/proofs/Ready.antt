@@ -1,12 +1,12 @@
 -- What is true of channels that are ready to start.
-use Rattle.std.proofs.Common.{◌≡◌, ℕ, suc, ◌+◌, ◌<◌, ◌≤◌, ◌^◌, List, [], ◌∷◌, length, map, slice_get, Some, refl, ap, ap₂, sym, ◌∙◌, subst, inl, inr, arith}
+use Rattle.std.proofs.Common.{◌≡◌, ℕ, suc, ◌+◌, ◌<◌, ◌≤◌, ◌^◌, List, [], ◌∷◌, length, map, slice_get, Some, refl, ap, ap₂, sym, ◌∙◌, subst, inl, inr, arith, true}
 use Rattle.std.specs.Prelude.{All}
 use Rattle.std.specs.List.{range_with_len}
 use Rattle.std.specs.Option.{option_map}
 use Rattle.std.proofs.lemmas.Option.{slice_get_within, slice_get_cases, slice_get-map}
 use Rattle.std.proofs.lemmas.List.{length-map}
 use Rattle.pl_build.specs.declared.limits.TheConstants.{MAX_HANDLERS}
-use Rattle.pl_channel.specs.Lanes.{lanes_of}
+use Rattle.pl_channel.specs.Lanes.{world_of}
 use Rattle.pl_event.specs.declared.events.Event.{Event}
 use Rattle.pl_event.specs.Meaning.{Meaning}
 use Rattle.pl_event.proofs.Lists.{All-at}
@@ -105,7 +105,7 @@ module _ {S T : Type 0} (meaning : S → Meaning) (stands_after : S → List Eve
   table-is = subst (λ (z : ℕ × LaneTable). IsTable parts z.0 z.1) (λ i. (all i, sym are i))
       (record { size = table-length parts count; crossing = crossing-there parts count; entering = entering-crosses parts count })
 
-  module _ (world : World) (is_world : world ≡ lanes_of plan) {M K D : Type 0} (is_taker : M → K → Type 0) (takes_of : K → TakerView) (is_sender : M → D → Type 0) (sends_of : D → SenderView) where
+  module _ (world : World) (is_world : world ≡ world_of true plan) {M K D : Type 0} (is_taker : M → K → Type 0) (takes_of : K → TakerView) (is_sender : M → D → Type 0) (sends_of : D → SenderView) where
     pub ready-start : (inboxes : List (InboxView M)) (ways : List (WaysView K D)) (nodes : List (OwnNodes S T)) (places : List PlacesView) → AreOpened is_taker takes_of is_sender sends_of lanes inboxes ways
         → AreShared meaning stands_after state parts count nodes → places ≡ places_of parts count
         → CanStart is_taker takes_of is_sender sends_of (Stands meaning stands_after state world plan is_world ready.recorded ready.planned parts ready.placed ready.ruled ready.executors lanes table-is) (λ n. n.number)

@@ -46,7 +46,7 @@ or-none false failure none e = sym (ap (λ (f : Option Cause). is_some f) none) 
 module _ {T : Type 0} (state : T → TransportState) (plan : Plan) (c : ℕ) (p : ChannelPlan) (tail : TailView) (head : HeadView T) (planned : slice_get plan.channels c ≡ Some p)
     (own : IsLeftTail plan c p tail) (last : IsLeftHead state plan c p head) where
   -- they hold in the world of the plan
-  abbrev pub held : EndsHold state plan c p tail head
+  abbrev pub held : EndsHold state true plan c p tail head
   held = record { planned = planned; tail_holds = own.holds; tail_channel = own.channel; tail_at = own.at; head_holds = last.holds; head_channel = last.channel; head_at = last.at }
 
   abbrev took : HeadTook state last.holds.events head

@@ -48,7 +48,7 @@ module _ {T : Type 0} (state : T → TransportState) (f : Found T) (tail : TailV
 
   -- and that it keeps to each plan by which they hold
   abbrev pub KeepsByEnds : ChannelReport → Type 0
-  KeepsByEnds r = (plan : Plan) (number : ℕ) (p : ChannelPlan) → EndsHold state plan number p tail head → KeepsToPlan p r
+  KeepsByEnds r = (refuses : Bool) (plan : Plan) (number : ℕ) (p : ChannelPlan) → EndsHold state refuses plan number p tail head → KeepsToPlan p r
 
   -- so where both were found it is their report, if memory has not run out
   pub final-result : (r : Result ChannelReport AllocError) → IfOk r OfEnds → IfOk r KeepsByEnds → IfOk r (λ report. IsFinalReport state f report)
@@ -67,7 +67,7 @@ module _ {T : Type 0} (state : T → TransportState) (plan : Plan) (c : ℕ) (p 
   last = subst (λ (h : HeadView T). IsLeftHead state plan c p h) (same_Some left.head final.head (sym left.has_head ∙ final.has_head)) left.left_head
 
   channel-keeps : KeepsToPlan p r
-  channel-keeps = final.keeps plan c p (held state plan c p final.tail final.head planned own last)
+  channel-keeps = final.keeps true plan c p (held state plan c p final.tail final.head planned own last)
 
   channel-closed : r.stands ≢ Open
   channel-closed =

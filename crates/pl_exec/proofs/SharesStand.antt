@@ -25,7 +25,7 @@ use Rattle.pl_part.specs.Paths.{IsAt, context_at, writer_hop, enters_path}
 use Rattle.pl_part.specs.Parts.{PartView, PartHolds, head_hop, has_entered, part_writes, part_came}
 use Rattle.pl_part.specs.Shares.{IsShare, only_if, executor_of}
 use Rattle.pl_part.proofs.ShareLemmas.{share-entered}
-use Rattle.pl_channel.specs.Lanes.{lanes_of}
+use Rattle.pl_channel.specs.Lanes.{world_of}
 use Rattle.pl_channel.specs.Placing.{IsUnmoved}
 use Rattle.pl_channel.specs.PlanStand.{PartKeepsPlan}
 use Rattle.pl_replay.specs.Channels.{IsWhole}
@@ -158,7 +158,7 @@ module _ {S T : Type 0} (meaning : S → Meaning) (stands_after : S → List Eve
     pub recorded : Recorded S T
     pub planned_at : slice_get plan.channels c ≡ Some (channel_planned meaning state recorded)
     pub is_placed : IsPlaced meaning stands_after state c recorded whole
-    pub holds : PartHolds (lanes_of plan) meaning stands_after state whole
+    pub holds : PartHolds (world_of true plan) meaning stands_after state whole
     pub keeps : PartKeepsPlan state (channel_planned meaning state recorded) whole
     pub is : IsShareOf meaning stands_after state x whole share
 
@@ -178,18 +178,18 @@ module _ {S T : Type 0} (meaning : S → Meaning) (stands_after : S → List Eve
         recorded = r.0;
         planned_at = plan_at;
         is_placed = own;
-        holds = own.holds plan plan_at;
+        holds = own.holds true plan plan_at;
         keeps = (starts-keep meaning stands_after state plan rs planned wholes placed).each c (channel_planned meaning state r.0) whole.0 plan_at whole.1;
         is = are.each c whole.0 share whole.1 at;
       }
 
-  part-stands : (c : ℕ) (share : PartView S T) → IsPlacedShare c share → PartStands (lanes_of plan) meaning stands_after state x nodes.was_refused c share
+  part-stands : (c : ℕ) (share : PartView S T) → IsPlacedShare c share → PartStands (world_of true plan) meaning stands_after state x nodes.was_refused c share
   part-stands c share s = record {
-    holds = s.is.holds (lanes_of plan) s.holds;
+    holds = s.is.holds (world_of true plan) s.holds;
     channel = s.is.share_is.path.channel ∙ s.is_placed.whole.channel_is;
     within = let tail = s.is.share_is.path.tail_hop ∙ s.keeps.tail_at in let head = s.is.share_is.path.slots ∙ s.keeps.head_at in omega (arith, tail, head);
     resident = share-resident x s.whole share s.holds.hops whole s.is.share_is;
-    called = λ unrefused hop k at. none-failed (lanes_of plan) meaning stands_after state s.whole s.holds s.is_placed.unmoved hop k
+    called = λ unrefused hop k at. none-failed (world_of true plan) meaning stands_after state s.whole s.holds s.is_placed.unmoved hop k
         (only-some (executor_of s.whole.path hop == x) (context_at s.whole.path hop) k (sym (s.is.share_is.path.contexts hop) ∙ at));
   }
     where
@@ -212,7 +212,7 @@ module _ {S T : Type 0} (meaning : S → Meaning) (stands_after : S → List Eve
     head = λ h at. s.keeps.head h (only-some (executor_of s.whole.path (head_hop s.whole) == x) s.whole.head h (sym s.is.share_is.head ∙ at));
   }
 
-  pub shares-stand : plan.executors ≤ MAX_EXECUTORS → x < plan.executors → NodesStand (lanes_of plan) plan meaning stands_after state x nodes.was_refused nodes.parts.items
+  pub shares-stand : plan.executors ≤ MAX_EXECUTORS → x < plan.executors → NodesStand (world_of true plan) plan meaning stands_after state x nodes.was_refused nodes.parts.items
   shares-stand few within = record {
     parts = λ c share at. part-stands c share (whole-of c share at);
     keeps = record {

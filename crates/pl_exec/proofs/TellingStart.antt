@@ -1,5 +1,5 @@
 -- Executors whose heads tell words can start where their nodes can.
-use Rattle.std.proofs.Common.{◌≡◌, ℕ, ◌≤◌, List, length, map, slice_get, Option, Some, ap, sym, ◌∙◌, subst}
+use Rattle.std.proofs.Common.{◌≡◌, ℕ, ◌≤◌, List, length, map, slice_get, Option, Some, ap, sym, ◌∙◌, subst, true}
 use Rattle.std.specs.Prelude.{All}
 use Rattle.std.specs.Option.{option_map}
 use Rattle.std.proofs.lemmas.List.{length-map}
@@ -11,7 +11,7 @@ use Rattle.pl_event.proofs.Lists.{All-at}
 use Rattle.pl_queue.specs.declared.views.SenderView.{SenderView}
 use Rattle.pl_queue.specs.declared.views.TakerView.{TakerView}
 use Rattle.pl_head.specs.Transports.{TransportState}
-use Rattle.pl_channel.specs.Lanes.{lanes_of}
+use Rattle.pl_channel.specs.Lanes.{world_of}
 use Rattle.pl_replay.specs.Channels.{taken_of, writes_of, came_of}
 use Rattle.pl_replay.specs.Channels.{lanes_of as data_lanes_of}
 use Rattle.pl_world.specs.Plans.{Plan}
@@ -23,10 +23,10 @@ use Rattle.pl_exec.specs.Telling.{AreSeated}
 
 module _ {S T : Type 0} (meaning : S → Meaning) (stands_after : S → List Event → Type 0) (state : T → TransportState) (world : World) (plan : Plan) where
   abbrev Own : OwnNodes S T → Type 0
-  Own n = (world ≡ lanes_of plan) × NodesStand world plan meaning stands_after state n.number n.was_refused n.parts.items × (n.own.items ≡ heads_of n.parts.items)
+  Own n = (world ≡ world_of true plan) × NodesStand world plan meaning stands_after state n.number n.was_refused n.parts.items × (n.own.items ≡ heads_of n.parts.items)
 
   abbrev Telling : TellingNodes S T → Type 0
-  Telling n = (world ≡ lanes_of plan) × NodesStand world plan meaning stands_after state n.nodes.number n.nodes.was_refused n.nodes.parts.items × (n.nodes.own.items ≡ heads_of n.nodes.parts.items) × AreSeated n.words.now plan n.seats.items
+  Telling n = (world ≡ world_of true plan) × NodesStand world plan meaning stands_after state n.nodes.number n.nodes.was_refused n.nodes.parts.items × (n.nodes.own.items ≡ heads_of n.nodes.parts.items) × AreSeated n.words.now plan n.seats.items
 
   module _ {M K D : Type 0} (is_taker : M → K → Type 0) (takes_of : K → TakerView) (is_sender : M → D → Type 0) (sends_of : D → SenderView) where
     pub telling-start : (inboxes : List (InboxView M)) (ways : List (WaysView K D)) (own : List (OwnNodes S T)) (all : List (TellingNodes S T)) (places : List PlacesView) → map (λ n. n.nodes) all ≡ own

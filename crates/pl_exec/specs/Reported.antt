@@ -1,5 +1,5 @@
 -- The report of a run.
-use Rattle.std.specs.Prelude.{◌≡◌, ◌≢◌, ℕ, ◌||◌, ◌&&◌, true, All, List, [], ◌∷◌, length, slice_get, Some, None, is_some}
+use Rattle.std.specs.Prelude.{◌≡◌, ◌≢◌, ℕ, Bool, ◌||◌, ◌&&◌, true, All, List, [], ◌∷◌, length, slice_get, Some, None, is_some}
 use Rattle.std.specs.List.{AllZip}
 use Rattle.std.specs.Option.{option_or}
 use Rattle.pl_event.specs.declared.events.Event.{Event}
@@ -14,7 +14,7 @@ use Rattle.pl_part.specs.HeadHolds.{HeadHolds}
 use Rattle.pl_part.specs.Parts.{PartView}
 use Rattle.pl_part.specs.TailHolds.{TailHolds}
 use Rattle.pl_channel.specs.Ends.{ends_of, EndsHold}
-use Rattle.pl_channel.specs.Lanes.{lanes_of}
+use Rattle.pl_channel.specs.Lanes.{world_of}
 use Rattle.pl_world.specs.declared.report.ChannelReport.{ChannelReport}
 use Rattle.pl_world.specs.declared.report.Report.{Report}
 use Rattle.pl_world.specs.declared.report.Stands.TheVariants.{Open}
@@ -50,14 +50,14 @@ pub record IsRunReport (plan : Plan) (report : Report) : Type 0 where
 
 -- The tail of channel c, which has ended or failed, holds in the world of the plan.
 pub record IsLeftTail (plan : Plan) (c : ℕ) (p : ChannelPlan) (tail : TailView) : Type 0 where
-  pub holds : TailHolds (lanes_of plan) tail
+  pub holds : TailHolds (world_of true plan) tail
   pub channel : tail.channel ≡ c
   pub at : tail.hop ≡ tail_hop p
   pub over : is_over tail.standing ≡ true
 
 -- So does its head, which has no flushed byte left, and is aborted only where the plan says so.
 pub record IsLeftHead {T : Type 0} (state : T → TransportState) (plan : Plan) (c : ℕ) (p : ChannelPlan) (head : HeadView T) : Type 0 where
-  pub holds : HeadHolds state (lanes_of plan) head
+  pub holds : HeadHolds state (world_of true plan) head
   pub channel : head.channel ≡ c
   pub at : head.hop ≡ head_hop p
   pub over : (is_over head.standing || is_some head.failure) ≡ true
@@ -101,4 +101,4 @@ module _ {T : Type 0} (state : T → TransportState) where
     pub head : HeadView T
     pub has_head : f.head ≡ Some head
     pub reports : (ys zs : List Event) (sizes : List Change) → StandsAfter state head ys zs sizes → IsChannelReport (ends_of state tail head ys zs) r
-    pub keeps : (plan : Plan) (c : ℕ) (p : ChannelPlan) → EndsHold state plan c p tail head → KeepsToPlan p r
+    pub keeps : (refuses : Bool) (plan : Plan) (c : ℕ) (p : ChannelPlan) → EndsHold state refuses plan c p tail head → KeepsToPlan p r

@@ -2,7 +2,7 @@
 
 ghost use Rattle.std.specs.Prelude.{◌≡◌, ◌<◌, ◌^◌, ◌||◌, ◌&&◌, length, slice_get, Some, ℕ, true, false};
 ghost use Rattle.pl_exec.specs.OwnNodes.{NodesStand, MayReadOwn, MayWriteOwn, AreOver, IsPartOver, enters, served_of, heads_of, target_of};
-ghost use Rattle.pl_channel.specs.Lanes.{lanes_of};
+ghost use Rattle.pl_channel.specs.Lanes.{world_of};
 ghost use Rattle.pl_part.specs.Parts.{PartView, PartHolds};
 ghost use Rattle.pl_replay.specs.Channels.{came_of, taken_of, writes_of};
 ghost use Rattle.pl_replay.specs.Channels.{lanes_of as data_lanes_of};
@@ -55,7 +55,7 @@ impl<W: Planned, S: Stage, T: Transport> Part<W> for OwnNodes<S, T> {
 
     ghost are_over = { λ n. AreOver T.state n.parts.items };
 
-    ghost stands = { λ n. (W.world ≡ lanes_of W.plan) × NodesStand W.world W.plan S.meaning S.stands_after T.state n.number n.was_refused n.parts.items × (n.own.items ≡ heads_of n.parts.items) };
+    ghost stands = { λ n. (W.world ≡ world_of true W.plan) × NodesStand W.world W.plan S.meaning S.stands_after T.state n.number n.was_refused n.parts.items × (n.own.items ≡ heads_of n.parts.items) };
 
     fn target(&self, lane: Lane) -> usize {
         match self.parts.get(lane.channel as usize) {

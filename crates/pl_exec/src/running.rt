@@ -1,7 +1,7 @@
 //! A session, run by executors on threads of their own.
 
-ghost use Rattle.std.specs.Prelude.{◌≡◌, ◌<◌, ◌≤◌, ℕ, IfOk};
-ghost use Rattle.pl_channel.specs.Lanes.{lanes_of};
+ghost use Rattle.std.specs.Prelude.{◌≡◌, ◌<◌, ◌≤◌, ℕ, IfOk, true};
+ghost use Rattle.pl_channel.specs.Lanes.{world_of};
 ghost use Rattle.pl_world.specs.declared.limits.TheConstants.{MAX_CAPACITY};
 ghost use Rattle.pl_world.specs.Plans.{planned};
 ghost use Rattle.pl_world.specs.Sessions.{plan_of};
@@ -139,7 +139,7 @@ fn run_waiting<
     seats: HeadSeats,
 ) -> Result<Report, RunFault>
     requires capacity { (1 ≤ capacity) × (capacity ≤ MAX_CAPACITY) }
-    requires world { W.world ≡ lanes_of W.plan }
+    requires world { W.world ≡ world_of true W.plan }
     requires plan { W.plan ≡ planned S.meaning T.state capacity world.executors world.channels }
     requires seats { AreHeadSeatsOf words.now seats }
     requires marks { HaveMarksOf seats world.channels }
@@ -165,7 +165,7 @@ fn run_ring<
     seats: HeadSeats,
 ) -> Result<Report, RunFault>
     requires capacity { (1 ≤ capacity) × (capacity ≤ MAX_CAPACITY) }
-    requires world { W.world ≡ lanes_of W.plan }
+    requires world { W.world ≡ world_of true W.plan }
     requires plan { W.plan ≡ planned S.meaning T.state capacity world.executors world.channels }
     requires seats { AreHeadSeatsOf words.now seats }
     requires marks { HaveMarksOf seats world.channels }
@@ -196,7 +196,7 @@ where
     M::Sender: Drop + Send,
     M::Taker: Drop + Send,
     requires capacity { (1 ≤ capacity) × (capacity ≤ MAX_CAPACITY) }
-    requires world { W.world ≡ lanes_of W.plan }
+    requires world { W.world ≡ world_of true W.plan }
     requires plan { W.plan ≡ planned S.meaning T.state capacity world.executors world.channels }
     requires seats { AreHeadSeatsOf words.now seats }
     requires marks { HaveMarksOf seats world.channels }
@@ -238,7 +238,7 @@ fn run_parts<
 where
     M::Sender: Drop + Send,
     M::Taker: Drop + Send,
-    requires world { W.world ≡ lanes_of W.plan }
+    requires world { W.world ≡ world_of true W.plan }
     requires ready { AreReady S.meaning S.stands_after T.state W.plan parts.items }
     requires executors { count ≡ W.plan.executors }
     requires capacity { capacity ≡ W.plan.capacity }

@@ -1,7 +1,7 @@
 //! The nodes of an executor, whose heads tell the words of their channels what becomes of writes.
 
-ghost use Rattle.std.specs.Prelude.{◌≡◌, ◌<◌, ◌≤◌, ◌⊎◌, ℕ, [], length, map, All, IfOk, Some, None};
-ghost use Rattle.pl_channel.specs.Lanes.{lanes_of};
+ghost use Rattle.std.specs.Prelude.{◌≡◌, ◌<◌, ◌≤◌, ◌⊎◌, ℕ, [], length, map, All, IfOk, Some, None, true};
+ghost use Rattle.pl_channel.specs.Lanes.{world_of};
 ghost use Rattle.pl_event.specs.Worlds.{World};
 ghost use Rattle.pl_head.specs.HeadStand.{HeadView};
 ghost use Rattle.pl_part.specs.Parts.{PartHolds};
@@ -58,7 +58,7 @@ impl<'a, W: Planned, S: Stage, T: Transport> Part<W> for TellingNodes<'a, S, T> 
 
     ghost are_over = { λ n. AreOver T.state n.nodes.parts.items };
 
-    ghost stands = { λ n. (W.world ≡ lanes_of W.plan)
+    ghost stands = { λ n. (W.world ≡ world_of true W.plan)
         × NodesStand W.world W.plan S.meaning S.stands_after T.state n.nodes.number n.nodes.was_refused n.nodes.parts.items
         × (n.nodes.own.items ≡ heads_of n.nodes.parts.items)
         × AreSeated n.words.now W.plan n.seats.items };

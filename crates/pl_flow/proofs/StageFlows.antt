@@ -19,7 +19,7 @@ module _ (world : World) (lane : Lane) (content : List Event) (kind : lane.kind 
   unfolding FitsWorld
   event-good a x rest n whole count = record {
     fits = subst (λ k. FitsAsKind world k (record { lane = lane; number = n; item = item.Event x })) (sym kind)
-        (content, is, ap (λ k. slice_get content k) count ∙ sym (ap (λ zs. slice_get zs (length a)) whole) ∙ at-end a x rest);
+        (content, is, ap (λ k. slice_get content k) count ∙ sym (ap (λ zs. slice_get zs (length a)) whole) ∙ at-end a x rest, tt);
     small = let l = ap length (sym whole) ∙ length-append a (x ∷ rest) in omega (arith, few, count, l);
   }
 

@@ -8,7 +8,7 @@ ghost use Rattle.pl_event.specs.declared.envelopes.Kind.TheVariants.{Data};
 ghost use Rattle.pl_event.specs.declared.envelopes.Lane.{Lane};
 ghost use Rattle.pl_event.specs.declared.outcomes.Cause.{Cause};
 ghost use Rattle.pl_event.specs.Meaning.{Meaning, up_of, down_of};
-ghost use Rattle.pl_event.specs.Worlds.{World, content_of};
+ghost use Rattle.pl_event.specs.Worlds.{World, content_of, may_fail};
 ghost use Rattle.pl_context.specs.OutputsViews.{OutputsView, PutsAll, Appends, failure_of};
 ghost use Rattle.pl_context.specs.Ports.{as_items};
 ghost use Rattle.pl_flow.specs.Flows.{Point, on, IsGood, IsFlow, past};
@@ -19,11 +19,12 @@ pub fn flow_law()
     ensures { (world : World) (p : Point) (xs ys : List Envelope) → IsFlow world p xs → IsFlow world (past p xs) ys → IsFlow world p (xs ++ ys) }
 {}
 
-/// A failure may stand wherever an item of its lane may, and an end behind the last event.
+/// A failure for a cause that comes in this world may stand wherever an item of its lane may, and an end behind the last
+/// event.
 pub fn item_law()
     ensures stand_in { (world : World) (x : Envelope) → x.lane.kind ≡ Data → IsGood world x → IsGood world (record x { item = failure_of x.item }) }
     ensures failure { (world : World) (lane : Lane) (events : List Event) (n : ℕ) (cause : Cause) → lane.kind ≡ Data → content_of world lane ≡ Some events → length events + 1 < 2 ^ 31
-        → n ≤ length events → IsGood world (record { lane = lane; number = n; item = item.Fail cause }) }
+        → may_fail world cause ≡ true → n ≤ length events → IsGood world (record { lane = lane; number = n; item = item.Fail cause }) }
     ensures end { (world : World) (lane : Lane) (events : List Event) (n : ℕ) → lane.kind ≡ Data → content_of world lane ≡ Some events → length events + 1 < 2 ^ 31
         → n ≡ length events → IsGood world (record { lane = lane; number = n; item = item.End }) }
 {}

@@ -28,7 +28,7 @@ use Rattle.pl_context.specs.ContextViews.{ContextView, has_up, has_down, Enters,
 use Rattle.pl_context.specs.Contexts.{StandsAfter, MakesFew, Runs, Closes, TakesItem, TakesFlag, counted, ups, downs, last_item}
 use Rattle.pl_context.proofs.PortLemmas.{all_go_on-events, all_go_on-append}
 use Rattle.pl_context.proofs.ContextLemmas.{closed-port}
-use Rattle.pl_event.specs.Worlds.{World, FitsWorld, FitsAsKind}
+use Rattle.pl_event.specs.Worlds.{World, FitsWorld, FitsAsKind, MayCome, may_fail}
 use Rattle.pl_flow.specs.Flows.{IsGood}
 use Rattle.pl_flow.specs.Makes.{Makes}
 use Rattle.pl_flow.proofs.MakeLemmas.{makes-none}
@@ -37,7 +37,7 @@ use Rattle.pl_flow.proofs.StageFlows.{ups-good, downs-good}
 use Rattle.pl_flow.proofs.ItemLemmas.{failure-good, end-good}
 use Rattle.pl_part.specs.ContextHolds.{HoldsWith, context_writes, context_came}
 use Rattle.pl_part.proofs.EventLists.{split-at, fits-within, length-items, made-le, made-more, length-end, goes-on-end, still-closed, ends-good}
-use Rattle.pl_part.proofs.ItemFits.{data-fits, flag-fits, within-limit}
+use Rattle.pl_part.proofs.ItemFits.{data-fits, data-may, flag-fits, within-limit}
 use Rattle.pl_part.proofs.PortMakes.{both-put, both-append, flag-put}
 
 pub and-left : (a b : Bool) → (a && b) ≡ true → a ≡ true
@@ -216,13 +216,13 @@ module _ {S : Type 0} (world : World) (meaning : S → Meaning) (stands_after : 
     not-called : (standing : Standing) → c.failed_by_call ≡ true → has_failed standing ≡ true
     not-called standing e = absurd (open-failed c.standing live (h.by_call e))
 
-    failing : (cause : Cause) (st : S) (t : ℕ) (fb : Bool) → t ≤ 2 ^ 31 → meaning st ≡ meaning c.stage → (b a : OutputsView) (c' : ContextView S)
+    failing : (cause : Cause) → may_fail world cause ≡ true → (st : S) (t : ℕ) (fb : Bool) → t ≤ 2 ^ 31 → meaning st ≡ meaning c.stage → (b a : OutputsView) (c' : ContextView S)
         → Closes (stands.Failed cause) (record c { stage = st; taken = t; failed_by_call = fb }) b c' a → Stepped b c' a
-    failing cause st t fb small meant b a c' k = closing (stands.Failed cause) refl st t fb small meant (λ e. refl)
+    failing cause may st t fb small meant b a c' k = closing (stands.Failed cause) refl st t fb small meant (λ e. refl)
         (λ o. let made = (h.stood live).above o in let le = made-le (meaning c.stage).up c.taken events in
-        failure-good world c.up.lane (up_of (meaning c.stage) events) c.up.made h.wired.up_kind (h.wired.up (up-has o)) (h.wired.few_up (up-has o)) cause (omega (arith, made, le)))
+        failure-good world c.up.lane (up_of (meaning c.stage) events) c.up.made h.wired.up_kind (h.wired.up (up-has o)) (h.wired.few_up (up-has o)) cause may (omega (arith, made, le)))
         (λ o. let made = (h.stood live).below o in let le = made-le (meaning c.stage).down c.taken events in
-        failure-good world c.down.lane (down_of (meaning c.stage) events) c.down.made h.wired.down_kind (h.wired.down (down-has o)) (h.wired.few_down (down-has o)) cause (omega (arith, made, le)))
+        failure-good world c.down.lane (down_of (meaning c.stage) events) c.down.made h.wired.down_kind (h.wired.down (down-has o)) (h.wired.few_down (down-has o)) cause may (omega (arith, made, le)))
         b a c' k
 
     ending : c.taken ≡ length events → (b a : OutputsView) (c' : ContextView S) → Closes stands.Ended (counted Data c) b c' a → Stepped b c' a
@@ -235,15 +235,15 @@ module _ {S : Type 0} (world : World) (meaning : S → Meaning) (stands_after : 
 
     -- ---- any item of its data lane
 
-    pub taken-open : (i : Item) → Fits events c.taken i → (answer : Took) (b a : OutputsView) (c' : ContextView S) → meaning c'.stage ≡ meaning c.stage
+    pub taken-open : (i : Item) → Fits events c.taken i → MayCome world i → (answer : Took) (b a : OutputsView) (c' : ContextView S) → meaning c'.stage ≡ meaning c.stage
         → TakesItem meaning stands_after is_spent (counted Data c) i b answer c' a → Stepped b c' a
-    taken-open (item.Event x) fits took.Ran b a c' meant t = ran x fits b a c' meant t
-    taken-open (item.Event x) fits (took.Failed cause) b a c' meant t = failing Memory c'.stage (c.taken + 1) c.failed_by_call (taken-few (item.Event x) fits) meant b a c' t.1.closes
-    taken-open (item.Event x) fits took.Ended b a c' meant t = absurd t
-    taken-open (item.Event x) fits took.Dropped b a c' meant t = absurd t
-    taken-open item.End fits answer b a c' meant t = ending fits b a c' t.1
-    taken-open (item.Fail cause) fits answer b a c' meant t = failing cause c.stage (c.taken + 1) c.failed_by_call (taken-few (item.Fail cause) fits) refl b a c' t.1
-    taken-open (item.Flag value) fits answer b a c' meant t = absurd fits
+    taken-open (item.Event x) fits may took.Ran b a c' meant t = ran x fits b a c' meant t
+    taken-open (item.Event x) fits may (took.Failed cause) b a c' meant t = failing Memory refl c'.stage (c.taken + 1) c.failed_by_call (taken-few (item.Event x) fits) meant b a c' t.1.closes
+    taken-open (item.Event x) fits may took.Ended b a c' meant t = absurd t
+    taken-open (item.Event x) fits may took.Dropped b a c' meant t = absurd t
+    taken-open item.End fits may answer b a c' meant t = ending fits b a c' t.1
+    taken-open (item.Fail cause) fits may answer b a c' meant t = failing cause may c.stage (c.taken + 1) c.failed_by_call (taken-few (item.Fail cause) fits) refl b a c' t.1
+    taken-open (item.Flag value) fits may answer b a c' meant t = absurd fits
 
     pub few-open : (i : Item) → Fits events c.taken i → MakesFew meaning stands_after c i
     few-open (item.Event x) fits = event-few x fits
@@ -379,7 +379,7 @@ module _ {S : Type 0} (world : World) (meaning : S → Meaning) (stands_after : 
         next is = taken-few e.item (next-fits is)
 
         by : (k : Kind) → e.lane.kind ≡ k → (s : Standing) → c.standing ≡ s → Stepped b c' a
-        by Data is stands.Open live = taken-open live e.item (next-fits is) answer b a c' meant (item is live)
+        by Data is stands.Open live = taken-open live e.item (next-fits is) (data-may world e good is) answer b a c' meant (item is live)
         by Data is stands.Ended over = let t = ended is over in counted-over (ap is_over over) (next is) b a c' t.1 t.2
         by Data is (stands.Failed cause) over = let t = drops (ap has_failed over) in dropped e.lane.kind (ap has_failed over) next small b a c' t.1 t.2
         by Flags is stands.Open live = flags-taken e.item (flag-fits world e good is c.flags_taken (here Flags is)) (small is) (ap has_failed live) answer b a c' (flag is (ap has_failed live))
@@ -388,18 +388,18 @@ module _ {S : Type 0} (world : World) (meaning : S → Meaning) (stands_after : 
 
   -- ---- it is made to fail
 
-  pub context-failed : (cause : Cause) (b a : OutputsView) (c' : ContextView S)
+  pub context-failed : (cause : Cause) → may_fail world cause ≡ true → (b a : OutputsView) (c' : ContextView S)
       → (c.standing ≡ stands.Open → Closes (stands.Failed cause) (record c { failed_by_call = true }) b c' a)
       → (is_over c.standing ≡ true → (c' ≡ c) × (a ≡ b))
       → Stepped b c' a
-  context-failed cause b a c' closes over = by c.standing refl
+  context-failed cause may b a c' closes over = by c.standing refl
     where
       same : (c' ≡ c) × (a ≡ b) → Stepped b c' a
       same t = subst (λ (y : ContextView S × OutputsView). Stepped b y.0 y.1) (λ i. (sym t.0 i, sym t.1 i))
           (h, makes-none world (context_writes (meaning c.stage).direction c) (context_came (meaning c.stage).direction c) b b refl refl)
 
       by : (s : Standing) → c.standing ≡ s → Stepped b c' a
-      by stands.Open live = failing live cause c.stage c.taken true h.few.taken refl b a c' (closes live)
+      by stands.Open live = failing live cause may c.stage c.taken true h.few.taken refl b a c' (closes live)
       by stands.Ended is = same (over (ap is_over is))
       by (stands.Failed other) is = same (over (ap is_over is))
 

@@ -15,14 +15,14 @@ use Rattle.pl_event.specs.declared.envelopes.Envelope.{Envelope}
 use Rattle.pl_event.specs.Fitting.{Fits}
 use Rattle.pl_event.specs.Hops.{same_hop, same_lane, data_lane, flags_lane}
 use Rattle.pl_event.specs.Inputs.{recorded_input}
-use Rattle.pl_event.specs.Worlds.{World, content_of, closes}
+use Rattle.pl_event.specs.Worlds.{World, MayCome, content_of, may_fail, closes}
 use Rattle.pl_event.proofs.SameLanes.{same_lane-equal, same_lane-self}
 use Rattle.pl_context.specs.declared.ports.Port.{Port}
 use Rattle.pl_context.specs.declared.standing.Standing.{Standing}
 use Rattle.pl_context.specs.declared.standing.Standing.TheVariants as stands
 use Rattle.pl_context.specs.declared.standing.Took.{Took}
 use Rattle.pl_context.specs.declared.standing.Took.TheVariants as took
-use Rattle.pl_context.specs.Standings.{is_over}
+use Rattle.pl_context.specs.Standings.{is_over, cause_of}
 use Rattle.pl_context.specs.Stops.{HasPlaces, AreAmong}
 use Rattle.pl_context.specs.OutputsViews.{OutputsView, PutsAll}
 use Rattle.pl_context.specs.Ports.{numbered, offered, port_after, all_go_on}
@@ -32,6 +32,7 @@ use Rattle.pl_flow.proofs.ItemLemmas.{failure-good}
 use Rattle.pl_flow.proofs.MakeLemmas.{makes-none, makes-then}
 use Rattle.pl_head.specs.declared.inputs.ReadPlan.{ReadPlan}
 use Rattle.pl_head.specs.declared.heads.OutStep.{OutStep}
+use Rattle.pl_head.specs.declared.heads.OutStep.TheVariants as step
 use Rattle.pl_head.specs.declared.heads.ReadStep.{ReadStep}
 use Rattle.pl_head.specs.declared.heads.ReadStep.TheVariants as reading
 use Rattle.pl_head.specs.Marks.{Change, Removed, flags}
@@ -39,17 +40,19 @@ use Rattle.pl_head.specs.Transports.{TransportState}
 use Rattle.pl_head.specs.WritabilityStand.{SendsFlags}
 use Rattle.pl_head.specs.ReadSteps.{entrance, bursts_read, plan_steps, has_step, read_items, step_items, is_abort, brings_failure, brings_abort, next_step_items, steps_after}
 use Rattle.pl_head.specs.InputStand.{InputView, InputStands}
-use Rattle.pl_head.specs.HeadStand.{HeadView, BufferAfter, StandsAfter, ReadsStand, Aborts, EntersHead, lane_over, Answers, waiting_at, events_before, events_from, item_sizes, standing_after, step_sizes, HasFewFlags}
+use Rattle.pl_head.specs.HeadStand.{HeadView, BufferAfter, StandsAfter, ReadsStand, Aborts, EntersHead, lane_over, Answers, waiting_at, events_before, events_from, item_sizes, standing_after, first_cause, cause_of_item, cause_of_step, step_sizes, HasFewFlags}
 use Rattle.pl_head.proofs.ReadSteps.{items_of_step, number_of_step, abort_is, stands_after}
 use Rattle.pl_head.proofs.FlagSteps.{places_stay}
 use Rattle.pl_part.specs.ContextHolds.{port_point}
+use Rattle.pl_part.specs.TailHolds.{MayFailFor}
 use Rattle.pl_part.specs.HeadHolds.{HeadHolds, HeadHoldsWith, HeadTook, head_writes, head_came, head_lanes}
 use Rattle.pl_part.specs.HeadCalls.{HeadTakes, HeadReads, HeadWrites, HeadAborts}
 use Rattle.pl_part.specs.Counts.{head_done}
 use Rattle.pl_part.specs.PartCalls.{HeadGiven}
+use Rattle.pl_part.proofs.Causes.{may-first}
 use Rattle.pl_part.proofs.HeadTaken.{took-again, took-same}
 use Rattle.pl_part.proofs.EventLists.{split-at, fits-within}
-use Rattle.pl_part.proofs.ItemFits.{data-fits}
+use Rattle.pl_part.proofs.ItemFits.{data-fits, data-may}
 use Rattle.pl_part.proofs.PortMakes.{makes-to, moved, port-puts}
 use Rattle.pl_part.proofs.HeadFlags.{flags-fit, flags-make, passes-more, with_port}
 use Rattle.pl_part.proofs.ReadItems.{step-good, number-within, one-most, items-most}
@@ -152,6 +155,28 @@ pub record Moved {T : Type 0} (state : T → TransportState) (world : World) (pl
   pub places : (lanes : List Lane) → AreAmong (head_lanes h) lanes → HasPlaces b.stopped lanes → HasPlaces a.stopped lanes
   pub more : head_done h + length a.items ≤ head_done h' + length b.items
 
+-- ---- why it has failed
+
+may-item : (world : World) (failed : Bool) (i : Item) (answer : Took) → Answers failed i answer → MayFailFor world (cause_of_item i answer)
+may-item world failed (item.Event x) answer (inl ran) = subst (λ r. MayFailFor world (cause_of_item (item.Event x) r)) (sym ran) tt
+may-item world failed (item.Event x) answer (inr memory) = subst (λ r. MayFailFor world (cause_of_item (item.Event x) r)) (sym memory.0) refl
+may-item world failed item.End answer a = tt
+may-item world failed (item.Fail c) answer a = tt
+may-item world failed (item.Flag v) answer a = tt
+
+may-step : (world : World) (answer : OutStep) → MayFailFor world (cause_of_step answer)
+may-step world (step.Wrote n) = tt
+may-step world step.Idle = tt
+may-step world step.Failed = refl
+
+may-after : (world : World) (failed : Bool) (i : Item) → MayCome world i → MayFailFor world (cause_of (standing_after failed i))
+may-after world failed (item.Event x) may = tt
+may-after world true item.End may = tt
+may-after world false item.End may = tt
+may-after world true (item.Fail c) may = tt
+may-after world false (item.Fail c) may = may
+may-after world failed (item.Flag v) may = tt
+
 module _ {T : Type 0} (state : T → TransportState) (world : World) (plan : ReadPlan) (events : List Event) (h : HeadView T) (k : HeadHoldsWith state world plan events h) where
   abbrev Held : HeadView T → Type 0
   Held z = HeadHoldsWith state world plan events z
@@ -162,12 +187,14 @@ module _ {T : Type 0} (state : T → TransportState) (world : World) (plan : Rea
 
   -- it holds again, at its place
   again : (h' : HeadView T) → h'.channel ≡ h.channel → h'.hop ≡ h.hop → h'.taken ≤ length events + 1 → HeadTook state events h' → (reads : ℕ) × (failed : Bool) × ReadsStand plan reads failed h'
-      → h'.input.port.lane ≡ h.input.port.lane → h'.buffer.flags.lane ≡ h.buffer.flags.lane → HasFewFlags h' → Held h'
-  again h' c p most t reads entrance fl few = record {
+      → h'.input.port.lane ≡ h.input.port.lane → h'.buffer.flags.lane ≡ h.buffer.flags.lane → HasFewFlags h' → MayFailFor world (cause_of h'.standing) → MayFailFor world h'.failure → Held h'
+  again h' c p most t reads entrance fl few may itself = record {
     own = (λ i. content_of world (data_lane (c i) (p i))) ∙ k.own;
     few = k.few;
     took = t;
     most = most;
+    may = may;
+    may_itself = itself;
     input = (λ i. content_of world (data_lane (c i) 0)) ∙ k.input;
     few_input = k.few_input;
     reads = reads;
@@ -175,6 +202,9 @@ module _ {T : Type 0} (state : T → TransportState) (world : World) (plan : Rea
     flags = fl ∙ k.flags ∙ ap (λ n. flags_lane n 0) (sym c);
     few_flags = few;
   }
+
+  still-may : (h' : HeadView T) → h'.standing ≡ h.standing → MayFailFor world (cause_of h'.standing)
+  still-may h' same = subst (λ s. MayFailFor world (cause_of s)) (sym same) k.may
 
   -- ---- its lanes
 
@@ -420,11 +450,27 @@ module _ {T : Type 0} (state : T → TransportState) (world : World) (plan : Rea
       now-took : HeadTook state events h'
       now-took = ⊎_elim over-took (λ (live : lane_over h ≡ false). live-took live h.failure refl) (cases_Bool (lane_over h))
 
+      now-may : MayFailFor world (cause_of h'.standing)
+      now-may = ⊎_elim
+          (λ (o : lane_over h ≡ true). still-may h' (ap (λ (z : HeadView T). z.standing) (t.over o).1))
+          (λ (live : lane_over h ≡ false).
+          subst (λ s. MayFailFor world (cause_of s)) (sym (t.standing (is-open live)))
+          (may-after world (is_some h.failure) e.item (data-may world e good (ap (λ (m : Lane). m.kind) enters))))
+          (cases_Bool (lane_over h))
+
+      now-itself : MayFailFor world h'.failure
+      now-itself = ⊎_elim
+          (λ (o : lane_over h ≡ true). subst (MayFailFor world) (sym (ap (λ (z : HeadView T). z.failure) (t.over o).1)) k.may_itself)
+          (λ (live : lane_over h ≡ false).
+          subst (MayFailFor world) (sym (t.failure (is-open live)))
+          (may-first world h.failure (cause_of_item e.item answer) k.may_itself (may-item world (is_some h.failure) e.item answer (t.answers live))))
+          (cases_Bool (lane_over h))
+
       pub take-holds : Held h'
       take-holds =
           again h' (ap (λ (z : HeadView T). z.channel) t.same) (ap (λ (z : HeadView T). z.hop) t.same) now-taken now-took
           (k.reads.0, k.reads.1, subst (λ (i : InputView). InputStands plan k.reads.0 k.reads.1 i) (sym (ap (λ (z : HeadView T). z.input) t.same)) k.reads.2)
-          (ap (λ (z : HeadView T). z.input.port.lane) t.same) t.marks.lane t.few
+          (ap (λ (z : HeadView T). z.input.port.lane) t.same) t.marks.lane t.few now-may now-itself
 
       moved-makes : Makes world (head_writes h) (head_came h) (two_came h.channel (port_point h.input.port) (port_point h'.buffer.flags)) b a
       moved-makes = ⊎_elim
@@ -488,6 +534,8 @@ module _ {T : Type 0} (state : T → TransportState) (world : World) (plan : Rea
         again h' (ap (λ (z : HeadView T). z.channel) w.same) (ap (λ (z : HeadView T). z.hop) w.same) write-most write-took
         (k.reads.0, k.reads.1, subst (λ (i : InputView). InputStands plan k.reads.0 k.reads.1 i) (sym (ap (λ (z : HeadView T). z.input) w.same)) k.reads.2)
         (ap (λ (z : HeadView T). z.input.port.lane) w.same) w.marks.lane w.few
+        (still-may h' (ap (λ (z : HeadView T). z.standing) w.same))
+        (subst (MayFailFor world) (sym w.failure) (may-first world h.failure (cause_of_step answer) k.may_itself (may-step world answer)))
 
     write-makes : Makes world (head_writes h) (head_came h) (head_came h') b a
     write-makes =
@@ -530,11 +578,11 @@ module _ {T : Type 0} (state : T → TransportState) (world : World) (plan : Rea
       not-true false e = refl
       not-true true e = absurd (both_ways false refl e)
 
-  failure-next : (cause : Cause) → h.input.port.is_open ≡ true → AreGood world h.input.port.lane h.input.port.made (item.Fail cause ∷ [])
-  failure-next cause o =
+  failure-next : (cause : Cause) → may_fail world cause ≡ true → h.input.port.is_open ≡ true → AreGood world h.input.port.lane h.input.port.made (item.Fail cause ∷ [])
+  failure-next cause may o =
       let early = number-within plan k.reads.0 (steps-left o).1 in
       let number = number_of_step plan k.reads.0 k.reads.1 h.input k.reads.2 o in
-      (failure-good world h.input.port.lane (recorded_input plan.bursts) h.input.port.made reads-kind reads-content k.few_input cause (omega (arith, early, number)), (λ g. refl), tt)
+      (failure-good world h.input.port.lane (recorded_input plan.bursts) h.input.port.made reads-kind reads-content k.few_input cause may (omega (arith, early, number)), (λ g. refl), tt)
 
   and-none : (b : Bool) → (b && false) ≡ false
   and-none true = refl
@@ -553,6 +601,7 @@ module _ {T : Type 0} (state : T → TransportState) (world : World) (plan : Rea
     abort-holds =
         again h' (ap (λ (z : HeadView T). z.channel) f.same) (ap (λ (z : HeadView T). z.hop) f.same) abort-most abort-took reads
         (ap (λ (z : HeadView T). z.input.port.lane) f.same) lane few
+        (still-may h' (ap (λ (z : HeadView T). z.standing) f.same)) (subst (MayFailFor world) (sym (ap (λ (z : HeadView T). z.failure) f.same)) refl)
 
     abort-makes : Makes world (head_writes h) (head_came h) (head_came h') b a
     abort-makes =
@@ -563,7 +612,7 @@ module _ {T : Type 0} (state : T → TransportState) (world : World) (plan : Rea
         (makes-then world (head_writes h) (head_came h) mid last b f.between a
         (flags-makes (port_point h.input.port) k.took.ys k.took.zs k.took.sizes (Removed (waiting_at state h k.took.ys) ∷ []) b f.between h'.buffer.flags k.took.after
         (f.flags k.took.ys k.took.zs k.took.sizes k.took.after) (few-made h' abort-most few))
-        (reads-makes (port_point h'.buffer.flags) (port_point h'.input.port) is f.between a (failure-next Aborted)
+        (reads-makes (port_point h'.buffer.flags) (port_point h'.input.port) is f.between a (failure-next Aborted refl)
         (ap (λ (z : HeadView T). port_point z.input.port) f.same ∙ ap (λ (q : Bool). point (cond h.input.port.is_open (h.input.port.made + 1) h.input.port.made) (not q)) (sym (and-none h.input.port.is_open)))
         f.puts))
 
@@ -635,7 +684,7 @@ module _ {T : Type 0} (state : T → TransportState) (world : World) (plan : Rea
         good None e =
             subst (λ (m : ℕ). AreGood world h.input.port.lane m (step_items (bursts_read plan) k.reads.0)) (sym number)
             (step-good plan k.reads.0 (steps-left left).1 world h.input.port.lane reads-kind reads-content k.few_input (ap (λ (f : Option Cause). brings_abort plan k.reads.0 f) (sym e) ∙ off))
-        good (Some c) e = failure-next c left
+        good (Some c) e = failure-next c (subst (MayFailFor world) e k.may_itself) left
 
         at : (f : Option Cause) → h.failure ≡ f → port_point h'.input.port ≡ port_point (port_after (next_step_items plan k.reads.0 f) h.input.port)
         at None e =
@@ -664,6 +713,7 @@ module _ {T : Type 0} (state : T → TransportState) (world : World) (plan : Rea
             again h' (ap (λ (z : HeadView T). z.channel) same) (ap (λ (z : HeadView T). z.hop) same)
             (let most = k.most in let still = ap (λ (z : HeadView T). z.taken) same in omega (arith, most, still)) step-took reads-now
             r.entrance_stays r.marks.lane r.few
+            (still-may h' (ap (λ (z : HeadView T). z.standing) same)) (subst (MayFailFor world) (sym (ap (λ (z : HeadView T). z.failure) same)) k.may_itself)
 
         step-makes : Makes world (head_writes h) (head_came h) (head_came h') b a
         step-makes =

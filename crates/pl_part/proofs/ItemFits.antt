@@ -6,7 +6,7 @@ use Rattle.pl_event.specs.declared.envelopes.Kind.{Kind}
 use Rattle.pl_event.specs.declared.envelopes.Kind.TheVariants.{Data, Flags}
 use Rattle.pl_event.specs.Hops.{data_lane}
 use Rattle.pl_event.specs.Fitting.{Fits, FitsAsFlag}
-use Rattle.pl_event.specs.Worlds.{World, FitsWorld, FitsAsKind, content_of}
+use Rattle.pl_event.specs.Worlds.{World, FitsWorld, FitsAsKind, MayCome, content_of}
 use Rattle.pl_context.specs.ContextViews.{number_limit}
 use Rattle.pl_flow.specs.Flows.{IsGood}
 use Rattle.pl_part.proofs.EventLists.{some-equal, fits-within}
@@ -15,6 +15,10 @@ module _ (world : World) (e : Envelope) (good : IsGood world e) where
   pub flag-fits : e.lane.kind ≡ Flags → (n : ℕ) → e.number ≡ n → FitsAsFlag n e.item
   unfolding FitsWorld
   flag-fits is n number = subst (λ m. FitsAsFlag m e.item) number (subst (λ k. FitsAsKind world k e) is good.fits)
+
+  pub data-may : e.lane.kind ≡ Data → MayCome world e.item
+  unfolding FitsWorld
+  data-may is = (subst (λ k. FitsAsKind world k e) is good.fits).3
 
   module _ (channel hop : ℕ) (in_channel : e.lane.channel ≡ channel) (at_hop : e.lane.hop ≡ hop) (events : List Event) (own : content_of world (data_lane channel hop) ≡ Some events) (n : ℕ) where
     pub data-fits : e.lane.kind ≡ Data → e.number ≡ n → Fits events n e.item

@@ -1,3 +1,4 @@
+pub mod Causes
 mod EventLists
 mod ItemFits
 mod PortMakes

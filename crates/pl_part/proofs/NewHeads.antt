@@ -1,5 +1,5 @@
 -- A head that has taken nothing.
-use Rattle.std.proofs.Common.{◌≡◌, ℕ, ◌+◌, ◌<◌, ◌^◌, Bool, true, false, ◌||◌, cond, not, [], length, refl, sym, ap, ap₂, ◌∙◌, arith}
+use Rattle.std.proofs.Common.{◌≡◌, ℕ, ◌+◌, ◌<◌, ◌^◌, Bool, true, false, ◌||◌, cond, not, [], length, None, refl, sym, ap, ap₂, ◌∙◌, subst, arith}
 use Rattle.std.proofs.lemmas.Bool.{lt-leb, lt-ltb}
 use Rattle.pl_event.specs.declared.envelopes.Lane.{Lane}
 use Rattle.pl_event.specs.Hops.{same_lane, data_lane, flags_lane}
@@ -7,12 +7,14 @@ use Rattle.pl_event.specs.Inputs.{recorded_input}
 use Rattle.pl_event.specs.Worlds.{World, content_of}
 use Rattle.pl_context.specs.declared.standing.Standing.TheVariants as stands
 use Rattle.pl_context.specs.declared.ports.Port.{Port}
+use Rattle.pl_context.specs.Standings.{cause_of}
 use Rattle.pl_flow.specs.Flows.{point, nowhere}
 use Rattle.pl_head.specs.declared.inputs.ReadPlan.{ReadPlan}
 use Rattle.pl_head.specs.ReadSteps.{plan_steps}
 use Rattle.pl_head.specs.Transports.{TransportState}
 use Rattle.pl_head.specs.HeadStand.{HeadView, StandsAfter, ReadsStand, HasFewFlags}
 use Rattle.pl_part.specs.ContextHolds.{port_point}
+use Rattle.pl_part.specs.TailHolds.{MayFailFor}
 use Rattle.pl_part.specs.HeadHolds.{HeadHolds, IsHeadPlanned, head_writes, head_came, head_taken}
 use Rattle.pl_part.proofs.HeadTaken.{took-none}
 
@@ -25,6 +27,7 @@ pub record IsFresh {T : Type 0} (state : T → TransportState) (plan : ReadPlan)
   pub flags : h.buffer.flags ≡ record { lane = flags_lane channel 0; made = 0; is_open = true }
   pub taken : h.taken ≡ 0
   pub standing : h.standing ≡ stands.Open
+  pub failure : h.failure ≡ None
   pub few : HasFewFlags h
 
 module _ {T : Type 0} (state : T → TransportState) (plan : ReadPlan) (channel hop : ℕ) (h : HeadView T) (new : IsFresh state plan channel hop h) where
@@ -37,6 +40,8 @@ module _ {T : Type 0} (state : T → TransportState) (plan : ReadPlan) (channel 
       few = p.few;
       took = took-none state p.events h new.after new.taken new.standing;
       most = omega (arith, new.taken);
+      may = subst (λ s. MayFailFor world (cause_of s)) (sym new.standing) tt;
+      may_itself = subst (MayFailFor world) (sym new.failure) tt;
       input = (λ i. content_of world (data_lane (new.place.0 i) 0)) ∙ p.input;
       few_input = few;
       reads = (0, false, new.reads);

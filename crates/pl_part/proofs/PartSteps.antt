@@ -28,7 +28,7 @@ use Rattle.pl_head.specs.declared.heads.OutStep.{OutStep}
 use Rattle.pl_head.specs.declared.heads.ReadStep.{ReadStep}
 use Rattle.pl_part.specs.HeadCalls.{HeadTakes, HeadReads, HeadWrites, HeadAborts}
 use Rattle.pl_part.specs.Parts.{PartView, PartHolds, PartReads, PartWrites, PartAborts, SamePart, head_hop, has_entered, part_taken, part_lanes, part_writes, writes_at, part_came}
-use Rattle.pl_part.specs.PartCalls.{IsNextFor, Puts, Taken, HeadGiven, Given}
+use Rattle.pl_part.specs.PartCalls.{IsNextFor, Puts, Taken, HeadGiven, Given, PartRefused}
 use Rattle.pl_part.specs.Counts.{head_done, path_done, part_done}
 use Rattle.pl_part.proofs.EventLists.{some-equal}
 use Rattle.pl_part.proofs.PathSteps.{among-hops, other-hop, beyond}
@@ -332,17 +332,17 @@ module _ {S T : Type 0} (meaning : S → Meaning) (stands_after : S → List Eve
               (λ (z : (l.hop == 0) ≡ false). z)
               (cases_Bool (l.hop == 0))
 
-      pub path-given : (some : (world : World) × PartHolds world meaning stands_after state p) (b a : OutputsView) → ((l : Lane) → path_taken v' l ≡ path_taken p.path l)
+      pub path-refused : (some : (world : World) × (world.refuses ≡ true) × PartHolds world meaning stands_after state p) (b a : OutputsView) → ((l : Lane) → path_taken v' l ≡ path_taken p.path l)
           → ((lanes : List Lane) → AreAmong (path_lanes p.path) lanes → HasPlaces b.stopped lanes → HasPlaces a.stopped lanes)
-          → ((world : World) → PathHolds world meaning stands_after p.path → PathHolds world meaning stands_after v')
-          → ((world : World) → PathHolds world meaning stands_after p.path → Makes world (path_writes_at meaning p.path hop) (path_came meaning p.path) (path_came meaning v') b a)
+          → ((world : World) → world.refuses ≡ true → PathHolds world meaning stands_after p.path → PathHolds world meaning stands_after v')
+          → ((world : World) → world.refuses ≡ true → PathHolds world meaning stands_after p.path → Makes world (path_writes_at meaning p.path hop) (path_came meaning p.path) (path_came meaning v') b a)
           → path_done p.path + length a.items ≤ path_done v' + length b.items
-          → Given meaning stands_after state p hop b with_path a
-      path-given some b a counts placed held made more = record {
+          → PartRefused meaning stands_after state p hop b with_path a
+      path-refused some b a counts placed held made more = record {
         taken = λ l. (λ i. if l.hop == same-hop i then option_map_or (λ (x : HeadView T). head_taken x l) p.head 0 else counts l i);
-        puts = path-puts some b a placed (held some.0 some.1.path) (made some.0 some.1.path);
-        holds = λ world holds. path-holds world holds (held world holds.path);
-        made = λ world holds. path-makes world b a (made world holds.path);
+        puts = path-puts (some.0, some.2) b a placed (held some.0 some.1 some.2.path) (made some.0 some.1 some.2.path);
+        holds = λ world refuses holds. path-holds world holds (held world refuses holds.path);
+        made = λ world refuses holds. path-makes world b a (made world refuses holds.path);
         more = omega (arith, more);
       }
 
@@ -400,11 +400,14 @@ module _ {S T : Type 0} (meaning : S → Meaning) (stands_after : S → List Eve
       → Taken meaning stands_after state is_spent p e before answer v' after
   taken-of v' after is_spent e answer t = subst (λ (y : PartView S T). Taken meaning stands_after state is_spent y e before answer v' after) same t
 
-  pub refused-of : (v' : PartView S T) (after : OutputsView) (hop : ℕ) → Given meaning stands_after state v (writer_hop v.path hop) before v' after → Given meaning stands_after state p (writer_hop p.path hop) before v' after
-  refused-of v' after hop t = subst (λ (y : PartView S T). Given meaning stands_after state y (writer_hop y.path hop) before v' after) same t
+  pub refused-of : (v' : PartView S T) (after : OutputsView) (hop : ℕ) → PartRefused meaning stands_after state v (writer_hop v.path hop) before v' after → PartRefused meaning stands_after state p (writer_hop p.path hop) before v' after
+  refused-of v' after hop t = subst (λ (y : PartView S T). PartRefused meaning stands_after state y (writer_hop y.path hop) before v' after) same t
 
   pub holds-of : (world : World) × PartHolds world meaning stands_after state p → (world : World) × PartHolds world meaning stands_after state v
   holds-of holds = subst (λ (y : PartView S T). (world : World) × PartHolds world meaning stands_after state y) (sym same) holds
+
+  pub refusing-of : (world : World) × (world.refuses ≡ true) × PartHolds world meaning stands_after state p → (world : World) × (world.refuses ≡ true) × PartHolds world meaning stands_after state v
+  refusing-of holds = subst (λ (y : PartView S T). (world : World) × (world.refuses ≡ true) × PartHolds world meaning stands_after state y) (sym same) holds
 
   -- ---- what it is to take
 

@@ -383,8 +383,8 @@ module _ {S : Type 0} (meaning : S → Meaning) (stands_after : S → List Event
     }
 
     pub context-refused : (lane : Lane) (before after : OutputsView) → hop ≡ writer_hop v lane.hop → (lane.kind ≡ Data → is_over c'.standing ≡ true) → ((k : Kind) → kind_taken c' k ≡ kind_taken c k)
-        → ((world : World) → ContextHolds world meaning stands_after c → ContextHolds world meaning stands_after c')
-        → ((world : World) → ContextHolds world meaning stands_after c
+        → ((world : World) → world.refuses ≡ true → ContextHolds world meaning stands_after c → ContextHolds world meaning stands_after c')
+        → ((world : World) → world.refuses ≡ true → ContextHolds world meaning stands_after c
         → Makes world (context_writes (meaning c.stage).direction c) (context_came (meaning c.stage).direction c) (context_came (meaning c.stage).direction c') before after)
         → ((hops : List Lane) → AreAmong (context_lanes c) hops → HasPlaces before.stopped hops → HasPlaces after.stopped hops)
         → context_done c + length after.items ≤ context_done c' + length before.items
@@ -394,11 +394,11 @@ module _ {S : Type 0} (meaning : S → Meaning) (stands_after : S → List Event
           (some-equal c' x (sym (ap (λ (h : ℕ). context_at moved_path h) (same-writer lane.hop ∙ sym writer) ∙ now-here) ∙ found)) (over k);
       taken = taken-by (λ l n. n) (λ l on_same. (λ i. place_taken (place.0 i) (place.1 i) (λ k. counts k i) l)) (λ l n off. refl);
       puts = context-puts before after placed;
-      holds = λ world holds. path-holds world holds (held world (holds.contexts hop c at).0);
-      made = λ world holds. path-makes world before after (made world (holds.contexts hop c at).0);
-      node = λ world holds.
+      holds = λ world refuses holds. path-holds world holds (held world refuses (holds.contexts hop c at).0);
+      made = λ world refuses holds. path-makes world before after (made world refuses (holds.contexts hop c at).0);
+      node = λ world refuses holds.
           subst (λ (h : ℕ). Makes world (path_writes_at meaning v h) (path_came meaning v) (path_came meaning moved_path) before after) writer
-          (node-makes world before after (made world (holds.contexts hop c at).0));
+          (node-makes world before after (made world refuses (holds.contexts hop c at).0));
       others = λ l f. others-came l (ap (λ (h : ℕ). path_writes_at meaning v h l) writer ∙ f);
       more = let done = path-done in omega (arith, done, more);
     }
@@ -415,9 +415,9 @@ module _ {S : Type 0} (meaning : S → Meaning) (stands_after : S → List Event
       writes = λ l. refl;
       placed = λ hops among p. p;
     };
-    holds = λ world holds. holds;
-    made = λ world holds. makes-none world (path_writes meaning v) (path_came meaning v) before before refl refl;
-    node = λ world holds. makes-none world (path_writes_at meaning v (writer_hop v lane.hop)) (path_came meaning v) before before refl refl;
+    holds = λ world refuses holds. holds;
+    made = λ world refuses holds. makes-none world (path_writes meaning v) (path_came meaning v) before before refl refl;
+    node = λ world refuses holds. makes-none world (path_writes_at meaning v (writer_hop v lane.hop)) (path_came meaning v) before before refl refl;
     others = λ l f. refl;
     more = omega arith;
   }
@@ -512,6 +512,9 @@ pub record IsNextAtTail {S : Type 0} (world : World) (meaning : S → Meaning) (
 module _ {S : Type 0} (meaning : S → Meaning) (stands_after : S → List Event → Type 0) (p v : PathView S) (same : v ≡ p) where
   pub holds-of : (world : World) × PathHolds world meaning stands_after p → (world : World) × PathHolds world meaning stands_after v
   holds-of holds = subst (λ (y : PathView S). (world : World) × PathHolds world meaning stands_after y) (sym same) holds
+
+  pub refusing-of : (world : World) × (world.refuses ≡ true) × PathHolds world meaning stands_after p → (world : World) × (world.refuses ≡ true) × PathHolds world meaning stands_after v
+  refusing-of holds = subst (λ (y : PathView S). (world : World) × (world.refuses ≡ true) × PathHolds world meaning stands_after y) (sym same) holds
 
   module _ (e : Envelope) (before : OutputsView) (some : (world : World) × IsNextOnPath world meaning stands_after p e before) where
     next-of : (world : World) × IsNextOnPath world meaning stands_after v e before

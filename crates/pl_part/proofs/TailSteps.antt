@@ -21,12 +21,12 @@ use Rattle.pl_context.specs.declared.standing.Took.TheVariants as took
 use Rattle.pl_context.specs.Standings.{is_over, has_failed}
 use Rattle.pl_context.specs.ContextViews.{number_limit}
 use Rattle.pl_context.specs.TailViews.{TailView, new_tail, EntersTail, kind_taken, counted, RecordsItem, AddsFlag, LosesFlag, RecordsFlag, RecordsFlagItem}
-use Rattle.pl_event.specs.Worlds.{World, content_of}
+use Rattle.pl_event.specs.Worlds.{World, MayCome, content_of, may_fail}
 use Rattle.pl_flow.specs.Flows.{IsGood}
 use Rattle.pl_event.specs.Hops.{data_lane}
 use Rattle.pl_part.specs.TailHolds.{TailHoldsWith, Alternate}
 use Rattle.pl_part.proofs.EventLists.{split-at, fits-within}
-use Rattle.pl_part.proofs.ItemFits.{data-fits, flag-fits, within-limit}
+use Rattle.pl_part.proofs.ItemFits.{data-fits, data-may, flag-fits, within-limit}
 
 pub alternate-more : (n : ℕ) (bs : List Bool) (b : Bool) → Alternate n bs → b ≡ ((n + length bs) % 2 == 1) → Alternate n (bs ++ b ∷ [])
 alternate-more n [] b h e = let same : n + 0 ≡ n = omega arith in (e ∙ ap (λ k. k % 2 == 1) same, tt)
@@ -56,6 +56,7 @@ module _ (world : World) (events : List Event) (t : TailView) (h : TailHoldsWith
         taken = λ o. (omega (arith, within), ap (λ zs. zs ++ x ∷ []) (h.taken live).1 ∙ sym s.2 ∙ sym (next-take t.taken events));
         ended = λ o. absurd (both_ways (is_over t.standing) (ap is_over live) (ap is_over o));
         failed = λ o. absurd (both_ways (has_failed t.standing) (ap has_failed live) o);
+        may = h.may;
         flags = h.flags;
         flags_most = h.flags_most;
         flags_all = h.flags_all;
@@ -63,13 +64,14 @@ module _ (world : World) (events : List Event) (t : TailView) (h : TailHoldsWith
         few_flags = h.few_flags;
       }
 
-  failing : t.standing ≡ stands.Open → (cause : Cause) → (room : ℕ) → Held (record t { taken = t.taken + 1; standing = stands.Failed cause; room = room })
-  failing live cause room = record {
+  failing : t.standing ≡ stands.Open → (cause : Cause) → may_fail world cause ≡ true → (room : ℕ) → Held (record t { taken = t.taken + 1; standing = stands.Failed cause; room = room })
+  failing live cause may room = record {
     own = h.own;
     few = h.few;
     taken = λ o. absurd (both_ways false refl (sym (ap is_over o)));
     ended = λ o. absurd (both_ways false refl (sym (ap has_failed o)));
     failed = λ o. (t.taken, (h.taken live).0, (h.taken live).1);
+    may = may;
     flags = h.flags;
     flags_most = h.flags_most;
     flags_all = λ f. absurd (both_ways true f refl);
@@ -84,6 +86,7 @@ module _ (world : World) (events : List Event) (t : TailView) (h : TailHoldsWith
     taken = λ o. absurd (both_ways false refl (sym (ap is_over o)));
     ended = λ o. (h.taken live).1 ∙ take_all t.taken events (omega (arith, last));
     failed = λ o. absurd (both_ways false refl o);
+    may = tt;
     flags = h.flags;
     flags_most = h.flags_most;
     flags_all = λ f. h.flags_all (ap has_failed live);
@@ -98,6 +101,7 @@ module _ (world : World) (events : List Event) (t : TailView) (h : TailHoldsWith
     taken = λ o. absurd (both_ways (is_over t.standing) (ap is_over o) over);
     ended = h.ended;
     failed = h.failed;
+    may = h.may;
     flags = h.flags;
     flags_most = h.flags_most;
     flags_all = h.flags_all;
@@ -105,14 +109,14 @@ module _ (world : World) (events : List Event) (t : TailView) (h : TailHoldsWith
     few_flags = h.few_flags;
   }
 
-  taken-open : t.standing ≡ stands.Open → (i : Item) → Fits events t.taken i → (answer : Took) (t' : TailView) → RecordsItem (counted Data t) i answer t' → Held t'
-  taken-open live (item.Event x) fits took.Ran t' r = subst (λ (z : TailView). Held z) (sym r.0) (recorded live x fits t'.room)
-  taken-open live (item.Event x) fits (took.Failed cause) t' r = subst (λ (z : TailView). Held z) (sym r.2) (failing live Memory t'.room)
-  taken-open live (item.Event x) fits took.Ended t' r = absurd r
-  taken-open live (item.Event x) fits took.Dropped t' r = absurd r
-  taken-open live item.End fits answer t' r = subst (λ (z : TailView). Held z) (sym r.1) (ending live fits)
-  taken-open live (item.Fail cause) fits answer t' r = subst (λ (z : TailView). Held z) (sym r.1) (failing live cause t.room)
-  taken-open live (item.Flag value) fits answer t' r = absurd fits
+  taken-open : t.standing ≡ stands.Open → (i : Item) → Fits events t.taken i → MayCome world i → (answer : Took) (t' : TailView) → RecordsItem (counted Data t) i answer t' → Held t'
+  taken-open live (item.Event x) fits may took.Ran t' r = subst (λ (z : TailView). Held z) (sym r.0) (recorded live x fits t'.room)
+  taken-open live (item.Event x) fits may (took.Failed cause) t' r = subst (λ (z : TailView). Held z) (sym r.2) (failing live Memory refl t'.room)
+  taken-open live (item.Event x) fits may took.Ended t' r = absurd r
+  taken-open live (item.Event x) fits may took.Dropped t' r = absurd r
+  taken-open live item.End fits may answer t' r = subst (λ (z : TailView). Held z) (sym r.1) (ending live fits)
+  taken-open live (item.Fail cause) fits may answer t' r = subst (λ (z : TailView). Held z) (sym r.1) (failing live cause may t.room)
+  taken-open live (item.Flag value) fits may answer t' r = absurd fits
 
   -- ---- its flags lane
 
@@ -125,6 +129,7 @@ module _ (world : World) (events : List Event) (t : TailView) (h : TailHoldsWith
     taken = h.taken;
     ended = h.ended;
     failed = h.failed;
+    may = h.may;
     flags = alternate;
     flags_most = most;
     flags_all = all;
@@ -196,7 +201,7 @@ module _ (world : World) (events : List Event) (t : TailView) (h : TailHoldsWith
         next is = taken-few e.item (next-fits is)
 
         by : (k : Kind) → e.lane.kind ≡ k → (s : Standing) → t.standing ≡ s → Held t'
-        by Data is stands.Open live = taken-open live e.item (next-fits is) answer t' (item is live)
+        by Data is stands.Open live = taken-open live e.item (next-fits is) (data-may world e good is) answer t' (item is live)
         by Data is stands.Ended over = subst (λ (z : TailView). Held z) (sym (ended is over).1) (counted-over (ap is_over over) (next is))
         by k is (stands.Failed cause) over = subst (λ (z : TailView). Held z) (sym (drops (ap has_failed over)).1) (dropped e.lane.kind (ap has_failed over) next small)
         by Flags is stands.Open live = flags-taken (small is) e.item (flag-fits world e good is t.flags_taken (here Flags is)) (ap has_failed live) t' (flag is (ap has_failed live)).1
@@ -211,6 +216,7 @@ new-holds world channel k events own few = record {
   taken = λ o. (omega arith, refl);
   ended = λ o. absurd (both_ways false refl (sym (ap is_over (sym o))));
   failed = λ o. absurd (both_ways false refl o);
+  may = tt;
   flags = tt;
   flags_most = omega arith;
   flags_all = λ f s. refl;

@@ -103,6 +103,8 @@ module _ {T : Type 0} (state : T → TransportState) where
           few = t.few;
           took = took-same state s.events h (told_head n h) t.took t.took.sizes (told-after h.failure (state h.transport).accepted h.buffer n t.took.ys t.took.zs _ t.took.sizes t.took.after) refl refl refl;
           most = t.most;
+          may = t.may;
+          may_itself = t.may_itself;
           input = t.input;
           few_input = t.few_input;
           reads = t.reads;

@@ -6,13 +6,14 @@ use Rattle.pl_event.specs.Hops.{same_lane, data_lane, flags_lane}
 use Rattle.pl_event.specs.Inputs.{recorded_input}
 use Rattle.pl_event.specs.Worlds.{World, content_of}
 use Rattle.pl_context.specs.declared.standing.Standing.TheVariants as stands
-use Rattle.pl_context.specs.Standings.{is_over}
+use Rattle.pl_context.specs.Standings.{is_over, cause_of}
 use Rattle.pl_flow.specs.Flows.{Point, nowhere}
 use Rattle.pl_head.specs.declared.inputs.ReadPlan.{ReadPlan}
 use Rattle.pl_head.specs.Marks.{Change}
 use Rattle.pl_head.specs.Transports.{TransportState}
 use Rattle.pl_head.specs.HeadStand.{HeadView, StandsAfter, ReadsStand, HasFewFlags, lane_over}
 use Rattle.pl_part.specs.ContextHolds.{port_point}
+use Rattle.pl_part.specs.TailHolds.{MayFailFor}
 
 -- ---- its lanes: that of its reads, and that of its flags
 
@@ -56,6 +57,9 @@ module _ {T : Type 0} (state : T → TransportState) where
     pub few : length events + 1 < 2 ^ 31
     pub took : HeadTook events h
     pub most : h.taken ≤ length events + 1
+    -- why its lane has failed, and why it has by itself
+    pub may : MayFailFor world (cause_of h.standing)
+    pub may_itself : MayFailFor world h.failure
     -- its reads bring what the first lane carries, and their port is of that lane
     pub input : content_of world (data_lane h.channel 0) ≡ Some (recorded_input plan.bursts)
     pub few_input : length (recorded_input plan.bursts) + 1 < 2 ^ 31

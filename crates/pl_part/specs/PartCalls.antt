@@ -60,6 +60,17 @@ module _ {S T : Type 0} (meaning : S → Meaning) where
       -- what came on the list was made, and an item more was taken
       pub more : part_done p + length after.items + 1 ≤ part_done p' + length before.items
 
+    -- The node at a hop was made to fail, since what it writes is refused, and none has taken anything. It is so in each world
+    -- where lanes are refused.
+    pub record PartRefused (p : PartView S T) (hop : ℕ) (before : OutputsView) (p' : PartView S T) (after : OutputsView) : Type 0 where
+      pub taken : (l : Lane) → part_taken p' l ≡ part_taken p l
+      pub puts : Puts p hop before p' after
+      pub holds : (world : World) → world.refuses ≡ true → PartHolds world meaning stands_after state p → PartHolds world meaning stands_after state p'
+      pub made : (world : World) → world.refuses ≡ true → PartHolds world meaning stands_after state p
+          → Makes world (writes_at meaning p hop) (part_came meaning p) (part_came meaning p') before after
+      -- what came on the list was made
+      pub more : part_done p + length after.items ≤ part_done p' + length before.items
+
     -- The node at a hop has put something, and none has taken anything.
     pub record Given (p : PartView S T) (hop : ℕ) (before : OutputsView) (p' : PartView S T) (after : OutputsView) : Type 0 where
       pub taken : (l : Lane) → part_taken p' l ≡ part_taken p l

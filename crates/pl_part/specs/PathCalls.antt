@@ -47,13 +47,13 @@ module _ {S : Type 0} (meaning : S → Meaning) where
       -- what came on the list was made, and an item more was taken
       pub more : path_done p + length after.items + 1 ≤ path_done p' + length before.items
 
-    -- The writer of a lane was made to fail.
+    -- The writer of a lane was made to fail, in a world where lanes are refused.
     pub record PathRefused (p : PathView S) (l : Lane) (before : OutputsView) (p' : PathView S) (after : OutputsView) : Type 0 where
       pub over : l.kind ≡ Data → (c : ContextView S) → context_at p' (writer_hop p' l.hop) ≡ Some c → is_over c.standing ≡ true
       pub taken : (m : Lane) → path_taken p' m ≡ path_taken p m
       pub puts : PathPuts p before p' after
-      pub holds : (world : World) → PathHolds world meaning stands_after p → PathHolds world meaning stands_after p'
-      pub made : (world : World) → PathHolds world meaning stands_after p → Makes world (path_writes meaning p) (path_came meaning p) (path_came meaning p') before after
-      pub node : (world : World) → PathHolds world meaning stands_after p → Makes world (path_writes_at meaning p (writer_hop p l.hop)) (path_came meaning p) (path_came meaning p') before after
+      pub holds : (world : World) → world.refuses ≡ true → PathHolds world meaning stands_after p → PathHolds world meaning stands_after p'
+      pub made : (world : World) → world.refuses ≡ true → PathHolds world meaning stands_after p → Makes world (path_writes meaning p) (path_came meaning p) (path_came meaning p') before after
+      pub node : (world : World) → world.refuses ≡ true → PathHolds world meaning stands_after p → Makes world (path_writes_at meaning p (writer_hop p l.hop)) (path_came meaning p) (path_came meaning p') before after
       pub others : (m : Lane) → path_writes_at meaning p (writer_hop p l.hop) m ≡ false → path_came meaning p' m ≡ path_came meaning p m
       pub more : path_done p + length after.items ≤ path_done p' + length before.items

@@ -1,16 +1,22 @@
 -- How a tail stands where its lanes may fail.
-use Rattle.std.specs.Prelude.{◌≡◌, ℕ, ◌+◌, ◌%◌, ◌≤◌, ◌<◌, ◌^◌, ◌==◌, List, [], ◌∷◌, length, take, true, false, Bool, Some}
+use Rattle.std.specs.Prelude.{◌≡◌, ℕ, ◌+◌, ◌%◌, ◌≤◌, ◌<◌, ◌^◌, ◌==◌, List, [], ◌∷◌, length, take, true, false, Bool, Option, Some, None}
 use Rattle.pl_event.specs.declared.events.Event.{Event}
+use Rattle.pl_event.specs.declared.outcomes.Cause.{Cause}
 use Rattle.pl_context.specs.declared.standing.Standing.TheVariants as stands
-use Rattle.pl_context.specs.Standings.{has_failed}
+use Rattle.pl_context.specs.Standings.{has_failed, cause_of}
 use Rattle.pl_context.specs.TailViews.{TailView}
-use Rattle.pl_event.specs.Worlds.{World, content_of}
+use Rattle.pl_event.specs.Worlds.{World, content_of, may_fail}
 use Rattle.pl_event.specs.Hops.{data_lane}
 
 -- flags that alternate, flag n the first
 abbrev pub Alternate : ℕ → List Bool → Type 0
 Alternate n [] = Unit {0}
 Alternate n (b ∷ bs) = (b ≡ (n % 2 == 1)) × Alternate (n + 1) bs
+
+-- if something has failed, it was for a cause that comes in this world
+abbrev pub MayFailFor : World → Option Cause → Type 0
+MayFailFor world None = Unit {0}
+MayFailFor world (Some cause) = may_fail world cause ≡ true
 
 -- A tail has recorded the first events of its lane: all that it took while it was open, and all there are where it has ended.
 pub record TailHoldsWith (world : World) (events : List Event) (t : TailView) : Type 0 where
@@ -19,6 +25,7 @@ pub record TailHoldsWith (world : World) (events : List Event) (t : TailView) : 
   pub taken : t.standing ≡ stands.Open → (t.taken ≤ length events) × (t.events ≡ take t.taken events)
   pub ended : t.standing ≡ stands.Ended → t.events ≡ events
   pub failed : has_failed t.standing ≡ true → (n : ℕ) × (n ≤ length events) × (t.events ≡ take n events)
+  pub may : MayFailFor world (cause_of t.standing)
   -- The flags are the first of their lane: all that it took, until a growth was refused for one or it failed.
   pub flags : Alternate 0 t.flags
   pub flags_most : length t.flags ≤ t.flags_taken

@@ -40,15 +40,15 @@ pub fn take_at<S: Stage>(context: &mut Context<S>, envelope: Envelope, work: &mu
 
 /// The writer of a lane fails, since nothing more of it is accepted. (Flags that are refused are lost, and nothing else.)
 pub fn refuse_at<S: Stage>(context: &mut Context<S>, lane: Lane, work: &mut Outputs)
-    requires holds { (world : World) × ContextHolds world S.meaning S.stands_after context.old }
+    requires holds { (world : World) × (world.refuses ≡ true) × ContextHolds world S.meaning S.stands_after context.old }
     requires places { HasPlaces work.old.stopped (context_lanes context.old) }
-    ensures holds { (world : World) → ContextHolds world S.meaning S.stands_after context.old → ContextHolds world S.meaning S.stands_after context.new }
+    ensures holds { (world : World) → world.refuses ≡ true → ContextHolds world S.meaning S.stands_after context.old → ContextHolds world S.meaning S.stands_after context.new }
     ensures meaning { S.meaning context.new.stage ≡ S.meaning context.old.stage }
     ensures place { (context.new.channel ≡ context.old.channel) × (context.new.hop ≡ context.old.hop) }
     ensures taken { (k : Kind) → kind_taken context.new k ≡ kind_taken context.old k }
     ensures lanes { context_lanes context.new ≡ context_lanes context.old }
     ensures over { lane.kind ≡ kind.Data → is_over context.new.standing ≡ true }
-    ensures made { (world : World) → ContextHolds world S.meaning S.stands_after context.old → Makes world (context_writes (S.meaning context.old.stage).direction context.old) (context_came (S.meaning context.old.stage).direction context.old) (context_came (S.meaning context.old.stage).direction context.new) work.old work.new }
+    ensures made { (world : World) → world.refuses ≡ true → ContextHolds world S.meaning S.stands_after context.old → Makes world (context_writes (S.meaning context.old.stage).direction context.old) (context_came (S.meaning context.old.stage).direction context.old) (context_came (S.meaning context.old.stage).direction context.new) work.old work.new }
     ensures placed { (lanes : List Lane) → AreAmong (context_lanes context.old) lanes → HasPlaces work.old.stopped lanes → HasPlaces work.new.stopped lanes }
     ensures more { context_done context.old + length work.new.items ≤ context_done context.new + length work.old.items }
 {

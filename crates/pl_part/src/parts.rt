@@ -21,7 +21,7 @@ ghost use Rattle.pl_part.specs.HeadHolds.{HeadHolds};
 ghost use Rattle.pl_part.specs.Paths.{context_at, writer_hop};
 ghost use Rattle.pl_part.specs.Parts.{PartHolds, PartTakes, PartReads, PartWrites, PartAborts, SamePart, head_hop, has_entered, has_read, all_over, part_taken, part_lanes, part_writes, writes_at, part_came};
 ghost use Rattle.pl_part.specs.Counts.{head_done, part_done};
-ghost use Rattle.pl_part.specs.PartCalls.{IsNextFor, Taken, Given};
+ghost use Rattle.pl_part.specs.PartCalls.{IsNextFor, Taken, Given, PartRefused};
 ghost use Rattle.pl_part.specs.Shares.{IsShare, IsShareBy, EachPart, executor_of};
 ghost use Rattle.pl_part.specs.Told.{IsTold, TellsNext, part_untold};
 
@@ -132,18 +132,7 @@ impl<S: Stage, T: Transport> ChannelPart<S, T> {
     /// The node that the envelope's lane enters takes it, the next item of that lane. It answers what the node answers.
     pub fn take(&mut self, envelope: Envelope, work: &mut Outputs) -> Took
         requires next { (world : World) × IsNextFor world S.meaning S.stands_after T.state self.old envelope work.old }
-        ensures takes { PartTakes S.meaning S.stands_after S.is_spent T.state self.old envelope work.old result self.new work.new }
-        ensures holds { (world : World) → PartHolds world S.meaning S.stands_after T.state self.old → IsGood world envelope → PartHolds world S.meaning S.stands_after T.state self.new }
-        ensures same { SamePart self.old self.new }
-        ensures taken { (l : Lane) → part_taken self.new l ≡ cond (same_lane l envelope.lane) (envelope.number + 1) (part_taken self.old l) }
-        ensures writes { (l : Lane) → part_writes S.meaning self.new l ≡ part_writes S.meaning self.old l }
-        ensures made { (world : World) → PartHolds world S.meaning S.stands_after T.state self.old → IsGood world envelope
-            → Makes world (writes_at S.meaning self.old envelope.lane.hop) (part_came S.meaning self.old) (part_came S.meaning self.new) work.old work.new }
-        ensures others { (l : Lane) → writes_at S.meaning self.old envelope.lane.hop l ≡ false → part_came S.meaning self.new l ≡ part_came S.meaning self.old l }
-        ensures placed { (lanes : List Lane) → AreAmong (part_lanes self.old) lanes → HasPlaces work.old.stopped lanes → HasPlaces work.new.stopped lanes }
-        ensures more { part_done self.old + length work.new.items + 1 ≤ part_done self.new + length work.old.items }
-        ensures longer { length work.old.items ≤ length work.new.items }
-        ensures few { part_done self.new < 2 ^ 50 }
+        ensures { Taken S.meaning S.stands_after T.state S.is_spent self.old envelope work.old result self.new work.new }
     {
         if envelope.lane.hop as usize == self.path.head_hop() {
             self.take_at_head(envelope, work)
@@ -155,23 +144,13 @@ impl<S: Stage, T: Transport> ChannelPart<S, T> {
     /// The node that writes a lane fails, since nothing more of that is accepted, where it is a context. Nothing comes of flags
     /// that are refused, nor of what the head writes: what comes of that later is refused too.
     pub fn refuse(&mut self, lane: Lane, work: &mut Outputs)
-        requires holds { (world : World) × PartHolds world S.meaning S.stands_after T.state self.old }
+        requires holds { (world : World) × (world.refuses ≡ true) × PartHolds world S.meaning S.stands_after T.state self.old }
         requires places { HasPlaces work.old.stopped (part_lanes self.old) }
-        ensures holds { (world : World) → PartHolds world S.meaning S.stands_after T.state self.old → PartHolds world S.meaning S.stands_after T.state self.new }
-        ensures same { SamePart self.old self.new }
         ensures head { self.new.head ≡ self.old.head }
-        ensures taken { (l : Lane) → part_taken self.new l ≡ part_taken self.old l }
-        ensures writes { (l : Lane) → part_writes S.meaning self.new l ≡ part_writes S.meaning self.old l }
         ensures over { lane.kind ≡ kind.Data → (c : ContextView S) → context_at self.new.path (writer_hop self.new.path lane.hop) ≡ Some c → is_over c.standing ≡ true }
-        ensures made { (world : World) → PartHolds world S.meaning S.stands_after T.state self.old
-            → Makes world (writes_at S.meaning self.old (writer_hop self.old.path lane.hop)) (part_came S.meaning self.old) (part_came S.meaning self.new) work.old work.new }
-        ensures others { (l : Lane) → writes_at S.meaning self.old (writer_hop self.old.path lane.hop) l ≡ false → part_came S.meaning self.new l ≡ part_came S.meaning self.old l }
-        ensures placed { (lanes : List Lane) → AreAmong (part_lanes self.old) lanes → HasPlaces work.old.stopped lanes → HasPlaces work.new.stopped lanes }
-        ensures more { part_done self.old + length work.new.items ≤ part_done self.new + length work.old.items }
-        ensures longer { length work.old.items ≤ length work.new.items }
-        ensures few { part_done self.new < 2 ^ 50 }
+        ensures refused { PartRefused S.meaning S.stands_after T.state self.old (writer_hop self.old.path lane.hop) work.old self.new work.new }
     {
-        self.refuse_on_path(lane, work)
+        self.path.refuse(lane, work)
     }
 
     /// The head makes its next read step, where one is left and not held. Where no head is among the nodes none is left.
@@ -179,19 +158,12 @@ impl<S: Stage, T: Transport> ChannelPart<S, T> {
         requires holds { (world : World) × PartHolds world S.meaning S.stands_after T.state self.old }
         requires places { HasPlaces work.old.stopped (part_lanes self.old) }
         ensures reads { PartReads T.state self.old work.old result self.new work.new }
-        ensures holds { (world : World) → PartHolds world S.meaning S.stands_after T.state self.old → PartHolds world S.meaning S.stands_after T.state self.new }
-        ensures same { SamePart self.old self.new }
-        ensures taken { (l : Lane) → part_taken self.new l ≡ part_taken self.old l }
-        ensures writes { (l : Lane) → part_writes S.meaning self.new l ≡ part_writes S.meaning self.old l }
-        ensures made { (world : World) → PartHolds world S.meaning S.stands_after T.state self.old
-            → Makes world (writes_at S.meaning self.old (head_hop self.old)) (part_came S.meaning self.old) (part_came S.meaning self.new) work.old work.new }
-        ensures others { (l : Lane) → writes_at S.meaning self.old (head_hop self.old) l ≡ false → part_came S.meaning self.new l ≡ part_came S.meaning self.old l }
-        ensures placed { (lanes : List Lane) → AreAmong (part_lanes self.old) lanes → HasPlaces work.old.stopped lanes → HasPlaces work.new.stopped lanes }
-        ensures more { part_done self.old + length work.new.items ≤ part_done self.new + length work.old.items }
-        ensures longer { length work.old.items ≤ length work.new.items }
-        ensures few { part_done self.new < 2 ^ 50 }
+        ensures given { Given S.meaning S.stands_after T.state self.old (head_hop self.old) work.old self.new work.new }
     {
-        self.read_there(work)
+        let Some(head) = &mut self.head else {
+            return ReadStep::Done;
+        };
+        read_at_head(head, work)
     }
 
     /// The head makes a write to its transport, where a flushed byte waits and it has not failed. Where no head is among the
@@ -200,19 +172,12 @@ impl<S: Stage, T: Transport> ChannelPart<S, T> {
         requires holds { (world : World) × PartHolds world S.meaning S.stands_after T.state self.old }
         requires places { HasPlaces work.old.stopped (part_lanes self.old) }
         ensures writes_out { PartWrites T.state T.may_refuse self.old work.old result self.new work.new }
-        ensures holds { (world : World) → PartHolds world S.meaning S.stands_after T.state self.old → PartHolds world S.meaning S.stands_after T.state self.new }
-        ensures same { SamePart self.old self.new }
-        ensures taken { (l : Lane) → part_taken self.new l ≡ part_taken self.old l }
-        ensures writes { (l : Lane) → part_writes S.meaning self.new l ≡ part_writes S.meaning self.old l }
-        ensures made { (world : World) → PartHolds world S.meaning S.stands_after T.state self.old
-            → Makes world (writes_at S.meaning self.old (head_hop self.old)) (part_came S.meaning self.old) (part_came S.meaning self.new) work.old work.new }
-        ensures others { (l : Lane) → writes_at S.meaning self.old (head_hop self.old) l ≡ false → part_came S.meaning self.new l ≡ part_came S.meaning self.old l }
-        ensures placed { (lanes : List Lane) → AreAmong (part_lanes self.old) lanes → HasPlaces work.old.stopped lanes → HasPlaces work.new.stopped lanes }
-        ensures more { part_done self.old + length work.new.items ≤ part_done self.new + length work.old.items }
-        ensures longer { length work.old.items ≤ length work.new.items }
-        ensures few { part_done self.new < 2 ^ 50 }
+        ensures given { Given S.meaning S.stands_after T.state self.old (head_hop self.old) work.old self.new work.new }
     {
-        self.write_there(work)
+        let Some(head) = &mut self.head else {
+            return OutStep::Idle;
+        };
+        write_at_head(head, work)
     }
 
     /// The channel is aborted: its head fails, where it is among the nodes and has not failed.
@@ -220,19 +185,12 @@ impl<S: Stage, T: Transport> ChannelPart<S, T> {
         requires holds { (world : World) × PartHolds world S.meaning S.stands_after T.state self.old }
         requires places { HasPlaces work.old.stopped (part_lanes self.old) }
         ensures aborts { PartAborts T.state self.old work.old self.new work.new }
-        ensures holds { (world : World) → PartHolds world S.meaning S.stands_after T.state self.old → PartHolds world S.meaning S.stands_after T.state self.new }
-        ensures same { SamePart self.old self.new }
-        ensures taken { (l : Lane) → part_taken self.new l ≡ part_taken self.old l }
-        ensures writes { (l : Lane) → part_writes S.meaning self.new l ≡ part_writes S.meaning self.old l }
-        ensures made { (world : World) → PartHolds world S.meaning S.stands_after T.state self.old
-            → Makes world (writes_at S.meaning self.old (head_hop self.old)) (part_came S.meaning self.old) (part_came S.meaning self.new) work.old work.new }
-        ensures others { (l : Lane) → writes_at S.meaning self.old (head_hop self.old) l ≡ false → part_came S.meaning self.new l ≡ part_came S.meaning self.old l }
-        ensures placed { (lanes : List Lane) → AreAmong (part_lanes self.old) lanes → HasPlaces work.old.stopped lanes → HasPlaces work.new.stopped lanes }
-        ensures more { part_done self.old + length work.new.items ≤ part_done self.new + length work.old.items }
-        ensures longer { length work.old.items ≤ length work.new.items }
-        ensures few { part_done self.new < 2 ^ 50 }
+        ensures given { Given S.meaning S.stands_after T.state self.old (head_hop self.old) work.old self.new work.new }
     {
-        self.abort_there(work)
+        let Some(head) = &mut self.head else {
+            return;
+        };
+        abort_at_head(head, work)
     }
 
     /// Whether all of its nodes have ended or failed.
@@ -346,52 +304,6 @@ impl<S: Stage, T: Transport> ChannelPart<S, T> {
             Some(head) => take_at_head(head, envelope, work),
             None => unreachable!(),
         }
-    }
-
-    fn refuse_on_path(&mut self, lane: Lane, work: &mut Outputs)
-        requires holds { (world : World) × PartHolds world S.meaning S.stands_after T.state self.old }
-        requires places { HasPlaces work.old.stopped (part_lanes self.old) }
-        ensures head { self.new.head ≡ self.old.head }
-        ensures over { lane.kind ≡ kind.Data → (c : ContextView S) → context_at self.new.path (writer_hop self.new.path lane.hop) ≡ Some c → is_over c.standing ≡ true }
-        ensures given { Given S.meaning S.stands_after T.state self.old (writer_hop self.old.path lane.hop) work.old self.new work.new }
-    {
-        self.path.refuse(lane, work)
-    }
-
-    fn read_there(&mut self, work: &mut Outputs) -> ReadStep
-        requires holds { (world : World) × PartHolds world S.meaning S.stands_after T.state self.old }
-        requires places { HasPlaces work.old.stopped (part_lanes self.old) }
-        ensures reads { PartReads T.state self.old work.old result self.new work.new }
-        ensures given { Given S.meaning S.stands_after T.state self.old (head_hop self.old) work.old self.new work.new }
-    {
-        let Some(head) = &mut self.head else {
-            return ReadStep::Done;
-        };
-        read_at_head(head, work)
-    }
-
-    fn write_there(&mut self, work: &mut Outputs) -> OutStep
-        requires holds { (world : World) × PartHolds world S.meaning S.stands_after T.state self.old }
-        requires places { HasPlaces work.old.stopped (part_lanes self.old) }
-        ensures writes { PartWrites T.state T.may_refuse self.old work.old result self.new work.new }
-        ensures given { Given S.meaning S.stands_after T.state self.old (head_hop self.old) work.old self.new work.new }
-    {
-        let Some(head) = &mut self.head else {
-            return OutStep::Idle;
-        };
-        write_at_head(head, work)
-    }
-
-    fn abort_there(&mut self, work: &mut Outputs)
-        requires holds { (world : World) × PartHolds world S.meaning S.stands_after T.state self.old }
-        requires places { HasPlaces work.old.stopped (part_lanes self.old) }
-        ensures aborts { PartAborts T.state self.old work.old self.new work.new }
-        ensures given { Given S.meaning S.stands_after T.state self.old (head_hop self.old) work.old self.new work.new }
-    {
-        let Some(head) = &mut self.head else {
-            return;
-        };
-        abort_at_head(head, work)
     }
 }
 

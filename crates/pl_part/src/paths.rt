@@ -170,15 +170,15 @@ impl<S: Stage> PathPart<S> {
     /// The context that writes a lane fails, since nothing more of that is accepted. Nothing comes of flags that are refused, nor
     /// of what the head writes.
     pub fn refuse(&mut self, lane: Lane, work: &mut Outputs)
-        requires holds { (world : World) × PathHolds world S.meaning S.stands_after self.old }
+        requires holds { (world : World) × (world.refuses ≡ true) × PathHolds world S.meaning S.stands_after self.old }
         requires places { HasPlaces work.old.stopped (path_lanes self.old) }
-        ensures holds { (world : World) → PathHolds world S.meaning S.stands_after self.old → PathHolds world S.meaning S.stands_after self.new }
+        ensures holds { (world : World) → world.refuses ≡ true → PathHolds world S.meaning S.stands_after self.old → PathHolds world S.meaning S.stands_after self.new }
         ensures same { SamePath self.old self.new }
         ensures taken { (l : Lane) → path_taken self.new l ≡ path_taken self.old l }
         ensures writes { (l : Lane) → path_writes S.meaning self.new l ≡ path_writes S.meaning self.old l }
         ensures over { lane.kind ≡ kind.Data → (c : ContextView S) → context_at self.new (writer_hop self.new lane.hop) ≡ Some c → is_over c.standing ≡ true }
-        ensures made { (world : World) → PathHolds world S.meaning S.stands_after self.old → Makes world (path_writes S.meaning self.old) (path_came S.meaning self.old) (path_came S.meaning self.new) work.old work.new }
-        ensures node { (world : World) → PathHolds world S.meaning S.stands_after self.old
+        ensures made { (world : World) → world.refuses ≡ true → PathHolds world S.meaning S.stands_after self.old → Makes world (path_writes S.meaning self.old) (path_came S.meaning self.old) (path_came S.meaning self.new) work.old work.new }
+        ensures node { (world : World) → world.refuses ≡ true → PathHolds world S.meaning S.stands_after self.old
             → Makes world (path_writes_at S.meaning self.old (writer_hop self.old lane.hop)) (path_came S.meaning self.old) (path_came S.meaning self.new) work.old work.new }
         ensures others { (l : Lane) → path_writes_at S.meaning self.old (writer_hop self.old lane.hop) l ≡ false → path_came S.meaning self.new l ≡ path_came S.meaning self.old l }
         ensures placed { (lanes : List Lane) → AreAmong (path_lanes self.old) lanes → HasPlaces work.old.stopped lanes → HasPlaces work.new.stopped lanes }
@@ -247,7 +247,7 @@ impl<S: Stage> PathPart<S> {
     }
 
     fn refuse_at_hop(&mut self, hop: usize, lane: Lane, work: &mut Outputs)
-        requires holds { (world : World) × PathHolds world S.meaning S.stands_after self.old }
+        requires holds { (world : World) × (world.refuses ≡ true) × PathHolds world S.meaning S.stands_after self.old }
         requires places { HasPlaces work.old.stopped (path_lanes self.old) }
         requires writer { hop ≡ writer_hop self.old lane.hop }
         ensures { PathRefused S.meaning S.stands_after self.old lane work.old self.new work.new }

@@ -30,7 +30,8 @@ use Rattle.pl_part.specs.HeadHolds.{HeadHolds, head_writes, head_came, head_take
 use Rattle.pl_part.specs.NewParts.{IsPlannedAt, ArePlannedWith, AreNew}
 use Rattle.pl_part.specs.Paths.{writer_hop, path_taken, path_lanes, path_writes, path_came}
 use Rattle.pl_part.specs.Parts.{PartView, PartHolds, SamePart, head_hop, has_entered, part_taken, part_lanes, part_writes, writes_at, part_came}
-use Rattle.pl_part.specs.PartCalls.{IsNextFor}
+use Rattle.pl_context.specs.declared.standing.Took.{Took}
+use Rattle.pl_part.specs.PartCalls.{IsNextFor, Puts, Taken}
 use Rattle.pl_part.proofs.NewHeads.{IsFresh, new-holds, new-came, new-taken}
 use Rattle.pl_part_tests.specs.declared.relays.Relay.{Relay}
 use Rattle.pl_part_tests.specs.Relays.{relaying}
@@ -148,26 +149,19 @@ module _ (p : Part) (b m : OutputsView) (x : Envelope) (items : b.items ≡ x �
       places = front-places sample_world sample_meaning anywhere memory_state p b m x items stops ready.plays entered;
     }
 
-    pub ready-front : (p' : Part) (a : OutputsView) → SamePart p p' → ((l : Lane) → part_taken p' l ≡ cond (same_lane l x.lane) (x.number + 1) (part_taken p l))
-        → ((l : Lane) → part_writes sample_meaning p' l ≡ part_writes sample_meaning p l)
-        → ((world : World) → PartHolds world sample_meaning anywhere memory_state p → IsGood world x → PartHolds world sample_meaning anywhere memory_state p')
-        → ((world : World) → PartHolds world sample_meaning anywhere memory_state p → IsGood world x
-        → Makes world (writes_at sample_meaning p x.lane.hop) (part_came sample_meaning p) (part_came sample_meaning p') m a)
-        → ((lanes : List Lane) → AreAmong (part_lanes p) lanes → HasPlaces m.stopped lanes → HasPlaces a.stopped lanes) → IsReady p' a
-    ready-front p' a same counts writes holds made placed = record {
-      sample = same-sample p p' same ready.sample;
-      plays = plays-front sample_world sample_meaning anywhere memory_state p b m x items stops ready.plays entered p' x.lane.hop a same counts writes
-          (holds sample_world ready.plays.holds front-next.good) (made sample_world ready.plays.holds front-next.good) placed;
+    pub ready-front : (is_spent : Relay → Bool) (answer : Took) (p' : Part) (a : OutputsView) → Taken sample_meaning anywhere memory_state is_spent p x m answer p' a → IsReady p' a
+    ready-front is_spent answer p' a t = record {
+      sample = same-sample p p' t.puts.same ready.sample;
+      plays = plays-front sample_world sample_meaning anywhere memory_state p b m x items stops ready.plays entered p' x.lane.hop a t.puts.same t.taken t.puts.writes
+          (t.holds sample_world ready.plays.holds front-next.good) (t.made sample_world ready.plays.holds front-next.good) t.puts.placed;
     }
 
 -- a node at a hop has put something out, and nothing is taken
-pub ready-given : (p p' : Part) (hop : ℕ) (b a : OutputsView) → IsReady p b → SamePart p p' → ((l : Lane) → part_writes sample_meaning p' l ≡ part_writes sample_meaning p l)
-    → ((lanes : List Lane) → AreAmong (part_lanes p) lanes → HasPlaces b.stopped lanes → HasPlaces a.stopped lanes) → ((l : Lane) → part_taken p' l ≡ part_taken p l)
-    → ((world : World) → PartHolds world sample_meaning anywhere memory_state p → PartHolds world sample_meaning anywhere memory_state p')
-    → ((world : World) → PartHolds world sample_meaning anywhere memory_state p → Makes world (writes_at sample_meaning p hop) (part_came sample_meaning p) (part_came sample_meaning p') b a) → IsReady p' a
-ready-given p p' hop b a ready same writes placed counts holds made = record {
-  sample = same-sample p p' same ready.sample;
-  plays = plays-given sample_world sample_meaning anywhere memory_state p p' hop b a ready.plays same writes (holds sample_world ready.plays.holds) (made sample_world ready.plays.holds) placed counts;
+pub ready-given : (p p' : Part) (hop : ℕ) (b a : OutputsView) → IsReady p b → Puts sample_meaning p hop b p' a → ((l : Lane) → part_taken p' l ≡ part_taken p l)
+    → PartHolds sample_world sample_meaning anywhere memory_state p' → Makes sample_world (writes_at sample_meaning p hop) (part_came sample_meaning p) (part_came sample_meaning p') b a → IsReady p' a
+ready-given p p' hop b a ready puts counts holds made = record {
+  sample = same-sample p p' puts.same ready.sample;
+  plays = plays-given sample_world sample_meaning anywhere memory_state p p' hop b a ready.plays puts.same puts.writes holds made puts.placed counts;
 }
 
 -- ---- it is ready at first

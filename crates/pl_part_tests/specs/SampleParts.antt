@@ -5,7 +5,7 @@ use Rattle.pl_event.specs.declared.stages.Direction.TheVariants.{Inbound, Outbou
 use Rattle.pl_event.specs.Hops.{data_lane}
 use Rattle.pl_event.specs.Inputs.{recorded_input}
 use Rattle.pl_event.specs.Meaning.{Meaning, up_of, down_of}
-use Rattle.pl_event.specs.Worlds.{World}
+use Rattle.pl_event.specs.Worlds.{World, carrying}
 use Rattle.pl_context.specs.ContextViews.{ContextView}
 use Rattle.pl_context.specs.OutputsViews.{OutputsView}
 use Rattle.pl_head.specs.Transports.{MemoryTransportView, memory_state}
@@ -29,12 +29,13 @@ sample_bursts = ((97 ∷ 98 ∷ []) ∷ []) ∷ []
 abbrev pub sample_events : List Event
 sample_events = recorded_input sample_bursts
 
--- what the lane of each hop carries: the first handler's, the turn's, the tail's, the outbound handler's and the head's
+-- what the lane of each hop carries: the first handler's, the turn's, the tail's, the outbound handler's and the head's; they
+-- may be refused
 abbrev pub sample_world : World
 sample_world =
     let handed = up_of (relaying Inbound) sample_events in
     let written = down_of (relaying Turn) handed in
-    (data_lane 7 0, sample_events) ∷ (data_lane 7 1, handed) ∷ (data_lane 7 2, up_of (relaying Turn) handed) ∷ (data_lane 7 3, written) ∷ (data_lane 7 4, down_of (relaying Outbound) written) ∷ []
+    carrying ((data_lane 7 0, sample_events) ∷ (data_lane 7 1, handed) ∷ (data_lane 7 2, up_of (relaying Turn) handed) ∷ (data_lane 7 3, written) ∷ (data_lane 7 4, down_of (relaying Outbound) written) ∷ [])
 
 -- all nodes of channel 7: two inbound handlers, the tail, an outbound handler and the head
 pub record IsSample (p : PartView Relay MemoryTransportView) : Type 0 where

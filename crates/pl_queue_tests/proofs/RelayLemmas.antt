@@ -10,7 +10,7 @@ use Rattle.pl_event.specs.declared.events.Event.{Event}
 use Rattle.pl_event.specs.declared.events.Event.TheVariants.{ReadComplete}
 use Rattle.pl_event.specs.Hops.{flags_lane, same_lane}
 use Rattle.pl_event.specs.Fitting.{Fits}
-use Rattle.pl_event.specs.Worlds.{World, content_of, FitsWorld, FitsAsKind, closes}
+use Rattle.pl_event.specs.Worlds.{World, content_of, FitsWorld, FitsAsKind, MayCome, closes}
 use Rattle.pl_event.proofs.SameLanes.{same_lane-self}
 use Rattle.pl_queue.specs.declared.views.SendCount.{SendCount}
 use Rattle.pl_queue.specs.declared.views.SenderView.{SenderView}
@@ -46,16 +46,16 @@ pub later-event : (n : ℕ) → (n ≡ 0 → ⊥) → ReadComplete ≡ event_at 
 later-event zero h = absurd (h refl)
 later-event (suc n) h = refl
 
-pub item-fits : (world : World) (l : Lane) (n : ℕ) (events : List Event) (i : Item) → l.kind ≡ Data → content_of world l ≡ Some events → Fits events n i
+pub item-fits : (world : World) (l : Lane) (n : ℕ) (events : List Event) (i : Item) → l.kind ≡ Data → content_of world l ≡ Some events → Fits events n i → MayCome world i
     → FitsWorld world (record { lane = l; number = n; item = i })
 unfolding FitsWorld
-item-fits world l n events i kind is fits = subst (λ k. FitsAsKind world k (record { lane = l; number = n; item = i })) (sym kind) (events, is, fits)
+item-fits world l n events i kind is fits may = subst (λ k. FitsAsKind world k (record { lane = l; number = n; item = i })) (sym kind) (events, is, fits, may)
 
 pub event-fits : (world : World) (l : Lane) (n last : ℕ) (x : Envelope) → l.kind ≡ Data → content_of world l ≡ Some (lane_events last) → n < last → x ≡ event l n → FitsWorld world x
-event-fits world l n last x kind is h same = subst (FitsWorld world) (sym same) (item-fits world l n (lane_events last) (item.Event (event_at n)) kind is (in_lane n last h))
+event-fits world l n last x kind is h same = subst (FitsWorld world) (sym same) (item-fits world l n (lane_events last) (item.Event (event_at n)) kind is (in_lane n last h) tt)
 
 pub last-fits : (world : World) (l : Lane) (last : ℕ) → l.kind ≡ Data → content_of world l ≡ Some (lane_events last) → FitsWorld world (record { lane = l; number = last; item = item.End })
-last-fits world l last kind is = item-fits world l last (lane_events last) item.End kind is (lane_length last)
+last-fits world l last kind is = item-fits world l last (lane_events last) item.End kind is (lane_length last) tt
 
 -- a flag fits every world
 pub flag-fits : (world : World) (l : Lane) (n : ℕ) (x : Envelope) → l.kind ≡ Flags → x ≡ flag_at l n → FitsWorld world x
@@ -73,10 +73,10 @@ map-length f (x ∷ xs) = ap suc (map-length f xs)
 
 pub line-fits : (world : World) (l : Lane) (lines : List (List ℕ)) (n : ℕ) (line : List ℕ) → CarriesLines world l lines → n < length lines → line ≡ get_or lines n line
     → FitsWorld world (record { lane = l; number = n; item = item.Event (line_read line) })
-line-fits world l lines n line c h e = item-fits world l n (map line_read lines) (item.Event (line_read line)) c.kind c.content (at-map line_read lines n line h e)
+line-fits world l lines n line c h e = item-fits world l n (map line_read lines) (item.Event (line_read line)) c.kind c.content (at-map line_read lines n line h e) tt
 
 pub lines-end : (world : World) (l : Lane) (lines : List (List ℕ)) (n : ℕ) → CarriesLines world l lines → n ≡ length lines → FitsWorld world (record { lane = l; number = n; item = item.End })
-lines-end world l lines n c e = item-fits world l n (map line_read lines) item.End c.kind c.content (e ∙ map-length line_read lines)
+lines-end world l lines n c e = item-fits world l n (map line_read lines) item.End c.kind c.content (e ∙ map-length line_read lines) tt
 
 -- a count that was found is found as it was set
 pub sent_of-this : (l : Lane) (n : ℕ) (e : Bool) (ss : List SendCount) (k : ℕ) (f : Bool) → sent_of l ss ≡ Some (k, f) → sent_of l (set_send_count l n e ss) ≡ Some (n, e)

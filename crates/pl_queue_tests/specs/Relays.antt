@@ -5,7 +5,7 @@ use Rattle.pl_event.specs.declared.envelopes.Item.TheVariants as item
 use Rattle.pl_event.specs.declared.envelopes.Lane.{Lane}
 use Rattle.pl_event.specs.declared.events.Event.{Event}
 use Rattle.pl_event.specs.declared.events.Event.TheVariants.{Active, ReadComplete}
-use Rattle.pl_event.specs.Worlds.{World}
+use Rattle.pl_event.specs.Worlds.{World, carrying}
 use Rattle.pl_queue.specs.declared.views.SenderView.{SenderView}
 use Rattle.pl_queue.specs.declared.views.TakerView.{TakerView}
 use Rattle.pl_queue.specs.Views.{sent_of, lanes_of_send_counts, lanes_of_counts}
@@ -26,7 +26,7 @@ event lane n = record { lane = lane; number = n; item = item.Event (event_at n) 
 
 -- a world of two lanes
 abbrev pub two_lanes : Lane → Lane → ℕ → World
-two_lanes first second last = (first, lane_events last) ∷ (second, lane_events last) ∷ []
+two_lanes first second last = carrying ((first, lane_events last) ∷ (second, lane_events last) ∷ [])
 
 abbrev pub sending_lanes : SenderView → List Lane
 sending_lanes s = lanes_of_send_counts s.send_counts

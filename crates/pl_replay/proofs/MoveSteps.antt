@@ -16,7 +16,7 @@ use Rattle.std.specs.Option.{option_map_or}
 use Rattle.pl_net.specs.Nets.{CoreView, ExecutorView, CoreStands, RunsTask, HandsOver, queue_at}
 use Rattle.pl_net.specs.declared.cores.Core.{Core}
 use Rattle.pl_net.proofs.CoreSteps.{rest-stands}
-use Rattle.pl_channel.specs.Lanes.{lanes_of}
+use Rattle.pl_channel.specs.Lanes.{world_of}
 use Rattle.pl_channel.specs.PlanStand.{PartsKeepPlan}
 use Rattle.pl_replay.specs.Channels.{home_of, executor_at}
 use Rattle.pl_replay.specs.Moves.{nodes_view, nodes_stand, nodes_take, oldest, IsEnabled, Makes, LeadsTo}
@@ -58,12 +58,12 @@ module _ {S T : Type 0} (meaning : S → Meaning) (stands_after : S → List Eve
   -- A core that keeps its capacity and its executors, and whose nodes keep the plan, stands after a move as before it.
   goes-on : (plan : Plan) (backlogs after : ℕ → List (Entry (Unit {0}))) (core core' : Core (Channels S T)) (x : ℕ) → NetStands meaning stands_after state plan backlogs core
       → core'.capacity ≡ core.capacity → length core'.executors.items ≡ length core.executors.items → core'.work.items ≡ []
-      → CoreStands (nodes_view meaning) (nodes_stand meaning stands_after state) (lanes_of plan) x (core_view core' after)
+      → CoreStands (nodes_view meaning) (nodes_stand meaning stands_after state) (world_of false plan) x (core_view core' after)
       → PartsKeepPlan state plan core'.nodes.parts.items → NetStands meaning stands_after state plan after core'
   goes-on plan backlogs after core core' x n capacity count empty stands keeps = record {
     ruled = n.ruled;
     small = n.small;
-    stands = rest-stands (nodes_view meaning) (nodes_stand meaning stands_after state) (lanes_of plan) x 0 (core_view core' after) empty stands;
+    stands = rest-stands (nodes_view meaning) (nodes_stand meaning stands_after state) (world_of false plan) x 0 (core_view core' after) empty stands;
     rests = empty;
     capacity = capacity ∙ n.capacity;
     executors = count ∙ n.executors;
@@ -73,7 +73,7 @@ module _ {S T : Type 0} (meaning : S → Meaning) (stands_after : S → List Eve
   -- A move was to be made: it was, and led from this stand to another; or nothing has moved.
   pub made-goes-on : (move : Move) (core core' : Core (Channels S T)) (made : Bool) (x : ℕ) (plan : Plan) (backlogs : ℕ → List (Entry (Unit {0})))
       → IsEnabled meaning stands_after is_spent state may_refuse plan.capacity move (core_view core backlogs) made
-      → (made ≡ true → (after : ℕ → List (Entry (Unit {0}))) × CoreStands (nodes_view meaning) (nodes_stand meaning stands_after state) (lanes_of plan) x (core_view core' after)
+      → (made ≡ true → (after : ℕ → List (Entry (Unit {0}))) × CoreStands (nodes_view meaning) (nodes_stand meaning stands_after state) (world_of false plan) x (core_view core' after)
       × Makes meaning stands_after is_spent state may_refuse plan.capacity move (core_view core backlogs) (core_view core' after))
       → (made ≡ false → IsUnmoved core core') → core'.capacity ≡ core.capacity → length core'.executors.items ≡ length core.executors.items → core'.work.items ≡ []
       → NetStands meaning stands_after state plan backlogs core
@@ -89,7 +89,7 @@ module _ {S T : Type 0} (meaning : S → Meaning) (stands_after : S → List Eve
       let same = idle refl in (
         backlogs,
         goes-on plan backlogs backlogs core core' 0 n capacity count empty
-            (subst (CoreStands (nodes_view meaning) (nodes_stand meaning stands_after state) (lanes_of plan) 0) (sym (same-view core core' backlogs same)) n.stands)
+            (subst (CoreStands (nodes_view meaning) (nodes_stand meaning stands_after state) (world_of false plan) 0) (sym (same-view core core' backlogs same)) n.stands)
             (subst (λ (ns : Channels S T). PartsKeepPlan state plan ns.parts.items) (sym same.nodes) n.keeps),
         record { enabled = enabled; makes = λ yes. absurd (both_ways false refl yes); rests = λ _. record { nodes = same.nodes; executors = ap (map waits_of) same.executors; backlogs = refl; work = same.work } },
       )
@@ -110,7 +110,7 @@ module _ {S T : Type 0} (meaning : S → Meaning) (stands_after : S → List Eve
 
   -- the oldest item is handed over, where one can be
   pub hand-goes-on : (core core' : Core (Channels S T)) (made : Bool) (x : ℕ) (plan : Plan) (backlogs : ℕ → List (Entry (Unit {0})))
-      → (made ≡ true → (after : ℕ → List (Entry (Unit {0}))) × CoreStands (nodes_view meaning) (nodes_stand meaning stands_after state) (lanes_of plan) 0 (core_view core' after)
+      → (made ≡ true → (after : ℕ → List (Entry (Unit {0}))) × CoreStands (nodes_view meaning) (nodes_stand meaning stands_after state) (world_of false plan) 0 (core_view core' after)
       × ((i : ℕ) × (oldest core.capacity (core_view core backlogs) x ≡ Some i) × HandsOver x i (core_view core backlogs) (core_view core' after)))
       → (made ≡ false → oldest core.capacity (core_view core backlogs) x ≡ None)
       → (made ≡ false → core' ≡ core) → core'.capacity ≡ core.capacity → length core'.executors.items ≡ length core.executors.items
@@ -134,7 +134,7 @@ module _ {S T : Type 0} (meaning : S → Meaning) (stands_after : S → List Eve
 
   -- where a queue could not grow, it stands as it stood
   pub room-goes-on : (core core' : Core (Channels S T)) (plan : Plan) (backlogs : ℕ → List (Entry (Unit {0}))) → IsUnmovedButRoom core core'
-      → CoreStands (nodes_view meaning) (nodes_stand meaning stands_after state) (lanes_of plan) 0 (core_view core' backlogs) → core'.capacity ≡ core.capacity → length core'.executors.items ≡ length core.executors.items
+      → CoreStands (nodes_view meaning) (nodes_stand meaning stands_after state) (world_of false plan) 0 (core_view core' backlogs) → core'.capacity ≡ core.capacity → length core'.executors.items ≡ length core.executors.items
       → NetStands meaning stands_after state plan backlogs core → NetStands meaning stands_after state plan backlogs core'
   room-goes-on core core' plan backlogs same stands capacity count n = goes-on plan backlogs backlogs core core' 0 n capacity count (ap (λ (w : OutputsView). w.items) same.work ∙ n.rests) stands
       (subst (λ (ns : Channels S T). PartsKeepPlan state plan ns.parts.items) (sym same.nodes) n.keeps)

@@ -25,7 +25,7 @@ use Rattle.pl_part.proofs.PartCounts.{part-few}
 use Rattle.pl_net.specs.Cores.{core_view}
 use Rattle.pl_net.specs.Nets.{ExecutorView, CoreStands, IsStart, no_backlogs}
 use Rattle.pl_net.specs.declared.cores.Core.{Core}
-use Rattle.pl_channel.specs.Lanes.{lanes_of}
+use Rattle.pl_channel.specs.Lanes.{world_of}
 use Rattle.pl_channel.specs.Placing.{IsWhole, IsNewHead, IsUnmoved}
 use Rattle.pl_channel.specs.PlanStand.{HeadKeepsPlan, PartKeepsPlan, PartsKeepPlan}
 use Rattle.pl_replay.specs.Channels.{channels_view, ChannelsStand, executor_at, target_of, origin_of, taken_of, came_of, writes_of, writes_here}
@@ -141,11 +141,11 @@ module _ {S T : Type 0} (meaning : S → Meaning) (stands_after : S → List Eve
   pub all-have-executors : All HasExecutors parts
   all-have-executors = All-from-at HasExecutors parts (λ c part at. let r = recorded-at c part at in has-executors meaning state c (channel_planned meaning state r.0) r.0.transport part r.3.whole)
 
-  pub starts-stand : length rs ≤ MAX_CHANNELS → ChannelsStand (lanes_of plan) meaning stands_after state parts
+  pub starts-stand : length rs ≤ MAX_CHANNELS → ChannelsStand (world_of false plan) meaning stands_after state parts
   starts-stand few = record {
     parts = λ c part at.
         let r = recorded-at c part at in
-        let holds = r.3.holds plan r.2 in
+        let holds = r.3.holds false plan r.2 in
         record {
           holds = holds;
           channel = r.3.whole.channel_is;
@@ -155,7 +155,7 @@ module _ {S T : Type 0} (meaning : S → Meaning) (stands_after : S → List Eve
             tail = ap (λ (o : Option _). is_some o) r.3.whole.tail;
             head = ap (λ (o : Option _). is_some o) r.3.whole.head.1;
           };
-          few = part-few (lanes_of plan) meaning stands_after state part holds;
+          few = part-few (world_of false plan) meaning stands_after state part holds;
         };
     few = let size = placed.count in omega (arith, size, few);
   }
@@ -229,7 +229,7 @@ module _ {S T : Type 0} (meaning : S → Meaning) (stands_after : S → List Eve
   plan_here = plan_of meaning state capacity w.executors w.channels
 
   pub world-begins : (core : Core (Channels S T)) → core.nodes.parts.items ≡ parts → core.executors.items ≡ executors → core.capacity ≡ capacity → core.work.items ≡ []
-      → (ChannelsStand (lanes_of plan_here) meaning stands_after state parts → CoreStands (nodes_view meaning) (nodes_stand meaning stands_after state) (lanes_of plan_here) 0 (core_view core no_backlogs))
+      → (ChannelsStand (world_of false plan_here) meaning stands_after state parts → CoreStands (nodes_view meaning) (nodes_stand meaning stands_after state) (world_of false plan_here) 0 (core_view core no_backlogs))
       → NetBegins meaning stands_after state plan_here (transports_of w.channels) core
   world-begins core has-parts has-executors-too size rests stands = record {
     stands = record {
@@ -256,12 +256,12 @@ module _ {S T : Type 0} (meaning : S → Meaning) (stands_after : S → List Eve
       same-transport a b e = cc
 
       each : (number : ℕ) (p : ChannelPlan) (transport : T) (part : PartView S T) → slice_get plan_here.channels number ≡ Some p → slice_get (transports_of w.channels) number ≡ Some transport → slice_get parts number ≡ Some part
-          → IsWhole state number p transport part × IsUnmoved meaning part × PartHolds (lanes_of plan_here) meaning stands_after state part
+          → IsWhole state number p transport part × IsUnmoved meaning part × PartHolds (world_of false plan_here) meaning stands_after state part
       each number p transport part planned has at =
           let r = recorded-at meaning stands_after state plan_here w.channels refl parts placed number part at in
           let one = same-plan meaning stands_after state plan_here w.channels refl parts placed (channel_planned meaning state r.0) p (sym r.2 ∙ planned) in
           let other = same-transport r.0.transport transport (sym (map-at (λ (c : Recorded S T). c.transport) w.channels number r.0 r.1) ∙ has) in (
             subst (λ (q : ChannelPlan). IsWhole state number q transport part) one (subst (λ (t : T). IsWhole state number (channel_planned meaning state r.0) t part) other r.3.whole),
             r.3.unmoved,
-            r.3.holds plan_here r.2,
+            r.3.holds false plan_here r.2,
           )

@@ -57,13 +57,13 @@ all_keep (p ∷ ps) [] each = elim each [ ]
 module _ {S T : Type 0} (state : T → TransportState) where
   -- the ends of a part are the only ones that it has
   pub reports_its_plan : (part : PartView S T) (own : HasEnds part) (report : ChannelReport)
-      → ((plan : Plan) (number : ℕ) (p : ChannelPlan) → EndsHold state plan number p own.tail own.head → (own.head.failure ≡ Some Aborted → is_some p.abort_after ≡ true) → ReportsPlan p report)
+      → ((plan : Plan) (number : ℕ) (p : ChannelPlan) → EndsHold state false plan number p own.tail own.head → (own.head.failure ≡ Some Aborted → is_some p.abort_after ≡ true) → ReportsPlan p report)
       → ReportsItsPlan state part report
   reports_its_plan part own report planned plan number p ends held aborted =
       let head = same_Some ends.head own.head (sym ends.has_head ∙ own.has_head) in
       planned plan number p
-      (subst (λ (tail : TailView). EndsHold state plan number p tail own.head) (same_Some ends.tail own.tail (sym ends.has_tail ∙ own.has_tail))
-      (subst (λ (head : HeadView T). EndsHold state plan number p ends.tail head) head held))
+      (subst (λ (tail : TailView). EndsHold state false plan number p tail own.head) (same_Some ends.tail own.tail (sym ends.has_tail ∙ own.has_tail))
+      (subst (λ (head : HeadView T). EndsHold state false plan number p ends.tail head) head held))
       (subst (λ (head : HeadView T). head.failure ≡ Some Aborted → is_some p.abort_after ≡ true) head aborted)
 
   -- each report is one of its channel's plan

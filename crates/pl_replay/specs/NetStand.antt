@@ -1,5 +1,5 @@
 -- How a net stands between two moves, and before any.
-use Rattle.std.specs.Prelude.{◌≡◌, ℕ, List, [], length}
+use Rattle.std.specs.Prelude.{◌≡◌, ℕ, List, [], length, false}
 use Rattle.pl_event.specs.declared.events.Event.{Event}
 use Rattle.pl_event.specs.Meaning.{Meaning}
 use Rattle.pl_head.specs.Transports.{TransportState}
@@ -7,7 +7,7 @@ use Rattle.pl_context.specs.WaitingViews.{Entry}
 use Rattle.pl_net.specs.Cores.{core_view}
 use Rattle.pl_net.specs.Nets.{CoreStands}
 use Rattle.pl_net.specs.declared.cores.Core.{Core}
-use Rattle.pl_channel.specs.Lanes.{lanes_of}
+use Rattle.pl_channel.specs.Lanes.{world_of}
 use Rattle.pl_replay.specs.Moves.{nodes_view, nodes_stand}
 use Rattle.pl_channel.specs.PlanStand.{PartsKeepPlan}
 use Rattle.pl_replay.specs.declared.channels.Channels.{Channels}
@@ -20,7 +20,7 @@ module _ {S T : Type 0} (meaning : S → Meaning) (stands_after : S → List Eve
   pub record NetStands (plan : Plan) (backlogs : ℕ → List (Entry Unit)) (core : Core (Channels S T)) : Type 0 where
     pub ruled : IsPlan plan
     pub small : IsSmallPlan plan
-    pub stands : CoreStands (nodes_view meaning) (nodes_stand meaning stands_after state) (lanes_of plan) 0 (core_view core backlogs)
+    pub stands : CoreStands (nodes_view meaning) (nodes_stand meaning stands_after state) (world_of false plan) 0 (core_view core backlogs)
     pub rests : core.work.items ≡ []
     pub capacity : core.capacity ≡ plan.capacity
     pub executors : length core.executors.items ≡ plan.executors

@@ -36,7 +36,7 @@ module _ {S T : Type 0} (state : T → TransportState) where
   -- It is the report of two ends that keep to the plan, of each plan in whose world both ends of the part hold, and by which
   -- the head is aborted if it is.
   abbrev pub ReportsItsPlan : PartView S T → ChannelReport → Type 0
-  ReportsItsPlan part r = (plan : Plan) (c : ℕ) (p : ChannelPlan) (ends : HasEnds part) → EndsHold state plan c p ends.tail ends.head
+  ReportsItsPlan part r = (plan : Plan) (c : ℕ) (p : ChannelPlan) (ends : HasEnds part) → EndsHold state false plan c p ends.tail ends.head
       → (ends.head.failure ≡ Some Aborted → is_some p.abort_after ≡ true) → ReportsPlan p r
 
   -- This is how they stand.
@@ -55,4 +55,4 @@ module _ {S T : Type 0} (state : T → TransportState) where
   pub record HaveEnds (plan : Plan) (parts : List (PartView S T)) : Type 0 where
     pub count : length parts ≡ length plan.channels
     pub each : (c : ℕ) (p : ChannelPlan) (part : PartView S T) → slice_get plan.channels c ≡ Some p → slice_get parts c ≡ Some part
-        → (ends : HasEnds part) × EndsHold state plan c p ends.tail ends.head × (ends.head.failure ≡ Some Aborted → is_some p.abort_after ≡ true)
+        → (ends : HasEnds part) × EndsHold state false plan c p ends.tail ends.head × (ends.head.failure ≡ Some Aborted → is_some p.abort_after ≡ true)

@@ -1,5 +1,5 @@
 -- The channels of a net before any move.
-use Rattle.std.specs.Prelude.{◌≡◌, ℕ, List, [], length, map, slice_get, Some}
+use Rattle.std.specs.Prelude.{◌≡◌, ℕ, Bool, false, List, [], length, map, slice_get, Some}
 use Rattle.pl_event.specs.declared.events.Event.{Event}
 use Rattle.pl_event.specs.Meaning.{Meaning}
 use Rattle.pl_head.specs.Transports.{TransportState}
@@ -10,7 +10,7 @@ use Rattle.pl_net.specs.declared.cores.Core.{Core}
 use Rattle.pl_replay.specs.Channels.{channels_view}
 use Rattle.pl_replay.specs.NetStand.{NetStands}
 use Rattle.pl_replay.specs.declared.channels.Channels.{Channels}
-use Rattle.pl_channel.specs.Lanes.{lanes_of}
+use Rattle.pl_channel.specs.Lanes.{world_of}
 use Rattle.pl_channel.specs.Placing.{IsWhole, IsUnmoved}
 use Rattle.pl_world.specs.declared.session.Recorded.{Recorded}
 use Rattle.pl_world.specs.Plans.{ChannelPlan, Plan, channel_planned}
@@ -20,12 +20,12 @@ abbrev pub transports_of : {S T : Type 0} → List (Recorded S T) → List T
 transports_of channels = map (λ c. c.transport) channels
 
 module _ {S T : Type 0} (meaning : S → Meaning) (stands_after : S → List Event → Type 0) (state : T → TransportState) where
-  -- A part has all nodes of a recorded channel, of which none has taken or made anything, and holds in each plan that has it
-  -- under this number.
+  -- A part has all nodes of a recorded channel, of which none has taken or made anything, and holds in the worlds of each plan
+  -- that has it under this number.
   pub record IsPlaced (number : ℕ) (r : Recorded S T) (part : PartView S T) : Type 0 where
     pub whole : IsWhole state number (channel_planned meaning state r) r.transport part
     pub unmoved : IsUnmoved meaning part
-    pub holds : (plan : Plan) → slice_get plan.channels number ≡ Some (channel_planned meaning state r) → PartHolds (lanes_of plan) meaning stands_after state part
+    pub holds : (refuses : Bool) (plan : Plan) → slice_get plan.channels number ≡ Some (channel_planned meaning state r) → PartHolds (world_of refuses plan) meaning stands_after state part
 
   -- So does each of recorded channels, by number.
   pub record ArePlaced (rs : List (Recorded S T)) (parts : List (PartView S T)) : Type 0 where
@@ -37,7 +37,7 @@ module _ {S T : Type 0} (meaning : S → Meaning) (stands_after : S → List Eve
   pub record Begins (plan : Plan) (transports : List T) (c : CoreView (Channels S T)) : Type 0 where
     pub channels : length c.nodes.parts.items ≡ length plan.channels
     pub each : (number : ℕ) (p : ChannelPlan) (transport : T) (part : PartView S T) → slice_get plan.channels number ≡ Some p → slice_get transports number ≡ Some transport → slice_get c.nodes.parts.items number ≡ Some part
-        → IsWhole state number p transport part × IsUnmoved meaning part × PartHolds (lanes_of plan) meaning stands_after state part
+        → IsWhole state number p transport part × IsUnmoved meaning part × PartHolds (world_of false plan) meaning stands_after state part
     pub executors : length c.executors ≡ plan.executors
     pub start : IsStart (channels_view meaning c.nodes.parts.items) c.executors
     pub backlogs : c.backlogs ≡ no_backlogs

@@ -8,7 +8,7 @@ ghost use Rattle.pl_flow.specs.Flows.{point, on, IsFlow, past};
 ghost use Rattle.pl_net.specs.Nets.{queue_at, stops_at, envelopes};
 ghost use Rattle.pl_net.specs.Numbers.{handed_of, made_of};
 ghost use Rattle.pl_net.specs.declared.cores.Core.{Core};
-ghost use Rattle.pl_channel.specs.Lanes.{lanes_of};
+ghost use Rattle.pl_channel.specs.Lanes.{world_of};
 ghost use Rattle.pl_world.specs.Plans.{Plan};
 ghost use Rattle.pl_replay.specs.Channels.{channels_view, target_of, origin_of, taken_of, writes_of, came_of};
 ghost use Rattle.pl_replay.specs.NetStand.{NetStands};
@@ -24,7 +24,7 @@ use pl_head::Transport;
 pub fn account_law<S: Stage, T: Transport>()
     ensures order { (plan : Plan) (backlogs : ℕ → List (Entry Unit)) (net : Core (Channels S T)) → NetStands S.meaning S.stands_after T.state plan backlogs net
         → (l : Lane) → writes_of S.meaning net.nodes.parts.items l ≡ true
-        → (over : Bool) × IsFlow (lanes_of plan) (point (taken_of net.nodes.parts.items l) over)
+        → (over : Bool) × IsFlow (world_of false plan) (point (taken_of net.nodes.parts.items l) over)
         (on l (queue_at net.executors.items (target_of net.nodes.parts.items l)) ++ on l (envelopes (backlogs (origin_of net.nodes.parts.items l)))) }
     ensures all { (plan : Plan) (backlogs : ℕ → List (Entry Unit)) (net : Core (Channels S T)) → NetStands S.meaning S.stands_after T.state plan backlogs net
         → (l : Lane) → writes_of S.meaning net.nodes.parts.items l ≡ true

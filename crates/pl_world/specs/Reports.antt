@@ -1,9 +1,9 @@
 -- How a channel stands, what a report says of it, and the whole report of a drained session (docs/FORMATS.md, "Report").
-use Rattle.std.specs.Prelude.{◌≡◌, ℕ, ◌≤◌, List, [], ◌++◌, length, take, Bool, true, false, if◌then◌else◌, nat_le, ◌&&◌, is_some, Option, Some, None}
+use Rattle.std.specs.Prelude.{◌≡◌, ◌≢◌, ℕ, ◌≤◌, List, [], ◌++◌, length, take, Bool, true, false, if◌then◌else◌, nat_le, ◌&&◌, is_some, Option, Some, None}
 use Rattle.std.specs.List.{AllZip}
 use Rattle.pl_event.specs.declared.events.Event.{Event}
 use Rattle.pl_event.specs.declared.outcomes.Cause.{Cause}
-use Rattle.pl_event.specs.declared.outcomes.Cause.TheVariants.{Aborted}
+use Rattle.pl_event.specs.declared.outcomes.Cause.TheVariants.{Aborted, Refused}
 use Rattle.pl_event.specs.Meaning.{IsPrefixOf}
 use Rattle.pl_event.specs.Inputs.{recorded_input}
 use Rattle.pl_event.specs.Lanes.{tail_lane, head_lane}
@@ -123,6 +123,8 @@ pub record ReportsPlan (p : ChannelPlan) (r : ChannelReport) : Type 0 where
   pub ends : Ends
   pub ends_keep : EndsKeepToPlan p ends
   pub reports : IsChannelReport ends r
+  -- no executor closes while a channel has moves left, so none fails since it was refused
+  pub unrefused : r.stands ≢ Failed Refused
 
 -- so is that of each channel of a session
 abbrev pub AllReportPlan : List ChannelPlan → List ChannelReport → Type 0

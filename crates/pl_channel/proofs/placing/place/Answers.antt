@@ -4,13 +4,13 @@ use Rattle.std.proofs.lemmas.List.{length-map}
 use Rattle.std.proofs.lemmas.Result.{IfOk-at_ok}
 use Rattle.pl_event.specs.Meaning.{Meaning}
 use Rattle.pl_event.specs.Paths.{is_turn}
-use Rattle.pl_event.specs.Worlds.{World}
+use Rattle.pl_event.specs.Worlds.{World, carrying}
 use Rattle.pl_event.proofs.Lists.{position_or_len-map}
 use Rattle.pl_context.specs.TailViews.{new_tail}
 use Rattle.pl_part.specs.NewParts.{ArePlannedWith}
 use Rattle.pl_part.proofs.NewHeads.{IsFresh, new-holds, new-came, new-taken}
 use Rattle.pl_world.specs.Plans.{channel_planned, head_hop}
-use Rattle.pl_channel.specs.Lanes.{channel_lanes, lanes_of}
+use Rattle.pl_channel.specs.Lanes.{channel_lanes, world_of}
 use Rattle.pl_channel.proofs.LaneContents.{channel-lane, content-planned}
 use Rattle.pl_channel.proofs.PlannedLanes.{Knows, are-planned, few-input, head-planned}
 use Rattle.pl_channel.proofs.NewChannels.{new-unmoved}
@@ -25,14 +25,14 @@ if-ok (Err e) P holds = tt
 pub new-head-requires-clause-few : goal.new-head-requires-clause-few
 new-head-requires-clause-few g c =
     let p = channel_planned g.S.Stage.meaning g.T.Transport.state c.args.recorded in
-    few-input g.S.Stage.meaning g.S.Stage.stands_after g.T.Transport.state c.args.recorded c.inbound.ensures.path c.requires.small (channel_lanes c.args.number p) c.args.number (channel-lane c.args.number p)
+    few-input g.S.Stage.meaning g.S.Stage.stands_after g.T.Transport.state c.args.recorded c.inbound.ensures.path c.requires.small (carrying (channel_lanes c.args.number p)) c.args.number (channel-lane c.args.number p)
 
 pub whole-requires-clause-planned : goal.whole-requires-clause-planned
 whole-requires-clause-planned g c =
     let p = channel_planned g.S.Stage.meaning g.T.Transport.state c.args.recorded in
     let chains = c.into_chains-inbound.ensures in (
-      channel_lanes c.args.number p,
-      are-planned g.S.Stage.meaning g.S.Stage.stands_after g.T.Transport.state c.args.recorded c.inbound.ensures.path c.requires.small (channel_lanes c.args.number p) c.args.number (channel-lane c.args.number p)
+      carrying (channel_lanes c.args.number p),
+      are-planned g.S.Stage.meaning g.S.Stage.stands_after g.T.Transport.state c.args.recorded c.inbound.ensures.path c.requires.small (carrying (channel_lanes c.args.number p)) c.args.number (channel-lane c.args.number p)
           c.turn-turn.result c.into_chains-inbound.result.0.items c.into_chains-inbound.result.1.items c.turn-turn.ensures.hop chains.inbound chains.outbound,
     )
 
@@ -50,6 +50,7 @@ head-fresh g c =
       flags = made.flags;
       taken = made.taken;
       standing = made.standing;
+      failure = made.failure;
       few = made.few;
     }
 
@@ -105,7 +106,7 @@ returns-clause-whole g c = if-ok c.whole.result _ (λ part is.
 pub returns-clause-unmoved : goal.returns-clause-unmoved
 returns-clause-unmoved g c = if-ok c.whole.result _ (λ part is.
     let p = channel_planned g.S.Stage.meaning g.T.Transport.state c.args.recorded in
-    let world = channel_lanes c.args.number p in
+    let world = carrying (channel_lanes c.args.number p) in
     let state = g.T.Transport.state in
     let fresh = head-fresh g c in
     new-unmoved g.S.Stage.meaning g.S.Stage.stands_after world c.args.number (length c.into_chains-inbound.result.0.items) c.turn-turn.result part
@@ -115,14 +116,15 @@ returns-clause-unmoved g c = if-ok c.whole.result _ (λ part is.
     (new-taken state c.args.recorded.input c.args.number (head_hop p) c.new-head.result fresh))
 
 pub returns-clause-holds : goal.returns-clause-holds
-returns-clause-holds g c = if-ok c.whole.result _ (λ part is plan at.
+returns-clause-holds g c = if-ok c.whole.result _ (λ part is refuses plan at.
     let meaning = g.S.Stage.meaning in
     let stands_after = g.S.Stage.stands_after in
     let state = g.T.Transport.state in
     let recorded = c.args.recorded in
     let p = channel_planned meaning state recorded in
+    let world = world_of refuses plan in
     let knows = content-planned plan c.args.number p at in
-    let head = head-planned meaning stands_after state recorded c.inbound.ensures.path c.requires.small (lanes_of plan) c.args.number knows in
-    let few = few-input meaning stands_after state recorded c.inbound.ensures.path c.requires.small (lanes_of plan) c.args.number knows in
-    IfOk-at_ok _ is c.whole.ensures.holds (lanes_of plan) (chains-planned g c (lanes_of plan) knows)
-    (new-holds state recorded.input c.args.number (head_hop p) c.new-head.result (head-fresh g c) (lanes_of plan) head few))
+    let head = head-planned meaning stands_after state recorded c.inbound.ensures.path c.requires.small world c.args.number knows in
+    let few = few-input meaning stands_after state recorded c.inbound.ensures.path c.requires.small world c.args.number knows in
+    IfOk-at_ok _ is c.whole.ensures.holds world (chains-planned g c world knows)
+    (new-holds state recorded.input c.args.number (head_hop p) c.new-head.result (head-fresh g c) world head few))

@@ -1,4 +1,4 @@
-use Rattle.std.proofs.Common.{◌∙◌}
+use Rattle.std.proofs.Common.{◌∙◌, false, refl}
 use Rattle.pl_channel.proofs.EventClones.{clone-event}
 use Rattle.pl_channel.proofs.EndReports.{ends-report, ends-keep}
 use Rattle.pl_channel.proofs.reports.report.Goals as goal
@@ -12,9 +12,9 @@ returns-clause-ends g c = λ ys zs sizes after. record {
 }
 
 pub returns-clause-keeps : goal.returns-clause-keeps
-returns-clause-keeps g c = λ plan number p held.
-    ends-keep g.T.Transport.state plan number p c.args.tail.now c.args.head.now held _ (returns-clause-ends g c)
+returns-clause-keeps g c = λ refuses plan number p held.
+    ends-keep g.T.Transport.state refuses plan number p c.args.tail.now c.args.head.now held _ (returns-clause-ends g c)
 
 pub returns-clause-planned : goal.returns-clause-planned
 returns-clause-planned g c = λ plan number p held aborted.
-    ends-report g.T.Transport.state plan number p c.args.tail.now c.args.head.now held _ (returns-clause-ends g c) aborted
+    ends-report g.T.Transport.state false plan number p c.args.tail.now c.args.head.now held _ (returns-clause-ends g c) refl aborted

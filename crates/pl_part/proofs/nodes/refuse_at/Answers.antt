@@ -8,17 +8,17 @@ use Rattle.pl_part.proofs.ContextCounts.{failed-more}
 use Rattle.pl_part.proofs.nodes.refuse_at.Goals as goal
 
 pub returns-in-Data-clause-holds : goal.returns-in-Data-clause-holds
-returns-in-Data-clause-holds g c = λ world h.
+returns-in-Data-clause-holds g c = λ world refuses h.
     let meaning = g.S.Stage.meaning in
     let stands = g.S.Stage.stands_after in
     let now = (context-failed world meaning stands g.S.Stage.is_spent g.met.S.Stage.lawful h.events c.args.context.now h.holds
-    Refused c.args.work.now c.fail.new.outputs c.fail.new.self c.fail.ensures.open c.fail.ensures.over).0 in
+    Refused refuses c.args.work.now c.fail.new.outputs c.fail.new.self c.fail.ensures.open c.fail.ensures.over).0 in
     record { events = h.events; holds = subst (λ (m : Meaning). HoldsWith world meaning stands m h.events c.fail.new.self) (sym now.meant) now }
 
 pub returns-in-Data-clause-made : goal.returns-in-Data-clause-made
-returns-in-Data-clause-made g c = λ world h.
+returns-in-Data-clause-made g c = λ world refuses h.
     (context-failed world g.S.Stage.meaning g.S.Stage.stands_after g.S.Stage.is_spent g.met.S.Stage.lawful h.events c.args.context.now h.holds
-    Refused c.args.work.now c.fail.new.outputs c.fail.new.self c.fail.ensures.open c.fail.ensures.over).1
+    Refused refuses c.args.work.now c.fail.new.outputs c.fail.new.self c.fail.ensures.open c.fail.ensures.over).1
 
 pub returns-in-Data-clause-placed : goal.returns-in-Data-clause-placed
 returns-in-Data-clause-placed g c = λ lanes within places.

@@ -1,22 +1,28 @@
+use Rattle.std.proofs.Common.{refl}
+use Rattle.pl_part_tests.specs.SampleParts.{sample_world}
 use Rattle.pl_part_tests.proofs.SampleLemmas.{ready-given}
 use Rattle.pl_part_tests.proofs.playing.apply.Goals as goal
 
 pub returns-in-Read : goal.returns-in-Read
 returns-in-Read c =
-    let t = c.next_read.ensures in
-    record { ready = ready-given c.args.part.now c.next_read.new.self _ c.args.work.now c.next_read.new.work c.requires.ready t.same t.writes t.placed t.taken t.holds t.made }
+    let t = c.next_read.ensures.given in
+    let holds = c.requires.ready.plays.holds in
+    record { ready = ready-given c.args.part.now c.next_read.new.self _ c.args.work.now c.next_read.new.work c.requires.ready t.puts t.taken (t.holds sample_world holds) (t.made sample_world holds) }
 
 pub returns-in-Write : goal.returns-in-Write
 returns-in-Write c =
-    let t = c.write_once.ensures in
-    record { ready = ready-given c.args.part.now c.write_once.new.self _ c.args.work.now c.write_once.new.work c.requires.ready t.same t.writes t.placed t.taken t.holds t.made }
+    let t = c.write_once.ensures.given in
+    let holds = c.requires.ready.plays.holds in
+    record { ready = ready-given c.args.part.now c.write_once.new.self _ c.args.work.now c.write_once.new.work c.requires.ready t.puts t.taken (t.holds sample_world holds) (t.made sample_world holds) }
 
 pub returns-in-Abort : goal.returns-in-Abort
 returns-in-Abort c =
-    let t = c.abort.ensures in
-    record { ready = ready-given c.args.part.now c.abort.new.self _ c.args.work.now c.abort.new.work c.requires.ready t.same t.writes t.placed t.taken t.holds t.made }
+    let t = c.abort.ensures.given in
+    let holds = c.requires.ready.plays.holds in
+    record { ready = ready-given c.args.part.now c.abort.new.self _ c.args.work.now c.abort.new.work c.requires.ready t.puts t.taken (t.holds sample_world holds) (t.made sample_world holds) }
 
 pub returns-in-Refuse : goal.returns-in-Refuse
 returns-in-Refuse c =
-    let t = c.refuse.ensures in
-    record { ready = ready-given c.args.part.now c.refuse.new.self _ c.args.work.now c.refuse.new.work c.requires.ready t.same t.writes t.placed t.taken t.holds t.made }
+    let t = c.refuse.ensures.refused in
+    let holds = c.requires.ready.plays.holds in
+    record { ready = ready-given c.args.part.now c.refuse.new.self _ c.args.work.now c.refuse.new.work c.requires.ready t.puts t.taken (t.holds sample_world refl holds) (t.made sample_world refl holds) }

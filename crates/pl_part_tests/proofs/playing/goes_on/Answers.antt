@@ -15,10 +15,9 @@ returns-in_ok-push c =
     let r = c.requires.ready in
     let p = c.args.part.now in
     let x = c.in-Some.envelope in
-    let t = c.take-took.ensures in
     record {
       ready = ready-front p c.args.work.now c.next.new.self x c.in-Some.ensures.front c.in-Some.ensures.stopped r (sym (c.enters.ensures p r.sample) ∙ c.if-enters.true)
-          c.take-took.new.self c.take-took.new.work t.same t.taken t.writes t.holds t.made t.placed;
+          _ c.take-took.result c.take-took.new.self c.take-took.new.work c.take-took.ensures;
     }
 
 pub returns-in_ok-push-2 : goal.returns-in_ok-push-2

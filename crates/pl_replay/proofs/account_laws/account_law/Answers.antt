@@ -1,18 +1,19 @@
-use Rattle.pl_channel.specs.Lanes.{lanes_of}
+use Rattle.std.proofs.Common.{false}
+use Rattle.pl_channel.specs.Lanes.{world_of}
 use Rattle.pl_replay.specs.Channels.{channels_view}
 use Rattle.pl_replay.proofs.account_laws.account_law.Goals as goal
 
 pub returns-clause-order : goal.returns-clause-order
-returns-clause-order g c = λ plan backlogs net n l w. c.account_law.ensures.order (lanes_of plan) (channels_view g.S.Stage.meaning net.nodes.parts.items) 0 net.executors.items backlogs net.work n.stands.runs l w
+returns-clause-order g c = λ plan backlogs net n l w. c.account_law.ensures.order (world_of false plan) (channels_view g.S.Stage.meaning net.nodes.parts.items) 0 net.executors.items backlogs net.work n.stands.runs l w
 
 pub returns-clause-all : goal.returns-clause-all
-returns-clause-all g c = λ plan backlogs net n l w a b. c.account_law.ensures.all (lanes_of plan) (channels_view g.S.Stage.meaning net.nodes.parts.items) 0 net.executors.items backlogs net.work n.stands.runs n.rests l w a b
+returns-clause-all g c = λ plan backlogs net n l w a b. c.account_law.ensures.all (world_of false plan) (channels_view g.S.Stage.meaning net.nodes.parts.items) 0 net.executors.items backlogs net.work n.stands.runs n.rests l w a b
 
 pub returns-clause-elsewhere : goal.returns-clause-elsewhere
-returns-clause-elsewhere g c = λ plan backlogs net n y l. c.account_law.ensures.elsewhere (lanes_of plan) (channels_view g.S.Stage.meaning net.nodes.parts.items) 0 net.executors.items backlogs net.work n.stands.runs y l
+returns-clause-elsewhere g c = λ plan backlogs net n y l. c.account_law.ensures.elsewhere (world_of false plan) (channels_view g.S.Stage.meaning net.nodes.parts.items) 0 net.executors.items backlogs net.work n.stands.runs y l
 
 pub returns-clause-numbers : goal.returns-clause-numbers
 returns-clause-numbers g c = λ backlogs net l. c.account_law.ensures.order_of_numbers (channels_view g.S.Stage.meaning net.nodes.parts.items) net.executors.items backlogs l
 
 pub returns-clause-direct : goal.returns-clause-direct
-returns-clause-direct g c = λ plan backlogs net n l w same. c.account_law.ensures.direct (lanes_of plan) (channels_view g.S.Stage.meaning net.nodes.parts.items) 0 net.executors.items backlogs net.work n.stands.runs n.rests l w same
+returns-clause-direct g c = λ plan backlogs net n l w same. c.account_law.ensures.direct (world_of false plan) (channels_view g.S.Stage.meaning net.nodes.parts.items) 0 net.executors.items backlogs net.work n.stands.runs n.rests l w same

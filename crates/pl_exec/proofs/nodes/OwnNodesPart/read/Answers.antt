@@ -40,7 +40,7 @@ own-gave g c =
 
 given-gave : (g : _) (c : In-Gave g)
     → Given g.S.Stage.meaning g.S.Stage.stands_after g.T.Transport.state c.index_mut.result.now (head_hop c.index_mut.result.now) c.args.work.now c.next_read.new.self c.next_read.new.work
-given-gave g c = let t = c.next_read.ensures in record { taken = t.taken; puts = record { same = t.same; writes = t.writes; others = t.others; placed = t.placed; longer = t.longer; few = t.few }; holds = t.holds; made = t.made; more = t.more }
+given-gave g c = c.next_read.ensures.given
 
 pub returns-in-Gave-clause-enabled : goal.returns-in-Gave-clause-enabled
 returns-in-Gave-clause-enabled g c = record {
@@ -55,23 +55,23 @@ returns-in-Gave-clause-stands g c = (
   c.requires.stands.0,
   read-stands c.args.self.now.parts.items c.index-channel.result.now c.index_mut.result.now c.next_read.new.self (own-gave g c) g.W.Named.world g.W.Planned.plan g.S.Stage.meaning g.S.Stage.stands_after g.S.Stage.is_spent g.T.Transport.state
       c.args.self.now.number c.args.self.now.was_refused c.requires.stands.1 c.args.work.now c.next_read.result c.next_read.new.work (given-gave g c) c.next_read.ensures.reads,
-  c.requires.stands.2 ∙ sym (heads-stay c.args.self.now.parts.items c.index-channel.result.now c.index_mut.result.now c.next_read.new.self (own-gave g c) c.next_read.ensures.same),
+  c.requires.stands.2 ∙ sym (heads-stay c.args.self.now.parts.items c.index-channel.result.now c.index_mut.result.now c.next_read.new.self (own-gave g c) c.next_read.ensures.given.puts.same),
 )
 
 pub returns-in-Gave-clause-routes : goal.returns-in-Gave-clause-routes
-returns-in-Gave-clause-routes g c = targets-stay c.args.self.now.parts.items c.index-channel.result.now c.index_mut.result.now c.next_read.new.self (own-gave g c) c.next_read.ensures.same
+returns-in-Gave-clause-routes g c = targets-stay c.args.self.now.parts.items c.index-channel.result.now c.index_mut.result.now c.next_read.new.self (own-gave g c) c.next_read.ensures.given.puts.same
 
 pub returns-in-Gave-clause-writes : goal.returns-in-Gave-clause-writes
-returns-in-Gave-clause-writes g c = (routes c.args.self.now.parts.items c.index-channel.result.now c.index_mut.result.now c.next_read.new.self (own-gave g c) g.S.Stage.meaning c.next_read.ensures.same c.next_read.ensures.writes).writes
+returns-in-Gave-clause-writes g c = (routes c.args.self.now.parts.items c.index-channel.result.now c.index_mut.result.now c.next_read.new.self (own-gave g c) g.S.Stage.meaning c.next_read.ensures.given.puts.same c.next_read.ensures.given.puts.writes).writes
 
 pub returns-in-Gave-clause-taken : goal.returns-in-Gave-clause-taken
-returns-in-Gave-clause-taken g c = taken-none c.args.self.now.parts.items c.index-channel.result.now c.index_mut.result.now c.next_read.new.self (own-gave g c) c.next_read.ensures.taken
+returns-in-Gave-clause-taken g c = taken-none c.args.self.now.parts.items c.index-channel.result.now c.index_mut.result.now c.next_read.new.self (own-gave g c) c.next_read.ensures.given.taken
 
 pub returns-in-Gave-clause-lanes : goal.returns-in-Gave-clause-lanes
-returns-in-Gave-clause-lanes g c = (routes c.args.self.now.parts.items c.index-channel.result.now c.index_mut.result.now c.next_read.new.self (own-gave g c) g.S.Stage.meaning c.next_read.ensures.same c.next_read.ensures.writes).lanes
+returns-in-Gave-clause-lanes g c = (routes c.args.self.now.parts.items c.index-channel.result.now c.index_mut.result.now c.next_read.new.self (own-gave g c) g.S.Stage.meaning c.next_read.ensures.given.puts.same c.next_read.ensures.given.puts.writes).lanes
 
 pub returns-in-Gave-clause-placed : goal.returns-in-Gave-clause-placed
-returns-in-Gave-clause-placed g c = places-stay c.args.self.now.parts.items c.index-channel.result.now c.index_mut.result.now c.next_read.new.self (own-gave g c) c.args.work.now c.next_read.new.work c.next_read.ensures.placed
+returns-in-Gave-clause-placed g c = places-stay c.args.self.now.parts.items c.index-channel.result.now c.index_mut.result.now c.next_read.new.self (own-gave g c) c.args.work.now c.next_read.new.work c.next_read.ensures.given.puts.placed
 
 pub returns-in-Gave-clause-made : goal.returns-in-Gave-clause-made
 returns-in-Gave-clause-made g c =
@@ -79,7 +79,7 @@ returns-in-Gave-clause-made g c =
     let p = c.index_mut.result.now in
     let s = c.requires.stands.1 in
     made-here ps c.index-channel.result.now p c.next_read.new.self (own-gave g c) g.W.Named.world g.W.Planned.plan g.S.Stage.meaning g.S.Stage.stands_after g.T.Transport.state c.args.self.now.number c.args.self.now.was_refused s
-    (head_hop p) c.args.work.now c.next_read.new.work c.next_read.ensures.others (c.next_read.ensures.made g.W.Named.world (s.parts c.index-channel.result.now p (own-gave g c)).holds)
+    (head_hop p) c.args.work.now c.next_read.new.work c.next_read.ensures.given.puts.others (c.next_read.ensures.given.made g.W.Named.world (s.parts c.index-channel.result.now p (own-gave g c)).holds)
 
 own-kept : (g : _) (c : In_default g) → slice_get c.args.self.now.parts.items c.index-channel.result.now ≡ Some c.index_mut.result.now
 own-kept g c =
@@ -88,7 +88,7 @@ own-kept g c =
 
 given-kept : (g : _) (c : In_default g)
     → Given g.S.Stage.meaning g.S.Stage.stands_after g.T.Transport.state c.index_mut.result.now (head_hop c.index_mut.result.now) c.args.work.now c.next_read.new.self c.next_read.new.work
-given-kept g c = let t = c.next_read.ensures in record { taken = t.taken; puts = record { same = t.same; writes = t.writes; others = t.others; placed = t.placed; longer = t.longer; few = t.few }; holds = t.holds; made = t.made; more = t.more }
+given-kept g c = c.next_read.ensures.given
 
 pub returns-in_default-clause-enabled : goal.returns-in_default-clause-enabled
 returns-in_default-clause-enabled g c = record {
@@ -110,23 +110,23 @@ returns-in_default-clause-stands g c = (
   c.requires.stands.0,
   read-stands c.args.self.now.parts.items c.index-channel.result.now c.index_mut.result.now c.next_read.new.self (own-kept g c) g.W.Named.world g.W.Planned.plan g.S.Stage.meaning g.S.Stage.stands_after g.S.Stage.is_spent g.T.Transport.state
       c.args.self.now.number c.args.self.now.was_refused c.requires.stands.1 c.args.work.now c.next_read.result c.next_read.new.work (given-kept g c) c.next_read.ensures.reads,
-  c.requires.stands.2 ∙ sym (heads-stay c.args.self.now.parts.items c.index-channel.result.now c.index_mut.result.now c.next_read.new.self (own-kept g c) c.next_read.ensures.same),
+  c.requires.stands.2 ∙ sym (heads-stay c.args.self.now.parts.items c.index-channel.result.now c.index_mut.result.now c.next_read.new.self (own-kept g c) c.next_read.ensures.given.puts.same),
 )
 
 pub returns-in_default-clause-routes : goal.returns-in_default-clause-routes
-returns-in_default-clause-routes g c = targets-stay c.args.self.now.parts.items c.index-channel.result.now c.index_mut.result.now c.next_read.new.self (own-kept g c) c.next_read.ensures.same
+returns-in_default-clause-routes g c = targets-stay c.args.self.now.parts.items c.index-channel.result.now c.index_mut.result.now c.next_read.new.self (own-kept g c) c.next_read.ensures.given.puts.same
 
 pub returns-in_default-clause-writes : goal.returns-in_default-clause-writes
-returns-in_default-clause-writes g c = (routes c.args.self.now.parts.items c.index-channel.result.now c.index_mut.result.now c.next_read.new.self (own-kept g c) g.S.Stage.meaning c.next_read.ensures.same c.next_read.ensures.writes).writes
+returns-in_default-clause-writes g c = (routes c.args.self.now.parts.items c.index-channel.result.now c.index_mut.result.now c.next_read.new.self (own-kept g c) g.S.Stage.meaning c.next_read.ensures.given.puts.same c.next_read.ensures.given.puts.writes).writes
 
 pub returns-in_default-clause-taken : goal.returns-in_default-clause-taken
-returns-in_default-clause-taken g c = taken-none c.args.self.now.parts.items c.index-channel.result.now c.index_mut.result.now c.next_read.new.self (own-kept g c) c.next_read.ensures.taken
+returns-in_default-clause-taken g c = taken-none c.args.self.now.parts.items c.index-channel.result.now c.index_mut.result.now c.next_read.new.self (own-kept g c) c.next_read.ensures.given.taken
 
 pub returns-in_default-clause-lanes : goal.returns-in_default-clause-lanes
-returns-in_default-clause-lanes g c = (routes c.args.self.now.parts.items c.index-channel.result.now c.index_mut.result.now c.next_read.new.self (own-kept g c) g.S.Stage.meaning c.next_read.ensures.same c.next_read.ensures.writes).lanes
+returns-in_default-clause-lanes g c = (routes c.args.self.now.parts.items c.index-channel.result.now c.index_mut.result.now c.next_read.new.self (own-kept g c) g.S.Stage.meaning c.next_read.ensures.given.puts.same c.next_read.ensures.given.puts.writes).lanes
 
 pub returns-in_default-clause-placed : goal.returns-in_default-clause-placed
-returns-in_default-clause-placed g c = places-stay c.args.self.now.parts.items c.index-channel.result.now c.index_mut.result.now c.next_read.new.self (own-kept g c) c.args.work.now c.next_read.new.work c.next_read.ensures.placed
+returns-in_default-clause-placed g c = places-stay c.args.self.now.parts.items c.index-channel.result.now c.index_mut.result.now c.next_read.new.self (own-kept g c) c.args.work.now c.next_read.new.work c.next_read.ensures.given.puts.placed
 
 pub returns-in_default-clause-made : goal.returns-in_default-clause-made
 returns-in_default-clause-made g c =
@@ -134,7 +134,7 @@ returns-in_default-clause-made g c =
     let p = c.index_mut.result.now in
     let s = c.requires.stands.1 in
     made-here ps c.index-channel.result.now p c.next_read.new.self (own-kept g c) g.W.Named.world g.W.Planned.plan g.S.Stage.meaning g.S.Stage.stands_after g.T.Transport.state c.args.self.now.number c.args.self.now.was_refused s
-    (head_hop p) c.args.work.now c.next_read.new.work c.next_read.ensures.others (c.next_read.ensures.made g.W.Named.world (s.parts c.index-channel.result.now p (own-kept g c)).holds)
+    (head_hop p) c.args.work.now c.next_read.new.work c.next_read.ensures.given.puts.others (c.next_read.ensures.given.made g.W.Named.world (s.parts c.index-channel.result.now p (own-kept g c)).holds)
 
 pub returns-in-Gave-clause-served : goal.returns-in-Gave-clause-served
 returns-in-Gave-clause-served g c =

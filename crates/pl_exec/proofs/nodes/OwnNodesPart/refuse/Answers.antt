@@ -1,7 +1,8 @@
-use Rattle.std.proofs.Common.{◌≡◌, ◌<◌, length, slice_get, Some, refl, sym, subst, ◌∙◌}
+use Rattle.std.proofs.Common.{◌≡◌, ◌<◌, length, slice_get, Some, refl, sym, ap, subst, ◌∙◌}
 use Rattle.std.proofs.lemmas.Option.{slice_get_read}
+use Rattle.pl_event.specs.Worlds.{World}
 use Rattle.pl_part.specs.Paths.{writer_hop}
-use Rattle.pl_part.specs.PartCalls.{Given}
+use Rattle.pl_part.specs.PartCalls.{PartRefused}
 use Rattle.pl_replay.proofs.OneChannel.{places-of, routes, taken-none}
 use Rattle.pl_exec.proofs.HeadLists.{heads-stay}
 use Rattle.pl_exec.proofs.OwnNodeLemmas.{targets-stay, made-here}
@@ -15,7 +16,7 @@ refuse-requires-clause-holds g c =
     let p = c.index_mut.result.now in
     let s = c.requires.stands.1 in
     let own = slice_get_read ps (length ps) c.args.lane.channel p refl (subst (λ n. c.args.lane.channel < n) (c.len.ensures ∙ c.args.self.now.parts.ok.0) c.if-channel-len.true) c.index_mut.ensures.value in
-    (g.W.Named.world, (s.parts c.args.lane.channel p own).holds)
+    (g.W.Named.world, ap (λ (w : World). w.refuses) c.requires.stands.0, (s.parts c.args.lane.channel p own).holds)
 
 pub refuse-requires-clause-places : goal.refuse-requires-clause-places
 refuse-requires-clause-places g c =
@@ -32,31 +33,31 @@ own g c =
 
 -- what the call of the part has done
 given : (g : _) (c : goal.After-self-then-channel-len-1 g)
-    → Given g.S.Stage.meaning g.S.Stage.stands_after g.T.Transport.state c.index_mut.result.now (writer_hop c.index_mut.result.now.path c.args.lane.hop) c.args.work.now c.refuse.new.self c.refuse.new.work
-given g c = let t = c.refuse.ensures in record { taken = t.taken; puts = record { same = t.same; writes = t.writes; others = t.others; placed = t.placed; longer = t.longer; few = t.few }; holds = t.holds; made = t.made; more = t.more }
+    → PartRefused g.S.Stage.meaning g.S.Stage.stands_after g.T.Transport.state c.index_mut.result.now (writer_hop c.index_mut.result.now.path c.args.lane.hop) c.args.work.now c.refuse.new.self c.refuse.new.work
+given g c = c.refuse.ensures.refused
 
 pub returns-then-channel-len-clause-stands : goal.returns-then-channel-len-clause-stands
 returns-then-channel-len-clause-stands g c = (
   c.requires.stands.0,
   refuse-stands c.args.self.now.parts.items c.args.lane.channel c.index_mut.result.now c.refuse.new.self (own g c) g.W.Named.world g.W.Planned.plan g.S.Stage.meaning g.S.Stage.stands_after g.S.Stage.is_spent g.T.Transport.state
-      c.args.self.now.number c.args.self.now.was_refused c.requires.stands.1 (writer_hop c.index_mut.result.now.path c.args.lane.hop) c.args.work.now c.refuse.new.work (given g c) c.refuse.ensures.head,
-  c.requires.stands.2 ∙ sym (heads-stay c.args.self.now.parts.items c.args.lane.channel c.index_mut.result.now c.refuse.new.self (own g c) c.refuse.ensures.same),
+      c.args.self.now.number c.args.self.now.was_refused c.requires.stands.1 (writer_hop c.index_mut.result.now.path c.args.lane.hop) c.args.work.now c.refuse.new.work (ap (λ (w : World). w.refuses) c.requires.stands.0) (given g c) c.refuse.ensures.head,
+  c.requires.stands.2 ∙ sym (heads-stay c.args.self.now.parts.items c.args.lane.channel c.index_mut.result.now c.refuse.new.self (own g c) c.refuse.ensures.refused.puts.same),
 )
 
 pub returns-then-channel-len-clause-routes : goal.returns-then-channel-len-clause-routes
-returns-then-channel-len-clause-routes g c = targets-stay c.args.self.now.parts.items c.args.lane.channel c.index_mut.result.now c.refuse.new.self (own g c) c.refuse.ensures.same
+returns-then-channel-len-clause-routes g c = targets-stay c.args.self.now.parts.items c.args.lane.channel c.index_mut.result.now c.refuse.new.self (own g c) c.refuse.ensures.refused.puts.same
 
 pub returns-then-channel-len-clause-writes : goal.returns-then-channel-len-clause-writes
-returns-then-channel-len-clause-writes g c = (routes c.args.self.now.parts.items c.args.lane.channel c.index_mut.result.now c.refuse.new.self (own g c) g.S.Stage.meaning c.refuse.ensures.same c.refuse.ensures.writes).writes
+returns-then-channel-len-clause-writes g c = (routes c.args.self.now.parts.items c.args.lane.channel c.index_mut.result.now c.refuse.new.self (own g c) g.S.Stage.meaning c.refuse.ensures.refused.puts.same c.refuse.ensures.refused.puts.writes).writes
 
 pub returns-then-channel-len-clause-taken : goal.returns-then-channel-len-clause-taken
-returns-then-channel-len-clause-taken g c = taken-none c.args.self.now.parts.items c.args.lane.channel c.index_mut.result.now c.refuse.new.self (own g c) c.refuse.ensures.taken
+returns-then-channel-len-clause-taken g c = taken-none c.args.self.now.parts.items c.args.lane.channel c.index_mut.result.now c.refuse.new.self (own g c) c.refuse.ensures.refused.taken
 
 pub returns-then-channel-len-clause-lanes : goal.returns-then-channel-len-clause-lanes
-returns-then-channel-len-clause-lanes g c = (routes c.args.self.now.parts.items c.args.lane.channel c.index_mut.result.now c.refuse.new.self (own g c) g.S.Stage.meaning c.refuse.ensures.same c.refuse.ensures.writes).lanes
+returns-then-channel-len-clause-lanes g c = (routes c.args.self.now.parts.items c.args.lane.channel c.index_mut.result.now c.refuse.new.self (own g c) g.S.Stage.meaning c.refuse.ensures.refused.puts.same c.refuse.ensures.refused.puts.writes).lanes
 
 pub returns-then-channel-len-clause-placed : goal.returns-then-channel-len-clause-placed
-returns-then-channel-len-clause-placed g c = places-stay c.args.self.now.parts.items c.args.lane.channel c.index_mut.result.now c.refuse.new.self (own g c) c.args.work.now c.refuse.new.work c.refuse.ensures.placed
+returns-then-channel-len-clause-placed g c = places-stay c.args.self.now.parts.items c.args.lane.channel c.index_mut.result.now c.refuse.new.self (own g c) c.args.work.now c.refuse.new.work c.refuse.ensures.refused.puts.placed
 
 pub returns-then-channel-len-clause-made : goal.returns-then-channel-len-clause-made
 returns-then-channel-len-clause-made g c =
@@ -64,7 +65,7 @@ returns-then-channel-len-clause-made g c =
     let p = c.index_mut.result.now in
     let s = c.requires.stands.1 in
     made-here ps c.args.lane.channel p c.refuse.new.self (own g c) g.W.Named.world g.W.Planned.plan g.S.Stage.meaning g.S.Stage.stands_after g.T.Transport.state c.args.self.now.number c.args.self.now.was_refused s
-    (writer_hop p.path c.args.lane.hop) c.args.work.now c.refuse.new.work c.refuse.ensures.others (c.refuse.ensures.made g.W.Named.world (s.parts c.args.lane.channel p (own g c)).holds)
+    (writer_hop p.path c.args.lane.hop) c.args.work.now c.refuse.new.work c.refuse.ensures.refused.puts.others (c.refuse.ensures.refused.made g.W.Named.world (ap (λ (w : World). w.refuses) c.requires.stands.0) (s.parts c.args.lane.channel p (own g c)).holds)
 
 pub returns-else-channel-len-clause-stands : goal.returns-else-channel-len-clause-stands
 returns-else-channel-len-clause-stands g c = (

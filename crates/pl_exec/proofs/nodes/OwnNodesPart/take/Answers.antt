@@ -31,30 +31,30 @@ own g c =
 
 -- what the call of the part has done
 taken : (g : _) (c : goal.After-self-1 g) → Taken g.S.Stage.meaning g.S.Stage.stands_after g.T.Transport.state g.S.Stage.is_spent c.index_mut.result.now c.args.envelope c.args.work.now c.take.result c.take.new.self c.take.new.work
-taken g c = let t = c.take.ensures in record { takes = t.takes; taken = t.taken; puts = record { same = t.same; writes = t.writes; others = t.others; placed = t.placed; longer = t.longer; few = t.few }; holds = t.holds; made = t.made; more = t.more }
+taken g c = c.take.ensures
 
 pub returns-clause-stands : goal.returns-clause-stands
 returns-clause-stands g c = (
   c.requires.stands.0,
   take-stands c.args.self.now.parts.items c.args.envelope.lane.channel c.index_mut.result.now c.take.new.self (own g c) g.W.Named.world g.W.Planned.plan g.S.Stage.meaning g.S.Stage.stands_after g.S.Stage.is_spent g.T.Transport.state
       c.args.self.now.number c.args.self.now.was_refused c.requires.stands.1 c.args.envelope c.args.work.now c.take.result c.take.new.work refl c.requires.here c.requires.good (taken g c),
-  c.requires.stands.2 ∙ sym (heads-stay c.args.self.now.parts.items c.args.envelope.lane.channel c.index_mut.result.now c.take.new.self (own g c) c.take.ensures.same),
+  c.requires.stands.2 ∙ sym (heads-stay c.args.self.now.parts.items c.args.envelope.lane.channel c.index_mut.result.now c.take.new.self (own g c) c.take.ensures.puts.same),
 )
 
 pub returns-clause-routes : goal.returns-clause-routes
-returns-clause-routes g c = targets-stay c.args.self.now.parts.items c.args.envelope.lane.channel c.index_mut.result.now c.take.new.self (own g c) c.take.ensures.same
+returns-clause-routes g c = targets-stay c.args.self.now.parts.items c.args.envelope.lane.channel c.index_mut.result.now c.take.new.self (own g c) c.take.ensures.puts.same
 
 pub returns-clause-writes : goal.returns-clause-writes
-returns-clause-writes g c = (routes c.args.self.now.parts.items c.args.envelope.lane.channel c.index_mut.result.now c.take.new.self (own g c) g.S.Stage.meaning c.take.ensures.same c.take.ensures.writes).writes
+returns-clause-writes g c = (routes c.args.self.now.parts.items c.args.envelope.lane.channel c.index_mut.result.now c.take.new.self (own g c) g.S.Stage.meaning c.take.ensures.puts.same c.take.ensures.puts.writes).writes
 
 pub returns-clause-taken : goal.returns-clause-taken
 returns-clause-taken g c = taken-one c.args.self.now.parts.items c.args.envelope.lane.channel c.index_mut.result.now c.take.new.self (own g c) c.args.envelope refl c.take.ensures.taken
 
 pub returns-clause-lanes : goal.returns-clause-lanes
-returns-clause-lanes g c = (routes c.args.self.now.parts.items c.args.envelope.lane.channel c.index_mut.result.now c.take.new.self (own g c) g.S.Stage.meaning c.take.ensures.same c.take.ensures.writes).lanes
+returns-clause-lanes g c = (routes c.args.self.now.parts.items c.args.envelope.lane.channel c.index_mut.result.now c.take.new.self (own g c) g.S.Stage.meaning c.take.ensures.puts.same c.take.ensures.puts.writes).lanes
 
 pub returns-clause-placed : goal.returns-clause-placed
-returns-clause-placed g c = places-stay c.args.self.now.parts.items c.args.envelope.lane.channel c.index_mut.result.now c.take.new.self (own g c) c.args.work.now c.take.new.work c.take.ensures.placed
+returns-clause-placed g c = places-stay c.args.self.now.parts.items c.args.envelope.lane.channel c.index_mut.result.now c.take.new.self (own g c) c.args.work.now c.take.new.work c.take.ensures.puts.placed
 
 pub returns-clause-made : goal.returns-clause-made
 returns-clause-made g c =
@@ -62,9 +62,9 @@ returns-clause-made g c =
     let p = c.index_mut.result.now in
     let s = c.requires.stands.1 in
     made-here ps c.args.envelope.lane.channel p c.take.new.self (own g c) g.W.Named.world g.W.Planned.plan g.S.Stage.meaning g.S.Stage.stands_after g.T.Transport.state c.args.self.now.number c.args.self.now.was_refused s
-    c.args.envelope.lane.hop c.args.work.now c.take.new.work c.take.ensures.others (c.take.ensures.made g.W.Named.world (s.parts c.args.envelope.lane.channel p (own g c)).holds c.requires.good)
+    c.args.envelope.lane.hop c.args.work.now c.take.new.work c.take.ensures.puts.others (c.take.ensures.made g.W.Named.world (s.parts c.args.envelope.lane.channel p (own g c)).holds c.requires.good)
 
 pub returns-clause-served : goal.returns-clause-served
 returns-clause-served g c =
     serves-none g.T.Transport.state c.args.self.now.parts.items c.args.envelope.lane.channel c.index_mut.result.now c.take.new.self (own g c)
-    (take-serves g.T.Transport.state g.S.Stage.meaning g.S.Stage.stands_after g.S.Stage.is_spent c.index_mut.result.now c.take.new.self c.args.envelope c.args.work.now c.take.new.work c.take.result c.take.ensures.same c.take.ensures.takes)
+    (take-serves g.T.Transport.state g.S.Stage.meaning g.S.Stage.stands_after g.S.Stage.is_spent c.index_mut.result.now c.take.new.self c.args.envelope c.args.work.now c.take.new.work c.take.result c.take.ensures.puts.same c.take.ensures.takes)

@@ -42,7 +42,7 @@ own g c =
 -- what the call of the part has done
 given : (g : _) (c : Joined-matches g)
     → Given g.S.Stage.meaning g.S.Stage.stands_after g.T.Transport.state c.index_mut.result.now (head_hop c.index_mut.result.now) c.args.work.now c.write_once.new.self c.write_once.new.work
-given g c = let t = c.write_once.ensures in record { taken = t.taken; puts = record { same = t.same; writes = t.writes; others = t.others; placed = t.placed; longer = t.longer; few = t.few }; holds = t.holds; made = t.made; more = t.more }
+given g c = c.write_once.ensures.given
 
 -- whether it was idle
 idle : (g : _) (c : Joined-matches g) → not c.match-matches.matches ≡ false → c.write_once.result ≡ step.Idle
@@ -71,23 +71,23 @@ returns-clause-stands g c = (
   c.requires.stands.0,
   write-stands c.args.self.now.parts.items c.index-channel.result.now c.index_mut.result.now c.write_once.new.self (own g c) g.W.Named.world g.W.Planned.plan g.S.Stage.meaning g.S.Stage.stands_after g.S.Stage.is_spent g.T.Transport.state
       c.args.self.now.number c.args.self.now.was_refused c.requires.stands.1 g.T.Transport.may_refuse c.args.work.now c.write_once.result c.write_once.new.work (given g c) c.write_once.ensures.writes_out,
-  c.requires.stands.2 ∙ sym (heads-stay c.args.self.now.parts.items c.index-channel.result.now c.index_mut.result.now c.write_once.new.self (own g c) c.write_once.ensures.same),
+  c.requires.stands.2 ∙ sym (heads-stay c.args.self.now.parts.items c.index-channel.result.now c.index_mut.result.now c.write_once.new.self (own g c) c.write_once.ensures.given.puts.same),
 )
 
 pub returns-clause-routes : goal.returns-clause-routes
-returns-clause-routes g c = targets-stay c.args.self.now.parts.items c.index-channel.result.now c.index_mut.result.now c.write_once.new.self (own g c) c.write_once.ensures.same
+returns-clause-routes g c = targets-stay c.args.self.now.parts.items c.index-channel.result.now c.index_mut.result.now c.write_once.new.self (own g c) c.write_once.ensures.given.puts.same
 
 pub returns-clause-writes : goal.returns-clause-writes
-returns-clause-writes g c = (routes c.args.self.now.parts.items c.index-channel.result.now c.index_mut.result.now c.write_once.new.self (own g c) g.S.Stage.meaning c.write_once.ensures.same c.write_once.ensures.writes).writes
+returns-clause-writes g c = (routes c.args.self.now.parts.items c.index-channel.result.now c.index_mut.result.now c.write_once.new.self (own g c) g.S.Stage.meaning c.write_once.ensures.given.puts.same c.write_once.ensures.given.puts.writes).writes
 
 pub returns-clause-taken : goal.returns-clause-taken
-returns-clause-taken g c = taken-none c.args.self.now.parts.items c.index-channel.result.now c.index_mut.result.now c.write_once.new.self (own g c) c.write_once.ensures.taken
+returns-clause-taken g c = taken-none c.args.self.now.parts.items c.index-channel.result.now c.index_mut.result.now c.write_once.new.self (own g c) c.write_once.ensures.given.taken
 
 pub returns-clause-lanes : goal.returns-clause-lanes
-returns-clause-lanes g c = (routes c.args.self.now.parts.items c.index-channel.result.now c.index_mut.result.now c.write_once.new.self (own g c) g.S.Stage.meaning c.write_once.ensures.same c.write_once.ensures.writes).lanes
+returns-clause-lanes g c = (routes c.args.self.now.parts.items c.index-channel.result.now c.index_mut.result.now c.write_once.new.self (own g c) g.S.Stage.meaning c.write_once.ensures.given.puts.same c.write_once.ensures.given.puts.writes).lanes
 
 pub returns-clause-placed : goal.returns-clause-placed
-returns-clause-placed g c = places-stay c.args.self.now.parts.items c.index-channel.result.now c.index_mut.result.now c.write_once.new.self (own g c) c.args.work.now c.write_once.new.work c.write_once.ensures.placed
+returns-clause-placed g c = places-stay c.args.self.now.parts.items c.index-channel.result.now c.index_mut.result.now c.write_once.new.self (own g c) c.args.work.now c.write_once.new.work c.write_once.ensures.given.puts.placed
 
 pub returns-clause-made : goal.returns-clause-made
 returns-clause-made g c =
@@ -95,7 +95,7 @@ returns-clause-made g c =
     let p = c.index_mut.result.now in
     let s = c.requires.stands.1 in
     made-here ps c.index-channel.result.now p c.write_once.new.self (own g c) g.W.Named.world g.W.Planned.plan g.S.Stage.meaning g.S.Stage.stands_after g.T.Transport.state c.args.self.now.number c.args.self.now.was_refused s
-    (head_hop p) c.args.work.now c.write_once.new.work c.write_once.ensures.others (c.write_once.ensures.made g.W.Named.world (s.parts c.index-channel.result.now p (own g c)).holds)
+    (head_hop p) c.args.work.now c.write_once.new.work c.write_once.ensures.given.puts.others (c.write_once.ensures.given.made g.W.Named.world (s.parts c.index-channel.result.now p (own g c)).holds)
 
 pub returns-clause-served : goal.returns-clause-served
 returns-clause-served g c =

@@ -2,30 +2,30 @@ use Rattle.std.proofs.Common.{◌≡◌, ◌∙◌, ◌<◌, ◌≤◌, ℕ, Non
 use Rattle.pl_context.specs.Stops.{HasPlaces}
 use Rattle.pl_part.specs.Paths.{PathView, context_at, path_lanes, writer_hop}
 use Rattle.pl_part.specs.PathCalls.{PathRefused}
-use Rattle.pl_part.proofs.PathSteps.{context-places, context-refused, none-refused, beyond-refused, slot-at, set-same, holds-of, refused-of}
+use Rattle.pl_part.proofs.PathSteps.{context-places, context-refused, none-refused, beyond-refused, slot-at, set-same, refusing-of, refused-of}
 use Rattle.pl_part.proofs.paths.PathPart.refuse_at_hop.Goals as goal
 
 pub refuse_at-requires-clause-holds : goal.refuse_at-requires-clause-holds
 refuse_at-requires-clause-holds g c =
-    let holds = holds-of g.S.Stage.meaning g.S.Stage.stands_after _ _ c.self.view_is c.requires.holds in
+    let some = refusing-of g.S.Stage.meaning g.S.Stage.stands_after _ _ c.self.view_is c.requires.holds in
     let at = slot-at c.self.inside.contexts.items c.args.hop c.index_mut.result.now _ (omega (arith, c.len.ensures, c.if-hop-len.true, c.self.inside.contexts.ok.0)) c.index_mut.ensures.value c.in-Some.is in
-    (holds.0, (holds.1.contexts c.args.hop c.in-Some.context at).0)
+    (some.0, some.1, (some.2.contexts c.args.hop c.in-Some.context at).0)
 
 pub refuse_at-requires-clause-places : goal.refuse_at-requires-clause-places
 refuse_at-requires-clause-places g c =
-    let holds = holds-of g.S.Stage.meaning g.S.Stage.stands_after _ _ c.self.view_is c.requires.holds in
+    let some = refusing-of g.S.Stage.meaning g.S.Stage.stands_after _ _ c.self.view_is c.requires.holds in
     let at = slot-at c.self.inside.contexts.items c.args.hop c.index_mut.result.now _ (omega (arith, c.len.ensures, c.if-hop-len.true, c.self.inside.contexts.ok.0)) c.index_mut.ensures.value c.in-Some.is in
-    context-places g.S.Stage.meaning g.S.Stage.stands_after _ c.self.invariant holds c.args.hop c.in-Some.context at c.args.work.now
+    context-places g.S.Stage.meaning g.S.Stage.stands_after _ c.self.invariant (some.0, some.2) c.args.hop c.in-Some.context at c.args.work.now
     (subst (λ (y : PathView _). HasPlaces c.args.work.now.stopped (path_lanes y)) (sym c.self.view_is) c.requires.places)
 
 pub returns-in-Some : goal.returns-in-Some
 returns-in-Some g c =
-    let holds = holds-of g.S.Stage.meaning g.S.Stage.stands_after _ _ c.self.view_is c.requires.holds in
+    let some = refusing-of g.S.Stage.meaning g.S.Stage.stands_after _ _ c.self.view_is c.requires.holds in
     let at = slot-at c.self.inside.contexts.items c.args.hop c.index_mut.result.now _ (omega (arith, c.len.ensures, c.if-hop-len.true, c.self.inside.contexts.ok.0)) c.index_mut.ensures.value c.in-Some.is in
     let writer = subst (λ (y : PathView _). c.args.hop ≡ writer_hop y c.args.lane.hop) (sym c.self.view_is) c.requires.writer in
     let t = c.refuse_at.ensures in
     refused-of g.S.Stage.meaning g.S.Stage.stands_after _ _ c.self.view_is _ _ _ c.args.lane
-    (context-refused g.S.Stage.meaning g.S.Stage.stands_after _ c.self.invariant holds c.args.hop c.in-Some.context at c.refuse_at.new.context t.meaning t.place t.lanes c.args.lane c.args.work.now c.refuse_at.new.work writer
+    (context-refused g.S.Stage.meaning g.S.Stage.stands_after _ c.self.invariant (some.0, some.2) c.args.hop c.in-Some.context at c.refuse_at.new.context t.meaning t.place t.lanes c.args.lane c.args.work.now c.refuse_at.new.work writer
     t.over t.taken t.holds t.made t.placed t.more)
 
 pub returns-in_default : goal.returns-in_default

@@ -26,7 +26,7 @@ next_read-requires-clause-places g c =
 -- what the call of the part has done
 given : (g : _) (c : After-next_read g)
     → Given g.S.Stage.meaning g.S.Stage.stands_after g.T.Transport.state c.index_mut.result.now (head_hop c.index_mut.result.now) c.args.work.now c.next_read.new.self c.next_read.new.work
-given g c = let t = c.next_read.ensures in record { taken = t.taken; puts = record { same = t.same; writes = t.writes; others = t.others; placed = t.placed; longer = t.longer; few = t.few }; holds = t.holds; made = t.made; more = t.more }
+given g c = c.next_read.ensures.given
 
 -- ---- a step that gave
 
@@ -37,7 +37,7 @@ returns-in-Gave-clause-enabled g c =
 
 pub returns-in-Gave-clause-reads : goal.returns-in-Gave-clause-reads
 returns-in-Gave-clause-reads g c = λ e.
-    record { before = c.index_mut.result.now; after = c.next_read.new.self; was = own g (goal.at.returns-in-Gave-clause-reads g c).After-index_mut; becomes = refl; same = c.in-Gave.ensures.same; done = c.in-Gave.ensures.reads }
+    record { before = c.index_mut.result.now; after = c.next_read.new.self; was = own g (goal.at.returns-in-Gave-clause-reads g c).After-index_mut; becomes = refl; same = c.in-Gave.ensures.given.puts.same; done = c.in-Gave.ensures.reads }
 
 pub returns-in-Gave-clause-view : goal.returns-in-Gave-clause-view
 returns-in-Gave-clause-view g c = λ e.

@@ -23,10 +23,10 @@ own g c =
 
 -- what the call of the part has done
 taken : (g : _) (c : goal.After-self-1 g) → Taken g.S.Stage.meaning g.S.Stage.stands_after g.T.Transport.state g.S.Stage.is_spent c.index_mut.result.now c.args.envelope c.args.work.now c.take.result c.take.new.self c.take.new.work
-taken g c = let t = c.take.ensures in record { takes = t.takes; taken = t.taken; puts = record { same = t.same; writes = t.writes; others = t.others; placed = t.placed; longer = t.longer; few = t.few }; holds = t.holds; made = t.made; more = t.more }
+taken g c = c.take.ensures
 
 pub returns-clause-takes : goal.returns-clause-takes
-returns-clause-takes g c = record { before = c.index_mut.result.now; after = c.take.new.self; was = own g c; becomes = refl; same = c.take.ensures.same; done = (c.take.result, c.take.ensures.takes) }
+returns-clause-takes g c = record { before = c.index_mut.result.now; after = c.take.new.self; was = own g c; becomes = refl; same = c.take.ensures.puts.same; done = (c.take.result, c.take.ensures.takes) }
 
 pub returns-clause-view : goal.returns-clause-view
 returns-clause-view g c =

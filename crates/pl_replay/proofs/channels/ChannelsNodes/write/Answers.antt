@@ -27,7 +27,7 @@ write_once-requires-clause-places g c =
 -- what the call of the part has done
 given : (g : _) (c : Joined-matches g)
     → Given g.S.Stage.meaning g.S.Stage.stands_after g.T.Transport.state c.index_mut.result.now (head_hop c.index_mut.result.now) c.args.work.now c.write_once.new.self c.write_once.new.work
-given g c = let t = c.write_once.ensures in record { taken = t.taken; puts = record { same = t.same; writes = t.writes; others = t.others; placed = t.placed; longer = t.longer; few = t.few }; holds = t.holds; made = t.made; more = t.more }
+given g c = c.write_once.ensures.given
 
 -- whether it was idle
 idle : (g : _) (c : Joined-matches g) → not c.match-matches.matches ≡ false → c.write_once.result ≡ step.Idle
@@ -49,7 +49,7 @@ returns-clause-idle g c = λ e.
 
 pub returns-clause-writes : goal.returns-clause-writes
 returns-clause-writes g c = λ e.
-    record { before = c.index_mut.result.now; after = c.write_once.new.self; was = own g (goal.at.returns-clause-writes g c).After-index_mut; becomes = refl; same = c.write_once.ensures.same; done = (c.write_once.result, moved g c e, c.write_once.ensures.writes_out) }
+    record { before = c.index_mut.result.now; after = c.write_once.new.self; was = own g (goal.at.returns-clause-writes g c).After-index_mut; becomes = refl; same = c.write_once.ensures.given.puts.same; done = (c.write_once.result, moved g c e, c.write_once.ensures.writes_out) }
 
 pub returns-clause-view : goal.returns-clause-view
 returns-clause-view g c = λ e. give-view c.args.self.now.parts.items c.args.channel c.index_mut.result.now c.write_once.new.self (own g (goal.at.returns-clause-view g c).After-index_mut) g.S.Stage.meaning g.S.Stage.stands_after g.T.Transport.state c.requires.stands.0 c.requires.stands.1 c.args.work.now c.write_once.new.work (given g c)

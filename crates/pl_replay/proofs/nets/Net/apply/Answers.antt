@@ -1,9 +1,9 @@
-use Rattle.std.proofs.Common.{Bool, true, Ok, ap, sym, ◌∙◌, subst, arith}
+use Rattle.std.proofs.Common.{Bool, true, Ok, ap, sym, ◌∙◌, subst, arith, false}
 use Rattle.pl_net.specs.Cores.{core_view}
 use Rattle.pl_net.specs.declared.cores.Core.{Core}
 use Rattle.pl_world.specs.declared.moves.Move.{Move}
 use Rattle.pl_world.specs.declared.moves.Move.TheVariants.{Read, Task, Hand, Out}
-use Rattle.pl_channel.specs.Lanes.{lanes_of}
+use Rattle.pl_channel.specs.Lanes.{world_of}
 use Rattle.pl_replay.specs.Channels.{home_of}
 use Rattle.pl_replay.specs.MoveModel.{is_there, is_hand}
 use Rattle.pl_replay.specs.Moves.{IsEnabled, nodes_view, nodes_stand}
@@ -39,7 +39,7 @@ read-made : (g : _) (c : goal.After-read g) → GoesOn g.S.Stage.meaning g.S.Sta
 read-made g c = λ plan backlogs n.
     made-goes-on g.S.Stage.meaning g.S.Stage.stands_after g.S.Stage.is_spent g.T.Transport.state g.T.Transport.may_refuse (Read c.in-Read.channel) c.self.inside.core c.read.new.self c.read.result (home_of c.self.inside.core.nodes.parts.items c.in-Read.channel) plan backlogs
     c.read.ensures.enabled
-    (λ yes. c.read.ensures.runs yes (lanes_of plan) 0 backlogs n.stands)
+    (λ yes. c.read.ensures.runs yes (world_of false plan) 0 backlogs n.stands)
     (λ no. not-moved c.self.inside.core c.read.new.self (c.read.ensures.idle no))
     c.read.ensures.capacity
     (sym c.read.new.self.executors.ok.0 ∙ c.read.ensures.count ∙ c.self.inside.core.executors.ok.0)
@@ -56,7 +56,7 @@ write-made : (g : _) (c : goal.After-write g) → GoesOn g.S.Stage.meaning g.S.S
 write-made g c = λ plan backlogs n.
     made-goes-on g.S.Stage.meaning g.S.Stage.stands_after g.S.Stage.is_spent g.T.Transport.state g.T.Transport.may_refuse (Out c.in-Out.channel) c.self.inside.core c.write.new.self c.write.result (home_of c.self.inside.core.nodes.parts.items c.in-Out.channel) plan backlogs
     c.write.ensures.enabled
-    (λ yes. c.write.ensures.runs yes (lanes_of plan) 0 backlogs n.stands)
+    (λ yes. c.write.ensures.runs yes (world_of false plan) 0 backlogs n.stands)
     (λ no. not-moved c.self.inside.core c.write.new.self (c.write.ensures.idle no))
     c.write.ensures.capacity
     (sym c.write.new.self.executors.ok.0 ∙ c.write.ensures.count ∙ c.self.inside.core.executors.ok.0)
@@ -72,8 +72,8 @@ invariant_of-self-in-Out g c = stands-on g.S.Stage.meaning g.S.Stage.stands_afte
 task-made : (g : _) (c : goal.After-run_task g) → GoesOn g.S.Stage.meaning g.S.Stage.stands_after g.S.Stage.is_spent g.T.Transport.state g.T.Transport.may_refuse (Task c.in-Task.executor) c.self.inside.core c.run_task.result c.run_task.new.self
 task-made g c = λ plan backlogs n.
     made-goes-on g.S.Stage.meaning g.S.Stage.stands_after g.S.Stage.is_spent g.T.Transport.state g.T.Transport.may_refuse (Task c.in-Task.executor) c.self.inside.core c.run_task.new.self c.run_task.result c.in-Task.executor plan backlogs
-    (task-enabled g.S.Stage.meaning g.S.Stage.stands_after g.S.Stage.is_spent g.T.Transport.state g.T.Transport.may_refuse (core_view c.self.inside.core backlogs) c.in-Task.executor c.run_task.result (λ yes. let r = c.run_task.ensures.runs yes (lanes_of plan) backlogs (rest-stands (nodes_view g.S.Stage.meaning) (nodes_stand g.S.Stage.meaning g.S.Stage.stands_after g.T.Transport.state) (lanes_of plan) 0 c.in-Task.executor (core_view c.self.inside.core backlogs) n.rests n.stands) in (core_view c.run_task.new.self r.0, r.2)) (λ no. (c.run_task.ensures.idle no).0))
-    (λ yes. c.run_task.ensures.runs yes (lanes_of plan) backlogs (rest-stands (nodes_view g.S.Stage.meaning) (nodes_stand g.S.Stage.meaning g.S.Stage.stands_after g.T.Transport.state) (lanes_of plan) 0 c.in-Task.executor (core_view c.self.inside.core backlogs) n.rests n.stands))
+    (task-enabled g.S.Stage.meaning g.S.Stage.stands_after g.S.Stage.is_spent g.T.Transport.state g.T.Transport.may_refuse (core_view c.self.inside.core backlogs) c.in-Task.executor c.run_task.result (λ yes. let r = c.run_task.ensures.runs yes (world_of false plan) backlogs (rest-stands (nodes_view g.S.Stage.meaning) (nodes_stand g.S.Stage.meaning g.S.Stage.stands_after g.T.Transport.state) (world_of false plan) 0 c.in-Task.executor (core_view c.self.inside.core backlogs) n.rests n.stands) in (core_view c.run_task.new.self r.0, r.2)) (λ no. (c.run_task.ensures.idle no).0))
+    (λ yes. c.run_task.ensures.runs yes (world_of false plan) backlogs (rest-stands (nodes_view g.S.Stage.meaning) (nodes_stand g.S.Stage.meaning g.S.Stage.stands_after g.T.Transport.state) (world_of false plan) 0 c.in-Task.executor (core_view c.self.inside.core backlogs) n.rests n.stands))
     (λ no. (c.run_task.ensures.idle no).1)
     c.run_task.ensures.capacity
     (sym c.run_task.new.self.executors.ok.0 ∙ c.run_task.ensures.count ∙ c.self.inside.core.executors.ok.0)
@@ -89,8 +89,8 @@ invariant_of-self-in-Task g c = stands-on g.S.Stage.meaning g.S.Stage.stands_aft
 hand-made : (g : _) (c : goal.In_ok-hand-in-Hand g) → GoesOn g.S.Stage.meaning g.S.Stage.stands_after g.S.Stage.is_spent g.T.Transport.state g.T.Transport.may_refuse (Hand c.in-Hand.executor) c.self.inside.core c.in_ok-hand-in-Hand.field-0 c.hand.new.self
 hand-made g c = λ plan backlogs n.
     hand-goes-on g.S.Stage.meaning g.S.Stage.stands_after g.S.Stage.is_spent g.T.Transport.state g.T.Transport.may_refuse c.self.inside.core c.hand.new.self c.in_ok-hand-in-Hand.field-0 c.in-Hand.executor plan backlogs
-    (λ yes. c.in_ok-hand-in-Hand.ensures.hands (ap (λ (b : Bool). Ok b) yes) (lanes_of plan) 0 backlogs n.stands)
-    (λ no. c.in_ok-hand-in-Hand.ensures.none (ap (λ (b : Bool). Ok b) no) (lanes_of plan) 0 backlogs n.stands)
+    (λ yes. c.in_ok-hand-in-Hand.ensures.hands (ap (λ (b : Bool). Ok b) yes) (world_of false plan) 0 backlogs n.stands)
+    (λ no. c.in_ok-hand-in-Hand.ensures.none (ap (λ (b : Bool). Ok b) no) (world_of false plan) 0 backlogs n.stands)
     (λ no. c.in_ok-hand-in-Hand.ensures.idle (ap (λ (b : Bool). Ok b) no))
     c.hand.ensures.capacity
     (sym c.hand.new.self.executors.ok.0 ∙ c.hand.ensures.count ∙ c.self.inside.core.executors.ok.0)
@@ -104,7 +104,7 @@ invariant_of-self-in_err-hand-in-Hand g c =
     let w = c.self.invariant in (
       w.0,
       w.1,
-      room-goes-on g.S.Stage.meaning g.S.Stage.stands_after g.S.Stage.is_spent g.T.Transport.state g.T.Transport.may_refuse c.self.inside.core c.hand.new.self w.0 w.1 c.in_err-hand-in-Hand.ensures.err (c.in_err-hand-in-Hand.ensures.stays (lanes_of w.0) 0 w.1 w.2.stands)
+      room-goes-on g.S.Stage.meaning g.S.Stage.stands_after g.S.Stage.is_spent g.T.Transport.state g.T.Transport.may_refuse c.self.inside.core c.hand.new.self w.0 w.1 c.in_err-hand-in-Hand.ensures.err (c.in_err-hand-in-Hand.ensures.stays (world_of false w.0) 0 w.1 w.2.stands)
           c.hand.ensures.capacity (sym c.hand.new.self.executors.ok.0 ∙ c.hand.ensures.count ∙ c.self.inside.core.executors.ok.0) w.2,
     )
 
@@ -114,7 +114,7 @@ returns-in_err-hand-in-Hand-clause-hand_alone g c = λ _. ap is_hand c.in-Hand.i
 pub returns-in_err-hand-in-Hand-clause-goes_on : goal.returns-in_err-hand-in-Hand-clause-goes_on
 returns-in_err-hand-in-Hand-clause-goes_on g c = λ _ plan backlogs.
     subst (λ (k : Core (Channels g.row.S.Denot g.row.T.Denot)). NetStands g.S.Stage.meaning g.S.Stage.stands_after g.T.Transport.state plan backlogs k → NetStands g.S.Stage.meaning g.S.Stage.stands_after g.T.Transport.state plan backlogs c.hand.new.self) c.self.view_is
-    (λ n. room-goes-on g.S.Stage.meaning g.S.Stage.stands_after g.S.Stage.is_spent g.T.Transport.state g.T.Transport.may_refuse c.self.inside.core c.hand.new.self plan backlogs c.in_err-hand-in-Hand.ensures.err (c.in_err-hand-in-Hand.ensures.stays (lanes_of plan) 0 backlogs n.stands)
+    (λ n. room-goes-on g.S.Stage.meaning g.S.Stage.stands_after g.S.Stage.is_spent g.T.Transport.state g.T.Transport.may_refuse c.self.inside.core c.hand.new.self plan backlogs c.in_err-hand-in-Hand.ensures.err (c.in_err-hand-in-Hand.ensures.stays (world_of false plan) 0 backlogs n.stands)
     c.hand.ensures.capacity (sym c.hand.new.self.executors.ok.0 ∙ c.hand.ensures.count ∙ c.self.inside.core.executors.ok.0) n)
 
 pub returns-in_err-hand-in-Hand-clause-wanted : goal.returns-in_err-hand-in-Hand-clause-wanted
@@ -123,4 +123,4 @@ returns-in_err-hand-in-Hand-clause-wanted g c = λ _ plan backlogs.
     subst (λ (k : Core (Channels g.row.S.Denot g.row.T.Denot)). NetStands g.S.Stage.meaning g.S.Stage.stands_after g.T.Transport.state plan backlogs k → enabled c.args.step k) c.self.view_is
     (λ n. subst (λ (move : Move). enabled move c.self.inside.core) (sym c.in-Hand.is)
     (hand-wanted g.S.Stage.meaning g.S.Stage.stands_after g.S.Stage.is_spent g.T.Transport.state g.T.Transport.may_refuse c.self.inside.core c.in-Hand.executor plan backlogs
-    (c.in_err-hand-in-Hand.ensures.wanted (lanes_of plan) 0 backlogs n.stands) n))
+    (c.in_err-hand-in-Hand.ensures.wanted (world_of false plan) 0 backlogs n.stands) n))

@@ -1,9 +1,9 @@
-use Rattle.std.proofs.Common.{◌<◌, ◌^◌, ℕ, List, length, slice_get, refl, ap, sym, ◌∙◌, subst}
+use Rattle.std.proofs.Common.{◌<◌, ◌^◌, ℕ, List, length, slice_get, refl, ap, sym, ◌∙◌, subst, false}
 use Rattle.std.specs.Prelude.{All}
 use Rattle.pl_context.specs.Stops.{HasPlaces, no_stops}
 use Rattle.pl_net.specs.Nets.{no_backlogs}
 use Rattle.pl_part.specs.Parts.{PartView}
-use Rattle.pl_channel.specs.Lanes.{lanes_of}
+use Rattle.pl_channel.specs.Lanes.{world_of}
 use Rattle.pl_world.specs.declared.session.Recorded.{Recorded}
 use Rattle.pl_world.specs.Plans.{planned, channel_planned}
 use Rattle.pl_replay.specs.Placed.{HasExecutors, AreIdle, all_lanes}
@@ -59,7 +59,7 @@ net-begins g c =
     (subst (λ (n : ℕ). AreIdle c.as_slice.result.now n c.in_ok-executors.executors.items) c.executors-count.ensures c.in_ok-executors.ensures) in
     let made = c.in_ok-core.ensures in
     world-begins g.S.Stage.meaning g.S.Stage.stands_after g.T.Transport.state c.args.world c.into_channels.ensures.is_world c.args.capacity c.requires.capacity.0 c.in_ok-parts.parts.items placed c.in_ok-executors.executors.items idle
-    c.in_ok-core.core (ap (λ (n : Channels g.row.S.Denot g.row.T.Denot). n.parts.items) made.nodes) made.executors made.capacity made.rests (λ s. made.stands (lanes_of (planned g.S.Stage.meaning g.T.Transport.state c.args.capacity c.args.world.executors c.args.world.channels)) 0 s)
+    c.in_ok-core.core (ap (λ (n : Channels g.row.S.Denot g.row.T.Denot). n.parts.items) made.nodes) made.executors made.capacity made.rests (λ s. made.stands (world_of false (planned g.S.Stage.meaning g.T.Transport.state c.args.capacity c.args.world.executors c.args.world.channels)) 0 s)
 
 pub invariant_of-result : goal.invariant_of-result
 invariant_of-result g c = ((planned g.S.Stage.meaning g.T.Transport.state c.args.capacity c.args.world.executors c.args.world.channels), no_backlogs, (net-begins g c).stands)

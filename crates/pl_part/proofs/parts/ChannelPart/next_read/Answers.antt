@@ -1,5 +1,5 @@
 use Rattle.pl_part.proofs.PartSteps.{given-none, places-there, given-there, reads-of}
-use Rattle.pl_part.proofs.parts.ChannelPart.read_there.Goals as goal
+use Rattle.pl_part.proofs.parts.ChannelPart.next_read.Goals as goal
 
 pub returns-in_default-clause-given : goal.returns-in_default-clause-given
 returns-in_default-clause-given g c = given-none g.S.Stage.meaning g.S.Stage.stands_after g.T.Transport.state _ _ c.self.view_is c.args.work.now c.requires.holds
