@@ -6,7 +6,7 @@ use Rattle.pl_head.specs.declared.heads.OutStep.TheVariants.{Wrote}
 use Rattle.pl_event.specs.declared.events.Event.{Event}
 use Rattle.pl_head.specs.Marks.{Change, Removed}
 use Rattle.pl_head.specs.Writes.{out}
-use Rattle.pl_head.specs.Buffers.{WriteBufferView, BufferStands}
+use Rattle.pl_head.specs.Buffers.{OutboundBufferView, BufferStands}
 use Rattle.pl_event.specs.declared.outcomes.Cause.{Cause}
 use Rattle.pl_head.specs.HeadStand.{BufferAfter, step_sizes}
 use Rattle.pl_head.proofs.HeadSteps.{none_waits, some_waits}
@@ -35,11 +35,11 @@ not_idle None none waits e = cc (waits, e)
 not_idle (Some cause) none waits e = cc none
 
 -- where a byte is offered, a head that has not failed is not idle
-pub never_idle : (failure : Option Cause) (accepted : List ℕ) (b : WriteBufferView) (ys zs : List Event) (ended : Bool) (sizes : List Change) (bytes : List ℕ) (size : ℕ) → is_some failure ≡ false → BufferAfter failure accepted b ys zs ended sizes → 0 < length bytes
-    → (BufferStands accepted b ys ended sizes → (length bytes ≡ size) × ((rest : List ℕ) × (accepted ++ (bytes ++ rest) ≡ out ys))) → (is_some failure || nat_le (length (out ys)) (length accepted)) ≡ true → ⊥
-never_idle failure accepted b ys zs ended sizes bytes size none s some offers idle =
+pub never_idle : (failure : Option Cause) (accepted : List ℕ) (b : OutboundBufferView) (ys zs : List Event) (ended : Bool) (sizes : List Change) (bytes : List ℕ) (size : ℕ) → is_some failure ≡ false → BufferAfter failure accepted b ys zs ended sizes
+    → (BufferStands accepted b ys ended sizes → (0 < length bytes) × (length bytes ≡ size) × ((rest : List ℕ) × (accepted ++ (bytes ++ rest) ≡ out ys))) → (is_some failure || nat_le (length (out ys)) (length accepted)) ≡ true → ⊥
+never_idle failure accepted b ys zs ended sizes bytes size none s offers idle =
     let left = offers (unfailed failure accepted b ys zs ended sizes none s) in
-    not_idle failure none (sym (some_waits bytes left.1.0 (bytes ++ left.1.0) accepted (out ys) refl some left.1.1).1) idle
+    not_idle failure none (sym (some_waits bytes left.2.0 (bytes ++ left.2.0) accepted (out ys) refl left.0 left.2.1).1) idle
 
 pub unless_failed : (failure : Option Cause) {written : Bool} → is_some failure ≡ false → written ≡ (is_some failure || written)
 unless_failed None none = refl

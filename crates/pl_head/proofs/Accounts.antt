@@ -1,9 +1,9 @@
 -- Each write waits or is settled, whatever is added or settled.
-use Rattle.std.proofs.Common.{◌≡◌, ℕ, zero, suc, ◌+◌, ◌<◌, ◌≤◌, List, [], ◌∷◌, ◌++◌, length, take, drop, set, get_or, Option, Some, None, ap, sym, subst, ◌∙◌, refl, arith, append-nil, length-append, add-zero}
+use Rattle.std.proofs.Common.{◌≡◌, ℕ, zero, suc, ◌+◌, ◌<◌, ◌≤◌, List, [], ◌∷◌, ◌++◌, length, take, drop, set, get_or, Option, Some, None, ap, sym, subst, ◌∙◌, refl, arith, append-nil, append_assoc, length-append, add-zero}
 use Rattle.std.proofs.lemmas.List.{length-set, map-append, take-append-drop}
 use Rattle.std.proofs.Math.Seq.{drop-cons}
 use Rattle.pl_event.specs.declared.outcomes.Outcome.{Outcome}
-use Rattle.pl_head.specs.declared.outbound.Waiting.{Waiting}
+use Rattle.pl_head.specs.declared.outbound_buffer.Entry.{Entry}
 use Rattle.pl_head.specs.WaitingMessages.{numbers_of}
 use Rattle.pl_head.specs.Settling.{same_as, times, settled_at, open_at, Account, GoesOn}
 
@@ -71,6 +71,12 @@ settled_at-set zero (suc k) (None ∷ os) new h = refl
 settled_at-set zero (suc k) (Some o ∷ os) new h = refl
 settled_at-set (suc n) (suc k) (o ∷ os) new h = settled_at-set n k os new h
 
+-- a write that waits has a number
+open_some : (n : ℕ) (os : List (Option Outcome)) → 0 < open_at n os → n < length os
+open_some n [] h = absurd (omega (arith, h))
+open_some zero (o ∷ os) h = omega arith
+open_some (suc n) (o ∷ os) h = let rest = open_some n os h in omega (arith, rest)
+
 -- ---- accounts
 
 module _ (waiting settled : List ℕ) (os : List (Option Outcome)) where
@@ -90,12 +96,18 @@ module _ (waiting settled : List ℕ) (os : List (Option Outcome)) where
     waits = λ n. a.waits n ∙ sym (open_at-settled n os new);
   }
 
+waits_open : (before after settled : List ℕ) (k : ℕ) (os : List (Option Outcome)) → Account (before ++ k ∷ after) settled os → open_at k os ≡ 1
+waits_open before after settled k os a =
+    omega (arith, a.waits k, times-append k before (k ∷ after), same_as-same k, open_at-few k os)
+
+pub account-within : (before after settled : List ℕ) (k : ℕ) (os : List (Option Outcome)) → Account (before ++ k ∷ after) settled os → k < length os
+account-within before after settled k os a = open_some k os (omega (arith, waits_open before after settled k os a))
+
 -- one that waits is settled
 pub account-settles : (before after settled : List ℕ) (k : ℕ) (os : List (Option Outcome)) (new : Outcome) → Account (before ++ k ∷ after) settled os
     → Account (before ++ after) (settled ++ k ∷ []) (set os k (Some new))
 account-settles before after settled k os new a =
-    let here = times-append k before (k ∷ after) in
-    let waits : open_at k os ≡ 1 = omega (arith, a.waits k, here, same_as-same k, open_at-few k os) in
+    let waits = waits_open before after settled k os a in
     record {
       size = omega (arith, a.size, length-append settled (k ∷ []), length-append before (k ∷ after), length-append before after, length-set os k (Some new));
       once = λ n. omega (arith, times-append n settled (k ∷ []), a.once n, settled_at-set n k os new waits);
@@ -127,22 +139,30 @@ told_some settled os i n a is h =
 pub goes_on-same : (xs : List ℕ) → GoesOn xs xs
 goes_on-same xs = ([], sym (append-nil xs))
 
+pub goes_on-push : (before : List ℕ) {now after : List ℕ} (k : ℕ) → GoesOn before now → after ≡ now ++ k ∷ [] → GoesOn before after
+goes_on-push before k g e =
+    (g.0 ++ k ∷ [], e ∙ ap (λ (ns : List ℕ). ns ++ k ∷ []) g.1 ∙ append_assoc before g.0 (k ∷ []))
+
 -- ---- accounts of messages
 
 pub account-same : {waiting waiting' settled settled' : List ℕ} {os os' : List (Option Outcome)} → waiting' ≡ waiting → settled' ≡ settled → os' ≡ os → Account waiting settled os → Account waiting' settled' os'
 account-same w s o a = rw (w, s, o) a
 
 -- the message at a place is settled
-pub account-at : (queue : List Waiting) (place : ℕ) (message : Waiting) (before settled : List ℕ) (os : List (Option Outcome)) (new : Outcome) → place < length queue → message ≡ get_or queue place message
-    → Account (before ++ numbers_of (drop place queue)) settled os → Account (before ++ numbers_of (drop (suc place) queue)) (settled ++ message.number ∷ []) (set os message.number (Some new))
-account-at queue place message before settled os new within is a =
-    let here : drop place queue ≡ message ∷ drop (suc place) queue =
-    drop-cons queue place message within ∙ ap (λ (w : Waiting). w ∷ drop (suc place) queue) (sym is) in
-    account-settles before (numbers_of (drop (suc place) queue)) settled message.number os new
-    (subst (λ (ws : List Waiting). Account (before ++ numbers_of ws) settled os) here a)
+module _ (entries : List Entry) (place : ℕ) (entry : Entry) (within : place < length entries) (is : entry ≡ get_or entries place entry) (before settled : List ℕ) (os : List (Option Outcome))
+    (a : Account (before ++ numbers_of (drop place entries)) settled os) where
+  here : Account (before ++ entry.number ∷ numbers_of (drop (suc place) entries)) settled os
+  here =
+      subst (λ (es : List Entry). Account (before ++ numbers_of es) settled os) (drop-cons entries place entry within ∙ ap (λ (e : Entry). e ∷ drop (suc place) entries) (sym is)) a
 
--- what a queue holds up to a place, and behind it
-pub account-split : (queue : List Waiting) (place : ℕ) {settled : List ℕ} {os : List (Option Outcome)} → Account (numbers_of queue) settled os → Account (numbers_of (take place queue) ++ numbers_of (drop place queue)) settled os
-account-split queue place {settled = settled} {os = os} a =
+  pub within-at : entry.number < length os
+  within-at = account-within before (numbers_of (drop (suc place) entries)) settled entry.number os here
+
+  pub account-at : (new : Outcome) → Account (before ++ numbers_of (drop (suc place) entries)) (settled ++ entry.number ∷ []) (set os entry.number (Some new))
+  account-at new = account-settles before (numbers_of (drop (suc place) entries)) settled entry.number os new here
+
+-- what waits up to a place, and behind it
+pub account-split : (entries : List Entry) (place : ℕ) {settled : List ℕ} {os : List (Option Outcome)} → Account (numbers_of entries) settled os → Account (numbers_of (take place entries) ++ numbers_of (drop place entries)) settled os
+account-split entries place {settled = settled} {os = os} a =
     subst (λ (ns : List ℕ). Account ns settled os)
-    (ap (λ (ws : List Waiting). numbers_of ws) (sym (take-append-drop place queue)) ∙ map-append (λ (w : Waiting). w.number) (take place queue) (drop place queue)) a
+    (ap (λ (ws : List Entry). numbers_of ws) (sym (take-append-drop place entries)) ∙ map-append (λ (w : Entry). w.number) (take place entries) (drop place entries)) a

@@ -5,7 +5,7 @@ use Rattle.std.proofs.Math.Seq.{drop-append_seam, take-append_seam, set-append_s
 use Rattle.std.proofs.lemmas.Bool.Decides.{nat_tests}
 use Rattle.pl_event.specs.declared.outcomes.Outcome.{Outcome}
 use Rattle.pl_event.specs.declared.outcomes.Outcome.TheVariants.{Success, Closed, Unsupported}
-use Rattle.pl_head.specs.declared.outbound.Waiting.{Waiting}
+use Rattle.pl_head.specs.declared.outbound_buffer.Entry.{Entry}
 use Rattle.pl_head.specs.Writes.{bytes_of, waiting, late_outcome, unflushed_outcome, outcomes_from}
 use Rattle.pl_head.specs.Failures.{settled_by}
 use Rattle.pl_head.specs.WaitingMessages.{settled_all, numbered, settled, first_size, MessagesStand}
@@ -17,7 +17,7 @@ numbered-append n (None ∷ xs) ys =
     numbered-append (n + 1) xs ys ∙ ap (λ (k : ℕ). numbered (n + 1) xs ++ numbered k ys) e
 numbered-append n (Some b ∷ xs) ys =
     let e : (n + 1) + length xs ≡ n + suc (length xs) = omega arith in
-    ap (λ (t : List Waiting). record { number = n; bytes = b } ∷ t) (numbered-append (n + 1) xs ys ∙ ap (λ (k : ℕ). numbered (n + 1) xs ++ numbered k ys) e)
+    ap (λ (t : List Entry). record { number = n; bytes = b } ∷ t) (numbered-append (n + 1) xs ys ∙ ap (λ (k : ℕ). numbered (n + 1) xs ++ numbered k ys) e)
 
 pub bytes_of-append : (xs ys : List (Option (List ℕ))) → bytes_of (xs ++ ys) ≡ bytes_of xs ++ bytes_of ys
 bytes_of-append [] ys = refl
@@ -54,9 +54,9 @@ through-past (Some b ∷ ws) = refl
 
 -- The first message of these writes, numbered from n.
 record First (n : ℕ) (ws : List (Option (List ℕ))) : Type 0 where
-  message : Waiting
-  others : List Waiting
-  queue : numbered n ws ≡ message ∷ others
+  message : Entry
+  others : List Entry
+  entries : numbered n ws ≡ message ∷ others
   number : message.number ≡ n + skipped ws
   bytes : bytes_of ws ≡ message.bytes ++ bytes_of (past_first ws)
   size : length message.bytes ≡ first_length ws
@@ -71,7 +71,7 @@ first_of n (None ∷ ws) h =
     record {
       message = f.message;
       others = f.others;
-      queue = f.queue;
+      entries = f.entries;
       number = f.number ∙ number_is;
       bytes = f.bytes;
       size = f.size;
@@ -83,7 +83,7 @@ first_of n (Some b ∷ ws) h =
     record {
       message = record { number = n; bytes = b };
       others = numbered (n + 1) ws;
-      queue = refl;
+      entries = refl;
       number = number_is;
       bytes = refl;
       size = refl;
@@ -112,8 +112,8 @@ set-first n (None ∷ ws) more h =
 set-first n (Some b ∷ ws) more h = refl
 
 -- how many outcomes there are
-length-outcomes : {queue : List Waiting} {offset count : ℕ} {outcomes : List (Option Outcome)} {flushed unflushed : List (Option (List ℕ))} {left : List ℕ} {ended : Bool}
-    → MessagesStand queue offset count outcomes flushed unflushed left ended → length outcomes ≡ length flushed + length unflushed
+length-outcomes : {entries : List Entry} {offset count : ℕ} {outcomes : List (Option Outcome)} {flushed unflushed : List (Option (List ℕ))} {left : List ℕ} {ended : Bool}
+    → MessagesStand entries offset count outcomes flushed unflushed left ended → length outcomes ≡ length flushed + length unflushed
 length-outcomes {unflushed = unflushed} {ended = ended} s =
     let parts = length-append (map settled s.done) (map waiting s.mid ++ map (unflushed_outcome ended) unflushed) in
     let inner = length-append (map waiting s.mid) (map (unflushed_outcome ended) unflushed) in
@@ -122,29 +122,29 @@ length-outcomes {unflushed = unflushed} {ended = ended} s =
     omega (arith, whole, parts, inner, split, length-append s.done s.mid, length-map s.done settled, length-map s.mid waiting, length-map unflushed (unflushed_outcome ended))
 
 -- equal parts may stand after the same writes
-pub same_parts : {queue queue' : List Waiting} {offset count count' : ℕ} {outcomes outcomes' : List (Option Outcome)} {flushed unflushed : List (Option (List ℕ))} {left : List ℕ} {ended : Bool}
-    → queue' ≡ queue → count' ≡ count → outcomes' ≡ outcomes → MessagesStand queue offset count outcomes flushed unflushed left ended → MessagesStand queue' offset count' outcomes' flushed unflushed left ended
+pub same_parts : {entries entries' : List Entry} {offset count count' : ℕ} {outcomes outcomes' : List (Option Outcome)} {flushed unflushed : List (Option (List ℕ))} {left : List ℕ} {ended : Bool}
+    → entries' ≡ entries → count' ≡ count → outcomes' ≡ outcomes → MessagesStand entries offset count outcomes flushed unflushed left ended → MessagesStand entries' offset count' outcomes' flushed unflushed left ended
 same_parts q c o s = record {
   done = s.done;
   mid = s.mid;
   split = s.split;
-  queue_is = q ∙ s.queue_is;
+  entries_are = q ∙ s.entries_are;
   count_is = c ∙ s.count_is;
   outcomes_are = o ∙ s.outcomes_are;
   rest = s.rest;
   fits = s.fits;
 }
 
-module _ (queue : List Waiting) (offset count : ℕ) (outcomes : List (Option Outcome)) (flushed unflushed : List (Option (List ℕ))) (left : List ℕ) where
+module _ (entries : List Entry) (offset count : ℕ) (outcomes : List (Option Outcome)) (flushed unflushed : List (Option (List ℕ))) (left : List ℕ) where
   -- one write more
-  pub adds : (w : Option (List ℕ)) → MessagesStand queue offset count outcomes flushed unflushed left false
-      → MessagesStand (queue ++ numbered (length outcomes) (w ∷ [])) offset count (outcomes ++ waiting w ∷ []) flushed (unflushed ++ w ∷ []) left false
+  pub adds : (w : Option (List ℕ)) → MessagesStand entries offset count outcomes flushed unflushed left false
+      → MessagesStand (entries ++ numbered (length outcomes) (w ∷ [])) offset count (outcomes ++ waiting w ∷ []) flushed (unflushed ++ w ∷ []) left false
   adds w s = record {
     done = s.done;
     mid = s.mid;
     split = s.split;
-    queue_is =
-        rw (numbered-append (length flushed) unflushed (w ∷ []), ← length-outcomes s, ← append_assoc, ← s.queue_is) refl;
+    entries_are =
+        rw (numbered-append (length flushed) unflushed (w ∷ []), ← length-outcomes s, ← append_assoc, ← s.entries_are) refl;
     count_is = s.count_is;
     outcomes_are =
         rw (map-append (unflushed_outcome false) unflushed (w ∷ []), ← append_assoc, ← append_assoc)
@@ -154,18 +154,18 @@ module _ (queue : List Waiting) (offset count : ℕ) (outcomes : List (Option Ou
   }
 
   -- all are flushed
-  pub flushes : MessagesStand queue offset count outcomes flushed unflushed left false → MessagesStand queue offset (length queue) outcomes (flushed ++ unflushed) [] (left ++ bytes_of unflushed) false
+  pub flushes : MessagesStand entries offset count outcomes flushed unflushed left false → MessagesStand entries offset (length entries) outcomes (flushed ++ unflushed) [] (left ++ bytes_of unflushed) false
   flushes s =
       let size : length flushed ≡ length s.done + length s.mid = rw (← s.split) (length-append s.done s.mid) in
-      let together : queue ≡ numbered (length s.done) (s.mid ++ unflushed) =
-      rw (numbered-append (length s.done) s.mid unflushed, ← size) s.queue_is in
+      let together : entries ≡ numbered (length s.done) (s.mid ++ unflushed) =
+      rw (numbered-append (length s.done) s.mid unflushed, ← size) s.entries_are in
       record {
         done = s.done;
         mid = s.mid ++ unflushed;
         split =
             sym (append_assoc s.done s.mid unflushed) ∙ ap (λ (t : List (Option (List ℕ))). t ++ unflushed) s.split;
-        queue_is = together ∙ sym (append-nil (numbered (length s.done) (s.mid ++ unflushed)));
-        count_is = ap (λ (t : List Waiting). length t) together;
+        entries_are = together ∙ sym (append-nil (numbered (length s.done) (s.mid ++ unflushed)));
+        count_is = ap (λ (t : List Entry). length t) together;
         outcomes_are =
             s.outcomes_are ∙ ap (λ (t : List (Option Outcome)). map settled s.done ++ t) (sym (map-append waiting s.mid unflushed) ∙ sym (append-nil (map waiting (s.mid ++ unflushed))));
         rest =
@@ -176,14 +176,14 @@ module _ (queue : List Waiting) (offset count : ℕ) (outcomes : List (Option Ou
 
   module _ (ended : Bool) where
     -- more of the output is written
-    pub advances : (n : ℕ) → n ≤ length left → MessagesStand queue offset count outcomes flushed unflushed left ended → MessagesStand queue (offset + n) count outcomes flushed unflushed (drop n left) ended
+    pub advances : (n : ℕ) → n ≤ length left → MessagesStand entries offset count outcomes flushed unflushed left ended → MessagesStand entries (offset + n) count outcomes flushed unflushed (drop n left) ended
     advances n h s =
         let size = ap (λ (t : List ℕ). length t) s.rest in
         record {
           done = s.done;
           mid = s.mid;
           split = s.split;
-          queue_is = s.queue_is;
+          entries_are = s.entries_are;
           count_is = s.count_is;
           outcomes_are = s.outcomes_are;
           rest =
@@ -192,33 +192,33 @@ module _ (queue : List Waiting) (offset count : ℕ) (outcomes : List (Option Ou
         }
 
     -- no message is flushed, so nothing is left
-    pub nothing_left : MessagesStand queue offset count outcomes flushed unflushed left ended → count ≡ 0 → left ≡ []
+    pub nothing_left : MessagesStand entries offset count outcomes flushed unflushed left ended → count ≡ 0 → left ≡ []
     nothing_left s h =
         let none = bytes_of-none (length s.done) s.mid (sym s.count_is ∙ h) in
         sym s.rest ∙ ap (λ (t : List ℕ). drop offset t) none ∙ drop-nil offset
 
     -- what is left begins with the rest of the first message
-    pub front_first : (first : Waiting) → MessagesStand queue offset count outcomes flushed unflushed left ended → 0 < count → first ≡ get_or queue 0 first → offset ≤ length first.bytes
+    pub front_first : (first : Entry) → MessagesStand entries offset count outcomes flushed unflushed left ended → 0 < count → first ≡ get_or entries 0 first → offset ≤ length first.bytes
         → (rest : List ℕ) × (drop offset first.bytes ++ rest ≡ left)
     front_first first s h is fits =
         let f = first_of (length s.done) s.mid (omega (arith, h, s.count_is)) in
-        let same : first ≡ f.message = is ∙ ap (λ (t : List Waiting). get_or t 0 first) (s.queue_is ∙ ap (λ (t : List Waiting). t ++ (if ended then [] else numbered (length flushed) unflushed)) f.queue) in
+        let same : first ≡ f.message = is ∙ ap (λ (t : List Entry). get_or t 0 first) (s.entries_are ∙ ap (λ (t : List Entry). t ++ (if ended then [] else numbered (length flushed) unflushed)) f.entries) in
         let here : bytes_of s.mid ≡ first.bytes ++ bytes_of (past_first s.mid) = rw same f.bytes in
         (bytes_of (past_first s.mid), sym (drop-append-le offset first.bytes (bytes_of (past_first s.mid)) fits) ∙ ap (λ (t : List ℕ). drop offset t) (sym here) ∙ s.rest)
 
 -- a message that has left whole is settled
-pub settles : (first : Waiting) (queue : List Waiting) (offset count : ℕ) (outcomes : List (Option Outcome)) (flushed unflushed : List (Option (List ℕ))) (left : List ℕ) (ended : Bool)
-    → MessagesStand (first ∷ queue) offset count outcomes flushed unflushed left ended → 0 < count → offset ≡ length first.bytes
-    → MessagesStand queue 0 (count - 1) (set outcomes first.number (Some Success)) flushed unflushed left ended
-settles first queue offset count outcomes flushed unflushed left ended s h whole =
+pub settles : (first : Entry) (entries : List Entry) (offset count : ℕ) (outcomes : List (Option Outcome)) (flushed unflushed : List (Option (List ℕ))) (left : List ℕ) (ended : Bool)
+    → MessagesStand (first ∷ entries) offset count outcomes flushed unflushed left ended → 0 < count → offset ≡ length first.bytes
+    → MessagesStand entries 0 (count - 1) (set outcomes first.number (Some Success)) flushed unflushed left ended
+settles first entries offset count outcomes flushed unflushed left ended s h whole =
     let f = first_of (length s.done) s.mid (omega (arith, h, s.count_is)) in
-    let tail : List Waiting = if ended then [] else numbered (length flushed) unflushed in
-    let items : first ∷ queue ≡ f.message ∷ (f.others ++ tail) = s.queue_is ∙ ap (λ (t : List Waiting). t ++ tail) f.queue in
+    let tail : List Entry = if ended then [] else numbered (length flushed) unflushed in
+    let items : first ∷ entries ≡ f.message ∷ (f.others ++ tail) = s.entries_are ∙ ap (λ (t : List Entry). t ++ tail) f.entries in
     let same : first ≡ f.message = cc items in
-    let queue_rest : queue ≡ f.others ++ tail = cc items in
+    let entries_rest : entries ≡ f.others ++ tail = cc items in
     let more : List (Option Outcome) = map (unflushed_outcome ended) unflushed in
     let place : length (s.done ++ through_first s.mid) ≡ length s.done + length (through_first s.mid) = length-append s.done (through_first s.mid) in
-    let number : first.number ≡ length s.done + skipped s.mid = ap (λ (w : Waiting). w.number) same ∙ f.number in
+    let number : first.number ≡ length s.done + skipped s.mid = ap (λ (w : Entry). w.number) same ∙ f.number in
     let size = length-map s.done settled in
     let at : first.number - length s.done ≡ skipped s.mid = omega (arith, number) in
     let some : 0 < length (numbered (length s.done) s.mid) = omega (arith, h, s.count_is) in
@@ -227,10 +227,10 @@ settles first queue offset count outcomes flushed unflushed left ended s h whole
       mid = past_first s.mid;
       split =
           append_assoc s.done (through_first s.mid) (past_first s.mid) ∙ ap (λ (t : List (Option (List ℕ))). s.done ++ t) (through-past s.mid) ∙ s.split;
-      queue_is = rw place (queue_rest ∙ ap (λ (t : List Waiting). t ++ tail) f.others_are);
+      entries_are = rw place (entries_rest ∙ ap (λ (t : List Entry). t ++ tail) f.others_are);
       count_is =
-          rw place (let n = ap (λ (t : List Waiting). length t) f.queue in
-          let k = ap (λ (t : List Waiting). length t) f.others_are in
+          rw place (let n = ap (λ (t : List Entry). length t) f.entries in
+          let k = ap (λ (t : List Entry). length t) f.others_are in
           omega (arith, s.count_is, n, k));
       outcomes_are =
           ap (λ (t : List (Option Outcome)). set t first.number (Some Success)) s.outcomes_are
@@ -277,18 +277,18 @@ outcomes-done start accepted (Some b ∷ done) ws h =
     let e : (start + length b) + length (bytes_of done) ≡ start + length (b ++ bytes_of done) = omega (arith, size) in
     rw test (ap (λ (t : List (Option Outcome)). Some Success ∷ t) (outcomes-done (start + length b) accepted done ws (omega (arith, e, h)) ∙ ap (λ (k : ℕ). map settled done ++ outcomes_from k accepted ws) e))
 
-pub outcomes_stand : (queue : List Waiting) (offset count : ℕ) (outcomes : List (Option Outcome)) (flushed unflushed : List (Option (List ℕ))) (left : List ℕ) (ended : Bool)
-    → MessagesStand queue offset count outcomes flushed unflushed left ended → (0 < count → offset < first_size queue) → (accepted : ℕ) → accepted + length left ≡ length (bytes_of flushed)
+pub outcomes_stand : (entries : List Entry) (offset count : ℕ) (outcomes : List (Option Outcome)) (flushed unflushed : List (Option (List ℕ))) (left : List ℕ) (ended : Bool)
+    → MessagesStand entries offset count outcomes flushed unflushed left ended → (0 < count → offset < first_size entries) → (accepted : ℕ) → accepted + length left ≡ length (bytes_of flushed)
     → outcomes ≡ outcomes_from 0 accepted flushed ++ map (unflushed_outcome ended) unflushed
-outcomes_stand queue offset count outcomes flushed unflushed left ended s at_rest accepted a =
-    let tail : List Waiting = if ended then [] else numbered (length flushed) unflushed in
+outcomes_stand entries offset count outcomes flushed unflushed left ended s at_rest accepted a =
+    let tail : List Entry = if ended then [] else numbered (length flushed) unflushed in
     let more : List (Option Outcome) = map (unflushed_outcome ended) unflushed in
     let whole = ap (λ (t : List (Option (List ℕ))). length (bytes_of t)) (sym s.split) ∙ ap (λ (t : List ℕ). length t) (bytes_of-append s.done s.mid) ∙ length-append (bytes_of s.done) (bytes_of s.mid) in
     let size = ap (λ (t : List ℕ). length t) s.rest in
     let place : accepted ≡ length (bytes_of s.done) + offset = omega (arith, a, whole, size, length-drop offset (bytes_of s.mid), s.fits) in
     let mid_waits : 0 < length (numbered (length s.done) s.mid) → accepted < (0 + length (bytes_of s.done)) + first_length s.mid = λ some.
     (let f = first_of (length s.done) s.mid some in
-    let items : queue ≡ f.message ∷ (f.others ++ tail) = s.queue_is ∙ ap (λ (t : List Waiting). t ++ tail) f.queue in
+    let items : entries ≡ f.message ∷ (f.others ++ tail) = s.entries_are ∙ ap (λ (t : List Entry). t ++ tail) f.entries in
     let below = at_rest (omega (arith, some, s.count_is)) in
     omega (arith, place, below, ap first_size items, f.size))
     in
@@ -299,13 +299,13 @@ outcomes_stand queue offset count outcomes flushed unflushed left ended s at_res
     ∙ sym (outcomes-done 0 accepted s.done s.mid (omega (arith, place)))
     ∙ ap (λ (t : List (Option (List ℕ))). outcomes_from 0 accepted t) s.split)
 
-pub first_size-read : (queue : List Waiting) (first : Waiting) → 0 < length queue → first ≡ get_or queue 0 first → first_size queue ≡ length first.bytes
+pub first_size-read : (entries : List Entry) (first : Entry) → 0 < length entries → first ≡ get_or entries 0 first → first_size entries ≡ length first.bytes
 first_size-read [] first h is = absurd (omega (arith, h))
-first_size-read (w ∷ ws) first h is = ap (λ (v : Waiting). length v.bytes) (sym is)
+first_size-read (w ∷ ws) first h is = ap (λ (v : Entry). length v.bytes) (sym is)
 
 -- ---- messages that are settled before they were sent
 
-settled_all-append : (o : Outcome) (ws vs : List Waiting) (os : List (Option Outcome)) → settled_all o (ws ++ vs) os ≡ settled_all o vs (settled_all o ws os)
+settled_all-append : (o : Outcome) (ws vs : List Entry) (os : List (Option Outcome)) → settled_all o (ws ++ vs) os ≡ settled_all o vs (settled_all o ws os)
 settled_all-append o [] vs os = refl
 settled_all-append o (w ∷ ws) vs os = settled_all-append o ws vs (set os w.number (Some o))
 
@@ -334,26 +334,26 @@ late-last o n before ws h =
     ∙ ap (λ (os : List (Option Outcome)). before ++ os) (append-nil (map (late_outcome o) ws))
 
 -- all unflushed messages are closed
-pub closes : (queue : List Waiting) (offset count : ℕ) (outcomes : List (Option Outcome)) (flushed unflushed : List (Option (List ℕ))) (left : List ℕ)
-    → MessagesStand queue offset count outcomes flushed unflushed left false → MessagesStand (take count queue) offset count (settled_all Closed (drop count queue) outcomes) flushed unflushed left true
-closes queue offset count outcomes flushed unflushed left s =
-    let front : List Waiting = numbered (length s.done) s.mid in
-    let tail : List Waiting = numbered (length flushed) unflushed in
+pub closes : (entries : List Entry) (offset count : ℕ) (outcomes : List (Option Outcome)) (flushed unflushed : List (Option (List ℕ))) (left : List ℕ)
+    → MessagesStand entries offset count outcomes flushed unflushed left false → MessagesStand (take count entries) offset count (settled_all Closed (drop count entries) outcomes) flushed unflushed left true
+closes entries offset count outcomes flushed unflushed left s =
+    let front : List Entry = numbered (length s.done) s.mid in
+    let tail : List Entry = numbered (length flushed) unflushed in
     let before : List (Option Outcome) = map settled s.done ++ map waiting s.mid in
     let size : length before ≡ length flushed =
     rw (← s.split) (omega (arith, length-append (map settled s.done) (map waiting s.mid), length-append s.done s.mid, length-map s.done settled, length-map s.mid waiting)) in
-    let rest_is : drop count queue ≡ tail = rw (s.count_is, s.queue_is) (drop-append_seam front tail) in
-    let front_is : take count queue ≡ front = rw (s.count_is, s.queue_is) (take-append_seam front tail) in
+    let rest_is : drop count entries ≡ tail = rw (s.count_is, s.entries_are) (drop-append_seam front tail) in
+    let front_is : take count entries ≡ front = rw (s.count_is, s.entries_are) (take-append_seam front tail) in
     let outcomes_split : outcomes ≡ before ++ map waiting unflushed =
     s.outcomes_are ∙ sym (append_assoc (map settled s.done) (map waiting s.mid) (map waiting unflushed)) in
     record {
       done = s.done;
       mid = s.mid;
       split = s.split;
-      queue_is = front_is ∙ sym (append-nil front);
+      entries_are = front_is ∙ sym (append-nil front);
       count_is = s.count_is;
       outcomes_are =
-          ap (λ (ws : List Waiting). settled_all Closed ws outcomes) rest_is
+          ap (λ (ws : List Entry). settled_all Closed ws outcomes) rest_is
           ∙ ap (λ (os : List (Option Outcome)). settled_all Closed tail os) outcomes_split
           ∙ late-last Closed (length flushed) before unflushed size
           ∙ append_assoc (map settled s.done) (map waiting s.mid) (map (late_outcome Closed) unflushed);
@@ -379,16 +379,16 @@ by-waiting o (None ∷ ws) = ap (λ (os : List (Option Outcome)). Some Unsupport
 by-waiting o (Some b ∷ ws) = ap (λ (os : List (Option Outcome)). Some o ∷ os) (by-waiting o ws)
 
 -- all messages are settled
-pub fails : (o : Outcome) (queue : List Waiting) (offset count : ℕ) (outcomes : List (Option Outcome)) (flushed unflushed : List (Option (List ℕ))) (left : List ℕ) (ended : Bool)
-    → MessagesStand queue offset count outcomes flushed unflushed left ended → settled_all o queue outcomes ≡ map (settled_by o) outcomes
-fails o queue offset count outcomes flushed unflushed left ended s =
-    let front : List Waiting = numbered (length s.done) s.mid in
-    let tail : List Waiting = if ended then [] else numbered (length flushed) unflushed in
+pub fails : (o : Outcome) (entries : List Entry) (offset count : ℕ) (outcomes : List (Option Outcome)) (flushed unflushed : List (Option (List ℕ))) (left : List ℕ) (ended : Bool)
+    → MessagesStand entries offset count outcomes flushed unflushed left ended → settled_all o entries outcomes ≡ map (settled_by o) outcomes
+fails o entries offset count outcomes flushed unflushed left ended s =
+    let front : List Entry = numbered (length s.done) s.mid in
+    let tail : List Entry = if ended then [] else numbered (length flushed) unflushed in
     let more : List (Option Outcome) = map (unflushed_outcome ended) unflushed in
     let late : List (Option Outcome) = map (late_outcome o) s.mid in
     let before : length (map settled s.done ++ late) ≡ length flushed =
     rw (← s.split) (omega (arith, length-append (map settled s.done) late, length-append s.done s.mid, length-map s.done settled, length-map s.mid (late_outcome o))) in
-    ap (λ (ws : List Waiting). settled_all o ws outcomes) s.queue_is
+    ap (λ (ws : List Entry). settled_all o ws outcomes) s.entries_are
     ∙ ap (λ (os : List (Option Outcome)). settled_all o (front ++ tail) os) s.outcomes_are
     ∙ settled_all-append o front tail (map settled s.done ++ (map waiting s.mid ++ more))
     ∙ ap (λ (os : List (Option Outcome)). settled_all o tail os) (late-numbered o (length s.done) (map settled s.done) more s.mid (length-map s.done settled) ∙ sym (append_assoc (map settled s.done) late more))

@@ -1,17 +1,29 @@
 -- What a failure of a head's own leaves of its buffer, and what comes after it.
-use Rattle.std.proofs.Common.{◌≡◌, ℕ, List, [], ◌∷◌, ◌++◌, length, map, Bool, true, false, Option, Some, ap, sym, subst, ◌∙◌, refl, append_assoc, append-nil}
+use Rattle.std.proofs.Common.{◌≡◌, ℕ, List, [], ◌∷◌, ◌++◌, length, map, Bool, true, false, Option, Some, None, ap, sym, subst, ◌∙◌, refl, append_assoc, append-nil}
 use Rattle.std.proofs.lemmas.List.{map-append}
 use Rattle.pl_event.specs.declared.events.Event.{Event}
+use Rattle.pl_event.specs.declared.events.Event.TheVariants.{Write}
+use Rattle.pl_event.specs.declared.events.Message.{Message}
+use Rattle.pl_event.specs.declared.events.Message.TheVariants.{Bytes, Line, Command, Reply}
 use Rattle.pl_event.specs.declared.outcomes.Outcome.{Outcome}
-use Rattle.pl_head.specs.declared.outbound.Outbound.{Outbound}
-use Rattle.pl_head.specs.declared.writability.Writability.{Writability}
 use Rattle.pl_head.specs.Writes.{write_by, writes_by, late_outcome, outcomes}
 use Rattle.pl_head.specs.Failures.{settled_by}
 use Rattle.pl_head.specs.Marks.{Change}
-use Rattle.pl_head.specs.WritabilityStand.{WritabilityStand}
-use Rattle.pl_head.specs.Buffers.{WriteBufferView, BufferStands, BufferFailed}
-use Rattle.pl_head.specs.WriteBuffers.{buffer_view}
-use Rattle.pl_head.proofs.Buffering.{same_parts}
+use Rattle.pl_head.specs.MarksStand.{Watermarks}
+use Rattle.pl_head.specs.Buffers.{OutboundBufferView, BufferFailed}
+
+-- Outcomes and numbers are added, and nothing else changes.
+abbrev pub Renumbers : OutboundBufferView → OutboundBufferView → Type 0
+Renumbers b b' = b' ≡ record b { outcomes = b'.outcomes; outcomes_room = b'.outcomes_room; settled = b'.settled; is_full = b'.is_full }
+
+pub placing : (b : OutboundBufferView) {b' : OutboundBufferView} {full : Bool} {room : ℕ} → b' ≡ record b { is_full = full; outcomes_room = room } → Renumbers b b'
+placing b e =
+    subst (λ (v : OutboundBufferView). v ≡ record b { outcomes = v.outcomes; outcomes_room = v.outcomes_room; settled = v.settled; is_full = v.is_full }) (sym e) refl
+
+pub adding : (a b : OutboundBufferView) {b' : OutboundBufferView} {os : List (Option Outcome)} {ns : List ℕ} {room : ℕ} → Renumbers a b → b' ≡ record b { outcomes = os; settled = ns; outcomes_room = room } → Renumbers a b'
+adding a b {os = os} {ns = ns} {room = room} before e =
+    subst (λ (v : OutboundBufferView). v ≡ record a { outcomes = v.outcomes; outcomes_room = v.outcomes_room; settled = v.settled; is_full = v.is_full })
+    (sym (e ∙ ap (λ (v : OutboundBufferView). record v { outcomes = os; settled = ns; outcomes_room = room }) before)) refl
 
 writes_by-append : (zs : List Event) (e : Event) → writes_by (zs ++ e ∷ []) ≡ writes_by zs ++ write_by e
 writes_by-append [] e = append-nil (write_by e)
@@ -20,11 +32,11 @@ writes_by-append (z ∷ zs) e =
 
 module _ (o : Outcome) (accepted : List ℕ) (ys zs : List Event) (ended : Bool) (sizes : List Change) (e : Event) where
   -- an event that makes no write
-  pub failed-nothing : (b : WriteBufferView) → write_by e ≡ [] → BufferFailed o accepted b ys zs ended sizes → BufferFailed o accepted b ys (zs ++ e ∷ []) ended sizes
+  pub failed-nothing : (b : OutboundBufferView) → write_by e ≡ [] → BufferFailed o accepted b ys zs ended sizes → BufferFailed o accepted b ys (zs ++ e ∷ []) ended sizes
   failed-nothing b none s = record {
     left = s.left;
     output = s.output;
-    queue = s.queue;
+    entries = s.entries;
     pending = s.pending;
     late = s.late;
     unnumbered = s.unnumbered;
@@ -34,21 +46,21 @@ module _ (o : Outcome) (accepted : List ℕ) (ys zs : List Event) (ended : Bool)
     marks = s.marks;
   }
 
-  module _ (h n : Outbound) (w v : Writability) (write : Option (List ℕ)) (makes : write_by e ≡ write ∷ []) (queue : n.queue.items ≡ h.queue.items) (writability : v ≡ w)
-      (s : BufferFailed o accepted (buffer_view h w) ys zs ended sizes) where
+  module _ (b b' : OutboundBufferView) (write : Option (List ℕ)) (makes : write_by e ≡ write ∷ []) (same : Renumbers b b')
+      (s : BufferFailed o accepted b ys zs ended sizes) where
     next_writes : writes_by (zs ++ e ∷ []) ≡ writes_by zs ++ write ∷ []
     next_writes = writes_by-append zs e ∙ ap (λ (ws : List (Option (List ℕ))). writes_by zs ++ ws) makes
 
     -- a write that gets a number
-    pub failed-numbered : h.is_full ≡ false → n.outcomes.items ≡ h.outcomes.items ++ late_outcome o write ∷ [] → BufferFailed o accepted (buffer_view n v) ys (zs ++ e ∷ []) ended sizes
+    pub failed-numbered : b.is_full ≡ false → b'.outcomes ≡ b.outcomes ++ late_outcome o write ∷ [] → BufferFailed o accepted b' ys (zs ++ e ∷ []) ended sizes
     failed-numbered goes is =
         let whole : s.late ≡ writes_by zs = sym (append-nil s.late) ∙ ap (λ (ws : List (Option (List ℕ))). s.late ++ ws) (sym (s.all goes)) ∙ s.split in
         let before : List (Option Outcome) = map (settled_by o) (outcomes ys (length accepted) ended) in
         record {
           left = s.left;
           output = s.output;
-          queue = queue ∙ s.queue;
-          pending = ap (λ (u : Writability). u.marks.pending) writability ∙ s.pending;
+          entries = ap (λ (v : OutboundBufferView). v.entries) same ∙ s.entries;
+          pending = ap (λ (v : OutboundBufferView). v.pending) same ∙ s.pending;
           late = s.late ++ write ∷ [];
           unnumbered = [];
           split = append-nil (s.late ++ write ∷ []) ∙ ap (λ (ws : List (Option (List ℕ))). ws ++ write ∷ []) whole ∙ sym next_writes;
@@ -57,57 +69,39 @@ module _ (o : Outcome) (accepted : List ℕ) (ys zs : List Event) (ended : Bool)
               is ∙ ap (λ (os : List (Option Outcome)). os ++ late_outcome o write ∷ []) s.outcomes_are
               ∙ append_assoc before (map (late_outcome o) s.late) (late_outcome o write ∷ [])
               ∙ ap (λ (os : List (Option Outcome)). before ++ os) (sym (map-append (late_outcome o) s.late (write ∷ [])));
-          marks = subst (λ (u : Writability). WritabilityStand u sizes) (sym writability) s.marks;
+          marks =
+              subst (λ (v : OutboundBufferView). Watermarks v.low v.high v.pending v.is_unwritable v.flags sizes) (sym same) s.marks;
         }
 
     -- a write that gets none
-    pub failed-unnumbered : n.is_full ≡ true → n.outcomes.items ≡ h.outcomes.items → BufferFailed o accepted (buffer_view n v) ys (zs ++ e ∷ []) ended sizes
+    pub failed-unnumbered : b'.is_full ≡ true → b'.outcomes ≡ b.outcomes → BufferFailed o accepted b' ys (zs ++ e ∷ []) ended sizes
     failed-unnumbered full is = record {
       left = s.left;
       output = s.output;
-      queue = queue ∙ s.queue;
-      pending = ap (λ (u : Writability). u.marks.pending) writability ∙ s.pending;
+      entries = ap (λ (v : OutboundBufferView). v.entries) same ∙ s.entries;
+      pending = ap (λ (v : OutboundBufferView). v.pending) same ∙ s.pending;
       late = s.late;
       unnumbered = s.unnumbered ++ write ∷ [];
       split = sym (append_assoc s.late s.unnumbered (write ∷ [])) ∙ ap (λ (ws : List (Option (List ℕ))). ws ++ write ∷ []) s.split ∙ sym next_writes;
       all = λ goes. cc (full, goes);
       outcomes_are = is ∙ s.outcomes_are;
-      marks = subst (λ (u : Writability). WritabilityStand u sizes) (sym writability) s.marks;
+      marks =
+          subst (λ (v : OutboundBufferView). Watermarks v.low v.high v.pending v.is_unwritable v.flags sizes) (sym same) s.marks;
     }
-
-    -- one or the other
-    pub failed-write : (n.is_full ≡ false → h.is_full ≡ false) → (n.is_full ≡ false → n.outcomes.items ≡ h.outcomes.items ++ late_outcome o write ∷ [])
-        → (n.is_full ≡ true → n.outcomes.items ≡ h.outcomes.items) → BufferFailed o accepted (buffer_view n v) ys (zs ++ e ∷ []) ended sizes
-    failed-write was placed full = by n.is_full refl
-      where
-        by : (b : Bool) → n.is_full ≡ b → BufferFailed o accepted (buffer_view n v) ys (zs ++ e ∷ []) ended sizes
-        by true is = failed-unnumbered is (full is)
-        by false is = failed-numbered (was is) (placed is)
 
 pub none_written : (o : Outcome) (ws : List (Option (List ℕ))) → map (late_outcome o) ws ≡ [] → ws ≡ []
 none_written o [] e = refl
 none_written o (w ∷ ws) e = cc e
 
--- the same, by what the write's outcome is
-module _ (o : Outcome) (accepted : List ℕ) (ys zs : List Event) (ended : Bool) (sizes : List Change) (e : Event) (h n : Outbound) (w v : Writability)
-    (queue : n.queue.items ≡ h.queue.items) (writability : v ≡ w) (s : BufferFailed o accepted (buffer_view h w) ys zs ended sizes) where
-  pub failed-late : (out : Outcome) → map (late_outcome o) (write_by e) ≡ Some out ∷ [] → (n.is_full ≡ false → h.is_full ≡ false)
-      → (n.is_full ≡ false → n.outcomes.items ≡ h.outcomes.items ++ Some out ∷ []) → (n.is_full ≡ true → n.outcomes.items ≡ h.outcomes.items) → BufferFailed o accepted (buffer_view n v) ys (zs ++ e ∷ []) ended sizes
-  failed-late out is was placed full = by (write_by e) refl
-    where
-      by : (ws : List (Option (List ℕ))) → write_by e ≡ ws → BufferFailed o accepted (buffer_view n v) ys (zs ++ e ∷ []) ended sizes
-      by [] makes = cc (is, makes)
-      by (write ∷ []) makes =
-          let same : late_outcome o write ≡ Some out = cc (is, makes) in
-          failed-write o accepted ys zs ended sizes e h n w v write makes queue writability s was (λ f. placed f ∙ ap (λ (t : Option Outcome). h.outcomes.items ++ t ∷ []) (sym same)) full
-      by (write ∷ other ∷ ws) makes = cc (is, makes)
+-- the write of which this is the outcome
+pub one_written : (o out : Outcome) (ws : List (Option (List ℕ))) → map (late_outcome o) ws ≡ Some out ∷ [] → (write : Option (List ℕ)) × (ws ≡ write ∷ []) × (late_outcome o write ≡ Some out)
+one_written o out [] e = cc e
+one_written o out (w ∷ []) e = (w, refl, cc e)
+one_written o out (w ∷ v ∷ ws) e = cc e
 
--- parts that are the same stand after the same
-pub stands-same : {accepted : List ℕ} {ys : List Event} {ended : Bool} {sizes : List Change} (h n : Outbound) (w v : Writability) → n.queue.items ≡ h.queue.items → n.offset ≡ h.offset → n.flushed ≡ h.flushed
-    → n.outcomes.items ≡ h.outcomes.items → v ≡ w → BufferStands accepted (buffer_view h w) ys ended sizes → BufferStands accepted (buffer_view n v) ys ended sizes
-stands-same {sizes = sizes} h n w v queue offset flushed outcomes writability s = record {
-  left = s.left;
-  queue = rw offset (same_parts queue flushed outcomes s.queue);
-  output = s.output;
-  marks = subst (λ (u : Writability). WritabilityStand u sizes) (sym writability) s.marks;
-}
+-- an event that makes a write makes one
+pub makes_one : (m : Message) → (write : Option (List ℕ)) × (write_by (Write m) ≡ write ∷ [])
+makes_one (Bytes b) = (Some b, refl)
+makes_one (Line b) = (None, refl)
+makes_one (Command c) = (None, refl)
+makes_one (Reply r) = (None, refl)

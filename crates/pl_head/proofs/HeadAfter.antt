@@ -6,16 +6,16 @@ use Rattle.pl_event.specs.declared.outcomes.Cause.{Cause}
 use Rattle.pl_head.specs.Writes.{writes_by, outcomes, waiting_bytes}
 use Rattle.pl_head.specs.Failures.{AreOutcomes}
 use Rattle.pl_head.specs.Marks.{Change, Removed}
-use Rattle.pl_head.specs.WritabilityStand.{Watermarks}
-use Rattle.pl_head.specs.Buffers.{WriteBufferView, BufferStands, BufferFailed}
+use Rattle.pl_head.specs.MarksStand.{Watermarks}
+use Rattle.pl_head.specs.Buffers.{OutboundBufferView, BufferStands, BufferFailed}
 use Rattle.pl_head.specs.HeadStand.{BufferAfter}
 
-pub marks_after : (f : Option Cause) (accepted : List ℕ) (b : WriteBufferView) (ys zs : List Event) (ended : Bool) (sizes : List Change) → BufferAfter f accepted b ys zs ended sizes
+pub marks_after : (f : Option Cause) (accepted : List ℕ) (b : OutboundBufferView) (ys zs : List Event) (ended : Bool) (sizes : List Change) → BufferAfter f accepted b ys zs ended sizes
     → Watermarks b.low b.high b.pending b.is_unwritable b.flags sizes
 marks_after None accepted b ys zs ended sizes s = s.1.marks
 marks_after (Some cause) accepted b ys zs ended sizes s = s.marks
 
-pub waiting_after : (f : Option Cause) (accepted : List ℕ) (b : WriteBufferView) (ys zs : List Event) (ended : Bool) (sizes : List Change) (size : ℕ) → BufferAfter f accepted b ys zs ended sizes → size ≡ b.pending
+pub waiting_after : (f : Option Cause) (accepted : List ℕ) (b : OutboundBufferView) (ys zs : List Event) (ended : Bool) (sizes : List Change) (size : ℕ) → BufferAfter f accepted b ys zs ended sizes → size ≡ b.pending
     → (BufferStands accepted b ys ended sizes → size ≡ waiting_bytes ys (length accepted) ended) → size ≡ (if is_some f then 0 else waiting_bytes ys (length accepted) ended)
 waiting_after None accepted b ys zs ended sizes size s is waits = waits s.1
 waiting_after (Some cause) accepted b ys zs ended sizes size s is waits = is ∙ s.pending
@@ -23,7 +23,7 @@ waiting_after (Some cause) accepted b ys zs ended sizes size s is waits = is ∙
 none_late : (zs : List Event) → zs ≡ [] → [] ≡ writes_by zs
 none_late zs e = rw e refl
 
-pub outcomes_after : (f : Option Cause) (accepted : List ℕ) (b : WriteBufferView) (ys zs : List Event) (ended : Bool) (sizes : List Change) (os : List (Option Outcome)) → BufferAfter f accepted b ys zs ended sizes → os ≡ b.outcomes
+pub outcomes_after : (f : Option Cause) (accepted : List ℕ) (b : OutboundBufferView) (ys zs : List Event) (ended : Bool) (sizes : List Change) (os : List (Option Outcome)) → BufferAfter f accepted b ys zs ended sizes → os ≡ b.outcomes
     → (BufferStands accepted b ys ended sizes → os ≡ outcomes ys (length accepted) ended) → AreOutcomes f b.is_full ys zs (length accepted) ended os
 outcomes_after None accepted b ys zs ended sizes os s is stand = record {
   late = [];
@@ -37,12 +37,12 @@ outcomes_after (Some cause) accepted b ys zs ended sizes os s is stand =
 
 -- ---- a head that has not failed
 
-pub unfailed : (f : Option Cause) (accepted : List ℕ) (b : WriteBufferView) (ys zs : List Event) (ended : Bool) (sizes : List Change) → is_some f ≡ false → BufferAfter f accepted b ys zs ended sizes → BufferStands accepted b ys ended sizes
+pub unfailed : (f : Option Cause) (accepted : List ℕ) (b : OutboundBufferView) (ys zs : List Event) (ended : Bool) (sizes : List Change) → is_some f ≡ false → BufferAfter f accepted b ys zs ended sizes → BufferStands accepted b ys ended sizes
 unfailed None accepted b ys zs ended sizes e s = s.1
 unfailed (Some cause) accepted b ys zs ended sizes e s = cc e
 
 -- some bytes were accepted
-pub wrote_after : (f : Option Cause) (accepted accepted' : List ℕ) (b b' : WriteBufferView) (ys zs : List Event) (ended : Bool) (sizes : List Change) → is_some f ≡ false → BufferAfter f accepted b ys zs ended sizes
+pub wrote_after : (f : Option Cause) (accepted accepted' : List ℕ) (b b' : OutboundBufferView) (ys zs : List Event) (ended : Bool) (sizes : List Change) → is_some f ≡ false → BufferAfter f accepted b ys zs ended sizes
     → BufferStands accepted' b' ys ended (sizes ++ Removed (waiting_bytes ys (length accepted) ended - waiting_bytes ys (length accepted') ended) ∷ [])
     → BufferAfter f accepted' b' ys zs ended (sizes ++ Removed ((if is_some f then 0 else waiting_bytes ys (length accepted) ended) - (if is_some f then 0 else waiting_bytes ys (length accepted') ended)) ∷ [])
 wrote_after None accepted accepted' b b' ys zs ended sizes e s t = (s.0, t)
@@ -53,7 +53,7 @@ removed_unfailed None before after e = refl
 removed_unfailed (Some cause) before after e = cc e
 
 -- it fails
-pub fail_after : (f : Option Cause) (o : Outcome) (accepted : List ℕ) (b b' : WriteBufferView) (ys zs : List Event) (ended : Bool) (sizes : List Change) → is_some f ≡ false → BufferAfter f accepted b ys zs ended sizes
+pub fail_after : (f : Option Cause) (o : Outcome) (accepted : List ℕ) (b b' : OutboundBufferView) (ys zs : List Event) (ended : Bool) (sizes : List Change) → is_some f ≡ false → BufferAfter f accepted b ys zs ended sizes
     → (BufferStands accepted b ys ended sizes → BufferFailed o accepted b' ys [] ended (sizes ++ Removed (waiting_bytes ys (length accepted) ended) ∷ []))
     → BufferFailed o accepted b' ys zs ended (sizes ++ Removed (if is_some f then 0 else waiting_bytes ys (length accepted) ended) ∷ [])
 fail_after None o accepted b b' ys zs ended sizes e s t = rw s.0 (t s.1)

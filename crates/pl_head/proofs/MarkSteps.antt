@@ -1,7 +1,11 @@
 -- What one change more does to the marks: it turns them or leaves them.
-use Rattle.std.proofs.Common.{◌≡◌, ℕ, ◌+◌, ◌-◌, ◌<◌, ◌≤◌, List, [], ◌∷◌, ◌++◌, Bool, true, false, ltb, ap, sym, ◌∙◌, refl, arith}
+use Rattle.std.proofs.Common.{◌≡◌, ℕ, ◌+◌, ◌-◌, ◌<◌, ◌≤◌, List, [], ◌∷◌, ◌++◌, length, Bool, true, false, ltb, ap, sym, ◌∙◌, refl, arith, append-nil, length-append}
 use Rattle.std.specs.Prelude.{if◌then◌else◌, nat_lt}
 use Rattle.std.proofs.lemmas.Bool.Decides.{nat_tests}
+use Rattle.pl_context.specs.declared.ports.Port.{Port}
+use Rattle.pl_context.specs.OutputsViews.{OutputsView}
+use Rattle.pl_context.specs.Ports.{FlagPasses}
+use Rattle.pl_head.specs.MarksStand.{Watermarks, SendsFlags}
 use Rattle.pl_head.specs.Marks.{Change, Added, Removed, added_by, removed_by, changed, pending_from, pending_after, levels_from, flags, flags_from, is_unwritable, unwritable_from}
 
 -- changes behind others
@@ -86,3 +90,34 @@ pub stays_above : (low high : ℕ) (cs : List Change) (c : Change) → true ≡ 
 stays_above low high cs c b h =
     let test : ltb (changed (pending_after cs) c) low ≡ false = grind (arith, nat_tests) in
     turns low high cs c true true [] b (rw test refl) (rw test refl)
+
+-- ---- the marks and their flags after one change more
+
+module _ {low high : ℕ} {cs : List Change} {c : Change} {after : Bool} where
+  module _ (p : Port) {pending : ℕ} (is : pending ≡ pending_after (cs ++ c ∷ [])) (exact : pending + removed_by (cs ++ c ∷ []) ≡ added_by (cs ++ c ∷ []))
+      (sent : p.is_open ≡ true → p.made ≡ length (flags low high cs)) where
+    -- it sends none
+    pub stands-still : Turns low high cs c after [] → Watermarks low high pending after p (cs ++ c ∷ [])
+    stands-still t = record {
+      pending_is = is;
+      exact = exact;
+      unwritable_is = sym t.last;
+      sent = λ goes. sent goes ∙ ap (λ (fs : List Bool). length fs) (sym (t.flags ∙ append-nil (flags low high cs)));
+    }
+
+    -- it sends one
+    pub stands-turned : {value : Bool} {p' : Port} → Turns low high cs c after (value ∷ []) → (p'.is_open ≡ true → p.is_open ≡ true) → (p'.is_open ≡ true → p'.made ≡ p.made + 1)
+        → Watermarks low high pending after p' (cs ++ c ∷ [])
+    stands-turned {value = value} t goes_on one = record {
+      pending_is = is;
+      exact = exact;
+      unwritable_is = sym t.last;
+      sent = λ goes. omega (arith, sent (goes_on goes), one goes, ap (λ (fs : List Bool). length fs) t.flags, length-append (flags low high cs) (value ∷ []));
+    }
+
+  pub sends_none : {p : Port} {before : OutputsView} → Turns low high cs c after [] → SendsFlags low high cs (c ∷ []) p before p before
+  sends_none t = record { added = []; flags_are = t.flags; passes = (refl, refl) }
+
+  pub sends_one : {value : Bool} {p p' : Port} {before between : OutputsView} → Turns low high cs c after (value ∷ []) → FlagPasses p value before p' between → SendsFlags low high cs (c ∷ []) p before p' between
+  sends_one {value = value} {p' = p'} {between = between} t passes =
+      record { added = value ∷ []; flags_are = t.flags; passes = (p', between, passes, (refl, refl)) }

@@ -3,7 +3,7 @@ use Rattle.std.proofs.Common.{◌≡◌, ℕ, ◌+◌, ◌<◌, ◌≤◌, List,
 use Rattle.std.proofs.lemmas.List.{length-drop}
 use Rattle.std.proofs.lemmas.Bool.Decides.{nat_tests}
 use Rattle.pl_event.specs.declared.outcomes.Outcome.{Outcome}
-use Rattle.pl_head.specs.declared.outbound.Waiting.{Waiting}
+use Rattle.pl_head.specs.declared.outbound_buffer.Entry.{Entry}
 use Rattle.pl_head.specs.Writes.{bytes_of, offered}
 use Rattle.pl_head.specs.WaitingMessages.{numbered, first_size, MessagesStand}
 use Rattle.pl_head.proofs.Buffering.{bytes_of-append}
@@ -18,7 +18,7 @@ offered-done start accepted (Some b ∷ done) ws h =
     let e : (start + length b) + length (bytes_of done) ≡ start + length (b ++ bytes_of done) = omega (arith, size) in
     rw test (offered-done (start + length b) accepted done ws (omega (arith, e, h)) ∙ ap (λ (k : ℕ). offered k accepted ws) e)
 
-offered-first : (n start accepted offset : ℕ) (ws : List (Option (List ℕ))) (more : List Waiting) → 0 < length (numbered n ws) → accepted ≡ start + offset → offset < first_size (numbered n ws ++ more)
+offered-first : (n start accepted offset : ℕ) (ws : List (Option (List ℕ))) (more : List Entry) → 0 < length (numbered n ws) → accepted ≡ start + offset → offset < first_size (numbered n ws ++ more)
     → offered start accepted ws + offset ≡ first_size (numbered n ws ++ more)
 offered-first n start accepted offset [] more some at below = absurd (omega (arith, some))
 offered-first n start accepted offset (None ∷ ws) more some at below = offered-first (n + 1) start accepted offset ws more some at below
@@ -26,8 +26,8 @@ offered-first n start accepted offset (Some b ∷ ws) more some at below =
     let test : leb (start + length b) accepted ≡ false = grind (arith, nat_tests) in
     rw test (omega (arith, at, below))
 
-module _ (queue : List Waiting) (offset count : ℕ) (outcomes : List (Option Outcome)) (flushed unflushed : List (Option (List ℕ))) (left : List ℕ) (ended : Bool)
-    (s : MessagesStand queue offset count outcomes flushed unflushed left ended) (accepted : ℕ) (whole : accepted + length left ≡ length (bytes_of flushed)) where
+module _ (entries : List Entry) (offset count : ℕ) (outcomes : List (Option Outcome)) (flushed unflushed : List (Option (List ℕ))) (left : List ℕ) (ended : Bool)
+    (s : MessagesStand entries offset count outcomes flushed unflushed left ended) (accepted : ℕ) (whole : accepted + length left ≡ length (bytes_of flushed)) where
   place : accepted ≡ length (bytes_of s.done) + offset
   place =
       let parts = ap (λ (t : List (Option (List ℕ))). length (bytes_of t)) (sym s.split) ∙ ap (λ (t : List ℕ). length t) (bytes_of-append s.done s.mid) ∙ length-append (bytes_of s.done) (bytes_of s.mid) in
@@ -38,11 +38,11 @@ module _ (queue : List Waiting) (offset count : ℕ) (outcomes : List (Option Ou
       ap (λ (t : List (Option (List ℕ))). offered 0 accepted t) (sym s.split) ∙ offered-done 0 accepted s.done s.mid (omega (arith, place))
 
   -- what is left of the first message is offered
-  pub offers_first : 0 < count → offset < first_size queue → offered 0 accepted flushed + offset ≡ first_size queue
+  pub offers_first : 0 < count → offset < first_size entries → offered 0 accepted flushed + offset ≡ first_size entries
   offers_first some below =
-      let more : List Waiting = (if ended then [] else numbered (length flushed) unflushed) in
+      let more : List Entry = (if ended then [] else numbered (length flushed) unflushed) in
       let filled : 0 < length (numbered (length s.done) s.mid) = omega (arith, some, s.count_is) in
-      let size = ap first_size s.queue_is in
+      let size = ap first_size s.entries_are in
       let below' : offset < first_size (numbered (length s.done) s.mid ++ more) = omega (arith, below, size) in
       ap (λ (k : ℕ). k + offset) to_mid
       ∙ offered-first (length s.done) (0 + length (bytes_of s.done)) accepted offset s.mid more filled (omega (arith, place)) below'

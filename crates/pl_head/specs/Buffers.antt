@@ -1,22 +1,22 @@
--- What contracts see of a head's write buffer, and the events and sizes after which it may stand.
-use Rattle.std.specs.Prelude.{◌≡◌, ◌⊎◌, ℕ, ◌-◌, List, [], ◌∷◌, ◌++◌, length, drop, map, Bool, true, false, Option, Some, None, if◌then◌else◌}
+-- What contracts see of an outbound buffer, and the events and sizes after which it may stand.
+use Rattle.std.specs.Prelude.{◌≡◌, ◌⊎◌, ℕ, ◌-◌, ◌<◌, List, [], ◌∷◌, ◌++◌, length, drop, map, Bool, true, false, Option, Some, None, if◌then◌else◌}
 use Rattle.pl_event.specs.declared.events.Event.{Event}
 use Rattle.pl_event.specs.declared.outcomes.Outcome.{Outcome}
 use Rattle.pl_context.specs.declared.ports.Port.{Port}
-use Rattle.pl_head.specs.declared.outbound.Waiting.{Waiting}
+use Rattle.pl_head.specs.declared.outbound_buffer.Entry.{Entry}
 use Rattle.pl_head.specs.Writes.{write_by, writes_by, is_flush, flushed_writes, unflushed_writes, late_outcome, out, outcomes}
 use Rattle.pl_head.specs.Failures.{settled_by}
 use Rattle.pl_head.specs.Settling.{GoesOn}
-use Rattle.pl_head.specs.WaitingMessages.{MessagesStand}
+use Rattle.pl_head.specs.WaitingMessages.{MessagesStand, first_size, entries_size}
 use Rattle.pl_head.specs.Marks.{Change, Added, Removed}
-use Rattle.pl_head.specs.WritabilityStand.{Watermarks}
+use Rattle.pl_head.specs.MarksStand.{Watermarks}
 
 -- The messages that wait, the first of them flushed, with an offset into the first; the outcome of each write; the
 -- marks with the bytes that wait; where flags go up; and for how many more messages, and more outcomes, there is room
 -- without a growth. Then the numbers of the settled writes in the order of settling, and how many of them were told;
 -- and whether a write found no place for its outcome, so that none gets a number any more.
-pub record WriteBufferView : Type 0 where
-  pub queue : List Waiting
+pub record OutboundBufferView : Type 0 where
+  pub entries : List Entry
   pub offset : ℕ
   pub flushed : ℕ
   pub outcomes : List (Option Outcome)
@@ -25,7 +25,7 @@ pub record WriteBufferView : Type 0 where
   pub pending : ℕ
   pub is_unwritable : Bool
   pub flags : Port
-  pub messages_room : ℕ
+  pub entries_room : ℕ
   pub outcomes_room : ℕ
   pub settled : List ℕ
   pub told : ℕ
@@ -34,19 +34,21 @@ pub record WriteBufferView : Type 0 where
 -- The buffer may stand after these events, when these bytes of their output were accepted and the lane has ended or
 -- not, and after these sizes were added and removed: it holds what is left of the output, and with what was accepted
 -- that is the whole.
-pub record BufferStands (accepted : List ℕ) (b : WriteBufferView) (ys : List Event) (ended : Bool) (sizes : List Change) : Type 0 where
+pub record BufferStands (accepted : List ℕ) (b : OutboundBufferView) (ys : List Event) (ended : Bool) (sizes : List Change) : Type 0 where
   pub left : List ℕ
-  pub queue : MessagesStand b.queue b.offset b.flushed b.outcomes (flushed_writes ys) (unflushed_writes ys) left ended
+  pub messages : MessagesStand b.entries b.offset b.flushed b.outcomes (flushed_writes ys) (unflushed_writes ys) left ended
   pub output : accepted ++ left ≡ out ys
+  pub at_rest : 0 < b.flushed → b.offset < first_size b.entries
+  pub size : b.pending ≡ entries_size b.entries
   pub marks : Watermarks b.low b.high b.pending b.is_unwritable b.flags sizes
 
 -- The buffer of a head that has failed by itself: nothing waits. It may stand after the events ys, taken before the
 -- failure, and zs, taken from it on, when the failure settled by this outcome: what waited was settled, and the first
 -- writes of zs got a number and are settled, all of them where numbering goes on.
-pub record BufferFailed (o : Outcome) (accepted : List ℕ) (b : WriteBufferView) (ys zs : List Event) (ended : Bool) (sizes : List Change) : Type 0 where
+pub record BufferFailed (o : Outcome) (accepted : List ℕ) (b : OutboundBufferView) (ys zs : List Event) (ended : Bool) (sizes : List Change) : Type 0 where
   pub left : List ℕ
   pub output : accepted ++ left ≡ out ys
-  pub queue : b.queue ≡ []
+  pub entries : b.entries ≡ []
   pub pending : b.pending ≡ 0
   pub late : List (Option (List ℕ))
   pub unnumbered : List (Option (List ℕ))
@@ -56,26 +58,26 @@ pub record BufferFailed (o : Outcome) (accepted : List ℕ) (b : WriteBufferView
   pub marks : Watermarks b.low b.high b.pending b.is_unwritable b.flags sizes
 
 -- more writes are settled after those before, and no more are told
-pub record SettlesMore (b b' : WriteBufferView) : Type 0 where
+pub record SettlesMore (b b' : OutboundBufferView) : Type 0 where
   pub settled : GoesOn b.settled b'.settled
   pub told : b'.told ≡ b.told
 
 -- Numbering stops only where there was no room for one outcome more, and does not begin again.
-pub record StopsNumbers (b b' : WriteBufferView) : Type 0 where
+pub record StopsNumbers (b b' : OutboundBufferView) : Type 0 where
   pub only : b'.is_full ≡ true → (b.is_full ≡ true) ⊎ (b.outcomes_room ≡ 0)
   pub stays : b.is_full ≡ true → b'.is_full ≡ true
 
 -- the numbers of the settled writes that were not told yet
-abbrev pub untold : WriteBufferView → List ℕ
+abbrev pub untold : OutboundBufferView → List ℕ
 untold b = drop b.told b.settled
 
 -- An event finds no place: it makes a write, and there is no room for one more.
-pub record LacksRoom (e : Event) (b : WriteBufferView) : Type 0 where
+pub record LacksRoom (e : Event) (b : OutboundBufferView) : Type 0 where
   pub write : length (write_by e) ≡ 1
-  pub full : (b.messages_room ≡ 0) ⊎ (b.outcomes_room ≡ 0)
+  pub full : (b.entries_room ≡ 0) ⊎ (b.outcomes_room ≡ 0)
 
 -- the marks and the lane of flags stay
-pub record SameMarks (b b' : WriteBufferView) : Type 0 where
+pub record SameMarks (b b' : OutboundBufferView) : Type 0 where
   pub low : b'.low ≡ b.low
   pub high : b'.high ≡ b.high
   pub lane : b'.flags.lane ≡ b.flags.lane

@@ -23,10 +23,10 @@ use Rattle.pl_head.specs.declared.heads.ReadStep.TheVariants as reads
 use Rattle.pl_head.specs.Writes.{out, waiting_bytes}
 use Rattle.pl_head.specs.Marks.{Change, Removed}
 use Rattle.pl_head.specs.Transports.{TransportState}
-use Rattle.pl_head.specs.WritabilityStand.{SendsFlags}
+use Rattle.pl_head.specs.MarksStand.{SendsFlags}
 use Rattle.pl_head.specs.Failures.{failure_outcome, AreOutcomes}
 use Rattle.pl_head.specs.Settling.{AreSettled}
-use Rattle.pl_head.specs.Buffers.{WriteBufferView, BufferStands, BufferFailed, event_sizes}
+use Rattle.pl_head.specs.Buffers.{OutboundBufferView, BufferStands, BufferFailed, event_sizes}
 use Rattle.pl_head.specs.ReadSteps.{entrance, is_burst, bursts_read}
 use Rattle.pl_head.specs.InputStand.{InputView, InputStands, failed_input}
 
@@ -40,11 +40,11 @@ pub record HeadView (T : Type 0) : Type 0 where
   pub standing : Standing
   pub failure : Option Cause
   pub is_closed : Bool
-  pub buffer : WriteBufferView
+  pub buffer : OutboundBufferView
   pub input : InputView
 
 -- the buffer of a head that has failed by itself for this cause, or not
-abbrev pub BufferAfter : Option Cause → List ℕ → WriteBufferView → List Event → List Event → Bool → List Change → Type 0
+abbrev pub BufferAfter : Option Cause → List ℕ → OutboundBufferView → List Event → List Event → Bool → List Change → Type 0
 BufferAfter None accepted b ys zs ended sizes = (zs ≡ []) × BufferStands accepted b ys ended sizes
 BufferAfter (Some cause) accepted b ys zs ended sizes = BufferFailed (failure_outcome cause) accepted b ys zs ended sizes
 
@@ -178,7 +178,7 @@ pub record Aborts {T : Type 0} (state : T → TransportState) (h : HeadView T) (
   pub same : h' ≡ record h { failure = Some Aborted; buffer = h'.buffer; input = failed_input h.input }
 
 -- what is true of every head
-pub record IsHead (channel taken : ℕ) (failure : Option Cause) (is_closed : Bool) (b : WriteBufferView) (input : InputView) : Type 0 where
+pub record IsHead (channel taken : ℕ) (failure : Option Cause) (is_closed : Bool) (b : OutboundBufferView) (input : InputView) : Type 0 where
   pub lane : b.flags.lane ≡ flags_lane channel 0
   pub entrance_is : input.port.lane ≡ entrance channel
   pub pending : b.pending ≤ taken * 2 ^ 64

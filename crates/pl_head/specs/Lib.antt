@@ -1,16 +1,13 @@
 pub mod Writes
 pub mod Failures
 pub mod Settling
-pub mod Effects
 pub mod WaitingMessages
 pub mod OutboundStand
 pub mod Transports
 pub mod Marks
 pub mod FlagLanes
 pub mod MarksStand
-pub mod WritabilityStand
 pub mod ReadSteps
 pub mod InputStand
 pub mod Buffers
-pub mod WriteBuffers
 pub mod HeadStand

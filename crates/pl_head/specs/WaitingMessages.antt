@@ -3,19 +3,19 @@ use Rattle.std.specs.Prelude.{slice_set, ◌≡◌, ℕ, ◌+◌, ◌≤◌, Lis
 use Rattle.pl_event.specs.declared.outcomes.Outcome.{Outcome}
 use Rattle.pl_event.specs.declared.outcomes.Outcome.TheVariants.{Success, Unsupported}
 use Rattle.pl_head.specs.Writes.{bytes_of, waiting, unflushed_outcome}
-use Rattle.pl_head.specs.declared.outbound.Waiting.{Waiting}
+use Rattle.pl_head.specs.declared.outbound_buffer.Entry.{Entry}
 
 -- the length of the first message, or 0
-abbrev pub first_size : List Waiting → ℕ
+abbrev pub first_size : List Entry → ℕ
 first_size [] = 0
-first_size (w ∷ ws) = length w.bytes
+first_size (e ∷ es) = length e.bytes
 
 -- the bytes of all messages together
-abbrev pub queue_size : List Waiting → ℕ
-queue_size ws = sum_by (λ w. length w.bytes) ws
+abbrev pub entries_size : List Entry → ℕ
+entries_size es = sum_by (λ e. length e.bytes) es
 
 -- the messages among these writes, with the numbers of the writes, of which the first is n
-abbrev pub numbered : ℕ → List (Option (List ℕ)) → List Waiting
+abbrev pub numbered : ℕ → List (Option (List ℕ)) → List Entry
 numbered n [] = []
 numbered n (None ∷ ws) = numbered (n + 1) ws
 numbered n (Some b ∷ ws) = record { number = n; bytes = b } ∷ numbered (n + 1) ws
@@ -25,24 +25,24 @@ abbrev pub settled : Option (List ℕ) → Option Outcome
 settled None = Some Unsupported
 settled (Some b) = Some Success
 
--- A queue of which the first messages are flushed, with an offset into the first, and outcomes. They may stand after
+-- Messages of which the first are flushed, with an offset into the first, and outcomes. They may stand after
 -- these flushed and unflushed writes, when these bytes of the output are left, and the lane has ended or not: some
 -- flushed writes are done, and the others wait.
-pub record MessagesStand (queue : List Waiting) (offset count : ℕ) (outcomes : List (Option Outcome)) (flushed unflushed : List (Option (List ℕ))) (left : List ℕ) (ended : Bool) : Type 0 where
+pub record MessagesStand (entries : List Entry) (offset count : ℕ) (outcomes : List (Option Outcome)) (flushed unflushed : List (Option (List ℕ))) (left : List ℕ) (ended : Bool) : Type 0 where
   pub done : List (Option (List ℕ))
   pub mid : List (Option (List ℕ))
   pub split : done ++ mid ≡ flushed
-  pub queue_is : queue ≡ numbered (length done) mid ++ (if ended then [] else numbered (length flushed) unflushed)
+  pub entries_are : entries ≡ numbered (length done) mid ++ (if ended then [] else numbered (length flushed) unflushed)
   pub count_is : count ≡ length (numbered (length done) mid)
   pub outcomes_are : outcomes ≡ map settled done ++ (map waiting mid ++ map (unflushed_outcome ended) unflushed)
   pub rest : drop offset (bytes_of mid) ≡ left
   pub fits : offset ≤ length (bytes_of mid)
 
 -- the numbers of their writes
-abbrev pub numbers_of : List Waiting → List ℕ
-numbers_of ws = map (λ w. w.number) ws
+abbrev pub numbers_of : List Entry → List ℕ
+numbers_of es = map (λ e. e.number) es
 
 -- the outcomes once these messages are settled by this one
-abbrev pub settled_all : Outcome → List Waiting → List (Option Outcome) → List (Option Outcome)
+abbrev pub settled_all : Outcome → List Entry → List (Option Outcome) → List (Option Outcome)
 settled_all o [] os = os
-settled_all o (w ∷ ws) os = settled_all o ws (slice_set os w.number (Some o))
+settled_all o (e ∷ es) os = settled_all o es (slice_set os e.number (Some o))

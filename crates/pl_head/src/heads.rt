@@ -17,13 +17,13 @@ ghost use Rattle.pl_head.specs.Settling.{AreSettled};
 ghost use Rattle.pl_head.specs.Marks.{Change, Removed, pending_after, added_by, removed_by, is_unwritable};
 ghost use Rattle.pl_event.specs.Hops.{flags_lane};
 ghost use Rattle.pl_event.specs.Worlds.{closes};
-ghost use Rattle.pl_head.specs.WritabilityStand.{SendsFlags};
+ghost use Rattle.pl_head.specs.MarksStand.{SendsFlags};
 ghost use Rattle.pl_head.specs.Transports.{counted, FailsNext};
 ghost use Rattle.pl_head.specs.HeadStand.{first_cause};
 
 use crate::inputs::{Input, ReadPlan};
+use crate::outbound_buffer::OutboundBuffer;
 use crate::transports::Transport;
-use crate::write_buffer::WriteBuffer;
 use pl_context::{Outputs, Standing, Took};
 use pl_event::{ByteString, Cause, Envelope, Event, Item, Kind, Lane, Outcome, Sequence};
 use std::alloc::{AllocError, Global};
@@ -72,7 +72,7 @@ pub struct Head<T> {
     failure: Option<Cause>,
     /// Its lane has ended or failed since then, which its standing does not note.
     is_closed: bool,
-    buffer: WriteBuffer,
+    buffer: OutboundBuffer,
     input: Input,
 }
 
@@ -81,11 +81,11 @@ impl<T> Model for Head<T> {
 
     ghost Value = { HeadView T };
 
-    ghost use Rattle.pl_head.specs.WriteBuffers.{write_buffer_view};
+    ghost use Rattle.pl_head.specs.OutboundStand.{buffer_view};
 
-    ghost view = { λ h. record { transport = h.transport; channel = h.channel; hop = h.hop; taken = h.taken; standing = h.standing; failure = h.failure; is_closed = h.is_closed; buffer = write_buffer_view h.buffer; input = h.input } };
+    ghost view = { λ h. record { transport = h.transport; channel = h.channel; hop = h.hop; taken = h.taken; standing = h.standing; failure = h.failure; is_closed = h.is_closed; buffer = buffer_view h.buffer; input = h.input } };
 
-    ghost invariant = { λ h. IsHead h.channel h.taken h.failure h.is_closed (write_buffer_view h.buffer) h.input };
+    ghost invariant = { λ h. IsHead h.channel h.taken h.failure h.is_closed (buffer_view h.buffer) h.input };
 }
 
 impl<T: Transport> Head<T> {
@@ -127,7 +127,7 @@ impl<T: Transport> Head<T> {
             standing: Standing::Open,
             failure: None,
             is_closed: false,
-            buffer: WriteBuffer::new(alloc, channel, low, high),
+            buffer: OutboundBuffer::new(alloc, channel, low, high),
             input: Input::new(channel, input),
         }
     }
@@ -409,12 +409,12 @@ impl<T: Transport> Head<T> {
         if self.failure.is_some() {
             return OutStep::Idle;
         }
-        match self.buffer.front() {
+        match self.buffer.current() {
             None => OutStep::Idle,
             Some(bytes) => match self.transport.write(bytes) {
                 Ok(0) => OutStep::Wrote(0),
                 Ok(count) => {
-                    self.buffer.wrote(count, outputs);
+                    self.buffer.remove_bytes(count, outputs);
                     OutStep::Wrote(count)
                 }
                 Err(_) => {

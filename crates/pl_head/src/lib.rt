@@ -1,16 +1,13 @@
 //! The head of a channel: where its bytes leave, and what it reads.
 #![tactic(auto)]
 
-mod effects;
 mod flag_laws;
 mod heads;
 mod inputs;
 mod marks;
-mod outbound;
+mod outbound_buffer;
 mod transports;
 mod watermark_laws;
-mod writability;
-mod write_buffer;
 
 pub use flag_laws::flag_law;
 pub use heads::{Head, OutStep, ReadStep, Written};

@@ -37,7 +37,7 @@ use Rattle.pl_head.specs.declared.heads.ReadStep.{ReadStep}
 use Rattle.pl_head.specs.declared.heads.ReadStep.TheVariants as reading
 use Rattle.pl_head.specs.Marks.{Change, Removed, flags}
 use Rattle.pl_head.specs.Transports.{TransportState}
-use Rattle.pl_head.specs.WritabilityStand.{SendsFlags}
+use Rattle.pl_head.specs.MarksStand.{SendsFlags}
 use Rattle.pl_head.specs.ReadSteps.{entrance, bursts_read, plan_steps, has_step, read_items, step_items, is_abort, brings_failure, brings_abort, next_step_items, steps_after}
 use Rattle.pl_head.specs.InputStand.{InputView, InputStands}
 use Rattle.pl_head.specs.HeadStand.{HeadView, BufferAfter, StandsAfter, ReadsStand, Aborts, EntersHead, lane_over, Answers, waiting_at, events_before, events_from, item_sizes, standing_after, first_cause, cause_of_item, cause_of_step, step_sizes, HasFewFlags}

@@ -12,7 +12,7 @@ use Rattle.pl_event.specs.Meaning.{Meaning}
 use Rattle.pl_event.specs.Worlds.{World}
 use Rattle.pl_head.specs.Marks.{Change, levels_from, pending_from, pending_after, changed, is_unwritable, unwritable_from}
 use Rattle.pl_head.specs.Transports.{TransportState}
-use Rattle.pl_head.specs.Buffers.{WriteBufferView, untold}
+use Rattle.pl_head.specs.Buffers.{OutboundBufferView, untold}
 use Rattle.pl_head.specs.HeadStand.{HeadView, BufferAfter, StandsAfter}
 use Rattle.pl_head.proofs.HeadAfter.{marks_after}
 use Rattle.pl_part.specs.HeadHolds.{HeadHolds}
@@ -48,12 +48,12 @@ module _ {T : Type 0} (state : T → TransportState) (world : World) (h : HeadVi
   pending-is n is =
       let took = holds.holds.took in
       let marks = marks_after h.failure (state h.transport).accepted h.buffer took.ys took.zs _ took.sizes took.after in
-      is took.ys took.zs took.sizes took.after ∙ sym marks.marks.pending_is
+      is took.ys took.zs took.sizes took.after ∙ sym marks.pending_is
 
   pub head-marked : h.buffer.low ≤ h.buffer.high → (h.buffer.high < h.buffer.pending → h.buffer.is_unwritable ≡ true) × (h.buffer.pending < h.buffer.low → h.buffer.is_unwritable ≡ false)
   head-marked ordered =
       let took = holds.holds.took in
-      let marks = (marks_after h.failure (state h.transport).accepted h.buffer took.ys took.zs _ took.sizes took.after).marks in
+      let marks = marks_after h.failure (state h.transport).accepted h.buffer took.ys took.zs _ took.sizes took.after in
       let m = marked h.buffer.low h.buffer.high ordered took.sizes in
       let same = marks.pending_is in
       (λ above. marks.unwritable_is ∙ m.0 (omega (arith, above, same)), λ below. marks.unwritable_is ∙ m.1 (omega (arith, below, same)))
@@ -75,13 +75,13 @@ same-head p h k at there = same_Some h k (sym at ∙ there)
 
 -- ---- what was told
 
-told-after : (f : Option Cause) (accepted : List ℕ) (b : WriteBufferView) (n : ℕ) (ys zs : List Event) (ended : Bool) (sizes : List Change) → BufferAfter f accepted b ys zs ended sizes
+told-after : (f : Option Cause) (accepted : List ℕ) (b : OutboundBufferView) (n : ℕ) (ys zs : List Event) (ended : Bool) (sizes : List Change) → BufferAfter f accepted b ys zs ended sizes
     → BufferAfter f accepted (record b { told = n }) ys zs ended sizes
-told-after None accepted b n ys zs ended sizes s = (s.0, record { left = s.1.left; queue = s.1.queue; output = s.1.output; marks = s.1.marks })
+told-after None accepted b n ys zs ended sizes s = (s.0, record { left = s.1.left; messages = s.1.messages; output = s.1.output; at_rest = s.1.at_rest; size = s.1.size; marks = s.1.marks })
 told-after (Some cause) accepted b n ys zs ended sizes s = record {
   left = s.left;
   output = s.output;
-  queue = s.queue;
+  entries = s.entries;
   pending = s.pending;
   late = s.late;
   unnumbered = s.unnumbered;

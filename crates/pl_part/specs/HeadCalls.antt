@@ -18,7 +18,7 @@ use Rattle.pl_head.specs.declared.heads.ReadStep.TheVariants as reading
 use Rattle.pl_head.specs.Marks.{Change}
 use Rattle.pl_head.specs.Writes.{offered, flushed_writes}
 use Rattle.pl_head.specs.Buffers.{SameMarks, SettlesMore, StopsNumbers, LacksRoom}
-use Rattle.pl_head.specs.WritabilityStand.{SendsFlags}
+use Rattle.pl_head.specs.MarksStand.{SendsFlags}
 use Rattle.pl_head.specs.Transports.{TransportState, counted, FailsNext}
 use Rattle.pl_head.specs.ReadSteps.{entrance, bursts_read, has_step, read_items, brings_failure, brings_abort, next_step_items, steps_after}
 use Rattle.pl_head.specs.HeadStand.{HeadView, StandsAfter, ReadsStand, Aborts, lane_over, Answers, read_answer, is_held, is_idle, waiting_at, events_before, events_from, item_sizes, step_sizes, standing_after, cause_of_item, cause_of_step, first_cause, HasFewFlags}

@@ -3,7 +3,7 @@ use Rattle.pl_event.specs.declared.outcomes.Outcome.TheVariants.{Closed}
 use Rattle.pl_event.specs.declared.outcomes.Cause.TheVariants.{Aborted}
 use Rattle.pl_head.specs.InputStand.{InputView}
 use Rattle.pl_context.specs.Standings.{is_over}
-use Rattle.pl_head.specs.WriteBuffers.{write_buffer_view}
+use Rattle.pl_head.specs.OutboundStand.{buffer_view}
 use Rattle.pl_head.proofs.BufferSteps.{same_flags}
 use Rattle.pl_head.proofs.HeadAfter.{unfailed, fail_after, removed_all}
 use Rattle.pl_head.proofs.heads.Head.abort.Goals as goal
@@ -17,9 +17,9 @@ returns-clause-aborts g c =
     let none : is_some c.self.inside.failure ≡ false = sym c.is_some.ensures ∙ c.if-is_some.false in
     record {
       between = c.fail.new.outputs;
-      stands = λ ys zs sizes s. fail_after c.self.inside.failure Closed accepted (write_buffer_view c.self.inside.buffer) (write_buffer_view c.fail.new.self) ys zs (is_over c.self.inside.standing) sizes none s (λ t. c.fail.ensures.stands accepted ys (is_over c.self.inside.standing) sizes t);
-      flags = λ ys zs sizes s. same_flags sizes (removed_all c.self.inside.failure _ none) (c.fail.ensures.flags accepted ys (is_over c.self.inside.standing) sizes (unfailed c.self.inside.failure accepted (write_buffer_view c.self.inside.buffer) ys zs (is_over c.self.inside.standing) sizes none s));
+      stands = λ ys zs sizes s. fail_after c.self.inside.failure Closed accepted (buffer_view c.self.inside.buffer) (buffer_view c.fail.new.self) ys zs (is_over c.self.inside.standing) sizes none s (λ t. c.fail.ensures.stands accepted ys (is_over c.self.inside.standing) sizes t);
+      flags = λ ys zs sizes s. same_flags sizes (removed_all c.self.inside.failure _ none) (c.fail.ensures.flags accepted ys (is_over c.self.inside.standing) sizes (unfailed c.self.inside.failure accepted (buffer_view c.self.inside.buffer) ys zs (is_over c.self.inside.standing) sizes none s));
       puts = c.fail-2.ensures.puts;
       same =
-          ap (λ (i : InputView). record { transport = inside.transport; channel = inside.channel; hop = inside.hop; taken = inside.taken; standing = inside.standing; failure = Some Aborted; is_closed = inside.is_closed; buffer = write_buffer_view c.fail.new.self; input = i }) c.fail-2.ensures.after;
+          ap (λ (i : InputView). record { transport = inside.transport; channel = inside.channel; hop = inside.hop; taken = inside.taken; standing = inside.standing; failure = Some Aborted; is_closed = inside.is_closed; buffer = buffer_view c.fail.new.self; input = i }) c.fail-2.ensures.after;
     })

@@ -1,6 +1,6 @@
 use Rattle.std.proofs.Common.{◌∙◌}
 use Rattle.pl_context.specs.Standings.{is_over}
-use Rattle.pl_head.specs.WriteBuffers.{write_buffer_view}
+use Rattle.pl_head.specs.OutboundStand.{buffer_view}
 use Rattle.pl_head.proofs.HeadAfter.{outcomes_after}
 use Rattle.pl_head.proofs.heads.Head.copies.Goals as goal
 
@@ -10,4 +10,4 @@ returns-clause-outcomes g c =
     (λ ys zs sizes s.
     let accepted = (g.T.Transport.state c.self.inside.transport).accepted in
     let copied = c.from_vec-2.ensures ∙ c.in_ok-outcomes.ensures.items in
-    outcomes_after c.self.inside.failure accepted (write_buffer_view c.self.inside.buffer) ys zs (is_over c.self.inside.standing) sizes _ s (copied ∙ c.outcomes.ensures.view) (λ t. copied ∙ c.outcomes.ensures.stands accepted ys (is_over c.self.inside.standing) sizes t))
+    outcomes_after c.self.inside.failure accepted (buffer_view c.self.inside.buffer) ys zs (is_over c.self.inside.standing) sizes _ s (copied ∙ c.outcomes.ensures.view) (λ t. copied ∙ c.outcomes.ensures.stands accepted ys (is_over c.self.inside.standing) sizes t))

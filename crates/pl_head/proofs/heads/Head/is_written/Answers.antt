@@ -1,6 +1,6 @@
 use Rattle.std.proofs.Common.{◌≡◌, false, is_some, sym, ◌∙◌}
 use Rattle.pl_context.specs.Standings.{is_over}
-use Rattle.pl_head.specs.WriteBuffers.{write_buffer_view}
+use Rattle.pl_head.specs.OutboundStand.{buffer_view}
 use Rattle.pl_head.proofs.HeadAfter.{unfailed}
 use Rattle.pl_head.proofs.Accepting.{unless_failed}
 use Rattle.pl_head.proofs.heads.Head.is_written.Goals as goal
@@ -11,4 +11,4 @@ returns-clause-stands g c =
     (λ ys zs sizes s.
     let accepted = (g.T.Transport.state c.self.inside.transport).accepted in
     let none : is_some c.self.inside.failure ≡ false = sym c.is_some.ensures ∙ c.if-is_some.false in
-    c.is_written.ensures accepted ys (is_over c.self.inside.standing) sizes (unfailed c.self.inside.failure accepted (write_buffer_view c.self.inside.buffer) ys zs (is_over c.self.inside.standing) sizes none s) ∙ unless_failed c.self.inside.failure none)
+    c.is_written.ensures accepted ys (is_over c.self.inside.standing) sizes (unfailed c.self.inside.failure accepted (buffer_view c.self.inside.buffer) ys zs (is_over c.self.inside.standing) sizes none s) ∙ unless_failed c.self.inside.failure none)

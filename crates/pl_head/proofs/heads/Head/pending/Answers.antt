@@ -1,23 +1,23 @@
 use Rattle.std.proofs.Common.{ℕ, ◌+◌, ap, ◌∙◌}
 use Rattle.pl_head.specs.Marks.{removed_by}
 use Rattle.pl_context.specs.Standings.{is_over}
-use Rattle.pl_head.specs.WriteBuffers.{write_buffer_view}
+use Rattle.pl_head.specs.OutboundStand.{buffer_view}
 use Rattle.pl_head.proofs.HeadAfter.{marks_after, waiting_after}
 use Rattle.pl_head.proofs.heads.Head.pending.Goals as goal
 
 pub returns-clause-exact : goal.returns-clause-exact
 returns-clause-exact g c =
     rw (← c.self.view_is)
-    (λ ys zs sizes s. ap (λ (n : ℕ). n + removed_by sizes) c.pending.ensures.view ∙ (marks_after c.self.inside.failure (g.T.Transport.state c.self.inside.transport).accepted (write_buffer_view c.self.inside.buffer) ys zs (is_over c.self.inside.standing) sizes s).marks.exact)
+    (λ ys zs sizes s. ap (λ (n : ℕ). n + removed_by sizes) c.pending.ensures.view ∙ (marks_after c.self.inside.failure (g.T.Transport.state c.self.inside.transport).accepted (buffer_view c.self.inside.buffer) ys zs (is_over c.self.inside.standing) sizes s).exact)
 
 pub returns-clause-sizes : goal.returns-clause-sizes
 returns-clause-sizes g c =
     rw (← c.self.view_is)
-    (λ ys zs sizes s. c.pending.ensures.view ∙ (marks_after c.self.inside.failure (g.T.Transport.state c.self.inside.transport).accepted (write_buffer_view c.self.inside.buffer) ys zs (is_over c.self.inside.standing) sizes s).marks.pending_is)
+    (λ ys zs sizes s. c.pending.ensures.view ∙ (marks_after c.self.inside.failure (g.T.Transport.state c.self.inside.transport).accepted (buffer_view c.self.inside.buffer) ys zs (is_over c.self.inside.standing) sizes s).pending_is)
 
 pub returns-clause-waiting : goal.returns-clause-waiting
 returns-clause-waiting g c =
     rw (← c.self.view_is)
     (λ ys zs sizes s.
     let accepted = (g.T.Transport.state c.self.inside.transport).accepted in
-    waiting_after c.self.inside.failure accepted (write_buffer_view c.self.inside.buffer) ys zs (is_over c.self.inside.standing) sizes c.pending.result s c.pending.ensures.view (λ t. c.pending.ensures.waiting accepted ys (is_over c.self.inside.standing) sizes t))
+    waiting_after c.self.inside.failure accepted (buffer_view c.self.inside.buffer) ys zs (is_over c.self.inside.standing) sizes c.pending.result s c.pending.ensures.view (λ t. c.pending.ensures.waiting accepted ys (is_over c.self.inside.standing) sizes t))

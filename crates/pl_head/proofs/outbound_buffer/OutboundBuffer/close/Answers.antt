@@ -1,0 +1,39 @@
+use Rattle.std.proofs.Common.{◌≡◌, ◌+◌, ◌<◌, false, true, List, ap, refl, arith}
+use Rattle.pl_head.specs.declared.outbound_buffer.Entry.{Entry}
+use Rattle.pl_head.specs.Writes.{flushed_writes, unflushed_writes}
+use Rattle.pl_head.specs.WaitingMessages.{entries_size, first_size}
+use Rattle.pl_head.specs.OutboundStand.{buffer_view}
+use Rattle.pl_head.proofs.Buffering.{closes, same_parts}
+use Rattle.pl_head.proofs.WaitingSizes.{entries_size-split, first_size-take}
+use Rattle.pl_head.proofs.BufferSteps.{removes-stands, removes-flags}
+use Rattle.pl_head.proofs.outbound_buffer.OutboundBuffer.close.Goals as goal
+
+pub remove-requires-clause-fits : goal.remove-requires-clause-fits
+remove-requires-clause-fits c =
+    let h = c.args.self.now in
+    omega (arith, c.settle_from-size.ensures.size, entries_size-split h.flushed h.entries.items, h.covered)
+
+pub invariant_of-self-clause-covered : goal.invariant_of-self-clause-covered
+invariant_of-self-clause-covered c =
+    let h = c.args.self.now in
+    rw c.truncate.ensures.items (omega (arith, c.remove.ensures.pending, c.settle_from-size.ensures.size, entries_size-split h.flushed h.entries.items, h.covered))
+
+pub returns-clause-stands : goal.returns-clause-stands
+returns-clause-stands c = λ accepted ys sizes s.
+    let h = c.args.self.now in
+    let kept = c.truncate.ensures.items in
+    let messages = same_parts kept refl c.settle_from-size.ensures.outcomes (closes h.entries.items h.offset h.flushed h.outcomes.items (flushed_writes ys) (unflushed_writes ys) s.left s.messages) in
+    let rest : 0 < h.flushed → h.offset < first_size c.truncate.new.self.items = λ some. rw (kept, first_size-take h.flushed h.entries.items some) (s.at_rest some) in
+    let parts : entries_size h.entries.items ≡ c.settle_from-size.result + entries_size c.truncate.new.self.items =
+    omega (arith, ap (λ (t : List Entry). entries_size t) kept, c.settle_from-size.ensures.size, entries_size-split h.flushed h.entries.items) in
+    removes-stands accepted (buffer_view h) ys false sizes s accepted _ ys true messages rest s.output c.settle_from-size.result parts c.remove.ensures.pending (c.remove.ensures.stands sizes s.marks)
+
+pub returns-clause-flags : goal.returns-clause-flags
+returns-clause-flags c = λ accepted ys sizes s.
+    let h = c.args.self.now in
+    let kept = c.truncate.ensures.items in
+    let messages = same_parts kept refl c.settle_from-size.ensures.outcomes (closes h.entries.items h.offset h.flushed h.outcomes.items (flushed_writes ys) (unflushed_writes ys) s.left s.messages) in
+    let rest : 0 < h.flushed → h.offset < first_size c.truncate.new.self.items = λ some. rw (kept, first_size-take h.flushed h.entries.items some) (s.at_rest some) in
+    let parts : entries_size h.entries.items ≡ c.settle_from-size.result + entries_size c.truncate.new.self.items =
+    omega (arith, ap (λ (t : List Entry). entries_size t) kept, c.settle_from-size.ensures.size, entries_size-split h.flushed h.entries.items) in
+    removes-flags accepted (buffer_view h) ys false sizes s accepted (record (buffer_view h) { entries = c.truncate.new.self.items; outcomes = c.settle_from-size.new.outcomes.items }) ys true messages rest s.output c.settle_from-size.result parts (c.remove.ensures.flags sizes s.marks)

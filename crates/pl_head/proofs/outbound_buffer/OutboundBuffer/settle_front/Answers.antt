@@ -1,0 +1,31 @@
+use Rattle.std.proofs.Common.{List, [], Some, sym, ◌∙◌, ap, refl, arith}
+use Rattle.std.proofs.lemmas.List.{length-set}
+use Rattle.pl_event.specs.declared.outcomes.Outcome.TheVariants.{Success}
+use Rattle.pl_head.specs.declared.outbound_buffer.Entry.{Entry}
+use Rattle.pl_head.specs.WaitingMessages.{first_size, numbers_of}
+use Rattle.pl_head.proofs.Buffering.{settles, same_parts}
+use Rattle.pl_head.proofs.Accounts.{account-settles, account-same, account-within}
+use Rattle.pl_head.proofs.outbound_buffer.OutboundBuffer.settle_front.Goals as goal
+
+pub index_mut-requires : goal.index_mut-requires
+index_mut-requires c =
+    let before = c.args.self.now in
+    let account = account-same (ap (λ (es : List Entry). numbers_of es) (sym c.in-Some.ensures.items)) refl refl before.account in
+    omega (arith, account-within [] (numbers_of c.pop_front.new.self.items) before.settled.items c.in-Some.first.number before.outcomes.items account, before.outcomes.ok.0)
+
+pub returns-clause-holds : goal.returns-clause-holds
+returns-clause-holds c = λ flushed unflushed left ended s.
+    let before = c.args.self.now in
+    settles c.in-Some.first c.pop_front.new.self.items before.offset before.flushed before.outcomes.items flushed unflushed left ended
+    (same_parts (sym c.in-Some.ensures.items) refl refl s) c.requires.flushed (c.requires.written ∙ ap first_size c.in-Some.ensures.items)
+
+pub invariant_of-self-clause-settled_room : goal.invariant_of-self-clause-settled_room
+invariant_of-self-clause-settled_room c =
+    omega (arith, length-set c.args.self.now.outcomes.items c.in-Some.first.number (Some Success), c.args.self.now.settled_room, c.push_reserved.ensures.capacity)
+
+pub invariant_of-self-clause-account : goal.invariant_of-self-clause-account
+invariant_of-self-clause-account c =
+    let before = c.args.self.now in
+    account-same refl c.push_reserved.ensures.items refl
+    (account-settles [] (numbers_of c.pop_front.new.self.items) before.settled.items c.in-Some.first.number before.outcomes.items Success
+    (account-same (ap (λ (ws : List Entry). numbers_of ws) (sym c.in-Some.ensures.items)) refl refl c.args.self.now.account))

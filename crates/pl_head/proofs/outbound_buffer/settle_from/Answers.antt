@@ -1,0 +1,58 @@
+use Rattle.std.proofs.Common.{◌≡◌, ◌+◌, ◌<◌, List, length, take, drop, suc, ap, sym, ◌∙◌, refl, arith}
+use Rattle.pl_head.specs.declared.outbound_buffer.Entry.{Entry}
+use Rattle.pl_head.specs.WaitingMessages.{entries_size, settled_all, numbers_of}
+use Rattle.pl_head.proofs.Accounts.{account-split, account-at, account-same, within-at, goes_on-same, goes_on-push}
+use Rattle.pl_head.proofs.WaitingSizes.{drop-at, entries_size-cons, entries_size-split}
+use Rattle.pl_head.proofs.outbound_buffer.settle_from.Goals as goal
+
+pub loop-i-init : goal.loop-i-init
+loop-i-init c =
+    record {
+      outcomes = refl;
+      size = omega arith;
+      account = account-split c.args.entries.now.items c.args.start c.requires.account;
+      settled = goes_on-same c.args.settled.now.items;
+      len = refl;
+      room = refl;
+      settled_room = refl;
+    }
+
+pub index_mut-requires : goal.index_mut-requires
+index_mut-requires c =
+    let es = c.args.entries.now.items in
+    let i = c.loop-i.i in
+    let entry = c.index-entry.result.now in
+    let within : i < length es = omega (arith, c.loop-i-test.true, c.len-i-end.ensures, c.args.entries.now.ok.0) in
+    omega (arith, within-at es i entry within c.index-entry.ensures (numbers_of (take c.args.start es)) c.loop-i.settled.items c.loop-i.outcomes.items c.loop-i.invariant.account, c.loop-i.outcomes.ok.0)
+
+pub overflow_add-size : goal.overflow_add-size
+overflow_add-size c =
+    let es = c.args.entries.now.items in
+    let i = c.loop-i.i in
+    let entry = c.index-entry.result.now in
+    let within : i < length es = omega (arith, c.loop-i-test.true, c.len-i-end.ensures, c.args.entries.now.ok.0) in
+    let here = ap (λ (t : List Entry). entries_size t) (drop-at es i entry within c.index-entry.ensures) in
+    omega (arith, here, entries_size-cons entry (drop (suc i) es), c.loop-i.invariant.size, entries_size-split c.args.start es, c.requires.small, c.len.ensures)
+
+pub loop-i-preserved : goal.loop-i-preserved
+loop-i-preserved c =
+    let es = c.args.entries.now.items in
+    let i = c.loop-i.i in
+    let entry = c.index-entry.result.now in
+    let before = c.loop-i.invariant in
+    let within : i < length es = omega (arith, c.loop-i-test.true, c.len-i-end.ensures, c.args.entries.now.ok.0) in
+    let here = drop-at es i entry within c.index-entry.ensures in
+    let size = ap (λ (t : List Entry). entries_size t) here in
+    let next : i + 1 ≡ suc i = omega arith in
+    rw next
+    (record {
+      outcomes = sym (ap (λ (t : List Entry). settled_all c.args.outcome t c.loop-i.outcomes.items) here) ∙ before.outcomes;
+      size = omega (arith, size, entries_size-cons entry (drop (suc i) es), before.size, c.len.ensures);
+      account =
+          account-same refl c.push_reserved.ensures.items refl
+          (account-at es i entry within c.index-entry.ensures (numbers_of (take c.args.start es)) c.loop-i.settled.items c.loop-i.outcomes.items before.account c.args.outcome);
+      settled = goes_on-push c.args.settled.now.items entry.number before.settled c.push_reserved.ensures.items;
+      len = before.len;
+      room = before.room;
+      settled_room = c.push_reserved.ensures.capacity ∙ before.settled_room;
+    })
