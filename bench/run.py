@@ -56,7 +56,7 @@ def held(one):
 def pings(size):
     """PING lines of so many bytes, in 4,096 bursts of one chunk each, and as many writes as lines."""
     each = size // (4096 * len(UNIT))
-    return workload([channel([[UNIT * each] for _ in range(4096)])], 4096 * 3 * each)
+    return workload([channel([[UNIT * each] for _ in range(4096)], high=2**30)], 4096 * 3 * each)
 
 
 def single_bytes(size):
