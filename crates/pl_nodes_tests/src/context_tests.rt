@@ -136,51 +136,44 @@ fn of_kind(kind: Kind, lane: Lane) -> Lane
     }
 }
 
-/// Gives a context the next item of a lane, and answers what it puts out.
+/// The kind of the lanes that an item is on.
+fn kind_of(item: &Item) -> Kind {
+    match item {
+        Item::Flag(_) => Kind::Flags,
+        _ => Kind::Data,
+    }
+}
+
+/// Gives a context the next item of its lane, and answers what it puts out.
 fn give(
-    rt: &impl Abort,
-    alloc: Global,
+    rt: &(impl Abort + AllocGlobal),
     context: &mut Context<Relay>,
-    kind: Kind,
     item: Item,
 ) -> Result<(Took, Vec<Envelope>), AllocError> {
-    let lane = of_kind(kind, context.lane());
+    let lane = of_kind(kind_of(&item), context.lane());
     let number = context.taken(lane);
     let up = context.up();
     let down = context.down();
     assert!(rt; number < 1000);
     assert!(rt; up.made < 1000);
     assert!(rt; down.made < 1000);
-    let mut outputs = Outputs::new(alloc, 3)?;
+    let mut outputs = Outputs::new(rt.alloc(), 3)?;
     let took = context.take(Envelope { lane, number, item }, &mut outputs);
-    Ok((took, drained(alloc, outputs)?))
+    Ok((took, drained(rt.alloc(), outputs)?))
 }
 
-/// A context that is given the next item of a lane answers so, and puts these out.
+/// A context that is given the next item of its lane answers so, and puts these out.
 fn assert_gives(
-    rt: &impl Abort,
-    alloc: Global,
+    rt: &(impl Abort + AllocGlobal),
     context: &mut Context<Relay>,
-    kind: Kind,
     item: Item,
     answer: Took,
     want: &[Envelope],
 ) -> Result<(), AllocError> {
-    let (took, put) = give(rt, alloc, context, kind, item)?;
+    let (took, put) = give(rt, context, item)?;
     assert_eq!(rt; took, answer);
     assert_eq!(rt; put.as_slice(), want);
     Ok(())
-}
-
-/// A context that has failed drops an item, and puts nothing out.
-fn assert_drops(
-    rt: &impl Abort,
-    alloc: Global,
-    context: &mut Context<Relay>,
-    kind: Kind,
-    item: Item,
-) -> Result<(), AllocError> {
-    assert_gives(rt, alloc, context, kind, item, Took::Dropped, &[])
 }
 
 /// Fails a context, and answers what it puts out.
@@ -194,7 +187,8 @@ fn fail(
     drained(alloc, outputs)
 }
 
-fn drained(alloc: Global, mut outputs: Outputs) -> Result<Vec<Envelope>, AllocError> {
+/// All that a list brings, up to 100 envelopes.
+pub(crate) fn drained(alloc: Global, mut outputs: Outputs) -> Result<Vec<Envelope>, AllocError> {
     let mut envelopes = Vec::new(alloc);
     for _ in 0..100 {
         match outputs.next() {
@@ -205,28 +199,37 @@ fn drained(alloc: Global, mut outputs: Outputs) -> Result<Vec<Envelope>, AllocEr
     Ok(envelopes)
 }
 
-fn envelope(kind: Kind, hop: u16, number: u64, item: Item) -> Envelope
-    ensures { result ≡ record { lane = record { channel = 7; kind = kind; hop = hop }; number = number; item = item } }
+/// A lane of channel 7.
+fn lane(kind: Kind, hop: u16) -> Lane
+    ensures { result ≡ record { channel = 7; kind = kind; hop = hop } }
 {
-    Envelope {
-        lane: Lane {
-            channel: 7,
-            kind,
-            hop,
-        },
-        number,
-        item,
+    Lane {
+        channel: 7,
+        kind,
+        hop,
     }
 }
 
 fn data(hop: u16, number: u64, item: Item) -> Envelope
     ensures { result ≡ record { lane = record { channel = 7; kind = Data; hop = hop }; number = number; item = item } }
 {
-    envelope(Kind::Data, hop, number, item)
+    Envelope {
+        lane: lane(Kind::Data, hop),
+        number,
+        item,
+    }
+}
+
+fn event(hop: u16, number: u64, event: Event) -> Envelope {
+    data(hop, number, Item::Event(event))
 }
 
 fn flag(hop: u16, number: u64, value: bool) -> Envelope {
-    envelope(Kind::Flags, hop, number, Item::Flag(value))
+    Envelope {
+        lane: lane(Kind::Flags, hop),
+        number,
+        item: Item::Flag(value),
+    }
 }
 
 /// A context at hop 1 of channel 7, whose pipeline has 3 inbound handlers, or none before an outbound one.
@@ -240,198 +243,104 @@ fn context_of(alloc: Global, direction: Direction, steps: u32) -> Context<Relay>
 
 #[test]
 fn fault_ends_context(rt: HostRuntime) -> Result<(), Fail> {
-    let alloc = rt.alloc();
-    let mut context = context_of(alloc, Direction::Inbound, 1);
-    let active = [data(2, 0, Item::Event(Event::Active))];
-    assert_gives(
-        &rt,
-        alloc,
-        &mut context,
-        Kind::Data,
-        Item::Event(Event::Active),
-        Took::Ran,
-        active.as_slice(),
-    )?;
+    let mut context = context_of(rt.alloc(), Direction::Inbound, 1);
+    let active = Item::Event(Event::Active);
+    let want = [event(2, 0, Event::Active)];
+    assert_gives(&rt, &mut context, active, Took::Ran, &want)?;
 
-    let read = Event::Read(Message::Bytes(ByteString::from_vec(Vec::new(alloc))));
+    let read = Message::Bytes(ByteString::from_vec(Vec::new(rt.alloc())));
+    let read = Item::Event(Event::Read(read));
+    let failed = Took::Failed(Cause::Memory);
     let failure = [data(2, 1, Item::Fail(Cause::Memory))];
-    assert_gives(
-        &rt,
-        alloc,
-        &mut context,
-        Kind::Data,
-        Item::Event(read),
-        Took::Failed(Cause::Memory),
-        failure.as_slice(),
-    )?;
+    assert_gives(&rt, &mut context, read, failed, &failure)?;
     let complete = Item::Event(Event::ReadComplete);
-    assert_drops(&rt, alloc, &mut context, Kind::Data, complete)?;
-    assert_eq!(rt;
-        context.taken(Lane {
-            channel: 7,
-            kind: Kind::Data,
-            hop: 1
-        }),
-        3
-    );
-    assert_eq!(rt;
-        context.taken(Lane {
-            channel: 7,
-            kind: Kind::Flags,
-            hop: 1
-        }),
-        0
-    );
-    assert_eq!(rt;
-        context.taken(Lane {
-            channel: 7,
-            kind: Kind::Data,
-            hop: 2
-        }),
-        0
-    );
+    assert_gives(&rt, &mut context, complete, Took::Dropped, &[])?;
+    assert_eq!(rt; context.taken(lane(Kind::Data, 1)), 3);
+    assert_eq!(rt; context.taken(lane(Kind::Flags, 1)), 0);
+    assert_eq!(rt; context.taken(lane(Kind::Data, 2)), 0);
     assert_eq!(rt; context.is_ended(), true);
     Ok(())
 }
 
+/// A turn that has put out one item on each lane, and is failed from outside, gives both lanes the failure, once.
 #[test]
 fn refused_context(rt: HostRuntime) -> Result<(), Fail> {
-    let alloc = rt.alloc();
-    let mut context = context_of(alloc, Direction::Turn, 9);
-    let active = [
-        data(2, 0, Item::Event(Event::Active)),
-        data(4, 0, Item::Event(Event::Flush)),
-    ];
-    assert_gives(
-        &rt,
-        alloc,
-        &mut context,
-        Kind::Data,
-        Item::Event(Event::Active),
-        Took::Ran,
-        active.as_slice(),
-    )?;
-    assert_eq!(rt; context.is_ended(), false);
-    assert_refused(&rt, alloc, &mut context)?;
-    let complete = Item::Event(Event::ReadComplete);
-    assert_drops(&rt, alloc, &mut context, Kind::Data, complete)?;
-    assert_drops(&rt, alloc, &mut context, Kind::Flags, Item::Flag(false))?;
-    Ok(())
-}
+    let mut turn = context_of(rt.alloc(), Direction::Turn, 9);
+    let active = Item::Event(Event::Active);
+    let both = [event(2, 0, Event::Active), event(4, 0, Event::Flush)];
+    assert_gives(&rt, &mut turn, active, Took::Ran, &both)?;
+    assert_eq!(rt; turn.is_ended(), false);
 
-/// A turn that has put out one item on each lane, and is failed from outside, gives both lanes the failure, once.
-fn assert_refused(
-    rt: &impl Abort,
-    alloc: Global,
-    turn: &mut Context<Relay>,
-) -> Result<(), AllocError> {
-    let put = fail(alloc, turn, Cause::Refused)?;
-    let want = [
+    let refused = [
         data(2, 1, Item::Fail(Cause::Refused)),
         data(4, 1, Item::Fail(Cause::Refused)),
     ];
-    assert_eq!(rt; put.as_slice(), want.as_slice());
-    let put = fail(alloc, turn, Cause::Memory)?;
-    assert_eq!(rt; put.is_empty(), true);
+    let put = fail(rt.alloc(), &mut turn, Cause::Refused)?;
+    assert_eq!(rt; put.as_slice(), refused.as_slice());
+    assert_eq!(rt;
+        fail(rt.alloc(), &mut turn, Cause::Memory)?.is_empty(),
+        true
+    );
+    let complete = Item::Event(Event::ReadComplete);
+    assert_gives(&rt, &mut turn, complete, Took::Dropped, &[])?;
+    assert_gives(&rt, &mut turn, Item::Flag(false), Took::Dropped, &[])?;
     Ok(())
 }
 
-#[test]
-fn turn_quits(rt: HostRuntime) -> Result<(), Fail> {
-    let alloc = rt.alloc();
-    let mut turn = context_of(alloc, Direction::Turn, 9);
+/// Gives a turn the event with which it quits: its lane downwards ends.
+fn assert_quits(
+    rt: &(impl Abort + AllocGlobal),
+    turn: &mut Context<Relay>,
+) -> Result<(), AllocError> {
     let complete = Item::Event(Event::ReadComplete);
     let want = [
-        data(2, 0, Item::Event(Event::ReadComplete)),
-        data(4, 0, Item::Event(Event::Flush)),
+        event(2, 0, Event::ReadComplete),
+        event(4, 0, Event::Flush),
         data(4, 1, Item::End),
     ];
-    assert_gives(
-        &rt,
-        alloc,
-        &mut turn,
-        Kind::Data,
-        complete,
-        Took::Ran,
-        want.as_slice(),
-    )?;
-    assert_ends_upwards(&rt, alloc, &mut turn)?;
-    Ok(())
+    assert_gives(rt, turn, complete, Took::Ran, &want)
 }
 
 /// A turn that has quit stays open for its input, and its lane downwards has ended once.
-fn assert_ends_upwards(
-    rt: &impl Abort,
-    alloc: Global,
-    turn: &mut Context<Relay>,
-) -> Result<(), AllocError> {
-    let active = [data(2, 1, Item::Event(Event::Active))];
-    assert_gives(
-        rt,
-        alloc,
-        turn,
-        Kind::Data,
-        Item::Event(Event::Active),
-        Took::Ran,
-        active.as_slice(),
-    )?;
+#[test]
+fn turn_quits(rt: HostRuntime) -> Result<(), Fail> {
+    let mut turn = context_of(rt.alloc(), Direction::Turn, 9);
+    assert_quits(&rt, &mut turn)?;
+    let active = Item::Event(Event::Active);
+    let want = [event(2, 1, Event::Active)];
+    assert_gives(&rt, &mut turn, active, Took::Ran, &want)?;
     let end = [data(2, 2, Item::End)];
-    assert_gives(
-        rt,
-        alloc,
-        turn,
-        Kind::Data,
-        Item::End,
-        Took::Ended,
-        end.as_slice(),
-    )
+    assert_gives(&rt, &mut turn, Item::End, Took::Ended, &end)?;
+    Ok(())
 }
 
-/// A handler that fails hands the failure on with its cause.
-fn assert_handler_fails(rt: &impl Abort, alloc: Global, cause: Cause) -> Result<(), AllocError> {
-    let mut handler = context_of(alloc, Direction::Inbound, 9);
-    let want = [data(2, 0, Item::Fail(cause))];
-    assert_gives(
-        rt,
-        alloc,
-        &mut handler,
-        Kind::Data,
-        Item::Fail(cause),
-        Took::Failed(cause),
-        want.as_slice(),
-    )
+/// A context that fails hands the failure on with its cause, into each lane that it writes, and drops what comes behind it.
+fn assert_fails(
+    rt: &(impl Abort + AllocGlobal),
+    direction: Direction,
+    cause: Cause,
+    want: &[Envelope],
+) -> Result<(), AllocError> {
+    let mut context = context_of(rt.alloc(), direction, 9);
+    let failure = Item::Fail(cause);
+    assert_gives(rt, &mut context, failure, Took::Failed(cause), want)?;
+    assert_eq!(rt; context.is_ended(), true);
+    assert_gives(rt, &mut context, Item::End, Took::Dropped, &[])?;
+    assert_gives(rt, &mut context, Item::Flag(false), Took::Dropped, &[])
 }
 
-/// So does a turn, into both lanes, and what comes behind it is dropped.
-fn assert_turn_fails(rt: &impl Abort, alloc: Global, cause: Cause) -> Result<(), AllocError> {
-    let mut turn = context_of(alloc, Direction::Turn, 9);
-    let want = [data(2, 0, Item::Fail(cause)), data(4, 0, Item::Fail(cause))];
-    assert_gives(
-        rt,
-        alloc,
-        &mut turn,
-        Kind::Data,
-        Item::Fail(cause),
-        Took::Failed(cause),
-        want.as_slice(),
-    )?;
-    assert_eq!(rt; turn.is_ended(), true);
-    assert_drops(rt, alloc, &mut turn, Kind::Data, Item::End)?;
-    assert_drops(rt, alloc, &mut turn, Kind::Flags, Item::Flag(false))
-}
-
-/// A failure goes into each lane with its cause, and what comes behind it is dropped.
 #[test]
 fn failure_keeps_its_cause(rt: HostRuntime) -> Result<(), Fail> {
-    let alloc = rt.alloc();
     for cause in [
         Cause::Memory,
         Cause::Transport,
         Cause::Aborted,
         Cause::Refused,
     ] {
-        assert_handler_fails(&rt, alloc, cause)?;
-        assert_turn_fails(&rt, alloc, cause)?;
+        let up = data(2, 0, Item::Fail(cause));
+        let both = [data(2, 0, Item::Fail(cause)), data(4, 0, Item::Fail(cause))];
+        assert_fails(&rt, Direction::Inbound, cause, &[up])?;
+        assert_fails(&rt, Direction::Turn, cause, &both)?;
     }
     Ok(())
 }
@@ -439,145 +348,71 @@ fn failure_keeps_its_cause(rt: HostRuntime) -> Result<(), Fail> {
 /// The lane downwards has ended with the turn: a failure goes upwards alone.
 #[test]
 fn failure_behind_a_quit(rt: HostRuntime) -> Result<(), Fail> {
-    let alloc = rt.alloc();
-    let mut turn = context_of(alloc, Direction::Turn, 9);
-    let complete = Item::Event(Event::ReadComplete);
-    let (took, put) = give(&rt, alloc, &mut turn, Kind::Data, complete)?;
-    assert_eq!(rt; took, Took::Ran);
-    assert_eq!(rt; put.len(), 3);
-
+    let mut turn = context_of(rt.alloc(), Direction::Turn, 9);
+    assert_quits(&rt, &mut turn)?;
     let failure = Item::Fail(Cause::Transport);
-    let (took, put) = give(&rt, alloc, &mut turn, Kind::Data, failure)?;
-    assert_eq!(rt; took, Took::Failed(Cause::Transport));
+    let failed = Took::Failed(Cause::Transport);
     let want = [data(2, 1, Item::Fail(Cause::Transport))];
-    assert_eq!(rt; put.as_slice(), want.as_slice());
+    assert_gives(&rt, &mut turn, failure, failed, &want)?;
     Ok(())
 }
 
+/// A context hands flags on, with the next number, also after its end. An outbound one hands a failure on, downwards.
 #[test]
 fn flags_pass(rt: HostRuntime) -> Result<(), Fail> {
-    let alloc = rt.alloc();
-    let mut context = context_of(alloc, Direction::Inbound, 9);
-    assert_passes(&rt, alloc, &mut context, 0, false)?;
+    let mut context = context_of(rt.alloc(), Direction::Inbound, 9);
+    let first = [flag(2, 0, false)];
+    assert_gives(&rt, &mut context, Item::Flag(false), Took::Ran, &first)?;
     let end = [data(2, 0, Item::End)];
-    assert_gives(
-        &rt,
-        alloc,
-        &mut context,
-        Kind::Data,
-        Item::End,
-        Took::Ended,
-        end.as_slice(),
-    )?;
-    assert_passes(&rt, alloc, &mut context, 1, true)?;
-    assert_writer_fails(&rt, alloc)?;
+    assert_gives(&rt, &mut context, Item::End, Took::Ended, &end)?;
+    let second = [flag(2, 1, true)];
+    assert_gives(&rt, &mut context, Item::Flag(true), Took::Ran, &second)?;
+    let down = [data(2, 0, Item::Fail(Cause::Aborted))];
+    assert_fails(&rt, Direction::Outbound, Cause::Aborted, &down)?;
     Ok(())
 }
 
-/// A context hands a flag on, with this number.
-fn assert_passes(
-    rt: &impl Abort,
-    alloc: Global,
-    context: &mut Context<Relay>,
-    number: u64,
-    value: bool,
-) -> Result<(), AllocError> {
-    let want = [flag(2, number, value)];
-    assert_gives(
-        rt,
-        alloc,
-        context,
-        Kind::Flags,
-        Item::Flag(value),
-        Took::Ran,
-        want.as_slice(),
-    )
-}
-
-/// An outbound context hands a failure on, downwards.
-fn assert_writer_fails(rt: &impl Abort, alloc: Global) -> Result<(), AllocError> {
-    let mut writer = context_of(alloc, Direction::Outbound, 9);
-    let want = [data(2, 0, Item::Fail(Cause::Aborted))];
-    assert_gives(
-        rt,
-        alloc,
-        &mut writer,
-        Kind::Data,
-        Item::Fail(Cause::Aborted),
-        Took::Failed(Cause::Aborted),
-        want.as_slice(),
-    )
-}
-
-/// Gives the tail of channel 7 the next item of a lane.
-fn record(rt: &impl Abort, tail: &mut Tail, kind: Kind, item: Item) -> Took {
-    let lane = of_kind(kind, tail.lane());
+/// Gives the tail of channel 7 the next item of its lane.
+fn record(rt: &impl Abort, tail: &mut Tail, item: Item) -> Took {
+    let lane = of_kind(kind_of(&item), tail.lane());
     let number = tail.taken(lane);
     assert!(rt; number < 1000);
     tail.take(Envelope { lane, number, item })
 }
 
+/// The tail answers so to the next item of its lane.
+fn assert_records(rt: &impl Abort, tail: &mut Tail, item: Item, answer: Took) {
+    assert_eq!(rt; record(rt, tail, item), answer);
+}
+
 #[test]
 fn tail_records(rt: HostRuntime) -> Result<(), Fail> {
     let mut tail = Tail::new(rt.alloc(), 7, 3);
-    assert_eq!(rt;
-        record(&rt, &mut tail, Kind::Data, Item::Event(Event::Active)),
-        Took::Ran
-    );
-    assert_eq!(rt;
-        record(&rt, &mut tail, Kind::Flags, Item::Flag(false)),
-        Took::Ran
-    );
-    assert_eq!(rt;
-        record(&rt, &mut tail, Kind::Data, Item::Event(Event::ReadComplete)),
-        Took::Ran
-    );
+    assert_records(&rt, &mut tail, Item::Event(Event::Active), Took::Ran);
+    assert_records(&rt, &mut tail, Item::Flag(false), Took::Ran);
+    assert_records(&rt, &mut tail, Item::Event(Event::ReadComplete), Took::Ran);
     assert_eq!(rt; tail.is_ended(), false);
-    assert_eq!(rt;
-        record(&rt, &mut tail, Kind::Data, Item::Fail(Cause::Refused)),
-        Took::Failed(Cause::Refused)
-    );
-    assert_eq!(rt;
-        record(&rt, &mut tail, Kind::Flags, Item::Flag(true)),
-        Took::Dropped
-    );
+    let failed = Took::Failed(Cause::Refused);
+    assert_records(&rt, &mut tail, Item::Fail(Cause::Refused), failed);
+    assert_records(&rt, &mut tail, Item::Flag(true), Took::Dropped);
     assert_eq!(rt; tail.is_ended(), true);
     assert_eq!(rt; tail.cause(), Some(Cause::Refused));
-    assert_eq!(rt;
-        tail.taken(Lane {
-            channel: 7,
-            kind: Kind::Data,
-            hop: 3
-        }),
-        3
-    );
-    assert_eq!(rt;
-        tail.taken(Lane {
-            channel: 7,
-            kind: Kind::Flags,
-            hop: 3
-        }),
-        2
-    );
-    assert_eq!(rt;
-        tail.taken(Lane {
-            channel: 6,
-            kind: Kind::Flags,
-            hop: 3
-        }),
-        0
-    );
+    assert_eq!(rt; tail.taken(lane(Kind::Data, 3)), 3);
+    assert_eq!(rt; tail.taken(lane(Kind::Flags, 3)), 2);
+    let other = Lane {
+        channel: 6,
+        kind: Kind::Flags,
+        hop: 3,
+    };
+    assert_eq!(rt; tail.taken(other), 0);
     let events = [Event::Active, Event::ReadComplete];
     assert_eq!(rt; tail.record(), events.as_slice());
     assert_eq!(rt; tail.flags(), [false].as_slice());
     assert_eq!(rt; tail.into_record().as_slice(), events.as_slice());
 
     let mut tail = Tail::new(rt.alloc(), 7, 3);
-    assert_eq!(rt; record(&rt, &mut tail, Kind::Data, Item::End), Took::Ended);
-    assert_eq!(rt;
-        record(&rt, &mut tail, Kind::Flags, Item::Flag(false)),
-        Took::Ran
-    );
+    assert_records(&rt, &mut tail, Item::End, Took::Ended);
+    assert_records(&rt, &mut tail, Item::Flag(false), Took::Ran);
     assert_eq!(rt; tail.cause(), None);
     assert_eq!(rt; tail.flags(), [false].as_slice());
     Ok(())
@@ -599,20 +434,17 @@ fn outputs_come_in_order(rt: HostRuntime) -> Result<(), Fail> {
     assert_eq!(rt; outputs.reserve(usize::MAX).is_err(), true);
     assert_eq!(rt; outputs.reserve(usize::MAX - 1).is_err(), true);
     assert_eq!(rt; outputs.is_empty(), true);
-    assert_eq!(rt;
-        put(&mut outputs, 0, Item::Event(Event::Active)),
-        Added::Last
-    );
-    assert_eq!(rt;
-        put(&mut outputs, 1, Item::Event(Event::Flush)),
-        Added::Last
-    );
-    assert_eq!(rt; put(&mut outputs, 2, Item::End), Added::Last);
+    let added = put(&mut outputs, 0, Item::Event(Event::Active));
+    assert_eq!(rt; added, Added::Last);
+    let added = put(&mut outputs, 1, Item::Event(Event::Flush));
+    assert_eq!(rt; added, Added::Last);
+    let added = put(&mut outputs, 2, Item::End);
+    assert_eq!(rt; added, Added::Last);
     assert_eq!(rt; outputs.is_empty(), false);
     assert_eq!(rt; outputs.has_stopped(), false);
     let want = [
-        data(2, 0, Item::Event(Event::Active)),
-        data(2, 1, Item::Event(Event::Flush)),
+        event(2, 0, Event::Active),
+        event(2, 1, Event::Flush),
         data(2, 2, Item::End),
     ];
     assert_eq!(rt; drained(rt.alloc(), outputs)?.as_slice(), want.as_slice());
@@ -722,10 +554,8 @@ fn backlog_without_memory_gives_tokens_back(rt: HostRuntime) -> Result<(), Fail>
 /// An event for which a context finds no memory fails it, and one for which the tail finds none ends the record.
 #[test]
 fn event_without_memory_fails_its_taker(rt: HostRuntime) -> Result<(), Fail> {
-    let alloc = rt.alloc();
-    let mut context = context_of(alloc, Direction::Inbound, 9);
-    let active = Item::Event(Event::Active);
-    let (took, put) = give(&rt, alloc, &mut context, Kind::Data, active)?;
+    let mut context = context_of(rt.alloc(), Direction::Inbound, 9);
+    let (took, put) = give(&rt, &mut context, Item::Event(Event::Active))?;
     let want = match took {
         Took::Failed(cause) => Item::Fail(cause),
         _ => Item::Event(Event::Active),
@@ -733,8 +563,8 @@ fn event_without_memory_fails_its_taker(rt: HostRuntime) -> Result<(), Fail> {
     assert_eq!(rt; put.as_slice(), [data(2, 0, want)].as_slice());
     assert_eq!(rt; context.is_ended(), took == Took::Failed(Cause::Memory));
 
-    let mut tail = Tail::new(alloc, 7, 3);
-    let took = record(&rt, &mut tail, Kind::Data, Item::Event(Event::Active));
+    let mut tail = Tail::new(rt.alloc(), 7, 3);
+    let took = record(&rt, &mut tail, Item::Event(Event::Active));
     let cause = match took {
         Took::Failed(cause) => Some(cause),
         _ => None,

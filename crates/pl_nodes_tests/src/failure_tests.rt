@@ -3,6 +3,7 @@
 
 ghost use Rattle.std.specs.Prelude.{◌≤◌};
 
+use crate::context_tests::drained;
 use crate::head_tests::{
     Answer, Call, Expected, GAVE, IDLE, RAN, give, head, nothing_to_read, run, two_bursts,
 };
@@ -40,18 +41,13 @@ fn last_given<T: Transport>(
         head.next_read(&mut outputs);
     }
     let mut last = None;
-    for _ in 0..100 {
-        match outputs.next() {
-            Some(envelope) => {
-                last = match envelope.item {
-                    Item::Event(_) => Some(Given::Event(envelope.number)),
-                    Item::End => Some(Given::End(envelope.number)),
-                    Item::Fail(cause) => Some(Given::Fail(envelope.number, cause)),
-                    Item::Flag(value) => Some(Given::Flag(envelope.number, value)),
-                };
-            }
-            None => break,
-        }
+    for envelope in drained(alloc, outputs)? {
+        last = match envelope.item {
+            Item::Event(_) => Some(Given::Event(envelope.number)),
+            Item::End => Some(Given::End(envelope.number)),
+            Item::Fail(cause) => Some(Given::Fail(envelope.number, cause)),
+            Item::Flag(value) => Some(Given::Flag(envelope.number, value)),
+        };
     }
     Ok(last)
 }

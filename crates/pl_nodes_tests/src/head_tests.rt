@@ -4,7 +4,7 @@ ghost use Rattle.std.specs.Prelude.{◌≡◌, ◌+◌, ◌<◌, ◌≤◌, ◌^
 ghost use Rattle.pl_event.specs.Inputs.{recorded_input};
 
 use crate::input_tests::outputs_of_one;
-use crate::transport_tests::Trickle;
+use crate::trickle::Trickle;
 use pl_context::{Outputs, Standing, Took};
 use pl_event::{ByteString, Cause, Envelope, Event, Item, Message, Outcome, Sequence};
 use pl_head::{Head, MemoryTransport, OutStep, ReadPlan, ReadStep, Transport};
@@ -251,15 +251,8 @@ const TRICKLED: [Expected; 2] = [
 #[test]
 fn one_byte_transport(rt: HostRuntime) -> Result<(), Fail> {
     let alloc = rt.alloc();
-    let mut head = Head::new(
-        alloc,
-        0,
-        3,
-        nothing_to_read(alloc),
-        Trickle::new(alloc),
-        4,
-        8,
-    );
+    let transport = Trickle::new(alloc);
+    let mut head = Head::new(alloc, 0, 3, nothing_to_read(alloc), transport, 4, 8);
     run(&rt, alloc, &mut head, TRICKLES.as_slice())?;
     assert!(rt; head.outcomes() == [None].as_slice());
     run(&rt, alloc, &mut head, TRICKLED.as_slice())?;

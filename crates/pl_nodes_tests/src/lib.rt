@@ -13,5 +13,8 @@ mod input_tests;
 mod load_tests;
 #[cfg(test)]
 mod transport_tests;
+mod trickle;
 #[cfg(test)]
 mod watermark_tests;
+
+pub use trickle::Trickle;

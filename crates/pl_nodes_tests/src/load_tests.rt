@@ -2,17 +2,11 @@
 
 ghost use Rattle.std.specs.Prelude.{◌<◌};
 
-use crate::head_tests::{give, nothing_to_read, write_once};
+use crate::head_tests::{give, head, write_once};
 use pl_event::{ByteString, Event, Item, Message, Outcome};
-use pl_head::{Head, MemoryTransport};
 use std::alloc::{AllocError, Global};
 use std::process::Abort;
 use std::test::Fail;
-
-fn new_head(alloc: Global) -> Head<MemoryTransport> {
-    let transport = MemoryTransport::new(alloc, 1, None);
-    Head::new(alloc, 0, 3, nothing_to_read(alloc), transport, 4, 8)
-}
 
 /// A write of a message of this size.
 pub(crate) fn write_of(alloc: Global, size: usize) -> Result<Item, AllocError> {
@@ -22,7 +16,7 @@ pub(crate) fn write_of(alloc: Global, size: usize) -> Result<Item, AllocError> {
 
 /// One message of this size leaves byte by byte.
 fn long_message(rt: &impl Abort, alloc: Global, size: usize) -> Result<(), Fail> {
-    let mut head = new_head(alloc);
+    let mut head = head(alloc, 1, None, 4, 8);
     give(rt, alloc, &mut head, write_of(alloc, size)?)?;
     give(rt, alloc, &mut head, Item::Event(Event::Flush))?;
     for _ in 0..size {
@@ -58,7 +52,7 @@ fn long_message_of_1048578(rt: HostRuntime) -> Result<(), Fail> {
 fn empty_messages(rt: &impl Abort, alloc: Global, count: usize) -> Result<(), Fail>
     requires { count < 1000000 }
 {
-    let mut head = new_head(alloc);
+    let mut head = head(alloc, 1, None, 4, 8);
     for _ in 0..count {
         give(rt, alloc, &mut head, write_of(alloc, 0)?)?;
     }

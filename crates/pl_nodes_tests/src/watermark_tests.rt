@@ -1,8 +1,6 @@
 //! Flags of a head, one by one: which sizes send one, and with which number.
 
-ghost use Rattle.std.specs.Prelude.{◌≤◌};
-
-use crate::head_tests::{Answer, give, nothing_to_read, write_once};
+use crate::head_tests::{Answer, give, head, write_once};
 use crate::load_tests::write_of;
 use pl_event::{Event, Item};
 use pl_head::{Head, MemoryTransport, OutStep};
@@ -17,13 +15,6 @@ enum Size {
     Added(usize),
     /// The first message that waits is of this size, and leaves whole.
     Removed(usize),
-}
-
-fn head(alloc: Global, low: u32, high: u32) -> Head<MemoryTransport>
-    requires { low ≤ high }
-{
-    let transport = MemoryTransport::new(alloc, 65_536, None);
-    Head::new(alloc, 0, 3, nothing_to_read(alloc), transport, low, high)
 }
 
 /// Adds or removes a size, and answers the number and the value of the flag that this sent.
@@ -54,23 +45,29 @@ fn change(
     }
 }
 
+/// Adding or removing a size sends this flag, or none.
+fn assert_change(
+    rt: &impl Abort,
+    alloc: Global,
+    head: &mut Head<MemoryTransport>,
+    size: Size,
+    flag: Option<(u64, bool)>,
+) -> Result<(), AllocError> {
+    assert_eq!(rt; change(rt, alloc, head, size)?, flag);
+    Ok(())
+}
+
 #[test]
 fn marks_are_strict(rt: HostRuntime) -> Result<(), Fail> {
     let alloc = rt.alloc();
-    let mut head = head(alloc, 4, 4);
-    assert_eq!(rt; change(&rt, alloc, &mut head, Size::Added(1))?, None);
-    assert_eq!(rt; change(&rt, alloc, &mut head, Size::Added(1))?, None);
-    assert_eq!(rt; change(&rt, alloc, &mut head, Size::Added(2))?, None);
+    let mut head = head(alloc, 65_536, None, 4, 4);
+    assert_change(&rt, alloc, &mut head, Size::Added(1), None)?;
+    assert_change(&rt, alloc, &mut head, Size::Added(1), None)?;
+    assert_change(&rt, alloc, &mut head, Size::Added(2), None)?;
     assert_eq!(rt; head.pending(), 4);
-    assert_eq!(rt;
-        change(&rt, alloc, &mut head, Size::Added(1))?,
-        Some((0, false))
-    );
-    assert_eq!(rt; change(&rt, alloc, &mut head, Size::Removed(1))?, None);
-    assert_eq!(rt;
-        change(&rt, alloc, &mut head, Size::Removed(1))?,
-        Some((1, true))
-    );
+    assert_change(&rt, alloc, &mut head, Size::Added(1), Some((0, false)))?;
+    assert_change(&rt, alloc, &mut head, Size::Removed(1), None)?;
+    assert_change(&rt, alloc, &mut head, Size::Removed(1), Some((1, true)))?;
     assert_eq!(rt; head.pending(), 3);
     Ok(())
 }
@@ -78,21 +75,15 @@ fn marks_are_strict(rt: HostRuntime) -> Result<(), Fail> {
 #[test]
 fn two_messages_above_and_below(rt: HostRuntime) -> Result<(), Fail> {
     let alloc = rt.alloc();
-    let mut head = head(alloc, 4, 8);
-    assert_eq!(rt; change(&rt, alloc, &mut head, Size::Added(7))?, None);
+    let mut head = head(alloc, 65_536, None, 4, 8);
+    assert_change(&rt, alloc, &mut head, Size::Added(7), None)?;
     assert_eq!(rt; head.pending(), 7);
-    assert_eq!(rt;
-        change(&rt, alloc, &mut head, Size::Added(7))?,
-        Some((0, false))
-    );
+    assert_change(&rt, alloc, &mut head, Size::Added(7), Some((0, false)))?;
     assert_eq!(rt; head.pending(), 14);
     assert!(rt; !head.is_writable());
-    assert_eq!(rt; change(&rt, alloc, &mut head, Size::Removed(7))?, None);
+    assert_change(&rt, alloc, &mut head, Size::Removed(7), None)?;
     assert_eq!(rt; head.pending(), 7);
-    assert_eq!(rt;
-        change(&rt, alloc, &mut head, Size::Removed(7))?,
-        Some((1, true))
-    );
+    assert_change(&rt, alloc, &mut head, Size::Removed(7), Some((1, true)))?;
     assert_eq!(rt; head.pending(), 0);
     assert!(rt; head.is_writable());
     Ok(())
@@ -101,13 +92,10 @@ fn two_messages_above_and_below(rt: HostRuntime) -> Result<(), Fail> {
 #[test]
 fn no_way_back_to_low_0(rt: HostRuntime) -> Result<(), Fail> {
     let alloc = rt.alloc();
-    let mut head = head(alloc, 0, 0);
-    assert_eq!(rt;
-        change(&rt, alloc, &mut head, Size::Added(1))?,
-        Some((0, false))
-    );
-    assert_eq!(rt; change(&rt, alloc, &mut head, Size::Removed(1))?, None);
-    assert_eq!(rt; change(&rt, alloc, &mut head, Size::Added(1))?, None);
+    let mut head = head(alloc, 65_536, None, 0, 0);
+    assert_change(&rt, alloc, &mut head, Size::Added(1), Some((0, false)))?;
+    assert_change(&rt, alloc, &mut head, Size::Removed(1), None)?;
+    assert_change(&rt, alloc, &mut head, Size::Added(1), None)?;
     assert!(rt; !head.is_writable());
     Ok(())
 }
