@@ -24,6 +24,8 @@ use Rattle.pl_flow.specs.LaneRuns.{LaneRuns}
 use Rattle.pl_flow.specs.Makes.{Makes}
 use Rattle.pl_flow.proofs.FlowLemmas.{on-append, on-own, on-other}
 use Rattle.pl_flow.proofs.LaneRunLemmas.{lane-grows, lane-leaves, lane-behind}
+use Rattle.pl_executor.specs.declared.cores.Core.{Core}
+use Rattle.pl_executor.specs.Cores.{CoreHolds}
 use Rattle.pl_executor.specs.OutboxViews.{OutboxesView, reached, is_cut, Adds, SameFor, Sends, Stays}
 use Rattle.pl_executor.specs.Running.{Runs, IsTaking}
 
@@ -160,6 +162,10 @@ module _ (world : World) (me : ℕ) (target : Lane → ℕ) (writes : Lane → B
 
 -- ---- what nodes put on the list
 
+-- there are still places for it
+pub places-on : (hops hops' : List Lane) (before mid after : StopsView) → hops' ≡ hops → mid ≡ before → ((l : List Lane) → AreAmong hops l → HasPlaces mid l → HasPlaces after l) → HasPlaces before hops → HasPlaces after hops'
+places-on hops hops' before mid after same stops placed has = subst (λ l. HasPlaces after l) (sym same) (placed hops (λ l e. e) (subst (λ s. HasPlaces s hops) (sym stops) has))
+
 pub runs-on : (world : World) (me : ℕ) (target target' : Lane → ℕ) (writes writes' : Lane → Bool) (taken taken' : Lane → ℕ) (came came' : Lane → Point) (o : OutboxesView) (mid after : OutputsView)
     → Runs world me target writes taken came o mid → Makes world writes came came' mid after
     → ((l : Lane) → target' l ≡ target l) → ((l : Lane) → writes' l ≡ writes l) → ((l : Lane) → taken' l ≡ taken l)
@@ -240,6 +246,16 @@ runs-stay world me target writes taken came o o' work r stays = record {
   hops = r.hops;
   placed = λ y within. subst (λ s. HasPlaces s (r.hops y)) (sym (stays.stops y)) (r.placed y (let n = stays.count in omega (arith, within, n)));
   among = r.among;
+}
+
+pub holds-stay : {W M N S T : Type 0} {target : N → Lane → ℕ} {writes : N → Lane → Bool} {world : World} {stands : N → Type 0} {home : N → ℕ} {lanes : N → List Lane} {taken : N → Lane → ℕ} {came : N → Lane → Point} {was_refused : N → Bool}
+    (c : Core W M N S T) (o : OutboxesView) → CoreHolds target writes world stands home lanes taken came was_refused c → Stays c.outboxes o → CoreHolds target writes world stands home lanes taken came was_refused (record c { outboxes = o })
+holds-stay {target = target} {writes = writes} {world = world} {taken = taken} {came = came} c o holds stays = record {
+  stood = holds.stood;
+  at_home = holds.at_home;
+  places = holds.places;
+  runs = runs-stay world c.number (target c.part) (writes c.part) (taken c.part) (came c.part) c.outboxes o c.work holds.runs stays;
+  why = λ e. stays.closed (holds.why e);
 }
 
 -- nothing had moved before the first was sent

@@ -2,5 +2,6 @@ pub mod Sent
 pub mod Tries
 pub mod OutboxViews
 pub mod Running
+pub mod Cores
 pub mod Turning
 pub mod Serving

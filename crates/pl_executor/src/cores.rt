@@ -3,12 +3,11 @@
 ghost use Rattle.std.specs.Prelude.{◌≡◌, ◌+◌, ◌<◌, ℕ, List, [], cond, false, true, IfSome, IfNone};
 ghost use Rattle.pl_event.specs.declared.envelopes.Lane.{Lane};
 ghost use Rattle.pl_event.specs.Hops.{same_lane};
-ghost use Rattle.pl_context.specs.Stops.{HasPlaces};
 ghost use Rattle.pl_context.specs.WaitingViews.{Entry, Holds};
 ghost use Rattle.pl_words.specs.Admissions.{AdmittedView};
 ghost use Rattle.pl_flow.specs.Flows.{IsGood};
-ghost use Rattle.pl_executor.specs.OutboxViews.{SomeClosed, SameFor, Sends, SendsNothing, oldest_untried};
-ghost use Rattle.pl_executor.specs.Running.{Runs};
+ghost use Rattle.pl_executor.specs.Cores.{CoreHolds, CoreKeeps};
+ghost use Rattle.pl_executor.specs.OutboxViews.{SameFor, Sends, oldest_untried};
 ghost use Rattle.pl_executor.specs.Serving.{ServesNone, ReadsAtMostOnce, WritesAtMostOnce};
 
 use crate::outboxes::{Offered, Outboxes};
@@ -40,21 +39,9 @@ where
     /// is closed, the context that wrote it fails; where the seat is spent, the item is dropped, and its lane is cut. False
     /// where the list is empty.
     pub fn step(&mut self) -> bool
-        requires stands { N.stands self.old.part }
-        requires home { N.home self.old.part ≡ self.old.number }
-        requires places { HasPlaces self.old.work.stopped (N.lanes self.old.part) }
-        requires runs { Runs W.world self.old.number (N.target_of self.old.part) (N.writes self.old.part) (N.taken_of self.old.part) (N.came self.old.part) self.old.outboxes self.old.work }
-        requires why { N.was_refused self.old.part ≡ true → SomeClosed self.old.outboxes }
-        ensures stands { N.stands self.new.part }
-        ensures home { N.home self.new.part ≡ self.new.number }
-        ensures places { HasPlaces self.new.work.stopped (N.lanes self.new.part) }
-        ensures runs { Runs W.world self.new.number (N.target_of self.new.part) (N.writes self.new.part) (N.taken_of self.new.part) (N.came self.new.part) self.new.outboxes self.new.work }
-        ensures why { N.was_refused self.new.part ≡ true → SomeClosed self.new.outboxes }
-        ensures number { self.new.number ≡ self.old.number }
-        ensures routes { (l : Lane) → N.target_of self.new.part l ≡ N.target_of self.old.part l }
-        ensures writes { (l : Lane) → N.writes self.new.part l ≡ N.writes self.old.part l }
-        ensures count { N.count self.new.part ≡ N.count self.old.part }
-        ensures sends { SendsNothing self.old.outboxes self.new.outboxes }
+        requires holds { CoreHolds N.target_of N.writes W.world N.stands N.home N.lanes N.taken_of N.came N.was_refused self.old }
+        ensures holds { CoreHolds N.target_of N.writes W.world N.stands N.home N.lanes N.taken_of N.came N.was_refused self.new }
+        ensures keeps { CoreKeeps N.target_of N.writes N.count self.old self.new }
         ensures served { ServesNone (N.served self.old.part) (N.served self.new.part) }
         ensures taken { (l : Lane) → N.writes self.old.part l ≡ false → N.taken_of self.new.part l ≡ N.taken_of self.old.part l }
         ensures empty { result ≡ false → self.new.work.items ≡ [] }
@@ -76,25 +63,13 @@ where
 
     /// An item of a lane that another executor writes is taken.
     pub fn take(&mut self, task: Envelope)
-        requires stands { N.stands self.old.part }
-        requires home { N.home self.old.part ≡ self.old.number }
-        requires places { HasPlaces self.old.work.stopped (N.lanes self.old.part) }
-        requires runs { Runs W.world self.old.number (N.target_of self.old.part) (N.writes self.old.part) (N.taken_of self.old.part) (N.came self.old.part) self.old.outboxes self.old.work }
-        requires why { N.was_refused self.old.part ≡ true → SomeClosed self.old.outboxes }
+        requires holds { CoreHolds N.target_of N.writes W.world N.stands N.home N.lanes N.taken_of N.came N.was_refused self.old }
         requires here { N.target_of self.old.part task.lane ≡ self.old.number }
         requires foreign { N.writes self.old.part task.lane ≡ false }
         requires number { task.number ≡ N.taken_of self.old.part task.lane }
         requires good { IsGood W.world task }
-        ensures stands { N.stands self.new.part }
-        ensures home { N.home self.new.part ≡ self.new.number }
-        ensures places { HasPlaces self.new.work.stopped (N.lanes self.new.part) }
-        ensures runs { Runs W.world self.new.number (N.target_of self.new.part) (N.writes self.new.part) (N.taken_of self.new.part) (N.came self.new.part) self.new.outboxes self.new.work }
-        ensures why { N.was_refused self.new.part ≡ true → SomeClosed self.new.outboxes }
-        ensures number { self.new.number ≡ self.old.number }
-        ensures routes { (l : Lane) → N.target_of self.new.part l ≡ N.target_of self.old.part l }
-        ensures writes { (l : Lane) → N.writes self.new.part l ≡ N.writes self.old.part l }
-        ensures count { N.count self.new.part ≡ N.count self.old.part }
-        ensures sends { SendsNothing self.old.outboxes self.new.outboxes }
+        ensures holds { CoreHolds N.target_of N.writes W.world N.stands N.home N.lanes N.taken_of N.came N.was_refused self.new }
+        ensures keeps { CoreKeeps N.target_of N.writes N.count self.old self.new }
         ensures served { ServesNone (N.served self.old.part) (N.served self.new.part) }
         ensures taken { (l : Lane) → N.taken_of self.new.part l ≡ cond (same_lane l task.lane) (task.number + 1) (N.taken_of self.old.part l) }
     {
@@ -103,21 +78,9 @@ where
 
     /// Works the list off.
     pub fn work_off<R: Wait>(&mut self, rt: &R)
-        requires stands { N.stands self.old.part }
-        requires home { N.home self.old.part ≡ self.old.number }
-        requires places { HasPlaces self.old.work.stopped (N.lanes self.old.part) }
-        requires runs { Runs W.world self.old.number (N.target_of self.old.part) (N.writes self.old.part) (N.taken_of self.old.part) (N.came self.old.part) self.old.outboxes self.old.work }
-        requires why { N.was_refused self.old.part ≡ true → SomeClosed self.old.outboxes }
-        ensures stands { N.stands self.new.part }
-        ensures home { N.home self.new.part ≡ self.new.number }
-        ensures places { HasPlaces self.new.work.stopped (N.lanes self.new.part) }
-        ensures runs { Runs W.world self.new.number (N.target_of self.new.part) (N.writes self.new.part) (N.taken_of self.new.part) (N.came self.new.part) self.new.outboxes self.new.work }
-        ensures why { N.was_refused self.new.part ≡ true → SomeClosed self.new.outboxes }
-        ensures number { self.new.number ≡ self.old.number }
-        ensures routes { (l : Lane) → N.target_of self.new.part l ≡ N.target_of self.old.part l }
-        ensures writes { (l : Lane) → N.writes self.new.part l ≡ N.writes self.old.part l }
-        ensures count { N.count self.new.part ≡ N.count self.old.part }
-        ensures sends { SendsNothing self.old.outboxes self.new.outboxes }
+        requires holds { CoreHolds N.target_of N.writes W.world N.stands N.home N.lanes N.taken_of N.came N.was_refused self.old }
+        ensures holds { CoreHolds N.target_of N.writes W.world N.stands N.home N.lanes N.taken_of N.came N.was_refused self.new }
+        ensures keeps { CoreKeeps N.target_of N.writes N.count self.old self.new }
         ensures served { ServesNone (N.served self.old.part) (N.served self.new.part) }
         ensures taken { (l : Lane) → N.writes self.old.part l ≡ false → N.taken_of self.new.part l ≡ N.taken_of self.old.part l }
         ensures empty { self.new.work.items ≡ [] }
@@ -133,24 +96,12 @@ where
     /// A channel's next read step, with the direct calls that follow. False where it is not enabled.
     pub fn read<R: Wait>(&mut self, rt: &R, channel: usize) -> bool
         requires there { channel < N.count self.old.part }
-        requires stands { N.stands self.old.part }
-        requires home { N.home self.old.part ≡ self.old.number }
-        requires places { HasPlaces self.old.work.stopped (N.lanes self.old.part) }
-        requires runs { Runs W.world self.old.number (N.target_of self.old.part) (N.writes self.old.part) (N.taken_of self.old.part) (N.came self.old.part) self.old.outboxes self.old.work }
-        requires why { N.was_refused self.old.part ≡ true → SomeClosed self.old.outboxes }
+        requires holds { CoreHolds N.target_of N.writes W.world N.stands N.home N.lanes N.taken_of N.came N.was_refused self.old }
         requires empty { self.old.work.items ≡ [] }
         ensures enabled { N.may_read self.old.part channel result }
         ensures idle { result ≡ false → self.new ≡ self.old }
-        ensures stands { N.stands self.new.part }
-        ensures home { N.home self.new.part ≡ self.new.number }
-        ensures places { HasPlaces self.new.work.stopped (N.lanes self.new.part) }
-        ensures runs { Runs W.world self.new.number (N.target_of self.new.part) (N.writes self.new.part) (N.taken_of self.new.part) (N.came self.new.part) self.new.outboxes self.new.work }
-        ensures why { N.was_refused self.new.part ≡ true → SomeClosed self.new.outboxes }
-        ensures number { self.new.number ≡ self.old.number }
-        ensures routes { (l : Lane) → N.target_of self.new.part l ≡ N.target_of self.old.part l }
-        ensures writes { (l : Lane) → N.writes self.new.part l ≡ N.writes self.old.part l }
-        ensures count { N.count self.new.part ≡ N.count self.old.part }
-        ensures sends { SendsNothing self.old.outboxes self.new.outboxes }
+        ensures holds { CoreHolds N.target_of N.writes W.world N.stands N.home N.lanes N.taken_of N.came N.was_refused self.new }
+        ensures keeps { CoreKeeps N.target_of N.writes N.count self.old self.new }
         ensures served { ReadsAtMostOnce (N.served self.old.part) (N.served self.new.part) }
         ensures taken { (l : Lane) → N.writes self.old.part l ≡ false → N.taken_of self.new.part l ≡ N.taken_of self.old.part l }
         ensures empty { self.new.work.items ≡ [] }
@@ -165,24 +116,12 @@ where
     /// A write to a channel's transport, with the direct calls that follow. False where it is not enabled.
     pub fn write<R: Wait>(&mut self, rt: &R, channel: usize) -> bool
         requires there { channel < N.count self.old.part }
-        requires stands { N.stands self.old.part }
-        requires home { N.home self.old.part ≡ self.old.number }
-        requires places { HasPlaces self.old.work.stopped (N.lanes self.old.part) }
-        requires runs { Runs W.world self.old.number (N.target_of self.old.part) (N.writes self.old.part) (N.taken_of self.old.part) (N.came self.old.part) self.old.outboxes self.old.work }
-        requires why { N.was_refused self.old.part ≡ true → SomeClosed self.old.outboxes }
+        requires holds { CoreHolds N.target_of N.writes W.world N.stands N.home N.lanes N.taken_of N.came N.was_refused self.old }
         requires empty { self.old.work.items ≡ [] }
         ensures enabled { N.may_write self.old.part channel result }
         ensures idle { result ≡ false → self.new ≡ self.old }
-        ensures stands { N.stands self.new.part }
-        ensures home { N.home self.new.part ≡ self.new.number }
-        ensures places { HasPlaces self.new.work.stopped (N.lanes self.new.part) }
-        ensures runs { Runs W.world self.new.number (N.target_of self.new.part) (N.writes self.new.part) (N.taken_of self.new.part) (N.came self.new.part) self.new.outboxes self.new.work }
-        ensures why { N.was_refused self.new.part ≡ true → SomeClosed self.new.outboxes }
-        ensures number { self.new.number ≡ self.old.number }
-        ensures routes { (l : Lane) → N.target_of self.new.part l ≡ N.target_of self.old.part l }
-        ensures writes { (l : Lane) → N.writes self.new.part l ≡ N.writes self.old.part l }
-        ensures count { N.count self.new.part ≡ N.count self.old.part }
-        ensures sends { SendsNothing self.old.outboxes self.new.outboxes }
+        ensures holds { CoreHolds N.target_of N.writes W.world N.stands N.home N.lanes N.taken_of N.came N.was_refused self.new }
+        ensures keeps { CoreKeeps N.target_of N.writes N.count self.old self.new }
         ensures served { WritesAtMostOnce (N.served self.old.part) (N.served self.new.part) }
         ensures taken { (l : Lane) → N.writes self.old.part l ≡ false → N.taken_of self.new.part l ≡ N.taken_of self.old.part l }
         ensures empty { self.new.work.items ≡ [] }
@@ -197,10 +136,8 @@ where
     /// Hands over the oldest envelope whose queue has room: each queue is tried once. The target to which it went, or None
     /// where nothing waits but for queues that are full.
     pub fn hand<R: Wait>(&mut self, rt: &R) -> Option<usize>
-        requires runs { Runs W.world self.old.number (N.target_of self.old.part) (N.writes self.old.part) (N.taken_of self.old.part) (N.came self.old.part) self.old.outboxes self.old.work }
-        requires why { N.was_refused self.old.part ≡ true → SomeClosed self.old.outboxes }
-        ensures runs { Runs W.world self.new.number (N.target_of self.new.part) (N.writes self.new.part) (N.taken_of self.new.part) (N.came self.new.part) self.new.outboxes self.new.work }
-        ensures why { N.was_refused self.new.part ≡ true → SomeClosed self.new.outboxes }
+        requires holds { CoreHolds N.target_of N.writes W.world N.stands N.home N.lanes N.taken_of N.came N.was_refused self.old }
+        ensures holds { CoreHolds N.target_of N.writes W.world N.stands N.home N.lanes N.taken_of N.came N.was_refused self.new }
         ensures part { self.new.part ≡ self.old.part }
         ensures number { self.new.number ≡ self.old.number }
         ensures work { self.new.work ≡ self.old.work }

@@ -63,21 +63,16 @@ where
     M::Sender: Drop,
     M::Taker: Drop,
 {
-    ghost use Rattle.std.specs.Prelude.{◌≡◌, ◌<◌, ◌^◌, [], true};
-    ghost use Rattle.pl_executor.specs.OutboxViews.{SomeClosed};
-    ghost use Rattle.pl_context.specs.Stops.{HasPlaces};
-    ghost use Rattle.pl_executor.specs.Running.{ExecutorView, Runs, IsTaking, IsCounting};
+    ghost use Rattle.std.specs.Prelude.{◌≡◌, ◌<◌, ◌^◌, []};
+    ghost use Rattle.pl_executor.specs.Cores.{CoreHolds};
+    ghost use Rattle.pl_executor.specs.Running.{ExecutorView, IsTaking, IsCounting};
 
     ghost Value = { ExecutorView N };
 
     ghost view = { λ e. record { number = e.core.number; part = e.core.part; outboxes = e.core.outboxes; takes = M.takes_of e.taker; owner = e.owner; turns = e.turns } };
 
-    ghost invariant = { λ e. N.stands e.core.part
-        × (N.home e.core.part ≡ e.core.number)
-        × HasPlaces e.core.work.stopped (N.lanes e.core.part)
-        × Runs W.world e.core.number (N.target_of e.core.part) (N.writes e.core.part) (N.taken_of e.core.part) (N.came e.core.part) e.core.outboxes e.core.work
+    ghost invariant = { λ e. CoreHolds N.target_of N.writes W.world N.stands N.home N.lanes N.taken_of N.came N.was_refused e.core
         × (e.core.work.items ≡ [])
-        × (N.was_refused e.core.part ≡ true → SomeClosed e.core.outboxes)
         × M.is_taker e.inbox.now.mailbox e.taker
         × IsTaking e.core.number (N.target_of e.core.part) (N.writes e.core.part) (N.taken_of e.core.part) (M.takes_of e.taker).counts
         × (e.owner.name ≡ e.inbox.now.admission.name)

@@ -1,6 +1,6 @@
-use Rattle.std.proofs.Common.{◌≡◌, true}
-use Rattle.pl_executor.specs.OutboxViews.{Keeps, SomeClosed}
-use Rattle.pl_executor.specs.Running.{Runs}
+use Rattle.std.proofs.Common.{◌≡◌}
+use Rattle.pl_executor.specs.Cores.{CoreHolds}
+use Rattle.pl_executor.specs.OutboxViews.{Keeps}
 use Rattle.pl_executor.proofs.cores.Core.hand.Given as goal
 
 abbrev pub invariant-loop : goal.invariant-loop
@@ -9,6 +9,5 @@ invariant-loop g l = record {
   part : l.self.part ≡ l.fn.self.part;
   work : l.self.work ≡ l.fn.self.work;
   keeps : Keeps l.fn.self.outboxes l.self.outboxes;
-  why : g.N.Part.was_refused l.self.part ≡ true → SomeClosed l.self.outboxes;
-  runs : Runs g.W.Named.world l.self.number (g.N.Part.target_of l.self.part) (g.N.Part.writes l.self.part) (g.N.Part.taken_of l.self.part) (g.N.Part.came l.self.part) l.self.outboxes l.self.work;
+  holds : CoreHolds g.N.Part.target_of g.N.Part.writes g.W.Named.world g.N.Part.stands g.N.Part.home g.N.Part.lanes g.N.Part.taken_of g.N.Part.came g.N.Part.was_refused l.self;
 }

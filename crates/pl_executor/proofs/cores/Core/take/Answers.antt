@@ -1,12 +1,19 @@
-use Rattle.pl_executor.proofs.RunLemmas.{task-taken, runs-on}
+use Rattle.std.proofs.Common.{refl, sym, ◌∙◌}
+use Rattle.pl_executor.proofs.RunLemmas.{task-taken, places-on, runs-on}
 use Rattle.pl_executor.proofs.cores.Core.take.Goals as goal
 
-pub returns-clause-runs : goal.returns-clause-runs
-returns-clause-runs g c =
+pub returns-clause-holds : goal.returns-clause-holds
+returns-clause-holds g c =
     let part = c.args.self.now.part in
-    let part' = c.take.new.self in
-    runs-on g.W.Named.world c.args.self.now.number (g.N.Part.target_of part) (g.N.Part.target_of part') (g.N.Part.writes part) (g.N.Part.writes part') (g.N.Part.taken_of part') (g.N.Part.taken_of part')
-    (g.N.Part.came part) (g.N.Part.came part') c.args.self.now.outboxes c.args.self.now.work c.take.new.work
-    (task-taken g.W.Named.world c.args.self.now.number (g.N.Part.target_of part) (g.N.Part.writes part) (g.N.Part.taken_of part) (g.N.Part.taken_of part') (g.N.Part.came part)
-    c.args.self.now.outboxes c.args.self.now.work c.args.task c.requires.runs c.requires.foreign c.take.ensures.taken)
-    c.take.ensures.made c.take.ensures.routes c.take.ensures.writes (λ l i. g.N.Part.taken_of part' l)
+    let part' = c.take.new.self in record {
+      stood = c.take.ensures.stands;
+      at_home = c.take.ensures.home ∙ c.requires.holds.at_home;
+      places = places-on (g.N.Part.lanes part) (g.N.Part.lanes part') c.args.self.now.work.stopped c.args.self.now.work.stopped c.take.new.work.stopped c.take.ensures.lanes refl c.take.ensures.placed c.requires.holds.places;
+      runs =
+          runs-on g.W.Named.world c.args.self.now.number (g.N.Part.target_of part) (g.N.Part.target_of part') (g.N.Part.writes part) (g.N.Part.writes part') (g.N.Part.taken_of part') (g.N.Part.taken_of part')
+          (g.N.Part.came part) (g.N.Part.came part') c.args.self.now.outboxes c.args.self.now.work c.take.new.work
+          (task-taken g.W.Named.world c.args.self.now.number (g.N.Part.target_of part) (g.N.Part.writes part) (g.N.Part.taken_of part) (g.N.Part.taken_of part') (g.N.Part.came part)
+          c.args.self.now.outboxes c.args.self.now.work c.args.task c.requires.holds.runs c.requires.foreign c.take.ensures.taken)
+          c.take.ensures.made c.take.ensures.routes c.take.ensures.writes (λ l i. g.N.Part.taken_of part' l);
+      why = λ e. c.requires.holds.why (sym c.take.ensures.refused ∙ e);
+    }

@@ -9,16 +9,12 @@ invariant_of-self g c =
     let after = c.read.new.self in
     let counts = (g.M.Mailbox.takes_of c.self.inside.taker).counts in
     let stays = taking-stays before.number (g.N.Part.target_of before.part) (g.N.Part.target_of after.part) (g.N.Part.writes before.part) (g.N.Part.writes after.part) (g.N.Part.taken_of before.part) (g.N.Part.taken_of after.part)
-    counts c.self.invariant.7 c.read.ensures.routes c.read.ensures.writes c.read.ensures.taken in (
-      c.read.ensures.stands,
-      c.read.ensures.home,
-      c.read.ensures.places,
-      c.read.ensures.runs,
+    counts c.self.invariant.3 c.read.ensures.keeps.routes c.read.ensures.keeps.written c.read.ensures.taken in (
+      c.read.ensures.holds,
       c.read.ensures.empty,
-      c.read.ensures.why,
-      c.self.invariant.6,
-      subst (λ (n : ℕ). IsTaking n (g.N.Part.target_of after.part) (g.N.Part.writes after.part) (g.N.Part.taken_of after.part) counts) (sym c.read.ensures.number) stays,
-      c.self.invariant.8,
-      c.self.invariant.9,
-      subst (λ (n : ℕ). n < 2 ^ 16) (sym c.read.ensures.number) c.self.invariant.10,
+      c.self.invariant.2,
+      subst (λ (n : ℕ). IsTaking n (g.N.Part.target_of after.part) (g.N.Part.writes after.part) (g.N.Part.taken_of after.part) counts) (sym c.read.ensures.keeps.number) stays,
+      c.self.invariant.4,
+      c.self.invariant.5,
+      subst (λ (n : ℕ). n < 2 ^ 16) (sym c.read.ensures.keeps.number) c.self.invariant.6,
     )

@@ -18,39 +18,31 @@ invariant_of-self-in-Some g c =
     let now = set_take_count x.lane (x.number + 1) counts in
     let is : (g.M.Mailbox.takes_of c.take.new.taker).counts ≡ now = ap (λ (t : TakerView). t.counts) told.3 in
     let first = taking-taken before.number (g.N.Part.target_of before.part) (g.N.Part.target_of mid.part) (g.N.Part.writes before.part) (g.N.Part.writes mid.part) (g.N.Part.taken_of before.part) (g.N.Part.taken_of mid.part)
-    counts x c.self.invariant.7 told.0 c.take-in-Some.ensures.routes c.take-in-Some.ensures.writes c.take-in-Some.ensures.taken in
-    let number = c.work_off.ensures.number ∙ c.take-in-Some.ensures.number in
+    counts x c.self.invariant.3 told.0 c.take-in-Some.ensures.keeps.routes c.take-in-Some.ensures.keeps.written c.take-in-Some.ensures.taken in
+    let number = c.work_off.ensures.keeps.number ∙ c.take-in-Some.ensures.keeps.number in
     let second = taking-stays before.number (g.N.Part.target_of mid.part) (g.N.Part.target_of after.part) (g.N.Part.writes mid.part) (g.N.Part.writes after.part) (g.N.Part.taken_of mid.part) (g.N.Part.taken_of after.part)
-    now first c.work_off.ensures.routes c.work_off.ensures.writes c.work_off.ensures.taken in (
-      c.work_off.ensures.stands,
-      c.work_off.ensures.home,
-      c.work_off.ensures.places,
-      c.work_off.ensures.runs,
+    now first c.work_off.ensures.keeps.routes c.work_off.ensures.keeps.written c.work_off.ensures.taken in (
+      c.work_off.ensures.holds,
       c.work_off.ensures.empty,
-      c.work_off.ensures.why,
       c.take.ensures.taker,
       subst (λ (y : ℕ × List TakeCount). IsTaking y.0 (g.N.Part.target_of after.part) (g.N.Part.writes after.part) (g.N.Part.taken_of after.part) y.1) (λ i. (sym number i, sym is i)) second,
-      c.self.invariant.8,
+      c.self.invariant.4,
       counts-take c.self.inside.owner c.self.inside.is_closed c.self.inside.run c.saturating_add-self-inside.result (g.M.Mailbox.takes_of c.self.inside.taker).pops (g.M.Mailbox.takes_of c.take.new.taker).pops
-          c.self.invariant.9 c.if-self.false c.saturating_add-self-inside.ensures (ap (λ (t : TakerView). t.pops) told.3),
-      subst (λ (n : ℕ). n < 2 ^ 16) (sym number) c.self.invariant.10,
+          c.self.invariant.5 c.if-self.false c.saturating_add-self-inside.ensures (ap (λ (t : TakerView). t.pops) told.3),
+      subst (λ (n : ℕ). n < 2 ^ 16) (sym number) c.self.invariant.6,
     )
 
 pub take-requires-in-Some-clause-here : goal.take-requires-in-Some-clause-here
-take-requires-in-Some-clause-here g c = (c.self.invariant.7 c.in-Some.envelope.lane c.in-Some.envelope.number c.in-Some.ensures.taken.0).0
+take-requires-in-Some-clause-here g c = (c.self.invariant.3 c.in-Some.envelope.lane c.in-Some.envelope.number c.in-Some.ensures.taken.0).0
 
 pub invariant_of-self : goal.invariant_of-self
 invariant_of-self g c =
     let core = c.self.inside.core in (
       c.self.invariant.0,
       c.self.invariant.1,
-      c.self.invariant.2,
-      c.self.invariant.3,
-      c.self.invariant.4,
-      c.self.invariant.5,
       c.take.ensures.taker,
-      subst (λ (t : TakerView). IsTaking core.number (g.N.Part.target_of core.part) (g.N.Part.writes core.part) (g.N.Part.taken_of core.part) t.counts) (sym c.in-None.ensures.taken.0) c.self.invariant.7,
-      c.self.invariant.8,
-      subst (λ (t : TakerView). IsCounting c.self.inside.owner c.self.inside.is_closed c.self.inside.run t.pops) (sym c.in-None.ensures.taken.0) c.self.invariant.9,
-      c.self.invariant.10,
+      subst (λ (t : TakerView). IsTaking core.number (g.N.Part.target_of core.part) (g.N.Part.writes core.part) (g.N.Part.taken_of core.part) t.counts) (sym c.in-None.ensures.taken.0) c.self.invariant.3,
+      c.self.invariant.4,
+      subst (λ (t : TakerView). IsCounting c.self.inside.owner c.self.inside.is_closed c.self.inside.run t.pops) (sym c.in-None.ensures.taken.0) c.self.invariant.5,
+      c.self.invariant.6,
     )

@@ -9,16 +9,12 @@ invariant_of-self g c =
     let after = c.write.new.self in
     let counts = (g.M.Mailbox.takes_of c.self.inside.taker).counts in
     let stays = taking-stays before.number (g.N.Part.target_of before.part) (g.N.Part.target_of after.part) (g.N.Part.writes before.part) (g.N.Part.writes after.part) (g.N.Part.taken_of before.part) (g.N.Part.taken_of after.part)
-    counts c.self.invariant.7 c.write.ensures.routes c.write.ensures.writes c.write.ensures.taken in (
-      c.write.ensures.stands,
-      c.write.ensures.home,
-      c.write.ensures.places,
-      c.write.ensures.runs,
+    counts c.self.invariant.3 c.write.ensures.keeps.routes c.write.ensures.keeps.written c.write.ensures.taken in (
+      c.write.ensures.holds,
       c.write.ensures.empty,
-      c.write.ensures.why,
-      c.self.invariant.6,
-      subst (λ (n : ℕ). IsTaking n (g.N.Part.target_of after.part) (g.N.Part.writes after.part) (g.N.Part.taken_of after.part) counts) (sym c.write.ensures.number) stays,
-      c.self.invariant.8,
-      c.self.invariant.9,
-      subst (λ (n : ℕ). n < 2 ^ 16) (sym c.write.ensures.number) c.self.invariant.10,
+      c.self.invariant.2,
+      subst (λ (n : ℕ). IsTaking n (g.N.Part.target_of after.part) (g.N.Part.writes after.part) (g.N.Part.taken_of after.part) counts) (sym c.write.ensures.keeps.number) stays,
+      c.self.invariant.4,
+      c.self.invariant.5,
+      subst (λ (n : ℕ). n < 2 ^ 16) (sym c.write.ensures.keeps.number) c.self.invariant.6,
     )
