@@ -58,23 +58,29 @@ fewer hops xs lane distinct new all own =
     let few = length-le_from_is_member same_hop-laws (xs ++ lane ∷ []) hops (IsDistinct-push same_hop-laws xs lane distinct new) (within-push xs hops lane all own) in
     omega (arith, length-append xs (lane ∷ []), few)
 
-pub fewer-data : (s : StopsView) (lane : Lane) → lane.kind ≡ Data → HasPlaces s (lane ∷ []) → has_stopped s lane ≡ false → IsDistinct same_hop s.lanes → length s.lanes < s.places
-fewer-data s lane is_data places new distinct =
-    let none : list_any (same_hop lane) s.lanes ≡ false = sym (ap (λ (k : Kind). elim k [ Data ↦ list_any (same_hop lane) s.lanes | Flags ↦ list_any (same_hop lane) s.flag_lanes ]) is_data) ∙ new in
-    let less = fewer places.hops s.lanes lane distinct none places.stopped places.own in
-    omega (arith, less, places.few)
+-- a lane that has a place and goes on: so it is when its list is opened
+module _ (s now : StopsView) (same : s ≡ now) (lane : Lane) (placed : HasPlaces now (lane ∷ [])) (goes_on : has_stopped now lane ≡ false) where
+  places : HasPlaces s (lane ∷ [])
+  places = subst (λ (t : StopsView). HasPlaces t (lane ∷ [])) (sym same) placed
 
-pub fewer-flags : (s : StopsView) (lane : Lane) → lane.kind ≡ Flags → HasPlaces s (lane ∷ []) → has_stopped s lane ≡ false → IsDistinct same_hop s.flag_lanes → length s.flag_lanes < s.places
-fewer-flags s lane is_flags places new distinct =
-    let none : list_any (same_hop lane) s.flag_lanes ≡ false = sym (ap (λ (k : Kind). elim k [ Data ↦ list_any (same_hop lane) s.lanes | Flags ↦ list_any (same_hop lane) s.flag_lanes ]) is_flags) ∙ new in
-    let less = fewer places.hops s.flag_lanes lane distinct none places.stopped_flags places.own in
-    omega (arith, less, places.few)
+  new : (k : Kind) → lane.kind ≡ k → elim k [ Data ↦ list_any (same_hop lane) s.lanes | Flags ↦ list_any (same_hop lane) s.flag_lanes ] ≡ false
+  new k is =
+      sym (ap (λ (k : Kind). elim k [ Data ↦ list_any (same_hop lane) s.lanes | Flags ↦ list_any (same_hop lane) s.flag_lanes ]) is)
+      ∙ subst (λ (t : StopsView). has_stopped t lane ≡ false) (sym same) goes_on
 
-pub not-stopped-data : (s : StopsView) (lane : Lane) → lane.kind ≡ Data → has_stopped s lane ≡ false → list_any (same_hop lane) s.lanes ≡ false
-not-stopped-data s lane is_data new = sym (ap (λ (k : Kind). elim k [ Data ↦ list_any (same_hop lane) s.lanes | Flags ↦ list_any (same_hop lane) s.flag_lanes ]) is_data) ∙ new
+  module _ (is : lane.kind ≡ Data) (distinct : IsDistinct same_hop s.lanes) where
+    pub fewer-data : length s.lanes < s.places
+    fewer-data = let less = fewer places.hops s.lanes lane distinct (new Data is) places.stopped places.own in omega (arith, less, places.few)
 
-pub not-stopped-flags : (s : StopsView) (lane : Lane) → lane.kind ≡ Flags → has_stopped s lane ≡ false → list_any (same_hop lane) s.flag_lanes ≡ false
-not-stopped-flags s lane is_flags new = sym (ap (λ (k : Kind). elim k [ Data ↦ list_any (same_hop lane) s.lanes | Flags ↦ list_any (same_hop lane) s.flag_lanes ]) is_flags) ∙ new
+    pub distinct-data : IsDistinct same_hop (s.lanes ++ lane ∷ [])
+    distinct-data = IsDistinct-push same_hop-laws s.lanes lane distinct (new Data is)
+
+  module _ (is : lane.kind ≡ Flags) (distinct : IsDistinct same_hop s.flag_lanes) where
+    pub fewer-flags : length s.flag_lanes < s.places
+    fewer-flags = let less = fewer places.hops s.flag_lanes lane distinct (new Flags is) places.stopped_flags places.own in omega (arith, less, places.few)
+
+    pub distinct-flags : IsDistinct same_hop (s.flag_lanes ++ lane ∷ [])
+    distinct-flags = IsDistinct-push same_hop-laws s.flag_lanes lane distinct (new Flags is)
 
 -- ---- places stay
 

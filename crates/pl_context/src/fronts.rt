@@ -70,7 +70,9 @@ impl Fronts {
         if was == age {
             return;
         }
-        self.remove(target);
+        if was.is_some() {
+            self.remove(target);
+        }
         if let Some(age) = age {
             self.insert(target, age);
         }

@@ -1,1 +1,2 @@
 pub mod SampleLemmas
+pub mod WaitingLemmas

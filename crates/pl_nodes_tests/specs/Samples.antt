@@ -1,6 +1,6 @@
 -- Stages for the tests: one of each direction. An event goes on as it is; the turn writes a flush for each, and quits
 -- with the first ReadComplete.
-use Rattle.std.specs.Prelude.{◌≡◌, List, [], ◌∷◌, ◌++◌, Bool, true, false, ◌||◌, if◌then◌else◌, refl}
+use Rattle.std.specs.Prelude.{◌≡◌, ℕ, ◌<◌, length, List, [], ◌∷◌, ◌++◌, Bool, true, false, ◌||◌, if◌then◌else◌, refl}
 use Rattle.std.specs.List.{list_any}
 use Rattle.std.proofs.Common.{ap, ◌∙◌, cond}
 use Rattle.std.proofs.lemmas.List.Folds.{list_any-append}
@@ -13,6 +13,8 @@ use Rattle.pl_event.specs.declared.envelopes.Kind.TheVariants.{Data}
 use Rattle.pl_event.specs.declared.stages.Turned.{Turned}
 use Rattle.pl_event.specs.declared.stages.Turned.TheVariants.{Open, Ended}
 use Rattle.pl_event.specs.Meaning.{Meaning, IsLawful}
+use Rattle.pl_context.specs.Stops.{HasPlaces}
+use Rattle.pl_context.specs.WaitingViews.{WaitingView, Entry, Holds, stops_for}
 
 abbrev pub is_complete : Event → Bool
 is_complete Active = false
@@ -64,3 +66,10 @@ relaying-lawful Turn = record {
 -- a lane of the tests
 abbrev pub sample_lane : Lane
 sample_lane = record { channel = 7; kind = Data; hop = 2 }
+
+-- Something waits for three targets, and the lane of the tests has a place on the way to each.
+pub record WaitsForThree (w : WaitingView ℕ) : Type 0 where
+  pub entries : List (Entry ℕ)
+  pub holds : Holds w entries
+  pub targets : length w.targets ≡ 3
+  pub places : (target : ℕ) → target < 3 → HasPlaces (stops_for w target) (sample_lane ∷ [])

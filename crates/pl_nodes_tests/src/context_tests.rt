@@ -210,7 +210,7 @@ fn lane(kind: Kind, hop: u16) -> Lane
     }
 }
 
-fn data(hop: u16, number: u64, item: Item) -> Envelope
+pub(crate) fn data(hop: u16, number: u64, item: Item) -> Envelope
     ensures { result ≡ record { lane = record { channel = 7; kind = Data; hop = hop }; number = number; item = item } }
 {
     Envelope {

@@ -1,4 +1,4 @@
-//! Tests of contexts, of the tail, of outputs and backlogs, and of the head with its transports.
+//! Tests of contexts, of the tail, of the lists on which envelopes wait, and of the head with its transports.
 #![tactic(auto)]
 
 #[cfg(test)]
@@ -14,6 +14,8 @@ mod load_tests;
 #[cfg(test)]
 mod transport_tests;
 mod trickle;
+#[cfg(test)]
+mod waiting_tests;
 #[cfg(test)]
 mod watermark_tests;
 
