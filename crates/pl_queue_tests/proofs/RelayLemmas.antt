@@ -22,7 +22,7 @@ use Rattle.pl_queue.proofs.Drains.{set_send_count-lanes, set_take_count-lanes, a
 use Rattle.pl_queue.proofs.Lists.{none-some, map-append}
 use Rattle.pl_queue_tests.specs.Flags.{flag_at}
 use Rattle.pl_queue_tests.specs.Lines.{CarriesLines, line_read}
-use Rattle.pl_queue_tests.specs.Relays.{IsFresh, lane_events, event_at, event, two_lanes, sending_lanes, taking_lanes}
+use Rattle.pl_queue_tests.specs.Relays.{IsFresh, lane_events, event_at, event, sending_lanes, taking_lanes}
 
 in_replicate : {A : Type 0} (a : A) (n count : ℕ) → n < count → slice_get (replicate count a) n ≡ Some a
 in_replicate a n zero h = absurd (omega arith)
@@ -196,9 +196,9 @@ one-sender f none all x t first a b own taker =
     subst (λ ss. AreAll (send_counts_of (map f ss)) t.counts) (sym is)
     (all-given (send_counts_of (f x ∷ [])) t.counts (map-append (λ (c : SendCount). c.lane) (f x).send_counts [] ∙ ap (λ ls. ls ++ []) own ∙ sym taker))
 
--- a world of two lanes
-pub in_first : (a b : Lane) (last : ℕ) → content_of (two_lanes a b last) a ≡ Some (lane_events last)
-in_first a b last = cond-true (same_lane a a) _ _ (same_lane-self a)
+-- worlds of one lane, and of two
+pub in_first : (l : Lane) (events : List Event) (rest : World) → content_of ((l, events) ∷ rest) l ≡ Some events
+in_first l events rest = cond-true (same_lane l l) _ _ (same_lane-self l)
 
-pub in_second : (a b : Lane) (last : ℕ) → same_lane b a ≡ false → content_of (two_lanes a b last) b ≡ Some (lane_events last)
-in_second a b last e = cond-false (same_lane b a) _ _ e ∙ cond-true (same_lane b b) _ _ (same_lane-self b)
+pub in_second : (l m : Lane) (events others : List Event) → same_lane m l ≡ false → content_of ((l, events) ∷ (m, others) ∷ []) m ≡ Some others
+in_second l m events others apart = cond-false (same_lane m l) _ _ apart ∙ in_first m others []

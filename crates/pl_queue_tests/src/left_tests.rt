@@ -1,9 +1,9 @@
-//! What is left at the end, and where memory is refused.
+//! What is left at the end, also where memory is refused.
 
 use crate::boxes::{BoxKind, leave_one_by};
 use crate::leaving::Stopped;
-use crate::relays::Relayed;
-use pl_event::{Event, Item, Kind, Lane};
+use crate::relays::{Relayed, data_lane};
+use pl_event::{Event, Item};
 use pl_queue::OpenRefusal;
 use std::alloc::Global;
 use std::marker::Brand;
@@ -11,19 +11,32 @@ use std::process::Abort;
 use std::sync::Wait;
 use std::test::*;
 
+// Of each of so many lanes so many envelopes were handed over and taken, and so many are left.
+pub(crate) fn assert_account(
+    rt: &impl Abort,
+    relayed: &Relayed,
+    lanes: usize,
+    handed: u64,
+    taken: u64,
+    left: usize,
+) {
+    assert_eq!(rt; relayed.left.lanes.len(), lanes);
+    for entry in relayed.left.lanes.as_slice() {
+        assert_eq!(rt; entry.handed, handed);
+        assert_eq!(rt; entry.taken, taken);
+        assert_eq!(rt; entry.left.len(), left);
+    }
+}
+
 // Two were handed over, one was taken, and the envelope with the number 1 is left.
-fn one_is_left(rt: &impl Abort, relayed: Relayed) -> Result<(), Fail> {
+pub(crate) fn one_is_left(rt: &impl Abort, relayed: Relayed) -> Result<(), Fail> {
     assert_eq!(rt; relayed.taken.len(), 1);
     for envelope in relayed.taken.as_slice() {
         assert_eq!(rt; envelope.number, 0);
         assert_eq!(rt; envelope.item, Item::Event(Event::Active));
     }
-    let left = relayed.left.lanes.as_slice();
-    assert_eq!(rt; left.len(), 1);
-    for entry in left {
-        assert_eq!(rt; entry.handed, 2);
-        assert_eq!(rt; entry.taken, 1);
-        assert_eq!(rt; entry.left.len(), 1);
+    assert_account(rt, &relayed, 1, 2, 1, 1);
+    for entry in relayed.left.lanes.as_slice() {
         for envelope in entry.left.as_slice() {
             assert_eq!(rt; envelope.number, 1);
             assert_eq!(rt; envelope.item, Item::Event(Event::ReadComplete));
@@ -47,31 +60,8 @@ fn left_or_refused(rt: &impl Abort, ended: Result<Relayed, Stopped>) -> Result<(
     }
 }
 
-fn left_by<R: Wait>(rt: &R, alloc: Global, kind: BoxKind) -> Result<Relayed, Stopped> {
-    let lane = Lane {
-        channel: 0,
-        kind: Kind::Data,
-        hop: 0,
-    };
-    leave_one_by::<Brand, R>(kind, rt, alloc, lane)
-}
-
-fn one_left<R: Wait + Abort>(rt: &R, alloc: Global, kind: BoxKind) -> Result<(), Fail> {
-    let Ok(relayed) = left_by(rt, alloc, kind) else {
-        assert!(rt; false);
-        return Ok(());
-    };
-    one_is_left(rt, relayed)
-}
-
-#[test]
-fn one_left_ring(rt: HostRuntime) -> Result<(), Fail> {
-    one_left(&rt, rt.alloc(), BoxKind::Ring)
-}
-
-#[test]
-fn one_left_waiting(rt: HostRuntime) -> Result<(), Fail> {
-    one_left(&rt, rt.alloc(), BoxKind::Waiting)
+pub(crate) fn left_by<R: Wait>(rt: &R, alloc: Global, kind: BoxKind) -> Result<Relayed, Stopped> {
+    leave_one_by::<Brand, R>(kind, rt, alloc, data_lane(0))
 }
 
 #[test]

@@ -1,22 +1,16 @@
 //! Tests of mailboxes, and code over any mailbox, on threads.
 #![tactic(auto)]
 
-#[cfg(test)]
-mod answer_tests;
 mod answering;
+#[cfg(test)]
+mod box_tests;
 mod boxes;
 mod flags;
 mod leaving;
 #[cfg(test)]
 mod left_tests;
-#[cfg(test)]
-mod limit_tests;
-#[cfg(test)]
-mod line_tests;
 mod lines;
 mod openings;
-#[cfg(test)]
-mod relay_tests;
 mod relays;
 mod threads;
 
@@ -26,5 +20,7 @@ pub use flags::{flag, lane};
 pub use leaving::{Stopped, leave_one};
 pub use lines::{hand_over, send_lines, take_lanes, two_threads_hand_over_lines};
 pub use openings::{lists, open_one, open_two, refusal};
-pub use relays::{Relayed, event, event_at, offer_one, relay, send_all, take_all, take_one};
+pub use relays::{
+    Relayed, data_lane, event, event_at, offer_one, relay, send_all, take_all, take_one,
+};
 pub use threads::join_three;

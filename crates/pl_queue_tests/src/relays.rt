@@ -4,7 +4,7 @@ ghost use Rattle.std.specs.Prelude.{◌≡◌, ◌+◌, ◌<◌, ◌^◌, ℕ, t
 ghost use denote.Param.Send.{IsSync};
 ghost use Rattle.pl_event.specs.declared.envelopes.Kind.TheVariants.{Data};
 ghost use Rattle.pl_event.specs.declared.envelopes.Lane.{Lane};
-ghost use Rattle.pl_event.specs.Hops.{same_lane};
+ghost use Rattle.pl_event.specs.Hops.{same_lane, data_lane as the_data_lane};
 ghost use Rattle.pl_event.specs.Worlds.{FitsWorld, content_of};
 ghost use Rattle.pl_queue.specs.Rule.{IsRun, numbers_of};
 ghost use Rattle.pl_queue.specs.Views.{sent_of, next_of, after_offer};
@@ -12,7 +12,7 @@ ghost use Rattle.pl_queue_tests.specs.Relays.{IsFresh, sending_lanes, taking_lan
 
 use crate::openings::open_two;
 use crate::threads::join_three;
-use pl_event::{Envelope, Event, Item, Lane, Named};
+use pl_event::{Envelope, Event, Item, Kind, Lane, Named};
 use pl_queue::{Full, Left, Mailbox};
 use std::alloc::{AllocError, Global};
 use std::sync::Wait;
@@ -66,6 +66,17 @@ pub fn take_one<W: Named, M: Mailbox<W>, R: Wait>(
         thread::yield_now();
     }
     None
+}
+
+/// The data lane that enters hop 0 of a channel.
+pub fn data_lane(channel: u16) -> Lane
+    ensures { result ≡ the_data_lane channel 0 }
+{
+    Lane {
+        channel,
+        kind: Kind::Data,
+        hop: 0,
+    }
 }
 
 /// The event with this number.
