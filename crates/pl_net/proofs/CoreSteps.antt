@@ -1,5 +1,5 @@
 -- A core, step by step.
-use Rattle.std.proofs.Common.{◌≡◌, ◌≢◌, ℕ, ◌+◌, ◌<◌, ◌≤◌, ◌^◌, ◌==◌, Bool, true, false, List, [], ◌∷◌, ◌++◌, length, slice_get, Option, Some, None, refl, ap, sym, subst, ◌∙◌, arith}
+use Rattle.std.proofs.Common.{◌≡◌, ◌≢◌, ℕ, ◌+◌, ◌<◌, ◌^◌, ◌==◌, Bool, true, false, List, [], ◌∷◌, ◌++◌, length, slice_get, Option, Some, None, refl, ap, sym, subst, ◌∙◌, arith}
 use Rattle.std.proofs.lemmas.List.Elements.{All-nil}
 use Rattle.std.proofs.lemmas.Bool.{cond-true, cond-false, eq-eqb, ne_eqb}
 use Rattle.std.specs.List.{position}
@@ -13,7 +13,7 @@ use Rattle.pl_context.specs.WaitingViews.{Entry, stops_for, is_for}
 use Rattle.pl_flow.specs.Flows.{Point, point, on, IsGood}
 use Rattle.pl_flow.specs.Makes.{Makes}
 use Rattle.pl_net.specs.NodesViews.{NodesView, written_by, NodesTake, NodesGive, NodesMake}
-use Rattle.pl_net.specs.Nets.{queue_at, LaneStands, IsStart, no_backlogs, ExecutorView, IsAdded, IsTakenOut, done_by, CoreView, CoreStands, IsKeep, Settles, Gives, HandsOver}
+use Rattle.pl_net.specs.Nets.{queue_at, LaneStands, IsStart, no_backlogs, ExecutorView, IsAdded, IsTakenOut, CoreView, CoreStands, IsKeep, Settles, Gives, HandsOver}
 use Rattle.pl_net.proofs.OneExecutor.{Replaces}
 use Rattle.pl_net.proofs.NetSteps.{nets-put, taken_with, front-written, call-number, call-good, called}
 use Rattle.pl_net.proofs.TaskSteps.{at-rest, task-written, task-target, task-number, task-good, tasked, task-few}
@@ -93,25 +93,6 @@ module _ {N : Type 0} (view_of : N → NodesView) (stands : World → N → Type
         others = λ y other. (r.others y other, cond-false (y == x) _ _ (ne_eqb y x other));
         backlog = cond-true (x == x) _ _ (eq-eqb x x refl);
       }
-
--- ---- how much was done
-
--- it stays below this
-pub done-few : {N : Type 0} (view_of : N → NodesView) (stands : World → N → Type 0) (world : World) (x : ℕ) (c : CoreView N) → CoreStands view_of stands world x c → done_by (view_of c.nodes) x c.executors < 2 ^ 63
-done-few view_of stands world x c h = by (slice_get c.executors x) refl
-  where
-    by : (o : Option ExecutorView) → slice_get c.executors x ≡ o → (view_of c.nodes).work_done + option_map_or (λ (e : ExecutorView). e.waiting.added) o 0 < 2 ^ 63
-    by None at = let f = h.counts.few in omega (arith, f)
-    by (Some e) at = let f = h.counts.few in let a = h.counts.added x e at in omega (arith, f, a)
-
-pub call-done : (v v' : NodesView) (e : Envelope) (before after : OutputsView) (x : ℕ) (es : List ExecutorView) → NodesTake v e before v' after → done_by v x es + 1 ≤ done_by v' x es
-call-done v v' e before after x es t = let m = t.more in let l = t.longer in omega (arith, m, l)
-
-pub keep-done : (v : NodesView) (x target : ℕ) (es es' : List ExecutorView) (a a' : ExecutorView) (e : Envelope) → Replaces es es' x a a' → IsAdded a target e a' → done_by v x es + 1 ≤ done_by v x es'
-keep-done v x target es es' a a' e r adds =
-    let was = ap (λ o. option_map_or (λ (z : ExecutorView). z.waiting.added) o 0) r.was in
-    let is = ap (λ o. option_map_or (λ (z : ExecutorView). z.waiting.added) o 0) r.is in
-    let n = adds.adds.added in omega (arith, was, is, n)
 
 -- ---- a task
 

@@ -3,12 +3,12 @@ use Rattle.std.proofs.Common.{◌≡◌, ◌≢◌, ℕ, suc, ◌+◌, ◌<◌, 
 use Rattle.std.specs.List.{All, filter, position, remove}
 use Rattle.std.proofs.lemmas.Bool.{and_parts, and_from, cond-true, cond-false, cases_Bool, both_ways, eqb-true, eq-eqb, ne_eqb, cases_eq}
 use Rattle.std.proofs.lemmas.List.Elements.{All-get_or, All-append, All-take, All-drop}
-use Rattle.std.proofs.lemmas.Option.{same_Some, none-some, get_or_from_slice_get}
+use Rattle.std.proofs.lemmas.Option.{same_Some, get_or_from_slice_get}
 use Rattle.pl_event.specs.declared.envelopes.Envelope.{Envelope}
 use Rattle.pl_event.specs.declared.envelopes.Lane.{Lane}
 use Rattle.pl_event.specs.Hops.{same_lane}
 use Rattle.pl_event.specs.Worlds.{World}
-use Rattle.pl_event.proofs.Lists.{All-at}
+use Rattle.pl_event.proofs.Lists.{All-at, cons-none, in-front}
 use Rattle.pl_event.proofs.SameLanes.{same_lane-equal, same_lane-self}
 use Rattle.pl_context.specs.Stops.{has_stopped, no_stops, HasPlaces, StopsView}
 use Rattle.pl_context.specs.OutputsViews.{OutputsView}
@@ -20,7 +20,6 @@ use Rattle.pl_net.specs.NodesViews.{NodesView, written_by}
 use Rattle.pl_net.specs.Nets.{ExecutorView, queue_at, stops_at, envelopes, LaneStands, NetRuns, AreFew, IsTakenOut}
 use Rattle.pl_net.proofs.LaneSteps.{lane-handed}
 use Rattle.pl_net.proofs.OneExecutor.{Replaces, on-executor, queue-here, queue-was, queue-there}
-use Rattle.pl_net.proofs.NetSteps.{cons-none}
 
 All-remove : {X : Type 0} (P : X → Type 0) (xs : List X) (i : ℕ) → All P xs → All P (remove xs i)
 All-remove P xs i all = All-append P (take i xs) (drop (suc i) xs) (All-take P i xs all) (All-drop P (suc i) xs all)
@@ -36,10 +35,6 @@ on-entries l (z ∷ zs) = ⊎_elim
     (λ (t : same_lane l z.envelope.lane ≡ true). on-own l z.envelope (envelopes zs) t ∙ ap (λ ys. z.envelope ∷ ys) (on-entries l zs) ∙ ap envelopes (sym (cond-true (is_of l z) (z ∷ filter (is_of l) zs) (filter (is_of l) zs) t)))
     (λ (f : same_lane l z.envelope.lane ≡ false). on-other l z.envelope (envelopes zs) f ∙ on-entries l zs ∙ ap envelopes (sym (cond-false (is_of l z) (z ∷ filter (is_of l) zs) (filter (is_of l) zs) f)))
     (cases_Bool (same_lane l z.envelope.lane))
-
-in-front : {A : Type 0} (items rest : List A) (e : A) → slice_get items 0 ≡ Some e → rest ≡ drop 1 items → items ≡ e ∷ rest
-in-front [] rest e at left = absurd (none-some e at)
-in-front (x ∷ xs) rest e at left = ap (λ y. y ∷ xs) (same_Some x e at) ∙ ap (λ ys. e ∷ ys) (sym left)
 
 module _ (target : Lane → ℕ) (entries : List (Entry (Unit {0}))) (all : All (λ (z : Entry (Unit {0})). z.target ≡ target z.envelope.lane) entries) (t i : ℕ) (entry : Entry (Unit {0}))
     (found : position (is_for t) entries ≡ Some i) (at : slice_get entries i ≡ Some entry) where

@@ -5,6 +5,7 @@ use Rattle.pl_event.specs.declared.envelopes.Envelope.{Envelope}
 use Rattle.pl_event.specs.declared.envelopes.Lane.{Lane}
 use Rattle.pl_event.specs.Hops.{same_lane}
 use Rattle.pl_event.specs.Worlds.{World, closes}
+use Rattle.pl_event.proofs.Lists.{cons-none}
 use Rattle.pl_event.proofs.SameLanes.{same_lane-equal, same_lane-self}
 use Rattle.pl_context.specs.Stops.{StopsView, has_stopped}
 use Rattle.pl_context.specs.OutputsViews.{OutputsView}
@@ -14,9 +15,6 @@ use Rattle.pl_flow.proofs.FlowLemmas.{on-append, on-own, on-other}
 use Rattle.pl_net.specs.NodesViews.{NodesView, written_by, SameRoutes, NodesMake}
 use Rattle.pl_net.specs.Nets.{ExecutorView, queue_at, stops_at, envelopes, LaneStands, NetRuns}
 use Rattle.pl_net.proofs.LaneSteps.{lane-puts, lane-next, lane-called}
-
-pub cons-none : {A : Type 0} (x : A) (xs : List A) → x ∷ xs ≡ [] → ⊥
-cons-none x xs e = cc
 
 -- how many of each lane were taken, once this one was
 abbrev pub taken_with : NodesView → Envelope → Lane → ℕ

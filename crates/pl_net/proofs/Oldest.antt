@@ -7,7 +7,7 @@ use Rattle.std.proofs.lemmas.Option.{same_Some, none-some, get_or_from_slice_get
 use Rattle.std.proofs.Math.Seq.{map-set_same}
 use Rattle.pl_event.specs.declared.envelopes.Envelope.{Envelope}
 use Rattle.pl_event.specs.Worlds.{World}
-use Rattle.pl_event.proofs.Lists.{All-at}
+use Rattle.pl_event.proofs.Lists.{All-at, cons-none}
 use Rattle.pl_context.specs.Stops.{no_stops, has_stopped, HasPlaces, StopsView}
 use Rattle.pl_context.specs.OutputsViews.{OutputsView}
 use Rattle.pl_context.specs.WaitingViews.{Entry, Holds, is_for, stops_for}
@@ -17,7 +17,6 @@ use Rattle.pl_net.specs.NodesViews.{NodesView, written_by}
 use Rattle.pl_net.specs.Nets.{ExecutorView, queue_at, stops_at, envelopes, LaneStands, NetRuns, CoreView, CoreStands, HandsOver, has_room}
 use Rattle.pl_net.specs.Cores.{waits_of}
 use Rattle.pl_net.proofs.OneExecutor.{Replaces, on-executor}
-use Rattle.pl_net.proofs.NetSteps.{cons-none}
 use Rattle.pl_net.proofs.HandSteps.{waits-own}
 
 -- ---- the first whose target is open is the first for that target

@@ -6,6 +6,7 @@ use Rattle.pl_event.specs.declared.envelopes.Envelope.{Envelope}
 use Rattle.pl_event.specs.declared.envelopes.Lane.{Lane}
 use Rattle.pl_event.specs.Hops.{same_lane}
 use Rattle.pl_event.specs.Worlds.{World, closes}
+use Rattle.pl_event.proofs.Lists.{cons-none}
 use Rattle.pl_event.proofs.SameLanes.{same_lane-equal, same_lane-self}
 use Rattle.pl_context.specs.Stops.{has_stopped, no_stops, HasPlaces, StopsView}
 use Rattle.pl_context.specs.OutputsViews.{OutputsView}
@@ -16,7 +17,7 @@ use Rattle.pl_net.specs.NodesViews.{NodesView}
 use Rattle.pl_net.specs.Nets.{ExecutorView, queue_at, stops_at, envelopes, LaneStands, NetRuns, AreFew}
 use Rattle.pl_net.proofs.LaneSteps.{lane-task}
 use Rattle.pl_net.proofs.OneExecutor.{Replaces, on-executor, queue-here, queue-was, queue-there}
-use Rattle.pl_net.proofs.NetSteps.{cons-none, taken_with, relisted}
+use Rattle.pl_net.proofs.NetSteps.{taken_with, relisted}
 
 -- Between two moves any executor may be the next to run.
 pub at-rest : (world : World) (v : NodesView) (x y : ℕ) (es : List ExecutorView) (backlogs : ℕ → List (Entry (Unit {0}))) (work : OutputsView) → work.items ≡ [] → NetRuns world v x es backlogs work → NetRuns world v y es backlogs work

@@ -19,7 +19,7 @@ use Rattle.pl_event.specs.declared.events.Caught.TheVariants.{Unknown, Syntax, T
 use Rattle.pl_stages.specs.declared.limits.TheConstants.{MAX_DIGITS}
 use Rattle.pl_stages.specs.Numbers.{number_in}
 use Rattle.pl_stages.specs.Commands.{is_space, before_space, after_space, verb_of, key_in, ping_with, quit_with, echo_with, add_with, addition_of, get_with, get_of, command_of}
-use Rattle.pl_stages.proofs.Spaces.{whole_of, split_of}
+use Rattle.pl_stages.proofs.Spaces.{after_some, whole_of, split_of}
 use Rattle.pl_stages.proofs.PrintedNumbers.{number_in-printed, number_in-decimal}
 
 -- with no number there is no addition
@@ -154,10 +154,6 @@ addition_is (Some k) (Some m) key n e = (cc, cc)
 addition_is (Some k) None key n e = cc
 addition_is None m key n e = cc
 
-key_is : (is : Bool) (name key : List ℕ) → cond is (Some name) None ≡ Some key → (is ≡ true) × (name ≡ key)
-key_is true name key e = (refl, cc)
-key_is false name key e = cc
-
 got_is : (k : Option (List ℕ)) (key : List ℕ) → get_of k ≡ Ok (Get key) → k ≡ Some key
 got_is (Some k) key e = cc
 got_is None key e = cc
@@ -178,7 +174,7 @@ IsAddition-from : (argument key : List ℕ) (n : ℕ)
     → IsAddition argument key n
 IsAddition-from argument key n e =
     let parts = addition_is (key_in (before_space argument)) (option_and_then number_in (after_space argument)) key n e in
-    let name = key_is (is_key (before_space argument)) (before_space argument) key parts.0 in
+    let name = after_some (is_key (before_space argument)) (before_space argument) key parts.0 in
     let number = number_after (after_space argument) n parts.1 in
     let printed = number_in-printed number.0 n number.2 in
     record {
@@ -196,7 +192,7 @@ add_is (Some argument) key n e = (argument, refl, IsAddition-from argument key n
 get_is : (a : Option (List ℕ)) (key : List ℕ) → get_with a ≡ Ok (Get key) → (is_key key ≡ true) × (a ≡ Some key)
 get_is None key e = cc
 get_is (Some name) key e =
-    let found = key_is (is_key name) name key (got_is (key_in name) key e) in
+    let found = after_some (is_key name) name key (got_is (key_in name) key e) in
     (ap is_key (sym found.1) ∙ found.0, ap Some found.1)
 
 -- a byte of a key is not a space

@@ -7,4 +7,3 @@ pub mod TotalsByName
 pub mod Accepted
 pub mod ServiceLimits
 pub mod FlushCounts
-pub mod HandlerLaws

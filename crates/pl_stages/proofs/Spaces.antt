@@ -56,7 +56,7 @@ after_none : (b : Bool) (text : List ℕ) → cond b (Some text) None ≡ None �
 after_none true text e = cc
 after_none false text e = refl
 
-after_some : (b : Bool) (text other : List ℕ) → cond b (Some text) None ≡ Some other → (b ≡ true) × (text ≡ other)
+pub after_some : (b : Bool) (text other : List ℕ) → cond b (Some text) None ≡ Some other → (b ≡ true) × (text ≡ other)
 after_some true text other e = (refl, cc)
 after_some false text other e = cc
 

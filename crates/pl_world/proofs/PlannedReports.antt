@@ -10,7 +10,7 @@ use Rattle.pl_event.proofs.Lists.{prefix-trans, take-prefix_whole}
 use Rattle.pl_context.specs.declared.standing.Standing.{Standing}
 use Rattle.pl_context.specs.declared.standing.Standing.TheVariants as standing
 use Rattle.pl_context.specs.Standings.{is_over, cause_of}
-use Rattle.pl_head.specs.Writes.{write_by, is_flush, has_flush, flushed_writes, bytes_of, out, outcomes, writes_by}
+use Rattle.pl_head.specs.Writes.{write_by, is_flush, has_flush, flushed_writes, bytes_of, out, outcomes}
 use Rattle.pl_head.specs.Failures.{head_outcomes}
 use Rattle.pl_head.specs.HeadStand.{first_cause}
 use Rattle.pl_head.proofs.Buffering.{bytes_of-append}
@@ -18,7 +18,7 @@ use Rattle.pl_world.specs.declared.report.Stands.{Stands}
 use Rattle.pl_world.specs.declared.report.Stands.TheVariants.{Drained}
 use Rattle.pl_world.specs.declared.report.ChannelReport.{ChannelReport}
 use Rattle.pl_world.specs.Plans.{ChannelPlan}
-use Rattle.pl_world.specs.Reports.{Ends, has_ended, channel_cause, is_written_out, stands_by, IsChannelReport, channel_report, head_of, whole_report, KeepsToPlan, EndsKeepToPlan, ReportsPlan}
+use Rattle.pl_world.specs.Reports.{Ends, has_ended, channel_cause, is_written_out, stands_by, IsChannelReport, head_of, whole_report, KeepsToPlan, EndsKeepToPlan, ReportsPlan}
 
 -- ---- the output of more events
 
@@ -86,25 +86,6 @@ same_report r q stands tail bytes writes =
     ∙ ap (λ (t : List Event). report_of q.stands t r.bytes r.writes) tail
     ∙ ap (λ (b : List ℕ). report_of q.stands q.tail b r.writes) bytes
     ∙ ap (λ (w : List (Option Outcome)). report_of q.stands q.tail q.bytes w) writes
-
--- ---- where each write has a number
-
--- there is one report of two ends
-pub report_numbered : (e : Ends) (r : ChannelReport) → e.is_full ≡ false → IsChannelReport e r → r ≡ channel_report e
-report_numbered e r going is =
-    let late = is.writes_are.late in
-    let all : late ≡ writes_by e.late =
-    sym (append-nil late) ∙ ap (λ (ws : List (Option (List ℕ))). late ++ ws) (sym (is.writes_are.all going)) ∙ is.writes_are.split in
-    same_report r (channel_report e) is.stands_is is.tail_is is.bytes_are
-    (is.writes_are.outcomes_are ∙ ap (λ (ws : List (Option (List ℕ))). head_outcomes e.failure e.head ws e.accepted (is_over e.head_stands)) all)
-
-pub reports_numbered : (e : Ends) → IsChannelReport e (channel_report e)
-reports_numbered e = record {
-  stands_is = refl;
-  tail_is = refl;
-  bytes_are = refl;
-  writes_are = record { late = writes_by e.late; unnumbered = []; split = append-nil (writes_by e.late); all = λ going. refl; outcomes_are = refl };
-}
 
 -- ---- a report of ends that keep to the plan
 

@@ -16,6 +16,7 @@ use Rattle.pl_event.specs.Meaning.{Meaning, up_of, down_of}
 use Rattle.pl_event.specs.Paths.{is_outbound}
 use Rattle.pl_event.specs.Inputs.{burst_events, recorded_input}
 use Rattle.pl_event.specs.Lanes.{lane, through, out_through, written}
+use Rattle.pl_event.proofs.Lists.{All-from_list_all}
 use Rattle.pl_stages.specs.Counts.{IsThrifty, event_weight, weight}
 use Rattle.pl_stages.specs.HandlerThrift.{handler-thrifty}
 use Rattle.pl_stages.specs.declared.handlers.Handler.{Handler}
@@ -30,7 +31,7 @@ use Rattle.pl_world.specs.PlanRules.{IsSmallChannel}
 use Rattle.pl_world.specs.declared.limits.TheConstants.{MAX_BURSTS, MAX_CHUNKS, MAX_BYTES}
 use Rattle.pl_world.specs.Limits.{chunk_count, byte_count, fits, aborts_within, input_fits}
 use Rattle.pl_world.specs.Worlds.{HaveSmallLanes}
-use Rattle.pl_world.proofs.WorldLimits.{Inputs, all_recorded, all_true, all_any, within_parts}
+use Rattle.pl_world.proofs.WorldLimits.{Inputs, all_recorded, all_any, within_parts}
 
 -- ---- the recorded input
 
@@ -128,7 +129,7 @@ bursts_fit input fit = (and_parts (fits input.bursts) (aborts_within input.abort
 
 -- ---- stages that make no more than they take
 
-is_out : (d : Direction) → is_outbound d ≡ true → d ≡ Outbound
+pub is_out : (d : Direction) → is_outbound d ≡ true → d ≡ Outbound
 is_out Outbound e = refl
 is_out Inbound e = cc
 is_out Turn e = cc
@@ -150,7 +151,7 @@ module _ {S T : Type 0} (meaning : S → Meaning) (stands_after : S → List Eve
   stages_small pipelines inputs transports executors within kept =
       all_recorded (λ (c : Recorded S T). IsSmallChannel (channel_planned meaning state c)) (IsPath meaning stands_after) (λ input. input_fits input ≡ true) (λ t. Unit {0})
       (λ p input t path fit any. channel_small (record { pipeline = p; input = input; transport = t }) path (bursts_fit input fit))
-      pipelines inputs transports kept (all_true input_fits inputs (within_parts pipelines inputs transports executors within).fit) (all_any transports)
+      pipelines inputs transports kept (All-from_list_all input_fits inputs (within_parts pipelines inputs transports executors within).fit) (all_any transports)
 
 -- ---- handlers
 

@@ -1,5 +1,5 @@
 -- The limits of a world, and what is left of them.
-use Rattle.std.proofs.Common.{◌≡◌, ℕ, ◌+◌, ◌*◌, ◌<◌, ◌≤◌, ◌==◌, Bool, List, [], ◌∷◌, ◌++◌, length, take, map, get_or, sum_by, true, false, nat_lt, nat_le, Option, Some, ap, ap₂, sym, ◌∙◌, ◌&&◌, refl, arith, append-nil}
+use Rattle.std.proofs.Common.{◌≡◌, ℕ, ◌+◌, ◌*◌, ◌<◌, ◌≤◌, ◌==◌, List, [], ◌∷◌, ◌++◌, length, take, map, get_or, sum_by, true, false, nat_lt, nat_le, Option, Some, ap, ap₂, sym, ◌∙◌, ◌&&◌, refl, arith, append-nil}
 use Rattle.std.specs.Prelude.{slice_get, All}
 use Rattle.std.specs.List.{list_all}
 use Rattle.std.proofs.lemmas.Bool.{and_parts, leb-true, ltb-true, lt-ltb, le-ltb}
@@ -9,7 +9,7 @@ use Rattle.std.proofs.lemmas.List.Folds.{list_all_at, list_all_more}
 use Rattle.std.proofs.lemmas.List.Sums.{sum_by-cons}
 use Rattle.std.proofs.lemmas.List.{length-map}
 use Rattle.pl_event.specs.declared.events.Event.{Event}
-use Rattle.pl_event.proofs.Lists.{count_by-map}
+use Rattle.pl_event.proofs.Lists.{All-from_list_all, count_by-map}
 use Rattle.pl_event.specs.Meaning.{Meaning, IsLawful}
 use Rattle.pl_event.specs.Paths.{is_outbound, is_turn}
 use Rattle.pl_build.specs.Pipelines.{PlacedView}
@@ -119,13 +119,6 @@ within_parts pipelines inputs transports executors within =
       fit = five.1;
     }
 
--- each of a list for which a test answers so
-pub all_true : {X : Type 0} (test : X → Bool) (xs : List X) → list_all test xs ≡ true → All (λ x. test x ≡ true) xs
-all_true test [] all = All-nil (λ x. test x ≡ true)
-all_true test (x ∷ xs) all =
-    let parts = and_parts (test x) (list_all test xs) all in
-    All-cons (λ y. test y ≡ true) x xs parts.0 (all_true test xs parts.1)
-
 -- of any list
 pub all_any : {X : Type 0} (xs : List X) → All (λ x. Unit {0}) xs
 all_any xs = λ k d below. tt
@@ -200,10 +193,10 @@ module _ {S T : Type 0} (meaning : S → Meaning) (stands_after : S → List Eve
   all_fit paths small uncalled =
       let limits = within_parts pipelines inputs transports executors within in
       let Placed : PlacedView S → Type 0 = λ p. IsPath meaning stands_after p × (is_placed executors p ≡ true) in
-      let are_placed : All Placed pipelines = λ k d below. (paths k d below, all_true (is_placed executors) pipelines limits.placed k d below) in
+      let are_placed : All Placed pipelines = λ k d below. (paths k d below, All-from_list_all (is_placed executors) pipelines limits.placed k d below) in
       let each = all_recorded Fits Placed (λ input. input_fits input ≡ true) (λ (t : T). IsUncalled (state t))
       (λ p input t is fit leaves. record { path = is.0; placed = is.1; input = fit; transport = leaves })
-      pipelines inputs transports are_placed (all_true input_fits inputs limits.fit) uncalled in
+      pipelines inputs transports are_placed (All-from_list_all input_fits inputs limits.fit) uncalled in
       λ k d below.
       let c = get_or (recorded pipelines inputs transports) k d in
       let fit = each k d below in
