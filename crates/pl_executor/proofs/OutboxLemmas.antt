@@ -1,5 +1,5 @@
 -- One outbox among all, and what waits for its target.
-use Rattle.std.proofs.Common.{◌≡◌, ◌≢◌, ℕ, suc, ◌+◌, ◌*◌, ◌<◌, ◌≤◌, ◌^◌, Bool, true, List, [], ◌∷◌, length, map, set, slice_get, Option, Some, None, refl, ap, sym, ◌∙◌, subst, ⊎_elim, arith, ◌==◌}
+use Rattle.std.proofs.Common.{◌≡◌, ◌≢◌, ℕ, zero, suc, ◌+◌, ◌*◌, ◌<◌, ◌≤◌, ◌^◌, Bool, true, List, [], ◌∷◌, length, map, set, slice_get, Option, Some, None, refl, ap, sym, ◌∙◌, subst, ⊎_elim, arith, ◌==◌}
 use Rattle.std.specs.Prelude.{IfSome}
 use Rattle.std.specs.List.{All, filter, sum_by, find}
 use Rattle.std.specs.Option.{option_map, option_map_or}
@@ -18,7 +18,7 @@ use Rattle.pl_words.specs.declared.admission.TheConstants.{MAX_ADMISSIONS}
 use Rattle.pl_words.specs.Admissions.{AdmittedView, admitted_of}
 use Rattle.pl_queue.specs.declared.views.SenderView.{SenderView}
 use Rattle.pl_executor.specs.Sent.{AreBehind}
-use Rattle.pl_executor.specs.OutboxViews.{OutboxView, OutboxesView, IsOutbox, IsOutboxes, waits_in, is_closed, SomeClosed}
+use Rattle.pl_executor.specs.OutboxViews.{OutboxView, OutboxesView, IsOutbox, IsOutboxes, IsNew, waits_in, is_closed, SomeClosed}
 
 -- ---- a list in which one outbox has changed
 
@@ -164,3 +164,29 @@ none-wait w entries holds e y = waits-entries w entries holds y ∙ none entries
     none : (zs : List (Entry AdmittedView)) → (length zs == 0) ≡ true → map (λ (z : Entry AdmittedView). z.envelope) (filter (is_for y) zs) ≡ []
     none [] f = refl
     none (z ∷ zs) f = let h = eqb-true (length (z ∷ zs)) 0 f in absurd (omega (arith, h))
+
+-- ---- outboxes by which nothing was sent, while nothing waits
+
+at-new : (os : List OutboxView) (y : ℕ) (b : OutboxView) → All IsNew os → slice_get os y ≡ Some b → IsNew b
+at-new [] y b all at = absurd (no at)
+  where
+    no : None ≡ Some b → ⊥
+    no e = cc
+at-new (x ∷ os) zero b all at = subst IsNew (same_Some x b at) (All-head IsNew x os all)
+at-new (x ∷ os) (suc y) b all at = at-new os y b (All-tail IsNew x os all) at
+
+pub new-hold : (world : World) (os : List OutboxView) (w : WaitingView AdmittedView) (tried : List ℕ) → All IsNew os → Holds w [] → length w.targets ≡ length os → w.added ≡ 0 → length os < 2 ^ 16
+    → IsOutboxes world (record { outboxes = os; waiting = w; tried = tried })
+new-hold world os w tried new holds targets added few = record {
+  entries = [];
+  holds = holds;
+  each = λ y b at. let n = at-new os y b new at in let kept = n.kept in let pushes = n.pushes in let made = n.made in record {
+    behind = λ l. tt;
+    kept = omega (arith, kept, pushes);
+    admitted = All-nil (λ (e : Entry AdmittedView). e.token ≡ admitted_of b.seat);
+    made = omega (arith, made);
+  };
+  targets = targets;
+  added = omega (arith, added);
+  few = few;
+}
