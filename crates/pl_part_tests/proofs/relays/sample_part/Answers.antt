@@ -27,6 +27,6 @@ returns-clause-ready c =
     let made = c.new-head.ensures in
     made-ready c.whole.result i o (ap (λ (l : List Relay). length l) c.in_ok-inbound.ensures.items) t.tail c.new-head.result t.head
     c.in_ok-plan.plan c.in_ok-plan.ensures
-    (record { after = made.stands; reads = made.reads; entrance = made.entrance; place = made.place; flags = made.flags; taken = made.taken; standing = made.standing; few = made.few })
+    (record { after = made.stands; reads = made.reads; entrance = made.entrance; place = made.place; flags = made.flags; taken = made.taken; standing = made.standing; failure = made.failure; few = made.few })
     (sample-planned i o _ _ _ c.in_ok-inbound.ensures.items c.in_ok-outbound.ensures.items c.new_relay.ensures c.new_relay-2.ensures c.new_relay-3.ensures)
     (returns-clause-sample c) t.new t.holds
