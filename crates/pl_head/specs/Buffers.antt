@@ -33,7 +33,7 @@ pub record OutboundBufferView : Type 0 where
 
 -- The buffer may stand after these events, when these bytes of their output were accepted and the lane has ended or
 -- not, and after these sizes were added and removed: it holds what is left of the output, and with what was accepted
--- that is the whole.
+-- that is the whole. The first flushed message has a byte left, and pending are the bytes of all messages.
 pub record BufferStands (accepted : List ℕ) (b : OutboundBufferView) (ys : List Event) (ended : Bool) (sizes : List Change) : Type 0 where
   pub left : List ℕ
   pub messages : MessagesStand b.entries b.offset b.flushed b.outcomes (flushed_writes ys) (unflushed_writes ys) left ended
