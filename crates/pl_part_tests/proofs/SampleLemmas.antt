@@ -4,6 +4,7 @@ use Rattle.std.specs.Prelude.{◌==◌, nat_lt, is_some, if◌then◌else◌}
 use Rattle.std.specs.Option.{option_map_or}
 use Rattle.std.proofs.lemmas.Bool.{cond-false, cases_Bool, both_ways, ne_eqb, ltb-true, ltb-false}
 use Rattle.std.proofs.lemmas.List.{length-map}
+use Rattle.std.proofs.lemmas.Option.{same_Some}
 use Rattle.std.specs.declared.alloc.AllocError.{AllocError}
 use Rattle.pl_event.specs.declared.envelopes.Envelope.{Envelope}
 use Rattle.pl_event.specs.declared.envelopes.Kind.{Kind}
@@ -41,9 +42,6 @@ use Rattle.pl_part_tests.proofs.PlayLemmas.{slot-filled, plays-gone, plays-front
 
 abbrev Part : Type 0
 Part = PartView Relay MemoryTransportView
-
-some-equal : {A : Type 0} (a b : A) → Some a ≡ Some b → a ≡ b
-some-equal a b e = cc
 
 -- ---- its nodes
 
@@ -208,12 +206,12 @@ all-planned s0 s1 s2 e0 e1 e2 = record {
     none e = cc
 
     by : (i : ℕ) (s : Relay) → slice_get (s0 ∷ s1 ∷ []) i ≡ Some s → IsPlannedAt sample_world sample_meaning 7 2 1 (0 + i) s
-    by zero s found = first-planned s (sym (ap (λ (r : Relay). r.direction) (some-equal s0 s found)) ∙ e0)
-    by (suc zero) s found = turn-planned s (sym (ap (λ (r : Relay). r.direction) (some-equal s1 s found)) ∙ e1)
+    by zero s found = first-planned s (sym (ap (λ (r : Relay). r.direction) (same_Some s0 s found)) ∙ e0)
+    by (suc zero) s found = turn-planned s (sym (ap (λ (r : Relay). r.direction) (same_Some s1 s found)) ∙ e1)
     by (suc (suc i)) s found = absurd (none found)
 
     behind : (i : ℕ) (s : Relay) → slice_get (s2 ∷ []) i ≡ Some s → IsPlannedAt sample_world sample_meaning 7 2 1 (3 + i) s
-    behind zero s found = last-planned s (sym (ap (λ (r : Relay). r.direction) (some-equal s2 s found)) ∙ e2)
+    behind zero s found = last-planned s (sym (ap (λ (r : Relay). r.direction) (same_Some s2 s found)) ∙ e2)
     behind (suc i) s found = absurd (none found)
 
 pub sample-planned : (inbound outbound : List Relay) (s0 s1 s2 : Relay) → inbound ≡ s0 ∷ s1 ∷ [] → outbound ≡ s2 ∷ [] → s0.direction ≡ Inbound → s1.direction ≡ Turn → s2.direction ≡ Outbound

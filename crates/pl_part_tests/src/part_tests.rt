@@ -1,7 +1,7 @@
 //! A part with all nodes of a channel: events through it, its end, and writers that are refused.
 
-use crate::playing::{Answer, Call, Expected, play};
-use crate::relays::{Faults, NO_FAULTS, Relay, sample_part, sample_run};
+use crate::playing::{Answer, Call, Expected, play, played};
+use crate::relays::{Faults, NO_FAULTS, Relay, sample_part};
 use pl_context::Took;
 use pl_event::{Cause, Event, Outcome};
 use pl_head::{MemoryTransport, OutStep, ReadStep};
@@ -21,39 +21,31 @@ pub(crate) const IDLE: Answer = Answer::Wrote(OutStep::Idle);
 /// Nothing came for any node.
 pub(crate) const NONE: &[(u16, Took)] = &[];
 
+const RAN: Took = Took::Ran;
+
+const END: Took = Took::Ended;
+
 /// An event has come through all nodes.
-pub(crate) const PASSED: &[(u16, Took)] = &[
-    (0, Took::Ran),
-    (1, Took::Ran),
-    (2, Took::Ran),
-    (3, Took::Ran),
-    (4, Took::Ran),
-];
+pub(crate) const PASSED: &[(u16, Took)] = &[(0, RAN), (1, RAN), (2, RAN), (3, RAN), (4, RAN)];
 
 /// The burst has: handlers take its read and its completion in turn.
 pub(crate) const BURST: &[(u16, Took)] = &[
-    (0, Took::Ran),
-    (0, Took::Ran),
-    (1, Took::Ran),
-    (1, Took::Ran),
-    (3, Took::Ran),
-    (2, Took::Ran),
-    (3, Took::Ran),
-    (4, Took::Ran),
-    (4, Took::Ran),
+    (0, RAN),
+    (0, RAN),
+    (1, RAN),
+    (1, RAN),
+    (3, RAN),
+    (2, RAN),
+    (3, RAN),
+    (4, RAN),
+    (4, RAN),
 ];
 
 /// The end has.
-pub(crate) const ENDED: &[(u16, Took)] = &[
-    (0, Took::Ended),
-    (1, Took::Ended),
-    (2, Took::Ended),
-    (3, Took::Ended),
-    (4, Took::Ended),
-];
+pub(crate) const ENDED: &[(u16, Took)] = &[(0, END), (1, END), (2, END), (3, END), (4, END)];
 
 /// A flag has come to the tail.
-pub(crate) const FLAG: &[(u16, Took)] = &[(0, Took::Ran), (1, Took::Ran), (2, Took::Ran)];
+pub(crate) const FLAG: &[(u16, Took)] = &[(0, RAN), (1, RAN), (2, RAN)];
 
 /// The tail has recorded these events and flags, and has failed for this.
 pub(crate) fn assert_tail(
@@ -105,13 +97,11 @@ const THE_END: [Expected; 4] = [
 
 #[test]
 fn events_pass_and_end(rt: HostRuntime) -> Result<(), Fail> {
-    let alloc = rt.alloc();
-    let (mut part, mut work) = sample_run(alloc, NO_FAULTS)?;
-    play(&rt, alloc, &mut part, &mut work, TO_THE_END.as_slice())?;
+    let (mut part, mut work) = played(&rt, NO_FAULTS, &TO_THE_END)?;
     assert!(rt; part.has_read_step());
     assert!(rt; !part.is_written());
     assert!(rt; !part.has_ended());
-    play(&rt, alloc, &mut part, &mut work, THE_END.as_slice())?;
+    play(&rt, &mut part, &mut work, &THE_END)?;
     assert!(rt; !part.has_read_step());
     assert!(rt; part.is_written());
     assert!(rt; part.has_ended());
@@ -145,9 +135,7 @@ const HANDLER_REFUSED: [Expected; 4] = [
 /// Nothing more of the first handler's lane is accepted: the failure follows the event that it has handed on.
 #[test]
 fn refused_handler_fails(rt: HostRuntime) -> Result<(), Fail> {
-    let alloc = rt.alloc();
-    let (mut part, mut work) = sample_run(alloc, NO_FAULTS)?;
-    play(&rt, alloc, &mut part, &mut work, HANDLER_REFUSED.as_slice())?;
+    let (part, _) = played(&rt, NO_FAULTS, &HANDLER_REFUSED)?;
     assert!(rt; part.has_ended());
     Ok(())
 }
@@ -157,12 +145,7 @@ const WRITERS_REFUSED: [Expected; 4] = [
     (
         Call::Read,
         GAVE,
-        &[
-            (0, Took::Ran),
-            (1, Took::Ran),
-            (2, Took::Ran),
-            (3, Took::Dropped),
-        ],
+        &[(0, RAN), (1, RAN), (2, RAN), (3, Took::Dropped)],
         NONE,
     ),
     (
@@ -184,11 +167,9 @@ const THEN_ABORTED: [Expected; 1] = [(
 /// The first lane after the tail is the turn's, the head's lane the outbound handler's, and the first hop's the head's.
 #[test]
 fn refused_writers(rt: HostRuntime) -> Result<(), Fail> {
-    let alloc = rt.alloc();
-    let (mut part, mut work) = sample_run(alloc, NO_FAULTS)?;
-    play(&rt, alloc, &mut part, &mut work, WRITERS_REFUSED.as_slice())?;
+    let (mut part, mut work) = played(&rt, NO_FAULTS, &WRITERS_REFUSED)?;
     assert!(rt; !part.has_ended());
-    play(&rt, alloc, &mut part, &mut work, THEN_ABORTED.as_slice())?;
+    play(&rt, &mut part, &mut work, &THEN_ABORTED)?;
     assert!(rt; part.has_ended());
     Ok(())
 }
@@ -216,13 +197,11 @@ const WITHOUT_MEMORY: [Expected; 3] = [
 /// A handler whose second step finds no memory: its failure follows what it has handed on, and the rest is dropped.
 #[test]
 fn handler_without_memory(rt: HostRuntime) -> Result<(), Fail> {
-    let alloc = rt.alloc();
     let faults = Faults {
         steps: 1,
         ..NO_FAULTS
     };
-    let (mut part, mut work) = sample_run(alloc, faults)?;
-    play(&rt, alloc, &mut part, &mut work, WITHOUT_MEMORY.as_slice())?;
+    let (part, _) = played(&rt, faults, &WITHOUT_MEMORY)?;
     assert!(rt; part.has_ended());
     Ok(())
 }

@@ -1,12 +1,12 @@
 //! A part and its work list, run by hand.
 
-ghost use Rattle.std.specs.Prelude.{◌≡◌, OnOk};
+ghost use Rattle.std.specs.Prelude.{◌≡◌, IfOk, OnOk};
 ghost use Rattle.pl_head.specs.Transports.{MemoryTransportView};
 ghost use Rattle.pl_part.specs.Parts.{PartView, has_entered};
 ghost use Rattle.pl_part_tests.specs.declared.relays.Relay.{Relay};
 ghost use Rattle.pl_part_tests.specs.SampleParts.{IsReady, IsSample};
 
-use crate::relays::Relay;
+use crate::relays::{Faults, Relay, sample_run};
 use pl_context::{Outputs, Took};
 use pl_event::{Envelope, Kind, Lane};
 use pl_head::{MemoryTransport, OutStep, ReadStep};
@@ -67,8 +67,7 @@ impl Seen {
 
 /// Makes these calls, one after another. After each the part runs until nothing waits.
 pub(crate) fn play(
-    rt: &impl Abort,
-    alloc: Global,
+    rt: &(impl Abort + AllocGlobal),
     part: &mut ChannelPart<Relay, MemoryTransport>,
     work: &mut Outputs,
     rows: &[Expected],
@@ -77,14 +76,26 @@ pub(crate) fn play(
     ensures ready { OnOk result (IsReady part.new work.new) }
 {
     for row in rows {
-        play_one(rt, alloc, part, work, row)?;
+        play_one(rt, part, work, row)?;
     }
     Ok(())
 }
 
+/// The part of the tests with these faults and its work list, after these calls.
+pub(crate) fn played(
+    rt: &(impl Abort + AllocGlobal),
+    faults: Faults,
+    rows: &[Expected],
+) -> Result<(ChannelPart<Relay, MemoryTransport>, Outputs), AllocError>
+    ensures { IfOk result (λ run. IsReady run.0 run.1) }
+{
+    let (mut part, mut work) = sample_run(rt.alloc(), faults)?;
+    play(rt, &mut part, &mut work, rows)?;
+    Ok((part, work))
+}
+
 fn play_one(
-    rt: &impl Abort,
-    alloc: Global,
+    rt: &(impl Abort + AllocGlobal),
     part: &mut ChannelPart<Relay, MemoryTransport>,
     work: &mut Outputs,
     row: &Expected,
@@ -94,7 +105,7 @@ fn play_one(
 {
     let answer = apply(part, work, row.0);
     assert!(rt; answer == row.1);
-    let seen = run(alloc, part, work)?;
+    let seen = run(rt.alloc(), part, work)?;
     assert!(rt; seen.data.as_slice() == row.2);
     assert!(rt; seen.flags.as_slice() == row.3);
     assert!(rt; seen.astray.is_empty());
