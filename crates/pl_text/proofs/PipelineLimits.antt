@@ -1,16 +1,16 @@
 -- The handlers of a pipeline that is built are few, each of a built-in kind.
-use Rattle.std.proofs.Common.{◌≡◌, ℕ, zero, ◌+◌, ◌<◌, ◌≤◌, Bool, true, false, cond, not, List, [], ◌∷◌, ◌++◌, length, take, drop, filter, reverse, suc, Option, Some, None, Ok, Err, sym, refl, ap, subst, arith, length-append}
+use Rattle.std.proofs.Common.{◌≡◌, ℕ, zero, ◌+◌, ◌<◌, ◌≤◌, Bool, true, false, cond, not, List, [], ◌∷◌, ◌++◌, length, take, drop, filter, suc, Option, Some, None, Ok, Err, refl, ap, subst, arith, length-append}
 use Rattle.std.specs.Prelude.{All, is_some, if◌then◌else◌, nat_le, nat_lt, ◌||◌, insert, remove}
 use Rattle.std.specs.List.{prefix_len}
 use Rattle.std.specs.Option.{option_map_or}
 use Rattle.std.proofs.lemmas.Bool.Decides.{nat_tests}
-use Rattle.std.proofs.lemmas.List.{length-take, length-drop, length-reverse, reverse-append, take-append-drop}
+use Rattle.std.proofs.lemmas.List.{length-take, length-drop, length-reverse, take-append-drop}
 use Rattle.std.proofs.lemmas.List.Filters.{length-filter_both}
-use Rattle.std.proofs.lemmas.List.Elements.{All-nil, All-cons, All-head, All-tail, All-append, All-push, All-take, All-drop, All-filter, All-map, All-weaker, filter_passes}
+use Rattle.std.proofs.lemmas.List.Elements.{All-nil, All-cons, All-append, All-take, All-drop, All-filter, All-map, All-weaker, filter_passes}
 use Rattle.pl_event.specs.Meaning.{Meaning}
-use Rattle.pl_event.specs.declared.stages.Direction.{Direction}
-use Rattle.pl_event.specs.declared.stages.Direction.TheVariants.{Inbound, Outbound, Turn}
+use Rattle.pl_event.specs.declared.stages.Direction.TheVariants.{Outbound}
 use Rattle.pl_event.specs.Paths.{inbound_chain, outbound_chain, is_outbound, is_turn}
+use Rattle.pl_event.proofs.Lists.{All-reverse}
 use Rattle.pl_build.specs.declared.named_stages.NamedStage.{NamedStage}
 use Rattle.pl_build.specs.declared.faults.BuildFault.{BuildFault}
 use Rattle.pl_build.specs.declared.faults.BuildFault.TheVariants.{NoSuchName, Limit, Marks}
@@ -18,6 +18,7 @@ use Rattle.pl_build.specs.declared.limits.TheConstants.{MAX_HANDLERS, MAX_MARK}
 use Rattle.pl_build.specs.Names.{is_name}
 use Rattle.pl_build.specs.Pipelines.{index_of, without, meanings}
 use Rattle.pl_build.specs.Refusals.{unless, naming_fault, beside_fault, marks_answer, building_fault}
+use Rattle.pl_world.proofs.SmallLanes.{is_out}
 use Rattle.pl_text.specs.declared.session_text.outline.HandlerKind.{HandlerKind}
 use Rattle.pl_text.specs.declared.session_text.outline.HandlerKind.TheVariants.{Lines, Decode, LineEnd, Encode, Service, FlushEvery}
 use Rattle.pl_text.specs.declared.session_text.outline.Addition.{Addition}
@@ -169,11 +170,6 @@ inbound m = not (is_outbound m.direction)
 abbrev fronts : List Meaning → ℕ
 fronts ms = prefix_len (λ m. not (is_turn m.direction)) ms
 
-All-reverse : {X : Type 0} (P : X → Type 0) (xs : List X) → All P xs → All P (reverse xs)
-All-reverse P [] h = h
-All-reverse P (x ∷ xs) h =
-    subst (All P) (sym (reverse-append (x ∷ []) xs)) (All-push P (reverse xs) x (All-reverse P xs (All-tail P x xs h)) (All-head P x xs h))
-
 pub chains-length : (ms : List Meaning) → length (inbound_chain ms) + length (outbound_chain ms) ≤ length ms
 chains-length ms =
     omega (arith, length-filter_both outbound inbound (λ m. refl) ms, length-filter-take outbound (fronts ms) ms, length-reverse (filter outbound (take (fronts ms) ms)))
@@ -184,11 +180,6 @@ inbound-all P ms all = All-filter inbound P ms all
 pub outbound-all : (P : Meaning → Type 0) (ms : List Meaning) → All P ms → All P (outbound_chain ms)
 outbound-all P ms all =
     All-reverse P (filter outbound (take (fronts ms) ms)) (All-filter outbound P (take (fronts ms) ms) (All-take P (fronts ms) ms all))
-
-is_out : (d : Direction) → is_outbound d ≡ true → d ≡ Outbound
-is_out Inbound e = cc
-is_out Outbound e = refl
-is_out Turn e = cc
 
 pub outbound-out : (ms : List Meaning) → All (λ m. m.direction ≡ Outbound) (outbound_chain ms)
 outbound-out ms =
