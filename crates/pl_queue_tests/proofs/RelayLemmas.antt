@@ -10,7 +10,7 @@ use Rattle.pl_event.specs.declared.events.Event.{Event}
 use Rattle.pl_event.specs.declared.events.Event.TheVariants.{ReadComplete}
 use Rattle.pl_event.specs.Hops.{flags_lane, same_lane}
 use Rattle.pl_event.specs.Fitting.{Fits}
-use Rattle.pl_event.specs.Worlds.{World, content_of, FitsWorld, FitsAsKind, MayCome, closes}
+use Rattle.pl_event.specs.Worlds.{World, content_of, content_in, FitsWorld, FitsAsKind, MayCome, closes}
 use Rattle.pl_event.proofs.SameLanes.{same_lane-self}
 use Rattle.pl_queue.specs.declared.views.SendCount.{SendCount}
 use Rattle.pl_queue.specs.declared.views.SenderView.{SenderView}
@@ -197,8 +197,8 @@ one-sender f none all x t first a b own taker =
     (all-given (send_counts_of (f x ∷ [])) t.counts (map-append (λ (c : SendCount). c.lane) (f x).send_counts [] ∙ ap (λ ls. ls ++ []) own ∙ sym taker))
 
 -- worlds of one lane, and of two
-pub in_first : (l : Lane) (events : List Event) (rest : World) → content_of ((l, events) ∷ rest) l ≡ Some events
+pub in_first : (l : Lane) (events : List Event) (rest : List (Lane × List Event)) → content_in ((l, events) ∷ rest) l ≡ Some events
 in_first l events rest = cond-true (same_lane l l) _ _ (same_lane-self l)
 
-pub in_second : (l m : Lane) (events others : List Event) → same_lane m l ≡ false → content_of ((l, events) ∷ (m, others) ∷ []) m ≡ Some others
+pub in_second : (l m : Lane) (events others : List Event) → same_lane m l ≡ false → content_in ((l, events) ∷ (m, others) ∷ []) m ≡ Some others
 in_second l m events others apart = cond-false (same_lane m l) _ _ apart ∙ in_first m others []
