@@ -55,7 +55,7 @@ module _ {T : Type 0} (state : T → TransportState) (plan : Plan) (c : ℕ) (p 
   -- They are ends as a run leaves them. (Whether writes get no number any more is nothing of a head that has not failed.)
   run-ends : (full : Bool) → (head.failure ≡ None → full ≡ false) → AreRunEnds p (record (ends_of state tail head took.ys took.zs) { is_full = full })
   run-ends full numbering =
-      let ends = keep state plan c p tail head held full numbering last.aborted in
+      let ends = keep state true plan c p tail head held full numbering last.aborted in
       record {
         keep = ends;
         none_late = took.none_late;
