@@ -14,7 +14,7 @@ use Rattle.pl_world.specs.Plans.{Plan}
 use Rattle.pl_tool.specs.declared.program.failure.Failure.{Failure}
 use Rattle.pl_tool.specs.declared.program.failure.Failure.TheVariants.{Usage, Moves, Replay, Input, Session, Run, Memory, Output}
 use Rattle.pl_tool.proofs.ProgramBytes.{consumes_more}
-use Rattle.pl_tool.specs.ProgramOutcomes.{EndsReading, RefusesInput, TakesAtMost, TakesSession, session_of_bytes}
+use Rattle.pl_tool.specs.ProgramOutcomes.{EndsReading, RefusesInput, session_of_bytes}
 use Rattle.pl_text.specs.SessionReading.{Answers}
 use Rattle.pl_text.specs.SessionTexts.{session_of}
 
@@ -55,18 +55,6 @@ is_long n lt = grind (arith, nat_tests)
 pub long_means : (input : List ℕ) → MAX_SESSION_TEXT < length input → session_of_bytes input ≡ Err Limit
 long_means input long =
     ap (λ (is_long : Bool). if is_long then Err Limit else (if is_utf8 input then session_of input else Err NotJson)) (is_long (length input) long)
-
-not_long : {A F : Type 0} (is_long : Bool) (fault : F) (read : Result A F) (x : A) → (if is_long then Err fault else read) ≡ Ok x → is_long ≡ false
-not_long true fault read x e = cc
-not_long false fault read x e = refl
-
-at_most_from : (n : ℕ) → nat_lt MAX_SESSION_TEXT n ≡ false → n ≤ MAX_SESSION_TEXT
-at_most_from n e = grind (arith, nat_tests)
-
--- a session is not one
-pub session_is_short : (unread left : Option (List ℕ)) (session : Plan) → TakesSession unread left session → TakesAtMost MAX_SESSION_TEXT unread left
-session_is_short unread left session taken =
-    (taken.input, taken.taken, at_most_from (length taken.input) (not_long (nat_lt MAX_SESSION_TEXT (length taken.input)) Limit _ session taken.means))
 
 -- a failure after bytes that were read before, and more that were taken
 pub input_refused : (a b c : Option (List ℕ)) (old bytes : List ℕ) (e : Failure) → Consumes a b old → Consumes b c bytes → EndsReading e (length old + length bytes) → RefusesInput e a c

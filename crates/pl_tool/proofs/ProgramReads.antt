@@ -1,8 +1,7 @@
 -- What clap finds on a command line is what it requests.
 use Rattle.std.proofs.Common.{◌≡◌, ◌∙◌, List, [], ◌∷◌, Bool, true, false, not, ◌&&◌, map, drop, Option, Some, None, refl, sym, ap, ap₂, codes, Bor, string_bytes, String, Global, arith}
 use Rattle.std.proofs.lemmas.Bool.Decides.{nat_tests}
-use Rattle.std.specs.Prelude.{if◌then◌else◌, option_map, option_and_then, unwrap_or, Box}
-use Rattle.std.specs.Box.{box_value}
+use Rattle.std.specs.Prelude.{if◌then◌else◌, option_map, option_and_then, unwrap_or}
 use Rattle.std.specs.List.{list_any}
 use Rattle.std.specs.Str.{bytes_eq}
 use Rattle.clap.proofs.WalkLemmas.{list_any-map, first_value-rows}
@@ -10,11 +9,9 @@ use Rattle.clap.specs.Faults.{fault_of}
 use Rattle.clap.specs.Kinds.{IsAmong, Kinds}
 use Rattle.clap.specs.Matches.{first_value}
 use Rattle.clap.specs.Walk.{Row, Text, is_empty, rows_of}
-use Rattle.clap.specs.Simple.{subcommand_of, subcommand_rows}
+use Rattle.clap.specs.Simple.{subcommand_of}
 use Rattle.clap.specs.declared.error.kind.ErrorKind.{ErrorKind}
 use Rattle.clap.specs.declared.parser.matches.Found.{Found}
-use Rattle.clap.specs.declared.parser.matches.ArgMatches.TheViews.{out-SubCommand}
-use Rattle.clap.specs.declared.parser.matches.SubCommand.{SubCommand}
 use Rattle.pl_tool.specs.ProgramLines.{RequestView, Replay, Run, has_dash, program, queue_named, request_of, request_of_subcommand}
 
 map_drop : (words : List (String Global)) → map string_bytes (drop 1 words) ≡ drop 1 (map string_bytes words)
@@ -45,17 +42,6 @@ pub run_is_requested : (found : Found) (name : Text) (request : Option RequestVi
 run_is_requested found name request is chose =
     chose ∙ ap (λ (o : Option Text). option_map Run (option_and_then queue_named o)) (first_value-rows found (codes "queue"))
     ∙ sym (ap (λ (n : Text). request_of_subcommand (n, rows_of found)) is)
-
-found_is : {Z : Type 0} (s : Option (Box SubCommand Z)) (name : Text) (rows : List Row) → Some name ≡ option_map (λ b. (out-SubCommand (box_value b)).name.now) s
-    → Some rows ≡ option_map (λ p. p.1) (subcommand_rows s) → subcommand_rows s ≡ Some (name, rows)
-found_is None name rows a b = cc
-found_is (Some sub) name rows a b =
-    ap₂ (λ (x : Text) (y : List Row). Some (x, y)) (sym (ap (λ o. unwrap_or o name) a)) (sym (ap (λ o. unwrap_or o rows) b))
-
--- the request of a line by what was found of its subcommand
-pub subcommand_is_requested : {Z : Type 0} (s : Option (Box SubCommand Z)) (name : Text) (rows : List Row) (request : Option RequestView) → Some name ≡ option_map (λ b. (out-SubCommand (box_value b)).name.now) s
-    → Some rows ≡ option_map (λ p. p.1) (subcommand_rows s) → request ≡ request_of_subcommand (name, rows) → request ≡ option_and_then request_of_subcommand (subcommand_rows s)
-subcommand_is_requested s name rows request named has requested = requested ∙ ap (option_and_then request_of_subcommand) (sym (found_is s name rows named has))
 
 -- ---- the line
 
