@@ -2,8 +2,13 @@
 #![tactic(auto)]
 
 #[cfg(test)]
+mod fault_texts;
+#[cfg(test)]
 mod moves_text;
+mod ping;
 #[cfg(test)]
 mod report_text;
 #[cfg(test)]
 mod session_text;
+
+pub use ping::{PING_REPORT, PING_SESSION};

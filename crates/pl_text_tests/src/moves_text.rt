@@ -1,5 +1,6 @@
 //! Texts of moves, well formed and not.
 
+use crate::fault_texts::assert_told;
 use pl_text::{MovesFault, read_moves};
 use pl_world::Move;
 use std::test::Fail;
@@ -45,13 +46,7 @@ fn moves_of_ping(rt: HostRuntime) -> Result<(), Fail> {
 
 #[test]
 fn moves_fault_texts(rt: HostRuntime) -> Result<(), Fail> {
-    for (fault, text) in [
-        (MovesFault::Form, "1 Form"),
-        (MovesFault::Limit, "2 Limit"),
-        (MovesFault::Memory, "3 Memory"),
-    ] {
-        let told = format!(in rt.alloc(); "{fault}")?;
-        assert_eq!(rt; told.as_str(), text);
-    }
-    Ok(())
+    assert_told(&rt, MovesFault::Form, "1 Form")?;
+    assert_told(&rt, MovesFault::Limit, "2 Limit")?;
+    assert_told(&rt, MovesFault::Memory, "3 Memory")
 }

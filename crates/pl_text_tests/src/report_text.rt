@@ -1,5 +1,7 @@
 //! The printed text of reports.
 
+use crate::fault_texts::assert_told;
+use crate::ping::PING_REPORT;
 use pl_event::{
     ByteString, Caught, Cause, Command, Event, Fault, Key, Message, Outcome, Reply, Sequence,
 };
@@ -7,16 +9,6 @@ use pl_text::{PrintFault, print_report};
 use pl_world::{ChannelReport, Report, Stands};
 use std::process::Abort;
 use std::test::Fail;
-
-const PING: &str = "channel 0 drained
-tail 3
-Active
-Read Ping
-ReadComplete
-bytes 7 2b504f4e470d0a
-writes 1
-0 Success
-";
 
 const NO_BURSTS: &str = "channel 0 drained
 tail 1
@@ -157,7 +149,7 @@ fn assert_printed(
 #[test]
 fn ping(rt: HostRuntime) -> Result<(), Fail> {
     let channel = after_ping(&rt, Stands::Drained, b"+PONG\r\n", Outcome::Success)?;
-    assert_printed(&rt, vec![in rt.alloc(); channel]?, PING)
+    assert_printed(&rt, vec![in rt.alloc(); channel]?, PING_REPORT)
 }
 
 #[test]
@@ -258,12 +250,6 @@ fn every_event(rt: HostRuntime) -> Result<(), Fail> {
 
 #[test]
 fn print_fault_texts(rt: HostRuntime) -> Result<(), Fail> {
-    for (fault, text) in [
-        (PrintFault::Memory, "1 Memory"),
-        (PrintFault::Output, "2 Output"),
-    ] {
-        let told = format!(in rt.alloc(); "{fault}")?;
-        assert_eq!(rt; told.as_str(), text);
-    }
-    Ok(())
+    assert_told(&rt, PrintFault::Memory, "1 Memory")?;
+    assert_told(&rt, PrintFault::Output, "2 Output")
 }

@@ -1,18 +1,11 @@
 //! Session texts: what is read from them, and which fault is answered first.
 
+use crate::fault_texts::assert_told;
+use crate::ping::PING_SESSION;
 use pl_build::BuildFault;
 use pl_text::{MAX_SESSION_TEXT, SessionFault, read_session};
 use std::process::Abort;
 use std::test::Fail;
-
-/// One PING through the line protocol.
-const PING: &str = r#"{"version":1,"capacity":4,"loops":1,"channels":[{"handlers":[
-{"op":"last","name":"lines","kind":"lines","max":64},
-{"op":"last","name":"decode","kind":"decode"},
-{"op":"last","name":"lineend","kind":"lineend"},
-{"op":"last","name":"encode","kind":"encode"},
-{"op":"last","name":"service","kind":"service"}],
-"bursts":[["PING\r\n"]]}]}"#;
 
 /// The faults that most texts are refused for.
 const MISSING: Option<SessionFault> = Some(SessionFault::Missing);
@@ -27,10 +20,21 @@ fn assert_answer(rt: &(impl Abort + AllocGlobal), text: &str, fault: Option<Sess
 }
 
 /// A session of one channel with these edits, and with what follows its bursts.
-fn with_edits(rt: &HostRuntime, edits: &str, more: &str) -> Result<String, Fail> {
+fn with_edits(rt: &impl AllocGlobal, edits: &str, more: &str) -> Result<String, Fail> {
     Ok(format!(in rt.alloc();
         "{{\"version\":1,\"capacity\":4,\"loops\":1,\"channels\":[{{\"handlers\":[{edits}],\"bursts\":[]{more}}}]}}"
     )?)
+}
+
+/// Such a session has this answer.
+fn assert_edits(
+    rt: &(impl Abort + AllocGlobal),
+    edits: &str,
+    more: &str,
+    fault: Option<SessionFault>,
+) -> Result<(), Fail> {
+    assert_answer(rt, with_edits(rt, edits, more)?.as_str(), fault);
+    Ok(())
 }
 
 /// One service, which is the turn.
@@ -38,7 +42,7 @@ const SERVICE: &str = r#"{"op":"last","name":"service","kind":"service"}"#;
 
 #[test]
 fn ping_session(rt: HostRuntime) -> Result<(), Fail> {
-    let session = read_session(rt.alloc(), PING)?;
+    let session = read_session(rt.alloc(), PING_SESSION)?;
     assert_eq!(rt; session.capacity, 4);
     assert_eq!(rt; session.world.executors(), 1);
     let channels = session.world.channels();
@@ -62,7 +66,7 @@ fn ping_session(rt: HostRuntime) -> Result<(), Fail> {
 fn call_to_fail(rt: HostRuntime) -> Result<(), Fail> {
     for call in [1u32, 2, 65_537, 4_294_967_295] {
         let other = format!(in rt.alloc(); "\"fail_at\":{call},\"bursts\":")?;
-        let text = PING.replace(rt.alloc(), r#""bursts":"#, other.as_str())?;
+        let text = PING_SESSION.replace(rt.alloc(), r#""bursts":"#, other.as_str())?;
         let session = read_session(rt.alloc(), text.as_str())?;
         let channels = session.world.channels();
         assert_eq!(rt; channels.len(), 1);
@@ -79,7 +83,7 @@ fn aborted_channels(rt: HostRuntime) -> Result<(), Fail> {
         let other = format!(in rt.alloc();
             "\"bursts\":[[],[\"PI\"],[\"NG\"]],\"abort_after\":{after}"
         )?;
-        let text = PING.replace(rt.alloc(), r#""bursts":[["PING\r\n"]]"#, other.as_str())?;
+        let text = PING_SESSION.replace(rt.alloc(), r#""bursts":[["PING\r\n"]]"#, other.as_str())?;
         let session = read_session(rt.alloc(), text.as_str())?;
         let channels = session.world.channels();
         assert_eq!(rt; channels.len(), 1);
@@ -128,8 +132,7 @@ fn failures_that_are_not_whole(rt: HostRuntime) -> Result<(), Fail> {
             "\"1\"",
         ] {
             let more = format!(in rt.alloc(); ",\"{member}\":{number}")?;
-            let text = with_edits(&rt, SERVICE, more.as_str())?;
-            assert_answer(&rt, text.as_str(), Some(SessionFault::Kind));
+            assert_edits(&rt, SERVICE, more.as_str(), Some(SessionFault::Kind))?;
         }
     }
     Ok(())
@@ -151,8 +154,7 @@ fn failures_in_reading_order(rt: HostRuntime) -> Result<(), Fail> {
             Some(SessionFault::Build(BuildFault::NoTurn)),
         ),
     ] {
-        let text = with_edits(&rt, edits, more)?;
-        assert_answer(&rt, text.as_str(), fault);
+        assert_edits(&rt, edits, more, fault)?;
     }
     Ok(())
 }
@@ -182,8 +184,8 @@ fn refused_sessions(rt: HostRuntime) {
 
 #[test]
 fn truncated_session(rt: HostRuntime) -> Result<(), Fail> {
-    for end in 0..PING.len() {
-        let prefix = PING.get(..end).ok_or("the session is ASCII")?;
+    for end in 0..PING_SESSION.len() {
+        let prefix = PING_SESSION.get(..end).ok_or("the session is ASCII")?;
         assert_answer(&rt, prefix, Some(SessionFault::NotJson));
     }
     let deep = "[".repeat(rt.alloc(), 200)?;
@@ -191,16 +193,15 @@ fn truncated_session(rt: HostRuntime) -> Result<(), Fail> {
     Ok(())
 }
 
-/// Each text in the place of a part of the session of one PING has this answer: a fault, or None where it is read.
+/// Each text in the place of a part of the session of one PING has its answer: a fault, or None where it is read.
 fn assert_answers(
     rt: &(impl Abort + AllocGlobal),
     part: &str,
-    fault: Option<SessionFault>,
-    others: &[&str],
+    others: &[(&str, Option<SessionFault>)],
 ) -> Result<(), Fail> {
-    for other in others {
-        let text = PING.replace(rt.alloc(), part, other)?;
-        assert_answer(rt, text.as_str(), fault);
+    for (other, fault) in others {
+        let text = PING_SESSION.replace(rt.alloc(), part, other)?;
+        assert_answer(rt, text.as_str(), *fault);
     }
     Ok(())
 }
@@ -211,57 +212,40 @@ fn hostile_members(rt: HostRuntime) -> Result<(), Fail> {
     assert_answers(
         &rt,
         r#""version":1"#,
-        KIND,
-        &[r#""version":1.5"#, r#""version":"1""#, r#""version":null"#],
-    )?;
-    assert_answers(
-        &rt,
-        r#""version":1"#,
-        Some(SessionFault::Version),
-        &[r#""version":0"#],
-    )?;
-    assert_answers(&rt, r#""capacity":4"#, KIND, &[r#""capacity":null"#])?;
-    assert_answers(&rt, r#""capacity":4"#, None, &[r#""capacity":65536"#])?;
-    assert_answers(&rt, r#""capacity":4"#, LIMIT, &[r#""capacity":65537"#])?;
-    assert_answers(
-        &rt,
-        r#""loops":1"#,
-        None,
         &[
-            r#""loops":16"#,
-            r#""loops":1,"groups":[]"#,
-            r#""loops":1,"groups":null"#,
+            (r#""version":1.5"#, KIND),
+            (r#""version":"1""#, KIND),
+            (r#""version":null"#, KIND),
+            (r#""version":0"#, Some(SessionFault::Version)),
+        ],
+    )?;
+    assert_answers(
+        &rt,
+        r#""capacity":4"#,
+        &[
+            (r#""capacity":null"#, KIND),
+            (r#""capacity":65536"#, None),
+            (r#""capacity":65537"#, LIMIT),
         ],
     )?;
     assert_answers(
         &rt,
         r#""loops":1"#,
-        LIMIT,
         &[
-            r#""loops":17"#,
-            r#""loops":0"#,
-            r#""loops":1,"groups":[{"name":"g","size":65536}]"#,
+            (r#""loops":16"#, None),
+            (r#""loops":1,"groups":[]"#, None),
+            (r#""loops":1,"groups":null"#, None),
+            (r#""loops":17"#, LIMIT),
+            (r#""loops":0"#, LIMIT),
+            (r#""loops":1,"groups":[{"name":"g","size":65536}]"#, LIMIT),
+            (r#""loops":1,"groups":7"#, KIND),
+            (r#""loops":1,"groups":[7]"#, KIND),
+            (r#""loops":1,"groups":[{"size":7,"name":null}]"#, KIND),
+            (r#""loops":1,"groups":[{"name":"g"}]"#, MISSING),
         ],
     )?;
-    assert_answers(
-        &rt,
-        r#""loops":1"#,
-        KIND,
-        &[
-            r#""loops":1,"groups":7"#,
-            r#""loops":1,"groups":[7]"#,
-            r#""loops":1,"groups":[{"size":7,"name":null}]"#,
-        ],
-    )?;
-    assert_answers(
-        &rt,
-        r#""loops":1"#,
-        MISSING,
-        &[r#""loops":1,"groups":[{"name":"g"}]"#],
-    )?;
-    assert_answers(&rt, r#"[{"handlers""#, KIND, &[r#"[7,{"handlers""#])?;
-    assert_answers(&rt, r#"{"handlers""#, MISSING, &[r#"{"more""#])?;
-    Ok(())
+    assert_answers(&rt, r#"[{"handlers""#, &[(r#"[7,{"handlers""#, KIND)])?;
+    assert_answers(&rt, r#"{"handlers""#, &[(r#"{"more""#, MISSING)])
 }
 
 /// Members of an edit.
@@ -270,54 +254,38 @@ fn hostile_edits(rt: HostRuntime) -> Result<(), Fail> {
     assert_answers(
         &rt,
         r#""op":"last","name":"decode""#,
-        MISSING,
-        &[r#""name":"decode""#, r#""op":"before","name":"decode""#],
-    )?;
-    assert_answers(
-        &rt,
-        r#""op":"last","name":"decode""#,
-        KIND,
         &[
-            r#""op":"Last","name":"decode""#,
-            r#""op":"first","name":7"#,
-            r#""op":"after","name":"decode","at":null"#,
+            (r#""name":"decode""#, MISSING),
+            (r#""op":"before","name":"decode""#, MISSING),
+            (r#""op":"Last","name":"decode""#, KIND),
+            (r#""op":"first","name":7"#, KIND),
+            (r#""op":"after","name":"decode","at":null"#, KIND),
         ],
     )?;
-    assert_answers(&rt, r#""name":"decode""#, None, &[r#""name":"other""#])?;
+    assert_answers(&rt, r#""name":"decode""#, &[(r#""name":"other""#, None)])?;
     assert_answers(
         &rt,
         r#""kind":"decode""#,
-        KIND,
-        &[r#""kind":"length""#, r#""kind":"decode","group":7"#],
-    )?;
-    assert_answers(
-        &rt,
-        r#""kind":"decode""#,
-        MISSING,
-        &[r#""kind":"flush_every""#],
-    )?;
-    assert_answers(
-        &rt,
-        r#""kind":"decode""#,
-        LIMIT,
         &[
-            r#""kind":"flush_every","n":0"#,
-            r#""kind":"flush_every","n":65536"#,
+            (r#""kind":"length""#, KIND),
+            (r#""kind":"decode","group":7"#, KIND),
+            (r#""kind":"flush_every""#, MISSING),
+            (r#""kind":"flush_every","n":0"#, LIMIT),
+            (r#""kind":"flush_every","n":65536"#, LIMIT),
+            (r#""kind":"flush_every","n":65535"#, None),
+            (r#""kind":"decode","group":null"#, None),
         ],
     )?;
     assert_answers(
         &rt,
-        r#""kind":"decode""#,
-        None,
+        r#""max":64"#,
         &[
-            r#""kind":"flush_every","n":65535"#,
-            r#""kind":"decode","group":null"#,
+            (r#""max":0"#, LIMIT),
+            (r#""max":8193"#, LIMIT),
+            (r#""max":8192"#, None),
+            (r#""max":null"#, KIND),
         ],
-    )?;
-    assert_answers(&rt, r#""max":64"#, LIMIT, &[r#""max":0"#, r#""max":8193"#])?;
-    assert_answers(&rt, r#""max":64"#, None, &[r#""max":8192"#])?;
-    assert_answers(&rt, r#""max":64"#, KIND, &[r#""max":null"#])?;
-    Ok(())
+    )
 }
 
 /// Members of a channel.
@@ -326,90 +294,53 @@ fn hostile_channels(rt: HostRuntime) -> Result<(), Fail> {
     assert_answers(
         &rt,
         r#""bursts":"#,
-        None,
         &[
-            r#""low":null,"high":null,"bursts":"#,
-            r#""high":1073741824,"bursts":"#,
-            r#""low":0,"high":0,"bursts":"#,
-            r#""window":1,"bursts":"#,
-            r#""window":65536,"bursts":"#,
-            r#""fail_at":1,"bursts":"#,
-            r#""fail_at":4294967295,"bursts":"#,
-            r#""abort_after":0,"bursts":"#,
-            r#""abort_after":1,"bursts":"#,
-        ],
-    )?;
-    assert_answers(
-        &rt,
-        r#""bursts":"#,
-        KIND,
-        &[
-            r#""high":"8","bursts":"#,
-            r#""window":"x","bursts":"#,
-            r#""window":1.5,"bursts":"#,
-            r#""fail_at":-1,"bursts":"#,
-            r#""fail_at":1.0,"bursts":"#,
-            r#""fail_at":"1","bursts":"#,
-            r#""abort_after":-1,"bursts":"#,
-            r#""abort_after":[1],"bursts":"#,
-        ],
-    )?;
-    assert_answers(
-        &rt,
-        r#""bursts":"#,
-        LIMIT,
-        &[
-            r#""high":1073741825,"bursts":"#,
-            r#""low":1073741825,"bursts":"#,
-            r#""window":0,"bursts":"#,
-            r#""window":65537,"bursts":"#,
-            r#""fail_at":0,"bursts":"#,
-            r#""fail_at":4294967296,"bursts":"#,
-            r#""abort_after":2,"bursts":"#,
-            r#""abort_after":4294967296,"bursts":"#,
-        ],
-    )?;
-
-    // The window comes before the call that fails, that before the bursts, and those before the abort.
-    assert_answers(
-        &rt,
-        r#""bursts":"#,
-        LIMIT,
-        &[
-            r#""fail_at":"x","window":0,"bursts":"#,
-            r#""abort_after":"x","fail_at":0,"bursts":"#,
+            (r#""low":null,"high":null,"bursts":"#, None),
+            (r#""high":1073741824,"bursts":"#, None),
+            (r#""low":0,"high":0,"bursts":"#, None),
+            (r#""window":1,"bursts":"#, None),
+            (r#""window":65536,"bursts":"#, None),
+            (r#""fail_at":1,"bursts":"#, None),
+            (r#""fail_at":4294967295,"bursts":"#, None),
+            (r#""abort_after":0,"bursts":"#, None),
+            (r#""abort_after":1,"bursts":"#, None),
+            (
+                r#""window":null,"fail_at":null,"abort_after":null,"bursts":"#,
+                None,
+            ),
+            (r#""high":"8","bursts":"#, KIND),
+            (r#""window":"x","bursts":"#, KIND),
+            (r#""window":1.5,"bursts":"#, KIND),
+            (r#""fail_at":-1,"bursts":"#, KIND),
+            (r#""fail_at":1.0,"bursts":"#, KIND),
+            (r#""fail_at":"1","bursts":"#, KIND),
+            (r#""abort_after":-1,"bursts":"#, KIND),
+            (r#""abort_after":[1],"bursts":"#, KIND),
+            (r#""high":1073741825,"bursts":"#, LIMIT),
+            (r#""low":1073741825,"bursts":"#, LIMIT),
+            (r#""window":0,"bursts":"#, LIMIT),
+            (r#""window":65537,"bursts":"#, LIMIT),
+            (r#""fail_at":0,"bursts":"#, LIMIT),
+            (r#""fail_at":4294967296,"bursts":"#, LIMIT),
+            (r#""abort_after":2,"bursts":"#, LIMIT),
+            (r#""abort_after":4294967296,"bursts":"#, LIMIT),
+            // The window comes before the call that fails, that before the bursts, and those before the abort.
+            (r#""fail_at":"x","window":0,"bursts":"#, LIMIT),
+            (r#""abort_after":"x","fail_at":0,"bursts":"#, LIMIT),
         ],
     )?;
     assert_answers(
         &rt,
         r#""bursts":[["PING\r\n"]]"#,
-        LIMIT,
-        &[r#""bursts":7,"fail_at":0"#],
-    )?;
-    assert_answers(
-        &rt,
-        r#""bursts":[["PING\r\n"]]"#,
-        KIND,
         &[
-            r#""abort_after":2,"bursts":[[7]]"#,
-            r#""bursts":[["PING"],[7]]"#,
-            r#""bursts":7"#,
-            r#""bursts":null"#,
+            (r#""bursts":7,"fail_at":0"#, LIMIT),
+            (r#""abort_after":2,"bursts":[[7]]"#, KIND),
+            (r#""bursts":[["PING"],[7]]"#, KIND),
+            (r#""bursts":7"#, KIND),
+            (r#""bursts":null"#, KIND),
+            (r#""abort_after":0"#, MISSING),
         ],
-    )?;
-    assert_answers(
-        &rt,
-        r#""bursts":[["PING\r\n"]]"#,
-        MISSING,
-        &[r#""abort_after":0"#],
-    )?;
-    assert_answers(
-        &rt,
-        r#""bursts":"#,
-        None,
-        &[r#""window":null,"fail_at":null,"abort_after":null,"bursts":"#],
-    )?;
-    Ok(())
+    )
 }
 
 #[test]
@@ -418,7 +349,7 @@ fn numbers_that_are_not_whole(rt: HostRuntime) -> Result<(), Fail> {
         for part in [r#""loops":1"#, r#""max":64"#] {
             let (member, _) = part.split_once(':').ok_or("a member has a colon")?;
             let other = format!(in rt.alloc(); "{member}:{number}")?;
-            let text = PING.replace(rt.alloc(), part, other.as_str())?;
+            let text = PING_SESSION.replace(rt.alloc(), part, other.as_str())?;
             assert_answer(&rt, text.as_str(), Some(SessionFault::Kind));
         }
     }
@@ -433,7 +364,7 @@ fn texts_that_are_no_json(rt: HostRuntime) -> Result<(), Fail> {
         ("{\"version\"", "\u{feff}{\"version\""),
         ("]}]}", "]}]} 7"),
     ] {
-        let text = PING.replace(rt.alloc(), part, other)?;
+        let text = PING_SESSION.replace(rt.alloc(), part, other)?;
         assert_answer(&rt, text.as_str(), Some(SessionFault::NotJson));
     }
     Ok(())
@@ -442,7 +373,7 @@ fn texts_that_are_no_json(rt: HostRuntime) -> Result<(), Fail> {
 /// Of equal keys the last counts.
 #[test]
 fn equal_keys(rt: HostRuntime) -> Result<(), Fail> {
-    let text = PING.replace(rt.alloc(), r#""loops":1"#, r#""loops":"x","loops":2"#)?;
+    let text = PING_SESSION.replace(rt.alloc(), r#""loops":1"#, r#""loops":"x","loops":2"#)?;
     let session = read_session(rt.alloc(), text.as_str())?;
     assert_eq!(rt; session.world.executors(), 2);
     Ok(())
@@ -488,8 +419,7 @@ fn reading_order(rt: HostRuntime) -> Result<(), Fail> {
             SessionFault::Missing,
         ),
     ] {
-        let text = with_edits(&rt, edit, "")?;
-        assert_answer(&rt, text.as_str(), Some(fault));
+        assert_edits(&rt, edit, "", Some(fault))?;
     }
     Ok(())
 }
@@ -578,8 +508,7 @@ fn builder_refusals(rt: HostRuntime) -> Result<(), Fail> {
         ),
     ] {
         let edits = format!(in rt.alloc(); "{SERVICE},{edit}")?;
-        let text = with_edits(&rt, edits.as_str(), "")?;
-        assert_answer(&rt, text.as_str(), Some(SessionFault::Build(fault)));
+        assert_edits(&rt, edits.as_str(), "", Some(SessionFault::Build(fault)))?;
     }
     Ok(())
 }
@@ -601,8 +530,7 @@ fn build_refusals(rt: HostRuntime) -> Result<(), Fail> {
         (SERVICE, r#","low":65537"#, BuildFault::Marks),
         (no_name, "", BuildFault::Limit),
     ] {
-        let text = with_edits(&rt, edits, more)?;
-        assert_answer(&rt, text.as_str(), Some(SessionFault::Build(fault)));
+        assert_edits(&rt, edits, more, Some(SessionFault::Build(fault)))?;
     }
     Ok(())
 }
@@ -630,8 +558,7 @@ fn building_order(rt: HostRuntime) -> Result<(), Fail> {
             BuildFault::NoTurn,
         ),
     ] {
-        let text = with_edits(&rt, edits, more)?;
-        assert_answer(&rt, text.as_str(), Some(SessionFault::Build(fault)));
+        assert_edits(&rt, edits, more, Some(SessionFault::Build(fault)))?;
     }
     Ok(())
 }
@@ -646,8 +573,7 @@ fn name_lengths(rt: HostRuntime) -> Result<(), Fail> {
         let edit = format!(in rt.alloc();
             "{{\"op\":\"last\",\"name\":\"{name}é\",\"kind\":\"service\"}}"
         )?;
-        let text = with_edits(&rt, edit.as_str(), "")?;
-        assert_answer(&rt, text.as_str(), fault);
+        assert_edits(&rt, edit.as_str(), "", fault)?;
     }
     Ok(())
 }
@@ -669,8 +595,7 @@ fn many_handlers(rt: HostRuntime) -> Result<(), Fail> {
             edits.push_str(edit.as_str())?;
         }
         edits.push_str(end)?;
-        let text = with_edits(&rt, edits.as_str(), "")?;
-        assert_answer(&rt, text.as_str(), fault);
+        assert_edits(&rt, edits.as_str(), "", fault)?;
     }
     Ok(())
 }
@@ -684,8 +609,7 @@ fn many_edits(rt: HostRuntime) -> Result<(), Fail> {
         (pair, Some(SessionFault::Limit)),
     ] {
         let edits = format!(in rt.alloc(); "{SERVICE}{pairs}{end}")?;
-        let text = with_edits(&rt, edits.as_str(), "")?;
-        assert_answer(&rt, text.as_str(), fault);
+        assert_edits(&rt, edits.as_str(), "", fault)?;
     }
     Ok(())
 }
@@ -694,38 +618,38 @@ fn many_edits(rt: HostRuntime) -> Result<(), Fail> {
 fn many_channels(rt: HostRuntime) -> Result<(), Fail> {
     for (copies, fault) in [(15, None), (16, Some(SessionFault::Limit))] {
         let more = format!(in rt.alloc(); "}},{{\"handlers\":[{SERVICE}],\"bursts\":[]")?;
-        let text = with_edits(&rt, SERVICE, more.repeat(rt.alloc(), copies)?.as_str())?;
-        assert_answer(&rt, text.as_str(), fault);
+        assert_edits(
+            &rt,
+            SERVICE,
+            more.repeat(rt.alloc(), copies)?.as_str(),
+            fault,
+        )?;
     }
     Ok(())
 }
 
 #[test]
 fn group_refusals(rt: HostRuntime) -> Result<(), Fail> {
-    let loops = r#""loops":1"#;
+    let duplicate = Some(SessionFault::Build(BuildFault::DuplicateName));
+    let limit = Some(SessionFault::Build(BuildFault::Limit));
     assert_answers(
         &rt,
-        loops,
-        Some(SessionFault::Build(BuildFault::DuplicateName)),
-        &[r#""loops":1,"groups":[{"name":"g","size":1},{"name":"g","size":1}]"#],
-    )?;
-    assert_answers(
-        &rt,
-        loops,
-        Some(SessionFault::Build(BuildFault::Limit)),
+        r#""loops":1"#,
         &[
-            r#""loops":16,"groups":[{"name":"g","size":1}]"#,
-            r#""loops":1,"groups":[{"name":"g","size":1},{"name":"g","size":0}]"#,
-            r#""loops":1,"groups":[{"name":"g","size":0}]"#,
-            r#""loops":1,"groups":[{"name":"g","size":65535}]"#,
-            r#""loops":1,"groups":[{"name":"","size":1}]"#,
+            (
+                r#""loops":1,"groups":[{"name":"g","size":1},{"name":"g","size":1}]"#,
+                duplicate,
+            ),
+            (r#""loops":16,"groups":[{"name":"g","size":1}]"#, limit),
+            (
+                r#""loops":1,"groups":[{"name":"g","size":1},{"name":"g","size":0}]"#,
+                limit,
+            ),
+            (r#""loops":1,"groups":[{"name":"g","size":0}]"#, limit),
+            (r#""loops":1,"groups":[{"name":"g","size":65535}]"#, limit),
+            (r#""loops":1,"groups":[{"name":"","size":1}]"#, limit),
+            (r#""loops":1,"groups":[{"name":"g","size":15}]"#, None),
         ],
-    )?;
-    assert_answers(
-        &rt,
-        loops,
-        None,
-        &[r#""loops":1,"groups":[{"name":"g","size":15}]"#],
     )
 }
 
@@ -793,7 +717,7 @@ fn with_bursts(
 ) -> Result<String, Fail> {
     let copied = part.repeat(rt.alloc(), copies)?;
     let bursts = format!(in rt.alloc(); "{begin}{copied}{end}")?;
-    Ok(PING.replace(rt.alloc(), r#"[["PING\r\n"]]"#, bursts.as_str())?)
+    Ok(PING_SESSION.replace(rt.alloc(), r#"[["PING\r\n"]]"#, bursts.as_str())?)
 }
 
 #[test]
@@ -842,35 +766,21 @@ fn burst_order(rt: HostRuntime) -> Result<(), Fail> {
 
 #[test]
 fn fault_texts(rt: HostRuntime) -> Result<(), Fail> {
+    assert_told(&rt, SessionFault::NotJson, "1 NotJson")?;
+    assert_told(&rt, SessionFault::Version, "2 Version")?;
+    assert_told(&rt, SessionFault::Missing, "3 Missing")?;
+    assert_told(&rt, SessionFault::Kind, "4 Kind")?;
+    assert_told(&rt, SessionFault::Limit, "5 Limit")?;
     for (fault, text) in [
-        (SessionFault::NotJson, "1 NotJson"),
-        (SessionFault::Version, "2 Version"),
-        (SessionFault::Missing, "3 Missing"),
-        (SessionFault::Kind, "4 Kind"),
-        (SessionFault::Limit, "5 Limit"),
-        (
-            SessionFault::Build(BuildFault::DuplicateName),
-            "6 Build 1 DuplicateName",
-        ),
-        (
-            SessionFault::Build(BuildFault::NoSuchName),
-            "6 Build 2 NoSuchName",
-        ),
-        (SessionFault::Build(BuildFault::Limit), "6 Build 3 Limit"),
-        (
-            SessionFault::Build(BuildFault::NoSuchGroup),
-            "6 Build 4 NoSuchGroup",
-        ),
-        (SessionFault::Build(BuildFault::NoTurn), "6 Build 5 NoTurn"),
-        (
-            SessionFault::Build(BuildFault::TwoTurns),
-            "6 Build 6 TwoTurns",
-        ),
-        (SessionFault::Build(BuildFault::Marks), "6 Build 7 Marks"),
-        (BuildFault::Memory.into(), "7 Memory"),
+        (BuildFault::DuplicateName, "6 Build 1 DuplicateName"),
+        (BuildFault::NoSuchName, "6 Build 2 NoSuchName"),
+        (BuildFault::Limit, "6 Build 3 Limit"),
+        (BuildFault::NoSuchGroup, "6 Build 4 NoSuchGroup"),
+        (BuildFault::NoTurn, "6 Build 5 NoTurn"),
+        (BuildFault::TwoTurns, "6 Build 6 TwoTurns"),
+        (BuildFault::Marks, "6 Build 7 Marks"),
     ] {
-        let told = format!(in rt.alloc(); "{fault}")?;
-        assert_eq!(rt; told.as_str(), text);
+        assert_told(&rt, SessionFault::Build(fault), text)?;
     }
-    Ok(())
+    assert_told(&rt, SessionFault::from(BuildFault::Memory), "7 Memory")
 }
