@@ -4,7 +4,9 @@ ghost use Rattle.std.specs.Prelude.{◌<◌};
 use crate::net_tests::{
     GROUPS, PLACINGS, begins, bursts, drain, line_protocol, move_by, next_number, pipeline, whole,
 };
-use crate::tests::{CLOSED, FAULT, SUCCESS, assert_one, ping_tail, read_command};
+use crate::tests::{
+    CLOSED, FAULT, OUT, READ, SUCCESS, assert_one, only_channel, ping_tail, read_command,
+};
 use crate::world_tests::{one_memory_transport, world_over};
 use pl_build::Groups;
 use pl_event::{Cause, Command, Event, Outcome, Sequence};
@@ -96,23 +98,11 @@ const WIDE: u32 = 65_536;
 
 #[test]
 fn transport_fault(rt: HostRuntime) -> Result<(), Fail> {
-    let moves = [
-        Move::Read(0),
-        Move::Read(0),
-        Move::Out(0),
-        Move::Out(0),
-        Move::Read(0),
-    ];
+    let moves = [READ, READ, OUT, OUT, READ];
     let ending = Ending::Call(2);
     let report = replayed(rt.alloc(), 4, &[&[b"PING\n"]], ending, &moves)?;
-    assert_one(
-        &rt,
-        &report,
-        ending.stands(),
-        &ping_tail(),
-        b"+PON",
-        &[FAULT],
-    );
+    let stands = ending.stands();
+    assert_one(&rt, &report, stands, &ping_tail(), b"+PON", &[FAULT]);
     Ok(())
 }
 
@@ -124,40 +114,13 @@ fn fault_at_each_call(rt: HostRuntime) -> Result<(), Fail> {
         read_command(Command::Ping),
         read_command(Command::Quit),
     ];
-    let moves = [
-        Move::Read(0),
-        Move::Read(0),
-        Move::Out(0),
-        Move::Out(0),
-        Move::Out(0),
-        Move::Out(0),
-        Move::Read(0),
-    ];
+    let moves = [READ, READ, OUT, OUT, OUT, OUT, READ];
+    let failed = Stands::Failed(Cause::Transport);
     for (call, stands, bytes, writes) in [
-        (
-            1,
-            Stands::Failed(Cause::Transport),
-            b"".as_slice(),
-            [FAULT, FAULT],
-        ),
-        (
-            2,
-            Stands::Failed(Cause::Transport),
-            b"+PON".as_slice(),
-            [FAULT, FAULT],
-        ),
-        (
-            3,
-            Stands::Failed(Cause::Transport),
-            b"+PONG\r\n".as_slice(),
-            [SUCCESS, FAULT],
-        ),
-        (
-            4,
-            Stands::Failed(Cause::Transport),
-            b"+PONG\r\n+BYE".as_slice(),
-            [SUCCESS, FAULT],
-        ),
+        (1, failed, b"".as_slice(), [FAULT, FAULT]),
+        (2, failed, b"+PON".as_slice(), [FAULT, FAULT]),
+        (3, failed, b"+PONG\r\n".as_slice(), [SUCCESS, FAULT]),
+        (4, failed, b"+PONG\r\n+BYE".as_slice(), [SUCCESS, FAULT]),
         (
             5,
             Stands::Drained,
@@ -176,18 +139,16 @@ fn fault_at_each_call(rt: HostRuntime) -> Result<(), Fail> {
 fn abort(rt: HostRuntime) -> Result<(), Fail> {
     let input: &[&[&[u8]]] = &[&[b"PING\r\n"]];
     let ending = Ending::Abort(1);
-    let before = [Move::Read(0), Move::Read(0), Move::Read(0)];
-    let report = replayed(rt.alloc(), WIDE, input, ending, &before)?;
-    assert_one(&rt, &report, ending.stands(), &ping_tail(), b"", &[CLOSED]);
-    let after = [Move::Read(0), Move::Read(0), Move::Out(0), Move::Read(0)];
-    let report = replayed(rt.alloc(), WIDE, input, ending, &after)?;
-    let pong = b"+PONG\r\n";
+    let aborted = ending.stands();
+    let report = replayed(rt.alloc(), WIDE, input, ending, &[READ, READ, READ])?;
+    assert_one(&rt, &report, aborted, &ping_tail(), b"", &[CLOSED]);
+    let report = replayed(rt.alloc(), WIDE, input, ending, &[READ, READ, OUT, READ])?;
     assert_one(
         &rt,
         &report,
-        ending.stands(),
+        aborted,
         &ping_tail(),
-        pong,
+        b"+PONG\r\n",
         &[SUCCESS],
     );
     Ok(())
@@ -202,13 +163,7 @@ fn abort_at_each_burst(rt: HostRuntime) -> Result<(), Fail> {
         read_command(Command::Ping),
         Event::ReadComplete,
     ];
-    let moves = [
-        Move::Read(0),
-        Move::Read(0),
-        Move::Read(0),
-        Move::Read(0),
-        Move::Out(0),
-    ];
+    let moves = [READ, READ, READ, READ, OUT];
     for (count, tail, writes) in [
         (0, &tail[..1], [].as_slice()),
         (1, &tail[..2], [].as_slice()),
@@ -303,12 +258,6 @@ fn ended(
     let report = net.into_report()?;
     assert!(rt; assert_goes_on(rt, &report, whole, ending));
     Ok(report)
-}
-
-/// The only channel of a report.
-fn only_channel<'a>(rt: &impl Abort, report: &'a Report) -> &'a ChannelReport {
-    assert_eq!(rt; report.channels.len(), 1);
-    &report.channels.as_slice()[0]
 }
 
 /// In each placing, whatever the schedule: as many bytes leave as the calls before the one that fails accept.

@@ -2,7 +2,7 @@
 ghost use Rattle.std.specs.Prelude.{◌≤◌};
 
 use crate::net_tests::{PLACINGS, line_protocol, marked_pipeline, to_its_end};
-use crate::tests::assert_channel;
+use crate::tests::assert_same;
 use crate::world_tests::windowed_world;
 use pl_build::Groups;
 use pl_event::Sequence;
@@ -67,20 +67,9 @@ fn assert_drains(
     )?;
     let want = plain(alloc, session(alloc, decode, service, window)?)?;
     assert_eq!(rt; report.channels.len(), want.channels.len());
-    for (channel, whole) in report
-        .channels
-        .as_slice()
-        .iter()
-        .zip(want.channels.as_slice())
-    {
-        assert_channel(
-            rt,
-            channel,
-            whole.stands,
-            whole.tail.as_slice(),
-            whole.bytes.as_slice(),
-            whole.writes.as_slice(),
-        );
+    let reports = report.channels.as_slice().iter();
+    for (channel, whole) in reports.zip(want.channels.as_slice()) {
+        assert_same(rt, channel, whole);
     }
     Ok(())
 }

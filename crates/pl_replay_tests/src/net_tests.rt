@@ -2,7 +2,8 @@
 ghost use Rattle.std.specs.Prelude.{◌<◌};
 
 use crate::tests::{
-    Kind, SUCCESS, assert_channel, assert_one, assert_ping, handler, ping_tail, read_command, text,
+    Kind, OUT, READ, SUCCESS, assert_drained, assert_one, assert_ping, assert_pong, assert_same,
+    handler, only_channel, ping_tail, read_command, text,
 };
 use crate::world_tests::world_of;
 use pl_build::{Groups, PipelineBuilder, Placed};
@@ -127,7 +128,7 @@ const THERE_AND_BACK: [Move; 4] = [Move::Hand(0), Move::Task(1), Move::Hand(1), 
 
 /// All three read steps, and each event of the decoder's there and back.
 fn handed_over(alloc: Global) -> Result<Vec<Move>, Fail> {
-    let mut moves = vec![in alloc; Move::Read(0), Move::Read(0), Move::Read(0)]?;
+    let mut moves = vec![in alloc; READ; 3]?;
     for _ in 0..4 {
         moves.extend_from_slice(&THERE_AND_BACK)?;
     }
@@ -138,8 +139,8 @@ fn handed_over(alloc: Global) -> Result<Vec<Move>, Fail> {
 fn full_queue_of_one(rt: HostRuntime) -> Result<(), Fail> {
     let mut net = Net::new(rt.alloc(), decoder_apart(rt.alloc())?, 1)?;
     for (step, is_enabled) in [
-        (Move::Read(0), true),
-        (Move::Read(0), true),
+        (READ, true),
+        (READ, true),
         (Move::Hand(0), true),
         (Move::Hand(0), false),
         (Move::Task(1), true),
@@ -158,7 +159,7 @@ fn full_queue_of_one(rt: HostRuntime) -> Result<(), Fail> {
 fn handover_drained(rt: HostRuntime) -> Result<(), Fail> {
     let world = decoder_apart(rt.alloc())?;
     let mut moves = handed_over(rt.alloc())?;
-    moves.push(Move::Out(0))?;
+    moves.push(OUT)?;
     let report = replay_world(rt.alloc(), world, 1, moves.as_slice())?;
     assert_ping(&rt, &report);
     Ok(())
@@ -208,6 +209,9 @@ pub(crate) fn drain<T: Transport>(
 
 const TOTALS: &[u8] = b"ADD a 7\nADD b 1\nADD a 5\nGET a\n";
 
+/// What is sent where that is served.
+const TOTALS_SENT: &[u8] = b":7\r\n:1\r\n:12\r\n:12\r\n";
+
 /// The decoder and the service each on an executor of their own.
 fn totals_across_groups(alloc: Global) -> Result<World<Handler, MemoryTransport>, Fail> {
     let kinds = line_protocol(Some("a"), Some("b"));
@@ -219,17 +223,10 @@ fn two_groups(rt: HostRuntime) -> Result<(), Fail> {
     let mut net = Net::new(rt.alloc(), totals_across_groups(rt.alloc())?, 1)?;
     assert_eq!(rt; drain(&mut net, 1, 3)?, true);
     let report = net.report()?;
-    assert_eq!(rt; report.channels.len(), 1);
-    let channel = &report.channels.as_slice()[0];
+    let channel = only_channel(&rt, &report);
     assert_eq!(rt; channel.stands, Stands::Drained);
-    assert_eq!(rt;
-        channel.bytes.as_slice(),
-        b":7\r\n:1\r\n:12\r\n:12\r\n".as_slice()
-    );
-    assert_eq!(rt;
-        channel.writes.as_slice(),
-        [SUCCESS, SUCCESS, SUCCESS, SUCCESS].as_slice()
-    );
+    assert_eq!(rt; channel.bytes.as_slice(), TOTALS_SENT);
+    assert_eq!(rt; channel.writes.as_slice(), [SUCCESS; 4].as_slice());
     Ok(())
 }
 
@@ -237,7 +234,7 @@ fn two_groups(rt: HostRuntime) -> Result<(), Fail> {
 const THREE_INPUTS: &[&[&[&[u8]]]] = &[
     &[&[b"PING\n"]],
     &[&[b"PING\nQUIT\nPING\nPI"]],
-    &[&[b"ADD a 7\nADD b 1\nADD a 5\nGET a\n"]],
+    &[&[TOTALS]],
 ];
 
 /// Three channels, whose decoder and service share a group of two executors.
@@ -253,32 +250,15 @@ fn three_channels_share_a_group(rt: HostRuntime) -> Result<(), Fail> {
     let report = net.report()?;
     assert_eq!(rt; report.channels.len(), 3);
     let reports = report.channels.as_slice();
-    assert_channel(
-        &rt,
-        &reports[0],
-        Stands::Drained,
-        &ping_tail(),
-        b"+PONG\r\n",
-        &[SUCCESS],
-    );
+    assert_pong(&rt, &reports[0]);
     let quit_tail = [
         Event::Active,
         read_command(Command::Ping),
         read_command(Command::Quit),
     ];
     let quit_bytes = b"+PONG\r\n+BYE\r\n";
-    assert_channel(
-        &rt,
-        &reports[1],
-        Stands::Drained,
-        &quit_tail,
-        quit_bytes,
-        &[SUCCESS, SUCCESS],
-    );
-    assert_eq!(rt;
-        reports[2].bytes.as_slice(),
-        b":7\r\n:1\r\n:12\r\n:12\r\n".as_slice()
-    );
+    assert_drained(&rt, &reports[1], &quit_tail, quit_bytes, &[SUCCESS; 2]);
+    assert_eq!(rt; reports[2].bytes.as_slice(), TOTALS_SENT);
     Ok(())
 }
 
@@ -346,14 +326,8 @@ pub(crate) fn keeps_to_plain<T: Transport>(
     let report = net.report()?;
     assert_eq!(rt; report.channels.len(), whole.len());
     for (part, whole) in report.channels.as_slice().iter().zip(whole) {
-        assert_channel(
-            rt,
-            part,
-            Stands::Drained,
-            whole.tail.as_slice(),
-            whole.bytes.as_slice(),
-            whole.writes.as_slice(),
-        );
+        assert_eq!(rt; part.stands, Stands::Drained);
+        assert_same(rt, part, whole);
     }
     Ok(())
 }

@@ -39,6 +39,20 @@ pub(crate) const LINE_PROTOCOL: [Kind; 5] = [
     Kind::Service,
 ];
 
+/// The same, with the encoder behind the turn.
+const ENCODER_BEHIND: [Kind; 5] = [
+    Kind::Lines,
+    Kind::Decode,
+    Kind::LineEnd,
+    Kind::Service,
+    Kind::Encode,
+];
+
+/// The first channel's next read step, and a write to its transport.
+pub(crate) const READ: Move = Move::Read(0);
+
+pub(crate) const OUT: Move = Move::Out(0);
+
 pub(crate) fn handler(alloc: Global, kind: Kind) -> Result<Handler, Fail>
     ensures { IfOk result (λ handler. ⟦<Handler as Stage>⟧.stands_after handler []) }
 {
@@ -158,6 +172,29 @@ pub(crate) fn assert_channel(
     assert_eq!(rt; report.writes.as_slice(), writes);
 }
 
+/// Asserts that two reports of a channel are the same.
+pub(crate) fn assert_same(rt: &impl Abort, report: &ChannelReport, want: &ChannelReport) {
+    let tail = want.tail.as_slice();
+    let writes = want.writes.as_slice();
+    assert_channel(rt, report, want.stands, tail, want.bytes.as_slice(), writes);
+}
+
+/// Asserts that a channel is drained, with this tail, these bytes and these writes.
+pub(crate) fn assert_drained(
+    rt: &impl Abort,
+    report: &ChannelReport,
+    tail: &[Event],
+    bytes: &[u8],
+    writes: &[Option<Outcome>],
+) {
+    assert_channel(rt, report, Stands::Drained, tail, bytes, writes);
+}
+
+/// Asserts that `PING` was served by a channel, and its reply written.
+pub(crate) fn assert_pong(rt: &impl Abort, report: &ChannelReport) {
+    assert_drained(rt, report, &ping_tail(), b"+PONG\r\n", &[SUCCESS]);
+}
+
 pub(crate) fn assert_one(
     rt: &impl Abort,
     report: &Report,
@@ -166,15 +203,18 @@ pub(crate) fn assert_one(
     bytes: &[u8],
     writes: &[Option<Outcome>],
 ) {
-    assert_eq!(rt; report.channels.len(), 1);
-    let channel = &report.channels.as_slice()[0];
-    assert_channel(rt, channel, stands, tail, bytes, writes);
+    assert_channel(rt, only_channel(rt, report), stands, tail, bytes, writes);
 }
 
-/// Asserts that `PING` was served, and its reply written.
+/// The only channel of a report.
+pub(crate) fn only_channel<'a>(rt: &impl Abort, report: &'a Report) -> &'a ChannelReport {
+    assert_eq!(rt; report.channels.len(), 1);
+    &report.channels.as_slice()[0]
+}
+
+/// Asserts that `PING` was served by the only channel, and its reply written.
 pub(crate) fn assert_ping(rt: &impl Abort, report: &Report) {
-    let stands = Stands::Drained;
-    assert_one(rt, report, stands, &ping_tail(), b"+PONG\r\n", &[SUCCESS]);
+    assert_pong(rt, only_channel(rt, report));
 }
 
 pub(crate) fn read_command(command: Command) -> Event {
@@ -192,7 +232,7 @@ pub(crate) fn ping_tail() -> [Event; 3] {
 
 #[test]
 fn no_bursts(rt: HostRuntime) -> Result<(), Fail> {
-    let moves = [Move::Read(0), Move::Read(0)];
+    let moves = [READ, READ];
     let report = replay_one(rt.alloc(), &LINE_PROTOCOL, None, &moves)?;
     assert_one(&rt, &report, Stands::Drained, &[Event::Active], b"", &[]);
     Ok(())
@@ -200,7 +240,7 @@ fn no_bursts(rt: HostRuntime) -> Result<(), Fail> {
 
 #[test]
 fn ping(rt: HostRuntime) -> Result<(), Fail> {
-    let moves = [Move::Read(0), Move::Read(0), Move::Read(0), Move::Out(0)];
+    let moves = [READ, READ, READ, OUT];
     let report = replay_one(rt.alloc(), &LINE_PROTOCOL, Some(b"PING\r\n"), &moves)?;
     assert_ping(&rt, &report);
     Ok(())
@@ -208,7 +248,7 @@ fn ping(rt: HostRuntime) -> Result<(), Fail> {
 
 #[test]
 fn out_before_read(rt: HostRuntime) -> Result<(), Fail> {
-    let moves = [Move::Out(0), Move::Read(0), Move::Read(0)];
+    let moves = [OUT, READ, READ];
     let report = replay_one(rt.alloc(), &LINE_PROTOCOL, Some(b"PING\r\n"), &moves)?;
     assert_one(&rt, &report, Stands::Open, &ping_tail(), b"", &[None]);
     Ok(())
@@ -216,15 +256,8 @@ fn out_before_read(rt: HostRuntime) -> Result<(), Fail> {
 
 #[test]
 fn encoder_behind_turn(rt: HostRuntime) -> Result<(), Fail> {
-    let kinds = [
-        Kind::Lines,
-        Kind::Decode,
-        Kind::LineEnd,
-        Kind::Service,
-        Kind::Encode,
-    ];
-    let moves = [Move::Read(0), Move::Read(0), Move::Read(0), Move::Out(0)];
-    let report = replay_one(rt.alloc(), &kinds, Some(b"PING\n"), &moves)?;
+    let moves = [READ, READ, READ, OUT];
+    let report = replay_one(rt.alloc(), &ENCODER_BEHIND, Some(b"PING\n"), &moves)?;
     let writes = [Some(Outcome::Unsupported)];
     assert_one(&rt, &report, Stands::Drained, &ping_tail(), b"", &writes);
     Ok(())
@@ -234,7 +267,7 @@ fn encoder_behind_turn(rt: HostRuntime) -> Result<(), Fail> {
 #[test]
 fn framer_behind_turn(rt: HostRuntime) -> Result<(), Fail> {
     let kinds = [Kind::Decode, Kind::Service, Kind::Lines];
-    let moves = [Move::Read(0), Move::Read(0), Move::Read(0)];
+    let moves = [READ, READ, READ];
     let report = replay_one(rt.alloc(), &kinds, Some(b"PING\n"), &moves)?;
     let line = Event::Read(Message::Line(text(rt.alloc(), b"PING")?));
     let tail = [Event::Active, line, Event::ReadComplete];
@@ -248,17 +281,17 @@ fn two_channels(rt: HostRuntime) -> Result<(), Fail> {
     let kinds = [Kind::Lines, Kind::Decode, Kind::Encode, Kind::Service];
     let interleaved = [
         Move::Read(1),
-        Move::Read(0),
+        READ,
         Move::Read(1),
         Move::Out(1),
-        Move::Read(0),
+        READ,
         Move::Task(0),
-        Move::Out(0),
+        OUT,
         Move::Read(1),
-        Move::Read(0),
+        READ,
         Move::Out(1),
     ];
-    let first_alone = [Move::Read(0), Move::Read(0), Move::Read(0), Move::Out(0)];
+    let first_alone = [READ, READ, READ, OUT];
     let schedules = [interleaved.as_slice(), first_alone.as_slice()];
     for moves in schedules {
         let mut groups = Groups::new(rt.alloc(), 1, &[])?;
@@ -268,19 +301,11 @@ fn two_channels(rt: HostRuntime) -> Result<(), Fail> {
         let report = replay(rt.alloc(), session(rt.alloc(), &groups, channels)?, moves)?;
         assert_eq!(rt; report.channels.len(), 2);
         let reports = report.channels.as_slice();
-        let writes = [Some(Outcome::Success)];
-        assert_channel(
-            &rt,
-            &reports[0],
-            Stands::Drained,
-            &ping_tail(),
-            b"+PONG\r\n",
-            &writes,
-        );
+        assert_pong(&rt, &reports[0]);
         if moves.len() == interleaved.len() {
             let echo = Command::Echo(text(rt.alloc(), b"a")?);
             let tail = [Event::Active, read_command(echo), Event::ReadComplete];
-            assert_channel(&rt, &reports[1], Stands::Drained, &tail, b"+a", &writes);
+            assert_drained(&rt, &reports[1], &tail, b"+a", &[SUCCESS]);
         } else {
             assert_channel(&rt, &reports[1], Stands::Open, &[], b"", &[]);
         }
@@ -302,7 +327,7 @@ fn no_such(rt: HostRuntime) -> Result<(), Fail> {
         let mut groups = Groups::new(rt.alloc(), 1, &[("g", 2)])?;
         let recorded = channel(rt.alloc(), &mut groups, &LINE_PROTOCOL, None)?;
         let channels = vec![in rt.alloc(); recorded]?;
-        let moves = [Move::Read(0), step];
+        let moves = [READ, step];
         match replay(rt.alloc(), session(rt.alloc(), &groups, channels)?, &moves) {
             Ok(report) => {
                 assert_eq!(rt; want, None);
@@ -329,7 +354,7 @@ fn no_channels(rt: HostRuntime) -> Result<(), Fail> {
     let report = replay(rt.alloc(), none, &[])?;
     assert_eq!(rt; report.channels.len(), 0);
     let none = session(rt.alloc(), &groups, Vec::new(rt.alloc()))?;
-    match replay(rt.alloc(), none, &[Move::Read(0)]) {
+    match replay(rt.alloc(), none, &[READ]) {
         Ok(_) => panic!(rt; "it is replayed"),
         Err(fault) => assert_eq!(rt; fault, ReplayFault::NoSuch),
     }
@@ -355,8 +380,7 @@ fn plain_ping(rt: HostRuntime) -> Result<(), Fail> {
 fn plain_totals(rt: HostRuntime) -> Result<(), Fail> {
     let input = b"ADD a 7\nADD b 1\nADD a 5\nGET a\n";
     let report = plain_one(rt.alloc(), &LINE_PROTOCOL, Some(input))?;
-    assert_eq!(rt; report.channels.len(), 1);
-    let channel = &report.channels.as_slice()[0];
+    let channel = only_channel(&rt, &report);
     assert_eq!(rt; channel.stands, Stands::Drained);
     assert_eq!(rt; channel.tail.len(), 6);
     assert_eq!(rt;
@@ -375,27 +399,14 @@ fn plain_quit(rt: HostRuntime) -> Result<(), Fail> {
         read_command(Command::Ping),
         read_command(Command::Quit),
     ];
-    assert_one(
-        &rt,
-        &report,
-        Stands::Drained,
-        &tail,
-        b"+PONG\r\n+BYE\r\n",
-        &[SUCCESS, SUCCESS],
-    );
+    let channel = only_channel(&rt, &report);
+    assert_drained(&rt, channel, &tail, b"+PONG\r\n+BYE\r\n", &[SUCCESS; 2]);
     Ok(())
 }
 
 #[test]
 fn plain_encoder_behind_turn(rt: HostRuntime) -> Result<(), Fail> {
-    let kinds = [
-        Kind::Lines,
-        Kind::Decode,
-        Kind::LineEnd,
-        Kind::Service,
-        Kind::Encode,
-    ];
-    let report = plain_one(rt.alloc(), &kinds, Some(b"PING\n"))?;
+    let report = plain_one(rt.alloc(), &ENCODER_BEHIND, Some(b"PING\n"))?;
     let writes = [Some(Outcome::Unsupported)];
     assert_one(&rt, &report, Stands::Drained, &ping_tail(), b"", &writes);
     Ok(())
@@ -427,23 +438,8 @@ fn plain_two_channels(rt: HostRuntime) -> Result<(), Fail> {
     let report = plain(rt.alloc(), session(rt.alloc(), &groups, channels)?)?;
     assert_eq!(rt; report.channels.len(), 2);
     let reports = report.channels.as_slice();
-    let tail = ping_tail();
-    assert_channel(
-        &rt,
-        &reports[0],
-        Stands::Drained,
-        &[Event::Active],
-        b"",
-        &[],
-    );
-    assert_channel(
-        &rt,
-        &reports[1],
-        Stands::Drained,
-        &tail,
-        b"+PONG\r\n",
-        &[SUCCESS],
-    );
+    assert_drained(&rt, &reports[0], &[Event::Active], b"", &[]);
+    assert_pong(&rt, &reports[1]);
     Ok(())
 }
 

@@ -5,60 +5,24 @@ ghost use Rattle.pl_world.specs.Worlds.{IsUncalled};
 use crate::net_tests::{
     GROUPS, PLACINGS, drain, keeps_to_plain, line_protocol, pipeline, to_its_end, whole,
 };
-use crate::tests::{FAULT, SUCCESS, assert_one, assert_ping, ping_tail};
+use crate::tests::{FAULT, OUT, READ, assert_one, assert_ping, ping_tail};
 use crate::world_tests::{one_transport, world_over};
 use pl_build::Groups;
 use pl_event::{Cause, Sequence};
 use pl_head::{MemoryTransport, Transport, TransportFault};
+use pl_nodes_tests::Trickle;
 use pl_replay::{Net, replay, replay_world};
 use pl_stages::Handler;
-use pl_world::{Move, Session, Stands, World};
+use pl_world::{Session, Stands, World};
 use std::alloc::Global;
 use std::process::Abort;
 use std::test::Fail;
 
-/// A transport that accepts no byte at each odd call and one byte at each even call.
-#[derive(Debug, Drop)]
-pub(crate) struct Trickle {
-    bytes: Vec<u8>,
-    calls: u64,
-    failures: u64,
-}
-
-impl Trickle {
-    pub(crate) fn new(alloc: Global) -> Self
-        ensures { IsUncalled (⟦<Trickle as Transport>⟧.state result) }
-    {
-        Trickle {
-            bytes: Vec::new(alloc),
-            calls: 0,
-            failures: 0,
-        }
-    }
-}
-
-impl Transport for Trickle {
-    ghost state = { λ t. record { accepted = t.bytes.items; calls = t.calls; failures = t.failures; window = None; fail_at = None } };
-
-    ghost may_refuse = { λ t size. vec_capacity t.bytes - vec_len t.bytes < size };
-
-    fn write(&mut self, bytes: &[u8]) -> Result<usize, TransportFault> {
-        let count = if self.calls % 2 == 0 {
-            0
-        } else {
-            bytes.len().min(1)
-        };
-        self.calls = self.calls.saturating_add(1);
-        if self.bytes.extend_from_slice(&bytes[..count]).is_err() {
-            self.failures = self.failures.saturating_add(1);
-            return Err(TransportFault::Failed);
-        }
-        Ok(count)
-    }
-
-    fn bytes(&self) -> &[u8] {
-        self.bytes.as_slice()
-    }
+/// A transport of a user's own that was not called, and trickles.
+pub(crate) fn trickle(alloc: Global) -> Trickle
+    ensures { IsUncalled (⟦<Trickle as Transport>⟧.state result) }
+{
+    Trickle::new(alloc)
 }
 
 /// A transport with room for a number of bytes, which accepts one byte a call. With no room left each call fails.
@@ -134,10 +98,10 @@ fn ping_over<T: Transport>(alloc: Global, transport: T) -> Result<World<Handler,
 #[test]
 fn one_byte_transport(rt: HostRuntime) -> Result<(), Fail> {
     let alloc = rt.alloc();
-    let world = ping_over(alloc, Trickle::new(alloc))?;
-    let mut moves = vec![in alloc; Move::Read(0); 3]?;
+    let world = ping_over(alloc, trickle(alloc))?;
+    let mut moves = vec![in alloc; READ; 3]?;
     for _ in 0..14 {
-        moves.push(Move::Out(0))?;
+        moves.push(OUT)?;
     }
     let report = replay_world(alloc, world, 4, moves.as_slice())?;
     assert_ping(&rt, &report);
@@ -151,13 +115,13 @@ fn assert_leaves(rt: &impl Abort, alloc: Global, window: u32, calls: u16) -> Res
     let world = ping_over(alloc, MemoryTransport::new(alloc, window, None))?;
     let mut net = Net::new(alloc, world, 4)?;
     for _ in 0..3 {
-        assert_eq!(rt; net.apply(Move::Read(0))?, true);
+        assert_eq!(rt; net.apply(READ)?, true);
     }
     for _ in 0..calls {
         assert_eq!(rt; net.drained(), false);
-        assert_eq!(rt; net.apply(Move::Out(0))?, true);
+        assert_eq!(rt; net.apply(OUT)?, true);
     }
-    assert_eq!(rt; net.apply(Move::Out(0))?, false);
+    assert_eq!(rt; net.apply(OUT)?, false);
     let report = net.report()?;
     assert_ping(rt, &report);
     Ok(())
@@ -175,7 +139,7 @@ fn windows(rt: HostRuntime) -> Result<(), Fail> {
 fn failed_transport(rt: HostRuntime) -> Result<(), Fail> {
     let alloc = rt.alloc();
     let world = ping_over(alloc, MemoryTransport::new(alloc, 65_536, Some(1)))?;
-    let moves = [Move::Read(0), Move::Read(0), Move::Out(0), Move::Out(0)];
+    let moves = [READ, READ, OUT, OUT];
     let report = replay(alloc, Session { world, capacity: 1 }, &moves)?;
     let stands = Stands::Failed(Cause::Transport);
     assert_one(&rt, &report, stands, &ping_tail(), b"", &[FAULT]);
@@ -214,14 +178,7 @@ fn own_transport_fails(rt: HostRuntime) -> Result<(), Fail> {
                 let bytes = &pong[..room];
                 assert_one(&rt, &report, stands, &ping_tail(), bytes, &[FAULT]);
             } else {
-                assert_one(
-                    &rt,
-                    &report,
-                    Stands::Drained,
-                    &ping_tail(),
-                    pong,
-                    &[SUCCESS],
-                );
+                assert_ping(&rt, &report);
             }
         }
     }

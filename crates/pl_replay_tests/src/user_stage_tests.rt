@@ -3,7 +3,7 @@ ghost use Rattle.std.specs.Prelude.{◌≡◌, []};
 ghost use Rattle.pl_replay_tests.specs.CountingStage.{reads, counting, counting-lawful, counting-thrifty};
 
 use crate::net_tests::to_its_end;
-use crate::tests::assert_channel;
+use crate::tests::assert_one;
 use crate::world_tests::one_memory_transport;
 use pl_build::{Groups, PipelineBuilder, Placed};
 use pl_event::{BareStage, Direction, Event, Fused, Message, Reply, Sequence, Stage, Turned};
@@ -106,7 +106,6 @@ fn assert_tail(
     moves: &[Move],
 ) -> Result<(), Fail> {
     let report = replay_world(alloc, world(alloc, group)?, 2, moves)?;
-    assert_eq!(rt; report.channels.len(), 1);
     let tail = [
         Event::Active,
         number(1),
@@ -115,8 +114,7 @@ fn assert_tail(
         number(3),
         Event::ReadComplete,
     ];
-    let channel = &report.channels.as_slice()[0];
-    assert_channel(rt, channel, Stands::Drained, &tail, b"", &[]);
+    assert_one(rt, &report, Stands::Drained, &tail, b"", &[]);
     Ok(())
 }
 

@@ -3,7 +3,7 @@ ghost use Rattle.std.specs.Prelude.{◌≤◌, All, IfOk};
 ghost use Rattle.pl_world.specs.Worlds.{IsUncalled};
 
 use crate::net_tests::{line_protocol, pipeline, to_its_end};
-use crate::trickle_tests::Trickle;
+use crate::trickle_tests::trickle;
 use pl_build::{Groups, Placed};
 use pl_event::Sequence;
 use pl_head::{MemoryTransport, ReadPlan, Transport};
@@ -127,7 +127,7 @@ fn refusal_over_one(alloc: Global, channels: usize) -> Result<Option<WorldRefusa
         pipelines.push(pipeline(alloc, &mut groups, &kinds)?)?;
         inputs.push(to_its_end(alloc, &[&[b"PING\n"]])?)?;
     }
-    let transports = one_transport(alloc, Trickle::new(alloc))?;
+    let transports = one_transport(alloc, trickle(alloc))?;
     match world_over(alloc, pipelines, inputs, transports, groups.executors()) {
         Ok(_) => Ok(None),
         Err(refusal) => Ok(Some(refusal)),

@@ -4,14 +4,14 @@ ghost use Rattle.std.specs.Prelude.{◌≤◌, ◌<◌};
 use crate::net_tests::{
     drain, keeps_to_plain, line_protocol, marked_pipeline, move_by, next_number, to_its_end, whole,
 };
-use crate::tests::{Kind, SUCCESS, assert_one, ping_tail, read_command};
+use crate::tests::{Kind, OUT, READ, SUCCESS, assert_drained, only_channel, read_command};
 use crate::world_tests::windowed_world;
 use pl_build::Groups;
 use pl_event::{Command, Event, Sequence};
 use pl_head::MemoryTransport;
 use pl_replay::Net;
 use pl_stages::Handler;
-use pl_world::{Move, Stands, World};
+use pl_world::{Move, World};
 use std::alloc::Global;
 use std::process::Abort;
 use std::test::Fail;
@@ -84,29 +84,22 @@ fn watermarks(rt: HostRuntime) -> Result<(), Fail> {
     let mut net = Net::new(rt.alloc(), world, 4)?;
     assert_flags(&rt, &net, &[]);
     for _ in 0..3 {
-        assert_move(&rt, &mut net, Move::Read(0), true)?;
+        assert_move(&rt, &mut net, READ, true)?;
     }
-    assert_move(&rt, &mut net, Move::Read(0), false)?;
+    assert_move(&rt, &mut net, READ, false)?;
     for _ in 0..5 {
         assert_flags(&rt, &net, &[false]);
-        assert_move(&rt, &mut net, Move::Out(0), true)?;
+        assert_move(&rt, &mut net, OUT, true)?;
     }
     assert_flags(&rt, &net, &[false]);
     assert_eq!(rt; net.drained(), false);
-    assert_move(&rt, &mut net, Move::Out(0), true)?;
-    assert_move(&rt, &mut net, Move::Out(0), false)?;
+    assert_move(&rt, &mut net, OUT, true)?;
+    assert_move(&rt, &mut net, OUT, false)?;
     assert_flags(&rt, &net, &[false, true]);
     assert_eq!(rt; net.drained(), true);
     let report = net.report()?;
-    let writes = [SUCCESS, SUCCESS];
-    assert_one(
-        &rt,
-        &report,
-        Stands::Drained,
-        &two_pings_tail(),
-        TWO_PONGS,
-        &writes,
-    );
+    let channel = only_channel(&rt, &report);
+    assert_drained(&rt, channel, &two_pings_tail(), TWO_PONGS, &[SUCCESS; 2]);
     Ok(())
 }
 
@@ -122,15 +115,8 @@ fn two_bursts(
 
 fn assert_two_bursts(rt: &impl Abort, net: &Net<Handler, MemoryTransport>) -> Result<(), Fail> {
     let report = net.report()?;
-    let writes = [SUCCESS, SUCCESS];
-    assert_one(
-        rt,
-        &report,
-        Stands::Drained,
-        &two_bursts_tail(),
-        TWO_PONGS,
-        &writes,
-    );
+    let channel = only_channel(rt, &report);
+    assert_drained(rt, channel, &two_bursts_tail(), TWO_PONGS, &[SUCCESS; 2]);
     Ok(())
 }
 
@@ -138,17 +124,17 @@ fn assert_two_bursts(rt: &impl Abort, net: &Net<Handler, MemoryTransport>) -> Re
 fn assert_held(rt: &impl Abort, alloc: Global) -> Result<(), Fail> {
     let mut net = two_bursts(alloc, &line_protocol(None, None))?;
     for (step, is_enabled) in [
-        (Move::Read(0), true),
-        (Move::Read(0), true),
-        (Move::Read(0), false),
-        (Move::Out(0), true),
-        (Move::Read(0), true),
-        (Move::Read(0), true),
+        (READ, true),
+        (READ, true),
+        (READ, false),
+        (OUT, true),
+        (READ, true),
+        (READ, true),
     ] {
         assert_move(rt, &mut net, step, is_enabled)?;
     }
     assert_flags(rt, &net, &[false, true, false]);
-    assert_move(rt, &mut net, Move::Out(0), true)?;
+    assert_move(rt, &mut net, OUT, true)?;
     assert_flags(rt, &net, &[false, true, false, true]);
     assert_two_bursts(rt, &net)
 }
@@ -165,12 +151,12 @@ fn assert_not_held(rt: &impl Abort, alloc: Global) -> Result<(), Fail> {
     ];
     let mut net = two_bursts(alloc, &kinds)?;
     for _ in 0..4 {
-        assert_move(rt, &mut net, Move::Read(0), true)?;
+        assert_move(rt, &mut net, READ, true)?;
     }
     assert_flags(rt, &net, &[false]);
-    assert_move(rt, &mut net, Move::Out(0), true)?;
+    assert_move(rt, &mut net, OUT, true)?;
     assert_flags(rt, &net, &[false]);
-    assert_move(rt, &mut net, Move::Out(0), true)?;
+    assert_move(rt, &mut net, OUT, true)?;
     assert_flags(rt, &net, &[false, true]);
     assert_two_bursts(rt, &net)
 }
@@ -189,17 +175,17 @@ fn marks_are_strict(rt: HostRuntime) -> Result<(), Fail> {
     let world = marked_world(rt.alloc(), &kinds, 7, 14, 7, &[&[b"PING\nPING\n"]])?;
     let mut net = Net::new(rt.alloc(), world, 4)?;
     for _ in 0..3 {
-        assert_move(&rt, &mut net, Move::Read(0), true)?;
+        assert_move(&rt, &mut net, READ, true)?;
     }
     assert_flags(&rt, &net, &[]);
     let world = marked_world(rt.alloc(), &kinds, 7, 13, 7, &[&[b"PING\nPING\n"]])?;
     let mut net = Net::new(rt.alloc(), world, 4)?;
     for _ in 0..3 {
-        assert_move(&rt, &mut net, Move::Read(0), true)?;
+        assert_move(&rt, &mut net, READ, true)?;
     }
-    assert_move(&rt, &mut net, Move::Out(0), true)?;
+    assert_move(&rt, &mut net, OUT, true)?;
     assert_flags(&rt, &net, &[false]);
-    assert_move(&rt, &mut net, Move::Out(0), true)?;
+    assert_move(&rt, &mut net, OUT, true)?;
     assert_flags(&rt, &net, &[false, true]);
     Ok(())
 }
@@ -211,7 +197,7 @@ fn flags_are_handed_over(rt: HostRuntime) -> Result<(), Fail> {
     let world = marked_world(rt.alloc(), &kinds, 1, 2, 65_536, &[&[b"PING\n"]])?;
     let mut net = Net::new(rt.alloc(), world, 1)?;
     for _ in 0..3 {
-        assert_move(&rt, &mut net, Move::Read(0), true)?;
+        assert_move(&rt, &mut net, READ, true)?;
     }
     for _ in 0..3 {
         assert_move(&rt, &mut net, Move::Hand(0), true)?;
@@ -220,7 +206,7 @@ fn flags_are_handed_over(rt: HostRuntime) -> Result<(), Fail> {
         assert_move(&rt, &mut net, Move::Task(0), true)?;
     }
     assert_flags(&rt, &net, &[]);
-    assert_move(&rt, &mut net, Move::Out(0), true)?;
+    assert_move(&rt, &mut net, OUT, true)?;
     assert_flags(&rt, &net, &[]);
     assert_eq!(rt; drain(&mut net, 1, 3)?, true);
     assert_flags(&rt, &net, &[false, true]);
