@@ -16,7 +16,7 @@ use std::thread::Threads;
 const LOOKS: u32 = 10_000_000;
 
 /// The first turn of each of two executors waits until the other's has begun.
-#[derive(Drop)]
+#[derive(Default, Drop)]
 struct Meeting {
     first: AtomicU64,
     second: AtomicU64,
@@ -46,7 +46,7 @@ impl Gate for Meeting {
 }
 
 /// Counts the turns of each of two executors, while they come one after another from 0.
-#[derive(Drop)]
+#[derive(Default, Drop)]
 struct Counting {
     first: AtomicU64,
     second: AtomicU64,
@@ -93,49 +93,31 @@ fn is_drained(report: Option<Report>, channels: usize) -> bool {
     }
 }
 
-fn two_meet<R: Abort + Threads + Wait + Sync>(
-    rt: &R,
-    alloc: Global,
-    queue: QueueKind,
-) -> Result<(), Fail> {
-    let session = on_loops(alloc, &[PING, PING])?;
-    let meeting = Meeting {
-        first: AtomicU64::new(0),
-        second: AtomicU64::new(0),
-        met: AtomicU64::new(0),
-    };
-    assert!(rt; is_drained(ran(rt, alloc, session.as_str(), queue, &meeting), 2));
-    assert_eq!(rt; meeting.met.load(Ordering::SeqCst), 2);
-    Ok(())
-}
-
-fn turns_come_in_order<R: Abort + Threads + Wait + Sync>(
-    rt: &R,
-    alloc: Global,
-    queue: QueueKind,
-) -> Result<(), Fail> {
-    let session = decoded_apart(alloc, 1)?;
-    let counting = Counting {
-        first: AtomicU64::new(0),
-        second: AtomicU64::new(0),
-        wrong: AtomicU64::new(0),
-    };
-    assert!(rt; is_drained(ran(rt, alloc, session.as_str(), queue, &counting), 1));
-    assert_eq!(rt; counting.wrong.load(Ordering::SeqCst), 0);
-    // `Active`, the line, `ReadComplete` and the end go to each of the two, at most one in each turn.
-    assert!(rt; counting.first.load(Ordering::SeqCst) >= 4);
-    assert!(rt; counting.second.load(Ordering::SeqCst) >= 4);
-    Ok(())
-}
+const QUEUES: [QueueKind; 2] = [QueueKind::Ring, QueueKind::Waiting];
 
 #[test]
 fn gate_needs_two_threads(rt: HostRuntime) -> Result<(), Fail> {
-    two_meet(&rt, rt.alloc(), QueueKind::Ring)?;
-    two_meet(&rt, rt.alloc(), QueueKind::Waiting)
+    let session = on_loops(rt.alloc(), &[PING, PING])?;
+    for queue in QUEUES {
+        let meeting = Meeting::default();
+        let report = ran(&rt, rt.alloc(), session.as_str(), queue, &meeting);
+        assert!(rt; is_drained(report, 2));
+        assert_eq!(rt; meeting.met.load(Ordering::SeqCst), 2);
+    }
+    Ok(())
 }
 
 #[test]
 fn turns_are_told_in_order(rt: HostRuntime) -> Result<(), Fail> {
-    turns_come_in_order(&rt, rt.alloc(), QueueKind::Ring)?;
-    turns_come_in_order(&rt, rt.alloc(), QueueKind::Waiting)
+    let session = decoded_apart(rt.alloc(), 1)?;
+    for queue in QUEUES {
+        let counting = Counting::default();
+        let report = ran(&rt, rt.alloc(), session.as_str(), queue, &counting);
+        assert!(rt; is_drained(report, 1));
+        assert_eq!(rt; counting.wrong.load(Ordering::SeqCst), 0);
+        // `Active`, the line, `ReadComplete` and the end go to each of the two, at most one in each turn.
+        assert!(rt; counting.first.load(Ordering::SeqCst) >= 4);
+        assert!(rt; counting.second.load(Ordering::SeqCst) >= 4);
+    }
+    Ok(())
 }
