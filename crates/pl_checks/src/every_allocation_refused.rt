@@ -1,15 +1,14 @@
 //! Replays of which `checks/refused_replay.sh` refuses each allocation in turn. Whichever it is, the test passes: a call
 //! answers it, or the report begins that of `plain`.
 
-use crate::fair::is_prefix;
+use crate::fair::begins;
 use crate::sessions;
 use crate::sessions::line_session;
 use pl_replay::replay;
 use pl_text::{MovesFault, SessionFault, print_report, read_moves, read_session};
-use pl_world::{ChannelReport, ReplayFault, Report, Stands, plain};
+use pl_world::{ReplayFault, Report, plain};
 use std::alloc::{AllocError, Global};
 use std::process::Abort;
-use std::test::Fail;
 
 /// The report of these moves of the session of a text, where no call that leads to it answers that it has no memory.
 fn reported(rt: &impl Abort, alloc: Global, text: &str, moves: &str) -> Option<Report> {
@@ -42,18 +41,9 @@ fn whole(alloc: Global, text: &str) -> Option<Report> {
     plain(alloc, session).ok()
 }
 
-/// Whether the tail and the bytes of a channel begin these, and are all of it where the channel is drained.
-fn begins(part: &ChannelReport, whole: &ChannelReport) -> bool {
-    let is_whole = part.tail.as_slice() == whole.tail.as_slice()
-        && part.bytes.as_slice() == whole.bytes.as_slice()
-        && part.writes.as_slice() == whole.writes.as_slice();
-    is_prefix(part.tail.as_slice(), whole.tail.as_slice())
-        && is_prefix(part.bytes.as_slice(), whole.bytes.as_slice())
-        && (part.stands != Stands::Drained || is_whole)
-}
-
 /// Replays a session, if there is memory for its text, and prints the report, if there is one.
-fn goes_on(rt: &impl Abort, alloc: Global, text: Result<String, AllocError>, moves: &str) {
+fn goes_on(rt: &(impl Abort + AllocGlobal), text: Result<String, AllocError>, moves: &str) {
+    let alloc = rt.alloc();
     let Ok(text) = text else {
         return;
     };
@@ -74,36 +64,29 @@ fn goes_on(rt: &impl Abort, alloc: Global, text: Result<String, AllocError>, mov
 }
 
 #[test]
-fn ping(rt: HostRuntime) -> Result<(), Fail> {
-    let text = line_session(&rt, sessions::PING);
-    goes_on(&rt, rt.alloc(), text, "R0x3 O0");
-    Ok(())
+fn ping(rt: HostRuntime) {
+    goes_on(&rt, line_session(&rt, sessions::PING), "R0x3 O0");
 }
 
 #[test]
-fn echo_and_faults(rt: HostRuntime) -> Result<(), Fail> {
+fn echo_and_faults(rt: HostRuntime) {
     let text = line_session(&rt, sessions::ECHO_AND_FAULTS);
-    goes_on(&rt, rt.alloc(), text, "R0x4 O0x4");
-    Ok(())
+    goes_on(&rt, text, "R0x4 O0x4");
 }
 
 #[test]
-fn quit(rt: HostRuntime) -> Result<(), Fail> {
-    let text = line_session(&rt, sessions::QUIT);
-    goes_on(&rt, rt.alloc(), text, "R0x4 O0x4");
-    Ok(())
+fn quit(rt: HostRuntime) {
+    goes_on(&rt, line_session(&rt, sessions::QUIT), "R0x4 O0x4");
 }
 
 #[test]
-fn watermarks(rt: HostRuntime) -> Result<(), Fail> {
-    goes_on(&rt, rt.alloc(), sessions::watermarks(&rt), "R0x3 O0x6");
-    Ok(())
+fn watermarks(rt: HostRuntime) {
+    goes_on(&rt, sessions::watermarks(&rt), "R0x3 O0x6");
 }
 
 #[test]
-fn handover_drained(rt: HostRuntime) -> Result<(), Fail> {
+fn handover_drained(rt: HostRuntime) {
     let text = String::from_str(rt.alloc(), sessions::DECODER_APART);
     let moves = "R0x3 H0 T1 H1 T0 H0 T1 H1 T0 H0 T1 H1 T0 H0 T1 H1 T0 O0";
-    goes_on(&rt, rt.alloc(), text, moves);
-    Ok(())
+    goes_on(&rt, text, moves);
 }

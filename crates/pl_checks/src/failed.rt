@@ -33,6 +33,10 @@ fn composes(
 const DRAINED_PING: &str =
     "channel 0 drained\ntail 3\nActive\nRead Ping\nReadComplete\nbytes 7 2b504f4e470d0a\nwrites 1\n0 Success\n";
 
+/// The abort came before the reply had left.
+const ABORTED_PING: &str =
+    "channel 0 failed Aborted\ntail 3\nActive\nRead Ping\nReadComplete\nbytes 0 -\nwrites 1\n0 Closed\n";
+
 #[test]
 fn transport_fault(rt: HostRuntime) -> Result<(), Fail> {
     let session = (64, r#"[["PING\n"]]"#);
@@ -48,34 +52,18 @@ const QUIT_TAIL: &str = "tail 3\nActive\nRead Ping\nRead Quit\n";
 
 #[test]
 fn fault_at_each_call(rt: HostRuntime) -> Result<(), Fail> {
-    for (call, status, stands, bytes, first, second) in [
-        (1, 1, "failed Transport", "0 -", "Fault", "Fault"),
-        (2, 1, "failed Transport", "4 2b504f4e", "Fault", "Fault"),
-        (
-            3,
-            1,
-            "failed Transport",
-            "7 2b504f4e470d0a",
-            "Success",
-            "Fault",
-        ),
-        (
-            4,
-            1,
-            "failed Transport",
-            "11 2b504f4e470d0a2b425945",
-            "Success",
-            "Fault",
-        ),
-        (
-            5,
-            0,
-            "drained",
-            "13 2b504f4e470d0a2b4259450d0a",
-            "Success",
-            "Success",
-        ),
+    for (call, bytes, first, second) in [
+        (1, "0 -", "Fault", "Fault"),
+        (2, "4 2b504f4e", "Fault", "Fault"),
+        (3, "7 2b504f4e470d0a", "Success", "Fault"),
+        (4, "11 2b504f4e470d0a2b425945", "Success", "Fault"),
+        (5, "13 2b504f4e470d0a2b4259450d0a", "Success", "Success"),
     ] {
+        let (status, stands) = if call < 5 {
+            (1, "failed Transport")
+        } else {
+            (0, "drained")
+        };
         let members = format!(in rt.alloc(); ",\"window\":4,\"fail_at\":{call}")?;
         let report = format!(in rt.alloc();
             "channel 0 {stands}\n{QUIT_TAIL}bytes {bytes}\nwrites 2\n0 {first}\n1 {second}\n"
@@ -90,9 +78,7 @@ fn fault_at_each_call(rt: HostRuntime) -> Result<(), Fail> {
 #[test]
 fn abort(rt: HostRuntime) -> Result<(), Fail> {
     let members = r#","abort_after":1"#;
-    let before =
-        "channel 0 failed Aborted\ntail 3\nActive\nRead Ping\nReadComplete\nbytes 0 -\nwrites 1\n0 Closed\n";
-    reports(&rt, PING, members, "R0x3", 1, before)?;
+    reports(&rt, PING, members, "R0x3", 1, ABORTED_PING)?;
     let after =
         "channel 0 failed Aborted\ntail 3\nActive\nRead Ping\nReadComplete\nbytes 7 2b504f4e470d0a\nwrites 1\n0 Success\n";
     reports(&rt, PING, members, "R0x2 O0 R0", 1, after)?;
@@ -111,18 +97,12 @@ fn abort_at_each_burst(rt: HostRuntime) -> Result<(), Fail> {
         ),
     ] {
         let members = format!(in rt.alloc(); ",\"abort_after\":{count}")?;
+        let text = failing_session(&rt, LINE_ACROSS_BURSTS, members.as_str())?;
         let report = format!(in rt.alloc();
             "channel 0 failed Aborted\n{tail}\nbytes 0 -\n{writes}\n"
         )?;
-        let members = members.as_str();
-        reports(
-            &rt,
-            LINE_ACROSS_BURSTS,
-            members,
-            "R0x4 O0",
-            1,
-            report.as_str(),
-        )?;
+        let ran = replayed(&rt, text.as_str(), "R0x4 O0")?;
+        answers(ran, 1, report.as_str(), "")?;
     }
     Ok(())
 }
@@ -134,8 +114,6 @@ fn first_failure_stays(rt: HostRuntime) -> Result<(), Fail> {
     let transport =
         "channel 0 failed Transport\ntail 3\nActive\nRead Ping\nReadComplete\nbytes 0 -\nwrites 1\n0 Fault\n";
     reports(&rt, PING, members, "R0x2 O0 R0x2", 1, transport)?;
-    let aborted =
-        "channel 0 failed Aborted\ntail 3\nActive\nRead Ping\nReadComplete\nbytes 0 -\nwrites 1\n0 Closed\n";
-    reports(&rt, PING, members, "R0x3 O0", 1, aborted)?;
+    reports(&rt, PING, members, "R0x3 O0", 1, ABORTED_PING)?;
     composes(&rt, PING, members, DRAINED_PING)
 }

@@ -51,7 +51,7 @@ fn go_round(net: &mut Net<Handler, MemoryTransport>, moves: &[Move]) -> Result<(
     Ok(())
 }
 
-pub(crate) fn is_prefix<T: PartialEq>(part: &[T], whole: &[T]) -> bool {
+fn is_prefix<T: PartialEq>(part: &[T], whole: &[T]) -> bool {
     if part.len() > whole.len() {
         return false;
     }
@@ -59,20 +59,25 @@ pub(crate) fn is_prefix<T: PartialEq>(part: &[T], whole: &[T]) -> bool {
 }
 
 /// Whether what a channel's tail and transport got begins this report, and is all of it where the channel is drained.
-fn begins(part: &ChannelReport, whole: &ChannelReport) -> bool {
+pub(crate) fn begins(part: &ChannelReport, whole: &ChannelReport) -> bool {
     let is_whole = part.tail.as_slice() == whole.tail.as_slice()
         && part.bytes.as_slice() == whole.bytes.as_slice()
         && part.writes.as_slice() == whole.writes.as_slice();
     is_prefix(part.tail.as_slice(), whole.tail.as_slice())
         && is_prefix(part.bytes.as_slice(), whole.bytes.as_slice())
-        && (part.stands == Stands::Open || part.stands == whole.stands && is_whole)
+        && (part.stands != Stands::Drained || is_whole)
 }
 
+/// Each channel is open or drained, and begins its whole report.
 fn assert_begins(rt: &impl Abort, part: &Report, whole: &Report, text: &str) {
     let (parts, wholes) = (part.channels.as_slice(), whole.channels.as_slice());
     assert_eq!(rt; parts.len(), wholes.len());
     for (part, whole) in parts.iter().zip(wholes) {
         assert!(rt; begins(part, whole), "{text}");
+        assert!(rt;
+            part.stands == Stands::Open || part.stands == whole.stands,
+            "{text}"
+        );
     }
 }
 

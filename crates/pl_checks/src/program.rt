@@ -5,33 +5,15 @@ use crate::streams::{Failing, Interrupted, Repeated, Slow};
 use pl_build::BuildFault;
 use pl_replay::replay;
 use pl_text::{MovesFault, SessionFault, read_moves, read_session};
+use pl_text_tests::{PING_REPORT, PING_SESSION};
 use pl_tool::{refuse_words, run_tool};
 use pl_world::ReplayFault;
 use std::io;
-use std::io::ErrorKind;
+use std::io::{ErrorKind, Read, Write};
+use std::process::Abort;
 use std::test::Fail;
 
-const SESSION: &str = r#"{"version":1,"capacity":4,"loops":1,"channels":[{"handlers":[
-{"op":"last","name":"lines","kind":"lines","max":64},
-{"op":"last","name":"decode","kind":"decode"},
-{"op":"last","name":"lineend","kind":"lineend"},
-{"op":"last","name":"encode","kind":"encode"},
-{"op":"last","name":"service","kind":"service"}],
-"bursts":[["PING\r\n"]]}]}
-"#;
-
 const USAGE: &str = "usage: pl_tool replay [--moves MOVES] | run --queue waiting|ring | plain\n";
-
-/// The whole report of the session.
-const REPORT: &str = "channel 0 drained
-tail 3
-Active
-Read Ping
-ReadComplete
-bytes 7 2b504f4e470d0a
-writes 1
-0 Success
-";
 
 /// What in the session's text is put in another's place so that its pipelines are not built, and the line's reason.
 const UNBUILT: [(&str, &str, &str); 7] = [
@@ -97,27 +79,40 @@ fn words(rt: &impl AllocGlobal, line: &[&str]) -> Result<Vec<String>, Fail> {
     Ok(words)
 }
 
-/// Runs the program on a text, and gives the status and what it wrote to each writer.
-fn ran(rt: &impl Runtime, line: &[&str], input: &[u8]) -> Result<(u8, Vec<u8>, Vec<u8>), Fail> {
+/// Runs the program on a reader and two writers, and gives the status.
+fn status_of<R: Read, W: Write, E: Write>(
+    rt: &impl Runtime,
+    line: &[&str],
+    reader: &mut R,
+    out: &mut W,
+    err: &mut E,
+) -> Result<u8, Fail> {
     let words = words(rt, line)?;
-    let mut reader = input;
+    Ok(run_tool(rt, rt.alloc(), words.as_slice(), reader, out, err))
+}
+
+/// The same, and what it wrote to each writer.
+fn ran_on<R: Read>(
+    rt: &impl Runtime,
+    line: &[&str],
+    reader: &mut R,
+) -> Result<(u8, Vec<u8>, Vec<u8>), Fail> {
     let mut out = Vec::new(rt.alloc());
     let mut err = Vec::new(rt.alloc());
-    let status = run_tool(
-        rt,
-        rt.alloc(),
-        words.as_slice(),
-        &mut reader,
-        &mut out,
-        &mut err,
-    );
+    let status = status_of(rt, line, reader, &mut out, &mut err)?;
     Ok((status, out, err))
+}
+
+/// The same of a text.
+fn ran(rt: &impl Runtime, line: &[&str], input: &[u8]) -> Result<(u8, Vec<u8>, Vec<u8>), Fail> {
+    let mut reader = input;
+    ran_on(rt, line, &mut reader)
 }
 
 #[test]
 fn wrong_command_lines(rt: HostRuntime) -> Result<(), Fail> {
     for line in WRONG_LINES {
-        let (status, out, err) = ran(&rt, line, SESSION.as_bytes())?;
+        let (status, out, err) = ran(&rt, line, PING_SESSION.as_bytes())?;
         assert_eq!(rt; status, 2, "of {line:?}");
         assert_eq!(rt; out.len(), 0, "of {line:?}");
         assert_eq!(rt; err.as_slice(), USAGE.as_bytes(), "of {line:?}");
@@ -127,21 +122,11 @@ fn wrong_command_lines(rt: HostRuntime) -> Result<(), Fail> {
 
 /// Says that a line is not read, and that the session is left where it is.
 fn is_not_read(rt: &impl Runtime, line: &[&str]) -> Result<bool, Fail> {
-    let words = words(rt, line)?;
-    let mut reader = SESSION.as_bytes();
-    let mut out = Vec::new(rt.alloc());
-    let mut err = Vec::new(rt.alloc());
-    let status = run_tool(
-        rt,
-        rt.alloc(),
-        words.as_slice(),
-        &mut reader,
-        &mut out,
-        &mut err,
-    );
+    let mut reader = PING_SESSION.as_bytes();
+    let (status, out, err) = ran_on(rt, line, &mut reader)?;
     Ok(
         status == 2
-            && reader.len() == SESSION.len()
+            && reader.len() == PING_SESSION.len()
             && out.is_empty()
             && err.as_slice() == USAGE.as_bytes(),
     )
@@ -163,6 +148,28 @@ fn no_such_queue(rt: HostRuntime) -> Result<(), Fail> {
     Ok(())
 }
 
+/// An input is refused by this line on standard error, and nothing is printed.
+fn assert_refused<R: Abort + Runtime>(
+    rt: &R,
+    line: &[&str],
+    input: &[u8],
+    told: &str,
+) -> Result<(), Fail> {
+    let (status, out, err) = ran(rt, line, input)?;
+    assert_eq!(rt; (status, out.len()), (3, 0), "of {line:?}: {told}");
+    assert_eq!(rt; err.as_slice(), told.as_bytes(), "of {line:?}");
+    Ok(())
+}
+
+/// The program prints the whole report of the session, and nothing on standard error.
+fn assert_reports<R: Abort + Runtime>(rt: &R, line: &[&str]) -> Result<(), Fail> {
+    let (status, out, err) = ran(rt, line, PING_SESSION.as_bytes())?;
+    assert_eq!(rt; status, 0, "of {line:?}");
+    assert_eq!(rt; out.as_slice(), PING_REPORT.as_bytes(), "of {line:?}");
+    assert_eq!(rt; err.len(), 0, "of {line:?}");
+    Ok(())
+}
+
 /// `run` prints what `plain` prints of a session that drains, whichever the queue, and as `--queue=`.
 #[test]
 fn run_of_a_session(rt: HostRuntime) -> Result<(), Fail> {
@@ -172,13 +179,8 @@ fn run_of_a_session(rt: HostRuntime) -> Result<(), Fail> {
         ["run", "--queue=waiting"].as_slice(),
         ["run", "--queue=ring", "--"].as_slice(),
     ] {
-        let (status, out, err) = ran(&rt, line, SESSION.as_bytes())?;
-        assert_eq!(rt; status, 0, "of {line:?}");
-        assert_eq!(rt; out.as_slice(), REPORT.as_bytes(), "of {line:?}");
-        assert_eq!(rt; err.len(), 0, "of {line:?}");
-        let (status, out, err) = ran(&rt, line, b"{}")?;
-        assert_eq!(rt; (status, out.len()), (3, 0));
-        assert_eq!(rt; err.as_slice(), b"session refused: 3 Missing\n".as_slice());
+        assert_reports(&rt, line)?;
+        assert_refused(&rt, line, b"{}", "session refused: 3 Missing\n")?;
     }
     Ok(())
 }
@@ -186,11 +188,21 @@ fn run_of_a_session(rt: HostRuntime) -> Result<(), Fail> {
 #[test]
 fn statuses(rt: HostRuntime) -> Result<(), Fail> {
     for (line, input, want, told) in [
-        (["replay"].as_slice(), SESSION, 1, ""),
-        (["replay", "--moves="].as_slice(), SESSION, 1, ""),
-        (["replay", "--moves", ""].as_slice(), SESSION, 1, ""),
-        (["replay", "--moves=R0x3 O0"].as_slice(), SESSION, 0, ""),
-        (["replay", "--moves", "R0x3 O0"].as_slice(), SESSION, 0, ""),
+        (["replay"].as_slice(), PING_SESSION, 1, ""),
+        (["replay", "--moves="].as_slice(), PING_SESSION, 1, ""),
+        (["replay", "--moves", ""].as_slice(), PING_SESSION, 1, ""),
+        (
+            ["replay", "--moves=R0x3 O0"].as_slice(),
+            PING_SESSION,
+            0,
+            "",
+        ),
+        (
+            ["replay", "--moves", "R0x3 O0"].as_slice(),
+            PING_SESSION,
+            0,
+            "",
+        ),
         (
             ["replay", "--moves=-"].as_slice(),
             "",
@@ -211,7 +223,7 @@ fn statuses(rt: HostRuntime) -> Result<(), Fail> {
         ),
         (
             ["replay", "--moves", "R5"].as_slice(),
-            SESSION,
+            PING_SESSION,
             2,
             "replay refused: 1 NoSuch\n",
         ),
@@ -233,14 +245,23 @@ fn plain_of_a_session(rt: HostRuntime) -> Result<(), Fail> {
         ["plain", "--"].as_slice(),
         ["replay", "--moves=R0x3 O0"].as_slice(),
     ] {
-        let (status, out, err) = ran(&rt, line, SESSION.as_bytes())?;
-        assert_eq!(rt; status, 0, "of {line:?}");
-        assert_eq!(rt; out.as_slice(), REPORT.as_bytes(), "of {line:?}");
-        assert_eq!(rt; err.len(), 0, "of {line:?}");
+        assert_reports(&rt, line)?;
     }
     let none = r#"{"version":1,"capacity":4,"loops":1,"channels":[]}"#;
     let (status, out, err) = ran(&rt, &["plain"], none.as_bytes())?;
     assert_eq!(rt; (status, out.len(), err.len()), (0, 0, 0));
+    Ok(())
+}
+
+/// A writer that fails after so many bytes of the session's report ends the program with status 4.
+fn assert_output_refused<R: Abort + Runtime>(rt: &R, word: &str, room: usize) -> Result<(), Fail> {
+    let mut reader = PING_SESSION.as_bytes();
+    let mut out = Failing { room };
+    let mut err = Vec::new(rt.alloc());
+    let status = status_of(rt, &[word], &mut reader, &mut out, &mut err)?;
+    assert_eq!(rt; status, 4);
+    assert_eq!(rt; out.room, 0);
+    assert_eq!(rt; err.as_slice(), b"output refused\n".as_slice());
     Ok(())
 }
 
@@ -252,44 +273,19 @@ fn plain_of_no_session(rt: HostRuntime) -> Result<(), Fail> {
         (b"{}".as_slice(), "session refused: 3 Missing\n"),
         (b"\xff".as_slice(), "session refused: 1 NotJson\n"),
     ] {
-        let (status, out, err) = ran(&rt, &["plain"], input)?;
-        assert_eq!(rt; (status, out.len()), (3, 0));
-        assert_eq!(rt; err.as_slice(), told.as_bytes());
+        assert_refused(&rt, &["plain"], input, told)?;
     }
-    let words = words(&rt, &["plain"])?;
-    let mut reader = SESSION.as_bytes();
-    let mut err = Vec::new(rt.alloc());
-    let status = run_tool(
-        &rt,
-        rt.alloc(),
-        words.as_slice(),
-        &mut reader,
-        &mut Failing { room: 20 },
-        &mut err,
-    );
-    assert_eq!(rt; status, 4);
-    assert_eq!(rt; err.as_slice(), b"output refused\n".as_slice());
-    Ok(())
+    assert_output_refused(&rt, "plain", 20)
 }
 
 /// A line that is not read leaves the session where it is.
 #[test]
 fn line_before_session(rt: HostRuntime) -> Result<(), Fail> {
     for line in [["plain", "ping"], ["replay", "--moves=R00"]] {
-        let words = words(&rt, &line)?;
-        let mut reader = SESSION.as_bytes();
-        let mut out = Vec::new(rt.alloc());
-        let mut err = Vec::new(rt.alloc());
-        let status = run_tool(
-            &rt,
-            rt.alloc(),
-            words.as_slice(),
-            &mut reader,
-            &mut out,
-            &mut err,
-        );
+        let mut reader = PING_SESSION.as_bytes();
+        let (status, _, _) = ran_on(&rt, &line, &mut reader)?;
         assert_eq!(rt; status, 2);
-        assert_eq!(rt; reader.len(), SESSION.len());
+        assert_eq!(rt; reader.len(), PING_SESSION.len());
     }
     Ok(())
 }
@@ -298,28 +294,20 @@ fn line_before_session(rt: HostRuntime) -> Result<(), Fail> {
 #[test]
 fn refused_builds(rt: HostRuntime) -> Result<(), Fail> {
     for (part, other, told) in UNBUILT {
-        let text = SESSION.replace(rt.alloc(), part, other)?;
-        let (status, out, err) = ran(&rt, &["replay"], text.as_bytes())?;
+        let text = PING_SESSION.replace(rt.alloc(), part, other)?;
         let line = format!(in rt.alloc(); "session refused: 6 Build {told}\n")?;
-        assert_eq!(rt; status, 3, "at {other}");
-        assert_eq!(rt; out.len(), 0, "at {other}");
-        assert_eq!(rt; err.as_slice(), line.as_bytes(), "at {other}");
+        assert_refused(&rt, &["replay"], text.as_bytes(), line.as_str())?;
     }
     Ok(())
 }
 
 #[test]
 fn input_that_is_no_text(rt: HostRuntime) -> Result<(), Fail> {
-    let (status, out, err) = ran(&rt, &["replay"], b"\xff")?;
-    assert_eq!(rt; status, 3);
-    assert_eq!(rt; out.len(), 0);
-    assert_eq!(rt; err.as_slice(), b"session refused: 1 NotJson\n".as_slice());
-    Ok(())
+    assert_refused(&rt, &["replay"], b"\xff", "session refused: 1 NotJson\n")
 }
 
 #[test]
 fn failing_reads(rt: HostRuntime) -> Result<(), Fail> {
-    let words = words(&rt, &["replay"])?;
     for (byte, at_once, fails_after, reads, want) in [
         (b'{', 1, 0, 0, "input refused\n"),
         (b'{', 1, 1, 1, "input refused\n"),
@@ -333,16 +321,7 @@ fn failing_reads(rt: HostRuntime) -> Result<(), Fail> {
             reads: 0,
             fails_after,
         };
-        let mut out = Vec::new(rt.alloc());
-        let mut err = Vec::new(rt.alloc());
-        let status = run_tool(
-            &rt,
-            rt.alloc(),
-            words.as_slice(),
-            &mut reader,
-            &mut out,
-            &mut err,
-        );
+        let (status, out, err) = ran_on(&rt, &["replay"], &mut reader)?;
         assert_eq!(rt; status, 3);
         assert_eq!(rt; reader.reads, reads);
         assert_eq!(rt; out.len(), 0);
@@ -354,8 +333,9 @@ fn failing_reads(rt: HostRuntime) -> Result<(), Fail> {
 /// An interrupted read is one of the reads that may be made.
 #[test]
 fn interrupted_reads(rt: HostRuntime) -> Result<(), Fail> {
-    let words = words(&rt, &["replay", "--moves=R0x3 O0"])?;
-    let of_each_byte = (SESSION.len() as u64).saturating_mul(2).saturating_add(2);
+    let of_each_byte = (PING_SESSION.len() as u64)
+        .saturating_mul(2)
+        .saturating_add(2);
     for (at_once, times, tries, want, told) in [
         (8_192, 1, 4, 0, ""),
         (1, 1, of_each_byte, 0, ""),
@@ -363,22 +343,14 @@ fn interrupted_reads(rt: HostRuntime) -> Result<(), Fail> {
         (8_192, 16_777_216, 33_554_433, 3, "input refused\n"),
     ] {
         let mut reader = Interrupted {
-            text: SESSION.as_bytes(),
+            text: PING_SESSION.as_bytes(),
             at_once,
             times,
             left: times,
             tries: 0,
         };
-        let mut out = Vec::new(rt.alloc());
-        let mut err = Vec::new(rt.alloc());
-        let status = run_tool(
-            &rt,
-            rt.alloc(),
-            words.as_slice(),
-            &mut reader,
-            &mut out,
-            &mut err,
-        );
+        let line = ["replay", "--moves=R0x3 O0"];
+        let (status, out, err) = ran_on(&rt, &line, &mut reader)?;
         assert_eq!(rt; status, want);
         assert_eq!(rt; reader.tries, tries);
         assert_eq!(rt; out.is_empty(), want == 3);
@@ -390,7 +362,6 @@ fn interrupted_reads(rt: HostRuntime) -> Result<(), Fail> {
 /// A line is cut where its writer takes no more.
 #[test]
 fn slow_second_writer(rt: HostRuntime) -> Result<(), Fail> {
-    let words = words(&rt, &["fly"])?;
     for (at_once, room, times, tries, told) in [
         (1_000, 1_000, 0, 1, USAGE.len()),
         (1_000, 1_000, 1, 2, USAGE.len()),
@@ -416,14 +387,7 @@ fn slow_second_writer(rt: HostRuntime) -> Result<(), Fail> {
             left: times,
             tries: 0,
         };
-        let status = run_tool(
-            &rt,
-            rt.alloc(),
-            words.as_slice(),
-            &mut reader,
-            &mut out,
-            &mut err,
-        );
+        let status = status_of(&rt, &["fly"], &mut reader, &mut out, &mut err)?;
         assert_eq!(rt; status, 2);
         assert_eq!(rt; err.tries, tries);
         assert_eq!(rt;
@@ -472,7 +436,7 @@ fn refused_texts(rt: &impl AllocGlobal) -> Result<Vec<(SessionFault, String)>, F
         BuildFault::Marks,
     ];
     for ((part, other, _), fault) in UNBUILT.iter().zip(&faults) {
-        let text = SESSION.replace(alloc, part, other)?;
+        let text = PING_SESSION.replace(alloc, part, other)?;
         texts.push((SessionFault::Build(*fault), text))?;
     }
     Ok(texts)
@@ -493,10 +457,10 @@ fn lines_of_faults(rt: HostRuntime) -> Result<(), Fail> {
     ] {
         assert_eq!(rt; read_moves(rt.alloc(), moves).err(), Some(fault));
         let want = format!(in rt.alloc(); "moves refused: {fault}\n")?;
-        let (_, _, err) = ran(&rt, &["replay", "--moves", moves], SESSION.as_bytes())?;
+        let (_, _, err) = ran(&rt, &["replay", "--moves", moves], PING_SESSION.as_bytes())?;
         assert_eq!(rt; err.as_slice(), want.as_bytes());
     }
-    let session = read_session(rt.alloc(), SESSION)?;
+    let session = read_session(rt.alloc(), PING_SESSION)?;
     let moves = read_moves(rt.alloc(), "R5")?;
     let fault = ReplayFault::NoSuch;
     assert_eq!(rt;
@@ -504,29 +468,15 @@ fn lines_of_faults(rt: HostRuntime) -> Result<(), Fail> {
         Some(fault)
     );
     let want = format!(in rt.alloc(); "replay refused: {fault}\n")?;
-    let (_, _, err) = ran(&rt, &["replay", "--moves=R5"], SESSION.as_bytes())?;
+    let (_, _, err) = ran(&rt, &["replay", "--moves=R5"], PING_SESSION.as_bytes())?;
     assert_eq!(rt; err.as_slice(), want.as_bytes());
     Ok(())
 }
 
 #[test]
 fn failing_writes(rt: HostRuntime) -> Result<(), Fail> {
-    let words = words(&rt, &["replay"])?;
     for room in [0, 1, 20] {
-        let mut reader = SESSION.as_bytes();
-        let mut out = Failing { room };
-        let mut err = Vec::new(rt.alloc());
-        let status = run_tool(
-            &rt,
-            rt.alloc(),
-            words.as_slice(),
-            &mut reader,
-            &mut out,
-            &mut err,
-        );
-        assert_eq!(rt; status, 4);
-        assert_eq!(rt; out.room, 0);
-        assert_eq!(rt; err.as_slice(), b"output refused\n".as_slice());
+        assert_output_refused(&rt, "replay", room)?;
     }
     Ok(())
 }
@@ -534,30 +484,17 @@ fn failing_writes(rt: HostRuntime) -> Result<(), Fail> {
 #[test]
 fn failing_second_writer(rt: HostRuntime) -> Result<(), Fail> {
     for (word, want) in [("fly", 2), ("replay", 3)] {
-        let words = words(&rt, &[word])?;
         let mut reader = b"".as_slice();
         let mut out = Vec::new(rt.alloc());
-        let status = run_tool(
-            &rt,
-            rt.alloc(),
-            words.as_slice(),
-            &mut reader,
-            &mut out,
-            &mut Failing { room: 0 },
-        );
+        let mut err = Failing { room: 0 };
+        let status = status_of(&rt, &[word], &mut reader, &mut out, &mut err)?;
         assert_eq!(rt; status, want);
         assert_eq!(rt; out.len(), 0);
     }
-    let words = words(&rt, &["replay"])?;
-    let mut reader = SESSION.as_bytes();
-    let status = run_tool(
-        &rt,
-        rt.alloc(),
-        words.as_slice(),
-        &mut reader,
-        &mut Failing { room: 0 },
-        &mut Failing { room: 0 },
-    );
+    let mut reader = PING_SESSION.as_bytes();
+    let mut out = Failing { room: 0 };
+    let mut err = Failing { room: 0 };
+    let status = status_of(&rt, &["replay"], &mut reader, &mut out, &mut err)?;
     assert_eq!(rt; status, 4);
     Ok(())
 }

@@ -1,14 +1,14 @@
 //! Sessions that are run, over each queue: no channel is left open, what each channel's tail and transport got begins what
 //! `plain` gives, and is all of it where the channel is drained.
 
-use crate::fair::is_prefix;
+use crate::fair::begins;
 use crate::running::{Runtime, answers, ran_over};
 use crate::sessions;
 use crate::sessions::{LINE_ACROSS_BURSTS, LineSession, PING, QUIT, failing_session};
 use pl_event::Cause;
 use pl_exec::{Gate, QueueKind, run};
 use pl_text::read_session;
-use pl_world::{ChannelReport, Report, Stands, plain};
+use pl_world::{Report, Stands, plain};
 use std::process::Abort;
 use std::test::Fail;
 
@@ -22,18 +22,6 @@ impl Gate for NoGate {
 
 const QUEUES: [QueueKind; 2] = [QueueKind::Waiting, QueueKind::Ring];
 
-/// How a channel ended is told, and what its tail and transport got begins this report, and is all of it where it is
-/// drained.
-fn ends(part: &ChannelReport, whole: &ChannelReport) -> bool {
-    let is_whole = part.tail.as_slice() == whole.tail.as_slice()
-        && part.bytes.as_slice() == whole.bytes.as_slice()
-        && part.writes.as_slice() == whole.writes.as_slice();
-    is_prefix(part.tail.as_slice(), whole.tail.as_slice())
-        && is_prefix(part.bytes.as_slice(), whole.bytes.as_slice())
-        && part.stands != Stands::Open
-        && (part.stands != Stands::Drained || is_whole)
-}
-
 /// What a run of the session of a text reports. It is looked at whether its channels have ended as they should.
 fn ended<R: Abort + Runtime>(rt: &R, text: &str, queue: QueueKind) -> Result<Report, Fail> {
     let alloc = rt.alloc();
@@ -42,7 +30,11 @@ fn ended<R: Abort + Runtime>(rt: &R, text: &str, queue: QueueKind) -> Result<Rep
     let (parts, wholes) = (report.channels.as_slice(), whole.channels.as_slice());
     assert_eq!(rt; parts.len(), wholes.len());
     for (part, whole) in parts.iter().zip(wholes) {
-        assert!(rt; ends(part, whole), "{queue:?}: {part:?} of {text}");
+        let has_ended = part.stands != Stands::Open;
+        assert!(rt;
+            has_ended && begins(part, whole),
+            "{queue:?}: {part:?} of {text}"
+        );
     }
     Ok(report)
 }
