@@ -123,7 +123,7 @@ pub record ReportsPlan (p : ChannelPlan) (r : ChannelReport) : Type 0 where
   pub ends : Ends
   pub ends_keep : EndsKeepToPlan p ends
   pub reports : IsChannelReport ends r
-  -- no executor closes while a channel has moves left, so none fails since it was refused
+  -- no lane of a replay is refused
   pub unrefused : r.stands ≢ Failed Refused
 
 -- so is that of each channel of a session
