@@ -1,7 +1,17 @@
 //! Sessions made in code. The channels of the worked examples are those of docs/FORMATS.md.
 ghost use Rattle.std.specs.Prelude.{[], IfOk};
 
-use crate::world_tests::world_of;
+mod failure_tests;
+mod fair_tests;
+mod load_tests;
+mod net_tests;
+mod placing_tests;
+mod trickle_tests;
+mod user_stage_tests;
+mod world_tests;
+mod writability_tests;
+
+use crate::tests::world_tests::world_of;
 use pl_build::{Groups, PipelineBuilder, Placed};
 use pl_event::{ByteString, Command, Event, Message, Outcome, Sequence, Stage};
 use pl_head::{MemoryTransport, ReadPlan};

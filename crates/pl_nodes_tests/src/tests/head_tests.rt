@@ -1,0 +1,480 @@
+//! A head: writes, flushes, ends, failures, marks, windows, and bursts that are held.
+
+ghost use Rattle.std.specs.Prelude.{◌≡◌, ◌+◌, ◌<◌, ◌≤◌, ◌^◌, [], length, IfOk};
+ghost use Rattle.pl_event.specs.Inputs.{recorded_input};
+
+use crate::tests::input_tests::outputs_of_one;
+use crate::trickle::Trickle;
+use pl_context::{Outputs, Standing, Took};
+use pl_event::{ByteString, Cause, Envelope, Event, Item, Message, Outcome, Sequence};
+use pl_head::{Head, MemoryTransport, OutStep, ReadPlan, ReadStep, Transport};
+use std::alloc::{AllocError, Global};
+use std::process::Abort;
+use std::test::Fail;
+
+/// What a message of bytes begins with.
+pub(crate) const PONG: &[u8] = b"+PONG\r\n";
+
+/// A call of a head.
+#[derive(Clone, Copy, Debug)]
+pub(crate) enum Call {
+    /// A write of this many bytes, up to all of `PONG`.
+    Write(usize),
+    /// A write of `ab`.
+    WriteAb,
+    WriteLine,
+    Flush,
+    End,
+    Fail(Cause),
+    Out,
+    Read,
+    Abort,
+}
+
+/// What a call answers.
+#[derive(Clone, Copy, Debug, PartialEq, Eq)]
+pub(crate) enum Answer {
+    Took(Took),
+    Out(OutStep),
+    Read(ReadStep),
+    Aborted,
+}
+
+/// A call, what it is to answer, the first flag that it is to send, and how many bytes are to wait after it.
+pub(crate) type Expected = (Call, Answer, Option<bool>, u128);
+
+pub(crate) const RAN: Answer = Answer::Took(Took::Ran);
+
+pub(crate) const IDLE: Answer = Answer::Out(OutStep::Idle);
+
+pub(crate) const GAVE: Answer = Answer::Read(ReadStep::Gave);
+
+/// No burst, and no abort.
+pub(crate) fn nothing_to_read(alloc: Global) -> ReadPlan
+    ensures { result.bursts ≡ [] }
+{
+    ReadPlan {
+        bursts: Sequence::new(alloc),
+        abort_after: None,
+    }
+}
+
+/// Two bursts of one chunk each, with an abort after some of them or none.
+pub(crate) fn two_bursts(alloc: Global, abort_after: Option<u32>) -> Result<ReadPlan, AllocError>
+    ensures { IfOk result (λ plan. length (recorded_input plan.bursts) + 1 < 2 ^ 31) }
+{
+    let first = vec![in alloc; ByteString::from_vec(Vec::from_slice(alloc, b"PING\n")?)]?;
+    let second = vec![in alloc; ByteString::from_vec(Vec::from_slice(alloc, b"PING\n")?)]?;
+    let bursts = vec![in alloc; Sequence::from_vec(first), Sequence::from_vec(second)]?;
+    Ok(ReadPlan {
+        bursts: Sequence::from_vec(bursts),
+        abort_after,
+    })
+}
+
+/// A head of channel 0 at hop 3, over memory, with nothing to read.
+pub(crate) fn head(
+    alloc: Global,
+    window: u32,
+    fail_at: Option<u32>,
+    low: u32,
+    high: u32,
+) -> Head<MemoryTransport>
+    requires { low ≤ high }
+{
+    let transport = MemoryTransport::new(alloc, window, fail_at);
+    Head::new(alloc, 0, 3, nothing_to_read(alloc), transport, low, high)
+}
+
+/// The item that a call gives to the head, if it gives one.
+fn item_of(alloc: Global, call: Call) -> Result<Option<Item>, AllocError> {
+    match call {
+        Call::Write(count) => {
+            let bytes = &PONG[..count.min(PONG.len())];
+            let bytes = ByteString::from_vec(Vec::from_slice(alloc, bytes)?);
+            Ok(Some(Item::Event(Event::Write(Message::Bytes(bytes)))))
+        }
+        Call::WriteAb => {
+            let bytes = ByteString::from_vec(Vec::from_slice(alloc, b"ab")?);
+            Ok(Some(Item::Event(Event::Write(Message::Bytes(bytes)))))
+        }
+        Call::WriteLine => {
+            let line = Message::Line(ByteString::from_vec(Vec::new(alloc)));
+            Ok(Some(Item::Event(Event::Write(line))))
+        }
+        Call::Flush => Ok(Some(Item::Event(Event::Flush))),
+        Call::End => Ok(Some(Item::End)),
+        Call::Fail(cause) => Ok(Some(Item::Fail(cause))),
+        Call::Out | Call::Read | Call::Abort => Ok(None),
+    }
+}
+
+/// Gives the next item to a head.
+pub(crate) fn give<T: Transport>(
+    rt: &impl Abort,
+    alloc: Global,
+    head: &mut Head<T>,
+    item: Item,
+) -> Result<(Answer, Outputs), AllocError> {
+    let mut outputs = outputs_of_one(alloc)?;
+    let lane = head.lane();
+    let number = head.taken();
+    assert!(rt; number < 1_000_000);
+    let took = head.take(Envelope { lane, number, item }, &mut outputs);
+    Ok((Answer::Took(took), outputs))
+}
+
+pub(crate) fn write_once<T: Transport>(
+    alloc: Global,
+    head: &mut Head<T>,
+) -> Result<(Answer, Outputs), AllocError> {
+    let mut outputs = outputs_of_one(alloc)?;
+    let out = head.write_once(&mut outputs);
+    Ok((Answer::Out(out), outputs))
+}
+
+fn read<T: Transport>(alloc: Global, head: &mut Head<T>) -> Result<(Answer, Outputs), AllocError> {
+    let mut outputs = outputs_of_one(alloc)?;
+    let read = head.next_read(&mut outputs);
+    Ok((Answer::Read(read), outputs))
+}
+
+fn abort<T: Transport>(alloc: Global, head: &mut Head<T>) -> Result<(Answer, Outputs), AllocError> {
+    let mut outputs = outputs_of_one(alloc)?;
+    head.abort(&mut outputs);
+    Ok((Answer::Aborted, outputs))
+}
+
+/// Makes a call, and answers what it answers and puts out.
+fn apply<T: Transport>(
+    rt: &impl Abort,
+    alloc: Global,
+    head: &mut Head<T>,
+    call: Call,
+) -> Result<(Answer, Outputs), AllocError> {
+    match item_of(alloc, call)? {
+        Some(item) => give(rt, alloc, head, item),
+        None => match call {
+            Call::Read => read(alloc, head),
+            Call::Abort => abort(alloc, head),
+            _ => write_once(alloc, head),
+        },
+    }
+}
+
+/// The flag that stands first on a list, if one does.
+fn flag_of(outputs: Outputs) -> Option<bool> {
+    let mut outputs = outputs;
+    match outputs.next() {
+        Some(envelope) => match envelope.item {
+            Item::Flag(value) => Some(value),
+            _ => None,
+        },
+        None => None,
+    }
+}
+
+/// Makes these calls, one after another.
+pub(crate) fn run<T: Transport>(
+    rt: &impl Abort,
+    alloc: Global,
+    head: &mut Head<T>,
+    rows: &[Expected],
+) -> Result<(), AllocError> {
+    for row in rows {
+        let (answer, outputs) = apply(rt, alloc, head, row.0)?;
+        assert!(rt; answer == row.1);
+        let flag = flag_of(outputs);
+        assert!(rt; flag == row.2);
+        let pending = head.pending();
+        assert!(rt; pending == row.3);
+    }
+    Ok(())
+}
+
+const EMPTY: [Expected; 3] = [
+    (Call::Write(0), RAN, None, 0),
+    (Call::WriteAb, RAN, None, 2),
+    (Call::Flush, RAN, None, 2),
+];
+
+const EMPTY_WRITTEN: [Expected; 3] = [
+    (Call::Out, Answer::Out(OutStep::Wrote(1)), None, 2),
+    (Call::Out, Answer::Out(OutStep::Wrote(1)), None, 0),
+    (Call::Out, IDLE, None, 0),
+];
+
+#[test]
+fn empty_message(rt: HostRuntime) -> Result<(), Fail> {
+    let alloc = rt.alloc();
+    let mut head = head(alloc, 1, None, 4, 8);
+    run(&rt, alloc, &mut head, EMPTY.as_slice())?;
+    assert!(rt; head.outcomes() == [Some(Outcome::Success), None].as_slice());
+    run(&rt, alloc, &mut head, EMPTY_WRITTEN.as_slice())?;
+    assert!(rt; head.outcomes() == [Some(Outcome::Success), Some(Outcome::Success)].as_slice());
+    assert!(rt; head.bytes() == b"ab".as_slice());
+    Ok(())
+}
+
+const STRICT: [Expected; 7] = [
+    (Call::Write(4), RAN, None, 4),
+    (Call::Write(1), RAN, Some(false), 5),
+    (Call::Flush, RAN, None, 5),
+    (Call::Out, Answer::Out(OutStep::Wrote(1)), None, 5),
+    (Call::Out, Answer::Out(OutStep::Wrote(1)), None, 5),
+    (Call::Out, Answer::Out(OutStep::Wrote(1)), None, 5),
+    (Call::Out, Answer::Out(OutStep::Wrote(1)), Some(true), 1),
+];
+
+#[test]
+fn marks_are_strict(rt: HostRuntime) -> Result<(), Fail> {
+    let alloc = rt.alloc();
+    let mut head = head(alloc, 1, None, 4, 4);
+    run(&rt, alloc, &mut head, STRICT.as_slice())?;
+    assert!(rt; head.is_writable());
+    Ok(())
+}
+
+const TRICKLES: [Expected; 5] = [
+    (Call::Write(2), RAN, None, 2),
+    (Call::Flush, RAN, None, 2),
+    (Call::Out, Answer::Out(OutStep::Wrote(0)), None, 2),
+    (Call::Out, Answer::Out(OutStep::Wrote(1)), None, 2),
+    (Call::Out, Answer::Out(OutStep::Wrote(0)), None, 2),
+];
+
+const TRICKLED: [Expected; 2] = [
+    (Call::Out, Answer::Out(OutStep::Wrote(1)), None, 0),
+    (Call::Out, IDLE, None, 0),
+];
+
+#[test]
+fn one_byte_transport(rt: HostRuntime) -> Result<(), Fail> {
+    let alloc = rt.alloc();
+    let transport = Trickle::new(alloc);
+    let mut head = Head::new(alloc, 0, 3, nothing_to_read(alloc), transport, 4, 8);
+    run(&rt, alloc, &mut head, TRICKLES.as_slice())?;
+    assert!(rt; head.outcomes() == [None].as_slice());
+    run(&rt, alloc, &mut head, TRICKLED.as_slice())?;
+    assert!(rt; head.outcomes() == [Some(Outcome::Success)].as_slice());
+    assert!(rt; head.bytes() == b"+P".as_slice());
+    Ok(())
+}
+
+const WATERMARKS: [Expected; 9] = [
+    (Call::Write(7), RAN, None, 7),
+    (Call::Write(7), RAN, Some(false), 14),
+    (Call::Flush, RAN, None, 14),
+    (Call::Out, Answer::Out(OutStep::Wrote(3)), None, 14),
+    (Call::Out, Answer::Out(OutStep::Wrote(3)), None, 14),
+    (Call::Out, Answer::Out(OutStep::Wrote(1)), None, 7),
+    (Call::Out, Answer::Out(OutStep::Wrote(3)), None, 7),
+    (Call::Out, Answer::Out(OutStep::Wrote(3)), None, 7),
+    (Call::Out, Answer::Out(OutStep::Wrote(1)), Some(true), 0),
+];
+
+#[test]
+fn watermarks(rt: HostRuntime) -> Result<(), Fail> {
+    let alloc = rt.alloc();
+    let mut head = head(alloc, 3, None, 4, 8);
+    run(&rt, alloc, &mut head, WATERMARKS.as_slice())?;
+    assert!(rt; head.bytes() == b"+PONG\r\n+PONG\r\n".as_slice());
+    Ok(())
+}
+
+const WINDOW_1: [Expected; 5] = [
+    (Call::Write(3), RAN, None, 3),
+    (Call::Flush, RAN, None, 3),
+    (Call::Out, Answer::Out(OutStep::Wrote(1)), None, 3),
+    (Call::Out, Answer::Out(OutStep::Wrote(1)), None, 3),
+    (Call::Out, Answer::Out(OutStep::Wrote(1)), None, 0),
+];
+
+#[test]
+fn window_of_1(rt: HostRuntime) -> Result<(), Fail> {
+    let alloc = rt.alloc();
+    let mut head = head(alloc, 1, None, 4, 8);
+    run(&rt, alloc, &mut head, WINDOW_1.as_slice())?;
+    assert!(rt; head.is_written());
+    Ok(())
+}
+
+const WINDOW_65536: [Expected; 4] = [
+    (Call::Write(7), RAN, None, 7),
+    (Call::Flush, RAN, None, 7),
+    (Call::Out, Answer::Out(OutStep::Wrote(7)), None, 0),
+    (Call::Out, IDLE, None, 0),
+];
+
+#[test]
+fn window_of_65536(rt: HostRuntime) -> Result<(), Fail> {
+    let alloc = rt.alloc();
+    let mut head = head(alloc, 65536, None, 4, 8);
+    run(&rt, alloc, &mut head, WINDOW_65536.as_slice())?;
+    assert!(rt; head.is_written());
+    Ok(())
+}
+
+const HELD: [Expected; 13] = [
+    (Call::Read, GAVE, None, 0),
+    (Call::Read, GAVE, None, 0),
+    (Call::Write(7), RAN, Some(false), 7),
+    (Call::Flush, RAN, None, 7),
+    (Call::Read, Answer::Read(ReadStep::Held), None, 7),
+    (Call::Out, Answer::Out(OutStep::Wrote(7)), Some(true), 0),
+    (Call::Read, GAVE, None, 0),
+    (Call::Write(7), RAN, Some(false), 7),
+    (Call::Flush, RAN, None, 7),
+    (Call::Read, GAVE, None, 7),
+    (Call::Read, Answer::Read(ReadStep::Done), None, 7),
+    (Call::End, Answer::Took(Took::Ended), None, 7),
+    (Call::Out, Answer::Out(OutStep::Wrote(7)), Some(true), 0),
+];
+
+#[test]
+fn burst_held(rt: HostRuntime) -> Result<(), Fail> {
+    let alloc = rt.alloc();
+    let transport = MemoryTransport::new(alloc, 65536, None);
+    let mut head = Head::new(alloc, 0, 3, two_bursts(alloc, None)?, transport, 1, 2);
+    run(&rt, alloc, &mut head, HELD.as_slice())?;
+    assert!(rt; head.is_ended());
+    assert!(rt; head.cause() == None);
+    let (bytes, outcomes) = head.copies(alloc)?;
+    assert!(rt; bytes.as_slice() == b"+PONG\r\n+PONG\r\n".as_slice());
+    assert!(rt; outcomes.as_slice() == [Some(Outcome::Success), Some(Outcome::Success)].as_slice());
+    Ok(())
+}
+
+const NOTHING_FLUSHED: [Expected; 10] = [
+    (Call::Read, GAVE, None, 0),
+    (Call::Read, GAVE, None, 0),
+    (Call::Write(7), RAN, Some(false), 7),
+    (Call::Read, GAVE, None, 7),
+    (Call::Write(7), RAN, None, 14),
+    (Call::Flush, RAN, None, 14),
+    (Call::Read, GAVE, None, 14),
+    (Call::Out, Answer::Out(OutStep::Wrote(7)), None, 7),
+    (Call::Out, Answer::Out(OutStep::Wrote(7)), Some(true), 0),
+    (Call::Read, Answer::Read(ReadStep::Done), None, 0),
+];
+
+#[test]
+fn burst_comes_where_nothing_is_flushed(rt: HostRuntime) -> Result<(), Fail> {
+    let alloc = rt.alloc();
+    let transport = MemoryTransport::new(alloc, 65536, None);
+    let mut head = Head::new(alloc, 0, 3, two_bursts(alloc, None)?, transport, 1, 2);
+    run(&rt, alloc, &mut head, NOTHING_FLUSHED.as_slice())?;
+    Ok(())
+}
+
+const FAILS: [Expected; 6] = [
+    (Call::Write(1), RAN, None, 1),
+    (Call::Flush, RAN, None, 1),
+    (Call::Write(4), RAN, Some(false), 5),
+    (Call::WriteLine, RAN, None, 5),
+    (
+        Call::Fail(Cause::Refused),
+        Answer::Took(Took::Failed(Cause::Refused)),
+        Some(true),
+        1,
+    ),
+    (Call::Out, Answer::Out(OutStep::Wrote(1)), None, 0),
+];
+
+#[test]
+fn failure_closes_what_is_not_flushed(rt: HostRuntime) -> Result<(), Fail> {
+    let alloc = rt.alloc();
+    let mut head = head(alloc, 65536, None, 2, 4);
+    run(&rt, alloc, &mut head, FAILS.as_slice())?;
+    assert!(rt; head.cause() == Some(Cause::Refused));
+    let (bytes, outcomes) = head.copies(alloc)?;
+    assert!(rt; bytes.as_slice() == b"+".as_slice());
+    let want = [
+        Some(Outcome::Success),
+        Some(Outcome::Closed),
+        Some(Outcome::Unsupported),
+    ];
+    assert!(rt; outcomes.as_slice() == want.as_slice());
+    let written = head.into_written(alloc)?;
+    assert!(rt; written.bytes.as_slice() == b"+".as_slice());
+    assert!(rt; written.outcomes.as_slice() == want.as_slice());
+    Ok(())
+}
+
+const TRANSPORT_FAILS: [Expected; 14] = [
+    (Call::Read, GAVE, None, 0),
+    (Call::Write(7), RAN, Some(false), 7),
+    (Call::Flush, RAN, None, 7),
+    (Call::Write(2), RAN, None, 9),
+    (Call::Out, Answer::Out(OutStep::Wrote(4)), None, 9),
+    (Call::Out, Answer::Out(OutStep::Failed), Some(true), 0),
+    (Call::Out, IDLE, None, 0),
+    (Call::Read, GAVE, None, 0),
+    (Call::Read, Answer::Read(ReadStep::Done), None, 0),
+    (Call::Write(3), RAN, None, 0),
+    (Call::WriteLine, RAN, None, 0),
+    (Call::Flush, RAN, None, 0),
+    (Call::End, Answer::Took(Took::Ended), None, 0),
+    (Call::Out, IDLE, None, 0),
+];
+
+#[test]
+fn failed_transport(rt: HostRuntime) -> Result<(), Fail> {
+    let alloc = rt.alloc();
+    let transport = MemoryTransport::new(alloc, 4, Some(2));
+    let mut head = Head::new(alloc, 0, 3, two_bursts(alloc, None)?, transport, 1, 2);
+    run(&rt, alloc, &mut head, TRANSPORT_FAILS.as_slice())?;
+    assert!(rt; head.cause() == Some(Cause::Transport));
+    assert!(rt; head.is_ended());
+    let want = [
+        Some(Outcome::Fault),
+        Some(Outcome::Fault),
+        Some(Outcome::Fault),
+        Some(Outcome::Unsupported),
+    ];
+    assert!(rt; head.outcomes() == want.as_slice());
+    assert!(rt; head.standing() == Standing::Open);
+    assert_eq!(rt; head.taken(), 7);
+    Ok(())
+}
+
+const AFTER_ITS_END: [Expected; 5] = [
+    (Call::Write(3), RAN, Some(false), 3),
+    (Call::End, Answer::Took(Took::Ended), Some(true), 0),
+    (Call::Write(3), RAN, None, 0),
+    (Call::Fail(Cause::Refused), RAN, None, 0),
+    (Call::End, RAN, None, 0),
+];
+
+/// What comes after the end is counted, and nothing else comes of it.
+#[test]
+fn item_after_the_end_is_counted(rt: HostRuntime) -> Result<(), Fail> {
+    let alloc = rt.alloc();
+    let mut head = head(alloc, 4, None, 1, 2);
+    run(&rt, alloc, &mut head, AFTER_ITS_END.as_slice())?;
+    assert_eq!(rt; head.taken(), 5);
+    assert!(rt; head.standing() == Standing::Ended);
+    assert!(rt; head.cause().is_none());
+    assert!(rt; head.outcomes() == [Some(Outcome::Closed)].as_slice());
+    Ok(())
+}
+
+const FAILS_AFTER_ITS_END: [Expected; 6] = [
+    (Call::Write(7), RAN, Some(false), 7),
+    (Call::Flush, RAN, None, 7),
+    (Call::Write(3), RAN, None, 10),
+    (Call::End, Answer::Took(Took::Ended), None, 7),
+    (Call::Out, Answer::Out(OutStep::Failed), Some(true), 0),
+    (Call::Out, IDLE, None, 0),
+];
+
+/// What the end closed stays closed.
+#[test]
+fn transport_fails_after_the_end(rt: HostRuntime) -> Result<(), Fail> {
+    let alloc = rt.alloc();
+    let mut head = head(alloc, 4, Some(1), 1, 2);
+    run(&rt, alloc, &mut head, FAILS_AFTER_ITS_END.as_slice())?;
+    assert!(rt; head.cause() == Some(Cause::Transport));
+    assert!(rt; head.outcomes() == [Some(Outcome::Fault), Some(Outcome::Closed)].as_slice());
+    Ok(())
+}

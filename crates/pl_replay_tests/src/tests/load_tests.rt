@@ -1,0 +1,77 @@
+//! Large loads on a net. bench/run.py reads their times, size by size.
+
+use crate::tests::net_tests::{line_protocol, world};
+use pl_head::MemoryTransport;
+use pl_replay::Net;
+use pl_stages::Handler;
+use pl_world::Move;
+use std::alloc::Global;
+use std::process::Abort;
+use std::test::Fail;
+
+/// The channel becomes active, and its burst comes.
+const BEGINNING: [Move; 2] = [Move::Read(0), Move::Read(0)];
+
+/// An event crosses both groups, and what becomes of it comes back to the loop.
+const ACROSS: [Move; 6] = [
+    Move::Hand(0),
+    Move::Task(1),
+    Move::Hand(1),
+    Move::Task(2),
+    Move::Hand(2),
+    Move::Task(0),
+];
+
+/// So does the reply to it.
+const REPLY: [Move; 2] = [Move::Hand(2), Move::Task(0)];
+
+fn assert_enabled(
+    rt: &impl Abort,
+    net: &mut Net<Handler, MemoryTransport>,
+    moves: &[Move],
+) -> Result<(), Fail> {
+    for step in moves {
+        assert_eq!(rt; net.apply(*step)?, true);
+    }
+    Ok(())
+}
+
+/// A given number of rounds of eight moves, each of them enabled, where each queue holds one item and the decoder and the service
+/// have an executor of their own.
+fn hand_overs(rt: &impl Abort, alloc: Global, rounds: usize) -> Result<(), Fail> {
+    let mut chunk = Vec::new(alloc);
+    for _ in 0..rounds {
+        chunk.extend_from_slice(b"PING\n")?;
+    }
+    let kinds = line_protocol(Some("a"), Some("b"));
+    let groups = [("a", 1), ("b", 1)];
+    let world = world(alloc, &groups, &kinds, &[&[&[chunk.as_slice()]]])?;
+    let mut net = Net::new(alloc, world, 1)?;
+    assert_enabled(rt, &mut net, &BEGINNING)?;
+    assert_enabled(rt, &mut net, &ACROSS)?;
+    for _ in 1..rounds {
+        assert_enabled(rt, &mut net, &ACROSS)?;
+        assert_enabled(rt, &mut net, &REPLY)?;
+    }
+    Ok(())
+}
+
+#[test]
+fn hand_overs_of_125000(rt: HostRuntime) -> Result<(), Fail> {
+    hand_overs(&rt, rt.alloc(), 15_625)
+}
+
+#[test]
+fn hand_overs_of_250000(rt: HostRuntime) -> Result<(), Fail> {
+    hand_overs(&rt, rt.alloc(), 31_250)
+}
+
+#[test]
+fn hand_overs_of_500000(rt: HostRuntime) -> Result<(), Fail> {
+    hand_overs(&rt, rt.alloc(), 62_500)
+}
+
+#[test]
+fn hand_overs_of_1000000(rt: HostRuntime) -> Result<(), Fail> {
+    hand_overs(&rt, rt.alloc(), 125_000)
+}
