@@ -1,6 +1,6 @@
 -- Counting lanes, and what is within the limits.
 use Rattle.std.proofs.Common.{◌≡◌, ◌≤◌, ◌<◌, ◌+◌, ◌∙◌, ◌++◌, ℕ, List, true, false, not, ap, sym, length, map, take, drop, suc, get_or, ⊎_elim, arith, eqb}
-use Rattle.std.proofs.lemmas.Bool.{leb-true, le-leb, and_parts, and_from, cases_Bool, cases_eq, both_ways, ne_eqb}
+use Rattle.std.proofs.lemmas.Bool.{leb-true, le-leb, and_parts, and_from, cases_Bool, ne_eqb}
 use Rattle.std.proofs.lemmas.List.{length-append, length-map}
 use Rattle.pl_event.specs.declared.envelopes.Lane.{Lane}
 use Rattle.pl_queue.specs.Left.{all_lanes}
@@ -34,12 +34,6 @@ pub within : (lanes : List (List Lane)) (capacity : ℕ) → (capacity ≡ 0 →
 within lanes capacity a b c d =
     and_from _ _ (and_from _ _ (and_from _ _ (nonzero capacity a) (le-leb capacity 65536 b)) (le-leb (length lanes) 65535 c)) (le-leb (length (all_lanes lanes)) 8192 d)
 
--- within the limits there are few lanes, and some room
+-- within the limits there are few lanes
 pub few-counts : (lanes : List (List Lane)) (capacity : ℕ) → is_within lanes capacity ≡ true → length (fresh_take_counts (all_lanes lanes)) ≤ 8192
 few-counts lanes capacity t = omega (arith, leb-true (length (all_lanes lanes)) 8192 (and_parts _ _ t).1, length-map (all_lanes lanes) (λ l. take_count l 0))
-
-pub some-room : (lanes : List (List Lane)) (capacity : ℕ) → is_within lanes capacity ≡ true → 0 < capacity
-some-room lanes capacity t = ⊎_elim
-    (λ (e : capacity ≡ 0). absurd (both_ways (not (eqb capacity 0)) (ap (λ n. not (eqb n 0)) e) (and_parts _ _ (and_parts _ _ (and_parts _ _ t).0).0).0))
-    (λ (ne : capacity ≡ 0 → ⊥). omega (arith, ne))
-    (cases_eq capacity 0)

@@ -1,6 +1,6 @@
 -- Runs of numbers, and look-ups by lane.
 use Rattle.std.proofs.Common.{◌≡◌, ◌⊎◌, ◌+◌, ◌<◌, ◌≤◌, ℕ, Bool, true, false, cond, List, [], ◌∷◌, ◌++◌, map, Some, None, zero, suc, length, get_or, take, drop, refl, ap, sym, ◌∙◌, subst, inl, inr, ⊎_elim, arith, add-one, append_assoc, append-nil}
-use Rattle.std.proofs.lemmas.Bool.{cond-true, cond-false, cases_Bool, both_ways, false≢true, cases_eq}
+use Rattle.std.proofs.lemmas.Bool.{cond-true, cond-false, cases_Bool, both_ways, false≢true}
 use Rattle.pl_event.specs.declared.envelopes.Lane.{Lane}
 use Rattle.pl_event.specs.declared.envelopes.Envelope.{Envelope}
 use Rattle.pl_event.specs.Hops.{same_lane}
@@ -247,13 +247,6 @@ get_or-any [] i d e h = absurd (omega arith)
 get_or-any (x ∷ xs) zero d e h = refl
 get_or-any (x ∷ xs) (suc i) d e h = get_or-any xs i d e (omega arith)
 
-pub before-more : {A : Type 0} (f : A → Lane) (l : Lane) (xs : List A) (i : ℕ) (d : A) → i < length xs → ((k : ℕ) (d : A) → k < i → same_lane l (f (get_or xs k d)) ≡ false)
-    → same_lane l (f (get_or xs i d)) ≡ false → (k : ℕ) (e : A) → k < i + 1 → same_lane l (f (get_or xs k e)) ≡ false
-before-more f l xs i d h before here k e lt = ⊎_elim
-    (λ (x : k ≡ i). ap (λ j. same_lane l (f (get_or xs j e))) x ∙ ap (λ m. same_lane l (f m)) (get_or-any xs i e d h) ∙ here)
-    (λ (x : k ≡ i → ⊥). before k e (omega arith))
-    (cases_eq k i)
-
 pub send_counts_of-snoc : (ss : List SenderView) (s : SenderView) → send_counts_of (ss ++ s ∷ []) ≡ send_counts_of ss ++ s.send_counts
 send_counts_of-snoc [] s = append-nil s.send_counts
 send_counts_of-snoc (t ∷ ts) s = ap (λ k. t.send_counts ++ k) (send_counts_of-snoc ts s) ∙ sym (append_assoc t.send_counts (send_counts_of ts) s.send_counts)
@@ -270,11 +263,3 @@ no_items (x ∷ xs) e = absurd (omega arith)
 pub fresh_take_counts-lanes : (ls : List Lane) → lanes_of_counts (fresh_take_counts ls) ≡ ls
 fresh_take_counts-lanes [] = refl
 fresh_take_counts-lanes (l ∷ ls) = ap (λ t. l ∷ t) (fresh_take_counts-lanes ls)
-
-take_front : {A : Type 0} (xs zs : List A) → take (length xs) (xs ++ zs) ≡ xs
-take_front [] zs = refl
-take_front (x ∷ xs) zs = ap (λ t. x ∷ t) (take_front xs zs)
-
--- what a slice of a whole list writes back
-pub whole_back : {A : Type 0} (xs zs : List A) (n : ℕ) → n ≡ length xs → take n (xs ++ zs) ≡ xs
-whole_back xs zs n e = ap (λ k. take k (xs ++ zs)) e ∙ take_front xs zs

@@ -1,6 +1,7 @@
 -- What is put into a table of positions is found there.
 use Rattle.std.specs.Global.{Vec}
 use Rattle.std.proofs.Common.{◌≡◌, ◌≢◌, Some, ◌+◌, ◌<◌, ◌≤◌, ℕ, zero, suc, true, false, List, [], ◌∷◌, ◌++◌, map, take, length, get_or, set, refl, ap, sym, ◌∙◌, subst, ⊎_elim, arith, add-one}
+use Rattle.std.proofs.lemmas.List.{length_push}
 use Rattle.std.proofs.lemmas.Bool.{cond-true, cond-false, cases_Bool, both_ways, false≢true, cases_eq}
 use Rattle.pl_event.specs.declared.envelopes.Envelope.{Envelope}
 use Rattle.pl_event.specs.declared.envelopes.Kind.{Kind}
@@ -41,6 +42,10 @@ row_at-past (r ∷ rows) (suc n) h = row_at-past rows n (omega arith)
 pub row_at-found : (rows got : List (Vec ℕ)) (lane : Lane) (n : ℕ) (row d : Vec ℕ) → got ≡ rows → n ≡ row_of lane → n < length got → row ≡ get_or got n d → row_at rows (row_of lane) ≡ row.items
 row_at-found rows got lane n row d same is h e =
     ap (λ rs. row_at rs (row_of lane)) (sym same) ∙ ap (λ k. row_at got k) (sym is) ∙ row_at-get got n d h ∙ ap (λ (r : Vec ℕ). r.items) (sym e)
+
+-- a list that got one more is long enough for one more
+pub one-longer : {A : Type 0} (xs ys : List A) (x : A) (n : ℕ) → ys ≡ xs ++ x ∷ [] → n ≤ length xs → n + 1 ≤ length ys
+one-longer xs ys x n grown long = subst (λ zs. n + 1 ≤ length zs) (sym grown) (omega (arith, length_push xs x, long))
 
 -- an empty row more
 pub row_at-more : (rows : List (Vec ℕ)) (row : Vec ℕ) (n : ℕ) → row.items ≡ [] → row_at (rows ++ row ∷ []) n ≡ row_at rows n

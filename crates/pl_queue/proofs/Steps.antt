@@ -58,6 +58,12 @@ module _ (world : World) where
       let apart : (l : Lane) → (h.owner l ≡ Some pass → ⊥) → same_lane l x.lane ≡ false = λ l no.
       ⊎_elim (λ (t : same_lane l x.lane ≡ true). absurd (no (subst (λ y. h.owner y ≡ Some pass) (sym (same_lane-equal l x.lane t)) mine.0)))
       (λ (t : same_lane l x.lane ≡ false). t) (cases_Bool (same_lane l x.lane)) in
+      -- nothing is sent on a lane that has no owner
+      let unsent : (j : ℕ) (u : PassView) → IsSeat h.owner h.next h.ended h.taker h.taken j u → u.taker ≡ true → (l : Lane) → next_of l u.takes.counts ≡ None
+      → (h.owner l ≡ None) × (next' l ≡ 0) × (ended' l ≡ false) × (h.taken l ≡ 0) = λ j u theirs t l y.
+      let was = theirs.rest t l y in
+      let other = apart l (λ o. none-some pass (sym was.0 ∙ o)) in
+      (was.0, at_other h.next x.lane (x.number + 1) l other ∙ was.1, at_other h.ended x.lane (closes x.item) l other ∙ was.2, was.3) in
       let w = offered v x in (
         w,
         record {
@@ -107,10 +113,7 @@ module _ (world : World) where
                     (sent_of-set x.lane l (x.number + 1) (closes x.item) v.sends.send_counts k f y);
                 takes = seat.takes;
                 known = seat.known;
-                rest = λ t l y.
-                    let was = seat.rest t l y in
-                    let other = apart l (λ o. none-some pass (sym was.0 ∙ o)) in
-                    (was.0, at_other h.next x.lane (x.number + 1) l other ∙ was.1, at_other h.ended x.lane (closes x.item) l other ∙ was.2, was.3);
+                rest = unsent pass v seat;
               }))
               (λ (there : (j ≢ pass) × (get_elem? views j ≡ some u)).
               let theirs = h.seats j u there.1 in
@@ -121,10 +124,7 @@ module _ (world : World) where
                     (was.0, at_other h.next x.lane (x.number + 1) l other ∙ was.1, at_other h.ended x.lane (closes x.item) l other ∙ was.2);
                 takes = theirs.takes;
                 known = theirs.known;
-                rest = λ t l y.
-                    let was = theirs.rest t l y in
-                    let other = apart l (λ o. none-some pass (sym was.0 ∙ o)) in
-                    (was.0, at_other h.next x.lane (x.number + 1) l other ∙ was.1, at_other h.ended x.lane (closes x.item) l other ∙ was.2, was.3);
+                rest = unsent j u theirs;
               })
               (at_set views pass j w u e);
         },
@@ -212,6 +212,20 @@ module _ (world : World) where
       (subst (λ (z : Envelope). z.number < 2 ^ 32) (sym same) small)
       (subst (λ z. FitsWorld world z) (sym same) fits)
 
+  -- the same queue, in whose seats these owners hold
+  reseated : (items : List Envelope) (views views' : List PassView) (h : Keeps world items views) (owner : Lane → Option ℕ)
+      → ((j : ℕ) (u : PassView) → get_elem? views' j ≡ some u → IsSeat owner h.next h.ended h.taker h.taken j u) → Keeps world items views'
+  reseated items views views' h owner seats = record {
+    owner = owner;
+    next = h.next;
+    ended = h.ended;
+    taker = h.taker;
+    seats = seats;
+    taken = h.taken;
+    in_turn = h.in_turn;
+    queued = h.queued;
+  }
+
   -- the taker makes a sender of these lanes, none of which it has dealt before
   pub forks : (pass : ℕ) (v : PassView) (ls : List Lane) → v.taker ≡ true → ((l : Lane) → has_lane l ls ≡ true → next_of l v.takes.counts ≡ None)
       → Forks (Keeps world) pass v (dealing ls v) (dealt ls)
@@ -223,66 +237,58 @@ module _ (world : World) where
       let kept : (l : Lane) (j : ℕ) → h.owner l ≡ Some j → owner' l ≡ Some j = λ l j o.
       ⊎_elim (λ (t : has_lane l ls ≡ true). absurd (none-some j (sym (seat.rest may l (new l t)).0 ∙ o)))
       (λ (t : has_lane l ls ≡ false). cond-false (has_lane l ls) (Some (length vs)) (h.owner l) t ∙ o) (cases_Bool (has_lane l ls)) in
+      reseated items views (vs ++ dealt ls ∷ []) h owner'
+      (λ j u e.
+      ⊎_elim
+      (λ (old : get_elem? vs j ≡ some u).
+      ⊎_elim
+      (λ (here : (j ≡ pass) × (dealing ls v ≡ u)).
+      subst (λ (y : ℕ × PassView). IsSeat owner' h.next h.ended h.taker h.taken y.0 y.1) (λ i. (sym here.0 i, here.1 i)) (record {
+        sends = λ l n f y. let was = seat.sends l n f y in (kept l pass was.0, was.1, was.2);
+        takes = seat.takes;
+        known = λ t l n y.
+            let split : (o : Option ℕ) → next_of l v.takes.counts ≡ o → h.taken l ≡ n = λ o.
+            elim o as (λ o. next_of l v.takes.counts ≡ o → h.taken l ≡ n) [
+              | None ↦ λ z.
+                  let f = next_of-append l v.takes.counts (fresh_take_counts ls) z ∙ next_of-fresh l ls in
+                  let was = seat.rest t l z in
+                  ⊎_elim (λ (b : has_lane l ls ≡ true). was.3 ∙ some-equal 0 n (sym (cond-true (has_lane l ls) (Some 0) None b) ∙ sym f ∙ y))
+                  (λ (b : has_lane l ls ≡ false). absurd (none-some n (sym (cond-false (has_lane l ls) (Some 0) None b) ∙ sym f ∙ y))) (cases_Bool (has_lane l ls))
+              | Some k ↦ λ z. seat.known t l k z ∙ some-equal k n (sym (next_of-front l v.takes.counts (fresh_take_counts ls) k z) ∙ y)
+            ] in
+            split (next_of l v.takes.counts) refl;
+        rest = λ t l y.
+            let split : (o : Option ℕ) → next_of l v.takes.counts ≡ o → (owner' l ≡ None) × (h.next l ≡ 0) × (h.ended l ≡ false) × (h.taken l ≡ 0) = λ o.
+            elim o as (λ o. next_of l v.takes.counts ≡ o → (owner' l ≡ None) × (h.next l ≡ 0) × (h.ended l ≡ false) × (h.taken l ≡ 0)) [
+              | None ↦ λ z.
+                  let f = next_of-append l v.takes.counts (fresh_take_counts ls) z ∙ next_of-fresh l ls in
+                  let was = seat.rest t l z in
+                  ⊎_elim (λ (b : has_lane l ls ≡ true). absurd (none-some 0 (sym y ∙ f ∙ cond-true (has_lane l ls) (Some 0) None b)))
+                  (λ (b : has_lane l ls ≡ false). (cond-false (has_lane l ls) (Some (length vs)) (h.owner l) b ∙ was.0, was.1, was.2, was.3)) (cases_Bool (has_lane l ls))
+              | Some k ↦ λ z. absurd (none-some k (sym y ∙ next_of-front l v.takes.counts (fresh_take_counts ls) k z))
+            ] in
+            split (next_of l v.takes.counts) refl;
+      }))
+      (λ (there : (j ≢ pass) × (get_elem? views j ≡ some u)).
+      let theirs = h.seats j u there.1 in
       record {
-        owner = owner';
-        next = h.next;
-        ended = h.ended;
-        taker = h.taker;
-        taken = h.taken;
-        in_turn = h.in_turn;
-        queued = h.queued;
-        seats = λ j u e.
-            ⊎_elim
-            (λ (old : get_elem? vs j ≡ some u).
-            ⊎_elim
-            (λ (here : (j ≡ pass) × (dealing ls v ≡ u)).
-            subst (λ (y : ℕ × PassView). IsSeat owner' h.next h.ended h.taker h.taken y.0 y.1) (λ i. (sym here.0 i, here.1 i)) (record {
-              sends = λ l n f y. let was = seat.sends l n f y in (kept l pass was.0, was.1, was.2);
-              takes = seat.takes;
-              known = λ t l n y.
-                  let split : (o : Option ℕ) → next_of l v.takes.counts ≡ o → h.taken l ≡ n = λ o.
-                  elim o as (λ o. next_of l v.takes.counts ≡ o → h.taken l ≡ n) [
-                    | None ↦ λ z.
-                        let f = next_of-append l v.takes.counts (fresh_take_counts ls) z ∙ next_of-fresh l ls in
-                        let was = seat.rest t l z in
-                        ⊎_elim (λ (b : has_lane l ls ≡ true). was.3 ∙ some-equal 0 n (sym (cond-true (has_lane l ls) (Some 0) None b) ∙ sym f ∙ y))
-                        (λ (b : has_lane l ls ≡ false). absurd (none-some n (sym (cond-false (has_lane l ls) (Some 0) None b) ∙ sym f ∙ y))) (cases_Bool (has_lane l ls))
-                    | Some k ↦ λ z. seat.known t l k z ∙ some-equal k n (sym (next_of-front l v.takes.counts (fresh_take_counts ls) k z) ∙ y)
-                  ] in
-                  split (next_of l v.takes.counts) refl;
-              rest = λ t l y.
-                  let split : (o : Option ℕ) → next_of l v.takes.counts ≡ o → (owner' l ≡ None) × (h.next l ≡ 0) × (h.ended l ≡ false) × (h.taken l ≡ 0) = λ o.
-                  elim o as (λ o. next_of l v.takes.counts ≡ o → (owner' l ≡ None) × (h.next l ≡ 0) × (h.ended l ≡ false) × (h.taken l ≡ 0)) [
-                    | None ↦ λ z.
-                        let f = next_of-append l v.takes.counts (fresh_take_counts ls) z ∙ next_of-fresh l ls in
-                        let was = seat.rest t l z in
-                        ⊎_elim (λ (b : has_lane l ls ≡ true). absurd (none-some 0 (sym y ∙ f ∙ cond-true (has_lane l ls) (Some 0) None b)))
-                        (λ (b : has_lane l ls ≡ false). (cond-false (has_lane l ls) (Some (length vs)) (h.owner l) b ∙ was.0, was.1, was.2, was.3)) (cases_Bool (has_lane l ls))
-                    | Some k ↦ λ z. absurd (none-some k (sym y ∙ next_of-front l v.takes.counts (fresh_take_counts ls) k z))
-                  ] in
-                  split (next_of l v.takes.counts) refl;
-            }))
-            (λ (there : (j ≢ pass) × (get_elem? views j ≡ some u)).
-            let theirs = h.seats j u there.1 in
-            record {
-              sends = λ l n f y. let was = theirs.sends l n f y in (kept l j was.0, was.1, was.2);
-              takes = theirs.takes;
-              known = theirs.known;
-              rest = λ t l y. absurd (there.0 (theirs.takes t ∙ sym (seat.takes may)));
-            })
-            (at_set views pass j (dealing ls v) u old))
-            (λ (last : (j ≡ length vs) × (dealt ls ≡ u)).
-            subst (λ (y : ℕ × PassView). IsSeat owner' h.next h.ended h.taker h.taken y.0 y.1) (λ i. (sym last.0 i, last.1 i)) (record {
-              sends = λ l n f y.
-                  let r = sent_of-fresh l ls n f y in
-                  let was = seat.rest may l (new l r.0) in
-                  (cond-true (has_lane l ls) (Some (length vs)) (h.owner l) r.0, was.1 ∙ r.1, was.2 ∙ r.2);
-              takes = λ t. absurd (true≢false (sym t));
-              known = λ t l n y. absurd (true≢false (sym t));
-              rest = λ t l y. absurd (true≢false (sym t));
-            }))
-            (at_end vs (dealt ls) u j e);
-      }
+        sends = λ l n f y. let was = theirs.sends l n f y in (kept l j was.0, was.1, was.2);
+        takes = theirs.takes;
+        known = theirs.known;
+        rest = λ t l y. absurd (there.0 (theirs.takes t ∙ sym (seat.takes may)));
+      })
+      (at_set views pass j (dealing ls v) u old))
+      (λ (last : (j ≡ length vs) × (dealt ls ≡ u)).
+      subst (λ (y : ℕ × PassView). IsSeat owner' h.next h.ended h.taker h.taken y.0 y.1) (λ i. (sym last.0 i, last.1 i)) (record {
+        sends = λ l n f y.
+            let r = sent_of-fresh l ls n f y in
+            let was = seat.rest may l (new l r.0) in
+            (cond-true (has_lane l ls) (Some (length vs)) (h.owner l) r.0, was.1 ∙ r.1, was.2 ∙ r.2);
+        takes = λ t. absurd (true≢false (sym t));
+        known = λ t l n y. absurd (true≢false (sym t));
+        rest = λ t l y. absurd (true≢false (sym t));
+      }))
+      (at_end vs (dealt ls) u j e))
 
   -- a pass takes in the lanes of another
   pub merges : (pass : ℕ) (v : PassView) (other : ℕ) (u : PassView) → Merges (Keeps world) pass v other u (joined v u) spent
@@ -297,46 +303,38 @@ module _ (world : World) where
       ap moved o ∙ ap Some (cond-false (eqb j other) pass j (ne_eqb j other ne)) in
       let moves : (l : Lane) → h.owner l ≡ Some other → owner' l ≡ Some pass = λ l o.
       ap moved o ∙ ap Some (cond-true (eqb other other) pass other (eq-eqb other other refl)) in
+      reseated items views (set vs other spent) h owner'
+      (λ j w e.
+      ⊎_elim
+      (λ (gone : (j ≡ other) × (spent ≡ w)).
+      subst (λ (y : ℕ × PassView). IsSeat owner' h.next h.ended h.taker h.taken y.0 y.1) (λ i. (sym gone.0 i, gone.1 i)) (record {
+        sends = λ l n f y. absurd (none-some (n, f) y);
+        takes = λ t. absurd (true≢false (sym t));
+        known = λ t l n y. absurd (true≢false (sym t));
+        rest = λ t l y. absurd (true≢false (sym t));
+      }))
+      (λ (left : (j ≢ other) × (get_elem? vs j ≡ some w)).
+      ⊎_elim
+      (λ (here : (j ≡ pass) × (joined v u ≡ w)).
+      subst (λ (y : ℕ × PassView). IsSeat owner' h.next h.ended h.taker h.taken y.0 y.1) (λ i. (sym here.0 i, here.1 i)) (record {
+        sends = λ l n f y.
+            ⊎_elim (λ s. let r = mine.sends l n f s in (stays l pass (λ p. two (sym p)) r.0, r.1, r.2))
+            (λ s. let r = theirs.sends l n f s in (moves l r.0, r.1, r.2))
+            (sent_of-append l v.sends.send_counts u.sends.send_counts n f y);
+        takes = mine.takes;
+        known = mine.known;
+        rest = λ t l y. let r = mine.rest t l y in (ap moved r.0, r.1, r.2, r.3);
+      }))
+      (λ (there : (j ≢ pass) × (get_elem? views j ≡ some w)).
+      let r = h.seats j w there.1 in
       record {
-        owner = owner';
-        next = h.next;
-        ended = h.ended;
-        taker = h.taker;
-        taken = h.taken;
-        in_turn = h.in_turn;
-        queued = h.queued;
-        seats = λ j w e.
-            ⊎_elim
-            (λ (gone : (j ≡ other) × (spent ≡ w)).
-            subst (λ (y : ℕ × PassView). IsSeat owner' h.next h.ended h.taker h.taken y.0 y.1) (λ i. (sym gone.0 i, gone.1 i)) (record {
-              sends = λ l n f y. absurd (none-some (n, f) y);
-              takes = λ t. absurd (true≢false (sym t));
-              known = λ t l n y. absurd (true≢false (sym t));
-              rest = λ t l y. absurd (true≢false (sym t));
-            }))
-            (λ (left : (j ≢ other) × (get_elem? vs j ≡ some w)).
-            ⊎_elim
-            (λ (here : (j ≡ pass) × (joined v u ≡ w)).
-            subst (λ (y : ℕ × PassView). IsSeat owner' h.next h.ended h.taker h.taken y.0 y.1) (λ i. (sym here.0 i, here.1 i)) (record {
-              sends = λ l n f y.
-                  ⊎_elim (λ s. let r = mine.sends l n f s in (stays l pass (λ p. two (sym p)) r.0, r.1, r.2))
-                  (λ s. let r = theirs.sends l n f s in (moves l r.0, r.1, r.2))
-                  (sent_of-append l v.sends.send_counts u.sends.send_counts n f y);
-              takes = mine.takes;
-              known = mine.known;
-              rest = λ t l y. let r = mine.rest t l y in (ap moved r.0, r.1, r.2, r.3);
-            }))
-            (λ (there : (j ≢ pass) × (get_elem? views j ≡ some w)).
-            let r = h.seats j w there.1 in
-            record {
-              sends = λ l n f y. let s = r.sends l n f y in (stays l j left.0 s.0, s.1, s.2);
-              takes = r.takes;
-              known = r.known;
-              rest = λ t l y. let s = r.rest t l y in (ap moved s.0, s.1, s.2, s.3);
-            })
-            (at_set views pass j (joined v u) w left.1))
-            (at_set vs other j spent w e);
-      }
+        sends = λ l n f y. let s = r.sends l n f y in (stays l j left.0 s.0, s.1, s.2);
+        takes = r.takes;
+        known = r.known;
+        rest = λ t l y. let s = r.rest t l y in (ap moved s.0, s.1, s.2, s.3);
+      })
+      (at_set views pass j (joined v u) w left.1))
+      (at_set vs other j spent w e))
 
   fits_of : (next : Lane → ℕ) (ended : Lane → Bool) (items : List Envelope) → Each (IsQueued world next ended) items → Each (FitsWorld world) items
   fits_of next ended items q = Each-weaker (IsQueued world next ended) (FitsWorld world) (λ x r. r.fits) items q

@@ -1,8 +1,8 @@
 -- What a sender's next numbers are once it has sent a flag.
 use Rattle.std.specs.Global.{Vec}
-use Rattle.std.proofs.Common.{◌≡◌, ◌+◌, ◌<◌, ◌≤◌, ℕ, zero, suc, Bool, true, false, cond, List, [], ◌∷◌, ◌++◌, Some, map, length, get_or, set, refl, ap, sym, ◌∙◌, subst, ⊎_elim, arith}
+use Rattle.std.proofs.Common.{◌≡◌, ◌+◌, ◌<◌, ◌≤◌, ℕ, zero, suc, Bool, true, false, cond, List, [], ◌∷◌, ◌++◌, Some, map, length, get_or, refl, ap, sym, ◌∙◌, subst, ⊎_elim, arith}
 use Rattle.std.proofs.lemmas.Bool.{cond-true, cond-false, cases_Bool, cases_eq, false≢true}
-use Rattle.std.proofs.lemmas.List.{get_or-set_same, get_or-set_other, length-map}
+use Rattle.std.proofs.lemmas.List.{length-map}
 use Rattle.pl_event.specs.declared.envelopes.Envelope.{Envelope}
 use Rattle.pl_event.specs.declared.envelopes.Lane.{Lane}
 use Rattle.pl_event.specs.Hops.{flags_lane, same_lane}
@@ -69,20 +69,6 @@ next-hop c hops hop n s t l x e f is below at =
 pub record AreAtChannel {S : Type 0} (made : S → Type 0) (sends : S → SenderView) (hops channels channel number : ℕ) (senders : List S) : Type 0 where
   pub done : AllHaveNext made sends hops (number + 1) 0 channel senders
   pub rest : AllHaveNext made sends hops number channel channels senders
-
-pub next-channel : {S : Type 0} (made : S → Type 0) (sends : S → SenderView) (hops channels channel n : ℕ) (senders : List S) (x : S) → channel < length senders
-    → made x → HasNext channel 0 hops (n + 1) (sends x) → AreAtChannel made sends hops channels channel n senders → AreAtChannel made sends hops channels (channel + 1) n (set senders channel x)
-next-channel made sends hops channels channel n senders x there m next at = record {
-  done = λ i s low high e. ⊎_elim
-      (λ (same : i ≡ channel).
-      let is : s ≡ x = e ∙ ap (λ k. get_or (set senders channel x) k s) same ∙ get_or-set_same senders channel x s there in
-      (subst made (sym is) m, subst (λ k. HasNext k 0 hops (n + 1) (sends s)) (sym same) (subst (λ y. HasNext channel 0 hops (n + 1) (sends y)) (sym is) next)))
-      (λ (apart : i ≡ channel → ⊥). at.done i s low (omega (arith, high, apart)) (e ∙ get_or-set_other senders channel i x s apart))
-      (cases_eq i channel);
-  rest = λ i s low high e.
-      let apart : i ≡ channel → ⊥ = λ same. omega (arith, low, same) in
-      at.rest i s (omega (arith, low)) high (e ∙ get_or-set_other senders channel i x s apart);
-}
 
 -- senders as a mailbox is opened with them
 in-fresh : (l : Lane) (ls : List Lane) → has_lane l ls ≡ true → sent_of l (fresh_send_counts ls) ≡ Some (0, false)

@@ -1,5 +1,5 @@
 -- Each step of an admission keeps the rule.
-use Rattle.std.proofs.Common.{◌≡◌, ◌≢◌, ℕ, zero, suc, ◌+◌, ◌-◌, ◌*◌, ◌/◌, ◌%◌, ◌^◌, ◌<◌, ◌≤◌, ◌⊎◌, ◌==◌, eq-eqb, ne_eqb, true, false, List, get_or, set, sym, refl, ap, ◌∙◌, subst, inl, inr, ⊎_elim, arith, length-set, get_or-set_same}
+use Rattle.std.proofs.Common.{◌≡◌, ◌≢◌, ℕ, zero, suc, ◌+◌, ◌-◌, ◌*◌, ◌/◌, ◌%◌, ◌^◌, ◌<◌, ◌≤◌, ◌⊎◌, ◌==◌, eq-eqb, ne_eqb, true, false, List, [], ◌∷◌, ◌++◌, get_or, set, sym, refl, ap, ◌∙◌, subst, inl, inr, ⊎_elim, arith, length-set, get_or-set_same}
 use mathlib.Core.Option.{none, some}
 use lib.ListN.{get_elem?}
 use lib.Bits.{bit_or}
@@ -90,6 +90,19 @@ word-small senders words notes r =
     let small = rank-small r.phase in
     omega arith
 
+-- a seat's own count is in the word
+word-least : {senders : ℕ} {words : List ℕ} {notes : List AdmissionNotes} (r : IsAdmission senders words notes) (by : ℕ) (v : AdmissionNotes) → get_elem? notes by ≡ some v → 4 * counted v ≤ get_or words 0 0
+word-least {notes = notes} r by v at =
+    let least = total_least counted notes by v at in
+    let word = r.word in
+    omega arith
+
+-- no seat has seen a later phase than the word has
+seen-found : {senders : ℕ} {words : List ℕ} {notes : List AdmissionNotes} (r : IsAdmission senders words notes) (by : ℕ) (v : AdmissionNotes) → get_elem? notes by ≡ some v → rank v.seen ≤ rank (phase_in (get_or words 0 0))
+seen-found r by v at =
+    let seen = (r.each by v at).seen in
+    omega (arith, ap rank (finds r))
+
 -- the seat `by` makes a step, from the notes v to the notes w
 moves : (senders : ℕ) (words : List ℕ) (notes : List AdmissionNotes) (r : IsAdmission senders words notes) (by : ℕ) (v w : AdmissionNotes) (x : ℕ) (phase : Status) (run : ℕ)
     → get_elem? notes by ≡ some v
@@ -135,10 +148,9 @@ looks senders slots id me s r _ at _ =
     let f = r.each id v at in
     let p : phase_in n ≡ r.phase = finds r in
     let pr : rank (phase_in n) ≡ rank r.phase = ap rank p in
-    let seen = f.seen in
     let w : AdmissionNotes = record v { seen = phase_in n; steps = v.steps + 1 } in
     let fits : IsSeat r.owner r.phase r.run id w = record { owns = f.owns; counts = f.counts; made = f.made; trial = f.trial; seen = omega arith; late = λ h. p ∙ saw_closed r.phase f (f.late h) } in
-    (w, keeps, tt, stays senders s.words s.views r id v w n at refl fits refl (inl refl), (refl, omega arith))
+    (w, keeps, tt, stays senders s.words s.views r id v w n at refl fits refl (inl refl), (refl, seen-found r id v at))
 
 -- an addition that did not find the word closed
 admits : (senders : ℕ) (s : State (Unit {0}) AdmissionNotes) (r : Rule senders s) (id : ℕ) (v : AdmissionNotes) → get_elem? s.views id ≡ some v → v.seats ≡ 1 → v.made < 35184372088831
@@ -175,11 +187,8 @@ pub tries : (senders slots id : ℕ) (me : Sits) → me.0.trial ≡ 0 → me.0.s
 tries senders slots id me idle one few s r _ at _ =
     let v : AdmissionNotes = me.0 in
     let n : ℕ = get_or s.words 0 0 in
-    let f = r.each id v at in
     let p : phase_in n ≡ r.phase = finds r in
-    let pr : rank (phase_in n) ≡ rank r.phase = ap rank p in
-    let seen = f.seen in
-    (tried v (phase_in n), keeps, tt, tries_at senders s r id v at idle one few (phase_in n) (sym p), (refl, omega arith))
+    (tried v (phase_in n), keeps, tt, tries_at senders s r id v at idle one few (phase_in n) (sym p), (refl, seen-found r id v at))
 
 -- a trial is taken back
 pub takes_back : (senders slots id : ℕ) (me : Sits) → me.0.trial ≡ 1
@@ -189,8 +198,7 @@ takes_back senders slots id me one s r _ at small =
     let n : ℕ = get_or s.words 0 0 in
     let f = r.each id v at in
     let w : AdmissionNotes = record v { trial = 0; steps = v.steps + 1 } in
-    let least = total_least counted s.views id v at in
-    let word = r.word in
+    let least = word-least r id v at in
     let fits : IsSeat r.owner r.phase r.run id w = record { owns = f.owns; counts = f.counts; made = f.made; trial = omega arith; seen = f.seen; late = λ h. f.late (omega arith) } in
     (w, keeps, tt, stays senders s.words s.views r id v w ((n + 18446744073709551612) % 18446744073709551616) at refl fits (omega arith) (inl refl), refl)
 
@@ -202,8 +210,7 @@ gives_back senders s r id v at some_kept small p is not_closed =
     let n : ℕ = get_or s.words 0 0 in
     let f = r.each id v at in
     let w : AdmissionNotes = record v { kept = v.kept - 1; seen = p; steps = v.steps + 1 } in
-    let least = total_least counted s.views id v at in
-    let word = r.word in
+    let least = word-least r id v at in
     let counts = f.counts in
     let unclosed : r.phase ≢ Closed = λ c. not_closed (sym is ∙ c) in
     let none_yet = none_late r.phase f unclosed in
@@ -220,8 +227,7 @@ gives_up_at senders s r id v at some_kept small Closed is =
     let n : ℕ = get_or s.words 0 0 in
     let f = r.each id v at in
     let w : AdmissionNotes = given_up v Closed in
-    let least = total_least counted s.views id v at in
-    let word = r.word in
+    let least = word-least r id v at in
     let counts = f.counts in
     let rk : rank r.phase ≡ 3 = ap rank is in
     let fits : IsSeat r.owner r.phase r.run id w = record { owns = f.owns; counts = omega arith; made = f.made; trial = f.trial; seen = omega arith; late = λ h. refl } in
@@ -232,11 +238,8 @@ pub gives_up : (senders slots id : ℕ) (me : Sits) → 0 < me.0.kept
 gives_up senders slots id me some_kept s r _ at small =
     let v : AdmissionNotes = me.0 in
     let n : ℕ = get_or s.words 0 0 in
-    let f = r.each id v at in
     let p : phase_in n ≡ r.phase = finds r in
-    let pr : rank (phase_in n) ≡ rank r.phase = ap rank p in
-    let seen = f.seen in
-    (given_up v (phase_in n), keeps, tt, gives_up_at senders s r id v at some_kept small (phase_in n) (sym p), (refl, omega arith))
+    (given_up v (phase_in n), keeps, tt, gives_up_at senders s r id v at some_kept small (phase_in n) (sym p), (refl, seen-found r id v at))
 
 -- The owner
 
@@ -329,6 +332,25 @@ finishes senders slots id asked me owns s r _ at _ =
 
 -- Dealing and gathering
 
+-- the same word, where the seats count as much as before
+seated : (senders : ℕ) (words : List ℕ) (notes notes' : List AdmissionNotes) (r : IsAdmission senders words notes)
+    → total seats_of notes' ≡ total seats_of notes
+    → total counted notes' ≡ total counted notes
+    → total given notes' ≡ total given notes
+    → ((at : ℕ) (u : AdmissionNotes) → get_elem? notes' at ≡ some u → IsSeat r.owner r.phase r.run at u)
+    → IsAdmission senders words notes'
+seated senders words notes notes' r seats' counted' given' each = record {
+  owner = r.owner;
+  phase = r.phase;
+  run = r.run;
+  few = r.few;
+  one = r.one;
+  seats = seats' ∙ r.seats;
+  word = r.word ∙ ap (λ (n : ℕ). 4 * n + rank r.phase) (sym counted');
+  each = each;
+  closed = λ c. given' ∙ r.closed c;
+}
+
 -- the owner deals a sender's seat
 pub deals : (senders id seats : ℕ) (v : AdmissionNotes) → v ≡ owner_notes seats Accepting 0 0 0 → 0 < seats → Splits (Rule senders) id v (dealt v) sender_notes
 deals senders id seats v is some_left s r at =
@@ -341,21 +363,9 @@ deals senders id seats v is some_left s r at =
     let counted' = total_set_snoc counted s.views id v left sender_notes at in
     let given' = total_set_snoc given s.views id v left sender_notes at in
     let seats' = total_set_snoc seats_of s.views id v left sender_notes at in
-    let word = r.word in
-    let all = r.seats in
-    record {
-      owner = r.owner;
-      phase = r.phase;
-      run = r.run;
-      few = r.few;
-      one = r.one;
-      seats = omega arith;
-      word = omega arith;
-      each = λ j u e. ⊎_elim
-          (λ there. ⊎_elim (λ t. same_seat t.0 t.1 fits) (λ t. r.each j u t.1) (at_set s.views id j left u there))
-          (λ new. subst (λ (z : AdmissionNotes). IsSeat r.owner r.phase r.run j z) new (fresh r.owner r.run j 1 r.phase)) (at_snoc (set s.views id left) sender_notes u j e);
-      closed = λ c. let z = r.closed c in omega arith;
-    }
+    seated senders s.words s.views (set s.views id left ++ sender_notes ∷ []) r (omega arith) (omega arith) (omega arith)
+    (λ j u e. ⊎_elim (λ there. ⊎_elim (λ t. same_seat t.0 t.1 fits) (λ t. r.each j u t.1) (at_set s.views id j left u there))
+    (λ new. subst (λ (z : AdmissionNotes). IsSeat r.owner r.phase r.run j z) new (fresh r.owner r.run j 1 r.phase)) (at_snoc (set s.views id left) sender_notes u j e))
 
 either_some : (a b : ℕ) → 0 < a + b → (0 < a) ⊎ (0 < b)
 either_some zero b h = inr (omega arith)
@@ -387,21 +397,9 @@ gathers senders id other v w owns s r at away there =
     let counted' = total_set_both counted s.views id other v both w spent_notes at there in
     let given' = total_set_both given s.views id other v both w spent_notes at there in
     let seats' = total_set_both seats_of s.views id other v both w spent_notes at there in
-    let word = r.word in
-    let all = r.seats in
-    record {
-      owner = r.owner;
-      phase = r.phase;
-      run = r.run;
-      few = r.few;
-      one = r.one;
-      seats = omega arith;
-      word = omega arith;
-      each = λ j u e. ⊎_elim (λ t. same_seat t.0 t.1 (fresh r.owner r.run other 0 r.phase))
-          (λ t. ⊎_elim (λ q. same_seat q.0 q.1 fits) (λ q. r.each j u q.1) (at_set s.views id j both u t.1))
-          (at_set (set s.views id both) other j spent_notes u e);
-      closed = λ c. let z = r.closed c in omega arith;
-    }
+    seated senders s.words s.views (set (set s.views id both) other spent_notes) r (omega arith) (omega arith) (omega arith)
+    (λ j u e. ⊎_elim (λ t. same_seat t.0 t.1 (fresh r.owner r.run other 0 r.phase))
+    (λ t. ⊎_elim (λ q. same_seat q.0 q.1 fits) (λ q. r.each j u q.1) (at_set s.views id j both u t.1)) (at_set (set s.views id both) other j spent_notes u e))
 
 -- once the owner stands for every seat, the count of the word is its own
 pub ends : (senders id : ℕ) (v : AdmissionNotes) (words : List ℕ) (slots : List (Unit {0})) → Final (Seen (Rule senders) id v) words slots → v.seats ≡ senders → v.owns ≡ true → v.trial ≡ 0

@@ -121,14 +121,19 @@ moves size words notes r by v w i x outcomes here same fits long grows is settle
   by_seats = settled;
 }
 
+-- a seat has seen something of each promise
+seen_inside : {size : RowSize} {words : List ℕ} {notes : List PromiseNotes} (r : IsRow size words notes) (by i : ℕ) (v : PromiseNotes) → get_elem? notes by ≡ some v → i < size.limit → i < length v.seen
+seen_inside r by i v here within =
+    let long = (r.each by v here).seen.0 in
+    let row = r.row in
+    omega arith
+
 -- a seat sees what stands of promise i
 sees : (size : RowSize) (words : List ℕ) (notes : List PromiseNotes) (r : IsRow size words notes) (by : ℕ) (v : PromiseNotes) (i x : ℕ) → get_elem? notes by ≡ some v
     → i < size.limit → x ≡ get_or words i 0 → IsRow size (set words i x) (set notes by (saw v i (at r.outcomes i)))
 sees size words notes r by v i x here within same =
     let f = r.each by v here in
-    let row = r.row in
-    let long = f.seen.0 in
-    let inside : i < length v.seen = omega arith in
+    let inside = seen_inside r by i v here within in
     let w : PromiseNotes = saw v i (at r.outcomes i) in
     let fits : IsSeat size.settlers r.outcomes w = record {
       settlers_are = f.settlers_are;
@@ -150,9 +155,7 @@ peeks size slots id i me within s r _ here _ =
     let n : ℕ = get_or s.words i 0 in
     let stands : outcome_in n ≡ at r.outcomes i = finds r i in
     let f = r.each id v here in
-    let long = f.seen.0 in
-    let row = r.row in
-    let inside : i < length v.seen = omega arith in (
+    let inside = seen_inside r id i v here within in (
       saw v i (outcome_in n),
       keeps,
       tt,
@@ -231,9 +234,7 @@ settles size slots id i o me within right s r _ here _ =
     let n : ℕ = get_or s.words i 0 in
     let stands : outcome_in n ≡ at r.outcomes i = finds r i in
     let f = r.each id v here in
-    let long = f.seen.0 in
-    let row = r.row in
-    let inside : i < length v.seen = omega arith in
+    let inside = seen_inside r id i v here within in
     let asked : Option Outcome = outcome_in (code o) in
     let is : Some o ≡ asked = sym (outcome_of_code o) in
     let again : (p : Outcome) → at v.seen i ≡ Some p → outcome_in n ≡ Some p = λ p e. stands ∙ f.seen.1 i p e in

@@ -75,11 +75,11 @@ deals id v is s r at =
       head = r.head;
       sets = r.sets;
       flag = r.flag;
-      one = r.one;
-      word = r.word;
       each = λ j u e. ⊎_elim
           (λ there. ⊎_elim (λ t. subst (λ (z : ℕ × WatermarkNotes). IsSeat r.head r.sets r.flag z.0 z.1) (λ i. (sym t.0 i, t.1 i)) f) (λ t. r.each j u t.1) (at_set s.views id j v u there))
           (λ new. subst (λ (z : WatermarkNotes). IsSeat r.head r.sets r.flag j z) new (record { heads = λ h. absurd (no_head h); version = omega arith; same = λ _. writable })) (at_snoc (set s.views id v) reader_notes u j e);
+      one = r.one;
+      word = r.word;
     }
   where
     no_head : false ≡ true → ⊥

@@ -21,10 +21,8 @@ phase_in word = phase_of_bits (word % 4)
 -- the phase once closing has begun
 abbrev pub begun : Status → Status
 begun Accepting = Closing
-begun Closing = Closing
-begun Closed = Closed
+begun phase = phase
 
 abbrev pub is_closing : Status → Bool
-is_closing Accepting = false
 is_closing Closing = true
-is_closing Closed = false
+is_closing phase = false
