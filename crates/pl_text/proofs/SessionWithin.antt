@@ -18,7 +18,7 @@ use Rattle.pl_build.specs.Refusals.{unless, grouping_fault, is_within, has_doubl
 use Rattle.pl_build.specs.Executors.{groups_of}
 use Rattle.pl_world.specs.Plans.{Plan, ChannelPlan}
 use Rattle.pl_world.proofs.SmallLanes.{lanes_small}
-use Rattle.pl_text.specs.declared.session_text.fault.SessionFault.TheVariants.{NotJson, Limit}
+use Rattle.pl_text.specs.declared.faults.SessionFault.TheVariants.{NotJson, Limit}
 use Rattle.pl_text.specs.declared.session_text.outline.ChannelOutline.{ChannelOutline}
 use Rattle.pl_text.specs.declared.session_text.outline.Outline.{Outline}
 use Rattle.pl_text.specs.SessionReading.{◌>>=◌, known, built}

@@ -3,8 +3,8 @@ use Rattle.std.specs.Prelude.{◌≡◌, ℕ, ◌≤◌, ◌<◌, ◌==◌, List
 use Rattle.std.specs.List.{slice_split, flat_map, AllByRecursion}
 use Rattle.pl_world.specs.declared.moves.Move.{Move}
 use Rattle.pl_world.specs.declared.moves.Move.TheVariants.{Read, Task, Hand, Out}
-use Rattle.pl_text.specs.declared.moves_text.fault.MovesFault.{MovesFault}
-use Rattle.pl_text.specs.declared.moves_text.fault.MovesFault.TheVariants as fault
+use Rattle.pl_text.specs.declared.faults.MovesFault.{MovesFault}
+use Rattle.pl_text.specs.declared.faults.MovesFault.TheVariants as fault
 use Rattle.pl_text.specs.declared.moves_text.words.Word.{Word}
 use Rattle.pl_text.specs.declared.moves_text.words.TheConstants.{MAX_NUMBER, MAX_COUNT}
 use Rattle.pl_text.specs.declared.moves_text.TheConstants.{MAX_MOVES}

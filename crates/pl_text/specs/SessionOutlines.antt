@@ -7,8 +7,8 @@ use Rattle.pl_world.specs.declared.limits.TheConstants.{MAX_CAPACITY, MAX_CHANNE
 use Rattle.pl_world.specs.Limits.{fits, aborts_within}
 use Rattle.pl_stages.specs.declared.limits.TheConstants.{MAX_LINE, MAX_FLUSHES}
 use Rattle.pl_text.specs.declared.session_text.limits.TheConstants.{MAX_GROUP_SIZE, MAX_WINDOW, MAX_FAIL_AT}
-use Rattle.pl_text.specs.declared.session_text.fault.SessionFault.{SessionFault}
-use Rattle.pl_text.specs.declared.session_text.fault.SessionFault.TheVariants.{Version}
+use Rattle.pl_text.specs.declared.faults.SessionFault.{SessionFault}
+use Rattle.pl_text.specs.declared.faults.SessionFault.TheVariants.{Version}
 use Rattle.pl_text.specs.declared.session_text.outline.HandlerKind.{HandlerKind}
 use Rattle.pl_text.specs.declared.session_text.outline.HandlerKind.TheVariants.{Lines, Decode, LineEnd, Encode, Service, FlushEvery}
 use Rattle.pl_text.specs.declared.session_text.outline.Edit.{Edit}

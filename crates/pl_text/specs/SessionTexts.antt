@@ -3,8 +3,8 @@ use Rattle.std.specs.Prelude.{ℕ, List, length, nat_lt, if◌then◌else◌, Re
 use Rattle.serde_json.specs.Data.{Data}
 use Rattle.serde_json.specs.Read.{read}
 use Rattle.pl_text.specs.declared.session_text.limits.TheConstants.{MAX_SESSION_TEXT}
-use Rattle.pl_text.specs.declared.session_text.fault.SessionFault.{SessionFault}
-use Rattle.pl_text.specs.declared.session_text.fault.SessionFault.TheVariants.{NotJson, Limit}
+use Rattle.pl_text.specs.declared.faults.SessionFault.{SessionFault}
+use Rattle.pl_text.specs.declared.faults.SessionFault.TheVariants.{NotJson, Limit}
 use Rattle.pl_world.specs.Plans.{Plan}
 use Rattle.pl_text.specs.SessionReading.{◌>>=◌, known, built}
 use Rattle.pl_text.specs.SessionOutlines.{outline_in}

@@ -2,15 +2,14 @@
 
 ghost use Rattle.std.specs.Prelude.{◌≡◌, ◌<◌, ◌⊎◌, List, IfOk, IfErr};
 ghost use Rattle.pl_text.specs.declared.moves_text.words.Word.{Word};
-ghost use Rattle.pl_text.specs.declared.moves_text.fault.MovesFault.TheVariants as fault;
+ghost use Rattle.pl_text.specs.declared.faults.MovesFault.TheVariants as fault;
 ghost use Rattle.pl_text.specs.MovesTexts.{MeansMoves, Says, total, moves_of_words};
 
 mod copies;
-mod fault;
 mod words;
 
+use crate::faults::MovesFault;
 use copies::{left_of, moves_of_words};
-pub use fault::MovesFault;
 use pl_world::Move;
 use std::alloc::Global;
 use words::{Word, read_word};

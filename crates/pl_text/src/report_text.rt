@@ -2,15 +2,14 @@
 
 ghost use Rattle.std.specs.Prelude.{◌≡◌, Err, IfOk, OnOk, string_bytes};
 ghost use Rattle.std.specs.Io.KnownBytes.{Appends, Keeps};
-ghost use Rattle.pl_text.specs.declared.report_text.fault.PrintFault.TheVariants as fault;
+ghost use Rattle.pl_text.specs.declared.faults.PrintFault.TheVariants as fault;
 ghost use Rattle.pl_text.specs.ReportTexts.{report_text};
 
 mod channels;
 mod events;
-mod fault;
 
+use crate::faults::PrintFault;
 use channels::add_channel;
-pub use fault::PrintFault;
 use pl_world::Report;
 use std::alloc::{AllocError, Global};
 use std::io::Write;

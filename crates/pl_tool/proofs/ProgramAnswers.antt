@@ -1,6 +1,6 @@
 -- What no line is answered with: the whole report has only drained channels, and a line that is not read has one status.
 use Rattle.std.proofs.Common.{◌≡◌, ◌∙◌, ℕ, List, [], ◌∷◌, true, false, map, Option, Some, refl, sym, ap, subst}
-use Rattle.std.specs.Prelude.{◌≢◌, None, unwrap_or, Bool}
+use Rattle.std.specs.Prelude.{◌≢◌, None, unwrap_or}
 use Rattle.std.specs.List.{list_all}
 use Rattle.pl_world.specs.Plans.{ChannelPlan}
 use Rattle.pl_world.specs.Reports.{whole_report}
@@ -47,8 +47,3 @@ unread_status Output requested unread left none cause = absurd (not_given cause.
 
 pub unread_is_usage : (failure : Failure) (requested : Option RequestView) (unread left before after : Option (List ℕ)) → Explains failure requested unread left before after → requested ≡ None → status_of failure ≡ 2
 unread_is_usage failure requested unread left before after explained none = unread_status failure requested unread left none explained.0
-
--- nothing is printed for it
-pub unread_prints_nothing : (drained : Bool) (requested : Option RequestView) (unread left before after : Option (List ℕ)) → HasPrinted drained requested unread left before after → requested ≢ None
-unread_prints_nothing drained requested unread left before after printed =
-    not_given printed.is_reported.request requested printed.is_reported.given

@@ -6,9 +6,9 @@ use Rattle.std.specs.Result.{IsErrAnd}
 use Rattle.std.specs.Str.{IsUtf8, is_utf8}
 use Rattle.std.proofs.lemmas.Bool.Decides.{nat_tests}
 use Rattle.std.proofs.lemmas.Str.{IsUtf8-from_is_utf8, is_utf8-from_IsUtf8}
-use Rattle.pl_text.specs.declared.session_text.fault.SessionFault.{SessionFault}
-use Rattle.pl_text.specs.declared.session_text.fault.SessionFault.TheVariants.{NotJson, Version, Missing, Kind, Limit, Build}
-use Rattle.pl_text.specs.declared.session_text.fault.SessionFault.TheVariants as session
+use Rattle.pl_text.specs.declared.faults.SessionFault.{SessionFault}
+use Rattle.pl_text.specs.declared.faults.SessionFault.TheVariants.{NotJson, Version, Missing, Kind, Limit, Build}
+use Rattle.pl_text.specs.declared.faults.SessionFault.TheVariants as session
 use Rattle.pl_text.specs.declared.session_text.limits.TheConstants.{MAX_SESSION_TEXT}
 use Rattle.pl_world.specs.Plans.{Plan}
 use Rattle.pl_tool.specs.declared.program.failure.Failure.{Failure}

@@ -2,19 +2,19 @@
 use Rattle.std.specs.Prelude.{ℕ, List, [], ◌∷◌, ◌++◌, codes, Option, Some, None}
 use Rattle.std.specs.declared.io.ErrorKind.{ErrorKind}
 use Rattle.std.specs.declared.io.ErrorKind.TheVariants.{Interrupted, OutOfMemory}
-use Rattle.pl_text.specs.declared.moves_text.fault.MovesFault.{MovesFault}
-use Rattle.pl_text.specs.declared.moves_text.fault.MovesFault.TheVariants as moves
+use Rattle.pl_text.specs.declared.faults.MovesFault.{MovesFault}
+use Rattle.pl_text.specs.declared.faults.MovesFault.TheVariants as moves
 use Rattle.pl_build.specs.declared.faults.BuildFault.{BuildFault}
 use Rattle.pl_build.specs.declared.faults.BuildFault.TheVariants as build
 use Rattle.pl_build.specs.Refusals.{build_fault_text}
-use Rattle.pl_text.specs.declared.session_text.fault.SessionFault.{SessionFault}
-use Rattle.pl_text.specs.declared.session_text.fault.SessionFault.TheVariants as session
+use Rattle.pl_text.specs.declared.faults.SessionFault.{SessionFault}
+use Rattle.pl_text.specs.declared.faults.SessionFault.TheVariants as session
 use Rattle.pl_world.specs.declared.faults.ReplayFault.{ReplayFault}
 use Rattle.pl_world.specs.declared.faults.ReplayFault.TheVariants as replay
 use Rattle.pl_executor.specs.declared.threads.RunFault.{RunFault}
 use Rattle.pl_executor.specs.declared.threads.RunFault.TheVariants as run
-use Rattle.pl_text.specs.declared.report_text.fault.PrintFault.{PrintFault}
-use Rattle.pl_text.specs.declared.report_text.fault.PrintFault.TheVariants as print
+use Rattle.pl_text.specs.declared.faults.PrintFault.{PrintFault}
+use Rattle.pl_text.specs.declared.faults.PrintFault.TheVariants as print
 use Rattle.pl_tool.specs.declared.program.failure.Failure.{Failure}
 use Rattle.pl_tool.specs.declared.program.failure.Failure.TheVariants.{Usage, Moves, Replay, Input, Session, Run, Memory, Output}
 

@@ -5,10 +5,10 @@ use Rattle.std.specs.Str.{is_utf8}
 use Rattle.std.specs.Io.KnownBytes.{Appends, Consumes, IsAtEnd, Keeps}
 use Rattle.pl_world.specs.declared.moves.Move.{Move}
 use Rattle.pl_world.specs.declared.report.Report.{Report}
-use Rattle.pl_text.specs.declared.session_text.fault.SessionFault.{SessionFault}
-use Rattle.pl_text.specs.declared.session_text.fault.SessionFault.TheVariants.{Limit, NotJson}
-use Rattle.pl_text.specs.declared.session_text.fault.SessionFault.TheVariants as session
-use Rattle.pl_text.specs.declared.moves_text.fault.MovesFault.{MovesFault}
+use Rattle.pl_text.specs.declared.faults.SessionFault.{SessionFault}
+use Rattle.pl_text.specs.declared.faults.SessionFault.TheVariants.{Limit, NotJson}
+use Rattle.pl_text.specs.declared.faults.SessionFault.TheVariants as session
+use Rattle.pl_text.specs.declared.faults.MovesFault.{MovesFault}
 use Rattle.pl_world.specs.declared.faults.ReplayFault.TheVariants as replay
 use Rattle.pl_text.specs.declared.session_text.limits.TheConstants.{MAX_SESSION_TEXT}
 use Rattle.pl_executor.specs.declared.threads.RunFault.TheVariants as run

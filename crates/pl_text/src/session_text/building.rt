@@ -1,11 +1,11 @@
 //! Builds the pipelines of a session whose members were read.
 
-ghost use Rattle.std.specs.Prelude.{◌≡◌, ◌≢◌, ◌∷◌, [], ◌++◌, length, map, All, IfOk, IfErr, OnOk, None, Some, is_some, Ok, Err, if◌then◌else◌};
+ghost use Rattle.std.specs.Prelude.{◌≡◌, ◌≢◌, [], map, All, IfOk, IfErr, OnOk, None, Some, is_some, Ok, Err, if◌then◌else◌};
 ghost use Rattle.std.specs.List.{AllByRecursion};
 ghost use Rattle.std.specs.Option.{option_copied};
 ghost use Rattle.pl_build.specs.Names.{names_and_sizes};
 ghost use Rattle.pl_build.specs.Pipelines.{index_of, without};
-ghost use Rattle.pl_build.specs.Refusals.{naming_fault, beside_fault, grouping_fault, executor_count};
+ghost use Rattle.pl_build.specs.Refusals.{grouping_fault, executor_count};
 ghost use Rattle.pl_build.specs.Executors.{HasPlaced, sizes_of};
 ghost use Rattle.pl_build.specs.declared.faults.BuildFault.TheVariants.{NoSuchName, Memory};
 ghost use Rattle.pl_world.specs.Plans.{channel_planned};
@@ -14,7 +14,7 @@ ghost use Rattle.pl_world.specs.Worlds.{FitsWorld, IsUncalled};
 ghost use Rattle.pl_text.specs.SessionReading.{seen};
 ghost use Rattle.pl_text.specs.SessionHandlers.{meaning_of};
 ghost use Rattle.pl_text.specs.SessionOutlines.{IsHandlerWithin, IsEditWithin, IsChannelOutlineWithin, IsOutlineWithin};
-ghost use Rattle.pl_text.specs.SessionBuilding.{Builds, IsChannelBuilt, added, all_edited, channels_built, edited, group_sizes, made_unless, meant, pipeline_built, put_after, put_before, session_built};
+ghost use Rattle.pl_text.specs.SessionBuilding.{Builds, IsChannelBuilt, all_edited, channels_built, edited, group_sizes, meant, pipeline_built, session_built};
 
 use crate::session_text::names::Name;
 use crate::session_text::outline::{
@@ -112,23 +112,14 @@ fn channel_built(
     ensures refused { IfErr result (λ e. e ≢ Memory → pipeline_built (sizes_of groups.old) channel ≡ Err e) }
     ensures same_groups { (groups.new.loops ≡ groups.old.loops) × (sizes_of groups.new ≡ sizes_of groups.old) }
 {
-    let ChannelOutline {
-        edits,
-        low,
-        high,
-        window,
-        fail_at,
-        bursts,
-        abort_after,
-    } = channel;
-    let mut builder = all_edited(alloc, edits.as_slice())?;
-    builder.marks(low, high)?;
+    let mut builder = all_edited(alloc, channel.edits.as_slice())?;
+    builder.marks(channel.low, channel.high)?;
     match builder.build(groups) {
         Ok(pipeline) => {
-            let transport = MemoryTransport::new(alloc, window, fail_at);
+            let transport = MemoryTransport::new(alloc, channel.window, channel.fail_at);
             let input = ReadPlan {
-                bursts,
-                abort_after,
+                bursts: channel.bursts,
+                abort_after: channel.abort_after,
             };
             Ok(Recorded::new(pipeline, input, transport))
         }
@@ -162,80 +153,28 @@ fn make_edit(
         (edited (meant ⟦<Handler as Stage>⟧.meaning builder.old.handlers) edit.now) }
 {
     match edit {
-        Edit::First(addition) => add_first(alloc, builder, addition),
-        Edit::Last(addition) => add_last(alloc, builder, addition),
-        Edit::Before(at, addition) => add_before(alloc, builder, at, addition),
-        Edit::After(at, addition) => add_after(alloc, builder, at, addition),
+        Edit::First(addition) => {
+            let stage = stage_of(alloc, addition.handler);
+            builder.add_first(addition.name.as_str(), group_of(addition), stage)?;
+            Ok(())
+        }
+        Edit::Last(addition) => {
+            let stage = stage_of(alloc, addition.handler);
+            builder.add_last(addition.name.as_str(), group_of(addition), stage)?;
+            Ok(())
+        }
+        Edit::Before(at, addition) => {
+            let (name, stage) = (addition.name.as_str(), stage_of(alloc, addition.handler));
+            builder.add_before(at.as_str(), name, group_of(addition), stage)?;
+            Ok(())
+        }
+        Edit::After(at, addition) => {
+            let (name, stage) = (addition.name.as_str(), stage_of(alloc, addition.handler));
+            builder.add_after(at.as_str(), name, group_of(addition), stage)?;
+            Ok(())
+        }
         Edit::Remove(name) => remove(builder, name),
     }
-}
-
-/// Adds a handler before all others.
-fn add_first(
-    alloc: Global,
-    builder: &mut PipelineBuilder<Handler>,
-    addition: &Addition,
-) -> Result<(), BuildFault>
-    requires { IsHandlerWithin addition.now.handler }
-    ensures { Builds (seen (λ _. meant ⟦<Handler as Stage>⟧.meaning builder.new.handlers) result)
-        (made_unless (naming_fault addition.now.name (meant ⟦<Handler as Stage>⟧.meaning builder.old.handlers))
-        (added addition.now ∷ meant ⟦<Handler as Stage>⟧.meaning builder.old.handlers)) }
-{
-    let stage = stage_of(alloc, addition.handler);
-    builder.add_first(addition.name.as_str(), group_of(addition), stage)?;
-    Ok(())
-}
-
-/// Adds a handler after all others.
-fn add_last(
-    alloc: Global,
-    builder: &mut PipelineBuilder<Handler>,
-    addition: &Addition,
-) -> Result<(), BuildFault>
-    requires { IsHandlerWithin addition.now.handler }
-    ensures { Builds (seen (λ _. meant ⟦<Handler as Stage>⟧.meaning builder.new.handlers) result)
-        (made_unless (naming_fault addition.now.name (meant ⟦<Handler as Stage>⟧.meaning builder.old.handlers))
-        (meant ⟦<Handler as Stage>⟧.meaning builder.old.handlers ++ added addition.now ∷ [])) }
-{
-    let stage = stage_of(alloc, addition.handler);
-    builder.add_last(addition.name.as_str(), group_of(addition), stage)?;
-    Ok(())
-}
-
-/// Adds a handler just before the one of the name `at`.
-fn add_before(
-    alloc: Global,
-    builder: &mut PipelineBuilder<Handler>,
-    at: &Name,
-    addition: &Addition,
-) -> Result<(), BuildFault>
-    requires { IsHandlerWithin addition.now.handler }
-    ensures { Builds (seen (λ _. meant ⟦<Handler as Stage>⟧.meaning builder.new.handlers) result)
-        (made_unless (beside_fault at.now addition.now.name (meant ⟦<Handler as Stage>⟧.meaning builder.old.handlers))
-        (put_before at.now (added addition.now) (meant ⟦<Handler as Stage>⟧.meaning builder.old.handlers))) }
-{
-    let stage = stage_of(alloc, addition.handler);
-    let name = addition.name.as_str();
-    builder.add_before(at.as_str(), name, group_of(addition), stage)?;
-    Ok(())
-}
-
-/// Adds a handler just after the one of the name `at`.
-fn add_after(
-    alloc: Global,
-    builder: &mut PipelineBuilder<Handler>,
-    at: &Name,
-    addition: &Addition,
-) -> Result<(), BuildFault>
-    requires { IsHandlerWithin addition.now.handler }
-    ensures { Builds (seen (λ _. meant ⟦<Handler as Stage>⟧.meaning builder.new.handlers) result)
-        (made_unless (beside_fault at.now addition.now.name (meant ⟦<Handler as Stage>⟧.meaning builder.old.handlers))
-        (put_after at.now (added addition.now) (meant ⟦<Handler as Stage>⟧.meaning builder.old.handlers))) }
-{
-    let stage = stage_of(alloc, addition.handler);
-    let name = addition.name.as_str();
-    builder.add_after(at.as_str(), name, group_of(addition), stage)?;
-    Ok(())
 }
 
 /// Takes the handler of this name out.

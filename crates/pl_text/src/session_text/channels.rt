@@ -6,7 +6,7 @@ ghost use Rattle.pl_world.specs.declared.limits.TheConstants.{MAX_BURSTS};
 ghost use Rattle.pl_text.specs.SessionReading.{Answers};
 ghost use Rattle.pl_text.specs.SessionChannels.{mark_in, window_in, fail_at_in, bursts_in, abort_after_in, channel_in};
 
-use crate::session_text::fault::SessionFault;
+use crate::faults::SessionFault;
 use crate::session_text::limits::{DEFAULT_WINDOW, MAX_EDITS, MAX_FAIL_AT, MAX_WINDOW};
 use crate::session_text::outline::ChannelOutline;
 use crate::session_text::values::{FromData, an_object, array_in, present, required, whole_in};

@@ -5,7 +5,7 @@ ghost use Rattle.serde_json.specs.View.{view};
 ghost use Rattle.pl_text.specs.SessionReading.{Answers};
 ghost use Rattle.pl_text.specs.SessionChannels.{operation_in, handler_in, addition_in, edit_of, edit_in};
 
-use crate::session_text::fault::SessionFault;
+use crate::faults::SessionFault;
 use crate::session_text::names::Name;
 use crate::session_text::outline::{Addition, Edit, HandlerKind, Operation};
 use crate::session_text::values::{FromData, an_object, optional, required, text, whole_in};

@@ -5,7 +5,7 @@ ghost use Rattle.serde_json.specs.View.{view};
 ghost use Rattle.pl_text.specs.SessionReading.{Answers};
 ghost use Rattle.pl_text.specs.SessionOutlines.{version_in, group_in, groups_in, outline_in};
 
-use crate::session_text::fault::SessionFault;
+use crate::faults::SessionFault;
 use crate::session_text::limits::MAX_GROUP_SIZE;
 use crate::session_text::names::Name;
 use crate::session_text::outline::{GroupOutline, Outline};

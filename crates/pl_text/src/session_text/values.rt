@@ -3,10 +3,10 @@
 ghost use Rattle.std.specs.Prelude.{◌≡◌, option_map, map, IfOk, ◌≤◌};
 ghost use Rattle.serde_json.specs.View.{view};
 ghost use Rattle.serde_json.specs.Find.{get};
-ghost use Rattle.pl_text.specs.declared.session_text.fault.SessionFault.TheVariants.{Missing};
+ghost use Rattle.pl_text.specs.declared.faults.SessionFault.TheVariants.{Missing};
 ghost use Rattle.pl_text.specs.SessionReading.{Answers, known, seen, whole, whole_in, text, an_object, present, optional, elements_of, each, array_in, array_of};
 
-use crate::session_text::fault::SessionFault;
+use crate::faults::SessionFault;
 use crate::session_text::names::Name;
 use pl_event::{ByteString, Sequence};
 use serde_json::Value;
@@ -16,7 +16,7 @@ use std::alloc::Global;
 pub(crate) trait FromData: Sized + Drop {
     ghost use Rattle.std.specs.Prelude.{Result};
     ghost use Rattle.serde_json.specs.Data.{Data};
-    ghost use Rattle.pl_text.specs.declared.session_text.fault.SessionFault.{SessionFault};
+    ghost use Rattle.pl_text.specs.declared.faults.SessionFault.{SessionFault};
 
     ghost meaning: { Data → Result Self SessionFault };
 

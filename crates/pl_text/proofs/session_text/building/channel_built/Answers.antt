@@ -42,8 +42,8 @@ returns-in-Ok-clause-fits c =
       small = channel_small meaning-value.it stands_after-value.it state-value.it handler-thrifty (record { pipeline = c.in-Ok.pipeline; input = record { bursts = c.args.channel.bursts; abort_after = c.args.channel.abort_after }; transport = c.new-transport.result }) path c.requires.bursts;
     })
 
-pub returns-clause-refused : goal.returns-clause-refused
-returns-clause-refused c other =
+pub returns-in-Err-clause-refused : goal.returns-in-Err-clause-refused
+returns-in-Err-clause-refused c other =
     pipeline_refused meaning-value.it state-value.it _ c.args.channel c.in_ok-builder.builder c.marks.new.self _ c.in-Err.unbuilt.fault
     (ap (all_edited _) (sym c.as_slice.ensures) ∙ c.in_ok-builder.ensures) (sym c.in_ok-marks.ensures.answer) c.in_ok-marks.ensures.set
     c.in-Err.ensures.refused other

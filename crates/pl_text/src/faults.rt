@@ -1,7 +1,9 @@
-//! Why a session text is refused.
+//! Why a text is refused, or a report is not printed.
 
 ghost use Rattle.std.specs.Prelude.{◌≡◌};
-ghost use Rattle.pl_text.specs.declared.session_text.fault.SessionFault.TheVariants.{Memory};
+ghost use Rattle.pl_text.specs.declared.faults.MovesFault.TheVariants as moves;
+ghost use Rattle.pl_text.specs.declared.faults.SessionFault.TheVariants as session;
+ghost use Rattle.pl_text.specs.declared.faults.PrintFault.TheVariants as print;
 ghost use Rattle.pl_text.specs.SessionReading.{fault_of_build};
 
 use pl_build::BuildFault;
@@ -35,7 +37,7 @@ pub enum SessionFault {
 }
 
 impl From<AllocError> for SessionFault {
-    ghost from_gives = { λ _ e. e ≡ Memory };
+    ghost from_gives = { λ _ e. e ≡ session.Memory };
 
     fn from(_refused: AllocError) -> SessionFault {
         SessionFault::Memory
@@ -43,7 +45,7 @@ impl From<AllocError> for SessionFault {
 }
 
 impl<T: Drop> From<AllocFailed<T>> for SessionFault {
-    ghost from_gives = { λ _ e. e ≡ Memory };
+    ghost from_gives = { λ _ e. e ≡ session.Memory };
 
     fn from(_refused: AllocFailed<T>) -> SessionFault {
         SessionFault::Memory
@@ -59,5 +61,54 @@ impl From<BuildFault> for SessionFault {
             BuildFault::Memory => SessionFault::Memory,
             _ => SessionFault::Build(refused),
         }
+    }
+}
+
+/// Why a text of moves was not read. No move is answered then.
+#[derive(Clone, Copy, Debug, PartialEq, Eq, Error)]
+pub enum MovesFault {
+    /// A part of the text is not a word.
+    #[error("1 Form")]
+    Form,
+    /// The words say more moves than `MAX_MOVES`.
+    #[error("2 Limit")]
+    Limit,
+    /// An allocation failed.
+    #[error("3 Memory")]
+    Memory,
+}
+
+impl From<AllocError> for MovesFault {
+    ghost from_gives = { λ _ e. e ≡ moves.Memory };
+
+    fn from(_refused: AllocError) -> MovesFault {
+        MovesFault::Memory
+    }
+}
+
+impl<T: Drop> From<AllocFailed<T>> for MovesFault {
+    ghost from_gives = { λ _ e. e ≡ moves.Memory };
+
+    fn from(_refused: AllocFailed<T>) -> MovesFault {
+        MovesFault::Memory
+    }
+}
+
+/// Why a report was not printed.
+#[derive(Clone, Copy, Debug, PartialEq, Eq, Error)]
+pub enum PrintFault {
+    /// An allocation failed; nothing was written.
+    #[error("1 Memory")]
+    Memory,
+    /// The writer failed; how much it wrote is not known.
+    #[error("2 Output")]
+    Output,
+}
+
+impl From<AllocError> for PrintFault {
+    ghost from_gives = { λ _ e. e ≡ print.Memory };
+
+    fn from(_refused: AllocError) -> PrintFault {
+        PrintFault::Memory
     }
 }
