@@ -151,9 +151,9 @@ WORKLOADS = [
 # Loads that no session brings to a head, and schedules that no argument holds: name, what a size counts, the crate and
 # what its tests are called, sizes.
 LOADS = [
-    ("one message through a window of one byte", "bytes", "pl_nodes_tests", "load_tests::long_message_of_", [131072, 262144, 524288, 1048578]),
-    ("empty messages settled by one flush", "messages", "pl_nodes_tests", "load_tests::empty_messages_", [21845, 43690, 87381, 174762]),
-    ("enabled hand-overs at capacity 1", "moves", "pl_replay_tests", "load_tests::hand_overs_of_", [125000, 250000, 500000, 1000000]),
+    ("one message through a window of one byte", "bytes", "pl_nodes_tests", "tests::load_tests::long_message_of_", [131072, 262144, 524288, 1048578]),
+    ("empty messages settled by one flush", "messages", "pl_nodes_tests", "tests::load_tests::empty_messages_", [21845, 43690, 87381, 174762]),
+    ("enabled hand-overs at capacity 1", "moves", "pl_replay_tests", "tests::load_tests::hand_overs_of_", [125000, 250000, 500000, 1000000]),
 ]
 
 

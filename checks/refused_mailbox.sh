@@ -13,15 +13,27 @@ trap 'rm -rf "$work"' EXIT
 
 cc -shared -fPIC -O2 -o "$work/refuse.so" "$here/refuse_growth.c" -ldl
 
-# More than either test makes.
-most=60
+# Runs a test with allocation $1 refused, or with none of them, and counts them.
+leave() {
+    : >"$work/count"
+    REFUSE_ALLOCATION=$1 LD_PRELOAD=$work/refuse.so "$tests" "$test" >"$work/out" 2>&1 3>"$work/count" ||
+        { echo "refused mailbox: $test failed with allocation $1 refused"; exit 1; }
+    count=$(cat "$work/count")
+    [ "${count:-0}" -ge "$1" ] ||
+        { echo "refused mailbox: $test made no allocation $1 that could be refused"; exit 1; }
+}
+
+told=
 for box in ring waiting; do
     test=left_tests::refused_memory_$box
-    number=0
+    leave 0
+    most=${count:-0}
+    [ "$most" -ge 1 ] || { echo "refused mailbox: no allocation of $test was counted"; exit 1; }
+    number=1
     while [ "$number" -le "$most" ]; do
-        REFUSE_ALLOCATION=$number LD_PRELOAD=$work/refuse.so "$tests" "$test" >"$work/out" 2>&1 ||
-            { echo "refused mailbox: $test failed with allocation $number refused"; exit 1; }
+        leave "$number"
         number=$((number + 1))
     done
+    told="$told $box $most"
 done
-echo "refused mailbox: allocations 1 to $most, over both boxes"
+echo "refused mailbox: allocations of$told"

@@ -1,7 +1,9 @@
 -- A channel before any move: which nodes it has, and that none of them has taken or made anything.
-use Rattle.std.specs.Prelude.{◌≡◌, ℕ, ◌+◌, ◌<◌, ◌≤◌, [], ◌∷◌, ◌++◌, length, map, replicate, Option, Some, None, is_some, true, false}
+use Rattle.std.specs.Prelude.{◌≡◌, ℕ, ◌+◌, ◌<◌, ◌≤◌, List, [], ◌∷◌, ◌++◌, length, map, replicate, Option, Some, None, is_some, true, false, All}
 use Rattle.std.specs.List.{position_or_len}
 use Rattle.pl_event.specs.declared.envelopes.Lane.{Lane}
+use Rattle.pl_event.specs.declared.events.Event.{Event}
+use Rattle.pl_event.specs.Hops.{flags_lane}
 use Rattle.pl_event.specs.Meaning.{Meaning}
 use Rattle.pl_event.specs.Paths.{is_turn}
 use Rattle.pl_build.specs.declared.limits.TheConstants.{MAX_HANDLERS}
@@ -10,7 +12,9 @@ use Rattle.pl_context.specs.ContextViews.{ContextView}
 use Rattle.pl_context.specs.TailViews.{new_tail}
 use Rattle.pl_flow.specs.Flows.{point}
 use Rattle.pl_head.specs.Transports.{TransportState}
+use Rattle.pl_head.specs.ReadSteps.{entrance}
 use Rattle.pl_head.specs.HeadStand.{HeadView, StandsAfter, ReadsStand}
+use Rattle.pl_part.specs.NewParts.{whole_slots}
 use Rattle.pl_part.specs.Parts.{PartView, part_taken, part_writes, part_came}
 use Rattle.pl_world.specs.Plans.{ChannelPlan, read_plan, tail_hop, head_hop}
 
@@ -18,7 +22,8 @@ use Rattle.pl_world.specs.Plans.{ChannelPlan, read_plan, tail_hop, head_hop}
 abbrev pub turn_hop : ChannelPlan → ℕ
 turn_hop p = position_or_len (λ m. is_turn m.direction) p.inbound
 
--- A head at the last hop of a channel with this plan, over this transport. It has taken nothing and read nothing.
+-- A head at the last hop of a channel with this plan, over this transport. It has taken nothing and read nothing, its lane
+-- is open, and a write that comes gets a number. Each part of it is as it begins but the rooms of its buffer.
 pub record IsNewHead {T : Type 0} (state : T → TransportState) (number : ℕ) (p : ChannelPlan) (transport : T) (h : HeadView T) : Type 0 where
   pub channel_is : h.channel ≡ number
   pub hop_is : h.hop ≡ head_hop p
@@ -28,6 +33,10 @@ pub record IsNewHead {T : Type 0} (state : T → TransportState) (number : ℕ) 
   pub taken : h.taken ≡ 0
   pub standing : h.standing ≡ stands.Open
   pub failure : h.failure ≡ None
+  pub closed : h.is_closed ≡ false
+  pub numbering : h.buffer.is_full ≡ false
+  pub flags : h.buffer.flags ≡ record { lane = flags_lane number 0; made = 0; is_open = true }
+  pub entrance_is : h.input.port.lane ≡ entrance number
   pub reads : ReadsStand (read_plan p) 0 false h
   pub after : StandsAfter state h [] [] []
   pub settled : h.buffer.settled ≡ []
@@ -46,6 +55,13 @@ pub record IsWhole {S T : Type 0} (state : T → TransportState) (number : ℕ) 
   pub filled : map (λ (slot : Option (ContextView S)). is_some slot) part.path.contexts ≡ replicate (length p.inbound) true ++ false ∷ replicate (length p.outbound) true
   pub tail : part.path.tail ≡ Some (new_tail number (tail_hop p))
   pub head : (h : HeadView T) × (part.head ≡ Some h) × IsNewHead state number p transport h
+
+-- Its contexts are those of these stages, in the order of the two chains. No stage has had a step, and no context has taken or
+-- made anything.
+pub record HasNewStages {S T : Type 0} (meaning : S → Meaning) (stands_after : S → List Event → Type 0) (number : ℕ) (inbound outbound : List S) (part : PartView S T) : Type 0 where
+  pub inbound_new : All (λ stage. stands_after stage []) inbound
+  pub outbound_new : All (λ stage. stands_after stage []) outbound
+  pub contexts_are : part.path.contexts ≡ whole_slots meaning number inbound outbound
 
 -- Nothing was taken of a lane, and each lane that one of its nodes writes is at its start.
 pub record IsUnmoved {S T : Type 0} (meaning : S → Meaning) (part : PartView S T) : Type 0 where

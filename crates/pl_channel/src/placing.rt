@@ -6,7 +6,7 @@ ghost use Rattle.pl_world.specs.Plans.{Plan, channel_planned};
 ghost use Rattle.pl_world.specs.PlanRules.{IsSmallChannel};
 ghost use Rattle.pl_world.specs.Worlds.{IsUncalled};
 ghost use Rattle.pl_channel.specs.Lanes.{world_of};
-ghost use Rattle.pl_channel.specs.Placing.{IsWhole, IsUnmoved};
+ghost use Rattle.pl_channel.specs.Placing.{IsWhole, HasNewStages, IsUnmoved};
 
 use pl_build::Placed;
 use pl_event::Stage;
@@ -24,6 +24,7 @@ pub fn place<S: Stage, T: Transport>(
     requires uncalled { IsUncalled (T.state recorded.transport) }
     requires small { IsSmallChannel (channel_planned S.meaning T.state recorded) }
     ensures whole { IfOk result (λ part. IsWhole T.state number (channel_planned S.meaning T.state recorded) recorded.transport part) }
+    ensures stages { IfOk result (λ part. HasNewStages S.meaning S.stands_after number recorded.pipeline.inbound recorded.pipeline.outbound part) }
     ensures unmoved { IfOk result (λ part. IsUnmoved S.meaning part) }
 
     // It holds in the worlds of each plan in which it has this number.

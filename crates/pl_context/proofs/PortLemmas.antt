@@ -121,6 +121,11 @@ putting-step p q before now after all left x answer g puts =
       enough = omega (arith, g.enough, a.room, one);
     }
 
+-- an open port after as many events
+pub port-events : (p : Port) (n : ℕ) (all : List Event) → p.is_open ≡ true → n ≡ length all → record p { made = p.made + n } ≡ port_after (as_items all) p
+port-events p n all o is =
+    ap (λ (k : ℕ). record p { made = p.made + k }) (is ∙ sym (length-map all (λ (x : Event). item.Event x))) ∙ rw (o, all_go_on-events all) refl
+
 -- all of them are on the list
 pub putting-end : (p q : Port) (before now : OutputsView) (all : List Event) → p.is_open ≡ true → Putting p q before now all []
     → (q ≡ port_after (as_items all) p) × Appends before (put_out before.stopped p (as_items all)) now

@@ -90,6 +90,11 @@ module _ {A : Type 0} (before after : WaitingView A) (target : ℕ) (e : Envelop
   room-before : room_for before target ≡ old.room
   room-before = ap (λ (o : Option (BacklogView (Late A))). option_map_or (λ b. b.room) o 0) at
 
+  room-after : room_for after target ≡ new.room
+  room-after =
+      ap (λ (l : List (BacklogView (Late A))). option_map_or (λ b. b.room) (slice_get l target) 0) written
+      ∙ ap (λ (o : Option (BacklogView (Late A))). option_map_or (λ b. b.room) o 0) (at-set_here before.targets target new within)
+
   pub waiting-adds : result ≡ option_map (λ l. l.token) given → WaitingAdds before target e token result after
   waiting-adds is = record {
     answer = adds.answer;
@@ -98,6 +103,7 @@ module _ {A : Type 0} (before after : WaitingView A) (target : ℕ) (e : Envelop
     discarded = subst (λ (s : StopsView). (adds.answer ≡ Discarded) ↔ (has_stopped s e.lane ≡ true)) (sym stopped-before) adds.discarded;
     last = λ open_lane room.
         adds.last (ap (λ (s : StopsView). has_stopped s e.lane) (sym stopped-before) ∙ open_lane) (subst (λ (n : ℕ). 0 < n) room-before room);
+    room = omega (arith, room-before, room-after, adds.room);
     back = is ∙ ap (option_map (λ (l : Late A). l.token)) adds.back ∙ handed adds.answer e.lane.kind;
     added = added;
     targets = ap (λ (l : List (BacklogView (Late A))). length l) written ∙ length-set before.targets target new;

@@ -82,6 +82,7 @@ pub record WaitingAdds {A : Type 0} (before : WaitingView A) (target : ℕ) (e :
   pub stopped : stops_for after target ≡ stopped_after answer (stops_for before target) e.lane
   pub discarded : (answer ≡ Discarded) ↔ (has_stopped (stops_for before target) e.lane ≡ true)
   pub last : has_stopped (stops_for before target) e.lane ≡ false → 0 < room_for before target → answer ≡ Last
+  pub room : room_for before target ≤ room_for after target + length (added_items answer e)
   pub back : result ≡ handed_back answer e.lane.kind token
   pub added : after.added ≡ before.added + 1
   pub targets : length after.targets ≡ length before.targets

@@ -1,13 +1,13 @@
 //! The work list: envelopes that were put out, the oldest first.
 
-ghost use Rattle.std.specs.Prelude.{◌≡◌, ◌+◌, ◌<◌, ◌≤◌, ◌∷◌, ◌++◌, [], length, not, IfOk, OnOk, OnErr, IfNone, ◌==◌, ◌&&◌};
+ghost use Rattle.std.specs.Prelude.{◌≡◌, ◌+◌, ◌<◌, ◌≤◌, ◌∷◌, ◌++◌, [], length, not, IfOk, OnOk, OnErr, IfNone, ◌==◌, ◌&&◌, false};
 ghost use Rattle.std.specs.Option.{option_to_list};
-ghost use Rattle.pl_context.specs.Stops.{HasPlaces, no_stops, any_stopped};
+ghost use Rattle.pl_context.specs.Stops.{HasPlaces, no_stops, any_stopped, has_stopped};
 ghost use Rattle.pl_context.specs.OutputsViews.{Puts, failure_of};
 
 use crate::added::Added;
 use crate::stops::Stops;
-use pl_event::{Cause, Envelope, Item, Kind};
+use pl_event::{Cause, Envelope, Item, Kind, Lane};
 use std::alloc::{AllocError, Global};
 use std::collections::VecDeque;
 use std::marker::Model;
@@ -83,6 +83,22 @@ impl Outputs {
             Some(all) => self.envelopes.reserve(all),
             None => Err(AllocError),
         }
+    }
+
+    /// Whether this lane has stopped.
+    pub(crate) fn has_stopped_lane(&self, lane: Lane) -> bool
+        ensures { result ≡ has_stopped self.now.stopped lane }
+    {
+        self.stops.has(lane)
+    }
+
+    /// Puts an envelope last, for which there is room, of a lane that has not stopped.
+    pub(crate) fn put_reserved(&mut self, envelope: Envelope)
+        requires goes_on { has_stopped self.old.stopped envelope.lane ≡ false }
+        requires room { 0 < self.old.room }
+        ensures { Puts self.old envelope Added.Last self.new }
+    {
+        self.envelopes.push_back_reserved(envelope);
     }
 
     /// Puts an envelope last, or what stands in for it where no memory is found. Where there is room it is last.

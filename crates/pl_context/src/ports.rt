@@ -56,7 +56,8 @@ impl Port {
         self.is_open = goes_on;
     }
 
-    /// Gives the lane events, for which there is room, unless it is closed. They are taken out of the buffer.
+    /// Gives the lane events, for which there is room, unless it is closed. They are taken out of the buffer. Whether the
+    /// lane has stopped on the list is looked at once.
     pub(crate) fn put_all(&mut self, events: &mut Vec<Event>, outputs: &mut Outputs)
         requires place { self.old.is_open ≡ true → HasPlaces outputs.old.stopped (self.old.lane ∷ []) }
         requires small { self.old.is_open ≡ true → self.old.made + length events.old.items ≤ 2 ^ 40 }
@@ -69,9 +70,14 @@ impl Port {
             events.clear();
             return;
         }
+        if outputs.has_stopped_lane(self.lane) {
+            self.made += events.len() as u64;
+            events.clear();
+            return;
+        }
         events.reverse();
         while let Some(event) = events.pop() {
-            outputs.put(Envelope {
+            outputs.put_reserved(Envelope {
                 lane: self.lane,
                 number: self.made,
                 item: Item::Event(event),

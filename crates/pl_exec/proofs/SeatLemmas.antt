@@ -1,7 +1,7 @@
 -- By channel the seats on its words, while the nodes stand.
-use Rattle.std.proofs.Common.{◌≡◌, ℕ, ◌+◌, ◌<◌, ◌≤◌, Bool, List, [], ◌∷◌, ◌++◌, length, map, set, slice_get, Option, Some, None, refl, ap, sym, ◌∙◌, subst, arith, inl, inr, ⊎_elim, length-append}
-use Rattle.std.specs.Prelude.{◌⊎◌, slice_set, All}
-use Rattle.std.specs.Option.{option_map}
+use Rattle.std.proofs.Common.{◌≡◌, ℕ, ◌+◌, ◌-◌, ◌<◌, Bool, List, [], ◌∷◌, ◌++◌, length, map, set, slice_get, Option, Some, None, refl, ap, sym, ◌∙◌, subst, arith, inl, inr, ⊎_elim, length-append}
+use Rattle.std.specs.Prelude.{◌⊎◌, slice_set}
+use Rattle.std.specs.Option.{option_map, option_map_or}
 use Rattle.std.proofs.lemmas.Bool.Decides.{eqb_tells}
 use Rattle.std.proofs.lemmas.List.{length-map, length-set, set-get_or}
 use Rattle.std.proofs.lemmas.Option.{none-some, same_Some, slice_get-map, slice_get_within, get_or_from_slice_get}
@@ -9,17 +9,19 @@ use Rattle.pl_event.specs.declared.events.Event.{Event}
 use Rattle.pl_event.specs.Meaning.{Meaning}
 use Rattle.pl_event.specs.Worlds.{World}
 use Rattle.pl_event.proofs.Lists.{All-at, at_set_same, at_set_other, slice_get-push}
+use Rattle.pl_head.specs.Buffers.{untold}
 use Rattle.pl_head.specs.HeadStand.{HeadView}
 use Rattle.pl_head.specs.Transports.{TransportState}
 use Rattle.pl_part.specs.Parts.{PartView}
-use Rattle.pl_part.specs.Told.{IsTold}
+use Rattle.pl_part.specs.Told.{IsTold, part_untold, told_head}
 use Rattle.pl_part.proofs.ToldLemmas.{none-told}
+use Rattle.pl_words.specs.declared.watermark.TheConstants.{MAX_SETS}
 use Rattle.pl_world.specs.declared.session.Recorded.{Recorded}
 use Rattle.pl_world.specs.Plans.{ChannelPlan, Plan, channel_planned}
 use Rattle.pl_world.specs.PlanRules.{IsChannelPlan, IsPlan}
 use Rattle.pl_exec.specs.OwnNodes.{NodesStand}
 use Rattle.pl_exec.specs.SessionWords.{ChannelNames, SeatsView, AreSeatsOf, AreHeadSeatsOf, recorded_marks, seats_marks, seats_names}
-use Rattle.pl_exec.specs.Telling.{AreSeated, HaveMarks, IsSeated, IsToldAt, plan_marks}
+use Rattle.pl_exec.specs.Telling.{AreSeated, HaveMarks, IsSeated, IsToldAt, Tells, TellsAt, plan_marks}
 use Rattle.pl_exec.proofs.SharesMade.{at-index}
 
 -- ---- what was told
@@ -37,6 +39,38 @@ none-told-at ps c within =
       becomes = sym (ap (λ (x : PartView _ _). set ps c x) (sym (get_or_from_slice_get ps c p.0 p.0 p.1)) ∙ set-get_or ps c p.0);
       told = none-told p.0;
     }
+
+-- ---- what seats tell
+
+-- seats that have told how a head stands, after it told some of its settled writes
+pub tells-told : {S T : Type 0} (p p' : PartView S T) (s : SeatsView) → IsTold p p' → part_untold p' ≡ []
+    → ((x : HeadView T) → p.head ≡ Some x → s.mark.sets < MAX_SETS - 1 → (s.mark.pending ≡ x.buffer.pending) × (s.mark.unwritable ≡ x.buffer.is_unwritable)) → (h : HeadView T) → p'.head ≡ Some h → Tells s h
+tells-told {T = T} p p' s told none says h is = by p.head refl
+  where
+    after : (o : Option (HeadView T)) → p.head ≡ o → option_map (told_head told.so_many) o ≡ Some h
+    after o at = sym (ap (option_map (told_head told.so_many)) at) ∙ sym (ap (λ (q : PartView _ T). q.head) told.is) ∙ is
+
+    by : (o : Option (HeadView T)) → p.head ≡ o → Tells s h
+    by None at = absurd (none-some h (after None at))
+    by (Some x) at =
+        let same : told_head told.so_many x ≡ h = same_Some (told_head told.so_many x) h (after (Some x) at) in
+        record {
+          pending = λ below. (says x at below).0 ∙ ap (λ (y : HeadView T). y.buffer.pending) same;
+          flag = λ below. (says x at below).1 ∙ ap (λ (y : HeadView T). y.buffer.is_unwritable) same;
+          all = sym (ap (λ (o : Option (HeadView T)). option_map_or (λ (y : HeadView T). untold y.buffer) o []) is) ∙ none;
+        }
+
+-- so it is with the channel that was told
+pub tells-at : {S T : Type 0} (seats : List (Option SeatsView)) (ps : List (PartView S T)) (c : ℕ) (s' : SeatsView) (p' : PartView S T) → ((h : HeadView T) → p'.head ≡ Some h → Tells s' h)
+    → TellsAt (slice_set seats c (Some s')) (slice_set ps c p') c
+tells-at seats ps c s' p' tells s p h at here is =
+    let own : s ≡ s' = same_Some s s' (at_set_same seats c (Some s') (Some s) at) in
+    let part : p ≡ p' = at_set_same ps c p' p here in
+    subst (λ (z : SeatsView). Tells z h) (sym own) (tells h (sym (ap (λ (q : PartView _ _). q.head) part) ∙ is))
+
+-- there are no seats on its words here
+pub no-seats-tell : {S T : Type 0} (seats : List (Option SeatsView)) (ps : List (PartView S T)) (c : ℕ) (slot : Option SeatsView) → slot ≡ None → TellsAt (slice_set seats c slot) ps c
+no-seats-tell seats ps c slot none s p h at here is = absurd (none-some s (sym none ∙ sym (at_set_same seats c slot (Some s) at)))
 
 -- ---- the marks of a plan
 

@@ -2,14 +2,16 @@
 use Rattle.std.specs.Prelude.{◌≡◌, ℕ, ◌+◌, ◌<◌, ◌≤◌, ◌^◌, ◌==◌, Bool, true, false, List, [], ◌∷◌, map, slice_get, Some, None, is_some, if◌then◌else◌}
 use Rattle.std.specs.Option.{option_map_or}
 use Rattle.pl_event.specs.declared.events.Event.{Event}
+use Rattle.pl_event.specs.declared.envelopes.Kind.TheVariants as kind
 use Rattle.pl_event.specs.declared.envelopes.Lane.{Lane}
 use Rattle.pl_event.specs.Meaning.{Meaning}
 use Rattle.pl_event.specs.Worlds.{World}
 use Rattle.pl_context.specs.ContextViews.{ContextView}
+use Rattle.pl_context.specs.Standings.{is_over}
 use Rattle.pl_head.specs.Marks.{Change}
 use Rattle.pl_head.specs.Transports.{TransportState}
 use Rattle.pl_head.specs.HeadStand.{HeadView, StandsAfter, is_idle}
-use Rattle.pl_part.specs.Paths.{context_at}
+use Rattle.pl_part.specs.Paths.{context_at, writer_hop}
 use Rattle.pl_part.specs.Parts.{PartView, PartHolds, head_hop, all_over, has_read}
 use Rattle.pl_channel.specs.PlanStand.{PartsKeepPlan}
 use Rattle.pl_executor.specs.Serving.{Served}
@@ -58,6 +60,13 @@ pub record NodesStand {S T : Type 0} (world : World) (plan : Plan) (meaning : S 
   pub parts : (c : ℕ) (p : PartView S T) → slice_get ps c ≡ Some p → PartStands world meaning stands_after state me refused c p
   pub keeps : PartsKeepPlan state plan ps
   pub number : me < nobody
+
+-- ---- which contexts have given up
+
+-- the context that writes a data lane, where it is here, has ended or failed
+abbrev pub HasGivenUp : {S T : Type 0} → List (PartView S T) → Lane → Type 0
+HasGivenUp ps l =
+    (p : PartView _ _) (c : ContextView _) → slice_get ps l.channel ≡ Some p → l.kind ≡ kind.Data → context_at p.path (writer_hop p.path l.hop) ≡ Some c → is_over c.standing ≡ true
 
 -- ---- which heads are here
 

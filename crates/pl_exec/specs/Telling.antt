@@ -1,7 +1,10 @@
 -- The nodes of an executor whose heads tell the words of their channels.
-use Rattle.std.specs.Prelude.{◌≡◌, ℕ, ◌≤◌, List, length, map, slice_get, slice_set, Option, Some}
+use Rattle.std.specs.Prelude.{◌≡◌, ℕ, ◌-◌, ◌<◌, ◌≤◌, List, [], length, map, slice_get, slice_set, Option, Some}
+use Rattle.pl_head.specs.Buffers.{untold}
+use Rattle.pl_head.specs.HeadStand.{HeadView}
 use Rattle.pl_part.specs.Parts.{PartView}
 use Rattle.pl_part.specs.Told.{IsTold}
+use Rattle.pl_words.specs.declared.watermark.TheConstants.{MAX_SETS}
 use Rattle.pl_world.specs.Plans.{ChannelPlan, Plan}
 use Rattle.pl_exec.specs.SessionWords.{ChannelNames, SeatsView, AreSeatsOf, seats_marks}
 
@@ -30,3 +33,14 @@ pub record IsToldAt {S T : Type 0} (ps : List (PartView S T)) (c : ℕ) (ps' : L
   pub was : slice_get ps c ≡ Some before
   pub becomes : ps' ≡ slice_set ps c after
   pub told : IsTold before after
+
+-- The mark says what is pending at a head and whether its channel is unwritable, as long as it may be set once more; and the
+-- head has told of each of its settled writes.
+pub record Tells {T : Type 0} (s : SeatsView) (h : HeadView T) : Type 0 where
+  pub pending : s.mark.sets < MAX_SETS - 1 → s.mark.pending ≡ h.buffer.pending
+  pub flag : s.mark.sets < MAX_SETS - 1 → s.mark.unwritable ≡ h.buffer.is_unwritable
+  pub all : untold h.buffer ≡ []
+
+-- So it is with the seats of a channel and its head, where both are here.
+abbrev pub TellsAt : {S T : Type 0} → List (Option SeatsView) → List (PartView S T) → ℕ → Type 0
+TellsAt seats ps c = (s : SeatsView) (p : PartView _ _) (h : HeadView _) → slice_get seats c ≡ Some (Some s) → slice_get ps c ≡ Some p → p.head ≡ Some h → Tells s h

@@ -1,7 +1,7 @@
 //! The nodes of an executor.
 
-ghost use Rattle.std.specs.Prelude.{◌≡◌, ◌<◌, ◌^◌, ◌||◌, ◌&&◌, length, slice_get, Some, ℕ, true, false};
-ghost use Rattle.pl_exec.specs.OwnNodes.{NodesStand, MayReadOwn, MayWriteOwn, AreOver, IsPartOver, enters, served_of, heads_of, target_of};
+ghost use Rattle.std.specs.Prelude.{◌≡◌, ◌<◌, ◌^◌, ◌||◌, ◌&&◌, length, get_or, slice_get, Some, ℕ, true, false};
+ghost use Rattle.pl_exec.specs.OwnNodes.{NodesStand, HasGivenUp, MayReadOwn, MayWriteOwn, AreOver, IsPartOver, enters, served_of, heads_of, target_of};
 ghost use Rattle.pl_channel.specs.Lanes.{world_of};
 ghost use Rattle.pl_part.specs.Parts.{PartView, PartHolds};
 ghost use Rattle.pl_replay.specs.Channels.{came_of, taken_of, writes_of};
@@ -45,7 +45,11 @@ impl<W: Planned, S: Stage, T: Transport> Part<W> for OwnNodes<S, T> {
 
     ghost was_refused = { λ n. n.was_refused };
 
+    ghost gave_up = { λ n lane. HasGivenUp n.parts.items lane };
+
     ghost count = { λ n. length n.own.items };
+
+    ghost channel_at = { λ n at. get_or n.own.items at 0 };
 
     ghost may_read = { λ n at answer. MayReadOwn T.state n.parts.items n.own.items at answer };
 

@@ -1,6 +1,6 @@
 //! The nodes of an executor, whose heads tell the words of their channels what becomes of writes.
 
-ghost use Rattle.std.specs.Prelude.{◌≡◌, ◌<◌, ◌≤◌, ◌⊎◌, ℕ, [], length, map, All, IfOk, Some, None, true};
+ghost use Rattle.std.specs.Prelude.{◌≡◌, ◌-◌, ◌<◌, ◌≤◌, ◌⊎◌, ℕ, [], length, get_or, map, All, IfOk, Some, None, true};
 ghost use Rattle.pl_channel.specs.Lanes.{world_of};
 ghost use Rattle.pl_event.specs.Worlds.{World};
 ghost use Rattle.pl_head.specs.HeadStand.{HeadView};
@@ -10,9 +10,9 @@ ghost use Rattle.pl_replay.specs.Channels.{came_of, taken_of, writes_of};
 ghost use Rattle.pl_replay.specs.Channels.{lanes_of as data_lanes_of};
 ghost use Rattle.pl_world.specs.Plans.{Plan};
 ghost use Rattle.pl_world.specs.PlanRules.{IsPlan};
-ghost use Rattle.pl_exec.specs.OwnNodes.{NodesStand, MayReadOwn, MayWriteOwn, AreOver, heads_of, served_of, target_of};
+ghost use Rattle.pl_exec.specs.OwnNodes.{NodesStand, HasGivenUp, MayReadOwn, MayWriteOwn, AreOver, heads_of, served_of, target_of};
 ghost use Rattle.pl_exec.specs.SessionWords.{AreSeatsOf, AreHeadSeatsOf, told};
-ghost use Rattle.pl_exec.specs.Telling.{AreSeated, IsToldAt, HaveMarks};
+ghost use Rattle.pl_exec.specs.Telling.{AreSeated, IsToldAt, HaveMarks, Tells, TellsAt};
 
 use crate::nodes::OwnNodes;
 use crate::planned::Planned;
@@ -22,6 +22,7 @@ use pl_event::{Envelope, Lane, Stage};
 use pl_executor::Part;
 use pl_head::Transport;
 use pl_part::ChannelPart;
+use pl_words::watermark::MAX_SETS;
 use std::alloc::{AllocError, Global};
 
 /// The nodes that are on an executor, with the words that their heads tell.
@@ -48,7 +49,13 @@ impl<'a, W: Planned, S: Stage, T: Transport> Part<W> for TellingNodes<'a, S, T> 
 
     ghost was_refused = { λ n. n.nodes.was_refused };
 
+    ghost gave_up = { λ n lane. HasGivenUp n.nodes.parts.items lane };
+
     ghost count = { λ n. length n.nodes.own.items };
+
+    ghost channel_at = { λ n at. get_or n.nodes.own.items at 0 };
+
+    ghost tells = { λ n c. TellsAt n.seats.items n.nodes.parts.items c };
 
     ghost may_read = { λ n at answer. MayReadOwn T.state n.nodes.parts.items n.nodes.own.items at answer };
 
@@ -115,6 +122,7 @@ impl<'a, S: Stage, T: Transport> TellingNodes<'a, S, T> {
         ensures own { self.new.nodes.own ≡ self.old.nodes.own }
         ensures told { IsToldAt self.old.nodes.parts.items channel self.new.nodes.parts.items }
         ensures seated { (plan : Plan) → AreSeated self.old.words.now plan self.old.seats.items → AreSeated self.new.words.now plan self.new.seats.items }
+        ensures tells { TellsAt self.new.seats.items self.new.nodes.parts.items channel }
     {
         if let Some(seats) = &mut self.seats[channel] {
             tell(self.words, channel, seats, &mut self.nodes.parts[channel]);
@@ -138,11 +146,32 @@ fn tell<S: Stage, T: Transport>(
     ensures same { (seats.new.mark.low ≡ seats.old.mark.low) × (seats.new.mark.high ≡ seats.old.mark.high) }
     ensures told { IsTold part.old part.new }
     ensures all { part_untold part.new ≡ [] }
+    ensures tells { (h : HeadView T) → part.new.head ≡ Some h → Tells seats.new h }
+{
+    set_mark(words, channel, seats, part);
+    settle(words, channel, seats, part);
+}
+
+/// Sets the mark of a channel as its head stands.
+fn set_mark<S: Stage, T: Transport>(
+    words: &Words,
+    channel: usize,
+    seats: &mut Seats,
+    part: &ChannelPart<S, T>,
+)
+    requires own { AreSeatsOf words.now channel seats.old }
+    requires holds { (world : World) × PartHolds world S.meaning S.stands_after T.state part.now }
+    requires marks { (h : HeadView T) → part.now.head ≡ Some h → (seats.old.mark.low ≡ h.buffer.low) × (seats.old.mark.high ≡ h.buffer.high) }
+    requires ordered { seats.old.mark.low ≤ seats.old.mark.high }
+    ensures own { AreSeatsOf words.now channel seats.new }
+    ensures mark { (h : HeadView T) → part.now.head ≡ Some h → seats.new.mark ≡ told seats.old.mark h.buffer.pending h.buffer.is_unwritable }
+    ensures same { (seats.new.mark.low ≡ seats.old.mark.low) × (seats.new.mark.high ≡ seats.old.mark.high) }
+    ensures says { (h : HeadView T) → part.now.head ≡ Some h → seats.new.mark.sets < MAX_SETS - 1
+        → (seats.new.mark.pending ≡ h.buffer.pending) × (seats.new.mark.unwritable ≡ h.buffer.is_unwritable) }
 {
     if let Some((pending, is_writable)) = part.mark() {
         words.tell_mark(channel, seats, pending, is_writable);
     }
-    settle(words, channel, seats, part);
 }
 
 /// Settles each write of a channel that has ended since the last time.

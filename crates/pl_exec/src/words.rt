@@ -11,7 +11,7 @@ ghost use Rattle.pl_exec.specs.SessionWords.{AreSeatsOf, AreHeadSeatsOf, HaveMar
 use pl_event::{Outcome, Stage};
 use pl_executor::RunFault;
 use pl_head::Transport;
-use pl_words::promises::{Promises, SettleSeat};
+use pl_words::promises::{MAX_PROMISES, Promises, SettleSeat};
 use pl_words::watermark::{HeadSeat, MAX_SETS, Mark, Watermark};
 use pl_words::{promises, watermark};
 use pl_world::{Recorded, Session};
@@ -19,7 +19,7 @@ use std::alloc::{AllocError, Global};
 use std::marker::Model;
 
 /// Of how many writes of a channel it is kept how they ended. Those of higher numbers are void.
-pub const PROMISES: u16 = 4_096;
+pub const PROMISES: u16 = MAX_PROMISES;
 
 /// The words of one channel.
 #[derive(Drop)]
@@ -314,6 +314,7 @@ impl Words {
         ensures own { AreSeatsOf self.now channel seats.new }
         ensures mark { seats.new.mark ≡ told seats.old.mark pending (not is_writable) }
         ensures set { seats.old.mark.sets < MAX_SETS - 1 → (seats.new.mark.pending ≡ pending) × (seats.new.mark.unwritable ≡ not is_writable) }
+        ensures later { seats.old.mark.sets ≤ seats.new.mark.sets }
         ensures settle { seats.new.settle ≡ seats.old.settle }
     {
         let is_unwritable = !is_writable;

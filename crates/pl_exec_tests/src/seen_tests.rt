@@ -7,6 +7,7 @@ use crate::sessions::{PING, decoded_apart, on_loops};
 use pl_event::{Command, Event, Message, Outcome};
 use pl_exec::{Gate, HeadSeats, QueueKind, Reader, Words, run_with};
 use pl_text::read_session;
+use pl_words::watermark::Mark;
 use pl_world::{ChannelReport, Report, Session, Stands};
 use std::alloc::Global;
 use std::process::Abort;
@@ -21,6 +22,12 @@ const LOOKS: u32 = 10_000_000;
 
 /// How often a promise is looked at that must not be settled.
 const LOOKS_WHILE_UNSET: u32 = 1_000_000;
+
+/// The mark of a channel that has answered PING: it was set where the answer came to the head, and where that was written.
+const ANSWERED: Option<Mark> = Some(Mark {
+    version: 2,
+    unwritable: false,
+});
 
 /// Which turns a gate holds up.
 #[derive(Clone, Copy, Debug, PartialEq, Eq)]
@@ -218,12 +225,7 @@ fn seen_while_running<R: Abort + Threads + Wait + Sync>(
     );
     assert!(rt; is_seen);
     assert_eq!(rt; shared.words.peek(0, 0, &mut later), Some(Outcome::Success));
-    assert!(rt;
-        shared
-            .words
-            .look(0, &mut later)
-            .is_some_and(|mark| !mark.unwritable)
-    );
+    assert_eq!(rt; shared.words.look(0, &mut later), ANSWERED);
     assert_eq!(rt; shared.missed.load(Ordering::SeqCst), 0);
     assert!(rt; report.is_some_and(|report| have_answered(&report, channels)));
     Ok(())

@@ -1,12 +1,14 @@
 -- What holds of an executor's nodes, of what they put on its work list and of what waits for others, and what no step of them
 -- changes.
-use Rattle.std.specs.Prelude.{◌≡◌, ℕ, Bool, true, List}
+use Rattle.std.specs.Prelude.{◌≡◌, ◌⊎◌, ℕ, Bool, true, List}
+use Rattle.pl_event.specs.declared.envelopes.Envelope.{Envelope}
 use Rattle.pl_event.specs.declared.envelopes.Lane.{Lane}
 use Rattle.pl_event.specs.Worlds.{World}
 use Rattle.pl_context.specs.Stops.{HasPlaces}
+use Rattle.pl_words.specs.declared.admission.Refused.TheVariants.{Closed, SeatSpent}
 use Rattle.pl_flow.specs.Flows.{Point}
 use Rattle.pl_executor.specs.declared.cores.Core.{Core}
-use Rattle.pl_executor.specs.OutboxViews.{SendsNothing, SomeClosed}
+use Rattle.pl_executor.specs.OutboxViews.{OutboxesView, Comes, RefusedBy, SendsNothing, SomeClosed}
 use Rattle.pl_executor.specs.Running.{Runs}
 
 module _ {W M N S T : Type 0} (target_of : N → Lane → ℕ) (writes : N → Lane → Bool) where
@@ -27,3 +29,8 @@ module _ {W M N S T : Type 0} (target_of : N → Lane → ℕ) (writes : N → L
     pub written : (l : Lane) → writes c'.part l ≡ writes c.part l
     pub counts : count c'.part ≡ count c.part
     pub sends : SendsNothing c.outboxes c'.outboxes
+
+-- What became of an item for another executor: it comes last there, or what stands in for it. Or its seat was spent. Or that
+-- executor was found closed, and the node that writes the item's lane has given up.
+abbrev pub Departs : {N : Type 0} → (N → Lane → Type 0) → OutboxesView → ℕ → Envelope → N → OutboxesView → Type 0
+Departs gave_up o target x part' o' = Comes o target x o' ⊎ (RefusedBy o target SeatSpent o' ⊎ (RefusedBy o target Closed o' × gave_up part' x.lane))

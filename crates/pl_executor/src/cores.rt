@@ -1,12 +1,13 @@
 //! The work list of an executor, and its direct calls.
 
-ghost use Rattle.std.specs.Prelude.{◌≡◌, ◌+◌, ◌<◌, ℕ, List, [], cond, false, true, IfSome, IfNone};
+ghost use Rattle.std.specs.Prelude.{◌≡◌, ◌≢◌, ◌+◌, ◌<◌, ℕ, List, [], ◌∷◌, cond, false, true, IfSome, IfNone};
+ghost use Rattle.pl_event.specs.declared.envelopes.Envelope.{Envelope};
 ghost use Rattle.pl_event.specs.declared.envelopes.Lane.{Lane};
 ghost use Rattle.pl_event.specs.Hops.{same_lane};
 ghost use Rattle.pl_context.specs.WaitingViews.{Entry, Holds};
 ghost use Rattle.pl_words.specs.Admissions.{AdmittedView};
 ghost use Rattle.pl_flow.specs.Flows.{IsGood};
-ghost use Rattle.pl_executor.specs.Cores.{CoreHolds, CoreKeeps};
+ghost use Rattle.pl_executor.specs.Cores.{CoreHolds, CoreKeeps, Departs};
 ghost use Rattle.pl_executor.specs.OutboxViews.{SameFor, Sends, oldest_untried};
 ghost use Rattle.pl_executor.specs.Serving.{ServesNone, ReadsAtMostOnce, WritesAtMostOnce};
 
@@ -45,6 +46,9 @@ where
         ensures served { ServesNone (N.served self.old.part) (N.served self.new.part) }
         ensures taken { (l : Lane) → N.writes self.old.part l ≡ false → N.taken_of self.new.part l ≡ N.taken_of self.old.part l }
         ensures empty { result ≡ false → self.new.work.items ≡ [] }
+        // What is for another executor waits there, or was refused there; and where that is closed, its writer has given up.
+        ensures away { (x : Envelope) (left : List Envelope) → self.old.work.items ≡ x ∷ left → N.target_of self.old.part x.lane ≢ self.old.number
+            → Departs N.gave_up self.old.outboxes (N.target_of self.old.part x.lane) x self.new.part self.new.outboxes }
     {
         let Some(envelope) = self.work.next() else {
             return false;

@@ -406,9 +406,11 @@ where
         self.core.outboxes.note_waiting(self.core.number);
     }
 
-    /// Its nodes, all of which are over.
+    /// Its nodes, all of which are over, once its queue is closed and nothing waits for others.
     fn into_finished(self) -> Finished<W, N>
         requires over { N.are_over self.part }
+        requires closed { is_closed self.owner.phase ≡ true }
+        requires drained { (y : ℕ) → waits_for self.outboxes y ≡ [] }
         ensures { N.home result ≡ self.entry.number }
     {
         let Executor { core, .. } = self;

@@ -34,8 +34,18 @@ pub trait Part<W: Named>: Sized {
     /// Whether one of them has failed by `refuse`.
     ghost was_refused: { Self → Bool };
 
+    /// The node that writes a lane has given up, since nothing more of the lane is accepted: it has ended or failed, where
+    /// it is a context and the lane brings data. A head, and a lane of flags, go on.
+    ghost gave_up: { Self → Lane → Type 0 };
+
     /// How many channels have their heads among these nodes. A call names one of them by its place.
     ghost count: { Self → ℕ };
+
+    /// The number of the channel at a place.
+    ghost channel_at: { Self → ℕ → ℕ };
+
+    /// By the number of a channel: what others are told of it is how its head stands, where that is one of these nodes.
+    ghost tells: { Self → ℕ → Type 0 } = { λ n c. Unit {0} };
 
     /// Whether the next read step of a channel, or a write to its transport, is enabled: its head is one of these nodes,
     /// and a step is left and not held, or a flushed byte waits and the head has not failed.
@@ -73,6 +83,7 @@ pub trait Part<W: Named>: Sized {
         ensures placed { (hops : List Lane) → AreAmong (lanes self.old) hops → HasPlaces work.old.stopped hops → HasPlaces work.new.stopped hops }
         ensures refused { was_refused self.new ≡ was_refused self.old }
         ensures served { ServesNone (served self.old) (served self.new) }
+        ensures tells { tells self.new envelope.lane.channel }
         ensures made { Makes W.world (writes self.old) (came self.old) (came self.new) work.old work.new };
 
     /// Nothing more of a lane is accepted: the context that writes it fails. A flags lane, and a lane that a head writes,
@@ -89,6 +100,7 @@ pub trait Part<W: Named>: Sized {
         ensures count { count self.new ≡ count self.old }
         ensures placed { (hops : List Lane) → AreAmong (lanes self.old) hops → HasPlaces work.old.stopped hops → HasPlaces work.new.stopped hops }
         ensures served { ServesNone (served self.old) (served self.new) }
+        ensures gave_up { gave_up self.new lane }
         ensures made { Makes W.world (writes self.old) (came self.old) (came self.new) work.old work.new };
 
     /// How many channels have their heads among these nodes: those that a turn reads and writes.
@@ -112,6 +124,7 @@ pub trait Part<W: Named>: Sized {
         ensures placed { (hops : List Lane) → AreAmong (lanes self.old) hops → HasPlaces work.old.stopped hops → HasPlaces work.new.stopped hops }
         ensures refused { was_refused self.new ≡ was_refused self.old }
         ensures served { ReadsAtMostOnce (served self.old) (served self.new) }
+        ensures tells { result ≡ true → tells self.new (channel_at self.new channel) }
         ensures made { Makes W.world (writes self.old) (came self.old) (came self.new) work.old work.new };
 
     /// The head of a channel makes a write to its transport, where that is enabled. False where it made none.
@@ -131,6 +144,7 @@ pub trait Part<W: Named>: Sized {
         ensures placed { (hops : List Lane) → AreAmong (lanes self.old) hops → HasPlaces work.old.stopped hops → HasPlaces work.new.stopped hops }
         ensures refused { was_refused self.new ≡ was_refused self.old }
         ensures served { WritesAtMostOnce (served self.old) (served self.new) }
+        ensures tells { result ≡ true → tells self.new (channel_at self.new channel) }
         ensures made { Makes W.world (writes self.old) (came self.old) (came self.new) work.old work.new };
 
     /// Whether each of them has ended or failed, and no read step and no flushed byte is left.

@@ -33,6 +33,10 @@ writes n l = makes n.first l || makes n.second l
 abbrev pub came : Node → Lane → Point
 came n l = cond (makes n.first l) (point n.first.made false) (cond (makes n.second l) (point n.second.made false) nowhere)
 
+-- a flag was refused on a lane that goes where this one goes, so no more are made for that executor
+abbrev pub has_given_up : Node → Lane → Bool
+has_given_up n l = cond (l.hop == n.first.target) n.first.is_refused n.second.is_refused
+
 -- ---- what is taken
 
 abbrev pub taken_of : Node → Lane → ℕ

@@ -5,7 +5,7 @@ ghost use Rattle.pl_event.specs.declared.envelopes.Item.TheVariants as item;
 ghost use Rattle.pl_event.specs.declared.envelopes.Lane.{Lane};
 ghost use Rattle.pl_context.specs.Stops.{HasPlaces, AreAmong};
 ghost use Rattle.pl_flow.specs.Makes.{Makes};
-ghost use Rattle.pl_executor_tests.specs.Nodes.{HasEnded, NodeStands, came, has_made_all, lane_to, outlets_of, taken_of, target_of, writes};
+ghost use Rattle.pl_executor_tests.specs.Nodes.{HasEnded, NodeStands, came, has_given_up, has_made_all, lane_to, outlets_of, taken_of, target_of, writes};
 
 use pl_context::Outputs;
 use pl_event::{Envelope, Item, Kind, Lane, Named};
@@ -154,7 +154,12 @@ impl<W: Named> Part<W> for Node {
 
     ghost was_refused = { λ n. not (n.refusals == 0) };
 
+    // Where a flag was refused no more are made for that executor.
+    ghost gave_up = { λ n lane. has_given_up n lane ≡ true };
+
     ghost count = { λ n. 1 };
+
+    ghost channel_at = { λ n place. 0 };
 
     ghost may_read = { λ n channel answer. answer ≡ (not n.forwards && not (has_made_all n.first && has_made_all n.second)) };
 

@@ -1,17 +1,17 @@
 -- Each write waits or is settled, whatever is added or settled.
-use Rattle.std.proofs.Common.{◌≡◌, ℕ, zero, suc, ◌+◌, ◌<◌, ◌≤◌, List, [], ◌∷◌, ◌++◌, length, take, drop, set, get_or, Option, Some, None, ap, sym, subst, ◌∙◌, refl, arith, append-nil, append_assoc, length-append, add-zero}
+use Rattle.std.proofs.Common.{◌≡◌, ℕ, zero, suc, ◌+◌, ◌<◌, ◌≤◌, List, [], ◌∷◌, ◌++◌, length, take, drop, set, get_or, Option, Some, None, ap, sym, subst, ◌∙◌, refl, arith, length-append, add-zero}
 use Rattle.std.proofs.lemmas.List.{length-set, map-append, take-append-drop}
 use Rattle.std.proofs.Math.Seq.{drop-cons}
 use Rattle.pl_event.specs.declared.outcomes.Outcome.{Outcome}
 use Rattle.pl_head.specs.declared.outbound_buffer.Entry.{Entry}
 use Rattle.pl_head.specs.WaitingMessages.{numbers_of}
-use Rattle.pl_head.specs.Settling.{same_as, times, settled_at, open_at, Account, GoesOn}
+use Rattle.pl_head.specs.Settling.{same_as, times, settled_at, open_at, Account}
 
 same_as-same : (n : ℕ) → same_as n n ≡ 1
 same_as-same zero = refl
 same_as-same (suc n) = same_as-same n
 
-times-append : (n : ℕ) (xs ys : List ℕ) → times n (xs ++ ys) ≡ times n xs + times n ys
+pub times-append : (n : ℕ) (xs ys : List ℕ) → times n (xs ++ ys) ≡ times n xs + times n ys
 times-append n [] ys = omega arith
 times-append n (x ∷ xs) ys = let rest = times-append n xs ys in omega (arith, rest)
 
@@ -122,10 +122,17 @@ settled_some zero (None ∷ os) h = absurd (omega (arith, h))
 settled_some zero (Some o ∷ os) h = (o, refl, omega arith)
 settled_some (suc n) (x ∷ os) h = let rest = settled_some n os h in (rest.0, rest.1, omega (arith, rest.2))
 
-times-at : (xs : List ℕ) (i d : ℕ) → i < length xs → 0 < times (get_or xs i d) xs
+pub times-at : (xs : List ℕ) (i d : ℕ) → i < length xs → 0 < times (get_or xs i d) xs
 times-at [] i d h = absurd (omega (arith, h))
 times-at (x ∷ xs) zero d h = omega (arith, same_as-same x)
 times-at (x ∷ xs) (suc i) d h = let rest = times-at xs i d (omega (arith, h)) in omega (arith, rest)
+
+-- a write that waits or is settled has a number
+pub waits_within : (waiting settled : List ℕ) (os : List (Option Outcome)) (k : ℕ) → Account waiting settled os → 0 < times k waiting → k < length os
+waits_within waiting settled os k a stands = open_some k os (omega (arith, a.waits k))
+
+pub settled_within : {waiting : List ℕ} (settled : List ℕ) (os : List (Option Outcome)) (k : ℕ) → Account waiting settled os → 0 < times k settled → k < length os
+settled_within settled os k a stands = (settled_some k os (omega (arith, a.once k))).2
 
 -- the write that stands at a place of the list is settled
 pub told_some : {waiting : List ℕ} (settled : List ℕ) (os : List (Option Outcome)) (i n : ℕ) → Account waiting settled os → n ≡ get_or settled i n → i < length settled
@@ -133,15 +140,6 @@ pub told_some : {waiting : List ℕ} (settled : List ℕ) (os : List (Option Out
 told_some settled os i n a is h =
     let some : 0 < times n settled = subst (λ (k : ℕ). 0 < times k settled) (sym is) (times-at settled i n h) in
     settled_some n os (omega (arith, a.once n, some))
-
--- ---- more are settled
-
-pub goes_on-same : (xs : List ℕ) → GoesOn xs xs
-goes_on-same xs = ([], sym (append-nil xs))
-
-pub goes_on-push : (before : List ℕ) {now after : List ℕ} (k : ℕ) → GoesOn before now → after ≡ now ++ k ∷ [] → GoesOn before after
-goes_on-push before k g e =
-    (g.0 ++ k ∷ [], e ∙ ap (λ (ns : List ℕ). ns ++ k ∷ []) g.1 ∙ append_assoc before g.0 (k ∷ []))
 
 -- ---- accounts of messages
 

@@ -15,3 +15,4 @@ pub mod Failing
 pub mod HeadAfter
 pub mod Accepting
 pub mod Appending
+pub mod Rising

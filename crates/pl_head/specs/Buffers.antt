@@ -1,5 +1,5 @@
 -- What contracts see of an outbound buffer, and the events and sizes after which it may stand.
-use Rattle.std.specs.Prelude.{◌≡◌, ◌⊎◌, ℕ, ◌-◌, ◌<◌, List, [], ◌∷◌, ◌++◌, length, drop, map, Bool, true, false, Option, Some, None, if◌then◌else◌}
+use Rattle.std.specs.Prelude.{◌≡◌, ◌⊎◌, ℕ, ◌-◌, ◌<◌, List, [], ◌∷◌, ◌++◌, length, drop, map, Bool, true, false, Option, Some, None, IsSome, if◌then◌else◌}
 use Rattle.pl_event.specs.declared.events.Event.{Event}
 use Rattle.pl_event.specs.declared.outcomes.Outcome.{Outcome}
 use Rattle.pl_context.specs.declared.ports.Port.{Port}
@@ -7,7 +7,7 @@ use Rattle.pl_head.specs.declared.outbound_buffer.Entry.{Entry}
 use Rattle.pl_head.specs.Writes.{write_by, writes_by, is_flush, flushed_writes, unflushed_writes, late_outcome, out, outcomes}
 use Rattle.pl_head.specs.Failures.{settled_by}
 use Rattle.pl_head.specs.Settling.{GoesOn}
-use Rattle.pl_head.specs.WaitingMessages.{MessagesStand, first_size, entries_size}
+use Rattle.pl_head.specs.WaitingMessages.{MessagesStand, first_size, entries_size, numbers_of}
 use Rattle.pl_head.specs.Marks.{Change, Added, Removed}
 use Rattle.pl_head.specs.MarksStand.{Watermarks}
 
@@ -57,7 +57,7 @@ pub record BufferFailed (o : Outcome) (accepted : List ℕ) (b : OutboundBufferV
   pub outcomes_are : b.outcomes ≡ map (settled_by o) (outcomes ys (length accepted) ended) ++ map (late_outcome o) late
   pub marks : Watermarks b.low b.high b.pending b.is_unwritable b.flags sizes
 
--- more writes are settled after those before, and no more are told
+-- one call settles more writes after those before, in rising order of their numbers, and no more are told
 pub record SettlesMore (b b' : OutboundBufferView) : Type 0 where
   pub settled : GoesOn b.settled b'.settled
   pub told : b'.told ≡ b.told
@@ -71,10 +71,19 @@ pub record StopsNumbers (b b' : OutboundBufferView) : Type 0 where
 abbrev pub untold : OutboundBufferView → List ℕ
 untold b = drop b.told b.settled
 
--- An event finds no place: it makes a write, and there is no room for one more.
+-- Messages leave the front settled: their numbers follow those of the settled writes, in the order in which they waited.
+pub record SettlesFront (b b' : OutboundBufferView) : Type 0 where
+  pub front : List ℕ
+  pub settled : b'.settled ≡ b.settled ++ front
+  pub waited : numbers_of b.entries ≡ front ++ numbers_of b'.entries
+  pub told : b'.told ≡ b.told
+
+-- An event finds no place: it makes a write, and there is no room for one outcome more; or it makes a write of bytes,
+-- and there is none for one message more.
 pub record LacksRoom (e : Event) (b : OutboundBufferView) : Type 0 where
-  pub write : length (write_by e) ≡ 1
-  pub full : (b.entries_room ≡ 0) ⊎ (b.outcomes_room ≡ 0)
+  pub write : Option (List ℕ)
+  pub makes : write_by e ≡ write ∷ []
+  pub full : (b.outcomes_room ≡ 0) ⊎ (IsSome write × (b.entries_room ≡ 0))
 
 -- the marks and the lane of flags stay
 pub record SameMarks (b b' : OutboundBufferView) : Type 0 where

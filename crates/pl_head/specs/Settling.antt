@@ -1,5 +1,6 @@
 -- In which order writes are settled: the numbers of those that have an outcome, each once.
 use Rattle.std.specs.Prelude.{◌≡◌, ℕ, zero, suc, ◌+◌, List, [], ◌∷◌, ◌++◌, length, Option, Some, None}
+use Rattle.std.specs.List.Sorted.{IsStrictlyIncreasing}
 use Rattle.pl_event.specs.declared.outcomes.Outcome.{Outcome}
 
 -- 1 where the two are the same, else 0
@@ -38,6 +39,8 @@ pub record Account (waiting settled : List ℕ) (os : List (Option Outcome)) : T
   pub once : AreSettled settled os
   pub waits : (n : ℕ) → times n waiting ≡ open_at n os
 
--- more are settled after these
-abbrev pub GoesOn : List ℕ → List ℕ → Type 0
-GoesOn before after = (more : List ℕ) × (after ≡ before ++ more)
+-- More are settled after these, by one call: in rising order.
+pub record GoesOn (before after : List ℕ) : Type 0 where
+  pub more : List ℕ
+  pub after_is : after ≡ before ++ more
+  pub rises : IsStrictlyIncreasing more

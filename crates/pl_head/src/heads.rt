@@ -116,6 +116,8 @@ impl<T: Transport> Head<T> {
         ensures taken { result.taken ≡ 0 }
         ensures standing { result.standing ≡ stands.Open }
         ensures failure { result.failure ≡ None }
+        ensures closed { result.is_closed ≡ false }
+        ensures numbering { result.buffer.is_full ≡ false }
         ensures told { (result.buffer.settled ≡ []) × (result.buffer.told ≡ 0) }
         ensures few { HasFewFlags result }
     {

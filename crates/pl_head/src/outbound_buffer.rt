@@ -2,6 +2,7 @@
 
 ghost use Rattle.std.specs.Prelude.{◌≡◌, ℕ, ◌+◌, ◌-◌, ◌<◌, ◌≤◌, ◌^◌, ◌↔◌, ◌⊎◌, ◌∷◌, ◌++◌, List, [], length, take, drop, map, Bool, true, false, Option, Some, None, IsTrue, IfSome, IfNone, OnSome, OnOk, OnErr, not, nat_le, slice_index_or, vec_len, vec_capacity};
 ghost use Rattle.std.specs.Option.{option_to_list};
+ghost use Rattle.std.specs.List.Sorted.{IsStrictlyIncreasing};
 ghost use Rattle.std.specs.VecDeque.{deque_len, deque_capacity};
 ghost use Rattle.pl_event.specs.declared.events.Event.{Event};
 ghost use Rattle.pl_event.specs.declared.events.Event.TheVariants as event;
@@ -13,7 +14,7 @@ ghost use Rattle.pl_context.specs.Stops.{HasPlaces, AreAmong};
 ghost use Rattle.pl_head.specs.Writes.{write_by, late_outcome, flushed_writes, out, outcomes, offered, waiting_bytes};
 ghost use Rattle.pl_head.specs.Marks.{Change, Added, Removed, pending_after, added_by, removed_by, is_unwritable};
 ghost use Rattle.pl_head.specs.WaitingMessages.{settled_all, first_size, entries_size, numbers_of};
-ghost use Rattle.pl_head.specs.Settling.{Account, GoesOn};
+ghost use Rattle.pl_head.specs.Settling.{Account};
 ghost use Rattle.pl_head.specs.Buffers.{event_sizes};
 
 use crate::marks::Marks;
@@ -51,6 +52,7 @@ pub(crate) struct OutboundBuffer {
     ghost offset_within: { 0 < flushed → offset ≤ first_size entries.items },
     ghost offset_zero: { flushed ≡ 0 → offset ≡ 0 },
     ghost account: { Account (numbers_of entries.items) settled.items outcomes.items },
+    ghost ordered: { IsStrictlyIncreasing (numbers_of entries.items) },
     ghost settled_room: { length outcomes.items ≤ vec_capacity settled },
     ghost told_within: { told ≤ length settled.items },
     ghost covered: { entries_size entries.items ≤ marks.pending },
@@ -58,7 +60,7 @@ pub(crate) struct OutboundBuffer {
 
 impl OutboundBuffer {
     ghost use Rattle.pl_head.specs.MarksStand.{SendsFlags, flag_bound};
-    ghost use Rattle.pl_head.specs.Buffers.{BufferStands, BufferFailed, SameMarks, SettlesMore, StopsNumbers, LacksRoom, untold};
+    ghost use Rattle.pl_head.specs.Buffers.{BufferStands, BufferFailed, SameMarks, SettlesMore, SettlesFront, StopsNumbers, LacksRoom, untold};
     ghost use Rattle.pl_head.specs.OutboundStand.{buffer_view, Holds, HasPlace, TakesOut};
 
     /// Nothing waits, and nothing was written. It takes no memory.
@@ -186,7 +188,7 @@ impl OutboundBuffer {
     fn add_settled(&mut self, outcome: Outcome)
         requires place { HasPlace self.old }
         ensures same { buffer_view self.new ≡ record (buffer_view self.old) { outcomes = (buffer_view self.old).outcomes ++ Some outcome ∷ []; settled = self.new.settled.items; outcomes_room = (buffer_view self.new).outcomes_room } }
-        ensures settled { GoesOn self.old.settled.items self.new.settled.items }
+        ensures settled { self.new.settled.items ≡ self.old.settled.items ++ length self.old.outcomes.items ∷ [] }
         ensures marks { self.new.marks ≡ self.old.marks }
     {
         let number = self.outcomes.len();
@@ -358,7 +360,7 @@ impl OutboundBuffer {
         ensures holds { (flushed unflushed : List (Option (List ℕ))) (left : List ℕ) (ended : Bool) → Holds self.old flushed unflushed left ended → Holds self.new flushed unflushed left ended }
         ensures size { entries_size self.old.entries.items ≡ result + entries_size self.new.entries.items }
         ensures shorter { length self.new.entries.items + 1 ≡ length self.old.entries.items }
-        ensures settles { SettlesMore (buffer_view self.old) (buffer_view self.new) }
+        ensures settles { SettlesFront (buffer_view self.old) (buffer_view self.new) }
         ensures numbering { self.new.is_full ≡ self.old.is_full }
         ensures marks { self.new.marks ≡ self.old.marks }
     {
@@ -457,7 +459,7 @@ fn settle_from(
     ensures outcomes { outcomes.new.items ≡ settled_all outcome (drop start entries.now.items) outcomes.old.items }
     ensures size { result ≡ entries_size (drop start entries.now.items) }
     ensures account { Account (numbers_of (take start entries.now.items)) settled.new.items outcomes.new.items }
-    ensures settled { GoesOn settled.old.items settled.new.items }
+    ensures settled { settled.new.items ≡ settled.old.items ++ numbers_of (drop start entries.now.items) }
     ensures length { vec_len outcomes.new ≡ vec_len outcomes.old }
     ensures capacity { vec_capacity outcomes.new ≡ vec_capacity outcomes.old }
     ensures settled_capacity { vec_capacity settled.new ≡ vec_capacity settled.old }

@@ -1,6 +1,6 @@
 -- What is on its way between executors of which one runs: of each lane that is written, what is queued follows what was taken,
 -- what waits to be handed over follows that, and what stands on the work list follows both, up to what was made.
-use Rattle.std.specs.Prelude.{◌≡◌, ◌≢◌, ◌⊎◌, ℕ, zero, suc, ◌+◌, ◌<◌, ◌≤◌, ◌^◌, ◌==◌, ◌&&◌, Bool, true, false, List, [], ◌∷◌, ◌++◌, length, map, remove, nat_lt, slice_get, All, Option, Some}
+use Rattle.std.specs.Prelude.{◌≡◌, ◌≢◌, ◌⊎◌, ℕ, zero, suc, ◌+◌, ◌<◌, ◌≤◌, ◌^◌, ◌==◌, ◌&&◌, Bool, true, false, List, [], ◌∷◌, ◌++◌, length, map, position, remove, nat_lt, slice_get, All, Option, Some}
 use Rattle.std.specs.Option.{option_map, option_map_or}
 use Rattle.pl_event.specs.declared.envelopes.Envelope.{Envelope}
 use Rattle.pl_event.specs.declared.envelopes.Lane.{Lane}
@@ -185,6 +185,15 @@ has_room executors capacity y = option_map_or (λ e. nat_lt (length e.queue) cap
 -- the queue of an executor has memory for so many items more
 abbrev pub memory_at : List ExecutorView → ℕ → ℕ
 memory_at executors y = option_map_or (λ e. e.room) (slice_get executors y) 0
+
+-- The oldest entry of the backlog of executor x whose target has room, where a queue holds so many items: the queue of that target
+-- has no memory for it.
+pub record LacksMemory {N : Type 0} (capacity x : ℕ) (c : CoreView N) : Type 0 where
+  pub i : ℕ
+  pub entry : Entry Unit
+  pub oldest : position (λ e. has_room c.executors capacity e.target) (c.backlogs x) ≡ Some i
+  pub is : slice_get (c.backlogs x) i ≡ Some entry
+  pub memory : memory_at c.executors entry.target ≡ 0
 
 -- The entry at i of the backlog of executor x has gone to the end of its target's queue. Nothing else has moved.
 pub record HandsOver {N : Type 0} (x i : ℕ) (c c' : CoreView N) : Type 0 where

@@ -4,7 +4,7 @@ ghost use Rattle.std.specs.Prelude.{◌≡◌, ◌<◌, ◌≤◌, ◌+◌, [], 
 ghost use Rattle.pl_event.specs.Worlds.{World};
 ghost use Rattle.pl_context.specs.Stops.{HasPlaces, no_stops};
 ghost use Rattle.pl_context.specs.WaitingViews.{Entry, is_for};
-ghost use Rattle.pl_net.specs.Nets.{CoreStands, IsStart, no_backlogs, IsStep, Settles, RunsTask, Gives, HandsOver, has_room, memory_at, queue_at, done_by};
+ghost use Rattle.pl_net.specs.Nets.{CoreStands, IsStart, no_backlogs, IsStep, Settles, RunsTask, Gives, HandsOver, LacksMemory, has_room, memory_at, queue_at, done_by};
 
 use crate::executors::{Executor, oldest_target};
 use crate::nodes::Nodes;
@@ -26,7 +26,7 @@ impl<N: Nodes + Drop> Core<N> {
     ghost use Rattle.pl_net.specs.Cores.{core_view, IsUnmoved, IsUnmovedButRoom};
 
     /// Nodes that have taken nothing, and executors at which nothing waits, whose queues hold at most `capacity` items
-    /// each. There are so many places on the work list.
+    /// each. There are so many places on the work list, and nothing has stopped there.
     pub fn new(
         alloc: Global,
         capacity: usize,
@@ -40,6 +40,7 @@ impl<N: Nodes + Drop> Core<N> {
         ensures executors { IfOk result (λ core. core.executors.items ≡ executors.items) }
         ensures capacity { IfOk result (λ core. core.capacity ≡ capacity) }
         ensures rests { IfOk result (λ core. core.work.items ≡ []) }
+        ensures unstopped { IfOk result (λ core. core.work.stopped ≡ no_stops places) }
         ensures stands { IfOk result (λ core. (world : World) (x : ℕ) → N.stands world nodes → CoreStands N.view_of N.stands world x (core_view core no_backlogs)) }
     {
         Ok(Core {
@@ -204,9 +205,10 @@ impl<N: Nodes + Drop> Core<N> {
         ensures idle { result ≡ Ok false → self.new ≡ self.old }
         ensures err { OnErr result (IsUnmovedButRoom self.old self.new) }
         ensures stays { OnErr result ((world : World) (x : ℕ) (backlogs : ℕ → List (Entry Unit)) → CoreStands N.view_of N.stands world x (core_view self.old backlogs) → CoreStands N.view_of N.stands world x (core_view self.new backlogs)) }
-        // A queue is to grow only for an item that has room there.
+        // A queue is to grow only for an item that has room there, and where it has no memory for one more.
         ensures wanted { OnErr result ((world : World) (x : ℕ) (backlogs : ℕ → List (Entry Unit)) → CoreStands N.view_of N.stands world x (core_view self.old backlogs)
             → (i : ℕ) × (position (λ entry. has_room self.old.executors.items self.old.capacity entry.target) (backlogs me) ≡ Some i)) }
+        ensures refused { OnErr result ((world : World) (x : ℕ) (backlogs : ℕ → List (Entry Unit)) → CoreStands N.view_of N.stands world x (core_view self.old backlogs) → LacksMemory self.old.capacity me (core_view self.old backlogs)) }
         ensures capacity { self.new.capacity ≡ self.old.capacity }
         ensures count { vec_len self.new.executors ≡ vec_len self.old.executors }
     {

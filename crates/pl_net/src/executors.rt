@@ -1,6 +1,6 @@
 //! An executor's queue, and its backlog of what was made there for others (Netty's `SingleThreadEventExecutor`).
 
-ghost use Rattle.std.specs.Prelude.{◌≡◌, ◌+◌, ◌<◌, ◌^◌, ◌∷◌, ◌++◌, [], List, IfOk, OnOk, IfNone, Some, map, find, length, slice_get, nat_lt};
+ghost use Rattle.std.specs.Prelude.{◌≡◌, ◌+◌, ◌<◌, ◌^◌, ◌∷◌, ◌++◌, [], List, IfOk, OnOk, OnErr, IfNone, Some, map, find, length, slice_get, nat_lt};
 ghost use Rattle.std.specs.Option.{option_to_list, option_map};
 ghost use Rattle.pl_context.specs.Stops.{HasPlaces, no_stops};
 ghost use Rattle.pl_context.specs.WaitingViews.{Entry, Holds, stops_for};
@@ -61,10 +61,11 @@ impl Executor {
         self.queue.len() < capacity
     }
 
-    /// Makes room for one item in the queue.
+    /// Makes room for one item in the queue. It is refused only where there was none.
     pub(crate) fn reserve(&mut self) -> Result<(), AllocError>
         ensures same { self.new ≡ record self.old { room = self.new.room } }
         ensures room { OnOk result (0 < self.new.room) }
+        ensures refused { OnErr result (self.old.room ≡ 0) }
     {
         self.queue.reserve(1)
     }

@@ -40,7 +40,7 @@ use Rattle.pl_head.specs.Transports.{TransportState}
 use Rattle.pl_head.specs.MarksStand.{SendsFlags}
 use Rattle.pl_head.specs.ReadSteps.{entrance, bursts_read, plan_steps, has_step, read_items, step_items, is_abort, brings_failure, brings_abort, next_step_items, steps_after}
 use Rattle.pl_head.specs.InputStand.{InputView, InputStands}
-use Rattle.pl_head.specs.HeadStand.{HeadView, BufferAfter, StandsAfter, ReadsStand, Aborts, EntersHead, lane_over, Answers, waiting_at, events_before, events_from, item_sizes, standing_after, first_cause, cause_of_item, cause_of_step, step_sizes, HasFewFlags}
+use Rattle.pl_head.specs.HeadStand.{HeadView, BufferAfter, StandsAfter, ReadsStand, Aborts, EntersHead, lane_over, Answers, waiting_at, events_before, events_from, item_sizes, standing_after, cause_of_item, cause_of_step, step_sizes, HasFewFlags}
 use Rattle.pl_head.proofs.ReadSteps.{items_of_step, number_of_step, abort_is, stands_after}
 use Rattle.pl_head.proofs.FlagSteps.{places_stay}
 use Rattle.pl_part.specs.ContextHolds.{port_point}

@@ -1,5 +1,5 @@
 -- Contexts that have taken nothing, hop by hop.
-use Rattle.std.proofs.Common.{◌≡◌, ℕ, zero, suc, ◌⊎◌, inl, inr, List, [], ◌∷◌, ◌++◌, length, get_or, replicate, slice_get, Option, Some, None, refl, ap, sym, ◌∙◌, subst}
+use Rattle.std.proofs.Common.{◌≡◌, ℕ, zero, suc, ◌⊎◌, inl, inr, List, [], ◌∷◌, ◌++◌, ◌+◌, length, get_or, replicate, slice_get, Option, Some, None, refl, ap, sym, ◌∙◌, subst, arith}
 use Rattle.pl_event.specs.declared.events.Event.{Event}
 use Rattle.pl_event.specs.declared.envelopes.Kind.{Kind}
 use Rattle.pl_event.specs.declared.envelopes.Kind.TheVariants.{Data, Flags}
@@ -7,7 +7,7 @@ use Rattle.pl_event.specs.Meaning.{Meaning, IsLawful}
 use Rattle.pl_event.specs.Worlds.{World}
 use Rattle.pl_context.specs.ContextViews.{ContextView, kind_taken, new_context}
 use Rattle.pl_context.specs.Contexts.{StandsAfter}
-use Rattle.pl_part.specs.NewParts.{IsPlannedAt, IsNewAt, AreNew}
+use Rattle.pl_part.specs.NewParts.{IsPlannedAt, IsNewAt, AreNew, new_slots}
 use Rattle.pl_part.proofs.ContextStarts.{new-holds, new-starts}
 use Rattle.pl_part.proofs.EventLists.{some-equal}
 
@@ -29,6 +29,15 @@ slice_get-behind (y ∷ ys) rest x = slice_get-behind ys rest x
 pub replicate-push : {A B : Type 0} (xs : List A) (x : A) (b : B) → replicate (length (xs ++ x ∷ [])) b ≡ replicate (length xs) b ++ b ∷ []
 replicate-push [] x b = refl
 replicate-push (y ∷ ys) x b = ap (λ bs. b ∷ bs) (replicate-push ys x b)
+
+-- the slots of one stage more
+pub new_slots-push : {S : Type 0} (meaning : S → Meaning) (channel k hop : ℕ) (stages : List S) (stage : S)
+    → new_slots meaning channel k hop (stages ++ stage ∷ []) ≡ new_slots meaning channel k hop stages ++ Some (new_context (meaning stage).direction channel (hop + length stages) k stage) ∷ []
+new_slots-push meaning channel k hop [] stage = ap (λ (h : ℕ). Some (new_context (meaning stage).direction channel h k stage) ∷ []) (omega arith)
+new_slots-push meaning channel k hop (first ∷ stages) stage =
+    ap (λ (l : List (Option (ContextView _))). Some (new_context (meaning first).direction channel hop k first) ∷ l)
+    (new_slots-push meaning channel k (hop + 1) stages stage
+    ∙ ap (λ (h : ℕ). new_slots meaning channel k (hop + 1) stages ++ Some (new_context (meaning stage).direction channel h k stage) ∷ []) (omega arith))
 
 module _ {S : Type 0} (world : World) (meaning : S → Meaning) (channel k turn : ℕ) (stands_after : S → List Event → Type 0) where
   pub new-at : (lawful : (s : S) → IsLawful (meaning s)) (hop : ℕ) (stage : S) (c : ContextView S) → IsPlannedAt world meaning channel k turn hop stage → c ≡ new_context (meaning stage).direction channel hop k stage

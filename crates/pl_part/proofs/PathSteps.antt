@@ -3,8 +3,9 @@ use Rattle.std.proofs.Common.{◌≡◌, ◌≢◌, ℕ, zero, suc, ◌+◌, ◌
 use Rattle.std.specs.Prelude.{◌==◌, is_some, if◌then◌else◌}
 use Rattle.std.specs.List.{list_any, range_with_len}
 use Rattle.std.specs.Option.{option_map_or}
-use Rattle.std.proofs.lemmas.List.{length-set, get_or-set_same, get_or-set_other}
+use Rattle.std.proofs.lemmas.List.{length-set, set-get_or, get_or-set_same, get_or-set_other}
 use Rattle.std.proofs.lemmas.List.Sums.{sum_by-set}
+use Rattle.std.proofs.lemmas.Option.{none-some}
 use Rattle.std.proofs.lemmas.Bool.{cond-true, cond-false, cases_Bool, both_ways, and_parts, and_from, eqb-true, eq-eqb, ne_eqb}
 use Rattle.pl_event.specs.declared.events.Event.{Event}
 use Rattle.pl_event.specs.declared.envelopes.Kind.{Kind}
@@ -30,7 +31,7 @@ use Rattle.pl_flow.specs.Makes.{Makes}
 use Rattle.pl_flow.proofs.MakeLemmas.{makes-none, makes-among}
 use Rattle.pl_part.specs.ContextHolds.{ContextHolds, ports_write, ports_came, port_point, context_writes, context_came, context_lanes}
 use Rattle.pl_part.specs.TailHolds.{TailHolds}
-use Rattle.pl_part.specs.Taking.{ContextTakes, TailTakes}
+use Rattle.pl_part.specs.Taking.{ContextTakes, ContextRefused, TailTakes}
 use Rattle.pl_part.specs.Paths.{PathView, PathHolds, IsPathPart, IsAt, context_at, writer_hop, enters_path, path_taken, path_lanes, path_writes, path_writes_at, path_came}
 use Rattle.pl_part.specs.PathCalls.{IsNextOnPath, PathPuts, PathTaken, PathRefused}
 use Rattle.pl_part.specs.Counts.{context_done, tail_done, slot_done, path_done}
@@ -218,6 +219,10 @@ module _ {S : Type 0} (meaning : S → Meaning) (stands_after : S → List Event
     pub still-there : (h : ℕ) → h ≢ hop → context_at moved_path h ≡ context_at v h
     still-there h n = get_or-set_other v.contexts hop h (Some c') None n
 
+    unmoved : c' ≡ c → moved_path ≡ v
+    unmoved e = ap (λ (xs : List (Option (ContextView S))). record v { contexts = xs })
+        (ap (λ (y : ContextView S). set v.contexts hop (Some y)) e ∙ ap (λ (slot : Option (ContextView S)). set v.contexts hop slot) (sym at) ∙ set-get_or v.contexts hop None)
+
     same-writer : (h : ℕ) → writer_hop moved_path h ≡ writer_hop v h
     same-writer h = ap (λ (n : ℕ). if h == 0 then n else if h == v.tail_hop + 1 then v.turn else h - 1) (length-set v.contexts hop (Some c'))
 
@@ -367,6 +372,7 @@ module _ {S : Type 0} (meaning : S → Meaning) (stands_after : S → List Event
         );
         tail = λ t on found. absurd (apart (sym on_hop ∙ eqb-true e.lane.hop v.tail_hop on));
         others = λ h f. still-there h (λ k. both_ways (h == e.lane.hop) f (eq-eqb h e.lane.hop (k ∙ sym on_hop)));
+        tail_kept = λ off. refl;
       };
       taken = taken-by (λ l n. cond (same_lane l e.lane) (e.number + 1) n)
           (λ l on_same. (λ i. place_taken (place.0 i) (place.1 i) (λ k. kind_taken c' k) l)
@@ -382,14 +388,26 @@ module _ {S : Type 0} (meaning : S → Meaning) (stands_after : S → List Event
       more = let done = path-done in omega (arith, done, more);
     }
 
-    pub context-refused : (lane : Lane) (before after : OutputsView) → hop ≡ writer_hop v lane.hop → (lane.kind ≡ Data → is_over c'.standing ≡ true) → ((k : Kind) → kind_taken c' k ≡ kind_taken c k)
+    pub context-refused : (lane : Lane) (before after : OutputsView) → hop ≡ writer_hop v lane.hop → ContextRefused lane.kind c before c' after → (lane.kind ≡ Data → is_over c'.standing ≡ true) → ((k : Kind) → kind_taken c' k ≡ kind_taken c k)
         → ((world : World) → world.refuses ≡ true → ContextHolds world meaning stands_after c → ContextHolds world meaning stands_after c')
         → ((world : World) → world.refuses ≡ true → ContextHolds world meaning stands_after c
         → Makes world (context_writes (meaning c.stage).direction c) (context_came (meaning c.stage).direction c) (context_came (meaning c.stage).direction c') before after)
         → ((hops : List Lane) → AreAmong (context_lanes c) hops → HasPlaces before.stopped hops → HasPlaces after.stopped hops)
         → context_done c + length after.items ≤ context_done c' + length before.items
         → PathRefused meaning stands_after v lane before moved_path after
-    context-refused lane before after writer over counts held made placed more = record {
+    context-refused lane before after writer refused over counts held made placed more = record {
+      refuses = record {
+        writer = λ x found. (
+          c',
+          ap (λ (h : ℕ). context_at moved_path h) (sym writer) ∙ now-here,
+          subst (λ (y : ContextView S). ContextRefused lane.kind y before c' after) (some-equal c x (sym at ∙ ap (λ (h : ℕ). context_at v h) writer ∙ found)) refused,
+        );
+        none = λ n. absurd (none-some c (sym n ∙ ap (λ (h : ℕ). context_at v h) (sym writer) ∙ at));
+        flags = λ k. let kept = refused.flag k in (unmoved kept.0, kept.1);
+        first_hop = λ z. absurd (let last = writer ∙ ap (λ (h : ℕ). writer_hop v h) z in let w = within in omega (arith, last, w));
+        others = λ h f. still-there h (λ k. both_ways (h == writer_hop v lane.hop) f (eq-eqb h (writer_hop v lane.hop) (k ∙ writer)));
+        tail_kept = refl;
+      };
       over = λ k x found. subst (λ (y : ContextView S). is_over y.standing ≡ true)
           (some-equal c' x (sym (ap (λ (h : ℕ). context_at moved_path h) (same-writer lane.hop ∙ sym writer) ∙ now-here) ∙ found)) (over k);
       taken = taken-by (λ l n. n) (λ l on_same. (λ i. place_taken (place.0 i) (place.1 i) (λ k. counts k i) l)) (λ l n off. refl);
@@ -408,6 +426,14 @@ module _ {S : Type 0} (meaning : S → Meaning) (stands_after : S → List Event
 module _ {S : Type 0} (meaning : S → Meaning) (stands_after : S → List Event → Type 0) (v : PathView S) where
   pub none-refused : (lane : Lane) (before : OutputsView) → context_at v (writer_hop v lane.hop) ≡ None → PathRefused meaning stands_after v lane before v before
   none-refused lane before none = record {
+    refuses = record {
+      writer = λ x found. absurd (no (sym none ∙ found));
+      none = λ n. (refl, refl);
+      flags = λ k. (refl, refl);
+      first_hop = λ z. (refl, refl);
+      others = λ h f. refl;
+      tail_kept = refl;
+    };
     over = λ k x found. absurd (no (sym none ∙ found));
     taken = λ l. refl;
     puts = record {
@@ -453,6 +479,7 @@ module _ {S : Type 0} (meaning : S → Meaning) (stands_after : S → List Event
         context = λ x off found. absurd (both_ways (e.lane.hop == v.tail_hop) off there);
         tail = λ x on found. (t', refl, subst (λ (y : TailView). TailTakes y e answer t') (some-equal t x (sym at ∙ found)) takes, refl);
         others = λ h f. refl;
+        tail_kept = λ off. absurd (both_ways (e.lane.hop == v.tail_hop) off there);
       };
       taken = λ l. ⊎_elim
           (λ (on : (l.hop == v.tail_hop) ≡ true).

@@ -1,5 +1,5 @@
 -- Parts whose nodes have taken nothing, in a world that knows their lanes.
-use Rattle.std.specs.Prelude.{◌≡◌, ℕ, ◌+◌, ◌<◌, ◌^◌, true, false, List, get_or, length, slice_get, Option, Some, None}
+use Rattle.std.specs.Prelude.{◌≡◌, ℕ, ◌+◌, ◌<◌, ◌^◌, true, false, List, [], ◌∷◌, ◌++◌, get_or, length, slice_get, Option, Some, None}
 use Rattle.pl_event.specs.declared.events.Event.{Event}
 use Rattle.pl_event.specs.declared.envelopes.Kind.{Kind}
 use Rattle.pl_event.specs.declared.envelopes.Lane.{Lane}
@@ -7,7 +7,7 @@ use Rattle.pl_event.specs.Hops.{data_lane}
 use Rattle.pl_event.specs.Meaning.{Meaning}
 use Rattle.pl_event.specs.Paths.{is_turn}
 use Rattle.pl_event.specs.Worlds.{World, content_of}
-use Rattle.pl_context.specs.ContextViews.{ContextView, IsHop, kind_taken}
+use Rattle.pl_context.specs.ContextViews.{ContextView, IsHop, kind_taken, new_context}
 use Rattle.pl_flow.specs.Flows.{point}
 use Rattle.pl_part.specs.ContextHolds.{ContextHolds, IsPlanned, context_writes, context_came}
 use Rattle.pl_part.specs.Paths.{IsAt}
@@ -41,3 +41,14 @@ pub record ArePlannedWith {S : Type 0} (world : World) (meaning : S → Meaning)
   pub planned_inbound : ArePlanned world meaning channel (length inbound) turn 0 inbound
   pub planned_tail : (events : List Event) × (content_of world (data_lane channel (length inbound)) ≡ Some events) × (length events + 1 < 2 ^ 31)
   pub planned_outbound : ArePlanned world meaning channel (length inbound) turn (length inbound + 1) outbound
+
+module _ {S : Type 0} (meaning : S → Meaning) (channel k : ℕ) where
+  -- the slots of these stages at consecutive hops, of which the first is this: none has taken or made anything
+  abbrev pub new_slots : ℕ → List S → List (Option (ContextView S))
+  new_slots hop [] = []
+  new_slots hop (stage ∷ stages) = Some (new_context (meaning stage).direction channel hop k stage) ∷ new_slots (hop + 1) stages
+
+-- all slots of a new channel: those of its inbound stages, the tail's, which has no context, and those of its outbound stages
+abbrev pub whole_slots : {S : Type 0} → (S → Meaning) → ℕ → List S → List S → List (Option (ContextView S))
+whole_slots meaning channel inbound outbound =
+    new_slots meaning channel (length inbound) 0 inbound ++ None ∷ new_slots meaning channel (length inbound) (length inbound + 1) outbound

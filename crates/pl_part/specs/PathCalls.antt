@@ -14,7 +14,7 @@ use Rattle.pl_context.specs.OutputsViews.{OutputsView}
 use Rattle.pl_context.specs.Stops.{HasPlaces, AreAmong}
 use Rattle.pl_flow.specs.Flows.{IsGood}
 use Rattle.pl_flow.specs.Makes.{Makes}
-use Rattle.pl_part.specs.Paths.{PathView, PathHolds, PathTakes, SamePath, context_at, writer_hop, enters_path, path_taken, path_lanes, path_writes, path_writes_at, path_came}
+use Rattle.pl_part.specs.Paths.{PathView, PathHolds, PathTakes, PathRefuses, SamePath, context_at, writer_hop, enters_path, path_taken, path_lanes, path_writes, path_writes_at, path_came}
 use Rattle.pl_part.specs.Counts.{path_done}
 
 -- An envelope is the next of its lane, which enters one of the nodes, and there are places for what they write.
@@ -47,8 +47,10 @@ module _ {S : Type 0} (meaning : S → Meaning) where
       -- what came on the list was made, and an item more was taken
       pub more : path_done p + length after.items + 1 ≤ path_done p' + length before.items
 
-    -- The writer of a lane was made to fail, in a world where lanes are refused.
+    -- A lane was refused, in a world where lanes are, and its writer, where it is a context, has ended or failed if it is a data
+    -- lane.
     pub record PathRefused (p : PathView S) (l : Lane) (before : OutputsView) (p' : PathView S) (after : OutputsView) : Type 0 where
+      pub refuses : PathRefuses p l before p' after
       pub over : l.kind ≡ Data → (c : ContextView S) → context_at p' (writer_hop p' l.hop) ≡ Some c → is_over c.standing ≡ true
       pub taken : (m : Lane) → path_taken p' m ≡ path_taken p m
       pub puts : PathPuts p before p' after

@@ -5,6 +5,7 @@ use Rattle.std.specs.List.{list_all, range_with_len}
 use Rattle.std.specs.Option.{option_map_or}
 use Rattle.pl_event.specs.declared.events.Event.{Event}
 use Rattle.pl_event.specs.declared.envelopes.Envelope.{Envelope}
+use Rattle.pl_event.specs.declared.envelopes.Kind.TheVariants.{Flags}
 use Rattle.pl_event.specs.declared.envelopes.Lane.{Lane}
 use Rattle.pl_event.specs.Hops.{data_lane, flags_lane}
 use Rattle.pl_event.specs.Meaning.{Meaning}
@@ -19,7 +20,7 @@ use Rattle.pl_context.specs.TailViews.{TailView, taken_of as tail_taken_of}
 use Rattle.pl_flow.specs.Flows.{Point, nowhere}
 use Rattle.pl_part.specs.ContextHolds.{ContextHolds, context_writes, context_came, context_lanes}
 use Rattle.pl_part.specs.TailHolds.{TailHolds}
-use Rattle.pl_part.specs.Taking.{ContextTakes, TailTakes}
+use Rattle.pl_part.specs.Taking.{ContextTakes, ContextRefused, TailTakes}
 
 pub record PathView (S : Type 0) : Type 0 where
   pub channel : ℕ
@@ -72,6 +73,17 @@ abbrev pub path_over : {S : Type 0} → PathView S → Bool
 path_over p = list_all (λ (slot : Option (ContextView _)). is_slot_over slot) p.contexts
     && option_map_or (λ (t : TailView). is_over t.standing) p.tail true
 
+-- A lane is refused: so is the context that writes it, where it is one of the nodes. The others are as they were, and so are
+-- all of them where it is a flags lane, or one that the head writes.
+pub record PathRefuses {S : Type 0} (p : PathView S) (l : Lane) (before : OutputsView) (p' : PathView S) (after : OutputsView) : Type 0 where
+  pub writer : (c : ContextView S) → context_at p (writer_hop p l.hop) ≡ Some c
+      → (c' : ContextView S) × (context_at p' (writer_hop p l.hop) ≡ Some c') × ContextRefused l.kind c before c' after
+  pub none : context_at p (writer_hop p l.hop) ≡ None → (p' ≡ p) × (after ≡ before)
+  pub flags : l.kind ≡ Flags → (p' ≡ p) × (after ≡ before)
+  pub first_hop : l.hop ≡ 0 → (p' ≡ p) × (after ≡ before)
+  pub others : (hop : ℕ) → (hop == writer_hop p l.hop) ≡ false → context_at p' hop ≡ context_at p hop
+  pub tail_kept : p'.tail ≡ p.tail
+
 -- ---- its lanes
 
 -- how many items of a lane its nodes have taken
@@ -113,6 +125,7 @@ module _ {S : Type 0} (meaning : S → Meaning) where
           → (c' : ContextView S) × (context_at p' e.lane.hop ≡ Some c') × ContextTakes meaning stands_after is_spent c e before answer c' after
       pub tail : (t : TailView) → (e.lane.hop == p.tail_hop) ≡ true → p.tail ≡ Some t → (t' : TailView) × (p'.tail ≡ Some t') × TailTakes t e answer t' × (after ≡ before)
       pub others : (hop : ℕ) → (hop == e.lane.hop) ≡ false → context_at p' hop ≡ context_at p hop
+      pub tail_kept : (e.lane.hop == p.tail_hop) ≡ false → p'.tail ≡ p.tail
 
 module _ {S : Type 0} (world : World) (meaning : S → Meaning) (stands_after : S → List Event → Type 0) where
   -- Each of its nodes holds, and stands at its place; and they are few.

@@ -39,6 +39,8 @@ pub fn new_head<T: Transport>(
     ensures place { (result.channel ≡ channel) × (result.hop ≡ hop) }
     ensures marks { (result.buffer.low ≡ low) × (result.buffer.high ≡ high) }
     ensures taken { (result.taken ≡ 0) × (result.standing ≡ stands.Open) × (result.failure ≡ None) }
+    ensures closed { result.is_closed ≡ false }
+    ensures numbering { result.buffer.is_full ≡ false }
     ensures told { (result.buffer.settled ≡ []) × (result.buffer.told ≡ 0) }
     ensures done { head_done result ≡ 0 }
 {

@@ -14,7 +14,7 @@ ghost use Rattle.pl_flow.specs.Flows.{IsGood};
 ghost use Rattle.pl_flow.specs.Makes.{Makes};
 ghost use Rattle.pl_part.specs.ContextHolds.{ContextHolds, context_writes, context_came, context_lanes};
 ghost use Rattle.pl_part.specs.TailHolds.{TailHolds};
-ghost use Rattle.pl_part.specs.Taking.{ContextTakes, TailTakes};
+ghost use Rattle.pl_part.specs.Taking.{ContextTakes, ContextRefused, TailTakes};
 ghost use Rattle.pl_part.specs.Counts.{context_done};
 
 use pl_context::{Context, Outputs, Tail, Took};
@@ -38,10 +38,12 @@ pub fn take_at<S: Stage>(context: &mut Context<S>, envelope: Envelope, work: &mu
     context.take(envelope, work)
 }
 
-/// The writer of a lane fails, since nothing more of it is accepted. (Flags that are refused are lost, and nothing else.)
+/// The writer of a data lane fails with `Refused`, since nothing more of it is accepted. Of a flags lane a flag is lost, and
+/// nothing else.
 pub fn refuse_at<S: Stage>(context: &mut Context<S>, lane: Lane, work: &mut Outputs)
     requires holds { (world : World) × (world.refuses ≡ true) × ContextHolds world S.meaning S.stands_after context.old }
     requires places { HasPlaces work.old.stopped (context_lanes context.old) }
+    ensures refused { ContextRefused lane.kind context.old work.old context.new work.new }
     ensures holds { (world : World) → world.refuses ≡ true → ContextHolds world S.meaning S.stands_after context.old → ContextHolds world S.meaning S.stands_after context.new }
     ensures meaning { S.meaning context.new.stage ≡ S.meaning context.old.stage }
     ensures place { (context.new.channel ≡ context.old.channel) × (context.new.hop ≡ context.old.hop) }

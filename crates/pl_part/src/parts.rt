@@ -16,9 +16,9 @@ ghost use Rattle.pl_flow.specs.Makes.{Makes};
 ghost use Rattle.pl_head.specs.HeadStand.{HeadView, StandsAfter, is_idle};
 ghost use Rattle.pl_event.specs.declared.events.Event.{Event};
 ghost use Rattle.pl_head.specs.Marks.{Change};
-ghost use Rattle.pl_part.specs.NewParts.{ArePlannedWith, AreNew};
+ghost use Rattle.pl_part.specs.NewParts.{ArePlannedWith, AreNew, whole_slots};
 ghost use Rattle.pl_part.specs.HeadHolds.{HeadHolds};
-ghost use Rattle.pl_part.specs.Paths.{context_at, writer_hop};
+ghost use Rattle.pl_part.specs.Paths.{PathRefuses, context_at, writer_hop};
 ghost use Rattle.pl_part.specs.Parts.{PartHolds, PartTakes, PartReads, PartWrites, PartAborts, SamePart, head_hop, has_entered, has_read, all_over, part_taken, part_lanes, part_writes, writes_at, part_came};
 ghost use Rattle.pl_part.specs.Counts.{head_done, part_done};
 ghost use Rattle.pl_part.specs.PartCalls.{IsNextFor, Taken, Given, PartRefused};
@@ -70,6 +70,7 @@ impl<S: Stage, T: Transport> ChannelPart<S, T> {
         requires planned { (world : World) × ArePlannedWith world S.meaning channel turn inbound.items outbound.items }
         requires last { (head.channel ≡ channel) × (head.hop ≡ length inbound.items + length outbound.items + 1) }
         ensures place { IfOk result (λ part. (part.path.channel ≡ channel) × (part.path.executors ≡ executors.items) × (part.path.tail_hop ≡ length inbound.items) × (part.path.turn ≡ turn)) }
+        ensures contexts { IfOk result (λ part. part.path.contexts ≡ whole_slots S.meaning channel inbound.items outbound.items) }
         ensures filled { IfOk result (λ part. map (λ slot. is_some slot) part.path.contexts ≡ replicate (length inbound.items) true ++ false ∷ replicate (length outbound.items) true) }
         ensures tail { IfOk result (λ part. part.path.tail ≡ Some (new_tail channel (length inbound.items))) }
         ensures head { IfOk result (λ part. part.head ≡ Some head) }
@@ -147,6 +148,7 @@ impl<S: Stage, T: Transport> ChannelPart<S, T> {
         requires holds { (world : World) × (world.refuses ≡ true) × PartHolds world S.meaning S.stands_after T.state self.old }
         requires places { HasPlaces work.old.stopped (part_lanes self.old) }
         ensures head { self.new.head ≡ self.old.head }
+        ensures refuses { PathRefuses self.old.path lane work.old self.new.path work.new }
         ensures over { lane.kind ≡ kind.Data → (c : ContextView S) → context_at self.new.path (writer_hop self.new.path lane.hop) ≡ Some c → is_over c.standing ≡ true }
         ensures refused { PartRefused S.meaning S.stands_after T.state self.old (writer_hop self.old.path lane.hop) work.old self.new work.new }
     {

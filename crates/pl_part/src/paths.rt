@@ -14,10 +14,10 @@ ghost use Rattle.pl_context.specs.Stops.{HasPlaces, AreAmong};
 ghost use Rattle.pl_context.specs.TailViews.{TailView, new_tail};
 ghost use Rattle.pl_flow.specs.Flows.{IsGood};
 ghost use Rattle.pl_flow.specs.Makes.{Makes};
-ghost use Rattle.pl_part.specs.NewParts.{ArePlannedWith, AreNew};
+ghost use Rattle.pl_part.specs.NewParts.{ArePlannedWith, AreNew, whole_slots};
 ghost use Rattle.pl_part.specs.Counts.{path_done};
 ghost use Rattle.pl_part.specs.PathCalls.{IsNextOnPath, PathTaken, PathRefused};
-ghost use Rattle.pl_part.specs.Paths.{PathHolds, PathTakes, SamePath, context_at, writer_hop, enters_path, path_over, is_slot_over, path_taken, path_lanes, path_writes, path_writes_at, path_came};
+ghost use Rattle.pl_part.specs.Paths.{PathHolds, PathTakes, PathRefuses, SamePath, context_at, writer_hop, enters_path, path_over, is_slot_over, path_taken, path_lanes, path_writes, path_writes_at, path_came};
 ghost use Rattle.pl_part.specs.Shares.{IsPathShare, executor_of};
 
 use crate::nodes::{refuse_at, take_at, take_at_tail};
@@ -73,6 +73,7 @@ impl<S: Stage> PathPart<S> {
         requires new_outbound { All (λ stage. S.stands_after stage []) outbound.items }
         requires planned { (world : World) × ArePlannedWith world S.meaning channel turn inbound.items outbound.items }
         ensures place { IfOk result (λ part. (part.channel ≡ channel) × (part.executors ≡ executors.items) × (part.tail_hop ≡ length inbound.items) × (part.turn ≡ turn)) }
+        ensures contexts { IfOk result (λ part. part.contexts ≡ whole_slots S.meaning channel inbound.items outbound.items) }
         ensures filled { IfOk result (λ part. map (λ slot. is_some slot) part.contexts ≡ replicate (length inbound.items) true ++ false ∷ replicate (length outbound.items) true) }
         ensures tail { IfOk result (λ part. part.tail ≡ Some (new_tail channel (length inbound.items))) }
         ensures new { IfOk result (λ part. (world : World) → ArePlannedWith world S.meaning channel turn inbound.items outbound.items → AreNew world S.meaning channel (length inbound.items) turn S.stands_after part.contexts) }
@@ -176,6 +177,7 @@ impl<S: Stage> PathPart<S> {
         ensures same { SamePath self.old self.new }
         ensures taken { (l : Lane) → path_taken self.new l ≡ path_taken self.old l }
         ensures writes { (l : Lane) → path_writes S.meaning self.new l ≡ path_writes S.meaning self.old l }
+        ensures refuses { PathRefuses self.old lane work.old self.new work.new }
         ensures over { lane.kind ≡ kind.Data → (c : ContextView S) → context_at self.new (writer_hop self.new lane.hop) ≡ Some c → is_over c.standing ≡ true }
         ensures made { (world : World) → world.refuses ≡ true → PathHolds world S.meaning S.stands_after self.old → Makes world (path_writes S.meaning self.old) (path_came S.meaning self.old) (path_came S.meaning self.new) work.old work.new }
         ensures node { (world : World) → world.refuses ≡ true → PathHolds world S.meaning S.stands_after self.old

@@ -6,7 +6,7 @@ use crate::part_tests::{
 use crate::playing::{Answer, Call, Expected, play, played};
 use crate::relays::{Faults, NO_FAULTS};
 use pl_context::Took;
-use pl_event::{Cause, Event, Outcome};
+use pl_event::{Cause, Event, Kind, Outcome};
 use pl_head::OutStep;
 use std::test::Fail;
 
@@ -147,7 +147,7 @@ const TURN_REFUSED: [Expected; 5] = [
     (Call::Read, GAVE, PASSED, NONE),
     (Call::Read, GAVE, BURST, FLAG),
     (
-        Call::Refuse(2),
+        Call::Refuse(Kind::Data, 2),
         Answer::Nothing,
         &[
             (2, Took::Failed(Cause::Refused)),

@@ -3,7 +3,7 @@
 use crate::playing::{Answer, Call, Expected, play, played};
 use crate::relays::{Faults, NO_FAULTS, Relay, sample_part};
 use pl_context::Took;
-use pl_event::{Cause, Event, Outcome};
+use pl_event::{Cause, Event, Kind, Outcome};
 use pl_head::{MemoryTransport, OutStep, ReadStep};
 use pl_part::ChannelPart;
 use std::process::Abort;
@@ -118,7 +118,7 @@ const REFUSED: Took = Took::Failed(Cause::Refused);
 const HANDLER_REFUSED: [Expected; 4] = [
     (Call::Read, GAVE, PASSED, NONE),
     (
-        Call::Refuse(1),
+        Call::Refuse(Kind::Data, 1),
         Answer::Nothing,
         &[(1, REFUSED), (2, REFUSED), (3, REFUSED), (4, REFUSED)],
         NONE,
@@ -129,7 +129,7 @@ const HANDLER_REFUSED: [Expected; 4] = [
         &[(0, Took::Dropped), (0, Took::Dropped)],
         NONE,
     ),
-    (Call::Refuse(1), Answer::Nothing, NONE, NONE),
+    (Call::Refuse(Kind::Data, 1), Answer::Nothing, NONE, NONE),
 ];
 
 /// Nothing more of the first handler's lane is accepted: the failure follows the event that it has handed on.
@@ -141,7 +141,12 @@ fn refused_handler_fails(rt: HostRuntime) -> Result<(), Fail> {
 }
 
 const WRITERS_REFUSED: [Expected; 4] = [
-    (Call::Refuse(4), Answer::Nothing, &[(4, REFUSED)], NONE),
+    (
+        Call::Refuse(Kind::Data, 4),
+        Answer::Nothing,
+        &[(4, REFUSED)],
+        NONE,
+    ),
     (
         Call::Read,
         GAVE,
@@ -149,12 +154,12 @@ const WRITERS_REFUSED: [Expected; 4] = [
         NONE,
     ),
     (
-        Call::Refuse(3),
+        Call::Refuse(Kind::Data, 3),
         Answer::Nothing,
         &[(2, REFUSED), (3, Took::Dropped)],
         NONE,
     ),
-    (Call::Refuse(0), Answer::Nothing, NONE, NONE),
+    (Call::Refuse(Kind::Data, 0), Answer::Nothing, NONE, NONE),
 ];
 
 const THEN_ABORTED: [Expected; 1] = [(
@@ -171,6 +176,24 @@ fn refused_writers(rt: HostRuntime) -> Result<(), Fail> {
     assert!(rt; !part.has_ended());
     play(&rt, &mut part, &mut work, &THEN_ABORTED)?;
     assert!(rt; part.has_ended());
+    Ok(())
+}
+
+const FLAGS_REFUSED: [Expected; 3] = [
+    (Call::Refuse(Kind::Flags, 1), Answer::Nothing, NONE, NONE),
+    (Call::Refuse(Kind::Flags, 2), Answer::Nothing, NONE, NONE),
+    (Call::Refuse(Kind::Flags, 0), Answer::Nothing, NONE, NONE),
+];
+
+/// A flag that is refused fails none of those that write flags, the handlers and the head: all goes on to the end.
+#[test]
+fn refused_flags_change_nothing(rt: HostRuntime) -> Result<(), Fail> {
+    let (mut part, mut work) = played(&rt, NO_FAULTS, &FLAGS_REFUSED)?;
+    play(&rt, &mut part, &mut work, &TO_THE_END)?;
+    play(&rt, &mut part, &mut work, &FLAGS_REFUSED)?;
+    play(&rt, &mut part, &mut work, &THE_END)?;
+    assert_tail(&rt, &part, &RECORD, &[false, true], None);
+    assert_head(&rt, &part, b"ab", &[Some(Outcome::Success)], None);
     Ok(())
 }
 

@@ -22,8 +22,8 @@ pub(crate) enum Call {
     /// A write of the head.
     Write,
     Abort,
-    /// The writer of the data lane of a hop is refused.
-    Refuse(u16),
+    /// What the writer of a lane of a hop has put is refused.
+    Refuse(Kind, u16),
 }
 
 /// What a call answers.
@@ -124,10 +124,10 @@ fn apply(part: &mut ChannelPart<Relay, MemoryTransport>, work: &mut Outputs, cal
             part.abort(work);
             Answer::Nothing
         }
-        Call::Refuse(hop) => {
+        Call::Refuse(kind, hop) => {
             let lane = Lane {
                 channel: 7,
-                kind: Kind::Data,
+                kind,
                 hop,
             };
             part.refuse(lane, work);

@@ -12,3 +12,4 @@ pub mod NetStarts
 pub mod NetEnds
 pub mod Reached
 pub mod ReportLists
+pub mod GivenLanes

@@ -14,7 +14,7 @@ use Rattle.pl_event.specs.declared.outcomes.Cause.TheVariants.{Aborted}
 use Rattle.pl_event.specs.Meaning.{Meaning}
 use Rattle.pl_event.proofs.Lists.{All-at}
 use Rattle.pl_context.specs.ContextViews.{ContextView}
-use Rattle.pl_context.specs.Stops.{AreAmong}
+use Rattle.pl_context.specs.Stops.{AreAmong, no_stops}
 use Rattle.pl_flow.specs.Flows.{point}
 use Rattle.pl_head.specs.HeadStand.{HeadView}
 use Rattle.pl_head.specs.Transports.{TransportState}
@@ -28,10 +28,10 @@ use Rattle.pl_net.specs.declared.cores.Core.{Core}
 use Rattle.pl_channel.specs.Lanes.{world_of}
 use Rattle.pl_channel.specs.Placing.{IsWhole, IsNewHead, IsUnmoved}
 use Rattle.pl_channel.specs.PlanStand.{HeadKeepsPlan, PartKeepsPlan, PartsKeepPlan}
-use Rattle.pl_replay.specs.Channels.{channels_view, ChannelsStand, executor_at, target_of, origin_of, taken_of, came_of, writes_of, writes_here}
+use Rattle.pl_replay.specs.Channels.{channels_view, ChannelsStand, executor_at, target_of, origin_of, taken_of, came_of, writes_of, writes_here, lanes_of}
 use Rattle.pl_replay.specs.Placed.{AreIdle, HasExecutors, all_lanes, lanes_between}
 use Rattle.pl_replay.specs.Moves.{nodes_view, nodes_stand}
-use Rattle.pl_replay.specs.Starts.{IsPlaced, ArePlaced, NetBegins, transports_of}
+use Rattle.pl_replay.specs.Starts.{HasPlannedStages, IsPlaced, ArePlaced, NetBegins, transports_of}
 use Rattle.pl_replay.specs.declared.channels.Channels.{Channels}
 use Rattle.pl_replay.proofs.LaneCounts.{length-all_lanes}
 use Rattle.pl_replay.proofs.LanePlaces.{among-between}
@@ -229,9 +229,10 @@ module _ {S T : Type 0} (meaning : S → Meaning) (stands_after : S → List Eve
   plan_here = plan_of meaning state capacity w.executors w.channels
 
   pub world-begins : (core : Core (Channels S T)) → core.nodes.parts.items ≡ parts → core.executors.items ≡ executors → core.capacity ≡ capacity → core.work.items ≡ []
+      → core.work.stopped ≡ no_stops (length (lanes_of parts))
       → (ChannelsStand (world_of false plan_here) meaning stands_after state parts → CoreStands (nodes_view meaning) (nodes_stand meaning stands_after state) (world_of false plan_here) 0 (core_view core no_backlogs))
       → NetBegins meaning stands_after state plan_here (transports_of w.channels) core
-  world-begins core has-parts has-executors-too size rests stands = record {
+  world-begins core has-parts has-executors-too size rests unstopped stands = record {
     stands = record {
       ruled = is.ruled capacity some;
       small = is.small capacity;
@@ -249,6 +250,7 @@ module _ {S T : Type 0} (meaning : S → Meaning) (stands_after : S → List Eve
           (subst (IsStart (channels_view meaning parts)) (sym has-executors-too) (starts meaning stands_after state plan_here w.channels refl parts placed (is.ruled capacity some) is.channels executors idle));
       backlogs = refl;
       work = rests;
+      unstopped = unstopped ∙ ap (λ (l : List (PartView S T)). no_stops (length (lanes_of l))) (sym has-parts);
     };
   }
     where
@@ -256,12 +258,13 @@ module _ {S T : Type 0} (meaning : S → Meaning) (stands_after : S → List Eve
       same-transport a b e = cc
 
       each : (number : ℕ) (p : ChannelPlan) (transport : T) (part : PartView S T) → slice_get plan_here.channels number ≡ Some p → slice_get (transports_of w.channels) number ≡ Some transport → slice_get parts number ≡ Some part
-          → IsWhole state number p transport part × IsUnmoved meaning part × PartHolds (world_of false plan_here) meaning stands_after state part
+          → IsWhole state number p transport part × HasPlannedStages meaning stands_after number p part × IsUnmoved meaning part × PartHolds (world_of false plan_here) meaning stands_after state part
       each number p transport part planned has at =
           let r = recorded-at meaning stands_after state plan_here w.channels refl parts placed number part at in
           let one = same-plan meaning stands_after state plan_here w.channels refl parts placed (channel_planned meaning state r.0) p (sym r.2 ∙ planned) in
           let other = same-transport r.0.transport transport (sym (map-at (λ (c : Recorded S T). c.transport) w.channels number r.0 r.1) ∙ has) in (
             subst (λ (q : ChannelPlan). IsWhole state number q transport part) one (subst (λ (t : T). IsWhole state number (channel_planned meaning state r.0) t part) other r.3.whole),
+            subst (λ (q : ChannelPlan). HasPlannedStages meaning stands_after number q part) one (record { inbound = r.0.pipeline.inbound; outbound = r.0.pipeline.outbound; inbound_are = refl; outbound_are = refl; stages = r.3.stages }),
             r.3.unmoved,
             r.3.holds false plan_here r.2,
           )

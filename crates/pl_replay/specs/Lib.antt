@@ -6,3 +6,4 @@ pub mod Moves
 pub mod NetStand
 pub mod Reported
 pub mod Replays
+pub mod Given

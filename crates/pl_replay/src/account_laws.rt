@@ -1,16 +1,21 @@
 //! What is on its way in a net between two moves, as a law.
 
-ghost use Rattle.std.specs.Prelude.{◌≡◌, ◌==◌, ◌&&◌, ◌++◌, ◌≤◌, ℕ, List, Bool, [], true, false};
+ghost use Rattle.std.specs.Prelude.{◌≡◌, ◌==◌, ◌&&◌, ◌++◌, ℕ, List, Bool, [], Some, slice_get, true, false};
 ghost use Rattle.pl_event.specs.declared.envelopes.Lane.{Lane};
+ghost use Rattle.pl_context.specs.declared.standing.Standing.TheVariants as stands;
+ghost use Rattle.pl_context.specs.ContextViews.{ContextView};
 ghost use Rattle.pl_context.specs.Stops.{has_stopped};
 ghost use Rattle.pl_context.specs.WaitingViews.{Entry};
 ghost use Rattle.pl_flow.specs.Flows.{point, on, IsFlow, past};
 ghost use Rattle.pl_net.specs.Nets.{queue_at, stops_at, envelopes};
 ghost use Rattle.pl_net.specs.Numbers.{handed_of, made_of};
 ghost use Rattle.pl_net.specs.declared.cores.Core.{Core};
+ghost use Rattle.pl_part.specs.Parts.{PartView};
+ghost use Rattle.pl_part.specs.Paths.{context_at, writer_hop};
 ghost use Rattle.pl_channel.specs.Lanes.{world_of};
 ghost use Rattle.pl_world.specs.Plans.{Plan};
 ghost use Rattle.pl_replay.specs.Channels.{channels_view, target_of, origin_of, taken_of, writes_of, came_of};
+ghost use Rattle.pl_replay.specs.Given.{HasGiven};
 ghost use Rattle.pl_replay.specs.NetStand.{NetStands};
 ghost use Rattle.pl_replay.specs.declared.channels.Channels.{Channels};
 
@@ -34,14 +39,20 @@ pub fn account_law<S: Stage, T: Transport>()
     ensures elsewhere { (plan : Plan) (backlogs : ℕ → List (Entry Unit)) (net : Core (Channels S T)) → NetStands S.meaning S.stands_after T.state plan backlogs net
         → (y : ℕ) (l : Lane) → ((writes_of S.meaning net.nodes.parts.items l && (target_of net.nodes.parts.items l == y)) ≡ false → on l (queue_at net.executors.items y) ≡ [])
         × ((writes_of S.meaning net.nodes.parts.items l && (origin_of net.nodes.parts.items l == y)) ≡ false → on l (envelopes (backlogs y)) ≡ []) }
-    // How many items of a lane were taken, handed over and made; of a lane inside one executor all that was made was taken.
-    ensures numbers { (backlogs : ℕ → List (Entry Unit)) (net : Core (Channels S T)) (l : Lane)
-        → (taken_of net.nodes.parts.items l ≤ handed_of (channels_view S.meaning net.nodes.parts.items) net.executors.items l)
-        × (handed_of (channels_view S.meaning net.nodes.parts.items) net.executors.items l ≤ made_of (channels_view S.meaning net.nodes.parts.items) net.executors.items backlogs l) }
+    // As many of a lane were taken, are queued and wait as it has come to, unless it was cut off; of a lane inside one executor all
+    // that was made was taken.
+    ensures numbers { (plan : Plan) (backlogs : ℕ → List (Entry Unit)) (net : Core (Channels S T)) → NetStands S.meaning S.stands_after T.state plan backlogs net
+        → (l : Lane) → writes_of S.meaning net.nodes.parts.items l ≡ true
+        → has_stopped (stops_at net.executors.items (origin_of net.nodes.parts.items l) (target_of net.nodes.parts.items l)) l ≡ false → has_stopped net.work.stopped l ≡ false
+        → made_of (channels_view S.meaning net.nodes.parts.items) net.executors.items backlogs l ≡ (came_of S.meaning net.nodes.parts.items l).next }
     ensures direct { (plan : Plan) (backlogs : ℕ → List (Entry Unit)) (net : Core (Channels S T)) → NetStands S.meaning S.stands_after T.state plan backlogs net
         → (l : Lane) → writes_of S.meaning net.nodes.parts.items l ≡ true → origin_of net.nodes.parts.items l ≡ target_of net.nodes.parts.items l
         → (handed_of (channels_view S.meaning net.nodes.parts.items) net.executors.items l ≡ taken_of net.nodes.parts.items l)
         × (made_of (channels_view S.meaning net.nodes.parts.items) net.executors.items backlogs l ≡ taken_of net.nodes.parts.items l) }
+    // A lane that an open context writes has come so far as what its stage makes of the events that it has taken.
+    ensures given { (plan : Plan) (backlogs : ℕ → List (Entry Unit)) (net : Core (Channels S T)) → NetStands S.meaning S.stands_after T.state plan backlogs net
+        → (l : Lane) (part : PartView S T) (c : ContextView S) → slice_get net.nodes.parts.items l.channel ≡ Some part → (l.hop == 0) ≡ false → context_at part.path (writer_hop part.path l.hop) ≡ Some c → c.standing ≡ stands.Open
+        → HasGiven S.meaning (world_of false plan) c l (came_of S.meaning net.nodes.parts.items l) }
 {
     pl_net::account_law()
 }

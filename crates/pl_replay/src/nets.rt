@@ -4,11 +4,13 @@ ghost use Rattle.std.specs.Prelude.{◌≡◌, ◌≤◌, All, ℕ, List, length
 ghost use Rattle.pl_context.specs.WaitingViews.{Entry};
 ghost use Rattle.pl_context.specs.TailViews.{TailView};
 ghost use Rattle.pl_net.specs.Cores.{core_view, IsUnmoved, IsUnmovedButRoom};
+ghost use Rattle.pl_net.specs.Nets.{LacksMemory};
 ghost use Rattle.pl_part.specs.Parts.{PartView};
 ghost use Rattle.pl_world.specs.declared.faults.ReplayFault.TheVariants as fault;
 ghost use Rattle.pl_world.specs.declared.limits.TheConstants.{MAX_CAPACITY};
+ghost use Rattle.pl_world.specs.declared.moves.Move.TheVariants.{Hand};
 ghost use Rattle.pl_world.specs.Plans.{Plan, planned};
-ghost use Rattle.pl_replay.specs.Starts.{NetBegins, transports_of};
+ghost use Rattle.pl_replay.specs.Starts.{ArePlaced, NetBegins, transports_of};
 ghost use Rattle.std.specs.List.{AllZip};
 ghost use Rattle.pl_world.specs.Reports.{AllKeepToPlan, AllReportPlan};
 ghost use Rattle.pl_replay.specs.Reported.{AreDrained, HasEnds, IsPartReport};
@@ -57,6 +59,7 @@ impl<S: Stage, T: Transport> Net<S, T> {
     pub fn new(alloc: Global, world: World<S, T>, capacity: u32) -> Result<Self, ReplayFault>
         requires capacity { (1 ≤ capacity) × (capacity ≤ MAX_CAPACITY) }
         ensures begins { IfOk result (λ net. NetBegins S.meaning S.stands_after T.state (planned S.meaning T.state capacity world.executors world.channels) (transports_of world.channels) net) }
+        ensures placed { IfOk result (λ net. ArePlaced S.meaning S.stands_after T.state world.channels net.nodes.parts.items) }
         ensures memory { IfErr result (λ e. e ≡ fault.Memory) }
     {
         let count = world.executors() as usize;
@@ -90,6 +93,9 @@ impl<S: Stage, T: Transport> Net<S, T> {
         ensures hand_alone { result ≡ Err fault.Memory → is_hand step ≡ true }
         ensures wanted { result ≡ Err fault.Memory → (plan : Plan) (backlogs : ℕ → List (Entry Unit)) → NetStands S.meaning S.stands_after T.state plan backlogs self.old
             → IsEnabled S.meaning S.stands_after S.is_spent T.state T.may_refuse plan.capacity step (core_view self.old backlogs) true }
+        // It comes only where the queue of the item that would go has no memory for one more.
+        ensures refused { result ≡ Err fault.Memory → (plan : Plan) (backlogs : ℕ → List (Entry Unit)) → NetStands S.meaning S.stands_after T.state plan backlogs self.old
+            → (x : ℕ) × (step ≡ Hand x) × LacksMemory plan.capacity x (core_view self.old backlogs) }
         ensures memory { result ≡ Err fault.Memory → IsUnmovedButRoom self.old self.new }
         ensures goes_on { result ≡ Err fault.Memory → (plan : Plan) (backlogs : ℕ → List (Entry Unit)) → NetStands S.meaning S.stands_after T.state plan backlogs self.old → NetStands S.meaning S.stands_after T.state plan backlogs self.new }
     {

@@ -66,3 +66,13 @@ open_part (b ∷ bs) = unless_closed (closed_parts (b ∷ bs)) (b ∷ bs) (open_
 -- A framer keeps the open part, or only that it is too long with and without a carriage return at its end.
 abbrev pub KeepsPart : ℕ → List ℕ → Bool → List ℕ → Type 0
 KeepsPart max partial is_overlong part = MatchBool is_overlong (max + 1 < length part) (partial ≡ part)
+
+-- Where a framer kept the open part, it keeps that of these bytes after it,
+abbrev pub KeepsAfter : ℕ → List ℕ → Bool → List ℕ → List ℕ → Bool → Type 0
+KeepsAfter max partial is_overlong bytes partial' is_overlong' =
+    (part : List ℕ) → closed_parts part ≡ [] → KeepsPart max partial is_overlong part → KeepsPart max partial' is_overlong' (open_part (part ++ bytes))
+
+-- and the lines that they close come after these events.
+abbrev pub AddsLines : ℕ → List ℕ → Bool → List ℕ → List Event → List Event → Type 0
+AddsLines max partial is_overlong bytes before after =
+    (part : List ℕ) → closed_parts part ≡ [] → KeepsPart max partial is_overlong part → after ≡ before ++ lines_of max (part ++ bytes)

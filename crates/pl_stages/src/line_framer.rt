@@ -4,7 +4,7 @@ ghost use Rattle.std.specs.Prelude.{◌≡◌, ◌==◌, ℕ, ◌+◌, ◌<◌, 
 ghost use Rattle.pl_event.specs.Meaning.{IsPrefixOf};
 ghost use Rattle.pl_stages.specs.declared.limits.TheConstants.{MAX_LINE};
 ghost use Rattle.pl_event.specs.declared.events.Event.{Event};
-ghost use Rattle.pl_stages.specs.LineFraming.{line_framing, line_framing-lawful, lines_of, framed, without_return, joined, open_part, closed_parts, KeepsPart};
+ghost use Rattle.pl_stages.specs.LineFraming.{line_framing, line_framing-lawful, framed, without_return, joined, open_part, AddsLines, KeepsAfter, KeepsPart};
 
 use crate::limits::MAX_LINE;
 use crate::stage_refusal::StageRefusal;
@@ -53,12 +53,8 @@ impl LineFramer {
     /// Adds the lines that a chunk closes. A chunk that is one whole line, or its beginning, is moved.
     fn take_chunk(&mut self, chunk: Vec<u8>, up: &mut Vec<Event>) -> Result<(), AllocError>
         ensures max { self.new.max ≡ self.old.max }
-        ensures kept { OnOk result ((part : List ℕ) → closed_parts part ≡ []
-            → KeepsPart self.old.max self.old.partial.items self.old.is_overlong part
-            → KeepsPart self.old.max self.new.partial.items self.new.is_overlong (open_part (part ++ chunk.items))) }
-        ensures lines { OnOk result ((part : List ℕ) → closed_parts part ≡ []
-            → KeepsPart self.old.max self.old.partial.items self.old.is_overlong part
-            → up.new.items ≡ up.old.items ++ lines_of self.old.max (part ++ chunk.items)) }
+        ensures kept { OnOk result (KeepsAfter self.old.max self.old.partial.items self.old.is_overlong chunk.items self.new.partial.items self.new.is_overlong) }
+        ensures lines { OnOk result (AddsLines self.old.max self.old.partial.items self.old.is_overlong chunk.items up.old.items up.new.items) }
         ensures begins { IsPrefixOf up.old.items up.new.items }
     {
         match memchr(LINE_FEED, chunk.as_slice()) {
@@ -86,12 +82,8 @@ impl LineFramer {
     /// Adds the lines that these bytes close.
     fn cut(&mut self, bytes: &[u8], up: &mut Vec<Event>) -> Result<(), AllocError>
         ensures max { self.new.max ≡ self.old.max }
-        ensures kept { OnOk result ((part : List ℕ) → closed_parts part ≡ []
-            → KeepsPart self.old.max self.old.partial.items self.old.is_overlong part
-            → KeepsPart self.old.max self.new.partial.items self.new.is_overlong (open_part (part ++ bytes.now))) }
-        ensures lines { OnOk result ((part : List ℕ) → closed_parts part ≡ []
-            → KeepsPart self.old.max self.old.partial.items self.old.is_overlong part
-            → up.new.items ≡ up.old.items ++ lines_of self.old.max (part ++ bytes.now)) }
+        ensures kept { OnOk result (KeepsAfter self.old.max self.old.partial.items self.old.is_overlong bytes.now self.new.partial.items self.new.is_overlong) }
+        ensures lines { OnOk result (AddsLines self.old.max self.old.partial.items self.old.is_overlong bytes.now up.old.items up.new.items) }
         ensures begins { IsPrefixOf up.old.items up.new.items }
     {
         let mut rest = bytes;

@@ -1,5 +1,5 @@
-use Rattle.std.proofs.Common.{◌≡◌, ◌++◌, ◌∷◌, ℕ, true, false, length, replicate, Result, Ok, Err, Some, refl, sym, ap, ap₂, ◌∙◌, arith}
-use Rattle.std.specs.Prelude.{IfOk}
+use Rattle.std.proofs.Common.{◌≡◌, ◌++◌, ◌∷◌, ℕ, true, false, [], List, length, replicate, Result, Ok, Err, Some, refl, sym, ap, ap₂, subst, ◌∙◌, arith}
+use Rattle.std.specs.Prelude.{IfOk, All}
 use Rattle.std.proofs.lemmas.List.{length-map}
 use Rattle.std.proofs.lemmas.Result.{IfOk-at_ok}
 use Rattle.pl_event.specs.Meaning.{Meaning}
@@ -7,7 +7,7 @@ use Rattle.pl_event.specs.Paths.{is_turn}
 use Rattle.pl_event.specs.Worlds.{World, carrying}
 use Rattle.pl_event.proofs.Lists.{position_or_len-map}
 use Rattle.pl_context.specs.TailViews.{new_tail}
-use Rattle.pl_part.specs.NewParts.{ArePlannedWith}
+use Rattle.pl_part.specs.NewParts.{ArePlannedWith, whole_slots}
 use Rattle.pl_part.proofs.NewHeads.{IsFresh, new-holds, new-came, new-taken}
 use Rattle.pl_world.specs.Plans.{channel_planned, head_hop}
 use Rattle.pl_channel.specs.Lanes.{channel_lanes, world_of}
@@ -95,12 +95,27 @@ returns-clause-whole g c = if-ok c.whole.result _ (λ part is.
           taken = made.taken;
           standing = made.standing;
           failure = made.failure;
+          closed = made.closed;
+          numbering = made.numbering;
+          flags = made.flags;
+          entrance_is = made.entrance;
           reads = made.reads;
           after = made.stands;
           settled = made.told.0;
           told = made.told.1;
         },
       );
+    })
+
+pub returns-clause-stages : goal.returns-clause-stages
+returns-clause-stages g c = if-ok c.whole.result _ (λ part is.
+    let meaning = g.S.Stage.meaning in
+    let AreNew : List g.row.S.Denot → Type 0 = λ stages. All (λ stage. g.S.Stage.stands_after stage []) stages in
+    let chains = c.into_chains-inbound.ensures in
+    record {
+      inbound_new = subst AreNew chains.inbound chains.new_inbound;
+      outbound_new = subst AreNew chains.outbound chains.new_outbound;
+      contexts_are = IfOk-at_ok _ is c.whole.ensures.contexts ∙ ap₂ (λ (inbound outbound : List g.row.S.Denot). whole_slots meaning c.args.number inbound outbound) chains.inbound chains.outbound;
     })
 
 pub returns-clause-unmoved : goal.returns-clause-unmoved

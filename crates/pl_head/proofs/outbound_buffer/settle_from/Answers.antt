@@ -1,7 +1,7 @@
-use Rattle.std.proofs.Common.{◌≡◌, ◌+◌, ◌<◌, List, length, take, drop, suc, ap, sym, ◌∙◌, refl, arith}
+use Rattle.std.proofs.Common.{◌≡◌, ℕ, ◌+◌, ◌<◌, List, [], ◌∷◌, ◌++◌, length, take, drop, suc, ap, sym, ◌∙◌, refl, arith, append_assoc}
 use Rattle.pl_head.specs.declared.outbound_buffer.Entry.{Entry}
 use Rattle.pl_head.specs.WaitingMessages.{entries_size, settled_all, numbers_of}
-use Rattle.pl_head.proofs.Accounts.{account-split, account-at, account-same, within-at, goes_on-same, goes_on-push}
+use Rattle.pl_head.proofs.Accounts.{account-split, account-at, account-same, within-at}
 use Rattle.pl_head.proofs.WaitingSizes.{drop-at, entries_size-cons, entries_size-split}
 use Rattle.pl_head.proofs.outbound_buffer.settle_from.Goals as goal
 
@@ -11,7 +11,7 @@ loop-i-init c =
       outcomes = refl;
       size = omega arith;
       account = account-split c.args.entries.now.items c.args.start c.requires.account;
-      settled = goes_on-same c.args.settled.now.items;
+      settled = refl;
       len = refl;
       room = refl;
       settled_room = refl;
@@ -51,7 +51,11 @@ loop-i-preserved c =
       account =
           account-same refl c.push_reserved.ensures.items refl
           (account-at es i entry within c.index-entry.ensures (numbers_of (take c.args.start es)) c.loop-i.settled.items c.loop-i.outcomes.items before.account c.args.outcome);
-      settled = goes_on-push c.args.settled.now.items entry.number before.settled c.push_reserved.ensures.items;
+      settled =
+          ap (λ (ns : List ℕ). ns ++ numbers_of (drop (suc i) es)) c.push_reserved.ensures.items
+          ∙ append_assoc c.loop-i.settled.items (entry.number ∷ []) (numbers_of (drop (suc i) es))
+          ∙ ap (λ (t : List Entry). c.loop-i.settled.items ++ numbers_of t) (sym here)
+          ∙ before.settled;
       len = before.len;
       room = before.room;
       settled_room = c.push_reserved.ensures.capacity ∙ before.settled_room;

@@ -7,6 +7,9 @@ use Rattle.pl_part.proofs.ContextPlaces.{fail-places}
 use Rattle.pl_part.proofs.ContextCounts.{failed-more}
 use Rattle.pl_part.proofs.nodes.refuse_at.Goals as goal
 
+pub returns-in-Data-clause-refused : goal.returns-in-Data-clause-refused
+returns-in-Data-clause-refused g c = record { fails = λ k live. c.fail.ensures.open live; over = c.fail.ensures.over; flag = λ k. cc }
+
 pub returns-in-Data-clause-holds : goal.returns-in-Data-clause-holds
 returns-in-Data-clause-holds g c = λ world refuses h.
     let meaning = g.S.Stage.meaning in

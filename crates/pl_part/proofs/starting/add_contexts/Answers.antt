@@ -1,12 +1,12 @@
-use Rattle.std.proofs.Common.{◌≡◌, ℕ, ◌+◌, [], ◌∷◌, ◌++◌, List, Bool, Some, Option, length, map, replicate, true, slice_get, sym, ap, subst, ◌∙◌, arith, append_assoc, length-append}
+use Rattle.std.proofs.Common.{◌≡◌, ℕ, ◌+◌, [], ◌∷◌, ◌++◌, List, Bool, Some, Option, length, map, replicate, true, slice_get, sym, ap, ap₂, subst, ◌∙◌, arith, append_assoc, length-append}
 use Rattle.std.specs.Prelude.{is_some}
 use Rattle.std.specs.List.{sum_by}
 use Rattle.std.proofs.lemmas.List.{map-append}
 use Rattle.std.proofs.lemmas.List.Sums.{sum_by_push}
-use Rattle.pl_context.specs.ContextViews.{ContextView, IsHop}
+use Rattle.pl_context.specs.ContextViews.{ContextView, IsHop, new_context}
 use Rattle.pl_part.specs.Counts.{context_done, slot_done}
-use Rattle.pl_part.specs.NewParts.{AreNew, IsNewAt, IsPlannedAt}
-use Rattle.pl_part.proofs.NewContexts.{new-at, new-push, slice_get-behind, replicate-push}
+use Rattle.pl_part.specs.NewParts.{AreNew, IsNewAt, IsPlannedAt, new_slots}
+use Rattle.pl_part.proofs.NewContexts.{new-at, new-push, new_slots-push, slice_get-behind, replicate-push}
 use Rattle.pl_part.proofs.starting.add_contexts.Goals as goal
 
 pub overflow_cast-hop : goal.overflow_cast-hop
@@ -46,6 +46,12 @@ loop-stage-preserved g c =
       count =
           let more = ap (λ (l : List (Option (ContextView g.row.S.Denot))). length l) added ∙ length-append slots (Some context ∷ []) in
           omega (arith, more, before.count, longer);
+      slots =
+          let new = ap (λ (h : ℕ). Some (new_context (g.S.Stage.meaning stage).direction c.args.channel h c.args.k stage)) hop in
+          added
+          ∙ ap₂ (λ (l : List (Option (ContextView g.row.S.Denot))) (x : Option (ContextView g.row.S.Denot)). l ++ x ∷ []) before.slots (ap (λ (x : ContextView g.row.S.Denot). Some x) c.new.ensures.context ∙ sym new)
+          ∙ append_assoc old (new_slots g.S.Stage.meaning c.args.channel c.args.k (length old) stages) (Some (new_context (g.S.Stage.meaning stage).direction c.args.channel (length old + length stages) c.args.k stage) ∷ [])
+          ∙ ap (λ (l : List (Option (ContextView g.row.S.Denot))). old ++ l) (sym (new_slots-push g.S.Stage.meaning c.args.channel c.args.k (length old) stages stage));
       filled =
           ap (λ (l : List (Option (ContextView g.row.S.Denot))). map filled l) added
           ∙ map-append filled slots (Some context ∷ [])

@@ -49,7 +49,7 @@ loop-record-preserved g c =
     let part = c.in_ok-place.field-0 in
     let made = c.in_ok-place.ensures in
     let number : c.len-number.result ≡ length so_far.parts.items = omega (arith, c.len-number.ensures, so_far.parts.ok) in
-    let placed : IsPlaced meaning stands state c.len-number.result r part = record { whole = made.whole; unmoved = made.unmoved; holds = made.holds } in
+    let placed : IsPlaced meaning stands state c.len-number.result r part = record { whole = made.whole; stages = made.stages; unmoved = made.unmoved; holds = made.holds } in
     subst (λ (t : List (PartView g.row.S.Denot g.row.T.Denot)). ArePlaced meaning stands state (so_far.yielded ++ r ∷ []) t) (sym c.in_ok-push.ensures.items)
     (placed-push meaning stands state so_far.yielded so_far.parts.items r part so_far.invariant (subst (λ (n : ℕ). IsPlaced meaning stands state n r part) number placed))
 

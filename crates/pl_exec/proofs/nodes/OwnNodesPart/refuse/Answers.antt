@@ -1,7 +1,9 @@
-use Rattle.std.proofs.Common.{◌≡◌, ◌<◌, length, slice_get, Some, refl, sym, ap, subst, ◌∙◌}
-use Rattle.std.proofs.lemmas.Option.{slice_get_read}
+use Rattle.std.proofs.Common.{◌≡◌, ◌<◌, length, slice_get, Some, refl, sym, ap, subst, arith, ◌∙◌}
+use Rattle.std.proofs.lemmas.Option.{slice_get_read, slice_get_within}
+use Rattle.pl_event.proofs.Lists.{at_set_same}
 use Rattle.pl_event.specs.Worlds.{World}
-use Rattle.pl_part.specs.Paths.{writer_hop}
+use Rattle.pl_part.specs.Parts.{PartView}
+use Rattle.pl_part.specs.Paths.{context_at, writer_hop}
 use Rattle.pl_part.specs.PartCalls.{PartRefused}
 use Rattle.pl_replay.proofs.OneChannel.{places-of, routes, taken-none}
 use Rattle.pl_exec.proofs.HeadLists.{heads-stay}
@@ -77,3 +79,18 @@ returns-else-channel-len-clause-stands g c = (
 pub returns-then-channel-len-clause-served : goal.returns-then-channel-len-clause-served
 returns-then-channel-len-clause-served g c =
     serves-none g.T.Transport.state c.args.self.now.parts.items c.args.lane.channel c.index_mut.result.now c.refuse.new.self (own g c) (heads-equal g.T.Transport.state c.index_mut.result.now c.refuse.new.self c.refuse.ensures.head)
+
+-- the context that writes the lane is over
+pub returns-then-channel-len-clause-gave_up : goal.returns-then-channel-len-clause-gave_up
+returns-then-channel-len-clause-gave_up g c p x at kind here =
+    let ps = c.args.self.now.parts.items in
+    let own : p ≡ c.refuse.new.self = at_set_same ps c.args.lane.channel c.refuse.new.self p at in
+    c.refuse.ensures.over kind x (subst (λ (q : PartView g.row.S.Denot g.row.T.Denot). context_at q.path (writer_hop q.path c.args.lane.hop) ≡ Some x) own here)
+
+-- the channel has no part here
+pub returns-else-channel-len-clause-gave_up : goal.returns-else-channel-len-clause-gave_up
+returns-else-channel-len-clause-gave_up g c p x at kind here =
+    let within = slice_get_within c.args.self.now.parts.items c.args.lane.channel p at in
+    let size = c.len.ensures ∙ c.args.self.now.parts.ok.0 in
+    let past = c.if-channel-len.false in
+    absurd (omega (arith, within, size, past))

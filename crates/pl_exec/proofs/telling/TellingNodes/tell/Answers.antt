@@ -1,7 +1,7 @@
 use Rattle.std.proofs.Common.{◌≡◌, length, slice_get, Option, Some, refl, ap, ◌∙◌, arith}
 use Rattle.std.proofs.lemmas.Option.{slice_get_read}
 use Rattle.pl_exec.specs.SessionWords.{SeatsView}
-use Rattle.pl_exec.proofs.SeatLemmas.{none-told-at, seat-marks, seat-told, told-at}
+use Rattle.pl_exec.proofs.SeatLemmas.{no-seats-tell, none-told-at, seat-marks, seat-told, tells-at, told-at}
 use Rattle.pl_exec.proofs.telling.TellingNodes.tell.Goals as goal
 
 -- the part of the channel, and its seats
@@ -52,3 +52,9 @@ returns-in-Some-clause-seated g c plan seated =
 
 pub returns-in_default-clause-told : goal.returns-in_default-clause-told
 returns-in_default-clause-told g c = none-told-at c.args.self.now.nodes.parts.items c.args.channel c.requires.there
+
+pub returns-in-Some-clause-tells : goal.returns-in-Some-clause-tells
+returns-in-Some-clause-tells g c = tells-at c.args.self.now.seats.items c.args.self.now.nodes.parts.items c.args.channel c.tell.new.seats c.tell.new.part c.tell.ensures.tells
+
+pub returns-in_default-clause-tells : goal.returns-in_default-clause-tells
+returns-in_default-clause-tells g c = no-seats-tell c.args.self.now.seats.items c.args.self.now.nodes.parts.items c.args.channel c.index_mut.result.now c.in_default.is

@@ -1,9 +1,11 @@
-use Rattle.std.proofs.Common.{◌≡◌, ◌≤◌, ◌+◌, ◌∙◌, length, refl, sym, subst, arith}
-use Rattle.std.proofs.lemmas.Option.{slice_get_read}
+use Rattle.std.proofs.Common.{◌≡◌, ℕ, ◌≤◌, ◌+◌, ◌∙◌, get_or, length, refl, ap, sym, subst, arith}
+use Rattle.std.specs.Global.{Vec}
+use Rattle.std.proofs.lemmas.Option.{get_or_from_slice_get, slice_get_read}
 use Rattle.pl_exec.proofs.HeadLists.{head-within}
 use Rattle.pl_exec.proofs.ToldNodes.{told-targets, told-written, told-lanes, told-took, nodes-told, own-told, makes-told}
 use Rattle.pl_executor.specs.Serving.{Served}
 use Rattle.pl_exec.specs.OwnNodes.{served_of}
+use Rattle.pl_exec.specs.Telling.{TellsAt}
 use Rattle.pl_exec.proofs.ServedNodes.{told-served}
 use Rattle.pl_exec.proofs.telling.TellingNodesPart.read.Goals as goal
 
@@ -51,3 +53,13 @@ pub returns-clause-served : goal.returns-clause-served
 returns-clause-served g c k =
     subst (λ (s : Served). (s.reads ≤ (served_of g.T.Transport.state c.args.self.now.nodes.parts.items k).reads + 1) × (s.calls ≡ (served_of g.T.Transport.state c.args.self.now.nodes.parts.items k).calls))
     (sym (told-served g.T.Transport.state c.read.new.self.parts.items c.index-channel.result.now c.tell.new.self.nodes.parts.items c.tell.ensures.told k)) (c.read.ensures.served k)
+
+pub returns-clause-tells : goal.returns-clause-tells
+returns-clause-tells g c = λ _.
+    let mid = c.read.new.self in
+    let now = c.tell.new.self in
+    let there = c.requires.there in
+    let count = c.read.ensures.count in
+    let found = slice_get_read mid.own.items (length mid.own.items) c.args.at c.index-channel.result.now refl (omega (arith, there, count)) c.index-channel.ensures in
+    subst (TellsAt now.seats.items now.nodes.parts.items)
+    (sym (ap (λ (v : Vec ℕ). get_or v.items c.args.at 0) c.tell.ensures.own ∙ get_or_from_slice_get mid.own.items c.args.at c.index-channel.result.now 0 found)) c.tell.ensures.tells

@@ -49,3 +49,6 @@ returns-clause-made g c =
 pub returns-clause-served : goal.returns-clause-served
 returns-clause-served g c k =
     told-served g.T.Transport.state c.take.new.self.parts.items c.args.envelope.lane.channel c.tell.new.self.nodes.parts.items c.tell.ensures.told k ∙ c.take.ensures.served k
+
+pub returns-clause-tells : goal.returns-clause-tells
+returns-clause-tells g c = c.tell.ensures.tells

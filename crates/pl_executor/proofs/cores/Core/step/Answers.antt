@@ -1,9 +1,14 @@
-use Rattle.std.proofs.Common.{◌≡◌, ◌∷◌, [], ◌<◌, ℕ, false, length, sym, subst, ◌∙◌}
+use Rattle.std.proofs.Common.{◌≡◌, ◌≢◌, ◌∷◌, [], ◌<◌, ℕ, List, Ok, Err, inl, inr, false, length, refl, sym, subst, ◌∙◌}
+use Rattle.std.specs.Prelude.{IfErr, IfOk, Result}
+use Rattle.pl_event.specs.declared.envelopes.Envelope.{Envelope}
+use Rattle.pl_event.specs.declared.envelopes.Lane.{Lane}
 use Rattle.pl_context.specs.Stops.{HasPlaces, StopsView}
 use Rattle.pl_context.specs.WaitingViews.{stops_for}
 use Rattle.pl_flow.specs.Flows.{IsNext}
-use Rattle.pl_executor.specs.OutboxViews.{reached, is_cut, Adds, RefusedBy}
+use Rattle.pl_executor.specs.Cores.{Departs}
+use Rattle.pl_executor.specs.OutboxViews.{OutboxesView, reached, is_cut, Adds, Comes, RefusedBy}
 use Rattle.pl_words.specs.declared.admission.Refused.{Refused}
+use Rattle.pl_words.specs.declared.admission.Refused.TheVariants.{Closed, SeatSpent}
 use Rattle.pl_executor.proofs.AddSteps.{refused-some}
 use Rattle.pl_executor.proofs.RunLemmas.{own-number, own-good, own-taken, away-there, away-next, away-placed, away-added, places-on, runs-on}
 use Rattle.pl_executor.proofs.cores.Core.step.Goals as goal
@@ -106,3 +111,49 @@ returns-else-target-self-2-clause-holds g c = record {
       c.add.new.self (λ e. c.if-target-self.false (c.target-target.ensures ∙ e)) (subst (λ (k : ℕ). Adds c.args.self.now.outboxes k c.in-Some.envelope c.add.new.self) c.target-target.ensures c.add.ensures.adds);
   why = λ e. c.add.ensures.adds.closed (c.requires.holds.why e);
 }
+
+-- ---- what is for another executor
+
+same-front : (x y : Envelope) (xs ys : List Envelope) → x ∷ xs ≡ y ∷ ys → x ≡ y
+same-front x y xs ys e = cc
+
+-- what became of it, by what was answered
+departs-by : {N : Type 0} (gave_up : N → Lane → Type 0) (o : OutboxesView) (target : ℕ) (x : Envelope) (part' : N) (o' : OutboxesView) (r : Result (Unit {0}) Refused) → IfOk r (λ _. Comes o target x o')
+    → IfErr r (λ refusal. RefusedBy o target refusal o') → r ≢ Err Closed → Departs gave_up o target x part' o'
+departs-by gave_up o target x part' o' (Ok u) comes refused never = inl comes
+departs-by gave_up o target x part' o' (Err SeatSpent) comes refused never = inr (inl refused)
+departs-by gave_up o target x part' o' (Err Closed) comes refused never = absurd (never refl)
+
+pub returns-then-target-self-clause-away : goal.returns-then-target-self-clause-away
+returns-then-target-self-clause-away g c x left front other =
+    absurd (other (subst (λ (e : Envelope). g.N.Part.target_of c.args.self.now.part e.lane ≡ c.args.self.now.number) (same-front c.in-Some.envelope x c.next.new.self.items left (sym c.in-Some.ensures.front ∙ front))
+    (sym c.target-target.ensures ∙ c.if-target-self.true)))
+
+-- it is closed
+pub returns-in-Err-Closed-clause-away : goal.returns-in-Err-Closed-clause-away
+returns-in-Err-Closed-clause-away g c x left front other =
+    let part = c.args.self.now.part in
+    let o = c.args.self.now.outboxes in
+    subst (λ (e : Envelope). Departs g.N.Part.gave_up o (g.N.Part.target_of part e.lane) e c.refuse.new.self c.add.new.self) (same-front c.in-Some.envelope x c.next.new.self.items left (sym c.in-Some.ensures.front ∙ front))
+    (subst (λ (k : ℕ). Departs g.N.Part.gave_up o k c.in-Some.envelope c.refuse.new.self c.add.new.self) c.target-target.ensures
+    (inr (inr (subst (λ (r : Refused). RefusedBy o c.target-target.result r c.add.new.self) c.in-Err-Closed.field-0-is c.in-Err-Closed.ensures.refused, c.refuse.ensures.gave_up))))
+
+-- its seat is spent
+pub returns-else-target-self-clause-away : goal.returns-else-target-self-clause-away
+returns-else-target-self-clause-away g c x left front other =
+    let part = c.args.self.now.part in
+    let o = c.args.self.now.outboxes in
+    let never : c.add.result ≢ Err Closed = λ e. cc in
+    subst (λ (e : Envelope). Departs g.N.Part.gave_up o (g.N.Part.target_of part e.lane) e part c.add.new.self) (same-front c.in-Some.envelope x c.next.new.self.items left (sym c.in-Some.ensures.front ∙ front))
+    (subst (λ (k : ℕ). Departs g.N.Part.gave_up o k c.in-Some.envelope part c.add.new.self) c.target-target.ensures
+    (departs-by g.N.Part.gave_up o c.target-target.result c.in-Some.envelope part c.add.new.self c.add.result c.add.ensures.comes c.add.ensures.refused never))
+
+-- it waits there
+pub returns-else-target-self-2-clause-away : goal.returns-else-target-self-2-clause-away
+returns-else-target-self-2-clause-away g c x left front other =
+    let part = c.args.self.now.part in
+    let o = c.args.self.now.outboxes in
+    let never : c.add.result ≢ Err Closed = λ e. cc in
+    subst (λ (e : Envelope). Departs g.N.Part.gave_up o (g.N.Part.target_of part e.lane) e part c.add.new.self) (same-front c.in-Some.envelope x c.next.new.self.items left (sym c.in-Some.ensures.front ∙ front))
+    (subst (λ (k : ℕ). Departs g.N.Part.gave_up o k c.in-Some.envelope part c.add.new.self) c.target-target.ensures
+    (departs-by g.N.Part.gave_up o c.target-target.result c.in-Some.envelope part c.add.new.self c.add.result c.add.ensures.comes c.add.ensures.refused never))

@@ -6,7 +6,7 @@ use Rattle.pl_head.specs.Transports.{FailsNext}
 use Rattle.pl_head.specs.OutboundStand.{buffer_view}
 use Rattle.pl_head.proofs.BufferSteps.{same_flags}
 use Rattle.pl_head.proofs.HeadAfter.{unfailed, wrote_after, removed_unfailed}
-use Rattle.pl_head.proofs.Accounts.{goes_on-same}
+use Rattle.pl_head.proofs.Rising.{goes_on-same}
 use Rattle.pl_head.proofs.Accepting.{wrote_sizes, accepted_some, all_left, idle_or, never_idle}
 use Rattle.pl_head.proofs.heads.Head.write_once.Goals as goal
 

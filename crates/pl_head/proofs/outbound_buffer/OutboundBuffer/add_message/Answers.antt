@@ -10,6 +10,7 @@ use Rattle.pl_head.proofs.Buffering.{adds, same_parts}
 use Rattle.pl_head.proofs.Taking.{out-keep, stands-push}
 use Rattle.pl_head.proofs.WaitingSizes.{first_size-push, entries_size-push}
 use Rattle.pl_head.proofs.Accounts.{account-waits, account-same}
+use Rattle.pl_head.proofs.Rising.{rises-waits}
 use Rattle.pl_head.proofs.outbound_buffer.OutboundBuffer.add_message.Goals as goal
 
 pub invariant_of-self-clause-account : goal.invariant_of-self-clause-account
@@ -21,6 +22,14 @@ invariant_of-self-clause-account c =
     (rw (c.push_back_reserved.ensures.items, map-append (λ (e : Entry). e.number) before.entries.items (added ∷ []), number) refl)
     refl (c.push_reserved.ensures.items)
     (account-waits (numbers_of before.entries.items) before.settled.items before.outcomes.items before.account)
+
+pub invariant_of-self-clause-ordered : goal.invariant_of-self-clause-ordered
+invariant_of-self-clause-ordered c =
+    let before = c.args.self.now in
+    let number : c.len-number.result ≡ length before.outcomes.items = c.len-number.ensures ∙ before.outcomes.ok.0 in
+    let added : Entry = record { number = c.len-number.result; bytes = c.args.bytes } in
+    rw (c.push_back_reserved.ensures.items, map-append (λ (e : Entry). e.number) before.entries.items (added ∷ []), number)
+    (rises-waits (numbers_of before.entries.items) before.settled.items before.outcomes.items before.account before.ordered)
 
 pub invariant_of-self-clause-covered : goal.invariant_of-self-clause-covered
 invariant_of-self-clause-covered c =

@@ -1,11 +1,12 @@
-use Rattle.std.proofs.Common.{◌≡◌, ◌+◌, ◌<◌, false, true, List, ap, refl, arith}
+use Rattle.std.proofs.Common.{rules, ◌≡◌, ◌+◌, ◌<◌, false, true, List, drop, ap, refl, arith}
 use Rattle.pl_head.specs.declared.outbound_buffer.Entry.{Entry}
 use Rattle.pl_head.specs.Writes.{flushed_writes, unflushed_writes}
-use Rattle.pl_head.specs.WaitingMessages.{entries_size, first_size}
+use Rattle.pl_head.specs.WaitingMessages.{entries_size, first_size, numbers_of}
 use Rattle.pl_head.specs.OutboundStand.{buffer_view}
 use Rattle.pl_head.proofs.Buffering.{closes, same_parts}
 use Rattle.pl_head.proofs.WaitingSizes.{entries_size-split, first_size-take}
 use Rattle.pl_head.proofs.BufferSteps.{removes-stands, removes-flags}
+use Rattle.pl_head.proofs.Rising.{rises-take, rises-drop}
 use Rattle.pl_head.proofs.outbound_buffer.OutboundBuffer.close.Goals as goal
 
 pub remove-requires-clause-fits : goal.remove-requires-clause-fits
@@ -17,6 +18,25 @@ pub invariant_of-self-clause-covered : goal.invariant_of-self-clause-covered
 invariant_of-self-clause-covered c =
     let h = c.args.self.now in
     rw c.truncate.ensures.items (omega (arith, c.remove.ensures.pending, c.settle_from-size.ensures.size, entries_size-split h.flushed h.entries.items, h.covered))
+
+pub invariant_of-self-clause-ordered : goal.invariant_of-self-clause-ordered
+invariant_of-self-clause-ordered c =
+    let h = c.args.self.now in
+    rw c.truncate.ensures.items (rises-take h.entries.items h.flushed h.ordered)
+
+pub returns-clause-takes_out : goal.returns-clause-takes_out
+returns-clause-takes_out c =
+    let h = c.args.self.now in
+    record {
+      same = search rules;
+      settles = record {
+        settled = record { more = numbers_of (drop h.flushed h.entries.items); after_is = c.settle_from-size.ensures.settled; rises = rises-drop h.entries.items h.flushed h.ordered };
+        told = refl;
+      };
+      numbering = refl;
+      pending = search rules;
+      count = search rules;
+    }
 
 pub returns-clause-stands : goal.returns-clause-stands
 returns-clause-stands c = λ accepted ys sizes s.

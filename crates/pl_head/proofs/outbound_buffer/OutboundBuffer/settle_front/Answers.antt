@@ -1,10 +1,12 @@
-use Rattle.std.proofs.Common.{List, [], Some, sym, ◌∙◌, ap, refl, arith}
+use Rattle.std.proofs.Common.{List, [], ◌∷◌, Some, sym, subst, ◌∙◌, ap, refl, arith}
 use Rattle.std.proofs.lemmas.List.{length-set}
+use Rattle.std.specs.List.Sorted.{IsStrictlyIncreasing}
 use Rattle.pl_event.specs.declared.outcomes.Outcome.TheVariants.{Success}
 use Rattle.pl_head.specs.declared.outbound_buffer.Entry.{Entry}
 use Rattle.pl_head.specs.WaitingMessages.{first_size, numbers_of}
 use Rattle.pl_head.proofs.Buffering.{settles, same_parts}
 use Rattle.pl_head.proofs.Accounts.{account-settles, account-same, account-within}
+use Rattle.pl_head.proofs.Rising.{rises-rest}
 use Rattle.pl_head.proofs.outbound_buffer.OutboundBuffer.settle_front.Goals as goal
 
 pub index_mut-requires : goal.index_mut-requires
@@ -29,3 +31,11 @@ invariant_of-self-clause-account c =
     account-same refl c.push_reserved.ensures.items refl
     (account-settles [] (numbers_of c.pop_front.new.self.items) before.settled.items c.in-Some.first.number before.outcomes.items Success
     (account-same (ap (λ (ws : List Entry). numbers_of ws) (sym c.in-Some.ensures.items)) refl refl c.args.self.now.account))
+
+pub invariant_of-self-clause-ordered : goal.invariant_of-self-clause-ordered
+invariant_of-self-clause-ordered c =
+    rises-rest (c.in-Some.first.number ∷ []) (numbers_of c.pop_front.new.self.items) (subst (λ (es : List Entry). IsStrictlyIncreasing (numbers_of es)) c.in-Some.ensures.items c.args.self.now.ordered)
+
+pub returns-clause-settles : goal.returns-clause-settles
+returns-clause-settles c =
+    record { front = c.in-Some.first.number ∷ []; settled = c.push_reserved.ensures.items; waited = ap (λ (ws : List Entry). numbers_of ws) c.in-Some.ensures.items; told = refl }

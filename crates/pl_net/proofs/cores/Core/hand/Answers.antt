@@ -1,7 +1,7 @@
-use Rattle.std.proofs.Common.{◌<◌, Option, length, set, refl, sym, ap, subst, arith}
+use Rattle.std.proofs.Common.{◌<◌, Option, length, set, refl, sym, ap, subst, ◌∙◌, arith}
 use Rattle.std.specs.Option.{option_map_or}
 use Rattle.std.proofs.lemmas.Option.{slice_get_read}
-use Rattle.pl_net.specs.Nets.{ExecutorView}
+use Rattle.pl_net.specs.Nets.{ExecutorView, memory_at}
 use Rattle.pl_net.specs.Cores.{core_view, waits_of}
 use Rattle.pl_net.proofs.OneExecutor.{replaces-set}
 use Rattle.pl_context.proofs.WaitingCalls.{at-set_here}
@@ -102,3 +102,20 @@ returns-in-Err-clause-wanted g c = λ world x backlogs h.
     let p = hand-oldest g.N.Nodes.view_of g.N.Nodes.stands world x (core_view c.args.self.now backlogs) h c.args.me c.args.self.now.capacity (omega (arith, c.requires.there, size)) c.deref.result.now c.deref.ensures.value c.oldest_target.result
     c.oldest_target.ensures c.in-Some.target c.in-Some.is in
     (p.i, p.open_at)
+
+pub returns-in-Err-clause-refused : goal.returns-in-Err-clause-refused
+returns-in-Err-clause-refused g c = λ world x backlogs h.
+    let size = c.args.self.now.executors.ok.0 in
+    let es = c.args.self.now.executors.items in
+    let within : c.args.me < length es = omega (arith, c.requires.there, size) in
+    let from = core_view c.args.self.now backlogs in
+    let p = hand-oldest g.N.Nodes.view_of g.N.Nodes.stands world x from h c.args.me c.args.self.now.capacity within c.deref.result.now c.deref.ensures.value c.oldest_target.result c.oldest_target.ensures c.in-Some.target c.in-Some.is in
+    let t = hand-there g.N.Nodes.view_of g.N.Nodes.stands world x from h c.args.me c.args.self.now.capacity within c.deref.result.now c.deref.ensures.value c.oldest_target.result c.oldest_target.ensures c.in-Some.target c.in-Some.is in
+    let at = slice_get_read es (length es) c.in-Some.target c.index_mut.result.now refl t c.index_mut.ensures.value in
+    record {
+      i = p.i;
+      entry = p.entry;
+      oldest = p.open_at;
+      is = p.is;
+      memory = ap (memory_at es) p.target ∙ ap (λ (o : Option ExecutorView). option_map_or (λ (e : ExecutorView). e.room) o 0) at ∙ c.in-Err.ensures.refused;
+    }

@@ -1,4 +1,4 @@
-use Rattle.std.proofs.Common.{◌≡◌, ◌+◌, ◌<◌, ◌^◌, ℕ, [], ◌∷◌, List, Option, None, Some, length, refl, ap, sym, subst, ◌∙◌, arith, length-append}
+use Rattle.std.proofs.Common.{◌≡◌, ◌+◌, ◌<◌, ◌^◌, ℕ, [], ◌∷◌, ◌++◌, List, Option, None, Some, length, refl, ap, ap₂, sym, subst, ◌∙◌, arith, append_assoc, length-append}
 use Rattle.std.specs.List.{sum_by}
 use Rattle.std.proofs.lemmas.List.Sums.{sum_by_push}
 use Rattle.pl_event.specs.declared.events.Event.{Event}
@@ -8,7 +8,7 @@ use Rattle.pl_context.specs.ContextViews.{ContextView, IsHop}
 use Rattle.pl_context.specs.TailViews.{TailView}
 use Rattle.pl_part.specs.Counts.{slot_done, tail_done}
 use Rattle.pl_part.specs.TailHolds.{TailHolds}
-use Rattle.pl_part.specs.NewParts.{ArePlanned, AreNew}
+use Rattle.pl_part.specs.NewParts.{ArePlanned, AreNew, new_slots}
 use Rattle.pl_part.proofs.EventLists.{some-equal}
 use Rattle.pl_part.proofs.NewContexts.{none-new, none-push}
 use Rattle.pl_part.proofs.TailSteps.{new-holds}
@@ -49,6 +49,23 @@ invariant_of-result g c =
       within = omega (arith, none, more, sum, k, c.in_ok-add_contexts.ensures.count, c.in_ok-add_contexts-2.ensures.count);
       turned = omega (arith, k, c.requires.turn);
     }
+
+pub returns-clause-contexts : goal.returns-clause-contexts
+returns-clause-contexts g c =
+    let Slots = List (Option (ContextView g.row.S.Denot)) in
+    let meaning = g.S.Stage.meaning in
+    let channel = c.args.channel in
+    let none = ap (λ (l : Slots). length l) c.new-contexts.ensures.items in
+    let more = ap (λ (l : Slots). length l) c.in_ok-push.ensures.items in
+    let sum = length-append c.add_contexts.new.contexts.items (None ∷ []) in
+    let k : c.len-k.result ≡ length c.args.inbound.items = omega (arith, c.len-k.ensures, c.args.inbound.ok.0) in
+    let first : length c.push.new.self.items ≡ length c.args.inbound.items + 1 = omega (arith, none, more, sum, c.in_ok-add_contexts.ensures.count) in
+    let above = c.in_ok-add_contexts.ensures.slots ∙ ap (λ (l : Slots). l ++ new_slots meaning channel c.len-k.result (length l) c.args.inbound.items) c.new-contexts.ensures.items
+    ∙ ap (λ (n : ℕ). new_slots meaning channel n 0 c.args.inbound.items) k in
+    let below = ap₂ (λ (n h : ℕ). new_slots meaning channel n h c.args.outbound.items) k first in
+    c.in_ok-add_contexts-2.ensures.slots
+    ∙ ap₂ (λ (l m : Slots). l ++ m) (c.in_ok-push.ensures.items ∙ ap (λ (l : Slots). l ++ None ∷ []) above) below
+    ∙ append_assoc (new_slots meaning channel (length c.args.inbound.items) 0 c.args.inbound.items) (None ∷ []) (new_slots meaning channel (length c.args.inbound.items) (length c.args.inbound.items + 1) c.args.outbound.items)
 
 pub returns-clause-new : goal.returns-clause-new
 returns-clause-new g c = λ world planned.

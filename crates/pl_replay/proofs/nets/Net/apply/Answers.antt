@@ -1,5 +1,6 @@
-use Rattle.std.proofs.Common.{Bool, true, Ok, ap, sym, ◌∙◌, subst, arith, false}
+use Rattle.std.proofs.Common.{◌≡◌, ℕ, Bool, true, Ok, ap, sym, ◌∙◌, subst, arith, false}
 use Rattle.pl_net.specs.Cores.{core_view}
+use Rattle.pl_net.specs.Nets.{LacksMemory}
 use Rattle.pl_net.specs.declared.cores.Core.{Core}
 use Rattle.pl_world.specs.declared.moves.Move.{Move}
 use Rattle.pl_world.specs.declared.moves.Move.TheVariants.{Read, Task, Hand, Out}
@@ -124,3 +125,13 @@ returns-in_err-hand-in-Hand-clause-wanted g c = λ _ plan backlogs.
     (λ n. subst (λ (move : Move). enabled move c.self.inside.core) (sym c.in-Hand.is)
     (hand-wanted g.S.Stage.meaning g.S.Stage.stands_after g.S.Stage.is_spent g.T.Transport.state g.T.Transport.may_refuse c.self.inside.core c.in-Hand.executor plan backlogs
     (c.in_err-hand-in-Hand.ensures.wanted (world_of false plan) 0 backlogs n.stands) n))
+
+pub returns-in_err-hand-in-Hand-clause-refused : goal.returns-in_err-hand-in-Hand-clause-refused
+returns-in_err-hand-in-Hand-clause-refused g c = λ _ plan backlogs.
+    let lacks = λ (k : Core (Channels g.row.S.Denot g.row.T.Denot)). (x : ℕ) × (c.args.step ≡ Hand x) × LacksMemory plan.capacity x (core_view k backlogs) in
+    subst (λ (k : Core (Channels g.row.S.Denot g.row.T.Denot)). NetStands g.S.Stage.meaning g.S.Stage.stands_after g.T.Transport.state plan backlogs k → lacks k) c.self.view_is
+    (λ n. (
+      c.in-Hand.executor,
+      c.in-Hand.is,
+      subst (λ (m : ℕ). LacksMemory m c.in-Hand.executor (core_view c.self.inside.core backlogs)) n.capacity (c.in_err-hand-in-Hand.ensures.refused (world_of false plan) 0 backlogs n.stands),
+    ))

@@ -59,10 +59,18 @@ net-begins g c =
     (subst (λ (n : ℕ). AreIdle c.as_slice.result.now n c.in_ok-executors.executors.items) c.executors-count.ensures c.in_ok-executors.ensures) in
     let made = c.in_ok-core.ensures in
     world-begins g.S.Stage.meaning g.S.Stage.stands_after g.T.Transport.state c.args.world c.into_channels.ensures.is_world c.args.capacity c.requires.capacity.0 c.in_ok-parts.parts.items placed c.in_ok-executors.executors.items idle
-    c.in_ok-core.core (ap (λ (n : Channels g.row.S.Denot g.row.T.Denot). n.parts.items) made.nodes) made.executors made.capacity made.rests (λ s. made.stands (world_of false (planned g.S.Stage.meaning g.T.Transport.state c.args.capacity c.args.world.executors c.args.world.channels)) 0 s)
+    c.in_ok-core.core (ap (λ (n : Channels g.row.S.Denot g.row.T.Denot). n.parts.items) made.nodes) made.executors made.capacity made.rests
+    (made.unstopped ∙ ap no_stops (c.lane_count-lanes.ensures ∙ ap (λ (l : List (PartView g.row.S.Denot g.row.T.Denot)). length (all_lanes l)) c.as_slice-2.ensures.value))
+    (λ s. made.stands (world_of false (planned g.S.Stage.meaning g.T.Transport.state c.args.capacity c.args.world.executors c.args.world.channels)) 0 s)
 
 pub invariant_of-result : goal.invariant_of-result
 invariant_of-result g c = ((planned g.S.Stage.meaning g.T.Transport.state c.args.capacity c.args.world.executors c.args.world.channels), no_backlogs, (net-begins g c).stands)
 
 pub returns-clause-begins : goal.returns-clause-begins
 returns-clause-begins g c = net-begins g c
+
+pub returns-clause-placed : goal.returns-clause-placed
+returns-clause-placed g c =
+    let Placed = λ (rs : List (Recorded g.row.S.Denot g.row.T.Denot)) (parts : List (PartView g.row.S.Denot g.row.T.Denot)). ArePlaced g.S.Stage.meaning g.S.Stage.stands_after g.T.Transport.state rs parts in
+    let placed = subst (λ (rs : List (Recorded g.row.S.Denot g.row.T.Denot)). Placed rs c.in_ok-parts.parts.items) (c.into_vec.ensures ∙ c.into_channels.ensures.channels) c.in_ok-parts.ensures in
+    subst (Placed c.args.world.channels) (sym (ap (λ (n : Channels g.row.S.Denot g.row.T.Denot). n.parts.items) c.in_ok-core.ensures.nodes)) placed

@@ -1,0 +1,10 @@
+use Rattle.std.proofs.Common.{◌≡◌, ◌-◌, ◌<◌, sym, subst}
+use Rattle.pl_words.specs.declared.watermark.TheConstants.{MAX_SETS}
+use Rattle.pl_words.specs.Watermarks.{HeadSeatView}
+use Rattle.pl_exec.proofs.SeatLemmas.{tells-told}
+use Rattle.pl_exec.proofs.telling.tell.Goals as goal
+
+pub returns-clause-tells : goal.returns-clause-tells
+returns-clause-tells g c =
+    tells-told c.args.part.now c.settle.new.part c.settle.new.seats c.settle.ensures.told c.settle.ensures.all
+    (λ x at. subst (λ (m : HeadSeatView). m.sets < MAX_SETS - 1 → (m.pending ≡ x.buffer.pending) × (m.unwritable ≡ x.buffer.is_unwritable)) (sym c.settle.ensures.mark) (c.set_mark.ensures.says x at))
