@@ -4,10 +4,10 @@ ghost use Rattle.std.specs.Prelude.{◌<◌};
 use crate::tests::net_tests::{
     GROUPS, PLACINGS, begins, bursts, drain, line_protocol, move_by, next_number, pipeline, whole,
 };
+use crate::tests::world_tests::{one_memory_transport, world_over};
 use crate::tests::{
     CLOSED, FAULT, OUT, READ, SUCCESS, assert_one, only_channel, ping_tail, read_command,
 };
-use crate::tests::world_tests::{one_memory_transport, world_over};
 use pl_build::Groups;
 use pl_event::{Cause, Command, Event, Outcome, Sequence};
 use pl_head::{MemoryTransport, ReadPlan};

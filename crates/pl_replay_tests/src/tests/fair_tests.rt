@@ -1,8 +1,8 @@
 //! A fair schedule drains a session in each placing, and gives the report that plain gives.
 ghost use Rattle.std.specs.Prelude.{◌≤◌};
 
-use crate::tests::net_tests::{PLACINGS, line_protocol, marked_pipeline, to_its_end};
 use crate::tests::assert_same;
+use crate::tests::net_tests::{PLACINGS, line_protocol, marked_pipeline, to_its_end};
 use crate::tests::world_tests::windowed_world;
 use pl_build::Groups;
 use pl_event::Sequence;

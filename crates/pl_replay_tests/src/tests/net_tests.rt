@@ -1,11 +1,11 @@
 //! Replays on several executors. The channels are those of docs/FORMATS.md.
 ghost use Rattle.std.specs.Prelude.{◌<◌};
 
+use crate::tests::world_tests::world_of;
 use crate::tests::{
     Kind, OUT, READ, SUCCESS, assert_drained, assert_one, assert_ping, assert_pong, assert_same,
     handler, only_channel, ping_tail, read_command, text,
 };
-use crate::tests::world_tests::world_of;
 use pl_build::{Groups, PipelineBuilder, Placed};
 use pl_event::{ByteString, Command, Event, Sequence};
 use pl_head::{MemoryTransport, ReadPlan, Transport};

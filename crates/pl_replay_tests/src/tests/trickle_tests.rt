@@ -5,8 +5,8 @@ ghost use Rattle.pl_world.specs.Worlds.{IsUncalled};
 use crate::tests::net_tests::{
     GROUPS, PLACINGS, drain, keeps_to_plain, line_protocol, pipeline, to_its_end, whole,
 };
-use crate::tests::{FAULT, OUT, READ, assert_one, assert_ping, ping_tail};
 use crate::tests::world_tests::{one_transport, world_over};
+use crate::tests::{FAULT, OUT, READ, assert_one, assert_ping, ping_tail};
 use pl_build::Groups;
 use pl_event::{Cause, Sequence};
 use pl_head::{MemoryTransport, Transport, TransportFault};

@@ -2,8 +2,8 @@
 ghost use Rattle.std.specs.Prelude.{◌≡◌, []};
 ghost use Rattle.pl_replay_tests.specs.CountingStage.{reads, counting, counting-lawful, counting-thrifty};
 
-use crate::tests::net_tests::to_its_end;
 use crate::tests::assert_one;
+use crate::tests::net_tests::to_its_end;
 use crate::tests::world_tests::one_memory_transport;
 use pl_build::{Groups, PipelineBuilder, Placed};
 use pl_event::{BareStage, Direction, Event, Fused, Message, Reply, Sequence, Stage, Turned};

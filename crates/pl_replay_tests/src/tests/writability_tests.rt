@@ -4,8 +4,8 @@ ghost use Rattle.std.specs.Prelude.{◌≤◌, ◌<◌};
 use crate::tests::net_tests::{
     drain, keeps_to_plain, line_protocol, marked_pipeline, move_by, next_number, to_its_end, whole,
 };
-use crate::tests::{Kind, OUT, READ, SUCCESS, assert_drained, only_channel, read_command};
 use crate::tests::world_tests::windowed_world;
+use crate::tests::{Kind, OUT, READ, SUCCESS, assert_drained, only_channel, read_command};
 use pl_build::Groups;
 use pl_event::{Command, Event, Sequence};
 use pl_head::MemoryTransport;
