@@ -173,6 +173,7 @@ module _ (world : World) (os : List OutboxView) (w : WaitingView AdmittedView) (
           ap (λ o. past (option_map_or (λ (c : OutboxView). sent_at c.sends.send_counts l) o (record { next = 0; over = true })) (on l (waits_in w y))) (r.others y (cut-off y l goes))
           ∙ sym (cond-false ((y == target) && same_lane l x.lane) _ _ (ap (λ (b : Bool). b && same_lane l x.lane) (ne_eqb y target (cut-off y l goes))));
       closed = closed-on os os' w w target b b' r (leaves refusal b.seat b'.seat seat).closed;
+      made = let m = r.made in let same = (leaves refusal b.seat b'.seat seat).made in omega (arith, m, same);
       placed = λ lanes among places. places;
     }
 
@@ -284,6 +285,7 @@ module _ (world : World) (os : List OutboxView) (w : WaitingView AdmittedView) (
           ∙ ap (λ (c : Bool). cond (c && same_lane l x.lane) (after x) (reached (record { outboxes = os; waiting = w; tried = ts }) y l)) (sym (ne_eqb y target e)))
           (cases_eq y target);
       closed = closed-on os os' w w' target b b' r (λ e. absurd (both_ways (is_closed b.seat.seen) (or_parts (is_closed b.seat.seen) (b.seat.made == MAX_ADMISSIONS) open_before).0 e));
+      made = let m = r.made in omega (arith, m, made);
       placed = λ lanes among places. subst (λ s. HasPlaces s lanes) (sym adds.stopped) (places-after adds.answer (stops_for w target) lanes x.lane places among);
     }
 

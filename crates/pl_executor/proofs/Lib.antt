@@ -2,6 +2,7 @@ pub mod SentLemmas
 pub mod OutboxLemmas
 pub mod AddSteps
 pub mod OfferSteps
+pub mod AdmissionLemmas
 pub mod RunLemmas
 pub mod CountLemmas
 pub mod Sends

@@ -48,7 +48,7 @@ module _ (world : World) (os : List OutboxView) (w : WaitingView AdmittedView) (
 
     pub nothing-stays : Stays (record { outboxes = os; waiting = w; tried = ts }) (record { outboxes = os; waiting = w'; tried = ts })
     nothing-stays = subst (λ (v : WaitingView AdmittedView). Stays (record { outboxes = os; waiting = w; tried = ts }) (record { outboxes = os; waiting = v; tried = ts })) (sym takes.taken.1)
-        (record { count = refl; reached = λ y l. refl; cut = λ y l. refl; stops = λ y. refl; closed = λ s. record { target = s.target; outbox = s.outbox; is = s.is; closed = s.closed } })
+        (record { count = refl; reached = λ y l. refl; cut = λ y l. refl; stops = λ y. refl; closed = λ s. record { target = s.target; outbox = s.outbox; is = s.is; closed = s.closed }; made = refl })
 
   -- ---- the first is taken
 
@@ -153,6 +153,7 @@ module _ (world : World) (os : List OutboxView) (w : WaitingView AdmittedView) (
             ∙ ap (λ c. has_stopped (stops_for w y) l || c) (on-target (λ (c : OutboxView). is_refused c.seat) true os (set os target b') target b b' r (ap is_refused is_seat) y);
         stops = takes.stopped;
         closed = closed-on os (set os target b') w w' target b b' r (λ e. ap (λ (s : SendSeatView). is_closed s.seen) is_seat ∙ e);
+        made = let m = r.made in let same = ap (λ (s : SendSeatView). s.made) is_seat in omega (arith, m, same);
       }
 
   -- ---- its queue was full, and it was put back
@@ -182,6 +183,7 @@ module _ (world : World) (os : List OutboxView) (w : WaitingView AdmittedView) (
       cut = λ y l. ap (λ s. has_stopped s l || refuses (record { outboxes = os; waiting = w; tried = ts }) y) (stops y);
       stops = stops;
       closed = λ s. record { target = s.target; outbox = s.outbox; is = s.is; closed = s.closed };
+      made = refl;
     }
 
 -- ---- a turn begins
@@ -190,5 +192,5 @@ pub forgets : (os : List OutboxView) (w : WaitingView AdmittedView) (ts ts' : Li
 forgets os w ts ts' = record {
   waiting = refl;
   same = λ y. record { waits = refl; sends = refl };
-  stays = record { count = refl; reached = λ y l. refl; cut = λ y l. refl; stops = λ y. refl; closed = λ s. record { target = s.target; outbox = s.outbox; is = s.is; closed = s.closed } };
+  stays = record { count = refl; reached = λ y l. refl; cut = λ y l. refl; stops = λ y. refl; closed = λ s. record { target = s.target; outbox = s.outbox; is = s.is; closed = s.closed }; made = refl };
 }

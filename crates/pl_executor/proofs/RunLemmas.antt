@@ -28,6 +28,7 @@ use Rattle.pl_executor.specs.declared.cores.Core.{Core}
 use Rattle.pl_executor.specs.Cores.{CoreHolds}
 use Rattle.pl_executor.specs.OutboxViews.{OutboxesView, reached, is_cut, Adds, SameFor, Sends, Stays}
 use Rattle.pl_executor.specs.Running.{Runs, IsTaking}
+use Rattle.pl_executor.proofs.AdmissionLemmas.{admits_on}
 
 cons-none : {A : Type 0} (x : A) (xs : List A) → x ∷ xs ≡ [] → ⊥
 cons-none x xs e = cc
@@ -256,6 +257,7 @@ holds-stay {target = target} {writes = writes} {world = world} {taken = taken} {
   places = holds.places;
   runs = runs-stay world c.number (target c.part) (writes c.part) (taken c.part) (came c.part) c.outboxes o c.work holds.runs stays;
   why = λ e. stays.closed (holds.why e);
+  admits = admits_on (writes c.part) (came c.part) c.outboxes o c.work c.work holds.admits refl (let n = stays.made in omega (arith, n));
 }
 
 -- nothing had moved before the first was sent

@@ -88,6 +88,10 @@ is_cut o target l = has_stopped (stops_for o.waiting target) l || refuses o targ
 
 -- ---- what holds between two calls
 
+-- how many admissions its seats ever made
+abbrev pub admissions : OutboxesView → ℕ
+admissions o = sum_by (λ b. b.seat.made) o.outboxes
+
 -- What waits for a target follows what was sent to it, and there is an admission for each of both.
 pub record IsOutbox (world : World) (b : OutboxView) (entries : List (Entry AdmittedView)) : Type 0 where
   pub behind : AreBehind world b.sends.send_counts (map (λ e. e.envelope) entries)
@@ -100,13 +104,13 @@ pub record IsOutboxes (world : World) (o : OutboxesView) : Type 0 where
   pub holds : Holds o.waiting entries
   pub each : (target : ℕ) (b : OutboxView) → slice_get o.outboxes target ≡ Some b → IsOutbox world b (filter (is_for target) entries)
   pub targets : length o.waiting.targets ≡ length o.outboxes
-  pub added : o.waiting.added ≤ sum_by (λ b. b.seat.made) o.outboxes
+  pub added : o.waiting.added ≤ admissions o
   pub few : length o.outboxes < 2 ^ 16
 
 -- ---- what a call does
 
--- An envelope was added for a target, or is refused there, and nothing was sent. Where more of a lane gets in, it did
--- before, and has come behind the envelope.
+-- An envelope was added for a target, or is refused there, with at most one admission, and nothing was sent. Where more of a
+-- lane gets in, it did before, and has come behind the envelope.
 pub record Adds (o : OutboxesView) (target : ℕ) (x : Envelope) (o' : OutboxesView) : Type 0 where
   pub count : length o'.outboxes ≡ length o.outboxes
   pub sends : (y : ℕ) → sends_for o' y ≡ sends_for o y
@@ -115,6 +119,7 @@ pub record Adds (o : OutboxesView) (target : ℕ) (x : Envelope) (o' : OutboxesV
   pub cut : (y : ℕ) (l : Lane) → is_cut o' y l ≡ false → is_cut o y l ≡ false
   pub reached : (y : ℕ) (l : Lane) → is_cut o' y l ≡ false → reached o' y l ≡ cond ((y == target) && same_lane l x.lane) (after x) (reached o y l)
   pub closed : SomeClosed o → SomeClosed o'
+  pub made : admissions o' ≤ admissions o + 1
   pub placed : (lanes : List Lane) → AreAmong (x.lane ∷ []) lanes → HasPlaces (stops_for o.waiting target) lanes → HasPlaces (stops_for o'.waiting target) lanes
 
 -- What comes last for the target: the envelope, or what stands in for it, or nothing where its lane has stopped. There is
@@ -169,13 +174,14 @@ pub record SendsNothing (o o' : OutboxesView) : Type 0 where
   pub sends : (y : ℕ) → sends_for o' y ≡ sends_for o y
   pub tried : o'.tried ≡ o.tried
 
--- Each lane has come as far as before, and nothing was stopped or refused.
+-- Each lane has come as far as before, and nothing was stopped, admitted or refused.
 pub record Stays (o o' : OutboxesView) : Type 0 where
   pub count : length o'.outboxes ≡ length o.outboxes
   pub reached : (y : ℕ) (l : Lane) → reached o' y l ≡ reached o y l
   pub cut : (y : ℕ) (l : Lane) → is_cut o' y l ≡ is_cut o y l
   pub stops : (y : ℕ) → stops_for o'.waiting y ≡ stops_for o.waiting y
   pub closed : SomeClosed o → SomeClosed o'
+  pub made : admissions o' ≡ admissions o
 
 -- Nothing has changed, but which targets were tried.
 pub record Forgets (o o' : OutboxesView) : Type 0 where

@@ -37,8 +37,7 @@ where
     M::Sender: Drop,
 {
     /// Takes the front of the work list: a direct call, or an item for another executor, to its outbox. Where that executor
-    /// is closed, the context that wrote it fails; where the seat is spent, the item is dropped, and its lane is cut. False
-    /// where the list is empty.
+    /// is closed, the context that wrote it fails. The seat there is never spent. False where the list is empty.
     pub fn step(&mut self) -> bool
         requires holds { CoreHolds N.target_of N.writes W.world N.stands N.home N.lanes N.taken_of N.came N.was_refused self.old }
         ensures holds { CoreHolds N.target_of N.writes W.world N.stands N.home N.lanes N.taken_of N.came N.was_refused self.new }
@@ -46,7 +45,7 @@ where
         ensures served { ServesNone (N.served self.old.part) (N.served self.new.part) }
         ensures taken { (l : Lane) → N.writes self.old.part l ≡ false → N.taken_of self.new.part l ≡ N.taken_of self.old.part l }
         ensures empty { result ≡ false → self.new.work.items ≡ [] }
-        // What is for another executor waits there, or was refused there; and where that is closed, its writer has given up.
+        // What is for another executor waits there, or that was found closed, and its writer has given up.
         ensures away { (x : Envelope) (left : List Envelope) → self.old.work.items ≡ x ∷ left → N.target_of self.old.part x.lane ≢ self.old.number
             → Departs N.gave_up self.old.outboxes (N.target_of self.old.part x.lane) x self.new.part self.new.outboxes }
     {
@@ -59,8 +58,10 @@ where
             return true;
         }
         let lane = envelope.lane;
-        if let Err(Refused::Closed) = self.outboxes.add(target, envelope) {
-            self.part.refuse(lane, &mut self.work);
+        match self.outboxes.add(target, envelope) {
+            Ok(()) => {}
+            Err(Refused::Closed) => self.part.refuse(lane, &mut self.work),
+            Err(Refused::SeatSpent) => unreachable!(),
         }
         true
     }

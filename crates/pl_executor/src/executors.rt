@@ -9,7 +9,8 @@ ghost use Rattle.pl_words.specs.declared.status.Status.TheVariants.{Accepting};
 ghost use Rattle.pl_words.specs.Phases.{rank};
 ghost use Rattle.pl_words.specs.Admissions.{AdmittedView, OwnerSeatView, new_owner_seat};
 ghost use Rattle.pl_executor.specs.declared.executors.Turn.TheVariants.{Worked, Idle, Done};
-ghost use Rattle.pl_executor.specs.OutboxViews.{waits_for, is_closed, SomeClosed, SameFor, Sends, SendsNothing, oldest_untried};
+ghost use Rattle.pl_executor.specs.Admitting.{FewLanes};
+ghost use Rattle.pl_executor.specs.OutboxViews.{admissions, waits_for, is_closed, SomeClosed, SameFor, Sends, SendsNothing, oldest_untried};
 ghost use Rattle.pl_executor.specs.Running.{Runs, IsTaking};
 ghost use Rattle.pl_executor.specs.Serving.{ServesNone, ReadsAtMostOnce, WritesAtMostOnce, ServesAtMostOnce};
 ghost use Rattle.pl_executor.specs.Turning.{SendsAtMostOne, TakesAtMostOne, IsStill};
@@ -86,7 +87,9 @@ where
     M::Taker: Drop,
 {
     /// An executor with these nodes and outboxes, and the taker and the owner's seat of its own inbox, from which nothing was
-    /// taken, and which is accepting. What the taker is to take first is the next of its lane for the nodes.
+    /// taken, and which is accepting. What the taker is to take first is the next of its lane for the nodes. These write
+    /// fewer than 2^13 lanes, and no seat has made an admission: so none is ever spent.
+    #[tactic(auto, using(crate::proofs::AdmissionLemmas::admits_start))]
     pub fn new(
         core: Core<'a, W, M, N>,
         inbox: &'a Inbox<W, M>,
@@ -98,6 +101,8 @@ where
         requires places { HasPlaces core.work.stopped (N.lanes core.part) }
         requires runs { Runs W.world core.number (N.target_of core.part) (N.writes core.part) (N.taken_of core.part) (N.came core.part) core.outboxes core.work }
         requires why { N.was_refused core.part ≡ true → SomeClosed core.outboxes }
+        requires few { FewLanes (N.writes core.part) }
+        requires admitted { admissions core.outboxes ≡ 0 }
         requires empty { core.work.items ≡ [] }
         requires taker { M.is_taker inbox.now.mailbox taker }
         requires taking { IsTaking core.number (N.target_of core.part) (N.writes core.part) (N.taken_of core.part) (M.takes_of taker).counts }

@@ -6,7 +6,7 @@ ghost use Rattle.pl_context.specs.WaitingViews.{Entry, Holds, stops_for};
 ghost use Rattle.pl_words.specs.Admissions.{AdmittedView};
 ghost use Rattle.pl_flow.specs.Flows.{IsNext};
 ghost use Rattle.pl_executor.specs.Tries.{is_tried};
-ghost use Rattle.pl_executor.specs.OutboxViews.{IsNew, waits_for, was_tried, oldest_untried, tried_after, reached, is_cut, Adds, Comes, RefusedBy, Offers, Stays, Forgets};
+ghost use Rattle.pl_executor.specs.OutboxViews.{IsNew, admissions, waits_for, was_tried, oldest_untried, tried_after, reached, is_cut, Adds, Comes, RefusedBy, Offers, Stays, Forgets};
 
 use crate::bell::{MAX_BITS, Waiters};
 use crate::outbox::Outbox;
@@ -84,6 +84,7 @@ where
         ensures outboxes { IfOk result (λ new. new.outboxes ≡ outboxes.entry.items) }
         ensures waits { IfOk result (λ new. (y : ℕ) → waits_for new y ≡ []) }
         ensures tried { IfOk result (λ new. new.tried ≡ []) }
+        ensures admitted { IfOk result (λ new. admissions new ≡ 0) }
         ensures places { IfOk result (λ new. map (λ b. b.stopped) new.waiting.targets ≡ map no_stops places.now) }
     {
         Ok(Outboxes {

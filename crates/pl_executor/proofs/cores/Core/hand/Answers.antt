@@ -1,8 +1,21 @@
-use Rattle.std.proofs.Common.{sym, ap, subst, ◌∙◌}
+use Rattle.std.proofs.Common.{refl, sym, ap, subst, ◌∙◌}
+use Rattle.pl_context.specs.WaitingViews.{WaitingView, Holds}
+use Rattle.pl_words.specs.Admissions.{AdmittedView}
 use Rattle.pl_executor.specs.OutboxViews.{OutboxesView, Stays, oldest_untried}
 use Rattle.pl_executor.proofs.RunLemmas.{holds-stay}
 use Rattle.pl_executor.proofs.TurnLemmas.{untried-same, keeps-then, offer-keeps}
 use Rattle.pl_executor.proofs.cores.Core.hand.Goals as goal
+
+pub loop-init : goal.loop-init
+loop-init g c =
+    let o = c.args.self.now.outboxes in
+    let f = c.forget_tries.ensures.forgets in record {
+      number = refl;
+      part = refl;
+      work = refl;
+      keeps = record { each = f.same; holds = λ entries holds. subst (λ (w : WaitingView AdmittedView). Holds w entries) (sym f.waiting) holds };
+      holds = holds-stay c.args.self.now c.forget_tries.new.self c.requires.holds f.stays;
+    }
 
 pub returns-in-Handed-clause-holds : goal.returns-in-Handed-clause-holds
 returns-in-Handed-clause-holds g c =

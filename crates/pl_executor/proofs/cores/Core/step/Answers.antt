@@ -1,15 +1,13 @@
-use Rattle.std.proofs.Common.{◌≡◌, ◌≢◌, ◌∷◌, [], ◌<◌, ℕ, List, Ok, Err, inl, inr, false, length, refl, sym, subst, ◌∙◌}
-use Rattle.std.specs.Prelude.{IfErr, IfOk, Result}
+use Rattle.std.proofs.Common.{arith, rules, ◌≡◌, ◌∷◌, [], ◌<◌, ℕ, List, inl, inr, false, length, ap, sym, subst, ◌∙◌}
 use Rattle.pl_event.specs.declared.envelopes.Envelope.{Envelope}
-use Rattle.pl_event.specs.declared.envelopes.Lane.{Lane}
 use Rattle.pl_context.specs.Stops.{HasPlaces, StopsView}
 use Rattle.pl_context.specs.WaitingViews.{stops_for}
 use Rattle.pl_flow.specs.Flows.{IsNext}
 use Rattle.pl_executor.specs.Cores.{Departs}
-use Rattle.pl_executor.specs.OutboxViews.{OutboxesView, reached, is_cut, Adds, Comes, RefusedBy}
+use Rattle.pl_executor.specs.OutboxViews.{reached, is_cut, Adds, RefusedBy}
 use Rattle.pl_words.specs.declared.admission.Refused.{Refused}
-use Rattle.pl_words.specs.declared.admission.Refused.TheVariants.{Closed, SeatSpent}
 use Rattle.pl_executor.proofs.AddSteps.{refused-some}
+use Rattle.pl_executor.proofs.AdmissionLemmas.{admits_on, admits_front, admits_more, never-spent}
 use Rattle.pl_executor.proofs.RunLemmas.{own-number, own-good, own-taken, away-there, away-next, away-placed, away-added, places-on, runs-on}
 use Rattle.pl_executor.proofs.cores.Core.step.Goals as goal
 
@@ -42,6 +40,11 @@ returns-then-target-self-clause-holds g c =
           (g.N.Part.taken_of part') (sym c.target-target.ensures ∙ c.if-target-self.true) c.take.ensures.taken)
           c.take.ensures.made c.take.ensures.routes c.take.ensures.writes (λ l i. g.N.Part.taken_of part' l);
       why = λ e. c.requires.holds.why (sym c.take.ensures.refused ∙ e);
+      admits =
+          admits_more g.W.Named.world (g.N.Part.writes part) (g.N.Part.writes part') (g.N.Part.came part) (g.N.Part.came part') c.args.self.now.outboxes c.next.new.self c.take.new.work
+          (admits_front (g.N.Part.writes part) (g.N.Part.came part) c.args.self.now.outboxes c.args.self.now.outboxes c.args.self.now.work c.next.new.self c.in-Some.envelope c.requires.holds.admits c.in-Some.ensures.front c.in-Some.ensures.stopped
+          (omega arith))
+          c.take.ensures.made c.take.ensures.writes;
     }
 
 -- ---- to another executor
@@ -84,24 +87,16 @@ returns-in-Err-Closed-clause-holds g c =
           c.add.new.self (λ e. c.if-target-self.false (c.target-target.ensures ∙ e)) (subst (λ (k : ℕ). Adds c.args.self.now.outboxes k c.in-Some.envelope c.add.new.self) c.target-target.ensures c.add.ensures.adds))
           c.refuse.ensures.made c.refuse.ensures.routes c.refuse.ensures.writes c.refuse.ensures.taken;
       why = λ e. refused-some o c.add.new.self c.target-target.result (subst (λ (r : Refused). RefusedBy o c.target-target.result r c.add.new.self) c.in-Err-Closed.field-0-is c.in-Err-Closed.ensures.refused);
+      admits =
+          admits_more g.W.Named.world (g.N.Part.writes part) (g.N.Part.writes part') (g.N.Part.came part) (g.N.Part.came part') c.add.new.self c.next.new.self c.refuse.new.work
+          (admits_front (g.N.Part.writes part) (g.N.Part.came part) o c.add.new.self c.args.self.now.work c.next.new.self c.in-Some.envelope c.requires.holds.admits c.in-Some.ensures.front c.in-Some.ensures.stopped
+          c.add.ensures.adds.made)
+          c.refuse.ensures.made c.refuse.ensures.writes;
     }
 
--- its seat is spent
-pub returns-else-target-self-clause-holds : goal.returns-else-target-self-clause-holds
-returns-else-target-self-clause-holds g c = record {
-  stood = c.requires.holds.stood;
-  at_home = c.requires.holds.at_home;
-  places = subst (λ (s : StopsView). HasPlaces s (g.N.Part.lanes c.args.self.now.part)) (sym c.in-Some.ensures.stopped) c.requires.holds.places;
-  runs =
-      away-added g.W.Named.world c.args.self.now.number (g.N.Part.target_of c.args.self.now.part) (g.N.Part.writes c.args.self.now.part) (g.N.Part.taken_of c.args.self.now.part) (g.N.Part.came c.args.self.now.part)
-      c.args.self.now.outboxes c.args.self.now.work c.next.new.self c.in-Some.envelope c.requires.holds.runs c.in-Some.ensures.front c.in-Some.ensures.stopped
-      c.add.new.self (λ e. c.if-target-self.false (c.target-target.ensures ∙ e)) (subst (λ (k : ℕ). Adds c.args.self.now.outboxes k c.in-Some.envelope c.add.new.self) c.target-target.ensures c.add.ensures.adds);
-  why = λ e. c.add.ensures.adds.closed (c.requires.holds.why e);
-}
-
 -- it waits there
-pub returns-else-target-self-2-clause-holds : goal.returns-else-target-self-2-clause-holds
-returns-else-target-self-2-clause-holds g c = record {
+pub returns-in-Ok-clause-holds : goal.returns-in-Ok-clause-holds
+returns-in-Ok-clause-holds g c = record {
   stood = c.requires.holds.stood;
   at_home = c.requires.holds.at_home;
   places = subst (λ (s : StopsView). HasPlaces s (g.N.Part.lanes c.args.self.now.part)) (sym c.in-Some.ensures.stopped) c.requires.holds.places;
@@ -110,19 +105,15 @@ returns-else-target-self-2-clause-holds g c = record {
       c.args.self.now.outboxes c.args.self.now.work c.next.new.self c.in-Some.envelope c.requires.holds.runs c.in-Some.ensures.front c.in-Some.ensures.stopped
       c.add.new.self (λ e. c.if-target-self.false (c.target-target.ensures ∙ e)) (subst (λ (k : ℕ). Adds c.args.self.now.outboxes k c.in-Some.envelope c.add.new.self) c.target-target.ensures c.add.ensures.adds);
   why = λ e. c.add.ensures.adds.closed (c.requires.holds.why e);
+  admits =
+      admits_front (g.N.Part.writes c.args.self.now.part) (g.N.Part.came c.args.self.now.part) c.args.self.now.outboxes c.add.new.self c.args.self.now.work c.next.new.self c.in-Some.envelope
+      c.requires.holds.admits c.in-Some.ensures.front c.in-Some.ensures.stopped c.add.ensures.adds.made;
 }
 
 -- ---- what is for another executor
 
 same-front : (x y : Envelope) (xs ys : List Envelope) → x ∷ xs ≡ y ∷ ys → x ≡ y
 same-front x y xs ys e = cc
-
--- what became of it, by what was answered
-departs-by : {N : Type 0} (gave_up : N → Lane → Type 0) (o : OutboxesView) (target : ℕ) (x : Envelope) (part' : N) (o' : OutboxesView) (r : Result (Unit {0}) Refused) → IfOk r (λ _. Comes o target x o')
-    → IfErr r (λ refusal. RefusedBy o target refusal o') → r ≢ Err Closed → Departs gave_up o target x part' o'
-departs-by gave_up o target x part' o' (Ok u) comes refused never = inl comes
-departs-by gave_up o target x part' o' (Err SeatSpent) comes refused never = inr (inl refused)
-departs-by gave_up o target x part' o' (Err Closed) comes refused never = absurd (never refl)
 
 pub returns-then-target-self-clause-away : goal.returns-then-target-self-clause-away
 returns-then-target-self-clause-away g c x left front other =
@@ -136,24 +127,35 @@ returns-in-Err-Closed-clause-away g c x left front other =
     let o = c.args.self.now.outboxes in
     subst (λ (e : Envelope). Departs g.N.Part.gave_up o (g.N.Part.target_of part e.lane) e c.refuse.new.self c.add.new.self) (same-front c.in-Some.envelope x c.next.new.self.items left (sym c.in-Some.ensures.front ∙ front))
     (subst (λ (k : ℕ). Departs g.N.Part.gave_up o k c.in-Some.envelope c.refuse.new.self c.add.new.self) c.target-target.ensures
-    (inr (inr (subst (λ (r : Refused). RefusedBy o c.target-target.result r c.add.new.self) c.in-Err-Closed.field-0-is c.in-Err-Closed.ensures.refused, c.refuse.ensures.gave_up))))
-
--- its seat is spent
-pub returns-else-target-self-clause-away : goal.returns-else-target-self-clause-away
-returns-else-target-self-clause-away g c x left front other =
-    let part = c.args.self.now.part in
-    let o = c.args.self.now.outboxes in
-    let never : c.add.result ≢ Err Closed = λ e. cc in
-    subst (λ (e : Envelope). Departs g.N.Part.gave_up o (g.N.Part.target_of part e.lane) e part c.add.new.self) (same-front c.in-Some.envelope x c.next.new.self.items left (sym c.in-Some.ensures.front ∙ front))
-    (subst (λ (k : ℕ). Departs g.N.Part.gave_up o k c.in-Some.envelope part c.add.new.self) c.target-target.ensures
-    (departs-by g.N.Part.gave_up o c.target-target.result c.in-Some.envelope part c.add.new.self c.add.result c.add.ensures.comes c.add.ensures.refused never))
+    (inr (subst (λ (r : Refused). RefusedBy o c.target-target.result r c.add.new.self) c.in-Err-Closed.field-0-is c.in-Err-Closed.ensures.refused, c.refuse.ensures.gave_up)))
 
 -- it waits there
-pub returns-else-target-self-2-clause-away : goal.returns-else-target-self-2-clause-away
-returns-else-target-self-2-clause-away g c x left front other =
+pub returns-in-Ok-clause-away : goal.returns-in-Ok-clause-away
+returns-in-Ok-clause-away g c x left front other =
     let part = c.args.self.now.part in
     let o = c.args.self.now.outboxes in
-    let never : c.add.result ≢ Err Closed = λ e. cc in
     subst (λ (e : Envelope). Departs g.N.Part.gave_up o (g.N.Part.target_of part e.lane) e part c.add.new.self) (same-front c.in-Some.envelope x c.next.new.self.items left (sym c.in-Some.ensures.front ∙ front))
-    (subst (λ (k : ℕ). Departs g.N.Part.gave_up o k c.in-Some.envelope part c.add.new.self) c.target-target.ensures
-    (departs-by g.N.Part.gave_up o c.target-target.result c.in-Some.envelope part c.add.new.self c.add.result c.add.ensures.comes c.add.ensures.refused never))
+    (subst (λ (k : ℕ). Departs g.N.Part.gave_up o k c.in-Some.envelope part c.add.new.self) c.target-target.ensures (inl c.in-Ok.ensures.comes))
+
+-- ---- its seat is not spent
+
+pub unreachable-requires : goal.unreachable-requires
+unreachable-requires g c =
+    let part = c.args.self.now.part in
+    let o = c.args.self.now.outboxes in
+    never-spent (g.N.Part.writes part) (g.N.Part.came part) o c.add.new.self c.args.self.now.work c.target-target.result c.requires.holds.admits
+    (subst (λ (r : Refused). RefusedBy o c.target-target.result r c.add.new.self) c.in-Err-SeatSpent.field-0-is c.in-Err-SeatSpent.ensures.refused)
+
+pub returns-in_default-clause-holds : goal.returns-in_default-clause-holds
+returns-in_default-clause-holds g c =
+    let part = c.args.self.now.part in
+    let o = c.args.self.now.outboxes in record {
+      stood = c.requires.holds.stood;
+      at_home = c.requires.holds.at_home;
+      places = search rules;
+      runs = search rules;
+      why = c.requires.holds.why;
+      admits =
+          let n = ap (λ (zs : List Envelope). length zs) c.in_default.ensures.front in
+          admits_on (g.N.Part.writes part) (g.N.Part.came part) o o c.args.self.now.work c.next.new.self c.requires.holds.admits c.next.ensures.stopped (omega (arith, n));
+    }

@@ -1,4 +1,5 @@
 use Rattle.std.proofs.Common.{refl, sym, ◌∙◌}
+use Rattle.pl_executor.proofs.AdmissionLemmas.{admits_more}
 use Rattle.pl_executor.proofs.RunLemmas.{task-taken, places-on, runs-on}
 use Rattle.pl_executor.proofs.cores.Core.take.Goals as goal
 
@@ -16,4 +17,6 @@ returns-clause-holds g c =
           c.args.self.now.outboxes c.args.self.now.work c.args.task c.requires.holds.runs c.requires.foreign c.take.ensures.taken)
           c.take.ensures.made c.take.ensures.routes c.take.ensures.writes (λ l i. g.N.Part.taken_of part' l);
       why = λ e. c.requires.holds.why (sym c.take.ensures.refused ∙ e);
+      admits = admits_more g.W.Named.world (g.N.Part.writes part) (g.N.Part.writes part') (g.N.Part.came part) (g.N.Part.came part') c.args.self.now.outboxes c.args.self.now.work c.take.new.work
+          c.requires.holds.admits c.take.ensures.made c.take.ensures.writes;
     }

@@ -1,8 +1,8 @@
 use Rattle.std.proofs.Common.{[], ap, sym, ◌∙◌, arith, length}
 use Rattle.std.proofs.lemmas.List.{length-map}
-use Rattle.pl_context.specs.Backlogs.{BacklogView}
-use Rattle.pl_context.specs.Stops.{StopsView, no_stops}
+use Rattle.pl_context.specs.Stops.{no_stops}
 use Rattle.pl_executor.specs.Tries.{TriesView}
+use Rattle.pl_executor.proofs.AdmissionLemmas.{new_admissions}
 use Rattle.pl_executor.proofs.OutboxLemmas.{new-hold, waits-entries}
 use Rattle.pl_executor.proofs.outboxes.Outboxes.new.Goals as goal
 
@@ -17,3 +17,6 @@ invariant_of-result g c =
 
 pub returns-clause-waits : goal.returns-clause-waits
 returns-clause-waits g c = λ y. waits-entries c.in_ok-new.field-0 [] c.in_ok-new.ensures.empty y
+
+pub returns-clause-admitted : goal.returns-clause-admitted
+returns-clause-admitted g c = new_admissions c.args.outboxes.items c.requires.new
