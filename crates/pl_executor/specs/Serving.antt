@@ -1,7 +1,7 @@
 -- How often a channel was read and written by its head.
 use Rattle.std.specs.Prelude.{◌≡◌, ℕ, ◌+◌, ◌≤◌}
 
--- How many of its read steps were made, but for one that only brings a failure, and how many calls of its transport.
+-- How many of its read steps were made, and how many calls of its transport.
 pub record Served : Type 0 where
   pub reads : ℕ
   pub calls : ℕ
