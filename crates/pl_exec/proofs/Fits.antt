@@ -31,10 +31,11 @@ use Rattle.pl_world.specs.declared.session.Recorded.{Recorded}
 use Rattle.pl_world.specs.Plans.{Plan, channel_planned}
 use Rattle.pl_world.specs.PlanRules.{IsPlan, IsChannelPlan}
 use Rattle.pl_exec.specs.declared.nodes.OwnNodes.{OwnNodes}
-use Rattle.pl_exec.specs.Lanes.{is_lane}
+use Rattle.pl_exec.specs.Lanes.{AreLaid, every_lane, is_lane}
 use Rattle.pl_exec.specs.Opening.{LaneTable, lanes_to, lanes_between, FitsLanes}
 use Rattle.pl_exec.specs.OwnNodes.{nobody, enters, target_of}
 use Rattle.pl_exec.specs.Sharing.{AreSharesOf, places_at}
+use Rattle.pl_exec.proofs.LaneTablesEvery.{has-any, every-has, every-few}
 use Rattle.pl_exec.proofs.SharesMade.{at-index}
 use Rattle.pl_exec.proofs.SharesStand.{IsPlacedShare, whole-of}
 
@@ -162,7 +163,7 @@ module _ {S T : Type 0} (meaning : S → Meaning) (stands_after : S → List Eve
 
   -- ---- the table
 
-  module _ (lanes : LaneTable) (table : IsTable wholes plan.executors lanes) (below : x < plan.executors) where
+  module _ (laid : AreLaid wholes) (lanes : LaneTable) (table : IsTable wholes plan.executors lanes) (below : x < plan.executors) where
     -- a lane to this executor, which is written elsewhere
     enters-here : (l : Lane) → has_lane l (all_lanes (lanes_to lanes x)) ≡ true → (target_of parts l ≡ x) × (writes_of meaning parts l ≡ false) × (taken_of parts l ≡ 0)
     enters-here l has = (goes, false_from_ne_true (writes_of meaning parts l) elsewhere, none-taken l)
@@ -210,4 +211,9 @@ module _ {S T : Type 0} (meaning : S → Meaning) (stands_after : S → List Eve
       hops = data_between wholes x;
       placed = places-there;
       among = λ l w. has-place l (own l w);
+      few = record {
+        lanes = every_lane wholes;
+        few = let most = every-few 0 wholes laid.few in let channels = laid.channels in omega (arith, most, channels);
+        all = λ l w. let o = own l w in sym (has-any l (every_lane wholes)) ∙ every-has wholes l ∙ of-whole (λ (p : PartView S T). is_hop p l) false l o ∙ o.hop;
+      };
     }

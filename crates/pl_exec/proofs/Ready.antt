@@ -112,5 +112,6 @@ module _ {S T : Type 0} (meaning : S → Meaning) (stands_after : S → List Eve
         (λ n. data_lanes_of n.parts.items) (λ n l. target_of n.parts.items l) (λ n l. writes_of meaning n.parts.items l) (λ n l. taken_of n.parts.items l) (λ n l. came_of meaning n.parts.items l) (λ n. n.was_refused)
         inboxes ways nodes places
     ready-start inboxes ways nodes places opened shared reserved =
-        can-start meaning stands_after state world plan is_world ready.recorded ready.planned parts ready.placed ready.ruled ready.executors lanes table-is is_taker takes_of is_sender sends_of inboxes ways nodes places opened
+        can-start meaning stands_after state world plan is_world ready.recorded ready.planned parts ready.placed ready.ruled ready.executors lanes table-is is_taker takes_of is_sender sends_of
+        (ready-laid meaning stands_after state plan parts ready) inboxes ways nodes places opened
         (subst (λ (n : ℕ). AreShared meaning stands_after state parts n nodes) all shared) (reserved ∙ ap (places_of parts) all)

@@ -12,6 +12,7 @@ use Rattle.pl_words.specs.Names.{Name}
 use Rattle.pl_words.specs.Admissions.{SendSeatView, OwnerSeatView, new_send_seat, new_owner_seat}
 use Rattle.pl_words.specs.declared.status.Status.TheVariants.{Accepting}
 use Rattle.pl_flow.specs.Flows.{Point, point}
+use Rattle.pl_executor.specs.Admitting.{FewLanes}
 use Rattle.pl_executor.specs.OutboxViews.{OutboxView, waits_for}
 use Rattle.pl_executor.specs.Running.{ExecutorView}
 
@@ -114,7 +115,8 @@ pub record PlacesView : Type 0 where
 
 module _ {N : Type 0} (stands : N → Type 0) (home : N → ℕ) (hops_of : N → List Lane) (target_of : N → Lane → ℕ) (writes : N → Lane → Bool) (taken_of : N → Lane → ℕ) (came : N → Lane → Point) (was_refused : N → Bool) where
   -- Nodes that have taken and made nothing, on the executor of this number. Each lane that they write enters one of them,
-  -- or is one of those to its target; and each lane to them is written elsewhere. There are places for all of them.
+  -- or is one of those to its target; and each lane to them is written elsewhere. There are places for all of them, and not
+  -- too many for the seats.
   pub record FitsLanes (lanes : LaneTable) (number : ℕ) (nodes : N) (places : PlacesView) : Type 0 where
     pub stood : stands nodes
     pub at : home nodes ≡ number
@@ -129,6 +131,7 @@ module _ {N : Type 0} (stands : N → Type 0) (home : N → ℕ) (hops_of : N �
     pub hops : ℕ → List Lane
     pub placed : (target count : ℕ) → slice_get places.targets target ≡ Some count → HasPlaces (no_stops count) (hops target)
     pub among : (l : Lane) → writes nodes l ≡ true → AreAmong (l ∷ []) (hops (target_of nodes l))
+    pub few : FewLanes (writes nodes)
 
 -- ---- executors before their first turn
 

@@ -3,6 +3,7 @@ use Rattle.std.proofs.Common.{arith, ◌≡◌, ◌≢◌, ◌<◌, ◌==◌, �
 use Rattle.std.specs.Prelude.{All}
 use Rattle.std.specs.Option.{option_map, option_map_or}
 use Rattle.std.proofs.lemmas.Bool.{cond-true, cond-false, cases_Bool, both_ways, and_parts, and_from, eq-eqb}
+use Rattle.std.proofs.Math.Bool.{or-true}
 use Rattle.std.proofs.lemmas.Option.{none-some, same_Some, slice_get-map, slice_get_within}
 use Rattle.pl_event.specs.declared.envelopes.Lane.{Lane}
 use Rattle.pl_event.specs.Hops.{same_lane}
@@ -19,13 +20,14 @@ use Rattle.pl_queue.specs.Rule.{Each}
 use Rattle.pl_words.specs.Names.{Name}
 use Rattle.pl_words.specs.Admissions.{AdmittedView, SendSeatView, new_send_seat}
 use Rattle.pl_flow.specs.Flows.{point, nowhere, on, past}
+use Rattle.pl_executor.specs.Admitting.{FewLanes}
 use Rattle.pl_executor.specs.Sent.{sent_at}
 use Rattle.pl_executor.specs.OutboxViews.{OutboxView, OutboxesView, waits_for, sent_to, reached}
 use Rattle.pl_executor.specs.Running.{Runs, IsTaking}
 use Rattle.pl_executor.proofs.RunLemmas.{runs-start}
 use Rattle.pl_executor_tests.specs.declared.nodes.Node.{Node}
 use Rattle.pl_executor_tests.specs.declared.nodes.Outlet.{Outlet}
-use Rattle.pl_executor_tests.specs.Nodes.{IsFresh, NodeStands, came, lane_to, makes, taken_of, target_of, writes}
+use Rattle.pl_executor_tests.specs.Nodes.{IsFresh, NodeStands, came, lane_to, makes, outlets_of, taken_of, target_of, writes}
 use Rattle.pl_executor_tests.specs.Openings.{HasWay, IsWay}
 use Rattle.pl_executor_tests.proofs.NodeLemmas.{makes-lane}
 
@@ -39,6 +41,19 @@ one-place l = record { hops = l ∷ []; few = omega arith; stopped = λ m e. abs
 
 pub two-places : (l m : Lane) → HasPlaces (no_stops 2) (l ∷ m ∷ [])
 two-places l m = record { hops = l ∷ m ∷ []; few = omega arith; stopped = λ n e. absurd (both_ways false refl e); stopped_flags = λ n e. absurd (both_ways false refl e); own = λ n e. e }
+
+-- the nodes write two lanes at most
+pub few-lanes : (n : Node) → FewLanes (writes n)
+few-lanes n = record {
+  lanes = outlets_of n;
+  few = omega arith;
+  all = λ l w. ⊎_elim
+      (λ (t : makes n.first l ≡ true). ap (λ (b : Bool). b || (same_lane l (lane_to n.second.target) || false)) (and_parts _ _ t).1)
+      (λ (e : makes n.first l ≡ false).
+      let t : makes n.second l ≡ true = ap (λ (b : Bool). b || makes n.second l) (sym e) ∙ w in
+      ap (λ (b : Bool). same_lane l (lane_to n.first.target) || (b || false)) (and_parts _ _ t).1 ∙ or-true (same_lane l (lane_to n.first.target)))
+      (cases_Bool (makes n.first l));
+}
 
 -- what was written by an outlet goes by its way
 module _ (o : OutboxesView) (waits : (y : ℕ) → waits_for o y ≡ []) where

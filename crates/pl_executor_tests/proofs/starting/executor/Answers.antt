@@ -7,7 +7,7 @@ use Rattle.pl_executor.specs.Running.{IsTaking, Runs}
 use Rattle.pl_executor_tests.specs.declared.nodes.Outlet.{Outlet}
 use Rattle.pl_executor_tests.specs.Nodes.{came, lane_to, outlets_of, taken_of, target_of, writes}
 use Rattle.pl_executor_tests.specs.Openings.{HasWay, OwnView}
-use Rattle.pl_executor_tests.proofs.StartLemmas.{node-runs, node-taking, two-places}
+use Rattle.pl_executor_tests.proofs.StartLemmas.{few-lanes, node-runs, node-taking, two-places}
 use Rattle.pl_executor_tests.proofs.starting.executor.Goals as goal
 
 pub new-requires-3-clause-places : goal.new-requires-3-clause-places
@@ -24,6 +24,9 @@ new-requires-3-clause-runs g c =
     subst (λ (number : ℕ). Runs g.W.Named.world number target_of (writes n) (taken_of n) (came n) o work) (sym c.from.ensures)
     (node-runs n c.requires.stands c.requires.fresh o made.waits (by n.first c.requires.first) (by n.second c.requires.second)
     g.W.Named.world work c.in_ok-new-2.ensures.empty made.places (ap (λ (bs : List OutboxView). length bs) made.outboxes ∙ c.requires.three))
+
+pub new-requires-3-clause-few : goal.new-requires-3-clause-few
+new-requires-3-clause-few g c = few-lanes c.args.node
 
 pub new-requires-3-clause-taking : goal.new-requires-3-clause-taking
 new-requires-3-clause-taking g c =
