@@ -1,9 +1,9 @@
 -- The list of the channels whose heads are on an executor.
-use Rattle.std.proofs.Common.{◌≡◌, ℕ, ◌+◌, ◌<◌, ◌≤◌, Bool, true, false, cond, List, [], ◌∷◌, ◌++◌, length, map, set, slice_get, Option, Some, None, refl, ap, sym, ◌∙◌, subst, arith}
+use Rattle.std.proofs.Common.{◌≡◌, ℕ, ◌+◌, ◌<◌, ◌≤◌, Bool, true, false, cond, List, [], ◌∷◌, ◌++◌, length, map, get_or, slice_get, Some, refl, ap, sym, ◌∙◌, subst, arith}
 use Rattle.std.specs.Prelude.{is_some, if◌then◌else◌, All}
 use Rattle.std.proofs.lemmas.List.{length-map, map-append}
 use Rattle.std.proofs.lemmas.List.Elements.{All-nil, All-cons}
-use Rattle.std.proofs.lemmas.Option.{get_or_from_slice_get}
+use Rattle.std.proofs.lemmas.Option.{get_or_from_slice_get, slice_get_read}
 use Rattle.std.proofs.Math.Seq.{map-set_same}
 use Rattle.pl_event.proofs.Lists.{All-at}
 use Rattle.pl_part.specs.Parts.{PartView, SamePart}
@@ -61,3 +61,15 @@ module _ {S T : Type 0} (ps : List (PartView S T)) (c : ℕ) (p p' : PartView S 
   -- they stay where the same nodes are there
   pub heads-stay : SamePart p p' → heads_of (changed ps c p p' was) ≡ heads_of ps
   heads-stay same = ap (λ (bs : List Bool). numbered_from 0 bs) (map-set_same (λ (q : PartView S T). is_some q.head) ps c p' p (same.head ∙ ap (λ (q : PartView S T). is_some q.head) (sym (get_or_from_slice_get ps c p p was))))
+
+-- ---- at a place of the list
+
+pub own-channel : (own : List ℕ) (at c : ℕ) → at < length own → c ≡ get_or own at c → slice_get own at ≡ Some c
+own-channel own at c there read = slice_get_read own (length own) at c refl there read
+
+module _ {S T : Type 0} (ps : List (PartView S T)) (own : List ℕ) (at c : ℕ) (there : at < length own) (read : c ≡ get_or own at c) (are : own ≡ heads_of ps) where
+  pub own-within : c < length ps
+  own-within = head-within ps own at c are (own-channel own at c there read)
+
+  pub own-part : (p : PartView S T) → p ≡ get_or ps c p → slice_get ps c ≡ Some p
+  own-part p is = slice_get_read ps (length ps) c p refl own-within is

@@ -6,6 +6,7 @@ pub mod OwnNodeLemmas
 pub mod HeadLists
 pub mod CallLemmas
 pub mod OverLemmas
+pub mod ChannelsHere
 pub mod MovedNodes
 pub mod Ready
 pub mod SharesMade

@@ -1,9 +1,9 @@
 -- Executors whose heads tell words can start where their nodes can.
-use Rattle.std.proofs.Common.{◌≡◌, ℕ, ◌≤◌, List, length, map, slice_get, Option, Some, ap, sym, ◌∙◌, subst, true}
+use Rattle.std.proofs.Common.{◌≡◌, List, length, map, slice_get, ap, sym, ◌∙◌, true}
 use Rattle.std.specs.Prelude.{All}
 use Rattle.std.specs.Option.{option_map}
 use Rattle.std.proofs.lemmas.List.{length-map}
-use Rattle.std.proofs.lemmas.Option.{slice_get-map, same_Some}
+use Rattle.std.proofs.lemmas.Option.{slice_get-map}
 use Rattle.pl_event.specs.declared.events.Event.{Event}
 use Rattle.pl_event.specs.Meaning.{Meaning}
 use Rattle.pl_event.specs.Worlds.{World}
@@ -18,24 +18,27 @@ use Rattle.pl_world.specs.Plans.{Plan}
 use Rattle.pl_exec.specs.declared.nodes.OwnNodes.{OwnNodes}
 use Rattle.pl_exec.specs.declared.telling.TellingNodes.{TellingNodes}
 use Rattle.pl_exec.specs.Opening.{InboxView, WaysView, PlacesView, CanStart}
-use Rattle.pl_exec.specs.OwnNodes.{target_of, heads_of, NodesStand}
+use Rattle.pl_exec.specs.OwnNodes.{AreOn, target_of, heads_of, NodesStand}
 use Rattle.pl_exec.specs.Telling.{AreSeated}
+use Rattle.pl_exec.proofs.ChannelsHere.{on-plan}
 
 module _ {S T : Type 0} (meaning : S → Meaning) (stands_after : S → List Event → Type 0) (state : T → TransportState) (world : World) (plan : Plan) where
   abbrev Own : OwnNodes S T → Type 0
   Own n = (world ≡ world_of true plan) × NodesStand world plan meaning stands_after state n.number n.was_refused n.parts.items × (n.own.items ≡ heads_of n.parts.items)
 
   abbrev Telling : TellingNodes S T → Type 0
-  Telling n = (world ≡ world_of true plan) × NodesStand world plan meaning stands_after state n.nodes.number n.nodes.was_refused n.nodes.parts.items × (n.nodes.own.items ≡ heads_of n.nodes.parts.items) × AreSeated n.words.now plan n.seats.items
+  Telling n =
+      (world ≡ world_of true plan) × NodesStand world plan meaning stands_after state n.nodes.number n.nodes.was_refused n.nodes.parts.items
+      × (n.nodes.own.items ≡ heads_of n.nodes.parts.items) × AreSeated n.words.now plan n.seats.items × AreOn (λ p. p.executors) plan.channels n.nodes.number n.here.items
 
   module _ {M K D : Type 0} (is_taker : M → K → Type 0) (takes_of : K → TakerView) (is_sender : M → D → Type 0) (sends_of : D → SenderView) where
     pub telling-start : (inboxes : List (InboxView M)) (ways : List (WaysView K D)) (own : List (OwnNodes S T)) (all : List (TellingNodes S T)) (places : List PlacesView) → map (λ n. n.nodes) all ≡ own
-        → All (λ n. AreSeated n.words.now plan n.seats.items) all
+        → All (λ n. AreSeated n.words.now plan n.seats.items) all → All (λ n. AreOn (λ p. p.path.executors) n.nodes.parts.items n.nodes.number n.here.items) all
         → CanStart is_taker takes_of is_sender sends_of Own (λ n. n.number) (λ n. data_lanes_of n.parts.items) (λ n l. target_of n.parts.items l) (λ n l. writes_of meaning n.parts.items l) (λ n l. taken_of n.parts.items l)
         (λ n l. came_of meaning n.parts.items l) (λ n. n.was_refused) inboxes ways own places
         → CanStart is_taker takes_of is_sender sends_of Telling (λ n. n.nodes.number) (λ n. data_lanes_of n.nodes.parts.items) (λ n l. target_of n.nodes.parts.items l) (λ n l. writes_of meaning n.nodes.parts.items l)
         (λ n l. taken_of n.nodes.parts.items l) (λ n l. came_of meaning n.nodes.parts.items l) (λ n. n.nodes.was_refused) inboxes ways all places
-    telling-start inboxes ways own all places are seated can = record {
+    telling-start inboxes ways own all places are seated on can = record {
       lanes = can.lanes;
       opened = can.opened;
       nodes_count = sym (length-map all (λ (n : TellingNodes S T). n.nodes)) ∙ ap length are ∙ can.nodes_count;
@@ -43,7 +46,14 @@ module _ {S T : Type 0} (meaning : S → Meaning) (stands_after : S → List Eve
       fit = λ number part reserved at at-place.
           let f = can.fit number part.nodes reserved (ap (λ (l : List (OwnNodes S T)). slice_get l number) (sym are) ∙ slice_get-map (λ (n : TellingNodes S T). n.nodes) all number ∙ ap (option_map (λ (n : TellingNodes S T). n.nodes)) at) at-place in
           record {
-            stood = (f.stood.0, f.stood.1, f.stood.2, All-at (λ (n : TellingNodes S T). AreSeated n.words.now plan n.seats.items) all number part seated at);
+            stood = (
+              f.stood.0,
+              f.stood.1,
+              f.stood.2,
+              All-at (λ (n : TellingNodes S T). AreSeated n.words.now plan n.seats.items) all number part seated at,
+              on-plan state plan part.nodes.parts.items part.nodes.number part.here.items f.stood.1.keeps
+                  (All-at (λ (n : TellingNodes S T). AreOn (λ p. p.path.executors) n.nodes.parts.items n.nodes.number n.here.items) all number part on at),
+            );
             at = f.at;
             unrefused = f.unrefused;
             fresh = f.fresh;
@@ -56,5 +66,6 @@ module _ {S T : Type 0} (meaning : S → Meaning) (stands_after : S → List Eve
             hops = f.hops;
             placed = f.placed;
             among = f.among;
+            few = f.few;
           };
     }

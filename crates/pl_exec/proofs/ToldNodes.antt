@@ -14,7 +14,7 @@ use Rattle.pl_head.specs.HeadStand.{HeadView}
 use Rattle.pl_head.specs.Transports.{TransportState}
 use Rattle.pl_part.specs.Paths.{context_at}
 use Rattle.pl_part.specs.Parts.{PartView, SamePart, part_taken, part_writes, part_came}
-use Rattle.pl_part.specs.Told.{IsTold, told_head, told_part}
+use Rattle.pl_part.specs.Told.{IsTold, told_head}
 use Rattle.pl_part.proofs.ToldLemmas.{told-same, told-taken, told-writes, told-came, is-told-holds}
 use Rattle.pl_channel.specs.PlanStand.{HeadKeepsPlan, PartKeepsPlan}
 use Rattle.pl_replay.specs.Channels.{lanes_of, taken_of, writes_of, came_of}

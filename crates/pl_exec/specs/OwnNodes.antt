@@ -1,5 +1,5 @@
 -- The nodes of an executor, as contracts see them: by the number of a channel the part of it that is there.
-use Rattle.std.specs.Prelude.{◌≡◌, ℕ, ◌+◌, ◌<◌, ◌≤◌, ◌^◌, ◌==◌, Bool, true, false, List, [], ◌∷◌, map, slice_get, Some, None, is_some, if◌then◌else◌}
+use Rattle.std.specs.Prelude.{◌≡◌, ℕ, ◌+◌, ◌<◌, ◌≤◌, ◌^◌, ◌==◌, Bool, true, false, List, [], ◌∷◌, All, Contains, map, nat_lt, slice_get, Option, Some, None, is_some, if◌then◌else◌}
 use Rattle.std.specs.Option.{option_map_or}
 use Rattle.pl_event.specs.declared.events.Event.{Event}
 use Rattle.pl_event.specs.declared.envelopes.Kind.TheVariants as kind
@@ -10,13 +10,15 @@ use Rattle.pl_context.specs.ContextViews.{ContextView}
 use Rattle.pl_context.specs.Standings.{is_over}
 use Rattle.pl_head.specs.Marks.{Change}
 use Rattle.pl_head.specs.Transports.{TransportState}
+use Rattle.pl_head.specs.declared.inputs.ReadPlan.{ReadPlan}
 use Rattle.pl_head.specs.HeadStand.{HeadView, StandsAfter, is_idle}
+use Rattle.pl_head.specs.ReadSteps.{plan_steps}
 use Rattle.pl_part.specs.Paths.{context_at, writer_hop}
 use Rattle.pl_part.specs.Parts.{PartView, PartHolds, head_hop, all_over, has_read}
 use Rattle.pl_channel.specs.PlanStand.{PartsKeepPlan}
 use Rattle.pl_executor.specs.Serving.{Served}
 use Rattle.pl_replay.specs.Channels.{MayRead, MayWrite, executor_at, is_hop}
-use Rattle.pl_world.specs.Plans.{Plan}
+use Rattle.pl_world.specs.Plans.{ChannelPlan, Plan, read_plan}
 
 -- ---- where lanes go
 
@@ -61,6 +63,11 @@ pub record NodesStand {S T : Type 0} (world : World) (plan : Plan) (meaning : S 
   pub keeps : PartsKeepPlan state plan ps
   pub number : me < nobody
 
+-- Of these channels those that have a hop on an executor, by number.
+pub record AreOn {A : Type 0} (executors_of : A → List ℕ) (channels : List A) (me : ℕ) (here : List ℕ) : Type 0 where
+  pub all : (c : ℕ) (x : A) → slice_get channels c ≡ Some x → Contains (executors_of x) me → Contains here c
+  pub only : All (λ c. (x : A) × (slice_get channels c ≡ Some x) × Contains (executors_of x) me) here
+
 -- ---- which contexts have given up
 
 -- the context that writes a data lane, where it is here, has ended or failed
@@ -81,13 +88,21 @@ heads_of ps = numbered_from 0 (map (λ (p : PartView _ _). is_some p.head) ps)
 
 -- ---- how often they were served
 
+-- How many read steps a head has made by its plan. One that brings a failure closes the lane before all were made.
+abbrev pub reads_made : {T : Type 0} → ReadPlan → HeadView T → ℕ
+reads_made p h = h.input.steps + (if h.input.port.is_open then 0 else (if nat_lt h.input.steps (plan_steps p) then 1 else 0))
+
+-- so by the plan of its channel
+abbrev pub planned_reads : {T : Type 0} → Option ChannelPlan → HeadView T → ℕ
+planned_reads q h = option_map_or (λ (p : ChannelPlan). reads_made (read_plan p) h) q 0
+
 -- how often its head has read and written
-abbrev pub served_by : {S T : Type 0} → (T → TransportState) → PartView S T → Served
-served_by state p = option_map_or (λ (h : HeadView _). record { reads = h.input.steps; calls = (state h.transport).calls }) p.head (record { reads = 0; calls = 0 })
+abbrev pub served_by : {S T : Type 0} → (T → TransportState) → Option ChannelPlan → PartView S T → Served
+served_by state q p = option_map_or (λ (h : HeadView _). record { reads = planned_reads q h; calls = (state h.transport).calls }) p.head (record { reads = 0; calls = 0 })
 
 -- by channel, where it has a part
-abbrev pub served_of : {S T : Type 0} → (T → TransportState) → List (PartView S T) → ℕ → Served
-served_of state ps c = option_map_or (λ (p : PartView _ _). served_by state p) (slice_get ps c) (record { reads = 0; calls = 0 })
+abbrev pub served_of : {S T : Type 0} → (T → TransportState) → Plan → List (PartView S T) → ℕ → Served
+served_of state plan ps c = option_map_or (λ (p : PartView _ _). served_by state (slice_get plan.channels c) p) (slice_get ps c) (record { reads = 0; calls = 0 })
 
 -- ---- what is enabled
 
@@ -118,6 +133,10 @@ module _ {S T : Type 0} (state : T → TransportState) where
     pub over : all_over p ≡ true
     pub read : has_read p ≡ false
     pub written : (h : HeadView T) (ys zs : List Event) (sizes : List Change) → p.head ≡ Some h → StandsAfter state h ys zs sizes → is_idle state h ys ≡ true
+
+  -- So it is with that of a channel, where it has one.
+  abbrev pub IsOverAt : List (PartView S T) → ℕ → Type 0
+  IsOverAt ps c = (p : PartView S T) → slice_get ps c ≡ Some p → IsPartOver p
 
   -- So it is with all parts.
   abbrev pub AreOver : List (PartView S T) → Type 0

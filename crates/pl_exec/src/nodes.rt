@@ -1,7 +1,7 @@
 //! The nodes of an executor.
 
-ghost use Rattle.std.specs.Prelude.{◌≡◌, ◌<◌, ◌^◌, ◌||◌, ◌&&◌, length, get_or, slice_get, Some, ℕ, true, false};
-ghost use Rattle.pl_exec.specs.OwnNodes.{NodesStand, HasGivenUp, MayReadOwn, MayWriteOwn, AreOver, IsPartOver, enters, served_of, heads_of, target_of};
+ghost use Rattle.std.specs.Prelude.{◌≡◌, ◌<◌, ◌^◌, ◌||◌, ◌&&◌, All, length, get_or, slice_get, Some, ℕ, true, false};
+ghost use Rattle.pl_exec.specs.OwnNodes.{NodesStand, HasGivenUp, MayReadOwn, MayWriteOwn, AreOver, IsOverAt, IsPartOver, enters, served_of, heads_of, target_of};
 ghost use Rattle.pl_channel.specs.Lanes.{world_of};
 ghost use Rattle.pl_part.specs.Parts.{PartView, PartHolds};
 ghost use Rattle.pl_replay.specs.Channels.{came_of, taken_of, writes_of};
@@ -55,7 +55,7 @@ impl<W: Planned, S: Stage, T: Transport> Part<W> for OwnNodes<S, T> {
 
     ghost may_write = { λ n at answer. MayWriteOwn T.state n.parts.items n.own.items at answer };
 
-    ghost served = { λ n c. served_of T.state n.parts.items c };
+    ghost served = { λ n c. served_of T.state W.plan n.parts.items c };
 
     ghost are_over = { λ n. AreOver T.state n.parts.items };
 
@@ -86,7 +86,7 @@ impl<W: Planned, S: Stage, T: Transport> Part<W> for OwnNodes<S, T> {
 
     fn read(&mut self, at: usize, work: &mut Outputs) -> bool {
         let channel = self.own[at];
-        matches!(self.parts[channel].next_read(work), ReadStep::Gave)
+        self.parts[channel].next_read(work) == ReadStep::Gave
     }
 
     fn write(&mut self, at: usize, work: &mut Outputs) -> bool {
@@ -120,6 +120,24 @@ fn are_over<S: Stage, T: Transport>(parts: &[ChannelPart<S, T>]) -> bool
 {
     for part in parts {
         if !is_over(part) {
+            return false;
+        }
+    }
+    true
+}
+
+/// The same, of the parts of these channels.
+pub(crate) fn are_over_at<S: Stage, T: Transport>(
+    parts: &[ChannelPart<S, T>],
+    channels: &[usize],
+) -> bool
+    requires holds { (world : World) × ((c : ℕ) (p : PartView S T) → slice_get parts.now c ≡ Some p → PartHolds world S.meaning S.stands_after T.state p) }
+    requires there { All (λ c. c < length parts.now) channels.now }
+    ensures over { result ≡ true → All (λ c. IsOverAt T.state parts.now c) channels.now }
+    ensures not_over { result ≡ false → AreOver T.state parts.now → ⊥ }
+{
+    for channel in channels {
+        if !is_over(&parts[*channel]) {
             return false;
         }
     }

@@ -113,66 +113,42 @@ fn run_world_with<S: Stage + Send, T: Transport + Send, G: Gate + Sync, R: Threa
     ensures report { IfOk result (λ report. IsRunReport (planned S.meaning T.state capacity world.executors world.channels) report) }
     ensures entered { IfOk result (λ _. (e : ℕ) → e < world.executors → G.was_entered gate.now e 0) }
 {
+    run_queued::<Brand, S, T, G, R>(rt, alloc, world, capacity, queue, gate, words, seats)
+}
+
+/// Runs the world of the plan over queues of this kind.
+fn run_queued<
+    W: Planned + Send + Sync,
+    S: Stage + Send,
+    T: Transport + Send,
+    G: Gate + Sync,
+    R: Threads + Wait + Sync,
+>(
+    rt: &R,
+    alloc: Global,
+    world: World<S, T>,
+    capacity: u32,
+    queue: QueueKind,
+    gate: &G,
+    words: &Words,
+    seats: HeadSeats,
+) -> Result<Report, RunFault>
+    requires capacity { (1 ≤ capacity) × (capacity ≤ MAX_CAPACITY) }
+    requires world { W.world ≡ world_of true W.plan }
+    requires plan { W.plan ≡ planned S.meaning T.state capacity world.executors world.channels }
+    requires seats { AreHeadSeatsOf words.now seats }
+    requires marks { HaveMarksOf seats world.channels }
+    ensures report { IfOk result (λ report. IsRunReport W.plan report) }
+    ensures entered { IfOk result (λ _. (e : ℕ) → e < W.plan.executors → G.was_entered gate.now e 0) }
+{
     match queue {
         QueueKind::Waiting => {
-            run_waiting::<Brand, S, T, G, R>(rt, alloc, world, capacity, gate, words, seats)
+            run_by::<W, WaitingBox<W>, S, T, G, R>(rt, alloc, world, capacity, gate, words, seats)
         }
         QueueKind::Ring => {
-            run_ring::<Brand, S, T, G, R>(rt, alloc, world, capacity, gate, words, seats)
+            run_by::<W, RingBox<W>, S, T, G, R>(rt, alloc, world, capacity, gate, words, seats)
         }
     }
-}
-
-fn run_waiting<
-    W: Planned + Send + Sync,
-    S: Stage + Send,
-    T: Transport + Send,
-    G: Gate + Sync,
-    R: Threads + Wait + Sync,
->(
-    rt: &R,
-    alloc: Global,
-    world: World<S, T>,
-    capacity: u32,
-    gate: &G,
-    words: &Words,
-    seats: HeadSeats,
-) -> Result<Report, RunFault>
-    requires capacity { (1 ≤ capacity) × (capacity ≤ MAX_CAPACITY) }
-    requires world { W.world ≡ world_of true W.plan }
-    requires plan { W.plan ≡ planned S.meaning T.state capacity world.executors world.channels }
-    requires seats { AreHeadSeatsOf words.now seats }
-    requires marks { HaveMarksOf seats world.channels }
-    ensures report { IfOk result (λ report. IsRunReport W.plan report) }
-    ensures entered { IfOk result (λ _. (e : ℕ) → e < W.plan.executors → G.was_entered gate.now e 0) }
-{
-    run_by::<W, WaitingBox<W>, S, T, G, R>(rt, alloc, world, capacity, gate, words, seats)
-}
-
-fn run_ring<
-    W: Planned + Send + Sync,
-    S: Stage + Send,
-    T: Transport + Send,
-    G: Gate + Sync,
-    R: Threads + Wait + Sync,
->(
-    rt: &R,
-    alloc: Global,
-    world: World<S, T>,
-    capacity: u32,
-    gate: &G,
-    words: &Words,
-    seats: HeadSeats,
-) -> Result<Report, RunFault>
-    requires capacity { (1 ≤ capacity) × (capacity ≤ MAX_CAPACITY) }
-    requires world { W.world ≡ world_of true W.plan }
-    requires plan { W.plan ≡ planned S.meaning T.state capacity world.executors world.channels }
-    requires seats { AreHeadSeatsOf words.now seats }
-    requires marks { HaveMarksOf seats world.channels }
-    ensures report { IfOk result (λ report. IsRunReport W.plan report) }
-    ensures entered { IfOk result (λ _. (e : ℕ) → e < W.plan.executors → G.was_entered gate.now e 0) }
-{
-    run_by::<W, RingBox<W>, S, T, G, R>(rt, alloc, world, capacity, gate, words, seats)
 }
 
 /// Runs a world over mailboxes of one kind.

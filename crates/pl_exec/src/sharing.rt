@@ -1,7 +1,9 @@
 //! The nodes of all channels, each at its executor.
 
-ghost use Rattle.std.specs.Prelude.{◌≡◌, ◌<◌, ◌^◌, ◌∷◌, ◌++◌, [], cond, length, All, IfOk, OnOk};
+ghost use Rattle.std.specs.Prelude.{◌≡◌, ◌<◌, ◌^◌, ◌∷◌, ◌++◌, [], cond, length, All, Contains, IfOk, OnOk};
+ghost use Rattle.std.specs.Bool.{Decides};
 ghost use Rattle.pl_replay.specs.Placed.{HasExecutors, all_lanes};
+ghost use Rattle.pl_exec.specs.OwnNodes.{AreOn};
 ghost use Rattle.pl_exec.specs.Sharing.{AreShared, Gets, EachGets, places_of};
 
 use crate::nodes::OwnNodes;
@@ -69,19 +71,46 @@ fn add_share<S: Stage, T: Transport>(
 ) -> Result<(), AllocError>
     ensures { OnOk result (Gets nodes.old share nodes.new) }
 {
-    note_own(&mut nodes.own, nodes.parts.len(), share.head().is_some())?;
+    note_if(&mut nodes.own, nodes.parts.len(), share.head().is_some())?;
     nodes.parts.push(share)?;
     Ok(())
 }
 
-/// Notes a channel where it is an executor's own.
-fn note_own(own: &mut Vec<usize>, channel: usize, is_own: bool) -> Result<(), AllocError>
-    ensures { OnOk result (own.new.items ≡ own.old.items ++ cond is_own (channel ∷ []) []) }
+/// Notes a channel where it is wanted.
+fn note_if(channels: &mut Vec<usize>, channel: usize, wanted: bool) -> Result<(), AllocError>
+    ensures { OnOk result (channels.new.items ≡ channels.old.items ++ cond wanted (channel ∷ []) []) }
 {
-    if is_own {
-        own.push(channel)?;
+    if wanted {
+        channels.push(channel)?;
     }
     Ok(())
+}
+
+/// The channels that have a node on an executor, in order.
+pub(crate) fn channels_on<S: Stage, T: Transport>(
+    alloc: Global,
+    parts: &[ChannelPart<S, T>],
+    number: usize,
+) -> Result<Vec<usize>, AllocError>
+    ensures { IfOk result (λ here. AreOn (λ p. p.path.executors) parts.now number here.items) }
+{
+    let mut here = Vec::new(alloc);
+    for channel in 0..parts.len() {
+        note_if(&mut here, channel, is_on(&parts[channel], number))?;
+    }
+    Ok(here)
+}
+
+/// Whether a channel has a node on an executor.
+fn is_on<S: Stage, T: Transport>(part: &ChannelPart<S, T>, number: usize) -> bool
+    ensures { Decides result (Contains part.now.path.executors number) }
+{
+    for hop in 0..part.hops() {
+        if part.target(hop) == number {
+            return true;
+        }
+    }
+    false
 }
 
 /// The places of each executor.

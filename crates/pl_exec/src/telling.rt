@@ -10,12 +10,13 @@ ghost use Rattle.pl_replay.specs.Channels.{came_of, taken_of, writes_of};
 ghost use Rattle.pl_replay.specs.Channels.{lanes_of as data_lanes_of};
 ghost use Rattle.pl_world.specs.Plans.{Plan};
 ghost use Rattle.pl_world.specs.PlanRules.{IsPlan};
-ghost use Rattle.pl_exec.specs.OwnNodes.{NodesStand, HasGivenUp, MayReadOwn, MayWriteOwn, AreOver, heads_of, served_of, target_of};
+ghost use Rattle.pl_exec.specs.OwnNodes.{NodesStand, HasGivenUp, MayReadOwn, MayWriteOwn, AreOn, AreOver, heads_of, served_of, target_of};
 ghost use Rattle.pl_exec.specs.SessionWords.{AreSeatsOf, AreHeadSeatsOf, told};
 ghost use Rattle.pl_exec.specs.Telling.{AreSeated, IsToldAt, HaveMarks, Tells, TellsAt};
 
-use crate::nodes::OwnNodes;
+use crate::nodes::{OwnNodes, are_over_at};
 use crate::planned::Planned;
+use crate::sharing::channels_on;
 use crate::words::{HeadSeats, Seats, Words};
 use pl_context::Outputs;
 use pl_event::{Envelope, Lane, Stage};
@@ -32,6 +33,8 @@ pub(crate) struct TellingNodes<'a, S: Stage, T: Transport> {
     words: &'a Words,
     /// By channel the seats on its words, where its head is one of the nodes.
     seats: Vec<Option<Seats>>,
+    /// The channels that have a node here, in order. Of the others nothing is left to be done.
+    here: Vec<usize>,
 }
 
 impl<'a, W: Planned, S: Stage, T: Transport> Part<W> for TellingNodes<'a, S, T> {
@@ -61,14 +64,15 @@ impl<'a, W: Planned, S: Stage, T: Transport> Part<W> for TellingNodes<'a, S, T> 
 
     ghost may_write = { λ n at answer. MayWriteOwn T.state n.nodes.parts.items n.nodes.own.items at answer };
 
-    ghost served = { λ n c. served_of T.state n.nodes.parts.items c };
+    ghost served = { λ n c. served_of T.state W.plan n.nodes.parts.items c };
 
     ghost are_over = { λ n. AreOver T.state n.nodes.parts.items };
 
     ghost stands = { λ n. (W.world ≡ world_of true W.plan)
         × NodesStand W.world W.plan S.meaning S.stands_after T.state n.nodes.number n.nodes.was_refused n.nodes.parts.items
         × (n.nodes.own.items ≡ heads_of n.nodes.parts.items)
-        × AreSeated n.words.now W.plan n.seats.items };
+        × AreSeated n.words.now W.plan n.seats.items
+        × AreOn (λ p. p.executors) W.plan.channels n.nodes.number n.here.items };
 
     fn target(&self, lane: Lane) -> usize {
         <OwnNodes<S, T> as Part<W>>::target(&self.nodes, lane)
@@ -107,7 +111,7 @@ impl<'a, W: Planned, S: Stage, T: Transport> Part<W> for TellingNodes<'a, S, T> 
     }
 
     fn has_ended(&self) -> bool {
-        <OwnNodes<S, T> as Part<W>>::has_ended(&self.nodes)
+        are_over_at(self.nodes.parts.as_slice(), self.here.as_slice())
     }
 }
 
@@ -120,6 +124,7 @@ impl<'a, S: Stage, T: Transport> TellingNodes<'a, S, T> {
         ensures number { self.new.nodes.number ≡ self.old.nodes.number }
         ensures refused { self.new.nodes.was_refused ≡ self.old.nodes.was_refused }
         ensures own { self.new.nodes.own ≡ self.old.nodes.own }
+        ensures here { self.new.here ≡ self.old.here }
         ensures told { IsToldAt self.old.nodes.parts.items channel self.new.nodes.parts.items }
         ensures seated { (plan : Plan) → AreSeated self.old.words.now plan self.old.seats.items → AreSeated self.new.words.now plan self.new.seats.items }
         ensures tells { TellsAt self.new.seats.items self.new.nodes.parts.items channel }
@@ -204,15 +209,18 @@ pub(crate) fn telling<'a, W: Planned, S: Stage, T: Transport>(
     requires marks { HaveMarks seats W.plan.channels }
     ensures nodes { IfOk result (λ all. map (λ n. n.nodes) all.items ≡ nodes.items) }
     ensures seated { IfOk result (λ all. All (λ n. AreSeated n.words.now W.plan n.seats.items) all.items) }
+    ensures here { IfOk result (λ all. All (λ n. AreOn (λ p. p.path.executors) n.nodes.parts.items n.nodes.number n.here.items) all.items) }
 {
     let mut left = undealt(alloc, seats)?;
     let mut all = Vec::with_capacity(alloc, nodes.len())?;
     for own in nodes {
         let dealt = deal::<W>(alloc, words, &mut left, own.own.as_slice())?;
+        let here = channels_on(alloc, own.parts.as_slice(), own.number)?;
         all.push(TellingNodes {
             nodes: own,
             words,
             seats: dealt,
+            here,
         })?;
     }
     Ok(all)

@@ -58,7 +58,7 @@ executors-requires-clause-start g c =
     (sym c.as_slice-3.ensures.value) c.in_ok-inboxes.ensures.opened in
     let reserved = c.in_ok-places.ensures ∙ ap (λ (l : List (PartView g.row.S.Denot g.row.T.Denot)). places_of l c.args.count) c.as_slice.ensures.value in
     telling-start g.S.Stage.meaning g.S.Stage.stands_after g.T.Transport.state g.W.Named.world g.W.Planned.plan g.M.Mailbox.is_taker g.M.Mailbox.takes_of g.M.Mailbox.is_sender g.M.Mailbox.sends_of
-    (map view c.as_slice-3.result.now) c.in_ok-inboxes.ways.items c.in_ok-own.own.items c.in_ok-nodes.nodes.items c.in_ok-places.places.items c.in_ok-nodes.ensures.nodes c.in_ok-nodes.ensures.seated
+    (map view c.as_slice-3.result.now) c.in_ok-inboxes.ways.items c.in_ok-own.own.items c.in_ok-nodes.nodes.items c.in_ok-places.places.items c.in_ok-nodes.ensures.nodes c.in_ok-nodes.ensures.seated c.in_ok-nodes.ensures.here
     (ready-start g.S.Stage.meaning g.S.Stage.stands_after g.T.Transport.state g.W.Planned.plan c.args.parts.items c.requires.ready c.args.count c.requires.executors (lanes_in c.in_ok-lanes.lanes.items) (c.in_ok-lanes.ensures ∙ ap (λ (l : List (PartView g.row.S.Denot g.row.T.Denot)). lane_table l c.args.count) c.as_slice-2.ensures.value)
     g.W.Named.world c.requires.world g.M.Mailbox.is_taker g.M.Mailbox.takes_of g.M.Mailbox.is_sender g.M.Mailbox.sends_of
     (map view c.as_slice-3.result.now) c.in_ok-inboxes.ways.items c.in_ok-own.own.items c.in_ok-places.places.items opened c.in_ok-own.ensures reserved)

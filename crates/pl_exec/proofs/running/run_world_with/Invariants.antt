@@ -3,14 +3,8 @@ use Rattle.pl_channel.specs.Lanes.{world_of}
 use Rattle.pl_world.specs.Plans.{planned}
 use Rattle.pl_exec.proofs.running.run_world_with.Given as goal
 
-abbrev pub ghosts-run_waiting-W-Named : goal.ghosts-run_waiting-W-Named
-ghosts-run_waiting-W-Named g a = record { world = world_of true (planned g.S.Stage.meaning g.T.Transport.state a.capacity a.world.executors a.world.channels) }
+abbrev pub ghosts-run_queued-W-Named : goal.ghosts-run_queued-W-Named
+ghosts-run_queued-W-Named g a = record { world = world_of true (planned g.S.Stage.meaning g.T.Transport.state a.capacity a.world.executors a.world.channels) }
 
-abbrev pub ghosts-run_waiting-W-Planned : goal.ghosts-run_waiting-W-Planned
-ghosts-run_waiting-W-Planned g a = record { plan = planned g.S.Stage.meaning g.T.Transport.state a.capacity a.world.executors a.world.channels }
-
-abbrev pub ghosts-run_ring-W-Named : goal.ghosts-run_ring-W-Named
-ghosts-run_ring-W-Named g a = record { world = world_of true (planned g.S.Stage.meaning g.T.Transport.state a.capacity a.world.executors a.world.channels) }
-
-abbrev pub ghosts-run_ring-W-Planned : goal.ghosts-run_ring-W-Planned
-ghosts-run_ring-W-Planned g a = record { plan = planned g.S.Stage.meaning g.T.Transport.state a.capacity a.world.executors a.world.channels }
+abbrev pub ghosts-run_queued-W-Planned : goal.ghosts-run_queued-W-Planned
+ghosts-run_queued-W-Planned g a = record { plan = planned g.S.Stage.meaning g.T.Transport.state a.capacity a.world.executors a.world.channels }

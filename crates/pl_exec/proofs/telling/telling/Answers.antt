@@ -1,8 +1,10 @@
-use Rattle.std.proofs.Common.{◌≡◌, ◌++◌, ◌∷◌, [], List, map, ap, sym, ◌∙◌, arith, append_assoc}
+use Rattle.std.proofs.Common.{◌++◌, ◌∷◌, [], List, map, ap, sym, subst, ◌∙◌, arith, append_assoc}
 use Rattle.std.proofs.lemmas.List.{map-append, nil_from_length}
 use Rattle.std.proofs.lemmas.List.Elements.{All-nil, All-push, All-same}
+use Rattle.pl_part.specs.Parts.{PartView}
 use Rattle.pl_exec.specs.declared.nodes.OwnNodes.{OwnNodes}
 use Rattle.pl_exec.specs.declared.telling.TellingNodes.{TellingNodes}
+use Rattle.pl_exec.specs.OwnNodes.{AreOn}
 use Rattle.pl_exec.specs.Telling.{AreSeated}
 use Rattle.pl_exec.proofs.ListSteps.{all-done}
 use Rattle.pl_exec.proofs.SeatLemmas.{all-seated}
@@ -14,12 +16,14 @@ loop-own-init g c =
     let Telling = TellingNodes g.row.S.Denot g.row.T.Denot in
     let plan = g.W.Planned.plan in
     let seated = λ (n : Telling). AreSeated n.words.now plan n.seats.items in
+    let on = λ (n : Telling). AreOn (λ p. p.path.executors) n.nodes.parts.items n.nodes.number n.here.items in
     let none = c.in_ok-all.ensures.items in
     record {
       left = all-seated c.args.words.now plan c.args.seats c.in_ok-left.left.items c.requires.plan c.requires.seats c.requires.marks c.in_ok-left.ensures;
       rest = c.into_iter-own-iterator.ensures.into_iter_gives.0;
       nodes = ap (λ (l : List Telling). map (λ n. n.nodes) l) none;
       seated = All-same seated c.in_ok-all.all.items [] none (All-nil seated);
+      here = All-same on c.in_ok-all.all.items [] none (All-nil on);
     }
 
 pub deal-requires : goal.deal-requires
@@ -31,6 +35,7 @@ loop-own-preserved g c =
     let Telling = TellingNodes g.row.S.Denot g.row.T.Denot in
     let plan = g.W.Planned.plan in
     let seated = λ (n : Telling). AreSeated n.words.now plan n.seats.items in
+    let on = λ (n : Telling). AreOn (λ p. p.path.executors) n.nodes.parts.items n.nodes.number n.here.items in
     let inv = c.loop-own.invariant in
     let done = c.loop-own.yielded in
     let own = c.in-Some.own in
@@ -42,6 +47,10 @@ loop-own-preserved g c =
           ap (λ (l : List Telling). map (λ n. n.nodes) l) more ∙ map-append (λ (n : Telling). n.nodes) c.loop-own.all.items _
           ∙ ap (λ (l : List Own). l ++ own ∷ []) inv.nodes;
       seated = All-same seated c.push.new.self.items (c.loop-own.all.items ++ _ ∷ []) more (All-push seated c.loop-own.all.items _ inv.seated c.in_ok-dealt.ensures.dealt);
+      here =
+          All-same on c.push.new.self.items (c.loop-own.all.items ++ _ ∷ []) more
+          (All-push on c.loop-own.all.items _ inv.here
+          (subst (λ (l : List (PartView g.row.S.Denot g.row.T.Denot)). AreOn (λ p. p.path.executors) l own.number c.in_ok-here.here.items) c.as_slice-in-loop-own.ensures.value c.in_ok-here.ensures));
     }
 
 pub returns-clause-nodes : goal.returns-clause-nodes
@@ -52,3 +61,6 @@ returns-clause-nodes g c =
 
 pub returns-clause-seated : goal.returns-clause-seated
 returns-clause-seated g c = c.loop-own.invariant.seated
+
+pub returns-clause-here : goal.returns-clause-here
+returns-clause-here g c = c.loop-own.invariant.here

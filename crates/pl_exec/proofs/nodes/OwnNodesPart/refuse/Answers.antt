@@ -78,7 +78,7 @@ returns-else-channel-len-clause-stands g c = (
 
 pub returns-then-channel-len-clause-served : goal.returns-then-channel-len-clause-served
 returns-then-channel-len-clause-served g c =
-    serves-none g.T.Transport.state c.args.self.now.parts.items c.args.lane.channel c.index_mut.result.now c.refuse.new.self (own g c) (heads-equal g.T.Transport.state c.index_mut.result.now c.refuse.new.self c.refuse.ensures.head)
+    serves-none g.T.Transport.state g.W.Planned.plan c.args.self.now.parts.items c.args.lane.channel c.index_mut.result.now c.refuse.new.self (own g c) (λ q. heads-equal g.T.Transport.state c.index_mut.result.now c.refuse.new.self c.refuse.ensures.head q)
 
 -- the context that writes the lane is over
 pub returns-then-channel-len-clause-gave_up : goal.returns-then-channel-len-clause-gave_up

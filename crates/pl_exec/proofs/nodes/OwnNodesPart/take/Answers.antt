@@ -66,5 +66,5 @@ returns-clause-made g c =
 
 pub returns-clause-served : goal.returns-clause-served
 returns-clause-served g c =
-    serves-none g.T.Transport.state c.args.self.now.parts.items c.args.envelope.lane.channel c.index_mut.result.now c.take.new.self (own g c)
-    (take-serves g.T.Transport.state g.S.Stage.meaning g.S.Stage.stands_after g.S.Stage.is_spent c.index_mut.result.now c.take.new.self c.args.envelope c.args.work.now c.take.new.work c.take.result c.take.ensures.puts.same c.take.ensures.takes)
+    serves-none g.T.Transport.state g.W.Planned.plan c.args.self.now.parts.items c.args.envelope.lane.channel c.index_mut.result.now c.take.new.self (own g c)
+    (λ q. take-serves g.T.Transport.state g.S.Stage.meaning g.S.Stage.stands_after g.S.Stage.is_spent c.index_mut.result.now c.take.new.self c.args.envelope c.args.work.now c.take.new.work c.take.result c.take.ensures.puts.same c.take.ensures.takes q)

@@ -1,13 +1,12 @@
-use Rattle.std.proofs.Common.{◌≡◌, ◌≢◌, true, false, not, length, slice_get, Some, refl, ap, sym, ◌∙◌, arith}
+use Rattle.std.proofs.Common.{◌≡◌, ◌≢◌, true, false, not, slice_get, Some, ap, sym, ◌∙◌, arith}
 use Rattle.std.proofs.lemmas.Bool.{both_ways}
-use Rattle.std.proofs.lemmas.Option.{slice_get_read}
 use Rattle.pl_head.specs.declared.heads.OutStep.TheVariants as step
 use Rattle.pl_part.specs.Parts.{head_hop}
 use Rattle.pl_part.specs.PartCalls.{Given}
 use Rattle.pl_replay.proofs.Vecs.{put-back}
 use Rattle.pl_replay.proofs.HeadMoves.{write-idle}
 use Rattle.pl_replay.proofs.OneChannel.{places-of, routes, taken-none}
-use Rattle.pl_exec.proofs.HeadLists.{head-within, heads-stay}
+use Rattle.pl_exec.proofs.HeadLists.{own-channel, own-part, own-within, heads-stay}
 use Rattle.pl_exec.proofs.OwnNodeLemmas.{targets-stay, made-here}
 use Rattle.pl_exec.proofs.OverLemmas.{may-write-here}
 use Rattle.pl_exec.proofs.MovedNodes.{places-stay, write-stands}
@@ -17,27 +16,27 @@ use Rattle.pl_exec.proofs.nodes.OwnNodesPart.write.Goals.{Joined-matches, in-Idl
 
 pub index_mut-requires : goal.index_mut-requires
 index_mut-requires g c =
-    let within = head-within c.args.self.now.parts.items c.args.self.now.own.items c.args.at c.index-channel.result.now c.requires.stands.2 (slice_get_read c.args.self.now.own.items (length c.args.self.now.own.items) c.args.at c.index-channel.result.now refl c.requires.there c.index-channel.ensures) in
+    let within = own-within c.args.self.now.parts.items c.args.self.now.own.items c.args.at c.index-channel.result.now c.requires.there c.index-channel.ensures c.requires.stands.2 in
     omega (arith, within, c.args.self.now.parts.ok.0)
 
 pub write_once-requires-clause-holds : goal.write_once-requires-clause-holds
 write_once-requires-clause-holds g c =
     let ps = c.args.self.now.parts.items in
     let p = c.index_mut.result.now in
-    let own = slice_get_read ps (length ps) c.index-channel.result.now p refl (head-within c.args.self.now.parts.items c.args.self.now.own.items c.args.at c.index-channel.result.now c.requires.stands.2 (slice_get_read c.args.self.now.own.items (length c.args.self.now.own.items) c.args.at c.index-channel.result.now refl c.requires.there c.index-channel.ensures)) c.index_mut.ensures.value in
+    let own = own-part ps c.args.self.now.own.items c.args.at c.index-channel.result.now c.requires.there c.index-channel.ensures c.requires.stands.2 p c.index_mut.ensures.value in
     (g.W.Named.world, (c.requires.stands.1.parts c.index-channel.result.now p own).holds)
 
 pub write_once-requires-clause-places : goal.write_once-requires-clause-places
 write_once-requires-clause-places g c =
     let ps = c.args.self.now.parts.items in
     let p = c.index_mut.result.now in
-    let own = slice_get_read ps (length ps) c.index-channel.result.now p refl (head-within c.args.self.now.parts.items c.args.self.now.own.items c.args.at c.index-channel.result.now c.requires.stands.2 (slice_get_read c.args.self.now.own.items (length c.args.self.now.own.items) c.args.at c.index-channel.result.now refl c.requires.there c.index-channel.ensures)) c.index_mut.ensures.value in
+    let own = own-part ps c.args.self.now.own.items c.args.at c.index-channel.result.now c.requires.there c.index-channel.ensures c.requires.stands.2 p c.index_mut.ensures.value in
     places-of ps c.index-channel.result.now p p own c.args.work.now c.requires.places
 
 own : (g : _) (c : Joined-matches g) → slice_get c.args.self.now.parts.items c.index-channel.result.now ≡ Some c.index_mut.result.now
 own g c =
     let ps = c.args.self.now.parts.items in
-    slice_get_read ps (length ps) c.index-channel.result.now c.index_mut.result.now refl (head-within c.args.self.now.parts.items c.args.self.now.own.items c.args.at c.index-channel.result.now c.requires.stands.2 (slice_get_read c.args.self.now.own.items (length c.args.self.now.own.items) c.args.at c.index-channel.result.now refl c.requires.there c.index-channel.ensures)) c.index_mut.ensures.value
+    own-part ps c.args.self.now.own.items c.args.at c.index-channel.result.now c.requires.there c.index-channel.ensures c.requires.stands.2 c.index_mut.result.now c.index_mut.ensures.value
 
 -- what the call of the part has done
 given : (g : _) (c : Joined-matches g)
@@ -54,7 +53,7 @@ moved g c e = elim c.match-matches.branch [ in-Idle w ↦ absurd (both_ways (not
 pub returns-clause-enabled : goal.returns-clause-enabled
 returns-clause-enabled g c = record {
   channel = c.index-channel.result.now;
-  is = (slice_get_read c.args.self.now.own.items (length c.args.self.now.own.items) c.args.at c.index-channel.result.now refl c.requires.there c.index-channel.ensures);
+  is = own-channel c.args.self.now.own.items c.args.at c.index-channel.result.now c.requires.there c.index-channel.ensures;
   may = may-write-here g.T.Transport.state c.args.self.now.parts.items c.index-channel.result.now c.index_mut.result.now (own g c) c.args.work.now c.write_once.new.self c.write_once.new.work (not c.match-matches.matches)
       g.T.Transport.may_refuse c.write_once.result c.write_once.ensures.writes_out (idle g c) (moved g c);
 }
@@ -99,5 +98,6 @@ returns-clause-made g c =
 
 pub returns-clause-served : goal.returns-clause-served
 returns-clause-served g c =
-    writes-once g.T.Transport.state c.args.self.now.parts.items c.index-channel.result.now c.index_mut.result.now c.write_once.new.self (own g c)
-    (write-serves g.T.Transport.state g.T.Transport.may_refuse c.index_mut.result.now c.write_once.new.self c.args.work.now c.write_once.new.work c.write_once.result c.write_once.ensures.writes_out)
+    writes-once g.T.Transport.state g.W.Planned.plan c.args.self.now.parts.items c.index-channel.result.now c.index_mut.result.now c.write_once.new.self (own g c)
+    (write-serves g.T.Transport.state g.T.Transport.may_refuse c.index_mut.result.now c.write_once.new.self c.args.work.now c.write_once.new.work c.write_once.result c.write_once.ensures.writes_out
+    (slice_get g.W.Planned.plan.channels c.index-channel.result.now))

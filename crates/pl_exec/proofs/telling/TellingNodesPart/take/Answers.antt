@@ -1,5 +1,7 @@
-use Rattle.std.proofs.Common.{◌∙◌, arith}
+use Rattle.std.proofs.Common.{◌∙◌, ℕ, ap, arith}
+use Rattle.std.specs.Global.{Vec}
 use Rattle.pl_exec.proofs.OwnNodeLemmas.{channel-here}
+use Rattle.pl_exec.proofs.ChannelsHere.{on-stays}
 use Rattle.pl_exec.proofs.ToldNodes.{told-targets, told-written, told-lanes, told-took, nodes-told, own-told, makes-told}
 use Rattle.pl_exec.proofs.ServedNodes.{told-served}
 use Rattle.pl_exec.proofs.telling.TellingNodesPart.take.Goals as goal
@@ -26,6 +28,7 @@ returns-clause-stands g c =
       nodes-told mid now.nodes c.args.envelope.lane.channel e.number e.refused e.own e.told g.W.Named.world g.W.Planned.plan g.S.Stage.meaning g.S.Stage.stands_after g.T.Transport.state c.take.ensures.stands.1,
       own-told mid now.nodes c.args.envelope.lane.channel e.number e.refused e.own e.told c.take.ensures.stands.2,
       e.seated g.W.Planned.plan c.requires.stands.3,
+      on-stays g.W.Planned.plan c.args.self.now.nodes.number now.nodes.number c.args.self.now.here.items now.here.items (e.number ∙ c.take.ensures.home) (ap (λ (v : Vec ℕ). v.items) e.here) c.requires.stands.4,
     )
 
 pub returns-clause-routes : goal.returns-clause-routes
@@ -48,7 +51,7 @@ returns-clause-made g c =
 
 pub returns-clause-served : goal.returns-clause-served
 returns-clause-served g c k =
-    told-served g.T.Transport.state c.take.new.self.parts.items c.args.envelope.lane.channel c.tell.new.self.nodes.parts.items c.tell.ensures.told k ∙ c.take.ensures.served k
+    told-served g.T.Transport.state g.W.Planned.plan c.take.new.self.parts.items c.args.envelope.lane.channel c.tell.new.self.nodes.parts.items c.tell.ensures.told k ∙ c.take.ensures.served k
 
 pub returns-clause-tells : goal.returns-clause-tells
 returns-clause-tells g c = c.tell.ensures.tells

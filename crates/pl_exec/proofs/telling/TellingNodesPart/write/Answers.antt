@@ -1,7 +1,8 @@
-use Rattle.std.proofs.Common.{◌≡◌, ℕ, ◌≤◌, ◌+◌, ◌∙◌, get_or, length, refl, ap, sym, subst, arith}
+use Rattle.std.proofs.Common.{◌≡◌, ℕ, ◌≤◌, ◌+◌, ◌∙◌, get_or, ap, sym, subst, arith}
 use Rattle.std.specs.Global.{Vec}
-use Rattle.std.proofs.lemmas.Option.{get_or_from_slice_get, slice_get_read}
-use Rattle.pl_exec.proofs.HeadLists.{head-within}
+use Rattle.std.proofs.lemmas.Option.{get_or_from_slice_get}
+use Rattle.pl_exec.proofs.HeadLists.{own-channel, own-within}
+use Rattle.pl_exec.proofs.ChannelsHere.{on-stays}
 use Rattle.pl_exec.proofs.ToldNodes.{told-targets, told-written, told-lanes, told-took, nodes-told, own-told, makes-told}
 use Rattle.pl_executor.specs.Serving.{Served}
 use Rattle.pl_exec.specs.OwnNodes.{served_of}
@@ -14,8 +15,7 @@ tell-requires-clause-there g c =
     let mid = c.write.new.self in
     let there = c.requires.there in
     let count = c.write.ensures.count in
-    head-within mid.parts.items mid.own.items c.args.at c.index-channel.result.now c.write.ensures.stands.2
-    (slice_get_read mid.own.items (length mid.own.items) c.args.at c.index-channel.result.now refl (omega (arith, there, count)) c.index-channel.ensures)
+    own-within mid.parts.items mid.own.items c.args.at c.index-channel.result.now (omega (arith, there, count)) c.index-channel.ensures c.write.ensures.stands.2
 
 pub tell-requires-clause-stand : goal.tell-requires-clause-stand
 tell-requires-clause-stand g c = (g.W.Named.world, g.W.Planned.plan, c.requires.stands.3, c.write.ensures.stands.1)
@@ -29,6 +29,7 @@ returns-clause-stands g c =
       nodes-told mid now.nodes c.index-channel.result.now e.number e.refused e.own e.told g.W.Named.world g.W.Planned.plan g.S.Stage.meaning g.S.Stage.stands_after g.T.Transport.state c.write.ensures.stands.1,
       own-told mid now.nodes c.index-channel.result.now e.number e.refused e.own e.told c.write.ensures.stands.2,
       e.seated g.W.Planned.plan c.requires.stands.3,
+      on-stays g.W.Planned.plan c.args.self.now.nodes.number now.nodes.number c.args.self.now.here.items now.here.items (e.number ∙ c.write.ensures.home) (ap (λ (v : Vec ℕ). v.items) e.here) c.requires.stands.4,
     )
 
 pub returns-clause-routes : goal.returns-clause-routes
@@ -51,8 +52,8 @@ returns-clause-made g c =
 
 pub returns-clause-served : goal.returns-clause-served
 returns-clause-served g c k =
-    subst (λ (s : Served). (s.reads ≡ (served_of g.T.Transport.state c.args.self.now.nodes.parts.items k).reads) × (s.calls ≤ (served_of g.T.Transport.state c.args.self.now.nodes.parts.items k).calls + 1))
-    (sym (told-served g.T.Transport.state c.write.new.self.parts.items c.index-channel.result.now c.tell.new.self.nodes.parts.items c.tell.ensures.told k)) (c.write.ensures.served k)
+    subst (λ (s : Served). (s.reads ≡ (served_of g.T.Transport.state g.W.Planned.plan c.args.self.now.nodes.parts.items k).reads) × (s.calls ≤ (served_of g.T.Transport.state g.W.Planned.plan c.args.self.now.nodes.parts.items k).calls + 1))
+    (sym (told-served g.T.Transport.state g.W.Planned.plan c.write.new.self.parts.items c.index-channel.result.now c.tell.new.self.nodes.parts.items c.tell.ensures.told k)) (c.write.ensures.served k)
 
 pub returns-clause-tells : goal.returns-clause-tells
 returns-clause-tells g c = λ _.
@@ -60,6 +61,6 @@ returns-clause-tells g c = λ _.
     let now = c.tell.new.self in
     let there = c.requires.there in
     let count = c.write.ensures.count in
-    let found = slice_get_read mid.own.items (length mid.own.items) c.args.at c.index-channel.result.now refl (omega (arith, there, count)) c.index-channel.ensures in
+    let found = own-channel mid.own.items c.args.at c.index-channel.result.now (omega (arith, there, count)) c.index-channel.ensures in
     subst (TellsAt now.seats.items now.nodes.parts.items)
     (sym (ap (λ (v : Vec ℕ). get_or v.items c.args.at 0) c.tell.ensures.own ∙ get_or_from_slice_get mid.own.items c.args.at c.index-channel.result.now 0 found)) c.tell.ensures.tells
