@@ -1,0 +1,10 @@
+//! What the head of a channel does unasked.
+
+/// A move of a head.
+#[derive(Clone, Copy, Debug, PartialEq, Eq)]
+pub enum HeadMove {
+    /// Its next read step.
+    Read,
+    /// A call of its transport's `write`.
+    Out,
+}
