@@ -1,6 +1,6 @@
 -- The nodes of a channel that are on one executor, with the head where that is the channel's loop: which they are, what
 -- they have taken, and how far their lanes have come.
-use Rattle.std.specs.Prelude.{◌≡◌, ℕ, ◌+◌, ◌==◌, ◌&&◌, ◌||◌, Bool, true, false, List, length, Option, Some, None, is_some, if◌then◌else◌}
+use Rattle.std.specs.Prelude.{◌≡◌, ◌≢◌, ℕ, ◌+◌, ◌==◌, ◌&&◌, ◌||◌, Bool, true, false, List, length, Option, Some, None, is_some, if◌then◌else◌}
 use Rattle.std.specs.Option.{option_map_or}
 use Rattle.pl_event.specs.declared.events.Event.{Event}
 use Rattle.pl_event.specs.declared.envelopes.Envelope.{Envelope}
@@ -11,6 +11,8 @@ use Rattle.pl_event.specs.Worlds.{World}
 use Rattle.pl_context.specs.declared.standing.Took.{Took}
 use Rattle.pl_context.specs.Standings.{is_over}
 use Rattle.pl_context.specs.OutputsViews.{OutputsView}
+use Rattle.pl_flow.specs.declared.moves.HeadMove.{HeadMove}
+use Rattle.pl_flow.specs.declared.moves.HeadMove.TheVariants as by
 use Rattle.pl_flow.specs.Flows.{Point, nowhere}
 use Rattle.pl_head.specs.declared.heads.OutStep.{OutStep}
 use Rattle.pl_head.specs.declared.heads.OutStep.TheVariants as step
@@ -90,6 +92,25 @@ module _ {S T : Type 0} (state : T → TransportState) where
     pub head : (h : HeadView T) → p.head ≡ Some h → (h' : HeadView T) × (p'.head ≡ Some h') × HeadWrites state may_refuse h before answer h' after
     pub none : p.head ≡ None → (answer ≡ step.Idle) × (p' ≡ p) × (after ≡ before)
     pub path : p'.path ≡ p.path
+
+  -- The head makes its next read step as a move, which it has made where the step gave.
+  pub record ReadMoves (p : PartView S T) (before : OutputsView) (made : Bool) (p' : PartView S T) (after : OutputsView) : Type 0 where
+    pub answer : ReadStep
+    pub reads : PartReads p before answer p' after
+    pub gave : made ≡ true → answer ≡ reading.Gave
+    pub other : made ≡ false → answer ≢ reading.Gave
+
+  -- The head makes a write as a move, which it has made where it was not idle.
+  pub record OutMoves (may_refuse : T → ℕ → Type 0) (p : PartView S T) (before : OutputsView) (made : Bool) (p' : PartView S T) (after : OutputsView) : Type 0 where
+    pub answer : OutStep
+    pub writes : PartWrites may_refuse p before answer p' after
+    pub wrote : made ≡ true → answer ≢ step.Idle
+    pub idle : made ≡ false → answer ≡ step.Idle
+
+  -- The head makes a move.
+  abbrev pub PartMoves : (T → ℕ → Type 0) → PartView S T → HeadMove → OutputsView → Bool → PartView S T → OutputsView → Type 0
+  PartMoves may_refuse p by.Read before made p' after = ReadMoves p before made p' after
+  PartMoves may_refuse p by.Out before made p' after = OutMoves may_refuse p before made p' after
 
   -- The head is aborted.
   pub record PartAborts (p : PartView S T) (before : OutputsView) (p' : PartView S T) (after : OutputsView) : Type 0 where

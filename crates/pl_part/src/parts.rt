@@ -19,7 +19,7 @@ ghost use Rattle.pl_head.specs.Marks.{Change};
 ghost use Rattle.pl_part.specs.NewParts.{ArePlannedWith, AreNew, whole_slots};
 ghost use Rattle.pl_part.specs.HeadHolds.{HeadHolds};
 ghost use Rattle.pl_part.specs.Paths.{PathRefuses, context_at, writer_hop};
-ghost use Rattle.pl_part.specs.Parts.{PartHolds, PartTakes, PartReads, PartWrites, PartAborts, SamePart, head_hop, has_entered, has_read, all_over, part_taken, part_lanes, part_writes, writes_at, part_came};
+ghost use Rattle.pl_part.specs.Parts.{PartHolds, PartTakes, PartReads, PartWrites, PartMoves, PartAborts, SamePart, head_hop, has_entered, has_read, all_over, part_taken, part_lanes, part_writes, writes_at, part_came};
 ghost use Rattle.pl_part.specs.Counts.{head_done, part_done};
 ghost use Rattle.pl_part.specs.PartCalls.{IsNextFor, Taken, Given, PartRefused};
 ghost use Rattle.pl_part.specs.Shares.{IsShare, IsShareBy, EachPart, executor_of};
@@ -30,6 +30,7 @@ use crate::paths::PathPart;
 use crate::shares::take_where;
 use pl_context::{Outputs, Tail, Took};
 use pl_event::{Envelope, Lane, Outcome, Stage};
+use pl_flow::HeadMove;
 use pl_head::{Head, OutStep, ReadStep, Transport};
 use std::alloc::{AllocError, Global};
 use std::marker::Model;
@@ -180,6 +181,20 @@ impl<S: Stage, T: Transport> ChannelPart<S, T> {
             return OutStep::Idle;
         };
         write_at_head(head, work)
+    }
+
+    /// The head makes a move: `next_read` or `write_once`. False where it made none, since none is enabled or no head is
+    /// among the nodes.
+    pub fn move_head(&mut self, by: HeadMove, work: &mut Outputs) -> bool
+        requires holds { (world : World) × PartHolds world S.meaning S.stands_after T.state self.old }
+        requires places { HasPlaces work.old.stopped (part_lanes self.old) }
+        ensures moves { PartMoves T.state T.may_refuse self.old by work.old result self.new work.new }
+        ensures given { Given S.meaning S.stands_after T.state self.old (head_hop self.old) work.old self.new work.new }
+    {
+        match by {
+            HeadMove::Read => self.next_read(work) == ReadStep::Gave,
+            HeadMove::Out => !matches!(self.write_once(work), OutStep::Idle),
+        }
     }
 
     /// The channel is aborted: its head fails, where it is among the nodes and has not failed.
