@@ -26,6 +26,7 @@ use Rattle.pl_flow.proofs.FlowLemmas.{on-append, on-own, on-other}
 use Rattle.pl_flow.proofs.LaneRunLemmas.{lane-grows, lane-leaves, lane-behind}
 use Rattle.pl_executor.specs.declared.cores.Core.{Core}
 use Rattle.pl_executor.specs.Cores.{CoreHolds}
+use Rattle.pl_executor.specs.Parts.{KeepsPlaces}
 use Rattle.pl_executor.specs.OutboxViews.{OutboxesView, reached, is_cut, Adds, SameFor, Sends, Stays}
 use Rattle.pl_executor.specs.Running.{Runs, IsTaking}
 use Rattle.pl_executor.proofs.AdmissionLemmas.{admits_on}
@@ -164,7 +165,7 @@ module _ (world : World) (me : ℕ) (target : Lane → ℕ) (writes : Lane → B
 -- ---- what nodes put on the list
 
 -- there are still places for it
-pub places-on : (hops hops' : List Lane) (before mid after : StopsView) → hops' ≡ hops → mid ≡ before → ((l : List Lane) → AreAmong hops l → HasPlaces mid l → HasPlaces after l) → HasPlaces before hops → HasPlaces after hops'
+pub places-on : (hops hops' : List Lane) (before mid after : StopsView) → hops' ≡ hops → mid ≡ before → KeepsPlaces hops mid after → HasPlaces before hops → HasPlaces after hops'
 places-on hops hops' before mid after same stops placed has = subst (λ l. HasPlaces after l) (sym same) (placed hops (λ l e. e) (subst (λ s. HasPlaces s hops) (sym stops) has))
 
 pub runs-on : (world : World) (me : ℕ) (target target' : Lane → ℕ) (writes writes' : Lane → Bool) (taken taken' : Lane → ℕ) (came came' : Lane → Point) (o : OutboxesView) (mid after : OutputsView)

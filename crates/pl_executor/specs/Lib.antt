@@ -4,5 +4,6 @@ pub mod OutboxViews
 pub mod Admitting
 pub mod Running
 pub mod Cores
+pub mod Parts
 pub mod Turning
 pub mod Serving

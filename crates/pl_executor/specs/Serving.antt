@@ -1,5 +1,7 @@
 -- How often a channel was read and written by its head.
 use Rattle.std.specs.Prelude.{◌≡◌, ℕ, ◌+◌, ◌≤◌}
+use Rattle.pl_flow.specs.declared.moves.HeadMove.{HeadMove}
+use Rattle.pl_flow.specs.declared.moves.HeadMove.TheVariants.{Read, Out}
 
 -- How many of its read steps were made, and how many calls of its transport.
 pub record Served : Type 0 where
@@ -23,3 +25,8 @@ module _ (before after : ℕ → Served) where
   -- none was read more than once, or written more than once
   abbrev pub ServesAtMostOnce : Type 0
   ServesAtMostOnce = (c : ℕ) → ((after c).reads ≤ (before c).reads + 1) × ((after c).calls ≤ (before c).calls + 1)
+
+-- by one kind of move none was served more than once, and by the other none
+abbrev pub MovesAtMostOnce : HeadMove → (before after : ℕ → Served) → Type 0
+MovesAtMostOnce Read before after = ReadsAtMostOnce before after
+MovesAtMostOnce Out before after = WritesAtMostOnce before after

@@ -9,12 +9,13 @@ ghost use Rattle.pl_words.specs.Admissions.{AdmittedView};
 ghost use Rattle.pl_flow.specs.Flows.{IsGood};
 ghost use Rattle.pl_executor.specs.Cores.{CoreHolds, CoreKeeps, Departs};
 ghost use Rattle.pl_executor.specs.OutboxViews.{SameFor, Sends, oldest_untried};
-ghost use Rattle.pl_executor.specs.Serving.{ServesNone, ReadsAtMostOnce, WritesAtMostOnce};
+ghost use Rattle.pl_executor.specs.Serving.{ServesNone, MovesAtMostOnce};
 
 use crate::outboxes::{Offered, Outboxes};
 use crate::part::Part;
 use pl_context::Outputs;
 use pl_event::{Envelope, Named};
+use pl_flow::HeadMove;
 use pl_queue::Mailbox;
 use pl_words::Refused;
 use std::sync::Wait;
@@ -98,40 +99,20 @@ where
         unreachable!()
     }
 
-    /// A channel's next read step, with the direct calls that follow. False where it is not enabled.
-    pub fn read<R: Wait>(&mut self, rt: &R, channel: usize) -> bool
+    /// A move of a channel's head, with the direct calls that follow. False where it is not enabled.
+    pub fn move_head<R: Wait>(&mut self, rt: &R, by: HeadMove, channel: usize) -> bool
         requires there { channel < N.count self.old.part }
         requires holds { CoreHolds N.target_of N.writes W.world N.stands N.home N.lanes N.taken_of N.came N.was_refused self.old }
         requires empty { self.old.work.items ≡ [] }
-        ensures enabled { N.may_read self.old.part channel result }
+        ensures enabled { N.may_move self.old.part by channel result }
         ensures idle { result ≡ false → self.new ≡ self.old }
         ensures holds { CoreHolds N.target_of N.writes W.world N.stands N.home N.lanes N.taken_of N.came N.was_refused self.new }
         ensures keeps { CoreKeeps N.target_of N.writes N.count self.old self.new }
-        ensures served { ReadsAtMostOnce (N.served self.old.part) (N.served self.new.part) }
+        ensures served { MovesAtMostOnce by (N.served self.old.part) (N.served self.new.part) }
         ensures taken { (l : Lane) → N.writes self.old.part l ≡ false → N.taken_of self.new.part l ≡ N.taken_of self.old.part l }
         ensures empty { self.new.work.items ≡ [] }
     {
-        if !self.part.read(channel, &mut self.work) {
-            return false;
-        }
-        self.work_off(rt);
-        true
-    }
-
-    /// A write to a channel's transport, with the direct calls that follow. False where it is not enabled.
-    pub fn write<R: Wait>(&mut self, rt: &R, channel: usize) -> bool
-        requires there { channel < N.count self.old.part }
-        requires holds { CoreHolds N.target_of N.writes W.world N.stands N.home N.lanes N.taken_of N.came N.was_refused self.old }
-        requires empty { self.old.work.items ≡ [] }
-        ensures enabled { N.may_write self.old.part channel result }
-        ensures idle { result ≡ false → self.new ≡ self.old }
-        ensures holds { CoreHolds N.target_of N.writes W.world N.stands N.home N.lanes N.taken_of N.came N.was_refused self.new }
-        ensures keeps { CoreKeeps N.target_of N.writes N.count self.old self.new }
-        ensures served { WritesAtMostOnce (N.served self.old.part) (N.served self.new.part) }
-        ensures taken { (l : Lane) → N.writes self.old.part l ≡ false → N.taken_of self.new.part l ≡ N.taken_of self.old.part l }
-        ensures empty { self.new.work.items ≡ [] }
-    {
-        if !self.part.write(channel, &mut self.work) {
+        if !self.part.move_head(by, channel, &mut self.work) {
             return false;
         }
         self.work_off(rt);

@@ -5,6 +5,7 @@ ghost use Rattle.pl_event.specs.declared.envelopes.Envelope.{Envelope};
 ghost use Rattle.pl_queue.specs.Views.{after_take};
 ghost use Rattle.pl_context.specs.Stops.{HasPlaces};
 ghost use Rattle.pl_context.specs.WaitingViews.{Entry, Holds};
+ghost use Rattle.pl_flow.specs.declared.moves.HeadMove.{HeadMove};
 ghost use Rattle.pl_words.specs.declared.status.Status.TheVariants.{Accepting};
 ghost use Rattle.pl_words.specs.Phases.{rank};
 ghost use Rattle.pl_words.specs.Admissions.{AdmittedView, OwnerSeatView, new_owner_seat};
@@ -12,7 +13,7 @@ ghost use Rattle.pl_executor.specs.declared.executors.Turn.TheVariants.{Worked, 
 ghost use Rattle.pl_executor.specs.Admitting.{FewLanes};
 ghost use Rattle.pl_executor.specs.OutboxViews.{admissions, waits_for, is_closed, SomeClosed, SameFor, Sends, SendsNothing, oldest_untried};
 ghost use Rattle.pl_executor.specs.Running.{Runs, IsTaking};
-ghost use Rattle.pl_executor.specs.Serving.{ServesNone, ReadsAtMostOnce, WritesAtMostOnce, ServesAtMostOnce};
+ghost use Rattle.pl_executor.specs.Serving.{ServesNone, MovesAtMostOnce, ServesAtMostOnce};
 ghost use Rattle.pl_executor.specs.Turning.{SendsAtMostOne, TakesAtMostOne, IsStill};
 
 use crate::cores::Core;
@@ -23,6 +24,7 @@ use crate::part::Part;
 use crate::start::Start;
 use crossbeam_utils::sync::Parker;
 use pl_event::Named;
+use pl_flow::HeadMove;
 use pl_queue::Mailbox;
 use pl_words::OwnerSeat;
 use std::marker::Model;
@@ -133,7 +135,7 @@ where
         ensures sends { SendsAtMostOne self.old.outboxes self.new.outboxes }
         // No channel makes more than one read step, or more than one call of its transport.
         ensures served { ServesAtMostOnce (N.served self.old.part) (N.served self.new.part) }
-        ensures idle { result ≢ Worked → IsStill self.old self.new × ((c : ℕ) → c < N.count self.new.part → N.may_read self.new.part c false × N.may_write self.new.part c false) }
+        ensures idle { result ≢ Worked → IsStill self.old self.new × ((c : ℕ) → c < N.count self.new.part → (by : HeadMove) → N.may_move self.new.part by c false) }
         ensures done { result ≡ Done → (is_closed self.new.owner.phase ≡ true) × N.are_over self.new.part × ((y : ℕ) → waits_for self.new.outboxes y ≡ []) }
         // It begins to close, and closes, only where all here has ended.
         ensures closes { (self.new.owner ≡ self.old.owner) ⊎ N.are_over self.new.part }
@@ -163,7 +165,7 @@ where
         ensures takes { TakesAtMostOne self.old self.new }
         ensures sends { SendsAtMostOne self.old.outboxes self.new.outboxes }
         ensures served { ServesAtMostOnce (N.served self.old.part) (N.served self.new.part) }
-        ensures idle { result ≡ false → IsStill self.old self.new × ((c : ℕ) → c < N.count self.new.part → N.may_read self.new.part c false × N.may_write self.new.part c false) }
+        ensures idle { result ≡ false → IsStill self.old self.new × ((c : ℕ) → c < N.count self.new.part → (by : HeadMove) → N.may_move self.new.part by c false) }
     {
         let handed = self.hand(rt).is_some();
         let ran = self.run_task(rt);
@@ -233,7 +235,7 @@ where
         if !handed && self.is_drained() {
             self.serve(rt, channel);
         } else {
-            self.write(rt, channel);
+            self.move_head(rt, HeadMove::Out, channel);
         }
     }
 
@@ -246,7 +248,7 @@ where
         ensures served { ServesAtMostOnce (N.served self.old.part) (N.served self.new.part) }
         ensures owner { self.new.owner ≡ self.old.owner }
         ensures turns { self.new.turns ≡ self.old.turns }
-        ensures idle { result ≡ false → (self.new ≡ self.old) × ((c : ℕ) → c < N.count self.new.part → N.may_read self.new.part c false × N.may_write self.new.part c false) }
+        ensures idle { result ≡ false → (self.new ≡ self.old) × ((c : ℕ) → c < N.count self.new.part → (by : HeadMove) → N.may_move self.new.part by c false) }
     {
         let count = self.channels();
         if count == 0 {
@@ -266,7 +268,7 @@ where
         ensures owner { self.new.owner ≡ self.old.owner }
         ensures turns { self.new.turns ≡ self.old.turns }
         ensures same { result ≡ false → self.new ≡ self.old }
-        ensures idle { result ≡ false → (c : ℕ) → from ≤ c → c < to → N.may_read self.old.part c false × N.may_write self.old.part c false }
+        ensures idle { result ≡ false → (c : ℕ) → from ≤ c → c < to → (by : HeadMove) → N.may_move self.old.part by c false }
     {
         for channel in from..to {
             if self.serve(rt, channel) {
@@ -292,43 +294,27 @@ where
         ensures served { ServesAtMostOnce (N.served self.old.part) (N.served self.new.part) }
         ensures owner { self.new.owner ≡ self.old.owner }
         ensures turns { self.new.turns ≡ self.old.turns }
-        ensures idle { result ≡ false → (self.new ≡ self.old) × N.may_read self.old.part channel false × N.may_write self.old.part channel false }
+        ensures idle { result ≡ false → (self.new ≡ self.old) × ((by : HeadMove) → N.may_move self.old.part by channel false) }
     {
-        let has_read = self.read(rt, channel);
-        let has_written = self.write(rt, channel);
+        let has_read = self.move_head(rt, HeadMove::Read, channel);
+        let has_written = self.move_head(rt, HeadMove::Out, channel);
         has_read || has_written
     }
 
-    /// One read step of a channel. False where it was not enabled.
-    fn read<R: Wait>(&mut self, rt: &R, channel: usize) -> bool
+    /// A move of a channel's head. False where it was not enabled.
+    fn move_head<R: Wait>(&mut self, rt: &R, by: HeadMove, channel: usize) -> bool
         requires there { channel < N.count self.old.part }
         ensures number { self.new.number ≡ self.old.number }
         ensures count { N.count self.new.part ≡ N.count self.old.part }
         ensures takes { self.new.takes ≡ self.old.takes }
         ensures sends { SendsNothing self.old.outboxes self.new.outboxes }
-        ensures served { ReadsAtMostOnce (N.served self.old.part) (N.served self.new.part) }
+        ensures served { MovesAtMostOnce by (N.served self.old.part) (N.served self.new.part) }
         ensures owner { self.new.owner ≡ self.old.owner }
         ensures turns { self.new.turns ≡ self.old.turns }
-        ensures enabled { N.may_read self.old.part channel result }
+        ensures enabled { N.may_move self.old.part by channel result }
         ensures idle { result ≡ false → self.new ≡ self.old }
     {
-        self.core.read(rt, channel)
-    }
-
-    /// One write of a channel. False where it was not enabled.
-    fn write<R: Wait>(&mut self, rt: &R, channel: usize) -> bool
-        requires there { channel < N.count self.old.part }
-        ensures number { self.new.number ≡ self.old.number }
-        ensures count { N.count self.new.part ≡ N.count self.old.part }
-        ensures takes { self.new.takes ≡ self.old.takes }
-        ensures sends { SendsNothing self.old.outboxes self.new.outboxes }
-        ensures served { WritesAtMostOnce (N.served self.old.part) (N.served self.new.part) }
-        ensures owner { self.new.owner ≡ self.old.owner }
-        ensures turns { self.new.turns ≡ self.old.turns }
-        ensures enabled { N.may_write self.old.part channel result }
-        ensures idle { result ≡ false → self.new ≡ self.old }
-    {
-        self.core.write(rt, channel)
+        self.core.move_head(rt, by, channel)
     }
 
     /// Begins to close its queue, and closes it where that has taken as many as were admitted. It does neither where not all

@@ -3,13 +3,16 @@
 ghost use Rattle.std.specs.Prelude.{◌≡◌, ◌+◌, ◌<◌, ℕ, Bool, false, true, List, cond};
 ghost use Rattle.pl_event.specs.declared.envelopes.Lane.{Lane};
 ghost use Rattle.pl_event.specs.Hops.{same_lane};
-ghost use Rattle.pl_context.specs.Stops.{HasPlaces, AreAmong};
+ghost use Rattle.pl_context.specs.Stops.{HasPlaces};
+ghost use Rattle.pl_flow.specs.declared.moves.HeadMove.{HeadMove};
 ghost use Rattle.pl_flow.specs.Flows.{Point, IsGood};
 ghost use Rattle.pl_flow.specs.Makes.{Makes};
-ghost use Rattle.pl_executor.specs.Serving.{Served, ServesNone, ReadsAtMostOnce, WritesAtMostOnce};
+ghost use Rattle.pl_executor.specs.Parts.{PartKeeps, KeepsPlaces};
+ghost use Rattle.pl_executor.specs.Serving.{Served, ServesNone, MovesAtMostOnce};
 
 use pl_context::Outputs;
 use pl_event::{Envelope, Lane, Named};
+use pl_flow::HeadMove;
 
 /// The nodes of an executor. What they make of an item they put on a work list, lane by lane the next items of that lane.
 pub trait Part<W: Named>: Sized {
@@ -47,11 +50,9 @@ pub trait Part<W: Named>: Sized {
     /// By the number of a channel: what others are told of it is how its head stands, where that is one of these nodes.
     ghost tells: { Self → ℕ → Type 0 } = { λ n c. Unit {0} };
 
-    /// Whether the next read step of a channel, or a write to its transport, is enabled: its head is one of these nodes,
-    /// and a step is left and not held, or a flushed byte waits and the head has not failed.
-    ghost may_read: { Self → ℕ → Bool → Type 0 };
-
-    ghost may_write: { Self → ℕ → Bool → Type 0 };
+    /// Whether a move of the head of a channel is enabled: that head is one of these nodes, and a read step is left and not
+    /// held, or a flushed byte waits and the head has not failed.
+    ghost may_move: { Self → HeadMove → ℕ → Bool → Type 0 };
 
     /// By the number of a channel, how often its head, where it is one of these nodes, has read and written.
     ghost served: { Self → ℕ → Served };
@@ -74,13 +75,9 @@ pub trait Part<W: Named>: Sized {
         requires good { IsGood W.world envelope }
         requires places { HasPlaces work.old.stopped (lanes self.old) }
         ensures stands { stands self.new }
-        ensures routes { (l : Lane) → target_of self.new l ≡ target_of self.old l }
-        ensures writes { (l : Lane) → writes self.new l ≡ writes self.old l }
+        ensures keeps { PartKeeps target_of writes home lanes count self.old self.new }
         ensures taken { (l : Lane) → taken_of self.new l ≡ cond (same_lane l envelope.lane) (envelope.number + 1) (taken_of self.old l) }
-        ensures home { home self.new ≡ home self.old }
-        ensures lanes { lanes self.new ≡ lanes self.old }
-        ensures count { count self.new ≡ count self.old }
-        ensures placed { (hops : List Lane) → AreAmong (lanes self.old) hops → HasPlaces work.old.stopped hops → HasPlaces work.new.stopped hops }
+        ensures placed { KeepsPlaces (lanes self.old) work.old.stopped work.new.stopped }
         ensures refused { was_refused self.new ≡ was_refused self.old }
         ensures served { ServesNone (served self.old) (served self.new) }
         ensures tells { tells self.new envelope.lane.channel }
@@ -92,13 +89,9 @@ pub trait Part<W: Named>: Sized {
         requires stands { stands self.old }
         requires places { HasPlaces work.old.stopped (lanes self.old) }
         ensures stands { stands self.new }
-        ensures routes { (l : Lane) → target_of self.new l ≡ target_of self.old l }
-        ensures writes { (l : Lane) → writes self.new l ≡ writes self.old l }
+        ensures keeps { PartKeeps target_of writes home lanes count self.old self.new }
         ensures taken { (l : Lane) → taken_of self.new l ≡ taken_of self.old l }
-        ensures home { home self.new ≡ home self.old }
-        ensures lanes { lanes self.new ≡ lanes self.old }
-        ensures count { count self.new ≡ count self.old }
-        ensures placed { (hops : List Lane) → AreAmong (lanes self.old) hops → HasPlaces work.old.stopped hops → HasPlaces work.new.stopped hops }
+        ensures placed { KeepsPlaces (lanes self.old) work.old.stopped work.new.stopped }
         ensures served { ServesNone (served self.old) (served self.new) }
         ensures gave_up { gave_up self.new lane }
         ensures made { Makes W.world (writes self.old) (came self.old) (came self.new) work.old work.new };
@@ -107,43 +100,19 @@ pub trait Part<W: Named>: Sized {
     fn channels(&self) -> usize
         ensures { result ≡ count self.now };
 
-    /// The head of a channel makes its next read step, where that is enabled. False where it made none.
-    fn read(&mut self, channel: usize, work: &mut Outputs) -> bool
+    /// The head of a channel makes a move, where that is enabled. False where it made none.
+    fn move_head(&mut self, by: HeadMove, channel: usize, work: &mut Outputs) -> bool
         requires there { channel < count self.old }
         requires stands { stands self.old }
         requires places { HasPlaces work.old.stopped (lanes self.old) }
-        ensures enabled { may_read self.old channel result }
+        ensures enabled { may_move self.old by channel result }
         ensures idle { result ≡ false → (self.new ≡ self.old) × (work.new ≡ work.old) }
         ensures stands { stands self.new }
-        ensures routes { (l : Lane) → target_of self.new l ≡ target_of self.old l }
-        ensures writes { (l : Lane) → writes self.new l ≡ writes self.old l }
+        ensures keeps { PartKeeps target_of writes home lanes count self.old self.new }
         ensures taken { (l : Lane) → taken_of self.new l ≡ taken_of self.old l }
-        ensures home { home self.new ≡ home self.old }
-        ensures lanes { lanes self.new ≡ lanes self.old }
-        ensures count { count self.new ≡ count self.old }
-        ensures placed { (hops : List Lane) → AreAmong (lanes self.old) hops → HasPlaces work.old.stopped hops → HasPlaces work.new.stopped hops }
+        ensures placed { KeepsPlaces (lanes self.old) work.old.stopped work.new.stopped }
         ensures refused { was_refused self.new ≡ was_refused self.old }
-        ensures served { ReadsAtMostOnce (served self.old) (served self.new) }
-        ensures tells { result ≡ true → tells self.new (channel_at self.new channel) }
-        ensures made { Makes W.world (writes self.old) (came self.old) (came self.new) work.old work.new };
-
-    /// The head of a channel makes a write to its transport, where that is enabled. False where it made none.
-    fn write(&mut self, channel: usize, work: &mut Outputs) -> bool
-        requires there { channel < count self.old }
-        requires stands { stands self.old }
-        requires places { HasPlaces work.old.stopped (lanes self.old) }
-        ensures enabled { may_write self.old channel result }
-        ensures idle { result ≡ false → (self.new ≡ self.old) × (work.new ≡ work.old) }
-        ensures stands { stands self.new }
-        ensures routes { (l : Lane) → target_of self.new l ≡ target_of self.old l }
-        ensures writes { (l : Lane) → writes self.new l ≡ writes self.old l }
-        ensures taken { (l : Lane) → taken_of self.new l ≡ taken_of self.old l }
-        ensures home { home self.new ≡ home self.old }
-        ensures lanes { lanes self.new ≡ lanes self.old }
-        ensures count { count self.new ≡ count self.old }
-        ensures placed { (hops : List Lane) → AreAmong (lanes self.old) hops → HasPlaces work.old.stopped hops → HasPlaces work.new.stopped hops }
-        ensures refused { was_refused self.new ≡ was_refused self.old }
-        ensures served { WritesAtMostOnce (served self.old) (served self.new) }
+        ensures served { MovesAtMostOnce by (served self.old) (served self.new) }
         ensures tells { result ≡ true → tells self.new (channel_at self.new channel) }
         ensures made { Makes W.world (writes self.old) (came self.old) (came self.new) work.old work.new };
 

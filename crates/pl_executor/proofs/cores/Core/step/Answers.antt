@@ -30,21 +30,21 @@ returns-then-target-self-clause-holds g c =
     let part = c.args.self.now.part in
     let part' = c.take.new.self in record {
       stood = c.take.ensures.stands;
-      at_home = c.take.ensures.home ∙ c.requires.holds.at_home;
-      places = places-on (g.N.Part.lanes part) (g.N.Part.lanes part') c.args.self.now.work.stopped c.next.new.self.stopped c.take.new.work.stopped c.take.ensures.lanes c.in-Some.ensures.stopped c.take.ensures.placed c.requires.holds.places;
+      at_home = c.take.ensures.keeps.homes ∙ c.requires.holds.at_home;
+      places = places-on (g.N.Part.lanes part) (g.N.Part.lanes part') c.args.self.now.work.stopped c.next.new.self.stopped c.take.new.work.stopped c.take.ensures.keeps.hops c.in-Some.ensures.stopped c.take.ensures.placed c.requires.holds.places;
       runs =
           runs-on g.W.Named.world c.args.self.now.number (g.N.Part.target_of part) (g.N.Part.target_of part') (g.N.Part.writes part) (g.N.Part.writes part') (g.N.Part.taken_of part') (g.N.Part.taken_of part')
           (g.N.Part.came part) (g.N.Part.came part') c.args.self.now.outboxes c.next.new.self c.take.new.work
           (own-taken g.W.Named.world c.args.self.now.number (g.N.Part.target_of c.args.self.now.part) (g.N.Part.writes c.args.self.now.part) (g.N.Part.taken_of c.args.self.now.part) (g.N.Part.came c.args.self.now.part)
           c.args.self.now.outboxes c.args.self.now.work c.next.new.self c.in-Some.envelope c.requires.holds.runs c.in-Some.ensures.front c.in-Some.ensures.stopped
           (g.N.Part.taken_of part') (sym c.target-target.ensures ∙ c.if-target-self.true) c.take.ensures.taken)
-          c.take.ensures.made c.take.ensures.routes c.take.ensures.writes (λ l i. g.N.Part.taken_of part' l);
+          c.take.ensures.made c.take.ensures.keeps.routes c.take.ensures.keeps.written (λ l i. g.N.Part.taken_of part' l);
       why = λ e. c.requires.holds.why (sym c.take.ensures.refused ∙ e);
       admits =
           admits_more g.W.Named.world (g.N.Part.writes part) (g.N.Part.writes part') (g.N.Part.came part) (g.N.Part.came part') c.args.self.now.outboxes c.next.new.self c.take.new.work
           (admits_front (g.N.Part.writes part) (g.N.Part.came part) c.args.self.now.outboxes c.args.self.now.outboxes c.args.self.now.work c.next.new.self c.in-Some.envelope c.requires.holds.admits c.in-Some.ensures.front c.in-Some.ensures.stopped
           (omega arith))
-          c.take.ensures.made c.take.ensures.writes;
+          c.take.ensures.made c.take.ensures.keeps.written;
     }
 
 -- ---- to another executor
@@ -77,21 +77,21 @@ returns-in-Err-Closed-clause-holds g c =
     let part' = c.refuse.new.self in
     let o = c.args.self.now.outboxes in record {
       stood = c.refuse.ensures.stands;
-      at_home = c.refuse.ensures.home ∙ c.requires.holds.at_home;
-      places = places-on (g.N.Part.lanes part) (g.N.Part.lanes part') c.args.self.now.work.stopped c.next.new.self.stopped c.refuse.new.work.stopped c.refuse.ensures.lanes c.in-Some.ensures.stopped c.refuse.ensures.placed c.requires.holds.places;
+      at_home = c.refuse.ensures.keeps.homes ∙ c.requires.holds.at_home;
+      places = places-on (g.N.Part.lanes part) (g.N.Part.lanes part') c.args.self.now.work.stopped c.next.new.self.stopped c.refuse.new.work.stopped c.refuse.ensures.keeps.hops c.in-Some.ensures.stopped c.refuse.ensures.placed c.requires.holds.places;
       runs =
           runs-on g.W.Named.world c.args.self.now.number (g.N.Part.target_of part) (g.N.Part.target_of part') (g.N.Part.writes part) (g.N.Part.writes part') (g.N.Part.taken_of part) (g.N.Part.taken_of part')
           (g.N.Part.came part) (g.N.Part.came part') c.add.new.self c.next.new.self c.refuse.new.work
           (away-added g.W.Named.world c.args.self.now.number (g.N.Part.target_of c.args.self.now.part) (g.N.Part.writes c.args.self.now.part) (g.N.Part.taken_of c.args.self.now.part) (g.N.Part.came c.args.self.now.part)
           c.args.self.now.outboxes c.args.self.now.work c.next.new.self c.in-Some.envelope c.requires.holds.runs c.in-Some.ensures.front c.in-Some.ensures.stopped
           c.add.new.self (λ e. c.if-target-self.false (c.target-target.ensures ∙ e)) (subst (λ (k : ℕ). Adds c.args.self.now.outboxes k c.in-Some.envelope c.add.new.self) c.target-target.ensures c.add.ensures.adds))
-          c.refuse.ensures.made c.refuse.ensures.routes c.refuse.ensures.writes c.refuse.ensures.taken;
+          c.refuse.ensures.made c.refuse.ensures.keeps.routes c.refuse.ensures.keeps.written c.refuse.ensures.taken;
       why = λ e. refused-some o c.add.new.self c.target-target.result (subst (λ (r : Refused). RefusedBy o c.target-target.result r c.add.new.self) c.in-Err-Closed.field-0-is c.in-Err-Closed.ensures.refused);
       admits =
           admits_more g.W.Named.world (g.N.Part.writes part) (g.N.Part.writes part') (g.N.Part.came part) (g.N.Part.came part') c.add.new.self c.next.new.self c.refuse.new.work
           (admits_front (g.N.Part.writes part) (g.N.Part.came part) o c.add.new.self c.args.self.now.work c.next.new.self c.in-Some.envelope c.requires.holds.admits c.in-Some.ensures.front c.in-Some.ensures.stopped
           c.add.ensures.adds.made)
-          c.refuse.ensures.made c.refuse.ensures.writes;
+          c.refuse.ensures.made c.refuse.ensures.keeps.written;
     }
 
 -- it waits there

@@ -8,15 +8,15 @@ returns-clause-holds g c =
     let part = c.args.self.now.part in
     let part' = c.take.new.self in record {
       stood = c.take.ensures.stands;
-      at_home = c.take.ensures.home ∙ c.requires.holds.at_home;
-      places = places-on (g.N.Part.lanes part) (g.N.Part.lanes part') c.args.self.now.work.stopped c.args.self.now.work.stopped c.take.new.work.stopped c.take.ensures.lanes refl c.take.ensures.placed c.requires.holds.places;
+      at_home = c.take.ensures.keeps.homes ∙ c.requires.holds.at_home;
+      places = places-on (g.N.Part.lanes part) (g.N.Part.lanes part') c.args.self.now.work.stopped c.args.self.now.work.stopped c.take.new.work.stopped c.take.ensures.keeps.hops refl c.take.ensures.placed c.requires.holds.places;
       runs =
           runs-on g.W.Named.world c.args.self.now.number (g.N.Part.target_of part) (g.N.Part.target_of part') (g.N.Part.writes part) (g.N.Part.writes part') (g.N.Part.taken_of part') (g.N.Part.taken_of part')
           (g.N.Part.came part) (g.N.Part.came part') c.args.self.now.outboxes c.args.self.now.work c.take.new.work
           (task-taken g.W.Named.world c.args.self.now.number (g.N.Part.target_of part) (g.N.Part.writes part) (g.N.Part.taken_of part) (g.N.Part.taken_of part') (g.N.Part.came part)
           c.args.self.now.outboxes c.args.self.now.work c.args.task c.requires.holds.runs c.requires.foreign c.take.ensures.taken)
-          c.take.ensures.made c.take.ensures.routes c.take.ensures.writes (λ l i. g.N.Part.taken_of part' l);
+          c.take.ensures.made c.take.ensures.keeps.routes c.take.ensures.keeps.written (λ l i. g.N.Part.taken_of part' l);
       why = λ e. c.requires.holds.why (sym c.take.ensures.refused ∙ e);
       admits = admits_more g.W.Named.world (g.N.Part.writes part) (g.N.Part.writes part') (g.N.Part.came part) (g.N.Part.came part') c.args.self.now.outboxes c.args.self.now.work c.take.new.work
-          c.requires.holds.admits c.take.ensures.made c.take.ensures.writes;
+          c.requires.holds.admits c.take.ensures.made c.take.ensures.keeps.written;
     }
