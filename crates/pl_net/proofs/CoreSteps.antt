@@ -12,6 +12,7 @@ use Rattle.pl_context.specs.OutputsViews.{OutputsView}
 use Rattle.pl_context.specs.WaitingViews.{Entry, stops_for, is_for}
 use Rattle.pl_flow.specs.Flows.{Point, point, on, IsGood}
 use Rattle.pl_flow.specs.Makes.{Makes}
+use Rattle.pl_flow.specs.declared.moves.HeadMove.{HeadMove}
 use Rattle.pl_net.specs.NodesViews.{NodesView, written_by, NodesTake, NodesGive, NodesMake}
 use Rattle.pl_net.specs.Nets.{queue_at, LaneStands, IsStart, no_backlogs, ExecutorView, IsAdded, IsTakenOut, CoreView, CoreStands, IsKeep, Settles, Gives, HandsOver}
 use Rattle.pl_net.proofs.OneExecutor.{Replaces}
@@ -159,14 +160,14 @@ module _ {N : Type 0} (view_of : N → NodesView) (stands : World → N → Type
   pub given-stands : NodesGive (view_of c.nodes) home c.work (view_of n') after → stands world n' → NodesMake world (view_of c.nodes) home c.work (view_of n') after → CoreStands view_of stands world runs given_core
   given-stands t hold makes = subst (λ y. CoreStands view_of stands world y given_core) (sym is) (give-stands view_of stands world home c (rest-stands view_of stands world x home c none h) n' after t hold makes)
 
-  pub given-settles : (takes : N → Envelope → OutputsView → N → OutputsView → Type 0) (gives : N → ℕ → OutputsView → N → OutputsView → Type 0) (channel : ℕ) → gives c.nodes channel c.work n' after
+  pub given-settles : (takes : N → Envelope → OutputsView → N → OutputsView → Type 0) (moves : N → HeadMove → ℕ → OutputsView → N → OutputsView → Type 0) (by : HeadMove) (channel : ℕ) → moves c.nodes by channel c.work n' after
       → (to : (ℕ → List (Entry (Unit {0}))) → CoreView N)
       → (backlogs : ℕ → List (Entry (Unit {0}))) × CoreStands view_of stands world runs (to backlogs) × Settles view_of takes runs given_core (to backlogs)
-      → (backlogs : ℕ → List (Entry (Unit {0}))) × CoreStands view_of stands world home (to backlogs) × Gives view_of takes gives home channel c (to backlogs)
-  given-settles takes gives channel given to s = (
+      → (backlogs : ℕ → List (Entry (Unit {0}))) × CoreStands view_of stands world home (to backlogs) × Gives view_of takes moves home by channel c (to backlogs)
+  given-settles takes moves by channel moved to s = (
     s.0,
     subst (λ y. CoreStands view_of stands world y (to s.0)) is s.1,
-    record { nodes = n'; work = after; given = given; settles = subst (λ y. Settles view_of takes y given_core (to s.0)) is s.2 },
+    record { nodes = n'; work = after; moved = moved; settles = subst (λ y. Settles view_of takes y given_core (to s.0)) is s.2 },
   )
 
 -- ---- a hand-over

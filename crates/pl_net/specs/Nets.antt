@@ -10,6 +10,7 @@ use Rattle.pl_context.specs.OutputsViews.{OutputsView, added_items}
 use Rattle.pl_context.specs.WaitingViews.{WaitingView, Entry, Holds, WaitingAdds, Takes, stops_for}
 use Rattle.pl_flow.specs.Flows.{Point, point, on, IsFlow, past}
 use Rattle.pl_flow.specs.LaneRuns.{LaneRuns}
+use Rattle.pl_flow.specs.declared.moves.HeadMove.{HeadMove}
 use Rattle.pl_net.specs.NodesViews.{NodesView, written_by}
 
 -- What waits at an executor: handed over to it and not taken; and made there for others, and not handed over.
@@ -152,11 +153,11 @@ module _ {N : Type 0} (view_of : N → NodesView) where
       pub taken : takes c.nodes envelope c.work mid.nodes mid.work
       pub settles : Settles mid c'
 
--- The head of a channel has done something, and executor x works off what comes of that.
-pub record Gives {N : Type 0} (view_of : N → NodesView) (takes : N → Envelope → OutputsView → N → OutputsView → Type 0) (gives : N → ℕ → OutputsView → N → OutputsView → Type 0) (x channel : ℕ) (c c' : CoreView N) : Type 0 where
+-- The head of a channel has made a move, and executor x works off what comes of that.
+pub record Gives {N : Type 0} (view_of : N → NodesView) (takes : N → Envelope → OutputsView → N → OutputsView → Type 0) (moves : N → HeadMove → ℕ → OutputsView → N → OutputsView → Type 0) (x : ℕ) (by : HeadMove) (channel : ℕ) (c c' : CoreView N) : Type 0 where
   pub nodes : N
   pub work : OutputsView
-  pub given : gives c.nodes channel c.work nodes work
+  pub moved : moves c.nodes by channel c.work nodes work
   pub settles : Settles view_of takes x (record c { nodes = nodes; work = work }) c'
 
 -- ---- before any move

@@ -9,6 +9,7 @@ ghost use Rattle.pl_net.specs.Nets.{CoreStands, IsStart, no_backlogs, IsStep, Se
 use crate::executors::{Executor, oldest_target};
 use crate::nodes::Nodes;
 use pl_context::Outputs;
+use pl_flow::HeadMove;
 use std::alloc::{AllocError, Global};
 
 /// The nodes of all channels, and what is on its way between their executors.
@@ -144,47 +145,24 @@ impl<N: Nodes + Drop> Core<N> {
         }
     }
 
-    /// A channel's next read step, with its direct calls. False where none is left, or it is held.
-    pub fn read(&mut self, channel: usize) -> bool
+    /// A move of a channel's head, with its direct calls: its next read step, or a write to its transport. False where none is
+    /// left or it is held, and where no flushed byte waits or the head has failed.
+    pub fn move_head(&mut self, by: HeadMove, channel: usize) -> bool
         requires there { channel < N.count self.old.nodes }
         requires home { (N.view_of self.old.nodes).home channel < vec_len self.old.executors }
         requires rests { self.old.work.items ≡ [] }
         requires stands { (world : World) × (x : ℕ) × (backlogs : ℕ → List (Entry Unit)) × CoreStands N.view_of N.stands world x (core_view self.old backlogs) }
-        ensures enabled { N.may_read self.old.nodes channel result }
+        ensures enabled { N.may_move self.old.nodes by channel result }
         ensures runs { result ≡ true → (world : World) (x : ℕ) (backlogs : ℕ → List (Entry Unit)) → CoreStands N.view_of N.stands world x (core_view self.old backlogs)
             → (after : ℕ → List (Entry Unit)) × CoreStands N.view_of N.stands world ((N.view_of self.old.nodes).home channel) (core_view self.new after)
-            × Gives N.view_of N.takes N.reads ((N.view_of self.old.nodes).home channel) channel (core_view self.old backlogs) (core_view self.new after) }
+            × Gives N.view_of N.takes N.moves ((N.view_of self.old.nodes).home channel) by channel (core_view self.old backlogs) (core_view self.new after) }
         ensures rests { self.new.work.items ≡ [] }
         ensures idle { result ≡ false → self.new ≡ self.old }
         ensures capacity { self.new.capacity ≡ self.old.capacity }
         ensures count { vec_len self.new.executors ≡ vec_len self.old.executors }
     {
         let home = self.nodes.home(channel);
-        if !self.nodes.read(channel, &mut self.work) {
-            return false;
-        }
-        self.work_off(home);
-        true
-    }
-
-    /// A write to a channel's transport, with the direct calls of what comes of it. False where no flushed byte waits, or
-    /// the head has failed.
-    pub fn write(&mut self, channel: usize) -> bool
-        requires there { channel < N.count self.old.nodes }
-        requires home { (N.view_of self.old.nodes).home channel < vec_len self.old.executors }
-        requires rests { self.old.work.items ≡ [] }
-        requires stands { (world : World) × (x : ℕ) × (backlogs : ℕ → List (Entry Unit)) × CoreStands N.view_of N.stands world x (core_view self.old backlogs) }
-        ensures enabled { N.may_write self.old.nodes channel result }
-        ensures runs { result ≡ true → (world : World) (x : ℕ) (backlogs : ℕ → List (Entry Unit)) → CoreStands N.view_of N.stands world x (core_view self.old backlogs)
-            → (after : ℕ → List (Entry Unit)) × CoreStands N.view_of N.stands world ((N.view_of self.old.nodes).home channel) (core_view self.new after)
-            × Gives N.view_of N.takes N.writes ((N.view_of self.old.nodes).home channel) channel (core_view self.old backlogs) (core_view self.new after) }
-        ensures rests { self.new.work.items ≡ [] }
-        ensures idle { result ≡ false → self.new ≡ self.old }
-        ensures capacity { self.new.capacity ≡ self.old.capacity }
-        ensures count { vec_len self.new.executors ≡ vec_len self.old.executors }
-    {
-        let home = self.nodes.home(channel);
-        if !self.nodes.write(channel, &mut self.work) {
+        if !self.nodes.move_head(by, channel, &mut self.work) {
             return false;
         }
         self.work_off(home);

@@ -6,10 +6,12 @@ ghost use Rattle.pl_event.specs.Worlds.{World};
 ghost use Rattle.pl_context.specs.OutputsViews.{OutputsView};
 ghost use Rattle.pl_context.specs.Stops.{HasPlaces};
 ghost use Rattle.pl_flow.specs.Flows.{IsGood};
+ghost use Rattle.pl_flow.specs.declared.moves.HeadMove.{HeadMove};
 ghost use Rattle.pl_net.specs.NodesViews.{NodesView, NodesTake, NodesGive, NodesMake};
 
 use pl_context::Outputs;
 use pl_event::{Envelope, Lane};
+use pl_flow::HeadMove;
 
 /// The nodes of all channels. What they make of an item they put on a work list, lane by lane the next items of that lane.
 pub trait Nodes: Sized {
@@ -22,15 +24,11 @@ pub trait Nodes: Sized {
     /// What a node has done with an envelope that it took.
     ghost takes: { Self → Envelope → OutputsView → Self → OutputsView → Type 0 };
 
-    /// What the head of a channel has done in a read step that it made, and in a write.
-    ghost reads: { Self → ℕ → OutputsView → Self → OutputsView → Type 0 };
+    /// What the head of a channel has done in a move that it made.
+    ghost moves: { Self → HeadMove → ℕ → OutputsView → Self → OutputsView → Type 0 };
 
-    ghost writes: { Self → ℕ → OutputsView → Self → OutputsView → Type 0 };
-
-    /// Whether the channel's next read step, or a write to its transport, is enabled.
-    ghost may_read: { Self → ℕ → Bool → Type 0 };
-
-    ghost may_write: { Self → ℕ → Bool → Type 0 };
+    /// Whether a move of the channel's head is enabled.
+    ghost may_move: { Self → HeadMove → ℕ → Bool → Type 0 };
 
     /// How many channels there are.
     ghost count: { Self → ℕ };
@@ -58,27 +56,15 @@ pub trait Nodes: Sized {
         ensures makes { (world : World) → stands world self.old → IsGood world envelope
             → NodesMake world (view_of self.old) ((view_of self.old).target envelope.lane) work.old (view_of self.new) work.new };
 
-    /// The head of a channel makes its next read step, where one is left and not held. False where it made none.
-    fn read(&mut self, channel: usize, work: &mut Outputs) -> bool
+    /// The head of a channel makes a move: its next read step, where one is left and not held, or a write to its transport,
+    /// where a flushed byte waits and it has not failed. False where it made none.
+    fn move_head(&mut self, by: HeadMove, channel: usize, work: &mut Outputs) -> bool
         requires there { channel < count self.old }
         requires stands { (world : World) × stands world self.old }
         requires places { HasPlaces work.old.stopped (view_of self.old).lanes }
-        ensures enabled { may_read self.old channel result }
+        ensures enabled { may_move self.old by channel result }
         ensures idle { result ≡ false → (self.new ≡ self.old) × (work.new ≡ work.old) }
-        ensures reads { result ≡ true → reads self.old channel work.old self.new work.new }
-        ensures view { result ≡ true → NodesGive (view_of self.old) ((view_of self.old).home channel) work.old (view_of self.new) work.new }
-        ensures stands { (world : World) → stands world self.old → stands world self.new }
-        ensures makes { (world : World) → stands world self.old → NodesMake world (view_of self.old) ((view_of self.old).home channel) work.old (view_of self.new) work.new };
-
-    /// The head of a channel makes a write to its transport, where a flushed byte waits and it has not failed. False where
-    /// it made none.
-    fn write(&mut self, channel: usize, work: &mut Outputs) -> bool
-        requires there { channel < count self.old }
-        requires stands { (world : World) × stands world self.old }
-        requires places { HasPlaces work.old.stopped (view_of self.old).lanes }
-        ensures enabled { may_write self.old channel result }
-        ensures idle { result ≡ false → (self.new ≡ self.old) × (work.new ≡ work.old) }
-        ensures writes { result ≡ true → writes self.old channel work.old self.new work.new }
+        ensures moves { result ≡ true → moves self.old by channel work.old self.new work.new }
         ensures view { result ≡ true → NodesGive (view_of self.old) ((view_of self.old).home channel) work.old (view_of self.new) work.new }
         ensures stands { (world : World) → stands world self.old → stands world self.new }
         ensures makes { (world : World) → stands world self.old → NodesMake world (view_of self.old) ((view_of self.old).home channel) work.old (view_of self.new) work.new };

@@ -1,8 +1,10 @@
--- The head of a part makes a read step or a write, or none.
+-- The head of a part makes a move, a read step or a write, or none.
 use Rattle.std.proofs.Common.{◌≡◌, ◌≢◌, ℕ, Bool, true, false, not, ◌&&◌, List, Option, Some, None, slice_get, refl, ap, sym, ◌∙◌}
 use Rattle.std.proofs.lemmas.Bool.{both_ways}
 use Rattle.std.proofs.lemmas.Option.{same_Some}
 use Rattle.pl_context.specs.OutputsViews.{OutputsView}
+use Rattle.pl_flow.specs.declared.moves.HeadMove.{HeadMove}
+use Rattle.pl_flow.specs.declared.moves.HeadMove.TheVariants as head
 use Rattle.pl_head.specs.declared.heads.OutStep.{OutStep}
 use Rattle.pl_head.specs.declared.heads.OutStep.TheVariants as step
 use Rattle.pl_head.specs.declared.heads.ReadStep.{ReadStep}
@@ -10,8 +12,8 @@ use Rattle.pl_head.specs.declared.heads.ReadStep.TheVariants as reading
 use Rattle.pl_head.specs.ReadSteps.{has_step}
 use Rattle.pl_head.specs.Transports.{TransportState}
 use Rattle.pl_head.specs.HeadStand.{HeadView, is_held, is_idle, read_answer}
-use Rattle.pl_part.specs.Parts.{PartView, PartReads, PartWrites}
-use Rattle.pl_replay.specs.Channels.{MayRead, MayWrite}
+use Rattle.pl_part.specs.Parts.{PartView, PartReads, PartWrites, PartMoves}
+use Rattle.pl_replay.specs.Channels.{MayRead, MayWrite, MayMove}
 
 -- ---- answers
 
@@ -68,3 +70,13 @@ module _ {S T : Type 0} (state : T → TransportState) (p : PartView S T) (b : O
         let m = writes.head h (ap (λ (x : PartView S T). x.head) (sym same) ∙ head) in
         let w = m.2.waits ys zs sizes after in
         wrote (is_idle state h ys) answer r w.0 w.1 idle moves
+
+  -- ---- any move
+
+  pub moves-idle : (may_refuse : T → ℕ → Type 0) (by : HeadMove) (made : Bool) → PartMoves state may_refuse p by b made p' a → made ≡ false → (p' ≡ p) × (a ≡ b)
+  moves-idle may_refuse head.Read made m is = read-idle m.answer m.reads (m.other is)
+  moves-idle may_refuse head.Out made m is = write-idle may_refuse m.answer m.writes (m.idle is)
+
+  pub may-move : (may_refuse : T → ℕ → Type 0) (by : HeadMove) (made : Bool) → PartMoves state may_refuse p by b made p' a → (ps : List (PartView S T)) (c : ℕ) → slice_get ps c ≡ Some p → MayMove state ps by c made
+  may-move may_refuse head.Read made m ps c own = may-read m.answer m.reads ps c own made m.other m.gave
+  may-move may_refuse head.Out made m ps c own = may-write may_refuse m.answer m.writes ps c own made m.idle m.wrote

@@ -1,5 +1,5 @@
 -- What nodes keep at each call they keep in each move, and so do the channels of a net keep to their plan.
-use Rattle.std.proofs.Common.{◌≡◌, ◌≢◌, ℕ, zero, suc, Bool, List, length, Some, ap, sym, ◌∙◌, subst, inl, inr}
+use Rattle.std.proofs.Common.{◌≡◌, ℕ, zero, suc, Bool, true, List, length, Some, refl, ap, sym, ◌∙◌, subst, inl, inr}
 use Rattle.std.specs.Prelude.{slice_get}
 use Rattle.std.proofs.Math.ListN.{set}
 use Rattle.std.proofs.lemmas.Bool.Decides.{eqb_tells}
@@ -9,18 +9,18 @@ use Rattle.pl_event.specs.declared.envelopes.Envelope.{Envelope}
 use Rattle.pl_event.specs.Meaning.{Meaning}
 use Rattle.pl_event.proofs.Lists.{at_set_same, at_set_other}
 use Rattle.pl_context.specs.declared.standing.Took.{Took}
-use Rattle.pl_head.specs.declared.heads.OutStep.{OutStep}
-use Rattle.pl_head.specs.declared.heads.OutStep.TheVariants as step
-use Rattle.pl_head.specs.declared.heads.ReadStep.TheVariants as reading
 use Rattle.pl_context.specs.OutputsViews.{OutputsView}
+use Rattle.pl_flow.specs.declared.moves.HeadMove.{HeadMove}
+use Rattle.pl_flow.specs.declared.moves.HeadMove.TheVariants as head
+use Rattle.pl_head.specs.declared.heads.ReadStep.{ReadStep}
 use Rattle.pl_head.specs.Transports.{TransportState}
 use Rattle.pl_net.specs.NodesViews.{NodesView}
 use Rattle.pl_net.specs.Nets.{CoreView, IsStep, Steps, Settles, RunsTask, Gives}
-use Rattle.pl_part.specs.Parts.{PartView, SamePart, PartTakes, PartReads, PartWrites}
+use Rattle.pl_part.specs.Parts.{PartView, SamePart, PartTakes, PartReads, PartMoves}
 use Rattle.pl_channel.specs.PlanStand.{PartKeepsPlan, PartsKeepPlan}
 use Rattle.pl_channel.proofs.PlanLemmas.{part-takes-keeps, part-reads-keeps, part-writes-keeps}
 use Rattle.pl_replay.specs.Channels.{HasMoved, home_of}
-use Rattle.pl_replay.specs.Moves.{nodes_view, nodes_take, nodes_read, nodes_write, Makes}
+use Rattle.pl_replay.specs.Moves.{nodes_view, nodes_take, nodes_move, Makes}
 use Rattle.pl_replay.specs.declared.channels.Channels.{Channels}
 use Rattle.pl_world.specs.declared.moves.Move.{Move}
 use Rattle.pl_world.specs.declared.moves.Move.TheVariants.{Read, Task, Hand, Out}
@@ -44,9 +44,9 @@ module _ {N : Type 0} (view_of : N → NodesView) (takes : N → Envelope → Ou
   pub task-keeps : (x : ℕ) (c c' : CoreView N) → RunsTask view_of takes x c c' → P c.nodes → P c'.nodes
   task-keeps x c c' r held = settles-keep x r.mid c' r.settles (keeps c.nodes r.mid.nodes r.envelope c.work r.mid.work r.taken held)
 
-  pub gives-keep : (gives : N → ℕ → OutputsView → N → OutputsView → Type 0) → ((n n' : N) (channel : ℕ) (before after : OutputsView) → gives n channel before n' after → P n → P n')
-      → (x channel : ℕ) (c c' : CoreView N) → Gives view_of takes gives x channel c c' → P c.nodes → P c'.nodes
-  gives-keep gives kept x channel c c' g held = settles-keep x (record c { nodes = g.nodes; work = g.work }) c' g.settles (kept c.nodes g.nodes channel c.work g.work g.given held)
+  pub gives-keep : (moves : N → HeadMove → ℕ → OutputsView → N → OutputsView → Type 0) → ((n n' : N) (by : HeadMove) (channel : ℕ) (before after : OutputsView) → moves n by channel before n' after → P n → P n')
+      → (x : ℕ) (by : HeadMove) (channel : ℕ) (c c' : CoreView N) → Gives view_of takes moves x by channel c c' → P c.nodes → P c'.nodes
+  gives-keep moves kept x by channel c c' g held = settles-keep x (record c { nodes = g.nodes; work = g.work }) c' g.settles (kept c.nodes g.nodes by channel c.work g.work g.moved held)
 
 -- ---- the plan
 
@@ -75,16 +75,22 @@ module _ {S T : Type 0} (meaning : S → Meaning) (stands_after : S → List Eve
   takes-kept n n' e before after t = moved-keeps (λ part part'. (answer : Took) × PartTakes meaning stands_after is_spent state part e before answer part' after)
       (λ p part part' same w. part-takes-keeps meaning stands_after is_spent state p part part' e before after w.0 same w.1) n.parts.items n'.parts.items e.lane.channel t
 
+  part-moves-keeps : (p : ChannelPlan) (part part' : PartView S T) (by : HeadMove) (before after : OutputsView) → SamePart part part' → PartMoves state may_refuse part by before true part' after
+      → PartKeepsPlan state p part → PartKeepsPlan state p part'
+  part-moves-keeps p part part' head.Read before after same m =
+      part-reads-keeps meaning stands_after is_spent state p part part' before after same (subst (λ (answer : ReadStep). PartReads state part before answer part' after) (m.gave refl) m.reads)
+  part-moves-keeps p part part' head.Out before after same m = part-writes-keeps meaning stands_after is_spent state p may_refuse part part' before after m.answer same m.writes
+
+  moves-kept : (n n' : Channels S T) (by : HeadMove) (channel : ℕ) (before after : OutputsView) → nodes_move state may_refuse n by channel before n' after → keeps n → keeps n'
+  moves-kept n n' by channel before after m = moved-keeps (λ part part'. PartMoves state may_refuse part by before true part' after) (λ p part part' same. part-moves-keeps p part part' by before after same) n.parts.items n'.parts.items channel m
+
+  gives-kept : (by : HeadMove) (channel : ℕ) (c c' : CoreView (Channels S T))
+      → Gives (nodes_view meaning) (nodes_take meaning stands_after is_spent state) (nodes_move state may_refuse) (home_of c.nodes.parts.items channel) by channel c c' → keeps c.nodes → keeps c'.nodes
+  gives-kept by channel c c' g k = gives-keep (nodes_view meaning) (nodes_take meaning stands_after is_spent state) keeps takes-kept (nodes_move state may_refuse) moves-kept (home_of c.nodes.parts.items channel) by channel c c' g k
+
   -- Whatever move is made, the nodes of all channels go on as the plan has them.
-  pub makes-keeps : (capacity : ℕ) (move : Move) (c c' : CoreView (Channels S T)) → Makes meaning stands_after is_spent state may_refuse capacity move c c'
-      → PartsKeepPlan state plan c.nodes.parts.items → PartsKeepPlan state plan c'.nodes.parts.items
-  makes-keeps capacity (Read channel) c c' m k = gives-keep (nodes_view meaning) (nodes_take meaning stands_after is_spent state) keeps takes-kept (nodes_read state)
-      (λ n n' d before after r. moved-keeps (λ part part'. PartReads state part before reading.Gave part' after)
-      (λ p part part' same. part-reads-keeps meaning stands_after is_spent state p part part' before after same) n.parts.items n'.parts.items d r)
-      (home_of c.nodes.parts.items channel) channel c c' m k
+  pub makes-keeps : (capacity : ℕ) (move : Move) (c c' : CoreView (Channels S T)) → Makes meaning stands_after is_spent state may_refuse capacity move c c' → keeps c.nodes → keeps c'.nodes
+  makes-keeps capacity (Read channel) c c' m k = gives-kept head.Read channel c c' m k
   makes-keeps capacity (Task x) c c' m k = task-keeps (nodes_view meaning) (nodes_take meaning stands_after is_spent state) keeps takes-kept x c c' m k
   makes-keeps capacity (Hand x) c c' m k = subst keeps (sym m.hands.nodes) k
-  makes-keeps capacity (Out channel) c c' m k = gives-keep (nodes_view meaning) (nodes_take meaning stands_after is_spent state) keeps takes-kept (nodes_write state may_refuse)
-      (λ n n' d before after r. moved-keeps (λ part part'. (answer : OutStep) × (answer ≢ step.Idle) × PartWrites state may_refuse part before answer part' after)
-      (λ p part part' same w. part-writes-keeps meaning stands_after is_spent state p may_refuse part part' before after w.0 same w.2) n.parts.items n'.parts.items d r)
-      (home_of c.nodes.parts.items channel) channel c c' m k
+  makes-keeps capacity (Out channel) c c' m k = gives-kept head.Out channel c c' m k

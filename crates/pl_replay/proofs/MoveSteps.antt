@@ -1,10 +1,11 @@
 -- A move leads from one stand of a net to the next.
 use Rattle.std.proofs.Common.{◌≡◌, ℕ, suc, ◌<◌, Bool, true, false, List, [], ◌∷◌, length, map, get_or, nat_lt, Option, Some, None, refl, ap, sym, ◌∙◌, subst, arith}
-use Rattle.std.specs.Prelude.{is_some}
+use Rattle.std.specs.Prelude.{is_some, vec_len}
 use Rattle.std.proofs.lemmas.Bool.{ltb-true, lt-ltb, both_ways}
 use Rattle.std.proofs.lemmas.Option.{slice_get-get_or}
 use Rattle.pl_event.specs.declared.events.Event.{Event}
 use Rattle.pl_event.specs.Meaning.{Meaning}
+use Rattle.pl_event.specs.Worlds.{World}
 use Rattle.pl_event.proofs.Lists.{All-at}
 use Rattle.pl_event.specs.declared.envelopes.Envelope.{Envelope}
 use Rattle.pl_context.specs.OutputsViews.{OutputsView}
@@ -57,7 +58,7 @@ module _ {S T : Type 0} (meaning : S → Meaning) (stands_after : S → List Eve
 
   -- A core that keeps its capacity and its executors, and whose nodes keep the plan, stands after a move as before it.
   goes-on : (plan : Plan) (backlogs after : ℕ → List (Entry (Unit {0}))) (core core' : Core (Channels S T)) (x : ℕ) → NetStands meaning stands_after state plan backlogs core
-      → core'.capacity ≡ core.capacity → length core'.executors.items ≡ length core.executors.items → core'.work.items ≡ []
+      → core'.capacity ≡ core.capacity → vec_len core'.executors ≡ vec_len core.executors → core'.work.items ≡ []
       → CoreStands (nodes_view meaning) (nodes_stand meaning stands_after state) (world_of false plan) x (core_view core' after)
       → PartsKeepPlan state plan core'.nodes.parts.items → NetStands meaning stands_after state plan after core'
   goes-on plan backlogs after core core' x n capacity count empty stands keeps = record {
@@ -66,7 +67,7 @@ module _ {S T : Type 0} (meaning : S → Meaning) (stands_after : S → List Eve
     stands = rest-stands (nodes_view meaning) (nodes_stand meaning stands_after state) (world_of false plan) x 0 (core_view core' after) empty stands;
     rests = empty;
     capacity = capacity ∙ n.capacity;
-    executors = count ∙ n.executors;
+    executors = sym core'.executors.ok.0 ∙ count ∙ core.executors.ok.0 ∙ n.executors;
     keeps = keeps;
   }
 
@@ -75,7 +76,7 @@ module _ {S T : Type 0} (meaning : S → Meaning) (stands_after : S → List Eve
       → IsEnabled meaning stands_after is_spent state may_refuse plan.capacity move (core_view core backlogs) made
       → (made ≡ true → (after : ℕ → List (Entry (Unit {0}))) × CoreStands (nodes_view meaning) (nodes_stand meaning stands_after state) (world_of false plan) x (core_view core' after)
       × Makes meaning stands_after is_spent state may_refuse plan.capacity move (core_view core backlogs) (core_view core' after))
-      → (made ≡ false → IsUnmoved core core') → core'.capacity ≡ core.capacity → length core'.executors.items ≡ length core.executors.items → core'.work.items ≡ []
+      → (made ≡ false → IsUnmoved core core') → core'.capacity ≡ core.capacity → vec_len core'.executors ≡ vec_len core.executors → core'.work.items ≡ []
       → NetStands meaning stands_after state plan backlogs core
       → (after : ℕ → List (Entry (Unit {0}))) × NetStands meaning stands_after state plan after core'
       × LeadsTo meaning stands_after is_spent state may_refuse plan.capacity move (core_view core backlogs) made (core_view core' after)
@@ -93,6 +94,17 @@ module _ {S T : Type 0} (meaning : S → Meaning) (stands_after : S → List Eve
             (subst (λ (ns : Channels S T). PartsKeepPlan state plan ns.parts.items) (sym same.nodes) n.keeps),
         record { enabled = enabled; makes = λ yes. absurd (both_ways false refl yes); rests = λ _. record { nodes = same.nodes; executors = ap (map waits_of) same.executors; backlogs = refl; work = same.work } },
       )
+
+  -- ---- a move of a head
+
+  -- What it gives is worked off on the head's own executor.
+  pub head-goes-on : (move : Move) (core core' : Core (Channels S T)) (made : Bool) (home : ℕ) → ((plan : Plan) (backlogs : ℕ → List (Entry (Unit {0}))) → IsEnabled meaning stands_after is_spent state may_refuse plan.capacity move (core_view core backlogs) made)
+      → (made ≡ true → (plan : Plan) (world : World) (x : ℕ) (backlogs : ℕ → List (Entry (Unit {0}))) → CoreStands (nodes_view meaning) (nodes_stand meaning stands_after state) world x (core_view core backlogs)
+      → (after : ℕ → List (Entry (Unit {0}))) × CoreStands (nodes_view meaning) (nodes_stand meaning stands_after state) world home (core_view core' after)
+      × Makes meaning stands_after is_spent state may_refuse plan.capacity move (core_view core backlogs) (core_view core' after))
+      → (made ≡ false → core' ≡ core) → core'.capacity ≡ core.capacity → vec_len core'.executors ≡ vec_len core.executors → core'.work.items ≡ [] → GoesOn move core made core'
+  head-goes-on move core core' made home enabled runs idle capacity count empty = λ plan backlogs n.
+      made-goes-on move core core' made home plan backlogs (enabled plan backlogs) (λ yes. runs yes plan (world_of false plan) 0 backlogs n.stands) (λ no. not-moved core core' (idle no)) capacity count empty n
 
   -- ---- a task
 
@@ -113,7 +125,7 @@ module _ {S T : Type 0} (meaning : S → Meaning) (stands_after : S → List Eve
       → (made ≡ true → (after : ℕ → List (Entry (Unit {0}))) × CoreStands (nodes_view meaning) (nodes_stand meaning stands_after state) (world_of false plan) 0 (core_view core' after)
       × ((i : ℕ) × (oldest core.capacity (core_view core backlogs) x ≡ Some i) × HandsOver x i (core_view core backlogs) (core_view core' after)))
       → (made ≡ false → oldest core.capacity (core_view core backlogs) x ≡ None)
-      → (made ≡ false → core' ≡ core) → core'.capacity ≡ core.capacity → length core'.executors.items ≡ length core.executors.items
+      → (made ≡ false → core' ≡ core) → core'.capacity ≡ core.capacity → vec_len core'.executors ≡ vec_len core.executors
       → NetStands meaning stands_after state plan backlogs core
       → (after : ℕ → List (Entry (Unit {0}))) × NetStands meaning stands_after state plan after core'
       × LeadsTo meaning stands_after is_spent state may_refuse plan.capacity (Hand x) (core_view core backlogs) made (core_view core' after)
@@ -134,7 +146,7 @@ module _ {S T : Type 0} (meaning : S → Meaning) (stands_after : S → List Eve
 
   -- where a queue could not grow, it stands as it stood
   pub room-goes-on : (core core' : Core (Channels S T)) (plan : Plan) (backlogs : ℕ → List (Entry (Unit {0}))) → IsUnmovedButRoom core core'
-      → CoreStands (nodes_view meaning) (nodes_stand meaning stands_after state) (world_of false plan) 0 (core_view core' backlogs) → core'.capacity ≡ core.capacity → length core'.executors.items ≡ length core.executors.items
+      → CoreStands (nodes_view meaning) (nodes_stand meaning stands_after state) (world_of false plan) 0 (core_view core' backlogs) → core'.capacity ≡ core.capacity → vec_len core'.executors ≡ vec_len core.executors
       → NetStands meaning stands_after state plan backlogs core → NetStands meaning stands_after state plan backlogs core'
   room-goes-on core core' plan backlogs same stands capacity count n = goes-on plan backlogs backlogs core core' 0 n capacity count (ap (λ (w : OutputsView). w.items) same.work ∙ n.rests) stands
       (subst (λ (ns : Channels S T). PartsKeepPlan state plan ns.parts.items) (sym same.nodes) n.keeps)
@@ -153,7 +165,7 @@ module _ {S T : Type 0} (meaning : S → Meaning) (stands_after : S → List Eve
   executor-there plan backlogs core x n there = subst (λ (k : ℕ). x < k) (sym n.executors) (ltb-true x plan.executors there)
 
   -- that of a channel's head is
-  pub home-there : (plan : Plan) (backlogs : ℕ → List (Entry (Unit {0}))) (core : Core (Channels S T)) (channel : ℕ) → NetStands meaning stands_after state plan backlogs core
+  home-there : (plan : Plan) (backlogs : ℕ → List (Entry (Unit {0}))) (core : Core (Channels S T)) (channel : ℕ) → NetStands meaning stands_after state plan backlogs core
       → channel < length core.nodes.parts.items → home_of core.nodes.parts.items channel < length core.executors.items
   home-there plan backlogs core channel n there =
       let part = at-index core.nodes.parts.items channel there in
@@ -164,3 +176,12 @@ module _ {S T : Type 0} (meaning : S → Meaning) (stands_after : S → List Eve
       let placed = All-at (λ (x : ℕ). x < plan.executors) p.0.executors (head_hop part.0) (get_or p.0.executors (head_hop part.0) 0) ruled.placed (slice_get-get_or p.0.executors (head_hop part.0) 0 hop) in
       subst (λ (o : Option (PartView S T)). option_map_or (λ (q : PartView S T). executor_at q (head_hop q)) o 0 < length core.executors.items) (sym part.1)
       (subst (λ (l : List ℕ). get_or l (head_hop part.0) 0 < length core.executors.items) (sym keeps.executors) (subst (λ (k : ℕ). get_or p.0.executors (head_hop part.0) 0 < k) (sym n.executors) placed))
+
+  -- and so it is where a move names the channel
+  pub head-home : (core seen : Core (Channels S T)) → core ≡ seen → (channel : ℕ)
+      → ((plan : Plan) (backlogs : ℕ → List (Entry (Unit {0}))) → NetStands meaning stands_after state plan backlogs seen → nat_lt channel (length plan.channels) ≡ true)
+      → (plan : Plan) × (backlogs : ℕ → List (Entry (Unit {0}))) × NetStands meaning stands_after state plan backlogs core → home_of core.nodes.parts.items channel < vec_len core.executors
+  head-home core seen view channel named some =
+      let named_here = named some.0 some.1 (subst (NetStands meaning stands_after state some.0 some.1) view some.2) in
+      let home = home-there some.0 some.1 core channel some.2 (channel-there some.0 some.1 core channel some.2 named_here) in
+      let size = core.executors.ok.0 in omega (arith, home, size)

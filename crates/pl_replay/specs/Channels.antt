@@ -1,5 +1,5 @@
 -- The nodes of all channels, as contracts see them: by the number of a channel the part with all of its nodes.
-use Rattle.std.specs.Prelude.{◌≡◌, ◌≢◌, ℕ, ◌+◌, ◌<◌, ◌≤◌, ◌^◌, Bool, true, false, not, ◌&&◌, ◌||◌, ◌==◌, List, ◌∷◌, ◌++◌, length, map, replicate, get_or, nat_lt, slice_get, slice_set, sum_by, flat_map, Option, Some, is_some}
+use Rattle.std.specs.Prelude.{◌≡◌, ℕ, ◌+◌, ◌<◌, ◌≤◌, ◌^◌, Bool, true, false, not, ◌&&◌, ◌||◌, ◌==◌, List, ◌∷◌, ◌++◌, length, map, replicate, get_or, nat_lt, slice_get, slice_set, sum_by, flat_map, Option, Some, is_some}
 use Rattle.std.specs.Option.{option_map_or}
 use Rattle.pl_event.specs.declared.events.Event.{Event}
 use Rattle.pl_event.specs.declared.envelopes.Envelope.{Envelope}
@@ -12,16 +12,15 @@ use Rattle.pl_context.specs.declared.standing.Took.{Took}
 use Rattle.pl_context.specs.ContextViews.{ContextView}
 use Rattle.pl_context.specs.OutputsViews.{OutputsView}
 use Rattle.pl_flow.specs.Flows.{Point, nowhere}
-use Rattle.pl_head.specs.declared.heads.OutStep.{OutStep}
-use Rattle.pl_head.specs.declared.heads.OutStep.TheVariants as step
-use Rattle.pl_head.specs.declared.heads.ReadStep.TheVariants as reading
+use Rattle.pl_flow.specs.declared.moves.HeadMove.{HeadMove}
+use Rattle.pl_flow.specs.declared.moves.HeadMove.TheVariants as head
 use Rattle.pl_head.specs.declared.inputs.ReadPlan.{ReadPlan}
 use Rattle.pl_head.specs.Marks.{Change}
 use Rattle.pl_head.specs.ReadSteps.{has_step}
 use Rattle.pl_head.specs.Transports.{TransportState}
 use Rattle.pl_head.specs.HeadStand.{HeadView, StandsAfter, ReadsStand, is_held, is_idle}
 use Rattle.pl_part.specs.Paths.{writer_hop}
-use Rattle.pl_part.specs.Parts.{PartView, SamePart, PartHolds, PartTakes, PartReads, PartWrites, head_hop, part_taken, part_lanes, part_writes, part_came}
+use Rattle.pl_part.specs.Parts.{PartView, SamePart, PartHolds, PartTakes, PartMoves, head_hop, part_taken, part_lanes, part_writes, part_came}
 use Rattle.pl_net.specs.NodesViews.{NodesView}
 use Rattle.pl_part.specs.Counts.{part_done}
 
@@ -118,13 +117,9 @@ IsTakenBy meaning stands_after is_spent state ps e before ps' after =
     HasMoved (λ (p p' : PartView _ _). (answer : Took) × PartTakes meaning stands_after is_spent state p e before answer p' after) ps e.lane.channel ps'
 
 module _ {S T : Type 0} (state : T → TransportState) where
-  -- The head of a channel has made a read step.
-  abbrev pub HasRead : List (PartView S T) → ℕ → OutputsView → List (PartView S T) → OutputsView → Type 0
-  HasRead ps c before ps' after = HasMoved (λ (p p' : PartView S T). PartReads state p before reading.Gave p' after) ps c ps'
-
-  -- It has made a write.
-  abbrev pub HasWritten : (T → ℕ → Type 0) → List (PartView S T) → ℕ → OutputsView → List (PartView S T) → OutputsView → Type 0
-  HasWritten may_refuse ps c before ps' after = HasMoved (λ (p p' : PartView S T). (answer : OutStep) × (answer ≢ step.Idle) × PartWrites state may_refuse p before answer p' after) ps c ps'
+  -- The head of a channel has made a move.
+  abbrev pub IsMovedBy : (T → ℕ → Type 0) → List (PartView S T) → HeadMove → ℕ → OutputsView → List (PartView S T) → OutputsView → Type 0
+  IsMovedBy may_refuse ps by c before ps' after = HasMoved (λ (p p' : PartView S T). PartMoves state may_refuse p by before true p' after) ps c ps'
 
   -- Whether its next read step is enabled: one is left and not held, whichever steps were made.
   abbrev pub MayRead : List (PartView S T) → ℕ → Bool → Type 0
@@ -135,3 +130,8 @@ module _ {S T : Type 0} (state : T → TransportState) where
   abbrev pub MayWrite : List (PartView S T) → ℕ → Bool → Type 0
   MayWrite ps c b = (p : PartView S T) (h : HeadView T) (ys zs : List Event) (sizes : List Change) → slice_get ps c ≡ Some p → p.head ≡ Some h
       → StandsAfter state h ys zs sizes → b ≡ not (is_idle state h ys)
+
+  -- Whether a move of its is.
+  abbrev pub MayMove : List (PartView S T) → HeadMove → ℕ → Bool → Type 0
+  MayMove ps head.Read c b = MayRead ps c b
+  MayMove ps head.Out c b = MayWrite ps c b

@@ -5,11 +5,13 @@ use Rattle.pl_event.specs.declared.envelopes.Envelope.{Envelope}
 use Rattle.pl_event.specs.Meaning.{Meaning}
 use Rattle.pl_event.specs.Worlds.{World}
 use Rattle.pl_context.specs.OutputsViews.{OutputsView}
+use Rattle.pl_flow.specs.declared.moves.HeadMove.{HeadMove}
+use Rattle.pl_flow.specs.declared.moves.HeadMove.TheVariants as head
 use Rattle.pl_head.specs.Transports.{TransportState}
 use Rattle.pl_net.specs.Cores.{waits_of}
 use Rattle.pl_net.specs.NodesViews.{NodesView}
 use Rattle.pl_net.specs.Nets.{CoreView, RunsTask, Gives, HandsOver, has_room, queue_at}
-use Rattle.pl_replay.specs.Channels.{channels_view, ChannelsStand, home_of, IsTakenBy, HasRead, HasWritten, MayRead, MayWrite}
+use Rattle.pl_replay.specs.Channels.{channels_view, ChannelsStand, home_of, IsTakenBy, IsMovedBy, MayMove}
 use Rattle.pl_replay.specs.declared.channels.Channels.{Channels}
 use Rattle.pl_world.specs.declared.moves.Move.{Move}
 use Rattle.pl_world.specs.declared.moves.Move.TheVariants.{Read, Task, Hand, Out}
@@ -42,28 +44,25 @@ nodes_stand meaning stands_after state world n = ChannelsStand world meaning sta
 abbrev pub nodes_take : {S T : Type 0} → (S → Meaning) → (S → List Event → Type 0) → (S → Bool) → (T → TransportState) → Channels S T → Envelope → OutputsView → Channels S T → OutputsView → Type 0
 nodes_take meaning stands_after is_spent state n e before n' after = IsTakenBy meaning stands_after is_spent state n.parts.items e before n'.parts.items after
 
-abbrev pub nodes_read : {S T : Type 0} → (T → TransportState) → Channels S T → ℕ → OutputsView → Channels S T → OutputsView → Type 0
-nodes_read state n channel before n' after = HasRead state n.parts.items channel before n'.parts.items after
-
-abbrev pub nodes_write : {S T : Type 0} → (T → TransportState) → (T → ℕ → Type 0) → Channels S T → ℕ → OutputsView → Channels S T → OutputsView → Type 0
-nodes_write state may_refuse n channel before n' after = HasWritten state may_refuse n.parts.items channel before n'.parts.items after
+abbrev pub nodes_move : {S T : Type 0} → (T → TransportState) → (T → ℕ → Type 0) → Channels S T → HeadMove → ℕ → OutputsView → Channels S T → OutputsView → Type 0
+nodes_move state may_refuse n by channel before n' after = IsMovedBy state may_refuse n.parts.items by channel before n'.parts.items after
 
 -- ---- moves
 
 module _ {S T : Type 0} (meaning : S → Meaning) (stands_after : S → List Event → Type 0) (is_spent : S → Bool) (state : T → TransportState) (may_refuse : T → ℕ → Type 0) where
   -- whether a move is enabled, where queues hold so many items
   abbrev pub IsEnabled : ℕ → Move → CoreView (Channels S T) → Bool → Type 0
-  IsEnabled capacity (Read channel) c b = MayRead state c.nodes.parts.items channel b
+  IsEnabled capacity (Read channel) c b = MayMove state c.nodes.parts.items head.Read channel b
   IsEnabled capacity (Task x) c b = b ≡ nat_lt 0 (length (queue_at c.executors x))
   IsEnabled capacity (Hand x) c b = b ≡ is_some (oldest capacity c x)
-  IsEnabled capacity (Out channel) c b = MayWrite state c.nodes.parts.items channel b
+  IsEnabled capacity (Out channel) c b = MayMove state c.nodes.parts.items head.Out channel b
 
   -- what one that is enabled does
   abbrev pub Makes : ℕ → Move → CoreView (Channels S T) → CoreView (Channels S T) → Type 0
-  Makes capacity (Read channel) c c' = Gives (nodes_view meaning) (nodes_take meaning stands_after is_spent state) (nodes_read state) (home_of c.nodes.parts.items channel) channel c c'
+  Makes capacity (Read channel) c c' = Gives (nodes_view meaning) (nodes_take meaning stands_after is_spent state) (nodes_move state may_refuse) (home_of c.nodes.parts.items channel) head.Read channel c c'
   Makes capacity (Task x) c c' = RunsTask (nodes_view meaning) (nodes_take meaning stands_after is_spent state) x c c'
   Makes capacity (Hand x) c c' = HandsOldest capacity x c c'
-  Makes capacity (Out channel) c c' = Gives (nodes_view meaning) (nodes_take meaning stands_after is_spent state) (nodes_write state may_refuse) (home_of c.nodes.parts.items channel) channel c c'
+  Makes capacity (Out channel) c c' = Gives (nodes_view meaning) (nodes_take meaning stands_after is_spent state) (nodes_move state may_refuse) (home_of c.nodes.parts.items channel) head.Out channel c c'
 
   -- A move was made where it is enabled, and one that was not changes nothing.
   pub record LeadsTo (capacity : ℕ) (move : Move) (c : CoreView (Channels S T)) (made : Bool) (c' : CoreView (Channels S T)) : Type 0 where

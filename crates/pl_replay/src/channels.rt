@@ -1,11 +1,12 @@
 //! The nodes of all channels.
 
 ghost use Rattle.std.specs.Prelude.{length};
-ghost use Rattle.pl_replay.specs.Channels.{channels_view, ChannelsStand, IsTakenBy, HasRead, HasWritten, MayRead, MayWrite};
+ghost use Rattle.pl_replay.specs.Channels.{channels_view, ChannelsStand, IsTakenBy, IsMovedBy, MayMove};
 
 use pl_context::Outputs;
 use pl_event::{Envelope, Lane, Stage};
-use pl_head::{OutStep, ReadStep, Transport};
+use pl_flow::HeadMove;
+use pl_head::Transport;
 use pl_net::Nodes;
 use pl_part::ChannelPart;
 
@@ -22,13 +23,9 @@ impl<S: Stage, T: Transport> Nodes for Channels<S, T> {
 
     ghost takes = { λ channels envelope before after work. IsTakenBy S.meaning S.stands_after S.is_spent T.state channels.parts.items envelope before after.parts.items work };
 
-    ghost reads = { λ channels channel before after work. HasRead T.state channels.parts.items channel before after.parts.items work };
+    ghost moves = { λ channels by channel before after work. IsMovedBy T.state T.may_refuse channels.parts.items by channel before after.parts.items work };
 
-    ghost writes = { λ channels channel before after work. HasWritten T.state T.may_refuse channels.parts.items channel before after.parts.items work };
-
-    ghost may_read = { λ channels channel answer. MayRead T.state channels.parts.items channel answer };
-
-    ghost may_write = { λ channels channel answer. MayWrite T.state channels.parts.items channel answer };
+    ghost may_move = { λ channels by channel answer. MayMove T.state channels.parts.items by channel answer };
 
     ghost count = { λ channels. length channels.parts.items };
 
@@ -45,11 +42,7 @@ impl<S: Stage, T: Transport> Nodes for Channels<S, T> {
         let _ = self.parts[envelope.lane.channel as usize].take(envelope, work);
     }
 
-    fn read(&mut self, channel: usize, work: &mut Outputs) -> bool {
-        matches!(self.parts[channel].next_read(work), ReadStep::Gave)
-    }
-
-    fn write(&mut self, channel: usize, work: &mut Outputs) -> bool {
-        !matches!(self.parts[channel].write_once(work), OutStep::Idle)
+    fn move_head(&mut self, by: HeadMove, channel: usize, work: &mut Outputs) -> bool {
+        self.parts[channel].move_head(by, work)
     }
 }

@@ -21,6 +21,7 @@ use crate::placing::{idle_executors, lane_count};
 use crate::reporting::{are_drained, into_reports, reports_of};
 use crate::starting::placed;
 use pl_event::Stage;
+use pl_flow::HeadMove;
 use pl_head::Transport;
 use pl_net::Core;
 use pl_part::ChannelPart;
@@ -103,10 +104,10 @@ impl<S: Stage, T: Transport> Net<S, T> {
             return Err(ReplayFault::NoSuch);
         }
         match step {
-            Move::Read(channel) => Ok(self.core.read(channel as usize)),
+            Move::Read(channel) => Ok(self.core.move_head(HeadMove::Read, channel as usize)),
             Move::Task(executor) => Ok(self.core.run_task(executor as usize)),
             Move::Hand(executor) => Ok(self.core.hand(executor as usize)?),
-            Move::Out(channel) => Ok(self.core.write(channel as usize)),
+            Move::Out(channel) => Ok(self.core.move_head(HeadMove::Out, channel as usize)),
         }
     }
 

@@ -1,4 +1,4 @@
-use Rattle.std.proofs.Common.{◌≡◌, ℕ, Bool, true, Ok, ap, sym, ◌∙◌, subst, arith, false}
+use Rattle.std.proofs.Common.{◌≡◌, ℕ, Bool, true, Ok, ap, sym, ◌∙◌, subst, false}
 use Rattle.pl_net.specs.Cores.{core_view}
 use Rattle.pl_net.specs.Nets.{LacksMemory}
 use Rattle.pl_net.specs.declared.cores.Core.{Core}
@@ -10,65 +10,27 @@ use Rattle.pl_replay.specs.MoveModel.{is_there, is_hand}
 use Rattle.pl_replay.specs.Moves.{IsEnabled, nodes_view, nodes_stand}
 use Rattle.pl_replay.specs.NetStand.{NetStands}
 use Rattle.pl_replay.specs.declared.channels.Channels.{Channels}
-use Rattle.pl_replay.proofs.MoveSteps.{GoesOn, goes-on-as, stands-on, hand-wanted, made-goes-on, home-there, channel-there, not-moved, task-enabled, hand-goes-on, room-goes-on}
+use Rattle.pl_replay.proofs.MoveSteps.{GoesOn, goes-on-as, stands-on, hand-wanted, made-goes-on, head-goes-on, head-home, task-enabled, hand-goes-on, room-goes-on}
 use Rattle.pl_net.proofs.CoreSteps.{rest-stands}
 use Rattle.pl_replay.proofs.nets.Net.apply.Goals as goal
 
-pub read-requires-clause-home : goal.read-requires-clause-home
-read-requires-clause-home g c =
-    let w = c.self.invariant in
-    let core = c.self.inside.core in
-    let n = subst (NetStands g.S.Stage.meaning g.S.Stage.stands_after g.T.Transport.state w.0 w.1) c.self.view_is w.2 in
-    let there = channel-there g.S.Stage.meaning g.S.Stage.stands_after g.T.Transport.state w.0 w.1 core c.in-Read.channel w.2
-    (sym (ap (is_there w.0) c.in-Read.is) ∙ sym (c.is_there.ensures w.0 w.1 n) ∙ c.if-not-is_there.false) in
-    let size = core.executors.ok.0 in
-    let home = home-there g.S.Stage.meaning g.S.Stage.stands_after g.T.Transport.state w.0 w.1 core c.in-Read.channel w.2 there in
-    omega (arith, home, size)
+pub move_head-requires-clause-home : goal.move_head-requires-clause-home
+move_head-requires-clause-home g c =
+    head-home g.S.Stage.meaning g.S.Stage.stands_after g.T.Transport.state c.self.inside.core _ c.self.view_is c.in-Read.channel
+    (λ plan backlogs n. sym (ap (is_there plan) c.in-Read.is) ∙ sym (c.is_there.ensures plan backlogs n) ∙ c.if-not-is_there.false) c.self.invariant
 
-pub write-requires-clause-home : goal.write-requires-clause-home
-write-requires-clause-home g c =
-    let w = c.self.invariant in
-    let core = c.self.inside.core in
-    let n = subst (NetStands g.S.Stage.meaning g.S.Stage.stands_after g.T.Transport.state w.0 w.1) c.self.view_is w.2 in
-    let there = channel-there g.S.Stage.meaning g.S.Stage.stands_after g.T.Transport.state w.0 w.1 core c.in-Out.channel w.2
-    (sym (ap (is_there w.0) c.in-Out.is) ∙ sym (c.is_there.ensures w.0 w.1 n) ∙ c.if-not-is_there.false) in
-    let size = core.executors.ok.0 in
-    let home = home-there g.S.Stage.meaning g.S.Stage.stands_after g.T.Transport.state w.0 w.1 core c.in-Out.channel w.2 there in
-    omega (arith, home, size)
+pub move_head-requires-in-Out-clause-home : goal.move_head-requires-in-Out-clause-home
+move_head-requires-in-Out-clause-home g c =
+    head-home g.S.Stage.meaning g.S.Stage.stands_after g.T.Transport.state c.self.inside.core _ c.self.view_is c.in-Out.channel
+    (λ plan backlogs n. sym (ap (is_there plan) c.in-Out.is) ∙ sym (c.is_there.ensures plan backlogs n) ∙ c.if-not-is_there.false) c.self.invariant
 
-read-made : (g : _) (c : goal.After-read g) → GoesOn g.S.Stage.meaning g.S.Stage.stands_after g.S.Stage.is_spent g.T.Transport.state g.T.Transport.may_refuse (Read c.in-Read.channel) c.self.inside.core c.read.result c.read.new.self
-read-made g c = λ plan backlogs n.
-    made-goes-on g.S.Stage.meaning g.S.Stage.stands_after g.S.Stage.is_spent g.T.Transport.state g.T.Transport.may_refuse (Read c.in-Read.channel) c.self.inside.core c.read.new.self c.read.result (home_of c.self.inside.core.nodes.parts.items c.in-Read.channel) plan backlogs
-    c.read.ensures.enabled
-    (λ yes. c.read.ensures.runs yes (world_of false plan) 0 backlogs n.stands)
-    (λ no. not-moved c.self.inside.core c.read.new.self (c.read.ensures.idle no))
-    c.read.ensures.capacity
-    (sym c.read.new.self.executors.ok.0 ∙ c.read.ensures.count ∙ c.self.inside.core.executors.ok.0)
-    c.read.ensures.rests
-    n
+read-made : (g : _) (c : goal.After-move_head g) → GoesOn g.S.Stage.meaning g.S.Stage.stands_after g.S.Stage.is_spent g.T.Transport.state g.T.Transport.may_refuse (Read c.in-Read.channel) c.self.inside.core c.move_head.result c.move_head.new.self
+read-made g c = head-goes-on g.S.Stage.meaning g.S.Stage.stands_after g.S.Stage.is_spent g.T.Transport.state g.T.Transport.may_refuse (Read c.in-Read.channel) c.self.inside.core c.move_head.new.self c.move_head.result (home_of c.self.inside.core.nodes.parts.items c.in-Read.channel)
+    (λ _ _. c.move_head.ensures.enabled) (λ yes _. c.move_head.ensures.runs yes) c.move_head.ensures.idle c.move_head.ensures.capacity c.move_head.ensures.count c.move_head.ensures.rests
 
-pub returns-in-Read-clause-made : goal.returns-in-Read-clause-made
-returns-in-Read-clause-made g c = goes-on-as g.S.Stage.meaning g.S.Stage.stands_after g.S.Stage.is_spent g.T.Transport.state g.T.Transport.may_refuse c.args.step (Read c.in-Read.channel) c.in-Read.is c.self.inside.core _ c.self.view_is c.read.result c.read.new.self (read-made g c)
-
-pub invariant_of-self : goal.invariant_of-self
-invariant_of-self g c = stands-on g.S.Stage.meaning g.S.Stage.stands_after g.S.Stage.is_spent g.T.Transport.state g.T.Transport.may_refuse (Read c.in-Read.channel) c.self.inside.core c.read.result c.read.new.self (read-made g c) c.self.invariant
-
-write-made : (g : _) (c : goal.After-write g) → GoesOn g.S.Stage.meaning g.S.Stage.stands_after g.S.Stage.is_spent g.T.Transport.state g.T.Transport.may_refuse (Out c.in-Out.channel) c.self.inside.core c.write.result c.write.new.self
-write-made g c = λ plan backlogs n.
-    made-goes-on g.S.Stage.meaning g.S.Stage.stands_after g.S.Stage.is_spent g.T.Transport.state g.T.Transport.may_refuse (Out c.in-Out.channel) c.self.inside.core c.write.new.self c.write.result (home_of c.self.inside.core.nodes.parts.items c.in-Out.channel) plan backlogs
-    c.write.ensures.enabled
-    (λ yes. c.write.ensures.runs yes (world_of false plan) 0 backlogs n.stands)
-    (λ no. not-moved c.self.inside.core c.write.new.self (c.write.ensures.idle no))
-    c.write.ensures.capacity
-    (sym c.write.new.self.executors.ok.0 ∙ c.write.ensures.count ∙ c.self.inside.core.executors.ok.0)
-    c.write.ensures.rests
-    n
-
-pub returns-in-Out-clause-made : goal.returns-in-Out-clause-made
-returns-in-Out-clause-made g c = goes-on-as g.S.Stage.meaning g.S.Stage.stands_after g.S.Stage.is_spent g.T.Transport.state g.T.Transport.may_refuse c.args.step (Out c.in-Out.channel) c.in-Out.is c.self.inside.core _ c.self.view_is c.write.result c.write.new.self (write-made g c)
-
-pub invariant_of-self-in-Out : goal.invariant_of-self-in-Out
-invariant_of-self-in-Out g c = stands-on g.S.Stage.meaning g.S.Stage.stands_after g.S.Stage.is_spent g.T.Transport.state g.T.Transport.may_refuse (Out c.in-Out.channel) c.self.inside.core c.write.result c.write.new.self (write-made g c) c.self.invariant
+write-made : (g : _) (c : goal.After-move_head-in-Out g) → GoesOn g.S.Stage.meaning g.S.Stage.stands_after g.S.Stage.is_spent g.T.Transport.state g.T.Transport.may_refuse (Out c.in-Out.channel) c.self.inside.core c.move_head-in-Out.result c.move_head-in-Out.new.self
+write-made g c = head-goes-on g.S.Stage.meaning g.S.Stage.stands_after g.S.Stage.is_spent g.T.Transport.state g.T.Transport.may_refuse (Out c.in-Out.channel) c.self.inside.core c.move_head-in-Out.new.self c.move_head-in-Out.result (home_of c.self.inside.core.nodes.parts.items c.in-Out.channel)
+    (λ _ _. c.move_head-in-Out.ensures.enabled) (λ yes _. c.move_head-in-Out.ensures.runs yes) c.move_head-in-Out.ensures.idle c.move_head-in-Out.ensures.capacity c.move_head-in-Out.ensures.count c.move_head-in-Out.ensures.rests
 
 task-made : (g : _) (c : goal.After-run_task g) → GoesOn g.S.Stage.meaning g.S.Stage.stands_after g.S.Stage.is_spent g.T.Transport.state g.T.Transport.may_refuse (Task c.in-Task.executor) c.self.inside.core c.run_task.result c.run_task.new.self
 task-made g c = λ plan backlogs n.
@@ -77,15 +39,9 @@ task-made g c = λ plan backlogs n.
     (λ yes. c.run_task.ensures.runs yes (world_of false plan) backlogs (rest-stands (nodes_view g.S.Stage.meaning) (nodes_stand g.S.Stage.meaning g.S.Stage.stands_after g.T.Transport.state) (world_of false plan) 0 c.in-Task.executor (core_view c.self.inside.core backlogs) n.rests n.stands))
     (λ no. (c.run_task.ensures.idle no).1)
     c.run_task.ensures.capacity
-    (sym c.run_task.new.self.executors.ok.0 ∙ c.run_task.ensures.count ∙ c.self.inside.core.executors.ok.0)
+    c.run_task.ensures.count
     c.run_task.ensures.rests
     n
-
-pub returns-in-Task-clause-made : goal.returns-in-Task-clause-made
-returns-in-Task-clause-made g c = goes-on-as g.S.Stage.meaning g.S.Stage.stands_after g.S.Stage.is_spent g.T.Transport.state g.T.Transport.may_refuse c.args.step (Task c.in-Task.executor) c.in-Task.is c.self.inside.core _ c.self.view_is c.run_task.result c.run_task.new.self (task-made g c)
-
-pub invariant_of-self-in-Task : goal.invariant_of-self-in-Task
-invariant_of-self-in-Task g c = stands-on g.S.Stage.meaning g.S.Stage.stands_after g.S.Stage.is_spent g.T.Transport.state g.T.Transport.may_refuse (Task c.in-Task.executor) c.self.inside.core c.run_task.result c.run_task.new.self (task-made g c) c.self.invariant
 
 hand-made : (g : _) (c : goal.In_ok-hand-in-Hand g) → GoesOn g.S.Stage.meaning g.S.Stage.stands_after g.S.Stage.is_spent g.T.Transport.state g.T.Transport.may_refuse (Hand c.in-Hand.executor) c.self.inside.core c.in_ok-hand-in-Hand.field-0 c.hand.new.self
 hand-made g c = λ plan backlogs n.
@@ -94,11 +50,29 @@ hand-made g c = λ plan backlogs n.
     (λ no. c.in_ok-hand-in-Hand.ensures.none (ap (λ (b : Bool). Ok b) no) (world_of false plan) 0 backlogs n.stands)
     (λ no. c.in_ok-hand-in-Hand.ensures.idle (ap (λ (b : Bool). Ok b) no))
     c.hand.ensures.capacity
-    (sym c.hand.new.self.executors.ok.0 ∙ c.hand.ensures.count ∙ c.self.inside.core.executors.ok.0)
+    c.hand.ensures.count
     n
+
+pub returns-in-Read-clause-made : goal.returns-in-Read-clause-made
+returns-in-Read-clause-made g c = goes-on-as g.S.Stage.meaning g.S.Stage.stands_after g.S.Stage.is_spent g.T.Transport.state g.T.Transport.may_refuse c.args.step (Read c.in-Read.channel) c.in-Read.is c.self.inside.core _ c.self.view_is c.move_head.result c.move_head.new.self (read-made g c)
+
+pub returns-in-Out-clause-made : goal.returns-in-Out-clause-made
+returns-in-Out-clause-made g c = goes-on-as g.S.Stage.meaning g.S.Stage.stands_after g.S.Stage.is_spent g.T.Transport.state g.T.Transport.may_refuse c.args.step (Out c.in-Out.channel) c.in-Out.is c.self.inside.core _ c.self.view_is c.move_head-in-Out.result c.move_head-in-Out.new.self (write-made g c)
+
+pub returns-in-Task-clause-made : goal.returns-in-Task-clause-made
+returns-in-Task-clause-made g c = goes-on-as g.S.Stage.meaning g.S.Stage.stands_after g.S.Stage.is_spent g.T.Transport.state g.T.Transport.may_refuse c.args.step (Task c.in-Task.executor) c.in-Task.is c.self.inside.core _ c.self.view_is c.run_task.result c.run_task.new.self (task-made g c)
 
 pub returns-in_ok-hand-in-Hand-clause-made : goal.returns-in_ok-hand-in-Hand-clause-made
 returns-in_ok-hand-in-Hand-clause-made g c = goes-on-as g.S.Stage.meaning g.S.Stage.stands_after g.S.Stage.is_spent g.T.Transport.state g.T.Transport.may_refuse c.args.step (Hand c.in-Hand.executor) c.in-Hand.is c.self.inside.core _ c.self.view_is c.in_ok-hand-in-Hand.field-0 c.hand.new.self (hand-made g c)
+
+pub invariant_of-self : goal.invariant_of-self
+invariant_of-self g c = stands-on g.S.Stage.meaning g.S.Stage.stands_after g.S.Stage.is_spent g.T.Transport.state g.T.Transport.may_refuse (Read c.in-Read.channel) c.self.inside.core c.move_head.result c.move_head.new.self (read-made g c) c.self.invariant
+
+pub invariant_of-self-in-Out : goal.invariant_of-self-in-Out
+invariant_of-self-in-Out g c = stands-on g.S.Stage.meaning g.S.Stage.stands_after g.S.Stage.is_spent g.T.Transport.state g.T.Transport.may_refuse (Out c.in-Out.channel) c.self.inside.core c.move_head-in-Out.result c.move_head-in-Out.new.self (write-made g c) c.self.invariant
+
+pub invariant_of-self-in-Task : goal.invariant_of-self-in-Task
+invariant_of-self-in-Task g c = stands-on g.S.Stage.meaning g.S.Stage.stands_after g.S.Stage.is_spent g.T.Transport.state g.T.Transport.may_refuse (Task c.in-Task.executor) c.self.inside.core c.run_task.result c.run_task.new.self (task-made g c) c.self.invariant
 
 pub invariant_of-self-in_err-hand-in-Hand : goal.invariant_of-self-in_err-hand-in-Hand
 invariant_of-self-in_err-hand-in-Hand g c =
@@ -106,7 +80,7 @@ invariant_of-self-in_err-hand-in-Hand g c =
       w.0,
       w.1,
       room-goes-on g.S.Stage.meaning g.S.Stage.stands_after g.S.Stage.is_spent g.T.Transport.state g.T.Transport.may_refuse c.self.inside.core c.hand.new.self w.0 w.1 c.in_err-hand-in-Hand.ensures.err (c.in_err-hand-in-Hand.ensures.stays (world_of false w.0) 0 w.1 w.2.stands)
-          c.hand.ensures.capacity (sym c.hand.new.self.executors.ok.0 ∙ c.hand.ensures.count ∙ c.self.inside.core.executors.ok.0) w.2,
+          c.hand.ensures.capacity c.hand.ensures.count w.2,
     )
 
 pub returns-in_err-hand-in-Hand-clause-hand_alone : goal.returns-in_err-hand-in-Hand-clause-hand_alone
@@ -116,7 +90,7 @@ pub returns-in_err-hand-in-Hand-clause-goes_on : goal.returns-in_err-hand-in-Han
 returns-in_err-hand-in-Hand-clause-goes_on g c = λ _ plan backlogs.
     subst (λ (k : Core (Channels g.row.S.Denot g.row.T.Denot)). NetStands g.S.Stage.meaning g.S.Stage.stands_after g.T.Transport.state plan backlogs k → NetStands g.S.Stage.meaning g.S.Stage.stands_after g.T.Transport.state plan backlogs c.hand.new.self) c.self.view_is
     (λ n. room-goes-on g.S.Stage.meaning g.S.Stage.stands_after g.S.Stage.is_spent g.T.Transport.state g.T.Transport.may_refuse c.self.inside.core c.hand.new.self plan backlogs c.in_err-hand-in-Hand.ensures.err (c.in_err-hand-in-Hand.ensures.stays (world_of false plan) 0 backlogs n.stands)
-    c.hand.ensures.capacity (sym c.hand.new.self.executors.ok.0 ∙ c.hand.ensures.count ∙ c.self.inside.core.executors.ok.0) n)
+    c.hand.ensures.capacity c.hand.ensures.count n)
 
 pub returns-in_err-hand-in-Hand-clause-wanted : goal.returns-in_err-hand-in-Hand-clause-wanted
 returns-in_err-hand-in-Hand-clause-wanted g c = λ _ plan backlogs.
