@@ -9,7 +9,7 @@ use Rattle.pl_context.specs.WaitingViews.{Entry}
 use Rattle.pl_flow.specs.Flows.{Point, point, after, on, IsFlow, past}
 use Rattle.pl_net.specs.NodesViews.{NodesView}
 use Rattle.pl_net.specs.Nets.{ExecutorView, NetRuns, queue_at, stops_at, envelopes}
-use Rattle.pl_net.specs.Numbers.{handed_of, made_of}
+use Rattle.pl_net.specs.Numbers.{made_of}
 
 -- each item that follows moves a lane on by one
 past-next : (world : World) (p : Point) (xs : List Envelope) → IsFlow world p xs → (past p xs).next ≡ p.next + length xs
@@ -27,11 +27,3 @@ module _ (world : World) (v : NodesView) (x : ℕ) (es : List ExecutorView) (bac
       let up = ap (λ (zs : List Envelope). past (past (point (v.taken l) s.0) (q ++ y)) (on l zs)) none in
       let to = ap (λ (p : Point). p.next) (sym up ∙ s.1.runs.up_to cut stopped) in
       omega (arith, n, to, length-append q y)
-
-  -- a lane inside one executor has nothing on its way
-  pub made-direct : v.origin l ≡ v.target l → (handed_of v es l ≡ v.taken l) × (made_of v es backlogs l ≡ v.taken l)
-  made-direct same =
-      let d = runs.direct l w same in
-      let q = ap length d.0 in
-      let y = ap length d.1 in
-      (omega (arith, q), omega (arith, q, y))
