@@ -402,6 +402,3 @@ module _ {S : Type 0} (world : World) (meaning : S → Meaning) (stands_after : 
       by stands.Open live = failing live cause may c.stage c.taken true h.few.taken refl b a c' (closes live)
       by stands.Ended is = same (over (ap is_over is))
       by (stands.Failed other) is = same (over (ap is_over is))
-
-  pub context-kept : (b a : OutputsView) → a ≡ b → Stepped b c a
-  context-kept b a same = subst (λ (y : OutputsView). Stepped b c y) (sym same) (h, makes-none world (context_writes (meaning c.stage).direction c) (context_came (meaning c.stage).direction c) b b refl refl)

@@ -314,9 +314,6 @@ module _ {S T : Type 0} (mine : ℕ → Bool) (whole share : PartView S T) (is :
 
   -- ---- the same, of a lane that enters one of its nodes, or that one of them writes
 
-  pub share-taken-same : (l : Lane) → has_entered share l ≡ true → part_taken share l ≡ part_taken whole l
-  share-taken-same l entered = share-taken l ∙ cond-true (mine (executor_of whole.path l.hop)) _ 0 (and_parts (has_entered whole l) _ (sym (share-entered l) ∙ entered)).1
-
   pub share-taken-none : (l : Lane) → part_taken whole l ≡ 0 → part_taken share l ≡ 0
   share-taken-none l none = share-taken l ∙ none-either (mine (executor_of whole.path l.hop)) (part_taken whole l) none
     where
