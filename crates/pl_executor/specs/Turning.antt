@@ -6,7 +6,7 @@ use Rattle.pl_context.specs.WaitingViews.{Entry, Holds}
 use Rattle.pl_queue.specs.declared.views.SenderView.{SenderView}
 use Rattle.pl_queue.specs.Views.{after_offer, after_take}
 use Rattle.pl_words.specs.Admissions.{AdmittedView}
-use Rattle.pl_executor.specs.OutboxViews.{OutboxesView, sends_for, waits_for, oldest_untried, SameFor, is_closed}
+use Rattle.pl_executor.specs.OutboxViews.{OutboxesView, sends_for, waits_for, oldest_untried, SameFor, SendsNothing, is_closed}
 use Rattle.pl_executor.specs.Running.{ExecutorView}
 
 -- The oldest that waited for a target whose queue was not full was sent there, and nothing else was sent.
@@ -37,6 +37,14 @@ pub record IsStill {N : Type 0} (e e' : ExecutorView N) : Type 0 where
   pub part : e'.part ≡ e.part
   pub takes : e'.takes ≡ e.takes
   pub outboxes : (y : ℕ) → SameFor e.outboxes e'.outboxes y
+
+-- Nothing was taken or handed over, and its queue and its turn are as they were: only its nodes may have moved.
+pub record OnlyServes {N : Type 0} (e e' : ExecutorView N) : Type 0 where
+  pub number : e'.number ≡ e.number
+  pub takes : e'.takes ≡ e.takes
+  pub sends : SendsNothing e.outboxes e'.outboxes
+  pub owner : e'.owner ≡ e.owner
+  pub turns : e'.turns ≡ e.turns
 
 -- The first turn of an executor in its thread, and who was told of it.
 pub record FirstTurn (G : Type 0) : Type 0 where

@@ -14,7 +14,7 @@ ghost use Rattle.pl_executor.specs.Admitting.{FewLanes};
 ghost use Rattle.pl_executor.specs.OutboxViews.{admissions, waits_for, is_closed, SomeClosed, SameFor, Sends, SendsNothing, oldest_untried};
 ghost use Rattle.pl_executor.specs.Running.{Runs, IsTaking};
 ghost use Rattle.pl_executor.specs.Serving.{ServesNone, MovesAtMostOnce, ServesAtMostOnce};
-ghost use Rattle.pl_executor.specs.Turning.{SendsAtMostOne, TakesAtMostOne, IsStill};
+ghost use Rattle.pl_executor.specs.Turning.{SendsAtMostOne, TakesAtMostOne, IsStill, OnlyServes};
 
 use crate::cores::Core;
 use crate::finished::Finished;
@@ -220,12 +220,8 @@ where
 
     /// A write of one channel, whose turn it is, beside other work; and a read step, where nothing is left to hand over.
     fn serve_one<R: Wait>(&mut self, rt: &R, handed: bool)
-        ensures number { self.new.number ≡ self.old.number }
-        ensures takes { self.new.takes ≡ self.old.takes }
-        ensures sends { SendsNothing self.old.outboxes self.new.outboxes }
+        ensures serves { OnlyServes self.old self.new }
         ensures served { ServesAtMostOnce (N.served self.old.part) (N.served self.new.part) }
-        ensures owner { self.new.owner ≡ self.old.owner }
-        ensures turns { self.new.turns ≡ self.old.turns }
     {
         let count = self.channels();
         if count == 0 {
@@ -242,12 +238,8 @@ where
     /// One read step and one write of the first channel, from the one on whose turn it is, that has any enabled. False where
     /// none has.
     fn serve_first<R: Wait>(&mut self, rt: &R) -> bool
-        ensures number { self.new.number ≡ self.old.number }
-        ensures takes { self.new.takes ≡ self.old.takes }
-        ensures sends { SendsNothing self.old.outboxes self.new.outboxes }
+        ensures serves { OnlyServes self.old self.new }
         ensures served { ServesAtMostOnce (N.served self.old.part) (N.served self.new.part) }
-        ensures owner { self.new.owner ≡ self.old.owner }
-        ensures turns { self.new.turns ≡ self.old.turns }
         ensures idle { result ≡ false → (self.new ≡ self.old) × ((c : ℕ) → c < N.count self.new.part → (by : HeadMove) → N.may_move self.new.part by c false) }
     {
         let count = self.channels();
@@ -261,12 +253,8 @@ where
     /// One read step and one write of the first channel from one on, up to another, that has any enabled. False where none has.
     fn serve_between<R: Wait>(&mut self, rt: &R, from: usize, to: usize) -> bool
         requires there { to ≤ N.count self.old.part }
-        ensures number { self.new.number ≡ self.old.number }
-        ensures takes { self.new.takes ≡ self.old.takes }
-        ensures sends { SendsNothing self.old.outboxes self.new.outboxes }
+        ensures serves { OnlyServes self.old self.new }
         ensures served { ServesAtMostOnce (N.served self.old.part) (N.served self.new.part) }
-        ensures owner { self.new.owner ≡ self.old.owner }
-        ensures turns { self.new.turns ≡ self.old.turns }
         ensures same { result ≡ false → self.new ≡ self.old }
         ensures idle { result ≡ false → (c : ℕ) → from ≤ c → c < to → (by : HeadMove) → N.may_move self.old.part by c false }
     {
@@ -288,12 +276,8 @@ where
     /// One read step and one write of a channel. False where neither was enabled.
     fn serve<R: Wait>(&mut self, rt: &R, channel: usize) -> bool
         requires there { channel < N.count self.old.part }
-        ensures number { self.new.number ≡ self.old.number }
-        ensures takes { self.new.takes ≡ self.old.takes }
-        ensures sends { SendsNothing self.old.outboxes self.new.outboxes }
+        ensures serves { OnlyServes self.old self.new }
         ensures served { ServesAtMostOnce (N.served self.old.part) (N.served self.new.part) }
-        ensures owner { self.new.owner ≡ self.old.owner }
-        ensures turns { self.new.turns ≡ self.old.turns }
         ensures idle { result ≡ false → (self.new ≡ self.old) × ((by : HeadMove) → N.may_move self.old.part by channel false) }
     {
         let has_read = self.move_head(rt, HeadMove::Read, channel);
@@ -304,13 +288,9 @@ where
     /// A move of a channel's head. False where it was not enabled.
     fn move_head<R: Wait>(&mut self, rt: &R, by: HeadMove, channel: usize) -> bool
         requires there { channel < N.count self.old.part }
-        ensures number { self.new.number ≡ self.old.number }
-        ensures count { N.count self.new.part ≡ N.count self.old.part }
-        ensures takes { self.new.takes ≡ self.old.takes }
-        ensures sends { SendsNothing self.old.outboxes self.new.outboxes }
+        ensures serves { OnlyServes self.old self.new }
         ensures served { MovesAtMostOnce by (N.served self.old.part) (N.served self.new.part) }
-        ensures owner { self.new.owner ≡ self.old.owner }
-        ensures turns { self.new.turns ≡ self.old.turns }
+        ensures count { N.count self.new.part ≡ N.count self.old.part }
         ensures enabled { N.may_move self.old.part by channel result }
         ensures idle { result ≡ false → self.new ≡ self.old }
     {

@@ -99,34 +99,6 @@ where
     Ok(handles)
 }
 
-/// Starts each executor in a thread of its own, and tells all to begin, or to leave where one could not be started.
-fn start_all<
-    's,
-    'a: 's,
-    E,
-    W: Named + Send + Sync + 's,
-    M: Mailbox<W> + Drop + Send + Sync + 's,
-    N: Part<W> + Drop + Send + 's,
-    G: Gate + Sync + 's,
-    R: Threads + Wait + Sync + 's,
->(
-    rt: &'s R,
-    alloc: Global,
-    scope: &'s Scope<'s, E>,
-    gate: &'s G,
-    start: &'s Start,
-    executors: Vec<(Executor<'a, W, M, N>, Parker)>,
-) -> Result<Vec<PromisedHandle<Option<Finished<W, N>>, Numbered<G>>>, RunFault>
-where
-    M::Sender: Drop + Send + 's,
-    M::Taker: Drop + Send + 's,
-    ensures { IfOk result (λ handles. map (λ h. h.promise) handles.items ≡ map (λ e. record { gate = gate.now; number = e.0.number; turn = e.0.turns }) executors.entry.items) }
-{
-    let handles = start_each(rt, alloc, scope, gate, start, executors);
-    start.tell(handles.is_ok());
-    handles
-}
-
 /// What all executors leave, in their order, in a list that has room for it.
 fn join_all<W: Named, N: Part<W> + Drop, G: Gate, R: Threads>(
     rt: &R,
@@ -183,8 +155,10 @@ where
             ensures homes { IfOk result (λ all. map (λ f. N.home f) all.items ≡ map (λ e. e.0.number) executors.entry.items) }
             ensures entered { IfOk result (λ _. All (λ e. G.was_entered gate.entry.now e.0.number e.0.turns) executors.entry.items) }
         {
-            let handles = start_all(rt, alloc, scope, gate, start, executors)?;
-            join_all(rt, handles, all)
+            let handles = start_each(rt, alloc, scope, gate, start, executors);
+            // They begin, or leave where one could not be started.
+            start.tell(handles.is_ok());
+            join_all(rt, handles?, all)
         },
     )
 }

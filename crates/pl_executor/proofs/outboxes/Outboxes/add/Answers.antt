@@ -2,7 +2,7 @@ use Rattle.std.proofs.Common.{◌≡◌, ◌<◌, false, length, set, sym, ap, s
 use Rattle.std.proofs.lemmas.Option.{slice_get_read}
 use Rattle.pl_flow.specs.Flows.{IsNext}
 use Rattle.pl_executor.specs.OutboxViews.{OutboxView, OutboxesView, is_cut, reached, Adds, Comes, RefusedBy}
-use Rattle.pl_executor.proofs.OutboxLemmas.{replaces-set, few-added}
+use Rattle.pl_executor.proofs.OutboxLemmas.{Replaces, replaces-set, few-added}
 use Rattle.std.proofs.lemmas.List.{length-set}
 use Rattle.pl_executor.proofs.AddSteps.{refused-hold, refused-adds, refused-by, Done, stays-done, back-done}
 use Rattle.pl_executor.proofs.outboxes.Outboxes.add.Goals as goal
@@ -10,13 +10,18 @@ use Rattle.pl_executor.proofs.outboxes.Outboxes.add.Goals as goal
 pub add-requires-clause-few : goal.add-requires-clause-few
 add-requires-clause-few g c = few-added g.W.Named.world (record { outboxes = c.self.inside.outboxes.items; waiting = c.self.inside.waiting; tried = c.self.inside.tries.tried }) c.self.invariant.0
 
-pub invariant_of-self : goal.invariant_of-self
-invariant_of-self g c =
+-- what the admission left of the target's outbox stands in its place
+replaced : (g : _) (c : goal.After-drop g) → Replaces c.self.inside.outboxes.items (set c.self.inside.outboxes.items c.args.target c.admit.new.self) c.args.target c.index_mut.result.now c.admit.new.self
+replaced g c =
     let os = c.self.inside.outboxes.items in
     let b = c.index_mut.result.now in
     let within = subst (λ (v : OutboxesView). c.args.target < length v.outboxes) (sym c.self.view_is) c.requires.there in
-    let at = slice_get_read os (length os) c.args.target b refl within c.index_mut.ensures.value in (
-      refused-hold g.W.Named.world os c.self.inside.waiting c.self.inside.tries.tried c.self.invariant.0 c.args.target c.args.envelope (set os c.args.target c.admit.new.self) b c.admit.new.self (replaces-set os c.args.target b c.admit.new.self at)
+    replaces-set os c.args.target b c.admit.new.self (slice_get_read os (length os) c.args.target b refl within c.index_mut.ensures.value)
+
+pub invariant_of-self : goal.invariant_of-self
+invariant_of-self g c =
+    let os = c.self.inside.outboxes.items in (
+      refused-hold g.W.Named.world os c.self.inside.waiting c.self.inside.tries.tried c.self.invariant.0 c.args.target c.args.envelope (set os c.args.target c.admit.new.self) c.index_mut.result.now c.admit.new.self (replaced g c)
           (ap (λ (o : OutboxView). o.sends) c.admit.ensures.same) c.in-Err.refused c.in-Err.ensures.refused,
       c.self.invariant.1 ∙ sym (length-set os c.args.target c.admit.new.self),
     )
@@ -24,21 +29,15 @@ invariant_of-self g c =
 pub returns-in-Err-clause-adds : goal.returns-in-Err-clause-adds
 returns-in-Err-clause-adds g c =
     let os = c.self.inside.outboxes.items in
-    let b = c.index_mut.result.now in
-    let within = subst (λ (v : OutboxesView). c.args.target < length v.outboxes) (sym c.self.view_is) c.requires.there in
-    let at = slice_get_read os (length os) c.args.target b refl within c.index_mut.ensures.value in
     subst (λ (v : OutboxesView). Adds v c.args.target c.args.envelope (record { outboxes = set os c.args.target c.admit.new.self; waiting = c.self.inside.waiting; tried = c.self.inside.tries.tried })) c.self.view_is
-    (refused-adds g.W.Named.world os c.self.inside.waiting c.self.inside.tries.tried c.self.invariant.0 c.args.target c.args.envelope (set os c.args.target c.admit.new.self) b c.admit.new.self (replaces-set os c.args.target b c.admit.new.self at)
+    (refused-adds g.W.Named.world os c.self.inside.waiting c.self.inside.tries.tried c.self.invariant.0 c.args.target c.args.envelope (set os c.args.target c.admit.new.self) c.index_mut.result.now c.admit.new.self (replaced g c)
     (ap (λ (o : OutboxView). o.sends) c.admit.ensures.same) c.in-Err.refused c.in-Err.ensures.refused)
 
 pub returns-in-Err-clause-refused : goal.returns-in-Err-clause-refused
 returns-in-Err-clause-refused g c =
     let os = c.self.inside.outboxes.items in
-    let b = c.index_mut.result.now in
-    let within = subst (λ (v : OutboxesView). c.args.target < length v.outboxes) (sym c.self.view_is) c.requires.there in
-    let at = slice_get_read os (length os) c.args.target b refl within c.index_mut.ensures.value in
     subst (λ (v : OutboxesView). RefusedBy v c.args.target c.in-Err.refused (record { outboxes = set os c.args.target c.admit.new.self; waiting = c.self.inside.waiting; tried = c.self.inside.tries.tried })) c.self.view_is
-    (refused-by g.W.Named.world os c.self.inside.waiting c.self.inside.tries.tried c.self.invariant.0 c.args.target c.args.envelope (set os c.args.target c.admit.new.self) b c.admit.new.self (replaces-set os c.args.target b c.admit.new.self at)
+    (refused-by g.W.Named.world os c.self.inside.waiting c.self.inside.tries.tried c.self.invariant.0 c.args.target c.args.envelope (set os c.args.target c.admit.new.self) c.index_mut.result.now c.admit.new.self (replaced g c)
     (ap (λ (o : OutboxView). o.sends) c.admit.ensures.same) c.in-Err.refused c.in-Err.ensures.refused)
 
 stays : (g : _) (c : goal.In_default g) → Done g.W.Named.world (record { outboxes = c.self.inside.outboxes.items; waiting = c.self.inside.waiting; tried = c.self.inside.tries.tried }) c.args.target c.args.envelope
