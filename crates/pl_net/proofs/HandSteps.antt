@@ -19,6 +19,7 @@ use Rattle.pl_flow.proofs.FlowLemmas.{on-append, on-own, on-other}
 use Rattle.pl_net.specs.NodesViews.{NodesView, written_by}
 use Rattle.pl_net.specs.Nets.{ExecutorView, queue_at, stops_at, envelopes, LaneStands, NetRuns, AreFew, IsTakenOut}
 use Rattle.pl_net.proofs.LaneSteps.{lane-handed}
+use Rattle.pl_net.proofs.NetSteps.{waits-still}
 use Rattle.pl_net.proofs.OneExecutor.{Replaces, on-executor, queue-here, queue-was, queue-there}
 
 All-remove : {X : Type 0} (P : X → Type 0) (xs : List X) (i : ℕ) → All P xs → All P (remove xs i)
@@ -217,13 +218,7 @@ module _ (world : World) (v : NodesView) (x : ℕ) (es : List ExecutorView) (bac
         (cases_eq y t))
         (λ (f : same_lane l e.lane ≡ false). on-others y l f ∙ runs.queued y l n)
         (cases_Bool (same_lane l e.lane));
-    waits = λ y l n. ⊎_elim
-        (λ (m : same_lane l e.lane ≡ true). ⊎_elim
-        (λ (k : y ≡ o). absurd (both_ways (written_by v y l) n (ap (λ z. written_by v y z) (same_lane-equal l e.lane m) ∙ ap (λ z. written_by v z e.lane) k ∙ here)))
-        (λ (k : y ≡ o → ⊥). ap (λ zs. on l (envelopes zs)) (left-there y k) ∙ runs.waits y l n)
-        (cases_eq y o))
-        (λ (f : same_lane l e.lane ≡ false). others-wait y l f ∙ runs.waits y l n)
-        (cases_Bool (same_lane l e.lane));
+    waits = waits-still world v x es backlogs work runs o e.lane here left left-there others-wait;
     entries = λ y. ⊎_elim
         (λ (k : y ≡ o).
         subst (λ (zs : List (Entry (Unit {0}))). All (λ z. z.target ≡ v.target z.envelope.lane) zs) (sym (ap left k ∙ left-here)) (All-remove (λ (z : Entry (Unit {0})). z.target ≡ v.target z.envelope.lane) (backlogs o) i (runs.entries o)))

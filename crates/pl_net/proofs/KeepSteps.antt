@@ -1,7 +1,7 @@
 -- An item for another executor goes from the work list to the backlog.
 use Rattle.std.proofs.Common.{◌≡◌, ◌≢◌, ◌↔◌, ℕ, ◌+◌, ◌<◌, ◌^◌, Bool, true, false, ◌==◌, ◌||◌, cond, List, [], ◌∷◌, ◌++◌, length, map, slice_get, Some, refl, ap, sym, subst, ◌∙◌, ⊎_elim, arith, append-nil}
 use Rattle.std.specs.List.{All}
-use Rattle.std.proofs.lemmas.Bool.{cond-true, cond-false, cases_Bool, both_ways, eq-eqb, ne_eqb, cases_eq}
+use Rattle.std.proofs.lemmas.Bool.{cond-true, cond-false, cases_Bool, eq-eqb, ne_eqb, cases_eq}
 use Rattle.std.proofs.lemmas.List.Elements.{All-append}
 use Rattle.std.proofs.lemmas.Option.{same_Some}
 use Rattle.std.proofs.Math.Bool.{or-false}
@@ -23,11 +23,11 @@ use Rattle.pl_flow.specs.Flows.{Point, point, after, on, IsNext, past}
 use Rattle.pl_flow.specs.Makes.{LaneGrows}
 use Rattle.pl_flow.proofs.FlowLemmas.{on-append}
 use Rattle.pl_flow.proofs.MakeLemmas.{one-grows, added-other, stopped-with}
-use Rattle.pl_net.specs.NodesViews.{NodesView, written_by}
+use Rattle.pl_net.specs.NodesViews.{NodesView}
 use Rattle.pl_net.specs.Nets.{ExecutorView, queue_at, stops_at, envelopes, LaneStands, NetRuns, AreFew, IsAdded}
 use Rattle.pl_net.proofs.LaneSteps.{lane-added, goes-on}
 use Rattle.pl_net.proofs.OneExecutor.{Replaces, on-executor, stops-here, stops-was, stops-there, entry_for, envelopes-more, entries-on}
-use Rattle.pl_net.proofs.NetSteps.{there-on, same-on, front-here, front-written, front-origin, listed-left}
+use Rattle.pl_net.proofs.NetSteps.{there-on, same-on, front-here, front-written, front-origin, listed-left, waits-still}
 
 -- a lane stops for its own items alone
 pub stopped-other : (answer : Added) (s : StopsView) (lane l : Lane) → same_lane l lane ≡ false → has_stopped (stopped_after answer s lane) l ≡ has_stopped s l
@@ -187,13 +187,7 @@ module _ (world : World) (v : NodesView) (x : ℕ) (es : List ExecutorView) (bac
         (cases_Bool (same_lane l e.lane));
     listed = listed-left world v x es backlogs before mid e runs front stops;
     queued = λ y l n. ap (on l) (queues y) ∙ runs.queued y l n;
-    waits = λ y l n. ⊎_elim
-        (λ (m : same_lane l e.lane ≡ true). ⊎_elim
-        (λ (s : y ≡ x). absurd (both_ways (written_by v y l) n (ap (λ k. written_by v y k) (same_lane-equal l e.lane m) ∙ ap (λ k. written_by v k e.lane) s ∙ front-here world v x es backlogs before mid e runs front stops)))
-        (λ (s : y ≡ x → ⊥). ap (λ zs. on l (envelopes zs)) (kept-there y s) ∙ runs.waits y l n)
-        (cases_eq y x))
-        (λ (f : same_lane l e.lane ≡ false). waits-other y l f ∙ runs.waits y l n)
-        (cases_Bool (same_lane l e.lane));
+    waits = waits-still world v x es backlogs before runs x e.lane (front-here world v x es backlogs before mid e runs front stops) kept kept-there waits-other;
     entries = λ y. ⊎_elim
         (λ (s : y ≡ x).
         subst (λ (zs : List (Entry (Unit {0}))). All (λ z. z.target ≡ v.target z.envelope.lane) zs) (sym (ap kept s ∙ kept-here))

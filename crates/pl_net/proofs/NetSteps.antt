@@ -1,6 +1,6 @@
 -- What is on its way, step by step.
-use Rattle.std.proofs.Common.{◌≡◌, ℕ, ◌+◌, ◌<◌, Bool, true, false, ◌==◌, cond, List, [], ◌∷◌, ◌++◌, length, ap, sym, subst, ◌∙◌, ⊎_elim}
-use Rattle.std.proofs.lemmas.Bool.{and_parts, cond-true, cond-false, cases_Bool, both_ways, eqb-true}
+use Rattle.std.proofs.Common.{◌≡◌, ◌≢◌, ℕ, ◌+◌, ◌<◌, Bool, true, false, ◌==◌, cond, List, [], ◌∷◌, ◌++◌, length, ap, sym, subst, ◌∙◌, ⊎_elim}
+use Rattle.std.proofs.lemmas.Bool.{and_parts, cond-true, cond-false, cases_Bool, both_ways, eqb-true, cases_eq}
 use Rattle.pl_event.specs.declared.envelopes.Envelope.{Envelope}
 use Rattle.pl_event.specs.declared.envelopes.Lane.{Lane}
 use Rattle.pl_event.specs.Hops.{same_lane}
@@ -21,6 +21,19 @@ abbrev pub taken_with : NodesView → Envelope → Lane → ℕ
 taken_with v e l = cond (same_lane l e.lane) (e.number + 1) (v.taken l)
 
 module _ (world : World) (v : NodesView) (x : ℕ) (executors : List ExecutorView) (backlogs : ℕ → List (Entry (Unit {0}))) where
+  -- ---- a backlog
+
+  -- Of one backlog only a lane that is written there has changed: of any other lane nothing waits there or elsewhere that did not.
+  pub waits-still : (work : OutputsView) → NetRuns world v x executors backlogs work → (o : ℕ) (k : Lane) → written_by v o k ≡ true → (changed : ℕ → List (Entry (Unit {0}))) → ((y : ℕ) → y ≢ o → changed y ≡ backlogs y)
+      → ((y : ℕ) (l : Lane) → same_lane l k ≡ false → on l (envelopes (changed y)) ≡ on l (envelopes (backlogs y))) → (y : ℕ) (l : Lane) → written_by v y l ≡ false → on l (envelopes (changed y)) ≡ []
+  waits-still work runs o k here changed there others y l n = ⊎_elim
+      (λ (m : same_lane l k ≡ true). ⊎_elim
+      (λ (s : y ≡ o). absurd (both_ways (written_by v y l) n (ap (λ z. written_by v y z) (same_lane-equal l k m) ∙ ap (λ z. written_by v z k) s ∙ here)))
+      (λ (s : y ≡ o → ⊥). ap (λ zs. on l (envelopes zs)) (there y s) ∙ runs.waits y l n)
+      (cases_eq y o))
+      (λ (f : same_lane l k ≡ false). others y l f ∙ runs.waits y l n)
+      (cases_Bool (same_lane l k))
+
   -- ---- what nodes put on the list
 
   -- lanes go the same ways, and this many items of each were taken
@@ -35,20 +48,8 @@ module _ (world : World) (v : NodesView) (x : ℕ) (executors : List ExecutorVie
       → ((l : Lane) → v.writes l ≡ true → (over : Bool) × LaneStands world (point (t l) over) (on l (queue_at executors (v.target l))) (on l (envelopes (backlogs (v.origin l)))) (has_stopped (stops_at executors (v.origin l) (v.target l)) l) (has_stopped after.stopped l) (on l after.items) (v'.came l))
       → ((l : Lane) → written_by v y l ≡ false → on l after.items ≡ [])
       → NetRuns world (record v' { target = v.target; origin = v.origin; writes = v.writes; taken = t }) y executors backlogs after
-  relisted v' t y before after runs lanes listed = record {
-    lanes = lanes;
-    direct = runs.direct;
-    listed = listed;
-    queued = runs.queued;
-    waits = runs.waits;
-    entries = runs.entries;
-    holds = runs.holds;
-    targets = runs.targets;
-    there = runs.there;
-    hops = runs.hops;
-    placed = runs.placed;
-    among = runs.among;
-  }
+  relisted v' t y before after runs lanes listed =
+      record { lanes = lanes; direct = runs.direct; listed = listed; queued = runs.queued; waits = runs.waits; entries = runs.entries; holds = runs.holds; targets = runs.targets; there = runs.there; hops = runs.hops; placed = runs.placed; among = runs.among }
 
   pub nets-put : (v' : NodesView) (before after : OutputsView) → NetRuns world v x executors backlogs before → SameRoutes v v' → ((l : Lane) → v'.taken l ≡ v.taken l) → NodesMake world v x before v' after
       → NetRuns world v' x executors backlogs after
