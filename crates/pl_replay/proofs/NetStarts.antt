@@ -27,9 +27,10 @@ use Rattle.pl_net.specs.Nets.{ExecutorView, CoreStands, IsStart, no_backlogs}
 use Rattle.pl_net.specs.declared.cores.Core.{Core}
 use Rattle.pl_channel.specs.Lanes.{world_of}
 use Rattle.pl_channel.specs.Placing.{IsWhole, IsNewHead, IsUnmoved}
+use Rattle.pl_channel.proofs.WorldChannels.{channel-small}
 use Rattle.pl_channel.specs.PlanStand.{HeadKeepsPlan, PartKeepsPlan, PartsKeepPlan}
 use Rattle.pl_replay.specs.Channels.{channels_view, ChannelsStand, executor_at, target_of, origin_of, taken_of, came_of, writes_of, writes_here, lanes_of}
-use Rattle.pl_replay.specs.Placed.{AreIdle, HasExecutors, all_lanes, lanes_between}
+use Rattle.pl_replay.specs.Placed.{AreIdle, ArePlaceable, HasExecutors, all_lanes, lanes_between}
 use Rattle.pl_replay.specs.Moves.{nodes_view, nodes_stand}
 use Rattle.pl_replay.specs.Starts.{HasPlannedStages, IsPlaced, ArePlaced, NetBegins, transports_of}
 use Rattle.pl_replay.specs.declared.channels.Channels.{Channels}
@@ -40,7 +41,7 @@ use Rattle.pl_world.specs.declared.session.Recorded.{Recorded}
 use Rattle.pl_world.specs.declared.limits.TheConstants.{MAX_CHANNELS}
 use Rattle.pl_world.specs.Plans.{ChannelPlan, Plan, channel_planned}
 use Rattle.pl_world.specs.Plans.{head_hop as planned_head_hop}
-use Rattle.pl_world.specs.PlanRules.{IsPlan, IsChannelPlan, IsSmallPlan}
+use Rattle.pl_world.specs.PlanRules.{IsPlan, IsChannelPlan, IsSmallChannel, IsSmallPlan}
 use Rattle.pl_world.specs.Worlds.{WorldView, IsWorld}
 use Rattle.pl_world.specs.Plans.{planned as plan_of}
 
@@ -112,6 +113,12 @@ module _ {S T : Type 0} (meaning : S → Meaning) (state : T → TransportState)
       same a b e = cc
 
 -- ---- all channels
+
+-- each channel of a world is small, wherever it is listed
+pub recorded-small : {S T : Type 0} (meaning : S → Meaning) (state : T → TransportState) (world : WorldView S T) → IsWorld meaning state world → (rs : List (Recorded S T)) → rs ≡ world.channels
+    → All (λ r. IsSmallChannel (channel_planned meaning state r)) rs
+recorded-small meaning state world is rs same = All-from-at (λ r. IsSmallChannel (channel_planned meaning state r)) rs
+    (λ i r at. channel-small meaning state world is i r (sym (ap (λ l. slice_get l i) same) ∙ at))
 
 module _ {S T : Type 0} (meaning : S → Meaning) (stands_after : S → List Event → Type 0) (state : T → TransportState) (plan : Plan) (rs : List (Recorded S T)) (planned : plan.channels ≡ map (channel_planned meaning state) rs)
     (parts : List (PartView S T)) (placed : ArePlaced meaning stands_after state rs parts) where
@@ -222,6 +229,9 @@ module _ {S T : Type 0} (meaning : S → Meaning) (stands_after : S → List Eve
       let r = recorded-at meaning stands_after state plan rs planned parts placed i part at in
       ap length r.3.whole.executors_are ∙ r.3.whole.hops ∙ ap (λ (q : ChannelPlan). planned_head_hop q + 1) (same-plan meaning stands_after state plan rs planned parts placed (channel_planned meaning state r.0) p (sym r.2 ∙ is))) in
       subst (λ (n : ℕ). n < 2 ^ 16) (sym (length-all_lanes parts ∙ same)) small.lanes
+
+  pub placeable : IsSmallPlan plan → ArePlaceable parts
+  placeable small = record { few = lanes-few small; hops = all-have-executors meaning stands_after state plan rs planned parts placed }
 
 module _ {S T : Type 0} (meaning : S → Meaning) (stands_after : S → List Event → Type 0) (state : T → TransportState) (w : WorldView S T) (is : IsWorld meaning state w) (capacity : ℕ) (some : 1 ≤ capacity)
     (parts : List (PartView S T)) (placed : ArePlaced meaning stands_after state w.channels parts) (executors : List ExecutorView) (idle : AreIdle parts w.executors executors) where

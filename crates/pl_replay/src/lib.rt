@@ -11,9 +11,6 @@ mod starting;
 
 pub use account_laws::account_law;
 pub use nets::Net;
-pub use pl_world::{
-    ChannelReport, Move, Recorded, ReplayFault, Report, Session, Stands, World, WorldRefusal, plain,
-};
 pub use placing::{lane_count, places_from};
 pub use running::{replay, replay_world};
 pub use starting::placed;

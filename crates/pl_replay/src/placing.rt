@@ -1,6 +1,6 @@
 //! Executors before any move, with places for the lanes between them.
 
-ghost use Rattle.std.specs.Prelude.{◌≡◌, ◌<◌, ◌^◌, All, IfOk, length, map};
+ghost use Rattle.std.specs.Prelude.{◌≡◌, ◌<◌, ◌^◌, IfOk, length, map};
 ghost use Rattle.std.specs.List.{range_with_len};
 ghost use Rattle.pl_replay.specs.Placed.{HasExecutors, ArePlaceable, IsIdle, AreIdle, all_lanes, goes_between, lanes_between, hops_between};
 
@@ -16,8 +16,7 @@ pub(crate) fn idle_executors<S: Stage, T: Transport>(
     count: usize,
     parts: &[ChannelPart<S, T>],
 ) -> Result<Vec<Executor>, AllocError>
-    requires few { length (all_lanes parts.now) < 2 ^ 16 }
-    requires hops { All HasExecutors parts.now }
+    requires { ArePlaceable parts.now }
     ensures { IfOk result (λ executors. AreIdle parts.now count executors.items) }
 {
     let mut executors = Vec::with_capacity(alloc, count)?;

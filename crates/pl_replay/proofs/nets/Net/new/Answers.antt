@@ -1,37 +1,26 @@
-use Rattle.std.proofs.Common.{◌<◌, ◌^◌, ℕ, List, length, slice_get, refl, ap, sym, ◌∙◌, subst, false}
-use Rattle.std.specs.Prelude.{All}
+use Rattle.std.proofs.Common.{◌<◌, ◌^◌, ℕ, List, length, refl, ap, sym, ◌∙◌, subst, false}
 use Rattle.pl_context.specs.Stops.{HasPlaces, no_stops}
 use Rattle.pl_net.specs.Nets.{no_backlogs}
 use Rattle.pl_part.specs.Parts.{PartView}
 use Rattle.pl_channel.specs.Lanes.{world_of}
 use Rattle.pl_world.specs.declared.session.Recorded.{Recorded}
-use Rattle.pl_world.specs.Plans.{planned, channel_planned}
-use Rattle.pl_replay.specs.Placed.{HasExecutors, AreIdle, all_lanes}
+use Rattle.pl_world.specs.Plans.{planned}
+use Rattle.pl_replay.specs.Placed.{ArePlaceable, AreIdle, all_lanes}
 use Rattle.pl_replay.specs.Starts.{ArePlaced, NetBegins, transports_of}
 use Rattle.pl_replay.proofs.LanePlaces.{places-all}
-use Rattle.pl_channel.proofs.WorldChannels.{channel-small}
-use Rattle.pl_world.specs.PlanRules.{IsSmallChannel}
 use Rattle.pl_replay.specs.declared.channels.Channels.{Channels}
-use Rattle.pl_replay.proofs.NetStarts.{All-from-at, lanes-few, all-have-executors, starts, world-begins}
+use Rattle.pl_replay.proofs.NetStarts.{recorded-small, lanes-few, placeable, starts, world-begins}
 use Rattle.pl_replay.proofs.nets.Net.new.Goals as goal
 
 pub placed-requires-clause-small : goal.placed-requires-clause-small
 placed-requires-clause-small g c =
-    let same = c.into_vec.ensures ∙ c.into_channels.ensures.channels in
-    All-from-at (λ (r : Recorded g.row.S.Denot g.row.T.Denot). IsSmallChannel (channel_planned g.S.Stage.meaning g.T.Transport.state r)) c.into_vec.result.items
-    (λ i r at. channel-small g.S.Stage.meaning g.T.Transport.state c.args.world c.into_channels.ensures.is_world i r (sym (ap (λ (l : List (Recorded g.row.S.Denot g.row.T.Denot)). slice_get l i) same) ∙ at))
+    recorded-small g.S.Stage.meaning g.T.Transport.state c.args.world c.into_channels.ensures.is_world c.into_vec.result.items (c.into_vec.ensures ∙ c.into_channels.ensures.channels)
 
-pub idle_executors-requires-clause-few : goal.idle_executors-requires-clause-few
-idle_executors-requires-clause-few g c =
+pub idle_executors-requires : goal.idle_executors-requires
+idle_executors-requires g c =
     let placed = subst (λ (rs : List (Recorded g.row.S.Denot g.row.T.Denot)). ArePlaced g.S.Stage.meaning g.S.Stage.stands_after g.T.Transport.state rs c.in_ok-parts.parts.items) (c.into_vec.ensures ∙ c.into_channels.ensures.channels) c.in_ok-parts.ensures in
-    subst (λ (l : List (PartView g.row.S.Denot g.row.T.Denot)). length (all_lanes l) < 2 ^ 16) (sym c.as_slice.ensures.value)
-    (lanes-few g.S.Stage.meaning g.S.Stage.stands_after g.T.Transport.state (planned g.S.Stage.meaning g.T.Transport.state c.args.capacity c.args.world.executors c.args.world.channels) c.args.world.channels refl c.in_ok-parts.parts.items placed (c.into_channels.ensures.is_world.small c.args.capacity))
-
-pub idle_executors-requires-clause-hops : goal.idle_executors-requires-clause-hops
-idle_executors-requires-clause-hops g c =
-    let placed = subst (λ (rs : List (Recorded g.row.S.Denot g.row.T.Denot)). ArePlaced g.S.Stage.meaning g.S.Stage.stands_after g.T.Transport.state rs c.in_ok-parts.parts.items) (c.into_vec.ensures ∙ c.into_channels.ensures.channels) c.in_ok-parts.ensures in
-    subst (λ (l : List (PartView g.row.S.Denot g.row.T.Denot)). All HasExecutors l) (sym c.as_slice.ensures.value)
-    (all-have-executors g.S.Stage.meaning g.S.Stage.stands_after g.T.Transport.state (planned g.S.Stage.meaning g.T.Transport.state c.args.capacity c.args.world.executors c.args.world.channels) c.args.world.channels refl c.in_ok-parts.parts.items placed)
+    subst (λ (l : List (PartView g.row.S.Denot g.row.T.Denot)). ArePlaceable l) (sym c.as_slice.ensures.value)
+    (placeable g.S.Stage.meaning g.S.Stage.stands_after g.T.Transport.state (planned g.S.Stage.meaning g.T.Transport.state c.args.capacity c.args.world.executors c.args.world.channels) c.args.world.channels refl c.in_ok-parts.parts.items placed (c.into_channels.ensures.is_world.small c.args.capacity))
 
 pub lane_count-lanes-requires : goal.lane_count-lanes-requires
 lane_count-lanes-requires g c =
