@@ -1,8 +1,8 @@
 -- What a value of JSON means: the words in which the tables of a session are written (docs/FORMATS.md, "Session").
-use Rattle.std.specs.Prelude.{◌≡◌, ◌≢◌, ℕ, ◌&&◌, Bool, List, [], ◌∷◌, length, nat_le, nat_eq, if◌then◌else◌, Option, Some, None, Result, Ok, Err, option_and_then}
+use Rattle.std.specs.Prelude.{◌≡◌, ◌≢◌, ℕ, ◌&&◌, Bool, List, [], ◌∷◌, length, nat_le, nat_eq, if◌then◌else◌, Option, Some, None, Result, Ok, Err, option_and_then, option_map}
 use Rattle.std.specs.Cmp.Lexicographic.{pointwise}
 use Rattle.serde_json.specs.Data.{Data, null, boolean, number, string, array, object, Items, no_items, item}
-use Rattle.serde_json.specs.Find.{get, as_number, as_u64, as_str}
+use Rattle.serde_json.specs.Find.{get, as_number, as_u64, as_str, as_array}
 use Rattle.pl_build.specs.declared.faults.BuildFault.{BuildFault}
 use Rattle.pl_build.specs.declared.faults.BuildFault.TheVariants as build
 use Rattle.pl_text.specs.declared.faults.SessionFault.{SessionFault}
@@ -111,12 +111,7 @@ elements no_items = []
 elements (item d ds) = d ∷ elements ds
 
 unfoldable pub elements_of : Data → Result (List Data) SessionFault
-elements_of (array ds) = Ok (elements ds)
-elements_of null = Err Kind
-elements_of (boolean b) = Err Kind
-elements_of (number n) = Err Kind
-elements_of (string s) = Err Kind
-elements_of (object ms) = Err Kind
+elements_of d = known Kind (option_map elements (as_array d))
 
 -- each element wholly before the next
 abbrev pub each : {A B F : Type 0} → (A → Result B F) → List A → Result (List B) F

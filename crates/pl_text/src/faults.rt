@@ -1,13 +1,11 @@
 //! Why a text is refused, or a report is not printed.
 
 ghost use Rattle.std.specs.Prelude.{◌≡◌};
-ghost use Rattle.pl_text.specs.declared.faults.MovesFault.TheVariants as moves;
-ghost use Rattle.pl_text.specs.declared.faults.SessionFault.TheVariants as session;
-ghost use Rattle.pl_text.specs.declared.faults.PrintFault.TheVariants as print;
+ghost use Rattle.pl_text.specs.declared.faults.SessionFault.TheVariants.{Memory};
 ghost use Rattle.pl_text.specs.SessionReading.{fault_of_build};
 
 use pl_build::BuildFault;
-use std::alloc::{AllocError, AllocFailed};
+use std::alloc::AllocError;
 use thiserror::Error;
 
 /// Why a session text was refused, each with its number (`docs/FORMATS.md`, "Session").
@@ -36,22 +34,6 @@ pub enum SessionFault {
     Memory,
 }
 
-impl From<AllocError> for SessionFault {
-    ghost from_gives = { λ _ e. e ≡ session.Memory };
-
-    fn from(_refused: AllocError) -> SessionFault {
-        SessionFault::Memory
-    }
-}
-
-impl<T: Drop> From<AllocFailed<T>> for SessionFault {
-    ghost from_gives = { λ _ e. e ≡ session.Memory };
-
-    fn from(_refused: AllocFailed<T>) -> SessionFault {
-        SessionFault::Memory
-    }
-}
-
 /// A build that was out of memory is out of memory here too, and each other refusal a `Build`.
 impl From<BuildFault> for SessionFault {
     ghost from_gives = { λ refused e. e ≡ fault_of_build refused };
@@ -61,6 +43,14 @@ impl From<BuildFault> for SessionFault {
             BuildFault::Memory => SessionFault::Memory,
             _ => SessionFault::Build(refused),
         }
+    }
+}
+
+impl From<AllocError> for SessionFault {
+    ghost from_gives = { λ _ e. e ≡ Memory };
+
+    fn from(_refused: AllocError) -> SessionFault {
+        SessionFault::Memory
     }
 }
 
@@ -78,22 +68,6 @@ pub enum MovesFault {
     Memory,
 }
 
-impl From<AllocError> for MovesFault {
-    ghost from_gives = { λ _ e. e ≡ moves.Memory };
-
-    fn from(_refused: AllocError) -> MovesFault {
-        MovesFault::Memory
-    }
-}
-
-impl<T: Drop> From<AllocFailed<T>> for MovesFault {
-    ghost from_gives = { λ _ e. e ≡ moves.Memory };
-
-    fn from(_refused: AllocFailed<T>) -> MovesFault {
-        MovesFault::Memory
-    }
-}
-
 /// Why a report was not printed.
 #[derive(Clone, Copy, Debug, PartialEq, Eq, Error)]
 pub enum PrintFault {
@@ -103,12 +77,4 @@ pub enum PrintFault {
     /// The writer failed; how much it wrote is not known.
     #[error("2 Output")]
     Output,
-}
-
-impl From<AllocError> for PrintFault {
-    ghost from_gives = { λ _ e. e ≡ print.Memory };
-
-    fn from(_refused: AllocError) -> PrintFault {
-        PrintFault::Memory
-    }
 }

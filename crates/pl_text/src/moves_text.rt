@@ -28,7 +28,7 @@ fn read_words(alloc: Global, text: &str) -> Result<Vec<Word>, MovesFault>
     }
     for part in text.split(' ') {
         match read_word(part) {
-            Some(word) => words.push(word)?,
+            Some(word) => words.push(word).map_err(|_| MovesFault::Memory)?,
             None => return Err(MovesFault::Form),
         }
     }
@@ -53,6 +53,7 @@ pub fn read_moves(alloc: Global, text: &str) -> Result<Vec<Move>, MovesFault>
     let Some(left) = left_of(MAX_MOVES, words.as_slice()) else {
         return Err(MovesFault::Limit);
     };
-    let moves = moves_of_words(alloc, words.as_slice(), MAX_MOVES - left)?;
+    let count = MAX_MOVES - left;
+    let moves = moves_of_words(alloc, words.as_slice(), count).map_err(|_| MovesFault::Memory)?;
     Ok(moves)
 }

@@ -36,7 +36,7 @@ pub fn print_report<W: Write>(
     ensures ok { OnOk result (Appends (W.contents writer.old) (W.contents writer.new) (report_text report.now)) }
     ensures memory { result ≡ Err fault.Memory → Keeps (W.contents writer.old) (W.contents writer.new) }
 {
-    let text = text_of(alloc, report)?;
+    let text = text_of(alloc, report).map_err(|_| PrintFault::Memory)?;
     match writer.write_all(text.as_str().as_bytes()) {
         Ok(()) => Ok(()),
         Err(_) => Err(PrintFault::Output),

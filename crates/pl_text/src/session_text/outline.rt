@@ -3,6 +3,14 @@
 use crate::session_text::names::Name;
 use pl_event::{ByteString, Sequence};
 
+/// What the members of a group of executors say.
+#[derive(Debug, Drop)]
+pub(crate) struct GroupOutline {
+    pub(crate) name: Name,
+    /// How many executors it has.
+    pub(crate) size: u16,
+}
+
 /// A handler of a pipeline by its kind, with the numbers that only this kind has.
 #[derive(Clone, Copy, Debug, PartialEq, Eq)]
 pub(crate) enum HandlerKind {
@@ -71,14 +79,6 @@ pub(crate) struct ChannelOutline {
     pub(crate) bursts: Sequence<Sequence<ByteString>>,
     /// After how many bursts the channel is aborted, if it is.
     pub(crate) abort_after: Option<u32>,
-}
-
-/// What the members of a group of executors say.
-#[derive(Debug, Drop)]
-pub(crate) struct GroupOutline {
-    pub(crate) name: Name,
-    /// How many executors it has.
-    pub(crate) size: u16,
 }
 
 /// What the members of a session say.

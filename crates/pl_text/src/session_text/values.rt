@@ -10,7 +10,7 @@ use crate::faults::SessionFault;
 use crate::session_text::names::Name;
 use pl_event::{ByteString, Sequence};
 use serde_json::Value;
-use std::alloc::Global;
+use std::alloc::{AllocError, Global};
 
 /// What is read from a value of JSON. `meaning` says which value that is, or its first fault in reading order.
 pub(crate) trait FromData: Sized + Drop {
@@ -115,7 +115,8 @@ fn each<T: FromData>(alloc: Global, values: &[Value]) -> Result<Sequence<T>, Ses
 {
     let mut read = Vec::with_capacity(alloc, values.len())?;
     for value in values {
-        read.push(T::from_data(alloc, value)?)?;
+        read.push(T::from_data(alloc, value)?)
+            .map_err(AllocError::from)?;
     }
     Ok(Sequence::from_vec(read))
 }

@@ -1,4 +1,5 @@
-use Rattle.std.proofs.Common.{arith, ◌∙◌}
+use Rattle.std.proofs.Common.{◌≡◌, arith, rules, ◌∙◌}
+use Rattle.pl_text.specs.MovesTexts.{moves_of_words}
 use Rattle.pl_text.proofs.MovesUnique.{moves_once, total_once}
 use Rattle.pl_text.proofs.moves_text.read_moves.Goals as goal
 
@@ -10,5 +11,6 @@ returns-in_default-clause-every c _ ws says =
 
 pub returns-clause-only : goal.returns-clause-only
 returns-clause-only c ws says =
-    rw c.as_slice-2.ensures.value at c.in_ok-moves.ensures
+    let made : c.in_ok-moves.moves.items ≡ moves_of_words c.as_slice-2.result.now = search rules in
+    rw c.as_slice-2.ensures.value at made
     ∙ moves_once c.args.text.now c.in_ok-words.words.items ws c.in_ok-words.ensures.ok says

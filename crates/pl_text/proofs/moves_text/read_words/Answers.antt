@@ -1,4 +1,5 @@
-use Rattle.std.proofs.Common.{inr, ℕ, ◌==◌, lit<, List, length, refl, sym, ap, ◌∙◌, arith}
+use Rattle.std.proofs.Common.{◌≡◌, true, inr, ℕ, ◌==◌, lit<, List, length, refl, sym, ap, ◌∙◌, arith, rules}
+use Rattle.std.specs.Prelude.{is_ok}
 use Rattle.std.specs.List.{slice_split}
 use Rattle.std.specs.Str.Iter.{split_text, split_has_more, split_pattern}
 use Rattle.std.proofs.lemmas.List.{take_all, length_push}
@@ -15,7 +16,8 @@ loop-part-preserved c =
     let t = YieldsList-turn yields c.loop-part.yielded _ c.loop-part.yielded_by _ _ c.in-Some.part c.in-Some.is c.next.ensures.steps in
     let pieces : List (List ℕ) = slice_split (λ b. b == 32) c.args.text.now in
     let found = c.in-Some-read_word.ensures.some in
-    rw (c.in_ok-push-in-Some-read_word.ensures.items, length_push c.loop-part.yielded c.in-Some.part, cut) record {
+    let pushed : is_ok c.push.result ≡ true = search rules in
+    rw (c.push.ensures.items, pushed, length_push c.loop-part.yielded c.in-Some.part, cut) record {
       texts = words_more pieces (length c.loop-part.yielded) c.loop-part.words.items c.in-Some-read_word.word c.in-Some.part.now t.0 t.1 found.0 (rw cut at c.loop-part.invariant.texts);
       fit = fits_push c.loop-part.words.items c.in-Some-read_word.word c.loop-part.invariant.fit found.1;
     }

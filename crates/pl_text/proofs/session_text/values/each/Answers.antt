@@ -1,3 +1,5 @@
+use Rattle.std.proofs.Common.{◌≡◌, true, rules}
+use Rattle.std.specs.Prelude.{is_ok}
 use Rattle.std.proofs.lemmas.Result.{err_from_is_err_and}
 use Rattle.serde_json.specs.View.{view}
 use Rattle.pl_text.proofs.SessionElements.{each-more, each-stops}
@@ -10,4 +12,5 @@ returns-in_err-from_data g c =
 
 pub loop-value-preserved : goal.loop-value-preserved
 loop-value-preserved g c =
-    rw c.in_ok-push.ensures.items (each-more g.T.FromData.meaning view c.args.values.now c.loop-value.value-index c.value-item.result c.loop-value.read.items c.in_ok-from_data.field-0 c.loop-value-test.true c.value-item.is c.loop-value.invariant c.in_ok-from_data.ensures)
+    let pushed : is_ok c.push.result ≡ true = search rules in
+    rw (c.push.ensures.items, pushed) (each-more g.T.FromData.meaning view c.args.values.now c.loop-value.value-index c.value-item.result c.loop-value.read.items c.in_ok-from_data.field-0 c.loop-value-test.true c.value-item.is c.loop-value.invariant c.in_ok-from_data.ensures)
