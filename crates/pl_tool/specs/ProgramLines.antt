@@ -2,7 +2,7 @@
 use Rattle.std.specs.Prelude.{List, [], ◌&&◌, drop, codes, Bool, not, Option, Some, None, unwrap_or, option_and_then, option_map, if◌then◌else◌}
 use Rattle.std.specs.List.{list_any}
 use Rattle.std.specs.Str.{bytes_eq}
-use Rattle.clap.specs.Walk.{Row, Rule, Text, first_of, is_empty}
+use Rattle.clap.specs.Walk.{Row, Text, first_of, is_empty}
 use Rattle.clap.specs.Faults.{fault_of}
 use Rattle.clap.specs.Simple.{App, new_app, new_rule, subcommand_of, with_rule, with_subcommand}
 use Rattle.clap.specs.declared.builder.action.ArgAction.TheVariants.{Set}
@@ -11,19 +11,17 @@ use Rattle.pl_exec.specs.declared.running.QueueKind.TheVariants.{Waiting, Ring}
 use Rattle.pl_tool.specs.declared.program.command_line.Request.{Request}
 use Rattle.pl_tool.specs.declared.program.command_line.Request.TheVariants as request
 
--- --moves MOVES
-abbrev pub moves_option : Rule
-moves_option = record (new_rule (codes "moves")) { long = Some (codes "moves"); action = Some Set }
+-- a subcommand with one option, which takes a text
+abbrev pub command_with : Text → Text → App
+command_with name option = with_rule (new_app name) (record (new_rule option) { long = Some option; action = Some Set })
 
+-- replay --moves MOVES
 abbrev pub replay_command : App
-replay_command = with_rule (new_app (codes "replay")) moves_option
+replay_command = command_with (codes "replay") (codes "moves")
 
--- --queue waiting|ring
-abbrev pub queue_option : Rule
-queue_option = record (new_rule (codes "queue")) { long = Some (codes "queue"); action = Some Set }
-
+-- run --queue waiting|ring
 abbrev pub run_command : App
-run_command = with_rule (new_app (codes "run")) queue_option
+run_command = command_with (codes "run") (codes "queue")
 
 -- without an option
 abbrev pub plain_command : App

@@ -4,7 +4,7 @@ ghost use Rattle.std.specs.Prelude.{◌≡◌, [], codes, drop, map, option_and_
 ghost use Rattle.std.specs.List.{list_any};
 ghost use Rattle.std.specs.Str.{bytes_eq};
 ghost use Rattle.clap.specs.Words.{FailsBy, app_of, fault_of, first_value, found_of, rows_of, subcommand_of, subcommand_rows_of, with_subcommand};
-ghost use Rattle.pl_tool.specs.ProgramLines.{Run, program, queue_named, replay_command, request_of, request_of_subcommand, request_view, run_command};
+ghost use Rattle.pl_tool.specs.ProgramLines.{Run, command_with, program, queue_named, request_of, request_of_subcommand, request_view};
 
 use clap::error::ErrorKind;
 use clap::{Arg, ArgAction, ArgMatches, Command, Error};
@@ -22,24 +22,17 @@ pub(crate) enum Request<'a> {
     Plain,
 }
 
-/// Tells `clap` of the subcommand `replay`.
-fn with_replay<'a>(alloc: Global, command: Command<'a>) -> Result<Command<'a>, AllocError>
-    ensures { IfOk result (λ made. app_of made ≡ with_subcommand (app_of command.entry) replay_command.top) }
+/// Tells `clap` of a subcommand and of its one option, which takes a text.
+fn with_option<'a>(
+    alloc: Global,
+    command: Command<'a>,
+    name: &'a str,
+    option: &'a str,
+) -> Result<Command<'a>, AllocError>
+    ensures { IfOk result (λ made. app_of made ≡ with_subcommand (app_of command.entry) (command_with name.entry.now option.entry.now).top) }
 {
-    let moves = Arg::new(alloc, "moves")
-        .long("moves")
-        .action(ArgAction::Set);
-    command.subcommand(Command::new(alloc, "replay").arg(moves)?)
-}
-
-/// Tells `clap` of the subcommand `run`.
-fn with_run<'a>(alloc: Global, command: Command<'a>) -> Result<Command<'a>, AllocError>
-    ensures { IfOk result (λ made. app_of made ≡ with_subcommand (app_of command.entry) run_command.top) }
-{
-    let queue = Arg::new(alloc, "queue")
-        .long("queue")
-        .action(ArgAction::Set);
-    command.subcommand(Command::new(alloc, "run").arg(queue)?)
+    let taken = Arg::new(alloc, option).long(option).action(ArgAction::Set);
+    command.subcommand(Command::new(alloc, name).arg(taken)?)
 }
 
 /// The program's command line, as `clap` is told of it.
@@ -47,7 +40,8 @@ fn command<'a>(alloc: Global) -> Result<Command<'a>, AllocError>
     ensures { IfOk result (λ made. app_of made ≡ program) }
 {
     let program = Command::new(alloc, "pl_tool");
-    let program = with_run(alloc, with_replay(alloc, program)?)?;
+    let program = with_option(alloc, program, "replay", "moves")?;
+    let program = with_option(alloc, program, "run", "queue")?;
     let plain = Command::new(alloc, "plain");
     program.subcommand(plain)
 }
