@@ -30,22 +30,12 @@ status_of Memory = 4
 status_of Output = 4
 
 -- out of memory is one failure, wherever it comes from
-abbrev pub failure_of_moves : MovesFault → Failure
-failure_of_moves moves.Memory = Memory
-failure_of_moves moves.Form = Moves moves.Form
-failure_of_moves moves.Limit = Moves moves.Limit
-
-abbrev pub failure_of_session : SessionFault → Failure
-failure_of_session session.Memory = Memory
-failure_of_session f = Session f
-
-abbrev pub failure_of_replay : ReplayFault → Failure
-failure_of_replay replay.Memory = Memory
-failure_of_replay replay.NoSuch = Replay replay.NoSuch
-
-abbrev pub failure_of_run : RunFault → Failure
-failure_of_run run.Memory = Memory
-failure_of_run run.Spawn = Run run.Spawn
+abbrev pub or_memory : Failure → Failure
+or_memory (Moves moves.Memory) = Memory
+or_memory (Replay replay.Memory) = Memory
+or_memory (Session session.Memory) = Memory
+or_memory (Run run.Memory) = Memory
+or_memory failure = failure
 
 abbrev pub failure_of_print : PrintFault → Failure
 failure_of_print print.Memory = Memory

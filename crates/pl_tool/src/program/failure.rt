@@ -2,11 +2,11 @@
 
 ghost use Rattle.std.specs.Prelude.{◌≡◌};
 ghost use Rattle.std.specs.IoError.{error_kind};
-ghost use Rattle.pl_tool.specs.ProgramFailures.{failure_of_moves, failure_of_session, failure_of_replay, failure_of_run, failure_of_print, failure_of_read, failure_of_words, status_of, failure_line, build_line};
+ghost use Rattle.pl_tool.specs.ProgramFailures.{failure_of_read, failure_of_words, or_memory, status_of, failure_line, build_line};
 
 use pl_build::BuildFault;
 use pl_exec::RunFault;
-use pl_text::{MovesFault, PrintFault, SessionFault};
+use pl_text::{MovesFault, SessionFault};
 use pl_world::ReplayFault;
 use std::io;
 use std::io::ErrorKind;
@@ -50,6 +50,19 @@ impl Failure {
         match error.kind() {
             ErrorKind::Interrupted => None,
             _ => Some(Failure::Input),
+        }
+    }
+
+    /// This failure, or `Memory` where its fault says that memory ran out: that is one failure, wherever it comes from.
+    pub(crate) fn or_memory(self) -> Failure
+        ensures { result ≡ or_memory self }
+    {
+        match self {
+            Failure::Moves(MovesFault::Memory)
+            | Failure::Replay(ReplayFault::Memory)
+            | Failure::Session(SessionFault::Memory)
+            | Failure::Run(RunFault::Memory) => Failure::Memory,
+            _ => self,
         }
     }
 
@@ -106,60 +119,5 @@ fn build_line(fault: BuildFault) -> &'static str
         BuildFault::TwoTurns => "session refused: 6 Build 6 TwoTurns\n",
         BuildFault::Marks => "session refused: 6 Build 7 Marks\n",
         BuildFault::Memory => "out of memory\n",
-    }
-}
-
-impl From<MovesFault> for Failure {
-    ghost from_gives = { λ fault failure. failure ≡ failure_of_moves fault };
-
-    fn from(fault: MovesFault) -> Failure {
-        match fault {
-            MovesFault::Memory => Failure::Memory,
-            _ => Failure::Moves(fault),
-        }
-    }
-}
-
-impl From<SessionFault> for Failure {
-    ghost from_gives = { λ fault failure. failure ≡ failure_of_session fault };
-
-    fn from(fault: SessionFault) -> Failure {
-        match fault {
-            SessionFault::Memory => Failure::Memory,
-            _ => Failure::Session(fault),
-        }
-    }
-}
-
-impl From<ReplayFault> for Failure {
-    ghost from_gives = { λ fault failure. failure ≡ failure_of_replay fault };
-
-    fn from(fault: ReplayFault) -> Failure {
-        match fault {
-            ReplayFault::Memory => Failure::Memory,
-            _ => Failure::Replay(fault),
-        }
-    }
-}
-
-impl From<RunFault> for Failure {
-    ghost from_gives = { λ fault failure. failure ≡ failure_of_run fault };
-
-    fn from(fault: RunFault) -> Failure {
-        match fault {
-            RunFault::Memory => Failure::Memory,
-            RunFault::Spawn => Failure::Run(fault),
-        }
-    }
-}
-
-impl From<PrintFault> for Failure {
-    ghost from_gives = { λ fault failure. failure ≡ failure_of_print fault };
-
-    fn from(fault: PrintFault) -> Failure {
-        match fault {
-            PrintFault::Memory => Failure::Memory,
-            PrintFault::Output => Failure::Output,
-        }
     }
 }
