@@ -10,9 +10,9 @@ use std::alloc::Global;
 /// memory.
 #[derive(Debug, Drop)]
 pub struct Halves {
-    bytes: Vec<u8>,
     calls: u64,
     failures: u64,
+    bytes: Vec<u8>,
 }
 
 impl Halves {
@@ -21,9 +21,9 @@ impl Halves {
         ensures { ⟦<Halves as Transport>⟧.state result ≡ new_state None None }
     {
         Halves {
-            bytes: Vec::new(alloc),
             calls: 0,
             failures: 0,
+            bytes: Vec::new(alloc),
         }
     }
 }
@@ -35,8 +35,9 @@ impl Transport for Halves {
 
     fn write(&mut self, bytes: &[u8]) -> Result<usize, TransportFault> {
         let count = bytes.len() - bytes.len() / 2;
+        let half = &bytes[..count];
         self.calls = self.calls.saturating_add(1);
-        if self.bytes.extend_from_slice(&bytes[..count]).is_err() {
+        if self.bytes.extend_from_slice(half).is_err() {
             self.failures = self.failures.saturating_add(1);
             return Err(TransportFault::Failed);
         }
