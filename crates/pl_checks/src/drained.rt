@@ -92,14 +92,14 @@ fn cr_inside_line(rt: HostRuntime) -> Result<(), Fail> {
     )
 }
 
-const THREE_SUCCESSES: &str = "0 Success\n1 Success\n2 Success\n";
-
 #[test]
 fn totals(rt: HostRuntime) -> Result<(), Fail> {
-    let report = format!(in rt.alloc();
-        "channel 0 drained\ntail 6\nActive\nRead Add a 7\nRead Add b 1\nRead Add a 5\nRead Get a\nReadComplete\nbytes 18 3a370d0a3a310d0a3a31320d0a3a31320d0a\nwrites 4\n{THREE_SUCCESSES}3 Success\n"
-    )?;
-    drains(&rt, sessions::TOTALS, "R0x4 O0x4", report.as_str())
+    drains(
+        &rt,
+        sessions::TOTALS,
+        "R0x4 O0x4",
+        "channel 0 drained\ntail 6\nActive\nRead Add a 7\nRead Add b 1\nRead Add a 5\nRead Get a\nReadComplete\nbytes 18 3a370d0a3a310d0a3a31320d0a3a31320d0a\nwrites 4\n0 Success\n1 Success\n2 Success\n3 Success\n",
+    )
 }
 
 #[test]
@@ -114,10 +114,12 @@ fn leading_zero(rt: HostRuntime) -> Result<(), Fail> {
 
 #[test]
 fn nine_digits(rt: HostRuntime) -> Result<(), Fail> {
-    let report = format!(in rt.alloc();
-        "channel 0 drained\ntail 5\nActive\nRead Add a 999999999\nCaught Syntax\nRead Get zz\nReadComplete\nbytes 29 3a3939393939393939390d0a2d4552522073796e7461780d0a3a300d0a\nwrites 3\n{THREE_SUCCESSES}"
-    )?;
-    drains(&rt, sessions::NINE_DIGITS, "R0x4 O0x4", report.as_str())
+    drains(
+        &rt,
+        sessions::NINE_DIGITS,
+        "R0x4 O0x4",
+        "channel 0 drained\ntail 5\nActive\nRead Add a 999999999\nCaught Syntax\nRead Get zz\nReadComplete\nbytes 29 3a3939393939393939390d0a2d4552522073796e7461780d0a3a300d0a\nwrites 3\n0 Success\n1 Success\n2 Success\n",
+    )
 }
 
 #[test]
@@ -130,20 +132,24 @@ fn quit(rt: HostRuntime) -> Result<(), Fail> {
     )
 }
 
+/// Says that a session of one ping drains, that its write has this outcome, and that no byte leaves.
+fn writes_nothing(rt: &impl Runtime, text: &str, outcome: &str) -> Result<(), Fail> {
+    let report = format!(in rt.alloc();
+        "channel 0 drained\ntail 3\nActive\nRead Ping\nReadComplete\nbytes 0 -\nwrites 1\n0 {outcome}\n"
+    )?;
+    gives(rt, text, "R0x4 O0x4", report.as_str())
+}
+
 #[test]
 fn encoder_behind_turn(rt: HostRuntime) -> Result<(), Fail> {
     let text = sessions::encoder_behind_turn(&rt)?;
-    let report =
-        "channel 0 drained\ntail 3\nActive\nRead Ping\nReadComplete\nbytes 0 -\nwrites 1\n0 Unsupported\n";
-    gives(&rt, text.as_str(), "R0x4 O0x4", report)
+    writes_nothing(&rt, text.as_str(), "Unsupported")
 }
 
 #[test]
 fn flush_never_comes(rt: HostRuntime) -> Result<(), Fail> {
     let text = sessions::flush_never_comes(&rt)?;
-    let report =
-        "channel 0 drained\ntail 3\nActive\nRead Ping\nReadComplete\nbytes 0 -\nwrites 1\n0 Closed\n";
-    gives(&rt, text.as_str(), "R0x4 O0x4", report)
+    writes_nothing(&rt, text.as_str(), "Closed")
 }
 
 /// The first reply leaves in three calls, and so does the second.

@@ -15,12 +15,10 @@ use std::test::Fail;
 fn all_moves(alloc: Global, channels: u16, executors: u16) -> Result<Vec<Move>, Fail> {
     let mut moves = Vec::new(alloc);
     for channel in 0..channels {
-        moves.push(Move::Read(channel))?;
-        moves.push(Move::Out(channel))?;
+        moves.extend_from_slice(&[Move::Read(channel), Move::Out(channel)])?;
     }
     for executor in 0..executors {
-        moves.push(Move::Task(executor))?;
-        moves.push(Move::Hand(executor))?;
+        moves.extend_from_slice(&[Move::Task(executor), Move::Hand(executor)])?;
     }
     Ok(moves)
 }

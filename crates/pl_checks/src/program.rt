@@ -318,12 +318,11 @@ fn failing_reads(rt: HostRuntime) -> Result<(), Fail> {
         let mut reader = Repeated {
             byte,
             at_once,
-            reads: 0,
-            fails_after,
+            reads_left: fails_after,
         };
         let (status, out, err) = ran_on(&rt, &["replay"], &mut reader)?;
         assert_eq!(rt; status, 3);
-        assert_eq!(rt; reader.reads, reads);
+        assert_eq!(rt; fails_after.saturating_sub(reader.reads_left), reads);
         assert_eq!(rt; out.len(), 0);
         assert_eq!(rt; err.as_slice(), want.as_bytes());
     }

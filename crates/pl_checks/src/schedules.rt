@@ -16,14 +16,14 @@ fn leaves_open(rt: &impl Runtime, moves: &str, report: &str) -> Result<(), Fail>
     leaves(rt, text.as_str(), moves, report)
 }
 
+/// The report of a channel that answered a ping, of which nothing was written.
+const UNWRITTEN: &str =
+    "channel 0 open\ntail 3\nActive\nRead Ping\nReadComplete\nbytes 0 -\nwrites 1\n0 Open\n";
+
 /// The write is not enabled before the read.
 #[test]
 fn out_before_read(rt: HostRuntime) -> Result<(), Fail> {
-    leaves_open(
-        &rt,
-        "O0 R0x2",
-        "channel 0 open\ntail 3\nActive\nRead Ping\nReadComplete\nbytes 0 -\nwrites 1\n0 Open\n",
-    )
+    leaves_open(&rt, "O0 R0x2", UNWRITTEN)
 }
 
 /// No moves, and moves that are never enabled while one executor runs all handlers.
@@ -63,7 +63,7 @@ fn handover_open(rt: HostRuntime) -> Result<(), Fail> {
         &rt,
         DECODER_APART,
         "R0x3 H0 T1 H1 T0 H0 T1 H1 T0 H0 T1 H1 T0 H0 T1 H1 T0",
-        "channel 0 open\ntail 3\nActive\nRead Ping\nReadComplete\nbytes 0 -\nwrites 1\n0 Open\n",
+        UNWRITTEN,
     )
 }
 
@@ -83,10 +83,5 @@ fn part_of_a_reply(rt: HostRuntime) -> Result<(), Fail> {
 #[test]
 fn burst_stays_held(rt: HostRuntime) -> Result<(), Fail> {
     let text = burst_held(&rt)?;
-    leaves(
-        &rt,
-        text.as_str(),
-        "R0x9",
-        "channel 0 open\ntail 3\nActive\nRead Ping\nReadComplete\nbytes 0 -\nwrites 1\n0 Open\n",
-    )
+    leaves(&rt, text.as_str(), "R0x9", UNWRITTEN)
 }

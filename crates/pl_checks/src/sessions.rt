@@ -206,9 +206,9 @@ pub(crate) fn totals_across_groups(
     capacity: u16,
     members: &str,
 ) -> Result<String, AllocError> {
-    let (_, bursts) = TOTALS;
     format!(in rt.alloc();
-        "{{\"version\":1,\"capacity\":{capacity},\"loops\":1,\"groups\":[{{\"name\":\"a\",\"size\":1}},{{\"name\":\"b\",\"size\":1}}],\"channels\":[{{\"handlers\":[{ACROSS_GROUPS}]{members},\"bursts\":{bursts}}}]}}"
+        "{{\"version\":1,\"capacity\":{capacity},\"loops\":1,\"groups\":[{{\"name\":\"a\",\"size\":1}},{{\"name\":\"b\",\"size\":1}}],\"channels\":[{{\"handlers\":[{ACROSS_GROUPS}]{members},\"bursts\":{}}}]}}",
+        TOTALS.1
     )
 }
 

@@ -8,16 +8,15 @@ use std::io::{ErrorKind, Read, Write};
 pub(crate) struct Repeated {
     pub(crate) byte: u8,
     pub(crate) at_once: usize,
-    pub(crate) reads: u64,
-    pub(crate) fails_after: u64,
+    pub(crate) reads_left: u64,
 }
 
 impl Read for Repeated {
     fn read(&mut self, buffer: &mut [u8]) -> io::Result<usize> {
-        if self.reads == self.fails_after {
+        if self.reads_left == 0 {
             return Err(io::Error::from(ErrorKind::TimedOut));
         }
-        self.reads = self.reads.saturating_add(1);
+        self.reads_left = self.reads_left.saturating_sub(1);
         let count = self.at_once.min(buffer.len());
         for byte in &mut buffer[..count] {
             *byte = self.byte;
