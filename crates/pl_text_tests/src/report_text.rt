@@ -27,7 +27,7 @@ writes 1
 0 Fault
 ";
 
-const ABORT: &str = "channel 0 failed Aborted
+const ABORTED: &str = "channel 0 failed Aborted
 tail 3
 Active
 Read Ping
@@ -35,15 +35,9 @@ ReadComplete
 bytes 0 -
 writes 1
 0 Closed
-channel 1 failed Aborted
-tail 3
-Active
-Read Ping
-ReadComplete
-bytes 7 2b504f4e470d0a
-writes 1
-0 Success
-channel 2 failed Memory
+";
+
+const WITHOUT_MEMORY: &str = "channel 2 failed Memory
 tail 0
 bytes 0 -
 writes 0
@@ -171,7 +165,8 @@ fn transport_fault(rt: HostRuntime) -> Result<(), Fail> {
     assert_printed(&rt, vec![in rt.alloc(); channel]?, TRANSPORT_FAULT)
 }
 
-/// A channel that is aborted before its write and one behind it, and one that finds no memory.
+/// A channel that is aborted before its write, one that is aborted behind it and has all else of the report of one PING,
+/// and one that finds no memory.
 #[test]
 fn abort(rt: HostRuntime) -> Result<(), Fail> {
     let aborted = Stands::Failed(Cause::Aborted);
@@ -183,11 +178,11 @@ fn abort(rt: HostRuntime) -> Result<(), Fail> {
         bytes(&rt, b"")?,
         Vec::new(rt.alloc()),
     );
-    assert_printed(
-        &rt,
-        vec![in rt.alloc(); before, behind, without_memory]?,
-        ABORT,
-    )
+    let channels = vec![in rt.alloc(); before, behind, without_memory]?;
+    let drained = "channel 0 drained";
+    let behind_text = PING_REPORT.replace(rt.alloc(), drained, "channel 1 failed Aborted")?;
+    let text = format!(in rt.alloc(); "{ABORTED}{behind_text}{WITHOUT_MEMORY}")?;
+    assert_printed(&rt, channels, text.as_str())
 }
 
 /// The first of two messages has left, and the transport fails in the second.

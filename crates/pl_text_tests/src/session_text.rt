@@ -193,154 +193,136 @@ fn truncated_session(rt: HostRuntime) -> Result<(), Fail> {
     Ok(())
 }
 
-/// Each text in the place of a part of the session of one PING has its answer: a fault, or None where it is read.
-fn assert_answers(
-    rt: &(impl Abort + AllocGlobal),
-    part: &str,
-    others: &[(&str, Option<SessionFault>)],
-) -> Result<(), Fail> {
-    for (other, fault) in others {
-        let text = PING_SESSION.replace(rt.alloc(), part, other)?;
-        assert_answer(rt, text.as_str(), *fault);
-    }
-    Ok(())
-}
-
 /// Members of the top object.
 #[test]
 fn hostile_members(rt: HostRuntime) -> Result<(), Fail> {
-    assert_answers(
-        &rt,
-        r#""version":1"#,
-        &[
-            (r#""version":1.5"#, KIND),
-            (r#""version":"1""#, KIND),
-            (r#""version":null"#, KIND),
-            (r#""version":0"#, Some(SessionFault::Version)),
-        ],
-    )?;
-    assert_answers(
-        &rt,
-        r#""capacity":4"#,
-        &[
-            (r#""capacity":null"#, KIND),
-            (r#""capacity":65536"#, None),
-            (r#""capacity":65537"#, LIMIT),
-        ],
-    )?;
-    assert_answers(
-        &rt,
-        r#""loops":1"#,
-        &[
-            (r#""loops":16"#, None),
-            (r#""loops":1,"groups":[]"#, None),
-            (r#""loops":1,"groups":null"#, None),
-            (r#""loops":17"#, LIMIT),
-            (r#""loops":0"#, LIMIT),
-            (r#""loops":1,"groups":[{"name":"g","size":65536}]"#, LIMIT),
-            (r#""loops":1,"groups":7"#, KIND),
-            (r#""loops":1,"groups":[7]"#, KIND),
-            (r#""loops":1,"groups":[{"size":7,"name":null}]"#, KIND),
-            (r#""loops":1,"groups":[{"name":"g"}]"#, MISSING),
-        ],
-    )?;
-    assert_answers(&rt, r#"[{"handlers""#, &[(r#"[7,{"handlers""#, KIND)])?;
-    assert_answers(&rt, r#"{"handlers""#, &[(r#"{"more""#, MISSING)])
+    let part = r#""version":1,"capacity":4,"loops":1"#;
+    for (version, capacity, loops, fault) in [
+        ("1.5", "4", "1", KIND),
+        ("\"1\"", "4", "1", KIND),
+        ("null", "4", "1", KIND),
+        ("0", "4", "1", Some(SessionFault::Version)),
+        ("1", "null", "1", KIND),
+        ("1", "65536", "1", None),
+        ("1", "65537", "1", LIMIT),
+        ("1", "4", "16", None),
+        ("1", "4", r#"1,"groups":[]"#, None),
+        ("1", "4", r#"1,"groups":null"#, None),
+        ("1", "4", "17", LIMIT),
+        ("1", "4", "0", LIMIT),
+        ("1", "4", r#"1,"groups":[{"name":"g","size":65536}]"#, LIMIT),
+        ("1", "4", r#"1,"groups":7"#, KIND),
+        ("1", "4", r#"1,"groups":[7]"#, KIND),
+        ("1", "4", r#"1,"groups":[{"size":7,"name":null}]"#, KIND),
+        ("1", "4", r#"1,"groups":[{"name":"g"}]"#, MISSING),
+    ] {
+        let other = format!(in rt.alloc();
+            "\"version\":{version},\"capacity\":{capacity},\"loops\":{loops}"
+        )?;
+        let text = PING_SESSION.replace(rt.alloc(), part, other.as_str())?;
+        assert_answer(&rt, text.as_str(), fault);
+    }
+    let text = PING_SESSION.replace(rt.alloc(), r#"[{"handlers""#, r#"[7,{"handlers""#)?;
+    assert_answer(&rt, text.as_str(), KIND);
+    let text = PING_SESSION.replace(rt.alloc(), r#"{"handlers""#, r#"{"more""#)?;
+    assert_answer(&rt, text.as_str(), MISSING);
+    Ok(())
 }
 
 /// Members of an edit.
 #[test]
 fn hostile_edits(rt: HostRuntime) -> Result<(), Fail> {
-    assert_answers(
-        &rt,
-        r#""op":"last","name":"decode""#,
-        &[
-            (r#""name":"decode""#, MISSING),
-            (r#""op":"before","name":"decode""#, MISSING),
-            (r#""op":"Last","name":"decode""#, KIND),
-            (r#""op":"first","name":7"#, KIND),
-            (r#""op":"after","name":"decode","at":null"#, KIND),
-        ],
-    )?;
-    assert_answers(&rt, r#""name":"decode""#, &[(r#""name":"other""#, None)])?;
-    assert_answers(
-        &rt,
-        r#""kind":"decode""#,
-        &[
-            (r#""kind":"length""#, KIND),
-            (r#""kind":"decode","group":7"#, KIND),
-            (r#""kind":"flush_every""#, MISSING),
-            (r#""kind":"flush_every","n":0"#, LIMIT),
-            (r#""kind":"flush_every","n":65536"#, LIMIT),
-            (r#""kind":"flush_every","n":65535"#, None),
-            (r#""kind":"decode","group":null"#, None),
-        ],
-    )?;
-    assert_answers(
-        &rt,
-        r#""max":64"#,
-        &[
-            (r#""max":0"#, LIMIT),
-            (r#""max":8193"#, LIMIT),
-            (r#""max":8192"#, None),
-            (r#""max":null"#, KIND),
-        ],
-    )
+    let last = r#""op":"last","name":"decode""#;
+    let decode = r#""kind":"decode""#;
+    let part = format!(in rt.alloc(); "{last},{decode}")?;
+    for (edit, kind, fault) in [
+        (r#""name":"decode""#, decode, MISSING),
+        (r#""op":"before","name":"decode""#, decode, MISSING),
+        (r#""op":"Last","name":"decode""#, decode, KIND),
+        (r#""op":"first","name":7"#, decode, KIND),
+        (r#""op":"after","name":"decode","at":null"#, decode, KIND),
+        (r#""op":"last","name":"other""#, decode, None),
+        (last, r#""kind":"length""#, KIND),
+        (last, r#""kind":"decode","group":7"#, KIND),
+        (last, r#""kind":"flush_every""#, MISSING),
+        (last, r#""kind":"flush_every","n":0"#, LIMIT),
+        (last, r#""kind":"flush_every","n":65536"#, LIMIT),
+        (last, r#""kind":"flush_every","n":65535"#, None),
+        (last, r#""kind":"decode","group":null"#, None),
+    ] {
+        let other = format!(in rt.alloc(); "{edit},{kind}")?;
+        let text = PING_SESSION.replace(rt.alloc(), part.as_str(), other.as_str())?;
+        assert_answer(&rt, text.as_str(), fault);
+    }
+    for (max, fault) in [
+        ("0", LIMIT),
+        ("8193", LIMIT),
+        ("8192", None),
+        ("null", KIND),
+    ] {
+        let other = format!(in rt.alloc(); "\"max\":{max}")?;
+        let text = PING_SESSION.replace(rt.alloc(), r#""max":64"#, other.as_str())?;
+        assert_answer(&rt, text.as_str(), fault);
+    }
+    Ok(())
 }
 
 /// Members of a channel.
 #[test]
 fn hostile_channels(rt: HostRuntime) -> Result<(), Fail> {
-    assert_answers(
-        &rt,
-        r#""bursts":"#,
-        &[
-            (r#""low":null,"high":null,"bursts":"#, None),
-            (r#""high":1073741824,"bursts":"#, None),
-            (r#""low":0,"high":0,"bursts":"#, None),
-            (r#""window":1,"bursts":"#, None),
-            (r#""window":65536,"bursts":"#, None),
-            (r#""fail_at":1,"bursts":"#, None),
-            (r#""fail_at":4294967295,"bursts":"#, None),
-            (r#""abort_after":0,"bursts":"#, None),
-            (r#""abort_after":1,"bursts":"#, None),
-            (
-                r#""window":null,"fail_at":null,"abort_after":null,"bursts":"#,
-                None,
-            ),
-            (r#""high":"8","bursts":"#, KIND),
-            (r#""window":"x","bursts":"#, KIND),
-            (r#""window":1.5,"bursts":"#, KIND),
-            (r#""fail_at":-1,"bursts":"#, KIND),
-            (r#""fail_at":1.0,"bursts":"#, KIND),
-            (r#""fail_at":"1","bursts":"#, KIND),
-            (r#""abort_after":-1,"bursts":"#, KIND),
-            (r#""abort_after":[1],"bursts":"#, KIND),
-            (r#""high":1073741825,"bursts":"#, LIMIT),
-            (r#""low":1073741825,"bursts":"#, LIMIT),
-            (r#""window":0,"bursts":"#, LIMIT),
-            (r#""window":65537,"bursts":"#, LIMIT),
-            (r#""fail_at":0,"bursts":"#, LIMIT),
-            (r#""fail_at":4294967296,"bursts":"#, LIMIT),
-            (r#""abort_after":2,"bursts":"#, LIMIT),
-            (r#""abort_after":4294967296,"bursts":"#, LIMIT),
-            // The window comes before the call that fails, that before the bursts, and those before the abort.
-            (r#""fail_at":"x","window":0,"bursts":"#, LIMIT),
-            (r#""abort_after":"x","fail_at":0,"bursts":"#, LIMIT),
-        ],
-    )?;
-    assert_answers(
-        &rt,
-        r#""bursts":[["PING\r\n"]]"#,
-        &[
-            (r#""bursts":7,"fail_at":0"#, LIMIT),
-            (r#""abort_after":2,"bursts":[[7]]"#, KIND),
-            (r#""bursts":[["PING"],[7]]"#, KIND),
-            (r#""bursts":7"#, KIND),
-            (r#""bursts":null"#, KIND),
-            (r#""abort_after":0"#, MISSING),
-        ],
-    )
+    for (member, value, fault) in [
+        ("low", "1073741825", LIMIT),
+        ("high", "1073741824", None),
+        ("high", "\"8\"", KIND),
+        ("high", "1073741825", LIMIT),
+        ("window", "1", None),
+        ("window", "65536", None),
+        ("window", "\"x\"", KIND),
+        ("window", "1.5", KIND),
+        ("window", "0", LIMIT),
+        ("window", "65537", LIMIT),
+        ("fail_at", "1", None),
+        ("fail_at", "4294967295", None),
+        ("fail_at", "-1", KIND),
+        ("fail_at", "1.0", KIND),
+        ("fail_at", "\"1\"", KIND),
+        ("fail_at", "0", LIMIT),
+        ("fail_at", "4294967296", LIMIT),
+        ("abort_after", "0", None),
+        ("abort_after", "1", None),
+        ("abort_after", "-1", KIND),
+        ("abort_after", "[1]", KIND),
+        ("abort_after", "2", LIMIT),
+        ("abort_after", "4294967296", LIMIT),
+    ] {
+        let other = format!(in rt.alloc(); "\"{member}\":{value},\"bursts\":")?;
+        let text = PING_SESSION.replace(rt.alloc(), r#""bursts":"#, other.as_str())?;
+        assert_answer(&rt, text.as_str(), fault);
+    }
+    let ping = r#""bursts":[["PING\r\n"]]"#;
+    for (members, bursts, fault) in [
+        (r#""low":null,"high":null,"#, ping, None),
+        (r#""low":0,"high":0,"#, ping, None),
+        (
+            r#""window":null,"fail_at":null,"abort_after":null,"#,
+            ping,
+            None,
+        ),
+        ("", r#""bursts":[["PING"],[7]]"#, KIND),
+        ("", r#""bursts":7"#, KIND),
+        ("", r#""bursts":null"#, KIND),
+        ("", r#""abort_after":0"#, MISSING),
+        // The window comes before the call that fails, that before the bursts, and those before the abort.
+        (r#""fail_at":"x","window":0,"#, ping, LIMIT),
+        ("", r#""bursts":7,"fail_at":0"#, LIMIT),
+        (r#""abort_after":2,"#, r#""bursts":[[7]]"#, KIND),
+        (r#""abort_after":"x","fail_at":0,"#, ping, LIMIT),
+    ] {
+        let other = format!(in rt.alloc(); "{members}{bursts}")?;
+        let text = PING_SESSION.replace(rt.alloc(), ping, other.as_str())?;
+        assert_answer(&rt, text.as_str(), fault);
+    }
+    Ok(())
 }
 
 #[test]
@@ -632,25 +614,25 @@ fn many_channels(rt: HostRuntime) -> Result<(), Fail> {
 fn group_refusals(rt: HostRuntime) -> Result<(), Fail> {
     let duplicate = Some(SessionFault::Build(BuildFault::DuplicateName));
     let limit = Some(SessionFault::Build(BuildFault::Limit));
-    assert_answers(
-        &rt,
-        r#""loops":1"#,
-        &[
-            (
-                r#""loops":1,"groups":[{"name":"g","size":1},{"name":"g","size":1}]"#,
-                duplicate,
-            ),
-            (r#""loops":16,"groups":[{"name":"g","size":1}]"#, limit),
-            (
-                r#""loops":1,"groups":[{"name":"g","size":1},{"name":"g","size":0}]"#,
-                limit,
-            ),
-            (r#""loops":1,"groups":[{"name":"g","size":0}]"#, limit),
-            (r#""loops":1,"groups":[{"name":"g","size":65535}]"#, limit),
-            (r#""loops":1,"groups":[{"name":"","size":1}]"#, limit),
-            (r#""loops":1,"groups":[{"name":"g","size":15}]"#, None),
-        ],
-    )
+    for (other, fault) in [
+        (
+            r#""loops":1,"groups":[{"name":"g","size":1},{"name":"g","size":1}]"#,
+            duplicate,
+        ),
+        (r#""loops":16,"groups":[{"name":"g","size":1}]"#, limit),
+        (
+            r#""loops":1,"groups":[{"name":"g","size":1},{"name":"g","size":0}]"#,
+            limit,
+        ),
+        (r#""loops":1,"groups":[{"name":"g","size":0}]"#, limit),
+        (r#""loops":1,"groups":[{"name":"g","size":65535}]"#, limit),
+        (r#""loops":1,"groups":[{"name":"","size":1}]"#, limit),
+        (r#""loops":1,"groups":[{"name":"g","size":15}]"#, None),
+    ] {
+        let text = PING_SESSION.replace(rt.alloc(), r#""loops":1"#, other)?;
+        assert_answer(&rt, text.as_str(), fault);
+    }
+    Ok(())
 }
 
 /// Three channels, each with its decoder and its service in a group of two.
@@ -764,6 +746,17 @@ fn burst_order(rt: HostRuntime) -> Result<(), Fail> {
     Ok(())
 }
 
+/// What a session is told as whose pipelines or groups are not built.
+const BUILD_FAULT_TEXTS: [(BuildFault, &str); 7] = [
+    (BuildFault::DuplicateName, "6 Build 1 DuplicateName"),
+    (BuildFault::NoSuchName, "6 Build 2 NoSuchName"),
+    (BuildFault::Limit, "6 Build 3 Limit"),
+    (BuildFault::NoSuchGroup, "6 Build 4 NoSuchGroup"),
+    (BuildFault::NoTurn, "6 Build 5 NoTurn"),
+    (BuildFault::TwoTurns, "6 Build 6 TwoTurns"),
+    (BuildFault::Marks, "6 Build 7 Marks"),
+];
+
 #[test]
 fn fault_texts(rt: HostRuntime) -> Result<(), Fail> {
     assert_told(&rt, SessionFault::NotJson, "1 NotJson")?;
@@ -771,15 +764,7 @@ fn fault_texts(rt: HostRuntime) -> Result<(), Fail> {
     assert_told(&rt, SessionFault::Missing, "3 Missing")?;
     assert_told(&rt, SessionFault::Kind, "4 Kind")?;
     assert_told(&rt, SessionFault::Limit, "5 Limit")?;
-    for (fault, text) in [
-        (BuildFault::DuplicateName, "6 Build 1 DuplicateName"),
-        (BuildFault::NoSuchName, "6 Build 2 NoSuchName"),
-        (BuildFault::Limit, "6 Build 3 Limit"),
-        (BuildFault::NoSuchGroup, "6 Build 4 NoSuchGroup"),
-        (BuildFault::NoTurn, "6 Build 5 NoTurn"),
-        (BuildFault::TwoTurns, "6 Build 6 TwoTurns"),
-        (BuildFault::Marks, "6 Build 7 Marks"),
-    ] {
+    for (fault, text) in BUILD_FAULT_TEXTS {
         assert_told(&rt, SessionFault::Build(fault), text)?;
     }
     assert_told(&rt, SessionFault::from(BuildFault::Memory), "7 Memory")
