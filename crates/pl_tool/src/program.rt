@@ -4,7 +4,7 @@ ghost use Rattle.std.specs.Prelude.{◌≡◌, ◌≢◌, ◌⊎◌, ◌≤◌, 
 ghost use Rattle.std.specs.IoError.{error_kind};
 ghost use Rattle.std.specs.Io.KnownBytes.{Keeps};
 ghost use Rattle.pl_tool.specs.declared.program.failure.Failure.TheVariants as failure;
-ghost use Rattle.pl_tool.specs.ProgramFailures.{failure_line, failure_of_print, failure_of_words, or_memory, status_of};
+ghost use Rattle.pl_tool.specs.ProgramFailures.{failure_line, failure_of_words, status_of};
 ghost use Rattle.pl_tool.specs.ProgramLines.{Plain, Replay, Run, request_of, request_view};
 ghost use Rattle.pl_tool.specs.ProgramOutcomes.{AppendsPrefixOf, Explains, HasFailed, HasPrinted, IsCause, IsReported, TakesAtMost, all_drained};
 
@@ -17,10 +17,10 @@ use command_line::{Request, request_of};
 use failure::Failure;
 pub use input::MAX_INPUT;
 use input::take_session;
-use pl_exec::{Gate, QueueKind, RunFault, run};
+use pl_exec::{Gate, QueueKind, run};
 use pl_replay::replay;
-use pl_text::{MovesFault, PrintFault, print_report, read_moves};
-use pl_world::{ReplayFault, Report, Stands, plain};
+use pl_text::{print_report, read_moves};
+use pl_world::{Report, Stands, plain};
 use std::alloc::Global;
 use std::io;
 use std::io::{Read, Write};
@@ -47,24 +47,6 @@ fn request_or_usage<'a>(alloc: Global, words: &'a [String]) -> Result<Request<'a
         .ok_or(Failure::Usage)
 }
 
-/// Moves that were not read.
-impl From<MovesFault> for Failure {
-    ghost from_gives = { λ fault e. e ≡ or_memory (failure.Moves fault) };
-
-    fn from(fault: MovesFault) -> Failure {
-        Failure::Moves(fault).or_memory()
-    }
-}
-
-/// A replay that was not made.
-impl From<ReplayFault> for Failure {
-    ghost from_gives = { λ fault e. e ≡ or_memory (failure.Replay fault) };
-
-    fn from(fault: ReplayFault) -> Failure {
-        Failure::Replay(fault).or_memory()
-    }
-}
-
 /// The report of a replay by the moves of a text. They are read before the session.
 fn replayed<R: Read>(alloc: Global, text: &str, reader: &mut R) -> Result<Report, Failure>
     ensures ok { IfOk result (λ report. IsReported (Some (Replay text.now)) (R.remaining reader.old) (R.remaining reader.new) report) }
@@ -75,15 +57,6 @@ fn replayed<R: Read>(alloc: Global, text: &str, reader: &mut R) -> Result<Report
     let session = take_session(alloc, reader)?;
     let report = replay(alloc, session, moves.as_slice())?;
     Ok(report)
-}
-
-/// A run that did not start.
-impl From<RunFault> for Failure {
-    ghost from_gives = { λ fault e. e ≡ or_memory (failure.Run fault) };
-
-    fn from(fault: RunFault) -> Failure {
-        Failure::Run(fault).or_memory()
-    }
 }
 
 /// The report of a run by executors with these queues.
@@ -140,18 +113,6 @@ fn all_drained(report: &Report) -> bool
         .as_slice()
         .iter()
         .all(|channel| channel.stands == Stands::Drained)
-}
-
-/// A report that was not printed.
-impl From<PrintFault> for Failure {
-    ghost from_gives = { λ fault e. e ≡ failure_of_print fault };
-
-    fn from(fault: PrintFault) -> Failure {
-        match fault {
-            PrintFault::Memory => Failure::Memory,
-            PrintFault::Output => Failure::Output,
-        }
-    }
 }
 
 /// Reads the command line, the moves and the session, in this order, and prints the report that is requested. It says

@@ -2,11 +2,12 @@
 
 ghost use Rattle.std.specs.Prelude.{◌≡◌};
 ghost use Rattle.std.specs.IoError.{error_kind};
-ghost use Rattle.pl_tool.specs.ProgramFailures.{failure_of_read, failure_of_words, or_memory, status_of, failure_line, build_line};
+ghost use Rattle.pl_tool.specs.declared.program.failure.Failure.TheVariants as failure;
+ghost use Rattle.pl_tool.specs.ProgramFailures.{failure_of_print, failure_of_read, failure_of_words, or_memory, status_of, failure_line, build_line};
 
 use pl_build::BuildFault;
 use pl_exec::RunFault;
-use pl_text::{MovesFault, SessionFault};
+use pl_text::{MovesFault, PrintFault, SessionFault};
 use pl_world::ReplayFault;
 use std::io;
 use std::io::ErrorKind;
@@ -119,5 +120,53 @@ fn build_line(fault: BuildFault) -> &'static str
         BuildFault::TwoTurns => "session refused: 6 Build 6 TwoTurns\n",
         BuildFault::Marks => "session refused: 6 Build 7 Marks\n",
         BuildFault::Memory => "out of memory\n",
+    }
+}
+
+/// Moves that were not read.
+impl From<MovesFault> for Failure {
+    ghost from_gives = { λ fault e. e ≡ or_memory (failure.Moves fault) };
+
+    fn from(fault: MovesFault) -> Failure {
+        Failure::Moves(fault).or_memory()
+    }
+}
+
+/// A session that was refused.
+impl From<SessionFault> for Failure {
+    ghost from_gives = { λ fault e. e ≡ or_memory (failure.Session fault) };
+
+    fn from(fault: SessionFault) -> Failure {
+        Failure::Session(fault).or_memory()
+    }
+}
+
+/// A replay that was not made.
+impl From<ReplayFault> for Failure {
+    ghost from_gives = { λ fault e. e ≡ or_memory (failure.Replay fault) };
+
+    fn from(fault: ReplayFault) -> Failure {
+        Failure::Replay(fault).or_memory()
+    }
+}
+
+/// A run that did not start.
+impl From<RunFault> for Failure {
+    ghost from_gives = { λ fault e. e ≡ or_memory (failure.Run fault) };
+
+    fn from(fault: RunFault) -> Failure {
+        Failure::Run(fault).or_memory()
+    }
+}
+
+/// A report that was not printed.
+impl From<PrintFault> for Failure {
+    ghost from_gives = { λ fault e. e ≡ failure_of_print fault };
+
+    fn from(fault: PrintFault) -> Failure {
+        match fault {
+            PrintFault::Memory => Failure::Memory,
+            PrintFault::Output => Failure::Output,
+        }
     }
 }

@@ -6,8 +6,6 @@ ghost use Rattle.pl_text.specs.declared.session_text.limits.TheConstants.{MAX_SE
 ghost use Rattle.pl_world.specs.Sessions.{plan_of};
 ghost use Rattle.pl_world.specs.Worlds.{IsUncalled};
 ghost use Rattle.pl_text.specs.SessionReading.{Answers, seen};
-ghost use Rattle.pl_tool.specs.declared.program.failure.Failure.TheVariants as failure;
-ghost use Rattle.pl_tool.specs.ProgramFailures.{or_memory};
 ghost use Rattle.pl_tool.specs.ProgramOutcomes.{EndsReading, RefusesInput, TakesAtMost, TakesSession, session_of_bytes};
 
 use super::failure::Failure;
@@ -74,15 +72,6 @@ fn read_input<R: Read>(reader: &mut R, input: &mut Vec<u8>) -> Result<(), Failur
         }
     }
     Err(Failure::Input)
-}
-
-/// A session that was refused.
-impl From<SessionFault> for Failure {
-    ghost from_gives = { λ fault e. e ≡ or_memory (failure.Session fault) };
-
-    fn from(fault: SessionFault) -> Failure {
-        Failure::Session(fault).or_memory()
-    }
 }
 
 /// The session that bytes mean.
