@@ -16,10 +16,12 @@ use Rattle.pl_context.specs.Stops.{AreAmong, StopsView, HasPlaces, no_stops}
 use Rattle.pl_context.specs.WaitingViews.{stops_for}
 use Rattle.pl_queue.specs.Views.{fresh_sends, fresh_take_counts}
 use Rattle.pl_queue.specs.declared.views.SenderView.{SenderView}
+use Rattle.pl_queue.specs.declared.views.TakerView.{TakerView}
 use Rattle.pl_queue.specs.Rule.{Each}
 use Rattle.pl_words.specs.Names.{Name}
-use Rattle.pl_words.specs.Admissions.{AdmittedView, SendSeatView, new_send_seat}
+use Rattle.pl_words.specs.Admissions.{AdmittedView, new_send_seat}
 use Rattle.pl_flow.specs.Flows.{point, nowhere, on, past}
+use Rattle.pl_executor.specs.declared.inbox.Inbox.{Inbox}
 use Rattle.pl_executor.specs.Admitting.{FewLanes}
 use Rattle.pl_executor.specs.Sent.{sent_at}
 use Rattle.pl_executor.specs.OutboxViews.{OutboxView, OutboxesView, waits_for, sent_to, reached}
@@ -27,9 +29,14 @@ use Rattle.pl_executor.specs.Running.{Runs, IsTaking}
 use Rattle.pl_executor.proofs.RunLemmas.{runs-start}
 use Rattle.pl_executor_tests.specs.declared.nodes.Node.{Node}
 use Rattle.pl_executor_tests.specs.declared.nodes.Outlet.{Outlet}
+use Rattle.pl_executor_tests.specs.declared.places.Way.{Way}
 use Rattle.pl_executor_tests.specs.Nodes.{IsFresh, NodeStands, came, lane_to, makes, outlets_of, taken_of, target_of, writes}
-use Rattle.pl_executor_tests.specs.Openings.{HasWay, IsWay}
+use Rattle.pl_executor_tests.specs.Openings.{HasLane, IsWay, makes_for}
 use Rattle.pl_executor_tests.proofs.NodeLemmas.{makes-lane}
+
+-- where flags are made for an executor, there is a way to it, on which none was sent
+abbrev pub HasWay : Outlet → List OutboxView → Type 0
+HasWay o outboxes = 0 < o.count → (b : OutboxView) × (slice_get outboxes o.target ≡ Some b) × (b.sends ≡ fresh_sends (lane_to o.target ∷ []))
 
 -- the lane to an executor enters it
 target-lane : (executor : ℕ) → target_of (lane_to executor) ≡ executor
@@ -152,16 +159,24 @@ all-of-three P xs x y z are each =
     (all 0 x (omega arith), all 1 y (omega arith), all 2 z (omega arith))
 
 -- a sender and a seat of an inbox are a way to it
-pub way-is : {M S : Type 0} (is_sender : M → S → Type 0) (sends_of : S → SenderView) (mailbox m : M) (name k : Name) (lanes : List Lane) (end : S) (seat : SendSeatView)
-    → m ≡ mailbox → k ≡ name → is_sender mailbox end × (sends_of end ≡ fresh_sends lanes) → seat ≡ new_send_seat name seat.number
-    → IsWay is_sender sends_of (record { mailbox = m; name = k }) lanes (record { sender = end; seat = seat })
-way-is is_sender sends_of mailbox m name k lanes end seat same-mailbox same-name is own = record {
-  sender = subst (λ (x : _). is_sender x end) (sym same-mailbox) is.0;
+pub way-is : {W M S T : Type 0} (is_taker : M → T → Type 0) (takes_of : T → TakerView) (is_sender : M → S → Type 0) (sends_of : S → SenderView) (mailbox : M) (name : Name) (inbox : Inbox W M S T) (lanes : List Lane) (way : Way W M S T)
+    → inbox.mailbox ≡ mailbox → inbox.admission.name ≡ name → is_sender mailbox way.sender × (sends_of way.sender ≡ fresh_sends lanes) → way.seat ≡ new_send_seat name way.seat.number
+    → IsWay is_taker takes_of is_sender sends_of inbox lanes way
+way-is is_taker takes_of is_sender sends_of mailbox name inbox lanes way same-mailbox same-name is own = record {
+  sender = subst (λ (x : _). is_sender x way.sender) (sym same-mailbox) is.0;
   sends = is.1;
-  seat = own ∙ ap (λ (x : Name). new_send_seat x seat.number) (sym same-name);
+  seat = own ∙ ap (λ (x : Name). new_send_seat x way.seat.number) (sym same-name);
 }
 
 -- where flags are made for a target, there is its outbox
-pub way-at : (o : Outlet) (items : List OutboxView) (a b c x : OutboxView) (target : ℕ) → items ≡ a ∷ b ∷ c ∷ [] → o.target ≡ target → slice_get (a ∷ b ∷ c ∷ []) target ≡ Some x → x.sends ≡ fresh_sends (lane_to target ∷ []) → HasWay o items
-way-at o items a b c x target are at found sends some =
-    (x, ap (λ (l : List OutboxView). slice_get l o.target) are ∙ ap (λ (t : ℕ). slice_get (a ∷ b ∷ c ∷ []) t) at ∙ found, sends ∙ ap (λ (t : ℕ). fresh_sends (lane_to t ∷ [])) (sym at))
+pub has-way : (executor : ℕ) (o : Outlet) (items : List OutboxView) (a b c : OutboxView) → items ≡ a ∷ b ∷ c ∷ [] → a.sends ≡ fresh_sends (makes_for executor 0) → b.sends ≡ fresh_sends (makes_for executor 1) → c.sends ≡ fresh_sends (makes_for executor 2)
+    → HasLane executor o → HasWay o items
+has-way executor o items a b c are first second third lane some =
+    let has = lane some in
+    subst (λ (l : List OutboxView). (x : OutboxView) × (slice_get l o.target ≡ Some x) × (x.sends ≡ fresh_sends (lane_to o.target ∷ []))) (sym are) (at o.target has.0 has.1)
+  where
+    at : (target : ℕ) → target < 3 → makes_for executor target ≡ lane_to target ∷ [] → (x : OutboxView) × (slice_get (a ∷ b ∷ c ∷ []) target ≡ Some x) × (x.sends ≡ fresh_sends (lane_to target ∷ []))
+    at zero within is = (a, refl, first ∙ ap (λ ls. fresh_sends ls) is)
+    at (suc zero) within is = (b, refl, second ∙ ap (λ ls. fresh_sends ls) is)
+    at (suc (suc zero)) within is = (c, refl, third ∙ ap (λ ls. fresh_sends ls) is)
+    at (suc (suc (suc target))) within is = absurd (omega (arith, within))

@@ -3,6 +3,8 @@ use Rattle.std.specs.Prelude.{◌≡◌, ◌≢◌, ◌<◌, ◌≤◌, ◌^◌,
 use Rattle.pl_event.specs.declared.envelopes.Lane.{Lane}
 use Rattle.pl_event.specs.declared.envelopes.Kind.TheVariants.{Flags}
 use Rattle.pl_event.specs.Hops.{same_kind, same_lane, flags_lane}
+use Rattle.pl_flow.specs.declared.moves.HeadMove.{HeadMove}
+use Rattle.pl_flow.specs.declared.moves.HeadMove.TheVariants.{Read, Out}
 use Rattle.pl_flow.specs.Flows.{Point, point, nowhere}
 use Rattle.pl_executor_tests.specs.declared.nodes.Node.{Node}
 use Rattle.pl_executor_tests.specs.declared.nodes.Outlet.{Outlet}
@@ -28,6 +30,11 @@ outlets_of n = lane_to n.first.target ∷ lane_to n.second.target ∷ []
 
 abbrev pub writes : Node → Lane → Bool
 writes n l = makes n.first l || makes n.second l
+
+-- whether a read step is enabled, or a write
+abbrev pub is_enabled : Node → HeadMove → Bool
+is_enabled n Read = not n.forwards && not (has_made_all n.first && has_made_all n.second)
+is_enabled n Out = false
 
 -- how far a lane was made
 abbrev pub came : Node → Lane → Point

@@ -3,13 +3,15 @@
 ghost use Rattle.std.specs.Prelude.{◌≡◌, ◌<◌, ◌+◌, ◌^◌, ◌%◌, ◌==◌, ◌||◌, ◌&&◌, ℕ, List, Bool, false, not, true};
 ghost use Rattle.pl_event.specs.declared.envelopes.Item.TheVariants as item;
 ghost use Rattle.pl_event.specs.declared.envelopes.Lane.{Lane};
-ghost use Rattle.pl_context.specs.Stops.{HasPlaces, AreAmong};
+ghost use Rattle.pl_context.specs.Stops.{HasPlaces};
 ghost use Rattle.pl_flow.specs.Makes.{Makes};
-ghost use Rattle.pl_executor_tests.specs.Nodes.{HasEnded, NodeStands, came, has_given_up, has_made_all, lane_to, outlets_of, taken_of, target_of, writes};
+ghost use Rattle.pl_executor.specs.Parts.{KeepsPlaces};
+ghost use Rattle.pl_executor_tests.specs.Nodes.{HasEnded, NodeStands, came, has_given_up, has_made_all, is_enabled, lane_to, outlets_of, taken_of, target_of, writes};
 
 use pl_context::Outputs;
 use pl_event::{Envelope, Item, Kind, Lane, Named};
 use pl_executor::Part;
+use pl_flow::HeadMove;
 
 /// No executor has this number.
 const NOBODY: usize = 65_536;
@@ -122,7 +124,7 @@ impl Node {
         ensures enabled { result ≡ not (has_made_all self.old.first && has_made_all self.old.second) }
         ensures idle { result ≡ false → (self.new ≡ self.old) × (work.new ≡ work.old) }
         ensures same { self.new ≡ record self.old { first = record self.old.first { made = self.new.first.made }; second = record self.old.second { made = self.new.second.made } } }
-        ensures placed { (hops : List Lane) → AreAmong (outlets_of self.old) hops → HasPlaces work.old.stopped hops → HasPlaces work.new.stopped hops }
+        ensures placed { KeepsPlaces (outlets_of self.old) work.old.stopped work.new.stopped }
         ensures made { Makes W.world (writes self.old) (came self.old) (came self.new) work.old work.new }
     {
         if !self.first.has_made_all() {
@@ -161,9 +163,7 @@ impl<W: Named> Part<W> for Node {
 
     ghost channel_at = { λ n place. 0 };
 
-    ghost may_read = { λ n channel answer. answer ≡ (not n.forwards && not (has_made_all n.first && has_made_all n.second)) };
-
-    ghost may_write = { λ n channel answer. answer ≡ false };
+    ghost may_move = { λ n by channel answer. answer ≡ is_enabled n by };
 
     // What a read step makes is told by the flags that come; nothing is ever written.
     ghost served = { λ n c. record { reads = 0; calls = 0 } };
@@ -200,12 +200,11 @@ impl<W: Named> Part<W> for Node {
         1
     }
 
-    fn read(&mut self, _channel: usize, work: &mut Outputs) -> bool {
-        !self.forwards && self.make::<W>(work)
-    }
-
-    fn write(&mut self, _channel: usize, _work: &mut Outputs) -> bool {
-        false
+    fn move_head(&mut self, by: HeadMove, _channel: usize, work: &mut Outputs) -> bool {
+        match by {
+            HeadMove::Read => !self.forwards && self.make::<W>(work),
+            HeadMove::Out => false,
+        }
     }
 
     fn has_ended(&self) -> bool {

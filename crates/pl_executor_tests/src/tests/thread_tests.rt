@@ -1,9 +1,9 @@
 //! Executors in threads, all started at once and all joined.
 
-use crate::alone::{Alone, NoGate, set_apart};
 use crate::nodes::Node;
-use crate::opening::open_three;
-use crate::starting::three_executors;
+use crate::tests::alone::{Alone, NoGate, set_apart};
+use crate::tests::opening::open_three;
+use crate::tests::starting::three_executors;
 use pl_event::Named;
 use pl_executor::{Start, run_all};
 use pl_queue::{Mailbox, RingBox, WaitingBox};

@@ -1,9 +1,9 @@
 //! When an executor closes, and what is refused where one is closed.
 
-use crate::alone::{Alone, NoGate, set_apart};
 use crate::nodes::Node;
-use crate::opening::open_three;
-use crate::playing::{Answer, Call, DONE, Expected, IDLE, WORKED, play};
+use crate::tests::alone::{Alone, NoGate, set_apart};
+use crate::tests::opening::open_three;
+use crate::tests::playing::{Answer, Call, DONE, Expected, IDLE, WORKED, play};
 use pl_event::Named;
 use pl_executor::Start;
 use pl_queue::{Mailbox, RingBox, WaitingBox};

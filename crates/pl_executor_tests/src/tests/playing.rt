@@ -1,7 +1,7 @@
 //! An executor alone, run by hand.
 
-use crate::alone::{Alone, NoGate, set_apart};
-use crate::opening::open_three;
+use crate::tests::alone::{Alone, NoGate, set_apart};
+use crate::tests::opening::open_three;
 use pl_event::Named;
 use pl_executor::Turn;
 use pl_queue::Mailbox;

@@ -1,6 +1,6 @@
 //! What an executor does in one turn.
 
-use crate::playing::{Answer, Call, DONE, Expected, IDLE, WORKED, play};
+use crate::tests::playing::{Answer, Call, DONE, Expected, IDLE, WORKED, play};
 use pl_queue::{RingBox, WaitingBox};
 use pl_words::Status;
 use std::marker::Brand;

@@ -6,9 +6,9 @@ use Rattle.pl_executor.specs.OutboxViews.{OutboxView}
 use Rattle.pl_executor.specs.Running.{IsTaking, Runs}
 use Rattle.pl_executor_tests.specs.declared.nodes.Outlet.{Outlet}
 use Rattle.pl_executor_tests.specs.Nodes.{came, lane_to, outlets_of, taken_of, target_of, writes}
-use Rattle.pl_executor_tests.specs.Openings.{HasWay, OwnView}
-use Rattle.pl_executor_tests.proofs.StartLemmas.{few-lanes, node-runs, node-taking, two-places}
-use Rattle.pl_executor_tests.proofs.starting.executor.Goals as goal
+use Rattle.pl_executor_tests.specs.Openings.{HasLane}
+use Rattle.pl_executor_tests.proofs.StartLemmas.{HasWay, few-lanes, has-way, node-runs, node-taking, two-places}
+use Rattle.pl_executor_tests.proofs.tests.starting.executor.Goals as goal
 
 pub new-requires-3-clause-places : goal.new-requires-3-clause-places
 new-requires-3-clause-places g c =
@@ -20,10 +20,15 @@ new-requires-3-clause-runs g c =
     let o = c.in_ok-new.field-0 in
     let work = c.in_ok-new-2.field-0 in
     let made = c.in_ok-new.ensures in
-    let by : (p : Outlet) → HasWay p c.args.outboxes.items → HasWay p o.outboxes = λ p has. subst (λ (bs : List OutboxView). HasWay p bs) (sym made.outboxes) has in
+    let ready = c.requires.ready in
+    let place = c.requires.place in
+    let three = c.in_ok-outboxes.ensures in
+    let by : (p : Outlet) → HasLane n.executor p → HasWay p o.outboxes = λ p lane. subst (λ (bs : List OutboxView). HasWay p bs) (sym made.outboxes)
+    (has-way n.executor p _ _ _ _ three (ap (λ (b : OutboxView). b.sends) c.outbox.ensures ∙ place.first.sends) (ap (λ (b : OutboxView). b.sends) c.outbox-2.ensures ∙ place.second.sends)
+    (ap (λ (b : OutboxView). b.sends) c.outbox-3.ensures ∙ place.third.sends) lane) in
     subst (λ (number : ℕ). Runs g.W.Named.world number target_of (writes n) (taken_of n) (came n) o work) (sym c.from.ensures)
-    (node-runs n c.requires.stands c.requires.fresh o made.waits (by n.first c.requires.first) (by n.second c.requires.second)
-    g.W.Named.world work c.in_ok-new-2.ensures.empty made.places (ap (λ (bs : List OutboxView). length bs) made.outboxes ∙ c.requires.three))
+    (node-runs n ready.stands ready.fresh o made.waits (by n.first ready.first) (by n.second ready.second)
+    g.W.Named.world work c.in_ok-new-2.ensures.empty made.places (ap (λ (bs : List OutboxView). length bs) (made.outboxes ∙ three)))
 
 pub new-requires-3-clause-few : goal.new-requires-3-clause-few
 new-requires-3-clause-few g c = few-lanes c.args.node
@@ -31,7 +36,6 @@ new-requires-3-clause-few g c = few-lanes c.args.node
 pub new-requires-3-clause-taking : goal.new-requires-3-clause-taking
 new-requires-3-clause-taking g c =
     let n = c.args.node in
-    subst (λ (number : ℕ). IsTaking number target_of (writes n) (taken_of n) (g.M.Mailbox.takes_of c.own.inside.taker).counts) (sym c.from.ensures)
-    (subst (λ (t : g.row.M-Taker.Denot). IsTaking n.executor target_of (writes n) (taken_of n) (g.M.Mailbox.takes_of t).counts) (sym (ap (λ (o : OwnView g.row.M-Taker.Denot). o.taker) c.own.view_is))
-    (subst (λ (counts : List TakeCount). IsTaking n.executor target_of (writes n) (taken_of n) counts) (sym (ap (λ (t : TakerView). t.counts) c.requires.takes))
-    (node-taking n c.requires.stands c.requires.fresh)))
+    subst (λ (number : ℕ). IsTaking number target_of (writes n) (taken_of n) (g.M.Mailbox.takes_of c.args.place.own.taker).counts) (sym c.from.ensures)
+    (subst (λ (counts : List TakeCount). IsTaking n.executor target_of (writes n) (taken_of n) counts) (sym (ap (λ (t : TakerView). t.counts) c.requires.place.own.takes))
+    (node-taking n c.requires.ready.stands c.requires.ready.fresh))

@@ -3,16 +3,16 @@
 ghost use Rattle.std.specs.Prelude.{◌≡◌, ◌∷◌, []};
 ghost use Rattle.pl_words.specs.Admissions.{new_owner_seat};
 ghost use Rattle.pl_executor_tests.specs.Nodes.{lane_to};
-ghost use Rattle.pl_executor_tests.specs.Openings.{IsPlace, IsWay};
+ghost use Rattle.pl_executor_tests.specs.Openings.{ArePlaces, IsWay};
 
 use crate::nodes::{Node, flag_to};
-use crate::opening::{Inboxes, Own, Place, Way};
-use crate::starting::maker;
+use crate::places::{Inboxes, Own, Place, Way};
+use crate::tests::starting::{executor, maker};
 use crossbeam_utils::sync::Parker;
 use pl_event::Named;
 use pl_executor::{Executor, Gate, Inbox};
 use pl_queue::Mailbox;
-use pl_words::{OwnerSeat, Refused, SendSeat, Status};
+use pl_words::{Refused, Status};
 use std::alloc::{AllocError, Global};
 use std::marker::Model;
 use std::sync::Wait;
@@ -33,8 +33,7 @@ where
 {
     executor: u16,
     inbox: &'a Inbox<W, M>,
-    sender: M::Sender,
-    seat: SendSeat,
+    way: Way<W, M>,
     /// The number of the next flag.
     next: u32,
 }
@@ -51,9 +50,9 @@ where
 
     ghost view = { λ f. f.next };
 
-    ghost invariant = { λ f. M.is_sender f.inbox.now.mailbox f.sender
-        × ((M.sends_of f.sender).send_counts ≡ send_count (lane_to f.executor) f.next false ∷ [])
-        × (f.seat.name ≡ f.inbox.now.admission.name) };
+    ghost invariant = { λ f. M.is_sender f.inbox.now.mailbox f.way.sender
+        × ((M.sends_of f.way.sender).send_counts ≡ send_count (lane_to f.executor) f.next false ∷ [])
+        × (f.way.seat.name ≡ f.inbox.now.admission.name) };
 }
 
 impl<'a, W: Named, M: Mailbox<W> + Drop> Feed<'a, W, M>
@@ -62,21 +61,19 @@ where
 {
     /// The way to the executor that an inbox is of.
     fn new(executor: u16, inbox: &'a Inbox<W, M>, way: Way<W, M>) -> Self
-        requires { IsWay M.is_sender M.sends_of (record { mailbox = inbox.now.mailbox; name = inbox.now.admission.name }) (lane_to executor ∷ []) way }
+        requires { IsWay M.is_taker M.takes_of M.is_sender M.sends_of inbox.now (lane_to executor ∷ []) way }
     {
-        let Way { sender, seat } = way;
         Feed {
             executor,
             inbox,
-            sender,
-            seat,
+            way,
             next: 0,
         }
     }
 
     /// One admission more, as for a flag that is on its way.
     pub(crate) fn admit(&mut self) -> Result<(), Refused> {
-        let admitted = self.inbox.admission.admit(&mut self.seat)?;
+        let admitted = self.inbox.admission.admit(&mut self.way.seat)?;
         admitted.sent();
         Ok(())
     }
@@ -87,7 +84,11 @@ where
             return false;
         }
         let flag = flag_to(self.executor, self.next);
-        match self.inbox.mailbox.offer::<R>(rt, &mut self.sender, flag) {
+        match self
+            .inbox
+            .mailbox
+            .offer::<R>(rt, &mut self.way.sender, flag)
+        {
             Ok(()) => {
                 self.next += 1;
                 true
@@ -101,7 +102,7 @@ where
 
     /// In which phase the executor is.
     pub(crate) fn status(&mut self) -> Status {
-        self.inbox.admission.status(&mut self.seat)
+        self.inbox.admission.status(&mut self.way.seat)
     }
 }
 
@@ -112,8 +113,7 @@ where
     M::Taker: Drop,
 {
     inbox: &'a Inbox<W, M>,
-    taker: M::Taker,
-    owner: OwnerSeat,
+    own: Own<W, M>,
 }
 
 impl<'a, W: Named, M: Mailbox<W> + Drop> Model for Sink<'a, W, M>
@@ -125,9 +125,9 @@ where
 
     ghost Value = { OwnerSeatView };
 
-    ghost view = { λ s. s.owner };
+    ghost view = { λ s. s.own.owner };
 
-    ghost invariant = { λ s. M.is_taker s.inbox.now.mailbox s.taker × (s.owner.name ≡ s.inbox.now.admission.name) };
+    ghost invariant = { λ s. M.is_taker s.inbox.now.mailbox s.own.taker × (s.own.owner.name ≡ s.inbox.now.admission.name) };
 }
 
 impl<'a, W: Named, M: Mailbox<W> + Drop> Sink<'a, W, M>
@@ -138,28 +138,22 @@ where
         requires taker { M.is_taker inbox.now.mailbox own.taker }
         requires owner { own.owner ≡ new_owner_seat inbox.now.admission.name }
     {
-        let Own {
-            taker,
-            owner,
-            parker: _,
-        } = own;
-        Sink {
-            inbox,
-            taker,
-            owner,
-        }
+        Sink { inbox, own }
     }
 
     /// Takes the front of its queue, and answers the number there. None where the queue is empty.
     pub(crate) fn take<R: Wait>(&mut self, rt: &R) -> Option<u64> {
-        let envelope = self.inbox.mailbox.take::<R>(rt, &mut self.taker)?;
+        let envelope = self.inbox.mailbox.take::<R>(rt, &mut self.own.taker)?;
         Some(envelope.number)
     }
 
     /// Begins to close, and closes with so many. False where others were admitted.
     pub(crate) fn close(&mut self, run: u64) -> bool {
-        self.inbox.admission.begin_close(&mut self.owner);
-        self.inbox.admission.finish(&mut self.owner, run).is_ok()
+        self.inbox.admission.begin_close(&mut self.own.owner);
+        self.inbox
+            .admission
+            .finish(&mut self.own.owner, run)
+            .is_ok()
     }
 }
 
@@ -190,12 +184,10 @@ pub(crate) fn set_apart<'a, W: Named, M: Mailbox<W> + Drop>(
 where
     M::Sender: Drop,
     M::Taker: Drop,
-    requires first { IsPlace M.is_taker M.takes_of M.is_sender M.sends_of inboxes.now 0 places.0 }
-    requires second { IsPlace M.is_taker M.takes_of M.is_sender M.sends_of inboxes.now 1 places.1 }
-    requires third { IsPlace M.is_taker M.takes_of M.is_sender M.sends_of inboxes.now 2 places.2 }
+    requires { ArePlaces M.is_taker M.takes_of M.is_sender M.sends_of inboxes.now places.0 places.1 places.2 }
 {
     let (first, second, third) = places;
-    let (executor, parker) = maker(alloc, inboxes, third, counts, expected)?;
+    let (executor, parker) = executor(alloc, inboxes, third, maker(counts, expected))?;
     Ok(Alone {
         executor,
         parker,

@@ -1,0 +1,49 @@
+//! What three executors have of one another.
+
+use crossbeam_utils::sync::Parker;
+use pl_event::Named;
+use pl_executor::Inbox;
+use pl_queue::Mailbox;
+use pl_words::{OwnerSeat, SendSeat};
+
+/// The way to an executor: a sender of its mailbox, and a seat of its admission.
+#[derive(Drop)]
+pub(crate) struct Way<W: Named, M: Mailbox<W>>
+where
+    M::Sender: Drop,
+{
+    pub(crate) sender: M::Sender,
+    pub(crate) seat: SendSeat,
+}
+
+/// On what an executor rests, and its own ends of its inbox.
+#[derive(Drop)]
+pub(crate) struct Own<W: Named, M: Mailbox<W>>
+where
+    M::Taker: Drop,
+{
+    pub(crate) parker: Parker,
+    pub(crate) taker: M::Taker,
+    pub(crate) owner: OwnerSeat,
+}
+
+/// The inboxes of three executors.
+#[derive(Drop)]
+pub(crate) struct Inboxes<W: Named, M: Mailbox<W> + Drop> {
+    pub(crate) first: Inbox<W, M>,
+    pub(crate) second: Inbox<W, M>,
+    pub(crate) third: Inbox<W, M>,
+}
+
+/// What an executor has of three inboxes: its own ends, and the ways to all.
+#[derive(Drop)]
+pub(crate) struct Place<W: Named, M: Mailbox<W>>
+where
+    M::Sender: Drop,
+    M::Taker: Drop,
+{
+    pub(crate) own: Own<W, M>,
+    pub(crate) first: Way<W, M>,
+    pub(crate) second: Way<W, M>,
+    pub(crate) third: Way<W, M>,
+}
