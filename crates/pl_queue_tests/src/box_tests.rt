@@ -4,7 +4,8 @@
 use crate::answering::Answer::{self, Full, Nothing, Sent, Took};
 use crate::boxes::{BoxKind, answers_by, lines_by, may_wait_by, refusal_by, relay_by};
 use crate::left_tests::{assert_account, left_by, one_is_left};
-use crate::relays::data_lane;
+use crate::lines::LaneLines;
+use crate::relays::{Lanes, data_lane};
 use pl_event::{ByteString, Event, Item, Message};
 use pl_queue::OpenRefusal;
 use std::alloc::Global;
@@ -14,22 +15,10 @@ use std::sync::Wait;
 use std::test::*;
 use std::thread::Threads;
 
-// It takes what has room, and gives what it has: bodies that always answer `Full` or None would be proved.
-fn always_full_or_none<R: Wait + Abort>(
-    rt: &R,
-    alloc: Global,
-    kind: BoxKind,
-    offers: u32,
-    expected: &[Answer],
-) -> Result<(), Fail> {
-    let answers = answers_by::<Brand, R>(kind, rt, alloc, offers).ok_or("no memory")?;
-    assert_eq!(rt; answers.as_slice(), expected);
-    Ok(())
-}
-
-#[test]
-fn always_full_or_none_ring(rt: HostRuntime) -> Result<(), Fail> {
-    let expected = [
+// It takes what has room, and gives what it has: bodies that always answer `Full` or None would be proved. A ring that is
+// offered one too many is full; a waiting box would wait for ever.
+fn always_full_or_none<R: Wait + Abort>(rt: &R, alloc: Global, kind: BoxKind) -> Result<(), Fail> {
+    let ring = [
         Nothing,
         Sent,
         Sent,
@@ -39,13 +28,14 @@ fn always_full_or_none_ring(rt: HostRuntime) -> Result<(), Fail> {
         Nothing,
         Nothing,
     ];
-    always_full_or_none(&rt, rt.alloc(), BoxKind::Ring, 3, &expected)
-}
-
-#[test]
-fn always_full_or_none_waiting(rt: HostRuntime) -> Result<(), Fail> {
-    let expected = [Nothing, Sent, Sent, Took(0), Took(1), Nothing];
-    always_full_or_none(&rt, rt.alloc(), BoxKind::Waiting, 2, &expected)
+    let waiting = [Nothing, Sent, Sent, Took(0), Took(1), Nothing];
+    let (offers, expected) = match kind {
+        BoxKind::Ring => (3, ring.as_slice()),
+        BoxKind::Waiting => (2, waiting.as_slice()),
+    };
+    let answers = answers_by::<Brand, R>(kind, rt, alloc, offers).ok_or("no memory")?;
+    assert_eq!(rt; answers.as_slice(), expected);
+    Ok(())
 }
 
 fn mailbox_limits(rt: &impl Abort, alloc: Global, kind: BoxKind) -> Result<(), Fail> {
@@ -61,35 +51,8 @@ fn mailbox_limits(rt: &impl Abort, alloc: Global, kind: BoxKind) -> Result<(), F
     Ok(())
 }
 
-#[test]
-fn mailbox_limits_ring(rt: HostRuntime) -> Result<(), Fail> {
-    mailbox_limits(&rt, rt.alloc(), BoxKind::Ring)
-}
-
-#[test]
-fn mailbox_limits_waiting(rt: HostRuntime) -> Result<(), Fail> {
-    mailbox_limits(&rt, rt.alloc(), BoxKind::Waiting)
-}
-
-#[test]
-fn waiting_for_room(rt: HostRuntime) -> Result<(), Fail> {
-    assert!(rt; !may_wait_by::<Brand>(BoxKind::Ring));
-    assert!(rt; may_wait_by::<Brand>(BoxKind::Waiting));
-    Ok(())
-}
-
 fn one_left<R: Wait + Abort>(rt: &R, alloc: Global, kind: BoxKind) -> Result<(), Fail> {
     one_is_left(rt, left_by(rt, alloc, kind).ok().ok_or("it stopped")?)
-}
-
-#[test]
-fn one_left_ring(rt: HostRuntime) -> Result<(), Fail> {
-    one_left(&rt, rt.alloc(), BoxKind::Ring)
-}
-
-#[test]
-fn one_left_waiting(rt: HostRuntime) -> Result<(), Fail> {
-    one_left(&rt, rt.alloc(), BoxKind::Waiting)
 }
 
 fn line(alloc: Global, text: &str) -> Result<ByteString, Fail> {
@@ -109,7 +72,12 @@ fn two_threads_hand_over<R: Threads + Wait + Abort + Sync>(
     let first = data_lane(0);
     let lines = Vec::from_array(alloc, [line(alloc, "one")?, line(alloc, "two")?])?;
     let others = Vec::from_array(alloc, [line(alloc, "three")?])?;
-    let taken = lines_by::<Brand, R>(kind, rt, alloc, first, data_lane(1), lines, others);
+    let others = LaneLines {
+        lane: data_lane(1),
+        lines: others,
+    };
+    let lines = LaneLines { lane: first, lines };
+    let taken = lines_by::<Brand, R>(kind, rt, alloc, lines, others);
     let mut lines = Vec::new(alloc);
     let mut others = Vec::new(alloc);
     for envelope in taken.ok_or("no memory")? {
@@ -126,24 +94,18 @@ fn two_threads_hand_over<R: Threads + Wait + Abort + Sync>(
     Ok(())
 }
 
-#[test]
-fn two_threads_hand_over_lines_ring(rt: HostRuntime) -> Result<(), Fail> {
-    two_threads_hand_over(&rt, rt.alloc(), BoxKind::Ring)
-}
-
-#[test]
-fn two_threads_hand_over_lines_waiting(rt: HostRuntime) -> Result<(), Fail> {
-    two_threads_hand_over(&rt, rt.alloc(), BoxKind::Waiting)
-}
-
 // Each lane comes as the numbers 0 to 999, with their items, and nothing is left.
 fn two_lanes_one_mailbox<R: Threads + Wait + Abort + Sync>(
     rt: &R,
     alloc: Global,
     kind: BoxKind,
 ) -> Result<(), Fail> {
-    let relayed = relay_by::<Brand, R>(kind, rt, alloc, data_lane(0), data_lane(1), 999, 2);
-    let relayed = relayed.ok_or("it gave up")?;
+    let lanes = Lanes {
+        first: data_lane(0),
+        second: data_lane(1),
+        last: 999,
+    };
+    let relayed = relay_by::<Brand, R>(kind, rt, alloc, lanes, 2).ok_or("it gave up")?;
     let mut nexts = Vec::from_array(alloc, [0u64, 0])?;
     for envelope in relayed.taken.as_slice() {
         let channel = usize::from(envelope.lane.channel);
@@ -164,11 +126,58 @@ fn two_lanes_one_mailbox<R: Threads + Wait + Abort + Sync>(
 }
 
 #[test]
-fn two_lanes_one_mailbox_waiting(rt: HostRuntime) -> Result<(), Fail> {
-    two_lanes_one_mailbox(&rt, rt.alloc(), BoxKind::Waiting)
+fn always_full_or_none_ring(rt: HostRuntime) -> Result<(), Fail> {
+    always_full_or_none(&rt, rt.alloc(), BoxKind::Ring)
+}
+
+#[test]
+fn always_full_or_none_waiting(rt: HostRuntime) -> Result<(), Fail> {
+    always_full_or_none(&rt, rt.alloc(), BoxKind::Waiting)
+}
+
+#[test]
+fn mailbox_limits_ring(rt: HostRuntime) -> Result<(), Fail> {
+    mailbox_limits(&rt, rt.alloc(), BoxKind::Ring)
+}
+
+#[test]
+fn mailbox_limits_waiting(rt: HostRuntime) -> Result<(), Fail> {
+    mailbox_limits(&rt, rt.alloc(), BoxKind::Waiting)
+}
+
+#[test]
+fn one_left_ring(rt: HostRuntime) -> Result<(), Fail> {
+    one_left(&rt, rt.alloc(), BoxKind::Ring)
+}
+
+#[test]
+fn one_left_waiting(rt: HostRuntime) -> Result<(), Fail> {
+    one_left(&rt, rt.alloc(), BoxKind::Waiting)
+}
+
+#[test]
+fn two_threads_hand_over_lines_ring(rt: HostRuntime) -> Result<(), Fail> {
+    two_threads_hand_over(&rt, rt.alloc(), BoxKind::Ring)
+}
+
+#[test]
+fn two_threads_hand_over_lines_waiting(rt: HostRuntime) -> Result<(), Fail> {
+    two_threads_hand_over(&rt, rt.alloc(), BoxKind::Waiting)
 }
 
 #[test]
 fn two_lanes_one_mailbox_ring(rt: HostRuntime) -> Result<(), Fail> {
     two_lanes_one_mailbox(&rt, rt.alloc(), BoxKind::Ring)
+}
+
+#[test]
+fn two_lanes_one_mailbox_waiting(rt: HostRuntime) -> Result<(), Fail> {
+    two_lanes_one_mailbox(&rt, rt.alloc(), BoxKind::Waiting)
+}
+
+#[test]
+fn waiting_for_room(rt: HostRuntime) -> Result<(), Fail> {
+    assert!(rt; !may_wait_by::<Brand>(BoxKind::Ring));
+    assert!(rt; may_wait_by::<Brand>(BoxKind::Waiting));
+    Ok(())
 }

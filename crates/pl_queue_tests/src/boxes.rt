@@ -9,10 +9,10 @@ ghost use Rattle.pl_queue_tests.specs.Relays.{lane_events};
 
 use crate::answering::{Answer, answers};
 use crate::leaving::{Stopped, leave_one};
-use crate::lines::two_threads_hand_over_lines;
+use crate::lines::{LaneLines, two_threads_hand_over_lines};
 use crate::openings::refusal;
-use crate::relays::{Relayed, relay};
-use pl_event::{ByteString, Envelope, Lane, Named};
+use crate::relays::{Lanes, Relayed, relay};
+use pl_event::{Envelope, Lane, Named};
 use pl_queue::{Mailbox, OpenRefusal, RingBox, WaitingBox};
 use std::alloc::Global;
 use std::sync::Wait;
@@ -82,19 +82,17 @@ pub fn relay_by<W: Named + Send + Sync, R: Threads + Wait + Sync>(
     kind: BoxKind,
     rt: &R,
     alloc: Global,
-    first: Lane,
-    second: Lane,
-    last: u64,
+    lanes: Lanes,
     capacity: usize,
 ) -> Option<Relayed>
-    requires apart { same_lane first second ≡ false }
-    requires small { last < 2 ^ 31 }
-    requires first { (first.kind ≡ Data) × (content_of W.world first ≡ Some (lane_events last)) }
-    requires second { (second.kind ≡ Data) × (content_of W.world second ≡ Some (lane_events last)) }
+    requires apart { same_lane lanes.first lanes.second ≡ false }
+    requires small { lanes.last < 2 ^ 31 }
+    requires first { (lanes.first.kind ≡ Data) × (content_of W.world lanes.first ≡ Some (lane_events lanes.last)) }
+    requires second { (lanes.second.kind ≡ Data) × (content_of W.world lanes.second ≡ Some (lane_events lanes.last)) }
 {
     match kind {
-        BoxKind::Ring => relay::<W, RingBox<W>, R>(rt, alloc, first, second, last, capacity),
-        BoxKind::Waiting => relay::<W, WaitingBox<W>, R>(rt, alloc, first, second, last, capacity),
+        BoxKind::Ring => relay::<W, RingBox<W>, R>(rt, alloc, lanes, capacity),
+        BoxKind::Waiting => relay::<W, WaitingBox<W>, R>(rt, alloc, lanes, capacity),
     }
 }
 
@@ -103,21 +101,19 @@ pub fn lines_by<W: Named + Send + Sync, R: Threads + Wait + Sync>(
     kind: BoxKind,
     rt: &R,
     alloc: Global,
-    first: Lane,
-    second: Lane,
-    lines: Vec<ByteString>,
-    others: Vec<ByteString>,
+    first: LaneLines,
+    second: LaneLines,
 ) -> Option<Vec<Envelope>>
-    requires apart { same_lane first second ≡ false }
-    requires lines { CarriesLines W.world first lines.items }
-    requires others { CarriesLines W.world second others.items }
+    requires apart { same_lane first.lane second.lane ≡ false }
+    requires first { CarriesLines W.world first.lane first.lines.items }
+    requires second { CarriesLines W.world second.lane second.lines.items }
 {
     match kind {
-        BoxKind::Ring => two_threads_hand_over_lines::<W, RingBox<W>, R>(
-            rt, alloc, first, second, lines, others,
-        ),
-        BoxKind::Waiting => two_threads_hand_over_lines::<W, WaitingBox<W>, R>(
-            rt, alloc, first, second, lines, others,
-        ),
+        BoxKind::Ring => {
+            two_threads_hand_over_lines::<W, RingBox<W>, R>(rt, alloc, first, second)
+        }
+        BoxKind::Waiting => {
+            two_threads_hand_over_lines::<W, WaitingBox<W>, R>(rt, alloc, first, second)
+        }
     }
 }

@@ -100,6 +100,13 @@ where
     Ok(taken)
 }
 
+/// A lane, and the lines that go on it.
+#[derive(Debug, Drop)]
+pub struct LaneLines {
+    pub lane: Lane,
+    pub lines: Vec<ByteString>,
+}
+
 // Two threads send, and a third takes.
 fn all_three<W: Named + Send + Sync, M: Mailbox<W> + Send + Sync, R: Threads + Wait + Sync>(
     rt: &R,
@@ -108,18 +115,21 @@ fn all_three<W: Named + Send + Sync, M: Mailbox<W> + Send + Sync, R: Threads + W
     one: M::Sender,
     two: M::Sender,
     taker: M::Taker,
-    first: Lane,
-    second: Lane,
-    lines: Vec<ByteString>,
-    others: Vec<ByteString>,
+    first: LaneLines,
+    second: LaneLines,
 ) -> Result<Vec<Envelope>, AllocError>
 where
     M::Sender: Drop + Send,
     M::Taker: Drop + Send,
-    requires one { M.is_sender mailbox.now one × IsFresh first (M.sends_of one) × CarriesLines W.world first lines.items }
-    requires two { M.is_sender mailbox.now two × IsFresh second (M.sends_of two) × CarriesLines W.world second others.items }
+    requires one { M.is_sender mailbox.now one × IsFresh first.lane (M.sends_of one) × CarriesLines W.world first.lane first.lines.items }
+    requires two { M.is_sender mailbox.now two × IsFresh second.lane (M.sends_of two) × CarriesLines W.world second.lane second.lines.items }
     requires taker { M.is_taker mailbox.now taker }
 {
+    let LaneLines { lane: first, lines } = first;
+    let LaneLines {
+        lane: second,
+        lines: others,
+    } = second;
     let (_one, _two, taken) = join_three(
         rt,
         move || -> M::Sender
@@ -141,24 +151,14 @@ pub fn two_threads_hand_over_lines<
     W: Named + Send + Sync,
     M: Mailbox<W> + Drop + Send + Sync,
     R: Threads + Wait + Sync,
->(
-    rt: &R,
-    alloc: Global,
-    first: Lane,
-    second: Lane,
-    lines: Vec<ByteString>,
-    others: Vec<ByteString>,
-) -> Option<Vec<Envelope>>
+>(rt: &R, alloc: Global, first: LaneLines, second: LaneLines) -> Option<Vec<Envelope>>
 where
     M::Sender: Drop + Send,
     M::Taker: Drop + Send,
-    requires apart { same_lane first second ≡ false }
-    requires lines { CarriesLines W.world first lines.items }
-    requires others { CarriesLines W.world second others.items }
+    requires apart { same_lane first.lane second.lane ≡ false }
+    requires first { CarriesLines W.world first.lane first.lines.items }
+    requires second { CarriesLines W.world second.lane second.lines.items }
 {
-    let (mailbox, one, two, taker) = open_two::<W, M>(alloc, first, second, 2).ok()?;
-    all_three::<W, M, R>(
-        rt, alloc, &mailbox, one, two, taker, first, second, lines, others,
-    )
-    .ok()
+    let (mailbox, one, two, taker) = open_two::<W, M>(alloc, first.lane, second.lane, 2).ok()?;
+    all_three::<W, M, R>(rt, alloc, &mailbox, one, two, taker, first, second).ok()
 }

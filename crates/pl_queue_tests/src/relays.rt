@@ -161,18 +161,22 @@ pub struct Relayed {
     pub left: Left,
 }
 
+/// Two lanes, of which each carries Active, ReadComplete up to the number `last`, and End.
+#[derive(Clone, Copy, Debug, PartialEq, Eq)]
+pub struct Lanes {
+    pub first: Lane,
+    pub second: Lane,
+    pub last: u64,
+}
+
 // Two threads send, and a third takes.
 fn all_three<W: Named + Send + Sync, M: Mailbox<W> + Send + Sync, R: Threads + Wait + Sync>(
     rt: &R,
     alloc: Global,
     mailbox: &M,
-    one: M::Sender,
-    two: M::Sender,
+    senders: (M::Sender, M::Sender),
     taker: M::Taker,
-    first: Lane,
-    second: Lane,
-    last: u64,
-    total: u64,
+    lanes: Lanes,
 ) -> (
     (M::Sender, bool),
     (M::Sender, bool),
@@ -181,16 +185,23 @@ fn all_three<W: Named + Send + Sync, M: Mailbox<W> + Send + Sync, R: Threads + W
 where
     M::Sender: Drop + Send,
     M::Taker: Drop + Send,
-    requires one { M.is_sender mailbox.now one × IsFresh first (M.sends_of one) }
-    requires two { M.is_sender mailbox.now two × IsFresh second (M.sends_of two) }
-    requires small { last < 2 ^ 32 }
-    requires first { (first.kind ≡ Data) × (content_of W.world first ≡ Some (lane_events last)) }
-    requires second { (second.kind ≡ Data) × (content_of W.world second ≡ Some (lane_events last)) }
+    requires one { M.is_sender mailbox.now senders.0 × IsFresh lanes.first (M.sends_of senders.0) }
+    requires two { M.is_sender mailbox.now senders.1 × IsFresh lanes.second (M.sends_of senders.1) }
+    requires small { lanes.last < 2 ^ 32 }
+    requires first { (lanes.first.kind ≡ Data) × (content_of W.world lanes.first ≡ Some (lane_events lanes.last)) }
+    requires second { (lanes.second.kind ≡ Data) × (content_of W.world lanes.second ≡ Some (lane_events lanes.last)) }
     requires taker { M.is_taker mailbox.now taker }
-    ensures one { M.is_sender mailbox.now result.0.0 × (sending_lanes (M.sends_of result.0.0) ≡ sending_lanes (M.sends_of one)) }
-    ensures two { M.is_sender mailbox.now result.1.0 × (sending_lanes (M.sends_of result.1.0) ≡ sending_lanes (M.sends_of two)) }
+    ensures one { M.is_sender mailbox.now result.0.0 × (sending_lanes (M.sends_of result.0.0) ≡ sending_lanes (M.sends_of senders.0)) }
+    ensures two { M.is_sender mailbox.now result.1.0 × (sending_lanes (M.sends_of result.1.0) ≡ sending_lanes (M.sends_of senders.1)) }
     ensures taker { M.is_taker mailbox.now result.2.0 × (taking_lanes (M.takes_of result.2.0) ≡ taking_lanes (M.takes_of taker)) }
 {
+    let (one, two) = senders;
+    let Lanes {
+        first,
+        second,
+        last,
+    } = lanes;
+    let total = 2 * last + 2;
     join_three(
         rt,
         move || -> (M::Sender, bool)
@@ -213,25 +224,28 @@ where
 pub fn relay<W: Named + Send + Sync, M: Mailbox<W> + Drop + Send + Sync, R: Threads + Wait + Sync>(
     rt: &R,
     alloc: Global,
-    first: Lane,
-    second: Lane,
-    last: u64,
+    lanes: Lanes,
     capacity: usize,
 ) -> Option<Relayed>
 where
     M::Sender: Drop + Send,
     M::Taker: Drop + Send,
-    requires apart { same_lane first second ≡ false }
-    requires small { last < 2 ^ 31 }
-    requires first { (first.kind ≡ Data) × (content_of W.world first ≡ Some (lane_events last)) }
-    requires second { (second.kind ≡ Data) × (content_of W.world second ≡ Some (lane_events last)) }
+    requires apart { same_lane lanes.first lanes.second ≡ false }
+    requires small { lanes.last < 2 ^ 31 }
+    requires first { (lanes.first.kind ≡ Data) × (content_of W.world lanes.first ≡ Some (lane_events lanes.last)) }
+    requires second { (lanes.second.kind ≡ Data) × (content_of W.world lanes.second ≡ Some (lane_events lanes.last)) }
 {
-    let Ok((mailbox, one, two, taker)) = open_two::<W, M>(alloc, first, second, capacity) else {
+    let opened = open_two::<W, M>(alloc, lanes.first, lanes.second, capacity);
+    let Ok((mailbox, one, two, taker)) = opened else {
         return None;
     };
-    let total = 2 * last + 2;
     let ((one, _), (two, _), (taker, taken)) = all_three::<W, M, R>(
-        rt, alloc, &mailbox, one, two, taker, first, second, last, total,
+        rt,
+        alloc,
+        &mailbox,
+        (one, two),
+        taker,
+        lanes,
     );
     let taken = taken.ok()?;
     let mut senders = Vec::new(alloc);
