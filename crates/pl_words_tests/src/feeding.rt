@@ -71,6 +71,29 @@ fn counted(
     Ok(admission.retire(seats, owner))
 }
 
+/// A thread sends a given number of times, or until it is refused, beside another call.
+fn feed_beside<R: Threads + Sync, T, F: FnOnce() -> T>(
+    rt: &R,
+    admission: &Admission,
+    seat: SendSeat,
+    times: u32,
+    other: F,
+) -> ((SendSeat, u64), T)
+    requires name { seat.name ≡ admission.now.name }
+    requires other { F.pre other }
+    ensures fed { Fed seat result.0.1 result.0.0 }
+    ensures other { F.post other result.1 }
+{
+    thread::join(
+        rt,
+        move || -> (SendSeat, u64)
+            requires { seat.name ≡ admission.now.name }
+            ensures { Fed seat result.1 result.0 }
+        { feed(admission, seat, times) },
+        other,
+    )
+}
+
 /// Three threads send a given number of times each, or until they are refused, while a fourth closes. What was counted
 /// is what they sent, and where it was closed it is the count with which it was.
 pub fn feed_and_close<R: Threads + Sync>(
@@ -86,38 +109,35 @@ pub fn feed_and_close<R: Threads + Sync>(
         unreachable!()
     };
     let shared = &admission;
-    let ((fed_first, fed_second), (fed_third, shut)) = thread::join(
+    let (fed_first, (fed_second, (fed_third, shut))) = feed_beside(
         rt,
-        move || -> ((SendSeat, u64), (SendSeat, u64))
-            requires { (first.name ≡ shared.now.name) × (second.name ≡ shared.now.name) }
-            ensures { Fed first result.0.1 result.0.0 × Fed second result.1.1 result.1.0 }
+        shared,
+        first,
+        times,
+        move || -> ((SendSeat, u64), ((SendSeat, u64), (OwnerSeat, Option<u64>)))
+            requires { (second.name ≡ shared.now.name) × (third.name ≡ shared.now.name) × (owner.name ≡ shared.now.name) × (owner.phase ≢ Closed) }
+            ensures { Fed second result.0.1 result.0.0 × Fed third result.1.0.1 result.1.0.0 × Shut owner result.1.1.1 result.1.1.0 }
         {
-            thread::join(
+            feed_beside(
                 rt,
-                move || -> (SendSeat, u64)
-                    requires { first.name ≡ shared.now.name }
-                    ensures { Fed first result.1 result.0 }
-                { feed(shared, first, times) },
-                move || -> (SendSeat, u64)
-                    requires { second.name ≡ shared.now.name }
-                    ensures { Fed second result.1 result.0 }
-                { feed(shared, second, times) },
-            )
-        },
-        move || -> ((SendSeat, u64), (OwnerSeat, Option<u64>))
-            requires { (third.name ≡ shared.now.name) × (owner.name ≡ shared.now.name) × (owner.phase ≢ Closed) }
-            ensures { Fed third result.0.1 result.0.0 × Shut owner result.1.1 result.1.0 }
-        {
-            thread::join(
-                rt,
-                move || -> (SendSeat, u64)
-                    requires { third.name ≡ shared.now.name }
-                    ensures { Fed third result.1 result.0 }
-                { feed(shared, third, times) },
-                move || -> (OwnerSeat, Option<u64>)
-                    requires { (owner.name ≡ shared.now.name) × (owner.phase ≢ Closed) }
-                    ensures { Shut owner result.1 result.0 }
-                { close(shared, owner, times) },
+                shared,
+                second,
+                times,
+                move || -> ((SendSeat, u64), (OwnerSeat, Option<u64>))
+                    requires { (third.name ≡ shared.now.name) × (owner.name ≡ shared.now.name) × (owner.phase ≢ Closed) }
+                    ensures { Fed third result.0.1 result.0.0 × Shut owner result.1.1 result.1.0 }
+                {
+                    feed_beside(
+                        rt,
+                        shared,
+                        third,
+                        times,
+                        move || -> (OwnerSeat, Option<u64>)
+                            requires { (owner.name ≡ shared.now.name) × (owner.phase ≢ Closed) }
+                            ensures { Shut owner result.1 result.0 }
+                        { close(shared, owner, times) },
+                    )
+                },
             )
         },
     );

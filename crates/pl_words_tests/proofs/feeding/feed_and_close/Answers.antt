@@ -13,4 +13,4 @@ returns-clause-sent g c =
     let none_first : seats.first.kept ≡ 0 = ap (λ s. s.kept) first in
     let none_second : seats.second.kept ≡ 0 = ap (λ s. s.kept) second in
     let none_third : seats.third.kept ≡ 0 = ap (λ s. s.kept) third in
-    omega (arith, c.in_ok-counted.ensures.kept, c.join-fed_first.ensures.first.0.1, c.join-fed_first.ensures.first.1.1, c.join-fed_first.ensures.second.0.1)
+    omega (arith, c.in_ok-counted.ensures.kept, c.feed_beside-fed_first.ensures.fed.1, c.feed_beside-fed_first.ensures.other.0.1, c.feed_beside-fed_first.ensures.other.1.1)
