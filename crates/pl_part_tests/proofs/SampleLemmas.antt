@@ -32,7 +32,7 @@ use Rattle.pl_part.specs.NewParts.{IsPlannedAt, ArePlannedWith, AreNew}
 use Rattle.pl_part.specs.Paths.{writer_hop, path_taken, path_lanes, path_writes, path_came}
 use Rattle.pl_part.specs.Parts.{PartView, PartHolds, SamePart, head_hop, has_entered, part_taken, part_lanes, part_writes, writes_at, part_came}
 use Rattle.pl_context.specs.declared.standing.Took.{Took}
-use Rattle.pl_part.specs.PartCalls.{IsNextFor, Puts, Taken}
+use Rattle.pl_part.specs.PartCalls.{IsNextFor, Puts, Taken, Given}
 use Rattle.pl_part.proofs.NewHeads.{IsFresh, new-holds, new-came, new-taken}
 use Rattle.pl_part_tests.specs.declared.relays.Relay.{Relay}
 use Rattle.pl_part_tests.specs.Relays.{relaying}
@@ -161,6 +161,10 @@ ready-given p p' hop b a ready puts counts holds made = record {
   sample = same-sample p p' puts.same ready.sample;
   plays = plays-given sample_world sample_meaning anywhere memory_state p p' hop b a ready.plays puts.same puts.writes holds made puts.placed counts;
 }
+
+-- the head has moved, or was aborted
+pub ready-after : (p p' : Part) (hop : ℕ) (b a : OutputsView) → IsReady p b → Given sample_meaning anywhere memory_state p hop b p' a → IsReady p' a
+ready-after p p' hop b a ready t = ready-given p p' hop b a ready t.puts t.taken (t.holds sample_world ready.plays.holds) (t.made sample_world ready.plays.holds)
 
 -- ---- it is ready at first
 

@@ -4,6 +4,7 @@ use crate::playing::{Answer, Call, Expected, play, played};
 use crate::relays::{Faults, NO_FAULTS, Relay, sample_part};
 use pl_context::Took;
 use pl_event::{Cause, Event, Kind, Outcome};
+use pl_flow::HeadMove;
 use pl_head::{MemoryTransport, OutStep, ReadStep};
 use pl_part::ChannelPart;
 use std::process::Abort;
@@ -110,6 +111,34 @@ fn events_pass_and_end(rt: HostRuntime) -> Result<(), Fail> {
     let (tail, head) = part.into_ends();
     assert!(rt; tail.is_some());
     assert!(rt; head.is_some());
+    Ok(())
+}
+
+const READ: Call = Call::Move(HeadMove::Read);
+
+const OUT: Call = Call::Move(HeadMove::Out);
+
+const MADE: Answer = Answer::Moved(true);
+
+const NOT_ENABLED: Answer = Answer::Moved(false);
+
+const BY_MOVES: [Expected; 8] = [
+    (OUT, NOT_ENABLED, NONE, NONE),
+    (READ, MADE, PASSED, NONE),
+    (READ, MADE, BURST, FLAG),
+    (READ, MADE, ENDED, NONE),
+    (READ, NOT_ENABLED, NONE, NONE),
+    (OUT, MADE, NONE, NONE),
+    (OUT, MADE, NONE, FLAG),
+    (OUT, NOT_ENABLED, NONE, NONE),
+];
+
+/// The same by the head's moves: each is made where it is enabled.
+#[test]
+fn moves_to_the_end(rt: HostRuntime) -> Result<(), Fail> {
+    let (part, _) = played(&rt, NO_FAULTS, &BY_MOVES)?;
+    assert_tail(&rt, &part, &RECORD, &[false, true], None);
+    assert_head(&rt, &part, b"ab", &[Some(Outcome::Success)], None);
     Ok(())
 }
 

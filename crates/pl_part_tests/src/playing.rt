@@ -9,6 +9,7 @@ ghost use Rattle.pl_part_tests.specs.SampleParts.{IsReady, IsSample};
 use crate::relays::{Faults, Relay, sample_run};
 use pl_context::{Outputs, Took};
 use pl_event::{Envelope, Kind, Lane};
+use pl_flow::HeadMove;
 use pl_head::{MemoryTransport, OutStep, ReadStep};
 use pl_part::ChannelPart;
 use std::alloc::{AllocError, Global};
@@ -21,6 +22,8 @@ pub(crate) enum Call {
     Read,
     /// A write of the head.
     Write,
+    /// A move of the head, which is one of the two.
+    Move(HeadMove),
     Abort,
     /// What the writer of a lane of a hop has put is refused.
     Refuse(Kind, u16),
@@ -31,6 +34,7 @@ pub(crate) enum Call {
 pub(crate) enum Answer {
     Read(ReadStep),
     Wrote(OutStep),
+    Moved(bool),
     Nothing,
 }
 
@@ -120,6 +124,7 @@ fn apply(part: &mut ChannelPart<Relay, MemoryTransport>, work: &mut Outputs, cal
     match call {
         Call::Read => Answer::Read(part.next_read(work)),
         Call::Write => Answer::Wrote(part.write_once(work)),
+        Call::Move(by) => Answer::Moved(part.move_head(by, work)),
         Call::Abort => {
             part.abort(work);
             Answer::Nothing
