@@ -79,130 +79,120 @@ fn assert_served(
     rt: &(impl Abort + AllocGlobal),
     max: usize,
     events: Vec<Event>,
-    tail: Vec<Event>,
+    tail: &[Event],
     bytes: &[u8],
 ) -> Result<(), Fail> {
     let (reached, sent) = served(rt.alloc(), max, events)?;
-    assert_eq!(rt; reached, tail);
+    assert_eq!(rt; reached.as_slice(), tail);
     assert_eq!(rt; sent.as_slice(), bytes);
     Ok(())
 }
 
-/// The same where one chunk comes in.
-fn assert_chunk_served(
+/// The same where one chunk comes in, with lines of at most 64 bytes.
+fn assert_lines_served(
     rt: &(impl Abort + AllocGlobal),
-    max: usize,
     lines: &[u8],
-    tail: Vec<Event>,
+    tail: &[Event],
     bytes: &[u8],
 ) -> Result<(), Fail> {
     let events = vec![in rt.alloc(); chunk(rt.alloc(), lines)?]?;
-    assert_served(rt, max, events, tail, bytes)
+    assert_served(rt, 64, events, tail, bytes)
 }
 
 #[test]
 fn ping(rt: HostRuntime) -> Result<(), Fail> {
-    let alloc = rt.alloc();
-    let events = vec![in alloc;
-        Event::Active,
-        chunk(alloc, b"PING\r\n")?,
-        Event::ReadComplete,
-    ]?;
-    let tail = vec![in alloc; Event::Active, ping_command(), Event::ReadComplete]?;
-    assert_served(&rt, 64, events, tail, b"+PONG\r\n")
+    let lines = chunk(rt.alloc(), b"PING\r\n")?;
+    let events = vec![in rt.alloc(); Event::Active, lines, Event::ReadComplete]?;
+    let tail = [Event::Active, ping_command(), Event::ReadComplete];
+    assert_served(&rt, 64, events, &tail, b"+PONG\r\n")
 }
 
 #[test]
 fn line_across_bursts(rt: HostRuntime) -> Result<(), Fail> {
-    let alloc = rt.alloc();
-    let events = vec![in alloc;
+    let events = vec![in rt.alloc();
         Event::Active,
-        chunk(alloc, b"PI")?,
+        chunk(rt.alloc(), b"PI")?,
         Event::ReadComplete,
-        chunk(alloc, b"NG\n")?,
+        chunk(rt.alloc(), b"NG\n")?,
         Event::ReadComplete,
     ]?;
-    let tail = vec![in alloc;
+    let tail = [
         Event::Active,
         Event::ReadComplete,
         ping_command(),
         Event::ReadComplete,
-    ]?;
-    assert_served(&rt, 64, events, tail, b"+PONG\r\n")
+    ];
+    assert_served(&rt, 64, events, &tail, b"+PONG\r\n")
 }
 
 #[test]
 fn cr_and_lf_apart(rt: HostRuntime) -> Result<(), Fail> {
-    let alloc = rt.alloc();
-    let events = vec![in alloc; chunk(alloc, b"PING\r")?, chunk(alloc, b"\n")?]?;
-    let tail = vec![in alloc; ping_command()]?;
-    assert_served(&rt, 4, events, tail, b"+PONG\r\n")
+    let (line, end) = (chunk(rt.alloc(), b"PING\r")?, chunk(rt.alloc(), b"\n")?);
+    let events = vec![in rt.alloc(); line, end]?;
+    assert_served(&rt, 4, events, &[ping_command()], b"+PONG\r\n")
 }
 
 #[test]
 fn line_too_long(rt: HostRuntime) -> Result<(), Fail> {
-    let tail = vec![in rt.alloc(); Event::Caught(Caught::TooLong)]?;
-    assert_chunk_served(&rt, 3, b"PING\n", tail, b"-ERR toolong\r\n")
+    let events = vec![in rt.alloc(); chunk(rt.alloc(), b"PING\n")?]?;
+    let tail = [Event::Caught(Caught::TooLong)];
+    assert_served(&rt, 3, events, &tail, b"-ERR toolong\r\n")
 }
 
 #[test]
 fn echo_and_faults(rt: HostRuntime) -> Result<(), Fail> {
-    let tail = vec![in rt.alloc();
+    let tail = [
         echo(rt.alloc(), b"")?,
         Event::Caught(Caught::Syntax),
         Event::Caught(Caught::Unknown),
-    ]?;
+    ];
     let bytes = b"+\r\n-ERR syntax\r\n-ERR unknown\r\n";
-    assert_chunk_served(&rt, 64, b"ECHO \nECHO\n\n", tail, bytes)
+    assert_lines_served(&rt, b"ECHO \nECHO\n\n", &tail, bytes)
 }
 
 #[test]
 fn cr_inside_line(rt: HostRuntime) -> Result<(), Fail> {
-    let tail = vec![in rt.alloc(); echo(rt.alloc(), b"a\r")?]?;
-    assert_chunk_served(&rt, 64, b"ECHO a\r\r\n", tail, b"+a\r\r\n")
+    let tail = [echo(rt.alloc(), b"a\r")?];
+    assert_lines_served(&rt, b"ECHO a\r\r\n", &tail, b"+a\r\r\n")
 }
 
 #[test]
 fn totals(rt: HostRuntime) -> Result<(), Fail> {
     let alloc = rt.alloc();
-    let tail = vec![in alloc;
+    let tail = [
         add(alloc, b"a", 7)?,
         add(alloc, b"b", 1)?,
         add(alloc, b"a", 5)?,
         get(alloc, b"a")?,
-    ]?;
+    ];
     let lines = b"ADD a 7\nADD b 1\nADD a 5\nGET a\n";
-    assert_chunk_served(&rt, 64, lines, tail, b":7\r\n:1\r\n:12\r\n:12\r\n")
+    assert_lines_served(&rt, lines, &tail, b":7\r\n:1\r\n:12\r\n:12\r\n")
 }
 
 #[test]
 fn leading_zero(rt: HostRuntime) -> Result<(), Fail> {
-    let tail = vec![in rt.alloc(); Event::Caught(Caught::Syntax)]?;
-    assert_chunk_served(&rt, 64, b"ADD a 0123\n", tail, b"-ERR syntax\r\n")
+    let tail = [Event::Caught(Caught::Syntax)];
+    assert_lines_served(&rt, b"ADD a 0123\n", &tail, b"-ERR syntax\r\n")
 }
 
 #[test]
 fn nine_digits(rt: HostRuntime) -> Result<(), Fail> {
-    let alloc = rt.alloc();
-    let tail = vec![in alloc;
-        add(alloc, b"a", 999_999_999)?,
-        Event::Caught(Caught::Syntax),
-        get(alloc, b"zz")?,
-    ]?;
-    let lines = b"ADD a 999999999\nADD a 1234567890\nGET zz\n";
-    assert_chunk_served(&rt, 64, lines, tail, b":999999999\r\n-ERR syntax\r\n:0\r\n")
+    let largest = add(rt.alloc(), b"a", 999_999_999)?;
+    let other = get(rt.alloc(), b"zz")?;
+    assert_lines_served(
+        &rt,
+        b"ADD a 999999999\nADD a 1234567890\nGET zz\n",
+        &[largest, Event::Caught(Caught::Syntax), other],
+        b":999999999\r\n-ERR syntax\r\n:0\r\n",
+    )
 }
 
 #[test]
 fn quit(rt: HostRuntime) -> Result<(), Fail> {
-    let alloc = rt.alloc();
-    let events = vec![in alloc;
-        Event::Active,
-        chunk(alloc, b"PING\nQUIT\nPING\nPI")?,
-        Event::ReadComplete,
-    ]?;
-    let tail = vec![in alloc; Event::Active, ping_command(), quit_command()]?;
-    assert_served(&rt, 64, events, tail, b"+PONG\r\n+BYE\r\n")
+    let burst = chunk(rt.alloc(), b"PING\nQUIT\nPING\nPI")?;
+    let events = vec![in rt.alloc(); Event::Active, burst, Event::ReadComplete]?;
+    let tail = [Event::Active, ping_command(), quit_command()];
+    assert_served(&rt, 64, events, &tail, b"+PONG\r\n+BYE\r\n")
 }
 
 /// What the decoder makes of one line.
@@ -218,13 +208,14 @@ fn decoded(alloc: Global, line: &[u8]) -> Result<Option<Event>, Fail> {
 #[test]
 fn forms_of_commands(rt: HostRuntime) -> Result<(), Fail> {
     let alloc = rt.alloc();
-    let zero = Some(add(alloc, b"k", 0)?);
-    assert_eq!(rt; decoded(alloc, b"ADD k 0")?, zero);
-    let digits = Some(add(alloc, b"0", 10)?);
-    assert_eq!(rt; decoded(alloc, b"ADD 0 10")?, digits);
-    let longest = Some(get(alloc, b"abcdefghijklmnop")?);
-    assert_eq!(rt; decoded(alloc, b"GET abcdefghijklmnop")?, longest);
-    assert_eq!(rt; decoded(alloc, b"QUIT")?, Some(quit_command()));
+    for (line, made) in [
+        ("ADD k 0", add(alloc, b"k", 0)?),
+        ("ADD 0 10", add(alloc, b"0", 10)?),
+        ("GET abcdefghijklmnop", get(alloc, b"abcdefghijklmnop")?),
+        ("QUIT", quit_command()),
+    ] {
+        assert_eq!(rt; decoded(alloc, line.as_bytes())?, Some(made), "of {line:?}");
+    }
     Ok(())
 }
 
@@ -280,6 +271,19 @@ fn answer(
     Ok(down.pop())
 }
 
+/// A service answers these events, one after another, so.
+fn assert_answers(
+    rt: &(impl Abort + AllocGlobal),
+    service: &mut Fused<LineService>,
+    rows: Vec<(Event, Reply)>,
+) -> Result<(), Fail> {
+    for (event, reply) in rows {
+        let answered = answer(rt.alloc(), service, event)?;
+        assert_eq!(rt; answered, Some(Event::Write(Message::Reply(reply))));
+    }
+    Ok(())
+}
+
 #[test]
 fn service_limits(rt: HostRuntime) -> Result<(), Fail> {
     let alloc = rt.alloc();
@@ -287,21 +291,20 @@ fn service_limits(rt: HostRuntime) -> Result<(), Fail> {
     for _ in 0..999_999 {
         answer(alloc, &mut service, add(alloc, b"a", 999_999_999)?)?;
     }
-    let largest = Some(written(Reply::Total(999_999_999_000_000)));
-    let range = Some(written(Reply::Error(Fault::Range)));
-    let event = add(alloc, b"a", 999_999_999)?;
-    assert_eq!(rt; answer(alloc, &mut service, event)?, largest);
-    let event = add(alloc, b"a", 999_999_999)?;
-    assert_eq!(rt; answer(alloc, &mut service, event)?, range);
-    let event = get(alloc, b"a")?;
-    assert_eq!(rt; answer(alloc, &mut service, event)?, largest);
-
-    let event = add(alloc, b"a", 1_000_001)?;
-    assert_eq!(rt; answer(alloc, &mut service, event)?, range);
-    let event = add(alloc, b"a", 1_000_000)?;
-    let whole = Some(written(Reply::Total(1_000_000_000_000_000)));
-    assert_eq!(rt; answer(alloc, &mut service, event)?, whole);
-    Ok(())
+    let rows = vec![in alloc;
+        (
+            add(alloc, b"a", 999_999_999)?,
+            Reply::Total(999_999_999_000_000)
+        ),
+        (add(alloc, b"a", 999_999_999)?, Reply::Error(Fault::Range)),
+        (get(alloc, b"a")?, Reply::Total(999_999_999_000_000)),
+        (add(alloc, b"a", 1_000_001)?, Reply::Error(Fault::Range)),
+        (
+            add(alloc, b"a", 1_000_000)?,
+            Reply::Total(1_000_000_000_000_000)
+        ),
+    ]?;
+    assert_answers(&rt, &mut service, rows)
 }
 
 /// A service that holds 256 keys, each by an addition of this number.
@@ -318,22 +321,16 @@ fn full_service(alloc: Global, number: u32) -> Result<Fused<LineService>, Fail> 
 #[test]
 fn key_limit(rt: HostRuntime) -> Result<(), Fail> {
     let alloc = rt.alloc();
-    let full = Some(written(Reply::Error(Fault::Full)));
-    let mut service = full_service(alloc, 1)?;
-    let event = add(alloc, b"other", 1)?;
-    assert_eq!(rt; answer(alloc, &mut service, event)?, full);
-    let event = get(alloc, b"other")?;
-    let nothing = Some(written(Reply::Total(0)));
-    assert_eq!(rt; answer(alloc, &mut service, event)?, nothing);
-    let event = add(alloc, b"aa", 1)?;
-    let two = Some(written(Reply::Total(2)));
-    assert_eq!(rt; answer(alloc, &mut service, event)?, two);
+    let rows = vec![in alloc;
+        (add(alloc, b"other", 1)?, Reply::Error(Fault::Full)),
+        (get(alloc, b"other")?, Reply::Total(0)),
+        (add(alloc, b"aa", 1)?, Reply::Total(2)),
+    ]?;
+    assert_answers(&rt, &mut full_service(alloc, 1)?, rows)?;
 
     // An addition of 0 makes a key held, too.
-    let mut service = full_service(alloc, 0)?;
-    let event = add(alloc, b"other", 1)?;
-    assert_eq!(rt; answer(alloc, &mut service, event)?, full);
-    Ok(())
+    let rows = vec![in alloc; (add(alloc, b"other", 1)?, Reply::Error(Fault::Full))]?;
+    assert_answers(&rt, &mut full_service(alloc, 0)?, rows)
 }
 
 #[test]
@@ -383,14 +380,9 @@ fn quits_once(rt: HostRuntime) -> Result<(), Fail> {
     let mut service = Handler::Service(LineService::new(alloc));
     let mut up = Vec::new(alloc);
     let mut down = Vec::new(alloc);
-    assert_eq!(rt;
-        service.step(quit_command(), &mut up, &mut down)?,
-        Turned::Ended
-    );
-    assert_eq!(rt;
-        service.step(ping_command(), &mut up, &mut down)?,
-        Turned::Ended
-    );
+    for command in [quit_command(), ping_command()] {
+        assert_eq!(rt; service.step(command, &mut up, &mut down)?, Turned::Ended);
+    }
     assert_eq!(rt; up, vec![in alloc; quit_command()]?);
     assert_eq!(rt; down, vec![in alloc; written(Reply::Bye), Event::Flush]?);
     Ok(())
