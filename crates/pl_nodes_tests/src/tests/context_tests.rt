@@ -9,7 +9,7 @@ ghost use Rattle.pl_event.specs.declared.envelopes.Kind.TheVariants.{Data};
 use pl_context::{Added, Backlog, Context, Outputs, Tail, Took};
 use pl_event::{
     ByteString, Cause, Direction, Envelope, Event, Item, Kind, Lane, Message, Stage, StageFault,
-    Turned,
+    Stepped, Turned,
 };
 use std::alloc::{AllocError, Global};
 use std::process::Abort;
@@ -35,17 +35,12 @@ impl Stage for Relay {
         self.direction
     }
 
-    fn step(
-        &mut self,
-        event: Event,
-        up: &mut Vec<Event>,
-        down: &mut Vec<Event>,
-    ) -> Result<Turned, StageFault> {
+    fn step(&mut self, event: Event, up: &mut Vec<Event>, down: &mut Vec<Event>) -> Stepped {
+        let completes = is_complete(&event);
         if self.steps == 0 {
             return Err(StageFault::Memory);
         }
-        let completes = is_complete(&event);
-        match pass(self.direction, self.has_quit, event, up, down) {
+        match pass(self.direction, event, up, down, self.has_quit) {
             Ok(()) => {
                 self.steps -= 1;
                 self.has_quit = self.has_quit || completes;
@@ -100,10 +95,10 @@ fn turned(direction: Direction, has_quit: bool) -> Turned
 
 fn pass(
     direction: Direction,
-    has_quit: bool,
     event: Event,
     up: &mut Vec<Event>,
     down: &mut Vec<Event>,
+    has_quit: bool,
 ) -> Result<(), AllocError>
     ensures up { OnOk result (up.new.items ≡ up.old.items ++ passed_up direction event) }
     ensures down { OnOk result (down.new.items ≡ down.old.items ++ passed_down direction has_quit event) }
@@ -113,14 +108,14 @@ fn pass(
     up.reserve(1)?;
     down.reserve(1)?;
     match direction {
-        Direction::Inbound => up.push_reserved(event),
-        Direction::Outbound => down.push_reserved(event),
         Direction::Turn => {
             if !has_quit {
                 down.push_reserved(Event::Flush);
             }
             up.push_reserved(event);
         }
+        Direction::Inbound => up.push_reserved(event),
+        Direction::Outbound => down.push_reserved(event),
     }
     Ok(())
 }
@@ -176,15 +171,17 @@ fn assert_gives(
     Ok(())
 }
 
-/// Fails a context, and answers what it puts out.
-fn fail(
-    alloc: Global,
+/// A context that is failed from outside puts these out.
+fn assert_refused(
+    rt: &(impl Abort + AllocGlobal),
     context: &mut Context<Relay>,
     cause: Cause,
-) -> Result<Vec<Envelope>, AllocError> {
-    let mut outputs = Outputs::new(alloc, 3)?;
+    want: &[Envelope],
+) -> Result<(), AllocError> {
+    let mut outputs = Outputs::new(rt.alloc(), 3)?;
     context.fail(cause, &mut outputs);
-    drained(alloc, outputs)
+    assert_eq!(rt; drained(rt.alloc(), outputs)?.as_slice(), want);
+    Ok(())
 }
 
 /// All that a list brings, up to 100 envelopes.
@@ -275,12 +272,8 @@ fn refused_context(rt: HostRuntime) -> Result<(), Fail> {
         data(2, 1, Item::Fail(Cause::Refused)),
         data(4, 1, Item::Fail(Cause::Refused)),
     ];
-    let put = fail(rt.alloc(), &mut turn, Cause::Refused)?;
-    assert_eq!(rt; put.as_slice(), refused.as_slice());
-    assert_eq!(rt;
-        fail(rt.alloc(), &mut turn, Cause::Memory)?.is_empty(),
-        true
-    );
+    assert_refused(&rt, &mut turn, Cause::Refused, &refused)?;
+    assert_refused(&rt, &mut turn, Cause::Memory, &[])?;
     let complete = Item::Event(Event::ReadComplete);
     assert_gives(&rt, &mut turn, complete, Took::Dropped, &[])?;
     assert_gives(&rt, &mut turn, Item::Flag(false), Took::Dropped, &[])?;
@@ -434,12 +427,15 @@ fn outputs_come_in_order(rt: HostRuntime) -> Result<(), Fail> {
     assert_eq!(rt; outputs.reserve(usize::MAX).is_err(), true);
     assert_eq!(rt; outputs.reserve(usize::MAX - 1).is_err(), true);
     assert_eq!(rt; outputs.is_empty(), true);
-    let added = put(&mut outputs, 0, Item::Event(Event::Active));
-    assert_eq!(rt; added, Added::Last);
-    let added = put(&mut outputs, 1, Item::Event(Event::Flush));
-    assert_eq!(rt; added, Added::Last);
-    let added = put(&mut outputs, 2, Item::End);
-    assert_eq!(rt; added, Added::Last);
+    assert_eq!(rt;
+        put(&mut outputs, 0, Item::Event(Event::Active)),
+        Added::Last
+    );
+    assert_eq!(rt;
+        put(&mut outputs, 1, Item::Event(Event::Flush)),
+        Added::Last
+    );
+    assert_eq!(rt; put(&mut outputs, 2, Item::End), Added::Last);
     assert_eq!(rt; outputs.is_empty(), false);
     assert_eq!(rt; outputs.has_stopped(), false);
     let want = [
@@ -506,8 +502,8 @@ fn backlog_keeps_its_order(rt: HostRuntime) -> Result<(), Fail> {
 /// With memory for all of them nothing gives way, so this says something where an allocation is made to fail.
 #[test]
 fn item_without_memory_gives_way(rt: HostRuntime) -> Result<(), Fail> {
-    let mut outputs = Outputs::new(rt.alloc(), 1)?;
     let mut whole = 8;
+    let mut outputs = Outputs::new(rt.alloc(), 1)?;
     for number in 0..8 {
         match put(&mut outputs, number, Item::Event(Event::Active)) {
             Added::Last => assert_eq!(rt; whole, 8),

@@ -5,7 +5,8 @@ ghost use Rattle.std.specs.Prelude.{◌≤◌};
 
 use crate::tests::context_tests::drained;
 use crate::tests::head_tests::{
-    Answer, Call, Expected, GAVE, IDLE, RAN, give, head, nothing_to_read, run, two_bursts,
+    Answer, CLOSED, Call, ENDED, Expected, FAULT, GAVE, IDLE, LEFT, RAN, apply, assert_head, give,
+    head, nothing_to_read, played, reading_head,
 };
 use crate::tests::input_tests::outputs_of_one;
 use crate::tests::load_tests::write_of;
@@ -28,20 +29,16 @@ enum Given {
     Flag(u64, bool),
 }
 
-/// Makes the next read step or aborts the head, and answers the last item that it puts.
-fn last_given<T: Transport>(
-    alloc: Global,
+/// This call of a head, which is no write of its transport, puts out this last, or nothing.
+fn assert_last<T: Transport>(
+    rt: &(impl Abort + AllocGlobal),
     head: &mut Head<T>,
-    aborts: bool,
-) -> Result<Option<Given>, AllocError> {
-    let mut outputs = outputs_of_one(alloc)?;
-    if aborts {
-        head.abort(&mut outputs);
-    } else {
-        head.next_read(&mut outputs);
-    }
+    call: Call,
+    given: Option<Given>,
+) -> Result<(), AllocError> {
+    let (_, outputs) = apply(rt, head, call)?;
     let mut last = None;
-    for envelope in drained(alloc, outputs)? {
+    for envelope in drained(rt.alloc(), outputs)? {
         last = match envelope.item {
             Item::Event(_) => Some(Given::Event(envelope.number)),
             Item::End => Some(Given::End(envelope.number)),
@@ -49,7 +46,8 @@ fn last_given<T: Transport>(
             Item::Flag(value) => Some(Given::Flag(envelope.number, value)),
         };
     }
-    Ok(last)
+    assert!(rt; last == given);
+    Ok(())
 }
 
 /// All settled writes that were not told yet.
@@ -59,134 +57,102 @@ fn told<T: Transport>(
 ) -> Result<Vec<(u64, Outcome)>, AllocError> {
     let mut told = Vec::new(alloc);
     for _ in 0..100 {
-        match head.next_settled() {
-            Some(next) => told.push(next)?,
-            None => break,
-        }
+        let Some(next) = head.next_settled() else {
+            break;
+        };
+        told.push(next)?;
     }
     Ok(told)
 }
 
-/// Two messages are written and flushed, and the lane has ended.
-const PONG_BYE: [Expected; 7] = [
+/// A message is written and flushed behind the first burst.
+const PONG: [Expected; 4] = [
     (Call::Read, GAVE, None, 0),
     (Call::Read, GAVE, None, 0),
     (Call::Write(7), RAN, None, 7),
     (Call::Flush, RAN, None, 7),
+];
+
+/// The head of a transport that fails at this call, when it has taken a message.
+fn head_with_pong(
+    rt: &(impl Abort + AllocGlobal),
+    abort_after: Option<u32>,
+    fail_at: u32,
+) -> Result<Head<MemoryTransport>, AllocError> {
+    let head = reading_head(rt.alloc(), abort_after, 4, Some(fail_at), 32, 64)?;
+    played(rt, head, &PONG)
+}
+
+/// What the next read step gives then, where the transport has failed.
+const THE_FAULT: Option<Given> = Some(Given::Fail(3, Cause::Transport));
+
+/// A second one follows, and the lane has ended.
+const BYE: [Expected; 3] = [
     (Call::Write(6), RAN, None, 13),
     (Call::Flush, RAN, None, 13),
-    (Call::End, Answer::Took(Took::Ended), None, 13),
+    (Call::End, ENDED, None, 13),
 ];
 
 /// The transport fails at this call. What it accepted, and the outcomes of both writes, are these.
 fn fails_at(
-    rt: &impl Abort,
-    alloc: Global,
+    rt: &(impl Abort + AllocGlobal),
     call: u32,
     bytes: &[u8],
-    first: Outcome,
-    second: Outcome,
+    outcomes: [Option<Outcome>; 2],
 ) -> Result<(), AllocError> {
-    let transport = MemoryTransport::new(alloc, 4, Some(call));
-    let mut head = Head::new(alloc, 0, 3, two_bursts(alloc, None)?, transport, 32, 64);
-    run(rt, alloc, &mut head, PONG_BYE.as_slice())?;
+    let mut head = played(rt, head_with_pong(rt, None, call)?, &BYE)?;
     for _ in 0..4 {
-        let mut outputs = outputs_of_one(alloc)?;
+        let mut outputs = outputs_of_one(rt.alloc())?;
         head.write_once(&mut outputs);
     }
-    let given = last_given(alloc, &mut head, false)?;
-    assert!(rt; head.bytes() == bytes);
-    assert!(rt; head.outcomes() == [Some(first), Some(second)].as_slice());
-    assert!(rt; head.pending() == 0);
-    if call < 5 {
-        assert!(rt; given == Some(Given::Fail(3, Cause::Transport)));
-        assert!(rt; head.cause() == Some(Cause::Transport));
-        assert!(rt; !head.has_read_step());
+    let is_before_the_end = call < 5;
+    let (given, cause) = if is_before_the_end {
+        (THE_FAULT, Some(Cause::Transport))
     } else {
-        assert!(rt; given == Some(Given::Event(4)));
-        assert!(rt; head.cause() == None);
-        assert!(rt; head.has_read_step());
-    }
+        (Some(Given::Event(4)), None)
+    };
+    assert_last(rt, &mut head, Call::Read, given)?;
+    assert_head(rt, &head, bytes, &outcomes, cause);
+    assert!(rt; head.pending() == 0);
+    assert!(rt; head.has_read_step() != is_before_the_end);
     Ok(())
 }
 
 #[test]
 fn fault_at_each_call(rt: HostRuntime) -> Result<(), Fail> {
-    let alloc = rt.alloc();
-    fails_at(&rt, alloc, 1, b"", Outcome::Fault, Outcome::Fault)?;
-    fails_at(&rt, alloc, 2, b"+PON", Outcome::Fault, Outcome::Fault)?;
-    fails_at(
-        &rt,
-        alloc,
-        3,
-        b"+PONG\r\n",
-        Outcome::Success,
-        Outcome::Fault,
-    )?;
-    fails_at(
-        &rt,
-        alloc,
-        4,
-        b"+PONG\r\n+PON",
-        Outcome::Success,
-        Outcome::Fault,
-    )?;
-    fails_at(
-        &rt,
-        alloc,
-        5,
-        b"+PONG\r\n+PONG\r",
-        Outcome::Success,
-        Outcome::Success,
-    )?;
+    fails_at(&rt, 1, b"", [FAULT, FAULT])?;
+    fails_at(&rt, 2, b"+PON", [FAULT, FAULT])?;
+    fails_at(&rt, 3, b"+PONG\r\n", [LEFT, FAULT])?;
+    fails_at(&rt, 4, b"+PONG\r\n+PON", [LEFT, FAULT])?;
+    fails_at(&rt, 5, b"+PONG\r\n+PONG\r", [LEFT, LEFT])?;
     Ok(())
 }
 
 /// The failure comes in the place of the next read step, and then none is left.
 #[test]
 fn transport_fault(rt: HostRuntime) -> Result<(), Fail> {
-    let alloc = rt.alloc();
-    let transport = MemoryTransport::new(alloc, 4, Some(2));
-    let mut head = Head::new(alloc, 0, 3, two_bursts(alloc, None)?, transport, 32, 64);
-    run(&rt, alloc, &mut head, TO_THE_FAULT.as_slice())?;
-    assert!(rt; last_given(alloc, &mut head, false)? == Some(Given::Fail(3, Cause::Transport)));
-    assert!(rt; last_given(alloc, &mut head, false)? == None);
-    assert!(rt; last_given(alloc, &mut head, true)? == None);
-    assert!(rt; head.bytes() == b"+PON".as_slice());
-    assert!(rt; head.outcomes() == [Some(Outcome::Fault)].as_slice());
-    assert!(rt; head.cause() == Some(Cause::Transport));
+    let mut head = played(&rt, head_with_pong(&rt, None, 2)?, &TO_THE_FAULT)?;
+    assert_last(&rt, &mut head, Call::Read, THE_FAULT)?;
+    assert_last(&rt, &mut head, Call::Read, None)?;
+    assert_last(&rt, &mut head, Call::Abort, None)?;
+    assert_head(&rt, &head, b"+PON", &[FAULT], Some(Cause::Transport));
     Ok(())
 }
 
-const TO_THE_FAULT: [Expected; 6] = [
-    (Call::Read, GAVE, None, 0),
-    (Call::Read, GAVE, None, 0),
-    (Call::Write(7), RAN, None, 7),
-    (Call::Flush, RAN, None, 7),
+const TO_THE_FAULT: [Expected; 2] = [
     (Call::Out, Answer::Out(OutStep::Wrote(4)), None, 7),
-    (Call::Out, Answer::Out(OutStep::Failed), None, 0),
-];
-
-const FAILS_BEFORE_ITS_ABORT: [Expected; 5] = [
-    (Call::Read, GAVE, None, 0),
-    (Call::Read, GAVE, None, 0),
-    (Call::Write(7), RAN, None, 7),
-    (Call::Flush, RAN, None, 7),
     (Call::Out, Answer::Out(OutStep::Failed), None, 0),
 ];
 
 /// The failure comes in the place of an abort too.
 #[test]
 fn failure_replaces_the_abort(rt: HostRuntime) -> Result<(), Fail> {
-    let alloc = rt.alloc();
-    let transport = MemoryTransport::new(alloc, 4, Some(1));
-    let mut head = Head::new(alloc, 0, 3, two_bursts(alloc, Some(1))?, transport, 32, 64);
-    run(&rt, alloc, &mut head, FAILS_BEFORE_ITS_ABORT.as_slice())?;
-    assert!(rt; last_given(alloc, &mut head, false)? == Some(Given::Fail(3, Cause::Transport)));
+    let failure = [(Call::Out, Answer::Out(OutStep::Failed), None, 0)];
+    let mut head = played(&rt, head_with_pong(&rt, Some(1), 1)?, &failure)?;
+    assert_last(&rt, &mut head, Call::Read, THE_FAULT)?;
     assert!(rt; !head.has_read_step());
-    assert!(rt; last_given(alloc, &mut head, false)? == None);
-    assert!(rt; head.outcomes() == [Some(Outcome::Fault)].as_slice());
-    assert!(rt; head.cause() == Some(Cause::Transport));
+    assert_last(&rt, &mut head, Call::Read, None)?;
+    assert_head(&rt, &head, b"", &[FAULT], Some(Cause::Transport));
     Ok(())
 }
 
@@ -209,14 +175,18 @@ const FAILS_BEHIND_A_FAILURE: [Expected; 7] = [
 /// closed.
 #[test]
 fn its_own_cause_counts(rt: HostRuntime) -> Result<(), Fail> {
-    let alloc = rt.alloc();
-    let mut head = head(alloc, 4, Some(2), 1, 2);
-    run(&rt, alloc, &mut head, FAILS_BEHIND_A_FAILURE.as_slice())?;
+    let head = head(rt.alloc(), 4, Some(2), 1, 2);
+    let mut head = played(&rt, head, &FAILS_BEHIND_A_FAILURE)?;
     assert!(rt; head.standing() == Standing::Failed(Cause::Refused));
-    assert!(rt; head.cause() == Some(Cause::Transport));
-    assert!(rt; head.bytes() == b"+PON".as_slice());
-    assert!(rt; head.outcomes() == [Some(Outcome::Fault), Some(Outcome::Closed)].as_slice());
-    assert!(rt; last_given(alloc, &mut head, false)? == Some(Given::Fail(0, Cause::Transport)));
+    assert_head(
+        &rt,
+        &head,
+        b"+PON",
+        &[FAULT, CLOSED],
+        Some(Cause::Transport),
+    );
+    let failure = Some(Given::Fail(0, Cause::Transport));
+    assert_last(&rt, &mut head, Call::Read, failure)?;
     Ok(())
 }
 
@@ -233,10 +203,11 @@ const FAILS_WITH_LOW_0: [Expected; 6] = [
 /// With a low mark of 0 no flag comes of a failure.
 #[test]
 fn failure_with_low_0(rt: HostRuntime) -> Result<(), Fail> {
-    let alloc = rt.alloc();
-    let transport = MemoryTransport::new(alloc, 4, Some(1));
-    let mut head = Head::new(alloc, 0, 3, two_bursts(alloc, None)?, transport, 0, 2);
-    run(&rt, alloc, &mut head, FAILS_WITH_LOW_0.as_slice())?;
+    let head = played(
+        &rt,
+        reading_head(rt.alloc(), None, 4, Some(1), 0, 2)?,
+        &FAILS_WITH_LOW_0,
+    )?;
     assert!(rt; !head.is_writable());
     Ok(())
 }
@@ -252,46 +223,27 @@ const FAILS_OF_ITS_OWN: [Expected; 4] = [
 #[test]
 fn broken_transport(rt: HostRuntime) -> Result<(), Fail> {
     let alloc = rt.alloc();
-    let mut head = Head::new(alloc, 0, 3, nothing_to_read(alloc), Broken::new(), 4, 8);
-    run(&rt, alloc, &mut head, FAILS_OF_ITS_OWN.as_slice())?;
-    assert!(rt; head.bytes() == b"".as_slice());
-    assert!(rt; head.outcomes() == [Some(Outcome::Fault)].as_slice());
-    assert!(rt; head.cause() == Some(Cause::Transport));
+    let head = Head::new(alloc, 0, 3, nothing_to_read(alloc), Broken::new(), 4, 8);
+    let head = played(&rt, head, &FAILS_OF_ITS_OWN)?;
+    assert_head(&rt, &head, b"", &[FAULT], Some(Cause::Transport));
     Ok(())
-}
-
-/// A head that is aborted after so many of its two bursts.
-fn aborted_after(alloc: Global, count: u32) -> Result<Head<MemoryTransport>, AllocError> {
-    let transport = MemoryTransport::new(alloc, 64, None);
-    Ok(Head::new(
-        alloc,
-        0,
-        3,
-        two_bursts(alloc, Some(count))?,
-        transport,
-        1,
-        2,
-    ))
 }
 
 /// The abort is the step after the bursts that come before it, with the next number, and then none is left.
 #[test]
 fn abort_at_each_burst(rt: HostRuntime) -> Result<(), Fail> {
-    let alloc = rt.alloc();
     for count in 0..4 {
-        let mut head = aborted_after(alloc, count)?;
+        let mut head = reading_head(rt.alloc(), Some(count), 64, None, 1, 2)?;
         let bursts = u64::from(count.min(2));
         for step in 0..bursts + 1 {
             assert!(rt; head.has_read_step());
-            assert!(rt; last_given(alloc, &mut head, false)? == Some(Given::Event(step * 2)));
+            assert_last(&rt, &mut head, Call::Read, Some(Given::Event(step * 2)))?;
         }
         assert!(rt; head.has_read_step());
-        let number = bursts * 2 + 1;
-        assert!(rt;
-            last_given(alloc, &mut head, false)? == Some(Given::Fail(number, Cause::Aborted))
-        );
+        let aborted = Given::Fail(bursts * 2 + 1, Cause::Aborted);
+        assert_last(&rt, &mut head, Call::Read, Some(aborted))?;
         assert!(rt; !head.has_read_step());
-        assert!(rt; last_given(alloc, &mut head, false)? == None);
+        assert_last(&rt, &mut head, Call::Read, None)?;
         assert!(rt; head.cause() == Some(Cause::Aborted));
         assert!(rt; head.is_ended());
     }
@@ -325,20 +277,23 @@ const ABORTED_BEHIND_ITS_WRITE: [Expected; 7] = [
     (Call::Abort, Answer::Aborted, None, 0),
 ];
 
+/// A head that is aborted after its first burst comes to this by these calls.
+fn assert_aborted(
+    rt: &(impl Abort + AllocGlobal),
+    rows: &[Expected],
+    bytes: &[u8],
+    outcome: Option<Outcome>,
+) -> Result<(), AllocError> {
+    let head = reading_head(rt.alloc(), Some(1), 64, None, 1, 2)?;
+    let head = played(rt, head, rows)?;
+    assert_head(rt, &head, bytes, &[outcome], Some(Cause::Aborted));
+    Ok(())
+}
+
 #[test]
 fn abort(rt: HostRuntime) -> Result<(), Fail> {
-    let alloc = rt.alloc();
-    let mut head = aborted_after(alloc, 1)?;
-    run(&rt, alloc, &mut head, ABORTED_BEFORE_ITS_WRITE.as_slice())?;
-    assert!(rt; head.bytes() == b"".as_slice());
-    assert!(rt; head.outcomes() == [Some(Outcome::Closed)].as_slice());
-    assert!(rt; head.cause() == Some(Cause::Aborted));
-
-    let mut head = aborted_after(alloc, 1)?;
-    run(&rt, alloc, &mut head, ABORTED_BEHIND_ITS_WRITE.as_slice())?;
-    assert!(rt; head.bytes() == b"+PONG\r\n".as_slice());
-    assert!(rt; head.outcomes() == [Some(Outcome::Success)].as_slice());
-    assert!(rt; head.cause() == Some(Cause::Aborted));
+    assert_aborted(&rt, &ABORTED_BEFORE_ITS_WRITE, b"", CLOSED)?;
+    assert_aborted(&rt, &ABORTED_BEHIND_ITS_WRITE, b"+PONG\r\n", LEFT)?;
     Ok(())
 }
 
@@ -350,21 +305,22 @@ fn next_of(outputs: &mut Outputs) -> Option<(u64, Item)> {
     }
 }
 
+const READ_AND_WRITTEN: [Expected; 2] = [
+    (Call::Read, GAVE, None, 0),
+    (Call::Write(3), RAN, Some(false), 3),
+];
+
 /// A head with an unflushed write of three bytes, whose first read step was made.
-fn head_with_a_write(rt: &impl Abort, alloc: Global) -> Result<Head<MemoryTransport>, AllocError> {
-    let transport = MemoryTransport::new(alloc, 64, None);
-    let mut head = Head::new(alloc, 0, 3, two_bursts(alloc, None)?, transport, 1, 2);
-    last_given(alloc, &mut head, false)?;
-    give(rt, alloc, &mut head, write_of(alloc, 3)?)?;
-    Ok(head)
+fn head_with_a_write(rt: &(impl Abort + AllocGlobal)) -> Result<Head<MemoryTransport>, AllocError> {
+    let head = reading_head(rt.alloc(), None, 64, None, 1, 2)?;
+    played(rt, head, &READ_AND_WRITTEN)
 }
 
 /// An abort that no read step makes puts its failure with the next number, behind the flag of what it closes.
 #[test]
 fn abort_between_read_steps(rt: HostRuntime) -> Result<(), Fail> {
-    let alloc = rt.alloc();
-    let mut head = head_with_a_write(&rt, alloc)?;
-    let mut outputs = outputs_of_one(alloc)?;
+    let mut head = head_with_a_write(&rt)?;
+    let mut outputs = outputs_of_one(rt.alloc())?;
     head.abort(&mut outputs);
     assert!(rt; next_of(&mut outputs) == Some((1, Item::Flag(true))));
     assert!(rt; next_of(&mut outputs) == Some((1, Item::Fail(Cause::Aborted))));
@@ -373,28 +329,7 @@ fn abort_between_read_steps(rt: HostRuntime) -> Result<(), Fail> {
     Ok(())
 }
 
-/// A second abort changes nothing, and a head with nothing left to read gives no failure.
-#[test]
-fn abort_without_a_failure(rt: HostRuntime) -> Result<(), Fail> {
-    let alloc = rt.alloc();
-    let mut head = head_with_a_write(&rt, alloc)?;
-    assert!(rt; last_given(alloc, &mut head, true)? == Some(Given::Fail(1, Cause::Aborted)));
-    assert!(rt; last_given(alloc, &mut head, true)? == None);
-    assert!(rt; last_given(alloc, &mut head, false)? == None);
-    let mut ended = head_at_its_end(alloc)?;
-    assert!(rt; last_given(alloc, &mut ended, true)? == None);
-    assert!(rt; ended.cause() == Some(Cause::Aborted));
-    Ok(())
-}
-
-/// A head whose lane of reads has ended.
-fn head_at_its_end(alloc: Global) -> Result<Head<MemoryTransport>, AllocError> {
-    let transport = MemoryTransport::new(alloc, 64, None);
-    let mut head = Head::new(alloc, 0, 3, nothing_to_read(alloc), transport, 1, 2);
-    last_given(alloc, &mut head, false)?;
-    last_given(alloc, &mut head, false)?;
-    Ok(head)
-}
+const READ_TO_THE_END: [Expected; 2] = [(Call::Read, GAVE, None, 0), (Call::Read, GAVE, None, 0)];
 
 const SETTLED: [Expected; 10] = [
     (Call::Write(2), RAN, None, 2),
@@ -406,16 +341,29 @@ const SETTLED: [Expected; 10] = [
     (Call::Abort, Answer::Aborted, None, 0),
     (Call::Write(1), RAN, None, 0),
     (Call::WriteLine, RAN, None, 0),
-    (Call::End, Answer::Took(Took::Ended), None, 0),
+    (Call::End, ENDED, None, 0),
 ];
+
+/// A second abort changes nothing, and a head with nothing left to read gives no failure.
+#[test]
+fn abort_without_a_failure(rt: HostRuntime) -> Result<(), Fail> {
+    let mut aborted = head_with_a_write(&rt)?;
+    let failure = Some(Given::Fail(1, Cause::Aborted));
+    assert_last(&rt, &mut aborted, Call::Abort, failure)?;
+    assert_last(&rt, &mut aborted, Call::Abort, None)?;
+    assert_last(&rt, &mut aborted, Call::Read, None)?;
+    let mut ended = played(&rt, head(rt.alloc(), 64, None, 1, 2), &READ_TO_THE_END)?;
+    assert_last(&rt, &mut ended, Call::Abort, None)?;
+    assert!(rt; ended.cause() == Some(Cause::Aborted));
+    Ok(())
+}
 
 /// Each settled write is told once, in the order of settling.
 #[test]
 fn settled_writes_are_told(rt: HostRuntime) -> Result<(), Fail> {
-    let alloc = rt.alloc();
-    let mut head = head(alloc, 64, None, 32, 64);
+    let mut head = head(rt.alloc(), 64, None, 32, 64);
     assert!(rt; head.next_settled() == None);
-    run(&rt, alloc, &mut head, SETTLED.as_slice())?;
+    let mut head = played(&rt, head, &SETTLED)?;
     let want = [
         (1, Outcome::Unsupported),
         (0, Outcome::Success),
@@ -424,7 +372,7 @@ fn settled_writes_are_told(rt: HostRuntime) -> Result<(), Fail> {
         (4, Outcome::Closed),
         (5, Outcome::Unsupported),
     ];
-    assert!(rt; told(alloc, &mut head)?.as_slice() == want.as_slice());
+    assert!(rt; told(rt.alloc(), &mut head)?.as_slice() == want.as_slice());
     assert!(rt; head.next_settled() == None);
     Ok(())
 }

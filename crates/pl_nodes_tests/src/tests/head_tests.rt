@@ -45,7 +45,12 @@ pub(crate) type Expected = (Call, Answer, Option<bool>, u128);
 
 pub(crate) const RAN: Answer = Answer::Took(Took::Ran);
 
+pub(crate) const ENDED: Answer = Answer::Took(Took::Ended);
+
 pub(crate) const IDLE: Answer = Answer::Out(OutStep::Idle);
+
+/// One byte has left.
+const BYTE: Answer = Answer::Out(OutStep::Wrote(1));
 
 pub(crate) const GAVE: Answer = Answer::Read(ReadStep::Gave);
 
@@ -60,7 +65,7 @@ pub(crate) fn nothing_to_read(alloc: Global) -> ReadPlan
 }
 
 /// Two bursts of one chunk each, with an abort after some of them or none.
-pub(crate) fn two_bursts(alloc: Global, abort_after: Option<u32>) -> Result<ReadPlan, AllocError>
+fn two_bursts(alloc: Global, abort_after: Option<u32>) -> Result<ReadPlan, AllocError>
     ensures { IfOk result (λ plan. length (recorded_input plan.bursts) + 1 < 2 ^ 31) }
 {
     let first = vec![in alloc; ByteString::from_vec(Vec::from_slice(alloc, b"PING\n")?)]?;
@@ -84,6 +89,22 @@ pub(crate) fn head(
 {
     let transport = MemoryTransport::new(alloc, window, fail_at);
     Head::new(alloc, 0, 3, nothing_to_read(alloc), transport, low, high)
+}
+
+/// The same with two bursts to read, and an abort after some of them or none.
+pub(crate) fn reading_head(
+    alloc: Global,
+    abort_after: Option<u32>,
+    window: u32,
+    fail_at: Option<u32>,
+    low: u32,
+    high: u32,
+) -> Result<Head<MemoryTransport>, AllocError>
+    requires { low ≤ high }
+{
+    let plan = two_bursts(alloc, abort_after)?;
+    let transport = MemoryTransport::new(alloc, window, fail_at);
+    Ok(Head::new(alloc, 0, 3, plan, transport, low, high))
 }
 
 /// The item that a call gives to the head, if it gives one.
@@ -146,12 +167,12 @@ fn abort<T: Transport>(alloc: Global, head: &mut Head<T>) -> Result<(Answer, Out
 }
 
 /// Makes a call, and answers what it answers and puts out.
-fn apply<T: Transport>(
-    rt: &impl Abort,
-    alloc: Global,
+pub(crate) fn apply<T: Transport>(
+    rt: &(impl Abort + AllocGlobal),
     head: &mut Head<T>,
     call: Call,
 ) -> Result<(Answer, Outputs), AllocError> {
+    let alloc = rt.alloc();
     match item_of(alloc, call)? {
         Some(item) => give(rt, alloc, head, item),
         None => match call {
@@ -174,23 +195,42 @@ fn flag_of(outputs: Outputs) -> Option<bool> {
     }
 }
 
-/// Makes these calls, one after another.
-pub(crate) fn run<T: Transport>(
-    rt: &impl Abort,
-    alloc: Global,
-    head: &mut Head<T>,
+/// A head after these calls, one after another.
+pub(crate) fn played<T: Transport>(
+    rt: &(impl Abort + AllocGlobal),
+    mut head: Head<T>,
     rows: &[Expected],
-) -> Result<(), AllocError> {
+) -> Result<Head<T>, AllocError> {
     for row in rows {
-        let (answer, outputs) = apply(rt, alloc, head, row.0)?;
+        let (answer, outputs) = apply(rt, &mut head, row.0)?;
         assert!(rt; answer == row.1);
         let flag = flag_of(outputs);
         assert!(rt; flag == row.2);
         let pending = head.pending();
         assert!(rt; pending == row.3);
     }
-    Ok(())
+    Ok(head)
 }
+
+/// The transport of a head has accepted these bytes, its writes have come to this, and it has failed for this.
+pub(crate) fn assert_head<T: Transport>(
+    rt: &impl Abort,
+    head: &Head<T>,
+    bytes: &[u8],
+    outcomes: &[Option<Outcome>],
+    cause: Option<Cause>,
+) {
+    assert!(rt; head.bytes() == bytes);
+    assert!(rt; head.outcomes() == outcomes);
+    assert!(rt; head.cause() == cause);
+}
+
+/// A write that has left.
+pub(crate) const LEFT: Option<Outcome> = Some(Outcome::Success);
+
+pub(crate) const CLOSED: Option<Outcome> = Some(Outcome::Closed);
+
+pub(crate) const FAULT: Option<Outcome> = Some(Outcome::Fault);
 
 const EMPTY: [Expected; 3] = [
     (Call::Write(0), RAN, None, 0),
@@ -199,20 +239,17 @@ const EMPTY: [Expected; 3] = [
 ];
 
 const EMPTY_WRITTEN: [Expected; 3] = [
-    (Call::Out, Answer::Out(OutStep::Wrote(1)), None, 2),
-    (Call::Out, Answer::Out(OutStep::Wrote(1)), None, 0),
+    (Call::Out, BYTE, None, 2),
+    (Call::Out, BYTE, None, 0),
     (Call::Out, IDLE, None, 0),
 ];
 
 #[test]
 fn empty_message(rt: HostRuntime) -> Result<(), Fail> {
-    let alloc = rt.alloc();
-    let mut head = head(alloc, 1, None, 4, 8);
-    run(&rt, alloc, &mut head, EMPTY.as_slice())?;
-    assert!(rt; head.outcomes() == [Some(Outcome::Success), None].as_slice());
-    run(&rt, alloc, &mut head, EMPTY_WRITTEN.as_slice())?;
-    assert!(rt; head.outcomes() == [Some(Outcome::Success), Some(Outcome::Success)].as_slice());
-    assert!(rt; head.bytes() == b"ab".as_slice());
+    let head = played(&rt, head(rt.alloc(), 1, None, 4, 8), &EMPTY)?;
+    assert_head(&rt, &head, b"", &[LEFT, None], None);
+    let head = played(&rt, head, &EMPTY_WRITTEN)?;
+    assert_head(&rt, &head, b"ab", &[LEFT, LEFT], None);
     Ok(())
 }
 
@@ -220,17 +257,15 @@ const STRICT: [Expected; 7] = [
     (Call::Write(4), RAN, None, 4),
     (Call::Write(1), RAN, Some(false), 5),
     (Call::Flush, RAN, None, 5),
-    (Call::Out, Answer::Out(OutStep::Wrote(1)), None, 5),
-    (Call::Out, Answer::Out(OutStep::Wrote(1)), None, 5),
-    (Call::Out, Answer::Out(OutStep::Wrote(1)), None, 5),
-    (Call::Out, Answer::Out(OutStep::Wrote(1)), Some(true), 1),
+    (Call::Out, BYTE, None, 5),
+    (Call::Out, BYTE, None, 5),
+    (Call::Out, BYTE, None, 5),
+    (Call::Out, BYTE, Some(true), 1),
 ];
 
 #[test]
 fn marks_are_strict(rt: HostRuntime) -> Result<(), Fail> {
-    let alloc = rt.alloc();
-    let mut head = head(alloc, 1, None, 4, 4);
-    run(&rt, alloc, &mut head, STRICT.as_slice())?;
+    let head = played(&rt, head(rt.alloc(), 1, None, 4, 4), &STRICT)?;
     assert!(rt; head.is_writable());
     Ok(())
 }
@@ -239,25 +274,21 @@ const TRICKLES: [Expected; 5] = [
     (Call::Write(2), RAN, None, 2),
     (Call::Flush, RAN, None, 2),
     (Call::Out, Answer::Out(OutStep::Wrote(0)), None, 2),
-    (Call::Out, Answer::Out(OutStep::Wrote(1)), None, 2),
+    (Call::Out, BYTE, None, 2),
     (Call::Out, Answer::Out(OutStep::Wrote(0)), None, 2),
 ];
 
-const TRICKLED: [Expected; 2] = [
-    (Call::Out, Answer::Out(OutStep::Wrote(1)), None, 0),
-    (Call::Out, IDLE, None, 0),
-];
+const TRICKLED: [Expected; 2] = [(Call::Out, BYTE, None, 0), (Call::Out, IDLE, None, 0)];
 
 #[test]
 fn one_byte_transport(rt: HostRuntime) -> Result<(), Fail> {
     let alloc = rt.alloc();
     let transport = Trickle::new(alloc);
-    let mut head = Head::new(alloc, 0, 3, nothing_to_read(alloc), transport, 4, 8);
-    run(&rt, alloc, &mut head, TRICKLES.as_slice())?;
-    assert!(rt; head.outcomes() == [None].as_slice());
-    run(&rt, alloc, &mut head, TRICKLED.as_slice())?;
-    assert!(rt; head.outcomes() == [Some(Outcome::Success)].as_slice());
-    assert!(rt; head.bytes() == b"+P".as_slice());
+    let head = Head::new(alloc, 0, 3, nothing_to_read(alloc), transport, 4, 8);
+    let head = played(&rt, head, &TRICKLES)?;
+    assert_head(&rt, &head, b"+", &[None], None);
+    let head = played(&rt, head, &TRICKLED)?;
+    assert_head(&rt, &head, b"+P", &[LEFT], None);
     Ok(())
 }
 
@@ -267,37 +298,26 @@ const WATERMARKS: [Expected; 9] = [
     (Call::Flush, RAN, None, 14),
     (Call::Out, Answer::Out(OutStep::Wrote(3)), None, 14),
     (Call::Out, Answer::Out(OutStep::Wrote(3)), None, 14),
-    (Call::Out, Answer::Out(OutStep::Wrote(1)), None, 7),
+    (Call::Out, BYTE, None, 7),
     (Call::Out, Answer::Out(OutStep::Wrote(3)), None, 7),
     (Call::Out, Answer::Out(OutStep::Wrote(3)), None, 7),
-    (Call::Out, Answer::Out(OutStep::Wrote(1)), Some(true), 0),
+    (Call::Out, BYTE, Some(true), 0),
 ];
 
 #[test]
 fn watermarks(rt: HostRuntime) -> Result<(), Fail> {
-    let alloc = rt.alloc();
-    let mut head = head(alloc, 3, None, 4, 8);
-    run(&rt, alloc, &mut head, WATERMARKS.as_slice())?;
-    assert!(rt; head.bytes() == b"+PONG\r\n+PONG\r\n".as_slice());
+    let head = played(&rt, head(rt.alloc(), 3, None, 4, 8), &WATERMARKS)?;
+    assert_head(&rt, &head, b"+PONG\r\n+PONG\r\n", &[LEFT, LEFT], None);
     Ok(())
 }
 
 const WINDOW_1: [Expected; 5] = [
     (Call::Write(3), RAN, None, 3),
     (Call::Flush, RAN, None, 3),
-    (Call::Out, Answer::Out(OutStep::Wrote(1)), None, 3),
-    (Call::Out, Answer::Out(OutStep::Wrote(1)), None, 3),
-    (Call::Out, Answer::Out(OutStep::Wrote(1)), None, 0),
+    (Call::Out, BYTE, None, 3),
+    (Call::Out, BYTE, None, 3),
+    (Call::Out, BYTE, None, 0),
 ];
-
-#[test]
-fn window_of_1(rt: HostRuntime) -> Result<(), Fail> {
-    let alloc = rt.alloc();
-    let mut head = head(alloc, 1, None, 4, 8);
-    run(&rt, alloc, &mut head, WINDOW_1.as_slice())?;
-    assert!(rt; head.is_written());
-    Ok(())
-}
 
 const WINDOW_65536: [Expected; 4] = [
     (Call::Write(7), RAN, None, 7),
@@ -306,13 +326,25 @@ const WINDOW_65536: [Expected; 4] = [
     (Call::Out, IDLE, None, 0),
 ];
 
-#[test]
-fn window_of_65536(rt: HostRuntime) -> Result<(), Fail> {
-    let alloc = rt.alloc();
-    let mut head = head(alloc, 65536, None, 4, 8);
-    run(&rt, alloc, &mut head, WINDOW_65536.as_slice())?;
+/// With this window these calls write all that is there.
+fn assert_writes_all(
+    rt: &(impl Abort + AllocGlobal),
+    window: u32,
+    rows: &[Expected],
+) -> Result<(), Fail> {
+    let head = played(rt, head(rt.alloc(), window, None, 4, 8), rows)?;
     assert!(rt; head.is_written());
     Ok(())
+}
+
+#[test]
+fn window_of_1(rt: HostRuntime) -> Result<(), Fail> {
+    assert_writes_all(&rt, 1, &WINDOW_1)
+}
+
+#[test]
+fn window_of_65536(rt: HostRuntime) -> Result<(), Fail> {
+    assert_writes_all(&rt, 65536, &WINDOW_65536)
 }
 
 const HELD: [Expected; 13] = [
@@ -327,22 +359,33 @@ const HELD: [Expected; 13] = [
     (Call::Flush, RAN, None, 7),
     (Call::Read, GAVE, None, 7),
     (Call::Read, Answer::Read(ReadStep::Done), None, 7),
-    (Call::End, Answer::Took(Took::Ended), None, 7),
+    (Call::End, ENDED, None, 7),
     (Call::Out, Answer::Out(OutStep::Wrote(7)), Some(true), 0),
 ];
 
+/// The copies of what a head has written, and then what it gives for itself.
+fn assert_copies(
+    rt: &(impl Abort + AllocGlobal),
+    head: Head<MemoryTransport>,
+    bytes: &[u8],
+    outcomes: &[Option<Outcome>],
+) -> Result<(), Fail> {
+    let copied = head.copies(rt.alloc())?;
+    assert!(rt; copied.0.as_slice() == bytes);
+    assert!(rt; copied.1.as_slice() == outcomes);
+    let written = head.into_written(rt.alloc())?;
+    assert!(rt; written.bytes.as_slice() == bytes);
+    assert!(rt; written.outcomes.as_slice() == outcomes);
+    Ok(())
+}
+
 #[test]
 fn burst_held(rt: HostRuntime) -> Result<(), Fail> {
-    let alloc = rt.alloc();
-    let transport = MemoryTransport::new(alloc, 65536, None);
-    let mut head = Head::new(alloc, 0, 3, two_bursts(alloc, None)?, transport, 1, 2);
-    run(&rt, alloc, &mut head, HELD.as_slice())?;
+    let head = reading_head(rt.alloc(), None, 65536, None, 1, 2)?;
+    let head = played(&rt, head, &HELD)?;
     assert!(rt; head.is_ended());
     assert!(rt; head.cause() == None);
-    let (bytes, outcomes) = head.copies(alloc)?;
-    assert!(rt; bytes.as_slice() == b"+PONG\r\n+PONG\r\n".as_slice());
-    assert!(rt; outcomes.as_slice() == [Some(Outcome::Success), Some(Outcome::Success)].as_slice());
-    Ok(())
+    assert_copies(&rt, head, b"+PONG\r\n+PONG\r\n", &[LEFT, LEFT])
 }
 
 const NOTHING_FLUSHED: [Expected; 10] = [
@@ -360,10 +403,8 @@ const NOTHING_FLUSHED: [Expected; 10] = [
 
 #[test]
 fn burst_comes_where_nothing_is_flushed(rt: HostRuntime) -> Result<(), Fail> {
-    let alloc = rt.alloc();
-    let transport = MemoryTransport::new(alloc, 65536, None);
-    let mut head = Head::new(alloc, 0, 3, two_bursts(alloc, None)?, transport, 1, 2);
-    run(&rt, alloc, &mut head, NOTHING_FLUSHED.as_slice())?;
+    let head = reading_head(rt.alloc(), None, 65536, None, 1, 2)?;
+    played(&rt, head, &NOTHING_FLUSHED)?;
     Ok(())
 }
 
@@ -378,27 +419,15 @@ const FAILS: [Expected; 6] = [
         Some(true),
         1,
     ),
-    (Call::Out, Answer::Out(OutStep::Wrote(1)), None, 0),
+    (Call::Out, BYTE, None, 0),
 ];
 
 #[test]
 fn failure_closes_what_is_not_flushed(rt: HostRuntime) -> Result<(), Fail> {
-    let alloc = rt.alloc();
-    let mut head = head(alloc, 65536, None, 2, 4);
-    run(&rt, alloc, &mut head, FAILS.as_slice())?;
+    let head = played(&rt, head(rt.alloc(), 65536, None, 2, 4), &FAILS)?;
     assert!(rt; head.cause() == Some(Cause::Refused));
-    let (bytes, outcomes) = head.copies(alloc)?;
-    assert!(rt; bytes.as_slice() == b"+".as_slice());
-    let want = [
-        Some(Outcome::Success),
-        Some(Outcome::Closed),
-        Some(Outcome::Unsupported),
-    ];
-    assert!(rt; outcomes.as_slice() == want.as_slice());
-    let written = head.into_written(alloc)?;
-    assert!(rt; written.bytes.as_slice() == b"+".as_slice());
-    assert!(rt; written.outcomes.as_slice() == want.as_slice());
-    Ok(())
+    let outcomes = [LEFT, CLOSED, Some(Outcome::Unsupported)];
+    assert_copies(&rt, head, b"+", &outcomes)
 }
 
 const TRANSPORT_FAILS: [Expected; 14] = [
@@ -414,25 +443,17 @@ const TRANSPORT_FAILS: [Expected; 14] = [
     (Call::Write(3), RAN, None, 0),
     (Call::WriteLine, RAN, None, 0),
     (Call::Flush, RAN, None, 0),
-    (Call::End, Answer::Took(Took::Ended), None, 0),
+    (Call::End, ENDED, None, 0),
     (Call::Out, IDLE, None, 0),
 ];
 
 #[test]
 fn failed_transport(rt: HostRuntime) -> Result<(), Fail> {
-    let alloc = rt.alloc();
-    let transport = MemoryTransport::new(alloc, 4, Some(2));
-    let mut head = Head::new(alloc, 0, 3, two_bursts(alloc, None)?, transport, 1, 2);
-    run(&rt, alloc, &mut head, TRANSPORT_FAILS.as_slice())?;
-    assert!(rt; head.cause() == Some(Cause::Transport));
+    let head = reading_head(rt.alloc(), None, 4, Some(2), 1, 2)?;
+    let head = played(&rt, head, &TRANSPORT_FAILS)?;
+    let outcomes = [FAULT, FAULT, FAULT, Some(Outcome::Unsupported)];
+    assert_head(&rt, &head, b"+PON", &outcomes, Some(Cause::Transport));
     assert!(rt; head.is_ended());
-    let want = [
-        Some(Outcome::Fault),
-        Some(Outcome::Fault),
-        Some(Outcome::Fault),
-        Some(Outcome::Unsupported),
-    ];
-    assert!(rt; head.outcomes() == want.as_slice());
     assert!(rt; head.standing() == Standing::Open);
     assert_eq!(rt; head.taken(), 7);
     Ok(())
@@ -440,7 +461,7 @@ fn failed_transport(rt: HostRuntime) -> Result<(), Fail> {
 
 const AFTER_ITS_END: [Expected; 5] = [
     (Call::Write(3), RAN, Some(false), 3),
-    (Call::End, Answer::Took(Took::Ended), Some(true), 0),
+    (Call::End, ENDED, Some(true), 0),
     (Call::Write(3), RAN, None, 0),
     (Call::Fail(Cause::Refused), RAN, None, 0),
     (Call::End, RAN, None, 0),
@@ -449,13 +470,10 @@ const AFTER_ITS_END: [Expected; 5] = [
 /// What comes after the end is counted, and nothing else comes of it.
 #[test]
 fn item_after_the_end_is_counted(rt: HostRuntime) -> Result<(), Fail> {
-    let alloc = rt.alloc();
-    let mut head = head(alloc, 4, None, 1, 2);
-    run(&rt, alloc, &mut head, AFTER_ITS_END.as_slice())?;
+    let head = played(&rt, head(rt.alloc(), 4, None, 1, 2), &AFTER_ITS_END)?;
     assert_eq!(rt; head.taken(), 5);
     assert!(rt; head.standing() == Standing::Ended);
-    assert!(rt; head.cause().is_none());
-    assert!(rt; head.outcomes() == [Some(Outcome::Closed)].as_slice());
+    assert_head(&rt, &head, b"", &[CLOSED], None);
     Ok(())
 }
 
@@ -463,7 +481,7 @@ const FAILS_AFTER_ITS_END: [Expected; 6] = [
     (Call::Write(7), RAN, Some(false), 7),
     (Call::Flush, RAN, None, 7),
     (Call::Write(3), RAN, None, 10),
-    (Call::End, Answer::Took(Took::Ended), None, 7),
+    (Call::End, ENDED, None, 7),
     (Call::Out, Answer::Out(OutStep::Failed), Some(true), 0),
     (Call::Out, IDLE, None, 0),
 ];
@@ -471,10 +489,8 @@ const FAILS_AFTER_ITS_END: [Expected; 6] = [
 /// What the end closed stays closed.
 #[test]
 fn transport_fails_after_the_end(rt: HostRuntime) -> Result<(), Fail> {
-    let alloc = rt.alloc();
-    let mut head = head(alloc, 4, Some(1), 1, 2);
-    run(&rt, alloc, &mut head, FAILS_AFTER_ITS_END.as_slice())?;
-    assert!(rt; head.cause() == Some(Cause::Transport));
-    assert!(rt; head.outcomes() == [Some(Outcome::Fault), Some(Outcome::Closed)].as_slice());
+    let head = head(rt.alloc(), 4, Some(1), 1, 2);
+    let head = played(&rt, head, &FAILS_AFTER_ITS_END)?;
+    assert_head(&rt, &head, b"", &[FAULT, CLOSED], Some(Cause::Transport));
     Ok(())
 }

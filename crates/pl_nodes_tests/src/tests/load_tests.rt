@@ -15,7 +15,8 @@ pub(crate) fn write_of(alloc: Global, size: usize) -> Result<Item, AllocError> {
 }
 
 /// One message of this size leaves byte by byte.
-fn long_message(rt: &impl Abort, alloc: Global, size: usize) -> Result<(), Fail> {
+fn long_message(rt: &(impl Abort + AllocGlobal), size: usize) -> Result<(), Fail> {
+    let alloc = rt.alloc();
     let mut head = head(alloc, 1, None, 4, 8);
     give(rt, alloc, &mut head, write_of(alloc, size)?)?;
     give(rt, alloc, &mut head, Item::Event(Event::Flush))?;
@@ -30,28 +31,29 @@ fn long_message(rt: &impl Abort, alloc: Global, size: usize) -> Result<(), Fail>
 
 #[test]
 fn long_message_of_131072(rt: HostRuntime) -> Result<(), Fail> {
-    long_message(&rt, rt.alloc(), 131_072)
+    long_message(&rt, 131_072)
 }
 
 #[test]
 fn long_message_of_262144(rt: HostRuntime) -> Result<(), Fail> {
-    long_message(&rt, rt.alloc(), 262_144)
+    long_message(&rt, 262_144)
 }
 
 #[test]
 fn long_message_of_524288(rt: HostRuntime) -> Result<(), Fail> {
-    long_message(&rt, rt.alloc(), 524_288)
+    long_message(&rt, 524_288)
 }
 
 #[test]
 fn long_message_of_1048578(rt: HostRuntime) -> Result<(), Fail> {
-    long_message(&rt, rt.alloc(), 1_048_578)
+    long_message(&rt, 1_048_578)
 }
 
 /// Empty messages, and then one of a byte, are settled by one flush and one write.
-fn empty_messages(rt: &impl Abort, alloc: Global, count: usize) -> Result<(), Fail>
+fn empty_messages(rt: &(impl Abort + AllocGlobal), count: usize) -> Result<(), AllocError>
     requires { count < 1000000 }
 {
+    let alloc = rt.alloc();
     let mut head = head(alloc, 1, None, 4, 8);
     for _ in 0..count {
         give(rt, alloc, &mut head, write_of(alloc, 0)?)?;
@@ -69,20 +71,20 @@ fn empty_messages(rt: &impl Abort, alloc: Global, count: usize) -> Result<(), Fa
 
 #[test]
 fn empty_messages_21845(rt: HostRuntime) -> Result<(), Fail> {
-    empty_messages(&rt, rt.alloc(), 21_845)
+    Ok(empty_messages(&rt, 21_845)?)
 }
 
 #[test]
 fn empty_messages_43690(rt: HostRuntime) -> Result<(), Fail> {
-    empty_messages(&rt, rt.alloc(), 43_690)
+    Ok(empty_messages(&rt, 43_690)?)
 }
 
 #[test]
 fn empty_messages_87381(rt: HostRuntime) -> Result<(), Fail> {
-    empty_messages(&rt, rt.alloc(), 87_381)
+    Ok(empty_messages(&rt, 87_381)?)
 }
 
 #[test]
 fn empty_messages_174762(rt: HostRuntime) -> Result<(), Fail> {
-    empty_messages(&rt, rt.alloc(), 174_762)
+    Ok(empty_messages(&rt, 174_762)?)
 }

@@ -1,5 +1,7 @@
 //! Flags of a head, one by one: which sizes send one, and with which number.
 
+ghost use Rattle.std.specs.Prelude.{◌≤◌};
+
 use crate::tests::head_tests::{Answer, give, head, write_once};
 use crate::tests::load_tests::write_of;
 use pl_event::{Event, Item};
@@ -45,57 +47,64 @@ fn change(
     }
 }
 
-/// Adding or removing a size sends this flag, or none.
-fn assert_change(
-    rt: &impl Abort,
-    alloc: Global,
-    head: &mut Head<MemoryTransport>,
-    size: Size,
-    flag: Option<(u64, bool)>,
-) -> Result<(), AllocError> {
-    assert_eq!(rt; change(rt, alloc, head, size)?, flag);
+/// A size, the flag that it is to send, and how many bytes are to wait after it.
+type Row = (Size, Option<(u64, bool)>, u128);
+
+/// A head with these marks sends these flags, and is writable as the last of them says.
+fn assert_flags(
+    rt: &(impl Abort + AllocGlobal),
+    low: u32,
+    high: u32,
+    rows: &[Row],
+) -> Result<(), Fail>
+    requires { low ≤ high }
+{
+    let mut head = head(rt.alloc(), 65_536, None, low, high);
+    let mut is_writable = true;
+    for (size, flag, pending) in rows {
+        assert!(rt; change(rt, rt.alloc(), &mut head, *size)? == *flag);
+        assert!(rt; head.pending() == *pending);
+        if let Some((_, value)) = *flag {
+            is_writable = value;
+        }
+        assert!(rt; head.is_writable() == is_writable);
+    }
     Ok(())
 }
 
+const STRICT: [Row; 6] = [
+    (Size::Added(1), None, 1),
+    (Size::Added(1), None, 2),
+    (Size::Added(2), None, 4),
+    (Size::Added(1), Some((0, false)), 5),
+    (Size::Removed(1), None, 4),
+    (Size::Removed(1), Some((1, true)), 3),
+];
+
+const TWO_MESSAGES: [Row; 4] = [
+    (Size::Added(7), None, 7),
+    (Size::Added(7), Some((0, false)), 14),
+    (Size::Removed(7), None, 7),
+    (Size::Removed(7), Some((1, true)), 0),
+];
+
+const NO_WAY_BACK: [Row; 3] = [
+    (Size::Added(1), Some((0, false)), 1),
+    (Size::Removed(1), None, 0),
+    (Size::Added(1), None, 1),
+];
+
 #[test]
 fn marks_are_strict(rt: HostRuntime) -> Result<(), Fail> {
-    let alloc = rt.alloc();
-    let mut head = head(alloc, 65_536, None, 4, 4);
-    assert_change(&rt, alloc, &mut head, Size::Added(1), None)?;
-    assert_change(&rt, alloc, &mut head, Size::Added(1), None)?;
-    assert_change(&rt, alloc, &mut head, Size::Added(2), None)?;
-    assert_eq!(rt; head.pending(), 4);
-    assert_change(&rt, alloc, &mut head, Size::Added(1), Some((0, false)))?;
-    assert_change(&rt, alloc, &mut head, Size::Removed(1), None)?;
-    assert_change(&rt, alloc, &mut head, Size::Removed(1), Some((1, true)))?;
-    assert_eq!(rt; head.pending(), 3);
-    Ok(())
+    assert_flags(&rt, 4, 4, &STRICT)
 }
 
 #[test]
 fn two_messages_above_and_below(rt: HostRuntime) -> Result<(), Fail> {
-    let alloc = rt.alloc();
-    let mut head = head(alloc, 65_536, None, 4, 8);
-    assert_change(&rt, alloc, &mut head, Size::Added(7), None)?;
-    assert_eq!(rt; head.pending(), 7);
-    assert_change(&rt, alloc, &mut head, Size::Added(7), Some((0, false)))?;
-    assert_eq!(rt; head.pending(), 14);
-    assert!(rt; !head.is_writable());
-    assert_change(&rt, alloc, &mut head, Size::Removed(7), None)?;
-    assert_eq!(rt; head.pending(), 7);
-    assert_change(&rt, alloc, &mut head, Size::Removed(7), Some((1, true)))?;
-    assert_eq!(rt; head.pending(), 0);
-    assert!(rt; head.is_writable());
-    Ok(())
+    assert_flags(&rt, 4, 8, &TWO_MESSAGES)
 }
 
 #[test]
 fn no_way_back_to_low_0(rt: HostRuntime) -> Result<(), Fail> {
-    let alloc = rt.alloc();
-    let mut head = head(alloc, 65_536, None, 0, 0);
-    assert_change(&rt, alloc, &mut head, Size::Added(1), Some((0, false)))?;
-    assert_change(&rt, alloc, &mut head, Size::Removed(1), None)?;
-    assert_change(&rt, alloc, &mut head, Size::Added(1), None)?;
-    assert!(rt; !head.is_writable());
-    Ok(())
+    assert_flags(&rt, 0, 0, &NO_WAY_BACK)
 }
