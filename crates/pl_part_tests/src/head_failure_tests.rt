@@ -1,7 +1,8 @@
 //! A part whose head fails by itself: what its nodes take then, and what its two ends keep.
 
 use crate::part_tests::{
-    BURST, DONE, ENDED, FLAG, GAVE, IDLE, NONE, PASSED, RECORD, WROTE, assert_head, assert_tail,
+    DONE, ENDED, FLAG, GAVE, IDLE, NONE, PASSED, RECORD, WROTE, assert_ended, assert_head,
+    assert_tail, played_on,
 };
 use crate::playing::{Answer, Call, Expected, play, played};
 use crate::relays::{Faults, NO_FAULTS};
@@ -9,8 +10,6 @@ use pl_context::Took;
 use pl_event::{Cause, Event, Kind, Outcome};
 use pl_head::OutStep;
 use std::test::Fail;
-
-const FAILED: Answer = Answer::Wrote(OutStep::Failed);
 
 const BY_FAULT: Took = Took::Failed(Cause::Transport);
 
@@ -34,27 +33,9 @@ const ABORTED: &[(u16, Took)] = &[
     (4, BY_ABORT),
 ];
 
-/// The transport fails at this call.
-fn fail_at(call: u32) -> Faults {
-    Faults {
-        fail_at: Some(call),
-        ..NO_FAULTS
-    }
-}
-
-/// The channel is aborted after so many bursts.
-fn abort_after(count: u32) -> Faults {
-    Faults {
-        abort_after: Some(count),
-        ..NO_FAULTS
-    }
-}
-
-const TO_THE_FAULT: [Expected; 4] = [
-    (Call::Read, GAVE, PASSED, NONE),
-    (Call::Read, GAVE, BURST, FLAG),
+const TO_THE_FAULT: [Expected; 2] = [
     (Call::Write, WROTE, NONE, NONE),
-    (Call::Write, FAILED, NONE, FLAG),
+    (Call::Write, Answer::Wrote(OutStep::Failed), NONE, FLAG),
 ];
 
 const BEHIND_THE_FAULT: [Expected; 3] = [
@@ -66,40 +47,32 @@ const BEHIND_THE_FAULT: [Expected; 3] = [
 /// The flag of a failing write comes at once, and the failure with the one read step that is left.
 #[test]
 fn transport_fault(rt: HostRuntime) -> Result<(), Fail> {
-    let (mut part, mut work) = played(&rt, fail_at(2), &TO_THE_FAULT)?;
+    let (mut part, mut work) = played_on(&rt, Some(2), None, &TO_THE_FAULT)?;
     assert!(rt; part.is_written());
     assert!(rt; part.has_read_step());
     assert!(rt; !part.has_ended());
     play(&rt, &mut part, &mut work, &BEHIND_THE_FAULT)?;
-    assert!(rt; part.has_ended());
-    assert!(rt; !part.has_read_step());
-    let failed = Some(Cause::Transport);
-    assert_tail(&rt, &part, &RECORD, &[false, true], failed);
-    assert_head(&rt, &part, b"a", &[Some(Outcome::Fault)], failed);
+    assert_ended(&rt, &part, Some(Cause::Transport), b"a", Outcome::Fault);
     Ok(())
 }
 
-const FAILS_AFTER_THE_END: [Expected; 5] = [
-    (Call::Read, GAVE, PASSED, NONE),
-    (Call::Read, GAVE, BURST, FLAG),
+const FAILS_AFTER_THE_END: [Expected; 3] = [
     (Call::Read, GAVE, ENDED, NONE),
-    (Call::Write, FAILED, NONE, FLAG),
+    (Call::Write, Answer::Wrote(OutStep::Failed), NONE, FLAG),
     (Call::Read, DONE, NONE, NONE),
 ];
 
 /// The lane of its reads has ended, so the failure goes nowhere; its flag passes nodes that have ended.
 #[test]
 fn transport_fails_after_the_end(rt: HostRuntime) -> Result<(), Fail> {
-    let (part, _) = played(&rt, fail_at(1), &FAILS_AFTER_THE_END)?;
+    let (part, _) = played_on(&rt, Some(1), None, &FAILS_AFTER_THE_END)?;
     assert_tail(&rt, &part, &RECORD, &[false, true], None);
     let fault = [Some(Outcome::Fault)];
     assert_head(&rt, &part, b"", &fault, Some(Cause::Transport));
     Ok(())
 }
 
-const ABORTED_BETWEEN_STEPS: [Expected; 4] = [
-    (Call::Read, GAVE, PASSED, NONE),
-    (Call::Read, GAVE, BURST, FLAG),
+const ABORTED_BETWEEN_STEPS: [Expected; 2] = [
     (Call::Abort, Answer::Nothing, ABORTED, FLAG),
     (Call::Abort, Answer::Nothing, NONE, NONE),
 ];
@@ -107,12 +80,8 @@ const ABORTED_BETWEEN_STEPS: [Expected; 4] = [
 /// An abort closes what waits. The flag of that comes before the failure, and a second abort does nothing.
 #[test]
 fn abort_between_read_steps(rt: HostRuntime) -> Result<(), Fail> {
-    let (part, _) = played(&rt, NO_FAULTS, &ABORTED_BETWEEN_STEPS)?;
-    assert!(rt; part.has_ended());
-    assert!(rt; !part.has_read_step());
-    let failed = Some(Cause::Aborted);
-    assert_tail(&rt, &part, &RECORD, &[false, true], failed);
-    assert_head(&rt, &part, b"", &[Some(Outcome::Closed)], failed);
+    let (part, _) = played_on(&rt, None, None, &ABORTED_BETWEEN_STEPS)?;
+    assert_ended(&rt, &part, Some(Cause::Aborted), b"", Outcome::Closed);
     Ok(())
 }
 
@@ -122,9 +91,7 @@ const ABORTED_AFTER_0: [Expected; 3] = [
     (Call::Read, DONE, NONE, NONE),
 ];
 
-const ABORTED_AFTER_1: [Expected; 4] = [
-    (Call::Read, GAVE, PASSED, NONE),
-    (Call::Read, GAVE, BURST, FLAG),
+const ABORTED_AFTER_1: [Expected; 2] = [
     (Call::Read, GAVE, ABORTED, FLAG),
     (Call::Read, DONE, NONE, NONE),
 ];
@@ -133,19 +100,20 @@ const ABORTED_AFTER_1: [Expected; 4] = [
 #[test]
 fn abort_at_each_burst(rt: HostRuntime) -> Result<(), Fail> {
     let failed = Some(Cause::Aborted);
-    let (part, _) = played(&rt, abort_after(0), &ABORTED_AFTER_0)?;
+    let faults = Faults {
+        abort_after: Some(0),
+        ..NO_FAULTS
+    };
+    let (part, _) = played(&rt, faults, &ABORTED_AFTER_0)?;
     assert_tail(&rt, &part, &[Event::Active], &[], failed);
     assert_head(&rt, &part, b"", &[], failed);
 
-    let (part, _) = played(&rt, abort_after(1), &ABORTED_AFTER_1)?;
-    assert_tail(&rt, &part, &RECORD, &[false, true], failed);
-    assert_head(&rt, &part, b"", &[Some(Outcome::Closed)], failed);
+    let (part, _) = played_on(&rt, None, Some(1), &ABORTED_AFTER_1)?;
+    assert_ended(&rt, &part, failed, b"", Outcome::Closed);
     Ok(())
 }
 
-const TURN_REFUSED: [Expected; 5] = [
-    (Call::Read, GAVE, PASSED, NONE),
-    (Call::Read, GAVE, BURST, FLAG),
+const TURN_REFUSED: [Expected; 3] = [
     (
         Call::Refuse(Kind::Data, 2),
         Answer::Nothing,
@@ -168,7 +136,7 @@ const TURN_REFUSED: [Expected; 5] = [
 /// What was flushed is written though a handler has failed. The flag of that is dropped where this stands.
 #[test]
 fn flag_after_a_failure(rt: HostRuntime) -> Result<(), Fail> {
-    let (part, _) = played(&rt, NO_FAULTS, &TURN_REFUSED)?;
+    let (part, _) = played_on(&rt, None, None, &TURN_REFUSED)?;
     let failed = Some(Cause::Refused);
     assert_tail(&rt, &part, &RECORD, &[false], failed);
     assert_head(&rt, &part, b"ab", &[Some(Outcome::Success)], failed);

@@ -1,12 +1,16 @@
 //! A part with all nodes of a channel: events through it, its end, and writers that are refused.
 
+ghost use Rattle.std.specs.Prelude.{IfOk};
+ghost use Rattle.pl_part_tests.specs.SampleParts.{IsReady};
+
 use crate::playing::{Answer, Call, Expected, play, played};
 use crate::relays::{Faults, NO_FAULTS, Relay, sample_part};
-use pl_context::Took;
+use pl_context::{Outputs, Took};
 use pl_event::{Cause, Event, Kind, Outcome};
 use pl_flow::HeadMove;
 use pl_head::{MemoryTransport, OutStep, ReadStep};
 use pl_part::ChannelPart;
+use std::alloc::AllocError;
 use std::process::Abort;
 use std::test::Fail;
 
@@ -48,6 +52,21 @@ pub(crate) const ENDED: &[(u16, Took)] = &[(0, END), (1, END), (2, END), (3, END
 /// A flag has come to the tail.
 pub(crate) const FLAG: &[(u16, Took)] = &[(0, RAN), (1, RAN), (2, RAN)];
 
+/// All nodes have ended, for this if they failed. The tail has kept all of the burst, and the head has sent these bytes of
+/// its one write, which has come to this.
+pub(crate) fn assert_ended(
+    rt: &impl Abort,
+    part: &ChannelPart<Relay, MemoryTransport>,
+    cause: Option<Cause>,
+    bytes: &[u8],
+    outcome: Outcome,
+) {
+    assert!(rt; part.has_ended());
+    assert!(rt; !part.has_read_step());
+    assert_tail(rt, part, &RECORD, &[false, true], cause);
+    assert_head(rt, part, bytes, &[Some(outcome)], cause);
+}
+
 /// The tail has recorded these events and flags, and has failed for this.
 pub(crate) fn assert_tail(
     rt: &impl Abort,
@@ -72,21 +91,43 @@ pub(crate) fn assert_head(
     outcomes: &[Option<Outcome>],
     cause: Option<Cause>,
 ) {
-    let Some(head) = part.head() else {
-        panic!(rt; "no head")
-    };
-    assert!(rt; head.bytes() == bytes);
-    assert!(rt; head.outcomes() == outcomes);
-    assert!(rt; head.cause() == cause);
+    match part.head() {
+        None => panic!(rt; "no head"),
+        Some(head) => {
+            assert!(rt; head.bytes() == bytes);
+            assert!(rt; head.outcomes() == outcomes);
+            assert!(rt; head.cause() == cause);
+        }
+    }
 }
 
 /// What the tail records of the burst.
 pub(crate) const RECORD: [Event; 2] = [Event::Active, Event::ReadComplete];
 
-const TO_THE_END: [Expected; 2] = [
+const TO_THE_BURST: [Expected; 2] = [
     (Call::Read, GAVE, PASSED, NONE),
     (Call::Read, GAVE, BURST, FLAG),
 ];
+
+/// The part of the tests with its work list, after its burst and then these calls. Its transport fails at a call, or it is
+/// aborted after a burst.
+pub(crate) fn played_on(
+    rt: &(impl Abort + AllocGlobal),
+    fail_at: Option<u32>,
+    abort_after: Option<u32>,
+    rows: &[Expected],
+) -> Result<(ChannelPart<Relay, MemoryTransport>, Outputs), AllocError>
+    ensures { IfOk result (λ run. IsReady run.0 run.1) }
+{
+    let faults = Faults {
+        fail_at,
+        abort_after,
+        ..NO_FAULTS
+    };
+    let (mut part, mut work) = played(rt, faults, &TO_THE_BURST)?;
+    play(rt, &mut part, &mut work, rows)?;
+    Ok((part, work))
+}
 
 const THE_END: [Expected; 4] = [
     (Call::Read, GAVE, ENDED, NONE),
@@ -98,16 +139,13 @@ const THE_END: [Expected; 4] = [
 
 #[test]
 fn events_pass_and_end(rt: HostRuntime) -> Result<(), Fail> {
-    let (mut part, mut work) = played(&rt, NO_FAULTS, &TO_THE_END)?;
+    let (mut part, mut work) = played(&rt, NO_FAULTS, &TO_THE_BURST)?;
     assert!(rt; part.has_read_step());
     assert!(rt; !part.is_written());
     assert!(rt; !part.has_ended());
     play(&rt, &mut part, &mut work, &THE_END)?;
-    assert!(rt; !part.has_read_step());
     assert!(rt; part.is_written());
-    assert!(rt; part.has_ended());
-    assert_tail(&rt, &part, &RECORD, &[false, true], None);
-    assert_head(&rt, &part, b"ab", &[Some(Outcome::Success)], None);
+    assert_ended(&rt, &part, None, b"ab", Outcome::Success);
     let (tail, head) = part.into_ends();
     assert!(rt; tail.is_some());
     assert!(rt; head.is_some());
@@ -218,11 +256,10 @@ const FLAGS_REFUSED: [Expected; 3] = [
 #[test]
 fn refused_flags_change_nothing(rt: HostRuntime) -> Result<(), Fail> {
     let (mut part, mut work) = played(&rt, NO_FAULTS, &FLAGS_REFUSED)?;
-    play(&rt, &mut part, &mut work, &TO_THE_END)?;
+    play(&rt, &mut part, &mut work, &TO_THE_BURST)?;
     play(&rt, &mut part, &mut work, &FLAGS_REFUSED)?;
     play(&rt, &mut part, &mut work, &THE_END)?;
-    assert_tail(&rt, &part, &RECORD, &[false, true], None);
-    assert_head(&rt, &part, b"ab", &[Some(Outcome::Success)], None);
+    assert_ended(&rt, &part, None, b"ab", Outcome::Success);
     Ok(())
 }
 
