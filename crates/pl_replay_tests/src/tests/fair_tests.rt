@@ -39,12 +39,10 @@ fn rounds(alloc: Global, channels: u16, executors: u16, count: u16) -> Result<Ve
     let mut moves = Vec::new(alloc);
     for _ in 0..count {
         for channel in 0..channels {
-            moves.push(Move::Read(channel))?;
-            moves.push(Move::Out(channel))?;
+            moves.extend_from_slice(&[Move::Read(channel), Move::Out(channel)])?;
         }
         for executor in 0..executors {
-            moves.push(Move::Hand(executor))?;
-            moves.push(Move::Task(executor))?;
+            moves.extend_from_slice(&[Move::Hand(executor), Move::Task(executor)])?;
         }
     }
     Ok(moves)

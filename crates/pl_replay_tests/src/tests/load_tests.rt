@@ -58,20 +58,20 @@ fn hand_overs(rt: &impl Abort, alloc: Global, rounds: usize) -> Result<(), Fail>
 
 #[test]
 fn hand_overs_of_125000(rt: HostRuntime) -> Result<(), Fail> {
-    hand_overs(&rt, rt.alloc(), 15_625)
+    hand_overs(&rt, rt.alloc(), 125_000 / 8)
 }
 
 #[test]
 fn hand_overs_of_250000(rt: HostRuntime) -> Result<(), Fail> {
-    hand_overs(&rt, rt.alloc(), 31_250)
+    hand_overs(&rt, rt.alloc(), 250_000 / 8)
 }
 
 #[test]
 fn hand_overs_of_500000(rt: HostRuntime) -> Result<(), Fail> {
-    hand_overs(&rt, rt.alloc(), 62_500)
+    hand_overs(&rt, rt.alloc(), 500_000 / 8)
 }
 
 #[test]
 fn hand_overs_of_1000000(rt: HostRuntime) -> Result<(), Fail> {
-    hand_overs(&rt, rt.alloc(), 125_000)
+    hand_overs(&rt, rt.alloc(), 1_000_000 / 8)
 }

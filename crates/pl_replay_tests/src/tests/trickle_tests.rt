@@ -54,13 +54,13 @@ impl Transport for Narrow {
 
     fn write(&mut self, bytes: &[u8]) -> Result<usize, TransportFault> {
         let count = bytes.len().min(1);
-        let is_full = self.room <= self.bytes.len();
+        let has_room = self.bytes.len() < self.room;
         self.calls = self.calls.saturating_add(1);
-        if is_full || self.bytes.extend_from_slice(&bytes[..count]).is_err() {
-            self.failures = self.failures.saturating_add(1);
-            return Err(TransportFault::Failed);
+        if has_room && self.bytes.extend_from_slice(&bytes[..count]).is_ok() {
+            return Ok(count);
         }
-        Ok(count)
+        self.failures = self.failures.saturating_add(1);
+        Err(TransportFault::Failed)
     }
 
     fn bytes(&self) -> &[u8] {
