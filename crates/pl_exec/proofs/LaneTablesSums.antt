@@ -1,5 +1,6 @@
 -- Sums over numbers in a row, and what the lists that tests pick from one list have together.
-use Rattle.std.proofs.Common.{◌≡◌, ℕ, zero, suc, ◌+◌, ◌<◌, ◌≤◌, ◌==◌, Bool, true, false, cond, List, [], ◌∷◌, length, filter, sum_by, get_or, refl, ap, sym, ◌∙◌, ⊎_elim, arith}
+use Rattle.std.proofs.Common.{◌≡◌, ℕ, zero, suc, ◌+◌, ◌<◌, ◌≤◌, ◌==◌, Bool, true, false, cond, List, [], ◌∷◌, length, filter, sum_by, get_or, refl, ap, sym, ◌∙◌, ⊎_elim, inl, inr, arith}
+use Rattle.std.specs.Prelude.{◌⊎◌}
 use Rattle.std.specs.List.{count_by, flat_map, range_with_len}
 use Rattle.std.proofs.lemmas.Bool.{cases_eq, eq-eqb, ne_eqb}
 use Rattle.std.proofs.lemmas.List.Sums.{sum_by-cons, sum_by-append, sum_by-le}
@@ -30,35 +31,33 @@ at-none x v a (suc n) before =
     let first = ap (λ b. cond b v 0) (ne_eqb x a (λ e. omega (arith, e, before))) in
     omega (arith, rest, first, sum_by-cons (λ k. cond (x == k) v 0) a (range_with_len (a + 1) n))
 
-pub at-most : (x v a n : ℕ) → sum_by (λ k. cond (x == k) v 0) (range_with_len a n) ≤ v
-at-most x v a zero = omega arith
-at-most x v a (suc n) =
+-- the first number is it, and no later one; or it is not
+first-or-later : (x v a n : ℕ)
+    → ((x ≡ a) × (sum_by (λ k. cond (x == k) v 0) (range_with_len a (suc n)) ≡ v))
+    ⊎ ((x ≡ a → ⊥) × (sum_by (λ k. cond (x == k) v 0) (range_with_len a (suc n)) ≡ sum_by (λ k. cond (x == k) v 0) (range_with_len (a + 1) n)))
+first-or-later x v a n =
     let sum = sum_by-cons (λ k. cond (x == k) v 0) a (range_with_len (a + 1) n) in
     ⊎_elim
     (λ (here : x ≡ a).
     let first = ap (λ b. cond b v 0) (eq-eqb x a here) in
     let rest = at-none x v (a + 1) n (omega (arith, here)) in
-    omega (arith, first, rest, sum))
-    (λ (elsewhere : x ≡ a → ⊥).
-    let first = ap (λ b. cond b v 0) (ne_eqb x a elsewhere) in
-    let rest = at-most x v (a + 1) n in
-    omega (arith, first, rest, sum))
+    inl (here, omega (arith, first, rest, sum)))
+    (λ (elsewhere : x ≡ a → ⊥). let first = ap (λ b. cond b v 0) (ne_eqb x a elsewhere) in inr (elsewhere, omega (arith, first, sum)))
     (cases_eq x a)
+
+pub at-most : (x v a n : ℕ) → sum_by (λ k. cond (x == k) v 0) (range_with_len a n) ≤ v
+at-most x v a zero = omega arith
+at-most x v a (suc n) = elim (first-or-later x v a n) [
+  | inl here ↦ omega (arith, here.1)
+  | inr later ↦ let rest = at-most x v (a + 1) n in omega (arith, later.1, rest)
+]
 
 pub at-one : (x v a n : ℕ) → a ≤ x → x < a + n → sum_by (λ k. cond (x == k) v 0) (range_with_len a n) ≡ v
 at-one x v a zero from below = absurd (omega (arith, from, below))
-at-one x v a (suc n) from below =
-    let sum = sum_by-cons (λ k. cond (x == k) v 0) a (range_with_len (a + 1) n) in
-    ⊎_elim
-    (λ (here : x ≡ a).
-    let first = ap (λ b. cond b v 0) (eq-eqb x a here) in
-    let rest = at-none x v (a + 1) n (omega (arith, here)) in
-    omega (arith, first, rest, sum))
-    (λ (elsewhere : x ≡ a → ⊥).
-    let first = ap (λ b. cond b v 0) (ne_eqb x a elsewhere) in
-    let rest = at-one x v (a + 1) n (omega (arith, from, elsewhere)) (omega (arith, below)) in
-    omega (arith, first, rest, sum))
-    (cases_eq x a)
+at-one x v a (suc n) from below = elim (first-or-later x v a n) [
+  | inl here ↦ here.1
+  | inr later ↦ later.1 ∙ at-one x v (a + 1) n (omega (arith, from, later.0)) (omega (arith, below))
+]
 
 pub at-past : (x v a n : ℕ) → a + n ≤ x → sum_by (λ k. cond (x == k) v 0) (range_with_len a n) ≡ 0
 at-past x v a zero past = refl

@@ -28,56 +28,7 @@ use Rattle.pl_world.specs.PlanRules.{IsChannelPlan, IsPlan}
 use Rattle.pl_exec.specs.declared.reporting.Found.{Found}
 use Rattle.pl_exec.specs.OwnNodes.{PartStands, NodesStand, IsPartOver, AreOver}
 use Rattle.pl_exec.specs.Reported.{IsLeftTail, IsLeftHead, AreLeft, nothing_found, with_part, with_parts}
-
--- ---- the parts of one executor
-
--- before the first part is looked at
-pub no-parts : (S : Type 0) {T : Type 0} (fs : List (Found T)) → with_parts {S = S} fs [] ≡ fs
-no-parts S [] = refl
-no-parts S (f ∷ fs) = refl
-
-parts-count : {S T : Type 0} (fs : List (Found T)) (parts : List (PartView S T)) → length (with_parts fs parts) ≡ length fs
-parts-count [] parts = refl
-parts-count (f ∷ fs) [] = refl
-parts-count (f ∷ fs) (part ∷ parts) = ap suc (parts-count fs parts)
-
--- while parts are looked at, there is a channel for the next one
-pub parts-within : {S T : Type 0} (fs : List (Found T)) (parts done rest left : List (PartView S T)) (part : PartView S T) → done ++ rest ≡ parts → rest ≡ part ∷ left → length parts ≡ length fs → length done < length (with_parts fs done)
-parts-within {S = S} {T = T} fs parts done rest left part whole front count =
-    let sum = length-append done rest in
-    let all = ap (λ (l : List (PartView S T)). length l) whole in
-    let next = ap (λ (l : List (PartView S T)). length l) front in
-    omega (arith, sum, all, next, count, parts-count fs done)
-
-parts-push : {S T : Type 0} (fs : List (Found T)) (done : List (PartView S T)) (part : PartView S T) (f : Found T) → slice_get (with_parts fs done) (length done) ≡ Some f
-    → set (with_parts fs done) (length done) (with_part f part) ≡ with_parts fs (done ++ part ∷ [])
-parts-push [] done part f found = absurd (none-some f found)
-parts-push {S = S} {T = T} (g ∷ fs) [] part f found = ap (λ (z : Found T). with_part z part ∷ fs) (sym (same_Some g f found)) ∙ ap (λ (l : List (Found T)). with_part g part ∷ l) (sym (no-parts S fs))
-parts-push {T = T} (g ∷ fs) (d ∷ done) part f found = ap (λ (l : List (Found T)). with_part g d ∷ l) (parts-push fs done part f found)
-
--- the next part is looked at
-pub parts-step : {S T : Type 0} (fs now : List (Found T)) (done : List (PartView S T)) (part : PartView S T) (c : ℕ) (f g : Found T) → now ≡ with_parts fs done → c ≡ length done → c < length now → f ≡ get_or now c f
-    → g ≡ with_part f part → set now c g ≡ with_parts fs (done ++ part ∷ [])
-parts-step {T = T} fs now done part c f g is at within read noted =
-    let found : slice_get (with_parts fs done) (length done) ≡ Some f =
-    (λ i. slice_get (sym is i) (sym at i)) ∙ slice_get_read now (length now) c f refl within read in
-    ap (λ (z : Found T). set now c z) noted ∙ (λ i. set (is i) (at i) (with_part f part)) ∙ parts-push fs done part f found
-
--- What is found of a channel is what was found before, with the ends among the nodes of its part.
-record Noted {S T : Type 0} (fs : List (Found T)) (parts : List (PartView S T)) (c : ℕ) (g : Found T) : Type 0 where
-  pub before : Found T
-  pub part : PartView S T
-  pub was : slice_get fs c ≡ Some before
-  pub own : slice_get parts c ≡ Some part
-  pub is : with_part before part ≡ g
-
-noted-at : {S T : Type 0} (fs : List (Found T)) (parts : List (PartView S T)) (c : ℕ) (g : Found T) → length parts ≡ length fs → slice_get (with_parts fs parts) c ≡ Some g → Noted fs parts c g
-noted-at [] parts c g count found = absurd (none-some g found)
-noted-at (f ∷ fs) [] c g count found = absurd (omega (arith, count))
-noted-at (f ∷ fs) (part ∷ parts) zero g count found = record { before = f; part = part; was = refl; own = refl; is = same_Some (with_part f part) g found }
-noted-at (f ∷ fs) (part ∷ parts) (suc c) g count found =
-    let n = noted-at fs parts c g (omega (arith, count)) found in
-    record { before = n.before; part = n.part; was = n.was; own = n.own; is = n.is }
+use Rattle.pl_exec.proofs.EachWith.{added-at, added-count}
 
 -- ---- one end
 
@@ -215,11 +166,11 @@ module _ {T : Type 0} (state : T → TransportState) (plan : Plan) where
     -- one executor more is looked through
     next-executor : (fs : List (Found T)) (parts : List (PartView S T)) → NodesStand (world_of true plan) plan meaning stands_after state me refused parts → AreOver state parts → AreFound me fs → AreFound (me + 1) (with_parts fs parts)
     next-executor fs parts stand over are = record {
-      count = parts-count fs parts ∙ are.count;
+      count = added-count with_part fs parts ∙ are.count;
       each = λ c p g planned found.
-          let n = noted-at fs parts c g (stand.keeps.count ∙ sym are.count) found in
-          subst (λ (z : Found T). IsFound (me + 1) c p z) n.is
-          (found-next c p n.part (stand.parts c n.part n.own) (stand.keeps.each c p n.part planned n.own) (over c n.part n.own) n.before (are.each c p n.before planned n.was));
+          let n = added-at with_part fs parts c g (stand.keeps.count ∙ sym are.count) found in
+          subst (λ (z : Found T). IsFound (me + 1) c p z) (sym n.grown)
+          (found-next c p n.value (stand.parts c n.value n.is) (stand.keeps.each c p n.value planned n.is) (over c n.value n.is) n.before (are.each c p n.before planned n.was));
     }
 
     -- The next executor has ended, and left these nodes.

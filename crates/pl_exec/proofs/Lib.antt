@@ -1,4 +1,5 @@
 pub mod ListSteps
+pub mod EachWith
 pub mod RowLemmas
 pub mod LaneLemmas
 pub mod StartLemmas

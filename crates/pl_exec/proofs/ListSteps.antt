@@ -1,6 +1,8 @@
 -- What is left of a list, and its front.
-use Rattle.std.proofs.Common.{◌≡◌, ℕ, zero, suc, ◌+◌, List, [], ◌∷◌, ◌++◌, drop, length, slice_get, Some, refl, ap, sym, ◌∙◌, arith, add-one, append-nil, length-append, length-drop}
+use Rattle.std.proofs.Common.{◌≡◌, ℕ, zero, suc, ◌+◌, List, [], ◌∷◌, ◌++◌, drop, length, slice_get, Some, ⊎_elim, refl, ap, sym, subst, ◌∙◌, arith, add-one, append-nil, length-append, length-drop}
 use Rattle.std.proofs.lemmas.List.{nil_from_length}
+use Rattle.std.proofs.lemmas.Option.{slice_get_within}
+use Rattle.pl_event.proofs.Lists.{slice_get-push}
 
 pub at-front : {A : Type 0} (done rest : List A) (x : A) → slice_get (done ++ x ∷ rest) (length done) ≡ Some x
 at-front [] rest x = refl
@@ -44,3 +46,17 @@ none-left {A = A} {B = B} others all done left n none place count whole =
     let empty = ap (λ (l : List B). length l) none in
     let sum = ap (λ (l : List A). length l) whole in
     all-done all done left (nil_from_length left (omega (arith, past, empty, place, count, sum, length-append done left))) whole
+
+-- what is so of the values of each number in two lists is so with one more of each
+pub both-push : {A B : Type 0} (P : ℕ → A → B → Type 0) (xs : List A) (ys : List B) (x : A) (y : B) → length xs ≡ length ys → ((n : ℕ) (a : A) (b : B) → slice_get xs n ≡ Some a → slice_get ys n ≡ Some b → P n a b) → P (length xs) x y
+    → (n : ℕ) (a : A) (b : B) → slice_get (xs ++ x ∷ []) n ≡ Some a → slice_get (ys ++ y ∷ []) n ≡ Some b → P n a b
+both-push {A = A} {B = B} P xs ys x y same each last n a b at-a at-b = ⊎_elim
+    (λ (e : slice_get xs n ≡ Some a). ⊎_elim
+    (λ (f : slice_get ys n ≡ Some b). each n a b e f)
+    (λ (f : (n ≡ length ys) × (b ≡ y)). let within = slice_get_within xs n a e in absurd (omega (arith, same, within, f.0)))
+    (slice_get-push ys y b n at-b))
+    (λ (e : (n ≡ length xs) × (a ≡ x)). ⊎_elim
+    (λ (f : slice_get ys n ≡ Some b). let within = slice_get_within ys n b f in absurd (omega (arith, same, within, e.0)))
+    (λ (f : (n ≡ length ys) × (b ≡ y)). subst (λ (z : ℕ × A × B). P z.0 z.1 z.2) (λ i. (sym e.0 i, sym e.1 i, sym f.1 i)) last)
+    (slice_get-push ys y b n at-b))
+    (slice_get-push xs x a n at-a)

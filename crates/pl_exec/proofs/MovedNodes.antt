@@ -9,12 +9,13 @@ use Rattle.pl_context.specs.declared.standing.Took.{Took}
 use Rattle.pl_context.specs.OutputsViews.{OutputsView}
 use Rattle.pl_context.specs.Stops.{HasPlaces, AreAmong}
 use Rattle.pl_flow.specs.Flows.{IsGood}
-use Rattle.pl_head.specs.declared.heads.OutStep.{OutStep}
+use Rattle.pl_flow.specs.declared.moves.HeadMove.{HeadMove}
+use Rattle.pl_flow.specs.declared.moves.HeadMove.TheVariants as head
 use Rattle.pl_head.specs.declared.heads.ReadStep.{ReadStep}
 use Rattle.pl_head.specs.declared.heads.ReadStep.TheVariants as reading
 use Rattle.pl_head.specs.Transports.{TransportState}
 use Rattle.pl_part.specs.Paths.{context_at}
-use Rattle.pl_part.specs.Parts.{PartView, SamePart, PartReads, PartWrites, head_hop, part_lanes}
+use Rattle.pl_part.specs.Parts.{PartView, SamePart, PartReads, PartMoves, head_hop, part_lanes}
 use Rattle.pl_part.specs.PartCalls.{Taken, Given, PartRefused}
 use Rattle.pl_channel.specs.PlanStand.{PartKeepsPlan}
 use Rattle.pl_channel.proofs.PlanLemmas.{part-takes-keeps, part-reads-keeps, part-writes-keeps}
@@ -38,6 +39,16 @@ read-keeps : {S T : Type 0} (meaning : S → Meaning) (stands_after : S → List
 read-keeps meaning stands_after is_spent state q p p' b a reading.Gave same r k = part-reads-keeps meaning stands_after is_spent state q p p' b a same r k
 read-keeps meaning stands_after is_spent state q p p' b a reading.Held same r k = subst (PartKeepsPlan state q) (sym (read-idle state p b p' a reading.Held r held-gave).0) k
 read-keeps meaning stands_after is_spent state q p p' b a reading.Done same r k = subst (PartKeepsPlan state q) (sym (read-idle state p b p' a reading.Done r done-gave).0) k
+
+-- it has made a move, or none
+move-keeps : {S T : Type 0} (meaning : S → Meaning) (stands_after : S → List Event → Type 0) (is_spent : S → Bool) (state : T → TransportState) (may_refuse : T → ℕ → Type 0) (q : ChannelPlan) (p p' : PartView S T) (b a : OutputsView)
+    (by : HeadMove) (made : Bool) → SamePart p p' → PartMoves state may_refuse p by b made p' a → PartKeepsPlan state q p → PartKeepsPlan state q p'
+move-keeps meaning stands_after is_spent state may_refuse q p p' b a head.Read made same m k = read-keeps meaning stands_after is_spent state q p p' b a m.answer same m.reads k
+move-keeps meaning stands_after is_spent state may_refuse q p p' b a head.Out made same m k = part-writes-keeps meaning stands_after is_spent state q may_refuse p p' b a m.answer same m.writes k
+
+move-path : {S T : Type 0} (state : T → TransportState) (may_refuse : T → ℕ → Type 0) (p p' : PartView S T) (b a : OutputsView) (by : HeadMove) (made : Bool) → PartMoves state may_refuse p by b made p' a → p'.path ≡ p.path
+move-path state may_refuse p p' b a head.Read made m = m.reads.path
+move-path state may_refuse p p' b a head.Out made m = m.writes.path
 
 module _ {S T : Type 0} (ps : List (PartView S T)) (c : ℕ) (p p' : PartView S T) (was : slice_get ps c ≡ Some p) where
   -- what one has put stays within the places
@@ -64,21 +75,13 @@ module _ {S T : Type 0} (ps : List (PartView S T)) (c : ℕ) (p p' : PartView S 
         let own = own-stands ps c p p' was world plan meaning stands_after state me refused stand in
         own.called r hop x (sym (ap (λ z. context_at z hop) path) ∙ at)
 
-    -- its head has made a read step, or none
-    pub read-stands : (b : OutputsView) (answer : ReadStep) (a : OutputsView) → Given meaning stands_after state p (head_hop p) b p' a → PartReads state p b answer p' a
+    -- its head has made a move, or none
+    pub move-stands : (may_refuse : T → ℕ → Type 0) (by : HeadMove) (b : OutputsView) (made : Bool) (a : OutputsView) → Given meaning stands_after state p (head_hop p) b p' a → PartMoves state may_refuse p by b made p' a
         → NodesStand world plan meaning stands_after state me refused (changed ps c p p' was)
-    read-stands b answer a t r =
+    move-stands may_refuse by b made a t m =
         let own = own-stands ps c p p' was world plan meaning stands_after state me refused stand in
-        nodes-stand ps c p p' was world plan meaning stands_after state me refused stand refused (λ s. s) t.puts.same (t.holds world own.holds) (same-calls r.path)
-        (λ q k. read-keeps meaning stands_after is_spent state q p p' b a answer t.puts.same r k)
-
-    -- its head has made a write, or none
-    pub write-stands : (may_refuse : T → ℕ → Type 0) (b : OutputsView) (answer : OutStep) (a : OutputsView) → Given meaning stands_after state p (head_hop p) b p' a → PartWrites state may_refuse p b answer p' a
-        → NodesStand world plan meaning stands_after state me refused (changed ps c p p' was)
-    write-stands may_refuse b answer a t w =
-        let own = own-stands ps c p p' was world plan meaning stands_after state me refused stand in
-        nodes-stand ps c p p' was world plan meaning stands_after state me refused stand refused (λ s. s) t.puts.same (t.holds world own.holds) (same-calls w.path)
-        (λ q k. part-writes-keeps meaning stands_after is_spent state q may_refuse p p' b a answer t.puts.same w k)
+        nodes-stand ps c p p' was world plan meaning stands_after state me refused stand refused (λ s. s) t.puts.same (t.holds world own.holds) (same-calls (move-path state may_refuse p p' b a by made m))
+        (λ q k. move-keeps meaning stands_after is_spent state may_refuse q p p' b a by made t.puts.same m k)
 
     -- something that it wrote was refused
     pub refuse-stands : (hop : ℕ) (b a : OutputsView) → world.refuses ≡ true → PartRefused meaning stands_after state p hop b p' a → p'.head ≡ p.head → NodesStand world plan meaning stands_after state me true (changed ps c p p' was)

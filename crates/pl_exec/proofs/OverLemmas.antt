@@ -3,9 +3,8 @@ use Rattle.std.proofs.Common.{◌≡◌, ◌≢◌, ℕ, Bool, true, false, List
 use Rattle.std.proofs.lemmas.Bool.{cases_Bool, cases_eq}
 use Rattle.std.proofs.lemmas.Option.{same_Some, slice_get_within}
 use Rattle.pl_context.specs.OutputsViews.{OutputsView}
-use Rattle.pl_head.specs.declared.heads.OutStep.{OutStep}
-use Rattle.pl_head.specs.declared.heads.OutStep.TheVariants as step
-use Rattle.pl_head.specs.declared.heads.ReadStep.{ReadStep}
+use Rattle.pl_flow.specs.declared.moves.HeadMove.{HeadMove}
+use Rattle.pl_flow.specs.declared.moves.HeadMove.TheVariants as head
 use Rattle.pl_head.specs.declared.heads.ReadStep.TheVariants as reading
 use Rattle.pl_head.specs.Transports.{TransportState}
 use Rattle.pl_head.specs.Marks.{Change}
@@ -13,30 +12,24 @@ use Rattle.pl_head.specs.HeadStand.{HeadView, StandsAfter, is_idle}
 use Rattle.pl_event.specs.declared.events.Event.{Event}
 use Rattle.pl_event.specs.Meaning.{Meaning}
 use Rattle.pl_event.specs.Worlds.{World}
-use Rattle.pl_part.specs.Parts.{PartView, PartHolds, PartReads, PartWrites}
-use Rattle.pl_replay.proofs.HeadMoves.{may-read, may-write}
-use Rattle.pl_exec.specs.OwnNodes.{MayReadHere, MayWriteHere, IsPartOver, AreOver}
+use Rattle.pl_part.specs.Parts.{PartView, PartHolds, PartMoves}
+use Rattle.pl_replay.proofs.HeadMoves.{may-move}
+use Rattle.pl_exec.specs.OwnNodes.{MayMoveHere, IsPartOver, AreOver}
 
 done-gave : reading.Done ≡ reading.Gave → ⊥
 done-gave e = cc
 
-module _ {S T : Type 0} (state : T → TransportState) (ps : List (PartView S T)) (c : ℕ) (p : PartView S T) (own : slice_get ps c ≡ Some p) (b : OutputsView) (p' : PartView S T) (a : OutputsView) (r : Bool) where
-  pub may-read-here : (answer : ReadStep) → PartReads state p b answer p' a → (r ≡ false → answer ≢ reading.Gave) → (r ≡ true → answer ≡ reading.Gave) → MayReadHere state ps c r
-  may-read-here answer reads other gives = record {
-    here = may-read state p b p' a answer reads ps c own r other gives;
-    elsewhere = λ q at none. ⊎_elim
-        (λ (t : r ≡ true). absurd (done-gave (sym (reads.none (sym (ap (λ (x : PartView S T). x.head) (same_Some q p (sym at ∙ own))) ∙ none)).0 ∙ gives t)))
-        (λ (f : r ≡ false). f)
-        (cases_Bool r);
-  }
+module _ {S T : Type 0} (state : T → TransportState) (may_refuse : T → ℕ → Type 0) (p : PartView S T) (b : OutputsView) (p' : PartView S T) (a : OutputsView) where
+  -- where the head is elsewhere it makes no move
+  none-moves : (by : HeadMove) (made : Bool) → PartMoves state may_refuse p by b made p' a → p.head ≡ None → made ≡ false
+  none-moves by false m none = refl
+  none-moves head.Read true m none = absurd (done-gave (sym (m.reads.none none).0 ∙ m.gave refl))
+  none-moves head.Out true m none = absurd (m.wrote refl (m.writes.none none).0)
 
-  pub may-write-here : (may_refuse : T → ℕ → Type 0) (answer : OutStep) → PartWrites state may_refuse p b answer p' a → (r ≡ false → answer ≡ step.Idle) → (r ≡ true → answer ≢ step.Idle) → MayWriteHere state ps c r
-  may-write-here may_refuse answer writes idle moves = record {
-    here = may-write state p b p' a may_refuse answer writes ps c own r idle moves;
-    elsewhere = λ q at none. ⊎_elim
-        (λ (t : r ≡ true). absurd (moves t (writes.none (sym (ap (λ (x : PartView S T). x.head) (same_Some q p (sym at ∙ own))) ∙ none)).0))
-        (λ (f : r ≡ false). f)
-        (cases_Bool r);
+  pub may-move-here : (by : HeadMove) (made : Bool) → PartMoves state may_refuse p by b made p' a → (ps : List (PartView S T)) (c : ℕ) → slice_get ps c ≡ Some p → MayMoveHere state ps by c made
+  may-move-here by made m ps c own = record {
+    here = may-move state p b p' a may_refuse by made m ps c own;
+    elsewhere = λ q at none. none-moves by made m (sym (ap (λ (x : PartView S T). x.head) (same_Some q p (sym at ∙ own))) ∙ none);
   }
 
 -- where a part is over, its head is written out

@@ -1,6 +1,7 @@
 -- The nodes of an executor, where the part of one channel has changed.
 use Rattle.std.proofs.Common.{◌≡◌, ℕ, ◌+◌, ◌<◌, ◌≤◌, Bool, true, false, ◌&&◌, List, length, map, get_or, slice_get, Option, Some, None, refl, ap, sym, ◌∙◌, subst, ⊎_elim, arith, inl, inr}
 use Rattle.std.specs.Prelude.{◌==◌, is_some, nat_lt, if◌then◌else◌}
+use Rattle.std.specs.Global.{Vec}
 use Rattle.std.specs.Option.{option_map_or}
 use Rattle.std.proofs.lemmas.Bool.{cond-true, cond-false, cases_Bool, and_parts, and_from, eqb-true, eq-eqb, lt-ltb}
 use Rattle.std.proofs.lemmas.Bool.Decides.{eqb_tells}
@@ -25,8 +26,10 @@ use Rattle.pl_part.specs.Parts.{PartView, PartHolds, SamePart, head_hop, has_ent
 use Rattle.pl_part.specs.PartCalls.{IsNextFor}
 use Rattle.pl_channel.specs.PlanStand.{PartKeepsPlan}
 use Rattle.pl_replay.specs.Channels.{executor_at, is_hop, lanes_of, taken_of, writes_here, writes_of, came_of}
-use Rattle.pl_replay.proofs.OneChannel.{changed, at-was, at-is, unchanged, places-of, same-hops, same-executor}
+use Rattle.pl_replay.proofs.OneChannel.{changed, at-was, at-is, unchanged, places-of, routes, same-hops, same-executor}
 use Rattle.pl_replay.proofs.Wholes.{written, hop-last, hop-before}
+use Rattle.pl_executor.specs.Parts.{PartKeeps}
+use Rattle.pl_exec.specs.declared.nodes.OwnNodes.{OwnNodes}
 use Rattle.pl_exec.specs.OwnNodes.{nobody, enters, target_of, has_node, IsResident, NoneRefused, PartStands, NodesStand}
 use Rattle.pl_world.specs.Plans.{ChannelPlan, Plan}
 
@@ -90,11 +93,27 @@ channel-here ps me l small here = by (slice_get ps l.channel) refl here
     by None at e = absurd (omega (arith, e, small))
     by (Some p) at e = slice_get_within ps l.channel p at
 
+-- What no call changes of them: where lanes go, which they write, and how many heads are here.
+abbrev pub OwnKeeps : {S T : Type 0} → (S → Meaning) → OwnNodes S T → OwnNodes S T → Type 0
+OwnKeeps meaning = PartKeeps (λ n l. target_of n.parts.items l) (λ n l. writes_of meaning n.parts.items l) (λ n. n.number) (λ n. lanes_of n.parts.items) (λ n. length n.own.items)
+
 -- ---- one of all parts
 
 module _ {S T : Type 0} (ps : List (PartView S T)) (c : ℕ) (p p' : PartView S T) (was : slice_get ps c ≡ Some p) where
   pub targets-stay : SamePart p p' → (l : Lane) → target_of (changed ps c p p' was) l ≡ target_of ps l
   targets-stay same l = unchanged ps c p p' was (λ (q : PartView S T). enters q l) nobody (same-enters p p' same l) l.channel
+
+  pub nodes-keep : (meaning : S → Meaning) {n n' : OwnNodes S T} → n.parts.items ≡ ps → n'.parts.items ≡ changed ps c p p' was → n'.number ≡ n.number → n'.own ≡ n.own
+      → SamePart p p' → ((l : Lane) → part_writes meaning p' l ≡ part_writes meaning p l) → OwnKeeps meaning n n'
+  nodes-keep meaning before after number own same writes =
+      let r = routes ps c p p' was meaning same writes in
+      record {
+        routes = λ l. ap (λ (xs : List (PartView S T)). target_of xs l) after ∙ targets-stay same l ∙ ap (λ (xs : List (PartView S T)). target_of xs l) (sym before);
+        written = λ l. ap (λ (xs : List (PartView S T)). writes_of meaning xs l) after ∙ r.writes l ∙ ap (λ (xs : List (PartView S T)). writes_of meaning xs l) (sym before);
+        homes = number;
+        hops = ap (λ (xs : List (PartView S T)). lanes_of xs) after ∙ r.lanes ∙ ap (λ (xs : List (PartView S T)). lanes_of xs) (sym before);
+        counts = ap (λ (v : Vec ℕ). length v.items) own;
+      }
 
   pub count-stays : length (changed ps c p p' was) ≡ length ps
   count-stays = length-set ps c p'

@@ -18,14 +18,14 @@ use Rattle.pl_queue.specs.declared.views.SenderView.{SenderView}
 use Rattle.pl_queue.specs.declared.views.TakerView.{TakerView}
 use Rattle.pl_replay.specs.Channels.{taken_of, writes_of, came_of}
 use Rattle.pl_replay.specs.Channels.{lanes_of as data_lanes_of}
-use Rattle.pl_replay.specs.Placed.{HasExecutors, all_lanes}
+use Rattle.pl_replay.specs.Placed.{ArePlaceable, HasExecutors, all_lanes}
 use Rattle.pl_replay.specs.Starts.{IsPlaced}
 use Rattle.pl_replay.proofs.NetStarts.{All-from-at, all-have-executors, lanes-few}
 use Rattle.pl_world.specs.declared.session.Recorded.{Recorded}
 use Rattle.pl_world.specs.Plans.{Plan, channel_planned}
 use Rattle.pl_exec.specs.declared.nodes.OwnNodes.{OwnNodes}
 use Rattle.pl_exec.specs.Lanes.{AreLaid, lane_table}
-use Rattle.pl_exec.specs.Opening.{LaneTable, InboxView, WaysView, PlacesView, IsSquare, CanOpen, AreOpened, IsFirst, CanStart}
+use Rattle.pl_exec.specs.Opening.{LaneTable, InboxView, WaysView, PlacesView, IsSquare, CanOpen, CanOpenAll, AreOpened, IsFirst, CanStart}
 use Rattle.pl_exec.specs.OwnNodes.{target_of}
 use Rattle.pl_exec.specs.Sharing.{AreShared, places_of}
 use Rattle.pl_exec.specs.Starting.{AreReady}
@@ -38,16 +38,19 @@ module _ {S T : Type 0} (meaning : S → Meaning) (stands_after : S → List Eve
   pub ready-count : length parts ≡ length plan.channels
   ready-count = ready.placed.count ∙ sym (length-map ready.recorded (channel_planned meaning state)) ∙ sym (ap length ready.planned)
 
-  pub ready-hops : All HasExecutors parts
+  ready-hops : All HasExecutors parts
   ready-hops = all-have-executors meaning stands_after state plan ready.recorded ready.planned parts ready.placed
 
-  pub ready-few : length (all_lanes parts) < 2 ^ 16
+  ready-few : length (all_lanes parts) < 2 ^ 16
   ready-few = lanes-few meaning stands_after state plan ready.recorded ready.planned parts ready.placed ready.small
 
   placed-at : (c : ℕ) (part : PartView S T) → slice_get parts c ≡ Some part → (r : Recorded S T) × IsPlaced meaning stands_after state c r part
   placed-at c part at =
       let r = at-index ready.recorded c (let size = ready.placed.count in let within = slice_get_within parts c part at in omega (arith, size, within)) in
       (r.0, ready.placed.each c r.0 part r.1 at)
+
+  pub ready-placeable : ArePlaceable parts
+  ready-placeable = record { few = ready-few; hops = ready-hops }
 
   pub ready-laid : AreLaid parts
   ready-laid = record {
@@ -85,21 +88,22 @@ first-turns {P = P} {N = N} first executors nodes count W parts size numbered to
 
 module _ {S T : Type 0} (meaning : S → Meaning) (stands_after : S → List Event → Type 0) (state : T → TransportState) (plan : Plan) (parts : List (PartView S T)) (ready : AreReady meaning stands_after state plan parts)
     (count : ℕ) (all : count ≡ plan.executors) (lanes : LaneTable) (are : lanes ≡ lane_table parts count) where
-  pub ready-square : IsSquare lanes
-  ready-square = subst IsSquare (sym are) (table-square parts count)
-
   ready-size : length lanes ≡ count
   ready-size = ap length are ∙ table-length parts count
 
   pub ready-executors : length lanes < 2 ^ 16
   ready-executors = let few = ready.executors in let size = ready-size in omega (arith, few, size, all)
 
-  pub ready-open : (capacity : ℕ) → capacity ≡ plan.capacity → All (CanOpen capacity) lanes
+  pub ready-open : (capacity : ℕ) → capacity ≡ plan.capacity → CanOpenAll capacity lanes
   ready-open capacity is =
       let few = ready.executors in
       let some = ready.ruled.capacity in
       let most = ready.capacity in
-      subst (All (CanOpen capacity)) (sym are) (table-open parts (ready-laid meaning stands_after state plan parts ready) count capacity (omega (arith, few, all)) (omega (arith, some, is)) (omega (arith, most, is)))
+      record {
+        square = subst IsSquare (sym are) (table-square parts count);
+        few = ready-executors;
+        each = subst (All (CanOpen capacity)) (sym are) (table-open parts (ready-laid meaning stands_after state plan parts ready) count capacity (omega (arith, few, all)) (omega (arith, some, is)) (omega (arith, most, is)));
+      }
 
   pub table-is : IsTable parts plan.executors lanes
   table-is = subst (λ (z : ℕ × LaneTable). IsTable parts z.0 z.1) (λ i. (all i, sym are i))

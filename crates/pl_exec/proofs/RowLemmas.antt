@@ -13,8 +13,9 @@ use Rattle.pl_queue.specs.Rule.{Each}
 use Rattle.pl_queue.specs.Views.{fresh_sends}
 use Rattle.pl_words.specs.Names.{Name}
 use Rattle.pl_words.specs.Admissions.{SendSeatView, new_send_seat}
-use Rattle.pl_exec.proofs.ListSteps.{at-front}
-use Rattle.pl_exec.specs.Opening.{LaneTable, lanes_in, lanes_to, lanes_between, IsSquare, InboxView, WayView, WaysView, with_row, with_rows, IsOwn, IsRow, AreRows, HasWays, AreOpened}
+use Rattle.pl_exec.proofs.EachWith.{added-at, added-count}
+use Rattle.pl_exec.proofs.ListSteps.{at-front, both-push}
+use Rattle.pl_exec.specs.Opening.{LaneTable, lanes_in, lanes_to, lanes_between, IsSquare, InboxView, WayView, WaysView, with_way, with_row, with_rows, IsOwn, IsRow, AreRows, HasWays, AreOpened}
 
 -- ---- the lanes to the next target
 
@@ -39,57 +40,6 @@ whole-senders all k senders square found =
     let within = slice_get_within (lanes_in all) k (senders_in senders) found in
     (omega (arith, whole, mine, table), omega (arith, within, table))
 
--- ---- one row
-
-pub no-row : {T S : Type 0} (ws : List (WaysView T S)) → with_row ws [] ≡ ws
-no-row [] = refl
-no-row (w ∷ ws) = refl
-
--- one executor more has its way to the next target
-pub with_row-push : {T S : Type 0} (ws : List (WaysView T S)) (vs : List (WayView S)) (v : WayView S) (w : WaysView T S) → slice_get (with_row ws vs) (length vs) ≡ Some w
-    → set (with_row ws vs) (length vs) (record w { ways = w.ways ++ v ∷ [] }) ≡ with_row ws (vs ++ v ∷ [])
-with_row-push [] vs v w found = absurd (none-some w found)
-with_row-push {T = T} {S = S} (u ∷ us) [] v w found =
-    let same : w ≡ u = sym (same_Some u w found) in
-    ap (λ (z : WaysView T S). record z { ways = z.ways ++ v ∷ [] } ∷ us) same ∙ ap (λ (rest : List (WaysView T S)). record u { ways = u.ways ++ v ∷ [] } ∷ rest) (sym (no-row us))
-with_row-push (u ∷ us) (x ∷ xs) v w found = ap (λ rest. record u { ways = u.ways ++ x ∷ [] } ∷ rest) (with_row-push us xs v w found)
-
-pub with_row-count : {T S : Type 0} (ws : List (WaysView T S)) (vs : List (WayView S)) → length (with_row ws vs) ≡ length ws
-with_row-count [] vs = refl
-with_row-count (u ∷ us) [] = refl
-with_row-count (u ∷ us) (x ∷ xs) = ap suc (with_row-count us xs)
-
--- while a row is added, there is an executor for its next way
-pub row-within : {T S : Type 0} (ws : List (WaysView T S)) (row done rest left : List (WayView S)) (v : WayView S) → done ++ rest ≡ row → rest ≡ v ∷ left → length row ≡ length ws → length done < length (with_row ws done)
-row-within {S = S} ws row done rest left v whole front count =
-    let sum = length-append done rest in
-    let all = ap (λ (l : List (WayView S)). length l) whole in
-    let next = ap (λ (l : List (WayView S)). length l) front in
-    omega (arith, sum, all, next, count, with_row-count ws done)
-
-pub row-step : {T S : Type 0} (ws all : List (WaysView T S)) (done : List (WayView S)) (v : WayView S) (sender : ℕ) (d new : WaysView T S) → all ≡ with_row ws done → sender ≡ length done → sender < length all → d ≡ get_or all sender d
-    → new ≡ record d { ways = d.ways ++ v ∷ [] } → set all sender new ≡ with_row ws (done ++ v ∷ [])
-row-step {T = T} {S = S} ws all done v sender d new added at within read grown =
-    let found : slice_get (with_row ws done) (length done) ≡ Some d =
-    (λ i. slice_get (sym added i) (sym at i)) ∙ slice_get_read all (length all) sender d refl within read in
-    ap (λ (z : WaysView T S). set all sender z) grown ∙ (λ i. set (added i) (at i) (record d { ways = d.ways ++ v ∷ [] })) ∙ with_row-push ws done v d found
-
--- what an executor has once one way more was added
-record Grown {T S : Type 0} (ws : List (WaysView T S)) (vs : List (WayView S)) (y : ℕ) (w : WaysView T S) : Type 0 where
-  pub before : WaysView T S
-  pub way : WayView S
-  pub was : slice_get ws y ≡ Some before
-  pub is : slice_get vs y ≡ Some way
-  pub grown : w ≡ record before { ways = before.ways ++ way ∷ [] }
-
-grown-at : {T S : Type 0} (ws : List (WaysView T S)) (vs : List (WayView S)) (y : ℕ) (w : WaysView T S) → length vs ≡ length ws → slice_get (with_row ws vs) y ≡ Some w → Grown ws vs y w
-grown-at [] vs y w count found = absurd (none-some w found)
-grown-at (u ∷ us) [] y w count found = absurd (omega (arith, count))
-grown-at (u ∷ us) (x ∷ xs) zero w count found = record { before = u; way = x; was = refl; is = refl; grown = sym (same_Some (record u { ways = u.ways ++ x ∷ [] }) w found) }
-grown-at (u ∷ us) (x ∷ xs) (suc y) w count found =
-    let g = grown-at us xs y w (omega (arith, count)) found in
-    record { before = g.before; way = g.way; was = g.was; is = g.is; grown = g.grown }
-
 -- ---- all rows
 
 -- what an executor has once all rows were added
@@ -104,8 +54,8 @@ dealt-at : {T S : Type 0} (ws : List (WaysView T S)) (rows : List (List (WayView
     → ((target : ℕ) (row : List (WayView S)) → slice_get rows target ≡ Some row → length row ≡ length ws) → slice_get (with_rows ws rows) y ≡ Some w → Dealt ws rows y w
 dealt-at ws [] y w counts found = record { before = w; was = found; taker = refl; owner = refl; column = sym (append-nil (map (λ v. Some v) w.ways)) }
 dealt-at {S = S} ws (row ∷ rows) y w counts found =
-    let d = dealt-at (with_row ws row) rows y w (λ target r is. counts (suc target) r is ∙ sym (with_row-count ws row)) found in
-    let g = grown-at ws row y d.before (counts 0 row refl) d.was in
+    let d = dealt-at (with_row ws row) rows y w (λ target r is. counts (suc target) r is ∙ sym (added-count with_way ws row)) found in
+    let g = added-at with_way ws row y d.before (counts 0 row refl) d.was in
     record {
       before = g.before;
       was = g.was;
@@ -113,8 +63,8 @@ dealt-at {S = S} ws (row ∷ rows) y w counts found =
       owner = d.owner ∙ ap (λ u. u.owner) g.grown;
       column = d.column
           ∙ ap (λ u. map (λ v. Some v) u.ways ++ map (λ r. slice_get r y) rows) g.grown
-          ∙ ap (λ z. z ++ map (λ r. slice_get r y) rows) (map-append (λ (v : WayView S). Some v) g.before.ways (g.way ∷ []))
-          ∙ append-one (map (λ (v : WayView S). Some v) g.before.ways) (Some g.way) (map (λ r. slice_get r y) rows)
+          ∙ ap (λ z. z ++ map (λ r. slice_get r y) rows) (map-append (λ (v : WayView S). Some v) g.before.ways (g.value ∷ []))
+          ∙ append-one (map (λ (v : WayView S). Some v) g.before.ways) (Some g.value) (map (λ r. slice_get r y) rows)
           ∙ ap (λ z. map (λ v. Some v) g.before.ways ++ z ∷ map (λ r. slice_get r y) rows) (sym g.is);
     }
   where
@@ -124,7 +74,7 @@ dealt-at {S = S} ws (row ∷ rows) y w counts found =
 
 pub with_rows-count : {T S : Type 0} (ws : List (WaysView T S)) (rows : List (List (WayView S))) → length (with_rows ws rows) ≡ length ws
 with_rows-count ws [] = refl
-with_rows-count ws (row ∷ rows) = with_rows-count (with_row ws row) rows ∙ with_row-count ws row
+with_rows-count ws (row ∷ rows) = with_rows-count (with_row ws row) rows ∙ added-count with_way ws row
 
 -- an element of a column is one of its row
 row-of : {A : Type 0} (rows : List (List A)) (column : List A) (y x : ℕ) (v : A) → map (λ a. Some a) column ≡ map (λ row. slice_get row y) rows → slice_get column x ≡ Some v
@@ -170,60 +120,28 @@ module _ {M T S : Type 0} (is_taker : M → T → Type 0) (takes_of : T → Take
 
   -- ---- one inbox more
 
-  pub rows-none : (lanes : LaneTable) → AreRows is_taker takes_of is_sender sends_of lanes [] [] [] []
-  rows-none lanes = record {
-    inboxes_count = refl;
-    own_count = refl;
-    rows_count = refl;
-    own = λ target inbox w found _. absurd (none-some inbox found);
-    count = λ target row found. absurd (none-some row found);
-    ways = λ target inbox row found _. absurd (none-some inbox found);
-  }
-
   module _ (lanes first : LaneTable) (inboxes : List (InboxView M)) (all : List (WaysView T S)) (rows : List (List (WayView S))) (are : AreRows is_taker takes_of is_sender sends_of lanes first inboxes all rows)
       (senders : List (List Lane)) (next : lanes_to lanes (length first) ≡ senders) (inbox : InboxView M) (w : WaysView T S) (row : List (WayView S))
       (own : IsOwn is_taker takes_of is_sender sends_of inbox senders w) (none : w.ways ≡ []) (count : length row ≡ length lanes) (ways : IsRow is_taker takes_of is_sender sends_of inbox senders row) where
     longer : {A : Type 0} (xs : List A) (x : A) → length xs ≡ length first → length (xs ++ x ∷ []) ≡ length (first ++ senders ∷ [])
     longer xs x same = omega (arith, same, length-append xs (x ∷ []), length-append first (senders ∷ []))
 
-    apart : {A : Type 0} (xs : List A) (k : ℕ) (x : A) → length xs ≡ length first → slice_get xs k ≡ Some x → k ≡ length first → ⊥
-    apart xs k x same found last = let within = slice_get_within xs k x found in omega (arith, same, within, last)
+    to-next : length inboxes ≡ length first → senders ≡ lanes_to lanes (length inboxes)
+    to-next count = sym next ∙ ap (lanes_to lanes) (sym count)
 
     pub rows-push : AreRows is_taker takes_of is_sender sends_of lanes (first ++ senders ∷ []) (inboxes ++ inbox ∷ []) (all ++ w ∷ []) (rows ++ row ∷ [])
     rows-push = record {
       inboxes_count = longer inboxes inbox are.inboxes_count;
       own_count = longer all w are.own_count;
       rows_count = longer rows row are.rows_count;
-      own = λ target i v at-inbox at-own. ⊎_elim
-          (λ (a : slice_get inboxes target ≡ Some i). ⊎_elim
-          (λ (b : slice_get all target ≡ Some v). are.own target i v a b)
-          (λ (b : (target ≡ length all) × (v ≡ w)). absurd (apart inboxes target i are.inboxes_count a (b.0 ∙ are.own_count)))
-          (slice_get-push all w v target at-own))
-          (λ (a : (target ≡ length inboxes) × (i ≡ inbox)). ⊎_elim
-          (λ (b : slice_get all target ≡ Some v). absurd (apart all target v are.own_count b (a.0 ∙ are.inboxes_count)))
-          (λ (b : (target ≡ length all) × (v ≡ w)). (
-            subst (λ (z : InboxView M × List (List Lane) × WaysView T S). IsOwn is_taker takes_of is_sender sends_of z.0 z.1 z.2)
-                (λ k. (sym a.1 k, (sym next ∙ ap (lanes_to lanes) (sym (a.0 ∙ are.inboxes_count))) k, sym b.1 k)) own,
-            ap (λ (z : WaysView T S). z.ways) b.1 ∙ none,
-          ))
-          (slice_get-push all w v target at-own))
-          (slice_get-push inboxes inbox i target at-inbox);
+      own = both-push (λ target i v. IsOwn is_taker takes_of is_sender sends_of i (lanes_to lanes target) v × (v.ways ≡ [])) inboxes all inbox w (are.inboxes_count ∙ sym are.own_count) are.own
+          (subst (λ (z : List (List Lane)). IsOwn is_taker takes_of is_sender sends_of inbox z w) (to-next are.inboxes_count) own, none);
       count = λ target r found. ⊎_elim
           (λ (a : slice_get rows target ≡ Some r). are.count target r a)
           (λ (a : (target ≡ length rows) × (r ≡ row)). ap (λ (z : List (WayView S)). length z) a.1 ∙ count)
           (slice_get-push rows row r target found);
-      ways = λ target i r at-inbox at-row. ⊎_elim
-          (λ (a : slice_get inboxes target ≡ Some i). ⊎_elim
-          (λ (b : slice_get rows target ≡ Some r). are.ways target i r a b)
-          (λ (b : (target ≡ length rows) × (r ≡ row)). absurd (apart inboxes target i are.inboxes_count a (b.0 ∙ are.rows_count)))
-          (slice_get-push rows row r target at-row))
-          (λ (a : (target ≡ length inboxes) × (i ≡ inbox)). ⊎_elim
-          (λ (b : slice_get rows target ≡ Some r). absurd (apart rows target r are.rows_count b (a.0 ∙ are.inboxes_count)))
-          (λ (b : (target ≡ length rows) × (r ≡ row)).
-          subst (λ (z : InboxView M × List (List Lane) × List (WayView S)). IsRow is_taker takes_of is_sender sends_of z.0 z.1 z.2)
-          (λ k. (sym a.1 k, (sym next ∙ ap (lanes_to lanes) (sym (a.0 ∙ are.inboxes_count))) k, sym b.1 k)) ways)
-          (slice_get-push rows row r target at-row))
-          (slice_get-push inboxes inbox i target at-inbox);
+      ways = both-push (λ target i r. IsRow is_taker takes_of is_sender sends_of i (lanes_to lanes target) r) inboxes rows inbox row (are.inboxes_count ∙ sym are.rows_count) are.ways
+          (subst (λ (z : List (List Lane)). IsRow is_taker takes_of is_sender sends_of inbox z row) (to-next are.inboxes_count) ways);
     }
 
   -- the same of what a list of inboxes and a list of rows show

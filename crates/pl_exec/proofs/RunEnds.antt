@@ -26,7 +26,7 @@ use Rattle.pl_head.specs.Writes.{flushed_writes, late_outcome, out, outcomes, un
 use Rattle.pl_head.specs.HeadStand.{HeadView, BufferAfter, StandsAfter}
 use Rattle.pl_part.specs.HeadHolds.{HeadTook}
 use Rattle.pl_channel.specs.Ends.{ends_of, EndsHold}
-use Rattle.pl_channel.proofs.EndReports.{keep}
+use Rattle.pl_channel.proofs.EndReports.{keep, numbered-report}
 use Rattle.pl_world.specs.declared.report.ChannelReport.{ChannelReport}
 use Rattle.pl_world.specs.Plans.{ChannelPlan, Plan, tail_hop, head_hop}
 use Rattle.pl_world.specs.Reports.{IsChannelReport, has_ended, head_of, tail_of}
@@ -34,10 +34,6 @@ use Rattle.pl_world.proofs.SettledWrites.{outcomes_end}
 use Rattle.pl_exec.specs.Reported.{AreRunEnds, IsLeftHead, IsLeftTail, ReportsRun}
 
 -- ---- ends that executors leave
-
-append-none : {A : Type 0} (xs ys : List A) → xs ++ ys ≡ [] → ys ≡ []
-append-none [] ys e = e
-append-none (x ∷ xs) ys e = cc
 
 or-none : (over : Bool) (failure : Option Cause) → failure ≡ None → (over || is_some failure) ≡ true → over ≡ true
 or-none true failure none e = refl
@@ -88,18 +84,7 @@ module _ {T : Type 0} (state : T → TransportState) (plan : Plan) (c : ℕ) (p 
             record {
               ends = record (ends_of state tail head took.ys took.zs) { is_full = false };
               ends_are = run-ends false (λ e. refl);
-              reports = record {
-                stands_is = is.stands_is;
-                tail_is = is.tail_is;
-                bytes_are = is.bytes_are;
-                writes_are = record {
-                  late = is.writes_are.late;
-                  unnumbered = is.writes_are.unnumbered;
-                  split = is.writes_are.split;
-                  all = λ going. append-none is.writes_are.late is.writes_are.unnumbered (is.writes_are.split ∙ ap writes_by none);
-                  outcomes_are = is.writes_are.outcomes_are;
-                };
-              };
+              reports = numbered-report state tail head took.ys took.zs r none is;
             }
 
 -- ---- each write has an outcome

@@ -10,6 +10,8 @@ use Rattle.pl_event.specs.Worlds.{World}
 use Rattle.pl_context.specs.declared.standing.Took.{Took}
 use Rattle.pl_context.specs.OutputsViews.{OutputsView}
 use Rattle.pl_context.proofs.WaitingCalls.{at-set_there}
+use Rattle.pl_flow.specs.declared.moves.HeadMove.{HeadMove}
+use Rattle.pl_flow.specs.declared.moves.HeadMove.TheVariants as head
 use Rattle.pl_head.specs.declared.heads.OutStep.{OutStep}
 use Rattle.pl_head.specs.declared.heads.OutStep.TheVariants as step
 use Rattle.pl_head.specs.declared.heads.ReadStep.{ReadStep}
@@ -19,10 +21,10 @@ use Rattle.pl_head.specs.HeadStand.{HeadView, ReadsStand}
 use Rattle.pl_head.specs.ReadSteps.{brings_abort, brings_failure, has_step, plan_steps}
 use Rattle.pl_head.specs.Transports.{TransportState, counted}
 use Rattle.pl_part.specs.HeadCalls.{HeadReads, HeadWrites}
-use Rattle.pl_part.specs.Parts.{PartView, PartHolds, PartTakes, PartReads, PartWrites, SamePart, head_hop}
+use Rattle.pl_part.specs.Parts.{PartView, PartHolds, PartTakes, PartReads, PartWrites, PartMoves, SamePart, head_hop}
 use Rattle.pl_part.specs.Told.{IsTold, told_head}
 use Rattle.pl_replay.proofs.OneChannel.{changed, unchanged, at-was, at-is}
-use Rattle.pl_executor.specs.Serving.{Served, ServesNone, ReadsAtMostOnce, WritesAtMostOnce}
+use Rattle.pl_executor.specs.Serving.{Served, ServesNone, MovesAtMostOnce}
 use Rattle.pl_exec.specs.OwnNodes.{planned_reads, reads_made, served_by, served_of}
 use Rattle.pl_channel.specs.PlanStand.{PartKeepsPlan}
 use Rattle.pl_world.specs.Plans.{ChannelPlan, Plan, read_plan}
@@ -104,6 +106,11 @@ module _ {T : Type 0} (state : T → TransportState) where
       by reading.Held e = idle (λ (f : answer ≡ reading.Gave). held-gave (sym e ∙ f))
       by reading.Done e = idle (λ (f : answer ≡ reading.Gave). done-gave (sym e ∙ f))
 
+-- how often one channel was served before and after a move of its head
+abbrev pub ServesOnce : HeadMove → Served → Served → Type 0
+ServesOnce head.Read s t = (t.reads ≤ s.reads + 1) × (t.calls ≡ s.calls)
+ServesOnce head.Out s t = (t.reads ≡ s.reads) × (t.calls ≤ s.calls + 1)
+
 -- ---- the head of a part
 
 module _ {S T : Type 0} (state : T → TransportState) where
@@ -136,7 +143,7 @@ module _ {S T : Type 0} (state : T → TransportState) where
           same-served p p' h r.0 at r.1 (ap (λ (x : HeadView T). x.input) r.2.same) (ap (λ (x : HeadView T). (state x.transport).calls) r.2.same) q
 
   -- it makes a read step, or none
-  pub read-serves : (world : World) (meaning : S → Meaning) (stands_after : S → List Event → Type 0) (p p' : PartView S T) (b a : OutputsView) (answer : ReadStep)
+  read-serves : (world : World) (meaning : S → Meaning) (stands_after : S → List Event → Type 0) (p p' : PartView S T) (b a : OutputsView) (answer : ReadStep)
       → PartHolds world meaning stands_after state p → PartReads state p b answer p' a
       → (q : Option ChannelPlan) → ((c : ChannelPlan) → q ≡ Some c → PartKeepsPlan state c p)
       → ((served_by state q p').reads ≤ (served_by state q p).reads + 1) × ((served_by state q p').calls ≡ (served_by state q p).calls)
@@ -162,7 +169,7 @@ module _ {S T : Type 0} (state : T → TransportState) where
           subst (λ (z : Served × Served). (z.0.reads ≤ z.1.reads + 1) × (z.0.calls ≡ z.1.calls)) (λ i. (sym (of-head p' x.0 x.1 q) i, sym (of-head p h at q) i)) (steps h x.0 at x.2 q refl)
 
   -- it makes a write, or none
-  pub write-serves : (may_refuse : T → ℕ → Type 0) (p p' : PartView S T) (b a : OutputsView) (answer : OutStep) → PartWrites state may_refuse p b answer p' a
+  write-serves : (may_refuse : T → ℕ → Type 0) (p p' : PartView S T) (b a : OutputsView) (answer : OutStep) → PartWrites state may_refuse p b answer p' a
       → (q : Option ChannelPlan) → ((served_by state q p').reads ≡ (served_by state q p).reads) × ((served_by state q p').calls ≤ (served_by state q p).calls + 1)
   write-serves may_refuse p p' b a answer w q = by p.head refl
     where
@@ -186,6 +193,12 @@ module _ {S T : Type 0} (state : T → TransportState) where
           subst (λ (z : Served × Served). (z.0.reads ≡ z.1.reads) × (z.0.calls ≤ z.1.calls + 1)) (λ i. (sym (of-head p' x.0 x.1 q) i, sym (of-head p h at q) i))
           (ap (λ (y : HeadView T). planned_reads q y) x.2.same, calls h x.0 x.2 answer refl)
 
+  -- it makes a move, or none
+  pub move-serves : (may_refuse : T → ℕ → Type 0) (world : World) (meaning : S → Meaning) (stands_after : S → List Event → Type 0) (p p' : PartView S T) (b a : OutputsView) (by : HeadMove) (made : Bool)
+      → PartHolds world meaning stands_after state p → PartMoves state may_refuse p by b made p' a → (q : Option ChannelPlan) → ((c : ChannelPlan) → q ≡ Some c → PartKeepsPlan state c p) → ServesOnce by (served_by state q p) (served_by state q p')
+  move-serves may_refuse world meaning stands_after p p' b a head.Read made holds m q keeps = read-serves world meaning stands_after p p' b a m.answer holds m.reads q keeps
+  move-serves may_refuse world meaning stands_after p p' b a head.Out made holds m q keeps = write-serves may_refuse p p' b a m.answer m.writes q
+
 -- ---- all parts, of which one has changed
 
 module _ {S T : Type 0} (state : T → TransportState) (plan : Plan) (ps : List (PartView S T)) (c : ℕ) (p p' : PartView S T) (was : slice_get ps c ≡ Some p) where
@@ -206,15 +219,9 @@ module _ {S T : Type 0} (state : T → TransportState) (plan : Plan) (ps : List 
       (sym (ap (λ (o : Option (PartView S T)). option_map_or (λ (x : PartView S T). served_by state (slice_get plan.channels k) x) o (record { reads = 0; calls = 0 })) (at-set_there ps c k p' other))) (same (served_of state plan ps k)))
       (cases_eq k c)
 
-  pub reads-once : ((served_by state (slice_get plan.channels c) p').reads ≤ (served_by state (slice_get plan.channels c) p).reads + 1)
-      × ((served_by state (slice_get plan.channels c) p').calls ≡ (served_by state (slice_get plan.channels c) p).calls)
-      → ReadsAtMostOnce (served_of state plan ps) (served_of state plan (changed ps c p p' was))
-  reads-once one = each (λ s t. (t.reads ≤ s.reads + 1) × (t.calls ≡ s.calls)) (λ s. (more s.reads, refl)) one
-
-  pub writes-once : ((served_by state (slice_get plan.channels c) p').reads ≡ (served_by state (slice_get plan.channels c) p).reads)
-      × ((served_by state (slice_get plan.channels c) p').calls ≤ (served_by state (slice_get plan.channels c) p).calls + 1)
-      → WritesAtMostOnce (served_of state plan ps) (served_of state plan (changed ps c p p' was))
-  writes-once one = each (λ s t. (t.reads ≡ s.reads) × (t.calls ≤ s.calls + 1)) (λ s. (refl, more s.calls)) one
+  pub moves-once : (by : HeadMove) → ServesOnce by (served_by state (slice_get plan.channels c) p) (served_by state (slice_get plan.channels c) p') → MovesAtMostOnce by (served_of state plan ps) (served_of state plan (changed ps c p p' was))
+  moves-once head.Read one = each (ServesOnce head.Read) (λ s. (more s.reads, refl)) one
+  moves-once head.Out one = each (ServesOnce head.Out) (λ s. (refl, more s.calls)) one
 
 -- ---- and where the head has told of its writes
 
@@ -230,3 +237,6 @@ module _ {S T : Type 0} (state : T → TransportState) where
   pub told-served : (plan : Plan) (ps : List (PartView S T)) (c : ℕ) (ps' : List (PartView S T)) → IsToldAt ps c ps' → ServesNone (served_of state plan ps) (served_of state plan ps')
   told-served plan ps c ps' t k =
       ap (λ (x : List (PartView S T)). served_of state plan x k) t.becomes ∙ serves-none state plan ps c t.before t.after t.was (told-as-before t.before t.after t.told) k
+
+  pub told-moves : (plan : Plan) (ps : List (PartView S T)) (c : ℕ) (ps' : List (PartView S T)) → IsToldAt ps c ps' → (by : HeadMove) (before : ℕ → Served) → MovesAtMostOnce by before (served_of state plan ps) → MovesAtMostOnce by before (served_of state plan ps')
+  told-moves plan ps c ps' t by before once = subst (λ (after : ℕ → Served). MovesAtMostOnce by before after) (λ i k. sym (told-served plan ps c ps' t k) i) once

@@ -27,13 +27,6 @@ at-index xs i within = elim (slice_get_cases xs i).1 [
 -- ---- one channel more, executor by executor
 
 module _ {S T : Type 0} where
-  pub none-gets : (before all : List (OwnNodes S T)) (shares : List (PartView S T)) → all ≡ before → shares ≡ [] → EachGets before shares all
-  none-gets before all shares same none = record {
-    count = ap length same;
-    each = λ x old new share a b c. absurd (none-some share (ap (λ (l : List (PartView S T)). slice_get l x) (sym none) ∙ b));
-    others = λ x nodes past at. ap (λ (l : List (OwnNodes S T)). slice_get l x) (sym same) ∙ at;
-  }
-
   pub next-gets : (before all : List (OwnNodes S T)) (done : List (PartView S T)) (share : PartView S T) (n : ℕ) (old new : OwnNodes S T) → EachGets before done all → n ≡ length done → n < length all → old ≡ get_or all n old
       → Gets old share new → EachGets before (done ++ share ∷ []) (set all n new)
   next-gets before all done share n old new so_far place within read got = record {
@@ -60,12 +53,6 @@ module _ {S T : Type 0} where
 -- ---- all executors
 
 module _ {S T : Type 0} (meaning : S → Meaning) (stands_after : S → List Event → Type 0) (state : T → TransportState) where
-  pub none-shared : (all : List (OwnNodes S T)) → all ≡ [] → AreShared meaning stands_after state [] 0 all
-  none-shared all none = record {
-    count = ap length none;
-    each = λ x nodes at. absurd (none-some nodes (ap (λ (l : List (OwnNodes S T)). slice_get l x) (sym none) ∙ at));
-  }
-
   -- one executor more, without nodes
   pub executor-shared : (all grown : List (OwnNodes S T)) (n : ℕ) (new : OwnNodes S T) → new.number ≡ n → new.was_refused ≡ false → new.parts.items ≡ [] → new.own.items ≡ [] → grown ≡ all ++ new ∷ []
       → AreShared meaning stands_after state [] n all → AreShared meaning stands_after state [] (n + 1) grown

@@ -18,25 +18,17 @@ use Rattle.pl_world.specs.Plans.{Plan}
 use Rattle.pl_exec.specs.declared.nodes.OwnNodes.{OwnNodes}
 use Rattle.pl_exec.specs.declared.telling.TellingNodes.{TellingNodes}
 use Rattle.pl_exec.specs.Opening.{InboxView, WaysView, PlacesView, CanStart}
-use Rattle.pl_exec.specs.OwnNodes.{AreOn, target_of, heads_of, NodesStand}
-use Rattle.pl_exec.specs.Telling.{AreSeated}
+use Rattle.pl_exec.specs.OwnNodes.{target_of}
+use Rattle.pl_exec.specs.Telling.{HaveSeats, KnowChannels, OwnStand, TellingStand}
 use Rattle.pl_exec.proofs.ChannelsHere.{on-plan}
 
 module _ {S T : Type 0} (meaning : S → Meaning) (stands_after : S → List Event → Type 0) (state : T → TransportState) (world : World) (plan : Plan) where
-  abbrev Own : OwnNodes S T → Type 0
-  Own n = (world ≡ world_of true plan) × NodesStand world plan meaning stands_after state n.number n.was_refused n.parts.items × (n.own.items ≡ heads_of n.parts.items)
-
-  abbrev Telling : TellingNodes S T → Type 0
-  Telling n =
-      (world ≡ world_of true plan) × NodesStand world plan meaning stands_after state n.nodes.number n.nodes.was_refused n.nodes.parts.items
-      × (n.nodes.own.items ≡ heads_of n.nodes.parts.items) × AreSeated n.words.now plan n.seats.items × AreOn (λ p. p.executors) plan.channels n.nodes.number n.here.items
-
   module _ {M K D : Type 0} (is_taker : M → K → Type 0) (takes_of : K → TakerView) (is_sender : M → D → Type 0) (sends_of : D → SenderView) where
     pub telling-start : (inboxes : List (InboxView M)) (ways : List (WaysView K D)) (own : List (OwnNodes S T)) (all : List (TellingNodes S T)) (places : List PlacesView) → map (λ n. n.nodes) all ≡ own
-        → All (λ n. AreSeated n.words.now plan n.seats.items) all → All (λ n. AreOn (λ p. p.path.executors) n.nodes.parts.items n.nodes.number n.here.items) all
-        → CanStart is_taker takes_of is_sender sends_of Own (λ n. n.number) (λ n. data_lanes_of n.parts.items) (λ n l. target_of n.parts.items l) (λ n l. writes_of meaning n.parts.items l) (λ n l. taken_of n.parts.items l)
+        → All (HaveSeats plan) all → All KnowChannels all
+        → CanStart is_taker takes_of is_sender sends_of (OwnStand world plan meaning stands_after state) (λ n. n.number) (λ n. data_lanes_of n.parts.items) (λ n l. target_of n.parts.items l) (λ n l. writes_of meaning n.parts.items l) (λ n l. taken_of n.parts.items l)
         (λ n l. came_of meaning n.parts.items l) (λ n. n.was_refused) inboxes ways own places
-        → CanStart is_taker takes_of is_sender sends_of Telling (λ n. n.nodes.number) (λ n. data_lanes_of n.nodes.parts.items) (λ n l. target_of n.nodes.parts.items l) (λ n l. writes_of meaning n.nodes.parts.items l)
+        → CanStart is_taker takes_of is_sender sends_of (TellingStand world plan meaning stands_after state) (λ n. n.nodes.number) (λ n. data_lanes_of n.nodes.parts.items) (λ n l. target_of n.nodes.parts.items l) (λ n l. writes_of meaning n.nodes.parts.items l)
         (λ n l. taken_of n.nodes.parts.items l) (λ n l. came_of meaning n.nodes.parts.items l) (λ n. n.nodes.was_refused) inboxes ways all places
     telling-start inboxes ways own all places are seated on can = record {
       lanes = can.lanes;
@@ -50,9 +42,9 @@ module _ {S T : Type 0} (meaning : S → Meaning) (stands_after : S → List Eve
               f.stood.0,
               f.stood.1,
               f.stood.2,
-              All-at (λ (n : TellingNodes S T). AreSeated n.words.now plan n.seats.items) all number part seated at,
+              All-at (HaveSeats plan) all number part seated at,
               on-plan state plan part.nodes.parts.items part.nodes.number part.here.items f.stood.1.keeps
-                  (All-at (λ (n : TellingNodes S T). AreOn (λ p. p.path.executors) n.nodes.parts.items n.nodes.number n.here.items) all number part on at),
+                  (All-at KnowChannels all number part on at),
             );
             at = f.at;
             unrefused = f.unrefused;

@@ -12,38 +12,6 @@ use Rattle.pl_exec.specs.SessionWords.{ChannelNames, SeatsView, SightView, sight
 
 -- ---- one row of seats
 
-pub no-row : (readers : List (List SightView)) → with_row readers [] ≡ readers
-no-row [] = refl
-no-row (r ∷ rs) = refl
-
--- one reader more has its seats of the next channel
-pub with_row-push : (readers : List (List SightView)) (row : List SightView) (sight : SightView) (r : List SightView) → slice_get (with_row readers row) (length row) ≡ Some r
-    → set (with_row readers row) (length row) (r ++ sight ∷ []) ≡ with_row readers (row ++ sight ∷ [])
-with_row-push [] row sight r found = absurd (none-some r found)
-with_row-push (u ∷ us) [] sight r found =
-    ap (λ (z : List SightView). (z ++ sight ∷ []) ∷ us) (sym (same_Some u r found)) ∙ ap (λ (rest : List (List SightView)). (u ++ sight ∷ []) ∷ rest) (sym (no-row us))
-with_row-push (u ∷ us) (x ∷ xs) sight r found = ap (λ rest. (u ++ x ∷ []) ∷ rest) (with_row-push us xs sight r found)
-
-pub with_row-count : (readers : List (List SightView)) (row : List SightView) → length (with_row readers row) ≡ length readers
-with_row-count [] row = refl
-with_row-count (u ∷ us) [] = refl
-with_row-count (u ∷ us) (x ∷ xs) = ap suc (with_row-count us xs)
-
--- while a row is added, there is a reader for its next seats
-pub row-within : (readers : List (List SightView)) (row done rest left : List SightView) (sight : SightView) → done ++ rest ≡ row → rest ≡ sight ∷ left → length row ≡ length readers → length done < length (with_row readers done)
-row-within readers row done rest left sight whole front count =
-    let sum = length-append done rest in
-    let all = ap (λ (l : List SightView). length l) whole in
-    let next = ap (λ (l : List SightView). length l) front in
-    omega (arith, sum, all, next, count, with_row-count readers done)
-
-pub row-step : (readers all : List (List SightView)) (done : List SightView) (sight : SightView) (number : ℕ) (r new : List SightView) → all ≡ with_row readers done → number ≡ length done → number < length all
-    → r ≡ get_or all number r → new ≡ r ++ sight ∷ [] → set all number new ≡ with_row readers (done ++ sight ∷ [])
-row-step readers all done sight number r new added at within read grown =
-    let found : slice_get (with_row readers done) (length done) ≡ Some r =
-    (λ i. slice_get (sym added i) (sym at i)) ∙ slice_get_read all (length all) number r refl within read in
-    ap (λ (z : List SightView). set all number z) grown ∙ (λ i. set (added i) (at i) (r ++ sight ∷ [])) ∙ with_row-push readers done sight r found
-
 -- readers that have the same seats still do
 pub with_row-replicate : (n : ℕ) (reader : List SightView) (row : List SightView) (sight : SightView) → length row ≡ n → All (λ s. s ≡ sight) row → with_row (replicate n reader) row ≡ replicate n (reader ++ sight ∷ [])
 with_row-replicate zero reader row sight count same = refl
@@ -116,7 +84,7 @@ pub reader-kept : (words : List ChannelNames) (reader : List SightView) (channel
 reader-kept words reader channel before after own read same = map-set_same sight_names reader channel after before (same ∙ ap sight_names read) ∙ own
 
 -- a reader has seats of each channel
-pub reader-at : (words : List ChannelNames) (reader : List SightView) (channel : ℕ) (sight : SightView) → IsReaderOf words reader → channel < length words → sight ≡ get_or reader channel sight → slice_get reader channel ≡ Some sight
-reader-at words reader channel sight own there read =
+pub reader-at : (words : List ChannelNames) (reader inside : List SightView) (channel : ℕ) (d sight : SightView) → inside ≡ reader → IsReaderOf words reader → channel < length words → d ≡ get_or inside channel d → d ≡ sight → slice_get reader channel ≡ Some sight
+reader-at words reader inside channel d sight view own there read is =
     let count = ap (λ (l : List ChannelNames). length l) own in
-    slice_get_read reader (length reader) channel sight refl (omega (arith, there, count, length-map reader sight_names)) read
+    slice_get_read reader (length reader) channel d refl (omega (arith, there, count, length-map reader sight_names)) (read ∙ ap (λ (r : List SightView). get_or r channel d) view) ∙ ap (λ (s : SightView). Some s) is

@@ -1,3 +1,4 @@
+pub mod Adding
 pub mod Opening
 pub mod OwnNodes
 pub mod Lanes

@@ -1,6 +1,6 @@
 -- The inboxes of all executors once they are open, what each executor has of them, and the nodes with which it starts.
 use Rattle.std.specs.Global.{Vec}
-use Rattle.std.specs.Prelude.{◌≡◌, ◌≢◌, ℕ, ◌<◌, Bool, true, false, List, [], ◌∷◌, ◌++◌, length, map, get_or, slice_get, All, Some, None}
+use Rattle.std.specs.Prelude.{◌≡◌, ◌≢◌, ℕ, ◌<◌, ◌^◌, Bool, true, false, List, [], ◌∷◌, ◌++◌, length, map, get_or, slice_get, All, Some, None}
 use Rattle.pl_event.specs.declared.envelopes.Lane.{Lane}
 use Rattle.pl_context.specs.Stops.{HasPlaces, AreAmong, no_stops}
 use Rattle.pl_queue.specs.declared.views.SenderView.{SenderView}
@@ -15,6 +15,7 @@ use Rattle.pl_flow.specs.Flows.{Point, point}
 use Rattle.pl_executor.specs.Admitting.{FewLanes}
 use Rattle.pl_executor.specs.OutboxViews.{OutboxView, waits_for}
 use Rattle.pl_executor.specs.Running.{ExecutorView}
+use Rattle.pl_exec.specs.Adding.{each_with}
 
 -- ---- the lanes
 
@@ -40,6 +41,12 @@ pub record CanOpen (capacity : ℕ) (senders : List (List Lane)) : Type 0 where
   pub apart : Apart (all_lanes senders)
   pub within : opening_fault senders capacity ≡ None
 
+-- So it is with the mailbox of each target, and there are not too many for admissions.
+pub record CanOpenAll (capacity : ℕ) (lanes : LaneTable) : Type 0 where
+  pub square : IsSquare lanes
+  pub few : length lanes < 2 ^ 16
+  pub each : All (CanOpen capacity) lanes
+
 -- ---- what is opened
 
 -- An inbox, as its senders and its owner know it: its mailbox, and the name of its admission.
@@ -58,11 +65,13 @@ pub record WaysView (T S : Type 0) : Type 0 where
   pub owner : OwnerSeatView
   pub ways : List (WayView S)
 
--- one way more for each executor, to the next target
+-- one way more, to the next target
+abbrev pub with_way : {T S : Type 0} → WaysView T S → WayView S → WaysView T S
+with_way w way = record w { ways = w.ways ++ way ∷ [] }
+
+-- so for each executor
 abbrev pub with_row : {T S : Type 0} → List (WaysView T S) → List (WayView S) → List (WaysView T S)
-with_row [] row = []
-with_row (w ∷ ws) [] = w ∷ ws
-with_row (w ∷ ws) (v ∷ vs) = record w { ways = w.ways ++ v ∷ [] } ∷ with_row ws vs
+with_row ws row = each_with with_way ws row
 
 abbrev pub with_rows : {T S : Type 0} → List (WaysView T S) → List (List (WayView S)) → List (WaysView T S)
 with_rows ws [] = ws

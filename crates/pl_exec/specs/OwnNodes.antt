@@ -8,6 +8,7 @@ use Rattle.pl_event.specs.Meaning.{Meaning}
 use Rattle.pl_event.specs.Worlds.{World}
 use Rattle.pl_context.specs.ContextViews.{ContextView}
 use Rattle.pl_context.specs.Standings.{is_over}
+use Rattle.pl_flow.specs.declared.moves.HeadMove.{HeadMove}
 use Rattle.pl_head.specs.Marks.{Change}
 use Rattle.pl_head.specs.Transports.{TransportState}
 use Rattle.pl_head.specs.declared.inputs.ReadPlan.{ReadPlan}
@@ -17,7 +18,7 @@ use Rattle.pl_part.specs.Paths.{context_at, writer_hop}
 use Rattle.pl_part.specs.Parts.{PartView, PartHolds, head_hop, all_over, has_read}
 use Rattle.pl_channel.specs.PlanStand.{PartsKeepPlan}
 use Rattle.pl_executor.specs.Serving.{Served}
-use Rattle.pl_replay.specs.Channels.{MayRead, MayWrite, executor_at, is_hop}
+use Rattle.pl_replay.specs.Channels.{MayMove, executor_at, is_hop}
 use Rattle.pl_world.specs.Plans.{ChannelPlan, Plan, read_plan}
 
 -- ---- where lanes go
@@ -107,26 +108,16 @@ served_of state plan ps c = option_map_or (λ (p : PartView _ _). served_by stat
 -- ---- what is enabled
 
 module _ {S T : Type 0} (state : T → TransportState) where
-  -- Whether the next read step of a channel's head is enabled: none is where the head is elsewhere.
-  pub record MayReadHere (ps : List (PartView S T)) (c : ℕ) (b : Bool) : Type 0 where
-    pub here : MayRead state ps c b
+  -- Whether a move of a channel's head is enabled: none is where the head is elsewhere.
+  pub record MayMoveHere (ps : List (PartView S T)) (by : HeadMove) (c : ℕ) (b : Bool) : Type 0 where
+    pub here : MayMove state ps by c b
     pub elsewhere : (p : PartView S T) → slice_get ps c ≡ Some p → p.head ≡ None → b ≡ false
 
-  -- Whether a write of it is.
-  pub record MayWriteHere (ps : List (PartView S T)) (c : ℕ) (b : Bool) : Type 0 where
-    pub here : MayWrite state ps c b
-    pub elsewhere : (p : PartView S T) → slice_get ps c ≡ Some p → p.head ≡ None → b ≡ false
-
-  -- Whether they are for the channel at a place of this list.
-  pub record MayReadOwn (ps : List (PartView S T)) (own : List ℕ) (at : ℕ) (b : Bool) : Type 0 where
+  -- Whether it is for the channel at a place of this list.
+  pub record MayMoveOwn (ps : List (PartView S T)) (own : List ℕ) (by : HeadMove) (at : ℕ) (b : Bool) : Type 0 where
     pub channel : ℕ
     pub is : slice_get own at ≡ Some channel
-    pub may : MayReadHere ps channel b
-
-  pub record MayWriteOwn (ps : List (PartView S T)) (own : List ℕ) (at : ℕ) (b : Bool) : Type 0 where
-    pub channel : ℕ
-    pub is : slice_get own at ≡ Some channel
-    pub may : MayWriteHere ps channel b
+    pub may : MayMoveHere ps by channel b
 
   -- All nodes of a part have ended or failed; where the head is one of them, no read step and no flushed byte is left.
   pub record IsPartOver (p : PartView S T) : Type 0 where

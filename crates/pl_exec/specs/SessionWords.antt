@@ -10,6 +10,7 @@ use Rattle.pl_words.specs.PromiseViews.{SettleSeatView, ReadSeatView as PromiseS
 use Rattle.pl_words.specs.Watermarks.{HeadSeatView, ReadSeatView as MarkSeatView, Looks, new_head_seat, new_reader as new_mark_seat}
 use Rattle.pl_world.specs.declared.session.Recorded.{Recorded}
 use Rattle.pl_exec.specs.declared.words.TheConstants.{PROMISES}
+use Rattle.pl_exec.specs.Adding.{each_with}
 
 -- which mark and which promises a channel has
 pub record ChannelNames : Type 0 where
@@ -74,11 +75,13 @@ new_sight names = record { mark = new_mark_seat names.mark; promises = new_promi
 abbrev pub new_reader : List ChannelNames → List SightView
 new_reader words = map new_sight words
 
--- the seats of one channel more for each reader
+-- the seats of one channel more
+abbrev pub with_sight : List SightView → SightView → List SightView
+with_sight reader sight = reader ++ sight ∷ []
+
+-- so for each reader
 abbrev pub with_row : List (List SightView) → List SightView → List (List SightView)
-with_row [] row = []
-with_row (reader ∷ readers) [] = reader ∷ readers
-with_row (reader ∷ readers) (sight ∷ row) = (reader ++ sight ∷ []) ∷ with_row readers row
+with_row readers row = each_with with_sight readers row
 
 -- ---- calls
 

@@ -1,11 +1,19 @@
 -- The nodes of an executor whose heads tell the words of their channels.
-use Rattle.std.specs.Prelude.{◌≡◌, ℕ, ◌-◌, ◌<◌, ◌≤◌, List, [], length, map, slice_get, slice_set, Option, Some}
+use Rattle.std.specs.Prelude.{◌≡◌, ℕ, ◌-◌, ◌<◌, ◌≤◌, List, [], length, map, slice_get, slice_set, Option, Some, true}
+use Rattle.pl_channel.specs.Lanes.{world_of}
+use Rattle.pl_event.specs.declared.events.Event.{Event}
+use Rattle.pl_event.specs.Meaning.{Meaning}
+use Rattle.pl_event.specs.Worlds.{World}
 use Rattle.pl_head.specs.Buffers.{untold}
 use Rattle.pl_head.specs.HeadStand.{HeadView}
-use Rattle.pl_part.specs.Parts.{PartView}
+use Rattle.pl_head.specs.Transports.{TransportState}
+use Rattle.pl_part.specs.Parts.{PartView, PartHolds}
 use Rattle.pl_part.specs.Told.{IsTold}
 use Rattle.pl_words.specs.declared.watermark.TheConstants.{MAX_SETS}
 use Rattle.pl_world.specs.Plans.{ChannelPlan, Plan}
+use Rattle.pl_exec.specs.declared.nodes.OwnNodes.{OwnNodes}
+use Rattle.pl_exec.specs.declared.telling.TellingNodes.{TellingNodes}
+use Rattle.pl_exec.specs.OwnNodes.{AreOn, NodesStand, heads_of}
 use Rattle.pl_exec.specs.SessionWords.{ChannelNames, SeatsView, AreSeatsOf, seats_marks}
 
 abbrev pub plan_marks : ChannelPlan → ℕ × ℕ
@@ -26,6 +34,14 @@ pub record AreSeated (words : List ChannelNames) (plan : Plan) (seats : List (Op
   pub count : length seats ≡ length plan.channels
   pub each : (c : ℕ) (s : SeatsView) → slice_get seats c ≡ Some (Some s) → IsSeated words plan c s
 
+-- The nodes of an executor with seats on the words of their channels.
+abbrev pub HaveSeats : {S T : Type 0} → Plan → TellingNodes S T → Type 0
+HaveSeats plan n = AreSeated n.words.now plan n.seats.items
+
+-- They know which channels have a node here.
+abbrev pub KnowChannels : {S T : Type 0} → TellingNodes S T → Type 0
+KnowChannels n = AreOn (λ p. p.path.executors) n.nodes.parts.items n.nodes.number n.here.items
+
 -- The head of a channel has told some of its settled writes, or none. All else is as it was.
 pub record IsToldAt {S T : Type 0} (ps : List (PartView S T)) (c : ℕ) (ps' : List (PartView S T)) : Type 0 where
   pub before : PartView S T
@@ -33,6 +49,20 @@ pub record IsToldAt {S T : Type 0} (ps : List (PartView S T)) (c : ℕ) (ps' : L
   pub was : slice_get ps c ≡ Some before
   pub becomes : ps' ≡ slice_set ps c after
   pub told : IsTold before after
+
+-- The head of a channel of an executor's nodes has. All else is as it was.
+pub record AreToldAt {S T : Type 0} (n : OwnNodes S T) (c : ℕ) (n' : OwnNodes S T) : Type 0 where
+  pub number : n'.number ≡ n.number
+  pub refused : n'.was_refused ≡ n.was_refused
+  pub own : n'.own ≡ n.own
+  pub parts : IsToldAt n.parts.items c n'.parts.items
+
+-- Seats on the words of a channel, with the marks of its head, where that is one of the nodes of this part.
+pub record CanTell {S T : Type 0} (meaning : S → Meaning) (stands_after : S → List Event → Type 0) (state : T → TransportState) (words : List ChannelNames) (c : ℕ) (s : SeatsView) (p : PartView S T) : Type 0 where
+  pub own : AreSeatsOf words c s
+  pub holds : (world : World) × PartHolds world meaning stands_after state p
+  pub marks : (h : HeadView T) → p.head ≡ Some h → (s.mark.low ≡ h.buffer.low) × (s.mark.high ≡ h.buffer.high)
+  pub ordered : s.mark.low ≤ s.mark.high
 
 -- The mark says what is pending at a head and whether its channel is unwritable, as long as it may be set once more; and the
 -- head has told of each of its settled writes.
@@ -44,3 +74,16 @@ pub record Tells {T : Type 0} (s : SeatsView) (h : HeadView T) : Type 0 where
 -- So it is with the seats of a channel and its head, where both are here.
 abbrev pub TellsAt : {S T : Type 0} → List (Option SeatsView) → List (PartView S T) → ℕ → Type 0
 TellsAt seats ps c = (s : SeatsView) (p : PartView _ _) (h : HeadView _) → slice_get seats c ≡ Some (Some s) → slice_get ps c ≡ Some p → p.head ≡ Some h → Tells s h
+
+-- ---- what holds between two calls
+
+module _ {S T : Type 0} (world : World) (plan : Plan) (meaning : S → Meaning) (stands_after : S → List Event → Type 0) (state : T → TransportState) where
+  abbrev pub OwnStand : OwnNodes S T → Type 0
+  OwnStand n = (world ≡ world_of true plan) × NodesStand world plan meaning stands_after state n.number n.was_refused n.parts.items × (n.own.items ≡ heads_of n.parts.items)
+
+  abbrev pub TellingStand : TellingNodes S T → Type 0
+  TellingStand n = (world ≡ world_of true plan)
+      × NodesStand world plan meaning stands_after state n.nodes.number n.nodes.was_refused n.nodes.parts.items
+      × (n.nodes.own.items ≡ heads_of n.nodes.parts.items)
+      × AreSeated n.words.now plan n.seats.items
+      × AreOn (λ p. p.executors) plan.channels n.nodes.number n.here.items

@@ -24,7 +24,11 @@ pub(crate) fn lane_table<S: Stage, T: Transport>(
     let lanes = every_lane(alloc, parts)?;
     let mut table = Vec::with_capacity(alloc, count)?;
     for target in 0..count {
-        table.push(lanes_to(alloc, parts, lanes.as_slice(), count, target)?)?;
+        let mut senders = Vec::with_capacity(alloc, count)?;
+        for sender in 0..count {
+            senders.push(lanes_between(alloc, parts, lanes.as_slice(), sender, target)?)?;
+        }
+        table.push(senders)?;
     }
     Ok(table)
 }
@@ -74,25 +78,6 @@ fn add_hop(lanes: &mut Vec<Lane>, channel: u16, hops: u16, hop: u16) -> Result<(
         })?;
     }
     Ok(())
-}
-
-/// For each sender the lanes from it to a target.
-fn lanes_to<S: Stage, T: Transport>(
-    alloc: Global,
-    parts: &[ChannelPart<S, T>],
-    lanes: &[Lane],
-    count: usize,
-    target: usize,
-) -> Result<Vec<Vec<Lane>>, AllocError>
-    requires laid { AreLaid parts.now }
-    requires lanes { All (λ lane. is_lane parts.now lane ≡ true) lanes.now }
-    ensures { IfOk result (λ senders. map (λ sender. sender.items) senders.items ≡ map (λ sender. filter (crosses parts.now sender target) lanes.now) (range_with_len 0 count)) }
-{
-    let mut senders = Vec::with_capacity(alloc, count)?;
-    for sender in 0..count {
-        senders.push(lanes_between(alloc, parts, lanes, sender, target)?)?;
-    }
-    Ok(senders)
 }
 
 /// Of these lanes those from one executor to another.

@@ -1,8 +1,8 @@
 //! The nodes of an executor.
 
 ghost use Rattle.std.specs.Prelude.{◌≡◌, ◌<◌, ◌^◌, ◌||◌, ◌&&◌, All, length, get_or, slice_get, Some, ℕ, true, false};
-ghost use Rattle.pl_exec.specs.OwnNodes.{NodesStand, HasGivenUp, MayReadOwn, MayWriteOwn, AreOver, IsOverAt, IsPartOver, enters, served_of, heads_of, target_of};
-ghost use Rattle.pl_channel.specs.Lanes.{world_of};
+ghost use Rattle.pl_exec.specs.OwnNodes.{HasGivenUp, MayMoveOwn, AreOver, IsOverAt, IsPartOver, enters, served_of, target_of};
+ghost use Rattle.pl_exec.specs.Telling.{OwnStand};
 ghost use Rattle.pl_part.specs.Parts.{PartView, PartHolds};
 ghost use Rattle.pl_replay.specs.Channels.{came_of, taken_of, writes_of};
 ghost use Rattle.pl_replay.specs.Channels.{lanes_of as data_lanes_of};
@@ -12,7 +12,8 @@ use crate::planned::Planned;
 use pl_context::Outputs;
 use pl_event::{Envelope, Kind, Lane, Stage};
 use pl_executor::Part;
-use pl_head::{OutStep, ReadStep, Transport};
+use pl_flow::HeadMove;
+use pl_head::Transport;
 use pl_part::ChannelPart;
 
 /// No executor has this number.
@@ -51,15 +52,13 @@ impl<W: Planned, S: Stage, T: Transport> Part<W> for OwnNodes<S, T> {
 
     ghost channel_at = { λ n at. get_or n.own.items at 0 };
 
-    ghost may_read = { λ n at answer. MayReadOwn T.state n.parts.items n.own.items at answer };
-
-    ghost may_write = { λ n at answer. MayWriteOwn T.state n.parts.items n.own.items at answer };
+    ghost may_move = { λ n by at answer. MayMoveOwn T.state n.parts.items n.own.items by at answer };
 
     ghost served = { λ n c. served_of T.state W.plan n.parts.items c };
 
     ghost are_over = { λ n. AreOver T.state n.parts.items };
 
-    ghost stands = { λ n. (W.world ≡ world_of true W.plan) × NodesStand W.world W.plan S.meaning S.stands_after T.state n.number n.was_refused n.parts.items × (n.own.items ≡ heads_of n.parts.items) };
+    ghost stands = { OwnStand W.world W.plan S.meaning S.stands_after T.state };
 
     fn target(&self, lane: Lane) -> usize {
         match self.parts.get(lane.channel as usize) {
@@ -84,14 +83,9 @@ impl<W: Planned, S: Stage, T: Transport> Part<W> for OwnNodes<S, T> {
         self.own.len()
     }
 
-    fn read(&mut self, at: usize, work: &mut Outputs) -> bool {
+    fn move_head(&mut self, by: HeadMove, at: usize, work: &mut Outputs) -> bool {
         let channel = self.own[at];
-        self.parts[channel].next_read(work) == ReadStep::Gave
-    }
-
-    fn write(&mut self, at: usize, work: &mut Outputs) -> bool {
-        let channel = self.own[at];
-        !matches!(self.parts[channel].write_once(work), OutStep::Idle)
+        self.parts[channel].move_head(by, work)
     }
 
     fn has_ended(&self) -> bool {

@@ -1,7 +1,7 @@
 //! The inboxes of all executors, and the executors before their first turn.
 
 ghost use Rattle.std.specs.Prelude.{◌≡◌, ◌<◌, ◌^◌, ◌∷◌, ◌++◌, ℕ, [], length, map, slice_get, All, IfOk, OnOk, Some};
-ghost use Rattle.pl_exec.specs.Opening.{lanes_in, IsSquare, CanOpen, InboxView, IsOwn, IsRow, AreRows, AreOpened, with_row, with_rows, outbox_of, AreWays, Starts, CanStart, IsFirst};
+ghost use Rattle.pl_exec.specs.Opening.{lanes_in, CanOpen, CanOpenAll, InboxView, IsOwn, IsRow, AreRows, AreOpened, with_row, with_rows, outbox_of, AreWays, Starts, CanStart, IsFirst};
 ghost use Rattle.pl_executor.specs.Running.{ExecutorView};
 
 use crossbeam_utils::sync::Parker;
@@ -177,9 +177,7 @@ pub(crate) fn open_all<W: Named, M: Mailbox<W> + Drop>(
 where
     M::Sender: Drop,
     M::Taker: Drop,
-    requires square { IsSquare (lanes_in lanes.items) }
-    requires few { length lanes.items < 2 ^ 16 }
-    requires open { All (CanOpen capacity) (lanes_in lanes.items) }
+    requires { CanOpenAll capacity (lanes_in lanes.items) }
     ensures opened { IfOk result (λ r. AreOpened M.is_taker M.takes_of M.is_sender M.sends_of (lanes_in lanes.items) (map (λ i. record { mailbox = i.mailbox; name = i.admission.name }) r.0.items) r.1.items) }
     ensures capacity { IfOk result (λ r. All (λ i. M.capacity_of i.mailbox ≡ capacity) r.0.items) }
 {
@@ -197,9 +195,7 @@ fn open_each<W: Named, M: Mailbox<W> + Drop>(
 where
     M::Sender: Drop,
     M::Taker: Drop,
-    requires square { IsSquare (lanes_in lanes.items) }
-    requires few { length lanes.items < 2 ^ 16 }
-    requires open { All (CanOpen capacity) (lanes_in lanes.items) }
+    requires { CanOpenAll capacity (lanes_in lanes.items) }
     ensures rows { IfOk result (λ r. AreRows M.is_taker M.takes_of M.is_sender M.sends_of (lanes_in lanes.items) (lanes_in lanes.items) (map (λ i. record { mailbox = i.mailbox; name = i.admission.name }) r.0.items) r.1.items (map (λ row. row.items) r.2.items)) }
     ensures capacity { IfOk result (λ r. All (λ i. M.capacity_of i.mailbox ≡ capacity) r.0.items) }
 {

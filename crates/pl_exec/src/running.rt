@@ -7,8 +7,8 @@ ghost use Rattle.pl_world.specs.Plans.{planned};
 ghost use Rattle.pl_world.specs.Sessions.{plan_of};
 ghost use Rattle.pl_exec.specs.Reported.{IsRunReport};
 ghost use Rattle.pl_exec.specs.SessionWords.{AreHeadSeatsOf, HaveMarksOf};
-ghost use Rattle.pl_exec.specs.Telling.{HaveMarks};
 ghost use Rattle.pl_exec.specs.Starting.{AreReady};
+ghost use Rattle.pl_exec.specs.Telling.{HaveMarks};
 
 use crate::lanes::lane_table;
 use crate::opening::{executors, open_all};
@@ -76,7 +76,14 @@ pub fn run_with<G: Gate + Sync, R: Threads + Wait + Sync>(
     ensures entered { IfOk result (λ _. (e : ℕ) → e < session.world.executors → G.was_entered gate.now e 0) }
 {
     let Session { world, capacity } = session;
-    run_world_with(rt, alloc, world, capacity, queue, gate, words, seats)
+    let given = Setting {
+        rt,
+        alloc,
+        gate,
+        words,
+        seats,
+    };
+    run_world_with(world, capacity, queue, given)
 }
 
 /// Runs a world of any stages and transports, whose queues hold `capacity` items each, from 1 to `MAX_CAPACITY`.
@@ -93,27 +100,41 @@ pub fn run_world<S: Stage + Send, T: Transport + Send, G: Gate + Sync, R: Thread
     ensures entered { IfOk result (λ _. (e : ℕ) → e < world.executors → G.was_entered gate.now e 0) }
 {
     let (words, seats, _none) = words_of(alloc, world.channels(), 0)?;
-    run_world_with(rt, alloc, world, capacity, queue, gate, &words, seats)
+    let own = Setting {
+        rt,
+        alloc,
+        gate,
+        words: &words,
+        seats,
+    };
+    run_world_with(world, capacity, queue, own)
+}
+
+/// What a run has beside its channels: the threads, the memory, the gate, and the words that its heads tell, with the
+/// right to change them.
+#[derive(Drop)]
+struct Setting<'a, G, R> {
+    rt: &'a R,
+    alloc: Global,
+    gate: &'a G,
+    words: &'a Words,
+    seats: HeadSeats,
 }
 
 /// Runs a world whose heads tell these words.
 fn run_world_with<S: Stage + Send, T: Transport + Send, G: Gate + Sync, R: Threads + Wait + Sync>(
-    rt: &R,
-    alloc: Global,
     world: World<S, T>,
     capacity: u32,
     queue: QueueKind,
-    gate: &G,
-    words: &Words,
-    seats: HeadSeats,
+    setting: Setting<'_, G, R>,
 ) -> Result<Report, RunFault>
     requires capacity { (1 ≤ capacity) × (capacity ≤ MAX_CAPACITY) }
-    requires seats { AreHeadSeatsOf words.now seats }
-    requires marks { HaveMarksOf seats world.channels }
+    requires seats { AreHeadSeatsOf setting.words.now setting.seats }
+    requires marks { HaveMarksOf setting.seats world.channels }
     ensures report { IfOk result (λ report. IsRunReport (planned S.meaning T.state capacity world.executors world.channels) report) }
-    ensures entered { IfOk result (λ _. (e : ℕ) → e < world.executors → G.was_entered gate.now e 0) }
+    ensures entered { IfOk result (λ _. (e : ℕ) → e < world.executors → G.was_entered setting.entry.gate.now e 0) }
 {
-    run_queued::<Brand, S, T, G, R>(rt, alloc, world, capacity, queue, gate, words, seats)
+    run_queued::<Brand, S, T, G, R>(world, capacity, queue, setting)
 }
 
 /// Runs the world of the plan over queues of this kind.
@@ -124,34 +145,26 @@ fn run_queued<
     G: Gate + Sync,
     R: Threads + Wait + Sync,
 >(
-    rt: &R,
-    alloc: Global,
     world: World<S, T>,
     capacity: u32,
     queue: QueueKind,
-    gate: &G,
-    words: &Words,
-    seats: HeadSeats,
+    setting: Setting<'_, G, R>,
 ) -> Result<Report, RunFault>
-    requires capacity { (1 ≤ capacity) × (capacity ≤ MAX_CAPACITY) }
     requires world { W.world ≡ world_of true W.plan }
     requires plan { W.plan ≡ planned S.meaning T.state capacity world.executors world.channels }
-    requires seats { AreHeadSeatsOf words.now seats }
-    requires marks { HaveMarksOf seats world.channels }
+    requires capacity { (1 ≤ capacity) × (capacity ≤ MAX_CAPACITY) }
+    requires seats { AreHeadSeatsOf setting.words.now setting.seats }
+    requires marks { HaveMarksOf setting.seats world.channels }
     ensures report { IfOk result (λ report. IsRunReport W.plan report) }
-    ensures entered { IfOk result (λ _. (e : ℕ) → e < W.plan.executors → G.was_entered gate.now e 0) }
+    ensures entered { IfOk result (λ _. (e : ℕ) → e < W.plan.executors → G.was_entered setting.entry.gate.now e 0) }
 {
     match queue {
-        QueueKind::Waiting => {
-            run_by::<W, WaitingBox<W>, S, T, G, R>(rt, alloc, world, capacity, gate, words, seats)
-        }
-        QueueKind::Ring => {
-            run_by::<W, RingBox<W>, S, T, G, R>(rt, alloc, world, capacity, gate, words, seats)
-        }
+        QueueKind::Waiting => { run_by::<W, WaitingBox<W>, S, T, G, R>(world, capacity, setting) }
+        QueueKind::Ring => run_by::<W, RingBox<W>, S, T, G, R>(world, capacity, setting),
     }
 }
 
-/// Runs a world over mailboxes of one kind.
+/// The same over mailboxes of one kind.
 fn run_by<
     W: Planned + Send + Sync,
     M: Mailbox<W> + Drop + Send + Sync,
@@ -159,38 +172,21 @@ fn run_by<
     T: Transport + Send,
     G: Gate + Sync,
     R: Threads + Wait + Sync,
->(
-    rt: &R,
-    alloc: Global,
-    world: World<S, T>,
-    capacity: u32,
-    gate: &G,
-    words: &Words,
-    seats: HeadSeats,
-) -> Result<Report, RunFault>
+>(world: World<S, T>, capacity: u32, setting: Setting<'_, G, R>) -> Result<Report, RunFault>
 where
     M::Sender: Drop + Send,
     M::Taker: Drop + Send,
-    requires capacity { (1 ≤ capacity) × (capacity ≤ MAX_CAPACITY) }
     requires world { W.world ≡ world_of true W.plan }
     requires plan { W.plan ≡ planned S.meaning T.state capacity world.executors world.channels }
-    requires seats { AreHeadSeatsOf words.now seats }
-    requires marks { HaveMarksOf seats world.channels }
+    requires capacity { (1 ≤ capacity) × (capacity ≤ MAX_CAPACITY) }
+    requires seats { AreHeadSeatsOf setting.words.now setting.seats }
+    requires marks { HaveMarksOf setting.seats world.channels }
     ensures report { IfOk result (λ report. IsRunReport W.plan report) }
-    ensures entered { IfOk result (λ _. (e : ℕ) → e < W.plan.executors → G.was_entered gate.now e 0) }
+    ensures entered { IfOk result (λ _. (e : ℕ) → e < W.plan.executors → G.was_entered setting.entry.gate.now e 0) }
 {
     let count = world.executors() as usize;
-    let parts = placed(alloc, world.into_channels().into_vec())?;
-    run_parts::<W, M, S, T, G, R>(
-        rt,
-        alloc,
-        parts,
-        count,
-        capacity as usize,
-        gate,
-        words,
-        seats,
-    )
+    let parts = placed(setting.alloc, world.into_channels().into_vec())?;
+    run_parts::<W, M, S, T, G, R>(parts, count, capacity as usize, setting)
 }
 
 /// Runs the channels of the plan on so many executors, with queues of this capacity.
@@ -202,14 +198,10 @@ fn run_parts<
     G: Gate + Sync,
     R: Threads + Wait + Sync,
 >(
-    rt: &R,
-    alloc: Global,
     parts: Vec<ChannelPart<S, T>>,
     count: usize,
     capacity: usize,
-    gate: &G,
-    words: &Words,
-    seats: HeadSeats,
+    setting: Setting<'_, G, R>,
 ) -> Result<Report, RunFault>
 where
     M::Sender: Drop + Send,
@@ -218,13 +210,20 @@ where
     requires ready { AreReady S.meaning S.stands_after T.state W.plan parts.items }
     requires executors { count ≡ W.plan.executors }
     requires capacity { capacity ≡ W.plan.capacity }
-    requires seats { AreHeadSeatsOf words.now seats }
-    requires marks { HaveMarks seats W.plan.channels }
+    requires seats { AreHeadSeatsOf setting.words.now setting.seats }
+    requires marks { HaveMarks setting.seats W.plan.channels }
     ensures report { IfOk result (λ report. IsRunReport W.plan report) }
-    ensures entered { IfOk result (λ _. (e : ℕ) → e < W.plan.executors → G.was_entered gate.now e 0) }
+    ensures entered { IfOk result (λ _. (e : ℕ) → e < W.plan.executors → G.was_entered setting.entry.gate.now e 0) }
 {
+    let Setting {
+        rt,
+        alloc,
+        gate,
+        words,
+        seats,
+    } = setting;
     let channels = parts.len();
-    let places = places(alloc, count, parts.as_slice())?;
+    let places = places(alloc, parts.as_slice(), count)?;
     let lanes = lane_table(alloc, parts.as_slice(), count)?;
     let own = shares(alloc, parts, count)?;
     let nodes = telling::<W, S, T>(alloc, words, seats, own)?;

@@ -1,8 +1,8 @@
 //! The nodes of all channels, each at its executor.
 
-ghost use Rattle.std.specs.Prelude.{◌≡◌, ◌<◌, ◌^◌, ◌∷◌, ◌++◌, [], cond, length, All, Contains, IfOk, OnOk};
+ghost use Rattle.std.specs.Prelude.{◌≡◌, ◌∷◌, ◌++◌, [], cond, length, Contains, IfOk, OnOk};
 ghost use Rattle.std.specs.Bool.{Decides};
-ghost use Rattle.pl_replay.specs.Placed.{HasExecutors, all_lanes};
+ghost use Rattle.pl_replay.specs.Placed.{ArePlaceable};
 ghost use Rattle.pl_exec.specs.OwnNodes.{AreOn};
 ghost use Rattle.pl_exec.specs.Sharing.{AreShared, Gets, EachGets, places_of};
 
@@ -116,11 +116,10 @@ fn is_on<S: Stage, T: Transport>(part: &ChannelPart<S, T>, number: usize) -> boo
 /// The places of each executor.
 pub(crate) fn places<S: Stage, T: Transport>(
     alloc: Global,
-    count: usize,
     parts: &[ChannelPart<S, T>],
+    count: usize,
 ) -> Result<Vec<Places>, AllocError>
-    requires few { length (all_lanes parts.now) < 2 ^ 16 }
-    requires hops { All HasExecutors parts.now }
+    requires { ArePlaceable parts.now }
     ensures { IfOk result (λ places. places.items ≡ places_of parts.now count) }
 {
     let work = lane_count(parts);

@@ -1,7 +1,6 @@
 //! The nodes of an executor, whose heads tell the words of their channels what becomes of writes.
 
 ghost use Rattle.std.specs.Prelude.{◌≡◌, ◌-◌, ◌<◌, ◌≤◌, ◌⊎◌, ℕ, [], length, get_or, map, All, IfOk, Some, None, true};
-ghost use Rattle.pl_channel.specs.Lanes.{world_of};
 ghost use Rattle.pl_event.specs.Worlds.{World};
 ghost use Rattle.pl_head.specs.HeadStand.{HeadView};
 ghost use Rattle.pl_part.specs.Parts.{PartHolds};
@@ -10,9 +9,9 @@ ghost use Rattle.pl_replay.specs.Channels.{came_of, taken_of, writes_of};
 ghost use Rattle.pl_replay.specs.Channels.{lanes_of as data_lanes_of};
 ghost use Rattle.pl_world.specs.Plans.{Plan};
 ghost use Rattle.pl_world.specs.PlanRules.{IsPlan};
-ghost use Rattle.pl_exec.specs.OwnNodes.{NodesStand, HasGivenUp, MayReadOwn, MayWriteOwn, AreOn, AreOver, heads_of, served_of, target_of};
+ghost use Rattle.pl_exec.specs.OwnNodes.{NodesStand, HasGivenUp, MayMoveOwn, AreOver, served_of, target_of};
 ghost use Rattle.pl_exec.specs.SessionWords.{AreSeatsOf, AreHeadSeatsOf, told};
-ghost use Rattle.pl_exec.specs.Telling.{AreSeated, IsToldAt, HaveMarks, Tells, TellsAt};
+ghost use Rattle.pl_exec.specs.Telling.{AreSeated, AreToldAt, CanTell, HaveMarks, HaveSeats, KnowChannels, TellingStand, Tells, TellsAt};
 
 use crate::nodes::{OwnNodes, are_over_at};
 use crate::planned::Planned;
@@ -21,6 +20,7 @@ use crate::words::{HeadSeats, Seats, Words};
 use pl_context::Outputs;
 use pl_event::{Envelope, Lane, Stage};
 use pl_executor::Part;
+use pl_flow::HeadMove;
 use pl_head::Transport;
 use pl_part::ChannelPart;
 use pl_words::watermark::MAX_SETS;
@@ -60,19 +60,13 @@ impl<'a, W: Planned, S: Stage, T: Transport> Part<W> for TellingNodes<'a, S, T> 
 
     ghost tells = { λ n c. TellsAt n.seats.items n.nodes.parts.items c };
 
-    ghost may_read = { λ n at answer. MayReadOwn T.state n.nodes.parts.items n.nodes.own.items at answer };
-
-    ghost may_write = { λ n at answer. MayWriteOwn T.state n.nodes.parts.items n.nodes.own.items at answer };
+    ghost may_move = { λ n by at answer. MayMoveOwn T.state n.nodes.parts.items n.nodes.own.items by at answer };
 
     ghost served = { λ n c. served_of T.state W.plan n.nodes.parts.items c };
 
     ghost are_over = { λ n. AreOver T.state n.nodes.parts.items };
 
-    ghost stands = { λ n. (W.world ≡ world_of true W.plan)
-        × NodesStand W.world W.plan S.meaning S.stands_after T.state n.nodes.number n.nodes.was_refused n.nodes.parts.items
-        × (n.nodes.own.items ≡ heads_of n.nodes.parts.items)
-        × AreSeated n.words.now W.plan n.seats.items
-        × AreOn (λ p. p.executors) W.plan.channels n.nodes.number n.here.items };
+    ghost stands = { TellingStand W.world W.plan S.meaning S.stands_after T.state };
 
     fn target(&self, lane: Lane) -> usize {
         <OwnNodes<S, T> as Part<W>>::target(&self.nodes, lane)
@@ -92,17 +86,8 @@ impl<'a, W: Planned, S: Stage, T: Transport> Part<W> for TellingNodes<'a, S, T> 
         <OwnNodes<S, T> as Part<W>>::channels(&self.nodes)
     }
 
-    fn read(&mut self, at: usize, work: &mut Outputs) -> bool {
-        if !<OwnNodes<S, T> as Part<W>>::read(&mut self.nodes, at, work) {
-            return false;
-        }
-        let channel = self.nodes.own[at];
-        self.tell(channel);
-        true
-    }
-
-    fn write(&mut self, at: usize, work: &mut Outputs) -> bool {
-        if !<OwnNodes<S, T> as Part<W>>::write(&mut self.nodes, at, work) {
+    fn move_head(&mut self, by: HeadMove, at: usize, work: &mut Outputs) -> bool {
+        if !<OwnNodes<S, T> as Part<W>>::move_head(&mut self.nodes, by, at, work) {
             return false;
         }
         let channel = self.nodes.own[at];
@@ -121,11 +106,8 @@ impl<'a, S: Stage, T: Transport> TellingNodes<'a, S, T> {
         requires there { channel < length self.old.nodes.parts.items }
         requires stand { (world : World) × (plan : Plan) × AreSeated self.old.words.now plan self.old.seats.items
             × NodesStand world plan S.meaning S.stands_after T.state self.old.nodes.number self.old.nodes.was_refused self.old.nodes.parts.items }
-        ensures number { self.new.nodes.number ≡ self.old.nodes.number }
-        ensures refused { self.new.nodes.was_refused ≡ self.old.nodes.was_refused }
-        ensures own { self.new.nodes.own ≡ self.old.nodes.own }
+        ensures told { AreToldAt self.old.nodes channel self.new.nodes }
         ensures here { self.new.here ≡ self.old.here }
-        ensures told { IsToldAt self.old.nodes.parts.items channel self.new.nodes.parts.items }
         ensures seated { (plan : Plan) → AreSeated self.old.words.now plan self.old.seats.items → AreSeated self.new.words.now plan self.new.seats.items }
         ensures tells { TellsAt self.new.seats.items self.new.nodes.parts.items channel }
     {
@@ -142,10 +124,7 @@ fn tell<S: Stage, T: Transport>(
     seats: &mut Seats,
     part: &mut ChannelPart<S, T>,
 )
-    requires own { AreSeatsOf words.now channel seats.old }
-    requires holds { (world : World) × PartHolds world S.meaning S.stands_after T.state part.old }
-    requires marks { (h : HeadView T) → part.old.head ≡ Some h → (seats.old.mark.low ≡ h.buffer.low) × (seats.old.mark.high ≡ h.buffer.high) }
-    requires ordered { seats.old.mark.low ≤ seats.old.mark.high }
+    requires { CanTell S.meaning S.stands_after T.state words.now channel seats.old part.old }
     ensures own { AreSeatsOf words.now channel seats.new }
     ensures mark { (h : HeadView T) → part.old.head ≡ Some h → seats.new.mark ≡ told seats.old.mark h.buffer.pending h.buffer.is_unwritable }
     ensures same { (seats.new.mark.low ≡ seats.old.mark.low) × (seats.new.mark.high ≡ seats.old.mark.high) }
@@ -164,10 +143,7 @@ fn set_mark<S: Stage, T: Transport>(
     seats: &mut Seats,
     part: &ChannelPart<S, T>,
 )
-    requires own { AreSeatsOf words.now channel seats.old }
-    requires holds { (world : World) × PartHolds world S.meaning S.stands_after T.state part.now }
-    requires marks { (h : HeadView T) → part.now.head ≡ Some h → (seats.old.mark.low ≡ h.buffer.low) × (seats.old.mark.high ≡ h.buffer.high) }
-    requires ordered { seats.old.mark.low ≤ seats.old.mark.high }
+    requires { CanTell S.meaning S.stands_after T.state words.now channel seats.old part.now }
     ensures own { AreSeatsOf words.now channel seats.new }
     ensures mark { (h : HeadView T) → part.now.head ≡ Some h → seats.new.mark ≡ told seats.old.mark h.buffer.pending h.buffer.is_unwritable }
     ensures same { (seats.new.mark.low ≡ seats.old.mark.low) × (seats.new.mark.high ≡ seats.old.mark.high) }
@@ -208,8 +184,8 @@ pub(crate) fn telling<'a, W: Planned, S: Stage, T: Transport>(
     requires seats { AreHeadSeatsOf words.now seats }
     requires marks { HaveMarks seats W.plan.channels }
     ensures nodes { IfOk result (λ all. map (λ n. n.nodes) all.items ≡ nodes.items) }
-    ensures seated { IfOk result (λ all. All (λ n. AreSeated n.words.now W.plan n.seats.items) all.items) }
-    ensures here { IfOk result (λ all. All (λ n. AreOn (λ p. p.path.executors) n.nodes.parts.items n.nodes.number n.here.items) all.items) }
+    ensures seated { IfOk result (λ all. All (HaveSeats W.plan) all.items) }
+    ensures here { IfOk result (λ all. All KnowChannels all.items) }
 {
     let mut left = undealt(alloc, seats)?;
     let mut all = Vec::with_capacity(alloc, nodes.len())?;

@@ -1,8 +1,8 @@
 use Rattle.std.specs.Global.{Vec}
 use Rattle.std.proofs.Common.{◌≡◌, ◌∷◌, List, length, map, ap, sym, ◌∙◌}
 use Rattle.std.proofs.lemmas.List.Elements.{All-head, All-tail, All-same, All-weaker}
-use Rattle.pl_exec.specs.Opening.{WayView, WaysView, with_rows}
-use Rattle.pl_exec.proofs.RowLemmas.{with_row-count}
+use Rattle.pl_exec.specs.Opening.{WayView, WaysView, with_way, with_rows}
+use Rattle.pl_exec.proofs.EachWith.{added-count}
 use Rattle.pl_exec.proofs.opening.add_rows.Goals as goal
 
 pub add_row-requires : goal.add_row-requires
@@ -18,7 +18,7 @@ loop-row-preserved g c =
     let P = λ (r : Vec (WayView g.row.M-Sender.Denot)). length r.items ≡ length all in
     let Q = λ (r : Vec (WayView g.row.M-Sender.Denot)). length r.items ≡ length c.add_row.new.all.items in
     let items = λ (r : Vec (WayView g.row.M-Sender.Denot)). r.items in
-    let same = ap (λ (l : List (WaysView g.row.M-Taker.Denot g.row.M-Sender.Denot)). length l) c.in_ok-add_row.ensures ∙ with_row-count all row.items in
+    let same = ap (λ (l : List (WaysView g.row.M-Taker.Denot g.row.M-Sender.Denot)). length l) c.in_ok-add_row.ensures ∙ added-count with_way all row.items in
     record {
       rest =
           ap (λ (l : List (WaysView g.row.M-Taker.Denot g.row.M-Sender.Denot)). with_rows l (map items rest)) c.in_ok-add_row.ensures

@@ -19,12 +19,12 @@ pub open-requires-clause-few : goal.open-requires-clause-few
 open-requires-clause-few g c =
     let found = next-senders c.args.lanes.items c.loop-senders.yielded c.loop-senders.senders-iterator.rest.items c.next.new.self.rest.items c.in-Some.senders c.loop-senders.invariant.rest c.in-Some.ensures.steps.0 in
     let whole = whole-senders c.args.lanes.items (length c.loop-senders.yielded) c.in-Some.senders c.requires.square found in
-    omega (arith, whole.0, c.requires.few)
+    omega (arith, whole.0, c.requires.few, length-map c.args.lanes.items senders_in)
 
 pub open-requires-clause-open : goal.open-requires-clause-open
 open-requires-clause-open g c =
     let found = next-senders c.args.lanes.items c.loop-senders.yielded c.loop-senders.senders-iterator.rest.items c.next.new.self.rest.items c.in-Some.senders c.loop-senders.invariant.rest c.in-Some.ensures.steps.0 in
-    All-at (λ (senders : List (List Lane)). CanOpen c.args.capacity senders) (lanes_in c.args.lanes.items) (length c.loop-senders.yielded) (senders_in c.in-Some.senders) c.requires.open found
+    All-at (λ (senders : List (List Lane)). CanOpen c.args.capacity senders) (lanes_in c.args.lanes.items) (length c.loop-senders.yielded) (senders_in c.in-Some.senders) c.requires.each found
 
 pub loop-senders-preserved : goal.loop-senders-preserved
 loop-senders-preserved g c =

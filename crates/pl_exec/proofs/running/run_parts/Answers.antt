@@ -2,45 +2,31 @@ use Rattle.std.proofs.Common.{◌<◌, ◌^◌, List, length, map, ap, sym, ◌�
 use Rattle.std.specs.Prelude.{All}
 use Rattle.std.proofs.lemmas.List.{length-map}
 use Rattle.pl_part.specs.Parts.{PartView}
-use Rattle.pl_replay.specs.Placed.{HasExecutors, all_lanes}
+use Rattle.pl_replay.specs.Placed.{ArePlaceable}
 use Rattle.pl_executor.specs.declared.inbox.Inbox.{Inbox}
 use Rattle.pl_exec.specs.declared.nodes.OwnNodes.{OwnNodes}
 use Rattle.pl_exec.specs.Lanes.{AreLaid, lane_table}
 use Rattle.pl_exec.specs.Opening.{InboxView, AreOpened, lanes_in}
 use Rattle.pl_exec.specs.Sharing.{places_of}
-use Rattle.pl_exec.proofs.Ready.{ready-count, ready-few, ready-hops, ready-laid, ready-square, ready-executors, ready-open, ready-start, executors-in-order, first-turns}
+use Rattle.pl_exec.proofs.Ready.{ready-count, ready-placeable, ready-laid, ready-executors, ready-open, ready-start, executors-in-order, first-turns}
 use Rattle.pl_exec.proofs.TellingStart.{telling-start}
 use Rattle.pl_exec.proofs.running.run_parts.Goals as goal
 
 pub telling-requires-clause-plan : goal.telling-requires-clause-plan
 telling-requires-clause-plan g c = c.requires.ready.ruled
 
-pub places-requires-clause-few : goal.places-requires-clause-few
-places-requires-clause-few g c =
-    subst (λ (l : List (PartView g.row.S.Denot g.row.T.Denot)). length (all_lanes l) < 2 ^ 16) (sym c.as_slice.ensures.value)
-    (ready-few g.S.Stage.meaning g.S.Stage.stands_after g.T.Transport.state g.W.Planned.plan c.args.parts.items c.requires.ready)
-
-pub places-requires-clause-hops : goal.places-requires-clause-hops
-places-requires-clause-hops g c =
-    subst (λ (l : List (PartView g.row.S.Denot g.row.T.Denot)). All HasExecutors l) (sym c.as_slice.ensures.value)
-    (ready-hops g.S.Stage.meaning g.S.Stage.stands_after g.T.Transport.state g.W.Planned.plan c.args.parts.items c.requires.ready)
+pub places-requires : goal.places-requires
+places-requires g c =
+    subst (λ (l : List (PartView g.row.S.Denot g.row.T.Denot)). ArePlaceable l) (sym c.as_slice.ensures.value)
+    (ready-placeable g.S.Stage.meaning g.S.Stage.stands_after g.T.Transport.state g.W.Planned.plan c.args.parts.items c.requires.ready)
 
 pub lane_table-requires : goal.lane_table-requires
 lane_table-requires g c =
     subst (λ (l : List (PartView g.row.S.Denot g.row.T.Denot)). AreLaid l) (sym c.as_slice-2.ensures.value)
     (ready-laid g.S.Stage.meaning g.S.Stage.stands_after g.T.Transport.state g.W.Planned.plan c.args.parts.items c.requires.ready)
 
-pub open_all-requires-clause-square : goal.open_all-requires-clause-square
-open_all-requires-clause-square g c =
-    ready-square g.S.Stage.meaning g.S.Stage.stands_after g.T.Transport.state g.W.Planned.plan c.args.parts.items c.requires.ready c.args.count c.requires.executors (lanes_in c.in_ok-lanes.lanes.items) (c.in_ok-lanes.ensures ∙ ap (λ (l : List (PartView g.row.S.Denot g.row.T.Denot)). lane_table l c.args.count) c.as_slice-2.ensures.value)
-
-pub open_all-requires-clause-few : goal.open_all-requires-clause-few
-open_all-requires-clause-few g c =
-    let few = ready-executors g.S.Stage.meaning g.S.Stage.stands_after g.T.Transport.state g.W.Planned.plan c.args.parts.items c.requires.ready c.args.count c.requires.executors (lanes_in c.in_ok-lanes.lanes.items) (c.in_ok-lanes.ensures ∙ ap (λ (l : List (PartView g.row.S.Denot g.row.T.Denot)). lane_table l c.args.count) c.as_slice-2.ensures.value) in
-    omega (arith, few, length-map c.in_ok-lanes.lanes.items (λ target. map (λ sender. sender.items) target.items))
-
-pub open_all-requires-clause-open : goal.open_all-requires-clause-open
-open_all-requires-clause-open g c =
+pub open_all-requires : goal.open_all-requires
+open_all-requires g c =
     ready-open g.S.Stage.meaning g.S.Stage.stands_after g.T.Transport.state g.W.Planned.plan c.args.parts.items c.requires.ready c.args.count c.requires.executors (lanes_in c.in_ok-lanes.lanes.items) (c.in_ok-lanes.ensures ∙ ap (λ (l : List (PartView g.row.S.Denot g.row.T.Denot)). lane_table l c.args.count) c.as_slice-2.ensures.value) c.args.capacity c.requires.capacity
 
 pub executors-requires-clause-few : goal.executors-requires-clause-few
@@ -77,5 +63,5 @@ report_of-requires-clause-channels g c =
 -- each executor has told its first turn
 pub returns-clause-entered : goal.returns-clause-entered
 returns-clause-entered g c = λ e lt.
-    first-turns (λ e. e.0) c.in_ok-executors.executors.items c.in_ok-nodes.nodes.items g.W.Planned.plan.executors (g.G.Gate.was_entered c.args.gate.now) c.in_ok-executors.ensures.parts
+    first-turns (λ e. e.0) c.in_ok-executors.executors.items c.in_ok-nodes.nodes.items g.W.Planned.plan.executors (g.G.Gate.was_entered c.args.setting.gate.now) c.in_ok-executors.ensures.parts
     (sym (length-map c.in_ok-nodes.nodes.items (λ n. n.nodes)) ∙ ap (λ (l : List (OwnNodes g.row.S.Denot g.row.T.Denot)). length l) c.in_ok-nodes.ensures.nodes ∙ c.in_ok-own.ensures.count ∙ c.requires.executors) c.in_ok-executors.ensures.first c.in_ok-all.ensures.entered e lt

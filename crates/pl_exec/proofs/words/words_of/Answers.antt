@@ -44,20 +44,19 @@ loop-channel-preserved g c =
           ∙ (λ i. replicate c.args.readers (new_reader (sym added i)));
     }
 
-pub returns-clause-own_heads : goal.returns-clause-own_heads
-returns-clause-own_heads g c =
+-- the seats of all channels were made
+made : (g : _) (c : goal.After-loop-channel g) → AreHeadSeatsOf c.loop-channel.words.items c.loop-channel.heads.items × HaveMarksOf c.loop-channel.heads.items c.args.channels.now
+made g c =
     let channels = c.args.channels.now in
     let words = c.loop-channel.words.items in
     let inv = c.loop-channel.invariant in
     let whole : take c.loop-channel.channel-index channels ≡ channels = take_all c.loop-channel.channel-index channels c.loop-channel-test.false in
     let count : length words ≡ length channels = omega (arith, inv.count, c.loop-channel-test.false) in
-    subst (λ (heads : List SeatsView). AreHeadSeatsOf words heads) (sym (inv.heads ∙ ap (λ (l : List (Recorded g.row.S.Denot g.row.T.Denot)). new_head_seats words l) whole)) (head_seats-own words channels count)
+    subst (λ (heads : List SeatsView). AreHeadSeatsOf words heads × HaveMarksOf heads channels) (sym (inv.heads ∙ ap (λ (l : List (Recorded g.row.S.Denot g.row.T.Denot)). new_head_seats words l) whole))
+    (head_seats-own words channels count, head_seats-marks words channels count)
+
+pub returns-clause-own_heads : goal.returns-clause-own_heads
+returns-clause-own_heads g c = (made g c).0
 
 pub returns-clause-marks : goal.returns-clause-marks
-returns-clause-marks g c =
-    let channels = c.args.channels.now in
-    let words = c.loop-channel.words.items in
-    let inv = c.loop-channel.invariant in
-    let whole : take c.loop-channel.channel-index channels ≡ channels = take_all c.loop-channel.channel-index channels c.loop-channel-test.false in
-    let count : length words ≡ length channels = omega (arith, inv.count, c.loop-channel-test.false) in
-    subst (λ (heads : List SeatsView). HaveMarksOf heads channels) (sym (inv.heads ∙ ap (λ (l : List (Recorded g.row.S.Denot g.row.T.Denot)). new_head_seats words l) whole)) (head_seats-marks words channels count)
+returns-clause-marks g c = (made g c).1

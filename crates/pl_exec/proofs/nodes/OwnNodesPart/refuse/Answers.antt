@@ -5,33 +5,32 @@ use Rattle.pl_event.specs.Worlds.{World}
 use Rattle.pl_part.specs.Parts.{PartView}
 use Rattle.pl_part.specs.Paths.{context_at, writer_hop}
 use Rattle.pl_part.specs.PartCalls.{PartRefused}
-use Rattle.pl_replay.proofs.OneChannel.{places-of, routes, taken-none}
+use Rattle.pl_replay.proofs.OneChannel.{places-of, taken-none}
 use Rattle.pl_exec.proofs.HeadLists.{heads-stay}
-use Rattle.pl_exec.proofs.OwnNodeLemmas.{targets-stay, made-here}
+use Rattle.pl_exec.proofs.OwnNodeLemmas.{made-here, nodes-keep}
 use Rattle.pl_exec.proofs.MovedNodes.{places-stay, refuse-stands, none-stands}
 use Rattle.pl_exec.proofs.ServedNodes.{heads-equal, serves-none}
 use Rattle.pl_exec.proofs.nodes.OwnNodesPart.refuse.Goals as goal
+use Rattle.pl_exec.proofs.nodes.OwnNodesPart.refuse.Goals.{After-index_mut}
+
+lent : (g : _) (c : After-index_mut g) → slice_get c.args.self.now.parts.items c.args.lane.channel ≡ Some c.index_mut.result.now
+lent g c =
+    let ps = c.args.self.now.parts.items in
+    slice_get_read ps (length ps) c.args.lane.channel c.index_mut.result.now refl (subst (λ n. c.args.lane.channel < n) (c.len.ensures ∙ c.args.self.now.parts.ok.0) c.if-channel-len.true) c.index_mut.ensures.value
 
 pub refuse-requires-clause-holds : goal.refuse-requires-clause-holds
-refuse-requires-clause-holds g c =
-    let ps = c.args.self.now.parts.items in
-    let p = c.index_mut.result.now in
-    let s = c.requires.stands.1 in
-    let own = slice_get_read ps (length ps) c.args.lane.channel p refl (subst (λ n. c.args.lane.channel < n) (c.len.ensures ∙ c.args.self.now.parts.ok.0) c.if-channel-len.true) c.index_mut.ensures.value in
-    (g.W.Named.world, ap (λ (w : World). w.refuses) c.requires.stands.0, (s.parts c.args.lane.channel p own).holds)
+refuse-requires-clause-holds g c = (
+  g.W.Named.world,
+  ap (λ (w : World). w.refuses) c.requires.stands.0,
+  (c.requires.stands.1.parts c.args.lane.channel c.index_mut.result.now (lent g (goal.at.refuse-requires-clause-holds g c).After-index_mut)).holds,
+)
 
 pub refuse-requires-clause-places : goal.refuse-requires-clause-places
 refuse-requires-clause-places g c =
-    let ps = c.args.self.now.parts.items in
-    let p = c.index_mut.result.now in
-    let s = c.requires.stands.1 in
-    let own = slice_get_read ps (length ps) c.args.lane.channel p refl (subst (λ n. c.args.lane.channel < n) (c.len.ensures ∙ c.args.self.now.parts.ok.0) c.if-channel-len.true) c.index_mut.ensures.value in
-    places-of ps c.args.lane.channel p p own c.args.work.now c.requires.places
+    places-of c.args.self.now.parts.items c.args.lane.channel c.index_mut.result.now c.index_mut.result.now (lent g (goal.at.refuse-requires-clause-places g c).After-index_mut) c.args.work.now c.requires.places
 
 own : (g : _) (c : goal.After-self-then-channel-len-1 g) → slice_get c.args.self.now.parts.items c.args.lane.channel ≡ Some c.index_mut.result.now
-own g c =
-    let ps = c.args.self.now.parts.items in
-    slice_get_read ps (length ps) c.args.lane.channel c.index_mut.result.now refl (subst (λ n. c.args.lane.channel < n) (c.len.ensures ∙ c.args.self.now.parts.ok.0) c.if-channel-len.true) c.index_mut.ensures.value
+own g c = lent g (goal.at.returns-then-channel-len-clause-stands g c).After-index_mut
 
 -- what the call of the part has done
 given : (g : _) (c : goal.After-self-then-channel-len-1 g)
@@ -46,17 +45,13 @@ returns-then-channel-len-clause-stands g c = (
   c.requires.stands.2 ∙ sym (heads-stay c.args.self.now.parts.items c.args.lane.channel c.index_mut.result.now c.refuse.new.self (own g c) c.refuse.ensures.refused.puts.same),
 )
 
-pub returns-then-channel-len-clause-routes : goal.returns-then-channel-len-clause-routes
-returns-then-channel-len-clause-routes g c = targets-stay c.args.self.now.parts.items c.args.lane.channel c.index_mut.result.now c.refuse.new.self (own g c) c.refuse.ensures.refused.puts.same
-
-pub returns-then-channel-len-clause-writes : goal.returns-then-channel-len-clause-writes
-returns-then-channel-len-clause-writes g c = (routes c.args.self.now.parts.items c.args.lane.channel c.index_mut.result.now c.refuse.new.self (own g c) g.S.Stage.meaning c.refuse.ensures.refused.puts.same c.refuse.ensures.refused.puts.writes).writes
+pub returns-then-channel-len-clause-keeps : goal.returns-then-channel-len-clause-keeps
+returns-then-channel-len-clause-keeps g c =
+    let puts = c.refuse.ensures.refused.puts in
+    nodes-keep c.args.self.now.parts.items c.args.lane.channel c.index_mut.result.now c.refuse.new.self (own g c) g.S.Stage.meaning refl refl refl refl puts.same puts.writes
 
 pub returns-then-channel-len-clause-taken : goal.returns-then-channel-len-clause-taken
 returns-then-channel-len-clause-taken g c = taken-none c.args.self.now.parts.items c.args.lane.channel c.index_mut.result.now c.refuse.new.self (own g c) c.refuse.ensures.refused.taken
-
-pub returns-then-channel-len-clause-lanes : goal.returns-then-channel-len-clause-lanes
-returns-then-channel-len-clause-lanes g c = (routes c.args.self.now.parts.items c.args.lane.channel c.index_mut.result.now c.refuse.new.self (own g c) g.S.Stage.meaning c.refuse.ensures.refused.puts.same c.refuse.ensures.refused.puts.writes).lanes
 
 pub returns-then-channel-len-clause-placed : goal.returns-then-channel-len-clause-placed
 returns-then-channel-len-clause-placed g c = places-stay c.args.self.now.parts.items c.args.lane.channel c.index_mut.result.now c.refuse.new.self (own g c) c.args.work.now c.refuse.new.work c.refuse.ensures.refused.puts.placed

@@ -1,9 +1,9 @@
 use Rattle.std.proofs.Common.{◌≡◌, length, slice_get, Some, refl, sym, ◌∙◌}
 use Rattle.std.proofs.lemmas.Option.{slice_get_read}
 use Rattle.pl_part.specs.PartCalls.{Taken}
-use Rattle.pl_replay.proofs.OneChannel.{routes, taken-one}
+use Rattle.pl_replay.proofs.OneChannel.{taken-one}
 use Rattle.pl_exec.proofs.HeadLists.{heads-stay}
-use Rattle.pl_exec.proofs.OwnNodeLemmas.{channel-here, next-here, targets-stay, made-here}
+use Rattle.pl_exec.proofs.OwnNodeLemmas.{channel-here, made-here, next-here, nodes-keep}
 use Rattle.pl_exec.proofs.MovedNodes.{places-stay, take-stands}
 use Rattle.pl_exec.proofs.ServedNodes.{take-serves, serves-none}
 use Rattle.pl_exec.proofs.nodes.OwnNodesPart.take.Goals as goal
@@ -41,17 +41,13 @@ returns-clause-stands g c = (
   c.requires.stands.2 ∙ sym (heads-stay c.args.self.now.parts.items c.args.envelope.lane.channel c.index_mut.result.now c.take.new.self (own g c) c.take.ensures.puts.same),
 )
 
-pub returns-clause-routes : goal.returns-clause-routes
-returns-clause-routes g c = targets-stay c.args.self.now.parts.items c.args.envelope.lane.channel c.index_mut.result.now c.take.new.self (own g c) c.take.ensures.puts.same
-
-pub returns-clause-writes : goal.returns-clause-writes
-returns-clause-writes g c = (routes c.args.self.now.parts.items c.args.envelope.lane.channel c.index_mut.result.now c.take.new.self (own g c) g.S.Stage.meaning c.take.ensures.puts.same c.take.ensures.puts.writes).writes
+pub returns-clause-keeps : goal.returns-clause-keeps
+returns-clause-keeps g c =
+    let puts = c.take.ensures.puts in
+    nodes-keep c.args.self.now.parts.items c.args.envelope.lane.channel c.index_mut.result.now c.take.new.self (own g c) g.S.Stage.meaning refl refl refl refl puts.same puts.writes
 
 pub returns-clause-taken : goal.returns-clause-taken
 returns-clause-taken g c = taken-one c.args.self.now.parts.items c.args.envelope.lane.channel c.index_mut.result.now c.take.new.self (own g c) c.args.envelope refl c.take.ensures.taken
-
-pub returns-clause-lanes : goal.returns-clause-lanes
-returns-clause-lanes g c = (routes c.args.self.now.parts.items c.args.envelope.lane.channel c.index_mut.result.now c.take.new.self (own g c) g.S.Stage.meaning c.take.ensures.puts.same c.take.ensures.puts.writes).lanes
 
 pub returns-clause-placed : goal.returns-clause-placed
 returns-clause-placed g c = places-stay c.args.self.now.parts.items c.args.envelope.lane.channel c.index_mut.result.now c.take.new.self (own g c) c.args.work.now c.take.new.work c.take.ensures.puts.placed

@@ -19,24 +19,28 @@ seats-at g c =
     let there = c.requires.there in
     slice_get_read seats (length seats) c.args.channel c.index_mut.result.now refl (omega (arith, size, parts, there)) c.index_mut.ensures.value ∙ ap (λ (s : Option SeatsView). Some s) c.in-Some.is
 
-pub tell-requires-clause-holds : goal.tell-requires-clause-holds
-tell-requires-clause-holds g c = let stand = c.requires.stand in (stand.0, (stand.3.parts c.args.channel c.index_mut-in-Some.result.now (part-at g c)).holds)
-
-pub tell-requires-clause-marks : goal.tell-requires-clause-marks
-tell-requires-clause-marks g c =
+pub tell-requires : goal.tell-requires
+tell-requires g c =
     let self = c.args.self.now in
     let stand = c.requires.stand in
-    seat-marks self.words.now stand.1 self.seats.items stand.2 c.args.channel stand.0 g.S.Stage.meaning g.S.Stage.stands_after g.T.Transport.state self.nodes.number self.nodes.was_refused self.nodes.parts.items
-    c.index_mut-in-Some.result.now c.in-Some.seats stand.3 (part-at g c) (seats-at g c)
-
-pub tell-requires-clause-ordered : goal.tell-requires-clause-ordered
-tell-requires-clause-ordered g c = (c.requires.stand.2.each c.args.channel c.in-Some.seats (seats-at g c)).ordered
+    let p = c.index_mut-in-Some.result.now in
+    let s = c.in-Some.seats in
+    let seat = stand.2.each c.args.channel s (seats-at g c) in
+    record {
+      own = seat.own;
+      holds = (stand.0, (stand.3.parts c.args.channel p (part-at g c)).holds);
+      marks =
+          seat-marks self.words.now stand.1 self.seats.items stand.2 c.args.channel stand.0 g.S.Stage.meaning g.S.Stage.stands_after g.T.Transport.state self.nodes.number self.nodes.was_refused self.nodes.parts.items
+          p s stand.3 (part-at g c) (seats-at g c);
+      ordered = seat.ordered;
+    }
 
 pub returns-in-Some-clause-told : goal.returns-in-Some-clause-told
 returns-in-Some-clause-told g c =
     let ps = c.args.self.now.nodes.parts.items in
     let p = c.index_mut-in-Some.result.now in
-    told-at ps c.args.channel p c.tell.new.part (slice_get_read ps (length ps) c.args.channel p refl c.requires.there c.index_mut-in-Some.ensures.value) c.tell.ensures.told
+    let at = slice_get_read ps (length ps) c.args.channel p refl c.requires.there c.index_mut-in-Some.ensures.value in
+    record { number = refl; refused = refl; own = refl; parts = told-at ps c.args.channel p c.tell.new.part at c.tell.ensures.told }
 
 pub returns-in-Some-clause-seated : goal.returns-in-Some-clause-seated
 returns-in-Some-clause-seated g c plan seated =
@@ -51,7 +55,7 @@ returns-in-Some-clause-seated g c plan seated =
     c.tell.ensures.own c.tell.ensures.same
 
 pub returns-in_default-clause-told : goal.returns-in_default-clause-told
-returns-in_default-clause-told g c = none-told-at c.args.self.now.nodes.parts.items c.args.channel c.requires.there
+returns-in_default-clause-told g c = record { number = refl; refused = refl; own = refl; parts = none-told-at c.args.self.now.nodes.parts.items c.args.channel c.requires.there }
 
 pub returns-in-Some-clause-tells : goal.returns-in-Some-clause-tells
 returns-in-Some-clause-tells g c = tells-at c.args.self.now.seats.items c.args.self.now.nodes.parts.items c.args.channel c.tell.new.seats c.tell.new.part c.tell.ensures.tells

@@ -17,15 +17,11 @@ returns-clause-found c =
     let words = c.args.self.now in
     let channel = c.args.channel in
     let sight : SightView = record { mark = c.behind-reader.inside.mark; promises = c.behind-reader.inside.promises } in
-    let is : c.index_mut.result.now ≡ sight = sym c.behind-reader.view_is in
     let there : channel < length words = subst (λ (l : List ChannelNames). channel < length l) (c.deref.ensures.value ∙ c.self.view_is) c.in_ok-words.ensures.lookup.3.0 in
     record {
       sight = sight;
       seen = c.look.new.seat;
-      there =
-          ap (λ (r : List SightView). slice_get r channel) (sym c.reader.view_is)
-          ∙ reader-at words c.reader.inside.channels.items channel c.index_mut.result.now (subst (λ (r : List SightView). IsReaderOf words r) (sym c.reader.view_is) c.requires) there c.index_mut.ensures.value
-          ∙ ap (λ (s : SightView). Some s) is;
+      there = reader-at words c.args.reader.now c.reader.inside.channels.items channel c.index_mut.result.now sight c.reader.view_is c.requires there c.index_mut.ensures.value (sym c.behind-reader.view_is);
       looks = c.look.ensures.looks;
       found = c.look.ensures.found;
       others = ap (λ (r : List SightView). slice_set r channel (record { mark = c.look.new.seat; promises = sight.promises })) c.reader.view_is;

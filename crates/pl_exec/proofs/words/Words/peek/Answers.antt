@@ -17,15 +17,11 @@ returns-clause-found c = λ there few.
     let words = c.args.self.now in
     let channel = c.args.channel in
     let sight : SightView = record { mark = c.behind-reader.inside.mark; promises = c.behind-reader.inside.promises } in
-    let is : c.index_mut.result.now ≡ sight = sym c.behind-reader.view_is in
     let kept = subst (λ (n : ℕ). c.args.n < n) (sym c.words.invariant) few in
     record {
       sight = sight;
       seen = c.peek.new.seat;
-      there =
-          ap (λ (r : List SightView). slice_get r channel) (sym c.reader.view_is)
-          ∙ reader-at words c.reader.inside.channels.items channel c.index_mut.result.now (subst (λ (r : List SightView). IsReaderOf words r) (sym c.reader.view_is) c.requires) there c.index_mut.ensures.value
-          ∙ ap (λ (s : SightView). Some s) is;
+      there = reader-at words c.args.reader.now c.reader.inside.channels.items channel c.index_mut.result.now sight c.reader.view_is c.requires there c.index_mut.ensures.value (sym c.behind-reader.view_is);
       peeks = c.peek.ensures.found kept;
       again = c.peek.ensures.again kept;
       others = ap (λ (r : List SightView). slice_set r channel (record { mark = sight.mark; promises = c.peek.new.seat })) c.reader.view_is;
