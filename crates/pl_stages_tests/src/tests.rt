@@ -271,16 +271,15 @@ fn answer(
     Ok(down.pop())
 }
 
-/// A service answers these events, one after another, so.
-fn assert_answers(
+/// A service answers an event so.
+fn assert_answer(
     rt: &(impl Abort + AllocGlobal),
     service: &mut Fused<LineService>,
-    rows: Vec<(Event, Reply)>,
+    event: Event,
+    reply: Reply,
 ) -> Result<(), Fail> {
-    for (event, reply) in rows {
-        let answered = answer(rt.alloc(), service, event)?;
-        assert_eq!(rt; answered, Some(Event::Write(Message::Reply(reply))));
-    }
+    let answered = answer(rt.alloc(), service, event)?;
+    assert_eq!(rt; answered, Some(written(reply)));
     Ok(())
 }
 
@@ -291,20 +290,21 @@ fn service_limits(rt: HostRuntime) -> Result<(), Fail> {
     for _ in 0..999_999 {
         answer(alloc, &mut service, add(alloc, b"a", 999_999_999)?)?;
     }
-    let rows = vec![in alloc;
-        (
-            add(alloc, b"a", 999_999_999)?,
-            Reply::Total(999_999_999_000_000)
-        ),
-        (add(alloc, b"a", 999_999_999)?, Reply::Error(Fault::Range)),
-        (get(alloc, b"a")?, Reply::Total(999_999_999_000_000)),
-        (add(alloc, b"a", 1_000_001)?, Reply::Error(Fault::Range)),
-        (
-            add(alloc, b"a", 1_000_000)?,
-            Reply::Total(1_000_000_000_000_000)
-        ),
-    ]?;
-    assert_answers(&rt, &mut service, rows)
+    let event = add(alloc, b"a", 999_999_999)?;
+    assert_answer(&rt, &mut service, event, Reply::Total(999_999_999_000_000))?;
+    let event = add(alloc, b"a", 999_999_999)?;
+    assert_answer(&rt, &mut service, event, Reply::Error(Fault::Range))?;
+    let event = get(alloc, b"a")?;
+    assert_answer(&rt, &mut service, event, Reply::Total(999_999_999_000_000))?;
+    let event = add(alloc, b"a", 1_000_001)?;
+    assert_answer(&rt, &mut service, event, Reply::Error(Fault::Range))?;
+    let event = add(alloc, b"a", 1_000_000)?;
+    assert_answer(
+        &rt,
+        &mut service,
+        event,
+        Reply::Total(1_000_000_000_000_000),
+    )
 }
 
 /// A service that holds 256 keys, each by an addition of this number.
@@ -321,16 +321,18 @@ fn full_service(alloc: Global, number: u32) -> Result<Fused<LineService>, Fail> 
 #[test]
 fn key_limit(rt: HostRuntime) -> Result<(), Fail> {
     let alloc = rt.alloc();
-    let rows = vec![in alloc;
-        (add(alloc, b"other", 1)?, Reply::Error(Fault::Full)),
-        (get(alloc, b"other")?, Reply::Total(0)),
-        (add(alloc, b"aa", 1)?, Reply::Total(2)),
-    ]?;
-    assert_answers(&rt, &mut full_service(alloc, 1)?, rows)?;
+    let mut service = full_service(alloc, 1)?;
+    let event = add(alloc, b"other", 1)?;
+    assert_answer(&rt, &mut service, event, Reply::Error(Fault::Full))?;
+    let event = get(alloc, b"other")?;
+    assert_answer(&rt, &mut service, event, Reply::Total(0))?;
+    let event = add(alloc, b"aa", 1)?;
+    assert_answer(&rt, &mut service, event, Reply::Total(2))?;
 
     // An addition of 0 makes a key held, too.
-    let rows = vec![in alloc; (add(alloc, b"other", 1)?, Reply::Error(Fault::Full))]?;
-    assert_answers(&rt, &mut full_service(alloc, 0)?, rows)
+    let mut service = full_service(alloc, 0)?;
+    let event = add(alloc, b"other", 1)?;
+    assert_answer(&rt, &mut service, event, Reply::Error(Fault::Full))
 }
 
 #[test]
