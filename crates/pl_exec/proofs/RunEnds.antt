@@ -1,35 +1,26 @@
 -- The two ends of a channel that executors leave, and what their report says of its writes.
-use Rattle.std.proofs.Common.{◌≡◌, ℕ, zero, suc, ◌+◌, ◌≤◌, Bool, true, false, ◌||◌, ◌&&◌, List, [], ◌∷◌, ◌++◌, length, take, drop, map, slice_get, Option, Some, None, refl, sym, ap, ap₂, subst, ◌∙◌, arith, length-append, append-nil}
+use Rattle.std.proofs.Common.{◌≡◌, ℕ, Bool, true, false, ◌||◌, ◌&&◌, List, [], ◌∷◌, ◌++◌, length, map, slice_get, Option, Some, None, refl, sym, ap, ap₂, subst, ◌∙◌, arith}
 use Rattle.std.specs.Prelude.{All, is_some, nat_le}
-use Rattle.std.proofs.Math.Seq.{drop-append-add}
 use Rattle.std.proofs.lemmas.Bool.{and_parts, leb-true}
-use Rattle.std.proofs.lemmas.List.{take_all, drop-append-le, length-take-le}
 use Rattle.std.proofs.lemmas.List.Elements.{All-nil, All-cons, All-append, All-map}
-use Rattle.std.proofs.lemmas.Option.{same_Some, slice_get_within}
 use Rattle.pl_event.specs.declared.events.Event.{Event}
 use Rattle.pl_event.specs.declared.outcomes.Cause.{Cause}
 use Rattle.pl_event.specs.declared.outcomes.Outcome.{Outcome}
 use Rattle.pl_event.specs.declared.outcomes.Outcome.TheVariants.{Closed}
-use Rattle.pl_event.specs.Hops.{data_lane}
-use Rattle.pl_event.specs.Meaning.{IsPrefixOf}
-use Rattle.pl_event.specs.Worlds.{content_of}
-use Rattle.pl_event.proofs.Lists.{take-prefix_whole}
-use Rattle.pl_context.specs.declared.standing.Standing.{Standing}
-use Rattle.pl_context.specs.declared.standing.Standing.TheVariants as standing
-use Rattle.pl_context.specs.Standings.{is_over, has_failed}
+use Rattle.pl_context.specs.Standings.{is_over}
 use Rattle.pl_context.specs.TailViews.{TailView}
 use Rattle.pl_head.specs.Marks.{Change}
 use Rattle.pl_head.specs.Transports.{TransportState}
 use Rattle.pl_head.specs.Failures.{failure_outcome, head_outcomes, settled_by}
 use Rattle.pl_head.specs.WaitingMessages.{settled}
-use Rattle.pl_head.specs.Writes.{flushed_writes, late_outcome, out, outcomes, unflushed_writes, writes_by}
-use Rattle.pl_head.specs.HeadStand.{HeadView, BufferAfter, StandsAfter}
+use Rattle.pl_head.specs.Writes.{flushed_writes, late_outcome, out, outcomes, unflushed_writes}
+use Rattle.pl_head.specs.HeadStand.{HeadView, StandsAfter}
 use Rattle.pl_part.specs.HeadHolds.{HeadTook}
 use Rattle.pl_channel.specs.Ends.{ends_of, EndsHold}
 use Rattle.pl_channel.proofs.EndReports.{keep, numbered-report}
 use Rattle.pl_world.specs.declared.report.ChannelReport.{ChannelReport}
-use Rattle.pl_world.specs.Plans.{ChannelPlan, Plan, tail_hop, head_hop}
-use Rattle.pl_world.specs.Reports.{IsChannelReport, has_ended, head_of, tail_of}
+use Rattle.pl_world.specs.Plans.{ChannelPlan, Plan}
+use Rattle.pl_world.specs.Reports.{IsChannelReport}
 use Rattle.pl_world.proofs.SettledWrites.{outcomes_end}
 use Rattle.pl_exec.specs.Reported.{AreRunEnds, IsLeftHead, IsLeftTail, ReportsRun}
 

@@ -1,5 +1,5 @@
 -- Executors whose heads tell words can start where their nodes can.
-use Rattle.std.proofs.Common.{◌≡◌, List, length, map, slice_get, ap, sym, ◌∙◌, true}
+use Rattle.std.proofs.Common.{◌≡◌, List, length, map, slice_get, ap, sym, ◌∙◌}
 use Rattle.std.specs.Prelude.{All}
 use Rattle.std.specs.Option.{option_map}
 use Rattle.std.proofs.lemmas.List.{length-map}
@@ -11,7 +11,6 @@ use Rattle.pl_event.proofs.Lists.{All-at}
 use Rattle.pl_queue.specs.declared.views.SenderView.{SenderView}
 use Rattle.pl_queue.specs.declared.views.TakerView.{TakerView}
 use Rattle.pl_head.specs.Transports.{TransportState}
-use Rattle.pl_channel.specs.Lanes.{world_of}
 use Rattle.pl_replay.specs.Channels.{taken_of, writes_of, came_of}
 use Rattle.pl_replay.specs.Channels.{lanes_of as data_lanes_of}
 use Rattle.pl_world.specs.Plans.{Plan}

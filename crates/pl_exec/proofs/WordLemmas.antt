@@ -1,10 +1,10 @@
 -- The words of channels, their seats, and the readers of them.
-use Rattle.std.proofs.Common.{◌≡◌, ℕ, zero, suc, ◌<◌, List, [], ◌∷◌, ◌++◌, length, map, replicate, set, get_or, slice_get, Some, refl, ap, sym, ◌∙◌, arith, length-append}
+use Rattle.std.proofs.Common.{◌≡◌, ℕ, zero, suc, ◌<◌, List, [], ◌∷◌, ◌++◌, length, map, replicate, set, get_or, slice_get, Some, refl, ap, sym, ◌∙◌, arith}
 use Rattle.std.specs.Prelude.{All}
 use Rattle.std.proofs.Math.Seq.{map-set_same}
 use Rattle.std.proofs.lemmas.List.{length-map, map-append}
 use Rattle.std.proofs.lemmas.List.Elements.{All-cons, All-head, All-same, All-tail}
-use Rattle.std.proofs.lemmas.Option.{none-some, same_Some, slice_get_read}
+use Rattle.std.proofs.lemmas.Option.{slice_get_read}
 use Rattle.pl_words.specs.PromiseViews.{ReadSeatView as PromiseSeatView}
 use Rattle.pl_words.specs.Watermarks.{ReadSeatView as MarkSeatView}
 use Rattle.pl_world.specs.declared.session.Recorded.{Recorded}

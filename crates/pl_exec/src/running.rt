@@ -159,7 +159,7 @@ fn run_queued<
     ensures entered { IfOk result (λ _. (e : ℕ) → e < W.plan.executors → G.was_entered setting.entry.gate.now e 0) }
 {
     match queue {
-        QueueKind::Waiting => { run_by::<W, WaitingBox<W>, S, T, G, R>(world, capacity, setting) }
+        QueueKind::Waiting => run_by::<W, WaitingBox<W>, S, T, G, R>(world, capacity, setting),
         QueueKind::Ring => run_by::<W, RingBox<W>, S, T, G, R>(world, capacity, setting),
     }
 }

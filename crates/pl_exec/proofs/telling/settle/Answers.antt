@@ -1,4 +1,4 @@
-use Rattle.std.proofs.Common.{◌≡◌, length, List, ap, arith, ℕ, refl, ◌∙◌}
+use Rattle.std.proofs.Common.{length, List, ap, arith, ℕ, refl, ◌∙◌}
 use Rattle.pl_part.proofs.ToldLemmas.{none-told, told-more}
 use Rattle.pl_exec.proofs.telling.settle.Goals as goal
 

@@ -1,4 +1,4 @@
-use Rattle.std.proofs.Common.{◌≡◌, ◌<◌, List, Some, length, slice_get, slice_set, ap, sym, subst, ◌∙◌}
+use Rattle.std.proofs.Common.{◌<◌, List, length, slice_set, ap, sym, subst, ◌∙◌}
 use Rattle.pl_exec.specs.SessionWords.{ChannelNames, SightView, IsReaderOf, sight_names}
 use Rattle.pl_exec.proofs.WordLemmas.{reader-at, reader-kept}
 use Rattle.pl_exec.proofs.words.Words.look.Goals as goal

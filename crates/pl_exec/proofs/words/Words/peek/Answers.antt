@@ -1,4 +1,4 @@
-use Rattle.std.proofs.Common.{◌≡◌, ◌<◌, ℕ, List, Some, slice_get, slice_set, ap, sym, subst, ◌∙◌}
+use Rattle.std.proofs.Common.{◌<◌, ℕ, List, slice_set, ap, sym, subst, ◌∙◌}
 use Rattle.pl_exec.specs.SessionWords.{SightView, IsReaderOf, sight_names}
 use Rattle.pl_exec.proofs.WordLemmas.{reader-at, reader-kept}
 use Rattle.pl_exec.proofs.words.Words.peek.Goals as goal
