@@ -427,15 +427,12 @@ fn outputs_come_in_order(rt: HostRuntime) -> Result<(), Fail> {
     assert_eq!(rt; outputs.reserve(usize::MAX).is_err(), true);
     assert_eq!(rt; outputs.reserve(usize::MAX - 1).is_err(), true);
     assert_eq!(rt; outputs.is_empty(), true);
-    assert_eq!(rt;
-        put(&mut outputs, 0, Item::Event(Event::Active)),
-        Added::Last
-    );
-    assert_eq!(rt;
-        put(&mut outputs, 1, Item::Event(Event::Flush)),
-        Added::Last
-    );
-    assert_eq!(rt; put(&mut outputs, 2, Item::End), Added::Last);
+    let added = put(&mut outputs, 0, Item::Event(Event::Active));
+    assert_eq!(rt; added, Added::Last);
+    let added = put(&mut outputs, 1, Item::Event(Event::Flush));
+    assert_eq!(rt; added, Added::Last);
+    let added = put(&mut outputs, 2, Item::End);
+    assert_eq!(rt; added, Added::Last);
     assert_eq!(rt; outputs.is_empty(), false);
     assert_eq!(rt; outputs.has_stopped(), false);
     let want = [
