@@ -57,6 +57,11 @@ pub record BufferFailed (o : Outcome) (accepted : List ℕ) (b : OutboundBufferV
   pub outcomes_are : b.outcomes ≡ map (settled_by o) (outcomes ys (length accepted) ended) ++ map (late_outcome o) late
   pub marks : Watermarks b.low b.high b.pending b.is_unwritable b.flags sizes
 
+-- What waits, how much of it has left, the outcomes, the settled writes, the marks and the flags are as they were: only how
+-- much room there is, and whether writes get numbers, may differ.
+abbrev pub IsAsBefore : OutboundBufferView → OutboundBufferView → Type 0
+IsAsBefore b b' = b' ≡ record b { entries_room = b'.entries_room; outcomes_room = b'.outcomes_room; is_full = b'.is_full }
+
 -- one call settles more writes after those before, in rising order of their numbers, and no more are told
 pub record SettlesMore (b b' : OutboundBufferView) : Type 0 where
   pub settled : GoesOn b.settled b'.settled

@@ -1,6 +1,6 @@
 //! The messages that wait to be written, and what became of each write (Netty's `ChannelOutboundBuffer`).
 
-ghost use Rattle.std.specs.Prelude.{◌≡◌, ℕ, ◌+◌, ◌-◌, ◌<◌, ◌≤◌, ◌^◌, ◌↔◌, ◌⊎◌, ◌∷◌, ◌++◌, List, [], length, take, drop, map, Bool, true, false, Option, Some, None, IsTrue, IfSome, IfNone, OnSome, OnOk, OnErr, not, nat_le, slice_index_or, vec_len, vec_capacity};
+ghost use Rattle.std.specs.Prelude.{◌≡◌, ℕ, ◌+◌, ◌-◌, ◌<◌, ◌≤◌, ◌^◌, ◌↔◌, ◌⊎◌, ◌∷◌, ◌++◌, List, [], length, take, drop, map, Bool, true, false, Option, Some, None, IsTrue, IfSome, IfNone, OnSome, OnOk, OnErr, Err, not, nat_le, slice_index_or, vec_len, vec_capacity};
 ghost use Rattle.std.specs.Option.{option_to_list};
 ghost use Rattle.std.specs.List.Sorted.{IsStrictlyIncreasing};
 ghost use Rattle.std.specs.VecDeque.{deque_len, deque_capacity};
@@ -16,6 +16,7 @@ ghost use Rattle.pl_head.specs.Marks.{Change, Added, Removed, pending_after, add
 ghost use Rattle.pl_head.specs.WaitingMessages.{settled_all, first_size, entries_size, numbers_of};
 ghost use Rattle.pl_head.specs.Settling.{Account};
 ghost use Rattle.pl_head.specs.Buffers.{event_sizes};
+ghost use Rattle.pl_head.specs.declared.outbound_buffer.Refusal.TheVariants.{Numbered, Unnumbered};
 
 use crate::marks::Marks;
 use pl_context::Outputs;
@@ -28,6 +29,13 @@ use std::collections::VecDeque;
 pub(crate) struct Entry {
     pub(crate) number: usize,
     pub(crate) bytes: ByteString,
+}
+
+/// How a write is refused: with a number, where there is a place for its outcome, or without one.
+#[derive(Clone, Copy, Debug)]
+enum Refusal {
+    Numbered,
+    Unnumbered,
 }
 
 /// The messages that wait to be written, the flushed ones first, and the marks against which their bytes are counted; the
@@ -60,7 +68,7 @@ pub(crate) struct OutboundBuffer {
 
 impl OutboundBuffer {
     ghost use Rattle.pl_head.specs.MarksStand.{SendsFlags, flag_bound};
-    ghost use Rattle.pl_head.specs.Buffers.{BufferStands, BufferFailed, SameMarks, SettlesMore, SettlesFront, StopsNumbers, LacksRoom, untold};
+    ghost use Rattle.pl_head.specs.Buffers.{BufferStands, BufferFailed, IsAsBefore, SameMarks, SettlesMore, SettlesFront, StopsNumbers, LacksRoom, untold};
     ghost use Rattle.pl_head.specs.OutboundStand.{buffer_view, Holds, HasPlace, TakesOut};
 
     /// Nothing waits, and nothing was written. It takes no memory.
@@ -115,18 +123,57 @@ impl OutboundBuffer {
         ensures pending { self.new.marks.pending ≤ self.old.marks.pending + 2 ^ 64 }
         ensures count { flag_bound self.new.marks ≤ flag_bound self.old.marks + 2 }
     {
+        let Err(refusal) = self.add(event, outputs) else {
+            return Ok(());
+        };
+        self.fail(Outcome::Closed, outputs);
+        match refusal {
+            Refusal::Numbered => {
+                self.add_settled(Outcome::Closed);
+                Err(AllocError)
+            }
+            Refusal::Unnumbered => Err(AllocError),
+        }
+    }
+
+    /// Adds an event. An `Err` is a write for which there is no room: it leaves all as it was, but for how much room there
+    /// is, and whether writes get numbers.
+    fn add(&mut self, event: Event, outputs: &mut Outputs) -> Result<(), Refusal>
+        requires fits { self.old.marks.pending + 2 ^ 64 < 2 ^ 128 }
+        requires room { flag_bound self.old.marks + 1 < 2 ^ 64 }
+        requires place { HasPlaces outputs.old.stopped (self.old.marks.flags.lane ∷ []) }
+        requires numbering { self.old.is_full ≡ false }
+        ensures stands { OnOk result ((accepted : List ℕ) (ys : List Event) (sizes : List Change) → BufferStands accepted (buffer_view self.old) ys false sizes
+            → BufferStands accepted (buffer_view self.new) (ys ++ event ∷ []) false (sizes ++ event_sizes event
+            (waiting_bytes ys (length accepted) false)
+            (waiting_bytes (ys ++ event ∷ []) (length accepted) false))) }
+        ensures flags { OnOk result ((accepted : List ℕ) (ys : List Event) (sizes : List Change) → BufferStands accepted (buffer_view self.old) ys false sizes
+            → SendsFlags self.old.marks.low self.old.marks.high sizes (event_sizes event
+            (waiting_bytes ys (length accepted) false)
+            (waiting_bytes (ys ++ event ∷ []) (length accepted) false)) self.old.marks.flags outputs.old self.new.marks.flags outputs.new) }
+        // A refused write changes no message, offset, outcome, mark or flag.
+        ensures refused { OnErr result (IsAsBefore (buffer_view self.old) (buffer_view self.new)) }
+        ensures refused_marks { OnErr result (self.new.marks ≡ self.old.marks) }
+        ensures refused_outputs { OnErr result (outputs.new ≡ outputs.old) }
+        ensures lacks { OnErr result (LacksRoom event (buffer_view self.old)) }
+        ensures numbered { result ≡ Err Numbered → HasPlace self.new × (self.new.is_full ≡ false) × (bytes : List ℕ) × (write_by event ≡ Some bytes ∷ []) }
+        ensures unnumbered { result ≡ Err Unnumbered → self.new.is_full ≡ true }
+        ensures numbering { OnOk result (self.new.is_full ≡ false) }
+        ensures stops { StopsNumbers (buffer_view self.old) (buffer_view self.new) }
+        ensures same { SameMarks (buffer_view self.old) (buffer_view self.new) }
+        ensures settles { SettlesMore (buffer_view self.old) (buffer_view self.new) }
+        ensures pending { self.new.marks.pending ≤ self.old.marks.pending + 2 ^ 64 }
+        ensures count { flag_bound self.new.marks ≤ flag_bound self.old.marks + 2 }
+    {
         match event {
             Event::Write(message) => {
                 if !self.make_place() {
-                    self.fail(Outcome::Closed, outputs);
-                    return Err(AllocError);
+                    return Err(Refusal::Unnumbered);
                 }
                 match message {
                     Message::Bytes(bytes) => {
                         if self.entries.reserve(1).is_err() {
-                            self.fail(Outcome::Closed, outputs);
-                            self.add_settled(Outcome::Closed);
-                            return Err(AllocError);
+                            return Err(Refusal::Numbered);
                         }
                         self.add_message(bytes, outputs);
                         Ok(())

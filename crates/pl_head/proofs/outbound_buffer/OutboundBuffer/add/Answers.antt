@@ -1,0 +1,60 @@
+use Rattle.std.proofs.Common.{rules, ◌-◌, [], ◌∷◌, List, ℕ, Some, None, refl, ap, sym, ◌∙◌, inl, inr, append-nil}
+use Rattle.std.specs.VecDeque.{deque_len, deque_capacity}
+use Rattle.pl_event.specs.declared.events.Event.{Event}
+use Rattle.pl_head.specs.declared.outbound_buffer.Entry.{Entry}
+use Rattle.pl_head.specs.Writes.{write_by, is_flush, flushed_writes, unflushed_writes}
+use Rattle.pl_head.specs.Buffers.{OutboundBufferView}
+use Rattle.pl_head.specs.OutboundStand.{buffer_view}
+use Rattle.pl_head.proofs.Buffering.{adds, same_parts}
+use Rattle.pl_head.proofs.Taking.{no_write, no_bytes, no_flush}
+use Rattle.pl_head.proofs.BufferSteps.{stands-same, stands-on, sends_nothing}
+use Rattle.pl_head.proofs.Failing.{makes_one}
+use Rattle.pl_head.proofs.outbound_buffer.OutboundBuffer.add.Goals as goal
+
+pub returns-then-not-make_place-clause-lacks : goal.returns-then-not-make_place-clause-lacks
+returns-then-not-make_place-clause-lacks c =
+    let one = makes_one c.in-Write.message in
+    record {
+      write = one.0;
+      makes = ap (λ (e : Event). write_by e) c.in-Write.is ∙ one.1;
+      full = inl (c.make_place.ensures.full c.if-not-make_place.true c.requires.numbering);
+    }
+
+pub returns-then-is_err-clause-lacks : goal.returns-then-is_err-clause-lacks
+returns-then-is_err-clause-lacks c =
+    record {
+      write = Some c.in-Bytes.bytes;
+      makes = rw (c.in-Write.is, c.in-Bytes.is) refl;
+      full = inr (search rules, search rules);
+    }
+
+pub returns-in-Bytes-clause-flags : goal.returns-in-Bytes-clause-flags
+returns-in-Bytes-clause-flags c = λ accepted ys sizes s.
+    let m = c.make_place in
+    let v = buffer_view m.new.self in
+    let room : ℕ = deque_capacity c.reserve.new.self - deque_len c.reserve.new.self in
+    let same = ap (λ (es : List Entry). record v { entries = es; entries_room = room }) c.reserve.ensures.items ∙ ap (λ (u : OutboundBufferView). record u { entries_room = room }) m.ensures.same in
+    rw (c.in-Write.is, c.in-Bytes.is, ← m.ensures.marks) (c.add_message.ensures.flags accepted ys sizes (stands-same (buffer_view c.args.self.now) same s))
+
+pub returns-in-Write-clause-stands : goal.returns-in-Write-clause-stands
+returns-in-Write-clause-stands c = λ accepted ys sizes s.
+    let m = c.make_place in
+    let v = buffer_view m.new.self in
+    let makes = ap (λ (e : Event). write_by e) c.in-Write.is ∙ no_bytes c.in-Write.message c.in_default-message.not-Bytes in
+    stands-on c.args.event (ap (λ (e : Event). is_flush e) c.in-Write.is) (None ∷ []) makes refl _ _ v c.add_settled.ensures.same
+    (λ left held. same_parts (sym (append-nil v.entries)) refl refl (adds v.entries v.offset v.flushed v.outcomes (flushed_writes ys) (unflushed_writes ys) left None held))
+    (stands-same (buffer_view c.args.self.now) m.ensures.same s)
+
+pub returns-in-Write-clause-flags : goal.returns-in-Write-clause-flags
+returns-in-Write-clause-flags c = λ accepted ys sizes s.
+    let makes = ap (λ (e : Event). write_by e) c.in-Write.is ∙ no_bytes c.in-Write.message c.in_default-message.not-Bytes in
+    rw (c.add_settled.ensures.marks, c.make_place.ensures.marks) (sends_nothing c.args.event (ap (λ (e : Event). is_flush e) c.in-Write.is) (None ∷ []) makes refl _ _ sizes)
+
+pub returns-clause-stands : goal.returns-clause-stands
+returns-clause-stands c = λ accepted ys sizes s.
+    let b = buffer_view c.args.self.now in
+    stands-on c.args.event (no_flush c.args.event c.in_default.not-Flush) [] (no_write c.args.event c.in_default.not-Write) refl _ _ b refl (λ left held. rw (append-nil (unflushed_writes ys)) held) s
+
+pub returns-clause-flags : goal.returns-clause-flags
+returns-clause-flags c = λ accepted ys sizes s.
+    sends_nothing c.args.event (no_flush c.args.event c.in_default.not-Flush) [] (no_write c.args.event c.in_default.not-Write) refl _ _ sizes
