@@ -1,15 +1,16 @@
 //! Contexts, the tail, outputs and backlogs: faults, failures, an end, flags, and what becomes of what finds no memory.
 
-ghost use Rattle.std.specs.Prelude.{◌≡◌, ◌==◌, ◌++◌, ◌∷◌, [], OnOk, OnErr};
+ghost use Rattle.std.specs.Prelude.{◌≡◌, ◌==◌, ◌++◌, ◌∷◌, [], ◌<◌, OnOk, OnErr, vec_len, vec_capacity};
 ghost use Rattle.pl_nodes_tests.specs.declared.tests.context_tests.Relay.{Relay};
 ghost use Rattle.pl_nodes_tests.specs.Samples.{relaying, has_quit, relaying-lawful, passed_up, passed_down, is_complete, turned_by, sample_lane};
 ghost use Rattle.pl_context.specs.Stops.{HasPlaces};
 ghost use Rattle.pl_event.specs.declared.envelopes.Kind.TheVariants.{Data};
 
+use crate::tests::head_tests::text;
 use pl_context::{Added, Backlog, Context, Outputs, Tail, Took};
 use pl_event::{
-    ByteString, Cause, Direction, Envelope, Event, Item, Kind, Lane, Message, Stage, StageFault,
-    Stepped, Turned,
+    Cause, Direction, Envelope, Event, Item, Kind, Lane, Message, Stage, StageFault, Stepped,
+    Turned,
 };
 use std::alloc::{AllocError, Global};
 use std::process::Abort;
@@ -93,6 +94,17 @@ fn turned(direction: Direction, has_quit: bool) -> Turned
     }
 }
 
+/// Makes room for one more event on each list.
+fn reserve(up: &mut Vec<Event>, down: &mut Vec<Event>) -> Result<(), AllocError>
+    ensures up { up.new.items ≡ up.old.items }
+    ensures down { down.new.items ≡ down.old.items }
+    ensures room_up { OnOk result (vec_len up.new < vec_capacity up.new) }
+    ensures room_down { OnOk result (vec_len down.new < vec_capacity down.new) }
+{
+    up.reserve(1)?;
+    down.reserve(1)
+}
+
 fn pass(
     direction: Direction,
     event: Event,
@@ -105,8 +117,10 @@ fn pass(
     ensures up_kept { OnErr result (up.new.items ≡ up.old.items) }
     ensures down_kept { OnErr result (down.new.items ≡ down.old.items) }
 {
-    up.reserve(1)?;
-    down.reserve(1)?;
+    if let Err(error) = reserve(up, down) {
+        drop(event);
+        return Err(error);
+    }
     match direction {
         Direction::Turn => {
             if !has_quit {
@@ -144,7 +158,7 @@ fn give(
     rt: &(impl Abort + AllocGlobal),
     context: &mut Context<Relay>,
     item: Item,
-) -> Result<(Took, Vec<Envelope>), AllocError> {
+) -> Result<(Took, Outputs), AllocError> {
     let lane = of_kind(kind_of(&item), context.lane());
     let number = context.taken(lane);
     let up = context.up();
@@ -154,20 +168,24 @@ fn give(
     assert!(rt; down.made < 1000);
     let mut outputs = Outputs::new(rt.alloc(), 3)?;
     let took = context.take(Envelope { lane, number, item }, &mut outputs);
-    Ok((took, drained(rt.alloc(), outputs)?))
+    Ok((took, outputs))
 }
 
-/// A context that is given the next item of its lane answers so, and puts these out.
+/// What a context is given, what it is to answer, and what it is to put out.
+type Given<'a> = (Sample, Took, &'a [Put]);
+
+/// A context that is given the next items of its lanes answers so, and puts these out.
 fn assert_gives(
     rt: &(impl Abort + AllocGlobal),
     context: &mut Context<Relay>,
-    item: Item,
-    answer: Took,
-    want: &[Envelope],
+    rows: &[Given],
 ) -> Result<(), AllocError> {
-    let (took, put) = give(rt, context, item)?;
-    assert_eq!(rt; took, answer);
-    assert_eq!(rt; put.as_slice(), want);
+    for (sample, answer, want) in rows {
+        let item = item_of(rt.alloc(), *sample)?;
+        let (took, outputs) = give(rt, context, item)?;
+        assert!(rt; took == *answer);
+        assert_brings(rt, outputs, want)?;
+    }
     Ok(())
 }
 
@@ -176,24 +194,67 @@ fn assert_refused(
     rt: &(impl Abort + AllocGlobal),
     context: &mut Context<Relay>,
     cause: Cause,
-    want: &[Envelope],
+    want: &[Put],
 ) -> Result<(), AllocError> {
     let mut outputs = Outputs::new(rt.alloc(), 3)?;
     context.fail(cause, &mut outputs);
-    assert_eq!(rt; drained(rt.alloc(), outputs)?.as_slice(), want);
+    assert_brings(rt, outputs, want)
+}
+
+/// An item of these tests, as a value that is copied.
+#[derive(Clone, Copy, Debug)]
+pub(crate) enum Sample {
+    Active,
+    /// A read of these bytes.
+    Read(&'static [u8]),
+    ReadComplete,
+    Flush,
+    End,
+    Fail(Cause),
+    Flag(bool),
+}
+
+/// The item that a sample stands for.
+fn item_of(alloc: Global, sample: Sample) -> Result<Item, AllocError> {
+    let event = match sample {
+        Sample::Active => Event::Active,
+        Sample::Read(bytes) => Event::Read(Message::Bytes(text(alloc, bytes)?)),
+        Sample::ReadComplete => Event::ReadComplete,
+        Sample::Flush => Event::Flush,
+        Sample::End => return Ok(Item::End),
+        Sample::Fail(cause) => return Ok(Item::Fail(cause)),
+        Sample::Flag(value) => return Ok(Item::Flag(value)),
+    };
+    Ok(Item::Event(event))
+}
+
+/// A hop of channel 7, with a number and an item of a lane there.
+pub(crate) type Put = (u16, u64, Sample);
+
+/// A list brings these, and nothing behind them.
+pub(crate) fn assert_brings(
+    rt: &(impl Abort + AllocGlobal),
+    mut outputs: Outputs,
+    want: &[Put],
+) -> Result<(), AllocError> {
+    for put in want {
+        assert_brings_next(rt, &mut outputs, *put)?;
+    }
+    assert!(rt; outputs.is_empty());
     Ok(())
 }
 
-/// All that a list brings, up to 100 envelopes.
-pub(crate) fn drained(alloc: Global, mut outputs: Outputs) -> Result<Vec<Envelope>, AllocError> {
-    let mut envelopes = Vec::new(alloc);
-    for _ in 0..100 {
-        match outputs.next() {
-            Some(envelope) => envelopes.push(envelope)?,
-            None => break,
-        }
-    }
-    Ok(envelopes)
+/// A list brings this next.
+fn assert_brings_next(
+    rt: &(impl Abort + AllocGlobal),
+    outputs: &mut Outputs,
+    put: Put,
+) -> Result<(), AllocError> {
+    let (hop, number, sample) = put;
+    let item = item_of(rt.alloc(), sample)?;
+    let lane = lane(kind_of(&item), hop);
+    assert!(rt; outputs.next() == Some(Envelope { lane, number, item }));
+    Ok(())
 }
 
 /// A lane of channel 7.
@@ -217,18 +278,6 @@ pub(crate) fn data(hop: u16, number: u64, item: Item) -> Envelope
     }
 }
 
-fn event(hop: u16, number: u64, event: Event) -> Envelope {
-    data(hop, number, Item::Event(event))
-}
-
-fn flag(hop: u16, number: u64, value: bool) -> Envelope {
-    Envelope {
-        lane: lane(Kind::Flags, hop),
-        number,
-        item: Item::Flag(value),
-    }
-}
-
 /// A context at hop 1 of channel 7, whose pipeline has 3 inbound handlers, or none before an outbound one.
 fn context_of(alloc: Global, direction: Direction, steps: u32) -> Context<Relay> {
     let k = match direction {
@@ -238,88 +287,106 @@ fn context_of(alloc: Global, direction: Direction, steps: u32) -> Context<Relay>
     Context::new(alloc, 7, 1, k, Relay::new(direction, steps))
 }
 
+const FAULT: [Given; 3] = [
+    (Sample::Active, Took::Ran, &[(2, 0, Sample::Active)]),
+    (
+        Sample::Read(b""),
+        Took::Failed(Cause::Memory),
+        &[(2, 1, Sample::Fail(Cause::Memory))],
+    ),
+    (Sample::ReadComplete, Took::Dropped, &[]),
+];
+
+/// A context has taken three items of one lane, and none of others.
+fn assert_took_three(rt: &impl Abort, context: &Context<Relay>) {
+    assert!(rt; context.taken(lane(Kind::Data, 1)) == 3);
+    assert!(rt; context.taken(lane(Kind::Flags, 1)) == 0);
+    assert!(rt; context.taken(lane(Kind::Data, 2)) == 0);
+}
+
 #[test]
 fn fault_ends_context(rt: HostRuntime) -> Result<(), Fail> {
     let mut context = context_of(rt.alloc(), Direction::Inbound, 1);
-    let active = Item::Event(Event::Active);
-    let want = [event(2, 0, Event::Active)];
-    assert_gives(&rt, &mut context, active, Took::Ran, &want)?;
-
-    let read = Message::Bytes(ByteString::from_vec(Vec::new(rt.alloc())));
-    let read = Item::Event(Event::Read(read));
-    let failed = Took::Failed(Cause::Memory);
-    let failure = [data(2, 1, Item::Fail(Cause::Memory))];
-    assert_gives(&rt, &mut context, read, failed, &failure)?;
-    let complete = Item::Event(Event::ReadComplete);
-    assert_gives(&rt, &mut context, complete, Took::Dropped, &[])?;
-    assert_eq!(rt; context.taken(lane(Kind::Data, 1)), 3);
-    assert_eq!(rt; context.taken(lane(Kind::Flags, 1)), 0);
-    assert_eq!(rt; context.taken(lane(Kind::Data, 2)), 0);
-    assert_eq!(rt; context.is_ended(), true);
+    assert_gives(&rt, &mut context, &FAULT)?;
+    assert_took_three(&rt, &context);
+    assert!(rt; context.is_ended());
     Ok(())
 }
+
+const BEFORE_ITS_FAILURE: [Given; 1] = [(
+    Sample::Active,
+    Took::Ran,
+    &[(2, 0, Sample::Active), (4, 0, Sample::Flush)],
+)];
+
+/// The failure of both lanes that a turn writes.
+const REFUSALS: [Put; 2] = [
+    (2, 1, Sample::Fail(Cause::Refused)),
+    (4, 1, Sample::Fail(Cause::Refused)),
+];
+
+const BEHIND_ITS_FAILURE: [Given; 2] = [
+    (Sample::ReadComplete, Took::Dropped, &[]),
+    (Sample::Flag(false), Took::Dropped, &[]),
+];
 
 /// A turn that has put out one item on each lane, and is failed from outside, gives both lanes the failure, once.
 #[test]
 fn refused_context(rt: HostRuntime) -> Result<(), Fail> {
     let mut turn = context_of(rt.alloc(), Direction::Turn, 9);
-    let active = Item::Event(Event::Active);
-    let both = [event(2, 0, Event::Active), event(4, 0, Event::Flush)];
-    assert_gives(&rt, &mut turn, active, Took::Ran, &both)?;
-    assert_eq!(rt; turn.is_ended(), false);
-
-    let refused = [
-        data(2, 1, Item::Fail(Cause::Refused)),
-        data(4, 1, Item::Fail(Cause::Refused)),
-    ];
-    assert_refused(&rt, &mut turn, Cause::Refused, &refused)?;
+    assert_gives(&rt, &mut turn, &BEFORE_ITS_FAILURE)?;
+    assert!(rt; !turn.is_ended());
+    assert_refused(&rt, &mut turn, Cause::Refused, &REFUSALS)?;
     assert_refused(&rt, &mut turn, Cause::Memory, &[])?;
-    let complete = Item::Event(Event::ReadComplete);
-    assert_gives(&rt, &mut turn, complete, Took::Dropped, &[])?;
-    assert_gives(&rt, &mut turn, Item::Flag(false), Took::Dropped, &[])?;
-    Ok(())
+    Ok(assert_gives(&rt, &mut turn, &BEHIND_ITS_FAILURE)?)
 }
 
-/// Gives a turn the event with which it quits: its lane downwards ends.
-fn assert_quits(
-    rt: &(impl Abort + AllocGlobal),
-    turn: &mut Context<Relay>,
-) -> Result<(), AllocError> {
-    let complete = Item::Event(Event::ReadComplete);
-    let want = [
-        event(2, 0, Event::ReadComplete),
-        event(4, 0, Event::Flush),
-        data(4, 1, Item::End),
-    ];
-    assert_gives(rt, turn, complete, Took::Ran, &want)
+/// The event with which a turn quits: its lane downwards ends.
+const QUITS: Given = (
+    Sample::ReadComplete,
+    Took::Ran,
+    &[
+        (2, 0, Sample::ReadComplete),
+        (4, 0, Sample::Flush),
+        (4, 1, Sample::End),
+    ],
+);
+
+const OPEN_BEHIND_A_QUIT: [Given; 3] = [
+    QUITS,
+    (Sample::Active, Took::Ran, &[(2, 1, Sample::Active)]),
+    (Sample::End, Took::Ended, &[(2, 2, Sample::End)]),
+];
+
+/// A turn that is given this first answers so, and puts these out.
+fn assert_turn_gives(rt: &(impl Abort + AllocGlobal), rows: &[Given]) -> Result<(), Fail> {
+    let mut turn = context_of(rt.alloc(), Direction::Turn, 9);
+    Ok(assert_gives(rt, &mut turn, rows)?)
 }
 
 /// A turn that has quit stays open for its input, and its lane downwards has ended once.
 #[test]
 fn turn_quits(rt: HostRuntime) -> Result<(), Fail> {
-    let mut turn = context_of(rt.alloc(), Direction::Turn, 9);
-    assert_quits(&rt, &mut turn)?;
-    let active = Item::Event(Event::Active);
-    let want = [event(2, 1, Event::Active)];
-    assert_gives(&rt, &mut turn, active, Took::Ran, &want)?;
-    let end = [data(2, 2, Item::End)];
-    assert_gives(&rt, &mut turn, Item::End, Took::Ended, &end)?;
-    Ok(())
+    assert_turn_gives(&rt, &OPEN_BEHIND_A_QUIT)
 }
+
+const BEHIND_A_FAILURE: [Given; 2] = [
+    (Sample::End, Took::Dropped, &[]),
+    (Sample::Flag(false), Took::Dropped, &[]),
+];
 
 /// A context that fails hands the failure on with its cause, into each lane that it writes, and drops what comes behind it.
 fn assert_fails(
     rt: &(impl Abort + AllocGlobal),
     direction: Direction,
     cause: Cause,
-    want: &[Envelope],
+    want: &[Put],
 ) -> Result<(), AllocError> {
     let mut context = context_of(rt.alloc(), direction, 9);
-    let failure = Item::Fail(cause);
-    assert_gives(rt, &mut context, failure, Took::Failed(cause), want)?;
-    assert_eq!(rt; context.is_ended(), true);
-    assert_gives(rt, &mut context, Item::End, Took::Dropped, &[])?;
-    assert_gives(rt, &mut context, Item::Flag(false), Took::Dropped, &[])
+    let failure = (Sample::Fail(cause), Took::Failed(cause), want);
+    assert_gives(rt, &mut context, &[failure])?;
+    assert!(rt; context.is_ended());
+    assert_gives(rt, &mut context, &BEHIND_A_FAILURE)
 }
 
 #[test]
@@ -330,37 +397,45 @@ fn failure_keeps_its_cause(rt: HostRuntime) -> Result<(), Fail> {
         Cause::Aborted,
         Cause::Refused,
     ] {
-        let up = data(2, 0, Item::Fail(cause));
-        let both = [data(2, 0, Item::Fail(cause)), data(4, 0, Item::Fail(cause))];
+        let up = (2, 0, Sample::Fail(cause));
+        let both = [up, (4, 0, Sample::Fail(cause))];
         assert_fails(&rt, Direction::Inbound, cause, &[up])?;
         assert_fails(&rt, Direction::Turn, cause, &both)?;
     }
     Ok(())
 }
 
+const FAILS_BEHIND_A_QUIT: [Given; 2] = [
+    QUITS,
+    (
+        Sample::Fail(Cause::Transport),
+        Took::Failed(Cause::Transport),
+        &[(2, 1, Sample::Fail(Cause::Transport))],
+    ),
+];
+
 /// The lane downwards has ended with the turn: a failure goes upwards alone.
 #[test]
 fn failure_behind_a_quit(rt: HostRuntime) -> Result<(), Fail> {
-    let mut turn = context_of(rt.alloc(), Direction::Turn, 9);
-    assert_quits(&rt, &mut turn)?;
-    let failure = Item::Fail(Cause::Transport);
-    let failed = Took::Failed(Cause::Transport);
-    let want = [data(2, 1, Item::Fail(Cause::Transport))];
-    assert_gives(&rt, &mut turn, failure, failed, &want)?;
-    Ok(())
+    assert_turn_gives(&rt, &FAILS_BEHIND_A_QUIT)
 }
+
+const FLAGS: [Given; 3] = [
+    (
+        Sample::Flag(false),
+        Took::Ran,
+        &[(2, 0, Sample::Flag(false))],
+    ),
+    (Sample::End, Took::Ended, &[(2, 0, Sample::End)]),
+    (Sample::Flag(true), Took::Ran, &[(2, 1, Sample::Flag(true))]),
+];
 
 /// A context hands flags on, with the next number, also after its end. An outbound one hands a failure on, downwards.
 #[test]
 fn flags_pass(rt: HostRuntime) -> Result<(), Fail> {
     let mut context = context_of(rt.alloc(), Direction::Inbound, 9);
-    let first = [flag(2, 0, false)];
-    assert_gives(&rt, &mut context, Item::Flag(false), Took::Ran, &first)?;
-    let end = [data(2, 0, Item::End)];
-    assert_gives(&rt, &mut context, Item::End, Took::Ended, &end)?;
-    let second = [flag(2, 1, true)];
-    assert_gives(&rt, &mut context, Item::Flag(true), Took::Ran, &second)?;
-    let down = [data(2, 0, Item::Fail(Cause::Aborted))];
+    assert_gives(&rt, &mut context, &FLAGS)?;
+    let down = [(2, 0, Sample::Fail(Cause::Aborted))];
     assert_fails(&rt, Direction::Outbound, Cause::Aborted, &down)?;
     Ok(())
 }
@@ -373,42 +448,77 @@ fn record(rt: &impl Abort, tail: &mut Tail, item: Item) -> Took {
     tail.take(Envelope { lane, number, item })
 }
 
-/// The tail answers so to the next item of its lane.
-fn assert_records(rt: &impl Abort, tail: &mut Tail, item: Item, answer: Took) {
-    assert_eq!(rt; record(rt, tail, item), answer);
+/// The tail answers so to the next items of its lanes.
+fn assert_records(
+    rt: &(impl Abort + AllocGlobal),
+    tail: &mut Tail,
+    rows: &[(Sample, Took)],
+) -> Result<(), AllocError> {
+    for (sample, answer) in rows {
+        let item = item_of(rt.alloc(), *sample)?;
+        let took = record(rt, tail, item);
+        assert!(rt; took == *answer);
+    }
+    Ok(())
 }
 
-#[test]
-fn tail_records(rt: HostRuntime) -> Result<(), Fail> {
-    let mut tail = Tail::new(rt.alloc(), 7, 3);
-    assert_records(&rt, &mut tail, Item::Event(Event::Active), Took::Ran);
-    assert_records(&rt, &mut tail, Item::Flag(false), Took::Ran);
-    assert_records(&rt, &mut tail, Item::Event(Event::ReadComplete), Took::Ran);
-    assert_eq!(rt; tail.is_ended(), false);
-    let failed = Took::Failed(Cause::Refused);
-    assert_records(&rt, &mut tail, Item::Fail(Cause::Refused), failed);
-    assert_records(&rt, &mut tail, Item::Flag(true), Took::Dropped);
-    assert_eq!(rt; tail.is_ended(), true);
-    assert_eq!(rt; tail.cause(), Some(Cause::Refused));
-    assert_eq!(rt; tail.taken(lane(Kind::Data, 3)), 3);
-    assert_eq!(rt; tail.taken(lane(Kind::Flags, 3)), 2);
+/// The tail was given two events.
+fn assert_recorded(rt: &impl Abort, record: &[Event]) {
+    let events = [Event::Active, Event::ReadComplete];
+    assert!(rt; record == events.as_slice());
+}
+
+const RECORDED: [(Sample, Took); 3] = [
+    (Sample::Active, Took::Ran),
+    (Sample::Flag(false), Took::Ran),
+    (Sample::ReadComplete, Took::Ran),
+];
+
+const REFUSED: [(Sample, Took); 2] = [
+    (Sample::Fail(Cause::Refused), Took::Failed(Cause::Refused)),
+    (Sample::Flag(true), Took::Dropped),
+];
+
+/// The tail counts what it is given, lane by lane. Of another channel it was given nothing.
+fn assert_counts(rt: &impl Abort, tail: &Tail) {
+    assert!(rt; tail.taken(lane(Kind::Data, 3)) == 3);
+    assert!(rt; tail.taken(lane(Kind::Flags, 3)) == 2);
     let other = Lane {
         channel: 6,
         kind: Kind::Flags,
         hop: 3,
     };
-    assert_eq!(rt; tail.taken(other), 0);
-    let events = [Event::Active, Event::ReadComplete];
-    assert_eq!(rt; tail.record(), events.as_slice());
-    assert_eq!(rt; tail.flags(), [false].as_slice());
-    assert_eq!(rt; tail.into_record().as_slice(), events.as_slice());
+    assert!(rt; tail.taken(other) == 0);
+}
 
+const ENDED: [(Sample, Took); 2] = [(Sample::End, Took::Ended), (Sample::Flag(false), Took::Ran)];
+
+/// A tail has failed for this, and records one flag.
+fn assert_tail(rt: &impl Abort, tail: &Tail, cause: Option<Cause>) {
+    assert!(rt; tail.cause() == cause);
+    assert!(rt; tail.flags() == [false].as_slice());
+}
+
+/// A tail whose lane of data has ended records flags still, and did not fail.
+fn assert_records_past_its_end(rt: &(impl Abort + AllocGlobal)) -> Result<(), AllocError> {
     let mut tail = Tail::new(rt.alloc(), 7, 3);
-    assert_records(&rt, &mut tail, Item::End, Took::Ended);
-    assert_records(&rt, &mut tail, Item::Flag(false), Took::Ran);
-    assert_eq!(rt; tail.cause(), None);
-    assert_eq!(rt; tail.flags(), [false].as_slice());
+    assert_records(rt, &mut tail, &ENDED)?;
+    assert_tail(rt, &tail, None);
     Ok(())
+}
+
+#[test]
+fn tail_records(rt: HostRuntime) -> Result<(), Fail> {
+    let mut tail = Tail::new(rt.alloc(), 7, 3);
+    assert_records(&rt, &mut tail, &RECORDED)?;
+    assert!(rt; !tail.is_ended());
+    assert_records(&rt, &mut tail, &REFUSED)?;
+    assert!(rt; tail.is_ended());
+    assert_tail(&rt, &tail, Some(Cause::Refused));
+    assert_counts(&rt, &tail);
+    assert_recorded(&rt, tail.record());
+    assert_recorded(&rt, tail.into_record().as_slice());
+    Ok(assert_records_past_its_end(&rt)?)
 }
 
 /// Puts an item of one lane, which has a place.
@@ -419,29 +529,43 @@ fn put(outputs: &mut Outputs, number: u64, item: Item) -> Added
     outputs.put(data(2, number, item))
 }
 
+/// An empty list has room for three items, and cannot have room for as many as there are numbers.
+fn assert_reserves(rt: &impl Abort, outputs: &mut Outputs) -> Result<(), AllocError>
+    ensures { outputs.new.stopped ≡ outputs.old.stopped }
+{
+    assert!(rt; outputs.is_empty());
+    outputs.reserve(3)?;
+    assert!(rt; outputs.reserve(usize::MAX).is_err());
+    assert!(rt; outputs.reserve(usize::MAX - 1).is_err());
+    assert!(rt; outputs.is_empty());
+    Ok(())
+}
+
+/// Three items are put, one behind another.
+fn assert_puts(rt: &impl Abort, outputs: &mut Outputs)
+    requires { HasPlaces outputs.old.stopped (sample_lane ∷ []) }
+{
+    let added = put(outputs, 0, Item::Event(Event::Active));
+    assert_eq!(rt; added, Added::Last);
+    let added = put(outputs, 1, Item::Event(Event::Flush));
+    assert_eq!(rt; added, Added::Last);
+    let added = put(outputs, 2, Item::End);
+    assert_eq!(rt; added, Added::Last);
+    assert!(rt; !outputs.is_empty());
+    assert!(rt; !outputs.has_stopped());
+}
+
 #[test]
 fn outputs_come_in_order(rt: HostRuntime) -> Result<(), Fail> {
     let mut outputs = Outputs::new(rt.alloc(), 1)?;
-    assert_eq!(rt; outputs.is_empty(), true);
-    outputs.reserve(3)?;
-    assert_eq!(rt; outputs.reserve(usize::MAX).is_err(), true);
-    assert_eq!(rt; outputs.reserve(usize::MAX - 1).is_err(), true);
-    assert_eq!(rt; outputs.is_empty(), true);
-    let added = put(&mut outputs, 0, Item::Event(Event::Active));
-    assert_eq!(rt; added, Added::Last);
-    let added = put(&mut outputs, 1, Item::Event(Event::Flush));
-    assert_eq!(rt; added, Added::Last);
-    let added = put(&mut outputs, 2, Item::End);
-    assert_eq!(rt; added, Added::Last);
-    assert_eq!(rt; outputs.is_empty(), false);
-    assert_eq!(rt; outputs.has_stopped(), false);
+    assert_reserves(&rt, &mut outputs)?;
+    assert_puts(&rt, &mut outputs);
     let want = [
-        event(2, 0, Event::Active),
-        event(2, 1, Event::Flush),
-        data(2, 2, Item::End),
+        (2, 0, Sample::Active),
+        (2, 1, Sample::Flush),
+        (2, 2, Sample::End),
     ];
-    assert_eq!(rt; drained(rt.alloc(), outputs)?.as_slice(), want.as_slice());
-    Ok(())
+    Ok(assert_brings(&rt, outputs, &want)?)
 }
 
 /// Adds an item of one lane, which has a place.
@@ -452,14 +576,22 @@ fn add(backlog: &mut Backlog<u8>, number: u64, token: u8) -> Option<u8>
     backlog.add(data(2, number, Item::Event(Event::Active)), token)
 }
 
+/// Takes the first envelope of a backlog, and answers its number and its token.
+fn take_first(backlog: &mut Backlog<u8>) -> Option<(u64, u8)> {
+    let (envelope, token) = backlog.take_at(0)?;
+    let number = envelope.number;
+    drop(envelope);
+    Some((number, token))
+}
+
 /// The numbers that a backlog brings, with their tokens.
 fn numbers(alloc: Global, mut backlog: Backlog<u8>) -> Result<Vec<(u64, u8)>, AllocError> {
     let mut numbers = Vec::new(alloc);
     for _ in 0..100 {
-        match backlog.take_at(0) {
-            Some((envelope, token)) => numbers.push((envelope.number, token))?,
-            None => break,
-        }
+        let Some(next) = take_first(&mut backlog) else {
+            break;
+        };
+        numbers.push(next)?;
     }
     Ok(numbers)
 }
@@ -467,13 +599,13 @@ fn numbers(alloc: Global, mut backlog: Backlog<u8>) -> Result<Vec<(u64, u8)>, Al
 #[test]
 fn backlog_keeps_its_order(rt: HostRuntime) -> Result<(), Fail> {
     let mut backlog = Backlog::new(rt.alloc(), 1)?;
-    assert_eq!(rt; backlog.is_empty(), true);
+    assert!(rt; backlog.is_empty());
     assert_eq!(rt; add(&mut backlog, 0, 10), None);
     assert_eq!(rt; add(&mut backlog, 1, 11), None);
     assert_eq!(rt; add(&mut backlog, 2, 12), None);
-    assert_eq!(rt; backlog.is_empty(), false);
-    assert_eq!(rt; backlog.has_stopped(), false);
-    assert_eq!(rt; backlog.take_at(3).is_none(), true);
+    assert!(rt; !backlog.is_empty());
+    assert!(rt; !backlog.has_stopped());
+    assert!(rt; backlog.take_at(3).is_none());
     match backlog.front() {
         Some((envelope, token)) => {
             assert_eq!(rt; envelope.number, 0);
@@ -495,6 +627,22 @@ fn backlog_keeps_its_order(rt: HostRuntime) -> Result<(), Fail> {
     Ok(())
 }
 
+/// A list brings events with the numbers from 0 on and below this, and then a failure, if there were to be more.
+fn assert_gives_way(
+    rt: &(impl Abort + AllocGlobal),
+    mut outputs: Outputs,
+    whole: u64,
+) -> Result<(), AllocError> {
+    for number in 0..whole {
+        assert_brings_next(rt, &mut outputs, (2, number, Sample::Active))?;
+    }
+    if whole < 8 {
+        assert_brings_next(rt, &mut outputs, (2, whole, Sample::Fail(Cause::Memory)))?;
+    }
+    assert!(rt; outputs.is_empty());
+    Ok(())
+}
+
 /// Of eight items, the first that finds no memory gives way to a failure with its number, and the rest is discarded.
 /// With memory for all of them nothing gives way, so this says something where an allocation is made to fail.
 #[test]
@@ -512,17 +660,7 @@ fn item_without_memory_gives_way(rt: HostRuntime) -> Result<(), Fail> {
         }
     }
     assert_eq!(rt; outputs.has_stopped(), whole < 8);
-    let put = drained(rt.alloc(), outputs)?;
-    assert_eq!(rt; put.len() as u64, 8.min(whole + 1));
-    for envelope in &put {
-        let want = if envelope.number < whole {
-            Item::Event(Event::Active)
-        } else {
-            Item::Fail(Cause::Memory)
-        };
-        assert_eq!(rt; envelope.item, want);
-    }
-    Ok(())
+    Ok(assert_gives_way(&rt, outputs, whole)?)
 }
 
 /// The same of a backlog, which gives the tokens of those that it discards back.
@@ -544,25 +682,28 @@ fn backlog_without_memory_gives_tokens_back(rt: HostRuntime) -> Result<(), Fail>
     Ok(())
 }
 
+/// The tail records an event, or has failed and records nothing.
+fn assert_records_or_fails(rt: &(impl Abort + AllocGlobal)) {
+    let mut tail = Tail::new(rt.alloc(), 7, 3);
+    let cause = match record(rt, &mut tail, Item::Event(Event::Active)) {
+        Took::Failed(cause) => Some(cause),
+        _ => None,
+    };
+    assert!(rt; tail.cause() == cause);
+    assert!(rt; tail.record().is_empty() == cause.is_some());
+}
+
 /// An event for which a context finds no memory fails it, and one for which the tail finds none ends the record.
 #[test]
 fn event_without_memory_fails_its_taker(rt: HostRuntime) -> Result<(), Fail> {
     let mut context = context_of(rt.alloc(), Direction::Inbound, 9);
-    let (took, put) = give(&rt, &mut context, Item::Event(Event::Active))?;
+    let (took, outputs) = give(&rt, &mut context, Item::Event(Event::Active))?;
     let want = match took {
-        Took::Failed(cause) => Item::Fail(cause),
-        _ => Item::Event(Event::Active),
+        Took::Failed(cause) => Sample::Fail(cause),
+        _ => Sample::Active,
     };
-    assert_eq!(rt; put.as_slice(), [data(2, 0, want)].as_slice());
+    assert_brings(&rt, outputs, &[(2, 0, want)])?;
     assert_eq!(rt; context.is_ended(), took == Took::Failed(Cause::Memory));
-
-    let mut tail = Tail::new(rt.alloc(), 7, 3);
-    let took = record(&rt, &mut tail, Item::Event(Event::Active));
-    let cause = match took {
-        Took::Failed(cause) => Some(cause),
-        _ => None,
-    };
-    assert_eq!(rt; tail.cause(), cause);
-    assert_eq!(rt; tail.record().is_empty(), cause.is_some());
+    assert_records_or_fails(&rt);
     Ok(())
 }

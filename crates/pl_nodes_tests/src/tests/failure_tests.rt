@@ -3,16 +3,15 @@
 
 ghost use Rattle.std.specs.Prelude.{◌≤◌};
 
-use crate::tests::context_tests::drained;
 use crate::tests::head_tests::{
     Answer, CLOSED, Call, ENDED, Expected, FAULT, GAVE, IDLE, LEFT, RAN, apply, assert_head, give,
-    head, nothing_to_read, played, reading_head,
+    head, nothing_to_read, played, reading_head, write_once,
 };
 use crate::tests::input_tests::outputs_of_one;
 use crate::tests::load_tests::write_of;
 use crate::tests::transport_tests::Broken;
 use pl_context::{Outputs, Standing, Took};
-use pl_event::{Cause, Event, Item, Outcome};
+use pl_event::{Cause, Envelope, Item, Outcome};
 use pl_head::{Head, MemoryTransport, OutStep, ReadStep, Transport};
 use std::alloc::{AllocError, Global};
 use std::process::Abort;
@@ -29,6 +28,32 @@ enum Given {
     Flag(u64, bool),
 }
 
+/// What an envelope carries.
+fn given_by(envelope: Envelope) -> Given {
+    let number = envelope.number;
+    match envelope.item {
+        Item::Event(event) => {
+            drop(event);
+            Given::Event(number)
+        }
+        Item::End => Given::End(number),
+        Item::Fail(cause) => Given::Fail(number, cause),
+        Item::Flag(value) => Given::Flag(number, value),
+    }
+}
+
+/// The last of up to 100 envelopes that a list brings.
+fn last_of(mut outputs: Outputs) -> Option<Given> {
+    let mut last = None;
+    for _ in 0..100 {
+        let Some(envelope) = outputs.next() else {
+            break;
+        };
+        last = Some(given_by(envelope));
+    }
+    last
+}
+
 /// This call of a head, which is no write of its transport, puts out this last, or nothing.
 fn assert_last<T: Transport>(
     rt: &(impl Abort + AllocGlobal),
@@ -37,16 +62,7 @@ fn assert_last<T: Transport>(
     given: Option<Given>,
 ) -> Result<(), AllocError> {
     let (_, outputs) = apply(rt, head, call)?;
-    let mut last = None;
-    for envelope in drained(rt.alloc(), outputs)? {
-        last = match envelope.item {
-            Item::Event(_) => Some(Given::Event(envelope.number)),
-            Item::End => Some(Given::End(envelope.number)),
-            Item::Fail(cause) => Some(Given::Fail(envelope.number, cause)),
-            Item::Flag(value) => Some(Given::Flag(envelope.number, value)),
-        };
-    }
-    assert!(rt; last == given);
+    assert!(rt; last_of(outputs) == given);
     Ok(())
 }
 
@@ -73,14 +89,16 @@ const PONG: [Expected; 4] = [
     (Call::Flush, RAN, None, 7),
 ];
 
-/// The head of a transport that fails at this call, when it has taken a message.
+/// The head of a transport that fails at this call, when it has taken a message, and after these calls.
 fn head_with_pong(
     rt: &(impl Abort + AllocGlobal),
     abort_after: Option<u32>,
     fail_at: u32,
+    rows: &[Expected],
 ) -> Result<Head<MemoryTransport>, AllocError> {
     let head = reading_head(rt.alloc(), abort_after, 4, Some(fail_at), 32, 64)?;
-    played(rt, head, &PONG)
+    let head = played(rt, head, &PONG)?;
+    played(rt, head, rows)
 }
 
 /// What the next read step gives then, where the transport has failed.
@@ -100,10 +118,9 @@ fn fails_at(
     bytes: &[u8],
     outcomes: [Option<Outcome>; 2],
 ) -> Result<(), AllocError> {
-    let mut head = played(rt, head_with_pong(rt, None, call)?, &BYE)?;
+    let mut head = head_with_pong(rt, None, call, &BYE)?;
     for _ in 0..4 {
-        let mut outputs = outputs_of_one(rt.alloc())?;
-        head.write_once(&mut outputs);
+        drop(write_once(rt.alloc(), &mut head)?);
     }
     let is_before_the_end = call < 5;
     let (given, cause) = if is_before_the_end {
@@ -129,11 +146,20 @@ fn fault_at_each_call(rt: HostRuntime) -> Result<(), Fail> {
 }
 
 /// The failure comes in the place of the next read step, and then none is left.
+fn assert_fault_is_last(
+    rt: &(impl Abort + AllocGlobal),
+    head: &mut Head<MemoryTransport>,
+) -> Result<(), AllocError> {
+    assert_last(rt, head, Call::Read, THE_FAULT)?;
+    assert!(rt; !head.has_read_step());
+    assert_last(rt, head, Call::Read, None)
+}
+
+/// The failure is the last read step, and an abort behind it gives nothing.
 #[test]
 fn transport_fault(rt: HostRuntime) -> Result<(), Fail> {
-    let mut head = played(&rt, head_with_pong(&rt, None, 2)?, &TO_THE_FAULT)?;
-    assert_last(&rt, &mut head, Call::Read, THE_FAULT)?;
-    assert_last(&rt, &mut head, Call::Read, None)?;
+    let mut head = head_with_pong(&rt, None, 2, &TO_THE_FAULT)?;
+    assert_fault_is_last(&rt, &mut head)?;
     assert_last(&rt, &mut head, Call::Abort, None)?;
     assert_head(&rt, &head, b"+PON", &[FAULT], Some(Cause::Transport));
     Ok(())
@@ -148,10 +174,8 @@ const TO_THE_FAULT: [Expected; 2] = [
 #[test]
 fn failure_replaces_the_abort(rt: HostRuntime) -> Result<(), Fail> {
     let failure = [(Call::Out, Answer::Out(OutStep::Failed), None, 0)];
-    let mut head = played(&rt, head_with_pong(&rt, Some(1), 1)?, &failure)?;
-    assert_last(&rt, &mut head, Call::Read, THE_FAULT)?;
-    assert!(rt; !head.has_read_step());
-    assert_last(&rt, &mut head, Call::Read, None)?;
+    let mut head = head_with_pong(&rt, Some(1), 1, &failure)?;
+    assert_fault_is_last(&rt, &mut head)?;
     assert_head(&rt, &head, b"", &[FAULT], Some(Cause::Transport));
     Ok(())
 }

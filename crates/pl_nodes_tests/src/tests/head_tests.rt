@@ -1,6 +1,6 @@
 //! A head: writes, flushes, ends, failures, marks, windows, and bursts that are held.
 
-ghost use Rattle.std.specs.Prelude.{◌≡◌, ◌+◌, ◌<◌, ◌≤◌, ◌^◌, [], length, IfOk};
+ghost use Rattle.std.specs.Prelude.{◌≡◌, ◌+◌, ◌<◌, ◌≤◌, ◌^◌, [], ◌∷◌, length, IfOk};
 ghost use Rattle.pl_event.specs.Inputs.{recorded_input};
 
 use crate::tests::input_tests::outputs_of_one;
@@ -64,13 +64,28 @@ pub(crate) fn nothing_to_read(alloc: Global) -> ReadPlan
     }
 }
 
+/// These bytes, as one chunk or message.
+pub(crate) fn text(alloc: Global, bytes: &[u8]) -> Result<ByteString, AllocError>
+    ensures { IfOk result (λ text. text ≡ bytes.now) }
+{
+    Ok(ByteString::from_vec(Vec::from_slice(alloc, bytes)?))
+}
+
+/// A burst of one chunk.
+fn burst(alloc: Global, bytes: &[u8]) -> Result<Sequence<ByteString>, AllocError>
+    ensures { IfOk result (λ burst. burst ≡ bytes.now ∷ []) }
+{
+    let chunk = text(alloc, bytes)?;
+    Ok(Sequence::from_vec(vec![in alloc; chunk]?))
+}
+
 /// Two bursts of one chunk each, with an abort after some of them or none.
 fn two_bursts(alloc: Global, abort_after: Option<u32>) -> Result<ReadPlan, AllocError>
     ensures { IfOk result (λ plan. length (recorded_input plan.bursts) + 1 < 2 ^ 31) }
 {
-    let first = vec![in alloc; ByteString::from_vec(Vec::from_slice(alloc, b"PING\n")?)]?;
-    let second = vec![in alloc; ByteString::from_vec(Vec::from_slice(alloc, b"PING\n")?)]?;
-    let bursts = vec![in alloc; Sequence::from_vec(first), Sequence::from_vec(second)]?;
+    let first = burst(alloc, b"PING\n")?;
+    let second = burst(alloc, b"PING\n")?;
+    let bursts = vec![in alloc; first, second]?;
     Ok(ReadPlan {
         bursts: Sequence::from_vec(bursts),
         abort_after,
@@ -107,27 +122,27 @@ pub(crate) fn reading_head(
     Ok(Head::new(alloc, 0, 3, plan, transport, low, high))
 }
 
+/// A write of these bytes.
+fn write(alloc: Global, bytes: &[u8]) -> Result<Item, AllocError> {
+    let message = Message::Bytes(text(alloc, bytes)?);
+    Ok(Item::Event(Event::Write(message)))
+}
+
 /// The item that a call gives to the head, if it gives one.
 fn item_of(alloc: Global, call: Call) -> Result<Option<Item>, AllocError> {
-    match call {
-        Call::Write(count) => {
-            let bytes = &PONG[..count.min(PONG.len())];
-            let bytes = ByteString::from_vec(Vec::from_slice(alloc, bytes)?);
-            Ok(Some(Item::Event(Event::Write(Message::Bytes(bytes)))))
-        }
-        Call::WriteAb => {
-            let bytes = ByteString::from_vec(Vec::from_slice(alloc, b"ab")?);
-            Ok(Some(Item::Event(Event::Write(Message::Bytes(bytes)))))
-        }
+    let item = match call {
+        Call::Write(count) => write(alloc, &PONG[..count.min(PONG.len())])?,
+        Call::WriteAb => write(alloc, b"ab")?,
         Call::WriteLine => {
-            let line = Message::Line(ByteString::from_vec(Vec::new(alloc)));
-            Ok(Some(Item::Event(Event::Write(line))))
+            let line = ByteString::from_vec(Vec::new(alloc));
+            Item::Event(Event::Write(Message::Line(line)))
         }
-        Call::Flush => Ok(Some(Item::Event(Event::Flush))),
-        Call::End => Ok(Some(Item::End)),
-        Call::Fail(cause) => Ok(Some(Item::Fail(cause))),
-        Call::Out | Call::Read | Call::Abort => Ok(None),
-    }
+        Call::Flush => Item::Event(Event::Flush),
+        Call::End => Item::End,
+        Call::Fail(cause) => Item::Fail(cause),
+        Call::Out | Call::Read | Call::Abort => return Ok(None),
+    };
+    Ok(Some(item))
 }
 
 /// Gives the next item to a head.
@@ -183,16 +198,21 @@ pub(crate) fn apply<T: Transport>(
     }
 }
 
-/// The flag that stands first on a list, if one does.
-fn flag_of(outputs: Outputs) -> Option<bool> {
-    let mut outputs = outputs;
-    match outputs.next() {
-        Some(envelope) => match envelope.item {
-            Item::Flag(value) => Some(value),
-            _ => None,
-        },
-        None => None,
+/// The number and the value of an envelope's flag, if it has one.
+pub(crate) fn flag_of(envelope: Envelope) -> Option<(u64, bool)> {
+    match envelope.item {
+        Item::Flag(value) => Some((envelope.number, value)),
+        other => {
+            drop(other);
+            None
+        }
     }
+}
+
+/// The value of the flag that stands first on a list, if one does.
+fn first_flag(mut outputs: Outputs) -> Option<bool> {
+    let (_, value) = flag_of(outputs.next()?)?;
+    Some(value)
 }
 
 /// A head after these calls, one after another.
@@ -204,7 +224,7 @@ pub(crate) fn played<T: Transport>(
     for row in rows {
         let (answer, outputs) = apply(rt, &mut head, row.0)?;
         assert!(rt; answer == row.1);
-        let flag = flag_of(outputs);
+        let flag = first_flag(outputs);
         assert!(rt; flag == row.2);
         let pending = head.pending();
         assert!(rt; pending == row.3);
@@ -363,6 +383,19 @@ const HELD: [Expected; 13] = [
     (Call::Out, Answer::Out(OutStep::Wrote(7)), Some(true), 0),
 ];
 
+/// What a head has written comes to this, in its copies.
+fn assert_copied(
+    rt: &(impl Abort + AllocGlobal),
+    head: &Head<MemoryTransport>,
+    bytes: &[u8],
+    outcomes: &[Option<Outcome>],
+) -> Result<(), AllocError> {
+    let (copied, settled) = head.copies(rt.alloc())?;
+    assert!(rt; copied.as_slice() == bytes);
+    assert!(rt; settled.as_slice() == outcomes);
+    Ok(())
+}
+
 /// The copies of what a head has written, and then what it gives for itself.
 fn assert_copies(
     rt: &(impl Abort + AllocGlobal),
@@ -370,9 +403,7 @@ fn assert_copies(
     bytes: &[u8],
     outcomes: &[Option<Outcome>],
 ) -> Result<(), Fail> {
-    let copied = head.copies(rt.alloc())?;
-    assert!(rt; copied.0.as_slice() == bytes);
-    assert!(rt; copied.1.as_slice() == outcomes);
+    assert_copied(rt, &head, bytes, outcomes)?;
     let written = head.into_written(rt.alloc())?;
     assert!(rt; written.bytes.as_slice() == bytes);
     assert!(rt; written.outcomes.as_slice() == outcomes);
@@ -454,9 +485,14 @@ fn failed_transport(rt: HostRuntime) -> Result<(), Fail> {
     let outcomes = [FAULT, FAULT, FAULT, Some(Outcome::Unsupported)];
     assert_head(&rt, &head, b"+PON", &outcomes, Some(Cause::Transport));
     assert!(rt; head.is_ended());
-    assert!(rt; head.standing() == Standing::Open);
-    assert_eq!(rt; head.taken(), 7);
+    assert_took(&rt, &head, Standing::Open, 7);
     Ok(())
+}
+
+/// A head has taken this many items, and its lane stands so.
+fn assert_took(rt: &impl Abort, head: &Head<MemoryTransport>, standing: Standing, count: u64) {
+    assert!(rt; head.taken() == count);
+    assert!(rt; head.standing() == standing);
 }
 
 const AFTER_ITS_END: [Expected; 5] = [
@@ -471,8 +507,7 @@ const AFTER_ITS_END: [Expected; 5] = [
 #[test]
 fn item_after_the_end_is_counted(rt: HostRuntime) -> Result<(), Fail> {
     let head = played(&rt, head(rt.alloc(), 4, None, 1, 2), &AFTER_ITS_END)?;
-    assert_eq!(rt; head.taken(), 5);
-    assert!(rt; head.standing() == Standing::Ended);
+    assert_took(&rt, &head, Standing::Ended, 5);
     assert_head(&rt, &head, b"", &[CLOSED], None);
     Ok(())
 }

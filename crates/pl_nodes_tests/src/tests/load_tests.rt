@@ -3,27 +3,62 @@
 ghost use Rattle.std.specs.Prelude.{◌<◌};
 
 use crate::tests::head_tests::{give, head, write_once};
+use pl_context::Outputs;
 use pl_event::{ByteString, Event, Item, Message, Outcome};
+use pl_head::{Head, MemoryTransport};
 use std::alloc::{AllocError, Global};
 use std::process::Abort;
 use std::test::Fail;
 
 /// A write of a message of this size.
 pub(crate) fn write_of(alloc: Global, size: usize) -> Result<Item, AllocError> {
-    let bytes = ByteString::from_vec(vec![in alloc; b'a'; size]?);
-    Ok(Item::Event(Event::Write(Message::Bytes(bytes))))
+    let bytes = vec![in alloc; b'a'; size]?;
+    let message = Message::Bytes(ByteString::from_vec(bytes));
+    Ok(Item::Event(Event::Write(message)))
+}
+
+/// Writes a message of this size.
+pub(crate) fn write(
+    rt: &impl Abort,
+    alloc: Global,
+    head: &mut Head<MemoryTransport>,
+    size: usize,
+) -> Result<Outputs, AllocError> {
+    let (_, outputs) = give(rt, alloc, head, write_of(alloc, size)?)?;
+    Ok(outputs)
+}
+
+/// Flushes what was written.
+pub(crate) fn flush(
+    rt: &impl Abort,
+    alloc: Global,
+    head: &mut Head<MemoryTransport>,
+) -> Result<(), AllocError> {
+    drop(give(rt, alloc, head, Item::Event(Event::Flush))?);
+    Ok(())
+}
+
+/// Writes a message of this size, and then byte by byte: it is not settled before its last byte has left.
+fn write_bytes(
+    rt: &impl Abort,
+    alloc: Global,
+    head: &mut Head<MemoryTransport>,
+    size: usize,
+) -> Result<(), AllocError> {
+    drop(write(rt, alloc, head, size)?);
+    flush(rt, alloc, head)?;
+    for _ in 0..size {
+        assert!(rt; head.outcomes() == [None].as_slice());
+        drop(write_once(alloc, head)?);
+    }
+    Ok(())
 }
 
 /// One message of this size leaves byte by byte.
 fn long_message(rt: &(impl Abort + AllocGlobal), size: usize) -> Result<(), Fail> {
     let alloc = rt.alloc();
     let mut head = head(alloc, 1, None, 4, 8);
-    give(rt, alloc, &mut head, write_of(alloc, size)?)?;
-    give(rt, alloc, &mut head, Item::Event(Event::Flush))?;
-    for _ in 0..size {
-        assert!(rt; head.outcomes() == [None].as_slice());
-        write_once(alloc, &mut head)?;
-    }
+    write_bytes(rt, alloc, &mut head, size)?;
     assert!(rt; head.outcomes() == [Some(Outcome::Success)].as_slice());
     assert_eq!(rt; head.bytes().len(), size);
     Ok(())
@@ -49,18 +84,29 @@ fn long_message_of_1048578(rt: HostRuntime) -> Result<(), Fail> {
     long_message(&rt, 1_048_578)
 }
 
+/// Writes empty messages, and then one of a byte, and flushes and writes once.
+fn write_empty(
+    rt: &impl Abort,
+    alloc: Global,
+    head: &mut Head<MemoryTransport>,
+    count: usize,
+) -> Result<(), AllocError> {
+    for _ in 0..count {
+        drop(write(rt, alloc, head, 0)?);
+    }
+    drop(write(rt, alloc, head, 1)?);
+    flush(rt, alloc, head)?;
+    drop(write_once(alloc, head)?);
+    Ok(())
+}
+
 /// Empty messages, and then one of a byte, are settled by one flush and one write.
 fn empty_messages(rt: &(impl Abort + AllocGlobal), count: usize) -> Result<(), AllocError>
     requires { count < 1000000 }
 {
     let alloc = rt.alloc();
     let mut head = head(alloc, 1, None, 4, 8);
-    for _ in 0..count {
-        give(rt, alloc, &mut head, write_of(alloc, 0)?)?;
-    }
-    give(rt, alloc, &mut head, write_of(alloc, 1)?)?;
-    give(rt, alloc, &mut head, Item::Event(Event::Flush))?;
-    write_once(alloc, &mut head)?;
+    write_empty(rt, alloc, &mut head, count)?;
     assert_eq!(rt; head.outcomes().len(), count + 1);
     for outcome in head.outcomes() {
         assert_eq!(rt; *outcome, Some(Outcome::Success));

@@ -3,9 +3,11 @@
 ghost use Rattle.std.specs.Prelude.{◌≡◌, [], None};
 ghost use Rattle.pl_head.specs.Transports.{new_state};
 
+use crate::tests::head_tests::PONG;
 use crate::trickle::Trickle;
 use pl_head::{MemoryTransport, Transport, TransportFault};
-use std::alloc::{AllocError, Global};
+use std::alloc::AllocError;
+use std::process::Abort;
 use std::test::Fail;
 
 /// A transport of a user's own whose calls all fail.
@@ -37,99 +39,87 @@ impl Transport for Broken {
     }
 }
 
-/// Offers a text again and again, what is left of it each time, and answers what each call answered.
-fn offer<T: Transport>(
-    alloc: Global,
+/// Offers a text again and again, what is left of it each time: the calls answer so, and have accepted these bytes.
+fn assert_accepts<T: Transport>(
+    rt: &impl Abort,
     transport: &mut T,
     text: &[u8],
-    calls: usize,
-) -> Result<Vec<Result<usize, TransportFault>>, AllocError> {
-    let mut answers = Vec::new(alloc);
-    let mut offset = 0;
-    for _ in 0..calls {
-        if offset > text.len() {
-            break;
+    answers: &[Result<usize, TransportFault>],
+    accepted: &[u8],
+) {
+    let mut left = text;
+    for answer in answers {
+        assert!(rt; transport.write(left) == *answer);
+        if let Ok(count) = *answer {
+            left = &left[count.min(left.len())..];
         }
-        let answer = transport.write(&text[offset..text.len()]);
-        if let Ok(count) = answer {
-            offset = offset.saturating_add(count);
-        }
-        answers.push(answer)?;
     }
-    Ok(answers)
+    assert!(rt; transport.bytes() == accepted);
 }
 
-#[test]
-fn window_of_3(rt: HostRuntime) -> Result<(), Fail> {
-    let alloc = rt.alloc();
-    let mut transport = MemoryTransport::new(alloc, 3, None);
-    let answers = offer(alloc, &mut transport, b"+PONG\r\n", 4)?;
-    assert_eq!(rt; answers.as_slice(), [Ok(3), Ok(3), Ok(1), Ok(0)].as_slice());
-    assert_eq!(rt; transport.bytes(), b"+PONG\r\n".as_slice());
-    assert_eq!(rt;
-        transport.into_bytes(alloc)?.as_slice(),
-        b"+PONG\r\n".as_slice()
-    );
+/// The bytes that a transport gives for itself are these.
+fn assert_gives<T: Transport>(
+    rt: &(impl Abort + AllocGlobal),
+    transport: T,
+    accepted: &[u8],
+) -> Result<(), AllocError> {
+    assert!(rt; transport.into_bytes(rt.alloc())?.as_slice() == accepted);
     Ok(())
 }
 
 #[test]
+fn window_of_3(rt: HostRuntime) -> Result<(), Fail> {
+    let mut transport = MemoryTransport::new(rt.alloc(), 3, None);
+    let answers = [Ok(3), Ok(3), Ok(1), Ok(0)];
+    assert_accepts(&rt, &mut transport, PONG, &answers, PONG);
+    Ok(assert_gives(&rt, transport, PONG)?)
+}
+
+#[test]
 fn window_of_1(rt: HostRuntime) -> Result<(), Fail> {
-    let alloc = rt.alloc();
-    let mut transport = MemoryTransport::new(alloc, 1, None);
-    let answers = offer(alloc, &mut transport, b"ab", 3)?;
-    assert_eq!(rt; answers.as_slice(), [Ok(1), Ok(1), Ok(0)].as_slice());
-    assert_eq!(rt; transport.bytes(), b"ab".as_slice());
+    let mut transport = MemoryTransport::new(rt.alloc(), 1, None);
+    let answers = [Ok(1), Ok(1), Ok(0)];
+    assert_accepts(&rt, &mut transport, b"ab", &answers, b"ab");
     Ok(())
 }
 
 #[test]
 fn window_of_65536(rt: HostRuntime) -> Result<(), Fail> {
     let alloc = rt.alloc();
-    let mut transport = MemoryTransport::new(alloc, 65_536, None);
     let text = vec![in alloc; b'x'; 65_537]?;
-    let answers = offer(alloc, &mut transport, text.as_slice(), 2)?;
-    assert_eq!(rt; answers.as_slice(), [Ok(65_536), Ok(1)].as_slice());
-    assert_eq!(rt; transport.bytes().len(), 65_537);
+    let mut transport = MemoryTransport::new(alloc, 65_536, None);
+    let answers = [Ok(65_536), Ok(1)];
+    assert_accepts(
+        &rt,
+        &mut transport,
+        text.as_slice(),
+        &answers,
+        text.as_slice(),
+    );
     Ok(())
 }
 
 #[test]
 fn fails_at_call_2(rt: HostRuntime) -> Result<(), Fail> {
-    let alloc = rt.alloc();
-    let mut transport = MemoryTransport::new(alloc, 4, Some(2));
-    assert_eq!(rt; transport.fail_at(), Some(2));
-    let answers = offer(alloc, &mut transport, b"+PONG\r\n", 3)?;
-    assert_eq!(rt;
-        answers.as_slice(),
-        [Ok(4), Err(TransportFault::Failed), Ok(3)].as_slice()
-    );
-    assert_eq!(rt; transport.bytes(), b"+PONG\r\n".as_slice());
+    let mut transport = MemoryTransport::new(rt.alloc(), 4, Some(2));
+    assert!(rt; transport.fail_at() == Some(2));
+    let answers = [Ok(4), Err(TransportFault::Failed), Ok(3)];
+    assert_accepts(&rt, &mut transport, PONG, &answers, PONG);
     Ok(())
 }
 
 #[test]
 fn a_byte_at_every_second_call(rt: HostRuntime) -> Result<(), Fail> {
-    let alloc = rt.alloc();
-    let mut transport = Trickle::new(alloc);
-    let answers = offer(alloc, &mut transport, b"ab", 5)?;
-    assert_eq!(rt;
-        answers.as_slice(),
-        [Ok(0), Ok(1), Ok(0), Ok(1), Ok(0)].as_slice()
-    );
-    assert_eq!(rt; transport.bytes(), b"ab".as_slice());
-    assert_eq!(rt; transport.into_bytes(alloc)?.as_slice(), b"ab".as_slice());
-    Ok(())
+    let mut transport = Trickle::new(rt.alloc());
+    let answers = [Ok(0), Ok(1), Ok(0), Ok(1), Ok(0)];
+    assert_accepts(&rt, &mut transport, b"ab", &answers, b"ab");
+    Ok(assert_gives(&rt, transport, b"ab")?)
 }
 
 #[test]
 fn each_call_fails(rt: HostRuntime) -> Result<(), Fail> {
-    let alloc = rt.alloc();
     let mut transport = Broken::new();
-    let answers = offer(alloc, &mut transport, b"ab", 2)?;
-    let fault = Err(TransportFault::Failed);
-    assert_eq!(rt; answers.as_slice(), [fault, fault].as_slice());
-    assert_eq!(rt; transport.bytes().len(), 0);
-    assert_eq!(rt; transport.into_bytes(alloc)?.len(), 0);
-    Ok(())
+    let answers = [Err(TransportFault::Failed); 2];
+    assert_accepts(&rt, &mut transport, b"ab", &answers, b"");
+    Ok(assert_gives(&rt, transport, b"")?)
 }

@@ -7,6 +7,7 @@ use crate::tests::context_tests::data;
 use pl_context::Waiting;
 use pl_event::Item;
 use std::alloc::{AllocError, Global};
+use std::process::Abort;
 use std::test::Fail;
 
 /// Nothing waits for any of three targets.
@@ -34,7 +35,8 @@ fn take(waiting: &mut Waiting<u8>, target: usize) -> Option<u8>
     ensures waits { WaitsForThree waiting.new }
     ensures added { waiting.new.added ≡ waiting.old.added }
 {
-    let (_, token) = waiting.take(target)?;
+    let (envelope, token) = waiting.take(target)?;
+    drop(envelope);
     Some(token)
 }
 
@@ -49,13 +51,23 @@ fn try_one(waiting: &mut Waiting<u8>, target: usize)
     }
 }
 
+/// The target of the oldest envelope.
+fn oldest(waiting: &Waiting<u8>) -> Option<usize> {
+    waiting.oldest(|_| true)
+}
+
+/// The target of the oldest envelope that is not for this one.
+fn oldest_but(waiting: &Waiting<u8>, closed: usize) -> Option<usize> {
+    waiting.oldest(|target| target != closed)
+}
+
 /// The targets of the oldest envelopes in turn, with their tokens.
 fn drained(alloc: Global, mut waiting: Waiting<u8>) -> Result<Vec<(usize, u8)>, AllocError>
     requires waits { WaitsForThree waiting }
 {
     let mut drained = Vec::new(alloc);
     for _ in 0..100 {
-        let Some(target) = waiting.oldest(|_| true) else {
+        let Some(target) = oldest(&waiting) else {
             break;
         };
         if let Some(token) = take(&mut waiting, target) {
@@ -65,37 +77,72 @@ fn drained(alloc: Global, mut waiting: Waiting<u8>) -> Result<Vec<(usize, u8)>, 
     Ok(drained)
 }
 
+/// The targets of what waits, the oldest first, with their tokens, are these.
+fn assert_drained(
+    rt: &(impl Abort + AllocGlobal),
+    waiting: Waiting<u8>,
+    want: &[(usize, u8)],
+) -> Result<(), AllocError>
+    requires { WaitsForThree waiting }
+{
+    assert!(rt; drained(rt.alloc(), waiting)?.as_slice() == want);
+    Ok(())
+}
+
+/// Two envelopes for 2, two for 0 and one for 1 wait. That of 1 is the third.
+fn add_five(waiting: &mut Waiting<u8>)
+    requires waits { WaitsForThree waiting.old }
+    requires few { waiting.old.added ≡ 0 }
+    ensures { WaitsForThree waiting.new }
+{
+    add(waiting, 2, 0);
+    add(waiting, 0, 1);
+    add(waiting, 1, 2);
+    add(waiting, 0, 3);
+    add(waiting, 2, 4);
+}
+
+/// The oldest of the five, where some targets are closed or none.
+fn assert_five(rt: &impl Abort, waiting: &Waiting<u8>) {
+    assert!(rt; !waiting.is_empty());
+    assert!(rt; waiting.count(0) == 2);
+    assert!(rt; oldest(waiting) == Some(2));
+    assert!(rt; waiting.oldest(|target| target == 1) == Some(1));
+    assert!(rt; waiting.oldest(|_| false) == None);
+}
+
+/// The queue of 2 is full: its envelope is still the oldest, and 0 has the oldest of the others.
+fn assert_full_queue(rt: &impl Abort, waiting: &mut Waiting<u8>)
+    requires { WaitsForThree waiting.old }
+    ensures { WaitsForThree waiting.new }
+{
+    try_one(waiting, 2);
+    assert!(rt; oldest(waiting) == Some(2));
+    assert!(rt; oldest_but(waiting, 2) == Some(0));
+}
+
+/// What is left for 0 is younger than what waits for 1.
+fn assert_younger(rt: &impl Abort, waiting: &mut Waiting<u8>)
+    requires { WaitsForThree waiting.old }
+    ensures { WaitsForThree waiting.new }
+{
+    assert!(rt; take(waiting, 0) == Some(1));
+    assert!(rt; oldest_but(waiting, 2) == Some(1));
+    try_one(waiting, 1);
+    assert!(rt; oldest_but(waiting, 2) == Some(1));
+    assert!(rt; waiting.count(1) == 1);
+}
+
 #[test]
 fn what_waits_keeps_its_order(rt: HostRuntime) -> Result<(), Fail> {
     let mut waiting = for_three(rt.alloc())?;
-    assert_eq!(rt; waiting.is_empty(), true);
-    assert_eq!(rt; waiting.oldest(|_| true), None);
-    add(&mut waiting, 2, 0);
-    add(&mut waiting, 0, 1);
-    add(&mut waiting, 1, 2);
-    add(&mut waiting, 0, 3);
-    add(&mut waiting, 2, 4);
-    assert_eq!(rt; waiting.is_empty(), false);
-    assert_eq!(rt; waiting.count(0), 2);
-    assert_eq!(rt; waiting.oldest(|_| true), Some(2));
-    assert_eq!(rt; waiting.oldest(|target| target == 1), Some(1));
-    assert_eq!(rt; waiting.oldest(|_| false), None);
-
-    // The queue of 2 is full: its envelope is still the oldest, and 0 has the oldest of the others.
-    try_one(&mut waiting, 2);
-    assert_eq!(rt; waiting.oldest(|_| true), Some(2));
-    assert_eq!(rt; waiting.oldest(|target| target != 2), Some(0));
-
-    // What is left for 0 is younger than what waits for 1.
-    assert_eq!(rt; take(&mut waiting, 0), Some(1));
-    assert_eq!(rt; waiting.oldest(|target| target != 2), Some(1));
-    try_one(&mut waiting, 1);
-    assert_eq!(rt; waiting.oldest(|target| target != 2), Some(1));
-    assert_eq!(rt; waiting.count(1), 1);
-
-    let want = [(2, 0), (1, 2), (0, 3), (2, 4)];
-    assert_eq!(rt; drained(rt.alloc(), waiting)?.as_slice(), want.as_slice());
-    Ok(())
+    assert!(rt; waiting.is_empty());
+    assert!(rt; oldest(&waiting) == None);
+    add_five(&mut waiting);
+    assert_five(&rt, &waiting);
+    assert_full_queue(&rt, &mut waiting);
+    assert_younger(&rt, &mut waiting);
+    Ok(assert_drained(&rt, waiting, &[(2, 0), (1, 2), (0, 3), (2, 4)])?)
 }
 
 /// A target for which nothing waits any more is asked for no longer, and comes last when something does again.
@@ -106,10 +153,8 @@ fn emptied_target_comes_last(rt: HostRuntime) -> Result<(), Fail> {
     add(&mut waiting, 2, 1);
     assert_eq!(rt; take(&mut waiting, 1), Some(0));
     assert_eq!(rt; take(&mut waiting, 1), None);
-    assert_eq!(rt; waiting.oldest(|_| true), Some(2));
+    assert!(rt; oldest(&waiting) == Some(2));
     add(&mut waiting, 1, 2);
-    assert_eq!(rt; waiting.oldest(|_| true), Some(2));
-    let want = [(2, 1), (1, 2)];
-    assert_eq!(rt; drained(rt.alloc(), waiting)?.as_slice(), want.as_slice());
-    Ok(())
+    assert!(rt; oldest(&waiting) == Some(2));
+    Ok(assert_drained(&rt, waiting, &[(2, 1), (1, 2)])?)
 }

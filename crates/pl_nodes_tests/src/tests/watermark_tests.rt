@@ -2,9 +2,9 @@
 
 ghost use Rattle.std.specs.Prelude.{◌≤◌};
 
-use crate::tests::head_tests::{Answer, give, head, write_once};
-use crate::tests::load_tests::write_of;
-use pl_event::{Event, Item};
+use crate::tests::head_tests::{Answer, flag_of, head, write_once};
+use crate::tests::load_tests::{flush, write};
+use pl_context::Outputs;
 use pl_head::{Head, MemoryTransport, OutStep};
 use std::alloc::{AllocError, Global};
 use std::process::Abort;
@@ -19,6 +19,26 @@ enum Size {
     Removed(usize),
 }
 
+/// The first message that waits, which is of this size, leaves whole.
+fn remove(
+    rt: &impl Abort,
+    alloc: Global,
+    head: &mut Head<MemoryTransport>,
+    size: usize,
+) -> Result<Outputs, AllocError> {
+    flush(rt, alloc, head)?;
+    let (answer, outputs) = write_once(alloc, head)?;
+    assert!(rt; answer == Answer::Out(OutStep::Wrote(size)));
+    Ok(outputs)
+}
+
+/// The number and the value of the flag that a list brings, if it does. It brings nothing behind that.
+fn flag_alone(rt: &impl Abort, mut outputs: Outputs) -> Option<(u64, bool)> {
+    let envelope = outputs.next()?;
+    assert!(rt; outputs.is_empty());
+    flag_of(envelope)
+}
+
 /// Adds or removes a size, and answers the number and the value of the flag that this sent.
 fn change(
     rt: &impl Abort,
@@ -26,25 +46,11 @@ fn change(
     head: &mut Head<MemoryTransport>,
     size: Size,
 ) -> Result<Option<(u64, bool)>, AllocError> {
-    let (_, mut outputs) = match size {
-        Size::Added(size) => give(rt, alloc, head, write_of(alloc, size)?)?,
-        Size::Removed(size) => {
-            give(rt, alloc, head, Item::Event(Event::Flush))?;
-            let (answer, outputs) = write_once(alloc, head)?;
-            assert!(rt; answer == Answer::Out(OutStep::Wrote(size)));
-            (answer, outputs)
-        }
+    let outputs = match size {
+        Size::Added(size) => write(rt, alloc, head, size)?,
+        Size::Removed(size) => remove(rt, alloc, head, size)?,
     };
-    match outputs.next() {
-        None => Ok(None),
-        Some(envelope) => {
-            assert!(rt; outputs.is_empty());
-            match envelope.item {
-                Item::Flag(value) => Ok(Some((envelope.number, value))),
-                _ => Ok(None),
-            }
-        }
-    }
+    Ok(flag_alone(rt, outputs))
 }
 
 /// A size, the flag that it is to send, and how many bytes are to wait after it.
