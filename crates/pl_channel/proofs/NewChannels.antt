@@ -15,7 +15,7 @@ use Rattle.pl_head.specs.HeadStand.{HeadView}
 use Rattle.pl_part.specs.ContextHolds.{context_writes, context_came}
 use Rattle.pl_part.specs.HeadHolds.{head_writes, head_came, head_taken}
 use Rattle.pl_part.specs.NewParts.{AreNew}
-use Rattle.pl_part.specs.Parts.{PartView, head_hop}
+use Rattle.pl_part.specs.Parts.{ChannelPartView, head_hop}
 use Rattle.pl_part.specs.Paths.{context_at, writer_hop, path_taken, path_writes, path_came}
 use Rattle.pl_channel.specs.Placing.{IsUnmoved}
 
@@ -30,7 +30,7 @@ tail-taken number k l = by (same_hop l (record { channel = number; kind = l.kind
     by true = none l.kind
     by false = refl
 
-module _ {S T : Type 0} (meaning : S → Meaning) (stands_after : S → List Event → Type 0) (world : World) (number k turn : ℕ) (part : PartView S T)
+module _ {S T : Type 0} (meaning : S → Meaning) (stands_after : S → List Event → Type 0) (world : World) (number k turn : ℕ) (part : ChannelPartView S T)
     (are : AreNew world meaning number k turn stands_after part.path.contexts) (tail : part.path.tail ≡ Some (new_tail number k))
     (h : HeadView T) (head : part.head ≡ Some h) (head_came_new : (l : Lane) → head_writes h l ≡ true → head_came h l ≡ point 0 false) (head_taken_none : (l : Lane) → head_taken h l ≡ 0) where
   path-came : (l : Lane) → path_writes meaning part.path l ≡ true → path_came meaning part.path l ≡ point 0 false

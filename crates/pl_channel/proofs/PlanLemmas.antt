@@ -24,7 +24,7 @@ use Rattle.pl_head.specs.Transports.{TransportState}
 use Rattle.pl_head.specs.InputStand.{InputStands}
 use Rattle.pl_head.specs.HeadStand.{HeadView, lane_over, Answers, first_cause, cause_of_item, cause_of_step}
 use Rattle.pl_part.specs.HeadCalls.{HeadTakes, HeadReads, HeadWrites}
-use Rattle.pl_part.specs.Parts.{PartView, PartTakes, PartReads, PartWrites, SamePart, head_hop}
+use Rattle.pl_part.specs.Parts.{ChannelPartView, PartTakes, PartReads, PartWrites, SamePart, head_hop}
 use Rattle.pl_world.specs.Plans.{ChannelPlan, read_plan}
 use Rattle.pl_channel.specs.PlanStand.{HeadKeepsPlan, PartKeepsPlan}
 
@@ -136,7 +136,7 @@ some-of None h = cc
 
 module _ {S T : Type 0} (meaning : S → Meaning) (stands_after : S → List Event → Type 0) (is_spent : S → Bool) (state : T → TransportState) (p : ChannelPlan) where
   -- The nodes stay where they are, and so does the plan, where the head goes on as it has it.
-  keeps-same : (part part' : PartView S T) → SamePart part part' → PartKeepsPlan state p part
+  keeps-same : (part part' : ChannelPartView S T) → SamePart part part' → PartKeepsPlan state p part
       → ((h' : HeadView T) → part'.head ≡ Some h' → HeadKeepsPlan state p h') → PartKeepsPlan state p part'
   keeps-same part part' same k head = record {
     executors = same.path.executors ∙ k.executors;
@@ -146,14 +146,14 @@ module _ {S T : Type 0} (meaning : S → Meaning) (stands_after : S → List Eve
   }
 
   -- the head of the part before, where there is one after
-  head-was : (part part' : PartView S T) (h' : HeadView T) → SamePart part part' → part'.head ≡ Some h' → (h : HeadView T) × (part.head ≡ Some h)
+  head-was : (part part' : ChannelPartView S T) (h' : HeadView T) → SamePart part part' → part'.head ≡ Some h' → (h : HeadView T) × (part.head ≡ Some h)
   head-was part part' h' same is = some-of part.head (sym same.head ∙ ap (λ (o : Option (HeadView T)). is_some o) is)
 
   -- one head, however it is found
   same-head : (o : Option (HeadView T)) (h h' : HeadView T) → o ≡ Some h → o ≡ Some h' → HeadKeepsPlan state p h → HeadKeepsPlan state p h'
   same-head o h h' a b k = subst (HeadKeepsPlan state p) (some-equal h h' (sym a ∙ b)) k
 
-  pub part-takes-keeps : (part part' : PartView S T) (e : Envelope) (before after : OutputsView) (answer : Took) → SamePart part part'
+  pub part-takes-keeps : (part part' : ChannelPartView S T) (e : Envelope) (before after : OutputsView) (answer : Took) → SamePart part part'
       → PartTakes meaning stands_after is_spent state part e before answer part' after → PartKeepsPlan state p part → PartKeepsPlan state p part'
   part-takes-keeps part part' e before after answer same t k = keeps-same part part' same k head
     where
@@ -167,7 +167,7 @@ module _ {S T : Type 0} (meaning : S → Meaning) (stands_after : S → List Eve
             | inr away ↦ k.head h' (sym (t.path away).1 ∙ is)
           ]
 
-  pub part-reads-keeps : (part part' : PartView S T) (before after : OutputsView) → SamePart part part'
+  pub part-reads-keeps : (part part' : ChannelPartView S T) (before after : OutputsView) → SamePart part part'
       → PartReads state part before reading.Gave part' after → PartKeepsPlan state p part → PartKeepsPlan state p part'
   part-reads-keeps part part' before after same r k = keeps-same part part' same k head
     where
@@ -177,7 +177,7 @@ module _ {S T : Type 0} (meaning : S → Meaning) (stands_after : S → List Eve
           let read = r.head was.0 was.1 in
           same-head part'.head read.0 h' read.1 is (reads-keeps state p was.0 read.0 before after read.2 (k.head was.0 was.1))
 
-  pub part-writes-keeps : (may_refuse : T → ℕ → Type 0) (part part' : PartView S T) (before after : OutputsView) (answer : OutStep) → SamePart part part'
+  pub part-writes-keeps : (may_refuse : T → ℕ → Type 0) (part part' : ChannelPartView S T) (before after : OutputsView) (answer : OutStep) → SamePart part part'
       → PartWrites state may_refuse part before answer part' after → PartKeepsPlan state p part → PartKeepsPlan state p part'
   part-writes-keeps may_refuse part part' before after answer same w k = keeps-same part part' same k head
     where

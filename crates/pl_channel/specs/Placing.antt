@@ -15,7 +15,7 @@ use Rattle.pl_head.specs.Transports.{TransportState}
 use Rattle.pl_head.specs.ReadSteps.{entrance}
 use Rattle.pl_head.specs.HeadStand.{HeadView, StandsAfter, ReadsStand}
 use Rattle.pl_part.specs.NewParts.{whole_slots}
-use Rattle.pl_part.specs.Parts.{PartView, part_taken, part_writes, part_came}
+use Rattle.pl_part.specs.Parts.{ChannelPartView, part_taken, part_writes, part_came}
 use Rattle.pl_world.specs.Plans.{ChannelPlan, read_plan, tail_hop, head_hop}
 
 -- the hop of the turn, the first of the inbound handlers that is one
@@ -44,7 +44,7 @@ pub record IsNewHead {T : Type 0} (state : T → TransportState) (number : ℕ) 
 
 -- A part has all nodes of a channel with this plan, each at its hop: contexts in each slot but the tail's, the tail, and
 -- the head.
-pub record IsWhole {S T : Type 0} (state : T → TransportState) (number : ℕ) (p : ChannelPlan) (transport : T) (part : PartView S T) : Type 0 where
+pub record IsWhole {S T : Type 0} (state : T → TransportState) (number : ℕ) (p : ChannelPlan) (transport : T) (part : ChannelPartView S T) : Type 0 where
   pub channel_is : part.path.channel ≡ number
   pub executors_are : part.path.executors ≡ p.executors
   pub hops : length p.executors ≡ head_hop p + 1
@@ -58,12 +58,12 @@ pub record IsWhole {S T : Type 0} (state : T → TransportState) (number : ℕ) 
 
 -- Its contexts are those of these stages, in the order of the two chains. No stage has had a step, and no context has taken or
 -- made anything.
-pub record HasNewStages {S T : Type 0} (meaning : S → Meaning) (stands_after : S → List Event → Type 0) (number : ℕ) (inbound outbound : List S) (part : PartView S T) : Type 0 where
+pub record HasNewStages {S T : Type 0} (meaning : S → Meaning) (stands_after : S → List Event → Type 0) (number : ℕ) (inbound outbound : List S) (part : ChannelPartView S T) : Type 0 where
   pub inbound_new : All (λ stage. stands_after stage []) inbound
   pub outbound_new : All (λ stage. stands_after stage []) outbound
   pub contexts_are : part.path.contexts ≡ whole_slots meaning number inbound outbound
 
 -- Nothing was taken of a lane, and each lane that one of its nodes writes is at its start.
-pub record IsUnmoved {S T : Type 0} (meaning : S → Meaning) (part : PartView S T) : Type 0 where
+pub record IsUnmoved {S T : Type 0} (meaning : S → Meaning) (part : ChannelPartView S T) : Type 0 where
   pub taken : (l : Lane) → part_taken part l ≡ 0
   pub came : (l : Lane) → part_writes meaning part l ≡ true → part_came meaning part l ≡ point 0 false

@@ -3,7 +3,7 @@ use Rattle.std.specs.Prelude.{◌≡◌, ℕ, List, length, Bool, true, is_some,
 use Rattle.pl_event.specs.declared.outcomes.Cause.TheVariants.{Aborted}
 use Rattle.pl_head.specs.Transports.{TransportState}
 use Rattle.pl_head.specs.HeadStand.{HeadView, ReadsStand}
-use Rattle.pl_part.specs.Parts.{PartView, head_hop}
+use Rattle.pl_part.specs.Parts.{ChannelPartView, head_hop}
 use Rattle.pl_world.specs.Plans.{ChannelPlan, Plan, read_plan, tail_hop}
 use Rattle.pl_world.specs.Plans.{head_hop as planned_head_hop}
 
@@ -18,13 +18,13 @@ module _ {T : Type 0} (state : T → TransportState) where
     pub aborted : h.failure ≡ Some Aborted → is_some p.abort_after ≡ true
 
   -- The nodes of a channel stand at the hops of its plan.
-  pub record PartKeepsPlan {S : Type 0} (p : ChannelPlan) (part : PartView S T) : Type 0 where
+  pub record PartKeepsPlan {S : Type 0} (p : ChannelPlan) (part : ChannelPartView S T) : Type 0 where
     pub executors : part.path.executors ≡ p.executors
     pub tail_at : part.path.tail_hop ≡ tail_hop p
     pub head_at : head_hop part ≡ planned_head_hop p
     pub head : (h : HeadView T) → part.head ≡ Some h → HeadKeepsPlan p h
 
   -- so do those of all channels
-  pub record PartsKeepPlan {S : Type 0} (plan : Plan) (parts : List (PartView S T)) : Type 0 where
+  pub record PartsKeepPlan {S : Type 0} (plan : Plan) (parts : List (ChannelPartView S T)) : Type 0 where
     pub count : length parts ≡ length plan.channels
-    pub each : (c : ℕ) (p : ChannelPlan) (part : PartView S T) → slice_get plan.channels c ≡ Some p → slice_get parts c ≡ Some part → PartKeepsPlan p part
+    pub each : (c : ℕ) (p : ChannelPlan) (part : ChannelPartView S T) → slice_get plan.channels c ≡ Some p → slice_get parts c ≡ Some part → PartKeepsPlan p part

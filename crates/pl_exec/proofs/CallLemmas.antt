@@ -22,7 +22,7 @@ use Rattle.pl_context.specs.Contexts.{TakesItem, TakesFlag, counted}
 use Rattle.pl_context.specs.OutputsViews.{OutputsView}
 use Rattle.pl_head.specs.Transports.{TransportState}
 use Rattle.pl_part.specs.Paths.{PathTakes, context_at}
-use Rattle.pl_part.specs.Parts.{PartView, PartHolds, PartTakes, SamePart, head_hop}
+use Rattle.pl_part.specs.Parts.{ChannelPartView, PartHolds, PartTakes, SamePart, head_hop}
 use Rattle.pl_part.specs.Taking.{ContextTakes}
 use Rattle.pl_exec.specs.OwnNodes.{NoneRefused}
 use Rattle.pl_exec.proofs.OwnNodeLemmas.{same-slot}
@@ -74,7 +74,7 @@ not-at-tail Inbound hop k is e = let i = is.0 in omega (arith, i, e)
 not-at-tail Turn hop k is e = let i = is.0 in omega (arith, i, e)
 not-at-tail Outbound hop k is e = let i = is.0 in omega (arith, i, e)
 
-module _ {S T : Type 0} (world : World) (meaning : S → Meaning) (stands_after : S → List Event → Type 0) (is_spent : S → Bool) (state : T → TransportState) (p p' : PartView S T)
+module _ {S T : Type 0} (world : World) (meaning : S → Meaning) (stands_after : S → List Event → Type 0) (is_spent : S → Bool) (state : T → TransportState) (p p' : ChannelPartView S T)
     (e : Envelope) (b : OutputsView) (answer : Took) (a : OutputsView) (same : SamePart p p') (holds : PartHolds world meaning stands_after state p') (t : PartTakes meaning stands_after is_spent state p e b answer p' a) where
   -- where the head took it, there is one
   pub take-refuses-none : ((e.lane.hop == head_hop p) ≡ true → is_some p.head ≡ true) → NoneRefused p → NoneRefused p'

@@ -22,7 +22,7 @@ use Rattle.pl_context.specs.TailViews.{TailView}
 use Rattle.pl_head.specs.HeadStand.{HeadView}
 use Rattle.pl_head.specs.Transports.{TransportState}
 use Rattle.pl_part.specs.Paths.{context_at, is_slot_over, path_over}
-use Rattle.pl_part.specs.Parts.{PartView, head_hop}
+use Rattle.pl_part.specs.Parts.{ChannelPartView, head_hop}
 use Rattle.pl_channel.specs.PlanStand.{PartsKeepPlan}
 use Rattle.pl_replay.specs.Channels.{executor_at}
 use Rattle.pl_world.specs.Plans.{ChannelPlan, Plan}
@@ -40,7 +40,7 @@ off-tail Inbound hop k at = λ e. let below = at.0 in omega (arith, e, below)
 off-tail Turn hop k at = λ e. let below = at.0 in omega (arith, e, below)
 off-tail Outbound hop k at = λ e. let above = at.0 in omega (arith, e, above)
 
-module _ {S T : Type 0} (world : World) (meaning : S → Meaning) (stands_after : S → List Event → Type 0) (state : T → TransportState) (me c : ℕ) (refused : Bool) (p : PartView S T)
+module _ {S T : Type 0} (world : World) (meaning : S → Meaning) (stands_after : S → List Event → Type 0) (state : T → TransportState) (me c : ℕ) (refused : Bool) (p : ChannelPartView S T)
     (stands : PartStands world meaning stands_after state me refused c p) (none : Contains p.path.executors me → ⊥) where
   no-node : (hop : ℕ) → hop ≤ head_hop p → has_node p hop ≡ false
   no-node hop within =
@@ -90,7 +90,7 @@ module _ {S T : Type 0} (world : World) (meaning : S → Meaning) (stands_after 
 
 -- ---- the channels that have nodes here
 
-module _ {S T : Type 0} (state : T → TransportState) (plan : Plan) (ps : List (PartView S T)) (me : ℕ) (here : List ℕ) where
+module _ {S T : Type 0} (state : T → TransportState) (plan : Plan) (ps : List (ChannelPartView S T)) (me : ℕ) (here : List ℕ) where
   -- by their nodes, and so by the plan
   pub on-plan : PartsKeepPlan state plan ps → AreOn (λ p. p.path.executors) ps me here → AreOn (λ q. q.executors) plan.channels me here
   on-plan keeps on = record {
@@ -99,7 +99,7 @@ module _ {S T : Type 0} (state : T → TransportState) (plan : Plan) (ps : List 
         let within = slice_get_within plan.channels c q at in
         let p = at-index ps c (omega (arith, count, within)) in
         on.all c p.0 p.1 (subst (λ (l : List ℕ). Contains l me) (sym (keeps.each c q p.0 at p.1).executors) has);
-    only = All-weaker (λ c. (p : PartView S T) × (slice_get ps c ≡ Some p) × Contains p.path.executors me) (λ c. (q : ChannelPlan) × (slice_get plan.channels c ≡ Some q) × Contains q.executors me)
+    only = All-weaker (λ c. (p : ChannelPartView S T) × (slice_get ps c ≡ Some p) × Contains p.path.executors me) (λ c. (q : ChannelPlan) × (slice_get plan.channels c ≡ Some q) × Contains q.executors me)
         (λ c x.
         let count = keeps.count in
         let within = slice_get_within ps c x.0 x.1 in
@@ -135,35 +135,35 @@ on-stays plan me me' here here' number same = subst (λ (z : ℕ × List ℕ). A
 
 -- ---- how they are found
 
-module _ {S T : Type 0} (ps : List (PartView S T)) (me : ℕ) where
+module _ {S T : Type 0} (ps : List (ChannelPartView S T)) (me : ℕ) where
   -- Of the first channels those that have a hop here.
   pub record FirstOn (n : ℕ) (here : List ℕ) : Type 0 where
-    pub all : (c : ℕ) (p : PartView S T) → c < n → slice_get ps c ≡ Some p → Contains p.path.executors me → Contains here c
-    pub only : All (λ c. (p : PartView S T) × (slice_get ps c ≡ Some p) × Contains p.path.executors me) here
+    pub all : (c : ℕ) (p : ChannelPartView S T) → c < n → slice_get ps c ≡ Some p → Contains p.path.executors me → Contains here c
+    pub only : All (λ c. (p : ChannelPartView S T) × (slice_get ps c ≡ Some p) × Contains p.path.executors me) here
 
   pub none-on : (here : List ℕ) → here ≡ [] → FirstOn 0 here
   none-on here none = record {
     all = λ c p below at has. absurd (omega (arith, below));
-    only = All-same (λ c. (p : PartView S T) × (slice_get ps c ≡ Some p) × Contains p.path.executors me) here [] none (All-nil (λ c. (p : PartView S T) × (slice_get ps c ≡ Some p) × Contains p.path.executors me));
+    only = All-same (λ c. (p : ChannelPartView S T) × (slice_get ps c ≡ Some p) × Contains p.path.executors me) here [] none (All-nil (λ c. (p : ChannelPartView S T) × (slice_get ps c ≡ Some p) × Contains p.path.executors me));
   }
 
-  module _ (n : ℕ) (p : PartView S T) (at : slice_get ps n ≡ Some p) (here : List ℕ) (so_far : FirstOn n here) where
+  module _ (n : ℕ) (p : ChannelPartView S T) (at : slice_get ps n ≡ Some p) (here : List ℕ) (so_far : FirstOn n here) where
     noted : (b : Bool) → Decides b (Contains p.path.executors me) → FirstOn (n + 1) (here ++ cond b (n ∷ []) [])
     noted b decides = record {
       all = λ c q below is has. ⊎_elim
           (λ (e : c ≡ n).
           let same = same_Some q p (sym is ∙ ap (λ (k : ℕ). slice_get ps k) e ∙ at) in
-          let on = decides.1 (subst (λ (x : PartView S T). Contains x.path.executors me) same has) in
+          let on = decides.1 (subst (λ (x : ChannelPartView S T). Contains x.path.executors me) same has) in
           subst (λ (k : ℕ). Contains (here ++ cond b (n ∷ []) []) k) (sym e)
           (Contains-append_right here (cond b (n ∷ []) []) n (subst (λ (d : Bool). Contains (cond d (n ∷ []) []) n) (sym on) (Contains-get_or (n ∷ []) 0 0 (omega arith)))))
           (λ (other : c ≢ n). Contains-append_left here (cond b (n ∷ []) []) c (so_far.all c q (omega (arith, below, other)) is has))
           (cases_eq c n);
-      only = All-append (λ c. (p : PartView S T) × (slice_get ps c ≡ Some p) × Contains p.path.executors me) here (cond b (n ∷ []) []) so_far.only (last b decides);
+      only = All-append (λ c. (p : ChannelPartView S T) × (slice_get ps c ≡ Some p) × Contains p.path.executors me) here (cond b (n ∷ []) []) so_far.only (last b decides);
     }
       where
-        last : (b : Bool) → Decides b (Contains p.path.executors me) → All (λ c. (p : PartView S T) × (slice_get ps c ≡ Some p) × Contains p.path.executors me) (cond b (n ∷ []) [])
-        last true d = All-cons (λ c. (p : PartView S T) × (slice_get ps c ≡ Some p) × Contains p.path.executors me) n [] (p, at, d.0 refl) (All-nil (λ c. (p : PartView S T) × (slice_get ps c ≡ Some p) × Contains p.path.executors me))
-        last false d = All-nil (λ c. (p : PartView S T) × (slice_get ps c ≡ Some p) × Contains p.path.executors me)
+        last : (b : Bool) → Decides b (Contains p.path.executors me) → All (λ c. (p : ChannelPartView S T) × (slice_get ps c ≡ Some p) × Contains p.path.executors me) (cond b (n ∷ []) [])
+        last true d = All-cons (λ c. (p : ChannelPartView S T) × (slice_get ps c ≡ Some p) × Contains p.path.executors me) n [] (p, at, d.0 refl) (All-nil (λ c. (p : ChannelPartView S T) × (slice_get ps c ≡ Some p) × Contains p.path.executors me))
+        last false d = All-nil (λ c. (p : ChannelPartView S T) × (slice_get ps c ≡ Some p) × Contains p.path.executors me)
 
     pub one-more-on : (now : List ℕ) (b : Bool) → Decides b (Contains p.path.executors me) → now ≡ here ++ cond b (n ∷ []) [] → FirstOn (n + 1) now
     one-more-on now b decides is = subst (FirstOn (n + 1)) (sym is) (noted b decides)

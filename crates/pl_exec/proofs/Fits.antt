@@ -17,7 +17,7 @@ use Rattle.pl_context.proofs.Places.{places-start}
 use Rattle.pl_flow.specs.Flows.{point, nowhere}
 use Rattle.pl_head.specs.Transports.{TransportState}
 use Rattle.pl_part.specs.Paths.{writer_hop}
-use Rattle.pl_part.specs.Parts.{PartView, head_hop, part_lanes, part_taken, part_writes, part_came}
+use Rattle.pl_part.specs.Parts.{ChannelPartView, head_hop, part_lanes, part_taken, part_writes, part_came}
 use Rattle.pl_part.specs.Shares.{executor_of}
 use Rattle.pl_part.proofs.ShareLemmas.{share-taken-none, share-came-same}
 use Rattle.pl_channel.specs.Lanes.{world_of}
@@ -54,25 +54,25 @@ numbered-at f n i y at =
     sym (get_or_from_slice_get (map f (range_with_len 0 n)) i y y at) ∙ get_or-map-range_with_len f 0 n i i y (omega (arith, within, size)) (omega arith)
 
 -- A table of the lanes between so many executors: it has each that goes from one to another on its way, and no others.
-pub record IsTable {S T : Type 0} (wholes : List (PartView S T)) (count : ℕ) (lanes : LaneTable) : Type 0 where
+pub record IsTable {S T : Type 0} (wholes : List (ChannelPartView S T)) (count : ℕ) (lanes : LaneTable) : Type 0 where
   pub size : length lanes ≡ count
   pub crossing : (x y : ℕ) (l : Lane) → is_lane wholes l ≡ true → origin_of wholes l ≡ x → whole_target wholes l ≡ y → x ≢ y → x < count → y < count → has_lane l (lanes_between lanes x y) ≡ true
   pub entering : (y : ℕ) (l : Lane) → has_lane l (all_lanes (lanes_to lanes y)) ≡ true → (x : ℕ) × (x ≢ y) × (origin_of wholes l ≡ x) × (whole_target wholes l ≡ y) × (is_lane wholes l ≡ true)
 
 module _ {S T : Type 0} (meaning : S → Meaning) (stands_after : S → List Event → Type 0) (state : T → TransportState) (plan : Plan) (rs : List (Recorded S T)) (planned : plan.channels ≡ map (channel_planned meaning state) rs)
-    (wholes : List (PartView S T)) (placed : ArePlaced meaning stands_after state rs wholes) (ruled : IsPlan plan) (x : ℕ) (nodes : OwnNodes S T) (are : AreSharesOf meaning stands_after state wholes x nodes) where
-  abbrev parts : List (PartView S T)
+    (wholes : List (ChannelPartView S T)) (placed : ArePlaced meaning stands_after state rs wholes) (ruled : IsPlan plan) (x : ℕ) (nodes : OwnNodes S T) (are : AreSharesOf meaning stands_after state wholes x nodes) where
+  abbrev parts : List (ChannelPartView S T)
   parts = nodes.parts.items
 
-  abbrev IsHere : ℕ → PartView S T → Type 0
+  abbrev IsHere : ℕ → ChannelPartView S T → Type 0
   IsHere c share = IsPlacedShare meaning stands_after state plan rs planned wholes placed x nodes are c share
 
-  here : (c : ℕ) (share : PartView S T) → slice_get parts c ≡ Some share → IsHere c share
+  here : (c : ℕ) (share : ChannelPartView S T) → slice_get parts c ≡ Some share → IsHere c share
   here c share at = whole-of meaning stands_after state plan rs planned wholes placed x nodes are c share at
 
   -- ---- where lanes go
 
-  executor-there : (c : ℕ) (share : PartView S T) (s : IsHere c share) (hop : ℕ) → hop < length s.whole.path.executors → executor_at s.whole hop < plan.executors
+  executor-there : (c : ℕ) (share : ChannelPartView S T) (s : IsHere c share) (hop : ℕ) → hop < length s.whole.path.executors → executor_at s.whole hop < plan.executors
   executor-there c share s hop within =
       let p = channel_planned meaning state s.recorded in
       let same = s.is_placed.whole.executors_are in
@@ -80,9 +80,9 @@ module _ {S T : Type 0} (meaning : S → Meaning) (stands_after : S → List Eve
       let there = subst (λ (l : List ℕ). hop < length l) same within in
       subst (λ (l : List ℕ). get_or l hop 0 < plan.executors) (sym same) (All-at (λ (e : ℕ). e < plan.executors) p.executors hop (get_or p.executors hop 0) rule.placed (slice_get-get_or p.executors hop 0 there))
 
-  goes-to : (l : Lane) (share : PartView S T) → slice_get parts l.channel ≡ Some share → (s : IsHere l.channel share) → is_hop s.whole l ≡ true → target_of parts l ≡ executor_at s.whole l.hop
+  goes-to : (l : Lane) (share : ChannelPartView S T) → slice_get parts l.channel ≡ Some share → (s : IsHere l.channel share) → is_hop s.whole l ≡ true → target_of parts l ≡ executor_at s.whole l.hop
   goes-to l share at s hop =
-      ap (λ (o : Option (PartView S T)). option_map_or (λ (p : PartView S T). enters p l) o nobody) at
+      ap (λ (o : Option (ChannelPartView S T)). option_map_or (λ (p : ChannelPartView S T). enters p l) o nobody) at
       ∙ ap (λ (es : List ℕ). enters (record s.whole { path = record s.whole.path { executors = es } }) l) s.is.share_is.path.executors
       ∙ cond-true (is_hop s.whole l) (executor_at s.whole l.hop) nobody hop
 
@@ -90,14 +90,14 @@ module _ {S T : Type 0} (meaning : S → Meaning) (stands_after : S → List Eve
   none-taken : (l : Lane) → taken_of parts l ≡ 0
   none-taken l = by (slice_get parts l.channel) refl
     where
-      by : (o : Option (PartView S T)) → slice_get parts l.channel ≡ o → option_map_or (λ (p : PartView S T). part_taken p l) o 0 ≡ 0
+      by : (o : Option (ChannelPartView S T)) → slice_get parts l.channel ≡ o → option_map_or (λ (p : ChannelPartView S T). part_taken p l) o 0 ≡ 0
       by None at = refl
       by (Some share) at = let s = here l.channel share at in share-taken-none (λ (e : ℕ). e == x) s.whole share s.is.share_is l (s.is_placed.unmoved.taken l)
 
   -- ---- a lane that one of the nodes writes
 
   record IsOwn (l : Lane) : Type 0 where
-    pub share : PartView S T
+    pub share : ChannelPartView S T
     pub at : slice_get parts l.channel ≡ Some share
     pub s : IsHere l.channel share
     pub wrote : part_writes meaning share l ≡ true
@@ -110,7 +110,7 @@ module _ {S T : Type 0} (meaning : S → Meaning) (stands_after : S → List Eve
   own : (l : Lane) → writes_of meaning parts l ≡ true → IsOwn l
   own l writes = by (slice_get parts l.channel) refl writes
     where
-      by : (o : Option (PartView S T)) → slice_get parts l.channel ≡ o → option_map_or (λ (p : PartView S T). writes_here meaning p l) o false ≡ true → IsOwn l
+      by : (o : Option (ChannelPartView S T)) → slice_get parts l.channel ≡ o → option_map_or (λ (p : ChannelPartView S T). writes_here meaning p l) o false ≡ true → IsOwn l
       by None at w = absurd (false≢true w)
       by (Some share) at w =
           let s = here l.channel share at in
@@ -136,15 +136,15 @@ module _ {S T : Type 0} (meaning : S → Meaning) (stands_after : S → List Eve
   target-there l o = subst (λ (n : ℕ). n < plan.executors) (sym (target-is l o)) (executor-there l.channel o.share o.s l.hop o.within)
 
   -- as the whole has it
-  of-whole : {A : Type 0} (f : PartView S T → A) (none : A) (l : Lane) (o : IsOwn l) → option_map_or f (slice_get wholes l.channel) none ≡ f o.s.whole
-  of-whole f none l o = ap (λ (q : Option (PartView S T)). option_map_or f q none) o.s.at
+  of-whole : {A : Type 0} (f : ChannelPartView S T → A) (none : A) (l : Lane) (o : IsOwn l) → option_map_or f (slice_get wholes l.channel) none ≡ f o.s.whole
+  of-whole f none l o = ap (λ (q : Option (ChannelPartView S T)). option_map_or f q none) o.s.at
 
   goes-from : (l : Lane) → IsOwn l → origin_of wholes l ≡ x
-  goes-from l o = of-whole (λ (p : PartView S T). executor_at p (writer_hop p.path l.hop)) 0 l o ∙ o.writer
+  goes-from l o = of-whole (λ (p : ChannelPartView S T). executor_at p (writer_hop p.path l.hop)) 0 l o ∙ o.writer
 
   is-fresh : (l : Lane) → IsOwn l → came_of meaning parts l ≡ point 0 false
   is-fresh l o =
-      ap (λ (q : Option (PartView S T)). option_map_or (λ (p : PartView S T). part_came meaning p l) q nowhere) o.at
+      ap (λ (q : Option (ChannelPartView S T)). option_map_or (λ (p : ChannelPartView S T). part_came meaning p l) q nowhere) o.at
       ∙ share-came-same (λ (e : ℕ). e == x) o.s.whole o.share o.s.is.share_is meaning l o.wrote ∙ o.s.is_placed.unmoved.came l o.whole_wrote
 
   has-place : (l : Lane) → IsOwn l → AreAmong (l ∷ []) (data_between wholes x (target_of parts l))
@@ -154,7 +154,7 @@ module _ {S T : Type 0} (meaning : S → Meaning) (stands_after : S → List Eve
   -- ---- the places
 
   same-lanes : data_lanes wholes ≡ data_lanes_of parts
-  same-lanes = sym (joined-same (λ (p : PartView S T). part_lanes p) (λ (p : PartView S T). part_lanes p) parts wholes are.count (λ c share whole at there. (are.each c whole share there at).lanes))
+  same-lanes = sym (joined-same (λ (p : ChannelPartView S T). part_lanes p) (λ (p : ChannelPartView S T). part_lanes p) parts wholes are.count (λ c share whole at there. (are.each c whole share there at).lanes))
 
   places-there : (target count : ℕ) → slice_get (places_at wholes plan.executors x).targets target ≡ Some count → HasPlaces (no_stops count) (data_between wholes x target)
   places-there target count at =
@@ -177,7 +177,7 @@ module _ {S T : Type 0} (meaning : S → Meaning) (stands_after : S → List Eve
         goes : target_of parts l ≡ x
         goes = by (slice_get wholes l.channel) refl from.4 from.3
           where
-            by : (o : Option (PartView S T)) → slice_get wholes l.channel ≡ o → option_map_or (λ (p : PartView S T). is_hop p l) o false ≡ true → option_map_or (λ (p : PartView S T). executor_at p l.hop) o 0 ≡ x → target_of parts l ≡ x
+            by : (o : Option (ChannelPartView S T)) → slice_get wholes l.channel ≡ o → option_map_or (λ (p : ChannelPartView S T). is_hop p l) o false ≡ true → option_map_or (λ (p : ChannelPartView S T). executor_at p l.hop) o 0 ≡ x → target_of parts l ≡ x
             by None at lane target = absurd (false≢true lane)
             by (Some whole) at lane target =
                 let size = are.count in
@@ -185,9 +185,9 @@ module _ {S T : Type 0} (meaning : S → Meaning) (stands_after : S → List Eve
                 let share = at-index parts l.channel (omega (arith, size, within)) in
                 let s = here l.channel share.0 share.1 in
                 let same = same-whole whole s.whole (sym at ∙ s.at) in
-                goes-to l share.0 share.1 s (ap (λ (p : PartView S T). is_hop p l) (sym same) ∙ lane) ∙ ap (λ (p : PartView S T). executor_at p l.hop) (sym same) ∙ target
+                goes-to l share.0 share.1 s (ap (λ (p : ChannelPartView S T). is_hop p l) (sym same) ∙ lane) ∙ ap (λ (p : ChannelPartView S T). executor_at p l.hop) (sym same) ∙ target
               where
-                same-whole : (a b : PartView S T) → Some a ≡ Some b → a ≡ b
+                same-whole : (a b : ChannelPartView S T) → Some a ≡ Some b → a ≡ b
                 same-whole a b e = cc
 
     -- They fit its lanes, and have the places of this executor.
@@ -203,8 +203,8 @@ module _ {S T : Type 0} (meaning : S → Meaning) (stands_after : S → List Eve
       own = λ l w to_here. none-taken l;
       away = λ l w off.
           let o = own l w in
-          table.crossing x (target_of parts l) l (of-whole (λ (p : PartView S T). is_hop p l) false l o ∙ o.hop) (goes-from l o)
-          (of-whole (λ (p : PartView S T). executor_at p l.hop) 0 l o ∙ sym (target-is l o)) (λ e. off (sym e)) below (target-there l o);
+          table.crossing x (target_of parts l) l (of-whole (λ (p : ChannelPartView S T). is_hop p l) false l o ∙ o.hop) (goes-from l o)
+          (of-whole (λ (p : ChannelPartView S T). executor_at p l.hop) 0 l o ∙ sym (target-is l o)) (λ e. off (sym e)) below (target-there l o);
       entering = enters-here;
       work = subst (HasPlaces (no_stops (length (data_lanes wholes)))) same-lanes (places-all wholes);
       targets = length-map-range_with_len (λ (y : ℕ). length (data_between wholes x y)) 0 plan.executors ∙ sym table.size;
@@ -214,6 +214,6 @@ module _ {S T : Type 0} (meaning : S → Meaning) (stands_after : S → List Eve
       few = record {
         lanes = every_lane wholes;
         few = let most = every-few 0 wholes laid.few in let channels = laid.channels in omega (arith, most, channels);
-        all = λ l w. let o = own l w in sym (has-any l (every_lane wholes)) ∙ every-has wholes l ∙ of-whole (λ (p : PartView S T). is_hop p l) false l o ∙ o.hop;
+        all = λ l w. let o = own l w in sym (has-any l (every_lane wholes)) ∙ every-has wholes l ∙ of-whole (λ (p : ChannelPartView S T). is_hop p l) false l o ∙ o.hop;
       };
     }

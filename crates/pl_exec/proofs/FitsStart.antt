@@ -9,7 +9,7 @@ use Rattle.pl_build.specs.declared.limits.TheConstants.{MAX_EXECUTORS}
 use Rattle.pl_queue.specs.declared.views.SenderView.{SenderView}
 use Rattle.pl_queue.specs.declared.views.TakerView.{TakerView}
 use Rattle.pl_head.specs.Transports.{TransportState}
-use Rattle.pl_part.specs.Parts.{PartView}
+use Rattle.pl_part.specs.Parts.{ChannelPartView}
 use Rattle.pl_channel.specs.Lanes.{world_of}
 use Rattle.pl_replay.specs.Channels.{taken_of, writes_of, came_of}
 use Rattle.pl_replay.specs.Channels.{lanes_of as data_lanes_of}
@@ -26,7 +26,7 @@ use Rattle.pl_exec.proofs.Fits.{IsTable, numbered-at, shares-fit}
 use Rattle.pl_exec.proofs.SharesStand.{shares-stand}
 
 module _ {S T : Type 0} (meaning : S → Meaning) (stands_after : S → List Event → Type 0) (state : T → TransportState) (world : World) (plan : Plan) (is_world : world ≡ world_of true plan) (rs : List (Recorded S T))
-    (planned : plan.channels ≡ map (channel_planned meaning state) rs) (wholes : List (PartView S T)) (placed : ArePlaced meaning stands_after state rs wholes) (ruled : IsPlan plan) (few : plan.executors ≤ MAX_EXECUTORS)
+    (planned : plan.channels ≡ map (channel_planned meaning state) rs) (wholes : List (ChannelPartView S T)) (placed : ArePlaced meaning stands_after state rs wholes) (ruled : IsPlan plan) (few : plan.executors ≤ MAX_EXECUTORS)
     (lanes : LaneTable) (table : IsTable wholes plan.executors lanes) where
   abbrev pub Stands : OwnNodes S T → Type 0
   Stands n = (world ≡ world_of true plan) × NodesStand world plan meaning stands_after state n.number n.was_refused n.parts.items × (n.own.items ≡ heads_of n.parts.items)

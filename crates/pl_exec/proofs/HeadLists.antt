@@ -6,7 +6,7 @@ use Rattle.std.proofs.lemmas.List.Elements.{All-nil, All-cons}
 use Rattle.std.proofs.lemmas.Option.{get_or_from_slice_get, slice_get_read}
 use Rattle.std.proofs.Math.Seq.{map-set_same}
 use Rattle.pl_event.proofs.Lists.{All-at}
-use Rattle.pl_part.specs.Parts.{PartView, SamePart}
+use Rattle.pl_part.specs.Parts.{ChannelPartView, SamePart}
 use Rattle.pl_replay.proofs.OneChannel.{changed}
 use Rattle.pl_exec.specs.OwnNodes.{numbered_from, heads_of}
 
@@ -39,37 +39,37 @@ in-range n (b ∷ bs) k within =
     subst (λ (m : ℕ). All (λ c. (k ≤ c) × (c < m)) (numbered_from (n + 1) bs)) (omega arith) (in-range (n + 1) bs k (omega (arith, within))) in
     first-in-range b n k (n + length (b ∷ bs)) (numbered_from (n + 1) bs) within (omega arith) later
 
-module _ {S T : Type 0} (ps : List (PartView S T)) where
+module _ {S T : Type 0} (ps : List (ChannelPartView S T)) where
   -- each is a channel
   pub head-within : (own : List ℕ) (i c : ℕ) → own ≡ heads_of ps → slice_get own i ≡ Some c → c < length ps
   head-within own i c are at =
-      let size = length-map ps (λ (p : PartView S T). is_some p.head) in
-      let r = All-at (λ c. (0 ≤ c) × (c < 0 + length (map (λ (p : PartView S T). is_some p.head) ps))) own i c
-      (subst (λ (l : List ℕ). All (λ c. (0 ≤ c) × (c < 0 + length (map (λ (p : PartView S T). is_some p.head) ps))) l) (sym are) (in-range 0 (map (λ (p : PartView S T). is_some p.head) ps) 0 (omega arith))) at in
+      let size = length-map ps (λ (p : ChannelPartView S T). is_some p.head) in
+      let r = All-at (λ c. (0 ≤ c) × (c < 0 + length (map (λ (p : ChannelPartView S T). is_some p.head) ps))) own i c
+      (subst (λ (l : List ℕ). All (λ c. (0 ≤ c) × (c < 0 + length (map (λ (p : ChannelPartView S T). is_some p.head) ps))) l) (sym are) (in-range 0 (map (λ (p : ChannelPartView S T). is_some p.head) ps) 0 (omega arith))) at in
       omega (arith, r.1, size)
 
   -- with the next channel's part
-  pub heads-more : (p : PartView S T) → heads_of (ps ++ p ∷ []) ≡ heads_of ps ++ cond (is_some p.head) (length ps ∷ []) []
+  pub heads-more : (p : ChannelPartView S T) → heads_of (ps ++ p ∷ []) ≡ heads_of ps ++ cond (is_some p.head) (length ps ∷ []) []
   heads-more p =
-      let size = length-map ps (λ (q : PartView S T). is_some q.head) in
-      ap (λ (bs : List Bool). numbered_from 0 bs) (map-append (λ (q : PartView S T). is_some q.head) ps (p ∷ []))
-      ∙ numbered-more 0 (map (λ (q : PartView S T). is_some q.head) ps) (is_some p.head) (length ps) (omega (arith, size))
+      let size = length-map ps (λ (q : ChannelPartView S T). is_some q.head) in
+      ap (λ (bs : List Bool). numbered_from 0 bs) (map-append (λ (q : ChannelPartView S T). is_some q.head) ps (p ∷ []))
+      ∙ numbered-more 0 (map (λ (q : ChannelPartView S T). is_some q.head) ps) (is_some p.head) (length ps) (omega (arith, size))
 
 -- ---- one of all parts
 
-module _ {S T : Type 0} (ps : List (PartView S T)) (c : ℕ) (p p' : PartView S T) (was : slice_get ps c ≡ Some p) where
+module _ {S T : Type 0} (ps : List (ChannelPartView S T)) (c : ℕ) (p p' : ChannelPartView S T) (was : slice_get ps c ≡ Some p) where
   -- they stay where the same nodes are there
   pub heads-stay : SamePart p p' → heads_of (changed ps c p p' was) ≡ heads_of ps
-  heads-stay same = ap (λ (bs : List Bool). numbered_from 0 bs) (map-set_same (λ (q : PartView S T). is_some q.head) ps c p' p (same.head ∙ ap (λ (q : PartView S T). is_some q.head) (sym (get_or_from_slice_get ps c p p was))))
+  heads-stay same = ap (λ (bs : List Bool). numbered_from 0 bs) (map-set_same (λ (q : ChannelPartView S T). is_some q.head) ps c p' p (same.head ∙ ap (λ (q : ChannelPartView S T). is_some q.head) (sym (get_or_from_slice_get ps c p p was))))
 
 -- ---- at a place of the list
 
 pub own-channel : (own : List ℕ) (at c : ℕ) → at < length own → c ≡ get_or own at c → slice_get own at ≡ Some c
 own-channel own at c there read = slice_get_read own (length own) at c refl there read
 
-module _ {S T : Type 0} (ps : List (PartView S T)) (own : List ℕ) (at c : ℕ) (there : at < length own) (read : c ≡ get_or own at c) (are : own ≡ heads_of ps) where
+module _ {S T : Type 0} (ps : List (ChannelPartView S T)) (own : List ℕ) (at c : ℕ) (there : at < length own) (read : c ≡ get_or own at c) (are : own ≡ heads_of ps) where
   pub own-within : c < length ps
   own-within = head-within ps own at c are (own-channel own at c there read)
 
-  pub own-part : (p : PartView S T) → p ≡ get_or ps c p → slice_get ps c ≡ Some p
+  pub own-part : (p : ChannelPartView S T) → p ≡ get_or ps c p → slice_get ps c ≡ Some p
   own-part p is = slice_get_read ps (length ps) c p refl own-within is

@@ -13,7 +13,7 @@ use Rattle.std.proofs.lemmas.Map.Views.{any-filter_same}
 use Rattle.pl_event.specs.declared.envelopes.Lane.{Lane}
 use Rattle.pl_event.specs.Hops.{same_lane}
 use Rattle.pl_event.proofs.SameLanes.{same_lane-equal, same_lane-self}
-use Rattle.pl_part.specs.Parts.{PartView}
+use Rattle.pl_part.specs.Parts.{ChannelPartView}
 use Rattle.pl_queue.specs.declared.limits.TheConstants.{MAX_CAPACITY, MAX_SENDERS}
 use Rattle.pl_queue.specs.declared.mailbox.OpenRefusal.TheVariants.{Limit}
 use Rattle.pl_queue.specs.Left.{Apart, all_lanes}
@@ -53,7 +53,7 @@ any-joined : {X Y : Type 0} (p : Y → Bool) (f : X → List Y) (xs : List X) �
 any-joined p f [] = refl
 any-joined p f (x ∷ xs) = list_any-append p (f x) (flat_map f xs) ∙ ap (λ b. list_any p (f x) || b) (any-joined p f xs)
 
-module _ {S T : Type 0} (ps : List (PartView S T)) where
+module _ {S T : Type 0} (ps : List (ChannelPartView S T)) where
   -- the lanes from an executor to a target, and for each of so many senders those to a target
   abbrev between : ℕ → ℕ → List Lane
   between y x = filter (crosses ps x y) (every_lane ps)

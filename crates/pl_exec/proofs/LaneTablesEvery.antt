@@ -15,7 +15,7 @@ use Rattle.pl_event.specs.declared.envelopes.Kind.TheVariants.{Data, Flags}
 use Rattle.pl_event.specs.declared.envelopes.Lane.{Lane}
 use Rattle.pl_event.specs.Hops.{data_lane, flags_lane, same_kind, same_lane}
 use Rattle.pl_event.proofs.SameLanes.{same_lane-self}
-use Rattle.pl_part.specs.Parts.{PartView}
+use Rattle.pl_part.specs.Parts.{ChannelPartView}
 use Rattle.pl_queue.specs.Views.{has_lane}
 use Rattle.pl_replay.specs.Channels.{is_hop}
 use Rattle.pl_exec.specs.Lanes.{lanes_at, lanes_from, every_lane, is_lane}
@@ -138,7 +138,7 @@ in-channel l channel hops =
 -- ---- all channels
 
 module _ {S T : Type 0} (l : Lane) where
-  before-all : (channel : ℕ) (ps : List (PartView S T)) → l.channel < channel → times l (lanes_from channel ps) ≡ 0
+  before-all : (channel : ℕ) (ps : List (ChannelPartView S T)) → l.channel < channel → times l (lanes_from channel ps) ≡ 0
   before-all channel [] below = refl
   before-all channel (p ∷ ps) below =
       let hops = length p.path.executors in
@@ -146,7 +146,7 @@ module _ {S T : Type 0} (l : Lane) where
       let rest = before-all (channel + 1) ps (omega (arith, below)) in
       omega (arith, first, rest, sum_by-append (λ m. cond (same_lane l m) 1 0) (flat_map (lanes_at channel hops) (range_with_len 0 hops)) (lanes_from (channel + 1) ps))
 
-  from-all : (channel : ℕ) (ps : List (PartView S T)) (k : ℕ) → l.channel ≡ channel + k → times l (lanes_from channel ps) ≡ cond (option_map_or (λ (p : PartView S T). is_hop p l) (slice_get ps k) false) 1 0
+  from-all : (channel : ℕ) (ps : List (ChannelPartView S T)) (k : ℕ) → l.channel ≡ channel + k → times l (lanes_from channel ps) ≡ cond (option_map_or (λ (p : ChannelPartView S T). is_hop p l) (slice_get ps k) false) 1 0
   from-all channel [] k place = refl
   from-all channel (p ∷ ps) zero place =
       let hops = length p.path.executors in
@@ -159,7 +159,7 @@ module _ {S T : Type 0} (l : Lane) where
       let rest = from-all (channel + 1) ps k (omega (arith, place)) in
       omega (arith, first, rest, sum_by-append (λ m. cond (same_lane l m) 1 0) (flat_map (lanes_at channel hops) (range_with_len 0 hops)) (lanes_from (channel + 1) ps))
 
-module _ {S T : Type 0} (ps : List (PartView S T)) where
+module _ {S T : Type 0} (ps : List (ChannelPartView S T)) where
   -- each of them stands there once
   pub every-once : (l : Lane) → times l (every_lane ps) ≡ cond (is_lane ps l) 1 0
   every-once l = from-all l 0 ps l.channel (omega arith)
@@ -185,10 +185,10 @@ length-channel channel hops =
     let size = ap (λ n. n * 2) (length-range_with_len 0 hops) in
     omega (arith, sum, few, size)
 
-pub every-few : {S T : Type 0} (channel : ℕ) (ps : List (PartView S T)) → All (λ p. length p.path.executors ≤ MAX_HANDLERS + 2) ps → length (lanes_from channel ps) ≤ length ps * ((MAX_HANDLERS + 2) * 2)
+pub every-few : {S T : Type 0} (channel : ℕ) (ps : List (ChannelPartView S T)) → All (λ p. length p.path.executors ≤ MAX_HANDLERS + 2) ps → length (lanes_from channel ps) ≤ length ps * ((MAX_HANDLERS + 2) * 2)
 every-few channel [] few = omega arith
 every-few {S = S} {T = T} channel (p ∷ ps) few =
     let hops = length p.path.executors in
-    let here = All-head (λ (q : PartView S T). length q.path.executors ≤ MAX_HANDLERS + 2) p ps few in
-    let rest = every-few (channel + 1) ps (All-tail (λ (q : PartView S T). length q.path.executors ≤ MAX_HANDLERS + 2) p ps few) in
+    let here = All-head (λ (q : ChannelPartView S T). length q.path.executors ≤ MAX_HANDLERS + 2) p ps few in
+    let rest = every-few (channel + 1) ps (All-tail (λ (q : ChannelPartView S T). length q.path.executors ≤ MAX_HANDLERS + 2) p ps few) in
     omega (arith, here, rest, length-channel channel hops, length-append (flat_map (lanes_at channel hops) (range_with_len 0 hops)) (lanes_from (channel + 1) ps))

@@ -10,7 +10,7 @@ use Rattle.std.proofs.lemmas.List.FromFn.{map-range_with_len_more}
 use Rattle.std.proofs.lemmas.Option.{slice_get_past, slice_get_read}
 use Rattle.pl_event.specs.declared.envelopes.Lane.{Lane}
 use Rattle.pl_part.specs.Paths.{writer_hop}
-use Rattle.pl_part.specs.Parts.{PartView}
+use Rattle.pl_part.specs.Parts.{ChannelPartView}
 use Rattle.pl_replay.specs.Channels.{executor_at, is_hop}
 use Rattle.pl_replay.specs.Placed.{goes_between}
 use Rattle.pl_exec.specs.Lanes.{crosses, is_lane}
@@ -46,18 +46,18 @@ module _ {A : Type 0} (p : A → Bool) (xs before : List A) (i : ℕ) (d : A) (a
   pub left-more : answer ≡ false → before ≡ filter p (take (i + 1) xs)
   left-more fails = sym (more ∙ ap (λ b. before ++ cond b (get_or xs i d ∷ []) []) fails ∙ append-nil before)
 
-module _ {S T : Type 0} (ps : List (PartView S T)) where
+module _ {S T : Type 0} (ps : List (ChannelPartView S T)) where
   lane-within : (l : Lane) → is_lane ps l ≡ true → l.channel < length ps
   lane-within l is = elim (cases_lt l.channel (length ps)) [
     | inl below ↦ below
-    | inr past ↦ absurd (false≢true (ap (λ o. option_map_or (λ (p : PartView S T). is_hop p l) o false) (sym (slice_get_past ps l.channel past)) ∙ is))
+    | inr past ↦ absurd (false≢true (ap (λ o. option_map_or (λ (p : ChannelPartView S T). is_hop p l) o false) (sym (slice_get_past ps l.channel past)) ∙ is))
   ]
 
   -- a lane crosses where its hop does
-  pub crosses-there : (l : Lane) (x y : ℕ) (p : PartView S T) → is_lane ps l ≡ true → p ≡ get_or ps l.channel p → x ≢ y → goes_between x y p l.hop ≡ crosses ps x y l
+  pub crosses-there : (l : Lane) (x y : ℕ) (p : ChannelPartView S T) → is_lane ps l ≡ true → p ≡ get_or ps l.channel p → x ≢ y → goes_between x y p l.hop ≡ crosses ps x y l
   crosses-there l x y p is here apart =
       let at : Some p ≡ slice_get ps l.channel = sym (slice_get_read ps (length ps) l.channel p refl (lane-within l is) here) in
       ap (λ b. not b && goes_between x y p l.hop) (sym (ne_eqb x y apart)) ∙ ap through at
     where
-      through : Option (PartView S T) → Bool
-      through o = not (x == y) && ((option_map_or (λ (q : PartView S T). executor_at q (writer_hop q.path l.hop)) o 0 == x) && (option_map_or (λ (q : PartView S T). executor_at q l.hop) o 0 == y))
+      through : Option (ChannelPartView S T) → Bool
+      through o = not (x == y) && ((option_map_or (λ (q : ChannelPartView S T). executor_at q (writer_hop q.path l.hop)) o 0 == x) && (option_map_or (λ (q : ChannelPartView S T). executor_at q l.hop) o 0 == y))

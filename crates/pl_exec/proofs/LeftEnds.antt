@@ -18,7 +18,7 @@ use Rattle.pl_context.specs.TailViews.{TailView}
 use Rattle.pl_head.specs.Transports.{TransportState}
 use Rattle.pl_head.specs.HeadStand.{HeadView}
 use Rattle.pl_part.specs.Paths.{context_at, is_slot_over, path_over}
-use Rattle.pl_part.specs.Parts.{PartView, head_hop}
+use Rattle.pl_part.specs.Parts.{ChannelPartView, head_hop}
 use Rattle.pl_channel.specs.Lanes.{world_of}
 use Rattle.pl_channel.specs.PlanStand.{PartKeepsPlan}
 use Rattle.pl_replay.specs.Channels.{executor_at}
@@ -106,7 +106,7 @@ module _ {T : Type 0} (state : T → TransportState) (plan : Plan) where
   -- ---- the nodes of an executor that has ended
 
   module _ {S : Type 0} (meaning : S → Meaning) (stands_after : S → List Event → Type 0) (me : ℕ) (refused : Bool) where
-    module _ (c : ℕ) (p : ChannelPlan) (part : PartView S T) (stands : PartStands (world_of true plan) meaning stands_after state me refused c part) (keeps : PartKeepsPlan state p part) (over : IsPartOver state part) where
+    module _ (c : ℕ) (p : ChannelPlan) (part : ChannelPartView S T) (stands : PartStands (world_of true plan) meaning stands_after state me refused c part) (keeps : PartKeepsPlan state p part) (over : IsPartOver state part) where
       -- the tail that is there
       left-tail : (t : TailView) → part.path.tail ≡ Some t → IsLeftTail plan c p t
       left-tail t there =
@@ -164,7 +164,7 @@ module _ {T : Type 0} (state : T → TransportState) (plan : Plan) where
       }
 
     -- one executor more is looked through
-    next-executor : (fs : List (Found T)) (parts : List (PartView S T)) → NodesStand (world_of true plan) plan meaning stands_after state me refused parts → AreOver state parts → AreFound me fs → AreFound (me + 1) (with_parts fs parts)
+    next-executor : (fs : List (Found T)) (parts : List (ChannelPartView S T)) → NodesStand (world_of true plan) plan meaning stands_after state me refused parts → AreOver state parts → AreFound me fs → AreFound (me + 1) (with_parts fs parts)
     next-executor fs parts stand over are = record {
       count = added-count with_part fs parts ∙ are.count;
       each = λ c p g planned found.
@@ -174,7 +174,7 @@ module _ {T : Type 0} (state : T → TransportState) (plan : Plan) where
     }
 
     -- The next executor has ended, and left these nodes.
-    pub next-finished : (world : World) (k : ℕ) (fs now : List (Found T)) (parts : List (PartView S T)) → world ≡ world_of true plan → NodesStand world plan meaning stands_after state me refused parts → AreOver state parts → me ≡ k → AreFound k fs
+    pub next-finished : (world : World) (k : ℕ) (fs now : List (Found T)) (parts : List (ChannelPartView S T)) → world ≡ world_of true plan → NodesStand world plan meaning stands_after state me refused parts → AreOver state parts → me ≡ k → AreFound k fs
         → now ≡ with_parts fs parts → AreFound (k + 1) now
     next-finished world k fs now parts of stand over own are is =
         subst (λ (x : ℕ). AreFound (x + 1) now) own

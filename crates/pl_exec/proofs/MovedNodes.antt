@@ -15,7 +15,7 @@ use Rattle.pl_head.specs.declared.heads.ReadStep.{ReadStep}
 use Rattle.pl_head.specs.declared.heads.ReadStep.TheVariants as reading
 use Rattle.pl_head.specs.Transports.{TransportState}
 use Rattle.pl_part.specs.Paths.{context_at}
-use Rattle.pl_part.specs.Parts.{PartView, SamePart, PartReads, PartMoves, head_hop, part_lanes}
+use Rattle.pl_part.specs.Parts.{ChannelPartView, SamePart, PartReads, PartMoves, head_hop, part_lanes}
 use Rattle.pl_part.specs.PartCalls.{Taken, Given, PartRefused}
 use Rattle.pl_channel.specs.PlanStand.{PartKeepsPlan}
 use Rattle.pl_channel.proofs.PlanLemmas.{part-takes-keeps, part-reads-keeps, part-writes-keeps}
@@ -34,27 +34,27 @@ done-gave : reading.Done ≡ reading.Gave → ⊥
 done-gave e = cc
 
 -- the head of a part has made a read step, or none
-read-keeps : {S T : Type 0} (meaning : S → Meaning) (stands_after : S → List Event → Type 0) (is_spent : S → Bool) (state : T → TransportState) (q : ChannelPlan) (p p' : PartView S T) (b a : OutputsView) (answer : ReadStep)
+read-keeps : {S T : Type 0} (meaning : S → Meaning) (stands_after : S → List Event → Type 0) (is_spent : S → Bool) (state : T → TransportState) (q : ChannelPlan) (p p' : ChannelPartView S T) (b a : OutputsView) (answer : ReadStep)
     → SamePart p p' → PartReads state p b answer p' a → PartKeepsPlan state q p → PartKeepsPlan state q p'
 read-keeps meaning stands_after is_spent state q p p' b a reading.Gave same r k = part-reads-keeps meaning stands_after is_spent state q p p' b a same r k
 read-keeps meaning stands_after is_spent state q p p' b a reading.Held same r k = subst (PartKeepsPlan state q) (sym (read-idle state p b p' a reading.Held r held-gave).0) k
 read-keeps meaning stands_after is_spent state q p p' b a reading.Done same r k = subst (PartKeepsPlan state q) (sym (read-idle state p b p' a reading.Done r done-gave).0) k
 
 -- it has made a move, or none
-move-keeps : {S T : Type 0} (meaning : S → Meaning) (stands_after : S → List Event → Type 0) (is_spent : S → Bool) (state : T → TransportState) (may_refuse : T → ℕ → Type 0) (q : ChannelPlan) (p p' : PartView S T) (b a : OutputsView)
+move-keeps : {S T : Type 0} (meaning : S → Meaning) (stands_after : S → List Event → Type 0) (is_spent : S → Bool) (state : T → TransportState) (may_refuse : T → ℕ → Type 0) (q : ChannelPlan) (p p' : ChannelPartView S T) (b a : OutputsView)
     (by : HeadMove) (made : Bool) → SamePart p p' → PartMoves state may_refuse p by b made p' a → PartKeepsPlan state q p → PartKeepsPlan state q p'
 move-keeps meaning stands_after is_spent state may_refuse q p p' b a head.Read made same m k = read-keeps meaning stands_after is_spent state q p p' b a m.answer same m.reads k
 move-keeps meaning stands_after is_spent state may_refuse q p p' b a head.Out made same m k = part-writes-keeps meaning stands_after is_spent state q may_refuse p p' b a m.answer same m.writes k
 
-move-path : {S T : Type 0} (state : T → TransportState) (may_refuse : T → ℕ → Type 0) (p p' : PartView S T) (b a : OutputsView) (by : HeadMove) (made : Bool) → PartMoves state may_refuse p by b made p' a → p'.path ≡ p.path
+move-path : {S T : Type 0} (state : T → TransportState) (may_refuse : T → ℕ → Type 0) (p p' : ChannelPartView S T) (b a : OutputsView) (by : HeadMove) (made : Bool) → PartMoves state may_refuse p by b made p' a → p'.path ≡ p.path
 move-path state may_refuse p p' b a head.Read made m = m.reads.path
 move-path state may_refuse p p' b a head.Out made m = m.writes.path
 
-module _ {S T : Type 0} (ps : List (PartView S T)) (c : ℕ) (p p' : PartView S T) (was : slice_get ps c ≡ Some p) where
+module _ {S T : Type 0} (ps : List (ChannelPartView S T)) (c : ℕ) (p p' : ChannelPartView S T) (was : slice_get ps c ≡ Some p) where
   -- what one has put stays within the places
   pub places-stay : (b a : OutputsView) → ((lanes : List Lane) → AreAmong (part_lanes p) lanes → HasPlaces b.stopped lanes → HasPlaces a.stopped lanes)
       → (hops : List Lane) → AreAmong (lanes_of ps) hops → HasPlaces b.stopped hops → HasPlaces a.stopped hops
-  places-stay b a placed hops among places = placed hops (λ l any. among l (among-joined (λ (q : PartView S T). part_lanes q) ps c p was l any)) places
+  places-stay b a placed hops among places = placed hops (λ l any. among l (among-joined (λ (q : ChannelPartView S T). part_lanes q) ps c p was l any)) places
 
   module _ (world : World) (plan : Plan) (meaning : S → Meaning) (stands_after : S → List Event → Type 0) (is_spent : S → Bool) (state : T → TransportState) (me : ℕ) (refused : Bool)
       (stand : NodesStand world plan meaning stands_after state me refused ps) where
@@ -64,7 +64,7 @@ module _ {S T : Type 0} (ps : List (PartView S T)) (c : ℕ) (p p' : PartView S 
     take-stands e b answer a of here good t =
         let own = own-stands ps c p p' was world plan meaning stands_after state me refused stand in
         let holds = t.holds world own.holds good in
-        let entered = enters-here me c p own.resident own.channel own.holds.hops e.lane stand.number of (sym (at-was ps c p p' was (λ (q : PartView S T). enters q e.lane) nobody e.lane.channel of) ∙ here) in
+        let entered = enters-here me c p own.resident own.channel own.holds.hops e.lane stand.number of (sym (at-was ps c p p' was (λ (q : ChannelPartView S T). enters q e.lane) nobody e.lane.channel of) ∙ here) in
         nodes-stand ps c p p' was world plan meaning stands_after state me refused stand refused (λ r. r) t.puts.same holds
         (λ r. take-refuses-none world meaning stands_after is_spent state p p' e b answer a t.puts.same holds t.takes (head-there p e.lane entered) (own.called r))
         (λ q k. part-takes-keeps meaning stands_after is_spent state q p p' e b a answer t.puts.same t.takes k)
@@ -94,7 +94,7 @@ module _ {S T : Type 0} (ps : List (PartView S T)) (c : ℕ) (p p' : PartView S 
         never s = cc
 
 -- something was refused, and there is no channel that wrote it
-pub none-stands : {S T : Type 0} (ps : List (PartView S T)) (world : World) (plan : Plan) (meaning : S → Meaning) (stands_after : S → List Event → Type 0) (state : T → TransportState) (me : ℕ) (refused : Bool)
+pub none-stands : {S T : Type 0} (ps : List (ChannelPartView S T)) (world : World) (plan : Plan) (meaning : S → Meaning) (stands_after : S → List Event → Type 0) (state : T → TransportState) (me : ℕ) (refused : Bool)
     → NodesStand world plan meaning stands_after state me refused ps → NodesStand world plan meaning stands_after state me true ps
 none-stands ps world plan meaning stands_after state me refused stand = record {
   parts = λ c p at. let s = stand.parts c p at in record { holds = s.holds; channel = s.channel; within = s.within; resident = s.resident; called = λ e. absurd (never e) };

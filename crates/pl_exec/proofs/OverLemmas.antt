@@ -12,28 +12,28 @@ use Rattle.pl_head.specs.HeadStand.{HeadView, StandsAfter, is_idle}
 use Rattle.pl_event.specs.declared.events.Event.{Event}
 use Rattle.pl_event.specs.Meaning.{Meaning}
 use Rattle.pl_event.specs.Worlds.{World}
-use Rattle.pl_part.specs.Parts.{PartView, PartHolds, PartMoves}
+use Rattle.pl_part.specs.Parts.{ChannelPartView, PartHolds, PartMoves}
 use Rattle.pl_replay.proofs.HeadMoves.{may-move}
 use Rattle.pl_exec.specs.OwnNodes.{MayMoveHere, IsPartOver, AreOver}
 
 done-gave : reading.Done ≡ reading.Gave → ⊥
 done-gave e = cc
 
-module _ {S T : Type 0} (state : T → TransportState) (may_refuse : T → ℕ → Type 0) (p : PartView S T) (b : OutputsView) (p' : PartView S T) (a : OutputsView) where
+module _ {S T : Type 0} (state : T → TransportState) (may_refuse : T → ℕ → Type 0) (p : ChannelPartView S T) (b : OutputsView) (p' : ChannelPartView S T) (a : OutputsView) where
   -- where the head is elsewhere it makes no move
   none-moves : (by : HeadMove) (made : Bool) → PartMoves state may_refuse p by b made p' a → p.head ≡ None → made ≡ false
   none-moves by false m none = refl
   none-moves head.Read true m none = absurd (done-gave (sym (m.reads.none none).0 ∙ m.gave refl))
   none-moves head.Out true m none = absurd (m.wrote refl (m.writes.none none).0)
 
-  pub may-move-here : (by : HeadMove) (made : Bool) → PartMoves state may_refuse p by b made p' a → (ps : List (PartView S T)) (c : ℕ) → slice_get ps c ≡ Some p → MayMoveHere state ps by c made
+  pub may-move-here : (by : HeadMove) (made : Bool) → PartMoves state may_refuse p by b made p' a → (ps : List (ChannelPartView S T)) (c : ℕ) → slice_get ps c ≡ Some p → MayMoveHere state ps by c made
   may-move-here by made m ps c own = record {
     here = may-move state p b p' a may_refuse by made m ps c own;
-    elsewhere = λ q at none. none-moves by made m (sym (ap (λ (x : PartView S T). x.head) (same_Some q p (sym at ∙ own))) ∙ none);
+    elsewhere = λ q at none. none-moves by made m (sym (ap (λ (x : ChannelPartView S T). x.head) (same_Some q p (sym at ∙ own))) ∙ none);
   }
 
 -- where a part is over, its head is written out
-pub written-over : {S T : Type 0} (world : World) (meaning : S → Meaning) (stands_after : S → List Event → Type 0) (state : T → TransportState) (p : PartView S T) → PartHolds world meaning stands_after state p → IsPartOver state p
+pub written-over : {S T : Type 0} (world : World) (meaning : S → Meaning) (stands_after : S → List Event → Type 0) (state : T → TransportState) (p : ChannelPartView S T) → PartHolds world meaning stands_after state p → IsPartOver state p
     → (b : Bool) → ((h : HeadView T) (ys zs : List Event) (sizes : List Change) → p.head ≡ Some h → StandsAfter state h ys zs sizes → b ≡ is_idle state h ys) → (p.head ≡ None → b ≡ true) → b ≡ true
 written-over world meaning stands_after state p holds over b some none = by p.head refl
   where
@@ -45,14 +45,14 @@ written-over world meaning stands_after state p holds over b some none = by p.he
 
 -- ---- several parts
 
-module _ {S T : Type 0} (state : T → TransportState) (ps : List (PartView S T)) where
+module _ {S T : Type 0} (state : T → TransportState) (ps : List (ChannelPartView S T)) where
   -- the first ones are over
   abbrev pub FirstOver : ℕ → Type 0
-  FirstOver n = (c : ℕ) (p : PartView S T) → c < n → slice_get ps c ≡ Some p → IsPartOver state p
+  FirstOver n = (c : ℕ) (p : ChannelPartView S T) → c < n → slice_get ps c ≡ Some p → IsPartOver state p
 
-  pub one-more-over : (n : ℕ) (p : PartView S T) → slice_get ps n ≡ Some p → FirstOver n → IsPartOver state p → FirstOver (n + 1)
+  pub one-more-over : (n : ℕ) (p : ChannelPartView S T) → slice_get ps n ≡ Some p → FirstOver n → IsPartOver state p → FirstOver (n + 1)
   one-more-over n p at first over c q lt is = ⊎_elim
-      (λ (e : c ≡ n). subst (λ (z : PartView S T). IsPartOver state z) (same_Some p q (sym at ∙ ap (λ (k : ℕ). slice_get ps k) (sym e) ∙ is)) over)
+      (λ (e : c ≡ n). subst (λ (z : ChannelPartView S T). IsPartOver state z) (same_Some p q (sym at ∙ ap (λ (k : ℕ). slice_get ps k) (sym e) ∙ is)) over)
       (λ (other : c ≢ n). first c q (omega (arith, lt, other)) is)
       (cases_eq c n)
 

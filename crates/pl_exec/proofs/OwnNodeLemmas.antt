@@ -22,7 +22,7 @@ use Rattle.pl_flow.specs.Makes.{Makes}
 use Rattle.pl_flow.proofs.MakeLemmas.{makes-among}
 use Rattle.pl_head.specs.Transports.{TransportState}
 use Rattle.pl_part.specs.Paths.{context_at, enters_path, writer_hop}
-use Rattle.pl_part.specs.Parts.{PartView, PartHolds, SamePart, head_hop, has_entered, part_taken, part_writes, part_came, writes_at}
+use Rattle.pl_part.specs.Parts.{ChannelPartView, PartHolds, SamePart, head_hop, has_entered, part_taken, part_writes, part_came, writes_at}
 use Rattle.pl_part.specs.PartCalls.{IsNextFor}
 use Rattle.pl_channel.specs.PlanStand.{PartKeepsPlan}
 use Rattle.pl_replay.specs.Channels.{executor_at, is_hop, lanes_of, taken_of, writes_here, writes_of, came_of}
@@ -42,7 +42,7 @@ same-slot xs ys i same =
 
 -- ---- the same nodes
 
-module _ {S T : Type 0} (p p' : PartView S T) (same : SamePart p p') where
+module _ {S T : Type 0} (p p' : ChannelPartView S T) (same : SamePart p p') where
   same-hop : (l : Lane) → is_hop p' l ≡ is_hop p l
   same-hop l = ap (λ (es : List ℕ). is_hop (record p { path = record p.path { executors = es } }) l) same.path.executors
 
@@ -57,7 +57,7 @@ module _ {S T : Type 0} (p p' : PartView S T) (same : SamePart p p') where
 
 -- ---- a part on an executor
 
-module _ {S T : Type 0} (me c : ℕ) (p : PartView S T) (resident : IsResident me p) (channel : p.path.channel ≡ c) (hops : length p.path.executors ≡ head_hop p + 1) where
+module _ {S T : Type 0} (me c : ℕ) (p : ChannelPartView S T) (resident : IsResident me p) (channel : p.path.channel ≡ c) (hops : length p.path.executors ≡ head_hop p + 1) where
   -- what enters a node of this executor enters one that is here
   pub enters-here : (l : Lane) → me < nobody → l.channel ≡ c → enters p l ≡ me → has_entered p l ≡ true
   enters-here l small of here = ⊎_elim
@@ -86,10 +86,10 @@ module _ {S T : Type 0} (me c : ℕ) (p : PartView S T) (resident : IsResident m
           (cases_Bool (l.hop == head_hop p))
 
 -- where a lane enters this executor there is its channel
-pub channel-here : {S T : Type 0} (ps : List (PartView S T)) (me : ℕ) (l : Lane) → me < nobody → target_of ps l ≡ me → l.channel < length ps
+pub channel-here : {S T : Type 0} (ps : List (ChannelPartView S T)) (me : ℕ) (l : Lane) → me < nobody → target_of ps l ≡ me → l.channel < length ps
 channel-here ps me l small here = by (slice_get ps l.channel) refl here
   where
-    by : (o : Option (PartView _ _)) → slice_get ps l.channel ≡ o → option_map_or (λ (p : PartView _ _). enters p l) o nobody ≡ me → l.channel < length ps
+    by : (o : Option (ChannelPartView _ _)) → slice_get ps l.channel ≡ o → option_map_or (λ (p : ChannelPartView _ _). enters p l) o nobody ≡ me → l.channel < length ps
     by None at e = absurd (omega (arith, e, small))
     by (Some p) at e = slice_get_within ps l.channel p at
 
@@ -99,19 +99,19 @@ OwnKeeps meaning = PartKeeps (λ n l. target_of n.parts.items l) (λ n l. writes
 
 -- ---- one of all parts
 
-module _ {S T : Type 0} (ps : List (PartView S T)) (c : ℕ) (p p' : PartView S T) (was : slice_get ps c ≡ Some p) where
+module _ {S T : Type 0} (ps : List (ChannelPartView S T)) (c : ℕ) (p p' : ChannelPartView S T) (was : slice_get ps c ≡ Some p) where
   pub targets-stay : SamePart p p' → (l : Lane) → target_of (changed ps c p p' was) l ≡ target_of ps l
-  targets-stay same l = unchanged ps c p p' was (λ (q : PartView S T). enters q l) nobody (same-enters p p' same l) l.channel
+  targets-stay same l = unchanged ps c p p' was (λ (q : ChannelPartView S T). enters q l) nobody (same-enters p p' same l) l.channel
 
   pub nodes-keep : (meaning : S → Meaning) {n n' : OwnNodes S T} → n.parts.items ≡ ps → n'.parts.items ≡ changed ps c p p' was → n'.number ≡ n.number → n'.own ≡ n.own
       → SamePart p p' → ((l : Lane) → part_writes meaning p' l ≡ part_writes meaning p l) → OwnKeeps meaning n n'
   nodes-keep meaning before after number own same writes =
       let r = routes ps c p p' was meaning same writes in
       record {
-        routes = λ l. ap (λ (xs : List (PartView S T)). target_of xs l) after ∙ targets-stay same l ∙ ap (λ (xs : List (PartView S T)). target_of xs l) (sym before);
-        written = λ l. ap (λ (xs : List (PartView S T)). writes_of meaning xs l) after ∙ r.writes l ∙ ap (λ (xs : List (PartView S T)). writes_of meaning xs l) (sym before);
+        routes = λ l. ap (λ (xs : List (ChannelPartView S T)). target_of xs l) after ∙ targets-stay same l ∙ ap (λ (xs : List (ChannelPartView S T)). target_of xs l) (sym before);
+        written = λ l. ap (λ (xs : List (ChannelPartView S T)). writes_of meaning xs l) after ∙ r.writes l ∙ ap (λ (xs : List (ChannelPartView S T)). writes_of meaning xs l) (sym before);
         homes = number;
-        hops = ap (λ (xs : List (PartView S T)). lanes_of xs) after ∙ r.lanes ∙ ap (λ (xs : List (PartView S T)). lanes_of xs) (sym before);
+        hops = ap (λ (xs : List (ChannelPartView S T)). lanes_of xs) after ∙ r.lanes ∙ ap (λ (xs : List (ChannelPartView S T)). lanes_of xs) (sym before);
         counts = ap (λ (v : Vec ℕ). length v.items) own;
       }
 
@@ -128,8 +128,8 @@ module _ {S T : Type 0} (ps : List (PartView S T)) (c : ℕ) (p p' : PartView S 
           → IsNextFor world meaning stands_after state p e b
       next-here e b of here number good places = record {
         holds = own-stands.holds;
-        entered = enters-here me c p own-stands.resident own-stands.channel own-stands.holds.hops e.lane stand.number of (sym (at-was ps c p p' was (λ (q : PartView S T). enters q e.lane) nobody e.lane.channel of) ∙ here);
-        number = number ∙ at-was ps c p p' was (λ (q : PartView S T). part_taken q e.lane) 0 e.lane.channel of;
+        entered = enters-here me c p own-stands.resident own-stands.channel own-stands.holds.hops e.lane stand.number of (sym (at-was ps c p p' was (λ (q : ChannelPartView S T). enters q e.lane) nobody e.lane.channel of) ∙ here);
+        number = number ∙ at-was ps c p p' was (λ (q : ChannelPartView S T). part_taken q e.lane) 0 e.lane.channel of;
         good = good;
         places = places-of ps c p p' was b places;
       }
@@ -139,7 +139,7 @@ module _ {S T : Type 0} (ps : List (PartView S T)) (c : ℕ) (p p' : PartView S 
       own-written l w =
           let is = written world meaning stands_after state p own-stands.holds own-stands.within l w in
           let of = is.channel ∙ own-stands.channel in
-          (of, at-was ps c p p' was (λ (q : PartView S T). writes_here meaning q l) false l.channel of ∙ and_from (nat_lt l.hop (length p.path.executors)) (part_writes meaning p l) (lt-ltb l.hop (length p.path.executors) is.within) w)
+          (of, at-was ps c p p' was (λ (q : ChannelPartView S T). writes_here meaning q l) false l.channel of ∙ and_from (nat_lt l.hop (length p.path.executors)) (part_writes meaning p l) (lt-ltb l.hop (length p.path.executors) is.within) w)
 
       -- what one of its nodes has put is what the executor's nodes have put
       pub made-here : (hop : ℕ) (b a : OutputsView) → ((l : Lane) → writes_at meaning p hop l ≡ false → part_came meaning p' l ≡ part_came meaning p l)
@@ -147,8 +147,8 @@ module _ {S T : Type 0} (ps : List (PartView S T)) (c : ℕ) (p p' : PartView S 
       made-here hop b a others made = makes-among world (writes_at meaning p hop) (writes_of meaning ps) (part_came meaning p) (part_came meaning p') (came_of meaning ps) (came_of meaning (changed ps c p p' was)) b a
           (λ l at.
           let own = own-written l (and_parts (part_writes meaning p l) (writer_hop p.path l.hop == hop) at).0 in
-          (own.1, at-was ps c p p' was (λ (q : PartView S T). part_came meaning q l) nowhere l.channel own.0, at-is ps c p p' was (λ (q : PartView S T). part_came meaning q l) nowhere l.channel own.0))
-          (λ l off. sym (unchanged ps c p p' was (λ (q : PartView S T). part_came meaning q l) nowhere (others l off) l.channel))
+          (own.1, at-was ps c p p' was (λ (q : ChannelPartView S T). part_came meaning q l) nowhere l.channel own.0, at-is ps c p p' was (λ (q : ChannelPartView S T). part_came meaning q l) nowhere l.channel own.0))
+          (λ l off. sym (unchanged ps c p p' was (λ (q : ChannelPartView S T). part_came meaning q l) nowhere (others l off) l.channel))
           made
 
       -- The nodes stand, where that part does and goes on as its plan has it. Nothing more was refused, or now something was.
@@ -169,18 +169,18 @@ module _ {S T : Type 0} (ps : List (PartView S T)) (c : ℕ) (p p' : PartView S 
             called = called;
           }
 
-          weaker : (k : ℕ) (q : PartView S T) → PartStands world meaning stands_after state me refused k q → PartStands world meaning stands_after state me later k q
+          weaker : (k : ℕ) (q : ChannelPartView S T) → PartStands world meaning stands_after state me refused k q → PartStands world meaning stands_after state me later k q
           weaker k q s = record { holds = s.holds; channel = s.channel; within = s.within; resident = s.resident; called = λ e. s.called (still e) }
 
-          parts : (k : ℕ) (q : PartView S T) → slice_get (changed ps c p p' was) k ≡ Some q → PartStands world meaning stands_after state me later k q
+          parts : (k : ℕ) (q : ChannelPartView S T) → slice_get (changed ps c p p' was) k ≡ Some q → PartStands world meaning stands_after state me later k q
           parts k q at = elim (eqb_tells k c) [
             | inl is ↦
                 let own = at_set_same ps c p' q (subst (λ (i : ℕ). slice_get (changed ps c p p' was) i ≡ Some q) is.1 at) in
-                subst (λ (z : ℕ × PartView S T). PartStands world meaning stands_after state me later z.0 z.1) (λ i. (sym is.1 i, sym own i)) here
+                subst (λ (z : ℕ × ChannelPartView S T). PartStands world meaning stands_after state me later z.0 z.1) (λ i. (sym is.1 i, sym own i)) here
             | inr other ↦ weaker k q (stand.parts k q (at_set_other ps c k p' q other.1 at))
           ]
 
-          each : (d : ℕ) (q : ChannelPlan) (part : PartView S T) → slice_get plan.channels d ≡ Some q → slice_get (changed ps c p p' was) d ≡ Some part → PartKeepsPlan state q part
+          each : (d : ℕ) (q : ChannelPlan) (part : ChannelPartView S T) → slice_get plan.channels d ≡ Some q → slice_get (changed ps c p p' was) d ≡ Some part → PartKeepsPlan state q part
           each d q part planned at = elim (eqb_tells d c) [
             | inl is ↦
                 let own = at_set_same ps c p' part (subst (λ (i : ℕ). slice_get (changed ps c p p' was) i ≡ Some part) is.1 at) in
@@ -191,7 +191,7 @@ module _ {S T : Type 0} (ps : List (PartView S T)) (c : ℕ) (p p' : PartView S 
 -- ---- the head
 
 -- where the lane that a node of the part enters is the head's, the head is there
-pub head-there : {S T : Type 0} (p : PartView S T) (l : Lane) → has_entered p l ≡ true → (l.hop == head_hop p) ≡ true → is_some p.head ≡ true
+pub head-there : {S T : Type 0} (p : ChannelPartView S T) (l : Lane) → has_entered p l ≡ true → (l.hop == head_hop p) ≡ true → is_some p.head ≡ true
 head-there p l entered t =
     (and_parts (is_some p.head) (same_lane l (data_lane p.path.channel (head_hop p)))
     (sym (cond-true (l.hop == head_hop p) (is_some p.head && same_lane l (data_lane p.path.channel (head_hop p))) (enters_path p.path l) t) ∙ entered)).0
@@ -199,7 +199,7 @@ head-there p l entered t =
 -- ---- a refusal at a part
 
 -- the nodes stay where they are, and the head is as it was
-pub refused-keeps : {S T : Type 0} (state : T → TransportState) (q : ChannelPlan) (p p' : PartView S T) → SamePart p p' → p'.head ≡ p.head → PartKeepsPlan state q p → PartKeepsPlan state q p'
+pub refused-keeps : {S T : Type 0} (state : T → TransportState) (q : ChannelPlan) (p p' : ChannelPartView S T) → SamePart p p' → p'.head ≡ p.head → PartKeepsPlan state q p → PartKeepsPlan state q p'
 refused-keeps state q p p' same head k = record {
   executors = same.path.executors ∙ k.executors;
   tail_at = same.path.tail_hop ∙ k.tail_at;

@@ -13,7 +13,7 @@ use Rattle.pl_event.proofs.Lists.{All-at}
 use Rattle.pl_event.specs.Worlds.{World}
 use Rattle.pl_executor.specs.Running.{ExecutorView}
 use Rattle.pl_head.specs.Transports.{TransportState}
-use Rattle.pl_part.specs.Parts.{PartView}
+use Rattle.pl_part.specs.Parts.{ChannelPartView}
 use Rattle.pl_queue.specs.declared.views.SenderView.{SenderView}
 use Rattle.pl_queue.specs.declared.views.TakerView.{TakerView}
 use Rattle.pl_replay.specs.Channels.{taken_of, writes_of, came_of}
@@ -34,7 +34,7 @@ use Rattle.pl_exec.proofs.FitsStart.{Stands, can-start}
 use Rattle.pl_exec.proofs.SharesMade.{at-index}
 use Rattle.pl_exec.proofs.LaneTables.{table-square, table-length, table-open, crossing-there, entering-crosses}
 
-module _ {S T : Type 0} (meaning : S → Meaning) (stands_after : S → List Event → Type 0) (state : T → TransportState) (plan : Plan) (parts : List (PartView S T)) (ready : AreReady meaning stands_after state plan parts) where
+module _ {S T : Type 0} (meaning : S → Meaning) (stands_after : S → List Event → Type 0) (state : T → TransportState) (plan : Plan) (parts : List (ChannelPartView S T)) (ready : AreReady meaning stands_after state plan parts) where
   pub ready-count : length parts ≡ length plan.channels
   ready-count = ready.placed.count ∙ sym (length-map ready.recorded (channel_planned meaning state)) ∙ sym (ap length ready.planned)
 
@@ -44,7 +44,7 @@ module _ {S T : Type 0} (meaning : S → Meaning) (stands_after : S → List Eve
   ready-few : length (all_lanes parts) < 2 ^ 16
   ready-few = lanes-few meaning stands_after state plan ready.recorded ready.planned parts ready.placed ready.small
 
-  placed-at : (c : ℕ) (part : PartView S T) → slice_get parts c ≡ Some part → (r : Recorded S T) × IsPlaced meaning stands_after state c r part
+  placed-at : (c : ℕ) (part : ChannelPartView S T) → slice_get parts c ≡ Some part → (r : Recorded S T) × IsPlaced meaning stands_after state c r part
   placed-at c part at =
       let r = at-index ready.recorded c (let size = ready.placed.count in let within = slice_get_within parts c part at in omega (arith, size, within)) in
       (r.0, ready.placed.each c r.0 part r.1 at)
@@ -56,7 +56,7 @@ module _ {S T : Type 0} (meaning : S → Meaning) (stands_after : S → List Eve
   ready-laid = record {
     channels = let size = ready.placed.count in let few = ready.channels in omega (arith, size, few);
     hops = ready-hops;
-    few = All-from-at (λ (p : PartView S T). length p.path.executors ≤ MAX_HANDLERS + 2) parts (λ c part at.
+    few = All-from-at (λ (p : ChannelPartView S T). length p.path.executors ≤ MAX_HANDLERS + 2) parts (λ c part at.
         let whole = (placed-at c part at).1.whole in
         let same = ap length whole.executors_are in
         let hops = whole.hops in
@@ -86,7 +86,7 @@ first-turns {P = P} {N = N} first executors nodes count W parts size numbered to
     let is = numbered y (first here.0) (slice_get-map first executors y ∙ ap (option_map first) here.1) in
     subst (λ t. W y t) is.turns (subst (λ n. W n (first here.0).turns) is.numbered (All-at (λ (e : P). W (first e).number (first e).turns) executors y here.0 told here.1))
 
-module _ {S T : Type 0} (meaning : S → Meaning) (stands_after : S → List Event → Type 0) (state : T → TransportState) (plan : Plan) (parts : List (PartView S T)) (ready : AreReady meaning stands_after state plan parts)
+module _ {S T : Type 0} (meaning : S → Meaning) (stands_after : S → List Event → Type 0) (state : T → TransportState) (plan : Plan) (parts : List (ChannelPartView S T)) (ready : AreReady meaning stands_after state plan parts)
     (count : ℕ) (all : count ≡ plan.executors) (lanes : LaneTable) (are : lanes ≡ lane_table parts count) where
   ready-size : length lanes ≡ count
   ready-size = ap length are ∙ table-length parts count

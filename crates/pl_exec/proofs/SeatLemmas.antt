@@ -12,7 +12,7 @@ use Rattle.pl_event.proofs.Lists.{All-at, at_set_same, at_set_other, slice_get-p
 use Rattle.pl_head.specs.Buffers.{untold}
 use Rattle.pl_head.specs.HeadStand.{HeadView}
 use Rattle.pl_head.specs.Transports.{TransportState}
-use Rattle.pl_part.specs.Parts.{PartView}
+use Rattle.pl_part.specs.Parts.{ChannelPartView}
 use Rattle.pl_part.specs.Told.{IsTold, part_untold, told_head}
 use Rattle.pl_part.proofs.ToldLemmas.{none-told}
 use Rattle.pl_words.specs.declared.watermark.TheConstants.{MAX_SETS}
@@ -26,29 +26,29 @@ use Rattle.pl_exec.proofs.SharesMade.{at-index}
 
 -- ---- what was told
 
-pub told-at : {S T : Type 0} (ps : List (PartView S T)) (c : ℕ) (p p' : PartView S T) → slice_get ps c ≡ Some p → IsTold p p' → IsToldAt ps c (slice_set ps c p')
+pub told-at : {S T : Type 0} (ps : List (ChannelPartView S T)) (c : ℕ) (p p' : ChannelPartView S T) → slice_get ps c ≡ Some p → IsTold p p' → IsToldAt ps c (slice_set ps c p')
 told-at ps c p p' was told = record { before = p; after = p'; was = was; becomes = refl; told = told }
 
-pub none-told-at : {S T : Type 0} (ps : List (PartView S T)) (c : ℕ) → c < length ps → IsToldAt ps c ps
+pub none-told-at : {S T : Type 0} (ps : List (ChannelPartView S T)) (c : ℕ) → c < length ps → IsToldAt ps c ps
 none-told-at ps c within =
     let p = at-index ps c within in
     record {
       before = p.0;
       after = p.0;
       was = p.1;
-      becomes = sym (ap (λ (x : PartView _ _). set ps c x) (sym (get_or_from_slice_get ps c p.0 p.0 p.1)) ∙ set-get_or ps c p.0);
+      becomes = sym (ap (λ (x : ChannelPartView _ _). set ps c x) (sym (get_or_from_slice_get ps c p.0 p.0 p.1)) ∙ set-get_or ps c p.0);
       told = none-told p.0;
     }
 
 -- ---- what seats tell
 
 -- seats that have told how a head stands, after it told some of its settled writes
-pub tells-told : {S T : Type 0} (p p' : PartView S T) (s : SeatsView) → IsTold p p' → part_untold p' ≡ []
+pub tells-told : {S T : Type 0} (p p' : ChannelPartView S T) (s : SeatsView) → IsTold p p' → part_untold p' ≡ []
     → ((x : HeadView T) → p.head ≡ Some x → s.mark.sets < MAX_SETS - 1 → (s.mark.pending ≡ x.buffer.pending) × (s.mark.unwritable ≡ x.buffer.is_unwritable)) → (h : HeadView T) → p'.head ≡ Some h → Tells s h
 tells-told {T = T} p p' s told none says h is = by p.head refl
   where
     after : (o : Option (HeadView T)) → p.head ≡ o → option_map (told_head told.so_many) o ≡ Some h
-    after o at = sym (ap (option_map (told_head told.so_many)) at) ∙ sym (ap (λ (q : PartView _ T). q.head) told.is) ∙ is
+    after o at = sym (ap (option_map (told_head told.so_many)) at) ∙ sym (ap (λ (q : ChannelPartView _ T). q.head) told.is) ∙ is
 
     by : (o : Option (HeadView T)) → p.head ≡ o → Tells s h
     by None at = absurd (none-some h (after None at))
@@ -61,15 +61,15 @@ tells-told {T = T} p p' s told none says h is = by p.head refl
         }
 
 -- so it is with the channel that was told
-pub tells-at : {S T : Type 0} (seats : List (Option SeatsView)) (ps : List (PartView S T)) (c : ℕ) (s' : SeatsView) (p' : PartView S T) → ((h : HeadView T) → p'.head ≡ Some h → Tells s' h)
+pub tells-at : {S T : Type 0} (seats : List (Option SeatsView)) (ps : List (ChannelPartView S T)) (c : ℕ) (s' : SeatsView) (p' : ChannelPartView S T) → ((h : HeadView T) → p'.head ≡ Some h → Tells s' h)
     → TellsAt (slice_set seats c (Some s')) (slice_set ps c p') c
 tells-at seats ps c s' p' tells s p h at here is =
     let own : s ≡ s' = same_Some s s' (at_set_same seats c (Some s') (Some s) at) in
     let part : p ≡ p' = at_set_same ps c p' p here in
-    subst (λ (z : SeatsView). Tells z h) (sym own) (tells h (sym (ap (λ (q : PartView _ _). q.head) part) ∙ is))
+    subst (λ (z : SeatsView). Tells z h) (sym own) (tells h (sym (ap (λ (q : ChannelPartView _ _). q.head) part) ∙ is))
 
 -- there are no seats on its words here
-pub no-seats-tell : {S T : Type 0} (seats : List (Option SeatsView)) (ps : List (PartView S T)) (c : ℕ) (slot : Option SeatsView) → slot ≡ None → TellsAt (slice_set seats c slot) ps c
+pub no-seats-tell : {S T : Type 0} (seats : List (Option SeatsView)) (ps : List (ChannelPartView S T)) (c : ℕ) (slot : Option SeatsView) → slot ≡ None → TellsAt (slice_set seats c slot) ps c
 no-seats-tell seats ps c slot none s p h at here is = absurd (none-some s (sym none ∙ sym (at_set_same seats c slot (Some s) at)))
 
 -- ---- the marks of a plan
@@ -83,7 +83,7 @@ planned-marks meaning state (r ∷ rs) = ap (λ (ms : List (ℕ × ℕ)). record
 
 module _ (words : List ChannelNames) (plan : Plan) (seats : List (Option SeatsView)) (seated : AreSeated words plan seats) (c : ℕ) where
   -- the seats and the head of a channel have the same marks
-  pub seat-marks : {S T : Type 0} (world : World) (meaning : S → Meaning) (stands_after : S → List Event → Type 0) (state : T → TransportState) (me : ℕ) (refused : Bool) (ps : List (PartView S T)) (p : PartView S T) (s : SeatsView)
+  pub seat-marks : {S T : Type 0} (world : World) (meaning : S → Meaning) (stands_after : S → List Event → Type 0) (state : T → TransportState) (me : ℕ) (refused : Bool) (ps : List (ChannelPartView S T)) (p : ChannelPartView S T) (s : SeatsView)
       → NodesStand world plan meaning stands_after state me refused ps → slice_get ps c ≡ Some p → slice_get seats c ≡ Some (Some s) → (h : HeadView T) → p.head ≡ Some h
       → (s.mark.low ≡ h.buffer.low) × (s.mark.high ≡ h.buffer.high)
   seat-marks world meaning stands_after state me refused ps p s stand at seat h is =

@@ -21,7 +21,7 @@ use Rattle.pl_head.specs.HeadStand.{HeadView, ReadsStand}
 use Rattle.pl_head.specs.ReadSteps.{brings_abort, brings_failure, has_step, plan_steps}
 use Rattle.pl_head.specs.Transports.{TransportState, counted}
 use Rattle.pl_part.specs.HeadCalls.{HeadReads, HeadWrites}
-use Rattle.pl_part.specs.Parts.{PartView, PartHolds, PartTakes, PartReads, PartWrites, PartMoves, SamePart, head_hop}
+use Rattle.pl_part.specs.Parts.{ChannelPartView, PartHolds, PartTakes, PartReads, PartWrites, PartMoves, SamePart, head_hop}
 use Rattle.pl_part.specs.Told.{IsTold, told_head}
 use Rattle.pl_replay.proofs.OneChannel.{changed, unchanged, at-was, at-is}
 use Rattle.pl_executor.specs.Serving.{Served, ServesNone, MovesAtMostOnce}
@@ -114,22 +114,22 @@ ServesOnce head.Out s t = (t.reads ≡ s.reads) × (t.calls ≤ s.calls + 1)
 -- ---- the head of a part
 
 module _ {S T : Type 0} (state : T → TransportState) where
-  of-head : (p : PartView S T) (h : HeadView T) → p.head ≡ Some h → (q : Option ChannelPlan) → served_by state q p ≡ record { reads = planned_reads q h; calls = (state h.transport).calls }
+  of-head : (p : ChannelPartView S T) (h : HeadView T) → p.head ≡ Some h → (q : Option ChannelPlan) → served_by state q p ≡ record { reads = planned_reads q h; calls = (state h.transport).calls }
   of-head p h at q = ap (λ (o : Option (HeadView T)). option_map_or (λ (x : HeadView T). record { reads = planned_reads q x; calls = (state x.transport).calls }) o (record { reads = 0; calls = 0 })) at
 
   -- of a part whose head stands like another's
-  same-served : (p p' : PartView S T) (h h' : HeadView T) → p.head ≡ Some h → p'.head ≡ Some h' → h'.input ≡ h.input → (state h'.transport).calls ≡ (state h.transport).calls
+  same-served : (p p' : ChannelPartView S T) (h h' : HeadView T) → p.head ≡ Some h → p'.head ≡ Some h' → h'.input ≡ h.input → (state h'.transport).calls ≡ (state h.transport).calls
       → (q : Option ChannelPlan) → served_by state q p' ≡ served_by state q p
   same-served p p' h h' at at' input calls q =
       of-head p' h' at' q
       ∙ (λ i. record { reads = option_map_or (λ (c : ChannelPlan). (input i).steps + (if (input i).port.is_open then 0 else (if nat_lt (input i).steps (plan_steps (read_plan c)) then 1 else 0))) q 0; calls = calls i })
       ∙ sym (of-head p h at q)
 
-  pub heads-equal : (p p' : PartView S T) → p'.head ≡ p.head → (q : Option ChannelPlan) → served_by state q p' ≡ served_by state q p
+  pub heads-equal : (p p' : ChannelPartView S T) → p'.head ≡ p.head → (q : Option ChannelPlan) → served_by state q p' ≡ served_by state q p
   heads-equal p p' e q = ap (λ (o : Option (HeadView T)). option_map_or (λ (x : HeadView T). record { reads = planned_reads q x; calls = (state x.transport).calls }) o (record { reads = 0; calls = 0 })) e
 
   -- it takes an item
-  pub take-serves : (meaning : S → Meaning) (stands_after : S → List Event → Type 0) (is_spent : S → Bool) (p p' : PartView S T) (e : Envelope) (b a : OutputsView) (answer : Took)
+  pub take-serves : (meaning : S → Meaning) (stands_after : S → List Event → Type 0) (is_spent : S → Bool) (p p' : ChannelPartView S T) (e : Envelope) (b a : OutputsView) (answer : Took)
       → SamePart p p' → PartTakes meaning stands_after is_spent state p e b answer p' a → (q : Option ChannelPlan) → served_by state q p' ≡ served_by state q p
   take-serves meaning stands_after is_spent p p' e b a answer same t q = ⊎_elim
       (λ (here : (e.lane.hop == head_hop p) ≡ true). by here p.head refl)
@@ -143,7 +143,7 @@ module _ {S T : Type 0} (state : T → TransportState) where
           same-served p p' h r.0 at r.1 (ap (λ (x : HeadView T). x.input) r.2.same) (ap (λ (x : HeadView T). (state x.transport).calls) r.2.same) q
 
   -- it makes a read step, or none
-  read-serves : (world : World) (meaning : S → Meaning) (stands_after : S → List Event → Type 0) (p p' : PartView S T) (b a : OutputsView) (answer : ReadStep)
+  read-serves : (world : World) (meaning : S → Meaning) (stands_after : S → List Event → Type 0) (p p' : ChannelPartView S T) (b a : OutputsView) (answer : ReadStep)
       → PartHolds world meaning stands_after state p → PartReads state p b answer p' a
       → (q : Option ChannelPlan) → ((c : ChannelPlan) → q ≡ Some c → PartKeepsPlan state c p)
       → ((served_by state q p').reads ≤ (served_by state q p).reads + 1) × ((served_by state q p').calls ≡ (served_by state q p).calls)
@@ -163,13 +163,13 @@ module _ {S T : Type 0} (state : T → TransportState) where
       by : (o : Option (HeadView T)) → p.head ≡ o → ((served_by state q p').reads ≤ (served_by state q p).reads + 1) × ((served_by state q p').calls ≡ (served_by state q p).calls)
       by None at =
           let same = (r.none at).1 in
-          (subst (λ (x : PartView S T). (served_by state q x).reads ≤ (served_by state q p).reads + 1) (sym same) (more (served_by state q p).reads), ap (λ (x : PartView S T). (served_by state q x).calls) same)
+          (subst (λ (x : ChannelPartView S T). (served_by state q x).reads ≤ (served_by state q p).reads + 1) (sym same) (more (served_by state q p).reads), ap (λ (x : ChannelPartView S T). (served_by state q x).calls) same)
       by (Some h) at =
           let x = r.head h at in
           subst (λ (z : Served × Served). (z.0.reads ≤ z.1.reads + 1) × (z.0.calls ≡ z.1.calls)) (λ i. (sym (of-head p' x.0 x.1 q) i, sym (of-head p h at q) i)) (steps h x.0 at x.2 q refl)
 
   -- it makes a write, or none
-  write-serves : (may_refuse : T → ℕ → Type 0) (p p' : PartView S T) (b a : OutputsView) (answer : OutStep) → PartWrites state may_refuse p b answer p' a
+  write-serves : (may_refuse : T → ℕ → Type 0) (p p' : ChannelPartView S T) (b a : OutputsView) (answer : OutStep) → PartWrites state may_refuse p b answer p' a
       → (q : Option ChannelPlan) → ((served_by state q p').reads ≡ (served_by state q p).reads) × ((served_by state q p').calls ≤ (served_by state q p).calls + 1)
   write-serves may_refuse p p' b a answer w q = by p.head refl
     where
@@ -187,23 +187,23 @@ module _ {S T : Type 0} (state : T → TransportState) where
       by : (o : Option (HeadView T)) → p.head ≡ o → ((served_by state q p').reads ≡ (served_by state q p).reads) × ((served_by state q p').calls ≤ (served_by state q p).calls + 1)
       by None at =
           let same = (w.none at).1 in
-          (ap (λ (x : PartView S T). (served_by state q x).reads) same, subst (λ (x : PartView S T). (served_by state q x).calls ≤ (served_by state q p).calls + 1) (sym same) (more (served_by state q p).calls))
+          (ap (λ (x : ChannelPartView S T). (served_by state q x).reads) same, subst (λ (x : ChannelPartView S T). (served_by state q x).calls ≤ (served_by state q p).calls + 1) (sym same) (more (served_by state q p).calls))
       by (Some h) at =
           let x = w.head h at in
           subst (λ (z : Served × Served). (z.0.reads ≡ z.1.reads) × (z.0.calls ≤ z.1.calls + 1)) (λ i. (sym (of-head p' x.0 x.1 q) i, sym (of-head p h at q) i))
           (ap (λ (y : HeadView T). planned_reads q y) x.2.same, calls h x.0 x.2 answer refl)
 
   -- it makes a move, or none
-  pub move-serves : (may_refuse : T → ℕ → Type 0) (world : World) (meaning : S → Meaning) (stands_after : S → List Event → Type 0) (p p' : PartView S T) (b a : OutputsView) (by : HeadMove) (made : Bool)
+  pub move-serves : (may_refuse : T → ℕ → Type 0) (world : World) (meaning : S → Meaning) (stands_after : S → List Event → Type 0) (p p' : ChannelPartView S T) (b a : OutputsView) (by : HeadMove) (made : Bool)
       → PartHolds world meaning stands_after state p → PartMoves state may_refuse p by b made p' a → (q : Option ChannelPlan) → ((c : ChannelPlan) → q ≡ Some c → PartKeepsPlan state c p) → ServesOnce by (served_by state q p) (served_by state q p')
   move-serves may_refuse world meaning stands_after p p' b a head.Read made holds m q keeps = read-serves world meaning stands_after p p' b a m.answer holds m.reads q keeps
   move-serves may_refuse world meaning stands_after p p' b a head.Out made holds m q keeps = write-serves may_refuse p p' b a m.answer m.writes q
 
 -- ---- all parts, of which one has changed
 
-module _ {S T : Type 0} (state : T → TransportState) (plan : Plan) (ps : List (PartView S T)) (c : ℕ) (p p' : PartView S T) (was : slice_get ps c ≡ Some p) where
+module _ {S T : Type 0} (state : T → TransportState) (plan : Plan) (ps : List (ChannelPartView S T)) (c : ℕ) (p p' : ChannelPartView S T) (was : slice_get ps c ≡ Some p) where
   pub serves-none : ((q : Option ChannelPlan) → served_by state q p' ≡ served_by state q p) → ServesNone (served_of state plan ps) (served_of state plan (changed ps c p p' was))
-  serves-none same k = unchanged ps c p p' was (λ (x : PartView S T). served_by state (slice_get plan.channels k) x) (record { reads = 0; calls = 0 }) (same (slice_get plan.channels k)) k
+  serves-none same k = unchanged ps c p p' was (λ (x : ChannelPartView S T). served_by state (slice_get plan.channels k) x) (record { reads = 0; calls = 0 }) (same (slice_get plan.channels k)) k
 
   -- what holds of the one before and after holds of each
   each : (R : Served → Served → Type 0) → ((s : Served) → R s s) → R (served_by state (slice_get plan.channels c) p) (served_by state (slice_get plan.channels c) p') → (k : ℕ)
@@ -211,12 +211,12 @@ module _ {S T : Type 0} (state : T → TransportState) (plan : Plan) (ps : List 
   each R same one k = ⊎_elim
       (λ (e : k ≡ c). subst (λ (z : Served × Served). R z.0 z.1)
       (λ i. (
-        sym (at-was ps c p p' was (λ (x : PartView S T). served_by state (slice_get plan.channels k) x) (record { reads = 0; calls = 0 }) k e) i,
-        sym (at-is ps c p p' was (λ (x : PartView S T). served_by state (slice_get plan.channels k) x) (record { reads = 0; calls = 0 }) k e) i,
+        sym (at-was ps c p p' was (λ (x : ChannelPartView S T). served_by state (slice_get plan.channels k) x) (record { reads = 0; calls = 0 }) k e) i,
+        sym (at-is ps c p p' was (λ (x : ChannelPartView S T). served_by state (slice_get plan.channels k) x) (record { reads = 0; calls = 0 }) k e) i,
       ))
       (subst (λ (n : ℕ). R (served_by state (slice_get plan.channels n) p) (served_by state (slice_get plan.channels n) p')) (sym e) one))
       (λ (other : k ≢ c). subst (λ (s : Served). R (served_of state plan ps k) s)
-      (sym (ap (λ (o : Option (PartView S T)). option_map_or (λ (x : PartView S T). served_by state (slice_get plan.channels k) x) o (record { reads = 0; calls = 0 })) (at-set_there ps c k p' other))) (same (served_of state plan ps k)))
+      (sym (ap (λ (o : Option (ChannelPartView S T)). option_map_or (λ (x : ChannelPartView S T). served_by state (slice_get plan.channels k) x) o (record { reads = 0; calls = 0 })) (at-set_there ps c k p' other))) (same (served_of state plan ps k)))
       (cases_eq k c)
 
   pub moves-once : (by : HeadMove) → ServesOnce by (served_by state (slice_get plan.channels c) p) (served_by state (slice_get plan.channels c) p') → MovesAtMostOnce by (served_of state plan ps) (served_of state plan (changed ps c p p' was))
@@ -226,17 +226,17 @@ module _ {S T : Type 0} (state : T → TransportState) (plan : Plan) (ps : List 
 -- ---- and where the head has told of its writes
 
 module _ {S T : Type 0} (state : T → TransportState) where
-  told-as-before : (p p' : PartView S T) → IsTold p p' → (q : Option ChannelPlan) → served_by state q p' ≡ served_by state q p
+  told-as-before : (p p' : ChannelPartView S T) → IsTold p p' → (q : Option ChannelPlan) → served_by state q p' ≡ served_by state q p
   told-as-before p p' told q =
       heads-after p.head refl
     where
       heads-after : (o : Option (HeadView T)) → p.head ≡ o → served_by state q p' ≡ served_by state q p
-      heads-after None at = heads-equal state p p' (ap (λ (x : PartView S T). x.head) told.is ∙ ap (option_map (told_head told.so_many)) at ∙ sym at) q
-      heads-after (Some h) at = same-served state p p' h (told_head told.so_many h) at (ap (λ (x : PartView S T). x.head) told.is ∙ ap (option_map (told_head told.so_many)) at) refl refl q
+      heads-after None at = heads-equal state p p' (ap (λ (x : ChannelPartView S T). x.head) told.is ∙ ap (option_map (told_head told.so_many)) at ∙ sym at) q
+      heads-after (Some h) at = same-served state p p' h (told_head told.so_many h) at (ap (λ (x : ChannelPartView S T). x.head) told.is ∙ ap (option_map (told_head told.so_many)) at) refl refl q
 
-  pub told-served : (plan : Plan) (ps : List (PartView S T)) (c : ℕ) (ps' : List (PartView S T)) → IsToldAt ps c ps' → ServesNone (served_of state plan ps) (served_of state plan ps')
+  pub told-served : (plan : Plan) (ps : List (ChannelPartView S T)) (c : ℕ) (ps' : List (ChannelPartView S T)) → IsToldAt ps c ps' → ServesNone (served_of state plan ps) (served_of state plan ps')
   told-served plan ps c ps' t k =
-      ap (λ (x : List (PartView S T)). served_of state plan x k) t.becomes ∙ serves-none state plan ps c t.before t.after t.was (told-as-before t.before t.after t.told) k
+      ap (λ (x : List (ChannelPartView S T)). served_of state plan x k) t.becomes ∙ serves-none state plan ps c t.before t.after t.was (told-as-before t.before t.after t.told) k
 
-  pub told-moves : (plan : Plan) (ps : List (PartView S T)) (c : ℕ) (ps' : List (PartView S T)) → IsToldAt ps c ps' → (by : HeadMove) (before : ℕ → Served) → MovesAtMostOnce by before (served_of state plan ps) → MovesAtMostOnce by before (served_of state plan ps')
+  pub told-moves : (plan : Plan) (ps : List (ChannelPartView S T)) (c : ℕ) (ps' : List (ChannelPartView S T)) → IsToldAt ps c ps' → (by : HeadMove) (before : ℕ → Served) → MovesAtMostOnce by before (served_of state plan ps) → MovesAtMostOnce by before (served_of state plan ps')
   told-moves plan ps c ps' t by before once = subst (λ (after : ℕ → Served). MovesAtMostOnce by before after) (λ i k. sym (told-served plan ps c ps' t k) i) once

@@ -9,7 +9,7 @@ use Rattle.pl_event.specs.declared.events.Event.{Event}
 use Rattle.pl_event.specs.Meaning.{Meaning}
 use Rattle.pl_event.proofs.Lists.{at_set_same, at_set_other, slice_get-push}
 use Rattle.pl_head.specs.Transports.{TransportState}
-use Rattle.pl_part.specs.Parts.{PartView}
+use Rattle.pl_part.specs.Parts.{ChannelPartView}
 use Rattle.pl_part.specs.Shares.{EachPart}
 use Rattle.pl_replay.specs.Placed.{all_lanes, lanes_between}
 use Rattle.pl_exec.specs.declared.nodes.OwnNodes.{OwnNodes}
@@ -27,7 +27,7 @@ at-index xs i within = elim (slice_get_cases xs i).1 [
 -- ---- one channel more, executor by executor
 
 module _ {S T : Type 0} where
-  pub next-gets : (before all : List (OwnNodes S T)) (done : List (PartView S T)) (share : PartView S T) (n : ℕ) (old new : OwnNodes S T) → EachGets before done all → n ≡ length done → n < length all → old ≡ get_or all n old
+  pub next-gets : (before all : List (OwnNodes S T)) (done : List (ChannelPartView S T)) (share : ChannelPartView S T) (n : ℕ) (old new : OwnNodes S T) → EachGets before done all → n ≡ length done → n < length all → old ≡ get_or all n old
       → Gets old share new → EachGets before (done ++ share ∷ []) (set all n new)
   next-gets before all done share n old new so_far place within read got = record {
     count = length-set all n new ∙ so_far.count;
@@ -40,14 +40,14 @@ module _ {S T : Type 0} where
       was : slice_get before n ≡ Some old
       was = so_far.others n old (omega (arith, place)) (slice_get_read all (length all) n old refl within read)
 
-      each : (x : ℕ) (o m : OwnNodes S T) (s : PartView S T) → slice_get before x ≡ Some o → slice_get (done ++ share ∷ []) x ≡ Some s → slice_get (set all n new) x ≡ Some m → Gets o s m
+      each : (x : ℕ) (o m : OwnNodes S T) (s : ChannelPartView S T) → slice_get before x ≡ Some o → slice_get (done ++ share ∷ []) x ≡ Some s → slice_get (set all n new) x ≡ Some m → Gets o s m
       each x o m s at-o at-s at-m = elim (slice_get-push done share s x at-s) [
         | inl earlier ↦ let below = slice_get_within done x s earlier in so_far.each x o m s at-o earlier (at_set_other all n x new m (λ e. omega (arith, e, below, place)) at-m)
         | inr last ↦
             let here : x ≡ n = last.0 ∙ sym place in
             let old-is : old ≡ o = same_Some old o (sym was ∙ ap (λ (i : ℕ). slice_get before i) (sym here) ∙ at-o) in
             let new-is = at_set_same all n new m (ap (λ (i : ℕ). slice_get (set all n new) i) (sym here) ∙ at-m) in
-            subst (λ (z : OwnNodes S T × PartView S T × OwnNodes S T). Gets z.0 z.1 z.2) (λ i. (old-is i, sym last.1 i, sym new-is i)) got
+            subst (λ (z : OwnNodes S T × ChannelPartView S T × OwnNodes S T). Gets z.0 z.1 z.2) (λ i. (old-is i, sym last.1 i, sym new-is i)) got
       ]
 
 -- ---- all executors
@@ -65,35 +65,35 @@ module _ {S T : Type 0} (meaning : S → Meaning) (stands_after : S → List Eve
   }
     where
       here : AreSharesOf meaning stands_after state [] n new
-      here = record { number = number; unrefused = unrefused; count = ap length none; each = λ c whole share at there. absurd (none-some whole at); own = ownless ∙ ap (λ (l : List (PartView S T)). heads_of l) (sym none) }
+      here = record { number = number; unrefused = unrefused; count = ap length none; each = λ c whole share at there. absurd (none-some whole at); own = ownless ∙ ap (λ (l : List (ChannelPartView S T)). heads_of l) (sym none) }
 
-  module _ (wholes : List (PartView S T)) (whole : PartView S T) where
-    one-more : (x : ℕ) (old new : OwnNodes S T) (share : PartView S T) → AreSharesOf meaning stands_after state wholes x old → IsShareOf meaning stands_after state x whole share → Gets old share new
+  module _ (wholes : List (ChannelPartView S T)) (whole : ChannelPartView S T) where
+    one-more : (x : ℕ) (old new : OwnNodes S T) (share : ChannelPartView S T) → AreSharesOf meaning stands_after state wholes x old → IsShareOf meaning stands_after state x whole share → Gets old share new
         → AreSharesOf meaning stands_after state (wholes ++ whole ∷ []) x new
     one-more x old new share had is got = record {
       number = got.number ∙ had.number;
       unrefused = got.refused ∙ had.unrefused;
       count = ap length got.parts ∙ length_push old.parts.items share ∙ ap (λ (k : ℕ). k + 1) had.count ∙ sym (length_push wholes whole);
       each = each;
-      own = got.own ∙ ap (λ (l : List ℕ). l ++ cond (is_some share.head) (length old.parts.items ∷ []) []) had.own ∙ sym (heads-more old.parts.items share) ∙ ap (λ (l : List (PartView S T)). heads_of l) (sym got.parts);
+      own = got.own ∙ ap (λ (l : List ℕ). l ++ cond (is_some share.head) (length old.parts.items ∷ []) []) had.own ∙ sym (heads-more old.parts.items share) ∙ ap (λ (l : List (ChannelPartView S T)). heads_of l) (sym got.parts);
     }
       where
-        each : (c : ℕ) (w s : PartView S T) → slice_get (wholes ++ whole ∷ []) c ≡ Some w → slice_get new.parts.items c ≡ Some s → IsShareOf meaning stands_after state x w s
+        each : (c : ℕ) (w s : ChannelPartView S T) → slice_get (wholes ++ whole ∷ []) c ≡ Some w → slice_get new.parts.items c ≡ Some s → IsShareOf meaning stands_after state x w s
         each c w s at there =
             let size = had.count in
             elim (slice_get-push wholes whole w c at) [
-              | inl earlier ↦ elim (slice_get-push old.parts.items share s c (ap (λ (l : List (PartView S T)). slice_get l c) (sym got.parts) ∙ there)) [
+              | inl earlier ↦ elim (slice_get-push old.parts.items share s c (ap (λ (l : List (ChannelPartView S T)). slice_get l c) (sym got.parts) ∙ there)) [
                 | inl too ↦ had.each c w s earlier too
                 | inr last ↦ absurd (let below = slice_get_within wholes c w earlier in omega (arith, below, last.0, size))
               ]
-              | inr newest ↦ elim (slice_get-push old.parts.items share s c (ap (λ (l : List (PartView S T)). slice_get l c) (sym got.parts) ∙ there)) [
+              | inr newest ↦ elim (slice_get-push old.parts.items share s c (ap (λ (l : List (ChannelPartView S T)). slice_get l c) (sym got.parts) ∙ there)) [
                 | inl too ↦ absurd (let below = slice_get_within old.parts.items c s too in omega (arith, below, newest.0, size))
-                | inr last ↦ subst (λ (z : PartView S T × PartView S T). IsShareOf meaning stands_after state x z.0 z.1) (λ i. (sym newest.1 i, sym last.1 i)) is
+                | inr last ↦ subst (λ (z : ChannelPartView S T × ChannelPartView S T). IsShareOf meaning stands_after state x z.0 z.1) (λ i. (sym newest.1 i, sym last.1 i)) is
               ]
             ]
 
     -- one channel more: each executor gets its share
-    pub channel-shared : (count : ℕ) (all after : List (OwnNodes S T)) (shares : List (PartView S T)) → AreShared meaning stands_after state wholes count all → length shares ≡ count
+    pub channel-shared : (count : ℕ) (all after : List (OwnNodes S T)) (shares : List (ChannelPartView S T)) → AreShared meaning stands_after state wholes count all → length shares ≡ count
         → EachPart shares (λ x share. IsShareOf meaning stands_after state x whole share) → EachGets all shares after → AreShared meaning stands_after state (wholes ++ whole ∷ []) count after
     channel-shared count all after shares so_far size are gets = record {
       count = gets.count ∙ so_far.count;
@@ -109,7 +109,7 @@ module _ {S T : Type 0} (meaning : S → Meaning) (stands_after : S → List Eve
 -- ---- the places
 
 -- those of one executor more
-pub next-places : {S T : Type 0} (wholes : List (PartView S T)) (count n : ℕ) (all more : List PlacesView) (new : PlacesView) → more ≡ all ++ new ∷ [] → all ≡ map (places_at wholes count) (range_with_len 0 n)
+pub next-places : {S T : Type 0} (wholes : List (ChannelPartView S T)) (count n : ℕ) (all more : List PlacesView) (new : PlacesView) → more ≡ all ++ new ∷ [] → all ≡ map (places_at wholes count) (range_with_len 0 n)
     → new.work ≡ length (all_lanes wholes) → new.targets ≡ map (λ y. length (lanes_between wholes n y)) (range_with_len 0 count) → more ≡ map (places_at wholes count) (range_with_len 0 (n + 1))
 next-places wholes count n all more new added so_far work targets =
     added ∙ (λ i. so_far i ++ record { work = work i; targets = targets i } ∷ []) ∙ sym (map-range_with_len_more (places_at wholes count) 0 n n (omega arith))

@@ -22,7 +22,7 @@ use Rattle.pl_flow.specs.Flows.{Point, point, nowhere}
 use Rattle.pl_head.specs.Transports.{TransportState}
 use Rattle.pl_part.specs.ContextHolds.{port_point, context_writes, context_came}
 use Rattle.pl_part.specs.Paths.{IsAt, context_at, writer_hop, enters_path}
-use Rattle.pl_part.specs.Parts.{PartView, PartHolds, head_hop, has_entered, part_writes, part_came}
+use Rattle.pl_part.specs.Parts.{ChannelPartView, PartHolds, head_hop, has_entered, part_writes, part_came}
 use Rattle.pl_part.specs.Shares.{IsShare, only_if, executor_of}
 use Rattle.pl_part.proofs.ShareLemmas.{share-entered}
 use Rattle.pl_channel.specs.Lanes.{world_of}
@@ -50,7 +50,7 @@ only-some true o x e = e
 only-some false o x e = absurd (none-some x e)
 
 -- a node is there where its data lane enters one
-node-entered : {S T : Type 0} (p : PartView S T) (hop : ℕ) → has_node p hop ≡ has_entered p (data_lane p.path.channel hop)
+node-entered : {S T : Type 0} (p : ChannelPartView S T) (hop : ℕ) → has_node p hop ≡ has_entered p (data_lane p.path.channel hop)
 node-entered p hop = ⊎_elim
     (λ (t : (hop == head_hop p) ≡ true).
     let same = ap (λ (h : ℕ). same_lane (data_lane p.path.channel hop) (data_lane p.path.channel h)) (sym (eqb-true hop (head_hop p) t)) ∙ same_lane-self (data_lane p.path.channel hop) in
@@ -64,7 +64,7 @@ node-entered p hop = ⊎_elim
     ∙ sym (cond-false (hop == head_hop p) _ (enters_path p.path (data_lane p.path.channel hop)) f))
     (cases_Bool (hop == head_hop p))
 
-module _ {S T : Type 0} (x : ℕ) (p share : PartView S T) (hops : length p.path.executors ≡ head_hop p + 1) (whole : IsWhole p) (is : IsShare x p share) where
+module _ {S T : Type 0} (x : ℕ) (p share : ChannelPartView S T) (hops : length p.path.executors ≡ head_hop p + 1) (whole : IsWhole p) (is : IsShare x p share) where
   has-entered : (hop : ℕ) → hop ≤ head_hop p → has_entered p (data_lane p.path.channel hop) ≡ true
   has-entered hop within = enters p hops whole (data_lane p.path.channel hop) refl (to-hop p (data_lane p.path.channel hop) hops within (λ e. ap (λ (h : ℕ). data_lane p.path.channel h) e))
 
@@ -93,7 +93,7 @@ failed-over stands.Open e = e
 failed-over stands.Ended e = refl
 failed-over (stands.Failed cause) e = refl
 
-module _ {S T : Type 0} (world : World) (meaning : S → Meaning) (stands_after : S → List Event → Type 0) (state : T → TransportState) (p : PartView S T) (holds : PartHolds world meaning stands_after state p)
+module _ {S T : Type 0} (world : World) (meaning : S → Meaning) (stands_after : S → List Event → Type 0) (state : T → TransportState) (p : ChannelPartView S T) (holds : PartHolds world meaning stands_after state p)
     (unmoved : IsUnmoved meaning p) (hop : ℕ) (c : ContextView S) (at : context_at p.path hop ≡ Some c) where
   is-at : IsAt meaning p.path.channel hop p.path.tail_hop p.path.turn c
   is-at = (holds.path.contexts hop c at).1
@@ -150,10 +150,10 @@ module _ {S T : Type 0} (world : World) (meaning : S → Meaning) (stands_after 
 -- ---- the shares of all channels
 
 module _ {S T : Type 0} (meaning : S → Meaning) (stands_after : S → List Event → Type 0) (state : T → TransportState) (plan : Plan) (rs : List (Recorded S T)) (planned : plan.channels ≡ map (channel_planned meaning state) rs)
-    (wholes : List (PartView S T)) (placed : ArePlaced meaning stands_after state rs wholes) (x : ℕ) (nodes : OwnNodes S T) (are : AreSharesOf meaning stands_after state wholes x nodes) where
+    (wholes : List (ChannelPartView S T)) (placed : ArePlaced meaning stands_after state rs wholes) (x : ℕ) (nodes : OwnNodes S T) (are : AreSharesOf meaning stands_after state wholes x nodes) where
   -- a share is that of a placed channel
-  pub record IsPlacedShare (c : ℕ) (share : PartView S T) : Type 0 where
-    pub whole : PartView S T
+  pub record IsPlacedShare (c : ℕ) (share : ChannelPartView S T) : Type 0 where
+    pub whole : ChannelPartView S T
     pub at : slice_get wholes c ≡ Some whole
     pub recorded : Recorded S T
     pub planned_at : slice_get plan.channels c ≡ Some (channel_planned meaning state recorded)
@@ -162,7 +162,7 @@ module _ {S T : Type 0} (meaning : S → Meaning) (stands_after : S → List Eve
     pub keeps : PartKeepsPlan state (channel_planned meaning state recorded) whole
     pub is : IsShareOf meaning stands_after state x whole share
 
-  pub whole-of : (c : ℕ) (share : PartView S T) → slice_get nodes.parts.items c ≡ Some share → IsPlacedShare c share
+  pub whole-of : (c : ℕ) (share : ChannelPartView S T) → slice_get nodes.parts.items c ≡ Some share → IsPlacedShare c share
   whole-of c share at =
       let size = are.count in
       let within = slice_get_within nodes.parts.items c share at in
@@ -183,7 +183,7 @@ module _ {S T : Type 0} (meaning : S → Meaning) (stands_after : S → List Eve
         is = are.each c whole.0 share whole.1 at;
       }
 
-  part-stands : (c : ℕ) (share : PartView S T) → IsPlacedShare c share → PartStands (world_of true plan) meaning stands_after state x nodes.was_refused c share
+  part-stands : (c : ℕ) (share : ChannelPartView S T) → IsPlacedShare c share → PartStands (world_of true plan) meaning stands_after state x nodes.was_refused c share
   part-stands c share s = record {
     holds = s.is.holds (world_of true plan) s.holds;
     channel = s.is.share_is.path.channel ∙ s.is_placed.whole.channel_is;
@@ -204,7 +204,7 @@ module _ {S T : Type 0} (meaning : S → Meaning) (stands_after : S → List Eve
         head = ap (λ (o : Option _). is_some o) s.is_placed.whole.head.1;
       }
 
-  part-keeps : (c : ℕ) (share : PartView S T) (s : IsPlacedShare c share) → PartKeepsPlan state (channel_planned meaning state s.recorded) share
+  part-keeps : (c : ℕ) (share : ChannelPartView S T) (s : IsPlacedShare c share) → PartKeepsPlan state (channel_planned meaning state s.recorded) share
   part-keeps c share s = record {
     executors = s.is.share_is.path.executors ∙ s.keeps.executors;
     tail_at = s.is.share_is.path.tail_hop ∙ s.keeps.tail_at;

@@ -13,7 +13,7 @@ use Rattle.pl_flow.specs.Makes.{Makes}
 use Rattle.pl_head.specs.HeadStand.{HeadView}
 use Rattle.pl_head.specs.Transports.{TransportState}
 use Rattle.pl_part.specs.Paths.{context_at}
-use Rattle.pl_part.specs.Parts.{PartView, SamePart, part_taken, part_writes, part_came}
+use Rattle.pl_part.specs.Parts.{ChannelPartView, SamePart, part_taken, part_writes, part_came}
 use Rattle.pl_part.specs.Told.{IsTold, told_head}
 use Rattle.pl_part.proofs.ToldLemmas.{told-same, told-taken, told-writes, told-came, is-told-holds}
 use Rattle.pl_channel.specs.PlanStand.{HeadKeepsPlan, PartKeepsPlan}
@@ -31,18 +31,18 @@ use Rattle.pl_exec.proofs.OwnNodeLemmas.{OwnKeeps, nodes-stand, own-stands, targ
 
 -- ---- a part
 
-module _ {S T : Type 0} (p p' : PartView S T) (told : IsTold p p') where
+module _ {S T : Type 0} (p p' : ChannelPartView S T) (told : IsTold p p') where
   same : SamePart p p'
-  same = subst (λ (x : PartView S T). SamePart p x) (sym told.is) (told-same told.so_many p)
+  same = subst (λ (x : ChannelPartView S T). SamePart p x) (sym told.is) (told-same told.so_many p)
 
   taken-as-before : (l : Lane) → part_taken p' l ≡ part_taken p l
-  taken-as-before l = ap (λ (x : PartView S T). part_taken x l) told.is ∙ told-taken told.so_many p l
+  taken-as-before l = ap (λ (x : ChannelPartView S T). part_taken x l) told.is ∙ told-taken told.so_many p l
 
   writes-as-before : (meaning : S → Meaning) (l : Lane) → part_writes meaning p' l ≡ part_writes meaning p l
-  writes-as-before meaning l = ap (λ (x : PartView S T). part_writes meaning x l) told.is ∙ told-writes told.so_many p meaning l
+  writes-as-before meaning l = ap (λ (x : ChannelPartView S T). part_writes meaning x l) told.is ∙ told-writes told.so_many p meaning l
 
   came-as-before : (meaning : S → Meaning) (l : Lane) → part_came meaning p' l ≡ part_came meaning p l
-  came-as-before meaning l = ap (λ (x : PartView S T). part_came meaning x l) told.is ∙ told-came told.so_many p meaning l
+  came-as-before meaning l = ap (λ (x : ChannelPartView S T). part_came meaning x l) told.is ∙ told-came told.so_many p meaning l
 
   module _ (state : T → TransportState) (q : ChannelPlan) (keeps : PartKeepsPlan state q p) where
     head-keeps : (o : Option (HeadView T)) → p.head ≡ o → (h : HeadView T) → option_map (told_head told.so_many) o ≡ Some h → HeadKeepsPlan state q h
@@ -57,12 +57,12 @@ module _ {S T : Type 0} (p p' : PartView S T) (told : IsTold p p') where
       executors = same.path.executors ∙ keeps.executors;
       tail_at = same.path.tail_hop ∙ keeps.tail_at;
       head_at = same-hops p p' same ∙ keeps.head_at;
-      head = λ h is. head-keeps p.head refl h (sym (ap (λ (x : PartView S T). x.head) told.is) ∙ is);
+      head = λ h is. head-keeps p.head refl h (sym (ap (λ (x : ChannelPartView S T). x.head) told.is) ∙ is);
     }
 
 -- ---- all parts
 
-module _ {S T : Type 0} (ps : List (PartView S T)) (c : ℕ) (ps' : List (PartView S T)) (t : IsToldAt ps c ps') where
+module _ {S T : Type 0} (ps : List (ChannelPartView S T)) (c : ℕ) (ps' : List (ChannelPartView S T)) (t : IsToldAt ps c ps') where
   becomes : ps' ≡ changed ps c t.before t.after t.was
   becomes = t.becomes
 
@@ -72,30 +72,30 @@ module _ {S T : Type 0} (ps : List (PartView S T)) (c : ℕ) (ps' : List (PartVi
       let own = own-stands ps c t.before t.after t.was world plan meaning stands_after state me refused stand in
       subst (NodesStand world plan meaning stands_after state me refused) (sym becomes)
       (nodes-stand ps c t.before t.after t.was world plan meaning stands_after state me refused stand refused (λ s. s) (same t.before t.after t.told) (is-told-holds t.before t.after world meaning stands_after state t.told own.holds)
-      (λ r hop x at. own.called r hop x (sym (ap (λ (y : PartView S T). context_at y.path hop) t.told.is) ∙ at))
+      (λ r hop x at. own.called r hop x (sym (ap (λ (y : ChannelPartView S T). context_at y.path hop) t.told.is) ∙ at))
       (λ q k. keeps-as-before t.before t.after t.told state q k))
 
   pub told-targets : (l : Lane) → target_of ps' l ≡ target_of ps l
-  told-targets l = ap (λ (x : List (PartView S T)). target_of x l) becomes ∙ targets-stay ps c t.before t.after t.was (same t.before t.after t.told) l
+  told-targets l = ap (λ (x : List (ChannelPartView S T)). target_of x l) becomes ∙ targets-stay ps c t.before t.after t.was (same t.before t.after t.told) l
 
   pub told-written : (meaning : S → Meaning) (l : Lane) → writes_of meaning ps' l ≡ writes_of meaning ps l
   told-written meaning l =
-      ap (λ (x : List (PartView S T)). writes_of meaning x l) becomes
+      ap (λ (x : List (ChannelPartView S T)). writes_of meaning x l) becomes
       ∙ (routes ps c t.before t.after t.was meaning (same t.before t.after t.told) (writes-as-before t.before t.after t.told meaning)).writes l
 
   pub told-lanes : (meaning : S → Meaning) → lanes_of ps' ≡ lanes_of ps
-  told-lanes meaning = ap (λ (x : List (PartView S T)). lanes_of x) becomes ∙ (routes ps c t.before t.after t.was meaning (same t.before t.after t.told) (writes-as-before t.before t.after t.told meaning)).lanes
+  told-lanes meaning = ap (λ (x : List (ChannelPartView S T)). lanes_of x) becomes ∙ (routes ps c t.before t.after t.was meaning (same t.before t.after t.told) (writes-as-before t.before t.after t.told meaning)).lanes
 
   pub told-took : (l : Lane) → taken_of ps' l ≡ taken_of ps l
-  told-took l = ap (λ (x : List (PartView S T)). taken_of x l) becomes ∙ taken-none ps c t.before t.after t.was (taken-as-before t.before t.after t.told) l
+  told-took l = ap (λ (x : List (ChannelPartView S T)). taken_of x l) becomes ∙ taken-none ps c t.before t.after t.was (taken-as-before t.before t.after t.told) l
 
   pub told-come : (meaning : S → Meaning) (l : Lane) → came_of meaning ps' l ≡ came_of meaning ps l
   told-come meaning l =
-      ap (λ (x : List (PartView S T)). came_of meaning x l) becomes
-      ∙ unchanged ps c t.before t.after t.was (λ (q : PartView S T). part_came meaning q l) nowhere (came-as-before t.before t.after t.told meaning l) l.channel
+      ap (λ (x : List (ChannelPartView S T)). came_of meaning x l) becomes
+      ∙ unchanged ps c t.before t.after t.was (λ (q : ChannelPartView S T). part_came meaning q l) nowhere (came-as-before t.before t.after t.told meaning l) l.channel
 
   pub told-heads : heads_of ps' ≡ heads_of ps
-  told-heads = ap (λ (x : List (PartView S T)). heads_of x) becomes ∙ heads-stay ps c t.before t.after t.was (same t.before t.after t.told)
+  told-heads = ap (λ (x : List (ChannelPartView S T)). heads_of x) becomes ∙ heads-stay ps c t.before t.after t.was (same t.before t.after t.told)
 
 -- ---- the nodes of an executor
 

@@ -5,7 +5,7 @@ use Rattle.std.specs.List.{flat_map, range_with_len}
 use Rattle.pl_build.specs.declared.limits.TheConstants.{MAX_HANDLERS}
 use Rattle.pl_event.specs.declared.envelopes.Lane.{Lane}
 use Rattle.pl_event.specs.Hops.{data_lane, flags_lane}
-use Rattle.pl_part.specs.Parts.{PartView}
+use Rattle.pl_part.specs.Parts.{ChannelPartView}
 use Rattle.pl_replay.specs.Channels.{is_hop, origin_of, target_of}
 use Rattle.pl_replay.specs.Placed.{HasExecutors}
 use Rattle.pl_world.specs.declared.limits.TheConstants.{MAX_CHANNELS}
@@ -17,28 +17,28 @@ lanes_at channel hops hop = if hop + 1 == hops then data_lane channel hop ∷ []
 
 module _ {S T : Type 0} where
   -- those of these channels, of which the first has this number
-  abbrev pub lanes_from : ℕ → List (PartView S T) → List Lane
+  abbrev pub lanes_from : ℕ → List (ChannelPartView S T) → List Lane
   lanes_from channel [] = []
   lanes_from channel (p ∷ ps) = flat_map (lanes_at channel (length p.path.executors)) (range_with_len 0 (length p.path.executors)) ++ lanes_from (channel + 1) ps
 
   -- every lane of these channels
-  abbrev pub every_lane : List (PartView S T) → List Lane
+  abbrev pub every_lane : List (ChannelPartView S T) → List Lane
   every_lane ps = lanes_from 0 ps
 
   -- a lane is one of them
-  abbrev pub is_lane : List (PartView S T) → Lane → Bool
-  is_lane ps l = option_map_or (λ (p : PartView S T). is_hop p l) (slice_get ps l.channel) false
+  abbrev pub is_lane : List (ChannelPartView S T) → Lane → Bool
+  is_lane ps l = option_map_or (λ (p : ChannelPartView S T). is_hop p l) (slice_get ps l.channel) false
 
   -- it goes from one executor to another
-  abbrev pub crosses : List (PartView S T) → ℕ → ℕ → Lane → Bool
+  abbrev pub crosses : List (ChannelPartView S T) → ℕ → ℕ → Lane → Bool
   crosses ps x y l = not (x == y) && ((origin_of ps l == x) && (target_of ps l == y))
 
   -- for each of so many targets, and for each sender, the lanes from that sender to that target
-  abbrev pub lane_table : List (PartView S T) → ℕ → LaneTable
+  abbrev pub lane_table : List (ChannelPartView S T) → ℕ → LaneTable
   lane_table ps count = map (λ y. map (λ x. filter (crosses ps x y) (every_lane ps)) (range_with_len 0 count)) (range_with_len 0 count)
 
   -- Channels within the limits, each of whose hops has an executor.
-  pub record AreLaid (ps : List (PartView S T)) : Type 0 where
+  pub record AreLaid (ps : List (ChannelPartView S T)) : Type 0 where
     pub channels : length ps ≤ MAX_CHANNELS
     pub hops : All HasExecutors ps
     pub few : All (λ p. length p.path.executors ≤ MAX_HANDLERS + 2) ps

@@ -15,7 +15,7 @@ use Rattle.pl_head.specs.declared.inputs.ReadPlan.{ReadPlan}
 use Rattle.pl_head.specs.HeadStand.{HeadView, StandsAfter, is_idle}
 use Rattle.pl_head.specs.ReadSteps.{plan_steps}
 use Rattle.pl_part.specs.Paths.{context_at, writer_hop}
-use Rattle.pl_part.specs.Parts.{PartView, PartHolds, head_hop, all_over, has_read}
+use Rattle.pl_part.specs.Parts.{ChannelPartView, PartHolds, head_hop, all_over, has_read}
 use Rattle.pl_channel.specs.PlanStand.{PartsKeepPlan}
 use Rattle.pl_executor.specs.Serving.{Served}
 use Rattle.pl_replay.specs.Channels.{MayMove, executor_at, is_hop}
@@ -28,30 +28,30 @@ abbrev pub nobody : ℕ
 nobody = 2 ^ 16
 
 -- the executor of the node that a lane enters
-abbrev pub enters : {S T : Type 0} → PartView S T → Lane → ℕ
+abbrev pub enters : {S T : Type 0} → ChannelPartView S T → Lane → ℕ
 enters p l = if is_hop p l then executor_at p l.hop else nobody
 
 -- by lane, where it has a channel
-abbrev pub target_of : {S T : Type 0} → List (PartView S T) → Lane → ℕ
-target_of ps l = option_map_or (λ (p : PartView _ _). enters p l) (slice_get ps l.channel) nobody
+abbrev pub target_of : {S T : Type 0} → List (ChannelPartView S T) → Lane → ℕ
+target_of ps l = option_map_or (λ (p : ChannelPartView _ _). enters p l) (slice_get ps l.channel) nobody
 
 -- ---- which nodes are here
 
 -- the node at a hop is one of the part's
-abbrev pub has_node : {S T : Type 0} → PartView S T → ℕ → Bool
+abbrev pub has_node : {S T : Type 0} → ChannelPartView S T → ℕ → Bool
 has_node p hop = if hop == head_hop p then is_some p.head else if hop == p.path.tail_hop then is_some p.path.tail else is_some (context_at p.path hop)
 
 -- A part has the nodes of its channel whose executor this is, and no others.
-pub record IsResident {S T : Type 0} (me : ℕ) (p : PartView S T) : Type 0 where
+pub record IsResident {S T : Type 0} (me : ℕ) (p : ChannelPartView S T) : Type 0 where
   pub nodes : (hop : ℕ) → hop ≤ head_hop p → has_node p hop ≡ (executor_at p hop == me)
 
 -- no context of it has failed by a refusal
-abbrev pub NoneRefused : {S T : Type 0} → PartView S T → Type 0
+abbrev pub NoneRefused : {S T : Type 0} → ChannelPartView S T → Type 0
 NoneRefused p = (hop : ℕ) (c : ContextView _) → context_at p.path hop ≡ Some c → c.failed_by_call ≡ false
 
 module _ {S T : Type 0} (world : World) (meaning : S → Meaning) (stands_after : S → List Event → Type 0) (state : T → TransportState) where
   -- The part of a channel that is on an executor. Something of a lane that one of its contexts writes was refused, or not.
-  pub record PartStands (me : ℕ) (refused : Bool) (c : ℕ) (p : PartView S T) : Type 0 where
+  pub record PartStands (me : ℕ) (refused : Bool) (c : ℕ) (p : ChannelPartView S T) : Type 0 where
     pub holds : PartHolds world meaning stands_after state p
     pub channel : p.path.channel ≡ c
     pub within : p.path.tail_hop < head_hop p
@@ -59,8 +59,8 @@ module _ {S T : Type 0} (world : World) (meaning : S → Meaning) (stands_after 
     pub called : refused ≡ false → NoneRefused p
 
 -- The nodes that are on an executor hold in a world, and go on as the plan has them.
-pub record NodesStand {S T : Type 0} (world : World) (plan : Plan) (meaning : S → Meaning) (stands_after : S → List Event → Type 0) (state : T → TransportState) (me : ℕ) (refused : Bool) (ps : List (PartView S T)) : Type 0 where
-  pub parts : (c : ℕ) (p : PartView S T) → slice_get ps c ≡ Some p → PartStands world meaning stands_after state me refused c p
+pub record NodesStand {S T : Type 0} (world : World) (plan : Plan) (meaning : S → Meaning) (stands_after : S → List Event → Type 0) (state : T → TransportState) (me : ℕ) (refused : Bool) (ps : List (ChannelPartView S T)) : Type 0 where
+  pub parts : (c : ℕ) (p : ChannelPartView S T) → slice_get ps c ≡ Some p → PartStands world meaning stands_after state me refused c p
   pub keeps : PartsKeepPlan state plan ps
   pub number : me < nobody
 
@@ -72,9 +72,9 @@ pub record AreOn {A : Type 0} (executors_of : A → List ℕ) (channels : List A
 -- ---- which contexts have given up
 
 -- the context that writes a data lane, where it is here, has ended or failed
-abbrev pub HasGivenUp : {S T : Type 0} → List (PartView S T) → Lane → Type 0
+abbrev pub HasGivenUp : {S T : Type 0} → List (ChannelPartView S T) → Lane → Type 0
 HasGivenUp ps l =
-    (p : PartView _ _) (c : ContextView _) → slice_get ps l.channel ≡ Some p → l.kind ≡ kind.Data → context_at p.path (writer_hop p.path l.hop) ≡ Some c → is_over c.standing ≡ true
+    (p : ChannelPartView _ _) (c : ContextView _) → slice_get ps l.channel ≡ Some p → l.kind ≡ kind.Data → context_at p.path (writer_hop p.path l.hop) ≡ Some c → is_over c.standing ≡ true
 
 -- ---- which heads are here
 
@@ -84,8 +84,8 @@ numbered_from n [] = []
 numbered_from n (b ∷ bs) = if b then n ∷ numbered_from (n + 1) bs else numbered_from (n + 1) bs
 
 -- the channels whose heads are among these nodes, in order
-abbrev pub heads_of : {S T : Type 0} → List (PartView S T) → List ℕ
-heads_of ps = numbered_from 0 (map (λ (p : PartView _ _). is_some p.head) ps)
+abbrev pub heads_of : {S T : Type 0} → List (ChannelPartView S T) → List ℕ
+heads_of ps = numbered_from 0 (map (λ (p : ChannelPartView _ _). is_some p.head) ps)
 
 -- ---- how often they were served
 
@@ -98,37 +98,37 @@ abbrev pub planned_reads : {T : Type 0} → Option ChannelPlan → HeadView T �
 planned_reads q h = option_map_or (λ (p : ChannelPlan). reads_made (read_plan p) h) q 0
 
 -- how often its head has read and written
-abbrev pub served_by : {S T : Type 0} → (T → TransportState) → Option ChannelPlan → PartView S T → Served
+abbrev pub served_by : {S T : Type 0} → (T → TransportState) → Option ChannelPlan → ChannelPartView S T → Served
 served_by state q p = option_map_or (λ (h : HeadView _). record { reads = planned_reads q h; calls = (state h.transport).calls }) p.head (record { reads = 0; calls = 0 })
 
 -- by channel, where it has a part
-abbrev pub served_of : {S T : Type 0} → (T → TransportState) → Plan → List (PartView S T) → ℕ → Served
-served_of state plan ps c = option_map_or (λ (p : PartView _ _). served_by state (slice_get plan.channels c) p) (slice_get ps c) (record { reads = 0; calls = 0 })
+abbrev pub served_of : {S T : Type 0} → (T → TransportState) → Plan → List (ChannelPartView S T) → ℕ → Served
+served_of state plan ps c = option_map_or (λ (p : ChannelPartView _ _). served_by state (slice_get plan.channels c) p) (slice_get ps c) (record { reads = 0; calls = 0 })
 
 -- ---- what is enabled
 
 module _ {S T : Type 0} (state : T → TransportState) where
   -- Whether a move of a channel's head is enabled: none is where the head is elsewhere.
-  pub record MayMoveHere (ps : List (PartView S T)) (by : HeadMove) (c : ℕ) (b : Bool) : Type 0 where
+  pub record MayMoveHere (ps : List (ChannelPartView S T)) (by : HeadMove) (c : ℕ) (b : Bool) : Type 0 where
     pub here : MayMove state ps by c b
-    pub elsewhere : (p : PartView S T) → slice_get ps c ≡ Some p → p.head ≡ None → b ≡ false
+    pub elsewhere : (p : ChannelPartView S T) → slice_get ps c ≡ Some p → p.head ≡ None → b ≡ false
 
   -- Whether it is for the channel at a place of this list.
-  pub record MayMoveOwn (ps : List (PartView S T)) (own : List ℕ) (by : HeadMove) (at : ℕ) (b : Bool) : Type 0 where
+  pub record MayMoveOwn (ps : List (ChannelPartView S T)) (own : List ℕ) (by : HeadMove) (at : ℕ) (b : Bool) : Type 0 where
     pub channel : ℕ
     pub is : slice_get own at ≡ Some channel
     pub may : MayMoveHere ps by channel b
 
   -- All nodes of a part have ended or failed; where the head is one of them, no read step and no flushed byte is left.
-  pub record IsPartOver (p : PartView S T) : Type 0 where
+  pub record IsPartOver (p : ChannelPartView S T) : Type 0 where
     pub over : all_over p ≡ true
     pub read : has_read p ≡ false
     pub written : (h : HeadView T) (ys zs : List Event) (sizes : List Change) → p.head ≡ Some h → StandsAfter state h ys zs sizes → is_idle state h ys ≡ true
 
   -- So it is with that of a channel, where it has one.
-  abbrev pub IsOverAt : List (PartView S T) → ℕ → Type 0
-  IsOverAt ps c = (p : PartView S T) → slice_get ps c ≡ Some p → IsPartOver p
+  abbrev pub IsOverAt : List (ChannelPartView S T) → ℕ → Type 0
+  IsOverAt ps c = (p : ChannelPartView S T) → slice_get ps c ≡ Some p → IsPartOver p
 
   -- So it is with all parts.
-  abbrev pub AreOver : List (PartView S T) → Type 0
-  AreOver ps = (c : ℕ) (p : PartView S T) → slice_get ps c ≡ Some p → IsPartOver p
+  abbrev pub AreOver : List (ChannelPartView S T) → Type 0
+  AreOver ps = (c : ℕ) (p : ChannelPartView S T) → slice_get ps c ≡ Some p → IsPartOver p

@@ -11,7 +11,7 @@ use Rattle.pl_head.specs.Writes.{out}
 use Rattle.pl_head.specs.Transports.{TransportState}
 use Rattle.pl_head.specs.HeadStand.{HeadView, StandsAfter, is_idle}
 use Rattle.pl_part.specs.HeadHolds.{HeadHolds}
-use Rattle.pl_part.specs.Parts.{PartView}
+use Rattle.pl_part.specs.Parts.{ChannelPartView}
 use Rattle.pl_part.specs.TailHolds.{TailHolds}
 use Rattle.pl_channel.specs.Ends.{ends_of, EndsHold}
 use Rattle.pl_channel.specs.Lanes.{world_of}
@@ -71,11 +71,11 @@ abbrev pub nothing_found : {T : Type 0} → Found T
 nothing_found = record { tail = None; head = None }
 
 -- with those among the nodes of a part
-abbrev pub with_part : {S T : Type 0} → Found T → PartView S T → Found T
+abbrev pub with_part : {S T : Type 0} → Found T → ChannelPartView S T → Found T
 with_part f part = record { tail = option_or part.path.tail f.tail; head = option_or part.head f.head }
 
 -- the same channel by channel
-abbrev pub with_parts : {S T : Type 0} → List (Found T) → List (PartView S T) → List (Found T)
+abbrev pub with_parts : {S T : Type 0} → List (Found T) → List (ChannelPartView S T) → List (Found T)
 with_parts fs parts = each_with with_part fs parts
 
 module _ {T : Type 0} (state : T → TransportState) where

@@ -8,7 +8,7 @@ use Rattle.pl_event.specs.Worlds.{World}
 use Rattle.pl_flow.specs.Flows.{nowhere}
 use Rattle.pl_head.specs.Transports.{TransportState}
 use Rattle.pl_part.specs.Paths.{writer_hop}
-use Rattle.pl_part.specs.Parts.{PartView, PartHolds, part_taken, part_writes, part_came, part_lanes}
+use Rattle.pl_part.specs.Parts.{ChannelPartView, PartHolds, part_taken, part_writes, part_came, part_lanes}
 use Rattle.pl_part.specs.Shares.{IsShare, executor_of}
 use Rattle.pl_replay.specs.Placed.{all_lanes, lanes_between}
 use Rattle.pl_exec.specs.declared.nodes.OwnNodes.{OwnNodes}
@@ -17,7 +17,7 @@ use Rattle.pl_exec.specs.OwnNodes.{heads_of}
 
 module _ {S T : Type 0} (meaning : S → Meaning) (stands_after : S → List Event → Type 0) (state : T → TransportState) where
   -- Of a channel's nodes those of an executor: it holds where the whole does, and its lanes are as far as those of the whole.
-  pub record IsShareOf (x : ℕ) (whole share : PartView S T) : Type 0 where
+  pub record IsShareOf (x : ℕ) (whole share : ChannelPartView S T) : Type 0 where
     pub share_is : IsShare x whole share
     pub holds : (world : World) → PartHolds world meaning stands_after state whole → PartHolds world meaning stands_after state share
     pub taken : (l : Lane) → part_taken share l ≡ cond (executor_of whole.path l.hop == x) (part_taken whole l) 0
@@ -26,15 +26,15 @@ module _ {S T : Type 0} (meaning : S → Meaning) (stands_after : S → List Eve
     pub lanes : part_lanes share ≡ part_lanes whole
 
   -- The nodes of an executor are its shares of these channels, and nothing was refused.
-  pub record AreSharesOf (wholes : List (PartView S T)) (x : ℕ) (nodes : OwnNodes S T) : Type 0 where
+  pub record AreSharesOf (wholes : List (ChannelPartView S T)) (x : ℕ) (nodes : OwnNodes S T) : Type 0 where
     pub number : nodes.number ≡ x
     pub unrefused : nodes.was_refused ≡ false
     pub count : length nodes.parts.items ≡ length wholes
-    pub each : (c : ℕ) (whole share : PartView S T) → slice_get wholes c ≡ Some whole → slice_get nodes.parts.items c ≡ Some share → IsShareOf x whole share
+    pub each : (c : ℕ) (whole share : ChannelPartView S T) → slice_get wholes c ≡ Some whole → slice_get nodes.parts.items c ≡ Some share → IsShareOf x whole share
     pub own : nodes.own.items ≡ heads_of nodes.parts.items
 
   -- So are those of each of so many executors, by number.
-  pub record AreShared (wholes : List (PartView S T)) (so_many : ℕ) (all : List (OwnNodes S T)) : Type 0 where
+  pub record AreShared (wholes : List (ChannelPartView S T)) (so_many : ℕ) (all : List (OwnNodes S T)) : Type 0 where
     pub count : length all ≡ so_many
     pub each : (x : ℕ) (nodes : OwnNodes S T) → slice_get all x ≡ Some nodes → AreSharesOf wholes x nodes
 
@@ -42,21 +42,21 @@ module _ {S T : Type 0} (meaning : S → Meaning) (stands_after : S → List Eve
 
 module _ {S T : Type 0} where
   -- An executor gets its share of one channel more.
-  pub record Gets (before : OwnNodes S T) (share : PartView S T) (after : OwnNodes S T) : Type 0 where
+  pub record Gets (before : OwnNodes S T) (share : ChannelPartView S T) (after : OwnNodes S T) : Type 0 where
     pub number : after.number ≡ before.number
     pub refused : after.was_refused ≡ before.was_refused
     pub parts : after.parts.items ≡ before.parts.items ++ share ∷ []
     pub own : after.own.items ≡ before.own.items ++ cond (is_some share.head) (length before.parts.items ∷ []) []
 
   -- Each gets its own, by number, as far as these shares go. The others are as they were.
-  pub record EachGets (before : List (OwnNodes S T)) (shares : List (PartView S T)) (after : List (OwnNodes S T)) : Type 0 where
+  pub record EachGets (before : List (OwnNodes S T)) (shares : List (ChannelPartView S T)) (after : List (OwnNodes S T)) : Type 0 where
     pub count : length after ≡ length before
-    pub each : (x : ℕ) (old new : OwnNodes S T) (share : PartView S T) → slice_get before x ≡ Some old → slice_get shares x ≡ Some share → slice_get after x ≡ Some new → Gets old share new
+    pub each : (x : ℕ) (old new : OwnNodes S T) (share : ChannelPartView S T) → slice_get before x ≡ Some old → slice_get shares x ≡ Some share → slice_get after x ≡ Some new → Gets old share new
     pub others : (x : ℕ) (nodes : OwnNodes S T) → length shares ≤ x → slice_get after x ≡ Some nodes → slice_get before x ≡ Some nodes
 
 -- ---- the places
 
-module _ {S T : Type 0} (wholes : List (PartView S T)) (so_many : ℕ) where
+module _ {S T : Type 0} (wholes : List (ChannelPartView S T)) (so_many : ℕ) where
   -- those of an executor: on its work list for each data lane, and for what waits for a target for each lane from it to there
   abbrev pub places_at : ℕ → PlacesView
   places_at x = record {

@@ -7,7 +7,7 @@ use Rattle.pl_event.specs.Worlds.{World}
 use Rattle.pl_head.specs.Buffers.{untold}
 use Rattle.pl_head.specs.HeadStand.{HeadView}
 use Rattle.pl_head.specs.Transports.{TransportState}
-use Rattle.pl_part.specs.Parts.{PartView, PartHolds}
+use Rattle.pl_part.specs.Parts.{ChannelPartView, PartHolds}
 use Rattle.pl_part.specs.Told.{IsTold}
 use Rattle.pl_words.specs.declared.watermark.TheConstants.{MAX_SETS}
 use Rattle.pl_world.specs.Plans.{ChannelPlan, Plan}
@@ -43,9 +43,9 @@ abbrev pub KnowChannels : {S T : Type 0} → TellingNodes S T → Type 0
 KnowChannels n = AreOn (λ p. p.path.executors) n.nodes.parts.items n.nodes.number n.here.items
 
 -- The head of a channel has told some of its settled writes, or none. All else is as it was.
-pub record IsToldAt {S T : Type 0} (ps : List (PartView S T)) (c : ℕ) (ps' : List (PartView S T)) : Type 0 where
-  pub before : PartView S T
-  pub after : PartView S T
+pub record IsToldAt {S T : Type 0} (ps : List (ChannelPartView S T)) (c : ℕ) (ps' : List (ChannelPartView S T)) : Type 0 where
+  pub before : ChannelPartView S T
+  pub after : ChannelPartView S T
   pub was : slice_get ps c ≡ Some before
   pub becomes : ps' ≡ slice_set ps c after
   pub told : IsTold before after
@@ -58,7 +58,7 @@ pub record AreToldAt {S T : Type 0} (n : OwnNodes S T) (c : ℕ) (n' : OwnNodes 
   pub parts : IsToldAt n.parts.items c n'.parts.items
 
 -- Seats on the words of a channel, with the marks of its head, where that is one of the nodes of this part.
-pub record CanTell {S T : Type 0} (meaning : S → Meaning) (stands_after : S → List Event → Type 0) (state : T → TransportState) (words : List ChannelNames) (c : ℕ) (s : SeatsView) (p : PartView S T) : Type 0 where
+pub record CanTell {S T : Type 0} (meaning : S → Meaning) (stands_after : S → List Event → Type 0) (state : T → TransportState) (words : List ChannelNames) (c : ℕ) (s : SeatsView) (p : ChannelPartView S T) : Type 0 where
   pub own : AreSeatsOf words c s
   pub holds : (world : World) × PartHolds world meaning stands_after state p
   pub marks : (h : HeadView T) → p.head ≡ Some h → (s.mark.low ≡ h.buffer.low) × (s.mark.high ≡ h.buffer.high)
@@ -72,8 +72,8 @@ pub record Tells {T : Type 0} (s : SeatsView) (h : HeadView T) : Type 0 where
   pub all : untold h.buffer ≡ []
 
 -- So it is with the seats of a channel and its head, where both are here.
-abbrev pub TellsAt : {S T : Type 0} → List (Option SeatsView) → List (PartView S T) → ℕ → Type 0
-TellsAt seats ps c = (s : SeatsView) (p : PartView _ _) (h : HeadView _) → slice_get seats c ≡ Some (Some s) → slice_get ps c ≡ Some p → p.head ≡ Some h → Tells s h
+abbrev pub TellsAt : {S T : Type 0} → List (Option SeatsView) → List (ChannelPartView S T) → ℕ → Type 0
+TellsAt seats ps c = (s : SeatsView) (p : ChannelPartView _ _) (h : HeadView _) → slice_get seats c ≡ Some (Some s) → slice_get ps c ≡ Some p → p.head ≡ Some h → Tells s h
 
 -- ---- what holds between two calls
 

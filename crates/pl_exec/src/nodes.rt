@@ -3,7 +3,7 @@
 ghost use Rattle.std.specs.Prelude.{◌≡◌, ◌<◌, ◌^◌, ◌||◌, ◌&&◌, All, length, get_or, slice_get, Some, ℕ, true, false};
 ghost use Rattle.pl_exec.specs.OwnNodes.{HasGivenUp, MayMoveOwn, AreOver, IsOverAt, IsPartOver, enters, served_of, target_of};
 ghost use Rattle.pl_exec.specs.Telling.{OwnStand};
-ghost use Rattle.pl_part.specs.Parts.{PartView, PartHolds};
+ghost use Rattle.pl_part.specs.Parts.{ChannelPartView, PartHolds};
 ghost use Rattle.pl_replay.specs.Channels.{came_of, taken_of, writes_of};
 ghost use Rattle.pl_replay.specs.Channels.{lanes_of as data_lanes_of};
 ghost use Rattle.pl_event.specs.Worlds.{World};
@@ -108,7 +108,7 @@ fn entered<S: Stage, T: Transport>(part: &ChannelPart<S, T>, lane: Lane) -> usiz
 
 /// Whether all nodes of these parts have ended or failed, no read step is left, and no flushed byte waits.
 fn are_over<S: Stage, T: Transport>(parts: &[ChannelPart<S, T>]) -> bool
-    requires holds { (world : World) × ((c : ℕ) (p : PartView S T) → slice_get parts.now c ≡ Some p → PartHolds world S.meaning S.stands_after T.state p) }
+    requires holds { (world : World) × ((c : ℕ) (p : ChannelPartView S T) → slice_get parts.now c ≡ Some p → PartHolds world S.meaning S.stands_after T.state p) }
     ensures over { result ≡ true → AreOver T.state parts.now }
     ensures not_over { result ≡ false → AreOver T.state parts.now → ⊥ }
 {
@@ -125,7 +125,7 @@ pub(crate) fn are_over_at<S: Stage, T: Transport>(
     parts: &[ChannelPart<S, T>],
     channels: &[usize],
 ) -> bool
-    requires holds { (world : World) × ((c : ℕ) (p : PartView S T) → slice_get parts.now c ≡ Some p → PartHolds world S.meaning S.stands_after T.state p) }
+    requires holds { (world : World) × ((c : ℕ) (p : ChannelPartView S T) → slice_get parts.now c ≡ Some p → PartHolds world S.meaning S.stands_after T.state p) }
     requires there { All (λ c. c < length parts.now) channels.now }
     ensures over { result ≡ true → All (λ c. IsOverAt T.state parts.now c) channels.now }
     ensures not_over { result ≡ false → AreOver T.state parts.now → ⊥ }

@@ -12,8 +12,8 @@ use Rattle.pl_head.specs.Transports.{TransportState}
 use Rattle.pl_head.specs.HeadStand.{HeadView}
 use Rattle.pl_part.specs.ContextHolds.{ContextHolds}
 use Rattle.pl_part.specs.TailHolds.{TailHolds}
-use Rattle.pl_part.specs.Paths.{PathView, PathHolds}
-use Rattle.pl_part.specs.Parts.{PartView, PartHolds}
+use Rattle.pl_part.specs.Paths.{PathPartView, PathHolds}
+use Rattle.pl_part.specs.Parts.{ChannelPartView, PartHolds}
 use Rattle.pl_part.specs.Counts.{context_done, tail_done, head_done, slot_done, path_done, part_done}
 use Rattle.pl_part.proofs.HeadMoves.{head-few}
 
@@ -34,7 +34,7 @@ module _ {S : Type 0} (world : World) (meaning : S → Meaning) (stands_after : 
       let two = h.holds.few_flags in
       omega (arith, one, two)
 
-  path-few : (p : PathView S) → PathHolds world meaning stands_after p → path_done p < 2 ^ 49
+  path-few : (p : PathPartView S) → PathHolds world meaning stands_after p → path_done p < 2 ^ 49
   path-few p h =
       let each = All-from_get_or (λ (slot : Option (ContextView S)). slot_done slot ≤ 2 ^ 34) p.contexts None (λ i within. at i (get_or p.contexts i None) refl) in
       let sum = sum_by-le (λ (slot : Option (ContextView S)). slot_done slot) (2 ^ 34) p.contexts each in
@@ -51,7 +51,7 @@ module _ {S : Type 0} (world : World) (meaning : S → Meaning) (stands_after : 
       ends (Some t) e = tail-few t (h.tail t e).0
 
 module _ {S T : Type 0} (world : World) (meaning : S → Meaning) (stands_after : S → List Event → Type 0) (state : T → TransportState) where
-  pub part-few : (p : PartView S T) → PartHolds world meaning stands_after state p → part_done p < 2 ^ 50
+  pub part-few : (p : ChannelPartView S T) → PartHolds world meaning stands_after state p → part_done p < 2 ^ 50
   part-few p h =
       let path = path-few world meaning stands_after p.path h.path in
       let head = end p.head refl in

@@ -21,13 +21,13 @@ use Rattle.pl_flow.proofs.MakeLemmas.{makes-among, makes-none}
 use Rattle.pl_head.specs.Transports.{TransportState}
 use Rattle.pl_head.specs.HeadStand.{HeadView, EntersHead}
 use Rattle.pl_part.specs.ContextHolds.{port_point, context_writes}
-use Rattle.pl_part.specs.Paths.{PathView, PathHolds, PathTakes, SamePath, context_at, writer_hop, path_taken, path_lanes, path_writes, path_writes_at, path_came, enters_path}
+use Rattle.pl_part.specs.Paths.{PathPartView, PathHolds, PathTakes, SamePath, context_at, writer_hop, path_taken, path_lanes, path_writes, path_writes_at, path_came, enters_path}
 use Rattle.pl_part.specs.PathCalls.{IsNextOnPath}
 use Rattle.pl_part.specs.HeadHolds.{HeadHolds, head_writes, head_came, head_lanes, head_taken}
 use Rattle.pl_head.specs.declared.heads.OutStep.{OutStep}
 use Rattle.pl_head.specs.declared.heads.ReadStep.{ReadStep}
 use Rattle.pl_part.specs.HeadCalls.{HeadTakes, HeadReads, HeadWrites, HeadAborts}
-use Rattle.pl_part.specs.Parts.{PartView, PartHolds, PartReads, PartWrites, PartAborts, SamePart, head_hop, has_entered, part_taken, part_lanes, part_writes, writes_at, part_came}
+use Rattle.pl_part.specs.Parts.{ChannelPartView, PartHolds, PartReads, PartWrites, PartAborts, SamePart, head_hop, has_entered, part_taken, part_lanes, part_writes, writes_at, part_came}
 use Rattle.pl_part.specs.PartCalls.{IsNextFor, Puts, Taken, HeadGiven, Given, PartRefused}
 use Rattle.pl_part.specs.Counts.{head_done, path_done, part_done}
 use Rattle.pl_part.proofs.EventLists.{some-equal}
@@ -72,7 +72,7 @@ module _ {T : Type 0} (h : HeadView T) (l : Lane) where
       let none = or-two (same_lane l (data_lane h.channel 0)) (same_lane l (flags_lane h.channel 0)) w in
       cond-false (same_lane l (data_lane h.channel 0)) (port_point h.input.port) _ none.0 ∙ cond-false (same_lane l (flags_lane h.channel 0)) (port_point h.buffer.flags) nowhere none.1
 
-module _ {S T : Type 0} (meaning : S → Meaning) (stands_after : S → List Event → Type 0) (state : T → TransportState) (p : PartView S T) where
+module _ {S T : Type 0} (meaning : S → Meaning) (stands_after : S → List Event → Type 0) (state : T → TransportState) (p : ChannelPartView S T) where
   -- the head writes the lanes of hop 0, and none of the contexts does
   first-writer : (l : Lane) → (l.hop == 0) ≡ true → writer_hop p.path l.hop ≡ head_hop p
   first-writer l z = cond-true (l.hop == 0) (head_hop p) _ z
@@ -86,7 +86,7 @@ module _ {S T : Type 0} (meaning : S → Meaning) (stands_after : S → List Eve
   -- ---- the head moves
 
   module _ (h : HeadView T) (at : p.head ≡ Some h) (h' : HeadView T) (place : (h'.channel ≡ h.channel) × (h'.hop ≡ h.hop)) where
-    abbrev pub with_head : PartView S T
+    abbrev pub with_head : ChannelPartView S T
     with_head = record p { head = Some h' }
 
     same-head-writes : (l : Lane) → head_writes h' l ≡ head_writes h l
@@ -270,8 +270,8 @@ module _ {S T : Type 0} (meaning : S → Meaning) (stands_after : S → List Eve
 
   -- ---- a context or the tail moves
 
-  module _ (v' : PathView S) (same : SamePath p.path v') where
-    abbrev pub with_path : PartView S T
+  module _ (v' : PathPartView S) (same : SamePath p.path v') where
+    abbrev pub with_path : ChannelPartView S T
     with_path = record p { path = v' }
 
     same-hop : head_hop with_path ≡ head_hop p
@@ -357,7 +357,7 @@ module _ {S T : Type 0} (meaning : S → Meaning) (stands_after : S → List Eve
       places = next.places;
     }
 
-    pub path-taken : (v' : PathView S) (same : SamePath p.path v') (some : (world : World) × PartHolds world meaning stands_after state p) → IsGood some.0 e → (is_spent : S → Bool) (b a : OutputsView) (answer : Took) → PathTakes meaning stands_after is_spent p.path e b answer v' a
+    pub path-taken : (v' : PathPartView S) (same : SamePath p.path v') (some : (world : World) × PartHolds world meaning stands_after state p) → IsGood some.0 e → (is_spent : S → Bool) (b a : OutputsView) (answer : Took) → PathTakes meaning stands_after is_spent p.path e b answer v' a
         → ((l : Lane) → path_taken v' l ≡ cond (same_lane l e.lane) (e.number + 1) (path_taken p.path l))
         → ((l : Lane) → path_writes meaning v' l ≡ path_writes meaning p.path l)
         → ((l : Lane) → path_writes_at meaning p.path e.lane.hop l ≡ false → path_came meaning v' l ≡ path_came meaning p.path l)
@@ -389,36 +389,36 @@ module _ {S T : Type 0} (meaning : S → Meaning) (stands_after : S → List Eve
 -- ---- for a view of the same part
 
 -- The envelope is the next of the head.
-pub record IsNextAtHead {S T : Type 0} (world : World) (meaning : S → Meaning) (stands_after : S → List Event → Type 0) (state : T → TransportState) (v : PartView S T) (e : Envelope) (before : OutputsView) (h : HeadView T) : Type 0 where
+pub record IsNextAtHead {S T : Type 0} (world : World) (meaning : S → Meaning) (stands_after : S → List Event → Type 0) (state : T → TransportState) (v : ChannelPartView S T) (e : Envelope) (before : OutputsView) (h : HeadView T) : Type 0 where
   pub next : IsNextFor world meaning stands_after state v e before
   pub there : (e.lane.hop == head_hop v) ≡ true
   pub enters : EntersHead h e.lane
   pub number : e.number ≡ h.taken
 
-module _ {S T : Type 0} (meaning : S → Meaning) (stands_after : S → List Event → Type 0) (state : T → TransportState) (p v : PartView S T) (same : v ≡ p) (before : OutputsView) where
-  pub taken-of : (v' : PartView S T) (after : OutputsView) (is_spent : S → Bool) (e : Envelope) (answer : Took) → Taken meaning stands_after state is_spent v e before answer v' after
+module _ {S T : Type 0} (meaning : S → Meaning) (stands_after : S → List Event → Type 0) (state : T → TransportState) (p v : ChannelPartView S T) (same : v ≡ p) (before : OutputsView) where
+  pub taken-of : (v' : ChannelPartView S T) (after : OutputsView) (is_spent : S → Bool) (e : Envelope) (answer : Took) → Taken meaning stands_after state is_spent v e before answer v' after
       → Taken meaning stands_after state is_spent p e before answer v' after
-  taken-of v' after is_spent e answer t = subst (λ (y : PartView S T). Taken meaning stands_after state is_spent y e before answer v' after) same t
+  taken-of v' after is_spent e answer t = subst (λ (y : ChannelPartView S T). Taken meaning stands_after state is_spent y e before answer v' after) same t
 
-  pub refused-of : (v' : PartView S T) (after : OutputsView) (hop : ℕ) → PartRefused meaning stands_after state v (writer_hop v.path hop) before v' after → PartRefused meaning stands_after state p (writer_hop p.path hop) before v' after
-  refused-of v' after hop t = subst (λ (y : PartView S T). PartRefused meaning stands_after state y (writer_hop y.path hop) before v' after) same t
+  pub refused-of : (v' : ChannelPartView S T) (after : OutputsView) (hop : ℕ) → PartRefused meaning stands_after state v (writer_hop v.path hop) before v' after → PartRefused meaning stands_after state p (writer_hop p.path hop) before v' after
+  refused-of v' after hop t = subst (λ (y : ChannelPartView S T). PartRefused meaning stands_after state y (writer_hop y.path hop) before v' after) same t
 
   pub holds-of : (world : World) × PartHolds world meaning stands_after state p → (world : World) × PartHolds world meaning stands_after state v
-  holds-of holds = subst (λ (y : PartView S T). (world : World) × PartHolds world meaning stands_after state y) (sym same) holds
+  holds-of holds = subst (λ (y : ChannelPartView S T). (world : World) × PartHolds world meaning stands_after state y) (sym same) holds
 
   pub refusing-of : (world : World) × (world.refuses ≡ true) × PartHolds world meaning stands_after state p → (world : World) × (world.refuses ≡ true) × PartHolds world meaning stands_after state v
-  refusing-of holds = subst (λ (y : PartView S T). (world : World) × (world.refuses ≡ true) × PartHolds world meaning stands_after state y) (sym same) holds
+  refusing-of holds = subst (λ (y : ChannelPartView S T). (world : World) × (world.refuses ≡ true) × PartHolds world meaning stands_after state y) (sym same) holds
 
   -- ---- what it is to take
 
   module _ (e : Envelope) (some : (world : World) × IsNextFor world meaning stands_after state p e before) where
     pub next-of : (world : World) × IsNextFor world meaning stands_after state v e before
-    next-of = subst (λ (y : PartView S T). (world : World) × IsNextFor world meaning stands_after state y e before) (sym same) some
+    next-of = subst (λ (y : ChannelPartView S T). (world : World) × IsNextFor world meaning stands_after state y e before) (sym same) some
 
     pub next-at-head : (e.lane.hop == head_hop p) ≡ true → (h : HeadView T) → v.head ≡ Some h → (world : World) × IsNextAtHead world meaning stands_after state v e before h
     next-at-head at_head h at =
         let next = next-of in
-        let there = subst (λ (y : PartView S T). (e.lane.hop == head_hop y) ≡ true) (sym same) at_head in
+        let there = subst (λ (y : ChannelPartView S T). (e.lane.hop == head_hop y) ≡ true) (sym same) at_head in
         let enters = head-enters meaning stands_after state v h at h (refl, refl) (next.0, next.1.holds) e there next.1.entered in (
           next.0,
           record { next = next.1; there = there; enters = enters; number = head-number meaning stands_after state v h at h (refl, refl) (next.0, next.1.holds) e there enters next.1.number },
@@ -429,22 +429,22 @@ module _ {S T : Type 0} (meaning : S → Meaning) (stands_after : S → List Eve
   module _ (holds : (world : World) × PartHolds world meaning stands_after state p) where
     -- it has none
     pub given-none : Given meaning stands_after state p (head_hop p) before v before
-    given-none = subst (λ (y : PartView S T). Given meaning stands_after state y (head_hop y) before v before) same (none-given meaning stands_after state v (holds-of holds) (head_hop v) before)
+    given-none = subst (λ (y : ChannelPartView S T). Given meaning stands_after state y (head_hop y) before v before) same (none-given meaning stands_after state v (holds-of holds) (head_hop v) before)
 
     module _ (h : HeadView T) (at : v.head ≡ Some h) where
       pub places-there : HasPlaces before.stopped (part_lanes p) → HasPlaces before.stopped (head_lanes h)
-      places-there places = head-places meaning stands_after state v (holds-of holds) h at before (subst (λ (y : PartView S T). HasPlaces before.stopped (part_lanes y)) (sym same) places)
+      places-there places = head-places meaning stands_after state v (holds-of holds) h at before (subst (λ (y : ChannelPartView S T). HasPlaces before.stopped (part_lanes y)) (sym same) places)
 
       pub given-there : (h' : HeadView T) (after : OutputsView) → HeadGiven state h before h' after → Given meaning stands_after state p (head_hop p) before (record v { head = Some h' }) after
-      given-there h' after t = subst (λ (y : PartView S T). Given meaning stands_after state y (head_hop y) before (record v { head = Some h' }) after) same
+      given-there h' after t = subst (λ (y : ChannelPartView S T). Given meaning stands_after state y (head_hop y) before (record v { head = Some h' }) after) same
           (head-given meaning stands_after state v h at h' t.place (holds-of holds) before after t)
 
-module _ {S T : Type 0} (state : T → TransportState) (p v : PartView S T) (same : v ≡ p) (before : OutputsView) (h : HeadView T) (at : v.head ≡ Some h) (h' : HeadView T) (after : OutputsView) where
-  abbrev moved_head : PartView S T
+module _ {S T : Type 0} (state : T → TransportState) (p v : ChannelPartView S T) (same : v ≡ p) (before : OutputsView) (h : HeadView T) (at : v.head ≡ Some h) (h' : HeadView T) (after : OutputsView) where
+  abbrev moved_head : ChannelPartView S T
   moved_head = record v { head = Some h' }
 
   pub reads-of : (answer : ReadStep) → HeadReads state h before answer h' after → PartReads state p before answer moved_head after
-  reads-of answer r = subst (λ (y : PartView S T). PartReads state y before answer moved_head after) same
+  reads-of answer r = subst (λ (y : ChannelPartView S T). PartReads state y before answer moved_head after) same
       (record {
         head = λ x found. (h', refl, subst (λ (y : HeadView T). HeadReads state y before answer h' after) (some-equal h x (sym at ∙ found)) r);
         none = λ n. no-same h (sym n ∙ at);
@@ -452,7 +452,7 @@ module _ {S T : Type 0} (state : T → TransportState) (p v : PartView S T) (sam
       })
 
   pub writes-of : (may_refuse : T → ℕ → Type 0) (answer : OutStep) → HeadWrites state may_refuse h before answer h' after → PartWrites state may_refuse p before answer moved_head after
-  writes-of may_refuse answer r = subst (λ (y : PartView S T). PartWrites state may_refuse y before answer moved_head after) same
+  writes-of may_refuse answer r = subst (λ (y : ChannelPartView S T). PartWrites state may_refuse y before answer moved_head after) same
       (record {
         head = λ x found. (h', refl, subst (λ (y : HeadView T). HeadWrites state may_refuse y before answer h' after) (some-equal h x (sym at ∙ found)) r);
         none = λ n. no-same h (sym n ∙ at);
@@ -460,7 +460,7 @@ module _ {S T : Type 0} (state : T → TransportState) (p v : PartView S T) (sam
       })
 
   pub aborts-of : HeadAborts state h before h' after → PartAborts state p before moved_head after
-  aborts-of r = subst (λ (y : PartView S T). PartAborts state y before moved_head after) same
+  aborts-of r = subst (λ (y : ChannelPartView S T). PartAborts state y before moved_head after) same
       (record {
         head = λ x found. (h', refl, subst (λ (y : HeadView T). HeadAborts state y before h' after) (some-equal h x (sym at ∙ found)) r);
         none = λ n. no-same h (sym n ∙ at);

@@ -32,7 +32,7 @@ use Rattle.pl_flow.proofs.MakeLemmas.{makes-none, makes-among}
 use Rattle.pl_part.specs.ContextHolds.{ContextHolds, ports_write, ports_came, port_point, context_writes, context_came, context_lanes}
 use Rattle.pl_part.specs.TailHolds.{TailHolds}
 use Rattle.pl_part.specs.Taking.{ContextTakes, ContextRefused, TailTakes}
-use Rattle.pl_part.specs.Paths.{PathView, PathHolds, IsPathPart, IsAt, context_at, writer_hop, enters_path, path_taken, path_lanes, path_writes, path_writes_at, path_came}
+use Rattle.pl_part.specs.Paths.{PathPartView, PathHolds, IsPathPart, IsAt, context_at, writer_hop, enters_path, path_taken, path_lanes, path_writes, path_writes_at, path_came}
 use Rattle.pl_part.specs.PathCalls.{IsNextOnPath, PathPuts, PathTaken, PathRefused}
 use Rattle.pl_part.specs.Counts.{context_done, tail_done, slot_done, path_done}
 use Rattle.pl_part.proofs.EventLists.{some-equal}
@@ -131,7 +131,7 @@ came-nowhere hu hd p q f l e =
 
 -- ---- a context moves
 
-module _ {S : Type 0} (meaning : S → Meaning) (stands_after : S → List Event → Type 0) (v : PathView S) (inv : IsPathPart (length v.executors) (length v.contexts) v.tail_hop v.turn)
+module _ {S : Type 0} (meaning : S → Meaning) (stands_after : S → List Event → Type 0) (v : PathPartView S) (inv : IsPathPart (length v.executors) (length v.contexts) v.tail_hop v.turn)
     (some : (world : World) × PathHolds world meaning stands_after v) (hop : ℕ) (c : ContextView S) (at : context_at v hop ≡ Some c) where
   is : IsAt meaning v.channel hop v.tail_hop v.turn c
   is = (some.1.contexts hop c at).1
@@ -147,7 +147,7 @@ module _ {S : Type 0} (meaning : S → Meaning) (stands_after : S → List Event
 
   -- ---- its counts
 
-  taken-at : (l : Lane) → l.hop ≡ hop → (p : PathView S) (x : ContextView S) → p.tail_hop ≡ v.tail_hop → context_at p hop ≡ Some x → path_taken p l ≡ taken_of x l
+  taken-at : (l : Lane) → l.hop ≡ hop → (p : PathPartView S) (x : ContextView S) → p.tail_hop ≡ v.tail_hop → context_at p hop ≡ Some x → path_taken p l ≡ taken_of x l
   taken-at l e p x k has =
       let n = apart in
       cond-false (l.hop == p.tail_hop) _ _ (ne_eqb l.hop p.tail_hop (λ z. n (omega (arith, e, z, k))))
@@ -210,7 +210,7 @@ module _ {S : Type 0} (meaning : S → Meaning) (stands_after : S → List Event
       (λ t. writer-next l.hop (ap (λ (m : Lane). m.hop) (same_lane-equal l c.flags.lane (and_parts _ _ t).1 ∙ own-lanes.2)))
 
   module _ (c' : ContextView S) (meant : meaning c'.stage ≡ meaning c.stage) (place : (c'.channel ≡ c.channel) × (c'.hop ≡ c.hop)) (lanes : context_lanes c' ≡ context_lanes c) where
-    abbrev pub moved_path : PathView S
+    abbrev pub moved_path : PathPartView S
     moved_path = record v { contexts = set v.contexts hop (Some c') }
 
     pub now-here : context_at moved_path hop ≡ Some c'
@@ -423,7 +423,7 @@ module _ {S : Type 0} (meaning : S → Meaning) (stands_after : S → List Event
 
 -- ---- the tail moves, and nothing does
 
-module _ {S : Type 0} (meaning : S → Meaning) (stands_after : S → List Event → Type 0) (v : PathView S) where
+module _ {S : Type 0} (meaning : S → Meaning) (stands_after : S → List Event → Type 0) (v : PathPartView S) where
   pub none-refused : (lane : Lane) (before : OutputsView) → context_at v (writer_hop v lane.hop) ≡ None → PathRefused meaning stands_after v lane before v before
   none-refused lane before none = record {
     refuses = record {
@@ -464,7 +464,7 @@ module _ {S : Type 0} (meaning : S → Meaning) (stands_after : S → List Event
       hop = eqb-true e.lane.hop v.tail_hop there ∙ sym place.1;
     }
 
-    taken-there : (p : PathView S) (x : TailView) (l : Lane) → (l.hop == p.tail_hop) ≡ true → p.tail ≡ Some x → path_taken p l ≡ tail_taken_of x l
+    taken-there : (p : PathPartView S) (x : TailView) (l : Lane) → (l.hop == p.tail_hop) ≡ true → p.tail ≡ Some x → path_taken p l ≡ tail_taken_of x l
     taken-there p x l on found = cond-true (l.hop == p.tail_hop) _ _ on ∙ ap (λ (o : Option TailView). option_map_or (λ (y : TailView). tail_taken_of y l) o 0) found
 
     pub tail-number : EntersTail t e.lane → e.number ≡ path_taken v e.lane → e.number ≡ tail_kind_taken t e.lane.kind
@@ -515,7 +515,7 @@ module _ {S : Type 0} (meaning : S → Meaning) (stands_after : S → List Event
 
 -- ---- for a view of the same part
 
-pub entered-within : {S : Type 0} (world : World) (meaning : S → Meaning) (stands_after : S → List Event → Type 0) (v : PathView S) (e : Envelope) (before : OutputsView) → IsNextOnPath world meaning stands_after v e before
+pub entered-within : {S : Type 0} (world : World) (meaning : S → Meaning) (stands_after : S → List Event → Type 0) (v : PathPartView S) (e : Envelope) (before : OutputsView) → IsNextOnPath world meaning stands_after v e before
     → (e.lane.hop == v.tail_hop) ≡ false → e.lane.hop < length v.contexts
 entered-within world meaning stands_after v e before next off =
     filled-within v.contexts e.lane.hop (sym (cond-false (e.lane.hop == v.tail_hop) (is_some v.tail) (is_some (context_at v e.lane.hop)) off) ∙ (and_parts (e.lane.channel == v.channel) _ next.entered).1)
@@ -523,35 +523,35 @@ entered-within world meaning stands_after v e before next off =
 -- ---- for a view of the same nodes
 
 -- The envelope is the next of a context.
-pub record IsNextAt {S : Type 0} (world : World) (meaning : S → Meaning) (stands_after : S → List Event → Type 0) (v : PathView S) (e : Envelope) (before : OutputsView) (c : ContextView S) : Type 0 where
+pub record IsNextAt {S : Type 0} (world : World) (meaning : S → Meaning) (stands_after : S → List Event → Type 0) (v : PathPartView S) (e : Envelope) (before : OutputsView) (c : ContextView S) : Type 0 where
   pub next : IsNextOnPath world meaning stands_after v e before
   pub at : context_at v e.lane.hop ≡ Some c
   pub enters : Enters c e.lane
   pub number : e.number ≡ kind_taken c e.lane.kind
 
 -- It is the next of the tail.
-pub record IsNextAtTail {S : Type 0} (world : World) (meaning : S → Meaning) (stands_after : S → List Event → Type 0) (v : PathView S) (e : Envelope) (before : OutputsView) (t : TailView) : Type 0 where
+pub record IsNextAtTail {S : Type 0} (world : World) (meaning : S → Meaning) (stands_after : S → List Event → Type 0) (v : PathPartView S) (e : Envelope) (before : OutputsView) (t : TailView) : Type 0 where
   pub next : IsNextOnPath world meaning stands_after v e before
   pub there : (e.lane.hop == v.tail_hop) ≡ true
   pub enters : EntersTail t e.lane
   pub number : e.number ≡ tail_kind_taken t e.lane.kind
 
-module _ {S : Type 0} (meaning : S → Meaning) (stands_after : S → List Event → Type 0) (p v : PathView S) (same : v ≡ p) where
+module _ {S : Type 0} (meaning : S → Meaning) (stands_after : S → List Event → Type 0) (p v : PathPartView S) (same : v ≡ p) where
   pub holds-of : (world : World) × PathHolds world meaning stands_after p → (world : World) × PathHolds world meaning stands_after v
-  holds-of holds = subst (λ (y : PathView S). (world : World) × PathHolds world meaning stands_after y) (sym same) holds
+  holds-of holds = subst (λ (y : PathPartView S). (world : World) × PathHolds world meaning stands_after y) (sym same) holds
 
   pub refusing-of : (world : World) × (world.refuses ≡ true) × PathHolds world meaning stands_after p → (world : World) × (world.refuses ≡ true) × PathHolds world meaning stands_after v
-  refusing-of holds = subst (λ (y : PathView S). (world : World) × (world.refuses ≡ true) × PathHolds world meaning stands_after y) (sym same) holds
+  refusing-of holds = subst (λ (y : PathPartView S). (world : World) × (world.refuses ≡ true) × PathHolds world meaning stands_after y) (sym same) holds
 
   module _ (e : Envelope) (before : OutputsView) (some : (world : World) × IsNextOnPath world meaning stands_after p e before) where
     next-of : (world : World) × IsNextOnPath world meaning stands_after v e before
-    next-of = subst (λ (y : PathView S). (world : World) × IsNextOnPath world meaning stands_after y e before) (sym same) some
+    next-of = subst (λ (y : PathPartView S). (world : World) × IsNextOnPath world meaning stands_after y e before) (sym same) some
 
     pub next-at : IsPathPart (length v.executors) (length v.contexts) v.tail_hop v.turn → (e.lane.hop == p.tail_hop) ≡ false → (c : ContextView S) (slot : Option (ContextView S)) → slot ≡ get_or v.contexts e.lane.hop slot → slot ≡ Some c
         → (world : World) × IsNextAt world meaning stands_after v e before c
     next-at inv elsewhere c slot value is =
         let next = next-of in
-        let off = subst (λ (y : PathView S). (e.lane.hop == y.tail_hop) ≡ false) (sym same) elsewhere in
+        let off = subst (λ (y : PathPartView S). (e.lane.hop == y.tail_hop) ≡ false) (sym same) elsewhere in
         let at = slot-at v.contexts e.lane.hop slot (Some c) (entered-within next.0 meaning stands_after v e before next.1 off) value is in
         let enters = context-enters meaning stands_after v inv (next.0, next.1.holds) e.lane.hop c at e refl next.1.entered in (
           next.0,
@@ -561,15 +561,15 @@ module _ {S : Type 0} (meaning : S → Meaning) (stands_after : S → List Event
     pub next-at-tail : (e.lane.hop == p.tail_hop) ≡ true → (t : TailView) → v.tail ≡ Some t → (world : World) × IsNextAtTail world meaning stands_after v e before t
     next-at-tail at_tail t at =
         let next = next-of in
-        let there = subst (λ (y : PathView S). (e.lane.hop == y.tail_hop) ≡ true) (sym same) at_tail in
+        let there = subst (λ (y : PathPartView S). (e.lane.hop == y.tail_hop) ≡ true) (sym same) at_tail in
         let enters = tail-enters meaning stands_after v (next.0, next.1.holds) t at e there next.1.entered in (
           next.0,
           record { next = next.1; there = there; enters = enters; number = tail-number meaning stands_after v (next.0, next.1.holds) t at e there enters next.1.number },
         )
 
-module _ {S : Type 0} (meaning : S → Meaning) (stands_after : S → List Event → Type 0) (p v : PathView S) (same : v ≡ p) (before : OutputsView) (v' : PathView S) (after : OutputsView) where
+module _ {S : Type 0} (meaning : S → Meaning) (stands_after : S → List Event → Type 0) (p v : PathPartView S) (same : v ≡ p) (before : OutputsView) (v' : PathPartView S) (after : OutputsView) where
   pub taken-of : (is_spent : S → Bool) (e : Envelope) (answer : Took) → PathTaken meaning stands_after is_spent v e before answer v' after → PathTaken meaning stands_after is_spent p e before answer v' after
-  taken-of is_spent e answer t = subst (λ (y : PathView S). PathTaken meaning stands_after is_spent y e before answer v' after) same t
+  taken-of is_spent e answer t = subst (λ (y : PathPartView S). PathTaken meaning stands_after is_spent y e before answer v' after) same t
 
   pub refused-of : (l : Lane) → PathRefused meaning stands_after v l before v' after → PathRefused meaning stands_after p l before v' after
-  refused-of l t = subst (λ (y : PathView S). PathRefused meaning stands_after y l before v' after) same t
+  refused-of l t = subst (λ (y : PathPartView S). PathRefused meaning stands_after y l before v' after) same t

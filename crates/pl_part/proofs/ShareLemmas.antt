@@ -18,8 +18,8 @@ use Rattle.pl_head.specs.Transports.{TransportState}
 use Rattle.pl_head.specs.HeadStand.{HeadView}
 use Rattle.pl_part.specs.ContextHolds.{context_writes, context_came}
 use Rattle.pl_part.specs.HeadHolds.{head_writes, head_came, head_taken}
-use Rattle.pl_part.specs.Paths.{PathView, PathHolds, IsAt, context_at, writer_hop, enters_path, path_taken, path_writes, path_came}
-use Rattle.pl_part.specs.Parts.{PartView, PartHolds, head_hop, has_entered, part_taken, part_lanes, part_writes, part_came}
+use Rattle.pl_part.specs.Paths.{PathPartView, PathHolds, IsAt, context_at, writer_hop, enters_path, path_taken, path_writes, path_came}
+use Rattle.pl_part.specs.Parts.{ChannelPartView, PartHolds, head_hop, has_entered, part_taken, part_lanes, part_writes, part_came}
 use Rattle.pl_part.specs.Counts.{context_done, slot_done, tail_done, head_done, path_done, part_done}
 use Rattle.pl_part.specs.Shares.{IsPathShare, IsShareBy, EachPart, only_if, executor_of}
 use Rattle.pl_part.proofs.EventLists.{some-equal}
@@ -78,12 +78,12 @@ sum-less f d (x ∷ xs) (y ∷ ys) size each =
 -- ---- how they are made
 
 -- contexts and a tail that were taken out of a view, or were left there
-pub share-of : {S : Type 0} (mine : ℕ → Bool) (p v : PathView S) → v ≡ p → (executors lent : List ℕ) (contexts old : List (Option (ContextView S))) (tail : Option TailView) (at : ℕ)
+pub share-of : {S : Type 0} (mine : ℕ → Bool) (p v : PathPartView S) → v ≡ p → (executors lent : List ℕ) (contexts old : List (Option (ContextView S))) (tail : Option TailView) (at : ℕ)
     → executors ≡ v.executors → lent ≡ v.executors → old ≡ v.contexts → at ≡ executor_of p v.tail_hop
     → length contexts ≡ length old → ((hop : ℕ) → get_or contexts hop None ≡ only_if (mine (get_or lent hop 0)) (get_or old hop None)) → tail ≡ only_if (mine at) v.tail
     → IsPathShare mine p (record v { executors = executors; contexts = contexts; tail = tail })
 share-of mine p v same executors lent contexts old tail at executors-are lent-are old-are at-is size each tail-is =
-    subst (λ (y : PathView _). IsPathShare mine y (record v { executors = executors; contexts = contexts; tail = tail })) same
+    subst (λ (y : PathPartView _). IsPathShare mine y (record v { executors = executors; contexts = contexts; tail = tail })) same
     (record {
       channel = refl;
       executors = executors-are;
@@ -91,17 +91,17 @@ share-of mine p v same executors lent contexts old tail at executors-are lent-ar
       turn = refl;
       slots = size ∙ ap length old-are;
       contexts = λ hop. each hop ∙ (λ i. only_if (mine (get_or (lent-are i) hop 0)) (get_or (old-are i) hop None));
-      tail = tail-is ∙ ap (λ (n : ℕ). only_if (mine n) v.tail) (at-is ∙ ap (λ (y : PathView _). executor_of y v.tail_hop) (sym same));
+      tail = tail-is ∙ ap (λ (n : ℕ). only_if (mine n) v.tail) (at-is ∙ ap (λ (y : PathPartView _). executor_of y v.tail_hop) (sym same));
     })
 
-pub with-head : {S T : Type 0} (mine : ℕ → Bool) (p v : PartView S T) → v ≡ p → (path : PathView S) (head : Option (HeadView T)) (at : ℕ)
+pub with-head : {S T : Type 0} (mine : ℕ → Bool) (p v : ChannelPartView S T) → v ≡ p → (path : PathPartView S) (head : Option (HeadView T)) (at : ℕ)
     → IsPathShare mine v.path path → at ≡ executor_of v.path (head_hop v) → head ≡ only_if (mine at) v.head → IsShareBy mine p (record { path = path; head = head })
 with-head mine p v same path head at path-is at-is head-is =
-    subst (λ (y : PartView _ _). IsShareBy mine y (record { path = path; head = head })) same
+    subst (λ (y : ChannelPartView _ _). IsShareBy mine y (record { path = path; head = head })) same
     (record { path = path-is; head = head-is ∙ ap (λ (n : ℕ). only_if (mine n) v.head) at-is })
 
 -- all of the nodes
-pub share-all : {S T : Type 0} (mine : ℕ → Bool) (whole : PartView S T) → ((e : ℕ) → mine e ≡ true) → IsShareBy mine whole whole
+pub share-all : {S T : Type 0} (mine : ℕ → Bool) (whole : ChannelPartView S T) → ((e : ℕ) → mine e ≡ true) → IsShareBy mine whole whole
 share-all mine whole all = record {
   path = record {
     channel = refl;
@@ -116,7 +116,7 @@ share-all mine whole all = record {
 }
 
 -- a share of a share
-pub share-within : {S T : Type 0} (these those both : ℕ → Bool) (whole part share : PartView S T) → ((e : ℕ) → (these e && those e) ≡ both e)
+pub share-within : {S T : Type 0} (these those both : ℕ → Bool) (whole part share : ChannelPartView S T) → ((e : ℕ) → (these e && those e) ≡ both e)
     → IsShareBy those whole part → IsShareBy these part share → IsShareBy both whole share
 share-within these those both whole part share are p s = record {
   path = record {
@@ -164,19 +164,19 @@ each-behind Is [] y each last (suc x) p e = absurd (none-some p e)
 each-behind Is (z ∷ zs) y each last zero p e = each zero p e
 each-behind Is (z ∷ zs) y each last (suc x) p e = each-behind (λ n. Is (suc n)) zs y (λ x p e. each (suc x) p e) last x p e
 
-pub each-push : {S T : Type 0} (Is : ℕ → PartView S T → Type 0) (parts more : List (PartView S T)) (share : PartView S T) (x : ℕ) → more ≡ parts ++ share ∷ [] → length parts ≡ x → EachPart parts Is → Is x share
+pub each-push : {S T : Type 0} (Is : ℕ → ChannelPartView S T → Type 0) (parts more : List (ChannelPartView S T)) (share : ChannelPartView S T) (x : ℕ) → more ≡ parts ++ share ∷ [] → length parts ≡ x → EachPart parts Is → Is x share
     → (length more ≡ x + 1) × EachPart more Is
 each-push Is parts more share x added size each own = (
   (let count = ap length added in let sum = length-append parts (share ∷ []) in omega (arith, count, sum, size)),
-  subst (λ (l : List (PartView _ _)). EachPart l Is) (sym added) (each-behind Is parts share each (subst (λ n. Is n share) (sym size) own)),
+  subst (λ (l : List (ChannelPartView _ _)). EachPart l Is) (sym added) (each-behind Is parts share each (subst (λ n. Is n share) (sym size) own)),
 )
 
-pub each-none : {S T : Type 0} (Is : ℕ → PartView S T → Type 0) (parts : List (PartView S T)) → parts ≡ [] → (length parts ≡ 0) × EachPart parts Is
-each-none Is parts none = (ap length none, subst (λ (l : List (PartView _ _)). EachPart l Is) (sym none) (λ x part e. absurd (none-some part e)))
+pub each-none : {S T : Type 0} (Is : ℕ → ChannelPartView S T → Type 0) (parts : List (ChannelPartView S T)) → parts ≡ [] → (length parts ≡ 0) × EachPart parts Is
+each-none Is parts none = (ap length none, subst (λ (l : List (ChannelPartView _ _)). EachPart l Is) (sym none) (λ x part e. absurd (none-some part e)))
 
 -- ---- what the contexts and the tail of a share keep
 
-module _ {S : Type 0} (mine : ℕ → Bool) (whole share : PathView S) (is : IsPathShare mine whole share) where
+module _ {S : Type 0} (mine : ℕ → Bool) (whole share : PathPartView S) (is : IsPathShare mine whole share) where
   path-holds : (world : World) (meaning : S → Meaning) (stands_after : S → List Event → Type 0) → PathHolds world meaning stands_after whole → PathHolds world meaning stands_after share
   path-holds world meaning stands_after holds = record {
     contexts = λ hop c found.
@@ -239,7 +239,7 @@ module _ {S : Type 0} (mine : ℕ → Bool) (whole share : PathView S) (is : IsP
 
 -- ---- what a share keeps
 
-module _ {S T : Type 0} (mine : ℕ → Bool) (whole share : PartView S T) (is : IsShareBy mine whole share) where
+module _ {S T : Type 0} (mine : ℕ → Bool) (whole share : ChannelPartView S T) (is : IsShareBy mine whole share) where
   pub share-holds : (world : World) (meaning : S → Meaning) (stands_after : S → List Event → Type 0) (state : T → TransportState) → PartHolds world meaning stands_after state whole → PartHolds world meaning stands_after state share
   share-holds world meaning stands_after state holds = record {
     path = path-holds mine whole.path share.path is.path world meaning stands_after holds.path;

@@ -16,8 +16,8 @@ use Rattle.pl_head.specs.Buffers.{OutboundBufferView, untold}
 use Rattle.pl_head.specs.HeadStand.{HeadView, BufferAfter, StandsAfter}
 use Rattle.pl_head.proofs.HeadAfter.{marks_after}
 use Rattle.pl_part.specs.HeadHolds.{HeadHolds}
-use Rattle.pl_part.specs.Paths.{PathView}
-use Rattle.pl_part.specs.Parts.{PartView, PartHolds, SamePart, head_hop, part_taken, part_writes, part_came}
+use Rattle.pl_part.specs.Paths.{PathPartView}
+use Rattle.pl_part.specs.Parts.{ChannelPartView, PartHolds, SamePart, head_hop, part_taken, part_writes, part_came}
 use Rattle.pl_part.specs.Told.{told_head, told_part, part_untold, IsTold, TellsNext}
 use Rattle.pl_part.proofs.HeadTaken.{took-same}
 
@@ -70,7 +70,7 @@ module _ {T : Type 0} (state : T → TransportState) (world : World) (h : HeadVi
         let e = is ∙ ap (λ (y : HeadView T). y.buffer.pending) same in
         says ∙ ap (λ (y : HeadView T). not y.buffer.is_unwritable) same ∙ ap not ((head-marked ordered).1 (omega (arith, below, e)))
 
-pub same-head : {S T : Type 0} (p : PartView S T) (h k : HeadView T) → p.head ≡ Some h → p.head ≡ Some k → h ≡ k
+pub same-head : {S T : Type 0} (p : ChannelPartView S T) (h k : HeadView T) → p.head ≡ Some h → p.head ≡ Some k → h ≡ k
 same-head p h k at there = same_Some h k (sym at ∙ there)
 
 -- ---- what was told
@@ -114,9 +114,9 @@ module _ {T : Type 0} (state : T → TransportState) where
         };
       }
 
-module _ {S T : Type 0} (n : ℕ) (path : PathView S) where
+module _ {S T : Type 0} (n : ℕ) (path : PathPartView S) where
   -- a part with this head, or none, when so many were told
-  abbrev part : Option (HeadView T) → PartView S T
+  abbrev part : Option (HeadView T) → ChannelPartView S T
   part o = record { path = path; head = o }
 
   same-by : (o : Option (HeadView T)) → is_some (option_map (told_head n) o) ≡ is_some o
@@ -147,7 +147,7 @@ module _ {S T : Type 0} (n : ℕ) (path : PathView S) where
       subst (λ (y : HeadView T). HeadHolds state world y × (y.channel ≡ channel) × (y.hop ≡ hop)) (same_Some (told_head n x) h at) (told-holds state world x n s.0, s.1, s.2)
 
 -- All else is the same.
-module _ {S T : Type 0} (n : ℕ) (p : PartView S T) where
+module _ {S T : Type 0} (n : ℕ) (p : ChannelPartView S T) where
   pub told-same : SamePart p (told_part n p)
   told-same = record {
     path = record { channel = refl; executors = refl; contexts = refl; tail = refl; tail_hop = refl; turn = refl };
@@ -175,7 +175,7 @@ module _ {S T : Type 0} (n : ℕ) (p : PartView S T) where
   }
 
 -- Its head has told none more.
-pub none-told : {S T : Type 0} (p : PartView S T) → IsTold p p
+pub none-told : {S T : Type 0} (p : ChannelPartView S T) → IsTold p p
 none-told {S = S} {T = T} p = by p.head refl
   where
     by : (o : Option (HeadView T)) → p.head ≡ o → IsTold p p
@@ -183,18 +183,18 @@ none-told {S = S} {T = T} p = by p.head refl
     by (Some h) at = record { so_many = h.buffer.told; is = λ i. record { path = p.path; head = (at ∙ sym (ap (option_map (told_head h.buffer.told)) at)) i } }
 
 -- It has told some, and then some more.
-pub told-more : {S T : Type 0} (p q r : PartView S T) → IsTold p q → IsTold q r → IsTold p r
+pub told-more : {S T : Type 0} (p q r : ChannelPartView S T) → IsTold p q → IsTold q r → IsTold p r
 told-more p q r one more = record { so_many = more.so_many; is = more.is ∙ ap (told_part more.so_many) one.is ∙ told-again more.so_many p one.so_many }
 
 -- It holds as before.
-pub is-told-holds : {S T : Type 0} (p q : PartView S T) (world : World) (meaning : S → Meaning) (stands_after : S → List Event → Type 0) (state : T → TransportState) → IsTold p q
+pub is-told-holds : {S T : Type 0} (p q : ChannelPartView S T) (world : World) (meaning : S → Meaning) (stands_after : S → List Event → Type 0) (state : T → TransportState) → IsTold p q
     → PartHolds world meaning stands_after state p → PartHolds world meaning stands_after state q
 is-told-holds p q world meaning stands_after state told holds =
-    subst (λ (x : PartView _ _). PartHolds world meaning stands_after state x) (sym told.is) (told-part-holds told.so_many p world meaning stands_after state holds)
+    subst (λ (x : ChannelPartView _ _). PartHolds world meaning stands_after state x) (sym told.is) (told-part-holds told.so_many p world meaning stands_after state holds)
 
 -- ---- a call of its head
 
-module _ {S T : Type 0} (p v : PartView S T) (is : v ≡ p) (h h' : HeadView T) (at : v.head ≡ Some h) where
+module _ {S T : Type 0} (p v : ChannelPartView S T) (is : v ≡ p) (h h' : HeadView T) (at : v.head ≡ Some h) where
   pub call-told : h' ≡ told_head h'.buffer.told h → IsTold p (record v { head = Some h' })
   call-told same = record {
     so_many = h'.buffer.told;
@@ -209,7 +209,7 @@ module _ {S T : Type 0} (p v : PartView S T) (is : v ≡ p) (h h' : HeadView T) 
   call-tells None next ended = next
   call-tells (Some found) next ended = record {
     head = h;
-    has_head = sym (ap (λ (x : PartView S T). x.head) is) ∙ at;
+    has_head = sym (ap (λ (x : ChannelPartView S T). x.head) is) ∙ at;
     ended = ended;
-    next = sym (ap (λ (x : PartView S T). part_untold x) is) ∙ ap (λ (o : Option (HeadView T)). option_map_or (λ (x : HeadView T). untold x.buffer) o []) at ∙ next;
+    next = sym (ap (λ (x : ChannelPartView S T). part_untold x) is) ∙ ap (λ (o : Option (HeadView T)). option_map_or (λ (x : HeadView T). untold x.buffer) o []) at ∙ next;
   }

@@ -5,8 +5,8 @@ use Rattle.std.specs.Option.{option_map_or}
 use Rattle.pl_context.specs.ContextViews.{ContextView}
 use Rattle.pl_context.specs.TailViews.{TailView}
 use Rattle.pl_head.specs.HeadStand.{HeadView}
-use Rattle.pl_part.specs.Paths.{PathView}
-use Rattle.pl_part.specs.Parts.{PartView}
+use Rattle.pl_part.specs.Paths.{PathPartView}
+use Rattle.pl_part.specs.Parts.{ChannelPartView}
 
 abbrev pub context_done : {S : Type 0} → ContextView S → ℕ
 context_done c = c.taken + c.flags_taken + c.up.made + c.down.made + c.flags.made
@@ -21,8 +21,8 @@ head_done h = h.taken + h.input.port.made + h.buffer.flags.made
 abbrev pub slot_done : {S : Type 0} → Option (ContextView S) → ℕ
 slot_done slot = option_map_or (λ (c : ContextView _). context_done c) slot 0
 
-abbrev pub path_done : {S : Type 0} → PathView S → ℕ
+abbrev pub path_done : {S : Type 0} → PathPartView S → ℕ
 path_done p = sum_by (λ (slot : Option (ContextView _)). slot_done slot) p.contexts + option_map_or (λ (t : TailView). tail_done t) p.tail 0
 
-abbrev pub part_done : {S T : Type 0} → PartView S T → ℕ
+abbrev pub part_done : {S T : Type 0} → ChannelPartView S T → ℕ
 part_done p = path_done p.path + option_map_or (λ (h : HeadView _). head_done h) p.head 0

@@ -20,107 +20,107 @@ use Rattle.pl_head.specs.declared.heads.ReadStep.{ReadStep}
 use Rattle.pl_head.specs.declared.heads.ReadStep.TheVariants as reading
 use Rattle.pl_head.specs.Transports.{TransportState}
 use Rattle.pl_head.specs.HeadStand.{HeadView}
-use Rattle.pl_part.specs.Paths.{PathView, SamePath, PathHolds, PathTakes, writer_hop, enters_path, path_over, path_taken, path_lanes, path_writes, path_came}
+use Rattle.pl_part.specs.Paths.{PathPartView, SamePath, PathHolds, PathTakes, writer_hop, enters_path, path_over, path_taken, path_lanes, path_writes, path_came}
 use Rattle.pl_part.specs.HeadHolds.{HeadHolds, head_writes, head_came, head_taken}
 use Rattle.pl_part.specs.HeadCalls.{HeadTakes, HeadReads, HeadWrites, HeadAborts}
 
-pub record PartView (S T : Type 0) : Type 0 where
+pub record ChannelPartView (S T : Type 0) : Type 0 where
   -- the contexts and the tail
-  pub path : PathView S
+  pub path : PathPartView S
   pub head : Option (HeadView T)
 
 -- the head's hop, behind the last context's
-abbrev pub head_hop : {S T : Type 0} → PartView S T → ℕ
+abbrev pub head_hop : {S T : Type 0} → ChannelPartView S T → ℕ
 head_hop p = length p.path.contexts
 
 -- the same nodes of the same channel
-pub record SamePart {S T : Type 0} (p p' : PartView S T) : Type 0 where
+pub record SamePart {S T : Type 0} (p p' : ChannelPartView S T) : Type 0 where
   pub path : SamePath p.path p'.path
   pub head : is_some p'.head ≡ is_some p.head
 
 -- a lane enters one of its nodes
-abbrev pub has_entered : {S T : Type 0} → PartView S T → Lane → Bool
+abbrev pub has_entered : {S T : Type 0} → ChannelPartView S T → Lane → Bool
 has_entered p l = if l.hop == head_hop p then is_some p.head && same_lane l (data_lane p.path.channel (head_hop p)) else enters_path p.path l
 
 -- all of its nodes have ended or failed
-abbrev pub all_over : {S T : Type 0} → PartView S T → Bool
+abbrev pub all_over : {S T : Type 0} → ChannelPartView S T → Bool
 all_over p = path_over p.path && option_map_or (λ (h : HeadView _). is_over h.standing || is_some h.failure) p.head true
 
 -- a read step is left
-abbrev pub has_read : {S T : Type 0} → PartView S T → Bool
+abbrev pub has_read : {S T : Type 0} → ChannelPartView S T → Bool
 has_read p = option_map_or (λ (h : HeadView _). h.input.port.is_open) p.head false
 
 -- ---- its lanes
 
 -- how many items of a lane its nodes have taken
-abbrev pub part_taken : {S T : Type 0} → PartView S T → Lane → ℕ
+abbrev pub part_taken : {S T : Type 0} → ChannelPartView S T → Lane → ℕ
 part_taken p l = if l.hop == head_hop p then option_map_or (λ (h : HeadView _). head_taken h l) p.head 0 else path_taken p.path l
 
 -- the data lanes of its channel: for these it needs places on a work list
-abbrev pub part_lanes : {S T : Type 0} → PartView S T → List Lane
+abbrev pub part_lanes : {S T : Type 0} → ChannelPartView S T → List Lane
 part_lanes p = path_lanes p.path
 
 module _ {S T : Type 0} (meaning : S → Meaning) where
   -- Whether one of its nodes writes a lane: the head those of hop 0, contexts the others.
-  abbrev pub part_writes : PartView S T → Lane → Bool
+  abbrev pub part_writes : ChannelPartView S T → Lane → Bool
   part_writes p l = if l.hop == 0 then option_map_or (λ (h : HeadView T). head_writes h l) p.head false else path_writes meaning p.path l
 
   -- the same, of the node at a hop
-  abbrev pub writes_at : PartView S T → ℕ → Lane → Bool
+  abbrev pub writes_at : ChannelPartView S T → ℕ → Lane → Bool
   writes_at p hop l = part_writes p l && (writer_hop p.path l.hop == hop)
 
   -- how far a lane has come
-  abbrev pub part_came : PartView S T → Lane → Point
+  abbrev pub part_came : ChannelPartView S T → Lane → Point
   part_came p l = if l.hop == 0 then option_map_or (λ (h : HeadView T). head_came h l) p.head nowhere else path_came meaning p.path l
 
 module _ {S T : Type 0} (meaning : S → Meaning) (stands_after : S → List Event → Type 0) (is_spent : S → Bool) (state : T → TransportState) where
   -- The node that the envelope's lane enters takes it. The others are as they were.
-  pub record PartTakes (p : PartView S T) (e : Envelope) (before : OutputsView) (answer : Took) (p' : PartView S T) (after : OutputsView) : Type 0 where
+  pub record PartTakes (p : ChannelPartView S T) (e : Envelope) (before : OutputsView) (answer : Took) (p' : ChannelPartView S T) (after : OutputsView) : Type 0 where
     pub path : (e.lane.hop == head_hop p) ≡ false → PathTakes meaning stands_after is_spent p.path e before answer p'.path after × (p'.head ≡ p.head)
     pub head : (h : HeadView T) → (e.lane.hop == head_hop p) ≡ true → p.head ≡ Some h
         → (h' : HeadView T) × (p'.head ≡ Some h') × HeadTakes state h e before answer h' after × (p'.path ≡ p.path)
 
 module _ {S T : Type 0} (state : T → TransportState) where
   -- The head makes its next read step, where it is one of its nodes. The others are as they were.
-  pub record PartReads (p : PartView S T) (before : OutputsView) (answer : ReadStep) (p' : PartView S T) (after : OutputsView) : Type 0 where
+  pub record PartReads (p : ChannelPartView S T) (before : OutputsView) (answer : ReadStep) (p' : ChannelPartView S T) (after : OutputsView) : Type 0 where
     pub head : (h : HeadView T) → p.head ≡ Some h → (h' : HeadView T) × (p'.head ≡ Some h') × HeadReads state h before answer h' after
     pub none : p.head ≡ None → (answer ≡ reading.Done) × (p' ≡ p) × (after ≡ before)
     pub path : p'.path ≡ p.path
 
   -- The head makes a write.
-  pub record PartWrites (may_refuse : T → ℕ → Type 0) (p : PartView S T) (before : OutputsView) (answer : OutStep) (p' : PartView S T) (after : OutputsView) : Type 0 where
+  pub record PartWrites (may_refuse : T → ℕ → Type 0) (p : ChannelPartView S T) (before : OutputsView) (answer : OutStep) (p' : ChannelPartView S T) (after : OutputsView) : Type 0 where
     pub head : (h : HeadView T) → p.head ≡ Some h → (h' : HeadView T) × (p'.head ≡ Some h') × HeadWrites state may_refuse h before answer h' after
     pub none : p.head ≡ None → (answer ≡ step.Idle) × (p' ≡ p) × (after ≡ before)
     pub path : p'.path ≡ p.path
 
   -- The head makes its next read step as a move, which it has made where the step gave.
-  pub record ReadMoves (p : PartView S T) (before : OutputsView) (made : Bool) (p' : PartView S T) (after : OutputsView) : Type 0 where
+  pub record ReadMoves (p : ChannelPartView S T) (before : OutputsView) (made : Bool) (p' : ChannelPartView S T) (after : OutputsView) : Type 0 where
     pub answer : ReadStep
     pub reads : PartReads p before answer p' after
     pub gave : made ≡ true → answer ≡ reading.Gave
     pub other : made ≡ false → answer ≢ reading.Gave
 
   -- The head makes a write as a move, which it has made where it was not idle.
-  pub record OutMoves (may_refuse : T → ℕ → Type 0) (p : PartView S T) (before : OutputsView) (made : Bool) (p' : PartView S T) (after : OutputsView) : Type 0 where
+  pub record OutMoves (may_refuse : T → ℕ → Type 0) (p : ChannelPartView S T) (before : OutputsView) (made : Bool) (p' : ChannelPartView S T) (after : OutputsView) : Type 0 where
     pub answer : OutStep
     pub writes : PartWrites may_refuse p before answer p' after
     pub wrote : made ≡ true → answer ≢ step.Idle
     pub idle : made ≡ false → answer ≡ step.Idle
 
   -- The head makes a move.
-  abbrev pub PartMoves : (T → ℕ → Type 0) → PartView S T → HeadMove → OutputsView → Bool → PartView S T → OutputsView → Type 0
+  abbrev pub PartMoves : (T → ℕ → Type 0) → ChannelPartView S T → HeadMove → OutputsView → Bool → ChannelPartView S T → OutputsView → Type 0
   PartMoves may_refuse p by.Read before made p' after = ReadMoves p before made p' after
   PartMoves may_refuse p by.Out before made p' after = OutMoves may_refuse p before made p' after
 
   -- The head is aborted.
-  pub record PartAborts (p : PartView S T) (before : OutputsView) (p' : PartView S T) (after : OutputsView) : Type 0 where
+  pub record PartAborts (p : ChannelPartView S T) (before : OutputsView) (p' : ChannelPartView S T) (after : OutputsView) : Type 0 where
     pub head : (h : HeadView T) → p.head ≡ Some h → (h' : HeadView T) × (p'.head ≡ Some h') × HeadAborts state h before h' after
     pub none : p.head ≡ None → (p' ≡ p) × (after ≡ before)
     pub path : p'.path ≡ p.path
 
 module _ {S T : Type 0} (world : World) (meaning : S → Meaning) (stands_after : S → List Event → Type 0) (state : T → TransportState) where
   -- Each of its nodes holds, and stands at its place; and each hop has an executor.
-  pub record PartHolds (p : PartView S T) : Type 0 where
+  pub record PartHolds (p : ChannelPartView S T) : Type 0 where
     pub path : PathHolds world meaning stands_after p.path
     pub head : (h : HeadView T) → p.head ≡ Some h → HeadHolds state world h × (h.channel ≡ p.path.channel) × (h.hop ≡ head_hop p)
     pub hops : length p.path.executors ≡ head_hop p + 1

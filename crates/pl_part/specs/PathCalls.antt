@@ -14,11 +14,11 @@ use Rattle.pl_context.specs.OutputsViews.{OutputsView}
 use Rattle.pl_context.specs.Stops.{HasPlaces, AreAmong}
 use Rattle.pl_flow.specs.Flows.{IsGood}
 use Rattle.pl_flow.specs.Makes.{Makes}
-use Rattle.pl_part.specs.Paths.{PathView, PathHolds, PathTakes, PathRefuses, SamePath, context_at, writer_hop, enters_path, path_taken, path_lanes, path_writes, path_writes_at, path_came}
+use Rattle.pl_part.specs.Paths.{PathPartView, PathHolds, PathTakes, PathRefuses, SamePath, context_at, writer_hop, enters_path, path_taken, path_lanes, path_writes, path_writes_at, path_came}
 use Rattle.pl_part.specs.Counts.{path_done}
 
 -- An envelope is the next of its lane, which enters one of the nodes, and there are places for what they write.
-pub record IsNextOnPath {S : Type 0} (world : World) (meaning : S → Meaning) (stands_after : S → List Event → Type 0) (p : PathView S) (e : Envelope) (before : OutputsView) : Type 0 where
+pub record IsNextOnPath {S : Type 0} (world : World) (meaning : S → Meaning) (stands_after : S → List Event → Type 0) (p : PathPartView S) (e : Envelope) (before : OutputsView) : Type 0 where
   pub holds : PathHolds world meaning stands_after p
   pub entered : enters_path p e.lane ≡ true
   pub number : e.number ≡ path_taken p e.lane
@@ -27,7 +27,7 @@ pub record IsNextOnPath {S : Type 0} (world : World) (meaning : S → Meaning) (
 
 module _ {S : Type 0} (meaning : S → Meaning) where
   -- Nodes have put something on a work list: they are the same nodes, which write the same lanes, and the places stay.
-  pub record PathPuts (p : PathView S) (before : OutputsView) (p' : PathView S) (after : OutputsView) : Type 0 where
+  pub record PathPuts (p : PathPartView S) (before : OutputsView) (p' : PathPartView S) (after : OutputsView) : Type 0 where
     pub same : SamePath p p'
     pub writes : (l : Lane) → path_writes meaning p' l ≡ path_writes meaning p l
     pub placed : (lanes : List Lane) → AreAmong (path_lanes p) lanes → HasPlaces before.stopped lanes → HasPlaces after.stopped lanes
@@ -35,7 +35,7 @@ module _ {S : Type 0} (meaning : S → Meaning) where
   module _ (stands_after : S → List Event → Type 0) where
     -- A node has taken an envelope. In each world where the nodes held, and where the envelope may stand, they hold again, and
     -- what they have put is the next of their lanes.
-    pub record PathTaken (is_spent : S → Bool) (p : PathView S) (e : Envelope) (before : OutputsView) (answer : Took) (p' : PathView S) (after : OutputsView) : Type 0 where
+    pub record PathTaken (is_spent : S → Bool) (p : PathPartView S) (e : Envelope) (before : OutputsView) (answer : Took) (p' : PathPartView S) (after : OutputsView) : Type 0 where
       pub takes : PathTakes meaning stands_after is_spent p e before answer p' after
       pub taken : (l : Lane) → path_taken p' l ≡ cond (same_lane l e.lane) (e.number + 1) (path_taken p l)
       pub puts : PathPuts p before p' after
@@ -49,7 +49,7 @@ module _ {S : Type 0} (meaning : S → Meaning) where
 
     -- A lane was refused, in a world where lanes are, and its writer, where it is a context, has ended or failed if it is a data
     -- lane.
-    pub record PathRefused (p : PathView S) (l : Lane) (before : OutputsView) (p' : PathView S) (after : OutputsView) : Type 0 where
+    pub record PathRefused (p : PathPartView S) (l : Lane) (before : OutputsView) (p' : PathPartView S) (after : OutputsView) : Type 0 where
       pub refuses : PathRefuses p l before p' after
       pub over : l.kind ≡ Data → (c : ContextView S) → context_at p' (writer_hop p' l.hop) ≡ Some c → is_over c.standing ≡ true
       pub taken : (m : Lane) → path_taken p' m ≡ path_taken p m

@@ -22,7 +22,7 @@ use Rattle.pl_part.specs.ContextHolds.{ContextHolds, context_writes, context_cam
 use Rattle.pl_part.specs.TailHolds.{TailHolds}
 use Rattle.pl_part.specs.Taking.{ContextTakes, ContextRefused, TailTakes}
 
-pub record PathView (S : Type 0) : Type 0 where
+pub record PathPartView (S : Type 0) : Type 0 where
   pub channel : ℕ
   -- the executor of each hop
   pub executors : List ℕ
@@ -41,7 +41,7 @@ pub record IsPathPart (hops contexts tail_hop turn : ℕ) : Type 0 where
   pub turned : turn < tail_hop
 
 -- the same nodes of the same channel
-pub record SamePath {S : Type 0} (p p' : PathView S) : Type 0 where
+pub record SamePath {S : Type 0} (p p' : PathPartView S) : Type 0 where
   pub channel : p'.channel ≡ p.channel
   pub executors : p'.executors ≡ p.executors
   pub contexts : map (λ (slot : Option (ContextView S)). is_some slot) p'.contexts ≡ map (λ (slot : Option (ContextView S)). is_some slot) p.contexts
@@ -52,16 +52,16 @@ pub record SamePath {S : Type 0} (p p' : PathView S) : Type 0 where
 -- ---- its nodes
 
 -- the context that a hop enters, where it is one of the part's
-abbrev pub context_at : {S : Type 0} → PathView S → ℕ → Option (ContextView S)
+abbrev pub context_at : {S : Type 0} → PathPartView S → ℕ → Option (ContextView S)
 context_at p hop = get_or p.contexts hop None
 
 -- The hop of the context that writes the lanes of a hop: the one before; but the turn writes the first lane after the
 -- tail's, and the head those of hop 0.
-abbrev pub writer_hop : {S : Type 0} → PathView S → ℕ → ℕ
+abbrev pub writer_hop : {S : Type 0} → PathPartView S → ℕ → ℕ
 writer_hop p hop = if hop == 0 then length p.contexts else if hop == p.tail_hop + 1 then p.turn else hop - 1
 
 -- a lane enters one of its nodes
-abbrev pub enters_path : {S : Type 0} → PathView S → Lane → Bool
+abbrev pub enters_path : {S : Type 0} → PathPartView S → Lane → Bool
 enters_path p l = (l.channel == p.channel) && (if l.hop == p.tail_hop then is_some p.tail else is_some (context_at p l.hop))
 
 -- a context has ended or failed, where there is one
@@ -69,13 +69,13 @@ abbrev pub is_slot_over : {S : Type 0} → Option (ContextView S) → Bool
 is_slot_over slot = option_map_or (λ (c : ContextView _). is_over c.standing) slot true
 
 -- all of its nodes have ended or failed
-abbrev pub path_over : {S : Type 0} → PathView S → Bool
+abbrev pub path_over : {S : Type 0} → PathPartView S → Bool
 path_over p = list_all (λ (slot : Option (ContextView _)). is_slot_over slot) p.contexts
     && option_map_or (λ (t : TailView). is_over t.standing) p.tail true
 
 -- A lane is refused: so is the context that writes it, where it is one of the nodes. The others are as they were, and so are
 -- all of them where it is a flags lane, or one that the head writes.
-pub record PathRefuses {S : Type 0} (p : PathView S) (l : Lane) (before : OutputsView) (p' : PathView S) (after : OutputsView) : Type 0 where
+pub record PathRefuses {S : Type 0} (p : PathPartView S) (l : Lane) (before : OutputsView) (p' : PathPartView S) (after : OutputsView) : Type 0 where
   pub writer : (c : ContextView S) → context_at p (writer_hop p l.hop) ≡ Some c
       → (c' : ContextView S) × (context_at p' (writer_hop p l.hop) ≡ Some c') × ContextRefused l.kind c before c' after
   pub none : context_at p (writer_hop p l.hop) ≡ None → (p' ≡ p) × (after ≡ before)
@@ -87,27 +87,27 @@ pub record PathRefuses {S : Type 0} (p : PathView S) (l : Lane) (before : Output
 -- ---- its lanes
 
 -- how many items of a lane its nodes have taken
-abbrev pub path_taken : {S : Type 0} → PathView S → Lane → ℕ
+abbrev pub path_taken : {S : Type 0} → PathPartView S → Lane → ℕ
 path_taken p l =
     if l.hop == p.tail_hop
     then option_map_or (λ (t : TailView). tail_taken_of t l) p.tail 0
     else option_map_or (λ (c : ContextView _). taken_of c l) (context_at p l.hop) 0
 
 -- the data lanes of its channel: for these it needs places on a work list
-abbrev pub path_lanes : {S : Type 0} → PathView S → List Lane
+abbrev pub path_lanes : {S : Type 0} → PathPartView S → List Lane
 path_lanes p = map (λ hop. data_lane p.channel hop) (range_with_len 0 (length p.executors))
 
 module _ {S : Type 0} (meaning : S → Meaning) where
   -- whether one of its contexts writes a lane
-  abbrev pub path_writes : PathView S → Lane → Bool
+  abbrev pub path_writes : PathPartView S → Lane → Bool
   path_writes p l = option_map_or (λ (c : ContextView S). context_writes (meaning c.stage).direction c l) (context_at p (writer_hop p l.hop)) false
 
   -- the same, of the context at a hop
-  abbrev pub path_writes_at : PathView S → ℕ → Lane → Bool
+  abbrev pub path_writes_at : PathPartView S → ℕ → Lane → Bool
   path_writes_at p hop l = path_writes p l && (writer_hop p l.hop == hop)
 
   -- how far a lane has come
-  abbrev pub path_came : PathView S → Lane → Point
+  abbrev pub path_came : PathPartView S → Lane → Point
   path_came p l = option_map_or (λ (c : ContextView S). context_came (meaning c.stage).direction c l) (context_at p (writer_hop p l.hop)) nowhere
 
   -- A context stands at its hop: inbound ones before the tail's, the turn at its own, outbound ones after the tail's.
@@ -120,7 +120,7 @@ module _ {S : Type 0} (meaning : S → Meaning) where
 
   module _ (stands_after : S → List Event → Type 0) (is_spent : S → Bool) where
     -- The node that the envelope's lane enters takes it. The others are as they were.
-    pub record PathTakes (p : PathView S) (e : Envelope) (before : OutputsView) (answer : Took) (p' : PathView S) (after : OutputsView) : Type 0 where
+    pub record PathTakes (p : PathPartView S) (e : Envelope) (before : OutputsView) (answer : Took) (p' : PathPartView S) (after : OutputsView) : Type 0 where
       pub context : (c : ContextView S) → (e.lane.hop == p.tail_hop) ≡ false → context_at p e.lane.hop ≡ Some c
           → (c' : ContextView S) × (context_at p' e.lane.hop ≡ Some c') × ContextTakes meaning stands_after is_spent c e before answer c' after
       pub tail : (t : TailView) → (e.lane.hop == p.tail_hop) ≡ true → p.tail ≡ Some t → (t' : TailView) × (p'.tail ≡ Some t') × TailTakes t e answer t' × (after ≡ before)
@@ -129,7 +129,7 @@ module _ {S : Type 0} (meaning : S → Meaning) where
 
 module _ {S : Type 0} (world : World) (meaning : S → Meaning) (stands_after : S → List Event → Type 0) where
   -- Each of its nodes holds, and stands at its place; and they are few.
-  pub record PathHolds (p : PathView S) : Type 0 where
+  pub record PathHolds (p : PathPartView S) : Type 0 where
     pub contexts : (hop : ℕ) (c : ContextView S) → context_at p hop ≡ Some c → ContextHolds world meaning stands_after c × IsAt meaning p.channel hop p.tail_hop p.turn c
     pub tail : (t : TailView) → p.tail ≡ Some t → TailHolds world t × (t.channel ≡ p.channel) × (t.hop ≡ p.tail_hop)
     pub few : length p.contexts ≤ MAX_HANDLERS + 1

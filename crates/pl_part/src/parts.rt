@@ -44,9 +44,9 @@ pub struct ChannelPart<S: Stage, T: Transport> {
 }
 
 impl<S: Stage, T: Transport> Model for ChannelPart<S, T> {
-    ghost use Rattle.pl_part.specs.Parts.{PartView};
+    ghost use Rattle.pl_part.specs.Parts.{ChannelPartView};
 
-    ghost Value = { PartView S T };
+    ghost Value = { ChannelPartView S T };
 
     ghost view = { λ p. record { path = p.path; head = p.head } };
 }

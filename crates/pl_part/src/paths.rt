@@ -46,9 +46,9 @@ pub struct PathPart<S: Stage> {
 impl<S: Stage> Model for PathPart<S> {
     ghost use Rattle.std.specs.Prelude.{length};
     ghost use Rattle.pl_part.specs.PathCalls.{IsNextOnPath, PathTaken, PathRefused};
-    ghost use Rattle.pl_part.specs.Paths.{PathView, IsPathPart};
+    ghost use Rattle.pl_part.specs.Paths.{PathPartView, IsPathPart};
 
-    ghost Value = { PathView S };
+    ghost Value = { PathPartView S };
 
     ghost view = { λ p. record { channel = p.channel; executors = p.executors.items; contexts = p.contexts.items; tail = p.tail; tail_hop = p.tail_hop; turn = p.turn } };
 

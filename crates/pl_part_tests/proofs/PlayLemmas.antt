@@ -17,8 +17,8 @@ use Rattle.pl_flow.specs.Flows.{Point, point, on, IsGood, IsFlow, past}
 use Rattle.pl_flow.specs.Makes.{Makes, LaneGrows}
 use Rattle.pl_flow.proofs.FlowLemmas.{on-append, past-append, IsFlow-append, on-own, on-other}
 use Rattle.pl_head.specs.Transports.{TransportState}
-use Rattle.pl_part.specs.Paths.{PathView, SamePath, enters_path, path_lanes}
-use Rattle.pl_part.specs.Parts.{PartView, PartHolds, SamePart, has_entered, part_taken, part_lanes, part_writes, writes_at, part_came}
+use Rattle.pl_part.specs.Paths.{PathPartView, SamePath, enters_path, path_lanes}
+use Rattle.pl_part.specs.Parts.{ChannelPartView, PartHolds, SamePart, has_entered, part_taken, part_lanes, part_writes, writes_at, part_came}
 use Rattle.pl_part_tests.specs.Playing.{Waits, Plays}
 
 -- ---- one lane
@@ -62,19 +62,19 @@ some-at [] i = refl
 some-at (x ∷ xs) zero = refl
 some-at (x ∷ xs) (suc i) = some-at xs i
 
-pub slot-filled : {S : Type 0} (p : PathView S) (hop : ℕ) → is_some (get_or p.contexts hop None) ≡ get_or (map (λ (slot : Option (ContextView S)). is_some slot) p.contexts) hop false
+pub slot-filled : {S : Type 0} (p : PathPartView S) (hop : ℕ) → is_some (get_or p.contexts hop None) ≡ get_or (map (λ (slot : Option (ContextView S)). is_some slot) p.contexts) hop false
 slot-filled p hop = sym (some-at p.contexts hop)
 
-same-path-entered : {S : Type 0} (p p' : PathView S) → SamePath p p' → (l : Lane) → enters_path p' l ≡ enters_path p l
+same-path-entered : {S : Type 0} (p p' : PathPartView S) → SamePath p p' → (l : Lane) → enters_path p' l ≡ enters_path p l
 same-path-entered p p' same l =
     let slot = slot-filled p' l.hop ∙ ap (λ (bs : List Bool). get_or bs l.hop false) same.contexts ∙ sym (slot-filled p l.hop) in
     (λ i. (l.channel == same.channel i) && (if l.hop == same.tail_hop i then same.tail i else slot i))
 
-same-count : {S : Type 0} (p p' : PathView S) → SamePath p p' → length p'.contexts ≡ length p.contexts
+same-count : {S : Type 0} (p p' : PathPartView S) → SamePath p p' → length p'.contexts ≡ length p.contexts
 same-count p p' same =
     sym (length-map p'.contexts (λ (slot : Option (ContextView _)). is_some slot)) ∙ ap (λ (bs : List Bool). length bs) same.contexts ∙ length-map p.contexts (λ (slot : Option (ContextView _)). is_some slot)
 
-pub same-entered : {S T : Type 0} (p p' : PartView S T) → SamePart p p' → (l : Lane) → has_entered p' l ≡ has_entered p l
+pub same-entered : {S T : Type 0} (p p' : ChannelPartView S T) → SamePart p p' → (l : Lane) → has_entered p' l ≡ has_entered p l
 same-entered p p' same l =
     let count = same-count p.path p'.path same.path in
     let path = same-path-entered p.path p'.path same.path l in
@@ -88,7 +88,7 @@ module _ {S T : Type 0} (world : World) (meaning : S → Meaning) (stands_after 
   grows-among writes here b a from to added g = record { idle = λ not. g.idle (ap (λ (w : Bool). w && here) not); discards = g.discards; flow = g.flow; up_to = g.up_to }
 
   -- The node at a hop has put out what it made, and they have taken so much.
-  pub plays-more : (p p' : PartView S T) (hop : ℕ) (b a : OutputsView) (taken : Lane → ℕ)
+  pub plays-more : (p p' : ChannelPartView S T) (hop : ℕ) (b a : OutputsView) (taken : Lane → ℕ)
       → ((l : Lane) → has_entered p l ≡ true → Waits world (part_writes meaning p l) (has_stopped b.stopped l) (taken l) (on l b.items) (part_came meaning p l))
       → HasPlaces b.stopped (part_lanes p) → SamePart p p' → ((l : Lane) → part_taken p' l ≡ taken l) → ((l : Lane) → part_writes meaning p' l ≡ part_writes meaning p l)
       → PartHolds world meaning stands_after state p' → Makes world (writes_at meaning p hop) (part_came meaning p) (part_came meaning p') b a
@@ -107,7 +107,7 @@ module _ {S T : Type 0} (world : World) (meaning : S → Meaning) (stands_after 
       lanes-of : ℕ → List ℕ → List Lane
       lanes-of channel executors = path_lanes {S = S} (record p.path { channel = channel; executors = executors })
 
-  module _ (p : PartView S T) (b m : OutputsView) (x : Envelope) (items : b.items ≡ x ∷ m.items) (stops : m.stopped ≡ b.stopped) (plays : Plays world meaning stands_after state p b) where
+  module _ (p : ChannelPartView S T) (b m : OutputsView) (x : Envelope) (items : b.items ≡ x ∷ m.items) (stops : m.stopped ≡ b.stopped) (plays : Plays world meaning stands_after state p b) where
     there : (l : Lane) → has_entered p l ≡ true → Waits world (part_writes meaning p l) (has_stopped m.stopped l) (part_taken p l) (on l (x ∷ m.items)) (part_came meaning p l)
     there l entered = subst (λ (y : Bool × List Envelope). Waits world (part_writes meaning p l) y.0 (part_taken p l) y.1 (part_came meaning p l))
         (λ i. (has_stopped (sym stops i) l, on l (items i))) (plays.lanes l entered)
@@ -156,13 +156,13 @@ module _ {S T : Type 0} (world : World) (meaning : S → Meaning) (stands_after 
           (cases_Bool (same_lane l x.lane))
 
       -- the front is taken
-      pub plays-front : (p' : PartView S T) (hop : ℕ) (a : OutputsView) → SamePart p p' → ((l : Lane) → part_taken p' l ≡ cond (same_lane l x.lane) (x.number + 1) (part_taken p l))
+      pub plays-front : (p' : ChannelPartView S T) (hop : ℕ) (a : OutputsView) → SamePart p p' → ((l : Lane) → part_taken p' l ≡ cond (same_lane l x.lane) (x.number + 1) (part_taken p l))
           → ((l : Lane) → part_writes meaning p' l ≡ part_writes meaning p l) → PartHolds world meaning stands_after state p' → Makes world (writes_at meaning p hop) (part_came meaning p) (part_came meaning p') m a
           → ((lanes : List Lane) → AreAmong (part_lanes p) lanes → HasPlaces m.stopped lanes → HasPlaces a.stopped lanes) → Plays world meaning stands_after state p' a
       plays-front p' hop a = plays-more p p' hop m a (λ l. cond (same_lane l x.lane) (x.number + 1) (part_taken p l)) front-left places
 
   -- nothing is taken
-  pub plays-given : (p p' : PartView S T) (hop : ℕ) (b a : OutputsView) → Plays world meaning stands_after state p b → SamePart p p' → ((l : Lane) → part_writes meaning p' l ≡ part_writes meaning p l)
+  pub plays-given : (p p' : ChannelPartView S T) (hop : ℕ) (b a : OutputsView) → Plays world meaning stands_after state p b → SamePart p p' → ((l : Lane) → part_writes meaning p' l ≡ part_writes meaning p l)
       → PartHolds world meaning stands_after state p' → Makes world (writes_at meaning p hop) (part_came meaning p) (part_came meaning p') b a
       → ((lanes : List Lane) → AreAmong (part_lanes p) lanes → HasPlaces b.stopped lanes → HasPlaces a.stopped lanes) → ((l : Lane) → part_taken p' l ≡ part_taken p l) → Plays world meaning stands_after state p' a
   plays-given p p' hop b a plays same writes holds made placed counts = plays-more p p' hop b a (λ l. part_taken p l) plays.lanes plays.places same counts writes holds made placed

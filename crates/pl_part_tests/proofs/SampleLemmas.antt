@@ -30,7 +30,7 @@ use Rattle.pl_part.specs.ContextHolds.{context_writes, context_came}
 use Rattle.pl_part.specs.HeadHolds.{HeadHolds, head_writes, head_came, head_taken}
 use Rattle.pl_part.specs.NewParts.{IsPlannedAt, ArePlannedWith, AreNew}
 use Rattle.pl_part.specs.Paths.{writer_hop, path_taken, path_lanes, path_writes, path_came}
-use Rattle.pl_part.specs.Parts.{PartView, PartHolds, SamePart, head_hop, has_entered, part_taken, part_lanes, part_writes, writes_at, part_came}
+use Rattle.pl_part.specs.Parts.{ChannelPartView, PartHolds, SamePart, head_hop, has_entered, part_taken, part_lanes, part_writes, writes_at, part_came}
 use Rattle.pl_context.specs.declared.standing.Took.{Took}
 use Rattle.pl_part.specs.PartCalls.{IsNextFor, Puts, Taken, Given}
 use Rattle.pl_part.proofs.NewHeads.{IsFresh, new-holds, new-came, new-taken}
@@ -41,7 +41,7 @@ use Rattle.pl_part_tests.specs.SampleParts.{sample_meaning, anywhere, sample_bur
 use Rattle.pl_part_tests.proofs.PlayLemmas.{slot-filled, plays-gone, plays-front, plays-given, front-number, front-good, front-places}
 
 abbrev Part : Type 0
-Part = PartView Relay MemoryTransportView
+Part = ChannelPartView Relay MemoryTransportView
 
 -- ---- its nodes
 

@@ -9,7 +9,7 @@ use Rattle.pl_context.specs.Stops.{HasPlaces, has_stopped}
 use Rattle.pl_context.specs.OutputsViews.{OutputsView}
 use Rattle.pl_flow.specs.Flows.{Point, point, on, IsFlow, past}
 use Rattle.pl_head.specs.Transports.{TransportState}
-use Rattle.pl_part.specs.Parts.{PartView, PartHolds, has_entered, part_taken, part_lanes, part_writes, part_came}
+use Rattle.pl_part.specs.Parts.{ChannelPartView, PartHolds, has_entered, part_taken, part_lanes, part_writes, part_came}
 
 -- The items of a lane that wait follow those that were taken of it, up to where its writer has come. Of other lanes none waits.
 pub record Waits (world : World) (writes stopped : Bool) (taken : ℕ) (items : List Envelope) (came : Point) : Type 0 where
@@ -19,7 +19,7 @@ pub record Waits (world : World) (writes stopped : Bool) (taken : ℕ) (items : 
   pub up_to : writes ≡ true → stopped ≡ false → past (point taken over) items ≡ came
 
 module _ {S T : Type 0} (world : World) (meaning : S → Meaning) (stands_after : S → List Event → Type 0) (state : T → TransportState) where
-  pub record Plays (p : PartView S T) (w : OutputsView) : Type 0 where
+  pub record Plays (p : ChannelPartView S T) (w : OutputsView) : Type 0 where
     pub holds : PartHolds world meaning stands_after state p
     pub lanes : (l : Lane) → has_entered p l ≡ true → Waits world (part_writes meaning p l) (has_stopped w.stopped l) (part_taken p l) (on l w.items) (part_came meaning p l)
     pub places : HasPlaces w.stopped (part_lanes p)

@@ -9,7 +9,7 @@ use Rattle.pl_event.specs.Worlds.{World, carrying}
 use Rattle.pl_context.specs.ContextViews.{ContextView}
 use Rattle.pl_context.specs.OutputsViews.{OutputsView}
 use Rattle.pl_head.specs.Transports.{MemoryTransportView, memory_state}
-use Rattle.pl_part.specs.Parts.{PartView}
+use Rattle.pl_part.specs.Parts.{ChannelPartView}
 use Rattle.pl_part_tests.specs.declared.relays.Relay.{Relay}
 use Rattle.pl_part_tests.specs.Relays.{relaying}
 use Rattle.pl_part_tests.specs.Playing.{Plays}
@@ -38,7 +38,7 @@ sample_world =
     carrying ((data_lane 7 0, sample_events) ∷ (data_lane 7 1, handed) ∷ (data_lane 7 2, up_of (relaying Turn) handed) ∷ (data_lane 7 3, written) ∷ (data_lane 7 4, down_of (relaying Outbound) written) ∷ [])
 
 -- all nodes of channel 7: two inbound handlers, the tail, an outbound handler and the head
-pub record IsSample (p : PartView Relay MemoryTransportView) : Type 0 where
+pub record IsSample (p : ChannelPartView Relay MemoryTransportView) : Type 0 where
   pub channel : p.path.channel ≡ 7
   pub executors : p.path.executors ≡ 2 ∷ 0 ∷ 2 ∷ 1 ∷ 2 ∷ []
   pub filled : map (λ (slot : Option (ContextView Relay)). is_some slot) p.path.contexts ≡ true ∷ true ∷ false ∷ true ∷ []
@@ -47,6 +47,6 @@ pub record IsSample (p : PartView Relay MemoryTransportView) : Type 0 where
   pub head : is_some p.head ≡ true
 
 -- the part of the tests, and what waits for its nodes
-pub record IsReady (p : PartView Relay MemoryTransportView) (w : OutputsView) : Type 0 where
+pub record IsReady (p : ChannelPartView Relay MemoryTransportView) (w : OutputsView) : Type 0 where
   pub sample : IsSample p
   pub plays : Plays sample_world sample_meaning anywhere memory_state p w

@@ -2,7 +2,7 @@
 
 ghost use Rattle.std.specs.Prelude.{◌≡◌, IfOk, OnOk};
 ghost use Rattle.pl_head.specs.Transports.{MemoryTransportView};
-ghost use Rattle.pl_part.specs.Parts.{PartView, has_entered};
+ghost use Rattle.pl_part.specs.Parts.{ChannelPartView, has_entered};
 ghost use Rattle.pl_part_tests.specs.declared.relays.Relay.{Relay};
 ghost use Rattle.pl_part_tests.specs.SampleParts.{IsReady, IsSample};
 
@@ -183,7 +183,7 @@ fn goes_on(
 
 /// Whether a lane enters one of the part's nodes.
 fn enters(lane: Lane) -> bool
-    ensures { (p : PartView Relay MemoryTransportView) → IsSample p → result ≡ has_entered p lane }
+    ensures { (p : ChannelPartView Relay MemoryTransportView) → IsSample p → result ≡ has_entered p lane }
 {
     match lane.kind {
         Kind::Data => lane.channel == 7 && lane.hop < 5,

@@ -11,6 +11,6 @@ abbrev pub is_within : List (List Lane) → ℕ → Bool
 is_within lanes capacity =
     not (capacity == 0) && nat_le capacity MAX_CAPACITY && nat_le (length lanes) MAX_SENDERS && nat_le (length (all_lanes lanes)) MAX_LANES
 
--- what is wrong with them, want of memory aside
+-- what is wrong with them, out of memory aside
 abbrev pub opening_fault : List (List Lane) → ℕ → Option OpenRefusal
 opening_fault lanes capacity = if is_within lanes capacity then None else Some Limit

@@ -15,7 +15,7 @@ use Rattle.pl_flow.specs.Flows.{Point, nowhere}
 use Rattle.pl_head.specs.Transports.{TransportState}
 use Rattle.pl_part.specs.ContextHolds.{port_point, ports_came, context_came}
 use Rattle.pl_part.specs.Paths.{context_at, writer_hop, path_came}
-use Rattle.pl_part.specs.Parts.{PartView, part_came}
+use Rattle.pl_part.specs.Parts.{ChannelPartView, part_came}
 use Rattle.pl_replay.specs.Channels.{ChannelsStand, came_of}
 use Rattle.pl_replay.specs.Given.{HasGiven}
 
@@ -36,12 +36,12 @@ came-down false false up down flags has apart = absurd (both_ways false refl has
 
 -- ---- one lane
 
-module _ {S T : Type 0} (world : World) (meaning : S → Meaning) (stands_after : S → List Event → Type 0) (state : T → TransportState) (ps : List (PartView S T)) (stand : ChannelsStand world meaning stands_after state ps)
-    (l : Lane) (part : PartView S T) (c : ContextView S) (at : slice_get ps l.channel ≡ Some part) (inner : (l.hop == 0) ≡ false) (writer : context_at part.path (writer_hop part.path l.hop) ≡ Some c) (live : c.standing ≡ stands.Open) where
+module _ {S T : Type 0} (world : World) (meaning : S → Meaning) (stands_after : S → List Event → Type 0) (state : T → TransportState) (ps : List (ChannelPartView S T)) (stand : ChannelsStand world meaning stands_after state ps)
+    (l : Lane) (part : ChannelPartView S T) (c : ContextView S) (at : slice_get ps l.channel ≡ Some part) (inner : (l.hop == 0) ≡ false) (writer : context_at part.path (writer_hop part.path l.hop) ≡ Some c) (live : c.standing ≡ stands.Open) where
   -- the point where it came is that of the context's port
   came-writer : came_of meaning ps l ≡ context_came (meaning c.stage).direction c l
   came-writer =
-      ap (λ (o : Option (PartView S T)). option_map_or (λ (p : PartView S T). part_came meaning p l) o nowhere) at
+      ap (λ (o : Option (ChannelPartView S T)). option_map_or (λ (p : ChannelPartView S T). part_came meaning p l) o nowhere) at
       ∙ cond-false (l.hop == 0) _ (path_came meaning part.path l) inner
       ∙ ap (λ (o : Option (ContextView S)). option_map_or (λ (k : ContextView S). context_came (meaning k.stage).direction k l) o nowhere) writer
 

@@ -15,14 +15,14 @@ use Rattle.pl_context.specs.Backlogs.{BacklogView}
 use Rattle.pl_context.specs.Stops.{StopsView, HasPlaces, has_stopped, no_stops}
 use Rattle.pl_context.specs.WaitingViews.{Holds, stops_for}
 use Rattle.pl_context.proofs.Places.{places-start}
-use Rattle.pl_part.specs.Parts.{PartView}
+use Rattle.pl_part.specs.Parts.{ChannelPartView}
 use Rattle.pl_net.specs.Nets.{ExecutorView}
 use Rattle.pl_replay.specs.Placed.{lanes_between, IsIdle, AreIdle}
 
 none-stopped : (places : ℕ) (l : Lane) → has_stopped (no_stops places) l ≡ false
 none-stopped places l = elim l.kind as (λ k. elim k [ Data ↦ false | Flags ↦ false ] ≡ false) [ Data ↦ refl | Flags ↦ refl ]
 
-module _ {S T : Type 0} (ps : List (PartView S T)) (count : ℕ) where
+module _ {S T : Type 0} (ps : List (ChannelPartView S T)) (count : ℕ) where
   abbrev stops_between : ℕ → ℕ → StopsView
   stops_between x y = no_stops (length (lanes_between ps x y))
 

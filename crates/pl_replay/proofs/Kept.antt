@@ -16,7 +16,7 @@ use Rattle.pl_head.specs.declared.heads.ReadStep.{ReadStep}
 use Rattle.pl_head.specs.Transports.{TransportState}
 use Rattle.pl_net.specs.NodesViews.{NodesView}
 use Rattle.pl_net.specs.Nets.{CoreView, IsStep, Steps, Settles, RunsTask, Gives}
-use Rattle.pl_part.specs.Parts.{PartView, SamePart, PartTakes, PartReads, PartMoves}
+use Rattle.pl_part.specs.Parts.{ChannelPartView, SamePart, PartTakes, PartReads, PartMoves}
 use Rattle.pl_channel.specs.PlanStand.{PartKeepsPlan, PartsKeepPlan}
 use Rattle.pl_channel.proofs.PlanLemmas.{part-takes-keeps, part-reads-keeps, part-writes-keeps}
 use Rattle.pl_replay.specs.Channels.{HasMoved, home_of}
@@ -51,16 +51,16 @@ module _ {N : Type 0} (view_of : N → NodesView) (takes : N → Envelope → Ou
 -- ---- the plan
 
 module _ {S T : Type 0} (meaning : S → Meaning) (stands_after : S → List Event → Type 0) (is_spent : S → Bool) (state : T → TransportState) (may_refuse : T → ℕ → Type 0) (plan : Plan) where
-  moved-keeps : (does : PartView S T → PartView S T → Type 0) → ((p : ChannelPlan) (part part' : PartView S T) → SamePart part part' → does part part' → PartKeepsPlan state p part → PartKeepsPlan state p part')
-      → (ps ps' : List (PartView S T)) (c : ℕ) → HasMoved does ps c ps' → PartsKeepPlan state plan ps → PartsKeepPlan state plan ps'
+  moved-keeps : (does : ChannelPartView S T → ChannelPartView S T → Type 0) → ((p : ChannelPlan) (part part' : ChannelPartView S T) → SamePart part part' → does part part' → PartKeepsPlan state p part → PartKeepsPlan state p part')
+      → (ps ps' : List (ChannelPartView S T)) (c : ℕ) → HasMoved does ps c ps' → PartsKeepPlan state plan ps → PartsKeepPlan state plan ps'
   moved-keeps does kept ps ps' c m k = record {
     count = ap length m.becomes ∙ length-set ps c m.after ∙ k.count;
     each = each;
   }
     where
-      each : (d : ℕ) (p : ChannelPlan) (part : PartView S T) → slice_get plan.channels d ≡ Some p → slice_get ps' d ≡ Some part → PartKeepsPlan state p part
+      each : (d : ℕ) (p : ChannelPlan) (part : ChannelPartView S T) → slice_get plan.channels d ≡ Some p → slice_get ps' d ≡ Some part → PartKeepsPlan state p part
       each d p part planned is =
-          let now : slice_get (set ps c m.after) d ≡ Some part = sym (ap (λ (l : List (PartView S T)). slice_get l d) m.becomes) ∙ is in
+          let now : slice_get (set ps c m.after) d ≡ Some part = sym (ap (λ (l : List (ChannelPartView S T)). slice_get l d) m.becomes) ∙ is in
           elim (eqb_tells d c) [
             | inl here ↦
                 let same = at_set_same ps c m.after part (subst (λ (i : ℕ). slice_get (set ps c m.after) i ≡ Some part) here.1 now) in
@@ -75,7 +75,7 @@ module _ {S T : Type 0} (meaning : S → Meaning) (stands_after : S → List Eve
   takes-kept n n' e before after t = moved-keeps (λ part part'. (answer : Took) × PartTakes meaning stands_after is_spent state part e before answer part' after)
       (λ p part part' same w. part-takes-keeps meaning stands_after is_spent state p part part' e before after w.0 same w.1) n.parts.items n'.parts.items e.lane.channel t
 
-  part-moves-keeps : (p : ChannelPlan) (part part' : PartView S T) (by : HeadMove) (before after : OutputsView) → SamePart part part' → PartMoves state may_refuse part by before true part' after
+  part-moves-keeps : (p : ChannelPlan) (part part' : ChannelPartView S T) (by : HeadMove) (before after : OutputsView) → SamePart part part' → PartMoves state may_refuse part by before true part' after
       → PartKeepsPlan state p part → PartKeepsPlan state p part'
   part-moves-keeps p part part' head.Read before after same m =
       part-reads-keeps meaning stands_after is_spent state p part part' before after same (subst (λ (answer : ReadStep). PartReads state part before answer part' after) (m.gave refl) m.reads)

@@ -13,20 +13,20 @@ use Rattle.pl_event.proofs.Lists.{list_any-map}
 use Rattle.pl_context.specs.Stops.{AreAmong, HasPlaces, no_stops}
 use Rattle.pl_context.proofs.Places.{places-start}
 use Rattle.pl_part.specs.Paths.{writer_hop}
-use Rattle.pl_part.specs.Parts.{PartView, part_lanes}
+use Rattle.pl_part.specs.Parts.{ChannelPartView, part_lanes}
 use Rattle.pl_replay.specs.Placed.{all_lanes, lanes_between, hops_between, goes_between}
 
 list_any-flat_map : {X Y : Type 0} (p : Y → Bool) (f : X → List Y) (xs : List X) → list_any p (flat_map f xs) ≡ list_any (λ x. list_any p (f x)) xs
 list_any-flat_map p f [] = refl
 list_any-flat_map p f (x ∷ xs) = list_any-append p (f x) (flat_map f xs) ∙ ap (λ b. list_any p (f x) || b) (list_any-flat_map p f xs)
 
-module _ {S T : Type 0} (ps : List (PartView S T)) where
+module _ {S T : Type 0} (ps : List (ChannelPartView S T)) where
   -- a list has places for all lanes, where it has one for each
   pub places-all : HasPlaces (no_stops (length (all_lanes ps))) (all_lanes ps)
   places-all = places-start (length (all_lanes ps)) (all_lanes ps) (omega arith)
 
   -- a lane that enters a hop of a channel
-  module _ (c : ℕ) (p : PartView S T) (here : slice_get ps c ≡ Some p) (own : p.path.channel ≡ c) (l : Lane) (of_it : l.channel ≡ c) (within : l.hop < length p.path.executors) where
+  module _ (c : ℕ) (p : ChannelPartView S T) (here : slice_get ps c ≡ Some p) (own : p.path.channel ≡ c) (l : Lane) (of_it : l.channel ≡ c) (within : l.hop < length p.path.executors) where
     abbrev hops : List ℕ
     hops = range_with_len 0 (length p.path.executors)
 
@@ -34,7 +34,7 @@ module _ {S T : Type 0} (ps : List (PartView S T)) where
     lane_at hop = data_lane p.path.channel hop
 
     -- what one part has, all have
-    any-of-all : {Y : Type 0} (test : Y → Bool) (f : PartView S T → List Y) → list_any test (f p) ≡ true → list_any test (flat_map f ps) ≡ true
+    any-of-all : {Y : Type 0} (test : Y → Bool) (f : ChannelPartView S T → List Y) → list_any test (f p) ≡ true → list_any test (flat_map f ps) ≡ true
     any-of-all test f one =
         list_any-flat_map test f ps
         ∙ list_any_at (λ q. list_any test (f q)) ps c p (slice_get_within ps c p here) (ap (λ q. list_any test (f q)) (get_or_from_slice_get ps c p p here) ∙ one)

@@ -12,7 +12,7 @@ use Rattle.pl_context.specs.OutputsViews.{OutputsView}
 use Rattle.pl_context.specs.WaitingViews.{Entry}
 use Rattle.pl_head.specs.Transports.{TransportState}
 use Rattle.pl_net.specs.Cores.{core_view, waits_of, IsUnmoved, IsUnmovedButRoom}
-use Rattle.pl_part.specs.Parts.{PartView, head_hop}
+use Rattle.pl_part.specs.Parts.{ChannelPartView, head_hop}
 use Rattle.std.specs.Option.{option_map_or}
 use Rattle.pl_net.specs.Nets.{CoreView, ExecutorView, CoreStands, RunsTask, HandsOver, queue_at}
 use Rattle.pl_net.specs.declared.cores.Core.{Core}
@@ -174,7 +174,7 @@ module _ {S T : Type 0} (meaning : S → Meaning) (stands_after : S → List Eve
       let ruled = All-at (IsChannelPlan plan.executors) plan.channels channel p.0 n.ruled.channels p.1 in
       let hop : head_hop part.0 < length p.0.executors = subst (λ (k : ℕ). k < length p.0.executors) (sym keeps.head_at) (let h = ruled.hops in omega (arith, h)) in
       let placed = All-at (λ (x : ℕ). x < plan.executors) p.0.executors (head_hop part.0) (get_or p.0.executors (head_hop part.0) 0) ruled.placed (slice_get-get_or p.0.executors (head_hop part.0) 0 hop) in
-      subst (λ (o : Option (PartView S T)). option_map_or (λ (q : PartView S T). executor_at q (head_hop q)) o 0 < length core.executors.items) (sym part.1)
+      subst (λ (o : Option (ChannelPartView S T)). option_map_or (λ (q : ChannelPartView S T). executor_at q (head_hop q)) o 0 < length core.executors.items) (sym part.1)
       (subst (λ (l : List ℕ). get_or l (head_hop part.0) 0 < length core.executors.items) (sym keeps.executors) (subst (λ (k : ℕ). get_or p.0.executors (head_hop part.0) 0 < k) (sym n.executors) placed))
 
   -- and so it is where a move names the channel

@@ -6,7 +6,7 @@ use Rattle.pl_event.specs.Meaning.{Meaning}
 use Rattle.pl_context.specs.WaitingViews.{Entry}
 use Rattle.pl_head.specs.Transports.{TransportState}
 use Rattle.pl_net.specs.declared.cores.Core.{Core}
-use Rattle.pl_part.specs.Parts.{PartView}
+use Rattle.pl_part.specs.Parts.{ChannelPartView}
 use Rattle.pl_replay.specs.NetStand.{NetStands}
 use Rattle.pl_replay.specs.Reported.{HasEnds, HaveEnds}
 use Rattle.pl_replay.specs.declared.channels.Channels.{Channels}
@@ -18,7 +18,7 @@ some-of (Some x) h = (x, refl)
 some-of None h = cc
 
 module _ {S T : Type 0} (meaning : S → Meaning) (stands_after : S → List Event → Type 0) (state : T → TransportState) (plan : Plan) (backlogs : ℕ → List (Entry (Unit {0}))) (core : Core (Channels S T)) (n : NetStands meaning stands_after state plan backlogs core) where
-  has-ends : (c : ℕ) (part : PartView S T) → slice_get core.nodes.parts.items c ≡ Some part → HasEnds part
+  has-ends : (c : ℕ) (part : ChannelPartView S T) → slice_get core.nodes.parts.items c ≡ Some part → HasEnds part
   has-ends c part at =
       let whole = (n.stands.hold.parts c part at).whole in
       let tail = some-of part.path.tail whole.tail in

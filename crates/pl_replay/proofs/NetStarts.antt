@@ -20,7 +20,7 @@ use Rattle.pl_head.specs.HeadStand.{HeadView}
 use Rattle.pl_head.specs.Transports.{TransportState}
 use Rattle.pl_part.specs.Counts.{part_done}
 use Rattle.pl_part.specs.Paths.{writer_hop}
-use Rattle.pl_part.specs.Parts.{PartView, PartHolds, head_hop, part_taken, part_writes, part_came}
+use Rattle.pl_part.specs.Parts.{ChannelPartView, PartHolds, head_hop, part_taken, part_writes, part_came}
 use Rattle.pl_part.proofs.PartCounts.{part-few}
 use Rattle.pl_net.specs.Cores.{core_view}
 use Rattle.pl_net.specs.Nets.{ExecutorView, CoreStands, IsStart, no_backlogs}
@@ -59,7 +59,7 @@ All-from-at P [] each = All-nil P
 All-from-at P (x ∷ xs) each = All-from_get_or P (x ∷ xs) x (λ i within. each i (get_or (x ∷ xs) i x) (slice_get-get_or (x ∷ xs) i x within))
 
 -- the writer of a hop is at a hop that has an executor
-writer-within : {S T : Type 0} (part : PartView S T) → HasExecutors part → (hop : ℕ) → hop < length part.path.executors → writer_hop part.path hop < length part.path.executors
+writer-within : {S T : Type 0} (part : ChannelPartView S T) → HasExecutors part → (hop : ℕ) → hop < length part.path.executors → writer_hop part.path hop < length part.path.executors
 writer-within part has hop within = ⊎_elim
     (λ (t : (hop == 0) ≡ true). let h = has.hops in let w = cond-true (hop == 0) (head_hop part) (if hop == part.path.tail_hop + 1 then part.path.turn else hop - 1) t in omega (arith, h, w))
     (λ (f : (hop == 0) ≡ false). ⊎_elim
@@ -74,7 +74,7 @@ writer-within part has hop within = ⊎_elim
 
 -- ---- one part
 
-module _ {S T : Type 0} (meaning : S → Meaning) (state : T → TransportState) (number : ℕ) (p : ChannelPlan) (transport : T) (part : PartView S T) (whole : IsWhole state number p transport part) where
+module _ {S T : Type 0} (meaning : S → Meaning) (state : T → TransportState) (number : ℕ) (p : ChannelPlan) (transport : T) (part : ChannelPartView S T) (whole : IsWhole state number p transport part) where
   hops-are : head_hop part ≡ planned_head_hop p
   hops-are =
       sym (length-map part.path.contexts (λ (slot : Option (ContextView S)). is_some slot))
@@ -121,9 +121,9 @@ recorded-small meaning state world is rs same = All-from-at (λ r. IsSmallChanne
     (λ i r at. channel-small meaning state world is i r (sym (ap (λ l. slice_get l i) same) ∙ at))
 
 module _ {S T : Type 0} (meaning : S → Meaning) (stands_after : S → List Event → Type 0) (state : T → TransportState) (plan : Plan) (rs : List (Recorded S T)) (planned : plan.channels ≡ map (channel_planned meaning state) rs)
-    (parts : List (PartView S T)) (placed : ArePlaced meaning stands_after state rs parts) where
+    (parts : List (ChannelPartView S T)) (placed : ArePlaced meaning stands_after state rs parts) where
   -- a part is that of its recorded channel
-  recorded-at : (c : ℕ) (part : PartView S T) → slice_get parts c ≡ Some part → (r : Recorded S T) × (slice_get rs c ≡ Some r) × (slice_get plan.channels c ≡ Some (channel_planned meaning state r)) × IsPlaced meaning stands_after state c r part
+  recorded-at : (c : ℕ) (part : ChannelPartView S T) → slice_get parts c ≡ Some part → (r : Recorded S T) × (slice_get rs c ≡ Some r) × (slice_get plan.channels c ≡ Some (channel_planned meaning state r)) × IsPlaced meaning stands_after state c r part
   recorded-at c part at =
       let size = placed.count in
       let within = slice_get_within parts c part at in
@@ -169,17 +169,17 @@ module _ {S T : Type 0} (meaning : S → Meaning) (stands_after : S → List Eve
 
   module _ (ruled : IsPlan plan) (few : length rs ≤ MAX_CHANNELS) (executors : List ExecutorView) (idle : AreIdle parts plan.executors executors) where
     -- a lane that is written is one of a part
-    own : (G : Type 0) (l : Lane) → writes_of meaning parts l ≡ true → ((part : PartView S T) → slice_get parts l.channel ≡ Some part → (l.hop < length part.path.executors) × (part_writes meaning part l ≡ true) → G) → G
+    own : (G : Type 0) (l : Lane) → writes_of meaning parts l ≡ true → ((part : ChannelPartView S T) → slice_get parts l.channel ≡ Some part → (l.hop < length part.path.executors) × (part_writes meaning part l ≡ true) → G) → G
     own G l writes found = by (slice_get parts l.channel) refl writes
       where
-        by : (o : Option (PartView S T)) → slice_get parts l.channel ≡ o → option_map_or (λ (q : PartView S T). writes_here meaning q l) o false ≡ true → G
+        by : (o : Option (ChannelPartView S T)) → slice_get parts l.channel ≡ o → option_map_or (λ (q : ChannelPartView S T). writes_here meaning q l) o false ≡ true → G
         by None at w = absurd (false≢true w)
         by (Some part) at w = let b = and_parts _ (part_writes meaning part l) w in found part at (ltb-true l.hop (length part.path.executors) b.0, b.1)
 
-    at-part : {A : Type 0} (f : PartView S T → A) (none : A) (c : ℕ) (part : PartView S T) → slice_get parts c ≡ Some part → option_map_or f (slice_get parts c) none ≡ f part
-    at-part f none c part at = ap (λ (o : Option (PartView S T)). option_map_or f o none) at
+    at-part : {A : Type 0} (f : ChannelPartView S T → A) (none : A) (c : ℕ) (part : ChannelPartView S T) → slice_get parts c ≡ Some part → option_map_or f (slice_get parts c) none ≡ f part
+    at-part f none c part at = ap (λ (o : Option (ChannelPartView S T)). option_map_or f o none) at
 
-    executor-there : (c : ℕ) (part : PartView S T) (hop : ℕ) → slice_get parts c ≡ Some part → hop < length part.path.executors → executor_at part hop < length executors
+    executor-there : (c : ℕ) (part : ChannelPartView S T) (hop : ℕ) → slice_get parts c ≡ Some part → hop < length part.path.executors → executor_at part hop < length executors
     executor-there c part hop at within =
         let r = recorded-at c part at in
         let p = channel_planned meaning state r.0 in
@@ -192,22 +192,22 @@ module _ {S T : Type 0} (meaning : S → Meaning) (stands_after : S → List Eve
     starts = record {
       queues = idle.queues;
       unstopped = idle.unstopped;
-      taken = λ l w. own (taken_of parts l ≡ 0) l w (λ part at of. at-part (λ (q : PartView S T). part_taken q l) 0 l.channel part at ∙ (recorded-at l.channel part at).3.unmoved.taken l);
-      came = λ l w. own (came_of meaning parts l ≡ point 0 false) l w (λ part at of. at-part (λ (q : PartView S T). part_came meaning q l) _ l.channel part at ∙ (recorded-at l.channel part at).3.unmoved.came l of.1);
+      taken = λ l w. own (taken_of parts l ≡ 0) l w (λ part at of. at-part (λ (q : ChannelPartView S T). part_taken q l) 0 l.channel part at ∙ (recorded-at l.channel part at).3.unmoved.taken l);
+      came = λ l w. own (came_of meaning parts l ≡ point 0 false) l w (λ part at of. at-part (λ (q : ChannelPartView S T). part_came meaning q l) _ l.channel part at ∙ (recorded-at l.channel part at).3.unmoved.came l of.1);
       there = λ l w. own ((origin_of parts l < length executors) × (target_of parts l < length executors)) l w (λ part at of.
           let r = recorded-at l.channel part at in
           let has = has-executors meaning state l.channel (channel_planned meaning state r.0) r.0.transport part r.3.whole in (
-            subst (λ (n : ℕ). n < length executors) (sym (at-part (λ (q : PartView S T). executor_at q (writer_hop q.path l.hop)) 0 l.channel part at)) (executor-there l.channel part (writer_hop part.path l.hop) at (writer-within part has l.hop of.0)),
-            subst (λ (n : ℕ). n < length executors) (sym (at-part (λ (q : PartView S T). executor_at q l.hop) 0 l.channel part at)) (executor-there l.channel part l.hop at of.0),
+            subst (λ (n : ℕ). n < length executors) (sym (at-part (λ (q : ChannelPartView S T). executor_at q (writer_hop q.path l.hop)) 0 l.channel part at)) (executor-there l.channel part (writer_hop part.path l.hop) at (writer-within part has l.hop of.0)),
+            subst (λ (n : ℕ). n < length executors) (sym (at-part (λ (q : ChannelPartView S T). executor_at q l.hop) 0 l.channel part at)) (executor-there l.channel part l.hop at of.0),
           ));
       hops = lanes_between parts;
       placed = λ y z a b. idle.placed y z (subst (λ (n : ℕ). y < n) idle.count a) (subst (λ (n : ℕ). z < n) idle.count b);
       among = λ l w. own (AreAmong (l ∷ []) (lanes_between parts (origin_of parts l) (target_of parts l))) l w (λ part at of.
           let r = recorded-at l.channel part at in
-          subst (λ (x : ℕ). AreAmong (l ∷ []) (lanes_between parts x (target_of parts l))) (sym (at-part (λ (q : PartView S T). executor_at q (writer_hop q.path l.hop)) 0 l.channel part at))
-          (subst (λ (y : ℕ). AreAmong (l ∷ []) (lanes_between parts (executor_at part (writer_hop part.path l.hop)) y)) (sym (at-part (λ (q : PartView S T). executor_at q l.hop) 0 l.channel part at))
+          subst (λ (x : ℕ). AreAmong (l ∷ []) (lanes_between parts x (target_of parts l))) (sym (at-part (λ (q : ChannelPartView S T). executor_at q (writer_hop q.path l.hop)) 0 l.channel part at))
+          (subst (λ (y : ℕ). AreAmong (l ∷ []) (lanes_between parts (executor_at part (writer_hop part.path l.hop)) y)) (sym (at-part (λ (q : ChannelPartView S T). executor_at q l.hop) 0 l.channel part at))
           (among-between parts l.channel part at r.3.whole.channel_is l refl of.0)));
-      few = few-sum (λ (q : PartView S T). part_done q) parts (starts-stand few).few (λ c part at. ((starts-stand few).parts c part at).few);
+      few = few-sum (λ (q : ChannelPartView S T). part_done q) parts (starts-stand few).few (λ c part at. ((starts-stand few).parts c part at).few);
     }
 
 -- ---- how many lanes there are
@@ -220,11 +220,11 @@ sum-same f h (x ∷ xs) (y ∷ ys) size each =
     sum_by-cons f x xs ∙ ap₂ (λ (a b : ℕ). a + b) (each 0 x y refl refl) (sum-same f h xs ys (omega (arith, size)) (λ i a b p q. each (suc i) a b p q)) ∙ sym (sum_by-cons h y ys)
 
 module _ {S T : Type 0} (meaning : S → Meaning) (stands_after : S → List Event → Type 0) (state : T → TransportState) (plan : Plan) (rs : List (Recorded S T)) (planned : plan.channels ≡ map (channel_planned meaning state) rs)
-    (parts : List (PartView S T)) (placed : ArePlaced meaning stands_after state rs parts) where
+    (parts : List (ChannelPartView S T)) (placed : ArePlaced meaning stands_after state rs parts) where
   pub lanes-few : IsSmallPlan plan → length (all_lanes parts) < 2 ^ 16
   lanes-few small =
       let keeps = starts-keep meaning stands_after state plan rs planned parts placed in
-      let same = sum-same (λ (q : PartView S T). length q.path.executors) (λ (p : ChannelPlan). planned_head_hop p + 1) parts plan.channels keeps.count
+      let same = sum-same (λ (q : ChannelPartView S T). length q.path.executors) (λ (p : ChannelPlan). planned_head_hop p + 1) parts plan.channels keeps.count
       (λ i part p at is.
       let r = recorded-at meaning stands_after state plan rs planned parts placed i part at in
       ap length r.3.whole.executors_are ∙ r.3.whole.hops ∙ ap (λ (q : ChannelPlan). planned_head_hop q + 1) (same-plan meaning stands_after state plan rs planned parts placed (channel_planned meaning state r.0) p (sym r.2 ∙ is))) in
@@ -234,7 +234,7 @@ module _ {S T : Type 0} (meaning : S → Meaning) (stands_after : S → List Eve
   placeable small = record { few = lanes-few small; hops = all-have-executors meaning stands_after state plan rs planned parts placed }
 
 module _ {S T : Type 0} (meaning : S → Meaning) (stands_after : S → List Event → Type 0) (state : T → TransportState) (w : WorldView S T) (is : IsWorld meaning state w) (capacity : ℕ) (some : 1 ≤ capacity)
-    (parts : List (PartView S T)) (placed : ArePlaced meaning stands_after state w.channels parts) (executors : List ExecutorView) (idle : AreIdle parts w.executors executors) where
+    (parts : List (ChannelPartView S T)) (placed : ArePlaced meaning stands_after state w.channels parts) (executors : List ExecutorView) (idle : AreIdle parts w.executors executors) where
   abbrev pub plan_here : Plan
   plan_here = plan_of meaning state capacity w.executors w.channels
 
@@ -254,20 +254,20 @@ module _ {S T : Type 0} (meaning : S → Meaning) (stands_after : S → List Eve
     };
     begins = record {
       channels = ap length has-parts ∙ (starts-keep meaning stands_after state plan_here w.channels refl parts placed).count;
-      each = λ number p transport part planned has at. each number p transport part planned has (sym (ap (λ (l : List (PartView S T)). slice_get l number) has-parts) ∙ at);
+      each = λ number p transport part planned has at. each number p transport part planned has (sym (ap (λ (l : List (ChannelPartView S T)). slice_get l number) has-parts) ∙ at);
       executors = ap length has-executors-too ∙ idle.count;
-      start = subst (λ (l : List (PartView S T)). IsStart (channels_view meaning l) core.executors.items) (sym has-parts)
+      start = subst (λ (l : List (ChannelPartView S T)). IsStart (channels_view meaning l) core.executors.items) (sym has-parts)
           (subst (IsStart (channels_view meaning parts)) (sym has-executors-too) (starts meaning stands_after state plan_here w.channels refl parts placed (is.ruled capacity some) is.channels executors idle));
       backlogs = refl;
       work = rests;
-      unstopped = unstopped ∙ ap (λ (l : List (PartView S T)). no_stops (length (lanes_of l))) (sym has-parts);
+      unstopped = unstopped ∙ ap (λ (l : List (ChannelPartView S T)). no_stops (length (lanes_of l))) (sym has-parts);
     };
   }
     where
       same-transport : (a b : T) → Some a ≡ Some b → a ≡ b
       same-transport a b e = cc
 
-      each : (number : ℕ) (p : ChannelPlan) (transport : T) (part : PartView S T) → slice_get plan_here.channels number ≡ Some p → slice_get (transports_of w.channels) number ≡ Some transport → slice_get parts number ≡ Some part
+      each : (number : ℕ) (p : ChannelPlan) (transport : T) (part : ChannelPartView S T) → slice_get plan_here.channels number ≡ Some p → slice_get (transports_of w.channels) number ≡ Some transport → slice_get parts number ≡ Some part
           → IsWhole state number p transport part × HasPlannedStages meaning stands_after number p part × IsUnmoved meaning part × PartHolds (world_of false plan_here) meaning stands_after state part
       each number p transport part planned has at =
           let r = recorded-at meaning stands_after state plan_here w.channels refl parts placed number part at in

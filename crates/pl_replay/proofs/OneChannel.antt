@@ -26,7 +26,7 @@ use Rattle.pl_flow.specs.Makes.{Makes}
 use Rattle.pl_flow.proofs.MakeLemmas.{makes-among}
 use Rattle.pl_head.specs.Transports.{TransportState}
 use Rattle.pl_part.specs.Paths.{writer_hop}
-use Rattle.pl_part.specs.Parts.{PartView, PartHolds, SamePart, head_hop, part_taken, part_lanes, part_writes, writes_at, part_came}
+use Rattle.pl_part.specs.Parts.{ChannelPartView, PartHolds, SamePart, head_hop, part_taken, part_lanes, part_writes, writes_at, part_came}
 use Rattle.pl_part.specs.PartCalls.{IsNextFor, Puts, Taken, Given}
 use Rattle.pl_net.specs.NodesViews.{SameRoutes, NodesPut, NodesTake, NodesGive, NodesMake, written_by}
 use Rattle.pl_part.specs.Counts.{part_done}
@@ -58,7 +58,7 @@ few-sum f (x ∷ xs) n each =
 
 -- ---- the same part
 
-module _ {S T : Type 0} (p p' : PartView S T) (same : SamePart p p') where
+module _ {S T : Type 0} (p p' : ChannelPartView S T) (same : SamePart p p') where
   pub same-hops : head_hop p' ≡ head_hop p
   same-hops = sym (length-map p'.path.contexts (λ (slot : Option (ContextView S)). is_some slot)) ∙ ap length same.path.contexts ∙ length-map p.path.contexts (λ (slot : Option (ContextView S)). is_some slot)
 
@@ -81,25 +81,25 @@ module _ {S T : Type 0} (p p' : PartView S T) (same : SamePart p p') where
 
 -- ---- one of all parts
 
-module _ {S T : Type 0} (ps : List (PartView S T)) (c : ℕ) (p p' : PartView S T) (was : slice_get ps c ≡ Some p) where
+module _ {S T : Type 0} (ps : List (ChannelPartView S T)) (c : ℕ) (p p' : ChannelPartView S T) (was : slice_get ps c ≡ Some p) where
   -- all parts, where that of this channel is another one
-  abbrev pub changed : List (PartView S T)
+  abbrev pub changed : List (ChannelPartView S T)
   changed = set ps c p'
 
   is : slice_get changed c ≡ Some p'
   is = at-set_here ps c p' (slice_get_within ps c p was)
 
   -- what is said of a part, or of none: here it is said of the one, and of the other
-  pub at-was : {A : Type 0} (f : PartView S T → A) (none : A) (k : ℕ) → k ≡ c → option_map_or f (slice_get ps k) none ≡ f p
-  at-was f none k e = ap (λ (o : Option (PartView S T)). option_map_or f o none) (ap (λ (n : ℕ). slice_get ps n) e ∙ was)
+  pub at-was : {A : Type 0} (f : ChannelPartView S T → A) (none : A) (k : ℕ) → k ≡ c → option_map_or f (slice_get ps k) none ≡ f p
+  at-was f none k e = ap (λ (o : Option (ChannelPartView S T)). option_map_or f o none) (ap (λ (n : ℕ). slice_get ps n) e ∙ was)
 
-  pub at-is : {A : Type 0} (f : PartView S T → A) (none : A) (k : ℕ) → k ≡ c → option_map_or f (slice_get changed k) none ≡ f p'
-  at-is f none k e = ap (λ (o : Option (PartView S T)). option_map_or f o none) (ap (λ (n : ℕ). slice_get changed n) e ∙ is)
+  pub at-is : {A : Type 0} (f : ChannelPartView S T → A) (none : A) (k : ℕ) → k ≡ c → option_map_or f (slice_get changed k) none ≡ f p'
+  at-is f none k e = ap (λ (o : Option (ChannelPartView S T)). option_map_or f o none) (ap (λ (n : ℕ). slice_get changed n) e ∙ is)
 
-  elsewhere : {A : Type 0} (f : PartView S T → A) (none : A) (k : ℕ) → k ≢ c → option_map_or f (slice_get changed k) none ≡ option_map_or f (slice_get ps k) none
-  elsewhere f none k other = ap (λ (o : Option (PartView S T)). option_map_or f o none) (at-set_there ps c k p' other)
+  elsewhere : {A : Type 0} (f : ChannelPartView S T → A) (none : A) (k : ℕ) → k ≢ c → option_map_or f (slice_get changed k) none ≡ option_map_or f (slice_get ps k) none
+  elsewhere f none k other = ap (λ (o : Option (ChannelPartView S T)). option_map_or f o none) (at-set_there ps c k p' other)
 
-  pub unchanged : {A : Type 0} (f : PartView S T → A) (none : A) → f p' ≡ f p → (k : ℕ) → option_map_or f (slice_get changed k) none ≡ option_map_or f (slice_get ps k) none
+  pub unchanged : {A : Type 0} (f : ChannelPartView S T → A) (none : A) → f p' ≡ f p → (k : ℕ) → option_map_or f (slice_get changed k) none ≡ option_map_or f (slice_get ps k) none
   unchanged f none same k = ⊎_elim
       (λ (e : k ≡ c). at-is f none k e ∙ same ∙ sym (at-was f none k e))
       (λ (other : k ≢ c). elsewhere f none k other)
@@ -109,8 +109,8 @@ module _ {S T : Type 0} (ps : List (PartView S T)) (c : ℕ) (p p' : PartView S 
 
   done-moves : done_of changed + part_done p ≡ done_of ps + part_done p'
   done-moves =
-      let s = sum_by-set (λ (q : PartView S T). part_done q) ps c p' p (slice_get_within ps c p was) in
-      let e : part_done (get_or ps c p) ≡ part_done p = ap (λ (q : PartView S T). part_done q) (get_or_from_slice_get ps c p p was) in
+      let s = sum_by-set (λ (q : ChannelPartView S T). part_done q) ps c p' p (slice_get_within ps c p was) in
+      let e : part_done (get_or ps c p) ≡ part_done p = ap (λ (q : ChannelPartView S T). part_done q) (get_or_from_slice_get ps c p p was) in
       ap (λ (n : ℕ). done_of changed + n) (sym e) ∙ s
 
   pub done-more : (n m k : ℕ) → part_done p + n + k ≤ part_done p' + m → done_of ps + n + k ≤ done_of changed + m
@@ -119,7 +119,7 @@ module _ {S T : Type 0} (ps : List (PartView S T)) (c : ℕ) (p p' : PartView S 
   -- ---- their lanes
 
   pub places-of : (b : OutputsView) → HasPlaces b.stopped (lanes_of ps) → HasPlaces b.stopped (part_lanes p)
-  places-of b places = places-for b.stopped (lanes_of ps) (part_lanes p) places (among-joined (λ (q : PartView S T). part_lanes q) ps c p was)
+  places-of b places = places-for b.stopped (lanes_of ps) (part_lanes p) places (among-joined (λ (q : ChannelPartView S T). part_lanes q) ps c p was)
 
   module _ (meaning : S → Meaning) (same : SamePart p p') (writes : (l : Lane) → part_writes meaning p' l ≡ part_writes meaning p l) where
     still-writes : (l : Lane) → writes_here meaning p' l ≡ writes_here meaning p l
@@ -127,26 +127,26 @@ module _ {S T : Type 0} (ps : List (PartView S T)) (c : ℕ) (p p' : PartView S 
 
     pub routes : SameRoutes (channels_view meaning ps) (channels_view meaning changed)
     routes = record {
-      home = λ k. unchanged (λ (q : PartView S T). executor_at q (head_hop q)) 0 (λ i. get_or (same.path.executors i) (same-hops p p' same i) 0) k;
-      target = λ l. unchanged (λ (q : PartView S T). executor_at q l.hop) 0 (same-executor p p' same l.hop) l.channel;
-      origin = λ l. unchanged (λ (q : PartView S T). executor_at q (writer_hop q.path l.hop)) 0 (λ i. get_or (same.path.executors i) (same-writer p p' same l.hop i) 0) l.channel;
-      writes = λ l. unchanged (λ (q : PartView S T). writes_here meaning q l) false (still-writes l) l.channel;
-      lanes = joined-same (λ (q : PartView S T). part_lanes q) ps c p p' was (same-lanes p p' same);
+      home = λ k. unchanged (λ (q : ChannelPartView S T). executor_at q (head_hop q)) 0 (λ i. get_or (same.path.executors i) (same-hops p p' same i) 0) k;
+      target = λ l. unchanged (λ (q : ChannelPartView S T). executor_at q l.hop) 0 (same-executor p p' same l.hop) l.channel;
+      origin = λ l. unchanged (λ (q : ChannelPartView S T). executor_at q (writer_hop q.path l.hop)) 0 (λ i. get_or (same.path.executors i) (same-writer p p' same l.hop i) 0) l.channel;
+      writes = λ l. unchanged (λ (q : ChannelPartView S T). writes_here meaning q l) false (still-writes l) l.channel;
+      lanes = joined-same (λ (q : ChannelPartView S T). part_lanes q) ps c p p' was (same-lanes p p' same);
     }
 
   -- ---- what was taken
 
   pub taken-none : ((l : Lane) → part_taken p' l ≡ part_taken p l) → (l : Lane) → taken_of changed l ≡ taken_of ps l
-  taken-none same l = unchanged (λ (q : PartView S T). part_taken q l) 0 (same l) l.channel
+  taken-none same l = unchanged (λ (q : ChannelPartView S T). part_taken q l) 0 (same l) l.channel
 
   pub taken-one : (e : Envelope) → e.lane.channel ≡ c → ((l : Lane) → part_taken p' l ≡ cond (same_lane l e.lane) (e.number + 1) (part_taken p l))
       → (l : Lane) → taken_of changed l ≡ cond (same_lane l e.lane) (e.number + 1) (taken_of ps l)
   taken-one e of took l = ⊎_elim
       (λ (here : l.channel ≡ c).
-      at-is (λ (q : PartView S T). part_taken q l) 0 l.channel here ∙ took l
-      ∙ ap (λ (n : ℕ). cond (same_lane l e.lane) (e.number + 1) n) (sym (at-was (λ (q : PartView S T). part_taken q l) 0 l.channel here)))
+      at-is (λ (q : ChannelPartView S T). part_taken q l) 0 l.channel here ∙ took l
+      ∙ ap (λ (n : ℕ). cond (same_lane l e.lane) (e.number + 1) n) (sym (at-was (λ (q : ChannelPartView S T). part_taken q l) 0 l.channel here)))
       (λ (other : l.channel ≢ c).
-      elsewhere (λ (q : PartView S T). part_taken q l) 0 l.channel other
+      elsewhere (λ (q : ChannelPartView S T). part_taken q l) 0 l.channel other
       ∙ sym (cond-false (same_lane l e.lane) (e.number + 1) (taken_of ps l) (apart other)))
       (cases_eq l.channel c)
     where
@@ -168,7 +168,7 @@ module _ {S T : Type 0} (ps : List (PartView S T)) (c : ℕ) (p p' : PartView S 
       home-last hops executor e is =
           let h = part-stands.holds.hops in
           let last : hops - 1 ≡ head_hop p = omega (arith, e, h) in
-          is ∙ ap (λ (k : ℕ). executor_at p k) last ∙ sym (at-was (λ (q : PartView S T). executor_at q (head_hop q)) 0 c refl)
+          is ∙ ap (λ (k : ℕ). executor_at p k) last ∙ sym (at-was (λ (q : ChannelPartView S T). executor_at q (head_hop q)) 0 c refl)
 
       pub below : p.path.tail_hop < head_hop p
       below = tail-within p part-stands.holds.hops part-stands.whole
@@ -186,21 +186,21 @@ module _ {S T : Type 0} (ps : List (PartView S T)) (c : ℕ) (p p' : PartView S 
           let w = and_parts (part_writes meaning p l) (writer_hop p.path l.hop == hop) at in
           let here = own-channel l w.0 in
           and_from (writes_of meaning ps l) (origin_of ps l == executor_at p hop)
-          (at-was (λ (q : PartView S T). writes_here meaning q l) false l.channel here ∙ and_from (nat_lt l.hop (length p.path.executors)) (part_writes meaning p l) (lt-ltb l.hop (length p.path.executors) (is-written l w.0).within) w.0)
+          (at-was (λ (q : ChannelPartView S T). writes_here meaning q l) false l.channel here ∙ and_from (nat_lt l.hop (length p.path.executors)) (part_writes meaning p l) (lt-ltb l.hop (length p.path.executors) (is-written l w.0).within) w.0)
           (eq-eqb (origin_of ps l) (executor_at p hop)
-          (at-was (λ (q : PartView S T). executor_at q (writer_hop q.path l.hop)) 0 l.channel here ∙ ap (λ (h : ℕ). executor_at p h) (eqb-true (writer_hop p.path l.hop) hop w.1)))
+          (at-was (λ (q : ChannelPartView S T). executor_at q (writer_hop q.path l.hop)) 0 l.channel here ∙ ap (λ (h : ℕ). executor_at p h) (eqb-true (writer_hop p.path l.hop) hop w.1)))
 
       -- a lane of another executor does not come further
       others-stay : (hop : ℕ) → ((l : Lane) → writes_at meaning p hop l ≡ false → part_came meaning p' l ≡ part_came meaning p l)
           → (l : Lane) → writes_at meaning p hop l ≡ false → came_of meaning changed l ≡ came_of meaning ps l
-      others-stay hop others l off = unchanged (λ (q : PartView S T). part_came meaning q l) nowhere (others l off) l.channel
+      others-stay hop others l off = unchanged (λ (q : ChannelPartView S T). part_came meaning q l) nowhere (others l off) l.channel
 
       makes : (hop : ℕ) (b a : OutputsView) → ((l : Lane) → writes_at meaning p hop l ≡ false → part_came meaning p' l ≡ part_came meaning p l)
           → Makes world (writes_at meaning p hop) (part_came meaning p) (part_came meaning p') b a → NodesMake world (channels_view meaning ps) (executor_at p hop) b (channels_view meaning changed) a
       makes hop b a others made = makes-among world (writes_at meaning p hop) (written_by (channels_view meaning ps) (executor_at p hop)) (part_came meaning p) (part_came meaning p') (came_of meaning ps) (came_of meaning changed) b a
           (λ l at.
           let here = own-channel l (and_parts (part_writes meaning p l) (writer_hop p.path l.hop == hop) at).0 in
-          (own-written l hop at, at-was (λ (q : PartView S T). part_came meaning q l) nowhere l.channel here, at-is (λ (q : PartView S T). part_came meaning q l) nowhere l.channel here))
+          (own-written l hop at, at-was (λ (q : ChannelPartView S T). part_came meaning q l) nowhere l.channel here, at-is (λ (q : ChannelPartView S T). part_came meaning q l) nowhere l.channel here))
           (λ l off. sym (others-stay hop others l off))
           made
 
@@ -210,7 +210,7 @@ module _ {S T : Type 0} (ps : List (PartView S T)) (c : ℕ) (p p' : PartView S 
       still-stand holds same few = record {
         parts = λ k q at. ⊎_elim
             (λ (here : k ≡ c).
-            subst (λ (z : ℕ × PartView S T). PartStands world meaning stands_after state z.0 z.1) (λ i. (sym here i, same_Some p' q (sym is ∙ ap (λ (n : ℕ). slice_get changed n) (sym here) ∙ at) i))
+            subst (λ (z : ℕ × ChannelPartView S T). PartStands world meaning stands_after state z.0 z.1) (λ i. (sym here i, same_Some p' q (sym is ∙ ap (λ (n : ℕ). slice_get changed n) (sym here) ∙ at) i))
             (record { holds = holds; channel = same.path.channel ∙ part-stands.channel; whole = still-whole p p' same part-stands.whole; few = few }))
             (λ (other : k ≢ c). stands.parts k q (sym (at-set_there ps c k p' other) ∙ at))
             (cases_eq k c);
@@ -218,11 +218,11 @@ module _ {S T : Type 0} (ps : List (PartView S T)) (c : ℕ) (p p' : PartView S 
       }
 
       few-done : part_done p' < 2 ^ 50 → done_of changed < 2 ^ 62
-      few-done few = few-sum (λ (q : PartView S T). part_done q) changed (let n = length-set ps c p' in let m = stands.few in omega (arith, n, m)) each
+      few-done few = few-sum (λ (q : ChannelPartView S T). part_done q) changed (let n = length-set ps c p' in let m = stands.few in omega (arith, n, m)) each
         where
-          each : (k : ℕ) (q : PartView S T) → slice_get changed k ≡ Some q → part_done q < 2 ^ 50
+          each : (k : ℕ) (q : ChannelPartView S T) → slice_get changed k ≡ Some q → part_done q < 2 ^ 50
           each k q at = ⊎_elim
-              (λ (here : k ≡ c). subst (λ (x : PartView S T). part_done x < 2 ^ 50) (same_Some p' q (sym is ∙ ap (λ (n : ℕ). slice_get changed n) (sym here) ∙ at)) few)
+              (λ (here : k ≡ c). subst (λ (x : ChannelPartView S T). part_done x < 2 ^ 50) (same_Some p' q (sym is ∙ ap (λ (n : ℕ). slice_get changed n) (sym here) ∙ at)) few)
               (λ (other : k ≢ c). (stands.parts k q (sym (at-set_there ps c k p' other) ∙ at)).few)
               (cases_eq k c)
 
@@ -230,7 +230,7 @@ module _ {S T : Type 0} (ps : List (PartView S T)) (c : ℕ) (p p' : PartView S 
       puts hop b a put = record {
         routes = routes meaning put.same put.writes;
         others = λ l off. others-stay hop put.others l (not-own l off);
-        placed = λ hops among places. put.placed hops (λ l any. among l (among-joined (λ (q : PartView S T). part_lanes q) ps c p was l any)) places;
+        placed = λ hops among places. put.placed hops (λ l any. among l (among-joined (λ (q : ChannelPartView S T). part_lanes q) ps c p was l any)) places;
         few = few-done put.few;
       }
         where
@@ -246,7 +246,7 @@ module _ {S T : Type 0} (ps : List (PartView S T)) (c : ℕ) (p p' : PartView S 
       module _ (is_spent : S → Bool) (e : Envelope) (b : OutputsView) (answer : Took) (a : OutputsView) (of : e.lane.channel ≡ c) (t : Taken meaning stands_after state is_spent p e b answer p' a) where
         pub take-view : NodesTake (channels_view meaning ps) e b (channels_view meaning changed) a
         take-view = record {
-          puts = subst (λ (x : ℕ). NodesPut (channels_view meaning ps) x b (channels_view meaning changed) a) (sym (at-was (λ (q : PartView S T). executor_at q e.lane.hop) 0 e.lane.channel of)) (puts e.lane.hop b a t.puts);
+          puts = subst (λ (x : ℕ). NodesPut (channels_view meaning ps) x b (channels_view meaning changed) a) (sym (at-was (λ (q : ChannelPartView S T). executor_at q e.lane.hop) 0 e.lane.channel of)) (puts e.lane.hop b a t.puts);
           taken = taken-one e of t.taken;
           more = done-more (length a.items) (length b.items) 1 t.more;
           longer = t.puts.longer;
@@ -256,14 +256,14 @@ module _ {S T : Type 0} (ps : List (PartView S T)) (c : ℕ) (p p' : PartView S 
         take-stands good = still-stand (t.holds world part-stands.holds good) t.puts.same t.puts.few
 
         pub take-makes : IsGood world e → NodesMake world (channels_view meaning ps) (target_of ps e.lane) b (channels_view meaning changed) a
-        take-makes good = subst (λ (x : ℕ). NodesMake world (channels_view meaning ps) x b (channels_view meaning changed) a) (sym (at-was (λ (q : PartView S T). executor_at q e.lane.hop) 0 e.lane.channel of))
+        take-makes good = subst (λ (x : ℕ). NodesMake world (channels_view meaning ps) x b (channels_view meaning changed) a) (sym (at-was (λ (q : ChannelPartView S T). executor_at q e.lane.hop) 0 e.lane.channel of))
             (makes e.lane.hop b a t.puts.others (t.made world part-stands.holds good))
 
       -- the head has moved
       module _ (b a : OutputsView) (t : Given meaning stands_after state p (head_hop p) b p' a) where
         pub give-view : NodesGive (channels_view meaning ps) (home_of ps c) b (channels_view meaning changed) a
         give-view = record {
-          puts = subst (λ (x : ℕ). NodesPut (channels_view meaning ps) x b (channels_view meaning changed) a) (sym (at-was (λ (q : PartView S T). executor_at q (head_hop q)) 0 c refl)) (puts (head_hop p) b a t.puts);
+          puts = subst (λ (x : ℕ). NodesPut (channels_view meaning ps) x b (channels_view meaning changed) a) (sym (at-was (λ (q : ChannelPartView S T). executor_at q (head_hop q)) 0 c refl)) (puts (head_hop p) b a t.puts);
           taken = taken-none t.taken;
           more = let n = t.more in let m = done-more (length a.items) (length b.items) 0 (omega (arith, n)) in omega (arith, m);
         }
@@ -272,7 +272,7 @@ module _ {S T : Type 0} (ps : List (PartView S T)) (c : ℕ) (p p' : PartView S 
         give-stands = still-stand (t.holds world part-stands.holds) t.puts.same t.puts.few
 
         pub give-makes : NodesMake world (channels_view meaning ps) (home_of ps c) b (channels_view meaning changed) a
-        give-makes = subst (λ (x : ℕ). NodesMake world (channels_view meaning ps) x b (channels_view meaning changed) a) (sym (at-was (λ (q : PartView S T). executor_at q (head_hop q)) 0 c refl))
+        give-makes = subst (λ (x : ℕ). NodesMake world (channels_view meaning ps) x b (channels_view meaning changed) a) (sym (at-was (λ (q : ChannelPartView S T). executor_at q (head_hop q)) 0 c refl))
             (makes (head_hop p) b a t.puts.others (t.made world part-stands.holds))
 
       -- an envelope of a lane that is written is the next for its part
@@ -281,17 +281,17 @@ module _ {S T : Type 0} (ps : List (PartView S T)) (c : ℕ) (p p' : PartView S 
       next-for e b of writes number good places = record {
         holds = part-stands.holds;
         entered =
-            let w = is-written e.lane (and_parts (nat_lt e.lane.hop (length p.path.executors)) (part_writes meaning p e.lane) (sym (at-was (λ (q : PartView S T). writes_here meaning q e.lane) false e.lane.channel of) ∙ writes)).1 in
+            let w = is-written e.lane (and_parts (nat_lt e.lane.hop (length p.path.executors)) (part_writes meaning p e.lane) (sym (at-was (λ (q : ChannelPartView S T). writes_here meaning q e.lane) false e.lane.channel of) ∙ writes)).1 in
             enters p part-stands.holds.hops part-stands.whole e.lane w.channel w.hop;
-        number = number ∙ at-was (λ (q : PartView S T). part_taken q e.lane) 0 e.lane.channel of;
+        number = number ∙ at-was (λ (q : ChannelPartView S T). part_taken q e.lane) 0 e.lane.channel of;
         good = good;
         places = places-of b places;
       }
 
 -- a lane that is written has a channel
-pub channel-there : {S T : Type 0} (meaning : S → Meaning) (ps : List (PartView S T)) (l : Lane) → writes_of meaning ps l ≡ true → l.channel < length ps
+pub channel-there : {S T : Type 0} (meaning : S → Meaning) (ps : List (ChannelPartView S T)) (l : Lane) → writes_of meaning ps l ≡ true → l.channel < length ps
 channel-there meaning ps l writes = by (slice_get ps l.channel) refl writes
   where
-    by : (o : Option (PartView _ _)) → slice_get ps l.channel ≡ o → option_map_or (λ (p : PartView _ _). writes_here meaning p l) o false ≡ true → l.channel < length ps
+    by : (o : Option (ChannelPartView _ _)) → slice_get ps l.channel ≡ o → option_map_or (λ (p : ChannelPartView _ _). writes_here meaning p l) o false ≡ true → l.channel < length ps
     by None at w = absurd (false≢true w)
     by (Some p) at w = slice_get_within ps l.channel p at

@@ -6,7 +6,7 @@ use Rattle.pl_event.specs.declared.events.Event.{Event}
 use Rattle.pl_event.specs.Meaning.{Meaning}
 use Rattle.pl_event.proofs.Lists.{slice_get-push}
 use Rattle.pl_head.specs.Transports.{TransportState}
-use Rattle.pl_part.specs.Parts.{PartView}
+use Rattle.pl_part.specs.Parts.{ChannelPartView}
 use Rattle.pl_replay.specs.Starts.{IsPlaced, ArePlaced}
 use Rattle.pl_world.specs.declared.session.Recorded.{Recorded}
 
@@ -14,14 +14,14 @@ module _ {S T : Type 0} (meaning : S → Meaning) (stands_after : S → List Eve
   pub placed-none : ArePlaced meaning stands_after state [] []
   placed-none = record { count = refl; each = λ n r part is at. cc }
 
-  pub placed-push : (rs : List (Recorded S T)) (parts : List (PartView S T)) (r : Recorded S T) (part : PartView S T) → ArePlaced meaning stands_after state rs parts
+  pub placed-push : (rs : List (Recorded S T)) (parts : List (ChannelPartView S T)) (r : Recorded S T) (part : ChannelPartView S T) → ArePlaced meaning stands_after state rs parts
       → IsPlaced meaning stands_after state (length parts) r part → ArePlaced meaning stands_after state (rs ++ r ∷ []) (parts ++ part ∷ [])
   placed-push rs parts r part so_far new = record {
     count = length_push parts part ∙ ap (λ (n : ℕ). n + 1) so_far.count ∙ sym (length_push rs r);
     each = each;
   }
     where
-      each : (number : ℕ) (q : Recorded S T) (other : PartView S T) → slice_get (rs ++ r ∷ []) number ≡ Some q → slice_get (parts ++ part ∷ []) number ≡ Some other
+      each : (number : ℕ) (q : Recorded S T) (other : ChannelPartView S T) → slice_get (rs ++ r ∷ []) number ≡ Some q → slice_get (parts ++ part ∷ []) number ≡ Some other
           → IsPlaced meaning stands_after state number q other
       each number q other is at = elim (slice_get-push rs r q number is) [
         | inl old ↦ elim (slice_get-push parts part other number at) [
@@ -33,6 +33,6 @@ module _ {S T : Type 0} (meaning : S → Meaning) (stands_after : S → List Eve
           | inr last ↦
               subst (λ (n : ℕ). IsPlaced meaning stands_after state n q other) (sym last.0)
               (subst (λ (s : Recorded S T). IsPlaced meaning stands_after state (length parts) s other) (sym newest.1)
-              (subst (λ (o : PartView S T). IsPlaced meaning stands_after state (length parts) r o) (sym last.1) new))
+              (subst (λ (o : ChannelPartView S T). IsPlaced meaning stands_after state (length parts) r o) (sym last.1) new))
         ]
       ]

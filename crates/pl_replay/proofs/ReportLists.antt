@@ -9,7 +9,7 @@ use Rattle.pl_event.proofs.Lists.{list_all_push}
 use Rattle.pl_context.specs.TailViews.{TailView}
 use Rattle.pl_head.specs.Transports.{TransportState}
 use Rattle.pl_head.specs.HeadStand.{HeadView}
-use Rattle.pl_part.specs.Parts.{PartView}
+use Rattle.pl_part.specs.Parts.{ChannelPartView}
 use Rattle.pl_channel.specs.Ends.{EndsHold}
 use Rattle.pl_world.specs.declared.report.ChannelReport.{ChannelReport}
 use Rattle.pl_world.specs.declared.report.Stands.{Stands}
@@ -56,7 +56,7 @@ all_keep (p ∷ ps) [] each = elim each [ ]
 
 module _ {S T : Type 0} (state : T → TransportState) where
   -- the ends of a part are the only ones that it has
-  pub reports_its_plan : (part : PartView S T) (own : HasEnds part) (report : ChannelReport)
+  pub reports_its_plan : (part : ChannelPartView S T) (own : HasEnds part) (report : ChannelReport)
       → ((plan : Plan) (number : ℕ) (p : ChannelPlan) → EndsHold state false plan number p own.tail own.head → (own.head.failure ≡ Some Aborted → is_some p.abort_after ≡ true) → ReportsPlan p report)
       → ReportsItsPlan state part report
   reports_its_plan part own report planned plan number p ends held aborted =
@@ -67,14 +67,14 @@ module _ {S T : Type 0} (state : T → TransportState) where
       (subst (λ (head : HeadView T). head.failure ≡ Some Aborted → is_some p.abort_after ≡ true) head aborted)
 
   -- each report is one of its channel's plan
-  pub all_planned : (plan : Plan) (parts : List (PartView S T)) (reports : List ChannelReport) → AllZip (ReportsItsPlan state) parts reports → HaveEnds state plan parts → AllReportPlan plan.channels reports
+  pub all_planned : (plan : Plan) (parts : List (ChannelPartView S T)) (reports : List ChannelReport) → AllZip (ReportsItsPlan state) parts reports → HaveEnds state plan parts → AllReportPlan plan.channels reports
   all_planned plan parts reports each have =
       zip_through (ReportsItsPlan state) ReportsPlan plan.channels parts reports have.count
       (λ c p part planned there r reported. let held = have.each c p part planned there in reported plan c p held.0 held.1 held.2)
       each
 
   -- the next part is looked at
-  pub one_more_drained : (parts : List (PartView S T)) (i : ℕ) (part : PartView S T) (b : Bool) (s : Stands) (here : Bool) → i < length parts → part ≡ get_or parts i part → here ≡ is_drained s
+  pub one_more_drained : (parts : List (ChannelPartView S T)) (i : ℕ) (part : ChannelPartView S T) (b : Bool) (s : Stands) (here : Bool) → i < length parts → part ≡ get_or parts i part → here ≡ is_drained s
       → AreDrained state (take i parts) b → IsPartStands state part s → AreDrained state (take (i + 1) parts) (b && here)
   one_more_drained parts i part b s here there item is so_far one = record {
     stands = so_far.stands ++ s ∷ [];

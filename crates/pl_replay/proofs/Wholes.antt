@@ -19,7 +19,7 @@ use Rattle.pl_head.specs.Transports.{TransportState}
 use Rattle.pl_part.specs.ContextHolds.{context_writes}
 use Rattle.pl_part.specs.HeadHolds.{head_writes}
 use Rattle.pl_part.specs.Paths.{IsAt, context_at, writer_hop, enters_path}
-use Rattle.pl_part.specs.Parts.{PartView, PartHolds, head_hop, has_entered, part_writes}
+use Rattle.pl_part.specs.Parts.{ChannelPartView, PartHolds, head_hop, has_entered, part_writes}
 use Rattle.pl_replay.specs.Channels.{IsWhole, is_hop}
 
 -- ---- slots
@@ -74,7 +74,7 @@ down-within Outbound hop k n h t down = omega (arith, h, t)
 
 -- ---- hops
 
-module _ {S T : Type 0} (p : PartView S T) (l : Lane) (hops : length p.path.executors ≡ head_hop p + 1) where
+module _ {S T : Type 0} (p : ChannelPartView S T) (l : Lane) (hops : length p.path.executors ≡ head_hop p + 1) where
   abbrev lower : Bool
   lower = nat_lt (l.hop + 1) (length p.path.executors)
 
@@ -113,7 +113,7 @@ module _ {S T : Type 0} (p : PartView S T) (l : Lane) (hops : length p.path.exec
 
 -- ---- one part with all nodes
 
-module _ {S T : Type 0} (p : PartView S T) (hops : length p.path.executors ≡ head_hop p + 1) (whole : IsWhole p) where
+module _ {S T : Type 0} (p : ChannelPartView S T) (hops : length p.path.executors ≡ head_hop p + 1) (whole : IsWhole p) where
   pub tail-within : p.path.tail_hop < head_hop p
   tail-within = let size = filled-count p.path.contexts p.path.tail_hop whole.outbound whole.filled in omega (arith, size)
 
@@ -139,7 +139,7 @@ module _ {S T : Type 0} (p : PartView S T) (hops : length p.path.executors ≡ h
 
 -- ---- one part
 
-module _ {S T : Type 0} (world : World) (meaning : S → Meaning) (stands_after : S → List Event → Type 0) (state : T → TransportState) (p : PartView S T) (holds : PartHolds world meaning stands_after state p)
+module _ {S T : Type 0} (world : World) (meaning : S → Meaning) (stands_after : S → List Event → Type 0) (state : T → TransportState) (p : ChannelPartView S T) (holds : PartHolds world meaning stands_after state p)
     (tail-below : p.path.tail_hop < head_hop p) where
   pub record IsWritten (l : Lane) : Type 0 where
     pub channel : l.channel ≡ p.path.channel

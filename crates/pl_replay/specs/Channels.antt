@@ -20,53 +20,53 @@ use Rattle.pl_head.specs.ReadSteps.{has_step}
 use Rattle.pl_head.specs.Transports.{TransportState}
 use Rattle.pl_head.specs.HeadStand.{HeadView, StandsAfter, ReadsStand, is_held, is_idle}
 use Rattle.pl_part.specs.Paths.{writer_hop}
-use Rattle.pl_part.specs.Parts.{PartView, SamePart, PartHolds, PartTakes, PartMoves, head_hop, part_taken, part_lanes, part_writes, part_came}
+use Rattle.pl_part.specs.Parts.{ChannelPartView, SamePart, PartHolds, PartTakes, PartMoves, head_hop, part_taken, part_lanes, part_writes, part_came}
 use Rattle.pl_net.specs.NodesViews.{NodesView}
 use Rattle.pl_part.specs.Counts.{part_done}
 
 -- ---- where lanes go, and how far they have come
 
 -- a lane enters a node of the part's channel, wherever that is: at the last hop, the head's, data alone
-abbrev pub is_hop : {S T : Type 0} → PartView S T → Lane → Bool
+abbrev pub is_hop : {S T : Type 0} → ChannelPartView S T → Lane → Bool
 is_hop p l = nat_lt (l.hop + 1) (length p.path.executors) || ((l.hop + 1 == length p.path.executors) && same_kind l.kind Data)
 
 -- the executor of what the lanes of a hop enter
-abbrev pub executor_at : {S T : Type 0} → PartView S T → ℕ → ℕ
+abbrev pub executor_at : {S T : Type 0} → ChannelPartView S T → ℕ → ℕ
 executor_at p hop = get_or p.path.executors hop 0
 
 -- by channel, where there is one
-abbrev pub home_of : {S T : Type 0} → List (PartView S T) → ℕ → ℕ
-home_of ps c = option_map_or (λ (p : PartView _ _). executor_at p (head_hop p)) (slice_get ps c) 0
+abbrev pub home_of : {S T : Type 0} → List (ChannelPartView S T) → ℕ → ℕ
+home_of ps c = option_map_or (λ (p : ChannelPartView _ _). executor_at p (head_hop p)) (slice_get ps c) 0
 
 -- by lane, where it has a channel
-abbrev pub target_of : {S T : Type 0} → List (PartView S T) → Lane → ℕ
-target_of ps l = option_map_or (λ (p : PartView _ _). executor_at p l.hop) (slice_get ps l.channel) 0
+abbrev pub target_of : {S T : Type 0} → List (ChannelPartView S T) → Lane → ℕ
+target_of ps l = option_map_or (λ (p : ChannelPartView _ _). executor_at p l.hop) (slice_get ps l.channel) 0
 
-abbrev pub origin_of : {S T : Type 0} → List (PartView S T) → Lane → ℕ
-origin_of ps l = option_map_or (λ (p : PartView _ _). executor_at p (writer_hop p.path l.hop)) (slice_get ps l.channel) 0
+abbrev pub origin_of : {S T : Type 0} → List (ChannelPartView S T) → Lane → ℕ
+origin_of ps l = option_map_or (λ (p : ChannelPartView _ _). executor_at p (writer_hop p.path l.hop)) (slice_get ps l.channel) 0
 
-abbrev pub taken_of : {S T : Type 0} → List (PartView S T) → Lane → ℕ
-taken_of ps l = option_map_or (λ (p : PartView _ _). part_taken p l) (slice_get ps l.channel) 0
+abbrev pub taken_of : {S T : Type 0} → List (ChannelPartView S T) → Lane → ℕ
+taken_of ps l = option_map_or (λ (p : ChannelPartView _ _). part_taken p l) (slice_get ps l.channel) 0
 
 -- for these there have to be places on a work list
-abbrev pub lanes_of : {S T : Type 0} → List (PartView S T) → List Lane
-lanes_of ps = flat_map (λ (p : PartView _ _). part_lanes p) ps
+abbrev pub lanes_of : {S T : Type 0} → List (ChannelPartView S T) → List Lane
+lanes_of ps = flat_map (λ (p : ChannelPartView _ _). part_lanes p) ps
 
-abbrev pub done_of : {S T : Type 0} → List (PartView S T) → ℕ
-done_of ps = sum_by (λ (p : PartView _ _). part_done p) ps
+abbrev pub done_of : {S T : Type 0} → List (ChannelPartView S T) → ℕ
+done_of ps = sum_by (λ (p : ChannelPartView _ _). part_done p) ps
 
 module _ {S T : Type 0} (meaning : S → Meaning) where
   -- a node of the part writes the lane, and its hop has an executor
-  abbrev pub writes_here : PartView S T → Lane → Bool
+  abbrev pub writes_here : ChannelPartView S T → Lane → Bool
   writes_here p l = nat_lt l.hop (length p.path.executors) && part_writes meaning p l
 
-  abbrev pub writes_of : List (PartView S T) → Lane → Bool
-  writes_of ps l = option_map_or (λ (p : PartView S T). writes_here p l) (slice_get ps l.channel) false
+  abbrev pub writes_of : List (ChannelPartView S T) → Lane → Bool
+  writes_of ps l = option_map_or (λ (p : ChannelPartView S T). writes_here p l) (slice_get ps l.channel) false
 
-  abbrev pub came_of : List (PartView S T) → Lane → Point
-  came_of ps l = option_map_or (λ (p : PartView S T). part_came meaning p l) (slice_get ps l.channel) nowhere
+  abbrev pub came_of : List (ChannelPartView S T) → Lane → Point
+  came_of ps l = option_map_or (λ (p : ChannelPartView S T). part_came meaning p l) (slice_get ps l.channel) nowhere
 
-  abbrev pub channels_view : List (PartView S T) → NodesView
+  abbrev pub channels_view : List (ChannelPartView S T) → NodesView
   channels_view ps = record {
     home = home_of ps;
     target = target_of ps;
@@ -81,7 +81,7 @@ module _ {S T : Type 0} (meaning : S → Meaning) where
 -- ---- the stand
 
 -- The part has all nodes of its channel: a context at each hop but the tail's and its own last, the tail and the head.
-pub record IsWhole {S T : Type 0} (p : PartView S T) : Type 0 where
+pub record IsWhole {S T : Type 0} (p : ChannelPartView S T) : Type 0 where
   pub outbound : ℕ
   pub filled : map (λ (slot : Option (ContextView S)). is_some slot) p.path.contexts ≡ replicate p.path.tail_hop true ++ false ∷ replicate outbound true
   pub tail : is_some p.path.tail ≡ true
@@ -89,49 +89,49 @@ pub record IsWhole {S T : Type 0} (p : PartView S T) : Type 0 where
 
 module _ {S T : Type 0} (world : World) (meaning : S → Meaning) (stands_after : S → List Event → Type 0) (state : T → TransportState) where
   -- The part of a channel, with all of its nodes, holds, and has done little enough to be counted.
-  pub record PartStands (c : ℕ) (p : PartView S T) : Type 0 where
+  pub record PartStands (c : ℕ) (p : ChannelPartView S T) : Type 0 where
     pub holds : PartHolds world meaning stands_after state p
     pub channel : p.path.channel ≡ c
     pub whole : IsWhole p
     pub few : part_done p < 2 ^ 50
 
   -- So does that of each channel.
-  pub record ChannelsStand (ps : List (PartView S T)) : Type 0 where
-    pub parts : (c : ℕ) (p : PartView S T) → slice_get ps c ≡ Some p → PartStands c p
+  pub record ChannelsStand (ps : List (ChannelPartView S T)) : Type 0 where
+    pub parts : (c : ℕ) (p : ChannelPartView S T) → slice_get ps c ≡ Some p → PartStands c p
     pub few : length ps ≤ 2 ^ 8
 
 -- ---- what the node of a channel does
 
 -- The part of a channel has done this, and the others are as they were.
-pub record HasMoved {S T : Type 0} (does : PartView S T → PartView S T → Type 0) (ps : List (PartView S T)) (c : ℕ) (ps' : List (PartView S T)) : Type 0 where
-  pub before : PartView S T
-  pub after : PartView S T
+pub record HasMoved {S T : Type 0} (does : ChannelPartView S T → ChannelPartView S T → Type 0) (ps : List (ChannelPartView S T)) (c : ℕ) (ps' : List (ChannelPartView S T)) : Type 0 where
+  pub before : ChannelPartView S T
+  pub after : ChannelPartView S T
   pub was : slice_get ps c ≡ Some before
   pub becomes : ps' ≡ slice_set ps c after
   pub same : SamePart before after
   pub done : does before after
 
 -- The part of the envelope's channel has taken it.
-abbrev pub IsTakenBy : {S T : Type 0} → (S → Meaning) → (S → List Event → Type 0) → (S → Bool) → (T → TransportState) → List (PartView S T) → Envelope → OutputsView → List (PartView S T) → OutputsView → Type 0
+abbrev pub IsTakenBy : {S T : Type 0} → (S → Meaning) → (S → List Event → Type 0) → (S → Bool) → (T → TransportState) → List (ChannelPartView S T) → Envelope → OutputsView → List (ChannelPartView S T) → OutputsView → Type 0
 IsTakenBy meaning stands_after is_spent state ps e before ps' after =
-    HasMoved (λ (p p' : PartView _ _). (answer : Took) × PartTakes meaning stands_after is_spent state p e before answer p' after) ps e.lane.channel ps'
+    HasMoved (λ (p p' : ChannelPartView _ _). (answer : Took) × PartTakes meaning stands_after is_spent state p e before answer p' after) ps e.lane.channel ps'
 
 module _ {S T : Type 0} (state : T → TransportState) where
   -- The head of a channel has made a move.
-  abbrev pub IsMovedBy : (T → ℕ → Type 0) → List (PartView S T) → HeadMove → ℕ → OutputsView → List (PartView S T) → OutputsView → Type 0
-  IsMovedBy may_refuse ps by c before ps' after = HasMoved (λ (p p' : PartView S T). PartMoves state may_refuse p by before true p' after) ps c ps'
+  abbrev pub IsMovedBy : (T → ℕ → Type 0) → List (ChannelPartView S T) → HeadMove → ℕ → OutputsView → List (ChannelPartView S T) → OutputsView → Type 0
+  IsMovedBy may_refuse ps by c before ps' after = HasMoved (λ (p p' : ChannelPartView S T). PartMoves state may_refuse p by before true p' after) ps c ps'
 
   -- Whether its next read step is enabled: one is left and not held, whichever steps were made.
-  abbrev pub MayRead : List (PartView S T) → ℕ → Bool → Type 0
-  MayRead ps c b = (p : PartView S T) (h : HeadView T) (plan : ReadPlan) (reads : ℕ) (failed : Bool) (ys zs : List Event) (sizes : List Change) → slice_get ps c ≡ Some p → p.head ≡ Some h
+  abbrev pub MayRead : List (ChannelPartView S T) → ℕ → Bool → Type 0
+  MayRead ps c b = (p : ChannelPartView S T) (h : HeadView T) (plan : ReadPlan) (reads : ℕ) (failed : Bool) (ys zs : List Event) (sizes : List Change) → slice_get ps c ≡ Some p → p.head ≡ Some h
       → ReadsStand plan reads failed h → StandsAfter state h ys zs sizes → b ≡ (has_step plan reads failed && not (is_held state plan reads h ys))
 
   -- Whether a write of its is: it would not be idle.
-  abbrev pub MayWrite : List (PartView S T) → ℕ → Bool → Type 0
-  MayWrite ps c b = (p : PartView S T) (h : HeadView T) (ys zs : List Event) (sizes : List Change) → slice_get ps c ≡ Some p → p.head ≡ Some h
+  abbrev pub MayWrite : List (ChannelPartView S T) → ℕ → Bool → Type 0
+  MayWrite ps c b = (p : ChannelPartView S T) (h : HeadView T) (ys zs : List Event) (sizes : List Change) → slice_get ps c ≡ Some p → p.head ≡ Some h
       → StandsAfter state h ys zs sizes → b ≡ not (is_idle state h ys)
 
   -- Whether a move of its is.
-  abbrev pub MayMove : List (PartView S T) → HeadMove → ℕ → Bool → Type 0
+  abbrev pub MayMove : List (ChannelPartView S T) → HeadMove → ℕ → Bool → Type 0
   MayMove ps head.Read c b = MayRead ps c b
   MayMove ps head.Out c b = MayWrite ps c b

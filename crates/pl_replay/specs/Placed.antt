@@ -6,45 +6,45 @@ use Rattle.pl_event.specs.Hops.{data_lane}
 use Rattle.pl_context.specs.Stops.{HasPlaces, has_stopped, no_stops}
 use Rattle.pl_context.specs.WaitingViews.{Holds}
 use Rattle.pl_part.specs.Paths.{writer_hop}
-use Rattle.pl_part.specs.Parts.{PartView, head_hop, part_lanes}
+use Rattle.pl_part.specs.Parts.{ChannelPartView, head_hop, part_lanes}
 use Rattle.pl_net.specs.Nets.{ExecutorView, stops_at}
 
 module _ {S T : Type 0} where
   -- Each hop has an executor, and so has the node that writes its lanes.
-  pub record HasExecutors (p : PartView S T) : Type 0 where
+  pub record HasExecutors (p : ChannelPartView S T) : Type 0 where
     pub hops : length p.path.executors ≡ head_hop p + 1
     pub turn : p.path.turn < head_hop p
 
   -- the lanes of a hop go from executor x to executor y
-  abbrev pub goes_between : ℕ → ℕ → PartView S T → ℕ → Bool
+  abbrev pub goes_between : ℕ → ℕ → ChannelPartView S T → ℕ → Bool
   goes_between x y p hop = (get_or p.path.executors (writer_hop p.path hop) 0 == x) && (get_or p.path.executors hop 0 == y)
 
   -- the hops whose lanes do
-  abbrev pub hops_between : ℕ → ℕ → PartView S T → List ℕ
+  abbrev pub hops_between : ℕ → ℕ → ChannelPartView S T → List ℕ
   hops_between x y p = filter (goes_between x y p) (range_with_len 0 (length p.path.executors))
 
   -- the data lanes of all parts
-  abbrev pub all_lanes : List (PartView S T) → List Lane
+  abbrev pub all_lanes : List (ChannelPartView S T) → List Lane
   all_lanes ps = flat_map part_lanes ps
 
   -- So few that a number of 16 bits counts them, and each has its executors.
-  pub record ArePlaceable (ps : List (PartView S T)) : Type 0 where
+  pub record ArePlaceable (ps : List (ChannelPartView S T)) : Type 0 where
     pub few : length (all_lanes ps) < 2 ^ 16
     pub hops : All HasExecutors ps
 
   -- those from executor x to executor y
-  abbrev pub lanes_between : List (PartView S T) → ℕ → ℕ → List Lane
+  abbrev pub lanes_between : List (ChannelPartView S T) → ℕ → ℕ → List Lane
   lanes_between ps x y = flat_map (λ p. map (λ hop. data_lane p.path.channel hop) (hops_between x y p)) ps
 
   -- Nothing waits at executor x, and it has places for the lanes from it to each of so many.
-  pub record IsIdle (ps : List (PartView S T)) (count x : ℕ) (e : ExecutorView) : Type 0 where
+  pub record IsIdle (ps : List (ChannelPartView S T)) (count x : ℕ) (e : ExecutorView) : Type 0 where
     pub queue : e.queue ≡ []
     pub waiting : Holds e.waiting []
     pub added : e.waiting.added ≡ 0
     pub places : map (λ b. b.stopped) e.waiting.targets ≡ map (λ y. no_stops (length (lanes_between ps x y))) (range_with_len 0 count)
 
   -- So many executors at which nothing waits, each with places for the lanes from it to each.
-  pub record AreIdle (ps : List (PartView S T)) (so_many : ℕ) (executors : List ExecutorView) : Type 0 where
+  pub record AreIdle (ps : List (ChannelPartView S T)) (so_many : ℕ) (executors : List ExecutorView) : Type 0 where
     pub count : length executors ≡ so_many
     pub queues : (y : ℕ) (e : ExecutorView) → slice_get executors y ≡ Some e → (e.queue ≡ []) × Holds e.waiting [] × (e.waiting.added ≡ 0) × (length e.waiting.targets ≡ length executors)
     pub unstopped : (y z : ℕ) (l : Lane) → has_stopped (stops_at executors y z) l ≡ false

@@ -4,7 +4,7 @@ use Rattle.pl_event.specs.declared.events.Event.{Event}
 use Rattle.pl_event.specs.Meaning.{Meaning}
 use Rattle.pl_context.specs.Stops.{no_stops}
 use Rattle.pl_head.specs.Transports.{TransportState}
-use Rattle.pl_part.specs.Parts.{PartView, PartHolds}
+use Rattle.pl_part.specs.Parts.{ChannelPartView, PartHolds}
 use Rattle.pl_net.specs.Cores.{core_view}
 use Rattle.pl_net.specs.Nets.{CoreView, IsStart, no_backlogs}
 use Rattle.pl_net.specs.declared.cores.Core.{Core}
@@ -21,7 +21,7 @@ abbrev pub transports_of : {S T : Type 0} → List (Recorded S T) → List T
 transports_of channels = map (λ c. c.transport) channels
 
 -- The contexts of a part are those of stages that mean what the plan says, in the order of the two chains, and have had no step.
-pub record HasPlannedStages {S T : Type 0} (meaning : S → Meaning) (stands_after : S → List Event → Type 0) (number : ℕ) (p : ChannelPlan) (part : PartView S T) : Type 0 where
+pub record HasPlannedStages {S T : Type 0} (meaning : S → Meaning) (stands_after : S → List Event → Type 0) (number : ℕ) (p : ChannelPlan) (part : ChannelPartView S T) : Type 0 where
   pub inbound : List S
   pub outbound : List S
   pub inbound_are : map meaning inbound ≡ p.inbound
@@ -31,22 +31,22 @@ pub record HasPlannedStages {S T : Type 0} (meaning : S → Meaning) (stands_aft
 module _ {S T : Type 0} (meaning : S → Meaning) (stands_after : S → List Event → Type 0) (state : T → TransportState) where
   -- A part has all nodes of a recorded channel, of which none has taken or made anything, and holds in the worlds of each plan
   -- that has it under this number.
-  pub record IsPlaced (number : ℕ) (r : Recorded S T) (part : PartView S T) : Type 0 where
+  pub record IsPlaced (number : ℕ) (r : Recorded S T) (part : ChannelPartView S T) : Type 0 where
     pub whole : IsWhole state number (channel_planned meaning state r) r.transport part
     pub stages : HasNewStages meaning stands_after number r.pipeline.inbound r.pipeline.outbound part
     pub unmoved : IsUnmoved meaning part
     pub holds : (refuses : Bool) (plan : Plan) → slice_get plan.channels number ≡ Some (channel_planned meaning state r) → PartHolds (world_of refuses plan) meaning stands_after state part
 
   -- So does each of recorded channels, by number.
-  pub record ArePlaced (rs : List (Recorded S T)) (parts : List (PartView S T)) : Type 0 where
+  pub record ArePlaced (rs : List (Recorded S T)) (parts : List (ChannelPartView S T)) : Type 0 where
     pub count : length parts ≡ length rs
-    pub each : (number : ℕ) (r : Recorded S T) (part : PartView S T) → slice_get rs number ≡ Some r → slice_get parts number ≡ Some part → IsPlaced number r part
+    pub each : (number : ℕ) (r : Recorded S T) (part : ChannelPartView S T) → slice_get rs number ≡ Some r → slice_get parts number ≡ Some part → IsPlaced number r part
 
   -- Before any move: each channel of the plan has all its nodes, over one of these transports; nothing was taken, made or handed
   -- over, and no lane has stopped.
   pub record Begins (plan : Plan) (transports : List T) (c : CoreView (Channels S T)) : Type 0 where
     pub channels : length c.nodes.parts.items ≡ length plan.channels
-    pub each : (number : ℕ) (p : ChannelPlan) (transport : T) (part : PartView S T) → slice_get plan.channels number ≡ Some p → slice_get transports number ≡ Some transport → slice_get c.nodes.parts.items number ≡ Some part
+    pub each : (number : ℕ) (p : ChannelPlan) (transport : T) (part : ChannelPartView S T) → slice_get plan.channels number ≡ Some p → slice_get transports number ≡ Some transport → slice_get c.nodes.parts.items number ≡ Some part
         → IsWhole state number p transport part × HasPlannedStages meaning stands_after number p part × IsUnmoved meaning part × PartHolds (world_of false plan) meaning stands_after state part
     pub executors : length c.executors ≡ plan.executors
     pub start : IsStart (channels_view meaning c.nodes.parts.items) c.executors

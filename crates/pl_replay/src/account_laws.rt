@@ -10,7 +10,7 @@ ghost use Rattle.pl_flow.specs.Flows.{point, on, IsFlow, past};
 ghost use Rattle.pl_net.specs.Nets.{queue_at, stops_at, envelopes};
 ghost use Rattle.pl_net.specs.Numbers.{handed_of, made_of};
 ghost use Rattle.pl_net.specs.declared.cores.Core.{Core};
-ghost use Rattle.pl_part.specs.Parts.{PartView};
+ghost use Rattle.pl_part.specs.Parts.{ChannelPartView};
 ghost use Rattle.pl_part.specs.Paths.{context_at, writer_hop};
 ghost use Rattle.pl_channel.specs.Lanes.{world_of};
 ghost use Rattle.pl_world.specs.Plans.{Plan};
@@ -51,7 +51,7 @@ pub fn account_law<S: Stage, T: Transport>()
         × (made_of (channels_view S.meaning net.nodes.parts.items) net.executors.items backlogs l ≡ taken_of net.nodes.parts.items l) }
     // A lane that an open context writes has come so far as what its stage makes of the events that it has taken.
     ensures given { (plan : Plan) (backlogs : ℕ → List (Entry Unit)) (net : Core (Channels S T)) → NetStands S.meaning S.stands_after T.state plan backlogs net
-        → (l : Lane) (part : PartView S T) (c : ContextView S) → slice_get net.nodes.parts.items l.channel ≡ Some part → (l.hop == 0) ≡ false → context_at part.path (writer_hop part.path l.hop) ≡ Some c → c.standing ≡ stands.Open
+        → (l : Lane) (part : ChannelPartView S T) (c : ContextView S) → slice_get net.nodes.parts.items l.channel ≡ Some part → (l.hop == 0) ≡ false → context_at part.path (writer_hop part.path l.hop) ≡ Some c → c.standing ≡ stands.Open
         → HasGiven S.meaning (world_of false plan) c l (came_of S.meaning net.nodes.parts.items l) }
 {
     pl_net::account_law()

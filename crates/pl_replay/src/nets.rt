@@ -5,7 +5,7 @@ ghost use Rattle.pl_context.specs.WaitingViews.{Entry};
 ghost use Rattle.pl_context.specs.TailViews.{TailView};
 ghost use Rattle.pl_net.specs.Cores.{core_view, IsUnmoved, IsUnmovedButRoom};
 ghost use Rattle.pl_net.specs.Nets.{LacksMemory};
-ghost use Rattle.pl_part.specs.Parts.{PartView};
+ghost use Rattle.pl_part.specs.Parts.{ChannelPartView};
 ghost use Rattle.pl_world.specs.declared.faults.ReplayFault.TheVariants as fault;
 ghost use Rattle.pl_world.specs.declared.limits.TheConstants.{MAX_CAPACITY};
 ghost use Rattle.pl_world.specs.declared.moves.Move.TheVariants.{Hand};
@@ -163,7 +163,7 @@ impl<S: Stage, T: Transport> Net<S, T> {
     /// writable again. None where there is no such channel.
     pub fn flags(&self, channel: u16) -> Option<&[bool]>
         ensures { MatchOption result (length self.now.nodes.parts.items ≤ channel)
-            (λ flags. (part : PartView S T) × (tail : TailView) × (slice_get self.now.nodes.parts.items channel ≡ Some part) × (part.path.tail ≡ Some tail) × (flags.now ≡ tail.flags)) }
+            (λ flags. (part : ChannelPartView S T) × (tail : TailView) × (slice_get self.now.nodes.parts.items channel ≡ Some part) × (part.path.tail ≡ Some tail) × (flags.now ≡ tail.flags)) }
     {
         match self.parts().get(channel as usize)?.tail() {
             Some(tail) => Some(tail.flags()),

@@ -1,6 +1,6 @@
 use Rattle.std.proofs.Common.{List, length, map, ap, sym, ◌∙◌, subst, arith}
 use Rattle.std.proofs.lemmas.List.{length-map}
-use Rattle.pl_part.specs.Parts.{PartView}
+use Rattle.pl_part.specs.Parts.{ChannelPartView}
 use Rattle.pl_replay.specs.Placed.{ArePlaceable}
 use Rattle.pl_executor.specs.declared.inbox.Inbox.{Inbox}
 use Rattle.pl_exec.specs.declared.nodes.OwnNodes.{OwnNodes}
@@ -16,22 +16,22 @@ telling-requires-clause-plan g c = c.requires.ready.ruled
 
 pub places-requires : goal.places-requires
 places-requires g c =
-    subst (λ (l : List (PartView g.row.S.Denot g.row.T.Denot)). ArePlaceable l) (sym c.as_slice.ensures.value)
+    subst (λ (l : List (ChannelPartView g.row.S.Denot g.row.T.Denot)). ArePlaceable l) (sym c.as_slice.ensures.value)
     (ready-placeable g.S.Stage.meaning g.S.Stage.stands_after g.T.Transport.state g.W.Planned.plan c.args.parts.items c.requires.ready)
 
 pub lane_table-requires : goal.lane_table-requires
 lane_table-requires g c =
-    subst (λ (l : List (PartView g.row.S.Denot g.row.T.Denot)). AreLaid l) (sym c.as_slice-2.ensures.value)
+    subst (λ (l : List (ChannelPartView g.row.S.Denot g.row.T.Denot)). AreLaid l) (sym c.as_slice-2.ensures.value)
     (ready-laid g.S.Stage.meaning g.S.Stage.stands_after g.T.Transport.state g.W.Planned.plan c.args.parts.items c.requires.ready)
 
 pub open_all-requires : goal.open_all-requires
 open_all-requires g c =
-    ready-open g.S.Stage.meaning g.S.Stage.stands_after g.T.Transport.state g.W.Planned.plan c.args.parts.items c.requires.ready c.args.count c.requires.executors (lanes_in c.in_ok-lanes.lanes.items) (c.in_ok-lanes.ensures ∙ ap (λ (l : List (PartView g.row.S.Denot g.row.T.Denot)). lane_table l c.args.count) c.as_slice-2.ensures.value) c.args.capacity c.requires.capacity
+    ready-open g.S.Stage.meaning g.S.Stage.stands_after g.T.Transport.state g.W.Planned.plan c.args.parts.items c.requires.ready c.args.count c.requires.executors (lanes_in c.in_ok-lanes.lanes.items) (c.in_ok-lanes.ensures ∙ ap (λ (l : List (ChannelPartView g.row.S.Denot g.row.T.Denot)). lane_table l c.args.count) c.as_slice-2.ensures.value) c.args.capacity c.requires.capacity
 
 pub executors-requires-clause-few : goal.executors-requires-clause-few
 executors-requires-clause-few g c =
     let view : Inbox g.row.W.Denot g.row.M.Denot g.row.M-Sender.Denot g.row.M-Taker.Denot → InboxView g.row.M.Denot = λ (i : Inbox g.row.W.Denot g.row.M.Denot g.row.M-Sender.Denot g.row.M-Taker.Denot). record { mailbox = i.mailbox; name = i.admission.name } in
-    let few = ready-executors g.S.Stage.meaning g.S.Stage.stands_after g.T.Transport.state g.W.Planned.plan c.args.parts.items c.requires.ready c.args.count c.requires.executors (lanes_in c.in_ok-lanes.lanes.items) (c.in_ok-lanes.ensures ∙ ap (λ (l : List (PartView g.row.S.Denot g.row.T.Denot)). lane_table l c.args.count) c.as_slice-2.ensures.value) in
+    let few = ready-executors g.S.Stage.meaning g.S.Stage.stands_after g.T.Transport.state g.W.Planned.plan c.args.parts.items c.requires.ready c.args.count c.requires.executors (lanes_in c.in_ok-lanes.lanes.items) (c.in_ok-lanes.ensures ∙ ap (λ (l : List (ChannelPartView g.row.S.Denot g.row.T.Denot)). lane_table l c.args.count) c.as_slice-2.ensures.value) in
     let same = ap (λ (l : List (Inbox g.row.W.Denot g.row.M.Denot g.row.M-Sender.Denot g.row.M-Taker.Denot)). length l) c.as_slice-3.ensures.value in
     let size = c.in_ok-inboxes.ensures.opened.count in
     omega (arith, few, same, size, length-map c.in_ok-inboxes.inboxes.items view)
@@ -41,10 +41,10 @@ executors-requires-clause-start g c =
     let view : Inbox g.row.W.Denot g.row.M.Denot g.row.M-Sender.Denot g.row.M-Taker.Denot → InboxView g.row.M.Denot = λ (i : Inbox g.row.W.Denot g.row.M.Denot g.row.M-Sender.Denot g.row.M-Taker.Denot). record { mailbox = i.mailbox; name = i.admission.name } in
     let opened = subst (λ (l : List (Inbox g.row.W.Denot g.row.M.Denot g.row.M-Sender.Denot g.row.M-Taker.Denot)). AreOpened g.M.Mailbox.is_taker g.M.Mailbox.takes_of g.M.Mailbox.is_sender g.M.Mailbox.sends_of (lanes_in c.in_ok-lanes.lanes.items) (map view l) c.in_ok-inboxes.ways.items)
     (sym c.as_slice-3.ensures.value) c.in_ok-inboxes.ensures.opened in
-    let reserved = c.in_ok-places.ensures ∙ ap (λ (l : List (PartView g.row.S.Denot g.row.T.Denot)). places_of l c.args.count) c.as_slice.ensures.value in
+    let reserved = c.in_ok-places.ensures ∙ ap (λ (l : List (ChannelPartView g.row.S.Denot g.row.T.Denot)). places_of l c.args.count) c.as_slice.ensures.value in
     telling-start g.S.Stage.meaning g.S.Stage.stands_after g.T.Transport.state g.W.Named.world g.W.Planned.plan g.M.Mailbox.is_taker g.M.Mailbox.takes_of g.M.Mailbox.is_sender g.M.Mailbox.sends_of
     (map view c.as_slice-3.result.now) c.in_ok-inboxes.ways.items c.in_ok-own.own.items c.in_ok-nodes.nodes.items c.in_ok-places.places.items c.in_ok-nodes.ensures.nodes c.in_ok-nodes.ensures.seated c.in_ok-nodes.ensures.here
-    (ready-start g.S.Stage.meaning g.S.Stage.stands_after g.T.Transport.state g.W.Planned.plan c.args.parts.items c.requires.ready c.args.count c.requires.executors (lanes_in c.in_ok-lanes.lanes.items) (c.in_ok-lanes.ensures ∙ ap (λ (l : List (PartView g.row.S.Denot g.row.T.Denot)). lane_table l c.args.count) c.as_slice-2.ensures.value)
+    (ready-start g.S.Stage.meaning g.S.Stage.stands_after g.T.Transport.state g.W.Planned.plan c.args.parts.items c.requires.ready c.args.count c.requires.executors (lanes_in c.in_ok-lanes.lanes.items) (c.in_ok-lanes.ensures ∙ ap (λ (l : List (ChannelPartView g.row.S.Denot g.row.T.Denot)). lane_table l c.args.count) c.as_slice-2.ensures.value)
     g.W.Named.world c.requires.world g.M.Mailbox.is_taker g.M.Mailbox.takes_of g.M.Mailbox.is_sender g.M.Mailbox.sends_of
     (map view c.as_slice-3.result.now) c.in_ok-inboxes.ways.items c.in_ok-own.own.items c.in_ok-places.places.items opened c.in_ok-own.ensures reserved)
 
@@ -56,7 +56,7 @@ report_of-requires-clause-executors g c =
 
 pub report_of-requires-clause-channels : goal.report_of-requires-clause-channels
 report_of-requires-clause-channels g c =
-    c.len-channels.ensures ∙ sym c.as_slice.ensures.len ∙ ap (λ (l : List (PartView g.row.S.Denot g.row.T.Denot)). length l) c.as_slice.ensures.value
+    c.len-channels.ensures ∙ sym c.as_slice.ensures.len ∙ ap (λ (l : List (ChannelPartView g.row.S.Denot g.row.T.Denot)). length l) c.as_slice.ensures.value
     ∙ ready-count g.S.Stage.meaning g.S.Stage.stands_after g.T.Transport.state g.W.Planned.plan c.args.parts.items c.requires.ready
 
 -- each executor has told its first turn

@@ -1,7 +1,7 @@
 use Rattle.std.proofs.Common.{◌++◌, ◌∷◌, [], List, map, ap, sym, subst, ◌∙◌, arith, append_assoc}
 use Rattle.std.proofs.lemmas.List.{map-append, nil_from_length}
 use Rattle.std.proofs.lemmas.List.Elements.{All-nil, All-push, All-same}
-use Rattle.pl_part.specs.Parts.{PartView}
+use Rattle.pl_part.specs.Parts.{ChannelPartView}
 use Rattle.pl_exec.specs.declared.nodes.OwnNodes.{OwnNodes}
 use Rattle.pl_exec.specs.declared.telling.TellingNodes.{TellingNodes}
 use Rattle.pl_exec.specs.OwnNodes.{AreOn}
@@ -43,7 +43,7 @@ loop-own-preserved g c =
       here =
           All-same KnowChannels c.push.new.self.items (c.loop-own.all.items ++ _ ∷ []) more
           (All-push KnowChannels c.loop-own.all.items _ inv.here
-          (subst (λ (l : List (PartView g.row.S.Denot g.row.T.Denot)). AreOn (λ p. p.path.executors) l own.number c.in_ok-here.here.items) c.as_slice-in-loop-own.ensures.value c.in_ok-here.ensures));
+          (subst (λ (l : List (ChannelPartView g.row.S.Denot g.row.T.Denot)). AreOn (λ p. p.path.executors) l own.number c.in_ok-here.here.items) c.as_slice-in-loop-own.ensures.value c.in_ok-here.ensures));
     }
 
 pub returns-clause-nodes : goal.returns-clause-nodes

@@ -4,7 +4,7 @@ use Rattle.std.proofs.lemmas.List.{map-id}
 use Rattle.std.proofs.lemmas.List.Elements.{All-get_or}
 use Rattle.std.proofs.lemmas.Iterator.Adapters.{YieldsList-from_vec}
 use Rattle.std.proofs.lemmas.Iterator.Consumers.{YieldsList-turn, YieldsList-end}
-use Rattle.pl_part.specs.Parts.{PartView}
+use Rattle.pl_part.specs.Parts.{ChannelPartView}
 use Rattle.pl_replay.specs.Reported.{HasEnds, IsPartReport, ReportsItsPlan}
 use Rattle.pl_replay.proofs.ReportLists.{zip_push, all_planned}
 use Rattle.pl_replay.proofs.reporting.into_reports.Goals as goal
@@ -33,4 +33,4 @@ returns-clause-planned g c =
     let yields = YieldsList-from_vec {s = c.into_iter-part-iterator.result} c.args.parts.items (search rules) (search rules) in
     let end = YieldsList-end yields so_far.yielded so_far.part-iterator so_far.yielded_by c.next.result c.next.new.self c.in-None.is c.next.ensures.steps in
     λ plan. all_planned state plan c.args.parts.items c.from_vec.result
-    (rw c.from_vec.ensures (subst (λ (parts : List (PartView g.row.S.Denot g.row.T.Denot)). AllZip (ReportsItsPlan state) parts so_far.moved.items) (sym (map-id so_far.yielded) ∙ end.0) so_far.invariant.planned))
+    (rw c.from_vec.ensures (subst (λ (parts : List (ChannelPartView g.row.S.Denot g.row.T.Denot)). AllZip (ReportsItsPlan state) parts so_far.moved.items) (sym (map-id so_far.yielded) ∙ end.0) so_far.invariant.planned))

@@ -2,7 +2,7 @@ use Rattle.std.proofs.Common.{◌≡◌, ℕ, ◌++◌, ◌∷◌, [], List, len
 use Rattle.std.proofs.lemmas.List.{map-id}
 use Rattle.std.proofs.lemmas.Iterator.Adapters.{YieldsList-from_vec}
 use Rattle.std.proofs.lemmas.Iterator.Consumers.{YieldsList-turn, YieldsList-end}
-use Rattle.pl_part.specs.Parts.{PartView}
+use Rattle.pl_part.specs.Parts.{ChannelPartView}
 use Rattle.pl_world.specs.Plans.{channel_planned}
 use Rattle.pl_world.specs.PlanRules.{IsSmallChannel}
 use Rattle.pl_world.specs.Worlds.{IsUncalled}
@@ -21,7 +21,7 @@ overflow_cast-number g c =
 
 pub loop-record-init : goal.loop-record-init
 loop-record-init g c =
-    subst (λ (l : List (PartView g.row.S.Denot g.row.T.Denot)). ArePlaced g.S.Stage.meaning g.S.Stage.stands_after g.T.Transport.state [] l) (sym c.in_ok-parts.ensures.items) (placed-none g.S.Stage.meaning g.S.Stage.stands_after g.T.Transport.state)
+    subst (λ (l : List (ChannelPartView g.row.S.Denot g.row.T.Denot)). ArePlaced g.S.Stage.meaning g.S.Stage.stands_after g.T.Transport.state [] l) (sym c.in_ok-parts.ensures.items) (placed-none g.S.Stage.meaning g.S.Stage.stands_after g.T.Transport.state)
 
 pub place-requires-clause-small : goal.place-requires-clause-small
 place-requires-clause-small g c =
@@ -50,7 +50,7 @@ loop-record-preserved g c =
     let made = c.in_ok-place.ensures in
     let number : c.len-number.result ≡ length so_far.parts.items = omega (arith, c.len-number.ensures, so_far.parts.ok) in
     let placed : IsPlaced meaning stands state c.len-number.result r part = record { whole = made.whole; stages = made.stages; unmoved = made.unmoved; holds = made.holds } in
-    subst (λ (t : List (PartView g.row.S.Denot g.row.T.Denot)). ArePlaced meaning stands state (so_far.yielded ++ r ∷ []) t) (sym c.in_ok-push.ensures.items)
+    subst (λ (t : List (ChannelPartView g.row.S.Denot g.row.T.Denot)). ArePlaced meaning stands state (so_far.yielded ++ r ∷ []) t) (sym c.in_ok-push.ensures.items)
     (placed-push meaning stands state so_far.yielded so_far.parts.items r part so_far.invariant (subst (λ (n : ℕ). IsPlaced meaning stands state n r part) number placed))
 
 pub returns : goal.returns

@@ -2,7 +2,7 @@ use Rattle.std.proofs.Common.{◌≡◌, ◌<◌, length, slice_get, Some, refl,
 use Rattle.std.proofs.lemmas.Option.{slice_get_read, slice_get_within}
 use Rattle.pl_event.proofs.Lists.{at_set_same}
 use Rattle.pl_event.specs.Worlds.{World}
-use Rattle.pl_part.specs.Parts.{PartView}
+use Rattle.pl_part.specs.Parts.{ChannelPartView}
 use Rattle.pl_part.specs.Paths.{context_at, writer_hop}
 use Rattle.pl_part.specs.PartCalls.{PartRefused}
 use Rattle.pl_replay.proofs.OneChannel.{places-of, taken-none}
@@ -80,7 +80,7 @@ pub returns-then-channel-len-clause-gave_up : goal.returns-then-channel-len-clau
 returns-then-channel-len-clause-gave_up g c p x at kind here =
     let ps = c.args.self.now.parts.items in
     let own : p ≡ c.refuse.new.self = at_set_same ps c.args.lane.channel c.refuse.new.self p at in
-    c.refuse.ensures.over kind x (subst (λ (q : PartView g.row.S.Denot g.row.T.Denot). context_at q.path (writer_hop q.path c.args.lane.hop) ≡ Some x) own here)
+    c.refuse.ensures.over kind x (subst (λ (q : ChannelPartView g.row.S.Denot g.row.T.Denot). context_at q.path (writer_hop q.path c.args.lane.hop) ≡ Some x) own here)
 
 -- the channel has no part here
 pub returns-else-channel-len-clause-gave_up : goal.returns-else-channel-len-clause-gave_up

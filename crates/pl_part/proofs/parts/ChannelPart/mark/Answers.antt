@@ -1,10 +1,10 @@
 use Rattle.std.proofs.Common.{◌≡◌, Some, ap, sym, ◌∙◌}
-use Rattle.pl_part.specs.Parts.{PartView}
+use Rattle.pl_part.specs.Parts.{ChannelPartView}
 use Rattle.pl_part.proofs.ToldLemmas.{same-head, pending-is, not-writable, is-writable}
 use Rattle.pl_part.proofs.parts.ChannelPart.mark.Goals as goal
 
 has-head : (g : _) (c : goal.After-is_writable g) → c.args.self.now.head ≡ Some c.in-Some.head
-has-head g c = sym (ap (λ (p : PartView g.row.S.Denot g.row.T.Denot). p.head) c.self.view_is) ∙ c.in-Some.is
+has-head g c = sym (ap (λ (p : ChannelPartView g.row.S.Denot g.row.T.Denot). p.head) c.self.view_is) ∙ c.in-Some.is
 
 pending : (g : _) (c : goal.After-is_writable g) → c.pending.result ≡ c.in-Some.head.buffer.pending
 pending g c =

@@ -1,12 +1,12 @@
 use Rattle.std.proofs.Common.{subst}
 use Rattle.pl_part.specs.Paths.{PathRefuses, writer_hop}
-use Rattle.pl_part.specs.Parts.{PartView}
+use Rattle.pl_part.specs.Parts.{ChannelPartView}
 use Rattle.pl_part.proofs.PartSteps.{path-refused, refusing-of, refused-of}
 use Rattle.pl_part.proofs.parts.ChannelPart.refuse.Goals as goal
 
 pub returns-clause-refuses : goal.returns-clause-refuses
 returns-clause-refuses g c =
-    subst (λ (y : PartView _ _). PathRefuses y.path c.args.lane c.args.work.now c.refuse.new.self c.refuse.new.work) c.self.view_is c.refuse.ensures.refuses
+    subst (λ (y : ChannelPartView _ _). PathRefuses y.path c.args.lane c.args.work.now c.refuse.new.self c.refuse.new.work) c.self.view_is c.refuse.ensures.refuses
 
 pub returns-clause-refused : goal.returns-clause-refused
 returns-clause-refused g c =

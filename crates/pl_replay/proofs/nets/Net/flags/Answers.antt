@@ -1,7 +1,7 @@
 use Rattle.std.proofs.Common.{List, length, slice_get, refl, ap, sym, ◌∙◌}
 use Rattle.std.proofs.lemmas.Bool.{ltb-true}
 use Rattle.std.proofs.lemmas.Option.{slice_get_read}
-use Rattle.pl_part.specs.Parts.{PartView}
+use Rattle.pl_part.specs.Parts.{ChannelPartView}
 use Rattle.pl_replay.proofs.nets.Net.flags.Goals as goal
 
 pub returns : goal.returns
@@ -10,4 +10,4 @@ returns g c =
     let part = c.in_ok-get.field-0.now in
     let found = c.in_ok-get.ensures.lookup in
     let at = slice_get_read parts (length parts) c.args.channel part refl (ltb-true c.args.channel (length parts) (sym found.0)) found.1 in
-    (part, c.in-Some.tail.now, sym (ap (λ (l : List (PartView g.row.S.Denot g.row.T.Denot)). slice_get l c.args.channel) c.parts.ensures.items) ∙ at, c.in-Some.ensures.some, c.flags.ensures)
+    (part, c.in-Some.tail.now, sym (ap (λ (l : List (ChannelPartView g.row.S.Denot g.row.T.Denot)). slice_get l c.args.channel) c.parts.ensures.items) ∙ at, c.in-Some.ensures.some, c.flags.ensures)

@@ -1,7 +1,7 @@
 use Rattle.std.proofs.Common.{◌<◌, ◌^◌, ℕ, List, length, refl, ap, sym, ◌∙◌, subst, false}
 use Rattle.pl_context.specs.Stops.{HasPlaces, no_stops}
 use Rattle.pl_net.specs.Nets.{no_backlogs}
-use Rattle.pl_part.specs.Parts.{PartView}
+use Rattle.pl_part.specs.Parts.{ChannelPartView}
 use Rattle.pl_channel.specs.Lanes.{world_of}
 use Rattle.pl_world.specs.declared.session.Recorded.{Recorded}
 use Rattle.pl_world.specs.Plans.{planned}
@@ -19,37 +19,37 @@ placed-requires-clause-small g c =
 pub idle_executors-requires : goal.idle_executors-requires
 idle_executors-requires g c =
     let placed = subst (λ (rs : List (Recorded g.row.S.Denot g.row.T.Denot)). ArePlaced g.S.Stage.meaning g.S.Stage.stands_after g.T.Transport.state rs c.in_ok-parts.parts.items) (c.into_vec.ensures ∙ c.into_channels.ensures.channels) c.in_ok-parts.ensures in
-    subst (λ (l : List (PartView g.row.S.Denot g.row.T.Denot)). ArePlaceable l) (sym c.as_slice.ensures.value)
+    subst (λ (l : List (ChannelPartView g.row.S.Denot g.row.T.Denot)). ArePlaceable l) (sym c.as_slice.ensures.value)
     (placeable g.S.Stage.meaning g.S.Stage.stands_after g.T.Transport.state (planned g.S.Stage.meaning g.T.Transport.state c.args.capacity c.args.world.executors c.args.world.channels) c.args.world.channels refl c.in_ok-parts.parts.items placed (c.into_channels.ensures.is_world.small c.args.capacity))
 
 pub lane_count-lanes-requires : goal.lane_count-lanes-requires
 lane_count-lanes-requires g c =
     let placed = subst (λ (rs : List (Recorded g.row.S.Denot g.row.T.Denot)). ArePlaced g.S.Stage.meaning g.S.Stage.stands_after g.T.Transport.state rs c.in_ok-parts.parts.items) (c.into_vec.ensures ∙ c.into_channels.ensures.channels) c.in_ok-parts.ensures in
-    subst (λ (l : List (PartView g.row.S.Denot g.row.T.Denot)). length (all_lanes l) < 2 ^ 16) (sym c.as_slice-2.ensures.value)
+    subst (λ (l : List (ChannelPartView g.row.S.Denot g.row.T.Denot)). length (all_lanes l) < 2 ^ 16) (sym c.as_slice-2.ensures.value)
     (lanes-few g.S.Stage.meaning g.S.Stage.stands_after g.T.Transport.state (planned g.S.Stage.meaning g.T.Transport.state c.args.capacity c.args.world.executors c.args.world.channels) c.args.world.channels refl c.in_ok-parts.parts.items placed (c.into_channels.ensures.is_world.small c.args.capacity))
 
 pub new-requires-clause-start : goal.new-requires-clause-start
 new-requires-clause-start g c =
     let placed = subst (λ (rs : List (Recorded g.row.S.Denot g.row.T.Denot)). ArePlaced g.S.Stage.meaning g.S.Stage.stands_after g.T.Transport.state rs c.in_ok-parts.parts.items) (c.into_vec.ensures ∙ c.into_channels.ensures.channels) c.in_ok-parts.ensures in
-    let idle = subst (λ (l : List (PartView g.row.S.Denot g.row.T.Denot)). AreIdle l c.args.world.executors c.in_ok-executors.executors.items) c.as_slice.ensures.value
+    let idle = subst (λ (l : List (ChannelPartView g.row.S.Denot g.row.T.Denot)). AreIdle l c.args.world.executors c.in_ok-executors.executors.items) c.as_slice.ensures.value
     (subst (λ (n : ℕ). AreIdle c.as_slice.result.now n c.in_ok-executors.executors.items) c.executors-count.ensures c.in_ok-executors.ensures) in
     let is = c.into_channels.ensures.is_world in
     starts g.S.Stage.meaning g.S.Stage.stands_after g.T.Transport.state (planned g.S.Stage.meaning g.T.Transport.state c.args.capacity c.args.world.executors c.args.world.channels) c.args.world.channels refl c.in_ok-parts.parts.items placed (is.ruled c.args.capacity c.requires.capacity.0) is.channels c.in_ok-executors.executors.items idle
 
 pub new-requires-clause-places : goal.new-requires-clause-places
 new-requires-clause-places g c =
-    subst (λ (n : ℕ). HasPlaces (no_stops n) (all_lanes c.in_ok-parts.parts.items)) (ap (λ (l : List (PartView g.row.S.Denot g.row.T.Denot)). length (all_lanes l)) (sym c.as_slice-2.ensures.value) ∙ sym c.lane_count-lanes.ensures)
+    subst (λ (n : ℕ). HasPlaces (no_stops n) (all_lanes c.in_ok-parts.parts.items)) (ap (λ (l : List (ChannelPartView g.row.S.Denot g.row.T.Denot)). length (all_lanes l)) (sym c.as_slice-2.ensures.value) ∙ sym c.lane_count-lanes.ensures)
     (places-all c.in_ok-parts.parts.items)
 
 net-begins : (g : _) (c : goal.In_ok-core g) → NetBegins g.S.Stage.meaning g.S.Stage.stands_after g.T.Transport.state (planned g.S.Stage.meaning g.T.Transport.state c.args.capacity c.args.world.executors c.args.world.channels) (transports_of c.args.world.channels) c.in_ok-core.core
 net-begins g c =
     let placed = subst (λ (rs : List (Recorded g.row.S.Denot g.row.T.Denot)). ArePlaced g.S.Stage.meaning g.S.Stage.stands_after g.T.Transport.state rs c.in_ok-parts.parts.items) (c.into_vec.ensures ∙ c.into_channels.ensures.channels) c.in_ok-parts.ensures in
-    let idle = subst (λ (l : List (PartView g.row.S.Denot g.row.T.Denot)). AreIdle l c.args.world.executors c.in_ok-executors.executors.items) c.as_slice.ensures.value
+    let idle = subst (λ (l : List (ChannelPartView g.row.S.Denot g.row.T.Denot)). AreIdle l c.args.world.executors c.in_ok-executors.executors.items) c.as_slice.ensures.value
     (subst (λ (n : ℕ). AreIdle c.as_slice.result.now n c.in_ok-executors.executors.items) c.executors-count.ensures c.in_ok-executors.ensures) in
     let made = c.in_ok-core.ensures in
     world-begins g.S.Stage.meaning g.S.Stage.stands_after g.T.Transport.state c.args.world c.into_channels.ensures.is_world c.args.capacity c.requires.capacity.0 c.in_ok-parts.parts.items placed c.in_ok-executors.executors.items idle
     c.in_ok-core.core (ap (λ (n : Channels g.row.S.Denot g.row.T.Denot). n.parts.items) made.nodes) made.executors made.capacity made.rests
-    (made.unstopped ∙ ap no_stops (c.lane_count-lanes.ensures ∙ ap (λ (l : List (PartView g.row.S.Denot g.row.T.Denot)). length (all_lanes l)) c.as_slice-2.ensures.value))
+    (made.unstopped ∙ ap no_stops (c.lane_count-lanes.ensures ∙ ap (λ (l : List (ChannelPartView g.row.S.Denot g.row.T.Denot)). length (all_lanes l)) c.as_slice-2.ensures.value))
     (λ s. made.stands (world_of false (planned g.S.Stage.meaning g.T.Transport.state c.args.capacity c.args.world.executors c.args.world.channels)) 0 s)
 
 pub invariant_of-result : goal.invariant_of-result
@@ -60,6 +60,6 @@ returns-clause-begins g c = net-begins g c
 
 pub returns-clause-placed : goal.returns-clause-placed
 returns-clause-placed g c =
-    let Placed = λ (rs : List (Recorded g.row.S.Denot g.row.T.Denot)) (parts : List (PartView g.row.S.Denot g.row.T.Denot)). ArePlaced g.S.Stage.meaning g.S.Stage.stands_after g.T.Transport.state rs parts in
+    let Placed = λ (rs : List (Recorded g.row.S.Denot g.row.T.Denot)) (parts : List (ChannelPartView g.row.S.Denot g.row.T.Denot)). ArePlaced g.S.Stage.meaning g.S.Stage.stands_after g.T.Transport.state rs parts in
     let placed = subst (λ (rs : List (Recorded g.row.S.Denot g.row.T.Denot)). Placed rs c.in_ok-parts.parts.items) (c.into_vec.ensures ∙ c.into_channels.ensures.channels) c.in_ok-parts.ensures in
     subst (Placed c.args.world.channels) (sym (ap (λ (n : Channels g.row.S.Denot g.row.T.Denot). n.parts.items) c.in_ok-core.ensures.nodes)) placed
