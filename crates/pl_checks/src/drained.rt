@@ -1,6 +1,6 @@
 //! The worked sessions that drain: the report, by a schedule and by `plain`, the status, and nothing on standard error.
 
-use crate::running::{Runtime, answers, composed, ran_over, replayed};
+use crate::running::{Runtime, composes, replays, runs};
 use crate::sessions;
 use crate::sessions::{LineSession, line_session};
 use std::test::Fail;
@@ -14,12 +14,11 @@ fn drains(rt: &impl Runtime, session: LineSession, moves: &str, report: &str) ->
 /// Says that these moves drain the session of a text with this report, which `plain` gives as well, and so does a run
 /// over each queue.
 fn gives(rt: &impl Runtime, text: &str, moves: &str, report: &str) -> Result<(), Fail> {
-    answers(replayed(rt, text, moves)?, 0, report, "")?;
-    answers(composed(rt, text)?, 0, report, "")?;
-    answers(ran_over(rt, text, "ring")?, 0, report, "")?;
+    replays(rt, text, moves, 0, report, "")?;
+    composes(rt, text, report)?;
+    runs(rt, text, "ring", 0, report)?;
     let roomy = sessions::with_room(rt, text)?;
-    answers(ran_over(rt, roomy.as_str(), "waiting")?, 0, report, "")?;
-    Ok(())
+    runs(rt, roomy.as_str(), "waiting", 0, report)
 }
 
 #[test]
@@ -161,26 +160,27 @@ fn watermarks(rt: HostRuntime) -> Result<(), Fail> {
     gives(&rt, text.as_str(), "R0x3 O0x6", report)
 }
 
-const TWO_BURSTS: &str =
-    "channel 0 drained\ntail 5\nActive\nRead Ping\nReadComplete\nRead Ping\nReadComplete\nbytes 14 2b504f4e470d0a2b504f4e470d0a\nwrites 2\n0 Success\n1 Success\n";
+/// Says that these moves drain a session of two pings in bursts of their own.
+fn gives_two_bursts(rt: &impl Runtime, text: String, moves: &str) -> Result<(), Fail> {
+    let report =
+        "channel 0 drained\ntail 5\nActive\nRead Ping\nReadComplete\nRead Ping\nReadComplete\nbytes 14 2b504f4e470d0a2b504f4e470d0a\nwrites 2\n0 Success\n1 Success\n";
+    gives(rt, text.as_str(), moves, report)
+}
 
 /// The third read is held and passed over. What is not flushed holds nothing.
 #[test]
 fn burst_held(rt: HostRuntime) -> Result<(), Fail> {
-    let text = sessions::burst_held(&rt)?;
-    gives(&rt, text.as_str(), "R0x3 O0 R0x2 O0", TWO_BURSTS)?;
-    let text = sessions::burst_not_held(&rt)?;
-    gives(&rt, text.as_str(), "R0x4 O0x2", TWO_BURSTS)
+    let moves = "R0x3 O0 R0x2 O0";
+    gives_two_bursts(&rt, sessions::burst_held(&rt)?, moves)?;
+    gives_two_bursts(&rt, sessions::burst_not_held(&rt)?, "R0x4 O0x2")
 }
 
 #[test]
 fn no_channels(rt: HostRuntime) -> Result<(), Fail> {
     let text = sessions::NO_CHANNELS;
     gives(&rt, text, "", "")?;
-    let refused = "replay refused: 1 NoSuch\n";
-    answers(replayed(&rt, text, "R0")?, 2, "", refused)?;
-    answers(replayed(&rt, text, "T0")?, 0, "", "")?;
-    Ok(())
+    replays(&rt, text, "R0", 2, "", "replay refused: 1 NoSuch\n")?;
+    replays(&rt, text, "T0", 0, "", "")
 }
 
 /// The report of a channel that was asked to ping once.
@@ -196,15 +196,9 @@ const ALL_IN_TURN: &str = "R2x3 R0x3 O2 T1 H2 R1x3 H0x8 T1x4 T2x4 H0x4 T1x4 H1x4
 fn group_placing(rt: HostRuntime) -> Result<(), Fail> {
     let text = sessions::group_placing(&rt)?;
     let text = text.as_str();
+    replays(&rt, text, "T3", 2, "", "replay refused: 1 NoSuch\n")?;
     let report = format!(in rt.alloc(); "channel 0 {PINGED}channel 1 {PINGED}channel 2 {PINGED}")?;
-    gives(&rt, text, ALL_IN_TURN, report.as_str())?;
-    answers(
-        replayed(&rt, text, "T3")?,
-        2,
-        "",
-        "replay refused: 1 NoSuch\n",
-    )?;
-    Ok(())
+    gives(&rt, text, ALL_IN_TURN, report.as_str())
 }
 
 #[test]

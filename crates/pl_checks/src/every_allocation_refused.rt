@@ -1,38 +1,37 @@
 //! Replays of which `checks/refused_replay.sh` refuses each allocation in turn. Whichever it is, the test passes: a call
 //! answers it, or the report begins that of `plain`.
 
-use crate::fair::begins;
+use crate::fair::assert_begins;
 use crate::sessions;
 use crate::sessions::line_session;
 use pl_replay::replay;
 use pl_text::{MovesFault, SessionFault, print_report, read_moves, read_session};
 use pl_world::{ReplayFault, Report, plain};
 use std::alloc::{AllocError, Global};
+use std::fmt::Debug;
 use std::process::Abort;
 
-/// The report of these moves of the session of a text, where no call that leads to it answers that it has no memory.
-fn reported(rt: &impl Abort, alloc: Global, text: &str, moves: &str) -> Option<Report> {
-    let session = match read_session(alloc, text) {
-        Ok(session) => session,
+/// What a call answered, where it did not fail. It may fail only by this fault, which says that it had no memory.
+fn unless_refused<T, F: Copy + Debug + PartialEq>(
+    rt: &impl Abort,
+    answer: Result<T, F>,
+    memory: F,
+) -> Option<T> {
+    match answer {
+        Ok(value) => Some(value),
         Err(fault) => {
-            assert_eq!(rt; fault, SessionFault::Memory);
-            return None;
-        }
-    };
-    let moves = match read_moves(alloc, moves) {
-        Ok(moves) => moves,
-        Err(fault) => {
-            assert_eq!(rt; fault, MovesFault::Memory);
-            return None;
-        }
-    };
-    match replay(alloc, session, moves.as_slice()) {
-        Ok(report) => Some(report),
-        Err(fault) => {
-            assert_eq!(rt; fault, ReplayFault::Memory);
+            assert_eq!(rt; fault, memory);
             None
         }
     }
+}
+
+/// The report of these moves of the session of a text, where no call that leads to it answers that it has no memory.
+fn reported(rt: &impl Abort, alloc: Global, text: &str, moves: &str) -> Option<Report> {
+    let moves = unless_refused(rt, read_moves(alloc, moves), MovesFault::Memory)?;
+    let session = unless_refused(rt, read_session(alloc, text), SessionFault::Memory)?;
+    let answer = replay(alloc, session, moves.as_slice());
+    unless_refused(rt, answer, ReplayFault::Memory)
 }
 
 /// What `plain` reports of the session of a text, where there is memory for it.
@@ -41,25 +40,28 @@ fn whole(alloc: Global, text: &str) -> Option<Report> {
     plain(alloc, session).ok()
 }
 
-/// Replays a session, if there is memory for its text, and prints the report, if there is one.
-fn goes_on(rt: &(impl Abort + AllocGlobal), text: Result<String, AllocError>, moves: &str) {
-    let alloc = rt.alloc();
-    let Ok(text) = text else {
-        return;
-    };
-    let Some(report) = reported(rt, alloc, text.as_str(), moves) else {
-        return;
-    };
+/// Prints a report: nothing is printed without memory.
+fn assert_prints(rt: &impl Abort, alloc: Global, report: &Report) {
     let mut printed = Vec::new(alloc);
-    let is_printed = print_report(alloc, &report, &mut printed).is_ok();
+    let is_printed = print_report(alloc, report, &mut printed).is_ok();
     assert!(rt; is_printed == !printed.is_empty());
-    let Some(whole) = whole(alloc, text.as_str()) else {
-        return;
-    };
-    let (parts, wholes) = (report.channels.as_slice(), whole.channels.as_slice());
-    assert_eq!(rt; parts.len(), wholes.len());
-    for (part, whole) in parts.iter().zip(wholes) {
-        assert!(rt; begins(part, whole));
+}
+
+/// Replays the session of a text, and prints the report, if there is one. It begins that of `plain`, if there is that.
+fn replays(rt: &(impl Abort + AllocGlobal), text: &str, moves: &str) {
+    let alloc = rt.alloc();
+    if let Some(report) = reported(rt, alloc, text, moves) {
+        assert_prints(rt, alloc, &report);
+        if let Some(whole) = whole(alloc, text) {
+            assert_begins(rt, &report, &whole, text);
+        }
+    }
+}
+
+/// The same, if there is memory for the text.
+fn goes_on(rt: &(impl Abort + AllocGlobal), text: Result<String, AllocError>, moves: &str) {
+    if let Ok(text) = text {
+        replays(rt, text.as_str(), moves);
     }
 }
 

@@ -1,6 +1,7 @@
 //! Transports that fail, and aborts: the report that a schedule leaves, and its status. `plain` takes no account of them.
 
-use crate::running::{Runtime, answers, composed, replayed};
+use crate::running;
+use crate::running::{Runtime, replays};
 use crate::sessions::{LINE_ACROSS_BURSTS, LineSession, PING, QUIT, failing_session};
 use std::test::Fail;
 
@@ -14,8 +15,7 @@ fn reports(
     report: &str,
 ) -> Result<(), Fail> {
     let text = failing_session(rt, session, members)?;
-    answers(replayed(rt, text.as_str(), moves)?, status, report, "")?;
-    Ok(())
+    replays(rt, text.as_str(), moves, status, report, "")
 }
 
 /// Says that `plain` reports this of it.
@@ -26,8 +26,7 @@ fn composes(
     report: &str,
 ) -> Result<(), Fail> {
     let text = failing_session(rt, session, members)?;
-    answers(composed(rt, text.as_str())?, 0, report, "")?;
-    Ok(())
+    running::composes(rt, text.as_str(), report)
 }
 
 const DRAINED_PING: &str =
@@ -50,6 +49,27 @@ fn transport_fault(rt: HostRuntime) -> Result<(), Fail> {
 /// The tail of the session that quits.
 const QUIT_TAIL: &str = "tail 3\nActive\nRead Ping\nRead Quit\n";
 
+/// Says that a transport that fails at this call has got these bytes, and what became of the two writes.
+fn fails_at(
+    rt: &impl Runtime,
+    call: u8,
+    bytes: &str,
+    first: &str,
+    second: &str,
+) -> Result<(), Fail> {
+    let (status, stands) = if call < 5 {
+        (1, "failed Transport")
+    } else {
+        (0, "drained")
+    };
+    let members = format!(in rt.alloc(); ",\"window\":4,\"fail_at\":{call}")?;
+    let report = format!(in rt.alloc();
+        "channel 0 {stands}\n{QUIT_TAIL}bytes {bytes}\nwrites 2\n0 {first}\n1 {second}\n"
+    )?;
+    let moves = "R0x2 O0x4 R0";
+    reports(rt, QUIT, members.as_str(), moves, status, report.as_str())
+}
+
 #[test]
 fn fault_at_each_call(rt: HostRuntime) -> Result<(), Fail> {
     for (call, bytes, first, second) in [
@@ -59,17 +79,7 @@ fn fault_at_each_call(rt: HostRuntime) -> Result<(), Fail> {
         (4, "11 2b504f4e470d0a2b425945", "Success", "Fault"),
         (5, "13 2b504f4e470d0a2b4259450d0a", "Success", "Success"),
     ] {
-        let (status, stands) = if call < 5 {
-            (1, "failed Transport")
-        } else {
-            (0, "drained")
-        };
-        let members = format!(in rt.alloc(); ",\"window\":4,\"fail_at\":{call}")?;
-        let report = format!(in rt.alloc();
-            "channel 0 {stands}\n{QUIT_TAIL}bytes {bytes}\nwrites 2\n0 {first}\n1 {second}\n"
-        )?;
-        let moves = "R0x2 O0x4 R0";
-        reports(&rt, QUIT, members.as_str(), moves, status, report.as_str())?;
+        fails_at(&rt, call, bytes, first, second)?;
     }
     Ok(())
 }
@@ -85,24 +95,29 @@ fn abort(rt: HostRuntime) -> Result<(), Fail> {
     composes(&rt, PING, members, DRAINED_PING)
 }
 
+/// Says that a session that is aborted leaves this tail and these writes.
+fn aborts(rt: &impl Runtime, members: &str, tail: &str, writes: &str) -> Result<(), Fail> {
+    let report = format!(in rt.alloc(); "channel 0 failed Aborted\n{tail}\nbytes 0 -\n{writes}\n")?;
+    let session = LINE_ACROSS_BURSTS;
+    reports(rt, session, members, "R0x4 O0", 1, report.as_str())
+}
+
 #[test]
 fn abort_at_each_burst(rt: HostRuntime) -> Result<(), Fail> {
-    for (count, tail, writes) in [
-        (0, "tail 1\nActive", "writes 0"),
-        (1, "tail 2\nActive\nReadComplete", "writes 0"),
+    for (members, tail, writes) in [
+        (r#","abort_after":0"#, "tail 1\nActive", "writes 0"),
         (
-            2,
+            r#","abort_after":1"#,
+            "tail 2\nActive\nReadComplete",
+            "writes 0",
+        ),
+        (
+            r#","abort_after":2"#,
             "tail 4\nActive\nReadComplete\nRead Ping\nReadComplete",
             "writes 1\n0 Closed",
         ),
     ] {
-        let members = format!(in rt.alloc(); ",\"abort_after\":{count}")?;
-        let text = failing_session(&rt, LINE_ACROSS_BURSTS, members.as_str())?;
-        let report = format!(in rt.alloc();
-            "channel 0 failed Aborted\n{tail}\nbytes 0 -\n{writes}\n"
-        )?;
-        let ran = replayed(&rt, text.as_str(), "R0x4 O0")?;
-        answers(ran, 1, report.as_str(), "")?;
+        aborts(&rt, members, tail, writes)?;
     }
     Ok(())
 }

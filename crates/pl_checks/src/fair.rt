@@ -31,7 +31,7 @@ fn begun(alloc: Global, text: &str) -> Result<(Net<Handler, MemoryTransport>, Ve
 }
 
 /// The whole report of a session.
-fn whole(alloc: Global, text: &str) -> Result<Report, Fail> {
+pub(crate) fn whole(alloc: Global, text: &str) -> Result<Report, Fail> {
     Ok(plain(alloc, read_session(alloc, text)?)?)
 }
 
@@ -56,26 +56,27 @@ fn is_prefix<T: PartialEq>(part: &[T], whole: &[T]) -> bool {
     part == &whole[..part.len()]
 }
 
+/// Whether what a channel's tail and transport got is all of this report.
+fn is_whole(part: &ChannelReport, whole: &ChannelReport) -> bool {
+    part.tail.as_slice() == whole.tail.as_slice()
+        && part.bytes.as_slice() == whole.bytes.as_slice()
+        && part.writes.as_slice() == whole.writes.as_slice()
+}
+
 /// Whether what a channel's tail and transport got begins this report, and is all of it where the channel is drained.
 pub(crate) fn begins(part: &ChannelReport, whole: &ChannelReport) -> bool {
-    let is_whole = part.tail.as_slice() == whole.tail.as_slice()
-        && part.bytes.as_slice() == whole.bytes.as_slice()
-        && part.writes.as_slice() == whole.writes.as_slice();
     is_prefix(part.tail.as_slice(), whole.tail.as_slice())
         && is_prefix(part.bytes.as_slice(), whole.bytes.as_slice())
-        && (part.stands != Stands::Drained || is_whole)
+        && (part.stands != Stands::Drained || is_whole(part, whole))
 }
 
 /// Each channel is open or drained, and begins its whole report.
-fn assert_begins(rt: &impl Abort, part: &Report, whole: &Report, text: &str) {
+pub(crate) fn assert_begins(rt: &impl Abort, part: &Report, whole: &Report, text: &str) {
     let (parts, wholes) = (part.channels.as_slice(), whole.channels.as_slice());
     assert_eq!(rt; parts.len(), wholes.len());
     for (part, whole) in parts.iter().zip(wholes) {
-        assert!(rt; begins(part, whole), "{text}");
-        assert!(rt;
-            part.stands == Stands::Open || part.stands == whole.stands,
-            "{text}"
-        );
+        let stands = part.stands == Stands::Open || part.stands == whole.stands;
+        assert!(rt; stands && begins(part, whole), "{part:?} of {text}");
     }
 }
 
@@ -84,21 +85,37 @@ fn assert_whole(rt: &impl Abort, part: &Report, whole: &Report, text: &str) {
     let (parts, wholes) = (part.channels.as_slice(), whole.channels.as_slice());
     assert_eq!(rt; parts.len(), wholes.len());
     for (part, whole) in parts.iter().zip(wholes) {
-        assert_eq!(rt; part.stands, whole.stands, "{text}");
-        assert_eq!(rt; part.tail.as_slice(), whole.tail.as_slice(), "{text}");
-        assert_eq!(rt; part.bytes.as_slice(), whole.bytes.as_slice(), "{text}");
-        assert_eq!(rt; part.writes.as_slice(), whole.writes.as_slice(), "{text}");
+        let stands = part.stands == whole.stands;
+        assert!(rt; stands && is_whole(part, whole), "{part:?} of {text}");
     }
+}
+
+/// A net is drained, and its report is the whole one.
+fn assert_drained(
+    rt: &impl Abort,
+    net: &Net<Handler, MemoryTransport>,
+    whole: &Report,
+    text: &str,
+) -> Result<(), Fail> {
+    assert!(rt; net.drained(), "{text}");
+    assert_whole(rt, &net.report()?, whole, text);
+    Ok(())
+}
+
+/// The net of a session after every move in turn.
+fn gone_round(alloc: Global, text: &str) -> Result<Net<Handler, MemoryTransport>, Fail> {
+    let (mut net, moves) = begun(alloc, text)?;
+    go_round(&mut net, moves.as_slice())?;
+    Ok(net)
 }
 
 #[test]
 fn a_fair_schedule_drains_every_example(rt: HostRuntime) -> Result<(), Fail> {
-    for text in sessions::examples(&rt)? {
-        let text = text.as_str();
-        let (mut net, moves) = begun(rt.alloc(), text)?;
-        go_round(&mut net, moves.as_slice())?;
-        assert!(rt; net.drained(), "{text}");
-        assert_whole(&rt, &net.report()?, &whole(rt.alloc(), text)?, text);
+    let texts = sessions::examples(&rt)?;
+    for text in texts.as_slice() {
+        let whole = whole(rt.alloc(), text.as_str())?;
+        let net = gone_round(rt.alloc(), text.as_str())?;
+        assert_drained(&rt, &net, &whole, text.as_str())?;
     }
     Ok(())
 }
@@ -122,31 +139,43 @@ fn assert_flags(rt: &impl Abort, net: &Net<Handler, MemoryTransport>, text: &str
     }
 }
 
-/// Makes a given number of random moves, and looks at the report and the flags after each; then each move in turn, which
-/// drains it.
+/// How many random moves are made.
+const RANDOM_MOVES: u16 = 400;
+
+/// Makes random moves, and looks at the report and the flags after each.
+fn go_random(
+    rt: &impl Abort,
+    net: &mut Net<Handler, MemoryTransport>,
+    moves: &[Move],
+    seed: u64,
+    whole: &Report,
+    text: &str,
+) -> Result<(), Fail> {
+    assert!(rt; !moves.is_empty());
+    let mut number = seed;
+    for _ in 0..RANDOM_MOVES {
+        number = next_number(number);
+        let index = (number >> 32) % moves.len() as u64;
+        net.apply(moves[index as usize])?;
+        assert_begins(rt, &net.report()?, whole, text);
+        assert_flags(rt, net, text);
+    }
+    Ok(())
+}
+
+/// Makes random moves, and then each move in turn, which drains the session.
 fn assert_keeps(
     rt: &impl Abort,
     alloc: Global,
     text: &str,
     seed: u64,
-    count: u16,
     whole: &Report,
 ) -> Result<(), Fail> {
     let (mut net, moves) = begun(alloc, text)?;
-    assert!(rt; !moves.is_empty());
-    let mut number = seed;
-    for _ in 0..count {
-        number = next_number(number);
-        let index = (number >> 32) % moves.len() as u64;
-        net.apply(moves[index as usize])?;
-        assert_begins(rt, &net.report()?, whole, text);
-        assert_flags(rt, &net, text);
-    }
+    go_random(rt, &mut net, moves.as_slice(), seed, whole, text)?;
     go_round(&mut net, moves.as_slice())?;
-    assert!(rt; net.drained(), "{text}");
-    assert_whole(rt, &net.report()?, whole, text);
     assert_flags(rt, &net, text);
-    Ok(())
+    assert_drained(rt, &net, whole, text)
 }
 
 /// Each channel is writable: as many flags say so as say the contrary. It answers whether there are any.
@@ -165,12 +194,11 @@ fn assert_writable(rt: &impl Abort, net: &Net<Handler, MemoryTransport>, text: &
 /// Each example is written whole, so its channels are writable at the end.
 #[test]
 fn writable_at_the_end(rt: HostRuntime) -> Result<(), Fail> {
+    let texts = sessions::examples(&rt)?;
     let mut has_flags = false;
-    for text in sessions::examples(&rt)? {
-        let text = text.as_str();
-        let (mut net, moves) = begun(rt.alloc(), text)?;
-        go_round(&mut net, moves.as_slice())?;
-        has_flags |= assert_writable(&rt, &net, text);
+    for text in texts.as_slice() {
+        let net = gone_round(rt.alloc(), text.as_str())?;
+        has_flags |= assert_writable(&rt, &net, text.as_str());
     }
     assert!(rt; has_flags);
     Ok(())
@@ -178,10 +206,11 @@ fn writable_at_the_end(rt: HostRuntime) -> Result<(), Fail> {
 
 #[test]
 fn random_schedules_give_prefixes(rt: HostRuntime) -> Result<(), Fail> {
-    for text in sessions::examples(&rt)? {
+    let texts = sessions::examples(&rt)?;
+    for text in texts.as_slice() {
         let whole = whole(rt.alloc(), text.as_str())?;
         for seed in 1..13 {
-            assert_keeps(&rt, rt.alloc(), text.as_str(), seed, 400, &whole)?;
+            assert_keeps(&rt, rt.alloc(), text.as_str(), seed, &whole)?;
         }
     }
     Ok(())

@@ -1,41 +1,65 @@
 //! The program on any words, readers and writers: its statuses, its lines on standard error, and what it reads.
 
-use crate::running::Runtime;
+use crate::running::{Runtime, answers, answers_on, ran_on, replays, status_of};
 use crate::streams::{Failing, Interrupted, Repeated, Slow};
 use pl_build::BuildFault;
 use pl_replay::replay;
 use pl_text::{MovesFault, SessionFault, read_moves, read_session};
 use pl_text_tests::{PING_REPORT, PING_SESSION};
-use pl_tool::{refuse_words, run_tool};
+use pl_tool::refuse_words;
 use pl_world::ReplayFault;
+use std::alloc::Global;
 use std::io;
-use std::io::{ErrorKind, Read, Write};
+use std::io::{ErrorKind, Write};
 use std::process::Abort;
 use std::test::Fail;
 
 const USAGE: &str = "usage: pl_tool replay [--moves MOVES] | run --queue waiting|ring | plain\n";
 
-/// What in the session's text is put in another's place so that its pipelines are not built, and the line's reason.
-const UNBUILT: [(&str, &str, &str); 7] = [
-    (r#""name":"decode""#, r#""name":"lines""#, "1 DuplicateName"),
+/// What in the session's text is put in another's place so that its pipelines are not built, the fault, and its line.
+const UNBUILT: [(&str, &str, BuildFault, &str); 7] = [
+    (
+        r#""name":"decode""#,
+        r#""name":"lines""#,
+        BuildFault::DuplicateName,
+        "session refused: 6 Build 1 DuplicateName\n",
+    ),
     (
         r#"{"op":"last","name":"decode""#,
         r#"{"op":"before","at":"nobody","name":"decode""#,
-        "2 NoSuchName",
+        BuildFault::NoSuchName,
+        "session refused: 6 Build 2 NoSuchName\n",
     ),
     (
         r#""loops":1"#,
         r#""loops":1,"groups":[{"name":"g","size":0}]"#,
-        "3 Limit",
+        BuildFault::Limit,
+        "session refused: 6 Build 3 Limit\n",
     ),
     (
         r#""kind":"decode""#,
         r#""kind":"decode","group":"g""#,
-        "4 NoSuchGroup",
+        BuildFault::NoSuchGroup,
+        "session refused: 6 Build 4 NoSuchGroup\n",
     ),
-    (r#""bursts":"#, r#""handlers":[],"bursts":"#, "5 NoTurn"),
-    (r#""kind":"decode""#, r#""kind":"service""#, "6 TwoTurns"),
-    (r#""bursts":"#, r#""low":9,"high":8,"bursts":"#, "7 Marks"),
+    (
+        r#""bursts":"#,
+        r#""handlers":[],"bursts":"#,
+        BuildFault::NoTurn,
+        "session refused: 6 Build 5 NoTurn\n",
+    ),
+    (
+        r#""kind":"decode""#,
+        r#""kind":"service""#,
+        BuildFault::TwoTurns,
+        "session refused: 6 Build 6 TwoTurns\n",
+    ),
+    (
+        r#""bursts":"#,
+        r#""low":9,"high":8,"bursts":"#,
+        BuildFault::Marks,
+        "session refused: 6 Build 7 Marks\n",
+    ),
 ];
 
 const WRONG_LINES: &[&[&str]] = &[
@@ -70,72 +94,25 @@ const WRONG_LINES: &[&[&str]] = &[
     &["--moves", "R0", "replay"],
 ];
 
-fn words(rt: &impl AllocGlobal, line: &[&str]) -> Result<Vec<String>, Fail> {
-    let mut words = Vec::new(rt.alloc());
-    words.push(String::from_str(rt.alloc(), "pl_tool")?)?;
-    for word in line {
-        words.push(String::from_str(rt.alloc(), word)?)?;
-    }
-    Ok(words)
-}
-
-/// Runs the program on a reader and two writers, and gives the status.
-fn status_of<R: Read, W: Write, E: Write>(
-    rt: &impl Runtime,
-    line: &[&str],
-    reader: &mut R,
-    out: &mut W,
-    err: &mut E,
-) -> Result<u8, Fail> {
-    let words = words(rt, line)?;
-    Ok(run_tool(rt, rt.alloc(), words.as_slice(), reader, out, err))
-}
-
-/// The same, and what it wrote to each writer.
-fn ran_on<R: Read>(
-    rt: &impl Runtime,
-    line: &[&str],
-    reader: &mut R,
-) -> Result<(u8, Vec<u8>, Vec<u8>), Fail> {
-    let mut out = Vec::new(rt.alloc());
-    let mut err = Vec::new(rt.alloc());
-    let status = status_of(rt, line, reader, &mut out, &mut err)?;
-    Ok((status, out, err))
-}
-
-/// The same of a text.
-fn ran(rt: &impl Runtime, line: &[&str], input: &[u8]) -> Result<(u8, Vec<u8>, Vec<u8>), Fail> {
-    let mut reader = input;
-    ran_on(rt, line, &mut reader)
-}
-
 #[test]
 fn wrong_command_lines(rt: HostRuntime) -> Result<(), Fail> {
     for line in WRONG_LINES {
-        let (status, out, err) = ran(&rt, line, PING_SESSION.as_bytes())?;
-        assert_eq!(rt; status, 2, "of {line:?}");
-        assert_eq!(rt; out.len(), 0, "of {line:?}");
-        assert_eq!(rt; err.as_slice(), USAGE.as_bytes(), "of {line:?}");
+        answers(&rt, line, PING_SESSION.as_bytes(), 2, "", USAGE)?;
     }
     Ok(())
 }
 
-/// Says that a line is not read, and that the session is left where it is.
-fn is_not_read(rt: &impl Runtime, line: &[&str]) -> Result<bool, Fail> {
+/// Says that a line is refused by this, and answers whether it leaves the session where it is.
+fn leaves_session(rt: &impl Runtime, line: &[&str], told: &str) -> Result<bool, Fail> {
     let mut reader = PING_SESSION.as_bytes();
-    let (status, out, err) = ran_on(rt, line, &mut reader)?;
-    Ok(
-        status == 2
-            && reader.len() == PING_SESSION.len()
-            && out.is_empty()
-            && err.as_slice() == USAGE.as_bytes(),
-    )
+    answers_on(rt, line, &mut reader, 2, "", told)?;
+    Ok(reader.len() == PING_SESSION.len())
 }
 
 #[test]
 fn run_needs_a_queue(rt: HostRuntime) -> Result<(), Fail> {
     for line in [["run"].as_slice(), ["run", "--queue"].as_slice()] {
-        assert!(rt; is_not_read(&rt, line)?, "of {line:?}");
+        assert!(rt; leaves_session(&rt, line, USAGE)?, "of {line:?}");
     }
     Ok(())
 }
@@ -143,31 +120,20 @@ fn run_needs_a_queue(rt: HostRuntime) -> Result<(), Fail> {
 #[test]
 fn no_such_queue(rt: HostRuntime) -> Result<(), Fail> {
     for name in ["", "stack", "Ring", "rings", "waitin", "ring waiting"] {
-        assert!(rt; is_not_read(&rt, &["run", "--queue", name])?, "of {name}");
+        let line = ["run", "--queue", name];
+        assert!(rt; leaves_session(&rt, &line, USAGE)?, "of {name}");
     }
     Ok(())
 }
 
-/// An input is refused by this line on standard error, and nothing is printed.
-fn assert_refused<R: Abort + Runtime>(
-    rt: &R,
-    line: &[&str],
-    input: &[u8],
-    told: &str,
-) -> Result<(), Fail> {
-    let (status, out, err) = ran(rt, line, input)?;
-    assert_eq!(rt; (status, out.len()), (3, 0), "of {line:?}: {told}");
-    assert_eq!(rt; err.as_slice(), told.as_bytes(), "of {line:?}");
-    Ok(())
+/// Says that an input is refused by this line on standard error, and that nothing is printed.
+fn refuses(rt: &impl Runtime, line: &[&str], input: &[u8], told: &str) -> Result<(), Fail> {
+    answers(rt, line, input, 3, "", told)
 }
 
-/// The program prints the whole report of the session, and nothing on standard error.
-fn assert_reports<R: Abort + Runtime>(rt: &R, line: &[&str]) -> Result<(), Fail> {
-    let (status, out, err) = ran(rt, line, PING_SESSION.as_bytes())?;
-    assert_eq!(rt; status, 0, "of {line:?}");
-    assert_eq!(rt; out.as_slice(), PING_REPORT.as_bytes(), "of {line:?}");
-    assert_eq!(rt; err.len(), 0, "of {line:?}");
-    Ok(())
+/// Says that the program prints the whole report of the session, and nothing on standard error.
+fn reports(rt: &impl Runtime, line: &[&str]) -> Result<(), Fail> {
+    answers(rt, line, PING_SESSION.as_bytes(), 0, PING_REPORT, "")
 }
 
 /// `run` prints what `plain` prints of a session that drains, whichever the queue, and as `--queue=`.
@@ -179,60 +145,69 @@ fn run_of_a_session(rt: HostRuntime) -> Result<(), Fail> {
         ["run", "--queue=waiting"].as_slice(),
         ["run", "--queue=ring", "--"].as_slice(),
     ] {
-        assert_reports(&rt, line)?;
-        assert_refused(&rt, line, b"{}", "session refused: 3 Missing\n")?;
+        reports(&rt, line)?;
+        refuses(&rt, line, b"{}", "session refused: 3 Missing\n")?;
     }
     Ok(())
 }
 
+/// The report of the session, of which nothing has moved.
+const UNMOVED: &str = "channel 0 open\ntail 0\nbytes 0 -\nwrites 0\n";
+
+/// Command lines and inputs, each with its status, what is printed and what is told on standard error.
+const STATUSES: &[(&[&str], &str, u8, &str, &str)] = &[
+    (&["replay"], PING_SESSION, 1, UNMOVED, ""),
+    (&["replay", "--moves="], PING_SESSION, 1, UNMOVED, ""),
+    (&["replay", "--moves", ""], PING_SESSION, 1, UNMOVED, ""),
+    (
+        &["replay", "--moves=R0x3 O0"],
+        PING_SESSION,
+        0,
+        PING_REPORT,
+        "",
+    ),
+    (
+        &["replay", "--moves", "R0x3 O0"],
+        PING_SESSION,
+        0,
+        PING_REPORT,
+        "",
+    ),
+    (
+        &["replay", "--moves=-"],
+        "",
+        2,
+        "",
+        "moves refused: 1 Form\n",
+    ),
+    (
+        &["replay", "--moves", "R00"],
+        "",
+        2,
+        "",
+        "moves refused: 1 Form\n",
+    ),
+    (
+        &["replay", "--moves", "R0x1000000 R0"],
+        "",
+        2,
+        "",
+        "moves refused: 2 Limit\n",
+    ),
+    (
+        &["replay", "--moves", "R5"],
+        PING_SESSION,
+        2,
+        "",
+        "replay refused: 1 NoSuch\n",
+    ),
+    (&["replay"], "", 3, "", "session refused: 1 NotJson\n"),
+];
+
 #[test]
 fn statuses(rt: HostRuntime) -> Result<(), Fail> {
-    for (line, input, want, told) in [
-        (["replay"].as_slice(), PING_SESSION, 1, ""),
-        (["replay", "--moves="].as_slice(), PING_SESSION, 1, ""),
-        (["replay", "--moves", ""].as_slice(), PING_SESSION, 1, ""),
-        (
-            ["replay", "--moves=R0x3 O0"].as_slice(),
-            PING_SESSION,
-            0,
-            "",
-        ),
-        (
-            ["replay", "--moves", "R0x3 O0"].as_slice(),
-            PING_SESSION,
-            0,
-            "",
-        ),
-        (
-            ["replay", "--moves=-"].as_slice(),
-            "",
-            2,
-            "moves refused: 1 Form\n",
-        ),
-        (
-            ["replay", "--moves", "R00"].as_slice(),
-            "",
-            2,
-            "moves refused: 1 Form\n",
-        ),
-        (
-            ["replay", "--moves", "R0x1000000 R0"].as_slice(),
-            "",
-            2,
-            "moves refused: 2 Limit\n",
-        ),
-        (
-            ["replay", "--moves", "R5"].as_slice(),
-            PING_SESSION,
-            2,
-            "replay refused: 1 NoSuch\n",
-        ),
-        (["replay"].as_slice(), "", 3, "session refused: 1 NotJson\n"),
-    ] {
-        let (status, out, err) = ran(&rt, line, input.as_bytes())?;
-        assert_eq!(rt; status, want, "of {line:?}");
-        assert_eq!(rt; out.is_empty(), 1 < want, "of {line:?}");
-        assert_eq!(rt; err.as_slice(), told.as_bytes(), "of {line:?}");
+    for &(line, input, status, out, err) in STATUSES {
+        answers(&rt, line, input.as_bytes(), status, out, err)?;
     }
     Ok(())
 }
@@ -245,24 +220,19 @@ fn plain_of_a_session(rt: HostRuntime) -> Result<(), Fail> {
         ["plain", "--"].as_slice(),
         ["replay", "--moves=R0x3 O0"].as_slice(),
     ] {
-        assert_reports(&rt, line)?;
+        reports(&rt, line)?;
     }
     let none = r#"{"version":1,"capacity":4,"loops":1,"channels":[]}"#;
-    let (status, out, err) = ran(&rt, &["plain"], none.as_bytes())?;
-    assert_eq!(rt; (status, out.len(), err.len()), (0, 0, 0));
-    Ok(())
+    answers(&rt, &["plain"], none.as_bytes(), 0, "", "")
 }
 
-/// A writer that fails after so many bytes of the session's report ends the program with status 4.
-fn assert_output_refused<R: Abort + Runtime>(rt: &R, word: &str, room: usize) -> Result<(), Fail> {
+/// Whether a writer that fails after so many bytes of the session's report ends the program with status 4.
+fn is_output_refused(rt: &impl Runtime, word: &str, room: usize) -> Result<bool, Fail> {
     let mut reader = PING_SESSION.as_bytes();
     let mut out = Failing { room };
     let mut err = Vec::new(rt.alloc());
     let status = status_of(rt, &[word], &mut reader, &mut out, &mut err)?;
-    assert_eq!(rt; status, 4);
-    assert_eq!(rt; out.room, 0);
-    assert_eq!(rt; err.as_slice(), b"output refused\n".as_slice());
-    Ok(())
+    Ok(status == 4 && out.room == 0 && err.as_slice() == b"output refused\n".as_slice())
 }
 
 /// Of `plain` too, nothing is printed of what is not a session, or where the writer fails.
@@ -273,19 +243,20 @@ fn plain_of_no_session(rt: HostRuntime) -> Result<(), Fail> {
         (b"{}".as_slice(), "session refused: 3 Missing\n"),
         (b"\xff".as_slice(), "session refused: 1 NotJson\n"),
     ] {
-        assert_refused(&rt, &["plain"], input, told)?;
+        refuses(&rt, &["plain"], input, told)?;
     }
-    assert_output_refused(&rt, "plain", 20)
+    assert!(rt; is_output_refused(&rt, "plain", 20)?);
+    Ok(())
 }
 
 /// A line that is not read leaves the session where it is.
 #[test]
 fn line_before_session(rt: HostRuntime) -> Result<(), Fail> {
-    for line in [["plain", "ping"], ["replay", "--moves=R00"]] {
-        let mut reader = PING_SESSION.as_bytes();
-        let (status, _, _) = ran_on(&rt, &line, &mut reader)?;
-        assert_eq!(rt; status, 2);
-        assert_eq!(rt; reader.len(), PING_SESSION.len());
+    for (line, told) in [
+        (["plain", "ping"], USAGE),
+        (["replay", "--moves=R00"], "moves refused: 1 Form\n"),
+    ] {
+        assert!(rt; leaves_session(&rt, &line, told)?, "of {line:?}");
     }
     Ok(())
 }
@@ -293,17 +264,16 @@ fn line_before_session(rt: HostRuntime) -> Result<(), Fail> {
 /// A session whose pipelines are not built ends with status 3, and with its number.
 #[test]
 fn refused_builds(rt: HostRuntime) -> Result<(), Fail> {
-    for (part, other, told) in UNBUILT {
+    for (part, other, _, told) in UNBUILT {
         let text = PING_SESSION.replace(rt.alloc(), part, other)?;
-        let line = format!(in rt.alloc(); "session refused: 6 Build {told}\n")?;
-        assert_refused(&rt, &["replay"], text.as_bytes(), line.as_str())?;
+        refuses(&rt, &["replay"], text.as_bytes(), told)?;
     }
     Ok(())
 }
 
 #[test]
 fn input_that_is_no_text(rt: HostRuntime) -> Result<(), Fail> {
-    assert_refused(&rt, &["replay"], b"\xff", "session refused: 1 NotJson\n")
+    refuses(&rt, &["replay"], b"\xff", "session refused: 1 NotJson\n")
 }
 
 #[test]
@@ -320,11 +290,8 @@ fn failing_reads(rt: HostRuntime) -> Result<(), Fail> {
             at_once,
             reads_left: fails_after,
         };
-        let (status, out, err) = ran_on(&rt, &["replay"], &mut reader)?;
-        assert_eq!(rt; status, 3);
+        answers_on(&rt, &["replay"], &mut reader, 3, "", want)?;
         assert_eq!(rt; fails_after.saturating_sub(reader.reads_left), reads);
-        assert_eq!(rt; out.len(), 0);
-        assert_eq!(rt; err.as_slice(), want.as_bytes());
     }
     Ok(())
 }
@@ -335,11 +302,11 @@ fn interrupted_reads(rt: HostRuntime) -> Result<(), Fail> {
     let of_each_byte = (PING_SESSION.len() as u64)
         .saturating_mul(2)
         .saturating_add(2);
-    for (at_once, times, tries, want, told) in [
-        (8_192, 1, 4, 0, ""),
-        (1, 1, of_each_byte, 0, ""),
-        (8_192, 16_777_215, 33_554_432, 0, ""),
-        (8_192, 16_777_216, 33_554_433, 3, "input refused\n"),
+    for (at_once, times, tries, status, out, err) in [
+        (8_192, 1, 4, 0, PING_REPORT, ""),
+        (1, 1, of_each_byte, 0, PING_REPORT, ""),
+        (8_192, 16_777_215, 33_554_432, 0, PING_REPORT, ""),
+        (8_192, 16_777_216, 33_554_433, 3, "", "input refused\n"),
     ] {
         let mut reader = Interrupted {
             text: PING_SESSION.as_bytes(),
@@ -349,13 +316,16 @@ fn interrupted_reads(rt: HostRuntime) -> Result<(), Fail> {
             tries: 0,
         };
         let line = ["replay", "--moves=R0x3 O0"];
-        let (status, out, err) = ran_on(&rt, &line, &mut reader)?;
-        assert_eq!(rt; status, want);
+        answers_on(&rt, &line, &mut reader, status, out, err)?;
         assert_eq!(rt; reader.tries, tries);
-        assert_eq!(rt; out.is_empty(), want == 3);
-        assert_eq!(rt; err.as_slice(), told.as_bytes());
     }
     Ok(())
+}
+
+/// The status of a line that is not read, whose usage this writer is told.
+fn status_of_no_line(rt: &impl Runtime, err: &mut Slow) -> Result<u8, Fail> {
+    let mut out = Vec::new(rt.alloc());
+    status_of(rt, &["fly"], &mut b"".as_slice(), &mut out, err)
 }
 
 /// A line is cut where its writer takes no more.
@@ -376,8 +346,6 @@ fn slow_second_writer(rt: HostRuntime) -> Result<(), Fail> {
         (8, 0, 0, 1, 0),
         (1_000, 1_000, 1 << 63, 1_000_000, 0),
     ] {
-        let mut reader = b"".as_slice();
-        let mut out = Vec::new(rt.alloc());
         let mut err = Slow {
             taken: Vec::new(rt.alloc()),
             at_once,
@@ -386,8 +354,7 @@ fn slow_second_writer(rt: HostRuntime) -> Result<(), Fail> {
             left: times,
             tries: 0,
         };
-        let status = status_of(&rt, &["fly"], &mut reader, &mut out, &mut err)?;
-        assert_eq!(rt; status, 2);
+        assert_eq!(rt; status_of_no_line(&rt, &mut err)?, 2);
         assert_eq!(rt; err.tries, tries);
         assert_eq!(rt;
             err.taken.as_slice(),
@@ -412,88 +379,90 @@ fn refused_words(rt: HostRuntime) -> Result<(), Fail> {
     Ok(())
 }
 
-/// Each fault of a session that a text can have, and a text that has it.
-fn refused_texts(rt: &impl AllocGlobal) -> Result<Vec<(SessionFault, String)>, Fail> {
-    let alloc = rt.alloc();
-    let mut texts = Vec::new(alloc);
-    for (fault, text) in [
-        (SessionFault::NotJson, "{\"version\":1"),
-        (SessionFault::Version, "{\"version\":9}"),
-        (SessionFault::Missing, "{\"version\":1}"),
-        (SessionFault::Kind, "[]"),
-        (SessionFault::Limit, "{\"version\":1,\"capacity\":0}"),
-    ] {
-        texts.push((fault, String::from_str(alloc, text)?))?;
-    }
-    let faults = [
-        BuildFault::DuplicateName,
-        BuildFault::NoSuchName,
-        BuildFault::Limit,
-        BuildFault::NoSuchGroup,
-        BuildFault::NoTurn,
-        BuildFault::TwoTurns,
-        BuildFault::Marks,
-    ];
-    for ((part, other, _), fault) in UNBUILT.iter().zip(&faults) {
-        let text = PING_SESSION.replace(alloc, part, other)?;
-        texts.push((SessionFault::Build(*fault), text))?;
-    }
-    Ok(texts)
+/// Says that a session text is refused by this fault, and that the program's line is the fault's own text.
+fn refuses_session<R: Abort + Runtime>(
+    rt: &R,
+    text: &str,
+    fault: SessionFault,
+) -> Result<(), Fail> {
+    assert_eq!(rt; read_session(rt.alloc(), text).err(), Some(fault));
+    let told = format!(in rt.alloc(); "session refused: {fault}\n")?;
+    refuses(rt, &["replay"], text.as_bytes(), told.as_str())
+}
+
+/// The same of a text of moves.
+fn refuses_moves<R: Abort + Runtime>(rt: &R, moves: &str, fault: MovesFault) -> Result<(), Fail> {
+    assert_eq!(rt; read_moves(rt.alloc(), moves).err(), Some(fault));
+    let told = format!(in rt.alloc(); "moves refused: {fault}\n")?;
+    replays(rt, PING_SESSION, moves, 2, "", told.as_str())
+}
+
+/// The fault of a replay of the session by these moves.
+fn replay_fault(alloc: Global, moves: &str) -> Result<Option<ReplayFault>, Fail> {
+    let moves = read_moves(alloc, moves)?;
+    let session = read_session(alloc, PING_SESSION)?;
+    Ok(replay(alloc, session, moves.as_slice()).err())
+}
+
+/// The same of a move that is read, and of whose channel there is none.
+fn refuses_replay<R: Abort + Runtime>(rt: &R) -> Result<(), Fail> {
+    let fault = ReplayFault::NoSuch;
+    assert_eq!(rt; replay_fault(rt.alloc(), "R5")?, Some(fault));
+    let told = format!(in rt.alloc(); "replay refused: {fault}\n")?;
+    let line = ["replay", "--moves=R5"];
+    answers(rt, &line, PING_SESSION.as_bytes(), 2, "", told.as_str())
 }
 
 /// The lines are those of the faults' own texts.
 #[test]
 fn lines_of_faults(rt: HostRuntime) -> Result<(), Fail> {
-    for (fault, text) in refused_texts(&rt)? {
-        assert_eq!(rt; read_session(rt.alloc(), text.as_str()).err(), Some(fault));
-        let want = format!(in rt.alloc(); "session refused: {fault}\n")?;
-        let (_, _, err) = ran(&rt, &["replay"], text.as_bytes())?;
-        assert_eq!(rt; err.as_slice(), want.as_bytes());
-    }
-    for (fault, moves) in [
-        (MovesFault::Form, "R00"),
-        (MovesFault::Limit, "R0x1000000 R0"),
+    for (text, fault) in [
+        ("{\"version\":1", SessionFault::NotJson),
+        ("{\"version\":9}", SessionFault::Version),
+        ("{\"version\":1}", SessionFault::Missing),
+        ("[]", SessionFault::Kind),
+        ("{\"version\":1,\"capacity\":0}", SessionFault::Limit),
     ] {
-        assert_eq!(rt; read_moves(rt.alloc(), moves).err(), Some(fault));
-        let want = format!(in rt.alloc(); "moves refused: {fault}\n")?;
-        let (_, _, err) = ran(&rt, &["replay", "--moves", moves], PING_SESSION.as_bytes())?;
-        assert_eq!(rt; err.as_slice(), want.as_bytes());
+        refuses_session(&rt, text, fault)?;
     }
-    let session = read_session(rt.alloc(), PING_SESSION)?;
-    let moves = read_moves(rt.alloc(), "R5")?;
-    let fault = ReplayFault::NoSuch;
-    assert_eq!(rt;
-        replay(rt.alloc(), session, moves.as_slice()).err(),
-        Some(fault)
-    );
-    let want = format!(in rt.alloc(); "replay refused: {fault}\n")?;
-    let (_, _, err) = ran(&rt, &["replay", "--moves=R5"], PING_SESSION.as_bytes())?;
-    assert_eq!(rt; err.as_slice(), want.as_bytes());
-    Ok(())
+    for (part, other, fault, _) in UNBUILT {
+        let text = PING_SESSION.replace(rt.alloc(), part, other)?;
+        refuses_session(&rt, text.as_str(), SessionFault::Build(fault))?;
+    }
+    refuses_moves(&rt, "R00", MovesFault::Form)?;
+    refuses_moves(&rt, "R0x1000000 R0", MovesFault::Limit)?;
+    refuses_replay(&rt)
 }
 
 #[test]
 fn failing_writes(rt: HostRuntime) -> Result<(), Fail> {
     for room in [0, 1, 20] {
-        assert_output_refused(&rt, "replay", room)?;
+        assert!(rt; is_output_refused(&rt, "replay", room)?, "after {room}");
     }
     Ok(())
+}
+
+/// The status of a line of one word whose second writer takes nothing.
+fn status_untold<W: Write>(
+    rt: &impl Runtime,
+    word: &str,
+    input: &[u8],
+    out: &mut W,
+) -> Result<u8, Fail> {
+    let mut reader = input;
+    let mut err = Failing { room: 0 };
+    status_of(rt, &[word], &mut reader, out, &mut err)
 }
 
 #[test]
 fn failing_second_writer(rt: HostRuntime) -> Result<(), Fail> {
     for (word, want) in [("fly", 2), ("replay", 3)] {
-        let mut reader = b"".as_slice();
         let mut out = Vec::new(rt.alloc());
-        let mut err = Failing { room: 0 };
-        let status = status_of(&rt, &[word], &mut reader, &mut out, &mut err)?;
-        assert_eq!(rt; status, want);
+        assert_eq!(rt; status_untold(&rt, word, b"", &mut out)?, want);
         assert_eq!(rt; out.len(), 0);
     }
-    let mut reader = PING_SESSION.as_bytes();
     let mut out = Failing { room: 0 };
-    let mut err = Failing { room: 0 };
-    let status = status_of(&rt, &["replay"], &mut reader, &mut out, &mut err)?;
+    let status = status_untold(&rt, "replay", PING_SESSION.as_bytes(), &mut out)?;
     assert_eq!(rt; status, 4);
     Ok(())
 }

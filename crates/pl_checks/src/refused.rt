@@ -1,13 +1,12 @@
 //! Sessions and schedules that are refused: the status, the line on standard error, and nothing on standard output.
 
-use crate::running::{Runtime, answers, replayed};
+use crate::running::{Runtime, replays};
 use crate::sessions::{DECODER_APART, PING, line_protocol, line_session, piped};
 use std::alloc::AllocError;
 use std::test::Fail;
 
 fn refuses(rt: &impl Runtime, text: &str, moves: &str, status: u8, line: &str) -> Result<(), Fail> {
-    answers(replayed(rt, text, moves)?, status, "", line)?;
-    Ok(())
+    replays(rt, text, moves, status, "", line)
 }
 
 #[test]
@@ -46,6 +45,18 @@ fn refuses_to_build(rt: &impl Runtime, text: &str, reason: &str) -> Result<(), F
     refuses(rt, text, "", 3, line.as_str())
 }
 
+/// The same of a session with these groups, marks and edits.
+fn refuses_built(
+    rt: &impl Runtime,
+    groups: &str,
+    marks: &str,
+    more: &str,
+    reason: &str,
+) -> Result<(), Fail> {
+    let text = built(rt, groups, marks, more)?;
+    refuses_to_build(rt, text.as_str(), reason)
+}
+
 #[test]
 fn builder_refusals(rt: HostRuntime) -> Result<(), Fail> {
     for (more, reason) in [
@@ -60,8 +71,7 @@ fn builder_refusals(rt: HostRuntime) -> Result<(), Fail> {
         (r#",{"op":"remove","name":"nobody"}"#, "2 NoSuchName"),
         (r#",{"op":"last","name":"","kind":"decode"}"#, "3 Limit"),
     ] {
-        let text = built(&rt, "", "", more)?;
-        refuses_to_build(&rt, text.as_str(), reason)?;
+        refuses_built(&rt, "", "", more, reason)?;
     }
     Ok(())
 }
@@ -83,8 +93,7 @@ fn build_refusals(rt: HostRuntime) -> Result<(), Fail> {
         (r#""low":9,"high":8,"#, "", "7 Marks"),
         (r#""high":100,"#, "", "7 Marks"),
     ] {
-        let text = built(&rt, "", marks, more)?;
-        refuses_to_build(&rt, text.as_str(), reason)?;
+        refuses_built(&rt, "", marks, more, reason)?;
     }
     let nothing = piped(&rt, "", "[]")?;
     refuses_to_build(&rt, nothing.as_str(), "5 NoTurn")
@@ -101,8 +110,7 @@ fn group_refusals(rt: HostRuntime) -> Result<(), Fail> {
             "1 DuplicateName",
         ),
     ] {
-        let text = built(&rt, groups, "", "")?;
-        refuses_to_build(&rt, text.as_str(), reason)?;
+        refuses_built(&rt, groups, "", "", reason)?;
     }
     Ok(())
 }

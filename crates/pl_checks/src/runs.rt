@@ -1,14 +1,14 @@
 //! Sessions that are run, over each queue: no channel is left open, what each channel's tail and transport got begins what
 //! `plain` gives, and is all of it where the channel is drained.
 
-use crate::fair::begins;
-use crate::running::{Runtime, answers, ran_over};
-use crate::sessions;
+use crate::fair::{begins, whole};
+use crate::running::Runtime;
 use crate::sessions::{LINE_ACROSS_BURSTS, LineSession, PING, QUIT, failing_session};
+use crate::{running, sessions};
 use pl_event::Cause;
 use pl_exec::{Gate, QueueKind, run};
 use pl_text::read_session;
-use pl_world::{Report, Stands, plain};
+use pl_world::{Report, Stands};
 use std::process::Abort;
 use std::test::Fail;
 
@@ -22,11 +22,14 @@ impl Gate for NoGate {
 
 const QUEUES: [QueueKind; 2] = [QueueKind::Waiting, QueueKind::Ring];
 
-/// What a run of the session of a text reports. It is looked at whether its channels have ended as they should.
-fn ended<R: Abort + Runtime>(rt: &R, text: &str, queue: QueueKind) -> Result<Report, Fail> {
-    let alloc = rt.alloc();
-    let report = run(rt, alloc, read_session(alloc, text)?, queue, &NoGate)?;
-    let whole = plain(alloc, read_session(alloc, text)?)?;
+/// What a run of the session of a text reports.
+fn reported(rt: &impl Runtime, text: &str, queue: QueueKind) -> Result<Report, Fail> {
+    let session = read_session(rt.alloc(), text)?;
+    Ok(run(rt, rt.alloc(), session, queue, &NoGate)?)
+}
+
+/// Each channel has ended, and begins its whole report.
+fn assert_ended(rt: &impl Abort, report: &Report, whole: &Report, queue: QueueKind, text: &str) {
     let (parts, wholes) = (report.channels.as_slice(), whole.channels.as_slice());
     assert_eq!(rt; parts.len(), wholes.len());
     for (part, whole) in parts.iter().zip(wholes) {
@@ -36,23 +39,52 @@ fn ended<R: Abort + Runtime>(rt: &R, text: &str, queue: QueueKind) -> Result<Rep
             "{queue:?}: {part:?} of {text}"
         );
     }
+}
+
+/// What a run of the session of a text reports. It is looked at whether its channels have ended as they should.
+fn ended<R: Abort + Runtime>(rt: &R, text: &str, queue: QueueKind) -> Result<Report, Fail> {
+    let whole = whole(rt.alloc(), text)?;
+    let report = reported(rt, text, queue)?;
+    assert_ended(rt, &report, &whole, queue, text);
     Ok(report)
+}
+
+/// Each channel of a report stands so.
+fn assert_stands(rt: &impl Abort, report: &Report, stands: Stands, queue: QueueKind, text: &str) {
+    for channel in report.channels.as_slice() {
+        assert_eq!(rt; channel.stands, stands, "{queue:?}: {text}");
+    }
+}
+
+/// Says that each channel of a session stands so after a run.
+fn stands_after<R: Abort + Runtime>(
+    rt: &R,
+    text: &str,
+    queue: QueueKind,
+    stands: Stands,
+) -> Result<(), Fail> {
+    let report = ended(rt, text, queue)?;
+    assert_stands(rt, &report, stands, queue, text);
+    Ok(())
 }
 
 /// Says that each channel of a session is drained by a run.
 fn drains<R: Abort + Runtime>(rt: &R, text: &str, queue: QueueKind) -> Result<(), Fail> {
-    for channel in ended(rt, text, queue)?.channels.as_slice() {
-        assert_eq!(rt; channel.stands, Stands::Drained, "{queue:?}: {text}");
-    }
-    Ok(())
+    stands_after(rt, text, queue, Stands::Drained)
+}
+
+/// Says that each channel of a session is drained over either queue, where a waiting one has room.
+fn drains_over_each<R: Abort + Runtime>(rt: &R, text: &str) -> Result<(), Fail> {
+    drains(rt, text, QueueKind::Ring)?;
+    let roomy = sessions::with_room(rt, text)?;
+    drains(rt, roomy.as_str(), QueueKind::Waiting)
 }
 
 #[test]
 fn runs_drain_every_example(rt: HostRuntime) -> Result<(), Fail> {
-    for text in sessions::examples(&rt)? {
-        drains(&rt, text.as_str(), QueueKind::Ring)?;
-        let roomy = sessions::with_room(&rt, text.as_str())?;
-        drains(&rt, roomy.as_str(), QueueKind::Waiting)?;
+    let texts = sessions::examples(&rt)?;
+    for text in texts.as_slice() {
+        drains_over_each(&rt, text.as_str())?;
     }
     Ok(())
 }
@@ -97,9 +129,7 @@ fn fails<R: Abort + Runtime>(
 ) -> Result<(), Fail> {
     let text = failing_session(rt, session, members)?;
     for queue in QUEUES {
-        for channel in ended(rt, text.as_str(), queue)?.channels.as_slice() {
-            assert_eq!(rt; channel.stands, stands, "{queue:?}: {members}");
-        }
+        stands_after(rt, text.as_str(), queue, stands)?;
     }
     Ok(())
 }
@@ -137,17 +167,23 @@ fn abort(rt: HostRuntime) -> Result<(), Fail> {
     Ok(())
 }
 
+/// Says that a session whose transport fails at this call ends, whichever the queue.
+fn ends_across_groups<R: Abort + Runtime>(rt: &R, call: u8, rest: &str) -> Result<(), Fail> {
+    let members = format!(in rt.alloc(); ",\"window\":3,\"fail_at\":{call}{rest}")?;
+    let text = sessions::totals_across_groups(rt, 1, members.as_str())?;
+    for queue in QUEUES {
+        ended(rt, text.as_str(), queue)?;
+    }
+    Ok(())
+}
+
 /// Whichever of the two failures is the first, and at whichever call: it goes from executor to executor, past items that
 /// wait for room.
 #[test]
 fn failures_across_groups(rt: HostRuntime) -> Result<(), Fail> {
     for call in 1..9 {
         for rest in ["", r#","abort_after":0"#, r#","abort_after":1"#] {
-            let members = format!(in rt.alloc(); ",\"window\":3,\"fail_at\":{call}{rest}")?;
-            let text = sessions::totals_across_groups(&rt, 1, members.as_str())?;
-            for queue in QUEUES {
-                ended(&rt, text.as_str(), queue)?;
-            }
+            ends_across_groups(&rt, call, rest)?;
         }
     }
     Ok(())
@@ -159,7 +195,7 @@ fn status_of_a_failed_run(rt: HostRuntime) -> Result<(), Fail> {
     let text = failing_session(&rt, PING, r#","abort_after":0"#)?;
     let report = "channel 0 failed Aborted\ntail 1\nActive\nbytes 0 -\nwrites 0\n";
     for queue in ["waiting", "ring"] {
-        answers(ran_over(&rt, text.as_str(), queue)?, 1, report, "")?;
+        running::runs(&rt, text.as_str(), queue, 1, report)?;
     }
     Ok(())
 }

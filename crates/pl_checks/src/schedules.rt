@@ -1,13 +1,12 @@
 //! Schedules that leave a ping open, and what each has made of it.
 
-use crate::running::{Runtime, answers, replayed};
+use crate::running::{Runtime, replays};
 use crate::sessions::{DECODER_APART, PING, burst_held, line_session, watermarks};
 use std::test::Fail;
 
 /// Says that a schedule of the session of a text reports this, and leaves a channel open.
 fn leaves(rt: &impl Runtime, text: &str, moves: &str, report: &str) -> Result<(), Fail> {
-    answers(replayed(rt, text, moves)?, 1, report, "")?;
-    Ok(())
+    replays(rt, text, moves, 1, report, "")
 }
 
 /// Says that a schedule of the ping session reports this, and leaves the channel open.

@@ -218,21 +218,34 @@ pub(crate) fn with_room(rt: &impl AllocGlobal, text: &str) -> Result<String, All
     text.replace(rt.alloc(), r#""capacity":4,"#, r#""capacity":64,"#)
 }
 
+/// Adds a text, if there is memory for it.
+pub(crate) fn add(
+    texts: &mut Vec<String>,
+    text: Result<String, AllocError>,
+) -> Result<(), AllocError> {
+    texts.push(text?)?;
+    Ok(())
+}
+
+/// Adds the text of each example's session, each once.
+fn add_examples(rt: &impl AllocGlobal, texts: &mut Vec<String>) -> Result<(), AllocError> {
+    for session in LINE_SESSIONS {
+        add(texts, line_session(rt, session))?;
+    }
+    add(texts, encoder_behind_turn(rt))?;
+    add(texts, flush_never_comes(rt))?;
+    add(texts, watermarks(rt))?;
+    add(texts, burst_held(rt))?;
+    add(texts, burst_not_held(rt))?;
+    add(texts, edits_in_any_order(rt))?;
+    add(texts, String::from_str(rt.alloc(), NO_CHANNELS))?;
+    add(texts, group_placing(rt))?;
+    add(texts, String::from_str(rt.alloc(), DECODER_APART))
+}
+
 /// The text of each example's session, each once.
 pub(crate) fn examples(rt: &impl AllocGlobal) -> Result<Vec<String>, AllocError> {
-    let alloc = rt.alloc();
-    let mut texts = Vec::new(alloc);
-    for session in LINE_SESSIONS {
-        texts.push(line_session(rt, session)?)?;
-    }
-    texts.push(encoder_behind_turn(rt)?)?;
-    texts.push(flush_never_comes(rt)?)?;
-    texts.push(watermarks(rt)?)?;
-    texts.push(burst_held(rt)?)?;
-    texts.push(burst_not_held(rt)?)?;
-    texts.push(edits_in_any_order(rt)?)?;
-    texts.push(String::from_str(alloc, NO_CHANNELS)?)?;
-    texts.push(group_placing(rt)?)?;
-    texts.push(String::from_str(alloc, DECODER_APART)?)?;
+    let mut texts = Vec::new(rt.alloc());
+    add_examples(rt, &mut texts)?;
     Ok(texts)
 }
