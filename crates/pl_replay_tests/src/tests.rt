@@ -11,16 +11,15 @@ mod user_stage_tests;
 mod world_tests;
 mod writability_tests;
 
-use crate::tests::world_tests::world_of;
-use pl_build::{Groups, PipelineBuilder, Placed};
-use pl_event::{ByteString, Command, Event, Message, Outcome, Sequence, Stage};
-use pl_head::{MemoryTransport, ReadPlan};
+use crate::tests::net_tests::{TOTALS, TOTALS_SENT, world};
+use pl_event::{ByteString, Command, Event, Message, Outcome, Reply, Stage};
 use pl_replay::replay;
 use pl_stages::{
     CommandDecoder, FlushEvery, Handler, LineEnd, LineFramer, LineService, ReplyEncoder,
 };
-use pl_world::{ChannelReport, Move, Recorded, ReplayFault, Report, Session, Stands, plain};
+use pl_world::{ChannelReport, Move, ReplayFault, Report, Session, Stands, plain};
 use std::alloc::{AllocError, Global};
+use std::fmt::Display;
 use std::process::Abort;
 use std::test::Fail;
 
@@ -40,23 +39,88 @@ pub(crate) enum Kind {
     Service,
 }
 
+/// Handlers, in order, each in a group or in none.
+pub(crate) type Kinds<'a> = &'a [(Kind, Option<&'a str>)];
+
+/// The chunks of each burst that a channel reads.
+pub(crate) type Bursts<'a> = &'a [&'a [&'a [u8]]];
+
 /// The handlers of the line protocol.
-pub(crate) const LINE_PROTOCOL: [Kind; 5] = [
-    Kind::Lines,
-    Kind::Decode,
-    Kind::LineEnd,
-    Kind::Encode,
-    Kind::Service,
+pub(crate) const LINE_PROTOCOL: Kinds = &[
+    (Kind::Lines, None),
+    (Kind::Decode, None),
+    (Kind::LineEnd, None),
+    (Kind::Encode, None),
+    (Kind::Service, None),
 ];
 
-/// The same, with the encoder behind the turn.
-const ENCODER_BEHIND: [Kind; 5] = [
-    Kind::Lines,
-    Kind::Decode,
-    Kind::LineEnd,
-    Kind::Service,
-    Kind::Encode,
+/// The same handlers, with the encoder behind the turn.
+const ENCODER_BEHIND: Kinds = &[
+    (Kind::Lines, None),
+    (Kind::Decode, None),
+    (Kind::LineEnd, None),
+    (Kind::Service, None),
+    (Kind::Encode, None),
 ];
+
+/// The line protocol where each second flush passes.
+pub(crate) const FLUSH_EVERY: Kinds = &[
+    (Kind::FlushEvery, None),
+    (Kind::Lines, None),
+    (Kind::Decode, None),
+    (Kind::LineEnd, None),
+    (Kind::Encode, None),
+    (Kind::Service, None),
+];
+
+/// One burst of one chunk.
+pub(crate) const PING: Bursts = &[&[b"PING\n"]];
+
+/// The same with both bytes of a line end.
+pub(crate) const PING_CRLF: Bursts = &[&[b"PING\r\n"]];
+
+/// An event that reaches a tail, as a table says it.
+#[derive(Clone, Copy, Debug)]
+pub(crate) enum Seen {
+    Active,
+    Line(&'static [u8]),
+    Ping,
+    Quit,
+    Echo(&'static [u8]),
+    Total(u64),
+    ReadComplete,
+}
+
+impl Seen {
+    fn is(self, event: &Event) -> bool {
+        match (self, event) {
+            (Seen::Active, Event::Active) | (Seen::ReadComplete, Event::ReadComplete) => true,
+            (_, Event::Read(message)) => self.is_of(message),
+            _ => false,
+        }
+    }
+
+    /// Whether it is that this message is read.
+    fn is_of(self, message: &Message) -> bool {
+        match (self, message) {
+            (Seen::Line(bytes), Message::Line(line)) => line.as_slice() == bytes,
+            (Seen::Ping, Message::Command(Command::Ping)) => true,
+            (Seen::Quit, Message::Command(Command::Quit)) => true,
+            (Seen::Echo(bytes), Message::Command(Command::Echo(text))) => text.as_slice() == bytes,
+            (Seen::Total(want), Message::Reply(Reply::Total(total))) => *total == want,
+            _ => false,
+        }
+    }
+}
+
+/// What reaches the tail where nothing is read.
+pub(crate) const ACTIVE_TAIL: &[Seen] = &[Seen::Active];
+
+/// What reaches the tail where `PING` is served.
+pub(crate) const PING_TAIL: &[Seen] = &[Seen::Active, Seen::Ping, Seen::ReadComplete];
+
+/// What reaches the tail where a client says `PING` and quits.
+pub(crate) const QUIT_TAIL: &[Seen] = &[Seen::Active, Seen::Ping, Seen::Quit];
 
 /// The first channel's next read step, and a write to its transport.
 pub(crate) const READ: Move = Move::Read(0);
@@ -82,89 +146,47 @@ pub(crate) fn handler(alloc: Global, kind: Kind) -> Result<Handler, Fail>
     }
 }
 
-/// A pipeline of these handlers, in order, with names made of their places.
-fn pipeline(alloc: Global, groups: &mut Groups, kinds: &[Kind]) -> Result<Placed<Handler>, Fail> {
-    let mut builder = PipelineBuilder::new(alloc);
-    for (place, kind) in kinds.iter().enumerate() {
-        let name = format!(in alloc; "h{place}")?;
-        let stage = handler(alloc, *kind)?;
-        builder.add_last(name.as_str(), None, stage)?;
-    }
-    Ok(builder.build(groups)?)
-}
-
 pub(crate) fn text(alloc: Global, bytes: &[u8]) -> Result<ByteString, AllocError> {
     Ok(ByteString::from_vec(Vec::from_slice(alloc, bytes)?))
 }
 
-/// A channel with one burst of one chunk, or with none.
-fn channel(
-    alloc: Global,
-    groups: &mut Groups,
-    kinds: &[Kind],
-    chunk: Option<&[u8]>,
-) -> Result<Recorded<Handler, MemoryTransport>, Fail> {
-    let pipeline = pipeline(alloc, groups, kinds)?;
-    let mut bursts = Sequence::new(alloc);
-    if let Some(bytes) = chunk {
-        let mut burst = Sequence::new(alloc);
-        burst.push(text(alloc, bytes)?)?;
-        bursts.push(burst)?;
-    }
-    let input = ReadPlan {
-        bursts,
-        abort_after: None,
-    };
-    Ok(Recorded {
-        pipeline,
-        input,
-        transport: MemoryTransport::new(alloc, 65_536, None),
-    })
-}
-
-/// A session of these channels.
+/// A session of channels of these handlers, each with its input, on one loop, with groups of these sizes.
 fn session(
     alloc: Global,
-    groups: &Groups,
-    channels: Vec<Recorded<Handler, MemoryTransport>>,
+    sizes: &[(&str, u16)],
+    handlers: &[Kinds],
+    inputs: &[Bursts],
 ) -> Result<Session, Fail> {
-    let mut pipelines = Sequence::new(alloc);
-    let mut inputs = Sequence::new(alloc);
-    for recorded in channels {
-        let Recorded {
-            pipeline,
-            input,
-            ..
-        } = recorded;
-        pipelines.push(pipeline)?;
-        inputs.push(input)?;
-    }
-    let world = world_of(alloc, pipelines, inputs, groups.executors())?;
+    let world = world(alloc, sizes, handlers, inputs)?;
     Ok(Session { world, capacity: 4 })
 }
 
-/// A session of one channel on one loop.
-fn session_of_one(alloc: Global, kinds: &[Kind], chunk: Option<&[u8]>) -> Result<Session, Fail> {
-    let mut groups = Groups::new(alloc, 1, &[])?;
-    let recorded = channel(alloc, &mut groups, kinds, chunk)?;
-    let channels = vec![in alloc; recorded]?;
-    session(alloc, &groups, channels)
-}
-
-/// The report of one channel on one loop.
-fn replay_one(
+/// The report of channels on one loop.
+fn replay_all(
     alloc: Global,
-    kinds: &[Kind],
-    chunk: Option<&[u8]>,
+    handlers: &[Kinds],
+    inputs: &[Bursts],
     moves: &[Move],
 ) -> Result<Report, Fail> {
-    let session = session_of_one(alloc, kinds, chunk)?;
+    let session = session(alloc, &[], handlers, inputs)?;
     Ok(replay(alloc, session, moves)?)
 }
 
+/// The report of one channel on one loop.
+fn replay_one(alloc: Global, kinds: Kinds, bursts: Bursts, moves: &[Move]) -> Result<Report, Fail> {
+    let session = session(alloc, &[], &[kinds], &[bursts])?;
+    Ok(replay(alloc, session, moves)?)
+}
+
+/// The whole report of channels on one loop.
+fn plain_all(alloc: Global, handlers: &[Kinds], inputs: &[Bursts]) -> Result<Report, Fail> {
+    let session = session(alloc, &[], handlers, inputs)?;
+    Ok(plain(alloc, session)?)
+}
+
 /// The whole report of one channel on one loop.
-fn plain_one(alloc: Global, kinds: &[Kind], chunk: Option<&[u8]>) -> Result<Report, Fail> {
-    let session = session_of_one(alloc, kinds, chunk)?;
+fn plain_one(alloc: Global, kinds: Kinds, bursts: Bursts) -> Result<Report, Fail> {
+    let session = session(alloc, &[], &[kinds], &[bursts])?;
     Ok(plain(alloc, session)?)
 }
 
@@ -172,28 +194,59 @@ pub(crate) fn assert_channel(
     rt: &impl Abort,
     report: &ChannelReport,
     stands: Stands,
-    tail: &[Event],
+    tail: &[Seen],
+    bytes: &[u8],
+    writes: &[Option<Outcome>],
+) {
+    assert_tail(rt, report.tail.as_slice(), tail);
+    assert_sent(rt, report, stands, bytes, writes);
+}
+
+fn assert_tail(rt: &impl Abort, tail: &[Event], want: &[Seen]) {
+    assert_eq!(rt; tail.len(), want.len());
+    for (event, seen) in tail.iter().zip(want) {
+        assert!(rt; seen.is(event), "{event:?} is not {seen:?}");
+    }
+}
+
+/// Asserts how a channel stands, with these bytes and these writes.
+pub(crate) fn assert_sent(
+    rt: &impl Abort,
+    report: &ChannelReport,
+    stands: Stands,
     bytes: &[u8],
     writes: &[Option<Outcome>],
 ) {
     assert_eq!(rt; report.stands, stands);
-    assert_eq!(rt; report.tail.as_slice(), tail);
     assert_eq!(rt; report.bytes.as_slice(), bytes);
     assert_eq!(rt; report.writes.as_slice(), writes);
 }
 
 /// Asserts that two reports of a channel are the same.
-pub(crate) fn assert_same(rt: &impl Abort, report: &ChannelReport, want: &ChannelReport) {
-    let tail = want.tail.as_slice();
+fn assert_same(rt: &impl Abort, report: &ChannelReport, want: &ChannelReport) {
+    assert_eq!(rt; report.tail.as_slice(), want.tail.as_slice());
     let writes = want.writes.as_slice();
-    assert_channel(rt, report, want.stands, tail, want.bytes.as_slice(), writes);
+    assert_sent(rt, report, want.stands, want.bytes.as_slice(), writes);
+}
+
+/// Asserts that channels are drained, each with the same report.
+pub(crate) fn assert_each_same(
+    rt: &impl Abort,
+    reports: &[ChannelReport],
+    wants: &[ChannelReport],
+) {
+    assert_eq!(rt; reports.len(), wants.len());
+    for (report, want) in reports.iter().zip(wants) {
+        assert_eq!(rt; report.stands, Stands::Drained);
+        assert_same(rt, report, want);
+    }
 }
 
 /// Asserts that a channel is drained, with this tail, these bytes and these writes.
 pub(crate) fn assert_drained(
     rt: &impl Abort,
     report: &ChannelReport,
-    tail: &[Event],
+    tail: &[Seen],
     bytes: &[u8],
     writes: &[Option<Outcome>],
 ) {
@@ -202,14 +255,14 @@ pub(crate) fn assert_drained(
 
 /// Asserts that `PING` was served by a channel, and its reply written.
 pub(crate) fn assert_pong(rt: &impl Abort, report: &ChannelReport) {
-    assert_drained(rt, report, &ping_tail(), b"+PONG\r\n", &[SUCCESS]);
+    assert_drained(rt, report, PING_TAIL, b"+PONG\r\n", &[SUCCESS]);
 }
 
 pub(crate) fn assert_one(
     rt: &impl Abort,
     report: &Report,
     stands: Stands,
-    tail: &[Event],
+    tail: &[Seen],
     bytes: &[u8],
     writes: &[Option<Outcome>],
 ) {
@@ -227,31 +280,30 @@ pub(crate) fn assert_ping(rt: &impl Abort, report: &Report) {
     assert_pong(rt, only_channel(rt, report));
 }
 
-pub(crate) fn read_command(command: Command) -> Event {
-    Event::Read(Message::Command(command))
-}
-
-/// What reaches the tail where `PING` is served.
-pub(crate) fn ping_tail() -> [Event; 3] {
-    [
-        Event::Active,
-        read_command(Command::Ping),
-        Event::ReadComplete,
-    ]
+/// Asserts that a value is told so.
+pub(crate) fn assert_named(
+    rt: &impl Abort,
+    alloc: Global,
+    value: &impl Display,
+    name: &str,
+) -> Result<(), Fail> {
+    let told = format!(in alloc; "{value}")?;
+    assert_eq!(rt; told.as_str(), name);
+    Ok(())
 }
 
 #[test]
 fn no_bursts(rt: HostRuntime) -> Result<(), Fail> {
     let moves = [READ, READ];
-    let report = replay_one(rt.alloc(), &LINE_PROTOCOL, None, &moves)?;
-    assert_one(&rt, &report, Stands::Drained, &[Event::Active], b"", &[]);
+    let report = replay_one(rt.alloc(), LINE_PROTOCOL, &[], &moves)?;
+    assert_one(&rt, &report, Stands::Drained, ACTIVE_TAIL, b"", &[]);
     Ok(())
 }
 
 #[test]
 fn ping(rt: HostRuntime) -> Result<(), Fail> {
     let moves = [READ, READ, READ, OUT];
-    let report = replay_one(rt.alloc(), &LINE_PROTOCOL, Some(b"PING\r\n"), &moves)?;
+    let report = replay_one(rt.alloc(), LINE_PROTOCOL, PING_CRLF, &moves)?;
     assert_ping(&rt, &report);
     Ok(())
 }
@@ -259,36 +311,64 @@ fn ping(rt: HostRuntime) -> Result<(), Fail> {
 #[test]
 fn out_before_read(rt: HostRuntime) -> Result<(), Fail> {
     let moves = [OUT, READ, READ];
-    let report = replay_one(rt.alloc(), &LINE_PROTOCOL, Some(b"PING\r\n"), &moves)?;
-    assert_one(&rt, &report, Stands::Open, &ping_tail(), b"", &[None]);
+    let report = replay_one(rt.alloc(), LINE_PROTOCOL, PING_CRLF, &moves)?;
+    assert_one(&rt, &report, Stands::Open, PING_TAIL, b"", &[None]);
     Ok(())
 }
 
 #[test]
 fn encoder_behind_turn(rt: HostRuntime) -> Result<(), Fail> {
     let moves = [READ, READ, READ, OUT];
-    let report = replay_one(rt.alloc(), &ENCODER_BEHIND, Some(b"PING\n"), &moves)?;
+    let report = replay_one(rt.alloc(), ENCODER_BEHIND, PING, &moves)?;
     let writes = [Some(Outcome::Unsupported)];
-    assert_one(&rt, &report, Stands::Drained, &ping_tail(), b"", &writes);
+    assert_one(&rt, &report, Stands::Drained, PING_TAIL, b"", &writes);
     Ok(())
 }
 
 /// A handler after the turn makes of each event what the tail records.
 #[test]
 fn framer_behind_turn(rt: HostRuntime) -> Result<(), Fail> {
-    let kinds = [Kind::Decode, Kind::Service, Kind::Lines];
+    let kinds = [
+        (Kind::Decode, None),
+        (Kind::Service, None),
+        (Kind::Lines, None),
+    ];
     let moves = [READ, READ, READ];
-    let report = replay_one(rt.alloc(), &kinds, Some(b"PING\n"), &moves)?;
-    let line = Event::Read(Message::Line(text(rt.alloc(), b"PING")?));
-    let tail = [Event::Active, line, Event::ReadComplete];
+    let report = replay_one(rt.alloc(), &kinds, PING, &moves)?;
+    let tail = [Seen::Active, Seen::Line(b"PING"), Seen::ReadComplete];
     assert_one(&rt, &report, Stands::Drained, &tail, b"", &[]);
     Ok(())
 }
 
-/// Two channels with different handlers: the second ends no line.
+/// Replays two channels with different handlers, and asserts that the first has served `PING` and how the second, which
+/// ends no line, stands.
+fn assert_two(
+    rt: &impl Abort,
+    alloc: Global,
+    moves: &[Move],
+    stands: Stands,
+    tail: &[Seen],
+    bytes: &[u8],
+    writes: &[Option<Outcome>],
+) -> Result<(), Fail> {
+    let kinds: Kinds = &[
+        (Kind::Lines, None),
+        (Kind::Decode, None),
+        (Kind::Encode, None),
+        (Kind::Service, None),
+    ];
+    let echo: Bursts = &[&[b"ECHO a\n"]];
+    let report = replay_all(alloc, &[LINE_PROTOCOL, kinds], &[PING, echo], moves)?;
+    assert_eq!(rt; report.channels.len(), 2);
+    let reports = report.channels.as_slice();
+    assert_pong(rt, &reports[0]);
+    assert_channel(rt, &reports[1], stands, tail, bytes, writes);
+    Ok(())
+}
+
 #[test]
 fn two_channels(rt: HostRuntime) -> Result<(), Fail> {
-    let kinds = [Kind::Lines, Kind::Decode, Kind::Encode, Kind::Service];
+    let alloc = rt.alloc();
     let interleaved = [
         Move::Read(1),
         READ,
@@ -301,24 +381,34 @@ fn two_channels(rt: HostRuntime) -> Result<(), Fail> {
         READ,
         Move::Out(1),
     ];
+    let tail = [Seen::Active, Seen::Echo(b"a"), Seen::ReadComplete];
+    assert_two(
+        &rt,
+        alloc,
+        &interleaved,
+        Stands::Drained,
+        &tail,
+        b"+a",
+        &[SUCCESS],
+    )?;
     let first_alone = [READ, READ, READ, OUT];
-    let schedules = [interleaved.as_slice(), first_alone.as_slice()];
-    for moves in schedules {
-        let mut groups = Groups::new(rt.alloc(), 1, &[])?;
-        let first = channel(rt.alloc(), &mut groups, &LINE_PROTOCOL, Some(b"PING\n"))?;
-        let second = channel(rt.alloc(), &mut groups, &kinds, Some(b"ECHO a\n"))?;
-        let channels = vec![in rt.alloc(); first, second]?;
-        let report = replay(rt.alloc(), session(rt.alloc(), &groups, channels)?, moves)?;
-        assert_eq!(rt; report.channels.len(), 2);
-        let reports = report.channels.as_slice();
-        assert_pong(&rt, &reports[0]);
-        if moves.len() == interleaved.len() {
-            let echo = Command::Echo(text(rt.alloc(), b"a")?);
-            let tail = [Event::Active, read_command(echo), Event::ReadComplete];
-            assert_drained(&rt, &reports[1], &tail, b"+a", &[SUCCESS]);
-        } else {
-            assert_channel(&rt, &reports[1], Stands::Open, &[], b"", &[]);
+    assert_two(&rt, alloc, &first_alone, Stands::Open, &[], b"", &[])
+}
+
+/// Asserts what a replay of a move says, where a group has two executors and the channel is on its loop.
+fn assert_told_of(
+    rt: &impl Abort,
+    alloc: Global,
+    step: Move,
+    want: Option<ReplayFault>,
+) -> Result<(), Fail> {
+    let session = session(alloc, &[("g", 2)], &[LINE_PROTOCOL], &[&[]])?;
+    match replay(alloc, session, &[READ, step]) {
+        Ok(report) => {
+            assert_eq!(rt; want, None);
+            assert_one(rt, &report, Stands::Open, ACTIVE_TAIL, b"", &[]);
         }
+        Err(fault) => assert_eq!(rt; want, Some(fault)),
     }
     Ok(())
 }
@@ -326,45 +416,27 @@ fn two_channels(rt: HostRuntime) -> Result<(), Fail> {
 /// The executors of a group that no handler uses are there, and have nothing to do.
 #[test]
 fn no_such(rt: HostRuntime) -> Result<(), Fail> {
+    let no_such = Some(ReplayFault::NoSuch);
     for (step, want) in [
         (Move::Task(2), None),
         (Move::Hand(2), None),
-        (Move::Task(3), Some(ReplayFault::NoSuch)),
-        (Move::Hand(3), Some(ReplayFault::NoSuch)),
-        (Move::Read(1), Some(ReplayFault::NoSuch)),
-        (Move::Out(1), Some(ReplayFault::NoSuch)),
+        (Move::Task(3), no_such),
+        (Move::Hand(3), no_such),
+        (Move::Read(1), no_such),
+        (Move::Out(1), no_such),
     ] {
-        let mut groups = Groups::new(rt.alloc(), 1, &[("g", 2)])?;
-        let recorded = channel(rt.alloc(), &mut groups, &LINE_PROTOCOL, None)?;
-        let channels = vec![in rt.alloc(); recorded]?;
-        let moves = [READ, step];
-        match replay(rt.alloc(), session(rt.alloc(), &groups, channels)?, &moves) {
-            Ok(report) => {
-                assert_eq!(rt; want, None);
-                assert_one(&rt, &report, Stands::Open, &[Event::Active], b"", &[]);
-            }
-            Err(fault) => assert_eq!(rt; want, Some(fault)),
-        }
+        assert_told_of(&rt, rt.alloc(), step, want)?;
     }
-    assert_eq!(rt;
-        format!(in rt.alloc(); "{}", ReplayFault::NoSuch)?.as_str(),
-        "1 NoSuch"
-    );
-    assert_eq!(rt;
-        format!(in rt.alloc(); "{}", ReplayFault::Memory)?.as_str(),
-        "2 Memory"
-    );
-    Ok(())
+    assert_named(&rt, rt.alloc(), &ReplayFault::NoSuch, "1 NoSuch")?;
+    assert_named(&rt, rt.alloc(), &ReplayFault::Memory, "2 Memory")
 }
 
 #[test]
 fn no_channels(rt: HostRuntime) -> Result<(), Fail> {
-    let groups = Groups::new(rt.alloc(), 1, &[])?;
-    let none = session(rt.alloc(), &groups, Vec::new(rt.alloc()))?;
-    let report = replay(rt.alloc(), none, &[])?;
+    let alloc = rt.alloc();
+    let report = replay_all(alloc, &[], &[], &[])?;
     assert_eq!(rt; report.channels.len(), 0);
-    let none = session(rt.alloc(), &groups, Vec::new(rt.alloc()))?;
-    match replay(rt.alloc(), none, &[READ]) {
+    match replay(alloc, session(alloc, &[], &[], &[])?, &[READ]) {
         Ok(_) => panic!(rt; "it is replayed"),
         Err(fault) => assert_eq!(rt; fault, ReplayFault::NoSuch),
     }
@@ -373,14 +445,14 @@ fn no_channels(rt: HostRuntime) -> Result<(), Fail> {
 
 #[test]
 fn plain_no_bursts(rt: HostRuntime) -> Result<(), Fail> {
-    let report = plain_one(rt.alloc(), &LINE_PROTOCOL, None)?;
-    assert_one(&rt, &report, Stands::Drained, &[Event::Active], b"", &[]);
+    let report = plain_one(rt.alloc(), LINE_PROTOCOL, &[])?;
+    assert_one(&rt, &report, Stands::Drained, ACTIVE_TAIL, b"", &[]);
     Ok(())
 }
 
 #[test]
 fn plain_ping(rt: HostRuntime) -> Result<(), Fail> {
-    let report = plain_one(rt.alloc(), &LINE_PROTOCOL, Some(b"PING\r\n"))?;
+    let report = plain_one(rt.alloc(), LINE_PROTOCOL, PING_CRLF)?;
     assert_ping(&rt, &report);
     Ok(())
 }
@@ -388,76 +460,51 @@ fn plain_ping(rt: HostRuntime) -> Result<(), Fail> {
 /// More than one write leaves.
 #[test]
 fn plain_totals(rt: HostRuntime) -> Result<(), Fail> {
-    let input = b"ADD a 7\nADD b 1\nADD a 5\nGET a\n";
-    let report = plain_one(rt.alloc(), &LINE_PROTOCOL, Some(input))?;
+    let report = plain_one(rt.alloc(), LINE_PROTOCOL, &[&[TOTALS]])?;
     let channel = only_channel(&rt, &report);
-    assert_eq!(rt; channel.stands, Stands::Drained);
     assert_eq!(rt; channel.tail.len(), 6);
-    assert_eq!(rt;
-        channel.bytes.as_slice(),
-        b":7\r\n:1\r\n:12\r\n:12\r\n".as_slice()
-    );
-    assert_eq!(rt; channel.writes.as_slice(), [SUCCESS; 4].as_slice());
+    assert_sent(&rt, channel, Stands::Drained, TOTALS_SENT, &[SUCCESS; 4]);
     Ok(())
 }
 
 #[test]
 fn plain_quit(rt: HostRuntime) -> Result<(), Fail> {
-    let report = plain_one(rt.alloc(), &LINE_PROTOCOL, Some(b"PING\nQUIT\nPING\nPI"))?;
-    let tail = [
-        Event::Active,
-        read_command(Command::Ping),
-        read_command(Command::Quit),
-    ];
+    let report = plain_one(rt.alloc(), LINE_PROTOCOL, &[&[b"PING\nQUIT\nPING\nPI"]])?;
     let channel = only_channel(&rt, &report);
-    assert_drained(&rt, channel, &tail, b"+PONG\r\n+BYE\r\n", &[SUCCESS; 2]);
+    assert_drained(&rt, channel, QUIT_TAIL, b"+PONG\r\n+BYE\r\n", &[SUCCESS; 2]);
     Ok(())
 }
 
 #[test]
 fn plain_encoder_behind_turn(rt: HostRuntime) -> Result<(), Fail> {
-    let report = plain_one(rt.alloc(), &ENCODER_BEHIND, Some(b"PING\n"))?;
+    let report = plain_one(rt.alloc(), ENCODER_BEHIND, PING)?;
     let writes = [Some(Outcome::Unsupported)];
-    assert_one(&rt, &report, Stands::Drained, &ping_tail(), b"", &writes);
+    assert_one(&rt, &report, Stands::Drained, PING_TAIL, b"", &writes);
     Ok(())
 }
 
 #[test]
 fn plain_flush_never_comes(rt: HostRuntime) -> Result<(), Fail> {
-    let kinds = [
-        Kind::FlushEvery,
-        Kind::Lines,
-        Kind::Decode,
-        Kind::LineEnd,
-        Kind::Encode,
-        Kind::Service,
-    ];
-    let report = plain_one(rt.alloc(), &kinds, Some(b"PING\n"))?;
+    let report = plain_one(rt.alloc(), FLUSH_EVERY, PING)?;
     let writes = [CLOSED];
-    assert_one(&rt, &report, Stands::Drained, &ping_tail(), b"", &writes);
+    assert_one(&rt, &report, Stands::Drained, PING_TAIL, b"", &writes);
     Ok(())
 }
 
 /// Each channel's report stands at its place.
 #[test]
 fn plain_two_channels(rt: HostRuntime) -> Result<(), Fail> {
-    let mut groups = Groups::new(rt.alloc(), 1, &[])?;
-    let first = channel(rt.alloc(), &mut groups, &LINE_PROTOCOL, None)?;
-    let second = channel(rt.alloc(), &mut groups, &LINE_PROTOCOL, Some(b"PING\n"))?;
-    let channels = vec![in rt.alloc(); first, second]?;
-    let report = plain(rt.alloc(), session(rt.alloc(), &groups, channels)?)?;
+    let report = plain_all(rt.alloc(), &[LINE_PROTOCOL; 2], &[&[], PING])?;
     assert_eq!(rt; report.channels.len(), 2);
     let reports = report.channels.as_slice();
-    assert_drained(&rt, &reports[0], &[Event::Active], b"", &[]);
+    assert_drained(&rt, &reports[0], ACTIVE_TAIL, b"", &[]);
     assert_pong(&rt, &reports[1]);
     Ok(())
 }
 
 #[test]
 fn plain_no_channels(rt: HostRuntime) -> Result<(), Fail> {
-    let groups = Groups::new(rt.alloc(), 1, &[])?;
-    let none = session(rt.alloc(), &groups, Vec::new(rt.alloc()))?;
-    let report = plain(rt.alloc(), none)?;
+    let report = plain_all(rt.alloc(), &[], &[])?;
     assert_eq!(rt; report.channels.len(), 0);
     Ok(())
 }

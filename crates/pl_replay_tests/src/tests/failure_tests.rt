@@ -2,14 +2,13 @@
 ghost use Rattle.std.specs.Prelude.{◌<◌};
 
 use crate::tests::net_tests::{
-    GROUPS, PLACINGS, begins, bursts, drain, line_protocol, move_by, next_number, pipeline, whole,
+    PLACINGS, begins, bursts, drain, move_by, next_number, placed, whole,
 };
-use crate::tests::world_tests::{one_memory_transport, world_over};
+use crate::tests::world_tests::{memory_transport, one_channel};
 use crate::tests::{
-    CLOSED, FAULT, OUT, READ, SUCCESS, assert_one, only_channel, ping_tail, read_command,
+    Bursts, CLOSED, FAULT, OUT, PING_TAIL, QUIT_TAIL, READ, SUCCESS, Seen, assert_one, only_channel,
 };
-use pl_build::Groups;
-use pl_event::{Cause, Command, Event, Outcome, Sequence};
+use pl_event::{Cause, Outcome};
 use pl_head::{MemoryTransport, ReadPlan};
 use pl_replay::{Net, replay_world};
 use pl_stages::Handler;
@@ -66,27 +65,23 @@ fn world(
     decode: Option<&str>,
     service: Option<&str>,
     window: u32,
-    input: &[&[&[u8]]],
+    input: Bursts,
     ending: Ending,
 ) -> Result<World<Handler, MemoryTransport>, Fail> {
-    let mut groups = Groups::new(alloc, 1, &GROUPS)?;
-    let mut pipelines = Sequence::new(alloc);
-    let kinds = line_protocol(decode, service);
-    pipelines.push(pipeline(alloc, &mut groups, &kinds)?)?;
-    let mut inputs = Sequence::new(alloc);
-    inputs.push(ReadPlan {
+    let (pipeline, executors) = placed(alloc, decode, service)?;
+    let input = ReadPlan {
         bursts: bursts(alloc, input)?,
         abort_after: ending.abort_after(),
-    })?;
-    let transports = one_memory_transport(alloc, window, ending.fail_at())?;
-    Ok(world_over(alloc, pipelines, inputs, transports, groups.executors())?)
+    };
+    let transport = memory_transport(alloc, window, ending.fail_at());
+    one_channel(alloc, pipeline, input, transport, executors)
 }
 
 /// The report of one channel on one loop.
 fn replayed(
     alloc: Global,
     window: u32,
-    input: &[&[&[u8]]],
+    input: Bursts,
     ending: Ending,
     moves: &[Move],
 ) -> Result<Report, Fail> {
@@ -102,18 +97,13 @@ fn transport_fault(rt: HostRuntime) -> Result<(), Fail> {
     let ending = Ending::Call(2);
     let report = replayed(rt.alloc(), 4, &[&[b"PING\n"]], ending, &moves)?;
     let stands = ending.stands();
-    assert_one(&rt, &report, stands, &ping_tail(), b"+PON", &[FAULT]);
+    assert_one(&rt, &report, stands, PING_TAIL, b"+PON", &[FAULT]);
     Ok(())
 }
 
 #[test]
 fn fault_at_each_call(rt: HostRuntime) -> Result<(), Fail> {
-    let input: &[&[&[u8]]] = &[&[b"PING\nQUIT\nPING\nPI"]];
-    let tail = [
-        Event::Active,
-        read_command(Command::Ping),
-        read_command(Command::Quit),
-    ];
+    let input: Bursts = &[&[b"PING\nQUIT\nPING\nPI"]];
     let moves = [READ, READ, OUT, OUT, OUT, OUT, READ];
     let failed = Stands::Failed(Cause::Transport);
     for (call, stands, bytes, writes) in [
@@ -129,7 +119,7 @@ fn fault_at_each_call(rt: HostRuntime) -> Result<(), Fail> {
         ),
     ] {
         let report = replayed(rt.alloc(), 4, input, Ending::Call(call), &moves)?;
-        assert_one(&rt, &report, stands, &tail, bytes, &writes);
+        assert_one(&rt, &report, stands, QUIT_TAIL, bytes, &writes);
     }
     Ok(())
 }
@@ -137,31 +127,24 @@ fn fault_at_each_call(rt: HostRuntime) -> Result<(), Fail> {
 /// The abort comes before the reply has left, and after it.
 #[test]
 fn abort(rt: HostRuntime) -> Result<(), Fail> {
-    let input: &[&[&[u8]]] = &[&[b"PING\r\n"]];
+    let input: Bursts = &[&[b"PING\r\n"]];
     let ending = Ending::Abort(1);
     let aborted = ending.stands();
     let report = replayed(rt.alloc(), WIDE, input, ending, &[READ, READ, READ])?;
-    assert_one(&rt, &report, aborted, &ping_tail(), b"", &[CLOSED]);
+    assert_one(&rt, &report, aborted, PING_TAIL, b"", &[CLOSED]);
     let report = replayed(rt.alloc(), WIDE, input, ending, &[READ, READ, OUT, READ])?;
-    assert_one(
-        &rt,
-        &report,
-        aborted,
-        &ping_tail(),
-        b"+PONG\r\n",
-        &[SUCCESS],
-    );
+    assert_one(&rt, &report, aborted, PING_TAIL, b"+PONG\r\n", &[SUCCESS]);
     Ok(())
 }
 
 #[test]
 fn abort_at_each_burst(rt: HostRuntime) -> Result<(), Fail> {
-    let input: &[&[&[u8]]] = &[&[b"PI"], &[b"NG\n"]];
+    let input: Bursts = &[&[b"PI"], &[b"NG\n"]];
     let tail = [
-        Event::Active,
-        Event::ReadComplete,
-        read_command(Command::Ping),
-        Event::ReadComplete,
+        Seen::Active,
+        Seen::ReadComplete,
+        Seen::Ping,
+        Seen::ReadComplete,
     ];
     let moves = [READ, READ, READ, READ, OUT];
     for (count, tail, writes) in [
@@ -177,7 +160,7 @@ fn abort_at_each_burst(rt: HostRuntime) -> Result<(), Fail> {
 }
 
 /// Three bursts, of which the second brings no line.
-const INPUT: &[&[&[u8]]] = &[
+const INPUT: Bursts = &[
     &[b"ADD k 5\r\nGET k\r\nPI"],
     &[b"N"],
     &[b"G\r\nECHO x\r\n", b"PING\r\n"],
@@ -233,18 +216,26 @@ fn assert_goes_on(
     has_failed
 }
 
-/// Random moves of a world that ends so, and then every move in turn until none is enabled: what the report says then.
-fn ended(
-    rt: &impl Abort,
+/// The input over a narrow window, in one placing.
+fn placed_world(
     alloc: Global,
+    decode: Option<&str>,
+    service: Option<&str>,
+    ending: Ending,
+) -> Result<World<Handler, MemoryTransport>, Fail> {
+    world(alloc, decode, service, 3, INPUT, ending)
+}
+
+/// Random moves of a net that ends so and then stays failed, and then every move in turn until none is enabled.
+fn assert_ends(
+    rt: &impl Abort,
+    net: &mut Net<Handler, MemoryTransport>,
     seed: u64,
-    world: World<Handler, MemoryTransport>,
     whole: &[ChannelReport],
     ending: Ending,
-) -> Result<Report, Fail>
+) -> Result<(), Fail>
     requires { seed < 2147483647 }
 {
-    let mut net = Net::new(alloc, world, 1)?;
     let mut number = seed;
     let mut has_failed = false;
     for _ in 0..150 {
@@ -254,26 +245,77 @@ fn ended(
         assert!(rt; fails || !has_failed);
         has_failed = fails;
     }
-    assert!(rt; !drain(&mut net, 1, 3)?);
+    assert!(rt; !drain(net, 1, 3)?);
+    Ok(())
+}
+
+/// What the report of such a schedule says, in one placing.
+fn ended(
+    rt: &impl Abort,
+    alloc: Global,
+    decode: Option<&str>,
+    service: Option<&str>,
+    seed: u64,
+    whole: &[ChannelReport],
+    ending: Ending,
+) -> Result<Report, Fail>
+    requires { seed < 2147483647 }
+{
+    let world = placed_world(alloc, decode, service, ending)?;
+    let mut net = Net::new(alloc, world, 1)?;
+    assert_ends(rt, &mut net, seed, whole, ending)?;
     let report = net.into_report()?;
     assert!(rt; assert_goes_on(rt, &report, whole, ending));
     Ok(report)
 }
 
+/// Random schedules in one placing, where this call of the transport fails: this many bytes have left.
+fn assert_fault(
+    rt: &impl Abort,
+    alloc: Global,
+    decode: Option<&str>,
+    service: Option<&str>,
+    call: u32,
+    left: usize,
+) -> Result<(), Fail> {
+    let ending = Ending::Call(call);
+    let reports = whole(alloc, placed_world(alloc, decode, service, ending)?)?;
+    for seed in 1..4 {
+        let report = ended(rt, alloc, decode, service, seed, reports.as_slice(), ending)?;
+        assert_eq!(rt; only_channel(rt, &report).bytes.len(), left);
+    }
+    Ok(())
+}
+
 /// In each placing, whatever the schedule: as many bytes leave as the calls before the one that fails accept.
 #[test]
 fn faults_in_each_placing(rt: HostRuntime) -> Result<(), Fail> {
-    let alloc = rt.alloc();
     for (decode, service) in PLACINGS {
         for (call, left) in CALLS {
-            let ending = Ending::Call(call);
-            let reports = whole(alloc, world(alloc, decode, service, 3, INPUT, ending)?)?;
-            for seed in 1..4 {
-                let world = world(alloc, decode, service, 3, INPUT, ending)?;
-                let report = ended(&rt, alloc, seed, world, reports.as_slice(), ending)?;
-                assert_eq!(rt; only_channel(&rt, &report).bytes.len(), left);
-            }
+            assert_fault(&rt, rt.alloc(), decode, service, call, left)?;
         }
+    }
+    Ok(())
+}
+
+/// Random schedules in one placing, where the channel is aborted after this many bursts: how many events have reached
+/// the tail, and how many writes are settled.
+fn assert_abort(
+    rt: &impl Abort,
+    alloc: Global,
+    decode: Option<&str>,
+    service: Option<&str>,
+    count: u32,
+    tail: usize,
+    writes: usize,
+) -> Result<(), Fail> {
+    let ending = Ending::Abort(count);
+    let reports = whole(alloc, placed_world(alloc, decode, service, ending)?)?;
+    for seed in 1..11 {
+        let report = ended(rt, alloc, decode, service, seed, reports.as_slice(), ending)?;
+        let channel = only_channel(rt, &report);
+        assert_eq!(rt; channel.tail.len(), tail);
+        assert_eq!(rt; channel.writes.len(), writes);
     }
     Ok(())
 }
@@ -282,18 +324,9 @@ fn faults_in_each_placing(rt: HostRuntime) -> Result<(), Fail> {
 /// of them is settled.
 #[test]
 fn aborts_in_each_placing(rt: HostRuntime) -> Result<(), Fail> {
-    let alloc = rt.alloc();
     for (decode, service) in PLACINGS {
         for (count, tail, writes) in [(0, 1, 0), (1, 4, 2), (2, 5, 2), (3, 9, 5)] {
-            let ending = Ending::Abort(count);
-            let reports = whole(alloc, world(alloc, decode, service, 3, INPUT, ending)?)?;
-            for seed in 1..11 {
-                let world = world(alloc, decode, service, 3, INPUT, ending)?;
-                let report = ended(&rt, alloc, seed, world, reports.as_slice(), ending)?;
-                let channel = only_channel(&rt, &report);
-                assert_eq!(rt; channel.tail.len(), tail);
-                assert_eq!(rt; channel.writes.len(), writes);
-            }
+            assert_abort(&rt, rt.alloc(), decode, service, count, tail, writes)?;
         }
     }
     Ok(())

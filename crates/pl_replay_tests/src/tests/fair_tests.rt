@@ -1,16 +1,39 @@
 //! A fair schedule drains a session in each placing, and gives the report that plain gives.
 ghost use Rattle.std.specs.Prelude.{◌≤◌};
 
-use crate::tests::assert_same;
-use crate::tests::net_tests::{PLACINGS, line_protocol, marked_pipeline, to_its_end};
+use crate::tests::net_tests::{PLACINGS, line_protocol, marked_pipeline, plans};
 use crate::tests::world_tests::windowed_world;
-use pl_build::Groups;
+use crate::tests::{Bursts, Kinds, assert_each_same};
+use pl_build::{Groups, Placed};
 use pl_event::Sequence;
 use pl_replay::replay;
-use pl_world::{Move, Session, plain};
+use pl_stages::Handler;
+use pl_world::{Move, Report, Session, plain};
 use std::alloc::Global;
 use std::process::Abort;
 use std::test::Fail;
+
+/// Two pipelines of these handlers, with marks of a given number of bytes and of twice as many.
+fn two_pipelines(
+    alloc: Global,
+    groups: &mut Groups,
+    kinds: Kinds,
+    low: u32,
+) -> Result<Sequence<Placed<Handler>>, Fail>
+    requires { low ≤ 65536 }
+{
+    let mut pipelines = Sequence::new(alloc);
+    for _ in 0..2 {
+        pipelines.push(marked_pipeline(alloc, groups, kinds, low, low * 2)?)?;
+    }
+    Ok(pipelines)
+}
+
+/// The input of each of two channels: the second quits.
+const TWO_INPUTS: &[Bursts] = &[
+    &[&[b"ADD k 5\r\nGET k\r\n"], &[b"PI", b"NG\r\n"]],
+    &[&[b"PING\r\nQUIT\r\n"]],
+];
 
 /// Two channels with the line protocol, the decoder and the service each in a group or in none, over windows of a
 /// given number of bytes, with marks of as many and twice as many.
@@ -23,14 +46,10 @@ fn session(
     requires { (1 ≤ window) × (window ≤ 65536) }
 {
     let mut groups = Groups::new(alloc, 1, &[("a", 2), ("b", 1)])?;
-    let mut pipelines = Sequence::new(alloc);
-    let mut inputs = Sequence::new(alloc);
     let kinds = line_protocol(decode, service);
-    pipelines.push(marked_pipeline(alloc, &mut groups, &kinds, window, window * 2)?)?;
-    inputs.push(to_its_end(alloc, &[&[b"ADD k 5\r\nGET k\r\n"], &[b"PI", b"NG\r\n"]])?)?;
-    pipelines.push(marked_pipeline(alloc, &mut groups, &kinds, window, window * 2)?)?;
-    inputs.push(to_its_end(alloc, &[&[b"PING\r\nQUIT\r\n"]])?)?;
-    let world = windowed_world(alloc, pipelines, inputs, window, groups.executors())?;
+    let pipelines = two_pipelines(alloc, &mut groups, &kinds, window)?;
+    let plans = plans(alloc, TWO_INPUTS)?;
+    let world = windowed_world(alloc, pipelines, plans, window, groups.executors())?;
     Ok(Session { world, capacity: 2 })
 }
 
@@ -48,6 +67,33 @@ fn rounds(alloc: Global, channels: u16, executors: u16, count: u16) -> Result<Ve
     Ok(moves)
 }
 
+/// Its report by a fair schedule.
+fn fair_report(
+    alloc: Global,
+    decode: Option<&str>,
+    service: Option<&str>,
+    window: u32,
+) -> Result<Report, Fail>
+    requires { (1 ≤ window) × (window ≤ 65536) }
+{
+    let moves = rounds(alloc, 2, 4, 60)?;
+    let session = session(alloc, decode, service, window)?;
+    Ok(replay(alloc, session, moves.as_slice())?)
+}
+
+/// Its whole report.
+fn plain_report(
+    alloc: Global,
+    decode: Option<&str>,
+    service: Option<&str>,
+    window: u32,
+) -> Result<Report, Fail>
+    requires { (1 ≤ window) × (window ≤ 65536) }
+{
+    let session = session(alloc, decode, service, window)?;
+    Ok(plain(alloc, session)?)
+}
+
 fn assert_drains(
     rt: &impl Abort,
     alloc: Global,
@@ -57,18 +103,9 @@ fn assert_drains(
 ) -> Result<(), Fail>
     requires { (1 ≤ window) × (window ≤ 65536) }
 {
-    let moves = rounds(alloc, 2, 4, 60)?;
-    let report = replay(
-        alloc,
-        session(alloc, decode, service, window)?,
-        moves.as_slice(),
-    )?;
-    let want = plain(alloc, session(alloc, decode, service, window)?)?;
-    assert_eq!(rt; report.channels.len(), want.channels.len());
-    let reports = report.channels.as_slice().iter();
-    for (channel, whole) in reports.zip(want.channels.as_slice()) {
-        assert_same(rt, channel, whole);
-    }
+    let report = fair_report(alloc, decode, service, window)?;
+    let want = plain_report(alloc, decode, service, window)?;
+    assert_each_same(rt, report.channels.as_slice(), want.channels.as_slice());
     Ok(())
 }
 

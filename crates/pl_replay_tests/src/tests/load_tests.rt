@@ -1,10 +1,10 @@
 //! Large loads on a net. bench/run.py reads their times, size by size.
 
-use crate::tests::net_tests::{line_protocol, world};
+use crate::tests::net_tests::{GROUPS, assert_enabled, line_protocol, world};
 use pl_head::MemoryTransport;
 use pl_replay::Net;
 use pl_stages::Handler;
-use pl_world::Move;
+use pl_world::{Move, World};
 use std::alloc::Global;
 use std::process::Abort;
 use std::test::Fail;
@@ -25,35 +25,32 @@ const ACROSS: [Move; 6] = [
 /// So does the reply to it.
 const REPLY: [Move; 2] = [Move::Hand(2), Move::Task(0)];
 
-fn assert_enabled(
+/// `PING` as often as there are rounds, in one chunk, where the decoder and the service have an executor of their own.
+fn pings(alloc: Global, rounds: usize) -> Result<World<Handler, MemoryTransport>, Fail> {
+    let chunk = b"PING\n".repeat(alloc, rounds)?;
+    let kinds = line_protocol(Some("a"), Some("b"));
+    world(alloc, &GROUPS, &[&kinds], &[&[&[chunk.as_slice()]]])
+}
+
+/// A given number of rounds of eight moves, each of them enabled.
+fn assert_rounds(
     rt: &impl Abort,
     net: &mut Net<Handler, MemoryTransport>,
-    moves: &[Move],
+    rounds: usize,
 ) -> Result<(), Fail> {
-    for step in moves {
-        assert_eq!(rt; net.apply(*step)?, true);
+    assert_enabled(rt, net, &BEGINNING)?;
+    assert_enabled(rt, net, &ACROSS)?;
+    for _ in 1..rounds {
+        assert_enabled(rt, net, &ACROSS)?;
+        assert_enabled(rt, net, &REPLY)?;
     }
     Ok(())
 }
 
-/// A given number of rounds of eight moves, each of them enabled, where each queue holds one item and the decoder and the service
-/// have an executor of their own.
+/// The same where each queue holds one item.
 fn hand_overs(rt: &impl Abort, alloc: Global, rounds: usize) -> Result<(), Fail> {
-    let mut chunk = Vec::new(alloc);
-    for _ in 0..rounds {
-        chunk.extend_from_slice(b"PING\n")?;
-    }
-    let kinds = line_protocol(Some("a"), Some("b"));
-    let groups = [("a", 1), ("b", 1)];
-    let world = world(alloc, &groups, &kinds, &[&[&[chunk.as_slice()]]])?;
-    let mut net = Net::new(alloc, world, 1)?;
-    assert_enabled(rt, &mut net, &BEGINNING)?;
-    assert_enabled(rt, &mut net, &ACROSS)?;
-    for _ in 1..rounds {
-        assert_enabled(rt, &mut net, &ACROSS)?;
-        assert_enabled(rt, &mut net, &REPLY)?;
-    }
-    Ok(())
+    let mut net = Net::new(alloc, pings(alloc, rounds)?, 1)?;
+    assert_rounds(rt, &mut net, rounds)
 }
 
 #[test]

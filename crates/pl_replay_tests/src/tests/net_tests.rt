@@ -3,24 +3,22 @@ ghost use Rattle.std.specs.Prelude.{◌<◌};
 
 use crate::tests::world_tests::world_of;
 use crate::tests::{
-    Kind, OUT, READ, SUCCESS, assert_drained, assert_one, assert_ping, assert_pong, assert_same,
-    handler, only_channel, ping_tail, read_command, text,
+    ACTIVE_TAIL, Bursts, Kind, Kinds, OUT, PING, PING_CRLF, PING_TAIL, QUIT_TAIL, READ, SUCCESS,
+    Seen, assert_drained, assert_each_same, assert_one, assert_ping, assert_pong, assert_sent,
+    handler, only_channel, text,
 };
 use pl_build::{Groups, PipelineBuilder, Placed};
-use pl_event::{ByteString, Command, Event, Sequence};
+use pl_event::{ByteString, Outcome, Sequence};
 use pl_head::{MemoryTransport, ReadPlan, Transport};
 use pl_replay::{Net, replay_world};
 use pl_stages::Handler;
-use pl_world::{ChannelReport, Move, ReplayFault, Stands, World, plain_world};
+use pl_world::{ChannelReport, Move, ReplayFault, Report, Stands, World, plain_world};
 use std::alloc::Global;
 use std::process::Abort;
 use std::test::Fail;
 
 /// These handlers, each in a group or in none, with names made of their places.
-fn builder_of(
-    alloc: Global,
-    kinds: &[(Kind, Option<&str>)],
-) -> Result<PipelineBuilder<Handler>, Fail> {
+fn builder_of(alloc: Global, kinds: Kinds) -> Result<PipelineBuilder<Handler>, Fail> {
     let mut builder = PipelineBuilder::new(alloc);
     for (place, (kind, group)) in kinds.iter().enumerate() {
         let name = format!(in alloc; "h{place}")?;
@@ -34,7 +32,7 @@ fn builder_of(
 pub(crate) fn pipeline(
     alloc: Global,
     groups: &mut Groups,
-    kinds: &[(Kind, Option<&str>)],
+    kinds: Kinds,
 ) -> Result<Placed<Handler>, Fail> {
     Ok(builder_of(alloc, kinds)?.build(groups)?)
 }
@@ -43,7 +41,7 @@ pub(crate) fn pipeline(
 pub(crate) fn marked_pipeline(
     alloc: Global,
     groups: &mut Groups,
-    kinds: &[(Kind, Option<&str>)],
+    kinds: Kinds,
     low: u32,
     high: u32,
 ) -> Result<Placed<Handler>, Fail> {
@@ -77,10 +75,7 @@ pub(crate) const PLACINGS: [(Option<&str>, Option<&str>); 4] = [
     (Some("a"), Some("b")),
 ];
 
-pub(crate) fn bursts(
-    alloc: Global,
-    input: &[&[&[u8]]],
-) -> Result<Sequence<Sequence<ByteString>>, Fail> {
+pub(crate) fn bursts(alloc: Global, input: Bursts) -> Result<Sequence<Sequence<ByteString>>, Fail> {
     let mut bursts = Sequence::new(alloc);
     for chunks in input {
         let mut burst = Sequence::new(alloc);
@@ -93,38 +88,73 @@ pub(crate) fn bursts(
 }
 
 /// These bursts, and then the end.
-pub(crate) fn to_its_end(alloc: Global, input: &[&[&[u8]]]) -> Result<ReadPlan, Fail> {
+pub(crate) fn to_its_end(alloc: Global, input: Bursts) -> Result<ReadPlan, Fail> {
     Ok(ReadPlan {
         bursts: bursts(alloc, input)?,
         abort_after: None,
     })
 }
 
-/// A world of this many equal channels on one loop, with groups of these sizes.
+/// The line protocol, the decoder and the service each in a group of `GROUPS` or in none, and how many executors there
+/// are.
+pub(crate) fn placed(
+    alloc: Global,
+    decode: Option<&str>,
+    service: Option<&str>,
+) -> Result<(Placed<Handler>, u16), Fail> {
+    let mut groups = Groups::new(alloc, 1, &GROUPS)?;
+    let pipeline = pipeline(alloc, &mut groups, &line_protocol(decode, service))?;
+    Ok((pipeline, groups.executors()))
+}
+
+/// A pipeline of each of these lists of handlers.
+fn pipelines(
+    alloc: Global,
+    groups: &mut Groups,
+    handlers: &[Kinds],
+) -> Result<Sequence<Placed<Handler>>, Fail> {
+    let mut pipelines = Sequence::new(alloc);
+    for kinds in handlers {
+        pipelines.push(pipeline(alloc, groups, kinds)?)?;
+    }
+    Ok(pipelines)
+}
+
+/// Each of these inputs, and then its end.
+pub(crate) fn plans(alloc: Global, inputs: &[Bursts]) -> Result<Sequence<ReadPlan>, Fail> {
+    let mut plans = Sequence::new(alloc);
+    for input in inputs {
+        plans.push(to_its_end(alloc, input)?)?;
+    }
+    Ok(plans)
+}
+
+/// A world of channels of these handlers, each with its input, on one loop, with groups of these sizes.
 pub(crate) fn world(
     alloc: Global,
     sizes: &[(&str, u16)],
-    kinds: &[(Kind, Option<&str>)],
-    inputs: &[&[&[&[u8]]]],
+    handlers: &[Kinds],
+    inputs: &[Bursts],
 ) -> Result<World<Handler, MemoryTransport>, Fail> {
     let mut groups = Groups::new(alloc, 1, sizes)?;
-    let mut pipelines = Sequence::new(alloc);
-    let mut all = Sequence::new(alloc);
-    for input in inputs {
-        pipelines.push(pipeline(alloc, &mut groups, kinds)?)?;
-        all.push(to_its_end(alloc, input)?)?;
-    }
-    Ok(world_of(alloc, pipelines, all, groups.executors())?)
+    let pipelines = pipelines(alloc, &mut groups, handlers)?;
+    let plans = plans(alloc, inputs)?;
+    Ok(world_of(alloc, pipelines, plans, groups.executors())?)
 }
 
 /// Ping, with the decoder on an executor of its own.
 fn decoder_apart(alloc: Global) -> Result<World<Handler, MemoryTransport>, Fail> {
     let kinds = line_protocol(Some("a"), None);
-    world(alloc, &[("a", 1)], &kinds, &[&[&[b"PING\r\n"]]])
+    world(alloc, &[("a", 1)], &[&kinds], &[PING_CRLF])
 }
 
 /// One event is handed over to the decoder and back.
-const THERE_AND_BACK: [Move; 4] = [Move::Hand(0), Move::Task(1), Move::Hand(1), Move::Task(0)];
+pub(crate) const THERE_AND_BACK: [Move; 4] = [
+    Move::Hand(0),
+    Move::Task(1),
+    Move::Hand(1),
+    Move::Task(0),
+];
 
 /// All three read steps, and each event of the decoder's there and back.
 fn handed_over(alloc: Global) -> Result<Vec<Move>, Fail> {
@@ -135,42 +165,78 @@ fn handed_over(alloc: Global) -> Result<Vec<Move>, Fail> {
     Ok(moves)
 }
 
-#[test]
-fn full_queue_of_one(rt: HostRuntime) -> Result<(), Fail> {
-    let mut net = Net::new(rt.alloc(), decoder_apart(rt.alloc())?, 1)?;
-    for (step, is_enabled) in [
-        (READ, true),
-        (READ, true),
-        (Move::Hand(0), true),
-        (Move::Hand(0), false),
-        (Move::Task(1), true),
-        (Move::Hand(1), true),
-        (Move::Task(0), true),
-    ] {
-        assert_eq!(rt; net.apply(step)?, is_enabled);
+/// Makes a move, which is enabled or is not.
+pub(crate) fn assert_move(
+    rt: &impl Abort,
+    net: &mut Net<Handler, MemoryTransport>,
+    step: Move,
+    is_enabled: bool,
+) -> Result<(), Fail> {
+    assert_eq!(rt; net.apply(step)?, is_enabled);
+    Ok(())
+}
+
+/// Makes moves, each of them enabled.
+pub(crate) fn assert_enabled(
+    rt: &impl Abort,
+    net: &mut Net<Handler, MemoryTransport>,
+    moves: &[Move],
+) -> Result<(), Fail> {
+    for step in moves {
+        assert_move(rt, net, *step, true)?;
     }
-    assert_eq!(rt; net.drained(), false);
+    Ok(())
+}
+
+/// The second item is not handed over while the first is in the queue.
+fn assert_one_waits(rt: &impl Abort, net: &mut Net<Handler, MemoryTransport>) -> Result<(), Fail> {
+    assert_enabled(rt, net, &[READ, READ, Move::Hand(0)])?;
+    assert_move(rt, net, Move::Hand(0), false)?;
+    assert_enabled(rt, net, &[Move::Task(1), Move::Hand(1), Move::Task(0)])
+}
+
+/// Asserts what the report of a net with one channel says.
+pub(crate) fn assert_report<T: Transport>(
+    rt: &impl Abort,
+    net: &Net<Handler, T>,
+    stands: Stands,
+    tail: &[Seen],
+    bytes: &[u8],
+    writes: &[Option<Outcome>],
+) -> Result<(), Fail> {
     let report = net.report()?;
-    assert_one(&rt, &report, Stands::Open, &[Event::Active], b"", &[]);
+    assert_one(rt, &report, stands, tail, bytes, writes);
     Ok(())
 }
 
 #[test]
+fn full_queue_of_one(rt: HostRuntime) -> Result<(), Fail> {
+    let mut net = Net::new(rt.alloc(), decoder_apart(rt.alloc())?, 1)?;
+    assert_one_waits(&rt, &mut net)?;
+    assert_eq!(rt; net.drained(), false);
+    assert_report(&rt, &net, Stands::Open, ACTIVE_TAIL, b"", &[])
+}
+
+/// The report of `decoder_apart`, where each queue holds one item.
+fn replay_apart(alloc: Global, moves: &[Move]) -> Result<Report, Fail> {
+    let world = decoder_apart(alloc)?;
+    Ok(replay_world(alloc, world, 1, moves)?)
+}
+
+#[test]
 fn handover_drained(rt: HostRuntime) -> Result<(), Fail> {
-    let world = decoder_apart(rt.alloc())?;
     let mut moves = handed_over(rt.alloc())?;
     moves.push(OUT)?;
-    let report = replay_world(rt.alloc(), world, 1, moves.as_slice())?;
+    let report = replay_apart(rt.alloc(), moves.as_slice())?;
     assert_ping(&rt, &report);
     Ok(())
 }
 
 #[test]
 fn handover_open(rt: HostRuntime) -> Result<(), Fail> {
-    let world = decoder_apart(rt.alloc())?;
     let moves = handed_over(rt.alloc())?;
-    let report = replay_world(rt.alloc(), world, 1, moves.as_slice())?;
-    assert_one(&rt, &report, Stands::Open, &ping_tail(), b"", &[None]);
+    let report = replay_apart(rt.alloc(), moves.as_slice())?;
+    assert_one(&rt, &report, Stands::Open, PING_TAIL, b"", &[None]);
     Ok(())
 }
 
@@ -207,57 +273,55 @@ pub(crate) fn drain<T: Transport>(
     Ok(net.drained())
 }
 
-const TOTALS: &[u8] = b"ADD a 7\nADD b 1\nADD a 5\nGET a\n";
+/// The report of a net that every move in turn leaves drained.
+fn drained(
+    rt: &impl Abort,
+    mut net: Net<Handler, MemoryTransport>,
+    channels: u16,
+    executors: u16,
+) -> Result<Report, Fail> {
+    assert_eq!(rt; drain(&mut net, channels, executors)?, true);
+    Ok(net.report()?)
+}
+
+pub(crate) const TOTALS: &[u8] = b"ADD a 7\nADD b 1\nADD a 5\nGET a\n";
 
 /// What is sent where that is served.
-const TOTALS_SENT: &[u8] = b":7\r\n:1\r\n:12\r\n:12\r\n";
+pub(crate) const TOTALS_SENT: &[u8] = b":7\r\n:1\r\n:12\r\n:12\r\n";
 
 /// The decoder and the service each on an executor of their own.
 fn totals_across_groups(alloc: Global) -> Result<World<Handler, MemoryTransport>, Fail> {
     let kinds = line_protocol(Some("a"), Some("b"));
-    world(alloc, &[("a", 1), ("b", 1)], &kinds, &[&[&[TOTALS]]])
+    world(alloc, &GROUPS, &[&kinds], &[&[&[TOTALS]]])
 }
 
 #[test]
 fn two_groups(rt: HostRuntime) -> Result<(), Fail> {
-    let mut net = Net::new(rt.alloc(), totals_across_groups(rt.alloc())?, 1)?;
-    assert_eq!(rt; drain(&mut net, 1, 3)?, true);
-    let report = net.report()?;
+    let net = Net::new(rt.alloc(), totals_across_groups(rt.alloc())?, 1)?;
+    let report = drained(&rt, net, 1, 3)?;
     let channel = only_channel(&rt, &report);
-    assert_eq!(rt; channel.stands, Stands::Drained);
-    assert_eq!(rt; channel.bytes.as_slice(), TOTALS_SENT);
-    assert_eq!(rt; channel.writes.as_slice(), [SUCCESS; 4].as_slice());
+    assert_sent(&rt, channel, Stands::Drained, TOTALS_SENT, &[SUCCESS; 4]);
     Ok(())
 }
 
 /// The input of each of three channels: the second quits, and the third adds to totals.
-const THREE_INPUTS: &[&[&[&[u8]]]] = &[
-    &[&[b"PING\n"]],
-    &[&[b"PING\nQUIT\nPING\nPI"]],
-    &[&[TOTALS]],
-];
+const THREE_INPUTS: &[Bursts] = &[PING, &[&[b"PING\nQUIT\nPING\nPI"]], &[&[TOTALS]]];
 
 /// Three channels, whose decoder and service share a group of two executors.
 fn shared_group(alloc: Global) -> Result<World<Handler, MemoryTransport>, Fail> {
     let kinds = line_protocol(Some("g"), Some("g"));
-    world(alloc, &[("g", 2)], &kinds, THREE_INPUTS)
+    world(alloc, &[("g", 2)], &[kinds.as_slice(); 3], THREE_INPUTS)
 }
 
 #[test]
 fn three_channels_share_a_group(rt: HostRuntime) -> Result<(), Fail> {
-    let mut net = Net::new(rt.alloc(), shared_group(rt.alloc())?, 2)?;
-    assert_eq!(rt; drain(&mut net, 3, 3)?, true);
-    let report = net.report()?;
+    let net = Net::new(rt.alloc(), shared_group(rt.alloc())?, 2)?;
+    let report = drained(&rt, net, 3, 3)?;
     assert_eq!(rt; report.channels.len(), 3);
     let reports = report.channels.as_slice();
     assert_pong(&rt, &reports[0]);
-    let quit_tail = [
-        Event::Active,
-        read_command(Command::Ping),
-        read_command(Command::Quit),
-    ];
     let quit_bytes = b"+PONG\r\n+BYE\r\n";
-    assert_drained(&rt, &reports[1], &quit_tail, quit_bytes, &[SUCCESS; 2]);
+    assert_drained(&rt, &reports[1], QUIT_TAIL, quit_bytes, &[SUCCESS; 2]);
     assert_eq!(rt; reports[2].bytes.as_slice(), TOTALS_SENT);
     Ok(())
 }
@@ -298,6 +362,52 @@ pub(crate) fn move_by(number: u64, channels: u16, executors: u16) -> Move
     }
 }
 
+/// Each report begins the plain one.
+fn assert_begins<T: Transport>(
+    rt: &impl Abort,
+    net: &Net<Handler, T>,
+    whole: &[ChannelReport],
+) -> Result<(), Fail> {
+    let report = net.report()?;
+    for (part, whole) in report.channels.as_slice().iter().zip(whole) {
+        assert!(rt; begins(part, whole));
+    }
+    Ok(())
+}
+
+/// All channels are drained, and each report is the plain one.
+fn assert_whole<T: Transport>(
+    rt: &impl Abort,
+    net: &Net<Handler, T>,
+    whole: &[ChannelReport],
+) -> Result<(), Fail> {
+    let report = net.report()?;
+    assert_each_same(rt, report.channels.as_slice(), whole);
+    Ok(())
+}
+
+/// Each report of a random schedule begins the plain one, and drained it is the plain one.
+fn assert_keeps<T: Transport>(
+    rt: &impl Abort,
+    net: &mut Net<Handler, T>,
+    seed: u64,
+    channels: u16,
+    executors: u16,
+    whole: &[ChannelReport],
+) -> Result<(), Fail>
+    requires seeded { seed < 2147483647 }
+    requires some { (0 < channels) × (0 < executors) }
+{
+    let mut number = seed;
+    for _ in 0..400 {
+        number = next_number(number);
+        net.apply(move_by(number, channels, executors))?;
+        assert_begins(rt, net, whole)?;
+    }
+    assert!(rt; drain(net, channels, executors)?);
+    assert_whole(rt, net, whole)
+}
+
 /// Each report of a random schedule begins the plain one, and where all channels are drained it is the plain one.
 pub(crate) fn keeps_to_plain<T: Transport>(
     rt: &impl Abort,
@@ -313,23 +423,7 @@ pub(crate) fn keeps_to_plain<T: Transport>(
     assert!(rt; 0 < channels);
     assert!(rt; 0 < executors);
     let mut net = Net::new(alloc, world, 1)?;
-    let mut number = seed;
-    for _ in 0..400 {
-        number = next_number(number);
-        net.apply(move_by(number, channels, executors))?;
-        let report = net.report()?;
-        for (part, whole) in report.channels.as_slice().iter().zip(whole) {
-            assert!(rt; begins(part, whole));
-        }
-    }
-    assert!(rt; drain(&mut net, channels, executors)?);
-    let report = net.report()?;
-    assert_eq!(rt; report.channels.len(), whole.len());
-    for (part, whole) in report.channels.as_slice().iter().zip(whole) {
-        assert_eq!(rt; part.stands, Stands::Drained);
-        assert_same(rt, part, whole);
-    }
-    Ok(())
+    assert_keeps(rt, &mut net, seed, channels, executors, whole)
 }
 
 /// The whole report of each channel of a world.
@@ -340,22 +434,25 @@ pub(crate) fn whole<T: Transport>(
     Ok(plain_world(alloc, world)?.channels)
 }
 
-#[test]
-fn random_schedules(rt: HostRuntime) -> Result<(), Fail> {
-    let alloc = rt.alloc();
+fn assert_shared_group_keeps(rt: &impl Abort, alloc: Global) -> Result<(), Fail> {
     let reports = whole(alloc, shared_group(alloc)?)?;
     for seed in 1..21 {
-        keeps_to_plain(&rt, alloc, seed, shared_group(alloc)?, reports.as_slice())?;
-    }
-    let reports = whole(alloc, totals_across_groups(alloc)?)?;
-    for seed in 21..41 {
-        keeps_to_plain(
-            &rt,
-            alloc,
-            seed,
-            totals_across_groups(alloc)?,
-            reports.as_slice(),
-        )?;
+        keeps_to_plain(rt, alloc, seed, shared_group(alloc)?, reports.as_slice())?;
     }
     Ok(())
+}
+
+fn assert_totals_keep(rt: &impl Abort, alloc: Global) -> Result<(), Fail> {
+    let reports = whole(alloc, totals_across_groups(alloc)?)?;
+    for seed in 21..41 {
+        let world = totals_across_groups(alloc)?;
+        keeps_to_plain(rt, alloc, seed, world, reports.as_slice())?;
+    }
+    Ok(())
+}
+
+#[test]
+fn random_schedules(rt: HostRuntime) -> Result<(), Fail> {
+    assert_shared_group_keeps(&rt, rt.alloc())?;
+    assert_totals_keep(&rt, rt.alloc())
 }

@@ -3,12 +3,12 @@ ghost use Rattle.std.specs.Prelude.{◌≡◌, ◌≤◌, ◌-◌, ◌<◌, ◌�
 ghost use Rattle.pl_world.specs.Worlds.{IsUncalled};
 
 use crate::tests::net_tests::{
-    GROUPS, PLACINGS, drain, keeps_to_plain, line_protocol, pipeline, to_its_end, whole,
+    PLACINGS, assert_enabled, assert_move, assert_report, drain, keeps_to_plain, placed,
+    to_its_end, whole,
 };
-use crate::tests::world_tests::{one_transport, world_over};
-use crate::tests::{FAULT, OUT, READ, assert_one, assert_ping, ping_tail};
-use pl_build::Groups;
-use pl_event::{Cause, Sequence};
+use crate::tests::world_tests::{memory_transport, one_channel};
+use crate::tests::{FAULT, OUT, PING_CRLF, PING_TAIL, READ, SUCCESS, assert_one, assert_ping};
+use pl_event::Cause;
 use pl_head::{MemoryTransport, Transport, TransportFault};
 use pl_nodes_tests::Trickle;
 use pl_replay::{Net, replay, replay_world};
@@ -78,14 +78,9 @@ fn placed_ping_over<T: Transport>(
 ) -> Result<World<Handler, T>, Fail>
     requires { IsUncalled (T.state transport) }
 {
-    let mut groups = Groups::new(alloc, 1, &GROUPS)?;
-    let mut pipelines = Sequence::new(alloc);
-    let kinds = line_protocol(decode, service);
-    pipelines.push(pipeline(alloc, &mut groups, &kinds)?)?;
-    let mut inputs = Sequence::new(alloc);
-    inputs.push(to_its_end(alloc, &[&[b"PING\r\n"]])?)?;
-    let transports = one_transport(alloc, transport)?;
-    Ok(world_over(alloc, pipelines, inputs, transports, groups.executors())?)
+    let (pipeline, executors) = placed(alloc, decode, service)?;
+    let input = to_its_end(alloc, PING_CRLF)?;
+    one_channel(alloc, pipeline, input, transport, executors)
 }
 
 /// The same on one loop.
@@ -98,33 +93,42 @@ fn ping_over<T: Transport>(alloc: Global, transport: T) -> Result<World<Handler,
 #[test]
 fn one_byte_transport(rt: HostRuntime) -> Result<(), Fail> {
     let alloc = rt.alloc();
-    let world = ping_over(alloc, trickle(alloc))?;
-    let mut moves = vec![in alloc; READ; 3]?;
-    for _ in 0..14 {
-        moves.push(OUT)?;
-    }
-    let report = replay_world(alloc, world, 4, moves.as_slice())?;
+    let mut moves = [OUT; 17];
+    moves[0] = READ;
+    moves[1] = READ;
+    moves[2] = READ;
+    let report = replay_world(alloc, ping_over(alloc, trickle(alloc))?, 4, &moves)?;
     assert_ping(&rt, &report);
     Ok(())
+}
+
+/// Asserts that `PING` was served by the only channel of a net.
+fn assert_ponged<T: Transport>(rt: &impl Abort, net: &Net<Handler, T>) -> Result<(), Fail> {
+    assert_report(rt, net, Stands::Drained, PING_TAIL, PONG, &[SUCCESS])
+}
+
+/// The channel's three read steps, and then this many calls of its transport until it is drained.
+fn assert_calls(
+    rt: &impl Abort,
+    net: &mut Net<Handler, MemoryTransport>,
+    calls: u16,
+) -> Result<(), Fail> {
+    assert_enabled(rt, net, &[READ; 3])?;
+    for _ in 0..calls {
+        assert_eq!(rt; net.drained(), false);
+        assert_move(rt, net, OUT, true)?;
+    }
+    assert_move(rt, net, OUT, false)
 }
 
 /// With a window of `window` bytes `+PONG` and its line end leave in `calls` calls, and not in one less.
 fn assert_leaves(rt: &impl Abort, alloc: Global, window: u32, calls: u16) -> Result<(), Fail>
     requires { 1 ≤ window }
 {
-    let world = ping_over(alloc, MemoryTransport::new(alloc, window, None))?;
+    let world = ping_over(alloc, memory_transport(alloc, window, None))?;
     let mut net = Net::new(alloc, world, 4)?;
-    for _ in 0..3 {
-        assert_eq!(rt; net.apply(READ)?, true);
-    }
-    for _ in 0..calls {
-        assert_eq!(rt; net.drained(), false);
-        assert_eq!(rt; net.apply(OUT)?, true);
-    }
-    assert_eq!(rt; net.apply(OUT)?, false);
-    let report = net.report()?;
-    assert_ping(rt, &report);
-    Ok(())
+    assert_calls(rt, &mut net, calls)?;
+    assert_ponged(rt, &net)
 }
 
 #[test]
@@ -138,11 +142,36 @@ fn windows(rt: HostRuntime) -> Result<(), Fail> {
 #[test]
 fn failed_transport(rt: HostRuntime) -> Result<(), Fail> {
     let alloc = rt.alloc();
-    let world = ping_over(alloc, MemoryTransport::new(alloc, 65_536, Some(1)))?;
+    let world = ping_over(alloc, memory_transport(alloc, 65_536, Some(1)))?;
     let moves = [READ, READ, OUT, OUT];
     let report = replay(alloc, Session { world, capacity: 1 }, &moves)?;
     let stands = Stands::Failed(Cause::Transport);
-    assert_one(&rt, &report, stands, &ping_tail(), b"", &[FAULT]);
+    assert_one(&rt, &report, stands, PING_TAIL, b"", &[FAULT]);
+    Ok(())
+}
+
+/// `PING` over a narrow transport, in one placing.
+fn ping_over_narrow(
+    alloc: Global,
+    decode: Option<&str>,
+    service: Option<&str>,
+    room: usize,
+) -> Result<World<Handler, Narrow>, Fail> {
+    placed_ping_over(alloc, decode, service, Narrow::new(alloc, room))
+}
+
+/// Random schedules in one placing keep to the plain report, where a narrow transport has room for the whole reply.
+fn assert_slow(
+    rt: &impl Abort,
+    alloc: Global,
+    decode: Option<&str>,
+    service: Option<&str>,
+) -> Result<(), Fail> {
+    let reports = whole(alloc, ping_over_narrow(alloc, decode, service, 7)?)?;
+    for seed in 1..5 {
+        let world = ping_over_narrow(alloc, decode, service, 7)?;
+        keeps_to_plain(rt, alloc, seed, world, reports.as_slice())?;
+    }
     Ok(())
 }
 
@@ -150,36 +179,40 @@ fn failed_transport(rt: HostRuntime) -> Result<(), Fail> {
 /// the schedule begins.
 #[test]
 fn slow_transport(rt: HostRuntime) -> Result<(), Fail> {
-    let alloc = rt.alloc();
     for (decode, service) in PLACINGS {
-        let world = placed_ping_over(alloc, decode, service, Narrow::new(alloc, 7))?;
-        let reports = whole(alloc, world)?;
-        for seed in 1..5 {
-            let world = placed_ping_over(alloc, decode, service, Narrow::new(alloc, 7))?;
-            keeps_to_plain(&rt, alloc, seed, world, reports.as_slice())?;
-        }
+        assert_slow(&rt, rt.alloc(), decode, service)?;
     }
     Ok(())
+}
+
+const PONG: &[u8] = b"+PONG\r\n";
+
+/// In one placing a narrow transport accepts as many bytes of the reply as it has room for.
+fn assert_room(
+    rt: &impl Abort,
+    alloc: Global,
+    decode: Option<&str>,
+    service: Option<&str>,
+    room: usize,
+) -> Result<(), Fail>
+    requires { room < 8 }
+{
+    let world = ping_over_narrow(alloc, decode, service, room)?;
+    let mut net = Net::new(alloc, world, 1)?;
+    assert_eq!(rt; drain(&mut net, 1, 3)?, room == 7);
+    if room == 7 {
+        return assert_ponged(rt, &net);
+    }
+    let stands = Stands::Failed(Cause::Transport);
+    assert_report(rt, &net, stands, PING_TAIL, &PONG[..room], &[FAULT])
 }
 
 /// In each placing one that has room for less than the reply fails its channel, with as many bytes as it had room for.
 #[test]
 fn own_transport_fails(rt: HostRuntime) -> Result<(), Fail> {
-    let alloc = rt.alloc();
-    let pong = b"+PONG\r\n".as_slice();
     for (decode, service) in PLACINGS {
         for room in 0..8 {
-            let world = placed_ping_over(alloc, decode, service, Narrow::new(alloc, room))?;
-            let mut net = Net::new(alloc, world, 1)?;
-            assert_eq!(rt; drain(&mut net, 1, 3)?, room == 7);
-            let report = net.report()?;
-            if room < 7 {
-                let stands = Stands::Failed(Cause::Transport);
-                let bytes = &pong[..room];
-                assert_one(&rt, &report, stands, &ping_tail(), bytes, &[FAULT]);
-            } else {
-                assert_ping(&rt, &report);
-            }
+            assert_room(&rt, rt.alloc(), decode, service, room)?;
         }
     }
     Ok(())

@@ -2,11 +2,11 @@
 ghost use Rattle.std.specs.Prelude.{◌≡◌, []};
 ghost use Rattle.pl_replay_tests.specs.CountingStage.{reads, counting, counting-lawful, counting-thrifty};
 
-use crate::tests::assert_one;
-use crate::tests::net_tests::to_its_end;
-use crate::tests::world_tests::one_memory_transport;
+use crate::tests::net_tests::plans;
+use crate::tests::world_tests::{memory_transport, one_transport, only};
+use crate::tests::{Seen, assert_one};
 use pl_build::{Groups, PipelineBuilder, Placed};
-use pl_event::{BareStage, Direction, Event, Fused, Message, Reply, Sequence, Stage, Turned};
+use pl_event::{BareStage, Direction, Event, Fused, Message, Reply, Stage, Turned};
 use pl_head::MemoryTransport;
 use pl_replay::replay_world;
 use pl_stages::ThriftyBare;
@@ -85,17 +85,11 @@ fn world(
     alloc: Global,
     group: Option<&str>,
 ) -> Result<World<Fused<Counter>, MemoryTransport>, Fail> {
+    let inputs = plans(alloc, &[&[&[b"a", b"b"], &[b"c"]]])?;
+    let transports = one_transport(alloc, memory_transport(alloc, 65_536, None))?;
     let mut groups = Groups::new(alloc, 1, &[("a", 1)])?;
-    let mut pipelines = Sequence::new(alloc);
-    pipelines.push(pipeline(alloc, &mut groups, group)?)?;
-    let mut inputs = Sequence::new(alloc);
-    inputs.push(to_its_end(alloc, &[&[b"a", b"b"], &[b"c"]])?)?;
-    let transports = one_memory_transport(alloc, 65_536, None)?;
+    let pipelines = only(alloc, pipeline(alloc, &mut groups, group)?)?;
     Ok(World::of_thrifty(alloc, pipelines, inputs, transports, groups.executors())?)
-}
-
-fn number(n: u64) -> Event {
-    Event::Read(Message::Reply(Reply::Total(n)))
 }
 
 /// Replays a world and looks at its tail: the same in each placing.
@@ -107,12 +101,12 @@ fn assert_tail(
 ) -> Result<(), Fail> {
     let report = replay_world(alloc, world(alloc, group)?, 2, moves)?;
     let tail = [
-        Event::Active,
-        number(1),
-        number(2),
-        Event::ReadComplete,
-        number(3),
-        Event::ReadComplete,
+        Seen::Active,
+        Seen::Total(1),
+        Seen::Total(2),
+        Seen::ReadComplete,
+        Seen::Total(3),
+        Seen::ReadComplete,
     ];
     assert_one(rt, &report, Stands::Drained, &tail, b"", &[]);
     Ok(())

@@ -4,6 +4,7 @@ ghost use Rattle.pl_world.specs.Worlds.{IsUncalled};
 
 use crate::tests::net_tests::{line_protocol, pipeline, to_its_end};
 use crate::tests::trickle_tests::trickle;
+use crate::tests::{Bursts, PING, assert_named};
 use pl_build::{Groups, Placed};
 use pl_event::Sequence;
 use pl_head::{MemoryTransport, ReadPlan, Transport};
@@ -38,18 +39,37 @@ pub(crate) fn one_transport<T: Transport>(
     Ok(transports)
 }
 
-/// One transport over memory.
-pub(crate) fn one_memory_transport(
-    alloc: Global,
-    window: u32,
-    fail_at: Option<u32>,
-) -> Result<Sequence<MemoryTransport>, AllocError>
-    ensures { IfOk result (λ transports. All (λ t. IsUncalled (⟦<MemoryTransport as Transport>⟧.state t)) transports) }
+/// A transport over memory that was not called.
+pub(crate) fn memory_transport(alloc: Global, window: u32, fail_at: Option<u32>) -> MemoryTransport
+    ensures { IsUncalled (⟦<MemoryTransport as Transport>⟧.state result) }
 {
-    one_transport(alloc, MemoryTransport::new(alloc, window, fail_at))
+    MemoryTransport::new(alloc, window, fail_at)
 }
 
-/// The same over memory, with windows of a given number of bytes.
+/// Only this element.
+pub(crate) fn only<T: Drop>(alloc: Global, element: T) -> Result<Sequence<T>, AllocError> {
+    let mut elements = Sequence::new(alloc);
+    elements.push(element)?;
+    Ok(elements)
+}
+
+/// A world of one channel of built-in handlers, over a transport that was not called.
+pub(crate) fn one_channel<T: Transport>(
+    alloc: Global,
+    pipeline: Placed<Handler>,
+    input: ReadPlan,
+    transport: T,
+    executors: u16,
+) -> Result<World<Handler, T>, Fail>
+    requires { IsUncalled (T.state transport) }
+{
+    let pipelines = only(alloc, pipeline)?;
+    let inputs = only(alloc, input)?;
+    let transports = one_transport(alloc, transport)?;
+    Ok(world_over(alloc, pipelines, inputs, transports, executors)?)
+}
+
+/// Any number of channels over memory, with windows of a given number of bytes.
 pub(crate) fn windowed_world(
     alloc: Global,
     pipelines: Sequence<Placed<Handler>>,
@@ -76,25 +96,40 @@ pub(crate) fn world_of(
     windowed_world(alloc, pipelines, inputs, 65_536, executors)
 }
 
+/// This many pipelines of the line protocol.
+fn equal_pipelines(
+    alloc: Global,
+    groups: &mut Groups,
+    count: usize,
+) -> Result<Sequence<Placed<Handler>>, Fail> {
+    let mut pipelines = Sequence::new(alloc);
+    for _ in 0..count {
+        pipelines.push(pipeline(alloc, groups, &line_protocol(None, None))?)?;
+    }
+    Ok(pipelines)
+}
+
+/// This many equal inputs.
+fn equal_plans(alloc: Global, input: Bursts, count: usize) -> Result<Sequence<ReadPlan>, Fail> {
+    let mut plans = Sequence::new(alloc);
+    for _ in 0..count {
+        plans.push(to_its_end(alloc, input)?)?;
+    }
+    Ok(plans)
+}
+
 /// The refusal of a given number of channels with the line protocol, with a given number of inputs.
 fn refusal(
     alloc: Global,
     channels: usize,
     inputs: usize,
     executors: u16,
-    input: &[&[&[u8]]],
+    input: Bursts,
 ) -> Result<Option<WorldRefusal>, Fail> {
     let mut groups = Groups::new(alloc, 1, &[])?;
-    let mut pipelines = Sequence::new(alloc);
-    for _ in 0..channels {
-        let kinds = line_protocol(None, None);
-        pipelines.push(pipeline(alloc, &mut groups, &kinds)?)?;
-    }
-    let mut all = Sequence::new(alloc);
-    for _ in 0..inputs {
-        all.push(to_its_end(alloc, input)?)?;
-    }
-    match world_of(alloc, pipelines, all, executors) {
+    let pipelines = equal_pipelines(alloc, &mut groups, channels)?;
+    let plans = equal_plans(alloc, input, inputs)?;
+    match world_of(alloc, pipelines, plans, executors) {
         Ok(_) => Ok(None),
         Err(refusal) => Ok(Some(refusal)),
     }
@@ -120,15 +155,10 @@ fn too_many_channels(rt: HostRuntime) -> Result<(), Fail> {
 /// The refusal of a given number of channels with as many inputs, over one transport.
 fn refusal_over_one(alloc: Global, channels: usize) -> Result<Option<WorldRefusal>, Fail> {
     let mut groups = Groups::new(alloc, 1, &[])?;
-    let mut pipelines = Sequence::new(alloc);
-    let mut inputs = Sequence::new(alloc);
-    for _ in 0..channels {
-        let kinds = line_protocol(None, None);
-        pipelines.push(pipeline(alloc, &mut groups, &kinds)?)?;
-        inputs.push(to_its_end(alloc, &[&[b"PING\n"]])?)?;
-    }
+    let pipelines = equal_pipelines(alloc, &mut groups, channels)?;
+    let plans = equal_plans(alloc, PING, channels)?;
     let transports = one_transport(alloc, trickle(alloc))?;
-    match world_over(alloc, pipelines, inputs, transports, groups.executors()) {
+    match world_over(alloc, pipelines, plans, transports, groups.executors()) {
         Ok(_) => Ok(None),
         Err(refusal) => Ok(Some(refusal)),
     }
@@ -147,22 +177,33 @@ fn one_transport_for_each_pipeline(rt: HostRuntime) -> Result<(), Fail> {
     Ok(())
 }
 
+/// The refusal of one channel that reads this many bursts of no chunk.
+fn refusal_of_bursts(alloc: Global, count: usize) -> Result<Option<WorldRefusal>, Fail> {
+    let none: &[&[u8]] = &[];
+    let bursts = vec![in alloc; none; count]?;
+    refusal(alloc, 1, 1, 1, bursts.as_slice())
+}
+
+/// The same with one burst of this many empty chunks.
+fn refusal_of_chunks(alloc: Global, count: usize) -> Result<Option<WorldRefusal>, Fail> {
+    let empty: &[u8] = b"";
+    let chunks = vec![in alloc; empty; count]?;
+    refusal(alloc, 1, 1, 1, &[chunks.as_slice()])
+}
+
+/// The same with one chunk of this many bytes.
+fn refusal_of_bytes(alloc: Global, count: usize) -> Result<Option<WorldRefusal>, Fail> {
+    let bytes = vec![in alloc; b'a'; count]?;
+    refusal(alloc, 1, 1, 1, &[&[bytes.as_slice()]])
+}
+
 #[test]
 fn too_long_inputs(rt: HostRuntime) -> Result<(), Fail> {
     let alloc = rt.alloc();
-    let none: &[&[u8]] = &[];
-    for (count, want) in [(4_096, None), (4_097, Some(WorldRefusal::Limit))] {
-        let bursts = vec![in alloc; none; count]?;
-        assert_eq!(rt; refusal(alloc, 1, 1, 1, bursts.as_slice())?, want);
-    }
-    let chunk: &[u8] = b"";
-    for (count, want) in [(16_384, None), (16_385, Some(WorldRefusal::Limit))] {
-        let chunks = vec![in alloc; chunk; count]?;
-        assert_eq!(rt; refusal(alloc, 1, 1, 1, &[chunks.as_slice()])?, want);
-    }
-    for (count, want) in [(1_048_576, None), (1_048_577, Some(WorldRefusal::Limit))] {
-        let bytes = vec![in alloc; b'a'; count]?;
-        assert_eq!(rt; refusal(alloc, 1, 1, 1, &[&[bytes.as_slice()]])?, want);
+    for (past, want) in [(0, None), (1, Some(WorldRefusal::Limit))] {
+        assert_eq!(rt; refusal_of_bursts(alloc, 4_096 + past)?, want);
+        assert_eq!(rt; refusal_of_chunks(alloc, 16_384 + past)?, want);
+        assert_eq!(rt; refusal_of_bytes(alloc, 1_048_576 + past)?, want);
     }
     Ok(())
 }
@@ -174,8 +215,7 @@ fn names_of_refusals(rt: HostRuntime) -> Result<(), Fail> {
         (WorldRefusal::Memory, "1 Memory"),
         (WorldRefusal::Limit, "2 Limit"),
     ] {
-        let told = format!(in rt.alloc(); "{refusal}")?;
-        assert_eq!(rt; told.as_str(), name);
+        assert_named(&rt, rt.alloc(), &refusal, name)?;
     }
     Ok(())
 }

@@ -1,5 +1,5 @@
 use Rattle.std.proofs.Common.{◌<◌}
-use Rattle.pl_replay_tests.proofs.tests.failure_tests.ended.Given as goal
+use Rattle.pl_replay_tests.proofs.tests.net_tests.assert_keeps.Given as goal
 
 abbrev pub invariant-loop : goal.invariant-loop
 invariant-loop g l = l.number < 2147483647

@@ -1,7 +1,0 @@
-use Rattle.std.proofs.Common.{Some}
-use Rattle.pl_head.specs.contracts.transports.MemoryTransportTransport.TheImpl.{state-value}
-use Rattle.pl_world.proofs.WorldLimits.{is_uncalled}
-use Rattle.pl_replay_tests.proofs.tests.world_tests.one_memory_transport.Goals as goal
-
-pub one_transport-requires : goal.one_transport-requires
-one_transport-requires c = is_uncalled (state-value.it c.new.result) (Some c.args.window) c.args.fail_at c.new.ensures.state
