@@ -2,7 +2,7 @@
 ghost use Rattle.std.specs.Prelude.{◌<◌};
 
 use crate::tests::net_tests::{
-    PLACINGS, begins, bursts, drain, move_by, next_number, placed, whole,
+    PLACINGS, Placing, TOGETHER, begins, bursts, drain, move_by, next_number, placed, whole,
 };
 use crate::tests::world_tests::{memory_transport, one_channel};
 use crate::tests::{
@@ -62,13 +62,12 @@ impl Ending {
 /// over a window of a given number of bytes.
 fn world(
     alloc: Global,
-    decode: Option<&str>,
-    service: Option<&str>,
+    placing: Placing,
     window: u32,
     input: Bursts,
     ending: Ending,
 ) -> Result<World<Handler, MemoryTransport>, Fail> {
-    let (pipeline, executors) = placed(alloc, decode, service)?;
+    let (pipeline, executors) = placed(alloc, placing)?;
     let input = ReadPlan {
         bursts: bursts(alloc, input)?,
         abort_after: ending.abort_after(),
@@ -85,7 +84,7 @@ fn replayed(
     ending: Ending,
     moves: &[Move],
 ) -> Result<Report, Fail> {
-    let world = world(alloc, None, None, window, input, ending)?;
+    let world = world(alloc, TOGETHER, window, input, ending)?;
     Ok(replay_world(alloc, world, 4, moves)?)
 }
 
@@ -219,11 +218,10 @@ fn assert_goes_on(
 /// The input over a narrow window, in one placing.
 fn placed_world(
     alloc: Global,
-    decode: Option<&str>,
-    service: Option<&str>,
+    placing: Placing,
     ending: Ending,
 ) -> Result<World<Handler, MemoryTransport>, Fail> {
-    world(alloc, decode, service, 3, INPUT, ending)
+    world(alloc, placing, 3, INPUT, ending)
 }
 
 /// Random moves of a net that ends so and then stays failed, and then every move in turn until none is enabled.
@@ -253,15 +251,14 @@ fn assert_ends(
 fn ended(
     rt: &impl Abort,
     alloc: Global,
-    decode: Option<&str>,
-    service: Option<&str>,
+    placing: Placing,
     seed: u64,
     whole: &[ChannelReport],
     ending: Ending,
 ) -> Result<Report, Fail>
     requires { seed < 2147483647 }
 {
-    let world = placed_world(alloc, decode, service, ending)?;
+    let world = placed_world(alloc, placing, ending)?;
     let mut net = Net::new(alloc, world, 1)?;
     assert_ends(rt, &mut net, seed, whole, ending)?;
     let report = net.into_report()?;
@@ -273,15 +270,14 @@ fn ended(
 fn assert_fault(
     rt: &impl Abort,
     alloc: Global,
-    decode: Option<&str>,
-    service: Option<&str>,
+    placing: Placing,
     call: u32,
     left: usize,
 ) -> Result<(), Fail> {
     let ending = Ending::Call(call);
-    let reports = whole(alloc, placed_world(alloc, decode, service, ending)?)?;
+    let reports = whole(alloc, placed_world(alloc, placing, ending)?)?;
     for seed in 1..4 {
-        let report = ended(rt, alloc, decode, service, seed, reports.as_slice(), ending)?;
+        let report = ended(rt, alloc, placing, seed, reports.as_slice(), ending)?;
         assert_eq!(rt; only_channel(rt, &report).bytes.len(), left);
     }
     Ok(())
@@ -290,9 +286,9 @@ fn assert_fault(
 /// In each placing, whatever the schedule: as many bytes leave as the calls before the one that fails accept.
 #[test]
 fn faults_in_each_placing(rt: HostRuntime) -> Result<(), Fail> {
-    for (decode, service) in PLACINGS {
+    for placing in PLACINGS {
         for (call, left) in CALLS {
-            assert_fault(&rt, rt.alloc(), decode, service, call, left)?;
+            assert_fault(&rt, rt.alloc(), placing, call, left)?;
         }
     }
     Ok(())
@@ -303,16 +299,15 @@ fn faults_in_each_placing(rt: HostRuntime) -> Result<(), Fail> {
 fn assert_abort(
     rt: &impl Abort,
     alloc: Global,
-    decode: Option<&str>,
-    service: Option<&str>,
+    placing: Placing,
     count: u32,
     tail: usize,
     writes: usize,
 ) -> Result<(), Fail> {
     let ending = Ending::Abort(count);
-    let reports = whole(alloc, placed_world(alloc, decode, service, ending)?)?;
+    let reports = whole(alloc, placed_world(alloc, placing, ending)?)?;
     for seed in 1..11 {
-        let report = ended(rt, alloc, decode, service, seed, reports.as_slice(), ending)?;
+        let report = ended(rt, alloc, placing, seed, reports.as_slice(), ending)?;
         let channel = only_channel(rt, &report);
         assert_eq!(rt; channel.tail.len(), tail);
         assert_eq!(rt; channel.writes.len(), writes);
@@ -324,9 +319,9 @@ fn assert_abort(
 /// of them is settled.
 #[test]
 fn aborts_in_each_placing(rt: HostRuntime) -> Result<(), Fail> {
-    for (decode, service) in PLACINGS {
+    for placing in PLACINGS {
         for (count, tail, writes) in [(0, 1, 0), (1, 4, 2), (2, 5, 2), (3, 9, 5)] {
-            assert_abort(&rt, rt.alloc(), decode, service, count, tail, writes)?;
+            assert_abort(&rt, rt.alloc(), placing, count, tail, writes)?;
         }
     }
     Ok(())

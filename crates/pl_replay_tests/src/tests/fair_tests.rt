@@ -1,7 +1,7 @@
 //! A fair schedule drains a session in each placing, and gives the report that plain gives.
 ghost use Rattle.std.specs.Prelude.{◌≤◌};
 
-use crate::tests::net_tests::{PLACINGS, line_protocol, marked_pipeline, plans};
+use crate::tests::net_tests::{PLACINGS, Placing, line_protocol, marked_pipeline, plans};
 use crate::tests::world_tests::windowed_world;
 use crate::tests::{Bursts, Kinds, assert_each_same};
 use pl_build::{Groups, Placed};
@@ -37,16 +37,11 @@ const TWO_INPUTS: &[Bursts] = &[
 
 /// Two channels with the line protocol, the decoder and the service each in a group or in none, over windows of a
 /// given number of bytes, with marks of as many and twice as many.
-fn session(
-    alloc: Global,
-    decode: Option<&str>,
-    service: Option<&str>,
-    window: u32,
-) -> Result<Session, Fail>
+fn session(alloc: Global, placing: Placing, window: u32) -> Result<Session, Fail>
     requires { (1 ≤ window) × (window ≤ 65536) }
 {
     let mut groups = Groups::new(alloc, 1, &[("a", 2), ("b", 1)])?;
-    let kinds = line_protocol(decode, service);
+    let kinds = line_protocol(placing);
     let pipelines = two_pipelines(alloc, &mut groups, &kinds, window)?;
     let plans = plans(alloc, TWO_INPUTS)?;
     let world = windowed_world(alloc, pipelines, plans, window, groups.executors())?;
@@ -68,43 +63,27 @@ fn rounds(alloc: Global, channels: u16, executors: u16, count: u16) -> Result<Ve
 }
 
 /// Its report by a fair schedule.
-fn fair_report(
-    alloc: Global,
-    decode: Option<&str>,
-    service: Option<&str>,
-    window: u32,
-) -> Result<Report, Fail>
+fn fair_report(alloc: Global, placing: Placing, window: u32) -> Result<Report, Fail>
     requires { (1 ≤ window) × (window ≤ 65536) }
 {
     let moves = rounds(alloc, 2, 4, 60)?;
-    let session = session(alloc, decode, service, window)?;
+    let session = session(alloc, placing, window)?;
     Ok(replay(alloc, session, moves.as_slice())?)
 }
 
 /// Its whole report.
-fn plain_report(
-    alloc: Global,
-    decode: Option<&str>,
-    service: Option<&str>,
-    window: u32,
-) -> Result<Report, Fail>
+fn plain_report(alloc: Global, placing: Placing, window: u32) -> Result<Report, Fail>
     requires { (1 ≤ window) × (window ≤ 65536) }
 {
-    let session = session(alloc, decode, service, window)?;
+    let session = session(alloc, placing, window)?;
     Ok(plain(alloc, session)?)
 }
 
-fn assert_drains(
-    rt: &impl Abort,
-    alloc: Global,
-    decode: Option<&str>,
-    service: Option<&str>,
-    window: u32,
-) -> Result<(), Fail>
+fn assert_drains(rt: &impl Abort, alloc: Global, placing: Placing, window: u32) -> Result<(), Fail>
     requires { (1 ≤ window) × (window ≤ 65536) }
 {
-    let report = fair_report(alloc, decode, service, window)?;
-    let want = plain_report(alloc, decode, service, window)?;
+    let report = fair_report(alloc, placing, window)?;
+    let want = plain_report(alloc, placing, window)?;
     assert_each_same(rt, report.channels.as_slice(), want.channels.as_slice());
     Ok(())
 }
@@ -113,8 +92,8 @@ fn assert_drains(
 fn assert_each_drains(rt: &impl Abort, alloc: Global, window: u32) -> Result<(), Fail>
     requires { (1 ≤ window) × (window ≤ 65536) }
 {
-    for (decode, service) in PLACINGS {
-        assert_drains(rt, alloc, decode, service, window)?;
+    for placing in PLACINGS {
+        assert_drains(rt, alloc, placing, window)?;
     }
     Ok(())
 }

@@ -1,6 +1,6 @@
 //! Large loads on a net. bench/run.py reads their times, size by size.
 
-use crate::tests::net_tests::{GROUPS, assert_enabled, line_protocol, world};
+use crate::tests::net_tests::{BOTH_APART, GROUPS, assert_enabled, line_protocol, world};
 use pl_head::MemoryTransport;
 use pl_replay::Net;
 use pl_stages::Handler;
@@ -28,7 +28,7 @@ const REPLY: [Move; 2] = [Move::Hand(2), Move::Task(0)];
 /// `PING` as often as there are rounds, in one chunk, where the decoder and the service have an executor of their own.
 fn pings(alloc: Global, rounds: usize) -> Result<World<Handler, MemoryTransport>, Fail> {
     let chunk = b"PING\n".repeat(alloc, rounds)?;
-    let kinds = line_protocol(Some("a"), Some("b"));
+    let kinds = line_protocol(BOTH_APART);
     world(alloc, &GROUPS, &[&kinds], &[&[&[chunk.as_slice()]]])
 }
 

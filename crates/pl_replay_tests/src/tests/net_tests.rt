@@ -50,11 +50,24 @@ pub(crate) fn marked_pipeline(
     Ok(builder.build(groups)?)
 }
 
-/// The handlers of the line protocol, the decoder and the service each in a group or in none.
-pub(crate) fn line_protocol<'a>(
-    decode: Option<&'a str>,
-    service: Option<&'a str>,
-) -> [(Kind, Option<&'a str>); 5] {
+/// The groups of the decoder and of the service, where they have one.
+pub(crate) type Placing<'a> = (Option<&'a str>, Option<&'a str>);
+
+/// Both on the loop.
+pub(crate) const TOGETHER: Placing = (None, None);
+
+/// The decoder on an executor of its own.
+pub(crate) const DECODER_APART: Placing = (Some("a"), None);
+
+/// Each on an executor of its own.
+pub(crate) const BOTH_APART: Placing = (Some("a"), Some("b"));
+
+/// Each placing of the two over `GROUPS`.
+pub(crate) const PLACINGS: [Placing; 4] = [TOGETHER, DECODER_APART, (None, Some("b")), BOTH_APART];
+
+/// The handlers of the line protocol, so placed.
+pub(crate) fn line_protocol(placing: Placing) -> [(Kind, Option<&str>); 5] {
+    let (decode, service) = placing;
     [
         (Kind::Lines, None),
         (Kind::Decode, decode),
@@ -66,14 +79,6 @@ pub(crate) fn line_protocol<'a>(
 
 /// The groups of the decoder and of the service, each with one executor.
 pub(crate) const GROUPS: [(&str, u16); 2] = [("a", 1), ("b", 1)];
-
-/// Each placing of the decoder and the service: on the loop, or in a group.
-pub(crate) const PLACINGS: [(Option<&str>, Option<&str>); 4] = [
-    (None, None),
-    (Some("a"), None),
-    (None, Some("b")),
-    (Some("a"), Some("b")),
-];
 
 pub(crate) fn bursts(alloc: Global, input: Bursts) -> Result<Sequence<Sequence<ByteString>>, Fail> {
     let mut bursts = Sequence::new(alloc);
@@ -97,13 +102,9 @@ pub(crate) fn to_its_end(alloc: Global, input: Bursts) -> Result<ReadPlan, Fail>
 
 /// The line protocol, the decoder and the service each in a group of `GROUPS` or in none, and how many executors there
 /// are.
-pub(crate) fn placed(
-    alloc: Global,
-    decode: Option<&str>,
-    service: Option<&str>,
-) -> Result<(Placed<Handler>, u16), Fail> {
+pub(crate) fn placed(alloc: Global, placing: Placing) -> Result<(Placed<Handler>, u16), Fail> {
     let mut groups = Groups::new(alloc, 1, &GROUPS)?;
-    let pipeline = pipeline(alloc, &mut groups, &line_protocol(decode, service))?;
+    let pipeline = pipeline(alloc, &mut groups, &line_protocol(placing))?;
     Ok((pipeline, groups.executors()))
 }
 
@@ -144,7 +145,7 @@ pub(crate) fn world(
 
 /// Ping, with the decoder on an executor of its own.
 fn decoder_apart(alloc: Global) -> Result<World<Handler, MemoryTransport>, Fail> {
-    let kinds = line_protocol(Some("a"), None);
+    let kinds = line_protocol(DECODER_APART);
     world(alloc, &[("a", 1)], &[&kinds], &[PING_CRLF])
 }
 
@@ -291,7 +292,7 @@ pub(crate) const TOTALS_SENT: &[u8] = b":7\r\n:1\r\n:12\r\n:12\r\n";
 
 /// The decoder and the service each on an executor of their own.
 fn totals_across_groups(alloc: Global) -> Result<World<Handler, MemoryTransport>, Fail> {
-    let kinds = line_protocol(Some("a"), Some("b"));
+    let kinds = line_protocol(BOTH_APART);
     world(alloc, &GROUPS, &[&kinds], &[&[&[TOTALS]]])
 }
 
@@ -309,7 +310,7 @@ const THREE_INPUTS: &[Bursts] = &[PING, &[&[b"PING\nQUIT\nPING\nPI"]], &[&[TOTAL
 
 /// Three channels, whose decoder and service share a group of two executors.
 fn shared_group(alloc: Global) -> Result<World<Handler, MemoryTransport>, Fail> {
-    let kinds = line_protocol(Some("g"), Some("g"));
+    let kinds = line_protocol((Some("g"), Some("g")));
     world(alloc, &[("g", 2)], &[kinds.as_slice(); 3], THREE_INPUTS)
 }
 

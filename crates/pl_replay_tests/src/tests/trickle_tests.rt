@@ -3,8 +3,8 @@ ghost use Rattle.std.specs.Prelude.{◌≡◌, ◌≤◌, ◌-◌, ◌<◌, ◌�
 ghost use Rattle.pl_world.specs.Worlds.{IsUncalled};
 
 use crate::tests::net_tests::{
-    PLACINGS, assert_enabled, assert_move, assert_report, drain, keeps_to_plain, placed,
-    to_its_end, whole,
+    PLACINGS, Placing, TOGETHER, assert_enabled, assert_move, assert_report, drain, keeps_to_plain,
+    placed, to_its_end, whole,
 };
 use crate::tests::world_tests::{memory_transport, one_channel};
 use crate::tests::{FAULT, OUT, PING_CRLF, PING_TAIL, READ, SUCCESS, assert_one, assert_ping};
@@ -72,13 +72,12 @@ impl Transport for Narrow {
 /// each in a group or in none.
 fn placed_ping_over<T: Transport>(
     alloc: Global,
-    decode: Option<&str>,
-    service: Option<&str>,
+    placing: Placing,
     transport: T,
 ) -> Result<World<Handler, T>, Fail>
     requires { IsUncalled (T.state transport) }
 {
-    let (pipeline, executors) = placed(alloc, decode, service)?;
+    let (pipeline, executors) = placed(alloc, placing)?;
     let input = to_its_end(alloc, PING_CRLF)?;
     one_channel(alloc, pipeline, input, transport, executors)
 }
@@ -87,7 +86,7 @@ fn placed_ping_over<T: Transport>(
 fn ping_over<T: Transport>(alloc: Global, transport: T) -> Result<World<Handler, T>, Fail>
     requires { IsUncalled (T.state transport) }
 {
-    placed_ping_over(alloc, None, None, transport)
+    placed_ping_over(alloc, TOGETHER, transport)
 }
 
 #[test]
@@ -153,23 +152,17 @@ fn failed_transport(rt: HostRuntime) -> Result<(), Fail> {
 /// `PING` over a narrow transport, in one placing.
 fn ping_over_narrow(
     alloc: Global,
-    decode: Option<&str>,
-    service: Option<&str>,
+    placing: Placing,
     room: usize,
 ) -> Result<World<Handler, Narrow>, Fail> {
-    placed_ping_over(alloc, decode, service, Narrow::new(alloc, room))
+    placed_ping_over(alloc, placing, Narrow::new(alloc, room))
 }
 
 /// Random schedules in one placing keep to the plain report, where a narrow transport has room for the whole reply.
-fn assert_slow(
-    rt: &impl Abort,
-    alloc: Global,
-    decode: Option<&str>,
-    service: Option<&str>,
-) -> Result<(), Fail> {
-    let reports = whole(alloc, ping_over_narrow(alloc, decode, service, 7)?)?;
+fn assert_slow(rt: &impl Abort, alloc: Global, placing: Placing) -> Result<(), Fail> {
+    let reports = whole(alloc, ping_over_narrow(alloc, placing, 7)?)?;
     for seed in 1..5 {
-        let world = ping_over_narrow(alloc, decode, service, 7)?;
+        let world = ping_over_narrow(alloc, placing, 7)?;
         keeps_to_plain(rt, alloc, seed, world, reports.as_slice())?;
     }
     Ok(())
@@ -179,8 +172,8 @@ fn assert_slow(
 /// the schedule begins.
 #[test]
 fn slow_transport(rt: HostRuntime) -> Result<(), Fail> {
-    for (decode, service) in PLACINGS {
-        assert_slow(&rt, rt.alloc(), decode, service)?;
+    for placing in PLACINGS {
+        assert_slow(&rt, rt.alloc(), placing)?;
     }
     Ok(())
 }
@@ -188,16 +181,10 @@ fn slow_transport(rt: HostRuntime) -> Result<(), Fail> {
 const PONG: &[u8] = b"+PONG\r\n";
 
 /// In one placing a narrow transport accepts as many bytes of the reply as it has room for.
-fn assert_room(
-    rt: &impl Abort,
-    alloc: Global,
-    decode: Option<&str>,
-    service: Option<&str>,
-    room: usize,
-) -> Result<(), Fail>
+fn assert_room(rt: &impl Abort, alloc: Global, placing: Placing, room: usize) -> Result<(), Fail>
     requires { room < 8 }
 {
-    let world = ping_over_narrow(alloc, decode, service, room)?;
+    let world = ping_over_narrow(alloc, placing, room)?;
     let mut net = Net::new(alloc, world, 1)?;
     assert_eq!(rt; drain(&mut net, 1, 3)?, room == 7);
     if room == 7 {
@@ -210,9 +197,9 @@ fn assert_room(
 /// In each placing one that has room for less than the reply fails its channel, with as many bytes as it had room for.
 #[test]
 fn own_transport_fails(rt: HostRuntime) -> Result<(), Fail> {
-    for (decode, service) in PLACINGS {
+    for placing in PLACINGS {
         for room in 0..8 {
-            assert_room(&rt, rt.alloc(), decode, service, room)?;
+            assert_room(&rt, rt.alloc(), placing, room)?;
         }
     }
     Ok(())

@@ -2,7 +2,7 @@
 ghost use Rattle.std.specs.Prelude.{◌≤◌, All, IfOk};
 ghost use Rattle.pl_world.specs.Worlds.{IsUncalled};
 
-use crate::tests::net_tests::{line_protocol, pipeline, to_its_end};
+use crate::tests::net_tests::{TOGETHER, line_protocol, pipeline, to_its_end};
 use crate::tests::trickle_tests::trickle;
 use crate::tests::{Bursts, PING, assert_named};
 use pl_build::{Groups, Placed};
@@ -104,7 +104,7 @@ fn equal_pipelines(
 ) -> Result<Sequence<Placed<Handler>>, Fail> {
     let mut pipelines = Sequence::new(alloc);
     for _ in 0..count {
-        pipelines.push(pipeline(alloc, groups, &line_protocol(None, None))?)?;
+        pipelines.push(pipeline(alloc, groups, &line_protocol(TOGETHER))?)?;
     }
     Ok(pipelines)
 }

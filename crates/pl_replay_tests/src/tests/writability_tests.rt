@@ -2,8 +2,8 @@
 ghost use Rattle.std.specs.Prelude.{◌≤◌, ◌<◌};
 
 use crate::tests::net_tests::{
-    GROUPS, THERE_AND_BACK, assert_enabled, assert_move, assert_report, drain, keeps_to_plain,
-    line_protocol, marked_pipeline, move_by, next_number, to_its_end, whole,
+    BOTH_APART, DECODER_APART, GROUPS, THERE_AND_BACK, assert_enabled, assert_move, assert_report,
+    drain, keeps_to_plain, line_protocol, marked_pipeline, move_by, next_number, to_its_end, whole,
 };
 use crate::tests::world_tests::{memory_transport, one_channel};
 use crate::tests::{Bursts, FLUSH_EVERY, Kinds, LINE_PROTOCOL, OUT, PING, READ, SUCCESS, Seen};
@@ -193,7 +193,7 @@ fn assert_handed_over(
 /// A flag is handed over as an item is, each hop in its lane.
 #[test]
 fn flags_are_handed_over(rt: HostRuntime) -> Result<(), Fail> {
-    let kinds = line_protocol(Some("a"), None);
+    let kinds = line_protocol(DECODER_APART);
     let world = marked_world(rt.alloc(), &kinds, 1, 2, 65_536, PING)?;
     let mut net = Net::new(rt.alloc(), world, 1)?;
     assert_handed_over(&rt, &mut net)
@@ -225,7 +225,7 @@ fn small(
 ) -> Result<World<Handler, MemoryTransport>, Fail>
     requires { 1 ≤ window }
 {
-    let kinds = line_protocol(Some("a"), Some("b"));
+    let kinds = line_protocol(BOTH_APART);
     marked_world(alloc, &kinds, low, high, window, INPUT)
 }
 
