@@ -253,34 +253,16 @@ fn ended(
     alloc: Global,
     placing: Placing,
     seed: u64,
-    whole: &[ChannelReport],
     ending: Ending,
 ) -> Result<Report, Fail>
     requires { seed < 2147483647 }
 {
-    let world = placed_world(alloc, placing, ending)?;
-    let mut net = Net::new(alloc, world, 1)?;
-    assert_ends(rt, &mut net, seed, whole, ending)?;
+    let whole = whole(alloc, placed_world(alloc, placing, ending)?)?;
+    let mut net = Net::new(alloc, placed_world(alloc, placing, ending)?, 1)?;
+    assert_ends(rt, &mut net, seed, whole.as_slice(), ending)?;
     let report = net.into_report()?;
-    assert!(rt; assert_goes_on(rt, &report, whole, ending));
+    assert!(rt; assert_goes_on(rt, &report, whole.as_slice(), ending));
     Ok(report)
-}
-
-/// Random schedules in one placing, where this call of the transport fails: this many bytes have left.
-fn assert_fault(
-    rt: &impl Abort,
-    alloc: Global,
-    placing: Placing,
-    call: u32,
-    left: usize,
-) -> Result<(), Fail> {
-    let ending = Ending::Call(call);
-    let reports = whole(alloc, placed_world(alloc, placing, ending)?)?;
-    for seed in 1..4 {
-        let report = ended(rt, alloc, placing, seed, reports.as_slice(), ending)?;
-        assert_eq!(rt; only_channel(rt, &report).bytes.len(), left);
-    }
-    Ok(())
 }
 
 /// In each placing, whatever the schedule: as many bytes leave as the calls before the one that fails accept.
@@ -288,29 +270,11 @@ fn assert_fault(
 fn faults_in_each_placing(rt: HostRuntime) -> Result<(), Fail> {
     for placing in PLACINGS {
         for (call, left) in CALLS {
-            assert_fault(&rt, rt.alloc(), placing, call, left)?;
+            for seed in 1..4 {
+                let report = ended(&rt, rt.alloc(), placing, seed, Ending::Call(call))?;
+                assert_eq!(rt; only_channel(&rt, &report).bytes.len(), left);
+            }
         }
-    }
-    Ok(())
-}
-
-/// Random schedules in one placing, where the channel is aborted after this many bursts: how many events have reached
-/// the tail, and how many writes are settled.
-fn assert_abort(
-    rt: &impl Abort,
-    alloc: Global,
-    placing: Placing,
-    count: u32,
-    tail: usize,
-    writes: usize,
-) -> Result<(), Fail> {
-    let ending = Ending::Abort(count);
-    let reports = whole(alloc, placed_world(alloc, placing, ending)?)?;
-    for seed in 1..11 {
-        let report = ended(rt, alloc, placing, seed, reports.as_slice(), ending)?;
-        let channel = only_channel(rt, &report);
-        assert_eq!(rt; channel.tail.len(), tail);
-        assert_eq!(rt; channel.writes.len(), writes);
     }
     Ok(())
 }
@@ -321,7 +285,12 @@ fn assert_abort(
 fn aborts_in_each_placing(rt: HostRuntime) -> Result<(), Fail> {
     for placing in PLACINGS {
         for (count, tail, writes) in [(0, 1, 0), (1, 4, 2), (2, 5, 2), (3, 9, 5)] {
-            assert_abort(&rt, rt.alloc(), placing, count, tail, writes)?;
+            for seed in 1..11 {
+                let report = ended(&rt, rt.alloc(), placing, seed, Ending::Abort(count))?;
+                let channel = only_channel(&rt, &report);
+                assert_eq!(rt; channel.tail.len(), tail);
+                assert_eq!(rt; channel.writes.len(), writes);
+            }
         }
     }
     Ok(())

@@ -363,28 +363,11 @@ pub(crate) fn move_by(number: u64, channels: u16, executors: u16) -> Move
     }
 }
 
-/// Each report begins the plain one.
-fn assert_begins<T: Transport>(
-    rt: &impl Abort,
-    net: &Net<Handler, T>,
-    whole: &[ChannelReport],
-) -> Result<(), Fail> {
-    let report = net.report()?;
+/// A report begins the plain one.
+fn assert_begins(rt: &impl Abort, report: &Report, whole: &[ChannelReport]) {
     for (part, whole) in report.channels.as_slice().iter().zip(whole) {
         assert!(rt; begins(part, whole));
     }
-    Ok(())
-}
-
-/// All channels are drained, and each report is the plain one.
-fn assert_whole<T: Transport>(
-    rt: &impl Abort,
-    net: &Net<Handler, T>,
-    whole: &[ChannelReport],
-) -> Result<(), Fail> {
-    let report = net.report()?;
-    assert_each_same(rt, report.channels.as_slice(), whole);
-    Ok(())
 }
 
 /// Each report of a random schedule begins the plain one, and drained it is the plain one.
@@ -403,10 +386,11 @@ fn assert_keeps<T: Transport>(
     for _ in 0..400 {
         number = next_number(number);
         net.apply(move_by(number, channels, executors))?;
-        assert_begins(rt, net, whole)?;
+        assert_begins(rt, &net.report()?, whole);
     }
     assert!(rt; drain(net, channels, executors)?);
-    assert_whole(rt, net, whole)
+    assert_each_same(rt, net.report()?.channels.as_slice(), whole);
+    Ok(())
 }
 
 /// Each report of a random schedule begins the plain one, and where all channels are drained it is the plain one.

@@ -16,6 +16,9 @@ use std::alloc::Global;
 use std::process::Abort;
 use std::test::Fail;
 
+/// Built-in handlers over memory.
+type MemoryNet = Net<Handler, MemoryTransport>;
+
 /// One channel of these handlers on one loop, with marks and a window.
 fn marked_world(
     alloc: Global,
@@ -34,7 +37,7 @@ fn marked_world(
     one_channel(alloc, pipeline, input, transport, groups.executors())
 }
 
-fn assert_flags(rt: &impl Abort, net: &Net<Handler, MemoryTransport>, want: &[bool]) {
+fn assert_flags(rt: &impl Abort, net: &MemoryNet, want: &[bool]) {
     match net.flags(0) {
         Some(flags) => assert_eq!(rt; flags, want),
         None => panic!(rt; "there is no channel 0"),
@@ -56,7 +59,7 @@ const TWO_BURSTS_TAIL: &[Seen] = &[
 /// Makes moves, each of them enabled, and asserts which flags the tail has taken then.
 fn assert_flags_after(
     rt: &impl Abort,
-    net: &mut Net<Handler, MemoryTransport>,
+    net: &mut MemoryNet,
     moves: &[Move],
     want: &[bool],
 ) -> Result<(), Fail> {
@@ -66,11 +69,7 @@ fn assert_flags_after(
 }
 
 /// Asserts that both replies have left.
-fn assert_two_pongs(
-    rt: &impl Abort,
-    net: &Net<Handler, MemoryTransport>,
-    tail: &[Seen],
-) -> Result<(), Fail> {
+fn assert_two_pongs(rt: &impl Abort, net: &MemoryNet, tail: &[Seen]) -> Result<(), Fail> {
     assert_report(
         rt,
         net,
@@ -88,7 +87,7 @@ fn marked_net(
     high: u32,
     window: u32,
     input: Bursts,
-) -> Result<Net<Handler, MemoryTransport>, Fail>
+) -> Result<MemoryNet, Fail>
     requires { 1 ≤ window }
 {
     let world = marked_world(alloc, LINE_PROTOCOL, low, high, window, input)?;
@@ -98,7 +97,7 @@ fn marked_net(
 const TWO_PINGS: Bursts = &[&[b"PING\nPING\n"]];
 
 /// The first reply makes the channel not writable, and the last byte of the second makes it writable.
-fn assert_watermarks(rt: &impl Abort, net: &mut Net<Handler, MemoryTransport>) -> Result<(), Fail> {
+fn assert_watermarks(rt: &impl Abort, net: &mut MemoryNet) -> Result<(), Fail> {
     assert_flags(rt, net, &[]);
     assert_enabled(rt, net, &[READ; 3])?;
     assert_move(rt, net, READ, false)?;
@@ -122,13 +121,13 @@ fn watermarks(rt: HostRuntime) -> Result<(), Fail> {
 }
 
 /// A net whose marks are below one reply, with a reply to each of two bursts.
-fn two_bursts(alloc: Global, kinds: Kinds) -> Result<Net<Handler, MemoryTransport>, Fail> {
+fn two_bursts(alloc: Global, kinds: Kinds) -> Result<MemoryNet, Fail> {
     let world = marked_world(alloc, kinds, 1, 2, 65_536, &[&[b"PING\n"], &[b"PING\n"]])?;
     Ok(Net::new(alloc, world, 4)?)
 }
 
 /// A burst is held while the channel is not writable and flushed bytes wait.
-fn assert_held(rt: &impl Abort, net: &mut Net<Handler, MemoryTransport>) -> Result<(), Fail> {
+fn assert_held(rt: &impl Abort, net: &mut MemoryNet) -> Result<(), Fail> {
     assert_enabled(rt, net, &[READ, READ])?;
     assert_move(rt, net, READ, false)?;
     assert_flags_after(rt, net, &[OUT, READ, READ], &[false, true, false])?;
@@ -137,7 +136,7 @@ fn assert_held(rt: &impl Abort, net: &mut Net<Handler, MemoryTransport>) -> Resu
 }
 
 /// No burst is held by bytes that are not flushed.
-fn assert_not_held(rt: &impl Abort, net: &mut Net<Handler, MemoryTransport>) -> Result<(), Fail> {
+fn assert_not_held(rt: &impl Abort, net: &mut MemoryNet) -> Result<(), Fail> {
     assert_flags_after(rt, net, &[READ; 4], &[false])?;
     assert_flags_after(rt, net, &[OUT], &[false])?;
     assert_flags_after(rt, net, &[OUT], &[false, true])?;
@@ -155,10 +154,7 @@ fn burst_held(rt: HostRuntime) -> Result<(), Fail> {
 }
 
 /// Low is not below itself.
-fn assert_low_is_strict(
-    rt: &impl Abort,
-    net: &mut Net<Handler, MemoryTransport>,
-) -> Result<(), Fail> {
+fn assert_low_is_strict(rt: &impl Abort, net: &mut MemoryNet) -> Result<(), Fail> {
     assert_enabled(rt, net, &[READ; 3])?;
     assert_flags_after(rt, net, &[OUT], &[false])?;
     assert_flags_after(rt, net, &[OUT], &[false, true])
@@ -175,10 +171,7 @@ fn marks_are_strict(rt: HostRuntime) -> Result<(), Fail> {
 }
 
 /// The flags of a reply reach the tail where all is handed over.
-fn assert_handed_over(
-    rt: &impl Abort,
-    net: &mut Net<Handler, MemoryTransport>,
-) -> Result<(), Fail> {
+fn assert_handed_over(rt: &impl Abort, net: &mut MemoryNet) -> Result<(), Fail> {
     assert_enabled(rt, net, &[READ; 3])?;
     for _ in 0..3 {
         assert_enabled(rt, net, &THERE_AND_BACK)?;
@@ -255,11 +248,7 @@ fn assert_keep(rt: &impl Abort, alloc: Global, low: u32, high: u32, window: u32)
 
 /// Random moves, after each of which the flags alternate. Where all is written the channel is writable again, if any
 /// number of bytes is below the low mark.
-fn assert_alternate(
-    rt: &impl Abort,
-    net: &mut Net<Handler, MemoryTransport>,
-    low: u32,
-) -> Result<(), Fail> {
+fn assert_alternate(rt: &impl Abort, net: &mut MemoryNet, low: u32) -> Result<(), Fail> {
     let mut number = 77;
     for _ in 0..400 {
         number = next_number(number);
