@@ -18,15 +18,10 @@ fn reports(
     replays(rt, text.as_str(), moves, status, report, "")
 }
 
-/// Says that `plain` reports this of it.
-fn composes(
-    rt: &impl Runtime,
-    session: LineSession,
-    members: &str,
-    report: &str,
-) -> Result<(), Fail> {
+/// Says that `plain` reports a drained ping of it.
+fn composes_ping(rt: &impl Runtime, session: LineSession, members: &str) -> Result<(), Fail> {
     let text = failing_session(rt, session, members)?;
-    running::composes(rt, text.as_str(), report)
+    running::composes(rt, text.as_str(), DRAINED_PING)
 }
 
 const DRAINED_PING: &str =
@@ -43,7 +38,7 @@ fn transport_fault(rt: HostRuntime) -> Result<(), Fail> {
     let report =
         "channel 0 failed Transport\ntail 3\nActive\nRead Ping\nReadComplete\nbytes 4 2b504f4e\nwrites 1\n0 Fault\n";
     reports(&rt, session, members, "R0x2 O0x2 R0", 1, report)?;
-    composes(&rt, session, members, DRAINED_PING)
+    composes_ping(&rt, session, members)
 }
 
 /// The tail of the session that quits.
@@ -92,7 +87,7 @@ fn abort(rt: HostRuntime) -> Result<(), Fail> {
     let after =
         "channel 0 failed Aborted\ntail 3\nActive\nRead Ping\nReadComplete\nbytes 7 2b504f4e470d0a\nwrites 1\n0 Success\n";
     reports(&rt, PING, members, "R0x2 O0 R0", 1, after)?;
-    composes(&rt, PING, members, DRAINED_PING)
+    composes_ping(&rt, PING, members)
 }
 
 /// Says that a session that is aborted leaves this tail and these writes.
@@ -130,5 +125,5 @@ fn first_failure_stays(rt: HostRuntime) -> Result<(), Fail> {
         "channel 0 failed Transport\ntail 3\nActive\nRead Ping\nReadComplete\nbytes 0 -\nwrites 1\n0 Fault\n";
     reports(&rt, PING, members, "R0x2 O0 R0x2", 1, transport)?;
     reports(&rt, PING, members, "R0x3 O0", 1, ABORTED_PING)?;
-    composes(&rt, PING, members, DRAINED_PING)
+    composes_ping(&rt, PING, members)
 }
