@@ -11,7 +11,7 @@ mod user_stage_tests;
 mod world_tests;
 mod writability_tests;
 
-use crate::tests::net_tests::{TOTALS, TOTALS_SENT, world};
+use crate::tests::net_tests::{TOGETHER, TOTALS, TOTALS_SENT, line_protocol, world};
 use pl_event::{ByteString, Command, Event, Message, Outcome, Reply, Stage};
 use pl_replay::replay;
 use pl_stages::{
@@ -45,16 +45,7 @@ pub(crate) type Kinds<'a> = &'a [(Kind, Option<&'a str>)];
 /// The chunks of each burst that a channel reads.
 pub(crate) type Bursts<'a> = &'a [&'a [&'a [u8]]];
 
-/// The handlers of the line protocol.
-pub(crate) const LINE_PROTOCOL: Kinds = &[
-    (Kind::Lines, None),
-    (Kind::Decode, None),
-    (Kind::LineEnd, None),
-    (Kind::Encode, None),
-    (Kind::Service, None),
-];
-
-/// The same handlers, with the encoder behind the turn.
+/// The handlers of the line protocol, with the encoder behind the turn.
 const ENCODER_BEHIND: Kinds = &[
     (Kind::Lines, None),
     (Kind::Decode, None),
@@ -295,7 +286,7 @@ pub(crate) fn assert_named(
 #[test]
 fn no_bursts(rt: HostRuntime) -> Result<(), Fail> {
     let moves = [READ, READ];
-    let report = replay_one(rt.alloc(), LINE_PROTOCOL, &[], &moves)?;
+    let report = replay_one(rt.alloc(), &line_protocol(TOGETHER), &[], &moves)?;
     assert_one(&rt, &report, Stands::Drained, ACTIVE_TAIL, b"", &[]);
     Ok(())
 }
@@ -303,7 +294,7 @@ fn no_bursts(rt: HostRuntime) -> Result<(), Fail> {
 #[test]
 fn ping(rt: HostRuntime) -> Result<(), Fail> {
     let moves = [READ, READ, READ, OUT];
-    let report = replay_one(rt.alloc(), LINE_PROTOCOL, PING_CRLF, &moves)?;
+    let report = replay_one(rt.alloc(), &line_protocol(TOGETHER), PING_CRLF, &moves)?;
     assert_ping(&rt, &report);
     Ok(())
 }
@@ -311,7 +302,7 @@ fn ping(rt: HostRuntime) -> Result<(), Fail> {
 #[test]
 fn out_before_read(rt: HostRuntime) -> Result<(), Fail> {
     let moves = [OUT, READ, READ];
-    let report = replay_one(rt.alloc(), LINE_PROTOCOL, PING_CRLF, &moves)?;
+    let report = replay_one(rt.alloc(), &line_protocol(TOGETHER), PING_CRLF, &moves)?;
     assert_one(&rt, &report, Stands::Open, PING_TAIL, b"", &[None]);
     Ok(())
 }
@@ -351,14 +342,16 @@ fn assert_two(
     bytes: &[u8],
     writes: &[Option<Outcome>],
 ) -> Result<(), Fail> {
-    let kinds: Kinds = &[
+    let kinds = [
         (Kind::Lines, None),
         (Kind::Decode, None),
         (Kind::Encode, None),
         (Kind::Service, None),
     ];
     let echo: Bursts = &[&[b"ECHO a\n"]];
-    let report = replay_all(alloc, &[LINE_PROTOCOL, kinds], &[PING, echo], moves)?;
+    let protocol = line_protocol(TOGETHER);
+    let handlers = [protocol.as_slice(), kinds.as_slice()];
+    let report = replay_all(alloc, &handlers, &[PING, echo], moves)?;
     assert_eq!(rt; report.channels.len(), 2);
     let reports = report.channels.as_slice();
     assert_pong(rt, &reports[0]);
@@ -402,7 +395,8 @@ fn assert_told_of(
     step: Move,
     want: Option<ReplayFault>,
 ) -> Result<(), Fail> {
-    let session = session(alloc, &[("g", 2)], &[LINE_PROTOCOL], &[&[]])?;
+    let kinds = line_protocol(TOGETHER);
+    let session = session(alloc, &[("g", 2)], &[&kinds], &[&[]])?;
     match replay(alloc, session, &[READ, step]) {
         Ok(report) => {
             assert_eq!(rt; want, None);
@@ -445,14 +439,14 @@ fn no_channels(rt: HostRuntime) -> Result<(), Fail> {
 
 #[test]
 fn plain_no_bursts(rt: HostRuntime) -> Result<(), Fail> {
-    let report = plain_one(rt.alloc(), LINE_PROTOCOL, &[])?;
+    let report = plain_one(rt.alloc(), &line_protocol(TOGETHER), &[])?;
     assert_one(&rt, &report, Stands::Drained, ACTIVE_TAIL, b"", &[]);
     Ok(())
 }
 
 #[test]
 fn plain_ping(rt: HostRuntime) -> Result<(), Fail> {
-    let report = plain_one(rt.alloc(), LINE_PROTOCOL, PING_CRLF)?;
+    let report = plain_one(rt.alloc(), &line_protocol(TOGETHER), PING_CRLF)?;
     assert_ping(&rt, &report);
     Ok(())
 }
@@ -460,7 +454,7 @@ fn plain_ping(rt: HostRuntime) -> Result<(), Fail> {
 /// More than one write leaves.
 #[test]
 fn plain_totals(rt: HostRuntime) -> Result<(), Fail> {
-    let report = plain_one(rt.alloc(), LINE_PROTOCOL, &[&[TOTALS]])?;
+    let report = plain_one(rt.alloc(), &line_protocol(TOGETHER), &[&[TOTALS]])?;
     let channel = only_channel(&rt, &report);
     assert_eq!(rt; channel.tail.len(), 6);
     assert_sent(&rt, channel, Stands::Drained, TOTALS_SENT, &[SUCCESS; 4]);
@@ -469,7 +463,11 @@ fn plain_totals(rt: HostRuntime) -> Result<(), Fail> {
 
 #[test]
 fn plain_quit(rt: HostRuntime) -> Result<(), Fail> {
-    let report = plain_one(rt.alloc(), LINE_PROTOCOL, &[&[b"PING\nQUIT\nPING\nPI"]])?;
+    let report = plain_one(
+        rt.alloc(),
+        &line_protocol(TOGETHER),
+        &[&[b"PING\nQUIT\nPING\nPI"]],
+    )?;
     let channel = only_channel(&rt, &report);
     assert_drained(&rt, channel, QUIT_TAIL, b"+PONG\r\n+BYE\r\n", &[SUCCESS; 2]);
     Ok(())
@@ -494,7 +492,8 @@ fn plain_flush_never_comes(rt: HostRuntime) -> Result<(), Fail> {
 /// Each channel's report stands at its place.
 #[test]
 fn plain_two_channels(rt: HostRuntime) -> Result<(), Fail> {
-    let report = plain_all(rt.alloc(), &[LINE_PROTOCOL; 2], &[&[], PING])?;
+    let kinds = line_protocol(TOGETHER);
+    let report = plain_all(rt.alloc(), &[&kinds, &kinds], &[&[], PING])?;
     assert_eq!(rt; report.channels.len(), 2);
     let reports = report.channels.as_slice();
     assert_drained(&rt, &reports[0], ACTIVE_TAIL, b"", &[]);

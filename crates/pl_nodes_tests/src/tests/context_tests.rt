@@ -189,16 +189,15 @@ fn assert_gives(
     Ok(())
 }
 
-/// A context that is failed from outside puts these out.
-fn assert_refused(
-    rt: &(impl Abort + AllocGlobal),
+/// What a context puts out that is failed from outside.
+fn refuse(
     context: &mut Context<Relay>,
     cause: Cause,
-    want: &[Put],
-) -> Result<(), AllocError> {
-    let mut outputs = Outputs::new(rt.alloc(), 3)?;
+    alloc: Global,
+) -> Result<Outputs, AllocError> {
+    let mut outputs = Outputs::new(alloc, 3)?;
     context.fail(cause, &mut outputs);
-    assert_brings(rt, outputs, want)
+    Ok(outputs)
 }
 
 /// An item of these tests, as a value that is copied.
@@ -336,8 +335,10 @@ fn refused_context(rt: HostRuntime) -> Result<(), Fail> {
     let mut turn = context_of(rt.alloc(), Direction::Turn, 9);
     assert_gives(&rt, &mut turn, &BEFORE_ITS_FAILURE)?;
     assert!(rt; !turn.is_ended());
-    assert_refused(&rt, &mut turn, Cause::Refused, &REFUSALS)?;
-    assert_refused(&rt, &mut turn, Cause::Memory, &[])?;
+    let refused = refuse(&mut turn, Cause::Refused, rt.alloc())?;
+    assert_brings(&rt, refused, &REFUSALS)?;
+    let refused_again = refuse(&mut turn, Cause::Memory, rt.alloc())?;
+    assert_brings(&rt, refused_again, &[])?;
     Ok(assert_gives(&rt, &mut turn, &BEHIND_ITS_FAILURE)?)
 }
 

@@ -2,11 +2,12 @@
 ghost use Rattle.std.specs.Prelude.{◌≤◌, ◌<◌};
 
 use crate::tests::net_tests::{
-    BOTH_APART, DECODER_APART, GROUPS, THERE_AND_BACK, assert_enabled, assert_move, assert_report,
-    drain, keeps_to_plain, line_protocol, marked_pipeline, move_by, next_number, to_its_end, whole,
+    BOTH_APART, DECODER_APART, GROUPS, THERE_AND_BACK, TOGETHER, assert_enabled, assert_move,
+    assert_report, drain, keeps_to_plain, line_protocol, marked_pipeline, move_by, next_number,
+    to_its_end, whole,
 };
 use crate::tests::world_tests::{memory_transport, one_channel};
-use crate::tests::{Bursts, FLUSH_EVERY, Kinds, LINE_PROTOCOL, OUT, PING, READ, SUCCESS, Seen};
+use crate::tests::{Bursts, FLUSH_EVERY, Kinds, OUT, PING, READ, SUCCESS, Seen};
 use pl_build::Groups;
 use pl_head::MemoryTransport;
 use pl_replay::Net;
@@ -90,7 +91,7 @@ fn marked_net(
 ) -> Result<MemoryNet, Fail>
     requires { 1 ≤ window }
 {
-    let world = marked_world(alloc, LINE_PROTOCOL, low, high, window, input)?;
+    let world = marked_world(alloc, &line_protocol(TOGETHER), low, high, window, input)?;
     Ok(Net::new(alloc, world, 4)?)
 }
 
@@ -146,7 +147,7 @@ fn assert_not_held(rt: &impl Abort, net: &mut MemoryNet) -> Result<(), Fail> {
 /// The second variant lets each second flush pass, and holds nothing.
 #[test]
 fn burst_held(rt: HostRuntime) -> Result<(), Fail> {
-    let mut net = two_bursts(rt.alloc(), LINE_PROTOCOL)?;
+    let mut net = two_bursts(rt.alloc(), &line_protocol(TOGETHER))?;
     assert_held(&rt, &mut net)?;
     drop(net);
     let mut net = two_bursts(rt.alloc(), FLUSH_EVERY)?;
