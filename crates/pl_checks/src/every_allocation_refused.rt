@@ -1,12 +1,12 @@
 //! Replays of which `checks/refused_replay.sh` refuses each allocation in turn. Whichever it is, the test passes: a call
 //! answers it, or the report begins that of `plain`.
 
-use crate::fair::assert_begins;
+use crate::fair::begins;
 use crate::sessions;
 use crate::sessions::line_session;
 use pl_replay::replay;
 use pl_text::{MovesFault, SessionFault, print_report, read_moves, read_session};
-use pl_world::{ReplayFault, Report, plain};
+use pl_world::{ChannelReport, ReplayFault, Report, plain};
 use std::alloc::{AllocError, Global};
 use std::fmt::Debug;
 use std::process::Abort;
@@ -47,13 +47,21 @@ fn assert_prints(rt: &impl Abort, alloc: Global, report: &Report) {
     assert!(rt; is_printed == !printed.is_empty());
 }
 
+/// Each report begins that of `plain`, however its channel stands.
+fn assert_begin(rt: &impl Abort, parts: &[ChannelReport], wholes: &[ChannelReport]) {
+    assert_eq!(rt; parts.len(), wholes.len());
+    for (part, whole) in parts.iter().zip(wholes) {
+        assert!(rt; begins(part, whole));
+    }
+}
+
 /// Replays the session of a text, and prints the report, if there is one. It begins that of `plain`, if there is that.
 fn replays(rt: &(impl Abort + AllocGlobal), text: &str, moves: &str) {
     let alloc = rt.alloc();
     if let Some(report) = reported(rt, alloc, text, moves) {
         assert_prints(rt, alloc, &report);
         if let Some(whole) = whole(alloc, text) {
-            assert_begins(rt, &report, &whole, text);
+            assert_begin(rt, report.channels.as_slice(), whole.channels.as_slice());
         }
     }
 }

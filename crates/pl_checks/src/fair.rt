@@ -71,7 +71,7 @@ pub(crate) fn begins(part: &ChannelReport, whole: &ChannelReport) -> bool {
 }
 
 /// Each channel is open or drained, and begins its whole report.
-pub(crate) fn assert_begins(rt: &impl Abort, part: &Report, whole: &Report, text: &str) {
+fn assert_begins(rt: &impl Abort, part: &Report, whole: &Report, text: &str) {
     let (parts, wholes) = (part.channels.as_slice(), whole.channels.as_slice());
     assert_eq!(rt; parts.len(), wholes.len());
     for (part, whole) in parts.iter().zip(wholes) {
