@@ -1,4 +1,7 @@
-//! The limit of a pipeline.
+//! The limits of a pipeline and of the queues between executors.
 
 /// The most handlers of a pipeline. The hops of its lanes go up to one more, which is the head's.
 pub const MAX_HANDLERS: u16 = 32;
+
+/// The highest capacity of a queue between executors, in envelopes. The lowest is 1.
+pub const MAX_CAPACITY: u32 = 65_536;

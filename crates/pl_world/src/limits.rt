@@ -10,7 +10,7 @@ use pl_head::ReadPlan;
 pub const MAX_CHANNELS: usize = 16;
 
 /// How many items a queue between executors holds at most.
-pub const MAX_CAPACITY: u32 = 65_536;
+pub const MAX_CAPACITY: u32 = pl_event::MAX_CAPACITY;
 
 /// How many bursts the input of a channel has at most.
 pub const MAX_BURSTS: usize = 4_096;
