@@ -4,6 +4,7 @@ ghost use Rattle.std.specs.Prelude.{IfOk};
 ghost use Rattle.pl_exec.specs.SessionWords.{AreHeadSeatsOf, HaveMarksOf, IsReaderOf};
 
 use crate::sessions::{PING, decoded_apart, on_loops};
+use crate::words_tests::pair;
 use pl_event::{Command, Event, Message, Outcome};
 use pl_exec::{Gate, HeadSeats, QueueKind, Reader, Words, run_with};
 use pl_text::read_session;
@@ -95,10 +96,8 @@ fn watch(alloc: Global, text: &str, holds: Holds) -> Result<Watched, Fail>
     ensures { IfOk result (λ w. AreHeadSeatsOf w.shared.words w.seats × HaveMarksOf w.seats w.session.world.channels × IsReaderOf w.shared.words w.reader × IsReaderOf w.shared.words w.later) }
 {
     let session = read_session(alloc, text)?;
-    let (words, seats, mut readers) = Words::new(alloc, &session, 2)?;
-    let (Some(later), Some(reader)) = (readers.pop(), readers.pop()) else {
-        unreachable!()
-    };
+    let (words, seats, readers) = Words::new(alloc, &session, 2)?;
+    let (reader, later) = pair(readers);
     let shared = Shared {
         words,
         holds,

@@ -1,6 +1,6 @@
 //! The words of a session, read by any thread before a run has changed them.
 
-ghost use Rattle.std.specs.Prelude.{IfOk};
+ghost use Rattle.std.specs.Prelude.{◌≡◌, ◌∷◌, [], IfOk, length};
 ghost use Rattle.pl_exec.specs.SessionWords.{AreHeadSeatsOf, IsReaderOf};
 
 use crate::sessions::{NOTHING, PING, on_loops};
@@ -22,11 +22,20 @@ fn two_readers(alloc: Global) -> Result<(Words, HeadSeats, Reader, Reader), Fail
     ensures { IfOk result (λ new. AreHeadSeatsOf new.0 new.1 × IsReaderOf new.0 new.2 × IsReaderOf new.0 new.3) }
 {
     let session = read_session(alloc, on_loops(alloc, &[PING, NOTHING])?.as_str())?;
-    let (words, heads, mut readers) = Words::new(alloc, &session, 2)?;
+    let (words, heads, readers) = Words::new(alloc, &session, 2)?;
+    let (first, second) = pair(readers);
+    Ok((words, heads, first, second))
+}
+
+/// Two readers.
+pub(crate) fn pair(mut readers: Vec<Reader>) -> (Reader, Reader)
+    requires { length readers.items ≡ 2 }
+    ensures { readers.items ≡ result.0 ∷ result.1 ∷ [] }
+{
     let (Some(second), Some(first)) = (readers.pop(), readers.pop()) else {
         unreachable!()
     };
-    Ok((words, heads, first, second))
+    (first, second)
 }
 
 #[test]

@@ -1,13 +1,13 @@
 //! A part whose head fails by itself: what its nodes take then, and what its two ends keep.
 
 use crate::part_tests::{
-    DONE, ENDED, FLAG, GAVE, IDLE, NONE, PASSED, RECORD, WROTE, assert_ended, assert_head,
-    assert_tail, played_on,
+    DONE, ENDED, FLAG, GAVE, HAS_READ_STEP, IDLE, IS_WRITTEN, NONE, NOT_ENDED, OVER, PASSED, SENT,
+    TO_THE_BURST, WROTE,
 };
-use crate::playing::{Answer, Call, Expected, play, played};
+use crate::playing::{Answer, Call, Ends, Expected, assert_plays};
 use crate::relays::{Faults, NO_FAULTS};
 use pl_context::Took;
-use pl_event::{Cause, Event, Kind, Outcome};
+use pl_event::{Cause, Kind, Outcome};
 use pl_head::OutStep;
 use std::test::Fail;
 
@@ -33,12 +33,12 @@ const ABORTED: &[(u16, Took)] = &[
     (4, BY_ABORT),
 ];
 
-const TO_THE_FAULT: [Expected; 2] = [
+const FAILS_AT_2: [Expected; 8] = [
     (Call::Write, WROTE, NONE, NONE),
     (Call::Write, Answer::Wrote(OutStep::Failed), NONE, FLAG),
-];
-
-const BEHIND_THE_FAULT: [Expected; 3] = [
+    IS_WRITTEN,
+    HAS_READ_STEP,
+    NOT_ENDED,
     (Call::Read, GAVE, FAULT, NONE),
     (Call::Read, DONE, NONE, NONE),
     (Call::Write, IDLE, NONE, NONE),
@@ -47,13 +47,18 @@ const BEHIND_THE_FAULT: [Expected; 3] = [
 /// The flag of a failing write comes at once, and the failure with the one read step that is left.
 #[test]
 fn transport_fault(rt: HostRuntime) -> Result<(), Fail> {
-    let (mut part, mut work) = played_on(&rt, Some(2), None, &TO_THE_FAULT)?;
-    assert!(rt; part.is_written());
-    assert!(rt; part.has_read_step());
-    assert!(rt; !part.has_ended());
-    play(&rt, &mut part, &mut work, &BEHIND_THE_FAULT)?;
-    assert_ended(&rt, &part, Some(Cause::Transport), b"a", Outcome::Fault);
-    Ok(())
+    let faults = Faults {
+        fail_at: Some(2),
+        ..NO_FAULTS
+    };
+    let ends = Ends {
+        bytes: b"a",
+        outcomes: &[Some(Outcome::Fault)],
+        tail_failed: Some(Cause::Transport),
+        head_failed: Some(Cause::Transport),
+        ..SENT
+    };
+    assert_plays(&rt, faults, &[&TO_THE_BURST, &FAILS_AT_2, &OVER], &ends)
 }
 
 const FAILS_AFTER_THE_END: [Expected; 3] = [
@@ -65,12 +70,27 @@ const FAILS_AFTER_THE_END: [Expected; 3] = [
 /// The lane of its reads has ended, so the failure goes nowhere; its flag passes nodes that have ended.
 #[test]
 fn transport_fails_after_the_end(rt: HostRuntime) -> Result<(), Fail> {
-    let (part, _) = played_on(&rt, Some(1), None, &FAILS_AFTER_THE_END)?;
-    assert_tail(&rt, &part, &RECORD, &[false, true], None);
-    let fault = [Some(Outcome::Fault)];
-    assert_head(&rt, &part, b"", &fault, Some(Cause::Transport));
-    Ok(())
+    let faults = Faults {
+        fail_at: Some(1),
+        ..NO_FAULTS
+    };
+    let ends = Ends {
+        bytes: b"",
+        outcomes: &[Some(Outcome::Fault)],
+        head_failed: Some(Cause::Transport),
+        ..SENT
+    };
+    assert_plays(&rt, faults, &[&TO_THE_BURST, &FAILS_AFTER_THE_END], &ends)
 }
+
+/// The burst was recorded, and the write of it closed by the abort.
+const CLOSED_BY_ABORT: Ends = Ends {
+    bytes: b"",
+    outcomes: &[Some(Outcome::Closed)],
+    tail_failed: Some(Cause::Aborted),
+    head_failed: Some(Cause::Aborted),
+    ..SENT
+};
 
 const ABORTED_BETWEEN_STEPS: [Expected; 2] = [
     (Call::Abort, Answer::Nothing, ABORTED, FLAG),
@@ -80,9 +100,8 @@ const ABORTED_BETWEEN_STEPS: [Expected; 2] = [
 /// An abort closes what waits. The flag of that comes before the failure, and a second abort does nothing.
 #[test]
 fn abort_between_read_steps(rt: HostRuntime) -> Result<(), Fail> {
-    let (part, _) = played_on(&rt, None, None, &ABORTED_BETWEEN_STEPS)?;
-    assert_ended(&rt, &part, Some(Cause::Aborted), b"", Outcome::Closed);
-    Ok(())
+    let lists: [&[Expected]; 3] = [&TO_THE_BURST, &ABORTED_BETWEEN_STEPS, &OVER];
+    assert_plays(&rt, NO_FAULTS, &lists, &CLOSED_BY_ABORT)
 }
 
 const ABORTED_AFTER_0: [Expected; 3] = [
@@ -99,18 +118,24 @@ const ABORTED_AFTER_1: [Expected; 2] = [
 /// An abort that the recording has, before its burst and behind it: it is a read step, and the last.
 #[test]
 fn abort_at_each_burst(rt: HostRuntime) -> Result<(), Fail> {
-    let failed = Some(Cause::Aborted);
-    let faults = Faults {
+    let before = Faults {
         abort_after: Some(0),
         ..NO_FAULTS
     };
-    let (part, _) = played(&rt, faults, &ABORTED_AFTER_0)?;
-    assert_tail(&rt, &part, &[Event::Active], &[], failed);
-    assert_head(&rt, &part, b"", &[], failed);
+    let ends = Ends {
+        recorded: 1,
+        flags: &[],
+        outcomes: &[],
+        ..CLOSED_BY_ABORT
+    };
+    assert_plays(&rt, before, &[&ABORTED_AFTER_0], &ends)?;
 
-    let (part, _) = played_on(&rt, None, Some(1), &ABORTED_AFTER_1)?;
-    assert_ended(&rt, &part, failed, b"", Outcome::Closed);
-    Ok(())
+    let after = Faults {
+        abort_after: Some(1),
+        ..NO_FAULTS
+    };
+    let lists: [&[Expected]; 3] = [&TO_THE_BURST, &ABORTED_AFTER_1, &OVER];
+    assert_plays(&rt, after, &lists, &CLOSED_BY_ABORT)
 }
 
 const TURN_REFUSED: [Expected; 3] = [
@@ -136,9 +161,11 @@ const TURN_REFUSED: [Expected; 3] = [
 /// What was flushed is written though a handler has failed. The flag of that is dropped where this stands.
 #[test]
 fn flag_after_a_failure(rt: HostRuntime) -> Result<(), Fail> {
-    let (part, _) = played_on(&rt, None, None, &TURN_REFUSED)?;
-    let failed = Some(Cause::Refused);
-    assert_tail(&rt, &part, &RECORD, &[false], failed);
-    assert_head(&rt, &part, b"ab", &[Some(Outcome::Success)], failed);
-    Ok(())
+    let ends = Ends {
+        flags: &[false],
+        tail_failed: Some(Cause::Refused),
+        head_failed: Some(Cause::Refused),
+        ..SENT
+    };
+    assert_plays(&rt, NO_FAULTS, &[&TO_THE_BURST, &TURN_REFUSED], &ends)
 }

@@ -1,17 +1,11 @@
 //! A part with all nodes of a channel: events through it, its end, and writers that are refused.
 
-ghost use Rattle.std.specs.Prelude.{IfOk};
-ghost use Rattle.pl_part_tests.specs.SampleParts.{IsReady};
-
-use crate::playing::{Answer, Call, Expected, play, played};
-use crate::relays::{Faults, NO_FAULTS, Relay, sample_part};
-use pl_context::{Outputs, Took};
-use pl_event::{Cause, Event, Kind, Outcome};
+use crate::playing::{Answer, Call, Ends, Expected, assert_plays};
+use crate::relays::{Faults, NO_FAULTS, sample_part};
+use pl_context::Took;
+use pl_event::{Cause, Kind, Outcome};
 use pl_flow::HeadMove;
-use pl_head::{MemoryTransport, OutStep, ReadStep};
-use pl_part::ChannelPart;
-use std::alloc::AllocError;
-use std::process::Abort;
+use pl_head::{OutStep, ReadStep};
 use std::test::Fail;
 
 pub(crate) const GAVE: Answer = Answer::Read(ReadStep::Gave);
@@ -52,82 +46,50 @@ pub(crate) const ENDED: &[(u16, Took)] = &[(0, END), (1, END), (2, END), (3, END
 /// A flag has come to the tail.
 pub(crate) const FLAG: &[(u16, Took)] = &[(0, RAN), (1, RAN), (2, RAN)];
 
-/// All nodes have ended, for this if they failed. The tail has kept all of the burst, and the head has sent these bytes of
-/// its one write, which has come to this.
-pub(crate) fn assert_ended(
-    rt: &impl Abort,
-    part: &ChannelPart<Relay, MemoryTransport>,
-    cause: Option<Cause>,
-    bytes: &[u8],
-    outcome: Outcome,
-) {
-    assert!(rt; part.has_ended());
-    assert!(rt; !part.has_read_step());
-    assert_tail(rt, part, &RECORD, &[false, true], cause);
-    assert_head(rt, part, bytes, &[Some(outcome)], cause);
-}
-
-/// The tail has recorded these events and flags, and has failed for this.
-pub(crate) fn assert_tail(
-    rt: &impl Abort,
-    part: &ChannelPart<Relay, MemoryTransport>,
-    events: &[Event],
-    flags: &[bool],
-    cause: Option<Cause>,
-) {
-    let Some(tail) = part.tail() else {
-        panic!(rt; "no tail")
-    };
-    assert!(rt; tail.record() == events);
-    assert!(rt; tail.flags() == flags);
-    assert!(rt; tail.cause() == cause);
-}
-
-/// The head has sent these bytes, its writes have come to this, and it has failed for this.
-pub(crate) fn assert_head(
-    rt: &impl Abort,
-    part: &ChannelPart<Relay, MemoryTransport>,
-    bytes: &[u8],
-    outcomes: &[Option<Outcome>],
-    cause: Option<Cause>,
-) {
-    match part.head() {
-        None => panic!(rt; "no head"),
-        Some(head) => {
-            assert!(rt; head.bytes() == bytes);
-            assert!(rt; head.outcomes() == outcomes);
-            assert!(rt; head.cause() == cause);
-        }
-    }
-}
-
-/// What the tail records of the burst.
-pub(crate) const RECORD: [Event; 2] = [Event::Active, Event::ReadComplete];
-
-const TO_THE_BURST: [Expected; 2] = [
+/// The part's first read step, and its burst.
+pub(crate) const TO_THE_BURST: [Expected; 2] = [
     (Call::Read, GAVE, PASSED, NONE),
     (Call::Read, GAVE, BURST, FLAG),
 ];
 
-/// The part of the tests with its work list, after its burst and then these calls. Its transport fails at a call, or it is
-/// aborted after a burst.
-pub(crate) fn played_on(
-    rt: &(impl Abort + AllocGlobal),
-    fail_at: Option<u32>,
-    abort_after: Option<u32>,
-    rows: &[Expected],
-) -> Result<(ChannelPart<Relay, MemoryTransport>, Outputs), AllocError>
-    ensures { IfOk result (λ run. IsReady run.0 run.1) }
-{
-    let faults = Faults {
-        fail_at,
-        abort_after,
-        ..NO_FAULTS
-    };
-    let (mut part, mut work) = played(rt, faults, &TO_THE_BURST)?;
-    play(rt, &mut part, &mut work, rows)?;
-    Ok((part, work))
-}
+const IS: Answer = Answer::Is(true);
+
+const IS_NOT: Answer = Answer::Is(false);
+
+pub(crate) const HAS_READ_STEP: Expected = (Call::HasReadStep, IS, NONE, NONE);
+
+const NO_READ_STEP: Expected = (Call::HasReadStep, IS_NOT, NONE, NONE);
+
+pub(crate) const IS_WRITTEN: Expected = (Call::IsWritten, IS, NONE, NONE);
+
+const NOT_WRITTEN: Expected = (Call::IsWritten, IS_NOT, NONE, NONE);
+
+const HAS_ENDED: Expected = (Call::HasEnded, IS, NONE, NONE);
+
+pub(crate) const NOT_ENDED: Expected = (Call::HasEnded, IS_NOT, NONE, NONE);
+
+/// All nodes have ended, and the head gives nothing more.
+pub(crate) const OVER: [Expected; 2] = [HAS_ENDED, NO_READ_STEP];
+
+/// The tail has recorded the event before the burst, and nothing was written.
+const BEFORE_THE_BURST: Ends = Ends {
+    recorded: 1,
+    flags: &[],
+    bytes: b"",
+    outcomes: &[],
+    tail_failed: None,
+    head_failed: None,
+};
+
+/// The tail has all of the burst, and the write of it has left.
+pub(crate) const SENT: Ends = Ends {
+    recorded: 2,
+    flags: &[false, true],
+    bytes: b"ab",
+    outcomes: &[Some(Outcome::Success)],
+    tail_failed: None,
+    head_failed: None,
+};
 
 const THE_END: [Expected; 4] = [
     (Call::Read, GAVE, ENDED, NONE),
@@ -137,16 +99,22 @@ const THE_END: [Expected; 4] = [
     (Call::Write, IDLE, NONE, NONE),
 ];
 
+const HALFWAY: [Expected; 3] = [HAS_READ_STEP, NOT_WRITTEN, NOT_ENDED];
+
 #[test]
 fn events_pass_and_end(rt: HostRuntime) -> Result<(), Fail> {
-    let (mut part, mut work) = played(&rt, NO_FAULTS, &TO_THE_BURST)?;
-    assert!(rt; part.has_read_step());
-    assert!(rt; !part.is_written());
-    assert!(rt; !part.has_ended());
-    play(&rt, &mut part, &mut work, &THE_END)?;
-    assert!(rt; part.is_written());
-    assert_ended(&rt, &part, None, b"ab", Outcome::Success);
-    let (tail, head) = part.into_ends();
+    assert_plays(
+        &rt,
+        NO_FAULTS,
+        &[&TO_THE_BURST, &HALFWAY, &THE_END, &[IS_WRITTEN], &OVER],
+        &SENT,
+    )
+}
+
+/// A whole part gives up its two ends.
+#[test]
+fn both_ends_given_up(rt: HostRuntime) -> Result<(), Fail> {
+    let (tail, head) = sample_part(rt.alloc(), NO_FAULTS)?.into_ends();
     assert!(rt; tail.is_some());
     assert!(rt; head.is_some());
     Ok(())
@@ -174,10 +142,7 @@ const BY_MOVES: [Expected; 8] = [
 /// The same by the head's moves: each is made where it is enabled.
 #[test]
 fn moves_to_the_end(rt: HostRuntime) -> Result<(), Fail> {
-    let (part, _) = played(&rt, NO_FAULTS, &BY_MOVES)?;
-    assert_tail(&rt, &part, &RECORD, &[false, true], None);
-    assert_head(&rt, &part, b"ab", &[Some(Outcome::Success)], None);
-    Ok(())
+    assert_plays(&rt, NO_FAULTS, &[&BY_MOVES], &SENT)
 }
 
 const REFUSED: Took = Took::Failed(Cause::Refused);
@@ -202,9 +167,12 @@ const HANDLER_REFUSED: [Expected; 4] = [
 /// Nothing more of the first handler's lane is accepted: the failure follows the event that it has handed on.
 #[test]
 fn refused_handler_fails(rt: HostRuntime) -> Result<(), Fail> {
-    let (part, _) = played(&rt, NO_FAULTS, &HANDLER_REFUSED)?;
-    assert!(rt; part.has_ended());
-    Ok(())
+    let ends = Ends {
+        tail_failed: Some(Cause::Refused),
+        head_failed: Some(Cause::Refused),
+        ..BEFORE_THE_BURST
+    };
+    assert_plays(&rt, NO_FAULTS, &[&HANDLER_REFUSED, &[HAS_ENDED]], &ends)
 }
 
 const WRITERS_REFUSED: [Expected; 4] = [
@@ -239,11 +207,17 @@ const THEN_ABORTED: [Expected; 1] = [(
 /// The first lane after the tail is the turn's, the head's lane the outbound handler's, and the first hop's the head's.
 #[test]
 fn refused_writers(rt: HostRuntime) -> Result<(), Fail> {
-    let (mut part, mut work) = played(&rt, NO_FAULTS, &WRITERS_REFUSED)?;
-    assert!(rt; !part.has_ended());
-    play(&rt, &mut part, &mut work, &THEN_ABORTED)?;
-    assert!(rt; part.has_ended());
-    Ok(())
+    let ends = Ends {
+        tail_failed: Some(Cause::Refused),
+        head_failed: Some(Cause::Aborted),
+        ..BEFORE_THE_BURST
+    };
+    assert_plays(
+        &rt,
+        NO_FAULTS,
+        &[&WRITERS_REFUSED, &[NOT_ENDED], &THEN_ABORTED, &[HAS_ENDED]],
+        &ends,
+    )
 }
 
 const FLAGS_REFUSED: [Expected; 3] = [
@@ -255,12 +229,13 @@ const FLAGS_REFUSED: [Expected; 3] = [
 /// A flag that is refused fails none of those that write flags, the handlers and the head: all goes on to the end.
 #[test]
 fn refused_flags_change_nothing(rt: HostRuntime) -> Result<(), Fail> {
-    let (mut part, mut work) = played(&rt, NO_FAULTS, &FLAGS_REFUSED)?;
-    play(&rt, &mut part, &mut work, &TO_THE_BURST)?;
-    play(&rt, &mut part, &mut work, &FLAGS_REFUSED)?;
-    play(&rt, &mut part, &mut work, &THE_END)?;
-    assert_ended(&rt, &part, None, b"ab", Outcome::Success);
-    Ok(())
+    let flags = &FLAGS_REFUSED;
+    assert_plays(
+        &rt,
+        NO_FAULTS,
+        &[flags, &TO_THE_BURST, flags, &THE_END, &OVER],
+        &SENT,
+    )
 }
 
 const MEMORY: Took = Took::Failed(Cause::Memory);
@@ -290,23 +265,30 @@ fn handler_without_memory(rt: HostRuntime) -> Result<(), Fail> {
         steps: 1,
         ..NO_FAULTS
     };
-    let (part, _) = played(&rt, faults, &WITHOUT_MEMORY)?;
-    assert!(rt; part.has_ended());
-    Ok(())
+    let ends = Ends {
+        tail_failed: Some(Cause::Memory),
+        head_failed: Some(Cause::Memory),
+        ..BEFORE_THE_BURST
+    };
+    assert_plays(&rt, faults, &[&WITHOUT_MEMORY, &[HAS_ENDED]], &ends)
 }
 
 /// Where the lanes of each hop go, and who writes them.
 #[test]
 fn targets_and_writers(rt: HostRuntime) -> Result<(), Fail> {
     let part = sample_part(rt.alloc(), NO_FAULTS)?;
-    assert!(rt; part.hops() == 5);
-    assert!(rt; part.target(0) == 2);
-    assert!(rt; part.target(1) == 0);
-    assert!(rt; part.target(3) == 1);
-    assert!(rt; part.target(4) == 2);
-    assert!(rt; part.writer(0) == 4);
-    assert!(rt; part.writer(2) == 1);
-    assert!(rt; part.writer(3) == 1);
-    assert!(rt; part.writer(4) == 3);
+    let targets = [
+        part.target(0),
+        part.target(1),
+        part.target(3),
+        part.target(4),
+    ];
+    let writers = [
+        part.writer(0),
+        part.writer(2),
+        part.writer(3),
+        part.writer(4),
+    ];
+    assert!(rt; part.hops() == 5 && targets == [2, 0, 1, 2] && writers == [4, 1, 1, 3]);
     Ok(())
 }

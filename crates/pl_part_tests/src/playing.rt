@@ -8,12 +8,13 @@ ghost use Rattle.pl_part_tests.specs.SampleParts.{IsReady, IsSample};
 
 use crate::relays::{Faults, Relay, sample_run};
 use pl_context::{Outputs, Took};
-use pl_event::{Envelope, Kind, Lane};
+use pl_event::{Cause, Envelope, Event, Kind, Lane, Outcome};
 use pl_flow::HeadMove;
 use pl_head::{MemoryTransport, OutStep, ReadStep};
 use pl_part::ChannelPart;
 use std::alloc::{AllocError, Global};
 use std::process::Abort;
+use std::test::Fail;
 
 /// A call of a part.
 #[derive(Clone, Copy, Debug)]
@@ -27,6 +28,9 @@ pub(crate) enum Call {
     Abort,
     /// What the writer of a lane of a hop has put is refused.
     Refuse(Kind, u16),
+    HasReadStep,
+    IsWritten,
+    HasEnded,
 }
 
 /// What a call answers.
@@ -36,7 +40,25 @@ pub(crate) enum Answer {
     Wrote(OutStep),
     Moved(bool),
     Nothing,
+    Is(bool),
 }
+
+/// What the two ends of a part have kept.
+#[derive(Clone, Copy, Debug)]
+pub(crate) struct Ends {
+    /// How many of `RECORD`'s events the tail has recorded, and no others.
+    pub(crate) recorded: usize,
+    pub(crate) flags: &'static [bool],
+    pub(crate) bytes: &'static [u8],
+    pub(crate) outcomes: &'static [Option<Outcome>],
+    /// What the tail has failed for.
+    pub(crate) tail_failed: Option<Cause>,
+    /// What the head has failed for.
+    pub(crate) head_failed: Option<Cause>,
+}
+
+/// What the tail records of the recorded burst.
+const RECORD: [Event; 2] = [Event::Active, Event::ReadComplete];
 
 /// A call, what it is to answer, and what the nodes are to answer then to items of their data lanes and to flags, each
 /// with its hop.
@@ -70,7 +92,7 @@ impl Seen {
 }
 
 /// Makes these calls, one after another. After each the part runs until nothing waits.
-pub(crate) fn play(
+fn play(
     rt: &(impl Abort + AllocGlobal),
     part: &mut ChannelPart<Relay, MemoryTransport>,
     work: &mut Outputs,
@@ -85,17 +107,38 @@ pub(crate) fn play(
     Ok(())
 }
 
-/// The part of the tests with these faults and its work list, after these calls.
-pub(crate) fn played(
+/// The part of the tests with these faults makes these lists of calls, one after another, and its ends have kept this.
+pub(crate) fn assert_plays(
     rt: &(impl Abort + AllocGlobal),
     faults: Faults,
-    rows: &[Expected],
-) -> Result<(ChannelPart<Relay, MemoryTransport>, Outputs), AllocError>
-    ensures { IfOk result (λ run. IsReady run.0 run.1) }
-{
+    lists: &[&[Expected]],
+    ends: &Ends,
+) -> Result<(), Fail> {
     let (mut part, mut work) = sample_run(rt.alloc(), faults)?;
-    play(rt, &mut part, &mut work, rows)?;
-    Ok((part, work))
+    for rows in lists {
+        play(rt, &mut part, &mut work, rows)?;
+    }
+    assert_tail(rt, &part, ends);
+    assert_head(rt, &part, ends);
+    Ok(())
+}
+
+fn assert_tail(rt: &impl Abort, part: &ChannelPart<Relay, MemoryTransport>, ends: &Ends) {
+    let Some(tail) = part.tail() else {
+        panic!(rt; "no tail")
+    };
+    assert!(rt; Some(tail.record()) == RECORD.get(..ends.recorded));
+    assert!(rt; tail.flags() == ends.flags);
+    assert!(rt; tail.cause() == ends.tail_failed);
+}
+
+fn assert_head(rt: &impl Abort, part: &ChannelPart<Relay, MemoryTransport>, ends: &Ends) {
+    let Some(head) = part.head() else {
+        panic!(rt; "no head")
+    };
+    assert!(rt; head.bytes() == ends.bytes);
+    assert!(rt; head.outcomes() == ends.outcomes);
+    assert!(rt; head.cause() == ends.head_failed);
 }
 
 fn play_one(
@@ -138,6 +181,9 @@ fn apply(part: &mut ChannelPart<Relay, MemoryTransport>, work: &mut Outputs, cal
             part.refuse(lane, work);
             Answer::Nothing
         }
+        Call::HasReadStep => Answer::Is(part.has_read_step()),
+        Call::IsWritten => Answer::Is(part.is_written()),
+        Call::HasEnded => Answer::Is(part.has_ended()),
     }
 }
 

@@ -10,7 +10,7 @@ use crate::places::{Inboxes, Own, Place, Way};
 use crate::tests::starting::{executor, maker};
 use crossbeam_utils::sync::Parker;
 use pl_event::Named;
-use pl_executor::{Executor, Gate, Inbox};
+use pl_executor::{Executor, Gate, Inbox, Start};
 use pl_queue::Mailbox;
 use pl_words::{Refused, Status};
 use std::alloc::{AllocError, Global};
@@ -166,10 +166,59 @@ where
 {
     pub(crate) executor: Executor<'a, W, M, Node>,
     /// On which it rests.
-    pub(crate) parker: Parker,
+    parker: Parker,
     pub(crate) feed: Feed<'a, W, M>,
     pub(crate) first: Sink<'a, W, M>,
     pub(crate) second: Sink<'a, W, M>,
+}
+
+/// What is found once an executor has run: its nodes, where it gave any, and the numbers of what came to the two others.
+#[derive(Drop)]
+pub(crate) struct Ran {
+    pub(crate) node: Option<Node>,
+    pub(crate) first: Option<u64>,
+    pub(crate) second: [Option<u64>; 3],
+}
+
+impl<'a, W: Named, M: Mailbox<W> + Drop> Alone<'a, W, M>
+where
+    M::Sender: Drop,
+    M::Taker: Drop,
+{
+    /// It runs to its end, or leaves where it is told so.
+    pub(crate) fn run<R: Wait>(self, rt: &R, begins: bool) -> Ran {
+        let Alone {
+            executor,
+            parker,
+            mut first,
+            mut second,
+            ..
+        } = self;
+        let node = left(rt, executor, parker, begins);
+        let came = [second.take(rt), second.take(rt), second.take(rt)];
+        Ran {
+            node,
+            first: first.take(rt),
+            second: came,
+        }
+    }
+}
+
+/// The nodes that an executor leaves.
+fn left<W: Named, M: Mailbox<W> + Drop, R: Wait>(
+    rt: &R,
+    executor: Executor<'_, W, M, Node>,
+    parker: Parker,
+    begins: bool,
+) -> Option<Node>
+where
+    M::Sender: Drop,
+    M::Taker: Drop,
+{
+    let start = Start::new();
+    start.tell(begins);
+    let finished = executor.run(rt, &NoGate, &start, parker)?;
+    Some(finished.into_nodes())
 }
 
 /// Executor 2, which makes so many flags for executor 0, and then so many for executor 1. It has ended once these are made,

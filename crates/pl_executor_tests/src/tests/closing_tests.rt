@@ -1,11 +1,9 @@
 //! When an executor closes, and what is refused where one is closed.
 
-use crate::nodes::Node;
-use crate::tests::alone::{Alone, NoGate, set_apart};
+use crate::tests::alone::{Ran, set_apart};
 use crate::tests::opening::open_three;
 use crate::tests::playing::{Answer, Call, DONE, Expected, IDLE, WORKED, play};
 use pl_event::Named;
-use pl_executor::Start;
 use pl_queue::{Mailbox, RingBox, WaitingBox};
 use pl_words::{Refused, Status};
 use std::alloc::Global;
@@ -61,34 +59,21 @@ fn admission_closes(rt: HostRuntime) -> Result<(), Fail> {
     play::<Brand, WaitingBox<Brand>, _>(&rt, rt.alloc(), 8, (0, 0), 2, rows)
 }
 
-/// Executor 0 is closed, and three flags are to be made for it, and two for executor 1: the nodes once all has ended, and the
-/// numbers of what came to each.
+/// Executor 0 is closed, and three flags are to be made for it, and two for executor 1. None where it could not be closed.
 fn run_refused<W: Named, M: Mailbox<W> + Drop, R: Wait>(
     rt: &R,
     alloc: Global,
-) -> Result<Option<(Node, Option<u64>, [Option<u64>; 3])>, Fail>
+) -> Result<Option<Ran>, Fail>
 where
     M::Sender: Drop,
     M::Taker: Drop,
 {
     let (inboxes, places) = open_three::<W, M>(alloc, 8)?;
-    let Alone {
-        executor,
-        parker,
-        mut first,
-        mut second,
-        ..
-    } = set_apart(alloc, &inboxes, places, (3, 2), 0)?;
-    if !first.close(0) {
+    let mut alone = set_apart(alloc, &inboxes, places, (3, 2), 0)?;
+    if !alone.first.close(0) {
         return Ok(None);
     }
-    let start = Start::new();
-    start.tell(true);
-    let Some(finished) = executor.run(rt, &NoGate, &start, parker) else {
-        return Ok(None);
-    };
-    let came = [second.take(rt), second.take(rt), second.take(rt)];
-    Ok(Some((finished.into_nodes(), first.take(rt), came)))
+    Ok(Some(alone.run(rt, true)))
 }
 
 /// The first flag for a closed executor is refused, and no more are made for it. Nothing comes there, and those for another
@@ -101,12 +86,10 @@ where
     M::Sender: Drop,
     M::Taker: Drop,
 {
-    let (node, first, second) = run_refused::<W, M, R>(rt, alloc)?.ok_or("not run")?;
-    assert!(rt; node.refusals == 1);
-    assert!(rt; node.first.made == 1);
-    assert!(rt; node.second.made == 2);
-    assert!(rt; first.is_none());
-    assert!(rt; second == [Some(0), Some(1), None]);
+    let ran = run_refused::<W, M, R>(rt, alloc)?.ok_or("not closed")?;
+    let node = ran.node.ok_or("not run")?;
+    assert!(rt; node.refusals == 1 && node.first.made == 1 && node.second.made == 2);
+    assert!(rt; ran.first.is_none() && ran.second == [Some(0), Some(1), None]);
     Ok(())
 }
 

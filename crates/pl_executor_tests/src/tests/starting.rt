@@ -134,6 +134,24 @@ fn counter(count: u32) -> Node
     Node::new(1, Outlet::new(0, 0), Outlet::new(2, 0), u64::from(count))
 }
 
+/// One executor more.
+fn add<'a, W: Named, M: Mailbox<W> + Drop>(
+    executors: &mut Vec<(Executor<'a, W, M, Node>, Parker)>,
+    inboxes: &'a Inboxes<W, M>,
+    place: Place<W, M>,
+    node: Node,
+) -> Result<(), AllocError>
+where
+    M::Sender: Drop,
+    M::Taker: Drop,
+    requires place { IsPlace M.is_taker M.takes_of M.is_sender M.sends_of inboxes.now node.executor place }
+    requires ready { IsReady node }
+{
+    let alloc = *executors.allocator();
+    executors.push(executor(alloc, inboxes, place, node)?)?;
+    Ok(())
+}
+
 /// Executors 0, 1 and 2, in this order. Executor 2 makes so many flags for each of the others, and executor 0 answers each
 /// that comes. They have ended once each has got so many.
 pub(crate) fn three_executors<'a, W: Named, M: Mailbox<W> + Drop>(
@@ -147,10 +165,10 @@ where
     M::Taker: Drop,
     requires { ArePlaces M.is_taker M.takes_of M.is_sender M.sends_of inboxes.now places.0 places.1 places.2 }
 {
-    let mut executors = Vec::new(alloc);
     let maker = maker((count, count), u64::from(count));
-    executors.push(executor(alloc, inboxes, places.0, answerer(count))?)?;
-    executors.push(executor(alloc, inboxes, places.1, counter(count))?)?;
-    executors.push(executor(alloc, inboxes, places.2, maker)?)?;
+    let mut executors = Vec::new(alloc);
+    add(&mut executors, inboxes, places.0, answerer(count))?;
+    add(&mut executors, inboxes, places.1, counter(count))?;
+    add(&mut executors, inboxes, places.2, maker)?;
     Ok(executors)
 }

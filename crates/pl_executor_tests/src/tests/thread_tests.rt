@@ -1,11 +1,11 @@
 //! Executors in threads, all started at once and all joined.
 
 use crate::nodes::Node;
-use crate::tests::alone::{Alone, NoGate, set_apart};
+use crate::tests::alone::{NoGate, Ran, set_apart};
 use crate::tests::opening::open_three;
 use crate::tests::starting::three_executors;
 use pl_event::Named;
-use pl_executor::{Start, run_all};
+use pl_executor::run_all;
 use pl_queue::{Mailbox, RingBox, WaitingBox};
 use std::alloc::Global;
 use std::marker::Brand;
@@ -58,26 +58,17 @@ fn all_are_joined(rt: HostRuntime) -> Result<(), Fail> {
     Ok(())
 }
 
-/// An executor that is told to leave: whether it gave its nodes, and what it handed over.
-fn leaves<W: Named, R: Wait>(rt: &R, alloc: Global) -> Result<(bool, Option<u64>), Fail> {
+/// An executor that is told to leave: what is found then.
+fn leaves<W: Named, R: Wait>(rt: &R, alloc: Global) -> Result<Ran, Fail> {
     let (inboxes, places) = open_three::<W, RingBox<W>>(alloc, 8)?;
-    let Alone {
-        executor,
-        parker,
-        mut first,
-        ..
-    } = set_apart(alloc, &inboxes, places, (1, 1), 0)?;
-    let start = Start::new();
-    start.tell(false);
-    let finished = executor.run(rt, &NoGate, &start, parker);
-    Ok((finished.is_some(), first.take(rt)))
+    let alone = set_apart(alloc, &inboxes, places, (1, 1), 0)?;
+    Ok(alone.run(rt, false))
 }
 
 /// It makes no turn.
 #[test]
 fn told_to_leave(rt: HostRuntime) -> Result<(), Fail> {
-    let (has_run, first) = leaves::<Brand, _>(&rt, rt.alloc())?;
-    assert!(rt; !has_run);
-    assert!(rt; first.is_none());
+    let ran = leaves::<Brand, _>(&rt, rt.alloc())?;
+    assert!(rt; ran.node.is_none() && ran.first.is_none());
     Ok(())
 }
