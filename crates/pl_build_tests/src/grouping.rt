@@ -1,7 +1,8 @@
 //! Placing on loops and groups, and groups that are refused.
 
-use crate::sample::{built, line_protocol};
-use pl_build::{BuildFault, Groups};
+use crate::sample::{Small, built, line_protocol};
+use pl_build::{BuildFault, Groups, Placed};
+use std::process::Abort;
 use std::test::Fail;
 
 #[test]
@@ -10,16 +11,21 @@ fn group_placing(rt: HostRuntime) -> Result<(), Fail> {
     assert_eq!(rt; groups.executors(), 3);
     for executor in [1, 2, 1] {
         let placed = built(line_protocol(rt.alloc(), Some("g"))?, &mut groups)?;
-        assert_eq!(rt; placed.inbound(), 3);
-        assert_eq!(rt; placed.outbound(), 2);
-        assert_eq!(rt; placed.turn(), 2);
-        for hop in 0..7u16 {
-            let want = if hop == 1 || hop == 2 { executor } else { 0 };
-            assert_eq!(rt; placed.executor_of(hop), Some(want), "at hop {hop}");
-        }
-        assert_eq!(rt; placed.executor_of(7), None);
+        assert_grouped(&rt, &placed, executor);
     }
     Ok(())
+}
+
+/// The decoder and the service of a line protocol are on an executor, and all else is on executor 0.
+fn assert_grouped(rt: &impl Abort, placed: &Placed<Small>, executor: u16) {
+    assert_eq!(rt; placed.inbound(), 3);
+    assert_eq!(rt; placed.outbound(), 2);
+    assert_eq!(rt; placed.turn(), 2);
+    for hop in 0..7u16 {
+        let want = if hop == 1 || hop == 2 { executor } else { 0 };
+        assert_eq!(rt; placed.executor_of(hop), Some(want), "at hop {hop}");
+    }
+    assert_eq!(rt; placed.executor_of(7), None);
 }
 
 #[test]
@@ -32,12 +38,17 @@ fn channels_in_turn_on_loops(rt: HostRuntime) -> Result<(), Fail> {
         (Some("b"), 1, 4),
     ] {
         let placed = built(line_protocol(rt.alloc(), group)?, &mut groups)?;
-        assert_eq!(rt; placed.executor_of(0), Some(place));
-        assert_eq!(rt; placed.executor_of(1), Some(executor));
-        assert_eq!(rt; placed.executor_of(3), Some(place));
-        assert_eq!(rt; placed.executor_of(6), Some(place));
+        assert_on_loop(&rt, &placed, place, executor);
     }
     Ok(())
+}
+
+/// The decoder of a line protocol is on an executor, and the first, the third and the last hop are on their loop.
+fn assert_on_loop(rt: &impl Abort, placed: &Placed<Small>, place: u16, executor: u16) {
+    assert_eq!(rt; placed.executor_of(0), Some(place));
+    assert_eq!(rt; placed.executor_of(1), Some(executor));
+    assert_eq!(rt; placed.executor_of(3), Some(place));
+    assert_eq!(rt; placed.executor_of(6), Some(place));
 }
 
 #[test]

@@ -1,41 +1,59 @@
 //! The worked examples of `docs/FORMATS.md`, by the steps of the handlers.
 
+ghost use Rattle.std.specs.Prelude.{◌≤◌};
+
 use crate::event_tests::text;
 use pl_event::{Caught, Command, Event, Fault, Fused, Key, Message, Reply, Stage, Turned};
 use pl_stages::{
     CommandDecoder, FlushEvery, Handler, LineEnd, LineFramer, LineService, ReplyEncoder,
     add_reply_text,
 };
-use std::alloc::{AllocError, Global};
+use std::alloc::Global;
 use std::process::Abort;
 use std::test::Fail;
 
-fn chunk(alloc: Global, bytes: &[u8]) -> Result<Event, AllocError> {
-    Ok(Event::Read(Message::Bytes(text(alloc, bytes)?)))
+/// An event, to make or to expect.
+#[derive(Clone, Copy)]
+enum Told<'a> {
+    Active,
+    ReadComplete,
+    Chunk(&'a [u8]),
+    Ping,
+    Quit,
+    Echo(&'a [u8]),
+    Add(&'a [u8], u32),
+    Get(&'a [u8]),
+    Caught(Caught),
 }
 
-fn echo(alloc: Global, bytes: &[u8]) -> Result<Event, AllocError> {
-    Ok(Event::Read(Message::Command(Command::Echo(text(alloc, bytes)?))))
+fn event(alloc: Global, told: Told<'_>) -> Result<Event, Fail> {
+    match told {
+        Told::Active => Ok(Event::Active),
+        Told::ReadComplete => Ok(Event::ReadComplete),
+        Told::Chunk(bytes) => Ok(Event::Read(Message::Bytes(text(alloc, bytes)?))),
+        Told::Ping => Ok(command(Command::Ping)),
+        Told::Quit => Ok(command(Command::Quit)),
+        Told::Echo(bytes) => Ok(command(Command::Echo(text(alloc, bytes)?))),
+        Told::Add(name, number) => Ok(command(Command::Add(key(alloc, name)?, number))),
+        Told::Get(name) => Ok(command(Command::Get(key(alloc, name)?))),
+        Told::Caught(caught) => Ok(Event::Caught(caught)),
+    }
 }
 
-fn ping_command() -> Event {
-    Event::Read(Message::Command(Command::Ping))
+fn events(alloc: Global, all: &[Told<'_>]) -> Result<Vec<Event>, Fail> {
+    let mut events = Vec::new(alloc);
+    for told in all {
+        events.push(event(alloc, *told)?)?;
+    }
+    Ok(events)
 }
 
-fn quit_command() -> Event {
-    Event::Read(Message::Command(Command::Quit))
+fn command(command: Command) -> Event {
+    Event::Read(Message::Command(command))
 }
 
 fn key(alloc: Global, name: &[u8]) -> Result<Key, Fail> {
     Ok(Key::new(text(alloc, name)?).ok_or("no key")?)
-}
-
-fn add(alloc: Global, name: &[u8], number: u32) -> Result<Event, Fail> {
-    Ok(Event::Read(Message::Command(Command::Add(key(alloc, name)?, number))))
-}
-
-fn get(alloc: Global, name: &[u8]) -> Result<Event, Fail> {
-    Ok(Event::Read(Message::Command(Command::Get(key(alloc, name)?))))
 }
 
 fn written(reply: Reply) -> Event {
@@ -57,12 +75,16 @@ fn made(
     Ok((up, down))
 }
 
-/// What reaches the tail of the line protocol, and what bytes reach its head.
-fn served(alloc: Global, max: usize, events: Vec<Event>) -> Result<(Vec<Event>, Vec<u8>), Fail> {
-    let framer = LineFramer::new(alloc, max)?;
-    let (lines, _) = made(alloc, Handler::Lines(framer), events)?;
+/// The commands in what comes to the line protocol.
+fn commands(alloc: Global, max: usize, came: &[Told<'_>]) -> Result<Vec<Event>, Fail> {
+    let framer = Handler::Lines(LineFramer::new(alloc, max)?);
+    let (lines, _) = made(alloc, framer, events(alloc, came)?)?;
     let (commands, _) = made(alloc, Handler::Decode(CommandDecoder::new()), lines)?;
-    let (tail, replies) = made(alloc, Handler::Service(LineService::new(alloc)), commands)?;
+    Ok(commands)
+}
+
+/// The bytes of its replies.
+fn bytes(alloc: Global, replies: Vec<Event>) -> Result<Vec<u8>, Fail> {
     let (_, texts) = made(alloc, Handler::Encode(ReplyEncoder::new()), replies)?;
     let (_, ended) = made(alloc, Handler::LineEnd(LineEnd::new()), texts)?;
     let mut bytes = Vec::new(alloc);
@@ -71,128 +93,121 @@ fn served(alloc: Global, max: usize, events: Vec<Event>) -> Result<(Vec<Event>, 
             bytes.extend_from_slice(text.as_slice())?;
         }
     }
-    Ok((tail, bytes))
+    Ok(bytes)
 }
 
-/// The line protocol brings these events to its tail and these bytes to its head.
+/// The line protocol, with lines of at most so many bytes, brings these events to its tail and these bytes to its head.
 fn assert_served(
     rt: &(impl Abort + AllocGlobal),
     max: usize,
-    events: Vec<Event>,
-    tail: &[Event],
-    bytes: &[u8],
+    came: &[Told<'_>],
+    tail: &[Told<'_>],
+    sent: &[u8],
 ) -> Result<(), Fail> {
-    let (reached, sent) = served(rt.alloc(), max, events)?;
-    assert_eq!(rt; reached.as_slice(), tail);
-    assert_eq!(rt; sent.as_slice(), bytes);
+    let alloc = rt.alloc();
+    let service = Handler::Service(LineService::new(alloc));
+    let (reached, replies) = made(alloc, service, commands(alloc, max, came)?)?;
+    assert_eq!(rt; reached, events(alloc, tail)?);
+    assert_eq!(rt; bytes(alloc, replies)?.as_slice(), sent);
     Ok(())
-}
-
-/// The same where one chunk comes in, with lines of at most 64 bytes.
-fn assert_lines_served(
-    rt: &(impl Abort + AllocGlobal),
-    lines: &[u8],
-    tail: &[Event],
-    bytes: &[u8],
-) -> Result<(), Fail> {
-    let events = vec![in rt.alloc(); chunk(rt.alloc(), lines)?]?;
-    assert_served(rt, 64, events, tail, bytes)
 }
 
 #[test]
 fn ping(rt: HostRuntime) -> Result<(), Fail> {
-    let lines = chunk(rt.alloc(), b"PING\r\n")?;
-    let events = vec![in rt.alloc(); Event::Active, lines, Event::ReadComplete]?;
-    let tail = [Event::Active, ping_command(), Event::ReadComplete];
-    assert_served(&rt, 64, events, &tail, b"+PONG\r\n")
+    let came = [Told::Active, Told::Chunk(b"PING\r\n"), Told::ReadComplete];
+    let tail = [Told::Active, Told::Ping, Told::ReadComplete];
+    assert_served(&rt, 64, &came, &tail, b"+PONG\r\n")
 }
 
 #[test]
 fn line_across_bursts(rt: HostRuntime) -> Result<(), Fail> {
-    let events = vec![in rt.alloc();
-        Event::Active,
-        chunk(rt.alloc(), b"PI")?,
-        Event::ReadComplete,
-        chunk(rt.alloc(), b"NG\n")?,
-        Event::ReadComplete,
-    ]?;
-    let tail = [
-        Event::Active,
-        Event::ReadComplete,
-        ping_command(),
-        Event::ReadComplete,
+    let came = [
+        Told::Active,
+        Told::Chunk(b"PI"),
+        Told::ReadComplete,
+        Told::Chunk(b"NG\n"),
+        Told::ReadComplete,
     ];
-    assert_served(&rt, 64, events, &tail, b"+PONG\r\n")
+    let tail = [
+        Told::Active,
+        Told::ReadComplete,
+        Told::Ping,
+        Told::ReadComplete,
+    ];
+    assert_served(&rt, 64, &came, &tail, b"+PONG\r\n")
 }
 
 #[test]
 fn cr_and_lf_apart(rt: HostRuntime) -> Result<(), Fail> {
-    let (line, end) = (chunk(rt.alloc(), b"PING\r")?, chunk(rt.alloc(), b"\n")?);
-    let events = vec![in rt.alloc(); line, end]?;
-    assert_served(&rt, 4, events, &[ping_command()], b"+PONG\r\n")
+    let came = [Told::Chunk(b"PING\r"), Told::Chunk(b"\n")];
+    assert_served(&rt, 4, &came, &[Told::Ping], b"+PONG\r\n")
 }
 
 #[test]
 fn line_too_long(rt: HostRuntime) -> Result<(), Fail> {
-    let events = vec![in rt.alloc(); chunk(rt.alloc(), b"PING\n")?]?;
-    let tail = [Event::Caught(Caught::TooLong)];
-    assert_served(&rt, 3, events, &tail, b"-ERR toolong\r\n")
+    let tail = [Told::Caught(Caught::TooLong)];
+    let came = [Told::Chunk(b"PING\n")];
+    assert_served(&rt, 3, &came, &tail, b"-ERR toolong\r\n")
 }
+
+const SYNTAX: Told<'static> = Told::Caught(Caught::Syntax);
+
+const UNKNOWN: Told<'static> = Told::Caught(Caught::Unknown);
 
 #[test]
 fn echo_and_faults(rt: HostRuntime) -> Result<(), Fail> {
-    let tail = [
-        echo(rt.alloc(), b"")?,
-        Event::Caught(Caught::Syntax),
-        Event::Caught(Caught::Unknown),
-    ];
-    let bytes = b"+\r\n-ERR syntax\r\n-ERR unknown\r\n";
-    assert_lines_served(&rt, b"ECHO \nECHO\n\n", &tail, bytes)
-}
-
-#[test]
-fn cr_inside_line(rt: HostRuntime) -> Result<(), Fail> {
-    let tail = [echo(rt.alloc(), b"a\r")?];
-    assert_lines_served(&rt, b"ECHO a\r\r\n", &tail, b"+a\r\r\n")
-}
-
-#[test]
-fn totals(rt: HostRuntime) -> Result<(), Fail> {
-    let alloc = rt.alloc();
-    let tail = [
-        add(alloc, b"a", 7)?,
-        add(alloc, b"b", 1)?,
-        add(alloc, b"a", 5)?,
-        get(alloc, b"a")?,
-    ];
-    let lines = b"ADD a 7\nADD b 1\nADD a 5\nGET a\n";
-    assert_lines_served(&rt, lines, &tail, b":7\r\n:1\r\n:12\r\n:12\r\n")
-}
-
-#[test]
-fn leading_zero(rt: HostRuntime) -> Result<(), Fail> {
-    let tail = [Event::Caught(Caught::Syntax)];
-    assert_lines_served(&rt, b"ADD a 0123\n", &tail, b"-ERR syntax\r\n")
-}
-
-#[test]
-fn nine_digits(rt: HostRuntime) -> Result<(), Fail> {
-    let largest = add(rt.alloc(), b"a", 999_999_999)?;
-    let other = get(rt.alloc(), b"zz")?;
-    assert_lines_served(
+    let came = [Told::Chunk(b"ECHO \nECHO\n\n")];
+    let tail = [Told::Echo(b""), SYNTAX, UNKNOWN];
+    assert_served(
         &rt,
-        b"ADD a 999999999\nADD a 1234567890\nGET zz\n",
-        &[largest, Event::Caught(Caught::Syntax), other],
-        b":999999999\r\n-ERR syntax\r\n:0\r\n",
+        64,
+        &came,
+        &tail,
+        b"+\r\n-ERR syntax\r\n-ERR unknown\r\n",
     )
 }
 
 #[test]
+fn cr_inside_line(rt: HostRuntime) -> Result<(), Fail> {
+    let came = [Told::Chunk(b"ECHO a\r\r\n")];
+    assert_served(&rt, 64, &came, &[Told::Echo(b"a\r")], b"+a\r\r\n")
+}
+
+#[test]
+fn totals(rt: HostRuntime) -> Result<(), Fail> {
+    let came = [Told::Chunk(b"ADD a 7\nADD b 1\nADD a 5\nGET a\n")];
+    let tail = [
+        Told::Add(b"a", 7),
+        Told::Add(b"b", 1),
+        Told::Add(b"a", 5),
+        Told::Get(b"a"),
+    ];
+    assert_served(&rt, 64, &came, &tail, b":7\r\n:1\r\n:12\r\n:12\r\n")
+}
+
+#[test]
+fn leading_zero(rt: HostRuntime) -> Result<(), Fail> {
+    let came = [Told::Chunk(b"ADD a 0123\n")];
+    assert_served(&rt, 64, &came, &[SYNTAX], b"-ERR syntax\r\n")
+}
+
+#[test]
+fn nine_digits(rt: HostRuntime) -> Result<(), Fail> {
+    let came = [Told::Chunk(b"ADD a 999999999\nADD a 1234567890\nGET zz\n")];
+    let tail = [Told::Add(b"a", 999_999_999), SYNTAX, Told::Get(b"zz")];
+    let sent = b":999999999\r\n-ERR syntax\r\n:0\r\n";
+    assert_served(&rt, 64, &came, &tail, sent)
+}
+
+#[test]
 fn quit(rt: HostRuntime) -> Result<(), Fail> {
-    let burst = chunk(rt.alloc(), b"PING\nQUIT\nPING\nPI")?;
-    let events = vec![in rt.alloc(); Event::Active, burst, Event::ReadComplete]?;
-    let tail = [Event::Active, ping_command(), quit_command()];
-    assert_served(&rt, 64, events, &tail, b"+PONG\r\n+BYE\r\n")
+    let came = [
+        Told::Active,
+        Told::Chunk(b"PING\nQUIT\nPING\nPI"),
+        Told::ReadComplete,
+    ];
+    let tail = [Told::Active, Told::Ping, Told::Quit];
+    assert_served(&rt, 64, &came, &tail, b"+PONG\r\n+BYE\r\n")
 }
 
 /// What the decoder makes of one line.
@@ -205,23 +220,24 @@ fn decoded(alloc: Global, line: &[u8]) -> Result<Option<Event>, Fail> {
     Ok(up.pop())
 }
 
-#[test]
-fn forms_of_commands(rt: HostRuntime) -> Result<(), Fail> {
-    let alloc = rt.alloc();
-    for (line, made) in [
-        ("ADD k 0", add(alloc, b"k", 0)?),
-        ("ADD 0 10", add(alloc, b"0", 10)?),
-        ("GET abcdefghijklmnop", get(alloc, b"abcdefghijklmnop")?),
-        ("QUIT", quit_command()),
-    ] {
-        assert_eq!(rt; decoded(alloc, line.as_bytes())?, Some(made), "of {line:?}");
-    }
+/// The decoder makes one event of a line.
+fn assert_decoded(rt: &(impl Abort + AllocGlobal), line: &str, told: Told<'_>) -> Result<(), Fail> {
+    let made = decoded(rt.alloc(), line.as_bytes())?;
+    let told = Some(event(rt.alloc(), told)?);
+    assert_eq!(rt; made, told, "of {line:?}");
     Ok(())
 }
 
 #[test]
+fn forms_of_commands(rt: HostRuntime) -> Result<(), Fail> {
+    assert_decoded(&rt, "ADD k 0", Told::Add(b"k", 0))?;
+    assert_decoded(&rt, "ADD 0 10", Told::Add(b"0", 10))?;
+    assert_decoded(&rt, "GET abcdefghijklmnop", Told::Get(b"abcdefghijklmnop"))?;
+    assert_decoded(&rt, "QUIT", Told::Quit)
+}
+
+#[test]
 fn wrong_forms_of_commands(rt: HostRuntime) -> Result<(), Fail> {
-    let alloc = rt.alloc();
     for line in [
         "PING ",
         "QUIT now",
@@ -243,68 +259,69 @@ fn wrong_forms_of_commands(rt: HostRuntime) -> Result<(), Fail> {
         "GET k ",
         "GET K",
     ] {
-        let made = decoded(alloc, line.as_bytes())?;
-        assert_eq!(rt; made, Some(Event::Caught(Caught::Syntax)), "of {line:?}");
+        assert_decoded(&rt, line, SYNTAX)?;
     }
     Ok(())
 }
 
 #[test]
 fn unknown_verbs(rt: HostRuntime) -> Result<(), Fail> {
-    let alloc = rt.alloc();
     for line in ["", " PING", "ping", "PINGS", "ADDS k 1", "GETk"] {
-        let made = decoded(alloc, line.as_bytes())?;
-        assert_eq!(rt; made, Some(Event::Caught(Caught::Unknown)), "of {line:?}");
+        assert_decoded(&rt, line, UNKNOWN)?;
     }
     Ok(())
 }
 
-/// The last that a service writes in answer to an event.
+/// The last that a service writes in answer to a command.
 fn answer(
     alloc: Global,
     service: &mut Fused<LineService>,
-    event: Event,
+    told: Told<'_>,
 ) -> Result<Option<Event>, Fail> {
     let mut up = Vec::new(alloc);
     let mut down = Vec::new(alloc);
-    service.step(event, &mut up, &mut down)?;
+    service.step(event(alloc, told)?, &mut up, &mut down)?;
     Ok(down.pop())
 }
 
-/// A service answers an event so.
+/// A service answers a command so.
 fn assert_answer(
     rt: &(impl Abort + AllocGlobal),
     service: &mut Fused<LineService>,
-    event: Event,
+    told: Told<'_>,
     reply: Reply,
 ) -> Result<(), Fail> {
-    let answered = answer(rt.alloc(), service, event)?;
+    let answered = answer(rt.alloc(), service, told)?;
     assert_eq!(rt; answered, Some(written(reply)));
     Ok(())
 }
 
+/// What is added a million times.
+const LARGEST: Told<'static> = Told::Add(b"a", 999_999_999);
+
+const RANGE: Reply = Reply::Error(Fault::Range);
+
+const FULL: Reply = Reply::Error(Fault::Full);
+
 #[test]
 fn service_limits(rt: HostRuntime) -> Result<(), Fail> {
-    let alloc = rt.alloc();
-    let mut service = LineService::new(alloc);
+    let mut service = LineService::new(rt.alloc());
     for _ in 0..999_999 {
-        answer(alloc, &mut service, add(alloc, b"a", 999_999_999)?)?;
+        answer(rt.alloc(), &mut service, LARGEST)?;
     }
-    let event = add(alloc, b"a", 999_999_999)?;
-    assert_answer(&rt, &mut service, event, Reply::Total(999_999_999_000_000))?;
-    let event = add(alloc, b"a", 999_999_999)?;
-    assert_answer(&rt, &mut service, event, Reply::Error(Fault::Range))?;
-    let event = get(alloc, b"a")?;
-    assert_answer(&rt, &mut service, event, Reply::Total(999_999_999_000_000))?;
-    let event = add(alloc, b"a", 1_000_001)?;
-    assert_answer(&rt, &mut service, event, Reply::Error(Fault::Range))?;
-    let event = add(alloc, b"a", 1_000_000)?;
-    assert_answer(
-        &rt,
-        &mut service,
-        event,
-        Reply::Total(1_000_000_000_000_000),
-    )
+    for (told, reply) in [
+        (LARGEST, Reply::Total(999_999_999_000_000)),
+        (LARGEST, RANGE),
+        (Told::Get(b"a"), Reply::Total(999_999_999_000_000)),
+        (Told::Add(b"a", 1_000_001), RANGE),
+        (
+            Told::Add(b"a", 1_000_000),
+            Reply::Total(1_000_000_000_000_000),
+        ),
+    ] {
+        assert_answer(&rt, &mut service, told, reply)?;
+    }
+    Ok(())
 }
 
 /// A service that holds 256 keys, each by an addition of this number.
@@ -312,7 +329,7 @@ fn full_service(alloc: Global, number: u32) -> Result<Fused<LineService>, Fail> 
     let mut service = LineService::new(alloc);
     for high in b'a'..=b'p' {
         for low in b'a'..=b'p' {
-            answer(alloc, &mut service, add(alloc, &[high, low], number)?)?;
+            answer(alloc, &mut service, Told::Add(&[high, low], number))?;
         }
     }
     Ok(service)
@@ -320,40 +337,46 @@ fn full_service(alloc: Global, number: u32) -> Result<Fused<LineService>, Fail> 
 
 #[test]
 fn key_limit(rt: HostRuntime) -> Result<(), Fail> {
-    let alloc = rt.alloc();
-    let mut service = full_service(alloc, 1)?;
-    let event = add(alloc, b"other", 1)?;
-    assert_answer(&rt, &mut service, event, Reply::Error(Fault::Full))?;
-    let event = get(alloc, b"other")?;
-    assert_answer(&rt, &mut service, event, Reply::Total(0))?;
-    let event = add(alloc, b"aa", 1)?;
-    assert_answer(&rt, &mut service, event, Reply::Total(2))?;
+    let mut service = full_service(rt.alloc(), 1)?;
+    for (told, reply) in [
+        (Told::Add(b"other", 1), FULL),
+        (Told::Get(b"other"), Reply::Total(0)),
+        (Told::Add(b"aa", 1), Reply::Total(2)),
+    ] {
+        assert_answer(&rt, &mut service, told, reply)?;
+    }
+    Ok(())
+}
 
-    // An addition of 0 makes a key held, too.
-    let mut service = full_service(alloc, 0)?;
-    let event = add(alloc, b"other", 1)?;
-    assert_answer(&rt, &mut service, event, Reply::Error(Fault::Full))
+/// An addition of 0 makes a key held, too.
+#[test]
+fn keys_of_nothing(rt: HostRuntime) -> Result<(), Fail> {
+    let mut service = full_service(rt.alloc(), 0)?;
+    assert_answer(&rt, &mut service, Told::Add(b"other", 1), FULL)
+}
+
+/// Five writes, with a flush after each so many.
+fn five_writes(alloc: Global, flushed: usize) -> Result<Vec<Event>, Fail>
+    requires { 1 ≤ flushed }
+{
+    let mut events = Vec::new(alloc);
+    for count in 1..=5 {
+        events.push(written(Reply::Pong))?;
+        if count % flushed == 0 {
+            events.push(Event::Flush)?;
+        }
+    }
+    Ok(events)
 }
 
 #[test]
 fn flush_every(rt: HostRuntime) -> Result<(), Fail> {
-    let alloc = rt.alloc();
     for (n, passed) in [(1, 5), (2, 2), (5, 1), (6, 0)] {
         let handler = Handler::FlushEvery(FlushEvery::new(n)?);
-        let mut events = Vec::new(alloc);
-        let mut wanted = Vec::new(alloc);
-        for count in 1..=5 {
-            events.push(written(Reply::Pong))?;
-            wanted.push(written(Reply::Pong))?;
-            events.push(Event::Flush)?;
-            if count % n == 0 {
-                wanted.push(Event::Flush)?;
-            }
-        }
-        let (up, down) = made(alloc, handler, events)?;
+        let (up, down) = made(rt.alloc(), handler, five_writes(rt.alloc(), 1)?)?;
         assert_eq!(rt; up.is_empty(), true);
-        assert_eq!(rt; down, wanted, "every {n}");
         assert_eq!(rt; down.len(), 5 + passed, "every {n}");
+        assert_eq!(rt; down, five_writes(rt.alloc(), n)?, "every {n}");
     }
     Ok(())
 }
@@ -382,10 +405,10 @@ fn quits_once(rt: HostRuntime) -> Result<(), Fail> {
     let mut service = Handler::Service(LineService::new(alloc));
     let mut up = Vec::new(alloc);
     let mut down = Vec::new(alloc);
-    for command in [quit_command(), ping_command()] {
+    for command in [command(Command::Quit), command(Command::Ping)] {
         assert_eq!(rt; service.step(command, &mut up, &mut down)?, Turned::Ended);
     }
-    assert_eq!(rt; up, vec![in alloc; quit_command()]?);
+    assert_eq!(rt; up, vec![in alloc; command(Command::Quit)]?);
     assert_eq!(rt; down, vec![in alloc; written(Reply::Bye), Event::Flush]?);
     Ok(())
 }

@@ -3,7 +3,10 @@
 use crate::fault_texts::assert_told;
 use crate::ping::PING_SESSION;
 use pl_build::BuildFault;
+use pl_head::MemoryTransport;
+use pl_stages::Handler;
 use pl_text::{MAX_SESSION_TEXT, SessionFault, read_session};
+use pl_world::Recorded;
 use std::process::Abort;
 use std::test::Fail;
 
@@ -17,6 +20,18 @@ const LIMIT: Option<SessionFault> = Some(SessionFault::Limit);
 /// A text has this answer: a fault, or None where it is read.
 fn assert_answer(rt: &(impl Abort + AllocGlobal), text: &str, fault: Option<SessionFault>) {
     assert_eq!(rt; read_session(rt.alloc(), text).err(), fault, "at {text}");
+}
+
+/// The session of one PING with another text in place of a part of it has this answer.
+fn assert_replaced(
+    rt: &(impl Abort + AllocGlobal),
+    part: &str,
+    other: &str,
+    fault: Option<SessionFault>,
+) -> Result<(), Fail> {
+    let text = PING_SESSION.replace(rt.alloc(), part, other)?;
+    assert_answer(rt, text.as_str(), fault);
+    Ok(())
 }
 
 /// A session of one channel with these edits, and with what follows its bursts.
@@ -43,22 +58,35 @@ const SERVICE: &str = r#"{"op":"last","name":"service","kind":"service"}"#;
 #[test]
 fn ping_session(rt: HostRuntime) -> Result<(), Fail> {
     let session = read_session(rt.alloc(), PING_SESSION)?;
-    assert_eq!(rt; session.capacity, 4);
-    assert_eq!(rt; session.world.executors(), 1);
+    assert!(rt; session.capacity == 4 && session.world.executors() == 1);
     let channels = session.world.channels();
     assert_eq!(rt; channels.len(), 1);
-    assert_eq!(rt; channels[0].pipeline.inbound(), 3);
-    assert_eq!(rt; channels[0].pipeline.outbound(), 2);
-    assert_eq!(rt; channels[0].pipeline.low(), 32_768);
-    assert_eq!(rt; channels[0].pipeline.high(), 65_536);
-    let bursts = channels[0].input.bursts.as_slice();
+    assert_ping(&rt, &channels[0]);
+    Ok(())
+}
+
+/// The channel of that session.
+fn assert_ping(rt: &impl Abort, channel: &Recorded<Handler, MemoryTransport>) {
+    let pipeline = &channel.pipeline;
+    assert!(rt; pipeline.inbound() == 3 && pipeline.outbound() == 2);
+    assert!(rt; pipeline.low() == 32_768 && pipeline.high() == 65_536);
+    let bursts = channel.input.bursts.as_slice();
     assert_eq!(rt; bursts.len(), 1);
     let chunks = bursts[0].as_slice();
     assert_eq!(rt; chunks.len(), 1);
     assert_eq!(rt; chunks[0].as_slice(), b"PING\r\n".as_slice());
-    assert_eq!(rt; channels[0].input.abort_after, None);
-    assert_eq!(rt; channels[0].transport.fail_at(), None);
-    Ok(())
+    assert_fails(rt, channel, None, None);
+}
+
+/// A channel fails at this call of its transport, and is aborted after so many bursts.
+fn assert_fails(
+    rt: &impl Abort,
+    channel: &Recorded<Handler, MemoryTransport>,
+    fail_at: Option<u32>,
+    abort_after: Option<u32>,
+) {
+    assert_eq!(rt; channel.transport.fail_at(), fail_at);
+    assert_eq!(rt; channel.input.abort_after, abort_after);
 }
 
 /// The session of one PING, whose transport fails at a call.
@@ -70,8 +98,7 @@ fn call_to_fail(rt: HostRuntime) -> Result<(), Fail> {
         let session = read_session(rt.alloc(), text.as_str())?;
         let channels = session.world.channels();
         assert_eq!(rt; channels.len(), 1);
-        assert_eq!(rt; channels[0].transport.fail_at(), Some(call));
-        assert_eq!(rt; channels[0].input.abort_after, None);
+        assert_fails(&rt, &channels[0], Some(call), None);
     }
     Ok(())
 }
@@ -86,10 +113,8 @@ fn aborted_channels(rt: HostRuntime) -> Result<(), Fail> {
         let text = PING_SESSION.replace(rt.alloc(), r#""bursts":[["PING\r\n"]]"#, other.as_str())?;
         let session = read_session(rt.alloc(), text.as_str())?;
         let channels = session.world.channels();
-        assert_eq!(rt; channels.len(), 1);
-        assert_eq!(rt; channels[0].input.abort_after, Some(after));
-        assert_eq!(rt; channels[0].input.bursts.len(), 3);
-        assert_eq!(rt; channels[0].transport.fail_at(), None);
+        assert!(rt; channels.len() == 1 && channels[0].input.bursts.len() == 3);
+        assert_fails(&rt, &channels[0], None, Some(after));
     }
     Ok(())
 }
@@ -97,24 +122,18 @@ fn aborted_channels(rt: HostRuntime) -> Result<(), Fail> {
 /// Each channel has its own.
 #[test]
 fn channels_that_fail_apart(rt: HostRuntime) -> Result<(), Fail> {
-    let channel = |more: &str| -> Result<String, Fail> {
-        Ok(format!(in rt.alloc(); "{{\"handlers\":[{SERVICE}],\"bursts\":[[]]{more}}}")?)
-    };
-    let first = channel(r#","fail_at":7"#)?;
-    let second = channel("")?;
-    let third = channel(r#","abort_after":1,"fail_at":8"#)?;
-    let text = format!(in rt.alloc();
-        "{{\"version\":1,\"capacity\":4,\"loops\":1,\"channels\":[{first},{second},{third}]}}"
+    let more = format!(in rt.alloc();
+        ",\"fail_at\":7}},{{\"handlers\":[{SERVICE}],\"bursts\":[[]]}},{{\"handlers\":[{SERVICE}],\"bursts\":[[]],\"abort_after\":1,\"fail_at\":8"
     )?;
-    let session = read_session(rt.alloc(), text.as_str())?;
+    let session = read_session(
+        rt.alloc(),
+        with_edits(&rt, SERVICE, more.as_str())?.as_str(),
+    )?;
     let channels = session.world.channels();
     assert_eq!(rt; channels.len(), 3);
-    assert_eq!(rt; channels[0].transport.fail_at(), Some(7));
-    assert_eq!(rt; channels[0].input.abort_after, None);
-    assert_eq!(rt; channels[1].transport.fail_at(), None);
-    assert_eq!(rt; channels[1].input.abort_after, None);
-    assert_eq!(rt; channels[2].transport.fail_at(), Some(8));
-    assert_eq!(rt; channels[2].input.abort_after, Some(1));
+    assert_fails(&rt, &channels[0], Some(7), None);
+    assert_fails(&rt, &channels[1], None, None);
+    assert_fails(&rt, &channels[2], Some(8), Some(1));
     Ok(())
 }
 
@@ -219,13 +238,10 @@ fn hostile_members(rt: HostRuntime) -> Result<(), Fail> {
         let other = format!(in rt.alloc();
             "\"version\":{version},\"capacity\":{capacity},\"loops\":{loops}"
         )?;
-        let text = PING_SESSION.replace(rt.alloc(), part, other.as_str())?;
-        assert_answer(&rt, text.as_str(), fault);
+        assert_replaced(&rt, part, other.as_str(), fault)?;
     }
-    let text = PING_SESSION.replace(rt.alloc(), r#"[{"handlers""#, r#"[7,{"handlers""#)?;
-    assert_answer(&rt, text.as_str(), KIND);
-    let text = PING_SESSION.replace(rt.alloc(), r#"{"handlers""#, r#"{"more""#)?;
-    assert_answer(&rt, text.as_str(), MISSING);
+    assert_replaced(&rt, r#"[{"handlers""#, r#"[7,{"handlers""#, KIND)?;
+    assert_replaced(&rt, r#"{"handlers""#, r#"{"more""#, MISSING)?;
     Ok(())
 }
 
@@ -251,8 +267,7 @@ fn hostile_edits(rt: HostRuntime) -> Result<(), Fail> {
         (last, r#""kind":"decode","group":null"#, None),
     ] {
         let other = format!(in rt.alloc(); "{edit},{kind}")?;
-        let text = PING_SESSION.replace(rt.alloc(), part.as_str(), other.as_str())?;
-        assert_answer(&rt, text.as_str(), fault);
+        assert_replaced(&rt, part.as_str(), other.as_str(), fault)?;
     }
     for (max, fault) in [
         ("0", LIMIT),
@@ -261,8 +276,7 @@ fn hostile_edits(rt: HostRuntime) -> Result<(), Fail> {
         ("null", KIND),
     ] {
         let other = format!(in rt.alloc(); "\"max\":{max}")?;
-        let text = PING_SESSION.replace(rt.alloc(), r#""max":64"#, other.as_str())?;
-        assert_answer(&rt, text.as_str(), fault);
+        assert_replaced(&rt, r#""max":64"#, other.as_str(), fault)?;
     }
     Ok(())
 }
@@ -296,8 +310,7 @@ fn hostile_channels(rt: HostRuntime) -> Result<(), Fail> {
         ("abort_after", "4294967296", LIMIT),
     ] {
         let other = format!(in rt.alloc(); "\"{member}\":{value},\"bursts\":")?;
-        let text = PING_SESSION.replace(rt.alloc(), r#""bursts":"#, other.as_str())?;
-        assert_answer(&rt, text.as_str(), fault);
+        assert_replaced(&rt, r#""bursts":"#, other.as_str(), fault)?;
     }
     let ping = r#""bursts":[["PING\r\n"]]"#;
     for (members, bursts, fault) in [
@@ -319,8 +332,7 @@ fn hostile_channels(rt: HostRuntime) -> Result<(), Fail> {
         (r#""abort_after":"x","fail_at":0,"#, ping, LIMIT),
     ] {
         let other = format!(in rt.alloc(); "{members}{bursts}")?;
-        let text = PING_SESSION.replace(rt.alloc(), ping, other.as_str())?;
-        assert_answer(&rt, text.as_str(), fault);
+        assert_replaced(&rt, ping, other.as_str(), fault)?;
     }
     Ok(())
 }
@@ -331,8 +343,7 @@ fn numbers_that_are_not_whole(rt: HostRuntime) -> Result<(), Fail> {
         for part in [r#""loops":1"#, r#""max":64"#] {
             let (member, _) = part.split_once(':').ok_or("a member has a colon")?;
             let other = format!(in rt.alloc(); "{member}:{number}")?;
-            let text = PING_SESSION.replace(rt.alloc(), part, other.as_str())?;
-            assert_answer(&rt, text.as_str(), Some(SessionFault::Kind));
+            assert_replaced(&rt, part, other.as_str(), Some(SessionFault::Kind))?;
         }
     }
     Ok(())
@@ -346,8 +357,7 @@ fn texts_that_are_no_json(rt: HostRuntime) -> Result<(), Fail> {
         ("{\"version\"", "\u{feff}{\"version\""),
         ("]}]}", "]}]} 7"),
     ] {
-        let text = PING_SESSION.replace(rt.alloc(), part, other)?;
-        assert_answer(&rt, text.as_str(), Some(SessionFault::NotJson));
+        assert_replaced(&rt, part, other, Some(SessionFault::NotJson))?;
     }
     Ok(())
 }
@@ -432,10 +442,9 @@ fn builder_order(rt: HostRuntime) -> Result<(), Fail> {
     let session = read_session(rt.alloc(), with_edits(&rt, edits, "")?.as_str())?;
     let channels = session.world.channels();
     assert_eq!(rt; channels.len(), 1);
-    assert_eq!(rt; channels[0].pipeline.inbound(), 2);
-    assert_eq!(rt; channels[0].pipeline.outbound(), 0);
-    assert_eq!(rt; channels[0].pipeline.executor_of(3), Some(0));
-    assert_eq!(rt; channels[0].pipeline.executor_of(4), None);
+    let pipeline = &channels[0].pipeline;
+    assert!(rt; pipeline.inbound() == 2 && pipeline.outbound() == 0);
+    assert!(rt; pipeline.executor_of(3) == Some(0) && pipeline.executor_of(4).is_none());
     Ok(())
 }
 
@@ -629,8 +638,7 @@ fn group_refusals(rt: HostRuntime) -> Result<(), Fail> {
         (r#""loops":1,"groups":[{"name":"","size":1}]"#, limit),
         (r#""loops":1,"groups":[{"name":"g","size":15}]"#, None),
     ] {
-        let text = PING_SESSION.replace(rt.alloc(), r#""loops":1"#, other)?;
-        assert_answer(&rt, text.as_str(), fault);
+        assert_replaced(&rt, r#""loops":1"#, other, fault)?;
     }
     Ok(())
 }
@@ -651,25 +659,33 @@ fn group_placing(rt: HostRuntime) -> Result<(), Fail> {
     assert_eq!(rt; session.world.executors(), 3);
     assert_eq!(rt; session.world.channels().len(), 3);
     for (channel, executor) in session.world.channels().iter().zip([1, 2, 1]) {
-        for hop in 0..7 {
-            let expected = if hop == 1 || hop == 2 { executor } else { 0 };
-            assert_eq!(rt;
-                channel.pipeline.executor_of(hop),
-                Some(expected),
-                "at hop {hop}"
-            );
-        }
-        assert_eq!(rt; channel.pipeline.executor_of(7), None);
+        assert_grouped(&rt, channel, executor);
     }
     Ok(())
 }
 
+/// The decoder and the service of a channel are on an executor, and all else is on executor 0.
+fn assert_grouped(rt: &impl Abort, channel: &Recorded<Handler, MemoryTransport>, executor: u16) {
+    for hop in 0..7 {
+        let expected = if hop == 1 || hop == 2 { executor } else { 0 };
+        assert_eq!(rt;
+            channel.pipeline.executor_of(hop),
+            Some(expected),
+            "at hop {hop}"
+        );
+    }
+    assert_eq!(rt; channel.pipeline.executor_of(7), None);
+}
+
+/// A channel of one service.
+const ALONE: &str = r#"{"handlers":[{"op":"last","name":"service","kind":"service"}],"bursts":[]}"#;
+
 /// Channels live on the loops in turn.
 #[test]
 fn loops_in_turn(rt: HostRuntime) -> Result<(), Fail> {
-    let more = format!(in rt.alloc(); "}},{{\"handlers\":[{SERVICE}],\"bursts\":[]")?;
-    let text = with_edits(&rt, SERVICE, more.repeat(rt.alloc(), 2)?.as_str())?;
-    let text = text.replace(rt.alloc(), r#""loops":1"#, r#""loops":2"#)?;
+    let text = format!(in rt.alloc();
+        "{{\"version\":1,\"capacity\":4,\"loops\":2,\"channels\":[{ALONE},{ALONE},{ALONE}]}}"
+    )?;
     let session = read_session(rt.alloc(), text.as_str())?;
     assert_eq!(rt; session.world.executors(), 2);
     for (channel, executor) in session.world.channels().iter().zip([0, 1, 0]) {
@@ -684,8 +700,8 @@ fn marks_are_kept(rt: HostRuntime) -> Result<(), Fail> {
     let session = read_session(rt.alloc(), text.as_str())?;
     let channels = session.world.channels();
     assert_eq!(rt; channels.len(), 1);
-    assert_eq!(rt; channels[0].pipeline.low(), 4);
-    assert_eq!(rt; channels[0].pipeline.high(), 8);
+    let pipeline = &channels[0].pipeline;
+    assert!(rt; pipeline.low() == 4 && pipeline.high() == 8);
     Ok(())
 }
 
