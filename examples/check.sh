@@ -10,8 +10,7 @@ if [ $# -ne 1 ]; then
 fi
 program=$1
 examples=$(dirname "$0")
-printed=${TMPDIR:-/tmp}/pl_examples.$$
-mkdir "$printed" || exit 2
+printed=$(mktemp -d) || exit 2
 trap 'rm -rf "$printed"' EXIT
 
 # A file that an example does not have stands for no bytes.
