@@ -25,7 +25,7 @@ leave() {
 
 told=
 for box in ring waiting; do
-    test=left_tests::refused_memory_$box
+    test=tests::left_tests::refused_memory_$box
     leave 0
     most=${count:-0}
     [ "$most" -ge 1 ] || { echo "refused mailbox: no allocation of $test was counted"; exit 1; }

@@ -11,6 +11,22 @@ use pl_event::{Cause, Kind, Outcome};
 use pl_head::OutStep;
 use std::test::Fail;
 
+/// The transport fails at a call.
+fn failing_at(call: u32) -> Faults {
+    Faults {
+        fail_at: Some(call),
+        ..NO_FAULTS
+    }
+}
+
+/// The recording is aborted after so many bursts.
+fn aborted_after(bursts: u32) -> Faults {
+    Faults {
+        abort_after: Some(bursts),
+        ..NO_FAULTS
+    }
+}
+
 const BY_FAULT: Took = Took::Failed(Cause::Transport);
 
 const BY_ABORT: Took = Took::Failed(Cause::Aborted);
@@ -47,18 +63,13 @@ const FAILS_AT_2: [Expected; 8] = [
 /// The flag of a failing write comes at once, and the failure with the one read step that is left.
 #[test]
 fn transport_fault(rt: HostRuntime) -> Result<(), Fail> {
-    let faults = Faults {
-        fail_at: Some(2),
-        ..NO_FAULTS
-    };
     let ends = Ends {
         bytes: b"a",
         outcomes: &[Some(Outcome::Fault)],
-        tail_failed: Some(Cause::Transport),
-        head_failed: Some(Cause::Transport),
-        ..SENT
+        ..SENT.failed(Cause::Transport, Cause::Transport)
     };
-    assert_plays(&rt, faults, &[&TO_THE_BURST, &FAILS_AT_2, &OVER], &ends)
+    let lists: [&[Expected]; 3] = [&TO_THE_BURST, &FAILS_AT_2, &OVER];
+    assert_plays(&rt, failing_at(2), &lists, &ends)
 }
 
 const FAILS_AFTER_THE_END: [Expected; 3] = [
@@ -70,17 +81,14 @@ const FAILS_AFTER_THE_END: [Expected; 3] = [
 /// The lane of its reads has ended, so the failure goes nowhere; its flag passes nodes that have ended.
 #[test]
 fn transport_fails_after_the_end(rt: HostRuntime) -> Result<(), Fail> {
-    let faults = Faults {
-        fail_at: Some(1),
-        ..NO_FAULTS
-    };
+    let lists: [&[Expected]; 2] = [&TO_THE_BURST, &FAILS_AFTER_THE_END];
     let ends = Ends {
         bytes: b"",
         outcomes: &[Some(Outcome::Fault)],
         head_failed: Some(Cause::Transport),
         ..SENT
     };
-    assert_plays(&rt, faults, &[&TO_THE_BURST, &FAILS_AFTER_THE_END], &ends)
+    assert_plays(&rt, failing_at(1), &lists, &ends)
 }
 
 /// The burst was recorded, and the write of it closed by the abort.
@@ -118,24 +126,16 @@ const ABORTED_AFTER_1: [Expected; 2] = [
 /// An abort that the recording has, before its burst and behind it: it is a read step, and the last.
 #[test]
 fn abort_at_each_burst(rt: HostRuntime) -> Result<(), Fail> {
-    let before = Faults {
-        abort_after: Some(0),
-        ..NO_FAULTS
-    };
     let ends = Ends {
         recorded: 1,
         flags: &[],
         outcomes: &[],
         ..CLOSED_BY_ABORT
     };
-    assert_plays(&rt, before, &[&ABORTED_AFTER_0], &ends)?;
+    assert_plays(&rt, aborted_after(0), &[&ABORTED_AFTER_0], &ends)?;
 
-    let after = Faults {
-        abort_after: Some(1),
-        ..NO_FAULTS
-    };
     let lists: [&[Expected]; 3] = [&TO_THE_BURST, &ABORTED_AFTER_1, &OVER];
-    assert_plays(&rt, after, &lists, &CLOSED_BY_ABORT)
+    assert_plays(&rt, aborted_after(1), &lists, &CLOSED_BY_ABORT)
 }
 
 const TURN_REFUSED: [Expected; 3] = [
@@ -163,9 +163,7 @@ const TURN_REFUSED: [Expected; 3] = [
 fn flag_after_a_failure(rt: HostRuntime) -> Result<(), Fail> {
     let ends = Ends {
         flags: &[false],
-        tail_failed: Some(Cause::Refused),
-        head_failed: Some(Cause::Refused),
-        ..SENT
+        ..SENT.failed(Cause::Refused, Cause::Refused)
     };
     assert_plays(&rt, NO_FAULTS, &[&TO_THE_BURST, &TURN_REFUSED], &ends)
 }

@@ -167,11 +167,7 @@ const HANDLER_REFUSED: [Expected; 4] = [
 /// Nothing more of the first handler's lane is accepted: the failure follows the event that it has handed on.
 #[test]
 fn refused_handler_fails(rt: HostRuntime) -> Result<(), Fail> {
-    let ends = Ends {
-        tail_failed: Some(Cause::Refused),
-        head_failed: Some(Cause::Refused),
-        ..BEFORE_THE_BURST
-    };
+    let ends = BEFORE_THE_BURST.failed(Cause::Refused, Cause::Refused);
     assert_plays(&rt, NO_FAULTS, &[&HANDLER_REFUSED, &[HAS_ENDED]], &ends)
 }
 
@@ -207,11 +203,7 @@ const THEN_ABORTED: [Expected; 1] = [(
 /// The first lane after the tail is the turn's, the head's lane the outbound handler's, and the first hop's the head's.
 #[test]
 fn refused_writers(rt: HostRuntime) -> Result<(), Fail> {
-    let ends = Ends {
-        tail_failed: Some(Cause::Refused),
-        head_failed: Some(Cause::Aborted),
-        ..BEFORE_THE_BURST
-    };
+    let ends = BEFORE_THE_BURST.failed(Cause::Refused, Cause::Aborted);
     assert_plays(
         &rt,
         NO_FAULTS,
@@ -265,11 +257,7 @@ fn handler_without_memory(rt: HostRuntime) -> Result<(), Fail> {
         steps: 1,
         ..NO_FAULTS
     };
-    let ends = Ends {
-        tail_failed: Some(Cause::Memory),
-        head_failed: Some(Cause::Memory),
-        ..BEFORE_THE_BURST
-    };
+    let ends = BEFORE_THE_BURST.failed(Cause::Memory, Cause::Memory);
     assert_plays(&rt, faults, &[&WITHOUT_MEMORY, &[HAS_ENDED]], &ends)
 }
 

@@ -57,6 +57,17 @@ pub(crate) struct Ends {
     pub(crate) head_failed: Option<Cause>,
 }
 
+impl Ends {
+    /// The same, where the tail and the head have failed for these.
+    pub(crate) fn failed(self, tail: Cause, head: Cause) -> Ends {
+        Ends {
+            tail_failed: Some(tail),
+            head_failed: Some(head),
+            ..self
+        }
+    }
+}
+
 /// What the tail records of the recorded burst.
 const RECORD: [Event; 2] = [Event::Active, Event::ReadComplete];
 

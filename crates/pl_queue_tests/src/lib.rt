@@ -1,21 +1,11 @@
 //! Tests of mailboxes, and code over any mailbox, on threads.
 #![tactic(auto)]
 
-#[cfg(test)]
-mod answering;
-#[cfg(test)]
-mod box_tests;
-#[cfg(test)]
-mod boxes;
 mod flags;
-#[cfg(test)]
-mod leaving;
-#[cfg(test)]
-mod left_tests;
 mod lines;
 mod openings;
 #[cfg(test)]
-mod relays;
+mod tests;
 mod threads;
 
 pub use flags::{flag, lane};

@@ -201,12 +201,12 @@ fn nine_digits(rt: HostRuntime) -> Result<(), Fail> {
 
 #[test]
 fn quit(rt: HostRuntime) -> Result<(), Fail> {
+    let tail = [Told::Active, Told::Ping, Told::Quit];
     let came = [
         Told::Active,
         Told::Chunk(b"PING\nQUIT\nPING\nPI"),
         Told::ReadComplete,
     ];
-    let tail = [Told::Active, Told::Ping, Told::Quit];
     assert_served(&rt, 64, &came, &tail, b"+PONG\r\n+BYE\r\n")
 }
 

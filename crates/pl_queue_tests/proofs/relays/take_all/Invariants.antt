@@ -1,9 +1,0 @@
-use Rattle.std.proofs.Common.{◌≡◌}
-use Rattle.pl_queue_tests.specs.Relays.{taking_lanes}
-use Rattle.pl_queue_tests.proofs.relays.take_all.Given as goal
-
-abbrev pub invariant-loop : goal.invariant-loop
-invariant-loop g l = record {
-  taker : g.M.Mailbox.is_taker l.mailbox l.taker;
-  lanes : taking_lanes (g.M.Mailbox.takes_of l.taker) ≡ taking_lanes (g.M.Mailbox.takes_of l.fn.taker);
-}

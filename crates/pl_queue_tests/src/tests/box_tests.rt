@@ -1,0 +1,183 @@
+//! Each over either box: what a mailbox answers, its limits, what it leaves, the lesson of pl_queue's README, and two lanes
+//! from two threads.
+
+use crate::lines::LaneLines;
+use crate::tests::answering::Answer::{self, Full, Nothing, Sent, Took};
+use crate::tests::boxes::{BoxKind, answers_by, lines_by, may_wait_by, refusal_by, relay_by};
+use crate::tests::left_tests::{assert_account, left_by, one_is_left};
+use crate::tests::relays::{Lanes, data_lane};
+use pl_event::{ByteString, Event, Item, Message};
+use pl_queue::OpenRefusal;
+use std::alloc::Global;
+use std::marker::Brand;
+use std::process::Abort;
+use std::sync::Wait;
+use std::test::*;
+use std::thread::Threads;
+
+// It takes what has room, and gives what it has: bodies that always answer `Full` or None would be proved. A ring that is
+// offered one too many is full; a waiting box would wait for ever.
+fn always_full_or_none<R: Wait + Abort>(rt: &R, alloc: Global, kind: BoxKind) -> Result<(), Fail> {
+    let ring = [
+        Nothing,
+        Sent,
+        Sent,
+        Full,
+        Took(0),
+        Took(1),
+        Nothing,
+        Nothing,
+    ];
+    let waiting = [Nothing, Sent, Sent, Took(0), Took(1), Nothing];
+    let (offers, expected) = match kind {
+        BoxKind::Ring => (3, ring.as_slice()),
+        BoxKind::Waiting => (2, waiting.as_slice()),
+    };
+    let answers = answers_by::<Brand, R>(kind, rt, alloc, offers).ok_or("no memory")?;
+    assert_eq!(rt; answers.as_slice(), expected);
+    Ok(())
+}
+
+fn mailbox_limits(rt: &impl Abort, alloc: Global, kind: BoxKind) -> Result<(), Fail> {
+    let limit = Some(OpenRefusal::Limit);
+    assert_eq!(rt; refusal_by::<Brand>(kind, alloc, 1, 1, 0), limit);
+    assert_eq!(rt; refusal_by::<Brand>(kind, alloc, 1, 1, 1), None);
+    assert_eq!(rt; refusal_by::<Brand>(kind, alloc, 1, 1, 65_536), None);
+    assert_eq!(rt; refusal_by::<Brand>(kind, alloc, 1, 1, 65_537), limit);
+    assert_eq!(rt; refusal_by::<Brand>(kind, alloc, 8_192, 1, 1), None);
+    assert_eq!(rt; refusal_by::<Brand>(kind, alloc, 8_193, 1, 1), limit);
+    assert_eq!(rt; refusal_by::<Brand>(kind, alloc, 8_192, 65_535, 1), None);
+    assert_eq!(rt; refusal_by::<Brand>(kind, alloc, 1, 65_536, 1), limit);
+    Ok(())
+}
+
+fn one_left<R: Wait + Abort>(rt: &R, alloc: Global, kind: BoxKind) -> Result<(), Fail> {
+    one_is_left(rt, left_by(rt, alloc, kind).ok().ok_or("it stopped")?)
+}
+
+fn line(alloc: Global, text: &str) -> Result<ByteString, Fail> {
+    Ok(ByteString::from_vec(Vec::from_slice(alloc, text.as_bytes())?))
+}
+
+fn read(alloc: Global, text: &str) -> Result<Item, Fail> {
+    Ok(Item::Event(Event::Read(Message::Line(line(alloc, text)?))))
+}
+
+// Each lane's lines come in order, and then its end.
+fn two_threads_hand_over<R: Threads + Wait + Abort + Sync>(
+    rt: &R,
+    alloc: Global,
+    kind: BoxKind,
+) -> Result<(), Fail> {
+    let first = data_lane(0);
+    let lines = Vec::from_array(alloc, [line(alloc, "one")?, line(alloc, "two")?])?;
+    let others = Vec::from_array(alloc, [line(alloc, "three")?])?;
+    let others = LaneLines {
+        lane: data_lane(1),
+        lines: others,
+    };
+    let lines = LaneLines { lane: first, lines };
+    let taken = lines_by::<Brand, R>(kind, rt, alloc, lines, others);
+    let mut lines = Vec::new(alloc);
+    let mut others = Vec::new(alloc);
+    for envelope in taken.ok_or("no memory")? {
+        if envelope.lane == first {
+            lines.push(envelope.item)?;
+        } else {
+            others.push(envelope.item)?;
+        }
+    }
+    let expected = Vec::from_array(alloc, [read(alloc, "one")?, read(alloc, "two")?, Item::End])?;
+    assert_eq!(rt; lines.as_slice(), expected.as_slice());
+    let expected = Vec::from_array(alloc, [read(alloc, "three")?, Item::End])?;
+    assert_eq!(rt; others.as_slice(), expected.as_slice());
+    Ok(())
+}
+
+// Each lane comes as the numbers 0 to 999, with their items, and nothing is left.
+fn two_lanes_one_mailbox<R: Threads + Wait + Abort + Sync>(
+    rt: &R,
+    alloc: Global,
+    kind: BoxKind,
+) -> Result<(), Fail> {
+    let lanes = Lanes {
+        first: data_lane(0),
+        second: data_lane(1),
+        last: 999,
+    };
+    let relayed = relay_by::<Brand, R>(kind, rt, alloc, lanes, 2).ok_or("it gave up")?;
+    let mut nexts = Vec::from_array(alloc, [0u64, 0])?;
+    for envelope in relayed.taken.as_slice() {
+        let channel = usize::from(envelope.lane.channel);
+        assert!(rt; channel < nexts.len());
+        assert_eq!(rt; envelope.lane, data_lane(envelope.lane.channel));
+        assert_eq!(rt; envelope.number, nexts[channel]);
+        let expected = match envelope.number {
+            0 => Item::Event(Event::Active),
+            999 => Item::End,
+            _ => Item::Event(Event::ReadComplete),
+        };
+        assert_eq!(rt; envelope.item, expected);
+        nexts[channel] = nexts[channel].saturating_add(1);
+    }
+    assert_eq!(rt; nexts.as_slice(), [1000, 1000].as_slice());
+    assert_account(rt, &relayed, 2, 1000, 1000, 0);
+    Ok(())
+}
+
+#[test]
+fn always_full_or_none_ring(rt: HostRuntime) -> Result<(), Fail> {
+    always_full_or_none(&rt, rt.alloc(), BoxKind::Ring)
+}
+
+#[test]
+fn always_full_or_none_waiting(rt: HostRuntime) -> Result<(), Fail> {
+    always_full_or_none(&rt, rt.alloc(), BoxKind::Waiting)
+}
+
+#[test]
+fn mailbox_limits_ring(rt: HostRuntime) -> Result<(), Fail> {
+    mailbox_limits(&rt, rt.alloc(), BoxKind::Ring)
+}
+
+#[test]
+fn mailbox_limits_waiting(rt: HostRuntime) -> Result<(), Fail> {
+    mailbox_limits(&rt, rt.alloc(), BoxKind::Waiting)
+}
+
+#[test]
+fn one_left_ring(rt: HostRuntime) -> Result<(), Fail> {
+    one_left(&rt, rt.alloc(), BoxKind::Ring)
+}
+
+#[test]
+fn one_left_waiting(rt: HostRuntime) -> Result<(), Fail> {
+    one_left(&rt, rt.alloc(), BoxKind::Waiting)
+}
+
+#[test]
+fn two_threads_hand_over_lines_ring(rt: HostRuntime) -> Result<(), Fail> {
+    two_threads_hand_over(&rt, rt.alloc(), BoxKind::Ring)
+}
+
+#[test]
+fn two_threads_hand_over_lines_waiting(rt: HostRuntime) -> Result<(), Fail> {
+    two_threads_hand_over(&rt, rt.alloc(), BoxKind::Waiting)
+}
+
+#[test]
+fn two_lanes_one_mailbox_ring(rt: HostRuntime) -> Result<(), Fail> {
+    two_lanes_one_mailbox(&rt, rt.alloc(), BoxKind::Ring)
+}
+
+#[test]
+fn two_lanes_one_mailbox_waiting(rt: HostRuntime) -> Result<(), Fail> {
+    two_lanes_one_mailbox(&rt, rt.alloc(), BoxKind::Waiting)
+}
+
+#[test]
+fn waiting_for_room(rt: HostRuntime) -> Result<(), Fail> {
+    assert!(rt; !may_wait_by::<Brand>(BoxKind::Ring));
+    assert!(rt; may_wait_by::<Brand>(BoxKind::Waiting));
+    Ok(())
+}
