@@ -25,8 +25,7 @@ fn assert_answer(rt: &(impl Abort + AllocGlobal), text: &str, fault: Option<Sess
 /// The session of one PING with another text in place of a part of it has this answer.
 fn assert_replaced(
     rt: &(impl Abort + AllocGlobal),
-    part: &str,
-    other: &str,
+    (part, other): (&str, &str),
     fault: Option<SessionFault>,
 ) -> Result<(), Fail> {
     let text = PING_SESSION.replace(rt.alloc(), part, other)?;
@@ -238,10 +237,10 @@ fn hostile_members(rt: HostRuntime) -> Result<(), Fail> {
         let other = format!(in rt.alloc();
             "\"version\":{version},\"capacity\":{capacity},\"loops\":{loops}"
         )?;
-        assert_replaced(&rt, part, other.as_str(), fault)?;
+        assert_replaced(&rt, (part, other.as_str()), fault)?;
     }
-    assert_replaced(&rt, r#"[{"handlers""#, r#"[7,{"handlers""#, KIND)?;
-    assert_replaced(&rt, r#"{"handlers""#, r#"{"more""#, MISSING)?;
+    assert_replaced(&rt, (r#"[{"handlers""#, r#"[7,{"handlers""#), KIND)?;
+    assert_replaced(&rt, (r#"{"handlers""#, r#"{"more""#), MISSING)?;
     Ok(())
 }
 
@@ -267,7 +266,7 @@ fn hostile_edits(rt: HostRuntime) -> Result<(), Fail> {
         (last, r#""kind":"decode","group":null"#, None),
     ] {
         let other = format!(in rt.alloc(); "{edit},{kind}")?;
-        assert_replaced(&rt, part.as_str(), other.as_str(), fault)?;
+        assert_replaced(&rt, (part.as_str(), other.as_str()), fault)?;
     }
     for (max, fault) in [
         ("0", LIMIT),
@@ -276,7 +275,7 @@ fn hostile_edits(rt: HostRuntime) -> Result<(), Fail> {
         ("null", KIND),
     ] {
         let other = format!(in rt.alloc(); "\"max\":{max}")?;
-        assert_replaced(&rt, r#""max":64"#, other.as_str(), fault)?;
+        assert_replaced(&rt, (r#""max":64"#, other.as_str()), fault)?;
     }
     Ok(())
 }
@@ -310,7 +309,7 @@ fn hostile_channels(rt: HostRuntime) -> Result<(), Fail> {
         ("abort_after", "4294967296", LIMIT),
     ] {
         let other = format!(in rt.alloc(); "\"{member}\":{value},\"bursts\":")?;
-        assert_replaced(&rt, r#""bursts":"#, other.as_str(), fault)?;
+        assert_replaced(&rt, (r#""bursts":"#, other.as_str()), fault)?;
     }
     let ping = r#""bursts":[["PING\r\n"]]"#;
     for (members, bursts, fault) in [
@@ -332,7 +331,7 @@ fn hostile_channels(rt: HostRuntime) -> Result<(), Fail> {
         (r#""abort_after":"x","fail_at":0,"#, ping, LIMIT),
     ] {
         let other = format!(in rt.alloc(); "{members}{bursts}")?;
-        assert_replaced(&rt, ping, other.as_str(), fault)?;
+        assert_replaced(&rt, (ping, other.as_str()), fault)?;
     }
     Ok(())
 }
@@ -343,7 +342,7 @@ fn numbers_that_are_not_whole(rt: HostRuntime) -> Result<(), Fail> {
         for part in [r#""loops":1"#, r#""max":64"#] {
             let (member, _) = part.split_once(':').ok_or("a member has a colon")?;
             let other = format!(in rt.alloc(); "{member}:{number}")?;
-            assert_replaced(&rt, part, other.as_str(), Some(SessionFault::Kind))?;
+            assert_replaced(&rt, (part, other.as_str()), Some(SessionFault::Kind))?;
         }
     }
     Ok(())
@@ -357,7 +356,7 @@ fn texts_that_are_no_json(rt: HostRuntime) -> Result<(), Fail> {
         ("{\"version\"", "\u{feff}{\"version\""),
         ("]}]}", "]}]} 7"),
     ] {
-        assert_replaced(&rt, part, other, Some(SessionFault::NotJson))?;
+        assert_replaced(&rt, (part, other), Some(SessionFault::NotJson))?;
     }
     Ok(())
 }
@@ -638,7 +637,7 @@ fn group_refusals(rt: HostRuntime) -> Result<(), Fail> {
         (r#""loops":1,"groups":[{"name":"","size":1}]"#, limit),
         (r#""loops":1,"groups":[{"name":"g","size":15}]"#, None),
     ] {
-        assert_replaced(&rt, r#""loops":1"#, other, fault)?;
+        assert_replaced(&rt, (r#""loops":1"#, other), fault)?;
     }
     Ok(())
 }
