@@ -27,7 +27,7 @@ fn two_readers(alloc: Global) -> Result<(Words, HeadSeats, Reader, Reader), Fail
     Ok((words, heads, first, second))
 }
 
-/// Two readers.
+/// The two readers of a list, in order.
 pub(crate) fn pair(mut readers: Vec<Reader>) -> (Reader, Reader)
     requires { length readers.items ≡ 2 }
     ensures { readers.items ≡ result.0 ∷ result.1 ∷ [] }
