@@ -1,5 +1,5 @@
 -- A world that knows the lanes of a recorded channel knows them for its handlers, its tail and its head.
-use Rattle.std.proofs.Common.{◌≡◌, ℕ, ◌+◌, ◌<◌, ◌≤◌, ◌^◌, Bool, true, false, List, length, map, refl, sym, ap, subst, ◌∙◌, arith}
+use Rattle.std.proofs.Common.{◌≡◌, ℕ, ◌+◌, ◌<◌, ◌≤◌, Bool, true, false, List, length, map, refl, sym, ap, subst, ◌∙◌, arith}
 use Rattle.std.specs.Prelude.{slice_get, Some, Option, option_map}
 use Rattle.std.proofs.lemmas.List.{length-map}
 use Rattle.std.proofs.lemmas.Option.{slice_get_within, slice_get-map}
@@ -24,6 +24,7 @@ use Rattle.pl_world.specs.Plans.{ChannelPlan, channel_planned, content, tail_hop
 use Rattle.pl_world.specs.PlanRules.{IsSmallChannel}
 use Rattle.pl_channel.proofs.Lists.{only-one}
 use Rattle.pl_channel.proofs.Contents.{content-input, content-up, content-down, content-turn}
+use Rattle.pl_event.specs.declared.limits.TheConstants.{MAX_ITEMS}
 
 -- a world knows the lanes of a channel with this plan
 abbrev pub Knows : World → ℕ → ChannelPlan → Type 0
@@ -82,8 +83,8 @@ module _ {S T : Type 0} (meaning : S → Meaning) (stands_after : S → List Eve
       up = λ has. knows (i + 1) (omega (arith, sizes.1, within)) ∙ ap Some above;
       down = λ has. ap (λ (hop : ℕ). content_of world (data_lane number hop)) (turn-down (meaning stage).direction i k up has).1 ∙ behind ∙ ap Some (below has);
       few = small i (omega (arith, sizes.1, within));
-      few_up = λ has. subst (λ (xs : List Event). length xs + 1 < 2 ^ 31) above (small (i + 1) (omega (arith, sizes.1, within)));
-      few_down = λ has. subst (λ (xs : List Event). length xs + 1 < 2 ^ 31) (below has) (small (tail_hop p + 1) (omega (arith, sizes)));
+      few_up = λ has. subst (λ (xs : List Event). length xs + 1 < MAX_ITEMS) above (small (i + 1) (omega (arith, sizes.1, within)));
+      few_down = λ has. subst (λ (xs : List Event). length xs + 1 < MAX_ITEMS) (below has) (small (tail_hop p + 1) (omega (arith, sizes)));
     };
   })
     where
@@ -121,7 +122,7 @@ module _ {S T : Type 0} (meaning : S → Meaning) (stands_after : S → List Eve
           ∙ knows (k + 2 + i) (omega (arith, sizes.1, within)) ∙ ap Some below;
       few = small (k + 1 + i) (omega (arith, sizes.1, within));
       few_up = λ has. absurd (no (out-down (meaning stage).direction (k + 1 + i) k down).1 has);
-      few_down = λ has. subst (λ (xs : List Event). length xs + 1 < 2 ^ 31) below (small (k + 2 + i) (omega (arith, sizes.1, within)));
+      few_down = λ has. subst (λ (xs : List Event). length xs + 1 < MAX_ITEMS) below (small (k + 2 + i) (omega (arith, sizes.1, within)));
     };
   }
     where
@@ -149,8 +150,8 @@ module _ {S T : Type 0} (meaning : S → Meaning) (stands_after : S → List Eve
     planned_outbound = outbound-planned;
   })
 
-  pub few-input : length (recorded_input r.input.bursts) + 1 < 2 ^ 31
-  few-input = subst (λ (xs : List Event). length xs + 1 < 2 ^ 31) (content-input p) (small 0 (omega arith))
+  pub few-input : length (recorded_input r.input.bursts) + 1 < MAX_ITEMS
+  few-input = subst (λ (xs : List Event). length xs + 1 < MAX_ITEMS) (content-input p) (small 0 (omega arith))
 
   pub head-planned : IsHeadPlanned world r.input number (head_hop p)
   head-planned = record {

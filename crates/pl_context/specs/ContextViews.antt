@@ -11,6 +11,7 @@ use Rattle.pl_context.specs.declared.contexts.TheConstants.{MAX_HANDLERS}
 use Rattle.pl_context.specs.declared.ports.Port.{Port}
 use Rattle.pl_context.specs.declared.standing.Standing.{Standing}
 use Rattle.pl_context.specs.declared.standing.Standing.TheVariants as stands
+use Rattle.pl_event.specs.declared.limits.TheConstants.{MAX_ITEMS}
 
 -- A stage at its place: taken counts the items of its data lane, flags_taken those of its flags lane.
 pub record ContextView (S : Type 0) : Type 0 where
@@ -84,7 +85,7 @@ taken_of c lane =
 
 -- a lane has fewer items than this
 abbrev pub number_limit : Kind → ℕ
-number_limit Data = 2 ^ 31
+number_limit Data = MAX_ITEMS
 number_limit Flags = 2 ^ 32
 
 -- the lanes on which it may still put something
@@ -111,10 +112,10 @@ one_of Flags Flags = 1
 -- The numbers that a lane was given stay in their bounds, no more flags went on than came, and the buffers are
 -- empty.
 pub record IsContext (taken flags_taken : ℕ) (up down flags : Port) (up_events down_events : List Event) : Type 0 where
-  pub above : up.is_open ≡ true → up.made ≤ 2 ^ 31
-  pub below : down.is_open ≡ true → down.made ≤ 2 ^ 31
+  pub above : up.is_open ≡ true → up.made ≤ MAX_ITEMS
+  pub below : down.is_open ≡ true → down.made ≤ MAX_ITEMS
   pub aside : flags.is_open ≡ true → flags.made ≤ flags_taken
-  pub counts : taken ≤ 2 ^ 31
+  pub counts : taken ≤ MAX_ITEMS
   pub flag_counts : flags_taken ≤ 2 ^ 32
   pub up_empty : up_events ≡ []
   pub down_empty : down_events ≡ []

@@ -1,5 +1,5 @@
 -- Contexts: how one stands after a list of events, and what it puts out.
-use Rattle.std.specs.Prelude.{◌≡◌, ◌+◌, ◌≤◌, ◌<◌, ◌^◌, List, [], ◌∷◌, ◌++◌, length, Bool, true, false}
+use Rattle.std.specs.Prelude.{◌≡◌, ◌+◌, ◌≤◌, ◌<◌, List, [], ◌∷◌, ◌++◌, length, Bool, true, false}
 use Rattle.pl_event.specs.declared.events.Event.{Event}
 use Rattle.pl_event.specs.declared.outcomes.Cause.TheVariants.{Memory}
 use Rattle.pl_event.specs.declared.envelopes.Kind.{Kind}
@@ -16,6 +16,7 @@ use Rattle.pl_context.specs.declared.standing.Took.TheVariants as took
 use Rattle.pl_context.specs.OutputsViews.{OutputsView, PutsAll, Appends}
 use Rattle.pl_context.specs.Ports.{as_items, end_after, offered, put_out, port_after, FlagPasses}
 use Rattle.pl_context.specs.ContextViews.{ContextView}
+use Rattle.pl_event.specs.declared.limits.TheConstants.{MAX_ITEMS}
 
 -- What a stage makes of an event x after the events xs, as items of its two lanes: its end goes down where it has quit.
 abbrev pub ups : Meaning → List Event → Event → List Item
@@ -58,8 +59,8 @@ module _ {S : Type 0} (meaning : S → Meaning) (stands_after : S → List Event
   -- What an event after these makes has numbers below 2^31.
   pub record IsSmall (stage : S) (up down : Port) (xs : List Event) (x : Event) : Type 0 where
     pub stands : stands_after stage xs
-    pub above : up.is_open ≡ true → up.made + length (ups (meaning stage) xs x) ≤ 2 ^ 31
-    pub below : down.is_open ≡ true → down.made + length (downs (meaning stage) xs x) ≤ 2 ^ 31
+    pub above : up.is_open ≡ true → up.made + length (ups (meaning stage) xs x) ≤ MAX_ITEMS
+    pub below : down.is_open ≡ true → down.made + length (downs (meaning stage) xs x) ≤ MAX_ITEMS
 
   -- An event was run: after whichever events the context stood, it has put out what its stage makes of this one, with
   -- the next numbers, and stands after those and this one.

@@ -12,6 +12,7 @@ use Rattle.pl_context.specs.declared.standing.Standing.{Standing}
 use Rattle.pl_context.specs.declared.standing.Standing.TheVariants as stands
 use Rattle.pl_context.specs.declared.standing.Took.{Took}
 use Rattle.pl_context.specs.declared.standing.Took.TheVariants as took
+use Rattle.pl_event.specs.declared.limits.TheConstants.{MAX_ITEMS}
 
 -- For how many more events, and more flags, there is room without a growth, stands beside them.
 pub record TailView : Type 0 where
@@ -105,5 +106,5 @@ pub record SamePlace (t t' : TailView) : Type 0 where
 
 -- counts stay in their bounds
 pub record IsTail (taken flags_taken : ℕ) : Type 0 where
-  pub counts : taken ≤ 2 ^ 31
+  pub counts : taken ≤ MAX_ITEMS
   pub flag_counts : flags_taken ≤ 2 ^ 32

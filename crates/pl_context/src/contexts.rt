@@ -14,6 +14,7 @@ ghost use Rattle.pl_context.specs.Ports.{end_after, as_items, port_after, put_ou
 ghost use Rattle.pl_context.specs.ContextViews.{IsHop, SamePlace, new_context, has_up, has_down, down_hop, Enters, kind_taken, one_of, taken_of, number_limit, open_lanes};
 ghost use Rattle.pl_context.specs.Standings.{is_over, has_failed};
 ghost use Rattle.pl_context.specs.Contexts.{StandsAfter, MakesFew, Runs, Closes, TakesEvent, TakesItem, TakesFlag, counted, offers, ups, downs, last_item, IsSmall};
+ghost use Rattle.pl_event.specs.declared.limits.TheConstants.{MAX_ITEMS};
 
 use crate::outputs::Outputs;
 use crate::ports::Port;
@@ -180,7 +181,7 @@ impl<S: Stage> Context<S> {
 
     /// Takes an item of the data lane.
     fn take_item(&mut self, item: Item, outputs: &mut Outputs) -> Took
-        requires limit { self.old.taken < 2 ^ 31 }
+        requires limit { self.old.taken < MAX_ITEMS }
         requires few { self.old.standing ≡ stands.Open → MakesFew S.meaning S.stands_after self.old item }
         requires places { HasPlaces outputs.old.stopped (open_lanes self.old) }
         ensures meaning { S.meaning self.new.stage ≡ S.meaning self.old.stage }
@@ -316,8 +317,8 @@ fn put_made(
 ) -> Result<(), StageFault>
     requires place_up { up.old.is_open ≡ true → HasPlaces outputs.old.stopped (up.old.lane ∷ []) }
     requires place_down { down.old.is_open ≡ true → HasPlaces outputs.old.stopped (down.old.lane ∷ []) }
-    requires few_up { up.old.is_open ≡ true → up.old.made + length above.old.items ≤ 2 ^ 31 }
-    requires few_down { down.old.is_open ≡ true → down.old.made + length below.old.items + length (end_after turned) ≤ 2 ^ 31 }
+    requires few_up { up.old.is_open ≡ true → up.old.made + length above.old.items ≤ MAX_ITEMS }
+    requires few_down { down.old.is_open ≡ true → down.old.made + length below.old.items + length (end_after turned) ≤ MAX_ITEMS }
     ensures up_empty { above.new.items ≡ [] }
     ensures down_empty { below.new.items ≡ [] }
     ensures up { OnOk result (up.new ≡ port_after (as_items above.old.items) up.old) }

@@ -8,6 +8,7 @@ ghost use Rattle.pl_context.specs.declared.standing.Took.TheVariants as took;
 ghost use Rattle.pl_context.specs.Standings.{is_over, has_failed, cause_of};
 ghost use Rattle.pl_context.specs.ContextViews.{number_limit, one_of};
 ghost use Rattle.pl_context.specs.TailViews.{new_tail, EntersTail, kind_taken, taken_of, counted, RecordsItem, RecordsFlagItem, RecordsFlag, SamePlace};
+ghost use Rattle.pl_event.specs.declared.limits.TheConstants.{MAX_ITEMS};
 
 use crate::standing::{Standing, Took};
 use pl_event::{Cause, Envelope, Event, Item, Kind, Lane, Sequence};
@@ -140,7 +141,7 @@ impl Tail {
 
     /// Takes an item of the data lane.
     fn take_item(&mut self, item: Item) -> Took
-        requires { self.old.taken < 2 ^ 31 }
+        requires { self.old.taken < MAX_ITEMS }
         ensures place { SamePlace (counted kind.Data self.old) self.new }
         ensures open { self.old.standing ≡ stands.Open → RecordsItem (counted kind.Data self.old) item result self.new }
         ensures ended { self.old.standing ≡ stands.Ended → (result ≡ took.Ran) × (self.new ≡ counted kind.Data self.old) }

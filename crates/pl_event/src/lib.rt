@@ -46,7 +46,7 @@ pub use events::{Caught, Command, Event, Fault, Message, Reply};
 pub use fitting_laws::fitting_law;
 pub use keys::{Key, MAX_KEY_LENGTH};
 pub use lane_laws::lane_law;
-pub use limits::{MAX_CAPACITY, MAX_HANDLERS};
+pub use limits::{MAX_CAPACITY, MAX_HANDLERS, MAX_ITEMS};
 pub use mappings::{MapDown, MapUp, Mapping};
 pub use named::Named;
 pub use outcomes::{Cause, Outcome};

@@ -1,5 +1,5 @@
 -- Which items may stand at a number: a failure wherever an item does, an end behind the last event.
-use Rattle.std.proofs.Common.{◌≡◌, ℕ, zero, suc, ◌≤◌, ◌<◌, ◌+◌, ◌^◌, List, [], ◌∷◌, length, slice_get, Some, true, refl, sym, ap, subst, arith}
+use Rattle.std.proofs.Common.{◌≡◌, ℕ, zero, suc, ◌≤◌, ◌<◌, ◌+◌, List, [], ◌∷◌, length, slice_get, Some, true, refl, sym, ap, subst, arith}
 use Rattle.pl_event.specs.declared.envelopes.Envelope.{Envelope}
 use Rattle.pl_event.specs.declared.envelopes.Item.{Item}
 use Rattle.pl_event.specs.declared.envelopes.Item.TheVariants as item
@@ -12,6 +12,7 @@ use Rattle.pl_event.specs.Fitting.{Fits}
 use Rattle.pl_event.specs.Worlds.{World, FitsAsKind, FitsWorld, MayCome, content_of, may_fail}
 use Rattle.pl_context.specs.OutputsViews.{failure_of, stand_in}
 use Rattle.pl_flow.specs.Flows.{IsGood}
+use Rattle.pl_event.specs.declared.limits.TheConstants.{MAX_ITEMS}
 
 within : (events : List Event) (n : ℕ) (e : Event) → slice_get events n ≡ Some e → n ≤ length events
 within [] n e at = cc
@@ -46,7 +47,7 @@ stand_in-data x kind = ap (λ (k : Kind). elim k as (λ (z : Kind). List Envelop
 pub stand_in-flags : (x : Envelope) → x.lane.kind ≡ Flags → stand_in x ≡ []
 stand_in-flags x kind = ap (λ (k : Kind). elim k as (λ (z : Kind). List Envelope) [ Data ↦ record x { item = failure_of x.item } ∷ [] | Flags ↦ [] ]) kind
 
-module _ (world : World) (lane : Lane) (events : List Event) (n : ℕ) (kind : lane.kind ≡ Data) (content : content_of world lane ≡ Some events) (few : length events + 1 < 2 ^ 31) where
+module _ (world : World) (lane : Lane) (events : List Event) (n : ℕ) (kind : lane.kind ≡ Data) (content : content_of world lane ≡ Some events) (few : length events + 1 < MAX_ITEMS) where
   -- a failure may stand up to the end of its lane
   pub failure-good : (cause : Cause) → may_fail world cause ≡ true → n ≤ length events → IsGood world (record { lane = lane; number = n; item = item.Fail cause })
   unfolding FitsWorld

@@ -1,5 +1,5 @@
 -- What a stage makes of the next event of its lane is next on its own lanes.
-use Rattle.std.proofs.Common.{◌≡◌, ℕ, ◌+◌, ◌<◌, ◌^◌, true, false, List, [], ◌∷◌, ◌++◌, length, Some, slice_get, refl, ap, sym, ◌∙◌, subst, arith, append_assoc, length-append}
+use Rattle.std.proofs.Common.{◌≡◌, ℕ, ◌+◌, ◌<◌, true, false, List, [], ◌∷◌, ◌++◌, length, Some, slice_get, refl, ap, sym, ◌∙◌, subst, arith, append_assoc, length-append}
 use Rattle.pl_event.specs.declared.events.Event.{Event}
 use Rattle.pl_event.specs.declared.envelopes.Kind.TheVariants.{Data}
 use Rattle.pl_event.specs.declared.envelopes.Item.TheVariants as item
@@ -9,12 +9,13 @@ use Rattle.pl_context.specs.Ports.{as_items}
 use Rattle.pl_event.specs.Worlds.{World, FitsAsKind, FitsWorld, content_of}
 use Rattle.pl_flow.specs.Flows.{IsGood}
 use Rattle.pl_flow.specs.Makes.{AreGood}
+use Rattle.pl_event.specs.declared.limits.TheConstants.{MAX_ITEMS}
 
 at-end : (a : List Event) (x : Event) (rest : List Event) → slice_get (a ++ x ∷ rest) (length a) ≡ Some x
 at-end [] x rest = refl
 at-end (y ∷ a) x rest = at-end a x rest
 
-module _ (world : World) (lane : Lane) (content : List Event) (kind : lane.kind ≡ Data) (is : content_of world lane ≡ Some content) (few : length content + 1 < 2 ^ 31) where
+module _ (world : World) (lane : Lane) (content : List Event) (kind : lane.kind ≡ Data) (is : content_of world lane ≡ Some content) (few : length content + 1 < MAX_ITEMS) where
   event-good : (a : List Event) (x : Event) (rest : List Event) (n : ℕ) → a ++ x ∷ rest ≡ content → n ≡ length a → IsGood world (record { lane = lane; number = n; item = item.Event x })
   unfolding FitsWorld
   event-good a x rest n whole count = record {
@@ -47,13 +48,13 @@ made-within f events before after x whole =
     )
 
 -- What is made upwards of event n of a lane is next upwards, where as much was made of those before it.
-pub ups-good : (world : World) (m : Meaning) (lane : Lane) (events before after : List Event) (x : Event) (made : ℕ) → lane.kind ≡ Data → content_of world lane ≡ Some (up_of m events) → length (up_of m events) + 1 < 2 ^ 31
+pub ups-good : (world : World) (m : Meaning) (lane : Lane) (events before after : List Event) (x : Event) (made : ℕ) → lane.kind ≡ Data → content_of world lane ≡ Some (up_of m events) → length (up_of m events) + 1 < MAX_ITEMS
     → before ++ x ∷ after ≡ events → made ≡ length (up_of m before) → AreGood world lane made (as_items (m.up before x))
 ups-good world m lane events before after x made kind is few whole count =
     let w = made-within m.up events before after x whole in
     events-good world lane (up_of m events) kind is few (up_of m before) (m.up before x) w.0 made w.1 count
 
-pub downs-good : (world : World) (m : Meaning) (lane : Lane) (events before after : List Event) (x : Event) (made : ℕ) → lane.kind ≡ Data → content_of world lane ≡ Some (down_of m events) → length (down_of m events) + 1 < 2 ^ 31
+pub downs-good : (world : World) (m : Meaning) (lane : Lane) (events before after : List Event) (x : Event) (made : ℕ) → lane.kind ≡ Data → content_of world lane ≡ Some (down_of m events) → length (down_of m events) + 1 < MAX_ITEMS
     → before ++ x ∷ after ≡ events → made ≡ length (down_of m before) → AreGood world lane made (as_items (m.down before x))
 downs-good world m lane events before after x made kind is few whole count =
     let w = made-within m.down events before after x whole in

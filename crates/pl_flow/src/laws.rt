@@ -1,6 +1,6 @@
 //! What holds of flows, and of what nodes make. No one calls these: their contracts are the laws.
 
-ghost use Rattle.std.specs.Prelude.{◌≡◌, ◌+◌, ◌<◌, ◌≤◌, ◌^◌, ℕ, Bool, List, ◌∷◌, ◌++◌, length, Some, false, true};
+ghost use Rattle.std.specs.Prelude.{◌≡◌, ◌+◌, ◌<◌, ◌≤◌, ℕ, Bool, List, ◌∷◌, ◌++◌, length, Some, false, true};
 ghost use Rattle.pl_event.specs.declared.events.Event.{Event};
 ghost use Rattle.pl_event.specs.declared.envelopes.Envelope.{Envelope};
 ghost use Rattle.pl_event.specs.declared.envelopes.Item.TheVariants as item;
@@ -13,6 +13,7 @@ ghost use Rattle.pl_context.specs.OutputsViews.{OutputsView, PutsAll, Appends, f
 ghost use Rattle.pl_context.specs.Ports.{as_items};
 ghost use Rattle.pl_flow.specs.Flows.{Point, on, IsGood, IsFlow, past};
 ghost use Rattle.pl_flow.specs.Makes.{AreGood, AreNext, NoneStopped, Makes, made_all};
+ghost use Rattle.pl_event.specs.declared.limits.TheConstants.{MAX_ITEMS};
 
 /// Items that follow a point, and then items that follow those, follow it together.
 pub fn flow_law()
@@ -23,9 +24,9 @@ pub fn flow_law()
 /// event.
 pub fn item_law()
     ensures stand_in { (world : World) (x : Envelope) → x.lane.kind ≡ Data → IsGood world x → IsGood world (record x { item = failure_of x.item }) }
-    ensures failure { (world : World) (lane : Lane) (events : List Event) (n : ℕ) (cause : Cause) → lane.kind ≡ Data → content_of world lane ≡ Some events → length events + 1 < 2 ^ 31
+    ensures failure { (world : World) (lane : Lane) (events : List Event) (n : ℕ) (cause : Cause) → lane.kind ≡ Data → content_of world lane ≡ Some events → length events + 1 < MAX_ITEMS
         → may_fail world cause ≡ true → n ≤ length events → IsGood world (record { lane = lane; number = n; item = item.Fail cause }) }
-    ensures end { (world : World) (lane : Lane) (events : List Event) (n : ℕ) → lane.kind ≡ Data → content_of world lane ≡ Some events → length events + 1 < 2 ^ 31
+    ensures end { (world : World) (lane : Lane) (events : List Event) (n : ℕ) → lane.kind ≡ Data → content_of world lane ≡ Some events → length events + 1 < MAX_ITEMS
         → n ≡ length events → IsGood world (record { lane = lane; number = n; item = item.End }) }
 {}
 
@@ -43,7 +44,7 @@ pub fn make_law()
 /// What a stage makes of the next event of its lane is next on its own lanes, where as much was made of those before it.
 pub fn stage_flow_law()
     ensures up { (world : World) (m : Meaning) (lane : Lane) (events before after : List Event) (x : Event) (made : ℕ) → lane.kind ≡ Data → content_of world lane ≡ Some (up_of m events)
-        → length (up_of m events) + 1 < 2 ^ 31 → before ++ x ∷ after ≡ events → made ≡ length (up_of m before) → AreGood world lane made (as_items (m.up before x)) }
+        → length (up_of m events) + 1 < MAX_ITEMS → before ++ x ∷ after ≡ events → made ≡ length (up_of m before) → AreGood world lane made (as_items (m.up before x)) }
     ensures down { (world : World) (m : Meaning) (lane : Lane) (events before after : List Event) (x : Event) (made : ℕ) → lane.kind ≡ Data → content_of world lane ≡ Some (down_of m events)
-        → length (down_of m events) + 1 < 2 ^ 31 → before ++ x ∷ after ≡ events → made ≡ length (down_of m before) → AreGood world lane made (as_items (m.down before x)) }
+        → length (down_of m events) + 1 < MAX_ITEMS → before ++ x ∷ after ≡ events → made ≡ length (down_of m before) → AreGood world lane made (as_items (m.down before x)) }
 {}

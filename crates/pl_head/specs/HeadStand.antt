@@ -29,6 +29,7 @@ use Rattle.pl_head.specs.Settling.{AreSettled}
 use Rattle.pl_head.specs.Buffers.{OutboundBufferView, BufferStands, BufferFailed, event_sizes}
 use Rattle.pl_head.specs.ReadSteps.{entrance, is_burst, bursts_read}
 use Rattle.pl_head.specs.InputStand.{InputView, InputStands, failed_input}
+use Rattle.pl_event.specs.declared.limits.TheConstants.{MAX_ITEMS}
 
 -- The end of a channel at its transport: how many items of its lane it has taken, how that lane ended, why the head
 -- failed by itself, whether the lane has ended or failed since then, what waits to be written, and what is left to read.
@@ -182,7 +183,7 @@ pub record IsHead (channel taken : ℕ) (failure : Option Cause) (is_closed : Bo
   pub lane : b.flags.lane ≡ flags_lane channel 0
   pub entrance_is : input.port.lane ≡ entrance channel
   pub pending : b.pending ≤ taken * 2 ^ 64
-  pub few : taken ≤ 2 ^ 31
+  pub few : taken ≤ MAX_ITEMS
   pub few_flags : b.flags.made + (if b.is_unwritable then 1 else 0) ≤ 2 * taken
   pub numbering : failure ≡ None → b.is_full ≡ false
   pub closed : failure ≡ None → is_closed ≡ false

@@ -1,5 +1,5 @@
 -- What contracts see of a recorded input that is read step by step, and how many of its read steps were made.
-use Rattle.std.specs.Prelude.{◌≡◌, ℕ, zero, suc, ◌+◌, ◌-◌, ◌<◌, ◌≤◌, ◌^◌, List, [], ◌∷◌, length, drop, Bool, true, false, ◌&&◌, if◌then◌else◌}
+use Rattle.std.specs.Prelude.{◌≡◌, ℕ, zero, suc, ◌+◌, ◌-◌, ◌<◌, ◌≤◌, List, [], ◌∷◌, length, drop, Bool, true, false, ◌&&◌, if◌then◌else◌}
 use Rattle.std.specs.List.{flat_map}
 use Rattle.pl_event.specs.declared.events.Event.TheVariants as event
 use Rattle.pl_event.specs.declared.envelopes.Item.{Item}
@@ -9,6 +9,7 @@ use Rattle.pl_context.specs.declared.ports.Port.{Port}
 use Rattle.pl_context.specs.Ports.{as_items, port_after}
 use Rattle.pl_head.specs.declared.inputs.ReadPlan.{ReadPlan}
 use Rattle.pl_head.specs.ReadSteps.{entrance, read_items, bursts_read, is_aborted, plan_steps, has_step}
+use Rattle.pl_event.specs.declared.limits.TheConstants.{MAX_ITEMS}
 
 -- The lane that the items are given to, closed once the end or a failure was; the bursts that are left; how many steps
 -- were made; and whether an abort comes after the bursts, in the place of the end.
@@ -82,4 +83,4 @@ items_left (suc n) left = length (flat_map burst_events left) + 1
 -- numbers stay in their bounds
 pub record IsInput (port : Port) (left : List (List (List ℕ))) (steps : ℕ) : Type 0 where
   pub counts : steps ≤ port.made
-  pub few : port.is_open ≡ true → port.made + items_left steps left < 2 ^ 31
+  pub few : port.is_open ≡ true → port.made + items_left steps left < MAX_ITEMS

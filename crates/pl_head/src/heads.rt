@@ -1,6 +1,6 @@
 //! The end of a channel at its transport.
 
-ghost use Rattle.std.specs.Prelude.{◌≡◌, ℕ, ◌+◌, ◌≤◌, ◌<◌, ◌^◌, ◌↔◌, ◌≢◌, ◌∷◌, ◌++◌, ◌⊎◌, ◌&&◌, List, [], length, take, min, Bool, true, false, Option, Some, None, IsSome, IfSome, IfNone, IfOk, is_some, not, ◌||◌, slice_index_or};
+ghost use Rattle.std.specs.Prelude.{◌≡◌, ℕ, ◌+◌, ◌≤◌, ◌<◌, ◌↔◌, ◌≢◌, ◌∷◌, ◌++◌, ◌⊎◌, ◌&&◌, List, [], length, take, min, Bool, true, false, Option, Some, None, IsSome, IfSome, IfNone, IfOk, is_some, not, ◌||◌, slice_index_or};
 ghost use Rattle.pl_event.specs.declared.events.Event.{Event};
 ghost use Rattle.pl_event.specs.declared.outcomes.Cause.TheVariants.{Aborted};
 ghost use Rattle.pl_event.specs.Inputs.{recorded_input};
@@ -20,6 +20,7 @@ ghost use Rattle.pl_event.specs.Worlds.{closes};
 ghost use Rattle.pl_head.specs.MarksStand.{SendsFlags};
 ghost use Rattle.pl_head.specs.Transports.{counted, FailsNext};
 ghost use Rattle.pl_head.specs.HeadStand.{first_cause};
+ghost use Rattle.pl_event.specs.declared.limits.TheConstants.{MAX_ITEMS};
 
 use crate::inputs::{Input, ReadPlan};
 use crate::outbound_buffer::OutboundBuffer;
@@ -105,7 +106,7 @@ impl<T: Transport> Head<T> {
     ) -> Self
         requires marks { low ≤ high }
         requires fresh { (T.state transport).accepted ≡ [] }
-        requires few { length (recorded_input input.bursts) + 1 < 2 ^ 31 }
+        requires few { length (recorded_input input.bursts) + 1 < MAX_ITEMS }
         ensures stands { StandsAfter T.state result [] [] [] }
         ensures reads { ReadsStand input 0 false result }
         ensures entrance { result.input.port.lane ≡ entrance channel }
@@ -241,7 +242,7 @@ impl<T: Transport> Head<T> {
     pub fn take(&mut self, envelope: Envelope, outputs: &mut Outputs) -> Took
         requires enters { EntersHead self.old envelope.lane }
         requires number { envelope.number ≡ self.old.taken }
-        requires limit { envelope.number < 2 ^ 31 }
+        requires limit { envelope.number < MAX_ITEMS }
         requires places { HasPlaces outputs.old.stopped (flags_lane self.old.channel 0 ∷ []) }
         ensures taken { self.new.taken ≡ self.old.taken + 1 }
         ensures answer { lane_over self.old ≡ false → Answers (is_some self.old.failure) envelope.item result }
@@ -284,7 +285,7 @@ impl<T: Transport> Head<T> {
     fn take_open(&mut self, item: Item, outputs: &mut Outputs) -> Took
         requires open { self.old.standing ≡ stands.Open }
         requires not_closed { self.old.is_closed ≡ false }
-        requires limit { self.old.taken < 2 ^ 31 }
+        requires limit { self.old.taken < MAX_ITEMS }
         requires places { HasPlaces outputs.old.stopped (flags_lane self.old.channel 0 ∷ []) }
         ensures answer { Answers (is_some self.old.failure) item result }
         ensures stands { (ys zs : List Event) (sizes : List Change) → StandsAfter T.state self.old ys zs sizes

@@ -8,6 +8,7 @@ ghost use Rattle.pl_event.specs.declared.envelopes.Item.TheVariants as item;
 ghost use Rattle.pl_context.specs.Ports.{as_items, numbered, offered, port_after};
 ghost use Rattle.pl_head.specs.ReadSteps.{step_items, is_burst, is_abort, bursts_before, bursts_read, has_step};
 ghost use Rattle.pl_head.specs.InputStand.{InputStands, new_input, next_items, left_after, burst_next, abort_next, last_next, input_after_step, failed_input, items_left};
+ghost use Rattle.pl_event.specs.declared.limits.TheConstants.{MAX_ITEMS};
 
 use pl_context::{Outputs, Port};
 use pl_event::{ByteString, Cause, Envelope, Event, Item, Kind, Message, Sequence};
@@ -48,7 +49,7 @@ impl Model for Input {
 impl Input {
     /// No read step was made of this plan. With the end all its bursts bring fewer than 2^31 items.
     pub(crate) fn new(channel: u16, plan: ReadPlan) -> Self
-        requires { length (recorded_input plan.bursts) + 1 < 2 ^ 31 }
+        requires { length (recorded_input plan.bursts) + 1 < MAX_ITEMS }
         ensures reading { result ≡ new_input channel plan }
         ensures stands { InputStands plan 0 false result }
     {
@@ -145,7 +146,7 @@ fn put_next(
 )
     requires open { port.old.is_open ≡ true }
     requires place { HasPlaces outputs.old.stopped (port.old.lane ∷ []) }
-    requires few { port.old.made + items_left steps (reverse left.old.items) < 2 ^ 31 }
+    requires few { port.old.made + items_left steps (reverse left.old.items) < MAX_ITEMS }
     ensures port { port.new ≡ port_after (next_items steps (reverse left.old.items)) port.old }
     ensures left { reverse left.new.items ≡ left_after steps (reverse left.old.items) }
     ensures puts { PutsAll outputs.old (numbered port.old.lane port.old.made (next_items steps (reverse left.old.items))) outputs.new }

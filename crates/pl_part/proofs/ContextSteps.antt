@@ -39,6 +39,7 @@ use Rattle.pl_part.specs.ContextHolds.{HoldsWith, context_writes, context_came}
 use Rattle.pl_part.proofs.EventLists.{split-at, fits-within, length-items, made-le, made-more, length-end, goes-on-end, still-closed, ends-good}
 use Rattle.pl_part.proofs.ItemFits.{data-fits, data-may, flag-fits, within-limit}
 use Rattle.pl_part.proofs.PortMakes.{both-put, both-append, flag-put}
+use Rattle.pl_event.specs.declared.limits.TheConstants.{MAX_ITEMS}
 
 pub and-left : (a b : Bool) → (a && b) ≡ true → a ≡ true
 and-left true b e = refl
@@ -58,7 +59,7 @@ next-take : (n : ℕ) (events : List Event) → take (n + 1) events ≡ take (su
 next-take n events = let same : n + 1 ≡ suc n = omega arith in ap (λ k. take k events) same
 
 -- how many items a port was given, once it was given more
-made-few : (n m : ℕ) (o : Bool) → m ≤ 2 ^ 31 → (o ≡ true → m + n ≤ 2 ^ 31) → cond o (m + n) m ≤ 2 ^ 31
+made-few : (n m : ℕ) (o : Bool) → m ≤ MAX_ITEMS → (o ≡ true → m + n ≤ MAX_ITEMS) → cond o (m + n) m ≤ MAX_ITEMS
 made-few n m true still more = more refl
 made-few n m false still more = still
 
@@ -70,7 +71,7 @@ module _ {S : Type 0} (world : World) (meaning : S → Meaning) (stands_after : 
       × Makes world (context_writes (meaning c.stage).direction c) (context_came (meaning c.stage).direction c) (context_came (meaning c.stage).direction c') b a
 
   -- one item more of its data lane is few
-  taken-few : (i : Item) → Fits events c.taken i → c.taken + 1 ≤ 2 ^ 31
+  taken-few : (i : Item) → Fits events c.taken i → c.taken + 1 ≤ MAX_ITEMS
   taken-few i fits = let within = fits-within events c.taken i fits in let few = h.wired.few in omega (arith, within, few)
 
   module _ (live : c.standing ≡ stands.Open) where
@@ -91,14 +92,14 @@ module _ {S : Type 0} (world : World) (meaning : S → Meaning) (stands_after : 
           let size = length-items (f (take c.taken events) x) in
           omega (arith, more, size)
 
-      small-up : c.up.is_open ≡ true → c.up.made + length (ups (meaning c.stage) (take c.taken events) x) ≤ 2 ^ 31
+      small-up : c.up.is_open ≡ true → c.up.made + length (ups (meaning c.stage) (take c.taken events) x) ≤ MAX_ITEMS
       small-up o =
           let made = (h.stood live).above o in
           let more = made-within (meaning c.stage).up in
           let few = h.wired.few_up (up-has o) in
           omega (arith, made, more, few)
 
-      small-down : c.down.is_open ≡ true → c.down.made + length (downs (meaning c.stage) (take c.taken events) x) ≤ 2 ^ 31
+      small-down : c.down.is_open ≡ true → c.down.made + length (downs (meaning c.stage) (take c.taken events) x) ≤ MAX_ITEMS
       small-down o =
           let made = (h.stood live).below o in
           let more = made-within (meaning c.stage).down in
@@ -166,21 +167,21 @@ module _ {S : Type 0} (world : World) (meaning : S → Meaning) (stands_after : 
     -- ---- the last item of its lanes
 
     -- one item more of a lane is few
-    last-up : c.up.is_open ≡ true → c.up.made + 1 ≤ 2 ^ 31
+    last-up : c.up.is_open ≡ true → c.up.made + 1 ≤ MAX_ITEMS
     last-up o =
         let made = (h.stood live).above o in
         let le = made-le (meaning c.stage).up c.taken events in
         let few = h.wired.few_up (up-has o) in
         omega (arith, made, le, few)
 
-    last-down : c.down.is_open ≡ true → c.down.made + 1 ≤ 2 ^ 31
+    last-down : c.down.is_open ≡ true → c.down.made + 1 ≤ MAX_ITEMS
     last-down o =
         let made = (h.stood live).below o in
         let le = made-le (meaning c.stage).down c.taken events in
         let few = h.wired.few_down (down-has o) in
         omega (arith, made, le, few)
 
-    closing : (standing : Standing) → is_over standing ≡ true → (st : S) (t : ℕ) (fb : Bool) → t ≤ 2 ^ 31 → meaning st ≡ meaning c.stage → (fb ≡ true → has_failed standing ≡ true)
+    closing : (standing : Standing) → is_over standing ≡ true → (st : S) (t : ℕ) (fb : Bool) → t ≤ MAX_ITEMS → meaning st ≡ meaning c.stage → (fb ≡ true → has_failed standing ≡ true)
         → (c.up.is_open ≡ true → IsGood world (record { lane = c.up.lane; number = c.up.made; item = last_item standing }))
         → (c.down.is_open ≡ true → IsGood world (record { lane = c.down.lane; number = c.down.made; item = last_item standing }))
         → (b a : OutputsView) (c' : ContextView S) → Closes standing (record c { stage = st; taken = t; failed_by_call = fb }) b c' a → Stepped b c' a
@@ -216,7 +217,7 @@ module _ {S : Type 0} (world : World) (meaning : S → Meaning) (stands_after : 
     not-called : (standing : Standing) → c.failed_by_call ≡ true → has_failed standing ≡ true
     not-called standing e = absurd (open-failed c.standing live (h.by_call e))
 
-    failing : (cause : Cause) → may_fail world cause ≡ true → (st : S) (t : ℕ) (fb : Bool) → t ≤ 2 ^ 31 → meaning st ≡ meaning c.stage → (b a : OutputsView) (c' : ContextView S)
+    failing : (cause : Cause) → may_fail world cause ≡ true → (st : S) (t : ℕ) (fb : Bool) → t ≤ MAX_ITEMS → meaning st ≡ meaning c.stage → (b a : OutputsView) (c' : ContextView S)
         → Closes (stands.Failed cause) (record c { stage = st; taken = t; failed_by_call = fb }) b c' a → Stepped b c' a
     failing cause may st t fb small meant b a c' k = closing (stands.Failed cause) refl st t fb small meant (λ e. refl)
         (λ o. let made = (h.stood live).above o in let le = made-le (meaning c.stage).up c.taken events in
@@ -258,7 +259,7 @@ module _ {S : Type 0} (world : World) (meaning : S → Meaning) (stands_after : 
   failed-over stands.Ended e = refl
   failed-over (stands.Failed cause) e = refl
 
-  counted-over : is_over c.standing ≡ true → c.taken + 1 ≤ 2 ^ 31 → (b a : OutputsView) (c' : ContextView S) → c' ≡ counted Data c → a ≡ b → Stepped b c' a
+  counted-over : is_over c.standing ≡ true → c.taken + 1 ≤ MAX_ITEMS → (b a : OutputsView) (c' : ContextView S) → c' ≡ counted Data c → a ≡ b → Stepped b c' a
   counted-over over small b a c' same none = (
     subst (λ (y : ContextView S). HoldsWith world meaning stands_after (meaning c.stage) events y) (sym same) (record {
       meant = refl;
@@ -306,7 +307,7 @@ module _ {S : Type 0} (world : World) (meaning : S → Meaning) (stands_after : 
         (makes-none world (context_writes (meaning c.stage).direction c) (context_came (meaning c.stage).direction c) b b refl refl),
   )
 
-  dropped : (k : Kind) → has_failed c.standing ≡ true → (k ≡ Data → c.taken + 1 ≤ 2 ^ 31) → (k ≡ Flags → c.flags_taken < 2 ^ 32) → (b a : OutputsView) (c' : ContextView S) → c' ≡ counted k c → a ≡ b → Stepped b c' a
+  dropped : (k : Kind) → has_failed c.standing ≡ true → (k ≡ Data → c.taken + 1 ≤ MAX_ITEMS) → (k ≡ Flags → c.flags_taken < 2 ^ 32) → (b a : OutputsView) (c' : ContextView S) → c' ≡ counted k c → a ≡ b → Stepped b c' a
   dropped Data f items flags b a c' same none = counted-over (failed-over c.standing f) (items refl) b a c' same none
   dropped Flags f items flags b a c' same none = counted-flag (λ o. f) (flags refl) b a c' same none
 
@@ -375,7 +376,7 @@ module _ {S : Type 0} (world : World) (meaning : S → Meaning) (stands_after : 
         small : e.lane.kind ≡ Flags → c.flags_taken < 2 ^ 32
         small is = subst (λ n. n < 2 ^ 32) (here Flags is) good.small
 
-        next : e.lane.kind ≡ Data → c.taken + 1 ≤ 2 ^ 31
+        next : e.lane.kind ≡ Data → c.taken + 1 ≤ MAX_ITEMS
         next is = taken-few e.item (next-fits is)
 
         by : (k : Kind) → e.lane.kind ≡ k → (s : Standing) → c.standing ≡ s → Stepped b c' a

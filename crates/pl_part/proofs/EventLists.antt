@@ -1,5 +1,5 @@
 -- The events of a lane around one of them, and what is made of them.
-use Rattle.std.proofs.Common.{◌≡◌, ℕ, zero, suc, ◌+◌, ◌<◌, ◌≤◌, ◌^◌, Bool, true, false, not, ◌&&◌, cond, List, [], ◌∷◌, ◌++◌, length, take, drop, Some, refl, ap, sym, ◌∙◌, subst, arith, append_assoc, length-append}
+use Rattle.std.proofs.Common.{◌≡◌, ℕ, zero, suc, ◌+◌, ◌<◌, ◌≤◌, Bool, true, false, not, ◌&&◌, cond, List, [], ◌∷◌, ◌++◌, length, take, drop, Some, refl, ap, sym, ◌∙◌, subst, arith, append_assoc, length-append}
 use Rattle.std.specs.List.{slice_get}
 use Rattle.std.proofs.lemmas.List.{length-map, take-append-drop}
 use Rattle.std.proofs.lemmas.Option.{slice_get_within}
@@ -18,6 +18,7 @@ use Rattle.pl_event.specs.Worlds.{World, content_of}
 use Rattle.pl_flow.specs.Flows.{IsGood}
 use Rattle.pl_flow.specs.Makes.{AreGood}
 use Rattle.pl_flow.proofs.ItemLemmas.{end-good}
+use Rattle.pl_event.specs.declared.limits.TheConstants.{MAX_ITEMS}
 
 pub some-equal : {A : Type 0} (a b : A) → Some a ≡ Some b → a ≡ b
 some-equal a b e = cc
@@ -99,7 +100,7 @@ good-then world lane (x ∷ xs) js n good more =
     (good.0, (λ e. absurd (both_ways true e refl)), good-then world lane xs js (n + 1) good.2 (subst (λ k. AreGood world lane k js) same more))
 
 -- What is made downwards of an event, with the end where the stage has quit, is good.
-pub ends-good : (world : World) (m : Meaning) (law : IsLawful m) (lane : Lane) (events before rest : List Event) (x : Event) (made : ℕ) → lane.kind ≡ Data → content_of world lane ≡ Some (down_of m events) → length (down_of m events) + 1 < 2 ^ 31
+pub ends-good : (world : World) (m : Meaning) (law : IsLawful m) (lane : Lane) (events before rest : List Event) (x : Event) (made : ℕ) → lane.kind ≡ Data → content_of world lane ≡ Some (down_of m events) → length (down_of m events) + 1 < MAX_ITEMS
     → before ++ x ∷ rest ≡ events → made ≡ length (down_of m before) → AreGood world lane made (as_items (m.down before x))
     → AreGood world lane made (as_items (m.down before x) ++ end_after (turned_after m (before ++ x ∷ [])))
 ends-good world m law lane events before rest x made kind is few whole count good =

@@ -1,5 +1,5 @@
 -- An item that may stand in its lane is the next of what that lane carries.
-use Rattle.std.proofs.Common.{◌≡◌, ℕ, ◌+◌, ◌<◌, ◌^◌, List, length, Some, refl, ap, sym, ◌∙◌, subst, arith}
+use Rattle.std.proofs.Common.{◌≡◌, ℕ, ◌+◌, ◌<◌, List, length, Some, refl, ap, sym, ◌∙◌, subst, arith}
 use Rattle.pl_event.specs.declared.events.Event.{Event}
 use Rattle.pl_event.specs.declared.envelopes.Envelope.{Envelope}
 use Rattle.pl_event.specs.declared.envelopes.Kind.{Kind}
@@ -10,6 +10,7 @@ use Rattle.pl_event.specs.Worlds.{World, FitsWorld, FitsAsKind, MayCome, content
 use Rattle.pl_context.specs.ContextViews.{number_limit}
 use Rattle.pl_flow.specs.Flows.{IsGood}
 use Rattle.pl_part.proofs.EventLists.{some-equal, fits-within}
+use Rattle.pl_event.specs.declared.limits.TheConstants.{MAX_ITEMS}
 
 module _ (world : World) (e : Envelope) (good : IsGood world e) where
   pub flag-fits : e.lane.kind ≡ Flags → (n : ℕ) → e.number ≡ n → FitsAsFlag n e.item
@@ -30,7 +31,7 @@ module _ (world : World) (e : Envelope) (good : IsGood world e) where
         subst (λ (y : List Event × ℕ). Fits y.0 y.1 e.item) (λ i. (all i, number i)) f.2
 
     -- its number is below the limit of its kind
-    pub within-limit : length events + 1 < 2 ^ 31 → (e.lane.kind ≡ Data → e.number ≡ n) → e.number < number_limit e.lane.kind
+    pub within-limit : length events + 1 < MAX_ITEMS → (e.lane.kind ≡ Data → e.number ≡ n) → e.number < number_limit e.lane.kind
     within-limit few number = by e.lane.kind refl
       where
         by : (k : Kind) → e.lane.kind ≡ k → e.number < number_limit k

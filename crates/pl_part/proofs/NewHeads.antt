@@ -1,5 +1,5 @@
 -- A head that has taken nothing.
-use Rattle.std.proofs.Common.{◌≡◌, ℕ, ◌+◌, ◌<◌, ◌^◌, Bool, true, false, ◌||◌, cond, not, [], length, None, refl, sym, ap, ap₂, ◌∙◌, subst, arith}
+use Rattle.std.proofs.Common.{◌≡◌, ℕ, ◌+◌, ◌<◌, Bool, true, false, ◌||◌, cond, not, [], length, None, refl, sym, ap, ap₂, ◌∙◌, subst, arith}
 use Rattle.std.proofs.lemmas.Bool.{lt-leb, lt-ltb}
 use Rattle.pl_event.specs.declared.envelopes.Lane.{Lane}
 use Rattle.pl_event.specs.Hops.{same_lane, data_lane, flags_lane}
@@ -17,6 +17,7 @@ use Rattle.pl_part.specs.ContextHolds.{port_point}
 use Rattle.pl_part.specs.TailHolds.{MayFailFor}
 use Rattle.pl_part.specs.HeadHolds.{HeadHolds, IsHeadPlanned, head_writes, head_came, head_taken}
 use Rattle.pl_part.proofs.HeadTaken.{took-none}
+use Rattle.pl_event.specs.declared.limits.TheConstants.{MAX_ITEMS}
 
 -- what `Head::new` says of a head
 pub record IsFresh {T : Type 0} (state : T → TransportState) (plan : ReadPlan) (channel hop : ℕ) (h : HeadView T) : Type 0 where
@@ -31,7 +32,7 @@ pub record IsFresh {T : Type 0} (state : T → TransportState) (plan : ReadPlan)
   pub few : HasFewFlags h
 
 module _ {T : Type 0} (state : T → TransportState) (plan : ReadPlan) (channel hop : ℕ) (h : HeadView T) (new : IsFresh state plan channel hop h) where
-  pub new-holds : (world : World) → IsHeadPlanned world plan channel hop → length (recorded_input plan.bursts) + 1 < 2 ^ 31 → HeadHolds state world h
+  pub new-holds : (world : World) → IsHeadPlanned world plan channel hop → length (recorded_input plan.bursts) + 1 < MAX_ITEMS → HeadHolds state world h
   new-holds world p few = record {
     plan = plan;
     events = p.events;

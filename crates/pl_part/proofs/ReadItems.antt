@@ -1,5 +1,5 @@
 -- What read steps bring fits on the first lane of a channel.
-use Rattle.std.proofs.Common.{◌≡◌, ℕ, ◌+◌, ◌≤◌, ◌<◌, ◌^◌, Bool, true, false, List, [], ◌∷◌, ◌++◌, length, take, drop, get_or, refl, sym, ap, ◌∙◌, arith, append-nil, append_assoc, length-append, Option, Some, None}
+use Rattle.std.proofs.Common.{◌≡◌, ℕ, ◌+◌, ◌≤◌, ◌<◌, Bool, true, false, List, [], ◌∷◌, ◌++◌, length, take, drop, get_or, refl, sym, ap, ◌∙◌, arith, append-nil, append_assoc, length-append, Option, Some, None}
 use Rattle.std.specs.Prelude.{◌&&◌, if◌then◌else◌, nat_le, is_some}
 use Rattle.std.specs.List.{flat_map}
 use Rattle.std.proofs.lemmas.List.{take_more, take-append-drop}
@@ -18,6 +18,7 @@ use Rattle.pl_flow.proofs.StageFlows.{events-good}
 use Rattle.pl_head.specs.declared.inputs.ReadPlan.{ReadPlan}
 use Rattle.pl_head.specs.ReadSteps.{step_count, end_if, step_items, read_items, bursts_before, bursts_read, plan_steps, is_abort}
 use Rattle.pl_part.proofs.EventLists.{good-then}
+use Rattle.pl_event.specs.declared.limits.TheConstants.{MAX_ITEMS}
 
 abbrev whole : List Event → List Event
 whole step = step
@@ -100,7 +101,7 @@ module _ (p : ReadPlan) (n : ℕ) (within : n < plan_steps p) where
       not-both false b e f = refl
 
   -- Its items may stand there, where it is not the abort.
-  pub step-good : (world : World) (lane : Lane) → lane.kind ≡ Data → content_of world lane ≡ Some (recorded_input p.bursts) → length (recorded_input p.bursts) + 1 < 2 ^ 31 → is_abort p n ≡ false
+  pub step-good : (world : World) (lane : Lane) → lane.kind ≡ Data → content_of world lane ≡ Some (recorded_input p.bursts) → length (recorded_input p.bursts) + 1 < MAX_ITEMS → is_abort p n ≡ false
       → AreGood world lane (read_items (bursts_read p) n) (step_items (bursts_read p) n)
   step-good world lane kind is few off =
       good-then world lane step (end_if (nat_le (step_count bursts) (n + 1))) (read_items bursts n)

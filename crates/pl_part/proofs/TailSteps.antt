@@ -27,6 +27,7 @@ use Rattle.pl_event.specs.Hops.{data_lane}
 use Rattle.pl_part.specs.TailHolds.{TailHoldsWith, Alternate}
 use Rattle.pl_part.proofs.EventLists.{split-at, fits-within}
 use Rattle.pl_part.proofs.ItemFits.{data-fits, data-may, flag-fits, within-limit}
+use Rattle.pl_event.specs.declared.limits.TheConstants.{MAX_ITEMS}
 
 pub alternate-more : (n : ℕ) (bs : List Bool) (b : Bool) → Alternate n bs → b ≡ ((n + length bs) % 2 == 1) → Alternate n (bs ++ b ∷ [])
 alternate-more n [] b h e = let same : n + 0 ≡ n = omega arith in (e ∙ ap (λ k. k % 2 == 1) same, tt)
@@ -44,7 +45,7 @@ module _ (world : World) (events : List Event) (t : TailView) (h : TailHoldsWith
   -- ---- its data lane
 
   -- one item more is few
-  taken-few : (i : Item) → Fits events t.taken i → t.taken + 1 ≤ 2 ^ 31
+  taken-few : (i : Item) → Fits events t.taken i → t.taken + 1 ≤ MAX_ITEMS
   taken-few i fits = let within = fits-within events t.taken i fits in let few = h.few in omega (arith, within, few)
 
   recorded : t.standing ≡ stands.Open → (x : Event) → slice_get events t.taken ≡ Some x → (room : ℕ) → Held (record t { taken = t.taken + 1; events = t.events ++ x ∷ []; room = room })
@@ -94,7 +95,7 @@ module _ (world : World) (events : List Event) (t : TailView) (h : TailHoldsWith
     few_flags = h.few_flags;
   }
 
-  counted-over : is_over t.standing ≡ true → t.taken + 1 ≤ 2 ^ 31 → Held (counted Data t)
+  counted-over : is_over t.standing ≡ true → t.taken + 1 ≤ MAX_ITEMS → Held (counted Data t)
   counted-over over small = record {
     own = h.own;
     few = h.few;
@@ -165,7 +166,7 @@ module _ (world : World) (events : List Event) (t : TailView) (h : TailHoldsWith
   flags-taken small item.End fits f t' r = absurd fits
   flags-taken small (item.Fail cause) fits f t' r = absurd fits
 
-  dropped : (k : Kind) → has_failed t.standing ≡ true → (k ≡ Data → t.taken + 1 ≤ 2 ^ 31) → (k ≡ Flags → t.flags_taken < 2 ^ 32) → Held (counted k t)
+  dropped : (k : Kind) → has_failed t.standing ≡ true → (k ≡ Data → t.taken + 1 ≤ MAX_ITEMS) → (k ≡ Flags → t.flags_taken < 2 ^ 32) → Held (counted k t)
   dropped Data f items flags = counted-over (failed-over t.standing f) (items refl)
     where
       failed-over : (s : Standing) → has_failed s ≡ true → is_over s ≡ true
@@ -197,7 +198,7 @@ module _ (world : World) (events : List Event) (t : TailView) (h : TailHoldsWith
         small : e.lane.kind ≡ Flags → t.flags_taken < 2 ^ 32
         small is = subst (λ n. n < 2 ^ 32) (here Flags is) good.small
 
-        next : e.lane.kind ≡ Data → t.taken + 1 ≤ 2 ^ 31
+        next : e.lane.kind ≡ Data → t.taken + 1 ≤ MAX_ITEMS
         next is = taken-few e.item (next-fits is)
 
         by : (k : Kind) → e.lane.kind ≡ k → (s : Standing) → t.standing ≡ s → Held t'
@@ -209,7 +210,7 @@ module _ (world : World) (events : List Event) (t : TailView) (h : TailHoldsWith
 
 -- ---- one that has taken nothing
 
-pub new-holds : (world : World) (channel k : ℕ) (events : List Event) → content_of world (data_lane channel k) ≡ Some events → length events + 1 < 2 ^ 31 → TailHoldsWith world events (new_tail channel k)
+pub new-holds : (world : World) (channel k : ℕ) (events : List Event) → content_of world (data_lane channel k) ≡ Some events → length events + 1 < MAX_ITEMS → TailHoldsWith world events (new_tail channel k)
 new-holds world channel k events own few = record {
   own = own;
   few = few;

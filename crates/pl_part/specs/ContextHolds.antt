@@ -13,6 +13,7 @@ use Rattle.pl_context.specs.Contexts.{StandsAfter}
 use Rattle.pl_event.specs.Hops.{same_lane, data_lane}
 use Rattle.pl_event.specs.Worlds.{World, content_of}
 use Rattle.pl_flow.specs.Flows.{Point, point, nowhere}
+use Rattle.pl_event.specs.declared.limits.TheConstants.{MAX_ITEMS}
 
 -- ---- the lanes of three ports, of which a stage has those upwards, or that downwards, or all
 
@@ -53,16 +54,16 @@ pub record IsWired (world : World) (m : Meaning) (events : List Event) (channel 
   pub flags_kind : aside.kind ≡ Flags
   -- a turn's two data lanes are two
   pub apart : has_up m.direction ≡ true → has_down m.direction ≡ true → same_lane above below ≡ false
-  pub few : length events + 1 < 2 ^ 31
-  pub few_up : has_up m.direction ≡ true → length (up_of m events) + 1 < 2 ^ 31
-  pub few_down : has_down m.direction ≡ true → length (down_of m events) + 1 < 2 ^ 31
+  pub few : length events + 1 < MAX_ITEMS
+  pub few_up : has_up m.direction ≡ true → length (up_of m events) + 1 < MAX_ITEMS
+  pub few_down : has_down m.direction ≡ true → length (down_of m events) + 1 < MAX_ITEMS
 
 -- It took few items, and made few.
 pub record HasFewItems {S : Type 0} (c : ContextView S) : Type 0 where
-  pub taken : c.taken ≤ 2 ^ 31
+  pub taken : c.taken ≤ MAX_ITEMS
   pub flags_taken : c.flags_taken ≤ 2 ^ 32
-  pub up : c.up.made ≤ 2 ^ 31
-  pub down : c.down.made ≤ 2 ^ 31
+  pub up : c.up.made ≤ MAX_ITEMS
+  pub down : c.down.made ≤ MAX_ITEMS
   pub flags : c.flags.made ≤ c.flags_taken
 
 module _ {S : Type 0} (world : World) (meaning : S → Meaning) (stands_after : S → List Event → Type 0) where
@@ -93,6 +94,6 @@ pub record IsPlanned (world : World) (m : Meaning) (events : List Event) (channe
   pub own : content_of world (data_lane channel hop) ≡ Some events
   pub up : has_up m.direction ≡ true → content_of world (data_lane channel (hop + 1)) ≡ Some (up_of m events)
   pub down : has_down m.direction ≡ true → content_of world (data_lane channel (down_hop m.direction hop k)) ≡ Some (down_of m events)
-  pub few : length events + 1 < 2 ^ 31
-  pub few_up : has_up m.direction ≡ true → length (up_of m events) + 1 < 2 ^ 31
-  pub few_down : has_down m.direction ≡ true → length (down_of m events) + 1 < 2 ^ 31
+  pub few : length events + 1 < MAX_ITEMS
+  pub few_up : has_up m.direction ≡ true → length (up_of m events) + 1 < MAX_ITEMS
+  pub few_down : has_down m.direction ≡ true → length (down_of m events) + 1 < MAX_ITEMS

@@ -1,5 +1,5 @@
 -- How a head stands where lanes may fail: what it took of its own lane, what was read, and how far its lanes have come.
-use Rattle.std.specs.Prelude.{◌≡◌, ℕ, ◌+◌, ◌≤◌, ◌<◌, ◌^◌, List, [], ◌∷◌, ◌++◌, length, take, true, false, Bool, ◌||◌, cond, Some}
+use Rattle.std.specs.Prelude.{◌≡◌, ℕ, ◌+◌, ◌≤◌, ◌<◌, List, [], ◌∷◌, ◌++◌, length, take, true, false, Bool, ◌||◌, cond, Some}
 use Rattle.pl_event.specs.declared.events.Event.{Event}
 use Rattle.pl_event.specs.declared.envelopes.Lane.{Lane}
 use Rattle.pl_event.specs.Hops.{same_lane, data_lane, flags_lane}
@@ -14,6 +14,7 @@ use Rattle.pl_head.specs.Transports.{TransportState}
 use Rattle.pl_head.specs.HeadStand.{HeadView, StandsAfter, ReadsStand, HasFewFlags, lane_over}
 use Rattle.pl_part.specs.ContextHolds.{port_point}
 use Rattle.pl_part.specs.TailHolds.{MayFailFor}
+use Rattle.pl_event.specs.declared.limits.TheConstants.{MAX_ITEMS}
 
 -- ---- its lanes: that of its reads, and that of its flags
 
@@ -54,7 +55,7 @@ module _ {T : Type 0} (state : T → TransportState) where
   -- It holds, where its lane carries these events and it reads by this plan.
   pub record HeadHoldsWith (world : World) (plan : ReadPlan) (events : List Event) (h : HeadView T) : Type 0 where
     pub own : content_of world (data_lane h.channel h.hop) ≡ Some events
-    pub few : length events + 1 < 2 ^ 31
+    pub few : length events + 1 < MAX_ITEMS
     pub took : HeadTook events h
     pub most : h.taken ≤ length events + 1
     -- why its lane has failed, and why it has by itself
@@ -62,7 +63,7 @@ module _ {T : Type 0} (state : T → TransportState) where
     pub may_itself : MayFailFor world h.failure
     -- its reads bring what the first lane carries, and their port is of that lane
     pub input : content_of world (data_lane h.channel 0) ≡ Some (recorded_input plan.bursts)
-    pub few_input : length (recorded_input plan.bursts) + 1 < 2 ^ 31
+    pub few_input : length (recorded_input plan.bursts) + 1 < MAX_ITEMS
     pub reads : (reads : ℕ) × (failed : Bool) × ReadsStand plan reads failed h
     pub entrance : h.input.port.lane ≡ data_lane h.channel 0
     -- so are its flags
@@ -80,5 +81,5 @@ module _ {T : Type 0} (state : T → TransportState) where
 pub record IsHeadPlanned (world : World) (plan : ReadPlan) (channel hop : ℕ) : Type 0 where
   pub events : List Event
   pub own : content_of world (data_lane channel hop) ≡ Some events
-  pub few : length events + 1 < 2 ^ 31
+  pub few : length events + 1 < MAX_ITEMS
   pub input : content_of world (data_lane channel 0) ≡ Some (recorded_input plan.bursts)

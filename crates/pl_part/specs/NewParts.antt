@@ -1,5 +1,5 @@
 -- Parts whose nodes have taken nothing, in a world that knows their lanes.
-use Rattle.std.specs.Prelude.{◌≡◌, ℕ, ◌+◌, ◌<◌, ◌^◌, true, false, List, [], ◌∷◌, ◌++◌, get_or, length, slice_get, Option, Some, None}
+use Rattle.std.specs.Prelude.{◌≡◌, ℕ, ◌+◌, ◌<◌, true, false, List, [], ◌∷◌, ◌++◌, get_or, length, slice_get, Option, Some, None}
 use Rattle.pl_event.specs.declared.events.Event.{Event}
 use Rattle.pl_event.specs.declared.envelopes.Kind.{Kind}
 use Rattle.pl_event.specs.declared.envelopes.Lane.{Lane}
@@ -11,6 +11,7 @@ use Rattle.pl_context.specs.ContextViews.{ContextView, IsHop, kind_taken, new_co
 use Rattle.pl_flow.specs.Flows.{point}
 use Rattle.pl_part.specs.ContextHolds.{ContextHolds, IsPlanned, context_writes, context_came}
 use Rattle.pl_part.specs.Paths.{IsAt}
+use Rattle.pl_event.specs.declared.limits.TheConstants.{MAX_ITEMS}
 
 module _ {S : Type 0} (world : World) (meaning : S → Meaning) (channel k turn : ℕ) where
   -- A stage may stand at a hop, and the world knows its lanes there.
@@ -39,7 +40,7 @@ module _ {S : Type 0} (world : World) (meaning : S → Meaning) (channel k turn 
 -- The handlers of a channel may stand at their hops, the tail between them, and the world knows the lanes of each.
 pub record ArePlannedWith {S : Type 0} (world : World) (meaning : S → Meaning) (channel turn : ℕ) (inbound outbound : List S) : Type 0 where
   pub planned_inbound : ArePlanned world meaning channel (length inbound) turn 0 inbound
-  pub planned_tail : (events : List Event) × (content_of world (data_lane channel (length inbound)) ≡ Some events) × (length events + 1 < 2 ^ 31)
+  pub planned_tail : (events : List Event) × (content_of world (data_lane channel (length inbound)) ≡ Some events) × (length events + 1 < MAX_ITEMS)
   pub planned_outbound : ArePlanned world meaning channel (length inbound) turn (length inbound + 1) outbound
 
 module _ {S : Type 0} (meaning : S → Meaning) (channel k : ℕ) where

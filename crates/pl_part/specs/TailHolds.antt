@@ -7,6 +7,7 @@ use Rattle.pl_context.specs.Standings.{has_failed, cause_of}
 use Rattle.pl_context.specs.TailViews.{TailView}
 use Rattle.pl_event.specs.Worlds.{World, content_of, may_fail}
 use Rattle.pl_event.specs.Hops.{data_lane}
+use Rattle.pl_event.specs.declared.limits.TheConstants.{MAX_ITEMS}
 
 -- flags that alternate, flag n the first
 abbrev pub Alternate : ℕ → List Bool → Type 0
@@ -21,7 +22,7 @@ MayFailFor world (Some cause) = may_fail world cause ≡ true
 -- A tail has recorded the first events of its lane: all that it took while it was open, and all there are where it has ended.
 pub record TailHoldsWith (world : World) (events : List Event) (t : TailView) : Type 0 where
   pub own : content_of world (data_lane t.channel t.hop) ≡ Some events
-  pub few : length events + 1 < 2 ^ 31
+  pub few : length events + 1 < MAX_ITEMS
   pub taken : t.standing ≡ stands.Open → (t.taken ≤ length events) × (t.events ≡ take t.taken events)
   pub ended : t.standing ≡ stands.Ended → t.events ≡ events
   pub failed : has_failed t.standing ≡ true → (n : ℕ) × (n ≤ length events) × (t.events ≡ take n events)
@@ -31,7 +32,7 @@ pub record TailHoldsWith (world : World) (events : List Event) (t : TailView) : 
   pub flags_most : length t.flags ≤ t.flags_taken
   pub flags_all : has_failed t.standing ≡ false → t.flags_stopped ≡ false → length t.flags ≡ t.flags_taken
   -- It took few items.
-  pub few_taken : t.taken ≤ 2 ^ 31
+  pub few_taken : t.taken ≤ MAX_ITEMS
   pub few_flags : t.flags_taken ≤ 2 ^ 32
 
 pub record TailHolds (world : World) (t : TailView) : Type 0 where

@@ -1,6 +1,6 @@
 //! The head of a channel, where lanes may fail.
 
-ghost use Rattle.std.specs.Prelude.{◌≡◌, ◌+◌, ◌≤◌, ◌<◌, ◌^◌, List, [], length, false, None};
+ghost use Rattle.std.specs.Prelude.{◌≡◌, ◌+◌, ◌≤◌, ◌<◌, List, [], length, false, None};
 ghost use Rattle.pl_event.specs.Inputs.{recorded_input};
 ghost use Rattle.pl_context.specs.declared.standing.Standing.TheVariants as stands;
 ghost use Rattle.pl_event.specs.declared.envelopes.Lane.{Lane};
@@ -13,6 +13,7 @@ ghost use Rattle.pl_part.specs.HeadHolds.{HeadHolds, IsHeadPlanned, head_writes,
 ghost use Rattle.pl_part.specs.HeadCalls.{HeadTakes, HeadReads, HeadWrites, HeadAborts};
 ghost use Rattle.pl_part.specs.Counts.{head_done};
 ghost use Rattle.pl_part.specs.PartCalls.{HeadGiven};
+ghost use Rattle.pl_event.specs.declared.limits.TheConstants.{MAX_ITEMS};
 
 use pl_context::{Outputs, Took};
 use pl_event::Envelope;
@@ -31,7 +32,7 @@ pub fn new_head<T: Transport>(
 ) -> Head<T>
     requires marks { low ≤ high }
     requires fresh { (T.state transport).accepted ≡ [] }
-    requires few { length (recorded_input input.bursts) + 1 < 2 ^ 31 }
+    requires few { length (recorded_input input.bursts) + 1 < MAX_ITEMS }
     ensures holds { (world : World) → IsHeadPlanned world input channel hop → HeadHolds T.state world result }
     ensures stands { StandsAfter T.state result [] [] [] }
     ensures reads { ReadsStand input 0 false result }

@@ -1,6 +1,6 @@
 -- The lanes of stages that make no more than they take are small, since each byte of the input makes few events. Built-in
 -- handlers are such stages.
-use Rattle.std.proofs.Common.{◌≡◌, get_or, ℕ, zero, suc, ◌+◌, ◌-◌, ◌*◌, ◌<◌, ◌≤◌, ◌^◌, ◌&&◌, nat_le, Bool, true, false, cond, leb, List, [], ◌∷◌, length, take, map, sum_by, ap, ◌∙◌, refl, arith}
+use Rattle.std.proofs.Common.{◌≡◌, get_or, ℕ, zero, suc, ◌+◌, ◌-◌, ◌*◌, ◌<◌, ◌≤◌, ◌&&◌, nat_le, Bool, true, false, cond, leb, List, [], ◌∷◌, length, take, map, sum_by, ap, ◌∙◌, refl, arith}
 use Rattle.std.specs.Prelude.{All}
 use Rattle.std.specs.List.{flat_map}
 use Rattle.std.proofs.lemmas.List.Concat.{flat_map-cons}
@@ -32,6 +32,7 @@ use Rattle.pl_world.specs.declared.limits.TheConstants.{MAX_BURSTS, MAX_CHUNKS, 
 use Rattle.pl_world.specs.Limits.{chunk_count, byte_count, fits, aborts_within, input_fits}
 use Rattle.pl_world.specs.Worlds.{HaveSmallLanes}
 use Rattle.pl_world.proofs.WorldLimits.{Inputs, all_recorded, all_any, within_parts}
+use Rattle.pl_event.specs.declared.limits.TheConstants.{MAX_ITEMS}
 
 -- ---- the recorded input
 
@@ -113,7 +114,7 @@ lane_small inbound outbound xs hop thrifty below out =
 
 -- each lane has few items, where the bursts are within their limits
 pub lanes_small : (inbound outbound : List Meaning) (bursts : List (List (List ℕ))) → All IsThrifty inbound → All IsThrifty outbound → All (λ m. m.direction ≡ Outbound) outbound → fits bursts ≡ true
-    → (hop : ℕ) → length (lane inbound outbound (recorded_input bursts) hop) + 1 < 2 ^ 31
+    → (hop : ℕ) → length (lane inbound outbound (recorded_input bursts) hop) + 1 < MAX_ITEMS
 lanes_small inbound outbound bursts thrifty below out within hop =
     let size = input_weight bursts in
     let h = lane_small inbound outbound (recorded_input bursts) hop thrifty below out in

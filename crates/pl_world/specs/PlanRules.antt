@@ -4,6 +4,7 @@ use Rattle.std.specs.List.{count_by, sum_by}
 use Rattle.pl_event.specs.Meaning.{IsLawful}
 use Rattle.pl_event.specs.Paths.{is_outbound, is_turn}
 use Rattle.pl_world.specs.Plans.{ChannelPlan, Plan, content, head_hop}
+use Rattle.pl_event.specs.declared.limits.TheConstants.{MAX_ITEMS}
 
 -- The inbound chain has the turn, just one, and no outbound stage, and the outbound chain nothing else. Each hop has an
 -- executor that is there.
@@ -27,7 +28,7 @@ lane_count plan = sum_by (λ p. head_hop p + 1) plan.channels
 
 -- Each data lane of a channel has fewer items than this.
 abbrev pub IsSmallChannel : ChannelPlan → Type 0
-IsSmallChannel p = (hop : ℕ) → hop ≤ head_hop p → length (content p hop) + 1 < 2 ^ 31
+IsSmallChannel p = (hop : ℕ) → hop ≤ head_hop p → length (content p hop) + 1 < MAX_ITEMS
 
 -- Each lane of a plan has few items, and there are fewer lanes than 2 ^ 16.
 pub record IsSmallPlan (plan : Plan) : Type 0 where

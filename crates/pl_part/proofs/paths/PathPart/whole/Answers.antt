@@ -1,4 +1,4 @@
-use Rattle.std.proofs.Common.{◌≡◌, ◌+◌, ◌<◌, ◌^◌, ℕ, [], ◌∷◌, ◌++◌, List, Option, None, Some, length, refl, ap, ap₂, sym, subst, ◌∙◌, arith, append_assoc, length-append}
+use Rattle.std.proofs.Common.{◌≡◌, ◌+◌, ◌<◌, ℕ, [], ◌∷◌, ◌++◌, List, Option, None, Some, length, refl, ap, ap₂, sym, subst, ◌∙◌, arith, append_assoc, length-append}
 use Rattle.std.specs.List.{sum_by}
 use Rattle.std.proofs.lemmas.List.Sums.{sum_by_push}
 use Rattle.pl_event.specs.declared.events.Event.{Event}
@@ -13,6 +13,7 @@ use Rattle.pl_part.proofs.EventLists.{some-equal}
 use Rattle.pl_part.proofs.NewContexts.{none-new, none-push}
 use Rattle.pl_part.proofs.TailSteps.{new-holds}
 use Rattle.pl_part.proofs.paths.PathPart.whole.Goals as goal
+use Rattle.pl_event.specs.declared.limits.TheConstants.{MAX_ITEMS}
 
 pub add_contexts-requires-clause-hops : goal.add_contexts-requires-clause-hops
 add_contexts-requires-clause-hops g c = λ i stage e.
@@ -90,7 +91,7 @@ pub returns-clause-holds : goal.returns-clause-holds
 returns-clause-holds g c = λ world planned.
     let k : length c.args.inbound.items ≡ c.len-k.result = omega (arith, c.len-k.ensures, c.args.inbound.ok.0) in
     let are = subst (λ (n : ℕ). AreNew world g.S.Stage.meaning c.args.channel n c.args.turn g.S.Stage.stands_after c.add_contexts-2.new.contexts.items) k (returns-clause-new g c world planned) in
-    let tail = subst (λ (n : ℕ). (events : List Event) × (content_of world (data_lane c.args.channel n) ≡ Some events) × (length events + 1 < 2 ^ 31)) k planned.planned_tail in
+    let tail = subst (λ (n : ℕ). (events : List Event) × (content_of world (data_lane c.args.channel n) ≡ Some events) × (length events + 1 < MAX_ITEMS)) k planned.planned_tail in
     record {
       contexts = λ hop x found. let n = are hop x found in (n.holds, n.at);
       tail = λ t found.
