@@ -35,3 +35,6 @@ loop-preserved g c = record {
       (offer-keeps c.loop.self.outboxes c.offer.new.self c.in-Some-oldest.target c.offer.result c.in_default-offer.not-Handed c.offer.ensures.offers);
   holds = holds-stay c.loop.self c.offer.new.self c.loop.invariant.holds c.offer.ensures.stays;
 }
+
+pub returns-in-Handed-clause-none : goal.returns-in-Handed-clause-none
+returns-in-Handed-clause-none g c = tt

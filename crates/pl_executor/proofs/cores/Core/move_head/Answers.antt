@@ -1,4 +1,4 @@
-use Rattle.std.proofs.Common.{refl, sym, ◌∙◌}
+use Rattle.std.proofs.Common.{Bool, refl, sym, subst, ◌∙◌}
 use Rattle.pl_executor.proofs.AdmissionLemmas.{admits_more}
 use Rattle.pl_executor.proofs.RunLemmas.{places-on, runs-on}
 use Rattle.pl_executor.proofs.cores.Core.move_head.Goals as goal
@@ -20,3 +20,6 @@ work_off-requires g c =
         admits = admits_more g.W.Named.world (g.N.Part.writes part) (g.N.Part.writes part') (g.N.Part.came part) (g.N.Part.came part') o work c.move_head.new.work c.requires.holds.admits c.move_head.ensures.made c.move_head.ensures.keeps.written;
       };
     }
+
+pub returns-clause-enabled : goal.returns-clause-enabled
+returns-clause-enabled g c = subst (λ (b : Bool). g.N.Part.may_move c.args.self.now.part c.args.by c.args.channel b) (cc) c.move_head.ensures.enabled

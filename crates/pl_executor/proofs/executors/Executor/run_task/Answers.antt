@@ -46,3 +46,9 @@ invariant_of-self g c =
       subst (λ (t : TakerView). IsCounting c.self.inside.owner c.self.inside.is_closed c.self.inside.run t.pops) (sym c.in-None.ensures.taken.0) c.self.invariant.5,
       c.self.invariant.6,
     )
+
+pub returns-in-None-clause-task : goal.returns-in-None-clause-task
+returns-in-None-clause-task g c = λ e. absurd (cc)
+
+pub returns-then-self-clause-task : goal.returns-then-self-clause-task
+returns-then-self-clause-task g c = λ e. absurd (cc)

@@ -20,3 +20,6 @@ returns-clause-waits g c = λ y. waits-entries c.in_ok-new.field-0 [] c.in_ok-ne
 
 pub returns-clause-admitted : goal.returns-clause-admitted
 returns-clause-admitted g c = new_admissions c.args.outboxes.items c.requires.new
+
+pub returns-clause-places : goal.returns-clause-places
+returns-clause-places g c = c.in_ok-new.ensures.places

@@ -1,4 +1,4 @@
-use Rattle.std.proofs.Common.{◌≡◌, ◌<◌, List, length, set, refl, sym, subst, ap, ◌∙◌}
+use Rattle.std.proofs.Common.{◌≡◌, ◌==◌, ◌||◌, ◌<◌, List, length, set, refl, sym, subst, ap, ◌∙◌}
 use Rattle.std.proofs.lemmas.Option.{slice_get_read}
 use Rattle.pl_event.specs.declared.envelopes.Envelope.{Envelope}
 use Rattle.pl_context.specs.WaitingViews.{Entry, Holds}
@@ -75,6 +75,9 @@ pub returns-in-Ok-clause-tried : goal.returns-in-Ok-clause-tried
 returns-in-Ok-clause-tried g c = λ y. ap (λ (v : OutboxesView). was_tried v y) c.self.view_is
 
 -- ---- its queue was full
+
+pub returns-in-Err-clause-tried : goal.returns-in-Err-clause-tried
+returns-in-Err-clause-tried g c = λ y. c.add.ensures.tried y ∙ ap (λ (v : OutboxesView). (y == c.args.target) || was_tried v y) c.self.view_is
 
 pub put_back-requires : goal.put_back-requires
 put_back-requires g c =
