@@ -112,7 +112,8 @@ there-within l hops within = ⊎_elim
     ap (λ b. cond b (cond (same_kind l.kind Data) 1 0) 1) is ∙ ap (λ b. cond (b || ((l.hop + 1 == hops) && same_kind l.kind Data)) 1 0) (sym below))
     (cases_eq (l.hop + 1) hops)
 
-there-past : (l : Lane) (hops : ℕ) → hops ≤ l.hop → has_hop hops l ≡ false
+-- none past the last
+pub there-past : (l : Lane) (hops : ℕ) → hops ≤ l.hop → has_hop hops l ≡ false
 there-past l hops past =
     let behind : nat_lt (l.hop + 1) hops ≡ false = le-ltb (l.hop + 1) hops (omega (arith, past)) in
     let not_last : (l.hop + 1 == hops) ≡ false = ne_eqb (l.hop + 1) hops (λ e. omega (arith, e, past)) in

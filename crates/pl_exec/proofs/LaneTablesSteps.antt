@@ -1,9 +1,9 @@
 -- Lists that are made element by element, and which lanes go from one executor to another.
-use Rattle.std.proofs.Common.{◌≡◌, ◌≢◌, ℕ, ◌+◌, ◌<◌, ◌==◌, ◌&&◌, not, Bool, true, false, List, [], ◌∷◌, ◌++◌, cond, length, map, filter, take, get_or, slice_get, Option, Some, refl, inl, inr, ap, sym, ◌∙◌, arith, append_assoc}
+use Rattle.std.proofs.Common.{◌≡◌, ◌≢◌, ℕ, suc, ◌+◌, ◌<◌, ◌≤◌, ◌==◌, ◌&&◌, not, Bool, true, false, List, [], ◌∷◌, ◌++◌, cond, length, map, filter, take, drop, get_or, slice_get, Option, Some, refl, inl, inr, ap, sym, subst, ◌∙◌, arith, add-one, append_assoc, drop-cons}
 use Rattle.std.specs.List.{flat_map, range_with_len}
 use Rattle.std.specs.Option.{option_map_or}
 use Rattle.std.proofs.lemmas.Bool.{cases_lt, false≢true, ne_eqb}
-use Rattle.std.proofs.lemmas.List.{append-nil, map-id, map_push}
+use Rattle.std.proofs.lemmas.List.{append-nil, drop_all, map-id, map_push}
 use Rattle.std.proofs.lemmas.List.Concat.{flat_map-append}
 use Rattle.std.proofs.lemmas.List.Elements.{filter_more}
 use Rattle.std.proofs.lemmas.List.FromFn.{map-range_with_len_more}
@@ -12,8 +12,10 @@ use Rattle.pl_event.specs.declared.envelopes.Lane.{Lane}
 use Rattle.pl_part.specs.Paths.{writer_hop}
 use Rattle.pl_part.specs.Parts.{ChannelPartView}
 use Rattle.pl_replay.specs.Channels.{executor_at, is_hop}
-use Rattle.pl_replay.specs.Placed.{goes_between}
-use Rattle.pl_exec.specs.Lanes.{crosses, is_lane}
+use Rattle.pl_build.specs.declared.limits.TheConstants.{MAX_HANDLERS}
+use Rattle.pl_replay.specs.Placed.{HasExecutors, goes_between}
+use Rattle.pl_exec.specs.Lanes.{AreLaid, crosses, every_lane, is_lane, lanes_at, lanes_from}
+use Rattle.pl_exec.proofs.LaneTablesEvery.{there-past}
 
 -- one number more
 range-more : (n : ℕ) → range_with_len 0 (n + 1) ≡ range_with_len 0 n ++ n ∷ []
@@ -47,11 +49,44 @@ module _ {A : Type 0} (p : A → Bool) (xs before : List A) (i : ℕ) (d : A) (a
   left-more fails = sym (more ∙ ap (λ b. before ++ cond b (get_or xs i d ∷ []) []) fails ∙ append-nil before)
 
 module _ {S T : Type 0} (ps : List (ChannelPartView S T)) where
-  lane-within : (l : Lane) → is_lane ps l ≡ true → l.channel < length ps
+  -- the channel of a lane is there
+  pub lane-within : (l : Lane) → is_lane ps l ≡ true → l.channel < length ps
   lane-within l is = elim (cases_lt l.channel (length ps)) [
     | inl below ↦ below
     | inr past ↦ absurd (false≢true (ap (λ o. option_map_or (λ (p : ChannelPartView S T). is_hop p l) o false) (sym (slice_get_past ps l.channel past)) ∙ is))
   ]
+
+  -- and has executors, one of them at the lane's hop
+  pub lane-executors : (l : Lane) (p : ChannelPartView S T) → AreLaid ps → is_lane ps l ≡ true → p ≡ get_or ps l.channel p → HasExecutors p
+  lane-executors l p laid is here = subst HasExecutors (sym here) (laid.hops l.channel p (lane-within l is))
+
+  pub lane-hop : (l : Lane) (p : ChannelPartView S T) → is_lane ps l ≡ true → p ≡ get_or ps l.channel p → l.hop < length p.path.executors
+  lane-hop l p is here =
+      let at = slice_get_read ps (length ps) l.channel p refl (lane-within l is) here in
+      let hop = sym (ap (λ o. option_map_or (λ (q : ChannelPartView S T). is_hop q l) o false) at) ∙ is in
+      elim (cases_lt l.hop (length p.path.executors)) [
+        | inl below ↦ below
+        | inr past ↦ absurd (false≢true (sym (there-past l (length p.path.executors) past) ∙ hop))
+      ]
+
+  -- a channel has few executors
+  pub few-executors : (i : ℕ) (p : ChannelPartView S T) → AreLaid ps → i < length ps → p ≡ get_or ps i p → length p.path.executors ≤ MAX_HANDLERS + 2
+  few-executors i p laid within here = subst (λ (q : ChannelPartView S T). length q.path.executors ≤ MAX_HANDLERS + 2) (sym here) (laid.few i p within)
+
+  -- the lanes of the first channels are made, and those of one channel more
+  pub channels-more : (lanes after : List Lane) (i channel hops : ℕ) (p : ChannelPartView S T) → i < length ps → p ≡ get_or ps i p → channel ≡ i → hops ≡ length p.path.executors
+      → lanes ++ lanes_from i (drop i ps) ≡ every_lane ps → after ≡ lanes ++ flat_map (lanes_at channel hops) (range_with_len 0 hops) → after ++ lanes_from (i + 1) (drop (i + 1) ps) ≡ every_lane ps
+  channels-more lanes after i channel hops p within read at count was grown =
+      let left = drop (i + 1) ps in
+      let front : drop i ps ≡ p ∷ left = drop-cons ps i p within ∙ (λ k. sym read k ∷ drop (sym (add-one i) k) ps) in
+      ap (λ ls. ls ++ lanes_from (i + 1) left) grown
+      ∙ append_assoc lanes (flat_map (lanes_at channel hops) (range_with_len 0 hops)) (lanes_from (i + 1) left)
+      ∙ (λ k. lanes ++ (flat_map (lanes_at (at k) (count k)) (range_with_len 0 (count k)) ++ lanes_from (i + 1) left))
+      ∙ ap (λ qs. lanes ++ lanes_from i qs) (sym front) ∙ was
+
+  -- those of all are
+  pub channels-all : (lanes : List Lane) (i : ℕ) → length ps ≤ i → lanes ++ lanes_from i (drop i ps) ≡ every_lane ps → lanes ≡ every_lane ps
+  channels-all lanes i all was = sym (append-nil lanes) ∙ ap (λ qs. lanes ++ lanes_from i qs) (sym (drop_all i ps all)) ∙ was
 
   -- a lane crosses where its hop does
   pub crosses-there : (l : Lane) (x y : ℕ) (p : ChannelPartView S T) → is_lane ps l ≡ true → p ≡ get_or ps l.channel p → x ≢ y → goes_between x y p l.hop ≡ crosses ps x y l

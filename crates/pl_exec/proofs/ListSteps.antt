@@ -1,6 +1,6 @@
 -- What is left of a list, and its front.
-use Rattle.std.proofs.Common.{◌≡◌, ℕ, zero, suc, ◌+◌, List, [], ◌∷◌, ◌++◌, drop, length, slice_get, Some, ⊎_elim, refl, ap, sym, subst, ◌∙◌, arith, add-one, append-nil, length-append, length-drop}
-use Rattle.std.proofs.lemmas.List.{nil_from_length}
+use Rattle.std.proofs.Common.{◌≡◌, ℕ, zero, suc, ◌+◌, ◌<◌, List, [], ◌∷◌, ◌++◌, drop, length, map, slice_get, Some, ⊎_elim, refl, ap, sym, subst, ◌∙◌, arith, add-one, append-nil, append_assoc, length-append, length-drop}
+use Rattle.std.proofs.lemmas.List.{map_push, nil_from_length}
 use Rattle.std.proofs.lemmas.Option.{slice_get_within}
 use Rattle.pl_event.proofs.Lists.{slice_get-push}
 
@@ -36,8 +36,28 @@ pub at-next : {A : Type 0} (all done left rest : List A) (x : A) (n : ℕ) → d
 at-next {A = A} all done left rest x n whole front place =
     (λ i. slice_get (sym whole i) (place i)) ∙ ap (λ (l : List A). slice_get (done ++ l) (length done)) front ∙ at-front done rest x
 
+-- so there are more than that
+pub next-within : {A : Type 0} (all done left rest : List A) (x : A) (n : ℕ) → done ++ left ≡ all → left ≡ x ∷ rest → n ≡ length done → n < length all
+next-within all done left rest x n whole front place = slice_get_within all n x (at-next all done left rest x n whole front place)
+
 pub all-done : {A : Type 0} (all done left : List A) → left ≡ [] → done ++ left ≡ all → done ≡ all
 all-done {A = A} all done left none whole = sym (append-nil done) ∙ ap (λ (l : List A). done ++ l) (sym none) ∙ whole
+
+-- The front is what was made, as it is seen, and the rest is left. One more is made.
+pub seen-more : {A B : Type 0} (view : B → A) (all left rest : List A) (made after : List B) (x : A) (new : B) → map view made ++ left ≡ all → left ≡ x ∷ rest → after ≡ made ++ new ∷ [] → view new ≡ x → map view after ++ rest ≡ all
+seen-more {A = A} {B = B} view all left rest made after x new was front grown is =
+    ap (λ (l : List B). map view l ++ rest) grown
+    ∙ ap (λ (l : List A). l ++ rest) (map_push view made new)
+    ∙ append_assoc (map view made) (view new ∷ []) rest
+    ∙ ap (λ (y : A). map view made ++ y ∷ rest) is
+    ∙ ap (λ (l : List A). map view made ++ l) (sym front) ∙ was
+
+-- of two lists one has as many as the other behind their first
+pub both-behind : {A B : Type 0} (xs xs' : List A) (ys ys' : List B) (x : A) (y : B) → length ys ≡ length xs → xs ≡ x ∷ xs' → ys ≡ y ∷ ys' → length ys' ≡ length xs'
+both-behind {A = A} {B = B} xs xs' ys ys' x y same front back =
+    let one = ap (λ (l : List A). length l) front in
+    let other = ap (λ (l : List B). length l) back in
+    omega (arith, same, one, other)
 
 -- where as many are done as there are, none is left
 pub none-left : {A B : Type 0} (others : List B) (all done left : List A) (n : ℕ) → drop n others ≡ [] → n ≡ length done → length others ≡ length all → done ++ left ≡ all → done ≡ all

@@ -7,6 +7,12 @@ use Rattle.pl_exec.proofs.LaneTablesEvery.{every-is}
 use Rattle.pl_exec.proofs.LaneTablesSteps.{made-more}
 use Rattle.pl_exec.proofs.lanes.lane_table.Goals as goal
 
+pub every_lane-requires : goal.every_lane-requires
+every_lane-requires g c = c.requires
+
+pub lanes_between-requires-clause-laid : goal.lanes_between-requires-clause-laid
+lanes_between-requires-clause-laid g c = c.requires
+
 pub lanes_between-requires-clause-lanes : goal.lanes_between-requires-clause-lanes
 lanes_between-requires-clause-lanes g c =
     All-same (λ (lane : Lane). is_lane c.args.parts.now lane ≡ true) c.as_slice.result.now (every_lane c.args.parts.now) (c.as_slice.ensures.value ∙ c.in_ok-lanes.ensures) (every-is c.args.parts.now)

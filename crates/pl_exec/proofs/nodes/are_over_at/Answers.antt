@@ -1,4 +1,4 @@
-use Rattle.std.proofs.Common.{◌≡◌, ℕ, ◌<◌, List, Some, get_or, length, slice_get, refl, sym, ◌∙◌, subst}
+use Rattle.std.proofs.Common.{◌≡◌, ℕ, ◌<◌, List, Some, get_or, length, slice_get, refl, sym, ◌∙◌, subst, arith}
 use Rattle.std.specs.Prelude.{All}
 use Rattle.std.proofs.lemmas.List.{take_all}
 use Rattle.std.proofs.lemmas.List.Elements.{All-get_or, All-more}
@@ -11,6 +11,14 @@ part-at : {A : Type 0} (parts : List A) (channels : List ℕ) (i : ℕ) (p : A) 
     → slice_get parts (get_or channels i 0) ≡ Some p
 part-at parts channels i p there within read =
     slice_get_read parts (length parts) (get_or channels i 0) p refl (All-get_or (λ c. c < length parts) channels i 0 within there) read
+
+pub bounds-parts-channel : goal.bounds-parts-channel
+bounds-parts-channel g c = All-get_or (λ k. k < length c.args.parts.now) c.args.channels.now c.loop-channel.channel-index 0 c.loop-channel-test.true c.requires.there
+
+pub offset_bounds-parts-channel : goal.offset_bounds-parts-channel
+offset_bounds-parts-channel g c =
+    let within = All-get_or (λ k. k < length c.args.parts.now) c.args.channels.now c.loop-channel.channel-index 0 c.loop-channel-test.true c.requires.there in
+    omega (arith, within)
 
 pub is_over-requires : goal.is_over-requires
 is_over-requires g c =

@@ -1,12 +1,32 @@
 use Rattle.std.proofs.Common.{◌≡◌, ◌++◌, [], ◌∷◌, ℕ, List, Some, slice_get, length, map, inl, inr, ⊎_elim, ap, sym, subst, ◌∙◌, arith, append_assoc, length-append}
 use Rattle.std.proofs.lemmas.List.{length-map, map-append, nil_from_length}
+use Rattle.std.proofs.lemmas.Option.{slice_get_within}
 use Rattle.pl_event.proofs.Lists.{slice_get-push}
 use Rattle.pl_executor.specs.declared.inbox.Inbox.{Inbox}
 use Rattle.pl_executor.specs.Running.{ExecutorView}
-use Rattle.pl_exec.specs.Opening.{IsFirst}
+use Rattle.pl_exec.specs.Opening.{InboxView, IsFirst}
 use Rattle.pl_exec.proofs.ListSteps.{at-next, left-front, left-behind, none-left, all-done}
 use Rattle.pl_exec.proofs.StartLemmas.{each-starts}
 use Rattle.pl_exec.proofs.opening.executors.Goals as goal
+
+pub executor-requires-clause-there : goal.executor-requires-clause-there
+executor-requires-clause-there g c =
+    let view : Inbox g.row.W.Denot g.row.M.Denot g.row.M-Sender.Denot g.row.M-Taker.Denot → InboxView g.row.M.Denot = λ (i : Inbox g.row.W.Denot g.row.M.Denot g.row.M-Sender.Denot g.row.M-Taker.Denot). record { mailbox = i.mailbox; name = i.admission.name } in
+    let opened = c.requires.start.opened in
+    let steps = c.in-Some.ensures.steps in
+    let within = slice_get_within c.args.ways.items c.loop-ways.number c.in-Some.ways (left-front c.args.ways.items c.next.new.self.a.a.rest.items c.loop-ways.number c.in-Some.ways (c.loop-ways.invariant.ways ∙ steps.0.0.0)) in
+    omega (arith, within, opened.ways_count, opened.count, length-map c.args.inboxes.now view)
+
+pub executor-requires-clause-few : goal.executor-requires-clause-few
+executor-requires-clause-few g c = c.requires.few
+
+pub overflow_add-number : goal.overflow_add-number
+overflow_add-number g c =
+    let view : Inbox g.row.W.Denot g.row.M.Denot g.row.M-Sender.Denot g.row.M-Taker.Denot → InboxView g.row.M.Denot = λ (i : Inbox g.row.W.Denot g.row.M.Denot g.row.M-Sender.Denot g.row.M-Taker.Denot). record { mailbox = i.mailbox; name = i.admission.name } in
+    let opened = c.requires.start.opened in
+    let steps = c.in-Some.ensures.steps in
+    let within = slice_get_within c.args.ways.items c.loop-ways.number c.in-Some.ways (left-front c.args.ways.items c.next.new.self.a.a.rest.items c.loop-ways.number c.in-Some.ways (c.loop-ways.invariant.ways ∙ steps.0.0.0)) in
+    omega (arith, within, opened.ways_count, opened.count, length-map c.args.inboxes.now view, c.requires.few)
 
 pub executor-requires-clause-starts : goal.executor-requires-clause-starts
 executor-requires-clause-starts g c =

@@ -1,11 +1,12 @@
 use Rattle.std.specs.Global.{Vec}
-use Rattle.std.proofs.Common.{◌≡◌, ◌++◌, [], ◌∷◌, List, length, ap, sym, ◌∙◌, arith, append_assoc}
-use Rattle.std.proofs.lemmas.List.{length-map}
+use Rattle.std.proofs.Common.{◌≡◌, ◌++◌, [], ◌∷◌, List, length, map, ap, sym, subst, ◌∙◌, arith, append_assoc}
+use Rattle.std.proofs.lemmas.List.{length-map, nil_from_length}
 use Rattle.std.proofs.lemmas.List.Elements.{All-push, All-same}
 use Rattle.pl_event.specs.declared.envelopes.Lane.{Lane}
 use Rattle.pl_event.proofs.Lists.{All-at}
 use Rattle.pl_executor.specs.declared.inbox.Inbox.{Inbox}
-use Rattle.pl_exec.specs.Opening.{InboxView, WayView, lanes_in, CanOpen}
+use Rattle.pl_exec.specs.Opening.{InboxView, WayView, lanes_in, AreRows, CanOpen}
+use Rattle.pl_exec.proofs.ListSteps.{all-done}
 use Rattle.pl_exec.proofs.RowLemmas.{senders_in, next-senders, whole-senders, rows-next}
 use Rattle.pl_exec.proofs.opening.open_each.Goals as goal
 
@@ -49,3 +50,13 @@ loop-senders-preserved g c =
           c.in_ok-push.ensures.items c.in_ok-push-2.ensures.items c.in_ok-push-3.ensures.items;
       capacity = All-same holds c.push.new.self.items (c.loop-senders.inboxes.items ++ made.inbox ∷ []) c.in_ok-push.ensures.items (All-push holds c.loop-senders.inboxes.items made.inbox inv.capacity made.ensures.capacity);
     }
+
+pub returns-clause-rows : goal.returns-clause-rows
+returns-clause-rows g c =
+    let M = g.M.Mailbox in
+    let inv = c.loop-senders.invariant in
+    let lanes = c.args.lanes.items in
+    let left = c.loop-senders.senders-iterator.rest in
+    let view : Inbox g.row.W.Denot g.row.M.Denot g.row.M-Sender.Denot g.row.M-Taker.Denot → InboxView g.row.M.Denot = λ (i : Inbox g.row.W.Denot g.row.M.Denot g.row.M-Sender.Denot g.row.M-Taker.Denot). record { mailbox = i.mailbox; name = i.admission.name } in
+    subst (λ (done : List (Vec (Vec Lane))). AreRows M.is_taker M.takes_of M.is_sender M.sends_of (lanes_in lanes) (lanes_in done) (map view c.loop-senders.inboxes.items) c.loop-senders.all.items (map (λ (r : Vec (WayView g.row.M-Sender.Denot)). r.items) c.loop-senders.rows.items))
+    (all-done lanes c.loop-senders.yielded left.items (nil_from_length left.items (omega (arith, c.in-None.ensures.steps.0, left.ok))) inv.rest) inv.are

@@ -32,6 +32,9 @@ run_parts-requires-clause-ready g c κs lives =
       capacity = c.requires.capacity.1;
     })
 
+pub run_parts-requires-clause-capacity : goal.run_parts-requires-clause-capacity
+run_parts-requires-clause-capacity g c κs lives = sym (ap (λ (p : Plan). p.capacity) c.requires.plan)
+
 -- the seats have the marks of the plan's channels
 pub run_parts-requires-clause-marks : goal.run_parts-requires-clause-marks
 run_parts-requires-clause-marks g c κs lives =

@@ -1,10 +1,30 @@
-use Rattle.std.proofs.Common.{◌<◌, ◌++◌, [], ◌∷◌, List, length, ap, sym, subst, ◌∙◌, arith, append_assoc, length-append}
+use Rattle.std.proofs.Common.{◌<◌, ◌++◌, [], ◌∷◌, List, length, refl, ap, sym, subst, ◌∙◌, arith, append_assoc, length-append}
 use Rattle.std.proofs.lemmas.List.{nil_from_length}
+use Rattle.std.proofs.lemmas.Option.{none-some}
 use Rattle.pl_part.specs.Parts.{ChannelPartView}
 use Rattle.pl_exec.specs.Sharing.{EachGets}
-use Rattle.pl_exec.proofs.ListSteps.{all-done}
+use Rattle.pl_exec.proofs.ListSteps.{all-done, next-within}
 use Rattle.pl_exec.proofs.SharesMade.{next-gets}
 use Rattle.pl_exec.proofs.sharing.add_shares.Goals as goal
+
+pub loop-share-init : goal.loop-share-init
+loop-share-init g c = record {
+  rest = c.into_iter-share-iterator.ensures.into_iter_gives.0;
+  at = refl;
+  gets = record { count = refl; each = λ x old new share was is now. absurd (none-some share is); others = λ x nodes past at. at };
+}
+
+pub index_mut-requires : goal.index_mut-requires
+index_mut-requires g c =
+    let inv = c.loop-share.invariant in
+    let within = next-within c.args.shares.items c.loop-share.yielded c.loop-share.share-iterator.rest.items c.next.new.self.rest.items c.in-Some.share c.loop-share.number inv.rest c.in-Some.ensures.steps.0 inv.at in
+    omega (arith, within, c.requires, inv.gets.count, c.loop-share.all.ok.0)
+
+pub overflow_add-number : goal.overflow_add-number
+overflow_add-number g c =
+    let inv = c.loop-share.invariant in
+    let within = next-within c.args.shares.items c.loop-share.yielded c.loop-share.share-iterator.rest.items c.next.new.self.rest.items c.in-Some.share c.loop-share.number inv.rest c.in-Some.ensures.steps.0 inv.at in
+    omega (arith, within, c.requires, inv.gets.count, c.loop-share.all.ok.0)
 
 pub loop-share-preserved : goal.loop-share-preserved
 loop-share-preserved g c =

@@ -9,6 +9,9 @@ loop-sight-init c = adds-none c.into_iter-sight-iterator.ensures.into_iter_gives
 pub index_mut-requires : goal.index_mut-requires
 index_mut-requires c = let within = adds-within c.loop-sight.invariant c.in-Some.ensures.steps.0 c.requires in omega (arith, within, c.loop-sight.readers.ok.0)
 
+pub overflow_add-number : goal.overflow_add-number
+overflow_add-number c = let within = adds-within c.loop-sight.invariant c.in-Some.ensures.steps.0 c.requires in omega (arith, within, c.loop-sight.readers.ok.0)
+
 pub loop-sight-preserved : goal.loop-sight-preserved
 loop-sight-preserved c = adds-next c.loop-sight.invariant c.in-Some.ensures.steps.0 c.requires c.index_mut.ensures.value c.in_ok-add.ensures
 

@@ -55,6 +55,11 @@ made g c =
     subst (λ (heads : List SeatsView). AreHeadSeatsOf words heads × HaveMarksOf heads channels) (sym (inv.heads ∙ ap (λ (l : List (Recorded g.row.S.Denot g.row.T.Denot)). new_head_seats words l) whole))
     (head_seats-own words channels count, head_seats-marks words channels count)
 
+pub returns-clause-heads : goal.returns-clause-heads
+returns-clause-heads g c =
+    c.loop-channel.invariant.heads
+    ∙ ap (λ (l : List (Recorded g.row.S.Denot g.row.T.Denot)). new_head_seats c.loop-channel.words.items l) (take_all c.loop-channel.channel-index c.args.channels.now c.loop-channel-test.false)
+
 pub returns-clause-own_heads : goal.returns-clause-own_heads
 returns-clause-own_heads g c = (made g c).0
 
