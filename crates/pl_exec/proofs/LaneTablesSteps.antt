@@ -1,5 +1,5 @@
 -- Lists that are made element by element, and which lanes go from one executor to another.
-use Rattle.std.proofs.Common.{◌≡◌, ◌≢◌, ℕ, suc, ◌+◌, ◌<◌, ◌≤◌, ◌==◌, ◌&&◌, not, Bool, true, false, List, [], ◌∷◌, ◌++◌, cond, length, map, filter, take, drop, get_or, slice_get, Option, Some, refl, inl, inr, ap, sym, subst, ◌∙◌, arith, add-one, append_assoc, drop-cons}
+use Rattle.std.proofs.Common.{◌≡◌, ◌≢◌, ℕ, ◌+◌, ◌<◌, ◌≤◌, ◌==◌, ◌&&◌, not, Bool, true, false, List, [], ◌∷◌, ◌++◌, cond, length, map, filter, take, drop, get_or, slice_get, Option, Some, refl, inl, inr, ap, sym, subst, ◌∙◌, arith, add-one, append_assoc, drop-cons}
 use Rattle.std.specs.List.{flat_map, range_with_len}
 use Rattle.std.specs.Option.{option_map_or}
 use Rattle.std.proofs.lemmas.Bool.{cases_lt, false≢true, ne_eqb}
