@@ -1,11 +1,15 @@
-use Rattle.std.proofs.Common.{◌≡◌, ◌⊎◌, false, is_some, ◌<◌, ◌≤◌, ◌++◌, ℕ, length, take, drop, min, ap, sym, subst, ◌∙◌, refl, arith}
+use Rattle.std.proofs.Common.{◌≡◌, ◌⊎◌, false, is_some, Option, Some, None, ◌<◌, ◌≤◌, ◌++◌, ℕ, length, take, drop, min, ap, sym, subst, ◌∙◌, refl, arith, append-nil}
 use Rattle.std.proofs.lemmas.List.{length-take-le}
+use Rattle.pl_event.specs.declared.outcomes.Cause.{Cause}
+use Rattle.pl_event.specs.declared.outcomes.Cause.TheVariants.{Transport}
+use Rattle.pl_event.specs.declared.outcomes.Outcome.TheVariants.{Fault}
 use Rattle.pl_context.specs.Standings.{is_over}
+use Rattle.pl_head.specs.HeadStand.{first_cause}
 use Rattle.pl_head.specs.Writes.{out}
 use Rattle.pl_head.specs.Transports.{FailsNext}
 use Rattle.pl_head.specs.OutboundStand.{buffer_view}
 use Rattle.pl_head.proofs.BufferSteps.{same_flags}
-use Rattle.pl_head.proofs.HeadAfter.{unfailed, wrote_after, removed_unfailed}
+use Rattle.pl_head.proofs.HeadAfter.{unfailed, wrote_after, removed_unfailed, fail_after}
 use Rattle.pl_head.proofs.Rising.{goes_on-same}
 use Rattle.pl_head.proofs.Accepting.{wrote_sizes, accepted_some, all_left, idle_or, never_idle}
 use Rattle.pl_head.proofs.heads.Head.write_once.Goals as goal
@@ -109,3 +113,25 @@ returns-in-Err-clause-untold g c =
     let t = unfailed c.self.inside.failure (g.T.Transport.state c.self.inside.transport).accepted (buffer_view c.self.inside.buffer) ys zs (is_over c.self.inside.standing) sizes none s in
     let offers = c.in-Some.ensures.offers (g.T.Transport.state c.self.inside.transport).accepted ys (is_over c.self.inside.standing) sizes t in
     subst (λ (size : ℕ). FailsNext (g.T.Transport.state c.self.inside.transport) ⊎ g.T.Transport.may_refuse c.self.inside.transport size) offers.1 c.in-Err.ensures.untold)
+
+pub returns-then-is_some-clause-idle : goal.returns-then-is_some-clause-idle
+returns-then-is_some-clause-idle g c = rw (← c.self.view_is) (λ e. (refl, refl))
+
+pub returns-then-is_some-clause-stands : goal.returns-then-is_some-clause-stands
+returns-then-is_some-clause-stands g c = rw (← c.self.view_is) (λ ys zs sizes s. rw (append-nil sizes) s)
+
+first_is : (f : Option Cause) → is_some f ≡ false → Some Transport ≡ first_cause f (Some Transport)
+first_is None e = refl
+first_is (Some cause) e = cc e
+
+pub returns-in-Err-clause-failure : goal.returns-in-Err-clause-failure
+returns-in-Err-clause-failure g c = rw (← c.self.view_is) (first_is c.self.inside.failure (sym c.is_some.ensures ∙ c.if-is_some.false))
+
+pub returns-in-Err-clause-stands : goal.returns-in-Err-clause-stands
+returns-in-Err-clause-stands g c =
+    rw (← c.self.view_is, c.in-Err.ensures.kept)
+    (λ ys zs sizes s.
+    let none : is_some c.self.inside.failure ≡ false = sym c.is_some.ensures ∙ c.if-is_some.false in
+    let accepted = (g.T.Transport.state c.self.inside.transport).accepted in
+    let ended = is_over c.self.inside.standing in
+    fail_after c.self.inside.failure Fault accepted (buffer_view c.self.inside.buffer) (buffer_view c.fail.new.self) ys zs ended sizes none s (λ t. c.fail.ensures.stands accepted ys ended sizes t))

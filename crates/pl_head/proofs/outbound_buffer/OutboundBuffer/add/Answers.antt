@@ -1,4 +1,4 @@
-use Rattle.std.proofs.Common.{rules, ◌-◌, [], ◌∷◌, List, ℕ, Some, None, refl, ap, sym, ◌∙◌, inl, inr, append-nil}
+use Rattle.std.proofs.Common.{rules, ◌-◌, [], ◌∷◌, List, ℕ, Bool, Some, None, refl, ap, sym, ◌∙◌, inl, inr, append-nil}
 use Rattle.std.specs.VecDeque.{deque_len, deque_capacity}
 use Rattle.pl_event.specs.declared.events.Event.{Event}
 use Rattle.pl_head.specs.declared.outbound_buffer.Entry.{Entry}
@@ -58,3 +58,31 @@ returns-clause-stands c = λ accepted ys sizes s.
 pub returns-clause-flags : goal.returns-clause-flags
 returns-clause-flags c = λ accepted ys sizes s.
     sends_nothing c.args.event (no_flush c.args.event c.in_default.not-Flush) [] (no_write c.args.event c.in_default.not-Write) refl _ _ sizes
+
+pub returns-then-not-make_place-clause-numbered : goal.returns-then-not-make_place-clause-numbered
+returns-then-not-make_place-clause-numbered c = λ e. cc e
+
+pub returns-then-is_err-clause-refused : goal.returns-then-is_err-clause-refused
+returns-then-is_err-clause-refused c =
+    let m = c.make_place in
+    let b = buffer_view c.args.self.now in
+    let v = buffer_view m.new.self in
+    let room : ℕ = deque_capacity c.reserve.new.self - deque_len c.reserve.new.self in
+    let same = ap (λ (es : List Entry). record v { entries = es; entries_room = room }) c.reserve.ensures.items ∙ ap (λ (u : OutboundBufferView). record u { entries_room = room }) m.ensures.same in
+    let full = ap (λ (u : OutboundBufferView). u.is_full) m.ensures.same in
+    same ∙ ap (λ (f : Bool). record b { entries_room = room; outcomes_room = v.outcomes_room; is_full = f }) (sym full)
+
+pub returns-then-is_err-clause-refused_marks : goal.returns-then-is_err-clause-refused_marks
+returns-then-is_err-clause-refused_marks c = c.make_place.ensures.marks
+
+pub returns-in-Flush-clause-lacks : goal.returns-in-Flush-clause-lacks
+returns-in-Flush-clause-lacks c = tt
+
+pub returns-in-Flush-clause-numbered : goal.returns-in-Flush-clause-numbered
+returns-in-Flush-clause-numbered c = λ e. cc e
+
+pub returns-clause-lacks : goal.returns-clause-lacks
+returns-clause-lacks c = tt
+
+pub returns-clause-numbered : goal.returns-clause-numbered
+returns-clause-numbered c = λ e. cc e

@@ -37,3 +37,9 @@ returns-in-Unnumbered-clause-err c = λ accepted ys sizes s.
     let failed = c.fail.ensures.stands accepted ys false sizes (stands-same (buffer_view c.args.self.now) c.in-Err.ensures.refused s) in
     let full = c.fail.ensures.takes_out.numbering ∙ c.in-Err.ensures.unnumbered (ap (λ (r : Refusal). Err r) c.in-Unnumbered.is) in
     failed-unnumbered Closed accepted ys [] false _ c.args.event n n lacks.write lacks.makes refl failed full refl
+
+pub returns-in-Numbered-clause-err_flags : goal.returns-in-Numbered-clause-err_flags
+returns-in-Numbered-clause-err_flags c = λ accepted ys sizes s.
+    let refused = c.in-Err.ensures in
+    rw (c.add_settled.ensures.marks, ← refused.refused_marks, ← refused.refused_outputs)
+    (c.fail.ensures.flags accepted ys false sizes (stands-same (buffer_view c.args.self.now) refused.refused s))
