@@ -3,7 +3,7 @@
 ghost use Rattle.std.specs.Prelude.{◌≡◌, ◌==◌, ◌++◌, ◌∷◌, [], ◌<◌, OnOk, OnErr, vec_len, vec_capacity};
 ghost use Rattle.pl_nodes_tests.specs.declared.tests.context_tests.Relay.{Relay};
 ghost use Rattle.pl_nodes_tests.specs.Samples.{relaying, has_quit, relaying-lawful, passed_up, passed_down, is_complete, turned_by, sample_lane};
-ghost use Rattle.pl_context.specs.Stops.{HasPlaces};
+ghost use Rattle.pl_context.specs.Stops.{HasPlaces, no_stops};
 ghost use Rattle.pl_event.specs.declared.envelopes.Kind.TheVariants.{Data};
 
 use crate::tests::head_tests::text;
@@ -153,12 +153,10 @@ fn kind_of(item: &Item) -> Kind {
     }
 }
 
-/// Gives a context the next item of its lane, and answers what it puts out.
-fn give(
-    rt: &(impl Abort + AllocGlobal),
-    context: &mut Context<Relay>,
-    item: Item,
-) -> Result<(Took, Outputs), AllocError> {
+/// Gives a context the next item of its lane, which puts out into an empty list.
+fn give(rt: &impl Abort, context: &mut Context<Relay>, item: Item, outputs: &mut Outputs) -> Took
+    requires { outputs.old.stopped ≡ no_stops 3 }
+{
     let lane = of_kind(kind_of(&item), context.lane());
     let number = context.taken(lane);
     let up = context.up();
@@ -166,42 +164,65 @@ fn give(
     assert!(rt; number < 1000);
     assert!(rt; up.made < 1000);
     assert!(rt; down.made < 1000);
-    let mut outputs = Outputs::new(rt.alloc(), 3)?;
-    let took = context.take(Envelope { lane, number, item }, &mut outputs);
-    Ok((took, outputs))
+    context.take(Envelope { lane, number, item }, outputs)
+}
+
+/// The same of the item that a sample stands for.
+fn give_sample(
+    rt: &(impl Abort + AllocGlobal),
+    context: &mut Context<Relay>,
+    sample: Sample,
+    outputs: &mut Outputs,
+) -> Result<Took, AllocError>
+    requires { outputs.old.stopped ≡ no_stops 3 }
+{
+    let item = item_of(rt.alloc(), sample)?;
+    Ok(give(rt, context, item, outputs))
 }
 
 /// What a context is given, what it is to answer, and what it is to put out.
 type Given<'a> = (Sample, Took, &'a [Put]);
 
-/// A context that is given the next items of its lanes answers so, and puts these out.
+/// A context that is given the next item of its lane answers so, and puts these out.
+fn assert_gives_next(
+    rt: &(impl Abort + AllocGlobal),
+    context: &mut Context<Relay>,
+    sample: Sample,
+    answer: Took,
+    want: &[Put],
+) -> Result<(), AllocError> {
+    let mut outputs = Outputs::new(rt.alloc(), 3)?;
+    let took = give_sample(rt, context, sample, &mut outputs)?;
+    assert!(rt; took == answer);
+    assert_brings(rt, &mut outputs, want)
+}
+
+/// The same of the next items of its lanes.
 fn assert_gives(
     rt: &(impl Abort + AllocGlobal),
     context: &mut Context<Relay>,
     rows: &[Given],
 ) -> Result<(), AllocError> {
     for (sample, answer, want) in rows {
-        let item = item_of(rt.alloc(), *sample)?;
-        let (took, outputs) = give(rt, context, item)?;
-        assert!(rt; took == *answer);
-        assert_brings(rt, outputs, want)?;
+        assert_gives_next(rt, context, *sample, *answer, want)?;
     }
     Ok(())
 }
 
-/// What a context puts out that is failed from outside.
-fn refuse(
+/// A context that is failed from outside puts these out.
+fn assert_refused(
+    rt: &(impl Abort + AllocGlobal),
     context: &mut Context<Relay>,
+    want: &[Put],
     cause: Cause,
-    alloc: Global,
-) -> Result<Outputs, AllocError> {
-    let mut outputs = Outputs::new(alloc, 3)?;
+) -> Result<(), AllocError> {
+    let mut outputs = Outputs::new(rt.alloc(), 3)?;
     context.fail(cause, &mut outputs);
-    Ok(outputs)
+    assert_brings(rt, &mut outputs, want)
 }
 
 /// An item of these tests, as a value that is copied.
-#[derive(Clone, Copy, Debug)]
+#[derive(Clone, Copy)]
 pub(crate) enum Sample {
     Active,
     /// A read of these bytes.
@@ -233,11 +254,11 @@ pub(crate) type Put = (u16, u64, Sample);
 /// A list brings these, and nothing behind them.
 pub(crate) fn assert_brings(
     rt: &(impl Abort + AllocGlobal),
-    mut outputs: Outputs,
+    outputs: &mut Outputs,
     want: &[Put],
 ) -> Result<(), AllocError> {
     for put in want {
-        assert_brings_next(rt, &mut outputs, *put)?;
+        assert_brings_next(rt, outputs, *put)?;
     }
     assert!(rt; outputs.is_empty());
     Ok(())
@@ -329,16 +350,22 @@ const BEHIND_ITS_FAILURE: [Given; 2] = [
     (Sample::Flag(false), Took::Dropped, &[]),
 ];
 
+/// The second failure from outside puts nothing out.
+fn assert_refused_once(
+    rt: &(impl Abort + AllocGlobal),
+    turn: &mut Context<Relay>,
+) -> Result<(), AllocError> {
+    assert_refused(rt, turn, &REFUSALS, Cause::Refused)?;
+    assert_refused(rt, turn, &[], Cause::Memory)
+}
+
 /// A turn that has put out one item on each lane, and is failed from outside, gives both lanes the failure, once.
 #[test]
 fn refused_context(rt: HostRuntime) -> Result<(), Fail> {
     let mut turn = context_of(rt.alloc(), Direction::Turn, 9);
     assert_gives(&rt, &mut turn, &BEFORE_ITS_FAILURE)?;
     assert!(rt; !turn.is_ended());
-    let refused = refuse(&mut turn, Cause::Refused, rt.alloc())?;
-    assert_brings(&rt, refused, &REFUSALS)?;
-    let refused_again = refuse(&mut turn, Cause::Memory, rt.alloc())?;
-    assert_brings(&rt, refused_again, &[])?;
+    assert_refused_once(&rt, &mut turn)?;
     Ok(assert_gives(&rt, &mut turn, &BEHIND_ITS_FAILURE)?)
 }
 
@@ -508,15 +535,24 @@ fn assert_records_past_its_end(rt: &(impl Abort + AllocGlobal)) -> Result<(), Al
     Ok(())
 }
 
+/// A tail records two events and a flag, and then fails.
+fn assert_records_to_a_failure(
+    rt: &(impl Abort + AllocGlobal),
+    tail: &mut Tail,
+) -> Result<(), AllocError> {
+    assert_records(rt, tail, &RECORDED)?;
+    assert!(rt; !tail.is_ended());
+    assert_records(rt, tail, &REFUSED)?;
+    assert!(rt; tail.is_ended());
+    assert_tail(rt, tail, Some(Cause::Refused));
+    assert_counts(rt, tail);
+    Ok(())
+}
+
 #[test]
 fn tail_records(rt: HostRuntime) -> Result<(), Fail> {
     let mut tail = Tail::new(rt.alloc(), 7, 3);
-    assert_records(&rt, &mut tail, &RECORDED)?;
-    assert!(rt; !tail.is_ended());
-    assert_records(&rt, &mut tail, &REFUSED)?;
-    assert!(rt; tail.is_ended());
-    assert_tail(&rt, &tail, Some(Cause::Refused));
-    assert_counts(&rt, &tail);
+    assert_records_to_a_failure(&rt, &mut tail)?;
     assert_recorded(&rt, tail.record());
     assert_recorded(&rt, tail.into_record().as_slice());
     Ok(assert_records_past_its_end(&rt)?)
@@ -546,12 +582,9 @@ fn assert_reserves(rt: &impl Abort, outputs: &mut Outputs) -> Result<(), AllocEr
 fn assert_puts(rt: &impl Abort, outputs: &mut Outputs)
     requires { HasPlaces outputs.old.stopped (sample_lane ∷ []) }
 {
-    let added = put(outputs, 0, Item::Event(Event::Active));
-    assert_eq!(rt; added, Added::Last);
-    let added = put(outputs, 1, Item::Event(Event::Flush));
-    assert_eq!(rt; added, Added::Last);
-    let added = put(outputs, 2, Item::End);
-    assert_eq!(rt; added, Added::Last);
+    assert!(rt; put(outputs, 0, Item::Event(Event::Active)) == Added::Last);
+    assert!(rt; put(outputs, 1, Item::Event(Event::Flush)) == Added::Last);
+    assert!(rt; put(outputs, 2, Item::End) == Added::Last);
     assert!(rt; !outputs.is_empty());
     assert!(rt; !outputs.has_stopped());
 }
@@ -566,7 +599,7 @@ fn outputs_come_in_order(rt: HostRuntime) -> Result<(), Fail> {
         (2, 1, Sample::Flush),
         (2, 2, Sample::End),
     ];
-    Ok(assert_brings(&rt, outputs, &want)?)
+    Ok(assert_brings(&rt, &mut outputs, &want)?)
 }
 
 /// Adds an item of one lane, which has a place.
@@ -585,63 +618,86 @@ fn take_first(backlog: &mut Backlog<u8>) -> Option<(u64, u8)> {
     Some((number, token))
 }
 
-/// The numbers that a backlog brings, with their tokens.
-fn numbers(alloc: Global, mut backlog: Backlog<u8>) -> Result<Vec<(u64, u8)>, AllocError> {
-    let mut numbers = Vec::new(alloc);
-    for _ in 0..100 {
-        let Some(next) = take_first(&mut backlog) else {
-            break;
-        };
-        numbers.push(next)?;
+/// A backlog has three items, and the first of them in front.
+fn assert_three(rt: &impl Abort, backlog: &Backlog<u8>) {
+    assert!(rt; !backlog.is_empty());
+    assert!(rt; !backlog.has_stopped());
+    match backlog.front() {
+        Some((envelope, token)) => {
+            assert!(rt; envelope.number == 0);
+            assert!(rt; *token == 10);
+        }
+        None => panic!(rt; "nothing is there"),
     }
-    Ok(numbers)
+}
+
+/// The second item of a backlog is taken and put back, and behind the third there is none.
+fn assert_second(rt: &impl Abort, backlog: &mut Backlog<u8>) {
+    assert!(rt; backlog.take_at(3).is_none());
+    match backlog.take_at(1) {
+        Some((envelope, token)) => {
+            assert!(rt; envelope.number == 1);
+            backlog.put_back(1, envelope, token);
+        }
+        None => panic!(rt; "nothing is there"),
+    }
+}
+
+/// A backlog brings these numbers with these tokens, and nothing behind them.
+fn assert_numbers(rt: &impl Abort, backlog: &mut Backlog<u8>, want: &[(u64, u8)]) {
+    for next in want {
+        assert!(rt; take_first(backlog) == Some(*next));
+    }
+    assert!(rt; take_first(backlog) == None);
+}
+
+/// An empty backlog is given three items.
+fn add_three(rt: &impl Abort, backlog: &mut Backlog<u8>)
+    requires { HasPlaces backlog.old.stopped (sample_lane ∷ []) }
+{
+    assert!(rt; backlog.is_empty());
+    assert!(rt; add(backlog, 0, 10) == None);
+    assert!(rt; add(backlog, 1, 11) == None);
+    assert!(rt; add(backlog, 2, 12) == None);
 }
 
 #[test]
 fn backlog_keeps_its_order(rt: HostRuntime) -> Result<(), Fail> {
     let mut backlog = Backlog::new(rt.alloc(), 1)?;
-    assert!(rt; backlog.is_empty());
-    assert_eq!(rt; add(&mut backlog, 0, 10), None);
-    assert_eq!(rt; add(&mut backlog, 1, 11), None);
-    assert_eq!(rt; add(&mut backlog, 2, 12), None);
-    assert!(rt; !backlog.is_empty());
-    assert!(rt; !backlog.has_stopped());
-    assert!(rt; backlog.take_at(3).is_none());
-    match backlog.front() {
-        Some((envelope, token)) => {
-            assert_eq!(rt; envelope.number, 0);
-            assert_eq!(rt; *token, 10);
-        }
-        None => panic!(rt; "nothing is there"),
-    }
-    match backlog.take_at(1) {
-        Some((envelope, token)) => {
-            assert_eq!(rt; envelope.number, 1);
-            backlog.put_back(1, envelope, token);
-        }
-        None => panic!(rt; "nothing is there"),
-    }
-    assert_eq!(rt;
-        numbers(rt.alloc(), backlog)?.as_slice(),
-        [(0, 10), (1, 11), (2, 12)].as_slice()
-    );
+    add_three(&rt, &mut backlog);
+    assert_three(&rt, &backlog);
+    assert_second(&rt, &mut backlog);
+    assert_numbers(&rt, &mut backlog, &[(0, 10), (1, 11), (2, 12)]);
     Ok(())
 }
 
 /// A list brings events with the numbers from 0 on and below this, and then a failure, if there were to be more.
 fn assert_gives_way(
     rt: &(impl Abort + AllocGlobal),
-    mut outputs: Outputs,
     whole: u64,
+    outputs: &mut Outputs,
 ) -> Result<(), AllocError> {
     for number in 0..whole {
-        assert_brings_next(rt, &mut outputs, (2, number, Sample::Active))?;
+        assert_brings_next(rt, outputs, (2, number, Sample::Active))?;
     }
     if whole < 8 {
-        assert_brings_next(rt, &mut outputs, (2, whole, Sample::Fail(Cause::Memory)))?;
+        assert_brings_next(rt, outputs, (2, whole, Sample::Fail(Cause::Memory)))?;
     }
     assert!(rt; outputs.is_empty());
     Ok(())
+}
+
+/// How many items are whole after the next one was added so.
+fn whole_after(rt: &impl Abort, whole: u64, number: u64, added: Added) -> u64 {
+    match added {
+        Added::Last => assert!(rt; whole == 8),
+        Added::Refused => {
+            assert!(rt; whole == 8);
+            return number;
+        }
+        Added::Discarded => assert!(rt; whole < number),
+    }
+    whole
 }
 
 /// Of eight items, the first that finds no memory gives way to a failure with its number, and the rest is discarded.
@@ -651,17 +707,11 @@ fn item_without_memory_gives_way(rt: HostRuntime) -> Result<(), Fail> {
     let mut whole = 8;
     let mut outputs = Outputs::new(rt.alloc(), 1)?;
     for number in 0..8 {
-        match put(&mut outputs, number, Item::Event(Event::Active)) {
-            Added::Last => assert_eq!(rt; whole, 8),
-            Added::Refused => {
-                assert_eq!(rt; whole, 8);
-                whole = number;
-            }
-            Added::Discarded => assert!(rt; whole < number),
-        }
+        let added = put(&mut outputs, number, Item::Event(Event::Active));
+        whole = whole_after(&rt, whole, number, added);
     }
-    assert_eq!(rt; outputs.has_stopped(), whole < 8);
-    Ok(assert_gives_way(&rt, outputs, whole)?)
+    assert!(rt; outputs.has_stopped() == (whole < 8));
+    Ok(assert_gives_way(&rt, whole, &mut outputs)?)
 }
 
 /// The same of a backlog, which gives the tokens of those that it discards back.
@@ -672,14 +722,17 @@ fn backlog_without_memory_gives_tokens_back(rt: HostRuntime) -> Result<(), Fail>
     for number in 0..8 {
         match add(&mut backlog, number, 7) {
             None => {
-                assert_eq!(rt; kept, number);
+                assert!(rt; kept == number);
                 kept += 1;
             }
-            Some(token) => assert_eq!(rt; token, 7),
+            Some(token) => assert!(rt; token == 7),
         }
     }
     assert!(rt; kept == 8 || backlog.has_stopped());
-    assert_eq!(rt; numbers(rt.alloc(), backlog)?.len() as u64, kept);
+    for number in 0..kept {
+        assert!(rt; take_first(&mut backlog) == Some((number, 7)));
+    }
+    assert!(rt; take_first(&mut backlog) == None);
     Ok(())
 }
 
@@ -694,17 +747,27 @@ fn assert_records_or_fails(rt: &(impl Abort + AllocGlobal)) {
     assert!(rt; tail.record().is_empty() == cause.is_some());
 }
 
-/// An event for which a context finds no memory fails it, and one for which the tail finds none ends the record.
-#[test]
-fn event_without_memory_fails_its_taker(rt: HostRuntime) -> Result<(), Fail> {
-    let mut context = context_of(rt.alloc(), Direction::Inbound, 9);
-    let (took, outputs) = give(&rt, &mut context, Item::Event(Event::Active))?;
+/// A context puts an event out, or has failed and puts out its failure. It answers which.
+fn brings_or_fails(
+    rt: &(impl Abort + AllocGlobal),
+    context: &mut Context<Relay>,
+) -> Result<Took, AllocError> {
+    let mut outputs = Outputs::new(rt.alloc(), 3)?;
+    let took = give(rt, context, Item::Event(Event::Active), &mut outputs);
     let want = match took {
         Took::Failed(cause) => Sample::Fail(cause),
         _ => Sample::Active,
     };
-    assert_brings(&rt, outputs, &[(2, 0, want)])?;
-    assert_eq!(rt; context.is_ended(), took == Took::Failed(Cause::Memory));
+    assert_brings(rt, &mut outputs, &[(2, 0, want)])?;
+    Ok(took)
+}
+
+/// An event for which a context finds no memory fails it, and one for which the tail finds none ends the record.
+#[test]
+fn event_without_memory_fails_its_taker(rt: HostRuntime) -> Result<(), Fail> {
+    let mut context = context_of(rt.alloc(), Direction::Inbound, 9);
+    let took = brings_or_fails(&rt, &mut context)?;
+    assert!(rt; context.is_ended() == (took == Took::Failed(Cause::Memory)));
     assert_records_or_fails(&rt);
     Ok(())
 }

@@ -5,8 +5,7 @@ ghost use Rattle.pl_event.specs.declared.envelopes.Lane.{Lane};
 ghost use Rattle.pl_context.specs.Stops.{HasPlaces};
 
 use crate::tests::context_tests::{Put, Sample, assert_brings};
-use crate::tests::head_tests::{text, write_once};
-use crate::tests::load_tests::{flush, write};
+use crate::tests::head_tests::{Call, apply, text};
 use pl_context::Outputs;
 use pl_event::Sequence;
 use pl_head::{Head, MemoryTransport, ReadPlan, ReadStep};
@@ -23,12 +22,12 @@ pub(crate) fn outputs_of_one(alloc: Global) -> Result<Outputs, AllocError>
 
 /// Flushes two bytes, which wait then: the channel is not writable, and a burst is held.
 fn block(
-    rt: &impl Abort,
-    alloc: Global,
+    rt: &(impl Abort + AllocGlobal),
     head: &mut Head<MemoryTransport>,
 ) -> Result<(), AllocError> {
-    drop(write(rt, alloc, head, 2)?);
-    flush(rt, alloc, head)
+    apply(rt, head, Call::WriteLong(2))?;
+    apply(rt, head, Call::Flush)?;
+    Ok(())
 }
 
 /// A head with two bursts to read: one of two chunks, and one of none.
@@ -53,8 +52,8 @@ fn assert_step(
     want: &[Put],
 ) -> Result<(), AllocError> {
     let mut outputs = outputs_of_one(rt.alloc())?;
-    assert_eq!(rt; head.next_read(&mut outputs), answer);
-    assert_brings(rt, outputs, want)
+    assert!(rt; head.next_read(&mut outputs) == answer);
+    assert_brings(rt, &mut outputs, want)
 }
 
 const ACTIVE: [Put; 1] = [(0, 0, Sample::Active)];
@@ -76,7 +75,7 @@ fn assert_held(
     burst: &[Put],
 ) -> Result<(), AllocError> {
     assert_step(rt, head, ReadStep::Held, &[])?;
-    drop(write_once(rt.alloc(), head)?);
+    apply(rt, head, Call::Out)?;
     assert_step(rt, head, ReadStep::Gave, burst)
 }
 
@@ -86,16 +85,16 @@ fn assert_steps(
     head: &mut Head<MemoryTransport>,
 ) -> Result<(), AllocError> {
     // The channel becomes active. That is not a burst, and so it is not held.
-    block(rt, rt.alloc(), head)?;
+    block(rt, head)?;
     assert_step(rt, head, ReadStep::Gave, &ACTIVE)?;
     assert_held(rt, head, &FIRST)?;
 
     // The second burst, of no chunk, is held too.
-    block(rt, rt.alloc(), head)?;
+    block(rt, head)?;
     assert_held(rt, head, &SECOND)?;
 
     // The end is not held. No step is left behind it.
-    block(rt, rt.alloc(), head)?;
+    block(rt, head)?;
     assert_step(rt, head, ReadStep::Gave, &END)?;
     assert_step(rt, head, ReadStep::Done, &[])
 }

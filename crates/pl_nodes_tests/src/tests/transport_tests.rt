@@ -6,12 +6,11 @@ ghost use Rattle.pl_head.specs.Transports.{new_state};
 use crate::tests::head_tests::PONG;
 use crate::trickle::Trickle;
 use pl_head::{MemoryTransport, Transport, TransportFault};
-use std::alloc::AllocError;
 use std::process::Abort;
 use std::test::Fail;
 
 /// A transport of a user's own whose calls all fail.
-#[derive(Debug, Drop)]
+#[derive(Drop)]
 pub(crate) struct Broken {
     calls: u64,
 }
@@ -40,7 +39,7 @@ impl Transport for Broken {
 }
 
 /// Offers a text again and again, what is left of it each time: the calls answer so, and have accepted these bytes.
-fn assert_accepts<T: Transport>(
+fn assert_offers<T: Transport>(
     rt: &impl Abort,
     transport: &mut T,
     text: &[u8],
@@ -57,69 +56,57 @@ fn assert_accepts<T: Transport>(
     assert!(rt; transport.bytes() == accepted);
 }
 
-/// The bytes that a transport gives for itself are these.
-fn assert_gives<T: Transport>(
+/// The same, and the transport gives these bytes for itself.
+fn assert_accepts<T: Transport>(
     rt: &(impl Abort + AllocGlobal),
-    transport: T,
+    mut transport: T,
+    text: &[u8],
+    answers: &[Result<usize, TransportFault>],
     accepted: &[u8],
-) -> Result<(), AllocError> {
+) -> Result<(), Fail> {
+    assert_offers(rt, &mut transport, text, answers, accepted);
     assert!(rt; transport.into_bytes(rt.alloc())?.as_slice() == accepted);
     Ok(())
 }
 
 #[test]
 fn window_of_3(rt: HostRuntime) -> Result<(), Fail> {
-    let mut transport = MemoryTransport::new(rt.alloc(), 3, None);
+    let transport = MemoryTransport::new(rt.alloc(), 3, None);
     let answers = [Ok(3), Ok(3), Ok(1), Ok(0)];
-    assert_accepts(&rt, &mut transport, PONG, &answers, PONG);
-    Ok(assert_gives(&rt, transport, PONG)?)
+    assert_accepts(&rt, transport, PONG, &answers, PONG)
 }
 
 #[test]
 fn window_of_1(rt: HostRuntime) -> Result<(), Fail> {
-    let mut transport = MemoryTransport::new(rt.alloc(), 1, None);
+    let transport = MemoryTransport::new(rt.alloc(), 1, None);
     let answers = [Ok(1), Ok(1), Ok(0)];
-    assert_accepts(&rt, &mut transport, b"ab", &answers, b"ab");
-    Ok(())
+    assert_accepts(&rt, transport, b"ab", &answers, b"ab")
 }
 
 #[test]
 fn window_of_65536(rt: HostRuntime) -> Result<(), Fail> {
-    let alloc = rt.alloc();
-    let text = vec![in alloc; b'x'; 65_537]?;
-    let mut transport = MemoryTransport::new(alloc, 65_536, None);
+    let text = vec![in rt.alloc(); b'x'; 65_537]?;
+    let transport = MemoryTransport::new(rt.alloc(), 65_536, None);
     let answers = [Ok(65_536), Ok(1)];
-    assert_accepts(
-        &rt,
-        &mut transport,
-        text.as_slice(),
-        &answers,
-        text.as_slice(),
-    );
-    Ok(())
+    assert_accepts(&rt, transport, text.as_slice(), &answers, text.as_slice())
 }
 
 #[test]
 fn fails_at_call_2(rt: HostRuntime) -> Result<(), Fail> {
-    let mut transport = MemoryTransport::new(rt.alloc(), 4, Some(2));
+    let transport = MemoryTransport::new(rt.alloc(), 4, Some(2));
     assert!(rt; transport.fail_at() == Some(2));
     let answers = [Ok(4), Err(TransportFault::Failed), Ok(3)];
-    assert_accepts(&rt, &mut transport, PONG, &answers, PONG);
-    Ok(())
+    assert_accepts(&rt, transport, PONG, &answers, PONG)
 }
 
 #[test]
 fn a_byte_at_every_second_call(rt: HostRuntime) -> Result<(), Fail> {
-    let mut transport = Trickle::new(rt.alloc());
     let answers = [Ok(0), Ok(1), Ok(0), Ok(1), Ok(0)];
-    assert_accepts(&rt, &mut transport, b"ab", &answers, b"ab");
-    Ok(assert_gives(&rt, transport, b"ab")?)
+    assert_accepts(&rt, Trickle::new(rt.alloc()), b"ab", &answers, b"ab")
 }
 
 #[test]
 fn each_call_fails(rt: HostRuntime) -> Result<(), Fail> {
-    let mut transport = Broken::new();
     let answers = [Err(TransportFault::Failed); 2];
-    assert_accepts(&rt, &mut transport, b"ab", &answers, b"");
-    Ok(assert_gives(&rt, transport, b"")?)
+    assert_accepts(&rt, Broken::new(), b"ab", &answers, b"")
 }

@@ -51,42 +51,25 @@ fn try_one(waiting: &mut Waiting<u8>, target: usize)
     }
 }
 
+/// The target of the oldest envelope for one that is open: those from `first` on and below `end`.
+fn oldest_of(waiting: &Waiting<u8>, first: usize, end: usize) -> Option<usize> {
+    waiting.oldest(|target| first <= target && target < end)
+}
+
 /// The target of the oldest envelope.
 fn oldest(waiting: &Waiting<u8>) -> Option<usize> {
-    waiting.oldest(|_| true)
-}
-
-/// The target of the oldest envelope that is not for this one.
-fn oldest_but(waiting: &Waiting<u8>, closed: usize) -> Option<usize> {
-    waiting.oldest(|target| target != closed)
-}
-
-/// The targets of the oldest envelopes in turn, with their tokens.
-fn drained(alloc: Global, mut waiting: Waiting<u8>) -> Result<Vec<(usize, u8)>, AllocError>
-    requires waits { WaitsForThree waiting }
-{
-    let mut drained = Vec::new(alloc);
-    for _ in 0..100 {
-        let Some(target) = oldest(&waiting) else {
-            break;
-        };
-        if let Some(token) = take(&mut waiting, target) {
-            drained.push((target, token))?;
-        }
-    }
-    Ok(drained)
+    oldest_of(waiting, 0, 3)
 }
 
 /// The targets of what waits, the oldest first, with their tokens, are these.
-fn assert_drained(
-    rt: &(impl Abort + AllocGlobal),
-    waiting: Waiting<u8>,
-    want: &[(usize, u8)],
-) -> Result<(), AllocError>
+fn assert_drained(rt: &impl Abort, mut waiting: Waiting<u8>, want: &[(usize, u8)])
     requires { WaitsForThree waiting }
 {
-    assert!(rt; drained(rt.alloc(), waiting)?.as_slice() == want);
-    Ok(())
+    for (target, token) in want {
+        assert!(rt; oldest(&waiting) == Some(*target));
+        assert!(rt; take(&mut waiting, *target) == Some(*token));
+    }
+    assert!(rt; oldest(&waiting) == None);
 }
 
 /// Two envelopes for 2, two for 0 and one for 1 wait. That of 1 is the third.
@@ -107,8 +90,8 @@ fn assert_five(rt: &impl Abort, waiting: &Waiting<u8>) {
     assert!(rt; !waiting.is_empty());
     assert!(rt; waiting.count(0) == 2);
     assert!(rt; oldest(waiting) == Some(2));
-    assert!(rt; waiting.oldest(|target| target == 1) == Some(1));
-    assert!(rt; waiting.oldest(|_| false) == None);
+    assert!(rt; oldest_of(waiting, 1, 2) == Some(1));
+    assert!(rt; oldest_of(waiting, 0, 0) == None);
 }
 
 /// The queue of 2 is full: its envelope is still the oldest, and 0 has the oldest of the others.
@@ -118,7 +101,7 @@ fn assert_full_queue(rt: &impl Abort, waiting: &mut Waiting<u8>)
 {
     try_one(waiting, 2);
     assert!(rt; oldest(waiting) == Some(2));
-    assert!(rt; oldest_but(waiting, 2) == Some(0));
+    assert!(rt; oldest_of(waiting, 0, 2) == Some(0));
 }
 
 /// What is left for 0 is younger than what waits for 1.
@@ -127,9 +110,9 @@ fn assert_younger(rt: &impl Abort, waiting: &mut Waiting<u8>)
     ensures { WaitsForThree waiting.new }
 {
     assert!(rt; take(waiting, 0) == Some(1));
-    assert!(rt; oldest_but(waiting, 2) == Some(1));
+    assert!(rt; oldest_of(waiting, 0, 2) == Some(1));
     try_one(waiting, 1);
-    assert!(rt; oldest_but(waiting, 2) == Some(1));
+    assert!(rt; oldest_of(waiting, 0, 2) == Some(1));
     assert!(rt; waiting.count(1) == 1);
 }
 
@@ -142,7 +125,8 @@ fn what_waits_keeps_its_order(rt: HostRuntime) -> Result<(), Fail> {
     assert_five(&rt, &waiting);
     assert_full_queue(&rt, &mut waiting);
     assert_younger(&rt, &mut waiting);
-    Ok(assert_drained(&rt, waiting, &[(2, 0), (1, 2), (0, 3), (2, 4)])?)
+    assert_drained(&rt, waiting, &[(2, 0), (1, 2), (0, 3), (2, 4)]);
+    Ok(())
 }
 
 /// A target for which nothing waits any more is asked for no longer, and comes last when something does again.
@@ -151,10 +135,11 @@ fn emptied_target_comes_last(rt: HostRuntime) -> Result<(), Fail> {
     let mut waiting = for_three(rt.alloc())?;
     add(&mut waiting, 1, 0);
     add(&mut waiting, 2, 1);
-    assert_eq!(rt; take(&mut waiting, 1), Some(0));
-    assert_eq!(rt; take(&mut waiting, 1), None);
+    assert!(rt; take(&mut waiting, 1) == Some(0));
+    assert!(rt; take(&mut waiting, 1) == None);
     assert!(rt; oldest(&waiting) == Some(2));
     add(&mut waiting, 1, 2);
     assert!(rt; oldest(&waiting) == Some(2));
-    Ok(assert_drained(&rt, waiting, &[(2, 1), (1, 2)])?)
+    assert_drained(&rt, waiting, &[(2, 1), (1, 2)]);
+    Ok(())
 }

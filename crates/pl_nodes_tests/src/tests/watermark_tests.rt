@@ -2,59 +2,38 @@
 
 ghost use Rattle.std.specs.Prelude.{◌≤◌};
 
-use crate::tests::head_tests::{Answer, flag_of, head, write_once};
-use crate::tests::load_tests::{flush, write};
-use pl_context::Outputs;
+use crate::tests::head_tests::{Answer, BYTE, Call, Given, RAN, apply, head};
 use pl_head::{Head, MemoryTransport, OutStep};
-use std::alloc::{AllocError, Global};
+use std::alloc::AllocError;
 use std::process::Abort;
 use std::test::Fail;
 
-/// A size that is added or removed.
-#[derive(Clone, Copy, Debug)]
-enum Size {
-    /// A message of this size is written.
-    Added(usize),
-    /// The first message that waits is of this size, and leaves whole.
-    Removed(usize),
-}
+/// The number and the value of a flag, if one is sent.
+type Flag = Option<(u64, bool)>;
 
-/// The first message that waits, which is of this size, leaves whole.
-fn remove(
-    rt: &impl Abort,
-    alloc: Global,
+/// A call, what it is to answer, the flag that it is to send alone, and how many bytes are to wait after it.
+type Row = (Call, Answer, Flag, u128);
+
+/// A head answers this call so, and sends nothing but the flag.
+fn assert_sends(
+    rt: &(impl Abort + AllocGlobal),
     head: &mut Head<MemoryTransport>,
-    size: usize,
-) -> Result<Outputs, AllocError> {
-    flush(rt, alloc, head)?;
-    let (answer, outputs) = write_once(alloc, head)?;
-    assert!(rt; answer == Answer::Out(OutStep::Wrote(size)));
-    Ok(outputs)
+    row: Row,
+) -> Result<(), AllocError> {
+    let (call, want, flag, pending) = row;
+    let (answer, brought) = apply(rt, head, call)?;
+    assert!(rt; answer == want);
+    assert!(rt; brought.count == u32::from(flag.is_some()));
+    assert!(rt; brought.first == given(flag));
+    assert!(rt; head.pending() == pending);
+    Ok(())
 }
 
-/// The number and the value of the flag that a list brings, if it does. It brings nothing behind that.
-fn flag_alone(rt: &impl Abort, mut outputs: Outputs) -> Option<(u64, bool)> {
-    let envelope = outputs.next()?;
-    assert!(rt; outputs.is_empty());
-    flag_of(envelope)
+/// The flag as a list brings it.
+fn given(flag: Flag) -> Option<Given> {
+    let (number, value) = flag?;
+    Some(Given::Flag(number, value))
 }
-
-/// Adds or removes a size, and answers the number and the value of the flag that this sent.
-fn change(
-    rt: &impl Abort,
-    alloc: Global,
-    head: &mut Head<MemoryTransport>,
-    size: Size,
-) -> Result<Option<(u64, bool)>, AllocError> {
-    let outputs = match size {
-        Size::Added(size) => write(rt, alloc, head, size)?,
-        Size::Removed(size) => remove(rt, alloc, head, size)?,
-    };
-    Ok(flag_alone(rt, outputs))
-}
-
-/// A size, the flag that it is to send, and how many bytes are to wait after it.
-type Row = (Size, Option<(u64, bool)>, u128);
 
 /// A head with these marks sends these flags, and is writable as the last of them says.
 fn assert_flags(
@@ -67,10 +46,9 @@ fn assert_flags(
 {
     let mut head = head(rt.alloc(), 65_536, None, low, high);
     let mut is_writable = true;
-    for (size, flag, pending) in rows {
-        assert!(rt; change(rt, rt.alloc(), &mut head, *size)? == *flag);
-        assert!(rt; head.pending() == *pending);
-        if let Some((_, value)) = *flag {
+    for row in rows {
+        assert_sends(rt, &mut head, *row)?;
+        if let Some((_, value)) = row.2 {
             is_writable = value;
         }
         assert!(rt; head.is_writable() == is_writable);
@@ -78,26 +56,36 @@ fn assert_flags(
     Ok(())
 }
 
-const STRICT: [Row; 6] = [
-    (Size::Added(1), None, 1),
-    (Size::Added(1), None, 2),
-    (Size::Added(2), None, 4),
-    (Size::Added(1), Some((0, false)), 5),
-    (Size::Removed(1), None, 4),
-    (Size::Removed(1), Some((1, true)), 3),
+const STRICT: [Row; 8] = [
+    (Call::Write(1), RAN, None, 1),
+    (Call::Write(1), RAN, None, 2),
+    (Call::Write(2), RAN, None, 4),
+    (Call::Write(1), RAN, Some((0, false)), 5),
+    (Call::Flush, RAN, None, 5),
+    (Call::Out, BYTE, None, 4),
+    (Call::Flush, RAN, None, 4),
+    (Call::Out, BYTE, Some((1, true)), 3),
 ];
 
-const TWO_MESSAGES: [Row; 4] = [
-    (Size::Added(7), None, 7),
-    (Size::Added(7), Some((0, false)), 14),
-    (Size::Removed(7), None, 7),
-    (Size::Removed(7), Some((1, true)), 0),
+const TWO_MESSAGES: [Row; 6] = [
+    (Call::Write(7), RAN, None, 7),
+    (Call::Write(7), RAN, Some((0, false)), 14),
+    (Call::Flush, RAN, None, 14),
+    (Call::Out, Answer::Out(OutStep::Wrote(7)), None, 7),
+    (Call::Flush, RAN, None, 7),
+    (
+        Call::Out,
+        Answer::Out(OutStep::Wrote(7)),
+        Some((1, true)),
+        0,
+    ),
 ];
 
-const NO_WAY_BACK: [Row; 3] = [
-    (Size::Added(1), Some((0, false)), 1),
-    (Size::Removed(1), None, 0),
-    (Size::Added(1), None, 1),
+const NO_WAY_BACK: [Row; 4] = [
+    (Call::Write(1), RAN, Some((0, false)), 1),
+    (Call::Flush, RAN, None, 1),
+    (Call::Out, BYTE, None, 0),
+    (Call::Write(1), RAN, None, 1),
 ];
 
 #[test]
