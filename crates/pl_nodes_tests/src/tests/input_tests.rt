@@ -53,7 +53,8 @@ fn assert_step(
 ) -> Result<(), AllocError> {
     let mut outputs = outputs_of_one(rt.alloc())?;
     assert!(rt; head.next_read(&mut outputs) == answer);
-    assert_brings(rt, &mut outputs, want)
+    assert_brings(rt, &mut outputs, want);
+    Ok(())
 }
 
 const ACTIVE: [Put; 1] = [(0, 0, Sample::Active)];
