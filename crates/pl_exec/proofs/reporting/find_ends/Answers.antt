@@ -9,9 +9,6 @@ loop-part-init g c = adds-none c.into_iter-part-iterator.ensures.into_iter_gives
 pub index_mut-requires : goal.index_mut-requires
 index_mut-requires g c = let within = adds-within c.loop-part.invariant c.in-Some.ensures.steps.0 c.requires in omega (arith, within, c.loop-part.found.ok.0)
 
-pub overflow_add-channel : goal.overflow_add-channel
-overflow_add-channel g c = let within = adds-within c.loop-part.invariant c.in-Some.ensures.steps.0 c.requires in omega (arith, within, c.loop-part.found.ok.0)
-
 pub loop-part-preserved : goal.loop-part-preserved
 loop-part-preserved g c = adds-next c.loop-part.invariant c.in-Some.ensures.steps.0 c.requires c.index_mut.ensures.value c.find.ensures
 

@@ -2,24 +2,12 @@ use Rattle.std.proofs.Common.{◌≡◌, ◌-◌, ◌<◌, List, length, get_or,
 use Rattle.std.specs.Prelude.{vec_len}
 use Rattle.std.proofs.lemmas.List.{length-map}
 use Rattle.std.proofs.lemmas.Option.{same_Some}
-use Rattle.pl_words.specs.PromiseViews.{SettleSeatView, new_settler, new_reader as new_promise_seat}
-use Rattle.pl_words.specs.Watermarks.{HeadSeatView, ReadSeatView as MarkSeatView, new_reader as new_mark_seat}
+use Rattle.pl_words.specs.PromiseViews.{new_settler, new_reader as new_promise_seat}
+use Rattle.pl_words.specs.Watermarks.{ReadSeatView as MarkSeatView, new_reader as new_mark_seat}
 use Rattle.pl_exec.specs.SessionWords.{SightView}
 use Rattle.pl_exec.specs.declared.words.TheConstants.{PROMISES}
 use Rattle.pl_exec.proofs.WordLemmas.{sights-same}
 use Rattle.pl_exec.proofs.words.channel_words.Goals as goal
-
--- nothing was set, and there is one settler
-pub invariant_of-seats : goal.invariant_of-seats
-invariant_of-seats c =
-    let made = c.in_ok-promises in
-    let settle = c.in-Some.settle in
-    let some : 0 < vec_len made.settlers = omega (arith, made.ensures.settlers.0, made.settlers.ok.0) in
-    let last = vec_len made.settlers - 1 in
-    let popped : settle ≡ get_or made.settlers.items last settle = same_Some settle (get_or made.settlers.items last settle) (c.in-Some.ensures.value settle some) in
-    let new : settle ≡ new_settler made.promises.name PROMISES 1 = popped ∙ made.ensures.settlers.1 last settle (omega (arith, some, made.settlers.ok.0)) in
-    let head = c.in_ok-mark.ensures.head in
-    (ap (λ (h : HeadSeatView). h.sets) head, ap (λ (h : HeadSeatView). h.pending) head, ap (λ (h : HeadSeatView). h.unwritable) head, ap (λ (s : SettleSeatView). s.settlers) new)
 
 pub returns-clause-seats : goal.returns-clause-seats
 returns-clause-seats c =

@@ -10,12 +10,11 @@ loop-mark-preserved c =
     let steps = c.in-Some.ensures.steps in
     let left = c.loop-mark.mark-iterator in
     let next = c.next.new.self in
-    let made = c.loop-mark.sights.items in
     let after = c.push.new.self.items in
     let new : SightView = record { mark = c.in-Some.mark; promises = c.in-Some.promises } in
     record {
-      marks = seen-more (λ (w : SightView). w.mark) c.args.marks.items left.a.rest.items next.a.rest.items made after c.in-Some.mark new inv.marks steps.0.0 c.in_ok-push.ensures.items refl;
-      promises = seen-more (λ (w : SightView). w.promises) c.args.promises.items left.b.rest.items next.b.rest.items made after c.in-Some.promises new inv.promises steps.1.0 c.in_ok-push.ensures.items refl;
+      marks = seen-more (λ (w : SightView). w.mark) c.args.marks.items left.a.rest.items next.a.rest.items c.loop-mark.sights.items after c.in-Some.mark new inv.marks steps.0.0 c.in_ok-push.ensures.items refl;
+      promises = seen-more (λ (w : SightView). w.promises) c.args.promises.items left.b.rest.items next.b.rest.items c.loop-mark.sights.items after c.in-Some.promises new inv.promises steps.1.0 c.in_ok-push.ensures.items refl;
       left = both-behind left.a.rest.items next.a.rest.items left.b.rest.items next.b.rest.items c.in-Some.mark c.in-Some.promises inv.left steps.0.0 steps.1.0;
     }
 
