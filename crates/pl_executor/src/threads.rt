@@ -1,6 +1,7 @@
 //! Executors in threads of their own, as many as a list has.
 
 ghost use Rattle.std.specs.Prelude.{◌≡◌, [], map, All, IfOk, IfSome};
+ghost use Rattle.pl_executor.specs.declared.threads.RunFault.TheVariants.{Memory};
 
 use crate::executors::Executor;
 use crate::finished::Finished;
@@ -27,6 +28,8 @@ pub enum RunFault {
 }
 
 impl From<AllocError> for RunFault {
+    ghost from_gives = { λ _ e. e ≡ Memory };
+
     fn from(_error: AllocError) -> RunFault {
         RunFault::Memory
     }
