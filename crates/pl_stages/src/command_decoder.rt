@@ -106,7 +106,9 @@ fn without_front(mut bytes: Vec<u8>, count: usize) -> Vec<u8>
     requires { count ≤ vec_len bytes }
     ensures { result.items ≡ drop count bytes.items }
 {
-    drop(bytes.drain(..count));
+    let left = bytes.len() - count;
+    bytes.copy_within(count.., 0);
+    bytes.truncate(left);
     bytes
 }
 
