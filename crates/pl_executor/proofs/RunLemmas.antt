@@ -98,6 +98,13 @@ module _ (world : World) (me : ℕ) (target : Lane → ℕ) (writes : Lane → B
       (λ (t : same_lane l x.lane ≡ false). sym (same-on l t) ∙ r.others l w)
       (cases_Bool (same_lane l x.lane))
 
+  -- a lane that they do not write is not its lane
+  pub front-taken : (taken' : Lane → ℕ) → ((l : Lane) → taken' l ≡ cond (same_lane l x.lane) (x.number + 1) (taken l)) → (l : Lane) → writes l ≡ false → taken' l ≡ taken l
+  front-taken taken' counts l w = ⊎_elim
+      (λ (t : same_lane l x.lane ≡ true). absurd (both_ways (writes l) w (subst (λ m. writes m ≡ true) (sym (same_lane-equal l x.lane t)) front-written)))
+      (λ (f : same_lane l x.lane ≡ false). counts l ∙ cond-false (same_lane l x.lane) _ _ f)
+      (cases_Bool (same_lane l x.lane))
+
   -- it was taken here
   pub own-taken : (taken' : Lane → ℕ) → target x.lane ≡ me → ((l : Lane) → taken' l ≡ cond (same_lane l x.lane) (x.number + 1) (taken l)) → Runs world me target writes taken' came o mid
   own-taken taken' here counts = record {

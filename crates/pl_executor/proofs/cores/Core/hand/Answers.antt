@@ -1,8 +1,8 @@
 use Rattle.std.proofs.Common.{refl, sym, ap, subst, ◌∙◌}
 use Rattle.pl_context.specs.WaitingViews.{WaitingView, Holds}
 use Rattle.pl_words.specs.Admissions.{AdmittedView}
-use Rattle.pl_executor.specs.OutboxViews.{OutboxesView, Stays, oldest_untried}
-use Rattle.pl_executor.proofs.RunLemmas.{holds-stay}
+use Rattle.pl_executor.specs.OutboxViews.{OutboxesView, Stays, Sends, oldest_untried}
+use Rattle.pl_executor.proofs.RunLemmas.{holds-stay, sends-first}
 use Rattle.pl_executor.proofs.TurnLemmas.{untried-same, keeps-then, offer-keeps}
 use Rattle.pl_executor.proofs.cores.Core.hand.Goals as goal
 
@@ -38,3 +38,12 @@ loop-preserved g c = record {
 
 pub returns-in-Handed-clause-none : goal.returns-in-Handed-clause-none
 returns-in-Handed-clause-none g c = tt
+
+pub returns-in-Handed-clause-handed : goal.returns-in-Handed-clause-handed
+returns-in-Handed-clause-handed g c =
+    let o = c.args.self.now.outboxes in
+    let target = c.in-Some-oldest.target in
+    subst (λ (p : OutboxesView). Sends o target p) (sym c.ring_for_many.ensures) (sends-first o c.loop.self.outboxes c.offer.new.self target c.loop.invariant.keeps.each c.in-Handed.ensures.offers)
+
+pub offer-requires : goal.offer-requires
+offer-requires g c = record { there = c.in-Some-oldest.ensures.there }

@@ -1,4 +1,4 @@
-use Rattle.std.proofs.Common.{arith, rules, ◌≡◌, ◌∷◌, [], ◌<◌, ℕ, List, inl, inr, false, length, ap, sym, subst, ◌∙◌}
+use Rattle.std.proofs.Common.{arith, rules, ◌≡◌, ◌∷◌, [], ◌<◌, ℕ, List, inl, inr, false, length, refl, ap, sym, subst, ◌∙◌}
 use Rattle.pl_event.specs.declared.envelopes.Envelope.{Envelope}
 use Rattle.pl_context.specs.Stops.{HasPlaces, StopsView}
 use Rattle.pl_context.specs.WaitingViews.{stops_for}
@@ -8,7 +8,8 @@ use Rattle.pl_executor.specs.OutboxViews.{reached, is_cut, Adds, RefusedBy}
 use Rattle.pl_words.specs.declared.admission.Refused.{Refused}
 use Rattle.pl_executor.proofs.AddSteps.{refused-some}
 use Rattle.pl_executor.proofs.AdmissionLemmas.{admits_on, admits_front, admits_more, never-spent}
-use Rattle.pl_executor.proofs.RunLemmas.{own-number, own-good, own-taken, away-there, away-next, away-placed, away-added, places-on, runs-on}
+use Rattle.pl_executor.proofs.RunLemmas.{own-number, own-good, own-taken, front-taken, away-there, away-next, away-placed, away-added, places-on, runs-on}
+use Rattle.pl_executor.proofs.TurnLemmas.{nothing-none}
 use Rattle.pl_executor.proofs.cores.Core.step.Goals as goal
 
 -- ---- a direct call
@@ -159,3 +160,27 @@ returns-in_default-clause-holds g c =
           let n = ap (λ (zs : List Envelope). length zs) c.in_default.ensures.front in
           admits_on (g.N.Part.writes part) (g.N.Part.came part) o o c.args.self.now.work c.next.new.self c.requires.holds.admits c.next.ensures.stopped (omega (arith, n));
     }
+
+-- ---- what stays
+
+pub returns-then-target-self-clause-keeps : goal.returns-then-target-self-clause-keeps
+returns-then-target-self-clause-keeps g c =
+    let keeps = c.take.ensures.keeps in
+    record { number = refl; routes = keeps.routes; written = keeps.written; counts = keeps.counts; sends = nothing-none c.args.self.now.outboxes }
+
+pub returns-then-target-self-clause-taken : goal.returns-then-target-self-clause-taken
+returns-then-target-self-clause-taken g c =
+    front-taken g.W.Named.world c.args.self.now.number (g.N.Part.target_of c.args.self.now.part) (g.N.Part.writes c.args.self.now.part) (g.N.Part.taken_of c.args.self.now.part) (g.N.Part.came c.args.self.now.part)
+    c.args.self.now.outboxes c.args.self.now.work c.next.new.self c.in-Some.envelope c.requires.holds.runs c.in-Some.ensures.front c.in-Some.ensures.stopped
+    (g.N.Part.taken_of c.take.new.self) c.take.ensures.taken
+
+pub returns-in-Err-Closed-clause-keeps : goal.returns-in-Err-Closed-clause-keeps
+returns-in-Err-Closed-clause-keeps g c =
+    let keeps = c.refuse.ensures.keeps in
+    let adds = c.add.ensures.adds in
+    record { number = refl; routes = keeps.routes; written = keeps.written; counts = keeps.counts; sends = record { sends = adds.sends; tried = adds.tried } }
+
+pub returns-in-Ok-clause-keeps : goal.returns-in-Ok-clause-keeps
+returns-in-Ok-clause-keeps g c =
+    let adds = c.add.ensures.adds in
+    record { number = refl; routes = λ l. refl; written = λ l. refl; counts = refl; sends = record { sends = adds.sends; tried = adds.tried } }

@@ -1,10 +1,13 @@
+use Rattle.std.proofs.Common.{◌∙◌}
 use Rattle.pl_executor.proofs.executors.Executor.run.Goals as goal
 
-pub into_finished-requires-clause-over : goal.into_finished-requires-clause-over
-into_finished-requires-clause-over g c = (c.loop.invariant.2 (cc)).1
+pub loop-init : goal.loop-init
+loop-init g c = (c.turn-turn.ensures.number, c.turn-turn.ensures.entered, c.turn-turn.ensures.done)
 
-pub into_finished-requires-clause-closed : goal.into_finished-requires-clause-closed
-into_finished-requires-clause-closed g c = (c.loop.invariant.2 (cc)).0
+pub loop-preserved : goal.loop-preserved
+loop-preserved g c = (c.turn-turn-in-loop.ensures.number ∙ c.loop.invariant.0, c.loop.invariant.1, c.turn-turn-in-loop.ensures.done)
 
-pub into_finished-requires-clause-drained : goal.into_finished-requires-clause-drained
-into_finished-requires-clause-drained g c = (c.loop.invariant.2 (cc)).2
+pub into_finished-requires : goal.into_finished-requires
+into_finished-requires g c =
+    let done = c.loop.invariant.2 (cc) in
+    record { over = done.1; closed = done.0; drained = done.2 }
