@@ -7,7 +7,7 @@ use Rattle.pl_event.specs.Hops.{same_lane}
 use Rattle.pl_queue.specs.Views.{fresh_send_counts, fresh_take_counts, next_of, has_lane}
 use Rattle.pl_queue.proofs.Lists.{next_of-fresh}
 use Rattle.pl_flow.specs.Flows.{point}
-use Rattle.pl_executor.specs.Sent.{sent_at}
+use Rattle.pl_outbox.specs.Sent.{sent_at}
 
 -- nothing was sent on a lane of a new sender
 pub sent_at-fresh : (lanes : List Lane) (l : Lane) → has_lane l lanes ≡ true → sent_at (fresh_send_counts lanes) l ≡ point 0 false

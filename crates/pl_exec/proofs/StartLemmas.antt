@@ -18,8 +18,8 @@ use Rattle.pl_queue.specs.Left.{all_lanes}
 use Rattle.pl_queue.specs.Views.{next_of}
 use Rattle.pl_words.specs.Admissions.{AdmittedView, SendSeatView}
 use Rattle.pl_flow.specs.Flows.{Point, point, nowhere, on, past}
-use Rattle.pl_executor.specs.Sent.{sent_at}
-use Rattle.pl_executor.specs.OutboxViews.{OutboxView, OutboxesView, IsNew, waits_for, sent_to, reached}
+use Rattle.pl_outbox.specs.Sent.{sent_at}
+use Rattle.pl_outbox.specs.OutboxViews.{OutboxView, OutboxesView, IsNew, waits_for, sent_to, reached}
 use Rattle.pl_executor.specs.Running.{Runs, IsTaking}
 use Rattle.pl_executor.proofs.RunLemmas.{runs-start}
 use Rattle.pl_exec.specs.Opening.{LaneTable, lanes_to, lanes_between, InboxView, WayView, WaysView, PlacesView, outbox_of, HasWays, AreWays, Starts, CanStart}

@@ -12,8 +12,8 @@ use Rattle.pl_words.specs.Names.{Name}
 use Rattle.pl_words.specs.Admissions.{SendSeatView, OwnerSeatView, new_send_seat, new_owner_seat}
 use Rattle.pl_words.specs.declared.status.Status.TheVariants.{Accepting}
 use Rattle.pl_flow.specs.Flows.{Point, point}
-use Rattle.pl_executor.specs.Admitting.{FewLanes}
-use Rattle.pl_executor.specs.OutboxViews.{OutboxView, waits_for}
+use Rattle.pl_outbox.specs.Admitting.{FewLanes}
+use Rattle.pl_outbox.specs.OutboxViews.{OutboxView, waits_for}
 use Rattle.pl_executor.specs.Running.{ExecutorView}
 use Rattle.pl_exec.specs.Adding.{each_with}
 

@@ -1,11 +1,5 @@
-pub mod SentLemmas
-pub mod OutboxLemmas
-pub mod AddSteps
-pub mod OfferSteps
-pub mod AdmissionLemmas
 pub mod RunLemmas
 pub mod CountLemmas
 pub mod Sends
 pub mod FirstTurns
 pub mod TurnLemmas
-pub mod TryLemmas

@@ -24,12 +24,12 @@ use Rattle.pl_flow.specs.LaneRuns.{LaneRuns}
 use Rattle.pl_flow.specs.Makes.{Makes}
 use Rattle.pl_flow.proofs.FlowLemmas.{on-append, on-own, on-other}
 use Rattle.pl_flow.proofs.LaneRunLemmas.{lane-grows, lane-leaves, lane-behind}
+use Rattle.pl_outbox.specs.OutboxViews.{OutboxesView, reached, is_cut, Adds, SameFor, Sends, Stays}
+use Rattle.pl_outbox.proofs.AdmissionLemmas.{admits_on}
 use Rattle.pl_executor.specs.declared.cores.Core.{Core}
 use Rattle.pl_executor.specs.Cores.{CoreHolds}
 use Rattle.pl_executor.specs.Parts.{KeepsPlaces}
-use Rattle.pl_executor.specs.OutboxViews.{OutboxesView, reached, is_cut, Adds, SameFor, Sends, Stays}
 use Rattle.pl_executor.specs.Running.{Runs, IsTaking}
-use Rattle.pl_executor.proofs.AdmissionLemmas.{admits_on}
 
 cons-none : {A : Type 0} (x : A) (xs : List A) → x ∷ xs ≡ [] → ⊥
 cons-none x xs e = cc

@@ -7,7 +7,6 @@ use denote.Struct.Tuple.{TupleAt, type_at}
 use denote.Param.Send.{IsSend, IsSync, AllSend, sendable, view_send, recorded_send, struct_send}
 use mathlib.Core.List.{[], ◌∷◌}
 use mir.Syntax.{Sym}
-use Rattle.std.proofs.vec.Vec.TheSendSync as vec
 use Rattle.std.proofs.alloc.Global.TheSendSync as global
 use Rattle.std.below.std_heap.proofs.GlobalAllocator.TheSendSync as global_allocator
 use Rattle.std.specs.contracts.alloc.Global as global_row
@@ -18,46 +17,20 @@ use Rattle.crossbeam_utils.specs.contracts.rule.UnruledProtocolUnit.TheImpl as p
 use Rattle.crossbeam_utils.proofs.sync.parker.RuledParker.TheSendSync as parker
 use Rattle.pl_event.specs.declared.named.Named as named
 use Rattle.pl_queue.specs.declared.mailbox.Mailbox as mailbox
-use Rattle.pl_words.specs.contracts.admission.Admitted as admitted
 use Rattle.pl_words.proofs.admission.OwnerSeat.TheSendSync as owner
-use Rattle.pl_context.specs.contracts.waiting.Waiting as waiting
-use Rattle.pl_context.proofs.waiting.Waiting.TheSendSync as waits
 use Rattle.pl_context.proofs.outputs.Outputs.TheSendSync as outputs
+use Rattle.pl_outbox.proofs.Sends.{outboxes_send}
+use Rattle.pl_outbox.proofs.inbox.Inbox.TheSendSync as inbox
 use Rattle.pl_executor.specs.declared.part.Part as part
-use Rattle.pl_executor.specs.contracts.bell.Waiters as waiters
-use Rattle.pl_executor.specs.contracts.outboxes.Outboxes as outboxes
-use Rattle.pl_executor.specs.contracts.outboxes.Outboxes.TheInside as outboxes_inside
 use Rattle.pl_executor.specs.contracts.cores.Core as core
 use Rattle.pl_executor.specs.contracts.executors.Executor as executor
 use Rattle.pl_executor.specs.contracts.executors.Executor.TheInside as executor_inside
-use Rattle.pl_executor.proofs.inbox.Inbox.TheSendSync as inbox
-use Rattle.pl_executor.proofs.outbox.Outbox.TheSendSync as outbox
-use Rattle.pl_executor.proofs.tries.Tries.TheSendSync as tries
-
-admitted_send : IsSend admitted.the_row
-admitted_send = search sendable depth 20
-
-waiting_send : IsSend (waiting.the_row admitted.the_row)
-waiting_send = waits.the_send admitted.the_row admitted_send
-
-waiters_send : IsSend (waiters.the_field).row
-waiters_send =
-    let O = waiters.the_type in
-    let all : AllSend (fields O) = (search sendable, tt) in
-    struct_send (shape O) all
 
 module _ (a : NamedLft) (W M N S T : RattleType) (w : named.Ghosts W.Denot) (m : mailbox.Ghosts M.Denot W.Denot S.Denot T.Denot) where
-  outboxes_send : IsSend S → IsSync M → IsSend (outboxes.the_row a W M S T w m)
-  outboxes_send s y =
-      let o = outbox.the_send a W M S T w m s y in
-      let O = outboxes_inside.the_type a W M S T w m in
-      let all : AllSend (fields O) = (vec.the_send _ _ _ o global.the_send global_allocator.the_frees, (waiting_send, (tries.the_send, (waiters_send, (search sendable, tt))))) in
-      view_send _ _ _ _ _ (recorded_send _ _ O.to O.to_one (struct_send (shape O) all))
-
   core_send : IsSend N → IsSend S → IsSync M → IsSend (core.the_field a W M N S T w m).row
   core_send n s y =
       let O = core.the_type a W M N S T w m in
-      let all : AllSend (fields O) = (search sendable, (n, (outboxes_send s y, (outputs.the_send, tt)))) in
+      let all : AllSend (fields O) = (search sendable, (n, (outboxes_send a W M S T w m s y, (outputs.the_send, tt)))) in
       struct_send (shape O) all
 
   pub executor_send : (p : part.Ghosts N.Denot W.Denot) → IsSend N → IsSend S → IsSend T → IsSync M → IsSend (executor.the_row a W M N S T w m p)

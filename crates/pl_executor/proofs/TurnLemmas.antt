@@ -5,10 +5,10 @@ use Rattle.std.specs.List.{find}
 use Rattle.std.specs.Option.{option_map}
 use Rattle.pl_context.specs.WaitingViews.{Entry, Holds}
 use Rattle.pl_words.specs.Admissions.{AdmittedView}
-use Rattle.pl_executor.specs.declared.outboxes.Offered.{Offered}
-use Rattle.pl_executor.specs.declared.outboxes.Offered.TheVariants.{Handed, Full, Nothing}
-use Rattle.pl_executor.specs.Tries.{is_tried}
-use Rattle.pl_executor.specs.OutboxViews.{OutboxesView, was_tried, oldest_untried, SameFor, Keeps, Sends, SendsNothing, Offers}
+use Rattle.pl_outbox.specs.declared.outboxes.Offered.{Offered}
+use Rattle.pl_outbox.specs.declared.outboxes.Offered.TheVariants.{Handed, Full, Nothing}
+use Rattle.pl_outbox.specs.Tries.{is_tried}
+use Rattle.pl_outbox.specs.OutboxViews.{OutboxesView, was_tried, oldest_untried, SameFor, Keeps, Sends, SendsNothing, Offers}
 use Rattle.pl_executor.specs.Turning.{SendsAtMostOne}
 
 pub untried-same : (o o' : OutboxesView) (entries : List (Entry AdmittedView)) → ((y : ℕ) → was_tried o' y ≡ was_tried o y) → oldest_untried o' entries ≡ oldest_untried o entries

@@ -7,9 +7,9 @@ use Rattle.pl_event.specs.Worlds.{World}
 use Rattle.pl_context.specs.Stops.{HasPlaces}
 use Rattle.pl_words.specs.declared.admission.Refused.TheVariants.{Closed}
 use Rattle.pl_flow.specs.Flows.{Point}
+use Rattle.pl_outbox.specs.Admitting.{AdmitsOnce}
+use Rattle.pl_outbox.specs.OutboxViews.{OutboxesView, Comes, RefusedBy, SendsNothing, SomeClosed}
 use Rattle.pl_executor.specs.declared.cores.Core.{Core}
-use Rattle.pl_executor.specs.Admitting.{AdmitsOnce}
-use Rattle.pl_executor.specs.OutboxViews.{OutboxesView, Comes, RefusedBy, SendsNothing, SomeClosed}
 use Rattle.pl_executor.specs.Running.{Runs}
 
 module _ {W M N S T : Type 0} (target_of : N → Lane → ℕ) (writes : N → Lane → Bool) where

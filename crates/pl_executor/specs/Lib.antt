@@ -1,7 +1,3 @@
-pub mod Sent
-pub mod Tries
-pub mod OutboxViews
-pub mod Admitting
 pub mod Running
 pub mod Cores
 pub mod Parts

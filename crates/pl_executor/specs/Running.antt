@@ -12,7 +12,7 @@ use Rattle.pl_queue.specs.Views.{next_of}
 use Rattle.pl_words.specs.Admissions.{OwnerSeatView}
 use Rattle.pl_flow.specs.Flows.{Point, point, on}
 use Rattle.pl_flow.specs.LaneRuns.{LaneRuns}
-use Rattle.pl_executor.specs.OutboxViews.{OutboxesView, reached, is_cut, is_closed}
+use Rattle.pl_outbox.specs.OutboxViews.{OutboxesView, reached, is_cut, is_closed}
 
 -- The executor's number; by lane the executor that it enters, whether the nodes write it, how many items of it they have
 -- taken, and how far they have made it.

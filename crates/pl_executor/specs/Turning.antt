@@ -6,7 +6,7 @@ use Rattle.pl_context.specs.WaitingViews.{Entry, Holds}
 use Rattle.pl_queue.specs.declared.views.SenderView.{SenderView}
 use Rattle.pl_queue.specs.Views.{after_offer, after_take}
 use Rattle.pl_words.specs.Admissions.{AdmittedView}
-use Rattle.pl_executor.specs.OutboxViews.{OutboxesView, sends_for, waits_for, oldest_untried, SameFor, SendsNothing, is_closed}
+use Rattle.pl_outbox.specs.OutboxViews.{OutboxesView, sends_for, waits_for, oldest_untried, SameFor, SendsNothing, is_closed}
 use Rattle.pl_executor.specs.Running.{ExecutorView}
 
 -- The oldest that waited for a target whose queue was not full was sent there, and nothing else was sent.

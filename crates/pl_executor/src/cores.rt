@@ -7,15 +7,15 @@ ghost use Rattle.pl_event.specs.Hops.{same_lane};
 ghost use Rattle.pl_context.specs.WaitingViews.{Entry, Holds};
 ghost use Rattle.pl_words.specs.Admissions.{AdmittedView};
 ghost use Rattle.pl_flow.specs.Flows.{IsGood};
+ghost use Rattle.pl_outbox.specs.OutboxViews.{SameFor, Sends, oldest_untried};
 ghost use Rattle.pl_executor.specs.Cores.{CoreHolds, CoreKeeps, Departs};
-ghost use Rattle.pl_executor.specs.OutboxViews.{SameFor, Sends, oldest_untried};
 ghost use Rattle.pl_executor.specs.Serving.{ServesNone, MovesAtMostOnce};
 
-use crate::outboxes::{Offered, Outboxes};
 use crate::part::Part;
 use pl_context::Outputs;
 use pl_event::{Envelope, Named};
 use pl_flow::HeadMove;
+use pl_outbox::{Offered, Outboxes};
 use pl_queue::Mailbox;
 use pl_words::Refused;
 use std::sync::Wait;

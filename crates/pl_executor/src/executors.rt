@@ -9,9 +9,9 @@ ghost use Rattle.pl_flow.specs.declared.moves.HeadMove.{HeadMove};
 ghost use Rattle.pl_words.specs.declared.status.Status.TheVariants.{Accepting};
 ghost use Rattle.pl_words.specs.Phases.{rank};
 ghost use Rattle.pl_words.specs.Admissions.{AdmittedView, OwnerSeatView, new_owner_seat};
+ghost use Rattle.pl_outbox.specs.Admitting.{FewLanes};
+ghost use Rattle.pl_outbox.specs.OutboxViews.{admissions, waits_for, is_closed, SomeClosed, SameFor, Sends, SendsNothing, oldest_untried};
 ghost use Rattle.pl_executor.specs.declared.executors.Turn.TheVariants.{Worked, Idle, Done};
-ghost use Rattle.pl_executor.specs.Admitting.{FewLanes};
-ghost use Rattle.pl_executor.specs.OutboxViews.{admissions, waits_for, is_closed, SomeClosed, SameFor, Sends, SendsNothing, oldest_untried};
 ghost use Rattle.pl_executor.specs.Running.{Runs, IsTaking};
 ghost use Rattle.pl_executor.specs.Serving.{ServesNone, MovesAtMostOnce, ServesAtMostOnce};
 ghost use Rattle.pl_executor.specs.Turning.{SendsAtMostOne, TakesAtMostOne, IsStill, OnlyServes};
@@ -19,12 +19,12 @@ ghost use Rattle.pl_executor.specs.Turning.{SendsAtMostOne, TakesAtMostOne, IsSt
 use crate::cores::Core;
 use crate::finished::Finished;
 use crate::gate::Gate;
-use crate::inbox::Inbox;
 use crate::part::Part;
 use crate::start::Start;
 use crossbeam_utils::sync::Parker;
 use pl_event::Named;
 use pl_flow::HeadMove;
+use pl_outbox::Inbox;
 use pl_queue::Mailbox;
 use pl_words::OwnerSeat;
 use std::marker::Model;
@@ -91,7 +91,7 @@ where
     /// An executor with these nodes and outboxes, and the taker and the owner's seat of its own inbox, from which nothing was
     /// taken, and which is accepting. What the taker is to take first is the next of its lane for the nodes. These write
     /// fewer than 2^13 lanes, and no seat has made an admission: so none is ever spent.
-    #[tactic(auto, using(crate::proofs::AdmissionLemmas::admits_start))]
+    #[tactic(auto, using(pl_outbox::proofs::AdmissionLemmas::admits_start))]
     pub fn new(
         core: Core<'a, W, M, N>,
         inbox: &'a Inbox<W, M>,
@@ -192,11 +192,11 @@ where
         }
         match self.inbox.mailbox.take::<R>(rt, &mut self.taker) {
             None => {
-                self.core.outboxes.ring(self.inbox.bell.take_waiting());
+                self.core.outboxes.ring(self.inbox.take_waiting());
                 false
             }
             Some(envelope) => {
-                let waiters = self.inbox.bell.take_waiting_after(self.run);
+                let waiters = self.inbox.take_waiting_after(self.run);
                 self.core.outboxes.ring(waiters);
                 self.run = self.run.saturating_add(1);
                 self.core.take(envelope);
@@ -373,7 +373,7 @@ where
 
     /// Says that it is about to rest, and notes at each queue that was full in the last turn that it waits for room.
     fn announce_rest(&self) {
-        self.inbox.bell.announce_rest();
+        self.inbox.announce_rest();
         self.core.outboxes.note_waiting(self.core.number);
     }
 

@@ -1,26 +1,18 @@
 //! Executors on threads: each runs its tasks one after another, and hands what it makes for others to their queues.
 #![tactic(auto)]
 
-mod bell;
 mod cores;
 mod executors;
 mod finished;
 mod gate;
-mod inbox;
-mod outbox;
-mod outboxes;
 mod part;
 mod start;
 mod threads;
-mod tries;
 
 pub use cores::Core;
 pub use executors::{Executor, Turn};
 pub use finished::Finished;
 pub use gate::Gate;
-pub use inbox::Inbox;
-pub use outbox::Outbox;
-pub use outboxes::{Offered, Outboxes};
 pub use part::Part;
 pub use start::Start;
 pub use threads::{RunFault, run_all};

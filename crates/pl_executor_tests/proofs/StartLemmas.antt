@@ -21,10 +21,10 @@ use Rattle.pl_queue.specs.Rule.{Each}
 use Rattle.pl_words.specs.Names.{Name}
 use Rattle.pl_words.specs.Admissions.{AdmittedView, new_send_seat}
 use Rattle.pl_flow.specs.Flows.{point, nowhere, on, past}
-use Rattle.pl_executor.specs.declared.inbox.Inbox.{Inbox}
-use Rattle.pl_executor.specs.Admitting.{FewLanes}
-use Rattle.pl_executor.specs.Sent.{sent_at}
-use Rattle.pl_executor.specs.OutboxViews.{OutboxView, OutboxesView, waits_for, sent_to, reached}
+use Rattle.pl_outbox.specs.declared.inbox.Inbox.{Inbox}
+use Rattle.pl_outbox.specs.Admitting.{FewLanes}
+use Rattle.pl_outbox.specs.Sent.{sent_at}
+use Rattle.pl_outbox.specs.OutboxViews.{OutboxView, OutboxesView, waits_for, sent_to, reached}
 use Rattle.pl_executor.specs.Running.{Runs, IsTaking}
 use Rattle.pl_executor.proofs.RunLemmas.{runs-start}
 use Rattle.pl_executor_tests.specs.declared.nodes.Node.{Node}

@@ -5,7 +5,7 @@ use Rattle.pl_queue.specs.declared.views.SenderView.{SenderView}
 use Rattle.pl_queue.specs.declared.views.TakerView.{TakerView}
 use Rattle.pl_queue.specs.Views.{fresh_sends, fresh_take_counts, takes}
 use Rattle.pl_words.specs.Admissions.{new_owner_seat, new_send_seat}
-use Rattle.pl_executor.specs.declared.inbox.Inbox.{Inbox}
+use Rattle.pl_outbox.specs.declared.inbox.Inbox.{Inbox}
 use Rattle.pl_executor_tests.specs.Nodes.{IsFresh, NodeStands, lane_to}
 use Rattle.pl_executor_tests.specs.declared.nodes.Node.{Node}
 use Rattle.pl_executor_tests.specs.declared.nodes.Outlet.{Outlet}

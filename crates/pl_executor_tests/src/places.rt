@@ -2,7 +2,7 @@
 
 use crossbeam_utils::sync::Parker;
 use pl_event::Named;
-use pl_executor::Inbox;
+use pl_outbox::Inbox;
 use pl_queue::Mailbox;
 use pl_words::{OwnerSeat, SendSeat};
 

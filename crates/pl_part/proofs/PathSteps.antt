@@ -547,6 +547,26 @@ module _ {S : Type 0} (meaning : S → Meaning) (stands_after : S → List Event
     next-of : (world : World) × IsNextOnPath world meaning stands_after v e before
     next-of = subst (λ (y : PathPartView S). (world : World) × IsNextOnPath world meaning stands_after y e before) (sym same) some
 
+    pub next-within : (e.lane.hop == p.tail_hop) ≡ false → e.lane.hop < length v.contexts
+    next-within elsewhere =
+        let next = next-of in
+        entered-within next.0 meaning stands_after v e before next.1 (subst (λ (y : PathPartView S). (e.lane.hop == y.tail_hop) ≡ false) (sym same) elsewhere)
+
+    pub never-none : (e.lane.hop == p.tail_hop) ≡ false → (slot : Option (ContextView S)) → slot ≡ get_or v.contexts e.lane.hop slot → slot ≡ None → ⊥
+    never-none elsewhere slot value none =
+        let next = next-of in
+        let off = subst (λ (y : PathPartView S). (e.lane.hop == y.tail_hop) ≡ false) (sym same) elsewhere in
+        let at = slot-at v.contexts e.lane.hop slot None (next-within elsewhere) value none in
+        both_ways (is_some (context_at v e.lane.hop)) (ap (λ (o : Option (ContextView S)). is_some o) at)
+        (sym (cond-false (e.lane.hop == v.tail_hop) (is_some v.tail) (is_some (context_at v e.lane.hop)) off) ∙ (and_parts (e.lane.channel == v.channel) _ next.1.entered).1)
+
+    pub never-no-tail : (e.lane.hop == p.tail_hop) ≡ true → v.tail ≡ None → ⊥
+    never-no-tail at_tail none =
+        let next = next-of in
+        let there = subst (λ (y : PathPartView S). (e.lane.hop == y.tail_hop) ≡ true) (sym same) at_tail in
+        both_ways (is_some v.tail) (ap (λ (o : Option TailView). is_some o) none)
+        (sym (cond-true (e.lane.hop == v.tail_hop) (is_some v.tail) (is_some (context_at v e.lane.hop)) there) ∙ (and_parts (e.lane.channel == v.channel) _ next.1.entered).1)
+
     pub next-at : IsPathPart (length v.executors) (length v.contexts) v.tail_hop v.turn → (e.lane.hop == p.tail_hop) ≡ false → (c : ContextView S) (slot : Option (ContextView S)) → slot ≡ get_or v.contexts e.lane.hop slot → slot ≡ Some c
         → (world : World) × IsNextAt world meaning stands_after v e before c
     next-at inv elsewhere c slot value is =

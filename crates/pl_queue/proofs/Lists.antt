@@ -1,6 +1,7 @@
 -- Runs of numbers, and look-ups by lane.
 use Rattle.std.proofs.Common.{◌≡◌, ◌⊎◌, ◌+◌, ◌<◌, ◌≤◌, ℕ, Bool, true, false, cond, List, [], ◌∷◌, ◌++◌, map, Some, None, zero, suc, length, get_or, take, drop, refl, ap, sym, ◌∙◌, subst, inl, inr, ⊎_elim, arith, add-one, append_assoc, append-nil}
 use Rattle.std.proofs.lemmas.Bool.{cond-true, cond-false, cases_Bool, both_ways, false≢true}
+use Rattle.std.proofs.lemmas.List.{map_more}
 use Rattle.pl_event.specs.declared.envelopes.Lane.{Lane}
 use Rattle.pl_event.specs.declared.envelopes.Envelope.{Envelope}
 use Rattle.pl_event.specs.Hops.{same_lane}
@@ -188,6 +189,11 @@ take-more (y ∷ ys) (suc i) x h e = ap (λ k. y ∷ k) (take-more ys i x (omega
 
 pub map-more : {A B : Type 0} (f : A → B) (xs : List A) (i : ℕ) (x : A) → i < length xs → x ≡ get_or xs i x → map f (take (i + 1) xs) ≡ map f (take i xs) ++ f x ∷ []
 map-more f xs i x h e = ap (λ n. map f (take n xs)) (add-one i) ∙ ap (λ k. map f k) (take-more xs i x h e) ∙ map-append f (take i xs) (x ∷ [])
+
+-- what a loop has pushed onto start, one more
+pub pushed-more : {A B : Type 0} (f : A → B) (start now : List B) (xs : List A) (i : ℕ) (d : A) → i < length xs → now ≡ start ++ map f (take i xs) → now ++ f (get_or xs i d) ∷ [] ≡ start ++ map f (take (i + 1) xs)
+pushed-more f start now xs i d h e =
+    ap (λ k. k ++ f (get_or xs i d) ∷ []) e ∙ append_assoc start (map f (take i xs)) (f (get_or xs i d) ∷ []) ∙ ap (λ k. start ++ k) (sym (map_more f xs i d h))
 
 pub lanes-more : {A : Type 0} (f : A → List Lane) (xs : List A) (i : ℕ) (x : A) → i < length xs → x ≡ get_or xs i x
     → all_lanes (map f (take (i + 1) xs)) ≡ all_lanes (map f (take i xs)) ++ f x

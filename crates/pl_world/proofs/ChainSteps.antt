@@ -1,5 +1,5 @@
--- A stage that takes one event more, and a chain with one stage more.
-use Rattle.std.proofs.Common.{◌≡◌, List, [], ◌∷◌, ◌++◌, map, sym, ap, ◌∙◌}
+-- A stage that takes one event more, a chain with one stage more, and a loop that has pushed one result more.
+use Rattle.std.proofs.Common.{◌≡◌, List, [], ◌∷◌, ◌++◌, map, sym, ap, ◌∙◌, append_assoc}
 use Rattle.std.proofs.lemmas.List.{map_push}
 use Rattle.pl_event.specs.declared.events.Event.{Event}
 use Rattle.pl_event.specs.Meaning.{Meaning, made_after, made-push}
@@ -17,3 +17,10 @@ through_more meaning makes stages s xs made made' so_far step =
     ∙ ap (makes (meaning s)) so_far
     ∙ sym (through_by-push makes (map meaning stages) (meaning s) xs)
     ∙ ap (λ (ms : List Meaning). through_by makes ms xs) (sym (map_push meaning stages s))
+
+pub pushed_more : {A B : Type 0} (f : A → B) (before made made' : List B) (xs : List A) (x : A) → made ≡ before ++ map f xs → made' ≡ made ++ f x ∷ [] → made' ≡ before ++ map f (xs ++ x ∷ [])
+pushed_more {B = B} f before made made' xs x so_far step =
+    step
+    ∙ ap (λ (t : List B). t ++ f x ∷ []) so_far
+    ∙ append_assoc before (map f xs) (f x ∷ [])
+    ∙ ap (λ (t : List B). before ++ t) (sym (map_push f xs x))

@@ -1,9 +1,9 @@
 -- An inbound chain parted at its turn, and handlers that have taken nothing.
-use Rattle.std.proofs.Common.{◌≡◌, ℕ, ◌+◌, List, [], ◌∷◌, ◌++◌, take, drop, Bool, false, ap, subst, ◌∙◌, arith}
+use Rattle.std.proofs.Common.{◌≡◌, ℕ, ◌+◌, ◌<◌, List, [], ◌∷◌, ◌++◌, length, get_or, take, drop, Bool, false, ap, sym, subst, ◌∙◌, arith, add-one, drop-cons}
 use Rattle.std.specs.Prelude.{All}
 use Rattle.std.specs.List.{list_any, position_or_len}
 use Rattle.std.proofs.lemmas.Grind.{common_steps}
-use Rattle.std.proofs.lemmas.List.{get_or-take, length-take}
+use Rattle.std.proofs.lemmas.List.{get_or-take, length-take, take-append-drop}
 use Rattle.std.proofs.lemmas.List.Elements.{All-nil, All-cons, All-head, All-tail}
 use Rattle.std.proofs.lemmas.List.Folds.{list_any_none}
 use Rattle.std.proofs.lemmas.List.Sums.{fails_before_first}
@@ -19,6 +19,14 @@ none_before p xs i first =
 
 pub front_kept : {X : Type 0} (xs : List X) (i : ℕ) → take i (take (i + 1) xs) ++ drop (i + 1) (take (i + 1) xs) ≡ take i xs
 front_kept xs i = grind (arith, common_steps)
+
+pub parted_whole : {X : Type 0} (xs cut front rest : List X) (i : ℕ) (x : X) → i < length xs → cut ≡ take (i + 1) xs → front ≡ take i cut ++ drop (i + 1) cut → x ≡ get_or cut i x → rest ≡ drop (i + 1) xs → xs ≡ front ++ x ∷ rest
+parted_whole {X = X} xs cut front rest i x within is kept here left =
+    let front_is : front ≡ take i xs = kept ∙ ap (λ (t : List X). take i t ++ drop (i + 1) t) is ∙ front_kept xs i in
+    let x_is : x ≡ get_or xs i x = here ∙ ap (λ (t : List X). get_or t i x) is ∙ get_or-take (i + 1) xs i x (omega arith) in
+    sym (take-append-drop i xs)
+    ∙ ap (λ (t : List X). take i xs ++ t) (drop-cons xs i x within ∙ ap (λ (n : ℕ). get_or xs i x ∷ drop n xs) (sym (add-one i)))
+    ∙ (λ k. sym front_is k ++ sym x_is k ∷ sym left k)
 
 -- ---- chains
 

@@ -21,14 +21,6 @@ bytes_more before bytes new ws w so_far step =
     ∙ append_assoc before (bytes_of ws) (bytes_of (w ∷ []))
     ∙ ap (λ (t : List ℕ). before ++ t) (sym (bytes_of-append ws (w ∷ [])))
 
-pub outcomes_more : (f : Option (List ℕ) → Option Outcome) (before os new : List (Option Outcome)) (ws : List (Option (List ℕ))) (w : Option (List ℕ))
-    → os ≡ before ++ map f ws → new ≡ os ++ f w ∷ [] → new ≡ before ++ map f (ws ++ w ∷ [])
-outcomes_more f before os new ws w so_far step =
-    step
-    ∙ ap (λ (t : List (Option Outcome)). t ++ f w ∷ []) so_far
-    ∙ append_assoc before (map f ws) (f w ∷ [])
-    ∙ ap (λ (t : List (Option Outcome)). before ++ t) (sym (map-append f ws (w ∷ [])))
-
 -- ---- one event more
 
 -- a flush writes nothing itself

@@ -1,5 +1,5 @@
 -- The limits of a world, and what is left of them.
-use Rattle.std.proofs.Common.{◌≡◌, ℕ, ◌+◌, ◌*◌, ◌<◌, ◌≤◌, ◌==◌, List, [], ◌∷◌, ◌++◌, length, take, map, get_or, sum_by, true, false, nat_lt, nat_le, Option, Some, ap, ap₂, sym, ◌∙◌, ◌&&◌, refl, arith, append-nil}
+use Rattle.std.proofs.Common.{◌≡◌, ℕ, ◌+◌, ◌*◌, ◌<◌, ◌≤◌, ◌==◌, List, [], ◌∷◌, ◌++◌, length, take, map, get_or, sum_by, true, false, nat_lt, nat_le, Option, Some, None, zero, suc, ap, ap₂, sym, ◌∙◌, ◌&&◌, refl, arith, append-nil}
 use Rattle.std.specs.Prelude.{slice_get, All}
 use Rattle.std.specs.List.{list_all}
 use Rattle.std.proofs.lemmas.Bool.{and_parts, leb-true, ltb-true, lt-ltb, le-ltb}
@@ -7,7 +7,7 @@ use Rattle.std.proofs.lemmas.Option.{slice_get_within, get_or_from_slice_get}
 use Rattle.std.proofs.lemmas.List.Elements.{All-nil, All-cons, All-head, All-tail, All-map}
 use Rattle.std.proofs.lemmas.List.Folds.{list_all_at, list_all_more}
 use Rattle.std.proofs.lemmas.List.Sums.{sum_by-cons}
-use Rattle.std.proofs.lemmas.List.{length-map}
+use Rattle.std.proofs.lemmas.List.{length-map, take_all}
 use Rattle.pl_event.specs.declared.events.Event.{Event}
 use Rattle.pl_event.proofs.Lists.{All-from_list_all, count_by-map}
 use Rattle.pl_event.specs.Meaning.{Meaning, IsLawful}
@@ -40,6 +40,16 @@ module _ (executors : List ℕ) (count hop executor : ℕ) (is : slice_get execu
       let within = slice_get_within executors hop executor is in
       let here = ap (λ (x : ℕ). nat_lt x count) (get_or_from_slice_get executors hop executor executor is) ∙ lt-ltb executor count there in
       (omega (arith, within), list_all_more (λ (x : ℕ). nat_lt x count) executors hop executor within ∙ rw (so_far, here) refl)
+
+none_past : (executors : List ℕ) (hop : ℕ) → None ≡ slice_get executors hop → length executors ≤ hop
+none_past [] hop is = omega arith
+none_past (x ∷ executors) zero is = absurd (cc)
+none_past (x ∷ executors) (suc hop) is = omega (arith, none_past executors hop is)
+
+-- each hop has one that is there, and there are no more
+pub all_placed_before : (executors : List ℕ) (count hop : ℕ) → None ≡ slice_get executors hop → list_all (λ x. nat_lt x count) (take hop executors) ≡ true → true ≡ list_all (λ x. nat_lt x count) executors
+all_placed_before executors count hop is so_far =
+    sym so_far ∙ ap (list_all (λ (x : ℕ). nat_lt x count)) (take_all hop executors (none_past executors hop is))
 
 all_there : (count : ℕ) (executors : List ℕ) → list_all (λ x. nat_lt x count) executors ≡ true → All (λ x. x < count) executors
 all_there count [] all = All-nil (λ (x : ℕ). x < count)

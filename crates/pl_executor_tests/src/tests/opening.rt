@@ -8,7 +8,7 @@ ghost use Rattle.pl_executor_tests.specs.Openings.{ArePlaces, IsOpened};
 use crate::nodes::lane_to;
 use crate::places::{Inboxes, Own, Place, Way};
 use pl_event::{Lane, Named};
-use pl_executor::Inbox;
+use pl_outbox::Inbox;
 use pl_queue::{Mailbox, OpenRefusal};
 use pl_words::Admission;
 use std::alloc::{AllocError, Global};

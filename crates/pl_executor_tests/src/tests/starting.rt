@@ -8,7 +8,8 @@ use crate::places::{Inboxes, Own, Place, Way};
 use crossbeam_utils::sync::Parker;
 use pl_context::Outputs;
 use pl_event::Named;
-use pl_executor::{Core, Executor, Inbox, Outbox, Outboxes};
+use pl_executor::{Core, Executor};
+use pl_outbox::{Inbox, Outbox, Outboxes};
 use pl_queue::Mailbox;
 use std::alloc::{AllocError, Global};
 

@@ -5,8 +5,8 @@ use Rattle.std.proofs.lemmas.List.Elements.{All-same}
 use Rattle.pl_context.specs.Stops.{HasPlaces, StopsView, no_stops}
 use Rattle.pl_queue.specs.declared.views.TakerView.{TakerView}
 use Rattle.pl_words.specs.Admissions.{OwnerSeatView}
-use Rattle.pl_executor.specs.declared.inbox.Inbox.{Inbox}
-use Rattle.pl_executor.specs.OutboxViews.{OutboxView, IsNew, waits_for}
+use Rattle.pl_outbox.specs.declared.inbox.Inbox.{Inbox}
+use Rattle.pl_outbox.specs.OutboxViews.{OutboxView, IsNew, waits_for}
 use Rattle.pl_executor.specs.Running.{ExecutorView, IsTaking}
 use Rattle.pl_exec.specs.Opening.{InboxView, WayView, WaysView, PlacesView, AreWays, outbox_of}
 use Rattle.pl_exec.proofs.StartLemmas.{starts-ways, starts-new, starts-taking, starts-running, shown-at}

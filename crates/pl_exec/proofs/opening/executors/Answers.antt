@@ -2,7 +2,7 @@ use Rattle.std.proofs.Common.{◌≡◌, ◌++◌, [], ◌∷◌, ℕ, List, Som
 use Rattle.std.proofs.lemmas.List.{length-map, map-append, nil_from_length}
 use Rattle.std.proofs.lemmas.Option.{slice_get_within}
 use Rattle.pl_event.proofs.Lists.{slice_get-push}
-use Rattle.pl_executor.specs.declared.inbox.Inbox.{Inbox}
+use Rattle.pl_outbox.specs.declared.inbox.Inbox.{Inbox}
 use Rattle.pl_executor.specs.Running.{ExecutorView}
 use Rattle.pl_exec.specs.Opening.{InboxView, IsFirst}
 use Rattle.pl_exec.proofs.ListSteps.{at-next, left-front, left-behind, none-left, all-done}

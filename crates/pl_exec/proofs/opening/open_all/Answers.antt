@@ -2,7 +2,7 @@ use Rattle.std.specs.Global.{Vec}
 use Rattle.std.proofs.Common.{List, get_or, map, ap, sym, subst, ◌∙◌}
 use Rattle.std.specs.Option.{option_map}
 use Rattle.std.proofs.lemmas.Option.{slice_get-map, slice_get-get_or}
-use Rattle.pl_executor.specs.declared.inbox.Inbox.{Inbox}
+use Rattle.pl_outbox.specs.declared.inbox.Inbox.{Inbox}
 use Rattle.pl_exec.specs.Opening.{InboxView, WayView, WaysView, lanes_in, AreOpened}
 use Rattle.pl_exec.proofs.RowLemmas.{rows-open}
 use Rattle.pl_exec.proofs.opening.open_all.Goals as goal

@@ -4,7 +4,7 @@ use Rattle.std.proofs.lemmas.List.{length-map, nil_from_length}
 use Rattle.std.proofs.lemmas.List.Elements.{All-push, All-same}
 use Rattle.pl_event.specs.declared.envelopes.Lane.{Lane}
 use Rattle.pl_event.proofs.Lists.{All-at}
-use Rattle.pl_executor.specs.declared.inbox.Inbox.{Inbox}
+use Rattle.pl_outbox.specs.declared.inbox.Inbox.{Inbox}
 use Rattle.pl_exec.specs.Opening.{InboxView, WayView, lanes_in, AreRows, CanOpen}
 use Rattle.pl_exec.proofs.ListSteps.{all-done}
 use Rattle.pl_exec.proofs.RowLemmas.{senders_in, next-senders, whole-senders, rows-next}

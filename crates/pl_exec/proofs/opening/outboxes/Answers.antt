@@ -1,6 +1,6 @@
 use Rattle.std.proofs.Common.{◌++◌, [], ◌∷◌, List, map, ap, sym, subst, ◌∙◌, arith, append_assoc, length-append}
 use Rattle.std.proofs.lemmas.List.{map_push, nil_from_length}
-use Rattle.pl_executor.specs.declared.inbox.Inbox.{Inbox}
+use Rattle.pl_outbox.specs.declared.inbox.Inbox.{Inbox}
 use Rattle.pl_exec.specs.Opening.{InboxView, WayView, outbox_of}
 use Rattle.pl_exec.proofs.ListSteps.{all-done, next-within}
 use Rattle.pl_exec.proofs.StartLemmas.{way-at}

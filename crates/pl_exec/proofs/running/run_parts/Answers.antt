@@ -2,7 +2,7 @@ use Rattle.std.proofs.Common.{List, length, map, ap, sym, ◌∙◌, subst, arit
 use Rattle.std.proofs.lemmas.List.{length-map}
 use Rattle.pl_part.specs.Parts.{ChannelPartView}
 use Rattle.pl_replay.specs.Placed.{ArePlaceable}
-use Rattle.pl_executor.specs.declared.inbox.Inbox.{Inbox}
+use Rattle.pl_outbox.specs.declared.inbox.Inbox.{Inbox}
 use Rattle.pl_exec.specs.declared.nodes.OwnNodes.{OwnNodes}
 use Rattle.pl_exec.specs.Lanes.{AreLaid, lane_table}
 use Rattle.pl_exec.specs.Opening.{InboxView, AreOpened, lanes_in}

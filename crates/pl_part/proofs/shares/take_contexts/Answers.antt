@@ -1,4 +1,6 @@
-use Rattle.std.proofs.Common.{◌≡◌, ◌<◌, get_or, length, not, sym, ◌∙◌, arith, ℕ}
+use Rattle.std.proofs.Common.{◌≡◌, ◌<◌, get_or, length, not, refl, sym, ap, ◌∙◌, arith, List, Option, ℕ}
+use Rattle.std.proofs.lemmas.Result.{err_from_is_err_and}
+use Rattle.pl_context.specs.ContextViews.{ContextView}
 use Rattle.std.specs.Prelude.{◌==◌}
 use Rattle.pl_part.proofs.TakenSlots.{taken-more, left-more, behind-more, of-all}
 use Rattle.pl_part.proofs.shares.take_contexts.Goals as goal
@@ -31,3 +33,25 @@ returns-clause-left g c =
     let before = c.loop-hop.invariant in
     let end : length c.args.contexts.now ≡ c.loop-hop.hop = omega (arith, c.loop-hop-test.false, c.loop-hop.auto.hop-end) in
     of-all (λ (k : ℕ). not (get_or c.args.executors.now k 0 == c.args.executor)) c.args.contexts.now c.loop-hop.contexts c.loop-hop.auto.contexts (λ k lt. before.left k (omega (arith, lt, end)))
+
+pub loop-hop-init : goal.loop-hop-init
+loop-hop-init g c = record {
+  slots = ap (λ (l : List (Option (ContextView g.row.S.Denot))). length l) c.new-taken.ensures.items;
+  taken = λ k lt. absurd (omega (arith, lt));
+  left = λ k lt. absurd (omega (arith, lt));
+  behind = λ k le. refl;
+}
+
+pub bounds-executors-hop : goal.bounds-executors-hop
+bounds-executors-hop g c = omega (arith, c.requires, c.loop-hop-test.true, c.loop-hop.auto.contexts)
+
+pub returns-in_err-push : goal.returns-in_err-push
+returns-in_err-push g c =
+    let none = err_from_is_err_and c.from_residual.result c.from_residual.ensures.1 in
+    record { slots = rw none.1 tt; taken = rw none.1 tt; left = rw none.1 tt }
+
+pub returns-clause-slots : goal.returns-clause-slots
+returns-clause-slots g c = c.loop-hop.invariant.slots ∙ omega (arith, c.loop-hop-test.false, c.loop-hop.auto.hop-end)
+
+pub bounds-contexts-hop : goal.bounds-contexts-hop
+bounds-contexts-hop g c = omega (arith, c.loop-hop-test.true, c.loop-hop.auto.contexts)

@@ -1,6 +1,8 @@
 use Rattle.std.proofs.Common.{◌≡◌, ℕ, ◌+◌, [], ◌∷◌, ◌++◌, List, Bool, Some, Option, length, map, replicate, true, slice_get, sym, ap, ap₂, subst, ◌∙◌, arith, append_assoc, length-append}
 use Rattle.std.specs.Prelude.{is_some}
 use Rattle.std.specs.List.{sum_by}
+use Rattle.std.proofs.lemmas.Result.{err_from_is_err_and}
+use Rattle.pl_event.proofs.Lists.{All-at}
 use Rattle.std.proofs.lemmas.List.{map-append}
 use Rattle.std.proofs.lemmas.List.Sums.{sum_by_push}
 use Rattle.pl_context.specs.ContextViews.{ContextView, IsHop, new_context}
@@ -72,3 +74,23 @@ loop-stage-preserved g c =
           let more = ap (λ (l : List (Option (ContextView g.row.S.Denot))). sum_by (λ slot. slot_done slot) l) added ∙ sum_by_push (λ slot. slot_done slot) slots (Some context) in
           omega (arith, none, more, before.done);
     }
+
+pub new-requires-clause-fresh : goal.new-requires-clause-fresh
+new-requires-clause-fresh g c =
+    let before = c.loop-stage.invariant in
+    let stages = c.loop-stage.yielded in
+    let stage = c.in-Some.stage in
+    let there : slice_get c.args.stages.items (length stages) ≡ Some stage =
+    ap (λ (t : List g.row.S.Denot). slice_get t (length stages)) (sym before.rest ∙ ap (λ (t : List g.row.S.Denot). stages ++ t) c.in-Some.ensures.steps.0) ∙ slice_get-behind stages c.next.new.self.rest.items stage in
+    All-at (λ (x : g.row.S.Denot). g.S.Stage.stands_after x []) c.args.stages.items (length stages) stage c.requires.fresh there
+
+pub returns-in_err-push : goal.returns-in_err-push
+returns-in_err-push g c =
+    let none = err_from_is_err_and c.from_residual.result c.from_residual.ensures.1 in
+    record { count = rw none.1 tt; slots = rw none.1 tt; filled = rw none.1 tt; new = rw none.1 tt; done = rw none.1 tt }
+
+pub returns-clause-new : goal.returns-clause-new
+returns-clause-new g c = c.loop-stage.invariant.new
+
+pub returns-clause-done : goal.returns-clause-done
+returns-clause-done g c = c.loop-stage.invariant.done

@@ -1,5 +1,6 @@
-use Rattle.std.proofs.Common.{ap, sym, ◌∙◌, ◌++◌, ◌<◌, length, arith}
-use Rattle.pl_queue.specs.Left.{own_lanes}
+use Rattle.std.proofs.Common.{ap, sym, ◌∙◌, ◌++◌, ◌<◌, length, map, arith}
+use Rattle.std.proofs.lemmas.List.{take_all}
+use Rattle.pl_queue.specs.Left.{all_lanes, own_lanes}
 use Rattle.pl_queue.specs.Views.{fresh_take_counts}
 use Rattle.pl_queue.proofs.Lists.{counts-more}
 use Rattle.pl_queue.proofs.counts.all_counts.Goals as goal
@@ -10,3 +11,6 @@ loop-own-preserved c =
     c.in_ok-add_counts.ensures
     ∙ ap (λ ms. ms ++ fresh_take_counts c.as_slice.result.now) c.loop-own.invariant
     ∙ sym (counts-more own_lanes c.args.lanes.now c.loop-own.own-index c.own-item.result c.as_slice.result.now lt c.own-item.is c.as_slice.ensures.value)
+
+pub returns : goal.returns
+returns c = c.loop-own.invariant ∙ ap (λ ls. fresh_take_counts (all_lanes (map own_lanes ls))) (take_all c.loop-own.own-index c.args.lanes.now c.loop-own-test.false)

@@ -1,6 +1,7 @@
-use Rattle.std.proofs.Common.{true, ap, sym, ◌∙◌, ◌<◌, length, arith}
-use Rattle.pl_queue.specs.Left.{own_lanes}
-use Rattle.pl_queue.specs.Views.{fresh_sends, dealing, view_of, no_sends, takes, next_of, has_lane}
+use Rattle.std.proofs.Common.{true, map, ap, sym, ◌∙◌, ◌<◌, length, arith}
+use Rattle.std.proofs.lemmas.List.{take_all}
+use Rattle.pl_queue.specs.Left.{all_lanes, own_lanes}
+use Rattle.pl_queue.specs.Views.{fresh_sends, fresh_take_counts, dealing, view_of, no_sends, takes, next_of, has_lane}
 use Rattle.pl_queue.proofs.Lists.{counts-more, lanes-new}
 use Rattle.pl_queue.proofs.TakerLemmas.{dealt-more}
 use Rattle.pl_queue.proofs.seats.deal_all.Goals as goal
@@ -28,3 +29,13 @@ loop-own-preserved g c =
       senders = more.0;
       sent = more.1;
     }
+
+pub returns-clause-pass : goal.returns-clause-pass
+returns-clause-pass g c =
+    let inv = c.loop-own.invariant in
+    (inv.pass, inv.dealt ∙ ap (λ ls. view_of true no_sends (takes (fresh_take_counts (all_lanes (map own_lanes ls))) 0)) (take_all c.loop-own.own-index c.args.lanes.now c.loop-own-test.false))
+
+pub returns-clause-senders : goal.returns-clause-senders
+returns-clause-senders g c =
+    let inv = c.loop-own.invariant in
+    (inv.senders, inv.sent ∙ ap (λ ls. map (λ v. fresh_sends (own_lanes v)) ls) (take_all c.loop-own.own-index c.args.lanes.now c.loop-own-test.false))

@@ -3,7 +3,7 @@ use Rattle.std.specs.List.{list_any, position_or_len}
 use Rattle.std.proofs.lemmas.List.{get_or-take}
 use Rattle.std.proofs.lemmas.List.Sums.{passes_at_first}
 use Rattle.pl_event.specs.Paths.{is_turn}
-use Rattle.pl_world.proofs.Parting.{none_before, front_kept}
+use Rattle.pl_world.proofs.Parting.{none_before, front_kept, parted_whole}
 use Rattle.pl_world.proofs.parted.part.Goals as goal
 
 pub returns-clause-before : goal.returns-clause-before
@@ -26,3 +26,9 @@ returns-clause-turn g c =
     let first : hop ≡ position_or_len turns items = c.requires.turn in
     let passes : turns (get_or items (position_or_len turns items) turn) ≡ true = passes_at_first turns items turn (omega (arith, first, c.requires.within)) in
     ap turns (here ∙ ap (λ (k : ℕ). get_or items k turn) first) ∙ passes
+
+pub returns-clause-whole : goal.returns-clause-whole
+returns-clause-whole g c =
+    let cut = c.in_ok-after.ensures in
+    let removed = c.remove-turn.ensures in
+    parted_whole c.args.inbound.items _ _ _ c.args.turn _ c.requires.within cut.items removed.by_index.2 removed.value cut.tail

@@ -1,4 +1,4 @@
-use Rattle.std.proofs.Common.{inl, inr, arith}
+use Rattle.std.proofs.Common.{◌++◌, ◌∷◌, [], inl, inr, ap, sym, ◌∙◌, append_assoc, arith}
 use Rattle.std.proofs.lemmas.List.{nil_from_length}
 use Rattle.pl_world.specs.Worlds.{recorded}
 use Rattle.pl_world.proofs.WorldLimits.{no_pipeline_left, no_input_left, no_transport_left}
@@ -18,3 +18,12 @@ returns g c =
       ]
       | inr h ↦ no_transport_left c.loop-pipeline.channels.items pipelines.items inputs.items transports.items all (nil_from_length transports.items (omega (arith, h.1.0, transports.ok))) c.loop-pipeline.invariant
     ]
+
+pub loop-pipeline-preserved : goal.loop-pipeline-preserved
+loop-pipeline-preserved g c =
+    let took = c.in-Some.ensures.steps in
+    let before = c.loop-pipeline.channels.items in
+    let next = c.next.new.self in
+    let rest = recorded next.a.a.rest.items next.a.b.rest.items next.b.rest.items in
+    ap (λ channels. channels ++ rest) c.in_ok-push.ensures.items ∙ append_assoc before (_ ∷ []) rest
+    ∙ (λ i. before ++ recorded (sym took.0.0.0 i) (sym took.0.1.0 i) (sym took.1.0 i)) ∙ c.loop-pipeline.invariant

@@ -1,7 +1,7 @@
 use Rattle.std.proofs.Common.{refl, sym, ap, subst, ◌∙◌}
 use Rattle.pl_context.specs.WaitingViews.{WaitingView, Holds}
 use Rattle.pl_words.specs.Admissions.{AdmittedView}
-use Rattle.pl_executor.specs.OutboxViews.{OutboxesView, Stays, Sends, oldest_untried}
+use Rattle.pl_outbox.specs.OutboxViews.{OutboxesView, Stays, Sends, oldest_untried}
 use Rattle.pl_executor.proofs.RunLemmas.{holds-stay, sends-first}
 use Rattle.pl_executor.proofs.TurnLemmas.{untried-same, keeps-then, offer-keeps}
 use Rattle.pl_executor.proofs.cores.Core.hand.Goals as goal

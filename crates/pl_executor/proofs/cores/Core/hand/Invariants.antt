@@ -1,6 +1,6 @@
 use Rattle.std.proofs.Common.{◌≡◌}
+use Rattle.pl_outbox.specs.OutboxViews.{Keeps}
 use Rattle.pl_executor.specs.Cores.{CoreHolds}
-use Rattle.pl_executor.specs.OutboxViews.{Keeps}
 use Rattle.pl_executor.proofs.cores.Core.hand.Given as goal
 
 abbrev pub invariant-loop : goal.invariant-loop

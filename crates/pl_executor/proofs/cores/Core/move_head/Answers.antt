@@ -1,5 +1,5 @@
 use Rattle.std.proofs.Common.{Bool, refl, sym, subst, ◌∙◌}
-use Rattle.pl_executor.proofs.AdmissionLemmas.{admits_more}
+use Rattle.pl_outbox.proofs.AdmissionLemmas.{admits_more}
 use Rattle.pl_executor.proofs.RunLemmas.{places-on, runs-on}
 use Rattle.pl_executor.proofs.cores.Core.move_head.Goals as goal
 

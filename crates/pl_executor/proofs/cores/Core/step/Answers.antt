@@ -3,11 +3,11 @@ use Rattle.pl_event.specs.declared.envelopes.Envelope.{Envelope}
 use Rattle.pl_context.specs.Stops.{HasPlaces, StopsView}
 use Rattle.pl_context.specs.WaitingViews.{stops_for}
 use Rattle.pl_flow.specs.Flows.{IsNext}
+use Rattle.pl_outbox.specs.OutboxViews.{reached, is_cut, Adds, RefusedBy}
+use Rattle.pl_outbox.proofs.AddSteps.{refused-some}
+use Rattle.pl_outbox.proofs.AdmissionLemmas.{admits_on, admits_front, admits_more, never-spent}
 use Rattle.pl_executor.specs.Cores.{Departs}
-use Rattle.pl_executor.specs.OutboxViews.{reached, is_cut, Adds, RefusedBy}
 use Rattle.pl_words.specs.declared.admission.Refused.{Refused}
-use Rattle.pl_executor.proofs.AddSteps.{refused-some}
-use Rattle.pl_executor.proofs.AdmissionLemmas.{admits_on, admits_front, admits_more, never-spent}
 use Rattle.pl_executor.proofs.RunLemmas.{own-number, own-good, own-taken, front-taken, away-there, away-next, away-placed, away-added, places-on, runs-on}
 use Rattle.pl_executor.proofs.TurnLemmas.{nothing-none}
 use Rattle.pl_executor.proofs.cores.Core.step.Goals as goal

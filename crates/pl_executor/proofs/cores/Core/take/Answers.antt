@@ -1,5 +1,5 @@
 use Rattle.std.proofs.Common.{refl, sym, ◌∙◌}
-use Rattle.pl_executor.proofs.AdmissionLemmas.{admits_more}
+use Rattle.pl_outbox.proofs.AdmissionLemmas.{admits_more}
 use Rattle.pl_executor.proofs.RunLemmas.{task-taken, places-on, runs-on}
 use Rattle.pl_executor.proofs.cores.Core.take.Goals as goal
 

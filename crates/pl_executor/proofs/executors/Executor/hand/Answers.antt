@@ -2,7 +2,7 @@ use Rattle.std.proofs.Common.{◌≡◌, ℕ, List, subst}
 use Rattle.std.specs.Prelude.{IfSome, IfNone}
 use Rattle.pl_context.specs.WaitingViews.{Entry, Holds}
 use Rattle.pl_words.specs.Admissions.{AdmittedView}
-use Rattle.pl_executor.specs.OutboxViews.{SameFor, Sends, oldest_untried}
+use Rattle.pl_outbox.specs.OutboxViews.{SameFor, Sends, oldest_untried}
 use Rattle.pl_executor.specs.Running.{ExecutorView}
 use Rattle.pl_executor.proofs.executors.Executor.hand.Goals as goal
 

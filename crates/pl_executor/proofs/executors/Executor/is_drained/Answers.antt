@@ -1,5 +1,5 @@
 use Rattle.std.proofs.Common.{◌≡◌, ℕ, true, [], subst}
-use Rattle.pl_executor.specs.OutboxViews.{waits_for}
+use Rattle.pl_outbox.specs.OutboxViews.{waits_for}
 use Rattle.pl_executor.specs.Running.{ExecutorView}
 use Rattle.pl_executor.proofs.executors.Executor.is_drained.Goals as goal
 

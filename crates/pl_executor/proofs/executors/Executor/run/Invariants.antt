@@ -1,6 +1,6 @@
 use Rattle.std.proofs.Common.{◌≡◌, ℕ, [], true}
+use Rattle.pl_outbox.specs.OutboxViews.{is_closed, waits_for}
 use Rattle.pl_executor.specs.declared.executors.Turn.TheVariants.{Done}
-use Rattle.pl_executor.specs.OutboxViews.{is_closed, waits_for}
 use Rattle.pl_executor.proofs.executors.Executor.run.Given as goal
 
 abbrev pub invariant-loop : goal.invariant-loop

@@ -2,7 +2,7 @@ use Rattle.std.proofs.Common.{List, ℕ, length, ap, sym, subst, ◌∙◌}
 use Rattle.pl_context.specs.Stops.{HasPlaces, StopsView}
 use Rattle.pl_queue.specs.declared.views.TakeCount.{TakeCount}
 use Rattle.pl_queue.specs.declared.views.TakerView.{TakerView}
-use Rattle.pl_executor.specs.OutboxViews.{OutboxView}
+use Rattle.pl_outbox.specs.OutboxViews.{OutboxView}
 use Rattle.pl_executor.specs.Running.{IsTaking, Runs}
 use Rattle.pl_executor_tests.specs.declared.nodes.Outlet.{Outlet}
 use Rattle.pl_executor_tests.specs.Nodes.{came, lane_to, outlets_of, taken_of, target_of, writes}

@@ -1,6 +1,7 @@
-use Rattle.std.proofs.Common.{◌≡◌, ◌∙◌, ◌<◌, ◌≤◌, ℕ, None, length, sym, subst, ap, arith}
+use Rattle.std.proofs.Common.{◌≡◌, ◌∙◌, ◌<◌, ◌≤◌, ℕ, None, length, refl, sym, subst, ap, arith}
+use Rattle.std.proofs.lemmas.List.{length-set}
 use Rattle.pl_context.specs.Stops.{HasPlaces}
-use Rattle.pl_part.specs.Paths.{PathPartView, context_at, path_lanes, writer_hop}
+use Rattle.pl_part.specs.Paths.{PathPartView, IsPathPart, context_at, path_lanes, writer_hop}
 use Rattle.pl_part.specs.PathCalls.{PathRefused}
 use Rattle.pl_part.proofs.PathSteps.{context-places, context-refused, none-refused, beyond-refused, slot-at, set-same, refusing-of, refused-of}
 use Rattle.pl_part.proofs.paths.PathPart.refuse_at_hop.Goals as goal
@@ -51,3 +52,17 @@ pub returns-else-hop-len : goal.returns-else-hop-len
 returns-else-hop-len g c =
     let past = subst (λ (y : PathPartView _). length y.contexts ≤ c.args.hop) c.self.view_is (omega (arith, c.len.ensures, c.if-hop-len.false, c.self.inside.contexts.ok.0)) in
     beyond-refused g.S.Stage.meaning g.S.Stage.stands_after c.args.self.now c.args.lane c.args.work.now (subst (λ (h : ℕ). length c.args.self.now.contexts ≤ h) c.requires.writer past)
+
+pub index_mut-requires : goal.index_mut-requires
+index_mut-requires g c = omega (arith, c.len.ensures, c.if-hop-len.true, c.self.inside.contexts.ok.0)
+
+pub invariant_of-self : goal.invariant_of-self
+invariant_of-self g c =
+    subst (λ (n : ℕ). IsPathPart (length c.self.inside.executors.items) n c.self.inside.tail_hop c.self.inside.turn) (sym (length-set c.self.inside.contexts.items _ _)) c.self.invariant
+
+pub invariant_of-self-in_default : goal.invariant_of-self-in_default
+invariant_of-self-in_default g c =
+    subst (λ (n : ℕ). IsPathPart (length c.self.inside.executors.items) n c.self.inside.tail_hop c.self.inside.turn) (sym (length-set c.self.inside.contexts.items _ _)) c.self.invariant
+
+pub same-self : goal.same-self
+same-self g c = refl

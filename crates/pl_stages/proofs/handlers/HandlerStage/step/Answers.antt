@@ -8,3 +8,12 @@ returns-in-LineEnd c = rw c.in-LineEnd.is c.step-in-LineEnd.ensures
 
 pub returns-in-Encode : goal.returns-in-Encode
 returns-in-Encode c = rw c.in-Encode.is c.step-in-Encode.ensures
+
+pub returns-in-Lines : goal.returns-in-Lines
+returns-in-Lines c = rw c.in-Lines.is c.step.ensures
+
+pub returns-in-FlushEvery : goal.returns-in-FlushEvery
+returns-in-FlushEvery c = rw c.in-FlushEvery.is c.step-in-FlushEvery.ensures
+
+pub returns-in-Service : goal.returns-in-Service
+returns-in-Service c = rw c.in-Service.is c.step-in-Service.ensures

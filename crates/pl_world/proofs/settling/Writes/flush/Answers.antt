@@ -1,7 +1,8 @@
 use Rattle.std.proofs.Common.{◌≡◌, ℕ, ◌++◌, ◌∷◌, [], List, Option, sym, ap, ◌∙◌, append-nil, rules}
 use Rattle.pl_head.specs.Writes.{bytes_of}
 use Rattle.pl_head.specs.WaitingMessages.{settled}
-use Rattle.pl_world.proofs.SettledWrites.{bytes_more, outcomes_more}
+use Rattle.pl_world.proofs.ChainSteps.{pushed_more}
+use Rattle.pl_world.proofs.SettledWrites.{bytes_more}
 use Rattle.pl_world.proofs.settling.Writes.flush.Goals as goal
 
 pub loop-write-preserved-in-Some-write : goal.loop-write-preserved-in-Some-write
@@ -15,7 +16,7 @@ loop-write-preserved-in-Some-write c =
     record {
       bytes = bytes_more before.bytes.items so_far.self.bytes.items c.extend_from_slice.new.self.items so_far.yielded w so_far.invariant.bytes
           (grown ∙ ap (λ (t : List ℕ). so_far.self.bytes.items ++ t) (sym one));
-      outcomes = outcomes_more settled before.outcomes.items so_far.self.outcomes.items c.push.new.self.items so_far.yielded w so_far.invariant.outcomes
+      outcomes = pushed_more settled before.outcomes.items so_far.self.outcomes.items c.push.new.self.items so_far.yielded w so_far.invariant.outcomes
           (c.in_ok-push-in-Some-write.ensures.items ∙ ap (λ (v : Option (List ℕ)). so_far.self.outcomes.items ++ settled v ∷ []) (sym c.in-Some-write.is));
       unflushed = so_far.invariant.unflushed;
     }
@@ -29,7 +30,7 @@ loop-write-preserved c =
     record {
       bytes = bytes_more before.bytes.items so_far.self.bytes.items so_far.self.bytes.items so_far.yielded w so_far.invariant.bytes
           (sym (append-nil so_far.self.bytes.items) ∙ ap (λ (t : List ℕ). so_far.self.bytes.items ++ t) (sym none));
-      outcomes = outcomes_more settled before.outcomes.items so_far.self.outcomes.items c.push-in-None-write.new.self.items so_far.yielded w so_far.invariant.outcomes
+      outcomes = pushed_more settled before.outcomes.items so_far.self.outcomes.items c.push-in-None-write.new.self.items so_far.yielded w so_far.invariant.outcomes
           (c.in_ok-push-in-None-write.ensures.items ∙ ap (λ (v : Option (List ℕ)). so_far.self.outcomes.items ++ settled v ∷ []) (sym c.in-None-write.is));
       unflushed = so_far.invariant.unflushed;
     }

@@ -1,0 +1,7 @@
+pub mod SentLemmas
+pub mod OutboxLemmas
+pub mod AddSteps
+pub mod OfferSteps
+pub mod AdmissionLemmas
+pub mod TryLemmas
+pub mod Sends

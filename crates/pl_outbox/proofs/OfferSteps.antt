@@ -1,0 +1,196 @@
+-- The first that waits for a target is offered to its queue.
+use Rattle.std.proofs.Common.{◌≡◌, ◌≢◌, ℕ, Bool, true, false, ◌||◌, List, [], ◌∷◌, length, map, set, drop, slice_get, Option, Some, None, refl, ap, sym, ◌∙◌, subst, ⊎_elim, arith}
+use Rattle.std.specs.List.{All, filter, find, position, remove}
+use Rattle.std.specs.Option.{option_map, option_map_or}
+use Rattle.std.proofs.lemmas.Bool.{cases_eq, ne_eqb}
+use Rattle.std.proofs.lemmas.List.{set-get_or}
+use Rattle.std.proofs.lemmas.List.Elements.{All-tail}
+use Rattle.std.proofs.lemmas.Option.{slice_get_within, get_or_from_slice_get, none-some, same_Some}
+use Rattle.pl_event.specs.declared.envelopes.Envelope.{Envelope}
+use Rattle.pl_event.specs.Worlds.{World}
+use Rattle.pl_event.proofs.Lists.{slice_get_none}
+use Rattle.pl_context.specs.Stops.{has_stopped}
+use Rattle.pl_context.specs.WaitingViews.{WaitingView, Entry, Holds, Takes, is_for, stops_for}
+use Rattle.pl_context.proofs.Firsts.{position-first, find-first, find-filter, filter-remove_first, filter-remove_other, find-Some-position}
+use Rattle.pl_context.proofs.WaitingCalls.{none-long}
+use Rattle.pl_queue.specs.Views.{sent_of, after_offer}
+use Rattle.pl_words.specs.Admissions.{AdmittedView, SendSeatView, admitted_of}
+use Rattle.pl_flow.specs.Flows.{IsGood, on, past}
+use Rattle.pl_outbox.specs.declared.outboxes.Offered.TheVariants.{Handed, Full, Nothing}
+use Rattle.pl_outbox.specs.Sent.{sent_at, AreBehind, behind}
+use Rattle.pl_outbox.specs.OutboxViews.{OutboxView, IsOutboxes, waits_in, sent_to, reached, is_closed, is_refused, refuses, Offers, Stays, Forgets}
+use Rattle.pl_outbox.proofs.SentLemmas.{front-sent, front-leaves, front-behind}
+use Rattle.pl_outbox.proofs.OutboxLemmas.{Replaces, replaces-set, on-target, closed-on, waits-entries, outboxes-hold}
+
+in-front : {A : Type 0} (items rest : List A) (e : A) → slice_get items 0 ≡ Some e → rest ≡ drop 1 items → items ≡ e ∷ rest
+in-front [] rest e at left = absurd (none-some e at)
+in-front (x ∷ xs) rest e at left = ap (λ y. y ∷ xs) (same_Some x e at) ∙ ap (λ ys. e ∷ ys) (sym left)
+
+none-passes : {X : Type 0} (p : X → Bool) (xs : List X) → position p xs ≡ None → filter p xs ≡ []
+none-passes {X} p xs none = none-long (filter p xs) (let h = slice_get_none (filter p xs) 0 (sym (find-filter p xs) ∙ by (find p xs) refl) in omega (arith, h))
+  where
+    by : (o : Option X) → find p xs ≡ o → o ≡ None
+    by None is = refl
+    by (Some y) is = let f = find-Some-position p xs y is in absurd (none-some f.0 (sym none ∙ f.1))
+
+pub set-back : {A : Type 0} (xs : List A) (i : ℕ) (x : A) → slice_get xs i ≡ Some x → set xs i x ≡ xs
+set-back xs i x at = ap (λ y. set xs i y) (sym (get_or_from_slice_get xs i x x at)) ∙ set-get_or xs i x
+
+module _ (world : World) (os : List OutboxView) (w : WaitingView AdmittedView) (ts : List ℕ) (is : IsOutboxes world (record { outboxes = os; waiting = w; tried = ts })) (target : ℕ) where
+  -- ---- nothing waits
+
+  module _ (w' : WaitingView AdmittedView) (takes : Takes w is.entries target None w') where
+    pub nothing-offers : Offers (record { outboxes = os; waiting = w; tried = ts }) target Nothing (record { outboxes = os; waiting = w'; tried = ts })
+    nothing-offers = (
+      ap (λ (v : WaitingView AdmittedView). record { outboxes = os; waiting = v; tried = ts }) takes.taken.1,
+      waits-entries w is.entries is.holds target ∙ ap (map (λ e. e.envelope)) (none-passes (is_for target) is.entries takes.taken.0),
+    )
+
+    pub nothing-stays : Stays (record { outboxes = os; waiting = w; tried = ts }) (record { outboxes = os; waiting = w'; tried = ts })
+    nothing-stays = subst (λ (v : WaitingView AdmittedView). Stays (record { outboxes = os; waiting = w; tried = ts }) (record { outboxes = os; waiting = v; tried = ts })) (sym takes.taken.1)
+        (record { count = refl; reached = λ y l. refl; cut = λ y l. refl; stops = λ y. refl; closed = λ s. record { target = s.target; outbox = s.outbox; is = s.is; closed = s.closed }; made = refl })
+
+  -- ---- the first is taken
+
+  module _ (x : Envelope) (token : AdmittedView) (w' : WaitingView AdmittedView) (takes : Takes w is.entries target (Some (x, token)) w') where
+    abbrev i : ℕ
+    i = takes.taken.0
+
+    abbrev own : List (Entry AdmittedView)
+    own = filter (is_for target) is.entries
+
+    abbrev rest : List (Entry AdmittedView)
+    rest = filter (is_for target) (remove is.entries i)
+
+    abbrev entry : Entry AdmittedView
+    entry = record { target = target; envelope = x; token = token }
+
+    own-front : own ≡ entry ∷ rest
+    own-front =
+        let first = position-first (is_for target) is.entries i takes.taken.1 in
+        in-front own rest entry (sym (find-filter (is_for target) is.entries) ∙ find-first (is_for target) is.entries i first ∙ takes.taken.2) (filter-remove_first (is_for target) is.entries i first)
+
+    others-rest : (y : ℕ) → y ≢ target → filter (is_for y) (remove is.entries i) ≡ filter (is_for y) is.entries
+    others-rest y other =
+        filter-remove_other (is_for y) is.entries i (slice_get_within is.entries i entry takes.taken.2)
+        (λ d. ap (λ (e : Entry AdmittedView). is_for y e) (get_or_from_slice_get is.entries i entry d takes.taken.2) ∙ ne_eqb target y (λ e. other (sym e)))
+
+    waits-own : waits_in w target ≡ x ∷ map (λ e. e.envelope) rest
+    waits-own = waits-entries w is.entries is.holds target ∙ ap (map (λ e. e.envelope)) own-front
+
+    -- it is the sender's next
+    pub may-offer : (b : OutboxView) → slice_get os target ≡ Some b → (sent_of x.lane b.sends.send_counts ≡ Some (x.number, false)) × IsGood world x
+    may-offer b at =
+        front-sent world b.sends.send_counts x (map (λ e. e.envelope) rest)
+        (subst (λ (zs : List (Entry AdmittedView)). AreBehind world b.sends.send_counts (map (λ e. e.envelope) zs)) own-front (is.each target b at).behind)
+
+    -- ---- it is sent
+
+    module _ (b b' : OutboxView) (at : slice_get os target ≡ Some b) (same : b' ≡ record b { sends = after_offer b.sends x }) (added : w'.added ≡ w.added) where
+      r : Replaces os (set os target b') target b b'
+      r = replaces-set os target b b' at
+
+      are : AreBehind world b.sends.send_counts (x ∷ map (λ e. e.envelope) rest)
+      are = subst (λ (zs : List (Entry AdmittedView)). AreBehind world b.sends.send_counts (map (λ e. e.envelope) zs)) own-front (is.each target b at).behind
+
+      is_seat : b'.seat ≡ b.seat
+      is_seat = ap (λ (o : OutboxView). o.seat) same
+
+      is_sends : b'.sends ≡ after_offer b.sends x
+      is_sends = ap (λ (o : OutboxView). o.sends) same
+
+      waits-rest : waits_in w' target ≡ map (λ e. e.envelope) rest
+      waits-rest = waits-entries w' (remove is.entries i) takes.taken.3 target
+
+      waits-other : (y : ℕ) → y ≢ target → waits_in w' y ≡ waits_in w y
+      waits-other y other =
+          waits-entries w' (remove is.entries i) takes.taken.3 y ∙ ap (map (λ e. e.envelope)) (others-rest y other) ∙ sym (waits-entries w is.entries is.holds y)
+
+      pub handed-hold : IsOutboxes world (record { outboxes = set os target b'; waiting = w'; tried = ts })
+      handed-hold =
+          let outbox = is.each target b at in
+          outboxes-hold world os (set os target b') w w' target b b' is r (remove is.entries i) takes.taken.3 takes.targets
+          (record {
+            behind = subst (λ s. AreBehind world s.send_counts (map (λ e. e.envelope) rest)) (sym is_sends) (front-leaves world b.sends.send_counts x (map (λ e. e.envelope) rest) are);
+            kept =
+                let k = outbox.kept in
+                let n = ap (λ (zs : List (Entry AdmittedView)). length zs) own-front in
+                let p = ap (λ s. s.pushes) is_sends in
+                let s = ap (λ s. s.kept) is_seat in omega (arith, k, n, p, s);
+            admitted = subst (λ a. All (λ e. e.token ≡ a) rest) (sym (ap admitted_of is_seat))
+                (All-tail (λ e. e.token ≡ admitted_of b.seat) entry rest (subst (λ (zs : List (Entry AdmittedView)). All (λ e. e.token ≡ admitted_of b.seat) zs) own-front outbox.admitted));
+            made = let m = outbox.made in let s = ap (λ s. s.made) is_seat in omega (arith, m, s);
+          })
+          others-rest (let s = ap (λ s. s.made) is_seat in omega (arith, added, s))
+
+      pub handed-offers : Offers (record { outboxes = os; waiting = w; tried = ts }) target Handed (record { outboxes = set os target b'; waiting = w'; tried = ts })
+      handed-offers = record {
+        envelope = x;
+        waits = waits-own ∙ ap (λ zs. x ∷ zs) (sym waits-rest);
+        sends = ap (option_map (λ (o : OutboxView). o.sends)) r.is ∙ ap (λ s. Some s) is_sends ∙ sym (ap (λ (o : Option OutboxView). option_map (λ s. after_offer s x) (option_map (λ b. b.sends) o)) at);
+        others = λ y other. record { waits = waits-other y other; sends = ap (option_map (λ (o : OutboxView). o.sends)) (r.others y other) };
+      }
+
+      pub handed-stays : Stays (record { outboxes = os; waiting = w; tried = ts }) (record { outboxes = set os target b'; waiting = w'; tried = ts })
+      handed-stays = record {
+        count = r.count;
+        reached = λ y l. ⊎_elim
+            (λ (e : y ≡ target).
+            ap (λ k. reached (record { outboxes = set os target b'; waiting = w'; tried = ts }) k l) e
+            ∙ ap (λ o. past (option_map_or (λ (c : OutboxView). sent_at c.sends.send_counts l) o (record { next = 0; over = true })) (on l (waits_in w' target))) r.is
+            ∙ ap (λ s. past (sent_at s.send_counts l) (on l (waits_in w' target))) is_sends
+            ∙ ap (λ zs. behind (after_offer b.sends x).send_counts zs l) waits-rest
+            ∙ front-behind world b.sends.send_counts x (map (λ e. e.envelope) rest) are l
+            ∙ ap (λ zs. behind b.sends.send_counts zs l) (sym waits-own)
+            ∙ ap (λ o. past (option_map_or (λ (c : OutboxView). sent_at c.sends.send_counts l) o (record { next = 0; over = true })) (on l (waits_in w target))) (sym at)
+            ∙ ap (λ k. reached (record { outboxes = os; waiting = w; tried = ts }) k l) (sym e))
+            (λ (e : y ≡ target → ⊥).
+            ap (λ o. past (option_map_or (λ (c : OutboxView). sent_at c.sends.send_counts l) o (record { next = 0; over = true })) (on l (waits_in w' y))) (r.others y e)
+            ∙ ap (λ zs. past (option_map_or (λ (c : OutboxView). sent_at c.sends.send_counts l) (slice_get os y) (record { next = 0; over = true })) (on l zs)) (waits-other y e))
+            (cases_eq y target);
+        cut = λ y l.
+            ap (λ s. has_stopped s l || option_map_or (λ (c : OutboxView). is_refused c.seat) (slice_get (set os target b') y) true) (takes.stopped y)
+            ∙ ap (λ c. has_stopped (stops_for w y) l || c) (on-target (λ (c : OutboxView). is_refused c.seat) true os (set os target b') target b b' r (ap is_refused is_seat) y);
+        stops = takes.stopped;
+        closed = closed-on os (set os target b') w w' target b b' r (λ e. ap (λ (s : SendSeatView). is_closed s.seen) is_seat ∙ e);
+        made = let m = r.made in let same = ap (λ (s : SendSeatView). s.made) is_seat in omega (arith, m, same);
+      }
+
+  -- ---- its queue was full, and it was put back
+
+  module _ (w' : WaitingView AdmittedView) (ts' : List ℕ) (back : (entries : List (Entry AdmittedView)) → Holds w entries → Holds w' entries) (added : w'.added ≡ w.added)
+      (stops : (y : ℕ) → stops_for w' y ≡ stops_for w y) (targets : length w'.targets ≡ length w.targets) where
+    waits-same : (y : ℕ) → waits_in w' y ≡ waits_in w y
+    waits-same y = waits-entries w' is.entries (back is.entries is.holds) y ∙ sym (waits-entries w is.entries is.holds y)
+
+    pub full-hold : IsOutboxes world (record { outboxes = os; waiting = w'; tried = ts' })
+    full-hold = record {
+      entries = is.entries;
+      holds = back is.entries is.holds;
+      each = is.each;
+      targets = targets ∙ is.targets;
+      added = let a = is.added in omega (arith, a, added);
+      few = is.few;
+    }
+
+    pub full-offers : Offers (record { outboxes = os; waiting = w; tried = ts }) target Full (record { outboxes = os; waiting = w'; tried = ts' })
+    full-offers = record { each = λ y. record { waits = waits-same y; sends = refl }; holds = back }
+
+    pub full-stays : Stays (record { outboxes = os; waiting = w; tried = ts }) (record { outboxes = os; waiting = w'; tried = ts' })
+    full-stays = record {
+      count = refl;
+      reached = λ y l. ap (λ zs. past (sent_to (record { outboxes = os; waiting = w; tried = ts }) y l) (on l zs)) (waits-same y);
+      cut = λ y l. ap (λ s. has_stopped s l || refuses (record { outboxes = os; waiting = w; tried = ts }) y) (stops y);
+      stops = stops;
+      closed = λ s. record { target = s.target; outbox = s.outbox; is = s.is; closed = s.closed };
+      made = refl;
+    }
+
+-- ---- a turn begins
+
+pub forgets : (os : List OutboxView) (w : WaitingView AdmittedView) (ts ts' : List ℕ) → Forgets (record { outboxes = os; waiting = w; tried = ts }) (record { outboxes = os; waiting = w; tried = ts' })
+forgets os w ts ts' = record {
+  waiting = refl;
+  same = λ y. record { waits = refl; sends = refl };
+  stays = record { count = refl; reached = λ y l. refl; cut = λ y l. refl; stops = λ y. refl; closed = λ s. record { target = s.target; outbox = s.outbox; is = s.is; closed = s.closed }; made = refl };
+}

@@ -1,0 +1,4 @@
+pub mod Sent
+pub mod Tries
+pub mod OutboxViews
+pub mod Admitting

@@ -1,0 +1,196 @@
+-- What an executor made for others, and its right to it: what was sent to each, and what waits.
+use Rattle.std.specs.Prelude.{◌≡◌, ◌≢◌, ◌↔◌, ℕ, ◌+◌, ◌<◌, ◌≤◌, ◌^◌, Bool, true, false, ◌||◌, ◌&&◌, ◌==◌, cond, List, [], ◌∷◌, ◌++◌, map, filter, find, not, length, slice_get, sum_by, All, Option, Some}
+use Rattle.std.specs.Option.{option_map, option_map_or}
+use Rattle.pl_event.specs.declared.envelopes.Envelope.{Envelope}
+use Rattle.pl_event.specs.declared.envelopes.Lane.{Lane}
+use Rattle.pl_event.specs.Hops.{same_lane}
+use Rattle.pl_event.specs.Worlds.{World}
+use Rattle.pl_context.specs.declared.added.Added.{Added}
+use Rattle.pl_context.specs.declared.added.Added.TheVariants.{Last, Discarded}
+use Rattle.pl_context.specs.Stops.{has_stopped, HasPlaces, AreAmong}
+use Rattle.pl_context.specs.OutputsViews.{added_items, stopped_after}
+use Rattle.pl_context.specs.WaitingViews.{WaitingView, Entry, Holds, is_for, stops_for, room_for}
+use Rattle.pl_queue.specs.declared.views.SenderView.{SenderView}
+use Rattle.pl_queue.specs.Views.{after_offer}
+use Rattle.pl_words.specs.declared.admission.Refused.{Refused}
+use Rattle.pl_words.specs.declared.admission.TheConstants.{MAX_ADMISSIONS}
+use Rattle.pl_words.specs.declared.status.Status.{Status}
+use Rattle.pl_words.specs.declared.status.Status.TheVariants.{Accepting, Closing, Closed}
+use Rattle.pl_words.specs.Admissions.{SendSeatView, AdmittedView, admitted_of, Refuses}
+use Rattle.pl_flow.specs.Flows.{Point, nowhere, after, on, past}
+use Rattle.pl_outbox.specs.declared.outboxes.Offered.{Offered}
+use Rattle.pl_outbox.specs.declared.outboxes.Offered.TheVariants.{Handed, Full, Nothing}
+use Rattle.pl_outbox.specs.Sent.{sent_at, AreBehind}
+use Rattle.pl_outbox.specs.Tries.{is_tried}
+
+-- The way to one executor: what was sent there, and the seat with the admissions.
+pub record OutboxView : Type 0 where
+  pub sends : SenderView
+  pub seat : SendSeatView
+
+-- The ways to all executors, by number; what waits for them, each with its admission; and the targets whose queue was full
+-- in this turn.
+pub record OutboxesView : Type 0 where
+  pub outboxes : List OutboxView
+  pub waiting : WaitingView AdmittedView
+  pub tried : List ℕ
+
+-- what waits for a target, the oldest first
+abbrev pub waits_in : {A : Type 0} → WaitingView A → ℕ → List Envelope
+waits_in w target = option_map_or (λ b. map (λ x. x.0) b.items) (slice_get w.targets target) []
+
+abbrev pub waits_for : OutboxesView → ℕ → List Envelope
+waits_for o target = waits_in o.waiting target
+
+-- what was sent to it
+abbrev pub sends_for : OutboxesView → ℕ → Option SenderView
+sends_for o target = option_map (λ b. b.sends) (slice_get o.outboxes target)
+
+-- its queue was full in this turn
+abbrev pub was_tried : OutboxesView → ℕ → Bool
+was_tried o target = is_tried o.tried target
+
+-- the target of the oldest of these entries, among the targets whose queue was not full in this turn
+abbrev pub oldest_untried : OutboxesView → List (Entry AdmittedView) → Option ℕ
+oldest_untried o entries = option_map (λ e. e.target) (find (λ e. not (was_tried o e.target)) entries)
+
+-- ---- how far a lane has come
+
+abbrev pub sent_to : OutboxesView → ℕ → Lane → Point
+sent_to o target l = option_map_or (λ b. sent_at b.sends.send_counts l) (slice_get o.outboxes target) nowhere
+
+-- where a lane has come behind what waits for a target
+abbrev pub reached : OutboxesView → ℕ → Lane → Point
+reached o target l = past (sent_to o target l) (on l (waits_for o target))
+
+abbrev pub is_closed : Status → Bool
+is_closed Accepting = false
+is_closed Closing = false
+is_closed Closed = true
+
+-- a seat that gets no admission from now on: it has seen its target closed, or is spent
+abbrev pub is_refused : SendSeatView → Bool
+is_refused seat = is_closed seat.seen || (seat.made == MAX_ADMISSIONS)
+
+abbrev pub refuses : OutboxesView → ℕ → Bool
+refuses o target = option_map_or (λ b. is_refused b.seat) (slice_get o.outboxes target) true
+
+-- some seat has seen its target closed
+pub record SomeClosed (o : OutboxesView) : Type 0 where
+  pub target : ℕ
+  pub outbox : OutboxView
+  pub is : slice_get o.outboxes target ≡ Some outbox
+  pub closed : is_closed outbox.seat.seen ≡ true
+
+-- nothing more of a lane gets in for a target: it has stopped there, or the target refuses all
+abbrev pub is_cut : OutboxesView → ℕ → Lane → Bool
+is_cut o target l = has_stopped (stops_for o.waiting target) l || refuses o target
+
+-- ---- what holds between two calls
+
+-- how many admissions its seats ever made
+abbrev pub admissions : OutboxesView → ℕ
+admissions o = sum_by (λ b. b.seat.made) o.outboxes
+
+-- What waits for a target follows what was sent to it, and there is an admission for each of both.
+pub record IsOutbox (world : World) (b : OutboxView) (entries : List (Entry AdmittedView)) : Type 0 where
+  pub behind : AreBehind world b.sends.send_counts (map (λ e. e.envelope) entries)
+  pub kept : b.seat.kept ≡ b.sends.pushes + length entries
+  pub admitted : All (λ e. e.token ≡ admitted_of b.seat) entries
+  pub made : b.seat.made ≤ MAX_ADMISSIONS
+
+pub record IsOutboxes (world : World) (o : OutboxesView) : Type 0 where
+  pub entries : List (Entry AdmittedView)
+  pub holds : Holds o.waiting entries
+  pub each : (target : ℕ) (b : OutboxView) → slice_get o.outboxes target ≡ Some b → IsOutbox world b (filter (is_for target) entries)
+  pub targets : length o.waiting.targets ≡ length o.outboxes
+  pub added : o.waiting.added ≤ admissions o
+  pub few : length o.outboxes < 2 ^ 16
+
+-- ---- what a call does
+
+-- An envelope was added for a target, or is refused there, with at most one admission, and nothing was sent. Where more of a
+-- lane gets in, it did before, and has come behind the envelope.
+pub record Adds (o : OutboxesView) (target : ℕ) (x : Envelope) (o' : OutboxesView) : Type 0 where
+  pub count : length o'.outboxes ≡ length o.outboxes
+  pub sends : (y : ℕ) → sends_for o' y ≡ sends_for o y
+  pub tried : o'.tried ≡ o.tried
+  pub others : (y : ℕ) → y ≢ target → (slice_get o'.outboxes y ≡ slice_get o.outboxes y) × (slice_get o'.waiting.targets y ≡ slice_get o.waiting.targets y)
+  pub cut : (y : ℕ) (l : Lane) → is_cut o' y l ≡ false → is_cut o y l ≡ false
+  pub reached : (y : ℕ) (l : Lane) → is_cut o' y l ≡ false → reached o' y l ≡ cond ((y == target) && same_lane l x.lane) (after x) (reached o y l)
+  pub closed : SomeClosed o → SomeClosed o'
+  pub made : admissions o' ≤ admissions o + 1
+  pub placed : (lanes : List Lane) → AreAmong (x.lane ∷ []) lanes → HasPlaces (stops_for o.waiting target) lanes → HasPlaces (stops_for o'.waiting target) lanes
+
+-- What comes last for the target: the envelope, or what stands in for it, or nothing where its lane has stopped. There is
+-- one admission more for what comes, and none for nothing.
+pub record Comes (o : OutboxesView) (target : ℕ) (x : Envelope) (o' : OutboxesView) : Type 0 where
+  pub answer : Added
+  pub waits : waits_for o' target ≡ waits_for o target ++ added_items answer x
+  pub stopped : stops_for o'.waiting target ≡ stopped_after answer (stops_for o.waiting target) x.lane
+  pub discarded : (answer ≡ Discarded) ↔ (has_stopped (stops_for o.waiting target) x.lane ≡ true)
+  pub last : has_stopped (stops_for o.waiting target) x.lane ≡ false → 0 < room_for o.waiting target → answer ≡ Last
+
+-- None comes, for this reason.
+pub record RefusedBy (o : OutboxesView) (target : ℕ) (refusal : Refused) (o' : OutboxesView) : Type 0 where
+  pub waiting : o'.waiting ≡ o.waiting
+  pub before : OutboxView
+  pub was : slice_get o.outboxes target ≡ Some before
+  pub outbox : OutboxView
+  pub is : slice_get o'.outboxes target ≡ Some outbox
+  pub seat : Refuses refusal before.seat outbox.seat
+
+-- Nothing of a target has moved: what was sent there, and what waits.
+pub record SameFor (o o' : OutboxesView) (y : ℕ) : Type 0 where
+  pub waits : waits_for o' y ≡ waits_for o y
+  pub sends : sends_for o' y ≡ sends_for o y
+
+-- The first that waited for a target was sent there, and nothing else.
+pub record Sends (o : OutboxesView) (target : ℕ) (o' : OutboxesView) : Type 0 where
+  pub envelope : Envelope
+  pub waits : waits_for o target ≡ envelope ∷ waits_for o' target
+  pub sends : sends_for o' target ≡ option_map (λ s. after_offer s envelope) (sends_for o target)
+  pub others : (y : ℕ) → y ≢ target → SameFor o o' y
+
+-- What waits is the same list in the same order, and nothing was sent.
+pub record Keeps (o o' : OutboxesView) : Type 0 where
+  pub each : (y : ℕ) → SameFor o o' y
+  pub holds : (entries : List (Entry AdmittedView)) → Holds o.waiting entries → Holds o'.waiting entries
+
+-- what became of the first that waits for a target
+abbrev pub Offers : OutboxesView → ℕ → Offered → OutboxesView → Type 0
+Offers o target Handed o' = Sends o target o'
+Offers o target Full o' = Keeps o o'
+Offers o target Nothing o' = (o' ≡ o) × (waits_for o target ≡ [])
+
+-- the targets whose queue was full in this turn, after an offer to one: that one too, where it was full
+abbrev pub tried_after : OutboxesView → ℕ → Offered → ℕ → Bool
+tried_after o target Handed y = was_tried o y
+tried_after o target Full y = (y == target) || was_tried o y
+tried_after o target Nothing y = was_tried o y
+
+-- Nothing was sent, and no queue was found full.
+pub record SendsNothing (o o' : OutboxesView) : Type 0 where
+  pub sends : (y : ℕ) → sends_for o' y ≡ sends_for o y
+  pub tried : o'.tried ≡ o.tried
+
+-- Each lane has come as far as before, and nothing was stopped, admitted or refused.
+pub record Stays (o o' : OutboxesView) : Type 0 where
+  pub count : length o'.outboxes ≡ length o.outboxes
+  pub reached : (y : ℕ) (l : Lane) → reached o' y l ≡ reached o y l
+  pub cut : (y : ℕ) (l : Lane) → is_cut o' y l ≡ is_cut o y l
+  pub stops : (y : ℕ) → stops_for o'.waiting y ≡ stops_for o.waiting y
+  pub closed : SomeClosed o → SomeClosed o'
+  pub made : admissions o' ≡ admissions o
+
+-- Nothing has changed, but which targets were tried.
+pub record Forgets (o o' : OutboxesView) : Type 0 where
+  pub waiting : o'.waiting ≡ o.waiting
+  pub same : (y : ℕ) → SameFor o o' y
+  pub stays : Stays o o'
+
+-- an outbox by which nothing was sent
+pub record IsNew (b : OutboxView) : Type 0 where
+  pub made : b.seat.made ≡ 0
+  pub kept : b.seat.kept ≡ 0
+  pub pushes : b.sends.pushes ≡ 0

@@ -1,0 +1,222 @@
+//! What an executor made for others, and has not handed over.
+
+ghost use Rattle.std.specs.Prelude.{◌≡◌, ℕ, List, [], ◌∷◌, ◌<◌, ◌^◌, ◌==◌, length, map, All, IfOk, IfErr, IfSome, false, true, not};
+ghost use Rattle.pl_context.specs.Stops.{HasPlaces, no_stops};
+ghost use Rattle.pl_context.specs.WaitingViews.{Entry, Holds, stops_for};
+ghost use Rattle.pl_words.specs.Admissions.{AdmittedView};
+ghost use Rattle.pl_flow.specs.Flows.{IsNext};
+ghost use Rattle.pl_outbox.specs.Tries.{is_tried};
+ghost use Rattle.pl_outbox.specs.OutboxViews.{IsNew, admissions, waits_for, was_tried, oldest_untried, tried_after, reached, is_cut, Adds, Comes, RefusedBy, Offers, Stays, Forgets};
+
+use crate::bell::{MAX_BITS, Waiters};
+use crate::outbox::Outbox;
+use crate::tries::Tries;
+use pl_context::Waiting;
+use pl_event::{Envelope, Named};
+use pl_queue::{Full, Mailbox};
+use pl_words::{Admitted, Refused};
+use std::alloc::{AllocError, Global};
+use std::marker::Model;
+use std::sync::Wait;
+
+/// So many envelopes are sent, at most, before the executors to which they went are woken. A queue of 64 has room for a few
+/// more, which come while its executor wakes.
+const MAX_UNRUNG: u32 = 56;
+
+/// What became of the oldest envelope for a target.
+#[derive(Clone, Copy, Debug, PartialEq, Eq)]
+pub enum Offered {
+    /// It is in the queue.
+    Handed,
+    /// The queue was full at some moment of the call. It waits where it did.
+    Full,
+    /// Nothing waits for that target.
+    Nothing,
+}
+
+/// The ways to all executors, by number, and the envelopes that wait for them.
+///
+/// Each envelope that waits, and each that was sent, has an admission of its target: so a target that was closed with
+/// the number of envelopes that it took has nothing coming any more. On each lane what waits follows what was sent, with
+/// the next numbers and nothing behind an end or a failure.
+#[derive(Drop)]
+pub struct Outboxes<'a, W: Named, M: Mailbox<W> + Drop>
+where
+    M::Sender: Drop,
+{
+    outboxes: Vec<Outbox<'a, W, M>>,
+    waiting: Waiting<Admitted>,
+    /// The targets whose queue was found full in this turn.
+    tries: Tries,
+    /// The executors to which something was sent, and which were not woken for it yet.
+    unrung: Waiters,
+    /// How many envelopes were sent to these.
+    count: u32,
+}
+
+impl<'a, W: Named, M: Mailbox<W> + Drop> Model for Outboxes<'a, W, M>
+where
+    M::Sender: Drop,
+{
+    ghost use Rattle.std.specs.Prelude.{◌≡◌, length};
+    ghost use Rattle.pl_outbox.specs.OutboxViews.{OutboxesView, IsOutboxes};
+
+    ghost Value = { OutboxesView };
+
+    ghost view = { λ o. record { outboxes = o.outboxes.items; waiting = o.waiting; tried = o.tries.tried } };
+
+    ghost invariant = { λ o. IsOutboxes W.world (record { outboxes = o.outboxes.items; waiting = o.waiting; tried = o.tries.tried }) × (o.tries.count ≡ length o.outboxes.items) };
+}
+
+impl<'a, W: Named, M: Mailbox<W> + Drop> Outboxes<'a, W, M>
+where
+    M::Sender: Drop,
+{
+    /// Nothing waits. There is an outbox for each executor, of which nothing was sent, with so many reserved places.
+    pub fn new(
+        alloc: Global,
+        outboxes: Vec<Outbox<'a, W, M>>,
+        places: &[u16],
+    ) -> Result<Self, AllocError>
+        requires new { All IsNew outboxes.items }
+        requires places { length places.now ≡ length outboxes.items }
+        requires few { length outboxes.items < 2 ^ 16 }
+        ensures outboxes { IfOk result (λ new. new.outboxes ≡ outboxes.entry.items) }
+        ensures waits { IfOk result (λ new. (y : ℕ) → waits_for new y ≡ []) }
+        ensures tried { IfOk result (λ new. new.tried ≡ []) }
+        ensures admitted { IfOk result (λ new. admissions new ≡ 0) }
+        ensures places { IfOk result (λ new. map (λ b. b.stopped) new.waiting.targets ≡ map no_stops places.now) }
+    {
+        Ok(Outboxes {
+            waiting: Waiting::new(alloc, places)?,
+            tries: Tries::new(alloc, outboxes.len())?,
+            outboxes,
+            unrung: Waiters::none(),
+            count: 0,
+        })
+    }
+
+    /// Adds an envelope for a target at the end, with an admission. Where memory is refused, what stands in for it, or
+    /// nothing: then its admission is given up.
+    ///
+    /// Error: the target is closed, or the seat is spent. Nothing was added.
+    pub fn add(&mut self, target: usize, envelope: Envelope) -> Result<(), Refused>
+        requires there { target < length self.old.outboxes }
+        requires place { HasPlaces (stops_for self.old.waiting target) (envelope.lane ∷ []) }
+        requires next { is_cut self.old target envelope.lane ≡ false → IsNext W.world (reached self.old target envelope.lane) envelope }
+        ensures adds { Adds self.old target envelope self.new }
+        ensures comes { IfOk result (λ _. Comes self.old target envelope self.new) }
+        ensures refused { IfErr result (λ refusal. RefusedBy self.old target refusal self.new) }
+    {
+        match self.outboxes[target].admit() {
+            Err(refused) => {
+                drop(envelope);
+                Err(refused)
+            }
+            Ok(admitted) => {
+                if let Some(admitted) = self.waiting.add(target, envelope, admitted) {
+                    self.outboxes[target].give_up(admitted);
+                }
+                Ok(())
+            }
+        }
+    }
+
+    /// A new turn begins: no queue was found full in it.
+    pub fn forget_tries(&mut self)
+        ensures forgets { Forgets self.old self.new }
+        ensures none { (y : ℕ) → was_tried self.new y ≡ false }
+    {
+        self.tries.clear();
+    }
+
+    /// The target of the oldest envelope, among the targets whose queue was not found full in this turn.
+    pub fn oldest(&self) -> Option<usize>
+        ensures there { IfSome result (λ target. target < length self.now.outboxes) }
+        ensures oldest { (entries : List (Entry AdmittedView)) → Holds self.now.waiting entries
+            → result ≡ oldest_untried self.now entries }
+    {
+        let tries = &self.tries;
+        self.waiting.oldest(
+            |target|
+                ensures { result ≡ not (is_tried tries.entry.now.tried target) }
+            { !tries.has(target) },
+        )
+    }
+
+    /// Offers the oldest envelope for a target to its queue. Where that is full the envelope waits where it did, and the
+    /// target counts as tried.
+    pub fn offer<R: Wait>(&mut self, rt: &R, target: usize) -> Offered
+        requires there { target < length self.old.outboxes }
+        ensures offers { Offers self.old target result self.new }
+        ensures stays { Stays self.old self.new }
+        ensures tried { (y : ℕ) → was_tried self.new y ≡ tried_after self.old target result y }
+    {
+        let Some((envelope, admitted)) = self.waiting.take(target) else {
+            return Offered::Nothing;
+        };
+        match self.outboxes[target].offer(rt, envelope) {
+            Ok(()) => {
+                admitted.sent();
+                self.unrung = self.unrung.with(target);
+                self.count = self.count.saturating_add(1);
+                Offered::Handed
+            }
+            Err(Full { envelope }) => {
+                self.waiting.put_back(target, envelope, admitted);
+                self.tries.add(target);
+                Offered::Full
+            }
+        }
+    }
+
+    /// Whether nothing waits.
+    pub fn is_empty(&self) -> bool
+        ensures counts { (entries : List (Entry AdmittedView)) → Holds self.now.waiting entries → result ≡ (length entries == 0) }
+        ensures empty { result ≡ true → (y : ℕ) → waits_for self.now y ≡ [] }
+    {
+        self.waiting.is_empty()
+    }
+
+    /// Notes at each queue that was found full in this turn that an executor waits for room there.
+    pub fn note_waiting(&self, executor: usize) {
+        for &target in self.tries.as_slice() {
+            if let Some(outbox) = self.outboxes.get(target) {
+                outbox.note_waiting(executor);
+            }
+        }
+    }
+
+    /// Wakes the executors to which something was sent, where it was so much that they do not wait for more, or the next
+    /// offer may wait for one of them.
+    pub fn ring_for_many(&mut self)
+        ensures { self.new ≡ self.old }
+    {
+        if self.count >= MAX_UNRUNG || M::may_wait() {
+            self.ring_for_sent();
+        }
+    }
+
+    /// Wakes the executors to which something was sent, where they were not woken for it yet.
+    pub fn ring_for_sent(&mut self)
+        ensures { self.new ≡ self.old }
+    {
+        let waiters = self.unrung;
+        self.unrung = Waiters::none();
+        self.count = 0;
+        self.ring(waiters);
+    }
+
+    /// Wakes these executors.
+    pub fn ring(&self, waiters: Waiters) {
+        let mut waiters = waiters;
+        for _ in 0..waiters.count() {
+            let bit = waiters.take_bit();
+            for block in self.outboxes.chunks(MAX_BITS) {
+                if let Some(outbox) = block.get(bit) {
+                    outbox.ring();
+                }
+            }
+        }
+    }
+}

@@ -1,0 +1,67 @@
+//! The targets whose queue was found full in a turn.
+
+ghost use Rattle.std.specs.Prelude.{◌≡◌, ℕ, [], ◌<◌, ◌==◌, ◌||◌, IfOk};
+ghost use Rattle.pl_outbox.specs.Tries.{is_tried};
+
+use std::alloc::{AllocError, Global};
+use std::marker::Model;
+
+/// The targets whose queue was found full in a turn. Room for all of them is taken at the start, so noting one takes no
+/// memory.
+#[derive(Drop)]
+pub(crate) struct Tries {
+    targets: Vec<usize>,
+}
+
+impl Model for Tries {
+    ghost use Rattle.std.specs.Prelude.{vec_capacity};
+    ghost use Rattle.pl_outbox.specs.Tries.{TriesView, IsTries};
+
+    ghost Value = { TriesView };
+
+    ghost view = { λ t. record { tried = t.targets.items; count = vec_capacity t.targets } };
+
+    ghost invariant = { λ t. IsTries (record { tried = t.targets.items; count = vec_capacity t.targets }) };
+}
+
+impl Tries {
+    /// None of so many targets was tried.
+    pub(crate) fn new(alloc: Global, count: usize) -> Result<Self, AllocError>
+        ensures { IfOk result (λ new. new ≡ record { tried = []; count = count }) }
+    {
+        Ok(Tries {
+            targets: Vec::with_capacity(alloc, count)?,
+        })
+    }
+
+    /// Whether a target was tried.
+    pub(crate) fn has(&self, target: usize) -> bool
+        ensures { result ≡ is_tried self.now.tried target }
+    {
+        self.targets.iter().any(|&other| target == other)
+    }
+
+    /// Notes that a target was tried.
+    #[tactic(auto, using(crate::proofs::TryLemmas::tried_more, crate::proofs::TryLemmas::tried_again, crate::proofs::TryLemmas::tries_room))]
+    pub(crate) fn add(&mut self, target: usize)
+        requires there { target < self.old.count }
+        ensures tried { (y : ℕ) → is_tried self.new.tried y ≡ ((y == target) || is_tried self.old.tried y) }
+        ensures count { self.new.count ≡ self.old.count }
+    {
+        if !self.has(target) {
+            self.targets.push_reserved(target);
+        }
+    }
+
+    /// None was tried.
+    pub(crate) fn clear(&mut self)
+        ensures { self.new ≡ record self.old { tried = [] } }
+    {
+        self.targets.clear();
+    }
+
+    /// Those that were tried, in this order.
+    pub(crate) fn as_slice(&self) -> &[usize] {
+        self.targets.as_slice()
+    }
+}

@@ -1,0 +1,22 @@
+use Rattle.std.proofs.Common.{◌≡◌, ◌+◌, ◌-◌, length, sym, ap, ◌∙◌, arith}
+use Rattle.std.specs.Prelude.{◌==◌}
+use Rattle.std.proofs.lemmas.Bool.{cond-true, cond-false, eq-eqb, ne_eqb}
+use Rattle.pl_part.specs.Paths.{PathPartView, writer_hop}
+use Rattle.pl_part.proofs.paths.PathPart.writer.Goals as goal
+
+pub returns-then-hop-eq0 : goal.returns-then-hop-eq0
+returns-then-hop-eq0 g c =
+    let slots : c.len.result ≡ length c.self.inside.contexts.items = omega (arith, c.len.ensures, c.self.inside.contexts.ok.0) in
+    slots
+    ∙ sym (cond-true (c.args.hop == 0) _ _ (eq-eqb _ _ c.if-hop-eq0.true))
+    ∙ ap (λ (y : PathPartView g.row.S.Denot). writer_hop y c.args.hop) c.self.view_is
+
+pub returns-then-hop-self : goal.returns-then-hop-self
+returns-then-hop-self g c =
+    sym (cond-false (c.args.hop == 0) _ _ (ne_eqb _ _ c.if-hop-eq0.false) ∙ cond-true (c.args.hop == c.self.inside.tail_hop + 1) _ _ (eq-eqb _ _ c.if-hop-self.true))
+    ∙ ap (λ (y : PathPartView g.row.S.Denot). writer_hop y c.args.hop) c.self.view_is
+
+pub returns-else-hop-self : goal.returns-else-hop-self
+returns-else-hop-self g c =
+    sym (cond-false (c.args.hop == 0) _ _ (ne_eqb _ _ c.if-hop-eq0.false) ∙ cond-false (c.args.hop == c.self.inside.tail_hop + 1) _ _ (ne_eqb _ _ c.if-hop-self.false))
+    ∙ ap (λ (y : PathPartView g.row.S.Denot). writer_hop y c.args.hop) c.self.view_is
