@@ -77,12 +77,9 @@ loop-stage-preserved g c =
 
 pub new-requires-clause-fresh : goal.new-requires-clause-fresh
 new-requires-clause-fresh g c =
-    let before = c.loop-stage.invariant in
     let stages = c.loop-stage.yielded in
-    let stage = c.in-Some.stage in
-    let there : slice_get c.args.stages.items (length stages) ≡ Some stage =
-    ap (λ (t : List g.row.S.Denot). slice_get t (length stages)) (sym before.rest ∙ ap (λ (t : List g.row.S.Denot). stages ++ t) c.in-Some.ensures.steps.0) ∙ slice_get-behind stages c.next.new.self.rest.items stage in
-    All-at (λ (x : g.row.S.Denot). g.S.Stage.stands_after x []) c.args.stages.items (length stages) stage c.requires.fresh there
+    All-at (λ (x : g.row.S.Denot). g.S.Stage.stands_after x []) c.args.stages.items (length stages) c.in-Some.stage c.requires.fresh
+    (ap (λ (t : List g.row.S.Denot). slice_get t (length stages)) (sym c.loop-stage.invariant.rest ∙ ap (λ (t : List g.row.S.Denot). stages ++ t) c.in-Some.ensures.steps.0) ∙ slice_get-behind stages c.next.new.self.rest.items c.in-Some.stage)
 
 pub returns-in_err-push : goal.returns-in_err-push
 returns-in_err-push g c =
