@@ -2,7 +2,7 @@
 """Measures how the program's time and memory grow with its input.
 
 usage: bench/run.py [CHECKOUT]     It runs crates/pl_main/out/pl_main, which `rt run` in crates/pl_main leaves there, and
-the tests of pl_head and pl_replay, which `rt test` in those crates leaves in their out
+the tests of pl_nodes_tests and pl_replay_tests, which `rt test` in those crates leaves in their out
 
 Each workload is run at doubling sizes. Nothing here is a test: the ratios are read in one run, on one quiet machine,
 against the targets of README.md (each doubling of the work at most 2.3 times the time; at most 32 MiB and 200 bytes
