@@ -31,7 +31,7 @@ pub enum TransportFault {
 /// write("NG\r\n")       Ok(4)     "+PONG\r\n"   4      1
 /// ```
 ///
-/// The same in code: the transport of `transport_tests`, in `pl_nodes_tests`, accepts a byte at every second call.
+/// The same in code: `Trickle` of `pl_nodes_tests` accepts a byte at every second call.
 ///
 /// The check proves the law of each transport. Were it broken, a head that stands on it would promise what is not so:
 /// with an n that is larger than what was kept, bytes would be missing from the output, and a write would be a success

@@ -1,4 +1,4 @@
-//! What is on its way between two moves, as a law. No one calls it: its contract is the law.
+//! What is on its way between two moves, as a law: its contract is the law.
 
 ghost use Rattle.std.specs.Prelude.{◌≡◌, ◌==◌, ◌&&◌, ◌++◌, ◌≤◌, ℕ, List, Bool, [], true, false};
 ghost use Rattle.pl_event.specs.declared.envelopes.Lane.{Lane};
