@@ -12,6 +12,7 @@ use Rattle.pl_executor_tests.specs.declared.nodes.Outlet.{Outlet}
 use Rattle.pl_executor_tests.specs.declared.places.Inboxes.{Inboxes}
 use Rattle.pl_executor_tests.specs.declared.places.Own.{Own}
 use Rattle.pl_executor_tests.specs.declared.places.Place.{Place}
+use Rattle.pl_executor_tests.specs.declared.places.Places.{Places}
 use Rattle.pl_executor_tests.specs.declared.places.Way.{Way}
 
 -- Executor 2 makes flags for both others, and executor 0 for executor 2.
@@ -49,10 +50,10 @@ module _ {W M S T : Type 0} (is_taker : M → T → Type 0) (takes_of : T → Ta
     pub third : IsWay inboxes.third (makes_for executor 2) place.third
 
   -- What executors 0, 1 and 2 have of them.
-  pub record ArePlaces (inboxes : Inboxes W M S T) (first second third : Place W M S T) : Type 0 where
-    pub of_first : IsPlace inboxes 0 first
-    pub of_second : IsPlace inboxes 1 second
-    pub of_third : IsPlace inboxes 2 third
+  pub record ArePlaces (inboxes : Inboxes W M S T) (places : Places W M S T) : Type 0 where
+    pub of_first : IsPlace inboxes 0 places.first
+    pub of_second : IsPlace inboxes 1 places.second
+    pub of_third : IsPlace inboxes 2 places.third
 
 -- where flags are made for an executor, it is one of the three, and there is a lane to it
 abbrev pub HasLane : ℕ → Outlet → Type 0

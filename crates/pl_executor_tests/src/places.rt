@@ -47,3 +47,15 @@ where
     pub(crate) second: Way<W, M>,
     pub(crate) third: Way<W, M>,
 }
+
+/// What executors 0, 1 and 2 have of their inboxes.
+#[derive(Drop)]
+pub(crate) struct Places<W: Named, M: Mailbox<W>>
+where
+    M::Sender: Drop,
+    M::Taker: Drop,
+{
+    pub(crate) first: Place<W, M>,
+    pub(crate) second: Place<W, M>,
+    pub(crate) third: Place<W, M>,
+}

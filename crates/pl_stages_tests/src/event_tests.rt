@@ -15,12 +15,12 @@ fn byte_strings(rt: HostRuntime) -> Result<(), Fail> {
     ping.extend_from_slice(b"NG")?;
     assert_eq!(rt; ping.as_slice(), b"PING".as_slice());
     assert_eq!(rt; ping.len(), 4);
-    assert_eq!(rt; ping.is_empty(), false);
-    assert_eq!(rt; text(alloc, b"")?.is_empty(), true);
+    assert!(rt; !ping.is_empty());
+    assert!(rt; text(alloc, b"")?.is_empty());
 
     assert_eq!(rt; ping.clone()?, ping);
-    assert_eq!(rt; ping == text(alloc, b"PONG")?, false);
-    assert_eq!(rt; ping == text(alloc, b"PIN")?, false);
+    assert!(rt; ping != text(alloc, b"PONG")?);
+    assert!(rt; ping != text(alloc, b"PIN")?);
     assert_eq!(rt; ping.into_vec().as_slice(), b"PING".as_slice());
     Ok(())
 }
@@ -29,10 +29,10 @@ fn byte_strings(rt: HostRuntime) -> Result<(), Fail> {
 fn sequences(rt: HostRuntime) -> Result<(), Fail> {
     let alloc = rt.alloc();
     let mut events = Sequence::new(alloc);
-    assert_eq!(rt; events.is_empty(), true);
+    assert!(rt; events.is_empty());
     events.push(Event::Active)?;
     events.push(Event::Flush)?;
-    assert_eq!(rt; events.is_empty(), false);
+    assert!(rt; !events.is_empty());
     assert_eq!(rt; events.len(), 2);
     assert_eq!(rt; events.as_slice(), [Event::Active, Event::Flush].as_slice());
 
@@ -51,9 +51,8 @@ fn keys(rt: HostRuntime) -> Result<(), Fail> {
         assert_eq!(rt; key.clone()?, key);
     }
     for name in ["", "abcdefghijklmnopq", "Hits", "hi ts", "{", "`", "\n"] {
-        assert_eq!(rt;
+        assert!(rt;
             Key::new(text(rt.alloc(), name.as_bytes())?).is_none(),
-            true,
             "of {name:?}"
         );
     }

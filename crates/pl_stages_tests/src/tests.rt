@@ -374,7 +374,7 @@ fn flush_every(rt: HostRuntime) -> Result<(), Fail> {
     for (n, passed) in [(1, 5), (2, 2), (5, 1), (6, 0)] {
         let handler = Handler::FlushEvery(FlushEvery::new(n)?);
         let (up, down) = made(rt.alloc(), handler, five_writes(rt.alloc(), 1)?)?;
-        assert_eq!(rt; up.is_empty(), true);
+        assert!(rt; up.is_empty());
         assert_eq!(rt; down.len(), 5 + passed, "every {n}");
         assert_eq!(rt; down, five_writes(rt.alloc(), n)?, "every {n}");
     }

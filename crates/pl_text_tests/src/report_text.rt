@@ -204,18 +204,22 @@ fn no_channels(rt: HostRuntime) -> Result<(), Fail> {
     assert_printed(&rt, Vec::new(rt.alloc()), "")
 }
 
+/// A command of each kind.
+fn commands(rt: &HostRuntime) -> Result<Vec<Command>, Fail> {
+    let mut commands = vec![in rt.alloc(); Command::Ping, Command::Quit]?;
+    for text in [b"".as_slice(), b"a\r".as_slice()] {
+        commands.push(Command::Echo(bytes(rt, text)?))?;
+    }
+    commands.push(Command::Add(key(rt, b"a7")?, 999_999_999))?;
+    commands.push(Command::Get(key(rt, b"zz")?))?;
+    Ok(commands)
+}
+
 #[test]
 fn every_event(rt: HostRuntime) -> Result<(), Fail> {
     let mut tail = Vec::new(rt.alloc());
     tail.push(Event::Active)?;
-    for command in [
-        Command::Ping,
-        Command::Quit,
-        Command::Echo(bytes(&rt, b"")?),
-        Command::Echo(bytes(&rt, b"a\r")?),
-        Command::Add(key(&rt, b"a7")?, 999_999_999),
-        Command::Get(key(&rt, b"zz")?),
-    ] {
+    for command in commands(&rt)? {
         tail.push(Event::Read(Message::Command(command)))?;
     }
     for caught in [Caught::TooLong, Caught::Unknown, Caught::Syntax] {

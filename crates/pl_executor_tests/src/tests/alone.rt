@@ -6,7 +6,7 @@ ghost use Rattle.pl_executor_tests.specs.Nodes.{lane_to};
 ghost use Rattle.pl_executor_tests.specs.Openings.{ArePlaces, IsWay};
 
 use crate::nodes::{Node, flag_to};
-use crate::places::{Inboxes, Own, Place, Way};
+use crate::places::{Inboxes, Own, Places, Way};
 use crate::tests::starting::{executor, maker};
 use crossbeam_utils::sync::Parker;
 use pl_event::Named;
@@ -227,16 +227,20 @@ where
 pub(crate) fn set_apart<'a, W: Named, M: Mailbox<W> + Drop>(
     alloc: Global,
     inboxes: &'a Inboxes<W, M>,
-    places: (Place<W, M>, Place<W, M>, Place<W, M>),
+    places: Places<W, M>,
     counts: (u32, u32),
     expected: u64,
 ) -> Result<Alone<'a, W, M>, AllocError>
 where
     M::Sender: Drop,
     M::Taker: Drop,
-    requires { ArePlaces M.is_taker M.takes_of M.is_sender M.sends_of inboxes.now places.0 places.1 places.2 }
+    requires { ArePlaces M.is_taker M.takes_of M.is_sender M.sends_of inboxes.now places }
 {
-    let (first, second, third) = places;
+    let Places {
+        first,
+        second,
+        third,
+    } = places;
     let (executor, parker) = executor(alloc, inboxes, third, maker(counts, expected))?;
     Ok(Alone {
         executor,

@@ -6,7 +6,7 @@ ghost use Rattle.pl_executor_tests.specs.Nodes.{lane_to};
 ghost use Rattle.pl_executor_tests.specs.Openings.{ArePlaces, IsOpened};
 
 use crate::nodes::lane_to;
-use crate::places::{Inboxes, Own, Place, Way};
+use crate::places::{Inboxes, Own, Place, Places, Way};
 use pl_event::{Lane, Named};
 use pl_outbox::Inbox;
 use pl_queue::{Mailbox, OpenRefusal};
@@ -18,8 +18,11 @@ fn lanes(alloc: Global, executor: u16) -> Result<Vec<Vec<Lane>>, AllocError>
     ensures lanes { IfOk result (λ lanes. map (λ v. v.items) lanes.items ≡ (lane_to executor ∷ []) ∷ [] ∷ [] ∷ []) }
     ensures sends { IfOk result (λ lanes. map (λ v. fresh_sends v.items) lanes.items ≡ fresh_sends (lane_to executor ∷ []) ∷ fresh_sends [] ∷ fresh_sends [] ∷ []) }
 {
-    let own = vec![in alloc; lane_to(executor)]?;
-    Ok(vec![in alloc; own, Vec::new(alloc), Vec::new(alloc)]?)
+    let mut lanes = Vec::new(alloc);
+    lanes.push(vec![in alloc; lane_to(executor)]?)?;
+    lanes.push(Vec::new(alloc))?;
+    lanes.push(Vec::new(alloc))?;
+    Ok(lanes)
 }
 
 /// The elements of a list of three.
@@ -77,11 +80,11 @@ where
 pub(crate) fn open_three<W: Named, M: Mailbox<W> + Drop>(
     alloc: Global,
     capacity: usize,
-) -> Result<(Inboxes<W, M>, (Place<W, M>, Place<W, M>, Place<W, M>)), OpenRefusal>
+) -> Result<(Inboxes<W, M>, Places<W, M>), OpenRefusal>
 where
     M::Sender: Drop,
     M::Taker: Drop,
-    ensures { IfOk result (λ r. ArePlaces M.is_taker M.takes_of M.is_sender M.sends_of r.0 r.1.0 r.1.1 r.1.2) }
+    ensures { IfOk result (λ r. ArePlaces M.is_taker M.takes_of M.is_sender M.sends_of r.0 r.1) }
 {
     let (first, first_own, to_first) = open::<W, M>(alloc, 0, capacity)?;
     let (second, second_own, to_second) = open::<W, M>(alloc, 1, capacity)?;
@@ -109,5 +112,10 @@ where
         second: to_second.0,
         third: to_third.2,
     };
-    Ok((inboxes, (first, second, third)))
+    let places = Places {
+        first,
+        second,
+        third,
+    };
+    Ok((inboxes, places))
 }

@@ -4,7 +4,7 @@ ghost use Rattle.std.specs.Prelude.{◌≡◌, ◌∷◌, [], IfOk};
 ghost use Rattle.pl_executor_tests.specs.Openings.{ArePlaces, IsPlace, IsReady, inbox_of};
 
 use crate::nodes::{Node, Outlet};
-use crate::places::{Inboxes, Own, Place, Way};
+use crate::places::{Inboxes, Own, Place, Places, Way};
 use crossbeam_utils::sync::Parker;
 use pl_context::Outputs;
 use pl_event::Named;
@@ -158,18 +158,23 @@ where
 pub(crate) fn three_executors<'a, W: Named, M: Mailbox<W> + Drop>(
     alloc: Global,
     inboxes: &'a Inboxes<W, M>,
-    places: (Place<W, M>, Place<W, M>, Place<W, M>),
+    places: Places<W, M>,
     count: u32,
 ) -> Result<Vec<(Executor<'a, W, M, Node>, Parker)>, AllocError>
 where
     M::Sender: Drop,
     M::Taker: Drop,
-    requires { ArePlaces M.is_taker M.takes_of M.is_sender M.sends_of inboxes.now places.0 places.1 places.2 }
+    requires { ArePlaces M.is_taker M.takes_of M.is_sender M.sends_of inboxes.now places }
 {
+    let Places {
+        first,
+        second,
+        third,
+    } = places;
     let maker = maker((count, count), u64::from(count));
     let mut executors = Vec::new(alloc);
-    add(&mut executors, inboxes, places.0, answerer(count))?;
-    add(&mut executors, inboxes, places.1, counter(count))?;
-    add(&mut executors, inboxes, places.2, maker)?;
+    add(&mut executors, inboxes, first, answerer(count))?;
+    add(&mut executors, inboxes, second, counter(count))?;
+    add(&mut executors, inboxes, third, maker)?;
     Ok(executors)
 }

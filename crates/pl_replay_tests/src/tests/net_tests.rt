@@ -214,7 +214,7 @@ pub(crate) fn assert_report<T: Transport>(
 fn full_queue_of_one(rt: HostRuntime) -> Result<(), Fail> {
     let mut net = Net::new(rt.alloc(), decoder_apart(rt.alloc())?, 1)?;
     assert_one_waits(&rt, &mut net)?;
-    assert_eq!(rt; net.drained(), false);
+    assert!(rt; !net.drained());
     assert_report(&rt, &net, Stands::Open, ACTIVE_TAIL, b"", &[])
 }
 
@@ -281,7 +281,7 @@ fn drained(
     channels: u16,
     executors: u16,
 ) -> Result<Report, Fail> {
-    assert_eq!(rt; drain(&mut net, channels, executors)?, true);
+    assert!(rt; drain(&mut net, channels, executors)?);
     Ok(net.report()?)
 }
 

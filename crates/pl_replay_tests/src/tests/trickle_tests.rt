@@ -114,7 +114,7 @@ fn assert_calls(
 ) -> Result<(), Fail> {
     assert_enabled(rt, net, &[READ; 3])?;
     for _ in 0..calls {
-        assert_eq!(rt; net.drained(), false);
+        assert!(rt; !net.drained());
         assert_move(rt, net, OUT, true)?;
     }
     assert_move(rt, net, OUT, false)

@@ -106,11 +106,11 @@ fn assert_watermarks(rt: &impl Abort, net: &mut MemoryNet) -> Result<(), Fail> {
     for _ in 0..5 {
         assert_flags_after(rt, net, &[OUT], &[false])?;
     }
-    assert_eq!(rt; net.drained(), false);
+    assert!(rt; !net.drained());
     assert_move(rt, net, OUT, true)?;
     assert_move(rt, net, OUT, false)?;
     assert_flags(rt, net, &[false, true]);
-    assert_eq!(rt; net.drained(), true);
+    assert!(rt; net.drained());
     Ok(())
 }
 
@@ -179,7 +179,7 @@ fn assert_handed_over(rt: &impl Abort, net: &mut MemoryNet) -> Result<(), Fail> 
     }
     assert_flags(rt, net, &[]);
     assert_flags_after(rt, net, &[OUT], &[])?;
-    assert_eq!(rt; drain(net, 1, 3)?, true);
+    assert!(rt; drain(net, 1, 3)?);
     assert_flags(rt, net, &[false, true]);
     Ok(())
 }
