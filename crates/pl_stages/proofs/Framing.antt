@@ -8,7 +8,8 @@ use Rattle.pl_event.specs.declared.events.Event.{Event}
 use Rattle.pl_event.specs.declared.events.Event.TheVariants.{Read}
 use Rattle.pl_event.specs.declared.events.Message.TheVariants.{Bytes}
 use Rattle.memchr.specs.Find.{IsFirstByte, is_byte}
-use Rattle.pl_stages.specs.LineFraming.{closed_parts, open_part, onto_first_part, unless_closed, lines_of, framed, joined, read_bytes, line_framing_up, KeepsPart}
+use Rattle.pl_stages.specs.Cutting.{joined, read_bytes, cutting_up}
+use Rattle.pl_stages.specs.LineFraming.{closed_parts, open_part, onto_first_part, unless_closed, lines_of, framed, KeepsPart}
 
 -- with no closed part, all is open
 pub open_part-none : (bytes : List ℕ) → closed_parts bytes ≡ [] → open_part bytes ≡ bytes
@@ -127,9 +128,9 @@ joined-push xs x =
     flat_map-append read_bytes xs (x ∷ []) ∙ ap (λ (t : List ℕ). joined xs ++ t) (append-nil (read_bytes x))
 
 -- a read makes the lines of what it and the open part are together
-pub line_framing_up-read : (max : ℕ) (xs : List Event) (b : List ℕ)
-    → line_framing_up max xs (Read (Bytes b)) ≡ lines_of max (open_part (joined xs) ++ b)
-line_framing_up-read max xs b =
+pub lines_of-read : (max : ℕ) (xs : List Event) (b : List ℕ)
+    → cutting_up (lines_of max) xs (Read (Bytes b)) ≡ lines_of max (open_part (joined xs) ++ b)
+lines_of-read max xs b =
     ap (drop (length (lines_of max (joined xs)))) (lines_of-append max (joined xs) b)
     ∙ drop_at (lines_of max (joined xs)) (lines_of max (open_part (joined xs) ++ b)) (length (lines_of max (joined xs))) refl
 

@@ -1,4 +1,6 @@
 pub mod Framing
+pub mod FrameLaws
+pub mod FrameSteps
 pub mod Spaces
 pub mod PrintedNumbers
 pub mod Grammar

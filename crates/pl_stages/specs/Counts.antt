@@ -3,7 +3,7 @@ use Rattle.std.specs.Prelude.{◌≡◌, ℕ, ◌+◌, ◌*◌, ◌≤◌, List,
 use Rattle.pl_event.specs.declared.events.Event.{Event}
 use Rattle.pl_event.specs.declared.stages.Direction.TheVariants.{Outbound}
 use Rattle.pl_event.specs.Meaning.{Meaning, up_of, down_of}
-use Rattle.pl_stages.specs.LineFraming.{read_bytes}
+use Rattle.pl_stages.specs.Cutting.{read_bytes}
 
 -- the weight of an event, and of a list of them
 abbrev pub event_weight : Event → ℕ

@@ -1,4 +1,9 @@
+pub mod Cutting
 pub mod LineFraming
+pub mod LengthFraming
+pub mod LengthPrepending
+pub mod LengthSteps
+pub mod Frames
 pub mod Numbers
 pub mod Commands
 pub mod Service

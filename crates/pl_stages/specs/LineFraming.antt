@@ -1,13 +1,12 @@
 -- Line framing: the bytes read are joined and cut at each line feed (Netty's LineBasedFrameDecoder;
 -- docs/FORMATS.md, "Handlers").
-use Rattle.std.specs.Prelude.{◌≡◌, ℕ, ◌+◌, ◌-◌, ◌<◌, List, [], ◌∷◌, ◌++◌, length, take, drop, map, Bool, if◌then◌else◌, nat_le, ◌==◌, slice_index, MatchBool}
-use Rattle.std.specs.List.{flat_map}
+use Rattle.std.specs.Prelude.{◌≡◌, ℕ, ◌+◌, ◌-◌, ◌<◌, List, [], ◌∷◌, ◌++◌, length, take, map, Bool, if◌then◌else◌, nat_le, ◌==◌, slice_index, MatchBool}
 use Rattle.pl_event.specs.declared.events.Event.{Event}
 use Rattle.pl_event.specs.declared.events.Event.TheVariants.{Read, Caught}
-use Rattle.pl_event.specs.declared.events.Message.TheVariants.{Bytes, Line}
+use Rattle.pl_event.specs.declared.events.Message.TheVariants.{Line}
 use Rattle.pl_event.specs.declared.events.Caught.TheVariants.{TooLong}
-use Rattle.pl_event.specs.Meaning.{Meaning, IsLawful}
-use Rattle.pl_event.specs.Passing.{passing_up, passing_up-lawful}
+use Rattle.pl_event.specs.Meaning.{Meaning}
+use Rattle.pl_stages.specs.Cutting.{cutting}
 
 -- a byte before the first of these parts, if there is one
 abbrev pub onto_first_part : ℕ → List (List ℕ) → List (List ℕ)
@@ -32,26 +31,9 @@ framed max part =
 abbrev pub lines_of : ℕ → List ℕ → List Event
 lines_of max bytes = map (framed max) (closed_parts bytes)
 
--- the bytes that an event brings
-abbrev pub read_bytes : Event → List ℕ
-read_bytes (Read (Bytes b)) = b
-read_bytes other = []
-
--- all bytes read, joined
-abbrev pub joined : List Event → List ℕ
-joined xs = flat_map read_bytes xs
-
--- A read of bytes makes the lines of the whole with it, less those of the whole without it. Other events pass.
-abbrev pub line_framing_up : ℕ → List Event → Event → List Event
-line_framing_up max xs (Read (Bytes b)) = drop (length (lines_of max (joined xs))) (lines_of max (joined xs ++ b))
-line_framing_up max xs other = other ∷ []
-
 -- the framing of lines of at most max bytes
 abbrev pub line_framing : ℕ → Meaning
-line_framing max = passing_up (line_framing_up max)
-
-pub line_framing-lawful : (max : ℕ) → IsLawful (line_framing max)
-line_framing-lawful max = passing_up-lawful (line_framing_up max)
+line_framing max = cutting (lines_of max)
 
 -- the second list where the first is empty, and else the third
 abbrev pub unless_closed : List (List ℕ) → List ℕ → List ℕ → List ℕ

@@ -1,5 +1,5 @@
 -- Which handlers are thrifty: any, by what it makes of each event, and the built-in ones.
-use Rattle.std.specs.Prelude.{◌≡◌, ℕ, ◌+◌, ◌*◌, ◌≤◌, List, [], ◌∷◌, ◌++◌, length, map, drop, Bool, true, false, ◌==◌, nat_le, Result, Ok, Err, if◌then◌else◌}
+use Rattle.std.specs.Prelude.{◌≡◌, ℕ, zero, suc, ◌+◌, ◌*◌, ◌≤◌, List, [], ◌∷◌, ◌++◌, length, map, take, drop, Bool, true, false, ◌==◌, nat_le, Result, Ok, Err, if◌then◌else◌}
 use Rattle.std.proofs.Common.{ap, arith, length-append}
 use Rattle.std.proofs.lemmas.List.{length-map, length-drop, drop-map}
 use Rattle.std.proofs.lemmas.List.Sums.{sum_by-append, sum_by-cons}
@@ -14,7 +14,12 @@ use Rattle.pl_event.specs.declared.stages.Direction.TheVariants.{Outbound}
 use Rattle.pl_event.specs.Meaning.{Meaning, made_after}
 use Rattle.pl_event.specs.Mappings.{mapping_up, mapping_down}
 use Rattle.pl_stages.specs.Counts.{IsThrifty, event_weight, weight}
-use Rattle.pl_stages.specs.LineFraming.{line_framing, line_framing_up, onto_first_part, closed_parts, lines_of, framed, without_return, joined}
+use Rattle.pl_stages.specs.Cutting.{cutting, cutting_up, joined}
+use Rattle.pl_stages.specs.LineFraming.{line_framing, onto_first_part, closed_parts, lines_of, framed, without_return}
+use Rattle.pl_stages.specs.LengthFraming.{length_framing, is_width, payload_len, frame_start, is_too_long, given_at, frame_event, given_frame, given_frames, frames_of}
+use Rattle.pl_stages.specs.LengthSteps.{open_start}
+use Rattle.pl_stages.specs.LengthPrepending.{length_prepending, with_length}
+use Rattle.pl_stages.specs.Frames.{some_width, frames_of-read, continues}
 use Rattle.pl_stages.specs.Commands.{command_decoding, command_of, decoded, read_as}
 use Rattle.pl_stages.specs.Service.{line_service, has_quit, replies_to, accepted, Addition}
 use Rattle.pl_stages.specs.Replies.{reply_encoding, encoded}
@@ -123,20 +128,67 @@ lines_more max xs ys =
     let same = ap weight (drop-map (framed max) n (closed_parts (xs ++ ys))) in
     omega (arith, fewer, lines, light, same, length-drop n (closed_parts (xs ++ ys)))
 
-framed_more : (max : ℕ) (xs : List Event) (x : Event) → weight (line_framing_up max xs x) ≤ event_weight x
-framed_more max xs (Read (Bytes b)) = let h = lines_more max (joined xs) b in omega (arith, h)
-framed_more max xs (Read (Line b)) = omega arith
-framed_more max xs (Read (Command c)) = omega arith
-framed_more max xs (Read (Reply r)) = omega arith
-framed_more max xs Active = omega arith
-framed_more max xs ReadComplete = omega arith
-framed_more max xs (Caught c) = omega arith
-framed_more max xs (Write m) = omega arith
-framed_more max xs Flush = omega arith
+cut_more : (items : List ℕ → List Event)
+    → ((xs ys : List ℕ) → weight (drop (length (items xs)) (items (xs ++ ys))) ≤ length ys)
+    → (before : List Event) (x : Event) → weight (cutting_up items before x) ≤ event_weight x
+cut_more items each before (Read (Bytes b)) = let h = each (joined before) b in omega (arith, h)
+cut_more items each before (Read (Line b)) = omega arith
+cut_more items each before (Read (Command c)) = omega arith
+cut_more items each before (Read (Reply r)) = omega arith
+cut_more items each before Active = omega arith
+cut_more items each before ReadComplete = omega arith
+cut_more items each before (Caught c) = omega arith
+cut_more items each before (Write m) = omega arith
+cut_more items each before Flush = omega arith
+
+-- more bytes give items that weigh no more than these
+pub cutting-thrifty : (items : List ℕ → List Event)
+    → ((xs ys : List ℕ) → weight (drop (length (items xs)) (items (xs ++ ys))) ≤ length ys) → IsThrifty (cutting items)
+cutting-thrifty items each = passing_up-thrifty (cutting_up items) (cut_more items each)
 
 pub line_framing-thrifty : (max : ℕ) → IsThrifty (line_framing max)
 line_framing-thrifty max =
-    passing_up-thrifty (line_framing_up max) (framed_more max)
+    cutting-thrifty (lines_of max) (lines_more max)
+
+-- a frame weighs one
+frame_weight : (is_long : Bool) (payload : List ℕ) → event_weight (if is_long then Caught TooLong else Read (Line payload)) ≤ 1
+frame_weight true payload = omega arith
+frame_weight false payload = omega arith
+
+given_frame_weight : (width max : ℕ) (bytes : List ℕ) (p : ℕ) → weight (given_frame width max bytes p) ≤ length (given_frame width max bytes p)
+unfolding given_frame
+given_frame_weight width max bytes p =
+    let one = frame_weight (is_too_long width max bytes p) (take (payload_len width bytes p) (drop (p + width) bytes)) in
+    elim (nat_le (given_at width max bytes p) (length bytes))
+    as (λ is_given. weight (if is_given then frame_event width max bytes p ∷ [] else []) ≤ length (if is_given then frame_event width max bytes p ∷ [] else [])) [
+      | true ↦ omega (arith, one)
+      | false ↦ omega arith
+    ]
+
+given_frames_weight : (width max : ℕ) (bytes : List ℕ) (n : ℕ) → weight (given_frames width max bytes n) ≤ length (given_frames width max bytes n)
+unfolding given_frames
+given_frames_weight width max bytes zero = omega arith
+given_frames_weight width max bytes (suc n) =
+    let before = given_frames width max bytes n in
+    let next = given_frame width max bytes (frame_start width bytes n) in
+    let first = given_frames_weight width max bytes n in
+    let last = given_frame_weight width max bytes (frame_start width bytes n) in
+    omega (arith, first, last, sum_by-append event_weight before next, length-append before next)
+
+frames_weight : (width max : ℕ) (bytes : List ℕ) → weight (frames_of width max bytes) ≤ length (frames_of width max bytes)
+unfolding frames_of
+frames_weight width max bytes = given_frames_weight width max bytes (length bytes)
+
+frames_more : (width max : ℕ) → 1 ≤ width → (xs ys : List ℕ)
+    → weight (drop (length (frames_of width max xs)) (frames_of width max (xs ++ ys))) ≤ length ys
+frames_more width max some xs ys =
+    let same = ap weight (frames_of-read width max xs ys some) in
+    let light = frames_weight width max (drop (open_start width max xs) (xs ++ ys)) in
+    omega (arith, same, light, (continues width max xs ys some).few)
+
+pub length_framing-thrifty : (width max : ℕ) → is_width width ≡ true → IsThrifty (length_framing width max)
+length_framing-thrifty width max widths =
+    cutting-thrifty (frames_of width max) (frames_more width max (some_width width widths))
 
 read_as_weight : (r : Result CommandKind CaughtKind) → event_weight (read_as r) ≤ 1
 read_as_weight (Ok c) = omega arith
@@ -189,6 +241,9 @@ reply_encoding-thrifty = mapping_down-thrifty encoded
 
 pub line_ending-thrifty : IsThrifty line_ending
 line_ending-thrifty = mapping_down-thrifty with_line_end
+
+pub length_prepending-thrifty : (width : ℕ) → IsThrifty (length_prepending width)
+length_prepending-thrifty width = mapping_down-thrifty (with_length width)
 
 one_or_none : (is : Bool) (x : Event) → length (if is then x ∷ [] else []) ≤ 1
 one_or_none true x = omega arith

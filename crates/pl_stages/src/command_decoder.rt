@@ -4,6 +4,7 @@ ghost use Rattle.std.specs.Prelude.{◌≡◌, false, ◌+◌, ◌<◌, ◌≤�
 ghost use Rattle.std.specs.Str.{bytes_eq};
 ghost use Rattle.pl_stages.specs.Commands.{command_decoding, command_of, command_with, add_with, addition_of, get_with, key_in, decoded};
 
+use crate::bytes::without_front;
 use crate::numbers::number_in;
 use memchr::memchr;
 use pl_event::{ByteString, Caught, Command, Event, Key, MapUp, Mapping, Message, Stage};
@@ -99,17 +100,6 @@ fn command_followed(line: Vec<u8>, end: usize) -> Result<Command, Caught>
     } else {
         Err(Caught::Unknown)
     }
-}
-
-/// The bytes after the first `count`.
-fn without_front(mut bytes: Vec<u8>, count: usize) -> Vec<u8>
-    requires { count ≤ vec_len bytes }
-    ensures { result.items ≡ drop count bytes.items }
-{
-    let left = bytes.len() - count;
-    bytes.copy_within(count.., 0);
-    bytes.truncate(left);
-    bytes
 }
 
 /// The addition of a key, a space and a number.

@@ -1,18 +1,23 @@
 //! Laws of the definitions in `specs/`: functions without a body, whose contracts are the laws.
 
-ghost use Rattle.std.specs.Prelude.{◌≡◌, ◌≢◌, ◌↔◌, ℕ, ◌+◌, ◌^◌, ◌<◌, ◌≤◌, ◌==◌, List, [], ◌∷◌, ◌++◌, length, count_by, true, false, None, decimal, codes, if◌then◌else◌};
-ghost use Rattle.std.specs.List.{slice_split};
+ghost use Rattle.std.specs.Prelude.{◌≡◌, ◌≢◌, ◌↔◌, ℕ, ◌+◌, ◌^◌, ◌<◌, ◌≤◌, ◌==◌, List, [], ◌∷◌, ◌++◌, length, map, drop, count_by, true, false, None, decimal, codes, if◌then◌else◌};
+ghost use Rattle.std.specs.List.{slice_split, concat, AllByRecursion};
+ghost use Rattle.byteorder.specs.Endian.{big_bytes};
 ghost use Rattle.std.specs.Str.{bytes_eq};
 ghost use Rattle.pl_event.specs.declared.events.Event.{Event};
-ghost use Rattle.pl_event.specs.declared.events.Event.TheVariants.{Read};
-ghost use Rattle.pl_event.specs.declared.events.Message.TheVariants.{Command};
+ghost use Rattle.pl_event.specs.declared.events.Event.TheVariants.{Read, Write, Caught};
+ghost use Rattle.pl_event.specs.declared.events.Message.TheVariants.{Bytes, Line, Command};
 ghost use Rattle.pl_event.specs.declared.events.Command.TheVariants.{Ping, Quit, Echo, Add, Get};
 ghost use Rattle.pl_event.specs.declared.events.Caught.TheVariants.{Unknown, TooLong};
 ghost use Rattle.pl_event.specs.declared.events.Fault.{Fault};
 ghost use Rattle.pl_event.specs.declared.events.Fault.TheVariants.{Range, Full};
 ghost use Rattle.pl_event.specs.Keys.{is_key};
+ghost use Rattle.pl_event.specs.Meaning.{up_of, down_of};
 ghost use Rattle.pl_stages.specs.declared.handlers.Handler.{Handler};
+ghost use Rattle.pl_stages.specs.Cutting.{joined};
 ghost use Rattle.pl_stages.specs.LineFraming.{line_framing, closed_parts, open_part};
+ghost use Rattle.pl_stages.specs.LengthFraming.{is_width, frames_of, length_framing};
+ghost use Rattle.pl_stages.specs.LengthPrepending.{prefixed, length_prepending};
 ghost use Rattle.pl_stages.specs.Numbers.{number_in};
 ghost use Rattle.pl_stages.specs.Commands.{command_decoding, command_of, verb_of};
 ghost use Rattle.pl_stages.specs.Service.{line_service, Addition, accepted, total_of, is_held, held_keys, refusal_of, has_quit};
@@ -29,10 +34,12 @@ use pl_event::Stage;
 /// one for each byte read; downwards at most two events for each one, and an outbound handler at most one.
 pub fn count_law()
     ensures lines { (max : ℕ) → IsThrifty (line_framing max) }
+    ensures frames { (width max : ℕ) → is_width width ≡ true → IsThrifty (length_framing width max) }
     ensures commands { IsThrifty command_decoding }
     ensures service { IsThrifty line_service }
     ensures texts { IsThrifty reply_encoding }
     ensures line_ends { IsThrifty line_ending }
+    ensures lengths { (width : ℕ) → IsThrifty (length_prepending width) }
     ensures flushes { (n : ℕ) → IsThrifty (flush_every n) }
     ensures handlers { (handler : Handler) → IsThrifty (⟦<Handler as Stage>⟧.meaning handler) }
 {}
@@ -66,6 +73,32 @@ pub fn service_law()
 /// The parts that line feeds close, and the open part after them, are what a split at each line feed gives.
 pub fn framing_law()
     ensures { (bytes : List ℕ) → slice_split (λ b. b == 10) bytes ≡ closed_parts bytes ++ open_part bytes ∷ [] }
+{}
+
+/// The frames of a stream, by what it begins with: a whole frame, one that is too long, an unfinished field or payload. How
+/// the stream is cut into reads decides which read gives a frame, and nothing else.
+pub fn length_framing_law()
+    ensures whole { (width max : ℕ) (payload rest : List ℕ) → is_width width ≡ true
+        → length payload < 256 ^ width → width + length payload ≤ max
+        → frames_of width max (prefixed width payload ++ rest) ≡ Read (Line payload) ∷ frames_of width max rest }
+    ensures too_long { (width max len : ℕ) (rest : List ℕ) → is_width width ≡ true
+        → len < 256 ^ width → max < width + len
+        → frames_of width max (big_bytes width len ++ rest) ≡ Caught TooLong ∷ frames_of width max (drop len rest) }
+    ensures unfinished_payload { (width max len : ℕ) (part : List ℕ) → is_width width ≡ true
+        → len < 256 ^ width → width + len ≤ max → length part < len → frames_of width max (big_bytes width len ++ part) ≡ [] }
+    ensures unfinished_field { (width max : ℕ) (part : List ℕ) → is_width width ≡ true → length part < width → frames_of width max part ≡ [] }
+    ensures read { (width max : ℕ) (xs : List Event) (chunk : List ℕ) → is_width width ≡ true
+        → frames_of width max (joined xs) ++ (length_framing width max).up xs (Read (Bytes chunk)) ≡ frames_of width max (joined xs ++ chunk) }
+    ensures however_cut { (width max : ℕ) (chunks : List (List ℕ)) → is_width width ≡ true
+        → up_of (length_framing width max) (map (λ chunk. Read (Bytes chunk)) chunks) ≡ frames_of width max (concat chunks) }
+
+    // What is written with its length in front is read as it was, however it is cut on its way.
+    ensures prepended { (width : ℕ) (payloads : List (List ℕ)) → AllByRecursion (λ payload. length payload < 256 ^ width) payloads
+        → down_of (length_prepending width) (map (λ payload. Write (Bytes payload)) payloads) ≡ map (λ payload. Write (Bytes (prefixed width payload))) payloads }
+    ensures round_trip { (width max : ℕ) (payloads chunks : List (List ℕ)) → is_width width ≡ true
+        → AllByRecursion (λ payload. (length payload < 256 ^ width) × (width + length payload ≤ max)) payloads
+        → concat chunks ≡ concat (map (prefixed width) payloads)
+        → up_of (length_framing width max) (map (λ chunk. Read (Bytes chunk)) chunks) ≡ map (λ payload. Read (Line payload)) payloads }
 {}
 
 /// The only lines that are commands, and the lines whose verb is unknown.

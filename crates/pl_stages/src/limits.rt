@@ -1,7 +1,10 @@
-//! The limits of the line protocol (`docs/FORMATS.md`).
+//! The limits of the handlers (`docs/FORMATS.md`).
 
 /// The longest line that a framer can be asked for, in bytes.
 pub const MAX_LINE: usize = 8_192;
+
+/// The longest frame that a length framer can be asked for, its length field included, in bytes.
+pub const MAX_FRAME: usize = 8_192;
 
 /// The most flushes of which one passes.
 pub const MAX_FLUSHES: usize = 65_535;

@@ -4,7 +4,8 @@ ghost use Rattle.std.specs.Prelude.{◌≡◌, ◌==◌, ℕ, ◌+◌, ◌<◌, 
 ghost use Rattle.pl_event.specs.Meaning.{IsPrefixOf};
 ghost use Rattle.pl_stages.specs.declared.limits.TheConstants.{MAX_LINE};
 ghost use Rattle.pl_event.specs.declared.events.Event.{Event};
-ghost use Rattle.pl_stages.specs.LineFraming.{line_framing, line_framing-lawful, framed, without_return, joined, open_part, AddsLines, KeepsAfter, KeepsPart};
+ghost use Rattle.pl_stages.specs.Cutting.{joined, cutting-lawful};
+ghost use Rattle.pl_stages.specs.LineFraming.{line_framing, lines_of, framed, without_return, open_part, AddsLines, KeepsAfter, KeepsPart};
 
 use crate::limits::MAX_LINE;
 use crate::stage_refusal::StageRefusal;
@@ -185,5 +186,5 @@ impl BareStage for LineFramer {
         Ok(Turned::Open)
     }
 
-    ghost lawful = { λ s. line_framing-lawful s.max };
+    ghost lawful = { λ s. cutting-lawful (lines_of s.max) };
 }

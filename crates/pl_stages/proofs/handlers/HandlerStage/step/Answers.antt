@@ -17,3 +17,9 @@ returns-in-FlushEvery c = rw c.in-FlushEvery.is c.step-in-FlushEvery.ensures
 
 pub returns-in-Service : goal.returns-in-Service
 returns-in-Service c = rw c.in-Service.is c.step-in-Service.ensures
+
+pub returns-in-Length : goal.returns-in-Length
+returns-in-Length c = rw c.in-Length.is c.step-in-Length.ensures
+
+pub returns-in-Prepend : goal.returns-in-Prepend
+returns-in-Prepend c = rw c.in-Prepend.is c.step-in-Prepend.ensures

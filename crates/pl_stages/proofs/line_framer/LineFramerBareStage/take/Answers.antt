@@ -1,8 +1,9 @@
 use Rattle.std.proofs.Common.{◌≡◌}
 use Rattle.pl_event.specs.declared.events.Event.TheVariants.{Read}
 use Rattle.pl_event.specs.declared.events.Message.TheVariants.{Bytes}
-use Rattle.pl_stages.specs.LineFraming.{open_part, joined}
-use Rattle.pl_stages.proofs.Framing.{closed_parts-open_part, open_part-append, joined-push, line_framing_up-read}
+use Rattle.pl_stages.specs.Cutting.{joined}
+use Rattle.pl_stages.specs.LineFraming.{open_part}
+use Rattle.pl_stages.proofs.Framing.{closed_parts-open_part, open_part-append, joined-push, lines_of-read}
 use Rattle.pl_stages.proofs.line_framer.LineFramerBareStage.take.Goals as goal
 
 pub returns-in_ok-take_chunk-in-Read-Bytes-clause-stands : goal.returns-in_ok-take_chunk-in-Read-Bytes-clause-stands
@@ -16,5 +17,5 @@ pub returns-in_ok-take_chunk-in-Read-Bytes-clause-up : goal.returns-in_ok-take_c
 returns-in_ok-take_chunk-in-Read-Bytes-clause-up c = λ xs keeps.
     let chunk = c.into_vec.result.items in
     let event_is : c.args.event ≡ Read (Bytes chunk) = cc in
-    rw (event_is, line_framing_up-read c.args.self.now.max xs chunk)
+    rw (event_is, lines_of-read c.args.self.now.max xs chunk)
     (c.in_ok-take_chunk-in-Read-Bytes.ensures.lines (open_part (joined xs)) (closed_parts-open_part (joined xs)) keeps)
