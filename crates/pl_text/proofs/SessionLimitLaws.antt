@@ -11,6 +11,7 @@ use Rattle.pl_world.specs.declared.limits.TheConstants.{MAX_BURSTS, MAX_CAPACITY
 use Rattle.pl_stages.specs.declared.limits.TheConstants.{MAX_LINE, MAX_FLUSHES}
 use Rattle.pl_text.specs.declared.session_text.limits.TheConstants.{MAX_EDITS, MAX_WINDOW, MAX_FAIL_AT, DEFAULT_WINDOW}
 use Rattle.pl_world.specs.Limits.{fits, aborts_within}
+use Rattle.pl_text.specs.declared.session_text.version.Version.{Version}
 use Rattle.pl_text.specs.declared.session_text.outline.HandlerKind.{HandlerKind}
 use Rattle.pl_text.specs.declared.session_text.outline.HandlerKind.TheVariants.{Lines, Decode, LineEnd, Encode, Service, FlushEvery}
 use Rattle.pl_text.specs.declared.session_text.outline.Operation.{Operation}
@@ -23,7 +24,7 @@ use Rattle.pl_text.specs.declared.session_text.outline.Edit.TheVariants.{First, 
 use Rattle.pl_text.specs.declared.session_text.outline.ChannelOutline.{ChannelOutline}
 use Rattle.pl_text.specs.declared.session_text.outline.Outline.{Outline}
 use Rattle.pl_text.specs.SessionReading.{◌>>=◌, known, whole, whole_in, between, text, same_text, an_object, required, optional, present, read_or, each, elements_of, of_length, array_in, array_of}
-use Rattle.pl_text.specs.SessionChannels.{operation_in, lines_in, flush_every_in, handler_named, handler_in, addition_in, edit_of, edit_in, mark_in, window_in, fail_at_in, limited, bursts_in, abort_after_in, channel_in}
+use Rattle.pl_text.specs.SessionChannels.{operation_in, lines_in, flush_every_in, handler_named, handler_in, addition_in, edit_of, edit_in, mark_in, window_in, fail_at_in, chunk_in, limited, bursts_in, abort_after_in, channel_in}
 use Rattle.pl_text.specs.SessionOutlines.{IsHandlerWithin, IsEditWithin, IsCallWithin, IsChannelOutlineWithin, IsOutlineWithin, version_in, groups_in, outline_in}
 
 -- ---- results
@@ -114,45 +115,45 @@ handler_in-within edit handler h =
     let is = λ (name : List ℕ). same_text kind.0 name in
     handler_among-within (is (codes "lines")) (is (codes "decode")) (is (codes "lineend")) (is (codes "encode")) (is (codes "service")) (is (codes "flush_every")) (lines_in edit) (flush_every_in edit) handler (lines-within edit handler) (flush_every-within edit handler) kind.2
 
-addition_in-within : (name : List ℕ) (edit : Data) (addition : Addition) → addition_in name edit ≡ Ok addition → IsHandlerWithin addition.handler
+addition_in-within : (version : Version) (name : List ℕ) (edit : Data) (addition : Addition) → addition_in version name edit ≡ Ok addition → IsHandlerWithin addition.handler
 unfolding addition_in
-addition_in-within name edit addition h =
+addition_in-within version name edit addition h =
     let handler = bind-ok (handler_in edit) _ addition h in
     let group = bind-ok (optional (codes "group") text edit) _ addition handler.2 in
     let is : handler.0 ≡ addition.handler = cc in
     subst IsHandlerWithin is (handler_in-within edit handler.0 handler.1)
 
-edit_of-within : (o : Operation) (name : List ℕ) (d : Data) (edit : Edit) → edit_of o name d ≡ Ok edit → IsEditWithin edit
+edit_of-within : (version : Version) (o : Operation) (name : List ℕ) (d : Data) (edit : Edit) → edit_of version o name d ≡ Ok edit → IsEditWithin edit
 unfolding edit_of
-edit_of-within operation.First name d edit h =
-    let addition = bind-ok (addition_in name d) _ edit h in
+edit_of-within version operation.First name d edit h =
+    let addition = bind-ok (addition_in version name d) _ edit h in
     let is : First addition.0 ≡ edit = cc in
-    subst IsEditWithin is (addition_in-within name d addition.0 addition.1)
-edit_of-within operation.Last name d edit h =
-    let addition = bind-ok (addition_in name d) _ edit h in
+    subst IsEditWithin is (addition_in-within version name d addition.0 addition.1)
+edit_of-within version operation.Last name d edit h =
+    let addition = bind-ok (addition_in version name d) _ edit h in
     let is : Last addition.0 ≡ edit = cc in
-    subst IsEditWithin is (addition_in-within name d addition.0 addition.1)
-edit_of-within operation.Before name d edit h =
+    subst IsEditWithin is (addition_in-within version name d addition.0 addition.1)
+edit_of-within version operation.Before name d edit h =
     let at = bind-ok (required (codes "at") text d) _ edit h in
-    let addition = bind-ok (addition_in name d) _ edit at.2 in
+    let addition = bind-ok (addition_in version name d) _ edit at.2 in
     let is : Before at.0 addition.0 ≡ edit = cc in
-    subst IsEditWithin is (addition_in-within name d addition.0 addition.1)
-edit_of-within operation.After name d edit h =
+    subst IsEditWithin is (addition_in-within version name d addition.0 addition.1)
+edit_of-within version operation.After name d edit h =
     let at = bind-ok (required (codes "at") text d) _ edit h in
-    let addition = bind-ok (addition_in name d) _ edit at.2 in
+    let addition = bind-ok (addition_in version name d) _ edit at.2 in
     let is : After at.0 addition.0 ≡ edit = cc in
-    subst IsEditWithin is (addition_in-within name d addition.0 addition.1)
-edit_of-within operation.Remove name d edit h =
+    subst IsEditWithin is (addition_in-within version name d addition.0 addition.1)
+edit_of-within version operation.Remove name d edit h =
     let is : Remove name ≡ edit = cc in
     subst IsEditWithin is tt
 
-edit_in-within : (d : Data) (edit : Edit) → edit_in d ≡ Ok edit → IsEditWithin edit
+edit_in-within : (version : Version) (d : Data) (edit : Edit) → edit_in version d ≡ Ok edit → IsEditWithin edit
 unfolding edit_in
-edit_in-within d edit h =
+edit_in-within version d edit h =
     let object = bind-ok (an_object d) _ edit h in
     let op = bind-ok (required (codes "op") operation_in object.0) _ edit object.2 in
     let name = bind-ok (required (codes "name") text object.0) _ edit op.2 in
-    edit_of-within op.0 name.0 object.0 edit name.2
+    edit_of-within version op.0 name.0 object.0 edit name.2
 
 -- ---- channels
 
@@ -166,10 +167,10 @@ unfolding window_in
 window_in-within d window h =
     with_default-within (λ (n : ℕ). (1 ≤ n) × (n ≤ MAX_WINDOW)) (whole_in 1 MAX_WINDOW) DEFAULT_WINDOW (present (codes "window") d) window (omega arith, omega arith) (whole_in-within 1 MAX_WINDOW) h
 
-bursts_in-within : (d : Data) (bursts : List (List (List ℕ))) → bursts_in d ≡ Ok bursts → fits bursts ≡ true
+bursts_in-within : (version : Version) (d : Data) (bursts : List (List (List ℕ))) → bursts_in version d ≡ Ok bursts → fits bursts ≡ true
 unfolding bursts_in
-bursts_in-within d bursts h =
-    let p = bind-ok (array_in 0 MAX_BURSTS (array_of text) d) limited bursts h in
+bursts_in-within version d bursts h =
+    let p = bind-ok (array_in 0 MAX_BURSTS (array_of (chunk_in version)) d) limited bursts h in
     let within = choice-ok _ _ _ _ p.2 in
     subst (λ (t : List (List (List ℕ))). fits t ≡ true) within.1 within.0
 
@@ -194,20 +195,20 @@ unfolding abort_after_in
 abort_after_in-within count d after h =
     optional-within (λ (o : Option ℕ). aborts_within o count ≡ true) (codes "abort_after") 0 count d after refl (λ n low high. le-leb n count high) h
 
-channel_in-within : (d : Data) (channel : ChannelOutline) → channel_in d ≡ Ok channel → IsChannelOutlineWithin channel
+channel_in-within : (version : Version) (d : Data) (channel : ChannelOutline) → channel_in version d ≡ Ok channel → IsChannelOutlineWithin channel
 unfolding channel_in
-channel_in-within d channel h =
+channel_in-within version d channel h =
     let object = bind-ok (an_object d) _ channel h in
-    let edits = bind-ok (required (codes "handlers") (array_in 0 MAX_EDITS edit_in) object.0) _ channel object.2 in
+    let edits = bind-ok (required (codes "handlers") (array_in 0 MAX_EDITS (edit_in version)) object.0) _ channel object.2 in
     let low = bind-ok (mark_in (codes "low") DEFAULT_LOW object.0) _ channel edits.2 in
     let high = bind-ok (mark_in (codes "high") DEFAULT_HIGH object.0) _ channel low.2 in
     let window = bind-ok (window_in object.0) _ channel high.2 in
     let fail_at = bind-ok (fail_at_in object.0) _ channel window.2 in
-    let bursts = bind-ok (required (codes "bursts") bursts_in object.0) _ channel fail_at.2 in
+    let bursts = bind-ok (required (codes "bursts") (bursts_in version) object.0) _ channel fail_at.2 in
     let abort_after = bind-ok (abort_after_in (length bursts.0) object.0) _ channel bursts.2 in
-    let handlers = required-ok (codes "handlers") (array_in 0 MAX_EDITS edit_in) object.0 edits.0 edits.1 in
-    let recorded = required-ok (codes "bursts") bursts_in object.0 bursts.0 bursts.1 in
-    let all = array_in-within IsEditWithin 0 MAX_EDITS edit_in edit_in-within handlers.0 edits.0 handlers.1 in
+    let handlers = required-ok (codes "handlers") (array_in 0 MAX_EDITS (edit_in version)) object.0 edits.0 edits.1 in
+    let recorded = required-ok (codes "bursts") (bursts_in version) object.0 bursts.0 bursts.1 in
+    let all = array_in-within IsEditWithin 0 MAX_EDITS (edit_in version) (edit_in-within version) handlers.0 edits.0 handlers.1 in
     let room = window_in-within object.0 window.0 window.1 in
     let is : record { edits = edits.0; low = low.0; high = high.0; window = window.0; fail_at = fail_at.0; bursts = bursts.0; abort_after = abort_after.0 } ≡ channel = same_ok _ channel _ refl abort_after.2 in
     subst IsChannelOutlineWithin is (record {
@@ -215,7 +216,7 @@ channel_in-within d channel h =
       window_at_least = room.0;
       window_at_most = room.1;
       fail_at = fail_at_in-within object.0 fail_at.0 fail_at.1;
-      bursts = bursts_in-within recorded.0 bursts.0 recorded.1;
+      bursts = bursts_in-within version recorded.0 bursts.0 recorded.1;
       abort_after = abort_after_in-within (length bursts.0) object.0 abort_after.0 abort_after.1;
     })
 
@@ -229,9 +230,9 @@ outline_is_within d outline h =
     let capacity = bind-ok (required (codes "capacity") (whole_in 1 MAX_CAPACITY) object.0) _ outline version.2 in
     let loops = bind-ok (required (codes "loops") (whole_in 1 MAX_EXECUTORS) object.0) _ outline capacity.2 in
     let groups = bind-ok (groups_in object.0) _ outline loops.2 in
-    let channels = bind-ok (required (codes "channels") (array_in 0 MAX_CHANNELS channel_in) object.0) _ outline groups.2 in
-    let array = required-ok (codes "channels") (array_in 0 MAX_CHANNELS channel_in) object.0 channels.0 channels.1 in
+    let channels = bind-ok (required (codes "channels") (array_in 0 MAX_CHANNELS (channel_in version.0)) object.0) _ outline groups.2 in
+    let array = required-ok (codes "channels") (array_in 0 MAX_CHANNELS (channel_in version.0)) object.0 channels.0 channels.1 in
     let range = number-within (codes "capacity") 1 MAX_CAPACITY object.0 capacity.0 capacity.1 in
-    let all = array_in-within IsChannelOutlineWithin 0 MAX_CHANNELS channel_in channel_in-within array.0 channels.0 array.1 in
+    let all = array_in-within IsChannelOutlineWithin 0 MAX_CHANNELS (channel_in version.0) (channel_in-within version.0) array.0 channels.0 array.1 in
     let is : record { capacity = capacity.0; loops = loops.0; groups = groups.0; channels = channels.0 } ≡ outline = cc in
     subst IsOutlineWithin is (record { capacity_at_least = range.0; capacity_at_most = range.1; channels_at_most = all.1; each_channel = all.2 })

@@ -1,5 +1,7 @@
 -- What a channel and an edit mean, row by row (docs/FORMATS.md, "Session").
 use Rattle.std.specs.Prelude.{ℕ, List, length, Option, if◌then◌else◌, Result, Ok, Err, codes}
+use Rattle.std.specs.Result.{result_ok}
+use Rattle.hex.specs.Hex.{decode_of}
 use Rattle.serde_json.specs.Data.{Data}
 use Rattle.pl_build.specs.declared.limits.TheConstants.{MAX_MARK, DEFAULT_LOW, DEFAULT_HIGH}
 use Rattle.pl_world.specs.declared.limits.TheConstants.{MAX_BURSTS}
@@ -8,6 +10,8 @@ use Rattle.pl_stages.specs.declared.limits.TheConstants.{MAX_LINE, MAX_FLUSHES}
 use Rattle.pl_text.specs.declared.session_text.limits.TheConstants.{MAX_EDITS, MAX_WINDOW, MAX_FAIL_AT, DEFAULT_WINDOW}
 use Rattle.pl_text.specs.declared.faults.SessionFault.{SessionFault}
 use Rattle.pl_text.specs.declared.faults.SessionFault.TheVariants.{Kind, Limit}
+use Rattle.pl_text.specs.declared.session_text.version.Version.{Version}
+use Rattle.pl_text.specs.declared.session_text.version.Version.TheVariants.{One, Two}
 use Rattle.pl_text.specs.declared.session_text.outline.HandlerKind.{HandlerKind}
 use Rattle.pl_text.specs.declared.session_text.outline.HandlerKind.TheVariants.{Lines, Decode, LineEnd, Encode, Service, FlushEvery}
 use Rattle.pl_text.specs.declared.session_text.outline.Operation.{Operation}
@@ -16,7 +20,7 @@ use Rattle.pl_text.specs.declared.session_text.outline.Addition.{Addition}
 use Rattle.pl_text.specs.declared.session_text.outline.Edit.{Edit}
 use Rattle.pl_text.specs.declared.session_text.outline.Edit.TheVariants.{First, Last, Before, After, Remove}
 use Rattle.pl_text.specs.declared.session_text.outline.ChannelOutline.{ChannelOutline}
-use Rattle.pl_text.specs.SessionReading.{◌>>=◌, whole_in, text, same_text, an_object, required, optional, with_default, array_in, array_of}
+use Rattle.pl_text.specs.SessionReading.{◌>>=◌, known, whole_in, text, same_text, an_object, required, optional, with_default, array_in, array_of}
 
 -- ---- edits
 
@@ -57,36 +61,36 @@ unfoldable pub handler_in : Data → Result HandlerKind SessionFault
 handler_in edit = required (codes "kind") text edit >>= handler_named edit
 
 -- the handler of this name that an edit adds
-unfoldable pub addition_in : List ℕ → Data → Result Addition SessionFault
-addition_in name edit = do
+unfoldable pub addition_in : Version → List ℕ → Data → Result Addition SessionFault
+addition_in version name edit = do
   handler ← handler_in edit
   group ← optional (codes "group") text edit
   Ok (record { name = name; handler = handler; group = group })
 
 -- an edit beside another handler says beside which, and one that removes says no more than the name
-unfoldable pub edit_of : Operation → List ℕ → Data → Result Edit SessionFault
-edit_of operation.First name edit = do
-  addition ← addition_in name edit
+unfoldable pub edit_of : Version → Operation → List ℕ → Data → Result Edit SessionFault
+edit_of version operation.First name edit = do
+  addition ← addition_in version name edit
   Ok (First addition)
-edit_of operation.Last name edit = do
-  addition ← addition_in name edit
+edit_of version operation.Last name edit = do
+  addition ← addition_in version name edit
   Ok (Last addition)
-edit_of operation.Before name edit = do
+edit_of version operation.Before name edit = do
   at ← required (codes "at") text edit
-  addition ← addition_in name edit
+  addition ← addition_in version name edit
   Ok (Before at addition)
-edit_of operation.After name edit = do
+edit_of version operation.After name edit = do
   at ← required (codes "at") text edit
-  addition ← addition_in name edit
+  addition ← addition_in version name edit
   Ok (After at addition)
-edit_of operation.Remove name edit = Ok (Remove name)
+edit_of version operation.Remove name edit = Ok (Remove name)
 
-unfoldable pub edit_in : Data → Result Edit SessionFault
-edit_in d = do
+unfoldable pub edit_in : Version → Data → Result Edit SessionFault
+edit_in version d = do
   edit ← an_object d
   operation ← required (codes "op") operation_in edit
   name ← required (codes "name") text edit
-  edit_of operation name edit
+  edit_of version operation name edit
 
 -- ---- channels
 
@@ -102,25 +106,34 @@ window_in channel = with_default (codes "window") (whole_in 1 MAX_WINDOW) DEFAUL
 unfoldable pub fail_at_in : Data → Result (Option ℕ) SessionFault
 fail_at_in channel = optional (codes "fail_at") (whole_in 1 MAX_FAIL_AT) channel
 
+-- the bytes that hex digits say, of either case
+abbrev pub hex_decoded : List ℕ → Result (List ℕ) SessionFault
+hex_decoded digits = known Kind (result_ok (decode_of digits))
+
+-- the bytes of a chunk: in version 1 the UTF-8 bytes of a text, in version 2 those that its hex digits say
+unfoldable pub chunk_in : Version → Data → Result (List ℕ) SessionFault
+chunk_in One d = text d
+chunk_in Two d = text d >>= hex_decoded
+
 -- the limits on chunks and bytes come after all bursts
 abbrev pub limited : List (List (List ℕ)) → Result (List (List (List ℕ))) SessionFault
 limited bursts = if fits bursts then Ok bursts else Err Limit
 
-unfoldable pub bursts_in : Data → Result (List (List (List ℕ))) SessionFault
-bursts_in d = array_in 0 MAX_BURSTS (array_of text) d >>= limited
+unfoldable pub bursts_in : Version → Data → Result (List (List (List ℕ))) SessionFault
+bursts_in version d = array_in 0 MAX_BURSTS (array_of (chunk_in version)) d >>= limited
 
 -- after how many of the bursts it is aborted, if it is
 unfoldable pub abort_after_in : ℕ → Data → Result (Option ℕ) SessionFault
 abort_after_in count channel = optional (codes "abort_after") (whole_in 0 count) channel
 
-unfoldable pub channel_in : Data → Result ChannelOutline SessionFault
-channel_in d = do
+unfoldable pub channel_in : Version → Data → Result ChannelOutline SessionFault
+channel_in version d = do
   channel ← an_object d
-  edits ← required (codes "handlers") (array_in 0 MAX_EDITS edit_in) channel
+  edits ← required (codes "handlers") (array_in 0 MAX_EDITS (edit_in version)) channel
   low ← mark_in (codes "low") DEFAULT_LOW channel
   high ← mark_in (codes "high") DEFAULT_HIGH channel
   window ← window_in channel
   fail_at ← fail_at_in channel
-  bursts ← required (codes "bursts") bursts_in channel
+  bursts ← required (codes "bursts") (bursts_in version) channel
   abort_after ← abort_after_in (length bursts) channel
   Ok (record { edits = edits; low = low; high = high; window = window; fail_at = fail_at; bursts = bursts; abort_after = abort_after })

@@ -8,7 +8,9 @@ use Rattle.pl_world.specs.Limits.{fits, aborts_within}
 use Rattle.pl_stages.specs.declared.limits.TheConstants.{MAX_LINE, MAX_FLUSHES}
 use Rattle.pl_text.specs.declared.session_text.limits.TheConstants.{MAX_GROUP_SIZE, MAX_WINDOW, MAX_FAIL_AT}
 use Rattle.pl_text.specs.declared.faults.SessionFault.{SessionFault}
-use Rattle.pl_text.specs.declared.faults.SessionFault.TheVariants.{Version}
+use Rattle.pl_text.specs.declared.faults.SessionFault.TheVariants as fault
+use Rattle.pl_text.specs.declared.session_text.version.Version.{Version}
+use Rattle.pl_text.specs.declared.session_text.version.Version.TheVariants.{One, Two}
 use Rattle.pl_text.specs.declared.session_text.outline.HandlerKind.{HandlerKind}
 use Rattle.pl_text.specs.declared.session_text.outline.HandlerKind.TheVariants.{Lines, Decode, LineEnd, Encode, Service, FlushEvery}
 use Rattle.pl_text.specs.declared.session_text.outline.Edit.{Edit}
@@ -21,10 +23,10 @@ use Rattle.pl_text.specs.SessionChannels.{channel_in}
 
 -- ---- the members
 
-abbrev pub known_version : ℕ → Result (Unit {0}) SessionFault
-known_version n = if n == 1 then Ok tt else Err Version
+abbrev pub known_version : ℕ → Result Version SessionFault
+known_version n = if n == 1 then Ok One else if n == 2 then Ok Two else Err fault.Version
 
-unfoldable pub version_in : Data → Result (Unit {0}) SessionFault
+unfoldable pub version_in : Data → Result Version SessionFault
 version_in d = whole d >>= known_version
 
 unfoldable pub group_in : Data → Result GroupOutline SessionFault
@@ -40,11 +42,11 @@ groups_in top = with_default (codes "groups") (array_of group_in) [] top
 unfoldable pub outline_in : Data → Result Outline SessionFault
 outline_in d = do
   top ← an_object d
-  _ ← required (codes "version") version_in top
+  version ← required (codes "version") version_in top
   capacity ← required (codes "capacity") (whole_in 1 MAX_CAPACITY) top
   loops ← required (codes "loops") (whole_in 1 MAX_EXECUTORS) top
   groups ← groups_in top
-  channels ← required (codes "channels") (array_in 0 MAX_CHANNELS channel_in) top
+  channels ← required (codes "channels") (array_in 0 MAX_CHANNELS (channel_in version)) top
   Ok (record { capacity = capacity; loops = loops; groups = groups; channels = channels })
 
 -- ---- their limits

@@ -11,12 +11,14 @@ ghost use Rattle.pl_text.specs.SessionTexts.{session_of};
 
 mod building;
 mod channels;
+mod chunks;
 mod edits;
 mod limits;
 mod names;
 mod outline;
 mod tables;
 mod values;
+mod version;
 
 use crate::faults::SessionFault;
 use crate::session_text::building::session_built;
@@ -29,7 +31,7 @@ use pl_world::Session;
 use serde_json::Value;
 use std::alloc::Global;
 
-/// Reads a session from its text, which is JSON of version 1.
+/// Reads a session from its text, which is JSON of version 1 or 2.
 ///
 /// Each session that is read is within the limits of its numbers, handlers, bursts, chunks, bytes and lanes. The first
 /// fault in reading order is the answer: a text of more than `MAX_SESSION_TEXT` bytes is `Limit`, one that is not JSON

@@ -7,9 +7,11 @@ ghost use Rattle.pl_text.specs.SessionReading.{Answers};
 ghost use Rattle.pl_text.specs.SessionChannels.{mark_in, window_in, fail_at_in, bursts_in, abort_after_in, channel_in};
 
 use crate::faults::SessionFault;
+use crate::session_text::chunks::Chunk;
 use crate::session_text::limits::{DEFAULT_WINDOW, MAX_EDITS, MAX_FAIL_AT, MAX_WINDOW};
-use crate::session_text::outline::ChannelOutline;
+use crate::session_text::outline::{ChannelOutline, Edit};
 use crate::session_text::values::{FromData, an_object, array_in, present, required, whole_in};
+use crate::session_text::version::Version;
 use pl_build::{DEFAULT_HIGH, DEFAULT_LOW, MAX_MARK};
 use pl_event::{ByteString, Sequence};
 use pl_world::{MAX_BURSTS, fits};
@@ -17,17 +19,23 @@ use serde_json::Value;
 use std::alloc::Global;
 
 impl FromData for ChannelOutline {
+    type Read = ChannelOutline;
+
     ghost meaning = { channel_in };
 
     #[tactic(auto, unfolding(crate::specs::SessionChannels::channel_in))]
-    fn from_data(alloc: Global, value: &Value) -> Result<ChannelOutline, SessionFault> {
+    fn from_data(
+        alloc: Global,
+        version: Version,
+        value: &Value,
+    ) -> Result<ChannelOutline, SessionFault> {
         let channel = an_object(value)?;
-        let edits = array_in(alloc, 0, MAX_EDITS, required(channel, "handlers")?)?;
+        let edits = array_in::<Edit>(alloc, version, 0, MAX_EDITS, required(channel, "handlers")?)?;
         let low = mark_in("low", DEFAULT_LOW, channel)?;
         let high = mark_in("high", DEFAULT_HIGH, channel)?;
         let window = window_in(channel)?;
         let fail_at = fail_at_in(channel)?;
-        let bursts = bursts_in(alloc, required(channel, "bursts")?)?;
+        let bursts = bursts_in(alloc, version, required(channel, "bursts")?)?;
         let abort_after = abort_after_in(bursts.len(), channel)?;
         Ok(ChannelOutline {
             edits,
@@ -88,11 +96,15 @@ fn abort_after_in(count: usize, channel: &Value) -> Result<Option<u32>, SessionF
 
 /// The bursts of a channel. The number of bursts is looked at first, their chunks and bytes after all are read.
 #[tactic(auto, unfolding(crate::specs::SessionChannels::bursts_in))]
-fn bursts_in(alloc: Global, value: &Value) -> Result<Sequence<Sequence<ByteString>>, SessionFault>
-    ensures meaning { Answers result (bursts_in (view value.now)) }
+fn bursts_in(
+    alloc: Global,
+    version: Version,
+    value: &Value,
+) -> Result<Sequence<Sequence<ByteString>>, SessionFault>
+    ensures meaning { Answers result (bursts_in version (view value.now)) }
     ensures few { IfOk result (λ bursts. length bursts ≤ MAX_BURSTS) }
 {
-    let bursts = array_in(alloc, 0, MAX_BURSTS, value)?;
+    let bursts = array_in::<Sequence<Chunk>>(alloc, version, 0, MAX_BURSTS, value)?;
     if !fits(bursts.as_slice()) {
         return Err(SessionFault::Limit);
     }

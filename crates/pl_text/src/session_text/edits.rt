@@ -9,19 +9,22 @@ use crate::faults::SessionFault;
 use crate::session_text::names::Name;
 use crate::session_text::outline::{Addition, Edit, HandlerKind, Operation};
 use crate::session_text::values::{FromData, an_object, optional, required, text, whole_in};
+use crate::session_text::version::Version;
 use pl_stages::{MAX_FLUSHES, MAX_LINE};
 use serde_json::Value;
 use std::alloc::Global;
 
 impl FromData for Edit {
+    type Read = Edit;
+
     ghost meaning = { edit_in };
 
     #[tactic(auto, unfolding(crate::specs::SessionChannels::edit_in))]
-    fn from_data(alloc: Global, value: &Value) -> Result<Edit, SessionFault> {
+    fn from_data(alloc: Global, version: Version, value: &Value) -> Result<Edit, SessionFault> {
         let edit = an_object(value)?;
         let operation = operation_in(required(edit, "op")?)?;
-        let name = Name::from_data(alloc, required(edit, "name")?)?;
-        edit_of(alloc, operation, name, edit)
+        let name = Name::from_data(alloc, version, required(edit, "name")?)?;
+        edit_of(alloc, version, operation, name, edit)
     }
 }
 
@@ -44,22 +47,23 @@ fn operation_in(value: &Value) -> Result<Operation, SessionFault>
 #[tactic(auto, unfolding(crate::specs::SessionChannels::edit_of))]
 fn edit_of(
     alloc: Global,
+    version: Version,
     operation: Operation,
     name: Name,
     edit: &Value,
 ) -> Result<Edit, SessionFault>
-    ensures { Answers result (edit_of operation name (view edit.now)) }
+    ensures { Answers result (edit_of version operation name (view edit.now)) }
 {
     match operation {
-        Operation::First => Ok(Edit::First(addition_in(alloc, name, edit)?)),
-        Operation::Last => Ok(Edit::Last(addition_in(alloc, name, edit)?)),
+        Operation::First => Ok(Edit::First(addition_in(alloc, version, name, edit)?)),
+        Operation::Last => Ok(Edit::Last(addition_in(alloc, version, name, edit)?)),
         Operation::Before => {
-            let at = Name::from_data(alloc, required(edit, "at")?)?;
-            Ok(Edit::Before(at, addition_in(alloc, name, edit)?))
+            let at = Name::from_data(alloc, version, required(edit, "at")?)?;
+            Ok(Edit::Before(at, addition_in(alloc, version, name, edit)?))
         }
         Operation::After => {
-            let at = Name::from_data(alloc, required(edit, "at")?)?;
-            Ok(Edit::After(at, addition_in(alloc, name, edit)?))
+            let at = Name::from_data(alloc, version, required(edit, "at")?)?;
+            Ok(Edit::After(at, addition_in(alloc, version, name, edit)?))
         }
         Operation::Remove => Ok(Edit::Remove(name)),
     }
@@ -67,11 +71,16 @@ fn edit_of(
 
 /// The handler of this name that an edit adds.
 #[tactic(auto, unfolding(crate::specs::SessionChannels::addition_in))]
-fn addition_in(alloc: Global, name: Name, edit: &Value) -> Result<Addition, SessionFault>
-    ensures { Answers result (addition_in name (view edit.now)) }
+fn addition_in(
+    alloc: Global,
+    version: Version,
+    name: Name,
+    edit: &Value,
+) -> Result<Addition, SessionFault>
+    ensures { Answers result (addition_in version name (view edit.now)) }
 {
     let handler = handler_in(edit)?;
-    let group = optional(alloc, edit, "group")?;
+    let group = optional::<Name>(alloc, version, edit, "group")?;
     Ok(Addition {
         name,
         handler,

@@ -8,21 +8,26 @@ ghost use Rattle.pl_text.specs.SessionReading.{Answers, known, seen, whole, whol
 
 use crate::faults::SessionFault;
 use crate::session_text::names::Name;
-use pl_event::{ByteString, Sequence};
+use crate::session_text::version::Version;
+use pl_event::Sequence;
 use serde_json::Value;
 use std::alloc::{AllocError, Global};
 
-/// What is read from a value of JSON. `meaning` says which value that is, or its first fault in reading order.
-pub(crate) trait FromData: Sized + Drop {
+/// What a value of JSON is read as. `meaning` says which value that is in a version, or its first fault in reading order.
+pub(crate) trait FromData {
     ghost use Rattle.std.specs.Prelude.{Result};
     ghost use Rattle.serde_json.specs.Data.{Data};
     ghost use Rattle.pl_text.specs.declared.faults.SessionFault.{SessionFault};
+    ghost use Rattle.pl_text.specs.declared.session_text.version.Version.{Version};
 
-    ghost meaning: { Data → Result Self SessionFault };
+    /// What is kept of it.
+    type Read: Drop;
+
+    ghost meaning: { Version → Data → Result Self.Read SessionFault };
 
     /// Reads the value. An `Err` is its first fault, or `Memory`.
-    fn from_data(alloc: Global, value: &Value) -> Result<Self, SessionFault>
-        ensures { Answers result (meaning (view value.now)) };
+    fn from_data(alloc: Global, version: Version, value: &Value) -> Result<Self::Read, SessionFault>
+        ensures { Answers result (meaning version (view value.now)) };
 }
 
 /// A whole number.
@@ -87,13 +92,14 @@ pub(crate) fn present<'v>(object: &'v Value, name: &str) -> Option<&'v Value>
 /// A member of which there may be none.
 pub(crate) fn optional<T: FromData>(
     alloc: Global,
+    version: Version,
     object: &Value,
     name: &str,
-) -> Result<Option<T>, SessionFault>
-    ensures { Answers result (optional name.now T.meaning (view object.now)) }
+) -> Result<Option<T::Read>, SessionFault>
+    ensures { Answers result (optional name.now (T.meaning version) (view object.now)) }
 {
     match present(object, name) {
-        Some(value) => Ok(Some(T::from_data(alloc, value)?)),
+        Some(value) => Ok(Some(T::from_data(alloc, version, value)?)),
         None => Ok(None),
     }
 }
@@ -110,12 +116,16 @@ pub(crate) fn elements_of(value: &Value) -> Result<&[Value], SessionFault>
 }
 
 /// Reads each element wholly before the next.
-fn each<T: FromData>(alloc: Global, values: &[Value]) -> Result<Sequence<T>, SessionFault>
-    ensures { Answers result (each T.meaning (map view values.now)) }
+fn each<T: FromData>(
+    alloc: Global,
+    version: Version,
+    values: &[Value],
+) -> Result<Sequence<T::Read>, SessionFault>
+    ensures { Answers result (each (T.meaning version) (map view values.now)) }
 {
     let mut read = Vec::with_capacity(alloc, values.len())?;
     for value in values {
-        read.push(T::from_data(alloc, value)?)
+        read.push(T::from_data(alloc, version, value)?)
             .map_err(AllocError::from)?;
     }
     Ok(Sequence::from_vec(read))
@@ -124,42 +134,41 @@ fn each<T: FromData>(alloc: Global, values: &[Value]) -> Result<Sequence<T>, Ses
 /// An array whose length is in a range: its length first, then its elements.
 pub(crate) fn array_in<T: FromData>(
     alloc: Global,
+    version: Version,
     low: usize,
     high: usize,
     value: &Value,
-) -> Result<Sequence<T>, SessionFault>
-    ensures { Answers result (array_in low high T.meaning (view value.now)) }
+) -> Result<Sequence<T::Read>, SessionFault>
+    ensures { Answers result (array_in low high (T.meaning version) (view value.now)) }
 {
     let values = elements_of(value)?;
     if values.len() < low || high < values.len() {
         return Err(SessionFault::Limit);
     }
-    each(alloc, values)
+    each::<T>(alloc, version, values)
 }
 
 /// An array of any length.
 impl<T: FromData> FromData for Sequence<T> {
-    ghost meaning = { array_of T.meaning };
+    type Read = Sequence<T::Read>;
 
-    fn from_data(alloc: Global, value: &Value) -> Result<Sequence<T>, SessionFault> {
-        each(alloc, elements_of(value)?)
+    ghost meaning = { λ version. array_of (T.meaning version) };
+
+    fn from_data(
+        alloc: Global,
+        version: Version,
+        value: &Value,
+    ) -> Result<Sequence<T::Read>, SessionFault> {
+        each::<T>(alloc, version, elements_of(value)?)
     }
 }
 
 impl FromData for Name {
-    ghost meaning = { text };
+    type Read = Name;
 
-    fn from_data(alloc: Global, value: &Value) -> Result<Name, SessionFault> {
+    ghost meaning = { λ _. text };
+
+    fn from_data(alloc: Global, _version: Version, value: &Value) -> Result<Name, SessionFault> {
         Ok(Name::new(alloc, text(value)?)?)
-    }
-}
-
-/// The UTF-8 bytes of a text.
-impl FromData for ByteString {
-    ghost meaning = { text };
-
-    fn from_data(alloc: Global, value: &Value) -> Result<ByteString, SessionFault> {
-        let bytes = Vec::from_slice(alloc, text(value)?.as_bytes())?;
-        Ok(ByteString::from_vec(bytes))
     }
 }
