@@ -8,12 +8,13 @@ use Rattle.serde_json.specs.Data.{Data}
 use Rattle.serde_json.specs.Find.{get}
 use Rattle.pl_build.specs.declared.limits.TheConstants.{MAX_EXECUTORS, DEFAULT_LOW, DEFAULT_HIGH}
 use Rattle.pl_world.specs.declared.limits.TheConstants.{MAX_BURSTS, MAX_CAPACITY, MAX_CHANNELS}
-use Rattle.pl_stages.specs.declared.limits.TheConstants.{MAX_LINE, MAX_FLUSHES}
+use Rattle.pl_stages.specs.declared.limits.TheConstants.{MAX_LINE, MAX_FLUSHES, MAX_FRAME}
+use Rattle.pl_stages.specs.LengthFraming.{is_width}
 use Rattle.pl_text.specs.declared.session_text.limits.TheConstants.{MAX_EDITS, MAX_WINDOW, MAX_FAIL_AT, DEFAULT_WINDOW}
 use Rattle.pl_world.specs.Limits.{fits, aborts_within}
 use Rattle.pl_text.specs.declared.session_text.version.Version.{Version}
 use Rattle.pl_text.specs.declared.session_text.outline.HandlerKind.{HandlerKind}
-use Rattle.pl_text.specs.declared.session_text.outline.HandlerKind.TheVariants.{Lines, Decode, LineEnd, Encode, Service, FlushEvery}
+use Rattle.pl_text.specs.declared.session_text.outline.HandlerKind.TheVariants.{Lines, Decode, LineEnd, Encode, Service, FlushEvery, Length, Prepend}
 use Rattle.pl_text.specs.declared.session_text.outline.Operation.{Operation}
 use Rattle.pl_text.specs.declared.session_text.outline.Operation.TheVariants as operation
 use Rattle.pl_text.specs.declared.faults.SessionFault.{SessionFault}
@@ -23,8 +24,8 @@ use Rattle.pl_text.specs.declared.session_text.outline.Edit.{Edit}
 use Rattle.pl_text.specs.declared.session_text.outline.Edit.TheVariants.{First, Last, Before, After, Remove}
 use Rattle.pl_text.specs.declared.session_text.outline.ChannelOutline.{ChannelOutline}
 use Rattle.pl_text.specs.declared.session_text.outline.Outline.{Outline}
-use Rattle.pl_text.specs.SessionReading.{◌>>=◌, known, whole, whole_in, between, text, same_text, an_object, required, optional, present, read_or, each, elements_of, of_length, array_in, array_of}
-use Rattle.pl_text.specs.SessionChannels.{operation_in, lines_in, flush_every_in, handler_named, handler_in, addition_in, edit_of, edit_in, mark_in, window_in, fail_at_in, chunk_in, limited, bursts_in, abort_after_in, channel_in}
+use Rattle.pl_text.specs.SessionReading.{◌>>=◌, known, whole, whole_in, between, text, an_object, required, optional, present, read_or, each, elements_of, of_length, array_in, array_of}
+use Rattle.pl_text.specs.SessionChannels.{operation_in, lines_in, flush_every_in, known_width, width_in, length_in, prepend_in, handler_named, handler_in, addition_in, edit_of, edit_in, mark_in, window_in, fail_at_in, chunk_in, limited, bursts_in, abort_after_in, channel_in}
 use Rattle.pl_text.specs.SessionOutlines.{IsHandlerWithin, IsEditWithin, IsCallWithin, IsChannelOutlineWithin, IsOutlineWithin, version_in, groups_in, outline_in}
 
 -- ---- results
@@ -86,15 +87,18 @@ number-within name low high d n h =
     let number = required-ok name (whole_in low high) d n h in
     whole_in-within low high number.0 n number.1
 
-handler_among-within : (a b c d e f : Bool) (lines flushes : Result HandlerKind SessionFault) (handler : HandlerKind) → (lines ≡ Ok handler → IsHandlerWithin handler) → (flushes ≡ Ok handler → IsHandlerWithin handler)
-    → (if a then lines else if b then Ok Decode else if c then Ok LineEnd else if d then Ok Encode else if e then Ok Service else if f then flushes else Err Kind) ≡ Ok handler → IsHandlerWithin handler
-handler_among-within true b c d e f lines flushes handler holds keeps h = holds h
-handler_among-within false true c d e f lines flushes handler holds keeps h = let is : Decode ≡ handler = cc in subst IsHandlerWithin is tt
-handler_among-within false false true d e f lines flushes handler holds keeps h = let is : LineEnd ≡ handler = cc in subst IsHandlerWithin is tt
-handler_among-within false false false true e f lines flushes handler holds keeps h = let is : Encode ≡ handler = cc in subst IsHandlerWithin is tt
-handler_among-within false false false false true f lines flushes handler holds keeps h = let is : Service ≡ handler = cc in subst IsHandlerWithin is tt
-handler_among-within false false false false false true lines flushes handler holds keeps h = keeps h
-handler_among-within false false false false false false lines flushes handler holds keeps h = cc
+-- a kind that is read there, or else one of those after it
+kind-within : (test : Bool) (here after : Result HandlerKind SessionFault) (handler : HandlerKind)
+    → (here ≡ Ok handler → IsHandlerWithin handler) → (after ≡ Ok handler → IsHandlerWithin handler) → (if test then here else after) ≡ Ok handler → IsHandlerWithin handler
+kind-within true here after handler is others h = is h
+kind-within false here after handler is others h = others h
+
+-- a kind with no number of its own
+alone-within : (kind handler : HandlerKind) (read : Result HandlerKind SessionFault) → IsHandlerWithin kind → read ≡ Ok kind → read ≡ Ok handler → IsHandlerWithin handler
+alone-within kind handler read within is h = subst IsHandlerWithin (same_ok kind handler read is h) within
+
+no_kind-within : (handler : HandlerKind) (read : Result HandlerKind SessionFault) → read ≡ Err Kind → read ≡ Ok handler → IsHandlerWithin handler
+no_kind-within handler read is h = cc
 
 lines-within : (edit : Data) (handler : HandlerKind) → lines_in edit ≡ Ok handler → IsHandlerWithin handler
 lines-within edit handler h =
@@ -108,20 +112,49 @@ flush_every-within edit handler h =
     let is : FlushEvery n.0 ≡ handler = cc in
     subst IsHandlerWithin is (number-within (codes "n") 1 MAX_FLUSHES edit n.0 n.1)
 
-handler_in-within : (edit : Data) (handler : HandlerKind) → handler_in edit ≡ Ok handler → IsHandlerWithin handler
+width-within : (edit : Data) (width : ℕ) → required (codes "width") width_in edit ≡ Ok width → is_width width ≡ true
+unfolding width_in
+width-within edit width h =
+    let value = required-ok (codes "width") width_in edit width h in
+    let number = bind-ok (whole value.0) known_width width value.1 in
+    let known = choice-ok _ _ _ _ number.2 in
+    subst (λ (n : ℕ). is_width n ≡ true) known.1 known.0
+
+length-within : (edit : Data) (handler : HandlerKind) → length_in edit ≡ Ok handler → IsHandlerWithin handler
+length-within edit handler h =
+    let width = bind-ok (required (codes "width") width_in edit) _ handler h in
+    let max = bind-ok (required (codes "max") (whole_in 1 MAX_FRAME) edit) _ handler width.2 in
+    let is : Length width.0 max.0 ≡ handler = cc in
+    let range = number-within (codes "max") 1 MAX_FRAME edit max.0 max.1 in
+    subst IsHandlerWithin is (width-within edit width.0 width.1, range.0, range.1)
+
+prepend-within : (edit : Data) (handler : HandlerKind) → prepend_in edit ≡ Ok handler → IsHandlerWithin handler
+prepend-within edit handler h =
+    let width = bind-ok (required (codes "width") width_in edit) _ handler h in
+    let is : Prepend width.0 ≡ handler = cc in
+    subst IsHandlerWithin is (width-within edit width.0 width.1)
+
+handler_in-within : (version : Version) (edit : Data) (handler : HandlerKind) → handler_in version edit ≡ Ok handler → IsHandlerWithin handler
 unfolding handler_in
-handler_in-within edit handler h =
-    let kind = bind-ok (required (codes "kind") text edit) (handler_named edit) handler h in
-    let is = λ (name : List ℕ). same_text kind.0 name in
-    handler_among-within (is (codes "lines")) (is (codes "decode")) (is (codes "lineend")) (is (codes "encode")) (is (codes "service")) (is (codes "flush_every")) (lines_in edit) (flush_every_in edit) handler (lines-within edit handler) (flush_every-within edit handler) kind.2
+handler_in-within version edit handler h =
+    let kind = bind-ok (required (codes "kind") text edit) (handler_named version edit) handler h in
+    kind-within _ _ _ handler (lines-within edit handler)
+    (kind-within _ _ _ handler (alone-within Decode handler (Ok Decode) tt refl)
+    (kind-within _ _ _ handler (alone-within LineEnd handler (Ok LineEnd) tt refl)
+    (kind-within _ _ _ handler (alone-within Encode handler (Ok Encode) tt refl)
+    (kind-within _ _ _ handler (alone-within Service handler (Ok Service) tt refl)
+    (kind-within _ _ _ handler (flush_every-within edit handler)
+    (kind-within _ _ _ handler (length-within edit handler)
+    (kind-within _ _ _ handler (prepend-within edit handler)
+    (no_kind-within handler (Err Kind) refl)))))))) kind.2
 
 addition_in-within : (version : Version) (name : List ℕ) (edit : Data) (addition : Addition) → addition_in version name edit ≡ Ok addition → IsHandlerWithin addition.handler
 unfolding addition_in
 addition_in-within version name edit addition h =
-    let handler = bind-ok (handler_in edit) _ addition h in
+    let handler = bind-ok (handler_in version edit) _ addition h in
     let group = bind-ok (optional (codes "group") text edit) _ addition handler.2 in
     let is : handler.0 ≡ addition.handler = cc in
-    subst IsHandlerWithin is (handler_in-within edit handler.0 handler.1)
+    subst IsHandlerWithin is (handler_in-within version edit handler.0 handler.1)
 
 edit_of-within : (version : Version) (o : Operation) (name : List ℕ) (d : Data) (edit : Edit) → edit_of version o name d ≡ Ok edit → IsEditWithin edit
 unfolding edit_of

@@ -35,7 +35,7 @@ use Rattle.pl_stages.specs.Counts.{IsThrifty}
 channel_built-within : (loops : ℕ) (sizes : List (List ℕ × ℕ)) (earlier : List (List (Option (List ℕ)))) (outline : ChannelOutline) (handlers : List (NamedStage Meaning))
     → IsChannelOutlineWithin outline → pipeline_built sizes outline ≡ Ok handlers → IsChannelWithin (channel_built loops sizes earlier outline handlers)
 channel_built-within loops sizes earlier outline handlers given h =
-    let within = pipeline-within sizes outline handlers h in
+    let within = pipeline-within sizes outline handlers given.edits h in
     let ms : List Meaning = meanings (λ m. m) handlers in
     let all = meanings-all handlers within.0 in
     let count : length ms ≡ length handlers = length-map handlers (λ (h : NamedStage Meaning). h.stage) in

@@ -1,26 +1,27 @@
 -- What a channel and an edit mean, row by row (docs/FORMATS.md, "Session").
-use Rattle.std.specs.Prelude.{ℕ, List, length, Option, if◌then◌else◌, Result, Ok, Err, codes}
+use Rattle.std.specs.Prelude.{ℕ, Bool, true, false, ◌&&◌, List, length, Option, if◌then◌else◌, Result, Ok, Err, codes}
 use Rattle.std.specs.Result.{result_ok}
 use Rattle.hex.specs.Hex.{decode_of}
 use Rattle.serde_json.specs.Data.{Data}
 use Rattle.pl_build.specs.declared.limits.TheConstants.{MAX_MARK, DEFAULT_LOW, DEFAULT_HIGH}
 use Rattle.pl_world.specs.declared.limits.TheConstants.{MAX_BURSTS}
 use Rattle.pl_world.specs.Limits.{fits}
-use Rattle.pl_stages.specs.declared.limits.TheConstants.{MAX_LINE, MAX_FLUSHES}
+use Rattle.pl_stages.specs.declared.limits.TheConstants.{MAX_LINE, MAX_FLUSHES, MAX_FRAME}
+use Rattle.pl_stages.specs.LengthFraming.{is_width}
 use Rattle.pl_text.specs.declared.session_text.limits.TheConstants.{MAX_EDITS, MAX_WINDOW, MAX_FAIL_AT, DEFAULT_WINDOW}
 use Rattle.pl_text.specs.declared.faults.SessionFault.{SessionFault}
 use Rattle.pl_text.specs.declared.faults.SessionFault.TheVariants.{Kind, Limit}
 use Rattle.pl_text.specs.declared.session_text.version.Version.{Version}
 use Rattle.pl_text.specs.declared.session_text.version.Version.TheVariants.{One, Two}
 use Rattle.pl_text.specs.declared.session_text.outline.HandlerKind.{HandlerKind}
-use Rattle.pl_text.specs.declared.session_text.outline.HandlerKind.TheVariants.{Lines, Decode, LineEnd, Encode, Service, FlushEvery}
+use Rattle.pl_text.specs.declared.session_text.outline.HandlerKind.TheVariants.{Lines, Decode, LineEnd, Encode, Service, FlushEvery, Length, Prepend}
 use Rattle.pl_text.specs.declared.session_text.outline.Operation.{Operation}
 use Rattle.pl_text.specs.declared.session_text.outline.Operation.TheVariants as operation
 use Rattle.pl_text.specs.declared.session_text.outline.Addition.{Addition}
 use Rattle.pl_text.specs.declared.session_text.outline.Edit.{Edit}
 use Rattle.pl_text.specs.declared.session_text.outline.Edit.TheVariants.{First, Last, Before, After, Remove}
 use Rattle.pl_text.specs.declared.session_text.outline.ChannelOutline.{ChannelOutline}
-use Rattle.pl_text.specs.SessionReading.{◌>>=◌, known, whole_in, text, same_text, an_object, required, optional, with_default, array_in, array_of}
+use Rattle.pl_text.specs.SessionReading.{◌>>=◌, known, whole, whole_in, text, same_text, an_object, required, optional, with_default, array_in, array_of}
 
 -- ---- edits
 
@@ -47,23 +48,48 @@ flush_every_in edit = do
   n ← required (codes "n") (whole_in 1 MAX_FLUSHES) edit
   Ok (FlushEvery n)
 
-abbrev pub handler_named : Data → List ℕ → Result HandlerKind SessionFault
-handler_named edit kind =
+-- how many bytes a length field has
+abbrev pub known_width : ℕ → Result ℕ SessionFault
+known_width n = if is_width n then Ok n else Err Limit
+
+unfoldable pub width_in : Data → Result ℕ SessionFault
+width_in d = whole d >>= known_width
+
+abbrev pub length_in : Data → Result HandlerKind SessionFault
+length_in edit = do
+  width ← required (codes "width") width_in edit
+  max ← required (codes "max") (whole_in 1 MAX_FRAME) edit
+  Ok (Length width max)
+
+abbrev pub prepend_in : Data → Result HandlerKind SessionFault
+prepend_in edit = do
+  width ← required (codes "width") width_in edit
+  Ok (Prepend width)
+
+-- only version 2 knows the handlers of length fields
+abbrev pub knows_length_fields : Version → Bool
+knows_length_fields One = false
+knows_length_fields Two = true
+
+abbrev pub handler_named : Version → Data → List ℕ → Result HandlerKind SessionFault
+handler_named version edit kind =
     if same_text kind (codes "lines") then lines_in edit
     else if same_text kind (codes "decode") then Ok Decode
     else if same_text kind (codes "lineend") then Ok LineEnd
     else if same_text kind (codes "encode") then Ok Encode
     else if same_text kind (codes "service") then Ok Service
     else if same_text kind (codes "flush_every") then flush_every_in edit
+    else if same_text kind (codes "length") && knows_length_fields version then length_in edit
+    else if same_text kind (codes "prepend") && knows_length_fields version then prepend_in edit
     else Err Kind
 
-unfoldable pub handler_in : Data → Result HandlerKind SessionFault
-handler_in edit = required (codes "kind") text edit >>= handler_named edit
+unfoldable pub handler_in : Version → Data → Result HandlerKind SessionFault
+handler_in version edit = required (codes "kind") text edit >>= handler_named version edit
 
 -- the handler of this name that an edit adds
 unfoldable pub addition_in : Version → List ℕ → Data → Result Addition SessionFault
 addition_in version name edit = do
-  handler ← handler_in edit
+  handler ← handler_in version edit
   group ← optional (codes "group") text edit
   Ok (record { name = name; handler = handler; group = group })
 

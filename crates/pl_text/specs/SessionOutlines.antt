@@ -5,14 +5,15 @@ use Rattle.serde_json.specs.Data.{Data}
 use Rattle.pl_build.specs.declared.limits.TheConstants.{MAX_EXECUTORS}
 use Rattle.pl_world.specs.declared.limits.TheConstants.{MAX_CAPACITY, MAX_CHANNELS}
 use Rattle.pl_world.specs.Limits.{fits, aborts_within}
-use Rattle.pl_stages.specs.declared.limits.TheConstants.{MAX_LINE, MAX_FLUSHES}
+use Rattle.pl_stages.specs.declared.limits.TheConstants.{MAX_LINE, MAX_FLUSHES, MAX_FRAME}
+use Rattle.pl_stages.specs.LengthFraming.{is_width}
 use Rattle.pl_text.specs.declared.session_text.limits.TheConstants.{MAX_GROUP_SIZE, MAX_WINDOW, MAX_FAIL_AT}
 use Rattle.pl_text.specs.declared.faults.SessionFault.{SessionFault}
 use Rattle.pl_text.specs.declared.faults.SessionFault.TheVariants as fault
 use Rattle.pl_text.specs.declared.session_text.version.Version.{Version}
 use Rattle.pl_text.specs.declared.session_text.version.Version.TheVariants.{One, Two}
 use Rattle.pl_text.specs.declared.session_text.outline.HandlerKind.{HandlerKind}
-use Rattle.pl_text.specs.declared.session_text.outline.HandlerKind.TheVariants.{Lines, Decode, LineEnd, Encode, Service, FlushEvery}
+use Rattle.pl_text.specs.declared.session_text.outline.HandlerKind.TheVariants.{Lines, Decode, LineEnd, Encode, Service, FlushEvery, Length, Prepend}
 use Rattle.pl_text.specs.declared.session_text.outline.Edit.{Edit}
 use Rattle.pl_text.specs.declared.session_text.outline.Edit.TheVariants.{First, Last, Before, After, Remove}
 use Rattle.pl_text.specs.declared.session_text.outline.ChannelOutline.{ChannelOutline}
@@ -51,7 +52,7 @@ outline_in d = do
 
 -- ---- their limits
 
--- a handler's own number is in its range
+-- a handler's own numbers are in their ranges
 abbrev pub IsHandlerWithin : HandlerKind → Type 0
 IsHandlerWithin (Lines max) = (1 ≤ max) × (max ≤ MAX_LINE)
 IsHandlerWithin Decode = Unit {0}
@@ -59,6 +60,8 @@ IsHandlerWithin LineEnd = Unit {0}
 IsHandlerWithin Encode = Unit {0}
 IsHandlerWithin Service = Unit {0}
 IsHandlerWithin (FlushEvery n) = (1 ≤ n) × (n ≤ MAX_FLUSHES)
+IsHandlerWithin (Length width max) = (is_width width ≡ true) × (1 ≤ max) × (max ≤ MAX_FRAME)
+IsHandlerWithin (Prepend width) = is_width width ≡ true
 
 abbrev pub IsEditWithin : Edit → Type 0
 IsEditWithin (First addition) = IsHandlerWithin addition.handler

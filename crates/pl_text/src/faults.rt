@@ -20,7 +20,7 @@ pub enum SessionFault {
     /// A required member is absent.
     #[error("3 Missing")]
     Missing,
-    /// A value is of another JSON kind, a number is not whole, or a text is not in its list.
+    /// A value is of another JSON kind, a number is not whole, a text is not in its list, or a chunk is no hex.
     #[error("4 Kind")]
     Kind,
     /// A number, the length of an array, or the text itself is outside its limits.

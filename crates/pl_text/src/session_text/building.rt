@@ -24,7 +24,8 @@ use pl_build::{BuildFault, Groups, PipelineBuilder};
 use pl_event::{Sequence, Stage};
 use pl_head::{MemoryTransport, ReadPlan, Transport};
 use pl_stages::{
-    CommandDecoder, FlushEvery, Handler, LineEnd, LineFramer, LineService, ReplyEncoder,
+    CommandDecoder, FlushEvery, Handler, LengthFramer, LengthPrepender, LineEnd, LineFramer,
+    LineService, ReplyEncoder,
 };
 use pl_world::{Recorded, Session, World};
 use std::alloc::{AllocError, Global};
@@ -212,5 +213,9 @@ fn stage_of(alloc: Global, kind: HandlerKind) -> Handler
         HandlerKind::Encode => Handler::Encode(ReplyEncoder::new()),
         HandlerKind::Service => Handler::Service(LineService::new(alloc)),
         HandlerKind::FlushEvery { n } => Handler::FlushEvery(FlushEvery::new(n).unwrap()),
+        HandlerKind::Length { width, max } => {
+            Handler::Length(LengthFramer::new(alloc, width, max).unwrap())
+        }
+        HandlerKind::Prepend { width } => Handler::Prepend(LengthPrepender::new(width).unwrap()),
     }
 }

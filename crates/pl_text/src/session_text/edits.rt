@@ -3,14 +3,14 @@
 ghost use Rattle.std.specs.Prelude.{◌≡◌};
 ghost use Rattle.serde_json.specs.View.{view};
 ghost use Rattle.pl_text.specs.SessionReading.{Answers};
-ghost use Rattle.pl_text.specs.SessionChannels.{operation_in, handler_in, addition_in, edit_of, edit_in};
+ghost use Rattle.pl_text.specs.SessionChannels.{operation_in, width_in, handler_in, addition_in, edit_of, edit_in};
 
 use crate::faults::SessionFault;
 use crate::session_text::names::Name;
 use crate::session_text::outline::{Addition, Edit, HandlerKind, Operation};
-use crate::session_text::values::{FromData, an_object, optional, required, text, whole_in};
+use crate::session_text::values::{FromData, an_object, optional, required, text, whole, whole_in};
 use crate::session_text::version::Version;
-use pl_stages::{MAX_FLUSHES, MAX_LINE};
+use pl_stages::{MAX_FLUSHES, MAX_FRAME, MAX_LINE};
 use serde_json::Value;
 use std::alloc::Global;
 
@@ -79,7 +79,7 @@ fn addition_in(
 ) -> Result<Addition, SessionFault>
     ensures { Answers result (addition_in version name (view edit.now)) }
 {
-    let handler = handler_in(edit)?;
+    let handler = handler_in(version, edit)?;
     let group = optional::<Name>(alloc, version, edit, "group")?;
     Ok(Addition {
         name,
@@ -90,8 +90,8 @@ fn addition_in(
 
 /// The handler of an edit: its kind, and the members that only this kind has.
 #[tactic(auto, unfolding(crate::specs::SessionChannels::handler_in))]
-fn handler_in(edit: &Value) -> Result<HandlerKind, SessionFault>
-    ensures { result ≡ handler_in (view edit.now) }
+fn handler_in(version: Version, edit: &Value) -> Result<HandlerKind, SessionFault>
+    ensures { result ≡ handler_in version (view edit.now) }
 {
     match text(required(edit, "kind")?)? {
         "lines" => {
@@ -106,6 +106,31 @@ fn handler_in(edit: &Value) -> Result<HandlerKind, SessionFault>
             let n = whole_in(1, MAX_FLUSHES as u64, required(edit, "n")?)?;
             Ok(HandlerKind::FlushEvery { n: n as usize })
         }
+        "length" if version.knows_length_fields() => {
+            let width = width_in(required(edit, "width")?)?;
+            let max = whole_in(1, MAX_FRAME as u64, required(edit, "max")?)?;
+            Ok(HandlerKind::Length {
+                width,
+                max: max as usize,
+            })
+        }
+        "prepend" if version.knows_length_fields() => {
+            let width = width_in(required(edit, "width")?)?;
+            Ok(HandlerKind::Prepend { width })
+        }
         _ => Err(SessionFault::Kind),
+    }
+}
+
+/// How many bytes a length field has.
+#[tactic(auto, unfolding(crate::specs::SessionChannels::width_in))]
+fn width_in(value: &Value) -> Result<usize, SessionFault>
+    ensures { result ≡ width_in (view value.now) }
+{
+    let width = whole(value)?;
+    if width == 2 || width == 4 {
+        Ok(width as usize)
+    } else {
+        Err(SessionFault::Limit)
     }
 }

@@ -28,6 +28,18 @@ pub(crate) enum HandlerKind {
         /// Every n-th flush passes.
         n: usize,
     },
+    /// Cuts the bytes read into frames by their length fields.
+    Length {
+        /// How many bytes a length field has.
+        width: usize,
+        /// The longest frame, its length field included, in bytes.
+        max: usize,
+    },
+    /// Puts a length field in front of the bytes of each write.
+    Prepend {
+        /// How many bytes a length field has.
+        width: usize,
+    },
 }
 
 /// What an edit does, without what it does it to.
