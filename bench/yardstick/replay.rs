@@ -116,19 +116,24 @@ enum Direction {
 
 enum Handler {
     Lines(Lines),
+    Length(Length),
     Decode,
     Service(Service),
     Encode,
     LineEnd,
+    Prepend { width: usize },
     FlushEvery { n: u64, held_back: u64 },
 }
 
 impl Handler {
     fn direction(&self) -> Direction {
         match self {
-            Handler::Lines(_) | Handler::Decode => Direction::Inbound,
+            Handler::Lines(_) | Handler::Length(_) | Handler::Decode => Direction::Inbound,
             Handler::Service(_) => Direction::Turn,
-            Handler::Encode | Handler::LineEnd | Handler::FlushEvery { .. } => Direction::Outbound,
+            Handler::Encode
+            | Handler::LineEnd
+            | Handler::Prepend { .. }
+            | Handler::FlushEvery { .. } => Direction::Outbound,
         }
     }
 }
@@ -172,6 +177,91 @@ impl Lines {
             Event::Read(Message::Line(line))
         }
     }
+}
+
+/// Cuts what is read into frames of at most `max` bytes, each with its length in a field of `width` bytes in front.
+struct Length {
+    width: usize,
+    max: u64,
+    /// How many bytes of the field are there, and what they say so far.
+    read: usize,
+    length: u64,
+    /// The payload so far, unless it is skipped, and how much of it is to come.
+    payload: Vec<u8>,
+    left: u64,
+    is_skipped: bool,
+}
+
+impl Length {
+    fn new(width: usize, max: u64) -> Length {
+        Length {
+            width,
+            max,
+            read: 0,
+            length: 0,
+            payload: Vec::new(),
+            left: 0,
+            is_skipped: false,
+        }
+    }
+
+    fn take(&mut self, mut bytes: &[u8], mut put: impl FnMut(Event)) {
+        while !bytes.is_empty() {
+            if self.read < self.width {
+                let count = bytes.len().min(self.width - self.read);
+                self.field(&bytes[..count], &mut put);
+                bytes = &bytes[count..];
+            }
+            if self.read == self.width {
+                let count = self.left.min(bytes.len() as u64) as usize;
+                self.keep(&bytes[..count], &mut put);
+                bytes = &bytes[count..];
+            }
+        }
+    }
+
+    /// Bytes of the field, which is whole with the last of them.
+    fn field(&mut self, bytes: &[u8], put: &mut impl FnMut(Event)) {
+        self.read += bytes.len();
+        for &byte in bytes {
+            self.length = 256 * self.length + u64::from(byte);
+        }
+        if self.read == self.width {
+            self.left = mem::take(&mut self.length);
+            self.is_skipped = self.width as u64 + self.left > self.max;
+            if self.is_skipped {
+                put(Event::Caught(Caught::TooLong));
+            }
+        }
+    }
+
+    /// Bytes of the payload. The next field follows the last of them.
+    fn keep(&mut self, bytes: &[u8], put: &mut impl FnMut(Event)) {
+        self.left -= bytes.len() as u64;
+        if !self.is_skipped {
+            self.payload.extend_from_slice(bytes);
+        }
+        if self.left == 0 {
+            self.read = 0;
+            if !self.is_skipped {
+                put(Event::Read(Message::Line(mem::take(&mut self.payload))));
+            }
+        }
+    }
+}
+
+/// These bytes behind their length in a field of `width` bytes; as a line, which no transport takes, where they are too
+/// many for it.
+fn prepended(width: usize, bytes: Vec<u8>) -> Message {
+    let length = (bytes.len() as u64).to_be_bytes();
+    let (above, field) = length.split_at(length.len() - width);
+    if above.iter().any(|&byte| byte != 0) {
+        return Message::Line(bytes);
+    }
+    let mut whole = Vec::with_capacity(width + bytes.len());
+    whole.extend_from_slice(field);
+    whole.extend_from_slice(&bytes);
+    Message::Bytes(whole)
 }
 
 fn command(mut line: Vec<u8>) -> Result<Command, Caught> {
@@ -328,6 +418,9 @@ impl Context {
             (Handler::Lines(lines), Item::Event(Event::Read(Message::Bytes(bytes)))) => {
                 lines.take(&bytes, |event| outputs.event(up, event));
             }
+            (Handler::Length(length), Item::Event(Event::Read(Message::Bytes(bytes)))) => {
+                length.take(&bytes, |event| outputs.event(up, event));
+            }
             (Handler::Decode, Item::Event(Event::Read(Message::Line(line)))) => {
                 outputs.event(
                     up,
@@ -346,6 +439,9 @@ impl Context {
             (Handler::LineEnd, Item::Event(Event::Write(Message::Bytes(mut bytes)))) => {
                 bytes.extend_from_slice(b"\r\n");
                 outputs.event(down, Event::Write(Message::Bytes(bytes)));
+            }
+            (Handler::Prepend { width }, Item::Event(Event::Write(Message::Bytes(bytes)))) => {
+                outputs.event(down, Event::Write(prepended(*width, bytes)));
             }
             (Handler::FlushEvery { n, held_back }, Item::Event(Event::Flush)) => {
                 *held_back += 1;
@@ -1138,7 +1234,8 @@ fn read_session(text: &[u8]) -> Result<Session, Fault> {
         return Err(LIMIT);
     }
     let mut session = Json::read(text).ok_or(NOT_JSON)?.object()?;
-    if session.whole("version", 0..=u64::MAX)? != 1 {
+    let version = session.whole("version", 0..=u64::MAX)?;
+    if ![1, 2].contains(&version) {
         return Err("2 Version");
     }
     Ok(Session {
@@ -1148,7 +1245,9 @@ fn read_session(text: &[u8]) -> Result<Session, Fault> {
             Some(groups) => groups.array(usize::MAX, read_group)?,
             None => Vec::new(),
         },
-        channels: session.required("channels")?.array(16, read_channel)?,
+        channels: session
+            .required("channels")?
+            .array(16, |channel| read_channel(version, channel))?,
     })
 }
 
@@ -1164,9 +1263,11 @@ fn read_group(group: Json) -> Result<Group, Fault> {
     })
 }
 
-fn read_channel(channel: Json) -> Result<Recorded, Fault> {
+fn read_channel(version: u64, channel: Json) -> Result<Recorded, Fault> {
     let mut channel = channel.object()?;
-    let edits = channel.required("handlers")?.array(256, read_edit)?;
+    let edits = channel
+        .required("handlers")?
+        .array(256, |edit| read_edit(version, edit))?;
     let low = channel
         .optional_whole("low", 0..=MAX_MARK)?
         .unwrap_or(32_768);
@@ -1177,9 +1278,9 @@ fn read_channel(channel: Json) -> Result<Recorded, Fault> {
         .optional_whole("window", 1..=65_536)?
         .unwrap_or(65_536) as usize;
     let fail_at = channel.optional_whole("fail_at", 1..=4_294_967_295)?;
-    let bursts = channel
-        .required("bursts")?
-        .array(4_096, |burst| burst.array(usize::MAX, Json::text))?;
+    let bursts = channel.required("bursts")?.array(4_096, |burst| {
+        burst.array(usize::MAX, |chunk| read_chunk(version, chunk))
+    })?;
     let chunks = || bursts.iter().flatten();
     if chunks().count() > 16_384 || chunks().map(Vec::len).sum::<usize>() > 1_048_576 {
         return Err(LIMIT);
@@ -1196,7 +1297,30 @@ fn read_channel(channel: Json) -> Result<Recorded, Fault> {
     })
 }
 
-fn read_edit(edit: Json) -> Result<Edit, Fault> {
+/// The bytes of a text, or in version 2 those that its hex says.
+fn read_chunk(version: u64, chunk: Json) -> Result<Vec<u8>, Fault> {
+    let text = chunk.text()?;
+    if version == 1 {
+        return Ok(text);
+    }
+    let digit = |byte: u8| char::from(byte).to_digit(16).ok_or(KIND);
+    let pairs = text.chunks_exact(2);
+    if !pairs.remainder().is_empty() {
+        return Err(KIND);
+    }
+    pairs
+        .map(|pair| Ok((16 * digit(pair[0])? + digit(pair[1])?) as u8))
+        .collect()
+}
+
+fn read_width(edit: &mut Members) -> Result<usize, Fault> {
+    match edit.whole("width", 0..=u64::MAX)? {
+        width @ (2 | 4) => Ok(width as usize),
+        _ => Err(LIMIT),
+    }
+}
+
+fn read_edit(version: u64, edit: Json) -> Result<Edit, Fault> {
     let mut edit = edit.object()?;
     let op = edit.required("op")?.text()?;
     if ![&b"first"[..], b"last", b"before", b"after", b"remove"].contains(&&op[..]) {
@@ -1219,8 +1343,15 @@ fn read_edit(edit: Json) -> Result<Edit, Fault> {
                 is_overlong: false,
             })
         }
+        b"length" if version == 2 => {
+            let width = read_width(&mut edit)?;
+            Handler::Length(Length::new(width, edit.whole("max", 1..=8_192)?))
+        }
         b"decode" => Handler::Decode,
         b"lineend" => Handler::LineEnd,
+        b"prepend" if version == 2 => Handler::Prepend {
+            width: read_width(&mut edit)?,
+        },
         b"encode" => Handler::Encode,
         b"service" => Handler::Service(Service::default()),
         b"flush_every" => Handler::FlushEvery {
