@@ -52,6 +52,33 @@ printf '\377\376' | answers "no UTF-8" 3 "session refused: 1 NotJson"
 bytes 10000000 '[' | answers "ten million deep" 3 "session refused: 1 NotJson"
 answers "an input that fails" 3 "input refused" <"$work"
 
+# Prints a session of version 2 with one chunk of $1 digits: a length field that skips all that follows.
+frame='{"version":2,"capacity":4,"loops":1,"channels":[{"handlers":[
+{"op":"last","name":"length","kind":"length","width":4,"max":8192},
+{"op":"last","name":"decode","kind":"decode"},
+{"op":"last","name":"prepend","kind":"prepend","width":4},
+{"op":"last","name":"encode","kind":"encode"},
+{"op":"last","name":"service","kind":"service"}],
+"bursts":[["'
+digits() {
+    printf '%s' "$frame"
+    bytes "$1" f
+    printf '"]]}]}'
+}
+most=$((33554432 - ${#frame} - 6))
+
+status=0
+digits 2097152 | "$program" plain >"$work/report" 2>"$work/error" || status=$?
+printf 'channel 0 drained\ntail 3\nActive\nCaught TooLong\nReadComplete\nbytes 16 %s\nwrites 1\n0 Success\n' \
+    0000000c2d45525220746f6f6c6f6e67 >"$work/plain"
+cmp -s "$work/plain" "$work/report" && : >"$work/report"
+compare "1,048,576 bytes as hex" 0 ""
+digits 2097153 | answers "half a byte more" 3 "session refused: 4 Kind"
+digits 2097154 | answers "1,048,577 bytes as hex" 3 "session refused: 5 Limit"
+digits $((most / 2 * 2)) | answers "as much hex as a session has room for" 3 "session refused: 5 Limit"
+digits $((most - 1 + most % 2)) | answers "the same, of an odd length" 3 "session refused: 4 Kind"
+digits $((most + 1)) | answers "more hex than that" 3 "session refused: 5 Limit"
+
 moves "1,000,001 moves" "R0x1000000 O0" "moves refused: 2 Limit"
 moves "a million and one in one word" "R0x1000001" "moves refused: 1 Form"
 moves "a number of forty digits" "R0000000000000000000000000000000000000000" "moves refused: 1 Form"

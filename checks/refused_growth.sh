@@ -1,6 +1,6 @@
 #!/bin/sh
-# Refuses each allocation of some replays in turn: replays that drain, that hand over, that send flags, whose transports fail,
-# and that are aborted.
+# Refuses each allocation of some replays in turn: replays that drain, that cut and make frames, that hand over, that send
+# flags, whose transports fail, and that are aborted.
 #
 # usage: checks/refused_growth.sh PROGRAM
 #
@@ -38,7 +38,7 @@ fail() {
 
 cut_short=0
 for example in ping echo_and_faults quit watermarks handover_drained transport_fault abort/after_the_write fault_before_abort \
-    fault_handed_over one_channel_fails; do
+    fault_handed_over one_channel_fails length_frames length_across_groups; do
     example=$here/../examples/$example
     "$program" plain <"$example/session.json" >"$work/plain" || fail "plain failed"
     replay 0

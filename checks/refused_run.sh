@@ -31,7 +31,7 @@ fail() {
     exit 1
 }
 
-for name in quit handover_drained totals_across_groups group_placing; do
+for name in quit handover_drained totals_across_groups group_placing length_across_groups; do
     session=$here/../examples/$name/session.json
     "$program" plain <"$session" >"$work/plain" || fail "plain failed"
     run 0 0
