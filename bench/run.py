@@ -20,8 +20,12 @@ PING = "PING\r\n"
 # Three commands in 16 bytes.
 UNIT = "PING\r\nPING\nPING\n"
 LINE_PROTOCOL = ["lines", "decode", "lineend", "encode", "service"]
+LENGTH_FIELDS = ["length", "decode", "prepend", "encode", "service"]
 # What an edit has of its own, by its kind.
-MEMBERS = {"lines": {"max": 8192}, "flush_every": {"n": 2}}
+MEMBERS = {"lines": {"max": 8192}, "length": {"width": 2, "max": 8192}, "prepend": {"width": 2}, "flush_every": {"n": 2}}
+# The most chunks and bursts that a channel may have.
+CHUNKS = 16384
+BURSTS = 4096
 
 
 def last(name, kind, group=None):
@@ -43,14 +47,20 @@ def workload(channels, outs):
     return placed(channels, every_move(channels, outs))
 
 
-def placed(channels, moves, capacity=4, groups=()):
-    """Executor 0 is the loop, and the groups, each of size 1, are the executors from 1 on."""
-    session = {"version": 1, "capacity": capacity, "loops": 1, "groups": [{"name": name, "size": 1} for name in groups], "channels": channels}
-    return json.dumps(session, separators=(",", ":")).encode(), moves, sum(held(one) for one in channels)
+def placed(channels, moves, capacity=4, groups=(), version=1):
+    """Executor 0 is the loop, and the groups, each of size 1, are the executors from 1 on. In version 2 the chunks are hex."""
+    session = {"version": version, "capacity": capacity, "loops": 1, "groups": [{"name": name, "size": 1} for name in groups], "channels": channels}
+    return json.dumps(session, separators=(",", ":")).encode(), moves, sum(held(one) for one in channels) // version
 
 
 def held(one):
     return sum(len(chunk) for burst in one["bursts"] for chunk in burst)
+
+
+def cut(data, chunks):
+    """These bytes in so many chunks of one length, as hex."""
+    each = len(data) // chunks
+    return [data[at : at + each].hex() for at in range(0, len(data), each)]
 
 
 def pings(size):
@@ -130,6 +140,29 @@ def flags(count):
     return placed([one], " ".join(["R0"] + ["R0 O0"] * count + ["R0"]))
 
 
+def frames(length):
+    """So many bytes of frames with payloads of this length, in chunks of one byte, and from 16,384 bytes on in so many chunks."""
+
+    def make(size):
+        frame = length.to_bytes(2, "big") + (b"ECHO " + b"a" * length)[:length]
+        data = (frame * (size // len(frame) + 1))[:size]
+        one = channel([cut(data, min(size, CHUNKS))], LENGTH_FIELDS)
+        return placed([one], every_move([one], size // len(frame)), version=2)
+
+    return make
+
+
+def skipped(bursts):
+    """A frame that claims the most that four bytes can say, and is skipped over so many bursts of four chunks."""
+    chunks = cut(b"\xff" * (2**20 // BURSTS * bursts), CHUNKS // BURSTS * bursts)
+    each = CHUNKS // BURSTS
+    one = channel([chunks[at : at + each] for at in range(0, len(chunks), each)], LENGTH_FIELDS)
+    one["handlers"][0]["width"] = 4
+    return placed([one], every_move([one], 1), version=2)
+
+
+FRAMED = [2**power for power in range(12, 21)]
+
 # name, what a size counts, how it is made, sizes
 WORKLOADS = [
     ("pings in 4,096 bursts", "bytes", pings, [2**16, 2**17, 2**18, 2**19, 2**20]),
@@ -146,6 +179,11 @@ WORKLOADS = [
     ("a backlog behind a full queue", "items", behind_full_queue, [10000, 20000, 40000, 80000, 100000]),
     ("messages written byte by byte", "bytes", byte_by_byte, [125000, 250000, 500000, 1000000]),
     ("two flags for each burst", "bursts", flags, [512, 1024, 2048, 4096]),
+    ("frames without payload", "bytes", frames(0), FRAMED),
+    ("frames of one byte", "bytes", frames(1), FRAMED),
+    ("frames of 64 bytes", "bytes", frames(64), FRAMED),
+    ("frames of 8,190 bytes", "bytes", frames(8190), FRAMED),
+    ("a frame that is skipped", "bursts", skipped, [512, 1024, 2048, 4096]),
 ]
 
 # Loads that no session brings to a head, and schedules that no argument holds: name, what a size counts, the crate and
@@ -162,6 +200,11 @@ def run(words, text):
     if child.returncode not in (0, 1):
         sys.exit(f"status {child.returncode}: {child.stderr.decode()}")
     return child.stderr
+
+
+def knows(program, text):
+    """Whether the program of some tree knows the version of this session."""
+    return subprocess.run([program, "replay"], input=text, capture_output=True).stderr != b"session refused: 2 Version\n"
 
 
 def spent_by(words, text):
