@@ -14,10 +14,11 @@ use std::test::Fail;
 
 /// An event, to make or to expect.
 #[derive(Clone, Copy)]
-enum Told<'a> {
+pub(crate) enum Told<'a> {
     Active,
     ReadComplete,
     Chunk(&'a [u8]),
+    Line(&'a [u8]),
     Ping,
     Quit,
     Echo(&'a [u8]),
@@ -31,6 +32,7 @@ fn event(alloc: Global, told: Told<'_>) -> Result<Event, Fail> {
         Told::Active => Ok(Event::Active),
         Told::ReadComplete => Ok(Event::ReadComplete),
         Told::Chunk(bytes) => Ok(Event::Read(Message::Bytes(text(alloc, bytes)?))),
+        Told::Line(bytes) => Ok(Event::Read(Message::Line(text(alloc, bytes)?))),
         Told::Ping => Ok(command(Command::Ping)),
         Told::Quit => Ok(command(Command::Quit)),
         Told::Echo(bytes) => Ok(command(Command::Echo(text(alloc, bytes)?))),
@@ -40,7 +42,7 @@ fn event(alloc: Global, told: Told<'_>) -> Result<Event, Fail> {
     }
 }
 
-fn events(alloc: Global, all: &[Told<'_>]) -> Result<Vec<Event>, Fail> {
+pub(crate) fn events(alloc: Global, all: &[Told<'_>]) -> Result<Vec<Event>, Fail> {
     let mut events = Vec::new(alloc);
     for told in all {
         events.push(event(alloc, *told)?)?;
@@ -61,7 +63,7 @@ fn written(reply: Reply) -> Event {
 }
 
 /// What a handler makes of events: upwards and downwards.
-fn made(
+pub(crate) fn made(
     alloc: Global,
     handler: Handler,
     events: Vec<Event>,
@@ -75,25 +77,41 @@ fn made(
     Ok((up, down))
 }
 
-/// The commands in what comes to the line protocol.
-fn commands(alloc: Global, max: usize, came: &[Told<'_>]) -> Result<Vec<Event>, Fail> {
-    let framer = Handler::Lines(LineFramer::new(alloc, max)?);
+/// The commands in what comes to a framer.
+fn commands(alloc: Global, framer: Handler, came: &[Told<'_>]) -> Result<Vec<Event>, Fail> {
     let (lines, _) = made(alloc, framer, events(alloc, came)?)?;
     let (commands, _) = made(alloc, Handler::Decode(CommandDecoder::new()), lines)?;
     Ok(commands)
 }
 
-/// The bytes of its replies.
-fn bytes(alloc: Global, replies: Vec<Event>) -> Result<Vec<u8>, Fail> {
+/// The bytes of replies, each with what marks its end or its length.
+fn bytes(alloc: Global, replies: Vec<Event>, marker: Handler) -> Result<Vec<u8>, Fail> {
     let (_, texts) = made(alloc, Handler::Encode(ReplyEncoder::new()), replies)?;
-    let (_, ended) = made(alloc, Handler::LineEnd(LineEnd::new()), texts)?;
+    let (_, marked) = made(alloc, marker, texts)?;
     let mut bytes = Vec::new(alloc);
-    for event in &ended {
+    for event in &marked {
         if let Event::Write(Message::Bytes(text)) = event {
             bytes.extend_from_slice(text.as_slice())?;
         }
     }
     Ok(bytes)
+}
+
+/// The service behind this framer and this marker brings these events to its tail and these bytes to its head.
+pub(crate) fn assert_served_between(
+    rt: &(impl Abort + AllocGlobal),
+    framer: Handler,
+    marker: Handler,
+    came: &[Told<'_>],
+    tail: &[Told<'_>],
+    sent: &[u8],
+) -> Result<(), Fail> {
+    let alloc = rt.alloc();
+    let service = Handler::Service(LineService::new(alloc));
+    let (reached, replies) = made(alloc, service, commands(alloc, framer, came)?)?;
+    assert_eq!(rt; reached, events(alloc, tail)?);
+    assert_eq!(rt; bytes(alloc, replies, marker)?.as_slice(), sent);
+    Ok(())
 }
 
 /// The line protocol, with lines of at most so many bytes, brings these events to its tail and these bytes to its head.
@@ -104,12 +122,9 @@ fn assert_served(
     tail: &[Told<'_>],
     sent: &[u8],
 ) -> Result<(), Fail> {
-    let alloc = rt.alloc();
-    let service = Handler::Service(LineService::new(alloc));
-    let (reached, replies) = made(alloc, service, commands(alloc, max, came)?)?;
-    assert_eq!(rt; reached, events(alloc, tail)?);
-    assert_eq!(rt; bytes(alloc, replies)?.as_slice(), sent);
-    Ok(())
+    let framer = Handler::Lines(LineFramer::new(rt.alloc(), max)?);
+    let marker = Handler::LineEnd(LineEnd::new());
+    assert_served_between(rt, framer, marker, came, tail, sent)
 }
 
 #[test]
@@ -152,7 +167,7 @@ fn line_too_long(rt: HostRuntime) -> Result<(), Fail> {
 
 const SYNTAX: Told<'static> = Told::Caught(Caught::Syntax);
 
-const UNKNOWN: Told<'static> = Told::Caught(Caught::Unknown);
+pub(crate) const UNKNOWN: Told<'static> = Told::Caught(Caught::Unknown);
 
 #[test]
 fn echo_and_faults(rt: HostRuntime) -> Result<(), Fail> {

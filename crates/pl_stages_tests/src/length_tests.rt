@@ -1,0 +1,207 @@
+//! The worked examples of frames with their length in front, by the steps of the handlers.
+
+use crate::event_tests::text;
+use crate::tests::{Told, UNKNOWN, assert_served_between, events, made};
+use pl_event::{ByteString, Caught, Event, Message};
+use pl_stages::{Handler, LengthFramer, LengthPrepender, StageRefusal};
+use std::alloc::Global;
+use std::process::Abort;
+use std::test::Fail;
+
+const TOO_LONG: Told<'static> = Told::Caught(Caught::TooLong);
+
+/// The service behind frames of at most so many bytes, with lengths of two, brings these events to its tail and these bytes
+/// to its head.
+fn assert_served(
+    rt: &(impl Abort + AllocGlobal),
+    max: usize,
+    came: &[Told<'_>],
+    tail: &[Told<'_>],
+    sent: &[u8],
+) -> Result<(), Fail> {
+    let framer = Handler::Length(LengthFramer::new(rt.alloc(), 2, max)?);
+    let marker = Handler::Prepend(LengthPrepender::new(2)?);
+    assert_served_between(rt, framer, marker, came, tail, sent)
+}
+
+/// A framer tells this of what comes to it.
+fn assert_told(
+    rt: &(impl Abort + AllocGlobal),
+    width: usize,
+    max: usize,
+    came: &[Told<'_>],
+    told: &[Told<'_>],
+) -> Result<(), Fail> {
+    let alloc = rt.alloc();
+    let framer = Handler::Length(LengthFramer::new(alloc, width, max)?);
+    let (up, _) = made(alloc, framer, events(alloc, came)?)?;
+    assert_eq!(rt; up, events(alloc, told)?);
+    Ok(())
+}
+
+#[test]
+fn length_frames(rt: HostRuntime) -> Result<(), Fail> {
+    let came = [
+        Told::Active,
+        Told::Chunk(b"\x00"),
+        Told::Chunk(b"\x04P"),
+        Told::Chunk(b"ING"),
+        Told::ReadComplete,
+    ];
+    let tail = [Told::Active, Told::Ping, Told::ReadComplete];
+    assert_served(&rt, 64, &came, &tail, b"\x00\x05+PONG")
+}
+
+#[test]
+fn frame_too_long(rt: HostRuntime) -> Result<(), Fail> {
+    let sent = b"\x00\x0c-ERR toolong";
+    let came = [
+        Told::Active,
+        Told::Chunk(b"\x00\x04PING"),
+        Told::ReadComplete,
+    ];
+    let tail = [Told::Active, TOO_LONG, Told::ReadComplete];
+    assert_served(&rt, 5, &came, &tail, sent)?;
+    let came = [
+        Told::Active,
+        Told::Chunk(b"\x00\x04"),
+        Told::ReadComplete,
+        Told::Chunk(b"PING"),
+        Told::ReadComplete,
+    ];
+    let tail = [
+        Told::Active,
+        TOO_LONG,
+        Told::ReadComplete,
+        Told::ReadComplete,
+    ];
+    assert_served(&rt, 5, &came, &tail, sent)?;
+
+    // The example of Netty's documentation.
+    let came = [Told::Chunk(b"\x00\x0cHELLO, WORLD")];
+    assert_told(&rt, 2, 14, &came, &[Told::Line(b"HELLO, WORLD")])?;
+    assert_told(&rt, 2, 13, &came, &[TOO_LONG])
+}
+
+#[test]
+fn empty_and_unfinished_frame(rt: HostRuntime) -> Result<(), Fail> {
+    let empty = [Told::Chunk(b"\x00\x00")];
+    assert_told(&rt, 2, 64, &empty, &[Told::Line(b"")])?;
+    assert_served(&rt, 64, &empty, &[UNKNOWN], b"\x00\x0c-ERR unknown")?;
+    let unfinished = [Told::Active, Told::Chunk(b"\x00\x05P"), Told::ReadComplete];
+    let tail = [Told::Active, Told::ReadComplete];
+    assert_served(&rt, 64, &unfinished, &tail, b"")
+}
+
+/// What a prepender makes of a write of bytes.
+fn prepended(alloc: Global, width: usize, payload: &[u8]) -> Result<Vec<Event>, Fail> {
+    let prepender = Handler::Prepend(LengthPrepender::new(width)?);
+    let written = Event::Write(Message::Bytes(text(alloc, payload)?));
+    let (_, down) = made(alloc, prepender, vec![in alloc; written]?)?;
+    Ok(down)
+}
+
+/// A message of a field and a payload, or a line of the payload alone.
+fn marked(alloc: Global, field: Option<&[u8]>, payload: &[u8]) -> Result<Event, Fail> {
+    let Some(field) = field else {
+        return Ok(Event::Write(Message::Line(text(alloc, payload)?)));
+    };
+    let mut bytes = text(alloc, field)?;
+    bytes.extend_from_slice(payload)?;
+    Ok(Event::Write(Message::Bytes(bytes)))
+}
+
+#[test]
+fn prepend_limit(rt: HostRuntime) -> Result<(), Fail> {
+    let alloc = rt.alloc();
+    let pings = "PING".repeat(alloc, 16_384)?;
+    for (width, count, field) in [
+        (2, 65_535, Some(b"\xff\xff".as_slice())),
+        (2, 65_536, None),
+        (4, 65_536, Some(b"\x00\x01\x00\x00".as_slice())),
+    ] {
+        let payload = pings.get(..count).ok_or("too few")?.as_bytes();
+        let made = prepended(alloc, width, payload)?;
+        let expected = vec![in alloc; marked(alloc, field, payload)?]?;
+        assert!(rt; made == expected, "{count} bytes behind {width}");
+    }
+    Ok(())
+}
+
+const LIMIT: Option<StageRefusal> = Some(StageRefusal::Limit);
+
+#[test]
+fn length_refusals(rt: HostRuntime) {
+    for (width, max, framer, prepender) in [
+        (0, 64, LIMIT, LIMIT),
+        (1, 64, LIMIT, LIMIT),
+        (3, 64, LIMIT, LIMIT),
+        (5, 64, LIMIT, LIMIT),
+        (8, 64, LIMIT, LIMIT),
+        (2, 0, LIMIT, None),
+        (2, 1, None, None),
+        (4, 8_192, None, None),
+        (4, 8_193, LIMIT, None),
+    ] {
+        let refusal = LengthFramer::new(rt.alloc(), width, max).err();
+        assert!(rt; refusal == framer, "of {width} and {max}");
+        let refusal = LengthPrepender::new(width).err();
+        assert!(rt; refusal == prepender, "of {width}");
+    }
+}
+
+/// However this input is cut, a framer tells this of it.
+fn assert_told_of_pieces(
+    rt: &(impl Abort + AllocGlobal),
+    width: usize,
+    max: usize,
+    input: &[u8],
+    told: &[Told<'_>],
+) -> Result<(), Fail> {
+    let mut bytes = Vec::new(rt.alloc());
+    for end in 0..input.len() {
+        let (front, rest) = (&input[..end], &input[end..]);
+        let came = [Told::Chunk(front), Told::Chunk(rest)];
+        assert_told(rt, width, max, &came, told)?;
+        bytes.push(Told::Chunk(&input[end..end + 1]))?;
+    }
+    assert_told(rt, width, max, &[Told::Chunk(input)], told)?;
+    assert_told(rt, width, max, bytes.as_slice(), told)
+}
+
+/// Two whole frames, and between them an empty one and one that is too long. The last is not finished.
+#[test]
+fn frames_cut_at_every_border(rt: HostRuntime) -> Result<(), Fail> {
+    let told = [
+        Told::Line(b"PING"),
+        Told::Line(b""),
+        TOO_LONG,
+        Told::Line(b"hi"),
+    ];
+    let input = b"\x00\x04PING\x00\x00\x00\x05HELLO\x00\x02hi\x00\x03ab";
+    assert_told_of_pieces(&rt, 2, 6, input, &told)?;
+    let input = b"\x00\x00\x00\x04PING\x00\x00\x00\x00\x00\x00\x00\x05HELLO\
+        \x00\x00\x00\x02hi\x00\x00\x00\x03ab";
+    assert_told_of_pieces(&rt, 4, 8, input, &told)
+}
+
+#[test]
+fn longest_claim(rt: HostRuntime) -> Result<(), Fail> {
+    let came = [
+        Told::Chunk(b"\xff\xff\xff\xff"),
+        Told::Chunk(b"\x00\x00\x00\x04PING"),
+        Told::Chunk(b"\x00\x00\x00\x00"),
+        Told::ReadComplete,
+        Told::Chunk(b"\x00\x00\x00\x04PING"),
+    ];
+    assert_told(&rt, 4, 8_192, &came, &[TOO_LONG, Told::ReadComplete])?;
+
+    // Of the 65,535 bytes the last five come with the next frame.
+    let front = "x".repeat(rt.alloc(), 65_530)?;
+    let came = [
+        Told::Chunk(b"\xff\xff"),
+        Told::Chunk(front.as_bytes()),
+        Told::Chunk(b"xxxxx\x00\x04PING"),
+    ];
+    assert_told(&rt, 2, 64, &came, &[TOO_LONG, Told::Line(b"PING")])
+}
