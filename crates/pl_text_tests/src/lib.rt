@@ -10,5 +10,7 @@ mod ping;
 mod report_text;
 #[cfg(test)]
 mod session_text;
+#[cfg(test)]
+mod session_versions;
 
 pub use ping::{PING_REPORT, PING_SESSION};

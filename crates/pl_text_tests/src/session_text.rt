@@ -11,14 +11,18 @@ use std::process::Abort;
 use std::test::Fail;
 
 /// The faults that most texts are refused for.
-const MISSING: Option<SessionFault> = Some(SessionFault::Missing);
+pub(crate) const MISSING: Option<SessionFault> = Some(SessionFault::Missing);
 
-const KIND: Option<SessionFault> = Some(SessionFault::Kind);
+pub(crate) const KIND: Option<SessionFault> = Some(SessionFault::Kind);
 
-const LIMIT: Option<SessionFault> = Some(SessionFault::Limit);
+pub(crate) const LIMIT: Option<SessionFault> = Some(SessionFault::Limit);
 
 /// A text has this answer: a fault, or None where it is read.
-fn assert_answer(rt: &(impl Abort + AllocGlobal), text: &str, fault: Option<SessionFault>) {
+pub(crate) fn assert_answer(
+    rt: &(impl Abort + AllocGlobal),
+    text: &str,
+    fault: Option<SessionFault>,
+) {
     assert_eq!(rt; read_session(rt.alloc(), text).err(), fault, "at {text}");
 }
 
@@ -52,7 +56,7 @@ fn assert_edits(
 }
 
 /// One service, which is the turn.
-const SERVICE: &str = r#"{"op":"last","name":"service","kind":"service"}"#;
+pub(crate) const SERVICE: &str = r#"{"op":"last","name":"service","kind":"service"}"#;
 
 #[test]
 fn ping_session(rt: HostRuntime) -> Result<(), Fail> {
@@ -78,7 +82,7 @@ fn assert_ping(rt: &impl Abort, channel: &Recorded<Handler, MemoryTransport>) {
 }
 
 /// A channel fails at this call of its transport, and is aborted after so many bursts.
-fn assert_fails(
+pub(crate) fn assert_fails(
     rt: &impl Abort,
     channel: &Recorded<Handler, MemoryTransport>,
     fail_at: Option<u32>,
@@ -375,7 +379,7 @@ fn equal_keys(rt: HostRuntime) -> Result<(), Fail> {
 fn reading_order(rt: HostRuntime) -> Result<(), Fail> {
     let edit_7 = r#"{"op":"fly","name":7,"at":7,"kind":7}"#;
     for (text, fault) in [
-        (r#"{"capacity":0,"version":2}"#, SessionFault::Version),
+        (r#"{"capacity":0,"version":3}"#, SessionFault::Version),
         (
             r#"{"version":1,"capacity":1,"loops":0,"groups":7}"#,
             SessionFault::Limit,

@@ -1,0 +1,156 @@
+//! Session texts of version 2: chunks in hex, and handlers of frames with their length in front.
+
+use crate::session_text::{KIND, LIMIT, MISSING, SERVICE, assert_answer, assert_fails};
+use pl_text::{SessionFault, read_session};
+use std::process::Abort;
+use std::test::Fail;
+
+/// A session of one channel in a version, with these edits and these bursts.
+fn versioned(
+    rt: &impl AllocGlobal,
+    version: &str,
+    edits: &str,
+    bursts: &str,
+) -> Result<String, Fail> {
+    Ok(format!(in rt.alloc();
+        "{{\"version\":{version},\"capacity\":4,\"loops\":1,\"channels\":[{{\"handlers\":[{edits}],\"bursts\":{bursts}}}]}}"
+    )?)
+}
+
+/// A session of the service behind a handler that has these members.
+fn with_handler(rt: &impl AllocGlobal, version: &str, members: &str) -> Result<String, Fail> {
+    let edits = format!(in rt.alloc(); "{{\"op\":\"last\",\"name\":\"a\",{members}}},{SERVICE}")?;
+    versioned(rt, version, edits.as_str(), "[]")
+}
+
+/// The one channel of a session in version 2 has so many inbound and outbound handlers.
+fn assert_handlers(
+    rt: &(impl Abort + AllocGlobal),
+    text: &str,
+    inbound: u16,
+    outbound: u16,
+) -> Result<(), Fail> {
+    let session = read_session(rt.alloc(), text)?;
+    let channels = session.world.channels();
+    assert!(rt; session.capacity == 4 && channels.len() == 1);
+    let pipeline = &channels[0].pipeline;
+    assert!(rt; pipeline.inbound() == inbound && pipeline.outbound() == outbound);
+    assert!(rt; pipeline.low() == 32_768 && pipeline.high() == 65_536);
+    assert_fails(rt, &channels[0], None, None);
+    Ok(())
+}
+
+/// A session in version 2 whose only burst is of this chunk has these bytes.
+fn assert_chunk(rt: &(impl Abort + AllocGlobal), chunk: &str, bytes: &[u8]) -> Result<(), Fail> {
+    let bursts = format!(in rt.alloc(); "[[\"{chunk}\"]]")?;
+    let text = versioned(rt, "2", SERVICE, bursts.as_str())?;
+    let session = read_session(rt.alloc(), text.as_str())?;
+    let channels = session.world.channels();
+    assert!(rt; channels.len() == 1 && channels[0].input.bursts.len() == 1);
+    let chunks = channels[0].input.bursts.as_slice()[0].as_slice();
+    assert_eq!(rt; chunks.len(), 1);
+    assert!(rt; chunks[0].as_slice() == bytes, "of {chunk}");
+    Ok(())
+}
+
+/// The line protocol with frames in place of lines.
+const FRAMES: &str = r#"
+    {"op":"last","name":"length","kind":"length","width":2,"max":64},
+    {"op":"last","name":"decode","kind":"decode"},
+    {"op":"last","name":"prepend","kind":"prepend","width":2},
+    {"op":"last","name":"encode","kind":"encode"},
+    {"op":"last","name":"service","kind":"service"}"#;
+
+#[test]
+fn version_two(rt: HostRuntime) -> Result<(), Fail> {
+    for (chunk, bytes) in [
+        ("", b"".as_slice()),
+        ("00", b"\x00"),
+        ("0450", b"\x04P"),
+        ("494E47", b"ING"),
+        ("494e47", b"ING"),
+        ("aBCdeF09fF", b"\xab\xcd\xef\x09\xff"),
+    ] {
+        assert_chunk(&rt, chunk, bytes)?;
+    }
+    for (members, inbound, outbound) in [
+        (r#""kind":"length","width":2,"max":64"#, 2, 0),
+        (r#""kind":"length","width":4,"max":1"#, 2, 0),
+        (r#""kind":"prepend","width":2"#, 1, 1),
+        (r#""kind":"prepend","width":4,"max":0"#, 1, 1),
+    ] {
+        let text = with_handler(&rt, "2", members)?;
+        assert_handlers(&rt, text.as_str(), inbound, outbound)?;
+    }
+    let frames = versioned(&rt, "2", FRAMES, r#"[["00","0450","494E47"]]"#)?;
+    assert_handlers(&rt, frames.as_str(), 3, 2)
+}
+
+const VERSION: Option<SessionFault> = Some(SessionFault::Version);
+
+#[test]
+fn hostile_version_two(rt: HostRuntime) -> Result<(), Fail> {
+    for (version, members, fault) in [
+        ("0", r#""kind":"prepend","width":2"#, VERSION),
+        ("3", r#""kind":"prepend","width":2"#, VERSION),
+        ("2.0", r#""kind":"prepend","width":2"#, KIND),
+        ("1", r#""kind":"length","width":2,"max":64"#, KIND),
+        ("1", r#""kind":"length""#, KIND),
+        ("1", r#""kind":"length","width":3,"max":0"#, KIND),
+        ("1", r#""kind":"prepend","width":2"#, KIND),
+        ("1", r#""kind":"prepend""#, KIND),
+        ("1", r#""kind":"prepend","width":3"#, KIND),
+        ("2", r#""kind":"lines","max":64"#, None),
+        ("2", r#""kind":"Length","width":2,"max":64"#, KIND),
+        ("2", r#""kind":"length","max":64"#, MISSING),
+        ("2", r#""kind":"length","width":"2","max":64"#, KIND),
+        ("2", r#""kind":"length","width":2.0,"max":64"#, KIND),
+        ("2", r#""kind":"length","width":null,"max":64"#, KIND),
+        ("2", r#""kind":"length","width":0,"max":64"#, LIMIT),
+        ("2", r#""kind":"length","width":3,"max":64"#, LIMIT),
+        ("2", r#""kind":"length","width":8,"max":64"#, LIMIT),
+        ("2", r#""kind":"length","width":2"#, MISSING),
+        ("2", r#""kind":"length","width":2,"max":"64""#, KIND),
+        ("2", r#""kind":"length","width":2,"max":0"#, LIMIT),
+        ("2", r#""kind":"length","width":2,"max":8193"#, LIMIT),
+        ("2", r#""kind":"length","width":4,"max":8192"#, None),
+        // The width comes before the longest frame, and that before the group.
+        ("2", r#""kind":"length","max":0"#, MISSING),
+        ("2", r#""kind":"length","max":0,"width":"2""#, KIND),
+        ("2", r#""kind":"length","max":"64","width":3"#, LIMIT),
+        ("2", r#""kind":"length","width":2,"max":0,"group":7"#, LIMIT),
+        ("2", r#""kind":"prepend""#, MISSING),
+        ("2", r#""kind":"prepend","width":"2""#, KIND),
+        ("2", r#""kind":"prepend","width":3"#, LIMIT),
+        ("2", r#""kind":"prepend","width":3,"group":7"#, LIMIT),
+        ("2", r#""kind":"prepend","width":4,"group":7"#, KIND),
+    ] {
+        let text = with_handler(&rt, version, members)?;
+        assert_answer(&rt, text.as_str(), fault);
+    }
+    Ok(())
+}
+
+/// Bytes are counted, and not their digits.
+#[test]
+fn hostile_version_two_chunks(rt: HostRuntime) -> Result<(), Fail> {
+    for (part, copies, fault) in [
+        ("5", 1, KIND),
+        ("zz", 1, KIND),
+        ("0g", 1, KIND),
+        ("005", 1, KIND),
+        (" 00", 1, KIND),
+        ("0x00", 1, KIND),
+        ("é", 1, KIND),
+        (r#"00",7,""#, 1, KIND),
+        (r#"00",null,""#, 1, KIND),
+        ("0a", 1_048_576, None),
+        ("0a", 1_048_577, LIMIT),
+    ] {
+        let chunk = part.repeat(rt.alloc(), copies)?;
+        let bursts = format!(in rt.alloc(); "[[\"\"],[\"{chunk}\"]]")?;
+        let text = versioned(&rt, "2", SERVICE, bursts.as_str())?;
+        assert_answer(&rt, text.as_str(), fault);
+    }
+    Ok(())
+}
