@@ -2,13 +2,19 @@
 
 use crate::running::{Runtime, composes, replays, runs};
 use crate::sessions;
-use crate::sessions::{LineSession, line_session};
+use crate::sessions::{FrameSession, LineSession, frame_session, line_session};
 use std::test::Fail;
 
 /// Says that a session of the line protocol drains with this report.
 fn drains(rt: &impl Runtime, session: LineSession, moves: &str, report: &str) -> Result<(), Fail> {
     let text = line_session(rt, session)?;
     gives(rt, text.as_str(), moves, report)
+}
+
+/// Says that a session of frames drains with this report.
+fn drains_frames(rt: &impl Runtime, session: FrameSession, report: &str) -> Result<(), Fail> {
+    let text = frame_session(rt, session)?;
+    gives(rt, text.as_str(), "R0x4 O0x4", report)
 }
 
 /// Says that these moves drain the session of a text with this report, which `plain` gives as well, and so does a run
@@ -128,6 +134,44 @@ fn quit(rt: HostRuntime) -> Result<(), Fail> {
         sessions::QUIT,
         "R0x4 O0x4",
         "channel 0 drained\ntail 3\nActive\nRead Ping\nRead Quit\nbytes 13 2b504f4e470d0a2b4259450d0a\nwrites 2\n0 Success\n1 Success\n",
+    )
+}
+
+#[test]
+fn length_frames(rt: HostRuntime) -> Result<(), Fail> {
+    drains_frames(
+        &rt,
+        sessions::LENGTH_FRAMES,
+        "channel 0 drained\ntail 3\nActive\nRead Ping\nReadComplete\nbytes 7 00052b504f4e47\nwrites 1\n0 Success\n",
+    )
+}
+
+/// The payload comes with its length, and in a burst of its own.
+#[test]
+fn frame_too_long(rt: HostRuntime) -> Result<(), Fail> {
+    drains_frames(
+        &rt,
+        sessions::FRAME_TOO_LONG,
+        "channel 0 drained\ntail 3\nActive\nCaught TooLong\nReadComplete\nbytes 14 000c2d45525220746f6f6c6f6e67\nwrites 1\n0 Success\n",
+    )?;
+    drains_frames(
+        &rt,
+        sessions::FRAME_SKIPPED_LATER,
+        "channel 0 drained\ntail 4\nActive\nCaught TooLong\nReadComplete\nReadComplete\nbytes 14 000c2d45525220746f6f6c6f6e67\nwrites 1\n0 Success\n",
+    )
+}
+
+#[test]
+fn empty_and_unfinished_frame(rt: HostRuntime) -> Result<(), Fail> {
+    drains_frames(
+        &rt,
+        sessions::EMPTY_FRAME,
+        "channel 0 drained\ntail 3\nActive\nCaught Unknown\nReadComplete\nbytes 14 000c2d45525220756e6b6e6f776e\nwrites 1\n0 Success\n",
+    )?;
+    drains_frames(
+        &rt,
+        sessions::UNFINISHED_FRAME,
+        "channel 0 drained\ntail 2\nActive\nReadComplete\nbytes 0 -\nwrites 0\n",
     )
 }
 

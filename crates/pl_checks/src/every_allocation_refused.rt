@@ -3,7 +3,7 @@
 
 use crate::fair::begins;
 use crate::sessions;
-use crate::sessions::line_session;
+use crate::sessions::{frame_session, line_session};
 use pl_replay::replay;
 use pl_text::{MovesFault, SessionFault, print_report, read_moves, read_session};
 use pl_world::{ChannelReport, ReplayFault, Report, plain};
@@ -87,6 +87,12 @@ fn echo_and_faults(rt: HostRuntime) {
 #[test]
 fn quit(rt: HostRuntime) {
     goes_on(&rt, line_session(&rt, sessions::QUIT), "R0x4 O0x4");
+}
+
+#[test]
+fn length_frames(rt: HostRuntime) {
+    let text = frame_session(&rt, sessions::LENGTH_FRAMES);
+    goes_on(&rt, text, "R0x4 O0x4");
 }
 
 #[test]

@@ -1,7 +1,7 @@
 //! Sessions and schedules that are refused: the status, the line on standard error, and nothing on standard output.
 
 use crate::running::{Runtime, replays};
-use crate::sessions::{DECODER_APART, PING, line_protocol, line_session, piped};
+use crate::sessions::{DECODER_APART, PING, line_protocol, line_session, piped, versioned};
 use std::alloc::AllocError;
 use std::test::Fail;
 
@@ -22,6 +22,28 @@ fn refused_sessions(rt: HostRuntime) -> Result<(), Fail> {
         ),
     ] {
         refuses(&rt, text, "R0", 3, line)?;
+    }
+    Ok(())
+}
+
+/// Chunks that are no hex, handlers of frames in version 1, and in version 2 their members.
+#[test]
+fn hostile_version_two(rt: HostRuntime) -> Result<(), Fail> {
+    let kind = "session refused: 4 Kind\n";
+    let limit = "session refused: 5 Limit\n";
+    for (version, edit, bursts, line) in [
+        (2, r#""kind":"service""#, r#"[["5"]]"#, kind),
+        (2, r#""kind":"service""#, r#"[["zz"]]"#, kind),
+        (1, r#""kind":"length","width":2,"max":64"#, "[]", kind),
+        (1, r#""kind":"prepend","width":2"#, "[]", kind),
+        (2, r#""kind":"length","width":"2","max":64"#, "[]", kind),
+        (2, r#""kind":"length","width":3,"max":64"#, "[]", limit),
+        (2, r#""kind":"length","width":2,"max":8193"#, "[]", limit),
+        (2, r#""kind":"prepend","width":3"#, "[]", limit),
+    ] {
+        let edits = format!(in rt.alloc(); "{{\"op\":\"last\",\"name\":\"a\",{edit}}}")?;
+        let text = versioned(&rt, version, edits.as_str(), "", bursts)?;
+        refuses(&rt, text.as_str(), "R0", 3, line)?;
     }
     Ok(())
 }

@@ -31,6 +31,28 @@ pub(crate) const NINE_DIGITS: LineSession = (
 
 pub(crate) const QUIT: LineSession = (64, r#"[["PING\nQUIT\nPING\nPI"]]"#);
 
+/// A session of one channel with frames in place of lines, whose lengths have two bytes: how many bytes a frame has at
+/// most, and the bursts as JSON, in hex.
+pub(crate) type FrameSession = (u16, &'static str);
+
+pub(crate) const LENGTH_FRAMES: FrameSession = (64, r#"[["00","0450","494E47"]]"#);
+
+pub(crate) const FRAME_TOO_LONG: FrameSession = (5, r#"[["000450494e47"]]"#);
+
+pub(crate) const FRAME_SKIPPED_LATER: FrameSession = (5, r#"[["0004"],["50494e47"]]"#);
+
+pub(crate) const EMPTY_FRAME: FrameSession = (64, r#"[["0000"]]"#);
+
+pub(crate) const UNFINISHED_FRAME: FrameSession = (64, r#"[["000550"]]"#);
+
+const FRAME_SESSIONS: [FrameSession; 5] = [
+    LENGTH_FRAMES,
+    FRAME_TOO_LONG,
+    FRAME_SKIPPED_LATER,
+    EMPTY_FRAME,
+    UNFINISHED_FRAME,
+];
+
 const LINE_SESSIONS: [LineSession; 11] = [
     NO_BURSTS,
     PING,
@@ -48,6 +70,12 @@ const LINE_SESSIONS: [LineSession; 11] = [
 /// The handlers of the line protocol, as edits, but for the first.
 const BEHIND_LINES: &str = r#"{"op":"last","name":"decode","kind":"decode"},
 {"op":"last","name":"lineend","kind":"lineend"},
+{"op":"last","name":"encode","kind":"encode"},
+{"op":"last","name":"service","kind":"service"}"#;
+
+/// The handlers behind a framer of frames, as edits.
+const BEHIND_FRAMES: &str = r#"{"op":"last","name":"decode","kind":"decode"},
+{"op":"last","name":"prepend","kind":"prepend","width":2},
 {"op":"last","name":"encode","kind":"encode"},
 {"op":"last","name":"service","kind":"service"}"#;
 
@@ -74,8 +102,19 @@ fn marked(
     marks: &str,
     bursts: &str,
 ) -> Result<String, AllocError> {
+    versioned(rt, 1, edits, marks, bursts)
+}
+
+/// The same in this version of the format.
+pub(crate) fn versioned(
+    rt: &impl AllocGlobal,
+    version: u8,
+    edits: &str,
+    marks: &str,
+    bursts: &str,
+) -> Result<String, AllocError> {
     format!(in rt.alloc();
-        "{{\"version\":1,\"capacity\":4,\"loops\":1,\"channels\":[{{\"handlers\":[{edits}]{marks},\"bursts\":{bursts}}}]}}\n"
+        "{{\"version\":{version},\"capacity\":4,\"loops\":1,\"channels\":[{{\"handlers\":[{edits}]{marks},\"bursts\":{bursts}}}]}}\n"
     )
 }
 
@@ -98,6 +137,18 @@ pub(crate) fn failing_session(
     let (max, bursts) = session;
     let edits = line_protocol(rt, max)?;
     marked(rt, edits.as_str(), members, bursts)
+}
+
+/// The text of a session of frames.
+pub(crate) fn frame_session(
+    rt: &impl AllocGlobal,
+    session: FrameSession,
+) -> Result<String, AllocError> {
+    let (max, bursts) = session;
+    let edits = format!(in rt.alloc();
+        "{{\"op\":\"last\",\"name\":\"length\",\"kind\":\"length\",\"width\":2,\"max\":{max}}},\n{BEHIND_FRAMES}"
+    )?;
+    versioned(rt, 2, edits.as_str(), "", bursts)
 }
 
 /// The writes of the service do not pass the encoder.
@@ -231,6 +282,9 @@ pub(crate) fn add(
 fn add_examples(rt: &impl AllocGlobal, texts: &mut Vec<String>) -> Result<(), AllocError> {
     for session in LINE_SESSIONS {
         add(texts, line_session(rt, session))?;
+    }
+    for session in FRAME_SESSIONS {
+        add(texts, frame_session(rt, session))?;
     }
     add(texts, encoder_behind_turn(rt))?;
     add(texts, flush_never_comes(rt))?;
