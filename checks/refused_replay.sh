@@ -19,7 +19,7 @@ replay() {
 }
 
 told=
-for session in ping echo_and_faults quit watermarks handover_drained; do
+for session in ping echo_and_faults quit length_frames watermarks handover_drained; do
     test=every_allocation_refused::$session
     replay 0
     count=$(cat "$work/count")
