@@ -20,6 +20,10 @@ abbrev pub IsUnfinished : ℕ → ℕ → List ℕ → Type 0
 IsUnfinished width max bytes =
     width ≤ length bytes → (width + payload_len width bytes 0 ≤ max) × (length bytes < width + payload_len width bytes 0)
 
+-- These bytes are one whole frame and no more.
+abbrev pub IsOneFrame : ℕ → ℕ → List ℕ → Type 0
+IsOneFrame width max bytes = (width + payload_len width bytes 0 ≤ max) × (width + payload_len width bytes 0 ≡ length bytes)
+
 -- what these bytes have in front, by their length field
 abbrev pub IsNextFrame : ℕ → ℕ → List ℕ → NextFrame → Type 0
 IsNextFrame width max bytes Unfinished = IsUnfinished width max bytes

@@ -1,11 +1,11 @@
 //! The handler that cuts bytes into frames, each with its length in front.
 
-ghost use Rattle.std.specs.Prelude.{◌≡◌, ◌+◌, ◌<◌, ◌≤◌, ◌^◌, ◌↔◌, [], length, take, true, false, IfOk, OnOk, IsOk, IsTrue};
+ghost use Rattle.std.specs.Prelude.{◌≡◌, ◌+◌, ◌<◌, ◌≤◌, ◌^◌, ◌↔◌, ◌++◌, [], length, take, true, false, IfOk, IfSome, OnOk, IsOk, IsSome};
 ghost use Rattle.pl_event.specs.Meaning.{IsPrefixOf};
 ghost use Rattle.pl_stages.specs.declared.limits.TheConstants.{MAX_FRAME};
 ghost use Rattle.pl_stages.specs.Cutting.{joined, cutting-lawful};
 ghost use Rattle.pl_stages.specs.LengthFraming.{is_width, payload_len, frames_of, length_framing};
-ghost use Rattle.pl_stages.specs.LengthSteps.{KeepsFrame, IsUnfinished, IsNextFrame, TakesBytes};
+ghost use Rattle.pl_stages.specs.LengthSteps.{KeepsFrame, IsUnfinished, IsOneFrame, IsNextFrame, TakesBytes};
 
 use crate::bytes::without_front;
 use crate::length_width::is_width;
@@ -67,29 +67,38 @@ impl LengthFramer {
         }))
     }
 
-    /// Adds the frames that a chunk gives. A chunk that is one whole frame is moved.
+    /// Adds the frames that a chunk gives. A chunk that is one whole frame, but for what is kept of its length field,
+    /// is moved.
     fn take_chunk(&mut self, chunk: Vec<u8>, up: &mut Vec<Event>) -> Result<(), AllocError>
         ensures width { self.new.width ≡ self.old.width }
         ensures max { self.new.max ≡ self.old.max }
         ensures takes { OnOk result (TakesBytes self.old.width self.old.max self.old.partial.items self.old.to_skip chunk.items up.old.items self.new.partial.items self.new.to_skip up.new.items) }
         ensures begins { IsPrefixOf up.old.items up.new.items }
     {
-        if self.keeps_nothing() {
-            if let NextFrame::Whole(len) = next_frame(self.width, self.max, chunk.as_slice()) {
-                if self.width + len == chunk.len() {
-                    up.push(line_of(without_front(chunk, self.width)))?;
-                    return Ok(());
-                }
-            }
+        if let Some(start) = self.payload_start(chunk.as_slice()) {
+            self.partial.clear();
+            up.push(line_of(without_front(chunk, start)))?;
+            return Ok(());
         }
         self.cut(chunk.as_slice(), up)
     }
 
-    /// The bytes read so far end where a frame does.
-    fn keeps_nothing(&self) -> bool
-        ensures { IsTrue result → (self.now.to_skip ≡ 0) × (self.now.partial.items ≡ []) }
+    /// Where the payload begins in a chunk that is one whole frame, but for what is kept of its length field.
+    fn payload_start(&self, chunk: &[u8]) -> Option<usize>
+        ensures whole { IsSome result ↔ ((self.now.to_skip ≡ 0) × (length self.now.partial.items ≤ self.now.width) × IsOneFrame self.now.width self.now.max (self.now.partial.items ++ chunk.now)) }
+        ensures start { IfSome result (λ start. length self.now.partial.items + start ≡ self.now.width) }
     {
-        self.to_skip == 0 && self.partial.is_empty()
+        let start = self.width.checked_sub(self.partial.len())?;
+        if self.to_skip > 0 || chunk.len() < start {
+            return None;
+        }
+        let (field_end, payload) = chunk.split_at(start);
+        let len = length_of(self.width, self.partial.as_slice(), field_end);
+        if len == payload.len() && self.width + len <= self.max {
+            Some(start)
+        } else {
+            None
+        }
     }
 
     /// Adds the frames that these bytes give.
@@ -121,7 +130,7 @@ impl LengthFramer {
             self.to_skip -= skipped;
             return Ok(skipped);
         }
-        if self.keeps_nothing() {
+        if self.partial.is_empty() {
             if let NextFrame::Whole(len) = next_frame(self.width, self.max, bytes) {
                 let end = self.width + len;
                 let alloc = *self.partial.allocator();
@@ -206,6 +215,18 @@ fn length_in(width: usize, bytes: &[u8]) -> usize
     } else {
         BigEndian::read_u32(bytes) as usize
     }
+}
+
+/// The number in a length field that came in two parts.
+fn length_of(width: usize, front: &[u8], rest: &[u8]) -> usize
+    requires widths { is_width width ≡ true }
+    requires whole { length front.now + length rest.now ≡ width }
+    ensures number { result ≡ payload_len width (front.now ++ rest.now) 0 }
+{
+    let mut field = [0; 4];
+    field[..front.len()].copy_from_slice(front);
+    field[front.len()..width].copy_from_slice(rest);
+    length_in(width, &field)
 }
 
 /// A payload as it is read.

@@ -169,6 +169,14 @@ fn assert_told_of_pieces(
     assert_told(rt, width, max, bytes.as_slice(), told)
 }
 
+/// A chunk that ends a frame, and has its payload whole, however much of the length field came before it.
+#[test]
+fn frame_cut_at_every_border(rt: HostRuntime) -> Result<(), Fail> {
+    let told = [Told::Line(b"PING")];
+    assert_told_of_pieces(&rt, 2, 6, b"\x00\x04PING", &told)?;
+    assert_told_of_pieces(&rt, 4, 8, b"\x00\x00\x00\x04PING", &told)
+}
+
 /// Two whole frames, and between them an empty one and one that is too long. The last is not finished.
 #[test]
 fn frames_cut_at_every_border(rt: HostRuntime) -> Result<(), Fail> {
