@@ -10,7 +10,7 @@ use Rattle.pl_event.specs.declared.events.Event.TheVariants.{Active}
 use Rattle.pl_event.specs.declared.stages.Direction.{Direction}
 use Rattle.pl_event.specs.declared.stages.Direction.TheVariants.{Inbound, Outbound, Turn}
 use Rattle.pl_event.specs.Meaning.{Meaning, IsPrefixOf, up_of, down_of, made_after, made_after-append}
-use Rattle.pl_event.specs.Inputs.{burst_events, recorded_input, read_steps, input_after}
+use Rattle.pl_event.specs.Inputs.{Bursts, burst_events, recorded_input, read_steps, input_after}
 use Rattle.pl_event.specs.Lanes.{lane, tail_lane, head_lane, through_by, through, out_through, written, turn_ended}
 use Rattle.pl_event.specs.Paths.{is_turn}
 
@@ -80,12 +80,12 @@ abbrev whole : List Event → List Event
 whole step = step
 
 -- all read steps bring the recorded input
-pub read_steps-bring : (bursts : List (List (List ℕ))) → flat_map whole (read_steps bursts) ≡ recorded_input bursts
+pub read_steps-bring : (bursts : Bursts) → flat_map whole (read_steps bursts) ≡ recorded_input bursts
 read_steps-bring bursts =
     ap (λ (t : List Event). Active ∷ t) (flat_map-append whole (map burst_events bursts) ([] ∷ []) ∙ append-nil (flat_map whole (map burst_events bursts)) ∙ flat_map-map whole burst_events bursts)
 
 -- the first ones bring a prefix of it
-pub input_after-prefix : (n : ℕ) (bursts : List (List (List ℕ))) → IsPrefixOf (input_after n bursts) (recorded_input bursts)
+pub input_after-prefix : (n : ℕ) (bursts : Bursts) → IsPrefixOf (input_after n bursts) (recorded_input bursts)
 input_after-prefix n bursts = (
   flat_map whole (drop n (read_steps bursts)),
   sym (flat_map-append whole (take n (read_steps bursts)) (drop n (read_steps bursts)))
@@ -93,7 +93,7 @@ input_after-prefix n bursts = (
       ∙ read_steps-bring bursts,
 )
 
-pub input_after-all : (n : ℕ) (bursts : List (List (List ℕ))) → length (read_steps bursts) ≤ n → input_after n bursts ≡ recorded_input bursts
+pub input_after-all : (n : ℕ) (bursts : Bursts) → length (read_steps bursts) ≤ n → input_after n bursts ≡ recorded_input bursts
 input_after-all n bursts all = ap (flat_map whole) (take_all n (read_steps bursts) all) ∙ read_steps-bring bursts
 
 -- ---- the turn

@@ -1,22 +1,36 @@
 -- Recorded input: what a channel's bursts give, as events (Netty: channelActive, channelRead, channelReadComplete).
-use Rattle.std.specs.Prelude.{ℕ, List, [], ◌∷◌, ◌++◌, map, take}
+use Rattle.std.specs.Prelude.{ℕ, List, [], ◌∷◌, ◌++◌, length, map, take}
 use Rattle.std.specs.List.{flat_map}
 use Rattle.pl_event.specs.declared.events.Event.{Event}
 use Rattle.pl_event.specs.declared.events.Event.TheVariants as event
 use Rattle.pl_event.specs.declared.events.Message.TheVariants as message
+use Rattle.pl_event.specs.declared.elements.Element.{Element}
+use Rattle.pl_event.specs.declared.elements.Element.TheVariants.{Chunk}
 
--- one burst is a read for each chunk, and then its completion
-abbrev pub burst_events : List (List ℕ) → List Event
-burst_events chunks = map (λ chunk. event.Read (message.Bytes chunk)) chunks ++ event.ReadComplete ∷ []
+-- the event that an element of a burst comes as
+abbrev pub element_event : Element → Event
+element_event (Chunk bytes) = event.Read (message.Bytes bytes)
+
+-- how many bytes it brings
+abbrev pub element_size : Element → ℕ
+element_size (Chunk bytes) = length bytes
+
+-- the bursts of a channel, each with its elements
+abbrev pub Bursts : Type 0
+Bursts = List (List Element)
+
+-- one burst is the event of each element, and then its completion
+abbrev pub burst_events : List Element → List Event
+burst_events elements = map element_event elements ++ event.ReadComplete ∷ []
 
 -- the channel becomes active, and the bursts follow
-abbrev pub recorded_input : List (List (List ℕ)) → List Event
+abbrev pub recorded_input : Bursts → List Event
 recorded_input bursts = event.Active ∷ flat_map burst_events bursts
 
 -- The read steps of a channel: it becomes active, then comes each burst, and then the end, which brings no event.
-abbrev pub read_steps : List (List (List ℕ)) → List (List Event)
+abbrev pub read_steps : Bursts → List (List Event)
 read_steps bursts = (event.Active ∷ []) ∷ (map burst_events bursts ++ [] ∷ [])
 
 -- the events that the first n read steps bring
-abbrev pub input_after : ℕ → List (List (List ℕ)) → List Event
+abbrev pub input_after : ℕ → Bursts → List Event
 input_after n bursts = flat_map (λ step. step) (take n (read_steps bursts))

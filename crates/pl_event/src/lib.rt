@@ -26,6 +26,7 @@
 mod bare_stages;
 mod byte_string;
 mod either;
+mod elements;
 mod envelopes;
 mod events;
 mod fitting_laws;
@@ -41,6 +42,7 @@ mod stages;
 pub use bare_stages::{BareStage, Fused, Taken};
 pub use byte_string::ByteString;
 pub use either::Either;
+pub use elements::Element;
 pub use envelopes::{Envelope, Item, Kind, Lane};
 pub use events::{Caught, Command, Event, Fault, Message, Reply};
 pub use fitting_laws::fitting_law;

@@ -2,7 +2,9 @@
 
 use crate::{Halves, OddLines, UpperCase};
 use pl_build::{Groups, PipelineBuilder, Placed};
-use pl_event::{ByteString, Command, Either, Event, Fused, MapUp, Message, Sequence, Stage};
+use pl_event::{
+    ByteString, Command, Either, Element, Event, Fused, MapUp, Message, Sequence, Stage,
+};
 use pl_head::{ReadPlan, Transport};
 use pl_replay::replay_world;
 use pl_stages::{CommandDecoder, Handler, LineEnd, LineFramer, LineService, ReplyEncoder};
@@ -52,12 +54,13 @@ fn pipeline(alloc: Global, groups: &mut Groups) -> Result<Placed<Any>, Fail> {
 }
 
 /// Recorded bursts of one channel, each of chunks.
-fn bursts(alloc: Global, input: &[&[&[u8]]]) -> Result<Sequence<Sequence<ByteString>>, Fail> {
+fn bursts(alloc: Global, input: &[&[&[u8]]]) -> Result<Sequence<Sequence<Element>>, Fail> {
     let mut bursts = Sequence::new(alloc);
     for chunks in input {
         let mut burst = Sequence::new(alloc);
         for chunk in chunks.iter() {
-            burst.push(ByteString::from_vec(Vec::from_slice(alloc, chunk)?))?;
+            let bytes = Vec::from_slice(alloc, chunk)?;
+            burst.push(Element::Chunk(ByteString::from_vec(bytes)))?;
         }
         bursts.push(burst)?;
     }

@@ -10,7 +10,8 @@ use Rattle.pl_event.specs.declared.events.Event.{Event}
 use Rattle.pl_event.specs.declared.events.Event.TheVariants as event
 use Rattle.pl_event.specs.declared.envelopes.Item.{Item}
 use Rattle.pl_event.specs.declared.envelopes.Item.TheVariants as item
-use Rattle.pl_event.specs.Inputs.{burst_events, read_steps, input_after}
+use Rattle.pl_event.specs.declared.elements.Element.{Element}
+use Rattle.pl_event.specs.Inputs.{Bursts, burst_events, read_steps, input_after}
 use Rattle.pl_context.specs.declared.ports.Port.{Port}
 use Rattle.pl_context.specs.Ports.{as_items, all_go_on, port_after}
 use Rattle.pl_context.proofs.PortLemmas.{all_go_on-events}
@@ -20,21 +21,21 @@ use Rattle.pl_head.specs.InputStand.{InputView, next_items, left_after, burst_ne
 
 -- ---- the steps of bursts
 
-length-steps : (bursts : List (List (List ℕ))) → step_count bursts ≡ length bursts + 2
+length-steps : (bursts : Bursts) → step_count bursts ≡ length bursts + 2
 length-steps bursts =
     let size = length-append (map burst_events bursts) ([] ∷ []) in
     let each = length-map bursts burst_events in
     omega (arith, size, each)
 
 -- burst j is read step j + 1
-step-burst : (bursts : List (List (List ℕ))) (j : ℕ) (chunks : List (List ℕ)) (left : List (List (List ℕ))) → chunks ∷ left ≡ drop j bursts
-    → get_or (map burst_events bursts ++ [] ∷ []) j [] ≡ burst_events chunks
-step-burst [] zero chunks left h = cc
-step-burst [] (suc j) chunks left h = cc
-step-burst (b ∷ bs) zero chunks left h = let same : b ≡ chunks = cc in ap burst_events same
-step-burst (b ∷ bs) (suc j) chunks left h = step-burst bs j chunks left h
+step-burst : (bursts : Bursts) (j : ℕ) (elements : List Element) (left : Bursts) → elements ∷ left ≡ drop j bursts
+    → get_or (map burst_events bursts ++ [] ∷ []) j [] ≡ burst_events elements
+step-burst [] zero elements left h = cc
+step-burst [] (suc j) elements left h = cc
+step-burst (b ∷ bs) zero elements left h = let same : b ≡ elements = cc in ap burst_events same
+step-burst (b ∷ bs) (suc j) elements left h = step-burst bs j elements left h
 
-step-end : (bursts : List (List (List ℕ))) → get_or (map burst_events bursts ++ [] ∷ []) (length bursts) [] ≡ []
+step-end : (bursts : Bursts) → get_or (map burst_events bursts ++ [] ∷ []) (length bursts) [] ≡ []
 step-end [] = refl
 step-end (b ∷ bs) = step-end bs
 
@@ -52,34 +53,34 @@ drop-some {A = A} j x xs ys h =
 
 -- ---- numbers
 
-pub left-burst : (chunks : List (List ℕ)) (left : List (List (List ℕ))) → length (flat_map burst_events (chunks ∷ left)) ≡ length (burst_events chunks) + length (flat_map burst_events left)
-left-burst chunks left = ap (λ (es : List Event). length es) (flat_map-cons burst_events chunks left) ∙ length-append (burst_events chunks) (flat_map burst_events left)
+pub left-burst : (elements : List Element) (left : Bursts) → length (flat_map burst_events (elements ∷ left)) ≡ length (burst_events elements) + length (flat_map burst_events left)
+left-burst elements left = ap (λ (es : List Event). length es) (flat_map-cons burst_events elements left) ∙ length-append (burst_events elements) (flat_map burst_events left)
 
 -- the bursts before an abort bring no more than all
-pub few_before : (count : Option ℕ) (bursts : List (List (List ℕ))) → length (flat_map burst_events (bursts_before count bursts)) ≤ length (flat_map burst_events bursts)
+pub few_before : (count : Option ℕ) (bursts : Bursts) → length (flat_map burst_events (bursts_before count bursts)) ≤ length (flat_map burst_events bursts)
 few_before None bursts = omega arith
 few_before (Some count) bursts =
     let first : List Event = flat_map burst_events (take count bursts) in
     let rest : List Event = flat_map burst_events (drop count bursts) in
-    let split = ap (λ (bs : List (List (List ℕ))). length (flat_map burst_events bs)) (sym (take-append-drop count bursts)) in
+    let split = ap (λ (bs : Bursts). length (flat_map burst_events bs)) (sym (take-append-drop count bursts)) in
     let parts = ap (λ (es : List Event). length es) (flat_map-append burst_events (take count bursts) (drop count bursts)) in
     omega (arith, split, parts, length-append first rest)
 
 -- ---- the next one
 
 -- what the next step is, by the count of steps and what is left
-pub record NextIs (n : ℕ) (left : List (List (List ℕ))) (items : List Item) (rest : List (List (List ℕ))) (count : ℕ) : Type 0 where
+pub record NextIs (n : ℕ) (left : Bursts) (items : List Item) (rest : Bursts) (count : ℕ) : Type 0 where
   pub items_are : next_items n left ≡ items
   pub rest_is : left_after n left ≡ rest
   pub count_is : items_left n left ≡ length items + count
 
-pub burst_step : (n : ℕ) (left : List (List (List ℕ))) (chunks : List (List ℕ)) (rest : List (List (List ℕ))) → 0 < n → left ≡ chunks ∷ rest
-    → NextIs n left (as_items (burst_events chunks)) rest (items_left 1 rest)
-burst_step zero left chunks rest h is = absurd (omega (arith, h))
-burst_step (suc n) left chunks rest h is =
-    let size = left-burst chunks rest in
-    let each = length-map (burst_events chunks) (λ (x : Event). item.Event x) in
-    subst (λ (l : List (List (List ℕ))). NextIs (suc n) l (as_items (burst_events chunks)) rest (items_left 1 rest)) (sym is)
+pub burst_step : (n : ℕ) (left : Bursts) (elements : List Element) (rest : Bursts) → 0 < n → left ≡ elements ∷ rest
+    → NextIs n left (as_items (burst_events elements)) rest (items_left 1 rest)
+burst_step zero left elements rest h is = absurd (omega (arith, h))
+burst_step (suc n) left elements rest h is =
+    let size = left-burst elements rest in
+    let each = length-map (burst_events elements) (λ (x : Event). item.Event x) in
+    subst (λ (l : Bursts). NextIs (suc n) l (as_items (burst_events elements)) rest (items_left 1 rest)) (sym is)
     (record { items_are = refl; rest_is = refl; count_is = omega (arith, size, each) })
 
 -- an open port after items
@@ -90,17 +91,17 @@ port_after-open items p q goes_on o all is =
     (sym all ∙ sym (ap (λ (b : Bool). b && all_go_on items) o))
 
 -- Of read step n the items are known by what is left of the bursts.
-pub record NextStep (bursts : List (List (List ℕ))) (n : ℕ) (left : List (List (List ℕ))) : Type 0 where
+pub record NextStep (bursts : Bursts) (n : ℕ) (left : Bursts) : Type 0 where
   pub items : next_items n left ≡ step_items bursts n
   pub rest : left_after n left ≡ drop n bursts
   pub goes_on : all_go_on (next_items n left) ≡ nat_lt (n + 1) (step_count bursts)
   pub burst : burst_next n left ≡ is_burst bursts n
   pub last : last_next n left ≡ nat_le (step_count bursts) (n + 1)
 
-no_end : (bursts : List (List (List ℕ))) (n : ℕ) (is : List Item) → n + 1 < step_count bursts → is ++ end_if (nat_le (step_count bursts) (n + 1)) ≡ is
+no_end : (bursts : Bursts) (n : ℕ) (is : List Item) → n + 1 < step_count bursts → is ++ end_if (nat_le (step_count bursts) (n + 1)) ≡ is
 no_end bursts n is more = ap (λ (b : Bool). is ++ end_if b) (lt-leb (step_count bursts) (n + 1) more) ∙ append-nil is
 
-pub next_step : (bursts : List (List (List ℕ))) (n : ℕ) (left : List (List (List ℕ))) → n < step_count bursts → left ≡ drop (n - 1) bursts → NextStep bursts n left
+pub next_step : (bursts : Bursts) (n : ℕ) (left : Bursts) → n < step_count bursts → left ≡ drop (n - 1) bursts → NextStep bursts n left
 next_step bursts zero left within is =
     let more : 0 + 1 < step_count bursts = omega (arith, length-steps bursts) in
     record {
@@ -110,22 +111,22 @@ next_step bursts zero left within is =
       burst = refl;
       last = sym (lt-leb (step_count bursts) (0 + 1) more);
     }
-next_step bursts (suc j) (chunks ∷ left) within is =
+next_step bursts (suc j) (elements ∷ left) within is =
     let place : suc j - 1 ≡ j = omega arith in
-    let here : chunks ∷ left ≡ drop j bursts = is ∙ ap (λ (k : ℕ). drop k bursts) place in
-    let some : j < length bursts = drop-some j chunks left bursts here in
+    let here : elements ∷ left ≡ drop j bursts = is ∙ ap (λ (k : ℕ). drop k bursts) place in
+    let some : j < length bursts = drop-some j elements left bursts here in
     let more : suc j + 1 < step_count bursts = omega (arith, length-steps bursts, some) in
     record {
-      items = ap as_items (sym (step-burst bursts j chunks left here)) ∙ sym (no_end bursts (suc j) (as_items (get_or (map burst_events bursts ++ [] ∷ []) j [])) more);
-      rest = drop-next j chunks left bursts here;
-      goes_on = all_go_on-events (burst_events chunks) ∙ sym (lt-ltb (suc j + 1) (step_count bursts) more);
+      items = ap as_items (sym (step-burst bursts j elements left here)) ∙ sym (no_end bursts (suc j) (as_items (get_or (map burst_events bursts ++ [] ∷ []) j [])) more);
+      rest = drop-next j elements left bursts here;
+      goes_on = all_go_on-events (burst_events elements) ∙ sym (lt-ltb (suc j + 1) (step_count bursts) more);
       burst = sym (ap₂ (λ (a b : Bool). a && b) (lt-ltb 0 (suc j) (omega arith)) (le-leb (suc j) (length bursts) (omega (arith, some))));
       last = sym (lt-leb (step_count bursts) (suc j + 1) more);
     }
 next_step bursts (suc j) [] within is =
     let place : suc j - 1 ≡ j = omega arith in
     let here : [] ≡ drop j bursts = is ∙ ap (λ (k : ℕ). drop k bursts) place in
-    let none = ap (λ (t : List (List (List ℕ))). length t) here in
+    let none = ap (λ (t : Bursts). length t) here in
     let rest = length-drop j bursts in
     let last : j ≡ length bursts = omega (arith, none, rest, within, length-steps bursts) in
     let past : step_count bursts ≤ suc j + 1 = omega (arith, length-steps bursts, last) in
@@ -142,7 +143,7 @@ next_step bursts (suc j) [] within is =
 
 -- ---- how many items
 
-count_step : (bursts : List (List (List ℕ))) (n : ℕ) → n < step_count bursts → read_items bursts (n + 1) ≡ read_items bursts n + length (step_items bursts n)
+count_step : (bursts : Bursts) (n : ℕ) → n < step_count bursts → read_items bursts (n + 1) ≡ read_items bursts n + length (step_items bursts n)
 count_step bursts n within =
     let step = get_or (read_steps bursts) n [] in
     let brought : length (input_after (n + 1) bursts) ≡ length (input_after n bursts) + length step =
@@ -166,7 +167,7 @@ open-not-failed p n false e = (refl, e)
 open-not-failed p n true e = cc e
 
 module _ (p : ReadPlan) (reads : ℕ) (failed : Bool) (r : InputView) (s : InputStands p reads failed r) (open_ : r.port.is_open ≡ true) where
-  abbrev bursts : List (List (List ℕ))
+  abbrev bursts : Bursts
   bursts = bursts_read p
 
   goes : (failed ≡ false) × (nat_lt reads (plan_steps p) ≡ true)

@@ -4,7 +4,7 @@ use Rattle.std.specs.List.{flat_map}
 use Rattle.pl_event.specs.declared.events.Event.TheVariants as event
 use Rattle.pl_event.specs.declared.envelopes.Item.{Item}
 use Rattle.pl_event.specs.declared.envelopes.Item.TheVariants as item
-use Rattle.pl_event.specs.Inputs.{burst_events}
+use Rattle.pl_event.specs.Inputs.{Bursts, burst_events}
 use Rattle.pl_context.specs.declared.ports.Port.{Port}
 use Rattle.pl_context.specs.Ports.{as_items, port_after}
 use Rattle.pl_head.specs.declared.inputs.ReadPlan.{ReadPlan}
@@ -15,7 +15,7 @@ use Rattle.pl_event.specs.declared.limits.TheConstants.{MAX_ITEMS}
 -- were made; and whether an abort comes after the bursts, in the place of the end.
 pub record InputView : Type 0 where
   pub port : Port
-  pub left : List (List (List ℕ))
+  pub left : Bursts
   pub steps : ℕ
   pub aborts : Bool
 
@@ -25,27 +25,27 @@ new_input channel p =
     record { port = record { lane = entrance channel; made = 0; is_open = true }; left = bursts_read p; steps = 0; aborts = is_aborted p }
 
 -- what the next step brings, by the count of steps made and the bursts that are left
-abbrev pub next_items : ℕ → List (List (List ℕ)) → List Item
+abbrev pub next_items : ℕ → Bursts → List Item
 next_items zero left = item.Event event.Active ∷ []
 next_items (suc n) [] = item.End ∷ []
-next_items (suc n) (chunks ∷ left) = as_items (burst_events chunks)
+next_items (suc n) (elements ∷ left) = as_items (burst_events elements)
 
 -- the bursts that are left after it
-abbrev pub left_after : ℕ → List (List (List ℕ)) → List (List (List ℕ))
+abbrev pub left_after : ℕ → Bursts → Bursts
 left_after zero left = left
 left_after (suc n) left = drop 1 left
 
 -- the next step is a burst
-abbrev pub burst_next : ℕ → List (List (List ℕ)) → Bool
+abbrev pub burst_next : ℕ → Bursts → Bool
 burst_next zero left = false
 burst_next (suc n) [] = false
-burst_next (suc n) (chunks ∷ left) = true
+burst_next (suc n) (elements ∷ left) = true
 
 -- no step is left but the end or the abort
-abbrev pub last_next : ℕ → List (List (List ℕ)) → Bool
+abbrev pub last_next : ℕ → Bursts → Bool
 last_next zero left = false
 last_next (suc n) [] = true
-last_next (suc n) (chunks ∷ left) = false
+last_next (suc n) (elements ∷ left) = false
 
 -- the next step is the abort
 abbrev pub abort_next : InputView → Bool
@@ -76,11 +76,11 @@ pub record InputStands (p : ReadPlan) (reads : ℕ) (failed : Bool) (r : InputVi
   pub is_open : r.port.is_open ≡ has_step p reads failed
 
 -- how many items are still to come, while the lane is open
-abbrev pub items_left : ℕ → List (List (List ℕ)) → ℕ
+abbrev pub items_left : ℕ → Bursts → ℕ
 items_left zero left = length (flat_map burst_events left) + 2
 items_left (suc n) left = length (flat_map burst_events left) + 1
 
 -- numbers stay in their bounds
-pub record IsInput (port : Port) (left : List (List (List ℕ))) (steps : ℕ) : Type 0 where
+pub record IsInput (port : Port) (left : Bursts) (steps : ℕ) : Type 0 where
   pub counts : steps ≤ port.made
   pub few : port.is_open ≡ true → port.made + items_left steps left < MAX_ITEMS

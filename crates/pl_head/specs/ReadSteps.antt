@@ -6,7 +6,7 @@ use Rattle.pl_event.specs.declared.envelopes.Item.{Item}
 use Rattle.pl_event.specs.declared.envelopes.Item.TheVariants as item
 use Rattle.pl_event.specs.declared.outcomes.Cause.{Cause}
 use Rattle.pl_event.specs.Hops.{data_lane}
-use Rattle.pl_event.specs.Inputs.{read_steps, input_after}
+use Rattle.pl_event.specs.Inputs.{Bursts, read_steps, input_after}
 use Rattle.pl_context.specs.Ports.{as_items}
 use Rattle.pl_head.specs.declared.inputs.ReadPlan.{ReadPlan}
 
@@ -15,33 +15,33 @@ abbrev pub entrance : ℕ → Lane
 entrance channel = data_lane channel 0
 
 -- how many read steps there are: the first, one for each burst, and the end
-abbrev pub step_count : List (List (List ℕ)) → ℕ
+abbrev pub step_count : Bursts → ℕ
 step_count bursts = length (read_steps bursts)
 
 abbrev pub end_if : Bool → List Item
 end_if b = if b then item.End ∷ [] else []
 
 -- the items that read step n brings, counted from 0: the last brings the end
-abbrev pub step_items : List (List (List ℕ)) → ℕ → List Item
+abbrev pub step_items : Bursts → ℕ → List Item
 step_items bursts n = as_items (slice_index_or (read_steps bursts) n []) ++ end_if (nat_le (step_count bursts) (n + 1))
 
 -- how many items the first n read steps bring
-abbrev pub read_items : List (List (List ℕ)) → ℕ → ℕ
+abbrev pub read_items : Bursts → ℕ → ℕ
 read_items bursts n = length (input_after n bursts) + (if nat_le (step_count bursts) n then 1 else 0)
 
 -- read step n is a burst
-abbrev pub is_burst : List (List (List ℕ)) → ℕ → Bool
+abbrev pub is_burst : Bursts → ℕ → Bool
 is_burst bursts n = nat_lt 0 n && nat_le n (length bursts)
 
 -- ---- with an abort
 
 -- all of these bursts, or as many as come before an abort
-abbrev pub bursts_before : Option ℕ → List (List (List ℕ)) → List (List (List ℕ))
+abbrev pub bursts_before : Option ℕ → Bursts → Bursts
 bursts_before None bursts = bursts
 bursts_before (Some count) bursts = take count bursts
 
 -- the bursts that are read
-abbrev pub bursts_read : ReadPlan → List (List (List ℕ))
+abbrev pub bursts_read : ReadPlan → Bursts
 bursts_read p = bursts_before p.abort_after p.bursts
 
 abbrev pub is_aborted : ReadPlan → Bool

@@ -135,7 +135,7 @@ impl<T: Transport> Head<T> {
         }
     }
 
-    /// Makes the next read step: the channel becomes active; then each burst comes, chunk by chunk, with its
+    /// Makes the next read step: the channel becomes active; then each burst comes, element by element, with its
     /// completion; then the end, or the abort. Its items are put on the data lane of the first hop. A burst is held, and
     /// nothing is put, while the channel is not writable and a flushed byte waits to be written. Once the head has failed
     /// by itself one read step is left where that lane is open: it gives the failure, and closes the lane.

@@ -11,25 +11,25 @@ ghost use Rattle.pl_head.specs.InputStand.{InputStands, new_input, next_items, l
 ghost use Rattle.pl_event.specs.declared.limits.TheConstants.{MAX_ITEMS};
 
 use pl_context::{Outputs, Port};
-use pl_event::{ByteString, Cause, Envelope, Event, Item, Kind, Message, Sequence};
+use pl_event::{Cause, Element, Envelope, Event, Item, Kind, Sequence};
 use std::marker::Model;
 
-/// What a channel is to read: bursts of chunks, and then the end; or, where it is aborted, as many of them as are to be
+/// What a channel is to read: bursts of elements, and then the end; or, where it is aborted, as many of them as are to be
 /// read before the abort. A count past the last burst counts as all.
 #[derive(Debug, Drop)]
 pub struct ReadPlan {
-    pub bursts: Sequence<Sequence<ByteString>>,
+    pub bursts: Sequence<Sequence<Element>>,
     pub abort_after: Option<u32>,
 }
 
 /// The recorded input of a channel: what is left of it, and the lane of the first hop, to which it is given.
 ///
-/// It takes no memory of its own: each chunk is moved into its event.
+/// It takes no memory of its own: the bytes of each chunk are moved into its event.
 #[derive(Debug, Drop)]
 pub(crate) struct Input {
     port: Port,
     /// The bursts that are left, the last first.
-    left: Vec<Sequence<ByteString>>,
+    left: Vec<Sequence<Element>>,
     steps: u64,
     /// An abort comes after the bursts, in the place of the end.
     aborts: bool,
@@ -126,8 +126,8 @@ impl Input {
 /// All of these bursts, or as many as come before an abort.
 fn bursts_before(
     abort_after: Option<u32>,
-    bursts: Sequence<Sequence<ByteString>>,
-) -> Vec<Sequence<ByteString>>
+    bursts: Sequence<Sequence<Element>>,
+) -> Vec<Sequence<Element>>
     ensures { result.items ≡ bursts_before abort_after bursts }
 {
     let mut left = bursts.into_vec();
@@ -138,12 +138,7 @@ fn bursts_before(
 }
 
 /// Gives the items of the next read step to a lane: the bursts that are left stand the last first.
-fn put_next(
-    port: &mut Port,
-    left: &mut Vec<Sequence<ByteString>>,
-    steps: u64,
-    outputs: &mut Outputs,
-)
+fn put_next(port: &mut Port, left: &mut Vec<Sequence<Element>>, steps: u64, outputs: &mut Outputs)
     requires open { port.old.is_open ≡ true }
     requires place { HasPlaces outputs.old.stopped (port.old.lane ∷ []) }
     requires few { port.old.made + items_left steps (reverse left.old.items) < MAX_ITEMS }
@@ -156,7 +151,7 @@ fn put_next(
         return;
     }
     match left.pop() {
-        Some(chunks) => put_burst(port, chunks.into_vec(), outputs),
+        Some(elements) => put_burst(port, elements.into_vec(), outputs),
         None => {
             put_item(port, Item::End, outputs);
             port.is_open = false;
@@ -180,21 +175,17 @@ fn put_item(port: &mut Port, item: Item, outputs: &mut Outputs)
     port.made += 1;
 }
 
-/// Gives a burst to a lane: a read of each chunk, and then its completion.
-fn put_burst(port: &mut Port, chunks: Vec<ByteString>, outputs: &mut Outputs)
+/// Gives a burst to a lane: its elements in order, a chunk as a read, and then its completion.
+fn put_burst(port: &mut Port, elements: Vec<Element>, outputs: &mut Outputs)
     requires place { HasPlaces outputs.old.stopped (port.old.lane ∷ []) }
-    requires small { port.old.made + length (burst_events chunks.items) < 2 ^ 40 }
-    ensures port { port.new ≡ record port.old { made = port.old.made + length (burst_events chunks.items) } }
-    ensures puts { PutsAll outputs.old (numbered port.old.lane port.old.made (as_items (burst_events chunks.items))) outputs.new }
+    requires small { port.old.made + length (burst_events elements.items) < 2 ^ 40 }
+    ensures port { port.new ≡ record port.old { made = port.old.made + length (burst_events elements.items) } }
+    ensures puts { PutsAll outputs.old (numbered port.old.lane port.old.made (as_items (burst_events elements.items))) outputs.new }
 {
-    let mut left = chunks;
+    let mut left = elements;
     left.reverse();
-    while let Some(chunk) = left.pop() {
-        put_item(
-            port,
-            Item::Event(Event::Read(Message::Bytes(chunk))),
-            outputs,
-        );
+    while let Some(element) = left.pop() {
+        put_item(port, Item::Event(element.into_event()), outputs);
     }
     put_item(port, Item::Event(Event::ReadComplete), outputs);
 }

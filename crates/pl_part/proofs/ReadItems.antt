@@ -9,7 +9,7 @@ use Rattle.pl_event.specs.declared.events.Event.{Event}
 use Rattle.pl_event.specs.declared.events.Event.TheVariants as event
 use Rattle.pl_event.specs.declared.envelopes.Kind.TheVariants.{Data}
 use Rattle.pl_event.specs.declared.envelopes.Lane.{Lane}
-use Rattle.pl_event.specs.Inputs.{burst_events, recorded_input, read_steps, input_after}
+use Rattle.pl_event.specs.Inputs.{Bursts, burst_events, recorded_input, read_steps, input_after}
 use Rattle.pl_event.specs.Worlds.{World, content_of}
 use Rattle.pl_event.proofs.LaneLemmas.{input_after-prefix, input_after-all}
 use Rattle.pl_flow.specs.Makes.{AreGood}
@@ -26,14 +26,14 @@ whole step = step
 -- ---- the bursts before an abort
 
 -- they bring the first events of all
-rest-of : (count : Option ℕ) (bursts : List (List (List ℕ))) → (more : List Event) × (recorded_input (bursts_before count bursts) ++ more ≡ recorded_input bursts)
+rest-of : (count : Option ℕ) (bursts : Bursts) → (more : List Event) × (recorded_input (bursts_before count bursts) ++ more ≡ recorded_input bursts)
 rest-of None bursts = ([], append-nil (recorded_input bursts))
 rest-of (Some n) bursts = (
   flat_map burst_events (drop n bursts),
   ap (λ (es : List Event). event.Active ∷ es) (sym (flat_map-append burst_events (take n bursts) (drop n bursts)) ∙ ap (flat_map burst_events) (take-append-drop n bursts)),
 )
 
-all-of : (count : Option ℕ) (bursts : List (List (List ℕ))) → is_some count ≡ false → bursts_before count bursts ≡ bursts
+all-of : (count : Option ℕ) (bursts : Bursts) → is_some count ≡ false → bursts_before count bursts ≡ bursts
 all-of None bursts e = refl
 all-of (Some n) bursts e = absurd (both_ways true e refl)
 
@@ -54,7 +54,7 @@ items-most p n =
 -- ---- one step
 
 module _ (p : ReadPlan) (n : ℕ) (within : n < plan_steps p) where
-  abbrev bursts : List (List (List ℕ))
+  abbrev bursts : Bursts
   bursts = bursts_read p
 
   abbrev step : List Event

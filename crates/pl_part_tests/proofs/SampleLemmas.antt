@@ -13,7 +13,7 @@ use Rattle.pl_event.specs.declared.envelopes.Lane.{Lane}
 use Rattle.pl_event.specs.declared.stages.Direction.{Direction}
 use Rattle.pl_event.specs.declared.stages.Direction.TheVariants.{Inbound, Outbound, Turn}
 use Rattle.pl_event.specs.Hops.{same_lane, same_kind, data_lane}
-use Rattle.pl_event.specs.Inputs.{recorded_input}
+use Rattle.pl_event.specs.Inputs.{Bursts, recorded_input}
 use Rattle.pl_event.specs.Meaning.{up_of, down_of}
 use Rattle.pl_event.specs.Worlds.{World}
 use Rattle.pl_context.specs.ContextViews.{ContextView, kind_taken, taken_of}
@@ -233,7 +233,7 @@ head-holds plan h bursts new = new-holds memory_state plan 7 4 h new sample_worl
       few = omega arith;
       input = ap (λ bs. Some (recorded_input bs)) (sym bursts);
     })
-    (subst (λ (bs : List (List (List ℕ))). length (recorded_input bs) + 1 < 2 ^ 31) (sym bursts) (omega arith))
+    (subst (λ (bs : Bursts). length (recorded_input bs) + 1 < 2 ^ 31) (sym bursts) (omega arith))
 
 -- ---- all of it
 

@@ -1,9 +1,10 @@
 -- The part of the tests: its nodes, its world, and how it stands with its work list.
-use Rattle.std.specs.Prelude.{◌≡◌, ℕ, List, [], ◌∷◌, true, false, map, is_some, Option}
+use Rattle.std.specs.Prelude.{◌≡◌, List, [], ◌∷◌, true, false, map, is_some, Option}
 use Rattle.pl_event.specs.declared.events.Event.{Event}
 use Rattle.pl_event.specs.declared.stages.Direction.TheVariants.{Inbound, Outbound, Turn}
 use Rattle.pl_event.specs.Hops.{data_lane}
-use Rattle.pl_event.specs.Inputs.{recorded_input}
+use Rattle.pl_event.specs.declared.elements.Element.TheVariants.{Chunk}
+use Rattle.pl_event.specs.Inputs.{Bursts, recorded_input}
 use Rattle.pl_event.specs.Meaning.{Meaning, up_of, down_of}
 use Rattle.pl_event.specs.Worlds.{World, carrying}
 use Rattle.pl_context.specs.ContextViews.{ContextView}
@@ -22,8 +23,8 @@ abbrev pub anywhere : Relay → List Event → Type 0
 anywhere s xs = Unit {0}
 
 -- the one burst, of one chunk, the text ab
-abbrev pub sample_bursts : List (List (List ℕ))
-sample_bursts = ((97 ∷ 98 ∷ []) ∷ []) ∷ []
+abbrev pub sample_bursts : Bursts
+sample_bursts = (Chunk (97 ∷ 98 ∷ []) ∷ []) ∷ []
 
 -- what comes to the first hop in all
 abbrev pub sample_events : List Event

@@ -8,7 +8,9 @@ ghost use Rattle.pl_part_tests.specs.SampleParts.{IsSample, IsReady, sample_burs
 ghost use Rattle.pl_part_tests.specs.Relays.{relaying, relaying-lawful, passed_up, passed_down};
 
 use pl_context::Outputs;
-use pl_event::{ByteString, Direction, Event, Sequence, Stage, StageFault, Stepped, Turned};
+use pl_event::{
+    ByteString, Direction, Element, Event, Sequence, Stage, StageFault, Stepped, Turned,
+};
 use pl_head::{Head, MemoryTransport, ReadPlan};
 use pl_part::ChannelPart;
 use std::alloc::{AllocError, Global};
@@ -104,8 +106,9 @@ pub(crate) const NO_FAULTS: Faults = Faults {
 fn sample_plan(alloc: Global, abort_after: Option<u32>) -> Result<ReadPlan, AllocError>
     ensures { IfOk result (λ plan. plan.bursts ≡ sample_bursts) }
 {
-    let chunks = vec![in alloc; ByteString::from_vec(Vec::from_slice(alloc, b"ab")?)]?;
-    let bursts = vec![in alloc; Sequence::from_vec(chunks)]?;
+    let text = ByteString::from_vec(Vec::from_slice(alloc, b"ab")?);
+    let elements = vec![in alloc; Element::Chunk(text)]?;
+    let bursts = vec![in alloc; Sequence::from_vec(elements)]?;
     Ok(ReadPlan {
         bursts: Sequence::from_vec(bursts),
         abort_after,

@@ -1,6 +1,7 @@
 -- One channel that is built is one channel of the definition.
 use Rattle.std.proofs.Common.{◌≡◌, ◌≢◌, ℕ, List, [], ◌∷◌, ◌++◌, map, Option, Some, None, Result, Ok, Err, sym, refl, ap, subst, ◌∙◌, unwrap_or}
 use Rattle.pl_event.specs.Meaning.{Meaning}
+use Rattle.pl_event.specs.Inputs.{Bursts}
 use Rattle.pl_event.specs.Paths.{inbound_chain, outbound_chain}
 use Rattle.pl_build.specs.declared.named_stages.NamedStage.{NamedStage}
 use Rattle.pl_build.specs.declared.faults.BuildFault.{BuildFault}
@@ -51,7 +52,7 @@ module _ {S T : Type 0} (meaning : S → Meaning) (state : T → TransportState)
       (then_err (unless (building_fault (λ m. m) sizes (meant meaning new.handlers))) _ f
       (ap unless (building_fault-meant meaning sizes new.handlers) ∙ unless_some (building_fault meaning sizes new.handlers) f is other)))
 
-  plan_of_parts : List Meaning → List Meaning → List ℕ → ℕ → ℕ → Option ℕ → Option ℕ → List (List (List ℕ)) → Option ℕ → ChannelPlan
+  plan_of_parts : List Meaning → List Meaning → List ℕ → ℕ → ℕ → Option ℕ → Option ℕ → Bursts → Option ℕ → ChannelPlan
   plan_of_parts i o e l h w f r t = record { inbound = i; outbound = o; executors = e; low = l; high = h; window = w; fail_at = f; bursts = r; abort_after = t }
 
   plan_is : (a b : ChannelPlan) → a.inbound ≡ b.inbound → a.outbound ≡ b.outbound → a.executors ≡ b.executors → a.low ≡ b.low → a.high ≡ b.high → a.window ≡ b.window → a.fail_at ≡ b.fail_at → a.bursts ≡ b.bursts → a.abort_after ≡ b.abort_after → a ≡ b
@@ -64,7 +65,7 @@ module _ {S T : Type 0} (meaning : S → Meaning) (state : T → TransportState)
       ∙ ap (λ (x : ℕ). plan_of_parts b.inbound b.outbound b.executors b.low x a.window a.fail_at a.bursts a.abort_after) h
       ∙ ap (λ (x : Option ℕ). plan_of_parts b.inbound b.outbound b.executors b.low b.high x a.fail_at a.bursts a.abort_after) w
       ∙ ap (λ (x : Option ℕ). plan_of_parts b.inbound b.outbound b.executors b.low b.high b.window x a.bursts a.abort_after) f
-      ∙ ap (λ (x : List (List (List ℕ))). plan_of_parts b.inbound b.outbound b.executors b.low b.high b.window b.fail_at x a.abort_after) r
+      ∙ ap (λ (x : Bursts). plan_of_parts b.inbound b.outbound b.executors b.low b.high b.window b.fail_at x a.abort_after) r
       ∙ ap (λ (x : Option ℕ). plan_of_parts b.inbound b.outbound b.executors b.low b.high b.window b.fail_at b.bursts x) t
 
   pub channel_is_built : (before after : GroupsView) (channel : ChannelOutline) (old new : PipelineBuilderView S) (path : PlacedView S) (transport : T) (u : Unit {0})

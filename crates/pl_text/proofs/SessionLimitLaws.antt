@@ -6,6 +6,7 @@ use Rattle.std.proofs.lemmas.Bool.{le-leb}
 use Rattle.std.proofs.lemmas.Bool.Decides.{nat_tests}
 use Rattle.serde_json.specs.Data.{Data}
 use Rattle.serde_json.specs.Find.{get}
+use Rattle.pl_event.specs.Inputs.{Bursts}
 use Rattle.pl_build.specs.declared.limits.TheConstants.{MAX_EXECUTORS, DEFAULT_LOW, DEFAULT_HIGH}
 use Rattle.pl_world.specs.declared.limits.TheConstants.{MAX_BURSTS, MAX_CAPACITY, MAX_CHANNELS}
 use Rattle.pl_stages.specs.declared.limits.TheConstants.{MAX_LINE, MAX_FLUSHES, MAX_FRAME}
@@ -25,7 +26,7 @@ use Rattle.pl_text.specs.declared.session_text.outline.Edit.TheVariants.{First, 
 use Rattle.pl_text.specs.declared.session_text.outline.ChannelOutline.{ChannelOutline}
 use Rattle.pl_text.specs.declared.session_text.outline.Outline.{Outline}
 use Rattle.pl_text.specs.SessionReading.{◌>>=◌, known, whole, whole_in, between, text, an_object, required, optional, present, read_or, each, elements_of, of_length, array_in, array_of}
-use Rattle.pl_text.specs.SessionChannels.{operation_in, lines_in, flush_every_in, known_width, width_in, length_in, prepend_in, handler_named, handler_in, addition_in, edit_of, edit_in, mark_in, window_in, fail_at_in, chunk_in, limited, bursts_in, abort_after_in, channel_in}
+use Rattle.pl_text.specs.SessionChannels.{operation_in, lines_in, flush_every_in, known_width, width_in, length_in, prepend_in, handler_named, handler_in, addition_in, edit_of, edit_in, mark_in, window_in, fail_at_in, element_in, limited, bursts_in, abort_after_in, channel_in}
 use Rattle.pl_text.specs.SessionOutlines.{IsHandlerWithin, IsEditWithin, IsCallWithin, IsChannelOutlineWithin, IsOutlineWithin, version_in, groups_in, outline_in}
 
 -- ---- results
@@ -200,12 +201,12 @@ unfolding window_in
 window_in-within d window h =
     with_default-within (λ (n : ℕ). (1 ≤ n) × (n ≤ MAX_WINDOW)) (whole_in 1 MAX_WINDOW) DEFAULT_WINDOW (present (codes "window") d) window (omega arith, omega arith) (whole_in-within 1 MAX_WINDOW) h
 
-bursts_in-within : (version : Version) (d : Data) (bursts : List (List (List ℕ))) → bursts_in version d ≡ Ok bursts → fits bursts ≡ true
+bursts_in-within : (version : Version) (d : Data) (bursts : Bursts) → bursts_in version d ≡ Ok bursts → fits bursts ≡ true
 unfolding bursts_in
 bursts_in-within version d bursts h =
-    let p = bind-ok (array_in 0 MAX_BURSTS (array_of (chunk_in version)) d) limited bursts h in
+    let p = bind-ok (array_in 0 MAX_BURSTS (array_of (element_in version)) d) limited bursts h in
     let within = choice-ok _ _ _ _ p.2 in
-    subst (λ (t : List (List (List ℕ))). fits t ≡ true) within.1 within.0
+    subst (λ (t : Bursts). fits t ≡ true) within.1 within.0
 
 -- a number of which there may be none
 optional-within : (Q : Option ℕ → Type 0) (name : List ℕ) (low high : ℕ) (d : Data) (number : Option ℕ)

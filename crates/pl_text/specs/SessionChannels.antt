@@ -3,6 +3,9 @@ use Rattle.std.specs.Prelude.{ℕ, Bool, true, false, ◌&&◌, List, length, Op
 use Rattle.std.specs.Result.{result_ok}
 use Rattle.hex.specs.Hex.{decode_of}
 use Rattle.serde_json.specs.Data.{Data}
+use Rattle.pl_event.specs.declared.elements.Element.{Element}
+use Rattle.pl_event.specs.declared.elements.Element.TheVariants.{Chunk}
+use Rattle.pl_event.specs.Inputs.{Bursts}
 use Rattle.pl_build.specs.declared.limits.TheConstants.{MAX_MARK, DEFAULT_LOW, DEFAULT_HIGH}
 use Rattle.pl_world.specs.declared.limits.TheConstants.{MAX_BURSTS}
 use Rattle.pl_world.specs.Limits.{fits}
@@ -141,12 +144,16 @@ unfoldable pub chunk_in : Version → Data → Result (List ℕ) SessionFault
 chunk_in One d = text d
 chunk_in Two d = text d >>= hex_decoded
 
--- the limits on chunks and bytes come after all bursts
-abbrev pub limited : List (List (List ℕ)) → Result (List (List (List ℕ))) SessionFault
+-- an element of a burst is a chunk
+unfoldable pub element_in : Version → Data → Result Element SessionFault
+element_in version d = chunk_in version d >>= λ bytes. Ok (Chunk bytes)
+
+-- the limits on elements and bytes come after all bursts
+abbrev pub limited : Bursts → Result Bursts SessionFault
 limited bursts = if fits bursts then Ok bursts else Err Limit
 
-unfoldable pub bursts_in : Version → Data → Result (List (List (List ℕ))) SessionFault
-bursts_in version d = array_in 0 MAX_BURSTS (array_of (chunk_in version)) d >>= limited
+unfoldable pub bursts_in : Version → Data → Result Bursts SessionFault
+bursts_in version d = array_in 0 MAX_BURSTS (array_of (element_in version)) d >>= limited
 
 -- after how many of the bursts it is aborted, if it is
 unfoldable pub abort_after_in : ℕ → Data → Result (Option ℕ) SessionFault

@@ -11,8 +11,8 @@ ghost use Rattle.pl_text.specs.SessionTexts.{session_of};
 
 mod building;
 mod channels;
-mod chunks;
 mod edits;
+mod elements;
 mod limits;
 mod names;
 mod outline;
@@ -33,7 +33,7 @@ use std::alloc::Global;
 
 /// Reads a session from its text, which is JSON of version 1 or 2.
 ///
-/// Each session that is read is within the limits of its numbers, handlers, bursts, chunks, bytes and lanes. The first
+/// Each session that is read is within the limits of its numbers, handlers, bursts, elements, bytes and lanes. The first
 /// fault in reading order is the answer: a text of more than `MAX_SESSION_TEXT` bytes is `Limit`, one that is not JSON
 /// `NotJson`. Then the members are read in the order of the tables of `docs/FORMATS.md`, "Session", of an array its length
 /// first and then each element wholly before the next. After all members the groups are made, and for each channel in

@@ -3,6 +3,7 @@
 use crate::fault_texts::assert_told;
 use crate::ping::PING_SESSION;
 use pl_build::BuildFault;
+use pl_event::{ByteString, Element};
 use pl_head::MemoryTransport;
 use pl_stages::Handler;
 use pl_text::{MAX_SESSION_TEXT, SessionFault, read_session};
@@ -64,21 +65,38 @@ fn ping_session(rt: HostRuntime) -> Result<(), Fail> {
     assert!(rt; session.capacity == 4 && session.world.executors() == 1);
     let channels = session.world.channels();
     assert_eq!(rt; channels.len(), 1);
-    assert_ping(&rt, &channels[0]);
-    Ok(())
+    assert_ping(&rt, &channels[0])
 }
 
 /// The channel of that session.
-fn assert_ping(rt: &impl Abort, channel: &Recorded<Handler, MemoryTransport>) {
+fn assert_ping(
+    rt: &(impl Abort + AllocGlobal),
+    channel: &Recorded<Handler, MemoryTransport>,
+) -> Result<(), Fail> {
     let pipeline = &channel.pipeline;
     assert!(rt; pipeline.inbound() == 3 && pipeline.outbound() == 2);
     assert!(rt; pipeline.low() == 32_768 && pipeline.high() == 65_536);
+    let burst = vec![in rt.alloc(); chunk(rt, b"PING\r\n")?]?;
+    assert_burst(rt, channel, burst.as_slice());
+    assert_fails(rt, channel, None, None);
+    Ok(())
+}
+
+/// A chunk of these bytes.
+pub(crate) fn chunk(rt: &impl AllocGlobal, bytes: &[u8]) -> Result<Element, Fail> {
+    let bytes = Vec::from_slice(rt.alloc(), bytes)?;
+    Ok(Element::Chunk(ByteString::from_vec(bytes)))
+}
+
+/// A channel has one burst, of these elements.
+pub(crate) fn assert_burst(
+    rt: &impl Abort,
+    channel: &Recorded<Handler, MemoryTransport>,
+    elements: &[Element],
+) {
     let bursts = channel.input.bursts.as_slice();
     assert_eq!(rt; bursts.len(), 1);
-    let chunks = bursts[0].as_slice();
-    assert_eq!(rt; chunks.len(), 1);
-    assert_eq!(rt; chunks[0].as_slice(), b"PING\r\n".as_slice());
-    assert_fails(rt, channel, None, None);
+    assert_eq!(rt; bursts[0].as_slice(), elements);
 }
 
 /// A channel fails at this call of its transport, and is aborted after so many bursts.
@@ -745,7 +763,7 @@ fn text_too_long(rt: HostRuntime) -> Result<(), Fail> {
     Ok(())
 }
 
-/// The number of bursts comes before them, and the chunks and bytes after them, before an abort.
+/// The number of bursts comes before them, and the elements and bytes after them, before an abort.
 #[test]
 fn burst_order(rt: HostRuntime) -> Result<(), Fail> {
     for (begin, part, copies, end, fault) in [

@@ -1,6 +1,9 @@
 //! Session texts of version 2: chunks in hex, and handlers of frames with their length in front.
 
-use crate::session_text::{KIND, LIMIT, MISSING, SERVICE, assert_answer, assert_fails};
+use crate::session_text::{
+    KIND, LIMIT, MISSING, SERVICE, assert_answer, assert_burst, assert_fails, chunk,
+};
+use pl_event::Element;
 use pl_text::{SessionFault, read_session};
 use std::process::Abort;
 use std::test::Fail;
@@ -40,16 +43,18 @@ fn assert_handlers(
     Ok(())
 }
 
-/// A session in version 2 whose only burst is of this chunk has these bytes.
-fn assert_chunk(rt: &(impl Abort + AllocGlobal), chunk: &str, bytes: &[u8]) -> Result<(), Fail> {
-    let bursts = format!(in rt.alloc(); "[[\"{chunk}\"]]")?;
+/// A session in version 2 with a burst of this text reads it as these elements.
+fn assert_elements(
+    rt: &(impl Abort + AllocGlobal),
+    burst: &str,
+    elements: &[Element],
+) -> Result<(), Fail> {
+    let bursts = format!(in rt.alloc(); "[{burst}]")?;
     let text = versioned(rt, "2", SERVICE, bursts.as_str())?;
     let session = read_session(rt.alloc(), text.as_str())?;
     let channels = session.world.channels();
-    assert!(rt; channels.len() == 1 && channels[0].input.bursts.len() == 1);
-    let chunks = channels[0].input.bursts.as_slice()[0].as_slice();
-    assert_eq!(rt; chunks.len(), 1);
-    assert!(rt; chunks[0].as_slice() == bytes, "of {chunk}");
+    assert_eq!(rt; channels.len(), 1);
+    assert_burst(rt, &channels[0], elements);
     Ok(())
 }
 
@@ -63,7 +68,7 @@ const FRAMES: &str = r#"
 
 #[test]
 fn version_two(rt: HostRuntime) -> Result<(), Fail> {
-    for (chunk, bytes) in [
+    for (digits, bytes) in [
         ("", b"".as_slice()),
         ("00", b"\x00"),
         ("0450", b"\x04P"),
@@ -71,7 +76,9 @@ fn version_two(rt: HostRuntime) -> Result<(), Fail> {
         ("494e47", b"ING"),
         ("aBCdeF09fF", b"\xab\xcd\xef\x09\xff"),
     ] {
-        assert_chunk(&rt, chunk, bytes)?;
+        let burst = format!(in rt.alloc(); "[\"{digits}\"]")?;
+        let elements = vec![in rt.alloc(); chunk(&rt, bytes)?]?;
+        assert_elements(&rt, burst.as_str(), elements.as_slice())?;
     }
     for (members, inbound, outbound) in [
         (r#""kind":"length","width":2,"max":64"#, 2, 0),

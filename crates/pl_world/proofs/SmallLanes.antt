@@ -1,5 +1,5 @@
--- The lanes of stages that make no more than they take are small, since each byte of the input makes few events. Built-in
--- handlers are such stages.
+-- The lanes of stages that make no more than they take are small, since each element and each byte of the input makes few
+-- events. Built-in handlers are such stages.
 use Rattle.std.proofs.Common.{◌≡◌, get_or, ℕ, zero, suc, ◌+◌, ◌-◌, ◌*◌, ◌<◌, ◌≤◌, ◌&&◌, nat_le, Bool, true, false, cond, leb, List, [], ◌∷◌, length, take, map, sum_by, ap, ◌∙◌, refl, arith}
 use Rattle.std.specs.Prelude.{All}
 use Rattle.std.specs.List.{flat_map}
@@ -8,13 +8,14 @@ use Rattle.std.proofs.lemmas.Bool.{and_parts, leb-true}
 use Rattle.std.proofs.lemmas.List.Elements.{All-head, All-tail, All-map}
 use Rattle.std.proofs.lemmas.List.Sums.{sum_by-cons, sum_by-append}
 use Rattle.pl_event.specs.declared.events.Event.{Event}
-use Rattle.pl_event.specs.declared.events.Event.TheVariants.{Active, Read, ReadComplete}
-use Rattle.pl_event.specs.declared.events.Message.TheVariants.{Bytes}
+use Rattle.pl_event.specs.declared.events.Event.TheVariants.{Active, ReadComplete}
+use Rattle.pl_event.specs.declared.elements.Element.{Element}
+use Rattle.pl_event.specs.declared.elements.Element.TheVariants.{Chunk}
 use Rattle.pl_event.specs.declared.stages.Direction.{Direction}
 use Rattle.pl_event.specs.declared.stages.Direction.TheVariants.{Inbound, Outbound, Turn}
 use Rattle.pl_event.specs.Meaning.{Meaning, up_of, down_of}
 use Rattle.pl_event.specs.Paths.{is_outbound}
-use Rattle.pl_event.specs.Inputs.{burst_events, recorded_input}
+use Rattle.pl_event.specs.Inputs.{Bursts, element_event, element_size, burst_events, recorded_input}
 use Rattle.pl_event.specs.Lanes.{lane, through, out_through, written}
 use Rattle.pl_event.proofs.Lists.{All-from_list_all}
 use Rattle.pl_stages.specs.Counts.{IsThrifty, event_weight, weight}
@@ -28,35 +29,38 @@ use Rattle.pl_head.specs.Transports.{TransportState}
 use Rattle.pl_world.specs.declared.session.Recorded.{Recorded}
 use Rattle.pl_world.specs.Plans.{channel_planned}
 use Rattle.pl_world.specs.PlanRules.{IsSmallChannel}
-use Rattle.pl_world.specs.declared.limits.TheConstants.{MAX_BURSTS, MAX_CHUNKS, MAX_BYTES}
-use Rattle.pl_world.specs.Limits.{chunk_count, byte_count, fits, aborts_within, input_fits}
+use Rattle.pl_world.specs.declared.limits.TheConstants.{MAX_BURSTS, MAX_ELEMENTS, MAX_BYTES}
+use Rattle.pl_world.specs.Limits.{element_count, byte_count, fits, aborts_within, input_fits}
 use Rattle.pl_world.specs.Worlds.{HaveSmallLanes}
 use Rattle.pl_world.proofs.WorldLimits.{Inputs, all_recorded, all_any, within_parts}
 use Rattle.pl_event.specs.declared.limits.TheConstants.{MAX_ITEMS}
 
 -- ---- the recorded input
 
-chunks_weight : (chunks : List (List ℕ)) → weight (map (λ chunk. Read (Bytes chunk)) chunks) ≡ length chunks + sum_by length chunks
-chunks_weight [] = refl
-chunks_weight (chunk ∷ chunks) =
-    let more = sum_by-cons length chunk chunks in
-    let event = sum_by-cons event_weight (Read (Bytes chunk)) (map (λ c. Read (Bytes c)) chunks) in
-    omega (arith, more, event, chunks_weight chunks)
+element_weight : (element : Element) → event_weight (element_event element) ≡ element_size element + 1
+element_weight (Chunk bytes) = omega arith
 
-burst_weight : (chunks : List (List ℕ)) → weight (burst_events chunks) ≡ length chunks + sum_by length chunks + 1
-burst_weight chunks =
-    let split = sum_by-append event_weight (map (λ chunk. Read (Bytes chunk)) chunks) (ReadComplete ∷ []) in
-    omega (arith, split, chunks_weight chunks)
+elements_weight : (elements : List Element) → weight (map element_event elements) ≡ length elements + sum_by element_size elements
+elements_weight [] = refl
+elements_weight (element ∷ elements) =
+    let more = sum_by-cons element_size element elements in
+    let event = sum_by-cons event_weight (element_event element) (map element_event elements) in
+    omega (arith, more, event, element_weight element, elements_weight elements)
 
-bursts_weight : (bursts : List (List (List ℕ))) → weight (flat_map burst_events bursts) ≡ chunk_count bursts + byte_count bursts + length bursts
+burst_weight : (elements : List Element) → weight (burst_events elements) ≡ length elements + sum_by element_size elements + 1
+burst_weight elements =
+    let split = sum_by-append event_weight (map element_event elements) (ReadComplete ∷ []) in
+    omega (arith, split, elements_weight elements)
+
+bursts_weight : (bursts : Bursts) → weight (flat_map burst_events bursts) ≡ element_count bursts + byte_count bursts + length bursts
 bursts_weight [] = refl
-bursts_weight (chunks ∷ bursts) =
-    let counts : chunk_count (chunks ∷ bursts) ≡ length chunks + chunk_count bursts = sum_by-cons length chunks bursts in
-    let sizes : byte_count (chunks ∷ bursts) ≡ sum_by length chunks + byte_count bursts = sum_by-cons (sum_by length) chunks bursts in
-    let split = ap weight (flat_map-cons burst_events chunks bursts) ∙ sum_by-append event_weight (burst_events chunks) (flat_map burst_events bursts) in
-    omega (arith, counts, sizes, split, burst_weight chunks, bursts_weight bursts)
+bursts_weight (elements ∷ bursts) =
+    let counts : element_count (elements ∷ bursts) ≡ length elements + element_count bursts = sum_by-cons length elements bursts in
+    let sizes : byte_count (elements ∷ bursts) ≡ sum_by element_size elements + byte_count bursts = sum_by-cons (sum_by element_size) elements bursts in
+    let split = ap weight (flat_map-cons burst_events elements bursts) ∙ sum_by-append event_weight (burst_events elements) (flat_map burst_events bursts) in
+    omega (arith, counts, sizes, split, burst_weight elements, bursts_weight bursts)
 
-input_weight : (bursts : List (List (List ℕ))) → weight (recorded_input bursts) ≡ chunk_count bursts + byte_count bursts + length bursts + 1
+input_weight : (bursts : Bursts) → weight (recorded_input bursts) ≡ element_count bursts + byte_count bursts + length bursts + 1
 input_weight bursts =
     let active = sum_by-cons event_weight Active (flat_map burst_events bursts) in
     omega (arith, active, bursts_weight bursts)
@@ -113,16 +117,16 @@ lane_small inbound outbound xs hop thrifty below out =
     ]
 
 -- each lane has few items, where the bursts are within their limits
-pub lanes_small : (inbound outbound : List Meaning) (bursts : List (List (List ℕ))) → All IsThrifty inbound → All IsThrifty outbound → All (λ m. m.direction ≡ Outbound) outbound → fits bursts ≡ true
+pub lanes_small : (inbound outbound : List Meaning) (bursts : Bursts) → All IsThrifty inbound → All IsThrifty outbound → All (λ m. m.direction ≡ Outbound) outbound → fits bursts ≡ true
     → (hop : ℕ) → length (lane inbound outbound (recorded_input bursts) hop) + 1 < MAX_ITEMS
 lanes_small inbound outbound bursts thrifty below out within hop =
     let size = input_weight bursts in
     let h = lane_small inbound outbound (recorded_input bursts) hop thrifty below out in
     let few = nat_le (length bursts) MAX_BURSTS in
-    let short = nat_le (chunk_count bursts) MAX_CHUNKS in
+    let short = nat_le (element_count bursts) MAX_ELEMENTS in
     let parts = and_parts (few && short) (nat_le (byte_count bursts) MAX_BYTES) within in
     let counts = and_parts few short parts.0 in
-    omega (arith, size, h, leb-true (length bursts) MAX_BURSTS counts.0, leb-true (chunk_count bursts) MAX_CHUNKS counts.1, leb-true (byte_count bursts) MAX_BYTES parts.1)
+    omega (arith, size, h, leb-true (length bursts) MAX_BURSTS counts.0, leb-true (element_count bursts) MAX_ELEMENTS counts.1, leb-true (byte_count bursts) MAX_BYTES parts.1)
 
 -- an input that fits has bursts that do
 pub bursts_fit : (input : ReadPlan) → input_fits input ≡ true → fits input.bursts ≡ true

@@ -1,22 +1,23 @@
 -- The limits of a world (docs/FORMATS.md, "Session").
 use Rattle.std.specs.Prelude.{ℕ, ◌==◌, ◌&&◌, List, length, Bool, true, nat_le, nat_lt, sum_by, Option, Some, None}
 use Rattle.std.specs.List.{list_all}
+use Rattle.pl_event.specs.Inputs.{Bursts, element_size}
 use Rattle.pl_build.specs.Pipelines.{PlacedView}
 use Rattle.pl_head.specs.declared.inputs.ReadPlan.{ReadPlan}
 use Rattle.pl_build.specs.declared.limits.TheConstants.{MAX_EXECUTORS}
-use Rattle.pl_world.specs.declared.limits.TheConstants.{MAX_CHANNELS, MAX_BURSTS, MAX_CHUNKS, MAX_BYTES}
+use Rattle.pl_world.specs.declared.limits.TheConstants.{MAX_CHANNELS, MAX_BURSTS, MAX_ELEMENTS, MAX_BYTES}
 
--- how many chunks a channel's bursts have, and how many bytes those have
-abbrev pub chunk_count : List (List (List ℕ)) → ℕ
-chunk_count bursts = sum_by length bursts
+-- how many elements a channel's bursts have, and how many bytes those bring
+abbrev pub element_count : Bursts → ℕ
+element_count bursts = sum_by length bursts
 
-abbrev pub byte_count : List (List (List ℕ)) → ℕ
-byte_count bursts = sum_by (sum_by length) bursts
+abbrev pub byte_count : Bursts → ℕ
+byte_count bursts = sum_by (sum_by element_size) bursts
 
 -- the bursts of a channel are within their limits
-abbrev pub fits : List (List (List ℕ)) → Bool
+abbrev pub fits : Bursts → Bool
 fits bursts =
-    nat_le (length bursts) MAX_BURSTS && nat_le (chunk_count bursts) MAX_CHUNKS && nat_le (byte_count bursts) MAX_BYTES
+    nat_le (length bursts) MAX_BURSTS && nat_le (element_count bursts) MAX_ELEMENTS && nat_le (byte_count bursts) MAX_BYTES
 
 -- an abort comes after at most so many bursts
 abbrev pub aborts_within : Option ℕ → ℕ → Bool

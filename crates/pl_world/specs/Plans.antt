@@ -1,10 +1,10 @@
 -- What a world plans: the capacity of its queues, its executors, and its channels, each with its path, its marks, its
--- transport's window and the call that it is to fail at, its bursts of chunks, and how many of them come before an abort, if
--- there is one.
+-- transport's window and the call that it is to fail at, its bursts of elements, and how many of them come before an abort,
+-- if there is one.
 use Rattle.std.specs.Prelude.{ℕ, ◌+◌, List, length, map, Option}
 use Rattle.pl_event.specs.declared.events.Event.{Event}
 use Rattle.pl_event.specs.Meaning.{Meaning}
-use Rattle.pl_event.specs.Inputs.{recorded_input}
+use Rattle.pl_event.specs.Inputs.{Bursts, recorded_input}
 use Rattle.pl_event.specs.Lanes.{lane}
 use Rattle.pl_head.specs.declared.inputs.ReadPlan.{ReadPlan}
 use Rattle.pl_head.specs.Transports.{TransportState}
@@ -24,7 +24,7 @@ pub record ChannelPlan : Type 0 where
   pub window : Option ℕ
   -- the number of the call that its transport was told to fail at, from 1; none where it was not told to
   pub fail_at : Option ℕ
-  pub bursts : List (List (List ℕ))
+  pub bursts : Bursts
   -- after how many bursts it is aborted; none where it is not
   pub abort_after : Option ℕ
 

@@ -16,7 +16,9 @@ mod worlds;
 
 pub use composing::{plain, plain_world};
 pub use faults::ReplayFault;
-pub use limits::{MAX_BURSTS, MAX_BYTES, MAX_CAPACITY, MAX_CHANNELS, MAX_CHUNKS, fits, input_fits};
+pub use limits::{
+    MAX_BURSTS, MAX_BYTES, MAX_CAPACITY, MAX_CHANNELS, MAX_ELEMENTS, fits, input_fits,
+};
 pub use moves::Move;
 pub use report::{ChannelReport, Report, Stands};
 pub use session::{Recorded, Session};

@@ -1,9 +1,10 @@
 //! The limits of a world (`docs/FORMATS.md`, "Session"), and the test of one channel's input.
 
-ghost use Rattle.std.specs.Prelude.{◌≡◌, ◌-◌, ◌≤◌, SomeIff, length, sum_by};
+ghost use Rattle.std.specs.Prelude.{◌≡◌, ◌-◌, ◌≤◌, SomeIff, sum_by};
+ghost use Rattle.pl_event.specs.Inputs.{element_size};
 ghost use Rattle.pl_world.specs.Limits.{fits, aborts_within, input_fits};
 
-use pl_event::{ByteString, Sequence};
+use pl_event::{Element, Sequence};
 use pl_head::ReadPlan;
 
 /// How many channels a world has at most. (`pl_build` has the limits of executors, handlers and marks.)
@@ -15,8 +16,8 @@ pub const MAX_CAPACITY: u32 = pl_event::MAX_CAPACITY;
 /// How many bursts the input of a channel has at most.
 pub const MAX_BURSTS: usize = 4_096;
 
-/// How many chunks all bursts of a channel have at most.
-pub const MAX_CHUNKS: usize = 16_384;
+/// How many elements all bursts of a channel have at most.
+pub const MAX_ELEMENTS: usize = 16_384;
 
 /// How many bytes all chunks of a channel have at most.
 pub const MAX_BYTES: usize = 1_048_576;
@@ -38,20 +39,21 @@ fn aborts_within(abort_after: Option<u32>, count: usize) -> bool
     }
 }
 
-/// Whether the bursts of a channel, their chunks and their bytes are within `MAX_BURSTS`, `MAX_CHUNKS` and `MAX_BYTES`.
-pub fn fits(bursts: &[Sequence<ByteString>]) -> bool
+/// Whether the bursts of a channel, their elements and their bytes are within `MAX_BURSTS`, `MAX_ELEMENTS` and
+/// `MAX_BYTES`.
+pub fn fits(bursts: &[Sequence<Element>]) -> bool
     ensures { result ≡ fits bursts.now }
 {
     if bursts.len() > MAX_BURSTS {
         return false;
     }
-    let mut chunks = MAX_CHUNKS;
+    let mut elements = MAX_ELEMENTS;
     let mut bytes = MAX_BYTES;
     for burst in bursts {
         let burst = burst.as_slice();
-        match (chunks.checked_sub(burst.len()), left_of(bytes, burst)) {
-            (Some(chunks_left), Some(bytes_left)) => {
-                chunks = chunks_left;
+        match (elements.checked_sub(burst.len()), left_of(bytes, burst)) {
+            (Some(elements_left), Some(bytes_left)) => {
+                elements = elements_left;
                 bytes = bytes_left;
             }
             _ => return false,
@@ -60,13 +62,13 @@ pub fn fits(bursts: &[Sequence<ByteString>]) -> bool
     true
 }
 
-/// What is left of a limit after the bytes of these chunks, or None where they pass it.
-fn left_of(limit: usize, chunks: &[ByteString]) -> Option<usize>
-    ensures { SomeIff result (sum_by length chunks.now ≤ limit) (limit - sum_by length chunks.now) }
+/// What is left of a limit after the bytes of these elements, or None where they pass it.
+fn left_of(limit: usize, elements: &[Element]) -> Option<usize>
+    ensures { SomeIff result (sum_by element_size elements.now ≤ limit) (limit - sum_by element_size elements.now) }
 {
     let mut left = limit;
-    for chunk in chunks {
-        left = left.checked_sub(chunk.len())?;
+    for element in elements {
+        left = left.checked_sub(element.size())?;
     }
     Some(left)
 }

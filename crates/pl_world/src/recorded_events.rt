@@ -3,30 +3,30 @@
 ghost use Rattle.std.specs.Prelude.{◌≡◌, ◌++◌, IfOk, OnOk};
 ghost use Rattle.pl_event.specs.Inputs.{burst_events, recorded_input};
 
-use pl_event::{ByteString, Event, Message, Sequence};
+use pl_event::{Element, Event, Sequence};
 use std::alloc::{AllocError, Global};
 
 /// All events that the bursts of a channel bring, from its becoming active on. The chunks are moved.
 pub(crate) fn recorded_events(
     alloc: Global,
-    bursts: Sequence<Sequence<ByteString>>,
+    bursts: Sequence<Sequence<Element>>,
 ) -> Result<Vec<Event>, AllocError>
     ensures { IfOk result (λ events. events.items ≡ recorded_input bursts) }
 {
     let mut events = Vec::new(alloc);
     events.push(Event::Active)?;
-    for chunks in bursts.into_vec() {
-        add_burst(&mut events, chunks)?;
+    for elements in bursts.into_vec() {
+        add_burst(&mut events, elements)?;
     }
     Ok(events)
 }
 
-/// Adds a read for each chunk, and then the completion.
-fn add_burst(events: &mut Vec<Event>, chunks: Sequence<ByteString>) -> Result<(), AllocError>
-    ensures { OnOk result (events.new.items ≡ events.old.items ++ burst_events chunks) }
+/// Adds the event of each element, and then the completion.
+fn add_burst(events: &mut Vec<Event>, elements: Sequence<Element>) -> Result<(), AllocError>
+    ensures { OnOk result (events.new.items ≡ events.old.items ++ burst_events elements) }
 {
-    for chunk in chunks.into_vec() {
-        events.push(Event::Read(Message::Bytes(chunk)))?;
+    for element in elements.into_vec() {
+        events.push(element.into_event())?;
     }
     events.push(Event::ReadComplete)?;
     Ok(())

@@ -1,6 +1,7 @@
 //! A head: writes, flushes, ends, failures, marks, windows, and bursts that are held.
 
 ghost use Rattle.std.specs.Prelude.{◌≡◌, ◌+◌, ◌<◌, ◌≤◌, ◌^◌, [], ◌∷◌, length, IfOk};
+ghost use Rattle.pl_event.specs.declared.elements.Element.TheVariants.{Chunk};
 ghost use Rattle.pl_event.specs.Inputs.{recorded_input};
 ghost use Rattle.pl_event.specs.declared.envelopes.Lane.{Lane};
 ghost use Rattle.pl_context.specs.Stops.{HasPlaces};
@@ -8,7 +9,7 @@ ghost use Rattle.pl_context.specs.Stops.{HasPlaces};
 use crate::tests::input_tests::outputs_of_one;
 use crate::trickle::Trickle;
 use pl_context::{Outputs, Standing, Took};
-use pl_event::{ByteString, Cause, Envelope, Event, Item, Message, Outcome, Sequence};
+use pl_event::{ByteString, Cause, Element, Envelope, Event, Item, Message, Outcome, Sequence};
 use pl_head::{Head, MemoryTransport, OutStep, ReadPlan, ReadStep, Transport};
 use std::alloc::{AllocError, Global};
 use std::process::Abort;
@@ -104,10 +105,10 @@ pub(crate) fn text(alloc: Global, bytes: &[u8]) -> Result<ByteString, AllocError
 }
 
 /// A burst of one chunk.
-fn burst(alloc: Global, bytes: &[u8]) -> Result<Sequence<ByteString>, AllocError>
-    ensures { IfOk result (λ burst. burst ≡ bytes.now ∷ []) }
+fn burst(alloc: Global, bytes: &[u8]) -> Result<Sequence<Element>, AllocError>
+    ensures { IfOk result (λ burst. burst ≡ Chunk bytes.now ∷ []) }
 {
-    let chunk = text(alloc, bytes)?;
+    let chunk = Element::Chunk(text(alloc, bytes)?);
     Ok(Sequence::from_vec(vec![in alloc; chunk]?))
 }
 

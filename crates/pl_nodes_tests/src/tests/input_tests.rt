@@ -7,7 +7,7 @@ ghost use Rattle.pl_context.specs.Stops.{HasPlaces};
 use crate::tests::context_tests::{Put, Sample, assert_brings};
 use crate::tests::head_tests::{Call, apply, text};
 use pl_context::Outputs;
-use pl_event::Sequence;
+use pl_event::{Element, Sequence};
 use pl_head::{Head, MemoryTransport, ReadPlan, ReadStep};
 use std::alloc::{AllocError, Global};
 use std::process::Abort;
@@ -32,10 +32,10 @@ fn block(
 
 /// A head with two bursts to read: one of two chunks, and one of none.
 fn two_bursts(alloc: Global) -> Result<Head<MemoryTransport>, AllocError> {
-    let first = text(alloc, b"ab")?;
-    let second = text(alloc, b"c")?;
-    let chunks = vec![in alloc; first, second]?;
-    let bursts = vec![in alloc; Sequence::from_vec(chunks), Sequence::new(alloc)]?;
+    let first = Element::Chunk(text(alloc, b"ab")?);
+    let second = Element::Chunk(text(alloc, b"c")?);
+    let elements = vec![in alloc; first, second]?;
+    let bursts = vec![in alloc; Sequence::from_vec(elements), Sequence::new(alloc)]?;
     let transport = MemoryTransport::new(alloc, 2, None);
     let plan = ReadPlan {
         bursts: Sequence::from_vec(bursts),

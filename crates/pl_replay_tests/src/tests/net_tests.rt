@@ -8,7 +8,7 @@ use crate::tests::{
     handler, only_channel, text,
 };
 use pl_build::{Groups, PipelineBuilder, Placed};
-use pl_event::{ByteString, Outcome, Sequence};
+use pl_event::{Element, Outcome, Sequence};
 use pl_head::{MemoryTransport, ReadPlan, Transport};
 use pl_replay::{Net, replay_world};
 use pl_stages::Handler;
@@ -80,12 +80,12 @@ pub(crate) fn line_protocol(placing: Placing) -> [(Kind, Option<&str>); 5] {
 /// The groups of the decoder and of the service, each with one executor.
 pub(crate) const GROUPS: [(&str, u16); 2] = [("a", 1), ("b", 1)];
 
-pub(crate) fn bursts(alloc: Global, input: Bursts) -> Result<Sequence<Sequence<ByteString>>, Fail> {
+pub(crate) fn bursts(alloc: Global, input: Bursts) -> Result<Sequence<Sequence<Element>>, Fail> {
     let mut bursts = Sequence::new(alloc);
     for chunks in input {
         let mut burst = Sequence::new(alloc);
         for chunk in chunks.iter() {
-            burst.push(text(alloc, chunk)?)?;
+            burst.push(Element::Chunk(text(alloc, chunk)?))?;
         }
         bursts.push(burst)?;
     }

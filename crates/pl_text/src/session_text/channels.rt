@@ -7,13 +7,12 @@ ghost use Rattle.pl_text.specs.SessionReading.{Answers};
 ghost use Rattle.pl_text.specs.SessionChannels.{mark_in, window_in, fail_at_in, bursts_in, abort_after_in, channel_in};
 
 use crate::faults::SessionFault;
-use crate::session_text::chunks::Chunk;
 use crate::session_text::limits::{DEFAULT_WINDOW, MAX_EDITS, MAX_FAIL_AT, MAX_WINDOW};
 use crate::session_text::outline::{ChannelOutline, Edit};
 use crate::session_text::values::{FromData, an_object, array_in, present, required, whole_in};
 use crate::session_text::version::Version;
 use pl_build::{DEFAULT_HIGH, DEFAULT_LOW, MAX_MARK};
-use pl_event::{ByteString, Sequence};
+use pl_event::{Element, Sequence};
 use pl_world::{MAX_BURSTS, fits};
 use serde_json::Value;
 use std::alloc::Global;
@@ -94,17 +93,17 @@ fn abort_after_in(count: usize, channel: &Value) -> Result<Option<u32>, SessionF
     }
 }
 
-/// The bursts of a channel. The number of bursts is looked at first, their chunks and bytes after all are read.
+/// The bursts of a channel. The number of bursts is looked at first, their elements and bytes after all are read.
 #[tactic(auto, unfolding(crate::specs::SessionChannels::bursts_in))]
 fn bursts_in(
     alloc: Global,
     version: Version,
     value: &Value,
-) -> Result<Sequence<Sequence<ByteString>>, SessionFault>
+) -> Result<Sequence<Sequence<Element>>, SessionFault>
     ensures meaning { Answers result (bursts_in version (view value.now)) }
     ensures few { IfOk result (λ bursts. length bursts ≤ MAX_BURSTS) }
 {
-    let bursts = array_in::<Sequence<Chunk>>(alloc, version, 0, MAX_BURSTS, value)?;
+    let bursts = array_in::<Sequence<Element>>(alloc, version, 0, MAX_BURSTS, value)?;
     if !fits(bursts.as_slice()) {
         return Err(SessionFault::Limit);
     }

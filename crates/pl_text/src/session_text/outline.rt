@@ -1,7 +1,7 @@
 //! What the members of a session text say, before its pipelines are built.
 
 use crate::session_text::names::Name;
-use pl_event::{ByteString, Sequence};
+use pl_event::{Element, Sequence};
 
 /// What the members of a group of executors say.
 #[derive(Debug, Drop)]
@@ -87,8 +87,8 @@ pub(crate) struct ChannelOutline {
     pub(crate) window: u32,
     /// The call of the transport that fails, from 1, if one does.
     pub(crate) fail_at: Option<u32>,
-    /// The chunks of each burst.
-    pub(crate) bursts: Sequence<Sequence<ByteString>>,
+    /// The elements of each burst.
+    pub(crate) bursts: Sequence<Sequence<Element>>,
     /// After how many bursts the channel is aborted, if it is.
     pub(crate) abort_after: Option<u32>,
 }

@@ -3,7 +3,8 @@ use Rattle.std.proofs.lemmas.List.{reverse-append, length-map}
 use Rattle.pl_event.specs.declared.events.Event.{Event}
 use Rattle.pl_event.specs.declared.envelopes.Item.{Item}
 use Rattle.pl_event.specs.declared.envelopes.Item.TheVariants as item
-use Rattle.pl_event.specs.Inputs.{burst_events}
+use Rattle.pl_event.specs.declared.elements.Element.{Element}
+use Rattle.pl_event.specs.Inputs.{Bursts, burst_events}
 use Rattle.pl_context.specs.Ports.{all_go_on}
 use Rattle.pl_context.proofs.PortLemmas.{all_go_on-events}
 use Rattle.pl_head.specs.InputStand.{next_items}
@@ -14,15 +15,15 @@ pub returns-in-Some-clause-port : goal.returns-in-Some-clause-port
 returns-in-Some-clause-port c =
     let port = c.args.port.now in
     let left = reverse c.args.left.now.items in
-    let chunks = c.in-Some.chunks in
-    let first : left ≡ chunks ∷ reverse c.pop.new.self.items =
-    ap (λ (bs : List (List (List ℕ))). reverse bs) c.in-Some.ensures.items ∙ reverse-append c.pop.new.self.items (chunks ∷ []) in
+    let elements = c.in-Some.elements in
+    let first : left ≡ elements ∷ reverse c.pop.new.self.items =
+    ap (λ (bs : Bursts). reverse bs) c.in-Some.ensures.items ∙ reverse-append c.pop.new.self.items (elements ∷ []) in
     let some : 0 < c.args.steps = omega arith in
-    let is = burst_step c.args.steps left chunks (reverse c.pop.new.self.items) some first in
+    let is = burst_step c.args.steps left elements (reverse c.pop.new.self.items) some first in
     let count : port.made + length (burst_events c.into_vec.result.items) ≡ port.made + length (next_items c.args.steps left) =
-    ap (λ (cs : List (List ℕ)). port.made + length (burst_events cs)) c.into_vec.ensures
-    ∙ ap (λ (n : ℕ). port.made + n) (sym (length-map (burst_events chunks) (λ (x : Event). item.Event x)))
+    ap (λ (xs : List Element). port.made + length (burst_events xs)) c.into_vec.ensures
+    ∙ ap (λ (n : ℕ). port.made + n) (sym (length-map (burst_events elements) (λ (x : Event). item.Event x)))
     ∙ ap (λ (items : List Item). port.made + length items) (sym is.items_are) in
     port_after-open (next_items c.args.steps left) port c.put_burst.new.port true c.requires.open
-    (ap all_go_on is.items_are ∙ all_go_on-events (burst_events chunks))
+    (ap all_go_on is.items_are ∙ all_go_on-events (burst_events elements))
     (c.put_burst.ensures.port ∙ ap₂ (λ (n : ℕ) (b : Bool). record port { made = n; is_open = b }) count c.requires.open)

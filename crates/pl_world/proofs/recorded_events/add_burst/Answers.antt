@@ -1,8 +1,10 @@
-use Rattle.pl_event.specs.declared.events.Event.TheVariants.{Read}
-use Rattle.pl_event.specs.declared.events.Message.TheVariants.{Bytes}
+use Rattle.std.proofs.Common.{◌++◌, ◌∷◌, [], ap, ◌∙◌}
+use Rattle.pl_event.specs.Inputs.{element_event}
 use Rattle.pl_world.proofs.ChainSteps.{pushed_more}
 use Rattle.pl_world.proofs.recorded_events.add_burst.Goals as goal
 
-pub loop-chunk-preserved : goal.loop-chunk-preserved
-loop-chunk-preserved c =
-    pushed_more (λ chunk. Read (Bytes chunk)) c.args.events.now.items c.loop-chunk.events.items _ c.loop-chunk.yielded c.in-Some.chunk c.loop-chunk.invariant c.in_ok-push.ensures.items
+pub loop-element-preserved : goal.loop-element-preserved
+loop-element-preserved c =
+    let so_far = c.loop-element in
+    pushed_more element_event c.args.events.now.items so_far.events.items _ so_far.yielded c.in-Some.element so_far.invariant
+    (c.in_ok-push.ensures.items ∙ ap (λ event. so_far.events.items ++ event ∷ []) c.into_event.ensures)

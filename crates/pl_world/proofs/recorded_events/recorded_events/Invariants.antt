@@ -3,5 +3,5 @@ use Rattle.pl_event.specs.Inputs.{recorded_input}
 use Rattle.pl_world.proofs.recorded_events.recorded_events.Given as goal
 
 -- the events of the bursts so far
-abbrev pub invariant-loop-chunks : goal.invariant-loop-chunks
-invariant-loop-chunks l = l.events.items ≡ recorded_input l.yielded
+abbrev pub invariant-loop-elements : goal.invariant-loop-elements
+invariant-loop-elements l = l.events.items ≡ recorded_input l.yielded

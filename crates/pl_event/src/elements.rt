@@ -1,0 +1,34 @@
+//! What a channel is to read.
+
+ghost use Rattle.std.specs.Prelude.{◌≡◌};
+ghost use Rattle.pl_event.specs.Inputs.{element_event, element_size};
+
+use crate::byte_string::ByteString;
+use crate::events::{Event, Message};
+
+/// One element of a burst: what reaches a channel's first handler as one event.
+#[derive(Clone, Debug, PartialEq, Eq, Drop)]
+pub enum Element {
+    /// Bytes that the transport read, as one message: `channelRead`.
+    Chunk(ByteString),
+}
+
+impl Element {
+    /// The event that it comes as. The bytes of a chunk are moved.
+    pub fn into_event(self) -> Event
+        ensures { result ≡ element_event self }
+    {
+        match self {
+            Element::Chunk(bytes) => Event::Read(Message::Bytes(bytes)),
+        }
+    }
+
+    /// How many bytes it brings.
+    pub fn size(&self) -> usize
+        ensures { result ≡ element_size self.now }
+    {
+        match self {
+            Element::Chunk(bytes) => bytes.len(),
+        }
+    }
+}

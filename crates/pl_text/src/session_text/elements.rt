@@ -1,0 +1,50 @@
+//! Reads an element of a burst.
+
+ghost use Rattle.std.specs.Prelude.{◌≡◌};
+ghost use Rattle.serde_json.specs.View.{view};
+ghost use Rattle.pl_text.specs.SessionReading.{Answers, seen};
+ghost use Rattle.pl_text.specs.SessionChannels.{chunk_in, element_in, hex_decoded};
+
+use crate::faults::SessionFault;
+use crate::session_text::values::{FromData, text};
+use crate::session_text::version::Version;
+use hex::FromHexError;
+use pl_event::{ByteString, Element};
+use serde_json::Value;
+use std::alloc::Global;
+
+/// An element of a burst: a chunk.
+impl FromData for Element {
+    type Read = Element;
+
+    ghost meaning = { element_in };
+
+    #[tactic(auto, unfolding(crate::specs::SessionChannels::element_in))]
+    fn from_data(alloc: Global, version: Version, value: &Value) -> Result<Element, SessionFault> {
+        Ok(Element::Chunk(chunk_in(alloc, version, value)?))
+    }
+}
+
+/// The bytes of a chunk: in version 1 the UTF-8 bytes of a text, in version 2 the bytes that its hex digits say.
+#[tactic(auto, unfolding(crate::specs::SessionChannels::chunk_in))]
+fn chunk_in(alloc: Global, version: Version, value: &Value) -> Result<ByteString, SessionFault>
+    ensures { Answers result (chunk_in version (view value.now)) }
+{
+    let text = text(value)?;
+    let bytes = match version {
+        Version::One => Vec::from_slice(alloc, text.as_bytes())?,
+        Version::Two => hex_decoded(alloc, text)?,
+    };
+    Ok(ByteString::from_vec(bytes))
+}
+
+/// The bytes that hex digits say, of either case.
+fn hex_decoded(alloc: Global, digits: &str) -> Result<Vec<u8>, SessionFault>
+    ensures { Answers (seen (λ bytes. bytes.items) result) (hex_decoded digits.now) }
+{
+    match hex::decode(alloc, digits) {
+        Ok(bytes) => Ok(bytes),
+        Err(FromHexError::OutOfMemory) => Err(SessionFault::Memory),
+        Err(_) => Err(SessionFault::Kind),
+    }
+}
