@@ -23,7 +23,7 @@ LINE_PROTOCOL = ["lines", "decode", "lineend", "encode", "service"]
 LENGTH_FIELDS = ["length", "decode", "prepend", "encode", "service"]
 # What an edit has of its own, by its kind.
 MEMBERS = {"lines": {"max": 8192}, "length": {"width": 2, "max": 8192}, "prepend": {"width": 2}, "flush_every": {"n": 2}}
-# The most chunks and bursts that a channel may have.
+# The most elements, here chunks, and the most bursts that a channel may have.
 CHUNKS = 16384
 BURSTS = 4096
 

@@ -50,6 +50,7 @@ enum Event {
     Read(Message),
     ReadComplete,
     Caught(Caught),
+    User(u32),
     Write(Message),
     Flush,
 }
@@ -544,7 +545,7 @@ struct Head {
     /// What is left to read, as long as the first lane is open.
     is_reading: bool,
     is_active: bool,
-    bursts: vec::IntoIter<Vec<Vec<u8>>>,
+    bursts: vec::IntoIter<Vec<Event>>,
     aborts: bool,
     /// The flushed messages first.
     buffer: VecDeque<Waiting>,
@@ -578,8 +579,8 @@ impl Head {
             if !self.is_writable && self.flushed > 0 {
                 return false;
             }
-            for chunk in self.bursts.next().into_iter().flatten() {
-                outputs.event(FIRST, Event::Read(Message::Bytes(chunk)));
+            for event in self.bursts.next().into_iter().flatten() {
+                outputs.event(FIRST, event);
             }
             outputs.event(FIRST, Event::ReadComplete);
         } else {
@@ -1213,7 +1214,7 @@ struct Recorded {
     high: u64,
     window: usize,
     fail_at: Option<u64>,
-    bursts: Vec<Vec<Vec<u8>>>,
+    bursts: Vec<Vec<Event>>,
     abort_after: Option<u64>,
 }
 
@@ -1279,10 +1280,10 @@ fn read_channel(version: u64, channel: Json) -> Result<Recorded, Fault> {
         .unwrap_or(65_536) as usize;
     let fail_at = channel.optional_whole("fail_at", 1..=4_294_967_295)?;
     let bursts = channel.required("bursts")?.array(4_096, |burst| {
-        burst.array(usize::MAX, |chunk| read_chunk(version, chunk))
+        burst.array(usize::MAX, |element| read_element(version, element))
     })?;
-    let chunks = || bursts.iter().flatten();
-    if chunks().count() > 16_384 || chunks().map(Vec::len).sum::<usize>() > 1_048_576 {
+    let elements = || bursts.iter().flatten();
+    if elements().count() > 16_384 || elements().map(bytes_in).sum::<usize>() > 1_048_576 {
         return Err(LIMIT);
     }
     let abort_after = channel.optional_whole("abort_after", 0..=bursts.len() as u64)?;
@@ -1295,6 +1296,24 @@ fn read_channel(version: u64, channel: Json) -> Result<Recorded, Fault> {
         bursts,
         abort_after,
     })
+}
+
+/// The event of an element: a read of a chunk or, in version 2, a user event.
+fn read_element(version: u64, element: Json) -> Result<Event, Fault> {
+    match element {
+        Json::Object(_) if version == 2 => {
+            let number = element.object()?.whole("user", 0..=u64::from(u32::MAX))?;
+            Ok(Event::User(number as u32))
+        }
+        chunk => Ok(Event::Read(Message::Bytes(read_chunk(version, chunk)?))),
+    }
+}
+
+fn bytes_in(event: &Event) -> usize {
+    match event {
+        Event::Read(Message::Bytes(bytes)) => bytes.len(),
+        _ => 0,
+    }
 }
 
 /// The bytes of a text, or in version 2 those that its hex says.
@@ -1618,6 +1637,10 @@ fn push_event(text: &mut Vec<u8>, event: &Event) {
         Event::Caught(Caught::TooLong) => push_text(text, "Caught TooLong"),
         Event::Caught(Caught::Unknown) => push_text(text, "Caught Unknown"),
         Event::Caught(Caught::Syntax) => push_text(text, "Caught Syntax"),
+        Event::User(number) => {
+            push_text(text, "User ");
+            push_number(text, u64::from(*number));
+        }
         Event::Read(message) => {
             push_text(text, "Read ");
             push_message(text, message);

@@ -43,6 +43,7 @@ clone-event event.Active event.Active same = refl
 clone-event (event.Read a) (event.Read b) same = ap (λ (m : Message). event.Read m) (clone-message a b same)
 clone-event event.ReadComplete event.ReadComplete same = refl
 clone-event (event.Caught a) (event.Caught b) same = ap (λ (t : Caught). event.Caught t) same
+clone-event (event.User a) (event.User b) same = ap (λ (n : ℕ). event.User n) same
 clone-event (event.Write a) (event.Write b) same = ap (λ (m : Message). event.Write m) (clone-message a b same)
 clone-event event.Flush event.Flush same = refl
 clone-event _ _ same = absurd same

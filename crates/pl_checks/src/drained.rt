@@ -2,7 +2,9 @@
 
 use crate::running::{Runtime, composes, replays, runs};
 use crate::sessions;
-use crate::sessions::{FrameSession, LineSession, frame_session, line_session};
+use crate::sessions::{
+    FrameSession, HexBursts, LineSession, frame_session, hex_session, line_session,
+};
 use std::test::Fail;
 
 /// Says that a session of the line protocol drains with this report.
@@ -14,6 +16,12 @@ fn drains(rt: &impl Runtime, session: LineSession, moves: &str, report: &str) ->
 /// Says that a session of frames drains with this report.
 fn drains_frames(rt: &impl Runtime, session: FrameSession, report: &str) -> Result<(), Fail> {
     let text = frame_session(rt, session)?;
+    gives(rt, text.as_str(), "R0x4 O0x4", report)
+}
+
+/// Says that a session of the line protocol with chunks in hex drains with this report.
+fn drains_hex(rt: &impl Runtime, bursts: HexBursts, report: &str) -> Result<(), Fail> {
+    let text = hex_session(rt, bursts)?;
     gives(rt, text.as_str(), "R0x4 O0x4", report)
 }
 
@@ -172,6 +180,43 @@ fn empty_and_unfinished_frame(rt: HostRuntime) -> Result<(), Fail> {
         &rt,
         sessions::UNFINISHED_FRAME,
         "channel 0 drained\ntail 2\nActive\nReadComplete\nbytes 0 -\nwrites 0\n",
+    )
+}
+
+#[test]
+fn user_event(rt: HostRuntime) -> Result<(), Fail> {
+    drains_hex(
+        &rt,
+        sessions::USER_EVENT,
+        "channel 0 drained\ntail 5\nActive\nRead Ping\nUser 7\nRead Ping\nReadComplete\nbytes 14 2b504f4e470d0a2b504f4e470d0a\nwrites 2\n0 Success\n1 Success\n",
+    )
+}
+
+/// It comes before the line whose end comes after it.
+#[test]
+fn user_event_inside_line(rt: HostRuntime) -> Result<(), Fail> {
+    drains_hex(
+        &rt,
+        sessions::USER_EVENT_INSIDE_LINE,
+        "channel 0 drained\ntail 4\nActive\nUser 7\nRead Ping\nReadComplete\nbytes 7 2b504f4e470d0a\nwrites 1\n0 Success\n",
+    )
+}
+
+#[test]
+fn user_event_inside_frame(rt: HostRuntime) -> Result<(), Fail> {
+    drains_frames(
+        &rt,
+        sessions::USER_EVENT_INSIDE_FRAME,
+        "channel 0 drained\ntail 4\nActive\nUser 7\nRead Ping\nReadComplete\nbytes 7 00052b504f4e47\nwrites 1\n0 Success\n",
+    )
+}
+
+#[test]
+fn user_event_after_quit(rt: HostRuntime) -> Result<(), Fail> {
+    drains_hex(
+        &rt,
+        sessions::USER_EVENT_AFTER_QUIT,
+        "channel 0 drained\ntail 2\nActive\nRead Quit\nbytes 6 2b4259450d0a\nwrites 1\n0 Success\n",
     )
 }
 

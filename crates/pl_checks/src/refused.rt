@@ -1,7 +1,9 @@
 //! Sessions and schedules that are refused: the status, the line on standard error, and nothing on standard output.
 
 use crate::running::{Runtime, replays};
-use crate::sessions::{DECODER_APART, PING, line_protocol, line_session, piped, versioned};
+use crate::sessions::{
+    DECODER_APART, PING, hex_session, line_protocol, line_session, piped, versioned,
+};
 use std::alloc::AllocError;
 use std::test::Fail;
 
@@ -46,6 +48,23 @@ fn hostile_version_two(rt: HostRuntime) -> Result<(), Fail> {
         refuses(&rt, text.as_str(), "R0", 3, line)?;
     }
     Ok(())
+}
+
+/// Elements of a burst that are neither a chunk nor a user event.
+#[test]
+fn hostile_user_event(rt: HostRuntime) -> Result<(), Fail> {
+    let kind = "session refused: 4 Kind\n";
+    for (bursts, line) in [
+        (r#"[[{"user":4294967296}]]"#, "session refused: 5 Limit\n"),
+        ("[[{}]]", "session refused: 3 Missing\n"),
+        (r#"[[{"user":"7"}]]"#, kind),
+        ("[[7]]", kind),
+    ] {
+        let text = hex_session(&rt, bursts)?;
+        refuses(&rt, text.as_str(), "R0", 3, line)?;
+    }
+    let version_one = line_session(&rt, (64, r#"[[{"user":7}]]"#))?;
+    refuses(&rt, version_one.as_str(), "R0", 3, kind)
 }
 
 /// A session with these groups, and of one channel these marks and these edits after the line protocol.

@@ -45,13 +45,30 @@ pub(crate) const EMPTY_FRAME: FrameSession = (64, r#"[["0000"]]"#);
 
 pub(crate) const UNFINISHED_FRAME: FrameSession = (64, r#"[["000550"]]"#);
 
-const FRAME_SESSIONS: [FrameSession; 5] = [
+pub(crate) const USER_EVENT_INSIDE_FRAME: FrameSession = (
+    64,
+    r#"[["000450",{"user":7},"494e47"]]"#,
+);
+
+const FRAME_SESSIONS: [FrameSession; 6] = [
     LENGTH_FRAMES,
     FRAME_TOO_LONG,
     FRAME_SKIPPED_LATER,
     EMPTY_FRAME,
     UNFINISHED_FRAME,
+    USER_EVENT_INSIDE_FRAME,
 ];
+
+/// The bursts of a session of one channel with the line protocol, all on one executor, as JSON: chunks are hex.
+pub(crate) type HexBursts = &'static str;
+
+pub(crate) const USER_EVENT: HexBursts = r#"[["50494e470a",{"user":7},"50494e470a"]]"#;
+
+pub(crate) const USER_EVENT_INSIDE_LINE: HexBursts = r#"[["5049",{"user":7},"4e470a"]]"#;
+
+pub(crate) const USER_EVENT_AFTER_QUIT: HexBursts = r#"[["515549540a",{"user":7}]]"#;
+
+const HEX_SESSIONS: [HexBursts; 3] = [USER_EVENT, USER_EVENT_INSIDE_LINE, USER_EVENT_AFTER_QUIT];
 
 const LINE_SESSIONS: [LineSession; 11] = [
     NO_BURSTS,
@@ -148,6 +165,12 @@ pub(crate) fn frame_session(
     let edits = format!(in rt.alloc();
         "{{\"op\":\"last\",\"name\":\"length\",\"kind\":\"length\",\"width\":2,\"max\":{max}}},\n{BEHIND_FRAMES}"
     )?;
+    versioned(rt, 2, edits.as_str(), "", bursts)
+}
+
+/// The text of a session of the line protocol with these bursts, whose chunks are hex.
+pub(crate) fn hex_session(rt: &impl AllocGlobal, bursts: HexBursts) -> Result<String, AllocError> {
+    let edits = line_protocol(rt, 64)?;
     versioned(rt, 2, edits.as_str(), "", bursts)
 }
 
@@ -285,6 +308,9 @@ fn add_examples(rt: &impl AllocGlobal, texts: &mut Vec<String>) -> Result<(), Al
     }
     for session in FRAME_SESSIONS {
         add(texts, frame_session(rt, session))?;
+    }
+    for bursts in HEX_SESSIONS {
+        add(texts, hex_session(rt, bursts))?;
     }
     add(texts, encoder_behind_turn(rt))?;
     add(texts, flush_never_comes(rt))?;

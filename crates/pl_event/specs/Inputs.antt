@@ -1,19 +1,22 @@
--- Recorded input: what a channel's bursts give, as events (Netty: channelActive, channelRead, channelReadComplete).
+-- Recorded input: what a channel's bursts give, as events (Netty: channelActive, channelRead, userEventTriggered,
+-- channelReadComplete).
 use Rattle.std.specs.Prelude.{ℕ, List, [], ◌∷◌, ◌++◌, length, map, take}
 use Rattle.std.specs.List.{flat_map}
 use Rattle.pl_event.specs.declared.events.Event.{Event}
 use Rattle.pl_event.specs.declared.events.Event.TheVariants as event
 use Rattle.pl_event.specs.declared.events.Message.TheVariants as message
 use Rattle.pl_event.specs.declared.elements.Element.{Element}
-use Rattle.pl_event.specs.declared.elements.Element.TheVariants.{Chunk}
+use Rattle.pl_event.specs.declared.elements.Element.TheVariants.{Chunk, User}
 
 -- the event that an element of a burst comes as
 abbrev pub element_event : Element → Event
 element_event (Chunk bytes) = event.Read (message.Bytes bytes)
+element_event (User number) = event.User number
 
 -- how many bytes it brings
 abbrev pub element_size : Element → ℕ
 element_size (Chunk bytes) = length bytes
+element_size (User number) = 0
 
 -- the bursts of a channel, each with its elements
 abbrev pub Bursts : Type 0

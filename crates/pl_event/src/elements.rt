@@ -11,6 +11,8 @@ use crate::events::{Event, Message};
 pub enum Element {
     /// Bytes that the transport read, as one message: `channelRead`.
     Chunk(ByteString),
+    /// An event of a user's own: `userEventTriggered`.
+    User(u32),
 }
 
 impl Element {
@@ -20,15 +22,17 @@ impl Element {
     {
         match self {
             Element::Chunk(bytes) => Event::Read(Message::Bytes(bytes)),
+            Element::User(number) => Event::User(number),
         }
     }
 
-    /// How many bytes it brings.
+    /// How many bytes it brings. A user event brings none.
     pub fn size(&self) -> usize
         ensures { result ≡ element_size self.now }
     {
         match self {
             Element::Chunk(bytes) => bytes.len(),
+            Element::User(_) => 0,
         }
     }
 }

@@ -14,6 +14,8 @@ pub enum Event {
     ReadComplete,
     /// A handler met input that is not a message: `exceptionCaught`.
     Caught(Caught),
+    /// An event of a user's own, by the number that it was given: `userEventTriggered`.
+    User(u32),
     /// A message goes out: `write`.
     Write(Message),
     /// What was written so far is to leave: `flush`.

@@ -3,7 +3,7 @@ use Rattle.std.specs.Prelude.{◌≤◌, map}
 use Rattle.std.specs.Char.{to_ascii_uppercase}
 use Rattle.std.proofs.Common.{arith}
 use Rattle.pl_event.specs.declared.events.Event.{Event}
-use Rattle.pl_event.specs.declared.events.Event.TheVariants.{Active, Read, ReadComplete, Caught, Write, Flush}
+use Rattle.pl_event.specs.declared.events.Event.TheVariants.{Active, Read, ReadComplete, Caught, User, Write, Flush}
 use Rattle.pl_event.specs.declared.events.Message.TheVariants.{Bytes, Line, Command, Reply}
 use Rattle.pl_stages.specs.Counts.{event_weight}
 
@@ -21,5 +21,6 @@ upper_cased-light (Read (Reply r)) = omega arith
 upper_cased-light Active = omega arith
 upper_cased-light ReadComplete = omega arith
 upper_cased-light (Caught c) = omega arith
+upper_cased-light (User n) = omega arith
 upper_cased-light (Write m) = omega arith
 upper_cased-light Flush = omega arith

@@ -53,14 +53,32 @@ fn pipeline(alloc: Global, groups: &mut Groups) -> Result<Placed<Any>, Fail> {
     Ok(builder.build(groups)?)
 }
 
-/// Recorded bursts of one channel, each of chunks.
-fn bursts(alloc: Global, input: &[&[&[u8]]]) -> Result<Sequence<Sequence<Element>>, Fail> {
+/// One element of a burst, as a table says it.
+#[derive(Clone, Copy)]
+enum Came {
+    Chunk(&'static [u8]),
+    User(u32),
+}
+
+impl Came {
+    fn element(self, alloc: Global) -> Result<Element, AllocError> {
+        match self {
+            Came::Chunk(chunk) => {
+                let bytes = Vec::from_slice(alloc, chunk)?;
+                Ok(Element::Chunk(ByteString::from_vec(bytes)))
+            }
+            Came::User(number) => Ok(Element::User(number)),
+        }
+    }
+}
+
+/// Recorded bursts of one channel, each of chunks and user events.
+fn bursts(alloc: Global, input: &[&[Came]]) -> Result<Sequence<Sequence<Element>>, Fail> {
     let mut bursts = Sequence::new(alloc);
-    for chunks in input {
+    for elements in input {
         let mut burst = Sequence::new(alloc);
-        for chunk in chunks.iter() {
-            let bytes = Vec::from_slice(alloc, chunk)?;
-            burst.push(Element::Chunk(ByteString::from_vec(bytes)))?;
+        for came in elements.iter() {
+            burst.push(came.element(alloc)?)?;
         }
         bursts.push(burst)?;
     }
@@ -68,7 +86,7 @@ fn bursts(alloc: Global, input: &[&[&[u8]]]) -> Result<Sequence<Sequence<Element
 }
 
 /// A world of one channel that gets these bursts, on two executors: the loop, and that of the group `own`.
-fn world(alloc: Global, input: &[&[&[u8]]]) -> Result<World<Any, Halves>, Fail> {
+fn world(alloc: Global, input: &[&[Came]]) -> Result<World<Any, Halves>, Fail> {
     let mut groups = Groups::new(alloc, 1, &[("own", 1)])?;
     let mut pipelines = Sequence::new(alloc);
     pipelines.push(pipeline(alloc, &mut groups)?)?;
@@ -82,10 +100,15 @@ fn world(alloc: Global, input: &[&[&[u8]]]) -> Result<World<Any, Halves>, Fail> 
     Ok(World::of_thrifty(alloc, pipelines, inputs, transports, groups.executors())?)
 }
 
-/// Two bursts. Their lines are `ping`, `ping`, `echo b`, `quit` and `ping`, cut in several places.
-const INPUT: &[&[&[u8]]] = &[
-    &[b"ping\r\npi", b"ng\r\necho b\r"],
-    &[b"\nquit\r\nping\r\n"],
+/// Two bursts. Their lines are `ping`, `ping`, `echo b`, `quit` and `ping`, cut in several places, and a user event comes
+/// in the midst of the second.
+const INPUT: &[&[Came]] = &[
+    &[
+        Came::Chunk(b"ping\r\npi"),
+        Came::User(7),
+        Came::Chunk(b"ng\r\necho b\r"),
+    ],
+    &[Came::Chunk(b"\nquit\r\nping\r\n")],
 ];
 
 /// Every move there is, a given number of times. Those that are not enabled are passed over.
@@ -121,7 +144,7 @@ fn assert_channel(
     assert_eq!(rt; channel.bytes.as_slice(), bytes);
 }
 
-/// The first, third and fifth line, in upper case, and what the service replies.
+/// The first, third and fifth line, in upper case, and what the service replies. The user event is passed on, in its place.
 #[test]
 fn odd_lines_in_upper_case(rt: HostRuntime) -> Result<(), Fail> {
     let alloc = rt.alloc();
@@ -130,6 +153,7 @@ fn odd_lines_in_upper_case(rt: HostRuntime) -> Result<(), Fail> {
     let tail = [
         Event::Active,
         read(Command::Ping),
+        Event::User(7),
         Event::ReadComplete,
         read(echo),
         read(Command::Ping),

@@ -1,7 +1,7 @@
 -- A buffer after one event more.
 use Rattle.std.proofs.Common.{◌≡◌, ℕ, List, [], ◌∷◌, ◌++◌, Bool, true, false, Option, None, ap, sym, refl, ◌∙◌, append_assoc}
 use Rattle.pl_event.specs.declared.events.Event.{Event}
-use Rattle.pl_event.specs.declared.events.Event.TheVariants.{Active, Read, ReadComplete, Caught, Write, Flush}
+use Rattle.pl_event.specs.declared.events.Event.TheVariants.{Active, Read, ReadComplete, Caught, User, Write, Flush}
 use Rattle.pl_event.specs.declared.events.Message.{Message}
 use Rattle.pl_event.specs.declared.events.Message.TheVariants.{Bytes, Line, Command, Reply}
 use Rattle.pl_event.specs.declared.outcomes.Outcome.{Outcome}
@@ -18,6 +18,7 @@ no_write Active other = refl
 no_write (Read m) other = refl
 no_write ReadComplete other = refl
 no_write (Caught c) other = refl
+no_write (User number) other = refl
 no_write Flush other = refl
 
 pub no_bytes : (m : Message) → ((b : List ℕ) → m ≡ Bytes b → ⊥) → write_by (Write m) ≡ None ∷ []
@@ -32,6 +33,7 @@ no_flush Active other = refl
 no_flush (Read m) other = refl
 no_flush ReadComplete other = refl
 no_flush (Caught c) other = refl
+no_flush (User number) other = refl
 no_flush (Write m) other = refl
 
 module _ (ys : List Event) (e : Event) where

@@ -2,7 +2,7 @@
 -- ChannelOutboundBuffer, ChannelPromise).
 use Rattle.std.specs.Prelude.{ℕ, ◌+◌, ◌-◌, List, [], ◌∷◌, ◌++◌, length, map, Bool, true, false, ◌||◌, if◌then◌else◌, nat_le, Option, Some, None}
 use Rattle.pl_event.specs.declared.events.Event.{Event}
-use Rattle.pl_event.specs.declared.events.Event.TheVariants.{Active, Read, ReadComplete, Caught, Write, Flush}
+use Rattle.pl_event.specs.declared.events.Event.TheVariants.{Active, Read, ReadComplete, Caught, User, Write, Flush}
 use Rattle.pl_event.specs.declared.events.Message.TheVariants.{Bytes, Line, Command, Reply}
 use Rattle.pl_event.specs.declared.outcomes.Outcome.{Outcome}
 use Rattle.pl_event.specs.declared.outcomes.Outcome.TheVariants.{Success, Closed, Unsupported}
@@ -17,6 +17,7 @@ write_by Active = []
 write_by (Read m) = []
 write_by ReadComplete = []
 write_by (Caught c) = []
+write_by (User number) = []
 write_by Flush = []
 
 abbrev pub is_flush : Event → Bool
@@ -25,6 +26,7 @@ is_flush Active = false
 is_flush (Read m) = false
 is_flush ReadComplete = false
 is_flush (Caught c) = false
+is_flush (User number) = false
 is_flush (Write m) = false
 
 abbrev pub has_flush : List Event → Bool

@@ -94,7 +94,7 @@ impl Input {
     }
 
     /// Makes the next read step, which is not the abort: the channel becomes active; or a burst comes, each chunk as a
-    /// read, and then its completion; or the end comes.
+    /// read and each user event as it is, and then its completion; or the end comes.
     pub(crate) fn put_step(&mut self, outputs: &mut Outputs)
         requires left { self.old.port.is_open ≡ true }
         requires no_abort { abort_next self.old ≡ false }
@@ -175,7 +175,7 @@ fn put_item(port: &mut Port, item: Item, outputs: &mut Outputs)
     port.made += 1;
 }
 
-/// Gives a burst to a lane: its elements in order, a chunk as a read, and then its completion.
+/// Gives a burst to a lane: its elements in order, a chunk as a read and a user event as it is, and then its completion.
 fn put_burst(port: &mut Port, elements: Vec<Element>, outputs: &mut Outputs)
     requires place { HasPlaces outputs.old.stopped (port.old.lane ∷ []) }
     requires small { port.old.made + length (burst_events elements.items) < 2 ^ 40 }

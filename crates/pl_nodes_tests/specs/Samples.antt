@@ -5,7 +5,7 @@ use Rattle.std.specs.List.{list_any}
 use Rattle.std.proofs.Common.{ap, ◌∙◌, cond}
 use Rattle.std.proofs.lemmas.List.Folds.{list_any-append}
 use Rattle.pl_event.specs.declared.events.Event.{Event}
-use Rattle.pl_event.specs.declared.events.Event.TheVariants.{Active, Read, ReadComplete, Caught, Write, Flush}
+use Rattle.pl_event.specs.declared.events.Event.TheVariants.{Active, Read, ReadComplete, Caught, User, Write, Flush}
 use Rattle.pl_event.specs.declared.stages.Direction.{Direction}
 use Rattle.pl_event.specs.declared.stages.Direction.TheVariants.{Inbound, Outbound, Turn}
 use Rattle.pl_event.specs.declared.envelopes.Lane.{Lane}
@@ -21,6 +21,7 @@ is_complete Active = false
 is_complete (Read m) = false
 is_complete ReadComplete = true
 is_complete (Caught c) = false
+is_complete (User number) = false
 is_complete (Write m) = false
 is_complete Flush = false
 

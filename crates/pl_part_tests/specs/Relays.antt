@@ -2,7 +2,7 @@
 -- each other event, which it hands on.
 use Rattle.std.specs.Prelude.{List, [], ◌∷◌, false, refl}
 use Rattle.pl_event.specs.declared.events.Event.{Event}
-use Rattle.pl_event.specs.declared.events.Event.TheVariants.{Active, Read, ReadComplete, Caught, Write, Flush}
+use Rattle.pl_event.specs.declared.events.Event.TheVariants.{Active, Read, ReadComplete, Caught, User, Write, Flush}
 use Rattle.pl_event.specs.declared.stages.Direction.{Direction}
 use Rattle.pl_event.specs.declared.stages.Direction.TheVariants.{Inbound, Outbound, Turn}
 use Rattle.pl_event.specs.Meaning.{Meaning, IsLawful}
@@ -12,6 +12,7 @@ turned_up Active = Active ∷ []
 turned_up (Read m) = []
 turned_up ReadComplete = ReadComplete ∷ []
 turned_up (Caught c) = Caught c ∷ []
+turned_up (User number) = User number ∷ []
 turned_up (Write m) = Write m ∷ []
 turned_up Flush = Flush ∷ []
 
@@ -20,6 +21,7 @@ turned_down Active = Flush ∷ []
 turned_down (Read m) = Write m ∷ []
 turned_down ReadComplete = Flush ∷ []
 turned_down (Caught c) = Flush ∷ []
+turned_down (User number) = Flush ∷ []
 turned_down (Write m) = Flush ∷ []
 turned_down Flush = Flush ∷ []
 

@@ -2,7 +2,7 @@
 use Rattle.std.specs.Prelude.{◌≡◌, ℕ, ◌+◌, ◌≤◌, List, [], ◌∷◌, count_by, Bool, true, false, if◌then◌else◌, refl}
 use Rattle.std.proofs.Common.{arith}
 use Rattle.pl_event.specs.declared.events.Event.{Event}
-use Rattle.pl_event.specs.declared.events.Event.TheVariants.{Active, Read, ReadComplete, Caught, Write, Flush}
+use Rattle.pl_event.specs.declared.events.Event.TheVariants.{Active, Read, ReadComplete, Caught, User, Write, Flush}
 use Rattle.pl_event.specs.declared.events.Message.TheVariants.{Reply}
 use Rattle.pl_event.specs.declared.events.Reply.TheVariants.{Total}
 use Rattle.pl_event.specs.declared.stages.Direction.{Direction}
@@ -16,6 +16,7 @@ is_read (Read m) = true
 is_read Active = false
 is_read ReadComplete = false
 is_read (Caught c) = false
+is_read (User n) = false
 is_read (Write m) = false
 is_read Flush = false
 
@@ -29,6 +30,7 @@ with_number xs (Read m) = Read (Reply (Total (reads xs + 1)))
 with_number xs Active = Active
 with_number xs ReadComplete = ReadComplete
 with_number xs (Caught c) = Caught c
+with_number xs (User n) = User n
 with_number xs (Write m) = Write m
 with_number xs Flush = Flush
 
@@ -62,6 +64,7 @@ with_number-light xs (Read m) = omega arith
 with_number-light xs Active = omega arith
 with_number-light xs ReadComplete = omega arith
 with_number-light xs (Caught c) = omega arith
+with_number-light xs (User n) = omega arith
 with_number-light xs (Write m) = omega arith
 with_number-light xs Flush = omega arith
 

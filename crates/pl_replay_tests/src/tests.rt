@@ -79,6 +79,7 @@ pub(crate) enum Seen {
     Quit,
     Echo(&'static [u8]),
     Total(u64),
+    User(u32),
     ReadComplete,
 }
 
@@ -86,6 +87,7 @@ impl Seen {
     fn is(self, event: &Event) -> bool {
         match (self, event) {
             (Seen::Active, Event::Active) | (Seen::ReadComplete, Event::ReadComplete) => true,
+            (Seen::User(want), Event::User(number)) => *number == want,
             (_, Event::Read(message)) => self.is_of(message),
             _ => false,
         }

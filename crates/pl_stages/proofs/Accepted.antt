@@ -5,7 +5,7 @@ use Rattle.std.proofs.lemmas.Grind.{fold-append}
 use Rattle.std.proofs.lemmas.List.Sums.{take_while-cons}
 use Rattle.std.specs.List.{fold}
 use Rattle.pl_event.specs.declared.events.Event.{Event}
-use Rattle.pl_event.specs.declared.events.Event.TheVariants.{Active, Read, ReadComplete, Caught, Write, Flush}
+use Rattle.pl_event.specs.declared.events.Event.TheVariants.{Active, Read, ReadComplete, Caught, User, Write, Flush}
 use Rattle.pl_event.specs.declared.events.Message.TheVariants.{Bytes, Line, Command, Reply}
 use Rattle.pl_event.specs.declared.events.Command.TheVariants.{Ping, Quit, Echo, Add, Get}
 use Rattle.pl_stages.specs.declared.totals.Totals.{Totals}
@@ -43,6 +43,7 @@ added_by-one additions (Read (Reply r)) = refl
 added_by-one additions Active = refl
 added_by-one additions ReadComplete = refl
 added_by-one additions (Caught c) = refl
+added_by-one additions (User number) = refl
 added_by-one additions (Write m) = refl
 added_by-one additions Flush = refl
 

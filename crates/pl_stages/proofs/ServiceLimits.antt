@@ -5,7 +5,7 @@ use Rattle.std.proofs.lemmas.Slice.Eq.{bytes_eq-Decides}
 use Rattle.std.specs.List.{fold}
 use Rattle.std.specs.Str.{bytes_eq}
 use Rattle.pl_event.specs.declared.events.Event.{Event}
-use Rattle.pl_event.specs.declared.events.Event.TheVariants.{Active, Read, ReadComplete, Caught, Write, Flush}
+use Rattle.pl_event.specs.declared.events.Event.TheVariants.{Active, Read, ReadComplete, Caught, User, Write, Flush}
 use Rattle.pl_event.specs.declared.events.Message.TheVariants.{Bytes, Line, Command, Reply}
 use Rattle.pl_event.specs.declared.events.Command.TheVariants.{Ping, Quit, Echo, Add, Get}
 use Rattle.pl_event.specs.declared.events.Fault.{Fault}
@@ -110,6 +110,7 @@ IsWithin-event additions (Read (Reply r)) is = subst IsWithin (sym (append-nil a
 IsWithin-event additions Active is = subst IsWithin (sym (append-nil additions)) is
 IsWithin-event additions ReadComplete is = subst IsWithin (sym (append-nil additions)) is
 IsWithin-event additions (Caught c) is = subst IsWithin (sym (append-nil additions)) is
+IsWithin-event additions (User number) is = subst IsWithin (sym (append-nil additions)) is
 IsWithin-event additions (Write m) is = subst IsWithin (sym (append-nil additions)) is
 IsWithin-event additions Flush is = subst IsWithin (sym (append-nil additions)) is
 
@@ -165,6 +166,7 @@ adds_nothing additions (Read (Reply r)) other = refl
 adds_nothing additions Active other = refl
 adds_nothing additions ReadComplete other = refl
 adds_nothing additions (Caught c) other = refl
+adds_nothing additions (User number) other = refl
 adds_nothing additions (Write m) other = refl
 adds_nothing additions Flush other = refl
 

@@ -4,7 +4,7 @@ use Rattle.std.proofs.Common.{ap, arith, length-append}
 use Rattle.std.proofs.lemmas.List.{length-map, length-drop, drop-map}
 use Rattle.std.proofs.lemmas.List.Sums.{sum_by-append, sum_by-cons}
 use Rattle.pl_event.specs.declared.events.Event.{Event}
-use Rattle.pl_event.specs.declared.events.Event.TheVariants.{Active, Read, ReadComplete, Caught, Write, Flush}
+use Rattle.pl_event.specs.declared.events.Event.TheVariants.{Active, Read, ReadComplete, Caught, User, Write, Flush}
 use Rattle.pl_event.specs.declared.events.Message.TheVariants.{Bytes, Line, Command, Reply}
 use Rattle.pl_event.specs.declared.events.Command.{Command as CommandKind}
 use Rattle.pl_event.specs.declared.events.Command.TheVariants.{Ping, Quit, Echo, Add, Get}
@@ -138,6 +138,7 @@ cut_more items each before (Read (Reply r)) = omega arith
 cut_more items each before Active = omega arith
 cut_more items each before ReadComplete = omega arith
 cut_more items each before (Caught c) = omega arith
+cut_more items each before (User number) = omega arith
 cut_more items each before (Write m) = omega arith
 cut_more items each before Flush = omega arith
 
@@ -202,6 +203,7 @@ decoded_weight (Read (Reply r)) = omega arith
 decoded_weight Active = omega arith
 decoded_weight ReadComplete = omega arith
 decoded_weight (Caught c) = omega arith
+decoded_weight (User number) = omega arith
 decoded_weight (Write m) = omega arith
 decoded_weight Flush = omega arith
 
@@ -228,6 +230,7 @@ replies_few additions (Read (Reply r)) = omega arith
 replies_few additions Active = omega arith
 replies_few additions ReadComplete = omega arith
 replies_few additions (Caught c) = omega arith
+replies_few additions (User number) = omega arith
 replies_few additions (Write m) = omega arith
 replies_few additions Flush = omega arith
 

@@ -53,6 +53,18 @@ fn length_frames(rt: HostRuntime) -> Result<(), Fail> {
 }
 
 #[test]
+fn user_event_inside_frame(rt: HostRuntime) -> Result<(), Fail> {
+    let came = [
+        Told::Chunk(b"\x00\x04PI"),
+        Told::User(7),
+        Told::Chunk(b"NG"),
+        Told::ReadComplete,
+    ];
+    let tail = [Told::User(7), Told::Ping, Told::ReadComplete];
+    assert_served(&rt, 64, &came, &tail, b"\x00\x05+PONG")
+}
+
+#[test]
 fn frame_too_long(rt: HostRuntime) -> Result<(), Fail> {
     let sent = b"\x00\x0c-ERR toolong";
     let came = [
@@ -171,7 +183,7 @@ fn assert_told_of_pieces(
 
 /// A chunk that ends a frame, and has its payload whole, however much of the length field came before it.
 #[test]
-fn frame_cut_at_every_border(rt: HostRuntime) -> Result<(), Fail> {
+fn payload_in_one_chunk(rt: HostRuntime) -> Result<(), Fail> {
     let told = [Told::Line(b"PING")];
     assert_told_of_pieces(&rt, 2, 6, b"\x00\x04PING", &told)?;
     assert_told_of_pieces(&rt, 4, 8, b"\x00\x00\x00\x04PING", &told)

@@ -25,6 +25,7 @@ pub(crate) enum Told<'a> {
     Add(&'a [u8], u32),
     Get(&'a [u8]),
     Caught(Caught),
+    User(u32),
 }
 
 fn event(alloc: Global, told: Told<'_>) -> Result<Event, Fail> {
@@ -39,6 +40,7 @@ fn event(alloc: Global, told: Told<'_>) -> Result<Event, Fail> {
         Told::Add(name, number) => Ok(command(Command::Add(key(alloc, name)?, number))),
         Told::Get(name) => Ok(command(Command::Get(key(alloc, name)?))),
         Told::Caught(caught) => Ok(Event::Caught(caught)),
+        Told::User(number) => Ok(Event::User(number)),
     }
 }
 
@@ -132,6 +134,20 @@ fn ping(rt: HostRuntime) -> Result<(), Fail> {
     let came = [Told::Active, Told::Chunk(b"PING\r\n"), Told::ReadComplete];
     let tail = [Told::Active, Told::Ping, Told::ReadComplete];
     assert_served(&rt, 64, &came, &tail, b"+PONG\r\n")
+}
+
+/// Each handler on the way in hands a user event on where it comes, but for a service that has quit.
+#[test]
+fn user_events(rt: HostRuntime) -> Result<(), Fail> {
+    let came = [
+        Told::User(0),
+        Told::Chunk(b"PI"),
+        Told::User(7),
+        Told::Chunk(b"NG\nQUIT\n"),
+        Told::User(u32::MAX),
+    ];
+    let tail = [Told::User(0), Told::User(7), Told::Ping, Told::Quit];
+    assert_served(&rt, 64, &came, &tail, b"+PONG\r\n+BYE\r\n")
 }
 
 #[test]

@@ -67,6 +67,7 @@ event_text event.Active = codes "Active"
 event_text event.ReadComplete = codes "ReadComplete"
 event_text event.Flush = codes "Flush"
 event_text (event.Caught f) = caught_text f
+event_text (event.User n) = codes "User " ++ decimal n
 event_text (event.Read m) = codes "Read " ++ message_text m
 event_text (event.Write m) = codes "Write " ++ message_text m
 

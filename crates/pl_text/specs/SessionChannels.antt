@@ -1,17 +1,18 @@
 -- What a channel and an edit mean, row by row (docs/FORMATS.md, "Session").
-use Rattle.std.specs.Prelude.{ℕ, Bool, true, false, ◌&&◌, List, length, Option, if◌then◌else◌, Result, Ok, Err, codes}
+use Rattle.std.specs.Prelude.{ℕ, Bool, true, false, ◌&&◌, List, length, Option, is_some, if◌then◌else◌, Result, Ok, Err, codes}
 use Rattle.std.specs.Result.{result_ok}
 use Rattle.hex.specs.Hex.{decode_of}
 use Rattle.serde_json.specs.Data.{Data}
+use Rattle.serde_json.specs.Find.{as_object}
 use Rattle.pl_event.specs.declared.elements.Element.{Element}
-use Rattle.pl_event.specs.declared.elements.Element.TheVariants.{Chunk}
+use Rattle.pl_event.specs.declared.elements.Element.TheVariants.{Chunk, User}
 use Rattle.pl_event.specs.Inputs.{Bursts}
 use Rattle.pl_build.specs.declared.limits.TheConstants.{MAX_MARK, DEFAULT_LOW, DEFAULT_HIGH}
 use Rattle.pl_world.specs.declared.limits.TheConstants.{MAX_BURSTS}
 use Rattle.pl_world.specs.Limits.{fits}
 use Rattle.pl_stages.specs.declared.limits.TheConstants.{MAX_LINE, MAX_FLUSHES, MAX_FRAME}
 use Rattle.pl_stages.specs.LengthFraming.{is_width}
-use Rattle.pl_text.specs.declared.session_text.limits.TheConstants.{MAX_EDITS, MAX_WINDOW, MAX_FAIL_AT, DEFAULT_WINDOW}
+use Rattle.pl_text.specs.declared.session_text.limits.TheConstants.{MAX_EDITS, MAX_WINDOW, MAX_FAIL_AT, MAX_USER_EVENT, DEFAULT_WINDOW}
 use Rattle.pl_text.specs.declared.faults.SessionFault.{SessionFault}
 use Rattle.pl_text.specs.declared.faults.SessionFault.TheVariants.{Kind, Limit}
 use Rattle.pl_text.specs.declared.session_text.version.Version.{Version}
@@ -139,14 +140,25 @@ fail_at_in channel = optional (codes "fail_at") (whole_in 1 MAX_FAIL_AT) channel
 abbrev pub hex_decoded : List ℕ → Result (List ℕ) SessionFault
 hex_decoded digits = known Kind (result_ok (decode_of digits))
 
+-- the number of a user event
+unfoldable pub user_in : Data → Result ℕ SessionFault
+user_in event = required (codes "user") (whole_in 0 MAX_USER_EVENT) event
+
 -- the bytes of a chunk: in version 1 the UTF-8 bytes of a text, in version 2 those that its hex digits say
 unfoldable pub chunk_in : Version → Data → Result (List ℕ) SessionFault
 chunk_in One d = text d
 chunk_in Two d = text d >>= hex_decoded
 
--- an element of a burst is a chunk
+-- only version 2 knows user events
+abbrev pub knows_user_events : Version → Bool
+knows_user_events One = false
+knows_user_events Two = true
+
+-- an element of a burst: where user events are known an object is read as one, and all else as a chunk
 unfoldable pub element_in : Version → Data → Result Element SessionFault
-element_in version d = chunk_in version d >>= λ bytes. Ok (Chunk bytes)
+element_in version d =
+    if knows_user_events version && is_some (as_object d) then (user_in d >>= λ number. Ok (User number))
+    else (chunk_in version d >>= λ bytes. Ok (Chunk bytes))
 
 -- the limits on elements and bytes come after all bursts
 abbrev pub limited : Bursts → Result Bursts SessionFault

@@ -55,7 +55,7 @@ writes 2
 ";
 
 const EVERY_EVENT: &str = "channel 0 open
-tail 17
+tail 19
 Active
 Read Ping
 Read Quit
@@ -66,6 +66,8 @@ Read Get zz
 Caught TooLong
 Caught Unknown
 Caught Syntax
+User 7
+User 4294967295
 Read Bytes 00ff
 Write Line 0d
 Write Reply 2b504f4e47
@@ -224,6 +226,9 @@ fn every_event(rt: HostRuntime) -> Result<(), Fail> {
     }
     for caught in [Caught::TooLong, Caught::Unknown, Caught::Syntax] {
         tail.push(Event::Caught(caught))?;
+    }
+    for number in [7, 4_294_967_295] {
+        tail.push(Event::User(number))?;
     }
     tail.push(Event::Read(Message::Bytes(bytes(&rt, b"\x00\xff")?)))?;
     tail.push(Event::Write(Message::Line(bytes(&rt, b"\r")?)))?;

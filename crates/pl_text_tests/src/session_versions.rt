@@ -1,4 +1,4 @@
-//! Session texts of version 2: chunks in hex, and handlers of frames with their length in front.
+//! Session texts of version 2: chunks in hex, user events, and handlers of frames with their length in front.
 
 use crate::session_text::{
     KIND, LIMIT, MISSING, SERVICE, assert_answer, assert_burst, assert_fails, chunk,
@@ -159,5 +159,76 @@ fn hostile_version_two_chunks(rt: HostRuntime) -> Result<(), Fail> {
         let text = versioned(&rt, "2", SERVICE, bursts.as_str())?;
         assert_answer(&rt, text.as_str(), fault);
     }
+    Ok(())
+}
+
+/// A user event stands among the chunks of a burst. Other members of its object are not read.
+#[test]
+fn user_event(rt: HostRuntime) -> Result<(), Fail> {
+    let ping = b"PING\n";
+    let elements = vec![in rt.alloc(); chunk(&rt, ping)?, Element::User(7), chunk(&rt, ping)?]?;
+    let burst = r#"["50494e470a",{"user":7},"50494e470a"]"#;
+    assert_elements(&rt, burst, elements.as_slice())?;
+    for (burst, number) in [
+        (r#"[{"user":0}]"#, 0),
+        (r#"[{"user":4294967295}]"#, 4_294_967_295),
+        (r#"[{"bytes":7,"user":65536,"User":"x"}]"#, 65_536),
+        (r#"[{"user":"x","user":1}]"#, 1),
+    ] {
+        assert_elements(&rt, burst, [Element::User(number)].as_slice())?;
+    }
+    Ok(())
+}
+
+#[test]
+fn hostile_user_event(rt: HostRuntime) -> Result<(), Fail> {
+    for (version, element, fault) in [
+        ("2", r#"{"user":4294967296}"#, LIMIT),
+        ("2", r#"{"user":18446744073709551615}"#, LIMIT),
+        ("2", r#"{"user":18446744073709551616}"#, KIND),
+        ("2", "{}", MISSING),
+        ("2", r#"{"User":7}"#, MISSING),
+        ("2", r#"{"user":"7"}"#, KIND),
+        ("2", r#"{"user":null}"#, KIND),
+        ("2", r#"{"user":-1}"#, KIND),
+        ("2", r#"{"user":1.5}"#, KIND),
+        ("2", r#"{"user":7.0}"#, KIND),
+        ("2", "7", KIND),
+        ("2", "null", KIND),
+        ("2", "[]", KIND),
+        ("2", "true", KIND),
+        ("1", r#"{"user":7}"#, KIND),
+        ("1", "{}", KIND),
+        // An element is read to its end before the next.
+        ("2", r#"{},"5""#, MISSING),
+        ("2", r#""5",{}"#, KIND),
+    ] {
+        let bursts = format!(in rt.alloc(); "[[\"00\"],[{element}]]")?;
+        let text = versioned(&rt, version, SERVICE, bursts.as_str())?;
+        assert_answer(&rt, text.as_str(), fault);
+    }
+    Ok(())
+}
+
+/// Chunks and user events count together, and a user event has no bytes.
+#[test]
+fn many_elements(rt: HostRuntime) -> Result<(), Fail> {
+    for (first, copies, fault) in [
+        (r#""00""#, 16_383, None),
+        (r#""00""#, 16_384, LIMIT),
+        (r#"{"user":7}"#, 16_383, None),
+        (r#"{"user":7}"#, 16_384, LIMIT),
+        (r#""00","01"],["02""#, 16_381, None),
+        (r#""00","01"],["02""#, 16_382, LIMIT),
+    ] {
+        let events = r#",{"user":4294967295}"#.repeat(rt.alloc(), copies)?;
+        let bursts = format!(in rt.alloc(); "[[{first}{events}]]")?;
+        let text = versioned(&rt, "2", SERVICE, bursts.as_str())?;
+        assert_answer(&rt, text.as_str(), fault);
+    }
+    let digits = "0a".repeat(rt.alloc(), 1_048_576)?;
+    let bursts = format!(in rt.alloc(); "[[{{\"user\":7}},\"{digits}\",{{\"user\":8}}]]")?;
+    let text = versioned(&rt, "2", SERVICE, bursts.as_str())?;
+    assert_answer(&rt, text.as_str(), None);
     Ok(())
 }

@@ -4,7 +4,7 @@ use Rattle.std.proofs.lemmas.List.{map-append}
 use Rattle.std.proofs.lemmas.Bool.{cases_Bool, cond-true, cond-false}
 use Rattle.std.proofs.lemmas.Bool.Decides.{nat_tests}
 use Rattle.pl_event.specs.declared.events.Event.{Event}
-use Rattle.pl_event.specs.declared.events.Event.TheVariants.{Active, Read, ReadComplete, Caught, Write, Flush}
+use Rattle.pl_event.specs.declared.events.Event.TheVariants.{Active, Read, ReadComplete, Caught, User, Write, Flush}
 use Rattle.pl_event.specs.declared.outcomes.Outcome.{Outcome}
 use Rattle.pl_event.specs.declared.outcomes.Outcome.TheVariants.{Success, Closed, Unsupported}
 use Rattle.pl_head.specs.Writes.{write_by, is_flush, flushed_writes, unflushed_writes, bytes_of, out, outcomes_from, outcomes, late_outcome}
@@ -30,6 +30,7 @@ flush-write Active on = refl
 flush-write (Read m) on = refl
 flush-write ReadComplete on = refl
 flush-write (Caught c) on = refl
+flush-write (User n) on = refl
 flush-write (Write m) on = cc
 
 module _ (ys : List Event) (e : Event) where

@@ -10,7 +10,7 @@ use Rattle.std.proofs.lemmas.List.Sums.{sum_by-cons, sum_by-append}
 use Rattle.pl_event.specs.declared.events.Event.{Event}
 use Rattle.pl_event.specs.declared.events.Event.TheVariants.{Active, ReadComplete}
 use Rattle.pl_event.specs.declared.elements.Element.{Element}
-use Rattle.pl_event.specs.declared.elements.Element.TheVariants.{Chunk}
+use Rattle.pl_event.specs.declared.elements.Element.TheVariants.{Chunk, User}
 use Rattle.pl_event.specs.declared.stages.Direction.{Direction}
 use Rattle.pl_event.specs.declared.stages.Direction.TheVariants.{Inbound, Outbound, Turn}
 use Rattle.pl_event.specs.Meaning.{Meaning, up_of, down_of}
@@ -39,6 +39,7 @@ use Rattle.pl_event.specs.declared.limits.TheConstants.{MAX_ITEMS}
 
 element_weight : (element : Element) → event_weight (element_event element) ≡ element_size element + 1
 element_weight (Chunk bytes) = omega arith
+element_weight (User n) = omega arith
 
 elements_weight : (elements : List Element) → weight (map element_event elements) ≡ length elements + sum_by element_size elements
 elements_weight [] = refl

@@ -7,7 +7,7 @@ use Rattle.pl_head.specs.declared.inputs.ReadPlan.{ReadPlan}
 use Rattle.pl_build.specs.declared.limits.TheConstants.{MAX_EXECUTORS}
 use Rattle.pl_world.specs.declared.limits.TheConstants.{MAX_CHANNELS, MAX_BURSTS, MAX_ELEMENTS, MAX_BYTES}
 
--- how many elements a channel's bursts have, and how many bytes those bring
+-- how many elements a channel's bursts have, chunks and user events together, and how many bytes those bring
 abbrev pub element_count : Bursts → ℕ
 element_count bursts = sum_by length bursts
 

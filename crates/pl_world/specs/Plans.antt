@@ -1,6 +1,6 @@
 -- What a world plans: the capacity of its queues, its executors, and its channels, each with its path, its marks, its
--- transport's window and the call that it is to fail at, its bursts of elements, and how many of them come before an abort,
--- if there is one.
+-- transport's window and the call that it is to fail at, its bursts of chunks and user events, and how many of them come
+-- before an abort, if there is one.
 use Rattle.std.specs.Prelude.{ℕ, ◌+◌, List, length, map, Option}
 use Rattle.pl_event.specs.declared.events.Event.{Event}
 use Rattle.pl_event.specs.Meaning.{Meaning}

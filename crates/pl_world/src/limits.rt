@@ -16,7 +16,7 @@ pub const MAX_CAPACITY: u32 = pl_event::MAX_CAPACITY;
 /// How many bursts the input of a channel has at most.
 pub const MAX_BURSTS: usize = 4_096;
 
-/// How many elements all bursts of a channel have at most.
+/// How many elements, chunks and user events, all bursts of a channel have at most.
 pub const MAX_ELEMENTS: usize = 16_384;
 
 /// How many bytes all chunks of a channel have at most.

@@ -14,7 +14,7 @@ use pl_stages::Handler;
 #[derive(Drop)]
 pub struct Recorded<S: Stage, T: Transport> {
     pub pipeline: Placed<S>,
-    /// The elements of each burst, and where it is aborted, if it is.
+    /// The chunks and user events of each burst, and where it is aborted, if it is.
     pub input: ReadPlan,
     /// Where its bytes leave.
     pub transport: T,

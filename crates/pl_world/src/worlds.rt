@@ -81,7 +81,7 @@ impl<S: Stage, T: Transport> World<S, T> {
     }
 
     /// Channels with these pipelines, inputs and transports, in order, on a given number of executors. An input is the
-    /// elements of each burst, and after how many bursts an abort comes. Refused as `Limit` where the
+    /// chunks and user events of each burst, and after how many bursts an abort comes. Refused as `Limit` where the
     /// world would not be within its limits, then as `Memory`; what was handed in is gone then.
     pub fn new(
         alloc: Global,

@@ -230,6 +230,8 @@ pub(crate) enum Sample {
     /// A read of these bytes.
     Read(&'static [u8]),
     ReadComplete,
+    /// A user event of this number.
+    User(u32),
     Flush,
     End,
     Fail(Cause),
@@ -242,6 +244,7 @@ fn item_of(alloc: Global, sample: Sample) -> Result<Item, AllocError> {
         Sample::Active => Event::Active,
         Sample::Read(bytes) => Event::Read(Message::Bytes(text(alloc, bytes)?)),
         Sample::ReadComplete => Event::ReadComplete,
+        Sample::User(number) => Event::User(number),
         Sample::Flush => Event::Flush,
         Sample::End => return Ok(Item::End),
         Sample::Fail(cause) => return Ok(Item::Fail(cause)),
@@ -277,6 +280,7 @@ impl Sample {
         match (self, event) {
             (Sample::Active, Event::Active) => true,
             (Sample::ReadComplete, Event::ReadComplete) => true,
+            (Sample::User(want), Event::User(number)) => *number == want,
             (Sample::Flush, Event::Flush) => true,
             (Sample::Read(want), Event::Read(Message::Bytes(bytes))) => bytes.as_slice() == want,
             _ => false,

@@ -30,11 +30,11 @@ fn block(
     Ok(())
 }
 
-/// A head with two bursts to read: one of two chunks, and one of none.
+/// A head with two bursts to read: one of two chunks with a user event between them, and one of no element.
 fn two_bursts(alloc: Global) -> Result<Head<MemoryTransport>, AllocError> {
     let first = Element::Chunk(text(alloc, b"ab")?);
     let second = Element::Chunk(text(alloc, b"c")?);
-    let elements = vec![in alloc; first, second]?;
+    let elements = vec![in alloc; first, Element::User(17), second]?;
     let bursts = vec![in alloc; Sequence::from_vec(elements), Sequence::new(alloc)]?;
     let transport = MemoryTransport::new(alloc, 2, None);
     let plan = ReadPlan {
@@ -59,15 +59,16 @@ fn assert_step(
 
 const ACTIVE: [Put; 1] = [(0, 0, Sample::Active)];
 
-const FIRST: [Put; 3] = [
+const FIRST: [Put; 4] = [
     (0, 1, Sample::Read(b"ab")),
-    (0, 2, Sample::Read(b"c")),
-    (0, 3, Sample::ReadComplete),
+    (0, 2, Sample::User(17)),
+    (0, 3, Sample::Read(b"c")),
+    (0, 4, Sample::ReadComplete),
 ];
 
-const SECOND: [Put; 1] = [(0, 4, Sample::ReadComplete)];
+const SECOND: [Put; 1] = [(0, 5, Sample::ReadComplete)];
 
-const END: [Put; 1] = [(0, 5, Sample::End)];
+const END: [Put; 1] = [(0, 6, Sample::End)];
 
 /// A burst comes once what was flushed before it is written, and not before.
 fn assert_held(
@@ -90,7 +91,7 @@ fn assert_steps(
     assert_step(rt, head, ReadStep::Gave, &ACTIVE)?;
     assert_held(rt, head, &FIRST)?;
 
-    // The second burst, of no chunk, is held too.
+    // The second burst, of no element, is held too.
     block(rt, head)?;
     assert_held(rt, head, &SECOND)?;
 

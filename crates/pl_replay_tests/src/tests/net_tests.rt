@@ -1,7 +1,7 @@
 //! Replays on several executors. The channels are those of docs/FORMATS.md.
 ghost use Rattle.std.specs.Prelude.{◌<◌};
 
-use crate::tests::world_tests::world_of;
+use crate::tests::world_tests::{memory_transport, one_channel, only, world_of};
 use crate::tests::{
     ACTIVE_TAIL, Bursts, Kind, Kinds, OUT, PING, PING_CRLF, PING_TAIL, QUIT_TAIL, READ, SUCCESS,
     Seen, assert_drained, assert_each_same, assert_one, assert_ping, assert_pong, assert_sent,
@@ -324,6 +324,40 @@ fn three_channels_share_a_group(rt: HostRuntime) -> Result<(), Fail> {
     let quit_bytes = b"+PONG\r\n+BYE\r\n";
     assert_drained(&rt, &reports[1], QUIT_TAIL, quit_bytes, &[SUCCESS; 2]);
     assert_eq!(rt; reports[2].bytes.as_slice(), TOTALS_SENT);
+    Ok(())
+}
+
+/// One channel of the line protocol, so placed, whose burst has a user event between two chunks.
+fn told_between(alloc: Global, placing: Placing) -> Result<World<Handler, MemoryTransport>, Fail> {
+    let mut burst = Sequence::new(alloc);
+    burst.push(Element::Chunk(text(alloc, b"PING\n")?))?;
+    burst.push(Element::User(7))?;
+    burst.push(Element::Chunk(text(alloc, b"PING\n")?))?;
+    let input = ReadPlan {
+        bursts: only(alloc, burst)?,
+        abort_after: None,
+    };
+    let (pipeline, executors) = placed(alloc, placing)?;
+    let transport = memory_transport(alloc, 65_536, None);
+    one_channel(alloc, pipeline, input, transport, executors)
+}
+
+/// In each placing a user event comes to the tail in its place among the reads.
+#[test]
+fn user_event(rt: HostRuntime) -> Result<(), Fail> {
+    let tail = [
+        Seen::Active,
+        Seen::Ping,
+        Seen::User(7),
+        Seen::Ping,
+        Seen::ReadComplete,
+    ];
+    for placing in PLACINGS {
+        let net = Net::new(rt.alloc(), told_between(rt.alloc(), placing)?, 1)?;
+        let report = drained(&rt, net, 1, 3)?;
+        let channel = only_channel(&rt, &report);
+        assert_drained(&rt, channel, &tail, b"+PONG\r\n+PONG\r\n", &[SUCCESS; 2]);
+    }
     Ok(())
 }
 

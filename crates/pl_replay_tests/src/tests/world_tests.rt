@@ -4,12 +4,12 @@ ghost use Rattle.pl_world.specs.Worlds.{IsUncalled};
 
 use crate::tests::net_tests::{TOGETHER, line_protocol, pipeline, to_its_end};
 use crate::tests::trickle_tests::trickle;
-use crate::tests::{Bursts, PING, assert_named};
+use crate::tests::{Bursts, PING, assert_named, text};
 use pl_build::{Groups, Placed};
-use pl_event::Sequence;
+use pl_event::{Element, Sequence};
 use pl_head::{MemoryTransport, ReadPlan, Transport};
 use pl_stages::Handler;
-use pl_world::{World, WorldRefusal};
+use pl_world::{World, WorldRefusal, fits};
 use std::alloc::{AllocError, Global};
 use std::test::Fail;
 
@@ -204,6 +204,37 @@ fn too_long_inputs(rt: HostRuntime) -> Result<(), Fail> {
         assert_eq!(rt; refusal_of_bursts(alloc, 4_096 + past)?, want);
         assert_eq!(rt; refusal_of_chunks(alloc, 16_384 + past)?, want);
         assert_eq!(rt; refusal_of_bytes(alloc, 1_048_576 + past)?, want);
+    }
+    Ok(())
+}
+
+/// A burst of this many empty chunks, and then of this many user events.
+fn mixed_burst(
+    alloc: Global,
+    chunks: usize,
+    users: usize,
+) -> Result<Sequence<Element>, AllocError> {
+    let mut burst = Sequence::new(alloc);
+    for _ in 0..chunks {
+        burst.push(Element::Chunk(text(alloc, b"")?))?;
+    }
+    for _ in 0..users {
+        burst.push(Element::User(7))?;
+    }
+    Ok(burst)
+}
+
+/// Chunks and user events count together.
+#[test]
+fn too_many_elements(rt: HostRuntime) -> Result<(), Fail> {
+    for (chunks, users, want) in [
+        (0, 16_384, true),
+        (0, 16_385, false),
+        (16_000, 384, true),
+        (16_000, 385, false),
+    ] {
+        let burst = mixed_burst(rt.alloc(), chunks, users)?;
+        assert_eq!(rt; fits(&[burst]), want);
     }
     Ok(())
 }

@@ -85,6 +85,7 @@ pub(crate) fn add_event(text: &mut String, event: &Event) -> Result<(), AllocErr
         Event::Caught(Caught::TooLong) => text.push_str("Caught TooLong"),
         Event::Caught(Caught::Unknown) => text.push_str("Caught Unknown"),
         Event::Caught(Caught::Syntax) => text.push_str("Caught Syntax"),
+        Event::User(number) => write!(text, "User {number}"),
         Event::Read(message) => {
             text.push_str("Read ")?;
             add_message(text, message)
