@@ -1226,7 +1226,7 @@ struct Session {
 }
 
 const MAX_TEXT: u64 = 33_554_432;
-const MAX_EXECUTORS: usize = 16;
+const MAX_EXECUTORS: usize = 64;
 const MAX_HANDLERS: usize = 32;
 const MAX_MARK: u64 = 1_073_741_824;
 
@@ -1248,7 +1248,7 @@ fn read_session(text: &[u8]) -> Result<Session, Fault> {
         },
         channels: session
             .required("channels")?
-            .array(16, |channel| read_channel(version, channel))?,
+            .array(64, |channel| read_channel(version, channel))?,
     })
 }
 

@@ -1,7 +1,7 @@
 //! The limits of pipelines and groups, and the marks of a channel that names none.
 
 /// The most executors of a session: its loops, and those of each group.
-pub const MAX_EXECUTORS: u16 = 16;
+pub const MAX_EXECUTORS: u16 = 64;
 
 /// The most handlers of a pipeline, as a length of a list.
 pub const MAX_HANDLERS: usize = pl_event::MAX_HANDLERS as usize;

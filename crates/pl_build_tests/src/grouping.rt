@@ -51,13 +51,28 @@ fn assert_on_loop(rt: &impl Abort, placed: &Placed<Small>, place: u16, executor:
     assert_eq!(rt; placed.executor_of(6), Some(place));
 }
 
+/// As many executors as there may be: loops alone, and loops with groups.
+#[test]
+fn most_executors(rt: HostRuntime) -> Result<(), Fail> {
+    let cases: [(u16, &[(&str, u16)]); 3] = [
+        (64, &[]),
+        (63, &[("g", 1)]),
+        (1, &[("g", 1), ("h", 62)]),
+    ];
+    for (loops, groups) in cases {
+        let groups = Groups::new(rt.alloc(), loops, groups)?;
+        assert_eq!(rt; groups.executors(), 64);
+    }
+    Ok(())
+}
+
 #[test]
 fn group_refusals(rt: HostRuntime) {
     let cases: [(u16, &[(&str, u16)], BuildFault); 6] = [
         (0, &[], BuildFault::Limit),
-        (16, &[("g", 1)], BuildFault::Limit),
+        (64, &[("g", 1)], BuildFault::Limit),
         (1, &[("g", 1), ("g", 1)], BuildFault::DuplicateName),
-        (1, &[("g", 1), ("g", 15)], BuildFault::Limit),
+        (1, &[("g", 1), ("g", 63)], BuildFault::Limit),
         (1, &[("g", 0)], BuildFault::Limit),
         (1, &[("", 1)], BuildFault::Limit),
     ];
@@ -67,4 +82,6 @@ fn group_refusals(rt: HostRuntime) {
             Err(refused) => assert_eq!(rt; refused, fault),
         }
     }
+    let loops_alone = Groups::new(rt.alloc(), 65, &[]).err();
+    assert_eq!(rt; loops_alone, Some(BuildFault::Limit));
 }

@@ -290,6 +290,21 @@ fn group_placing(rt: HostRuntime) -> Result<(), Fail> {
     gives(&rt, text, ALL_IN_TURN, report.as_str())
 }
 
+/// As many channels and executors as there may be.
+#[test]
+fn sixty_four(rt: HostRuntime) -> Result<(), Fail> {
+    let text = sessions::sixty_four(&rt)?;
+    let mut moves = String::new(rt.alloc());
+    let mut report = String::new(rt.alloc());
+    for channel in 0..64 {
+        moves.push_str(format!(in rt.alloc(); "R{channel}x3 O{channel} ")?.as_str())?;
+        report.push_str(format!(in rt.alloc(); "channel {channel} {PINGED}")?.as_str())?;
+    }
+    gives(&rt, text.as_str(), moves.as_str(), report.as_str())?;
+    // Nothing crosses executors, so waiting queues need no room for all.
+    runs(&rt, text.as_str(), "waiting", 0, report.as_str())
+}
+
 #[test]
 fn edits_in_any_order(rt: HostRuntime) -> Result<(), Fail> {
     let text = sessions::edits_in_any_order(&rt)?;

@@ -143,7 +143,7 @@ fn build_refusals(rt: HostRuntime) -> Result<(), Fail> {
 #[test]
 fn group_refusals(rt: HostRuntime) -> Result<(), Fail> {
     for (groups, reason) in [
-        (r#"{"name":"g","size":16}"#, "3 Limit"),
+        (r#"{"name":"g","size":64}"#, "3 Limit"),
         (r#"{"name":"g","size":0}"#, "3 Limit"),
         (r#"{"name":"","size":1}"#, "3 Limit"),
         (

@@ -189,6 +189,32 @@ fn failures_across_groups(rt: HostRuntime) -> Result<(), Fail> {
     Ok(())
 }
 
+/// As many channels and executors as there may be, each handler in a group of 16.
+#[test]
+fn sixty_four_across_groups(rt: HostRuntime) -> Result<(), Fail> {
+    let text = sessions::sixty_four_across_groups(&rt, "", "")?;
+    drains_over_each(&rt, text.as_str())
+}
+
+/// The same, where every other channel is aborted or has a transport that fails: these fail, and the others are drained.
+#[test]
+fn sixty_four_of_which_some_fail(rt: HostRuntime) -> Result<(), Fail> {
+    let text = sessions::sixty_four_across_groups(&rt, r#","abort_after":0"#, r#","fail_at":1"#)?;
+    let roomy = sessions::with_room(&rt, text.as_str())?;
+    for (queue, text) in [(QueueKind::Ring, text), (QueueKind::Waiting, roomy)] {
+        let report = ended(&rt, text.as_str(), queue)?;
+        for (number, channel) in report.channels.as_slice().iter().enumerate() {
+            let stands = match number % 4 {
+                1 => Stands::Failed(Cause::Aborted),
+                3 => Stands::Failed(Cause::Transport),
+                _ => Stands::Drained,
+            };
+            assert_eq!(rt; channel.stands, stands, "{queue:?}: channel {number}");
+        }
+    }
+    Ok(())
+}
+
 /// A failed channel is told by the status, and not on standard error.
 #[test]
 fn status_of_a_failed_run(rt: HostRuntime) -> Result<(), Fail> {

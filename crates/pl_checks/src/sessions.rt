@@ -286,6 +286,62 @@ pub(crate) fn totals_across_groups(
     )
 }
 
+/// So many times the same channel, as JSON.
+fn channels(rt: &impl AllocGlobal, count: u16, channel: &str) -> Result<String, AllocError> {
+    let mut text = String::from_str(rt.alloc(), channel)?;
+    for _ in 1..count {
+        text.push_str(",")?;
+        text.push_str(channel)?;
+    }
+    Ok(text)
+}
+
+/// As many channels as there may be, each of one ping and on a loop of its own.
+pub(crate) fn sixty_four(rt: &impl AllocGlobal) -> Result<String, AllocError> {
+    let edits = line_protocol(rt, 64)?;
+    let channel = format!(in rt.alloc();
+        "{{\"handlers\":[{edits}],\"bursts\":[[\"PING\\r\\n\"]]}}"
+    )?;
+    let channels = channels(rt, 64, channel.as_str())?;
+    format!(in rt.alloc();
+        "{{\"version\":1,\"capacity\":4,\"loops\":64,\"channels\":[{channels}]}}"
+    )
+}
+
+/// The line protocol with each handler in a group.
+const IN_GROUPS_OF_16: &str = r#"{"op":"last","name":"lines","kind":"lines","max":64,"group":"a"},
+{"op":"last","name":"decode","kind":"decode","group":"b"},
+{"op":"last","name":"lineend","kind":"lineend","group":"c"},
+{"op":"last","name":"encode","kind":"encode","group":"a"},
+{"op":"last","name":"service","kind":"service","group":"b"}"#;
+
+/// A channel of one line, with a user event inside, whose handlers are each in a group of 16, with these further members,
+/// each after a comma.
+fn in_groups(rt: &impl AllocGlobal, members: &str) -> Result<String, AllocError> {
+    format!(in rt.alloc();
+        "{{\"handlers\":[{IN_GROUPS_OF_16}]{members},\"bursts\":{USER_EVENT_INSIDE_LINE}}}"
+    )
+}
+
+/// As many channels as there may be, on as many executors as there may be. Every other channel has the members `first` or
+/// `second` in turn.
+pub(crate) fn sixty_four_across_groups(
+    rt: &impl AllocGlobal,
+    first: &str,
+    second: &str,
+) -> Result<String, AllocError> {
+    let (whole, one, other) = (
+        in_groups(rt, "")?,
+        in_groups(rt, first)?,
+        in_groups(rt, second)?,
+    );
+    let four = format!(in rt.alloc(); "{whole},{one},{whole},{other}")?;
+    let channels = channels(rt, 16, four.as_str())?;
+    format!(in rt.alloc();
+        "{{\"version\":2,\"capacity\":4,\"loops\":16,\"groups\":[{{\"name\":\"a\",\"size\":16}},{{\"name\":\"b\",\"size\":16}},{{\"name\":\"c\",\"size\":16}}],\"channels\":[{channels}]}}"
+    )
+}
+
 /// The same session with queues that have room for all of its items, where they had room for four: executors that wait for
 /// room in one another's queues may wait for ever.
 pub(crate) fn with_room(rt: &impl AllocGlobal, text: &str) -> Result<String, AllocError> {

@@ -7,7 +7,7 @@ use Rattle.std.proofs.lemmas.Bool.{cases_lt, and_parts, and_from, eqb-true, eq-e
 use Rattle.std.proofs.lemmas.List.{get_or_past}
 use Rattle.std.proofs.lemmas.List.Elements.{All-map}
 use Rattle.std.proofs.lemmas.List.Folds.{list_any-append, Any-from_list_any}
-use Rattle.std.proofs.lemmas.List.FromFn.{length-map-range_with_len, get_or-map-range_with_len}
+use Rattle.std.proofs.lemmas.List.FromFn.{length-map-range_with_len}
 use Rattle.std.proofs.lemmas.List.Sums.{sum_by-cons, sum_by-le-sum_by}
 use Rattle.std.proofs.lemmas.Map.Views.{any-filter_same}
 use Rattle.pl_event.specs.declared.envelopes.Lane.{Lane}
@@ -24,6 +24,7 @@ use Rattle.pl_replay.specs.Channels.{origin_of, target_of}
 use Rattle.pl_exec.specs.Opening.{lanes_to, lanes_between, IsSquare, CanOpen}
 use Rattle.pl_exec.specs.Lanes.{AreLaid, crosses, every_lane, is_lane, lane_table}
 use Rattle.pl_exec.proofs.LaneTablesSums.{at-most, count-all, count-parts}
+use Rattle.pl_exec.proofs.LaneTablesGrown.{made-between, made-length, made-row, made-square}
 use Rattle.pl_exec.proofs.LaneTablesEvery.{times, has-any, every-once, every-has, every-few}
 
 -- ---- lanes apart
@@ -64,18 +65,16 @@ module _ {S T : Type 0} (ps : List (ChannelPartView S T)) where
   -- ---- its form
 
   pub table-length : (count : ℕ) → length (lane_table ps count) ≡ count
-  table-length count = length-map-range_with_len (row count) 0 count
+  table-length count = made-length ps (every_lane ps) count
 
   pub table-square : (count : ℕ) → IsSquare (lane_table ps count)
-  table-square count =
-      All-map (λ target. length target ≡ length (lane_table ps count)) (row count) (range_with_len 0 count)
-      (λ k d below. length-map-range_with_len (between (get_or (range_with_len 0 count) k d)) 0 count ∙ sym (table-length count))
+  table-square count = made-square ps (every_lane ps) count
 
   row-at : (count y : ℕ) → y < count → lanes_to (lane_table ps count) y ≡ row count y
-  row-at count y below = get_or-map-range_with_len (row count) 0 count y y [] below (omega arith)
+  row-at count y below = made-row ps (every_lane ps) count y below
 
   between-at : (count x y : ℕ) → x < count → y < count → lanes_between (lane_table ps count) x y ≡ between y x
-  between-at count x y from to = ap (λ senders. get_or senders x []) (row-at count y to) ∙ get_or-map-range_with_len (between y) 0 count x x [] from (omega arith)
+  between-at count x y from to = made-between ps (every_lane ps) count x y from to
 
   -- ---- which lanes it has
 

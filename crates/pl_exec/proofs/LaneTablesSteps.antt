@@ -1,20 +1,19 @@
--- Lists that are made element by element, and which lanes go from one executor to another.
-use Rattle.std.proofs.Common.{◌≡◌, ◌≢◌, ℕ, ◌+◌, ◌<◌, ◌≤◌, ◌==◌, ◌&&◌, not, Bool, true, false, List, [], ◌∷◌, ◌++◌, cond, length, map, filter, take, drop, get_or, slice_get, Option, Some, refl, inl, inr, ap, sym, subst, ◌∙◌, arith, add-one, append_assoc, drop-cons}
+-- Lists that are made element by element, and where lanes go.
+use Rattle.std.proofs.Common.{◌≡◌, ℕ, ◌+◌, ◌<◌, ◌≤◌, true, false, List, [], ◌∷◌, ◌++◌, length, map, drop, get_or, refl, inl, inr, ap, sym, subst, ◌∙◌, arith, add-one, append_assoc, drop-cons}
 use Rattle.std.specs.List.{flat_map, range_with_len}
 use Rattle.std.specs.Option.{option_map_or}
-use Rattle.std.proofs.lemmas.Bool.{cases_lt, false≢true, ne_eqb}
+use Rattle.std.proofs.lemmas.Bool.{cases_lt, false≢true}
 use Rattle.std.proofs.lemmas.List.{append-nil, drop_all, map-id, map_push}
 use Rattle.std.proofs.lemmas.List.Concat.{flat_map-append}
-use Rattle.std.proofs.lemmas.List.Elements.{filter_more}
 use Rattle.std.proofs.lemmas.List.FromFn.{map-range_with_len_more}
 use Rattle.std.proofs.lemmas.Option.{slice_get_past, slice_get_read}
 use Rattle.pl_event.specs.declared.envelopes.Lane.{Lane}
 use Rattle.pl_part.specs.Paths.{writer_hop}
 use Rattle.pl_part.specs.Parts.{ChannelPartView}
-use Rattle.pl_replay.specs.Channels.{executor_at, is_hop}
+use Rattle.pl_replay.specs.Channels.{executor_at, is_hop, origin_of, target_of}
 use Rattle.pl_build.specs.declared.limits.TheConstants.{MAX_HANDLERS}
-use Rattle.pl_replay.specs.Placed.{HasExecutors, goes_between}
-use Rattle.pl_exec.specs.Lanes.{AreLaid, crosses, every_lane, is_lane, lanes_at, lanes_from}
+use Rattle.pl_replay.specs.Placed.{HasExecutors}
+use Rattle.pl_exec.specs.Lanes.{AreLaid, every_lane, is_lane, lanes_at, lanes_from}
 use Rattle.pl_exec.proofs.LaneTablesEvery.{there-past}
 
 -- one number more
@@ -36,17 +35,6 @@ made-more view f before after new n was grown is =
     ∙ map_push view before new
     ∙ (λ i. was i ++ is i ∷ [])
     ∙ sym (map-range_with_len_more f 0 n n (omega arith))
-
--- one element more passed a filter, or did not
-module _ {A : Type 0} (p : A → Bool) (xs before : List A) (i : ℕ) (d : A) (answer : Bool) (below : i < length xs) (was : before ≡ filter p (take i xs)) (test : answer ≡ p (get_or xs i d)) where
-  more : filter p (take (i + 1) xs) ≡ before ++ cond answer (get_or xs i d ∷ []) []
-  more = filter_more p xs i d below ∙ sym (λ j. was j ++ cond (test j) (get_or xs i d ∷ []) [])
-
-  pub kept-more : (after : List A) → answer ≡ true → after ≡ before ++ get_or xs i d ∷ [] → after ≡ filter p (take (i + 1) xs)
-  kept-more after passes grown = grown ∙ sym (more ∙ ap (λ b. before ++ cond b (get_or xs i d ∷ []) []) passes)
-
-  pub left-more : answer ≡ false → before ≡ filter p (take (i + 1) xs)
-  left-more fails = sym (more ∙ ap (λ b. before ++ cond b (get_or xs i d ∷ []) []) fails ∙ append-nil before)
 
 module _ {S T : Type 0} (ps : List (ChannelPartView S T)) where
   -- the channel of a lane is there
@@ -88,11 +76,9 @@ module _ {S T : Type 0} (ps : List (ChannelPartView S T)) where
   pub channels-all : (lanes : List Lane) (i : ℕ) → length ps ≤ i → lanes ++ lanes_from i (drop i ps) ≡ every_lane ps → lanes ≡ every_lane ps
   channels-all lanes i all was = sym (append-nil lanes) ∙ ap (λ qs. lanes ++ lanes_from i qs) (sym (drop_all i ps all)) ∙ was
 
-  -- a lane crosses where its hop does
-  pub crosses-there : (l : Lane) (x y : ℕ) (p : ChannelPartView S T) → is_lane ps l ≡ true → p ≡ get_or ps l.channel p → x ≢ y → goes_between x y p l.hop ≡ crosses ps x y l
-  crosses-there l x y p is here apart =
-      let at : Some p ≡ slice_get ps l.channel = sym (slice_get_read ps (length ps) l.channel p refl (lane-within l is) here) in
-      ap (λ b. not b && goes_between x y p l.hop) (sym (ne_eqb x y apart)) ∙ ap through at
-    where
-      through : Option (ChannelPartView S T) → Bool
-      through o = not (x == y) && ((option_map_or (λ (q : ChannelPartView S T). executor_at q (writer_hop q.path l.hop)) o 0 == x) && (option_map_or (λ (q : ChannelPartView S T). executor_at q l.hop) o 0 == y))
+  -- a lane goes where its hop does
+  pub origin-there : (l : Lane) (p : ChannelPartView S T) → is_lane ps l ≡ true → p ≡ get_or ps l.channel p → executor_at p (writer_hop p.path l.hop) ≡ origin_of ps l
+  origin-there l p is here = ap (λ o. option_map_or (λ (q : ChannelPartView S T). executor_at q (writer_hop q.path l.hop)) o 0) (sym (slice_get_read ps (length ps) l.channel p refl (lane-within l is) here))
+
+  pub target-there : (l : Lane) (p : ChannelPartView S T) → is_lane ps l ≡ true → p ≡ get_or ps l.channel p → executor_at p l.hop ≡ target_of ps l
+  target-there l p is here = ap (λ o. option_map_or (λ (q : ChannelPartView S T). executor_at q l.hop) o 0) (sym (slice_get_read ps (length ps) l.channel p refl (lane-within l is) here))

@@ -20,6 +20,7 @@ pub mod RunReports
 mod LaneTablesSums
 mod LaneTablesEvery
 mod LaneTablesSteps
+mod LaneTablesGrown
 pub mod LaneTables
 pub mod WordLemmas
 pub mod SeatLemmas

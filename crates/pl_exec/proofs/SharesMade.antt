@@ -1,10 +1,10 @@
 -- The nodes of executors, to which those of one channel after another are added.
-use Rattle.std.proofs.Common.{◌≡◌, ℕ, ◌+◌, ◌<◌, false, List, [], ◌∷◌, ◌++◌, length, map, get_or, set, slice_get, Some, refl, ap, sym, ◌∙◌, subst, arith, inl, inr}
+use Rattle.std.proofs.Common.{◌≡◌, ℕ, ◌+◌, ◌<◌, false, List, [], ◌∷◌, ◌++◌, length, map, get_or, set, slice_get, Some, refl, ap, sym, ◌∙◌, subst, arith, inl, inr, append-nil, append_assoc}
 use Rattle.std.specs.Prelude.{cond, is_some}
 use Rattle.std.specs.List.{range_with_len}
 use Rattle.std.proofs.lemmas.List.{length-set, length_push}
-use Rattle.std.proofs.lemmas.List.FromFn.{map-range_with_len_more}
 use Rattle.std.proofs.lemmas.Option.{none-some, slice_get_within, slice_get_cases, slice_get_read, same_Some}
+use Rattle.std.proofs.lemmas.Simd.{map-map}
 use Rattle.pl_event.specs.declared.events.Event.{Event}
 use Rattle.pl_event.specs.Meaning.{Meaning}
 use Rattle.pl_event.proofs.Lists.{at_set_same, at_set_other, slice_get-push}
@@ -15,7 +15,7 @@ use Rattle.pl_replay.specs.Placed.{all_lanes, lanes_between}
 use Rattle.pl_exec.specs.declared.nodes.OwnNodes.{OwnNodes}
 use Rattle.pl_exec.specs.Opening.{PlacesView}
 use Rattle.pl_exec.specs.OwnNodes.{heads_of}
-use Rattle.pl_exec.specs.Sharing.{IsShareOf, AreSharesOf, AreShared, Gets, EachGets, places_at}
+use Rattle.pl_exec.specs.Sharing.{IsShareOf, AreSharesOf, AreShared, Gets, EachGets, places_of}
 use Rattle.pl_exec.proofs.HeadLists.{heads-more}
 
 pub at-index : {A : Type 0} (xs : List A) (i : ℕ) → i < length xs → (x : A) × (slice_get xs i ≡ Some x)
@@ -108,8 +108,32 @@ module _ {S T : Type 0} (meaning : S → Meaning) (stands_after : S → List Eve
 
 -- ---- the places
 
--- those of one executor more
-pub next-places : {S T : Type 0} (wholes : List (ChannelPartView S T)) (count n : ℕ) (all more : List PlacesView) (new : PlacesView) → more ≡ all ++ new ∷ [] → all ≡ map (places_at wholes count) (range_with_len 0 n)
-    → new.work ≡ length (all_lanes wholes) → new.targets ≡ map (λ y. length (lanes_between wholes n y)) (range_with_len 0 count) → more ≡ map (places_at wholes count) (range_with_len 0 (n + 1))
-next-places wholes count n all more new added so_far work targets =
-    added ∙ (λ i. so_far i ++ record { work = work i; targets = targets i } ∷ []) ∙ sym (map-range_with_len_more (places_at wholes count) 0 n n (omega arith))
+abbrev reserved : ℕ → List ℕ → PlacesView
+reserved work targets = record { work = work; targets = targets }
+
+-- those of executors, with so many on each work list: by rows, each for what waits for each target
+module _ {V : Type 0} (targets : V → List ℕ) (work : ℕ) where
+  abbrev pub reserved_by : V → PlacesView
+  reserved_by row = reserved work (targets row)
+
+  -- all are left
+  pub places-left : {S T : Type 0} (wholes : List (ChannelPartView S T)) (count : ℕ) (table : List V) → work ≡ length (all_lanes wholes)
+      → map targets table ≡ map (λ x. map (λ y. length (lanes_between wholes x y)) (range_with_len 0 count)) (range_with_len 0 count) → map reserved_by table ≡ places_of wholes count
+  places-left wholes count table lanes are =
+      let row = λ (x : ℕ). map (λ y. length (lanes_between wholes x y)) (range_with_len 0 count) in
+      sym (map-map (reserved work) targets table)
+      ∙ ap (λ (rows : List (List ℕ)). map (reserved work) rows) are
+      ∙ map-map (reserved work) row (range_with_len 0 count)
+      ∙ ap (λ (n : ℕ). map (λ x. reserved n (row x)) (range_with_len 0 count)) lanes
+
+  -- those of one executor are made
+  pub next-places : (whole all more : List PlacesView) (left rest : List V) (row : V) → left ≡ row ∷ rest → more ≡ all ++ reserved_by row ∷ [] → all ++ map reserved_by left ≡ whole → more ++ map reserved_by rest ≡ whole
+  next-places whole all more left rest row front added so_far =
+      ap (λ (l : List PlacesView). l ++ map reserved_by rest) added
+      ∙ append_assoc all (reserved_by row ∷ []) (map reserved_by rest)
+      ∙ ap (λ (l : List V). all ++ map reserved_by l) (sym front)
+      ∙ so_far
+
+  -- none is left
+  pub all-places : (whole all : List PlacesView) (left : List V) → left ≡ [] → all ++ map reserved_by left ≡ whole → all ≡ whole
+  all-places whole all left none so_far = sym (append-nil all) ∙ ap (λ (l : List V). all ++ map reserved_by l) (sym none) ∙ so_far

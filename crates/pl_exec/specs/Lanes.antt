@@ -1,5 +1,5 @@
 -- The lanes between executors.
-use Rattle.std.specs.Prelude.{ℕ, ◌+◌, ◌≤◌, ◌==◌, ◌&&◌, Bool, false, not, List, [], ◌∷◌, ◌++◌, length, map, filter, slice_get, All, if◌then◌else◌}
+use Rattle.std.specs.Prelude.{ℕ, ◌+◌, ◌≤◌, ◌==◌, ◌&&◌, Bool, false, not, List, [], ◌∷◌, ◌++◌, length, map, filter, cond, get_or, set, slice_get, All, if◌then◌else◌}
 use Rattle.std.specs.Option.{option_map_or}
 use Rattle.std.specs.List.{flat_map, range_with_len}
 use Rattle.pl_build.specs.declared.limits.TheConstants.{MAX_HANDLERS}
@@ -9,11 +9,20 @@ use Rattle.pl_part.specs.Parts.{ChannelPartView}
 use Rattle.pl_replay.specs.Channels.{is_hop, origin_of, target_of}
 use Rattle.pl_replay.specs.Placed.{HasExecutors}
 use Rattle.pl_world.specs.declared.limits.TheConstants.{MAX_CHANNELS}
-use Rattle.pl_exec.specs.Opening.{LaneTable}
+use Rattle.pl_exec.specs.Opening.{LaneTable, lanes_between}
 
 -- the lanes of a hop of a channel with so many hops: one with data and one with flags, but of the last, the head's, data alone
 abbrev pub lanes_at : ℕ → ℕ → ℕ → List Lane
 lanes_at channel hops hop = if hop + 1 == hops then data_lane channel hop ∷ [] else data_lane channel hop ∷ flags_lane channel hop ∷ []
+
+-- one lane more of a sender, at the end of its list
+abbrev pub with_last : List (List Lane) → ℕ → Lane → List (List Lane)
+with_last senders sender lane = set senders sender (get_or senders sender [] ++ lane ∷ [])
+
+-- one lane more at the way from an executor to another, and none from one to itself
+abbrev pub with_lane : LaneTable → ℕ → ℕ → Lane → LaneTable
+with_lane lanes sender target lane =
+    map (λ y. map (λ x. lanes_between lanes x y ++ cond (not (x == y) && ((sender == x) && (target == y))) (lane ∷ []) []) (range_with_len 0 (length lanes))) (range_with_len 0 (length lanes))
 
 module _ {S T : Type 0} where
   -- those of these channels, of which the first has this number
@@ -33,9 +42,13 @@ module _ {S T : Type 0} where
   abbrev pub crosses : List (ChannelPartView S T) → ℕ → ℕ → Lane → Bool
   crosses ps x y l = not (x == y) && ((origin_of ps l == x) && (target_of ps l == y))
 
+  -- for each of so many targets, and for each sender, those of some lanes that go from that sender to that target
+  abbrev pub table_of : List (ChannelPartView S T) → ℕ → List Lane → LaneTable
+  table_of ps count lanes = map (λ y. map (λ x. filter (crosses ps x y) lanes) (range_with_len 0 count)) (range_with_len 0 count)
+
   -- for each of so many targets, and for each sender, the lanes from that sender to that target
   abbrev pub lane_table : List (ChannelPartView S T) → ℕ → LaneTable
-  lane_table ps count = map (λ y. map (λ x. filter (crosses ps x y) (every_lane ps)) (range_with_len 0 count)) (range_with_len 0 count)
+  lane_table ps count = table_of ps count (every_lane ps)
 
   -- Channels within the limits, each of whose hops has an executor.
   pub record AreLaid (ps : List (ChannelPartView S T)) : Type 0 where

@@ -11,7 +11,7 @@ use crate::opening::Places;
 use pl_event::Stage;
 use pl_head::Transport;
 use pl_part::ChannelPart;
-use pl_replay::{lane_count, places_from};
+use pl_replay::{lane_count, places_between};
 use std::alloc::{AllocError, Global};
 
 /// The nodes of these channels, divided among so many executors.
@@ -124,11 +124,8 @@ pub(crate) fn places<S: Stage, T: Transport>(
 {
     let work = lane_count(parts);
     let mut all = Vec::with_capacity(alloc, count)?;
-    for number in 0..count {
-        all.push(Places {
-            work,
-            targets: places_from(alloc, count, parts, number)?,
-        })?;
+    for targets in places_between(alloc, count, parts)? {
+        all.push(Places { work, targets })?;
     }
     Ok(all)
 }

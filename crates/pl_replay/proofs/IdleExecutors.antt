@@ -1,5 +1,5 @@
 -- Executors at which nothing waits.
-use Rattle.std.proofs.Common.{◌≡◌, ℕ, ◌<◌, false, List, [], ◌∷◌, ◌++◌, length, map, get_or, refl, ap, sym, subst, ◌∙◌, arith, inl, inr, length-append, Option, Some, None, Result, Ok, Err, IfOk, unwrap_or}
+use Rattle.std.proofs.Common.{◌≡◌, ℕ, ◌<◌, false, List, [], ◌∷◌, ◌++◌, length, map, get_or, refl, ap, sym, subst, ◌∙◌, arith, inl, inr, length-append, Option, Some, None, unwrap_or}
 use Rattle.std.specs.List.{range_with_len, slice_get}
 use Rattle.std.specs.Option.{option_map, option_map_or}
 use Rattle.std.proofs.lemmas.Bool.{cases_lt}
@@ -53,15 +53,14 @@ module _ {S T : Type 0} (ps : List (ChannelPartView S T)) (count : ℕ) where
     ]
 
   -- one that was made with these places
-  pub idle-made : {E : Type 0} (x : ℕ) (places : List ℕ) (r : Result ExecutorView E) → places ≡ map (λ y. length (lanes_between ps x y)) (range_with_len 0 count) → IfOk r (λ e. e.queue ≡ [])
-      → IfOk r (λ e. Holds e.waiting []) → IfOk r (λ e. map (λ b. b.stopped) e.waiting.targets ≡ map no_stops places) → IfOk r (λ e. e.waiting.added ≡ 0) → IfOk r (λ e. IsIdle ps count x e)
-  idle-made x places (Ok e) are queue waiting stopped added = record {
+  pub idle-made : (x : ℕ) (places : List ℕ) (e : ExecutorView) → places ≡ map (λ y. length (lanes_between ps x y)) (range_with_len 0 count) → e.queue ≡ []
+      → Holds e.waiting [] → map (λ b. b.stopped) e.waiting.targets ≡ map no_stops places → e.waiting.added ≡ 0 → IsIdle ps count x e
+  idle-made x places e are queue waiting stopped added = record {
     queue = queue;
     waiting = waiting;
     added = added;
     places = stopped ∙ ap (map no_stops) are ∙ map-map no_stops (λ y. length (lanes_between ps x y)) (range_with_len 0 count);
   }
-  idle-made x places (Err e) are queue waiting stopped added = tt
 
   abbrev pub AllIdle : List ExecutorView → Type 0
   AllIdle executors = (y : ℕ) (e : ExecutorView) → slice_get executors y ≡ Some e → IsIdle ps count y e

@@ -2,7 +2,9 @@ pub mod Vecs
 pub mod Wholes
 pub mod OneChannel
 pub mod HeadMoves
+pub mod PlaceTables
 pub mod LaneCounts
+pub mod CountedParts
 pub mod IdleExecutors
 pub mod LanePlaces
 pub mod PlacedChannels

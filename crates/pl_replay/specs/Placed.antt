@@ -1,5 +1,5 @@
 -- The lanes between executors, and executors at which nothing waits, with places for them.
-use Rattle.std.specs.Prelude.{◌≡◌, ℕ, ◌+◌, ◌<◌, ◌^◌, ◌==◌, ◌&&◌, Bool, false, List, [], length, map, filter, get_or, slice_get, All, Some}
+use Rattle.std.specs.Prelude.{◌≡◌, ℕ, ◌+◌, ◌<◌, ◌^◌, ◌==◌, ◌&&◌, Bool, false, List, [], length, map, filter, cond, get_or, slice_get, All, Some}
 use Rattle.std.specs.List.{flat_map, range_with_len}
 use Rattle.pl_event.specs.declared.envelopes.Lane.{Lane}
 use Rattle.pl_event.specs.Hops.{data_lane}
@@ -8,6 +8,28 @@ use Rattle.pl_context.specs.WaitingViews.{Holds}
 use Rattle.pl_part.specs.Paths.{writer_hop}
 use Rattle.pl_part.specs.Parts.{ChannelPartView, head_hop, part_lanes}
 use Rattle.pl_net.specs.Nets.{ExecutorView, stops_at}
+
+-- ---- tables of numbers, with a row for each executor
+
+-- how many are counted from x to y
+abbrev pub counted : List (List ℕ) → ℕ → ℕ → ℕ
+counted table x y = get_or (get_or table x []) y 0
+
+-- one more, from executor origin to executor target
+abbrev pub one_more : ℕ → ℕ → ℕ → ℕ → ℕ
+one_more origin target x y = cond ((origin == x) && (target == y)) 1 0
+
+-- So many more are counted, from each executor that the table has to each.
+pub record Counts (before after : List (List ℕ)) (more : ℕ → ℕ → ℕ) : Type 0 where
+  pub rows : length after ≡ length before
+  pub columns : (x : ℕ) → length (get_or after x []) ≡ length (get_or before x [])
+  pub each : (x y : ℕ) → x < length before → y < length (get_or before x []) → counted after x y ≡ counted before x y + more x y
+
+-- A number of 16 bits is enough for so many more.
+pub record HasRoom (table : List (List ℕ)) (more : ℕ → ℕ → ℕ) : Type 0 where
+  pub few : (x y : ℕ) → counted table x y + more x y < 2 ^ 16
+
+-- ---- lanes
 
 module _ {S T : Type 0} where
   -- Each hop has an executor, and so has the node that writes its lanes.

@@ -11,6 +11,6 @@ mod starting;
 
 pub use account_laws::account_law;
 pub use nets::Net;
-pub use placing::{lane_count, places_from};
+pub use placing::{lane_count, places_between};
 pub use running::{replay, replay_world};
 pub use starting::placed;

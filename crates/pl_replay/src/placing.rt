@@ -1,8 +1,8 @@
 //! Executors before any move, with places for the lanes between them.
 
-ghost use Rattle.std.specs.Prelude.{◌≡◌, ◌<◌, ◌^◌, IfOk, length, map};
+ghost use Rattle.std.specs.Prelude.{◌≡◌, ◌+◌, ◌<◌, ◌^◌, IfOk, length, map, get_or, set, replicate};
 ghost use Rattle.std.specs.List.{range_with_len};
-ghost use Rattle.pl_replay.specs.Placed.{HasExecutors, ArePlaceable, IsIdle, AreIdle, all_lanes, goes_between, lanes_between, hops_between};
+ghost use Rattle.pl_replay.specs.Placed.{HasExecutors, ArePlaceable, AreIdle, HasRoom, Counts, one_more, all_lanes, lanes_between, hops_between};
 
 use pl_event::Stage;
 use pl_head::Transport;
@@ -19,80 +19,70 @@ pub(crate) fn idle_executors<S: Stage, T: Transport>(
     requires { ArePlaceable parts.now }
     ensures { IfOk result (λ executors. AreIdle parts.now count executors.items) }
 {
+    let table = places_between(alloc, count, parts)?;
     let mut executors = Vec::with_capacity(alloc, count)?;
-    for origin in 0..count {
-        executors.push(idle_executor(alloc, count, parts, origin)?)?;
+    for places in &table {
+        executors.push(Executor::new(alloc, places.as_slice())?)?;
     }
     Ok(executors)
 }
 
-/// An executor at which nothing waits, with places for the lanes from it to each.
-fn idle_executor<S: Stage, T: Transport>(
+/// For each executor how many lanes there are from it to each: they are counted in one walk over the lanes.
+pub fn places_between<S: Stage, T: Transport>(
     alloc: Global,
     count: usize,
     parts: &[ChannelPart<S, T>],
-    origin: usize,
-) -> Result<Executor, AllocError>
+) -> Result<Vec<Vec<u16>>, AllocError>
     requires { ArePlaceable parts.now }
-    ensures { IfOk result (λ executor. IsIdle parts.now count origin executor) }
+    ensures { IfOk result (λ table. map (λ row. row.items) table.items ≡ map (λ x. map (λ y. length (lanes_between parts.now x y)) (range_with_len 0 count)) (range_with_len 0 count)) }
 {
-    let places = places_from(alloc, count, parts, origin)?;
-    Executor::new(alloc, places.as_slice())
+    let mut table = no_places(alloc, count)?;
+    for part in parts {
+        count_part(&mut table, part);
+    }
+    Ok(table)
 }
 
-/// How many lanes there are from an executor to each.
-pub fn places_from<S: Stage, T: Transport>(
-    alloc: Global,
-    count: usize,
-    parts: &[ChannelPart<S, T>],
-    origin: usize,
-) -> Result<Vec<u16>, AllocError>
-    requires { ArePlaceable parts.now }
-    ensures { IfOk result (λ places. places.items ≡ map (λ target. length (lanes_between parts.now origin target)) (range_with_len 0 count)) }
+/// A table in which no lane is counted.
+fn no_places(alloc: Global, count: usize) -> Result<Vec<Vec<u16>>, AllocError>
+    ensures { IfOk result (λ table. map (λ row. row.items) table.items ≡ replicate count (replicate count 0)) }
 {
-    (0..count)
-        .map(|target| count_between(parts, origin, target))
-        .collect(alloc)
+    let mut table = Vec::with_capacity(alloc, count)?;
+    for _ in 0..count {
+        table.push(vec![in alloc; 0; count]?)?;
+    }
+    Ok(table)
 }
 
-/// How many lanes there are from one executor to another.
-fn count_between<S: Stage, T: Transport>(
-    parts: &[ChannelPart<S, T>],
-    origin: usize,
-    target: usize,
-) -> u16
-    requires { ArePlaceable parts.now }
-    ensures { result ≡ length (lanes_between parts.now origin target) }
-{
-    let lanes: usize = parts
-        .iter()
-        .map(|part| count_of(part, origin, target))
-        .sum();
-    lanes as u16
-}
-
-/// How many lanes of a part there are from one executor to another.
-fn count_of<S: Stage, T: Transport>(part: &ChannelPart<S, T>, origin: usize, target: usize) -> usize
-    requires { HasExecutors part.now }
-    ensures { result ≡ length (hops_between origin target part.now) }
-{
-    (0..part.hops())
-        .filter(|hop| goes_between(part, *hop, origin, target))
-        .count()
-}
-
-/// Whether the lanes of a hop go from one executor to another.
-fn goes_between<S: Stage, T: Transport>(
-    part: &ChannelPart<S, T>,
-    hop: usize,
-    origin: usize,
-    target: usize,
-) -> bool
+/// Counts the lanes of a part.
+fn count_part<S: Stage, T: Transport>(table: &mut Vec<Vec<u16>>, part: &ChannelPart<S, T>)
     requires hops { HasExecutors part.now }
-    requires there { hop < length part.now.path.executors }
-    ensures { result ≡ goes_between origin target part.now hop }
+    requires room { HasRoom (map (λ row. row.items) table.old.items) (λ x y. length (hops_between x y part.now)) }
+    ensures { Counts (map (λ row. row.items) table.old.items) (map (λ row. row.items) table.new.items) (λ x y. length (hops_between x y part.now)) }
 {
-    part.target(part.writer(hop)) == origin && part.target(hop) == target
+    for hop in 0..part.hops() {
+        count_lane(table, part.target(part.writer(hop)), part.target(hop));
+    }
+}
+
+/// Counts a lane from one executor to another, if the table has both.
+fn count_lane(table: &mut Vec<Vec<u16>>, origin: usize, target: usize)
+    requires { HasRoom (map (λ row. row.items) table.old.items) (one_more origin target) }
+    ensures { Counts (map (λ row. row.items) table.old.items) (map (λ row. row.items) table.new.items) (one_more origin target) }
+{
+    if origin < table.len() {
+        count_in(&mut table[origin], target);
+    }
+}
+
+/// One more at a place of a row, if the row has it.
+fn count_in(row: &mut Vec<u16>, place: usize)
+    requires { get_or row.old.items place 0 + 1 < 2 ^ 16 }
+    ensures { row.new.items ≡ set row.old.items place (get_or row.old.items place 0 + 1) }
+{
+    if place < row.len() {
+        row[place] += 1;
+    }
 }
 
 /// How many lanes all channels have.

@@ -245,10 +245,10 @@ fn hostile_members(rt: HostRuntime) -> Result<(), Fail> {
         ("1", "null", "1", KIND),
         ("1", "65536", "1", None),
         ("1", "65537", "1", LIMIT),
-        ("1", "4", "16", None),
+        ("1", "4", "64", None),
         ("1", "4", r#"1,"groups":[]"#, None),
         ("1", "4", r#"1,"groups":null"#, None),
-        ("1", "4", "17", LIMIT),
+        ("1", "4", "65", LIMIT),
         ("1", "4", "0", LIMIT),
         ("1", "4", r#"1,"groups":[{"name":"g","size":65536}]"#, LIMIT),
         ("1", "4", r#"1,"groups":7"#, KIND),
@@ -628,7 +628,7 @@ fn many_edits(rt: HostRuntime) -> Result<(), Fail> {
 
 #[test]
 fn many_channels(rt: HostRuntime) -> Result<(), Fail> {
-    for (copies, fault) in [(15, None), (16, Some(SessionFault::Limit))] {
+    for (copies, fault) in [(63, None), (64, Some(SessionFault::Limit))] {
         let more = format!(in rt.alloc(); "}},{{\"handlers\":[{SERVICE}],\"bursts\":[]")?;
         assert_edits(
             &rt,
@@ -649,7 +649,7 @@ fn group_refusals(rt: HostRuntime) -> Result<(), Fail> {
             r#""loops":1,"groups":[{"name":"g","size":1},{"name":"g","size":1}]"#,
             duplicate,
         ),
-        (r#""loops":16,"groups":[{"name":"g","size":1}]"#, limit),
+        (r#""loops":64,"groups":[{"name":"g","size":1}]"#, limit),
         (
             r#""loops":1,"groups":[{"name":"g","size":1},{"name":"g","size":0}]"#,
             limit,
@@ -657,7 +657,9 @@ fn group_refusals(rt: HostRuntime) -> Result<(), Fail> {
         (r#""loops":1,"groups":[{"name":"g","size":0}]"#, limit),
         (r#""loops":1,"groups":[{"name":"g","size":65535}]"#, limit),
         (r#""loops":1,"groups":[{"name":"","size":1}]"#, limit),
-        (r#""loops":1,"groups":[{"name":"g","size":15}]"#, None),
+        (r#""loops":1,"groups":[{"name":"g","size":64}]"#, limit),
+        (r#""loops":1,"groups":[{"name":"g","size":63}]"#, None),
+        (r#""loops":63,"groups":[{"name":"g","size":1}]"#, None),
     ] {
         assert_replaced(&rt, (r#""loops":1"#, other), fault)?;
     }

@@ -8,7 +8,7 @@ use pl_event::{Element, Sequence};
 use pl_head::ReadPlan;
 
 /// How many channels a world has at most. (`pl_build` has the limits of executors, handlers and marks.)
-pub const MAX_CHANNELS: usize = 16;
+pub const MAX_CHANNELS: usize = 64;
 
 /// How many items a queue between executors holds at most.
 pub const MAX_CAPACITY: u32 = pl_event::MAX_CAPACITY;

@@ -138,10 +138,10 @@ fn refusal(
 #[test]
 fn too_many_channels(rt: HostRuntime) -> Result<(), Fail> {
     for (channels, inputs, executors, want) in [
-        (16, 16, 1, None),
-        (17, 17, 1, Some(WorldRefusal::Limit)),
-        (1, 1, 16, None),
-        (1, 1, 17, Some(WorldRefusal::Limit)),
+        (64, 64, 1, None),
+        (65, 65, 1, Some(WorldRefusal::Limit)),
+        (1, 1, 64, None),
+        (1, 1, 65, Some(WorldRefusal::Limit)),
         (1, 1, 0, Some(WorldRefusal::Limit)),
         (1, 2, 1, Some(WorldRefusal::Limit)),
         (2, 1, 1, Some(WorldRefusal::Limit)),

@@ -1,17 +1,29 @@
-use Rattle.std.proofs.Common.{◌≡◌, ℕ, map, ap, ◌∙◌, arith}
-use Rattle.std.specs.List.{range_with_len}
-use Rattle.pl_exec.specs.Sharing.{places_at}
-use Rattle.pl_exec.proofs.SharesMade.{next-places}
+use Rattle.std.specs.Global.{Vec}
+use Rattle.std.specs.Vec.Iter.{into_iter_items}
+use Rattle.std.proofs.Common.{◌++◌, ℕ, List, map, ap, ◌∙◌, arith}
+use Rattle.std.proofs.lemmas.List.{nil_from_length}
+use Rattle.pl_exec.specs.Opening.{PlacesView}
+use Rattle.pl_exec.specs.Sharing.{places_of}
+use Rattle.pl_exec.proofs.SharesMade.{all-places, next-places, places-left, reserved_by}
 use Rattle.pl_exec.proofs.sharing.places.Goals as goal
 
-pub places_from-requires : goal.places_from-requires
-places_from-requires g c = c.requires
+abbrev items : Vec ℕ → List ℕ
+items row = row.items
 
-pub loop-number-preserved : goal.loop-number-preserved
-loop-number-preserved g c =
-    next-places c.args.parts.now c.args.count c.loop-number.number c.loop-number.all.items c.push.new.self.items _ c.in_ok-push.ensures.items c.loop-number.invariant c.lane_count-work.ensures c.in_ok-places_from.ensures
+pub loop-targets-init : goal.loop-targets-init
+loop-targets-init g c =
+    let work = c.lane_count-work.result in
+    let made = c.into_iter-targets-iterator.result in
+    ap (λ (l : List PlacesView). l ++ map (reserved_by items work) (into_iter_items made)) c.in_ok-all.ensures.items
+    ∙ ap (λ (rows : List (Vec ℕ)). map (reserved_by items work) rows) c.into_iter-targets-iterator.ensures.into_iter_gives.0
+    ∙ places-left items work c.args.parts.now c.args.count c.in_ok-targets-items.targets-items.items c.lane_count-work.ensures c.in_ok-targets-items.ensures
+
+pub loop-targets-preserved : goal.loop-targets-preserved
+loop-targets-preserved g c =
+    next-places items c.lane_count-work.result (places_of c.args.parts.now c.args.count) c.loop-targets.all.items c.push.new.self.items c.loop-targets.targets-iterator.rest.items c.next.new.self.rest.items c.in-Some.targets
+    c.in-Some.ensures.steps.0 c.in_ok-push.ensures.items c.loop-targets.invariant
 
 pub returns : goal.returns
 returns g c =
-    let all : c.loop-number.number ≡ c.args.count = omega (arith, c.loop-number-test.false, c.loop-number.auto.number-end) in
-    c.loop-number.invariant ∙ ap (λ (n : ℕ). map (places_at c.args.parts.now c.args.count) (range_with_len 0 n)) all
+    let left = c.loop-targets.targets-iterator.rest in
+    all-places items c.lane_count-work.result (places_of c.args.parts.now c.args.count) c.loop-targets.all.items left.items (nil_from_length left.items (omega (arith, c.in-None.ensures.steps.0, left.ok))) c.loop-targets.invariant

@@ -1,0 +1,170 @@
+-- A table of lanes to which one lane after another is added.
+use Rattle.std.proofs.Common.{◌≡◌, ◌≢◌, ℕ, ◌+◌, ◌<◌, ◌==◌, ◌&&◌, not, Bool, true, false, cond, List, [], ◌∷◌, ◌++◌, length, map, filter, take, get_or, set, refl, ap, sym, ◌∙◌, ⊎_elim, arith}
+use Rattle.std.specs.List.{range_with_len}
+use Rattle.std.specs.Global.{Vec}
+use Rattle.std.proofs.lemmas.Bool.{and_from, and_parts, cases_Bool, cases_eq, eq-eqb, eqb-true, false≢true, ne_eqb}
+use Rattle.std.proofs.lemmas.List.{append-nil, get_or-map, get_or-set_other, get_or-set_same, length-map, length-set, map-set}
+use Rattle.std.proofs.lemmas.List.Elements.{All-map, filter_more}
+use Rattle.std.proofs.lemmas.List.FromFn.{fill_by_all, get_or-map-range_with_len, length-map-range_with_len}
+use Rattle.pl_event.specs.declared.envelopes.Lane.{Lane}
+use Rattle.pl_part.specs.Parts.{ChannelPartView}
+use Rattle.pl_replay.specs.Channels.{origin_of, target_of}
+use Rattle.pl_exec.specs.Opening.{LaneTable, IsSquare, lanes_in, lanes_to, lanes_between}
+use Rattle.pl_exec.specs.Lanes.{crosses, table_of, with_lane, with_last}
+
+-- ---- one lane more
+
+-- it comes to the list of this sender and target
+abbrev comes : ℕ → ℕ → ℕ → ℕ → Bool
+comes sender target x y = not (x == y) && ((sender == x) && (target == y))
+
+there : (sender target : ℕ) → sender ≢ target → comes sender target sender target ≡ true
+there sender target apart =
+    and_from (not (sender == target)) ((sender == sender) && (target == target)) (ap not (ne_eqb sender target apart))
+    (and_from (sender == sender) (target == target) (eq-eqb sender sender refl) (eq-eqb target target refl))
+
+elsewhere : (sender target x y : ℕ) → (x ≢ y → sender ≡ x → target ≡ y → ⊥) → comes sender target x y ≡ false
+elsewhere sender target x y never = ⊎_elim
+    (λ (e : comes sender target x y ≡ true).
+    let ways = and_parts (not (x == y)) ((sender == x) && (target == y)) e in
+    let ends = and_parts (sender == x) (target == y) ways.1 in
+    absurd (never (λ same. false≢true (sym (ap not (eq-eqb x y same)) ∙ ways.0)) (eqb-true sender x ends.0) (eqb-true target y ends.1)))
+    (λ (e : comes sender target x y ≡ false). e)
+    (cases_Bool (comes sender target x y))
+
+module _ (sender target : ℕ) (lane : Lane) where
+  -- a table is known by its lists
+  as-grown : (old new : LaneTable) → length new ≡ length old → IsSquare new
+      → ((x y : ℕ) → x < length old → y < length old → lanes_between new x y ≡ lanes_between old x y ++ cond (comes sender target x y) (lane ∷ []) []) → new ≡ with_lane old sender target lane
+  as-grown old new count square each =
+      fill_by_all (λ y. map (grown y) (range_with_len 0 (length old))) new (length old) [] count
+      (λ y below. fill_by_all (grown y) (lanes_to new y) (length old) [] (square y [] (omega (arith, below, count)) ∙ count) (λ x under. each x y under below))
+    where
+      grown : ℕ → ℕ → List Lane
+      grown y x = lanes_between old x y ++ cond (comes sender target x y) (lane ∷ []) []
+
+  same-list : (ls : List Lane) (x y : ℕ) → comes sender target x y ≡ false → ls ≡ ls ++ cond (comes sender target x y) (lane ∷ []) []
+  same-list ls x y e = sym (append-nil ls) ∙ ap (λ b. ls ++ cond b (lane ∷ []) []) (sym e)
+
+  -- where it has no way, nothing is added
+  pub kept-table : (table : LaneTable) → IsSquare table → (sender ≢ target → sender < length table → target < length table → ⊥) → table ≡ with_lane table sender target lane
+  kept-table table square never =
+      as-grown table table refl square
+      (λ x y under below. same-list (lanes_between table x y) x y (elsewhere sender target x y (λ apart from to. never (λ e. apart (sym from ∙ e ∙ to)) (omega (arith, under, from)) (omega (arith, below, to)))))
+
+  module _ (table : LaneTable) (square : IsSquare table) (from : sender < length table) (to : target < length table) (apart : sender ≢ target) where
+    abbrev row : List (List Lane)
+    row = with_last (lanes_to table target) sender lane
+
+    width : length (lanes_to table target) ≡ length table
+    width = square target [] to
+
+    added-square : IsSquare (set table target row)
+    added-square k d below =
+        let count = length-set table target row in
+        ⊎_elim
+        (λ (e : k ≡ target).
+        ap (λ (i : ℕ). length (get_or (set table target row) i d)) e
+        ∙ ap length (get_or-set_same table target row d to)
+        ∙ length-set (lanes_to table target) sender (lanes_between table sender target ++ lane ∷ [])
+        ∙ width
+        ∙ sym count)
+        (λ (other : k ≢ target). ap length (get_or-set_other table target k row d other) ∙ square k d (omega (arith, below, count)) ∙ sym count)
+        (cases_eq k target)
+
+    added-each : (x y : ℕ) → lanes_between (set table target row) x y ≡ lanes_between table x y ++ cond (comes sender target x y) (lane ∷ []) []
+    added-each x y = ⊎_elim
+        (λ (e : y ≡ target).
+        ap (λ (i : ℕ). lanes_between (set table target row) x i) e
+        ∙ ap (λ (r : List (List Lane)). get_or r x []) (get_or-set_same table target row [] to)
+        ∙ ⊎_elim
+        (λ (f : x ≡ sender).
+        ap (λ (i : ℕ). get_or row i []) f
+        ∙ get_or-set_same (lanes_to table target) sender (lanes_between table sender target ++ lane ∷ []) [] (omega (arith, from, width))
+        ∙ (λ i. lanes_between table (sym f i) (sym e i) ++ lane ∷ [])
+        ∙ ap (λ b. lanes_between table x y ++ cond b (lane ∷ []) []) (sym (there sender target apart) ∙ (λ i. comes sender target (sym f i) (sym e i))))
+        (λ (other : x ≢ sender).
+        get_or-set_other (lanes_to table target) sender x (lanes_between table sender target ++ lane ∷ []) [] other
+        ∙ ap (λ (i : ℕ). lanes_between table x i) (sym e)
+        ∙ same-list (lanes_between table x y) x y (elsewhere sender target x y (λ _ at _. other (sym at))))
+        (cases_eq x sender))
+        (λ (other : y ≢ target).
+        ap (λ (r : List (List Lane)). get_or r x []) (get_or-set_other table target y row [] other) ∙ same-list (lanes_between table x y) x y (elsewhere sender target x y (λ _ _ at. other (sym at))))
+        (cases_eq y target)
+
+    added-table : set table target row ≡ with_lane table sender target lane
+    added-table = as-grown table (set table target row) (length-set table target row) added-square (λ x y _ _. added-each x y)
+
+  -- else it comes to the end of its list
+  pub pushed-table : (items : List (Vec (Vec Lane))) (before after : Vec (Vec Lane)) → IsSquare (lanes_in items) → sender < length items → target < length items → sender ≢ target → before ≡ get_or items target before
+      → map (λ s. s.items) after.items ≡ with_last (map (λ s. s.items) before.items) sender lane
+      → lanes_in (set items target after) ≡ with_lane (lanes_in items) sender target lane
+  pushed-table items before after square from to apart read grown =
+      let lists = λ (v : Vec (Vec Lane)). map (λ (s : Vec Lane). s.items) v.items in
+      let count : length (lanes_in items) ≡ length items = length-map items lists in
+      let is : lists before ≡ lanes_to (lanes_in items) target = ap lists read ∙ sym (get_or-map lists items target before [] to) in
+      map-set lists items target after
+      ∙ ap (λ (r : List (List Lane)). set (lanes_in items) target r) (grown ∙ ap (λ (r : List (List Lane)). with_last r sender lane) is)
+      ∙ added-table (lanes_in items) square (omega (arith, from, count)) (omega (arith, to, count)) apart
+
+pub table-rows : (items : List (Vec (Vec Lane))) → length (lanes_in items) ≡ length items
+table-rows items = length-map items (λ (v : Vec (Vec Lane)). map (λ (s : Vec Lane). s.items) v.items)
+
+-- what a sender has of the lists of a target
+module _ (sender : ℕ) where
+  pub sender-within : (items : List (Vec (Vec Lane))) (target : ℕ) (before : Vec (Vec Lane)) → IsSquare (lanes_in items) → sender < length items → target < length items → before ≡ get_or items target before → sender < length before.items
+  sender-within items target before square from to read =
+      let lists = λ (v : Vec (Vec Lane)). map (λ (s : Vec Lane). s.items) v.items in
+      let count : length (lanes_in items) ≡ length items = length-map items lists in
+      let is : lists before ≡ lanes_to (lanes_in items) target = ap lists read ∙ sym (get_or-map lists items target before [] to) in
+      let size : length (lists before) ≡ length before.items = length-map before.items (λ (s : Vec Lane). s.items) in
+      let width : length (lists before) ≡ length (lanes_in items) = ap length is ∙ square target [] (omega (arith, to, count)) in
+      omega (arith, from, count, size, width)
+
+  pub pushed-list : (senders : List (Vec Lane)) (before after : Vec Lane) (lane : Lane) → sender < length senders → before ≡ get_or senders sender before → after.items ≡ before.items ++ lane ∷ []
+      → map (λ s. s.items) (set senders sender after) ≡ with_last (map (λ s. s.items) senders) sender lane
+  pushed-list senders before after lane from read grown =
+      let items = λ (s : Vec Lane). s.items in
+      map-set items senders sender after ∙ ap (λ (l : List Lane). set (map items senders) sender l) (grown ∙ ap (λ (l : List Lane). l ++ lane ∷ []) (ap items read ∙ sym (get_or-map items senders sender before [] from)))
+
+-- ---- the table of some lanes
+
+module _ {S T : Type 0} (ps : List (ChannelPartView S T)) (lanes : List Lane) (count : ℕ) where
+  abbrev row-of : ℕ → List (List Lane)
+  row-of y = map (λ x. filter (crosses ps x y) lanes) (range_with_len 0 count)
+
+  pub made-length : length (table_of ps count lanes) ≡ count
+  made-length = length-map-range_with_len row-of 0 count
+
+  pub made-square : IsSquare (table_of ps count lanes)
+  made-square =
+      All-map (λ target. length target ≡ length (table_of ps count lanes)) row-of (range_with_len 0 count)
+      (λ k d below. length-map-range_with_len (λ x. filter (crosses ps x (get_or (range_with_len 0 count) k d)) lanes) 0 count ∙ sym made-length)
+
+  pub made-row : (y : ℕ) → y < count → lanes_to (table_of ps count lanes) y ≡ row-of y
+  made-row y below = get_or-map-range_with_len row-of 0 count y y [] below (omega arith)
+
+  pub made-between : (x y : ℕ) → x < count → y < count → lanes_between (table_of ps count lanes) x y ≡ filter (crosses ps x y) lanes
+  made-between x y from to = ap (λ senders. get_or senders x []) (made-row y to) ∙ get_or-map-range_with_len (λ x. filter (crosses ps x y) lanes) 0 count x x [] from (omega arith)
+
+-- ---- one lane more is added to the table of those before
+
+module _ {S T : Type 0} (ps : List (ChannelPartView S T)) (lanes : List Lane) (count i : ℕ) (d : Lane) (within : i < length lanes) where
+  abbrev next : Lane
+  next = get_or lanes i d
+
+  next-table : with_lane (table_of ps count (take i lanes)) (origin_of ps next) (target_of ps next) next ≡ table_of ps count (take (i + 1) lanes)
+  next-table =
+      let size = made-length ps (take i lanes) count in
+      sym
+      (as-grown (origin_of ps next) (target_of ps next) next (table_of ps count (take i lanes)) (table_of ps count (take (i + 1) lanes)) (made-length ps (take (i + 1) lanes) count ∙ sym size)
+      (made-square ps (take (i + 1) lanes) count)
+      (λ x y under below.
+      let from : x < count = omega (arith, under, size) in
+      let to : y < count = omega (arith, below, size) in
+      made-between ps (take (i + 1) lanes) count x y from to
+      ∙ filter_more (crosses ps x y) lanes i d within
+      ∙ ap (λ ls. ls ++ cond (crosses ps x y next) (next ∷ []) []) (sym (made-between ps (take i lanes) count x y from to))))
+
+  pub grown-table : (before after : LaneTable) → before ≡ table_of ps count (take i lanes) → after ≡ with_lane before (origin_of ps next) (target_of ps next) next → after ≡ table_of ps count (take (i + 1) lanes)
+  grown-table before after was grown = grown ∙ ap (λ (t : LaneTable). with_lane t (origin_of ps next) (target_of ps next) next) was ∙ next-table
