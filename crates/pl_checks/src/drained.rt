@@ -294,10 +294,10 @@ fn group_placing(rt: HostRuntime) -> Result<(), Fail> {
 #[test]
 fn sixty_four(rt: HostRuntime) -> Result<(), Fail> {
     let text = sessions::sixty_four(&rt)?;
-    let mut moves = String::new(rt.alloc());
+    let mut moves = String::from_str(rt.alloc(), "R0")?;
     let mut report = String::new(rt.alloc());
     for channel in 0..64 {
-        moves.push_str(format!(in rt.alloc(); "R{channel}x3 O{channel} ")?.as_str())?;
+        moves.push_str(format!(in rt.alloc(); " R{channel}x3 O{channel}")?.as_str())?;
         report.push_str(format!(in rt.alloc(); "channel {channel} {PINGED}")?.as_str())?;
     }
     gives(&rt, text.as_str(), moves.as_str(), report.as_str())?;
