@@ -5,7 +5,7 @@ use Rattle.pl_event.specs.declared.envelopes.Lane.{Lane}
 use Rattle.pl_context.specs.Stops.{HasPlaces, AreAmong, no_stops}
 use Rattle.pl_queue.specs.declared.views.SenderView.{SenderView}
 use Rattle.pl_queue.specs.declared.views.TakerView.{TakerView}
-use Rattle.pl_queue.specs.Views.{takes, fresh_sends, fresh_take_counts, has_lane}
+use Rattle.pl_queue.specs.Views.{fresh_sends, fresh_takes, has_lane}
 use Rattle.pl_queue.specs.Left.{Apart, all_lanes}
 use Rattle.pl_queue.specs.Limits.{opening_fault}
 use Rattle.pl_words.specs.Names.{Name}
@@ -81,7 +81,7 @@ module _ {M T S : Type 0} (is_taker : M → T → Type 0) (takes_of : T → Take
   -- The taker and the owner's seat of an inbox with these senders. Nothing was taken, and nothing was closed.
   pub record IsOwn (inbox : InboxView M) (senders : List (List Lane)) (w : WaysView T S) : Type 0 where
     pub taker : is_taker inbox.mailbox w.taker
-    pub takes : takes_of w.taker ≡ takes (fresh_take_counts (all_lanes senders)) 0
+    pub takes : takes_of w.taker ≡ fresh_takes (all_lanes senders)
     pub owner : w.owner ≡ new_owner_seat inbox.name
 
   -- The way to the executor that an inbox is of, on these lanes. Nothing was sent, and nothing was admitted.

@@ -3,7 +3,7 @@ use Rattle.std.specs.Prelude.{◌≡◌, ◌==◌, ◌&&◌, ◌<◌, ℕ, cond,
 use Rattle.pl_event.specs.declared.envelopes.Lane.{Lane}
 use Rattle.pl_queue.specs.declared.views.SenderView.{SenderView}
 use Rattle.pl_queue.specs.declared.views.TakerView.{TakerView}
-use Rattle.pl_queue.specs.Views.{fresh_sends, fresh_take_counts, takes}
+use Rattle.pl_queue.specs.Views.{fresh_sends, fresh_takes}
 use Rattle.pl_words.specs.Admissions.{new_owner_seat, new_send_seat}
 use Rattle.pl_outbox.specs.declared.inbox.Inbox.{Inbox}
 use Rattle.pl_executor_tests.specs.Nodes.{IsFresh, NodeStands, lane_to}
@@ -32,7 +32,7 @@ module _ {W M S T : Type 0} (is_taker : M → T → Type 0) (takes_of : T → Ta
   -- The ends of an executor's inbox. Nothing was taken, and nothing was closed.
   pub record IsOwn (inbox : Inbox W M S T) (executor : ℕ) (own : Own W M S T) : Type 0 where
     pub taker : is_taker inbox.mailbox own.taker
-    pub takes : takes_of own.taker ≡ takes (fresh_take_counts (lane_to executor ∷ [])) 0
+    pub takes : takes_of own.taker ≡ fresh_takes (lane_to executor ∷ [])
     pub owner : own.owner ≡ new_owner_seat inbox.admission.name
 
   -- An executor's inbox, its ends, and the ways to it: by the first flags come, and by the others nothing.

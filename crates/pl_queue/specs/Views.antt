@@ -16,11 +16,11 @@ send_count l n e = record { lane = l; next = n; ended = e }
 abbrev pub take_count : Lane → ℕ → TakeCount
 take_count l n = record { lane = l; next = n }
 
-abbrev pub sends : List SendCount → ℕ → SenderView
-sends send_counts n = record { send_counts = send_counts; pushes = n }
+abbrev pub sends : List SendCount → ℕ → Option Envelope → SenderView
+sends send_counts n last = record { send_counts = send_counts; pushes = n; last = last }
 
-abbrev pub takes : List TakeCount → ℕ → TakerView
-takes counts n = record { counts = counts; pops = n }
+abbrev pub takes : List TakeCount → ℕ → Option Envelope → TakerView
+takes counts n last = record { counts = counts; pops = n; last = last }
 
 abbrev pub view_of : Bool → SenderView → TakerView → PassView
 view_of t s k = record { taker = t; sends = s; takes = k }
@@ -45,11 +45,11 @@ set_take_count l n (m ∷ ms) = cond (same_lane l m.lane) (take_count m.lane n �
 
 -- what a sender knows once it has pushed x
 abbrev pub after_offer : SenderView → Envelope → SenderView
-after_offer s x = sends (set_send_count x.lane (x.number + 1) (closes x.item) s.send_counts) (s.pushes + 1)
+after_offer s x = sends (set_send_count x.lane (x.number + 1) (closes x.item) s.send_counts) (s.pushes + 1) (Some x)
 
 -- what the taker knows once it has popped x
 abbrev pub after_take : TakerView → Envelope → TakerView
-after_take t x = takes (set_take_count x.lane (x.number + 1) t.counts) (t.pops + 1)
+after_take t x = takes (set_take_count x.lane (x.number + 1) t.counts) (t.pops + 1) (Some x)
 
 abbrev pub fresh_send_counts : List Lane → List SendCount
 fresh_send_counts ls = map (λ l. send_count l 0 false) ls
@@ -58,7 +58,10 @@ abbrev pub fresh_take_counts : List Lane → List TakeCount
 fresh_take_counts ls = map (λ l. take_count l 0) ls
 
 abbrev pub fresh_sends : List Lane → SenderView
-fresh_sends ls = sends (fresh_send_counts ls) 0
+fresh_sends ls = sends (fresh_send_counts ls) 0 None
+
+abbrev pub fresh_takes : List Lane → TakerView
+fresh_takes ls = takes (fresh_take_counts ls) 0 None
 
 abbrev pub lanes_of_counts : List TakeCount → List Lane
 lanes_of_counts ms = map (λ m. m.lane) ms
@@ -67,14 +70,14 @@ abbrev pub lanes_of_send_counts : List SendCount → List Lane
 lanes_of_send_counts ss = map (λ s. s.lane) ss
 
 abbrev pub no_sends : SenderView
-no_sends = sends [] 0
+no_sends = fresh_sends []
 
 abbrev pub no_takes : TakerView
-no_takes = takes [] 0
+no_takes = fresh_takes []
 
--- what two senders know together
+-- what two senders know together, where the first takes in what the second knows: the last push is its own
 abbrev pub both_sends : SenderView → SenderView → SenderView
-both_sends s t = sends (s.send_counts ++ t.send_counts) (s.pushes + t.pushes)
+both_sends s t = sends (s.send_counts ++ t.send_counts) (s.pushes + t.pushes) s.last
 
 -- the views of a pass before and after each kind of step
 abbrev pub offered : PassView → Envelope → PassView
@@ -84,10 +87,10 @@ abbrev pub taken : PassView → Envelope → PassView
 taken v x = view_of v.taker v.sends (after_take v.takes x)
 
 abbrev pub dealing : List Lane → PassView → PassView
-dealing ls v = view_of v.taker v.sends (takes (v.takes.counts ++ fresh_take_counts ls) v.takes.pops)
+dealing ls v = view_of v.taker v.sends (takes (v.takes.counts ++ fresh_take_counts ls) v.takes.pops v.takes.last)
 
 abbrev pub dealt : List Lane → PassView
-dealt ls = view_of false (sends (fresh_send_counts ls) 0) no_takes
+dealt ls = view_of false (fresh_sends ls) no_takes
 
 abbrev pub joined : PassView → PassView → PassView
 joined v w = view_of v.taker (both_sends v.sends w.sends) v.takes

@@ -7,7 +7,7 @@ ghost use Rattle.pl_queue.specs.declared.views.TakerView.{TakerView};
 ghost use Rattle.pl_queue.specs.declared.mailbox.OpenRefusal.TheVariants.{Memory};
 ghost use Rattle.pl_queue.specs.Limits.{opening_fault};
 ghost use Rattle.pl_queue.specs.Rule.{SenderSees, TakerSees, WasOnce, Each};
-ghost use Rattle.pl_queue.specs.Views.{sent_of, next_of, after_offer, after_take, takes, fresh_sends, fresh_take_counts};
+ghost use Rattle.pl_queue.specs.Views.{sent_of, next_of, after_offer, after_take, fresh_sends, fresh_takes};
 ghost use Rattle.pl_queue.specs.Left.{held_of, send_counts_of, Apart, all_lanes, AreAll, IsAllLeft};
 
 use crate::left::Left;
@@ -53,11 +53,11 @@ pub trait Mailbox<W: Named>: Sized {
     /// The most envelopes that it holds.
     ghost capacity_of: { Self → ℕ };
 
-    /// What a sender knows: of each lane of its own the next number, and whether `End` or `Fail` was sent; and the count of
-    /// its pushes.
+    /// What a sender knows: of each lane of its own the next number, and whether `End` or `Fail` was sent; the count of its
+    /// pushes, and the envelope that it pushed last.
     ghost sends_of: { Self.Sender → SenderView };
 
-    /// What the taker knows: its next number of each lane, and the count of its pops.
+    /// What the taker knows: its next number of each lane, the count of its pops, and the envelope that it popped last.
     ghost takes_of: { Self.Taker → TakerView };
 
     /// The mailbox made this sender.
@@ -81,14 +81,14 @@ pub trait Mailbox<W: Named>: Sized {
         ensures refused { IfErr result (λ refusal. refusal ≡ unwrap_or (opening_fault (map (λ v. v.items) lanes.items) capacity) Memory) }
         ensures opened { IfOk result (λ r. (opening_fault (map (λ v. v.items) lanes.items) capacity ≡ None) × (capacity_of r.0 ≡ capacity)) }
         ensures senders { IfOk result (λ r. Each (λ s. is_sender r.0 s) r.1.items × (map sends_of r.1.items ≡ map (λ v. fresh_sends v.items) lanes.items)) }
-        ensures taker { IfOk result (λ r. is_taker r.0 r.2 × (takes_of r.2 ≡ takes (fresh_take_counts (all_lanes (map (λ v. v.items) lanes.items))) 0)) };
+        ensures taker { IfOk result (λ r. is_taker r.0 r.2 × (takes_of r.2 ≡ fresh_takes (all_lanes (map (λ v. v.items) lanes.items)))) };
 
     /// Whether `offer` may wait for room. It never answers `Full` then.
     fn may_wait() -> bool;
 
     /// Puts the envelope at the queue's back, in one step. Its lane is the sender's and has had no `End` or `Fail`, its number
     /// is the next one there and below 2^32, and it fits the world. The lane's next number and the count of pushes rise by
-    /// one, and nothing else of the sender changes.
+    /// one, this envelope is the one pushed last, and nothing else of the sender changes.
     ///
     /// Error: `Full` hands the same envelope back. The queue was full at some moment of the call, and the sender is as it was.
     fn offer<R: Wait>(
@@ -106,7 +106,7 @@ pub trait Mailbox<W: Named>: Sized {
             (λ _. sends_of sender.new ≡ after_offer (sends_of sender.old) envelope)
             (λ full. (full.envelope ≡ envelope) × (sends_of sender.new ≡ sends_of sender.old) × WasOnce (capacity_of self.now) (SenderSees W.world (sends_of sender.old))) };
 
-    /// Takes the front.
+    /// Takes the front, and gives it as it stood there.
     fn take<R: Wait>(&self, rt: &R, taker: &mut Self::Taker) -> Option<Envelope>
         requires taker { is_taker self.now taker.old }
         ensures taker { is_taker self.now taker.new }

@@ -7,7 +7,7 @@ ghost use Rattle.pl_queue.specs.declared.mailbox.OpenRefusal.TheVariants.{Memory
 ghost use Rattle.pl_queue.specs.Limits.{opening_fault};
 ghost use Rattle.pl_queue.specs.Positions.{ArePositions};
 ghost use Rattle.pl_queue.specs.Rule.{TakerSees, WasOnce, Each};
-ghost use Rattle.pl_queue.specs.Views.{next_of, has_lane, after_take, dealing, view_of as the_view_of, newcomer, no_sends, takes, fresh_sends, fresh_take_counts, lanes_of_counts};
+ghost use Rattle.pl_queue.specs.Views.{next_of, has_lane, after_take, dealing, view_of as the_view_of, newcomer, no_sends, fresh_sends, fresh_takes, lanes_of_counts};
 ghost use Rattle.pl_queue.specs.Left.{held_of, send_counts_of, Apart, all_lanes, IsTaking, AreAll, IsEmptying, IsAllLeft};
 
 use crate::counts::{all_counts, is_within, set_next};
@@ -67,7 +67,7 @@ fn deal_all<W: Named, Q: RuledQueue<W>>(
 ) -> Result<Vec<Sender<W, Q::Pass>>, AllocError>
     requires pass { Q.is_pass queue.now pass.old × (Q.view_of pass.old ≡ newcomer) }
     requires apart { Apart (all_lanes (map (λ v. v.items) lanes.now)) }
-    ensures pass { IfOk result (λ _. Q.is_pass queue.now pass.new × (Q.view_of pass.new ≡ the_view_of true no_sends (takes (fresh_take_counts (all_lanes (map (λ v. v.items) lanes.now))) 0))) }
+    ensures pass { IfOk result (λ _. Q.is_pass queue.now pass.new × (Q.view_of pass.new ≡ the_view_of true no_sends (fresh_takes (all_lanes (map (λ v. v.items) lanes.now))))) }
     ensures senders { IfOk result (λ v. Each (λ s. Q.is_pass queue.now s.pass) v.items × (map (λ s. (Q.view_of s.pass).sends) v.items ≡ map (λ v. fresh_sends v.items) lanes.now)) }
 {
     let mut senders = Vec::new(alloc);
@@ -88,7 +88,7 @@ pub fn open_over<W: Named, Q: RuledQueue<W> + Drop>(
     ensures refused { IfErr result (λ refusal. refusal ≡ unwrap_or (opening_fault (map (λ v. v.items) lanes.items) capacity) Memory) }
     ensures opened { IfOk result (λ r. (opening_fault (map (λ v. v.items) lanes.items) capacity ≡ None) × (Q.most r.0 ≡ capacity)) }
     ensures senders { IfOk result (λ r. Each (λ s. Q.is_pass r.0 s.pass) r.1.items × (map (λ s. (Q.view_of s.pass).sends) r.1.items ≡ map (λ v. fresh_sends v.items) lanes.items)) }
-    ensures taker { IfOk result (λ r. (Q.is_pass r.0 r.2.pass × IsTaking (Q.view_of r.2.pass) r.2.counts.items r.2.positions.rows.items) × ((Q.view_of r.2.pass).takes ≡ takes (fresh_take_counts (all_lanes (map (λ v. v.items) lanes.items))) 0)) }
+    ensures taker { IfOk result (λ r. (Q.is_pass r.0 r.2.pass × IsTaking (Q.view_of r.2.pass) r.2.counts.items r.2.positions.rows.items) × ((Q.view_of r.2.pass).takes ≡ fresh_takes (all_lanes (map (λ v. v.items) lanes.items)))) }
 {
     if !is_within(lanes.as_slice(), capacity) {
         return Err(OpenRefusal::Limit);

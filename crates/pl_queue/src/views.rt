@@ -1,6 +1,6 @@
 //! What contracts see of a sender and of the taker. No value of a view is made.
 
-use pl_event::Lane;
+use pl_event::{Envelope, Lane};
 use std::collections::LinkedList;
 
 /// A lane of a sender: the next number, and whether End or Fail was sent.
@@ -10,10 +10,11 @@ pub struct SendCount {
     pub ended: bool,
 }
 
-/// What a sender knows: its lanes, and the count of its pushes.
+/// What a sender knows: its lanes, the count of its pushes, and the envelope that it pushed last.
 pub struct SenderView {
     pub send_counts: LinkedList<SendCount>,
     pub pushes: u64,
+    pub last: Option<Envelope>,
 }
 
 /// The taker's next number of a lane.
@@ -23,10 +24,11 @@ pub struct TakeCount {
     pub next: u64,
 }
 
-/// What the taker knows: its next number of each lane, and the count of its pops.
+/// What the taker knows: its next number of each lane, the count of its pops, and the envelope that it popped last.
 pub struct TakerView {
     pub counts: LinkedList<TakeCount>,
     pub pops: u64,
+    pub last: Option<Envelope>,
 }
 
 /// What contracts see of either: a sender takes nothing, and the taker sends nothing until `finish`.

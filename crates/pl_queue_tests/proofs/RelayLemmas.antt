@@ -17,7 +17,7 @@ use Rattle.pl_queue.specs.declared.views.SenderView.{SenderView}
 use Rattle.pl_queue.specs.declared.views.TakerView.{TakerView}
 use Rattle.pl_queue.specs.Left.{send_counts_of, all_lanes, AreAll}
 use Rattle.pl_queue.specs.Rule.{Each}
-use Rattle.pl_queue.specs.Views.{fresh_sends, send_count, sent_of, set_send_count, lanes_of_send_counts, lanes_of_counts, after_offer, after_take, sends, takes, fresh_take_counts}
+use Rattle.pl_queue.specs.Views.{fresh_sends, send_count, sent_of, set_send_count, lanes_of_send_counts, lanes_of_counts, after_offer, after_take, sends, fresh_takes, fresh_take_counts}
 use Rattle.pl_queue.proofs.Drains.{set_send_count-lanes, set_take_count-lanes, all-given}
 use Rattle.pl_queue.proofs.Lists.{none-some, map-append}
 use Rattle.pl_queue_tests.specs.Flags.{flag_at}
@@ -93,7 +93,7 @@ sent_of-this l n e (s ∷ ss) k f h = ⊎_elim
 -- a lane has had an envelope more, which is not its last
 pub one-more : (s t : SenderView) (x : Envelope) → closes x.item ≡ false → t ≡ after_offer s x → sent_of x.lane s.send_counts ≡ Some (x.number, false) → sent_of x.lane t.send_counts ≡ Some (x.number + 1, false)
 one-more s t x goes_on is h =
-    ap (λ (v : SenderView). sent_of x.lane v.send_counts) (is ∙ ap (λ e. sends (set_send_count x.lane (x.number + 1) e s.send_counts) (s.pushes + 1)) goes_on)
+    ap (λ (v : SenderView). sent_of x.lane v.send_counts) (is ∙ ap (λ e. sends (set_send_count x.lane (x.number + 1) e s.send_counts) (s.pushes + 1) (Some x)) goes_on)
     ∙ sent_of-this x.lane (x.number + 1) false s.send_counts x.number false h
 
 -- a lane has had a flag more
@@ -145,7 +145,7 @@ opened_two P f h all front r x y lanes a b first second each is e d l p q =
 
 -- the taker of such a mailbox
 pub opened_taker : {V : Type 0} (h : V → List Lane) (t : TakerView) (lanes : List V) (a b : V) (first second : Lane)
-    → t ≡ takes (fresh_take_counts (all_lanes (map h lanes))) 0 → lanes ≡ a ∷ b ∷ [] → h a ≡ first ∷ [] → h b ≡ second ∷ [] → taking_lanes t ≡ first ∷ second ∷ []
+    → t ≡ fresh_takes (all_lanes (map h lanes)) → lanes ≡ a ∷ b ∷ [] → h a ≡ first ∷ [] → h b ≡ second ∷ [] → taking_lanes t ≡ first ∷ second ∷ []
 opened_taker h t lanes a b first second is l p q =
     ap taking_lanes is ∙ ap (λ vs. lanes_of_counts (fresh_take_counts (all_lanes (map h vs)))) l
     ∙ ap (λ ls. lanes_of_counts (fresh_take_counts (ls ++ (h b ++ [])))) p
@@ -184,7 +184,7 @@ opened_one P f h all front x lanes a first each is e l p =
     (Each-last P front x (subst (λ xs. Each P xs) e each), fresh first (f x) (last_one f front x (fresh_sends (h a)) m ∙ ap fresh_sends p))
 
 pub opened_one-taker : {V : Type 0} (h : V → List Lane) (t : TakerView) (lanes : List V) (a : V) (first : Lane)
-    → t ≡ takes (fresh_take_counts (all_lanes (map h lanes))) 0 → lanes ≡ a ∷ [] → h a ≡ first ∷ [] → taking_lanes t ≡ first ∷ []
+    → t ≡ fresh_takes (all_lanes (map h lanes)) → lanes ≡ a ∷ [] → h a ≡ first ∷ [] → taking_lanes t ≡ first ∷ []
 opened_one-taker h t lanes a first is l p =
     ap taking_lanes is ∙ ap (λ vs. lanes_of_counts (fresh_take_counts (all_lanes (map h vs)))) l ∙ ap (λ ls. lanes_of_counts (fresh_take_counts (ls ++ []))) p
 

@@ -1,7 +1,7 @@
-use Rattle.std.proofs.Common.{true, map, ap, sym, ◌∙◌, ◌<◌, length, arith}
+use Rattle.std.proofs.Common.{None, true, map, ap, sym, ◌∙◌, ◌<◌, length, arith}
 use Rattle.std.proofs.lemmas.List.{take_all}
 use Rattle.pl_queue.specs.Left.{all_lanes, own_lanes}
-use Rattle.pl_queue.specs.Views.{fresh_sends, fresh_take_counts, dealing, view_of, no_sends, takes, next_of, has_lane}
+use Rattle.pl_queue.specs.Views.{fresh_sends, fresh_takes, dealing, view_of, no_sends, takes, next_of, has_lane}
 use Rattle.pl_queue.proofs.Lists.{counts-more, lanes-new}
 use Rattle.pl_queue.proofs.TakerLemmas.{dealt-more}
 use Rattle.pl_queue.proofs.seats.deal_all.Goals as goal
@@ -25,7 +25,7 @@ loop-own-preserved g c =
     record {
       pass = made.pass.0;
       dealt = made.pass.1 ∙ ap (λ v. dealing own v) inv.dealt
-          ∙ ap (λ ms. view_of true no_sends (takes ms 0)) (sym (counts-more own_lanes lanes i c.own-item.result own lt c.own-item.is c.as_slice.ensures.value));
+          ∙ ap (λ ms. view_of true no_sends (takes ms 0 None)) (sym (counts-more own_lanes lanes i c.own-item.result own lt c.own-item.is c.as_slice.ensures.value));
       senders = more.0;
       sent = more.1;
     }
@@ -33,7 +33,7 @@ loop-own-preserved g c =
 pub returns-clause-pass : goal.returns-clause-pass
 returns-clause-pass g c =
     let inv = c.loop-own.invariant in
-    (inv.pass, inv.dealt ∙ ap (λ ls. view_of true no_sends (takes (fresh_take_counts (all_lanes (map own_lanes ls))) 0)) (take_all c.loop-own.own-index c.args.lanes.now c.loop-own-test.false))
+    (inv.pass, inv.dealt ∙ ap (λ ls. view_of true no_sends (fresh_takes (all_lanes (map own_lanes ls)))) (take_all c.loop-own.own-index c.args.lanes.now c.loop-own-test.false))
 
 pub returns-clause-senders : goal.returns-clause-senders
 returns-clause-senders g c =

@@ -2,7 +2,7 @@ use Rattle.std.proofs.Common.{true, map, ap, sym, subst, ◌∙◌}
 use Rattle.pl_queue.specs.Left.{all_lanes, own_lanes}
 use Rattle.pl_queue.specs.Limits.{is_within}
 use Rattle.pl_queue.specs.Positions.{ArePositions}
-use Rattle.pl_queue.specs.Views.{view_of, no_sends, takes, fresh_take_counts, lanes_of_counts}
+use Rattle.pl_queue.specs.Views.{view_of, no_sends, fresh_takes, fresh_take_counts, lanes_of_counts}
 use Rattle.pl_queue.proofs.TakerLemmas.{begins-taking, counts-apart, counts-few}
 use Rattle.pl_queue.proofs.seats.open_over.Goals as goal
 
@@ -11,7 +11,7 @@ returns-clause-taker g c =
     let dealt = c.in_ok-senders.ensures.pass in
     let made = c.in_ok-counts.ensures ∙ ap (λ ls. fresh_take_counts (all_lanes (map own_lanes ls))) c.as_slice-2.ensures.value in
     let taking = begins-taking (g.Q.RuledQueue.view_of c.deal_all.new.pass) c.in_ok-counts.counts.items c.in_ok-positions.positions.rows.items (all_lanes (map own_lanes c.args.lanes.items))
-    (dealt.1 ∙ ap (λ ls. view_of true no_sends (takes (fresh_take_counts (all_lanes (map own_lanes ls))) 0)) c.as_slice-4.ensures.value) made c.requires.apart
+    (dealt.1 ∙ ap (λ ls. view_of true no_sends (fresh_takes (all_lanes (map own_lanes ls)))) c.as_slice-4.ensures.value) made c.requires.apart
     (subst (λ ms. ArePositions c.in_ok-positions.positions.rows.items 0 (lanes_of_counts ms)) c.as_slice-3.ensures.value c.in_ok-positions.ensures) in
     ((dealt.0, taking.0), taking.1)
 

@@ -1,6 +1,6 @@
 use Rattle.std.proofs.Common.{◌≡◌, ◌∷◌, [], List, ap, subst, sym, ◌∙◌}
 use Rattle.pl_event.specs.declared.envelopes.Lane.{Lane}
-use Rattle.pl_queue.specs.Views.{fresh_sends, fresh_take_counts, takes}
+use Rattle.pl_queue.specs.Views.{fresh_sends, fresh_takes}
 use Rattle.pl_queue.specs.Left.{all_lanes}
 use Rattle.pl_words.specs.Names.{Name}
 use Rattle.pl_words.specs.Admissions.{AdmissionView, SendSeatView, new_owner_seat, new_send_seat}
@@ -24,7 +24,7 @@ returns g c =
     let admits = all-of-three (λ (s : SendSeatView). s ≡ new_send_seat name s.number) c.in_ok-admission.seats.items seats.0 seats.1 seats.2 c.in_three-writer_seat.ensures c.in_ok-admission.ensures.seats.1 in record {
       own = record {
         taker = subst (λ (m : _). M.is_taker m c.in_ok-mailbox.taker) (sym same) c.in_ok-mailbox.ensures.taker.0;
-        takes = c.in_ok-mailbox.ensures.taker.1 ∙ ap (λ (ls : List (List Lane)). takes (fresh_take_counts (all_lanes ls)) 0) c.in_ok-lanes.ensures.lanes;
+        takes = c.in_ok-mailbox.ensures.taker.1 ∙ ap (λ (ls : List (List Lane)). fresh_takes (all_lanes ls)) c.in_ok-lanes.ensures.lanes;
         owner = c.in_ok-admission.ensures.owner ∙ ap (λ (n : Name). new_owner_seat n) (sym named);
       };
       flags = way-is M.is_taker M.takes_of M.is_sender M.sends_of mailbox name inbox lane (record { sender = ends.0; seat = seats.0 }) same named sends.0 admits.0;
