@@ -24,7 +24,7 @@ use Rattle.pl_flow.specs.LaneRuns.{LaneRuns}
 use Rattle.pl_flow.specs.Makes.{Makes}
 use Rattle.pl_flow.proofs.FlowLemmas.{on-append, on-own, on-other}
 use Rattle.pl_flow.proofs.LaneRunLemmas.{lane-grows, lane-leaves, lane-behind}
-use Rattle.pl_outbox.specs.OutboxViews.{OutboxesView, reached, is_cut, Adds, SameFor, Sends, Stays}
+use Rattle.pl_outbox.specs.OutboxViews.{OutboxesView, reached, is_cut, Adds, SameFor, Keeps, Sends, Stays}
 use Rattle.pl_outbox.proofs.AdmissionLemmas.{admits_on}
 use Rattle.pl_executor.specs.declared.cores.Core.{Core}
 use Rattle.pl_executor.specs.Cores.{CoreHolds}
@@ -269,12 +269,13 @@ holds-stay {target = target} {writes = writes} {world = world} {taken = taken} {
 }
 
 -- nothing had moved before the first was sent
-pub sends-first : (o p q : OutboxesView) (target : ℕ) → ((y : ℕ) → SameFor o p y) → Sends p target q → Sends o target q
-sends-first o p q target same s = record {
+pub sends-first : (o p q : OutboxesView) (target : ℕ) → Keeps o p → Sends p target q → Sends o target q
+sends-first o p q target keeps s = record {
   envelope = s.envelope;
-  waits = sym (same target).waits ∙ s.waits;
-  sends = s.sends ∙ ap (option_map (λ (v : SenderView). after_offer v s.envelope)) (same target).sends;
-  others = λ y other. record { waits = (s.others y other).waits ∙ (same y).waits; sends = (s.others y other).sends ∙ (same y).sends };
+  waits = sym (keeps.each target).waits ∙ s.waits;
+  sends = s.sends ∙ ap (option_map (λ (v : SenderView). after_offer v s.envelope)) (keeps.each target).sends;
+  others = λ y other. record { waits = (s.others y other).waits ∙ (keeps.each y).waits; sends = (s.others y other).sends ∙ (keeps.each y).sends };
+  rest = λ entries holds. s.rest entries (keeps.holds entries holds);
 }
 
 pub same-then : (o p q : OutboxesView) → ((y : ℕ) → SameFor o p y) → ((y : ℕ) → SameFor p q y) → (y : ℕ) → SameFor o q y

@@ -31,7 +31,7 @@ use Rattle.pl_flow.specs.Flows.{after, on, IsNext, past}
 use Rattle.pl_flow.proofs.ItemLemmas.{stand_in-data, stand_in-flags}
 use Rattle.pl_flow.proofs.MakeLemmas.{stopped-more}
 use Rattle.pl_outbox.specs.Sent.{sent_at, AreBehind, behind}
-use Rattle.pl_outbox.specs.OutboxViews.{OutboxView, OutboxesView, IsOutbox, IsOutboxes, waits_in, sent_to, reached, is_closed, is_refused, refuses, is_cut, SomeClosed, Adds, Comes, RefusedBy}
+use Rattle.pl_outbox.specs.OutboxViews.{OutboxView, OutboxesView, IsOutbox, IsOutboxes, entry_for, waits_in, sent_to, reached, is_closed, is_refused, refuses, is_cut, SomeClosed, Adds, Comes, RefusedBy}
 use Rattle.pl_outbox.proofs.SentLemmas.{added-behind, added-reached}
 use Rattle.pl_outbox.proofs.OutboxLemmas.{Replaces, replaces-set, replaces-then, on-some, closed-on, waits-entries, outboxes-hold, outbox-same}
 
@@ -100,10 +100,6 @@ less-seat s Closing = (refl, refl, refl)
 less-seat s Closed = (refl, refl, refl)
 
 -- ---- what waits
-
--- an envelope that waits for this target with this token
-abbrev pub entry_for : ℕ → AdmittedView → Envelope → Entry AdmittedView
-entry_for target token x = record { target = target; envelope = x; token = token }
 
 own-entries : (target : ℕ) (token : AdmittedView) (xs : List Envelope) → filter (is_for target) (map (entry_for target token) xs) ≡ map (entry_for target token) xs
 own-entries target token [] = refl
@@ -290,7 +286,7 @@ module _ (world : World) (os : List OutboxView) (w : WaitingView AdmittedView) (
     }
 
     pub added-comes : Comes (record { outboxes = os; waiting = w; tried = ts }) target x (record { outboxes = os'; waiting = w'; tried = ts })
-    added-comes = record { answer = adds.answer; waits = waits-more; stopped = adds.stopped; discarded = adds.discarded; last = adds.last }
+    added-comes = record { answer = adds.answer; waits = waits-more; stopped = adds.stopped; discarded = adds.discarded; last = adds.last; admitted = token; youngest = λ entries holds. adds.holds entries holds }
 
 -- ---- what the call did, whichever way it went
 

@@ -123,12 +123,14 @@ module _ (world : World) (os : List OutboxView) (w : WaitingView AdmittedView) (
           })
           others-rest (let s = ap (λ s. s.made) is_seat in omega (arith, added, s))
 
-      pub handed-offers : Offers (record { outboxes = os; waiting = w; tried = ts }) target Handed (record { outboxes = set os target b'; waiting = w'; tried = ts })
-      handed-offers = record {
+      pub handed-offers : ((entries : List (Entry AdmittedView)) → Holds w entries → Takes w entries target (Some (x, token)) w')
+          → Offers (record { outboxes = os; waiting = w; tried = ts }) target Handed (record { outboxes = set os target b'; waiting = w'; tried = ts })
+      handed-offers first = record {
         envelope = x;
         waits = waits-own ∙ ap (λ zs. x ∷ zs) (sym waits-rest);
         sends = ap (option_map (λ (o : OutboxView). o.sends)) r.is ∙ ap (λ s. Some s) is_sends ∙ sym (ap (λ (o : Option OutboxView). option_map (λ s. after_offer s x) (option_map (λ b. b.sends) o)) at);
         others = λ y other. record { waits = waits-other y other; sends = ap (option_map (λ (o : OutboxView). o.sends)) (r.others y other) };
+        rest = λ entries holds. let t = (first entries holds).taken in (t.0, t.1, t.3);
       }
 
       pub handed-stays : Stays (record { outboxes = os; waiting = w; tried = ts }) (record { outboxes = set os target b'; waiting = w'; tried = ts })

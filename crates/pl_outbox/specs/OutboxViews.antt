@@ -1,5 +1,5 @@
 -- What an executor made for others, and its right to it: what was sent to each, and what waits.
-use Rattle.std.specs.Prelude.{◌≡◌, ◌≢◌, ◌↔◌, ℕ, ◌+◌, ◌<◌, ◌≤◌, ◌^◌, Bool, true, false, ◌||◌, ◌&&◌, ◌==◌, cond, List, [], ◌∷◌, ◌++◌, map, filter, find, not, length, slice_get, sum_by, All, Option, Some}
+use Rattle.std.specs.Prelude.{◌≡◌, ◌≢◌, ◌↔◌, ℕ, ◌+◌, ◌<◌, ◌≤◌, ◌^◌, Bool, true, false, ◌||◌, ◌&&◌, ◌==◌, cond, List, [], ◌∷◌, ◌++◌, map, filter, find, position, remove, not, length, slice_get, sum_by, All, Option, Some}
 use Rattle.std.specs.Option.{option_map, option_map_or}
 use Rattle.pl_event.specs.declared.envelopes.Envelope.{Envelope}
 use Rattle.pl_event.specs.declared.envelopes.Lane.{Lane}
@@ -11,6 +11,7 @@ use Rattle.pl_context.specs.Stops.{has_stopped, HasPlaces, AreAmong}
 use Rattle.pl_context.specs.OutputsViews.{added_items, stopped_after}
 use Rattle.pl_context.specs.WaitingViews.{WaitingView, Entry, Holds, is_for, stops_for, room_for}
 use Rattle.pl_queue.specs.declared.views.SenderView.{SenderView}
+use Rattle.pl_queue.specs.Rule.{SenderSees, WasOnce}
 use Rattle.pl_queue.specs.Views.{after_offer}
 use Rattle.pl_words.specs.declared.admission.Refused.{Refused}
 use Rattle.pl_words.specs.declared.admission.TheConstants.{MAX_ADMISSIONS}
@@ -34,6 +35,10 @@ pub record OutboxesView : Type 0 where
   pub outboxes : List OutboxView
   pub waiting : WaitingView AdmittedView
   pub tried : List ℕ
+
+-- an envelope that waits for a target, with its admission
+abbrev pub entry_for : ℕ → AdmittedView → Envelope → Entry AdmittedView
+entry_for target admitted x = record { target = target; envelope = x; token = admitted }
 
 -- what waits for a target, the oldest first
 abbrev pub waits_in : {A : Type 0} → WaitingView A → ℕ → List Envelope
@@ -122,14 +127,16 @@ pub record Adds (o : OutboxesView) (target : ℕ) (x : Envelope) (o' : OutboxesV
   pub made : admissions o' ≤ admissions o + 1
   pub placed : (lanes : List Lane) → AreAmong (x.lane ∷ []) lanes → HasPlaces (stops_for o.waiting target) lanes → HasPlaces (stops_for o'.waiting target) lanes
 
--- What comes last for the target: the envelope, or what stands in for it, or nothing where its lane has stopped. There is
--- one admission more for what comes, and none for nothing.
+-- What comes last for the target, and is the youngest of all that wait: the envelope, or what stands in for it, or nothing
+-- where its lane has stopped. There is one admission more for what comes, and none for nothing.
 pub record Comes (o : OutboxesView) (target : ℕ) (x : Envelope) (o' : OutboxesView) : Type 0 where
   pub answer : Added
   pub waits : waits_for o' target ≡ waits_for o target ++ added_items answer x
   pub stopped : stops_for o'.waiting target ≡ stopped_after answer (stops_for o.waiting target) x.lane
   pub discarded : (answer ≡ Discarded) ↔ (has_stopped (stops_for o.waiting target) x.lane ≡ true)
   pub last : has_stopped (stops_for o.waiting target) x.lane ≡ false → 0 < room_for o.waiting target → answer ≡ Last
+  pub admitted : AdmittedView
+  pub youngest : (entries : List (Entry AdmittedView)) → Holds o.waiting entries → Holds o'.waiting (entries ++ map (entry_for target admitted) (added_items answer x))
 
 -- None comes, for this reason.
 pub record RefusedBy (o : OutboxesView) (target : ℕ) (refusal : Refused) (o' : OutboxesView) : Type 0 where
@@ -145,12 +152,13 @@ pub record SameFor (o o' : OutboxesView) (y : ℕ) : Type 0 where
   pub waits : waits_for o' y ≡ waits_for o y
   pub sends : sends_for o' y ≡ sends_for o y
 
--- The first that waited for a target was sent there, and nothing else.
+-- The first that waited for a target was sent there, and nothing else. The others wait in the same order.
 pub record Sends (o : OutboxesView) (target : ℕ) (o' : OutboxesView) : Type 0 where
   pub envelope : Envelope
   pub waits : waits_for o target ≡ envelope ∷ waits_for o' target
   pub sends : sends_for o' target ≡ option_map (λ s. after_offer s envelope) (sends_for o target)
   pub others : (y : ℕ) → y ≢ target → SameFor o o' y
+  pub rest : (entries : List (Entry AdmittedView)) → Holds o.waiting entries → (i : ℕ) × (position (is_for target) entries ≡ Some i) × Holds o'.waiting (remove entries i)
 
 -- What waits is the same list in the same order, and nothing was sent.
 pub record Keeps (o o' : OutboxesView) : Type 0 where
@@ -162,6 +170,21 @@ abbrev pub Offers : OutboxesView → ℕ → Offered → OutboxesView → Type 0
 Offers o target Handed o' = Sends o target o'
 Offers o target Full o' = Keeps o o'
 Offers o target Nothing o' = (o' ≡ o) × (waits_for o target ≡ [])
+
+module _ {M S : Type 0} (is_sender : M → S → Type 0) (sends_of : S → SenderView) (capacity_of : M → ℕ) (world : World) where
+  -- The mailbox of a sender that has sent this was full at some moment of the call.
+  pub record WasFull (sends : SenderView) : Type 0 where
+    pub mailbox : M
+    pub sender : S
+    pub made : is_sender mailbox sender
+    pub sent : sends_of sender ≡ sends
+    pub once : WasOnce (capacity_of mailbox) (SenderSees world sends)
+
+  -- the answer is Full only where the queue was
+  abbrev pub FullOnce : OutboxesView → ℕ → Offered → Type 0
+  FullOnce o target Handed = Unit {0}
+  FullOnce o target Full = (sends : SenderView) × (sends_for o target ≡ Some sends) × WasFull sends
+  FullOnce o target Nothing = Unit {0}
 
 -- the targets whose queue was full in this turn, after an offer to one: that one too, where it was full
 abbrev pub tried_after : OutboxesView → ℕ → Offered → ℕ → Bool

@@ -2,6 +2,7 @@
 
 ghost use Rattle.std.specs.Prelude.{◌≡◌, ◌<◌, ◌≤◌, ◌^◌, ◌∷◌, [], IfOk, IfErr, MatchResult, Some, false};
 ghost use Rattle.pl_event.specs.Worlds.{FitsWorld};
+ghost use Rattle.pl_outbox.specs.OutboxViews.{WasFull};
 ghost use Rattle.pl_queue.specs.Views.{sent_of, after_offer};
 ghost use Rattle.pl_words.specs.Phases.{rank};
 ghost use Rattle.pl_words.specs.Admissions.{Admits, Refuses, admitted_of, less_one};
@@ -82,11 +83,10 @@ where
         requires fits { FitsWorld W.world envelope }
         ensures { MatchResult result
             (λ _. self.new ≡ record self.old { sends = after_offer self.old.sends envelope })
-            (λ full. (full.envelope ≡ envelope) × (self.new ≡ self.old)) }
+            (λ full. (full.envelope ≡ envelope) × (self.new ≡ self.old) × WasFull M.is_sender M.sends_of M.capacity_of W.world self.old.sends) }
     {
-        self.inbox
-            .mailbox
-            .offer::<R>(rt, &mut self.sender, envelope)
+        let mailbox = &self.inbox.mailbox;
+        mailbox.offer::<R>(rt, &mut self.sender, envelope)
     }
 
     /// Wakes the executor.

@@ -6,7 +6,7 @@ ghost use Rattle.pl_context.specs.WaitingViews.{Entry, Holds, stops_for};
 ghost use Rattle.pl_words.specs.Admissions.{AdmittedView};
 ghost use Rattle.pl_flow.specs.Flows.{IsNext};
 ghost use Rattle.pl_outbox.specs.Tries.{is_tried};
-ghost use Rattle.pl_outbox.specs.OutboxViews.{IsNew, admissions, waits_for, was_tried, oldest_untried, tried_after, reached, is_cut, Adds, Comes, RefusedBy, Offers, Stays, Forgets};
+ghost use Rattle.pl_outbox.specs.OutboxViews.{IsNew, admissions, waits_for, was_tried, oldest_untried, tried_after, reached, is_cut, Adds, Comes, RefusedBy, Offers, FullOnce, Stays, Forgets};
 
 use crate::bell::{MAX_BITS, Waiters};
 use crate::outbox::Outbox;
@@ -149,6 +149,7 @@ where
     pub fn offer<R: Wait>(&mut self, rt: &R, target: usize) -> Offered
         requires there { target < length self.old.outboxes }
         ensures offers { Offers self.old target result self.new }
+        ensures full { FullOnce M.is_sender M.sends_of M.capacity_of W.world self.old target result }
         ensures stays { Stays self.old self.new }
         ensures tried { (y : ℕ) → was_tried self.new y ≡ tried_after self.old target result y }
     {

@@ -43,7 +43,7 @@ pub returns-in-Handed-clause-handed : goal.returns-in-Handed-clause-handed
 returns-in-Handed-clause-handed g c =
     let o = c.args.self.now.outboxes in
     let target = c.in-Some-oldest.target in
-    subst (λ (p : OutboxesView). Sends o target p) (sym c.ring_for_many.ensures) (sends-first o c.loop.self.outboxes c.offer.new.self target c.loop.invariant.keeps.each c.in-Handed.ensures.offers)
+    subst (λ (p : OutboxesView). Sends o target p) (sym c.ring_for_many.ensures) (sends-first o c.loop.self.outboxes c.offer.new.self target c.loop.invariant.keeps c.in-Handed.ensures.offers)
 
 pub offer-requires : goal.offer-requires
 offer-requires g c = record { there = c.in-Some-oldest.ensures.there }

@@ -1,10 +1,11 @@
 use Rattle.std.proofs.Common.{◌≡◌, ◌==◌, ◌||◌, ◌<◌, List, length, set, refl, sym, subst, ap, ◌∙◌}
+use Rattle.std.specs.Option.{option_map}
 use Rattle.std.proofs.lemmas.Option.{slice_get_read}
 use Rattle.pl_event.specs.declared.envelopes.Envelope.{Envelope}
 use Rattle.pl_context.specs.WaitingViews.{Entry, Holds}
 use Rattle.pl_words.specs.Admissions.{AdmittedView}
 use Rattle.pl_outbox.specs.declared.outboxes.Offered.TheVariants.{Handed, Full, Nothing}
-use Rattle.pl_outbox.specs.OutboxViews.{OutboxView, OutboxesView, IsOutboxes, was_tried, Offers, Stays}
+use Rattle.pl_outbox.specs.OutboxViews.{OutboxView, OutboxesView, IsOutboxes, sends_for, was_tried, Offers, Stays}
 use Rattle.std.proofs.lemmas.List.{length-set}
 use Rattle.pl_outbox.proofs.OfferSteps.{set-back, nothing-offers, nothing-stays, may-offer, handed-hold, handed-offers, handed-stays, full-hold, full-offers, full-stays}
 use Rattle.pl_outbox.proofs.outboxes.Outboxes.offer.Goals as goal
@@ -61,7 +62,7 @@ returns-in-Ok-clause-offers g c =
     let at = slice_get_read os (length os) c.args.target c.index_mut.result.now refl (subst (λ (v : OutboxesView). c.args.target < length v.outboxes) (sym c.self.view_is) c.requires.there) c.index_mut.ensures.value in
     subst (λ (v : OutboxesView). Offers v c.args.target Handed (record { outboxes = set os c.args.target c.offer.new.self; waiting = c.take.new.self; tried = c.self.inside.tries.tried })) c.self.view_is
     (handed-offers g.W.Named.world os c.self.inside.waiting c.self.inside.tries.tried c.self.invariant.0 c.args.target c.in-Some.envelope c.in-Some.admitted c.take.new.self (c.in-Some.ensures.first c.self.invariant.0.entries c.self.invariant.0.holds)
-    c.index_mut.result.now c.offer.new.self at c.in-Ok.ensures c.take.ensures.added)
+    c.index_mut.result.now c.offer.new.self at c.in-Ok.ensures c.take.ensures.added c.in-Some.ensures.first)
 
 pub returns-in-Ok-clause-stays : goal.returns-in-Ok-clause-stays
 returns-in-Ok-clause-stays g c =
@@ -116,6 +117,15 @@ returns-in-Err-clause-offers g c =
     subst (λ (z : OutboxesView × List OutboxView). Offers z.0 c.args.target Full (record { outboxes = z.1; waiting = c.put_back.new.self; tried = c.add.new.self.tried })) (λ i. (c.self.view_is i, same-outboxes g c i))
     (full-offers g.W.Named.world os c.self.inside.waiting c.self.inside.tries.tried c.self.invariant.0 c.args.target c.put_back.new.self c.add.new.self.tried (held g c)
     (c.put_back.ensures.added ∙ c.take.ensures.added) (λ y. c.put_back.ensures.stopped y ∙ takes.stopped y) (c.put_back.ensures.targets ∙ takes.targets))
+
+pub returns-in-Err-clause-full : goal.returns-in-Err-clause-full
+returns-in-Err-clause-full g c =
+    let os = c.self.inside.outboxes.items in
+    let at = slice_get_read os (length os) c.args.target c.index_mut.result.now refl (subst (λ (v : OutboxesView). c.args.target < length v.outboxes) (sym c.self.view_is) c.requires.there) c.index_mut.ensures.value in (
+      c.index_mut.result.now.sends,
+      ap (λ (v : OutboxesView). sends_for v c.args.target) (sym c.self.view_is) ∙ ap (option_map (λ (o : OutboxView). o.sends)) at,
+      c.in-Err.ensures.2,
+    )
 
 pub returns-in-Err-clause-stays : goal.returns-in-Err-clause-stays
 returns-in-Err-clause-stays g c =
