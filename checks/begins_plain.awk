@@ -1,6 +1,8 @@
 # Whether a report begins the whole report of its session: `awk -v status=STATUS -f begins_plain.awk WHOLE REPORT`. It says
 # what is wrong, and ends with status 1 where something is. STATUS is that of the program which printed the report. With
-# `-v is_run=1` it is the report of a run on threads: no channel stands open, and one may have been refused.
+# `-v is_run=1` it is the report of a run on threads: no channel stands open, and one may have been refused. With
+# `-v fails=" C .. "` channels of these numbers were told to fail or to be aborted, and there was memory: these have failed,
+# and the others are drained.
 
 function is_wrong(what) {
     print what
@@ -32,6 +34,7 @@ END {
     all_drained = 1
     for (c = 0; c < channels[1]; c++) {
         allowed = is_run ? "^(drained|failed (Memory|Transport|Aborted|Refused))$" : "^(drained|open|failed (Memory|Transport|Aborted))$"
+        if (fails != "") allowed = index(fails, " " c " ") ? "^failed (Transport|Aborted|Refused)$" : "^drained$"
         if (stands[2, c] !~ allowed) is_wrong("channel " c " stands " stands[2, c])
         if (size[2, c, "tail"] > size[1, c, "tail"]) is_wrong("the tail of channel " c " is too long")
         for (i = 1; i <= size[2, c, "tail"]; i++)

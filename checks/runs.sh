@@ -1,14 +1,15 @@
 #!/bin/sh
-# Runs each example on threads, over both queues, and compares its report with that of `plain`.
+# Runs each example on threads, over both queues, and compares its report with that of `plain`, or with what it has to be.
 #
 # usage: [MINUTES=M] checks/runs.sh PROGRAM [TIMES [EXAMPLE..]]     each is run once, or TIMES times; all, or only these
 #
 # An example that is named has to be there, and has to be a session: else nothing was run for it, and the script fails.
 #
-# Where nothing fails the report is that of `plain`, and the status 0. Where a transport fails or the channel is aborted, each
-# tail and the bytes of each channel begin those of `plain`, and no channel stands open. Each run has a minute, and all of them
-# together have M of them, 30 where none are given. With waiting queues executors may wait for each other in a circle, so these
-# have room for all there is.
+# Where nothing fails the report is that of `plain`, and the status 0. Where a transport was told to fail or a channel is to be
+# aborted, a run on one loop has one report, that of the example, or its `run_report`. On several executors each tail and the
+# bytes of each channel begin those of `plain`, and a channel has failed exactly where it has in the report of the example.
+# Each run has a minute, and all of them together have M of them, 30 where none are given. With waiting queues executors may
+# wait for each other in a circle, so these have room for all there is.
 set -eu
 program=$1
 times=${2:-1}
@@ -35,11 +36,18 @@ run_once() {
     status=0
     timeout 60 "$program" run --queue "$queue" <"$work/session" >"$work/out" 2>"$work/err" || status=$?
     [ ! -s "$work/err" ] || fail "$(cat "$work/err")"
-    if grep -qE '"(fail_at|abort_after)":[0-9]' "$session"; then
-        awk -v status="$status" -v is_run=1 -f "$here/begins_plain.awk" "$work/plain" "$work/out" || fail "the report"
-    else
+    if ! grep -qE '"(fail_at|abort_after)":[0-9]' "$session"; then
         [ "$status" -eq 0 ] || fail "status $status"
         cmp -s "$work/plain" "$work/out" || fail "another report than that of plain"
+    elif grep -q '"loops":1,' "$session" && ! grep -q '"groups"' "$session"; then
+        report=$example/report
+        [ ! -f "$example/run_report" ] || report=$example/run_report
+        [ "$status" -eq "$(cat "$example/status" 2>/dev/null || echo 0)" ] || fail "status $status"
+        cmp -s "$report" "$work/out" || fail "another report than its one loop has"
+    else
+        fails=$(awk '$1 == "channel" && $3 == "failed" { printf "%s ", $2 }' "$example/report")
+        [ -n "$fails" ] || fail "no channel fails in its report"
+        awk -v status="$status" -v is_run=1 -v fails=" $fails" -f "$here/begins_plain.awk" "$work/plain" "$work/out" || fail "the report"
     fi
 }
 

@@ -1,4 +1,4 @@
-//! Replays of which `checks/refused_replay.sh` refuses each allocation in turn. Whichever it is, the test passes: a call
+//! Replays of which `checks/refused_tests.sh` refuses each allocation in turn. Whichever it is, the test passes: a call
 //! answers it, or the report begins that of `plain`.
 
 use crate::fair::begins;

@@ -3,7 +3,7 @@
 ghost use Rattle.std.specs.Prelude.{IfOk};
 ghost use Rattle.pl_exec.specs.SessionWords.{AreHeadSeatsOf, HaveMarksOf, IsReaderOf};
 
-use crate::sessions::{PING, decoded_apart, on_loops};
+use crate::sessions::{PING, decoded_apart, on_loops, with_channel};
 use crate::words_tests::pair;
 use pl_event::{Command, Event, Message, Outcome};
 use pl_exec::{Gate, HeadSeats, QueueKind, Reader, Words, run_with};
@@ -24,6 +24,12 @@ const LOOKS: u32 = 10_000_000;
 /// How often a promise is looked at that must not be settled.
 const LOOKS_WHILE_UNSET: u32 = 1_000_000;
 
+/// The mark of a channel before any call on its head.
+const UNMARKED: Option<Mark> = Some(Mark {
+    version: 0,
+    unwritable: false,
+});
+
 /// The mark of a channel that has answered PING: it was set where the answer came to the head, and where that was written.
 const ANSWERED: Option<Mark> = Some(Mark {
     version: 2,
@@ -36,8 +42,8 @@ enum Holds {
     None,
     /// The first turn of executor 0 waits for flag a, and that of executor 1 for flag b.
     FirstTurns,
-    /// The second turn of executor 1 raises flag a, and waits for flag b.
-    SecondTurn,
+    /// This turn of this executor raises flag a, and waits for flag b.
+    Turn(u16, u64),
 }
 
 /// What the threads of a test share: the words of a session, and a gate with two flags.
@@ -69,9 +75,11 @@ impl Gate for Shared {
         match (self.holds, executor, turn) {
             (Holds::FirstTurns, 0, 0) => self.wait_for(&self.a),
             (Holds::FirstTurns, 1, 0) => self.wait_for(&self.b),
-            (Holds::SecondTurn, 1, 1) => {
-                raise(&self.a);
-                self.wait_for(&self.b);
+            (Holds::Turn(held, number), _, _) => {
+                if held == executor && number == turn {
+                    raise(&self.a);
+                    self.wait_for(&self.b);
+                }
             }
             _ => {}
         }
@@ -173,15 +181,18 @@ fn one_after_another(shared: &Shared, mut reader: Reader) -> bool
     is_first_unset && first == Some(Outcome::Success) && is_second_unset
 }
 
-/// Waits until the executor of the decoder is held up, sees the first promise unset, lets it go on, and waits until the
-/// promise is settled.
+/// Waits until an executor is held up, sees the words of channel 0 as they were at the start, lets it go on, and waits until
+/// the first promise is settled.
 fn while_held_up(shared: &Shared, mut reader: Reader) -> bool
     requires { IsReaderOf shared.now.words reader }
 {
     shared.wait_for(&shared.a);
     let is_unset = stays_unset(&shared.words, 0, &mut reader, LOOKS_WHILE_UNSET);
+    let is_unmarked = shared.words.look(0, &mut reader) == UNMARKED;
     raise(&shared.b);
-    is_unset && first_outcome(&shared.words, 0, &mut reader) == Some(Outcome::Success)
+    is_unset
+        && is_unmarked
+        && first_outcome(&shared.words, 0, &mut reader) == Some(Outcome::Success)
 }
 
 /// What this other thread sees.
@@ -191,7 +202,7 @@ fn watches(shared: &Shared, mut reader: Reader) -> bool
     match shared.holds {
         Holds::None => first_outcome(&shared.words, 0, &mut reader) == Some(Outcome::Success),
         Holds::FirstTurns => one_after_another(shared, reader),
-        Holds::SecondTurn => while_held_up(shared, reader),
+        Holds::Turn(_, _) => while_held_up(shared, reader),
     }
 }
 
@@ -257,5 +268,86 @@ fn channel_by_channel(rt: HostRuntime) -> Result<(), Fail> {
 #[test]
 fn work_on_its_own_thread(rt: HostRuntime) -> Result<(), Fail> {
     let session = decoded_apart(rt.alloc(), 4)?;
-    seen_over_both(&rt, rt.alloc(), session.as_str(), 1, Holds::SecondTurn)
+    seen_over_both(&rt, rt.alloc(), session.as_str(), 1, Holds::Turn(1, 1))
+}
+
+/// The first turn of a loop reads the opening event, and the second the burst, which it answers and writes: while the gate
+/// has either, nothing of it has moved.
+#[test]
+fn gate_is_told_before_a_turn_moves(rt: HostRuntime) -> Result<(), Fail> {
+    let session = on_loops(rt.alloc(), &[PING])?;
+    for turn in 0..2 {
+        seen_over_both(&rt, rt.alloc(), session.as_str(), 1, Holds::Turn(0, turn))?;
+    }
+    Ok(())
+}
+
+/// Whether the promises of channel 0 say these outcomes of its writes, and no more.
+fn says(words: &Words, reader: &mut Reader, outcomes: &[Outcome]) -> bool
+    requires { IsReaderOf words.now reader.old }
+    ensures { IsReaderOf words.now reader.new }
+{
+    let mut is_said = true;
+    'writes: for number in 0..outcomes.len() {
+        if words.peek(0, number as u64, reader) != Some(outcomes[number]) {
+            is_said = false;
+        }
+    }
+    is_said && words.peek(0, outcomes.len() as u64, reader).is_none()
+}
+
+/// Runs a session of one channel, whose promises then say these outcomes of its writes.
+fn assert_told<R: Abort + Threads + Wait + Sync>(
+    rt: &R,
+    alloc: Global,
+    text: &str,
+    queue: QueueKind,
+    outcomes: &[Outcome],
+) -> Result<(), Fail> {
+    let Watched {
+        session,
+        shared,
+        seats,
+        mut reader,
+        ..
+    } = watch(alloc, text, Holds::None)?;
+    let report = run_with(rt, alloc, session, queue, &shared, &shared.words, seats);
+    assert!(rt; report.is_ok());
+    assert!(rt; says(&shared.words, &mut reader, outcomes));
+    Ok(())
+}
+
+/// So with each kind of queue.
+fn assert_told_over_both<R: Abort + Threads + Wait + Sync>(
+    rt: &R,
+    alloc: Global,
+    text: &str,
+    outcomes: &[Outcome],
+) -> Result<(), Fail> {
+    assert_told(rt, alloc, text, QueueKind::Ring, outcomes)?;
+    assert_told(rt, alloc, text, QueueKind::Waiting, outcomes)
+}
+
+/// Of three flushes the second passes: two replies leave, and the third is closed by the end.
+#[test]
+fn closed_write_is_told(rt: HostRuntime) -> Result<(), Fail> {
+    let session = with_channel(
+        rt.alloc(),
+        r#"{"op":"last","name":"pairs","kind":"flush_every","n":2},"#,
+        r#""bursts":[["PING\r\n"],["PING\r\n"],["PING\r\n"]]"#,
+    )?;
+    let outcomes = [Outcome::Success, Outcome::Success, Outcome::Closed];
+    assert_told_over_both(&rt, rt.alloc(), session.as_str(), &outcomes)
+}
+
+/// The third call of the transport fails: the first reply took two.
+#[test]
+fn fault_is_told(rt: HostRuntime) -> Result<(), Fail> {
+    let session = with_channel(
+        rt.alloc(),
+        "",
+        r#""window":4,"fail_at":3,"bursts":[["PING\nQUIT\n"]]"#,
+    )?;
+    let outcomes = [Outcome::Success, Outcome::Fault];
+    assert_told_over_both(&rt, rt.alloc(), session.as_str(), &outcomes)
 }

@@ -13,6 +13,18 @@ const LINE_PROTOCOL: &str = r#"{"op":"last","name":"lines","kind":"lines","max":
 {"op":"last","name":"encode","kind":"encode"},
 {"op":"last","name":"service","kind":"service"}"#;
 
+/// A session with one channel on one loop: more handlers than those of the line protocol, in front of them, and its other
+/// members.
+pub(crate) fn with_channel(
+    alloc: Global,
+    first: &str,
+    members: &str,
+) -> Result<String, AllocError> {
+    format!(in alloc;
+        "{{\"version\":1,\"capacity\":4,\"loops\":1,\"channels\":[{{\"handlers\":[{first}{LINE_PROTOCOL}],{members}}}]}}"
+    )
+}
+
 /// A session with a loop for each channel, to which these bursts come.
 pub(crate) fn on_loops(alloc: Global, bursts: &[&str]) -> Result<String, AllocError> {
     let mut channels = String::new(alloc);

@@ -125,6 +125,8 @@ module _ {N : Type 0} (view_of : N → NodesView) where
       pub mid : OutputsView
       pub front : c.work.items ≡ envelope ∷ mid.items
       pub stopped : mid.stopped ≡ c.work.stopped
+      -- what there was room for there still is
+      pub room : c.work.room ≤ mid.room
       pub becomes : IsCall c envelope mid c' ⊎ IsKeep c envelope mid c'
 
     -- So many steps lead from one to the other.

@@ -76,6 +76,7 @@ returns-then-target-me-clause-steps g c = λ t world backlogs h.
         mid = c.next.new.self;
         front = c.in-Some.ensures.front;
         stopped = c.in-Some.ensures.stopped;
+        room = c.in-Some.ensures.room;
         becomes = inl (record { here = here; taken = c.take.ensures.takes; executors = refl; backlogs = refl });
       },
     )
@@ -99,6 +100,7 @@ returns-else-target-me-clause-steps g c = λ t world backlogs h.
         mid = c.next.new.self;
         front = c.in-Some.ensures.front;
         stopped = c.in-Some.ensures.stopped;
+        room = c.in-Some.ensures.room;
         becomes = inr (keep-is view_of stands world c.args.me from h c.in-Some.envelope c.next.new.self c.in-Some.ensures.front c.in-Some.ensures.stopped away (set es c.args.me a') a a' r adds g.N.Nodes.takes);
       },
     )
