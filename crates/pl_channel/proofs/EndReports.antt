@@ -24,18 +24,17 @@ use Rattle.pl_part.proofs.Causes.{may-first}
 use Rattle.pl_world.specs.declared.report.ChannelReport.{ChannelReport}
 use Rattle.pl_world.specs.declared.report.Stands.TheVariants.{Failed}
 use Rattle.pl_world.specs.Plans.{ChannelPlan, Plan, tail_hop, head_hop}
-use Rattle.pl_world.specs.Reports.{Ends, has_ended, channel_cause, is_written_out, stands_by, IsChannelReport, tail_of, head_of, KeepsToPlan, EndsKeepToPlan, ReportsPlan}
+use Rattle.pl_world.specs.Reports.{Ends, has_ended, channel_cause, is_written_out, stands_by, IsChannelReport, tail_of, head_of, KeepsToPlan, EndsTakePlanned, EndsKeepToPlan, ReportsPlan}
 use Rattle.pl_world.proofs.PlannedReports.{out-prefix, drained_parts, ends_keep_report}
 use Rattle.pl_channel.specs.Lanes.{world_of}
 use Rattle.pl_channel.specs.Ends.{ends_of, EndsHold}
+use Rattle.pl_channel.specs.PlanStand.{HeadKeepsPlan}
+use Rattle.pl_channel.proofs.HeadLanes.{comes-to, first-of}
 use Rattle.pl_channel.proofs.LaneContents.{content-planned}
 
 no-first : (first later : Option Cause) → first_cause first later ≡ None → (first ≡ None) × (later ≡ None)
 no-first None later e = (refl, e)
 no-first (Some cause) later e = cc
-
-some-same : {A : Type 0} (x y : A) → Some x ≡ Some y → x ≡ y
-some-same x y e = cc
 
 append-none : {A : Type 0} (xs ys : List A) → xs ++ ys ≡ [] → ys ≡ []
 append-none [] ys e = e
@@ -46,9 +45,6 @@ ended-is standing.Open e = cc
 ended-is standing.Ended e = refl
 ended-is (standing.Failed cause) e = cc
 
-first-of : (n : ℕ) (some all : List Event) → some ≡ take n all → IsPrefixOf some all
-first-of n some all e = subst (λ (xs : List Event). IsPrefixOf xs all) (sym e) (take-prefix_whole n all)
-
 -- Where no lane is refused, no channel has failed for that.
 not-refused : (world : World) → world.refuses ≡ false → (cause : Option Cause) (drained : Bool) → MayFailFor world cause → stands_by cause drained ≡ Failed Refused → ⊥
 not-refused world none None true may e = cc
@@ -58,10 +54,13 @@ not-refused world none (Some cause) drained may e = both_ways world.refuses none
     same : Failed cause ≡ Failed Refused → cause ≡ Refused
     same e = cc
 
+-- How often its transport was called is nothing of a report.
+pub called-report : (e : Ends) (calls : ℕ) (r : ChannelReport) → IsChannelReport e r → IsChannelReport (record e { calls = calls }) r
+called-report e calls r is = record { stands_is = is.stands_is; tail_is = is.tail_is; bytes_are = is.bytes_are; writes_are = is.writes_are }
+
 -- The report of a head that has taken nothing late is as well that of one whose writes get numbers: that is nothing of it then.
-pub numbered-report : {T : Type 0} (state : T → TransportState) (tail : TailView) (head : HeadView T) (ys zs : List Event) (r : ChannelReport) → zs ≡ []
-    → IsChannelReport (ends_of state tail head ys zs) r → IsChannelReport (record (ends_of state tail head ys zs) { is_full = false }) r
-numbered-report state tail head ys zs r none is = record {
+pub numbered-report : (e : Ends) (r : ChannelReport) → e.late ≡ [] → IsChannelReport e r → IsChannelReport (record e { is_full = false }) r
+numbered-report e r none is = record {
   stands_is = is.stands_is;
   tail_is = is.tail_is;
   bytes_are = is.bytes_are;
@@ -75,13 +74,8 @@ numbered-report state tail head ys zs r none is = record {
 }
 
 module _ {T : Type 0} (state : T → TransportState) (refuses : Bool) (plan : Plan) (number : ℕ) (p : ChannelPlan) (tail : TailView) (head : HeadView T) (held : EndsHold state refuses plan number p tail head) where
-  -- what comes to a hop of the channel in all
-  comes-to : (events content : List Event) (channel hop at : ℕ) → content_of (world_of refuses plan) (data_lane channel hop) ≡ Some events → channel ≡ number → hop ≡ at
-      → content_of (world_of refuses plan) (data_lane number at) ≡ Some content → events ≡ content
-  comes-to events content channel hop at own is there planned = some-same events content (sym own ∙ (λ i. content_of (world_of refuses plan) (data_lane (is i) (there i))) ∙ planned)
-
   to-tail : held.tail_holds.events ≡ tail_of p
-  to-tail = comes-to held.tail_holds.events (tail_of p) tail.channel tail.hop (tail_hop p) held.tail_holds.holds.own held.tail_channel held.tail_at (content-planned plan number p held.planned (tail_hop p) (omega arith))
+  to-tail = comes-to refuses plan number held.tail_holds.events (tail_of p) tail.channel tail.hop (tail_hop p) held.tail_holds.holds.own held.tail_channel held.tail_at (content-planned plan number p held.planned (tail_hop p) (omega arith))
 
   tail-first : IsPrefixOf tail.events (tail_of p)
   tail-first = subst (λ (xs : List Event). IsPrefixOf tail.events xs) to-tail (by tail.standing refl)
@@ -97,7 +91,7 @@ module _ {T : Type 0} (state : T → TransportState) (refuses : Bool) (plan : Pl
   tail-whole ended = held.tail_holds.holds.ended (ended-is tail.standing ended) ∙ to-tail
 
   to-head : held.head_holds.events ≡ head_of p
-  to-head = comes-to held.head_holds.events (head_of p) head.channel head.hop (head_hop p) held.head_holds.holds.own held.head_channel held.head_at (content-planned plan number p held.planned (head_hop p) (omega arith))
+  to-head = comes-to refuses plan number held.head_holds.events (head_of p) head.channel head.hop (head_hop p) held.head_holds.holds.own held.head_channel held.head_at (content-planned plan number p held.planned (head_hop p) (omega arith))
 
   abbrev took : HeadTook state held.head_holds.events head
   took = held.head_holds.holds.took
@@ -122,10 +116,12 @@ module _ {T : Type 0} (state : T → TransportState) (refuses : Bool) (plan : Pl
   none-late : head.failure ≡ None → took.zs ≡ []
   none-late sound = (subst (λ (f : Option Cause). BufferAfter f accepted head.buffer took.ys took.zs (is_over head.standing) took.sizes) sound took.after).0
 
-  -- so the ends keep to the plan
-  pub keep : (full : Bool) → (head.failure ≡ None → full ≡ false) → (head.failure ≡ Some Aborted → is_some p.abort_after ≡ true)
-      → EndsKeepToPlan p (record (ends_of state tail head took.ys took.zs) { is_full = full })
-  keep full numbering aborted = record {
+  -- The ends took what the plan brings to them, whether writes get no number any more and however often the transport was called.
+  abbrev pub ends_with : Bool → ℕ → Ends
+  ends_with full calls = record (ends_of state tail head took.ys took.zs) { is_full = full; calls = calls }
+
+  take-planned : (full : Bool) (calls : ℕ) → (head.failure ≡ None → full ≡ false) → EndsTakePlanned p (ends_with full calls)
+  take-planned full calls numbering = record {
     tail = tail-first;
     tail_whole = tail-whole;
     head = head-first;
@@ -133,8 +129,11 @@ module _ {T : Type 0} (state : T → TransportState) (refuses : Bool) (plan : Pl
     accepted = omega (arith, ap (λ (bs : List ℕ). length bs) output.1, length-append accepted output.0);
     late = none-late;
     numbering = numbering;
-    aborted = aborted;
   }
+
+  -- so they keep to the plan, where the head does
+  pub keep : (full : Bool) → (head.failure ≡ None → full ≡ false) → (keeps : HeadKeepsPlan state p head) → EndsKeepToPlan p (ends_with full keeps.calls)
+  keep full numbering keeps = record { lanes = take-planned full keeps.calls numbering; calls = keeps.called; aborted = keeps.aborted; unrefused = keeps.unrefused }
 
   module _ (r : ChannelReport) (reports : (ys zs : List Event) (sizes : List Change) → StandsAfter state head ys zs sizes → IsChannelReport (ends_of state tail head ys zs) r) where
     is : IsChannelReport (ends_of state tail head took.ys took.zs) r
@@ -147,41 +146,35 @@ module _ {T : Type 0} (state : T → TransportState) (refuses : Bool) (plan : Pl
         not-refused world none (channel_cause (ends_of state tail head took.ys took.zs)) (is_written_out (ends_of state tail head took.ys took.zs))
         (may-first world (head_cause head) (cause_of tail.standing) by_head held.tail_holds.holds.may) (sym is.stands_is ∙ e)
 
-    -- of a head that has not failed by itself
-    abbrev sound_ends : Ends
-    sound_ends = record (ends_of state tail head took.ys took.zs) { is_full = false }
+    -- the report of a head that has failed by itself, or has not
+    pub failed-reports : (calls : ℕ) → IsChannelReport (ends_with head.buffer.is_full calls) r
+    failed-reports calls = called-report (ends_of state tail head took.ys took.zs) calls r is
 
-    sound-keep : head.failure ≡ None → EndsKeepToPlan p sound_ends
-    sound-keep sound = keep false (λ e. refl) (λ aborted. absurd (no (sym sound ∙ aborted)))
-      where
-        no : None ≡ Some Aborted → ⊥
-        no e = cc
+    pub sound-reports : head.failure ≡ None → (calls : ℕ) → IsChannelReport (ends_with false calls) r
+    sound-reports sound calls = numbered-report (ends_with head.buffer.is_full calls) r (none-late sound) (failed-reports calls)
 
-    sound-reports : head.failure ≡ None → IsChannelReport sound_ends r
-    sound-reports sound = numbered-report state tail head took.ys took.zs r (none-late sound) is
-
-    -- a report of ends that hold is one of a channel with the plan
-    pub ends-report : refuses ≡ false → (head.failure ≡ Some Aborted → is_some p.abort_after ≡ true) → ReportsPlan p r
-    ends-report none aborted = by head.failure refl
+    -- a report of ends that hold is one of a channel with the plan, where its head keeps the plan
+    pub ends-report : refuses ≡ false → HeadKeepsPlan state p head → ReportsPlan p r
+    ends-report none keeps = by head.failure refl
       where
         by : (f : Option Cause) → head.failure ≡ f → ReportsPlan p r
-        by None sound = record { ends = sound_ends; ends_keep = sound-keep sound; reports = sound-reports sound; unrefused = unrefused none }
+        by None sound = record { ends = ends_with false keeps.calls; ends_keep = keep false (λ e. refl) keeps; reports = sound-reports sound keeps.calls; unrefused = unrefused none }
         by (Some cause) failed = record {
-          ends = ends_of state tail head took.ys took.zs;
-          ends_keep = keep head.buffer.is_full (λ sound. absurd (no (sym failed ∙ sound))) aborted;
-          reports = is;
+          ends = ends_with head.buffer.is_full keeps.calls;
+          ends_keep = keep head.buffer.is_full (λ sound. absurd (no (sym failed ∙ sound))) keeps;
+          reports = failed-reports keeps.calls;
           unrefused = unrefused none;
         }
           where
             no : Some cause ≡ None → ⊥
             no e = cc
 
-    -- and keeps to the plan, whoever aborts it
+    -- and keeps to the plan, whatever its head does
     pub ends-keep : KeepsToPlan p r
     ends-keep = by head.failure refl
       where
         by : (f : Option Cause) → head.failure ≡ f → KeepsToPlan p r
-        by None sound = ends_keep_report p sound_ends (sound-keep sound) r (sound-reports sound)
+        by None sound = ends_keep_report p (ends_with false 0) (take-planned false 0 (λ e. refl)) r (sound-reports sound 0)
         by (Some cause) failed = record {
           tail = subst (λ (xs : List Event). IsPrefixOf xs (tail_of p)) (sym is.tail_is) tail-first;
           bytes = subst (λ (bs : List ℕ). IsPrefixOf bs (out (head_of p))) (sym is.bytes_are)

@@ -6,5 +6,6 @@ mod Contents
 mod PlannedLanes
 mod NewChannels
 mod EventClones
+pub mod HeadLanes
 pub mod EndReports
 pub mod PlanLemmas

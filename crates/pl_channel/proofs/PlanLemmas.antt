@@ -1,14 +1,14 @@
 -- The nodes of a channel go on as its plan has them.
-use Rattle.std.proofs.Common.{◌≡◌, ℕ, ◌≢◌, ◌==◌, ◌||◌, Bool, true, false, not, List, length, Option, Some, None, refl, ap, sym, ◌∙◌, subst, inl, inr, ◌⊎◌}
-use Rattle.std.specs.Prelude.{is_some}
+use Rattle.std.proofs.Common.{◌≡◌, ℕ, suc, ◌+◌, ◌-◌, ◌<◌, ◌^◌, ◌≢◌, ◌==◌, ◌||◌, ◌&&◌, Bool, true, false, not, leb, ltb, List, length, Option, Some, None, refl, ap, sym, ◌∙◌, subst, inl, inr, ◌⊎◌, ⊎_elim, arith}
+use Rattle.std.specs.Prelude.{is_some, min}
 use Rattle.std.proofs.lemmas.List.{length-map}
-use Rattle.std.proofs.lemmas.Bool.{cases_Bool, and_parts}
+use Rattle.std.proofs.lemmas.Bool.{and_parts, both_ways, cases_Bool, cases_eq, cond-true, leb-false, leb-true, lt-ltb, or_left, or_parts, or_right}
 use Rattle.pl_event.specs.declared.events.Event.{Event}
 use Rattle.pl_event.specs.declared.envelopes.Envelope.{Envelope}
 use Rattle.pl_event.specs.declared.envelopes.Item.{Item}
 use Rattle.pl_event.specs.declared.envelopes.Item.TheVariants as item
 use Rattle.pl_event.specs.declared.outcomes.Cause.{Cause}
-use Rattle.pl_event.specs.declared.outcomes.Cause.TheVariants.{Memory, Aborted}
+use Rattle.pl_event.specs.declared.outcomes.Cause.TheVariants.{Memory, Transport, Aborted, Refused}
 use Rattle.pl_event.specs.Meaning.{Meaning}
 use Rattle.pl_context.specs.declared.standing.Standing.{Standing}
 use Rattle.pl_context.specs.declared.standing.Standing.TheVariants as stands
@@ -19,14 +19,71 @@ use Rattle.pl_context.specs.OutputsViews.{OutputsView}
 use Rattle.pl_head.specs.declared.heads.OutStep.{OutStep}
 use Rattle.pl_head.specs.declared.heads.OutStep.TheVariants as step
 use Rattle.pl_head.specs.declared.heads.ReadStep.TheVariants as reading
-use Rattle.pl_head.specs.ReadSteps.{brings_abort}
-use Rattle.pl_head.specs.Transports.{TransportState}
-use Rattle.pl_head.specs.InputStand.{InputStands}
+use Rattle.pl_head.specs.ReadSteps.{brings_abort, brings_failure, has_step, is_abort, plan_steps, steps_after}
+use Rattle.pl_head.specs.Transports.{TransportState, counted}
+use Rattle.pl_head.specs.Writes.{flushed_writes, offered, out}
+use Rattle.pl_head.specs.InputStand.{InputStands, InputView}
 use Rattle.pl_head.specs.HeadStand.{HeadView, lane_over, Answers, first_cause, cause_of_item, cause_of_step}
 use Rattle.pl_part.specs.HeadCalls.{HeadTakes, HeadReads, HeadWrites}
 use Rattle.pl_part.specs.Parts.{ChannelPartView, PartTakes, PartReads, PartWrites, SamePart, head_hop}
 use Rattle.pl_world.specs.Plans.{ChannelPlan, read_plan}
+use Rattle.pl_world.specs.Reports.{CallsKeepToPlan, accepted_by, failed_calls, head_of}
+use Rattle.pl_world.proofs.PlannedCalls.{offered-whole}
 use Rattle.pl_channel.specs.PlanStand.{HeadKeepsPlan, PartKeepsPlan}
+use Rattle.pl_channel.proofs.HeadLanes.{HeadBegins}
+
+-- ---- why a head has failed
+
+no-none : {A : Type 0} (x : A) → Some x ≡ None → ⊥
+no-none x e = cc
+
+-- A head goes on with its cause, or has failed for this one now.
+abbrev pub FailsFor : Cause → Option Cause → Option Cause → Type 0
+FailsFor c f f' = (f' ≡ f) ⊎ ((f ≡ None) × (f' ≡ Some c))
+
+module _ (c : Cause) (f f' : Option Cause) (is : FailsFor c f f') where
+  -- it has failed for another cause only where it had before
+  failed-before : (d : Cause) → (Some c ≡ Some d → ⊥) → f' ≡ Some d → f ≡ Some d
+  failed-before d other e = elim is [
+    | inl same ↦ sym same ∙ e
+    | inr new ↦ absurd (other (sym new.1 ∙ e))
+  ]
+
+  stays-failed : is_some f ≡ true → is_some f' ≡ true
+  stays-failed some = elim is [
+    | inl same ↦ ap is_some same ∙ some
+    | inr new ↦ ap is_some new.1
+  ]
+
+  module _ (sound : failed_calls (Some c) ≡ 0) where
+    -- a cause for which no call has failed
+    same-calls : failed_calls f' ≡ failed_calls f
+    same-calls = elim is [
+      | inl same ↦ ap failed_calls same
+      | inr new ↦ ap failed_calls new.1 ∙ sound ∙ sym (ap failed_calls new.0)
+    ]
+
+    no-transport : Some c ≡ Some Transport → ⊥
+    no-transport e = let one = ap failed_calls e in absurd (omega (arith, one, sound))
+
+    calls-stay : (p : ChannelPlan) (calls accepted : ℕ) → CallsKeepToPlan p f calls accepted → CallsKeepToPlan p f' calls accepted
+    calls-stay p calls accepted k = record {
+      failed = λ e. k.failed (failed-before Transport no-transport e);
+      told = λ at told some small. subst (λ (n : ℕ). calls - n < at) (sym same-calls) (k.told at told some small);
+      window = λ w is. subst (λ (n : ℕ). accepted ≡ accepted_by w (flushed_writes (head_of p)) (calls - n)) (sym same-calls) (k.window w is);
+    }
+
+and-with : (a b : Bool) → b ≡ true → (a && b) ≡ a
+and-with true b e = e
+and-with false b e = refl
+
+not-false : (a : Bool) → not a ≡ false → a ≡ true
+not-false true e = refl
+not-false false e = cc
+
+not-idle : (a : Bool) → (a ≡ true → ⊥) → a ≡ false
+not-idle true never = absurd (never refl)
+not-idle false never = refl
 
 -- ---- a head
 
@@ -36,94 +93,265 @@ module _ {T : Type 0} (state : T → TransportState) (p : ChannelPlan) where
   is-open stands.Ended closed o = cc
   is-open (stands.Failed c) closed o = cc
 
-  not-by-step : (s : OutStep) → cause_of_step s ≢ Some Aborted
-  not-by-step (step.Wrote n) = λ c. cc
-  not-by-step step.Idle = λ c. cc
-  not-by-step step.Failed = λ c. cc
+  -- a head of which these are the same as of another, but that it may have failed for this cause now
+  same-keeps : (c : Cause) (h h' : HeadView T) → h'.transport ≡ h.transport → h'.input ≡ h.input → h'.buffer.low ≡ h.buffer.low → h'.buffer.high ≡ h.buffer.high → FailsFor c h.failure h'.failure
+      → failed_calls (Some c) ≡ 0 → (Some c ≡ Some Aborted → ⊥) → (Some c ≡ Some Refused → ⊥) → HeadKeepsPlan state p h → HeadKeepsPlan state p h'
+  same-keeps c h h' transport input low high fails sound unaborted unrefused k = record {
+    reads = (k.reads.0, k.reads.1, subst (InputStands (read_plan p) k.reads.0 k.reads.1) (sym input) k.reads.2);
+    low = low ∙ k.low;
+    high = high ∙ k.high;
+    window = ap (λ (t : T). (state t).window) transport ∙ k.window;
+    fail_at = ap (λ (t : T). (state t).fail_at) transport ∙ k.fail_at;
+    calls = k.calls;
+    counted = ap (λ (t : T). (state t).calls) transport ∙ k.counted;
+    called = subst (λ (t : T). CallsKeepToPlan p h'.failure k.calls (length (state t).accepted)) (sym transport)
+        (calls-stay c h.failure h'.failure fails sound p k.calls (length (state h.transport).accepted) k.called);
+    failures = ap (λ (t : T). (state t).failures) transport ∙ k.failures ∙ sym (same-calls c h.failure h'.failure fails sound);
+    aborted = λ e.
+        let was = k.aborted (failed-before c h.failure h'.failure fails Aborted unaborted e) in
+        (was.0, ap (λ (x : InputView). x.steps + 1) input ∙ was.1);
+    closed = λ aborts over. stays-failed c h.failure h'.failure fails (k.closed aborts (sym (ap (λ (x : InputView). x.port.is_open) input) ∙ over));
+    unrefused = λ e. k.unrefused (failed-before c h.failure h'.failure fails Refused unrefused e);
+  }
 
-  -- an item does not abort it
-  not-by-item : (i : Item) (answer : Took) → Answers false i answer → cause_of_item i answer ≢ Some Aborted
-  not-by-item (item.Event e) answer a = elim a [
-    | inl ran ↦ λ c. none-is (sym (ap (cause_of_item (item.Event e)) ran) ∙ c)
-    | inr failed ↦ λ c. memory-is (sym (ap (cause_of_item (item.Event e)) failed.0) ∙ c)
+  -- an item fails it for want of memory alone
+  by-item : (i : Item) (answer : Took) → Answers false i answer → (cause_of_item i answer ≡ None) ⊎ (cause_of_item i answer ≡ Some Memory)
+  by-item (item.Event e) answer a = elim a [
+    | inl ran ↦ inl (ap (cause_of_item (item.Event e)) ran)
+    | inr failed ↦ inr (ap (cause_of_item (item.Event e)) failed.0)
   ]
-    where
-      none-is : None ≡ Some Aborted → ⊥
-      none-is e = cc
+  by-item item.End answer a = inl refl
+  by-item (item.Fail c) answer a = inl refl
+  by-item (item.Flag v) answer a = inl refl
 
-      memory-is : Some Memory ≡ Some Aborted → ⊥
-      memory-is e = cc
-  not-by-item item.End answer a = λ c. cc
-  not-by-item (item.Fail c) answer a = λ c. cc
-  not-by-item (item.Flag v) answer a = λ c. cc
+  memory-aborted : Some Memory ≡ Some Aborted → ⊥
+  memory-aborted e = cc
+
+  memory-refused : Some Memory ≡ Some Refused → ⊥
+  memory-refused e = cc
 
   -- an item that it takes
   pub takes-keeps : (h h' : HeadView T) (e : Envelope) (before after : OutputsView) (answer : Took)
       → HeadTakes state h e before answer h' after → HeadKeepsPlan state p h → HeadKeepsPlan state p h'
-  takes-keeps h h' e before after answer t k = record {
-    reads = (k.reads.0, k.reads.1, subst (InputStands (read_plan p) k.reads.0 k.reads.1) (sym (ap (λ (x : HeadView T). x.input) t.same)) k.reads.2);
-    low = t.marks.low ∙ k.low;
-    high = t.marks.high ∙ k.high;
-    window = ap (λ (x : HeadView T). (state x.transport).window) t.same ∙ k.window;
-    fail_at = ap (λ (x : HeadView T). (state x.transport).fail_at) t.same ∙ k.fail_at;
-    aborted = aborted;
-  }
+  takes-keeps h h' e before after answer t k =
+      same-keeps Memory h h' (ap (λ (x : HeadView T). x.transport) t.same) (ap (λ (x : HeadView T). x.input) t.same) t.marks.low t.marks.high fails refl memory-aborted memory-refused k
     where
-      open-aborted : (f : Option Cause) → h.failure ≡ f → lane_over h ≡ false → h'.failure ≡ Some Aborted → is_some p.abort_after ≡ true
-      open-aborted (Some c) f live a = k.aborted (f ∙ sym (ap (λ (x : Option Cause). first_cause x (cause_of_item e.item answer)) f) ∙ sym (t.failure (is-open h.standing h.is_closed live)) ∙ a)
-      open-aborted None f live a = absurd (not-by-item e.item answer (subst (λ (q : Bool). Answers q e.item answer) (ap is_some f) (t.answers live))
-          (sym (t.failure (is-open h.standing h.is_closed live) ∙ ap (λ (x : Option Cause). first_cause x (cause_of_item e.item answer)) f) ∙ a))
+      live-fails : (f : Option Cause) → h.failure ≡ f → lane_over h ≡ false → FailsFor Memory h.failure h'.failure
+      live-fails (Some c) f live = inl (t.failure (is-open h.standing h.is_closed live) ∙ ap (λ (x : Option Cause). first_cause x (cause_of_item e.item answer)) f ∙ sym f)
+      live-fails None f live =
+          let cause : h'.failure ≡ cause_of_item e.item answer = t.failure (is-open h.standing h.is_closed live) ∙ ap (λ (x : Option Cause). first_cause x (cause_of_item e.item answer)) f in
+          elim (by-item e.item answer (subst (λ (q : Bool). Answers q e.item answer) (ap is_some f) (t.answers live))) [
+            | inl none ↦ inl (cause ∙ none ∙ sym f)
+            | inr memory ↦ inr (f, cause ∙ memory)
+          ]
 
-      aborted : h'.failure ≡ Some Aborted → is_some p.abort_after ≡ true
-      aborted a = elim (cases_Bool (lane_over h)) [
-        | inl over ↦ k.aborted (sym (ap (λ (x : HeadView T). x.failure) (t.over over).1) ∙ a)
-        | inr live ↦ open-aborted h.failure refl live a
+      fails : FailsFor Memory h.failure h'.failure
+      fails = elim (cases_Bool (lane_over h)) [
+        | inl over ↦ inl (ap (λ (x : HeadView T). x.failure) (t.over over).1)
+        | inr live ↦ live-fails h.failure refl live
       ]
+
+  failed-or : (some aborts : Bool) → (some || aborts) ≡ true → (not some && aborts) ≡ false → some ≡ true
+  failed-or true aborts any none = refl
+  failed-or false aborts any none = absurd (both_ways aborts none any)
+
+  aborted-transport : Some Aborted ≡ Some Transport → ⊥
+  aborted-transport e = cc
+
+  aborted-refused : Some Aborted ≡ Some Refused → ⊥
+  aborted-refused e = cc
+
+  none-of : (f : Option Cause) → not (is_some f) ≡ true → f ≡ None
+  none-of None e = refl
+  none-of (Some c) e = cc
 
   -- a read step: only that of an abort aborts it
   pub reads-keeps : (h h' : HeadView T) (before after : OutputsView)
       → HeadReads state h before reading.Gave h' after → HeadKeepsPlan state p h → HeadKeepsPlan state p h'
   reads-keeps h h' before after r k = record {
-    reads = (_, _, r.reads refl (read_plan p) k.reads.0 k.reads.1 k.reads.2);
+    reads = (_, _, now);
     low = r.marks.low ∙ k.low;
     high = r.marks.high ∙ k.high;
-    window = (step-same (cases_Bool abort)).0 ∙ k.window;
-    fail_at = (step-same (cases_Bool abort)).1 ∙ k.fail_at;
-    aborted = (step-same (cases_Bool abort)).2;
+    window = ap (λ (t : T). (state t).window) transport ∙ k.window;
+    fail_at = ap (λ (t : T). (state t).fail_at) transport ∙ k.fail_at;
+    calls = k.calls;
+    counted = ap (λ (t : T). (state t).calls) transport ∙ k.counted;
+    called = subst (λ (t : T). CallsKeepToPlan p h'.failure k.calls (length (state t).accepted)) (sym transport)
+        (calls-stay Aborted h.failure h'.failure fails refl p k.calls (length (state h.transport).accepted) k.called);
+    failures = ap (λ (t : T). (state t).failures) transport ∙ k.failures ∙ sym (same-calls Aborted h.failure h'.failure fails refl);
+    aborted = aborted (cases_Bool abort);
+    closed = closed;
+    unrefused = λ e. k.unrefused (failed-before Aborted h.failure h'.failure fails Refused aborted-refused e);
   }
     where
+      was : InputStands (read_plan p) k.reads.0 k.reads.1 h.input
+      was = k.reads.2
+
+      now : InputStands (read_plan p) (steps_after (read_plan p) k.reads.0 h.failure) (brings_failure (read_plan p) k.reads.0 h.failure) h'.input
+      now = r.reads refl (read_plan p) k.reads.0 k.reads.1 k.reads.2
+
       abort : Bool
       abort = brings_abort (read_plan p) k.reads.0 h.failure
 
-      step-same : (abort ≡ true) ⊎ (abort ≡ false) → ((state h'.transport).window ≡ (state h.transport).window) × ((state h'.transport).fail_at ≡ (state h.transport).fail_at) × (h'.failure ≡ Some Aborted → is_some p.abort_after ≡ true)
-      step-same (inl aborts-now) =
-          let a = r.aborts refl (read_plan p) k.reads.0 k.reads.1 k.reads.2 aborts-now in (
-            ap (λ (x : HeadView T). (state x.transport).window) a.same,
-            ap (λ (x : HeadView T). (state x.transport).fail_at) a.same,
-            λ _. (and_parts (is_some p.abort_after) _ (and_parts (not (is_some h.failure)) _ aborts-now).1).0,
-          )
-      step-same (inr goes-on) =
-          let same = r.same refl (read_plan p) k.reads.0 k.reads.1 k.reads.2 goes-on in (
-            ap (λ (x : HeadView T). (state x.transport).window) same,
-            ap (λ (x : HeadView T). (state x.transport).fail_at) same,
-            λ f. k.aborted (sym (ap (λ (x : HeadView T). x.failure) same) ∙ f),
-          )
+      aborts-now : abort ≡ true → (h.failure ≡ None) × (is_abort (read_plan p) k.reads.0 ≡ true)
+      aborts-now e = let both = and_parts (not (is_some h.failure)) (is_abort (read_plan p) k.reads.0) e in (none-of h.failure both.0, both.1)
 
-  -- a write
+      step : (abort ≡ true) ⊎ (abort ≡ false) → (h'.transport ≡ h.transport) × FailsFor Aborted h.failure h'.failure
+      step (inl e) =
+          let a = r.aborts refl (read_plan p) k.reads.0 k.reads.1 k.reads.2 e in
+          (ap (λ (x : HeadView T). x.transport) a.same, inr ((aborts-now e).0, ap (λ (x : HeadView T). x.failure) a.same))
+      step (inr goes_on) =
+          let same = r.same refl (read_plan p) k.reads.0 k.reads.1 k.reads.2 goes_on in
+          (ap (λ (x : HeadView T). x.transport) same, inl (ap (λ (x : HeadView T). x.failure) same))
+
+      transport : h'.transport ≡ h.transport
+      transport = (step (cases_Bool abort)).0
+
+      fails : FailsFor Aborted h.failure h'.failure
+      fails = (step (cases_Bool abort)).1
+
+      stays : brings_failure (read_plan p) k.reads.0 h.failure ≡ true → h'.input.steps ≡ k.reads.0
+      stays e = now.steps ∙ cond-true (brings_failure (read_plan p) k.reads.0 h.failure) k.reads.0 (k.reads.0 + 1) e
+
+      aborted : (abort ≡ true) ⊎ (abort ≡ false) → h'.failure ≡ Some Aborted → (is_some p.abort_after ≡ true) × (h'.input.steps + 1 ≡ plan_steps (read_plan p))
+      aborted (inl e) _ =
+          let is = (aborts-now e).1 in
+          let last = and_parts (is_some p.abort_after) (leb (plan_steps (read_plan p)) (k.reads.0 + 1)) is in
+          let most = leb-true (plan_steps (read_plan p)) (k.reads.0 + 1) last.1 in
+          let left = was.before_abort last.0 in
+          let made = stays (or_right (is_some h.failure) (is_abort (read_plan p) k.reads.0) is) in
+          (last.0, omega (arith, most, left, made))
+      aborted (inr goes_on) f =
+          let before : h.failure ≡ Some Aborted = sym (ap (λ (x : HeadView T). x.failure) (r.same refl (read_plan p) k.reads.0 k.reads.1 k.reads.2 goes_on)) ∙ f in
+          let kept = k.aborted before in
+          let made = stays (or_left (is_some h.failure) (is_abort (read_plan p) k.reads.0) (ap is_some before)) in
+          let steps = was.steps in
+          (kept.0, omega (arith, kept.1, made, steps))
+
+      closed : is_some p.abort_after ≡ true → h'.input.port.is_open ≡ false → is_some h'.failure ≡ true
+      closed aborts over =
+          let more = now.before_abort aborts in
+          let left : has_step (read_plan p) (steps_after (read_plan p) k.reads.0 h.failure) (brings_failure (read_plan p) k.reads.0 h.failure) ≡ not (brings_failure (read_plan p) k.reads.0 h.failure) =
+          and-with (not (brings_failure (read_plan p) k.reads.0 h.failure)) (ltb (steps_after (read_plan p) k.reads.0 h.failure) (plan_steps (read_plan p))) (lt-ltb (steps_after (read_plan p) k.reads.0 h.failure) (plan_steps (read_plan p)) more) in
+          let any = not-false (brings_failure (read_plan p) k.reads.0 h.failure) (sym left ∙ sym now.is_open ∙ over) in
+          ⊎_elim
+          (λ (e : abort ≡ true). ap (λ (x : HeadView T). is_some x.failure) (r.aborts refl (read_plan p) k.reads.0 k.reads.1 k.reads.2 e).same)
+          (λ (n : abort ≡ false). stays-failed Aborted h.failure h'.failure fails (failed-or (is_some h.failure) (is_abort (read_plan p) k.reads.0) any n))
+          (cases_Bool abort)
+
+  -- ---- a write
+
+  counted-more : (calls count : ℕ) → count ≡ min calls (2 ^ 64 - 1) → counted count ≡ min (suc calls) (2 ^ 64 - 1)
+  counted-more calls count is = omega (arith, is)
+
+  -- a head that makes a write has not failed
+  sound-write : (f : Option Cause) (answer : OutStep) → (is_some f ≡ true → answer ≡ step.Idle) → answer ≢ step.Idle → f ≡ None
+  sound-write None answer rests writes = refl
+  sound-write (Some c) answer rests writes = absurd (writes (rests refl))
+
   pub writes-keeps : (may_refuse : T → ℕ → Type 0) (h h' : HeadView T) (before after : OutputsView) (answer : OutStep)
-      → HeadWrites state may_refuse h before answer h' after → HeadKeepsPlan state p h → HeadKeepsPlan state p h'
-  writes-keeps may_refuse h h' before after answer w k = record {
-    reads = (k.reads.0, k.reads.1, subst (InputStands (read_plan p) k.reads.0 k.reads.1) (sym (ap (λ (x : HeadView T). x.input) w.same)) k.reads.2);
-    low = w.marks.low ∙ k.low;
-    high = w.marks.high ∙ k.high;
-    window = w.window ∙ k.window;
-    fail_at = w.fail_at ∙ k.fail_at;
-    aborted = λ a. by-step h.failure refl answer refl (sym w.failure ∙ a);
-  }
+      → HeadWrites state may_refuse h before answer h' after → HeadBegins state p h → HeadKeepsPlan state p h → HeadKeepsPlan state p h'
+  writes-keeps may_refuse h h' before after answer w begins k = by answer refl
     where
-      by-step : (f : Option Cause) → h.failure ≡ f → (s : OutStep) → answer ≡ s → first_cause h.failure (cause_of_step answer) ≡ Some Aborted → is_some p.abort_after ≡ true
-      by-step (Some c) f s is a = k.aborted (f ∙ sym (ap (λ (x : Option Cause). first_cause x (cause_of_step answer)) f) ∙ a)
-      by-step None f s is a = absurd (not-by-step s (sym (ap (λ (x : Option Cause). first_cause x (cause_of_step answer)) f ∙ ap cause_of_step is) ∙ a))
+      -- it has made one call more, and has failed by it or not
+      one-more : answer ≢ step.Idle → CallsKeepToPlan p h'.failure (suc k.calls) (length (state h'.transport).accepted) → (state h'.transport).failures ≡ failed_calls h'.failure
+          → (h'.failure ≡ Some Aborted → ⊥) → (h'.failure ≡ Some Refused → ⊥) → HeadKeepsPlan state p h'
+      one-more writes called failures unaborted unrefused = record {
+        reads = (k.reads.0, k.reads.1, subst (InputStands (read_plan p) k.reads.0 k.reads.1) (sym (ap (λ (x : HeadView T). x.input) w.same)) k.reads.2);
+        low = w.marks.low ∙ k.low;
+        high = w.marks.high ∙ k.high;
+        window = w.window ∙ k.window;
+        fail_at = w.fail_at ∙ k.fail_at;
+        calls = suc k.calls;
+        counted = w.called writes ∙ counted-more k.calls (state h.transport).calls k.counted;
+        called = called;
+        failures = failures;
+        aborted = λ e. absurd (unaborted e);
+        closed = λ aborts over.
+            let failed = k.closed aborts (sym (ap (λ (x : HeadView T). x.input.port.is_open) w.same) ∙ over) in
+            absurd (both_ways (is_some h.failure) (ap is_some (sound-write h.failure answer w.rests writes)) failed);
+        unrefused = unrefused;
+      }
+
+      none-fails : h.failure ≡ None → failed_calls h.failure ≡ 0
+      none-fails none = ap failed_calls none
+
+      by : (s : OutStep) → answer ≡ s → HeadKeepsPlan state p h'
+      by step.Idle is = subst (HeadKeepsPlan state p) (sym (w.idle is).0) k
+      by (step.Wrote n) is =
+          let writes = λ (e : answer ≡ step.Idle). wrote-idle n (sym is ∙ e) in
+          let none = sound-write h.failure answer w.rests writes in
+          let now : h'.failure ≡ None = w.failure ∙ ap cause_after is ∙ ap (λ (f : Option Cause). first_cause f None) none in
+          let before = none-fails none in
+          let after = ap failed_calls now in
+          one-more writes
+          (record {
+            failed = λ e. absurd (no-some Transport (sym now ∙ e));
+            told = λ at told some small.
+                let fewer = k.called.told at told some small in
+                ⊎_elim
+                (λ (e : suc k.calls ≡ at).
+                let same : at ≡ counted (state h.transport).calls = let count = k.counted in omega (arith, e, small, count) in
+                absurd (w.told n is (k.fail_at ∙ told ∙ ap (λ (m : ℕ). Some m) same)))
+                (λ (other : suc k.calls ≢ at). omega (arith, fewer, before, after, other))
+                (cases_eq (suc k.calls) at);
+            window = λ size at. accepts n is none now size at;
+          })
+          (w.sound n is ∙ k.failures ∙ ap failed_calls (none ∙ sym now))
+          (λ e. no-some Aborted (sym now ∙ e)) (λ e. no-some Refused (sym now ∙ e))
+        where
+          cause_after : OutStep → Option Cause
+          cause_after s = first_cause h.failure (cause_of_step s)
+
+          wrote-idle : (n : ℕ) → step.Wrote n ≡ step.Idle → ⊥
+          wrote-idle n e = cc
+
+          no-some : (c : Cause) → None ≡ Some c → ⊥
+          no-some c e = cc
+
+          accepts : (n : ℕ) → answer ≡ step.Wrote n → h.failure ≡ None → h'.failure ≡ None → (size : ℕ) → p.window ≡ Some size
+              → length (state h'.transport).accepted ≡ accepted_by size (flushed_writes (head_of p)) (suc k.calls - failed_calls h'.failure)
+          accepts n is none now size at =
+              let all = flushed_writes (head_of p) in
+              let accepted = length (state h.transport).accepted in
+              let so_far : accepted ≡ accepted_by size all k.calls =
+              k.called.window size at ∙ ap (λ (m : ℕ). accepted_by size all m) (let b = none-fails none in let e : k.calls - failed_calls h.failure ≡ k.calls = omega (arith, b) in e) in
+              let left : accepted < length (out begins.ys) =
+              leb-false (length (out begins.ys)) accepted
+              (or_parts (is_some h.failure) (leb (length (out begins.ys)) accepted)
+              (not-idle (is_some h.failure || leb (length (out begins.ys)) accepted) (λ (i : (is_some h.failure || leb (length (out begins.ys)) accepted) ≡ true). wrote-idle n (sym is ∙ (w.waits begins.ys begins.zs begins.sizes begins.after).1 i)))).1 in
+              let offers = offered-whole accepted begins.ys (head_of p) begins.first left in
+              w.wrote n is
+              ∙ ap (λ (m : ℕ). accepted + m) (w.full n size begins.ys begins.zs begins.sizes is begins.after (k.window ∙ at) ∙ ap (λ (m : ℕ). min m size) (sym offers))
+              ∙ ap (λ (a : ℕ). a + min (offered 0 a all) size) so_far
+              ∙ ap (λ (m : ℕ). accepted_by size all m) (let b = ap failed_calls now in let e : suc k.calls ≡ suc k.calls - failed_calls h'.failure = omega (arith, b) in e)
+      by step.Failed is =
+          let writes = λ (e : answer ≡ step.Idle). failed-idle (sym is ∙ e) in
+          let none = sound-write h.failure answer w.rests writes in
+          let now : h'.failure ≡ Some Transport = w.failure ∙ ap cause_after is ∙ ap (λ (f : Option Cause). first_cause f (Some Transport)) none in
+          let before = none-fails none in
+          let after = ap failed_calls now in
+          let same : k.calls - failed_calls h.failure ≡ suc k.calls - failed_calls h'.failure = omega (arith, before, after) in
+          one-more writes
+          (record {
+            failed = λ e. omega arith;
+            told = λ at told some small. subst (λ (m : ℕ). m < at) same (k.called.told at told some small);
+            window = λ size at. ap (λ (l : List ℕ). length l) (w.kept is) ∙ k.called.window size at ∙ ap (λ (m : ℕ). accepted_by size (flushed_writes (head_of p)) m) same;
+          })
+          (w.failed is ∙ (let failures = k.failures in let e : counted (state h.transport).failures ≡ failed_calls h'.failure = omega (arith, failures, before, after) in e))
+          (λ e. transport-aborted (sym now ∙ e)) (λ e. transport-refused (sym now ∙ e))
+        where
+          cause_after : OutStep → Option Cause
+          cause_after s = first_cause h.failure (cause_of_step s)
+
+          failed-idle : step.Failed ≡ step.Idle → ⊥
+          failed-idle e = cc
+
+          transport-aborted : Some Transport ≡ Some Aborted → ⊥
+          transport-aborted e = cc
+
+          transport-refused : Some Transport ≡ Some Refused → ⊥
+          transport-refused e = cc
 
 -- ---- a part
 
@@ -178,11 +406,11 @@ module _ {S T : Type 0} (meaning : S → Meaning) (stands_after : S → List Eve
           same-head part'.head read.0 h' read.1 is (reads-keeps state p was.0 read.0 before after read.2 (k.head was.0 was.1))
 
   pub part-writes-keeps : (may_refuse : T → ℕ → Type 0) (part part' : ChannelPartView S T) (before after : OutputsView) (answer : OutStep) → SamePart part part'
-      → PartWrites state may_refuse part before answer part' after → PartKeepsPlan state p part → PartKeepsPlan state p part'
-  part-writes-keeps may_refuse part part' before after answer same w k = keeps-same part part' same k head
+      → PartWrites state may_refuse part before answer part' after → ((h : HeadView T) → part.head ≡ Some h → HeadBegins state p h) → PartKeepsPlan state p part → PartKeepsPlan state p part'
+  part-writes-keeps may_refuse part part' before after answer same w begins k = keeps-same part part' same k head
     where
       head : (h' : HeadView T) → part'.head ≡ Some h' → HeadKeepsPlan state p h'
       head h' is =
           let was = head-was part part' h' same is in
           let wrote = w.head was.0 was.1 in
-          same-head part'.head wrote.0 h' wrote.1 is (writes-keeps state p may_refuse was.0 wrote.0 before after answer wrote.2 (k.head was.0 was.1))
+          same-head part'.head wrote.0 h' wrote.1 is (writes-keeps state p may_refuse was.0 wrote.0 before after answer wrote.2 (begins was.0 was.1) (k.head was.0 was.1))

@@ -22,6 +22,8 @@ module _ {T : Type 0} (state : T → TransportState) where
     head_stands = head.standing;
     accepted = length (state head.transport).accepted;
     is_full = head.buffer.is_full;
+    calls = (state head.transport).calls;
+    reads = head.input.steps;
   }
 
   -- Tail and head are those of channel number of a plan, each at its hop, and hold in the world of that plan, where lanes are

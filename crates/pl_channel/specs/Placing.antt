@@ -17,17 +17,19 @@ use Rattle.pl_head.specs.HeadStand.{HeadView, StandsAfter, ReadsStand}
 use Rattle.pl_part.specs.NewParts.{whole_slots}
 use Rattle.pl_part.specs.Parts.{ChannelPartView, part_taken, part_writes, part_came}
 use Rattle.pl_world.specs.Plans.{ChannelPlan, read_plan, tail_hop, head_hop}
+use Rattle.pl_world.specs.Worlds.{IsUncalled}
 
 -- the hop of the turn, the first of the inbound handlers that is one
 abbrev pub turn_hop : ChannelPlan → ℕ
 turn_hop p = position_or_len (λ m. is_turn m.direction) p.inbound
 
--- A head at the last hop of a channel with this plan, over this transport. It has taken nothing and read nothing, its lane
+-- A head at the last hop of a channel with this plan, over this transport, which was not called. It has taken nothing and read nothing, its lane
 -- is open, and a write that comes gets a number. Each part of it is as it begins but the rooms of its buffer.
 pub record IsNewHead {T : Type 0} (state : T → TransportState) (number : ℕ) (p : ChannelPlan) (transport : T) (h : HeadView T) : Type 0 where
   pub channel_is : h.channel ≡ number
   pub hop_is : h.hop ≡ head_hop p
   pub transport_is : h.transport ≡ transport
+  pub uncalled : IsUncalled (state transport)
   pub low : h.buffer.low ≡ p.low
   pub high : h.buffer.high ≡ p.high
   pub taken : h.taken ≡ 0

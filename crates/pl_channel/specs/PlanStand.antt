@@ -1,21 +1,32 @@
 -- What of the nodes of a channel is as its plan has it, whatever moves they made.
-use Rattle.std.specs.Prelude.{◌≡◌, ℕ, List, length, Bool, true, is_some, Some, slice_get}
-use Rattle.pl_event.specs.declared.outcomes.Cause.TheVariants.{Aborted}
+use Rattle.std.specs.Prelude.{◌≡◌, ◌≢◌, ℕ, ◌+◌, ◌-◌, ◌^◌, List, length, min, Bool, true, false, is_some, Some, slice_get}
+use Rattle.pl_event.specs.declared.outcomes.Cause.TheVariants.{Aborted, Refused}
+use Rattle.pl_head.specs.ReadSteps.{plan_steps}
 use Rattle.pl_head.specs.Transports.{TransportState}
 use Rattle.pl_head.specs.HeadStand.{HeadView, ReadsStand}
 use Rattle.pl_part.specs.Parts.{ChannelPartView, head_hop}
 use Rattle.pl_world.specs.Plans.{ChannelPlan, Plan, read_plan, tail_hop}
 use Rattle.pl_world.specs.Plans.{head_hop as planned_head_hop}
+use Rattle.pl_world.specs.Reports.{CallsKeepToPlan, failed_calls}
 
 module _ {T : Type 0} (state : T → TransportState) where
-  -- A head reads by the plan of its channel, has its marks, its window and the call that is to fail, and is aborted only where the plan says so.
+  -- A head reads by the plan of its channel, and has its marks, its window and the call that is to fail. The calls of its
+  -- transport, which are counted up to 2 ^ 64 - 1, are as the plan has them, and one has failed just where the head has with
+  -- Transport. It aborts itself only where the plan says so, after all read steps before the abort; with an abort planned only
+  -- a failure closes its reads; and it never fails by itself with Refused.
   pub record HeadKeepsPlan (p : ChannelPlan) (h : HeadView T) : Type 0 where
     pub reads : (reads : ℕ) × (failed : Bool) × ReadsStand (read_plan p) reads failed h
     pub low : h.buffer.low ≡ p.low
     pub high : h.buffer.high ≡ p.high
     pub window : (state h.transport).window ≡ p.window
     pub fail_at : (state h.transport).fail_at ≡ p.fail_at
-    pub aborted : h.failure ≡ Some Aborted → is_some p.abort_after ≡ true
+    pub calls : ℕ
+    pub counted : (state h.transport).calls ≡ min calls (2 ^ 64 - 1)
+    pub called : CallsKeepToPlan p h.failure calls (length (state h.transport).accepted)
+    pub failures : (state h.transport).failures ≡ failed_calls h.failure
+    pub aborted : h.failure ≡ Some Aborted → (is_some p.abort_after ≡ true) × (h.input.steps + 1 ≡ plan_steps (read_plan p))
+    pub closed : is_some p.abort_after ≡ true → h.input.port.is_open ≡ false → is_some h.failure ≡ true
+    pub unrefused : h.failure ≢ Some Refused
 
   -- The nodes of a channel stand at the hops of its plan.
   pub record PartKeepsPlan {S : Type 0} (p : ChannelPlan) (part : ChannelPartView S T) : Type 0 where

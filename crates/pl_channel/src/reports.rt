@@ -1,14 +1,14 @@
 //! What became of a channel, by its two ends.
 
-ghost use Rattle.std.specs.Prelude.{◌≡◌, ℕ, Bool, false, List, Option, Some, IfOk, ◌&&◌, ◌||◌, IsSome, is_some};
+ghost use Rattle.std.specs.Prelude.{◌≡◌, ℕ, Bool, false, List, Option, Some, IfOk, ◌&&◌, ◌||◌, is_some};
 ghost use Rattle.pl_event.specs.declared.events.Event.{Event};
-ghost use Rattle.pl_event.specs.declared.outcomes.Cause.TheVariants.{Aborted};
 ghost use Rattle.pl_head.specs.Marks.{Change};
 ghost use Rattle.pl_head.specs.HeadStand.{StandsAfter, head_cause, first_cause, is_idle};
 ghost use Rattle.pl_context.specs.Standings.{is_over, cause_of};
 ghost use Rattle.pl_world.specs.Plans.{ChannelPlan, Plan};
 ghost use Rattle.pl_world.specs.Reports.{IsChannelReport, KeepsToPlan, ReportsPlan, stands as stands_by_ends};
 ghost use Rattle.pl_channel.specs.Ends.{EndsHold, ends_of};
+ghost use Rattle.pl_channel.specs.PlanStand.{HeadKeepsPlan};
 
 use pl_context::Tail;
 use pl_event::{Cause, Sequence};
@@ -26,11 +26,11 @@ pub fn report<T: Transport>(
     ensures ends { IfOk result (λ report. (ys zs : List Event) (sizes : List Change) → StandsAfter T.state head.now ys zs sizes
         → IsChannelReport (ends_of T.state tail.now head.now ys zs) report) }
 
-    // Where they hold in a world of a plan, it keeps to that plan. Where in that world no lane is refused, and the head is
-    // aborted only as the plan says, it is what two ends say that keep to the plan.
+    // Where they hold in a world of a plan, it keeps to that plan. Where in that world no lane is refused, and the head keeps
+    // the plan, it is what two ends say that keep to the plan.
     ensures keeps { IfOk result (λ report. (refuses : Bool) (plan : Plan) (number : ℕ) (p : ChannelPlan) → EndsHold T.state refuses plan number p tail.now head.now → KeepsToPlan p report) }
     ensures planned { IfOk result (λ report. (plan : Plan) (number : ℕ) (p : ChannelPlan) → EndsHold T.state false plan number p tail.now head.now
-        → (head.now.failure ≡ Some Aborted → IsSome p.abort_after) → ReportsPlan p report) }
+        → HeadKeepsPlan T.state p head.now → ReportsPlan p report) }
 {
     let (bytes, writes) = head.copies(alloc)?;
     Ok(ChannelReport {
@@ -51,7 +51,7 @@ pub fn into_report<T: Transport>(
         → IsChannelReport (ends_of T.state tail head ys zs) report) }
     ensures keeps { IfOk result (λ report. (refuses : Bool) (plan : Plan) (number : ℕ) (p : ChannelPlan) → EndsHold T.state refuses plan number p tail head → KeepsToPlan p report) }
     ensures planned { IfOk result (λ report. (plan : Plan) (number : ℕ) (p : ChannelPlan) → EndsHold T.state false plan number p tail head
-        → (head.failure ≡ Some Aborted → IsSome p.abort_after) → ReportsPlan p report) }
+        → HeadKeepsPlan T.state p head → ReportsPlan p report) }
 {
     let stands = stands(&tail, &head);
     let Written { bytes, outcomes } = head.into_written(alloc)?;

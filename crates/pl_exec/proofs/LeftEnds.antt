@@ -131,7 +131,8 @@ module _ {T : Type 0} (state : T → TransportState) (plan : Plan) where
             at = own.2 ∙ keeps.head_at;
             over = sym (ap (λ (o : Option (HeadView T)). option_map_or (λ (h : HeadView T). is_over h.standing || is_some h.failure) o true) there) ∙ ended;
             written = λ ys zs sizes after. over.written h ys zs sizes there after;
-            aborted = (keeps.head h there).aborted;
+            read = sym (ap (λ (o : Option (HeadView T)). option_map_or (λ (h : HeadView T). h.input.port.is_open) o false) there) ∙ over.read;
+            keeps = keeps.head h there;
           }
 
       -- the executor that the plan gives a hop

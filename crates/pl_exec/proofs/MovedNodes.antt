@@ -13,11 +13,14 @@ use Rattle.pl_flow.specs.declared.moves.HeadMove.{HeadMove}
 use Rattle.pl_flow.specs.declared.moves.HeadMove.TheVariants as head
 use Rattle.pl_head.specs.declared.heads.ReadStep.{ReadStep}
 use Rattle.pl_head.specs.declared.heads.ReadStep.TheVariants as reading
+use Rattle.pl_head.specs.HeadStand.{HeadView}
 use Rattle.pl_head.specs.Transports.{TransportState}
 use Rattle.pl_part.specs.Paths.{context_at}
-use Rattle.pl_part.specs.Parts.{ChannelPartView, SamePart, PartReads, PartMoves, head_hop, part_lanes}
+use Rattle.pl_part.specs.Parts.{ChannelPartView, PartHolds, SamePart, PartReads, PartMoves, head_hop, part_lanes}
 use Rattle.pl_part.specs.PartCalls.{Taken, Given, PartRefused}
+use Rattle.pl_channel.specs.Lanes.{world_of}
 use Rattle.pl_channel.specs.PlanStand.{PartKeepsPlan}
+use Rattle.pl_channel.proofs.HeadLanes.{HeadBegins, part-begins}
 use Rattle.pl_channel.proofs.PlanLemmas.{part-takes-keeps, part-reads-keeps, part-writes-keeps}
 use Rattle.pl_replay.specs.Channels.{lanes_of}
 use Rattle.pl_replay.proofs.HeadMoves.{read-idle}
@@ -42,9 +45,9 @@ read-keeps meaning stands_after is_spent state q p p' b a reading.Done same r k 
 
 -- it has made a move, or none
 move-keeps : {S T : Type 0} (meaning : S → Meaning) (stands_after : S → List Event → Type 0) (is_spent : S → Bool) (state : T → TransportState) (may_refuse : T → ℕ → Type 0) (q : ChannelPlan) (p p' : ChannelPartView S T) (b a : OutputsView)
-    (by : HeadMove) (made : Bool) → SamePart p p' → PartMoves state may_refuse p by b made p' a → PartKeepsPlan state q p → PartKeepsPlan state q p'
-move-keeps meaning stands_after is_spent state may_refuse q p p' b a head.Read made same m k = read-keeps meaning stands_after is_spent state q p p' b a m.answer same m.reads k
-move-keeps meaning stands_after is_spent state may_refuse q p p' b a head.Out made same m k = part-writes-keeps meaning stands_after is_spent state q may_refuse p p' b a m.answer same m.writes k
+    (by : HeadMove) (made : Bool) → SamePart p p' → PartMoves state may_refuse p by b made p' a → ((h : HeadView T) → p.head ≡ Some h → HeadBegins state q h) → PartKeepsPlan state q p → PartKeepsPlan state q p'
+move-keeps meaning stands_after is_spent state may_refuse q p p' b a head.Read made same m begins k = read-keeps meaning stands_after is_spent state q p p' b a m.answer same m.reads k
+move-keeps meaning stands_after is_spent state may_refuse q p p' b a head.Out made same m begins k = part-writes-keeps meaning stands_after is_spent state q may_refuse p p' b a m.answer same m.writes begins k
 
 move-path : {S T : Type 0} (state : T → TransportState) (may_refuse : T → ℕ → Type 0) (p p' : ChannelPartView S T) (b a : OutputsView) (by : HeadMove) (made : Bool) → PartMoves state may_refuse p by b made p' a → p'.path ≡ p.path
 move-path state may_refuse p p' b a head.Read made m = m.reads.path
@@ -67,7 +70,7 @@ module _ {S T : Type 0} (ps : List (ChannelPartView S T)) (c : ℕ) (p p' : Chan
         let entered = enters-here me c p own.resident own.channel own.holds.hops e.lane stand.number of (sym (at-was ps c p p' was (λ (q : ChannelPartView S T). enters q e.lane) nobody e.lane.channel of) ∙ here) in
         nodes-stand ps c p p' was world plan meaning stands_after state me refused stand refused (λ r. r) t.puts.same holds
         (λ r. take-refuses-none world meaning stands_after is_spent state p p' e b answer a t.puts.same holds t.takes (head-there p e.lane entered) (own.called r))
-        (λ q k. part-takes-keeps meaning stands_after is_spent state q p p' e b a answer t.puts.same t.takes k)
+        (λ q planned k. part-takes-keeps meaning stands_after is_spent state q p p' e b a answer t.puts.same t.takes k)
 
     -- the contexts are as they were
     same-calls : p'.path ≡ p.path → refused ≡ false → NoneRefused p'
@@ -76,19 +79,21 @@ module _ {S T : Type 0} (ps : List (ChannelPartView S T)) (c : ℕ) (p p' : Chan
         own.called r hop x (sym (ap (λ z. context_at z hop) path) ∙ at)
 
     -- its head has made a move, or none
-    pub move-stands : (may_refuse : T → ℕ → Type 0) (by : HeadMove) (b : OutputsView) (made : Bool) (a : OutputsView) → Given meaning stands_after state p (head_hop p) b p' a → PartMoves state may_refuse p by b made p' a
+    pub move-stands : world ≡ world_of true plan → (may_refuse : T → ℕ → Type 0) (by : HeadMove) (b : OutputsView) (made : Bool) (a : OutputsView) → Given meaning stands_after state p (head_hop p) b p' a → PartMoves state may_refuse p by b made p' a
         → NodesStand world plan meaning stands_after state me refused (changed ps c p p' was)
-    move-stands may_refuse by b made a t m =
+    move-stands is_world may_refuse by b made a t m =
         let own = own-stands ps c p p' was world plan meaning stands_after state me refused stand in
         nodes-stand ps c p p' was world plan meaning stands_after state me refused stand refused (λ s. s) t.puts.same (t.holds world own.holds) (same-calls (move-path state may_refuse p p' b a by made m))
-        (λ q k. move-keeps meaning stands_after is_spent state may_refuse q p p' b a by made t.puts.same m k)
+        (λ q planned k.
+        let holds = subst (λ (w : World). PartHolds w meaning stands_after state p) is_world own.holds in
+        move-keeps meaning stands_after is_spent state may_refuse q p p' b a by made t.puts.same m (part-begins state true plan c q planned meaning stands_after p holds own.channel k) k)
 
     -- something that it wrote was refused
     pub refuse-stands : (hop : ℕ) (b a : OutputsView) → world.refuses ≡ true → PartRefused meaning stands_after state p hop b p' a → p'.head ≡ p.head → NodesStand world plan meaning stands_after state me true (changed ps c p p' was)
     refuse-stands hop b a refuses t head =
         let own = own-stands ps c p p' was world plan meaning stands_after state me refused stand in
         nodes-stand ps c p p' was world plan meaning stands_after state me refused stand true (λ s. absurd (never s)) t.puts.same (t.holds world refuses own.holds) (λ s. absurd (never s))
-        (λ q k. refused-keeps state q p p' t.puts.same head k)
+        (λ q planned k. refused-keeps state q p p' t.puts.same head k)
       where
         never : true ≡ false → ⊥
         never s = cc

@@ -153,7 +153,7 @@ module _ {S T : Type 0} (ps : List (ChannelPartView S T)) (c : ℕ) (p p' : Chan
 
       -- The nodes stand, where that part does and goes on as its plan has it. Nothing more was refused, or now something was.
       pub nodes-stand : (later : Bool) → (later ≡ false → refused ≡ false) → SamePart p p' → PartHolds world meaning stands_after state p' → (later ≡ false → NoneRefused p')
-          → ((q : ChannelPlan) → PartKeepsPlan state q p → PartKeepsPlan state q p') → NodesStand world plan meaning stands_after state me later (changed ps c p p' was)
+          → ((q : ChannelPlan) → slice_get plan.channels c ≡ Some q → PartKeepsPlan state q p → PartKeepsPlan state q p') → NodesStand world plan meaning stands_after state me later (changed ps c p p' was)
       nodes-stand later still same holds called kept = record {
         parts = parts;
         keeps = record { count = count-stays ∙ stand.keeps.count; each = each };
@@ -184,7 +184,8 @@ module _ {S T : Type 0} (ps : List (ChannelPartView S T)) (c : ℕ) (p p' : Chan
           each d q part planned at = elim (eqb_tells d c) [
             | inl is ↦
                 let own = at_set_same ps c p' part (subst (λ (i : ℕ). slice_get (changed ps c p p' was) i ≡ Some part) is.1 at) in
-                subst (PartKeepsPlan state q) (sym own) (kept q (stand.keeps.each c q p (subst (λ (i : ℕ). slice_get plan.channels i ≡ Some q) is.1 planned) was))
+                let there = subst (λ (i : ℕ). slice_get plan.channels i ≡ Some q) is.1 planned in
+                subst (PartKeepsPlan state q) (sym own) (kept q there (stand.keeps.each c q p there was))
             | inr other ↦ stand.keeps.each d q part planned (at_set_other ps c d p' part other.1 at)
           ]
 

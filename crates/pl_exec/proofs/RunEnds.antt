@@ -17,7 +17,7 @@ use Rattle.pl_head.specs.Writes.{flushed_writes, late_outcome, out, outcomes, un
 use Rattle.pl_head.specs.HeadStand.{HeadView, StandsAfter}
 use Rattle.pl_part.specs.HeadHolds.{HeadTook}
 use Rattle.pl_channel.specs.Ends.{ends_of, EndsHold}
-use Rattle.pl_channel.proofs.EndReports.{keep, numbered-report}
+use Rattle.pl_channel.proofs.EndReports.{ends_with, failed-reports, keep, sound-reports}
 use Rattle.pl_world.specs.declared.report.ChannelReport.{ChannelReport}
 use Rattle.pl_world.specs.Plans.{ChannelPlan, Plan}
 use Rattle.pl_world.specs.Reports.{IsChannelReport}
@@ -39,10 +39,14 @@ module _ {T : Type 0} (state : T → TransportState) (plan : Plan) (c : ℕ) (p 
   abbrev took : HeadTook state last.holds.events head
   took = last.holds.holds.took
 
+  -- so many calls of its transport were made, which counts them up to its largest number
+  abbrev calls : ℕ
+  calls = last.keeps.calls
+
   -- They are ends as a run leaves them. (Whether writes get no number any more is nothing of a head that has not failed.)
-  run-ends : (full : Bool) → (head.failure ≡ None → full ≡ false) → AreRunEnds p (record (ends_of state tail head took.ys took.zs) { is_full = full })
+  run-ends : (full : Bool) → (head.failure ≡ None → full ≡ false) → AreRunEnds p (ends_with state true plan c p tail head held full calls)
   run-ends full numbering =
-      let ends = keep state true plan c p tail head held full numbering last.aborted in
+      let ends = keep state true plan c p tail head held full numbering last.keeps in
       record {
         keep = ends;
         none_late = took.none_late;
@@ -50,7 +54,9 @@ module _ {T : Type 0} (state : T → TransportState) (plan : Plan) (c : ℕ) (p 
         accepted = λ none.
             let written : nat_le (length (out took.ys)) (length (state head.transport).accepted) ≡ true =
             sym (ap (λ (f : Option Cause). is_some f || nat_le (length (out took.ys)) (length (state head.transport).accepted)) none) ∙ last.written took.ys took.zs took.sizes took.after in
-            omega (arith, ends.accepted, leb-true (length (out took.ys)) (length (state head.transport).accepted) written);
+            let most = ends.lanes.accepted in
+            omega (arith, most, leb-true (length (out took.ys)) (length (state head.transport).accepted) written);
+        aborts = λ planned. last.keeps.closed planned last.read;
       }
 
   module _ (r : ChannelReport) (reports : (ys zs : List Event) (sizes : List Change) → StandsAfter state head ys zs sizes → IsChannelReport (ends_of state tail head ys zs) r) where
@@ -58,25 +64,20 @@ module _ {T : Type 0} (state : T → TransportState) (plan : Plan) (c : ℕ) (p 
     pub reports-run : ReportsRun p r
     reports-run = by head.failure refl
       where
-        is : IsChannelReport (ends_of state tail head took.ys took.zs) r
-        is = reports took.ys took.zs took.sizes took.after
-
         no : (cause : Cause) → Some cause ≡ None → ⊥
         no cause e = cc
 
         by : (f : Option Cause) → head.failure ≡ f → ReportsRun p r
         by (Some cause) failed = record {
-          ends = ends_of state tail head took.ys took.zs;
+          ends = ends_with state true plan c p tail head held head.buffer.is_full calls;
           ends_are = run-ends head.buffer.is_full (λ none. absurd (no cause (sym failed ∙ none)));
-          reports = is;
+          reports = failed-reports state true plan c p tail head held r reports calls;
         }
-        by None sound =
-            let none : took.zs ≡ [] = took.none_late (or-none (is_over head.standing) head.failure sound last.over) in
-            record {
-              ends = record (ends_of state tail head took.ys took.zs) { is_full = false };
-              ends_are = run-ends false (λ e. refl);
-              reports = numbered-report state tail head took.ys took.zs r none is;
-            }
+        by None sound = record {
+          ends = ends_with state true plan c p tail head held false calls;
+          ends_are = run-ends false (λ e. refl);
+          reports = sound-reports state true plan c p tail head held r reports sound calls;
+        }
 
 -- ---- each write has an outcome
 

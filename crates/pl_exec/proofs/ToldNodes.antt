@@ -50,7 +50,20 @@ module _ {S T : Type 0} (p p' : ChannelPartView S T) (told : IsTold p p') where
     head-keeps (Some x) at h is =
         let k = keeps.head x at in
         subst (HeadKeepsPlan state q) (same_Some (told_head told.so_many x) h is)
-        (record { reads = k.reads; low = k.low; high = k.high; window = k.window; fail_at = k.fail_at; aborted = k.aborted })
+        (record {
+          reads = k.reads;
+          low = k.low;
+          high = k.high;
+          window = k.window;
+          fail_at = k.fail_at;
+          calls = k.calls;
+          counted = k.counted;
+          called = k.called;
+          failures = k.failures;
+          aborted = k.aborted;
+          closed = k.closed;
+          unrefused = k.unrefused;
+        })
 
     keeps-as-before : PartKeepsPlan state q p'
     keeps-as-before = record {
@@ -73,7 +86,7 @@ module _ {S T : Type 0} (ps : List (ChannelPartView S T)) (c : ℕ) (ps' : List 
       subst (NodesStand world plan meaning stands_after state me refused) (sym becomes)
       (nodes-stand ps c t.before t.after t.was world plan meaning stands_after state me refused stand refused (λ s. s) (same t.before t.after t.told) (is-told-holds t.before t.after world meaning stands_after state t.told own.holds)
       (λ r hop x at. own.called r hop x (sym (ap (λ (y : ChannelPartView S T). context_at y.path hop) t.told.is) ∙ at))
-      (λ q k. keeps-as-before t.before t.after t.told state q k))
+      (λ q planned k. keeps-as-before t.before t.after t.told state q k))
 
   pub told-targets : (l : Lane) → target_of ps' l ≡ target_of ps l
   told-targets l = ap (λ (x : List (ChannelPartView S T)). target_of x l) becomes ∙ targets-stay ps c t.before t.after t.was (same t.before t.after t.told) l

@@ -1,9 +1,8 @@
 -- The report of a run.
-use Rattle.std.specs.Prelude.{◌≡◌, ◌≢◌, ℕ, Bool, ◌||◌, ◌&&◌, true, All, List, [], length, slice_get, Some, None, is_some}
+use Rattle.std.specs.Prelude.{◌≡◌, ◌≢◌, ℕ, Bool, ◌||◌, ◌&&◌, true, false, All, List, [], length, slice_get, Some, None, is_some}
 use Rattle.std.specs.List.{AllZip}
 use Rattle.std.specs.Option.{option_or}
 use Rattle.pl_event.specs.declared.events.Event.{Event}
-use Rattle.pl_event.specs.declared.outcomes.Cause.TheVariants.{Aborted}
 use Rattle.pl_context.specs.Standings.{is_over}
 use Rattle.pl_context.specs.TailViews.{TailView}
 use Rattle.pl_head.specs.Marks.{Change}
@@ -15,6 +14,7 @@ use Rattle.pl_part.specs.Parts.{ChannelPartView}
 use Rattle.pl_part.specs.TailHolds.{TailHolds}
 use Rattle.pl_channel.specs.Ends.{ends_of, EndsHold}
 use Rattle.pl_channel.specs.Lanes.{world_of}
+use Rattle.pl_channel.specs.PlanStand.{HeadKeepsPlan}
 use Rattle.pl_world.specs.declared.report.ChannelReport.{ChannelReport}
 use Rattle.pl_world.specs.declared.report.Report.{Report}
 use Rattle.pl_world.specs.declared.report.Stands.TheVariants.{Open}
@@ -25,12 +25,13 @@ use Rattle.pl_exec.specs.Adding.{each_with}
 
 -- The two ends of a channel, as a run leaves them: they keep to the plan. The head took nothing late where its lane was over
 -- before it failed by itself. Tail and head have ended or failed, and where the head has not failed by itself all flushed
--- bytes were accepted.
+-- bytes were accepted, and the plan has no abort.
 pub record AreRunEnds (p : ChannelPlan) (e : Ends) : Type 0 where
   pub keep : EndsKeepToPlan p e
   pub none_late : is_over e.head_stands ≡ true → e.late ≡ []
   pub over : (is_over e.tail_stands && (is_over e.head_stands || is_some e.failure)) ≡ true
   pub accepted : e.failure ≡ None → e.accepted ≡ length (out e.head)
+  pub aborts : is_some p.abort_after ≡ true → is_some e.failure ≡ true
 
 -- The report of a channel is that of two ends, as a run leaves them.
 pub record ReportsRun (p : ChannelPlan) (r : ChannelReport) : Type 0 where
@@ -56,14 +57,15 @@ pub record IsLeftTail (plan : Plan) (c : ℕ) (p : ChannelPlan) (tail : TailView
   pub at : tail.hop ≡ tail_hop p
   pub over : is_over tail.standing ≡ true
 
--- So does its head, which has no flushed byte left, and is aborted only where the plan says so.
+-- So does its head, which has no read step and no flushed byte left, and keeps the plan.
 pub record IsLeftHead {T : Type 0} (state : T → TransportState) (plan : Plan) (c : ℕ) (p : ChannelPlan) (head : HeadView T) : Type 0 where
   pub holds : HeadHolds state (world_of true plan) head
   pub channel : head.channel ≡ c
   pub at : head.hop ≡ head_hop p
   pub over : (is_over head.standing || is_some head.failure) ≡ true
   pub written : (ys zs : List Event) (sizes : List Change) → StandsAfter state head ys zs sizes → is_idle state head ys ≡ true
-  pub aborted : head.failure ≡ Some Aborted → is_some p.abort_after ≡ true
+  pub read : head.input.port.is_open ≡ false
+  pub keeps : HeadKeepsPlan state p head
 
 -- ---- the ends of a channel, as far as they were found
 

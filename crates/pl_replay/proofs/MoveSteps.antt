@@ -83,7 +83,7 @@ module _ {S T : Type 0} (meaning : S → Meaning) (stands_after : S → List Eve
   made-goes-on move core core' true x plan backlogs enabled runs idle capacity count empty n =
       let ran = runs refl in (
         ran.0,
-        goes-on plan backlogs ran.0 core core' x n capacity count empty ran.1 (makes-keeps meaning stands_after is_spent state may_refuse plan plan.capacity move (core_view core backlogs) (core_view core' ran.0) ran.2 n.keeps),
+        goes-on plan backlogs ran.0 core core' x n capacity count empty ran.1 (makes-keeps meaning stands_after is_spent state may_refuse plan false plan.capacity move (core_view core backlogs) (core_view core' ran.0) n.stands.hold ran.2 n.keeps),
         record { enabled = enabled; makes = λ _. ran.2; rests = λ no. absurd (both_ways true no refl) },
       )
   made-goes-on move core core' false x plan backlogs enabled runs idle capacity count empty n =

@@ -47,6 +47,6 @@ module _ {S T : Type 0} (meaning : S → Meaning) (stands_after : S → List Eve
             head_channel = head.1 ∙ stands.channel;
             head_at = head.2 ∙ keeps.head_at;
           },
-          (keeps.head ends.head ends.has_head).aborted,
+          keeps.head ends.head ends.has_head,
         );
   }

@@ -7,17 +7,20 @@ use Rattle.std.proofs.lemmas.List.{length-map, length-replicate}
 use Rattle.std.proofs.lemmas.Option.{slice_get_within, slice_get_cases, slice_get-get_or, slice_get-map}
 use Rattle.std.proofs.lemmas.List.Elements.{All-nil, All-from_get_or}
 use Rattle.std.proofs.lemmas.List.Sums.{sum_by-cons}
-use Rattle.std.proofs.lemmas.Bool.{ltb-true, and_parts, false≢true, cases_Bool, cond-true, cond-false}
+use Rattle.std.proofs.lemmas.Bool.{ltb-true, lt-ltb, and_parts, both_ways, false≢true, cases_Bool, cond-true, cond-false}
 use Rattle.pl_event.specs.declared.events.Event.{Event}
 use Rattle.pl_event.specs.declared.envelopes.Lane.{Lane}
-use Rattle.pl_event.specs.declared.outcomes.Cause.TheVariants.{Aborted}
+use Rattle.pl_event.specs.declared.outcomes.Cause.{Cause}
+use Rattle.pl_event.specs.declared.outcomes.Cause.TheVariants.{Transport, Aborted, Refused}
 use Rattle.pl_event.specs.Meaning.{Meaning}
 use Rattle.pl_event.proofs.Lists.{All-at}
 use Rattle.pl_context.specs.ContextViews.{ContextView}
 use Rattle.pl_context.specs.Stops.{AreAmong, no_stops}
 use Rattle.pl_flow.specs.Flows.{point}
 use Rattle.pl_head.specs.HeadStand.{HeadView}
-use Rattle.pl_head.specs.Transports.{TransportState}
+use Rattle.pl_head.specs.ReadSteps.{plan_steps}
+use Rattle.pl_head.specs.Transports.{TransportState, new_state}
+use Rattle.pl_head.specs.Writes.{flushed_writes}
 use Rattle.pl_part.specs.Counts.{part_done}
 use Rattle.pl_part.specs.Paths.{writer_hop}
 use Rattle.pl_part.specs.Parts.{ChannelPartView, PartHolds, head_hop, part_taken, part_writes, part_came}
@@ -39,9 +42,10 @@ use Rattle.pl_replay.proofs.LanePlaces.{among-between}
 use Rattle.pl_replay.proofs.OneChannel.{few-sum}
 use Rattle.pl_world.specs.declared.session.Recorded.{Recorded}
 use Rattle.pl_world.specs.declared.limits.TheConstants.{MAX_CHANNELS}
-use Rattle.pl_world.specs.Plans.{ChannelPlan, Plan, channel_planned}
+use Rattle.pl_world.specs.Plans.{ChannelPlan, Plan, channel_planned, read_plan}
 use Rattle.pl_world.specs.Plans.{head_hop as planned_head_hop}
 use Rattle.pl_world.specs.PlanRules.{IsPlan, IsChannelPlan, IsSmallChannel, IsSmallPlan}
+use Rattle.pl_world.specs.Reports.{accepted_by, failed_calls, head_of}
 use Rattle.pl_world.specs.Worlds.{WorldView, IsWorld}
 use Rattle.pl_world.specs.Plans.{planned as plan_of}
 
@@ -95,11 +99,27 @@ module _ {S T : Type 0} (meaning : S → Meaning) (state : T → TransportState)
     high = new.high;
     window = ap (λ (t : T). (state t).window) new.transport_is ∙ window;
     fail_at = ap (λ (t : T). (state t).fail_at) new.transport_is ∙ fail_at;
-    aborted = λ a. none-aborted (sym new.failure ∙ a);
+    calls = 0;
+    counted = ap (λ (s : TransportState). s.calls) is;
+    called = record {
+      failed = λ e. absurd (none-some Transport (sym new.failure ∙ e));
+      told = λ at told some small. subst (λ (f : Option Cause). 0 - failed_calls f < at) (sym new.failure) some;
+      window = λ w at. ap (λ (s : TransportState). length s.accepted) is
+          ∙ ap (λ (f : Option Cause). accepted_by w (flushed_writes (head_of p)) (0 - failed_calls f)) (sym new.failure);
+    };
+    failures = ap (λ (s : TransportState). s.failures) is ∙ ap failed_calls (sym new.failure);
+    aborted = λ e. absurd (none-some Aborted (sym new.failure ∙ e));
+    closed = λ aborts over.
+        let left = new.reads.before_abort aborts in
+        absurd (both_ways h.input.port.is_open over (new.reads.is_open ∙ lt-ltb 0 (plan_steps (read_plan p)) left));
+    unrefused = λ e. none-some Refused (sym new.failure ∙ e);
   }
     where
-      none-aborted : {G : Type 0} → None ≡ Some Aborted → G
-      none-aborted e = cc
+      none-some : (c : Cause) → None ≡ Some c → ⊥
+      none-some c e = cc
+
+      is : state h.transport ≡ new_state (state transport).window (state transport).fail_at
+      is = ap (λ (t : T). state t) new.transport_is ∙ new.uncalled
 
   pub part-keeps : (state transport).window ≡ p.window → (state transport).fail_at ≡ p.fail_at → PartKeepsPlan state p part
   part-keeps window fail_at = record {

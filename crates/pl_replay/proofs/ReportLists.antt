@@ -1,16 +1,16 @@
 -- Lists of reports, one for each part.
 use Rattle.std.proofs.Common.{◌≡◌, ◌≢◌, false, ℕ, ◌∷◌, ◌++◌, ◌&&◌, List, [], length, Bool, Some, suc, refl, sym, subst, ap, ◌∙◌, ◌+◌, ◌<◌, ◌≤◌, take, get_or, arith}
-use Rattle.std.specs.Prelude.{is_some, true}
+use Rattle.std.specs.Prelude.{true}
 use Rattle.std.specs.List.{AllZip, slice_get}
 use Rattle.std.proofs.lemmas.Option.{same_Some}
 use Rattle.std.proofs.lemmas.List.{take_all, take_more}
-use Rattle.pl_event.specs.declared.outcomes.Cause.TheVariants.{Aborted}
 use Rattle.pl_event.proofs.Lists.{list_all_push}
 use Rattle.pl_context.specs.TailViews.{TailView}
 use Rattle.pl_head.specs.Transports.{TransportState}
 use Rattle.pl_head.specs.HeadStand.{HeadView}
 use Rattle.pl_part.specs.Parts.{ChannelPartView}
 use Rattle.pl_channel.specs.Ends.{EndsHold}
+use Rattle.pl_channel.specs.PlanStand.{HeadKeepsPlan}
 use Rattle.pl_world.specs.declared.report.ChannelReport.{ChannelReport}
 use Rattle.pl_world.specs.declared.report.Stands.{Stands}
 use Rattle.pl_world.specs.declared.report.Stands.TheVariants as stands
@@ -57,14 +57,14 @@ all_keep (p ∷ ps) [] each = elim each [ ]
 module _ {S T : Type 0} (state : T → TransportState) where
   -- the ends of a part are the only ones that it has
   pub reports_its_plan : (part : ChannelPartView S T) (own : HasEnds part) (report : ChannelReport)
-      → ((plan : Plan) (number : ℕ) (p : ChannelPlan) → EndsHold state false plan number p own.tail own.head → (own.head.failure ≡ Some Aborted → is_some p.abort_after ≡ true) → ReportsPlan p report)
+      → ((plan : Plan) (number : ℕ) (p : ChannelPlan) → EndsHold state false plan number p own.tail own.head → HeadKeepsPlan state p own.head → ReportsPlan p report)
       → ReportsItsPlan state part report
-  reports_its_plan part own report planned plan number p ends held aborted =
+  reports_its_plan part own report planned plan number p ends held keeps =
       let head = same_Some ends.head own.head (sym ends.has_head ∙ own.has_head) in
       planned plan number p
       (subst (λ (tail : TailView). EndsHold state false plan number p tail own.head) (same_Some ends.tail own.tail (sym ends.has_tail ∙ own.has_tail))
       (subst (λ (head : HeadView T). EndsHold state false plan number p ends.tail head) head held))
-      (subst (λ (head : HeadView T). head.failure ≡ Some Aborted → is_some p.abort_after ≡ true) head aborted)
+      (subst (HeadKeepsPlan state p) head keeps)
 
   -- each report is one of its channel's plan
   pub all_planned : (plan : Plan) (parts : List (ChannelPartView S T)) (reports : List ChannelReport) → AllZip (ReportsItsPlan state) parts reports → HaveEnds state plan parts → AllReportPlan plan.channels reports

@@ -1,14 +1,14 @@
 -- What a report says of a channel's part, which has its tail and its head.
-use Rattle.std.specs.Prelude.{◌≡◌, ℕ, List, length, slice_get, Bool, true, false, Some, is_some}
+use Rattle.std.specs.Prelude.{◌≡◌, ℕ, List, length, slice_get, Bool, true, false, Some}
 use Rattle.std.specs.List.{list_all, AllZip}
 use Rattle.pl_event.specs.declared.events.Event.{Event}
-use Rattle.pl_event.specs.declared.outcomes.Cause.TheVariants.{Aborted}
 use Rattle.pl_context.specs.TailViews.{TailView}
 use Rattle.pl_head.specs.Marks.{Change}
 use Rattle.pl_head.specs.Transports.{TransportState}
 use Rattle.pl_head.specs.HeadStand.{HeadView, StandsAfter}
 use Rattle.pl_part.specs.Parts.{ChannelPartView}
 use Rattle.pl_channel.specs.Ends.{ends_of, EndsHold}
+use Rattle.pl_channel.specs.PlanStand.{HeadKeepsPlan}
 use Rattle.pl_world.specs.declared.report.ChannelReport.{ChannelReport}
 use Rattle.pl_world.specs.declared.report.Stands.{Stands}
 use Rattle.pl_world.specs.declared.report.Stands.TheVariants as stands
@@ -33,11 +33,11 @@ module _ {S T : Type 0} (state : T → TransportState) where
     pub ends : HasEnds part
     pub reports : (ys zs : List Event) (sizes : List Change) → StandsAfter state ends.head ys zs sizes → IsChannelReport (ends_of state ends.tail ends.head ys zs) r
 
-  -- It is the report of two ends that keep to the plan, of each plan in whose world both ends of the part hold, and by which
-  -- the head is aborted if it is.
+  -- It is the report of two ends that keep to the plan, of each plan in whose world both ends of the part hold, and which the
+  -- head keeps.
   abbrev pub ReportsItsPlan : ChannelPartView S T → ChannelReport → Type 0
   ReportsItsPlan part r = (plan : Plan) (c : ℕ) (p : ChannelPlan) (ends : HasEnds part) → EndsHold state false plan c p ends.tail ends.head
-      → (ends.head.failure ≡ Some Aborted → is_some p.abort_after ≡ true) → ReportsPlan p r
+      → HeadKeepsPlan state p ends.head → ReportsPlan p r
 
   -- This is how they stand.
   pub record IsPartStands (part : ChannelPartView S T) (s : Stands) : Type 0 where
@@ -50,9 +50,8 @@ module _ {S T : Type 0} (state : T → TransportState) where
     pub each : AllZip IsPartStands parts stands
     pub is : b ≡ list_all is_drained stands
 
-  -- Of each channel of a plan the part has both ends, they hold in the world of the plan, and the head is aborted only where
-  -- the plan says so.
+  -- Of each channel of a plan the part has both ends, they hold in the world of the plan, and the head keeps the plan.
   pub record HaveEnds (plan : Plan) (parts : List (ChannelPartView S T)) : Type 0 where
     pub count : length parts ≡ length plan.channels
     pub each : (c : ℕ) (p : ChannelPlan) (part : ChannelPartView S T) → slice_get plan.channels c ≡ Some p → slice_get parts c ≡ Some part
-        → (ends : HasEnds part) × EndsHold state false plan c p ends.tail ends.head × (ends.head.failure ≡ Some Aborted → is_some p.abort_after ≡ true)
+        → (ends : HasEnds part) × EndsHold state false plan c p ends.tail ends.head × HeadKeepsPlan state p ends.head

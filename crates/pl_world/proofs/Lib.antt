@@ -1,5 +1,6 @@
 pub mod ChainSteps
 pub mod Parting
+pub mod PlannedCalls
 pub mod PlannedReports
 pub mod PathLanes
 pub mod SettledWrites

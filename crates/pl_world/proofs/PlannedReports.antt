@@ -18,7 +18,7 @@ use Rattle.pl_world.specs.declared.report.Stands.{Stands}
 use Rattle.pl_world.specs.declared.report.Stands.TheVariants.{Drained}
 use Rattle.pl_world.specs.declared.report.ChannelReport.{ChannelReport}
 use Rattle.pl_world.specs.Plans.{ChannelPlan}
-use Rattle.pl_world.specs.Reports.{Ends, has_ended, channel_cause, is_written_out, stands_by, IsChannelReport, head_of, whole_report, KeepsToPlan, EndsKeepToPlan, ReportsPlan}
+use Rattle.pl_world.specs.Reports.{Ends, has_ended, channel_cause, is_written_out, stands_by, IsChannelReport, head_of, whole_report, KeepsToPlan, EndsTakePlanned, ReportsPlan}
 
 -- ---- the output of more events
 
@@ -35,7 +35,7 @@ flushed-none (x ∷ xs) h =
     ap (λ (b : Bool). cond b (write_by x) [] ++ flushed_writes xs) h ∙ flushed-none xs (or_parts (is_flush x) (has_flush xs) h).1
 
 -- what is flushed stays flushed
-flushed-prefix : (xs ys : List Event) → IsPrefixOf (flushed_writes xs) (flushed_writes (xs ++ ys))
+pub flushed-prefix : (xs ys : List Event) → IsPrefixOf (flushed_writes xs) (flushed_writes (xs ++ ys))
 flushed-prefix [] ys = (flushed_writes ys, refl)
 flushed-prefix (x ∷ xs) ys = elim (cases_Bool (has_flush (x ∷ xs))) [
   | inl now ↦
@@ -67,7 +67,7 @@ drained_parts None true h = (refl, refl)
 drained_parts None false h = cc
 drained_parts (Some c) all h = cc
 
-no_cause : (first later : Option Cause) → first_cause first later ≡ None → (first ≡ None) × (later ≡ None)
+pub no_cause : (first later : Option Cause) → first_cause first later ≡ None → (first ≡ None) × (later ≡ None)
 no_cause None later h = (refl, h)
 no_cause (Some c) later h = cc
 
@@ -89,7 +89,7 @@ same_report r q stands tail bytes writes =
 
 -- ---- a report of ends that keep to the plan
 
-module _ (p : ChannelPlan) (e : Ends) (k : EndsKeepToPlan p e) (r : ChannelReport) (is : IsChannelReport e r) where
+module _ (p : ChannelPlan) (e : Ends) (k : EndsTakePlanned p e) (r : ChannelReport) (is : IsChannelReport e r) where
   whole_bytes : e.accepted ≡ length (out e.head) → e.head ≡ head_of p → r.bytes ≡ out (head_of p)
   whole_bytes all head =
       is.bytes_are ∙ ap (λ (n : ℕ). take n (out e.head)) all ∙ take-length (out e.head) ∙ ap out head
@@ -132,4 +132,4 @@ module _ (p : ChannelPlan) (e : Ends) (k : EndsKeepToPlan p e) (r : ChannelRepor
 
 -- So a report of a channel with a plan keeps to it.
 pub report_keeps : (p : ChannelPlan) (r : ChannelReport) → ReportsPlan p r → KeepsToPlan p r
-report_keeps p r h = ends_keep_report p h.ends h.ends_keep r h.reports
+report_keeps p r h = ends_keep_report p h.ends h.ends_keep.lanes r h.reports

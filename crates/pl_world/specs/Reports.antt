@@ -1,22 +1,23 @@
 -- How a channel stands, what a report says of it, and the whole report of a drained session (docs/FORMATS.md, "Report").
-use Rattle.std.specs.Prelude.{◌≡◌, ◌≢◌, ℕ, ◌≤◌, List, [], ◌++◌, length, take, Bool, true, false, if◌then◌else◌, nat_le, ◌&&◌, is_some, Option, Some, None}
+use Rattle.std.specs.Prelude.{◌≡◌, ◌≢◌, ℕ, zero, suc, ◌+◌, ◌-◌, ◌<◌, ◌≤◌, ◌^◌, List, [], ◌++◌, length, take, min, Bool, true, false, if◌then◌else◌, nat_le, ◌&&◌, is_some, Option, Some, None}
 use Rattle.std.specs.List.{AllZip}
 use Rattle.pl_event.specs.declared.events.Event.{Event}
 use Rattle.pl_event.specs.declared.outcomes.Cause.{Cause}
-use Rattle.pl_event.specs.declared.outcomes.Cause.TheVariants.{Aborted, Refused}
+use Rattle.pl_event.specs.declared.outcomes.Cause.TheVariants.{Memory, Transport, Aborted, Refused}
 use Rattle.pl_event.specs.Meaning.{IsPrefixOf}
 use Rattle.pl_event.specs.Inputs.{recorded_input}
 use Rattle.pl_event.specs.Lanes.{tail_lane, head_lane}
 use Rattle.pl_context.specs.declared.standing.Standing.{Standing}
 use Rattle.pl_context.specs.declared.standing.Standing.TheVariants as standing
 use Rattle.pl_context.specs.Standings.{is_over, cause_of}
-use Rattle.pl_head.specs.Writes.{writes_by, out, outcomes}
+use Rattle.pl_head.specs.ReadSteps.{plan_steps}
+use Rattle.pl_head.specs.Writes.{writes_by, flushed_writes, out, outcomes, offered}
 use Rattle.pl_head.specs.Failures.{head_outcomes, AreOutcomes}
 use Rattle.pl_head.specs.HeadStand.{first_cause}
 use Rattle.pl_world.specs.declared.report.Stands.{Stands}
 use Rattle.pl_world.specs.declared.report.Stands.TheVariants.{Drained, Open, Failed}
 use Rattle.pl_world.specs.declared.report.ChannelReport.{ChannelReport}
-use Rattle.pl_world.specs.Plans.{ChannelPlan}
+use Rattle.pl_world.specs.Plans.{ChannelPlan, read_plan}
 
 -- The two ends of a channel, from which its report is made.
 pub record Ends : Type 0 where
@@ -32,6 +33,9 @@ pub record Ends : Type 0 where
   -- how many bytes its transport accepted, and whether writes get no number any more
   pub accepted : ℕ
   pub is_full : Bool
+  -- how many calls of its transport were made, and how many read steps: one that brought a failure is not counted
+  pub calls : ℕ
+  pub reads : ℕ
 
 -- ---- how a channel stands
 
@@ -106,8 +110,8 @@ AllKeepToPlan = AllZip KeepsToPlan
 -- ---- the ends of a planned channel
 
 -- Tail and head took prefixes of their lanes, in order, and all where they took the end. The head took nothing late and
--- numbers its writes while it has not failed by itself, and it is aborted only where its plan says so.
-pub record EndsKeepToPlan (p : ChannelPlan) (e : Ends) : Type 0 where
+-- numbers its writes while it has not failed by itself.
+pub record EndsTakePlanned (p : ChannelPlan) (e : Ends) : Type 0 where
   pub tail : IsPrefixOf e.tail (tail_of p)
   pub tail_whole : has_ended e.tail_stands ≡ true → e.tail ≡ tail_of p
   pub head : IsPrefixOf (e.head ++ e.late) (head_of p)
@@ -115,7 +119,36 @@ pub record EndsKeepToPlan (p : ChannelPlan) (e : Ends) : Type 0 where
   pub accepted : e.accepted ≤ length (out e.head)
   pub late : e.failure ≡ None → e.late ≡ []
   pub numbering : e.failure ≡ None → e.is_full ≡ false
-  pub aborted : e.failure ≡ Some Aborted → is_some p.abort_after ≡ true
+
+-- How many bytes so many calls have accepted, none of which failed: each up to w bytes of what is left of one of these
+-- messages.
+abbrev pub accepted_by : ℕ → List (Option (List ℕ)) → ℕ → ℕ
+accepted_by w writes zero = 0
+accepted_by w writes (suc n) = accepted_by w writes n + min (offered 0 (accepted_by w writes n) writes) w
+
+-- how many calls of its transport have failed, where a head has failed by itself for this cause: the last one, or none
+abbrev pub failed_calls : Option Cause → ℕ
+failed_calls None = 0
+failed_calls (Some Memory) = 0
+failed_calls (Some Transport) = 1
+failed_calls (Some Aborted) = 0
+failed_calls (Some Refused) = 0
+
+-- So many calls of a transport that accepted so many bytes are as the plan has them, where the head has failed by itself for
+-- this cause or not. Fewer than k of them have not failed, if the transport was told to fail at call k; and where its window
+-- is known, they have accepted what so many calls accept of the flushed writes of the head's whole lane.
+pub record CallsKeepToPlan (p : ChannelPlan) (failure : Option Cause) (calls accepted : ℕ) : Type 0 where
+  pub failed : failure ≡ Some Transport → 0 < calls
+  pub told : (k : ℕ) → p.fail_at ≡ Some k → 0 < k → k < 2 ^ 64 → calls - failed_calls failure < k
+  pub window : (w : ℕ) → p.window ≡ Some w → accepted ≡ accepted_by w (flushed_writes (head_of p)) (calls - failed_calls failure)
+
+-- Tail and head took what the plan brings to them, and the calls of the transport are as it has them. The head aborts itself
+-- only where the plan says so, after all read steps that come before the abort, and never fails by itself with Refused.
+pub record EndsKeepToPlan (p : ChannelPlan) (e : Ends) : Type 0 where
+  pub lanes : EndsTakePlanned p e
+  pub calls : CallsKeepToPlan p e.failure e.calls e.accepted
+  pub aborted : e.failure ≡ Some Aborted → (is_some p.abort_after ≡ true) × (e.reads + 1 ≡ plan_steps (read_plan p))
+  pub unrefused : e.failure ≢ Some Refused
 
 -- A report of a channel with this plan: how it stands, its outcomes, its tail and its bytes are those of two ends that keep
 -- to the plan. So the report keeps to the plan.

@@ -90,6 +90,7 @@ returns-clause-whole g c = if-ok c.whole.result _ (λ part is.
           channel_is = made.place.0;
           hop_is = (head-fresh g c).place.1;
           transport_is = made.transport;
+          uncalled = c.requires.uncalled;
           low = made.marks.0 ∙ c.low-low.ensures.low;
           high = made.marks.1 ∙ c.high-high.ensures.high;
           taken = made.taken;

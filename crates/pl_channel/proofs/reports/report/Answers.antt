@@ -16,5 +16,5 @@ returns-clause-keeps g c = λ refuses plan number p held.
     ends-keep g.T.Transport.state refuses plan number p c.args.tail.now c.args.head.now held _ (returns-clause-ends g c)
 
 pub returns-clause-planned : goal.returns-clause-planned
-returns-clause-planned g c = λ plan number p held aborted.
-    ends-report g.T.Transport.state false plan number p c.args.tail.now c.args.head.now held _ (returns-clause-ends g c) refl aborted
+returns-clause-planned g c = λ plan number p held keeps.
+    ends-report g.T.Transport.state false plan number p c.args.tail.now c.args.head.now held _ (returns-clause-ends g c) refl keeps

@@ -52,7 +52,7 @@ pub returns-clause-stands : goal.returns-clause-stands
 returns-clause-stands g c = (
   c.requires.stands.0,
   move-stands c.args.self.now.parts.items c.index-channel.result.now c.index_mut.result.now c.move_head.new.self (own g c) g.W.Named.world g.W.Planned.plan g.S.Stage.meaning g.S.Stage.stands_after g.S.Stage.is_spent g.T.Transport.state
-      c.args.self.now.number c.args.self.now.was_refused c.requires.stands.1 g.T.Transport.may_refuse c.args.by c.args.work.now c.move_head.result c.move_head.new.work c.move_head.ensures.given c.move_head.ensures.moves,
+      c.args.self.now.number c.args.self.now.was_refused c.requires.stands.1 c.requires.stands.0 g.T.Transport.may_refuse c.args.by c.args.work.now c.move_head.result c.move_head.new.work c.move_head.ensures.given c.move_head.ensures.moves,
   c.requires.stands.2 ∙ sym (heads-stay c.args.self.now.parts.items c.index-channel.result.now c.index_mut.result.now c.move_head.new.self (own g c) c.move_head.ensures.given.puts.same),
 )
 
