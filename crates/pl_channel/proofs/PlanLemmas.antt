@@ -34,9 +34,6 @@ use Rattle.pl_channel.proofs.HeadLanes.{HeadBegins}
 
 -- ---- why a head has failed
 
-no-none : {A : Type 0} (x : A) → Some x ≡ None → ⊥
-no-none x e = cc
-
 -- A head goes on with its cause, or has failed for this one now.
 abbrev pub FailsFor : Cause → Option Cause → Option Cause → Type 0
 FailsFor c f f' = (f' ≡ f) ⊎ ((f ≡ None) × (f' ≡ Some c))
