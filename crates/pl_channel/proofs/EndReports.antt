@@ -1,14 +1,12 @@
 -- A report of two ends keeps to the plan where these hold.
 use Rattle.std.proofs.Common.{◌≡◌, ℕ, Bool, true, false, List, [], ◌∷◌, ◌++◌, length, take, Option, Some, None, refl, sym, ap, subst, ◌∙◌, arith, length-append, append-nil}
-use Rattle.std.specs.Prelude.{is_some}
 use Rattle.std.proofs.lemmas.List.{take_all}
 use Rattle.std.proofs.lemmas.Bool.{both_ways}
 use Rattle.pl_event.specs.declared.events.Event.{Event}
 use Rattle.pl_event.specs.declared.outcomes.Cause.{Cause}
-use Rattle.pl_event.specs.declared.outcomes.Cause.TheVariants.{Aborted, Refused}
-use Rattle.pl_event.specs.Hops.{data_lane}
+use Rattle.pl_event.specs.declared.outcomes.Cause.TheVariants.{Refused}
 use Rattle.pl_event.specs.Meaning.{IsPrefixOf}
-use Rattle.pl_event.specs.Worlds.{World, content_of, may_fail}
+use Rattle.pl_event.specs.Worlds.{World, may_fail}
 use Rattle.pl_event.proofs.Lists.{prefix-trans, take-prefix_whole}
 use Rattle.pl_context.specs.declared.standing.Standing.{Standing}
 use Rattle.pl_context.specs.declared.standing.Standing.TheVariants as standing

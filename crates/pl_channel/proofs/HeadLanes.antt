@@ -1,5 +1,5 @@
 -- What a node that holds in the world of a plan takes in all, and that a head took the first events of it.
-use Rattle.std.proofs.Common.{◌≡◌, ℕ, Bool, List, ◌++◌, length, take, slice_get, Some, refl, sym, ap, ◌∙◌, subst, arith}
+use Rattle.std.proofs.Common.{◌≡◌, ℕ, Bool, List, ◌++◌, take, slice_get, Some, refl, sym, ◌∙◌, subst, arith}
 use Rattle.pl_event.specs.declared.events.Event.{Event}
 use Rattle.pl_event.specs.Hops.{data_lane}
 use Rattle.pl_event.specs.Meaning.{Meaning, IsPrefixOf}
