@@ -8,6 +8,7 @@ use Rattle.pl_event.specs.declared.stages.Direction.{Direction}
 use Rattle.pl_event.specs.declared.stages.Direction.TheVariants.{Inbound, Outbound, Turn}
 use Rattle.pl_event.specs.Meaning.{Meaning, IsLawful}
 use Rattle.pl_context.specs.ContextViews.{IsHop, has_up, has_down, down_hop, new_context}
+use Rattle.pl_context.specs.declared.standing.Standing.TheVariants as stands
 use Rattle.pl_context.specs.Contexts.{StandsAfter}
 use Rattle.pl_event.specs.Hops.{same_lane, data_lane}
 use Rattle.pl_event.specs.Worlds.{World}
@@ -62,12 +63,18 @@ module _ {S : Type 0} (world : World) (meaning : S → Meaning) (stands_after : 
     down_open = λ o. sym (and-true (has_down (meaning stage).direction)) ∙ ap (λ (b : Bool). has_down (meaning stage).direction && not b) (sym (lawful stage).starts_open);
     up_over = λ o. absurd (both_ways false refl o);
     down_over = λ o. absurd (both_ways false refl o);
+    ended = λ e. absurd (not-ended e);
+    up_given = λ e. absurd (not-ended e);
+    down_given = λ f has closed. absurd (both_ways (has_down (meaning stage).direction) closed has);
     flags_open = λ o. o;
     flags = λ f o. refl;
     by_call = λ e. absurd (both_ways false refl e);
     few = record { taken = omega arith; flags_taken = omega arith; up = omega arith; down = omega arith; flags = omega arith };
   }
     where
+      not-ended : stands.Open ≡ stands.Ended → ⊥
+      not-ended e = cc
+
       and-true : (b : Bool) → (b && true) ≡ b
       and-true true = refl
       and-true false = refl

@@ -1,11 +1,12 @@
 -- A context takes the next item of one of its lanes: how it stands then, and what it has put out.
 use Rattle.std.proofs.Common.{◌≡◌, ℕ, suc, ◌+◌, ◌<◌, ◌≤◌, ◌^◌, Bool, true, false, not, ◌&&◌, cond, List, [], ◌∷◌, ◌++◌, length, take, Some, refl, ap, sym, ◌∙◌, subst, ⊎_elim, arith, length-append}
-use Rattle.std.specs.Prelude.{◌%◌, ◌==◌}
+use Rattle.std.specs.Prelude.{◌%◌, ◌==◌, if◌then◌else◌}
 use Rattle.std.specs.List.{slice_get}
 use Rattle.std.proofs.lemmas.List.{take_all}
 use Rattle.std.proofs.lemmas.Option.{slice_get_within}
-use Rattle.std.proofs.lemmas.Bool.{cases_Bool, both_ways}
+use Rattle.std.proofs.lemmas.Bool.{cases_Bool, both_ways, not-false}
 use Rattle.pl_event.specs.declared.events.Event.{Event}
+use Rattle.pl_event.specs.declared.stages.Turned.TheVariants.{Open, Ended}
 use Rattle.pl_event.specs.declared.outcomes.Cause.{Cause}
 use Rattle.pl_event.specs.declared.outcomes.Cause.TheVariants.{Memory}
 use Rattle.pl_event.specs.declared.envelopes.Kind.{Kind}
@@ -13,7 +14,7 @@ use Rattle.pl_event.specs.declared.envelopes.Kind.TheVariants.{Data, Flags}
 use Rattle.pl_event.specs.declared.envelopes.Item.{Item}
 use Rattle.pl_event.specs.declared.envelopes.Item.TheVariants as item
 use Rattle.pl_event.specs.declared.envelopes.Envelope.{Envelope}
-use Rattle.pl_event.specs.Meaning.{Meaning, IsLawful, made_after, up_of, down_of, turned_after}
+use Rattle.pl_event.specs.Meaning.{Meaning, IsLawful, made_after, made-push, up_of, down_of, turned_after}
 use Rattle.pl_event.specs.Fitting.{Fits, FitsAsFlag}
 use Rattle.pl_context.specs.declared.added.Added.{Added}
 use Rattle.pl_context.specs.declared.added.Added.TheVariants.{Last, Refused, Discarded}
@@ -23,6 +24,7 @@ use Rattle.pl_context.specs.declared.standing.Took.{Took}
 use Rattle.pl_context.specs.declared.standing.Took.TheVariants as took
 use Rattle.pl_context.specs.Standings.{is_over, has_failed}
 use Rattle.pl_context.specs.OutputsViews.{OutputsView}
+use Rattle.pl_context.specs.declared.ports.Port.{Port}
 use Rattle.pl_context.specs.Ports.{as_items, end_after, port_after, all_go_on, flag_port_after}
 use Rattle.pl_context.specs.ContextViews.{ContextView, has_up, has_down, Enters, kind_taken, number_limit}
 use Rattle.pl_context.specs.Contexts.{StandsAfter, MakesFew, Runs, Closes, TakesItem, TakesFlag, counted, ups, downs, last_item}
@@ -62,6 +64,34 @@ next-take n events = let same : n + 1 ≡ suc n = omega arith in ap (λ k. take 
 made-few : (n m : ℕ) (o : Bool) → m ≤ MAX_ITEMS → (o ≡ true → m + n ≤ MAX_ITEMS) → cond o (m + n) m ≤ MAX_ITEMS
 made-few n m true still more = more refl
 made-few n m false still more = still
+
+-- what an open port was given, with the last item of its lane
+given-last : (p : Port) (last : List Item) (n : ℕ) → length last ≡ 1 → p.is_open ≡ true → (p.is_open ≡ true → p.made ≡ n) → (port_after last p).made ≡ n + 1
+given-last p last n one opened made =
+    let count = made opened in
+    ap (λ o. if o then p.made + length last else p.made) opened ∙ omega (arith, count, one)
+
+-- A stage that quits by this event, or has quit before, has given its lane downwards all that it makes, and the end.
+quit-given : (m : Meaning) → IsLawful m → (before : List Event) (x : Event) (p : Port) → p.is_open ≡ not (m.ended before) → (p.is_open ≡ true → p.made ≡ length (down_of m before))
+    → (p.is_open ≡ false → p.made ≡ length (down_of m before) + 1) → (port_after (downs m before x) p).is_open ≡ false → (port_after (downs m before x) p).made ≡ length (down_of m (before ++ x ∷ [])) + 1
+quit-given m law before x p opens made given closed = by p.is_open refl
+  where
+    -- how much it makes of one event more
+    whole : length (down_of m (before ++ x ∷ [])) ≡ length (down_of m before) + length (m.down before x)
+    whole = ap length (made-push m.down before x) ∙ length-append (down_of m before) (m.down before x)
+
+    by : (o : Bool) → p.is_open ≡ o → (port_after (downs m before x) p).made ≡ length (down_of m (before ++ x ∷ [])) + 1
+    by true is =
+        let ends : m.ended (before ++ x ∷ []) ≡ true = not-false (m.ended (before ++ x ∷ [])) (sym (ap (λ o. o && all_go_on (downs m before x)) is ∙ all_go_on-append (as_items (m.down before x)) (end_after (turned_after m (before ++ x ∷ []))) (all_go_on-events (m.down before x)) ∙ goes-on-end (m.ended (before ++ x ∷ []))) ∙ closed) in
+        let items = length-append (as_items (m.down before x)) (end_after (turned_after m (before ++ x ∷ []))) in
+        let size = length-items (m.down before x) in
+        let end : length (end_after (turned_after m (before ++ x ∷ []))) ≡ 1 = ap (λ b. length (end_after (cond b Ended Open))) ends in
+        let count = made is in
+        ap (λ o. if o then p.made + length (downs m before x) else p.made) is ∙ omega (arith, count, items, size, end, whole)
+    by false is =
+        let none = ap length (law.quiet before x (not-false (m.ended before) (sym opens ∙ is))) in
+        let count = given is in
+        ap (λ o. if o then p.made + length (downs m before x) else p.made) is ∙ omega (arith, count, none, whole)
 
 module _ {S : Type 0} (world : World) (meaning : S → Meaning) (stands_after : S → List Event → Type 0) (is_spent : S → Bool) (lawful : (s : S) → IsLawful (meaning s)) (events : List Event) (c : ContextView S)
     (h : HoldsWith world meaning stands_after (meaning c.stage) events c) where
@@ -123,6 +153,12 @@ module _ {S : Type 0} (world : World) (meaning : S → Meaning) (stands_after : 
           ends-good world (meaning c.stage) (lawful c.stage) c.down.lane events (take c.taken events) s.0 x c.down.made h.wired.down_kind (h.wired.down d) (h.wired.few_down d) s.1 ((h.stood live).below o)
           (downs-good world (meaning c.stage) c.down.lane events (take c.taken events) s.0 x c.down.made h.wired.down_kind (h.wired.down d) (h.wired.few_down d) s.1 ((h.stood live).below o))
 
+      -- Once its lane downwards is over, it was given all that was made, and the end: by this event, or before.
+      ran-given : has_down (meaning c.stage).direction ≡ true → (port_after (downs (meaning c.stage) (take c.taken events) x) c.down).is_open ≡ false
+          → (port_after (downs (meaning c.stage) (take c.taken events) x) c.down).made ≡ length (down_of (meaning c.stage) (take c.taken events ++ x ∷ [])) + 1
+      ran-given has closed = quit-given (meaning c.stage) (lawful c.stage) (take c.taken events) x c.down (h.down_open live ∙ ap (λ b. b && not ((meaning c.stage).ended (take c.taken events))) has)
+          (h.stood live).below (h.down_given (ap has_failed live) has) closed
+
       ran : (b a : OutputsView) (c' : ContextView S) → meaning c'.stage ≡ meaning c.stage → Runs meaning stands_after (counted Data c) x b c' a → Stepped b c' a
       ran b a c' meant r =
           let s = split-at events c.taken x fits in
@@ -149,6 +185,9 @@ module _ {S : Type 0} (world : World) (meaning : S → Meaning) (stands_after : 
               down_open = λ o. shut;
               up_over = λ o. absurd (open-over c.standing live o);
               down_over = λ o. absurd (open-over c.standing live o);
+              ended = λ o. absurd (open-over c.standing live (ap is_over o));
+              up_given = λ o. absurd (open-over c.standing live (ap is_over o));
+              down_given = λ f has closed. ran-given has closed ∙ ap (λ zs. length (down_of (meaning c.stage) zs) + 1) (sym more);
               flags_open = h.flags_open;
               flags = h.flags;
               by_call = h.by_call;
@@ -166,6 +205,19 @@ module _ {S : Type 0} (world : World) (meaning : S → Meaning) (stands_after : 
 
     -- ---- the last item of its lanes
 
+    seen : c.taken ≡ length events → length (up_of (meaning c.stage) (take c.taken events)) ≡ length (up_of (meaning c.stage) events)
+    seen all = ap (λ zs. length (up_of (meaning c.stage) zs)) (take_all c.taken events (omega (arith, all)))
+
+    -- its lane downwards, once it has taken all
+    down-last : (standing : Standing) (t : ℕ) → c.taken ≡ length events → t ≡ c.taken + 1 → has_down (meaning c.stage).direction ≡ true
+        → (port_after (last_item standing ∷ []) c.down).made ≡ length (down_of (meaning c.stage) (take t events)) + 1
+    down-last standing t all one has = by c.down.is_open refl ∙ ap (λ zs. length (down_of (meaning c.stage) zs) + 1) (take_all c.taken events (omega (arith, all)) ∙ sym (take_all t events (omega (arith, all, one))))
+      where
+        by : (o : Bool) → c.down.is_open ≡ o → (port_after (last_item standing ∷ []) c.down).made ≡ length (down_of (meaning c.stage) (take c.taken events)) + 1
+        by true is = given-last c.down (last_item standing ∷ []) (length (down_of (meaning c.stage) (take c.taken events))) refl is (h.stood live).below
+        by false is = ap (λ o. if o then c.down.made + 1 else c.down.made) is ∙ h.down_given (ap has_failed live) has is
+
+
     -- one item more of a lane is few
     last-up : c.up.is_open ≡ true → c.up.made + 1 ≤ MAX_ITEMS
     last-up o =
@@ -182,10 +234,11 @@ module _ {S : Type 0} (world : World) (meaning : S → Meaning) (stands_after : 
         omega (arith, made, le, few)
 
     closing : (standing : Standing) → is_over standing ≡ true → (st : S) (t : ℕ) (fb : Bool) → t ≤ MAX_ITEMS → meaning st ≡ meaning c.stage → (fb ≡ true → has_failed standing ≡ true)
+        → (has_failed standing ≡ false → (c.taken ≡ length events) × (t ≡ c.taken + 1))
         → (c.up.is_open ≡ true → IsGood world (record { lane = c.up.lane; number = c.up.made; item = last_item standing }))
         → (c.down.is_open ≡ true → IsGood world (record { lane = c.down.lane; number = c.down.made; item = last_item standing }))
         → (b a : OutputsView) (c' : ContextView S) → Closes standing (record c { stage = st; taken = t; failed_by_call = fb }) b c' a → Stepped b c' a
-    closing standing over st t fb small meant call up down b a c' k =
+    closing standing over st t fb small meant call whole up down b a c' k =
         let last = last_item standing ∷ [] in
         let z : ContextView S = record c { stage = st; taken = t; failed_by_call = fb; standing = standing; up = port_after last c.up; down = port_after last c.down } in
         let same : c' ≡ z = k.context in (
@@ -198,6 +251,9 @@ module _ {S : Type 0} (world : World) (meaning : S → Meaning) (stands_after : 
             down_open = λ o. absurd (open-over standing o over);
             up_over = λ o. closed-port standing c.up (port_after last c.up) (last_item standing) refl refl;
             down_over = λ o. closed-port standing c.down (port_after last c.down) (last_item standing) refl refl;
+            ended = λ e. let w = whole (ap has_failed e) in omega (arith, w.0, w.1);
+            up_given = λ e has. given-last c.up last (length (up_of (meaning c.stage) events)) refl (h.up_open live ∙ has) (λ o. (h.stood live).above o ∙ seen (whole (ap has_failed e)).0);
+            down_given = λ f has closed. down-last standing t (whole f).0 (whole f).1 has;
             flags_open = h.flags_open;
             flags = λ f. h.flags (ap has_failed live);
             by_call = call;
@@ -219,7 +275,7 @@ module _ {S : Type 0} (world : World) (meaning : S → Meaning) (stands_after : 
 
     failing : (cause : Cause) → may_fail world cause ≡ true → (st : S) (t : ℕ) (fb : Bool) → t ≤ MAX_ITEMS → meaning st ≡ meaning c.stage → (b a : OutputsView) (c' : ContextView S)
         → Closes (stands.Failed cause) (record c { stage = st; taken = t; failed_by_call = fb }) b c' a → Stepped b c' a
-    failing cause may st t fb small meant b a c' k = closing (stands.Failed cause) refl st t fb small meant (λ e. refl)
+    failing cause may st t fb small meant b a c' k = closing (stands.Failed cause) refl st t fb small meant (λ e. refl) (λ f. absurd (both_ways true f refl))
         (λ o. let made = (h.stood live).above o in let le = made-le (meaning c.stage).up c.taken events in
         failure-good world c.up.lane (up_of (meaning c.stage) events) c.up.made h.wired.up_kind (h.wired.up (up-has o)) (h.wired.few_up (up-has o)) cause may (omega (arith, made, le)))
         (λ o. let made = (h.stood live).below o in let le = made-le (meaning c.stage).down c.taken events in
@@ -229,7 +285,7 @@ module _ {S : Type 0} (world : World) (meaning : S → Meaning) (stands_after : 
     ending : c.taken ≡ length events → (b a : OutputsView) (c' : ContextView S) → Closes stands.Ended (counted Data c) b c' a → Stepped b c' a
     ending last b a c' k =
         let all : take c.taken events ≡ events = take_all c.taken events (omega (arith, last)) in
-        closing stands.Ended refl c.stage (c.taken + 1) c.failed_by_call (taken-few item.End last) refl (not-called stands.Ended)
+        closing stands.Ended refl c.stage (c.taken + 1) c.failed_by_call (taken-few item.End last) refl (not-called stands.Ended) (λ f. (last, refl))
         (λ o. end-good world c.up.lane (up_of (meaning c.stage) events) c.up.made h.wired.up_kind (h.wired.up (up-has o)) (h.wired.few_up (up-has o)) ((h.stood live).above o ∙ ap (λ zs. length (up_of (meaning c.stage) zs)) all))
         (λ o. end-good world c.down.lane (down_of (meaning c.stage) events) c.down.made h.wired.down_kind (h.wired.down (down-has o)) (h.wired.few_down (down-has o)) ((h.stood live).below o ∙ ap (λ zs. length (down_of (meaning c.stage) zs)) all))
         b a c' k
@@ -259,6 +315,15 @@ module _ {S : Type 0} (world : World) (meaning : S → Meaning) (stands_after : 
   failed-over stands.Ended e = refl
   failed-over (stands.Failed cause) e = refl
 
+  -- what it has seen of its lane is all, and stays so
+  over-seen : is_over c.standing ≡ true → has_failed c.standing ≡ false → take c.taken events ≡ take (c.taken + 1) events
+  over-seen over sound = by c.standing refl
+    where
+      by : (s : Standing) → c.standing ≡ s → take c.taken events ≡ take (c.taken + 1) events
+      by stands.Open is = absurd (open-over c.standing is over)
+      by stands.Ended is = let whole = h.ended is in take_all c.taken events (omega (arith, whole)) ∙ sym (take_all (c.taken + 1) events (omega (arith, whole)))
+      by (stands.Failed cause) is = absurd (both_ways (has_failed c.standing) sound (ap has_failed is))
+
   counted-over : is_over c.standing ≡ true → c.taken + 1 ≤ MAX_ITEMS → (b a : OutputsView) (c' : ContextView S) → c' ≡ counted Data c → a ≡ b → Stepped b c' a
   counted-over over small b a c' same none = (
     subst (λ (y : ContextView S). HoldsWith world meaning stands_after (meaning c.stage) events y) (sym same) (record {
@@ -270,6 +335,9 @@ module _ {S : Type 0} (world : World) (meaning : S → Meaning) (stands_after : 
       down_open = λ o. absurd (open-over c.standing o over);
       up_over = h.up_over;
       down_over = h.down_over;
+      ended = λ e. let whole = h.ended e in omega (arith, whole);
+      up_given = h.up_given;
+      down_given = λ f has closed. h.down_given f has closed ∙ ap (λ zs. length (down_of (meaning c.stage) zs) + 1) (over-seen over f);
       flags_open = h.flags_open;
       flags = h.flags;
       by_call = h.by_call;
@@ -292,6 +360,9 @@ module _ {S : Type 0} (world : World) (meaning : S → Meaning) (stands_after : 
     down_open = h.down_open;
     up_over = h.up_over;
     down_over = h.down_over;
+    ended = h.ended;
+    up_given = h.up_given;
+    down_given = h.down_given;
     flags_open = opens;
     flags = all;
     by_call = h.by_call;

@@ -67,8 +67,9 @@ pub record HasFewItems {S : Type 0} (c : ContextView S) : Type 0 where
   pub flags : c.flags.made ≤ c.flags_taken
 
 module _ {S : Type 0} (world : World) (meaning : S → Meaning) (stands_after : S → List Event → Type 0) where
-  -- While it is open it stands after the events that it took, and has given its lanes what its stage makes of them. Once it has
-  -- ended or failed its data lanes are closed, whatever they were given.
+  -- While it is open it stands after the events that it took, and has given its lanes what its stage makes of them; so, with
+  -- the end, has one that has ended, and one whose stage has quit downwards. Once it has ended or failed its data lanes are
+  -- closed, where it has failed whatever they were given.
   pub record HoldsWith (m : Meaning) (events : List Event) (c : ContextView S) : Type 0 where
     pub meant : meaning c.stage ≡ m
     pub wired : IsWired world m events c.channel c.hop c.up.lane c.down.lane c.flags.lane
@@ -78,6 +79,9 @@ module _ {S : Type 0} (world : World) (meaning : S → Meaning) (stands_after : 
     pub down_open : c.standing ≡ stands.Open → c.down.is_open ≡ (has_down m.direction && not (m.ended (take c.taken events)))
     pub up_over : is_over c.standing ≡ true → c.up.is_open ≡ false
     pub down_over : is_over c.standing ≡ true → c.down.is_open ≡ false
+    pub ended : c.standing ≡ stands.Ended → length events ≤ c.taken
+    pub up_given : c.standing ≡ stands.Ended → has_up m.direction ≡ true → c.up.made ≡ length (up_of m events) + 1
+    pub down_given : has_failed c.standing ≡ false → has_down m.direction ≡ true → c.down.is_open ≡ false → c.down.made ≡ length (down_of m (take c.taken events)) + 1
     pub flags_open : c.flags.is_open ≡ true → has_up m.direction ≡ true
     pub flags : has_failed c.standing ≡ false → c.flags.is_open ≡ true → c.flags.made ≡ c.flags_taken
     -- why it has failed, where a call made it fail

@@ -2,7 +2,7 @@
 
 ghost use Rattle.std.specs.Prelude.{◌≡◌, ◌==◌, ◌&&◌, ◌++◌, ℕ, List, Bool, [], Some, slice_get, true, false};
 ghost use Rattle.pl_event.specs.declared.envelopes.Lane.{Lane};
-ghost use Rattle.pl_context.specs.declared.standing.Standing.TheVariants as stands;
+ghost use Rattle.pl_context.specs.Standings.{has_failed};
 ghost use Rattle.pl_context.specs.ContextViews.{ContextView};
 ghost use Rattle.pl_context.specs.Stops.{has_stopped};
 ghost use Rattle.pl_context.specs.WaitingViews.{Entry};
@@ -49,9 +49,10 @@ pub fn account_law<S: Stage, T: Transport>()
         → (l : Lane) → writes_of S.meaning net.nodes.parts.items l ≡ true → origin_of net.nodes.parts.items l ≡ target_of net.nodes.parts.items l
         → (handed_of (channels_view S.meaning net.nodes.parts.items) net.executors.items l ≡ taken_of net.nodes.parts.items l)
         × (made_of (channels_view S.meaning net.nodes.parts.items) net.executors.items backlogs l ≡ taken_of net.nodes.parts.items l) }
-    // A lane that an open context writes has come so far as what its stage makes of the events that it has taken.
+    // A lane that a context writes which has not failed has come so far as what its stage makes of the events that it has
+    // taken, with the end where the lane is over.
     ensures given { (plan : Plan) (backlogs : ℕ → List (Entry Unit)) (net : Core (Channels S T)) → NetStands S.meaning S.stands_after T.state plan backlogs net
-        → (l : Lane) (part : ChannelPartView S T) (c : ContextView S) → slice_get net.nodes.parts.items l.channel ≡ Some part → (l.hop == 0) ≡ false → context_at part.path (writer_hop part.path l.hop) ≡ Some c → c.standing ≡ stands.Open
+        → (l : Lane) (part : ChannelPartView S T) (c : ContextView S) → slice_get net.nodes.parts.items l.channel ≡ Some part → (l.hop == 0) ≡ false → context_at part.path (writer_hop part.path l.hop) ≡ Some c → has_failed c.standing ≡ false
         → HasGiven S.meaning (world_of false plan) c l (came_of S.meaning net.nodes.parts.items l) }
 {
     pl_net::account_law()

@@ -20,4 +20,4 @@ pub returns-clause-direct : goal.returns-clause-direct
 returns-clause-direct g c = λ plan backlogs net n l w same. c.account_law.ensures.direct (world_of false plan) (channels_view g.S.Stage.meaning net.nodes.parts.items) 0 net.executors.items backlogs net.work n.stands.runs n.rests l w same
 
 pub returns-clause-given : goal.returns-clause-given
-returns-clause-given g c = λ plan backlogs net n l part k at inner writer live. has-given (world_of false plan) g.S.Stage.meaning g.S.Stage.stands_after g.T.Transport.state net.nodes.parts.items n.stands.hold l part k at inner writer live
+returns-clause-given g c = λ plan backlogs net n l part k at inner writer sound. has-given (world_of false plan) g.S.Stage.meaning g.S.Stage.stands_after g.T.Transport.state net.nodes.parts.items n.stands.hold l part k at inner writer sound
