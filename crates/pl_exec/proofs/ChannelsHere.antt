@@ -1,16 +1,16 @@
 -- The channels that have nodes on an executor. Of the others nothing is left to be done there.
-use Rattle.std.proofs.Common.{◌≡◌, ◌≢◌, ◌||◌, ℕ, ◌+◌, ◌<◌, ◌≤◌, Bool, true, false, List, [], ◌∷◌, ◌++◌, Option, Some, None, slice_get, length, refl, ap, sym, subst, ◌∙◌, ⊎_elim, arith}
-use Rattle.std.specs.Prelude.{◌==◌, All, Contains, cond, is_some, if◌then◌else◌}
+use Rattle.std.proofs.Common.{◌≡◌, ◌≢◌, ◌||◌, ℕ, ◌<◌, ◌≤◌, Bool, true, false, List, Option, Some, None, slice_get, length, refl, ap, sym, subst, ◌∙◌, ⊎_elim, arith}
+use Rattle.std.specs.Prelude.{◌==◌, All, Contains, is_some, if◌then◌else◌}
 use Rattle.std.specs.Bool.{Decides}
 use Rattle.std.specs.List.{list_all}
 use Rattle.std.specs.Option.{option_map_or}
 use Rattle.std.specs.Set.{is_member}
-use Rattle.std.proofs.lemmas.Bool.{and_from, both_ways, cases_Bool, cases_eq, cond-false, cond-true, eq-eqb, ne_eqb}
+use Rattle.std.proofs.lemmas.Bool.{and_from, both_ways, cases_Bool, cond-false, cond-true, eq-eqb, ne_eqb}
 use Rattle.std.proofs.lemmas.Bool.Decides.{Decides-eqb}
-use Rattle.std.proofs.lemmas.List.Elements.{All-append, All-contains, All-cons, All-from_get_or, All-nil, All-same, All-weaker, Contains-append_left, Contains-append_right, Contains-get_or}
+use Rattle.std.proofs.lemmas.List.Elements.{All-contains, All-from_get_or, All-weaker, Contains-get_or}
 use Rattle.std.proofs.lemmas.List.Sums.{list_all-from_AllPass}
 use Rattle.std.proofs.lemmas.Map.Made.{is_member-Decides}
-use Rattle.std.proofs.lemmas.Option.{none-some, same_Some, slice_get_within}
+use Rattle.std.proofs.lemmas.Option.{none-some, slice_get_within}
 use Rattle.pl_event.specs.declared.events.Event.{Event}
 use Rattle.pl_event.specs.declared.stages.Direction.{Direction}
 use Rattle.pl_event.specs.declared.stages.Direction.TheVariants.{Inbound, Outbound, Turn}
@@ -132,41 +132,3 @@ module _ {S T : Type 0} (state : T → TransportState) (plan : Plan) (ps : List 
 -- they are the same for the same executor
 pub on-stays : (plan : Plan) (me me' : ℕ) (here here' : List ℕ) → me' ≡ me → here' ≡ here → AreOn (λ q. q.executors) plan.channels me here → AreOn (λ q. q.executors) plan.channels me' here'
 on-stays plan me me' here here' number same = subst (λ (z : ℕ × List ℕ). AreOn (λ q. q.executors) plan.channels z.0 z.1) (λ i. (sym number i, sym same i))
-
--- ---- how they are found
-
-module _ {S T : Type 0} (ps : List (ChannelPartView S T)) (me : ℕ) where
-  -- Of the first channels those that have a hop here.
-  pub record FirstOn (n : ℕ) (here : List ℕ) : Type 0 where
-    pub all : (c : ℕ) (p : ChannelPartView S T) → c < n → slice_get ps c ≡ Some p → Contains p.path.executors me → Contains here c
-    pub only : All (λ c. (p : ChannelPartView S T) × (slice_get ps c ≡ Some p) × Contains p.path.executors me) here
-
-  pub none-on : (here : List ℕ) → here ≡ [] → FirstOn 0 here
-  none-on here none = record {
-    all = λ c p below at has. absurd (omega (arith, below));
-    only = All-same (λ c. (p : ChannelPartView S T) × (slice_get ps c ≡ Some p) × Contains p.path.executors me) here [] none (All-nil (λ c. (p : ChannelPartView S T) × (slice_get ps c ≡ Some p) × Contains p.path.executors me));
-  }
-
-  module _ (n : ℕ) (p : ChannelPartView S T) (at : slice_get ps n ≡ Some p) (here : List ℕ) (so_far : FirstOn n here) where
-    noted : (b : Bool) → Decides b (Contains p.path.executors me) → FirstOn (n + 1) (here ++ cond b (n ∷ []) [])
-    noted b decides = record {
-      all = λ c q below is has. ⊎_elim
-          (λ (e : c ≡ n).
-          let same = same_Some q p (sym is ∙ ap (λ (k : ℕ). slice_get ps k) e ∙ at) in
-          let on = decides.1 (subst (λ (x : ChannelPartView S T). Contains x.path.executors me) same has) in
-          subst (λ (k : ℕ). Contains (here ++ cond b (n ∷ []) []) k) (sym e)
-          (Contains-append_right here (cond b (n ∷ []) []) n (subst (λ (d : Bool). Contains (cond d (n ∷ []) []) n) (sym on) (Contains-get_or (n ∷ []) 0 0 (omega arith)))))
-          (λ (other : c ≢ n). Contains-append_left here (cond b (n ∷ []) []) c (so_far.all c q (omega (arith, below, other)) is has))
-          (cases_eq c n);
-      only = All-append (λ c. (p : ChannelPartView S T) × (slice_get ps c ≡ Some p) × Contains p.path.executors me) here (cond b (n ∷ []) []) so_far.only (last b decides);
-    }
-      where
-        last : (b : Bool) → Decides b (Contains p.path.executors me) → All (λ c. (p : ChannelPartView S T) × (slice_get ps c ≡ Some p) × Contains p.path.executors me) (cond b (n ∷ []) [])
-        last true d = All-cons (λ c. (p : ChannelPartView S T) × (slice_get ps c ≡ Some p) × Contains p.path.executors me) n [] (p, at, d.0 refl) (All-nil (λ c. (p : ChannelPartView S T) × (slice_get ps c ≡ Some p) × Contains p.path.executors me))
-        last false d = All-nil (λ c. (p : ChannelPartView S T) × (slice_get ps c ≡ Some p) × Contains p.path.executors me)
-
-    pub one-more-on : (now : List ℕ) (b : Bool) → Decides b (Contains p.path.executors me) → now ≡ here ++ cond b (n ∷ []) [] → FirstOn (n + 1) now
-    one-more-on now b decides is = subst (FirstOn (n + 1)) (sym is) (noted b decides)
-
-  pub all-on : (n : ℕ) (here : List ℕ) → length ps ≤ n → FirstOn n here → AreOn (λ p. p.path.executors) ps me here
-  all-on n here most first = record { all = λ c p at. let within = slice_get_within ps c p at in first.all c p (omega (arith, within, most)) at; only = first.only }

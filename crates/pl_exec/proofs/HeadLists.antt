@@ -1,9 +1,10 @@
 -- The list of the channels whose heads are on an executor.
-use Rattle.std.proofs.Common.{◌≡◌, ℕ, ◌+◌, ◌<◌, ◌≤◌, Bool, true, false, cond, List, [], ◌∷◌, ◌++◌, length, map, get_or, slice_get, Some, refl, ap, sym, ◌∙◌, subst, arith}
-use Rattle.std.specs.Prelude.{is_some, if◌then◌else◌, All}
+use Rattle.std.proofs.Common.{◌≡◌, ℕ, zero, suc, ◌+◌, ◌<◌, ◌≤◌, Bool, true, false, cond, List, [], ◌∷◌, ◌++◌, length, map, get_or, slice_get, Some, refl, ap, sym, ◌∙◌, subst, arith}
+use Rattle.std.specs.Prelude.{is_some, if◌then◌else◌, All, Contains}
+use Rattle.std.proofs.lemmas.Bool.{false≢true}
 use Rattle.std.proofs.lemmas.List.{length-map, map-append}
-use Rattle.std.proofs.lemmas.List.Elements.{All-nil, All-cons}
-use Rattle.std.proofs.lemmas.Option.{get_or_from_slice_get, slice_get_read}
+use Rattle.std.proofs.lemmas.List.Elements.{All-nil, All-cons, All-weaker, Contains-append_right, Contains-get_or}
+use Rattle.std.proofs.lemmas.Option.{get_or_from_slice_get, none-some, same_Some, slice_get_read}
 use Rattle.std.proofs.Math.Seq.{map-set_same}
 use Rattle.pl_event.proofs.Lists.{All-at}
 use Rattle.pl_part.specs.Parts.{ChannelPartView, SamePart}
@@ -20,7 +21,7 @@ first-added : (b : Bool) (n m : ℕ) → n ≡ m → (if b then n ∷ [] else []
 first-added true n m same = ap (λ (k : ℕ). k ∷ []) same
 first-added false n m same = refl
 
-numbered-more : (n : ℕ) (bs : List Bool) (b : Bool) (m : ℕ) → m ≡ n + length bs → numbered_from n (bs ++ b ∷ []) ≡ numbered_from n bs ++ cond b (m ∷ []) []
+pub numbered-more : (n : ℕ) (bs : List Bool) (b : Bool) (m : ℕ) → m ≡ n + length bs → numbered_from n (bs ++ b ∷ []) ≡ numbered_from n bs ++ cond b (m ∷ []) []
 numbered-more n [] b m same = first-added b n m (omega (arith, same))
 numbered-more n (a ∷ rest) b m same =
     ap (λ (l : List ℕ). if a then n ∷ l else l) (numbered-more (n + 1) rest b m (omega (arith, same)))
@@ -32,12 +33,40 @@ first-in-range : (b : Bool) (n k m : ℕ) (ns : List ℕ) → k ≤ n → n < m 
 first-in-range true n k m ns low high later = All-cons (λ c. (k ≤ c) × (c < m)) n ns (low, high) later
 first-in-range false n k m ns low high later = later
 
-in-range : (n : ℕ) (bs : List Bool) (k : ℕ) → k ≤ n → All (λ c. (k ≤ c) × (c < n + length bs)) (numbered_from n bs)
+pub in-range : (n : ℕ) (bs : List Bool) (k : ℕ) → k ≤ n → All (λ c. (k ≤ c) × (c < n + length bs)) (numbered_from n bs)
 in-range n [] k within = All-nil (λ c. (k ≤ c) × (c < n + 0))
 in-range n (b ∷ bs) k within =
     let later : All (λ c. (k ≤ c) × (c < n + length (b ∷ bs))) (numbered_from (n + 1) bs) =
     subst (λ (m : ℕ). All (λ c. (k ≤ c) × (c < m)) (numbered_from (n + 1) bs)) (omega arith) (in-range (n + 1) bs k (omega (arith, within))) in
     first-in-range b n k (n + length (b ∷ bs)) (numbered_from (n + 1) bs) within (omega arith) later
+
+-- a number that is true is one of them
+numbered-first : (b : Bool) (n : ℕ) (rest : List ℕ) → b ≡ true → Contains (if b then n ∷ rest else rest) n
+numbered-first true n rest e = Contains-get_or (n ∷ rest) 0 n (omega arith)
+numbered-first false n rest e = absurd (false≢true e)
+
+numbered-later : (b : Bool) (n c : ℕ) (rest : List ℕ) → Contains rest c → Contains (if b then n ∷ rest else rest) c
+numbered-later true n c rest has = Contains-append_right (n ∷ []) rest c has
+numbered-later false n c rest has = has
+
+pub numbered-there : (n : ℕ) (bs : List Bool) (i c : ℕ) → slice_get bs i ≡ Some true → c ≡ n + i → Contains (numbered_from n bs) c
+numbered-there n [] i c at is = absurd (none-some true at)
+numbered-there n (b ∷ bs) zero c at is = subst (λ (k : ℕ). Contains (numbered_from n (b ∷ bs)) k) (omega (arith, is)) (numbered-first b n (numbered_from (n + 1) bs) (same_Some b true at))
+numbered-there n (b ∷ bs) (suc i) c at is = numbered-later b n c (numbered_from (n + 1) bs) (numbered-there (n + 1) bs i c at (omega (arith, is)))
+
+-- and each of them is true
+abbrev pub IsNumbered : ℕ → List Bool → ℕ → Type 0
+IsNumbered n bs c = (i : ℕ) × (c ≡ n + i) × (slice_get bs i ≡ Some true)
+
+first-numbered : (n : ℕ) (b : Bool) (bs : List Bool) (rest : List ℕ) → All (IsNumbered n (b ∷ bs)) rest → All (IsNumbered n (b ∷ bs)) (if b then n ∷ rest else rest)
+first-numbered n true bs rest later = All-cons (IsNumbered n (true ∷ bs)) n rest (0, omega arith, refl) later
+first-numbered n false bs rest later = later
+
+pub numbered-only : (n : ℕ) (bs : List Bool) → All (IsNumbered n bs) (numbered_from n bs)
+numbered-only n [] = All-nil (IsNumbered n [])
+numbered-only n (b ∷ bs) =
+    first-numbered n b bs (numbered_from (n + 1) bs)
+    (All-weaker (IsNumbered (n + 1) bs) (IsNumbered n (b ∷ bs)) (λ c x. let is = x.1 in (suc x.0, omega (arith, is), x.2)) (numbered_from (n + 1) bs) (numbered-only (n + 1) bs))
 
 module _ {S T : Type 0} (ps : List (ChannelPartView S T)) where
   -- each is a channel

@@ -7,6 +7,7 @@ pub mod OwnNodeLemmas
 pub mod HeadLists
 pub mod CallLemmas
 pub mod OverLemmas
+pub mod ChannelRows
 pub mod ChannelsHere
 pub mod MovedNodes
 pub mod Ready
@@ -24,6 +25,8 @@ mod LaneTablesGrown
 pub mod LaneTables
 pub mod WordLemmas
 pub mod SeatLemmas
+pub mod DealtSeats
+pub mod SettledWrites
 pub mod ToldNodes
 pub mod TellingStart
 pub mod ServedNodes

@@ -1,12 +1,12 @@
 -- The words of a session's channels, the seats on them, and what each call does to a seat.
-use Rattle.std.specs.Prelude.{◌≡◌, ℕ, ◌+◌, ◌-◌, ◌==◌, ◌&&◌, ◌||◌, Bool, not, List, [], ◌∷◌, ◌++◌, map, nat_lt, slice_get, slice_set, Option, Some, if◌then◌else◌}
+use Rattle.std.specs.Prelude.{◌≡◌, ◌⊎◌, ℕ, ◌+◌, ◌-◌, ◌<◌, ◌≤◌, ◌==◌, ◌&&◌, ◌||◌, Bool, not, List, [], ◌∷◌, ◌++◌, map, nat_lt, slice_get, slice_set, Option, Some, None, if◌then◌else◌}
 use Rattle.std.specs.Bool.{beq}
 use Rattle.pl_event.specs.declared.outcomes.Outcome.{Outcome}
 use Rattle.pl_words.specs.declared.watermark.Mark.{Mark}
 use Rattle.pl_words.specs.declared.watermark.TheConstants.{MAX_SETS}
 use Rattle.pl_words.specs.Names.{Name}
 use Rattle.pl_words.specs.PromiseRule.{at}
-use Rattle.pl_words.specs.PromiseViews.{SettleSeatView, ReadSeatView as PromiseSeatView, Peeks, new_settler, new_reader as new_promise_seat}
+use Rattle.pl_words.specs.PromiseViews.{SettleSeatView, ReadSeatView as PromiseSeatView, Meets, Peeks, Settles, new_settler, new_reader as new_promise_seat}
 use Rattle.pl_words.specs.Watermarks.{HeadSeatView, ReadSeatView as MarkSeatView, Looks, new_head_seat, new_reader as new_mark_seat}
 use Rattle.pl_world.specs.declared.session.Recorded.{Recorded}
 use Rattle.pl_exec.specs.declared.words.TheConstants.{PROMISES}
@@ -111,3 +111,15 @@ pub record PeeksAt (before : List SightView) (channel n : ℕ) (found : Option O
   pub peeks : Peeks sight.promises n found seen
   pub again : (outcome : Outcome) → at sight.promises.seen n ≡ Some outcome → found ≡ Some outcome
   pub others : after ≡ slice_set before channel (record sight { promises = seen })
+
+-- One step tried to settle write n so: where the seat had not settled it, it has now; else it found how it stands. A void write
+-- keeps nothing.
+pub record Tries (before : SettleSeatView) (n : ℕ) (outcome : Outcome) (after : SettleSeatView) : Type 0 where
+  pub first : n < PROMISES → at before.settled n ≡ None → Settles before n outcome after
+  pub tried : n < PROMISES → Settles before n outcome after ⊎ ((found : Outcome) × Meets before n found after)
+  pub void : PROMISES ≤ n → after ≡ before
+
+-- So for each of these writes, one after another, as it ended by these outcomes: a step for each, and no others.
+abbrev pub TriesEach : List (Option Outcome) → List ℕ → SettleSeatView → SettleSeatView → Type 0
+TriesEach outcomes [] before after = after ≡ before
+TriesEach outcomes (n ∷ ns) before after = (outcome : Outcome) × (next : SettleSeatView) × (at outcomes n ≡ Some outcome) × Tries before n outcome next × TriesEach outcomes ns next after

@@ -1,6 +1,8 @@
 -- The nodes of all channels, each at its executor.
-use Rattle.std.specs.Prelude.{◌≡◌, ℕ, ◌≤◌, ◌==◌, ◌&&◌, false, List, [], ◌∷◌, ◌++◌, length, map, cond, slice_get, Some, is_some}
+use Rattle.std.specs.Global.{Vec}
+use Rattle.std.specs.Prelude.{◌≡◌, ◌≢◌, ℕ, ◌<◌, ◌≤◌, ◌==◌, ◌&&◌, false, List, [], ◌∷◌, ◌++◌, All, length, map, cond, get_or, slice_get, Some, is_some}
 use Rattle.std.specs.List.{range_with_len}
+use Rattle.std.specs.Set.{is_member}
 use Rattle.pl_event.specs.declared.events.Event.{Event}
 use Rattle.pl_event.specs.declared.envelopes.Lane.{Lane}
 use Rattle.pl_event.specs.Meaning.{Meaning}
@@ -13,7 +15,7 @@ use Rattle.pl_part.specs.Shares.{IsShare, executor_of}
 use Rattle.pl_replay.specs.Placed.{all_lanes, lanes_between}
 use Rattle.pl_exec.specs.declared.nodes.OwnNodes.{OwnNodes}
 use Rattle.pl_exec.specs.Opening.{PlacesView}
-use Rattle.pl_exec.specs.OwnNodes.{heads_of}
+use Rattle.pl_exec.specs.OwnNodes.{AreOn, heads_of, numbered_from}
 
 module _ {S T : Type 0} (meaning : S → Meaning) (stands_after : S → List Event → Type 0) (state : T → TransportState) where
   -- Of a channel's nodes those of an executor: it holds where the whole does, and its lanes are as far as those of the whole.
@@ -67,3 +69,36 @@ module _ {S T : Type 0} (wholes : List (ChannelPartView S T)) (so_many : ℕ) wh
   -- of each of so many executors
   abbrev pub places_of : List PlacesView
   places_of = map places_at (range_with_len 0 so_many)
+
+-- ---- which channels have nodes where
+
+-- a row of channels for each executor
+abbrev pub rows_in : List (Vec ℕ) → List (List ℕ)
+rows_in rows = map (λ row. row.items) rows
+
+module _ {S T : Type 0} where
+  -- the channels that have a hop on an executor, in order
+  abbrev pub channels_on : List (ChannelPartView S T) → ℕ → List ℕ
+  channels_on ps x = numbered_from 0 (map (λ (p : ChannelPartView S T). is_member (λ a b. a == b) p.path.executors x) ps)
+
+  -- By executor those that have a node among its nodes.
+  pub record AreKnown (all : List (OwnNodes S T)) (rows : List (List ℕ)) : Type 0 where
+    pub count : length rows ≡ length all
+    pub each : (x : ℕ) (nodes : OwnNodes S T) (row : List ℕ) → slice_get all x ≡ Some nodes → slice_get rows x ≡ Some row → AreOn (λ p. p.path.executors) nodes.parts.items nodes.number row
+
+module _ (channel : ℕ) where
+  -- A channel is noted at the end of a row, where it is not there yet and later than all that are.
+  pub record IsNoted (before after : List ℕ) : Type 0 where
+    pub again : (earlier : List ℕ) → before ≡ earlier ++ channel ∷ [] → after ≡ before
+    pub once : All (λ c. c < channel) before → after ≡ before ++ channel ∷ []
+
+  -- So it is at an executor, if there is a row for it. The other rows stay.
+  pub record IsNotedAt (executor : ℕ) (before after : List (List ℕ)) : Type 0 where
+    pub count : length after ≡ length before
+    pub here : executor < length before → IsNoted (get_or before executor []) (get_or after executor [])
+    pub others : (x : ℕ) → x ≢ executor → get_or after x [] ≡ get_or before x []
+
+  -- It comes to the end of the row of each of these executors.
+  pub record AreNoted (executors : List ℕ) (before after : List (List ℕ)) : Type 0 where
+    pub count : length after ≡ length before
+    pub each : (x : ℕ) → x < length before → get_or after x [] ≡ get_or before x [] ++ cond (is_member (λ a b. a == b) executors x) (channel ∷ []) []

@@ -1,20 +1,22 @@
 -- The nodes of an executor whose heads tell the words of their channels.
-use Rattle.std.specs.Prelude.{◌≡◌, ℕ, ◌-◌, ◌<◌, ◌≤◌, List, [], length, map, slice_get, slice_set, Option, Some, true}
+use Rattle.std.specs.Prelude.{◌≡◌, ℕ, ◌-◌, ◌<◌, ◌≤◌, List, [], Contains, length, map, slice_get, slice_set, Option, Some, None, IsSome, true}
+use Rattle.std.specs.Option.{option_map_or}
 use Rattle.pl_channel.specs.Lanes.{world_of}
 use Rattle.pl_event.specs.declared.events.Event.{Event}
+use Rattle.pl_event.specs.declared.outcomes.Outcome.{Outcome}
 use Rattle.pl_event.specs.Meaning.{Meaning}
 use Rattle.pl_event.specs.Worlds.{World}
 use Rattle.pl_head.specs.Buffers.{untold}
 use Rattle.pl_head.specs.HeadStand.{HeadView}
 use Rattle.pl_head.specs.Transports.{TransportState}
 use Rattle.pl_part.specs.Parts.{ChannelPartView, PartHolds}
-use Rattle.pl_part.specs.Told.{IsTold}
+use Rattle.pl_part.specs.Told.{IsTold, part_untold}
 use Rattle.pl_words.specs.declared.watermark.TheConstants.{MAX_SETS}
 use Rattle.pl_world.specs.Plans.{ChannelPlan, Plan}
 use Rattle.pl_exec.specs.declared.nodes.OwnNodes.{OwnNodes}
 use Rattle.pl_exec.specs.declared.telling.TellingNodes.{TellingNodes}
 use Rattle.pl_exec.specs.OwnNodes.{AreOn, NodesStand, heads_of}
-use Rattle.pl_exec.specs.SessionWords.{ChannelNames, SeatsView, AreSeatsOf, seats_marks}
+use Rattle.pl_exec.specs.SessionWords.{ChannelNames, SeatsView, AreSeatsOf, TriesEach, seats_marks}
 
 abbrev pub plan_marks : ChannelPlan → ℕ × ℕ
 plan_marks p = (p.low, p.high)
@@ -37,6 +39,25 @@ pub record AreSeated (words : List ChannelNames) (plan : Plan) (seats : List (Op
 -- The nodes of an executor with seats on the words of their channels.
 abbrev pub HaveSeats : {S T : Type 0} → Plan → TellingNodes S T → Type 0
 HaveSeats plan n = AreSeated n.words.now plan n.seats.items
+
+-- Of a slot with seats, or none, of a channel: an executor that owns the channel gets it and leaves none, and another gets none
+-- and leaves it.
+pub record IsDealt (own : List ℕ) (c : ℕ) (slot dealt left : Option SeatsView) : Type 0 where
+  pub here : Contains own c → (dealt ≡ slot) × (left ≡ None)
+  pub elsewhere : (Contains own c → ⊥) → (dealt ≡ None) × (left ≡ slot)
+
+-- So it is with the slot of each channel.
+pub record AreDealt (own : List ℕ) (before dealt left : List (Option SeatsView)) : Type 0 where
+  pub each : (c : ℕ) (slot got rest : Option SeatsView) → slice_get before c ≡ Some slot → slice_get dealt c ≡ Some got → slice_get left c ≡ Some rest → IsDealt own c slot got rest
+
+-- The seats are those of exactly the channels whose heads are among the nodes.
+pub record HasOwnSeats {S T : Type 0} (n : TellingNodes S T) : Type 0 where
+  pub here : (c : ℕ) (slot : Option SeatsView) → slice_get n.seats.items c ≡ Some slot → Contains n.nodes.own.items c → IsSome slot
+  pub elsewhere : (c : ℕ) (slot : Option SeatsView) → slice_get n.seats.items c ≡ Some slot → (Contains n.nodes.own.items c → ⊥) → slot ≡ None
+
+-- The head of a channel is not among the nodes of two executors.
+pub record HaveApartHeads {S T : Type 0} (all : List (OwnNodes S T)) : Type 0 where
+  pub apart : (x y : ℕ) (a b : OwnNodes S T) (c : ℕ) → slice_get all x ≡ Some a → slice_get all y ≡ Some b → Contains a.own.items c → Contains b.own.items c → x ≡ y
 
 -- They know which channels have a node here.
 abbrev pub KnowChannels : {S T : Type 0} → TellingNodes S T → Type 0
@@ -64,6 +85,10 @@ pub record CanTell {S T : Type 0} (meaning : S → Meaning) (stands_after : S �
   pub marks : (h : HeadView T) → p.head ≡ Some h → (s.mark.low ≡ h.buffer.low) × (s.mark.high ≡ h.buffer.high)
   pub ordered : s.mark.low ≤ s.mark.high
 
+-- the outcomes of the writes of a part's head
+abbrev pub part_outcomes : {S T : Type 0} → ChannelPartView S T → List (Option Outcome)
+part_outcomes p = option_map_or (λ (h : HeadView _). h.buffer.outcomes) p.head []
+
 -- The mark says what is pending at a head and whether its channel is unwritable, as long as it may be set once more; and the
 -- head has told of each of its settled writes.
 pub record Tells {T : Type 0} (s : SeatsView) (h : HeadView T) : Type 0 where
@@ -74,6 +99,11 @@ pub record Tells {T : Type 0} (s : SeatsView) (h : HeadView T) : Type 0 where
 -- So it is with the seats of a channel and its head, where both are here.
 abbrev pub TellsAt : {S T : Type 0} → List (Option SeatsView) → List (ChannelPartView S T) → ℕ → Type 0
 TellsAt seats ps c = (s : SeatsView) (p : ChannelPartView _ _) (h : HeadView _) → slice_get seats c ≡ Some (Some s) → slice_get ps c ≡ Some p → p.head ≡ Some h → Tells s h
+
+-- And the seats of a channel have settled each write that its head had not told: a step for each, in order, as it ended.
+abbrev pub SettlesAt : {S T : Type 0} → List (Option SeatsView) → List (ChannelPartView S T) → ℕ → List (Option SeatsView) → Type 0
+SettlesAt before ps c after = (s : SeatsView) (p : ChannelPartView _ _) → slice_get before c ≡ Some (Some s) → slice_get ps c ≡ Some p
+    → (t : SeatsView) × (slice_get after c ≡ Some (Some t)) × TriesEach (part_outcomes p) (part_untold p) s.settle t.settle
 
 -- ---- what holds between two calls
 

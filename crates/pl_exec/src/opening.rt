@@ -4,6 +4,7 @@ ghost use Rattle.std.specs.Prelude.{◌≡◌, ◌<◌, ◌^◌, ◌∷◌, ◌+
 ghost use Rattle.pl_exec.specs.Opening.{lanes_in, CanOpen, CanOpenAll, InboxView, IsOwn, IsRow, AreRows, AreOpened, with_row, with_rows, outbox_of, AreWays, Starts, CanStart, IsFirst};
 ghost use Rattle.pl_executor.specs.Running.{ExecutorView};
 
+use crate::planned::Planned;
 use crossbeam_utils::sync::Parker;
 use pl_context::Outputs;
 use pl_event::{Lane, Named};
@@ -228,8 +229,8 @@ impl Model for Places {
 }
 
 /// The executors before their first turn, each with its nodes and its ways, and with the parker of its inbox. Nothing waits,
-/// and nothing was taken.
-pub(crate) fn executors<'a, W: Named, M: Mailbox<W> + Drop, N: Part<W> + Drop>(
+/// and nothing was taken. The mailboxes have the capacity of the plan.
+pub(crate) fn executors<'a, W: Planned, M: Mailbox<W> + Drop, N: Part<W> + Drop>(
     alloc: Global,
     inboxes: &'a [Inbox<W, M>],
     ways: Vec<Ways<W, M>>,
@@ -240,6 +241,7 @@ where
     M::Sender: Drop,
     M::Taker: Drop,
     requires few { length inboxes.now < 2 ^ 16 }
+    requires capacity { All (λ i. M.capacity_of i.mailbox ≡ W.plan.capacity) inboxes.now }
     requires start { CanStart M.is_taker M.takes_of M.is_sender M.sends_of N.stands N.home N.lanes N.target_of N.writes N.taken_of N.came N.was_refused
         (map (λ i. record { mailbox = i.mailbox; name = i.admission.name }) inboxes.now) ways.items nodes.items places.items }
     ensures parts { IfOk result (λ executors. map (λ e. e.0.part) executors.items ≡ nodes.items) }

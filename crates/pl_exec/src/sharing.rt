@@ -1,10 +1,9 @@
 //! The nodes of all channels, each at its executor.
 
-ghost use Rattle.std.specs.Prelude.{◌≡◌, ◌∷◌, ◌++◌, [], cond, length, Contains, IfOk, OnOk};
-ghost use Rattle.std.specs.Bool.{Decides};
+ghost use Rattle.std.specs.Prelude.{◌≡◌, ◌<◌, ◌∷◌, ◌++◌, [], All, cond, length, map, IfOk, OnOk};
+ghost use Rattle.std.specs.List.{range_with_len};
 ghost use Rattle.pl_replay.specs.Placed.{ArePlaceable};
-ghost use Rattle.pl_exec.specs.OwnNodes.{AreOn};
-ghost use Rattle.pl_exec.specs.Sharing.{AreShared, Gets, EachGets, places_of};
+ghost use Rattle.pl_exec.specs.Sharing.{AreNoted, AreShared, IsNoted, IsNotedAt, Gets, EachGets, channels_on, places_of, rows_in};
 
 use crate::nodes::OwnNodes;
 use crate::opening::Places;
@@ -86,31 +85,59 @@ fn note_if(channels: &mut Vec<usize>, channel: usize, wanted: bool) -> Result<()
     Ok(())
 }
 
-/// The channels that have a node on an executor, in order.
+/// For each of so many executors the channels that have a node on it, in order: one walk over the hops of all channels.
 pub(crate) fn channels_on<S: Stage, T: Transport>(
     alloc: Global,
     parts: &[ChannelPart<S, T>],
-    number: usize,
-) -> Result<Vec<usize>, AllocError>
-    ensures { IfOk result (λ here. AreOn (λ p. p.path.executors) parts.now number here.items) }
+    count: usize,
+) -> Result<Vec<Vec<usize>>, AllocError>
+    ensures { IfOk result (λ rows. rows_in rows.items ≡ map (channels_on parts.now) (range_with_len 0 count)) }
 {
-    let mut here = Vec::new(alloc);
-    for channel in 0..parts.len() {
-        note_if(&mut here, channel, is_on(&parts[channel], number))?;
+    let mut rows = Vec::with_capacity(alloc, count)?;
+    for _executor in 0..count {
+        rows.push(Vec::new(alloc))?;
     }
-    Ok(here)
+    for channel in 0..parts.len() {
+        note_channel(&mut rows, channel, &parts[channel])?;
+    }
+    Ok(rows)
 }
 
-/// Whether a channel has a node on an executor.
-fn is_on<S: Stage, T: Transport>(part: &ChannelPart<S, T>, number: usize) -> bool
-    ensures { Decides result (Contains part.now.path.executors number) }
+/// Notes a channel at each executor that one of its hops is on.
+fn note_channel<S: Stage, T: Transport>(
+    rows: &mut Vec<Vec<usize>>,
+    channel: usize,
+    part: &ChannelPart<S, T>,
+) -> Result<(), AllocError>
+    requires { All (All (λ c. c < channel)) (rows_in rows.old.items) }
+    ensures { OnOk result (AreNoted channel part.now.path.executors (rows_in rows.old.items) (rows_in rows.new.items)) }
 {
     for hop in 0..part.hops() {
-        if part.target(hop) == number {
-            return true;
-        }
+        note_at(rows, part.target(hop), channel)?;
     }
-    false
+    Ok(())
+}
+
+/// Notes a channel at an executor, if there is a row for it.
+fn note_at(rows: &mut Vec<Vec<usize>>, executor: usize, channel: usize) -> Result<(), AllocError>
+    ensures { OnOk result (IsNotedAt channel executor (rows_in rows.old.items) (rows_in rows.new.items)) }
+{
+    if executor < rows.len() {
+        note_once(&mut rows[executor], channel)?;
+    }
+    Ok(())
+}
+
+/// Notes a channel at the end of a row, unless it is the last there.
+fn note_once(row: &mut Vec<usize>, channel: usize) -> Result<(), AllocError>
+    ensures { OnOk result (IsNoted channel row.old.items row.new.items) }
+{
+    let count = row.len();
+    if count > 0 && row[count - 1] == channel {
+        return Ok(());
+    }
+    row.push(channel)?;
+    Ok(())
 }
 
 /// The places of each executor.

@@ -1,6 +1,6 @@
 //! The nodes of an executor, whose heads tell the words of their channels what becomes of writes.
 
-ghost use Rattle.std.specs.Prelude.{◌≡◌, ◌-◌, ◌<◌, ◌≤◌, ◌⊎◌, ℕ, [], length, get_or, map, All, IfOk, Some, None, true};
+ghost use Rattle.std.specs.Prelude.{◌≡◌, ◌-◌, ◌<◌, ◌≤◌, ℕ, [], cond, length, get_or, map, All, IfOk, Some, None, true};
 ghost use Rattle.pl_event.specs.Worlds.{World};
 ghost use Rattle.pl_head.specs.HeadStand.{HeadView};
 ghost use Rattle.pl_part.specs.Parts.{PartHolds};
@@ -10,12 +10,12 @@ ghost use Rattle.pl_replay.specs.Channels.{lanes_of as data_lanes_of};
 ghost use Rattle.pl_world.specs.Plans.{Plan};
 ghost use Rattle.pl_world.specs.PlanRules.{IsPlan};
 ghost use Rattle.pl_exec.specs.OwnNodes.{NodesStand, HasGivenUp, MayMoveOwn, AreOver, served_of, target_of};
-ghost use Rattle.pl_exec.specs.SessionWords.{AreSeatsOf, AreHeadSeatsOf, told};
-ghost use Rattle.pl_exec.specs.Telling.{AreSeated, AreToldAt, CanTell, HaveMarks, HaveSeats, KnowChannels, TellingStand, Tells, TellsAt};
+ghost use Rattle.pl_exec.specs.SessionWords.{AreSeatsOf, AreHeadSeatsOf, TriesEach, told};
+ghost use Rattle.pl_exec.specs.Sharing.{AreKnown, rows_in};
+ghost use Rattle.pl_exec.specs.Telling.{AreDealt, AreSeated, AreToldAt, CanTell, HasOwnSeats, HaveApartHeads, HaveMarks, HaveSeats, KnowChannels, SettlesAt, TellingStand, Tells, TellsAt, part_outcomes};
 
 use crate::nodes::{OwnNodes, are_over_at};
 use crate::planned::Planned;
-use crate::sharing::channels_on;
 use crate::words::{HeadSeats, Seats, Words};
 use pl_context::Outputs;
 use pl_event::{Envelope, Lane, Stage};
@@ -110,6 +110,7 @@ impl<'a, S: Stage, T: Transport> TellingNodes<'a, S, T> {
         ensures here { self.new.here ≡ self.old.here }
         ensures seated { (plan : Plan) → AreSeated self.old.words.now plan self.old.seats.items → AreSeated self.new.words.now plan self.new.seats.items }
         ensures tells { TellsAt self.new.seats.items self.new.nodes.parts.items channel }
+        ensures settled { SettlesAt self.old.seats.items self.old.nodes.parts.items channel self.new.seats.items }
     {
         if let Some(seats) = &mut self.seats[channel] {
             tell(self.words, channel, seats, &mut self.nodes.parts[channel]);
@@ -130,6 +131,7 @@ fn tell<S: Stage, T: Transport>(
     ensures same { (seats.new.mark.low ≡ seats.old.mark.low) × (seats.new.mark.high ≡ seats.old.mark.high) }
     ensures told { IsTold part.old part.new }
     ensures all { part_untold part.new ≡ [] }
+    ensures settled { TriesEach (part_outcomes part.old) (part_untold part.old) seats.old.settle seats.new.settle }
     ensures tells { (h : HeadView T) → part.new.head ≡ Some h → Tells seats.new h }
 {
     set_mark(words, channel, seats, part);
@@ -147,6 +149,7 @@ fn set_mark<S: Stage, T: Transport>(
     ensures own { AreSeatsOf words.now channel seats.new }
     ensures mark { (h : HeadView T) → part.now.head ≡ Some h → seats.new.mark ≡ told seats.old.mark h.buffer.pending h.buffer.is_unwritable }
     ensures same { (seats.new.mark.low ≡ seats.old.mark.low) × (seats.new.mark.high ≡ seats.old.mark.high) }
+    ensures settle { seats.new.settle ≡ seats.old.settle }
     ensures says { (h : HeadView T) → part.now.head ≡ Some h → seats.new.mark.sets < MAX_SETS - 1
         → (seats.new.mark.pending ≡ h.buffer.pending) × (seats.new.mark.unwritable ≡ h.buffer.is_unwritable) }
 {
@@ -167,6 +170,7 @@ fn settle<S: Stage, T: Transport>(
     ensures mark { seats.new.mark ≡ seats.old.mark }
     ensures told { IsTold part.old part.new }
     ensures all { part_untold part.new ≡ [] }
+    ensures settled { TriesEach (part_outcomes part.old) (part_untold part.old) seats.old.settle seats.new.settle }
 {
     while let Some((n, outcome)) = part.next_settled() {
         words.settle(channel, seats, n, outcome);
@@ -174,24 +178,28 @@ fn settle<S: Stage, T: Transport>(
 }
 
 /// The nodes of each executor, with the words that their heads tell, and the seats of each channel where its head is.
+/// `here` has the channels of each.
 pub(crate) fn telling<'a, W: Planned, S: Stage, T: Transport>(
     alloc: Global,
     words: &'a Words,
     seats: HeadSeats,
     nodes: Vec<OwnNodes<S, T>>,
+    here: Vec<Vec<usize>>,
 ) -> Result<Vec<TellingNodes<'a, S, T>>, AllocError>
     requires plan { IsPlan W.plan }
+    requires here { AreKnown nodes.items (rows_in here.items) }
+    requires apart { HaveApartHeads nodes.items }
     requires seats { AreHeadSeatsOf words.now seats }
     requires marks { HaveMarks seats W.plan.channels }
     ensures nodes { IfOk result (λ all. map (λ n. n.nodes) all.items ≡ nodes.items) }
     ensures seated { IfOk result (λ all. All (HaveSeats W.plan) all.items) }
+    ensures own { IfOk result (λ all. All HasOwnSeats all.items) }
     ensures here { IfOk result (λ all. All KnowChannels all.items) }
 {
     let mut left = undealt(alloc, seats)?;
     let mut all = Vec::with_capacity(alloc, nodes.len())?;
-    for own in nodes {
+    for (own, here) in nodes.into_iter().zip(here) {
         let dealt = deal::<W>(alloc, words, &mut left, own.own.as_slice())?;
-        let here = channels_on(alloc, own.parts.as_slice(), own.number)?;
         all.push(TellingNodes {
             nodes: own,
             words,
@@ -223,6 +231,7 @@ fn deal<W: Planned>(
     requires { AreSeated words.now W.plan left.old.items }
     ensures left { AreSeated words.now W.plan left.new.items }
     ensures dealt { IfOk result (λ dealt. AreSeated words.now W.plan dealt.items) }
+    ensures own { IfOk result (λ dealt. AreDealt own.now left.old.items dealt.items left.new.items) }
 {
     let mut dealt = Vec::with_capacity(alloc, left.len())?;
     for channel in 0..left.len() {
@@ -233,8 +242,8 @@ fn deal<W: Planned>(
 
 /// The seats, where they are wanted. Else they stay.
 fn take_if(seats: &mut Option<Seats>, wanted: bool) -> Option<Seats>
-    ensures taken { (result ≡ seats.old) ⊎ (result ≡ None) }
-    ensures left { (seats.new ≡ seats.old) ⊎ (seats.new ≡ None) }
+    ensures taken { result ≡ cond wanted seats.old None }
+    ensures left { seats.new ≡ cond wanted None seats.old }
 {
     if wanted { seats.take() } else { None }
 }

@@ -2,6 +2,7 @@ use Rattle.std.proofs.Common.{◌≡◌, length, slice_get, Option, Some, refl, 
 use Rattle.std.proofs.lemmas.Option.{slice_get_read}
 use Rattle.pl_exec.specs.SessionWords.{SeatsView}
 use Rattle.pl_exec.proofs.SeatLemmas.{no-seats-tell, none-told-at, seat-marks, seat-told, tells-at, told-at}
+use Rattle.pl_exec.proofs.SettledWrites.{none-settles, settles-at}
 use Rattle.pl_exec.proofs.telling.TellingNodes.tell.Goals as goal
 
 -- the part of the channel, and its seats
@@ -62,3 +63,24 @@ returns-in-Some-clause-tells g c = tells-at c.args.self.now.seats.items c.args.s
 
 pub returns-in_default-clause-tells : goal.returns-in_default-clause-tells
 returns-in_default-clause-tells g c = no-seats-tell c.args.self.now.seats.items c.args.self.now.nodes.parts.items c.args.channel c.index_mut.result.now c.in_default.is
+
+pub returns-in-Some-clause-settled : goal.returns-in-Some-clause-settled
+returns-in-Some-clause-settled g c =
+    let seats = c.args.self.now.seats.items in
+    let ps = c.args.self.now.nodes.parts.items in
+    let size = c.requires.stand.2.count in
+    let parts = c.requires.stand.3.keeps.count in
+    let there = c.requires.there in
+    settles-at seats ps c.args.channel c.in-Some.seats c.tell.new.seats c.index_mut-in-Some.result.now
+    (slice_get_read seats (length seats) c.args.channel c.index_mut.result.now refl (omega (arith, size, parts, there)) c.index_mut.ensures.value ∙ ap (λ (s : Option SeatsView). Some s) c.in-Some.is)
+    (slice_get_read ps (length ps) c.args.channel c.index_mut-in-Some.result.now refl there c.index_mut-in-Some.ensures.value)
+    c.tell.ensures.settled
+
+pub returns-in_default-clause-settled : goal.returns-in_default-clause-settled
+returns-in_default-clause-settled g c =
+    let seats = c.args.self.now.seats.items in
+    let size = c.requires.stand.2.count in
+    let parts = c.requires.stand.3.keeps.count in
+    let there = c.requires.there in
+    none-settles seats c.args.self.now.nodes.parts.items c.args.channel _ c.index_mut.result.now
+    (slice_get_read seats (length seats) c.args.channel c.index_mut.result.now refl (omega (arith, size, parts, there)) c.index_mut.ensures.value) c.in_default.is
