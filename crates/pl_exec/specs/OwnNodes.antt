@@ -7,6 +7,7 @@ use Rattle.pl_event.specs.declared.envelopes.Lane.{Lane}
 use Rattle.pl_event.specs.Meaning.{Meaning}
 use Rattle.pl_event.specs.Worlds.{World}
 use Rattle.pl_context.specs.ContextViews.{ContextView}
+use Rattle.pl_context.specs.OutputsViews.{OutputsView}
 use Rattle.pl_context.specs.Standings.{is_over}
 use Rattle.pl_flow.specs.declared.moves.HeadMove.{HeadMove}
 use Rattle.pl_head.specs.Marks.{Change}
@@ -14,11 +15,11 @@ use Rattle.pl_head.specs.Transports.{TransportState}
 use Rattle.pl_head.specs.declared.inputs.ReadPlan.{ReadPlan}
 use Rattle.pl_head.specs.HeadStand.{HeadView, StandsAfter, is_idle}
 use Rattle.pl_head.specs.ReadSteps.{plan_steps}
-use Rattle.pl_part.specs.Paths.{context_at, writer_hop}
+use Rattle.pl_part.specs.Paths.{PathRefuses, context_at, writer_hop}
 use Rattle.pl_part.specs.Parts.{ChannelPartView, PartHolds, head_hop, all_over, has_read}
 use Rattle.pl_channel.specs.PlanStand.{PartsKeepPlan}
 use Rattle.pl_executor.specs.Serving.{Served}
-use Rattle.pl_replay.specs.Channels.{MayMove, executor_at, is_hop}
+use Rattle.pl_replay.specs.Channels.{HasMoved, MayMove, executor_at, is_hop}
 use Rattle.pl_world.specs.Plans.{ChannelPlan, Plan, read_plan}
 
 -- ---- where lanes go
@@ -75,6 +76,19 @@ pub record AreOn {A : Type 0} (executors_of : A → List ℕ) (channels : List A
 abbrev pub HasGivenUp : {S T : Type 0} → List (ChannelPartView S T) → Lane → Type 0
 HasGivenUp ps l =
     (p : ChannelPartView _ _) (c : ContextView _) → slice_get ps l.channel ≡ Some p → l.kind ≡ kind.Data → context_at p.path (writer_hop p.path l.hop) ≡ Some c → is_over c.standing ≡ true
+
+-- ---- what is refused
+
+-- Of a channel's part an item of a lane is refused: the context that writes the lane fails, where it brings data. The head, and
+-- who writes flags, go on.
+pub record PartRefuses {S T : Type 0} (p : ChannelPartView S T) (l : Lane) (before : OutputsView) (p' : ChannelPartView S T) (after : OutputsView) : Type 0 where
+  pub path : PathRefuses p.path l before p'.path after
+  pub head : p'.head ≡ p.head
+
+-- So it is with the part of the lane's channel, where it has one. The others are as they were.
+pub record IsRefusedBy {S T : Type 0} (ps : List (ChannelPartView S T)) (l : Lane) (before : OutputsView) (ps' : List (ChannelPartView S T)) (after : OutputsView) : Type 0 where
+  pub here : (p : ChannelPartView S T) → slice_get ps l.channel ≡ Some p → HasMoved (λ q q'. PartRefuses q l before q' after) ps l.channel ps'
+  pub none : slice_get ps l.channel ≡ None → (ps' ≡ ps) × (after ≡ before)
 
 -- ---- which heads are here
 

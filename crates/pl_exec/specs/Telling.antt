@@ -71,6 +71,12 @@ pub record IsToldAt {S T : Type 0} (ps : List (ChannelPartView S T)) (c : ℕ) (
   pub becomes : ps' ≡ slice_set ps c after
   pub told : IsTold before after
 
+-- This was done, and then the head of a channel told so.
+pub record TellsAfter {S T : Type 0} (does : List (ChannelPartView S T) → Type 0) (c : ℕ) (ps' : List (ChannelPartView S T)) : Type 0 where
+  pub between : List (ChannelPartView S T)
+  pub done : does between
+  pub told : IsToldAt between c ps'
+
 -- The head of a channel of an executor's nodes has. All else is as it was.
 pub record AreToldAt {S T : Type 0} (n : OwnNodes S T) (c : ℕ) (n' : OwnNodes S T) : Type 0 where
   pub number : n'.number ≡ n.number

@@ -1,10 +1,10 @@
 //! The nodes of an executor.
 
 ghost use Rattle.std.specs.Prelude.{◌≡◌, ◌<◌, ◌^◌, ◌||◌, ◌&&◌, All, length, get_or, slice_get, Some, ℕ, true, false};
-ghost use Rattle.pl_exec.specs.OwnNodes.{HasGivenUp, MayMoveOwn, AreOver, IsOverAt, IsPartOver, enters, served_of, target_of};
+ghost use Rattle.pl_exec.specs.OwnNodes.{HasGivenUp, IsRefusedBy, MayMoveOwn, AreOver, IsOverAt, IsPartOver, enters, served_of, target_of};
 ghost use Rattle.pl_exec.specs.Telling.{OwnStand};
 ghost use Rattle.pl_part.specs.Parts.{ChannelPartView, PartHolds};
-ghost use Rattle.pl_replay.specs.Channels.{came_of, taken_of, writes_of};
+ghost use Rattle.pl_replay.specs.Channels.{IsMovedBy, IsTakenBy, came_of, taken_of, writes_of};
 ghost use Rattle.pl_replay.specs.Channels.{lanes_of as data_lanes_of};
 ghost use Rattle.pl_event.specs.Worlds.{World};
 
@@ -59,6 +59,12 @@ impl<W: Planned, S: Stage, T: Transport> Part<W> for OwnNodes<S, T> {
     ghost are_over = { λ n. AreOver T.state n.parts.items };
 
     ghost stands = { OwnStand W.world W.plan S.meaning S.stands_after T.state };
+
+    ghost took = { λ n e before n' after. IsTakenBy S.meaning S.stands_after S.is_spent T.state n.parts.items e before n'.parts.items after };
+
+    ghost refused_by = { λ n lane before n' after. IsRefusedBy n.parts.items lane before n'.parts.items after };
+
+    ghost moved = { λ n by at before n' after. (n'.own ≡ n.own) × IsMovedBy T.state T.may_refuse n.parts.items by (get_or n.own.items at 0) before n'.parts.items after };
 
     fn target(&self, lane: Lane) -> usize {
         match self.parts.get(lane.channel as usize) {

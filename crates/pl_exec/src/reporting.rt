@@ -30,7 +30,7 @@ pub(crate) fn report_of<W: Planned, S: Stage, T: Transport>(
     channels: usize,
 ) -> Result<Report, AllocError>
     requires plan { IsPlan W.plan }
-    requires executors { map (λ n. n.nodes.number) all.items ≡ range_with_len 0 W.plan.executors }
+    requires executors { map (λ e. e.part.nodes.number) all.items ≡ range_with_len 0 W.plan.executors }
     requires channels { channels ≡ length W.plan.channels }
     ensures { IfOk result (λ report. IsRunReport W.plan report) }
 {

@@ -5,14 +5,14 @@ ghost use Rattle.pl_event.specs.Worlds.{World};
 ghost use Rattle.pl_head.specs.HeadStand.{HeadView};
 ghost use Rattle.pl_part.specs.Parts.{PartHolds};
 ghost use Rattle.pl_part.specs.Told.{IsTold, part_untold};
-ghost use Rattle.pl_replay.specs.Channels.{came_of, taken_of, writes_of};
+ghost use Rattle.pl_replay.specs.Channels.{IsMovedBy, IsTakenBy, came_of, taken_of, writes_of};
 ghost use Rattle.pl_replay.specs.Channels.{lanes_of as data_lanes_of};
 ghost use Rattle.pl_world.specs.Plans.{Plan};
 ghost use Rattle.pl_world.specs.PlanRules.{IsPlan};
-ghost use Rattle.pl_exec.specs.OwnNodes.{NodesStand, HasGivenUp, MayMoveOwn, AreOver, served_of, target_of};
+ghost use Rattle.pl_exec.specs.OwnNodes.{NodesStand, HasGivenUp, IsRefusedBy, MayMoveOwn, AreOver, served_of, target_of};
 ghost use Rattle.pl_exec.specs.SessionWords.{AreSeatsOf, AreHeadSeatsOf, TriesEach, told};
 ghost use Rattle.pl_exec.specs.Sharing.{AreKnown, rows_in};
-ghost use Rattle.pl_exec.specs.Telling.{AreDealt, AreSeated, AreToldAt, CanTell, HasOwnSeats, HaveApartHeads, HaveMarks, HaveSeats, KnowChannels, SettlesAt, TellingStand, Tells, TellsAt, part_outcomes};
+ghost use Rattle.pl_exec.specs.Telling.{AreDealt, AreSeated, AreToldAt, CanTell, HasOwnSeats, HaveApartHeads, HaveMarks, HaveSeats, KnowChannels, SettlesAt, TellingStand, Tells, TellsAfter, TellsAt, part_outcomes};
 
 use crate::nodes::{OwnNodes, are_over_at};
 use crate::planned::Planned;
@@ -67,6 +67,12 @@ impl<'a, W: Planned, S: Stage, T: Transport> Part<W> for TellingNodes<'a, S, T> 
     ghost are_over = { λ n. AreOver T.state n.nodes.parts.items };
 
     ghost stands = { TellingStand W.world W.plan S.meaning S.stands_after T.state };
+
+    ghost took = { λ n e before n' after. TellsAfter (λ between. IsTakenBy S.meaning S.stands_after S.is_spent T.state n.nodes.parts.items e before between after) e.lane.channel n'.nodes.parts.items };
+
+    ghost refused_by = { λ n lane before n' after. IsRefusedBy n.nodes.parts.items lane before n'.nodes.parts.items after };
+
+    ghost moved = { λ n by at before n' after. TellsAfter (λ between. IsMovedBy T.state T.may_refuse n.nodes.parts.items by (get_or n.nodes.own.items at 0) before between after) (get_or n.nodes.own.items at 0) n'.nodes.parts.items };
 
     fn target(&self, lane: Lane) -> usize {
         <OwnNodes<S, T> as Part<W>>::target(&self.nodes, lane)

@@ -1,15 +1,17 @@
 -- An executor may go to another thread.
 use denote.Ref.{NamedLft}
 use denote.RattleType.{RattleType}
+use denote.Enum.Declared as enum
 use denote.Struct.Declared.{shape, fields}
 use denote.Struct.Field.{unit-field, bool-field}
 use denote.Struct.Tuple.{TupleAt, type_at}
-use denote.Param.Send.{IsSend, IsSync, AllSend, sendable, view_send, recorded_send, struct_send}
+use denote.Param.Send.{IsSend, IsSync, AllSend, sendable, view_send, recorded_send, struct_send, enum_send}
 use mathlib.Core.List.{[], ◌∷◌}
 use mir.Syntax.{Sym}
 use Rattle.std.proofs.alloc.Global.TheSendSync as global
 use Rattle.std.below.std_heap.proofs.GlobalAllocator.TheSendSync as global_allocator
 use Rattle.std.specs.contracts.alloc.Global as global_row
+use Rattle.std.specs.contracts.option.Option as option
 use Rattle.std.specs.contracts.impls.GlobalAllocator.TheImpl as allocator
 use Rattle.crossbeam_utils.specs.contracts.sync.parker.RuledParker as parker_row
 use Rattle.crossbeam_utils.specs.contracts.rule.Unruled as unruled
@@ -19,12 +21,14 @@ use Rattle.pl_event.specs.declared.named.Named as named
 use Rattle.pl_queue.specs.declared.mailbox.Mailbox as mailbox
 use Rattle.pl_words.proofs.admission.OwnerSeat.TheSendSync as owner
 use Rattle.pl_context.proofs.outputs.Outputs.TheSendSync as outputs
-use Rattle.pl_outbox.proofs.Sends.{outboxes_send}
+use Rattle.pl_outbox.proofs.Sends.{outboxes_send, waiting_send}
 use Rattle.pl_outbox.proofs.inbox.Inbox.TheSendSync as inbox
 use Rattle.pl_executor.specs.declared.part.Part as part
 use Rattle.pl_executor.specs.contracts.cores.Core as core
 use Rattle.pl_executor.specs.contracts.executors.Executor as executor
 use Rattle.pl_executor.specs.contracts.executors.Executor.TheInside as executor_inside
+use Rattle.pl_executor.specs.contracts.finished.Finished as finished
+use Rattle.pl_executor.specs.contracts.finished.Finished.TheInside as finished_inside
 
 module _ (a : NamedLft) (W M N S T : RattleType) (w : named.Ghosts W.Denot) (m : mailbox.Ghosts M.Denot W.Denot S.Denot T.Denot) where
   core_send : IsSend N → IsSend S → IsSync M → IsSend (core.the_field a W M N S T w m).row
@@ -40,6 +44,18 @@ module _ (a : NamedLft) (W M N S T : RattleType) (w : named.Ghosts W.Denot) (m :
       let O = executor_inside.the_type a W M N S T w m p in
       let all : AllSend (fields O) = (c, (search (sendable, i) depth 20, (t, (owner.the_send, (search sendable, (search sendable, (search sendable, tt))))))) in
       view_send _ _ _ _ _ (recorded_send _ _ O.to O.to_one (struct_send (shape O) all))
+
+-- what it leaves may go back
+finished_send : (W N : RattleType) (w : named.Ghosts W.Denot) (p : part.Ghosts N.Denot W.Denot) → IsSend N → IsSend (finished.the_row W N w p)
+finished_send W N w p n =
+    let O = finished_inside.the_type W N w p in
+    let all : AllSend (fields O) = (n, (owner.the_send, (waiting_send, (search sendable, tt)))) in
+    view_send _ _ _ _ _ (recorded_send _ _ O.to O.to_one (struct_send (shape O) all))
+
+pub left_send : (W N : RattleType) (w : named.Ghosts W.Denot) (p : part.Ghosts N.Denot W.Denot) → IsSend N → IsSend (option.the_row (finished.the_row W N w p))
+left_send W N w p n =
+    let O = option.the_type (finished.the_row W N w p) in
+    recorded_send _ _ O.to O.to_one (enum_send (enum.shape O) (tt, ((finished_send W N w p n, tt), tt)))
 
 pub parker_send : IsSend (parker_row.the_row (unit-field).row unruled.the_row global_row.the_row (protocol.ghosts (bool-field).row) allocator.ghosts)
 parker_send = parker.the_send _ _ _ (protocol.ghosts (bool-field).row) _ global.the_send global.the_sync global_allocator.the_frees

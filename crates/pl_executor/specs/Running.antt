@@ -5,14 +5,14 @@ use Rattle.pl_event.specs.declared.envelopes.Lane.{Lane}
 use Rattle.pl_event.specs.Worlds.{World}
 use Rattle.pl_context.specs.Stops.{has_stopped, HasPlaces, AreAmong}
 use Rattle.pl_context.specs.OutputsViews.{OutputsView}
-use Rattle.pl_context.specs.WaitingViews.{stops_for}
+use Rattle.pl_context.specs.WaitingViews.{WaitingView, stops_for}
 use Rattle.pl_queue.specs.declared.views.TakeCount.{TakeCount}
 use Rattle.pl_queue.specs.declared.views.TakerView.{TakerView}
 use Rattle.pl_queue.specs.Views.{next_of}
-use Rattle.pl_words.specs.Admissions.{OwnerSeatView}
+use Rattle.pl_words.specs.Admissions.{AdmittedView, OwnerSeatView}
 use Rattle.pl_flow.specs.Flows.{Point, point, on}
 use Rattle.pl_flow.specs.LaneRuns.{LaneRuns}
-use Rattle.pl_outbox.specs.OutboxViews.{OutboxesView, reached, is_cut, is_closed}
+use Rattle.pl_outbox.specs.OutboxViews.{OutboxesView, reached, is_cut, is_closed, waits_in}
 
 -- The executor's number; by lane the executor that it enters, whether the nodes write it, how many items of it they have
 -- taken, and how far they have made it.
@@ -47,3 +47,14 @@ pub record IsCounting (owner : OwnerSeatView) (shut : Bool) (ran pops : ℕ) : T
   pub closed : shut ≡ is_closed owner.phase
   pub run : ran ≡ min pops (2 ^ 64 - 1)
   pub count : is_closed owner.phase ≡ true → owner.run ≡ pops
+
+-- What an executor leaves: its nodes, its right to close its queue, and what waits for others.
+pub record LeftView (N : Type 0) : Type 0 where
+  pub part : N
+  pub owner : OwnerSeatView
+  pub waiting : WaitingView AdmittedView
+
+-- Its queue is closed, and nothing waits.
+pub record HasLeft {N : Type 0} (l : LeftView N) : Type 0 where
+  pub closed : is_closed l.owner.phase ≡ true
+  pub drained : (y : ℕ) → waits_in l.waiting y ≡ []

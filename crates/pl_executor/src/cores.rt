@@ -8,7 +8,7 @@ ghost use Rattle.pl_context.specs.WaitingViews.{Entry, Holds};
 ghost use Rattle.pl_words.specs.Admissions.{AdmittedView};
 ghost use Rattle.pl_flow.specs.Flows.{IsGood};
 ghost use Rattle.pl_outbox.specs.OutboxViews.{SameFor, Sends, oldest_untried};
-ghost use Rattle.pl_executor.specs.Cores.{CoreHolds, CoreKeeps, Departs};
+ghost use Rattle.pl_executor.specs.Cores.{CoreHolds, CoreKeeps, FrontGoes, WorksOff, WorksOffAfter, at_work};
 ghost use Rattle.pl_executor.specs.Serving.{ServesNone, MovesAtMostOnce};
 
 use crate::part::Part;
@@ -45,10 +45,9 @@ where
         ensures keeps { CoreKeeps N.target_of N.writes N.count self.old self.new }
         ensures served { ServesNone (N.served self.old.part) (N.served self.new.part) }
         ensures taken { (l : Lane) → N.writes self.old.part l ≡ false → N.taken_of self.new.part l ≡ N.taken_of self.old.part l }
-        ensures empty { result ≡ false → self.new.work.items ≡ [] }
-        // What is for another executor waits there, or that was found closed, and its writer has given up.
-        ensures away { (x : Envelope) (left : List Envelope) → self.old.work.items ≡ x ∷ left → N.target_of self.old.part x.lane ≢ self.old.number
-            → Departs N.gave_up self.old.outboxes (N.target_of self.old.part x.lane) x self.new.part self.new.outboxes }
+        // Its node takes the front. Or it waits for another executor; or that was found closed, and its writer has given up.
+        ensures front { result ≡ true → (front : Envelope) × FrontGoes N.target_of N.took N.refused_by N.gave_up self.old.number front (at_work self.old) (at_work self.new) }
+        ensures empty { result ≡ false → (self.old.work.items ≡ []) × (self.new.work.items ≡ []) × (self.new.part ≡ self.old.part) × (self.new.outboxes ≡ self.old.outboxes) }
     {
         let Some(envelope) = self.work.next() else {
             return false;
@@ -78,6 +77,8 @@ where
         ensures keeps { CoreKeeps N.target_of N.writes N.count self.old self.new }
         ensures served { ServesNone (N.served self.old.part) (N.served self.new.part) }
         ensures taken { (l : Lane) → N.taken_of self.new.part l ≡ cond (same_lane l task.lane) (task.number + 1) (N.taken_of self.old.part l) }
+        ensures took { N.took self.old.part task self.old.work self.new.part self.new.work }
+        ensures outboxes { self.new.outboxes ≡ self.old.outboxes }
     {
         self.part.take(task, &mut self.work);
     }
@@ -90,6 +91,7 @@ where
         ensures served { ServesNone (N.served self.old.part) (N.served self.new.part) }
         ensures taken { (l : Lane) → N.writes self.old.part l ≡ false → N.taken_of self.new.part l ≡ N.taken_of self.old.part l }
         ensures empty { self.new.work.items ≡ [] }
+        ensures works { WorksOff N.target_of N.took N.refused_by N.gave_up self.old.number (at_work self.old) self.new.part self.new.outboxes }
     {
         for _ in rt.forever() {
             if !self.step() {
@@ -111,6 +113,7 @@ where
         ensures served { MovesAtMostOnce by (N.served self.old.part) (N.served self.new.part) }
         ensures taken { (l : Lane) → N.writes self.old.part l ≡ false → N.taken_of self.new.part l ≡ N.taken_of self.old.part l }
         ensures empty { self.new.work.items ≡ [] }
+        ensures moved { result ≡ true → WorksOffAfter N.target_of N.took N.refused_by N.gave_up self.old.number (N.moved self.old.part by channel self.old.work) self.old.outboxes self.new.part self.new.outboxes }
     {
         if !self.part.move_head(by, channel, &mut self.work) {
             return false;

@@ -12,9 +12,9 @@ ghost use Rattle.pl_words.specs.Admissions.{AdmittedView, OwnerSeatView, new_own
 ghost use Rattle.pl_outbox.specs.Admitting.{FewLanes};
 ghost use Rattle.pl_outbox.specs.OutboxViews.{admissions, waits_for, is_closed, SomeClosed, SameFor, Sends, SendsNothing, oldest_untried};
 ghost use Rattle.pl_executor.specs.declared.executors.Turn.TheVariants.{Worked, Idle, Done};
-ghost use Rattle.pl_executor.specs.Running.{Runs, IsTaking};
+ghost use Rattle.pl_executor.specs.Running.{HasLeft, Runs, IsTaking};
 ghost use Rattle.pl_executor.specs.Serving.{ServesNone, MovesAtMostOnce, ServesAtMostOnce};
-ghost use Rattle.pl_executor.specs.Turning.{SendsAtMostOne, TakesAtMostOne, IsStill, OnlyServes};
+ghost use Rattle.pl_executor.specs.Turning.{SendsAtMostOne, TakesAtMostOne, TakesTask, IsStill, OnlyServes};
 
 use crate::cores::Core;
 use crate::finished::Finished;
@@ -137,8 +137,9 @@ where
         ensures served { ServesAtMostOnce (N.served self.old.part) (N.served self.new.part) }
         ensures idle { result ≢ Worked → IsStill self.old self.new × ((c : ℕ) → c < N.count self.new.part → (by : HeadMove) → N.may_move self.new.part by c false) }
         ensures done { result ≡ Done → (is_closed self.new.owner.phase ≡ true) × N.are_over self.new.part × ((y : ℕ) → waits_for self.new.outboxes y ≡ []) }
-        // It begins to close, and closes, only where all here has ended.
-        ensures closes { (self.new.owner ≡ self.old.owner) ⊎ N.are_over self.new.part }
+        ensures name { self.new.owner.name ≡ self.old.owner.name }
+        // It begins to close, and closes, only where all here had ended before the turn.
+        ensures closes { (self.new.owner ≡ self.old.owner) ⊎ N.are_over self.old.part }
         ensures later { rank self.old.owner.phase ≤ rank self.new.owner.phase }
         ensures count { is_closed self.new.owner.phase ≡ true → self.new.owner.run ≡ self.new.takes.pops }
         // One of its nodes has failed by a refusal only where some seat has seen its target closed.
@@ -167,8 +168,8 @@ where
         ensures served { ServesAtMostOnce (N.served self.old.part) (N.served self.new.part) }
         ensures idle { result ≡ false → IsStill self.old self.new × ((c : ℕ) → c < N.count self.new.part → (by : HeadMove) → N.may_move self.new.part by c false) }
     {
-        let handed = self.hand(rt).is_some();
-        let ran = self.run_task(rt);
+        let handed = self.hand(rt, gate).is_some();
+        let ran = self.run_task(rt, gate);
         if handed || ran {
             self.serve_one(rt, handed);
             return true;
@@ -176,17 +177,20 @@ where
         self.serve_first(rt)
     }
 
-    /// Takes the front of its queue, wakes those that waited for room there, and makes all direct calls that follow. False
-    /// where the queue was empty, or is closed.
-    pub fn run_task<R: Wait>(&mut self, rt: &R) -> bool
+    /// In a turn of which the gate was told: takes the front of its queue, wakes those that waited for room there, and makes all
+    /// direct calls that follow. False where the queue was empty, or is closed.
+    pub fn run_task<R: Wait, G: Gate>(&mut self, rt: &R, gate: &G) -> bool
+        requires entered { G.was_entered gate.now self.old.number self.old.turns }
         ensures number { self.new.number ≡ self.old.number }
-        ensures task { result ≡ true → (is_closed self.old.owner.phase ≡ false) × (x : Envelope) × (self.new.takes ≡ after_take self.old.takes x) }
+        ensures task { result ≡ true → (is_closed self.old.owner.phase ≡ false) × (x : Envelope) × (self.new.takes ≡ after_take self.old.takes x)
+            × TakesTask N.target_of N.took N.refused_by N.gave_up x self.old self.new }
         ensures none { result ≡ false → self.new ≡ self.old }
         ensures sends { SendsNothing self.old.outboxes self.new.outboxes }
         ensures served { ServesNone (N.served self.old.part) (N.served self.new.part) }
         ensures owner { self.new.owner ≡ self.old.owner }
         ensures turns { self.new.turns ≡ self.old.turns }
     {
+        let _ = gate;
         if self.is_closed {
             return false;
         }
@@ -206,15 +210,17 @@ where
         }
     }
 
-    /// Hands over the oldest envelope whose queue has room. The executor to which it went, or None where nothing waits but
-    /// for queues that are full.
-    pub fn hand<R: Wait>(&mut self, rt: &R) -> Option<usize>
+    /// In a turn of which the gate was told: hands over the oldest envelope whose queue has room. The executor to which it
+    /// went, or None where nothing waits but for queues that are full.
+    pub fn hand<R: Wait, G: Gate>(&mut self, rt: &R, gate: &G) -> Option<usize>
+        requires entered { G.was_entered gate.now self.old.number self.old.turns }
         ensures same { self.new ≡ record self.old { outboxes = self.new.outboxes } }
         ensures handed { IfSome result (λ target. Sends self.old.outboxes target self.new.outboxes) }
         ensures none { IfNone result ((y : ℕ) → SameFor self.old.outboxes self.new.outboxes y) }
         // The target of the oldest, among those whose queue was not found full by this call.
         ensures oldest { (entries : List (Entry AdmittedView)) → Holds self.old.outboxes.waiting entries → result ≡ oldest_untried self.new.outboxes entries }
     {
+        let _ = gate;
         self.core.hand(rt)
     }
 
@@ -302,6 +308,7 @@ where
     fn close(&mut self) -> bool
         ensures same { self.new ≡ record self.old { owner = self.new.owner } }
         ensures over { N.are_over self.old.part ⊎ ((result ≡ false) × (self.new.owner ≡ self.old.owner)) }
+        ensures name { self.new.owner.name ≡ self.old.owner.name }
         ensures begun { N.are_over self.old.part → (result ≡ is_closed self.new.owner.phase) × (self.new.owner.phase ≢ Accepting) }
         ensures later { rank self.old.owner.phase ≤ rank self.new.owner.phase }
         ensures count { is_closed self.new.owner.phase ≡ true → self.new.owner.run ≡ self.new.takes.pops }
@@ -329,7 +336,10 @@ where
         start: &Start,
         parker: Parker,
     ) -> Option<Finished<W, N>>
-        ensures home { IfSome result (λ finished. N.home finished ≡ self.entry.number) }
+        ensures home { IfSome result (λ finished. N.home finished.part ≡ self.entry.number) }
+        // Its own queue is closed, and nothing waits for others.
+        ensures owner { IfSome result (λ finished. finished.owner.name ≡ self.entry.owner.name) }
+        ensures left { IfSome result HasLeft }
         // The gate was told of its first turn here.
         ensures entered { IfSome result (λ _. G.was_entered gate.now self.entry.number self.entry.turns) }
     {
@@ -382,11 +392,13 @@ where
         requires over { N.are_over self.part }
         requires closed { is_closed self.owner.phase ≡ true }
         requires drained { (y : ℕ) → waits_for self.outboxes y ≡ [] }
-        ensures { N.home result ≡ self.entry.number }
+        ensures home { N.home result.part ≡ self.entry.number }
+        ensures owner { result.owner ≡ self.entry.owner }
+        ensures left { HasLeft result }
     {
-        let Executor { core, .. } = self;
-        let Core { part, .. } = core;
-        Finished::new(part)
+        let Executor { core, owner, .. } = self;
+        let Core { part, outboxes, .. } = core;
+        Finished::new(part, owner, outboxes.into_waiting())
     }
 
     /// Whether nothing waits for others.

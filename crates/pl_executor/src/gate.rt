@@ -2,7 +2,7 @@
 
 ghost use Rattle.std.specs.Prelude.{ℕ};
 
-/// Is told of each turn of each executor, before anything is done in it.
+/// Is told of each turn of each executor. It is told first; what is proved is that by the end of the turn it was.
 pub trait Gate {
     /// It was told of this turn of this executor.
     ghost was_entered: { Self → ℕ → ℕ → Type 0 } = { λ g executor turn. Unit {0} };

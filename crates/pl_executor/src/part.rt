@@ -1,8 +1,10 @@
 //! What an executor runs: contexts, tails and heads.
 
 ghost use Rattle.std.specs.Prelude.{◌≡◌, ◌+◌, ◌<◌, ℕ, Bool, false, true, List, cond};
+ghost use Rattle.pl_event.specs.declared.envelopes.Envelope.{Envelope};
 ghost use Rattle.pl_event.specs.declared.envelopes.Lane.{Lane};
 ghost use Rattle.pl_event.specs.Hops.{same_lane};
+ghost use Rattle.pl_context.specs.OutputsViews.{OutputsView};
 ghost use Rattle.pl_context.specs.Stops.{HasPlaces};
 ghost use Rattle.pl_flow.specs.declared.moves.HeadMove.{HeadMove};
 ghost use Rattle.pl_flow.specs.Flows.{Point, IsGood};
@@ -63,6 +65,15 @@ pub trait Part<W: Named>: Sized {
     /// What holds of them between two calls.
     ghost stands: { Self → Type 0 };
 
+    /// What the node that an item enters makes of it, with the work list before and after.
+    ghost took: { Self → Envelope → OutputsView → Self → OutputsView → Type 0 };
+
+    /// What becomes of them where an item of a lane is refused, so.
+    ghost refused_by: { Self → Lane → OutputsView → Self → OutputsView → Type 0 };
+
+    /// What the head of the channel at a place does in a move, so.
+    ghost moved: { Self → HeadMove → ℕ → OutputsView → Self → OutputsView → Type 0 };
+
     /// The executor that a lane enters.
     fn target(&self, lane: Lane) -> usize
         ensures { result ≡ target_of self.now lane };
@@ -74,6 +85,7 @@ pub trait Part<W: Named>: Sized {
         requires number { envelope.number ≡ taken_of self.old envelope.lane }
         requires good { IsGood W.world envelope }
         requires places { HasPlaces work.old.stopped (lanes self.old) }
+        ensures took { took self.old envelope work.old self.new work.new }
         ensures stands { stands self.new }
         ensures keeps { PartKeeps target_of writes home lanes count self.old self.new }
         ensures taken { (l : Lane) → taken_of self.new l ≡ cond (same_lane l envelope.lane) (envelope.number + 1) (taken_of self.old l) }
@@ -94,6 +106,7 @@ pub trait Part<W: Named>: Sized {
         ensures placed { KeepsPlaces (lanes self.old) work.old.stopped work.new.stopped }
         ensures served { ServesNone (served self.old) (served self.new) }
         ensures gave_up { gave_up self.new lane }
+        ensures refused_by { refused_by self.old lane work.old self.new work.new }
         ensures made { Makes W.world (writes self.old) (came self.old) (came self.new) work.old work.new };
 
     /// How many channels have their heads among these nodes: those that a turn reads and writes.
@@ -107,6 +120,7 @@ pub trait Part<W: Named>: Sized {
         requires places { HasPlaces work.old.stopped (lanes self.old) }
         ensures enabled { may_move self.old by channel result }
         ensures idle { result ≡ false → (self.new ≡ self.old) × (work.new ≡ work.old) }
+        ensures moved { result ≡ true → moved self.old by channel work.old self.new work.new }
         ensures stands { stands self.new }
         ensures keeps { PartKeeps target_of writes home lanes count self.old self.new }
         ensures taken { (l : Lane) → taken_of self.new l ≡ taken_of self.old l }

@@ -18,7 +18,7 @@ use std::sync::Wait;
 use std::thread;
 use std::thread::{PromisedHandle, Scope, Threads};
 
-/// Why executors did not run. None of them made a turn.
+/// Why there is nothing of executors. Where `run_all` answers it, none of them made a turn.
 #[derive(Clone, Copy, Debug, PartialEq, Eq)]
 pub enum RunFault {
     /// Out of memory.
@@ -55,7 +55,7 @@ impl<G: Gate> Model for Numbered<G> {
 impl<G: Gate, W: Named, N: Part<W> + Drop> thread::Promise<Option<Finished<W, N>>> for Numbered<G> {
     ghost use Rattle.std.specs.Prelude.{◌≡◌, IfSome};
 
-    ghost kept_by = { λ p r. IfSome r (λ finished. (N.home finished ≡ p.number) × G.was_entered p.gate p.number p.turn) };
+    ghost kept_by = { λ p r. IfSome r (λ finished. (N.home finished.part ≡ p.number) × G.was_entered p.gate p.number p.turn) };
 }
 
 /// Starts each executor in a thread of its own. They wait there until they are told to begin.
@@ -91,7 +91,7 @@ where
         let spawned = scope.spawn_with(
             promise,
             move || -> Option<Finished<W, N>>
-                ensures { IfSome result (λ finished. (N.home finished ≡ executor.entry.number) × G.was_entered gate.entry.now executor.entry.number executor.entry.turns) }
+                ensures { IfSome result (λ finished. (N.home finished.part ≡ executor.entry.number) × G.was_entered gate.entry.now executor.entry.number executor.entry.turns) }
             { executor.run(rt, gate, start, parker) },
         );
         match spawned {
@@ -109,7 +109,7 @@ fn join_all<W: Named, N: Part<W> + Drop, G: Gate, R: Threads>(
     mut all: Vec<Finished<W, N>>,
 ) -> Result<Vec<Finished<W, N>>, RunFault>
     requires { all.items ≡ [] }
-    ensures homes { IfOk result (λ all. map (λ f. N.home f) all.items ≡ map (λ h. h.promise.number) handles.items) }
+    ensures homes { IfOk result (λ all. map (λ f. N.home f.part) all.items ≡ map (λ h. h.promise.number) handles.items) }
     ensures entered { IfOk result (λ _. All (λ h. G.was_entered h.promise.gate h.promise.number h.promise.turn) handles.items) }
 {
     for handle in handles {
@@ -143,7 +143,7 @@ pub fn run_all<
 where
     M::Sender: Drop + Send,
     M::Taker: Drop + Send,
-    ensures homes { IfOk result (λ all. map (λ f. N.home f) all.items ≡ map (λ e. e.0.number) executors.entry.items) }
+    ensures homes { IfOk result (λ all. map (λ f. N.home f.part) all.items ≡ map (λ e. e.0.number) executors.entry.items) }
     // The gate was told of the first turn of each.
     ensures entered { IfOk result (λ _. All (λ e. G.was_entered gate.now e.0.number e.0.turns) executors.entry.items) }
 {
@@ -155,7 +155,7 @@ where
         rt,
         |scope| -> Result<Vec<Finished<W, N>>, RunFault>
             requires { all.items ≡ [] }
-            ensures homes { IfOk result (λ all. map (λ f. N.home f) all.items ≡ map (λ e. e.0.number) executors.entry.items) }
+            ensures homes { IfOk result (λ all. map (λ f. N.home f.part) all.items ≡ map (λ e. e.0.number) executors.entry.items) }
             ensures entered { IfOk result (λ _. All (λ e. G.was_entered gate.entry.now e.0.number e.0.turns) executors.entry.items) }
         {
             let handles = start_each(rt, alloc, scope, gate, start, executors);

@@ -172,6 +172,12 @@ impl<W: Named> Part<W> for Node {
 
     ghost stands = { λ n. NodeStands n };
 
+    ghost took = { λ n envelope before n' after. n'.taken ≡ envelope.number + 1 };
+
+    ghost refused_by = { λ n lane before n' after. after ≡ before };
+
+    ghost moved = { λ n by place before n' after. n'.taken ≡ n.taken };
+
     fn target(&self, lane: Lane) -> usize {
         if lane.channel == lane.hop && matches!(lane.kind, Kind::Flags) {
             usize::from(lane.hop)

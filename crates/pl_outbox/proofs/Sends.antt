@@ -20,7 +20,7 @@ use Rattle.pl_outbox.proofs.tries.Tries.TheSendSync as tries
 admitted_send : IsSend admitted.the_row
 admitted_send = search sendable depth 20
 
-waiting_send : IsSend (waiting.the_row admitted.the_row)
+pub waiting_send : IsSend (waiting.the_row admitted.the_row)
 waiting_send = waits.the_send admitted.the_row admitted_send
 
 waiters_send : IsSend (waiters.the_field).row

@@ -122,6 +122,13 @@ where
         }
     }
 
+    /// What waits, and no way to hand it over.
+    pub fn into_waiting(self) -> Waiting<Admitted>
+        ensures { result ≡ self.entry.waiting }
+    {
+        self.waiting
+    }
+
     /// A new turn begins: no queue was found full in it.
     pub fn forget_tries(&mut self)
         ensures forgets { Forgets self.old self.new }

@@ -217,7 +217,6 @@ module _ {S : Type 0} (world : World) (meaning : S → Meaning) (stands_after : 
         by true is = given-last c.down (last_item standing ∷ []) (length (down_of (meaning c.stage) (take c.taken events))) refl is (h.stood live).below
         by false is = ap (λ o. if o then c.down.made + 1 else c.down.made) is ∙ h.down_given (ap has_failed live) has is
 
-
     -- one item more of a lane is few
     last-up : c.up.is_open ≡ true → c.up.made + 1 ≤ MAX_ITEMS
     last-up o =

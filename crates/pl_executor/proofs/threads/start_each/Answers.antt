@@ -6,7 +6,7 @@ use denote.Param.Send.{param_send, arg_send, shr_send}
 use mir.Syntax.{named}
 use Rattle.pl_executor.specs.contracts.start.Start as start_row
 use Rattle.pl_executor.proofs.start.Start.TheSendSync as start
-use Rattle.pl_executor.proofs.Sends.{executor_send, parker_send, captured_send}
+use Rattle.pl_executor.proofs.Sends.{executor_send, left_send, parker_send, captured_send}
 use Rattle.pl_executor.proofs.threads.start_each.Goals as goal
 
 -- The closure has the executor, references to the runtime, the gate and the start, and the parker.
@@ -21,9 +21,15 @@ spawn_with-spawned-requires-send-F g c κs within =
     let begin = shr_send (named 9) κs.1.1.1.1.1.1.1.1.1.0 start_row.the_row start.the_sync in
     param_send _ _ (arg_send _ no _ (captured_send _ _ _ _ _ _ executor rt gate begin parker_send))
 
+pub spawn_with-spawned-requires-send-T : goal.spawn_with-spawned-requires-send-T
+spawn_with-spawned-requires-send-T g c κs within =
+    let b = c.type_bounds in
+    let left = left_send (param 1 g.row.W) (param 3 g.row.N) g.W.Named g.N.Part b.send-N in
+    param_send _ _ (arg_send _ no _ left)
+
 pub spawn_with-spawned-requires-clause-keeps : goal.spawn_with-spawned-requires-clause-keeps
 spawn_with-spawned-requires-clause-keeps g c κs within = λ r gave.
-    let Keeps : g.row.G.Denot → ℕ → ℕ → Type 0 = λ gate number turn. IfSome r (λ finished. (g.N.Part.home finished ≡ number) × g.G.Gate.was_entered gate number turn) in
+    let Keeps : g.row.G.Denot → ℕ → ℕ → Type 0 = λ gate number turn. IfSome r (λ finished. (g.N.Part.home finished.part ≡ number) × g.G.Gate.was_entered gate number turn) in
     let told = subst (λ gate. Keeps gate c.in-Some.executor.number c.in-Some.executor.turns) (sym c.of.ensures) gave in
     let numbered = subst (λ number. Keeps c.of.result.value number c.in-Some.executor.turns) (sym c.number.ensures) told in
     subst (λ turn. Keeps c.of.result.value c.number.result turn) (sym c.turns.ensures) numbered

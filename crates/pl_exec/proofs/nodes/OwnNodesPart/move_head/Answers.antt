@@ -1,5 +1,6 @@
-use Rattle.std.proofs.Common.{◌≡◌, slice_get, Some, refl, sym, ◌∙◌, arith}
-use Rattle.pl_part.specs.Parts.{head_hop}
+use Rattle.std.proofs.Common.{◌≡◌, ℕ, Bool, set, slice_get, Some, refl, ap, sym, subst, ◌∙◌, arith}
+use Rattle.std.proofs.lemmas.Option.{get_or_from_slice_get}
+use Rattle.pl_part.specs.Parts.{PartMoves, head_hop}
 use Rattle.pl_replay.proofs.Vecs.{put-back}
 use Rattle.pl_replay.proofs.HeadMoves.{moves-idle}
 use Rattle.pl_replay.proofs.OneChannel.{places-of, taken-none}
@@ -85,3 +86,20 @@ returns-clause-served g c =
     moves-once g.T.Transport.state g.W.Planned.plan ps channel p c.move_head.new.self (own g c) c.args.by
     (move-serves g.T.Transport.state g.T.Transport.may_refuse g.W.Named.world g.S.Stage.meaning g.S.Stage.stands_after p c.move_head.new.self c.args.work.now c.move_head.new.work c.args.by c.move_head.result
     (s.parts channel p (own g c)).holds c.move_head.ensures.moves (slice_get g.W.Planned.plan.channels channel) (λ q at. s.keeps.each channel q p at (own g c)))
+
+pub returns-clause-moved : goal.returns-clause-moved
+returns-clause-moved g c = λ made.
+    let n = c.args.self.now in
+    let channel = c.index-channel.result.now in
+    let at = sym (get_or_from_slice_get n.own.items c.args.at channel 0 (own-channel n.own.items c.args.at channel c.requires.there c.index-channel.ensures)) in (
+      refl,
+      record {
+        before = c.index_mut.result.now;
+        after = c.move_head.new.self;
+        was = subst (λ (k : ℕ). slice_get n.parts.items k ≡ Some c.index_mut.result.now) at (own g c);
+        becomes = ap (λ (k : ℕ). set n.parts.items k c.move_head.new.self) at;
+        same = c.move_head.ensures.given.puts.same;
+        done =
+            subst (λ (b : Bool). PartMoves g.T.Transport.state g.T.Transport.may_refuse c.index_mut.result.now c.args.by c.args.work.now b c.move_head.new.self c.move_head.new.work) made c.move_head.ensures.moves;
+      },
+    )

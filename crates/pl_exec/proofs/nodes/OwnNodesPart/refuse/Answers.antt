@@ -1,4 +1,4 @@
-use Rattle.std.proofs.Common.{◌≡◌, ◌<◌, length, slice_get, Some, refl, sym, ap, subst, arith, ◌∙◌}
+use Rattle.std.proofs.Common.{◌≡◌, ◌<◌, length, slice_get, Some, None, refl, sym, ap, subst, arith, ◌∙◌}
 use Rattle.std.proofs.lemmas.Option.{slice_get_read, slice_get_within}
 use Rattle.pl_event.proofs.Lists.{at_set_same}
 use Rattle.pl_event.specs.Worlds.{World}
@@ -12,6 +12,9 @@ use Rattle.pl_exec.proofs.MovedNodes.{places-stay, refuse-stands, none-stands}
 use Rattle.pl_exec.proofs.ServedNodes.{heads-equal, serves-none}
 use Rattle.pl_exec.proofs.nodes.OwnNodesPart.refuse.Goals as goal
 use Rattle.pl_exec.proofs.nodes.OwnNodesPart.refuse.Goals.{After-index_mut}
+
+some-none : {A : Type 0} (x : A) → Some x ≡ None → ⊥
+some-none x e = cc
 
 lent : (g : _) (c : After-index_mut g) → slice_get c.args.self.now.parts.items c.args.lane.channel ≡ Some c.index_mut.result.now
 lent g c =
@@ -89,3 +92,27 @@ returns-else-channel-len-clause-gave_up g c p x at kind here =
     let size = c.len.ensures ∙ c.args.self.now.parts.ok.0 in
     let past = c.if-channel-len.false in
     absurd (omega (arith, within, size, past))
+
+-- the part of its channel refuses it so, and no other part
+pub returns-then-channel-len-clause-refused_by : goal.returns-then-channel-len-clause-refused_by
+returns-then-channel-len-clause-refused_by g c = record {
+  here = λ p at. record {
+    before = c.index_mut.result.now;
+    after = c.refuse.new.self;
+    was = own g c;
+    becomes = refl;
+    same = c.refuse.ensures.refused.puts.same;
+    done = record { path = c.refuse.ensures.refuses; head = c.refuse.ensures.head };
+  };
+  none = λ at. absurd (some-none c.index_mut.result.now (sym (own g c) ∙ at));
+}
+
+pub returns-else-channel-len-clause-refused_by : goal.returns-else-channel-len-clause-refused_by
+returns-else-channel-len-clause-refused_by g c = record {
+  here = λ p at.
+      let within = slice_get_within c.args.self.now.parts.items c.args.lane.channel p at in
+      let size = c.len.ensures ∙ c.args.self.now.parts.ok.0 in
+      let past = c.if-channel-len.false in
+      absurd (omega (arith, within, size, past));
+  none = λ at. (refl, refl);
+}

@@ -64,3 +64,13 @@ pub returns-clause-served : goal.returns-clause-served
 returns-clause-served g c =
     serves-none g.T.Transport.state g.W.Planned.plan c.args.self.now.parts.items c.args.envelope.lane.channel c.index_mut.result.now c.take.new.self (own g c)
     (λ q. take-serves g.T.Transport.state g.S.Stage.meaning g.S.Stage.stands_after g.S.Stage.is_spent c.index_mut.result.now c.take.new.self c.args.envelope c.args.work.now c.take.new.work c.take.result c.take.ensures.puts.same c.take.ensures.takes q)
+
+pub returns-clause-took : goal.returns-clause-took
+returns-clause-took g c = record {
+  before = c.index_mut.result.now;
+  after = c.take.new.self;
+  was = own g c;
+  becomes = refl;
+  same = c.take.ensures.puts.same;
+  done = (c.take.result, c.take.ensures.takes);
+}

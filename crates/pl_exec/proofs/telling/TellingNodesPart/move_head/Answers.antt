@@ -2,7 +2,7 @@ use Rattle.std.proofs.Common.{ℕ, get_or, ap, sym, subst, ◌∙◌, arith}
 use Rattle.std.specs.Global.{Vec}
 use Rattle.std.proofs.lemmas.Option.{get_or_from_slice_get}
 use Rattle.pl_exec.specs.OwnNodes.{served_of}
-use Rattle.pl_exec.specs.Telling.{TellsAt}
+use Rattle.pl_exec.specs.Telling.{IsToldAt, TellsAt}
 use Rattle.pl_exec.proofs.HeadLists.{own-channel, own-within}
 use Rattle.pl_exec.proofs.ServedNodes.{told-moves}
 use Rattle.pl_exec.proofs.ToldNodes.{keeps-told, makes-told, telling-keeps, telling-told, told-took}
@@ -49,3 +49,15 @@ returns-clause-tells g c = λ _.
     let found = own-channel mid.own.items c.args.at c.index-channel.result.now (omega (arith, there, count)) c.index-channel.ensures in
     subst (TellsAt now.seats.items now.nodes.parts.items)
     (sym (ap (λ (v : Vec ℕ). get_or v.items c.args.at 0) c.tell.ensures.told.own ∙ get_or_from_slice_get mid.own.items c.args.at c.index-channel.result.now 0 found)) c.tell.ensures.tells
+
+pub returns-clause-moved : goal.returns-clause-moved
+returns-clause-moved g c = λ _.
+    let mid = c.move_head.new.self in
+    let now = c.tell.new.self in
+    let channel = c.index-channel.result.now in
+    let moved = c.move_head.ensures.moved (cc) in
+    let there = c.requires.there in
+    let count = c.move_head.ensures.keeps.counts in
+    let found = own-channel mid.own.items c.args.at channel (omega (arith, there, count)) c.index-channel.ensures in
+    let at = sym (ap (λ (v : Vec ℕ). get_or v.items c.args.at 0) (sym moved.0) ∙ get_or_from_slice_get mid.own.items c.args.at channel 0 found) in
+    record { between = mid.parts.items; done = moved.1; told = subst (λ (k : ℕ). IsToldAt mid.parts.items k now.nodes.parts.items) at c.tell.ensures.told.parts }

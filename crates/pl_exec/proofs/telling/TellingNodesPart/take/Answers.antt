@@ -39,3 +39,6 @@ returns-clause-served g c k =
 
 pub returns-clause-tells : goal.returns-clause-tells
 returns-clause-tells g c = c.tell.ensures.tells
+
+pub returns-clause-took : goal.returns-clause-took
+returns-clause-took g c = record { between = c.take.new.self.parts.items; done = c.take.ensures.took; told = c.tell.ensures.told.parts }

@@ -3,11 +3,11 @@ use Rattle.pl_event.specs.declared.envelopes.Envelope.{Envelope}
 use Rattle.pl_context.specs.Stops.{HasPlaces, StopsView}
 use Rattle.pl_context.specs.WaitingViews.{stops_for}
 use Rattle.pl_flow.specs.Flows.{IsNext}
-use Rattle.pl_outbox.specs.OutboxViews.{reached, is_cut, Adds, RefusedBy}
+use Rattle.pl_outbox.specs.OutboxViews.{reached, is_cut, Adds, Comes, RefusedBy}
 use Rattle.pl_outbox.proofs.AddSteps.{refused-some}
 use Rattle.pl_outbox.proofs.AdmissionLemmas.{admits_on, admits_front, admits_more, never-spent}
-use Rattle.pl_executor.specs.Cores.{Departs}
 use Rattle.pl_words.specs.declared.admission.Refused.{Refused}
+use Rattle.pl_words.specs.declared.admission.Refused.TheVariants.{Closed}
 use Rattle.pl_executor.proofs.RunLemmas.{own-number, own-good, own-taken, front-taken, away-there, away-next, away-placed, away-added, places-on, runs-on}
 use Rattle.pl_executor.proofs.TurnLemmas.{nothing-none}
 use Rattle.pl_executor.proofs.cores.Core.step.Goals as goal
@@ -111,32 +111,49 @@ returns-in-Ok-clause-holds g c = record {
       c.requires.holds.admits c.in-Some.ensures.front c.in-Some.ensures.stopped c.add.ensures.adds.made;
 }
 
--- ---- what is for another executor
+-- ---- where the front goes
 
-same-front : (x y : Envelope) (xs ys : List Envelope) → x ∷ xs ≡ y ∷ ys → x ≡ y
-same-front x y xs ys e = cc
+-- a direct call
+pub returns-then-target-self-clause-front : goal.returns-then-target-self-clause-front
+returns-then-target-self-clause-front g c = λ _. (
+  c.in-Some.envelope,
+  record {
+    rest = c.next.new.self;
+    is_front = record { items = c.in-Some.ensures.front; stopped = c.in-Some.ensures.stopped; room = c.in-Some.ensures.room };
+    here = λ e. (c.take.ensures.took, refl);
+    away = λ other. absurd (other (sym c.target-target.ensures ∙ c.if-target-self.true));
+  },
+)
 
-pub returns-then-target-self-clause-away : goal.returns-then-target-self-clause-away
-returns-then-target-self-clause-away g c x left front other =
-    absurd (other (subst (λ (e : Envelope). g.N.Part.target_of c.args.self.now.part e.lane ≡ c.args.self.now.number) (same-front c.in-Some.envelope x c.next.new.self.items left (sym c.in-Some.ensures.front ∙ front))
-    (sym c.target-target.ensures ∙ c.if-target-self.true)))
-
--- it is closed
-pub returns-in-Err-Closed-clause-away : goal.returns-in-Err-Closed-clause-away
-returns-in-Err-Closed-clause-away g c x left front other =
-    let part = c.args.self.now.part in
-    let o = c.args.self.now.outboxes in
-    subst (λ (e : Envelope). Departs g.N.Part.gave_up o (g.N.Part.target_of part e.lane) e c.refuse.new.self c.add.new.self) (same-front c.in-Some.envelope x c.next.new.self.items left (sym c.in-Some.ensures.front ∙ front))
-    (subst (λ (k : ℕ). Departs g.N.Part.gave_up o k c.in-Some.envelope c.refuse.new.self c.add.new.self) c.target-target.ensures
-    (inr (subst (λ (r : Refused). RefusedBy o c.target-target.result r c.add.new.self) c.in-Err-Closed.field-0-is c.in-Err-Closed.ensures.refused, c.refuse.ensures.gave_up)))
+-- the other executor is closed
+pub returns-in-Err-Closed-clause-front : goal.returns-in-Err-Closed-clause-front
+returns-in-Err-Closed-clause-front g c = λ _.
+    let o = c.args.self.now.outboxes in (
+      c.in-Some.envelope,
+      record {
+        rest = c.next.new.self;
+        is_front = record { items = c.in-Some.ensures.front; stopped = c.in-Some.ensures.stopped; room = c.in-Some.ensures.room };
+        here = λ e. absurd (c.if-target-self.false (c.target-target.ensures ∙ e));
+        away = λ _. inr (
+          subst (λ (k : ℕ). RefusedBy o k Closed c.add.new.self) c.target-target.ensures
+              (subst (λ (r : Refused). RefusedBy o c.target-target.result r c.add.new.self) c.in-Err-Closed.field-0-is c.in-Err-Closed.ensures.refused),
+          c.refuse.ensures.gave_up,
+          c.refuse.ensures.refused_by,
+        );
+      },
+    )
 
 -- it waits there
-pub returns-in-Ok-clause-away : goal.returns-in-Ok-clause-away
-returns-in-Ok-clause-away g c x left front other =
-    let part = c.args.self.now.part in
-    let o = c.args.self.now.outboxes in
-    subst (λ (e : Envelope). Departs g.N.Part.gave_up o (g.N.Part.target_of part e.lane) e part c.add.new.self) (same-front c.in-Some.envelope x c.next.new.self.items left (sym c.in-Some.ensures.front ∙ front))
-    (subst (λ (k : ℕ). Departs g.N.Part.gave_up o k c.in-Some.envelope part c.add.new.self) c.target-target.ensures (inl c.in-Ok.ensures.comes))
+pub returns-in-Ok-clause-front : goal.returns-in-Ok-clause-front
+returns-in-Ok-clause-front g c = λ _. (
+  c.in-Some.envelope,
+  record {
+    rest = c.next.new.self;
+    is_front = record { items = c.in-Some.ensures.front; stopped = c.in-Some.ensures.stopped; room = c.in-Some.ensures.room };
+    here = λ e. absurd (c.if-target-self.false (c.target-target.ensures ∙ e));
+    away = λ _. inl (subst (λ (k : ℕ). Comes c.args.self.now.outboxes k c.in-Some.envelope c.add.new.self) c.target-target.ensures c.in-Ok.ensures.comes, refl, refl);
+  },
+)
 
 -- ---- its seat is not spent
 

@@ -6,5 +6,6 @@ use Rattle.pl_executor.proofs.executors.Executor.run.Given as goal
 abbrev pub invariant-loop : goal.invariant-loop
 invariant-loop g l =
     (l.self.number ≡ l.fn.self.number)
+    × (l.self.owner.name ≡ l.fn.self.owner.name)
     × g.G.Gate.was_entered l.fn.gate l.fn.self.number l.fn.self.turns
     × (l.turn ≡ Done → (is_closed l.self.owner.phase ≡ true) × g.N.Part.are_over l.self.part × ((y : ℕ) → waits_for l.self.outboxes y ≡ []))

@@ -1,8 +1,12 @@
-use Rattle.std.proofs.Common.{◌≡◌, ◌+◌, ◌<◌, ◌^◌, ℕ, List, sym, ap, subst, ◌∙◌}
+use Rattle.std.proofs.Common.{◌≡◌, ◌+◌, ◌<◌, ◌^◌, ℕ, List, false, sym, ap, subst, ◌∙◌}
 use Rattle.pl_queue.specs.declared.views.TakeCount.{TakeCount}
 use Rattle.pl_queue.specs.declared.views.TakerView.{TakerView}
-use Rattle.pl_queue.specs.Views.{set_take_count}
-use Rattle.pl_executor.specs.Running.{IsTaking, IsCounting}
+use Rattle.pl_event.specs.declared.envelopes.Envelope.{Envelope}
+use Rattle.pl_queue.specs.Views.{after_take, set_take_count}
+use Rattle.pl_outbox.specs.OutboxViews.{OutboxesView, is_closed}
+use Rattle.pl_executor.specs.Cores.{WorksOff}
+use Rattle.pl_executor.specs.Running.{ExecutorView, IsTaking, IsCounting}
+use Rattle.pl_executor.specs.Turning.{TakesTask}
 use Rattle.pl_executor.proofs.CountLemmas.{counts-take}
 use Rattle.pl_executor.proofs.RunLemmas.{taking-taken, taking-stays}
 use Rattle.pl_executor.proofs.executors.Executor.run_task.Goals as goal
@@ -45,6 +49,35 @@ invariant_of-self g c =
       c.self.invariant.4,
       subst (λ (t : TakerView). IsCounting c.self.inside.owner c.self.inside.is_closed c.self.inside.run t.pops) (sym c.in-None.ensures.taken.0) c.self.invariant.5,
       c.self.invariant.6,
+    )
+
+pub returns-in-Some-clause-task : goal.returns-in-Some-clause-task
+returns-in-Some-clause-task g c = λ _.
+    let core = c.self.inside.core in
+    let mid = c.take-in-Some.new.self in
+    let after = c.work_off.new.self in
+    let takes = g.M.Mailbox.takes_of c.take.new.taker in
+    let new : ExecutorView g.row.N.Denot = record { number = after.number; part = after.part; outboxes = after.outboxes; takes = takes; owner = c.self.inside.owner; turns = c.self.inside.turns } in
+    subst
+    (λ (old : ExecutorView g.row.N.Denot). (is_closed old.owner.phase ≡ false) × (x : Envelope) × (takes ≡ after_take old.takes x)
+    × TakesTask g.N.Part.target_of g.N.Part.took g.N.Part.refused_by g.N.Part.gave_up x old new)
+    c.self.view_is (
+      sym c.self.invariant.5.closed ∙ c.if-self.false,
+      c.in-Some.envelope,
+      c.in-Some.ensures.taken.3,
+      record {
+        work = core.work;
+        empty = c.self.invariant.1;
+        works = record {
+          part = mid.part;
+          work = mid.work;
+          done = c.take-in-Some.ensures.took;
+          works =
+              subst
+              (λ (z : ℕ × OutboxesView). WorksOff g.N.Part.target_of g.N.Part.took g.N.Part.refused_by g.N.Part.gave_up z.0 (record { part = mid.part; outboxes = z.1; work = mid.work }) after.part after.outboxes)
+              (λ i. (c.take-in-Some.ensures.keeps.number i, c.take-in-Some.ensures.outboxes i)) c.work_off.ensures.works;
+        };
+      },
     )
 
 pub returns-in-None-clause-task : goal.returns-in-None-clause-task
