@@ -1,4 +1,4 @@
-//! What a channel is to read.
+//! What a burst brings.
 
 ghost use Rattle.std.specs.Prelude.{◌≡◌};
 ghost use Rattle.pl_event.specs.Inputs.{element_event, element_size};

@@ -120,6 +120,7 @@ impl<M: Mapping> OneForOne<M> {
         ensures ok { OnOk result (made.new.items ≡ made.old.items ++ M.made_of self.old.mapping event ∷ []) }
         ensures open { IfOk result (λ turned. turned ≡ Turned.Open) }
         ensures err { OnErr result (made.new.items ≡ made.old.items) }
+        ensures unspent { OnOk result (self.new.is_spent ≡ false) }
         ensures fault { OnErr result (self.new.is_spent ≡ true) }
         ensures spent { self.old.is_spent ≡ true → IsErr result }
     {

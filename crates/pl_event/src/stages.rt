@@ -1,6 +1,6 @@
 //! What a handler of a pipeline is: the trait `Stage`, and its law.
 
-ghost use Rattle.std.specs.Prelude.{◌≡◌, Bool, true, List, [], ◌∷◌, ◌++◌, IfOk, IsErr, OnErr};
+ghost use Rattle.std.specs.Prelude.{◌≡◌, Bool, false, true, List, [], ◌∷◌, ◌++◌, IfOk, IsErr, OnOk, OnErr};
 ghost use Rattle.pl_event.specs.declared.events.Event.{Event};
 ghost use Rattle.pl_event.specs.Meaning.{Meaning, IsLawful, IsPrefixOf, up_of, down_of, turned_after};
 ghost use Rattle.pl_event.specs.Paths.{is_turn, is_outbound};
@@ -68,8 +68,8 @@ pub type Stepped = Result<Turned, StageFault>;
 /// - after whichever events it stood, it now stands after those and this one (`stands`);
 /// - it has added to the end of each list what this event makes after those, and nothing else (`up`, `down`);
 /// - it answers `Ended` exactly where it has quit after them (`turned`);
-/// - or it answers a fault, and the same at each further step (`fault`, `spent`), and the lists are as they were
-///   (`up_kept`, `down_kept`).
+/// - or it answers a fault, and the same at each further step (`fault`, `spent`; no other step leaves it spent:
+///   `unspent`), and the lists are as they were (`up_kept`, `down_kept`).
 ///
 /// The law of a meaning (`lawful`), and what would break without it:
 ///
@@ -121,7 +121,8 @@ pub trait Stage: Drop {
         ensures down { IfOk result (λ turned. (xs : List Event) → stands_after self.old xs → down.new.items ≡ down.old.items ++ (meaning self.old).down xs event) }
         ensures turned { IfOk result (λ turned. (xs : List Event) → stands_after self.old xs → turned ≡ turned_after (meaning self.old) (xs ++ event ∷ [])) }
 
-        // A fault adds nothing, and comes again from then on.
+        // Only a fault leaves it spent. That adds nothing, and comes again from then on.
+        ensures unspent { OnOk result (is_spent self.new ≡ false) }
         ensures fault { OnErr result (is_spent self.new ≡ true) }
         ensures spent { is_spent self.old ≡ true → IsErr result }
         ensures up_kept { OnErr result (up.new.items ≡ up.old.items) }

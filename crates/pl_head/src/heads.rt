@@ -542,6 +542,7 @@ impl<T: Transport> Head<T> {
         ensures bytes { IfOk result (λ parts. parts.0 ≡ (T.state self.now.transport).accepted) }
         ensures prefix { IfOk result (λ parts. (ys zs : List Event) (sizes : List Change) → StandsAfter T.state self.now ys zs sizes
             → parts.0 ≡ take (length (T.state self.now.transport).accepted) (out ys)) }
+        ensures view { IfOk result (λ parts. parts.1 ≡ self.now.buffer.outcomes) }
         ensures outcomes { IfOk result (λ parts. (ys zs : List Event) (sizes : List Change) → StandsAfter T.state self.now ys zs sizes
             → HasOutcomes T.state self.now ys zs parts.1) }
     {
@@ -556,6 +557,7 @@ impl<T: Transport> Head<T> {
         ensures bytes { IfOk result (λ written. written.bytes ≡ (T.state self.transport).accepted) }
         ensures prefix { IfOk result (λ written. (ys zs : List Event) (sizes : List Change) → StandsAfter T.state self ys zs sizes
             → written.bytes ≡ take (length (T.state self.transport).accepted) (out ys)) }
+        ensures view { IfOk result (λ written. written.outcomes ≡ self.buffer.outcomes) }
         ensures outcomes { IfOk result (λ written. (ys zs : List Event) (sizes : List Change) → StandsAfter T.state self ys zs sizes
             → HasOutcomes T.state self ys zs written.outcomes) }
     {

@@ -28,7 +28,7 @@ const MAX_UNRUNG: u32 = 56;
 pub enum Offered {
     /// It is in the queue.
     Handed,
-    /// The queue was full at some moment of the call. It waits where it did.
+    /// The queue answered that it is full. It waits where it did.
     Full,
     /// Nothing waits for that target.
     Nothing,

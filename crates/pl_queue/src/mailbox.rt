@@ -15,7 +15,7 @@ use pl_event::{Envelope, Lane, Named};
 use std::alloc::{AllocError, Global};
 use std::sync::Wait;
 
-/// The queue was full at some moment of the call. Hands the envelope back; the sender is as it was.
+/// The queue answered that it is full. Hands the envelope back; the sender is as it was.
 #[derive(Debug, Drop)]
 pub struct Full {
     pub envelope: Envelope,
@@ -90,7 +90,7 @@ pub trait Mailbox<W: Named>: Sized {
     /// is the next one there and below 2^32, and it fits the world. The lane's next number and the count of pushes rise by
     /// one, this envelope is the one pushed last, and nothing else of the sender changes.
     ///
-    /// Error: `Full` hands the same envelope back. The queue was full at some moment of the call, and the sender is as it was.
+    /// Error: `Full` hands the same envelope back. The queue answered that it is full, and the sender is as it was.
     fn offer<R: Wait>(
         &self,
         rt: &R,

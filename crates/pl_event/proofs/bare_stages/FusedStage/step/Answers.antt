@@ -11,11 +11,11 @@ cut_back {A = A} before made left n begins same cut =
 pub returns-in-Ok : goal.returns-in-Ok
 returns-in-Ok g c =
     let h = c.in-Ok.ensures in
-    record { same_meaning = h.same_meaning; stands = h.stands; up = h.up; down = h.down; turned = h.turned; fault = tt; spent = λ spent. sym c.if-self.false ∙ spent; up_kept = tt; down_kept = tt }
+    record { same_meaning = h.same_meaning; stands = h.stands; up = h.up; down = h.down; turned = h.turned; unspent = c.if-self.false; fault = tt; spent = λ spent. sym c.if-self.false ∙ spent; up_kept = tt; down_kept = tt }
 
 pub returns-in-Err : goal.returns-in-Err
 returns-in-Err g c =
     let h = c.in-Err.ensures in
     let up = cut_back _ _ _ _ h.up_begins (c.len-up_before.ensures ∙ c.args.up.now.ok.0) c.truncate.ensures.items in
     let down = cut_back _ _ _ _ h.down_begins (c.len-down_before.ensures ∙ c.args.down.now.ok.0) c.truncate-in-Err.ensures.items in
-    record { same_meaning = h.same_meaning; stands = tt; up = tt; down = tt; turned = tt; fault = refl; spent = λ spent. refl; up_kept = up; down_kept = down }
+    record { same_meaning = h.same_meaning; stands = tt; up = tt; down = tt; turned = tt; unspent = tt; fault = refl; spent = λ spent. refl; up_kept = up; down_kept = down }
