@@ -10,10 +10,14 @@ use std::process::Abort;
 use std::sync::Wait;
 use std::sync::atomic::{AtomicU64, Ordering};
 use std::test::Fail;
+use std::thread;
 use std::thread::Threads;
 
 /// How often an executor looks for another.
 const LOOKS: u32 = 10_000_000;
+
+/// How often it looks for a turn that is not to come.
+const LOOKS_WHILE_FULL: u32 = 100_000;
 
 /// The first turn of each of two executors waits until the other's has begun.
 #[derive(Default, Drop)]
@@ -63,6 +67,35 @@ impl Gate for Counting {
         };
         if turns.fetch_add(1, Ordering::SeqCst) != turn {
             self.wrong.fetch_add(1, Ordering::SeqCst);
+        }
+    }
+}
+
+/// The first turn of executor 1 waits until executor 0 has begun its turn 7, as long as it may.
+#[derive(Drop)]
+struct Behind {
+    looks: u32,
+    /// How many turns executor 0 has begun.
+    begun: AtomicU64,
+    /// Executor 1 has seen the turn that it waited for.
+    seen: AtomicU64,
+}
+
+impl Gate for Behind {
+    fn enter(&self, executor: u16, turn: u64) {
+        if executor == 0 {
+            self.begun.store(turn.saturating_add(1), Ordering::SeqCst);
+            return;
+        }
+        if turn > 0 {
+            return;
+        }
+        for _ in 0..self.looks {
+            if self.begun.load(Ordering::SeqCst) > 7 {
+                self.seen.store(1, Ordering::SeqCst);
+                return;
+            }
+            thread::yield_now();
         }
     }
 }
@@ -118,6 +151,30 @@ fn turns_are_told_in_order(rt: HostRuntime) -> Result<(), Fail> {
         // `Active`, the line, `ReadComplete` and the end go to each of the two, at most one in each turn.
         assert!(rt; counting.first.load(Ordering::SeqCst) >= 4);
         assert!(rt; counting.second.load(Ordering::SeqCst) >= 4);
+    }
+    Ok(())
+}
+
+/// While executor 1 takes nothing, executor 0 hands over `Active`, the line, `ReadComplete` and the end in its turns 1, 3, 4 and
+/// 6, each where there is room. Where it finds a ring full it goes on: it reads the end in the place of that, and rests after two
+/// turns in which nothing moved. Where a waiting queue is full it makes no further turn.
+#[test]
+fn queue_holds_its_capacity(rt: HostRuntime) -> Result<(), Fail> {
+    for (queue, capacity, looks, seen) in [
+        (QueueKind::Ring, 3, LOOKS, 1),
+        (QueueKind::Ring, 2, LOOKS_WHILE_FULL, 0),
+        (QueueKind::Waiting, 4, LOOKS, 1),
+        (QueueKind::Waiting, 3, LOOKS_WHILE_FULL, 0),
+    ] {
+        let session = decoded_apart(rt.alloc(), capacity)?;
+        let behind = Behind {
+            looks,
+            begun: AtomicU64::new(0),
+            seen: AtomicU64::new(0),
+        };
+        let report = ran(&rt, rt.alloc(), session.as_str(), queue, &behind);
+        assert!(rt; is_drained(report, 1));
+        assert_eq!(rt; behind.seen.load(Ordering::SeqCst), seen);
     }
     Ok(())
 }
