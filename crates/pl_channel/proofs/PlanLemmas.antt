@@ -1,5 +1,5 @@
 -- The nodes of a channel go on as its plan has them.
-use Rattle.std.proofs.Common.{◌≡◌, ℕ, suc, ◌+◌, ◌-◌, ◌<◌, ◌^◌, ◌≢◌, ◌==◌, ◌||◌, ◌&&◌, Bool, true, false, not, leb, ltb, List, length, Option, Some, None, refl, ap, sym, ◌∙◌, subst, inl, inr, ◌⊎◌, ⊎_elim, arith}
+use Rattle.std.proofs.Common.{◌≡◌, ℕ, suc, ◌+◌, ◌-◌, ◌<◌, ◌≤◌, ◌^◌, ◌≢◌, ◌==◌, ◌||◌, ◌&&◌, Bool, true, false, not, leb, ltb, List, length, Option, Some, None, refl, ap, sym, ◌∙◌, subst, inl, inr, ◌⊎◌, ⊎_elim, arith}
 use Rattle.std.specs.Prelude.{is_some, min}
 use Rattle.std.proofs.lemmas.List.{length-map}
 use Rattle.std.proofs.lemmas.Bool.{and_parts, both_ways, cases_Bool, cases_eq, cond-true, leb-false, leb-true, lt-ltb, or_left, or_parts, or_right}
@@ -27,8 +27,8 @@ use Rattle.pl_head.specs.HeadStand.{HeadView, lane_over, Answers, first_cause, c
 use Rattle.pl_part.specs.HeadCalls.{HeadTakes, HeadReads, HeadWrites}
 use Rattle.pl_part.specs.Parts.{ChannelPartView, PartTakes, PartReads, PartWrites, SamePart, head_hop}
 use Rattle.pl_world.specs.Plans.{ChannelPlan, read_plan}
-use Rattle.pl_world.specs.Reports.{CallsKeepToPlan, accepted_by, failed_calls, head_of}
-use Rattle.pl_world.proofs.PlannedCalls.{offered-whole}
+use Rattle.pl_world.specs.Reports.{CallsKeepToPlan, accepted_by, failed_calls, head_of, most_by}
+use Rattle.pl_world.proofs.PlannedCalls.{offered-further, offered-whole}
 use Rattle.pl_channel.specs.PlanStand.{HeadKeepsPlan, PartKeepsPlan}
 use Rattle.pl_channel.proofs.HeadLanes.{HeadBegins}
 
@@ -67,6 +67,7 @@ module _ (c : Cause) (f f' : Option Cause) (is : FailsFor c f f') where
     calls-stay p calls accepted k = record {
       failed = λ e. k.failed (failed-before Transport no-transport e);
       told = λ at told some small. subst (λ (n : ℕ). calls - n < at) (sym same-calls) (k.told at told some small);
+      most = subst (λ (n : ℕ). accepted ≤ most_by (flushed_writes (head_of p)) (calls - n)) (sym same-calls) k.most;
       window = λ w is. subst (λ (n : ℕ). accepted ≡ accepted_by w (flushed_writes (head_of p)) (calls - n)) (sym same-calls) (k.window w is);
     }
 
@@ -292,6 +293,7 @@ module _ {T : Type 0} (state : T → TransportState) (p : ChannelPlan) where
                 absurd (w.told n is (k.fail_at ∙ told ∙ ap (λ (m : ℕ). Some m) same)))
                 (λ (other : suc k.calls ≢ at). omega (arith, fewer, before, after, other))
                 (cases_eq (suc k.calls) at);
+            most = accepts-most n is none now;
             window = λ size at. accepts n is none now size at;
           })
           (w.sound n is ∙ k.failures ∙ ap failed_calls (none ∙ sym now))
@@ -306,22 +308,45 @@ module _ {T : Type 0} (state : T → TransportState) (p : ChannelPlan) where
           no-some : (c : Cause) → None ≡ Some c → ⊥
           no-some c e = cc
 
-          accepts : (n : ℕ) → answer ≡ step.Wrote n → h.failure ≡ None → h'.failure ≡ None → (size : ℕ) → p.window ≡ Some size
-              → length (state h'.transport).accepted ≡ accepted_by size (flushed_writes (head_of p)) (suc k.calls - failed_calls h'.failure)
-          accepts n is none now size at =
-              let all = flushed_writes (head_of p) in
+          all : List (Option (List ℕ))
+          all = flushed_writes (head_of p)
+
+          -- what it is offered is the same of the whole lane
+          offers : (n : ℕ) → answer ≡ step.Wrote n → offered 0 (length (state h.transport).accepted) all ≡ offered 0 (length (state h.transport).accepted) (flushed_writes begins.ys)
+          offers n is =
               let accepted = length (state h.transport).accepted in
-              let so_far : accepted ≡ accepted_by size all k.calls =
-              k.called.window size at ∙ ap (λ (m : ℕ). accepted_by size all m) (let b = none-fails none in let e : k.calls - failed_calls h.failure ≡ k.calls = omega (arith, b) in e) in
-              let left : accepted < length (out begins.ys) =
-              leb-false (length (out begins.ys)) accepted
+              offered-whole accepted begins.ys (head_of p) begins.first
+              (leb-false (length (out begins.ys)) accepted
               (or_parts (is_some h.failure) (leb (length (out begins.ys)) accepted)
-              (not-idle (is_some h.failure || leb (length (out begins.ys)) accepted) (λ (i : (is_some h.failure || leb (length (out begins.ys)) accepted) ≡ true). wrote-idle n (sym is ∙ (w.waits begins.ys begins.zs begins.sizes begins.after).1 i)))).1 in
-              let offers = offered-whole accepted begins.ys (head_of p) begins.first left in
+              (not-idle (is_some h.failure || leb (length (out begins.ys)) accepted) (λ (i : (is_some h.failure || leb (length (out begins.ys)) accepted) ≡ true). wrote-idle n (sym is ∙ (w.waits begins.ys begins.zs begins.sizes begins.after).1 i)))).1)
+
+          sound-before : h.failure ≡ None → k.calls - failed_calls h.failure ≡ k.calls
+          sound-before none = let b = none-fails none in omega (arith, b)
+
+          sound-after : h'.failure ≡ None → suc k.calls ≡ suc k.calls - failed_calls h'.failure
+          sound-after now = let b = ap failed_calls now in omega (arith, b)
+
+          accepts-most : (n : ℕ) → answer ≡ step.Wrote n → h.failure ≡ None → h'.failure ≡ None
+              → length (state h'.transport).accepted ≤ most_by all (suc k.calls - failed_calls h'.failure)
+          accepts-most n is none now =
+              let accepted = length (state h.transport).accepted in
+              let so_far : accepted ≤ most_by all k.calls = subst (λ (m : ℕ). accepted ≤ most_by all m) (sound-before none) k.called.most in
+              let further = offered-further 0 accepted (most_by all k.calls) all so_far in
+              let within = w.within n begins.ys begins.zs begins.sizes is begins.after in
+              let wrote = w.wrote n is in
+              let same = offers n is in
+              let one_more : length (state h'.transport).accepted ≤ most_by all (suc k.calls) = omega (arith, further, within, wrote, same) in
+              subst (λ (m : ℕ). length (state h'.transport).accepted ≤ most_by all m) (sound-after now) one_more
+
+          accepts : (n : ℕ) → answer ≡ step.Wrote n → h.failure ≡ None → h'.failure ≡ None → (size : ℕ) → p.window ≡ Some size
+              → length (state h'.transport).accepted ≡ accepted_by size all (suc k.calls - failed_calls h'.failure)
+          accepts n is none now size at =
+              let accepted = length (state h.transport).accepted in
+              let so_far : accepted ≡ accepted_by size all k.calls = k.called.window size at ∙ ap (λ (m : ℕ). accepted_by size all m) (sound-before none) in
               w.wrote n is
-              ∙ ap (λ (m : ℕ). accepted + m) (w.full n size begins.ys begins.zs begins.sizes is begins.after (k.window ∙ at) ∙ ap (λ (m : ℕ). min m size) (sym offers))
+              ∙ ap (λ (m : ℕ). accepted + m) (w.full n size begins.ys begins.zs begins.sizes is begins.after (k.window ∙ at) ∙ ap (λ (m : ℕ). min m size) (sym (offers n is)))
               ∙ ap (λ (a : ℕ). a + min (offered 0 a all) size) so_far
-              ∙ ap (λ (m : ℕ). accepted_by size all m) (let b = ap failed_calls now in let e : suc k.calls ≡ suc k.calls - failed_calls h'.failure = omega (arith, b) in e)
+              ∙ ap (λ (m : ℕ). accepted_by size all m) (sound-after now)
       by step.Failed is =
           let writes = λ (e : answer ≡ step.Idle). failed-idle (sym is ∙ e) in
           let none = sound-write h.failure answer w.rests writes in
@@ -333,6 +358,11 @@ module _ {T : Type 0} (state : T → TransportState) (p : ChannelPlan) where
           (record {
             failed = λ e. omega arith;
             told = λ at told some small. subst (λ (m : ℕ). m < at) same (k.called.told at told some small);
+            most =
+                let most = k.called.most in
+                let kept : length (state h'.transport).accepted ≡ length (state h.transport).accepted = ap (λ (l : List ℕ). length l) (w.kept is) in
+                let stays = ap (λ (m : ℕ). most_by (flushed_writes (head_of p)) m) same in
+                omega (arith, most, kept, stays);
             window = λ size at. ap (λ (l : List ℕ). length l) (w.kept is) ∙ k.called.window size at ∙ ap (λ (m : ℕ). accepted_by size (flushed_writes (head_of p)) m) same;
           })
           (w.failed is ∙ (let failures = k.failures in let e : counted (state h.transport).failures ≡ failed_calls h'.failure = omega (arith, failures, before, after) in e))

@@ -104,6 +104,7 @@ module _ {S T : Type 0} (meaning : S → Meaning) (state : T → TransportState)
     called = record {
       failed = λ e. absurd (none-some Transport (sym new.failure ∙ e));
       told = λ at told some small. subst (λ (f : Option Cause). 0 - failed_calls f < at) (sym new.failure) some;
+      most = let none = ap (λ (s : TransportState). length s.accepted) is in omega (arith, none);
       window = λ w at. ap (λ (s : TransportState). length s.accepted) is
           ∙ ap (λ (f : Option Cause). accepted_by w (flushed_writes (head_of p)) (0 - failed_calls f)) (sym new.failure);
     };

@@ -126,6 +126,11 @@ abbrev pub accepted_by : ℕ → List (Option (List ℕ)) → ℕ → ℕ
 accepted_by w writes zero = 0
 accepted_by w writes (suc n) = accepted_by w writes n + min (offered 0 (accepted_by w writes n) writes) w
 
+-- How many bytes so many calls have accepted at most, none of which failed: each all that is left of one of these messages.
+abbrev pub most_by : List (Option (List ℕ)) → ℕ → ℕ
+most_by writes zero = 0
+most_by writes (suc n) = most_by writes n + offered 0 (most_by writes n) writes
+
 -- how many calls of its transport have failed, where a head has failed by itself for this cause: the last one, or none
 abbrev pub failed_calls : Option Cause → ℕ
 failed_calls None = 0
@@ -135,11 +140,13 @@ failed_calls (Some Aborted) = 0
 failed_calls (Some Refused) = 0
 
 -- So many calls of a transport that accepted so many bytes are as the plan has them, where the head has failed by itself for
--- this cause or not. Fewer than k of them have not failed, if the transport was told to fail at call k; and where its window
--- is known, they have accepted what so many calls accept of the flushed writes of the head's whole lane.
+-- this cause or not. Fewer than k of them have not failed, if the transport was told to fail at call k, a call number from 1 to
+-- 2 ^ 64 - 1. These have accepted at most what so many calls accept of the flushed writes of the head's whole lane; and where
+-- the window is known, just what so many calls of it accept.
 pub record CallsKeepToPlan (p : ChannelPlan) (failure : Option Cause) (calls accepted : ℕ) : Type 0 where
   pub failed : failure ≡ Some Transport → 0 < calls
   pub told : (k : ℕ) → p.fail_at ≡ Some k → 0 < k → k < 2 ^ 64 → calls - failed_calls failure < k
+  pub most : accepted ≤ most_by (flushed_writes (head_of p)) (calls - failed_calls failure)
   pub window : (w : ℕ) → p.window ≡ Some w → accepted ≡ accepted_by w (flushed_writes (head_of p)) (calls - failed_calls failure)
 
 -- Tail and head took what the plan brings to them, and the calls of the transport are as it has them. The head aborts itself
