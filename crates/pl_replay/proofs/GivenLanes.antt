@@ -1,5 +1,5 @@
 -- What a context that has not failed has given its lanes, by what its channel holds.
-use Rattle.std.proofs.Common.{◌≡◌, ◌==◌, ◌+◌, ◌≤◌, Bool, true, false, not, List, length, take, slice_get, Option, Some, ap, sym, ◌∙◌, refl, arith}
+use Rattle.std.proofs.Common.{◌≡◌, ◌==◌, ◌+◌, ◌&&◌, ◌||◌, Bool, true, false, not, List, length, take, slice_get, Option, Some, ap, sym, ◌∙◌, refl, arith}
 use Rattle.std.specs.Option.{option_map_or}
 use Rattle.std.proofs.lemmas.Bool.{both_ways, cond-true, cond-false}
 use Rattle.std.proofs.lemmas.List.{take_all}
@@ -14,13 +14,13 @@ use Rattle.pl_context.specs.declared.standing.Standing.{Standing}
 use Rattle.pl_context.specs.declared.standing.Standing.TheVariants as stands
 use Rattle.pl_context.specs.Standings.{is_over, has_failed}
 use Rattle.pl_context.specs.ContextViews.{ContextView, has_up, has_down}
-use Rattle.pl_flow.specs.Flows.{Point, nowhere}
+use Rattle.pl_flow.specs.Flows.{point, nowhere}
 use Rattle.pl_head.specs.Transports.{TransportState}
 use Rattle.pl_part.specs.ContextHolds.{HoldsWith, port_point, ports_came, context_came}
 use Rattle.pl_part.specs.Paths.{context_at, writer_hop, path_came}
 use Rattle.pl_part.specs.Parts.{ChannelPartView, part_came}
 use Rattle.pl_replay.specs.Channels.{ChannelsStand, came_of}
-use Rattle.pl_replay.specs.Given.{HasGiven, given_next}
+use Rattle.pl_replay.specs.Given.{HasGiven, given}
 
 -- ---- how far the lanes of three ports have come
 
@@ -37,16 +37,17 @@ came-down false true up down flags has apart = cond-true (same_lane down.lane do
 came-down true false up down flags has apart = absurd (both_ways false refl has)
 came-down false false up down flags has apart = absurd (both_ways false refl has)
 
--- what a port was given, by how far its lane has come
-at-port : (made : List Event) (p : Port) → (p.is_open ≡ true → p.made ≡ length made) → (p.is_open ≡ false → p.made ≡ length made + 1) → (came : Point) → came ≡ port_point p → came.next ≡ given_next made came.over
-at-port made p opened closed came to = by p.is_open refl
-  where
-    over : (o : Bool) → p.is_open ≡ o → came.over ≡ not o
-    over o is = ap (λ (q : Point). q.over) to ∙ ap not is
+-- so far has come what a port was given, which is open or closed
+at-port : (made : List Event) (p : Port) (over : Bool) → p.is_open ≡ not over → (p.is_open ≡ true → p.made ≡ length made) → (p.is_open ≡ false → p.made ≡ length made + 1) → port_point p ≡ given made over
+at-port made p true shut opened closed = λ i. point (closed shut i) (not (shut i))
+at-port made p false shut opened closed =
+    let all : p.made ≡ length made + 0 = let n = opened shut in omega (arith, n) in
+    λ i. point (all i) (not (shut i))
 
-    by : (o : Bool) → p.is_open ≡ o → came.next ≡ given_next made came.over
-    by true is = ap (λ (q : Point). q.next) to ∙ opened is ∙ omega arith ∙ ap (given_next made) (sym (over true is))
-    by false is = ap (λ (q : Point). q.next) to ∙ closed is ∙ ap (given_next made) (sym (over false is))
+-- a lane that is open where its stage has it and goes on
+open-while : (has ended : Bool) → has ≡ true → (has && not ended) ≡ not ended
+open-while true ended is = refl
+open-while false ended is = absurd (both_ways false refl is)
 
 -- ---- one lane
 
@@ -77,20 +78,43 @@ module _ {S T : Type 0} (world : World) (meaning : S → Meaning) (stands_after 
         by stands.Ended is = let whole = w.ended is in w.up_given is has ∙ ap (λ zs. length (up_of (meaning c.stage) zs) + 1) (sym (take_all c.taken events (omega (arith, whole))))
         by (stands.Failed cause) is = absurd (both_ways (has_failed c.standing) sound (ap has_failed is))
 
+    -- whether a data lane of a context that has not failed is over
+    up-over : has_up (meaning c.stage).direction ≡ true → c.up.is_open ≡ not (is_over c.standing)
+    up-over has = by c.standing refl
+      where
+        by : (s : Standing) → c.standing ≡ s → c.up.is_open ≡ not (is_over c.standing)
+        by stands.Open is = w.up_open is ∙ has ∙ sym (ap (λ (s : Standing). not (is_over s)) is)
+        by stands.Ended is = let over = ap is_over is in w.up_over over ∙ sym (ap not over)
+        by (stands.Failed cause) is = let over = ap is_over is in w.up_over over ∙ sym (ap not over)
+
+    down-over : has_down (meaning c.stage).direction ≡ true → c.down.is_open ≡ not (is_over c.standing || (meaning c.stage).ended (take c.taken events))
+    down-over has = by c.standing refl
+      where
+        quit : Bool
+        quit = (meaning c.stage).ended (take c.taken events)
+
+        by : (s : Standing) → c.standing ≡ s → c.down.is_open ≡ not (is_over c.standing || quit)
+        by stands.Open is = w.down_open is ∙ open-while (has_down (meaning c.stage).direction) quit has ∙ sym (ap (λ (s : Standing). not (is_over s || quit)) is)
+        by stands.Ended is = w.down_over (ap is_over is) ∙ sym (ap (λ (s : Standing). not (is_over s || quit)) is)
+        by (stands.Failed cause) is = w.down_over (ap is_over is) ∙ sym (ap (λ (s : Standing). not (is_over s || quit)) is)
+
   pub has-given : HasGiven meaning world c l (came_of meaning ps l)
   has-given =
       let h = ((stand.parts l.channel part at).holds.path.contexts (writer_hop part.path l.hop) c writer).0 in
       let d = (meaning c.stage).direction in
       let w = h.holds in
+      let took = take c.taken h.events in
       record {
         events = h.events;
         own = w.wired.own;
         within = w.within;
         all = w.ended;
         up = λ has is.
-            let to = came-writer ∙ ap (context_came d c) is ∙ came-up (has_up d) (has_down d) c.up c.down c.flags has in
-            at-port (up_of (meaning c.stage) (take c.taken h.events)) c.up (λ o. (w.stood (live h.events w c.up.is_open o w.up_over)).above o) (up-closed h.events w has) (came_of meaning ps l) to;
+            came-writer ∙ ap (context_came d c) is ∙ came-up (has_up d) (has_down d) c.up c.down c.flags has
+            ∙ at-port (up_of (meaning c.stage) took) c.up (is_over c.standing) (up-over h.events w has)
+            (λ o. (w.stood (live h.events w c.up.is_open o w.up_over)).above o) (up-closed h.events w has);
         down = λ has is.
-            let to = came-writer ∙ ap (context_came d c) is ∙ came-down (has_up d) (has_down d) c.up c.down c.flags has w.wired.apart in
-            at-port (down_of (meaning c.stage) (take c.taken h.events)) c.down (λ o. (w.stood (live h.events w c.down.is_open o w.down_over)).below o) (w.down_given sound has) (came_of meaning ps l) to;
+            came-writer ∙ ap (context_came d c) is ∙ came-down (has_up d) (has_down d) c.up c.down c.flags has w.wired.apart
+            ∙ at-port (down_of (meaning c.stage) took) c.down (is_over c.standing || (meaning c.stage).ended took) (down-over h.events w has)
+            (λ o. (w.stood (live h.events w c.down.is_open o w.down_over)).below o) (w.down_given sound has);
       }

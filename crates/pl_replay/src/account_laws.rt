@@ -49,8 +49,8 @@ pub fn account_law<S: Stage, T: Transport>()
         → (l : Lane) → writes_of S.meaning net.nodes.parts.items l ≡ true → origin_of net.nodes.parts.items l ≡ target_of net.nodes.parts.items l
         → (handed_of (channels_view S.meaning net.nodes.parts.items) net.executors.items l ≡ taken_of net.nodes.parts.items l)
         × (made_of (channels_view S.meaning net.nodes.parts.items) net.executors.items backlogs l ≡ taken_of net.nodes.parts.items l) }
-    // A lane that a context writes which has not failed has come so far as what its stage makes of the events that it has
-    // taken, with the end where the lane is over.
+    // A data lane that a context writes which has not failed has come so far as what its stage makes of the events that it has
+    // taken, with the end just where the context has ended or, downwards, its stage has quit.
     ensures given { (plan : Plan) (backlogs : ℕ → List (Entry Unit)) (net : Core (Channels S T)) → NetStands S.meaning S.stands_after T.state plan backlogs net
         → (l : Lane) (part : ChannelPartView S T) (c : ContextView S) → slice_get net.nodes.parts.items l.channel ≡ Some part → (l.hop == 0) ≡ false → context_at part.path (writer_hop part.path l.hop) ≡ Some c → has_failed c.standing ≡ false
         → HasGiven S.meaning (world_of false plan) c l (came_of S.meaning net.nodes.parts.items l) }
