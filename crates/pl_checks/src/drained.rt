@@ -107,12 +107,7 @@ fn cr_inside_line(rt: HostRuntime) -> Result<(), Fail> {
 
 #[test]
 fn totals(rt: HostRuntime) -> Result<(), Fail> {
-    drains(
-        &rt,
-        sessions::TOTALS,
-        "R0x4 O0x4",
-        "channel 0 drained\ntail 6\nActive\nRead Add a 7\nRead Add b 1\nRead Add a 5\nRead Get a\nReadComplete\nbytes 18 3a370d0a3a310d0a3a31320d0a3a31320d0a\nwrites 4\n0 Success\n1 Success\n2 Success\n3 Success\n",
-    )
+    drains(&rt, sessions::TOTALS, "R0x4 O0x4", sessions::TOTALS_REPORT)
 }
 
 #[test]

@@ -9,6 +9,8 @@ mod every_allocation_refused;
 #[cfg(test)]
 mod failed;
 #[cfg(test)]
+mod failing_streams;
+#[cfg(test)]
 mod fair;
 #[cfg(test)]
 mod program;

@@ -1,7 +1,7 @@
-//! The program on any words, readers and writers: its statuses, its lines on standard error, and what it reads.
+//! The program on any words and inputs: its statuses, its lines on standard error, and what it leaves of its input.
 
-use crate::running::{Runtime, answers, answers_on, ran_on, replays, status_of};
-use crate::streams::{Failing, Interrupted, Repeated, Slow};
+use crate::running::{Runtime, answers, answers_on, replays};
+use crate::streams::Failing;
 use pl_build::BuildFault;
 use pl_replay::replay;
 use pl_text::{MovesFault, SessionFault, read_moves, read_session};
@@ -10,11 +10,12 @@ use pl_tool::refuse_words;
 use pl_world::ReplayFault;
 use std::alloc::Global;
 use std::io;
-use std::io::{ErrorKind, Write};
+use std::io::ErrorKind;
 use std::process::Abort;
 use std::test::Fail;
 
-const USAGE: &str = "usage: pl_tool replay [--moves MOVES] | run --queue waiting|ring | plain\n";
+pub(crate) const USAGE: &str =
+    "usage: pl_tool replay [--moves MOVES] | run --queue waiting|ring | plain\n";
 
 /// What in the session's text is put in another's place so that its pipelines are not built, the fault, and its line.
 const UNBUILT: [(&str, &str, BuildFault, &str); 7] = [
@@ -226,16 +227,7 @@ fn plain_of_a_session(rt: HostRuntime) -> Result<(), Fail> {
     answers(&rt, &["plain"], none.as_bytes(), 0, "", "")
 }
 
-/// Whether a writer that fails after so many bytes of the session's report ends the program with status 4.
-fn is_output_refused(rt: &impl Runtime, word: &str, room: usize) -> Result<bool, Fail> {
-    let mut reader = PING_SESSION.as_bytes();
-    let mut out = Failing { room };
-    let mut err = Vec::new(rt.alloc());
-    let status = status_of(rt, &[word], &mut reader, &mut out, &mut err)?;
-    Ok(status == 4 && out.room == 0 && err.as_slice() == b"output refused\n".as_slice())
-}
-
-/// Of `plain` too, nothing is printed of what is not a session, or where the writer fails.
+/// Of `plain` too, nothing is printed of what is not a session.
 #[test]
 fn plain_of_no_session(rt: HostRuntime) -> Result<(), Fail> {
     for (input, told) in [
@@ -245,7 +237,6 @@ fn plain_of_no_session(rt: HostRuntime) -> Result<(), Fail> {
     ] {
         refuses(&rt, &["plain"], input, told)?;
     }
-    assert!(rt; is_output_refused(&rt, "plain", 20)?);
     Ok(())
 }
 
@@ -267,99 +258,6 @@ fn refused_builds(rt: HostRuntime) -> Result<(), Fail> {
     for (part, other, _, told) in UNBUILT {
         let text = PING_SESSION.replace(rt.alloc(), part, other)?;
         refuses(&rt, &["replay"], text.as_bytes(), told)?;
-    }
-    Ok(())
-}
-
-#[test]
-fn input_that_is_no_text(rt: HostRuntime) -> Result<(), Fail> {
-    refuses(&rt, &["replay"], b"\xff", "session refused: 1 NotJson\n")
-}
-
-#[test]
-fn failing_reads(rt: HostRuntime) -> Result<(), Fail> {
-    for (byte, at_once, fails_after, reads, want) in [
-        (b'{', 1, 0, 0, "input refused\n"),
-        (b'{', 1, 1, 1, "input refused\n"),
-        (0xff, 1, 1, 1, "input refused\n"),
-        (0xff, 8_192, 1 << 63, 4_097, "session refused: 5 Limit\n"),
-        (b'[', 16, 1 << 63, 2_097_153, "session refused: 5 Limit\n"),
-    ] {
-        let mut reader = Repeated {
-            byte,
-            at_once,
-            reads_left: fails_after,
-        };
-        answers_on(&rt, &["replay"], &mut reader, 3, "", want)?;
-        assert_eq!(rt; fails_after.saturating_sub(reader.reads_left), reads);
-    }
-    Ok(())
-}
-
-/// An interrupted read is one of the reads that may be made.
-#[test]
-fn interrupted_reads(rt: HostRuntime) -> Result<(), Fail> {
-    let of_each_byte = (PING_SESSION.len() as u64)
-        .saturating_mul(2)
-        .saturating_add(2);
-    for (at_once, times, tries, status, out, err) in [
-        (8_192, 1, 4, 0, PING_REPORT, ""),
-        (1, 1, of_each_byte, 0, PING_REPORT, ""),
-        (8_192, 16_777_215, 33_554_432, 0, PING_REPORT, ""),
-        (8_192, 16_777_216, 33_554_433, 3, "", "input refused\n"),
-    ] {
-        let mut reader = Interrupted {
-            text: PING_SESSION.as_bytes(),
-            at_once,
-            times,
-            left: times,
-            tries: 0,
-        };
-        let line = ["replay", "--moves=R0x3 O0"];
-        answers_on(&rt, &line, &mut reader, status, out, err)?;
-        assert_eq!(rt; reader.tries, tries);
-    }
-    Ok(())
-}
-
-/// The status of a line that is not read, whose usage this writer is told.
-fn status_of_no_line(rt: &impl Runtime, err: &mut Slow) -> Result<u8, Fail> {
-    let mut out = Vec::new(rt.alloc());
-    status_of(rt, &["fly"], &mut b"".as_slice(), &mut out, err)
-}
-
-/// A line is cut where its writer takes no more.
-#[test]
-fn slow_second_writer(rt: HostRuntime) -> Result<(), Fail> {
-    for (at_once, room, times, tries, told) in [
-        (1_000, 1_000, 0, 1, USAGE.len()),
-        (1_000, 1_000, 1, 2, USAGE.len()),
-        (1, 1_000, 0, USAGE.len() as u64, USAGE.len()),
-        (
-            1,
-            1_000,
-            1,
-            (USAGE.len() as u64).saturating_mul(2),
-            USAGE.len(),
-        ),
-        (8, 20, 0, 4, 20),
-        (8, 0, 0, 1, 0),
-        (1_000, 1_000, 1 << 63, 1_000_000, 0),
-    ] {
-        let mut err = Slow {
-            taken: Vec::new(rt.alloc()),
-            at_once,
-            room,
-            times,
-            left: times,
-            tries: 0,
-        };
-        assert_eq!(rt; status_of_no_line(&rt, &mut err)?, 2);
-        assert_eq!(rt; err.tries, tries);
-        assert_eq!(rt;
-            err.taken.as_slice(),
-            &USAGE.as_bytes()[..told.min(USAGE.len())]
-        );
     }
     Ok(())
 }
@@ -432,37 +330,4 @@ fn lines_of_faults(rt: HostRuntime) -> Result<(), Fail> {
     refuses_moves(&rt, "R00", MovesFault::Form)?;
     refuses_moves(&rt, "R0x1000000 R0", MovesFault::Limit)?;
     refuses_replay(&rt)
-}
-
-#[test]
-fn failing_writes(rt: HostRuntime) -> Result<(), Fail> {
-    for room in [0, 1, 20] {
-        assert!(rt; is_output_refused(&rt, "replay", room)?, "after {room}");
-    }
-    Ok(())
-}
-
-/// The status of a line of one word whose second writer takes nothing.
-fn status_untold<W: Write>(
-    rt: &impl Runtime,
-    word: &str,
-    input: &[u8],
-    out: &mut W,
-) -> Result<u8, Fail> {
-    let mut reader = input;
-    let mut err = Failing { room: 0 };
-    status_of(rt, &[word], &mut reader, out, &mut err)
-}
-
-#[test]
-fn failing_second_writer(rt: HostRuntime) -> Result<(), Fail> {
-    for (word, want) in [("fly", 2), ("replay", 3)] {
-        let mut out = Vec::new(rt.alloc());
-        assert_eq!(rt; status_untold(&rt, word, b"", &mut out)?, want);
-        assert_eq!(rt; out.len(), 0);
-    }
-    let mut out = Failing { room: 0 };
-    let status = status_untold(&rt, "replay", PING_SESSION.as_bytes(), &mut out)?;
-    assert_eq!(rt; status, 4);
-    Ok(())
 }

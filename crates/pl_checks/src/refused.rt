@@ -1,9 +1,8 @@
 //! Sessions and schedules that are refused: the status, the line on standard error, and nothing on standard output.
 
-use crate::running::{Runtime, replays};
-use crate::sessions::{
-    DECODER_APART, PING, hex_session, line_protocol, line_session, piped, versioned,
-};
+use crate::running::{Runtime, answers, replays};
+use crate::sessions::{DECODER_APART, hex_session, line_protocol, line_session, piped, versioned};
+use pl_text_tests::PING_SESSION;
 use std::alloc::AllocError;
 use std::test::Fail;
 
@@ -24,6 +23,58 @@ fn refused_sessions(rt: HostRuntime) -> Result<(), Fail> {
         ),
     ] {
         refuses(&rt, text, "R0", 3, line)?;
+    }
+    Ok(())
+}
+
+/// The session of a ping, cut off wherever it may be, arrays that are nested too deep, and a chunk that is no text.
+#[test]
+fn truncated_session(rt: HostRuntime) -> Result<(), Fail> {
+    let line = "session refused: 1 NotJson\n";
+    for end in 0..PING_SESSION.len() {
+        let prefix = PING_SESSION.get(..end).ok_or("the session is ASCII")?;
+        refuses(&rt, prefix, "", 3, line)?;
+    }
+    let deep = "[".repeat(rt.alloc(), 200)?;
+    refuses(&rt, deep.as_str(), "", 3, line)?;
+    let mut no_text = Vec::from_slice(rt.alloc(), PING_SESSION.as_bytes())?;
+    for byte in no_text.as_mut_slice() {
+        if *byte == b'P' {
+            *byte = 0xff;
+        }
+    }
+    answers(&rt, &["replay"], no_text.as_slice(), 3, "", line)
+}
+
+/// Members of the session of a ping that are of another kind or past a limit, and pipelines and groups that are not built.
+#[test]
+fn hostile_members(rt: HostRuntime) -> Result<(), Fail> {
+    let kind = "session refused: 4 Kind\n";
+    let limit = "session refused: 5 Limit\n";
+    for (part, other, line) in [
+        (r#""version":1"#, r#""version":1.5"#, kind),
+        (r#""version":1"#, r#""version":"1""#, kind),
+        (r#""max":64"#, r#""max":0"#, limit),
+        (r#""max":64"#, r#""max":-1"#, kind),
+        (r#""loops":1"#, r#""loops":65"#, limit),
+        (
+            r#""bursts":"#,
+            r#""handlers":[],"bursts":"#,
+            "session refused: 6 Build 5 NoTurn\n",
+        ),
+        (
+            r#""bursts":"#,
+            r#""low":9,"high":8,"bursts":"#,
+            "session refused: 6 Build 7 Marks\n",
+        ),
+        (
+            r#""loops":1"#,
+            r#""loops":1,"groups":[{"name":"g","size":0}]"#,
+            "session refused: 6 Build 3 Limit\n",
+        ),
+    ] {
+        let text = PING_SESSION.replace(rt.alloc(), part, other)?;
+        refuses(&rt, text.as_str(), "", 3, line)?;
     }
     Ok(())
 }
@@ -156,12 +207,26 @@ fn group_refusals(rt: HostRuntime) -> Result<(), Fail> {
     Ok(())
 }
 
-/// A channel or an executor that is not there refuses the whole replay, wherever it is named.
+/// Moves that are none or too many, and a channel or an executor that is not there, which refuses the whole replay
+/// wherever it is named.
 #[test]
-fn refused_moves(rt: HostRuntime) -> Result<(), Fail> {
-    let text = line_session(&rt, PING)?;
-    for moves in ["R1", "R0x3 O0 O1", "T1", "R0 H7 R0"] {
-        refuses(&rt, text.as_str(), moves, 2, "replay refused: 1 NoSuch\n")?;
+fn hostile_moves(rt: HostRuntime) -> Result<(), Fail> {
+    let form = "moves refused: 1 Form\n";
+    let no_such = "replay refused: 1 NoSuch\n";
+    for (moves, line) in [
+        (" R0", form),
+        ("R00", form),
+        ("R65536", form),
+        ("R0x0", form),
+        ("R0x1000001", form),
+        ("R0x1000000 R0", "moves refused: 2 Limit\n"),
+        ("R5", no_such),
+        ("R1", no_such),
+        ("R0x3 O0 O1", no_such),
+        ("T1", no_such),
+        ("R0 H7 R0", no_such),
+    ] {
+        refuses(&rt, PING_SESSION, moves, 2, line)?;
     }
     Ok(())
 }

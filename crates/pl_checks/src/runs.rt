@@ -99,25 +99,25 @@ fn group_placing(rt: HostRuntime) -> Result<(), Fail> {
     Ok(())
 }
 
-/// The decoder and the service, each on an executor of its own: every item goes there and back, through a ring of one too.
-#[test]
-fn totals_across_groups(rt: HostRuntime) -> Result<(), Fail> {
-    for capacity in [1, 16] {
-        let text = sessions::totals_across_groups(&rt, capacity, "")?;
-        for _ in 0..100 {
-            drains(&rt, text.as_str(), QueueKind::Ring)?;
-        }
+/// Says that additions over queues of so many items are reported as on one executor, a hundred times in a row.
+fn adds_up(rt: &impl Runtime, capacity: u16, queue: &str) -> Result<(), Fail> {
+    let text = sessions::totals_across_groups(rt, capacity, "")?;
+    for _ in 0..100 {
+        running::runs(rt, text.as_str(), queue, 0, sessions::TOTALS_REPORT)?;
     }
     Ok(())
 }
 
+/// The decoder and the service, each on an executor of its own: every item goes there and back, through a ring of one too.
+#[test]
+fn totals_across_groups(rt: HostRuntime) -> Result<(), Fail> {
+    adds_up(&rt, 1, "ring")?;
+    adds_up(&rt, 16, "ring")
+}
+
 #[test]
 fn totals_across_groups_waiting(rt: HostRuntime) -> Result<(), Fail> {
-    let text = sessions::totals_across_groups(&rt, 16, "")?;
-    for _ in 0..100 {
-        drains(&rt, text.as_str(), QueueKind::Waiting)?;
-    }
-    Ok(())
+    adds_up(&rt, 16, "waiting")
 }
 
 /// Says that the one channel of a session with these further members has this failure, whichever the queue.

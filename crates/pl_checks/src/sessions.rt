@@ -22,6 +22,10 @@ pub(crate) const CR_INSIDE_LINE: LineSession = (64, r#"[["ECHO a\r\r\n"]]"#);
 
 pub(crate) const TOTALS: LineSession = (64, r#"[["ADD a 7\nADD b 1\nADD a 5\nGET a\n"]]"#);
 
+/// The whole report of these additions, wherever their handlers are.
+pub(crate) const TOTALS_REPORT: &str =
+    "channel 0 drained\ntail 6\nActive\nRead Add a 7\nRead Add b 1\nRead Add a 5\nRead Get a\nReadComplete\nbytes 18 3a370d0a3a310d0a3a31320d0a3a31320d0a\nwrites 4\n0 Success\n1 Success\n2 Success\n3 Success\n";
+
 pub(crate) const LEADING_ZERO: LineSession = (64, r#"[["ADD a 0123\n"]]"#);
 
 pub(crate) const NINE_DIGITS: LineSession = (

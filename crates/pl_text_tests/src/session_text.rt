@@ -233,7 +233,7 @@ fn truncated_session(rt: HostRuntime) -> Result<(), Fail> {
     Ok(())
 }
 
-/// Members of the top object.
+/// Members of the top object, and a channel without handlers or with its marks the wrong way round.
 #[test]
 fn hostile_members(rt: HostRuntime) -> Result<(), Fail> {
     let part = r#""version":1,"capacity":4,"loops":1"#;
@@ -261,8 +261,16 @@ fn hostile_members(rt: HostRuntime) -> Result<(), Fail> {
         )?;
         assert_replaced(&rt, (part, other.as_str()), fault)?;
     }
-    assert_replaced(&rt, (r#"[{"handlers""#, r#"[7,{"handlers""#), KIND)?;
-    assert_replaced(&rt, (r#"{"handlers""#, r#"{"more""#), MISSING)?;
+    let no_turn = Some(SessionFault::Build(BuildFault::NoTurn));
+    let marks = Some(SessionFault::Build(BuildFault::Marks));
+    for (part, other, fault) in [
+        (r#"[{"handlers""#, r#"[7,{"handlers""#, KIND),
+        (r#"{"handlers""#, r#"{"more""#, MISSING),
+        (r#""bursts":"#, r#""handlers":[],"bursts":"#, no_turn),
+        (r#""bursts":"#, r#""low":9,"high":8,"bursts":"#, marks),
+    ] {
+        assert_replaced(&rt, (part, other), fault)?;
+    }
     Ok(())
 }
 
