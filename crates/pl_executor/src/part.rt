@@ -68,10 +68,10 @@ pub trait Part<W: Named>: Sized {
     /// What the node that an item enters makes of it, with the work list before and after.
     ghost took: { Self → Envelope → OutputsView → Self → OutputsView → Type 0 };
 
-    /// What becomes of them where an item of a lane is refused, so.
+    /// What becomes of them where an item of a lane is refused, with the work list before and after.
     ghost refused_by: { Self → Lane → OutputsView → Self → OutputsView → Type 0 };
 
-    /// What the head of the channel at a place does in a move, so.
+    /// What the head of the channel at a place does in a move, with the work list before and after.
     ghost moved: { Self → HeadMove → ℕ → OutputsView → Self → OutputsView → Type 0 };
 
     /// The executor that a lane enters.

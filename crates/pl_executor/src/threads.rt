@@ -18,7 +18,7 @@ use std::sync::Wait;
 use std::thread;
 use std::thread::{PromisedHandle, Scope, Threads};
 
-/// Why there is nothing of executors. Where `run_all` answers it, none of them made a turn.
+/// Why nothing comes back of any executor. Where `run_all` answers it, none of them made a turn.
 #[derive(Clone, Copy, Debug, PartialEq, Eq)]
 pub enum RunFault {
     /// Out of memory.
