@@ -1,7 +1,7 @@
 -- What is true of channels that are ready to start.
 use Rattle.std.proofs.Common.{◌≡◌, ℕ, suc, ◌+◌, ◌<◌, ◌≤◌, ◌^◌, List, [], ◌∷◌, length, map, slice_get, Some, refl, ap, ap₂, sym, ◌∙◌, subst, arith, true}
 use Rattle.std.specs.Prelude.{All}
-use Rattle.std.specs.List.{range_with_len}
+use Rattle.std.specs.List.{AllZip, range_with_len}
 use Rattle.std.specs.Option.{option_map}
 use Rattle.std.proofs.lemmas.Option.{slice_get_within, slice_get-map}
 use Rattle.std.proofs.lemmas.List.{length-map}
@@ -11,7 +11,7 @@ use Rattle.pl_event.specs.declared.events.Event.{Event}
 use Rattle.pl_event.specs.Meaning.{Meaning}
 use Rattle.pl_event.proofs.Lists.{All-at}
 use Rattle.pl_event.specs.Worlds.{World}
-use Rattle.pl_executor.specs.Running.{ExecutorView}
+use Rattle.pl_executor.specs.Running.{ExecutorView, FinishedView, EndsAs}
 use Rattle.pl_head.specs.Transports.{TransportState}
 use Rattle.pl_part.specs.Parts.{ChannelPartView}
 use Rattle.pl_queue.specs.declared.views.SenderView.{SenderView}
@@ -76,6 +76,14 @@ pub executors-in-order : {P N : Type 0} (first : P → ExecutorView N) (executor
 executors-in-order {P = P} {N = N} first executors nodes count parts size numbered =
     numbered-in-order (λ (e : P). (first e).number) executors 0 (λ i e at. (numbered i (first e) (slice_get-map first executors i ∙ ap (option_map first) at)).numbered ∙ omega arith)
     ∙ ap (range_with_len 0) (sym (length-map executors (λ (e : P). (first e).part)) ∙ ap length parts ∙ size)
+
+-- The nodes of executors that have ended are those of their numbers, in their order.
+pub ended-homes : {P N : Type 0} (first : P → ExecutorView N) (home : N → ℕ) (executors : List P) (all : List (FinishedView N)) → AllZip (λ e f. EndsAs home (first e).number (first e).owner f) executors all
+    → map (λ f. home f.part) all ≡ map (λ e. (first e).number) executors
+ended-homes first home [] [] h = refl
+ended-homes first home [] (f ∷ fs) h = absurd h
+ended-homes first home (e ∷ es) [] h = absurd h
+ended-homes first home (e ∷ es) (f ∷ fs) h = ap₂ (λ (n : ℕ) (ns : List ℕ). n ∷ ns) h.0.at_home (ended-homes first home es fs h.1)
 
 -- What holds of the first turn of each such executor holds of the turn 0 of each number.
 pub first-turns : {P N : Type 0} (first : P → ExecutorView N) (executors : List P) (nodes : List N) (count : ℕ) (W : ℕ → ℕ → Type 0) → map (λ e. (first e).part) executors ≡ nodes → length nodes ≡ count

@@ -48,13 +48,22 @@ pub record IsCounting (owner : OwnerSeatView) (shut : Bool) (ran pops : ℕ) : T
   pub run : ran ≡ min pops (2 ^ 64 - 1)
   pub count : is_closed owner.phase ≡ true → owner.run ≡ pops
 
--- What an executor leaves: its nodes, its right to close its queue, and what waits for others.
-pub record LeftView (N : Type 0) : Type 0 where
+-- What an executor leaves: its number, its nodes, its right to close its queue, and what waits for others.
+pub record FinishedView (N : Type 0) : Type 0 where
+  pub number : ℕ
   pub part : N
   pub owner : OwnerSeatView
   pub waiting : WaitingView AdmittedView
 
 -- Its queue is closed, and nothing waits.
-pub record HasLeft {N : Type 0} (l : LeftView N) : Type 0 where
-  pub closed : is_closed l.owner.phase ≡ true
-  pub drained : (y : ℕ) → waits_in l.waiting y ≡ []
+pub record IsFinished {N : Type 0} (f : FinishedView N) : Type 0 where
+  pub closed : is_closed f.owner.phase ≡ true
+  pub drained : (y : ℕ) → waits_in f.waiting y ≡ []
+
+-- The executor of this number, with this right to its own queue, has ended so: its nodes are those of its number, and the right
+-- is that to the same queue.
+pub record EndsAs {N : Type 0} (home : N → ℕ) (me : ℕ) (owner : OwnerSeatView) (f : FinishedView N) : Type 0 where
+  pub number : f.number ≡ me
+  pub at_home : home f.part ≡ me
+  pub name : f.owner.name ≡ owner.name
+  pub finished : IsFinished f

@@ -3,12 +3,14 @@ use Rattle.std.specs.Prelude.{◌≡◌, ◌≢◌, ◌⊎◌, ℕ, false, List,
 use Rattle.std.specs.Option.{option_map}
 use Rattle.pl_event.specs.declared.envelopes.Envelope.{Envelope}
 use Rattle.pl_event.specs.declared.envelopes.Lane.{Lane}
+use Rattle.pl_flow.specs.declared.moves.HeadMove.{HeadMove}
+use Rattle.pl_flow.specs.declared.moves.HeadMove.TheVariants.{Read, Out}
 use Rattle.pl_context.specs.OutputsViews.{OutputsView}
 use Rattle.pl_context.specs.WaitingViews.{Entry, Holds}
 use Rattle.pl_queue.specs.declared.views.SenderView.{SenderView}
 use Rattle.pl_queue.specs.Views.{after_offer, after_take}
-use Rattle.pl_words.specs.Admissions.{AdmittedView}
-use Rattle.pl_outbox.specs.OutboxViews.{OutboxesView, sends_for, waits_for, oldest_untried, SameFor, SendsNothing, is_closed}
+use Rattle.pl_words.specs.Admissions.{AdmittedView, OwnerSeatView}
+use Rattle.pl_outbox.specs.OutboxViews.{OutboxesView, Sends, sends_for, waits_for, oldest_untried, SameFor, SendsNothing, is_closed}
 use Rattle.pl_executor.specs.Cores.{WorksOffAfter}
 use Rattle.pl_executor.specs.Running.{ExecutorView}
 
@@ -35,12 +37,6 @@ SendsAtMostOne o o' = SendsNone o o' ⊎ SendsOne o o'
 abbrev pub TakesAtMostOne : {N : Type 0} → ExecutorView N → ExecutorView N → Type 0
 TakesAtMostOne e e' = (e'.takes ≡ e.takes) ⊎ ((is_closed e.owner.phase ≡ false) × (x : Envelope) × (e'.takes ≡ after_take e.takes x))
 
--- A node took what was taken from the queue, with nothing on the work list before, and that list was worked off.
-pub record TakesTask {N : Type 0} (target_of : N → Lane → ℕ) (took : N → Envelope → OutputsView → N → OutputsView → Type 0) (refused_by : N → Lane → OutputsView → N → OutputsView → Type 0) (gave_up : N → Lane → Type 0) (task : Envelope) (e e' : ExecutorView N) : Type 0 where
-  pub work : OutputsView
-  pub empty : work.items ≡ []
-  pub works : WorksOffAfter target_of took refused_by gave_up e.number (took e.part task work) e.outboxes e'.part e'.outboxes
-
 -- Nothing was taken, handed over, read or written.
 pub record IsStill {N : Type 0} (e e' : ExecutorView N) : Type 0 where
   pub part : e'.part ≡ e.part
@@ -55,8 +51,61 @@ pub record OnlyServes {N : Type 0} (e e' : ExecutorView N) : Type 0 where
   pub owner : e'.owner ≡ e.owner
   pub turns : e'.turns ≡ e.turns
 
--- The first turn of an executor in its thread, and who was told of it.
-pub record FirstTurn (G : Type 0) : Type 0 where
+-- ---- what it does, one after another
+
+-- At most one was handed over: the first that waited for some target. Only what waits, and what was sent, may have changed.
+pub record Hands {N : Type 0} (e e' : ExecutorView N) : Type 0 where
+  pub same : e' ≡ record e { outboxes = e'.outboxes }
+  pub sends : ((y : ℕ) → SameFor e.outboxes e'.outboxes y) ⊎ ((target : ℕ) × Sends e.outboxes target e'.outboxes)
+
+module _ {N : Type 0} (target_of : N → Lane → ℕ) (took : N → Envelope → OutputsView → N → OutputsView → Type 0) (refused_by : N → Lane → OutputsView → N → OutputsView → Type 0) (gave_up : N → Lane → Type 0) where
+  -- A node took what was taken from the queue, with nothing on the work list before, and that list was worked off.
+  pub record TakesTask (task : Envelope) (e e' : ExecutorView N) : Type 0 where
+    pub work : OutputsView
+    pub empty : work.items ≡ []
+    pub works : WorksOffAfter target_of took refused_by gave_up e.number (took e.part task work) e.outboxes e'.part e'.outboxes
+
+  -- One item was taken from the queue, which is not closed, and a node took that one.
+  abbrev pub TakesOne : ExecutorView N → ExecutorView N → Type 0
+  TakesOne e e' = (is_closed e.owner.phase ≡ false) × (x : Envelope) × (e'.takes ≡ after_take e.takes x) × TakesTask x e e'
+
+  -- Nothing was taken, or one item; its number, its right to its queue and its turn are as they were.
+  pub record Tasks (e e' : ExecutorView N) : Type 0 where
+    pub number : e'.number ≡ e.number
+    pub owner : e'.owner ≡ e.owner
+    pub turns : e'.turns ≡ e.turns
+    pub takes : (e' ≡ e) ⊎ TakesOne e e'
+
+  module _ (moved : N → HeadMove → ℕ → OutputsView → N → OutputsView → Type 0) where
+    -- The head of the channel at a place made a move, with nothing on the work list before, and that list was worked off.
+    pub record MovesHead (by : HeadMove) (at : ℕ) (e e' : ExecutorView N) : Type 0 where
+      pub work : OutputsView
+      pub empty : work.items ≡ []
+      pub works : WorksOffAfter target_of took refused_by gave_up e.number (moved e.part by at work) e.outboxes e'.part e'.outboxes
+
+    -- It made one, or none; nothing else was done.
+    pub record Moves (by : HeadMove) (at : ℕ) (e e' : ExecutorView N) : Type 0 where
+      pub serves : OnlyServes e e'
+      pub moves : (e' ≡ e) ⊎ MovesHead by at e e'
+
+    -- The head of one channel made a read step and then a write, or one of these, or none.
+    pub record ServesOne (e e' : ExecutorView N) : Type 0 where
+      pub at : ℕ
+      pub between : ExecutorView N
+      pub reads : Moves Read at e between
+      pub writes : Moves Out at between e'
+
+    -- At most one was handed over, then at most one taken, then at most one channel served.
+    pub record Turns (e e' : ExecutorView N) : Type 0 where
+      pub handed : ExecutorView N
+      pub ran : ExecutorView N
+      pub hands : Hands e handed
+      pub tasks : Tasks handed ran
+      pub serves : ServesOne ran e'
+
+-- The executor that a thread is to run, by its number and its right to its queue, its first turn there, and who is told of it.
+pub record Threaded (G : Type 0) : Type 0 where
   pub gate : G
   pub number : ℕ
   pub turn : ℕ
+  pub owner : OwnerSeatView

@@ -12,9 +12,9 @@ ghost use Rattle.pl_words.specs.Admissions.{AdmittedView, OwnerSeatView, new_own
 ghost use Rattle.pl_outbox.specs.Admitting.{FewLanes};
 ghost use Rattle.pl_outbox.specs.OutboxViews.{admissions, waits_for, is_closed, SomeClosed, SameFor, Sends, SendsNothing, oldest_untried};
 ghost use Rattle.pl_executor.specs.declared.executors.Turn.TheVariants.{Worked, Idle, Done};
-ghost use Rattle.pl_executor.specs.Running.{HasLeft, Runs, IsTaking};
+ghost use Rattle.pl_executor.specs.Running.{EndsAs, IsFinished, Runs, IsTaking};
 ghost use Rattle.pl_executor.specs.Serving.{ServesNone, MovesAtMostOnce, ServesAtMostOnce};
-ghost use Rattle.pl_executor.specs.Turning.{SendsAtMostOne, TakesAtMostOne, TakesTask, IsStill, OnlyServes};
+ghost use Rattle.pl_executor.specs.Turning.{SendsAtMostOne, TakesAtMostOne, TakesOne, IsStill, OnlyServes, MovesHead, ServesOne, Turns};
 
 use crate::cores::Core;
 use crate::finished::Finished;
@@ -135,6 +135,8 @@ where
         ensures sends { SendsAtMostOne self.old.outboxes self.new.outboxes }
         // No channel makes more than one read step, or more than one call of its transport.
         ensures served { ServesAtMostOnce (N.served self.old.part) (N.served self.new.part) }
+        // What it did, one after another; its own queue and the turn's number aside.
+        ensures does { Turns N.target_of N.took N.refused_by N.gave_up N.moved self.old (record self.new { owner = self.old.owner; turns = self.old.turns }) }
         ensures idle { result ≢ Worked → IsStill self.old self.new × ((c : ℕ) → c < N.count self.new.part → (by : HeadMove) → N.may_move self.new.part by c false) }
         ensures done { result ≡ Done → (is_closed self.new.owner.phase ≡ true) × N.are_over self.new.part × ((y : ℕ) → waits_for self.new.outboxes y ≡ []) }
         ensures name { self.new.owner.name ≡ self.old.owner.name }
@@ -166,6 +168,7 @@ where
         ensures takes { TakesAtMostOne self.old self.new }
         ensures sends { SendsAtMostOne self.old.outboxes self.new.outboxes }
         ensures served { ServesAtMostOnce (N.served self.old.part) (N.served self.new.part) }
+        ensures does { Turns N.target_of N.took N.refused_by N.gave_up N.moved self.old self.new }
         ensures idle { result ≡ false → IsStill self.old self.new × ((c : ℕ) → c < N.count self.new.part → (by : HeadMove) → N.may_move self.new.part by c false) }
     {
         let handed = self.hand(rt, gate).is_some();
@@ -182,8 +185,7 @@ where
     pub fn run_task<R: Wait, G: Gate>(&mut self, rt: &R, gate: &G) -> bool
         requires entered { G.was_entered gate.now self.old.number self.old.turns }
         ensures number { self.new.number ≡ self.old.number }
-        ensures task { result ≡ true → (is_closed self.old.owner.phase ≡ false) × (x : Envelope) × (self.new.takes ≡ after_take self.old.takes x)
-            × TakesTask N.target_of N.took N.refused_by N.gave_up x self.old self.new }
+        ensures task { result ≡ true → TakesOne N.target_of N.took N.refused_by N.gave_up self.old self.new }
         ensures none { result ≡ false → self.new ≡ self.old }
         ensures sends { SendsNothing self.old.outboxes self.new.outboxes }
         ensures served { ServesNone (N.served self.old.part) (N.served self.new.part) }
@@ -228,6 +230,7 @@ where
     fn serve_one<R: Wait>(&mut self, rt: &R, handed: bool)
         ensures serves { OnlyServes self.old self.new }
         ensures served { ServesAtMostOnce (N.served self.old.part) (N.served self.new.part) }
+        ensures moves { ServesOne N.target_of N.took N.refused_by N.gave_up N.moved self.old self.new }
     {
         let count = self.channels();
         if count == 0 {
@@ -246,6 +249,7 @@ where
     fn serve_first<R: Wait>(&mut self, rt: &R) -> bool
         ensures serves { OnlyServes self.old self.new }
         ensures served { ServesAtMostOnce (N.served self.old.part) (N.served self.new.part) }
+        ensures moves { ServesOne N.target_of N.took N.refused_by N.gave_up N.moved self.old self.new }
         ensures idle { result ≡ false → (self.new ≡ self.old) × ((c : ℕ) → c < N.count self.new.part → (by : HeadMove) → N.may_move self.new.part by c false) }
     {
         let count = self.channels();
@@ -261,6 +265,7 @@ where
         requires there { to ≤ N.count self.old.part }
         ensures serves { OnlyServes self.old self.new }
         ensures served { ServesAtMostOnce (N.served self.old.part) (N.served self.new.part) }
+        ensures moves { ServesOne N.target_of N.took N.refused_by N.gave_up N.moved self.old self.new }
         ensures same { result ≡ false → self.new ≡ self.old }
         ensures idle { result ≡ false → (c : ℕ) → from ≤ c → c < to → (by : HeadMove) → N.may_move self.old.part by c false }
     {
@@ -284,6 +289,7 @@ where
         requires there { channel < N.count self.old.part }
         ensures serves { OnlyServes self.old self.new }
         ensures served { ServesAtMostOnce (N.served self.old.part) (N.served self.new.part) }
+        ensures moves { ServesOne N.target_of N.took N.refused_by N.gave_up N.moved self.old self.new }
         ensures idle { result ≡ false → (self.new ≡ self.old) × ((by : HeadMove) → N.may_move self.old.part by channel false) }
     {
         let has_read = self.move_head(rt, HeadMove::Read, channel);
@@ -299,6 +305,7 @@ where
         ensures count { N.count self.new.part ≡ N.count self.old.part }
         ensures enabled { N.may_move self.old.part by channel result }
         ensures idle { result ≡ false → self.new ≡ self.old }
+        ensures moves { result ≡ true → MovesHead N.target_of N.took N.refused_by N.gave_up N.moved by channel self.old self.new }
     {
         self.core.move_head(rt, by, channel)
     }
@@ -336,10 +343,8 @@ where
         start: &Start,
         parker: Parker,
     ) -> Option<Finished<W, N>>
-        ensures home { IfSome result (λ finished. N.home finished.part ≡ self.entry.number) }
         // Its own queue is closed, and nothing waits for others.
-        ensures owner { IfSome result (λ finished. finished.owner.name ≡ self.entry.owner.name) }
-        ensures left { IfSome result HasLeft }
+        ensures ended { IfSome result (EndsAs N.home self.entry.number self.entry.owner) }
         // The gate was told of its first turn here.
         ensures entered { IfSome result (λ _. G.was_entered gate.now self.entry.number self.entry.turns) }
     {
@@ -381,6 +386,13 @@ where
         self.turns
     }
 
+    /// Its right to its queue.
+    pub(crate) fn owner(&self) -> &OwnerSeat
+        ensures { result.now ≡ self.now.owner }
+    {
+        &self.owner
+    }
+
     /// Says that it is about to rest, and notes at each queue that was full in the last turn that it waits for room.
     fn announce_rest(&self) {
         self.inbox.announce_rest();
@@ -392,13 +404,16 @@ where
         requires over { N.are_over self.part }
         requires closed { is_closed self.owner.phase ≡ true }
         requires drained { (y : ℕ) → waits_for self.outboxes y ≡ [] }
-        ensures home { N.home result.part ≡ self.entry.number }
-        ensures owner { result.owner ≡ self.entry.owner }
-        ensures left { HasLeft result }
+        ensures { EndsAs N.home self.entry.number self.entry.owner result }
     {
         let Executor { core, owner, .. } = self;
-        let Core { part, outboxes, .. } = core;
-        Finished::new(part, owner, outboxes.into_waiting())
+        let Core {
+            number,
+            part,
+            outboxes,
+            ..
+        } = core;
+        Finished::new(number, part, owner, outboxes.into_waiting())
     }
 
     /// Whether nothing waits for others.

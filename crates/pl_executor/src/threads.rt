@@ -1,6 +1,8 @@
 //! Executors in threads of their own, as many as a list has.
 
 ghost use Rattle.std.specs.Prelude.{◌≡◌, [], map, All, IfOk, IfSome};
+ghost use Rattle.std.specs.List.{AllZip};
+ghost use Rattle.pl_executor.specs.Running.{EndsAs};
 ghost use Rattle.pl_executor.specs.declared.threads.RunFault.TheVariants.{Memory};
 
 use crate::executors::Executor;
@@ -11,6 +13,7 @@ use crate::start::Start;
 use crossbeam_utils::sync::Parker;
 use pl_event::Named;
 use pl_queue::Mailbox;
+use pl_words::OwnerSeat;
 use std::alloc::{AllocError, Global};
 use std::marker::Model;
 use std::snapshot::Snapshot;
@@ -35,27 +38,29 @@ impl From<AllocError> for RunFault {
     }
 }
 
-/// The nodes that a thread gives are those of the executor of this number, which has told the gate of its first turn in the
-/// thread.
+/// What a thread gives is the executor of this number and this right to its queue, ended, which has told the gate of its first
+/// turn in the thread.
 #[derive(Drop)]
-struct Numbered<G: Gate> {
+struct Promised<G: Gate> {
     gate: Snapshot<G>,
     number: usize,
     turn: u64,
+    owner: Snapshot<OwnerSeat>,
 }
 
-impl<G: Gate> Model for Numbered<G> {
-    ghost use Rattle.pl_executor.specs.Turning.{FirstTurn};
+impl<G: Gate> Model for Promised<G> {
+    ghost use Rattle.pl_executor.specs.Turning.{Threaded};
 
-    ghost Value = { FirstTurn G };
+    ghost Value = { Threaded G };
 
-    ghost view = { λ n. record { gate = n.gate.value; number = n.number; turn = n.turn } };
+    ghost view = { λ p. record { gate = p.gate.value; number = p.number; turn = p.turn; owner = p.owner.value } };
 }
 
-impl<G: Gate, W: Named, N: Part<W> + Drop> thread::Promise<Option<Finished<W, N>>> for Numbered<G> {
+impl<G: Gate, W: Named, N: Part<W> + Drop> thread::Promise<Option<Finished<W, N>>> for Promised<G> {
     ghost use Rattle.std.specs.Prelude.{◌≡◌, IfSome};
+    ghost use Rattle.pl_executor.specs.Running.{EndsAs};
 
-    ghost kept_by = { λ p r. IfSome r (λ finished. (N.home finished.part ≡ p.number) × G.was_entered p.gate p.number p.turn) };
+    ghost kept_by = { λ p r. IfSome r (λ finished. EndsAs N.home p.number p.owner finished × G.was_entered p.gate p.number p.turn) };
 }
 
 /// Starts each executor in a thread of its own. They wait there until they are told to begin.
@@ -75,23 +80,24 @@ fn start_each<
     gate: &'s G,
     start: &'s Start,
     executors: Vec<(Executor<'a, W, M, N>, Parker)>,
-) -> Result<Vec<PromisedHandle<Option<Finished<W, N>>, Numbered<G>>>, RunFault>
+) -> Result<Vec<PromisedHandle<Option<Finished<W, N>>, Promised<G>>>, RunFault>
 where
     M::Sender: Drop + Send + 's,
     M::Taker: Drop + Send + 's,
-    ensures { IfOk result (λ handles. map (λ h. h.promise) handles.items ≡ map (λ e. record { gate = gate.now; number = e.0.number; turn = e.0.turns }) executors.entry.items) }
+    ensures { IfOk result (λ handles. map (λ h. h.promise) handles.items ≡ map (λ e. record { gate = gate.now; number = e.0.number; turn = e.0.turns; owner = e.0.owner }) executors.entry.items) }
 {
     let mut handles = Vec::with_capacity(alloc, executors.len())?;
     for (executor, parker) in executors {
-        let promise = Numbered {
+        let promise = Promised {
             gate: Snapshot::of(gate),
             number: executor.number(),
             turn: executor.turns(),
+            owner: Snapshot::of(executor.owner()),
         };
         let spawned = scope.spawn_with(
             promise,
             move || -> Option<Finished<W, N>>
-                ensures { IfSome result (λ finished. (N.home finished.part ≡ executor.entry.number) × G.was_entered gate.entry.now executor.entry.number executor.entry.turns) }
+                ensures { IfSome result (λ finished. EndsAs N.home executor.entry.number executor.entry.owner finished × G.was_entered gate.entry.now executor.entry.number executor.entry.turns) }
             { executor.run(rt, gate, start, parker) },
         );
         match spawned {
@@ -102,14 +108,14 @@ where
     Ok(handles)
 }
 
-/// What all executors leave, in their order, in a list that has room for it.
+/// What all threads give, in their order, in a list that has room for it.
 fn join_all<W: Named, N: Part<W> + Drop, G: Gate, R: Threads>(
     rt: &R,
-    handles: Vec<PromisedHandle<Option<Finished<W, N>>, Numbered<G>>>,
+    handles: Vec<PromisedHandle<Option<Finished<W, N>>, Promised<G>>>,
     mut all: Vec<Finished<W, N>>,
 ) -> Result<Vec<Finished<W, N>>, RunFault>
     requires { all.items ≡ [] }
-    ensures homes { IfOk result (λ all. map (λ f. N.home f.part) all.items ≡ map (λ h. h.promise.number) handles.items) }
+    ensures ended { IfOk result (λ all. AllZip (λ p f. EndsAs N.home p.number p.owner f) (map (λ h. h.promise) handles.items) all.items) }
     ensures entered { IfOk result (λ _. All (λ h. G.was_entered h.promise.gate h.promise.number h.promise.turn) handles.items) }
 {
     for handle in handles {
@@ -121,7 +127,7 @@ fn join_all<W: Named, N: Part<W> + Drop, G: Gate, R: Threads>(
     Ok(all)
 }
 
-/// Runs each executor, with the parker of its inbox, in a thread of its own, and gives what they leave, in their order. No
+/// Runs each executor, with the parker of its inbox, in a thread of its own, and gives them back, ended, in their order. No
 /// executor makes a turn before all threads were started, and then each makes one at least. All threads that were started have
 /// ended when it answers.
 ///
@@ -143,7 +149,7 @@ pub fn run_all<
 where
     M::Sender: Drop + Send,
     M::Taker: Drop + Send,
-    ensures homes { IfOk result (λ all. map (λ f. N.home f.part) all.items ≡ map (λ e. e.0.number) executors.entry.items) }
+    ensures ended { IfOk result (λ all. AllZip (λ e f. EndsAs N.home e.0.number e.0.owner f) executors.entry.items all.items) }
     // The gate was told of the first turn of each.
     ensures entered { IfOk result (λ _. All (λ e. G.was_entered gate.now e.0.number e.0.turns) executors.entry.items) }
 {
@@ -155,7 +161,7 @@ where
         rt,
         |scope| -> Result<Vec<Finished<W, N>>, RunFault>
             requires { all.items ≡ [] }
-            ensures homes { IfOk result (λ all. map (λ f. N.home f.part) all.items ≡ map (λ e. e.0.number) executors.entry.items) }
+            ensures ended { IfOk result (λ all. AllZip (λ e f. EndsAs N.home e.0.number e.0.owner f) executors.entry.items all.items) }
             ensures entered { IfOk result (λ _. All (λ e. G.was_entered gate.entry.now e.0.number e.0.turns) executors.entry.items) }
         {
             let handles = start_each(rt, alloc, scope, gate, start, executors);

@@ -6,12 +6,13 @@ use Rattle.pl_part.specs.Parts.{ChannelPartView}
 use Rattle.pl_replay.specs.Placed.{ArePlaceable}
 use Rattle.pl_outbox.specs.declared.inbox.Inbox.{Inbox}
 use Rattle.pl_exec.specs.declared.nodes.OwnNodes.{OwnNodes}
+use Rattle.pl_exec.specs.declared.telling.TellingNodes.{TellingNodes}
 use Rattle.pl_exec.specs.Lanes.{AreLaid, lane_table}
 use Rattle.pl_exec.specs.Opening.{InboxView, AreOpened, lanes_in}
 use Rattle.pl_exec.specs.Sharing.{channels_on, places_of, rows_in}
 use Rattle.pl_exec.proofs.ChannelRows.{shares-known}
 use Rattle.pl_exec.proofs.DealtSeats.{heads-apart}
-use Rattle.pl_exec.proofs.Ready.{ready-count, ready-placeable, ready-laid, ready-executors, ready-open, ready-start, executors-in-order, first-turns}
+use Rattle.pl_exec.proofs.Ready.{ended-homes, ready-count, ready-placeable, ready-laid, ready-executors, ready-open, ready-start, executors-in-order, first-turns}
 use Rattle.pl_exec.proofs.TellingStart.{telling-start}
 use Rattle.pl_exec.proofs.running.run_parts.Goals as goal
 
@@ -67,7 +68,7 @@ executors-requires-clause-start g c =
 
 pub report_of-requires-clause-executors : goal.report_of-requires-clause-executors
 report_of-requires-clause-executors g c =
-    c.in_ok-all.ensures.homes
+    ended-homes (λ e. e.0) (λ (n : TellingNodes g.row.S.Denot g.row.T.Denot). n.nodes.number) c.in_ok-executors.executors.items c.in_ok-all.all.items c.in_ok-all.ensures.ended
     ∙ executors-in-order (λ e. e.0) c.in_ok-executors.executors.items c.in_ok-nodes.nodes.items g.W.Planned.plan.executors c.in_ok-executors.ensures.parts
     (sym (length-map c.in_ok-nodes.nodes.items (λ n. n.nodes)) ∙ ap (λ (l : List (OwnNodes g.row.S.Denot g.row.T.Denot)). length l) c.in_ok-nodes.ensures.nodes ∙ c.in_ok-own.ensures.count ∙ c.requires.executors) c.in_ok-executors.ensures.first
 

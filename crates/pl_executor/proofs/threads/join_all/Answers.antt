@@ -1,15 +1,23 @@
-use Rattle.std.proofs.Common.{arith}
+use Rattle.std.proofs.Common.{◌++◌, ◌∷◌, [], List, map, append_assoc, sym, subst}
+use Rattle.std.specs.List.{AllZip}
 use Rattle.std.specs.declared.thread.PromisedHandle.{PromisedHandle}
 use Rattle.std.specs.declared.option.Option.TheVariants.{the_data}
-use Rattle.std.proofs.lemmas.Grind.{common_steps}
 use Rattle.std.proofs.lemmas.List.Elements.{All-cons, All-same}
-use Rattle.pl_executor.specs.Running.{LeftView}
-use Rattle.pl_executor.specs.Turning.{FirstTurn}
+use Rattle.pl_executor.specs.Running.{FinishedView, EndsAs}
+use Rattle.pl_executor.specs.Turning.{Threaded}
 use Rattle.pl_executor.proofs.threads.join_all.Goals as goal
 
 pub loop-handle-preserved : goal.loop-handle-preserved
 loop-handle-preserved g c =
-    let Entered : PromisedHandle (the_data (LeftView g.row.N.Denot)) (FirstTurn g.row.G.Denot) → Type 0 = λ h. g.G.Gate.was_entered h.promise.gate h.promise.number h.promise.turn in (
-      grind (arith, common_steps),
-      λ rest. c.loop-handle.invariant.1 (All-same Entered _ _ c.in-Some.ensures.steps.0 (All-cons Entered c.in-Some.handle _ c.in-Some-join.ensures.1 rest)),
-    )
+    let Handle : Type 0 = PromisedHandle (the_data (FinishedView g.row.N.Denot)) (Threaded g.row.G.Denot) in
+    let Entered : Handle → Type 0 = λ h. g.G.Gate.was_entered h.promise.gate h.promise.number h.promise.turn in
+    let Ends : List (Threaded g.row.G.Denot) → List (FinishedView g.row.N.Denot) → Type 0 = λ ps fs. AllZip (λ p f. EndsAs g.N.Part.home p.number p.owner f) ps fs in
+    let finished = c.in-Some-join.finished in
+    let next = c.in-Some.ensures.steps.0 in
+    record {
+      ended = λ more rest.
+          subst (λ (fs : List (FinishedView g.row.N.Denot)). Ends (map (λ h. h.promise) c.args.handles.items) fs) (append_assoc c.loop-handle.all.items (finished ∷ []) more)
+          (c.loop-handle.invariant.ended (finished ∷ more)
+          (subst (λ (hs : List Handle). Ends (map (λ h. h.promise) hs) (finished ∷ more)) (sym next) (c.in-Some-join.ensures.0, rest)));
+      entered = λ rest. c.loop-handle.invariant.entered (All-same Entered _ _ next (All-cons Entered c.in-Some.handle _ c.in-Some-join.ensures.1 rest));
+    }

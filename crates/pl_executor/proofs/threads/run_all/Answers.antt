@@ -21,8 +21,8 @@ scoped-requires g c =
       );
     }
 
-pub returns-clause-homes : goal.returns-clause-homes
-returns-clause-homes g c = c.scoped.ensures.1.0
+pub returns-clause-ended : goal.returns-clause-ended
+returns-clause-ended g c = c.scoped.ensures.1.0
 
 pub returns-clause-entered : goal.returns-clause-entered
 returns-clause-entered g c = c.scoped.ensures.1.1

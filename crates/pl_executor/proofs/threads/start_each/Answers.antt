@@ -1,4 +1,4 @@
-use Rattle.std.proofs.Common.{◌≡◌, ℕ, sym, subst}
+use Rattle.std.proofs.Common.{ℕ, sym, subst, ◌∙◌}
 use Rattle.std.specs.Option.{IfSome}
 use denote.Exit.{no}
 use denote.Param.{param}
@@ -6,6 +6,8 @@ use denote.Param.Send.{param_send, arg_send, shr_send}
 use mir.Syntax.{named}
 use Rattle.pl_executor.specs.contracts.start.Start as start_row
 use Rattle.pl_executor.proofs.start.Start.TheSendSync as start
+use Rattle.pl_words.specs.Admissions.{OwnerSeatView}
+use Rattle.pl_executor.specs.Running.{EndsAs}
 use Rattle.pl_executor.proofs.Sends.{executor_send, left_send, parker_send, captured_send}
 use Rattle.pl_executor.proofs.threads.start_each.Goals as goal
 
@@ -29,7 +31,9 @@ spawn_with-spawned-requires-send-T g c κs within =
 
 pub spawn_with-spawned-requires-clause-keeps : goal.spawn_with-spawned-requires-clause-keeps
 spawn_with-spawned-requires-clause-keeps g c κs within = λ r gave.
-    let Keeps : g.row.G.Denot → ℕ → ℕ → Type 0 = λ gate number turn. IfSome r (λ finished. (g.N.Part.home finished.part ≡ number) × g.G.Gate.was_entered gate number turn) in
-    let told = subst (λ gate. Keeps gate c.in-Some.executor.number c.in-Some.executor.turns) (sym c.of.ensures) gave in
-    let numbered = subst (λ number. Keeps c.of.result.value number c.in-Some.executor.turns) (sym c.number.ensures) told in
-    subst (λ turn. Keeps c.of.result.value c.number.result turn) (sym c.turns.ensures) numbered
+    let Keeps : g.row.G.Denot → ℕ → OwnerSeatView → ℕ → Type 0 = λ gate number owner turn. IfSome r (λ finished. EndsAs g.N.Part.home number owner finished × g.G.Gate.was_entered gate number turn) in
+    let first = c.in-Some.executor in
+    let told = subst (λ gate. Keeps gate first.number first.owner first.turns) (sym c.of.ensures) gave in
+    let numbered = subst (λ number. Keeps c.of.result.value number first.owner first.turns) (sym c.number.ensures) told in
+    let owned = subst (λ owner. Keeps c.of.result.value c.number.result owner first.turns) (sym (c.of-in-loop-executor.ensures ∙ c.owner.ensures)) numbered in
+    subst (λ turn. Keeps c.of.result.value c.number.result c.of-in-loop-executor.result.value turn) (sym c.turns.ensures) owned

@@ -1,5 +1,6 @@
-use Rattle.std.proofs.Common.{ℕ, ◌<◌, ◌^◌, sym, subst}
-use Rattle.pl_executor.specs.Running.{IsTaking}
+use Rattle.std.proofs.Common.{◌≡◌, ℕ, ◌<◌, ◌^◌, true, sym, subst}
+use Rattle.pl_executor.specs.Running.{ExecutorView, IsTaking}
+use Rattle.pl_executor.specs.Turning.{MovesHead}
 use Rattle.pl_executor.proofs.RunLemmas.{taking-stays}
 use Rattle.pl_executor.proofs.executors.Executor.move_head.Goals as goal
 
@@ -18,3 +19,10 @@ invariant_of-self g c =
       c.self.invariant.5,
       subst (λ (n : ℕ). n < 2 ^ 16) (sym c.move_head.ensures.keeps.number) c.self.invariant.6,
     )
+
+pub returns-clause-moves : goal.returns-clause-moves
+returns-clause-moves g c =
+    let after = c.move_head.new.self in
+    let new : ExecutorView g.row.N.Denot = record { number = after.number; part = after.part; outboxes = after.outboxes; takes = g.M.Mailbox.takes_of c.self.inside.taker; owner = c.self.inside.owner; turns = c.self.inside.turns } in
+    subst (λ (old : ExecutorView g.row.N.Denot). c.move_head.result ≡ true → MovesHead g.N.Part.target_of g.N.Part.took g.N.Part.refused_by g.N.Part.gave_up g.N.Part.moved c.args.by c.args.channel old new) c.self.view_is
+    (λ e. record { work = c.self.inside.core.work; empty = c.self.invariant.1; works = c.move_head.ensures.moved e })

@@ -1,12 +1,11 @@
-use Rattle.std.proofs.Common.{◌≡◌, ◌+◌, ◌<◌, ◌^◌, ℕ, List, false, sym, ap, subst, ◌∙◌}
+use Rattle.std.proofs.Common.{◌≡◌, ◌+◌, ◌<◌, ◌^◌, ℕ, List, sym, ap, subst, ◌∙◌}
 use Rattle.pl_queue.specs.declared.views.TakeCount.{TakeCount}
 use Rattle.pl_queue.specs.declared.views.TakerView.{TakerView}
-use Rattle.pl_event.specs.declared.envelopes.Envelope.{Envelope}
-use Rattle.pl_queue.specs.Views.{after_take, set_take_count}
-use Rattle.pl_outbox.specs.OutboxViews.{OutboxesView, is_closed}
+use Rattle.pl_queue.specs.Views.{set_take_count}
+use Rattle.pl_outbox.specs.OutboxViews.{OutboxesView}
 use Rattle.pl_executor.specs.Cores.{WorksOff}
 use Rattle.pl_executor.specs.Running.{ExecutorView, IsTaking, IsCounting}
-use Rattle.pl_executor.specs.Turning.{TakesTask}
+use Rattle.pl_executor.specs.Turning.{TakesOne}
 use Rattle.pl_executor.proofs.CountLemmas.{counts-take}
 use Rattle.pl_executor.proofs.RunLemmas.{taking-taken, taking-stays}
 use Rattle.pl_executor.proofs.executors.Executor.run_task.Goals as goal
@@ -59,8 +58,7 @@ returns-in-Some-clause-task g c = λ _.
     let takes = g.M.Mailbox.takes_of c.take.new.taker in
     let new : ExecutorView g.row.N.Denot = record { number = after.number; part = after.part; outboxes = after.outboxes; takes = takes; owner = c.self.inside.owner; turns = c.self.inside.turns } in
     subst
-    (λ (old : ExecutorView g.row.N.Denot). (is_closed old.owner.phase ≡ false) × (x : Envelope) × (takes ≡ after_take old.takes x)
-    × TakesTask g.N.Part.target_of g.N.Part.took g.N.Part.refused_by g.N.Part.gave_up x old new)
+    (λ (old : ExecutorView g.row.N.Denot). TakesOne g.N.Part.target_of g.N.Part.took g.N.Part.refused_by g.N.Part.gave_up old new)
     c.self.view_is (
       sym c.self.invariant.5.closed ∙ c.if-self.false,
       c.in-Some.envelope,

@@ -1,5 +1,6 @@
 use Rattle.std.proofs.Common.{ℕ, arith}
 use Rattle.pl_executor.specs.Serving.{Served, ReadsAtMostOnce, WritesAtMostOnce, ServesAtMostOnce}
+use Rattle.pl_executor.proofs.TurnLemmas.{serves-both}
 use Rattle.pl_executor.proofs.executors.Executor.serve.Goals as goal
 
 read-then-written : (a b d : ℕ → Served) → ReadsAtMostOnce a b → WritesAtMostOnce b d → ServesAtMostOnce a d
@@ -10,3 +11,17 @@ returns-then-has_read-clause-served g c = read-then-written _ _ _ c.move_head-ha
 
 pub returns-else-has_read-clause-served : goal.returns-else-has_read-clause-served
 returns-else-has_read-clause-served g c = read-then-written _ _ _ c.move_head-has_read.ensures.served c.move_head-has_written.ensures.served
+
+pub returns-then-has_read-clause-moves : goal.returns-then-has_read-clause-moves
+returns-then-has_read-clause-moves g c =
+    let read = c.move_head-has_read in
+    let written = c.move_head-has_written in
+    serves-both g.N.Part.target_of g.N.Part.took g.N.Part.refused_by g.N.Part.gave_up g.N.Part.moved c.args.channel c.args.self.now read.new.self written.new.self read.result written.result
+    read.ensures.serves read.ensures.idle read.ensures.moves written.ensures.serves written.ensures.idle written.ensures.moves
+
+pub returns-else-has_read-clause-moves : goal.returns-else-has_read-clause-moves
+returns-else-has_read-clause-moves g c =
+    let read = c.move_head-has_read in
+    let written = c.move_head-has_written in
+    serves-both g.N.Part.target_of g.N.Part.took g.N.Part.refused_by g.N.Part.gave_up g.N.Part.moved c.args.channel c.args.self.now read.new.self written.new.self read.result written.result
+    read.ensures.serves read.ensures.idle read.ensures.moves written.ensures.serves written.ensures.idle written.ensures.moves

@@ -1,5 +1,6 @@
 use Rattle.std.proofs.Common.{rules, ℕ, ◌+◌, ◌-◌, ◌^◌, min, ap, ◌∙◌}
 use Rattle.pl_executor.specs.Running.{ExecutorView}
+use Rattle.pl_executor.proofs.TurnLemmas.{turns-kept, turns-closed}
 use Rattle.pl_executor.proofs.executors.Executor.turn.Goals as goal
 
 pub returns-then-has_moved-clause-turns : goal.returns-then-has_moved-clause-turns
@@ -12,3 +13,18 @@ moves-has_moved-requires g c = record { entered = rw (← c.self.view_is) (searc
 
 pub invariant_of-self : goal.invariant_of-self
 invariant_of-self g c = c.self-2.invariant
+
+pub returns-then-has_moved-clause-does : goal.returns-then-has_moved-clause-does
+returns-then-has_moved-clause-does g c =
+    let moves = c.moves-has_moved in
+    turns-kept g.N.Part.target_of g.N.Part.took g.N.Part.refused_by g.N.Part.gave_up g.N.Part.moved c.args.self.now moves.new.self _ moves.ensures.does c.self-2.view_is moves.ensures.owner moves.ensures.turns
+
+pub returns-then-is_drained-clause-does : goal.returns-then-is_drained-clause-does
+returns-then-is_drained-clause-does g c =
+    let moves = c.moves-has_moved in
+    turns-closed g.N.Part.target_of g.N.Part.took g.N.Part.refused_by g.N.Part.gave_up g.N.Part.moved c.args.self.now moves.new.self _ c.close.new.self _ moves.ensures.does c.self-2.view_is moves.ensures.owner moves.ensures.turns c.close.ensures.same
+
+pub returns-clause-does : goal.returns-clause-does
+returns-clause-does g c =
+    let moves = c.moves-has_moved in
+    turns-closed g.N.Part.target_of g.N.Part.took g.N.Part.refused_by g.N.Part.gave_up g.N.Part.moved c.args.self.now moves.new.self _ c.close.new.self _ moves.ensures.does c.self-2.view_is moves.ensures.owner moves.ensures.turns c.close.ensures.same

@@ -1,6 +1,6 @@
-use Rattle.std.proofs.Common.{◌∙◌}
 use Rattle.std.proofs.lemmas.Result.{IfOk-at_ok, IfOk-weaker}
-use Rattle.pl_executor.proofs.FirstTurns.{promised-numbers, promised-every}
+use Rattle.pl_executor.specs.Running.{EndsAs}
+use Rattle.pl_executor.proofs.FirstTurns.{promised-zip, promised-every}
 use Rattle.pl_executor.proofs.threads.fn.run_all.scope.Goals as goal
 
 pub returns : goal.returns
@@ -9,7 +9,8 @@ returns g c =
     let executors = c.captures.executors.items in
     let promised = IfOk-at_ok _ c.in_ok-handles.was c.start_each-handles.ensures in
     record {
-      homes = IfOk-weaker c.join_all.result _ _ (λ all h. h ∙ promised-numbers (λ h. h.promise) (λ e. record { gate = c.captures.gate.now; number = e.0.number; turn = e.0.turns }) handles executors promised) c.join_all.ensures.homes;
+      ended = IfOk-weaker c.join_all.result _ _
+          (λ all h. promised-zip (λ h. h.promise) (λ e. record { gate = c.captures.gate.now; number = e.0.number; turn = e.0.turns; owner = e.0.owner }) handles executors promised (λ t f. EndsAs g.N.Part.home t.number t.owner f) all.items h) c.join_all.ensures.ended;
       entered = IfOk-weaker c.join_all.result _ _
-          (λ all h. promised-every (λ h. h.promise) (λ e. record { gate = c.captures.gate.now; number = e.0.number; turn = e.0.turns }) handles executors promised (λ t. g.G.Gate.was_entered t.gate t.number t.turn) h) c.join_all.ensures.entered;
+          (λ all h. promised-every (λ h. h.promise) (λ e. record { gate = c.captures.gate.now; number = e.0.number; turn = e.0.turns; owner = e.0.owner }) handles executors promised (λ t. g.G.Gate.was_entered t.gate t.number t.turn) h) c.join_all.ensures.entered;
     }
