@@ -1,5 +1,5 @@
 -- The nodes of an executor whose heads tell the words of their channels.
-use Rattle.std.specs.Prelude.{◌≡◌, ℕ, ◌-◌, ◌<◌, ◌≤◌, List, [], Contains, length, map, slice_get, slice_set, Option, Some, None, IsSome, true}
+use Rattle.std.specs.Prelude.{◌≡◌, ◌≢◌, ℕ, ◌-◌, ◌<◌, ◌≤◌, List, [], Contains, length, map, slice_get, slice_set, Option, Some, None, IsSome, true}
 use Rattle.std.specs.Option.{option_map_or}
 use Rattle.pl_channel.specs.Lanes.{world_of}
 use Rattle.pl_event.specs.declared.events.Event.{Event}
@@ -71,12 +71,6 @@ pub record IsToldAt {S T : Type 0} (ps : List (ChannelPartView S T)) (c : ℕ) (
   pub becomes : ps' ≡ slice_set ps c after
   pub told : IsTold before after
 
--- This was done, and then the head of a channel told so.
-pub record TellsAfter {S T : Type 0} (does : List (ChannelPartView S T) → Type 0) (c : ℕ) (ps' : List (ChannelPartView S T)) : Type 0 where
-  pub between : List (ChannelPartView S T)
-  pub done : does between
-  pub told : IsToldAt between c ps'
-
 -- The head of a channel of an executor's nodes has. All else is as it was.
 pub record AreToldAt {S T : Type 0} (n : OwnNodes S T) (c : ℕ) (n' : OwnNodes S T) : Type 0 where
   pub number : n'.number ≡ n.number
@@ -110,6 +104,19 @@ TellsAt seats ps c = (s : SeatsView) (p : ChannelPartView _ _) (h : HeadView _) 
 abbrev pub SettlesAt : {S T : Type 0} → List (Option SeatsView) → List (ChannelPartView S T) → ℕ → List (Option SeatsView) → Type 0
 SettlesAt before ps c after = (s : SeatsView) (p : ChannelPartView _ _) → slice_get before c ≡ Some (Some s) → slice_get ps c ≡ Some p
     → (t : SeatsView) × (slice_get after c ≡ Some (Some t)) × TriesEach (part_outcomes p) (part_untold p) s.settle t.settle
+
+-- The seats of the other channels are as they were.
+abbrev pub KeepsOthers : List (Option SeatsView) → ℕ → List (Option SeatsView) → Type 0
+KeepsOthers before c after = (x : ℕ) (slot : Option SeatsView) → x ≢ c → slice_get after x ≡ Some slot → slice_get before x ≡ Some slot
+
+-- This was done to the parts, and then the words of a channel were told how its head stands: its seats settled each write that
+-- this had not told. No other seats were used.
+pub record TellsAfter {S T : Type 0} (does : List (ChannelPartView S T) → Type 0) (c : ℕ) (n n' : TellingNodes S T) : Type 0 where
+  pub between : List (ChannelPartView S T)
+  pub done : does between
+  pub told : IsToldAt between c n'.nodes.parts.items
+  pub settled : SettlesAt n.seats.items between c n'.seats.items
+  pub others : KeepsOthers n.seats.items c n'.seats.items
 
 -- ---- what holds between two calls
 

@@ -12,7 +12,7 @@ ghost use Rattle.pl_world.specs.PlanRules.{IsPlan};
 ghost use Rattle.pl_exec.specs.OwnNodes.{NodesStand, HasGivenUp, IsRefusedBy, MayMoveOwn, AreOver, served_of, target_of};
 ghost use Rattle.pl_exec.specs.SessionWords.{AreSeatsOf, AreHeadSeatsOf, TriesEach, told};
 ghost use Rattle.pl_exec.specs.Sharing.{AreKnown, rows_in};
-ghost use Rattle.pl_exec.specs.Telling.{AreDealt, AreSeated, AreToldAt, CanTell, HasOwnSeats, HaveApartHeads, HaveMarks, HaveSeats, KnowChannels, SettlesAt, TellingStand, Tells, TellsAfter, TellsAt, part_outcomes};
+ghost use Rattle.pl_exec.specs.Telling.{AreDealt, AreSeated, AreToldAt, CanTell, HasOwnSeats, HaveApartHeads, HaveMarks, HaveSeats, KeepsOthers, KnowChannels, SettlesAt, TellingStand, Tells, TellsAfter, TellsAt, part_outcomes};
 
 use crate::nodes::{OwnNodes, are_over_at};
 use crate::planned::Planned;
@@ -68,11 +68,11 @@ impl<'a, W: Planned, S: Stage, T: Transport> Part<W> for TellingNodes<'a, S, T> 
 
     ghost stands = { TellingStand W.world W.plan S.meaning S.stands_after T.state };
 
-    ghost took = { λ n e before n' after. TellsAfter (λ between. IsTakenBy S.meaning S.stands_after S.is_spent T.state n.nodes.parts.items e before between after) e.lane.channel n'.nodes.parts.items };
+    ghost took = { λ n e before n' after. TellsAfter (λ between. IsTakenBy S.meaning S.stands_after S.is_spent T.state n.nodes.parts.items e before between after) e.lane.channel n n' };
 
     ghost refused_by = { λ n lane before n' after. IsRefusedBy n.nodes.parts.items lane before n'.nodes.parts.items after };
 
-    ghost moved = { λ n by at before n' after. TellsAfter (λ between. IsMovedBy T.state T.may_refuse n.nodes.parts.items by (get_or n.nodes.own.items at 0) before between after) (get_or n.nodes.own.items at 0) n'.nodes.parts.items };
+    ghost moved = { λ n by at before n' after. TellsAfter (λ between. IsMovedBy T.state T.may_refuse n.nodes.parts.items by (get_or n.nodes.own.items at 0) before between after) (get_or n.nodes.own.items at 0) n n' };
 
     fn target(&self, lane: Lane) -> usize {
         <OwnNodes<S, T> as Part<W>>::target(&self.nodes, lane)
@@ -117,6 +117,7 @@ impl<'a, S: Stage, T: Transport> TellingNodes<'a, S, T> {
         ensures seated { (plan : Plan) → AreSeated self.old.words.now plan self.old.seats.items → AreSeated self.new.words.now plan self.new.seats.items }
         ensures tells { TellsAt self.new.seats.items self.new.nodes.parts.items channel }
         ensures settled { SettlesAt self.old.seats.items self.old.nodes.parts.items channel self.new.seats.items }
+        ensures others { KeepsOthers self.old.seats.items channel self.new.seats.items }
     {
         if let Some(seats) = &mut self.seats[channel] {
             tell(self.words, channel, seats, &mut self.nodes.parts[channel]);

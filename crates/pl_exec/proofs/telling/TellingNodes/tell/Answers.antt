@@ -3,6 +3,7 @@ use Rattle.std.proofs.lemmas.Option.{slice_get_read}
 use Rattle.pl_exec.specs.SessionWords.{SeatsView}
 use Rattle.pl_exec.proofs.SeatLemmas.{no-seats-tell, none-told-at, seat-marks, seat-told, tells-at, told-at}
 use Rattle.pl_exec.proofs.SettledWrites.{none-settles, settles-at}
+use Rattle.pl_event.proofs.Lists.{at_set_other}
 use Rattle.pl_exec.proofs.telling.TellingNodes.tell.Goals as goal
 
 -- the part of the channel, and its seats
@@ -84,3 +85,6 @@ returns-in_default-clause-settled g c =
     let there = c.requires.there in
     none-settles seats c.args.self.now.nodes.parts.items c.args.channel _ c.index_mut.result.now
     (slice_get_read seats (length seats) c.args.channel c.index_mut.result.now refl (omega (arith, size, parts, there)) c.index_mut.ensures.value) c.in_default.is
+
+pub returns-in-Some-clause-others : goal.returns-in-Some-clause-others
+returns-in-Some-clause-others g c = λ x slot other at. at_set_other c.args.self.now.seats.items c.args.channel x (Some c.tell.new.seats) slot other at

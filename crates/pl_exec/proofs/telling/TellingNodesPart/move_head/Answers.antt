@@ -2,7 +2,7 @@ use Rattle.std.proofs.Common.{ℕ, get_or, ap, sym, subst, ◌∙◌, arith}
 use Rattle.std.specs.Global.{Vec}
 use Rattle.std.proofs.lemmas.Option.{get_or_from_slice_get}
 use Rattle.pl_exec.specs.OwnNodes.{served_of}
-use Rattle.pl_exec.specs.Telling.{IsToldAt, TellsAt}
+use Rattle.pl_exec.specs.Telling.{IsToldAt, KeepsOthers, SettlesAt, TellsAt}
 use Rattle.pl_exec.proofs.HeadLists.{own-channel, own-within}
 use Rattle.pl_exec.proofs.ServedNodes.{told-moves}
 use Rattle.pl_exec.proofs.ToldNodes.{keeps-told, makes-told, telling-keeps, telling-told, told-took}
@@ -60,4 +60,11 @@ returns-clause-moved g c = λ _.
     let count = c.move_head.ensures.keeps.counts in
     let found = own-channel mid.own.items c.args.at channel (omega (arith, there, count)) c.index-channel.ensures in
     let at = sym (ap (λ (v : Vec ℕ). get_or v.items c.args.at 0) (sym moved.0) ∙ get_or_from_slice_get mid.own.items c.args.at channel 0 found) in
-    record { between = mid.parts.items; done = moved.1; told = subst (λ (k : ℕ). IsToldAt mid.parts.items k now.nodes.parts.items) at c.tell.ensures.told.parts }
+    let seats = c.args.self.now.seats.items in
+    record {
+      between = mid.parts.items;
+      done = moved.1;
+      told = subst (λ (k : ℕ). IsToldAt mid.parts.items k now.nodes.parts.items) at c.tell.ensures.told.parts;
+      settled = subst (λ (k : ℕ). SettlesAt seats mid.parts.items k now.seats.items) at c.tell.ensures.settled;
+      others = subst (λ (k : ℕ). KeepsOthers seats k now.seats.items) at c.tell.ensures.others;
+    }

@@ -41,4 +41,4 @@ pub returns-clause-tells : goal.returns-clause-tells
 returns-clause-tells g c = c.tell.ensures.tells
 
 pub returns-clause-took : goal.returns-clause-took
-returns-clause-took g c = record { between = c.take.new.self.parts.items; done = c.take.ensures.took; told = c.tell.ensures.told.parts }
+returns-clause-took g c = record { between = c.take.new.self.parts.items; done = c.take.ensures.took; told = c.tell.ensures.told.parts; settled = c.tell.ensures.settled; others = c.tell.ensures.others }
