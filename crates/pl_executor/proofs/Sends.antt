@@ -49,7 +49,7 @@ module _ (a : NamedLft) (W M N S T : RattleType) (w : named.Ghosts W.Denot) (m :
 finished_send : (W N : RattleType) (w : named.Ghosts W.Denot) (p : part.Ghosts N.Denot W.Denot) → IsSend N → IsSend (finished.the_row W N w p)
 finished_send W N w p n =
     let O = finished_inside.the_type W N w p in
-    let all : AllSend (fields O) = (n, (owner.the_send, (waiting_send, (search sendable, tt)))) in
+    let all : AllSend (fields O) = (search sendable, (n, (owner.the_send, (waiting_send, (search sendable, tt))))) in
     view_send _ _ _ _ _ (recorded_send _ _ O.to O.to_one (struct_send (shape O) all))
 
 pub left_send : (W N : RattleType) (w : named.Ghosts W.Denot) (p : part.Ghosts N.Denot W.Denot) → IsSend N → IsSend (option.the_row (finished.the_row W N w p))

@@ -16,7 +16,7 @@ loop-handle-preserved g c =
     let next = c.in-Some.ensures.steps.0 in
     record {
       ended = λ more rest.
-          subst (λ (fs : List (FinishedView g.row.N.Denot)). Ends (map (λ h. h.promise) c.args.handles.items) fs) (append_assoc c.loop-handle.all.items (finished ∷ []) more)
+          subst (λ (fs : List (FinishedView g.row.N.Denot)). Ends (map (λ h. h.promise) c.args.handles.items) fs) (sym (append_assoc c.loop-handle.all.items (finished ∷ []) more))
           (c.loop-handle.invariant.ended (finished ∷ more)
           (subst (λ (hs : List Handle). Ends (map (λ h. h.promise) hs) (finished ∷ more)) (sym next) (c.in-Some-join.ensures.0, rest)));
       entered = λ rest. c.loop-handle.invariant.entered (All-same Entered _ _ next (All-cons Entered c.in-Some.handle _ c.in-Some-join.ensures.1 rest));
