@@ -1,0 +1,86 @@
+-- A post, its seats and its owner, as contracts see them, and what a call does to a seat.
+use Rattle.std.specs.Prelude.{◌≡◌, ◌≢◌, ◌+◌, ◌≤◌, ◌^◌, ℕ, List, [], ◌∷◌, length}
+use Rattle.pl_event.specs.declared.envelopes.Envelope.{Envelope}
+use Rattle.pl_event.specs.Worlds.{World}
+use Rattle.pl_queue.specs.declared.limits.TheConstants.{MAX_LANES}
+use Rattle.pl_queue.specs.declared.views.SenderView.{SenderView}
+use Rattle.pl_queue.specs.declared.views.TakeCount.{TakeCount}
+use Rattle.pl_queue.specs.declared.views.TakerView.{TakerView}
+use Rattle.pl_queue.specs.Room.{IsCounted}
+use Rattle.pl_queue.specs.Rule.{SenderSees, WasOnce, Each}
+use Rattle.pl_words.specs.declared.admission.Refused.TheVariants as refused
+use Rattle.pl_words.specs.declared.status.Status.TheVariants.{Closed}
+use Rattle.pl_words.specs.Admissions.{SendSeatView, OwnerSeatView, Admits, Refuses, less_one}
+use Rattle.pl_words.specs.Names.{Name}
+use Rattle.pl_words.specs.Phases.{rank}
+use Rattle.pl_post.specs.declared.posts.Unsent.{Unsent}
+use Rattle.pl_post.specs.declared.posts.Unsent.TheVariants as unsent
+
+-- its mailbox, and the name of its admission
+pub record PostView (M : Type 0) : Type 0 where
+  pub mailbox : M
+  pub name : Name
+
+-- a sender of the mailbox, and a seat of the admission
+pub record PostSeatView (S : Type 0) : Type 0 where
+  pub sender : S
+  pub seat : SendSeatView
+
+-- the taker of the mailbox, the owner's seat of the admission, and how many envelopes were taken
+pub record PostOwnerView (T : Type 0) : Type 0 where
+  pub taker : T
+  pub owner : OwnerSeatView
+  pub taken : ℕ
+
+module _ {M S : Type 0} (is_sender : M → S → Type 0) where
+  -- the post made this seat
+  pub record IsSeatOf (p : PostView M) (s : PostSeatView S) : Type 0 where
+    pub sender : is_sender p.mailbox s.sender
+    pub seat : s.seat.name ≡ p.name
+
+module _ {M T : Type 0} (is_taker : M → T → Type 0) where
+  -- the post made this owner
+  pub record IsOwnerOf (p : PostView M) (o : PostOwnerView T) : Type 0 where
+    pub taker : is_taker p.mailbox o.taker
+    pub owner : o.owner.name ≡ p.name
+
+-- ---- what holds between two calls
+
+-- A seat has kept an admission for each envelope that it pushed, and for nothing else.
+pub record IsSeat (sends : SenderView) (seat : SendSeatView) : Type 0 where
+  pub kept : seat.kept ≡ sends.pushes
+  pub counted : IsCounted sends
+
+-- how many envelopes were taken of these lanes
+abbrev pub taken_on : List TakeCount → ℕ
+taken_on [] = 0
+taken_on (c ∷ cs) = c.next + taken_on cs
+
+-- A taker's pops are those of its lanes, of which there are few, and each has at most 2^32.
+pub record IsTakeCounted (t : TakerView) : Type 0 where
+  pub pops : t.pops ≡ taken_on t.counts
+  pub small : Each (λ c. c.next ≤ 2 ^ 32) t.counts
+  pub few : length t.counts ≤ MAX_LANES
+
+-- The owner counts what it takes. It closed with no more than that.
+pub record IsOwner (takes : TakerView) (owner : OwnerSeatView) (taken : ℕ) : Type 0 where
+  pub count : taken ≡ takes.pops
+  pub counted : IsTakeCounted takes
+  pub run : owner.phase ≡ Closed → owner.run ≤ takes.pops
+
+-- ---- what a send does where nothing was sent
+
+-- An admission was made and given up again, by a step each: `kept` is as it was, and `made` has risen by one. It is late
+-- where the second step found the word closed.
+pub record GivesUp (s t : SendSeatView) : Type 0 where
+  pub between : SendSeatView
+  pub admitted : Admits s between
+  pub less : t ≡ less_one between t.seen
+  pub later : rank between.seen ≤ rank t.seen
+  pub kept : t.kept ≡ s.kept
+
+-- The same envelope is back, and why: the queue was full, and the admission was given up; or there was none.
+abbrev pub NotSent : World → ℕ → SenderView → SendSeatView → Envelope → Unsent → SendSeatView → Type 0
+NotSent world capacity sends s x (unsent.Full back) t = (back ≡ x) × GivesUp s t × WasOnce capacity (SenderSees world sends)
+NotSent world capacity sends s x (unsent.Closed back) t = (back ≡ x) × Refuses refused.Closed s t
+NotSent world capacity sends s x (unsent.Spent back) t = (back ≡ x) × Refuses refused.SeatSpent s t
