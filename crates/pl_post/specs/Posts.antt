@@ -79,8 +79,13 @@ pub record GivesUp (s t : SendSeatView) : Type 0 where
   pub later : rank between.seen ≤ rank t.seen
   pub kept : t.kept ≡ s.kept
 
--- The same envelope is back, and why: the queue was full, and the admission was given up; or there was none.
-abbrev pub NotSent : World → ℕ → SenderView → SendSeatView → Envelope → Unsent → SendSeatView → Type 0
-NotSent world capacity sends s x (unsent.Full back) t = (back ≡ x) × GivesUp s t × WasOnce capacity (SenderSees world sends)
-NotSent world capacity sends s x (unsent.Closed back) t = (back ≡ x) × Refuses refused.Closed s t
-NotSent world capacity sends s x (unsent.Spent back) t = (back ≡ x) × Refuses refused.SeatSpent s t
+abbrev pub back_of : Unsent → Envelope
+back_of (unsent.Full x) = x
+back_of (unsent.Closed x) = x
+back_of (unsent.Spent x) = x
+
+-- Why nothing was sent by a sender that has sent this: the queue was full, and the admission was given up; or there was none.
+abbrev pub Unsends : World → ℕ → SenderView → SendSeatView → Unsent → SendSeatView → Type 0
+Unsends world capacity sends s (unsent.Full x) t = GivesUp s t × WasOnce capacity (SenderSees world sends)
+Unsends world capacity sends s (unsent.Closed x) t = Refuses refused.Closed s t
+Unsends world capacity sends s (unsent.Spent x) t = Refuses refused.SeatSpent s t

@@ -12,7 +12,7 @@ ghost use Rattle.pl_words.specs.declared.status.Status.TheVariants.{Closed};
 ghost use Rattle.pl_words.specs.Admissions.{Admits, Closes, StaysOpen, new_send_seat, new_owner_seat};
 ghost use Rattle.pl_words.specs.Phases.{begun};
 ghost use Rattle.pl_post.specs.declared.posts.Unsent.TheVariants as unsent;
-ghost use Rattle.pl_post.specs.Posts.{IsSeat, IsSeatOf, IsOwnerOf, NotSent};
+ghost use Rattle.pl_post.specs.Posts.{IsSeat, IsSeatOf, IsOwnerOf, Unsends, back_of};
 
 use crate::opening::paired;
 use pl_event::{Envelope, Lane, Named};
@@ -168,7 +168,8 @@ where
         ensures seat { IsSeatOf M.is_sender self.now seat.new }
         ensures sent { MatchResult result
             (λ _. (M.sends_of seat.new.sender ≡ after_offer (M.sends_of seat.old.sender) envelope) × Admits seat.old.seat seat.new.seat)
-            (λ why. (M.sends_of seat.new.sender ≡ M.sends_of seat.old.sender) × NotSent W.world (M.capacity_of self.now.mailbox) (M.sends_of seat.old.sender) seat.old.seat envelope why seat.new.seat) }
+            (λ why. (M.sends_of seat.new.sender ≡ M.sends_of seat.old.sender) × Unsends W.world (M.capacity_of self.now.mailbox) (M.sends_of seat.old.sender) seat.old.seat why seat.new.seat) }
+        ensures back { IfErr result (λ why. back_of why ≡ envelope) }
         ensures closed { seat.old.seat.seen ≡ Closed → result ≡ Err (unsent.Closed envelope) }
         ensures spent { seat.old.seat.seen ≢ Closed → seat.old.seat.made ≡ MAX_ADMISSIONS → result ≡ Err (unsent.Spent envelope) }
     {
