@@ -100,7 +100,7 @@ where
 }
 
 /// Why an envelope was not sent, and the same envelope back. Nothing was sent then, and the seat counts as many as before.
-#[derive(Debug, Drop)]
+#[derive(Debug, PartialEq, Eq, Drop)]
 pub enum Unsent {
     /// The queue was full. The admission that was made for the envelope was given up.
     Full(Envelope),

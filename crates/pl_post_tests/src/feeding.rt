@@ -7,15 +7,18 @@ ghost use Rattle.pl_event.specs.Hops.{data_lane as the_data_lane};
 ghost use Rattle.pl_event.specs.Worlds.{FitsWorld, content_of};
 ghost use Rattle.pl_queue.specs.Views.{sent_of, after_offer};
 ghost use Rattle.pl_queue_tests.specs.Relays.{lane_events, event as the_event};
-ghost use Rattle.pl_words.specs.declared.status.Status.TheVariants.{Closed};
+ghost use Rattle.pl_words.specs.declared.status.Status.TheVariants.{Accepting, Closed};
 ghost use Rattle.pl_post.specs.Posts.{IsSeatOf, IsOwnerOf, back_of};
 ghost use Rattle.pl_post_tests.specs.Feeding.{IsNext, Feeds};
 
 use pl_event::{Envelope, Event, Item, Kind, Lane, Named};
 use pl_post::{Post, PostOwner, PostSeat, Unsent};
 use pl_queue::Mailbox;
+use pl_queue_tests::join_three;
+use std::alloc::Global;
 use std::sync::Wait;
 use std::thread;
+use std::thread::Threads;
 
 /// After so many tries in a row that sent, took or closed nothing, a thread gives up.
 pub const MAX_TRIES: u32 = 10_000_000;
@@ -121,4 +124,189 @@ where
         unsent: None,
     };
     (seat, fed)
+}
+
+/// What the owner took of each of the lanes of channels 0 to 2.
+#[derive(Clone, Copy, Debug, PartialEq, Eq)]
+pub struct Served {
+    /// How many, by channel: the numbers below this one.
+    pub taken: [u64; 3],
+    /// Whether each was the next envelope of its lane.
+    pub in_order: bool,
+    /// Whether the post is closed. Else the owner gave up.
+    pub closed: bool,
+}
+
+impl Served {
+    /// Notes an envelope that was taken.
+    fn note(&mut self, envelope: &Envelope)
+        ensures { self.new.closed ≡ self.old.closed }
+    {
+        let channel = usize::from(envelope.lane.channel);
+        if channel >= 3 {
+            self.in_order = false;
+            return;
+        }
+        let next = event(lane(envelope.lane.channel), self.taken[channel]);
+        self.in_order = self.in_order && *envelope == next;
+        self.taken[channel] = self.taken[channel].saturating_add(1);
+    }
+}
+
+/// Takes what comes. After so many it begins to close, goes on, and closes as soon as there is nothing that it did not take.
+pub fn serve<W: Named, M: Mailbox<W> + Drop, R: Wait>(
+    rt: &R,
+    post: &Post<W, M>,
+    mut owner: PostOwner<W, M>,
+    enough: u64,
+) -> (PostOwner<W, M>, Served)
+where
+    M::Sender: Drop,
+    M::Taker: Drop,
+    requires owner { IsOwnerOf M.is_taker post.now owner }
+    requires unclosed { owner.owner.phase ≢ Closed }
+    ensures owner { IsOwnerOf M.is_taker post.now result.0 }
+    ensures closed { IsTrue result.1.closed → (result.0.owner.phase ≡ Closed) × (result.0.owner.run ≡ result.0.taken) }
+{
+    let mut served = Served {
+        taken: [0, 0, 0],
+        in_order: true,
+        closed: false,
+    };
+    let mut more = enough;
+    let mut tries = 0;
+    for _ in rt.forever() {
+        match post.take::<R>(rt, &mut owner) {
+            // It has the next number of its lane.
+            Some(envelope) => {
+                served.note(&envelope);
+                tries = 0;
+                if more == 1 {
+                    post.begin_close(&mut owner);
+                }
+                more = more.saturating_sub(1);
+            }
+            None => {
+                // Nobody sends any more, and all that was sent was taken.
+                if more == 0 && post.finish(&mut owner).is_ok() {
+                    served.closed = true;
+                    break;
+                }
+                if tries == MAX_TRIES {
+                    break;
+                }
+                tries += 1;
+                thread::yield_now();
+            }
+        }
+    }
+    (owner, served)
+}
+
+/// A post with three seats, of which each has the lane of a channel from 0 to 2, and its owner. None where memory is refused, or
+/// the capacity is past the limits.
+pub fn open_three<W: Named, M: Mailbox<W> + Drop>(
+    alloc: Global,
+    capacity: usize,
+) -> Option<
+    (
+        Post<W, M>,
+        (PostSeat<W, M>, PostSeat<W, M>, PostSeat<W, M>),
+        PostOwner<W, M>,
+    ),
+>
+where
+    M::Sender: Drop,
+    M::Taker: Drop,
+    ensures first { IfSome result (λ r. IsSeatOf M.is_sender r.0 r.1.0 × IsNext (the_data_lane 0 0) 0 (M.sends_of r.1.0.sender)) }
+    ensures second { IfSome result (λ r. IsSeatOf M.is_sender r.0 r.1.1 × IsNext (the_data_lane 1 0) 0 (M.sends_of r.1.1.sender)) }
+    ensures third { IfSome result (λ r. IsSeatOf M.is_sender r.0 r.1.2 × IsNext (the_data_lane 2 0) 0 (M.sends_of r.1.2.sender)) }
+    ensures owner { IfSome result (λ r. IsOwnerOf M.is_taker r.0 r.2 × (r.2.owner.phase ≡ Accepting)) }
+{
+    let one = Vec::from_array(alloc, [lane(0)]).ok()?;
+    let two = Vec::from_array(alloc, [lane(1)]).ok()?;
+    let three = Vec::from_array(alloc, [lane(2)]).ok()?;
+    let lanes = Vec::from_array(alloc, [one, two, three]).ok()?;
+    let (post, mut seats, owner) = Post::<W, M>::open(alloc, lanes, capacity).ok()?;
+    let (Some(third), Some(second), Some(first)) = (seats.pop(), seats.pop(), seats.pop()) else {
+        unreachable!()
+    };
+    Some((post, (first, second, third), owner))
+}
+
+/// What became of three threads that fed a post, and of its owner.
+#[derive(Debug, Drop)]
+pub struct Closing {
+    pub first: Fed,
+    pub second: Fed,
+    pub third: Fed,
+    pub served: Served,
+}
+
+// Three threads feed, and a fourth takes and closes.
+fn all_four<W: Named + Send + Sync, M: Mailbox<W> + Drop + Send + Sync, R: Threads + Wait + Sync>(
+    rt: &R,
+    post: &Post<W, M>,
+    seats: (PostSeat<W, M>, PostSeat<W, M>, PostSeat<W, M>),
+    owner: PostOwner<W, M>,
+    count: u64,
+    enough: u64,
+) -> Closing
+where
+    M::Sender: Drop + Send,
+    M::Taker: Drop + Send,
+    requires first { IsSeatOf M.is_sender post.now seats.0 × IsNext (the_data_lane 0 0) 0 (M.sends_of seats.0.sender) × (content_of W.world (the_data_lane 0 0) ≡ Some (lane_events count)) }
+    requires second { IsSeatOf M.is_sender post.now seats.1 × IsNext (the_data_lane 1 0) 0 (M.sends_of seats.1.sender) × (content_of W.world (the_data_lane 1 0) ≡ Some (lane_events count)) }
+    requires third { IsSeatOf M.is_sender post.now seats.2 × IsNext (the_data_lane 2 0) 0 (M.sends_of seats.2.sender) × (content_of W.world (the_data_lane 2 0) ≡ Some (lane_events count)) }
+    requires few { count < 2 ^ 32 }
+    requires owner { IsOwnerOf M.is_taker post.now owner × (owner.owner.phase ≢ Closed) }
+{
+    let (one, two, three) = seats;
+    let (first, second, (third, served)) = join_three(
+        rt,
+        move || -> Fed
+            requires { IsSeatOf M.is_sender post.now one × IsNext (the_data_lane 0 0) 0 (M.sends_of one.sender) × (content_of W.world (the_data_lane 0 0) ≡ Some (lane_events count)) × (count < 2 ^ 32) }
+        { feed::<W, M, R>(rt, post, one, lane(0), count).1 },
+        move || -> Fed
+            requires { IsSeatOf M.is_sender post.now two × IsNext (the_data_lane 1 0) 0 (M.sends_of two.sender) × (content_of W.world (the_data_lane 1 0) ≡ Some (lane_events count)) × (count < 2 ^ 32) }
+        { feed::<W, M, R>(rt, post, two, lane(1), count).1 },
+        move || -> (Fed, Served)
+            requires { (IsSeatOf M.is_sender post.now three × IsNext (the_data_lane 2 0) 0 (M.sends_of three.sender) × (content_of W.world (the_data_lane 2 0) ≡ Some (lane_events count)) × (count < 2 ^ 32)) × IsOwnerOf M.is_taker post.now owner × (owner.owner.phase ≢ Closed) }
+        {
+            thread::join(
+                rt,
+                move || -> Fed
+                    requires { IsSeatOf M.is_sender post.now three × IsNext (the_data_lane 2 0) 0 (M.sends_of three.sender) × (content_of W.world (the_data_lane 2 0) ≡ Some (lane_events count)) × (count < 2 ^ 32) }
+                { feed::<W, M, R>(rt, post, three, lane(2), count).1 },
+                move || -> Served
+                    requires { IsOwnerOf M.is_taker post.now owner × (owner.owner.phase ≢ Closed) }
+                { serve::<W, M, R>(rt, post, owner, enough).1 },
+            )
+        },
+    );
+    Closing {
+        first,
+        second,
+        third,
+        served,
+    }
+}
+
+/// Three threads send the first so many envelopes of a lane of their own, while the owner takes, and closes once it has taken
+/// enough. None where the post was not opened.
+pub fn three_feed_while_closing<
+    W: Named + Send + Sync,
+    M: Mailbox<W> + Drop + Send + Sync,
+    R: Threads + Wait + Sync,
+>(rt: &R, alloc: Global, capacity: usize, count: u64, enough: u64) -> Option<Closing>
+where
+    M::Sender: Drop + Send,
+    M::Taker: Drop + Send,
+    requires few { count < 2 ^ 32 }
+    requires first { content_of W.world (the_data_lane 0 0) ≡ Some (lane_events count) }
+    requires second { content_of W.world (the_data_lane 1 0) ≡ Some (lane_events count) }
+    requires third { content_of W.world (the_data_lane 2 0) ≡ Some (lane_events count) }
+{
+    let (post, seats, owner) = open_three::<W, M>(alloc, capacity)?;
+    Some(all_four::<W, M, R>(rt, &post, seats, owner, count, enough))
 }

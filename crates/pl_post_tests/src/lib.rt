@@ -2,5 +2,10 @@
 #![tactic(auto)]
 
 mod feeding;
+#[cfg(test)]
+mod tests;
 
-pub use feeding::{Fed, MAX_TRIES, event, feed, lane, send_when_room};
+pub use feeding::{
+    Closing, Fed, MAX_TRIES, Served, event, feed, lane, open_three, send_when_room, serve,
+    three_feed_while_closing,
+};

@@ -1,0 +1,5 @@
+//! Tests of posts.
+
+mod answering;
+mod loads;
+mod post_tests;

@@ -1,0 +1,163 @@
+//! What the calls of a post answer, on one thread.
+
+ghost use Rattle.std.specs.Prelude.{◌≡◌, ◌+◌, ◌<◌, ◌≤◌, ◌^◌, IfSome};
+ghost use Rattle.pl_event.specs.Hops.{flags_lane};
+ghost use Rattle.pl_post.specs.Posts.{IsSeatOf, IsOwnerOf};
+ghost use Rattle.pl_post_tests.specs.Feeding.{IsNext};
+
+use pl_event::Named;
+use pl_post::{Post, PostOwner, PostSeat, StillOpen, Unsent};
+use pl_queue::{Mailbox, OpenRefusal};
+use pl_queue_tests::{flag, lane as flags, lists};
+use std::alloc::Global;
+use std::sync::Wait;
+
+/// Opens a post with at least one seat, which has all lanes. None where it was opened.
+pub fn refusal<W: Named, M: Mailbox<W> + Drop>(
+    alloc: Global,
+    lanes: u16,
+    senders: u32,
+    capacity: usize,
+) -> Option<OpenRefusal>
+where
+    M::Sender: Drop,
+    M::Taker: Drop,
+{
+    let Ok(lists) = lists(alloc, lanes, 1, senders) else {
+        return Some(OpenRefusal::Memory);
+    };
+    match Post::<W, M>::open(alloc, lists, capacity) {
+        Ok(_opened) => None,
+        Err(refusal) => Some(refusal),
+    }
+}
+
+/// A post with one seat, which has the flags lane of hop 0 of channel 0, and its owner.
+fn open_one<W: Named, M: Mailbox<W> + Drop>(
+    alloc: Global,
+    capacity: usize,
+) -> Option<(Post<W, M>, PostSeat<W, M>, PostOwner<W, M>)>
+where
+    M::Sender: Drop,
+    M::Taker: Drop,
+    ensures seat { IfSome result (λ r. IsSeatOf M.is_sender r.0 r.1 × IsNext (flags_lane 0 0) 0 (M.sends_of r.1.sender)) }
+    ensures owner { IfSome result (λ r. IsOwnerOf M.is_taker r.0 r.2) }
+{
+    let own = Vec::from_array(alloc, [flags(0, 0)]).ok()?;
+    let lanes = Vec::from_array(alloc, [own]).ok()?;
+    let (post, mut seats, owner) = Post::<W, M>::open(alloc, lanes, capacity).ok()?;
+    let Some(seat) = seats.pop() else {
+        unreachable!()
+    };
+    Some((post, seat, owner))
+}
+
+/// What a call answered.
+#[derive(Clone, Copy, Debug, PartialEq, Eq)]
+pub enum Answer {
+    Sent,
+    Full,
+    Closed,
+    Spent,
+    /// The envelope with this number.
+    Took(u64),
+    Nothing,
+    Open(StillOpen),
+    Finished,
+}
+
+// Sends the next flag.
+fn send_next<W: Named, M: Mailbox<W> + Drop, R: Wait>(
+    rt: &R,
+    post: &Post<W, M>,
+    seat: &mut PostSeat<W, M>,
+    next: &mut u64,
+) -> Answer
+where
+    M::Sender: Drop,
+    M::Taker: Drop,
+    requires seat { IsSeatOf M.is_sender post.now seat.old }
+    requires next { IsNext (flags_lane 0 0) next.old (M.sends_of seat.old.sender) }
+    requires small { next.old < 2 ^ 32 }
+    ensures seat { IsSeatOf M.is_sender post.now seat.new }
+    ensures next { IsNext (flags_lane 0 0) next.new (M.sends_of seat.new.sender) }
+    ensures small { next.new ≤ next.old + 1 }
+{
+    let number = *next;
+    match post.send::<R>(rt, seat, flag(flags(0, 0), number)) {
+        Ok(()) => {
+            *next = number + 1;
+            Answer::Sent
+        }
+        Err(Unsent::Full(_back)) => Answer::Full,
+        Err(Unsent::Closed(_back)) => Answer::Closed,
+        Err(Unsent::Spent(_back)) => Answer::Spent,
+    }
+}
+
+// Takes what is there.
+fn take_next<W: Named, M: Mailbox<W> + Drop, R: Wait>(
+    rt: &R,
+    post: &Post<W, M>,
+    owner: &mut PostOwner<W, M>,
+) -> Answer
+where
+    M::Sender: Drop,
+    M::Taker: Drop,
+    requires owner { IsOwnerOf M.is_taker post.now owner.old }
+    ensures owner { IsOwnerOf M.is_taker post.now owner.new }
+{
+    match post.take::<R>(rt, owner) {
+        Some(envelope) => Answer::Took(envelope.number),
+        None => Answer::Nothing,
+    }
+}
+
+// An attempt to close.
+fn finish<W: Named, M: Mailbox<W> + Drop>(post: &Post<W, M>, owner: &mut PostOwner<W, M>) -> Answer
+where
+    M::Sender: Drop,
+    M::Taker: Drop,
+    requires owner { IsOwnerOf M.is_taker post.now owner.old }
+    ensures owner { IsOwnerOf M.is_taker post.now owner.new }
+{
+    match post.finish(owner) {
+        Ok(()) => Answer::Finished,
+        Err(found) => Answer::Open(found),
+    }
+}
+
+/// What a post of capacity 1 answers: to an attempt to close, to so many sends, and, once closing has begun, to an attempt to
+/// close, a take, an attempt to close, a send, a take and an attempt to close. None where memory was refused.
+pub fn answers<W: Named, M: Mailbox<W> + Drop, R: Wait>(
+    rt: &R,
+    alloc: Global,
+    sends: u32,
+) -> Option<Vec<Answer>>
+where
+    M::Sender: Drop,
+    M::Taker: Drop,
+{
+    let (post, mut seat, mut owner) = open_one::<W, M>(alloc, 1)?;
+    let mut answers = Vec::new(alloc);
+    answers.push(finish(&post, &mut owner)).ok()?;
+    let mut next = 0;
+    for count in 0..sends {
+        let answer = send_next::<W, M, R>(rt, &post, &mut seat, &mut next);
+        answers.push(answer).ok()?;
+    }
+    post.begin_close(&mut owner);
+    answers.push(finish(&post, &mut owner)).ok()?;
+    answers
+        .push(take_next::<W, M, R>(rt, &post, &mut owner))
+        .ok()?;
+    answers.push(finish(&post, &mut owner)).ok()?;
+    answers
+        .push(send_next::<W, M, R>(rt, &post, &mut seat, &mut next))
+        .ok()?;
+    answers
+        .push(take_next::<W, M, R>(rt, &post, &mut owner))
+        .ok()?;
+    answers.push(finish(&post, &mut owner)).ok()?;
+    Some(answers)
+}

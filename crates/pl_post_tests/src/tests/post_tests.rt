@@ -1,0 +1,192 @@
+//! Each over either mailbox: closing under load, the lesson of pl_post's README, and what the calls answer.
+
+use crate::feeding::{Closing, Fed, event, lane, three_feed_while_closing};
+use crate::tests::answering::Answer::{self, Closed, Finished, Full, Nothing, Open, Sent, Took};
+use crate::tests::answering::{answers, refusal};
+use crate::tests::loads::{EVENTS, Load, two_send_while_closing};
+use pl_event::{Envelope, Item, Named};
+use pl_post::{StillOpen, Unsent};
+use pl_queue::{Mailbox, OpenRefusal, RingBox, WaitingBox};
+use std::alloc::Global;
+use std::marker::Brand;
+use std::process::Abort;
+use std::sync::Wait;
+use std::test::*;
+use std::thread::Threads;
+
+// The next envelope of a lane, back since the post was closed.
+fn closed_at(channel: u16, number: u64) -> Unsent {
+    if number < EVENTS {
+        return Unsent::Closed(event(lane(channel), number));
+    }
+    Unsent::Closed(Envelope {
+        lane: lane(channel),
+        number,
+        item: Item::End,
+    })
+}
+
+// How a thread ends: it sent what was taken of its lane, and where that is not all, the next envelope is back.
+fn assert_fed(rt: &impl Abort, fed: &Fed, channel: u16, taken: u64, count: u64) {
+    assert_eq!(rt; fed.sent, taken);
+    let unsent = if fed.sent < count {
+        Some(closed_at(channel, fed.sent))
+    } else {
+        None
+    };
+    assert_eq!(rt; fed.unsent, unsent);
+}
+
+// Each lane comes as the numbers from 0 up to, not including, how many were sent; and the post is closed to the next.
+fn assert_load(rt: &impl Abort, load: &Load) {
+    assert!(rt; load.served.closed);
+    assert!(rt; load.served.in_order);
+    assert_eq!(rt; load.served.taken[2], 0);
+    assert_fed(rt, &load.first, 0, load.served.taken[0], EVENTS);
+    assert_fed(rt, &load.second, 1, load.served.taken[1], EVENTS);
+    assert_eq!(rt; load.first_after, Err(closed_at(0, load.first.sent)));
+    assert_eq!(rt; load.second_after, Err(closed_at(1, load.second.sent)));
+    let taken = load.served.taken[0].saturating_add(load.served.taken[1]);
+    assert!(rt; taken >= 500);
+}
+
+fn assert_closing(rt: &impl Abort, closing: &Closing, count: u64) {
+    assert!(rt; closing.served.closed);
+    assert!(rt; closing.served.in_order);
+    assert_fed(rt, &closing.first, 0, closing.served.taken[0], count);
+    assert_fed(rt, &closing.second, 1, closing.served.taken[1], count);
+    assert_fed(rt, &closing.third, 2, closing.served.taken[2], count);
+}
+
+#[test]
+fn post_closes_under_load_ring(rt: HostRuntime) -> Result<(), Fail> {
+    let load = two_send_while_closing::<Brand, RingBox<Brand>, HostRuntime>(&rt, rt.alloc());
+    assert_load(&rt, &load.ok_or("it was not opened")?);
+    Ok(())
+}
+
+#[test]
+fn post_closes_under_load_waiting(rt: HostRuntime) -> Result<(), Fail> {
+    let load = two_send_while_closing::<Brand, WaitingBox<Brand>, HostRuntime>(&rt, rt.alloc());
+    assert_load(&rt, &load.ok_or("it was not opened")?);
+    Ok(())
+}
+
+#[test]
+fn three_feed_while_closing_ring(rt: HostRuntime) -> Result<(), Fail> {
+    let closing = three_feed_while_closing::<Brand, RingBox<Brand>, HostRuntime>(
+        &rt,
+        rt.alloc(),
+        4,
+        EVENTS,
+        1_000,
+    );
+    assert_closing(&rt, &closing.ok_or("it was not opened")?, EVENTS);
+    Ok(())
+}
+
+#[test]
+fn three_feed_while_closing_waiting(rt: HostRuntime) -> Result<(), Fail> {
+    let closing = three_feed_while_closing::<Brand, WaitingBox<Brand>, HostRuntime>(
+        &rt,
+        rt.alloc(),
+        4,
+        EVENTS,
+        1_000,
+    );
+    assert_closing(&rt, &closing.ok_or("it was not opened")?, EVENTS);
+    Ok(())
+}
+
+// So many admissions are counted.
+const fn counted(count: u64, closing: bool) -> Answer {
+    Open(StillOpen { count, closing })
+}
+
+// Of three sends into a ring of capacity 1 two find it full, and only the first is counted.
+#[test]
+fn full_gives_the_admission_back(rt: HostRuntime) -> Result<(), Fail> {
+    let expected = [
+        counted(0, false),
+        Sent,
+        Full,
+        Full,
+        counted(1, true),
+        Took(0),
+        Finished,
+        Closed,
+        Nothing,
+        Finished,
+    ];
+    let answers = answers::<Brand, RingBox<Brand>, HostRuntime>(&rt, rt.alloc(), 3).ok_or(
+        "no memory",
+    )?;
+    assert_eq!(rt; answers.as_slice(), expected.as_slice());
+    Ok(())
+}
+
+#[test]
+fn sends_takes_and_closes(rt: HostRuntime) -> Result<(), Fail> {
+    let expected = [
+        counted(0, false),
+        Sent,
+        counted(1, true),
+        Took(0),
+        Finished,
+        Closed,
+        Nothing,
+        Finished,
+    ];
+    let answers = answers::<Brand, WaitingBox<Brand>, HostRuntime>(&rt, rt.alloc(), 1).ok_or(
+        "no memory",
+    )?;
+    assert_eq!(rt; answers.as_slice(), expected.as_slice());
+    Ok(())
+}
+
+// With nothing sent it closes with nothing taken.
+#[test]
+fn closes_with_nothing_sent(rt: HostRuntime) -> Result<(), Fail> {
+    let expected = [
+        counted(0, false),
+        Finished,
+        Nothing,
+        Finished,
+        Closed,
+        Nothing,
+        Finished,
+    ];
+    let answers = answers::<Brand, RingBox<Brand>, HostRuntime>(&rt, rt.alloc(), 0).ok_or(
+        "no memory",
+    )?;
+    assert_eq!(rt; answers.as_slice(), expected.as_slice());
+    Ok(())
+}
+
+fn post_limits<W: Named, M: Mailbox<W> + Drop>(rt: &impl Abort, alloc: Global)
+where
+    M::Sender: Drop,
+    M::Taker: Drop,
+{
+    let limit = Some(OpenRefusal::Limit);
+    assert_eq!(rt; refusal::<W, M>(alloc, 1, 1, 0), limit);
+    assert_eq!(rt; refusal::<W, M>(alloc, 1, 1, 1), None);
+    assert_eq!(rt; refusal::<W, M>(alloc, 1, 1, 65_536), None);
+    assert_eq!(rt; refusal::<W, M>(alloc, 1, 1, 65_537), limit);
+    assert_eq!(rt; refusal::<W, M>(alloc, 8_192, 1, 1), None);
+    assert_eq!(rt; refusal::<W, M>(alloc, 8_193, 1, 1), limit);
+    assert_eq!(rt; refusal::<W, M>(alloc, 8_192, 65_535, 1), None);
+    assert_eq!(rt; refusal::<W, M>(alloc, 1, 65_536, 1), limit);
+}
+
+#[test]
+fn post_limits_ring(rt: HostRuntime) -> Result<(), Fail> {
+    post_limits::<Brand, RingBox<Brand>>(&rt, rt.alloc());
+    Ok(())
+}
+
+#[test]
+fn post_limits_waiting(rt: HostRuntime) -> Result<(), Fail> {
+    post_limits::<Brand, WaitingBox<Brand>>(&rt, rt.alloc());
+    Ok(())
+}
