@@ -190,17 +190,17 @@ where
                 // Nobody sends any more, and all that was sent was taken.
                 if more == 0 && post.finish(&mut owner).is_ok() {
                     served.closed = true;
-                    break;
+                    return (owner, served);
                 }
                 if tries == MAX_TRIES {
-                    break;
+                    return (owner, served);
                 }
                 tries += 1;
                 thread::yield_now();
             }
         }
     }
-    (owner, served)
+    unreachable!()
 }
 
 /// A post with three seats, of which each has the lane of a channel from 0 to 2, and its owner. None where memory is refused, or
