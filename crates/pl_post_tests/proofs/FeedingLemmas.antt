@@ -3,6 +3,8 @@ use Rattle.std.proofs.Common.{◌≡◌, ℕ, List, [], ◌∷◌, ◌++◌, map
 use Rattle.std.proofs.lemmas.List.{length-append, map_push}
 use Rattle.pl_event.specs.declared.envelopes.Lane.{Lane}
 use Rattle.pl_queue.specs.declared.views.SenderView.{SenderView}
+use Rattle.pl_event.specs.Hops.{same_lane, data_lane}
+use Rattle.pl_queue.specs.Left.{Apart, all_lanes}
 use Rattle.pl_queue.specs.Rule.{Each}
 use Rattle.pl_queue.specs.Views.{fresh_sends}
 use Rattle.pl_queue_tests.proofs.RelayLemmas.{fresh}
@@ -47,3 +49,11 @@ three-seats P f h all more fewer none x y z lanes a b c k l m each is popped pop
       (second.1.0, (fresh l (f y) (second.1.1 ∙ ap fresh_sends two)).0),
       (third.1.0, (fresh m (f z) (third.1.1 ∙ ap fresh_sends three)).0),
     )
+
+three-lanes : Apart (data_lane 0 0 ∷ data_lane 1 0 ∷ data_lane 2 0 ∷ [])
+unfolding same_lane
+three-lanes = ((refl, refl, tt), (refl, tt), tt, tt)
+
+pub three-apart : {V : Type 0} (h : V → List Lane) (lanes : List V) (a b c : V) → lanes ≡ a ∷ b ∷ c ∷ [] → h a ≡ data_lane 0 0 ∷ [] → h b ≡ data_lane 1 0 ∷ [] → h c ≡ data_lane 2 0 ∷ [] → Apart (all_lanes (map h lanes))
+three-apart h lanes a b c made one two three =
+    subst Apart (sym (ap (λ vs. all_lanes (map h vs)) made ∙ (λ i. one i ++ (two i ++ (three i ++ []))))) three-lanes

@@ -223,12 +223,28 @@ where
     ensures third { IfSome result (λ r. IsSeatOf M.is_sender r.0 r.1.2 × IsNext (the_data_lane 2 0) 0 (M.sends_of r.1.2.sender)) }
     ensures owner { IfSome result (λ r. IsOwnerOf M.is_taker r.0 r.2 × (r.2.owner.phase ≡ Accepting)) }
 {
-    let one = Vec::from_array(alloc, [lane(0)]).ok()?;
-    let two = Vec::from_array(alloc, [lane(1)]).ok()?;
-    let three = Vec::from_array(alloc, [lane(2)]).ok()?;
-    let lanes = Vec::from_array(alloc, [one, two, three]).ok()?;
-    let (post, mut seats, owner) = Post::<W, M>::open(alloc, lanes, capacity).ok()?;
-    let (Some(third), Some(second), Some(first)) = (seats.pop(), seats.pop(), seats.pop()) else {
+    let Ok(one) = Vec::from_array(alloc, [lane(0)]) else {
+        return None;
+    };
+    let Ok(two) = Vec::from_array(alloc, [lane(1)]) else {
+        return None;
+    };
+    let Ok(three) = Vec::from_array(alloc, [lane(2)]) else {
+        return None;
+    };
+    let Ok(lanes) = Vec::from_array(alloc, [one, two, three]) else {
+        return None;
+    };
+    let Ok((post, mut seats, owner)) = Post::<W, M>::open(alloc, lanes, capacity) else {
+        return None;
+    };
+    let Some(third) = seats.pop() else {
+        unreachable!()
+    };
+    let Some(second) = seats.pop() else {
+        unreachable!()
+    };
+    let Some(first) = seats.pop() else {
         unreachable!()
     };
     Some((post, (first, second, third), owner))
