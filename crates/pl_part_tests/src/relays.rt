@@ -1,6 +1,6 @@
 //! Stages that hand each event on, and a part with all nodes of their channel.
 
-ghost use Rattle.std.specs.Prelude.{◌≡◌, ◌==◌, [], ◌∷◌, ◌++◌, IfOk, OnOk, OnErr, false};
+ghost use Rattle.std.specs.Prelude.{◌≡◌, [], ◌∷◌, ◌++◌, IfOk, OnOk, OnErr, false};
 ghost use Rattle.pl_part_tests.specs.declared.relays.Relay.{Relay};
 ghost use Rattle.pl_context.specs.OutputsViews.{OutputsView};
 ghost use Rattle.pl_context.specs.Stops.{no_stops};
@@ -21,6 +21,7 @@ use std::alloc::{AllocError, Global};
 pub(crate) struct Relay {
     direction: Direction,
     steps: u32,
+    is_spent: bool,
 }
 
 impl Stage for Relay {
@@ -28,14 +29,18 @@ impl Stage for Relay {
 
     ghost stands_after = { λ _ _. Unit {0} };
 
-    ghost is_spent = { λ s. s.steps == 0 };
+    ghost is_spent = { λ s. s.is_spent };
 
     fn direction(&self) -> Direction {
         self.direction
     }
 
     fn step(&mut self, event: Event, up: &mut Vec<Event>, down: &mut Vec<Event>) -> Stepped {
+        if self.is_spent {
+            return Err(StageFault::Memory);
+        }
         if self.steps == 0 {
+            self.is_spent = true;
             return Err(StageFault::Memory);
         }
         match pass(self.direction, event, up, down) {
@@ -44,7 +49,7 @@ impl Stage for Relay {
                 Ok(Turned::Open)
             }
             Err(_) => {
-                self.steps = 0;
+                self.is_spent = true;
                 Err(StageFault::Memory)
             }
         }
@@ -56,7 +61,11 @@ impl Stage for Relay {
 fn new_relay(direction: Direction, steps: u32) -> Relay
     ensures { result.direction ≡ direction }
 {
-    Relay { direction, steps }
+    Relay {
+        direction,
+        steps,
+        is_spent: false,
+    }
 }
 
 fn pass(

@@ -7,8 +7,12 @@ use Rattle.pl_event.specs.Hops.{same_lane, data_lane}
 use Rattle.pl_queue.specs.Left.{Apart, all_lanes}
 use Rattle.pl_queue.specs.Rule.{Each}
 use Rattle.pl_queue.specs.Views.{fresh_sends}
-use Rattle.pl_queue_tests.proofs.RelayLemmas.{fresh}
-use Rattle.pl_post_tests.specs.Feeding.{IsNext}
+use Rattle.std.proofs.lemmas.Bool.{cond-false}
+use Rattle.std.proofs.Common.{Some}
+use Rattle.pl_event.specs.Worlds.{content_in, content_of}
+use Rattle.pl_queue_tests.specs.Relays.{lane_events}
+use Rattle.pl_queue_tests.proofs.RelayLemmas.{fresh, in_first, in_second}
+use Rattle.pl_post_tests.specs.Feeding.{IsNext, three_lanes}
 
 head-is : {A : Type 0} (x y : A) (xs ys : List A) → x ∷ xs ≡ y ∷ ys → x ≡ y
 head-is x y xs ys e = cc
@@ -24,6 +28,10 @@ last-same (z ∷ xs) (w ∷ ys) x y e =
     let front = head-is z w (xs ++ x ∷ []) (ys ++ y ∷ []) e in
     let rest = last-same xs ys x y (tail-is z w (xs ++ x ∷ []) (ys ++ y ∷ []) e) in
     ((λ i. front i ∷ rest.0 i), rest.1)
+
+pub each-first : {S : Type 0} (P Q : S → Type 0) (xs : List S) → Each (λ s. P s × Q s) xs → Each P xs
+each-first P Q [] all = tt
+each-first P Q (x ∷ xs) all = (all.0.0, each-first P Q xs all.1)
 
 each-last : {S : Type 0} (P : S → Type 0) (front : List S) (x : S) → Each P (front ++ x ∷ []) → Each P front × P x
 each-last P [] x all = (tt, all.0)
@@ -50,10 +58,30 @@ three-seats P f h all more fewer none x y z lanes a b c k l m each is popped pop
       (third.1.0, (fresh m (f z) (third.1.1 ∙ ap fresh_sends three)).0),
     )
 
-three-lanes : Apart (data_lane 0 0 ∷ data_lane 1 0 ∷ data_lane 2 0 ∷ [])
+all-apart : Apart (data_lane 0 0 ∷ data_lane 1 0 ∷ data_lane 2 0 ∷ [])
 unfolding same_lane
-three-lanes = ((refl, refl, tt), (refl, tt), tt, tt)
+all-apart = ((refl, (refl, tt)), ((refl, tt), (tt, tt)))
 
 pub three-apart : {V : Type 0} (h : V → List Lane) (lanes : List V) (a b c : V) → lanes ≡ a ∷ b ∷ c ∷ [] → h a ≡ data_lane 0 0 ∷ [] → h b ≡ data_lane 1 0 ∷ [] → h c ≡ data_lane 2 0 ∷ [] → Apart (all_lanes (map h lanes))
 three-apart h lanes a b c made one two three =
-    subst Apart (sym (ap (λ vs. all_lanes (map h vs)) made ∙ (λ i. one i ++ (two i ++ (three i ++ []))))) three-lanes
+    subst Apart (sym (ap (λ vs. all_lanes (map h vs)) made ∙ (λ i. one i ++ (two i ++ (three i ++ []))))) all-apart
+
+pub one-apart : {V : Type 0} (h : V → List Lane) (lanes : List V) (a : V) (l : Lane) → lanes ≡ a ∷ [] → h a ≡ l ∷ [] → Apart (all_lanes (map h lanes))
+one-apart h lanes a l made one = subst Apart (sym (ap (λ vs. all_lanes (map h vs)) made ∙ (λ i. one i ++ []))) (tt, tt)
+
+-- what the three lanes carry
+
+pub carries-first : (n : ℕ) → content_of (three_lanes n) (data_lane 0 0) ≡ Some (lane_events n)
+carries-first n = in_first (data_lane 0 0) (lane_events n) ((data_lane 1 0, lane_events n) ∷ (data_lane 2 0, lane_events n) ∷ [])
+
+pub carries-second : (n : ℕ) → content_of (three_lanes n) (data_lane 1 0) ≡ Some (lane_events n)
+unfolding same_lane
+carries-second n =
+    cond-false (same_lane (data_lane 1 0) (data_lane 0 0)) (Some (lane_events n)) (content_in ((data_lane 1 0, lane_events n) ∷ (data_lane 2 0, lane_events n) ∷ []) (data_lane 1 0)) refl
+    ∙ in_first (data_lane 1 0) (lane_events n) ((data_lane 2 0, lane_events n) ∷ [])
+
+pub carries-third : (n : ℕ) → content_of (three_lanes n) (data_lane 2 0) ≡ Some (lane_events n)
+unfolding same_lane
+carries-third n =
+    cond-false (same_lane (data_lane 2 0) (data_lane 0 0)) (Some (lane_events n)) (content_in ((data_lane 1 0, lane_events n) ∷ (data_lane 2 0, lane_events n) ∷ []) (data_lane 2 0)) refl
+    ∙ in_second (data_lane 1 0) (data_lane 2 0) (lane_events n) (lane_events n) refl

@@ -1,6 +1,6 @@
 //! Contexts, the tail, outputs and backlogs: faults, failures, an end, flags, and what becomes of what finds no memory.
 
-ghost use Rattle.std.specs.Prelude.{◌≡◌, ◌==◌, ◌++◌, ◌∷◌, [], ◌<◌, OnOk, OnErr, vec_len, vec_capacity};
+ghost use Rattle.std.specs.Prelude.{◌≡◌, ◌++◌, ◌∷◌, [], ◌<◌, OnOk, OnErr, vec_len, vec_capacity};
 ghost use Rattle.pl_nodes_tests.specs.declared.tests.context_tests.Relay.{Relay};
 ghost use Rattle.pl_nodes_tests.specs.Samples.{relaying, has_quit, relaying-lawful, passed_up, passed_down, is_complete, turned_by, sample_lane};
 ghost use Rattle.pl_context.specs.Stops.{HasPlaces, no_stops};
@@ -23,6 +23,7 @@ struct Relay {
     direction: Direction,
     has_quit: bool,
     steps: u32,
+    is_spent: bool,
 }
 
 impl Stage for Relay {
@@ -30,7 +31,7 @@ impl Stage for Relay {
 
     ghost stands_after = { λ s xs. s.has_quit ≡ has_quit xs };
 
-    ghost is_spent = { λ s. s.steps == 0 };
+    ghost is_spent = { λ s. s.is_spent };
 
     fn direction(&self) -> Direction {
         self.direction
@@ -38,7 +39,11 @@ impl Stage for Relay {
 
     fn step(&mut self, event: Event, up: &mut Vec<Event>, down: &mut Vec<Event>) -> Stepped {
         let completes = is_complete(&event);
+        if self.is_spent {
+            return Err(StageFault::Memory);
+        }
         if self.steps == 0 {
+            self.is_spent = true;
             return Err(StageFault::Memory);
         }
         match pass(self.direction, event, up, down, self.has_quit) {
@@ -48,7 +53,7 @@ impl Stage for Relay {
                 Ok(turned(self.direction, self.has_quit))
             }
             Err(_) => {
-                self.steps = 0;
+                self.is_spent = true;
                 Err(StageFault::Memory)
             }
         }
@@ -66,6 +71,7 @@ impl Relay {
             direction,
             has_quit: false,
             steps,
+            is_spent: false,
         }
     }
 }

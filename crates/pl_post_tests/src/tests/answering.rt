@@ -43,9 +43,15 @@ where
     ensures seat { IfSome result (λ r. IsSeatOf M.is_sender r.0 r.1 × IsNext (flags_lane 0 0) 0 (M.sends_of r.1.sender)) }
     ensures owner { IfSome result (λ r. IsOwnerOf M.is_taker r.0 r.2) }
 {
-    let own = Vec::from_array(alloc, [flags(0, 0)]).ok()?;
-    let lanes = Vec::from_array(alloc, [own]).ok()?;
-    let (post, mut seats, owner) = Post::<W, M>::open(alloc, lanes, capacity).ok()?;
+    let Ok(own) = Vec::from_array(alloc, [flags(0, 0)]) else {
+        return None;
+    };
+    let Ok(lanes) = Vec::from_array(alloc, [own]) else {
+        return None;
+    };
+    let Ok((post, mut seats, owner)) = Post::<W, M>::open(alloc, lanes, capacity) else {
+        return None;
+    };
     let Some(seat) = seats.pop() else {
         unreachable!()
     };
@@ -138,26 +144,44 @@ where
     M::Sender: Drop,
     M::Taker: Drop,
 {
-    let (post, mut seat, mut owner) = open_one::<W, M>(alloc, 1)?;
+    let (post, seat, owner) = open_one::<W, M>(alloc, 1)?;
+    ask::<W, M, R>(rt, alloc, &post, seat, owner, sends)
+}
+
+// The same of a post that was opened.
+fn ask<W: Named, M: Mailbox<W> + Drop, R: Wait>(
+    rt: &R,
+    alloc: Global,
+    post: &Post<W, M>,
+    mut seat: PostSeat<W, M>,
+    mut owner: PostOwner<W, M>,
+    sends: u32,
+) -> Option<Vec<Answer>>
+where
+    M::Sender: Drop,
+    M::Taker: Drop,
+    requires seat { IsSeatOf M.is_sender post.now seat × IsNext (flags_lane 0 0) 0 (M.sends_of seat.sender) }
+    requires owner { IsOwnerOf M.is_taker post.now owner }
+{
     let mut answers = Vec::new(alloc);
-    answers.push(finish(&post, &mut owner)).ok()?;
+    answers.push(finish(post, &mut owner)).ok()?;
     let mut next = 0;
     for count in 0..sends {
-        let answer = send_next::<W, M, R>(rt, &post, &mut seat, &mut next);
+        let answer = send_next::<W, M, R>(rt, post, &mut seat, &mut next);
         answers.push(answer).ok()?;
     }
     post.begin_close(&mut owner);
-    answers.push(finish(&post, &mut owner)).ok()?;
+    answers.push(finish(post, &mut owner)).ok()?;
     answers
-        .push(take_next::<W, M, R>(rt, &post, &mut owner))
+        .push(take_next::<W, M, R>(rt, post, &mut owner))
         .ok()?;
-    answers.push(finish(&post, &mut owner)).ok()?;
+    answers.push(finish(post, &mut owner)).ok()?;
     answers
-        .push(send_next::<W, M, R>(rt, &post, &mut seat, &mut next))
+        .push(send_next::<W, M, R>(rt, post, &mut seat, &mut next))
         .ok()?;
     answers
-        .push(take_next::<W, M, R>(rt, &post, &mut owner))
+        .push(take_next::<W, M, R>(rt, post, &mut owner))
         .ok()?;
-    answers.push(finish(&post, &mut owner)).ok()?;
+    answers.push(finish(post, &mut owner)).ok()?;
     Some(answers)
 }

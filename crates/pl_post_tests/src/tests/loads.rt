@@ -1,22 +1,31 @@
 //! Two threads send while a post is closed, and again after that.
 
-ghost use Rattle.std.specs.Prelude.{◌≡◌, ◌≢◌, ◌<◌, ◌≤◌, ◌^◌, Some, IfSome};
+ghost use Rattle.std.specs.Prelude.{◌≡◌, ◌≢◌, ◌≤◌, Some};
 ghost use denote.Param.Send.{IsSync};
 ghost use Rattle.pl_event.specs.Hops.{data_lane as the_data_lane};
-ghost use Rattle.pl_event.specs.Worlds.{content_of};
+ghost use Rattle.pl_event.specs.Worlds.{FitsWorld, World, content_of};
 ghost use Rattle.pl_queue_tests.specs.Relays.{lane_events};
-ghost use Rattle.pl_words.specs.declared.status.Status.TheVariants.{Accepting, Closed};
+ghost use Rattle.pl_words.specs.declared.status.Status.TheVariants.{Closed};
 ghost use Rattle.pl_post.specs.Posts.{IsSeatOf, IsOwnerOf};
 ghost use Rattle.pl_post_tests.specs.Feeding.{IsNext, Feeds};
 
-use crate::feeding::{Fed, Served, event, feed, lane, serve};
+use crate::feeding::{
+    Closing, Fed, Served, event, feed, lane, open_three, serve, three_feed_while_closing,
+};
 use pl_event::{Envelope, Item, Named};
-use pl_post::{Post, PostOwner, PostSeat, Unsent};
-use pl_queue::Mailbox;
+use pl_post::{Post, PostSeat, Unsent};
+use pl_queue::{Mailbox, RingBox, WaitingBox};
 use pl_queue_tests::join_three;
 use std::alloc::Global;
 use std::sync::Wait;
 use std::thread::Threads;
+
+/// Which mailbox a post is over.
+#[derive(Clone, Copy, Debug, PartialEq, Eq)]
+pub enum BoxKind {
+    Ring,
+    Waiting,
+}
 
 /// A lane carries this many events, and then its end.
 pub const EVENTS: u64 = 999;
@@ -31,30 +40,13 @@ pub struct Load {
     pub second_after: Result<(), Unsent>,
 }
 
-/// A post with two seats, of which each has the lane of channel 0 or 1, and its owner.
-pub fn open_two<W: Named, M: Mailbox<W> + Drop>(
-    alloc: Global,
-    capacity: usize,
-) -> Option<(Post<W, M>, PostSeat<W, M>, PostSeat<W, M>, PostOwner<W, M>)>
-where
-    M::Sender: Drop,
-    M::Taker: Drop,
-    ensures first { IfSome result (λ r. IsSeatOf M.is_sender r.0 r.1 × IsNext (the_data_lane 0 0) 0 (M.sends_of r.1.sender)) }
-    ensures second { IfSome result (λ r. IsSeatOf M.is_sender r.0 r.2 × IsNext (the_data_lane 1 0) 0 (M.sends_of r.2.sender)) }
-    ensures owner { IfSome result (λ r. IsOwnerOf M.is_taker r.0 r.3 × (r.3.owner.phase ≡ Accepting)) }
-{
-    let one = Vec::from_array(alloc, [lane(0)]).ok()?;
-    let two = Vec::from_array(alloc, [lane(1)]).ok()?;
-    let lanes = Vec::from_array(alloc, [one, two]).ok()?;
-    let (post, mut seats, owner) = Post::<W, M>::open(alloc, lanes, capacity).ok()?;
-    let (Some(second), Some(first)) = (seats.pop(), seats.pop()) else {
-        unreachable!()
-    };
-    Some((post, first, second, owner))
-}
-
 // The envelope of a lane with this number: its end is the last.
-fn envelope(channel: u16, number: u64) -> Envelope {
+fn envelope(channel: u16, number: u64) -> Envelope
+    requires few { number ≤ 999 }
+    ensures lane { result.lane ≡ the_data_lane channel 0 }
+    ensures number { result.number ≡ number }
+    ensures fits { (world : World) → content_of world (the_data_lane channel 0) ≡ Some (lane_events 999) → FitsWorld world result }
+{
     if number < EVENTS {
         return event(lane(channel), number);
     }
@@ -84,8 +76,8 @@ where
     post.send::<R>(rt, &mut seat, envelope(channel, number))
 }
 
-/// Two threads send the first 999 envelopes of a lane of their own through a post of capacity 1. The owner takes 500, and
-/// closes. Then the next envelope of each lane is sent. None where the post was not opened.
+/// Two threads send the first 999 envelopes of a lane of their own through a post of capacity 1, whose third seat sends nothing.
+/// The owner takes 500, and closes. Then the next envelope of each lane is sent. None where the post was not opened.
 pub fn two_send_while_closing<
     W: Named + Send + Sync,
     M: Mailbox<W> + Drop + Send + Sync,
@@ -97,7 +89,7 @@ where
     requires first { content_of W.world (the_data_lane 0 0) ≡ Some (lane_events 999) }
     requires second { content_of W.world (the_data_lane 1 0) ≡ Some (lane_events 999) }
 {
-    let (opened, one, two, owner) = open_two::<W, M>(alloc, 1)?;
+    let (opened, (one, two, _three), owner) = open_three::<W, M>(alloc, 1)?;
     let post = &opened;
     let ((one, first), (two, second), served) = join_three(
         rt,
@@ -122,4 +114,38 @@ where
         first_after,
         second_after,
     })
+}
+
+/// The same over a mailbox of this kind.
+pub fn two_by<W: Named + Send + Sync, R: Threads + Wait + Sync>(
+    kind: BoxKind,
+    rt: &R,
+    alloc: Global,
+) -> Option<Load>
+    requires first { content_of W.world (the_data_lane 0 0) ≡ Some (lane_events 999) }
+    requires second { content_of W.world (the_data_lane 1 0) ≡ Some (lane_events 999) }
+{
+    match kind {
+        BoxKind::Ring => two_send_while_closing::<W, RingBox<W>, R>(rt, alloc),
+        BoxKind::Waiting => two_send_while_closing::<W, WaitingBox<W>, R>(rt, alloc),
+    }
+}
+
+/// Three threads send the first 999 envelopes of a lane of their own through a post of capacity 4 over a mailbox of this kind. The
+/// owner takes 1,000, and closes. None where the post was not opened.
+pub fn three_by<W: Named + Send + Sync, R: Threads + Wait + Sync>(
+    kind: BoxKind,
+    rt: &R,
+    alloc: Global,
+) -> Option<Closing>
+    requires first { content_of W.world (the_data_lane 0 0) ≡ Some (lane_events 999) }
+    requires second { content_of W.world (the_data_lane 1 0) ≡ Some (lane_events 999) }
+    requires third { content_of W.world (the_data_lane 2 0) ≡ Some (lane_events 999) }
+{
+    match kind {
+        BoxKind::Ring => three_feed_while_closing::<W, RingBox<W>, R>(rt, alloc, 4, EVENTS, 1_000),
+        BoxKind::Waiting => {
+            three_feed_while_closing::<W, WaitingBox<W>, R>(rt, alloc, 4, EVENTS, 1_000)
+        }
+    }
 }

@@ -1,9 +1,9 @@
 //! Each over either mailbox: closing under load, the lesson of pl_post's README, and what the calls answer.
 
-use crate::feeding::{Closing, Fed, event, lane, three_feed_while_closing};
+use crate::feeding::{Closing, Fed, event, lane};
 use crate::tests::answering::Answer::{self, Closed, Finished, Full, Nothing, Open, Sent, Took};
 use crate::tests::answering::{answers, refusal};
-use crate::tests::loads::{EVENTS, Load, two_send_while_closing};
+use crate::tests::loads::{BoxKind, EVENTS, Load, three_by, two_by};
 use pl_event::{Envelope, Item, Named};
 use pl_post::{StillOpen, Unsent};
 use pl_queue::{Mailbox, OpenRefusal, RingBox, WaitingBox};
@@ -58,44 +58,44 @@ fn assert_closing(rt: &impl Abort, closing: &Closing, count: u64) {
     assert_fed(rt, &closing.third, 2, closing.served.taken[2], count);
 }
 
-#[test]
-fn post_closes_under_load_ring(rt: HostRuntime) -> Result<(), Fail> {
-    let load = two_send_while_closing::<Brand, RingBox<Brand>, HostRuntime>(&rt, rt.alloc());
-    assert_load(&rt, &load.ok_or("it was not opened")?);
+fn post_closes_under_load<R: Threads + Wait + Abort + Sync>(
+    rt: &R,
+    alloc: Global,
+    kind: BoxKind,
+) -> Result<(), Fail> {
+    let load = two_by::<Brand, R>(kind, rt, alloc).ok_or("it was not opened")?;
+    assert_load(rt, &load);
     Ok(())
 }
 
 #[test]
+fn post_closes_under_load_ring(rt: HostRuntime) -> Result<(), Fail> {
+    post_closes_under_load(&rt, rt.alloc(), BoxKind::Ring)
+}
+
+#[test]
 fn post_closes_under_load_waiting(rt: HostRuntime) -> Result<(), Fail> {
-    let load = two_send_while_closing::<Brand, WaitingBox<Brand>, HostRuntime>(&rt, rt.alloc());
-    assert_load(&rt, &load.ok_or("it was not opened")?);
+    post_closes_under_load(&rt, rt.alloc(), BoxKind::Waiting)
+}
+
+fn three_feed<R: Threads + Wait + Abort + Sync>(
+    rt: &R,
+    alloc: Global,
+    kind: BoxKind,
+) -> Result<(), Fail> {
+    let closing = three_by::<Brand, R>(kind, rt, alloc).ok_or("it was not opened")?;
+    assert_closing(rt, &closing, EVENTS);
     Ok(())
 }
 
 #[test]
 fn three_feed_while_closing_ring(rt: HostRuntime) -> Result<(), Fail> {
-    let closing = three_feed_while_closing::<Brand, RingBox<Brand>, HostRuntime>(
-        &rt,
-        rt.alloc(),
-        4,
-        EVENTS,
-        1_000,
-    );
-    assert_closing(&rt, &closing.ok_or("it was not opened")?, EVENTS);
-    Ok(())
+    three_feed(&rt, rt.alloc(), BoxKind::Ring)
 }
 
 #[test]
 fn three_feed_while_closing_waiting(rt: HostRuntime) -> Result<(), Fail> {
-    let closing = three_feed_while_closing::<Brand, WaitingBox<Brand>, HostRuntime>(
-        &rt,
-        rt.alloc(),
-        4,
-        EVENTS,
-        1_000,
-    );
-    assert_closing(&rt, &closing.ok_or("it was not opened")?, EVENTS);
-    Ok(())
+    three_feed(&rt, rt.alloc(), BoxKind::Waiting)
 }
 
 // So many admissions are counted.

@@ -1,0 +1,12 @@
+use Rattle.std.proofs.Common.{◌≤◌}
+use Rattle.pl_event.specs.Hops.{flags_lane}
+use Rattle.pl_post.specs.Posts.{IsSeatOf}
+use Rattle.pl_post_tests.specs.Feeding.{IsNext}
+use Rattle.pl_post_tests.proofs.tests.answering.ask.Given as goal
+
+abbrev pub invariant-loop-count : goal.invariant-loop-count
+invariant-loop-count g l = record {
+  seat : IsSeatOf g.M.Mailbox.is_sender l.post l.seat;
+  next : IsNext (flags_lane 0 0) l.next (g.M.Mailbox.sends_of l.seat.sender);
+  small : l.next ≤ l.count;
+}
