@@ -1,5 +1,5 @@
 -- What is true of channels that are ready to start.
-use Rattle.std.proofs.Common.{◌≡◌, ℕ, suc, ◌+◌, ◌<◌, ◌≤◌, ◌^◌, List, [], ◌∷◌, length, map, slice_get, Some, refl, ap, ap₂, sym, ◌∙◌, subst, arith, true}
+use Rattle.std.proofs.Common.{◌≡◌, ℕ, suc, ◌+◌, ◌<◌, ◌≤◌, ◌^◌, Bool, List, [], ◌∷◌, length, map, slice_get, Some, refl, ap, ap₂, sym, ◌∙◌, subst, arith, true}
 use Rattle.std.specs.Prelude.{All}
 use Rattle.std.specs.List.{AllZip, range_with_len}
 use Rattle.std.specs.Option.{option_map}
@@ -78,12 +78,12 @@ executors-in-order {P = P} {N = N} first executors nodes count parts size number
     ∙ ap (range_with_len 0) (sym (length-map executors (λ (e : P). (first e).part)) ∙ ap length parts ∙ size)
 
 -- The nodes of executors that have ended are those of their numbers, in their order.
-pub ended-homes : {P N : Type 0} (first : P → ExecutorView N) (home : N → ℕ) (executors : List P) (all : List (FinishedView N)) → AllZip (λ e f. EndsAs home (first e).number (first e).owner f) executors all
+pub ended-homes : {P N : Type 0} (first : P → ExecutorView N) (was_refused : N → Bool) (home : N → ℕ) (executors : List P) (all : List (FinishedView N)) → AllZip (λ e f. EndsAs was_refused home (first e).number (first e).owner f) executors all
     → map (λ f. home f.part) all ≡ map (λ e. (first e).number) executors
-ended-homes first home [] [] h = refl
-ended-homes first home [] (f ∷ fs) h = absurd h
-ended-homes first home (e ∷ es) [] h = absurd h
-ended-homes first home (e ∷ es) (f ∷ fs) h = ap₂ (λ (n : ℕ) (ns : List ℕ). n ∷ ns) h.0.at_home (ended-homes first home es fs h.1)
+ended-homes first was_refused home [] [] h = refl
+ended-homes first was_refused home [] (f ∷ fs) h = absurd h
+ended-homes first was_refused home (e ∷ es) [] h = absurd h
+ended-homes first was_refused home (e ∷ es) (f ∷ fs) h = ap₂ (λ (n : ℕ) (ns : List ℕ). n ∷ ns) h.0.at_home (ended-homes first was_refused home es fs h.1)
 
 -- What holds of the first turn of each such executor holds of the turn 0 of each number.
 pub first-turns : {P N : Type 0} (first : P → ExecutorView N) (executors : List P) (nodes : List N) (count : ℕ) (W : ℕ → ℕ → Type 0) → map (λ e. (first e).part) executors ≡ nodes → length nodes ≡ count

@@ -13,6 +13,7 @@ use pl_event::{Sequence, Stage};
 use pl_executor::Finished;
 use pl_head::{Head, Transport};
 use pl_part::ChannelPart;
+use pl_queue::Mailbox;
 use pl_world::{ChannelReport, Report};
 use std::alloc::{AllocError, Global};
 
@@ -24,11 +25,13 @@ struct Found<T: Transport> {
 }
 
 /// What became of each channel of the plan, by the nodes that each of its executors has left.
-pub(crate) fn report_of<W: Planned, S: Stage, T: Transport>(
+pub(crate) fn report_of<W: Planned, M: Mailbox<W> + Drop, S: Stage, T: Transport>(
     alloc: Global,
-    all: Vec<Finished<W, TellingNodes<'_, S, T>>>,
+    all: Vec<Finished<W, M, TellingNodes<'_, S, T>>>,
     channels: usize,
 ) -> Result<Report, AllocError>
+where
+    M::Taker: Drop,
     requires plan { IsPlan W.plan }
     requires executors { map (λ e. e.part.nodes.number) all.items ≡ range_with_len 0 W.plan.executors }
     requires channels { channels ≡ length W.plan.channels }

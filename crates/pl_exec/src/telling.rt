@@ -70,7 +70,7 @@ impl<'a, W: Planned, S: Stage, T: Transport> Part<W> for TellingNodes<'a, S, T> 
 
     ghost took = { λ n e before n' after. TellsAfter (λ between. IsTakenBy S.meaning S.stands_after S.is_spent T.state n.nodes.parts.items e before between after) e.lane.channel n n' };
 
-    ghost refused_by = { λ n lane before n' after. IsRefusedBy n.nodes.parts.items lane before n'.nodes.parts.items after };
+    ghost refused_by = { λ n lane before n' after. IsRefusedBy n.nodes.parts.items lane before n'.nodes.parts.items after × (n'.seats ≡ n.seats) };
 
     ghost moved = { λ n by at before n' after. TellsAfter (λ between. IsMovedBy T.state T.may_refuse n.nodes.parts.items by (get_or n.nodes.own.items at 0) before between after) (get_or n.nodes.own.items at 0) n n' };
 

@@ -19,7 +19,9 @@ use Rattle.crossbeam_utils.specs.contracts.rule.UnruledProtocolUnit.TheImpl as p
 use Rattle.crossbeam_utils.proofs.sync.parker.RuledParker.TheSendSync as parker
 use Rattle.pl_event.specs.declared.named.Named as named
 use Rattle.pl_queue.specs.declared.mailbox.Mailbox as mailbox
+use Rattle.pl_words.specs.contracts.admission.SendSeat as seat_row
 use Rattle.pl_words.proofs.admission.OwnerSeat.TheSendSync as owner
+use Rattle.pl_words.proofs.admission.SendSeat.TheSendSync as seat
 use Rattle.pl_context.proofs.outputs.Outputs.TheSendSync as outputs
 use Rattle.pl_outbox.proofs.Sends.{outboxes_send, waiting_send}
 use Rattle.pl_outbox.proofs.inbox.Inbox.TheSendSync as inbox
@@ -45,17 +47,25 @@ module _ (a : NamedLft) (W M N S T : RattleType) (w : named.Ghosts W.Denot) (m :
       let all : AllSend (fields O) = (c, (search (sendable, i) depth 20, (t, (owner.the_send, (search sendable, (search sendable, (search sendable, tt))))))) in
       view_send _ _ _ _ _ (recorded_send _ _ O.to O.to_one (struct_send (shape O) all))
 
--- what it leaves may go back
-finished_send : (W N : RattleType) (w : named.Ghosts W.Denot) (p : part.Ghosts N.Denot W.Denot) → IsSend N → IsSend (finished.the_row W N w p)
-finished_send W N w p n =
-    let O = finished_inside.the_type W N w p in
-    let all : AllSend (fields O) = (search sendable, (n, (owner.the_send, (waiting_send, (search sendable, tt))))) in
-    view_send _ _ _ _ _ (recorded_send _ _ O.to O.to_one (struct_send (shape O) all))
+-- an optional value may go where the value may
+optional_field : (A : RattleType) → IsSend A → IsSend (option.the_field A).row
+optional_field A a = enum_send (enum.shape (option.the_type A)) (tt, ((a, tt), tt))
 
-pub left_send : (W N : RattleType) (w : named.Ghosts W.Denot) (p : part.Ghosts N.Denot W.Denot) → IsSend N → IsSend (option.the_row (finished.the_row W N w p))
-left_send W N w p n =
-    let O = option.the_type (finished.the_row W N w p) in
-    recorded_send _ _ O.to O.to_one (enum_send (enum.shape O) (tt, ((finished_send W N w p n, tt), tt)))
+optional_send : (A : RattleType) → IsSend A → IsSend (option.the_row A)
+optional_send A a =
+    let O = option.the_type A in
+    recorded_send _ _ O.to O.to_one (optional_field A a)
+
+-- what it leaves may go back
+module _ (W M N S T : RattleType) (w : named.Ghosts W.Denot) (m : mailbox.Ghosts M.Denot W.Denot S.Denot T.Denot) (p : part.Ghosts N.Denot W.Denot) where
+  finished_send : IsSend N → IsSend T → IsSend (finished.the_row W M N S T w m p)
+  finished_send n t =
+      let O = finished_inside.the_type W M N S T w m p in
+      let all : AllSend (fields O) = (search sendable, (n, (owner.the_send, (t, (waiting_send, (optional_field seat_row.the_row seat.the_send, (search sendable, tt))))))) in
+      view_send _ _ _ _ _ (recorded_send _ _ O.to O.to_one (struct_send (shape O) all))
+
+  pub left_send : IsSend N → IsSend T → IsSend (option.the_row (finished.the_row W M N S T w m p))
+  left_send n t = optional_send (finished.the_row W M N S T w m p) (finished_send n t)
 
 pub parker_send : IsSend (parker_row.the_row (unit-field).row unruled.the_row global_row.the_row (protocol.ghosts (bool-field).row) allocator.ghosts)
 parker_send = parker.the_send _ _ _ (protocol.ghosts (bool-field).row) _ global.the_send global.the_sync global_allocator.the_frees

@@ -1,6 +1,6 @@
 -- An executor while it works its list off: of each lane that its nodes write, what stands on the list follows what went on,
 -- up to what was made.
-use Rattle.std.specs.Prelude.{◌≡◌, ◌≢◌, ℕ, ◌<◌, ◌^◌, ◌-◌, min, Bool, true, false, List, [], ◌∷◌, length, Some}
+use Rattle.std.specs.Prelude.{◌≡◌, ◌≢◌, ℕ, ◌<◌, ◌^◌, ◌-◌, min, Bool, true, false, List, [], ◌∷◌, length, Option, Some}
 use Rattle.pl_event.specs.declared.envelopes.Lane.{Lane}
 use Rattle.pl_event.specs.Worlds.{World}
 use Rattle.pl_context.specs.Stops.{has_stopped, HasPlaces, AreAmong}
@@ -9,7 +9,7 @@ use Rattle.pl_context.specs.WaitingViews.{WaitingView, stops_for}
 use Rattle.pl_queue.specs.declared.views.TakeCount.{TakeCount}
 use Rattle.pl_queue.specs.declared.views.TakerView.{TakerView}
 use Rattle.pl_queue.specs.Views.{next_of}
-use Rattle.pl_words.specs.Admissions.{AdmittedView, OwnerSeatView}
+use Rattle.pl_words.specs.Admissions.{AdmittedView, OwnerSeatView, SendSeatView}
 use Rattle.pl_flow.specs.Flows.{Point, point, on}
 use Rattle.pl_flow.specs.LaneRuns.{LaneRuns}
 use Rattle.pl_outbox.specs.OutboxViews.{OutboxesView, reached, is_cut, is_closed, waits_in}
@@ -48,22 +48,29 @@ pub record IsCounting (owner : OwnerSeatView) (shut : Bool) (ran pops : ℕ) : T
   pub run : ran ≡ min pops (2 ^ 64 - 1)
   pub count : is_closed owner.phase ≡ true → owner.run ≡ pops
 
--- What an executor leaves: its number, its nodes, its right to close its queue, and what waits for others.
+-- What an executor leaves: its number, its nodes, its right to close its queue, what it took from that, what waits for others,
+-- and the first seat that has seen its target closed.
 pub record FinishedView (N : Type 0) : Type 0 where
   pub number : ℕ
   pub part : N
   pub owner : OwnerSeatView
+  pub takes : TakerView
   pub waiting : WaitingView AdmittedView
+  pub refusal : Option SendSeatView
 
--- Its queue is closed, and nothing waits.
-pub record IsFinished {N : Type 0} (f : FinishedView N) : Type 0 where
-  pub closed : is_closed f.owner.phase ≡ true
-  pub drained : (y : ℕ) → waits_in f.waiting y ≡ []
+module _ {N : Type 0} (was_refused : N → Bool) where
+  -- Its queue is closed, with as many as were taken, and nothing waits. One of its nodes has failed by a refusal only where a
+  -- seat has seen its target closed.
+  pub record IsFinished (f : FinishedView N) : Type 0 where
+    pub closed : is_closed f.owner.phase ≡ true
+    pub count : f.owner.run ≡ f.takes.pops
+    pub drained : (y : ℕ) → waits_in f.waiting y ≡ []
+    pub why : was_refused f.part ≡ true → (seat : SendSeatView) × (f.refusal ≡ Some seat) × (is_closed seat.seen ≡ true)
 
--- The executor of this number, with this right to its own queue, has ended so: its nodes are those of its number, and the right
--- is that to the same queue.
-pub record EndsAs {N : Type 0} (home : N → ℕ) (me : ℕ) (owner : OwnerSeatView) (f : FinishedView N) : Type 0 where
-  pub number : f.number ≡ me
-  pub at_home : home f.part ≡ me
-  pub name : f.owner.name ≡ owner.name
-  pub finished : IsFinished f
+  -- The executor of this number, with this right to its own queue, has ended so: its nodes are those of its number, and the
+  -- right is that to the same queue.
+  pub record EndsAs (home : N → ℕ) (me : ℕ) (owner : OwnerSeatView) (f : FinishedView N) : Type 0 where
+    pub number : f.number ≡ me
+    pub at_home : home f.part ≡ me
+    pub name : f.owner.name ≡ owner.name
+    pub finished : IsFinished f

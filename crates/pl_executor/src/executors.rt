@@ -342,9 +342,9 @@ where
         gate: &G,
         start: &Start,
         parker: Parker,
-    ) -> Option<Finished<W, N>>
+    ) -> Option<Finished<W, M, N>>
         // Its own queue is closed, and nothing waits for others.
-        ensures ended { IfSome result (EndsAs N.home self.entry.number self.entry.owner) }
+        ensures ended { IfSome result (EndsAs N.was_refused N.home self.entry.number self.entry.owner) }
         // The gate was told of its first turn here.
         ensures entered { IfSome result (λ _. G.was_entered gate.now self.entry.number self.entry.turns) }
     {
@@ -399,21 +399,27 @@ where
         self.core.outboxes.note_waiting(self.core.number);
     }
 
-    /// Its nodes, all of which are over, once its queue is closed and nothing waits for others.
-    fn into_finished(self) -> Finished<W, N>
+    /// What it leaves, once all its nodes are over, its queue is closed and nothing waits for others.
+    fn into_finished(self) -> Finished<W, M, N>
         requires over { N.are_over self.part }
         requires closed { is_closed self.owner.phase ≡ true }
         requires drained { (y : ℕ) → waits_for self.outboxes y ≡ [] }
-        ensures { EndsAs N.home self.entry.number self.entry.owner result }
+        ensures { EndsAs N.was_refused N.home self.entry.number self.entry.owner result }
     {
-        let Executor { core, owner, .. } = self;
+        let Executor {
+            core,
+            taker,
+            owner,
+            ..
+        } = self;
         let Core {
             number,
             part,
             outboxes,
             ..
         } = core;
-        Finished::new(number, part, owner, outboxes.into_waiting())
+        let (waiting, refusal) = outboxes.into_rest();
+        Finished::new(number, part, owner, taker, waiting, refusal)
     }
 
     /// Whether nothing waits for others.

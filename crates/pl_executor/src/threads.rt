@@ -56,11 +56,16 @@ impl<G: Gate> Model for Promised<G> {
     ghost view = { λ p. record { gate = p.gate.value; number = p.number; turn = p.turn; owner = p.owner.value } };
 }
 
-impl<G: Gate, W: Named, N: Part<W> + Drop> thread::Promise<Option<Finished<W, N>>> for Promised<G> {
+impl<G: Gate, W: Named, M: Mailbox<W> + Drop, N: Part<W> + Drop> thread::Promise<
+    Option<Finished<W, M, N>>,
+> for Promised<G>
+where
+    M::Taker: Drop,
+{
     ghost use Rattle.std.specs.Prelude.{◌≡◌, IfSome};
     ghost use Rattle.pl_executor.specs.Running.{EndsAs};
 
-    ghost kept_by = { λ p r. IfSome r (λ finished. EndsAs N.home p.number p.owner finished × G.was_entered p.gate p.number p.turn) };
+    ghost kept_by = { λ p r. IfSome r (λ finished. EndsAs N.was_refused N.home p.number p.owner finished × G.was_entered p.gate p.number p.turn) };
 }
 
 /// Starts each executor in a thread of its own. They wait there until they are told to begin.
@@ -80,7 +85,7 @@ fn start_each<
     gate: &'s G,
     start: &'s Start,
     executors: Vec<(Executor<'a, W, M, N>, Parker)>,
-) -> Result<Vec<PromisedHandle<Option<Finished<W, N>>, Promised<G>>>, RunFault>
+) -> Result<Vec<PromisedHandle<Option<Finished<W, M, N>>, Promised<G>>>, RunFault>
 where
     M::Sender: Drop + Send + 's,
     M::Taker: Drop + Send + 's,
@@ -96,8 +101,8 @@ where
         };
         let spawned = scope.spawn_with(
             promise,
-            move || -> Option<Finished<W, N>>
-                ensures { IfSome result (λ finished. EndsAs N.home executor.entry.number executor.entry.owner finished × G.was_entered gate.entry.now executor.entry.number executor.entry.turns) }
+            move || -> Option<Finished<W, M, N>>
+                ensures { IfSome result (λ finished. EndsAs N.was_refused N.home executor.entry.number executor.entry.owner finished × G.was_entered gate.entry.now executor.entry.number executor.entry.turns) }
             { executor.run(rt, gate, start, parker) },
         );
         match spawned {
@@ -109,13 +114,15 @@ where
 }
 
 /// What all threads give, in their order, in a list that has room for it.
-fn join_all<W: Named, N: Part<W> + Drop, G: Gate, R: Threads>(
+fn join_all<W: Named, M: Mailbox<W> + Drop, N: Part<W> + Drop, G: Gate, R: Threads>(
     rt: &R,
-    handles: Vec<PromisedHandle<Option<Finished<W, N>>, Promised<G>>>,
-    mut all: Vec<Finished<W, N>>,
-) -> Result<Vec<Finished<W, N>>, RunFault>
+    handles: Vec<PromisedHandle<Option<Finished<W, M, N>>, Promised<G>>>,
+    mut all: Vec<Finished<W, M, N>>,
+) -> Result<Vec<Finished<W, M, N>>, RunFault>
+where
+    M::Taker: Drop,
     requires { all.items ≡ [] }
-    ensures ended { IfOk result (λ all. AllZip (λ p f. EndsAs N.home p.number p.owner f) (map (λ h. h.promise) handles.items) all.items) }
+    ensures ended { IfOk result (λ all. AllZip (λ p f. EndsAs N.was_refused N.home p.number p.owner f) (map (λ h. h.promise) handles.items) all.items) }
     ensures entered { IfOk result (λ _. All (λ h. G.was_entered h.promise.gate h.promise.number h.promise.turn) handles.items) }
 {
     for handle in handles {
@@ -145,11 +152,11 @@ pub fn run_all<
     alloc: Global,
     gate: &G,
     executors: Vec<(Executor<'a, W, M, N>, Parker)>,
-) -> Result<Vec<Finished<W, N>>, RunFault>
+) -> Result<Vec<Finished<W, M, N>>, RunFault>
 where
     M::Sender: Drop + Send,
     M::Taker: Drop + Send,
-    ensures ended { IfOk result (λ all. AllZip (λ e f. EndsAs N.home e.0.number e.0.owner f) executors.entry.items all.items) }
+    ensures ended { IfOk result (λ all. AllZip (λ e f. EndsAs N.was_refused N.home e.0.number e.0.owner f) executors.entry.items all.items) }
     // The gate was told of the first turn of each.
     ensures entered { IfOk result (λ _. All (λ e. G.was_entered gate.now e.0.number e.0.turns) executors.entry.items) }
 {
@@ -159,9 +166,9 @@ where
     thread::scope(
         thread::scope_env(),
         rt,
-        |scope| -> Result<Vec<Finished<W, N>>, RunFault>
+        |scope| -> Result<Vec<Finished<W, M, N>>, RunFault>
             requires { all.items ≡ [] }
-            ensures ended { IfOk result (λ all. AllZip (λ e f. EndsAs N.home e.0.number e.0.owner f) executors.entry.items all.items) }
+            ensures ended { IfOk result (λ all. AllZip (λ e f. EndsAs N.was_refused N.home e.0.number e.0.owner f) executors.entry.items all.items) }
             ensures entered { IfOk result (λ _. All (λ e. G.was_entered gate.entry.now e.0.number e.0.turns) executors.entry.items) }
         {
             let handles = start_each(rt, alloc, scope, gate, start, executors);

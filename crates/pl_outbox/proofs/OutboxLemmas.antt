@@ -1,9 +1,9 @@
 -- One outbox among all, and what waits for its target.
-use Rattle.std.proofs.Common.{◌≡◌, ◌≢◌, ℕ, zero, suc, ◌+◌, ◌*◌, ◌<◌, ◌≤◌, ◌^◌, Bool, true, List, [], ◌∷◌, length, map, set, slice_get, Option, Some, None, refl, ap, sym, ◌∙◌, subst, ⊎_elim, arith, ◌==◌}
+use Rattle.std.proofs.Common.{◌≡◌, ◌≢◌, ℕ, zero, suc, ◌+◌, ◌*◌, ◌<◌, ◌≤◌, ◌^◌, Bool, true, false, List, [], ◌∷◌, length, map, set, slice_get, Option, Some, None, refl, ap, sym, ◌∙◌, subst, ⊎_elim, arith, ◌==◌}
 use Rattle.std.specs.Prelude.{IfSome}
 use Rattle.std.specs.List.{All, filter, sum_by, find}
 use Rattle.std.specs.Option.{option_map, option_map_or}
-use Rattle.std.proofs.lemmas.Bool.{cases_eq, eqb-true}
+use Rattle.std.proofs.lemmas.Bool.{cases_eq, eqb-true, cases_Bool, cond-true, cond-false}
 use Rattle.std.proofs.lemmas.List.{length-set}
 use Rattle.std.proofs.lemmas.List.Elements.{All-nil, All-cons, All-head, All-tail}
 use Rattle.std.proofs.lemmas.List.Sums.{sum_by-set, sum_by-le, length-filter}
@@ -15,10 +15,10 @@ use Rattle.pl_context.specs.WaitingViews.{WaitingView, Entry, Aged, Holds, is_fo
 use Rattle.pl_context.proofs.Firsts.{find-All}
 use Rattle.pl_context.proofs.WaitingCalls.{at-set_here, at-set_there, count-past, envelopes-for, none-long}
 use Rattle.pl_words.specs.declared.admission.TheConstants.{MAX_ADMISSIONS}
-use Rattle.pl_words.specs.Admissions.{AdmittedView, admitted_of}
+use Rattle.pl_words.specs.Admissions.{AdmittedView, SendSeatView, admitted_of}
 use Rattle.pl_queue.specs.declared.views.SenderView.{SenderView}
 use Rattle.pl_outbox.specs.Sent.{AreBehind}
-use Rattle.pl_outbox.specs.OutboxViews.{OutboxView, OutboxesView, IsOutbox, IsOutboxes, IsNew, waits_in, is_closed, SomeClosed}
+use Rattle.pl_outbox.specs.OutboxViews.{OutboxView, OutboxesView, IsOutbox, IsOutboxes, IsNew, waits_in, is_closed, SomeClosed, closed_seat}
 
 -- ---- a list in which one outbox has changed
 
@@ -190,3 +190,24 @@ new-hold world os w tried new holds targets added few = record {
   added = omega (arith, added);
   few = few;
 }
+
+-- ---- seats that have seen their targets closed
+
+-- The first of them has.
+pub closed_seat-closed : (os : List OutboxView) (seat : SendSeatView) → closed_seat os ≡ Some seat → is_closed seat.seen ≡ true
+closed_seat-closed [] seat at = cc
+closed_seat-closed (o ∷ os) seat at = ⊎_elim
+    (λ (e : is_closed o.seat.seen ≡ true). subst (λ (s : SendSeatView). is_closed s.seen ≡ true) (same_Some o.seat seat (sym (cond-true (is_closed o.seat.seen) (Some o.seat) (closed_seat os) e) ∙ at)) e)
+    (λ (e : is_closed o.seat.seen ≡ false). closed_seat-closed os seat (sym (cond-false (is_closed o.seat.seen) (Some o.seat) (closed_seat os) e) ∙ at))
+    (cases_Bool (is_closed o.seat.seen))
+
+-- There is one where any has.
+pub some-closed_seat : (os : List OutboxView) (target : ℕ) (b : OutboxView) → slice_get os target ≡ Some b → is_closed b.seat.seen ≡ true → (seat : SendSeatView) × (closed_seat os ≡ Some seat)
+some-closed_seat [] target b at closed = cc
+some-closed_seat (o ∷ os) zero b at closed =
+    (o.seat, cond-true (is_closed o.seat.seen) (Some o.seat) (closed_seat os) (subst (λ (x : OutboxView). is_closed x.seat.seen ≡ true) (sym (same_Some o b at)) closed))
+some-closed_seat (o ∷ os) (suc n) b at closed =
+    let later = some-closed_seat os n b at closed in ⊎_elim
+    (λ (e : is_closed o.seat.seen ≡ true). (o.seat, cond-true (is_closed o.seat.seen) (Some o.seat) (closed_seat os) e))
+    (λ (e : is_closed o.seat.seen ≡ false). (later.0, cond-false (is_closed o.seat.seen) (Some o.seat) (closed_seat os) e ∙ later.1))
+    (cases_Bool (is_closed o.seat.seen))

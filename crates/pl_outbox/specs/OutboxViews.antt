@@ -87,6 +87,10 @@ pub record SomeClosed (o : OutboxesView) : Type 0 where
   pub is : slice_get o.outboxes target ≡ Some outbox
   pub closed : is_closed outbox.seat.seen ≡ true
 
+-- the first seat that has seen its target closed
+abbrev pub closed_seat : List OutboxView → Option SendSeatView
+closed_seat outboxes = find (λ seat. is_closed seat.seen) (map (λ b. b.seat) outboxes)
+
 -- nothing more of a lane gets in for a target: it has stopped there, or the target refuses all
 abbrev pub is_cut : OutboxesView → ℕ → Lane → Bool
 is_cut o target l = has_stopped (stops_for o.waiting target) l || refuses o target

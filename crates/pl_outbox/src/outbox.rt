@@ -89,6 +89,13 @@ where
         mailbox.offer::<R>(rt, &mut self.sender, envelope)
     }
 
+    /// The seat, and no way to use it.
+    pub(crate) fn into_seat(self) -> SendSeat
+        ensures { result ≡ self.entry.seat }
+    {
+        self.seat
+    }
+
     /// Wakes the executor.
     pub(crate) fn ring(&self) {
         self.inbox.bell.ring();

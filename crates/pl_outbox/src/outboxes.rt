@@ -6,7 +6,7 @@ ghost use Rattle.pl_context.specs.WaitingViews.{Entry, Holds, stops_for};
 ghost use Rattle.pl_words.specs.Admissions.{AdmittedView};
 ghost use Rattle.pl_flow.specs.Flows.{IsNext};
 ghost use Rattle.pl_outbox.specs.Tries.{is_tried};
-ghost use Rattle.pl_outbox.specs.OutboxViews.{IsNew, admissions, waits_for, was_tried, oldest_untried, tried_after, reached, is_cut, Adds, Comes, RefusedBy, Offers, FullOnce, Stays, Forgets};
+ghost use Rattle.pl_outbox.specs.OutboxViews.{IsNew, admissions, waits_for, was_tried, oldest_untried, tried_after, reached, is_cut, Adds, Comes, RefusedBy, Offers, FullOnce, Stays, Forgets, closed_seat};
 
 use crate::bell::{MAX_BITS, Waiters};
 use crate::outbox::Outbox;
@@ -14,7 +14,7 @@ use crate::tries::Tries;
 use pl_context::Waiting;
 use pl_event::{Envelope, Named};
 use pl_queue::{Full, Mailbox};
-use pl_words::{Admitted, Refused};
+use pl_words::{Admitted, Refused, SendSeat, Status};
 use std::alloc::{AllocError, Global};
 use std::marker::Model;
 use std::sync::Wait;
@@ -122,11 +122,18 @@ where
         }
     }
 
-    /// What waits, and no way to hand it over.
-    pub fn into_waiting(self) -> Waiting<Admitted>
-        ensures { result ≡ self.entry.waiting }
+    /// What waits, and no way to hand it over; and the first seat, by the number of its target, that has seen that target
+    /// closed.
+    pub fn into_rest(self) -> (Waiting<Admitted>, Option<SendSeat>)
+        ensures waiting { result.0 ≡ self.entry.waiting }
+        ensures seat { result.1 ≡ closed_seat self.entry.outboxes }
     {
-        self.waiting
+        let Outboxes {
+            outboxes,
+            waiting,
+            ..
+        } = self;
+        (waiting, closed_seat(outboxes))
     }
 
     /// A new turn begins: no queue was found full in it.
@@ -227,4 +234,21 @@ where
             }
         }
     }
+}
+
+/// The first seat that has seen its target closed.
+fn closed_seat<'a, W: Named, M: Mailbox<W> + Drop>(
+    outboxes: Vec<Outbox<'a, W, M>>,
+) -> Option<SendSeat>
+where
+    M::Sender: Drop,
+    ensures { result ≡ closed_seat outboxes.entry.items }
+{
+    for outbox in outboxes {
+        let seat = outbox.into_seat();
+        if let Status::Closed = seat.seen() {
+            return Some(seat);
+        }
+    }
+    None
 }

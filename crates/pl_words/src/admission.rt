@@ -66,6 +66,15 @@ impl Model for SendSeat {
     ghost invariant = { λ s. IsSending s.seat.me s.made s.seen };
 }
 
+impl SendSeat {
+    /// The latest phase that this seat has seen. It makes no step on the word, which may be in a later one.
+    pub fn seen(&self) -> Status
+        ensures { result ≡ self.now.seen }
+    {
+        self.seen
+    }
+}
+
 /// The right to close. There is one for each admission.
 #[derive(Drop)]
 pub struct OwnerSeat {

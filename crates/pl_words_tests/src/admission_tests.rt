@@ -11,7 +11,7 @@ use std::test::Fail;
 enum Answer {
     /// `admit`: why there is no admission, or None where there is one.
     Admit(Option<Refused>),
-    /// `status`.
+    /// `status`, or `seen`.
     Status(Status),
     /// `finish`.
     Finish(Result<(), StillOpen>),
@@ -197,8 +197,8 @@ fn give_up_before_close(rt: HostRuntime) -> Result<(), Fail> {
     Ok(())
 }
 
-/// Two admissions, one of which is given up after the word was closed with both.
-fn giving_up_late(alloc: Global) -> Result<[Answer; 3], AllocError> {
+/// Two admissions, one of which is given up after the word was closed with both: its seat sees that by then.
+fn giving_up_late(alloc: Global) -> Result<[Answer; 5], AllocError> {
     let (admission, mut first, mut second, mut owner) = two_seats(alloc)?;
     let one = send(&admission, &mut first);
     let Ok(admitted) = admission.admit(&mut second) else {
@@ -206,16 +206,18 @@ fn giving_up_late(alloc: Global) -> Result<[Answer; 3], AllocError> {
     };
     admission.begin_close(&mut owner);
     let closed = finish(&admission, &mut owner, 2);
+    let before = Answer::Status(second.seen());
     admission.give_up(&mut second, admitted);
+    let after = Answer::Status(second.seen());
     let kept = kept(alloc, admission, first, second, owner)?;
-    Ok([one, closed, kept])
+    Ok([one, closed, before, after, kept])
 }
 
 #[test]
 fn give_up_after_close(rt: HostRuntime) -> Result<(), Fail> {
-    assert_eq!(rt;
-        giving_up_late(rt.alloc())?,
-        [ADMITTED, CLOSED, Answer::Kept(1)]
-    );
+    let before = Answer::Status(Status::Accepting);
+    let after = Answer::Status(Status::Closed);
+    let expected = [ADMITTED, CLOSED, before, after, Answer::Kept(1)];
+    assert_eq!(rt; giving_up_late(rt.alloc())?, expected);
     Ok(())
 }

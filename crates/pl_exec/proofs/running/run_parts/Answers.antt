@@ -68,7 +68,7 @@ executors-requires-clause-start g c =
 
 pub report_of-requires-clause-executors : goal.report_of-requires-clause-executors
 report_of-requires-clause-executors g c =
-    ended-homes (λ e. e.0) (λ (n : TellingNodes g.row.S.Denot g.row.T.Denot). n.nodes.number) c.in_ok-executors.executors.items c.in_ok-all.all.items c.in_ok-all.ensures.ended
+    ended-homes (λ e. e.0) (λ (n : TellingNodes g.row.S.Denot g.row.T.Denot). n.nodes.was_refused) (λ (n : TellingNodes g.row.S.Denot g.row.T.Denot). n.nodes.number) c.in_ok-executors.executors.items c.in_ok-all.all.items c.in_ok-all.ensures.ended
     ∙ executors-in-order (λ e. e.0) c.in_ok-executors.executors.items c.in_ok-nodes.nodes.items g.W.Planned.plan.executors c.in_ok-executors.ensures.parts
     (sym (length-map c.in_ok-nodes.nodes.items (λ n. n.nodes)) ∙ ap (λ (l : List (OwnNodes g.row.S.Denot g.row.T.Denot)). length l) c.in_ok-nodes.ensures.nodes ∙ c.in_ok-own.ensures.count ∙ c.requires.executors) c.in_ok-executors.ensures.first
 

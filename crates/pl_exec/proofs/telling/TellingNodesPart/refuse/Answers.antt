@@ -8,3 +8,6 @@ returns-clause-stands g c =
 
 pub returns-clause-keeps : goal.returns-clause-keeps
 returns-clause-keeps g c = telling-keeps c.args.self.now (record c.args.self.now { nodes = c.refuse.new.self }) g.S.Stage.meaning c.refuse.ensures.keeps
+
+pub returns-clause-refused_by : goal.returns-clause-refused_by
+returns-clause-refused_by g c = (c.refuse.ensures.refused_by, refl)
