@@ -1,1 +1,2 @@
 pub mod FlagSteps
+pub mod SeatPairs

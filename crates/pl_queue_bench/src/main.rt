@@ -1,13 +1,16 @@
-//! Moves envelopes through a mailbox, or through the plain queue of the same crate.
+//! Moves envelopes through a mailbox, also with its admission, or through the plain queue of the same crate.
 //!
 //! usage: pl_queue_bench WORKLOAD COUNT     COUNT envelopes in all. With no workload it moves nothing.
 #![tactic(auto)]
 
 mod boxes;
 mod plain;
+mod posts;
 
 use crate::plain::{PlainRing, PlainWaiting};
+use crate::posts::ByHand;
 use pl_event::Named;
+use pl_post::Post;
 use pl_queue::{Mailbox, RingBox, WaitingBox};
 use std::alloc::Global;
 use std::marker::Brand;
@@ -65,6 +68,18 @@ fn main(rt: HostRuntime) -> io::Result<()> {
         Some(("waiting", rest)) => by_box::<Brand, WaitingBox<Brand>, _>(&rt, alloc, rest, count),
         Some(("plainring", rest)) => plain::by_queue::<PlainRing, _>(&rt, alloc, rest, count),
         Some(("plainwaiting", rest)) => plain::by_queue::<PlainWaiting, _>(&rt, alloc, rest, count),
+        Some(("postring", rest)) => {
+            posts::by_closable::<Brand, Post<Brand, RingBox<Brand>>, _>(&rt, alloc, rest, count)
+        }
+        Some(("postwaiting", rest)) => {
+            posts::by_closable::<Brand, Post<Brand, WaitingBox<Brand>>, _>(&rt, alloc, rest, count)
+        }
+        Some(("handring", rest)) => {
+            posts::by_closable::<Brand, ByHand<RingBox<Brand>>, _>(&rt, alloc, rest, count)
+        }
+        Some(("handwaiting", rest)) => {
+            posts::by_closable::<Brand, ByHand<WaitingBox<Brand>>, _>(&rt, alloc, rest, count)
+        }
         _ => None,
     };
     match moved {
