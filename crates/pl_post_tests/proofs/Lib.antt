@@ -1,1 +1,2 @@
 pub mod FeedingLemmas
+pub mod TurnLemmas

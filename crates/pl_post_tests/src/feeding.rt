@@ -126,24 +126,24 @@ where
     (seat, fed)
 }
 
-/// What the owner took of each of the lanes of channels 0 to 2.
+/// What the owner took of each of the lanes of the first channels, as many as `CHANNELS` says.
 #[derive(Clone, Copy, Debug, PartialEq, Eq)]
-pub struct Served {
+pub struct Served<const CHANNELS: usize> {
     /// How many, by channel: the numbers below this one.
-    pub taken: [u64; 3],
+    pub taken: [u64; CHANNELS],
     /// Whether each was the next envelope of its lane.
     pub in_order: bool,
     /// Whether the post is closed. Else the owner gave up.
     pub closed: bool,
 }
 
-impl Served {
+impl<const CHANNELS: usize> Served<CHANNELS> {
     /// Notes an envelope that was taken.
     fn note(&mut self, envelope: &Envelope)
         ensures { self.new.closed ≡ self.old.closed }
     {
         let channel = usize::from(envelope.lane.channel);
-        if channel >= 3 {
+        if channel >= CHANNELS {
             self.in_order = false;
             return;
         }
@@ -154,12 +154,12 @@ impl Served {
 }
 
 /// Takes what comes. After so many it begins to close, goes on, and closes as soon as there is nothing that it did not take.
-pub fn serve<W: Named, M: Mailbox<W> + Drop, R: Wait>(
+pub fn serve<W: Named, M: Mailbox<W> + Drop, R: Wait, const CHANNELS: usize>(
     rt: &R,
     post: &Post<W, M>,
     mut owner: PostOwner<W, M>,
     enough: u64,
-) -> (PostOwner<W, M>, Served)
+) -> (PostOwner<W, M>, Served<CHANNELS>)
 where
     M::Sender: Drop,
     M::Taker: Drop,
@@ -169,7 +169,7 @@ where
     ensures closed { IsTrue result.1.closed → (result.0.owner.phase ≡ Closed) × (result.0.owner.run ≡ result.0.taken) }
 {
     let mut served = Served {
-        taken: [0, 0, 0],
+        taken: [0; CHANNELS],
         in_order: true,
         closed: false,
     };
@@ -256,7 +256,7 @@ pub struct Closing {
     pub first: Fed,
     pub second: Fed,
     pub third: Fed,
-    pub served: Served,
+    pub served: Served<3>,
 }
 
 // Three threads feed, and a fourth takes and closes.
@@ -286,7 +286,7 @@ where
         move || -> Fed
             requires { IsSeatOf M.is_sender post.now two × IsNext (the_data_lane 1 0) 0 (M.sends_of two.sender) × (content_of W.world (the_data_lane 1 0) ≡ Some (lane_events count)) × (count < 2 ^ 32) }
         { feed::<W, M, R>(rt, post, two, lane(1), count).1 },
-        move || -> (Fed, Served)
+        move || -> (Fed, Served<3>)
             requires { (IsSeatOf M.is_sender post.now three × IsNext (the_data_lane 2 0) 0 (M.sends_of three.sender) × (content_of W.world (the_data_lane 2 0) ≡ Some (lane_events count)) × (count < 2 ^ 32)) × IsOwnerOf M.is_taker post.now owner × (owner.owner.phase ≢ Closed) }
         {
             thread::join(
@@ -294,9 +294,9 @@ where
                 move || -> Fed
                     requires { IsSeatOf M.is_sender post.now three × IsNext (the_data_lane 2 0) 0 (M.sends_of three.sender) × (content_of W.world (the_data_lane 2 0) ≡ Some (lane_events count)) × (count < 2 ^ 32) }
                 { feed::<W, M, R>(rt, post, three, lane(2), count).1 },
-                move || -> Served
+                move || -> Served<3>
                     requires { IsOwnerOf M.is_taker post.now owner × (owner.owner.phase ≢ Closed) }
-                { serve::<W, M, R>(rt, post, owner, enough).1 },
+                { serve::<W, M, R, 3>(rt, post, owner, enough).1 },
             )
         },
     );

@@ -35,13 +35,13 @@ pub const EVENTS: u64 = 999;
 pub struct Load {
     pub first: Fed,
     pub second: Fed,
-    pub served: Served,
+    pub served: Served<3>,
     pub first_after: Result<(), Unsent>,
     pub second_after: Result<(), Unsent>,
 }
 
-// The envelope of a lane with this number: its end is the last.
-fn envelope(channel: u16, number: u64) -> Envelope
+/// The envelope of a lane with this number: its end is the last.
+pub fn envelope(channel: u16, number: u64) -> Envelope
     requires few { number ≤ 999 }
     ensures lane { result.lane ≡ the_data_lane channel 0 }
     ensures number { result.number ≡ number }
@@ -101,9 +101,9 @@ where
             requires { IsSeatOf M.is_sender post.now two × IsNext (the_data_lane 1 0) 0 (M.sends_of two.sender) × (content_of W.world (the_data_lane 1 0) ≡ Some (lane_events 999)) }
             ensures { IsSeatOf M.is_sender post.entry.now result.0 × IsNext (the_data_lane 1 0) result.1.sent (M.sends_of result.0.sender) × (result.1.sent ≤ 999) }
         { feed::<W, M, R>(rt, post, two, lane(1), EVENTS) },
-        move || -> Served
+        move || -> Served<3>
             requires { IsOwnerOf M.is_taker post.now owner × (owner.owner.phase ≢ Closed) }
-        { serve::<W, M, R>(rt, post, owner, 500).1 },
+        { serve::<W, M, R, 3>(rt, post, owner, 500).1 },
     );
     let first_after = send_next::<W, M, R>(rt, post, one, 0, first.sent);
     let second_after = send_next::<W, M, R>(rt, post, two, 1, second.sent);

@@ -3,6 +3,7 @@
 use crate::feeding::{Closing, Fed, event, lane};
 use crate::tests::answering::Answer::{self, Closed, Finished, Full, Nothing, Open, Sent, Took};
 use crate::tests::answering::{answers, refusal};
+use crate::tests::four_senders::four_by;
 use crate::tests::loads::{BoxKind, EVENTS, Load, three_by, two_by};
 use pl_event::{Envelope, Item, Named};
 use pl_post::{StillOpen, Unsent};
@@ -96,6 +97,35 @@ fn three_feed_while_closing_ring(rt: HostRuntime) -> Result<(), Fail> {
 #[test]
 fn three_feed_while_closing_waiting(rt: HostRuntime) -> Result<(), Fail> {
     three_feed(&rt, rt.alloc(), BoxKind::Waiting)
+}
+
+// Each lane comes as the numbers from 0 up to, not including, how many were sent; and the post is closed to the next.
+fn four_senders<R: Threads + Wait + Abort + Sync>(
+    rt: &R,
+    alloc: Global,
+    kind: BoxKind,
+) -> Result<(), Fail> {
+    let four = four_by::<Brand, R>(kind, rt, alloc).ok_or("it was not opened")?;
+    assert!(rt; four.served.closed);
+    assert!(rt; four.served.in_order);
+    let mut sent = Vec::new(alloc);
+    for thread in four.each {
+        assert!(rt; matches!(thread.unsent, None | Some(Unsent::Closed(_))));
+        assert_eq!(rt; thread.closed_after, 64);
+        sent.extend_from_slice(thread.sent.as_slice())?;
+    }
+    assert_eq!(rt; four.served.taken.as_slice(), sent.as_slice());
+    Ok(())
+}
+
+#[test]
+fn four_senders_of_64_lanes(rt: HostRuntime) -> Result<(), Fail> {
+    four_senders(&rt, rt.alloc(), BoxKind::Ring)
+}
+
+#[test]
+fn four_senders_of_64_lanes_waiting(rt: HostRuntime) -> Result<(), Fail> {
+    four_senders(&rt, rt.alloc(), BoxKind::Waiting)
 }
 
 // So many admissions are counted.

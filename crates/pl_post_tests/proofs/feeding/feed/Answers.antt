@@ -1,5 +1,4 @@
-use Rattle.std.proofs.Common.{◌+◌, ap, ◌∙◌, arith}
-use Rattle.pl_event.specs.declared.envelopes.Envelope.{Envelope}
+use Rattle.std.proofs.Common.{arith}
 use Rattle.pl_queue_tests.proofs.RelayLemmas.{event-fits, event-sent}
 use Rattle.pl_post_tests.proofs.feeding.feed.Goals as goal
 
