@@ -116,7 +116,7 @@ where
     M::Taker: Drop,
 {
     /// A post of this capacity, with a seat for each list of lanes, and its owner. No lane stands twice, and there is at least
-    /// one list. Nothing was sent, and every seat may send.
+    /// one list. Nothing was sent, every seat may send, and the owner has taken nothing.
     ///
     /// Errors: `Limit` exactly where capacity, lanes or senders are past the mailbox's limits; else `Memory`, where memory is
     /// refused. Nothing was opened then.
@@ -131,7 +131,7 @@ where
         ensures opened { IfOk result (λ r. (opening_fault (map (λ v. v.items) lanes.items) capacity ≡ None) × (M.capacity_of r.0.mailbox ≡ capacity)) }
         ensures seats { IfOk result (λ r. Each (λ s. IsSeatOf M.is_sender r.0 s × (s.seat ≡ new_send_seat r.0.name s.seat.number)) r.1.items) }
         ensures sends { IfOk result (λ r. map (λ s. M.sends_of s.sender) r.1.items ≡ map (λ v. fresh_sends v.items) lanes.items) }
-        ensures owner { IfOk result (λ r. IsOwnerOf M.is_taker r.0 r.2 × (r.2.owner ≡ new_owner_seat r.0.name) × (M.takes_of r.2.taker ≡ fresh_takes (all_lanes (map (λ v. v.items) lanes.items)))) }
+        ensures owner { IfOk result (λ r. IsOwnerOf M.is_taker r.0 r.2 × (r.2.owner ≡ new_owner_seat r.0.name) × (r.2.taken ≡ 0) × (M.takes_of r.2.taker ≡ fresh_takes (all_lanes (map (λ v. v.items) lanes.items)))) }
     {
         let (mailbox, senders, taker) = M::open(alloc, lanes, capacity)?;
         let (admission, seats, owner) = Admission::new(alloc, senders.len() as u16)?;
@@ -154,7 +154,8 @@ where
     /// what the seat has kept rise by one.
     ///
     /// It waits for room where the mailbox does. Errors: [`Unsent`], which hands the same envelope back, with the lane's next
-    /// number and what is kept as they were. At `Full` one admission more was made and given up.
+    /// number and what is kept as they were. At `Full` one admission more was made and given up, late where that found the
+    /// post closed.
     pub fn send<R: Wait>(
         &self,
         rt: &R,

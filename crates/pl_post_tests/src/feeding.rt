@@ -192,10 +192,10 @@ where
                     served.closed = true;
                     return (owner, served);
                 }
+                tries += 1;
                 if tries == MAX_TRIES {
                     return (owner, served);
                 }
-                tries += 1;
                 thread::yield_now();
             }
         }

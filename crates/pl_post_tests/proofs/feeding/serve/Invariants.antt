@@ -1,4 +1,4 @@
-use Rattle.std.proofs.Common.{◌≡◌, ◌≢◌, ◌≤◌, false}
+use Rattle.std.proofs.Common.{◌≡◌, ◌≢◌, ◌<◌, false}
 use Rattle.pl_words.specs.declared.status.Status.TheVariants.{Closed}
 use Rattle.pl_post.specs.Posts.{IsOwnerOf}
 use Rattle.pl_post_tests.proofs.feeding.serve.Given as goal
@@ -8,5 +8,5 @@ invariant-loop g l = record {
   owner : IsOwnerOf g.M.Mailbox.is_taker l.post l.owner;
   unclosed : l.owner.owner.phase ≢ Closed;
   open_ : l.served.closed ≡ false;
-  tries : l.tries ≤ 10000000;
+  tries : l.tries < 10000000;
 }
