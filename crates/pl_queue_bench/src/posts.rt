@@ -321,7 +321,48 @@ where
     taken
 }
 
-/// From one thread or four.
+// One thread sends so many flags, and takes each before it sends the next. How many it took, where it closed with them.
+fn all_in_turns<W: Named, C: Closable<W>, R: Wait>(
+    rt: &R,
+    mailbox: &C,
+    seat: &mut C::Seat,
+    mut owner: C::Owner,
+    count: u64,
+) -> Option<u64>
+where
+    C::Owner: Drop,
+    requires seat { C.is_seat mailbox.now seat.old }
+    requires next { HasNext 0 0 1 0 (C.sends_of seat.old) }
+    requires small { count ≤ 2 ^ 32 }
+    requires owner { C.is_owner mailbox.now owner }
+{
+    let mut taken: u64 = 0;
+    for number in 0..count {
+        mailbox.put::<R>(rt, seat, flag(lane(0, 0), number));
+        if let Some(envelope) = mailbox.next::<R>(rt, &mut owner) {
+            drop(envelope);
+            taken = taken.saturating_add(1);
+        }
+    }
+    mailbox.close(&mut owner).then_some(taken)
+}
+
+// The same, of a mailbox with one seat.
+fn in_turns<W: Named, C: Closable<W> + Drop, R: Wait>(
+    rt: &R,
+    alloc: Global,
+    count: u64,
+) -> Option<u64>
+where
+    C::Seat: Drop,
+    C::Owner: Drop,
+    requires { count ≤ 2 ^ 32 }
+{
+    let (mailbox, mut seats, owner) = opened::<W, C>(alloc, 1)?;
+    all_in_turns::<W, C, R>(rt, &mailbox, &mut seats[0], owner, count)
+}
+
+/// From one thread or four, or in turns by one.
 pub fn by_closable<
     W: Named + Send + Sync,
     C: Closable<W> + Drop + Send + Sync,
@@ -335,6 +376,7 @@ where
     match workload {
         "1" => on_threads::<W, C, R>(rt, alloc, 1, count),
         "4" => on_threads::<W, C, R>(rt, alloc, 4, count / 4),
+        "turns" => in_turns::<W, C, R>(rt, alloc, count),
         _ => None,
     }
 }
