@@ -16,7 +16,7 @@ use Rattle.pl_build.specs.declared.limits.TheConstants.{MAX_EXECUTORS}
 use Rattle.std.proofs.lemmas.Simd.{map-map}
 use Rattle.pl_event.proofs.Lists.{list_any-map, sum_by-map}
 use Rattle.pl_build.specs.Names.{is_name, names_and_sizes}
-use Rattle.pl_build.specs.Refusals.{executor_count, has_double, is_within, grouping_fault, is_known}
+use Rattle.pl_build.specs.Refusals.{executor_count, has_double, are_groups_within, grouping_fault, is_known}
 use Rattle.pl_build.specs.Executors.{GroupsView, IsGrouping, HasPlaced, sizes_of, uses, first_executor, size_of, executor_after}
 use Rattle.pl_build.specs.Counts.{group_after, groups_after, grouping_after, executor_from, executor_now}
 use Rattle.pl_build.specs.declared.grouping.Group.{Group}
@@ -71,8 +71,8 @@ pub rest_from_none : (b : Bool) (fault : BuildFault) (o : Option BuildFault) →
 rest_from_none true fault o e = e
 rest_from_none false fault o e = cc
 
-within : (loops : ℕ) (groups : List (Bor (List ℕ) × ℕ)) → grouping_fault loops (names_and_sizes groups) ≡ None → is_within loops (names_and_sizes groups) ≡ true
-within loops groups none = true_from_none (is_within loops (names_and_sizes groups)) Limit (cond (has_double (names_and_sizes groups)) (Some DuplicateName) None) none
+within : (loops : ℕ) (groups : List (Bor (List ℕ) × ℕ)) → grouping_fault loops (names_and_sizes groups) ≡ None → are_groups_within loops (names_and_sizes groups) ≡ true
+within loops groups none = true_from_none (are_groups_within loops (names_and_sizes groups)) Limit (cond (has_double (names_and_sizes groups)) (Some DuplicateName) None) none
 
 pub sizes-unused : (groups : List (Bor (List ℕ) × ℕ)) → map entry (map unused groups) ≡ names_and_sizes groups
 sizes-unused groups = map-map entry unused groups

@@ -18,7 +18,7 @@ use Rattle.pl_event.specs.declared.stages.Direction.{Direction}
 use Rattle.pl_event.specs.declared.stages.Direction.TheVariants.{Inbound, Outbound, Turn}
 use Rattle.pl_event.specs.Meaning.{Meaning}
 use Rattle.pl_event.specs.Paths as path
-use Rattle.pl_build.specs.Pipelines.{PipelineBuilderView, is_named, index_of, stage_of, meanings, is_inbound, is_outbound, is_turn, inbound_handlers, outbound_handlers, before_turn, hop_of_turn}
+use Rattle.pl_build.specs.Pipelines.{PipelineBuilderView, is_named, index_of, stage_of, meanings, is_inbound, is_outbound_stage, is_turn_stage, inbound_handlers, outbound_handlers, stages_before_turn, hop_of_turn}
 use Rattle.pl_build.specs.Paths.{IsPipeline, IsPath}
 use Rattle.pl_build.specs.Executors.{GroupsView, IsGrouping, HasPlaced, sizes_of, executor_after, hop_executors}
 use Rattle.pl_build.specs.Counts.{executor_now}
@@ -78,20 +78,20 @@ inbound-meanings {S = S} meaning handlers =
 
 pub outbound-meanings : {S : Type 0} (meaning : S → Meaning) (handlers : List (NamedStage S)) → map meaning (map (λ handler. handler.stage) (outbound_handlers meaning handlers)) ≡ path.outbound_chain (meanings meaning handlers)
 outbound-meanings {S = S} meaning handlers =
-    let kept : List (NamedStage S) = filter (is_outbound meaning) (before_turn meaning handlers) in
+    let kept : List (NamedStage S) = filter (is_outbound_stage meaning) (stages_before_turn meaning handlers) in
     let front = take_while-map (λ (m : Meaning). not (path.is_turn m.direction)) (λ (h : NamedStage S). meaning h.stage) handlers in
-    let chosen = ap (λ (ms : List Meaning). filter (λ m. path.is_outbound m.direction) ms) front ∙ filter-map (λ (m : Meaning). path.is_outbound m.direction) (λ (h : NamedStage S). meaning h.stage) (before_turn meaning handlers) in
+    let chosen = ap (λ (ms : List Meaning). filter (λ m. path.is_outbound m.direction) ms) front ∙ filter-map (λ (m : Meaning). path.is_outbound m.direction) (λ (h : NamedStage S). meaning h.stage) (stages_before_turn meaning handlers) in
     map-map meaning (λ (h : NamedStage S). h.stage) (reverse kept) ∙ map-reverse (λ (h : NamedStage S). meaning h.stage) kept ∙ sym (ap (λ (ms : List Meaning). reverse ms) chosen)
 
 -- each handler stands in one chain at most
 pub chains_within : {S : Type 0} (meaning : S → Meaning) (handlers : List (NamedStage S)) → length (inbound_handlers meaning handlers) + length (outbound_handlers meaning handlers) ≤ length handlers
 chains_within {S = S} meaning handlers =
-    let n : ℕ = prefix_len (λ (h : NamedStage S). not (is_turn meaning h)) handlers in
-    let both = length-filter_both (is_outbound meaning) (is_inbound meaning) (λ (h : NamedStage S). refl) handlers in
-    let cut = ap (λ (hs : List (NamedStage S)). length (filter (is_outbound meaning) hs)) (take-append-drop n handlers) in
-    let parts = ap (λ (hs : List (NamedStage S)). length hs) (filter-append (is_outbound meaning) (take n handlers) (drop n handlers)) in
-    let sum = length-append (filter (is_outbound meaning) (take n handlers)) (filter (is_outbound meaning) (drop n handlers)) in
-    let turned = length-reverse (filter (is_outbound meaning) (take n handlers)) in
+    let n : ℕ = prefix_len (λ (h : NamedStage S). not (is_turn_stage meaning h)) handlers in
+    let both = length-filter_both (is_outbound_stage meaning) (is_inbound meaning) (λ (h : NamedStage S). refl) handlers in
+    let cut = ap (λ (hs : List (NamedStage S)). length (filter (is_outbound_stage meaning) hs)) (take-append-drop n handlers) in
+    let parts = ap (λ (hs : List (NamedStage S)). length hs) (filter-append (is_outbound_stage meaning) (take n handlers) (drop n handlers)) in
+    let sum = length-append (filter (is_outbound_stage meaning) (take n handlers)) (filter (is_outbound_stage meaning) (drop n handlers)) in
+    let turned = length-reverse (filter (is_outbound_stage meaning) (take n handlers)) in
     omega (arith, both, cut, parts, sum, turned)
 
 -- no outbound handler is the turn, so the inbound ones have all turns
@@ -108,11 +108,11 @@ sum_by-zero f [] h = refl
 sum_by-zero {X = X} f (x ∷ xs) h =
     omega (arith, sum_by-cons f x xs, All-head (λ (x : X). f x ≡ 0) x xs h, sum_by-zero f xs (All-tail (λ (x : X). f x ≡ 0) x xs h))
 
-turns_inbound : {S : Type 0} (meaning : S → Meaning) (handlers : List (NamedStage S)) → count_by (λ stage. path.is_turn (meaning stage).direction) (map (λ handler. handler.stage) (inbound_handlers meaning handlers)) ≡ count_by (is_turn meaning) handlers
+turns_inbound : {S : Type 0} (meaning : S → Meaning) (handlers : List (NamedStage S)) → count_by (λ stage. path.is_turn (meaning stage).direction) (map (λ handler. handler.stage) (inbound_handlers meaning handlers)) ≡ count_by (is_turn_stage meaning) handlers
 turns_inbound {S = S} meaning handlers =
-    let one : NamedStage S → ℕ = λ h. cond (is_turn meaning h) 1 0 in
-    let both = sum_by-filter_both (is_outbound meaning) (is_inbound meaning) (λ (h : NamedStage S). refl) one handlers in
-    let none = sum_by-zero one (filter (is_outbound meaning) handlers) (All-weaker (λ (h : NamedStage S). is_outbound meaning h ≡ true) (λ (h : NamedStage S). one h ≡ 0) (λ h e. no_turn (meaning h.stage).direction e) (filter (is_outbound meaning) handlers) (filter_passes (is_outbound meaning) handlers)) in
+    let one : NamedStage S → ℕ = λ h. cond (is_turn_stage meaning h) 1 0 in
+    let both = sum_by-filter_both (is_outbound_stage meaning) (is_inbound meaning) (λ (h : NamedStage S). refl) one handlers in
+    let none = sum_by-zero one (filter (is_outbound_stage meaning) handlers) (All-weaker (λ (h : NamedStage S). is_outbound_stage meaning h ≡ true) (λ (h : NamedStage S). one h ≡ 0) (λ h e. no_turn (meaning h.stage).direction e) (filter (is_outbound_stage meaning) handlers) (filter_passes (is_outbound_stage meaning) handlers)) in
     let stages = sum_by-map (λ (s : S). cond (path.is_turn (meaning s).direction) 1 0) (λ (h : NamedStage S). h.stage) (inbound_handlers meaning handlers) in
     omega (arith, both, none, stages)
 
@@ -124,27 +124,27 @@ turns_from n false false e f h =
     let some = eqb-false n 0 e in
     omega (arith, some, leb-false 2 n f)
 
-pub one_turn : {S : Type 0} (meaning : S → Meaning) (sizes : List (List ℕ × ℕ)) (handlers : List (NamedStage S)) → building_fault meaning sizes handlers ≡ None → count_by (is_turn meaning) handlers ≡ 1
+pub one_turn : {S : Type 0} (meaning : S → Meaning) (sizes : List (List ℕ × ℕ)) (handlers : List (NamedStage S)) → building_fault meaning sizes handlers ≡ None → count_by (is_turn_stage meaning) handlers ≡ 1
 one_turn {S = S} meaning sizes handlers none =
-    let n = count_by (is_turn meaning) handlers in
+    let n = count_by (is_turn_stage meaning) handlers in
     turns_from n (eqb n 0) (leb 2 n) refl refl (rest_from_none (list_all (λ (x : NamedStage S). is_known sizes x.group) handlers) NoSuchGroup (cond (eqb n 0) (Some NoTurn) (cond (leb 2 n) (Some TwoTurns) None)) none)
 
-pub IsPath-split : {S : Type 0} (meaning : S → Meaning) (stands_after : S → List Event → Type 0) (pipeline : PipelineBuilderView S) (inbound outbound : List S) (executors : List ℕ) → IsPipeline stands_after pipeline → count_by (is_turn meaning) pipeline.handlers ≡ 1 → inbound ≡ map (λ handler. handler.stage) (inbound_handlers meaning pipeline.handlers) → outbound ≡ map (λ handler. handler.stage) (outbound_handlers meaning pipeline.handlers)
+pub IsPath-split : {S : Type 0} (meaning : S → Meaning) (stands_after : S → List Event → Type 0) (pipeline : PipelineBuilderView S) (inbound outbound : List S) (executors : List ℕ) → IsPipeline stands_after pipeline → count_by (is_turn_stage meaning) pipeline.handlers ≡ 1 → inbound ≡ map (λ handler. handler.stage) (inbound_handlers meaning pipeline.handlers) → outbound ≡ map (λ handler. handler.stage) (outbound_handlers meaning pipeline.handlers)
     → length executors ≡ length (inbound_handlers meaning pipeline.handlers) + length (outbound_handlers meaning pipeline.handlers) + 2 → IsPath meaning stands_after (record { inbound = inbound; outbound = outbound; executors = executors; low = pipeline.low; high = pipeline.high })
 IsPath-split {S = S} meaning stands_after pipeline inbound outbound executors h one i o hops =
     let P : NamedStage S → Type 0 = λ handler. stands_after handler.stage [] in
     let Q : List S → Type 0 = λ stages. All (λ stage. stands_after stage []) stages in
-    let n : ℕ = prefix_len (λ (h : NamedStage S). not (is_turn meaning h)) pipeline.handlers in
+    let n : ℕ = prefix_len (λ (h : NamedStage S). not (is_turn_stage meaning h)) pipeline.handlers in
     let in_length = ap (λ (xs : List S). length xs) i ∙ length-map (inbound_handlers meaning pipeline.handlers) (λ (h : NamedStage S). h.stage) in
     let out_length = ap (λ (xs : List S). length xs) o ∙ length-map (outbound_handlers meaning pipeline.handlers) (λ (h : NamedStage S). h.stage) in
     let chains = chains_within meaning pipeline.handlers in
     record {
       inbound = subst Q (sym i) (All-map (λ stage. stands_after stage []) (λ (h : NamedStage S). h.stage) (inbound_handlers meaning pipeline.handlers) (All-filter (is_inbound meaning) P pipeline.handlers h.stages));
-      outbound = subst Q (sym o) (All-map (λ stage. stands_after stage []) (λ (h : NamedStage S). h.stage) (outbound_handlers meaning pipeline.handlers) (All-reverse P (filter (is_outbound meaning) (take n pipeline.handlers)) (All-filter (is_outbound meaning) P (take n pipeline.handlers) (All-take P n pipeline.handlers h.stages))));
+      outbound = subst Q (sym o) (All-map (λ stage. stands_after stage []) (λ (h : NamedStage S). h.stage) (outbound_handlers meaning pipeline.handlers) (All-reverse P (filter (is_outbound_stage meaning) (take n pipeline.handlers)) (All-filter (is_outbound_stage meaning) P (take n pipeline.handlers) (All-take P n pipeline.handlers h.stages))));
       upwards = (let Up : List S → Type 0 = λ stages. All (λ stage. path.is_outbound (meaning stage).direction ≡ false) stages in
-          subst Up (sym i) (All-map (λ stage. path.is_outbound (meaning stage).direction ≡ false) (λ (h : NamedStage S). h.stage) (inbound_handlers meaning pipeline.handlers) (All-weaker (λ (h : NamedStage S). is_inbound meaning h ≡ true) (λ (h : NamedStage S). is_outbound meaning h ≡ false) (λ h e. not-true (is_outbound meaning h) e) (inbound_handlers meaning pipeline.handlers) (filter_passes (is_inbound meaning) pipeline.handlers))));
+          subst Up (sym i) (All-map (λ stage. path.is_outbound (meaning stage).direction ≡ false) (λ (h : NamedStage S). h.stage) (inbound_handlers meaning pipeline.handlers) (All-weaker (λ (h : NamedStage S). is_inbound meaning h ≡ true) (λ (h : NamedStage S). is_outbound_stage meaning h ≡ false) (λ h e. not-true (is_outbound_stage meaning h) e) (inbound_handlers meaning pipeline.handlers) (filter_passes (is_inbound meaning) pipeline.handlers))));
       downwards = (let Down : List S → Type 0 = λ stages. All (λ stage. path.is_outbound (meaning stage).direction ≡ true) stages in
-          subst Down (sym o) (All-map (λ stage. path.is_outbound (meaning stage).direction ≡ true) (λ (h : NamedStage S). h.stage) (outbound_handlers meaning pipeline.handlers) (All-reverse (λ (h : NamedStage S). is_outbound meaning h ≡ true) (filter (is_outbound meaning) (take n pipeline.handlers)) (filter_passes (is_outbound meaning) (take n pipeline.handlers)))));
+          subst Down (sym o) (All-map (λ stage. path.is_outbound (meaning stage).direction ≡ true) (λ (h : NamedStage S). h.stage) (outbound_handlers meaning pipeline.handlers) (All-reverse (λ (h : NamedStage S). is_outbound_stage meaning h ≡ true) (filter (is_outbound_stage meaning) (take n pipeline.handlers)) (filter_passes (is_outbound_stage meaning) (take n pipeline.handlers)))));
       turn = ap (λ (xs : List S). count_by (λ stage. path.is_turn (meaning stage).direction) xs) i ∙ turns_inbound meaning pipeline.handlers ∙ one;
       within = omega (arith, in_length, out_length, chains, h.within);
       hops = omega (arith, in_length, out_length, hops);
@@ -162,9 +162,9 @@ map_agree {X = X} {Y = Y} f g (x ∷ xs) h =
 pub hop_executors_agree : {S : Type 0} (f g : Option (List ℕ) → ℕ) (meaning : S → Meaning) (handlers : List (NamedStage S)) → f None ≡ g None → All (λ handler. f handler.group ≡ g handler.group) handlers → hop_executors f meaning handlers ≡ hop_executors g meaning handlers
 hop_executors_agree {S = S} f g meaning handlers home each =
     let P : NamedStage S → Type 0 = λ handler. f handler.group ≡ g handler.group in
-    let n : ℕ = prefix_len (λ (h : NamedStage S). not (is_turn meaning h)) handlers in
+    let n : ℕ = prefix_len (λ (h : NamedStage S). not (is_turn_stage meaning h)) handlers in
     let fronts = map_agree (λ (h : NamedStage S). f h.group) (λ (h : NamedStage S). g h.group) (inbound_handlers meaning handlers) (All-filter (is_inbound meaning) P handlers each) in
-    let backs = map_agree (λ (h : NamedStage S). f h.group) (λ (h : NamedStage S). g h.group) (outbound_handlers meaning handlers) (All-reverse P (filter (is_outbound meaning) (take n handlers)) (All-filter (is_outbound meaning) P (take n handlers) (All-take P n handlers each))) in
+    let backs = map_agree (λ (h : NamedStage S). f h.group) (λ (h : NamedStage S). g h.group) (outbound_handlers meaning handlers) (All-reverse P (filter (is_outbound_stage meaning) (take n handlers)) (All-filter (is_outbound_stage meaning) P (take n handlers) (All-take P n handlers each))) in
     cc
 
 pub executors-placed : {S : Type 0} (meaning : S → Meaning) (g : GroupsView) (earlier : List (List (Option (List ℕ)))) (handlers : List (NamedStage S)) → HasPlaced g earlier → building_fault meaning (sizes_of g) handlers ≡ None → hop_executors (executor_now g) meaning handlers ≡ hop_executors (executor_after g.loops (sizes_of g) earlier) meaning handlers
@@ -179,12 +179,12 @@ executors-within {S = S} meaning g handlers executors h none is =
     let Within : ℕ → Type 0 = λ executor. executor < executor_count g.loops (sizes_of g) in
     let AllWithin : List ℕ → Type 0 = λ xs. All Within xs in
     let P : NamedStage S → Type 0 = λ x. Within (executor_now g x.group) in
-    let n : ℕ = prefix_len (λ (x : NamedStage S). not (is_turn meaning x)) handlers in
+    let n : ℕ = prefix_len (λ (x : NamedStage S). not (is_turn_stage meaning x)) handlers in
     let known = AllPass-from_list_all (λ (x : NamedStage S). is_known (sizes_of g) x.group) handlers (true_from_none (list_all (λ (x : NamedStage S). is_known (sizes_of g) x.group) handlers) NoSuchGroup _ none) in
     let each = All-weaker (λ (x : NamedStage S). is_known (sizes_of g) x.group ≡ true) P (λ x k. executor_now-within g x.group h k) handlers known in
     let home = executor_now-within g None h refl in
     let fronts = All-map Within (λ (x : NamedStage S). executor_now g x.group) (inbound_handlers meaning handlers) (All-filter (is_inbound meaning) P handlers each) in
-    let backs = All-map Within (λ (x : NamedStage S). executor_now g x.group) (outbound_handlers meaning handlers) (All-reverse P (filter (is_outbound meaning) (take n handlers)) (All-filter (is_outbound meaning) P (take n handlers) (All-take P n handlers each))) in
+    let backs = All-map Within (λ (x : NamedStage S). executor_now g x.group) (outbound_handlers meaning handlers) (All-reverse P (filter (is_outbound_stage meaning) (take n handlers)) (All-filter (is_outbound_stage meaning) P (take n handlers) (All-take P n handlers each))) in
     let tail : List ℕ = map (λ (x : NamedStage S). executor_now g x.group) (outbound_handlers meaning handlers) ++ executor_now g None ∷ [] in
     subst AllWithin (sym is) (All-append Within (map (λ (x : NamedStage S). executor_now g x.group) (inbound_handlers meaning handlers)) (executor_now g None ∷ tail) fronts (All-cons Within (executor_now g None) tail home (All-append Within (map (λ (x : NamedStage S). executor_now g x.group) (outbound_handlers meaning handlers)) (executor_now g None ∷ []) backs (All-cons Within (executor_now g None) [] home (All-nil Within)))))
 
@@ -213,19 +213,19 @@ inbound_step {S = S} meaning yielded handler before after step is =
     ∙ sym (chain_push (is_inbound meaning) yielded (handler ∷ []))
 
 -- the outbound handlers before the turn, with a handler more
-pub outbound_step : {S : Type 0} (meaning : S → Meaning) (yielded : List (NamedStage S)) (handler : NamedStage S) (b : Bool) (before after : List S) → b ≡ (list_all (λ h. not (is_turn meaning h)) yielded && not (is_turn meaning handler)) → after ≡ before ++ map (λ h. h.stage) (filter (is_outbound meaning) (cond b (handler ∷ []) [])) → before ≡ map (λ h. h.stage) (filter (is_outbound meaning) (before_turn meaning yielded))
-    → after ≡ map (λ h. h.stage) (filter (is_outbound meaning) (before_turn meaning (yielded ++ handler ∷ [])))
+pub outbound_step : {S : Type 0} (meaning : S → Meaning) (yielded : List (NamedStage S)) (handler : NamedStage S) (b : Bool) (before after : List S) → b ≡ (list_all (λ h. not (is_turn_stage meaning h)) yielded && not (is_turn_stage meaning handler)) → after ≡ before ++ map (λ h. h.stage) (filter (is_outbound_stage meaning) (cond b (handler ∷ []) [])) → before ≡ map (λ h. h.stage) (filter (is_outbound_stage meaning) (stages_before_turn meaning yielded))
+    → after ≡ map (λ h. h.stage) (filter (is_outbound_stage meaning) (stages_before_turn meaning (yielded ++ handler ∷ [])))
 outbound_step {S = S} meaning yielded handler b before after flag step is =
     let more : List (NamedStage S) = cond b (handler ∷ []) [] in
-    let front : before_turn meaning (yielded ++ handler ∷ []) ≡ before_turn meaning yielded ++ more = take_while_push (λ (h : NamedStage S). not (is_turn meaning h)) yielded handler ∙ ap (λ (v : Bool). before_turn meaning yielded ++ cond v (handler ∷ []) []) (sym flag) in
-    let chain = ap (λ (hs : List (NamedStage S)). map (λ h. h.stage) (filter (is_outbound meaning) hs)) front ∙ chain_push (is_outbound meaning) (before_turn meaning yielded) more in
-    step ∙ ap (λ (t : List S). t ++ map (λ h. h.stage) (filter (is_outbound meaning) more)) is ∙ sym chain
+    let front : stages_before_turn meaning (yielded ++ handler ∷ []) ≡ stages_before_turn meaning yielded ++ more = take_while_push (λ (h : NamedStage S). not (is_turn_stage meaning h)) yielded handler ∙ ap (λ (v : Bool). stages_before_turn meaning yielded ++ cond v (handler ∷ []) []) (sym flag) in
+    let chain = ap (λ (hs : List (NamedStage S)). map (λ h. h.stage) (filter (is_outbound_stage meaning) hs)) front ∙ chain_push (is_outbound_stage meaning) (stages_before_turn meaning yielded) more in
+    step ∙ ap (λ (t : List S). t ++ map (λ h. h.stage) (filter (is_outbound_stage meaning) more)) is ∙ sym chain
 
 -- all handlers were seen, and the outbound chain is turned round
-pub outbound_end : {S : Type 0} (meaning : S → Meaning) (yielded handlers : List (NamedStage S)) (before after : List S) → yielded ≡ handlers → before ≡ map (λ h. h.stage) (filter (is_outbound meaning) (before_turn meaning yielded)) → after ≡ reverse before → after ≡ map (λ h. h.stage) (outbound_handlers meaning handlers)
+pub outbound_end : {S : Type 0} (meaning : S → Meaning) (yielded handlers : List (NamedStage S)) (before after : List S) → yielded ≡ handlers → before ≡ map (λ h. h.stage) (filter (is_outbound_stage meaning) (stages_before_turn meaning yielded)) → after ≡ reverse before → after ≡ map (λ h. h.stage) (outbound_handlers meaning handlers)
 outbound_end {S = S} meaning yielded handlers before after whole is turned =
-    turned ∙ ap (λ (t : List S). reverse t) (is ∙ ap (λ (hs : List (NamedStage S)). map (λ h. h.stage) (filter (is_outbound meaning) (before_turn meaning hs))) whole)
-    ∙ sym (map-reverse (λ (h : NamedStage S). h.stage) (filter (is_outbound meaning) (before_turn meaning handlers)))
+    turned ∙ ap (λ (t : List S). reverse t) (is ∙ ap (λ (hs : List (NamedStage S)). map (λ h. h.stage) (filter (is_outbound_stage meaning) (stages_before_turn meaning hs))) whole)
+    ∙ sym (map-reverse (λ (h : NamedStage S). h.stage) (filter (is_outbound_stage meaning) (stages_before_turn meaning handlers)))
 
 pub inbound_end : {S : Type 0} (meaning : S → Meaning) (yielded handlers : List (NamedStage S)) (chain : List S) → yielded ≡ handlers → chain ≡ map (λ h. h.stage) (inbound_handlers meaning yielded) → chain ≡ map (λ h. h.stage) (inbound_handlers meaning handlers)
 inbound_end {S = S} meaning yielded handlers chain whole is =
@@ -239,22 +239,22 @@ turns_are_inbound Outbound e = cc
 turns_are_inbound Turn e = refl
 
 -- as many inbound handlers are before the turn
-pub turn_end : {S : Type 0} (meaning : S → Meaning) (yielded : List (NamedStage S)) (chain : List S) (turn : ℕ) → chain ≡ map (λ h. h.stage) (inbound_handlers meaning yielded) → turn ≡ length (filter (is_inbound meaning) (before_turn meaning yielded)) → turn ≡ hop_of_turn meaning chain
+pub turn_end : {S : Type 0} (meaning : S → Meaning) (yielded : List (NamedStage S)) (chain : List S) (turn : ℕ) → chain ≡ map (λ h. h.stage) (inbound_handlers meaning yielded) → turn ≡ length (filter (is_inbound meaning) (stages_before_turn meaning yielded)) → turn ≡ hop_of_turn meaning chain
 turn_end {S = S} meaning yielded chain turn is counted =
     let stages = position_or_len-map (λ (s : S). path.is_turn (meaning s).direction) (λ (h : NamedStage S). h.stage) (inbound_handlers meaning yielded) in
-    let first = position_or_len-filter (is_turn meaning) (is_inbound meaning) yielded (λ (h : NamedStage S) e. turns_are_inbound (meaning h.stage).direction e) in
+    let first = position_or_len-filter (is_turn_stage meaning) (is_inbound meaning) yielded (λ (h : NamedStage S) e. turns_are_inbound (meaning h.stage).direction e) in
     counted ∙ sym (ap (λ (t : List S). hop_of_turn meaning t) is ∙ stages ∙ first)
 
 -- with a handler more, where no turn has come yet, and where one has
-pub turn_step : {S : Type 0} (meaning : S → Meaning) (yielded : List (NamedStage S)) (handler : NamedStage S) (b : Bool) (turn after : ℕ) (chain : List S) → b ≡ (list_all (λ h. not (is_turn meaning h)) yielded && not (is_turn meaning handler)) → after ≡ cond b (length chain) turn → chain ≡ map (λ h. h.stage) (inbound_handlers meaning (yielded ++ handler ∷ [])) → turn ≡ length (filter (is_inbound meaning) (before_turn meaning yielded))
-    → after ≡ length (filter (is_inbound meaning) (before_turn meaning (yielded ++ handler ∷ [])))
+pub turn_step : {S : Type 0} (meaning : S → Meaning) (yielded : List (NamedStage S)) (handler : NamedStage S) (b : Bool) (turn after : ℕ) (chain : List S) → b ≡ (list_all (λ h. not (is_turn_stage meaning h)) yielded && not (is_turn_stage meaning handler)) → after ≡ cond b (length chain) turn → chain ≡ map (λ h. h.stage) (inbound_handlers meaning (yielded ++ handler ∷ [])) → turn ≡ length (filter (is_inbound meaning) (stages_before_turn meaning yielded))
+    → after ≡ length (filter (is_inbound meaning) (stages_before_turn meaning (yielded ++ handler ∷ [])))
 turn_step {S = S} meaning yielded handler true turn after chain flag step is counted =
-    let fails : NamedStage S → Bool = λ h. not (is_turn meaning h) in
+    let fails : NamedStage S → Bool = λ h. not (is_turn_stage meaning h) in
     let all = list_all_push fails yielded handler ∙ sym flag in
     step ∙ ap (λ (t : List S). length t) is ∙ length-map (inbound_handlers meaning (yielded ++ handler ∷ [])) (λ (h : NamedStage S). h.stage)
     ∙ sym (ap (λ (t : List (NamedStage S)). length (filter (is_inbound meaning) t)) (take_while_all fails (yielded ++ handler ∷ []) all))
 turn_step {S = S} meaning yielded handler false turn after chain flag step is counted =
-    let front = take_while_push (λ (h : NamedStage S). not (is_turn meaning h)) yielded handler ∙ ap (λ (v : Bool). before_turn meaning yielded ++ cond v (handler ∷ []) []) (sym flag) ∙ append-nil (before_turn meaning yielded) in
+    let front = take_while_push (λ (h : NamedStage S). not (is_turn_stage meaning h)) yielded handler ∙ ap (λ (v : Bool). stages_before_turn meaning yielded ++ cond v (handler ∷ []) []) (sym flag) ∙ append-nil (stages_before_turn meaning yielded) in
     step ∙ counted ∙ sym (ap (λ (t : List (NamedStage S)). length (filter (is_inbound meaning) t)) front)
 
 -- just one stage of the chain is the turn

@@ -11,12 +11,13 @@ use Rattle.pl_build.specs.declared.limits.TheConstants.{MAX_EXECUTORS}
 use Rattle.pl_build.specs.declared.named_stages.NamedStage.{NamedStage}
 use Rattle.pl_build.specs.declared.grouping.Group.{Group}
 
--- the loops and groups of a session, with the loop and the executors that the next pipeline gets
+-- The loops and groups of a session. With them stand the loop and the executors that the next pipeline gets.
 pub record GroupsView : Type 0 where
   pub loops : ℕ
   pub next_loop : ℕ
   pub groups : List Group
 
+-- the name and the size of each group
 abbrev pub sizes_of : GroupsView → List (List ℕ × ℕ)
 sizes_of g = map (λ group. (group.name, group.size)) g.groups
 
@@ -31,14 +32,16 @@ first_executor loops sizes name = loops + sum_by (λ group. group.1) (take_while
 abbrev pub size_of : List (List ℕ × ℕ) → List ℕ → ℕ
 size_of sizes name = option_map_or (λ group. group.1) (find (λ group. bytes_eq group.0 name) sizes) 1
 
--- The executor of a handler, by its group, in the channel that comes after those with the pipelines `earlier`: the
--- channel's loop, or in its group number u modulo the size, where u is the number of earlier pipelines that use it.
+-- The executor of a handler, by its group (ChannelPipeline.addLast). The channel comes after those with the pipelines
+-- `earlier`. It is the channel's loop, or in the group number u modulo the size, where u is the number of earlier
+-- pipelines that use it.
 abbrev pub executor_after : ℕ → List (List ℕ × ℕ) → List (List (Option (List ℕ))) → Option (List ℕ) → ℕ
 executor_after loops sizes earlier None = length earlier % loops
 executor_after loops sizes earlier (Some name) =
     first_executor loops sizes name + count_by (uses name) earlier % size_of sizes name
 
--- The executor of each hop: the inbound handlers, the tail, the outbound handlers from the turn on, the head.
+-- The executor of each hop (ChannelPipeline.addLast). Hops are those of the inbound handlers, the tail, the outbound
+-- handlers from the turn on, the head.
 abbrev pub hop_executors : {S : Type 0} → (Option (List ℕ) → ℕ) → (S → Meaning) → List (NamedStage S) → List ℕ
 hop_executors executor meaning handlers =
     map (λ handler. executor handler.group) (inbound_handlers meaning handlers) ++ executor None
@@ -48,12 +51,12 @@ hop_executors executor meaning handlers =
 abbrev pub groups_of : {S : Type 0} → List (NamedStage S) → List (Option (List ℕ))
 groups_of handlers = map (λ handler. handler.group) handlers
 
--- these groups have placed the pipelines of the channels so far
+-- these groups have placed the channels so far (ChannelPipeline.addLast)
 pub record HasPlaced (g : GroupsView) (earlier : List (List (Option (List ℕ)))) : Type 0 where
   pub loop : g.next_loop ≡ length earlier % g.loops
   pub groups : All (λ group. group.next ≡ count_by (uses group.name) earlier % group.size) g.groups
 
--- there are not too many executors, and each next one is there
+-- There are not too many executors. Each next one is there.
 pub record IsGrouping (g : GroupsView) : Type 0 where
   pub loop : g.next_loop < g.loops
   pub nexts : All (λ group. group.next < group.size) g.groups

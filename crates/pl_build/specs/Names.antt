@@ -13,6 +13,6 @@ abbrev pub is_among : Option (List ℕ) → List ℕ → Bool
 is_among None name = false
 is_among (Some group) name = bytes_eq group name
 
--- the names and sizes of groups, as a caller gives them
+-- the names and sizes of groups that a caller gives
 abbrev pub names_and_sizes : List (Bor (List ℕ) × ℕ) → List (List ℕ × ℕ)
 names_and_sizes groups = map (λ group. (group.0.now, group.1)) groups

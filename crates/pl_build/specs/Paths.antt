@@ -6,15 +6,16 @@ use Rattle.pl_event.specs.Paths.{is_outbound, is_turn}
 use Rattle.pl_build.specs.declared.limits.TheConstants.{MAX_HANDLERS, MAX_MARK}
 use Rattle.pl_build.specs.Pipelines.{PipelineBuilderView, PlacedView, AreNew}
 
--- no stage has had a step; there are not too many handlers, and the marks are in order
+-- What holds of a pipeline that is being built: no stage has had a step. There are not too many handlers, and the
+-- marks are in order.
 pub record IsPipeline {S : Type 0} (stands_after : S → List Event → Type 0) (pipeline : PipelineBuilderView S) : Type 0 where
   pub stages : AreNew stands_after pipeline.handlers
   pub within : length pipeline.handlers ≤ MAX_HANDLERS
   pub order : pipeline.low ≤ pipeline.high
   pub high : pipeline.high ≤ MAX_MARK
 
--- The same of the two chains: the inbound one has just one turn and not one outbound handler, and the outbound one
--- has only outbound ones. There is an executor for each hop.
+-- What holds of a pipeline that is built: just one turn inbound, and outbound handlers alone outbound. No stage of
+-- the two chains has had a step, the inbound one has not one outbound handler, and there is an executor for each hop.
 pub record IsPath {S : Type 0} (meaning : S → Meaning) (stands_after : S → List Event → Type 0) (path : PlacedView S) : Type 0 where
   pub inbound : All (λ stage. stands_after stage []) path.inbound
   pub outbound : All (λ stage. stands_after stage []) path.outbound

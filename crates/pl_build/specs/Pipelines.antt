@@ -10,13 +10,14 @@ use Rattle.pl_build.specs.declared.named_stages.NamedStage.{NamedStage}
 use Rattle.pl_build.specs.declared.faults.BuildFault.{BuildFault}
 use Rattle.pl_build.specs.declared.faults.BuildFault.TheVariants.{NoSuchName}
 
--- a pipeline that is being built: its handlers from first to last, and the marks of its channel in bytes
+-- A pipeline that is being built (ChannelPipeline). It has its handlers from first to last, and the marks of its
+-- channel in bytes.
 pub record PipelineBuilderView (S : Type 0) : Type 0 where
   pub handlers : List (NamedStage S)
   pub low : ℕ
   pub high : ℕ
 
--- what is kept of a pipeline once it is built: its two chains, the executor of each hop, and the marks
+-- A pipeline that is built. Kept of it are its two chains, the executor of each hop, and the marks.
 pub record PlacedView (S : Type 0) : Type 0 where
   pub inbound : List S
   pub outbound : List S
@@ -24,6 +25,7 @@ pub record PlacedView (S : Type 0) : Type 0 where
   pub low : ℕ
   pub high : ℕ
 
+-- a handler with its name and its group
 abbrev pub handler_of : {S : Type 0} → List ℕ → Option (List ℕ) → S → NamedStage S
 handler_of name group stage = record { name = name; group = group; stage = stage }
 
@@ -42,32 +44,32 @@ without name handlers = option_map_or (λ index. remove handlers index) (index_o
 abbrev pub stage_of : {S : Type 0} → List ℕ → List (NamedStage S) → Result S BuildFault
 stage_of name handlers = option_map_or (λ handler. Ok handler.stage) (find (is_named name) handlers) (Err NoSuchName)
 
--- what the handlers' stages mean, from which their path is known
+-- What the handlers' stages mean. From that their path is known.
 abbrev pub meanings : {S : Type 0} → (S → Meaning) → List (NamedStage S) → List Meaning
 meanings meaning handlers = map (λ handler. meaning handler.stage) handlers
 
-abbrev pub is_outbound : {S : Type 0} → (S → Meaning) → NamedStage S → Bool
-is_outbound meaning handler = path.is_outbound (meaning handler.stage).direction
+abbrev pub is_outbound_stage : {S : Type 0} → (S → Meaning) → NamedStage S → Bool
+is_outbound_stage meaning handler = path.is_outbound (meaning handler.stage).direction
 
 abbrev pub is_inbound : {S : Type 0} → (S → Meaning) → NamedStage S → Bool
-is_inbound meaning handler = not (is_outbound meaning handler)
+is_inbound meaning handler = not (is_outbound_stage meaning handler)
 
-abbrev pub is_turn : {S : Type 0} → (S → Meaning) → NamedStage S → Bool
-is_turn meaning handler = path.is_turn (meaning handler.stage).direction
+abbrev pub is_turn_stage : {S : Type 0} → (S → Meaning) → NamedStage S → Bool
+is_turn_stage meaning handler = path.is_turn (meaning handler.stage).direction
 
--- the handlers that an inbound event visits, from first to last
+-- the handlers that inbound events visit, first to last
 abbrev pub inbound_handlers : {S : Type 0} → (S → Meaning) → List (NamedStage S) → List (NamedStage S)
 inbound_handlers meaning handlers = filter (is_inbound meaning) handlers
 
 -- the handlers before the turn
-abbrev pub before_turn : {S : Type 0} → (S → Meaning) → List (NamedStage S) → List (NamedStage S)
-before_turn meaning handlers = take_while (λ handler. not (is_turn meaning handler)) handlers
+abbrev pub stages_before_turn : {S : Type 0} → (S → Meaning) → List (NamedStage S) → List (NamedStage S)
+stages_before_turn meaning handlers = take_while (λ handler. not (is_turn_stage meaning handler)) handlers
 
--- the handlers that a write of the turn visits, from the nearest to the first
+-- the handlers that the turn's writes visit, nearest first
 abbrev pub outbound_handlers : {S : Type 0} → (S → Meaning) → List (NamedStage S) → List (NamedStage S)
-outbound_handlers meaning handlers = reverse (filter (is_outbound meaning) (before_turn meaning handlers))
+outbound_handlers meaning handlers = reverse (filter (is_outbound_stage meaning) (stages_before_turn meaning handlers))
 
--- the hop of the turn: its index in the inbound chain
+-- the turn's hop: its index in the inbound chain
 abbrev pub hop_of_turn : {S : Type 0} → (S → Meaning) → List S → ℕ
 hop_of_turn meaning inbound = position_or_len (λ stage. path.is_turn (meaning stage).direction) inbound
 

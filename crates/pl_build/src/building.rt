@@ -6,7 +6,7 @@ ghost use Rattle.std.specs.Option.{option_copied};
 ghost use Rattle.pl_event.specs.Paths.{inbound_chain, outbound_chain};
 ghost use Rattle.pl_build.specs.declared.faults.BuildFault.TheVariants as fault;
 ghost use Rattle.pl_build.specs.Refusals.{naming_fault, beside_fault, marks_answer, building_fault, unless, is_known, executor_count};
-ghost use Rattle.pl_build.specs.Pipelines.{handler_of, index_of, without, stage_of, meanings, inbound_handlers, outbound_handlers, is_turn};
+ghost use Rattle.pl_build.specs.Pipelines.{handler_of, index_of, without, stage_of, meanings, inbound_handlers, outbound_handlers, is_turn_stage};
 ghost use Rattle.pl_build.specs.Executors.{HasPlaced, sizes_of, groups_of, executor_after, hop_executors};
 ghost use Rattle.pl_build.specs.Counts.{executor_now};
 
@@ -313,7 +313,7 @@ impl<S: Stage> PipelineBuilder<S> {
 
     /// Splits the handlers into chains that have room for them.
     fn into_placed(self, room: Room<S>) -> Placed<S>
-        requires turn { count_by (is_turn S.meaning) self.handlers ≡ 1 }
+        requires turn { count_by (is_turn_stage S.meaning) self.handlers ≡ 1 }
         requires empty { (room.chains.inbound.items ≡ []) × (room.chains.outbound.items ≡ []) × (room.chains.turn ≡ 0) }
         requires inbound { length self.handlers ≤ vec_capacity room.chains.inbound }
         requires outbound { length self.handlers ≤ vec_capacity room.chains.outbound }
@@ -365,7 +365,7 @@ fn are_known<S>(handlers: &[NamedStage<S>], groups: &Groups) -> bool
 
 /// How many of these handlers are the turn.
 fn count_turns<S: Stage>(handlers: &[NamedStage<S>]) -> usize
-    ensures { result ≡ count_by (is_turn S.meaning) handlers.now }
+    ensures { result ≡ count_by (is_turn_stage S.meaning) handlers.now }
 {
     handlers.iter().filter(|handler| handler.is_turn()).count()
 }

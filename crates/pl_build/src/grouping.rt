@@ -6,7 +6,7 @@ ghost use Rattle.std.specs.Str.{bytes_eq};
 ghost use Rattle.pl_build.specs.Names.{is_name, is_among, names_and_sizes};
 ghost use Rattle.pl_build.specs.Executors.{uses, groups_of};
 ghost use Rattle.pl_build.specs.Counts.{executor_from, groups_after};
-ghost use Rattle.pl_build.specs.Refusals.{is_within, has_double, grouping_fault, is_known, executor_count};
+ghost use Rattle.pl_build.specs.Refusals.{are_groups_within, has_double, grouping_fault, is_known, executor_count};
 ghost use Rattle.pl_build.specs.declared.faults.BuildFault.TheVariants as fault;
 
 use crate::faults::BuildFault;
@@ -150,7 +150,7 @@ fn grouping_fault(loops: u16, groups: &[(&str, u16)]) -> Option<BuildFault>
 
 /// Whether the names and numbers are within their limits.
 fn is_within(loops: u16, groups: &[(&str, u16)]) -> bool
-    ensures { result ≡ is_within loops (names_and_sizes groups.now) }
+    ensures { result ≡ are_groups_within loops (names_and_sizes groups.now) }
 {
     if loops == 0 {
         return false;

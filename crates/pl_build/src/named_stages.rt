@@ -6,7 +6,7 @@ ghost use Rattle.std.specs.Str.{bytes_eq};
 ghost use Rattle.pl_event.specs.Paths.{is_turn};
 ghost use Rattle.pl_build.specs.Names.{is_among};
 ghost use Rattle.pl_build.specs.declared.faults.BuildFault.TheVariants as fault;
-ghost use Rattle.pl_build.specs.Pipelines.{handler_of, is_inbound, is_outbound};
+ghost use Rattle.pl_build.specs.Pipelines.{handler_of, is_inbound, is_outbound_stage};
 
 use crate::faults::BuildFault;
 use crate::names::{has_text, kept};
@@ -98,7 +98,7 @@ impl<S: Stage> NamedStage<S> {
 
     /// Whether outbound events visit it.
     pub(crate) fn is_outbound(&self) -> bool
-        ensures { result ≡ is_outbound S.meaning self.now }
+        ensures { result ≡ is_outbound_stage S.meaning self.now }
     {
         self.stage.direction().is_outbound()
     }

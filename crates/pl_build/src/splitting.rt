@@ -3,7 +3,7 @@
 ghost use Rattle.std.specs.Prelude.{◌≡◌, ◌≤◌, ◌++◌, [], length, map, filter, reverse, IfOk, OnOk, vec_len, vec_capacity, position, ◌<◌, ◌∷◌, if◌then◌else◌, ◌&&◌, not};
 ghost use Rattle.pl_build.specs.Counts.{executor_now};
 ghost use Rattle.pl_build.specs.Executors.{hop_executors};
-ghost use Rattle.pl_build.specs.Pipelines.{before_turn, inbound_handlers, outbound_handlers, is_inbound, is_outbound, is_turn, hop_of_turn};
+ghost use Rattle.pl_build.specs.Pipelines.{stages_before_turn, inbound_handlers, outbound_handlers, is_inbound, is_outbound_stage, is_turn_stage, hop_of_turn};
 
 use crate::grouping::Groups;
 use crate::named_stages::NamedStage;
@@ -46,7 +46,7 @@ impl<S: Stage> Chains<S> {
         requires inbound { vec_len self.old.inbound < vec_capacity self.old.inbound }
         requires outbound { vec_len self.old.outbound < vec_capacity self.old.outbound }
         ensures inbound { self.new.inbound.items ≡ self.old.inbound.items ++ map (λ h. h.stage) (filter (is_inbound S.meaning) (handler ∷ [])) }
-        ensures outbound { self.new.outbound.items ≡ self.old.outbound.items ++ map (λ h. h.stage) (filter (is_outbound S.meaning) (if is_before then handler ∷ [] else [])) }
+        ensures outbound { self.new.outbound.items ≡ self.old.outbound.items ++ map (λ h. h.stage) (filter (is_outbound_stage S.meaning) (if is_before then handler ∷ [] else [])) }
         ensures inbound_room { vec_capacity self.old.inbound ≤ vec_capacity self.new.inbound }
         ensures outbound_room { vec_capacity self.old.outbound ≤ vec_capacity self.new.outbound }
         ensures turn { self.new.turn ≡ (if is_before then length self.new.inbound.items else self.old.turn) }
@@ -102,7 +102,7 @@ fn add_outbound<S: Stage>(
     groups: &Groups,
     handlers: &[NamedStage<S>],
 ) -> Result<(), AllocError>
-    ensures { OnOk result (executors.new.items ≡ executors.old.items ++ map (λ handler. executor_now groups.now handler.group) (reverse (filter (is_outbound S.meaning) handlers.now))) }
+    ensures { OnOk result (executors.new.items ≡ executors.old.items ++ map (λ handler. executor_now groups.now handler.group) (reverse (filter (is_outbound_stage S.meaning) handlers.now))) }
 {
     let mut left = handlers;
     while let Some((last, rest)) = left.split_last() {
@@ -116,14 +116,14 @@ fn add_outbound<S: Stage>(
 
 /// The index of the turn among all handlers.
 fn turn_index<S: Stage>(handlers: &[NamedStage<S>]) -> Option<usize>
-    ensures { result ≡ position (is_turn S.meaning) handlers.now }
+    ensures { result ≡ position (is_turn_stage S.meaning) handlers.now }
 {
     handlers.iter().position(|handler| handler.is_turn())
 }
 
 /// The handlers before the turn.
 fn before_turn<S: Stage>(handlers: &[NamedStage<S>]) -> &[NamedStage<S>]
-    ensures { result.now ≡ before_turn S.meaning handlers.now }
+    ensures { result.now ≡ stages_before_turn S.meaning handlers.now }
 {
     match turn_index(handlers) {
         Some(index) => &handlers[..index],
@@ -152,7 +152,7 @@ pub(crate) fn split<S: Stage>(handlers: Vec<NamedStage<S>>, chains: Chains<S>) -
 
 /// Whether neither this handler nor one before it is the turn.
 fn is_still_before<S: Stage>(is_before: bool, handler: &NamedStage<S>) -> bool
-    ensures { result ≡ (is_before && not (is_turn S.meaning handler.now)) }
+    ensures { result ≡ (is_before && not (is_turn_stage S.meaning handler.now)) }
 {
     is_before && !handler.is_turn()
 }

@@ -1,5 +1,5 @@
 -- A report of two ends keeps to the plan where these hold.
-use Rattle.std.proofs.Common.{◌≡◌, ℕ, Bool, true, false, List, [], ◌∷◌, ◌++◌, length, take, Option, Some, None, refl, sym, ap, subst, ◌∙◌, arith, length-append, append-nil}
+use Rattle.std.proofs.Common.{◌≡◌, ℕ, Bool, true, false, List, [], ◌++◌, length, take, Option, Some, None, refl, sym, ap, subst, ◌∙◌, arith, length-append, append-nil}
 use Rattle.std.proofs.lemmas.List.{take_all}
 use Rattle.std.proofs.lemmas.Bool.{both_ways}
 use Rattle.pl_event.specs.declared.events.Event.{Event}
@@ -7,7 +7,7 @@ use Rattle.pl_event.specs.declared.outcomes.Cause.{Cause}
 use Rattle.pl_event.specs.declared.outcomes.Cause.TheVariants.{Refused}
 use Rattle.pl_event.specs.Meaning.{IsPrefixOf}
 use Rattle.pl_event.specs.Worlds.{World, may_fail}
-use Rattle.pl_event.proofs.Lists.{prefix-trans, take-prefix_whole}
+use Rattle.pl_event.proofs.Lists.{prefix-trans, take-prefix_whole, append-none}
 use Rattle.pl_context.specs.declared.standing.Standing.{Standing}
 use Rattle.pl_context.specs.declared.standing.Standing.TheVariants as standing
 use Rattle.pl_context.specs.Standings.{is_over, has_failed, cause_of}
@@ -15,28 +15,20 @@ use Rattle.pl_context.specs.TailViews.{TailView}
 use Rattle.pl_head.specs.Marks.{Change}
 use Rattle.pl_head.specs.Transports.{TransportState}
 use Rattle.pl_head.specs.Writes.{out, writes_by}
-use Rattle.pl_head.specs.HeadStand.{HeadView, BufferAfter, StandsAfter, first_cause, head_cause}
+use Rattle.pl_head.specs.HeadStand.{HeadView, BufferAfter, HeadStandsAfter, head_cause}
 use Rattle.pl_part.specs.TailHolds.{MayFailFor}
 use Rattle.pl_part.specs.HeadHolds.{HeadTook}
 use Rattle.pl_part.proofs.Causes.{may-first}
 use Rattle.pl_world.specs.declared.report.ChannelReport.{ChannelReport}
 use Rattle.pl_world.specs.declared.report.Stands.TheVariants.{Failed}
-use Rattle.pl_world.specs.Plans.{ChannelPlan, Plan, tail_hop, head_hop}
+use Rattle.pl_world.specs.Plans.{ChannelPlan, Plan, tail_hop, planned_head_hop}
 use Rattle.pl_world.specs.Reports.{Ends, has_ended, channel_cause, is_written_out, stands_by, IsChannelReport, tail_of, head_of, KeepsToPlan, EndsTakePlanned, EndsKeepToPlan, ReportsPlan}
-use Rattle.pl_world.proofs.PlannedReports.{out-prefix, drained_parts, ends_keep_report}
+use Rattle.pl_world.proofs.PlannedReports.{out-prefix, drained_parts, ends_keep_report, no_cause}
 use Rattle.pl_channel.specs.Lanes.{world_of}
 use Rattle.pl_channel.specs.Ends.{ends_of, EndsHold}
 use Rattle.pl_channel.specs.PlanStand.{HeadKeepsPlan}
 use Rattle.pl_channel.proofs.HeadLanes.{comes-to, first-of}
 use Rattle.pl_channel.proofs.LaneContents.{content-planned}
-
-no-first : (first later : Option Cause) → first_cause first later ≡ None → (first ≡ None) × (later ≡ None)
-no-first None later e = (refl, e)
-no-first (Some cause) later e = cc
-
-append-none : {A : Type 0} (xs ys : List A) → xs ++ ys ≡ [] → ys ≡ []
-append-none [] ys e = e
-append-none (x ∷ xs) ys e = cc
 
 ended-is : (s : Standing) → has_ended s ≡ true → s ≡ standing.Ended
 ended-is standing.Open e = cc
@@ -89,7 +81,7 @@ module _ {T : Type 0} (state : T → TransportState) (refuses : Bool) (plan : Pl
   tail-whole ended = held.tail_holds.holds.ended (ended-is tail.standing ended) ∙ to-tail
 
   to-head : held.head_holds.events ≡ head_of p
-  to-head = comes-to refuses plan number held.head_holds.events (head_of p) head.channel head.hop (head_hop p) held.head_holds.holds.own held.head_channel held.head_at (content-planned plan number p held.planned (head_hop p) (omega arith))
+  to-head = comes-to refuses plan number held.head_holds.events (head_of p) head.channel head.hop (planned_head_hop p) held.head_holds.holds.own held.head_channel held.head_at (content-planned plan number p held.planned (planned_head_hop p) (omega arith))
 
   abbrev took : HeadTook state held.head_holds.events head
   took = held.head_holds.holds.took
@@ -133,7 +125,7 @@ module _ {T : Type 0} (state : T → TransportState) (refuses : Bool) (plan : Pl
   pub keep : (full : Bool) → (head.failure ≡ None → full ≡ false) → (keeps : HeadKeepsPlan state p head) → EndsKeepToPlan p (ends_with full keeps.calls)
   keep full numbering keeps = record { lanes = take-planned full keeps.calls numbering; calls = keeps.called; aborted = keeps.aborted; unrefused = keeps.unrefused }
 
-  module _ (r : ChannelReport) (reports : (ys zs : List Event) (sizes : List Change) → StandsAfter state head ys zs sizes → IsChannelReport (ends_of state tail head ys zs) r) where
+  module _ (r : ChannelReport) (reports : (ys zs : List Event) (sizes : List Change) → HeadStandsAfter state head ys zs sizes → IsChannelReport (ends_of state tail head ys zs) r) where
     is : IsChannelReport (ends_of state tail head took.ys took.zs) r
     is = reports took.ys took.zs took.sizes took.after
 
@@ -180,7 +172,7 @@ module _ {T : Type 0} (state : T → TransportState) (refuses : Bool) (plan : Pl
               (out-prefix took.ys (head_of p) (prefix-trans took.ys (took.ys ++ took.zs) (head_of p) (took.zs, refl) head-first)));
           whole = λ drained.
               let none = (drained_parts (channel_cause (ends_of state tail head took.ys took.zs)) (is_written_out (ends_of state tail head took.ys took.zs)) (sym is.stands_is ∙ drained)).0 in
-              absurd (no (sym failed ∙ (no-first head.failure (cause_of head.standing) (no-first (head_cause head) (cause_of tail.standing) none).0).0));
+              absurd (no (sym failed ∙ (no_cause head.failure (cause_of head.standing) (no_cause (head_cause head) (cause_of tail.standing) none).0).0));
         }
           where
             no : Some cause ≡ None → ⊥

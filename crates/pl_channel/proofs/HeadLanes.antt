@@ -1,28 +1,26 @@
 -- What a node that holds in the world of a plan takes in all, and that a head took the first events of it.
 use Rattle.std.proofs.Common.{◌≡◌, ℕ, Bool, List, ◌++◌, take, slice_get, Some, refl, sym, ◌∙◌, subst, arith}
+use Rattle.std.proofs.lemmas.Option.{same_Some}
 use Rattle.pl_event.specs.declared.events.Event.{Event}
 use Rattle.pl_event.specs.Hops.{data_lane}
 use Rattle.pl_event.specs.Meaning.{Meaning, IsPrefixOf}
 use Rattle.pl_event.specs.Worlds.{content_of}
 use Rattle.pl_event.proofs.Lists.{prefix-trans, take-prefix_whole}
-use Rattle.pl_head.specs.HeadStand.{HeadView, StandsAfter}
+use Rattle.pl_head.specs.HeadStand.{HeadView, HeadStandsAfter}
 use Rattle.pl_head.specs.Marks.{Change}
 use Rattle.pl_head.specs.Transports.{TransportState}
 use Rattle.pl_part.specs.HeadHolds.{HeadHolds}
 use Rattle.pl_part.specs.Parts.{ChannelPartView, PartHolds}
-use Rattle.pl_world.specs.Plans.{ChannelPlan, Plan, head_hop}
+use Rattle.pl_world.specs.Plans.{ChannelPlan, Plan, planned_head_hop}
 use Rattle.pl_world.specs.Reports.{head_of}
 use Rattle.pl_channel.specs.Lanes.{world_of}
 use Rattle.pl_channel.specs.PlanStand.{PartKeepsPlan}
 use Rattle.pl_channel.proofs.LaneContents.{content-planned}
 
-some-same : {A : Type 0} (x y : A) → Some x ≡ Some y → x ≡ y
-some-same x y e = cc
-
 -- what comes to a hop of a channel in all
 pub comes-to : (refuses : Bool) (plan : Plan) (number : ℕ) (events content : List Event) (channel hop at : ℕ) → content_of (world_of refuses plan) (data_lane channel hop) ≡ Some events → channel ≡ number → hop ≡ at
     → content_of (world_of refuses plan) (data_lane number at) ≡ Some content → events ≡ content
-comes-to refuses plan number events content channel hop at own is there planned = some-same events content (sym own ∙ (λ i. content_of (world_of refuses plan) (data_lane (is i) (there i))) ∙ planned)
+comes-to refuses plan number events content channel hop at own is there planned = same_Some events content (sym own ∙ (λ i. content_of (world_of refuses plan) (data_lane (is i) (there i))) ∙ planned)
 
 pub first-of : (n : ℕ) (some all : List Event) → some ≡ take n all → IsPrefixOf some all
 first-of n some all e = subst (λ (xs : List Event). IsPrefixOf xs all) (sym e) (take-prefix_whole n all)
@@ -33,15 +31,15 @@ module _ {T : Type 0} (state : T → TransportState) where
     pub ys : List Event
     pub zs : List Event
     pub sizes : List Change
-    pub after : StandsAfter state h ys zs sizes
+    pub after : HeadStandsAfter state h ys zs sizes
     pub first : IsPrefixOf ys (head_of p)
 
   module _ (refuses : Bool) (plan : Plan) (number : ℕ) (p : ChannelPlan) (planned : slice_get plan.channels number ≡ Some p) where
     -- it does where it holds in the world of the plan
-    pub head-begins : (h : HeadView T) → HeadHolds state (world_of refuses plan) h → h.channel ≡ number → h.hop ≡ head_hop p → HeadBegins p h
+    pub head-begins : (h : HeadView T) → HeadHolds state (world_of refuses plan) h → h.channel ≡ number → h.hop ≡ planned_head_hop p → HeadBegins p h
     head-begins h holds channel at =
         let took = holds.holds.took in
-        let all = comes-to refuses plan number holds.events (head_of p) h.channel h.hop (head_hop p) holds.holds.own channel at (content-planned plan number p planned (head_hop p) (omega arith)) in
+        let all = comes-to refuses plan number holds.events (head_of p) h.channel h.hop (planned_head_hop p) holds.holds.own channel at (content-planned plan number p planned (planned_head_hop p) (omega arith)) in
         record {
           ys = took.ys;
           zs = took.zs;

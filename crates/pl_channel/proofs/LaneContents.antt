@@ -8,8 +8,8 @@ use Rattle.pl_event.specs.declared.envelopes.Lane.{Lane}
 use Rattle.pl_event.specs.Hops.{same_lane, data_lane}
 use Rattle.pl_event.specs.Worlds.{content_in}
 use Rattle.pl_event.proofs.SameLanes.{same_lane-equal, same_lane-self}
-use Rattle.pl_world.specs.Plans.{ChannelPlan, Plan, content, head_hop}
-use Rattle.pl_channel.specs.Lanes.{channel_lanes, lanes_from, lanes_of}
+use Rattle.pl_world.specs.Plans.{ChannelPlan, Plan, content, planned_head_hop}
+use Rattle.pl_channel.specs.Lanes.{channel_lanes, planned_lanes_from, planned_lanes}
 
 -- ---- two worlds, one behind the other
 
@@ -70,32 +70,32 @@ module _ (channel : ℕ) (p : ChannelPlan) where
       ∙ no-lane other hop n (first + 1) off
 
   -- each of its lanes carries what its plan gives it
-  pub channel-lane : (hop : ℕ) → hop ≤ head_hop p → content_in (channel_lanes channel p) (data_lane channel hop) ≡ Some (content p hop)
-  channel-lane hop within = own-lane hop (head_hop p + 1) 0 (omega arith) (omega (arith, within))
+  pub channel-lane : (hop : ℕ) → hop ≤ planned_head_hop p → content_in (channel_lanes channel p) (data_lane channel hop) ≡ Some (content p hop)
+  channel-lane hop within = own-lane hop (planned_head_hop p + 1) 0 (omega arith) (omega (arith, within))
 
 -- ---- a plan
 
-lane-from : (ps : List ChannelPlan) (first i hop : ℕ) (p : ChannelPlan) → slice_get ps i ≡ Some p → hop ≤ head_hop p → content_in (lanes_from first ps) (data_lane (first + i) hop) ≡ Some (content p hop)
+lane-from : (ps : List ChannelPlan) (first i hop : ℕ) (p : ChannelPlan) → slice_get ps i ≡ Some p → hop ≤ planned_head_hop p → content_in (planned_lanes_from first ps) (data_lane (first + i) hop) ≡ Some (content p hop)
 lane-from [] first i hop p at within = absurd (no at)
   where
     no : None ≡ Some p → ⊥
     no e = cc
 lane-from (q ∷ ps) first zero hop p at within =
     let own : first + 0 ≡ first = omega arith in
-    first-has (channel_lanes first q) (lanes_from (first + 1) ps) (data_lane (first + 0) hop) (content p hop)
+    first-has (channel_lanes first q) (planned_lanes_from (first + 1) ps) (data_lane (first + 0) hop) (content p hop)
     (ap (λ (c : ℕ). content_in (channel_lanes first q) (data_lane c hop)) own ∙ ap (λ (r : ChannelPlan). content_in (channel_lanes first r) (data_lane first hop)) same ∙ channel-lane first p hop within)
   where
     same : q ≡ p
     same = cc at
 lane-from (q ∷ ps) first (suc i) hop p at within =
     let next : first + suc i ≡ (first + 1) + i = omega arith in
-    first-lacks (channel_lanes first q) (lanes_from (first + 1) ps) (data_lane (first + suc i) hop)
-    (no-lane first q (first + suc i) hop (head_hop q + 1) 0 (λ e. omega (arith, e)))
-    ∙ ap (λ (c : ℕ). content_in (lanes_from (first + 1) ps) (data_lane c hop)) next
+    first-lacks (channel_lanes first q) (planned_lanes_from (first + 1) ps) (data_lane (first + suc i) hop)
+    (no-lane first q (first + suc i) hop (planned_head_hop q + 1) 0 (λ e. omega (arith, e)))
+    ∙ ap (λ (c : ℕ). content_in (planned_lanes_from (first + 1) ps) (data_lane c hop)) next
     ∙ lane-from ps (first + 1) i hop p at within
 
 -- Each lane of a channel of the plan carries what its plan gives it.
-pub content-planned : (plan : Plan) (channel : ℕ) (p : ChannelPlan) → slice_get plan.channels channel ≡ Some p → (hop : ℕ) → hop ≤ head_hop p → content_in (lanes_of plan) (data_lane channel hop) ≡ Some (content p hop)
+pub content-planned : (plan : Plan) (channel : ℕ) (p : ChannelPlan) → slice_get plan.channels channel ≡ Some p → (hop : ℕ) → hop ≤ planned_head_hop p → content_in (planned_lanes plan) (data_lane channel hop) ≡ Some (content p hop)
 content-planned plan channel p at hop within =
     let own : channel ≡ 0 + channel = omega arith in
-    ap (λ (c : ℕ). content_in (lanes_of plan) (data_lane c hop)) own ∙ lane-from plan.channels 0 channel hop p at within
+    ap (λ (c : ℕ). content_in (planned_lanes plan) (data_lane c hop)) own ∙ lane-from plan.channels 0 channel hop p at within

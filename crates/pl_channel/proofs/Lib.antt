@@ -1,6 +1,16 @@
 pub mod LaneContents
 pub mod WorldChannels
 pub mod MovedParts
+pub mod Wholes
+pub mod OneChannel
+pub mod HeadMoves
+pub mod Vecs
+pub mod PlacedParts
+pub mod LanePlaces
+pub mod PlaceTables
+mod LaneCounts
+mod CountedParts
+mod PlacedChannels
 mod Lists
 mod Contents
 mod PlannedLanes

@@ -9,7 +9,7 @@ use Rattle.pl_context.specs.TailViews.{TailView}
 use Rattle.pl_head.specs.Transports.{TransportState}
 use Rattle.pl_head.specs.HeadStand.{HeadView}
 use Rattle.pl_part.specs.Parts.{ChannelPartView, PartHolds, SamePart}
-use Rattle.pl_world.specs.Plans.{ChannelPlan, Plan, head_hop}
+use Rattle.pl_world.specs.Plans.{ChannelPlan, Plan, planned_head_hop}
 use Rattle.pl_channel.specs.Lanes.{world_of}
 use Rattle.pl_channel.specs.Placing.{IsWhole}
 use Rattle.pl_channel.specs.Ends.{EndsHold}
@@ -17,7 +17,7 @@ use Rattle.pl_channel.specs.Ends.{EndsHold}
 module _ {S T : Type 0} (meaning : S → Meaning) (stands_after : S → List Event → Type 0) (state : T → TransportState) (refuses : Bool) (plan : Plan) (number : ℕ) (p : ChannelPlan) (transport : T)
     (placed part : ChannelPartView S T) (whole : IsWhole state number p transport placed) (same : SamePart placed part) where
   -- it has a hop for each stage and the tail
-  pub moved-size : length part.path.contexts ≡ head_hop p
+  pub moved-size : length part.path.contexts ≡ planned_head_hop p
   moved-size =
       let filled : map (λ (slot : Option (ContextView S)). is_some slot) part.path.contexts ≡ replicate (length p.inbound) true ++ false ∷ replicate (length p.outbound) true =
       same.path.contexts ∙ whole.filled in

@@ -14,10 +14,10 @@ use Rattle.pl_flow.specs.Flows.{point, nowhere}
 use Rattle.pl_head.specs.HeadStand.{HeadView}
 use Rattle.pl_part.specs.ContextHolds.{context_writes, context_came}
 use Rattle.pl_part.specs.HeadHolds.{head_writes, head_came, head_taken}
-use Rattle.pl_part.specs.NewParts.{AreNew}
+use Rattle.pl_part.specs.NewParts.{AreNewSlots}
 use Rattle.pl_part.specs.Parts.{ChannelPartView, head_hop}
 use Rattle.pl_part.specs.Paths.{context_at, writer_hop, path_taken, path_writes, path_came}
-use Rattle.pl_channel.specs.Placing.{IsUnmoved}
+use Rattle.pl_channel.specs.Placing.{IsAtStart}
 
 tail-taken : (number k : ℕ) (l : Lane) → tail_taken_of (new_tail number k) l ≡ 0
 tail-taken number k l = by (same_hop l (record { channel = number; kind = l.kind; hop = k }))
@@ -31,7 +31,7 @@ tail-taken number k l = by (same_hop l (record { channel = number; kind = l.kind
     by false = refl
 
 module _ {S T : Type 0} (meaning : S → Meaning) (stands_after : S → List Event → Type 0) (world : World) (number k turn : ℕ) (part : ChannelPartView S T)
-    (are : AreNew world meaning number k turn stands_after part.path.contexts) (tail : part.path.tail ≡ Some (new_tail number k))
+    (are : AreNewSlots world meaning number k turn stands_after part.path.contexts) (tail : part.path.tail ≡ Some (new_tail number k))
     (h : HeadView T) (head : part.head ≡ Some h) (head_came_new : (l : Lane) → head_writes h l ≡ true → head_came h l ≡ point 0 false) (head_taken_none : (l : Lane) → head_taken h l ≡ 0) where
   path-came : (l : Lane) → path_writes meaning part.path l ≡ true → path_came meaning part.path l ≡ point 0 false
   path-came l writes = by (context_at part.path (writer_hop part.path l.hop)) refl writes
@@ -59,7 +59,7 @@ module _ {S T : Type 0} (meaning : S → Meaning) (stands_after : S → List Eve
       by true = at-tail
       by false = at-context (context_at part.path l.hop) refl
 
-  pub new-unmoved : IsUnmoved meaning part
+  pub new-unmoved : IsAtStart meaning part
   new-unmoved = record {
     taken = λ l. taken-by l (l.hop == head_hop part);
     came = λ l writes. came-by l (l.hop == 0) writes;

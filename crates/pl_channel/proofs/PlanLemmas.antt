@@ -2,7 +2,8 @@
 use Rattle.std.proofs.Common.{◌≡◌, ℕ, suc, ◌+◌, ◌-◌, ◌<◌, ◌≤◌, ◌^◌, ◌≢◌, ◌==◌, ◌||◌, ◌&&◌, Bool, true, false, not, leb, ltb, List, length, Option, Some, None, refl, ap, sym, ◌∙◌, subst, inl, inr, ◌⊎◌, ⊎_elim, arith}
 use Rattle.std.specs.Prelude.{is_some, min}
 use Rattle.std.proofs.lemmas.List.{length-map}
-use Rattle.std.proofs.lemmas.Bool.{and_parts, both_ways, cases_Bool, cases_eq, cond-true, leb-false, leb-true, lt-ltb, or_left, or_parts, or_right}
+use Rattle.std.proofs.lemmas.Bool.{and_parts, both_ways, cases_Bool, cases_eq, cond-true, leb-false, leb-true, lt-ltb, or_left, or_parts, or_right, false_from_ne_true}
+use Rattle.std.proofs.lemmas.Option.{same_Some}
 use Rattle.pl_event.specs.declared.events.Event.{Event}
 use Rattle.pl_event.specs.declared.envelopes.Envelope.{Envelope}
 use Rattle.pl_event.specs.declared.envelopes.Item.{Item}
@@ -10,6 +11,7 @@ use Rattle.pl_event.specs.declared.envelopes.Item.TheVariants as item
 use Rattle.pl_event.specs.declared.outcomes.Cause.{Cause}
 use Rattle.pl_event.specs.declared.outcomes.Cause.TheVariants.{Memory, Transport, Aborted, Refused}
 use Rattle.pl_event.specs.Meaning.{Meaning}
+use Rattle.pl_event.proofs.Lists.{some-of}
 use Rattle.pl_context.specs.declared.standing.Standing.{Standing}
 use Rattle.pl_context.specs.declared.standing.Standing.TheVariants as stands
 use Rattle.pl_context.specs.ContextViews.{ContextView}
@@ -20,8 +22,8 @@ use Rattle.pl_head.specs.declared.heads.OutStep.{OutStep}
 use Rattle.pl_head.specs.declared.heads.OutStep.TheVariants as step
 use Rattle.pl_head.specs.declared.heads.ReadStep.TheVariants as reading
 use Rattle.pl_head.specs.ReadSteps.{brings_abort, brings_failure, has_step, is_abort, plan_steps, steps_after}
-use Rattle.pl_head.specs.Transports.{TransportState, counted}
-use Rattle.pl_head.specs.Writes.{flushed_writes, offered, out}
+use Rattle.pl_head.specs.Transports.{TransportState, one_call_more}
+use Rattle.pl_head.specs.Writes.{flushed_writes, bytes_offered, out}
 use Rattle.pl_head.specs.InputStand.{InputStands, InputView}
 use Rattle.pl_head.specs.HeadStand.{HeadView, lane_over, Answers, first_cause, cause_of_item, cause_of_step}
 use Rattle.pl_part.specs.HeadCalls.{HeadTakes, HeadReads, HeadWrites}
@@ -78,10 +80,6 @@ and-with false b e = refl
 not-false : (a : Bool) → not a ≡ false → a ≡ true
 not-false true e = refl
 not-false false e = cc
-
-not-idle : (a : Bool) → (a ≡ true → ⊥) → a ≡ false
-not-idle true never = absurd (never refl)
-not-idle false never = refl
 
 -- ---- a head
 
@@ -239,7 +237,7 @@ module _ {T : Type 0} (state : T → TransportState) (p : ChannelPlan) where
 
   -- ---- a write
 
-  counted-more : (calls count : ℕ) → count ≡ min calls (2 ^ 64 - 1) → counted count ≡ min (suc calls) (2 ^ 64 - 1)
+  counted-more : (calls count : ℕ) → count ≡ min calls (2 ^ 64 - 1) → one_call_more count ≡ min (suc calls) (2 ^ 64 - 1)
   counted-more calls count is = omega (arith, is)
 
   -- a head that makes a write has not failed
@@ -289,7 +287,7 @@ module _ {T : Type 0} (state : T → TransportState) (p : ChannelPlan) where
                 let fewer = k.called.told at told some small in
                 ⊎_elim
                 (λ (e : suc k.calls ≡ at).
-                let same : at ≡ counted (state h.transport).calls = let count = k.counted in omega (arith, e, small, count) in
+                let same : at ≡ one_call_more (state h.transport).calls = let count = k.counted in omega (arith, e, small, count) in
                 absurd (w.told n is (k.fail_at ∙ told ∙ ap (λ (m : ℕ). Some m) same)))
                 (λ (other : suc k.calls ≢ at). omega (arith, fewer, before, after, other))
                 (cases_eq (suc k.calls) at);
@@ -312,13 +310,13 @@ module _ {T : Type 0} (state : T → TransportState) (p : ChannelPlan) where
           all = flushed_writes (head_of p)
 
           -- what it is offered is the same of the whole lane
-          offers : (n : ℕ) → answer ≡ step.Wrote n → offered 0 (length (state h.transport).accepted) all ≡ offered 0 (length (state h.transport).accepted) (flushed_writes begins.ys)
+          offers : (n : ℕ) → answer ≡ step.Wrote n → bytes_offered 0 (length (state h.transport).accepted) all ≡ bytes_offered 0 (length (state h.transport).accepted) (flushed_writes begins.ys)
           offers n is =
               let accepted = length (state h.transport).accepted in
               offered-whole accepted begins.ys (head_of p) begins.first
               (leb-false (length (out begins.ys)) accepted
               (or_parts (is_some h.failure) (leb (length (out begins.ys)) accepted)
-              (not-idle (is_some h.failure || leb (length (out begins.ys)) accepted) (λ (i : (is_some h.failure || leb (length (out begins.ys)) accepted) ≡ true). wrote-idle n (sym is ∙ (w.waits begins.ys begins.zs begins.sizes begins.after).1 i)))).1)
+              (false_from_ne_true (is_some h.failure || leb (length (out begins.ys)) accepted) (λ (i : (is_some h.failure || leb (length (out begins.ys)) accepted) ≡ true). wrote-idle n (sym is ∙ (w.waits begins.ys begins.zs begins.sizes begins.after).1 i)))).1)
 
           sound-before : h.failure ≡ None → k.calls - failed_calls h.failure ≡ k.calls
           sound-before none = let b = none-fails none in omega (arith, b)
@@ -345,7 +343,7 @@ module _ {T : Type 0} (state : T → TransportState) (p : ChannelPlan) where
               let so_far : accepted ≡ accepted_by size all k.calls = k.called.window size at ∙ ap (λ (m : ℕ). accepted_by size all m) (sound-before none) in
               w.wrote n is
               ∙ ap (λ (m : ℕ). accepted + m) (w.full n size begins.ys begins.zs begins.sizes is begins.after (k.window ∙ at) ∙ ap (λ (m : ℕ). min m size) (sym (offers n is)))
-              ∙ ap (λ (a : ℕ). a + min (offered 0 a all) size) so_far
+              ∙ ap (λ (a : ℕ). a + min (bytes_offered 0 a all) size) so_far
               ∙ ap (λ (m : ℕ). accepted_by size all m) (sound-after now)
       by step.Failed is =
           let writes = λ (e : answer ≡ step.Idle). failed-idle (sym is ∙ e) in
@@ -365,7 +363,7 @@ module _ {T : Type 0} (state : T → TransportState) (p : ChannelPlan) where
                 omega (arith, most, kept, stays);
             window = λ size at. ap (λ (l : List ℕ). length l) (w.kept is) ∙ k.called.window size at ∙ ap (λ (m : ℕ). accepted_by size (flushed_writes (head_of p)) m) same;
           })
-          (w.failed is ∙ (let failures = k.failures in let e : counted (state h.transport).failures ≡ failed_calls h'.failure = omega (arith, failures, before, after) in e))
+          (w.failed is ∙ (let failures = k.failures in let e : one_call_more (state h.transport).failures ≡ failed_calls h'.failure = omega (arith, failures, before, after) in e))
           (λ e. transport-aborted (sym now ∙ e)) (λ e. transport-refused (sym now ∙ e))
         where
           cause_after : OutStep → Option Cause
@@ -381,13 +379,6 @@ module _ {T : Type 0} (state : T → TransportState) (p : ChannelPlan) where
           transport-refused e = cc
 
 -- ---- a part
-
-some-equal : {A : Type 0} (a b : A) → Some a ≡ Some b → a ≡ b
-some-equal a b e = cc
-
-some-of : {A : Type 0} (o : Option A) → is_some o ≡ true → (x : A) × (o ≡ Some x)
-some-of (Some x) h = (x, refl)
-some-of None h = cc
 
 module _ {S T : Type 0} (meaning : S → Meaning) (stands_after : S → List Event → Type 0) (is_spent : S → Bool) (state : T → TransportState) (p : ChannelPlan) where
   -- The nodes stay where they are, and so does the plan, where the head goes on as it has it.
@@ -406,7 +397,7 @@ module _ {S T : Type 0} (meaning : S → Meaning) (stands_after : S → List Eve
 
   -- one head, however it is found
   same-head : (o : Option (HeadView T)) (h h' : HeadView T) → o ≡ Some h → o ≡ Some h' → HeadKeepsPlan state p h → HeadKeepsPlan state p h'
-  same-head o h h' a b k = subst (HeadKeepsPlan state p) (some-equal h h' (sym a ∙ b)) k
+  same-head o h h' a b k = subst (HeadKeepsPlan state p) (same_Some h h' (sym a ∙ b)) k
 
   pub part-takes-keeps : (part part' : ChannelPartView S T) (e : Envelope) (before after : OutputsView) (answer : Took) → SamePart part part'
       → PartTakes meaning stands_after is_spent state part e before answer part' after → PartKeepsPlan state p part → PartKeepsPlan state p part'

@@ -20,7 +20,7 @@ use Rattle.pl_head.specs.Transports.{TransportState}
 use Rattle.pl_part.specs.HeadHolds.{IsHeadPlanned}
 use Rattle.pl_part.specs.NewParts.{IsPlannedAt, ArePlannedWith}
 use Rattle.pl_world.specs.declared.session.Recorded.{Recorded}
-use Rattle.pl_world.specs.Plans.{ChannelPlan, channel_planned, content, tail_hop, head_hop}
+use Rattle.pl_world.specs.Plans.{ChannelPlan, channel_planned, content, tail_hop, planned_head_hop}
 use Rattle.pl_world.specs.PlanRules.{IsSmallChannel}
 use Rattle.pl_channel.proofs.Lists.{only-one}
 use Rattle.pl_channel.proofs.Contents.{content-input, content-up, content-down, content-turn}
@@ -28,7 +28,7 @@ use Rattle.pl_event.specs.declared.limits.TheConstants.{MAX_ITEMS}
 
 -- a world knows the lanes of a channel with this plan
 abbrev pub Knows : World → ℕ → ChannelPlan → Type 0
-Knows world number p = (hop : ℕ) → hop ≤ head_hop p → content_of world (data_lane number hop) ≡ Some (content p hop)
+Knows world number p = (hop : ℕ) → hop ≤ planned_head_hop p → content_of world (data_lane number hop) ≡ Some (content p hop)
 
 -- ---- where a stage may stand, by its direction
 
@@ -64,7 +64,7 @@ module _ {S T : Type 0} (meaning : S → Meaning) (stands_after : S → List Eve
   abbrev k : ℕ
   k = length r.pipeline.inbound
 
-  sizes : (tail_hop p ≡ k) × (head_hop p ≡ k + 1 + length r.pipeline.outbound)
+  sizes : (tail_hop p ≡ k) × (planned_head_hop p ≡ k + 1 + length r.pipeline.outbound)
   sizes =
       let up = length-map r.pipeline.inbound meaning in
       (up, omega (arith, up, length-map r.pipeline.outbound meaning))
@@ -153,10 +153,10 @@ module _ {S T : Type 0} (meaning : S → Meaning) (stands_after : S → List Eve
   pub few-input : length (recorded_input r.input.bursts) + 1 < MAX_ITEMS
   few-input = subst (λ (xs : List Event). length xs + 1 < MAX_ITEMS) (content-input p) (small 0 (omega arith))
 
-  pub head-planned : IsHeadPlanned world r.input number (head_hop p)
+  pub head-planned : IsHeadPlanned world r.input number (planned_head_hop p)
   head-planned = record {
-    events = content p (head_hop p);
-    own = knows (head_hop p) (omega arith);
-    few = small (head_hop p) (omega arith);
+    events = content p (planned_head_hop p);
+    own = knows (planned_head_hop p) (omega arith);
+    few = small (planned_head_hop p) (omega arith);
     input = knows 0 (omega arith) ∙ ap Some (content-input p);
   }

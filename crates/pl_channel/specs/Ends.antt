@@ -6,12 +6,12 @@ use Rattle.pl_head.specs.Transports.{TransportState}
 use Rattle.pl_head.specs.HeadStand.{HeadView}
 use Rattle.pl_part.specs.HeadHolds.{HeadHolds}
 use Rattle.pl_part.specs.TailHolds.{TailHolds}
-use Rattle.pl_world.specs.Plans.{ChannelPlan, Plan, tail_hop, head_hop}
+use Rattle.pl_world.specs.Plans.{ChannelPlan, Plan, tail_hop, planned_head_hop}
 use Rattle.pl_world.specs.Reports.{Ends}
 use Rattle.pl_channel.specs.Lanes.{world_of}
 
 module _ {T : Type 0} (state : T → TransportState) where
-  -- the two ends, where the head took the events ys before a failure of its own, and zs from it on
+  -- The two ends of a channel. The head took the events ys before a failure of its own, and zs from it on.
   abbrev pub ends_of : TailView → HeadView T → List Event → List Event → Ends
   ends_of tail head ys zs = record {
     tail = tail.events;
@@ -26,8 +26,8 @@ module _ {T : Type 0} (state : T → TransportState) where
     reads = head.input.steps;
   }
 
-  -- Tail and head are those of channel number of a plan, each at its hop, and hold in the world of that plan, where lanes are
-  -- refused or not.
+  -- The two ends of a planned channel hold. Tail and head are those of channel number of a plan, each at its hop, and
+  -- hold in the world of that plan, where lanes are refused or not.
   pub record EndsHold (refuses : Bool) (plan : Plan) (number : ℕ) (p : ChannelPlan) (tail : TailView) (head : HeadView T) : Type 0 where
     pub planned : slice_get plan.channels number ≡ Some p
     pub tail_holds : TailHolds (world_of refuses plan) tail
@@ -35,4 +35,4 @@ module _ {T : Type 0} (state : T → TransportState) where
     pub tail_at : tail.hop ≡ tail_hop p
     pub head_holds : HeadHolds state (world_of refuses plan) head
     pub head_channel : head.channel ≡ number
-    pub head_at : head.hop ≡ head_hop p
+    pub head_at : head.hop ≡ planned_head_hop p

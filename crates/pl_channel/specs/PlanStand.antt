@@ -6,14 +6,15 @@ use Rattle.pl_head.specs.Transports.{TransportState}
 use Rattle.pl_head.specs.HeadStand.{HeadView, ReadsStand}
 use Rattle.pl_part.specs.Parts.{ChannelPartView, head_hop}
 use Rattle.pl_world.specs.Plans.{ChannelPlan, Plan, read_plan, tail_hop}
-use Rattle.pl_world.specs.Plans.{head_hop as planned_head_hop}
+use Rattle.pl_world.specs.Plans.{planned_head_hop}
 use Rattle.pl_world.specs.Reports.{CallsKeepToPlan, failed_calls}
 
 module _ {T : Type 0} (state : T → TransportState) where
-  -- A head reads by the plan of its channel, and has its marks, its window and the call that is to fail. The calls of its
-  -- transport, which are counted up to 2 ^ 64 - 1, are as the plan has them, and one has failed just where the head has with
-  -- Transport. It aborts itself only where the plan says so, after all read steps before the abort; with an abort planned only
-  -- a failure closes its reads; and it never fails by itself with Refused.
+  -- A head keeps to the plan of its channel. It reads by that, and has its marks, its window and the call that is to
+  -- fail. The calls of its transport, which are counted up to 2 ^ 64 - 1, are as the plan has them, and one has
+  -- failed just where the head has with Transport. It aborts itself only where the plan says so, after all read steps
+  -- before the abort; with an abort planned only a failure closes its reads; and it never fails by itself with
+  -- Refused.
   pub record HeadKeepsPlan (p : ChannelPlan) (h : HeadView T) : Type 0 where
     pub reads : (reads : ℕ) × (failed : Bool) × ReadsStand (read_plan p) reads failed h
     pub low : h.buffer.low ≡ p.low

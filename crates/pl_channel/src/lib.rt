@@ -1,8 +1,11 @@
-//! One channel of a session: its part, with all its nodes, from its recording, and its report, from its two ends.
+//! The channels of a session: each with all its nodes in one part, from its recording; the lanes between executors, counted; and
+//! the report of a channel, from its two ends.
 #![tactic(auto)]
 
 mod placing;
 mod reports;
+mod ways;
 
-pub use placing::place;
+pub use placing::{place, placed};
 pub use reports::{into_report, report, stands};
+pub use ways::{lane_count, places_between};

@@ -1,12 +1,13 @@
-//! A recorded channel, before any move.
+//! Recorded channels, before any move.
 
-ghost use Rattle.std.specs.Prelude.{◌≡◌, Bool, IfOk, Some, slice_get};
+ghost use Rattle.std.specs.Prelude.{◌≡◌, ◌≤◌, All, Bool, IfOk, Some, slice_get, vec_len};
 ghost use Rattle.pl_part.specs.Parts.{PartHolds};
+ghost use Rattle.pl_world.specs.declared.limits.TheConstants.{MAX_CHANNELS};
 ghost use Rattle.pl_world.specs.Plans.{Plan, channel_planned};
 ghost use Rattle.pl_world.specs.PlanRules.{IsSmallChannel};
 ghost use Rattle.pl_world.specs.Worlds.{IsUncalled};
 ghost use Rattle.pl_channel.specs.Lanes.{world_of};
-ghost use Rattle.pl_channel.specs.Placing.{IsWhole, HasNewStages, IsUnmoved};
+ghost use Rattle.pl_channel.specs.Placing.{ArePlaced, IsWhole, HasNewStages, IsAtStart};
 
 use pl_build::Placed;
 use pl_event::Stage;
@@ -14,6 +15,24 @@ use pl_head::{Head, Transport};
 use pl_part::ChannelPart;
 use pl_world::Recorded;
 use std::alloc::{AllocError, Global};
+
+/// Recorded channels before any move, each with its number.
+pub fn placed<S: Stage, T: Transport>(
+    alloc: Global,
+    recorded: Vec<Recorded<S, T>>,
+) -> Result<Vec<ChannelPart<S, T>>, AllocError>
+    requires count { vec_len recorded ≤ MAX_CHANNELS }
+    requires small { All (λ r. IsSmallChannel (channel_planned S.meaning T.state r)) recorded.items }
+    requires uncalled { All (λ r. IsUncalled (T.state r.transport)) recorded.items }
+    ensures { IfOk result (λ parts. ArePlaced S.meaning S.stands_after T.state recorded.items parts.items) }
+{
+    let mut parts = Vec::with_capacity(alloc, recorded.len())?;
+    for record in recorded {
+        let number = parts.len() as u16;
+        parts.push(place(alloc, number, record)?)?;
+    }
+    Ok(parts)
+}
 
 /// A recorded channel before any move: all its nodes in one part. It is channel `number` of its session.
 pub fn place<S: Stage, T: Transport>(
@@ -25,7 +44,7 @@ pub fn place<S: Stage, T: Transport>(
     requires small { IsSmallChannel (channel_planned S.meaning T.state recorded) }
     ensures whole { IfOk result (λ part. IsWhole T.state number (channel_planned S.meaning T.state recorded) recorded.transport part) }
     ensures stages { IfOk result (λ part. HasNewStages S.meaning S.stands_after number recorded.pipeline.inbound recorded.pipeline.outbound part) }
-    ensures unmoved { IfOk result (λ part. IsUnmoved S.meaning part) }
+    ensures unmoved { IfOk result (λ part. IsAtStart S.meaning part) }
 
     // It holds in the worlds of each plan in which it has this number.
     ensures holds { IfOk result (λ part. (refuses : Bool) (plan : Plan) → slice_get plan.channels number ≡ Some (channel_planned S.meaning T.state recorded)

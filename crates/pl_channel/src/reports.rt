@@ -3,7 +3,7 @@
 ghost use Rattle.std.specs.Prelude.{◌≡◌, ℕ, Bool, false, List, Option, Some, IfOk, ◌&&◌, ◌||◌, is_some};
 ghost use Rattle.pl_event.specs.declared.events.Event.{Event};
 ghost use Rattle.pl_head.specs.Marks.{Change};
-ghost use Rattle.pl_head.specs.HeadStand.{StandsAfter, head_cause, first_cause, is_idle};
+ghost use Rattle.pl_head.specs.HeadStand.{HeadStandsAfter, head_cause, first_cause, is_idle};
 ghost use Rattle.pl_context.specs.Standings.{is_over, cause_of};
 ghost use Rattle.pl_world.specs.Plans.{ChannelPlan, Plan};
 ghost use Rattle.pl_world.specs.Reports.{IsChannelReport, KeepsToPlan, ReportsPlan, stands as stands_by_ends};
@@ -23,7 +23,7 @@ pub fn report<T: Transport>(
     head: &Head<T>,
 ) -> Result<ChannelReport, AllocError>
     // It is the report of these ends, whichever events the head may have taken.
-    ensures ends { IfOk result (λ report. (ys zs : List Event) (sizes : List Change) → StandsAfter T.state head.now ys zs sizes
+    ensures ends { IfOk result (λ report. (ys zs : List Event) (sizes : List Change) → HeadStandsAfter T.state head.now ys zs sizes
         → IsChannelReport (ends_of T.state tail.now head.now ys zs) report) }
 
     // Where they hold in a world of a plan, it keeps to that plan. Where in that world no lane is refused, and the head keeps
@@ -47,7 +47,7 @@ pub fn into_report<T: Transport>(
     tail: Tail,
     head: Head<T>,
 ) -> Result<ChannelReport, AllocError>
-    ensures ends { IfOk result (λ report. (ys zs : List Event) (sizes : List Change) → StandsAfter T.state head ys zs sizes
+    ensures ends { IfOk result (λ report. (ys zs : List Event) (sizes : List Change) → HeadStandsAfter T.state head ys zs sizes
         → IsChannelReport (ends_of T.state tail head ys zs) report) }
     ensures keeps { IfOk result (λ report. (refuses : Bool) (plan : Plan) (number : ℕ) (p : ChannelPlan) → EndsHold T.state refuses plan number p tail head → KeepsToPlan p report) }
     ensures planned { IfOk result (λ report. (plan : Plan) (number : ℕ) (p : ChannelPlan) → EndsHold T.state false plan number p tail head
@@ -65,7 +65,7 @@ pub fn into_report<T: Transport>(
 
 /// How a channel stands, by its two ends: as its report has it.
 pub fn stands<T: Transport>(tail: &Tail, head: &Head<T>) -> Stands
-    ensures { (ys zs : List Event) (sizes : List Change) → StandsAfter T.state head.now ys zs sizes
+    ensures { (ys zs : List Event) (sizes : List Change) → HeadStandsAfter T.state head.now ys zs sizes
         → result ≡ stands_by_ends (ends_of T.state tail.now head.now ys zs) }
 {
     match cause(tail, head) {
@@ -84,7 +84,7 @@ fn cause<T: Transport>(tail: &Tail, head: &Head<T>) -> Option<Cause>
 
 /// Whether its tail and its head have ended or failed, and no write is left to be made.
 fn are_over<T: Transport>(tail: &Tail, head: &Head<T>) -> bool
-    ensures { (ys zs : List Event) (sizes : List Change) → StandsAfter T.state head.now ys zs sizes
+    ensures { (ys zs : List Event) (sizes : List Change) → HeadStandsAfter T.state head.now ys zs sizes
         → result ≡ (is_over tail.now.standing && ((is_over head.now.standing || is_some head.now.failure) && is_idle T.state head.now ys)) }
 {
     tail.is_ended() && head.is_ended() && head.is_written()

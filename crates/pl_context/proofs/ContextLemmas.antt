@@ -16,14 +16,14 @@ use Rattle.pl_context.specs.Stops.{StopsView, has_stopped}
 use Rattle.pl_context.specs.OutputsViews.{OutputsView, PutsAll, Appends}
 use Rattle.pl_context.specs.Ports.{as_items, all_go_on, end_after, numbered, offered, put_out, port_after}
 use Rattle.pl_context.specs.ContextViews.{ContextView}
-use Rattle.pl_context.specs.Contexts.{last_item, Closes, ups, downs, offers, Runs}
+use Rattle.pl_context.specs.Contexts.{last_item, GivesLast, ups, downs, offers, Runs}
 use Rattle.pl_context.proofs.PortLemmas.{puts_all-append, appends-append, all_go_on-events, all_go_on-append, numbered-append, length-numbered}
 
 -- both ports were given the last item
 pub closes-from : {S : Type 0} (c : ContextView S) (standing : Standing) (before mid after : OutputsView) (i j : Item) (up down : Port)
     → i ≡ last_item standing → j ≡ last_item standing → up ≡ port_after (i ∷ []) c.up → down ≡ port_after (j ∷ []) c.down
     → PutsAll before (offered c.up (i ∷ [])) mid → PutsAll mid (offered c.down (j ∷ [])) after
-    → Closes standing c before (record c { standing = standing; up = up; down = down }) after
+    → GivesLast standing c before (record c { standing = standing; up = up; down = down }) after
 closes-from c standing before mid after i j up down is js above below first second = record {
   context = ap (λ (p : Port). record c { standing = standing; up = p; down = down }) (above ∙ ap (λ (k : Item). port_after (k ∷ []) c.up) is)
       ∙ ap (λ (p : Port). record c { standing = standing; up = port_after (last_item standing ∷ []) c.up; down = p }) (below ∙ ap (λ (k : Item). port_after (k ∷ []) c.down) js);

@@ -17,7 +17,7 @@ use Rattle.pl_context.specs.declared.added.Added.{Added}
 use Rattle.pl_context.specs.declared.added.Added.TheVariants.{Last, Refused, Discarded}
 use Rattle.pl_context.specs.declared.waiting.Late.{Late}
 use Rattle.pl_context.specs.OutputsViews.{added_items, failure_of, stopped_after as put_stopped}
-use Rattle.pl_context.specs.Backlogs.{BacklogView, Adds, handed_back}
+use Rattle.pl_context.specs.Backlogs.{BacklogView, AddsToken, handed_back}
 use Rattle.pl_context.specs.Stops.{StopsView, no_stops, has_stopped}
 use Rattle.pl_context.specs.WaitingViews.{WaitingView, Entry, Aged, is_for, is_aged_for, late, stops_for, room_for, Holds, Misses, WaitingAdds, Takes}
 use Rattle.pl_context.proofs.Firsts.{IsFirst, position-first, find-Some-position, find-None-position}
@@ -53,7 +53,7 @@ stops-kept {A} targets target b new at stopped y = elim (cases_eq y target) [
 
 -- ---- an addition
 
-added-few : (answer : Added) (e : Envelope) → length (added_items answer e) ≤ 1
+pub added-few : (answer : Added) (e : Envelope) → length (added_items answer e) ≤ 1
 added-few Last e = omega arith
 added-few Refused e = by e.lane.kind
   where
@@ -65,7 +65,7 @@ added-few Discarded e = omega arith
 module _ {A : Type 0} (before after : WaitingView A) (target : ℕ) (e : Envelope) (token : A) (result : Option A) (old new : BacklogView (Late A)) (given : Option (Late A))
     (at : slice_get before.targets target ≡ Some old)
     (written : after.targets ≡ set before.targets target new) (added : after.added ≡ before.added + 1)
-    (adds : Adds old e (record { age = before.added; token = token }) given new) where
+    (adds : AddsToken old e (record { age = before.added; token = token }) given new) where
   within : target < length before.targets
   within = slice_get_within before.targets target old at
 

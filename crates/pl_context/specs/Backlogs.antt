@@ -8,7 +8,8 @@ use Rattle.pl_context.specs.declared.added.Added.TheVariants.{Last, Refused, Dis
 use Rattle.pl_context.specs.Stops.{StopsView, has_stopped}
 use Rattle.pl_context.specs.OutputsViews.{added_items, stopped_after}
 
--- Envelopes with their tokens, the oldest first. There is room for `room` more without a growth, beside the reserved places.
+-- Envelopes with their tokens, the oldest first (EventExecutor). There is room for `room` more without a growth,
+-- beside the reserved places.
 pub record BacklogView (A : Type 0) : Type 0 where
   pub items : List (Envelope × A)
   pub stopped : StopsView
@@ -21,8 +22,8 @@ handed_back Refused Data token = None
 handed_back Refused Flags token = Some token
 handed_back Discarded kind token = Some token
 
--- An envelope is added with its token, under the rule of a list of envelopes.
-pub record Adds {A : Type 0} (before : BacklogView A) (e : Envelope) (token : A) (result : Option A) (after : BacklogView A) : Type 0 where
+-- An envelope is added with its token. The rule is that of a list of envelopes.
+pub record AddsToken {A : Type 0} (before : BacklogView A) (e : Envelope) (token : A) (result : Option A) (after : BacklogView A) : Type 0 where
   pub answer : Added
   pub items : after.items ≡ before.items ++ map (λ x. (x, token)) (added_items answer e)
   pub stopped : after.stopped ≡ stopped_after answer before.stopped e.lane

@@ -13,7 +13,8 @@ use Rattle.pl_context.specs.declared.standing.Standing.{Standing}
 use Rattle.pl_context.specs.declared.standing.Standing.TheVariants as stands
 use Rattle.pl_event.specs.declared.limits.TheConstants.{MAX_ITEMS}
 
--- A stage at its place: taken counts the items of its data lane, flags_taken those of its flags lane.
+-- A stage at its place (ChannelHandlerContext). taken counts the items of its data lane, flags_taken those of its
+-- flags lane.
 pub record ContextView (S : Type 0) : Type 0 where
   pub stage : S
   pub channel : ℕ
@@ -26,8 +27,8 @@ pub record ContextView (S : Type 0) : Type 0 where
   pub down : Port
   pub flags : Port
 
--- With k inbound handlers, the turn among them, hops below k enter those, hop k the tail, and the hops after it the
--- outbound handlers.
+-- A hop that enters stages of this direction. With k inbound handlers, the turn among them, hops below k enter those,
+-- hop k the tail, and the hops after it the outbound handlers.
 abbrev pub IsHop : Direction → ℕ → ℕ → Type 0
 IsHop Inbound hop k = (hop < k) × (k ≤ MAX_HANDLERS)
 IsHop Turn hop k = (hop < k) × (k ≤ MAX_HANDLERS)
@@ -50,6 +51,7 @@ down_hop Inbound hop k = hop + 1
 down_hop Turn hop k = k + 1
 down_hop Outbound hop k = hop + 1
 
+-- a port that has given nothing
 abbrev pub new_port : ℕ → Kind → ℕ → Bool → Port
 new_port channel kind hop is_open =
     record { lane = record { channel = channel; kind = kind; hop = hop }; made = 0; is_open = is_open }
@@ -74,11 +76,12 @@ pub record Enters {S : Type 0} (c : ContextView S) (lane : Lane) : Type 0 where
   pub channel : lane.channel ≡ c.channel
   pub hop : lane.hop ≡ c.hop
 
--- how many items it has taken of its lane of a kind, and of any lane
+-- how many items a context has taken, by kind
 abbrev pub kind_taken : {S : Type 0} → ContextView S → Kind → ℕ
 kind_taken c Data = c.taken
 kind_taken c Flags = c.flags_taken
 
+-- how many items of a lane a context has taken
 abbrev pub taken_of : {S : Type 0} → ContextView S → Lane → ℕ
 taken_of c lane =
     if same_hop lane (record { channel = c.channel; kind = lane.kind; hop = c.hop }) then kind_taken c lane.kind else 0
@@ -88,10 +91,11 @@ abbrev pub number_limit : Kind → ℕ
 number_limit Data = MAX_ITEMS
 number_limit Flags = 2 ^ 32
 
--- the lanes on which it may still put something
+-- the lane of a port, where that may still put something
 abbrev pub lane_of : Port → List Lane
 lane_of p = if p.is_open then p.lane ∷ [] else []
 
+-- the lanes on which a context may still put something
 abbrev pub open_lanes : {S : Type 0} → ContextView S → List Lane
 open_lanes c = lane_of c.up ++ lane_of c.down ++ lane_of c.flags
 
@@ -102,15 +106,15 @@ pub record SamePlace {S : Type 0} (c c' : ContextView S) : Type 0 where
   pub taken : c'.taken ≡ c.taken
   pub flags_taken : c'.flags_taken ≡ c.flags_taken
 
--- one item of a lane of a kind, for the count of another kind
+-- one item of a kind, in another kind's count
 abbrev pub one_of : Kind → Kind → ℕ
 one_of Data Data = 1
 one_of Data Flags = 0
 one_of Flags Data = 0
 one_of Flags Flags = 1
 
--- The numbers that a lane was given stay in their bounds, no more flags went on than came, and the buffers are
--- empty.
+-- What is true of every context. The numbers that a lane was given stay in their bounds, no more flags went on than
+-- came, and the buffers are empty.
 pub record IsContext (taken flags_taken : ℕ) (up down flags : Port) (up_events down_events : List Event) : Type 0 where
   pub above : up.is_open ≡ true → up.made ≤ MAX_ITEMS
   pub below : down.is_open ≡ true → down.made ≤ MAX_ITEMS

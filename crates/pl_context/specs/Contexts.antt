@@ -35,7 +35,7 @@ last_item (stands.Failed cause) = item.Fail cause
 abbrev pub offers : Port → Port → List Item → List Item → List Envelope
 offers up down above below = offered up above ++ offered down below
 
--- one item more was taken of the lane of this kind
+-- a context that took one item more, of this kind
 abbrev pub counted : {S : Type 0} → Kind → ContextView S → ContextView S
 counted Data c = record c { taken = c.taken + 1 }
 counted Flags c = record c { flags_taken = c.flags_taken + 1 }
@@ -73,15 +73,15 @@ module _ {S : Type 0} (meaning : S → Meaning) (stands_after : S → List Event
     pub stage : (xs : List Event) → stands_after c.stage xs → stands_after c'.stage (xs ++ x ∷ [])
     pub stands : (xs : List Event) → StandsAfter c xs → StandsAfter c' (xs ++ x ∷ [])
 
--- A context ends or fails: both lanes are given their last item, the lane upwards first.
-pub record Closes {S : Type 0} (standing : Standing) (c : ContextView S) (before : OutputsView) (c' : ContextView S) (after : OutputsView) : Type 0 where
+-- A context ends or fails: both lanes are given their last item. The lane upwards comes first.
+pub record GivesLast {S : Type 0} (standing : Standing) (c : ContextView S) (before : OutputsView) (c' : ContextView S) (after : OutputsView) : Type 0 where
   pub context : c' ≡ closed standing c
   pub out : PutsAll before (offers c.up c.down (last_item standing ∷ []) (last_item standing ∷ [])) after
 
 module _ {S : Type 0} (meaning : S → Meaning) (stands_after : S → List Event → Type 0) (is_spent : S → Bool) where
   -- An event failed its context, out of memory: the stage met a fault, or there was not room for what it makes.
   pub record RunsOut (c : ContextView S) (x : Event) (before : OutputsView) (c' : ContextView S) (after : OutputsView) : Type 0 where
-    pub closes : Closes (stands.Failed Memory) (record c { stage = c'.stage }) before c' after
+    pub closes : GivesLast (stands.Failed Memory) (record c { stage = c'.stage }) before c' after
     pub why : is_spent c'.stage ≡ false → (xs : List Event) → stands_after c.stage xs →
         before.room < length (offers c.up c.down (ups (meaning c.stage) xs x) (downs (meaning c.stage) xs x))
 
@@ -92,11 +92,12 @@ module _ {S : Type 0} (meaning : S → Meaning) (stands_after : S → List Event
   TakesEvent c x before took.Ended c' after = ⊥
   TakesEvent c x before took.Dropped c' after = ⊥
 
-  -- The same to any item of its data lane. (A flag does not stand there, and nothing comes of it.)
+  -- What an open context answers to a data item (ChannelHandlerContext). (A flag does not stand on its data lane, and
+  -- nothing comes of it.)
   abbrev pub TakesItem : ContextView S → Item → OutputsView → Took → ContextView S → OutputsView → Type 0
   TakesItem c (item.Event x) before answer c' after = TakesEvent c x before answer c' after
-  TakesItem c item.End before answer c' after = (answer ≡ took.Ended) × Closes stands.Ended c before c' after
-  TakesItem c (item.Fail cause) before answer c' after = (answer ≡ took.Failed cause) × Closes (stands.Failed cause) c before c' after
+  TakesItem c item.End before answer c' after = (answer ≡ took.Ended) × GivesLast stands.Ended c before c' after
+  TakesItem c (item.Fail cause) before answer c' after = (answer ≡ took.Failed cause) × GivesLast (stands.Failed cause) c before c' after
   TakesItem c (item.Flag value) before answer c' after = (answer ≡ took.Ran) × (c' ≡ c) × (after ≡ before)
 
 -- the numbers that an item makes are small
@@ -106,8 +107,8 @@ MakesFew meaning stands_after c item.End = Unit {0}
 MakesFew meaning stands_after c (item.Fail cause) = Unit {0}
 MakesFew meaning stands_after c (item.Flag value) = Unit {0}
 
--- What a context that has not failed answers to an item of its flags lane: a flag is handed on. (Nothing comes of any
--- other item, which does not stand there.)
+-- What a context answers to a flag (ChannelInboundHandler). It has not failed, and hands the flag on. (Nothing comes
+-- of any other item, which does not stand on a flags lane.)
 abbrev pub TakesFlag : {S : Type 0} → ContextView S → Item → OutputsView → Took → ContextView S → OutputsView → Type 0
 TakesFlag c (item.Flag value) before answer c' after =
     (answer ≡ took.Ran) × (c' ≡ record c { flags = c'.flags }) × FlagPasses c.flags value before c'.flags after

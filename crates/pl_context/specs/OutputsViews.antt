@@ -16,7 +16,7 @@ pub record OutputsView : Type 0 where
   pub stopped : StopsView
   pub room : ℕ
 
--- a failure that takes the place of an item: out of memory, or the failure that the item is
+-- A failure that takes the place of an item. It is out of memory, or the failure that the item is.
 abbrev pub failure_of : Item → Item
 failure_of (item.Event event) = item.Fail Memory
 failure_of item.End = item.Fail Memory
@@ -39,7 +39,8 @@ stopped_after Last s lane = s
 stopped_after Refused s lane = with_stop s lane
 stopped_after Discarded s lane = s
 
--- An envelope is put on a list: it is discarded exactly where its lane has stopped, and else last wherever there is room.
+-- An envelope is put on a list, and discarded exactly where its lane has stopped. Else it is last wherever there is
+-- room.
 pub record Puts (before : OutputsView) (e : Envelope) (answer : Added) (after : OutputsView) : Type 0 where
   pub items : after.items ≡ before.items ++ added_items answer e
   pub stopped : after.stopped ≡ stopped_after answer before.stopped e.lane
@@ -52,13 +53,13 @@ abbrev pub PutsAll : OutputsView → List Envelope → OutputsView → Type 0
 PutsAll before [] after = (after.items ≡ before.items) × (after.stopped ≡ before.stopped) × (before.room ≤ after.room)
 PutsAll before (e ∷ es) after = (answer : Added) × (mid : OutputsView) × Puts before e answer mid × PutsAll mid es after
 
--- These envelopes stand after the others, and no lane has stopped.
+-- These envelopes came last, and no lane has stopped.
 pub record Appends (before : OutputsView) (es : List Envelope) (after : OutputsView) : Type 0 where
   pub items : after.items ≡ before.items ++ es
   pub stopped : after.stopped ≡ before.stopped
   pub room : before.room ≤ after.room + length es
 
--- the places of data lanes that have not stopped are free
+-- the places of data lanes not stopped are free
 pub record HasReserve (s : StopsView) (len capacity : ℕ) : Type 0 where
   pub few : length s.lanes ≤ s.places
   pub free : len + (s.places - length s.lanes) ≤ capacity

@@ -14,6 +14,7 @@ use Rattle.pl_context.specs.declared.ports.Port.{Port}
 use Rattle.pl_context.specs.Stops.{StopsView, has_stopped}
 use Rattle.pl_context.specs.OutputsViews.{OutputsView, Puts}
 
+-- events, each as an item
 abbrev pub as_items : List Event → List Item
 as_items xs = map (λ x. item.Event x) xs
 
@@ -50,7 +51,7 @@ flag_port_after Last p = record p { made = p.made + 1 }
 flag_port_after Refused p = record p { is_open = false }
 flag_port_after Discarded p = record p { is_open = false }
 
--- A flag is handed on with the next number of its lane, unless the lane has stopped, which it does where a flag finds
+-- A flag is handed on with its lane's next number, unless the lane has stopped. That has stopped where a flag finds
 -- no place.
 pub record FlagPasses (p : Port) (value : Bool) (before : OutputsView) (p' : Port) (after : OutputsView) : Type 0 where
   pub closed : p.is_open ≡ false → (p' ≡ p) × (after ≡ before)

@@ -4,12 +4,13 @@ use Rattle.pl_event.specs.declared.outcomes.Cause.{Cause}
 use Rattle.pl_context.specs.declared.standing.Standing.{Standing}
 use Rattle.pl_context.specs.declared.standing.Standing.TheVariants as stands
 
--- whether something that stands so has ended or failed
+-- what stands so has ended or failed
 abbrev pub is_over : Standing → Bool
 is_over stands.Open = false
 is_over stands.Ended = true
 is_over (stands.Failed cause) = true
 
+-- what stands so has failed
 abbrev pub has_failed : Standing → Bool
 has_failed stands.Open = false
 has_failed stands.Ended = false

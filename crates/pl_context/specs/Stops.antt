@@ -5,13 +5,14 @@ use Rattle.pl_event.specs.declared.envelopes.Lane.{Lane}
 use Rattle.pl_event.specs.declared.envelopes.Kind.TheVariants.{Data, Flags}
 pub use Rattle.pl_event.specs.Hops.{same_hop}
 
--- The data lanes and the flags lanes that have stopped: what such a lane brings is discarded. There is a reserved
--- place for a failure on each data lane, and a data lane and the flags lane of its hop count as one.
+-- The data and flags lanes that have stopped. What such a lane brings is discarded. There is a reserved place for a
+-- failure on each data lane, and a data lane and the flags lane of its hop count as one.
 pub record StopsView : Type 0 where
   pub lanes : List Lane
   pub flag_lanes : List Lane
   pub places : ℕ
 
+-- this lane has stopped
 abbrev pub has_stopped : StopsView → Lane → Bool
 has_stopped s lane = elim lane.kind [ Data ↦ list_any (same_hop lane) s.lanes | Flags ↦ list_any (same_hop lane) s.flag_lanes ]
 
@@ -24,11 +25,12 @@ abbrev pub with_stop : StopsView → Lane → StopsView
 with_stop s lane =
     elim lane.kind [ Data ↦ record s { lanes = s.lanes ++ lane ∷ [] } | Flags ↦ record s { flag_lanes = s.flag_lanes ++ lane ∷ [] } ]
 
--- each of these lanes enters where one of the others does
+-- these lanes enter only where the others do
 abbrev pub AreAmong : List Lane → List Lane → Type 0
 AreAmong some lanes = (lane : Lane) → list_any (same_hop lane) some ≡ true → list_any (same_hop lane) lanes ≡ true
 
--- There are places for these lanes: a list of at most `places` hops has them, and those that have stopped.
+-- There are places for these lanes (place_law). A list of at most `places` hops has them, and those that have
+-- stopped.
 pub record HasPlaces (s : StopsView) (lanes : List Lane) : Type 0 where
   pub hops : List Lane
   pub few : length hops ≤ s.places

@@ -14,7 +14,8 @@ use Rattle.pl_context.specs.declared.standing.Took.{Took}
 use Rattle.pl_context.specs.declared.standing.Took.TheVariants as took
 use Rattle.pl_event.specs.declared.limits.TheConstants.{MAX_ITEMS}
 
--- For how many more events, and more flags, there is room without a growth, stands beside them.
+-- The tail of a channel, with its record (ChannelPipeline). For how many more events, and more flags, there is room
+-- without a growth, stands beside them.
 pub record TailView : Type 0 where
   pub channel : ℕ
   pub hop : ℕ
@@ -47,16 +48,17 @@ pub record EntersTail (t : TailView) (lane : Lane) : Type 0 where
   pub channel : lane.channel ≡ t.channel
   pub hop : lane.hop ≡ t.hop
 
--- how many items it has taken of its lane of a kind, and of any lane
+-- how many items a tail has taken, by kind
 abbrev pub kind_taken : TailView → Kind → ℕ
 kind_taken t Data = t.taken
 kind_taken t Flags = t.flags_taken
 
+-- how many items of a lane a tail has taken
 abbrev pub taken_of : TailView → Lane → ℕ
 taken_of t lane =
     if same_hop lane (record { channel = t.channel; kind = lane.kind; hop = t.hop }) then kind_taken t lane.kind else 0
 
--- one item more was taken of the lane of this kind
+-- a tail that took one item more, of this kind
 abbrev pub counted : Kind → TailView → TailView
 counted Data t = record t { taken = t.taken + 1 }
 counted Flags t = record t { flags_taken = t.flags_taken + 1 }
@@ -68,7 +70,7 @@ RecordsEvent t x (took.Failed cause) t' = (cause ≡ Memory) × (t.room ≡ 0) �
 RecordsEvent t x took.Ended t' = ⊥
 RecordsEvent t x took.Dropped t' = ⊥
 
--- The same of any item of its data lane. (A flag does not stand there, and nothing comes of it.)
+-- What an open tail does with a data item. (A flag does not stand on its data lane, and nothing comes of it.)
 abbrev pub RecordsItem : TailView → Item → Took → TailView → Type 0
 RecordsItem t (item.Event x) answer t' = RecordsEvent t x answer t'
 RecordsItem t item.End answer t' = (answer ≡ took.Ended) × (t' ≡ record t { standing = stands.Ended })
@@ -90,7 +92,7 @@ pub record RecordsFlag (t : TailView) (value : Bool) (t' : TailView) : Type 0 wh
   pub goes_on : t.flags_stopped ≡ false → AddsFlag t value t' ⊎ LosesFlag t t'
   pub stopped : t.flags_stopped ≡ true → t' ≡ t
 
--- Nothing comes of any other item, which does not stand on a flags lane.
+-- What a tail does with a flag. Nothing comes of any other item, which does not stand on a flags lane.
 abbrev pub RecordsFlagItem : TailView → Item → TailView → Type 0
 RecordsFlagItem t (item.Flag value) t' = RecordsFlag t value t'
 RecordsFlagItem t (item.Event x) t' = t' ≡ t

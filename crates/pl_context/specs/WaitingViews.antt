@@ -10,7 +10,8 @@ use Rattle.pl_context.specs.OutputsViews.{added_items, stopped_after}
 use Rattle.pl_context.specs.Backlogs.{BacklogView, handed_back}
 use Rattle.pl_context.specs.Fronts.{FrontsView, age_for}
 
--- What waits for each target; how many envelopes were added, and how many of them before the one that was taken last.
+-- What waits for each of several targets. It has how many envelopes were added, and how many of them before the one
+-- that was taken last.
 pub record WaitingView (A : Type 0) : Type 0 where
   pub targets : List (BacklogView (Late A))
   pub added : ℕ
@@ -22,13 +23,15 @@ pub record Entry (A : Type 0) : Type 0 where
   pub envelope : Envelope
   pub token : A
 
--- the lanes that have stopped on the way to a target, and how many envelopes more find room there without a growth
+-- the lanes that have stopped towards a target
 abbrev pub stops_for : {A : Type 0} → WaitingView A → ℕ → StopsView
 stops_for w target = option_map_or (λ b. b.stopped) (slice_get w.targets target) (no_stops 0)
 
+-- how many envelopes more find room there without a growth
 abbrev pub room_for : {A : Type 0} → WaitingView A → ℕ → ℕ
 room_for w target = option_map_or (λ b. b.room) (slice_get w.targets target) 0
 
+-- an entry waits for this target
 abbrev pub is_for : {A : Type 0} → ℕ → Entry A → Bool
 is_for target entry = entry.target == target
 
@@ -59,7 +62,7 @@ pub record Holds {A : Type 0} (w : WaitingView A) (entries : List (Entry A)) : T
   pub entries_are : entries ≡ map (λ i. i.entry) aged
   pub holds : HoldsAged w aged
 
--- These entries wait, but for the one at i: that is the first for its target, and was taken last.
+-- These entries wait, but for the one at i. That is the first for its target, and was taken last.
 pub record Misses {A : Type 0} (w : WaitingView A) (entries : List (Entry A)) (i : ℕ) : Type 0 where
   pub aged : List (Aged A)
   pub entries_are : entries ≡ map (λ i. i.entry) aged
@@ -74,7 +77,7 @@ pub record Misses {A : Type 0} (w : WaitingView A) (entries : List (Entry A)) (i
 
 -- ---- what its calls do
 
--- An envelope is added for a target with its token, under the rule of a list of envelopes.
+-- An envelope with its token is added for a target. The rule is that of a list of envelopes.
 pub record WaitingAdds {A : Type 0} (before : WaitingView A) (target : ℕ) (e : Envelope) (token : A) (result : Option A) (after : WaitingView A) : Type 0 where
   pub answer : Added
   pub holds : (entries : List (Entry A)) → Holds before entries
@@ -88,7 +91,7 @@ pub record WaitingAdds {A : Type 0} (before : WaitingView A) (target : ℕ) (e :
   pub targets : length after.targets ≡ length before.targets
   pub others : (y : ℕ) → y ≢ target → slice_get after.targets y ≡ slice_get before.targets y
 
--- The oldest entry for a target is taken, where there is one.
+-- The oldest entry for a target is taken. There may be none.
 pub record Takes {A : Type 0} (before : WaitingView A) (entries : List (Entry A)) (target : ℕ) (result : Option (Envelope × A)) (after : WaitingView A) : Type 0 where
   pub taken : MatchOption result
       ((position (is_for target) entries ≡ None) × (after ≡ before))
@@ -104,7 +107,7 @@ pub record Takes {A : Type 0} (before : WaitingView A) (entries : List (Entry A)
 abbrev pub front_age : {A : Type 0} → BacklogView (Late A) → Option ℕ
 front_age b = option_map (λ entry. entry.1.age) (slice_get b.items 0)
 
--- Those targets are noted for which something waits, each with the age of its front.
+-- Those targets are noted for which something waits. Each has the age of its front.
 pub record AreFronts {A : Type 0} (fronts : FrontsView) (targets : List (BacklogView (Late A))) : Type 0 where
   pub places : length targets ≤ fronts.places
   pub ages : (y : ℕ) → age_for fronts y ≡ option_map_or front_age (slice_get targets y) None

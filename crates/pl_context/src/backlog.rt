@@ -2,7 +2,7 @@
 
 ghost use Rattle.std.specs.Prelude.{◌≡◌, ◌+◌, ◌<◌, ◌≤◌, ◌∷◌, ◌++◌, [], length, IfOk, IfSome, IfNone, OnSome, Some, slice_get, insert, remove, ◌==◌};
 ghost use Rattle.pl_context.specs.Stops.{HasPlaces, no_stops, any_stopped};
-ghost use Rattle.pl_context.specs.Backlogs.{Adds};
+ghost use Rattle.pl_context.specs.Backlogs.{AddsToken};
 
 use crate::outputs::failure;
 use crate::stops::Stops;
@@ -77,7 +77,7 @@ impl<A> Backlog<A> {
     /// envelope was discarded.
     pub fn add(&mut self, envelope: Envelope, token: A) -> Option<A>
         requires { HasPlaces self.old.stopped (envelope.lane ∷ []) }
-        ensures { Adds self.old envelope token result self.new }
+        ensures { AddsToken self.old envelope token result self.new }
     {
         if self.stops.has(envelope.lane) {
             drop(envelope);

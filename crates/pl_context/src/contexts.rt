@@ -13,7 +13,7 @@ ghost use Rattle.pl_context.specs.OutputsViews.{Appends};
 ghost use Rattle.pl_context.specs.Ports.{end_after, as_items, port_after, put_out};
 ghost use Rattle.pl_context.specs.ContextViews.{IsHop, SamePlace, new_context, has_up, has_down, down_hop, Enters, kind_taken, one_of, taken_of, number_limit, open_lanes};
 ghost use Rattle.pl_context.specs.Standings.{is_over, has_failed};
-ghost use Rattle.pl_context.specs.Contexts.{StandsAfter, MakesFew, Runs, Closes, TakesEvent, TakesItem, TakesFlag, counted, offers, ups, downs, last_item, IsSmall};
+ghost use Rattle.pl_context.specs.Contexts.{StandsAfter, MakesFew, Runs, GivesLast, TakesEvent, TakesItem, TakesFlag, counted, offers, ups, downs, last_item, IsSmall};
 ghost use Rattle.pl_event.specs.declared.limits.TheConstants.{MAX_ITEMS};
 
 use crate::outputs::Outputs;
@@ -124,7 +124,7 @@ impl<S: Stage> Context<S> {
     /// Fails an open context: each open lane is given the failure. One that has ended or failed is unchanged.
     pub fn fail(&mut self, cause: Cause, outputs: &mut Outputs)
         requires places { HasPlaces outputs.old.stopped (open_lanes self.old) }
-        ensures open { self.old.standing ≡ stands.Open → Closes (stands.Failed cause) (record self.old { failed_by_call = true }) outputs.old self.new outputs.new }
+        ensures open { self.old.standing ≡ stands.Open → GivesLast (stands.Failed cause) (record self.old { failed_by_call = true }) outputs.old self.new outputs.new }
         ensures over { is_over self.old.standing ≡ true → (self.new ≡ self.old) × (outputs.new ≡ outputs.old) }
     {
         if let Standing::Open = self.standing {
@@ -297,7 +297,7 @@ impl<S: Stage> Context<S> {
     /// Gives both lanes their last item.
     fn close(&mut self, standing: Standing, outputs: &mut Outputs)
         requires { HasPlaces outputs.old.stopped (open_lanes self.old) }
-        ensures { Closes standing self.old outputs.old self.new outputs.new }
+        ensures { GivesLast standing self.old outputs.old self.new outputs.new }
     {
         self.standing = standing;
         self.up.put(last_item(standing), outputs);

@@ -1,13 +1,13 @@
--- Lists through `map`, `filter`, `position`, `set`, a push, and prefixes, and values that are there: what std does not say
--- of them.
-use Rattle.std.proofs.Common.{◌≡◌, ◌≢◌, ℕ, zero, suc, ◌+◌, ◌≤◌, Bool, true, false, ◌||◌, ◌&&◌, not, cond, nat_lt, Option, Some, None, List, [], ◌∷◌, ◌++◌, length, map, filter, reverse, set, take, drop, sum_by, sym, refl, ap, ap₂, subst, ◌∙◌, arith, inl, inr, append_assoc}
+-- Lists through `map`, `filter`, `position`, `set`, a push, and prefixes, two lists place by place, and values that are there:
+-- what std does not say of them.
+use Rattle.std.proofs.Common.{◌≡◌, ◌≢◌, ℕ, zero, suc, ◌+◌, ◌<◌, ◌≤◌, Bool, true, false, ◌||◌, ◌&&◌, not, cond, nat_lt, Option, Some, None, List, [], ◌∷◌, ◌++◌, length, map, filter, reverse, get_or, set, take, drop, sum_by, sym, refl, ap, ap₂, subst, ◌∙◌, arith, inl, inr, append_assoc}
 use Rattle.std.specs.Prelude.{◌⊎◌, is_some}
-use Rattle.std.specs.List.{All, list_any, list_all, take_while, prefix_len, position, position_or_len, insert, remove, count_by, find, flat_map, slice_get}
+use Rattle.std.specs.List.{All, AllZip, list_any, list_all, take_while, prefix_len, position, position_or_len, insert, remove, count_by, find, flat_map, slice_get}
 use Rattle.std.specs.Option.{option_map}
-use Rattle.std.proofs.lemmas.List.{map-append, take-map, drop-map, reverse-append, length-map, length-set, get_or-set_same, get_or-set_other, take-append-drop}
+use Rattle.std.proofs.lemmas.List.{map-append, take-map, drop-map, reverse-append, length-map, length-set, get_or-set_same, get_or-set_other, take-append-drop, map_push}
 use Rattle.std.proofs.lemmas.List.Folds.{fold-map, list_any-append}
-use Rattle.std.proofs.lemmas.List.Elements.{All-get_or, All-nil, All-cons, All-head, All-tail, All-push}
-use Rattle.std.proofs.lemmas.Option.{none-some, same_Some, slice_get_within, slice_get-get_or, get_or_from_slice_get, slice_get_cases}
+use Rattle.std.proofs.lemmas.List.Elements.{All-get_or, All-from_get_or, All-nil, All-cons, All-head, All-tail, All-push}
+use Rattle.std.proofs.lemmas.Option.{none-some, same_Some, slice_get_within, slice_get-get_or, get_or_from_slice_get, slice_get_cases, slice_get-map}
 use Rattle.std.proofs.lemmas.Bool.{and_parts}
 use Rattle.pl_event.specs.Meaning.{IsPrefixOf}
 
@@ -61,6 +61,9 @@ pub remove-map : {X Y : Type 0} (f : X → Y) (xs : List X) (i : ℕ) → remove
 remove-map f xs i =
     ap₂ (λ s t. s ++ t) (take-map f i xs) (drop-map f (suc i) xs) ∙ sym (map-append f (take i xs) (drop (suc i) xs))
 
+pub map-at : {X Y : Type 0} (f : X → Y) (xs : List X) (i : ℕ) (x : X) → slice_get xs i ≡ Some x → slice_get (map f xs) i ≡ Some (f x)
+map-at f xs i x at = slice_get-map f xs i ∙ ap (option_map f) at
+
 pub map-reverse : {X Y : Type 0} (f : X → Y) (xs : List X) → map f (reverse xs) ≡ reverse (map f xs)
 map-reverse f [] = refl
 map-reverse f (x ∷ xs) =
@@ -83,6 +86,12 @@ cons-none x xs e = cc
 pub append-none : {A : Type 0} (xs ys : List A) → xs ++ ys ≡ [] → ys ≡ []
 append-none [] ys e = e
 append-none (x ∷ xs) ys e = cc
+
+pub at-index : {A : Type 0} (xs : List A) (i : ℕ) → i < length xs → (x : A) × (slice_get xs i ≡ Some x)
+at-index xs i within = elim (slice_get_cases xs i).1 [
+  | inl at ↦ (at.0, at.2)
+  | inr past ↦ absurd (omega (arith, within, past.0))
+]
 
 -- the element that stands first, before the rest
 pub in-front : {A : Type 0} (items rest : List A) (e : A) → slice_get items 0 ≡ Some e → rest ≡ drop 1 items → items ≡ e ∷ rest
@@ -123,6 +132,10 @@ pub All-at : {A : Type 0} (P : A → Type 0) (xs : List A) (i : ℕ) (x : A) →
 All-at P xs i x all here =
     subst P (get_or_from_slice_get xs i x x here) (All-get_or P xs i x (slice_get_within xs i x here) all)
 
+pub All-from-at : {A : Type 0} (P : A → Type 0) (xs : List A) → ((i : ℕ) (x : A) → slice_get xs i ≡ Some x → P x) → All P xs
+All-from-at P [] each = All-nil P
+All-from-at P (x ∷ xs) each = All-from_get_or P (x ∷ xs) x (λ i within. each i (get_or (x ∷ xs) i x) (slice_get-get_or (x ∷ xs) i x within))
+
 pub All-from_list_all : {X : Type 0} (p : X → Bool) (xs : List X) → list_all p xs ≡ true → All (λ x. p x ≡ true) xs
 All-from_list_all p [] all = All-nil (λ x. p x ≡ true)
 All-from_list_all p (x ∷ xs) all =
@@ -140,11 +153,24 @@ All-reverse P [] h = h
 All-reverse P (x ∷ xs) h =
     subst (All P) (sym (reverse-append (x ∷ []) xs)) (All-push P (reverse xs) x (All-reverse P xs (All-tail P x xs h)) (All-head P x xs h))
 
--- tests that agree on a list find the same
-pub find-agree : {X : Type 0} (p q : X → Bool) (xs : List X) → All (λ x. p x ≡ q x) xs → find p xs ≡ find q xs
-find-agree p q [] same = refl
-find-agree {X} p q (x ∷ xs) same =
-    ap₂ (λ (b : Bool) (o : Option X). cond b (Some x) o) (All-head (λ y. p y ≡ q y) x xs same) (find-agree p q xs (All-tail (λ y. p y ≡ q y) x xs same))
+-- ---- two lists, place by place
+
+-- one more of each
+pub zip_push : {A B : Type 0} (R : A → B → Type 0) (xs : List A) (ys : List B) (x : A) (y : B) → AllZip R xs ys → R x y → AllZip R (xs ++ x ∷ []) (ys ++ y ∷ [])
+zip_push R [] [] x y all one = (one, tt)
+zip_push R (a ∷ xs) (b ∷ ys) x y all one = (all.0, zip_push R xs ys x y all.1 one)
+zip_push R [] (b ∷ ys) x y all one = elim all [ ]
+zip_push R (a ∷ xs) [] x y all one = elim all [ ]
+
+-- what stands at the same place
+pub zip_through : {A B C : Type 0} (R : B → C → Type 0) (Q : A → C → Type 0) (xs : List A) (ys : List B) (zs : List C) → length ys ≡ length xs
+    → ((k : ℕ) (x : A) (y : B) → slice_get xs k ≡ Some x → slice_get ys k ≡ Some y → (z : C) → R y z → Q x z) → AllZip R ys zs → AllZip Q xs zs
+zip_through R Q [] [] [] same leads all = tt
+zip_through R Q [] [] (z ∷ zs) same leads all = elim all [ ]
+zip_through R Q (x ∷ xs) (y ∷ ys) [] same leads all = elim all [ ]
+zip_through R Q [] (y ∷ ys) zs same leads all = let none : ⊥ = omega (arith, same) in elim none [ ]
+zip_through R Q (x ∷ xs) [] zs same leads all = let none : ⊥ = omega (arith, same) in elim none [ ]
+zip_through R Q (x ∷ xs) (y ∷ ys) (z ∷ zs) same leads all = (leads 0 x y refl refl z all.0, zip_through R Q xs ys zs (omega (arith, same)) (λ k. leads (suc k)) all.1)
 
 -- ---- prefixes
 
@@ -153,3 +179,24 @@ prefix-trans {A = A} xs ys zs p q = (p.0 ++ q.0, sym (append_assoc xs p.0 q.0) �
 
 pub take-prefix_whole : {A : Type 0} (n : ℕ) (xs : List A) → IsPrefixOf (take n xs) xs
 take-prefix_whole n xs = (drop n xs, take-append-drop n xs)
+
+-- ---- a first element, and a list that is read from its front
+
+pub head-is : {A : Type 0} (x y : A) (xs ys : List A) → x ∷ xs ≡ y ∷ ys → x ≡ y
+head-is x y xs ys e = cc
+
+pub tail-is : {A : Type 0} (x y : A) (xs ys : List A) → x ∷ xs ≡ y ∷ ys → xs ≡ ys
+tail-is x y xs ys e = cc
+
+pub slice_get-behind : {A : Type 0} (xs rest : List A) (x : A) → slice_get (xs ++ x ∷ rest) (length xs) ≡ Some x
+slice_get-behind [] rest x = refl
+slice_get-behind (y ∷ ys) rest x = slice_get-behind ys rest x
+
+-- The front is what was made, as it is seen, and the rest is left. One more is made.
+pub seen-more : {A B : Type 0} (view : B → A) (all left rest : List A) (made after : List B) (x : A) (new : B) → map view made ++ left ≡ all → left ≡ x ∷ rest → after ≡ made ++ new ∷ [] → view new ≡ x → map view after ++ rest ≡ all
+seen-more {A = A} {B = B} view all left rest made after x new was front grown is =
+    ap (λ (l : List B). map view l ++ rest) grown
+    ∙ ap (λ (l : List A). l ++ rest) (map_push view made new)
+    ∙ append_assoc (map view made) (view new ∷ []) rest
+    ∙ ap (λ (y : A). map view made ++ y ∷ rest) is
+    ∙ ap (λ (l : List A). map view made ++ l) (sym front) ∙ was

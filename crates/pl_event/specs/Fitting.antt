@@ -25,12 +25,13 @@ goes_on item.End = false
 goes_on (item.Fail cause) = false
 goes_on (item.Flag value) = true
 
--- These items, numbered from n on, fit on a data lane of this content: each does, and nothing follows an end or a failure.
+-- Items, numbered from n on, fit a data lane's content (ChannelInboundHandler, fitting_law). Each does, and nothing
+-- follows an end or a failure.
 abbrev pub FitFrom : List Event → ℕ → List Item → Type 0
 FitFrom content n [] = Unit {0}
 FitFrom content n (i ∷ is) = Fits content n i × (goes_on i ≡ false → is ≡ []) × FitFrom content (n + 1) is
 
--- the same on a flags lane
+-- items, numbered from n on, fit on a flags lane
 abbrev pub FitFromAsFlags : ℕ → List Item → Type 0
 FitFromAsFlags n [] = Unit {0}
 FitFromAsFlags n (i ∷ is) = FitsAsFlag n i × FitFromAsFlags (n + 1) is

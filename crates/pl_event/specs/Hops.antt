@@ -5,10 +5,11 @@ use Rattle.pl_event.specs.declared.envelopes.Kind.{Kind}
 use Rattle.pl_event.specs.declared.envelopes.Kind.TheVariants.{Data, Flags}
 use Rattle.pl_event.specs.declared.envelopes.Lane.{Lane}
 
--- the lane of a channel that enters a hop with its data, and the one with its flags
+-- the lane on which a channel's data enters a hop
 abbrev pub data_lane : ℕ → ℕ → Lane
 data_lane channel hop = record { channel = channel; kind = Data; hop = hop }
 
+-- the lane on which a channel's flags enter a hop
 abbrev pub flags_lane : ℕ → ℕ → Lane
 flags_lane channel hop = record { channel = channel; kind = Flags; hop = hop }
 
@@ -21,6 +22,7 @@ same_kind Data Flags = false
 same_kind Flags Data = false
 same_kind Flags Flags = true
 
+-- two lanes are of one channel, kind and hop
 unfoldable pub same_lane : Lane → Lane → Bool
 same_lane a b = same_hop a b && same_kind a.kind b.kind
 

@@ -13,7 +13,7 @@ abbrev pub element_event : Element → Event
 element_event (Chunk bytes) = event.Read (message.Bytes bytes)
 element_event (User number) = event.User number
 
--- how many bytes it brings
+-- how many bytes an element brings
 abbrev pub element_size : Element → ℕ
 element_size (Chunk bytes) = length bytes
 element_size (User number) = 0
@@ -26,7 +26,7 @@ Bursts = List (List Element)
 abbrev pub burst_events : List Element → List Event
 burst_events elements = map element_event elements ++ event.ReadComplete ∷ []
 
--- the channel becomes active, and the bursts follow
+-- What a channel's bursts bring as events (ChannelInboundHandler). The channel becomes active, and the bursts follow.
 abbrev pub recorded_input : Bursts → List Event
 recorded_input bursts = event.Active ∷ flat_map burst_events bursts
 

@@ -8,6 +8,6 @@ use Rattle.pl_event.specs.declared.keys.TheConstants.{MAX_KEY_LENGTH}
 abbrev pub is_key_byte : ℕ → Bool
 is_key_byte byte = is_ascii_lowercase byte || is_ascii_digit byte
 
--- 1 to MAX_KEY_LENGTH such bytes
+-- A text may name a total. It has 1 to MAX_KEY_LENGTH such bytes.
 abbrev pub is_key : List ℕ → Bool
 is_key name = not (length name == 0) && nat_le (length name) MAX_KEY_LENGTH && list_all is_key_byte name

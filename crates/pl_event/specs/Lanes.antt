@@ -28,8 +28,9 @@ turn_ended [] xs = false
 turn_ended (m ∷ ms) xs =
     elim m.direction [ Turn ↦ m.ended xs | Inbound ↦ turn_ended ms (up_of m xs) | Outbound ↦ turn_ended ms (up_of m xs) ]
 
--- The content of a data lane by its hop: with k inbound stages, hop i up to k is what the first i make of the
--- input, and hop k + 1 + j what the first j outbound stages make of what the turn writes.
+-- Lane content: what a data lane carries, by its hop (ChannelPipeline, lane_law). With k inbound stages, hop i up to
+-- k is what the first i make of the input, and hop k + 1 + j what the first j outbound stages make of what the turn
+-- writes.
 abbrev pub lane : List Meaning → List Meaning → List Event → ℕ → List Event
 lane inbound out input hop =
     if nat_le hop (length inbound)

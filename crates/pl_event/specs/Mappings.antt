@@ -8,7 +8,7 @@ use Rattle.pl_event.specs.Passing.{passing_up, passing_up-lawful, passing_down, 
 abbrev pub mapping_up : (Event → Event) → Meaning
 mapping_up f = passing_up (λ xs x. f x ∷ [])
 
--- an outbound handler that makes f x of each event x
+-- an outbound handler that makes f x of each event x (ChannelOutboundHandler)
 abbrev pub mapping_down : (Event → Event) → Meaning
 mapping_down f = passing_down (λ xs x. f x ∷ [])
 

@@ -7,8 +7,8 @@ use Rattle.pl_event.specs.declared.stages.Direction.TheVariants.{Inbound, Outbou
 use Rattle.pl_event.specs.declared.stages.Turned.{Turned}
 use Rattle.pl_event.specs.declared.stages.Turned.TheVariants.{Open, Ended}
 
--- What a stage makes of an event x after the events xs: m.up xs x and m.down xs x.
--- m.ended xs says whether it has quit after xs.
+-- What a stage makes of events, and whether it quits (ChannelHandlerContext). Of an event x after the events xs it
+-- makes m.up xs x and m.down xs x; m.ended xs says whether it has quit after xs.
 pub record Meaning : Type 0 where
   pub direction : Direction
   pub up : List Event → Event → List Event
@@ -20,18 +20,20 @@ abbrev pub made_after : (List Event → Event → List Event) → List Event →
 made_after f before [] = []
 made_after f before (x ∷ xs) = f before x ++ made_after f (before ++ x ∷ []) xs
 
--- what a stage makes of a whole list of events: the list upwards, and the list downwards
+-- what a stage makes upwards of a whole list
 abbrev pub up_of : Meaning → List Event → List Event
 up_of m xs = made_after m.up [] xs
 
+-- what a stage makes downwards of a whole list
 abbrev pub down_of : Meaning → List Event → List Event
 down_of m xs = made_after m.down [] xs
 
--- what the step answers after which a stage stands after the events xs
+-- what a stage answers to the last of these events
 abbrev pub turned_after : Meaning → List Event → Turned
 turned_after m xs = if m.ended xs then Ended else Open
 
--- Once a stage has quit it has quit for good, and writes nothing more. Only a turn makes both lists, and quits.
+-- The stage law (ChannelInboundHandler, ChannelOutboundHandler): once it has quit it has quit for good, and writes
+-- nothing more. It starts open. Only a turn makes both lists, and quits.
 pub record IsLawful (m : Meaning) : Type 0 where
   pub starts_open : m.ended [] ≡ false
   pub stays_ended : (xs : List Event) (x : Event) → m.ended xs ≡ true → m.ended (xs ++ x ∷ []) ≡ true

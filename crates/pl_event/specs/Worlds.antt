@@ -13,8 +13,8 @@ use Rattle.pl_event.specs.declared.outcomes.Cause.TheVariants as cause
 use Rattle.pl_event.specs.Fitting.{Fits, FitsAsFlag, goes_on}
 use Rattle.pl_event.specs.Hops.{same_lane}
 
--- Data lanes with all the events that they carry: the first entry of a lane counts. And whether executors close while others
--- still send to them, so that a lane may fail since it was refused.
+-- The named world: what each data lane carries in all, in contracts alone. The first entry of a lane counts. And
+-- whether executors close while others still send to them, so that a lane may fail since it was refused.
 pub record World : Type 0 where
   pub contents : List (Lane × List Event)
   pub refuses : Bool
@@ -27,6 +27,7 @@ abbrev pub content_in : List (Lane × List Event) → Lane → Option (List Even
 content_in [] lane = None
 content_in (entry ∷ contents) lane = cond (same_lane lane entry.0) (Some entry.1) (content_in contents lane)
 
+-- all events of a data lane that the world has
 abbrev pub content_of : World → Lane → Option (List Event)
 content_of world lane = content_in world.contents lane
 
@@ -48,7 +49,7 @@ abbrev pub FitsAsKind : World → Kind → Envelope → Type 0
 FitsAsKind world Data x = (events : List Event) × (content_of world x.lane ≡ Some events) × Fits events x.number x.item × MayCome world x.item
 FitsAsKind world Flags x = FitsAsFlag x.number x.item
 
--- the item may stand at this number of its lane: on a data lane by the content that the world has for it
+-- An item may stand at its number on its lane. On a data lane it does by the content that the world has for it.
 unfoldable pub FitsWorld : World → Envelope → Type 0
 FitsWorld world x = FitsAsKind world x.lane.kind x
 

@@ -18,7 +18,7 @@
 //! - a [`Stage`];
 //! - and [`Either`] is one of two stages, so that several kinds stand in one pipeline.
 //!
-//! The README has each of them whole, in code that is proved.
+//! The README has them in code that is proved; of a `BareStage` it names one.
 //!
 //! Contexts hand a handler's events to one another as [`Envelope`]s: an [`Item`] with its number on a [`Lane`].
 #![tactic(auto)]

@@ -1,7 +1,8 @@
 -- What a part takes refuses nothing: no context of it fails by a call.
-use Rattle.std.proofs.Common.{◌≡◌, ℕ, Bool, true, false, List, Option, Some, None, refl, ap, sym, ◌∙◌, ⊎_elim, arith}
+use Rattle.std.proofs.Common.{◌≡◌, ℕ, Bool, true, false, List, refl, ap, sym, ◌∙◌, ⊎_elim, arith}
 use Rattle.std.specs.Prelude.{◌==◌, is_some}
 use Rattle.std.proofs.lemmas.Bool.{cases_Bool, eqb-true}
+use Rattle.std.proofs.lemmas.Option.{same_Some}
 use Rattle.pl_event.specs.declared.events.Event.{Event}
 use Rattle.pl_event.specs.declared.envelopes.Envelope.{Envelope}
 use Rattle.pl_event.specs.declared.envelopes.Item.{Item}
@@ -12,6 +13,7 @@ use Rattle.pl_event.specs.declared.stages.Direction.{Direction}
 use Rattle.pl_event.specs.declared.stages.Direction.TheVariants.{Inbound, Outbound, Turn}
 use Rattle.pl_event.specs.Meaning.{Meaning}
 use Rattle.pl_event.specs.Worlds.{World}
+use Rattle.pl_event.proofs.Lists.{some-of}
 use Rattle.pl_context.specs.declared.standing.Standing.{Standing}
 use Rattle.pl_context.specs.declared.standing.Standing.TheVariants as stands
 use Rattle.pl_context.specs.declared.standing.Took.{Took}
@@ -26,13 +28,6 @@ use Rattle.pl_part.specs.Parts.{ChannelPartView, PartHolds, PartTakes, SamePart,
 use Rattle.pl_part.specs.Taking.{ContextTakes}
 use Rattle.pl_exec.specs.OwnNodes.{NoneRefused}
 use Rattle.pl_exec.proofs.OwnNodeLemmas.{same-slot}
-
-some-of : {A : Type 0} (o : Option A) → is_some o ≡ true → (x : A) × (o ≡ Some x)
-some-of (Some x) h = (x, refl)
-some-of None h = cc
-
-some-equal : {A : Type 0} (a b : A) → Some a ≡ Some b → a ≡ b
-some-equal a b e = cc
 
 -- ---- a context
 
@@ -99,7 +94,7 @@ module _ {S T : Type 0} (world : World) (meaning : S → Meaning) (stands_after 
           (λ (other : (e.lane.hop == p.path.tail_hop) ≡ false).
           let was = some-of (context_at p.path e.lane.hop) (sym (same-slot p'.path.contexts p.path.contexts e.lane.hop same.path.contexts) ∙ ap (λ (h : ℕ). is_some (context_at p'.path h)) (sym is) ∙ ap is_some at) in
           let took = takes.context was.0 other was.1 in
-          let own = some-equal c' took.0 (sym at ∙ ap (λ (h : ℕ). context_at p'.path h) is ∙ took.1) in
+          let own = same_Some c' took.0 (sym at ∙ ap (λ (h : ℕ). context_at p'.path h) is ∙ took.1) in
           ap (λ (z : ContextView S). z.failed_by_call) own ∙ same-call meaning stands_after is_spent b a took.0 was.0 e answer took.2 ∙ none e.lane.hop was.0 was.1)
           (cases_Bool (e.lane.hop == p.path.tail_hop)))
           (λ (there-not : (hop == e.lane.hop) ≡ false). none hop c' (sym (takes.others hop there-not) ∙ at))

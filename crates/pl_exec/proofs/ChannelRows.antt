@@ -6,7 +6,7 @@ use Rattle.std.specs.Bool.{Decides}
 use Rattle.std.specs.List.{range_with_len}
 use Rattle.std.specs.Option.{option_map}
 use Rattle.std.specs.Set.{is_member}
-use Rattle.std.proofs.lemmas.Bool.{cases_eq, eq-eqb, ne_eqb}
+use Rattle.std.proofs.lemmas.Bool.{cases_eq, eq-eqb, ne_eqb, or_right}
 use Rattle.std.proofs.lemmas.Bool.Decides.{Decides-eqb}
 use Rattle.std.proofs.lemmas.List.{get_or-map, get_or-set_other, get_or-set_same, length-map, length-set, length-take-le, map-append, map-set, take_more}
 use Rattle.std.proofs.lemmas.List.Elements.{All-from_get_or, All-same, All-weaker}
@@ -22,7 +22,7 @@ use Rattle.pl_exec.specs.declared.nodes.OwnNodes.{OwnNodes}
 use Rattle.pl_exec.specs.OwnNodes.{AreOn, numbered_from}
 use Rattle.pl_exec.specs.Sharing.{AreKnown, AreNoted, AreShared, AreSharesOf, IsNoted, IsNotedAt, channels_on, rows_in}
 use Rattle.pl_exec.proofs.HeadLists.{IsNumbered, in-range, numbered-more, numbered-only, numbered-there}
-use Rattle.pl_exec.proofs.SharesMade.{at-index}
+use Rattle.pl_event.proofs.Lists.{at-index}
 
 -- ---- one hop
 
@@ -48,10 +48,6 @@ noted-nowhere rows executor channel past = record {
 }
 
 -- ---- the hops of a channel
-
-or-true : (b c : Bool) → c ≡ true → (b || c) ≡ true
-or-true true c e = refl
-or-true false c e = e
 
 or-false : (b c : Bool) → c ≡ false → (b || c) ≡ b
 or-false true c e = refl
@@ -81,7 +77,7 @@ module _ (channel : ℕ) where
           (λ (e : x ≡ executor).
           let here = subst (λ (k : ℕ). IsNoted channel (get_or now k []) (get_or after k [])) (sym e) (noted.here (omega (arith, e, below, size))) in
           row-noted row (get_or now x []) (get_or after x []) was (lower x [] below) (so_far.each x below) here
-          ∙ ap (λ (b : Bool). row ++ cond b (channel ∷ []) []) (sym (more ∙ or-true was (x == get_or es n 0) (eq-eqb x (get_or es n 0) (e ∙ is)))))
+          ∙ ap (λ (b : Bool). row ++ cond b (channel ∷ []) []) (sym (more ∙ or_right was (x == get_or es n 0) (eq-eqb x (get_or es n 0) (e ∙ is)))))
           (λ (apart : x ≢ executor).
           noted.others x apart
           ∙ so_far.each x below

@@ -1,5 +1,5 @@
 -- The channels that have nodes on an executor. Of the others nothing is left to be done there.
-use Rattle.std.proofs.Common.{◌≡◌, ◌≢◌, ◌||◌, ℕ, ◌<◌, ◌≤◌, Bool, true, false, List, Option, Some, None, slice_get, length, refl, ap, sym, subst, ◌∙◌, ⊎_elim, arith}
+use Rattle.std.proofs.Common.{◌≡◌, ◌||◌, ℕ, ◌<◌, ◌≤◌, Bool, true, false, List, Option, Some, None, slice_get, length, refl, ap, sym, subst, ◌∙◌, ⊎_elim, arith}
 use Rattle.std.specs.Prelude.{◌==◌, All, Contains, is_some, if◌then◌else◌}
 use Rattle.std.specs.Bool.{Decides}
 use Rattle.std.specs.List.{list_all}
@@ -12,22 +12,21 @@ use Rattle.std.proofs.lemmas.List.Sums.{list_all-from_AllPass}
 use Rattle.std.proofs.lemmas.Map.Made.{is_member-Decides}
 use Rattle.std.proofs.lemmas.Option.{none-some, slice_get_within}
 use Rattle.pl_event.specs.declared.events.Event.{Event}
-use Rattle.pl_event.specs.declared.stages.Direction.{Direction}
-use Rattle.pl_event.specs.declared.stages.Direction.TheVariants.{Inbound, Outbound, Turn}
 use Rattle.pl_event.specs.Meaning.{Meaning}
 use Rattle.pl_event.specs.Worlds.{World}
-use Rattle.pl_context.specs.ContextViews.{ContextView, IsHop}
+use Rattle.pl_context.specs.ContextViews.{ContextView}
 use Rattle.pl_context.specs.Standings.{is_over}
 use Rattle.pl_context.specs.TailViews.{TailView}
 use Rattle.pl_head.specs.HeadStand.{HeadView}
 use Rattle.pl_head.specs.Transports.{TransportState}
 use Rattle.pl_part.specs.Paths.{context_at, is_slot_over, path_over}
 use Rattle.pl_part.specs.Parts.{ChannelPartView, head_hop}
+use Rattle.pl_part.proofs.PathSteps.{apart-tail}
 use Rattle.pl_channel.specs.PlanStand.{PartsKeepPlan}
-use Rattle.pl_replay.specs.Channels.{executor_at}
+use Rattle.pl_channel.specs.Channels.{executor_at}
 use Rattle.pl_world.specs.Plans.{ChannelPlan, Plan}
-use Rattle.pl_exec.specs.OwnNodes.{AreOn, IsPartOver, IsOverAt, AreOver, PartStands, NodesStand, has_node}
-use Rattle.pl_exec.proofs.SharesMade.{at-index}
+use Rattle.pl_exec.specs.OwnNodes.{AreOn, IsPartOver, IsOverAt, AreOver, ShareStands, NodesStand, has_node}
+use Rattle.pl_event.proofs.Lists.{at-index}
 
 -- ---- a part that has no node here
 
@@ -35,13 +34,8 @@ no-some : {A : Type 0} (o : Option A) → is_some o ≡ false → o ≡ None
 no-some None e = refl
 no-some (Some x) e = absurd (both_ways true e refl)
 
-off-tail : (d : Direction) (hop k : ℕ) → IsHop d hop k → hop ≢ k
-off-tail Inbound hop k at = λ e. let below = at.0 in omega (arith, e, below)
-off-tail Turn hop k at = λ e. let below = at.0 in omega (arith, e, below)
-off-tail Outbound hop k at = λ e. let above = at.0 in omega (arith, e, above)
-
 module _ {S T : Type 0} (world : World) (meaning : S → Meaning) (stands_after : S → List Event → Type 0) (state : T → TransportState) (me c : ℕ) (refused : Bool) (p : ChannelPartView S T)
-    (stands : PartStands world meaning stands_after state me refused c p) (none : Contains p.path.executors me → ⊥) where
+    (stands : ShareStands world meaning stands_after state me refused c p) (none : Contains p.path.executors me → ⊥) where
   no-node : (hop : ℕ) → hop ≤ head_hop p → has_node p hop ≡ false
   no-node hop within =
       let hops = stands.holds.hops in
@@ -72,7 +66,7 @@ module _ {S T : Type 0} (world : World) (meaning : S → Meaning) (stands_after 
       by : (o : Option (ContextView S)) → context_at p.path hop ≡ o → is_slot_over o ≡ true
       by None at = refl
       by (Some k) at =
-          let apart = off-tail (meaning k.stage).direction hop p.path.tail_hop (stands.holds.path.contexts hop k at).1.fits in
+          let apart = apart-tail (meaning k.stage).direction hop p.path.tail_hop (stands.holds.path.contexts hop k at).1.fits in
           absurd (both_ways (is_some (context_at p.path hop))
           (sym (cond-false (hop == p.path.tail_hop) (is_some p.path.tail) (is_some (context_at p.path hop)) (ne_eqb hop p.path.tail_hop apart)) ∙ no-other hop below)
           (ap (λ (o : Option (ContextView S)). is_some o) at))

@@ -12,7 +12,7 @@ use Rattle.std.proofs.lemmas.Map.Made.{is_member-Decides}
 use Rattle.std.proofs.lemmas.Option.{none-some, same_Some, slice_get-map, slice_get_within}
 use Rattle.pl_event.specs.declared.events.Event.{Event}
 use Rattle.pl_event.specs.Meaning.{Meaning}
-use Rattle.pl_event.proofs.Lists.{at_set_other, at_set_same, slice_get-push}
+use Rattle.pl_event.proofs.Lists.{at_set_other, at_set_same, slice_get-push, at-index}
 use Rattle.pl_head.specs.HeadStand.{HeadView}
 use Rattle.pl_head.specs.Transports.{TransportState}
 use Rattle.pl_part.specs.Parts.{ChannelPartView, head_hop}
@@ -23,7 +23,6 @@ use Rattle.pl_exec.specs.SessionWords.{SeatsView}
 use Rattle.pl_exec.specs.Sharing.{AreShared, AreSharesOf}
 use Rattle.pl_exec.specs.Telling.{AreDealt, HasOwnSeats, HaveApartHeads, IsDealt}
 use Rattle.pl_exec.proofs.HeadLists.{IsNumbered, numbered-only}
-use Rattle.pl_exec.proofs.SharesMade.{at-index}
 
 -- ---- one slot
 

@@ -9,9 +9,9 @@ use Rattle.std.proofs.lemmas.Option.{slice_get_within, slice_get-get_or, get_or_
 use Rattle.pl_event.specs.declared.events.Event.{Event}
 use Rattle.pl_event.specs.declared.envelopes.Lane.{Lane}
 use Rattle.pl_event.specs.Meaning.{Meaning}
-use Rattle.pl_event.proofs.Lists.{All-at}
+use Rattle.pl_event.proofs.Lists.{All-at, at-index}
 use Rattle.pl_queue.specs.Views.{has_lane}
-use Rattle.pl_queue.specs.Left.{all_lanes}
+use Rattle.pl_queue.specs.Left.{lanes_of_senders}
 use Rattle.pl_context.specs.Stops.{AreAmong, HasPlaces, no_stops}
 use Rattle.pl_context.proofs.Places.{places-start}
 use Rattle.pl_flow.specs.Flows.{point, nowhere}
@@ -21,22 +21,20 @@ use Rattle.pl_part.specs.Parts.{ChannelPartView, head_hop, part_lanes, part_take
 use Rattle.pl_part.specs.Shares.{executor_of}
 use Rattle.pl_part.proofs.ShareLemmas.{share-taken-none, share-came-same}
 use Rattle.pl_channel.specs.Lanes.{world_of}
-use Rattle.pl_replay.specs.Channels.{executor_at, is_hop, origin_of, taken_of, writes_here, writes_of, came_of}
-use Rattle.pl_replay.specs.Channels.{lanes_of as data_lanes_of, target_of as whole_target}
-use Rattle.pl_replay.specs.Placed.{all_lanes as data_lanes, lanes_between as data_between}
-use Rattle.pl_replay.specs.Starts.{ArePlaced}
-use Rattle.pl_replay.proofs.LanePlaces.{among-between, places-all}
-use Rattle.pl_replay.proofs.Wholes.{written}
+use Rattle.pl_channel.specs.Channels.{executor_at, is_hop, origin_of, taken_of, writes_here, writes_of, came_of, data_lanes_of, target_of}
+use Rattle.pl_channel.specs.Ways.{lanes_between}
+use Rattle.pl_channel.specs.Placing.{ArePlaced}
+use Rattle.pl_channel.proofs.LanePlaces.{among-between, places-all}
+use Rattle.pl_channel.proofs.Wholes.{written}
 use Rattle.pl_world.specs.declared.session.Recorded.{Recorded}
 use Rattle.pl_world.specs.Plans.{Plan, channel_planned}
 use Rattle.pl_world.specs.PlanRules.{IsPlan, IsChannelPlan}
 use Rattle.pl_exec.specs.declared.nodes.OwnNodes.{OwnNodes}
 use Rattle.pl_exec.specs.Lanes.{AreLaid, every_lane, is_lane}
-use Rattle.pl_exec.specs.Opening.{LaneTable, lanes_to, lanes_between, FitsLanes}
-use Rattle.pl_exec.specs.OwnNodes.{nobody, enters, target_of}
+use Rattle.pl_exec.specs.Opening.{LaneTable, lanes_to, table_lanes, FitsLanes}
+use Rattle.pl_exec.specs.OwnNodes.{nobody, enters, entered_executor}
 use Rattle.pl_exec.specs.Sharing.{AreSharesOf, places_at}
 use Rattle.pl_exec.proofs.LaneTablesEvery.{has-any, every-has, every-few}
-use Rattle.pl_exec.proofs.SharesMade.{at-index}
 use Rattle.pl_exec.proofs.SharesStand.{IsPlacedShare, whole-of}
 
 joined-same : {A B C : Type 0} (f : A → List C) (h : B → List C) (xs : List A) (ys : List B) → length xs ≡ length ys → ((i : ℕ) (x : A) (y : B) → slice_get xs i ≡ Some x → slice_get ys i ≡ Some y → f x ≡ h y)
@@ -56,8 +54,8 @@ numbered-at f n i y at =
 -- A table of the lanes between so many executors: it has each that goes from one to another on its way, and no others.
 pub record IsTable {S T : Type 0} (wholes : List (ChannelPartView S T)) (count : ℕ) (lanes : LaneTable) : Type 0 where
   pub size : length lanes ≡ count
-  pub crossing : (x y : ℕ) (l : Lane) → is_lane wholes l ≡ true → origin_of wholes l ≡ x → whole_target wholes l ≡ y → x ≢ y → x < count → y < count → has_lane l (lanes_between lanes x y) ≡ true
-  pub entering : (y : ℕ) (l : Lane) → has_lane l (all_lanes (lanes_to lanes y)) ≡ true → (x : ℕ) × (x ≢ y) × (origin_of wholes l ≡ x) × (whole_target wholes l ≡ y) × (is_lane wholes l ≡ true)
+  pub crossing : (x y : ℕ) (l : Lane) → is_lane wholes l ≡ true → origin_of wholes l ≡ x → target_of wholes l ≡ y → x ≢ y → x < count → y < count → has_lane l (table_lanes lanes x y) ≡ true
+  pub entering : (y : ℕ) (l : Lane) → has_lane l (lanes_of_senders (lanes_to lanes y)) ≡ true → (x : ℕ) × (x ≢ y) × (origin_of wholes l ≡ x) × (target_of wholes l ≡ y) × (is_lane wholes l ≡ true)
 
 module _ {S T : Type 0} (meaning : S → Meaning) (stands_after : S → List Event → Type 0) (state : T → TransportState) (plan : Plan) (rs : List (Recorded S T)) (planned : plan.channels ≡ map (channel_planned meaning state) rs)
     (wholes : List (ChannelPartView S T)) (placed : ArePlaced meaning stands_after state rs wholes) (ruled : IsPlan plan) (x : ℕ) (nodes : OwnNodes S T) (are : AreSharesOf meaning stands_after state wholes x nodes) where
@@ -80,7 +78,7 @@ module _ {S T : Type 0} (meaning : S → Meaning) (stands_after : S → List Eve
       let there = subst (λ (l : List ℕ). hop < length l) same within in
       subst (λ (l : List ℕ). get_or l hop 0 < plan.executors) (sym same) (All-at (λ (e : ℕ). e < plan.executors) p.executors hop (get_or p.executors hop 0) rule.placed (slice_get-get_or p.executors hop 0 there))
 
-  goes-to : (l : Lane) (share : ChannelPartView S T) → slice_get parts l.channel ≡ Some share → (s : IsHere l.channel share) → is_hop s.whole l ≡ true → target_of parts l ≡ executor_at s.whole l.hop
+  goes-to : (l : Lane) (share : ChannelPartView S T) → slice_get parts l.channel ≡ Some share → (s : IsHere l.channel share) → is_hop s.whole l ≡ true → entered_executor parts l ≡ executor_at s.whole l.hop
   goes-to l share at s hop =
       ap (λ (o : Option (ChannelPartView S T)). option_map_or (λ (p : ChannelPartView S T). enters p l) o nobody) at
       ∙ ap (λ (es : List ℕ). enters (record s.whole { path = record s.whole.path { executors = es } }) l) s.is.share_is.path.executors
@@ -129,10 +127,10 @@ module _ {S T : Type 0} (meaning : S → Meaning) (stands_after : S → List Eve
             hop = is.hop;
           }
 
-  target-is : (l : Lane) (o : IsOwn l) → target_of parts l ≡ executor_at o.s.whole l.hop
+  target-is : (l : Lane) (o : IsOwn l) → entered_executor parts l ≡ executor_at o.s.whole l.hop
   target-is l o = goes-to l o.share o.at o.s o.hop
 
-  target-there : (l : Lane) → IsOwn l → target_of parts l < plan.executors
+  target-there : (l : Lane) → IsOwn l → entered_executor parts l < plan.executors
   target-there l o = subst (λ (n : ℕ). n < plan.executors) (sym (target-is l o)) (executor-there l.channel o.share o.s l.hop o.within)
 
   -- as the whole has it
@@ -147,37 +145,37 @@ module _ {S T : Type 0} (meaning : S → Meaning) (stands_after : S → List Eve
       ap (λ (q : Option (ChannelPartView S T)). option_map_or (λ (p : ChannelPartView S T). part_came meaning p l) q nowhere) o.at
       ∙ share-came-same (λ (e : ℕ). e == x) o.s.whole o.share o.s.is.share_is meaning l o.wrote ∙ o.s.is_placed.unmoved.came l o.whole_wrote
 
-  has-place : (l : Lane) → IsOwn l → AreAmong (l ∷ []) (data_between wholes x (target_of parts l))
-  has-place l o = subst (λ (z : ℕ × ℕ). AreAmong (l ∷ []) (data_between wholes z.0 z.1)) (λ i. (o.writer i, sym (target-is l o) i))
+  has-place : (l : Lane) → IsOwn l → AreAmong (l ∷ []) (lanes_between wholes x (entered_executor parts l))
+  has-place l o = subst (λ (z : ℕ × ℕ). AreAmong (l ∷ []) (lanes_between wholes z.0 z.1)) (λ i. (o.writer i, sym (target-is l o) i))
       (among-between wholes l.channel o.s.whole o.s.at o.s.is_placed.whole.channel_is l refl o.within)
 
   -- ---- the places
 
-  same-lanes : data_lanes wholes ≡ data_lanes_of parts
+  same-lanes : data_lanes_of wholes ≡ data_lanes_of parts
   same-lanes = sym (joined-same (λ (p : ChannelPartView S T). part_lanes p) (λ (p : ChannelPartView S T). part_lanes p) parts wholes are.count (λ c share whole at there. (are.each c whole share there at).lanes))
 
-  places-there : (target count : ℕ) → slice_get (places_at wholes plan.executors x).targets target ≡ Some count → HasPlaces (no_stops count) (data_between wholes x target)
+  places-there : (target count : ℕ) → slice_get (places_at wholes plan.executors x).targets target ≡ Some count → HasPlaces (no_stops count) (lanes_between wholes x target)
   places-there target count at =
-      let is = numbered-at (λ (y : ℕ). length (data_between wholes x y)) plan.executors target count at in
-      places-start count (data_between wholes x target) (omega (arith, is))
+      let is = numbered-at (λ (y : ℕ). length (lanes_between wholes x y)) plan.executors target count at in
+      places-start count (lanes_between wholes x target) (omega (arith, is))
 
   -- ---- the table
 
   module _ (laid : AreLaid wholes) (lanes : LaneTable) (table : IsTable wholes plan.executors lanes) (below : x < plan.executors) where
     -- a lane to this executor, which is written elsewhere
-    enters-here : (l : Lane) → has_lane l (all_lanes (lanes_to lanes x)) ≡ true → (target_of parts l ≡ x) × (writes_of meaning parts l ≡ false) × (taken_of parts l ≡ 0)
+    enters-here : (l : Lane) → has_lane l (lanes_of_senders (lanes_to lanes x)) ≡ true → (entered_executor parts l ≡ x) × (writes_of meaning parts l ≡ false) × (taken_of parts l ≡ 0)
     enters-here l has = (goes, false_from_ne_true (writes_of meaning parts l) elsewhere, none-taken l)
       where
-        from : (y : ℕ) × (y ≢ x) × (origin_of wholes l ≡ y) × (whole_target wholes l ≡ x) × (is_lane wholes l ≡ true)
+        from : (y : ℕ) × (y ≢ x) × (origin_of wholes l ≡ y) × (target_of wholes l ≡ x) × (is_lane wholes l ≡ true)
         from = table.entering x l has
 
         elsewhere : writes_of meaning parts l ≡ true → ⊥
         elsewhere w = from.1 (sym from.2 ∙ goes-from l (own l w))
 
-        goes : target_of parts l ≡ x
+        goes : entered_executor parts l ≡ x
         goes = by (slice_get wholes l.channel) refl from.4 from.3
           where
-            by : (o : Option (ChannelPartView S T)) → slice_get wholes l.channel ≡ o → option_map_or (λ (p : ChannelPartView S T). is_hop p l) o false ≡ true → option_map_or (λ (p : ChannelPartView S T). executor_at p l.hop) o 0 ≡ x → target_of parts l ≡ x
+            by : (o : Option (ChannelPartView S T)) → slice_get wholes l.channel ≡ o → option_map_or (λ (p : ChannelPartView S T). is_hop p l) o false ≡ true → option_map_or (λ (p : ChannelPartView S T). executor_at p l.hop) o 0 ≡ x → entered_executor parts l ≡ x
             by None at lane target = absurd (false≢true lane)
             by (Some whole) at lane target =
                 let size = are.count in
@@ -192,23 +190,23 @@ module _ {S T : Type 0} (meaning : S → Meaning) (stands_after : S → List Eve
 
     -- They fit its lanes, and have the places of this executor.
     pub shares-fit : (stands : OwnNodes S T → Type 0) → stands nodes
-        → FitsLanes stands (λ n. n.number) (λ n. data_lanes_of n.parts.items) (λ n l. target_of n.parts.items l) (λ n l. writes_of meaning n.parts.items l) (λ n l. taken_of n.parts.items l) (λ n l. came_of meaning n.parts.items l) (λ n. n.was_refused)
+        → FitsLanes stands (λ n. n.number) (λ n. data_lanes_of n.parts.items) (λ n l. entered_executor n.parts.items l) (λ n l. writes_of meaning n.parts.items l) (λ n l. taken_of n.parts.items l) (λ n l. came_of meaning n.parts.items l) (λ n. n.was_refused)
         lanes x nodes (places_at wholes plan.executors x)
     shares-fit stands stood = record {
       stood = stood;
       at = are.number;
       unrefused = are.unrefused;
       fresh = λ l w. is-fresh l (own l w);
-      there = λ l w. subst (λ (n : ℕ). target_of parts l < n) (sym table.size) (target-there l (own l w));
+      there = λ l w. subst (λ (n : ℕ). entered_executor parts l < n) (sym table.size) (target-there l (own l w));
       own = λ l w to_here. none-taken l;
       away = λ l w off.
           let o = own l w in
-          table.crossing x (target_of parts l) l (of-whole (λ (p : ChannelPartView S T). is_hop p l) false l o ∙ o.hop) (goes-from l o)
+          table.crossing x (entered_executor parts l) l (of-whole (λ (p : ChannelPartView S T). is_hop p l) false l o ∙ o.hop) (goes-from l o)
           (of-whole (λ (p : ChannelPartView S T). executor_at p l.hop) 0 l o ∙ sym (target-is l o)) (λ e. off (sym e)) below (target-there l o);
       entering = enters-here;
-      work = subst (HasPlaces (no_stops (length (data_lanes wholes)))) same-lanes (places-all wholes);
-      targets = length-map-range_with_len (λ (y : ℕ). length (data_between wholes x y)) 0 plan.executors ∙ sym table.size;
-      hops = data_between wholes x;
+      work = subst (HasPlaces (no_stops (length (data_lanes_of wholes)))) same-lanes (places-all wholes);
+      targets = length-map-range_with_len (λ (y : ℕ). length (lanes_between wholes x y)) 0 plan.executors ∙ sym table.size;
+      hops = lanes_between wholes x;
       placed = places-there;
       among = λ l w. has-place l (own l w);
       few = record {

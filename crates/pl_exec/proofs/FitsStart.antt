@@ -11,16 +11,15 @@ use Rattle.pl_queue.specs.declared.views.TakerView.{TakerView}
 use Rattle.pl_head.specs.Transports.{TransportState}
 use Rattle.pl_part.specs.Parts.{ChannelPartView}
 use Rattle.pl_channel.specs.Lanes.{world_of}
-use Rattle.pl_replay.specs.Channels.{taken_of, writes_of, came_of}
-use Rattle.pl_replay.specs.Channels.{lanes_of as data_lanes_of}
-use Rattle.pl_replay.specs.Starts.{ArePlaced}
+use Rattle.pl_channel.specs.Channels.{taken_of, writes_of, came_of, data_lanes_of}
+use Rattle.pl_channel.specs.Placing.{ArePlaced}
 use Rattle.pl_world.specs.declared.session.Recorded.{Recorded}
 use Rattle.pl_world.specs.Plans.{Plan, channel_planned}
 use Rattle.pl_world.specs.PlanRules.{IsPlan}
 use Rattle.pl_exec.specs.declared.nodes.OwnNodes.{OwnNodes}
 use Rattle.pl_exec.specs.Lanes.{AreLaid}
 use Rattle.pl_exec.specs.Opening.{LaneTable, InboxView, WaysView, PlacesView, AreOpened, FitsLanes, CanStart}
-use Rattle.pl_exec.specs.OwnNodes.{target_of, heads_of, NodesStand}
+use Rattle.pl_exec.specs.OwnNodes.{entered_executor, heads_of, NodesStand}
 use Rattle.pl_exec.specs.Sharing.{AreSharesOf, AreShared, places_at, places_of}
 use Rattle.pl_exec.proofs.Fits.{IsTable, numbered-at, shares-fit}
 use Rattle.pl_exec.proofs.SharesStand.{shares-stand}
@@ -42,7 +41,7 @@ module _ {S T : Type 0} (meaning : S → Meaning) (stands_after : S → List Eve
   module _ {M K D : Type 0} (is_taker : M → K → Type 0) (takes_of : K → TakerView) (is_sender : M → D → Type 0) (sends_of : D → SenderView) where
     pub can-start : AreLaid wholes → (inboxes : List (InboxView M)) (ways : List (WaysView K D)) (nodes : List (OwnNodes S T)) (places : List PlacesView) → AreOpened is_taker takes_of is_sender sends_of lanes inboxes ways
         → AreShared meaning stands_after state wholes plan.executors nodes → places ≡ places_of wholes plan.executors
-        → CanStart is_taker takes_of is_sender sends_of Stands (λ n. n.number) (λ n. data_lanes_of n.parts.items) (λ n l. target_of n.parts.items l) (λ n l. writes_of meaning n.parts.items l) (λ n l. taken_of n.parts.items l)
+        → CanStart is_taker takes_of is_sender sends_of Stands (λ n. n.number) (λ n. data_lanes_of n.parts.items) (λ n l. entered_executor n.parts.items l) (λ n l. writes_of meaning n.parts.items l) (λ n l. taken_of n.parts.items l)
         (λ n l. came_of meaning n.parts.items l) (λ n. n.was_refused) inboxes ways nodes places
     can-start laid inboxes ways nodes places opened shared reserved = record {
       lanes = lanes;
@@ -53,7 +52,7 @@ module _ {S T : Type 0} (meaning : S → Meaning) (stands_after : S → List Eve
           let below : x < plan.executors = let within = slice_get_within nodes x part at-part in let size = shared.count in omega (arith, within, size) in
           let are = shared.each x part at-part in
           let is = numbered-at (places_at wholes plan.executors) plan.executors x own (ap (λ (l : List PlacesView). slice_get l x) (sym reserved) ∙ at-own) in
-          subst (λ (v : PlacesView). FitsLanes Stands (λ n. n.number) (λ n. data_lanes_of n.parts.items) (λ n l. target_of n.parts.items l) (λ n l. writes_of meaning n.parts.items l) (λ n l. taken_of n.parts.items l)
+          subst (λ (v : PlacesView). FitsLanes Stands (λ n. n.number) (λ n. data_lanes_of n.parts.items) (λ n l. entered_executor n.parts.items l) (λ n l. writes_of meaning n.parts.items l) (λ n l. taken_of n.parts.items l)
           (λ n l. came_of meaning n.parts.items l) (λ n. n.was_refused) lanes x part v) (sym is)
           (shares-fit meaning stands_after state plan rs planned wholes placed ruled x part are laid lanes table below Stands (stand x part below are));
     }

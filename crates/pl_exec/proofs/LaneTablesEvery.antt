@@ -17,7 +17,7 @@ use Rattle.pl_event.specs.Hops.{data_lane, flags_lane, same_kind, same_lane}
 use Rattle.pl_event.proofs.SameLanes.{same_lane-self}
 use Rattle.pl_part.specs.Parts.{ChannelPartView}
 use Rattle.pl_queue.specs.Views.{has_lane}
-use Rattle.pl_replay.specs.Channels.{is_hop}
+use Rattle.pl_channel.specs.Channels.{is_hop}
 use Rattle.pl_exec.specs.Lanes.{lanes_at, lanes_from, every_lane, is_lane}
 use Rattle.pl_exec.proofs.LaneTablesSums.{sum_by-flat_map, at-one, at-past}
 

@@ -8,8 +8,8 @@ use Rattle.std.proofs.lemmas.List.Elements.{All-map, filter_more}
 use Rattle.std.proofs.lemmas.List.FromFn.{fill_by_all, get_or-map-range_with_len, length-map-range_with_len}
 use Rattle.pl_event.specs.declared.envelopes.Lane.{Lane}
 use Rattle.pl_part.specs.Parts.{ChannelPartView}
-use Rattle.pl_replay.specs.Channels.{origin_of, target_of}
-use Rattle.pl_exec.specs.Opening.{LaneTable, IsSquare, lanes_in, lanes_to, lanes_between}
+use Rattle.pl_channel.specs.Channels.{origin_of, target_of}
+use Rattle.pl_exec.specs.Opening.{LaneTable, IsSquare, lanes_in, lanes_to, table_lanes}
 use Rattle.pl_exec.specs.Lanes.{crosses, table_of, with_lane, with_last}
 
 -- ---- one lane more
@@ -35,13 +35,13 @@ elsewhere sender target x y never = ⊎_elim
 module _ (sender target : ℕ) (lane : Lane) where
   -- a table is known by its lists
   as-grown : (old new : LaneTable) → length new ≡ length old → IsSquare new
-      → ((x y : ℕ) → x < length old → y < length old → lanes_between new x y ≡ lanes_between old x y ++ cond (comes sender target x y) (lane ∷ []) []) → new ≡ with_lane old sender target lane
+      → ((x y : ℕ) → x < length old → y < length old → table_lanes new x y ≡ table_lanes old x y ++ cond (comes sender target x y) (lane ∷ []) []) → new ≡ with_lane old sender target lane
   as-grown old new count square each =
       fill_by_all (λ y. map (grown y) (range_with_len 0 (length old))) new (length old) [] count
       (λ y below. fill_by_all (grown y) (lanes_to new y) (length old) [] (square y [] (omega (arith, below, count)) ∙ count) (λ x under. each x y under below))
     where
       grown : ℕ → ℕ → List Lane
-      grown y x = lanes_between old x y ++ cond (comes sender target x y) (lane ∷ []) []
+      grown y x = table_lanes old x y ++ cond (comes sender target x y) (lane ∷ []) []
 
   same-list : (ls : List Lane) (x y : ℕ) → comes sender target x y ≡ false → ls ≡ ls ++ cond (comes sender target x y) (lane ∷ []) []
   same-list ls x y e = sym (append-nil ls) ∙ ap (λ b. ls ++ cond b (lane ∷ []) []) (sym e)
@@ -50,7 +50,7 @@ module _ (sender target : ℕ) (lane : Lane) where
   pub kept-table : (table : LaneTable) → IsSquare table → (sender ≢ target → sender < length table → target < length table → ⊥) → table ≡ with_lane table sender target lane
   kept-table table square never =
       as-grown table table refl square
-      (λ x y under below. same-list (lanes_between table x y) x y (elsewhere sender target x y (λ apart from to. never (λ e. apart (sym from ∙ e ∙ to)) (omega (arith, under, from)) (omega (arith, below, to)))))
+      (λ x y under below. same-list (table_lanes table x y) x y (elsewhere sender target x y (λ apart from to. never (λ e. apart (sym from ∙ e ∙ to)) (omega (arith, under, from)) (omega (arith, below, to)))))
 
   module _ (table : LaneTable) (square : IsSquare table) (from : sender < length table) (to : target < length table) (apart : sender ≢ target) where
     abbrev row : List (List Lane)
@@ -66,30 +66,30 @@ module _ (sender target : ℕ) (lane : Lane) where
         (λ (e : k ≡ target).
         ap (λ (i : ℕ). length (get_or (set table target row) i d)) e
         ∙ ap length (get_or-set_same table target row d to)
-        ∙ length-set (lanes_to table target) sender (lanes_between table sender target ++ lane ∷ [])
+        ∙ length-set (lanes_to table target) sender (table_lanes table sender target ++ lane ∷ [])
         ∙ width
         ∙ sym count)
         (λ (other : k ≢ target). ap length (get_or-set_other table target k row d other) ∙ square k d (omega (arith, below, count)) ∙ sym count)
         (cases_eq k target)
 
-    added-each : (x y : ℕ) → lanes_between (set table target row) x y ≡ lanes_between table x y ++ cond (comes sender target x y) (lane ∷ []) []
+    added-each : (x y : ℕ) → table_lanes (set table target row) x y ≡ table_lanes table x y ++ cond (comes sender target x y) (lane ∷ []) []
     added-each x y = ⊎_elim
         (λ (e : y ≡ target).
-        ap (λ (i : ℕ). lanes_between (set table target row) x i) e
+        ap (λ (i : ℕ). table_lanes (set table target row) x i) e
         ∙ ap (λ (r : List (List Lane)). get_or r x []) (get_or-set_same table target row [] to)
         ∙ ⊎_elim
         (λ (f : x ≡ sender).
         ap (λ (i : ℕ). get_or row i []) f
-        ∙ get_or-set_same (lanes_to table target) sender (lanes_between table sender target ++ lane ∷ []) [] (omega (arith, from, width))
-        ∙ (λ i. lanes_between table (sym f i) (sym e i) ++ lane ∷ [])
-        ∙ ap (λ b. lanes_between table x y ++ cond b (lane ∷ []) []) (sym (there sender target apart) ∙ (λ i. comes sender target (sym f i) (sym e i))))
+        ∙ get_or-set_same (lanes_to table target) sender (table_lanes table sender target ++ lane ∷ []) [] (omega (arith, from, width))
+        ∙ (λ i. table_lanes table (sym f i) (sym e i) ++ lane ∷ [])
+        ∙ ap (λ b. table_lanes table x y ++ cond b (lane ∷ []) []) (sym (there sender target apart) ∙ (λ i. comes sender target (sym f i) (sym e i))))
         (λ (other : x ≢ sender).
-        get_or-set_other (lanes_to table target) sender x (lanes_between table sender target ++ lane ∷ []) [] other
-        ∙ ap (λ (i : ℕ). lanes_between table x i) (sym e)
-        ∙ same-list (lanes_between table x y) x y (elsewhere sender target x y (λ _ at _. other (sym at))))
+        get_or-set_other (lanes_to table target) sender x (table_lanes table sender target ++ lane ∷ []) [] other
+        ∙ ap (λ (i : ℕ). table_lanes table x i) (sym e)
+        ∙ same-list (table_lanes table x y) x y (elsewhere sender target x y (λ _ at _. other (sym at))))
         (cases_eq x sender))
         (λ (other : y ≢ target).
-        ap (λ (r : List (List Lane)). get_or r x []) (get_or-set_other table target y row [] other) ∙ same-list (lanes_between table x y) x y (elsewhere sender target x y (λ _ _ at. other (sym at))))
+        ap (λ (r : List (List Lane)). get_or r x []) (get_or-set_other table target y row [] other) ∙ same-list (table_lanes table x y) x y (elsewhere sender target x y (λ _ _ at. other (sym at))))
         (cases_eq y target)
 
     added-table : set table target row ≡ with_lane table sender target lane
@@ -144,7 +144,7 @@ module _ {S T : Type 0} (ps : List (ChannelPartView S T)) (lanes : List Lane) (c
   pub made-row : (y : ℕ) → y < count → lanes_to (table_of ps count lanes) y ≡ row-of y
   made-row y below = get_or-map-range_with_len row-of 0 count y y [] below (omega arith)
 
-  pub made-between : (x y : ℕ) → x < count → y < count → lanes_between (table_of ps count lanes) x y ≡ filter (crosses ps x y) lanes
+  pub made-between : (x y : ℕ) → x < count → y < count → table_lanes (table_of ps count lanes) x y ≡ filter (crosses ps x y) lanes
   made-between x y from to = ap (λ senders. get_or senders x []) (made-row y to) ∙ get_or-map-range_with_len (λ x. filter (crosses ps x y) lanes) 0 count x x [] from (omega arith)
 
 -- ---- one lane more is added to the table of those before

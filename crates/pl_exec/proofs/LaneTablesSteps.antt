@@ -10,9 +10,9 @@ use Rattle.std.proofs.lemmas.Option.{slice_get_past, slice_get_read}
 use Rattle.pl_event.specs.declared.envelopes.Lane.{Lane}
 use Rattle.pl_part.specs.Paths.{writer_hop}
 use Rattle.pl_part.specs.Parts.{ChannelPartView}
-use Rattle.pl_replay.specs.Channels.{executor_at, is_hop, origin_of, target_of}
+use Rattle.pl_channel.specs.Channels.{executor_at, is_hop, origin_of, target_of}
 use Rattle.pl_build.specs.declared.limits.TheConstants.{MAX_HANDLERS}
-use Rattle.pl_replay.specs.Placed.{HasExecutors}
+use Rattle.pl_channel.specs.Ways.{HasExecutors}
 use Rattle.pl_exec.specs.Lanes.{AreLaid, every_lane, is_lane, lanes_at, lanes_from}
 use Rattle.pl_exec.proofs.LaneTablesEvery.{there-past}
 

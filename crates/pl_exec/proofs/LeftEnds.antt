@@ -21,12 +21,11 @@ use Rattle.pl_part.specs.Paths.{context_at, is_slot_over, path_over}
 use Rattle.pl_part.specs.Parts.{ChannelPartView, head_hop}
 use Rattle.pl_channel.specs.Lanes.{world_of}
 use Rattle.pl_channel.specs.PlanStand.{PartKeepsPlan}
-use Rattle.pl_replay.specs.Channels.{executor_at}
-use Rattle.pl_world.specs.Plans.{ChannelPlan, Plan, tail_hop}
-use Rattle.pl_world.specs.Plans.{head_hop as planned_head_hop}
+use Rattle.pl_channel.specs.Channels.{executor_at}
+use Rattle.pl_world.specs.Plans.{ChannelPlan, Plan, tail_hop, planned_head_hop}
 use Rattle.pl_world.specs.PlanRules.{IsChannelPlan, IsPlan}
 use Rattle.pl_exec.specs.declared.reporting.Found.{Found}
-use Rattle.pl_exec.specs.OwnNodes.{PartStands, NodesStand, IsPartOver, AreOver}
+use Rattle.pl_exec.specs.OwnNodes.{ShareStands, NodesStand, IsPartOver, AreOver}
 use Rattle.pl_exec.specs.Reported.{IsLeftTail, IsLeftHead, AreLeft, nothing_found, with_part, with_parts}
 use Rattle.pl_exec.proofs.EachWith.{added-at, added-count}
 
@@ -106,7 +105,7 @@ module _ {T : Type 0} (state : T → TransportState) (plan : Plan) where
   -- ---- the nodes of an executor that has ended
 
   module _ {S : Type 0} (meaning : S → Meaning) (stands_after : S → List Event → Type 0) (me : ℕ) (refused : Bool) where
-    module _ (c : ℕ) (p : ChannelPlan) (part : ChannelPartView S T) (stands : PartStands (world_of true plan) meaning stands_after state me refused c part) (keeps : PartKeepsPlan state p part) (over : IsPartOver state part) where
+    module _ (c : ℕ) (p : ChannelPlan) (part : ChannelPartView S T) (stands : ShareStands (world_of true plan) meaning stands_after state me refused c part) (keeps : PartKeepsPlan state p part) (over : IsPartOver state part) where
       -- the tail that is there
       left-tail : (t : TailView) → part.path.tail ≡ Some t → IsLeftTail plan c p t
       left-tail t there =

@@ -1,18 +1,11 @@
 -- What is left of a list, and its front.
-use Rattle.std.proofs.Common.{◌≡◌, ℕ, zero, suc, ◌+◌, ◌<◌, List, [], ◌∷◌, ◌++◌, drop, length, map, slice_get, Some, ⊎_elim, refl, ap, sym, subst, ◌∙◌, arith, add-one, append-nil, append_assoc, length-append, length-drop}
-use Rattle.std.proofs.lemmas.List.{map_push, nil_from_length}
+use Rattle.std.proofs.Common.{◌≡◌, ℕ, zero, suc, ◌+◌, ◌<◌, List, [], ◌∷◌, ◌++◌, drop, length, slice_get, Some, ⊎_elim, ap, sym, subst, ◌∙◌, arith, add-one, append-nil, length-append, length-drop}
+use Rattle.std.proofs.lemmas.List.{nil_from_length}
 use Rattle.std.proofs.lemmas.Option.{slice_get_within}
-use Rattle.pl_event.proofs.Lists.{slice_get-push}
-
-pub at-front : {A : Type 0} (done rest : List A) (x : A) → slice_get (done ++ x ∷ rest) (length done) ≡ Some x
-at-front [] rest x = refl
-at-front (d ∷ ds) rest x = at-front ds rest x
+use Rattle.pl_event.proofs.Lists.{slice_get-push, tail-is, slice_get-behind}
 
 cons-head : {A : Type 0} (x y : A) (xs ys : List A) → x ∷ xs ≡ y ∷ ys → Some x ≡ Some y
 cons-head x y xs ys e = cc
-
-cons-tail : {A : Type 0} (x y : A) (xs ys : List A) → x ∷ xs ≡ y ∷ ys → xs ≡ ys
-cons-tail x y xs ys e = cc
 
 nil-cons : {A : Type 0} (x : A) (xs : List A) → [] ≡ x ∷ xs → ⊥
 nil-cons x xs e = cc
@@ -26,7 +19,7 @@ left-front (y ∷ ys) rest (suc n) x is = left-front ys rest n x is
 drop-suc : {A : Type 0} (xs rest : List A) (n : ℕ) (x : A) → drop n xs ≡ x ∷ rest → drop (suc n) xs ≡ rest
 drop-suc [] rest zero x is = absurd (nil-cons x rest is)
 drop-suc [] rest (suc n) x is = absurd (nil-cons x rest is)
-drop-suc (y ∷ ys) rest zero x is = cons-tail y x ys rest is
+drop-suc (y ∷ ys) rest zero x is = tail-is y x ys rest is
 drop-suc (y ∷ ys) rest (suc n) x is = drop-suc ys rest n x is
 
 pub left-behind : {A : Type 0} (xs rest : List A) (n : ℕ) (x : A) → drop n xs ≡ x ∷ rest → drop (n + 1) xs ≡ rest
@@ -34,7 +27,7 @@ left-behind xs rest n x is = ap (λ (k : ℕ). drop k xs) (add-one n) ∙ drop-s
 
 pub at-next : {A : Type 0} (all done left rest : List A) (x : A) (n : ℕ) → done ++ left ≡ all → left ≡ x ∷ rest → n ≡ length done → slice_get all n ≡ Some x
 at-next {A = A} all done left rest x n whole front place =
-    (λ i. slice_get (sym whole i) (place i)) ∙ ap (λ (l : List A). slice_get (done ++ l) (length done)) front ∙ at-front done rest x
+    (λ i. slice_get (sym whole i) (place i)) ∙ ap (λ (l : List A). slice_get (done ++ l) (length done)) front ∙ slice_get-behind done rest x
 
 -- so there are more than that
 pub next-within : {A : Type 0} (all done left rest : List A) (x : A) (n : ℕ) → done ++ left ≡ all → left ≡ x ∷ rest → n ≡ length done → n < length all
@@ -42,15 +35,6 @@ next-within all done left rest x n whole front place = slice_get_within all n x 
 
 pub all-done : {A : Type 0} (all done left : List A) → left ≡ [] → done ++ left ≡ all → done ≡ all
 all-done {A = A} all done left none whole = sym (append-nil done) ∙ ap (λ (l : List A). done ++ l) (sym none) ∙ whole
-
--- The front is what was made, as it is seen, and the rest is left. One more is made.
-pub seen-more : {A B : Type 0} (view : B → A) (all left rest : List A) (made after : List B) (x : A) (new : B) → map view made ++ left ≡ all → left ≡ x ∷ rest → after ≡ made ++ new ∷ [] → view new ≡ x → map view after ++ rest ≡ all
-seen-more {A = A} {B = B} view all left rest made after x new was front grown is =
-    ap (λ (l : List B). map view l ++ rest) grown
-    ∙ ap (λ (l : List A). l ++ rest) (map_push view made new)
-    ∙ append_assoc (map view made) (view new ∷ []) rest
-    ∙ ap (λ (y : A). map view made ++ y ∷ rest) is
-    ∙ ap (λ (l : List A). map view made ++ l) (sym front) ∙ was
 
 -- of two lists one has as many as the other behind their first
 pub both-behind : {A B : Type 0} (xs xs' : List A) (ys ys' : List B) (x : A) (y : B) → length ys ≡ length xs → xs ≡ x ∷ xs' → ys ≡ y ∷ ys' → length ys' ≡ length xs'

@@ -22,10 +22,10 @@ use Rattle.pl_channel.specs.Lanes.{world_of}
 use Rattle.pl_channel.specs.PlanStand.{PartKeepsPlan}
 use Rattle.pl_channel.proofs.HeadLanes.{HeadBegins, part-begins}
 use Rattle.pl_channel.proofs.PlanLemmas.{part-takes-keeps, part-reads-keeps, part-writes-keeps}
-use Rattle.pl_replay.specs.Channels.{lanes_of}
-use Rattle.pl_replay.proofs.HeadMoves.{read-idle}
-use Rattle.pl_replay.proofs.OneChannel.{changed, at-was, among-joined}
-use Rattle.pl_exec.specs.OwnNodes.{NoneRefused, NodesStand, enters, nobody, target_of}
+use Rattle.pl_channel.specs.Channels.{data_lanes_of}
+use Rattle.pl_channel.proofs.HeadMoves.{read-idle}
+use Rattle.pl_channel.proofs.OneChannel.{changed, at-was, among-joined}
+use Rattle.pl_exec.specs.OwnNodes.{NoneRefused, NodesStand, enters, nobody, entered_executor}
 use Rattle.pl_exec.proofs.OwnNodeLemmas.{own-stands, enters-here, head-there, nodes-stand, refused-keeps}
 use Rattle.pl_exec.proofs.CallLemmas.{take-refuses-none}
 use Rattle.pl_world.specs.Plans.{ChannelPlan, Plan}
@@ -56,13 +56,13 @@ move-path state may_refuse p p' b a head.Out made m = m.writes.path
 module _ {S T : Type 0} (ps : List (ChannelPartView S T)) (c : ℕ) (p p' : ChannelPartView S T) (was : slice_get ps c ≡ Some p) where
   -- what one has put stays within the places
   pub places-stay : (b a : OutputsView) → ((lanes : List Lane) → AreAmong (part_lanes p) lanes → HasPlaces b.stopped lanes → HasPlaces a.stopped lanes)
-      → (hops : List Lane) → AreAmong (lanes_of ps) hops → HasPlaces b.stopped hops → HasPlaces a.stopped hops
+      → (hops : List Lane) → AreAmong (data_lanes_of ps) hops → HasPlaces b.stopped hops → HasPlaces a.stopped hops
   places-stay b a placed hops among places = placed hops (λ l any. among l (among-joined (λ (q : ChannelPartView S T). part_lanes q) ps c p was l any)) places
 
   module _ (world : World) (plan : Plan) (meaning : S → Meaning) (stands_after : S → List Event → Type 0) (is_spent : S → Bool) (state : T → TransportState) (me : ℕ) (refused : Bool)
       (stand : NodesStand world plan meaning stands_after state me refused ps) where
     -- one has taken what is for this executor
-    pub take-stands : (e : Envelope) (b : OutputsView) (answer : Took) (a : OutputsView) → e.lane.channel ≡ c → target_of ps e.lane ≡ me → IsGood world e → Taken meaning stands_after state is_spent p e b answer p' a
+    pub take-stands : (e : Envelope) (b : OutputsView) (answer : Took) (a : OutputsView) → e.lane.channel ≡ c → entered_executor ps e.lane ≡ me → IsGood world e → Taken meaning stands_after state is_spent p e b answer p' a
         → NodesStand world plan meaning stands_after state me refused (changed ps c p p' was)
     take-stands e b answer a of here good t =
         let own = own-stands ps c p p' was world plan meaning stands_after state me refused stand in

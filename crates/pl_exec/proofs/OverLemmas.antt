@@ -8,12 +8,12 @@ use Rattle.pl_flow.specs.declared.moves.HeadMove.TheVariants as head
 use Rattle.pl_head.specs.declared.heads.ReadStep.TheVariants as reading
 use Rattle.pl_head.specs.Transports.{TransportState}
 use Rattle.pl_head.specs.Marks.{Change}
-use Rattle.pl_head.specs.HeadStand.{HeadView, StandsAfter, is_idle}
+use Rattle.pl_head.specs.HeadStand.{HeadView, HeadStandsAfter, is_idle}
 use Rattle.pl_event.specs.declared.events.Event.{Event}
 use Rattle.pl_event.specs.Meaning.{Meaning}
 use Rattle.pl_event.specs.Worlds.{World}
 use Rattle.pl_part.specs.Parts.{ChannelPartView, PartHolds, PartMoves}
-use Rattle.pl_replay.proofs.HeadMoves.{may-move}
+use Rattle.pl_channel.proofs.HeadMoves.{may-move}
 use Rattle.pl_exec.specs.OwnNodes.{MayMoveHere, IsPartOver, AreOver}
 
 done-gave : reading.Done ≡ reading.Gave → ⊥
@@ -34,7 +34,7 @@ module _ {S T : Type 0} (state : T → TransportState) (may_refuse : T → ℕ �
 
 -- where a part is over, its head is written out
 pub written-over : {S T : Type 0} (world : World) (meaning : S → Meaning) (stands_after : S → List Event → Type 0) (state : T → TransportState) (p : ChannelPartView S T) → PartHolds world meaning stands_after state p → IsPartOver state p
-    → (b : Bool) → ((h : HeadView T) (ys zs : List Event) (sizes : List Change) → p.head ≡ Some h → StandsAfter state h ys zs sizes → b ≡ is_idle state h ys) → (p.head ≡ None → b ≡ true) → b ≡ true
+    → (b : Bool) → ((h : HeadView T) (ys zs : List Event) (sizes : List Change) → p.head ≡ Some h → HeadStandsAfter state h ys zs sizes → b ≡ is_idle state h ys) → (p.head ≡ None → b ≡ true) → b ≡ true
 written-over world meaning stands_after state p holds over b some none = by p.head refl
   where
     by : (o : Option (HeadView _)) → p.head ≡ o → b ≡ true

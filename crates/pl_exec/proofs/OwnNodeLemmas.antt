@@ -25,12 +25,12 @@ use Rattle.pl_part.specs.Paths.{context_at, enters_path, writer_hop}
 use Rattle.pl_part.specs.Parts.{ChannelPartView, PartHolds, SamePart, head_hop, has_entered, part_taken, part_writes, part_came, writes_at}
 use Rattle.pl_part.specs.PartCalls.{IsNextFor}
 use Rattle.pl_channel.specs.PlanStand.{PartKeepsPlan}
-use Rattle.pl_replay.specs.Channels.{executor_at, is_hop, lanes_of, taken_of, writes_here, writes_of, came_of}
-use Rattle.pl_replay.proofs.OneChannel.{changed, at-was, at-is, unchanged, places-of, routes, same-hops, same-executor}
-use Rattle.pl_replay.proofs.Wholes.{written, hop-last, hop-before}
-use Rattle.pl_executor.specs.Parts.{PartKeeps}
+use Rattle.pl_channel.specs.Channels.{executor_at, is_hop, data_lanes_of, taken_of, writes_here, writes_of, came_of}
+use Rattle.pl_channel.proofs.OneChannel.{changed, at-was, at-is, unchanged, places-of, lanes-stay, writes-stay, same-hops, same-executor}
+use Rattle.pl_channel.proofs.Wholes.{written, hop-last, hop-before}
+use Rattle.pl_threads.specs.Keeping.{NodesKeep}
 use Rattle.pl_exec.specs.declared.nodes.OwnNodes.{OwnNodes}
-use Rattle.pl_exec.specs.OwnNodes.{nobody, enters, target_of, has_node, IsResident, NoneRefused, PartStands, NodesStand}
+use Rattle.pl_exec.specs.OwnNodes.{nobody, enters, entered_executor, has_node, IsResident, NoneRefused, ShareStands, NodesStand}
 use Rattle.pl_world.specs.Plans.{ChannelPlan, Plan}
 
 -- ---- lists
@@ -86,7 +86,7 @@ module _ {S T : Type 0} (me c : ℕ) (p : ChannelPartView S T) (resident : IsRes
           (cases_Bool (l.hop == head_hop p))
 
 -- where a lane enters this executor there is its channel
-pub channel-here : {S T : Type 0} (ps : List (ChannelPartView S T)) (me : ℕ) (l : Lane) → me < nobody → target_of ps l ≡ me → l.channel < length ps
+pub channel-here : {S T : Type 0} (ps : List (ChannelPartView S T)) (me : ℕ) (l : Lane) → me < nobody → entered_executor ps l ≡ me → l.channel < length ps
 channel-here ps me l small here = by (slice_get ps l.channel) refl here
   where
     by : (o : Option (ChannelPartView _ _)) → slice_get ps l.channel ≡ o → option_map_or (λ (p : ChannelPartView _ _). enters p l) o nobody ≡ me → l.channel < length ps
@@ -95,36 +95,34 @@ channel-here ps me l small here = by (slice_get ps l.channel) refl here
 
 -- What no call changes of them: where lanes go, which they write, and how many heads are here.
 abbrev pub OwnKeeps : {S T : Type 0} → (S → Meaning) → OwnNodes S T → OwnNodes S T → Type 0
-OwnKeeps meaning = PartKeeps (λ n l. target_of n.parts.items l) (λ n l. writes_of meaning n.parts.items l) (λ n. n.number) (λ n. lanes_of n.parts.items) (λ n. length n.own.items)
+OwnKeeps meaning = NodesKeep (λ n l. entered_executor n.parts.items l) (λ n l. writes_of meaning n.parts.items l) (λ n. n.number) (λ n. data_lanes_of n.parts.items) (λ n. length n.own.items)
 
 -- ---- one of all parts
 
 module _ {S T : Type 0} (ps : List (ChannelPartView S T)) (c : ℕ) (p p' : ChannelPartView S T) (was : slice_get ps c ≡ Some p) where
-  pub targets-stay : SamePart p p' → (l : Lane) → target_of (changed ps c p p' was) l ≡ target_of ps l
+  pub targets-stay : SamePart p p' → (l : Lane) → entered_executor (changed ps c p p' was) l ≡ entered_executor ps l
   targets-stay same l = unchanged ps c p p' was (λ (q : ChannelPartView S T). enters q l) nobody (same-enters p p' same l) l.channel
 
   pub nodes-keep : (meaning : S → Meaning) {n n' : OwnNodes S T} → n.parts.items ≡ ps → n'.parts.items ≡ changed ps c p p' was → n'.number ≡ n.number → n'.own ≡ n.own
       → SamePart p p' → ((l : Lane) → part_writes meaning p' l ≡ part_writes meaning p l) → OwnKeeps meaning n n'
-  nodes-keep meaning before after number own same writes =
-      let r = routes ps c p p' was meaning same writes in
-      record {
-        routes = λ l. ap (λ (xs : List (ChannelPartView S T)). target_of xs l) after ∙ targets-stay same l ∙ ap (λ (xs : List (ChannelPartView S T)). target_of xs l) (sym before);
-        written = λ l. ap (λ (xs : List (ChannelPartView S T)). writes_of meaning xs l) after ∙ r.writes l ∙ ap (λ (xs : List (ChannelPartView S T)). writes_of meaning xs l) (sym before);
-        homes = number;
-        hops = ap (λ (xs : List (ChannelPartView S T)). lanes_of xs) after ∙ r.lanes ∙ ap (λ (xs : List (ChannelPartView S T)). lanes_of xs) (sym before);
-        counts = ap (λ (v : Vec ℕ). length v.items) own;
-      }
+  nodes-keep meaning before after number own same writes = record {
+    routes = λ l. ap (λ (xs : List (ChannelPartView S T)). entered_executor xs l) after ∙ targets-stay same l ∙ ap (λ (xs : List (ChannelPartView S T)). entered_executor xs l) (sym before);
+    written = λ l. ap (λ (xs : List (ChannelPartView S T)). writes_of meaning xs l) after ∙ writes-stay ps c p p' was same meaning writes l ∙ ap (λ (xs : List (ChannelPartView S T)). writes_of meaning xs l) (sym before);
+    homes = number;
+    hops = ap (λ (xs : List (ChannelPartView S T)). data_lanes_of xs) after ∙ lanes-stay ps c p p' was same ∙ ap (λ (xs : List (ChannelPartView S T)). data_lanes_of xs) (sym before);
+    counts = ap (λ (v : Vec ℕ). length v.items) own;
+  }
 
   pub count-stays : length (changed ps c p p' was) ≡ length ps
   count-stays = length-set ps c p'
 
   module _ (world : World) (plan : Plan) (meaning : S → Meaning) (stands_after : S → List Event → Type 0) (state : T → TransportState) (me : ℕ) (refused : Bool) where
     module _ (stand : NodesStand world plan meaning stands_after state me refused ps) where
-      pub own-stands : PartStands world meaning stands_after state me refused c p
+      pub own-stands : ShareStands world meaning stands_after state me refused c p
       own-stands = stand.parts c p was
 
       -- what is for this executor is the next for its part
-      pub next-here : (e : Envelope) (b : OutputsView) → e.lane.channel ≡ c → target_of ps e.lane ≡ me → e.number ≡ taken_of ps e.lane → IsGood world e → HasPlaces b.stopped (lanes_of ps)
+      pub next-here : (e : Envelope) (b : OutputsView) → e.lane.channel ≡ c → entered_executor ps e.lane ≡ me → e.number ≡ taken_of ps e.lane → IsGood world e → HasPlaces b.stopped (data_lanes_of ps)
           → IsNextFor world meaning stands_after state p e b
       next-here e b of here number good places = record {
         holds = own-stands.holds;
@@ -160,7 +158,7 @@ module _ {S T : Type 0} (ps : List (ChannelPartView S T)) (c : ℕ) (p p' : Chan
         number = stand.number;
       }
         where
-          here : PartStands world meaning stands_after state me later c p'
+          here : ShareStands world meaning stands_after state me later c p'
           here = record {
             holds = holds;
             channel = same.path.channel ∙ own-stands.channel;
@@ -169,14 +167,14 @@ module _ {S T : Type 0} (ps : List (ChannelPartView S T)) (c : ℕ) (p p' : Chan
             called = called;
           }
 
-          weaker : (k : ℕ) (q : ChannelPartView S T) → PartStands world meaning stands_after state me refused k q → PartStands world meaning stands_after state me later k q
+          weaker : (k : ℕ) (q : ChannelPartView S T) → ShareStands world meaning stands_after state me refused k q → ShareStands world meaning stands_after state me later k q
           weaker k q s = record { holds = s.holds; channel = s.channel; within = s.within; resident = s.resident; called = λ e. s.called (still e) }
 
-          parts : (k : ℕ) (q : ChannelPartView S T) → slice_get (changed ps c p p' was) k ≡ Some q → PartStands world meaning stands_after state me later k q
+          parts : (k : ℕ) (q : ChannelPartView S T) → slice_get (changed ps c p p' was) k ≡ Some q → ShareStands world meaning stands_after state me later k q
           parts k q at = elim (eqb_tells k c) [
             | inl is ↦
                 let own = at_set_same ps c p' q (subst (λ (i : ℕ). slice_get (changed ps c p p' was) i ≡ Some q) is.1 at) in
-                subst (λ (z : ℕ × ChannelPartView S T). PartStands world meaning stands_after state me later z.0 z.1) (λ i. (sym is.1 i, sym own i)) here
+                subst (λ (z : ℕ × ChannelPartView S T). ShareStands world meaning stands_after state me later z.0 z.1) (λ i. (sym is.1 i, sym own i)) here
             | inr other ↦ weaker k q (stand.parts k q (at_set_other ps c k p' q other.1 at))
           ]
 

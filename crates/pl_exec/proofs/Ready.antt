@@ -3,61 +3,46 @@ use Rattle.std.proofs.Common.{◌≡◌, ℕ, suc, ◌+◌, ◌<◌, ◌≤◌, 
 use Rattle.std.specs.Prelude.{All}
 use Rattle.std.specs.List.{AllZip, range_with_len}
 use Rattle.std.specs.Option.{option_map}
-use Rattle.std.proofs.lemmas.Option.{slice_get_within, slice_get-map}
+use Rattle.std.proofs.lemmas.Option.{slice_get-map}
 use Rattle.std.proofs.lemmas.List.{length-map}
 use Rattle.pl_build.specs.declared.limits.TheConstants.{MAX_HANDLERS}
 use Rattle.pl_channel.specs.Lanes.{world_of}
 use Rattle.pl_event.specs.declared.events.Event.{Event}
 use Rattle.pl_event.specs.Meaning.{Meaning}
-use Rattle.pl_event.proofs.Lists.{All-at}
+use Rattle.pl_event.proofs.Lists.{All-at, All-from-at, at-index}
 use Rattle.pl_event.specs.Worlds.{World}
-use Rattle.pl_executor.specs.Running.{ExecutorView, FinishedView, EndsAs}
+use Rattle.pl_threads.specs.Running.{ExecutorView, FinishedView, EndsAs}
 use Rattle.pl_head.specs.Transports.{TransportState}
 use Rattle.pl_part.specs.Parts.{ChannelPartView}
 use Rattle.pl_queue.specs.declared.views.SenderView.{SenderView}
 use Rattle.pl_queue.specs.declared.views.TakerView.{TakerView}
-use Rattle.pl_replay.specs.Channels.{taken_of, writes_of, came_of}
-use Rattle.pl_replay.specs.Channels.{lanes_of as data_lanes_of}
-use Rattle.pl_replay.specs.Placed.{ArePlaceable, HasExecutors, all_lanes}
-use Rattle.pl_replay.specs.Starts.{IsPlaced}
-use Rattle.pl_replay.proofs.NetStarts.{All-from-at, all-have-executors, lanes-few}
-use Rattle.pl_world.specs.declared.session.Recorded.{Recorded}
+use Rattle.pl_channel.specs.Channels.{taken_of, writes_of, came_of, data_lanes_of}
+use Rattle.pl_channel.specs.Ways.{ArePlaceable}
+use Rattle.pl_channel.proofs.PlacedParts.{placeable, recorded-at}
 use Rattle.pl_world.specs.Plans.{Plan, channel_planned}
 use Rattle.pl_exec.specs.declared.nodes.OwnNodes.{OwnNodes}
 use Rattle.pl_exec.specs.Lanes.{AreLaid, lane_table}
 use Rattle.pl_exec.specs.Opening.{LaneTable, InboxView, WaysView, PlacesView, IsSquare, CanOpen, CanOpenAll, AreOpened, IsFirst, CanStart}
-use Rattle.pl_exec.specs.OwnNodes.{target_of}
+use Rattle.pl_exec.specs.OwnNodes.{entered_executor}
 use Rattle.pl_exec.specs.Sharing.{AreShared, places_of}
 use Rattle.pl_exec.specs.Starting.{AreReady}
 use Rattle.pl_exec.proofs.Fits.{IsTable}
 use Rattle.pl_exec.proofs.FitsStart.{Stands, can-start}
-use Rattle.pl_exec.proofs.SharesMade.{at-index}
 use Rattle.pl_exec.proofs.LaneTables.{table-square, table-length, table-open, crossing-there, entering-crosses}
 
 module _ {S T : Type 0} (meaning : S → Meaning) (stands_after : S → List Event → Type 0) (state : T → TransportState) (plan : Plan) (parts : List (ChannelPartView S T)) (ready : AreReady meaning stands_after state plan parts) where
   pub ready-count : length parts ≡ length plan.channels
   ready-count = ready.placed.count ∙ sym (length-map ready.recorded (channel_planned meaning state)) ∙ sym (ap length ready.planned)
 
-  ready-hops : All HasExecutors parts
-  ready-hops = all-have-executors meaning stands_after state plan ready.recorded ready.planned parts ready.placed
-
-  ready-few : length (all_lanes parts) < 2 ^ 16
-  ready-few = lanes-few meaning stands_after state plan ready.recorded ready.planned parts ready.placed ready.small
-
-  placed-at : (c : ℕ) (part : ChannelPartView S T) → slice_get parts c ≡ Some part → (r : Recorded S T) × IsPlaced meaning stands_after state c r part
-  placed-at c part at =
-      let r = at-index ready.recorded c (let size = ready.placed.count in let within = slice_get_within parts c part at in omega (arith, size, within)) in
-      (r.0, ready.placed.each c r.0 part r.1 at)
-
   pub ready-placeable : ArePlaceable parts
-  ready-placeable = record { few = ready-few; hops = ready-hops }
+  ready-placeable = placeable meaning stands_after state plan ready.recorded ready.planned parts ready.placed ready.small
 
   pub ready-laid : AreLaid parts
   ready-laid = record {
     channels = let size = ready.placed.count in let few = ready.channels in omega (arith, size, few);
-    hops = ready-hops;
+    hops = ready-placeable.hops;
     few = All-from-at (λ (p : ChannelPartView S T). length p.path.executors ≤ MAX_HANDLERS + 2) parts (λ c part at.
-        let whole = (placed-at c part at).1.whole in
+        let whole = (recorded-at meaning stands_after state plan ready.recorded ready.planned parts ready.placed c part at).3.whole in
         let same = ap length whole.executors_are in
         let hops = whole.hops in
         let few = whole.few in
@@ -71,25 +56,25 @@ numbered-in-order f (x ∷ xs) first each =
     ap₂ (λ (n : ℕ) (ns : List ℕ). n ∷ ns) (each 0 x refl ∙ omega arith) (numbered-in-order f xs (first + 1) (λ i y at. each (suc i) y at ∙ omega arith))
 
 -- Executors with these parts, each with the number of its place, are numbered from 0 on.
-pub executors-in-order : {P N : Type 0} (first : P → ExecutorView N) (executors : List P) (nodes : List N) (count : ℕ) → map (λ e. (first e).part) executors ≡ nodes → length nodes ≡ count
+pub executors-in-order : {P N : Type 0} (first : P → ExecutorView N) (executors : List P) (nodes : List N) (count : ℕ) → map (λ e. (first e).nodes) executors ≡ nodes → length nodes ≡ count
     → ((y : ℕ) (e : ExecutorView N) → slice_get (map first executors) y ≡ Some e → IsFirst y e) → map (λ e. (first e).number) executors ≡ range_with_len 0 count
 executors-in-order {P = P} {N = N} first executors nodes count parts size numbered =
     numbered-in-order (λ (e : P). (first e).number) executors 0 (λ i e at. (numbered i (first e) (slice_get-map first executors i ∙ ap (option_map first) at)).numbered ∙ omega arith)
-    ∙ ap (range_with_len 0) (sym (length-map executors (λ (e : P). (first e).part)) ∙ ap length parts ∙ size)
+    ∙ ap (range_with_len 0) (sym (length-map executors (λ (e : P). (first e).nodes)) ∙ ap length parts ∙ size)
 
 -- The nodes of executors that have ended are those of their numbers, in their order.
 pub ended-homes : {P N : Type 0} (first : P → ExecutorView N) (was_refused : N → Bool) (home : N → ℕ) (executors : List P) (all : List (FinishedView N)) → AllZip (λ e f. EndsAs was_refused home (first e).number (first e).owner f) executors all
-    → map (λ f. home f.part) all ≡ map (λ e. (first e).number) executors
+    → map (λ f. home f.nodes) all ≡ map (λ e. (first e).number) executors
 ended-homes first was_refused home [] [] h = refl
 ended-homes first was_refused home [] (f ∷ fs) h = absurd h
 ended-homes first was_refused home (e ∷ es) [] h = absurd h
 ended-homes first was_refused home (e ∷ es) (f ∷ fs) h = ap₂ (λ (n : ℕ) (ns : List ℕ). n ∷ ns) h.0.at_home (ended-homes first was_refused home es fs h.1)
 
 -- What holds of the first turn of each such executor holds of the turn 0 of each number.
-pub first-turns : {P N : Type 0} (first : P → ExecutorView N) (executors : List P) (nodes : List N) (count : ℕ) (W : ℕ → ℕ → Type 0) → map (λ e. (first e).part) executors ≡ nodes → length nodes ≡ count
+pub first-turns : {P N : Type 0} (first : P → ExecutorView N) (executors : List P) (nodes : List N) (count : ℕ) (W : ℕ → ℕ → Type 0) → map (λ e. (first e).nodes) executors ≡ nodes → length nodes ≡ count
     → ((y : ℕ) (e : ExecutorView N) → slice_get (map first executors) y ≡ Some e → IsFirst y e) → All (λ e. W (first e).number (first e).turns) executors → (y : ℕ) → y < count → W y 0
 first-turns {P = P} {N = N} first executors nodes count W parts size numbered told y lt =
-    let long = sym (length-map executors (λ (e : P). (first e).part)) ∙ ap length parts ∙ size in
+    let long = sym (length-map executors (λ (e : P). (first e).nodes)) ∙ ap length parts ∙ size in
     let here = at-index executors y (omega (arith, long, lt)) in
     let is = numbered y (first here.0) (slice_get-map first executors y ∙ ap (option_map first) here.1) in
     subst (λ t. W y t) is.turns (subst (λ n. W n (first here.0).turns) is.numbered (All-at (λ (e : P). W (first e).number (first e).turns) executors y here.0 told here.1))
@@ -121,7 +106,7 @@ module _ {S T : Type 0} (meaning : S → Meaning) (stands_after : S → List Eve
     pub ready-start : (inboxes : List (InboxView M)) (ways : List (WaysView K D)) (nodes : List (OwnNodes S T)) (places : List PlacesView) → AreOpened is_taker takes_of is_sender sends_of lanes inboxes ways
         → AreShared meaning stands_after state parts count nodes → places ≡ places_of parts count
         → CanStart is_taker takes_of is_sender sends_of (Stands meaning stands_after state world plan is_world ready.recorded ready.planned parts ready.placed ready.ruled ready.executors lanes table-is) (λ n. n.number)
-        (λ n. data_lanes_of n.parts.items) (λ n l. target_of n.parts.items l) (λ n l. writes_of meaning n.parts.items l) (λ n l. taken_of n.parts.items l) (λ n l. came_of meaning n.parts.items l) (λ n. n.was_refused)
+        (λ n. data_lanes_of n.parts.items) (λ n l. entered_executor n.parts.items l) (λ n l. writes_of meaning n.parts.items l) (λ n l. taken_of n.parts.items l) (λ n l. came_of meaning n.parts.items l) (λ n. n.was_refused)
         inboxes ways nodes places
     ready-start inboxes ways nodes places opened shared reserved =
         can-start meaning stands_after state world plan is_world ready.recorded ready.planned parts ready.placed ready.ruled ready.executors lanes table-is is_taker takes_of is_sender sends_of

@@ -5,7 +5,7 @@ use Rattle.std.specs.Prelude.{All}
 use Rattle.std.specs.Option.{option_map}
 use Rattle.std.proofs.lemmas.List.{length-map, map-append, append-nil}
 use Rattle.std.proofs.lemmas.Option.{none-some, same_Some, slice_get_within, slice_get-get_or, slice_get-map, get_or_from_slice_get}
-use Rattle.pl_event.proofs.Lists.{slice_get-push, All-at}
+use Rattle.pl_event.proofs.Lists.{slice_get-push, All-at, slice_get-behind}
 use Rattle.pl_event.specs.declared.envelopes.Lane.{Lane}
 use Rattle.pl_queue.specs.declared.views.SenderView.{SenderView}
 use Rattle.pl_queue.specs.declared.views.TakerView.{TakerView}
@@ -14,8 +14,8 @@ use Rattle.pl_queue.specs.Views.{fresh_sends}
 use Rattle.pl_words.specs.Names.{Name}
 use Rattle.pl_words.specs.Admissions.{SendSeatView, new_send_seat}
 use Rattle.pl_exec.proofs.EachWith.{added-at, added-count}
-use Rattle.pl_exec.proofs.ListSteps.{at-front, both-push}
-use Rattle.pl_exec.specs.Opening.{LaneTable, lanes_in, lanes_to, lanes_between, IsSquare, InboxView, WayView, WaysView, with_way, with_row, with_rows, IsOwn, IsRow, AreRows, HasWays, AreOpened}
+use Rattle.pl_exec.proofs.ListSteps.{both-push}
+use Rattle.pl_exec.specs.Opening.{LaneTable, lanes_in, lanes_to, table_lanes, IsSquare, InboxView, WayView, WaysView, with_way, with_row, with_rows, IsOwn, AreWaysTo, AreRows, HasWays, AreOpened}
 
 -- ---- the lanes to the next target
 
@@ -30,7 +30,7 @@ pub next-senders : (all done left rest : List (Vec (Vec Lane))) (senders : Vec (
 next-senders all done left rest senders whole front =
     slice_get-map senders_in all (length done)
     ∙ ap (λ (l : List (Vec (Vec Lane))). option_map senders_in (slice_get l (length done))) (sym whole ∙ ap (λ (t : List (Vec (Vec Lane))). done ++ t) front)
-    ∙ ap (option_map senders_in) (at-front done rest senders)
+    ∙ ap (option_map senders_in) (slice_get-behind done rest senders)
 
 pub whole-senders : (all : List (Vec (Vec Lane))) (k : ℕ) (senders : Vec (Vec Lane)) → IsSquare (lanes_in all) → slice_get (lanes_in all) k ≡ Some (senders_in senders) → (length senders.items ≡ length all) × (k < length all)
 whole-senders all k senders square found =
@@ -99,7 +99,7 @@ module _ {M T S : Type 0} (is_taker : M → T → Type 0) (takes_of : T → Take
   -- each sender of a mailbox has a seat of its admission
   pub row-is : (mailbox : M) (name : Name) (senders : List (List Lane)) (ways : List (WayView S)) (made : List S) (seats : List SendSeatView)
       → map (λ w. w.sender) ways ≡ made → map (λ w. w.seat) ways ≡ seats → Each (is_sender mailbox) made → map sends_of made ≡ map fresh_sends senders
-      → All (λ s. s ≡ new_send_seat name s.number) seats → IsRow is_taker takes_of is_sender sends_of (record { mailbox = mailbox; name = name }) senders ways
+      → All (λ s. s ≡ new_send_seat name s.number) seats → AreWaysTo is_taker takes_of is_sender sends_of (record { mailbox = mailbox; name = name }) senders ways
   row-is mailbox name senders ways made seats are_made are_seats senders_are sends_are new = record {
     each = λ sender lanes way planned found.
         let sender-at : slice_get made sender ≡ Some way.sender = ap (λ l. slice_get l sender) (sym are_made) ∙ slice_get-map (λ (w : WayView S). w.sender) ways sender ∙ ap (option_map (λ (w : WayView S). w.sender)) found in
@@ -122,7 +122,7 @@ module _ {M T S : Type 0} (is_taker : M → T → Type 0) (takes_of : T → Take
 
   module _ (lanes first : LaneTable) (inboxes : List (InboxView M)) (all : List (WaysView T S)) (rows : List (List (WayView S))) (are : AreRows is_taker takes_of is_sender sends_of lanes first inboxes all rows)
       (senders : List (List Lane)) (next : lanes_to lanes (length first) ≡ senders) (inbox : InboxView M) (w : WaysView T S) (row : List (WayView S))
-      (own : IsOwn is_taker takes_of is_sender sends_of inbox senders w) (none : w.ways ≡ []) (count : length row ≡ length lanes) (ways : IsRow is_taker takes_of is_sender sends_of inbox senders row) where
+      (own : IsOwn is_taker takes_of is_sender sends_of inbox senders w) (none : w.ways ≡ []) (count : length row ≡ length lanes) (ways : AreWaysTo is_taker takes_of is_sender sends_of inbox senders row) where
     longer : {A : Type 0} (xs : List A) (x : A) → length xs ≡ length first → length (xs ++ x ∷ []) ≡ length (first ++ senders ∷ [])
     longer xs x same = omega (arith, same, length-append xs (x ∷ []), length-append first (senders ∷ []))
 
@@ -140,14 +140,14 @@ module _ {M T S : Type 0} (is_taker : M → T → Type 0) (takes_of : T → Take
           (λ (a : slice_get rows target ≡ Some r). are.count target r a)
           (λ (a : (target ≡ length rows) × (r ≡ row)). ap (λ (z : List (WayView S)). length z) a.1 ∙ count)
           (slice_get-push rows row r target found);
-      ways = both-push (λ target i r. IsRow is_taker takes_of is_sender sends_of i (lanes_to lanes target) r) inboxes rows inbox row (are.inboxes_count ∙ sym are.rows_count) are.ways
-          (subst (λ (z : List (List Lane)). IsRow is_taker takes_of is_sender sends_of inbox z row) (to-next are.inboxes_count) ways);
+      ways = both-push (λ target i r. AreWaysTo is_taker takes_of is_sender sends_of i (lanes_to lanes target) r) inboxes rows inbox row (are.inboxes_count ∙ sym are.rows_count) are.ways
+          (subst (λ (z : List (List Lane)). AreWaysTo is_taker takes_of is_sender sends_of inbox z row) (to-next are.inboxes_count) ways);
     }
 
   -- the same of what a list of inboxes and a list of rows show
   pub rows-next : {I R : Type 0} (view : I → InboxView M) (items : R → List (WayView S)) (table : LaneTable) (done : List (Vec (Vec Lane))) (senders : Vec (Vec Lane)) (inboxes inboxes' : List I) (all all' : List (WaysView T S)) (rows rows' : List R)
       (inbox : I) (w : WaysView T S) (row : R) → AreRows is_taker takes_of is_sender sends_of table (lanes_in done) (map view inboxes) all (map items rows) → slice_get table (length done) ≡ Some (senders_in senders)
-      → IsOwn is_taker takes_of is_sender sends_of (view inbox) (senders_in senders) w → w.ways ≡ [] → length (items row) ≡ length table → IsRow is_taker takes_of is_sender sends_of (view inbox) (senders_in senders) (items row)
+      → IsOwn is_taker takes_of is_sender sends_of (view inbox) (senders_in senders) w → w.ways ≡ [] → length (items row) ≡ length table → AreWaysTo is_taker takes_of is_sender sends_of (view inbox) (senders_in senders) (items row)
       → inboxes' ≡ inboxes ++ inbox ∷ [] → all' ≡ all ++ w ∷ [] → rows' ≡ rows ++ row ∷ []
       → AreRows is_taker takes_of is_sender sends_of table (lanes_in (done ++ senders ∷ [])) (map view inboxes') all' (map items rows')
   rows-next {I = I} {R = R} view items table done senders inboxes inboxes' all all' rows rows' inbox w row are there own none count ways inboxes-are all-are rows-are =
@@ -185,7 +185,7 @@ module _ {M T S : Type 0} (is_taker : M → T → Type 0) (takes_of : T → Take
     at (x ∷ xs) zero within = (x, refl)
     at (x ∷ xs) (suc y) within = at xs y (omega (arith, within))
 
-    listed : (y target : ℕ) → y < length lanes → target < length lanes → slice_get (lanes_to lanes target) y ≡ Some (lanes_between lanes y target)
+    listed : (y target : ℕ) → y < length lanes → target < length lanes → slice_get (lanes_to lanes target) y ≡ Some (table_lanes lanes y target)
     listed y target within inside =
         let senders = at lanes target inside in
         let whole = All-at (λ (senders : List (List Lane)). length senders ≡ length lanes) lanes target senders.0 square senders.1 in
@@ -208,7 +208,7 @@ module _ {M T S : Type 0} (is_taker : M → T → Type 0) (takes_of : T → Take
           each = λ target inbox way at-inbox at-way.
               let row = row-of rows w.ways y target way column at-way in
               let inside = slice_get_within inboxes target inbox at-inbox in
-              (are.ways target inbox row.0 at-inbox row.1).each y (lanes_between lanes y target) way
+              (are.ways target inbox row.0 at-inbox row.1).each y (table_lanes lanes y target) way
               (listed y target (omega (arith, within, are.own_count)) (omega (arith, inside, are.inboxes_count))) row.2;
         }
 

@@ -14,7 +14,7 @@ use Rattle.pl_head.specs.Transports.{TransportState}
 use Rattle.pl_head.specs.Failures.{failure_outcome, head_outcomes, settled_by}
 use Rattle.pl_head.specs.WaitingMessages.{settled}
 use Rattle.pl_head.specs.Writes.{flushed_writes, late_outcome, out, outcomes, unflushed_writes}
-use Rattle.pl_head.specs.HeadStand.{HeadView, StandsAfter}
+use Rattle.pl_head.specs.HeadStand.{HeadView, HeadStandsAfter}
 use Rattle.pl_part.specs.HeadHolds.{HeadTook}
 use Rattle.pl_channel.specs.Ends.{ends_of, EndsHold}
 use Rattle.pl_channel.proofs.EndReports.{ends_with, failed-reports, keep, sound-reports}
@@ -59,7 +59,7 @@ module _ {T : Type 0} (state : T → TransportState) (plan : Plan) (c : ℕ) (p 
         aborts = λ planned. last.keeps.closed planned last.read;
       }
 
-  module _ (r : ChannelReport) (reports : (ys zs : List Event) (sizes : List Change) → StandsAfter state head ys zs sizes → IsChannelReport (ends_of state tail head ys zs) r) where
+  module _ (r : ChannelReport) (reports : (ys zs : List Event) (sizes : List Change) → HeadStandsAfter state head ys zs sizes → IsChannelReport (ends_of state tail head ys zs) r) where
     -- so their report is one of a run
     pub reports-run : ReportsRun p r
     reports-run = by head.failure refl

@@ -15,15 +15,15 @@ use Rattle.pl_context.specs.TailViews.{TailView}
 use Rattle.pl_head.specs.Writes.{out}
 use Rattle.pl_head.specs.Marks.{Change}
 use Rattle.pl_head.specs.Transports.{TransportState}
-use Rattle.pl_head.specs.HeadStand.{HeadView, StandsAfter, first_cause}
+use Rattle.pl_head.specs.HeadStand.{HeadView, HeadStandsAfter, first_cause}
 use Rattle.pl_channel.specs.Ends.{EndsHold, ends_of}
-use Rattle.pl_replay.proofs.ReportLists.{zip_through}
+use Rattle.pl_event.proofs.Lists.{zip_through}
 use Rattle.pl_world.specs.declared.report.ChannelReport.{ChannelReport}
 use Rattle.pl_world.specs.declared.report.Stands.TheVariants.{Open}
 use Rattle.pl_world.specs.Plans.{ChannelPlan, Plan}
 use Rattle.pl_world.specs.Reports.{IsChannelReport, KeepsToPlan, has_ended, stands_by}
 use Rattle.pl_exec.specs.declared.reporting.Found.{Found}
-use Rattle.pl_exec.specs.Reported.{IsLeft, IsLeftTail, IsLeftHead, AreLeft, IsFinalReport, IsRunReport, ReportsRun}
+use Rattle.pl_exec.specs.Reported.{HasBothEnds, IsLeftTail, IsLeftHead, AreLeft, IsFinalReport, IsRunReport, ReportsRun}
 use Rattle.pl_exec.proofs.RunEnds.{HasOutcome, held, reports-run, run-settled}
 
 -- ---- how a channel stands
@@ -44,7 +44,7 @@ not-open None standing.Ended standing.Ended false over ended idle stays = false�
 module _ {T : Type 0} (state : T → TransportState) (f : Found T) (tail : TailView) (head : HeadView T) (has_tail : f.tail ≡ Some tail) (has_head : f.head ≡ Some head) where
   -- what the report of two ends says of them
   abbrev pub OfEnds : ChannelReport → Type 0
-  OfEnds r = (ys zs : List Event) (sizes : List Change) → StandsAfter state head ys zs sizes → IsChannelReport (ends_of state tail head ys zs) r
+  OfEnds r = (ys zs : List Event) (sizes : List Change) → HeadStandsAfter state head ys zs sizes → IsChannelReport (ends_of state tail head ys zs) r
 
   -- and that it keeps to each plan by which they hold
   abbrev pub KeepsByEnds : ChannelReport → Type 0
@@ -57,7 +57,7 @@ module _ {T : Type 0} (state : T → TransportState) (f : Found T) (tail : TailV
 
 -- ---- one channel
 
-module _ {T : Type 0} (state : T → TransportState) (plan : Plan) (c : ℕ) (p : ChannelPlan) (planned : slice_get plan.channels c ≡ Some p) (f : Found T) (left : IsLeft state plan c p f)
+module _ {T : Type 0} (state : T → TransportState) (plan : Plan) (c : ℕ) (p : ChannelPlan) (planned : slice_get plan.channels c ≡ Some p) (f : Found T) (left : HasBothEnds state plan c p f)
     (r : ChannelReport) (final : IsFinalReport state f r) where
   -- the ends that were found are the ones that the report is of
   own : IsLeftTail plan c p final.tail
@@ -101,7 +101,7 @@ module _ {T : Type 0} (state : T → TransportState) (plan : Plan) (fs : List (F
 
   -- what the report of each channel says, all of them say
   each-report : (Q : ChannelPlan → ChannelReport → Type 0)
-      → ((c : ℕ) (p : ChannelPlan) → slice_get plan.channels c ≡ Some p → (f : Found T) → IsLeft state plan c p f → (r : ChannelReport) → IsFinalReport state f r → Q p r)
+      → ((c : ℕ) (p : ChannelPlan) → slice_get plan.channels c ≡ Some p → (f : Found T) → HasBothEnds state plan c p f → (r : ChannelReport) → IsFinalReport state f r → Q p r)
       → (reports : List ChannelReport) → AllZip (IsFinalReport state) fs reports → AllZip Q plan.channels reports
   each-report Q says reports each =
       zip_through (IsFinalReport state) Q plan.channels fs reports are.count (λ c p f planned found r final. says c p planned f (are.each c p f planned found) r final) each

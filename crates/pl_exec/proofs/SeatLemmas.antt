@@ -8,7 +8,7 @@ use Rattle.std.proofs.lemmas.Option.{none-some, same_Some, slice_get-map, slice_
 use Rattle.pl_event.specs.declared.events.Event.{Event}
 use Rattle.pl_event.specs.Meaning.{Meaning}
 use Rattle.pl_event.specs.Worlds.{World}
-use Rattle.pl_event.proofs.Lists.{All-at, at_set_same, at_set_other, slice_get-push}
+use Rattle.pl_event.proofs.Lists.{All-at, at_set_same, at_set_other, slice_get-push, at-index}
 use Rattle.pl_head.specs.Buffers.{untold}
 use Rattle.pl_head.specs.HeadStand.{HeadView}
 use Rattle.pl_head.specs.Transports.{TransportState}
@@ -22,7 +22,6 @@ use Rattle.pl_world.specs.PlanRules.{IsChannelPlan, IsPlan}
 use Rattle.pl_exec.specs.OwnNodes.{NodesStand}
 use Rattle.pl_exec.specs.SessionWords.{ChannelNames, SeatsView, AreSeatsOf, AreHeadSeatsOf, recorded_marks, seats_marks, seats_names}
 use Rattle.pl_exec.specs.Telling.{AreSeated, HaveMarks, IsSeated, IsToldAt, Tells, TellsAt, plan_marks}
-use Rattle.pl_exec.proofs.SharesMade.{at-index}
 
 -- ---- what was told
 

@@ -3,26 +3,21 @@ use Rattle.std.proofs.Common.{◌≡◌, ℕ, ◌+◌, ◌<◌, false, List, [],
 use Rattle.std.specs.Prelude.{cond, is_some}
 use Rattle.std.specs.List.{range_with_len}
 use Rattle.std.proofs.lemmas.List.{length-set, length_push}
-use Rattle.std.proofs.lemmas.Option.{none-some, slice_get_within, slice_get_cases, slice_get_read, same_Some}
+use Rattle.std.proofs.lemmas.Option.{none-some, slice_get_within, slice_get_read, same_Some}
 use Rattle.std.proofs.lemmas.Simd.{map-map}
 use Rattle.pl_event.specs.declared.events.Event.{Event}
 use Rattle.pl_event.specs.Meaning.{Meaning}
-use Rattle.pl_event.proofs.Lists.{at_set_same, at_set_other, slice_get-push}
+use Rattle.pl_event.proofs.Lists.{at-index, at_set_same, at_set_other, slice_get-push}
 use Rattle.pl_head.specs.Transports.{TransportState}
 use Rattle.pl_part.specs.Parts.{ChannelPartView}
 use Rattle.pl_part.specs.Shares.{EachPart}
-use Rattle.pl_replay.specs.Placed.{all_lanes, lanes_between}
+use Rattle.pl_channel.specs.Channels.{data_lanes_of}
+use Rattle.pl_channel.specs.Ways.{lanes_between}
 use Rattle.pl_exec.specs.declared.nodes.OwnNodes.{OwnNodes}
 use Rattle.pl_exec.specs.Opening.{PlacesView}
 use Rattle.pl_exec.specs.OwnNodes.{heads_of}
 use Rattle.pl_exec.specs.Sharing.{IsShareOf, AreSharesOf, AreShared, Gets, EachGets, places_of}
 use Rattle.pl_exec.proofs.HeadLists.{heads-more}
-
-pub at-index : {A : Type 0} (xs : List A) (i : ℕ) → i < length xs → (x : A) × (slice_get xs i ≡ Some x)
-at-index xs i within = elim (slice_get_cases xs i).1 [
-  | inl at ↦ (at.0, at.2)
-  | inr past ↦ absurd (omega (arith, within, past.0))
-]
 
 -- ---- one channel more, executor by executor
 
@@ -117,7 +112,7 @@ module _ {V : Type 0} (targets : V → List ℕ) (work : ℕ) where
   reserved_by row = reserved work (targets row)
 
   -- all are left
-  pub places-left : {S T : Type 0} (wholes : List (ChannelPartView S T)) (count : ℕ) (table : List V) → work ≡ length (all_lanes wholes)
+  pub places-left : {S T : Type 0} (wholes : List (ChannelPartView S T)) (count : ℕ) (table : List V) → work ≡ length (data_lanes_of wholes)
       → map targets table ≡ map (λ x. map (λ y. length (lanes_between wholes x y)) (range_with_len 0 count)) (range_with_len 0 count) → map reserved_by table ≡ places_of wholes count
   places-left wholes count table lanes are =
       let row = λ (x : ℕ). map (λ y. length (lanes_between wholes x y)) (range_with_len 0 count) in

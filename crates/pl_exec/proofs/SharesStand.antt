@@ -1,9 +1,9 @@
 -- The nodes of an executor that are its shares of channels before any move: they stand.
-use Rattle.std.proofs.Common.{◌≡◌, ◌≢◌, ℕ, ◌+◌, ◌-◌, ◌<◌, ◌≤◌, Bool, true, false, not, ◌&&◌, List, ◌∷◌, ◌++◌, length, map, replicate, get_or, slice_get, Option, Some, refl, ap, sym, ◌∙◌, subst, ⊎_elim, arith}
+use Rattle.std.proofs.Common.{◌≡◌, ◌≢◌, ℕ, ◌+◌, ◌-◌, ◌<◌, ◌≤◌, Bool, true, false, not, ◌&&◌, List, length, map, get_or, slice_get, Option, Some, refl, ap, sym, ◌∙◌, subst, ⊎_elim, arith}
 use Rattle.std.specs.Prelude.{◌==◌, is_some, if◌then◌else◌}
-use Rattle.std.specs.Option.{option_map, option_map_or}
+use Rattle.std.specs.Option.{option_map_or}
 use Rattle.std.proofs.lemmas.Bool.{cond-true, cond-false, cases_Bool, both_ways, or_left, eqb-true, eq-eqb, ne_eqb, false_from_ne_true}
-use Rattle.std.proofs.lemmas.Option.{none-some, slice_get_within, slice_get-map}
+use Rattle.std.proofs.lemmas.Option.{same_Some, slice_get_within}
 use Rattle.pl_event.specs.declared.events.Event.{Event}
 use Rattle.pl_event.specs.declared.envelopes.Lane.{Lane}
 use Rattle.pl_event.specs.declared.stages.Direction.{Direction}
@@ -23,31 +23,26 @@ use Rattle.pl_head.specs.Transports.{TransportState}
 use Rattle.pl_part.specs.ContextHolds.{port_point, context_writes, context_came}
 use Rattle.pl_part.specs.Paths.{IsAt, context_at, writer_hop, enters_path}
 use Rattle.pl_part.specs.Parts.{ChannelPartView, PartHolds, head_hop, has_entered, part_writes, part_came}
-use Rattle.pl_part.specs.Shares.{IsShare, only_if, executor_of}
-use Rattle.pl_part.proofs.ShareLemmas.{share-entered}
+use Rattle.pl_part.specs.Shares.{IsShare, executor_of}
+use Rattle.pl_part.proofs.ShareLemmas.{share-entered, only-some}
 use Rattle.pl_channel.specs.Lanes.{world_of}
-use Rattle.pl_channel.specs.Placing.{IsUnmoved}
+use Rattle.pl_channel.specs.Placing.{IsAtStart, IsPlaced, ArePlaced}
 use Rattle.pl_channel.specs.PlanStand.{PartKeepsPlan}
-use Rattle.pl_replay.specs.Channels.{IsWhole}
-use Rattle.pl_replay.specs.Starts.{IsPlaced, ArePlaced}
-use Rattle.pl_replay.proofs.NetStarts.{starts-keep}
-use Rattle.pl_replay.proofs.Wholes.{enters, to-hop}
+use Rattle.pl_channel.specs.Channels.{HasAllNodes}
+use Rattle.pl_channel.proofs.PlacedParts.{has-all-nodes, recorded-at, starts-keep}
+use Rattle.pl_channel.proofs.Wholes.{enters, to-hop}
 use Rattle.pl_world.specs.declared.session.Recorded.{Recorded}
 use Rattle.pl_world.specs.Plans.{ChannelPlan, Plan, channel_planned}
 use Rattle.pl_exec.specs.declared.nodes.OwnNodes.{OwnNodes}
-use Rattle.pl_exec.specs.OwnNodes.{has_node, IsResident, PartStands, NodesStand}
+use Rattle.pl_exec.specs.OwnNodes.{has_node, IsResident, ShareStands, NodesStand}
 use Rattle.pl_exec.specs.Sharing.{IsShareOf, AreSharesOf}
-use Rattle.pl_exec.proofs.SharesMade.{at-index}
+use Rattle.pl_event.proofs.Lists.{at-index}
 
 -- ---- which nodes a share has
 
 and-true : (b : Bool) → (b && true) ≡ b
 and-true true = refl
 and-true false = refl
-
-only-some : {A : Type 0} (b : Bool) (o : Option A) (x : A) → only_if b o ≡ Some x → o ≡ Some x
-only-some true o x e = e
-only-some false o x e = absurd (none-some x e)
 
 -- a node is there where its data lane enters one
 node-entered : {S T : Type 0} (p : ChannelPartView S T) (hop : ℕ) → has_node p hop ≡ has_entered p (data_lane p.path.channel hop)
@@ -64,7 +59,7 @@ node-entered p hop = ⊎_elim
     ∙ sym (cond-false (hop == head_hop p) _ (enters_path p.path (data_lane p.path.channel hop)) f))
     (cases_Bool (hop == head_hop p))
 
-module _ {S T : Type 0} (x : ℕ) (p share : ChannelPartView S T) (hops : length p.path.executors ≡ head_hop p + 1) (whole : IsWhole p) (is : IsShare x p share) where
+module _ {S T : Type 0} (x : ℕ) (p share : ChannelPartView S T) (hops : length p.path.executors ≡ head_hop p + 1) (whole : HasAllNodes p) (is : IsShare x p share) where
   has-entered : (hop : ℕ) → hop ≤ head_hop p → has_entered p (data_lane p.path.channel hop) ≡ true
   has-entered hop within = enters p hops whole (data_lane p.path.channel hop) refl (to-hop p (data_lane p.path.channel hop) hops within (λ e. ap (λ (h : ℕ). data_lane p.path.channel h) e))
 
@@ -94,7 +89,7 @@ failed-over stands.Ended e = refl
 failed-over (stands.Failed cause) e = refl
 
 module _ {S T : Type 0} (world : World) (meaning : S → Meaning) (stands_after : S → List Event → Type 0) (state : T → TransportState) (p : ChannelPartView S T) (holds : PartHolds world meaning stands_after state p)
-    (unmoved : IsUnmoved meaning p) (hop : ℕ) (c : ContextView S) (at : context_at p.path hop ≡ Some c) where
+    (unmoved : IsAtStart meaning p) (hop : ℕ) (c : ContextView S) (at : context_at p.path hop ≡ Some c) where
   is-at : IsAt meaning p.path.channel hop p.path.tail_hop p.path.turn c
   is-at = (holds.path.contexts hop c at).1
 
@@ -167,42 +162,27 @@ module _ {S T : Type 0} (meaning : S → Meaning) (stands_after : S → List Eve
       let size = are.count in
       let within = slice_get_within nodes.parts.items c share at in
       let whole = at-index wholes c (omega (arith, size, within)) in
-      let count = placed.count in
-      let r = at-index rs c (omega (arith, size, within, count)) in
-      let own = placed.each c r.0 whole.0 r.1 whole.1 in
-      let plan_at : slice_get plan.channels c ≡ Some (channel_planned meaning state r.0) =
-      ap (λ (l : List ChannelPlan). slice_get l c) planned ∙ slice_get-map (channel_planned meaning state) rs c ∙ ap (option_map (channel_planned meaning state)) r.1 in
+      let r = recorded-at meaning stands_after state plan rs planned wholes placed c whole.0 whole.1 in
       record {
         whole = whole.0;
         at = whole.1;
         recorded = r.0;
-        planned_at = plan_at;
-        is_placed = own;
-        holds = own.holds true plan plan_at;
-        keeps = (starts-keep meaning stands_after state plan rs planned wholes placed).each c (channel_planned meaning state r.0) whole.0 plan_at whole.1;
+        planned_at = r.2;
+        is_placed = r.3;
+        holds = r.3.holds true plan r.2;
+        keeps = (starts-keep meaning stands_after state plan rs planned wholes placed).each c (channel_planned meaning state r.0) whole.0 r.2 whole.1;
         is = are.each c whole.0 share whole.1 at;
       }
 
-  part-stands : (c : ℕ) (share : ChannelPartView S T) → IsPlacedShare c share → PartStands (world_of true plan) meaning stands_after state x nodes.was_refused c share
+  part-stands : (c : ℕ) (share : ChannelPartView S T) → IsPlacedShare c share → ShareStands (world_of true plan) meaning stands_after state x nodes.was_refused c share
   part-stands c share s = record {
     holds = s.is.holds (world_of true plan) s.holds;
     channel = s.is.share_is.path.channel ∙ s.is_placed.whole.channel_is;
     within = let tail = s.is.share_is.path.tail_hop ∙ s.keeps.tail_at in let head = s.is.share_is.path.slots ∙ s.keeps.head_at in omega (arith, tail, head);
-    resident = share-resident x s.whole share s.holds.hops whole s.is.share_is;
+    resident = share-resident x s.whole share s.holds.hops (has-all-nodes meaning state c (channel_planned meaning state s.recorded) s.recorded.transport s.whole s.is_placed.whole) s.is.share_is;
     called = λ unrefused hop k at. none-failed (world_of true plan) meaning stands_after state s.whole s.holds s.is_placed.unmoved hop k
         (only-some (executor_of s.whole.path hop == x) (context_at s.whole.path hop) k (sym (s.is.share_is.path.contexts hop) ∙ at));
   }
-    where
-      outbound : ℕ
-      outbound = length (channel_planned meaning state s.recorded).outbound
-
-      whole : IsWhole s.whole
-      whole = record {
-        outbound = outbound;
-        filled = s.is_placed.whole.filled ∙ ap (λ (k : ℕ). replicate k true ++ false ∷ replicate outbound true) (sym s.is_placed.whole.tail_hop_is);
-        tail = ap (λ (o : Option _). is_some o) s.is_placed.whole.tail;
-        head = ap (λ (o : Option _). is_some o) s.is_placed.whole.head.1;
-      }
 
   part-keeps : (c : ℕ) (share : ChannelPartView S T) (s : IsPlacedShare c share) → PartKeepsPlan state (channel_planned meaning state s.recorded) share
   part-keeps c share s = record {
@@ -219,10 +199,7 @@ module _ {S T : Type 0} (meaning : S → Meaning) (stands_after : S → List Eve
       count = are.count ∙ (starts-keep meaning stands_after state plan rs planned wholes placed).count;
       each = λ c q share is at.
           let s = whole-of c share at in
-          subst (λ (k : ChannelPlan). PartKeepsPlan state k share) (same-plan (channel_planned meaning state s.recorded) q (sym s.planned_at ∙ is)) (part-keeps c share s);
+          subst (λ (k : ChannelPlan). PartKeepsPlan state k share) (same_Some (channel_planned meaning state s.recorded) q (sym s.planned_at ∙ is)) (part-keeps c share s);
     };
     number = omega (arith, few, within);
   }
-    where
-      same-plan : (a b : ChannelPlan) → Some a ≡ Some b → a ≡ b
-      same-plan a b e = cc

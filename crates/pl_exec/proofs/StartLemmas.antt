@@ -7,6 +7,7 @@ use Rattle.std.proofs.lemmas.List.Elements.{All-map}
 use Rattle.std.proofs.lemmas.Option.{none-some, same_Some, slice_get-map, slice_get-get_or, slice_get_read, slice_get_within}
 use Rattle.pl_event.specs.declared.envelopes.Lane.{Lane}
 use Rattle.pl_event.specs.Worlds.{World}
+use Rattle.pl_event.proofs.Lists.{slice_get-behind}
 use Rattle.pl_context.specs.Backlogs.{BacklogView}
 use Rattle.pl_context.specs.declared.waiting.Late.{Late}
 use Rattle.pl_context.specs.OutputsViews.{OutputsView}
@@ -14,16 +15,15 @@ use Rattle.pl_context.specs.Stops.{StopsView, HasPlaces, no_stops}
 use Rattle.pl_context.specs.WaitingViews.{stops_for}
 use Rattle.pl_queue.specs.declared.views.SenderView.{SenderView}
 use Rattle.pl_queue.specs.declared.views.TakerView.{TakerView}
-use Rattle.pl_queue.specs.Left.{all_lanes}
+use Rattle.pl_queue.specs.Left.{lanes_of_senders}
 use Rattle.pl_queue.specs.Views.{next_of}
 use Rattle.pl_words.specs.Admissions.{AdmittedView, SendSeatView}
 use Rattle.pl_flow.specs.Flows.{Point, point, nowhere, on, past}
 use Rattle.pl_outbox.specs.Sent.{sent_at}
 use Rattle.pl_outbox.specs.OutboxViews.{OutboxView, OutboxesView, IsNew, waits_for, sent_to, reached}
-use Rattle.pl_executor.specs.Running.{Runs, IsTaking}
-use Rattle.pl_executor.proofs.RunLemmas.{runs-start}
-use Rattle.pl_exec.specs.Opening.{LaneTable, lanes_to, lanes_between, InboxView, WayView, WaysView, PlacesView, outbox_of, HasWays, AreWays, Starts, CanStart}
-use Rattle.pl_exec.proofs.ListSteps.{at-front}
+use Rattle.pl_threads.specs.Running.{RunsOn, IsTaking}
+use Rattle.pl_threads.proofs.RunLemmas.{runs-start}
+use Rattle.pl_exec.specs.Opening.{LaneTable, lanes_to, table_lanes, InboxView, WayView, WaysView, PlacesView, outbox_of, HasWays, AreWays, Starts, CanStart}
 use Rattle.pl_exec.proofs.LaneLemmas.{sent_at-fresh, next_of-new}
 
 at : {A : Type 0} (xs : List A) (y : ℕ) → y < length xs → (x : A) × (slice_get xs y ≡ Some x)
@@ -44,7 +44,7 @@ module _ {M T S N : Type 0} (is_taker : M → T → Type 0) (takes_of : T → Ta
   starts-taking within l n next =
       let mine = at inboxes me within in
       let own = s.ways.own mine.0 mine.1 in
-      let new = next_of-new (all_lanes (lanes_to s.lanes me)) l n (ap (λ (t : TakerView). next_of l t.counts) (sym own.takes) ∙ next) in
+      let new = next_of-new (lanes_of_senders (lanes_to s.lanes me)) l n (ap (λ (t : TakerView). next_of l t.counts) (sym own.takes) ∙ next) in
       let enters = s.fits.entering l new.0 in
       (enters.0, enters.1, enters.2 ∙ new.1)
 
@@ -64,7 +64,7 @@ module _ {M T S N : Type 0} (is_taker : M → T → Type 0) (takes_of : T → Ta
         ap (λ (bs : List OutboxView). option_map_or (λ (b : OutboxView). sent_at b.sends.send_counts l) (slice_get bs x) nowhere) outboxes
         ∙ ap (λ (b : Option OutboxView). option_map_or (λ (b : OutboxView). sent_at b.sends.send_counts l) b nowhere) (slice_get-map (outbox_of sends_of) w.ways x ∙ ap (option_map (outbox_of sends_of)) way.1)
         ∙ ap (λ (v : SenderView). sent_at v.send_counts l) is.sends
-        ∙ sent_at-fresh (lanes_between s.lanes me x) l (s.fits.away l written away)
+        ∙ sent_at-fresh (table_lanes s.lanes me x) l (s.fits.away l written away)
 
     reached-first : (l : Lane) → target_of nodes l ≢ me → writes nodes l ≡ true → reached o (target_of nodes l) l ≡ point 0 false
     reached-first l away written = ap (λ zs. past (sent_to o (target_of nodes l) l) (on l zs)) (waits (target_of nodes l)) ∙ sent-first l away written
@@ -78,7 +78,7 @@ module _ {M T S N : Type 0} (is_taker : M → T → Type 0) (takes_of : T → Ta
         subst (λ (z : StopsView). HasPlaces z (s.fits.hops y)) (sym (found-or stopped (slice_get o.waiting.targets y) (no_stops 0) (no_stops place.0) is)) (s.fits.placed y place.0 place.1)
 
     -- nothing was made, so all that was made has gone on
-    pub starts-running : (work : OutputsView) → work.items ≡ [] → Runs world me (target_of nodes) (writes nodes) (taken_of nodes) (came nodes) o work
+    pub starts-running : (work : OutputsView) → work.items ≡ [] → RunsOn world me (target_of nodes) (writes nodes) (taken_of nodes) (came nodes) o work
     starts-running work none =
         runs-start world me (target_of nodes) (writes nodes) (taken_of nodes) (came nodes) o work none
         (λ l here written. (false, s.fits.fresh l written ∙ ap (λ (n : ℕ). point n false) (sym (s.fits.own l written here))))
@@ -131,6 +131,6 @@ pub way-at : {I M S : Type 0} (is_sender : M → S → Type 0) (view : I → Inb
     → done ++ left ≡ ways → left ≡ way ∷ rest → target ≡ length done → inbox ≡ get_or inboxes target inbox → is_sender (view inbox).mailbox way.sender × (way.seat.name ≡ (view inbox).name)
 way-at {S = S} is_sender view inboxes ways done left rest way inbox target are count whole front place is =
     let at-way : slice_get ways target ≡ Some way =
-    (λ i. slice_get (sym whole i) (place i)) ∙ ap (λ (l : List (WayView S)). slice_get (done ++ l) (length done)) front ∙ at-front done rest way in
+    (λ i. slice_get (sym whole i) (place i)) ∙ ap (λ (l : List (WayView S)). slice_get (done ++ l) (length done)) front ∙ slice_get-behind done rest way in
     let within = slice_get_within ways target way at-way in
     are target (view inbox) way (shown-at view inboxes target inbox (omega (arith, within, count)) is) at-way

@@ -11,13 +11,12 @@ use Rattle.pl_event.proofs.Lists.{All-at}
 use Rattle.pl_queue.specs.declared.views.SenderView.{SenderView}
 use Rattle.pl_queue.specs.declared.views.TakerView.{TakerView}
 use Rattle.pl_head.specs.Transports.{TransportState}
-use Rattle.pl_replay.specs.Channels.{taken_of, writes_of, came_of}
-use Rattle.pl_replay.specs.Channels.{lanes_of as data_lanes_of}
+use Rattle.pl_channel.specs.Channels.{taken_of, writes_of, came_of, data_lanes_of}
 use Rattle.pl_world.specs.Plans.{Plan}
 use Rattle.pl_exec.specs.declared.nodes.OwnNodes.{OwnNodes}
 use Rattle.pl_exec.specs.declared.telling.TellingNodes.{TellingNodes}
 use Rattle.pl_exec.specs.Opening.{InboxView, WaysView, PlacesView, CanStart}
-use Rattle.pl_exec.specs.OwnNodes.{target_of}
+use Rattle.pl_exec.specs.OwnNodes.{entered_executor}
 use Rattle.pl_exec.specs.Telling.{HaveSeats, KnowChannels, OwnStand, TellingStand}
 use Rattle.pl_exec.proofs.ChannelsHere.{on-plan}
 
@@ -25,9 +24,9 @@ module _ {S T : Type 0} (meaning : S → Meaning) (stands_after : S → List Eve
   module _ {M K D : Type 0} (is_taker : M → K → Type 0) (takes_of : K → TakerView) (is_sender : M → D → Type 0) (sends_of : D → SenderView) where
     pub telling-start : (inboxes : List (InboxView M)) (ways : List (WaysView K D)) (own : List (OwnNodes S T)) (all : List (TellingNodes S T)) (places : List PlacesView) → map (λ n. n.nodes) all ≡ own
         → All (HaveSeats plan) all → All KnowChannels all
-        → CanStart is_taker takes_of is_sender sends_of (OwnStand world plan meaning stands_after state) (λ n. n.number) (λ n. data_lanes_of n.parts.items) (λ n l. target_of n.parts.items l) (λ n l. writes_of meaning n.parts.items l) (λ n l. taken_of n.parts.items l)
+        → CanStart is_taker takes_of is_sender sends_of (OwnStand world plan meaning stands_after state) (λ n. n.number) (λ n. data_lanes_of n.parts.items) (λ n l. entered_executor n.parts.items l) (λ n l. writes_of meaning n.parts.items l) (λ n l. taken_of n.parts.items l)
         (λ n l. came_of meaning n.parts.items l) (λ n. n.was_refused) inboxes ways own places
-        → CanStart is_taker takes_of is_sender sends_of (TellingStand world plan meaning stands_after state) (λ n. n.nodes.number) (λ n. data_lanes_of n.nodes.parts.items) (λ n l. target_of n.nodes.parts.items l) (λ n l. writes_of meaning n.nodes.parts.items l)
+        → CanStart is_taker takes_of is_sender sends_of (TellingStand world plan meaning stands_after state) (λ n. n.nodes.number) (λ n. data_lanes_of n.nodes.parts.items) (λ n l. entered_executor n.nodes.parts.items l) (λ n l. writes_of meaning n.nodes.parts.items l)
         (λ n l. taken_of n.nodes.parts.items l) (λ n l. came_of meaning n.nodes.parts.items l) (λ n. n.nodes.was_refused) inboxes ways all places
     telling-start inboxes ways own all places are seated on can = record {
       lanes = can.lanes;

@@ -17,12 +17,12 @@ use Rattle.pl_part.specs.Parts.{ChannelPartView, SamePart, part_taken, part_writ
 use Rattle.pl_part.specs.Told.{IsTold, told_head}
 use Rattle.pl_part.proofs.ToldLemmas.{told-same, told-taken, told-writes, told-came, is-told-holds}
 use Rattle.pl_channel.specs.PlanStand.{HeadKeepsPlan, PartKeepsPlan}
-use Rattle.pl_replay.specs.Channels.{lanes_of, taken_of, writes_of, came_of}
-use Rattle.pl_replay.proofs.OneChannel.{changed, unchanged, routes, same-hops, taken-none}
+use Rattle.pl_channel.specs.Channels.{data_lanes_of, taken_of, writes_of, came_of}
+use Rattle.pl_channel.proofs.OneChannel.{changed, unchanged, lanes-stay, writes-stay, same-hops, taken-none}
 use Rattle.pl_world.specs.Plans.{ChannelPlan, Plan}
-use Rattle.pl_executor.specs.Parts.{PartKeeps}
+use Rattle.pl_threads.specs.Keeping.{NodesKeep}
 use Rattle.pl_exec.specs.declared.nodes.OwnNodes.{OwnNodes}
-use Rattle.pl_exec.specs.OwnNodes.{NodesStand, heads_of, target_of}
+use Rattle.pl_exec.specs.OwnNodes.{NodesStand, heads_of, entered_executor}
 use Rattle.pl_exec.specs.declared.telling.TellingNodes.{TellingNodes}
 use Rattle.pl_exec.specs.Telling.{AreSeated, AreToldAt, IsToldAt, OwnStand, TellingStand}
 use Rattle.pl_exec.proofs.ChannelsHere.{on-stays}
@@ -88,16 +88,16 @@ module _ {S T : Type 0} (ps : List (ChannelPartView S T)) (c : ℕ) (ps' : List 
       (λ r hop x at. own.called r hop x (sym (ap (λ (y : ChannelPartView S T). context_at y.path hop) t.told.is) ∙ at))
       (λ q planned k. keeps-as-before t.before t.after t.told state q k))
 
-  pub told-targets : (l : Lane) → target_of ps' l ≡ target_of ps l
-  told-targets l = ap (λ (x : List (ChannelPartView S T)). target_of x l) becomes ∙ targets-stay ps c t.before t.after t.was (same t.before t.after t.told) l
+  pub told-targets : (l : Lane) → entered_executor ps' l ≡ entered_executor ps l
+  told-targets l = ap (λ (x : List (ChannelPartView S T)). entered_executor x l) becomes ∙ targets-stay ps c t.before t.after t.was (same t.before t.after t.told) l
 
   pub told-written : (meaning : S → Meaning) (l : Lane) → writes_of meaning ps' l ≡ writes_of meaning ps l
   told-written meaning l =
       ap (λ (x : List (ChannelPartView S T)). writes_of meaning x l) becomes
-      ∙ (routes ps c t.before t.after t.was meaning (same t.before t.after t.told) (writes-as-before t.before t.after t.told meaning)).writes l
+      ∙ writes-stay ps c t.before t.after t.was (same t.before t.after t.told) meaning (writes-as-before t.before t.after t.told meaning) l
 
-  pub told-lanes : (meaning : S → Meaning) → lanes_of ps' ≡ lanes_of ps
-  told-lanes meaning = ap (λ (x : List (ChannelPartView S T)). lanes_of x) becomes ∙ (routes ps c t.before t.after t.was meaning (same t.before t.after t.told) (writes-as-before t.before t.after t.told meaning)).lanes
+  pub told-lanes : data_lanes_of ps' ≡ data_lanes_of ps
+  told-lanes = ap (λ (x : List (ChannelPartView S T)). data_lanes_of x) becomes ∙ lanes-stay ps c t.before t.after t.was (same t.before t.after t.told)
 
   pub told-took : (l : Lane) → taken_of ps' l ≡ taken_of ps l
   told-took l = ap (λ (x : List (ChannelPartView S T)). taken_of x l) becomes ∙ taken-none ps c t.before t.after t.was (taken-as-before t.before t.after t.told) l
@@ -126,7 +126,7 @@ module _ {S T : Type 0} (mid now : OwnNodes S T) (c : ℕ) (told : AreToldAt mid
     routes = λ l. told-targets mid.parts.items c now.parts.items told.parts l ∙ k.routes l;
     written = λ l. told-written mid.parts.items c now.parts.items told.parts meaning l ∙ k.written l;
     homes = told.number ∙ k.homes;
-    hops = told-lanes mid.parts.items c now.parts.items told.parts meaning ∙ k.hops;
+    hops = told-lanes mid.parts.items c now.parts.items told.parts ∙ k.hops;
     counts = ap (λ (v : Vec ℕ). length v.items) told.own ∙ k.counts;
   }
 
@@ -139,7 +139,7 @@ module _ {S T : Type 0} (mid now : OwnNodes S T) (c : ℕ) (told : AreToldAt mid
 module _ {S T : Type 0} (n n' : TellingNodes S T) where
   -- what no call changes of the nodes, none changes of them with their words
   pub telling-keeps : (meaning : S → Meaning) → OwnKeeps meaning n.nodes n'.nodes
-      → PartKeeps (λ (m : TellingNodes S T) l. target_of m.nodes.parts.items l) (λ m l. writes_of meaning m.nodes.parts.items l) (λ m. m.nodes.number) (λ m. lanes_of m.nodes.parts.items) (λ m. length m.nodes.own.items) n n'
+      → NodesKeep (λ (m : TellingNodes S T) l. entered_executor m.nodes.parts.items l) (λ m l. writes_of meaning m.nodes.parts.items l) (λ m. m.nodes.number) (λ m. data_lanes_of m.nodes.parts.items) (λ m. length m.nodes.own.items) n n'
   telling-keeps meaning k = record { routes = k.routes; written = k.written; homes = k.homes; hops = k.hops; counts = k.counts }
 
   -- they stand where the nodes do

@@ -8,12 +8,12 @@ use Rattle.std.proofs.lemmas.Option.{slice_get_read}
 use Rattle.pl_words.specs.PromiseViews.{ReadSeatView as PromiseSeatView}
 use Rattle.pl_words.specs.Watermarks.{ReadSeatView as MarkSeatView}
 use Rattle.pl_world.specs.declared.session.Recorded.{Recorded}
-use Rattle.pl_exec.specs.SessionWords.{ChannelNames, SeatsView, SightView, sight_names, recorded_marks, AreHeadSeatsOf, HaveMarksOf, IsReaderOf, new_seats, new_head_seats, new_sight, new_reader, with_row}
+use Rattle.pl_exec.specs.SessionWords.{ChannelNames, SeatsView, SightView, sight_names, recorded_marks, AreHeadSeatsOf, HaveMarksOf, IsReaderOf, new_seats, new_head_seats, new_sight, new_sights, with_sights}
 
 -- ---- one row of seats
 
 -- readers that have the same seats still do
-pub with_row-replicate : (n : ℕ) (reader : List SightView) (row : List SightView) (sight : SightView) → length row ≡ n → All (λ s. s ≡ sight) row → with_row (replicate n reader) row ≡ replicate n (reader ++ sight ∷ [])
+pub with_row-replicate : (n : ℕ) (reader : List SightView) (row : List SightView) (sight : SightView) → length row ≡ n → All (λ s. s ≡ sight) row → with_sights (replicate n reader) row ≡ replicate n (reader ++ sight ∷ [])
 with_row-replicate zero reader row sight count same = refl
 with_row-replicate (suc n) reader [] sight count same = absurd (omega (arith, count))
 with_row-replicate (suc n) reader (s ∷ row) sight count same =
@@ -65,14 +65,14 @@ head_seats-marks (w ∷ words) [] count = absurd (omega (arith, count))
 head_seats-marks (w ∷ words) (c ∷ channels) count = ap (λ (ms : List (ℕ × ℕ)). recorded_marks c ∷ ms) (head_seats-marks words channels (omega (arith, count)))
 
 -- all readers have their seats of one channel more
-pub readers-step : (n : ℕ) (words : List ChannelNames) (names : ChannelNames) (all : List (List SightView)) (row : List SightView) → all ≡ replicate n (new_reader words) → length row ≡ n → All (λ s. s ≡ new_sight names) row
-    → with_row all row ≡ replicate n (new_reader (words ++ names ∷ []))
+pub readers-step : (n : ℕ) (words : List ChannelNames) (names : ChannelNames) (all : List (List SightView)) (row : List SightView) → all ≡ replicate n (new_sights words) → length row ≡ n → All (λ s. s ≡ new_sight names) row
+    → with_sights all row ≡ replicate n (new_sights (words ++ names ∷ []))
 readers-step n words names all row are count new =
-    ap (λ (l : List (List SightView)). with_row l row) are ∙ with_row-replicate n (new_reader words) row (new_sight names) count new
+    ap (λ (l : List (List SightView)). with_sights l row) are ∙ with_row-replicate n (new_sights words) row (new_sight names) count new
     ∙ ap (λ (r : List SightView). replicate n r) (sym (map-append new_sight words (names ∷ [])))
 
 -- a new reader is one of its words
-pub new-reader-of : (words : List ChannelNames) → IsReaderOf words (new_reader words)
+pub new-reader-of : (words : List ChannelNames) → IsReaderOf words (new_sights words)
 new-reader-of [] = refl
 new-reader-of (w ∷ words) = ap (λ (ws : List ChannelNames). w ∷ ws) (new-reader-of words)
 

@@ -6,10 +6,10 @@ use Rattle.pl_build.specs.declared.limits.TheConstants.{MAX_HANDLERS}
 use Rattle.pl_event.specs.declared.envelopes.Lane.{Lane}
 use Rattle.pl_event.specs.Hops.{data_lane, flags_lane}
 use Rattle.pl_part.specs.Parts.{ChannelPartView}
-use Rattle.pl_replay.specs.Channels.{is_hop, origin_of, target_of}
-use Rattle.pl_replay.specs.Placed.{HasExecutors}
+use Rattle.pl_channel.specs.Channels.{is_hop, origin_of, target_of}
+use Rattle.pl_channel.specs.Ways.{HasExecutors}
 use Rattle.pl_world.specs.declared.limits.TheConstants.{MAX_CHANNELS}
-use Rattle.pl_exec.specs.Opening.{LaneTable, lanes_between}
+use Rattle.pl_exec.specs.Opening.{LaneTable, table_lanes}
 
 -- the lanes of a hop of a channel with so many hops: one with data and one with flags, but of the last, the head's, data alone
 abbrev pub lanes_at : ℕ → ℕ → ℕ → List Lane
@@ -22,7 +22,7 @@ with_last senders sender lane = set senders sender (get_or senders sender [] ++ 
 -- one lane more at the way from an executor to another, and none from one to itself
 abbrev pub with_lane : LaneTable → ℕ → ℕ → Lane → LaneTable
 with_lane lanes sender target lane =
-    map (λ y. map (λ x. lanes_between lanes x y ++ cond (not (x == y) && ((sender == x) && (target == y))) (lane ∷ []) []) (range_with_len 0 (length lanes))) (range_with_len 0 (length lanes))
+    map (λ y. map (λ x. table_lanes lanes x y ++ cond (not (x == y) && ((sender == x) && (target == y))) (lane ∷ []) []) (range_with_len 0 (length lanes))) (range_with_len 0 (length lanes))
 
 module _ {S T : Type 0} where
   -- those of these channels, of which the first has this number

@@ -6,7 +6,7 @@ use Rattle.pl_context.specs.Stops.{HasPlaces, AreAmong, no_stops}
 use Rattle.pl_queue.specs.declared.views.SenderView.{SenderView}
 use Rattle.pl_queue.specs.declared.views.TakerView.{TakerView}
 use Rattle.pl_queue.specs.Views.{fresh_sends, fresh_takes, has_lane}
-use Rattle.pl_queue.specs.Left.{Apart, all_lanes}
+use Rattle.pl_queue.specs.Left.{Apart, lanes_of_senders}
 use Rattle.pl_queue.specs.Limits.{opening_fault}
 use Rattle.pl_words.specs.Names.{Name}
 use Rattle.pl_words.specs.Admissions.{SendSeatView, OwnerSeatView, new_send_seat, new_owner_seat}
@@ -14,7 +14,7 @@ use Rattle.pl_words.specs.declared.status.Status.TheVariants.{Accepting}
 use Rattle.pl_flow.specs.Flows.{Point, point}
 use Rattle.pl_outbox.specs.Admitting.{FewLanes}
 use Rattle.pl_outbox.specs.OutboxViews.{OutboxView, waits_for}
-use Rattle.pl_executor.specs.Running.{ExecutorView}
+use Rattle.pl_threads.specs.Running.{ExecutorView}
 use Rattle.pl_exec.specs.Adding.{each_with}
 
 -- ---- the lanes
@@ -29,8 +29,8 @@ lanes_in lanes = map (λ target. map (λ sender. sender.items) target.items) lan
 abbrev pub lanes_to : LaneTable → ℕ → List (List Lane)
 lanes_to lanes target = get_or lanes target []
 
-abbrev pub lanes_between : LaneTable → ℕ → ℕ → List Lane
-lanes_between lanes sender target = get_or (lanes_to lanes target) sender []
+abbrev pub table_lanes : LaneTable → ℕ → ℕ → List Lane
+table_lanes lanes sender target = get_or (lanes_to lanes target) sender []
 
 -- each target has a list for each executor
 abbrev pub IsSquare : LaneTable → Type 0
@@ -38,7 +38,7 @@ IsSquare lanes = All (λ target. length target ≡ length lanes) lanes
 
 -- A mailbox for these senders can be opened, if there is memory.
 pub record CanOpen (capacity : ℕ) (senders : List (List Lane)) : Type 0 where
-  pub apart : Apart (all_lanes senders)
+  pub apart : Apart (lanes_of_senders senders)
   pub within : opening_fault senders capacity ≡ None
 
 -- So it is with the mailbox of each target, and there are not too many for admissions.
@@ -81,7 +81,7 @@ module _ {M T S : Type 0} (is_taker : M → T → Type 0) (takes_of : T → Take
   -- The taker and the owner's seat of an inbox with these senders. Nothing was taken, and nothing was closed.
   pub record IsOwn (inbox : InboxView M) (senders : List (List Lane)) (w : WaysView T S) : Type 0 where
     pub taker : is_taker inbox.mailbox w.taker
-    pub takes : takes_of w.taker ≡ fresh_takes (all_lanes senders)
+    pub takes : takes_of w.taker ≡ fresh_takes (lanes_of_senders senders)
     pub owner : w.owner ≡ new_owner_seat inbox.name
 
   -- The way to the executor that an inbox is of, on these lanes. Nothing was sent, and nothing was admitted.
@@ -91,7 +91,7 @@ module _ {M T S : Type 0} (is_taker : M → T → Type 0) (takes_of : T → Take
     pub seat : way.seat ≡ new_send_seat inbox.name way.seat.number
 
   -- The ways of all executors to the one that an inbox is of.
-  pub record IsRow (inbox : InboxView M) (senders : List (List Lane)) (ways : List (WayView S)) : Type 0 where
+  pub record AreWaysTo (inbox : InboxView M) (senders : List (List Lane)) (ways : List (WayView S)) : Type 0 where
     pub each : (sender : ℕ) (lanes : List Lane) (way : WayView S) → slice_get senders sender ≡ Some lanes → slice_get ways sender ≡ Some way → IsWay inbox lanes way
 
   -- The first inboxes of these lanes, what their own executors have of them, and the ways of all executors to them.
@@ -101,13 +101,13 @@ module _ {M T S : Type 0} (is_taker : M → T → Type 0) (takes_of : T → Take
     pub rows_count : length rows ≡ length first
     pub own : (target : ℕ) (inbox : InboxView M) (w : WaysView T S) → slice_get inboxes target ≡ Some inbox → slice_get all target ≡ Some w → IsOwn inbox (lanes_to lanes target) w × (w.ways ≡ [])
     pub count : (target : ℕ) (row : List (WayView S)) → slice_get rows target ≡ Some row → length row ≡ length lanes
-    pub ways : (target : ℕ) (inbox : InboxView M) (row : List (WayView S)) → slice_get inboxes target ≡ Some inbox → slice_get rows target ≡ Some row → IsRow inbox (lanes_to lanes target) row
+    pub ways : (target : ℕ) (inbox : InboxView M) (row : List (WayView S)) → slice_get inboxes target ≡ Some inbox → slice_get rows target ≡ Some row → AreWaysTo inbox (lanes_to lanes target) row
 
   -- What one executor has of the inboxes.
   pub record HasWays (lanes : LaneTable) (inboxes : List (InboxView M)) (number : ℕ) (w : WaysView T S) : Type 0 where
     pub own : (inbox : InboxView M) → slice_get inboxes number ≡ Some inbox → IsOwn inbox (lanes_to lanes number) w
     pub count : length w.ways ≡ length inboxes
-    pub each : (target : ℕ) (inbox : InboxView M) (way : WayView S) → slice_get inboxes target ≡ Some inbox → slice_get w.ways target ≡ Some way → IsWay inbox (lanes_between lanes number target) way
+    pub each : (target : ℕ) (inbox : InboxView M) (way : WayView S) → slice_get inboxes target ≡ Some inbox → slice_get w.ways target ≡ Some way → IsWay inbox (table_lanes lanes number target) way
 
   -- The inboxes of all executors, and what each has of them, by number.
   pub record AreOpened (lanes : LaneTable) (inboxes : List (InboxView M)) (ways : List (WaysView T S)) : Type 0 where
@@ -133,8 +133,8 @@ module _ {N : Type 0} (stands : N → Type 0) (home : N → ℕ) (hops_of : N �
     pub fresh : (l : Lane) → writes nodes l ≡ true → came nodes l ≡ point 0 false
     pub there : (l : Lane) → writes nodes l ≡ true → target_of nodes l < length lanes
     pub own : (l : Lane) → writes nodes l ≡ true → target_of nodes l ≡ number → taken_of nodes l ≡ 0
-    pub away : (l : Lane) → writes nodes l ≡ true → target_of nodes l ≢ number → has_lane l (lanes_between lanes number (target_of nodes l)) ≡ true
-    pub entering : (l : Lane) → has_lane l (all_lanes (lanes_to lanes number)) ≡ true → (target_of nodes l ≡ number) × (writes nodes l ≡ false) × (taken_of nodes l ≡ 0)
+    pub away : (l : Lane) → writes nodes l ≡ true → target_of nodes l ≢ number → has_lane l (table_lanes lanes number (target_of nodes l)) ≡ true
+    pub entering : (l : Lane) → has_lane l (lanes_of_senders (lanes_to lanes number)) ≡ true → (target_of nodes l ≡ number) × (writes nodes l ≡ false) × (taken_of nodes l ≡ 0)
     pub work : HasPlaces (no_stops places.work) (hops_of nodes)
     pub targets : length places.targets ≡ length lanes
     pub hops : ℕ → List Lane

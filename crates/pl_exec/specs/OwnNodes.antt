@@ -13,13 +13,13 @@ use Rattle.pl_flow.specs.declared.moves.HeadMove.{HeadMove}
 use Rattle.pl_head.specs.Marks.{Change}
 use Rattle.pl_head.specs.Transports.{TransportState}
 use Rattle.pl_head.specs.declared.inputs.ReadPlan.{ReadPlan}
-use Rattle.pl_head.specs.HeadStand.{HeadView, StandsAfter, is_idle}
+use Rattle.pl_head.specs.HeadStand.{HeadView, HeadStandsAfter, is_idle}
 use Rattle.pl_head.specs.ReadSteps.{plan_steps}
 use Rattle.pl_part.specs.Paths.{PathRefuses, context_at, writer_hop}
 use Rattle.pl_part.specs.Parts.{ChannelPartView, PartHolds, head_hop, all_over, has_read}
 use Rattle.pl_channel.specs.PlanStand.{PartsKeepPlan}
-use Rattle.pl_executor.specs.Serving.{Served}
-use Rattle.pl_replay.specs.Channels.{HasMoved, MayMove, executor_at, is_hop}
+use Rattle.pl_threads.specs.Serving.{Served}
+use Rattle.pl_channel.specs.Channels.{HasMoved, MayMove, executor_at, is_hop}
 use Rattle.pl_world.specs.Plans.{ChannelPlan, Plan, read_plan}
 
 -- ---- where lanes go
@@ -33,8 +33,8 @@ abbrev pub enters : {S T : Type 0} → ChannelPartView S T → Lane → ℕ
 enters p l = if is_hop p l then executor_at p l.hop else nobody
 
 -- by lane, where it has a channel
-abbrev pub target_of : {S T : Type 0} → List (ChannelPartView S T) → Lane → ℕ
-target_of ps l = option_map_or (λ (p : ChannelPartView _ _). enters p l) (slice_get ps l.channel) nobody
+abbrev pub entered_executor : {S T : Type 0} → List (ChannelPartView S T) → Lane → ℕ
+entered_executor ps l = option_map_or (λ (p : ChannelPartView _ _). enters p l) (slice_get ps l.channel) nobody
 
 -- ---- which nodes are here
 
@@ -52,7 +52,7 @@ NoneRefused p = (hop : ℕ) (c : ContextView _) → context_at p.path hop ≡ So
 
 module _ {S T : Type 0} (world : World) (meaning : S → Meaning) (stands_after : S → List Event → Type 0) (state : T → TransportState) where
   -- The part of a channel that is on an executor. Something of a lane that one of its contexts writes was refused, or not.
-  pub record PartStands (me : ℕ) (refused : Bool) (c : ℕ) (p : ChannelPartView S T) : Type 0 where
+  pub record ShareStands (me : ℕ) (refused : Bool) (c : ℕ) (p : ChannelPartView S T) : Type 0 where
     pub holds : PartHolds world meaning stands_after state p
     pub channel : p.path.channel ≡ c
     pub within : p.path.tail_hop < head_hop p
@@ -61,7 +61,7 @@ module _ {S T : Type 0} (world : World) (meaning : S → Meaning) (stands_after 
 
 -- The nodes that are on an executor hold in a world, and go on as the plan has them.
 pub record NodesStand {S T : Type 0} (world : World) (plan : Plan) (meaning : S → Meaning) (stands_after : S → List Event → Type 0) (state : T → TransportState) (me : ℕ) (refused : Bool) (ps : List (ChannelPartView S T)) : Type 0 where
-  pub parts : (c : ℕ) (p : ChannelPartView S T) → slice_get ps c ≡ Some p → PartStands world meaning stands_after state me refused c p
+  pub parts : (c : ℕ) (p : ChannelPartView S T) → slice_get ps c ≡ Some p → ShareStands world meaning stands_after state me refused c p
   pub keeps : PartsKeepPlan state plan ps
   pub number : me < nobody
 
@@ -137,7 +137,7 @@ module _ {S T : Type 0} (state : T → TransportState) where
   pub record IsPartOver (p : ChannelPartView S T) : Type 0 where
     pub over : all_over p ≡ true
     pub read : has_read p ≡ false
-    pub written : (h : HeadView T) (ys zs : List Event) (sizes : List Change) → p.head ≡ Some h → StandsAfter state h ys zs sizes → is_idle state h ys ≡ true
+    pub written : (h : HeadView T) (ys zs : List Event) (sizes : List Change) → p.head ≡ Some h → HeadStandsAfter state h ys zs sizes → is_idle state h ys ≡ true
 
   -- So it is with that of a channel, where it has one.
   abbrev pub IsOverAt : List (ChannelPartView S T) → ℕ → Type 0

@@ -8,7 +8,7 @@ use Rattle.pl_context.specs.TailViews.{TailView}
 use Rattle.pl_head.specs.Marks.{Change}
 use Rattle.pl_head.specs.Writes.{out}
 use Rattle.pl_head.specs.Transports.{TransportState}
-use Rattle.pl_head.specs.HeadStand.{HeadView, StandsAfter, is_idle}
+use Rattle.pl_head.specs.HeadStand.{HeadView, HeadStandsAfter, is_idle}
 use Rattle.pl_part.specs.HeadHolds.{HeadHolds}
 use Rattle.pl_part.specs.Parts.{ChannelPartView}
 use Rattle.pl_part.specs.TailHolds.{TailHolds}
@@ -18,7 +18,7 @@ use Rattle.pl_channel.specs.PlanStand.{HeadKeepsPlan}
 use Rattle.pl_world.specs.declared.report.ChannelReport.{ChannelReport}
 use Rattle.pl_world.specs.declared.report.Report.{Report}
 use Rattle.pl_world.specs.declared.report.Stands.TheVariants.{Open}
-use Rattle.pl_world.specs.Plans.{ChannelPlan, Plan, tail_hop, head_hop}
+use Rattle.pl_world.specs.Plans.{ChannelPlan, Plan, tail_hop, planned_head_hop}
 use Rattle.pl_world.specs.Reports.{AllKeepToPlan, Ends, EndsKeepToPlan, IsChannelReport, KeepsToPlan}
 use Rattle.pl_exec.specs.declared.reporting.Found.{Found}
 use Rattle.pl_exec.specs.Adding.{each_with}
@@ -39,9 +39,10 @@ pub record ReportsRun (p : ChannelPlan) (r : ChannelReport) : Type 0 where
   pub ends_are : AreRunEnds p ends
   pub reports : IsChannelReport ends r
 
--- Each channel's tail and bytes begin what the handlers, composed on whole lists, make of its recorded input, and are all of
--- it, with the whole report, where it is drained. No channel stands open, and each write has an outcome. How a channel
--- stands, its tail, its bytes and the outcomes are those of two ends.
+-- The report of a run (FORMATS): each channel keeps to its plan, none is open, each write has an outcome. A channel's
+-- tail and bytes begin what the handlers, composed on whole lists, make of its recorded input, and are all of it,
+-- with the whole report, where it is drained. How a channel stands, its tail, its bytes and the outcomes are those of
+-- two ends.
 pub record IsRunReport (plan : Plan) (report : Report) : Type 0 where
   pub keeps : AllKeepToPlan plan.channels report.channels
   pub ended : All (λ (r : ChannelReport). r.stands ≢ Open) report.channels
@@ -61,9 +62,9 @@ pub record IsLeftTail (plan : Plan) (c : ℕ) (p : ChannelPlan) (tail : TailView
 pub record IsLeftHead {T : Type 0} (state : T → TransportState) (plan : Plan) (c : ℕ) (p : ChannelPlan) (head : HeadView T) : Type 0 where
   pub holds : HeadHolds state (world_of true plan) head
   pub channel : head.channel ≡ c
-  pub at : head.hop ≡ head_hop p
+  pub at : head.hop ≡ planned_head_hop p
   pub over : (is_over head.standing || is_some head.failure) ≡ true
-  pub written : (ys zs : List Event) (sizes : List Change) → StandsAfter state head ys zs sizes → is_idle state head ys ≡ true
+  pub written : (ys zs : List Event) (sizes : List Change) → HeadStandsAfter state head ys zs sizes → is_idle state head ys ≡ true
   pub read : head.input.port.is_open ≡ false
   pub keeps : HeadKeepsPlan state p head
 
@@ -82,7 +83,7 @@ with_parts fs parts = each_with with_part fs parts
 
 module _ {T : Type 0} (state : T → TransportState) where
   -- Both ends of a channel are found.
-  pub record IsLeft (plan : Plan) (c : ℕ) (p : ChannelPlan) (f : Found T) : Type 0 where
+  pub record HasBothEnds (plan : Plan) (c : ℕ) (p : ChannelPlan) (f : Found T) : Type 0 where
     pub tail : TailView
     pub has_tail : f.tail ≡ Some tail
     pub left_tail : IsLeftTail plan c p tail
@@ -93,7 +94,7 @@ module _ {T : Type 0} (state : T → TransportState) where
   -- So are those of each channel.
   pub record AreLeft (plan : Plan) (fs : List (Found T)) : Type 0 where
     pub count : length fs ≡ length plan.channels
-    pub each : (c : ℕ) (p : ChannelPlan) (f : Found T) → slice_get plan.channels c ≡ Some p → slice_get fs c ≡ Some f → IsLeft plan c p f
+    pub each : (c : ℕ) (p : ChannelPlan) (f : Found T) → slice_get plan.channels c ≡ Some p → slice_get fs c ≡ Some f → HasBothEnds plan c p f
 
   -- This is the report of the ends that were found, and keeps to each plan by which they hold.
   pub record IsFinalReport (f : Found T) (r : ChannelReport) : Type 0 where
@@ -101,5 +102,5 @@ module _ {T : Type 0} (state : T → TransportState) where
     pub has_tail : f.tail ≡ Some tail
     pub head : HeadView T
     pub has_head : f.head ≡ Some head
-    pub reports : (ys zs : List Event) (sizes : List Change) → StandsAfter state head ys zs sizes → IsChannelReport (ends_of state tail head ys zs) r
+    pub reports : (ys zs : List Event) (sizes : List Change) → HeadStandsAfter state head ys zs sizes → IsChannelReport (ends_of state tail head ys zs) r
     pub keeps : (refuses : Bool) (plan : Plan) (c : ℕ) (p : ChannelPlan) → EndsHold state refuses plan c p tail head → KeepsToPlan p r

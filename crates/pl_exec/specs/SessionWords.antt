@@ -17,7 +17,7 @@ pub record ChannelNames : Type 0 where
   pub mark : Name
   pub promises : Name
 
--- the seats by which a channel's words are changed: its head's, and that of its only settler
+-- The seats by which a channel's words are changed. They are its head's, and that of its only settler.
 pub record SeatsView : Type 0 where
   pub mark : HeadSeatView
   pub settle : SettleSeatView
@@ -37,7 +37,7 @@ sight_names s = record { mark = s.mark.name; promises = s.promises.name }
 abbrev pub AreSeatsOf : List ChannelNames → ℕ → SeatsView → Type 0
 AreSeatsOf words channel seats = slice_get words channel ≡ Some (seats_names seats)
 
--- those of each channel, in order
+-- these are the heads' seats of each channel
 abbrev pub AreHeadSeatsOf : List ChannelNames → List SeatsView → Type 0
 AreHeadSeatsOf words heads = map seats_names heads ≡ words
 
@@ -52,7 +52,7 @@ recorded_marks c = (c.pipeline.low, c.pipeline.high)
 abbrev pub HaveMarksOf : {S T : Type 0} → List SeatsView → List (Recorded S T) → Type 0
 HaveMarksOf heads channels = map seats_marks heads ≡ map recorded_marks channels
 
--- the reader was made with these words: it has seats of each channel, in order
+-- The reader was made with these words. It has seats of each channel, in order.
 abbrev pub IsReaderOf : List ChannelNames → List SightView → Type 0
 IsReaderOf words reader = map sight_names reader ≡ words
 
@@ -62,7 +62,7 @@ IsReaderOf words reader = map sight_names reader ≡ words
 abbrev pub new_seats : ChannelNames → ℕ → ℕ → SeatsView
 new_seats names low high = record { mark = new_head_seat names.mark low high; settle = new_settler names.promises PROMISES 1 }
 
--- those of each channel, in order
+-- the heads' seats of words that nobody has changed
 abbrev pub new_head_seats : {S T : Type 0} → List ChannelNames → List (Recorded S T) → List SeatsView
 new_head_seats [] channels = []
 new_head_seats (names ∷ words) [] = []
@@ -72,16 +72,17 @@ new_head_seats (names ∷ words) (c ∷ channels) = new_seats names c.pipeline.l
 abbrev pub new_sight : ChannelNames → SightView
 new_sight names = record { mark = new_mark_seat names.mark; promises = new_promise_seat names.promises PROMISES }
 
-abbrev pub new_reader : List ChannelNames → List SightView
-new_reader words = map new_sight words
+-- a reader's seats, which have seen nothing
+abbrev pub new_sights : List ChannelNames → List SightView
+new_sights words = map new_sight words
 
 -- the seats of one channel more
 abbrev pub with_sight : List SightView → SightView → List SightView
 with_sight reader sight = reader ++ sight ∷ []
 
 -- so for each reader
-abbrev pub with_row : List (List SightView) → List SightView → List (List SightView)
-with_row readers row = each_with with_sight readers row
+abbrev pub with_sights : List (List SightView) → List SightView → List (List SightView)
+with_sights readers row = each_with with_sight readers row
 
 -- ---- calls
 
@@ -93,7 +94,8 @@ is_news s pending unwritable = (not (s.pending == pending) || not (beq s.unwrita
 abbrev pub told : HeadSeatView → ℕ → Bool → HeadSeatView
 told s pending unwritable = if is_news s pending unwritable then record s { sets = s.sets + 1; pending = pending; unwritable = unwritable } else s
 
--- One look at a channel's mark, by the reader's seat of that channel. The other seats stay.
+-- One look at a channel's mark (Channel.isWritable). It is by the reader's seat of that channel. The other seats
+-- stay.
 pub record LooksAt (before : List SightView) (channel : ℕ) (mark : Mark) (after : List SightView) : Type 0 where
   pub sight : SightView
   pub seen : MarkSeatView
@@ -102,8 +104,8 @@ pub record LooksAt (before : List SightView) (channel : ℕ) (mark : Mark) (afte
   pub found : (mark.version ≡ seen.version) × (mark.unwritable ≡ seen.unwritable)
   pub others : after ≡ slice_set before channel (record sight { mark = seen })
 
--- One look at promise n of a channel, by the reader's seat of that channel, which finds again what it has seen. The other
--- seats stay.
+-- One look at a channel's promise n (ChannelPromise). It is by the reader's seat of that channel, which finds again
+-- what it has seen. The other seats stay.
 pub record PeeksAt (before : List SightView) (channel n : ℕ) (found : Option Outcome) (after : List SightView) : Type 0 where
   pub sight : SightView
   pub seen : PromiseSeatView

@@ -12,7 +12,8 @@ use Rattle.pl_head.specs.Transports.{TransportState}
 use Rattle.pl_part.specs.Paths.{writer_hop}
 use Rattle.pl_part.specs.Parts.{ChannelPartView, PartHolds, part_taken, part_writes, part_came, part_lanes}
 use Rattle.pl_part.specs.Shares.{IsShare, executor_of}
-use Rattle.pl_replay.specs.Placed.{all_lanes, lanes_between}
+use Rattle.pl_channel.specs.Channels.{data_lanes_of}
+use Rattle.pl_channel.specs.Ways.{lanes_between}
 use Rattle.pl_exec.specs.declared.nodes.OwnNodes.{OwnNodes}
 use Rattle.pl_exec.specs.Opening.{PlacesView}
 use Rattle.pl_exec.specs.OwnNodes.{AreOn, heads_of, numbered_from}
@@ -62,7 +63,7 @@ module _ {S T : Type 0} (wholes : List (ChannelPartView S T)) (so_many : ℕ) wh
   -- those of an executor: on its work list for each data lane, and for what waits for a target for each lane from it to there
   abbrev pub places_at : ℕ → PlacesView
   places_at x = record {
-    work = length (all_lanes wholes);
+    work = length (data_lanes_of wholes);
     targets = map (λ y. length (lanes_between wholes x y)) (range_with_len 0 so_many);
   }
 

@@ -3,8 +3,8 @@
 ghost use Rattle.std.specs.Prelude.{◌≡◌, ◌<◌, ◌++◌, [], length, map, true, All, IfOk, OnOk};
 ghost use Rattle.std.specs.List.{flat_map, range_with_len};
 ghost use Rattle.pl_part.specs.Paths.{writer_hop};
-ghost use Rattle.pl_replay.specs.Channels.{executor_at, origin_of, target_of};
-ghost use Rattle.pl_replay.specs.Placed.{HasExecutors};
+ghost use Rattle.pl_channel.specs.Channels.{executor_at, origin_of, target_of};
+ghost use Rattle.pl_channel.specs.Ways.{HasExecutors};
 ghost use Rattle.pl_exec.specs.Opening.{IsSquare, lanes_in};
 ghost use Rattle.pl_exec.specs.Lanes.{AreLaid, every_lane, is_lane, lane_table, lanes_at, table_of, with_lane, with_last};
 

@@ -11,8 +11,8 @@ mod sharing;
 mod telling;
 mod words;
 
-pub use pl_executor::{Gate, RunFault};
 pub use pl_post::{Post, PostOwner, PostSeat, StillOpen, Unsent};
+pub use pl_threads::{Gate, RunFault};
 pub use planned::Planned;
 pub use running::{QueueKind, run, run_with, run_world};
 pub use words::{HeadSeats, PROMISES, Reader, Words};

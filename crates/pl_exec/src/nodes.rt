@@ -1,20 +1,19 @@
 //! The nodes of an executor.
 
 ghost use Rattle.std.specs.Prelude.{◌≡◌, ◌<◌, ◌^◌, ◌||◌, ◌&&◌, All, length, get_or, slice_get, Some, ℕ, true, false};
-ghost use Rattle.pl_exec.specs.OwnNodes.{HasGivenUp, IsRefusedBy, MayMoveOwn, AreOver, IsOverAt, IsPartOver, enters, served_of, target_of};
+ghost use Rattle.pl_exec.specs.OwnNodes.{HasGivenUp, IsRefusedBy, MayMoveOwn, AreOver, IsOverAt, IsPartOver, enters, served_of, entered_executor};
 ghost use Rattle.pl_exec.specs.Telling.{OwnStand};
 ghost use Rattle.pl_part.specs.Parts.{ChannelPartView, PartHolds};
-ghost use Rattle.pl_replay.specs.Channels.{IsMovedBy, IsTakenBy, came_of, taken_of, writes_of};
-ghost use Rattle.pl_replay.specs.Channels.{lanes_of as data_lanes_of};
+ghost use Rattle.pl_channel.specs.Channels.{IsMovedBy, IsTakenBy, came_of, taken_of, writes_of, data_lanes_of};
 ghost use Rattle.pl_event.specs.Worlds.{World};
 
 use crate::planned::Planned;
 use pl_context::Outputs;
 use pl_event::{Envelope, Kind, Lane, Stage};
-use pl_executor::Part;
 use pl_flow::HeadMove;
 use pl_head::Transport;
 use pl_part::ChannelPart;
+use pl_threads::Nodes;
 
 /// No executor has this number.
 const NOBODY: usize = 65_536;
@@ -31,12 +30,12 @@ pub(crate) struct OwnNodes<S: Stage, T: Transport> {
     pub(crate) was_refused: bool,
 }
 
-impl<W: Planned, S: Stage, T: Transport> Part<W> for OwnNodes<S, T> {
+impl<W: Planned, S: Stage, T: Transport> Nodes<W> for OwnNodes<S, T> {
     ghost home = { λ n. n.number };
 
     ghost lanes = { λ n. data_lanes_of n.parts.items };
 
-    ghost target_of = { λ n lane. target_of n.parts.items lane };
+    ghost target_of = { λ n lane. entered_executor n.parts.items lane };
 
     ghost writes = { λ n lane. writes_of S.meaning n.parts.items lane };
 

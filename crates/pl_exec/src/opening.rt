@@ -1,16 +1,16 @@
 //! The inboxes of all executors, and the executors before their first turn.
 
 ghost use Rattle.std.specs.Prelude.{◌≡◌, ◌<◌, ◌^◌, ◌∷◌, ◌++◌, ℕ, [], length, map, slice_get, All, IfOk, OnOk, Some};
-ghost use Rattle.pl_exec.specs.Opening.{lanes_in, CanOpen, CanOpenAll, InboxView, IsOwn, IsRow, AreRows, AreOpened, with_row, with_rows, outbox_of, AreWays, Starts, CanStart, IsFirst};
-ghost use Rattle.pl_executor.specs.Running.{ExecutorView};
+ghost use Rattle.pl_exec.specs.Opening.{lanes_in, CanOpen, CanOpenAll, InboxView, IsOwn, AreWaysTo, AreRows, AreOpened, with_row, with_rows, outbox_of, AreWays, Starts, CanStart, IsFirst};
+ghost use Rattle.pl_threads.specs.Running.{ExecutorView};
 
 use crate::planned::Planned;
 use crossbeam_utils::sync::Parker;
 use pl_context::Outputs;
 use pl_event::{Lane, Named};
-use pl_executor::{Core, Executor, Part};
 use pl_outbox::{Inbox, Outbox, Outboxes};
 use pl_queue::{Mailbox, OpenRefusal};
+use pl_threads::{Core, Executor, Nodes};
 use pl_words::{Admission, OwnerSeat, SendSeat};
 use std::alloc::{AllocError, Global};
 use std::marker::Model;
@@ -111,7 +111,7 @@ where
     ensures none { IfOk result (λ r. r.1.ways ≡ []) }
     ensures capacity { IfOk result (λ r. M.capacity_of r.0.mailbox ≡ capacity) }
     ensures count { IfOk result (λ r. length r.2.items ≡ length senders.items) }
-    ensures ways { IfOk result (λ r. IsRow M.is_taker M.takes_of M.is_sender M.sends_of (record { mailbox = r.0.mailbox; name = r.0.admission.name }) (map (λ sender. sender.items) senders.items) r.2.items) }
+    ensures ways { IfOk result (λ r. AreWaysTo M.is_taker M.takes_of M.is_sender M.sends_of (record { mailbox = r.0.mailbox; name = r.0.admission.name }) (map (λ sender. sender.items) senders.items) r.2.items) }
 {
     let count = senders.len() as u16;
     let (mailbox, senders, taker) = match M::open(alloc, senders, capacity) {
@@ -230,7 +230,7 @@ impl Model for Places {
 
 /// The executors before their first turn, each with its nodes and its ways, and with the parker of its inbox. Nothing waits,
 /// and nothing was taken. The mailboxes have the capacity of the plan.
-pub(crate) fn executors<'a, W: Planned, M: Mailbox<W> + Drop, N: Part<W> + Drop>(
+pub(crate) fn executors<'a, W: Planned, M: Mailbox<W> + Drop, N: Nodes<W> + Drop>(
     alloc: Global,
     inboxes: &'a [Inbox<W, M>],
     ways: Vec<Ways<W, M>>,
@@ -244,25 +244,25 @@ where
     requires capacity { All (λ i. M.capacity_of i.mailbox ≡ W.plan.capacity) inboxes.now }
     requires start { CanStart M.is_taker M.takes_of M.is_sender M.sends_of N.stands N.home N.lanes N.target_of N.writes N.taken_of N.came N.was_refused
         (map (λ i. record { mailbox = i.mailbox; name = i.admission.name }) inboxes.now) ways.items nodes.items places.items }
-    ensures parts { IfOk result (λ executors. map (λ e. e.0.part) executors.items ≡ nodes.items) }
+    ensures parts { IfOk result (λ executors. map (λ e. e.0.nodes) executors.items ≡ nodes.items) }
     ensures first { IfOk result (λ executors. (y : ℕ) (e : ExecutorView N) → slice_get (map (λ e. e.0) executors.items) y ≡ Some e → IsFirst y e) }
 {
     let mut executors = Vec::with_capacity(alloc, inboxes.len())?;
     let mut number = 0;
-    for ((ways, part), places) in ways.into_iter().zip(nodes).zip(places) {
-        executors.push(executor(alloc, inboxes, number, ways, part, &places)?)?;
+    for ((ways, own), places) in ways.into_iter().zip(nodes).zip(places) {
+        executors.push(executor(alloc, inboxes, number, ways, own, &places)?)?;
         number += 1;
     }
     Ok(executors)
 }
 
 /// An executor before its first turn, with its parker.
-fn executor<'a, W: Named, M: Mailbox<W> + Drop, N: Part<W> + Drop>(
+fn executor<'a, W: Named, M: Mailbox<W> + Drop, N: Nodes<W> + Drop>(
     alloc: Global,
     inboxes: &'a [Inbox<W, M>],
     number: usize,
     ways: Ways<W, M>,
-    part: N,
+    nodes: N,
     places: &Places,
 ) -> Result<(Executor<'a, W, M, N>, Parker), AllocError>
 where
@@ -271,8 +271,8 @@ where
     requires there { number < length inboxes.now }
     requires few { length inboxes.now < 2 ^ 16 }
     requires starts { Starts M.is_taker M.takes_of M.is_sender M.sends_of N.stands N.home N.lanes N.target_of N.writes N.taken_of N.came N.was_refused
-        (map (λ i. record { mailbox = i.mailbox; name = i.admission.name }) inboxes.now) number ways part places.now }
-    ensures part { IfOk result (λ e. e.0.part ≡ part) }
+        (map (λ i. record { mailbox = i.mailbox; name = i.admission.name }) inboxes.now) number ways nodes places.now }
+    ensures nodes { IfOk result (λ e. e.0.nodes ≡ nodes) }
     ensures first { IfOk result (λ e. IsFirst number e.0) }
 {
     let Ways {
@@ -284,7 +284,7 @@ where
     let outboxes = outboxes(alloc, inboxes, ways)?;
     let core = Core {
         number,
-        part,
+        nodes,
         outboxes: Outboxes::new(alloc, outboxes, places.targets.as_slice())?,
         work: Outputs::new(alloc, places.work)?,
     };

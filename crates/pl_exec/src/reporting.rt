@@ -10,10 +10,10 @@ use crate::telling::TellingNodes;
 use pl_channel::into_report;
 use pl_context::Tail;
 use pl_event::{Sequence, Stage};
-use pl_executor::Finished;
 use pl_head::{Head, Transport};
 use pl_part::ChannelPart;
 use pl_queue::Mailbox;
+use pl_threads::Finished;
 use pl_world::{ChannelReport, Report};
 use std::alloc::{AllocError, Global};
 
@@ -33,7 +33,7 @@ pub(crate) fn report_of<W: Planned, M: Mailbox<W> + Drop, S: Stage, T: Transport
 where
     M::Taker: Drop,
     requires plan { IsPlan W.plan }
-    requires executors { map (λ e. e.part.nodes.number) all.items ≡ range_with_len 0 W.plan.executors }
+    requires executors { map (λ e. e.nodes.nodes.number) all.items ≡ range_with_len 0 W.plan.executors }
     requires channels { channels ≡ length W.plan.channels }
     ensures { IfOk result (λ report. IsRunReport W.plan report) }
 {

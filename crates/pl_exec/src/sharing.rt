@@ -2,15 +2,15 @@
 
 ghost use Rattle.std.specs.Prelude.{◌≡◌, ◌<◌, ◌∷◌, ◌++◌, [], All, cond, length, map, IfOk, OnOk};
 ghost use Rattle.std.specs.List.{range_with_len};
-ghost use Rattle.pl_replay.specs.Placed.{ArePlaceable};
+ghost use Rattle.pl_channel.specs.Ways.{ArePlaceable};
 ghost use Rattle.pl_exec.specs.Sharing.{AreNoted, AreShared, IsNoted, IsNotedAt, Gets, EachGets, channels_on, places_of, rows_in};
 
 use crate::nodes::OwnNodes;
 use crate::opening::Places;
+use pl_channel::{lane_count, places_between};
 use pl_event::Stage;
 use pl_head::Transport;
 use pl_part::ChannelPart;
-use pl_replay::{lane_count, places_between};
 use std::alloc::{AllocError, Global};
 
 /// The nodes of these channels, divided among so many executors.

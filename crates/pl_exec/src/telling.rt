@@ -5,11 +5,10 @@ ghost use Rattle.pl_event.specs.Worlds.{World};
 ghost use Rattle.pl_head.specs.HeadStand.{HeadView};
 ghost use Rattle.pl_part.specs.Parts.{PartHolds};
 ghost use Rattle.pl_part.specs.Told.{IsTold, part_untold};
-ghost use Rattle.pl_replay.specs.Channels.{IsMovedBy, IsTakenBy, came_of, taken_of, writes_of};
-ghost use Rattle.pl_replay.specs.Channels.{lanes_of as data_lanes_of};
+ghost use Rattle.pl_channel.specs.Channels.{IsMovedBy, IsTakenBy, came_of, taken_of, writes_of, data_lanes_of};
 ghost use Rattle.pl_world.specs.Plans.{Plan};
 ghost use Rattle.pl_world.specs.PlanRules.{IsPlan};
-ghost use Rattle.pl_exec.specs.OwnNodes.{NodesStand, HasGivenUp, IsRefusedBy, MayMoveOwn, AreOver, served_of, target_of};
+ghost use Rattle.pl_exec.specs.OwnNodes.{NodesStand, HasGivenUp, IsRefusedBy, MayMoveOwn, AreOver, served_of, entered_executor};
 ghost use Rattle.pl_exec.specs.SessionWords.{AreSeatsOf, AreHeadSeatsOf, TriesEach, told};
 ghost use Rattle.pl_exec.specs.Sharing.{AreKnown, rows_in};
 ghost use Rattle.pl_exec.specs.Telling.{AreDealt, AreSeated, AreToldAt, CanTell, HasOwnSeats, HaveApartHeads, HaveMarks, HaveSeats, KeepsOthers, KnowChannels, SettlesAt, TellingStand, Tells, TellsAfter, TellsAt, part_outcomes};
@@ -19,10 +18,10 @@ use crate::planned::Planned;
 use crate::words::{HeadSeats, Seats, Words};
 use pl_context::Outputs;
 use pl_event::{Envelope, Lane, Stage};
-use pl_executor::Part;
 use pl_flow::HeadMove;
 use pl_head::Transport;
 use pl_part::ChannelPart;
+use pl_threads::Nodes;
 use pl_words::watermark::MAX_SETS;
 use std::alloc::{AllocError, Global};
 
@@ -37,12 +36,12 @@ pub(crate) struct TellingNodes<'a, S: Stage, T: Transport> {
     here: Vec<usize>,
 }
 
-impl<'a, W: Planned, S: Stage, T: Transport> Part<W> for TellingNodes<'a, S, T> {
+impl<'a, W: Planned, S: Stage, T: Transport> Nodes<W> for TellingNodes<'a, S, T> {
     ghost home = { λ n. n.nodes.number };
 
     ghost lanes = { λ n. data_lanes_of n.nodes.parts.items };
 
-    ghost target_of = { λ n lane. target_of n.nodes.parts.items lane };
+    ghost target_of = { λ n lane. entered_executor n.nodes.parts.items lane };
 
     ghost writes = { λ n lane. writes_of S.meaning n.nodes.parts.items lane };
 
@@ -75,25 +74,25 @@ impl<'a, W: Planned, S: Stage, T: Transport> Part<W> for TellingNodes<'a, S, T> 
     ghost moved = { λ n by at before n' after. TellsAfter (λ between. IsMovedBy T.state T.may_refuse n.nodes.parts.items by (get_or n.nodes.own.items at 0) before between after) (get_or n.nodes.own.items at 0) n n' };
 
     fn target(&self, lane: Lane) -> usize {
-        <OwnNodes<S, T> as Part<W>>::target(&self.nodes, lane)
+        <OwnNodes<S, T> as Nodes<W>>::target(&self.nodes, lane)
     }
 
     fn take(&mut self, envelope: Envelope, work: &mut Outputs) {
         let channel = envelope.lane.channel as usize;
-        <OwnNodes<S, T> as Part<W>>::take(&mut self.nodes, envelope, work);
+        <OwnNodes<S, T> as Nodes<W>>::take(&mut self.nodes, envelope, work);
         self.tell(channel);
     }
 
     fn refuse(&mut self, lane: Lane, work: &mut Outputs) {
-        <OwnNodes<S, T> as Part<W>>::refuse(&mut self.nodes, lane, work);
+        <OwnNodes<S, T> as Nodes<W>>::refuse(&mut self.nodes, lane, work);
     }
 
     fn channels(&self) -> usize {
-        <OwnNodes<S, T> as Part<W>>::channels(&self.nodes)
+        <OwnNodes<S, T> as Nodes<W>>::channels(&self.nodes)
     }
 
     fn move_head(&mut self, by: HeadMove, at: usize, work: &mut Outputs) -> bool {
-        if !<OwnNodes<S, T> as Part<W>>::move_head(&mut self.nodes, by, at, work) {
+        if !<OwnNodes<S, T> as Nodes<W>>::move_head(&mut self.nodes, by, at, work) {
             return false;
         }
         let channel = self.nodes.own[at];

@@ -6,11 +6,11 @@ ghost use Rattle.pl_event.specs.declared.outcomes.Outcome.{Outcome};
 ghost use Rattle.pl_words.specs.PromiseRule.{at};
 ghost use Rattle.pl_words.specs.PromiseViews.{Settles, Meets};
 ghost use Rattle.pl_words.specs.Watermarks.{IsMarked};
-ghost use Rattle.pl_exec.specs.SessionWords.{AreSeatsOf, AreHeadSeatsOf, HaveMarksOf, IsReaderOf, new_seats, new_head_seats, new_sight, new_reader, with_row, is_news, told, LooksAt, PeeksAt};
+ghost use Rattle.pl_exec.specs.SessionWords.{AreSeatsOf, AreHeadSeatsOf, HaveMarksOf, IsReaderOf, new_seats, new_head_seats, new_sight, new_sights, with_sights, is_news, told, LooksAt, PeeksAt};
 
 use pl_event::{Outcome, Stage};
-use pl_executor::RunFault;
 use pl_head::Transport;
+use pl_threads::RunFault;
 use pl_words::promises::{MAX_PROMISES, Promises, SettleSeat};
 use pl_words::watermark::{HeadSeat, MAX_SETS, Mark, Watermark};
 use pl_words::{promises, watermark};
@@ -209,7 +209,7 @@ fn no_sights(alloc: Global, readers: u16) -> Result<Vec<Reader>, AllocError>
 /// The seats of one channel more for each reader.
 fn add_row(readers: &mut Vec<Reader>, row: Vec<Sight>) -> Result<(), AllocError>
     requires { length row.items ≡ length readers.old.items }
-    ensures { OnOk result (readers.new.items ≡ with_row readers.old.items row.items) }
+    ensures { OnOk result (readers.new.items ≡ with_sights readers.old.items row.items) }
 {
     let mut number = 0;
     for sight in row {
@@ -229,7 +229,7 @@ pub(crate) fn words_of<S: Stage, T: Transport>(
     ensures heads { IfOk result (λ new. new.1 ≡ new_head_seats new.0 channels.now) }
     ensures own_heads { IfOk result (λ new. AreHeadSeatsOf new.0 new.1) }
     ensures marks { IfOk result (λ new. HaveMarksOf new.1 channels.now) }
-    ensures readers { IfOk result (λ new. new.2.items ≡ replicate readers (new_reader new.0)) }
+    ensures readers { IfOk result (λ new. new.2.items ≡ replicate readers (new_sights new.0)) }
 {
     let mut words = Vec::with_capacity(alloc, channels.len())?;
     let mut heads = Vec::with_capacity(alloc, channels.len())?;
@@ -259,7 +259,7 @@ impl Words {
         ensures channels { IfOk result (λ new. length new.0 ≡ length session.now.world.channels) }
         ensures heads { IfOk result (λ new. new.1 ≡ new_head_seats new.0 session.now.world.channels) }
         ensures count { IfOk result (λ new. length new.2.items ≡ readers) }
-        ensures readers { IfOk result (λ new. All (λ r. r ≡ new_reader new.0) new.2.items) }
+        ensures readers { IfOk result (λ new. All (λ r. r ≡ new_sights new.0) new.2.items) }
         ensures own_heads { IfOk result (λ new. AreHeadSeatsOf new.0 new.1) }
         ensures marks { IfOk result (λ new. HaveMarksOf new.1 session.now.world.channels) }
         ensures own_readers { IfOk result (λ new. All (IsReaderOf new.0) new.2.items) }

@@ -12,27 +12,28 @@ use Rattle.pl_flow.specs.Flows.{Point, after, on, IsGood, IsNext, IsFlow, past}
 
 -- ---- what is made
 
--- where each lane has come, once this envelope was made, and once these were
+-- where each lane has come, once this envelope was made
 abbrev pub made_one : (Lane → Point) → Envelope → Lane → Point
 made_one from x lane = cond (same_lane lane x.lane) (after x) (from lane)
 
+-- where each lane has come, once these were made
 abbrev pub made_all : (Lane → Point) → List Envelope → Lane → Point
 made_all from [] = from
 made_all from (x ∷ xs) = made_all (made_one from x) xs
 
--- Each is on a lane that the nodes write, and the next one there, in turn.
+-- Each item in turn is next on its lane. The lane is one that the nodes write.
 abbrev pub AreNext : World → (Lane → Bool) → (Lane → Point) → List Envelope → Type 0
 AreNext world writes from [] = Unit {0}
 AreNext world writes from (x ∷ xs) = (writes x.lane ≡ true) × IsNext world (from x.lane) x × AreNext world writes (made_one from x) xs
 
--- Items of a lane with these numbers on: each may stand there, and nothing follows an end or a failure.
+-- Items from this number on may stand on a lane. Nothing follows an end or a failure.
 abbrev pub AreGood : World → Lane → ℕ → List Item → Type 0
 AreGood world lane n [] = Unit {0}
 AreGood world lane n (i ∷ is) = IsGood world (record { lane = lane; number = n; item = i }) × (goes_on i ≡ false → is ≡ []) × AreGood world lane (n + 1) is
 
 -- ---- what of it comes on a list
 
--- none of their lanes has stopped
+-- none of these envelopes' lanes has stopped
 abbrev pub NoneStopped : StopsView → List Envelope → Type 0
 NoneStopped s [] = Unit {0}
 NoneStopped s (x ∷ xs) = (has_stopped s x.lane ≡ false) × NoneStopped s xs
@@ -46,7 +47,8 @@ pub record LaneGrows (world : World) (writes stopped stopped' : Bool) (from : Po
   pub flow : stopped ≡ false → IsFlow world from added
   pub up_to : stopped' ≡ false → past from added ≡ to
 
--- Nodes have put this on a list. They write some lanes; each had come to a point, and has come to another.
+-- Nodes have put this on a list (ChannelHandlerContext, make_law). They write some lanes; each had come to a point,
+-- and has come to another.
 pub record Makes (world : World) (writes : Lane → Bool) (from to : Lane → Point) (before after : OutputsView) : Type 0 where
   pub added : List Envelope
   pub items : after.items ≡ before.items ++ added

@@ -4,7 +4,7 @@ use Rattle.std.proofs.lemmas.List.{length-set, map-append, take-append-drop}
 use Rattle.std.proofs.Math.Seq.{drop-cons}
 use Rattle.pl_event.specs.declared.outcomes.Outcome.{Outcome}
 use Rattle.pl_head.specs.declared.outbound_buffer.Entry.{Entry}
-use Rattle.pl_head.specs.WaitingMessages.{numbers_of}
+use Rattle.pl_head.specs.WaitingMessages.{entry_numbers}
 use Rattle.pl_head.specs.Settling.{same_as, times, settled_at, open_at, Account}
 
 same_as-same : (n : ℕ) → same_as n n ≡ 1
@@ -148,19 +148,19 @@ account-same w s o a = rw (w, s, o) a
 
 -- the message at a place is settled
 module _ (entries : List Entry) (place : ℕ) (entry : Entry) (within : place < length entries) (is : entry ≡ get_or entries place entry) (before settled : List ℕ) (os : List (Option Outcome))
-    (a : Account (before ++ numbers_of (drop place entries)) settled os) where
-  here : Account (before ++ entry.number ∷ numbers_of (drop (suc place) entries)) settled os
+    (a : Account (before ++ entry_numbers (drop place entries)) settled os) where
+  here : Account (before ++ entry.number ∷ entry_numbers (drop (suc place) entries)) settled os
   here =
-      subst (λ (es : List Entry). Account (before ++ numbers_of es) settled os) (drop-cons entries place entry within ∙ ap (λ (e : Entry). e ∷ drop (suc place) entries) (sym is)) a
+      subst (λ (es : List Entry). Account (before ++ entry_numbers es) settled os) (drop-cons entries place entry within ∙ ap (λ (e : Entry). e ∷ drop (suc place) entries) (sym is)) a
 
   pub within-at : entry.number < length os
-  within-at = account-within before (numbers_of (drop (suc place) entries)) settled entry.number os here
+  within-at = account-within before (entry_numbers (drop (suc place) entries)) settled entry.number os here
 
-  pub account-at : (new : Outcome) → Account (before ++ numbers_of (drop (suc place) entries)) (settled ++ entry.number ∷ []) (set os entry.number (Some new))
-  account-at new = account-settles before (numbers_of (drop (suc place) entries)) settled entry.number os new here
+  pub account-at : (new : Outcome) → Account (before ++ entry_numbers (drop (suc place) entries)) (settled ++ entry.number ∷ []) (set os entry.number (Some new))
+  account-at new = account-settles before (entry_numbers (drop (suc place) entries)) settled entry.number os new here
 
 -- what waits up to a place, and behind it
-pub account-split : (entries : List Entry) (place : ℕ) {settled : List ℕ} {os : List (Option Outcome)} → Account (numbers_of entries) settled os → Account (numbers_of (take place entries) ++ numbers_of (drop place entries)) settled os
+pub account-split : (entries : List Entry) (place : ℕ) {settled : List ℕ} {os : List (Option Outcome)} → Account (entry_numbers entries) settled os → Account (entry_numbers (take place entries) ++ entry_numbers (drop place entries)) settled os
 account-split entries place {settled = settled} {os = os} a =
     subst (λ (ns : List ℕ). Account ns settled os)
-    (ap (λ (ws : List Entry). numbers_of ws) (sym (take-append-drop place entries)) ∙ map-append (λ (w : Entry). w.number) (take place entries) (drop place entries)) a
+    (ap (λ (ws : List Entry). entry_numbers ws) (sym (take-append-drop place entries)) ∙ map-append (λ (w : Entry). w.number) (take place entries) (drop place entries)) a

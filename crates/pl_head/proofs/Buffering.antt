@@ -8,16 +8,16 @@ use Rattle.pl_event.specs.declared.outcomes.Outcome.TheVariants.{Success, Closed
 use Rattle.pl_head.specs.declared.outbound_buffer.Entry.{Entry}
 use Rattle.pl_head.specs.Writes.{bytes_of, waiting, late_outcome, unflushed_outcome, outcomes_from}
 use Rattle.pl_head.specs.Failures.{settled_by}
-use Rattle.pl_head.specs.WaitingMessages.{settled_all, numbered, settled, first_size, MessagesStand}
+use Rattle.pl_head.specs.WaitingMessages.{settled_all, entries_numbered, settled, first_size, MessagesStand}
 
-pub numbered-append : (n : ℕ) (xs ys : List (Option (List ℕ))) → numbered n (xs ++ ys) ≡ numbered n xs ++ numbered (n + length xs) ys
-numbered-append n [] ys = let e : n ≡ n + 0 = omega arith in ap (λ (k : ℕ). numbered k ys) e
+pub numbered-append : (n : ℕ) (xs ys : List (Option (List ℕ))) → entries_numbered n (xs ++ ys) ≡ entries_numbered n xs ++ entries_numbered (n + length xs) ys
+numbered-append n [] ys = let e : n ≡ n + 0 = omega arith in ap (λ (k : ℕ). entries_numbered k ys) e
 numbered-append n (None ∷ xs) ys =
     let e : (n + 1) + length xs ≡ n + suc (length xs) = omega arith in
-    numbered-append (n + 1) xs ys ∙ ap (λ (k : ℕ). numbered (n + 1) xs ++ numbered k ys) e
+    numbered-append (n + 1) xs ys ∙ ap (λ (k : ℕ). entries_numbered (n + 1) xs ++ entries_numbered k ys) e
 numbered-append n (Some b ∷ xs) ys =
     let e : (n + 1) + length xs ≡ n + suc (length xs) = omega arith in
-    ap (λ (t : List Entry). record { number = n; bytes = b } ∷ t) (numbered-append (n + 1) xs ys ∙ ap (λ (k : ℕ). numbered (n + 1) xs ++ numbered k ys) e)
+    ap (λ (t : List Entry). record { number = n; bytes = b } ∷ t) (numbered-append (n + 1) xs ys ∙ ap (λ (k : ℕ). entries_numbered (n + 1) xs ++ entries_numbered k ys) e)
 
 pub bytes_of-append : (xs ys : List (Option (List ℕ))) → bytes_of (xs ++ ys) ≡ bytes_of xs ++ bytes_of ys
 bytes_of-append [] ys = refl
@@ -56,13 +56,13 @@ through-past (Some b ∷ ws) = refl
 record First (n : ℕ) (ws : List (Option (List ℕ))) : Type 0 where
   message : Entry
   others : List Entry
-  entries : numbered n ws ≡ message ∷ others
+  entries : entries_numbered n ws ≡ message ∷ others
   number : message.number ≡ n + skipped ws
   bytes : bytes_of ws ≡ message.bytes ++ bytes_of (past_first ws)
   size : length message.bytes ≡ first_length ws
-  others_are : others ≡ numbered (n + length (through_first ws)) (past_first ws)
+  others_are : others ≡ entries_numbered (n + length (through_first ws)) (past_first ws)
 
-first_of : (n : ℕ) (ws : List (Option (List ℕ))) → 0 < length (numbered n ws) → First n ws
+first_of : (n : ℕ) (ws : List (Option (List ℕ))) → 0 < length (entries_numbered n ws) → First n ws
 first_of n [] h = absurd (omega (arith, h))
 first_of n (None ∷ ws) h =
     let f = first_of (n + 1) ws h in
@@ -75,23 +75,23 @@ first_of n (None ∷ ws) h =
       number = f.number ∙ number_is;
       bytes = f.bytes;
       size = f.size;
-      others_are = f.others_are ∙ ap (λ (k : ℕ). numbered k (past_first ws)) place_is;
+      others_are = f.others_are ∙ ap (λ (k : ℕ). entries_numbered k (past_first ws)) place_is;
     }
 first_of n (Some b ∷ ws) h =
     let number_is : n ≡ n + 0 = omega arith in
     let place_is : n + 1 ≡ n + suc 0 = omega arith in
     record {
       message = record { number = n; bytes = b };
-      others = numbered (n + 1) ws;
+      others = entries_numbered (n + 1) ws;
       entries = refl;
       number = number_is;
       bytes = refl;
       size = refl;
-      others_are = ap (λ (k : ℕ). numbered k ws) place_is;
+      others_are = ap (λ (k : ℕ). entries_numbered k ws) place_is;
     }
 
 -- no message among these writes, so no bytes
-bytes_of-none : (n : ℕ) (ws : List (Option (List ℕ))) → length (numbered n ws) ≡ 0 → bytes_of ws ≡ []
+bytes_of-none : (n : ℕ) (ws : List (Option (List ℕ))) → length (entries_numbered n ws) ≡ 0 → bytes_of ws ≡ []
 bytes_of-none n [] h = refl
 bytes_of-none n (None ∷ ws) h = bytes_of-none (n + 1) ws h
 bytes_of-none n (Some b ∷ ws) h = absurd (omega (arith, h))
@@ -104,7 +104,7 @@ drop-nil zero = refl
 drop-nil (suc n) = refl
 
 -- the first message's outcome is set
-set-first : (n : ℕ) (ws : List (Option (List ℕ))) (more : List (Option Outcome)) → 0 < length (numbered n ws)
+set-first : (n : ℕ) (ws : List (Option (List ℕ))) (more : List (Option Outcome)) → 0 < length (entries_numbered n ws)
     → set (map waiting ws ++ more) (skipped ws) (Some Success) ≡ map settled (through_first ws) ++ (map waiting (past_first ws) ++ more)
 set-first n [] more h = absurd (omega (arith, h))
 set-first n (None ∷ ws) more h =
@@ -138,7 +138,7 @@ same_parts q c o s = record {
 module _ (entries : List Entry) (offset count : ℕ) (outcomes : List (Option Outcome)) (flushed unflushed : List (Option (List ℕ))) (left : List ℕ) where
   -- one write more
   pub adds : (w : Option (List ℕ)) → MessagesStand entries offset count outcomes flushed unflushed left false
-      → MessagesStand (entries ++ numbered (length outcomes) (w ∷ [])) offset count (outcomes ++ waiting w ∷ []) flushed (unflushed ++ w ∷ []) left false
+      → MessagesStand (entries ++ entries_numbered (length outcomes) (w ∷ [])) offset count (outcomes ++ waiting w ∷ []) flushed (unflushed ++ w ∷ []) left false
   adds w s = record {
     done = s.done;
     mid = s.mid;
@@ -157,14 +157,14 @@ module _ (entries : List Entry) (offset count : ℕ) (outcomes : List (Option Ou
   pub flushes : MessagesStand entries offset count outcomes flushed unflushed left false → MessagesStand entries offset (length entries) outcomes (flushed ++ unflushed) [] (left ++ bytes_of unflushed) false
   flushes s =
       let size : length flushed ≡ length s.done + length s.mid = rw (← s.split) (length-append s.done s.mid) in
-      let together : entries ≡ numbered (length s.done) (s.mid ++ unflushed) =
+      let together : entries ≡ entries_numbered (length s.done) (s.mid ++ unflushed) =
       rw (numbered-append (length s.done) s.mid unflushed, ← size) s.entries_are in
       record {
         done = s.done;
         mid = s.mid ++ unflushed;
         split =
             sym (append_assoc s.done s.mid unflushed) ∙ ap (λ (t : List (Option (List ℕ))). t ++ unflushed) s.split;
-        entries_are = together ∙ sym (append-nil (numbered (length s.done) (s.mid ++ unflushed)));
+        entries_are = together ∙ sym (append-nil (entries_numbered (length s.done) (s.mid ++ unflushed)));
         count_is = ap (λ (t : List Entry). length t) together;
         outcomes_are =
             s.outcomes_are ∙ ap (λ (t : List (Option Outcome)). map settled s.done ++ t) (sym (map-append waiting s.mid unflushed) ∙ sym (append-nil (map waiting (s.mid ++ unflushed))));
@@ -202,7 +202,7 @@ module _ (entries : List Entry) (offset count : ℕ) (outcomes : List (Option Ou
         → (rest : List ℕ) × (drop offset first.bytes ++ rest ≡ left)
     front_first first s h is fits =
         let f = first_of (length s.done) s.mid (omega (arith, h, s.count_is)) in
-        let same : first ≡ f.message = is ∙ ap (λ (t : List Entry). get_or t 0 first) (s.entries_are ∙ ap (λ (t : List Entry). t ++ (if ended then [] else numbered (length flushed) unflushed)) f.entries) in
+        let same : first ≡ f.message = is ∙ ap (λ (t : List Entry). get_or t 0 first) (s.entries_are ∙ ap (λ (t : List Entry). t ++ (if ended then [] else entries_numbered (length flushed) unflushed)) f.entries) in
         let here : bytes_of s.mid ≡ first.bytes ++ bytes_of (past_first s.mid) = rw same f.bytes in
         (bytes_of (past_first s.mid), sym (drop-append-le offset first.bytes (bytes_of (past_first s.mid)) fits) ∙ ap (λ (t : List ℕ). drop offset t) (sym here) ∙ s.rest)
 
@@ -212,7 +212,7 @@ pub settles : (first : Entry) (entries : List Entry) (offset count : ℕ) (outco
     → MessagesStand entries 0 (count - 1) (set outcomes first.number (Some Success)) flushed unflushed left ended
 settles first entries offset count outcomes flushed unflushed left ended s h whole =
     let f = first_of (length s.done) s.mid (omega (arith, h, s.count_is)) in
-    let tail : List Entry = if ended then [] else numbered (length flushed) unflushed in
+    let tail : List Entry = if ended then [] else entries_numbered (length flushed) unflushed in
     let items : first ∷ entries ≡ f.message ∷ (f.others ++ tail) = s.entries_are ∙ ap (λ (t : List Entry). t ++ tail) f.entries in
     let same : first ≡ f.message = cc items in
     let entries_rest : entries ≡ f.others ++ tail = cc items in
@@ -221,7 +221,7 @@ settles first entries offset count outcomes flushed unflushed left ended s h who
     let number : first.number ≡ length s.done + skipped s.mid = ap (λ (w : Entry). w.number) same ∙ f.number in
     let size = length-map s.done settled in
     let at : first.number - length s.done ≡ skipped s.mid = omega (arith, number) in
-    let some : 0 < length (numbered (length s.done) s.mid) = omega (arith, h, s.count_is) in
+    let some : 0 < length (entries_numbered (length s.done) s.mid) = omega (arith, h, s.count_is) in
     record {
       done = s.done ++ through_first s.mid;
       mid = past_first s.mid;
@@ -254,7 +254,7 @@ outcomes-past start accepted (Some b ∷ ws) h =
     let test : leb (start + length b) accepted ≡ false = grind (arith, nat_tests) in
     rw test (ap (λ (t : List (Option Outcome)). None ∷ t) (outcomes-past (start + length b) accepted ws (omega arith)))
 
-outcomes-mid : (n start accepted : ℕ) (ws : List (Option (List ℕ))) → (0 < length (numbered n ws) → accepted < start + first_length ws) → outcomes_from start accepted ws ≡ map waiting ws
+outcomes-mid : (n start accepted : ℕ) (ws : List (Option (List ℕ))) → (0 < length (entries_numbered n ws) → accepted < start + first_length ws) → outcomes_from start accepted ws ≡ map waiting ws
 outcomes-mid n start accepted [] h = refl
 outcomes-mid n start accepted (None ∷ ws) h =
     ap (λ (t : List (Option Outcome)). Some Unsupported ∷ t) (outcomes-mid (n + 1) start accepted ws h)
@@ -281,12 +281,12 @@ pub outcomes_stand : (entries : List Entry) (offset count : ℕ) (outcomes : Lis
     → MessagesStand entries offset count outcomes flushed unflushed left ended → (0 < count → offset < first_size entries) → (accepted : ℕ) → accepted + length left ≡ length (bytes_of flushed)
     → outcomes ≡ outcomes_from 0 accepted flushed ++ map (unflushed_outcome ended) unflushed
 outcomes_stand entries offset count outcomes flushed unflushed left ended s at_rest accepted a =
-    let tail : List Entry = if ended then [] else numbered (length flushed) unflushed in
+    let tail : List Entry = if ended then [] else entries_numbered (length flushed) unflushed in
     let more : List (Option Outcome) = map (unflushed_outcome ended) unflushed in
     let whole = ap (λ (t : List (Option (List ℕ))). length (bytes_of t)) (sym s.split) ∙ ap (λ (t : List ℕ). length t) (bytes_of-append s.done s.mid) ∙ length-append (bytes_of s.done) (bytes_of s.mid) in
     let size = ap (λ (t : List ℕ). length t) s.rest in
     let place : accepted ≡ length (bytes_of s.done) + offset = omega (arith, a, whole, size, length-drop offset (bytes_of s.mid), s.fits) in
-    let mid_waits : 0 < length (numbered (length s.done) s.mid) → accepted < (0 + length (bytes_of s.done)) + first_length s.mid = λ some.
+    let mid_waits : 0 < length (entries_numbered (length s.done) s.mid) → accepted < (0 + length (bytes_of s.done)) + first_length s.mid = λ some.
     (let f = first_of (length s.done) s.mid some in
     let items : entries ≡ f.message ∷ (f.others ++ tail) = s.entries_are ∙ ap (λ (t : List Entry). t ++ tail) f.entries in
     let below = at_rest (omega (arith, some, s.count_is)) in
@@ -311,25 +311,25 @@ settled_all-append o (w ∷ ws) vs os = settled_all-append o ws vs (set os w.num
 
 -- the outcomes of writes that wait, once they are settled
 late-numbered : (o : Outcome) (n : ℕ) (before more : List (Option Outcome)) (ws : List (Option (List ℕ))) → length before ≡ n
-    → settled_all o (numbered n ws) (before ++ (map waiting ws ++ more)) ≡ before ++ (map (late_outcome o) ws ++ more)
+    → settled_all o (entries_numbered n ws) (before ++ (map waiting ws ++ more)) ≡ before ++ (map (late_outcome o) ws ++ more)
 late-numbered o n before more [] h = refl
 late-numbered o n before more (None ∷ ws) h =
     let size : length (before ++ Some Unsupported ∷ []) ≡ n + 1 = omega (arith, h, length-append before (Some Unsupported ∷ [])) in
-    ap (λ (os : List (Option Outcome)). settled_all o (numbered (n + 1) ws) os) (sym (append_assoc before (Some Unsupported ∷ []) (map waiting ws ++ more)))
+    ap (λ (os : List (Option Outcome)). settled_all o (entries_numbered (n + 1) ws) os) (sym (append_assoc before (Some Unsupported ∷ []) (map waiting ws ++ more)))
     ∙ late-numbered o (n + 1) (before ++ Some Unsupported ∷ []) more ws size
     ∙ append_assoc before (Some Unsupported ∷ []) (map (late_outcome o) ws ++ more)
 late-numbered o n before more (Some b ∷ ws) h =
     let size : length (before ++ Some o ∷ []) ≡ n + 1 = omega (arith, h, length-append before (Some o ∷ [])) in
     let here : set (before ++ None ∷ (map waiting ws ++ more)) n (Some o) ≡ before ++ Some o ∷ (map waiting ws ++ more) =
     rw (← h) (set-append_seam before None (map waiting ws ++ more) (Some o)) in
-    ap (λ (os : List (Option Outcome)). settled_all o (numbered (n + 1) ws) os) (here ∙ sym (append_assoc before (Some o ∷ []) (map waiting ws ++ more)))
+    ap (λ (os : List (Option Outcome)). settled_all o (entries_numbered (n + 1) ws) os) (here ∙ sym (append_assoc before (Some o ∷ []) (map waiting ws ++ more)))
     ∙ late-numbered o (n + 1) (before ++ Some o ∷ []) more ws size
     ∙ append_assoc before (Some o ∷ []) (map (late_outcome o) ws ++ more)
 
 late-last : (o : Outcome) (n : ℕ) (before : List (Option Outcome)) (ws : List (Option (List ℕ))) → length before ≡ n
-    → settled_all o (numbered n ws) (before ++ map waiting ws) ≡ before ++ map (late_outcome o) ws
+    → settled_all o (entries_numbered n ws) (before ++ map waiting ws) ≡ before ++ map (late_outcome o) ws
 late-last o n before ws h =
-    ap (λ (os : List (Option Outcome)). settled_all o (numbered n ws) (before ++ os)) (sym (append-nil (map waiting ws)))
+    ap (λ (os : List (Option Outcome)). settled_all o (entries_numbered n ws) (before ++ os)) (sym (append-nil (map waiting ws)))
     ∙ late-numbered o n before [] ws h
     ∙ ap (λ (os : List (Option Outcome)). before ++ os) (append-nil (map (late_outcome o) ws))
 
@@ -337,8 +337,8 @@ late-last o n before ws h =
 pub closes : (entries : List Entry) (offset count : ℕ) (outcomes : List (Option Outcome)) (flushed unflushed : List (Option (List ℕ))) (left : List ℕ)
     → MessagesStand entries offset count outcomes flushed unflushed left false → MessagesStand (take count entries) offset count (settled_all Closed (drop count entries) outcomes) flushed unflushed left true
 closes entries offset count outcomes flushed unflushed left s =
-    let front : List Entry = numbered (length s.done) s.mid in
-    let tail : List Entry = numbered (length flushed) unflushed in
+    let front : List Entry = entries_numbered (length s.done) s.mid in
+    let tail : List Entry = entries_numbered (length flushed) unflushed in
     let before : List (Option Outcome) = map settled s.done ++ map waiting s.mid in
     let size : length before ≡ length flushed =
     rw (← s.split) (omega (arith, length-append (map settled s.done) (map waiting s.mid), length-append s.done s.mid, length-map s.done settled, length-map s.mid waiting)) in
@@ -382,8 +382,8 @@ by-waiting o (Some b ∷ ws) = ap (λ (os : List (Option Outcome)). Some o ∷ o
 pub fails : (o : Outcome) (entries : List Entry) (offset count : ℕ) (outcomes : List (Option Outcome)) (flushed unflushed : List (Option (List ℕ))) (left : List ℕ) (ended : Bool)
     → MessagesStand entries offset count outcomes flushed unflushed left ended → settled_all o entries outcomes ≡ map (settled_by o) outcomes
 fails o entries offset count outcomes flushed unflushed left ended s =
-    let front : List Entry = numbered (length s.done) s.mid in
-    let tail : List Entry = if ended then [] else numbered (length flushed) unflushed in
+    let front : List Entry = entries_numbered (length s.done) s.mid in
+    let tail : List Entry = if ended then [] else entries_numbered (length flushed) unflushed in
     let more : List (Option Outcome) = map (unflushed_outcome ended) unflushed in
     let late : List (Option Outcome) = map (late_outcome o) s.mid in
     let before : length (map settled s.done ++ late) ≡ length flushed =
@@ -401,6 +401,6 @@ fails o entries offset count outcomes flushed unflushed left ended s =
     ∙ ap (λ (os : List (Option Outcome)). map settled s.done ++ (os ++ map (settled_by o) more)) (by-waiting o s.mid))
   where
     rest : (ended : Bool) (n : ℕ) (before : List (Option Outcome)) (ws : List (Option (List ℕ))) → length before ≡ n
-        → settled_all o (if ended then [] else numbered n ws) (before ++ map (unflushed_outcome ended) ws) ≡ before ++ map (settled_by o) (map (unflushed_outcome ended) ws)
+        → settled_all o (if ended then [] else entries_numbered n ws) (before ++ map (unflushed_outcome ended) ws) ≡ before ++ map (settled_by o) (map (unflushed_outcome ended) ws)
     rest true n before ws h = ap (λ (os : List (Option Outcome)). before ++ os) (sym (by-late o Closed ws))
     rest false n before ws h = late-last o n before ws h ∙ ap (λ (os : List (Option Outcome)). before ++ os) (sym (by-waiting o ws))

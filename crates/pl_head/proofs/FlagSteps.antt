@@ -140,10 +140,10 @@ open_unstopped (v ∷ vs) p p' before after h open_ goes same =
 
 -- ---- places
 
-same_lane : (answer : Added) (p : Port) → (flag_port_after answer p).lane ≡ p.lane
-same_lane Last p = refl
-same_lane Refused p = refl
-same_lane Discarded p = refl
+pub port-lane : (answer : Added) (p : Port) → (flag_port_after answer p).lane ≡ p.lane
+port-lane Last p = refl
+port-lane Refused p = refl
+port-lane Discarded p = refl
 
 pub places_stay : (values : List Bool) (p p' : Port) (before after : OutputsView) (lanes : List Lane) → FlagsPass values p before p' after
     → HasPlaces before.stopped lanes → AreAmong (p.lane ∷ []) lanes → HasPlaces after.stopped lanes
@@ -159,6 +159,6 @@ places_stay (v ∷ vs) p p' before after lanes h places own = by p.is_open refl 
         subst (λ (l : OutputsView). HasPlaces l.stopped lanes) (sym all.1) places
     by true is rest =
         let put = h.2.put is in
-        let lane : h.0.lane ≡ p.lane = ap (λ (q : Port). q.lane) put.1 ∙ same_lane put.0 p in
+        let lane : h.0.lane ≡ p.lane = ap (λ (q : Port). q.lane) put.1 ∙ port-lane put.0 p in
         rest h.0 h.1 h.3 (places-put before h.1 (flag_envelope p v) put.0 lanes places own put.2)
         (subst (λ (l : Lane). AreAmong (l ∷ []) lanes) (sym lane) own)

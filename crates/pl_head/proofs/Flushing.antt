@@ -1,5 +1,6 @@
 -- One event more: what is flushed, and what is not.
-use Rattle.std.proofs.Common.{◌≡◌, ℕ, List, [], ◌∷◌, ◌++◌, Bool, true, false, ◌||◌, if◌then◌else◌, Option, sym, refl, append_assoc, append-nil}
+use Rattle.std.proofs.Common.{◌≡◌, ℕ, List, [], ◌∷◌, ◌++◌, Bool, true, false, ◌||◌, if◌then◌else◌, Option, sym, refl, append_assoc, append-nil, inl, inr}
+use Rattle.std.proofs.lemmas.Bool.{or_cases, or_left, or_right}
 use Rattle.pl_event.specs.declared.events.Event.{Event}
 use Rattle.pl_head.specs.Writes.{write_by, is_flush, has_flush, flushed_writes, unflushed_writes}
 
@@ -28,7 +29,7 @@ has_flush-flush : (ys : List Event) (e : Event) → is_flush e ≡ true → has_
 has_flush-flush [] e h = rw h refl
 has_flush-flush (y ∷ ys) e h = rw (has_flush-flush ys e h) (or-true (is_flush y))
 
-flushed-none : (ys : List Event) → has_flush ys ≡ false → flushed_writes ys ≡ []
+pub flushed-none : (ys : List Event) → has_flush ys ≡ false → flushed_writes ys ≡ []
 flushed-none [] h = refl
 flushed-none (y ∷ ys) h = rw h (flushed-none ys (or-false (is_flush y) (has_flush ys) h))
 
@@ -47,3 +48,10 @@ pub unflushed-flush : (ys : List Event) (e : Event) → is_flush e ≡ true → 
 unflushed-flush [] e h = rw h refl
 unflushed-flush (y ∷ ys) e h =
     rw (has_flush-flush ys e h, or-true (is_flush y)) (unflushed-flush ys e h)
+
+pub has_flush-longer : (xs ys : List Event) → has_flush xs ≡ true → has_flush (xs ++ ys) ≡ true
+has_flush-longer [] ys h = cc h
+has_flush-longer (x ∷ xs) ys h = elim (or_cases (is_flush x) (has_flush xs) h) [
+  | inl now ↦ or_left (is_flush x) (has_flush (xs ++ ys)) now
+  | inr later ↦ or_right (is_flush x) (has_flush (xs ++ ys)) (has_flush-longer xs ys later)
+]

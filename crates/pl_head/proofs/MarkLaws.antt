@@ -3,7 +3,7 @@ use Rattle.std.proofs.Common.{◌≡◌, ℕ, ◌+◌, ◌-◌, ◌<◌, ◌≤�
 use Rattle.std.specs.Prelude.{if◌then◌else◌, nat_lt, ◌↔◌, All}
 use Rattle.std.proofs.lemmas.Bool.{ltb-true, ltb-false, lt-ltb, le-ltb}
 use Rattle.std.proofs.lemmas.List.Elements.{All-nil, All-cons, All-head, All-tail}
-use Rattle.pl_head.specs.Marks.{Change, Added, Removed, changed, pending_from, pending_after, levels, levels_from, flags, flags_from, is_unwritable, unwritable_from, AlternateFrom, turning, IsExceeded, added_by, removed_by, IsCovered}
+use Rattle.pl_head.specs.Marks.{Change, Added, Removed, changed, pending_from, pending_after, levels, levels_from, flags, flags_from, is_unwritable, unwritable_from, AlternateFrom, turning, IsExceeded, sizes_added, removed_by, IsCovered}
 use Rattle.pl_head.proofs.MarkSteps.{levels_from-append, unwritable_from-append, flags-push, is_unwritable-push}
 
 -- ---- the flags
@@ -101,10 +101,10 @@ never_back high cs more h =
 
 -- ---- pending
 
-pending_balances : (p : ℕ) (cs : List Change) → IsCovered p cs → pending_from p cs + removed_by cs ≡ p + added_by cs
+pending_balances : (p : ℕ) (cs : List Change) → IsCovered p cs → pending_from p cs + removed_by cs ≡ p + sizes_added cs
 pending_balances p [] h = refl
 pending_balances p (Added n ∷ cs) h = let rest = pending_balances (p + n) cs h in omega (arith, rest)
 pending_balances p (Removed n ∷ cs) h = let rest = pending_balances (p - n) cs h.1 in omega (arith, rest, h.0)
 
-pub pending_exactly : (cs : List Change) → IsCovered 0 cs → pending_after cs + removed_by cs ≡ added_by cs
+pub pending_exactly : (cs : List Change) → IsCovered 0 cs → pending_after cs + removed_by cs ≡ sizes_added cs
 pending_exactly cs h = let all = pending_balances 0 cs h in omega (arith, all)

@@ -6,14 +6,14 @@ use Rattle.pl_context.specs.declared.ports.Port.{Port}
 use Rattle.pl_context.specs.OutputsViews.{OutputsView}
 use Rattle.pl_context.specs.Ports.{FlagPasses}
 use Rattle.pl_head.specs.MarksStand.{Watermarks, SendsFlags}
-use Rattle.pl_head.specs.Marks.{Change, Added, Removed, added_by, removed_by, changed, pending_from, pending_after, levels_from, flags, flags_from, is_unwritable, unwritable_from}
+use Rattle.pl_head.specs.Marks.{Change, Added, Removed, sizes_added, removed_by, changed, pending_from, pending_after, levels_from, flags, flags_from, is_unwritable, unwritable_from}
 
 -- changes behind others
 pub pending_from-append : (p : ℕ) (cs ds : List Change) → pending_from p (cs ++ ds) ≡ pending_from (pending_from p cs) ds
 pending_from-append p [] ds = refl
 pending_from-append p (c ∷ cs) ds = pending_from-append (changed p c) cs ds
 
-pub added_by-append : (cs ds : List Change) → added_by (cs ++ ds) ≡ added_by cs + added_by ds
+pub added_by-append : (cs ds : List Change) → sizes_added (cs ++ ds) ≡ sizes_added cs + sizes_added ds
 added_by-append [] ds = omega arith
 added_by-append (Added n ∷ cs) ds = let rest = added_by-append cs ds in omega (arith, rest)
 added_by-append (Removed n ∷ cs) ds = added_by-append cs ds
@@ -24,11 +24,11 @@ removed_by-append (Added n ∷ cs) ds = removed_by-append cs ds
 removed_by-append (Removed n ∷ cs) ds = let rest = removed_by-append cs ds in omega (arith, rest)
 
 -- what was added and removed, one change later
-pub added-exact : (p size : ℕ) (cs : List Change) → p + removed_by cs ≡ added_by cs → (p + size) + removed_by (cs ++ Added size ∷ []) ≡ added_by (cs ++ Added size ∷ [])
+pub added-exact : (p size : ℕ) (cs : List Change) → p + removed_by cs ≡ sizes_added cs → (p + size) + removed_by (cs ++ Added size ∷ []) ≡ sizes_added (cs ++ Added size ∷ [])
 added-exact p size cs h =
     omega (arith, h, added_by-append cs (Added size ∷ []), removed_by-append cs (Added size ∷ []))
 
-pub removed-exact : (p size : ℕ) (cs : List Change) → size ≤ p → p + removed_by cs ≡ added_by cs → (p - size) + removed_by (cs ++ Removed size ∷ []) ≡ added_by (cs ++ Removed size ∷ [])
+pub removed-exact : (p size : ℕ) (cs : List Change) → size ≤ p → p + removed_by cs ≡ sizes_added cs → (p - size) + removed_by (cs ++ Removed size ∷ []) ≡ sizes_added (cs ++ Removed size ∷ [])
 removed-exact p size cs within h =
     omega (arith, within, h, added_by-append cs (Removed size ∷ []), removed_by-append cs (Removed size ∷ []))
 
@@ -94,7 +94,7 @@ stays_above low high cs c b h =
 -- ---- the marks and their flags after one change more
 
 module _ {low high : ℕ} {cs : List Change} {c : Change} {after : Bool} where
-  module _ (p : Port) {pending : ℕ} (is : pending ≡ pending_after (cs ++ c ∷ [])) (exact : pending + removed_by (cs ++ c ∷ []) ≡ added_by (cs ++ c ∷ []))
+  module _ (p : Port) {pending : ℕ} (is : pending ≡ pending_after (cs ++ c ∷ [])) (exact : pending + removed_by (cs ++ c ∷ []) ≡ sizes_added (cs ++ c ∷ []))
       (sent : p.is_open ≡ true → p.made ≡ length (flags low high cs)) where
     -- it sends none
     pub stands-still : Turns low high cs c after [] → Watermarks low high pending after p (cs ++ c ∷ [])

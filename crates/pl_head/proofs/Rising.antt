@@ -6,7 +6,7 @@ use Rattle.std.proofs.Math.Seq.{get_or-append_seam}
 use Rattle.std.specs.List.Sorted.{IsStrictlyIncreasing}
 use Rattle.pl_event.specs.declared.outcomes.Outcome.{Outcome}
 use Rattle.pl_head.specs.declared.outbound_buffer.Entry.{Entry}
-use Rattle.pl_head.specs.WaitingMessages.{numbers_of}
+use Rattle.pl_head.specs.WaitingMessages.{entry_numbers}
 use Rattle.pl_head.specs.Settling.{times, Account, GoesOn}
 use Rattle.pl_head.specs.Buffers.{OutboundBufferView, SettlesMore, SettlesFront}
 use Rattle.pl_head.proofs.Accounts.{times-append, times-at, waits_within, settled_within}
@@ -41,16 +41,16 @@ rises-push xs n rises below k within = ⊎_elim inside at_end (cases_lt (k + 1) 
         omega (arith, last, below (get_or xs k 0) (times-at xs k 0 (omega arith)), get_or_append_left xs (n ∷ []) 0 k (omega arith))
 
 -- those of messages, up to a place and from it on
-module _ (entries : List Entry) (place : ℕ) (rises : IsStrictlyIncreasing (numbers_of entries)) where
-  parts : IsStrictlyIncreasing (numbers_of (take place entries) ++ numbers_of (drop place entries))
+module _ (entries : List Entry) (place : ℕ) (rises : IsStrictlyIncreasing (entry_numbers entries)) where
+  parts : IsStrictlyIncreasing (entry_numbers (take place entries) ++ entry_numbers (drop place entries))
   parts =
-      subst IsStrictlyIncreasing (ap numbers_of (sym (take-append-drop place entries)) ∙ map-append (λ (e : Entry). e.number) (take place entries) (drop place entries)) rises
+      subst IsStrictlyIncreasing (ap entry_numbers (sym (take-append-drop place entries)) ∙ map-append (λ (e : Entry). e.number) (take place entries) (drop place entries)) rises
 
-  pub rises-take : IsStrictlyIncreasing (numbers_of (take place entries))
-  rises-take = rises-front (numbers_of (take place entries)) (numbers_of (drop place entries)) parts
+  pub rises-take : IsStrictlyIncreasing (entry_numbers (take place entries))
+  rises-take = rises-front (entry_numbers (take place entries)) (entry_numbers (drop place entries)) parts
 
-  pub rises-drop : IsStrictlyIncreasing (numbers_of (drop place entries))
-  rises-drop = rises-rest (numbers_of (take place entries)) (numbers_of (drop place entries)) parts
+  pub rises-drop : IsStrictlyIncreasing (entry_numbers (drop place entries))
+  rises-drop = rises-rest (entry_numbers (take place entries)) (entry_numbers (drop place entries)) parts
 
 -- a new message has the next number
 pub rises-waits : (waiting settled : List ℕ) (os : List (Option Outcome)) → Account waiting settled os → IsStrictlyIncreasing waiting → IsStrictlyIncreasing (waiting ++ length os ∷ [])
@@ -81,12 +81,12 @@ pub settles_front-then : (a b c : OutboundBufferView) → SettlesFront a b → S
 settles_front-then a b c one two = record {
   front = one.front ++ two.front;
   settled = two.settled ∙ ap (λ (ns : List ℕ). ns ++ two.front) one.settled ∙ append_assoc a.settled one.front two.front;
-  waited = one.waited ∙ ap (λ (ns : List ℕ). one.front ++ ns) two.waited ∙ sym (append_assoc one.front two.front (numbers_of c.entries));
+  waited = one.waited ∙ ap (λ (ns : List ℕ). one.front ++ ns) two.waited ∙ sym (append_assoc one.front two.front (entry_numbers c.entries));
   told = two.told ∙ one.told;
 }
 
-pub settles_front-rises : (b b' : OutboundBufferView) → IsStrictlyIncreasing (numbers_of b.entries) → SettlesFront b b' → SettlesMore b b'
+pub settles_front-rises : (b b' : OutboundBufferView) → IsStrictlyIncreasing (entry_numbers b.entries) → SettlesFront b b' → SettlesMore b b'
 settles_front-rises b b' rises s = record {
-  settled = record { more = s.front; after_is = s.settled; rises = rises-front s.front (numbers_of b'.entries) (subst IsStrictlyIncreasing s.waited rises) };
+  settled = record { more = s.front; after_is = s.settled; rises = rises-front s.front (entry_numbers b'.entries) (subst IsStrictlyIncreasing s.waited rises) };
   told = s.told;
 }

@@ -7,7 +7,7 @@ use Rattle.pl_event.specs.declared.events.Event.{Event}
 use Rattle.pl_event.specs.declared.outcomes.Outcome.{Outcome}
 use Rattle.pl_head.specs.declared.outbound_buffer.Entry.{Entry}
 use Rattle.pl_head.specs.Writes.{waiting, unflushed_outcome, open_size, flushed_writes, unflushed_writes, out, waiting_bytes}
-use Rattle.pl_head.specs.WaitingMessages.{numbered, settled, first_size, entries_size, MessagesStand}
+use Rattle.pl_head.specs.WaitingMessages.{entries_numbered, settled, first_size, entries_size, MessagesStand}
 use Rattle.pl_head.proofs.Buffering.{outcomes_stand}
 
 pub entries_size-cons : (w : Entry) (ws : List Entry) → entries_size (w ∷ ws) ≡ length w.bytes + entries_size ws
@@ -23,16 +23,16 @@ open_size-settled [] ws os = refl
 open_size-settled (None ∷ done) ws os = open_size-settled done ws os
 open_size-settled (Some b ∷ done) ws os = open_size-settled done ws os
 
-open_size-waiting : (n : ℕ) (mid ws : List (Option (List ℕ))) (os : List (Option Outcome)) → open_size (mid ++ ws) (map waiting mid ++ os) ≡ entries_size (numbered n mid) + open_size ws os
+open_size-waiting : (n : ℕ) (mid ws : List (Option (List ℕ))) (os : List (Option Outcome)) → open_size (mid ++ ws) (map waiting mid ++ os) ≡ entries_size (entries_numbered n mid) + open_size ws os
 open_size-waiting n [] ws os = sym (zero-add (open_size ws os))
 open_size-waiting n (None ∷ mid) ws os = open_size-waiting (n + 1) mid ws os
 open_size-waiting n (Some b ∷ mid) ws os =
     let w : Entry = record { number = n; bytes = b } in
     ap (λ (k : ℕ). length b + k) (open_size-waiting (n + 1) mid ws os)
-    ∙ sym (add_assoc (length b) (entries_size (numbered (n + 1) mid)) (open_size ws os))
-    ∙ ap (λ (k : ℕ). k + open_size ws os) (sym (entries_size-cons w (numbered (n + 1) mid)))
+    ∙ sym (add_assoc (length b) (entries_size (entries_numbered (n + 1) mid)) (open_size ws os))
+    ∙ ap (λ (k : ℕ). k + open_size ws os) (sym (entries_size-cons w (entries_numbered (n + 1) mid)))
 
-open_size-tail : (n : ℕ) (ended : Bool) (ws : List (Option (List ℕ))) → open_size ws (map (unflushed_outcome ended) ws) ≡ entries_size (if ended then [] else numbered n ws)
+open_size-tail : (n : ℕ) (ended : Bool) (ws : List (Option (List ℕ))) → open_size ws (map (unflushed_outcome ended) ws) ≡ entries_size (if ended then [] else entries_numbered n ws)
 open_size-tail n true [] = refl
 open_size-tail n true (None ∷ ws) = open_size-tail n true ws
 open_size-tail n true (Some b ∷ ws) = open_size-tail n true ws
@@ -40,15 +40,15 @@ open_size-tail n false [] = refl
 open_size-tail n false (None ∷ ws) = open_size-tail (n + 1) false ws
 open_size-tail n false (Some b ∷ ws) =
     let w : Entry = record { number = n; bytes = b } in
-    ap (λ (k : ℕ). length b + k) (open_size-tail (n + 1) false ws) ∙ sym (entries_size-cons w (numbered (n + 1) ws))
+    ap (λ (k : ℕ). length b + k) (open_size-tail (n + 1) false ws) ∙ sym (entries_size-cons w (entries_numbered (n + 1) ws))
 
 pub size_stands : (entries : List Entry) (offset count : ℕ) (os : List (Option Outcome)) (flushed unflushed : List (Option (List ℕ))) (left : List ℕ) (ended : Bool)
     → MessagesStand entries offset count os flushed unflushed left ended → entries_size entries ≡ open_size (flushed ++ unflushed) os
 size_stands entries offset count os flushed unflushed left ended s =
-    let tail : List Entry = if ended then [] else numbered (length flushed) unflushed in
+    let tail : List Entry = if ended then [] else entries_numbered (length flushed) unflushed in
     ap (λ (t : List Entry). entries_size t) s.entries_are
-    ∙ sum_by-append (λ (w : Entry). length w.bytes) (numbered (length s.done) s.mid) tail
-    ∙ ap (λ (k : ℕ). entries_size (numbered (length s.done) s.mid) + k) (sym (open_size-tail (length flushed) ended unflushed))
+    ∙ sum_by-append (λ (w : Entry). length w.bytes) (entries_numbered (length s.done) s.mid) tail
+    ∙ ap (λ (k : ℕ). entries_size (entries_numbered (length s.done) s.mid) + k) (sym (open_size-tail (length flushed) ended unflushed))
     ∙ sym (open_size-waiting (length s.done) s.mid unflushed (map (unflushed_outcome ended) unflushed))
     ∙ sym (open_size-settled s.done (s.mid ++ unflushed) (map waiting s.mid ++ map (unflushed_outcome ended) unflushed))
     ∙ ap (λ (t : List (Option (List ℕ))). open_size t (map settled s.done ++ (map waiting s.mid ++ map (unflushed_outcome ended) unflushed))) (sym (append_assoc s.done s.mid unflushed) ∙ ap (λ (t : List (Option (List ℕ))). t ++ unflushed) s.split)

@@ -7,7 +7,7 @@ use Rattle.pl_head.specs.declared.outbound_buffer.Entry.{Entry}
 use Rattle.pl_head.specs.Writes.{write_by, writes_by, is_flush, flushed_writes, unflushed_writes, late_outcome, out, outcomes}
 use Rattle.pl_head.specs.Failures.{settled_by}
 use Rattle.pl_head.specs.Settling.{GoesOn}
-use Rattle.pl_head.specs.WaitingMessages.{MessagesStand, first_size, entries_size, numbers_of}
+use Rattle.pl_head.specs.WaitingMessages.{MessagesStand, first_size, entries_size, entry_numbers}
 use Rattle.pl_head.specs.Marks.{Change, Added, Removed}
 use Rattle.pl_head.specs.MarksStand.{Watermarks}
 
@@ -62,17 +62,19 @@ pub record BufferFailed (o : Outcome) (accepted : List ℕ) (b : OutboundBufferV
 abbrev pub IsAsBefore : OutboundBufferView → OutboundBufferView → Type 0
 IsAsBefore b b' = b' ≡ record b { entries_room = b'.entries_room; outcomes_room = b'.outcomes_room; is_full = b'.is_full }
 
--- one call settles more writes after those before, in rising order of their numbers, and no more are told
+-- One call settles more writes after those before (ChannelPromise). Their numbers come in rising order, and no more
+-- are told.
 pub record SettlesMore (b b' : OutboundBufferView) : Type 0 where
   pub settled : GoesOn b.settled b'.settled
   pub told : b'.told ≡ b.told
 
--- Numbering stops only where there was no room for one outcome more, and does not begin again.
+-- Numbering stops only where an outcome found no room (ChannelPromise). There was none for one outcome more, and it
+-- does not begin again.
 pub record StopsNumbers (b b' : OutboundBufferView) : Type 0 where
   pub only : b'.is_full ≡ true → (b.is_full ≡ true) ⊎ (b.outcomes_room ≡ 0)
   pub stays : b.is_full ≡ true → b'.is_full ≡ true
 
--- the numbers of the settled writes that were not told yet
+-- the settled writes that were not told yet
 abbrev pub untold : OutboundBufferView → List ℕ
 untold b = drop b.told b.settled
 
@@ -80,11 +82,11 @@ untold b = drop b.told b.settled
 pub record SettlesFront (b b' : OutboundBufferView) : Type 0 where
   pub front : List ℕ
   pub settled : b'.settled ≡ b.settled ++ front
-  pub waited : numbers_of b.entries ≡ front ++ numbers_of b'.entries
+  pub waited : entry_numbers b.entries ≡ front ++ entry_numbers b'.entries
   pub told : b'.told ≡ b.told
 
--- An event finds no place: it makes a write, and there is no room for one outcome more; or it makes a write of bytes,
--- and there is none for one message more.
+-- An event finds no place, for one outcome more or for one message. It makes a write where there is no room for an
+-- outcome; or it makes a write of bytes, and there is none for a message.
 pub record LacksRoom (e : Event) (b : OutboundBufferView) : Type 0 where
   pub write : Option (List ℕ)
   pub makes : write_by e ≡ write ∷ []

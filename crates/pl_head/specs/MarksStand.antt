@@ -2,7 +2,7 @@
 use Rattle.std.specs.Prelude.{◌≡◌, ℕ, ◌+◌, List, ◌++◌, length, Bool, true, if◌then◌else◌}
 use Rattle.pl_context.specs.declared.ports.Port.{Port}
 use Rattle.pl_context.specs.OutputsViews.{OutputsView}
-use Rattle.pl_head.specs.Marks.{Change, pending_after, added_by, removed_by, is_unwritable, flags}
+use Rattle.pl_head.specs.Marks.{Change, pending_after, sizes_added, removed_by, is_unwritable, flags}
 use Rattle.pl_head.specs.FlagLanes.{FlagsPass}
 use Rattle.pl_head.specs.declared.marks.Marks.{Marks}
 
@@ -10,11 +10,11 @@ use Rattle.pl_head.specs.declared.marks.Marks.{Marks}
 pub record Watermarks (low high pending : ℕ) (unwritable : Bool) (port : Port) (cs : List Change) : Type 0 where
   pub pending_is : pending ≡ pending_after cs
   -- what was added less what was removed
-  pub exact : pending + removed_by cs ≡ added_by cs
+  pub exact : pending + removed_by cs ≡ sizes_added cs
   pub unwritable_is : unwritable ≡ is_unwritable low high cs
   pub sent : port.is_open ≡ true → port.made ≡ length (flags low high cs)
 
--- More changes send the flags that they add to those of the changes before, in order.
+-- More changes send the flags that they add. Those come after the flags of the changes before, in order.
 pub record SendsFlags (low high : ℕ) (cs more : List Change) (p : Port) (before : OutputsView) (p' : Port) (after : OutputsView) : Type 0 where
   pub added : List Bool
   pub flags_are : flags low high (cs ++ more) ≡ flags low high cs ++ added

@@ -6,6 +6,7 @@ use Rattle.pl_head.specs.MarksStand.{flag_bound}
 use Rattle.pl_head.specs.Buffers.{OutboundBufferView, SameMarks, SettlesMore}
 use Rattle.pl_head.specs.declared.outbound_buffer.OutboundBuffer.{OutboundBuffer}
 
+-- a buffer as contracts see it
 abbrev pub buffer_view : OutboundBuffer → OutboundBufferView
 buffer_view b = record {
   entries = b.entries.items;
@@ -25,8 +26,8 @@ buffer_view b = record {
 }
 
 -- the buffer may stand after these flushed and unflushed writes, when these bytes of the output are left to write
-abbrev pub Holds : OutboundBuffer → List (Option (List ℕ)) → List (Option (List ℕ)) → List ℕ → Bool → Type 0
-Holds b flushed unflushed left ended =
+abbrev pub BufferHolds : OutboundBuffer → List (Option (List ℕ)) → List (Option (List ℕ)) → List ℕ → Bool → Type 0
+BufferHolds b flushed unflushed left ended =
     MessagesStand b.entries.items b.offset b.flushed b.outcomes.items flushed unflushed left ended
 
 -- there is a place for the outcome of one write more, and for its number where it is settled

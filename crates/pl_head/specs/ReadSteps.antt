@@ -55,11 +55,11 @@ plan_steps p = step_count (bursts_read p)
 abbrev pub is_abort : ReadPlan → ℕ → Bool
 is_abort p n = is_aborted p && nat_le (plan_steps p) (n + 1)
 
--- a read step is left, when n were made: the lane is open, and no failure has closed it
+-- A read step is left, when n were made. The lane is open, and no failure has closed it.
 abbrev pub has_step : ReadPlan → ℕ → Bool → Bool
 has_step p n failed = not failed && nat_lt n (plan_steps p)
 
--- Once a head has failed by itself, its next read step brings the failure.
+-- The next read step brings a failure. It does once the head has failed by itself, or by the abort.
 abbrev pub brings_failure : ReadPlan → ℕ → Option Cause → Bool
 brings_failure p n failure = is_some failure || is_abort p n
 
@@ -67,11 +67,11 @@ brings_failure p n failure = is_some failure || is_abort p n
 abbrev pub brings_abort : ReadPlan → ℕ → Option Cause → Bool
 brings_abort p n failure = not (is_some failure) && is_abort p n
 
--- the items of a read step that does not abort the head
+-- The items of a read step. It is one that does not abort the head.
 abbrev pub next_step_items : ReadPlan → ℕ → Option Cause → List Item
 next_step_items p n None = step_items (bursts_read p) n
 next_step_items p n (Some cause) = item.Fail cause ∷ []
 
--- how many read steps were made after it: one that brings a failure is not counted
+-- How many read steps are counted after the next. One that brings a failure is not counted.
 abbrev pub steps_after : ReadPlan → ℕ → Option Cause → ℕ
 steps_after p n failure = if brings_failure p n failure then n else n + 1

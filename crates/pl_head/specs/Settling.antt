@@ -29,7 +29,8 @@ open_at zero (None ∷ os) = 1
 open_at zero (Some o ∷ os) = 0
 open_at (suc n) (o ∷ os) = open_at n os
 
--- Each write with an outcome stands once in the list of settled numbers, and no other number does.
+-- The settled numbers are the writes with an outcome (ChannelPromise). Each of these stands once in the list, and no
+-- other number does.
 abbrev pub AreSettled : List ℕ → List (Option Outcome) → Type 0
 AreSettled settled os = (n : ℕ) → times n settled ≡ settled_at n os
 

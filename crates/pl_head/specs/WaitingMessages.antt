@@ -15,10 +15,10 @@ abbrev pub entries_size : List Entry → ℕ
 entries_size es = sum_by (λ e. length e.bytes) es
 
 -- the messages among these writes, with the numbers of the writes, of which the first is n
-abbrev pub numbered : ℕ → List (Option (List ℕ)) → List Entry
-numbered n [] = []
-numbered n (None ∷ ws) = numbered (n + 1) ws
-numbered n (Some b ∷ ws) = record { number = n; bytes = b } ∷ numbered (n + 1) ws
+abbrev pub entries_numbered : ℕ → List (Option (List ℕ)) → List Entry
+entries_numbered n [] = []
+entries_numbered n (None ∷ ws) = entries_numbered (n + 1) ws
+entries_numbered n (Some b ∷ ws) = record { number = n; bytes = b } ∷ entries_numbered (n + 1) ws
 
 -- the outcome of a write that has left whole
 abbrev pub settled : Option (List ℕ) → Option Outcome
@@ -32,15 +32,15 @@ pub record MessagesStand (entries : List Entry) (offset count : ℕ) (outcomes :
   pub done : List (Option (List ℕ))
   pub mid : List (Option (List ℕ))
   pub split : done ++ mid ≡ flushed
-  pub entries_are : entries ≡ numbered (length done) mid ++ (if ended then [] else numbered (length flushed) unflushed)
-  pub count_is : count ≡ length (numbered (length done) mid)
+  pub entries_are : entries ≡ entries_numbered (length done) mid ++ (if ended then [] else entries_numbered (length flushed) unflushed)
+  pub count_is : count ≡ length (entries_numbered (length done) mid)
   pub outcomes_are : outcomes ≡ map settled done ++ (map waiting mid ++ map (unflushed_outcome ended) unflushed)
   pub rest : drop offset (bytes_of mid) ≡ left
   pub fits : offset ≤ length (bytes_of mid)
 
 -- the numbers of their writes
-abbrev pub numbers_of : List Entry → List ℕ
-numbers_of es = map (λ e. e.number) es
+abbrev pub entry_numbers : List Entry → List ℕ
+entry_numbers es = map (λ e. e.number) es
 
 -- the outcomes once these messages are settled by this one
 abbrev pub settled_all : Outcome → List Entry → List (Option Outcome) → List (Option Outcome)

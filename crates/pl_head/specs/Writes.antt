@@ -38,11 +38,12 @@ abbrev pub writes_by : List Event → List (Option (List ℕ))
 writes_by [] = []
 writes_by (y ∷ ys) = write_by y ++ writes_by ys
 
--- the writes before the last flush, and those after it
+-- the writes before the last flush (ChannelOutboundBuffer)
 abbrev pub flushed_writes : List Event → List (Option (List ℕ))
 flushed_writes [] = []
 flushed_writes (y ∷ ys) = (if has_flush (y ∷ ys) then write_by y else []) ++ flushed_writes ys
 
+-- the writes after the last flush
 abbrev pub unflushed_writes : List Event → List (Option (List ℕ))
 unflushed_writes [] = []
 unflushed_writes (y ∷ ys) = (if has_flush (y ∷ ys) then [] else write_by y) ++ unflushed_writes ys
@@ -53,7 +54,7 @@ bytes_of [] = []
 bytes_of (None ∷ ws) = bytes_of ws
 bytes_of (Some b ∷ ws) = b ++ bytes_of ws
 
--- Flushed output: the bytes of the writes before the last flush.
+-- The flushed output (ChannelOutboundBuffer). It is the bytes of the writes before the last flush.
 abbrev pub out : List Event → List ℕ
 out ys = bytes_of (flushed_writes ys)
 
@@ -82,13 +83,14 @@ abbrev pub outcomes : List Event → ℕ → Bool → List (Option Outcome)
 outcomes ys accepted ended =
     outcomes_from 0 accepted (flushed_writes ys) ++ map (unflushed_outcome ended) (unflushed_writes ys)
 
--- How many bytes one write to the transport offers once this many were accepted: what is left of the first of these
--- messages that has not left whole. start is where the first message begins in the output.
-abbrev pub offered : ℕ → ℕ → List (Option (List ℕ)) → ℕ
-offered start accepted [] = 0
-offered start accepted (None ∷ ws) = offered start accepted ws
-offered start accepted (Some b ∷ ws) =
-    if nat_le (start + length b) accepted then offered (start + length b) accepted ws else start + length b - accepted
+-- How many bytes one write to the transport offers (ChannelOutboundBuffer). Once this many were accepted, it offers
+-- what is left of the first of these messages that has not left whole. start is where the first message begins in the
+-- output.
+abbrev pub bytes_offered : ℕ → ℕ → List (Option (List ℕ)) → ℕ
+bytes_offered start accepted [] = 0
+bytes_offered start accepted (None ∷ ws) = bytes_offered start accepted ws
+bytes_offered start accepted (Some b ∷ ws) =
+    if nat_le (start + length b) accepted then bytes_offered (start + length b) accepted ws else start + length b - accepted
 
 -- how many bytes the writes hold that have no outcome yet
 abbrev pub open_size : List (Option (List ℕ)) → List (Option Outcome) → ℕ

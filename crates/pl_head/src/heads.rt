@@ -11,14 +11,14 @@ ghost use Rattle.pl_context.specs.Stops.{HasPlaces};
 ghost use Rattle.pl_context.specs.OutputsViews.{PutsAll};
 ghost use Rattle.pl_context.specs.Ports.{numbered};
 ghost use Rattle.pl_head.specs.ReadSteps.{entrance, bursts_read, has_step, read_items, brings_failure, brings_abort, next_step_items, steps_after};
-ghost use Rattle.pl_head.specs.Writes.{out, offered, flushed_writes};
+ghost use Rattle.pl_head.specs.Writes.{out, bytes_offered, flushed_writes};
 ghost use Rattle.pl_head.specs.Failures.{failure_outcome};
 ghost use Rattle.pl_head.specs.Settling.{AreSettled};
-ghost use Rattle.pl_head.specs.Marks.{Change, Removed, pending_after, added_by, removed_by, is_unwritable};
+ghost use Rattle.pl_head.specs.Marks.{Change, Removed, pending_after, sizes_added, removed_by, is_unwritable};
 ghost use Rattle.pl_event.specs.Hops.{flags_lane};
 ghost use Rattle.pl_event.specs.Worlds.{closes};
 ghost use Rattle.pl_head.specs.MarksStand.{SendsFlags};
-ghost use Rattle.pl_head.specs.Transports.{counted, FailsNext};
+ghost use Rattle.pl_head.specs.Transports.{one_call_more, FailsNext};
 ghost use Rattle.pl_head.specs.HeadStand.{first_cause};
 ghost use Rattle.pl_event.specs.declared.limits.TheConstants.{MAX_ITEMS};
 
@@ -91,7 +91,7 @@ impl<T> Model for Head<T> {
 
 impl<T: Transport> Head<T> {
     ghost use Rattle.pl_head.specs.Buffers.{SameMarks, SettlesMore, StopsNumbers, LacksRoom, untold};
-    ghost use Rattle.pl_head.specs.HeadStand.{StandsAfter, HasOutcomes, ReadsStand, Aborts, waiting_at, is_idle, is_held, read_answer, EntersHead, lane_over, Answers, events_before, events_from, item_sizes, step_sizes, standing_after, cause_of_item, cause_of_step, head_cause, HasFewFlags};
+    ghost use Rattle.pl_head.specs.HeadStand.{HeadStandsAfter, HasOutcomes, ReadsStand, Aborts, waiting_at, is_idle, is_read_held, read_answer, EntersHead, lane_over, Answers, events_before, events_from, item_sizes, step_sizes, standing_after, cause_of_item, cause_of_step, head_cause, HasFewFlags};
 
     /// A head that has taken nothing, of a transport that has accepted nothing, with the bursts that it is to read: with
     /// the end they bring fewer than 2^31 items. `hop` is the head's own hop. It takes no memory.
@@ -107,7 +107,7 @@ impl<T: Transport> Head<T> {
         requires marks { low ≤ high }
         requires fresh { (T.state transport).accepted ≡ [] }
         requires few { length (recorded_input input.bursts) + 1 < MAX_ITEMS }
-        ensures stands { StandsAfter T.state result [] [] [] }
+        ensures stands { HeadStandsAfter T.state result [] [] [] }
         ensures reads { ReadsStand input 0 false result }
         ensures entrance { result.input.port.lane ≡ entrance channel }
         ensures transport { result.transport ≡ transport }
@@ -144,8 +144,8 @@ impl<T: Transport> Head<T> {
 
         // Which of the three, whichever steps were made, and whichever events were taken.
         ensures done { (p : ReadPlan) (reads : ℕ) (failed : Bool) → ReadsStand p reads failed self.old → (result ≡ ReadStep.Done) ↔ (has_step p reads failed ≡ false) }
-        ensures answer { (p : ReadPlan) (reads : ℕ) (failed : Bool) (ys zs : List Event) (sizes : List Change) → ReadsStand p reads failed self.old → StandsAfter T.state self.old ys zs sizes
-            → result ≡ read_answer (has_step p reads failed) (is_held T.state p reads self.old ys) }
+        ensures answer { (p : ReadPlan) (reads : ℕ) (failed : Bool) (ys zs : List Event) (sizes : List Change) → ReadsStand p reads failed self.old → HeadStandsAfter T.state self.old ys zs sizes
+            → result ≡ read_answer (has_step p reads failed) (is_read_held T.state p reads self.old ys) }
         ensures never_held { IsSome self.old.failure → result ≢ ReadStep.Held }
         ensures open { (result ≡ ReadStep.Done) ↔ (self.old.input.port.is_open ≡ false) }
 
@@ -197,8 +197,8 @@ impl<T: Transport> Head<T> {
     /// Whether the next read step is a burst that is held.
     fn is_held(&self) -> bool
         requires left { self.now.input.port.is_open ≡ true }
-        ensures held { (p : ReadPlan) (reads : ℕ) (failed : Bool) (ys zs : List Event) (sizes : List Change) → ReadsStand p reads failed self.now → StandsAfter T.state self.now ys zs sizes
-            → result ≡ is_held T.state p reads self.now ys }
+        ensures held { (p : ReadPlan) (reads : ℕ) (failed : Bool) (ys zs : List Event) (sizes : List Change) → ReadsStand p reads failed self.now → HeadStandsAfter T.state self.now ys zs sizes
+            → result ≡ is_read_held T.state p reads self.now ys }
     {
         if !self.input.is_burst_next() {
             return false;
@@ -248,10 +248,10 @@ impl<T: Transport> Head<T> {
         ensures answer { lane_over self.old ≡ false → Answers (is_some self.old.failure) envelope.item result }
 
         // After whichever events it stood, it stands after those and what the item brought.
-        ensures stands { lane_over self.old ≡ false → (ys zs : List Event) (sizes : List Change) → StandsAfter T.state self.old ys zs sizes
-            → StandsAfter T.state self.new (ys ++ events_before (is_some self.old.failure) envelope.item result) (zs ++ events_from (is_some self.old.failure) envelope.item result)
+        ensures stands { lane_over self.old ≡ false → (ys zs : List Event) (sizes : List Change) → HeadStandsAfter T.state self.old ys zs sizes
+            → HeadStandsAfter T.state self.new (ys ++ events_before (is_some self.old.failure) envelope.item result) (zs ++ events_from (is_some self.old.failure) envelope.item result)
             (sizes ++ item_sizes (is_some self.old.failure) envelope.item result (waiting_at T.state self.old ys) (waiting_at T.state self.new (ys ++ events_before (is_some self.old.failure) envelope.item result))) }
-        ensures flags { lane_over self.old ≡ false → (ys zs : List Event) (sizes : List Change) → StandsAfter T.state self.old ys zs sizes
+        ensures flags { lane_over self.old ≡ false → (ys zs : List Event) (sizes : List Change) → HeadStandsAfter T.state self.old ys zs sizes
             → SendsFlags self.old.buffer.low self.old.buffer.high sizes
             (item_sizes (is_some self.old.failure) envelope.item result (waiting_at T.state self.old ys) (waiting_at T.state self.new (ys ++ events_before (is_some self.old.failure) envelope.item result)))
             self.old.buffer.flags outputs.old self.new.buffer.flags outputs.new }
@@ -288,10 +288,10 @@ impl<T: Transport> Head<T> {
         requires limit { self.old.taken < MAX_ITEMS }
         requires places { HasPlaces outputs.old.stopped (flags_lane self.old.channel 0 ∷ []) }
         ensures answer { Answers (is_some self.old.failure) item result }
-        ensures stands { (ys zs : List Event) (sizes : List Change) → StandsAfter T.state self.old ys zs sizes
-            → StandsAfter T.state self.new (ys ++ events_before (is_some self.old.failure) item result) (zs ++ events_from (is_some self.old.failure) item result)
+        ensures stands { (ys zs : List Event) (sizes : List Change) → HeadStandsAfter T.state self.old ys zs sizes
+            → HeadStandsAfter T.state self.new (ys ++ events_before (is_some self.old.failure) item result) (zs ++ events_from (is_some self.old.failure) item result)
             (sizes ++ item_sizes (is_some self.old.failure) item result (waiting_at T.state self.old ys) (waiting_at T.state self.new (ys ++ events_before (is_some self.old.failure) item result))) }
-        ensures flags { (ys zs : List Event) (sizes : List Change) → StandsAfter T.state self.old ys zs sizes
+        ensures flags { (ys zs : List Event) (sizes : List Change) → HeadStandsAfter T.state self.old ys zs sizes
             → SendsFlags self.old.buffer.low self.old.buffer.high sizes
             (item_sizes (is_some self.old.failure) item result (waiting_at T.state self.old ys) (waiting_at T.state self.new (ys ++ events_before (is_some self.old.failure) item result)))
             self.old.buffer.flags outputs.old self.new.buffer.flags outputs.new }
@@ -337,7 +337,7 @@ impl<T: Transport> Head<T> {
         requires failed { self.old.failure ≡ Some cause }
         requires not_closed { self.old.is_closed ≡ false }
         ensures answer { Answers true item result }
-        ensures stands { (ys zs : List Event) (sizes : List Change) → StandsAfter T.state self.old ys zs sizes → StandsAfter T.state self.new ys (zs ++ events_from true item result) sizes }
+        ensures stands { (ys zs : List Event) (sizes : List Change) → HeadStandsAfter T.state self.old ys zs sizes → HeadStandsAfter T.state self.new ys (zs ++ events_from true item result) sizes }
         ensures ran { (event : Event) → item ≡ Item.Event event → result ≡ took.Ran }
         ensures stops { StopsNumbers self.old.buffer self.new.buffer }
         ensures closed { self.new.is_closed ≡ closes item }
@@ -367,39 +367,39 @@ impl<T: Transport> Head<T> {
         requires places { HasPlaces outputs.old.stopped (flags_lane self.old.channel 0 ∷ []) }
 
         // One call, unless it is idle.
-        ensures called { result ≢ OutStep.Idle → (T.state self.new.transport).calls ≡ counted (T.state self.old.transport).calls }
+        ensures called { result ≢ OutStep.Idle → (T.state self.new.transport).calls ≡ one_call_more (T.state self.old.transport).calls }
         ensures idle { result ≡ OutStep.Idle → (self.new ≡ self.old) × (outputs.new ≡ outputs.old) }
 
         // What the call answered.
         ensures wrote { (n : ℕ) → result ≡ OutStep.Wrote n → length (T.state self.new.transport).accepted ≡ length (T.state self.old.transport).accepted + n }
         ensures sound { (n : ℕ) → result ≡ OutStep.Wrote n → (T.state self.new.transport).failures ≡ (T.state self.old.transport).failures }
-        ensures failed { result ≡ OutStep.Failed → (T.state self.new.transport).failures ≡ counted (T.state self.old.transport).failures }
+        ensures failed { result ≡ OutStep.Failed → (T.state self.new.transport).failures ≡ one_call_more (T.state self.old.transport).failures }
         ensures kept { result ≡ OutStep.Failed → (T.state self.new.transport).accepted ≡ (T.state self.old.transport).accepted }
         ensures nothing { result ≡ OutStep.Wrote 0 → (self.new.buffer ≡ self.old.buffer) × (outputs.new ≡ outputs.old) }
         ensures window { (T.state self.new.transport).window ≡ (T.state self.old.transport).window }
         ensures fail_at { (T.state self.new.transport).fail_at ≡ (T.state self.old.transport).fail_at }
 
         // It offers what is left of the first flushed message.
-        ensures within { (n : ℕ) (ys zs : List Event) (sizes : List Change) → result ≡ OutStep.Wrote n → StandsAfter T.state self.old ys zs sizes
-            → n ≤ offered 0 (length (T.state self.old.transport).accepted) (flushed_writes ys) }
-        ensures full { (n w : ℕ) (ys zs : List Event) (sizes : List Change) → result ≡ OutStep.Wrote n → StandsAfter T.state self.old ys zs sizes
-            → (T.state self.old.transport).window ≡ Some w → n ≡ min (offered 0 (length (T.state self.old.transport).accepted) (flushed_writes ys)) w }
+        ensures within { (n : ℕ) (ys zs : List Event) (sizes : List Change) → result ≡ OutStep.Wrote n → HeadStandsAfter T.state self.old ys zs sizes
+            → n ≤ bytes_offered 0 (length (T.state self.old.transport).accepted) (flushed_writes ys) }
+        ensures full { (n w : ℕ) (ys zs : List Event) (sizes : List Change) → result ≡ OutStep.Wrote n → HeadStandsAfter T.state self.old ys zs sizes
+            → (T.state self.old.transport).window ≡ Some w → n ≡ min (bytes_offered 0 (length (T.state self.old.transport).accepted) (flushed_writes ys)) w }
 
         // It fails at the call that the transport was told to fail at, and else only where the transport may refuse what is
         // offered.
         ensures told { (n : ℕ) → result ≡ OutStep.Wrote n → FailsNext (T.state self.old.transport) → ⊥ }
-        ensures untold { (ys zs : List Event) (sizes : List Change) → result ≡ OutStep.Failed → StandsAfter T.state self.old ys zs sizes
-            → FailsNext (T.state self.old.transport) ⊎ T.may_refuse self.old.transport (offered 0 (length (T.state self.old.transport).accepted) (flushed_writes ys)) }
+        ensures untold { (ys zs : List Event) (sizes : List Change) → result ≡ OutStep.Failed → HeadStandsAfter T.state self.old ys zs sizes
+            → FailsNext (T.state self.old.transport) ⊎ T.may_refuse self.old.transport (bytes_offered 0 (length (T.state self.old.transport).accepted) (flushed_writes ys)) }
 
         // It is idle exactly where no flushed byte waits or the head has failed.
-        ensures waits { (ys zs : List Event) (sizes : List Change) → StandsAfter T.state self.old ys zs sizes → (result ≡ OutStep.Idle) ↔ (is_idle T.state self.old ys ≡ true) }
+        ensures waits { (ys zs : List Event) (sizes : List Change) → HeadStandsAfter T.state self.old ys zs sizes → (result ≡ OutStep.Idle) ↔ (is_idle T.state self.old ys ≡ true) }
         ensures rests { IsSome self.old.failure → result ≡ OutStep.Idle }
 
         // After whichever events it stood, it stands after those, and the sizes of what has left whole are removed; where
         // it fails, those of all that waited.
-        ensures stands { (ys zs : List Event) (sizes : List Change) → StandsAfter T.state self.old ys zs sizes
-            → StandsAfter T.state self.new ys zs (sizes ++ step_sizes result (waiting_at T.state self.old ys) (waiting_at T.state self.new ys)) }
-        ensures flags { (ys zs : List Event) (sizes : List Change) → StandsAfter T.state self.old ys zs sizes
+        ensures stands { (ys zs : List Event) (sizes : List Change) → HeadStandsAfter T.state self.old ys zs sizes
+            → HeadStandsAfter T.state self.new ys zs (sizes ++ step_sizes result (waiting_at T.state self.old ys) (waiting_at T.state self.new ys)) }
+        ensures flags { (ys zs : List Event) (sizes : List Change) → HeadStandsAfter T.state self.old ys zs sizes
             → SendsFlags self.old.buffer.low self.old.buffer.high sizes (step_sizes result (waiting_at T.state self.old ys) (waiting_at T.state self.new ys))
             self.old.buffer.flags outputs.old self.new.buffer.flags outputs.new }
         ensures failure { self.new.failure ≡ first_cause self.old.failure (cause_of_step result) }
@@ -472,7 +472,7 @@ impl<T: Transport> Head<T> {
     /// The bytes that the transport accepted.
     pub fn bytes(&self) -> &[u8]
         ensures accepted { result.now ≡ (T.state self.now.transport).accepted }
-        ensures prefix { (ys zs : List Event) (sizes : List Change) → StandsAfter T.state self.now ys zs sizes → (rest : List ℕ) × (result.now ++ rest ≡ out ys) }
+        ensures prefix { (ys zs : List Event) (sizes : List Change) → HeadStandsAfter T.state self.now ys zs sizes → (rest : List ℕ) × (result.now ++ rest ≡ out ys) }
     {
         self.transport.bytes()
     }
@@ -480,9 +480,9 @@ impl<T: Transport> Head<T> {
     /// How many bytes the writes hold that have no outcome yet.
     pub fn pending(&self) -> u128
         // What was added less what was removed.
-        ensures exact { (ys zs : List Event) (sizes : List Change) → StandsAfter T.state self.now ys zs sizes → result + removed_by sizes ≡ added_by sizes }
-        ensures sizes { (ys zs : List Event) (sizes : List Change) → StandsAfter T.state self.now ys zs sizes → result ≡ pending_after sizes }
-        ensures waiting { (ys zs : List Event) (sizes : List Change) → StandsAfter T.state self.now ys zs sizes → result ≡ waiting_at T.state self.now ys }
+        ensures exact { (ys zs : List Event) (sizes : List Change) → HeadStandsAfter T.state self.now ys zs sizes → result + removed_by sizes ≡ sizes_added sizes }
+        ensures sizes { (ys zs : List Event) (sizes : List Change) → HeadStandsAfter T.state self.now ys zs sizes → result ≡ pending_after sizes }
+        ensures waiting { (ys zs : List Event) (sizes : List Change) → HeadStandsAfter T.state self.now ys zs sizes → result ≡ waiting_at T.state self.now ys }
     {
         self.buffer.pending()
     }
@@ -491,7 +491,7 @@ impl<T: Transport> Head<T> {
     /// low one.
     pub fn is_writable(&self) -> bool
         ensures view { result ≡ not self.now.buffer.is_unwritable }
-        ensures sizes { (ys zs : List Event) (sizes : List Change) → StandsAfter T.state self.now ys zs sizes
+        ensures sizes { (ys zs : List Event) (sizes : List Change) → HeadStandsAfter T.state self.now ys zs sizes
             → result ≡ not (is_unwritable self.now.buffer.low self.now.buffer.high sizes) }
     {
         self.buffer.is_writable()
@@ -500,7 +500,7 @@ impl<T: Transport> Head<T> {
     /// The outcome of each write that has a number, None for one that waits.
     pub fn outcomes(&self) -> &[Option<Outcome>]
         ensures view { result.now ≡ self.now.buffer.outcomes }
-        ensures stands { (ys zs : List Event) (sizes : List Change) → StandsAfter T.state self.now ys zs sizes
+        ensures stands { (ys zs : List Event) (sizes : List Change) → HeadStandsAfter T.state self.now ys zs sizes
             → HasOutcomes T.state self.now ys zs result.now }
     {
         self.buffer.outcomes()
@@ -525,7 +525,7 @@ impl<T: Transport> Head<T> {
 
     /// Whether no flushed byte waits, or the head has failed by itself: a write would be idle.
     pub fn is_written(&self) -> bool
-        ensures stands { (ys zs : List Event) (sizes : List Change) → StandsAfter T.state self.now ys zs sizes → result ≡ is_idle T.state self.now ys }
+        ensures stands { (ys zs : List Event) (sizes : List Change) → HeadStandsAfter T.state self.now ys zs sizes → result ≡ is_idle T.state self.now ys }
         ensures failed { IsSome self.now.failure → result ≡ true }
     {
         if self.failure.is_some() {
@@ -540,10 +540,10 @@ impl<T: Transport> Head<T> {
         alloc: Global,
     ) -> Result<(ByteString, Sequence<Option<Outcome>>), AllocError>
         ensures bytes { IfOk result (λ parts. parts.0 ≡ (T.state self.now.transport).accepted) }
-        ensures prefix { IfOk result (λ parts. (ys zs : List Event) (sizes : List Change) → StandsAfter T.state self.now ys zs sizes
+        ensures prefix { IfOk result (λ parts. (ys zs : List Event) (sizes : List Change) → HeadStandsAfter T.state self.now ys zs sizes
             → parts.0 ≡ take (length (T.state self.now.transport).accepted) (out ys)) }
         ensures view { IfOk result (λ parts. parts.1 ≡ self.now.buffer.outcomes) }
-        ensures outcomes { IfOk result (λ parts. (ys zs : List Event) (sizes : List Change) → StandsAfter T.state self.now ys zs sizes
+        ensures outcomes { IfOk result (λ parts. (ys zs : List Event) (sizes : List Change) → HeadStandsAfter T.state self.now ys zs sizes
             → HasOutcomes T.state self.now ys zs parts.1) }
     {
         let bytes = self.transport.bytes().to_vec(alloc)?;
@@ -555,10 +555,10 @@ impl<T: Transport> Head<T> {
     /// them (`Transport::into_bytes`): there it takes no memory. An `Err` is the transport's.
     pub fn into_written(self, alloc: Global) -> Result<Written, AllocError>
         ensures bytes { IfOk result (λ written. written.bytes ≡ (T.state self.transport).accepted) }
-        ensures prefix { IfOk result (λ written. (ys zs : List Event) (sizes : List Change) → StandsAfter T.state self ys zs sizes
+        ensures prefix { IfOk result (λ written. (ys zs : List Event) (sizes : List Change) → HeadStandsAfter T.state self ys zs sizes
             → written.bytes ≡ take (length (T.state self.transport).accepted) (out ys)) }
         ensures view { IfOk result (λ written. written.outcomes ≡ self.buffer.outcomes) }
-        ensures outcomes { IfOk result (λ written. (ys zs : List Event) (sizes : List Change) → StandsAfter T.state self ys zs sizes
+        ensures outcomes { IfOk result (λ written. (ys zs : List Event) (sizes : List Change) → HeadStandsAfter T.state self ys zs sizes
             → HasOutcomes T.state self ys zs written.outcomes) }
     {
         let Head {

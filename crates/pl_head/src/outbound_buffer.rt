@@ -11,9 +11,9 @@ ghost use Rattle.pl_event.specs.declared.outcomes.Outcome.TheVariants.{Closed};
 ghost use Rattle.pl_event.specs.declared.envelopes.Lane.{Lane};
 ghost use Rattle.pl_event.specs.Hops.{flags_lane};
 ghost use Rattle.pl_context.specs.Stops.{HasPlaces, AreAmong};
-ghost use Rattle.pl_head.specs.Writes.{write_by, late_outcome, flushed_writes, out, outcomes, offered, waiting_bytes};
-ghost use Rattle.pl_head.specs.Marks.{Change, Added, Removed, pending_after, added_by, removed_by, is_unwritable};
-ghost use Rattle.pl_head.specs.WaitingMessages.{settled_all, first_size, entries_size, numbers_of};
+ghost use Rattle.pl_head.specs.Writes.{write_by, late_outcome, flushed_writes, out, outcomes, bytes_offered, waiting_bytes};
+ghost use Rattle.pl_head.specs.Marks.{Change, Added, Removed, pending_after, sizes_added, removed_by, is_unwritable};
+ghost use Rattle.pl_head.specs.WaitingMessages.{settled_all, first_size, entries_size, entry_numbers};
 ghost use Rattle.pl_head.specs.Settling.{Account};
 ghost use Rattle.pl_head.specs.Buffers.{event_sizes};
 ghost use Rattle.pl_head.specs.declared.outbound_buffer.Refusal.TheVariants.{Numbered, Unnumbered};
@@ -59,8 +59,8 @@ pub(crate) struct OutboundBuffer {
     ghost flushed_within: { flushed ≤ length entries.items },
     ghost offset_within: { 0 < flushed → offset ≤ first_size entries.items },
     ghost offset_zero: { flushed ≡ 0 → offset ≡ 0 },
-    ghost account: { Account (numbers_of entries.items) settled.items outcomes.items },
-    ghost ordered: { IsStrictlyIncreasing (numbers_of entries.items) },
+    ghost account: { Account (entry_numbers entries.items) settled.items outcomes.items },
+    ghost ordered: { IsStrictlyIncreasing (entry_numbers entries.items) },
     ghost settled_room: { length outcomes.items ≤ vec_capacity settled },
     ghost told_within: { told ≤ length settled.items },
     ghost covered: { entries_size entries.items ≤ marks.pending },
@@ -69,7 +69,7 @@ pub(crate) struct OutboundBuffer {
 impl OutboundBuffer {
     ghost use Rattle.pl_head.specs.MarksStand.{SendsFlags, flag_bound};
     ghost use Rattle.pl_head.specs.Buffers.{BufferStands, BufferFailed, IsAsBefore, SameMarks, SettlesMore, SettlesFront, StopsNumbers, LacksRoom, untold};
-    ghost use Rattle.pl_head.specs.OutboundStand.{buffer_view, Holds, HasPlace, TakesOut};
+    ghost use Rattle.pl_head.specs.OutboundStand.{buffer_view, BufferHolds, HasPlace, TakesOut};
 
     /// Nothing waits, and nothing was written. It takes no memory.
     pub(crate) fn new(alloc: Global, channel: u16, low: u32, high: u32) -> Self
@@ -340,7 +340,7 @@ impl OutboundBuffer {
         ensures some { IfSome result (λ bytes. length bytes.now + self.now.offset ≡ first_size self.now.entries.items) }
         ensures small { OnSome result (first_size self.now.entries.items < 2 ^ 64) }
         ensures offers { IfSome result (λ bytes. (accepted : List ℕ) (ys : List Event) (ended : Bool) (sizes : List Change) → BufferStands accepted (buffer_view self.now) ys ended sizes
-            → (0 < length bytes.now) × (length bytes.now ≡ offered 0 (length accepted) (flushed_writes ys)) × ((rest : List ℕ) × (accepted ++ (bytes.now ++ rest) ≡ out ys))) }
+            → (0 < length bytes.now) × (length bytes.now ≡ bytes_offered 0 (length accepted) (flushed_writes ys)) × ((rest : List ℕ) × (accepted ++ (bytes.now ++ rest) ≡ out ys))) }
     {
         if self.flushed == 0 {
             return None;
@@ -375,7 +375,7 @@ impl OutboundBuffer {
     /// counted.
     fn settle_written(&mut self) -> u128
         requires fits { self.old.marks.pending < 2 ^ 128 }
-        ensures holds { (flushed unflushed : List (Option (List ℕ))) (left : List ℕ) (ended : Bool) → Holds self.old flushed unflushed left ended → Holds self.new flushed unflushed left ended }
+        ensures holds { (flushed unflushed : List (Option (List ℕ))) (left : List ℕ) (ended : Bool) → BufferHolds self.old flushed unflushed left ended → BufferHolds self.new flushed unflushed left ended }
         ensures size { entries_size self.old.entries.items ≡ result + entries_size self.new.entries.items }
         ensures rest { 0 < self.new.flushed → self.new.offset < first_size self.new.entries.items }
         ensures settles { SettlesMore (buffer_view self.old) (buffer_view self.new) }
@@ -404,7 +404,7 @@ impl OutboundBuffer {
     fn settle_front(&mut self) -> usize
         requires flushed { 0 < self.old.flushed }
         requires written { self.old.offset ≡ first_size self.old.entries.items }
-        ensures holds { (flushed unflushed : List (Option (List ℕ))) (left : List ℕ) (ended : Bool) → Holds self.old flushed unflushed left ended → Holds self.new flushed unflushed left ended }
+        ensures holds { (flushed unflushed : List (Option (List ℕ))) (left : List ℕ) (ended : Bool) → BufferHolds self.old flushed unflushed left ended → BufferHolds self.new flushed unflushed left ended }
         ensures size { entries_size self.old.entries.items ≡ result + entries_size self.new.entries.items }
         ensures shorter { length self.new.entries.items + 1 ≡ length self.old.entries.items }
         ensures settles { SettlesFront (buffer_view self.old) (buffer_view self.new) }
@@ -426,7 +426,7 @@ impl OutboundBuffer {
     /// How many bytes the messages that wait hold.
     pub(crate) fn pending(&self) -> u128
         ensures view { result ≡ (buffer_view self.now).pending }
-        ensures exact { (accepted : List ℕ) (ys : List Event) (ended : Bool) (sizes : List Change) → BufferStands accepted (buffer_view self.now) ys ended sizes → result + removed_by sizes ≡ added_by sizes }
+        ensures exact { (accepted : List ℕ) (ys : List Event) (ended : Bool) (sizes : List Change) → BufferStands accepted (buffer_view self.now) ys ended sizes → result + removed_by sizes ≡ sizes_added sizes }
         ensures sizes { (accepted : List ℕ) (ys : List Event) (ended : Bool) (sizes : List Change) → BufferStands accepted (buffer_view self.now) ys ended sizes → result ≡ pending_after sizes }
         ensures waiting { (accepted : List ℕ) (ys : List Event) (ended : Bool) (sizes : List Change) → BufferStands accepted (buffer_view self.now) ys ended sizes → result ≡ waiting_bytes ys (length accepted) ended }
     {
@@ -501,12 +501,12 @@ fn settle_from(
 ) -> u128
     requires small { entries_size entries.now.items < 2 ^ 128 }
     requires within { start ≤ length entries.now.items }
-    requires account { Account (numbers_of entries.now.items) settled.old.items outcomes.old.items }
+    requires account { Account (entry_numbers entries.now.items) settled.old.items outcomes.old.items }
     requires room { length outcomes.old.items ≤ vec_capacity settled.old }
     ensures outcomes { outcomes.new.items ≡ settled_all outcome (drop start entries.now.items) outcomes.old.items }
     ensures size { result ≡ entries_size (drop start entries.now.items) }
-    ensures account { Account (numbers_of (take start entries.now.items)) settled.new.items outcomes.new.items }
-    ensures settled { settled.new.items ≡ settled.old.items ++ numbers_of (drop start entries.now.items) }
+    ensures account { Account (entry_numbers (take start entries.now.items)) settled.new.items outcomes.new.items }
+    ensures settled { settled.new.items ≡ settled.old.items ++ entry_numbers (drop start entries.now.items) }
     ensures length { vec_len outcomes.new ≡ vec_len outcomes.old }
     ensures capacity { vec_capacity outcomes.new ≡ vec_capacity outcomes.old }
     ensures settled_capacity { vec_capacity settled.new ≡ vec_capacity settled.old }

@@ -1,7 +1,7 @@
 //! Where the bytes of a channel leave.
 
 ghost use Rattle.std.specs.Prelude.{◌≡◌, ℕ, ◌+◌, ◌≤◌, ◌↔◌, ◌++◌, ◌⊎◌, length, take, min, Option, Some, IfOk, OnOk, OnErr, IsOk, IsErr, IsTrue};
-ghost use Rattle.pl_head.specs.Transports.{TransportState, new_state, counted, FailsNext, memory_state, accepted_count, MayRefuse};
+ghost use Rattle.pl_head.specs.Transports.{TransportState, new_state, one_call_more, FailsNext, memory_state, accepted_count, MayRefuse};
 
 use std::alloc::{AllocError, Global};
 use std::marker::Model;
@@ -51,9 +51,9 @@ pub trait Transport: Drop {
         ensures within { IfOk result (λ n. n ≤ length bytes.now) }
         ensures accepts { IfOk result (λ n. (state self.new).accepted ≡ (state self.old).accepted ++ take n bytes.now) }
         ensures kept { OnErr result ((state self.new).accepted ≡ (state self.old).accepted) }
-        ensures called { (state self.new).calls ≡ counted (state self.old).calls }
+        ensures called { (state self.new).calls ≡ one_call_more (state self.old).calls }
         ensures sound { OnOk result ((state self.new).failures ≡ (state self.old).failures) }
-        ensures failed { OnErr result ((state self.new).failures ≡ counted (state self.old).failures) }
+        ensures failed { OnErr result ((state self.new).failures ≡ one_call_more (state self.old).failures) }
         ensures window { (state self.new).window ≡ (state self.old).window }
         ensures full { IfOk result (λ n. (w : ℕ) → (state self.old).window ≡ Some w → n ≡ min (length bytes.now) w) }
 
@@ -142,9 +142,9 @@ impl Transport for MemoryTransport {
         ensures within { IfOk result (λ n. n ≤ length bytes.now) }
         ensures accepts { IfOk result (λ n. self.new.bytes ≡ self.old.bytes ++ take n bytes.now) }
         ensures kept { OnErr result (self.new.bytes ≡ self.old.bytes) }
-        ensures called { self.new.calls ≡ counted self.old.calls }
+        ensures called { self.new.calls ≡ one_call_more self.old.calls }
         ensures sound { OnOk result (self.new.failures ≡ self.old.failures) }
-        ensures failed { OnErr result (self.new.failures ≡ counted self.old.failures) }
+        ensures failed { OnErr result (self.new.failures ≡ one_call_more self.old.failures) }
         ensures count { IfOk result (λ n. n ≡ accepted_count self.old (length bytes.now)) }
         ensures told { OnOk result (FailsNext (memory_state self.old) → ⊥) }
         ensures untold { OnErr result (FailsNext (memory_state self.old) ⊎ MayRefuse self.old (length bytes.now)) }

@@ -14,7 +14,7 @@ use Rattle.pl_flow.specs.Flows.{Point, point, on, IsGood}
 use Rattle.pl_flow.specs.Makes.{Makes}
 use Rattle.pl_flow.specs.declared.moves.HeadMove.{HeadMove}
 use Rattle.pl_net.specs.NodesViews.{NodesView, written_by, NodesTake, NodesGive, NodesMake}
-use Rattle.pl_net.specs.Nets.{queue_at, LaneStands, IsStart, no_backlogs, ExecutorView, IsAdded, IsTakenOut, CoreView, CoreStands, IsKeep, Settles, Gives, HandsOver}
+use Rattle.pl_net.specs.Nets.{queue_at, LaneStands, IsStart, no_backlogs, StationView, IsAdded, IsTakenOut, CoreView, CoreStands, IsKeep, WorksListOff, Gives, HandsOver}
 use Rattle.pl_net.proofs.OneExecutor.{Replaces}
 use Rattle.pl_net.proofs.NetSteps.{nets-put, taken_with, front-written, call-number, call-good, called}
 use Rattle.pl_net.proofs.TaskSteps.{at-rest, task-written, task-target, task-number, task-good, tasked, task-few}
@@ -59,7 +59,7 @@ module _ {N : Type 0} (view_of : N → NodesView) (stands : World → N → Type
 
   -- ---- it is kept for another executor
 
-  module _ (away : v.target e.lane ≢ x) (es' : List ExecutorView) (a a' : ExecutorView) (r : Replaces c.executors es' x a a') where
+  module _ (away : v.target e.lane ≢ x) (es' : List StationView) (a a' : StationView) (r : Replaces c.executors es' x a a') where
     pub add-there : v.target e.lane < length a.waiting.targets
     add-there = keep-there world v x c.executors c.backlogs c.work mid e h.runs front stops a r.was
 
@@ -99,7 +99,7 @@ module _ {N : Type 0} (view_of : N → NodesView) (stands : World → N → Type
 
 -- The front of the queue of executor x is taken. Nothing is on the list before.
 module _ {N : Type 0} (view_of : N → NodesView) (stands : World → N → Type 0) (world : World) (x : ℕ) (c : CoreView N) (h : CoreStands view_of stands world x c)
-    (es' : List ExecutorView) (a a' : ExecutorView) (r : Replaces c.executors es' x a a') (e : Envelope) (front : a.queue ≡ e ∷ a'.queue) (same : a'.waiting ≡ a.waiting) where
+    (es' : List StationView) (a a' : StationView) (r : Replaces c.executors es' x a a') (e : Envelope) (front : a.queue ≡ e ∷ a'.queue) (same : a'.waiting ≡ a.waiting) where
   pub queued-written : (view_of c.nodes).writes e.lane ≡ true
   queued-written = task-written world (view_of c.nodes) x c.executors c.backlogs c.work h.runs x es' a a' r e front same
 
@@ -162,19 +162,19 @@ module _ {N : Type 0} (view_of : N → NodesView) (stands : World → N → Type
 
   pub given-settles : (takes : N → Envelope → OutputsView → N → OutputsView → Type 0) (moves : N → HeadMove → ℕ → OutputsView → N → OutputsView → Type 0) (by : HeadMove) (channel : ℕ) → moves c.nodes by channel c.work n' after
       → (to : (ℕ → List (Entry (Unit {0}))) → CoreView N)
-      → (backlogs : ℕ → List (Entry (Unit {0}))) × CoreStands view_of stands world runs (to backlogs) × Settles view_of takes runs given_core (to backlogs)
+      → (backlogs : ℕ → List (Entry (Unit {0}))) × CoreStands view_of stands world runs (to backlogs) × WorksListOff view_of takes runs given_core (to backlogs)
       → (backlogs : ℕ → List (Entry (Unit {0}))) × CoreStands view_of stands world home (to backlogs) × Gives view_of takes moves home by channel c (to backlogs)
   given-settles takes moves by channel moved to s = (
     s.0,
     subst (λ y. CoreStands view_of stands world y (to s.0)) is s.1,
-    record { nodes = n'; work = after; moved = moved; settles = subst (λ y. Settles view_of takes y given_core (to s.0)) is s.2 },
+    record { nodes = n'; work = after; moved = moved; settles = subst (λ y. WorksListOff view_of takes y given_core (to s.0)) is s.2 },
   )
 
 -- ---- a hand-over
 
 -- The first entry for a target is taken out of a backlog, and its envelope goes to the end of that queue.
 module _ {N : Type 0} (view_of : N → NodesView) (stands : World → N → Type 0) (world : World) (x : ℕ) (c : CoreView N) (h : CoreStands view_of stands world x c)
-    (o t : ℕ) (es2 es3 : List ExecutorView) (a a' b b' : ExecutorView) (r : Replaces c.executors es2 o a a') (s : Replaces es2 es3 t b b') (e : Envelope) (out : IsTakenOut a t (Some e) a')
+    (o t : ℕ) (es2 es3 : List StationView) (a a' b b' : StationView) (r : Replaces c.executors es2 o a a') (s : Replaces es2 es3 t b b') (e : Envelope) (out : IsTakenOut a t (Some e) a')
     (queue : b'.queue ≡ b.queue ++ e ∷ []) (same : b'.waiting ≡ b.waiting) where
   abbrev pub backlogs_left : ℕ → List (Entry (Unit {0}))
   backlogs_left = left world (view_of c.nodes) x c.executors c.backlogs c.work h.runs o t es2 es3 a a' b b' r s e out queue same
@@ -211,7 +211,7 @@ module _ {N : Type 0} (view_of : N → NodesView) (stands : World → N → Type
 
 -- ---- before any move
 
-pub start-stands : {N : Type 0} (view_of : N → NodesView) (stands : World → N → Type 0) (world : World) (x : ℕ) (nodes : N) (executors : List ExecutorView) (work : OutputsView) → stands world nodes → IsStart (view_of nodes) executors
+pub start-stands : {N : Type 0} (view_of : N → NodesView) (stands : World → N → Type 0) (world : World) (x : ℕ) (nodes : N) (executors : List StationView) (work : OutputsView) → stands world nodes → IsStart (view_of nodes) executors
     → work.items ≡ [] → HasPlaces work.stopped (view_of nodes).lanes → CoreStands view_of stands world x (record { nodes = nodes; executors = executors; backlogs = no_backlogs; work = work })
 start-stands view_of stands world x nodes executors work hold s none places = record {
   hold = hold;
@@ -244,6 +244,6 @@ start-stands view_of stands world x nodes executors work hold s none places = re
     empty : (y : ℕ) (l : Lane) → on l (queue_at executors y) ≡ []
     empty y l = by (slice_get executors y) refl
       where
-        by : (o : Option ExecutorView) → slice_get executors y ≡ o → on l (queue_at executors y) ≡ []
-        by None at = ap (λ o. on l (option_map_or (λ (e : ExecutorView). e.queue) o [])) at
-        by (Some e) at = ap (λ o. on l (option_map_or (λ (e : ExecutorView). e.queue) o [])) at ∙ ap (on l) (s.queues y e at).0
+        by : (o : Option StationView) → slice_get executors y ≡ o → on l (queue_at executors y) ≡ []
+        by None at = ap (λ o. on l (option_map_or (λ (e : StationView). e.queue) o [])) at
+        by (Some e) at = ap (λ o. on l (option_map_or (λ (e : StationView). e.queue) o [])) at ∙ ap (on l) (s.queues y e at).0

@@ -17,7 +17,7 @@ use Rattle.pl_context.proofs.Firsts.{IsFirst, position-first, find-filter, find-
 use Rattle.pl_flow.specs.Flows.{point, on}
 use Rattle.pl_flow.proofs.FlowLemmas.{on-append, on-own, on-other}
 use Rattle.pl_net.specs.NodesViews.{NodesView, written_by}
-use Rattle.pl_net.specs.Nets.{ExecutorView, queue_at, stops_at, envelopes, LaneStands, NetRuns, AreFew, IsTakenOut}
+use Rattle.pl_net.specs.Nets.{StationView, queue_at, stops_at, envelopes, LaneStands, NetRuns, AreFew, IsTakenOut}
 use Rattle.pl_net.proofs.LaneSteps.{lane-handed}
 use Rattle.pl_net.proofs.NetSteps.{waits-still}
 use Rattle.pl_net.proofs.OneExecutor.{Replaces, on-executor, queue-here, queue-was, queue-there}
@@ -77,8 +77,8 @@ module _ (target : Lane → ℕ) (entries : List (Entry (Unit {0}))) (all : All 
 
 -- ---- the hand-over
 
-module _ (world : World) (v : NodesView) (x : ℕ) (es : List ExecutorView) (backlogs : ℕ → List (Entry (Unit {0}))) (work : OutputsView) (runs : NetRuns world v x es backlogs work)
-    (o t : ℕ) (es2 es3 : List ExecutorView) (a a' b b' : ExecutorView) (r : Replaces es es2 o a a') (s : Replaces es2 es3 t b b') (e : Envelope) (out : IsTakenOut a t (Some e) a')
+module _ (world : World) (v : NodesView) (x : ℕ) (es : List StationView) (backlogs : ℕ → List (Entry (Unit {0}))) (work : OutputsView) (runs : NetRuns world v x es backlogs work)
+    (o t : ℕ) (es2 es3 : List StationView) (a a' b b' : StationView) (r : Replaces es es2 o a a') (s : Replaces es2 es3 t b b') (e : Envelope) (out : IsTakenOut a t (Some e) a')
     (queue : b'.queue ≡ b.queue ++ e ∷ []) (same : b'.waiting ≡ b.waiting) where
   abbrev takes : Takes a.waiting (backlogs o) t (Some (e, tt)) a'.waiting
   takes = out.takes (backlogs o) (runs.holds o a r.was)
@@ -123,7 +123,7 @@ module _ (world : World) (v : NodesView) (x : ℕ) (es : List ExecutorView) (bac
   origin = eqb-true (v.origin e.lane) o ((and_parts (v.writes e.lane) (v.origin e.lane == o) here).1)
 
   queues-2 : (y : ℕ) → queue_at es2 y ≡ queue_at es y
-  queues-2 y = on-executor es es2 o a a' r (λ (z : ExecutorView). z.queue) [] out.queue y
+  queues-2 y = on-executor es es2 o a a' r (λ (z : StationView). z.queue) [] out.queue y
 
   pub queue-own : queue_at es3 t ≡ queue_at es t ++ e ∷ []
   queue-own = queue-here es2 es3 t b b' s ∙ queue ∙ ap (λ zs. zs ++ e ∷ []) (sym (queue-was es2 es3 t b b' s) ∙ queues-2 t)
@@ -141,8 +141,8 @@ module _ (world : World) (v : NodesView) (x : ℕ) (es : List ExecutorView) (bac
 
   pub stops-same : (p q : ℕ) → stops_at es3 p q ≡ stops_at es p q
   stops-same p q =
-      on-executor es2 es3 t b b' s (λ (w : ExecutorView). stops_for w.waiting q) (no_stops 0) (ap (λ w. stops_for w q) same) p
-      ∙ on-executor es es2 o a a' r (λ (w : ExecutorView). stops_for w.waiting q) (no_stops 0) (takes.stopped q) p
+      on-executor es2 es3 t b b' s (λ (w : StationView). stops_for w.waiting q) (no_stops 0) (ap (λ w. stops_for w q) same) p
+      ∙ on-executor es es2 o a a' r (λ (w : StationView). stops_for w.waiting q) (no_stops 0) (takes.stopped q) p
 
   abbrev over : Bool
   over = (runs.lanes e.lane written).0
@@ -166,12 +166,12 @@ module _ (world : World) (v : NodesView) (x : ℕ) (es : List ExecutorView) (bac
   count = s.count ∙ r.count
 
   -- what holds of the executors one by one
-  held-2 : (y : ℕ) (c : ExecutorView) → slice_get es2 y ≡ Some c → Holds c.waiting (left y) × (length c.waiting.targets ≡ length es)
+  held-2 : (y : ℕ) (c : StationView) → slice_get es2 y ≡ Some c → Holds c.waiting (left y) × (length c.waiting.targets ≡ length es)
   held-2 y c at = ⊎_elim
       (λ (k : y ≡ o).
       let c-is : a' ≡ c = same_Some a' c (sym r.is ∙ ap (slice_get es2) (sym k) ∙ at) in (
-        subst (λ (z : ExecutorView × List (Entry (Unit {0}))). Holds z.0.waiting z.1) (λ j. (c-is j, sym (ap left k ∙ left-here) j)) takes.taken.3,
-        ap (λ (z : ExecutorView). length z.waiting.targets) (sym c-is) ∙ takes.targets ∙ runs.targets o a r.was,
+        subst (λ (z : StationView × List (Entry (Unit {0}))). Holds z.0.waiting z.1) (λ j. (c-is j, sym (ap left k ∙ left-here) j)) takes.taken.3,
+        ap (λ (z : StationView). length z.waiting.targets) (sym c-is) ∙ takes.targets ∙ runs.targets o a r.was,
       ))
       (λ (k : y ≡ o → ⊥). (
         subst (λ (zs : List (Entry (Unit {0}))). Holds c.waiting zs) (sym (left-there y k)) (runs.holds y c (sym (r.others y k) ∙ at)),
@@ -179,12 +179,12 @@ module _ (world : World) (v : NodesView) (x : ℕ) (es : List ExecutorView) (bac
       ))
       (cases_eq y o)
 
-  held-3 : (y : ℕ) (c : ExecutorView) → slice_get es3 y ≡ Some c → Holds c.waiting (left y) × (length c.waiting.targets ≡ length es)
+  held-3 : (y : ℕ) (c : StationView) → slice_get es3 y ≡ Some c → Holds c.waiting (left y) × (length c.waiting.targets ≡ length es)
   held-3 y c at = ⊎_elim
       (λ (k : y ≡ t).
       let c-is : b' ≡ c = same_Some b' c (sym s.is ∙ ap (slice_get es3) (sym k) ∙ at) in
       let h = held-2 t b s.was in
-      let w : b.waiting ≡ c.waiting = sym same ∙ ap (λ (z : ExecutorView). z.waiting) c-is in
+      let w : b.waiting ≡ c.waiting = sym same ∙ ap (λ (z : StationView). z.waiting) c-is in
       (subst (λ n. Holds c.waiting (left n)) (sym k) (subst (λ z. Holds z (left t)) w h.0), sym (ap (λ z. length z.targets) w) ∙ h.1))
       (λ (k : y ≡ t → ⊥). held-2 y c (sym (s.others y k) ∙ at))
       (cases_eq y t)
@@ -237,16 +237,16 @@ module _ (world : World) (v : NodesView) (x : ℕ) (es : List ExecutorView) (bac
     added = λ y c at. ⊎_elim
         (λ (k : y ≡ t).
         let c-is : b' ≡ c = same_Some b' c (sym s.is ∙ ap (slice_get es3) (sym k) ∙ at) in
-        subst (λ n. n + length work.items ≤ v.work_done) (ap (λ w. w.added) (sym same) ∙ ap (λ (z : ExecutorView). z.waiting.added) c-is) (few-2 t b s.was))
+        subst (λ n. n + length work.items ≤ v.work_done) (ap (λ w. w.added) (sym same) ∙ ap (λ (z : StationView). z.waiting.added) c-is) (few-2 t b s.was))
         (λ (k : y ≡ t → ⊥). few-2 y c (sym (s.others y k) ∙ at))
         (cases_eq y t);
     few = f.few;
   }
     where
-      few-2 : (y : ℕ) (c : ExecutorView) → slice_get es2 y ≡ Some c → c.waiting.added + length work.items ≤ v.work_done
+      few-2 : (y : ℕ) (c : StationView) → slice_get es2 y ≡ Some c → c.waiting.added + length work.items ≤ v.work_done
       few-2 y c at = ⊎_elim
           (λ (k : y ≡ o).
           let c-is : a' ≡ c = same_Some a' c (sym r.is ∙ ap (slice_get es2) (sym k) ∙ at) in
-          subst (λ n. n + length work.items ≤ v.work_done) (sym out.added ∙ ap (λ (z : ExecutorView). z.waiting.added) c-is) (f.added o a r.was))
+          subst (λ n. n + length work.items ≤ v.work_done) (sym out.added ∙ ap (λ (z : StationView). z.waiting.added) c-is) (f.added o a r.was))
           (λ (k : y ≡ o → ⊥). f.added y c (sym (r.others y k) ∙ at))
           (cases_eq y o)

@@ -24,7 +24,7 @@ use Rattle.pl_flow.specs.Makes.{LaneGrows}
 use Rattle.pl_flow.proofs.FlowLemmas.{on-append}
 use Rattle.pl_flow.proofs.MakeLemmas.{one-grows, added-other, stopped-with}
 use Rattle.pl_net.specs.NodesViews.{NodesView}
-use Rattle.pl_net.specs.Nets.{ExecutorView, queue_at, stops_at, envelopes, LaneStands, NetRuns, AreFew, IsAdded}
+use Rattle.pl_net.specs.Nets.{StationView, queue_at, stops_at, envelopes, LaneStands, NetRuns, AreFew, IsAdded}
 use Rattle.pl_net.proofs.LaneSteps.{lane-added, goes-on}
 use Rattle.pl_net.proofs.OneExecutor.{Replaces, on-executor, stops-here, stops-was, stops-there, entry_for, envelopes-more, entries-on}
 use Rattle.pl_net.proofs.NetSteps.{there-on, same-on, front-here, front-written, front-origin, listed-left, waits-still}
@@ -36,8 +36,8 @@ stopped-other answers.Discarded s lane l f = refl
 stopped-other answers.Refused s lane l f = stopped-with s lane l ∙ ap (λ b. has_stopped s l || b) f ∙ or-false (has_stopped s l)
 
 -- The front of the list is for another executor: that is there, and the lane has its place on the way.
-module _ (world : World) (v : NodesView) (x : ℕ) (es : List ExecutorView) (backlogs : ℕ → List (Entry (Unit {0}))) (before mid : OutputsView) (e : Envelope) (runs : NetRuns world v x es backlogs before)
-    (front : before.items ≡ e ∷ mid.items) (stops : mid.stopped ≡ before.stopped) (a : ExecutorView) (was : slice_get es x ≡ Some a) where
+module _ (world : World) (v : NodesView) (x : ℕ) (es : List StationView) (backlogs : ℕ → List (Entry (Unit {0}))) (before mid : OutputsView) (e : Envelope) (runs : NetRuns world v x es backlogs before)
+    (front : before.items ≡ e ∷ mid.items) (stops : mid.stopped ≡ before.stopped) (a : StationView) (was : slice_get es x ≡ Some a) where
   pub keep-there : v.target e.lane < length a.waiting.targets
   keep-there = let t = runs.targets x a was in let h = (runs.there e.lane (front-written world v x es backlogs before mid e runs front stops)).1 in omega (arith, t, h)
 
@@ -45,7 +45,7 @@ module _ (world : World) (v : NodesView) (x : ℕ) (es : List ExecutorView) (bac
   keep-placed =
       let written = front-written world v x es backlogs before mid e runs front stops in
       let origin = front-origin world v x es backlogs before mid e runs front stops in
-      subst (λ s. HasPlaces s (e.lane ∷ [])) (ap (λ o. option_map_or (λ (w : ExecutorView). stops_for w.waiting (v.target e.lane)) o (no_stops 0)) was)
+      subst (λ s. HasPlaces s (e.lane ∷ [])) (ap (λ o. option_map_or (λ (w : StationView). stops_for w.waiting (v.target e.lane)) o (no_stops 0)) was)
       (places-for (stops_at es x (v.target e.lane)) (runs.hops x (v.target e.lane)) (e.lane ∷ [])
       (runs.placed x (v.target e.lane) (subst (λ k. k < length es) origin (runs.there e.lane written).0) (runs.there e.lane written).1)
       (subst (λ p. AreAmong (e.lane ∷ []) (runs.hops p (v.target e.lane))) origin (runs.among e.lane written)))
@@ -53,9 +53,9 @@ module _ (world : World) (v : NodesView) (x : ℕ) (es : List ExecutorView) (bac
   pub keep-counts : AreFew v es before → a.waiting.added + 1 < 2 ^ 64
   keep-counts f = let h = f.added x a was in let m = f.few in omega (arith, h, m)
 
-module _ (world : World) (v : NodesView) (x : ℕ) (es : List ExecutorView) (backlogs : ℕ → List (Entry (Unit {0}))) (before mid : OutputsView) (e : Envelope) (runs : NetRuns world v x es backlogs before)
+module _ (world : World) (v : NodesView) (x : ℕ) (es : List StationView) (backlogs : ℕ → List (Entry (Unit {0}))) (before mid : OutputsView) (e : Envelope) (runs : NetRuns world v x es backlogs before)
     (front : before.items ≡ e ∷ mid.items) (stops : mid.stopped ≡ before.stopped) (away : v.target e.lane ≢ x)
-    (es' : List ExecutorView) (a a' : ExecutorView) (r : Replaces es es' x a a') (adds : IsAdded a (v.target e.lane) e a') where
+    (es' : List StationView) (a a' : StationView) (r : Replaces es es' x a a') (adds : IsAdded a (v.target e.lane) e a') where
   abbrev target : ℕ
   target = v.target e.lane
 
@@ -76,7 +76,7 @@ module _ (world : World) (v : NodesView) (x : ℕ) (es : List ExecutorView) (bac
   kept-there y other = cond-false (y == x) _ _ (ne_eqb y x other)
 
   queues : (y : ℕ) → queue_at es' y ≡ queue_at es y
-  queues y = on-executor es es' x a a' r (λ (z : ExecutorView). z.queue) [] adds.queue y
+  queues y = on-executor es es' x a a' r (λ (z : StationView). z.queue) [] adds.queue y
 
   -- of other lanes nothing waits that did not
   waits-other : (y : ℕ) (l : Lane) → same_lane l e.lane ≡ false → on l (envelopes (kept y)) ≡ on l (envelopes (backlogs y))
@@ -197,13 +197,13 @@ module _ (world : World) (v : NodesView) (x : ℕ) (es : List ExecutorView) (bac
     holds = λ y b at. ⊎_elim
         (λ (s : y ≡ x).
         let same : a' ≡ b = same_Some a' b (sym r.is ∙ ap (slice_get es') (sym s) ∙ at) in
-        subst (λ (z : ExecutorView × List (Entry (Unit {0}))). Holds z.0.waiting z.1) (λ i. (same i, sym (ap kept s ∙ kept-here) i)) (adds.adds.holds (backlogs x) (runs.holds x a r.was)))
+        subst (λ (z : StationView × List (Entry (Unit {0}))). Holds z.0.waiting z.1) (λ i. (same i, sym (ap kept s ∙ kept-here) i)) (adds.adds.holds (backlogs x) (runs.holds x a r.was)))
         (λ (s : y ≡ x → ⊥). subst (λ (zs : List (Entry (Unit {0}))). Holds b.waiting zs) (sym (kept-there y s)) (runs.holds y b (sym (r.others y s) ∙ at)))
         (cases_eq y x);
     targets = λ y b at. ⊎_elim
         (λ (s : y ≡ x).
         let same : a' ≡ b = same_Some a' b (sym r.is ∙ ap (slice_get es') (sym s) ∙ at) in
-        ap (λ (z : ExecutorView). length z.waiting.targets) (sym same) ∙ adds.adds.targets ∙ runs.targets x a r.was ∙ sym r.count)
+        ap (λ (z : StationView). length z.waiting.targets) (sym same) ∙ adds.adds.targets ∙ runs.targets x a r.was ∙ sym r.count)
         (λ (s : y ≡ x → ⊥). runs.targets y b (sym (r.others y s) ∙ at) ∙ sym r.count)
         (cases_eq y x);
     there = λ l t. subst (λ n. (v.origin l < n) × (v.target l < n)) (sym r.count) (runs.there l t);
@@ -229,7 +229,7 @@ module _ (world : World) (v : NodesView) (x : ℕ) (es : List ExecutorView) (bac
     added = λ y b at. ⊎_elim
         (λ (s : y ≡ x).
         let same : a' ≡ b = same_Some a' b (sym r.is ∙ ap (slice_get es') (sym s) ∙ at) in
-        let n = ap (λ (z : ExecutorView). z.waiting.added) same in
+        let n = ap (λ (z : StationView). z.waiting.added) same in
         let h = f.added x a r.was in
         let m = adds.adds.added in
         let k = ap length front in omega (arith, n, h, m, k))

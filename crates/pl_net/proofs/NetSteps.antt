@@ -13,14 +13,14 @@ use Rattle.pl_context.specs.WaitingViews.{Entry}
 use Rattle.pl_flow.specs.Flows.{point, after, on, IsGood, IsNext}
 use Rattle.pl_flow.proofs.FlowLemmas.{on-append, on-own, on-other}
 use Rattle.pl_net.specs.NodesViews.{NodesView, written_by, SameRoutes, NodesMake}
-use Rattle.pl_net.specs.Nets.{ExecutorView, queue_at, stops_at, envelopes, LaneStands, NetRuns}
+use Rattle.pl_net.specs.Nets.{StationView, queue_at, stops_at, envelopes, LaneStands, NetRuns}
 use Rattle.pl_net.proofs.LaneSteps.{lane-puts, lane-next, lane-called}
 
 -- how many of each lane were taken, once this one was
 abbrev pub taken_with : NodesView → Envelope → Lane → ℕ
 taken_with v e l = cond (same_lane l e.lane) (e.number + 1) (v.taken l)
 
-module _ (world : World) (v : NodesView) (x : ℕ) (executors : List ExecutorView) (backlogs : ℕ → List (Entry (Unit {0}))) where
+module _ (world : World) (v : NodesView) (x : ℕ) (executors : List StationView) (backlogs : ℕ → List (Entry (Unit {0}))) where
   -- ---- a backlog
 
   -- Of one backlog only a lane that is written there has changed: of any other lane nothing waits there or elsewhere that did not.

@@ -8,7 +8,7 @@ use Rattle.pl_context.specs.OutputsViews.{OutputsView}
 use Rattle.pl_context.specs.WaitingViews.{Entry}
 use Rattle.pl_flow.specs.Flows.{Point, point, after, on, IsFlow, past}
 use Rattle.pl_net.specs.NodesViews.{NodesView}
-use Rattle.pl_net.specs.Nets.{ExecutorView, NetRuns, queue_at, stops_at, envelopes}
+use Rattle.pl_net.specs.Nets.{StationView, NetRuns, queue_at, stops_at, envelopes}
 use Rattle.pl_net.specs.Numbers.{made_of}
 
 -- each item that follows moves a lane on by one
@@ -16,7 +16,7 @@ past-next : (world : World) (p : Point) (xs : List Envelope) → IsFlow world p 
 past-next world p [] f = omega arith
 past-next world p (x ∷ xs) f = let n = f.0.number in let h = past-next world (after x) xs f.1 in omega (arith, n, h)
 
-module _ (world : World) (v : NodesView) (x : ℕ) (es : List ExecutorView) (backlogs : ℕ → List (Entry (Unit {0}))) (work : OutputsView) (runs : NetRuns world v x es backlogs work) (none : work.items ≡ []) (l : Lane) (w : v.writes l ≡ true) where
+module _ (world : World) (v : NodesView) (x : ℕ) (es : List StationView) (backlogs : ℕ → List (Entry (Unit {0}))) (work : OutputsView) (runs : NetRuns world v x es backlogs work) (none : work.items ≡ []) (l : Lane) (w : v.writes l ≡ true) where
   -- all that was made is there, where the lane was not cut off
   pub made-all : has_stopped (stops_at es (v.origin l) (v.target l)) l ≡ false → has_stopped work.stopped l ≡ false → made_of v es backlogs l ≡ (v.came l).next
   made-all cut stopped =

@@ -14,7 +14,7 @@ use Rattle.pl_context.specs.WaitingViews.{Entry, Holds, is_for, stops_for}
 use Rattle.pl_context.proofs.Firsts.{position-first, position-is, find-None-position, find-Some-position}
 use Rattle.pl_flow.specs.Flows.{point, on}
 use Rattle.pl_net.specs.NodesViews.{NodesView, written_by}
-use Rattle.pl_net.specs.Nets.{ExecutorView, queue_at, stops_at, envelopes, LaneStands, NetRuns, CoreView, CoreStands, HandsOver, has_room}
+use Rattle.pl_net.specs.Nets.{StationView, queue_at, stops_at, envelopes, LaneStands, NetRuns, CoreView, CoreStands, HandsOver, has_room}
 use Rattle.pl_net.specs.Cores.{waits_of}
 use Rattle.pl_net.proofs.OneExecutor.{Replaces, on-executor}
 use Rattle.pl_net.proofs.HandSteps.{waits-own}
@@ -64,7 +64,7 @@ none-open opens entries e = by (find (λ (z : Entry (Unit {0})). opens z.target)
     by (Some z) some = absurd (none-some z.target (e ∙ ap (option_map (λ (y : Entry (Unit {0})). y.target)) some))
 
 -- an entry that waits is for an executor that is there
-pub entry-there : (world : World) (v : NodesView) (x : ℕ) (es : List ExecutorView) (backlogs : ℕ → List (Entry (Unit {0}))) (work : OutputsView) → NetRuns world v x es backlogs work
+pub entry-there : (world : World) (v : NodesView) (x : ℕ) (es : List StationView) (backlogs : ℕ → List (Entry (Unit {0}))) (work : OutputsView) → NetRuns world v x es backlogs work
     → (y t i : ℕ) (entry : Entry (Unit {0})) → position (is_for t) (backlogs y) ≡ Some i → slice_get (backlogs y) i ≡ Some entry → entry.target ≡ t → t < length es
 entry-there world v x es backlogs work runs y t i entry own at same =
     subst (λ k. k < length es) (sym (All-at (λ (z : Entry (Unit {0})). z.target ≡ v.target z.envelope.lane) (backlogs y) i entry (runs.entries y) at) ∙ same)
@@ -77,21 +77,21 @@ entry-there world v x es backlogs work runs y t i entry own at same =
 -- ---- a queue that gets memory
 
 module _ {N : Type 0} (view_of : N → NodesView) (stands : World → N → Type 0) (world : World) (x : ℕ) (c : CoreView N) (h : CoreStands view_of stands world x c)
-    (t : ℕ) (es' : List ExecutorView) (b b' : ExecutorView) (r : Replaces c.executors es' t b b') (queue : b'.queue ≡ b.queue) (waiting : b'.waiting ≡ b.waiting) where
+    (t : ℕ) (es' : List StationView) (b b' : StationView) (r : Replaces c.executors es' t b b') (queue : b'.queue ≡ b.queue) (waiting : b'.waiting ≡ b.waiting) where
   abbrev pub roomy : CoreView N
   roomy = record { nodes = c.nodes; executors = es'; backlogs = c.backlogs; work = c.work }
 
   pub queues-same : (y : ℕ) → queue_at es' y ≡ queue_at c.executors y
-  queues-same y = on-executor c.executors es' t b b' r (λ (z : ExecutorView). z.queue) [] queue y
+  queues-same y = on-executor c.executors es' t b b' r (λ (z : StationView). z.queue) [] queue y
 
   pub stops-alike : (y z : ℕ) → stops_at es' y z ≡ stops_at c.executors y z
-  stops-alike y z = on-executor c.executors es' t b b' r (λ (w : ExecutorView). stops_for w.waiting z) (no_stops 0) (ap (λ w. stops_for w z) waiting) y
+  stops-alike y z = on-executor c.executors es' t b b' r (λ (w : StationView). stops_for w.waiting z) (no_stops 0) (ap (λ w. stops_for w z) waiting) y
 
-  held : (y : ℕ) (e : ExecutorView) → slice_get es' y ≡ Some e → (e' : ExecutorView) × (slice_get c.executors y ≡ Some e') × (e.waiting ≡ e'.waiting)
+  held : (y : ℕ) (e : StationView) → slice_get es' y ≡ Some e → (e' : StationView) × (slice_get c.executors y ≡ Some e') × (e.waiting ≡ e'.waiting)
   held y e at = ⊎_elim
       (λ (s : y ≡ t).
       let is : b' ≡ e = same_Some b' e (sym r.is ∙ ap (slice_get es') (sym s) ∙ at) in
-      (b, ap (slice_get c.executors) s ∙ r.was, ap (λ (z : ExecutorView). z.waiting) (sym is) ∙ waiting))
+      (b, ap (slice_get c.executors) s ∙ r.was, ap (λ (z : StationView). z.waiting) (sym is) ∙ waiting))
       (λ (s : y ≡ t → ⊥). (e, sym (r.others y s) ∙ at, refl))
       (cases_eq y t)
 
@@ -142,17 +142,17 @@ module _ {N : Type 0} (view_of : N → NodesView) (stands : World → N → Type
   }
 
 -- what waits is the same, whatever memory a queue has
-pub same-waits : (es : List ExecutorView) (t : ℕ) (b b' : ExecutorView) → b ≡ get_or es t b → waits_of b' ≡ waits_of b → map waits_of (set es t b') ≡ map waits_of es
+pub same-waits : (es : List StationView) (t : ℕ) (b b' : StationView) → b ≡ get_or es t b → waits_of b' ≡ waits_of b → map waits_of (set es t b') ≡ map waits_of es
 same-waits es t b b' at same = map-set_same waits_of es t b' b (same ∙ ap waits_of at)
 
 -- ---- what is found
 
-abbrev Says : List ExecutorView → ℕ → ℕ → Option ℕ → Type 0
-Says es capacity o answer = (e : ExecutorView) (entries : List (Entry (Unit {0}))) → slice_get es o ≡ Some e → Holds e.waiting entries
+abbrev Says : List StationView → ℕ → ℕ → Option ℕ → Type 0
+Says es capacity o answer = (e : StationView) (entries : List (Entry (Unit {0}))) → slice_get es o ≡ Some e → Holds e.waiting entries
     → answer ≡ option_map (λ (z : Entry (Unit {0})). z.target) (find (λ z. has_room es capacity z.target) entries)
 
 module _ {N : Type 0} (view_of : N → NodesView) (stands : World → N → Type 0) (world : World) (x : ℕ) (c : CoreView N) (h : CoreStands view_of stands world x c)
-    (o capacity : ℕ) (within : o < length c.executors) (es : List ExecutorView) (same : es ≡ c.executors) (answer : Option ℕ) (says : Says es capacity o answer) where
+    (o capacity : ℕ) (within : o < length c.executors) (es : List StationView) (same : es ≡ c.executors) (answer : Option ℕ) (says : Says es capacity o answer) where
   found : answer ≡ option_map (λ (z : Entry (Unit {0})). z.target) (find (λ z. has_room c.executors capacity z.target) (c.backlogs o))
   found =
       let says' = subst (λ zs. Says zs capacity o answer) same says in

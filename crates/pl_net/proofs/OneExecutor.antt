@@ -17,15 +17,15 @@ use Rattle.pl_context.specs.Stops.{no_stops}
 use Rattle.pl_context.specs.WaitingViews.{Entry, stops_for}
 use Rattle.pl_context.proofs.WaitingCalls.{at-set_here, at-set_there}
 use Rattle.pl_flow.proofs.ItemLemmas.{stand_in-data, stand_in-flags}
-use Rattle.pl_net.specs.Nets.{ExecutorView, queue_at, stops_at, envelopes}
+use Rattle.pl_net.specs.Nets.{StationView, queue_at, stops_at, envelopes}
 
-pub record Replaces (es es' : List ExecutorView) (x : ℕ) (e e' : ExecutorView) : Type 0 where
+pub record Replaces (es es' : List StationView) (x : ℕ) (e e' : StationView) : Type 0 where
   pub was : slice_get es x ≡ Some e
   pub is : slice_get es' x ≡ Some e'
   pub others : (y : ℕ) → y ≢ x → slice_get es' y ≡ slice_get es y
   pub count : length es' ≡ length es
 
-pub replaces-set : (es : List ExecutorView) (x : ℕ) (e e' : ExecutorView) → slice_get es x ≡ Some e → Replaces es (set es x e') x e e'
+pub replaces-set : (es : List StationView) (x : ℕ) (e e' : StationView) → slice_get es x ≡ Some e → Replaces es (set es x e') x e e'
 replaces-set es x e e' at = record {
   was = at;
   is = at-set_here es x e' (slice_get_within es x e at);
@@ -33,9 +33,9 @@ replaces-set es x e e' at = record {
   count = length-set es x e';
 }
 
-module _ (es es' : List ExecutorView) (x : ℕ) (e e' : ExecutorView) (r : Replaces es es' x e e') where
+module _ (es es' : List StationView) (x : ℕ) (e e' : StationView) (r : Replaces es es' x e e') where
   -- a function of one executor, or of none, that has not changed
-  pub on-executor : {A : Type 0} (f : ExecutorView → A) (d : A) → f e' ≡ f e → (y : ℕ) → option_map_or f (slice_get es' y) d ≡ option_map_or f (slice_get es y) d
+  pub on-executor : {A : Type 0} (f : StationView → A) (d : A) → f e' ≡ f e → (y : ℕ) → option_map_or f (slice_get es' y) d ≡ option_map_or f (slice_get es y) d
   on-executor f d same y = ⊎_elim
       (λ (s : y ≡ x).
       ap (λ k. option_map_or f (slice_get es' k) d) s ∙ ap (λ o. option_map_or f o d) r.is ∙ same
@@ -44,22 +44,22 @@ module _ (es es' : List ExecutorView) (x : ℕ) (e e' : ExecutorView) (r : Repla
       (cases_eq y x)
 
   pub queue-here : queue_at es' x ≡ e'.queue
-  queue-here = ap (λ o. option_map_or (λ (z : ExecutorView). z.queue) o []) r.is
+  queue-here = ap (λ o. option_map_or (λ (z : StationView). z.queue) o []) r.is
 
   pub queue-was : queue_at es x ≡ e.queue
-  queue-was = ap (λ o. option_map_or (λ (z : ExecutorView). z.queue) o []) r.was
+  queue-was = ap (λ o. option_map_or (λ (z : StationView). z.queue) o []) r.was
 
   pub queue-there : (y : ℕ) → y ≢ x → queue_at es' y ≡ queue_at es y
-  queue-there y other = ap (λ o. option_map_or (λ (z : ExecutorView). z.queue) o []) (r.others y other)
+  queue-there y other = ap (λ o. option_map_or (λ (z : StationView). z.queue) o []) (r.others y other)
 
   pub stops-here : (z : ℕ) → stops_at es' x z ≡ stops_for e'.waiting z
-  stops-here z = ap (λ o. option_map_or (λ (w : ExecutorView). stops_for w.waiting z) o (no_stops 0)) r.is
+  stops-here z = ap (λ o. option_map_or (λ (w : StationView). stops_for w.waiting z) o (no_stops 0)) r.is
 
   pub stops-was : (z : ℕ) → stops_at es x z ≡ stops_for e.waiting z
-  stops-was z = ap (λ o. option_map_or (λ (w : ExecutorView). stops_for w.waiting z) o (no_stops 0)) r.was
+  stops-was z = ap (λ o. option_map_or (λ (w : StationView). stops_for w.waiting z) o (no_stops 0)) r.was
 
   pub stops-there : (y z : ℕ) → y ≢ x → stops_at es' y z ≡ stops_at es y z
-  stops-there y z other = ap (λ o. option_map_or (λ (w : ExecutorView). stops_for w.waiting z) o (no_stops 0)) (r.others y other)
+  stops-there y z other = ap (λ o. option_map_or (λ (w : StationView). stops_for w.waiting z) o (no_stops 0)) (r.others y other)
 
 -- ---- entries of a backlog
 

@@ -14,17 +14,17 @@ use Rattle.pl_context.specs.WaitingViews.{Entry, Holds, stops_for}
 use Rattle.pl_flow.specs.Flows.{point, on, IsGood}
 use Rattle.pl_flow.proofs.FlowLemmas.{on-own, on-other}
 use Rattle.pl_net.specs.NodesViews.{NodesView}
-use Rattle.pl_net.specs.Nets.{ExecutorView, queue_at, stops_at, envelopes, LaneStands, NetRuns, AreFew}
+use Rattle.pl_net.specs.Nets.{StationView, queue_at, stops_at, envelopes, LaneStands, NetRuns, AreFew}
 use Rattle.pl_net.proofs.LaneSteps.{lane-task}
 use Rattle.pl_net.proofs.OneExecutor.{Replaces, on-executor, queue-here, queue-was, queue-there}
 use Rattle.pl_net.proofs.NetSteps.{taken_with, relisted}
 
 -- Between two moves any executor may be the next to run.
-pub at-rest : (world : World) (v : NodesView) (x y : ℕ) (es : List ExecutorView) (backlogs : ℕ → List (Entry (Unit {0}))) (work : OutputsView) → work.items ≡ [] → NetRuns world v x es backlogs work → NetRuns world v y es backlogs work
+pub at-rest : (world : World) (v : NodesView) (x y : ℕ) (es : List StationView) (backlogs : ℕ → List (Entry (Unit {0}))) (work : OutputsView) → work.items ≡ [] → NetRuns world v x es backlogs work → NetRuns world v y es backlogs work
 at-rest world v x y es backlogs work none runs = relisted world v x es backlogs v v.taken y work work runs runs.lanes (λ l n. ap (on l) none)
 
-module _ (world : World) (v : NodesView) (x : ℕ) (es : List ExecutorView) (backlogs : ℕ → List (Entry (Unit {0}))) (work : OutputsView) (runs : NetRuns world v x es backlogs work)
-    (y : ℕ) (es' : List ExecutorView) (a a' : ExecutorView) (r : Replaces es es' y a a') (e : Envelope) (front : a.queue ≡ e ∷ a'.queue) (same : a'.waiting ≡ a.waiting) where
+module _ (world : World) (v : NodesView) (x : ℕ) (es : List StationView) (backlogs : ℕ → List (Entry (Unit {0}))) (work : OutputsView) (runs : NetRuns world v x es backlogs work)
+    (y : ℕ) (es' : List StationView) (a a' : StationView) (r : Replaces es es' y a a') (e : Envelope) (front : a.queue ≡ e ∷ a'.queue) (same : a'.waiting ≡ a.waiting) where
   own-queue : queue_at es y ≡ e ∷ queue_at es' y
   own-queue = queue-was es es' y a a' r ∙ front ∙ ap (λ zs. e ∷ zs) (sym (queue-here es es' y a a' r))
 
@@ -38,7 +38,7 @@ module _ (world : World) (v : NodesView) (x : ℕ) (es : List ExecutorView) (bac
       (cases_eq z y)
 
   stops-same : (p q : ℕ) → stops_at es' p q ≡ stops_at es p q
-  stops-same p q = on-executor es es' y a a' r (λ (w : ExecutorView). stops_for w.waiting q) (no_stops 0) (ap (λ w. stops_for w q) same) p
+  stops-same p q = on-executor es es' y a a' r (λ (w : StationView). stops_for w.waiting q) (no_stops 0) (ap (λ w. stops_for w q) same) p
 
   -- it is of a lane that is written and enters this executor
   queued-here : (v.writes e.lane && (v.target e.lane == y)) ≡ true
@@ -114,13 +114,13 @@ module _ (world : World) (v : NodesView) (x : ℕ) (es : List ExecutorView) (bac
     holds = λ z b at. ⊎_elim
         (λ (s : z ≡ y).
         let b-is : a' ≡ b = same_Some a' b (sym r.is ∙ ap (slice_get es') (sym s) ∙ at) in
-        subst (λ w. Holds w (backlogs z)) (sym same ∙ ap (λ (c : ExecutorView). c.waiting) b-is) (subst (λ k. Holds a.waiting (backlogs k)) (sym s) (runs.holds y a r.was)))
+        subst (λ w. Holds w (backlogs z)) (sym same ∙ ap (λ (c : StationView). c.waiting) b-is) (subst (λ k. Holds a.waiting (backlogs k)) (sym s) (runs.holds y a r.was)))
         (λ (s : z ≡ y → ⊥). runs.holds z b (sym (r.others z s) ∙ at))
         (cases_eq z y);
     targets = λ z b at. ⊎_elim
         (λ (s : z ≡ y).
         let b-is : a' ≡ b = same_Some a' b (sym r.is ∙ ap (slice_get es') (sym s) ∙ at) in
-        ap (λ (c : ExecutorView). length c.waiting.targets) (sym b-is) ∙ ap (λ w. length w.targets) same ∙ runs.targets y a r.was ∙ sym r.count)
+        ap (λ (c : StationView). length c.waiting.targets) (sym b-is) ∙ ap (λ w. length w.targets) same ∙ runs.targets y a r.was ∙ sym r.count)
         (λ (s : z ≡ y → ⊥). runs.targets z b (sym (r.others z s) ∙ at) ∙ sym r.count)
         (cases_eq z y);
     there = λ l t. subst (λ n. (v.origin l < n) × (v.target l < n)) (sym r.count) (runs.there l t);
@@ -134,7 +134,7 @@ module _ (world : World) (v : NodesView) (x : ℕ) (es : List ExecutorView) (bac
     added = λ z b at. ⊎_elim
         (λ (s : z ≡ y).
         let b-is : a' ≡ b = same_Some a' b (sym r.is ∙ ap (slice_get es') (sym s) ∙ at) in
-        subst (λ n. n + length work.items ≤ v.work_done) (ap (λ w. w.added) (sym same) ∙ ap (λ (c : ExecutorView). c.waiting.added) b-is) (f.added y a r.was))
+        subst (λ n. n + length work.items ≤ v.work_done) (ap (λ w. w.added) (sym same) ∙ ap (λ (c : StationView). c.waiting.added) b-is) (f.added y a r.was))
         (λ (s : z ≡ y → ⊥). f.added z b (sym (r.others z s) ∙ at))
         (cases_eq z y);
     few = f.few;

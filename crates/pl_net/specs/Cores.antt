@@ -1,10 +1,10 @@
 -- A core, as contracts see it.
 use Rattle.std.specs.Prelude.{◌≡◌, ℕ, List, map}
 use Rattle.pl_context.specs.WaitingViews.{Entry}
-use Rattle.pl_net.specs.Nets.{CoreView, ExecutorView}
+use Rattle.pl_net.specs.Nets.{CoreView, StationView}
 use Rattle.pl_net.specs.declared.cores.Core.{Core}
 
--- with these backlogs
+-- a core as contracts see it, with these backlogs
 abbrev pub core_view : {N : Type 0} → Core N → (ℕ → List (Entry Unit)) → CoreView N
 core_view c backlogs = record { nodes = c.nodes; executors = c.executors.items; backlogs = backlogs; work = c.work }
 
@@ -15,10 +15,10 @@ pub record IsUnmoved {N : Type 0} (c c' : Core N) : Type 0 where
   pub work : c'.work ≡ c.work
 
 -- what waits at an executor, whatever memory its queue has
-abbrev pub waits_of : ExecutorView → ExecutorView
+abbrev pub waits_of : StationView → StationView
 waits_of e = record e { room = 0 }
 
--- The same, but for how much memory queues have.
+-- Nothing has moved but how much memory queues have.
 pub record IsUnmovedButRoom {N : Type 0} (c c' : Core N) : Type 0 where
   pub nodes : c'.nodes ≡ c.nodes
   pub executors : map waits_of c'.executors.items ≡ map waits_of c.executors.items

@@ -13,18 +13,20 @@ use Rattle.pl_flow.specs.LaneRuns.{LaneRuns}
 use Rattle.pl_flow.specs.declared.moves.HeadMove.{HeadMove}
 use Rattle.pl_net.specs.NodesViews.{NodesView, written_by}
 
--- What waits at an executor: handed over to it and not taken; and made there for others, and not handed over.
-pub record ExecutorView : Type 0 where
+-- What waits at an executor. It was handed over to it and not taken; or it was made there for others, and not handed
+-- over.
+pub record StationView : Type 0 where
   pub queue : List Envelope
   pub waiting : WaitingView Unit
   -- for how many more the queue has memory
   pub room : ℕ
 
-abbrev pub queue_at : List ExecutorView → ℕ → List Envelope
+-- the queue of an executor
+abbrev pub queue_at : List StationView → ℕ → List Envelope
 queue_at executors y = option_map_or (λ e. e.queue) (slice_get executors y) []
 
--- the lanes that have stopped on the way from one executor to another
-abbrev pub stops_at : List ExecutorView → ℕ → ℕ → StopsView
+-- the lanes stopped from one executor to another
+abbrev pub stops_at : List StationView → ℕ → ℕ → StopsView
 stops_at executors x y = option_map_or (λ e. stops_for e.waiting y) (slice_get executors x) (no_stops 0)
 
 -- the envelopes of a backlog, the oldest first
@@ -38,8 +40,9 @@ pub record LaneStands (world : World) (base : Point) (queued waits : List Envelo
   pub runs : LaneRuns world (past base (queued ++ waits)) cut stopped listed made
 
 module _ (world : World) (v : NodesView) where
-  -- Executor x runs, and has this on its work list. The backlogs are those of the executors, by number.
-  pub record NetRuns (x : ℕ) (executors : List ExecutorView) (backlogs : ℕ → List (Entry Unit)) (work : OutputsView) : Type 0 where
+  -- The lane account (EventLoop, account_law): of each lane, what is queued, waits and is listed follow what was
+  -- taken. Executor x runs, and has this on its work list. The backlogs are those of the executors, by number.
+  pub record NetRuns (x : ℕ) (executors : List StationView) (backlogs : ℕ → List (Entry Unit)) (work : OutputsView) : Type 0 where
     pub lanes : (l : Lane) → v.writes l ≡ true
         → (over : Bool) × LaneStands world (point (v.taken l) over) (on l (queue_at executors (v.target l))) (on l (envelopes (backlogs (v.origin l))))
         (has_stopped (stops_at executors (v.origin l) (v.target l)) l) (has_stopped work.stopped l) (on l work.items) (v.came l)
@@ -51,8 +54,8 @@ module _ (world : World) (v : NodesView) where
     pub queued : (y : ℕ) (l : Lane) → (v.writes l && (v.target l == y)) ≡ false → on l (queue_at executors y) ≡ []
     pub waits : (y : ℕ) (l : Lane) → written_by v y l ≡ false → on l (envelopes (backlogs y)) ≡ []
     pub entries : (y : ℕ) → All (λ e. e.target ≡ v.target e.envelope.lane) (backlogs y)
-    pub holds : (y : ℕ) (e : ExecutorView) → slice_get executors y ≡ Some e → Holds e.waiting (backlogs y)
-    pub targets : (y : ℕ) (e : ExecutorView) → slice_get executors y ≡ Some e → length e.waiting.targets ≡ length executors
+    pub holds : (y : ℕ) (e : StationView) → slice_get executors y ≡ Some e → Holds e.waiting (backlogs y)
+    pub targets : (y : ℕ) (e : StationView) → slice_get executors y ≡ Some e → length e.waiting.targets ≡ length executors
     pub there : (l : Lane) → v.writes l ≡ true → (v.origin l < length executors) × (v.target l < length executors)
     -- each lane has its place on the way to its executor
     pub hops : ℕ → ℕ → List Lane
@@ -60,25 +63,25 @@ module _ (world : World) (v : NodesView) where
     pub among : (l : Lane) → v.writes l ≡ true → AreAmong (l ∷ []) (hops (v.origin l) (v.target l))
 
 -- At most one addition to a backlog for each item that was made, but for those on the list.
-pub record AreFew (v : NodesView) (executors : List ExecutorView) (work : OutputsView) : Type 0 where
-  pub added : (y : ℕ) (e : ExecutorView) → slice_get executors y ≡ Some e → e.waiting.added + length work.items ≤ v.work_done
+pub record AreFew (v : NodesView) (executors : List StationView) (work : OutputsView) : Type 0 where
+  pub added : (y : ℕ) (e : StationView) → slice_get executors y ≡ Some e → e.waiting.added + length work.items ≤ v.work_done
   pub few : v.work_done < 2 ^ 62
 
 -- an item was added to a backlog, or what stands in for it
-pub record IsAdded (e : ExecutorView) (target : ℕ) (x : Envelope) (e' : ExecutorView) : Type 0 where
+pub record IsAdded (e : StationView) (target : ℕ) (x : Envelope) (e' : StationView) : Type 0 where
   pub back : Option Unit
   pub adds : WaitingAdds e.waiting target x tt back e'.waiting
   pub queue : e'.queue ≡ e.queue
 
 -- the oldest item for a target was taken out of a backlog, where there is one
-pub record IsTakenOut (e : ExecutorView) (target : ℕ) (result : Option Envelope) (e' : ExecutorView) : Type 0 where
+pub record IsTakenOut (e : StationView) (target : ℕ) (result : Option Envelope) (e' : StationView) : Type 0 where
   pub takes : (entries : List (Entry Unit)) → Holds e.waiting entries → Takes e.waiting entries target (option_map (λ x. (x, tt)) result) e'.waiting
   pub queue : e'.queue ≡ e.queue
   pub room : e'.room ≡ e.room
   pub added : e'.waiting.added ≡ e.waiting.added
 
 -- how much was done by all nodes, and by adding to the backlog of executor x
-abbrev pub done_by : NodesView → ℕ → List ExecutorView → ℕ
+abbrev pub done_by : NodesView → ℕ → List StationView → ℕ
 done_by v x executors = v.work_done + option_map_or (λ e. e.waiting.added) (slice_get executors x) 0
 
 -- ---- a core
@@ -86,12 +89,12 @@ done_by v x executors = v.work_done + option_map_or (λ e. e.waiting.added) (sli
 -- The nodes, what waits at each executor, the backlogs that are kept there, and the work list of the one that runs.
 pub record CoreView (N : Type 0) : Type 0 where
   pub nodes : N
-  pub executors : List ExecutorView
+  pub executors : List StationView
   pub backlogs : ℕ → List (Entry Unit)
   pub work : OutputsView
 
 module _ {N : Type 0} (view_of : N → NodesView) where
-  -- It stands in a world while executor x runs: its nodes hold, and its work list has places for all lanes.
+  -- A core stands in a world while executor x runs. Its nodes hold, and its work list has places for all lanes.
   pub record CoreStands (stands : World → N → Type 0) (world : World) (x : ℕ) (c : CoreView N) : Type 0 where
     pub hold : stands world c.nodes
     pub runs : NetRuns world (view_of c.nodes) x c.executors c.backlogs c.work
@@ -111,8 +114,8 @@ module _ {N : Type 0} (view_of : N → NodesView) where
       pub away : (view_of c.nodes).target e.lane ≢ x
       pub nodes : c'.nodes ≡ c.nodes
       pub work : c'.work ≡ mid
-      pub before : ExecutorView
-      pub after : ExecutorView
+      pub before : StationView
+      pub after : StationView
       pub added : IsAdded before ((view_of c.nodes).target e.lane) e after
       pub was : slice_get c.executors x ≡ Some before
       pub is : slice_get c'.executors x ≡ Some after
@@ -135,16 +138,16 @@ module _ {N : Type 0} (view_of : N → NodesView) where
     Steps (suc n) c c' = (m : CoreView N) × Steps n c m × IsStep m c'
 
     -- It works its list off.
-    pub record Settles (c c' : CoreView N) : Type 0 where
+    pub record WorksListOff (c c' : CoreView N) : Type 0 where
       pub count : ℕ
       pub steps : Steps count c c'
       pub empty : c'.work.items ≡ []
 
-    -- It takes the front of its queue, and works off what comes of that.
+    -- Executor x runs a task (EventLoop). It takes the front of its queue, and works off what comes of that.
     pub record RunsTask (c c' : CoreView N) : Type 0 where
       pub envelope : Envelope
-      pub before : ExecutorView
-      pub after : ExecutorView
+      pub before : StationView
+      pub after : StationView
       pub was : slice_get c.executors x ≡ Some before
       pub front : before.queue ≡ envelope ∷ after.queue
       pub waiting : after.waiting ≡ before.waiting
@@ -153,20 +156,21 @@ module _ {N : Type 0} (view_of : N → NodesView) where
       pub others : (y : ℕ) → y ≢ x → slice_get mid.executors y ≡ slice_get c.executors y
       pub backlogs : mid.backlogs ≡ c.backlogs
       pub taken : takes c.nodes envelope c.work mid.nodes mid.work
-      pub settles : Settles mid c'
+      pub settles : WorksListOff mid c'
 
--- The head of a channel has made a move, and executor x works off what comes of that.
+-- The head of a channel has made a move. Executor x works off what comes of that.
 pub record Gives {N : Type 0} (view_of : N → NodesView) (takes : N → Envelope → OutputsView → N → OutputsView → Type 0) (moves : N → HeadMove → ℕ → OutputsView → N → OutputsView → Type 0) (x : ℕ) (by : HeadMove) (channel : ℕ) (c c' : CoreView N) : Type 0 where
   pub nodes : N
   pub work : OutputsView
   pub moved : moves c.nodes by channel c.work nodes work
-  pub settles : Settles view_of takes x (record c { nodes = nodes; work = work }) c'
+  pub settles : WorksListOff view_of takes x (record c { nodes = nodes; work = work }) c'
 
 -- ---- before any move
 
--- Nothing is on its way, nothing was taken or made of any lane, and each lane has its place on the way to its executor.
-pub record IsStart (v : NodesView) (executors : List ExecutorView) : Type 0 where
-  pub queues : (y : ℕ) (e : ExecutorView) → slice_get executors y ≡ Some e → (e.queue ≡ []) × Holds e.waiting [] × (e.waiting.added ≡ 0) × (length e.waiting.targets ≡ length executors)
+-- Nothing has moved yet. Nothing is on its way, nothing was taken or made of any lane, and each lane has its place on
+-- the way to its executor.
+pub record IsStart (v : NodesView) (executors : List StationView) : Type 0 where
+  pub queues : (y : ℕ) (e : StationView) → slice_get executors y ≡ Some e → (e.queue ≡ []) × Holds e.waiting [] × (e.waiting.added ≡ 0) × (length e.waiting.targets ≡ length executors)
   pub unstopped : (y z : ℕ) (l : Lane) → has_stopped (stops_at executors y z) l ≡ false
   pub taken : (l : Lane) → v.writes l ≡ true → v.taken l ≡ 0
   pub came : (l : Lane) → v.writes l ≡ true → v.came l ≡ point 0 false
@@ -176,21 +180,22 @@ pub record IsStart (v : NodesView) (executors : List ExecutorView) : Type 0 wher
   pub among : (l : Lane) → v.writes l ≡ true → AreAmong (l ∷ []) (hops (v.origin l) (v.target l))
   pub few : v.work_done < 2 ^ 62
 
+-- backlogs in which nothing waits
 abbrev pub no_backlogs : ℕ → List (Entry Unit)
 no_backlogs y = []
 
 -- ---- a hand-over
 
--- the queue of an executor has room, where one holds so many items
-abbrev pub has_room : List ExecutorView → ℕ → ℕ → Bool
+-- The queue of an executor has room. One holds so many items.
+abbrev pub has_room : List StationView → ℕ → ℕ → Bool
 has_room executors capacity y = option_map_or (λ e. nat_lt (length e.queue) capacity) (slice_get executors y) false
 
 -- the queue of an executor has memory for so many items more
-abbrev pub memory_at : List ExecutorView → ℕ → ℕ
+abbrev pub memory_at : List StationView → ℕ → ℕ
 memory_at executors y = option_map_or (λ e. e.room) (slice_get executors y) 0
 
--- The oldest entry of the backlog of executor x whose target has room, where a queue holds so many items: the queue of that target
--- has no memory for it.
+-- A hand-over finds no memory. It is that of the oldest entry of the backlog of executor x whose target has room,
+-- where a queue holds so many items: the queue of that target has no memory for it.
 pub record LacksMemory {N : Type 0} (capacity x : ℕ) (c : CoreView N) : Type 0 where
   pub i : ℕ
   pub entry : Entry Unit
@@ -198,7 +203,8 @@ pub record LacksMemory {N : Type 0} (capacity x : ℕ) (c : CoreView N) : Type 0
   pub is : slice_get (c.backlogs x) i ≡ Some entry
   pub memory : memory_at c.executors entry.target ≡ 0
 
--- The entry at i of the backlog of executor x has gone to the end of its target's queue. Nothing else has moved.
+-- One item was handed over (EventLoop). The entry at i of the backlog of executor x has gone to the end of its
+-- target's queue. Nothing else has moved.
 pub record HandsOver {N : Type 0} (x i : ℕ) (c c' : CoreView N) : Type 0 where
   pub entry : Entry Unit
   pub is : slice_get (c.backlogs x) i ≡ Some entry

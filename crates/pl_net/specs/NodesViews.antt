@@ -9,9 +9,10 @@ use Rattle.pl_context.specs.Stops.{HasPlaces, AreAmong}
 use Rattle.pl_flow.specs.Flows.{Point}
 use Rattle.pl_flow.specs.Makes.{Makes}
 
--- By channel the executor of its head. By lane the executor that it enters, the one on which it is written, whether a node writes it, how many items of it were taken,
--- and how far it has come. The lanes for which there have to be places on a work list; and how much was done: items taken and
--- items made.
+-- What executors see of their nodes (EventExecutorGroup). By channel it is the executor of its head. By lane it is
+-- the executor that it enters, the one on which it is written, whether a node writes it, how many items of it were
+-- taken, and how far it has come. Then the lanes for which there have to be places on a work list; and how much was
+-- done: items taken and items made.
 pub record NodesView : Type 0 where
   pub home : ℕ → ℕ
   pub target : Lane → ℕ
@@ -41,19 +42,19 @@ pub record NodesPut (v : NodesView) (x : ℕ) (before : OutputsView) (v' : Nodes
   pub placed : (hops : List Lane) → AreAmong v.lanes hops → HasPlaces before.stopped hops → HasPlaces after.stopped hops
   pub few : v'.work_done < 2 ^ 62
 
--- They have taken an item as well.
+-- Nodes have taken an item, and put something.
 pub record NodesTake (v : NodesView) (e : Envelope) (before : OutputsView) (v' : NodesView) (after : OutputsView) : Type 0 where
   pub puts : NodesPut v (v.target e.lane) before v' after
   pub taken : (l : Lane) → v'.taken l ≡ cond (same_lane l e.lane) (e.number + 1) (v.taken l)
   pub more : v.work_done + length after.items + 1 ≤ v'.work_done + length before.items
   pub longer : length before.items ≤ length after.items
 
--- They have put something, and taken nothing.
+-- Nodes have put something, and taken nothing.
 pub record NodesGive (v : NodesView) (x : ℕ) (before : OutputsView) (v' : NodesView) (after : OutputsView) : Type 0 where
   pub puts : NodesPut v x before v' after
   pub taken : (l : Lane) → v'.taken l ≡ v.taken l
   pub more : v.work_done + length after.items ≤ v'.work_done + length before.items
 
--- What they have put is lane by lane the next of the lanes that are written on that executor.
+-- What nodes have put is next on its lanes. It is so lane by lane, of the lanes that are written on that executor.
 abbrev pub NodesMake : World → NodesView → ℕ → OutputsView → NodesView → OutputsView → Type 0
 NodesMake world v x before v' after = Makes world (written_by v x) v.came v'.came before after

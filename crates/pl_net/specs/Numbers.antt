@@ -4,10 +4,12 @@ use Rattle.pl_event.specs.declared.envelopes.Lane.{Lane}
 use Rattle.pl_context.specs.WaitingViews.{Entry}
 use Rattle.pl_flow.specs.Flows.{on}
 use Rattle.pl_net.specs.NodesViews.{NodesView}
-use Rattle.pl_net.specs.Nets.{ExecutorView, queue_at, envelopes}
+use Rattle.pl_net.specs.Nets.{StationView, queue_at, envelopes}
 
-abbrev pub handed_of : NodesView → List ExecutorView → Lane → ℕ
+-- how many items of a lane were handed over (EventExecutor)
+abbrev pub handed_of : NodesView → List StationView → Lane → ℕ
 handed_of v executors l = v.taken l + length (on l (queue_at executors (v.target l)))
 
-abbrev pub made_of : NodesView → List ExecutorView → (ℕ → List (Entry Unit)) → Lane → ℕ
+-- how many items of a lane were made (EventExecutor)
+abbrev pub made_of : NodesView → List StationView → (ℕ → List (Entry Unit)) → Lane → ℕ
 made_of v executors backlogs l = handed_of v executors l + length (on l (envelopes (backlogs (v.origin l))))

@@ -8,7 +8,7 @@ ghost use Rattle.pl_context.specs.Stops.{has_stopped};
 ghost use Rattle.pl_context.specs.WaitingViews.{Entry};
 ghost use Rattle.pl_flow.specs.Flows.{point, on, IsFlow, past};
 ghost use Rattle.pl_net.specs.NodesViews.{NodesView};
-ghost use Rattle.pl_net.specs.Nets.{ExecutorView, NetRuns, queue_at, stops_at, envelopes};
+ghost use Rattle.pl_net.specs.Nets.{StationView, NetRuns, queue_at, stops_at, envelopes};
 ghost use Rattle.pl_net.specs.Numbers.{handed_of, made_of};
 
 /// Of each lane, what is queued follows what was taken, and what waits follows that: each is the next item of the lane, it
@@ -16,21 +16,21 @@ ghost use Rattle.pl_net.specs.Numbers.{handed_of, made_of};
 /// refused growth. Nothing of a lane is queued at another executor than the one it enters, nor waits at another than the one
 /// that writes it, and nothing of any other lane is anywhere.
 pub fn account_law()
-    ensures order { (world : World) (v : NodesView) (x : ℕ) (executors : List ExecutorView) (backlogs : ℕ → List (Entry Unit)) (work : OutputsView) → NetRuns world v x executors backlogs work
+    ensures order { (world : World) (v : NodesView) (x : ℕ) (executors : List StationView) (backlogs : ℕ → List (Entry Unit)) (work : OutputsView) → NetRuns world v x executors backlogs work
         → (l : Lane) → v.writes l ≡ true
         → (over : Bool) × IsFlow world (point (v.taken l) over) (on l (queue_at executors (v.target l)) ++ on l (envelopes (backlogs (v.origin l)))) }
-    ensures all { (world : World) (v : NodesView) (x : ℕ) (executors : List ExecutorView) (backlogs : ℕ → List (Entry Unit)) (work : OutputsView) → NetRuns world v x executors backlogs work → work.items ≡ []
+    ensures all { (world : World) (v : NodesView) (x : ℕ) (executors : List StationView) (backlogs : ℕ → List (Entry Unit)) (work : OutputsView) → NetRuns world v x executors backlogs work → work.items ≡ []
         → (l : Lane) → v.writes l ≡ true → has_stopped (stops_at executors (v.origin l) (v.target l)) l ≡ false → has_stopped work.stopped l ≡ false
         → (over : Bool) × (past (point (v.taken l) over) (on l (queue_at executors (v.target l)) ++ on l (envelopes (backlogs (v.origin l)))) ≡ v.came l) }
-    ensures elsewhere { (world : World) (v : NodesView) (x : ℕ) (executors : List ExecutorView) (backlogs : ℕ → List (Entry Unit)) (work : OutputsView) → NetRuns world v x executors backlogs work
+    ensures elsewhere { (world : World) (v : NodesView) (x : ℕ) (executors : List StationView) (backlogs : ℕ → List (Entry Unit)) (work : OutputsView) → NetRuns world v x executors backlogs work
         → (y : ℕ) (l : Lane) → ((v.writes l && (v.target l == y)) ≡ false → on l (queue_at executors y) ≡ []) × ((v.writes l && (v.origin l == y)) ≡ false → on l (envelopes (backlogs y)) ≡ []) }
     // How many were taken, handed over and made: as many as the lane has come to, unless it was cut off; and of a lane inside
     // one executor all that was made was taken.
-    ensures numbers { (world : World) (v : NodesView) (x : ℕ) (executors : List ExecutorView) (backlogs : ℕ → List (Entry Unit)) (work : OutputsView) → NetRuns world v x executors backlogs work → work.items ≡ []
+    ensures numbers { (world : World) (v : NodesView) (x : ℕ) (executors : List StationView) (backlogs : ℕ → List (Entry Unit)) (work : OutputsView) → NetRuns world v x executors backlogs work → work.items ≡ []
         → (l : Lane) → v.writes l ≡ true → has_stopped (stops_at executors (v.origin l) (v.target l)) l ≡ false → has_stopped work.stopped l ≡ false
         → made_of v executors backlogs l ≡ (v.came l).next }
-    ensures order_of_numbers { (v : NodesView) (executors : List ExecutorView) (backlogs : ℕ → List (Entry Unit)) (l : Lane)
+    ensures order_of_numbers { (v : NodesView) (executors : List StationView) (backlogs : ℕ → List (Entry Unit)) (l : Lane)
         → (v.taken l ≤ handed_of v executors l) × (handed_of v executors l ≤ made_of v executors backlogs l) }
-    ensures direct { (world : World) (v : NodesView) (x : ℕ) (executors : List ExecutorView) (backlogs : ℕ → List (Entry Unit)) (work : OutputsView) → NetRuns world v x executors backlogs work → work.items ≡ []
+    ensures direct { (world : World) (v : NodesView) (x : ℕ) (executors : List StationView) (backlogs : ℕ → List (Entry Unit)) (work : OutputsView) → NetRuns world v x executors backlogs work → work.items ≡ []
         → (l : Lane) → v.writes l ≡ true → v.origin l ≡ v.target l → (handed_of v executors l ≡ v.taken l) × (made_of v executors backlogs l ≡ v.taken l) }
 {}

@@ -4,10 +4,10 @@ ghost use Rattle.std.specs.Prelude.{◌≡◌, ◌<◌, ◌≤◌, ◌+◌, [], 
 ghost use Rattle.pl_event.specs.Worlds.{World};
 ghost use Rattle.pl_context.specs.Stops.{HasPlaces, no_stops};
 ghost use Rattle.pl_context.specs.WaitingViews.{Entry, is_for};
-ghost use Rattle.pl_net.specs.Nets.{CoreStands, IsStart, no_backlogs, IsStep, Settles, RunsTask, Gives, HandsOver, LacksMemory, has_room, memory_at, queue_at, done_by};
+ghost use Rattle.pl_net.specs.Nets.{CoreStands, IsStart, no_backlogs, IsStep, WorksListOff, RunsTask, Gives, HandsOver, LacksMemory, has_room, memory_at, queue_at, done_by};
 
-use crate::executors::{Executor, oldest_target};
 use crate::nodes::Nodes;
+use crate::stations::{Station, oldest_target};
 use pl_context::Outputs;
 use pl_flow::HeadMove;
 use std::alloc::{AllocError, Global};
@@ -18,7 +18,7 @@ pub struct Core<N: Nodes + Drop> {
     /// How many items a queue holds at most.
     pub(crate) capacity: usize,
     pub(crate) nodes: N,
-    pub(crate) executors: Vec<Executor>,
+    pub(crate) executors: Vec<Station>,
     /// What the running executor has still to take or to add to its backlog. Empty between two moves.
     pub(crate) work: Outputs,
 }
@@ -32,7 +32,7 @@ impl<N: Nodes + Drop> Core<N> {
         alloc: Global,
         capacity: usize,
         nodes: N,
-        executors: Vec<Executor>,
+        executors: Vec<Station>,
         places: u16,
     ) -> Result<Self, AllocError>
         requires start { IsStart (N.view_of nodes) executors.items }
@@ -108,7 +108,7 @@ impl<N: Nodes + Drop> Core<N> {
         requires there { me < vec_len self.old.executors }
         requires stands { (world : World) × (backlogs : ℕ → List (Entry Unit)) × CoreStands N.view_of N.stands world me (core_view self.old backlogs) }
         ensures settles { (world : World) (backlogs : ℕ → List (Entry Unit)) → CoreStands N.view_of N.stands world me (core_view self.old backlogs)
-            → (after : ℕ → List (Entry Unit)) × CoreStands N.view_of N.stands world me (core_view self.new after) × Settles N.view_of N.takes me (core_view self.old backlogs) (core_view self.new after) }
+            → (after : ℕ → List (Entry Unit)) × CoreStands N.view_of N.stands world me (core_view self.new after) × WorksListOff N.view_of N.takes me (core_view self.old backlogs) (core_view self.new after) }
         ensures capacity { self.new.capacity ≡ self.old.capacity }
         ensures empty { self.new.work.items ≡ [] }
         ensures count { vec_len self.new.executors ≡ vec_len self.old.executors }

@@ -3,10 +3,10 @@
 
 mod account_laws;
 mod cores;
-mod executors;
 mod nodes;
+mod stations;
 
 pub use account_laws::account_law;
 pub use cores::Core;
-pub use executors::Executor;
 pub use nodes::Nodes;
+pub use stations::Station;

@@ -1,14 +1,14 @@
 -- The first that waits for a target is offered to its queue.
-use Rattle.std.proofs.Common.{◌≡◌, ◌≢◌, ℕ, Bool, true, false, ◌||◌, List, [], ◌∷◌, length, map, set, drop, slice_get, Option, Some, None, refl, ap, sym, ◌∙◌, subst, ⊎_elim, arith}
+use Rattle.std.proofs.Common.{◌≡◌, ◌≢◌, ℕ, Bool, true, false, ◌||◌, List, [], ◌∷◌, length, map, set, slice_get, Option, Some, None, refl, ap, sym, ◌∙◌, subst, ⊎_elim, arith}
 use Rattle.std.specs.List.{All, filter, find, position, remove}
 use Rattle.std.specs.Option.{option_map, option_map_or}
 use Rattle.std.proofs.lemmas.Bool.{cases_eq, ne_eqb}
 use Rattle.std.proofs.lemmas.List.{set-get_or}
 use Rattle.std.proofs.lemmas.List.Elements.{All-tail}
-use Rattle.std.proofs.lemmas.Option.{slice_get_within, get_or_from_slice_get, none-some, same_Some}
+use Rattle.std.proofs.lemmas.Option.{slice_get_within, get_or_from_slice_get, none-some}
 use Rattle.pl_event.specs.declared.envelopes.Envelope.{Envelope}
 use Rattle.pl_event.specs.Worlds.{World}
-use Rattle.pl_event.proofs.Lists.{slice_get_none}
+use Rattle.pl_event.proofs.Lists.{slice_get_none, in-front}
 use Rattle.pl_context.specs.Stops.{has_stopped}
 use Rattle.pl_context.specs.WaitingViews.{WaitingView, Entry, Holds, Takes, is_for, stops_for}
 use Rattle.pl_context.proofs.Firsts.{position-first, find-first, find-filter, filter-remove_first, filter-remove_other, find-Some-position}
@@ -21,10 +21,6 @@ use Rattle.pl_outbox.specs.Sent.{sent_at, AreBehind, behind}
 use Rattle.pl_outbox.specs.OutboxViews.{OutboxView, IsOutboxes, waits_in, sent_to, reached, is_closed, is_refused, refuses, Offers, Stays, Forgets}
 use Rattle.pl_outbox.proofs.SentLemmas.{front-sent, front-leaves, front-behind}
 use Rattle.pl_outbox.proofs.OutboxLemmas.{Replaces, replaces-set, on-target, closed-on, waits-entries, outboxes-hold}
-
-in-front : {A : Type 0} (items rest : List A) (e : A) → slice_get items 0 ≡ Some e → rest ≡ drop 1 items → items ≡ e ∷ rest
-in-front [] rest e at left = absurd (none-some e at)
-in-front (x ∷ xs) rest e at left = ap (λ y. y ∷ xs) (same_Some x e at) ∙ ap (λ ys. e ∷ ys) (sym left)
 
 none-passes : {X : Type 0} (p : X → Bool) (xs : List X) → position p xs ≡ None → filter p xs ≡ []
 none-passes {X} p xs none = none-long (filter p xs) (let h = slice_get_none (filter p xs) 0 (sym (find-filter p xs) ∙ by (find p xs) refl) in omega (arith, h))

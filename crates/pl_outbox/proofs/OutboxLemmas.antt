@@ -111,10 +111,6 @@ outboxes-hold world os os' w w' target b b' is r entries holds targets here othe
   few = let n = r.count in let f = is.few in omega (arith, n, f);
 }
 
--- it was this outbox that was read
-pub outbox-at : (world : World) (o : OutboxesView) (is : IsOutboxes world o) (target : ℕ) (b : OutboxView) → slice_get o.outboxes target ≡ Some b → IsOutbox world b (filter (is_for target) is.entries)
-outbox-at world o is target b at = is.each target b at
-
 -- There are never so many additions that the count of them is full.
 pub few-added : (world : World) (o : OutboxesView) → IsOutboxes world o → o.waiting.added + 1 < 2 ^ 64
 few-added world o is =

@@ -8,7 +8,7 @@ use Rattle.pl_context.specs.OutputsViews.{OutputsView}
 use Rattle.pl_flow.specs.Flows.{Point}
 use Rattle.pl_outbox.specs.OutboxViews.{OutboxesView, admissions}
 
--- All lanes that are written are among fewer than 2^13.
+-- Fewer than 2^13 lanes are written.
 pub record FewLanes (writes : Lane → Bool) : Type 0 where
   pub lanes : List Lane
   pub few : length lanes < 2 ^ 13

@@ -24,13 +24,13 @@ use Rattle.pl_outbox.specs.declared.outboxes.Offered.TheVariants.{Handed, Full, 
 use Rattle.pl_outbox.specs.Sent.{sent_at, AreBehind}
 use Rattle.pl_outbox.specs.Tries.{is_tried}
 
--- The way to one executor: what was sent there, and the seat with the admissions.
+-- The way to one executor (EventExecutor). It says what was sent there, and has the seat with the admissions.
 pub record OutboxView : Type 0 where
   pub sends : SenderView
   pub seat : SendSeatView
 
--- The ways to all executors, by number; what waits for them, each with its admission; and the targets whose queue was full
--- in this turn.
+-- The ways to all executors, by number (EventExecutor). With them stand what waits for these, each with its
+-- admission, and the targets whose queue was full in this turn.
 pub record OutboxesView : Type 0 where
   pub outboxes : List OutboxView
   pub waiting : WaitingView AdmittedView
@@ -44,6 +44,7 @@ entry_for target admitted x = record { target = target; envelope = x; token = ad
 abbrev pub waits_in : {A : Type 0} → WaitingView A → ℕ → List Envelope
 waits_in w target = option_map_or (λ b. map (λ x. x.0) b.items) (slice_get w.targets target) []
 
+-- the envelopes that wait for an executor, in order
 abbrev pub waits_for : OutboxesView → ℕ → List Envelope
 waits_for o target = waits_in o.waiting target
 
@@ -51,11 +52,11 @@ waits_for o target = waits_in o.waiting target
 abbrev pub sends_for : OutboxesView → ℕ → Option SenderView
 sends_for o target = option_map (λ b. b.sends) (slice_get o.outboxes target)
 
--- its queue was full in this turn
+-- a target's queue was full in this turn
 abbrev pub was_tried : OutboxesView → ℕ → Bool
 was_tried o target = is_tried o.tried target
 
--- the target of the oldest of these entries, among the targets whose queue was not full in this turn
+-- The target of the oldest entry that may go. It is among the targets whose queue was not full in this turn.
 abbrev pub oldest_untried : OutboxesView → List (Entry AdmittedView) → Option ℕ
 oldest_untried o entries = option_map (λ e. e.target) (find (λ e. not (was_tried o e.target)) entries)
 
@@ -68,6 +69,7 @@ sent_to o target l = option_map_or (λ b. sent_at b.sends.send_counts l) (slice_
 abbrev pub reached : OutboxesView → ℕ → Lane → Point
 reached o target l = past (sent_to o target l) (on l (waits_for o target))
 
+-- the phase is closed
 abbrev pub is_closed : Status → Bool
 is_closed Accepting = false
 is_closed Closing = false
@@ -91,13 +93,13 @@ pub record SomeClosed (o : OutboxesView) : Type 0 where
 abbrev pub closed_seat : List OutboxView → Option SendSeatView
 closed_seat outboxes = find (λ seat. is_closed seat.seen) (map (λ b. b.seat) outboxes)
 
--- nothing more of a lane gets in for a target: it has stopped there, or the target refuses all
+-- Nothing more of a lane gets in for a target. It has stopped there, or the target refuses all.
 abbrev pub is_cut : OutboxesView → ℕ → Lane → Bool
 is_cut o target l = has_stopped (stops_for o.waiting target) l || refuses o target
 
 -- ---- what holds between two calls
 
--- how many admissions its seats ever made
+-- how many admissions all seats ever made
 abbrev pub admissions : OutboxesView → ℕ
 admissions o = sum_by (λ b. b.seat.made) o.outboxes
 
@@ -108,6 +110,7 @@ pub record IsOutbox (world : World) (b : OutboxView) (entries : List (Entry Admi
   pub admitted : All (λ e. e.token ≡ admitted_of b.seat) entries
   pub made : b.seat.made ≤ MAX_ADMISSIONS
 
+-- what waits for each target follows what was sent, each with its admission
 pub record IsOutboxes (world : World) (o : OutboxesView) : Type 0 where
   pub entries : List (Entry AdmittedView)
   pub holds : Holds o.waiting entries
@@ -118,8 +121,8 @@ pub record IsOutboxes (world : World) (o : OutboxesView) : Type 0 where
 
 -- ---- what a call does
 
--- An envelope was added for a target, or is refused there, with at most one admission, and nothing was sent. Where more of a
--- lane gets in, it did before, and has come behind the envelope.
+-- An envelope was added for a target, or is refused. There was at most one admission, and nothing was sent. Where
+-- more of a lane gets in, it did before, and has come behind the envelope.
 pub record Adds (o : OutboxesView) (target : ℕ) (x : Envelope) (o' : OutboxesView) : Type 0 where
   pub count : length o'.outboxes ≡ length o.outboxes
   pub sends : (y : ℕ) → sends_for o' y ≡ sends_for o y
@@ -131,8 +134,8 @@ pub record Adds (o : OutboxesView) (target : ℕ) (x : Envelope) (o' : OutboxesV
   pub made : admissions o' ≤ admissions o + 1
   pub placed : (lanes : List Lane) → AreAmong (x.lane ∷ []) lanes → HasPlaces (stops_for o.waiting target) lanes → HasPlaces (stops_for o'.waiting target) lanes
 
--- What comes last for the target, and is the youngest of all that wait: the envelope, or what stands in for it, or nothing
--- where its lane has stopped. There is one admission more for what comes, and none for nothing.
+-- What comes last for the target: the envelope, or what stands in for it. It is the youngest of all that wait. There
+-- is nothing where its lane has stopped; and one admission more for what comes, and none for nothing.
 pub record Comes (o : OutboxesView) (target : ℕ) (x : Envelope) (o' : OutboxesView) : Type 0 where
   pub answer : Added
   pub waits : waits_for o' target ≡ waits_for o target ++ added_items answer x
@@ -142,7 +145,7 @@ pub record Comes (o : OutboxesView) (target : ℕ) (x : Envelope) (o' : Outboxes
   pub admitted : AdmittedView
   pub youngest : (entries : List (Entry AdmittedView)) → Holds o.waiting entries → Holds o'.waiting (entries ++ map (entry_for target admitted) (added_items answer x))
 
--- None comes, for this reason.
+-- No envelope comes, for this reason (RejectedExecutionException).
 pub record RefusedBy (o : OutboxesView) (target : ℕ) (refusal : Refused) (o' : OutboxesView) : Type 0 where
   pub waiting : o'.waiting ≡ o.waiting
   pub before : OutboxView
@@ -151,12 +154,12 @@ pub record RefusedBy (o : OutboxesView) (target : ℕ) (refusal : Refused) (o' :
   pub is : slice_get o'.outboxes target ≡ Some outbox
   pub seat : Refuses refusal before.seat outbox.seat
 
--- Nothing of a target has moved: what was sent there, and what waits.
+-- Nothing of a target has moved. What was sent there is the same, and what waits.
 pub record SameFor (o o' : OutboxesView) (y : ℕ) : Type 0 where
   pub waits : waits_for o' y ≡ waits_for o y
   pub sends : sends_for o' y ≡ sends_for o y
 
--- The first that waited for a target was sent there, and nothing else. The others wait in the same order.
+-- The first that waited for a target was sent. Nothing else was sent, and the others wait in the same order.
 pub record Sends (o : OutboxesView) (target : ℕ) (o' : OutboxesView) : Type 0 where
   pub envelope : Envelope
   pub waits : waits_for o target ≡ envelope ∷ waits_for o' target
@@ -165,14 +168,14 @@ pub record Sends (o : OutboxesView) (target : ℕ) (o' : OutboxesView) : Type 0 
   pub rest : (entries : List (Entry AdmittedView)) → Holds o.waiting entries → (i : ℕ) × (position (is_for target) entries ≡ Some i) × Holds o'.waiting (remove entries i)
 
 -- What waits is the same list in the same order, and nothing was sent.
-pub record Keeps (o o' : OutboxesView) : Type 0 where
+pub record KeepsAll (o o' : OutboxesView) : Type 0 where
   pub each : (y : ℕ) → SameFor o o' y
   pub holds : (entries : List (Entry AdmittedView)) → Holds o.waiting entries → Holds o'.waiting entries
 
 -- what became of the first that waits for a target
 abbrev pub Offers : OutboxesView → ℕ → Offered → OutboxesView → Type 0
 Offers o target Handed o' = Sends o target o'
-Offers o target Full o' = Keeps o o'
+Offers o target Full o' = KeepsAll o o'
 Offers o target Nothing o' = (o' ≡ o) × (waits_for o target ≡ [])
 
 module _ {M S : Type 0} (is_sender : M → S → Type 0) (sends_of : S → SenderView) (capacity_of : M → ℕ) (world : World) where
@@ -190,7 +193,7 @@ module _ {M S : Type 0} (is_sender : M → S → Type 0) (sends_of : S → Sende
   FullOnce o target Full = (sends : SenderView) × (sends_for o target ≡ Some sends) × WasFull sends
   FullOnce o target Nothing = Unit {0}
 
--- the targets whose queue was full in this turn, after an offer to one: that one too, where it was full
+-- The targets whose queue was full, after an offer. The target of the offer is one, where it was full.
 abbrev pub tried_after : OutboxesView → ℕ → Offered → ℕ → Bool
 tried_after o target Handed y = was_tried o y
 tried_after o target Full y = (y == target) || was_tried o y
@@ -201,7 +204,7 @@ pub record SendsNothing (o o' : OutboxesView) : Type 0 where
   pub sends : (y : ℕ) → sends_for o' y ≡ sends_for o y
   pub tried : o'.tried ≡ o.tried
 
--- Each lane has come as far as before, and nothing was stopped, admitted or refused.
+-- Each lane has come as far as before. Nothing was stopped, admitted or refused.
 pub record Stays (o o' : OutboxesView) : Type 0 where
   pub count : length o'.outboxes ≡ length o.outboxes
   pub reached : (y : ℕ) (l : Lane) → reached o' y l ≡ reached o y l

@@ -19,25 +19,17 @@ use Rattle.pl_context.specs.declared.standing.Took.{Took}
 use Rattle.pl_context.specs.declared.standing.Took.TheVariants as took
 use Rattle.pl_context.specs.Standings.{is_over, has_failed}
 use Rattle.pl_context.specs.Stops.{StopsView, has_stopped}
-use Rattle.pl_context.specs.OutputsViews.{OutputsView, PutsAll, added_items, stand_in}
+use Rattle.pl_context.specs.OutputsViews.{OutputsView, PutsAll, added_items}
 use Rattle.pl_context.specs.Ports.{FlagPasses, numbered, offered, put_out, port_after, flag_port_after}
 use Rattle.pl_context.specs.ContextViews.{ContextView}
-use Rattle.pl_context.specs.Contexts.{Closes, TakesItem, TakesFlag, counted, ups, downs, last_item, offers}
+use Rattle.pl_context.specs.Contexts.{GivesLast, TakesItem, TakesFlag, counted, ups, downs, last_item, offers}
 use Rattle.pl_context.proofs.PortLemmas.{length-numbered}
-use Rattle.pl_flow.proofs.ItemLemmas.{stand_in-data, stand_in-flags}
+use Rattle.pl_context.proofs.WaitingCalls.{added-few}
+use Rattle.pl_flow.proofs.ItemLemmas.{stand_in-flags}
 use Rattle.pl_part.specs.Taking.{ContextTakes}
 use Rattle.pl_part.specs.Counts.{context_done}
 
 -- ---- what comes on a list
-
-added-one : (answer : Added) (e : Envelope) → length (added_items answer e) ≤ 1
-added-one Last e = omega arith
-added-one Discarded e = omega arith
-added-one Refused e = by e.lane.kind refl
-  where
-    by : (k : Kind) → e.lane.kind ≡ k → length (stand_in e) ≤ 1
-    by Data is = let one = ap length (stand_in-data e is) in omega (arith, one)
-    by Flags is = let none = ap length (stand_in-flags e is) in omega (arith, none)
 
 -- no more than was put
 pub puts-length : (es : List Envelope) (b a : OutputsView) → PutsAll b es a → length a.items ≤ length b.items + length es
@@ -45,7 +37,7 @@ puts-length [] b a puts = let same = ap length puts.0 in omega (arith, same)
 puts-length (e ∷ es) b a puts =
     let rest = puts-length es puts.1 a puts.3 in
     let more = ap length puts.2.items ∙ length-append b.items (added_items puts.0 e) in
-    let one = added-one puts.0 e in
+    let one = added-few puts.0 e in
     omega (arith, rest, more, one)
 
 -- what a port offers, it was given
@@ -88,7 +80,7 @@ flag-length p kind value b a p' f = ⊎_elim
 -- ---- a context
 
 module _ {S : Type 0} (meaning : S → Meaning) (stands_after : S → List Event → Type 0) (is_spent : S → Bool) (c : ContextView S) (b a : OutputsView) (c' : ContextView S) where
-  closes-more : (standing : Standing) (z : ContextView S) → Closes standing z b c' a → context_done z + length a.items ≤ context_done c' + length b.items
+  closes-more : (standing : Standing) (z : ContextView S) → GivesLast standing z b c' a → context_done z + length a.items ≤ context_done c' + length b.items
   closes-more standing z k =
       let last = last_item standing ∷ [] in
       let now = ap (λ (y : ContextView S). context_done y) k.context in
@@ -151,7 +143,7 @@ module _ {S : Type 0} (meaning : S → Meaning) (stands_after : S → List Event
       by Flags is stands.Ended live = one Flags (flag-more kind e.item answer (t.flags is (ap has_failed live)))
 
   -- it was made to fail
-  pub failed-more : (cause : Cause) → (c.standing ≡ stands.Open → Closes (stands.Failed cause) (record c { failed_by_call = true }) b c' a) → (is_over c.standing ≡ true → (c' ≡ c) × (a ≡ b))
+  pub failed-more : (cause : Cause) → (c.standing ≡ stands.Open → GivesLast (stands.Failed cause) (record c { failed_by_call = true }) b c' a) → (is_over c.standing ≡ true → (c' ≡ c) × (a ≡ b))
       → context_done c + length a.items ≤ context_done c' + length b.items
   failed-more cause closes over = by c.standing refl
     where

@@ -1,7 +1,7 @@
 -- A context takes an item: the places for lanes stay.
 use Rattle.std.proofs.Common.{◌≡◌, ℕ, ◌+◌, Bool, true, false, List, [], ◌∷◌, ◌++◌, refl, ap, sym, subst, ⊎_elim}
 use Rattle.std.specs.Prelude.{◌||◌}
-use Rattle.std.proofs.lemmas.Bool.{cond-true, cond-false, cases_Bool}
+use Rattle.std.proofs.lemmas.Bool.{cond-true, cond-false, cases_Bool, or_right}
 use Rattle.pl_event.specs.declared.envelopes.Kind.{Kind}
 use Rattle.pl_event.specs.declared.envelopes.Kind.TheVariants.{Data, Flags}
 use Rattle.pl_event.specs.declared.envelopes.Lane.{Lane}
@@ -22,7 +22,7 @@ use Rattle.pl_context.specs.Stops.{StopsView, same_hop, AreAmong, HasPlaces}
 use Rattle.pl_context.specs.OutputsViews.{OutputsView, PutsAll}
 use Rattle.pl_context.specs.Ports.{numbered, offered}
 use Rattle.pl_context.specs.ContextViews.{ContextView}
-use Rattle.pl_context.specs.Contexts.{Closes, TakesItem, TakesFlag, counted, offers, last_item}
+use Rattle.pl_context.specs.Contexts.{GivesLast, TakesItem, TakesFlag, counted, offers, last_item}
 use Rattle.pl_context.proofs.Places.{places-after}
 use Rattle.pl_part.specs.ContextHolds.{context_lanes}
 
@@ -57,25 +57,21 @@ or-first false b e = absurd (no e)
     no : false ≡ true → ⊥
     no e = cc
 
-or-next : (a b : Bool) → b ≡ true → (a || b) ≡ true
-or-next true b e = refl
-or-next false b e = e
-
 module _ {S : Type 0} (meaning : S → Meaning) (stands_after : S → List Event → Type 0) (is_spent : S → Bool) (c : ContextView S) (lanes : List Lane) (within : AreAmong (context_lanes c) lanes) where
   up-among : AreAmong (c.up.lane ∷ []) lanes
   up-among l e = within l (or-first (same_hop l c.up.lane) _ e)
 
   down-among : AreAmong (c.down.lane ∷ []) lanes
-  down-among l e = within l (or-next (same_hop l c.up.lane) _ (or-first (same_hop l c.down.lane) _ e))
+  down-among l e = within l (or_right (same_hop l c.up.lane) _ (or-first (same_hop l c.down.lane) _ e))
 
   flags-among : AreAmong (c.flags.lane ∷ []) lanes
-  flags-among l e = within l (or-next (same_hop l c.up.lane) _ (or-next (same_hop l c.down.lane) _ e))
+  flags-among l e = within l (or_right (same_hop l c.up.lane) _ (or_right (same_hop l c.down.lane) _ e))
 
   module _ (b a : OutputsView) (p : HasPlaces b.stopped lanes) where
     same-places : a.stopped ≡ b.stopped → HasPlaces a.stopped lanes
     same-places e = subst (λ (s : StopsView). HasPlaces s lanes) (sym e) p
 
-    pub closes-places : (standing : Standing) (z c' : ContextView S) → z.up ≡ c.up → z.down ≡ c.down → Closes standing z b c' a → HasPlaces a.stopped lanes
+    pub closes-places : (standing : Standing) (z c' : ContextView S) → z.up ≡ c.up → z.down ≡ c.down → GivesLast standing z b c' a → HasPlaces a.stopped lanes
     closes-places standing z c' u d k =
         let last = last_item standing ∷ [] in
         puts-places lanes (offers c.up c.down last last) b a (among-append lanes (offered c.up last) (offered c.down last) (offered-among lanes c.up last up-among) (offered-among lanes c.down last down-among)) p
@@ -102,7 +98,7 @@ module _ {S : Type 0} (meaning : S → Meaning) (stands_after : S → List Event
     flag-places item.End answer c' t = same-places (ap (λ (y : OutputsView). y.stopped) t.2)
     flag-places (item.Fail cause) answer c' t = same-places (ap (λ (y : OutputsView). y.stopped) t.2)
 
-    pub fail-places : (cause : Cause) (c' : ContextView S) → (c.standing ≡ stands.Open → Closes (stands.Failed cause) (record c { failed_by_call = true }) b c' a)
+    pub fail-places : (cause : Cause) (c' : ContextView S) → (c.standing ≡ stands.Open → GivesLast (stands.Failed cause) (record c { failed_by_call = true }) b c' a)
         → (is_over c.standing ≡ true → (c' ≡ c) × (a ≡ b)) → HasPlaces a.stopped lanes
     fail-places cause c' closes over = by c.standing refl
       where

@@ -27,9 +27,9 @@ use Rattle.pl_context.specs.OutputsViews.{OutputsView}
 use Rattle.pl_context.specs.declared.ports.Port.{Port}
 use Rattle.pl_context.specs.Ports.{as_items, end_after, port_after, all_go_on, flag_port_after}
 use Rattle.pl_context.specs.ContextViews.{ContextView, has_up, has_down, Enters, kind_taken, number_limit}
-use Rattle.pl_context.specs.Contexts.{StandsAfter, MakesFew, Runs, Closes, TakesItem, TakesFlag, counted, ups, downs, last_item}
+use Rattle.pl_context.specs.Contexts.{StandsAfter, MakesFew, Runs, GivesLast, TakesItem, TakesFlag, counted, ups, downs, last_item}
 use Rattle.pl_context.proofs.PortLemmas.{all_go_on-events, all_go_on-append}
-use Rattle.pl_context.proofs.ContextLemmas.{closed-port}
+use Rattle.pl_context.proofs.ContextLemmas.{closed-port, length-items}
 use Rattle.pl_event.specs.Worlds.{World, FitsWorld, FitsAsKind, MayCome, may_fail}
 use Rattle.pl_flow.specs.Flows.{IsGood}
 use Rattle.pl_flow.specs.Makes.{Makes}
@@ -38,7 +38,7 @@ use Rattle.pl_flow.specs.Makes.{AreGood}
 use Rattle.pl_flow.proofs.StageFlows.{ups-good, downs-good}
 use Rattle.pl_flow.proofs.ItemLemmas.{failure-good, end-good}
 use Rattle.pl_part.specs.ContextHolds.{HoldsWith, context_writes, context_came}
-use Rattle.pl_part.proofs.EventLists.{split-at, fits-within, length-items, made-le, made-more, length-end, goes-on-end, still-closed, ends-good}
+use Rattle.pl_part.proofs.EventLists.{split-at, fits-within, made-le, made-more, length-end, goes-on-end, still-closed, ends-good}
 use Rattle.pl_part.proofs.ItemFits.{data-fits, data-may, flag-fits, within-limit}
 use Rattle.pl_part.proofs.PortMakes.{both-put, both-append, flag-put}
 use Rattle.pl_event.specs.declared.limits.TheConstants.{MAX_ITEMS}
@@ -236,7 +236,7 @@ module _ {S : Type 0} (world : World) (meaning : S → Meaning) (stands_after : 
         → (has_failed standing ≡ false → (c.taken ≡ length events) × (t ≡ c.taken + 1))
         → (c.up.is_open ≡ true → IsGood world (record { lane = c.up.lane; number = c.up.made; item = last_item standing }))
         → (c.down.is_open ≡ true → IsGood world (record { lane = c.down.lane; number = c.down.made; item = last_item standing }))
-        → (b a : OutputsView) (c' : ContextView S) → Closes standing (record c { stage = st; taken = t; failed_by_call = fb }) b c' a → Stepped b c' a
+        → (b a : OutputsView) (c' : ContextView S) → GivesLast standing (record c { stage = st; taken = t; failed_by_call = fb }) b c' a → Stepped b c' a
     closing standing over st t fb small meant call whole up down b a c' k =
         let last = last_item standing ∷ [] in
         let z : ContextView S = record c { stage = st; taken = t; failed_by_call = fb; standing = standing; up = port_after last c.up; down = port_after last c.down } in
@@ -273,7 +273,7 @@ module _ {S : Type 0} (world : World) (meaning : S → Meaning) (stands_after : 
     not-called standing e = absurd (open-failed c.standing live (h.by_call e))
 
     failing : (cause : Cause) → may_fail world cause ≡ true → (st : S) (t : ℕ) (fb : Bool) → t ≤ MAX_ITEMS → meaning st ≡ meaning c.stage → (b a : OutputsView) (c' : ContextView S)
-        → Closes (stands.Failed cause) (record c { stage = st; taken = t; failed_by_call = fb }) b c' a → Stepped b c' a
+        → GivesLast (stands.Failed cause) (record c { stage = st; taken = t; failed_by_call = fb }) b c' a → Stepped b c' a
     failing cause may st t fb small meant b a c' k = closing (stands.Failed cause) refl st t fb small meant (λ e. refl) (λ f. absurd (both_ways true f refl))
         (λ o. let made = (h.stood live).above o in let le = made-le (meaning c.stage).up c.taken events in
         failure-good world c.up.lane (up_of (meaning c.stage) events) c.up.made h.wired.up_kind (h.wired.up (up-has o)) (h.wired.few_up (up-has o)) cause may (omega (arith, made, le)))
@@ -281,7 +281,7 @@ module _ {S : Type 0} (world : World) (meaning : S → Meaning) (stands_after : 
         failure-good world c.down.lane (down_of (meaning c.stage) events) c.down.made h.wired.down_kind (h.wired.down (down-has o)) (h.wired.few_down (down-has o)) cause may (omega (arith, made, le)))
         b a c' k
 
-    ending : c.taken ≡ length events → (b a : OutputsView) (c' : ContextView S) → Closes stands.Ended (counted Data c) b c' a → Stepped b c' a
+    ending : c.taken ≡ length events → (b a : OutputsView) (c' : ContextView S) → GivesLast stands.Ended (counted Data c) b c' a → Stepped b c' a
     ending last b a c' k =
         let all : take c.taken events ≡ events = take_all c.taken events (omega (arith, last)) in
         closing stands.Ended refl c.stage (c.taken + 1) c.failed_by_call (taken-few item.End last) refl (not-called stands.Ended) (λ f. (last, refl))
@@ -460,7 +460,7 @@ module _ {S : Type 0} (world : World) (meaning : S → Meaning) (stands_after : 
   -- ---- it is made to fail
 
   pub context-failed : (cause : Cause) → may_fail world cause ≡ true → (b a : OutputsView) (c' : ContextView S)
-      → (c.standing ≡ stands.Open → Closes (stands.Failed cause) (record c { failed_by_call = true }) b c' a)
+      → (c.standing ≡ stands.Open → GivesLast (stands.Failed cause) (record c { failed_by_call = true }) b c' a)
       → (is_over c.standing ≡ true → (c' ≡ c) × (a ≡ b))
       → Stepped b c' a
   context-failed cause may b a c' closes over = by c.standing refl

@@ -1,8 +1,8 @@
 -- The events of a lane around one of them, and what is made of them.
 use Rattle.std.proofs.Common.{◌≡◌, ℕ, zero, suc, ◌+◌, ◌<◌, ◌≤◌, Bool, true, false, not, ◌&&◌, cond, List, [], ◌∷◌, ◌++◌, length, take, drop, Some, refl, ap, sym, ◌∙◌, subst, arith, append_assoc, length-append}
 use Rattle.std.specs.List.{slice_get}
-use Rattle.std.proofs.lemmas.List.{length-map, take-append-drop}
-use Rattle.std.proofs.lemmas.Option.{slice_get_within}
+use Rattle.std.proofs.lemmas.List.{take-append-drop}
+use Rattle.std.proofs.lemmas.Option.{slice_get_within, same_Some}
 use Rattle.std.proofs.lemmas.Bool.{both_ways}
 use Rattle.pl_event.specs.declared.events.Event.{Event}
 use Rattle.pl_event.specs.declared.envelopes.Item.{Item}
@@ -20,14 +20,11 @@ use Rattle.pl_flow.specs.Makes.{AreGood}
 use Rattle.pl_flow.proofs.ItemLemmas.{end-good}
 use Rattle.pl_event.specs.declared.limits.TheConstants.{MAX_ITEMS}
 
-pub some-equal : {A : Type 0} (a b : A) → Some a ≡ Some b → a ≡ b
-some-equal a b e = cc
-
 -- event n, with those before it and those behind it
 pub split-at : (xs : List Event) (n : ℕ) (x : Event) → slice_get xs n ≡ Some x → (rest : List Event) × (take n xs ++ x ∷ rest ≡ xs) × (take (suc n) xs ≡ take n xs ++ x ∷ [])
 split-at [] n x e = let within = slice_get_within [] n x e in absurd (omega (arith, within))
 split-at (y ∷ ys) zero x e =
-    let same : y ≡ x = some-equal y x e in (ys, ap (λ z. z ∷ ys) (sym same), ap (λ z. z ∷ []) same)
+    let same : y ≡ x = same_Some y x e in (ys, ap (λ z. z ∷ ys) (sym same), ap (λ z. z ∷ []) same)
 split-at (y ∷ ys) (suc n) x e =
     let r = split-at ys n x e in (r.0, ap (λ zs. y ∷ zs) r.1, ap (λ zs. y ∷ zs) r.2)
 
@@ -39,9 +36,6 @@ fits-within events n (item.Fail cause) fits = fits
 fits-within events n (item.Flag value) fits = absurd fits
 
 -- ---- how much is made
-
-pub length-items : (xs : List Event) → length (as_items xs) ≡ length xs
-length-items xs = length-map xs (λ (y : Event). item.Event y)
 
 pub made-le : (f : List Event → Event → List Event) (n : ℕ) (events : List Event) → length (made_after f [] (take n events)) ≤ length (made_after f [] events)
 made-le f n events =

@@ -21,7 +21,7 @@ use Rattle.pl_flow.proofs.MakeLemmas.{one-put, makes-none, makes-then, stops-her
 use Rattle.pl_head.specs.Marks.{Change, flags, levels, AlternateFrom}
 use Rattle.pl_head.specs.FlagLanes.{FlagsPass}
 use Rattle.pl_head.proofs.MarkLaws.{alternate_from}
-use Rattle.pl_head.proofs.FlagSteps.{pass_closed}
+use Rattle.pl_head.proofs.FlagSteps.{pass_closed, port-lane}
 use Rattle.pl_part.specs.ContextHolds.{port_point}
 use Rattle.pl_part.specs.TailHolds.{Alternate}
 use Rattle.pl_part.proofs.PortMakes.{makes-to}
@@ -81,11 +81,6 @@ passes-grow (v ∷ vs) p p' b a h =
     omega (arith, same, one, rest))
     (λ (s : p.is_open ≡ false). let same = ap (λ (q : Port). q.made) (h.2.closed s).0 in omega (arith, same, rest))
     (cases_Bool p.is_open)
-
-port-lane : (answer : Added) (p : Port) → (flag_port_after answer p).lane ≡ p.lane
-port-lane Last p = refl
-port-lane Refused p = refl
-port-lane Discarded p = refl
 
 pub passes-lane : (values : List Bool) (p p' : Port) (b a : OutputsView) → FlagsPass values p b p' a → p'.lane ≡ p.lane
 passes-lane [] p p' b a h = ap (λ (q : Port). q.lane) h.0

@@ -3,7 +3,7 @@ use Rattle.std.proofs.Common.{◌≡◌, ℕ, suc, ◌+◌, ◌≤◌, ◌<◌, 
 use Rattle.std.specs.Prelude.{is_some, if◌then◌else◌, nat_lt}
 use Rattle.std.specs.List.{slice_get}
 use Rattle.std.proofs.lemmas.Option.{slice_get_within}
-use Rattle.std.proofs.lemmas.Bool.{cases_Bool, both_ways, cond-true, cond-false, and_parts, ltb-true}
+use Rattle.std.proofs.lemmas.Bool.{cases_Bool, both_ways, cond-true, cond-false, and_parts, ltb-true, or_right, or_left}
 use Rattle.pl_event.specs.declared.events.Event.{Event}
 use Rattle.pl_event.specs.declared.outcomes.Cause.{Cause}
 use Rattle.pl_event.specs.declared.outcomes.Cause.TheVariants.{Memory, Aborted}
@@ -40,7 +40,7 @@ use Rattle.pl_head.specs.Transports.{TransportState}
 use Rattle.pl_head.specs.MarksStand.{SendsFlags}
 use Rattle.pl_head.specs.ReadSteps.{entrance, bursts_read, plan_steps, has_step, read_items, step_items, is_abort, brings_failure, brings_abort, next_step_items, steps_after}
 use Rattle.pl_head.specs.InputStand.{InputView, InputStands}
-use Rattle.pl_head.specs.HeadStand.{HeadView, BufferAfter, StandsAfter, ReadsStand, Aborts, EntersHead, lane_over, Answers, waiting_at, events_before, events_from, item_sizes, standing_after, cause_of_item, cause_of_step, step_sizes, HasFewFlags}
+use Rattle.pl_head.specs.HeadStand.{HeadView, BufferAfter, HeadStandsAfter, ReadsStand, Aborts, EntersHead, lane_over, Answers, waiting_at, events_before, events_from, item_sizes, standing_after, cause_of_item, cause_of_step, step_sizes, HasFewFlags}
 use Rattle.pl_head.proofs.ReadSteps.{items_of_step, number_of_step, abort_is, stands_after}
 use Rattle.pl_head.proofs.FlagSteps.{places_stay}
 use Rattle.pl_part.specs.ContextHolds.{port_point}
@@ -65,14 +65,6 @@ open-is : (s : Standing) (closed : Bool) → (is_over s || closed) ≡ false →
 open-is stands.Open closed e = refl
 open-is stands.Ended closed e = cc
 open-is (stands.Failed c) closed e = cc
-
-or-left : (a b : Bool) → a ≡ true → (a || b) ≡ true
-or-left true b e = refl
-or-left false b e = cc
-
-or-right : (a b : Bool) → b ≡ true → (a || b) ≡ true
-or-right true b e = refl
-or-right false b e = e
 
 -- ---- the lanes of a head
 
@@ -135,7 +127,7 @@ reads-came channel p is x y lane at l = ⊎_elim
 
 module _ {T : Type 0} (state : T → TransportState) (h : HeadView T) where
   -- the flags that were sent, whichever sizes were added and removed
-  flags-sent : (ys zs : List Event) (sizes : List Change) → StandsAfter state h ys zs sizes → h.buffer.flags.is_open ≡ true → h.buffer.flags.made ≡ length (flags h.buffer.low h.buffer.high sizes)
+  flags-sent : (ys zs : List Event) (sizes : List Change) → HeadStandsAfter state h ys zs sizes → h.buffer.flags.is_open ≡ true → h.buffer.flags.made ≡ length (flags h.buffer.low h.buffer.high sizes)
   flags-sent ys zs sizes after o = by h.failure after
     where
       by : (f : Option Cause) → BufferAfter f (state h.transport).accepted h.buffer ys zs (is_over h.standing) sizes → h.buffer.flags.made ≡ length (flags h.buffer.low h.buffer.high sizes)
@@ -143,7 +135,7 @@ module _ {T : Type 0} (state : T → TransportState) (h : HeadView T) where
       by (Some c) a = a.marks.sent o
 
   -- before a failure of its own nothing is taken late
-  none-late : (ys zs : List Event) (sizes : List Change) → StandsAfter state h ys zs sizes → h.failure ≡ None → zs ≡ []
+  none-late : (ys zs : List Event) (sizes : List Change) → HeadStandsAfter state h ys zs sizes → h.failure ≡ None → zs ≡ []
   none-late ys zs sizes after e = (subst (λ (f : Option Cause). BufferAfter f (state h.transport).accepted h.buffer ys zs (is_over h.standing) sizes) e after).0
 
 -- It has taken nothing, and is at its place; it holds again, and what it has put is the next of its lanes.
@@ -226,7 +218,7 @@ module _ {T : Type 0} (state : T → TransportState) (world : World) (plan : Rea
   few-made h' most few = let small = k.few in omega (arith, most, few, small)
 
   -- flags that sizes send, with the reads where they are
-  flags-makes : (x : Point) (ys zs : List Event) (sizes more : List Change) (b a : OutputsView) (f : Port) → StandsAfter state h ys zs sizes
+  flags-makes : (x : Point) (ys zs : List Event) (sizes more : List Change) (b a : OutputsView) (f : Port) → HeadStandsAfter state h ys zs sizes
       → SendsFlags h.buffer.low h.buffer.high sizes more h.buffer.flags b f a → f.made < 2 ^ 32
       → Makes world (head_writes h) (two_came h.channel x (port_point h.buffer.flags)) (two_came h.channel x (port_point f)) b a
   flags-makes x ys zs sizes more b a f after sends small =
@@ -332,9 +324,9 @@ module _ {T : Type 0} (state : T → TransportState) (world : World) (plan : Rea
 
         -- after the events that it took, and what the item brought
         stood-now : (f : Bool) (i : Item) (r : Took) → is_some h.failure ≡ f → e.item ≡ i → answer ≡ r
-            → StandsAfter state h' (k.took.ys ++ events_before f i r) (k.took.zs ++ events_from f i r) (some-sizes k.took.ys k.took.sizes)
+            → HeadStandsAfter state h' (k.took.ys ++ events_before f i r) (k.took.zs ++ events_from f i r) (some-sizes k.took.ys k.took.sizes)
         stood-now f i r ef ei er =
-            subst (λ (y : Bool × Item × Took). StandsAfter state h' (k.took.ys ++ events_before y.0 y.1 y.2) (k.took.zs ++ events_from y.0 y.1 y.2) (some-sizes k.took.ys k.took.sizes)) (λ j. (ef j, ei j, er j))
+            subst (λ (y : Bool × Item × Took). HeadStandsAfter state h' (k.took.ys ++ events_before y.0 y.1 y.2) (k.took.zs ++ events_from y.0 y.1 y.2) (some-sizes k.took.ys k.took.sizes)) (λ j. (ef j, ei j, er j))
             (t.stood live k.took.ys k.took.zs k.took.sizes k.took.after)
 
         standing-now : (f : Bool) (i : Item) → is_some h.failure ≡ f → e.item ≡ i → h'.standing ≡ standing_after f i
@@ -358,7 +350,7 @@ module _ {T : Type 0} (state : T → TransportState) (world : World) (plan : Rea
 
         -- the item is the next event of its lane
         one-more : (ys zs : List Event) (x : Event) → slice_get events h.taken ≡ Some x → ys ++ zs ≡ (k.took.ys ++ k.took.zs) ++ x ∷ []
-            → StandsAfter state h' ys zs (some-sizes k.took.ys k.took.sizes) → h'.standing ≡ stands.Open → HeadTook state events h'
+            → HeadStandsAfter state h' ys zs (some-sizes k.took.ys k.took.sizes) → h'.standing ≡ stands.Open → HeadTook state events h'
         one-more ys zs x fits same after standing =
             let at : slice_get events k.took.count ≡ Some x = ap (λ n. slice_get events n) (sym count) ∙ fits in
             let next : k.took.count + 1 ≡ suc k.took.count = omega arith in
@@ -379,7 +371,7 @@ module _ {T : Type 0} (state : T → TransportState) (world : World) (plan : Rea
             }
 
         -- The item closes its lane.
-        no-more : StandsAfter state h' (k.took.ys ++ []) (k.took.zs ++ []) (some-sizes k.took.ys k.took.sizes) → lane_over h' ≡ true
+        no-more : HeadStandsAfter state h' (k.took.ys ++ []) (k.took.zs ++ []) (some-sizes k.took.ys k.took.sizes) → lane_over h' ≡ true
             → (h'.standing ≡ stands.Ended → h.taken ≡ length events) → (is_over h'.standing ≡ true → k.took.zs ≡ []) → HeadTook state events h'
         no-more after over ended none = record {
           ys = k.took.ys ++ [];
@@ -408,12 +400,12 @@ module _ {T : Type 0} (state : T → TransportState) (world : World) (plan : Rea
             (stood-now false (item.Event x) (took.Failed Memory) (ap is_some none) ei (er ∙ failed.0)) (standing-now false (item.Event x) (ap is_some none) ei)
         first-took none item.End ei fits r er ans =
             no-more (stood-now false item.End r (ap is_some none) ei er)
-            (or-left (is_over h'.standing) h'.is_closed (ap is_over (standing-now false item.End (ap is_some none) ei)))
+            (or_left (is_over h'.standing) h'.is_closed (ap is_over (standing-now false item.End (ap is_some none) ei)))
             (λ o. fits) (λ o. none-before none)
         first-took none (item.Fail c) ei fits r er ans =
             let standing = standing-now false (item.Fail c) (ap is_some none) ei in
             no-more (stood-now false (item.Fail c) r (ap is_some none) ei er)
-            (or-left (is_over h'.standing) h'.is_closed (ap is_over standing))
+            (or_left (is_over h'.standing) h'.is_closed (ap is_over standing))
             (λ o. ended-not (stands.Failed c) standing (λ q. failed-no c q) o) (λ o. none-before none)
           where
             failed-no : (c : Cause) → stands.Failed c ≡ stands.Ended → ⊥
@@ -428,11 +420,11 @@ module _ {T : Type 0} (state : T → TransportState) (world : World) (plan : Rea
             (stood-now true (item.Event x) answer (ap is_some f) ei refl) (standing-now true (item.Event x) (ap is_some f) ei)
         late-took c f item.End ei fits =
             let standing = standing-now true item.End (ap is_some f) ei in
-            no-more (stood-now true item.End answer (ap is_some f) ei refl) (or-right (is_over h'.standing) h'.is_closed (closed-now true item.End (ap is_some f) ei))
+            no-more (stood-now true item.End answer (ap is_some f) ei refl) (or_right (is_over h'.standing) h'.is_closed (closed-now true item.End (ap is_some f) ei))
             (λ o. ended-not stands.Open standing open-no o) (λ o. over-not stands.Open standing refl o)
         late-took c f (item.Fail d) ei fits =
             let standing = standing-now true (item.Fail d) (ap is_some f) ei in
-            no-more (stood-now true (item.Fail d) answer (ap is_some f) ei refl) (or-right (is_over h'.standing) h'.is_closed (closed-now true (item.Fail d) (ap is_some f) ei))
+            no-more (stood-now true (item.Fail d) answer (ap is_some f) ei refl) (or_right (is_over h'.standing) h'.is_closed (closed-now true (item.Fail d) (ap is_some f) ei))
             (λ o. ended-not stands.Open standing open-no o) (λ o. over-not stands.Open standing refl o)
         late-took c f (item.Flag v) ei fits = absurd fits
 

@@ -1,34 +1,19 @@
 -- What a head has written, by what its lane carries.
-use Rattle.std.proofs.Common.{◌≡◌, ℕ, Bool, true, false, ◌||◌, List, [], ◌∷◌, ◌++◌, drop, Option, Some, None, refl, sym, ap, ◌∙◌, ⊎_elim, append_assoc}
+use Rattle.std.proofs.Common.{◌≡◌, ℕ, true, false, List, [], ◌∷◌, ◌++◌, drop, Option, Some, None, refl, sym, ap, ◌∙◌, ⊎_elim, append_assoc}
 use Rattle.std.proofs.lemmas.List.{take-append-drop}
-use Rattle.std.proofs.lemmas.Bool.{cases_Bool, cond-true, cond-false, or_parts}
+use Rattle.std.proofs.lemmas.Bool.{cases_Bool, cond-true}
 use Rattle.pl_event.specs.declared.events.Event.{Event}
 use Rattle.pl_event.specs.declared.outcomes.Cause.{Cause}
 use Rattle.pl_event.specs.Hops.{data_lane}
 use Rattle.pl_event.specs.Worlds.{World, content_of}
 use Rattle.pl_context.specs.Standings.{is_over}
 use Rattle.pl_head.specs.Marks.{Change}
-use Rattle.pl_head.specs.Writes.{write_by, is_flush, has_flush, flushed_writes, bytes_of, out}
+use Rattle.pl_head.specs.Writes.{write_by, has_flush, flushed_writes, bytes_of, out}
 use Rattle.pl_head.specs.Transports.{TransportState}
-use Rattle.pl_head.specs.HeadStand.{HeadView, BufferAfter, StandsAfter}
+use Rattle.pl_head.specs.HeadStand.{HeadView, BufferAfter, HeadStandsAfter}
 use Rattle.pl_head.proofs.Buffering.{bytes_of-append}
+use Rattle.pl_head.proofs.Flushing.{flushed-none, has_flush-longer}
 use Rattle.pl_part.specs.HeadHolds.{HeadHolds}
-
-none-flushed : (ys : List Event) → has_flush ys ≡ false → flushed_writes ys ≡ []
-none-flushed [] e = refl
-none-flushed (y ∷ ys) e =
-    ap (λ (ws : List (Option (List ℕ))). ws ++ flushed_writes ys) (cond-false (has_flush (y ∷ ys)) (write_by y) [] e) ∙ none-flushed ys (or_parts (is_flush y) (has_flush ys) e).1
-
-or-more : (a b c : Bool) → (b ≡ true → c ≡ true) → (a || b) ≡ true → (a || c) ≡ true
-or-more true b c f e = refl
-or-more false b c f e = f e
-
-has-more : (ys more : List Event) → has_flush ys ≡ true → has_flush (ys ++ more) ≡ true
-has-more [] more e = absurd (no e)
-  where
-    no : false ≡ true → ⊥
-    no e = cc
-has-more (y ∷ ys) more e = or-more (is_flush y) (has_flush ys) (has_flush (ys ++ more)) (λ t. has-more ys more t) e
 
 -- what is flushed of the first events begins what is flushed of all
 flushed-prefix : (ys more : List Event) → (rest : List (Option (List ℕ))) × (flushed_writes ys ++ rest ≡ flushed_writes (ys ++ more))
@@ -40,10 +25,10 @@ flushed-prefix (y ∷ ys) more = ⊎_elim
       ap (λ (ws : List (Option (List ℕ))). (ws ++ flushed_writes ys) ++ rest.0) (cond-true (has_flush (y ∷ ys)) (write_by y) [] t)
           ∙ append_assoc (write_by y) (flushed_writes ys) rest.0
           ∙ ap (λ (ws : List (Option (List ℕ))). write_by y ++ ws) rest.1
-          ∙ ap (λ (ws : List (Option (List ℕ))). ws ++ flushed_writes (ys ++ more)) (sym (cond-true (has_flush (y ∷ (ys ++ more))) (write_by y) [] (has-more (y ∷ ys) more t))),
+          ∙ ap (λ (ws : List (Option (List ℕ))). ws ++ flushed_writes (ys ++ more)) (sym (cond-true (has_flush (y ∷ (ys ++ more))) (write_by y) [] (has_flush-longer (y ∷ ys) more t))),
     ))
     (λ (f : has_flush (y ∷ ys) ≡ false).
-    (flushed_writes (y ∷ (ys ++ more)), ap (λ (ws : List (Option (List ℕ))). ws ++ flushed_writes (y ∷ (ys ++ more))) (none-flushed (y ∷ ys) f)))
+    (flushed_writes (y ∷ (ys ++ more)), ap (λ (ws : List (Option (List ℕ))). ws ++ flushed_writes (y ∷ (ys ++ more))) (flushed-none (y ∷ ys) f)))
     (cases_Bool (has_flush (y ∷ ys)))
 
 pub out-prefix : (ys more : List Event) → (rest : List ℕ) × (out ys ++ rest ≡ out (ys ++ more))
@@ -54,7 +39,7 @@ out-prefix ys more =
     )
 
 module _ {T : Type 0} (state : T → TransportState) (h : HeadView T) where
-  accepted-prefix : (ys zs : List Event) (sizes : List Change) → StandsAfter state h ys zs sizes → (rest : List ℕ) × ((state h.transport).accepted ++ rest ≡ out ys)
+  accepted-prefix : (ys zs : List Event) (sizes : List Change) → HeadStandsAfter state h ys zs sizes → (rest : List ℕ) × ((state h.transport).accepted ++ rest ≡ out ys)
   accepted-prefix ys zs sizes after = by h.failure after
     where
       by : (f : Option Cause) → BufferAfter f (state h.transport).accepted h.buffer ys zs (is_over h.standing) sizes → (rest : List ℕ) × ((state h.transport).accepted ++ rest ≡ out ys)

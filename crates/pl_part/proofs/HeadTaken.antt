@@ -6,11 +6,11 @@ use Rattle.pl_context.specs.declared.standing.Standing.TheVariants as stands
 use Rattle.pl_context.specs.Standings.{is_over}
 use Rattle.pl_head.specs.Marks.{Change}
 use Rattle.pl_head.specs.Transports.{TransportState}
-use Rattle.pl_head.specs.HeadStand.{HeadView, StandsAfter, lane_over}
+use Rattle.pl_head.specs.HeadStand.{HeadView, HeadStandsAfter, lane_over}
 use Rattle.pl_part.specs.HeadHolds.{HeadTook}
 
 module _ {T : Type 0} (state : T → TransportState) (events : List Event) where
-  module _ (h h' : HeadView T) (t : HeadTook state events h) (sizes : List Change) (after : StandsAfter state h' t.ys t.zs sizes) (standing : h'.standing ≡ h.standing) where
+  module _ (h h' : HeadView T) (t : HeadTook state events h) (sizes : List Change) (after : HeadStandsAfter state h' t.ys t.zs sizes) (standing : h'.standing ≡ h.standing) where
     pub took-again : t.count ≤ h'.taken → (lane_over h' ≡ false → h'.taken ≡ t.count) → HeadTook state events h'
     took-again most running = record {
       ys = t.ys;
@@ -31,7 +31,7 @@ module _ {T : Type 0} (state : T → TransportState) (events : List Event) where
     took-same taken over = took-again (let most = t.most in omega (arith, most, taken)) (λ o. taken ∙ t.running (sym over ∙ o))
 
   -- It has taken none yet.
-  pub took-none : (h : HeadView T) → StandsAfter state h [] [] [] → h.taken ≡ 0 → h.standing ≡ stands.Open → HeadTook state events h
+  pub took-none : (h : HeadView T) → HeadStandsAfter state h [] [] [] → h.taken ≡ 0 → h.standing ≡ stands.Open → HeadTook state events h
   took-none h after none live = record {
     ys = [];
     zs = [];

@@ -1,5 +1,6 @@
 -- An item that may stand in its lane is the next of what that lane carries.
 use Rattle.std.proofs.Common.{◌≡◌, ℕ, ◌+◌, ◌<◌, List, length, Some, refl, ap, sym, ◌∙◌, subst, arith}
+use Rattle.std.proofs.lemmas.Option.{same_Some}
 use Rattle.pl_event.specs.declared.events.Event.{Event}
 use Rattle.pl_event.specs.declared.envelopes.Envelope.{Envelope}
 use Rattle.pl_event.specs.declared.envelopes.Kind.{Kind}
@@ -9,7 +10,7 @@ use Rattle.pl_event.specs.Fitting.{Fits, FitsAsFlag}
 use Rattle.pl_event.specs.Worlds.{World, FitsWorld, FitsAsKind, MayCome, content_of}
 use Rattle.pl_context.specs.ContextViews.{number_limit}
 use Rattle.pl_flow.specs.Flows.{IsGood}
-use Rattle.pl_part.proofs.EventLists.{some-equal, fits-within}
+use Rattle.pl_part.proofs.EventLists.{fits-within}
 use Rattle.pl_event.specs.declared.limits.TheConstants.{MAX_ITEMS}
 
 module _ (world : World) (e : Envelope) (good : IsGood world e) where
@@ -27,7 +28,7 @@ module _ (world : World) (e : Envelope) (good : IsGood world e) where
     data-fits is number =
         let lane : e.lane ≡ data_lane channel hop = (λ i. record { channel = in_channel i; kind = is i; hop = at_hop i }) in
         let f = subst (λ k. FitsAsKind world k e) is good.fits in
-        let all : f.0 ≡ events = some-equal f.0 events (sym f.1 ∙ ap (λ l. content_of world l) lane ∙ own) in
+        let all : f.0 ≡ events = same_Some f.0 events (sym f.1 ∙ ap (λ l. content_of world l) lane ∙ own) in
         subst (λ (y : List Event × ℕ). Fits y.0 y.1 e.item) (λ i. (all i, number i)) f.2
 
     -- its number is below the limit of its kind

@@ -8,7 +8,7 @@ mod ContextCounts
 mod ContextStarts
 mod TailSteps
 mod TakenCounts
-mod PathSteps
+pub mod PathSteps
 mod NewContexts
 mod HeadFlags
 mod ReadItems
@@ -16,7 +16,7 @@ mod HeadTaken
 mod HeadMoves
 pub mod NewHeads
 pub mod PartCounts
-mod PartSteps
+pub mod PartSteps
 mod HeadReports
 mod TakenSlots
 pub mod ShareLemmas

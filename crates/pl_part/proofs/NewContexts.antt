@@ -1,5 +1,6 @@
 -- Contexts that have taken nothing, hop by hop.
-use Rattle.std.proofs.Common.{◌≡◌, ℕ, zero, suc, ◌⊎◌, inl, inr, List, [], ◌∷◌, ◌++◌, ◌+◌, length, get_or, replicate, slice_get, Option, Some, None, refl, ap, sym, ◌∙◌, subst, arith}
+use Rattle.std.proofs.Common.{◌≡◌, ℕ, zero, suc, ◌⊎◌, inl, inr, List, [], ◌∷◌, ◌++◌, ◌+◌, length, get_or, replicate, Option, Some, None, refl, ap, sym, ◌∙◌, subst, arith}
+use Rattle.std.proofs.lemmas.Option.{same_Some}
 use Rattle.pl_event.specs.declared.events.Event.{Event}
 use Rattle.pl_event.specs.declared.envelopes.Kind.{Kind}
 use Rattle.pl_event.specs.declared.envelopes.Kind.TheVariants.{Data, Flags}
@@ -7,9 +8,8 @@ use Rattle.pl_event.specs.Meaning.{Meaning, IsLawful}
 use Rattle.pl_event.specs.Worlds.{World}
 use Rattle.pl_context.specs.ContextViews.{ContextView, kind_taken, new_context}
 use Rattle.pl_context.specs.Contexts.{StandsAfter}
-use Rattle.pl_part.specs.NewParts.{IsPlannedAt, IsNewAt, AreNew, new_slots}
+use Rattle.pl_part.specs.NewParts.{IsPlannedAt, IsNewAt, AreNewSlots, new_slots}
 use Rattle.pl_part.proofs.ContextStarts.{new-holds, new-starts}
-use Rattle.pl_part.proofs.EventLists.{some-equal}
 
 -- what is at an index behind which one more stands
 get_or-push : {A : Type 0} (xs : List (Option A)) (last : Option A) (i : ℕ) (x : A) → get_or (xs ++ last ∷ []) i None ≡ Some x → (get_or xs i None ≡ Some x) ⊎ ((i ≡ length xs) × (last ≡ Some x))
@@ -21,10 +21,6 @@ get_or-push (y ∷ ys) last (suc i) x e = by (get_or-push ys last i x e)
     by : (get_or ys i None ≡ Some x) ⊎ ((i ≡ length ys) × (last ≡ Some x)) → (get_or ys i None ≡ Some x) ⊎ ((suc i ≡ length (y ∷ ys)) × (last ≡ Some x))
     by (inl here) = inl here
     by (inr t) = inr (ap suc t.0, t.1)
-
-pub slice_get-behind : {A : Type 0} (xs rest : List A) (x : A) → slice_get (xs ++ x ∷ rest) (length xs) ≡ Some x
-slice_get-behind [] rest x = refl
-slice_get-behind (y ∷ ys) rest x = slice_get-behind ys rest x
 
 pub replicate-push : {A B : Type 0} (xs : List A) (x : A) (b : B) → replicate (length (xs ++ x ∷ [])) b ≡ replicate (length xs) b ++ b ∷ []
 replicate-push [] x b = refl
@@ -57,17 +53,17 @@ module _ {S : Type 0} (world : World) (meaning : S → Meaning) (channel k turn 
       none Flags = refl
 
   -- one more behind them
-  pub new-push : (slots : List (Option (ContextView S))) (c : ContextView S) → AreNew world meaning channel k turn stands_after slots → IsNewAt world meaning channel k turn stands_after (length slots) c
-      → AreNew world meaning channel k turn stands_after (slots ++ Some c ∷ [])
+  pub new-push : (slots : List (Option (ContextView S))) (c : ContextView S) → AreNewSlots world meaning channel k turn stands_after slots → IsNewAt world meaning channel k turn stands_after (length slots) c
+      → AreNewSlots world meaning channel k turn stands_after (slots ++ Some c ∷ [])
   new-push slots c are is hop x found = by (get_or-push slots (Some c) hop x found)
     where
       by : (get_or slots hop None ≡ Some x) ⊎ ((hop ≡ length slots) × (Some c ≡ Some x)) → IsNewAt world meaning channel k turn stands_after hop x
       by (inl here) = are hop x here
       by (inr t) =
-          let same : c ≡ x = some-equal c x t.1 in
+          let same : c ≡ x = same_Some c x t.1 in
           subst (λ (y : ℕ × ContextView S). IsNewAt world meaning channel k turn stands_after y.0 y.1) (λ i. (sym t.0 i, same i)) is
 
-  pub none-push : (slots : List (Option (ContextView S))) → AreNew world meaning channel k turn stands_after slots → AreNew world meaning channel k turn stands_after (slots ++ None ∷ [])
+  pub none-push : (slots : List (Option (ContextView S))) → AreNewSlots world meaning channel k turn stands_after slots → AreNewSlots world meaning channel k turn stands_after (slots ++ None ∷ [])
   none-push slots are hop x found = by (get_or-push slots None hop x found)
     where
       no : None ≡ Some x → ⊥
@@ -78,7 +74,7 @@ module _ {S : Type 0} (world : World) (meaning : S → Meaning) (channel k turn 
       by (inr t) = absurd (no t.1)
 
   -- none is there at first
-  pub none-new : (slots : List (Option (ContextView S))) → slots ≡ [] → AreNew world meaning channel k turn stands_after slots
+  pub none-new : (slots : List (Option (ContextView S))) → slots ≡ [] → AreNewSlots world meaning channel k turn stands_after slots
   none-new slots empty hop x found = absurd (no (sym (ap (λ (l : List (Option (ContextView S))). get_or l hop None) empty) ∙ found))
     where
       no : None ≡ Some x → ⊥

@@ -12,7 +12,7 @@ use Rattle.pl_flow.specs.Flows.{point, nowhere}
 use Rattle.pl_head.specs.declared.inputs.ReadPlan.{ReadPlan}
 use Rattle.pl_head.specs.ReadSteps.{plan_steps}
 use Rattle.pl_head.specs.Transports.{TransportState}
-use Rattle.pl_head.specs.HeadStand.{HeadView, StandsAfter, ReadsStand, HasFewFlags}
+use Rattle.pl_head.specs.HeadStand.{HeadView, HeadStandsAfter, ReadsStand, HasFewFlags}
 use Rattle.pl_part.specs.ContextHolds.{port_point}
 use Rattle.pl_part.specs.TailHolds.{MayFailFor}
 use Rattle.pl_part.specs.HeadHolds.{HeadHolds, IsHeadPlanned, head_writes, head_came, head_taken}
@@ -21,7 +21,7 @@ use Rattle.pl_event.specs.declared.limits.TheConstants.{MAX_ITEMS}
 
 -- what `Head::new` says of a head
 pub record IsFresh {T : Type 0} (state : T → TransportState) (plan : ReadPlan) (channel hop : ℕ) (h : HeadView T) : Type 0 where
-  pub after : StandsAfter state h [] [] []
+  pub after : HeadStandsAfter state h [] [] []
   pub reads : ReadsStand plan 0 false h
   pub entrance : h.input.port.lane ≡ data_lane channel 0
   pub place : (h.channel ≡ channel) × (h.hop ≡ hop)

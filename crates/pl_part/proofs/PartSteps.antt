@@ -4,6 +4,7 @@ use Rattle.std.specs.Prelude.{◌==◌, is_some, replicate, if◌then◌else◌}
 use Rattle.std.specs.Option.{option_map_or}
 use Rattle.std.proofs.lemmas.List.{length-map, length-replicate}
 use Rattle.std.proofs.lemmas.Bool.{cond-true, cond-false, cases_Bool, both_ways, and_parts, and_from, eqb-true, eq-eqb}
+use Rattle.std.proofs.lemmas.Option.{same_Some}
 use Rattle.pl_event.specs.declared.events.Event.{Event}
 use Rattle.pl_event.specs.declared.envelopes.Lane.{Lane}
 use Rattle.pl_event.specs.declared.envelopes.Envelope.{Envelope}
@@ -28,9 +29,8 @@ use Rattle.pl_head.specs.declared.heads.OutStep.{OutStep}
 use Rattle.pl_head.specs.declared.heads.ReadStep.{ReadStep}
 use Rattle.pl_part.specs.HeadCalls.{HeadTakes, HeadReads, HeadWrites, HeadAborts}
 use Rattle.pl_part.specs.Parts.{ChannelPartView, PartHolds, PartReads, PartWrites, PartAborts, SamePart, head_hop, has_entered, part_taken, part_lanes, part_writes, writes_at, part_came}
-use Rattle.pl_part.specs.PartCalls.{IsNextFor, Puts, Taken, HeadGiven, Given, PartRefused}
+use Rattle.pl_part.specs.PartCalls.{IsNextFor, NodePuts, Taken, HeadGiven, Given, PartRefused}
 use Rattle.pl_part.specs.Counts.{head_done, path_done, part_done}
-use Rattle.pl_part.proofs.EventLists.{some-equal}
 use Rattle.pl_part.proofs.PathSteps.{among-hops, other-hop, beyond}
 use Rattle.pl_part.proofs.PartCounts.{part-few}
 
@@ -140,7 +140,7 @@ module _ {S T : Type 0} (meaning : S → Meaning) (stands_after : S → List Eve
       path = holds.path;
       head = λ x found.
           let own = holds.head h at in
-          subst (λ (y : HeadView T). HeadHolds state world y × (y.channel ≡ p.path.channel) × (y.hop ≡ head_hop p)) (some-equal h' x found) (held, place.0 ∙ own.1, place.1 ∙ own.2);
+          subst (λ (y : HeadView T). HeadHolds state world y × (y.channel ≡ p.path.channel) × (y.hop ≡ head_hop p)) (same_Some h' x found) (held, place.0 ∙ own.1, place.1 ∙ own.2);
       hops = holds.hops;
     }
 
@@ -160,7 +160,7 @@ module _ {S T : Type 0} (meaning : S → Meaning) (stands_after : S → List Eve
           (ap (λ (n : ℕ). same_hop lane (data_lane n 0)) (sym own-channel) ∙ or-same (same_hop lane (data_lane h.channel 0)) any) (omega arith) (omega (arith, hops))
 
       head-puts : (b a : OutputsView) → ((lanes : List Lane) → AreAmong (head_lanes h) lanes → HasPlaces b.stopped lanes → HasPlaces a.stopped lanes)
-          → HeadHolds state some.0 h' → Makes some.0 (head_writes h) (head_came h) (head_came h') b a → Puts meaning p (head_hop p) b with_head a
+          → HeadHolds state some.0 h' → Makes some.0 (head_writes h) (head_came h) (head_came h') b a → NodePuts meaning p (head_hop p) b with_head a
       head-puts b a placed held makes = record {
         same = head-same;
         writes = head-writes;
@@ -231,10 +231,10 @@ module _ {S T : Type 0} (meaning : S → Meaning) (stands_after : S → List Eve
             record {
               takes = record {
                 path = λ off. absurd (both_ways (e.lane.hop == head_hop p) off there);
-                head = λ x t found. (h', refl, subst (λ (y : HeadView T). HeadTakes state y e b answer h' a) (some-equal h x (sym at ∙ found)) takes, refl);
+                head = λ x t found. (h', refl, subst (λ (y : HeadView T). HeadTakes state y e b answer h' a) (same_Some h x (sym at ∙ found)) takes, refl);
               };
               taken = λ l. head-counts enters number takes.taken l;
-              puts = subst (λ (n : ℕ). Puts meaning p n b with_head a) on (head-puts b a placed (held some.0 own fits) (made some.0 own fits));
+              puts = subst (λ (n : ℕ). NodePuts meaning p n b with_head a) on (head-puts b a placed (held some.0 own fits) (made some.0 own fits));
               holds = λ world holds good. head-holds world holds (held world (holds.head h at).0 good);
               made = λ world holds good.
                   subst (λ (n : ℕ). Makes world (writes_at meaning p n) (part_came meaning p) (part_came meaning with_head) b a) on (head-makes world b a (made world (holds.head h at).0 good));
@@ -306,7 +306,7 @@ module _ {S T : Type 0} (meaning : S → Meaning) (stands_after : S → List Eve
 
       path-puts : (some : (world : World) × PartHolds world meaning stands_after state p) (b a : OutputsView)
           → ((lanes : List Lane) → AreAmong (path_lanes p.path) lanes → HasPlaces b.stopped lanes → HasPlaces a.stopped lanes)
-          → PathHolds some.0 meaning stands_after v' → Makes some.0 (path_writes_at meaning p.path hop) (path_came meaning p.path) (path_came meaning v') b a → Puts meaning p hop b with_path a
+          → PathHolds some.0 meaning stands_after v' → Makes some.0 (path_writes_at meaning p.path hop) (path_came meaning p.path) (path_came meaning v') b a → NodePuts meaning p hop b with_path a
       path-puts some b a placed held makes = record {
         same = path-same;
         writes = λ l. ap (λ (x : Bool). if l.hop == 0 then option_map_or (λ (y : HeadView T). head_writes y l) p.head false else x) (writes l);
@@ -446,7 +446,7 @@ module _ {S T : Type 0} (state : T → TransportState) (p v : ChannelPartView S 
   pub reads-of : (answer : ReadStep) → HeadReads state h before answer h' after → PartReads state p before answer moved_head after
   reads-of answer r = subst (λ (y : ChannelPartView S T). PartReads state y before answer moved_head after) same
       (record {
-        head = λ x found. (h', refl, subst (λ (y : HeadView T). HeadReads state y before answer h' after) (some-equal h x (sym at ∙ found)) r);
+        head = λ x found. (h', refl, subst (λ (y : HeadView T). HeadReads state y before answer h' after) (same_Some h x (sym at ∙ found)) r);
         none = λ n. no-same h (sym n ∙ at);
         path = refl;
       })
@@ -454,7 +454,7 @@ module _ {S T : Type 0} (state : T → TransportState) (p v : ChannelPartView S 
   pub writes-of : (may_refuse : T → ℕ → Type 0) (answer : OutStep) → HeadWrites state may_refuse h before answer h' after → PartWrites state may_refuse p before answer moved_head after
   writes-of may_refuse answer r = subst (λ (y : ChannelPartView S T). PartWrites state may_refuse y before answer moved_head after) same
       (record {
-        head = λ x found. (h', refl, subst (λ (y : HeadView T). HeadWrites state may_refuse y before answer h' after) (some-equal h x (sym at ∙ found)) r);
+        head = λ x found. (h', refl, subst (λ (y : HeadView T). HeadWrites state may_refuse y before answer h' after) (same_Some h x (sym at ∙ found)) r);
         none = λ n. no-same h (sym n ∙ at);
         path = refl;
       })
@@ -462,7 +462,7 @@ module _ {S T : Type 0} (state : T → TransportState) (p v : ChannelPartView S 
   pub aborts-of : HeadAborts state h before h' after → PartAborts state p before moved_head after
   aborts-of r = subst (λ (y : ChannelPartView S T). PartAborts state y before moved_head after) same
       (record {
-        head = λ x found. (h', refl, subst (λ (y : HeadView T). HeadAborts state y before h' after) (some-equal h x (sym at ∙ found)) r);
+        head = λ x found. (h', refl, subst (λ (y : HeadView T). HeadAborts state y before h' after) (same_Some h x (sym at ∙ found)) r);
         none = λ n. no-same h (sym n ∙ at);
         path = refl;
       })

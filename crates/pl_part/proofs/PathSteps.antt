@@ -5,8 +5,8 @@ use Rattle.std.specs.List.{list_any, range_with_len}
 use Rattle.std.specs.Option.{option_map_or}
 use Rattle.std.proofs.lemmas.List.{length-set, set-get_or, get_or-set_same, get_or-set_other}
 use Rattle.std.proofs.lemmas.List.Sums.{sum_by-set}
-use Rattle.std.proofs.lemmas.Option.{none-some}
-use Rattle.std.proofs.lemmas.Bool.{cond-true, cond-false, cases_Bool, both_ways, and_parts, and_from, eqb-true, eq-eqb, ne_eqb}
+use Rattle.std.proofs.lemmas.Option.{none-some, same_Some}
+use Rattle.std.proofs.lemmas.Bool.{cond-true, cond-false, cases_Bool, both_ways, and_parts, and_from, eqb-true, eq-eqb, ne_eqb, or_right, or_left}
 use Rattle.pl_event.specs.declared.events.Event.{Event}
 use Rattle.pl_event.specs.declared.envelopes.Kind.{Kind}
 use Rattle.pl_event.specs.declared.envelopes.Kind.TheVariants.{Data, Flags}
@@ -35,7 +35,6 @@ use Rattle.pl_part.specs.Taking.{ContextTakes, ContextRefused, TailTakes}
 use Rattle.pl_part.specs.Paths.{PathPartView, PathHolds, IsPathPart, IsAt, context_at, writer_hop, enters_path, path_taken, path_lanes, path_writes, path_writes_at, path_came}
 use Rattle.pl_part.specs.PathCalls.{IsNextOnPath, PathPuts, PathTaken, PathRefused}
 use Rattle.pl_part.specs.Counts.{context_done, tail_done, slot_done, path_done}
-use Rattle.pl_part.proofs.EventLists.{some-equal}
 use Rattle.pl_part.proofs.TakenCounts.{place_taken, taken-kind, taken-next}
 
 -- an item is of one lane
@@ -91,31 +90,23 @@ none-of-three false false c e = (refl, refl, e)
 none-of-three false true c e = absurd (both_ways true e refl)
 none-of-three true b c e = absurd (both_ways true e refl)
 
-three-lanes : (a b c a' b' c' : Lane) → a ∷ b ∷ c ∷ [] ≡ a' ∷ b' ∷ c' ∷ [] → (a ≡ a') × (b ≡ b') × (c ≡ c')
+pub three-lanes : (a b c a' b' c' : Lane) → a ∷ b ∷ c ∷ [] ≡ a' ∷ b' ∷ c' ∷ [] → (a ≡ a') × (b ≡ b') × (c ≡ c')
 three-lanes a b c a' b' c' e = (cc, cc, cc)
 
-apart-tail : (d : Direction) (hop k : ℕ) → IsHop d hop k → hop ≢ k
+pub apart-tail : (d : Direction) (hop k : ℕ) → IsHop d hop k → hop ≢ k
 apart-tail Inbound hop k is e = let less = is.0 in omega (arith, less, e)
 apart-tail Turn hop k is e = let less = is.0 in omega (arith, less, e)
 apart-tail Outbound hop k is e = let less = is.0 in omega (arith, less, e)
-
-or-either : (a b : Bool) → a ≡ true → (a || b) ≡ true
-or-either true b e = refl
-or-either false b e = absurd (both_ways false refl e)
-
-or-other : (a b : Bool) → b ≡ true → (a || b) ≡ true
-or-other true b e = refl
-or-other false b e = e
 
 -- a hop of a channel is among its lanes
 pub among-hops : (lane : Lane) (channel hop n first : ℕ) → same_hop lane (data_lane channel hop) ≡ true → first ≤ hop → hop < first + n → list_any (same_hop lane) (map (λ k. data_lane channel k) (range_with_len first n)) ≡ true
 among-hops lane channel hop zero first same from to = absurd (omega (arith, from, to))
 among-hops lane channel hop (suc n) first same from to = ⊎_elim
     (λ (t : (first == hop) ≡ true).
-    or-either (same_hop lane (data_lane channel first)) _ (ap (λ (k : ℕ). same_hop lane (data_lane channel k)) (eqb-true first hop t) ∙ same))
+    or_left (same_hop lane (data_lane channel first)) _ (ap (λ (k : ℕ). same_hop lane (data_lane channel k)) (eqb-true first hop t) ∙ same))
     (λ (f : (first == hop) ≡ false).
     let n-eq : first ≢ hop = (λ e. both_ways (first == hop) f (eq-eqb first hop e)) in
-    or-other (same_hop lane (data_lane channel first)) _ (among-hops lane channel hop n (first + 1) same (omega (arith, from, n-eq)) (omega (arith, to))))
+    or_right (same_hop lane (data_lane channel first)) _ (among-hops lane channel hop n (first + 1) same (omega (arith, from, n-eq)) (omega (arith, to))))
     (cases_Bool (first == hop))
 
 -- lanes of two hops are two
@@ -319,7 +310,7 @@ module _ {S : Type 0} (meaning : S → Meaning) (stands_after : S → List Event
       contexts = λ h x e. ⊎_elim
           (λ (t : (h == hop) ≡ true).
           let same = eqb-true h hop t in
-          let x-is : c' ≡ x = some-equal c' x (sym now-here ∙ ap (λ (k : ℕ). context_at moved_path k) (sym same) ∙ e) in
+          let x-is : c' ≡ x = same_Some c' x (sym now-here ∙ ap (λ (k : ℕ). context_at moved_path k) (sym same) ∙ e) in
           subst (λ (y : ℕ × ContextView S). ContextHolds world meaning stands_after y.1 × IsAt meaning v.channel y.0 v.tail_hop v.turn y.1) (λ i. (sym same i, x-is i)) (held, still-at))
           (λ (f : (h == hop) ≡ false).
           holds.contexts h x (sym (still-there h (λ k. both_ways (h == hop) f (eq-eqb h hop k))) ∙ e))
@@ -368,7 +359,7 @@ module _ {S : Type 0} (meaning : S → Meaning) (stands_after : S → List Event
           c',
           ap (λ (h : ℕ). context_at moved_path h) on_hop ∙ now-here,
           subst (λ (y : ContextView S). ContextTakes meaning stands_after is_spent y e before answer c' after)
-              (some-equal c x (sym at ∙ ap (λ (h : ℕ). context_at v h) (sym on_hop) ∙ found)) takes,
+              (same_Some c x (sym at ∙ ap (λ (h : ℕ). context_at v h) (sym on_hop) ∙ found)) takes,
         );
         tail = λ t on found. absurd (apart (sym on_hop ∙ eqb-true e.lane.hop v.tail_hop on));
         others = λ h f. still-there h (λ k. both_ways (h == e.lane.hop) f (eq-eqb h e.lane.hop (k ∙ sym on_hop)));
@@ -400,7 +391,7 @@ module _ {S : Type 0} (meaning : S → Meaning) (stands_after : S → List Event
         writer = λ x found. (
           c',
           ap (λ (h : ℕ). context_at moved_path h) (sym writer) ∙ now-here,
-          subst (λ (y : ContextView S). ContextRefused lane.kind y before c' after) (some-equal c x (sym at ∙ ap (λ (h : ℕ). context_at v h) writer ∙ found)) refused,
+          subst (λ (y : ContextView S). ContextRefused lane.kind y before c' after) (same_Some c x (sym at ∙ ap (λ (h : ℕ). context_at v h) writer ∙ found)) refused,
         );
         none = λ n. absurd (none-some c (sym n ∙ ap (λ (h : ℕ). context_at v h) (sym writer) ∙ at));
         flags = λ k. let kept = refused.flag k in (unmoved kept.0, kept.1);
@@ -409,7 +400,7 @@ module _ {S : Type 0} (meaning : S → Meaning) (stands_after : S → List Event
         tail_kept = refl;
       };
       over = λ k x found. subst (λ (y : ContextView S). is_over y.standing ≡ true)
-          (some-equal c' x (sym (ap (λ (h : ℕ). context_at moved_path h) (same-writer lane.hop ∙ sym writer) ∙ now-here) ∙ found)) (over k);
+          (same_Some c' x (sym (ap (λ (h : ℕ). context_at moved_path h) (same-writer lane.hop ∙ sym writer) ∙ now-here) ∙ found)) (over k);
       taken = taken-by (λ l n. n) (λ l on_same. (λ i. place_taken (place.0 i) (place.1 i) (λ k. counts k i) l)) (λ l n off. refl);
       puts = context-puts before after placed;
       holds = λ world refuses holds. path-holds world holds (held world refuses (holds.contexts hop c at).0);
@@ -477,7 +468,7 @@ module _ {S : Type 0} (meaning : S → Meaning) (stands_after : S → List Event
     tail-taken is_spent before answer t' enters number takes held still counts = record {
       takes = record {
         context = λ x off found. absurd (both_ways (e.lane.hop == v.tail_hop) off there);
-        tail = λ x on found. (t', refl, subst (λ (y : TailView). TailTakes y e answer t') (some-equal t x (sym at ∙ found)) takes, refl);
+        tail = λ x on found. (t', refl, subst (λ (y : TailView). TailTakes y e answer t') (same_Some t x (sym at ∙ found)) takes, refl);
         others = λ h f. refl;
         tail_kept = λ off. absurd (both_ways (e.lane.hop == v.tail_hop) off there);
       };
@@ -498,7 +489,7 @@ module _ {S : Type 0} (meaning : S → Meaning) (stands_after : S → List Event
       };
       holds = λ world holds good. record {
         contexts = holds.contexts;
-        tail = λ x found. subst (λ (y : TailView). TailHolds world y × (y.channel ≡ v.channel) × (y.hop ≡ v.tail_hop)) (some-equal t' x found)
+        tail = λ x found. subst (λ (y : TailView). TailHolds world y × (y.channel ≡ v.channel) × (y.hop ≡ v.tail_hop)) (same_Some t' x found)
             (held world (holds.tail t at).0 good, still.0 ∙ place.0, still.1 ∙ place.1);
         few = holds.few;
       };

@@ -1,6 +1,6 @@
 -- What a port is given, by lane: one port after the other.
 use Rattle.std.proofs.Common.{◌≡◌, ℕ, ◌+◌, Bool, true, false, not, ◌||◌, ◌&&◌, cond, List, [], ◌∷◌, ◌++◌, length, refl, ap, sym, ◌∙◌, subst, ⊎_elim, append-nil, append_assoc, arith, length-append}
-use Rattle.std.proofs.lemmas.Bool.{cond-true, cond-false, cases_Bool, both_ways}
+use Rattle.std.proofs.lemmas.Bool.{cond-true, cond-false, cases_Bool, both_ways, and_right}
 use Rattle.pl_event.specs.declared.envelopes.Kind.TheVariants.{Data, Flags}
 use Rattle.pl_event.specs.declared.envelopes.Lane.{Lane}
 use Rattle.pl_event.specs.declared.envelopes.Item.{Item}
@@ -43,10 +43,6 @@ pub left-false : (a b : Bool) → a ≡ false → (a && b) ≡ false
 left-false true b e = absurd (both_ways true e refl)
 left-false false b e = refl
 
-pub right-false : (a b : Bool) → b ≡ false → (a && b) ≡ false
-right-false true b e = e
-right-false false b e = refl
-
 -- ---- one port
 
 -- where each lane is once a port has moved
@@ -63,7 +59,7 @@ module _ (world : World) (writes : Lane → Bool) (from : Lane → Point) (p : P
       ∙ sym (numbered-made world p.lane is p.made from (at t) (good t))
       ∙ ap (λ (m : Lane). made_all from (numbered p.lane p.made is) m) (sym (same_lane-equal l p.lane e)))
       (λ (e : same_lane l p.lane ≡ false).
-      cond-false (p.is_open && same_lane l p.lane) (port_point (port_after is p)) (from l) (right-false p.is_open (same_lane l p.lane) e)
+      cond-false (p.is_open && same_lane l p.lane) (port_point (port_after is p)) (from l) (and_right p.is_open (same_lane l p.lane) e)
       ∙ sym (numbered-other p.lane is p.made from l e))
       (cases_Bool (same_lane l p.lane))
 
@@ -98,7 +94,7 @@ module _ (world : World) (writes : Lane → Bool) (from : Lane → Point) (p : P
       let none = subst (λ zs. Appends b zs a) (out ∙ cond-true (has_stopped b.stopped p.lane) [] es s) appends in
       makes-to world writes from from (moved from p (port_after is p)) b a (makes-none world writes from b a (none.items ∙ append-nil b.items) none.stopped)
       (λ l n. cond-false (p.is_open && same_lane l p.lane) (port_point (port_after is p)) (from l)
-      (right-false p.is_open (same_lane l p.lane) (other l (ap (λ (k : StopsView). has_stopped k l) (sym appends.stopped) ∙ n) s))))
+      (and_right p.is_open (same_lane l p.lane) (other l (ap (λ (k : StopsView). has_stopped k l) (sym appends.stopped) ∙ n) s))))
       (λ (s : has_stopped b.stopped p.lane ≡ false).
       let all = subst (λ zs. Appends b zs a) (out ∙ cond-false (has_stopped b.stopped p.lane) [] es s) appends in
       appends-makes world writes es from (moved from p (port_after is p)) b a (numbered-next world writes p.lane is p.made from (own t) (at t) (good t)) (none-here b.stopped p.lane p.made is s) all
@@ -167,20 +163,20 @@ module _ (hu hd : Bool) (p q f : Port) (up_has : p.is_open ≡ true → hu ≡ t
   not-up o = ⊎_elim
       (λ (u : hu ≡ true). ⊎_elim
       (λ (e : same_lane q.lane p.lane ≡ true). absurd (same-back p.lane q.lane (apart u (down_has o)) e))
-      (λ (e : same_lane q.lane p.lane ≡ false). right-false hu (same_lane q.lane p.lane) e)
+      (λ (e : same_lane q.lane p.lane ≡ false). and_right hu (same_lane q.lane p.lane) e)
       (cases_Bool (same_lane q.lane p.lane)))
       (λ (u : hu ≡ false). left-false hu (same_lane q.lane p.lane) u)
       (cases_Bool hu)
 
   not-moved : (l : Lane) → (hu && same_lane l p.lane) ≡ false → (p.is_open && same_lane l p.lane) ≡ false
   not-moved l e = ⊎_elim
-      (λ (o : p.is_open ≡ true). right-false p.is_open (same_lane l p.lane) (ap (λ (b : Bool). b && same_lane l p.lane) (sym (up_has o)) ∙ e))
+      (λ (o : p.is_open ≡ true). and_right p.is_open (same_lane l p.lane) (ap (λ (b : Bool). b && same_lane l p.lane) (sym (up_has o)) ∙ e))
       (λ (o : p.is_open ≡ false). left-false p.is_open (same_lane l p.lane) o)
       (cases_Bool p.is_open)
 
   not-moved-down : (l : Lane) → (hd && same_lane l q.lane) ≡ false → (q.is_open && same_lane l q.lane) ≡ false
   not-moved-down l e = ⊎_elim
-      (λ (o : q.is_open ≡ true). right-false q.is_open (same_lane l q.lane) (ap (λ (b : Bool). b && same_lane l q.lane) (sym (down_has o)) ∙ e))
+      (λ (o : q.is_open ≡ true). and_right q.is_open (same_lane l q.lane) (ap (λ (b : Bool). b && same_lane l q.lane) (sym (down_has o)) ∙ e))
       (λ (o : q.is_open ≡ false). left-false q.is_open (same_lane l q.lane) o)
       (cases_Bool q.is_open)
 
@@ -215,7 +211,7 @@ module _ (hu hd : Bool) (p q f : Port) (up_has : p.is_open ≡ true → hu ≡ t
       (λ (o : q.is_open ≡ true). absurd (not-both l us.0 (down_has o) us.1 e))
       (λ (o : q.is_open ≡ false). left-false q.is_open (same_lane l q.lane) o)
       (cases_Bool q.is_open))
-      (λ (e : same_lane l q.lane ≡ false). right-false q.is_open (same_lane l q.lane) e)
+      (λ (e : same_lane l q.lane ≡ false). and_right q.is_open (same_lane l q.lane) e)
       (cases_Bool (same_lane l q.lane)) in
       cond-true (hu && same_lane l p.lane) (port_point p') _ u
       ∙ ⊎_elim
@@ -288,10 +284,10 @@ flag-apart l r e f = ⊎_elim
 module _ (hu hd : Bool) (p q f : Port) (has : f.is_open ≡ true → hu ≡ true) (aside : f.lane.kind ≡ Flags) (above : p.lane.kind ≡ Data) (below : q.lane.kind ≡ Data) (world : World) (goes : f.is_open ≡ true) (value : Bool)
     (good : IsGood world (record { lane = f.lane; number = f.made; item = item.Flag value })) (b a : OutputsView) where
   here-up : (hu && same_lane f.lane p.lane) ≡ false
-  here-up = right-false hu (same_lane f.lane p.lane) (flag-apart f.lane p.lane aside above)
+  here-up = and_right hu (same_lane f.lane p.lane) (flag-apart f.lane p.lane aside above)
 
   here-down : (hd && same_lane f.lane q.lane) ≡ false
-  here-down = right-false hd (same_lane f.lane q.lane) (flag-apart f.lane q.lane aside below)
+  here-down = and_right hd (same_lane f.lane q.lane) (flag-apart f.lane q.lane aside below)
 
   flag-came : (g : Port) → g.lane ≡ f.lane → ports_came hu hd p q g f.lane ≡ port_point g
   flag-came g same =
@@ -301,8 +297,8 @@ module _ (hu hd : Bool) (p q f : Port) (has : f.is_open ≡ true → hu ≡ true
 
   flag-else : (g : Port) → g.lane ≡ f.lane → (l : Lane) → same_lane l f.lane ≡ false → ports_came hu hd p q g l ≡ ports_came hu hd p q f l
   flag-else g same l e = ap (λ (t : Point). cond (hu && same_lane l p.lane) (port_point p) (cond (hd && same_lane l q.lane) (port_point q) t))
-      (cond-false (hu && same_lane l g.lane) (port_point g) nowhere (right-false hu (same_lane l g.lane) (ap (λ (m : Lane). same_lane l m) same ∙ e))
-      ∙ sym (cond-false (hu && same_lane l f.lane) (port_point f) nowhere (right-false hu (same_lane l f.lane) e)))
+      (cond-false (hu && same_lane l g.lane) (port_point g) nowhere (and_right hu (same_lane l g.lane) (ap (λ (m : Lane). same_lane l m) same ∙ e))
+      ∙ sym (cond-false (hu && same_lane l f.lane) (port_point f) nowhere (and_right hu (same_lane l f.lane) e)))
 
   abbrev pub flag : Envelope
   flag = record { lane = f.lane; number = f.made; item = item.Flag value }

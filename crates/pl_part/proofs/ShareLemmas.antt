@@ -5,7 +5,7 @@ use Rattle.std.specs.List.{sum_by, range_with_len}
 use Rattle.std.specs.Option.{option_map_or}
 use Rattle.std.proofs.lemmas.Bool.{cases_Bool, both_ways, cond-true, eqb-true, eq-eqb, lt-ltb, le-ltb, ltb-true, ltb-false, and_parts}
 use Rattle.std.proofs.lemmas.List.Sums.{sum_by-cons}
-use Rattle.std.proofs.lemmas.Option.{none-some}
+use Rattle.std.proofs.lemmas.Option.{none-some, same_Some}
 use Rattle.pl_event.specs.declared.events.Event.{Event}
 use Rattle.pl_event.specs.declared.envelopes.Lane.{Lane}
 use Rattle.pl_event.specs.Hops.{same_lane, data_lane}
@@ -22,11 +22,10 @@ use Rattle.pl_part.specs.Paths.{PathPartView, PathHolds, IsAt, context_at, write
 use Rattle.pl_part.specs.Parts.{ChannelPartView, PartHolds, head_hop, has_entered, part_taken, part_lanes, part_writes, part_came}
 use Rattle.pl_part.specs.Counts.{context_done, slot_done, tail_done, head_done, path_done, part_done}
 use Rattle.pl_part.specs.Shares.{IsPathShare, IsShareBy, EachPart, only_if, executor_of}
-use Rattle.pl_part.proofs.EventLists.{some-equal}
 
 -- ---- what is there where that is wanted
 
-only-some : {A : Type 0} (b : Bool) (o : Option A) (x : A) → only_if b o ≡ Some x → o ≡ Some x
+pub only-some : {A : Type 0} (b : Bool) (o : Option A) (x : A) → only_if b o ≡ Some x → o ≡ Some x
 only-some true o x e = e
 only-some false o x e = absurd (none-some x e)
 
@@ -159,7 +158,7 @@ all-left e = ap (λ (b : Bool). not b) (le-ltb e 0 (omega arith))
 -- of each of these and of one more
 each-behind : {A : Type 0} (Is : ℕ → A → Type 0) (xs : List A) (y : A) → ((x : ℕ) (p : A) → slice_get xs x ≡ Some p → Is x p) → Is (length xs) y
     → (x : ℕ) (p : A) → slice_get (xs ++ y ∷ []) x ≡ Some p → Is x p
-each-behind Is [] y each last zero p e = subst (λ (z : _). Is 0 z) (some-equal y p e) last
+each-behind Is [] y each last zero p e = subst (λ (z : _). Is 0 z) (same_Some y p e) last
 each-behind Is [] y each last (suc x) p e = absurd (none-some p e)
 each-behind Is (z ∷ zs) y each last zero p e = each zero p e
 each-behind Is (z ∷ zs) y each last (suc x) p e = each-behind (λ n. Is (suc n)) zs y (λ x p e. each (suc x) p e) last x p e

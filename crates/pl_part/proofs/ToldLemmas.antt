@@ -13,7 +13,7 @@ use Rattle.pl_event.specs.Worlds.{World}
 use Rattle.pl_head.specs.Marks.{Change, levels_from, pending_from, pending_after, changed, is_unwritable, unwritable_from}
 use Rattle.pl_head.specs.Transports.{TransportState}
 use Rattle.pl_head.specs.Buffers.{OutboundBufferView, untold}
-use Rattle.pl_head.specs.HeadStand.{HeadView, BufferAfter, StandsAfter}
+use Rattle.pl_head.specs.HeadStand.{HeadView, BufferAfter, HeadStandsAfter}
 use Rattle.pl_head.proofs.HeadAfter.{marks_after}
 use Rattle.pl_part.specs.HeadHolds.{HeadHolds}
 use Rattle.pl_part.specs.Paths.{PathPartView}
@@ -44,7 +44,7 @@ module _ (low high : ℕ) (ordered : low ≤ high) where
 
 module _ {T : Type 0} (state : T → TransportState) (world : World) (h : HeadView T) (holds : HeadHolds state world h) where
   -- what waits, by the sizes after which the head stands
-  pub pending-is : (n : ℕ) → ((ys zs : List Event) (sizes : List Change) → StandsAfter state h ys zs sizes → n ≡ pending_after sizes) → n ≡ h.buffer.pending
+  pub pending-is : (n : ℕ) → ((ys zs : List Event) (sizes : List Change) → HeadStandsAfter state h ys zs sizes → n ≡ pending_after sizes) → n ≡ h.buffer.pending
   pending-is n is =
       let took = holds.holds.took in
       let marks = marks_after h.failure (state h.transport).accepted h.buffer took.ys took.zs _ took.sizes took.after in

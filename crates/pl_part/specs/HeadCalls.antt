@@ -16,12 +16,12 @@ use Rattle.pl_head.specs.declared.heads.OutStep.TheVariants as step
 use Rattle.pl_head.specs.declared.heads.ReadStep.{ReadStep}
 use Rattle.pl_head.specs.declared.heads.ReadStep.TheVariants as reading
 use Rattle.pl_head.specs.Marks.{Change}
-use Rattle.pl_head.specs.Writes.{offered, flushed_writes}
+use Rattle.pl_head.specs.Writes.{bytes_offered, flushed_writes}
 use Rattle.pl_head.specs.Buffers.{SameMarks, SettlesMore, StopsNumbers, LacksRoom}
 use Rattle.pl_head.specs.MarksStand.{SendsFlags}
-use Rattle.pl_head.specs.Transports.{TransportState, counted, FailsNext}
+use Rattle.pl_head.specs.Transports.{TransportState, one_call_more, FailsNext}
 use Rattle.pl_head.specs.ReadSteps.{entrance, bursts_read, has_step, read_items, brings_failure, brings_abort, next_step_items, steps_after}
-use Rattle.pl_head.specs.HeadStand.{HeadView, StandsAfter, ReadsStand, Aborts, lane_over, Answers, read_answer, is_held, is_idle, waiting_at, events_before, events_from, item_sizes, step_sizes, standing_after, cause_of_item, cause_of_step, first_cause, HasFewFlags}
+use Rattle.pl_head.specs.HeadStand.{HeadView, HeadStandsAfter, ReadsStand, Aborts, lane_over, Answers, read_answer, is_read_held, is_idle, waiting_at, events_before, events_from, item_sizes, step_sizes, standing_after, cause_of_item, cause_of_step, first_cause, HasFewFlags}
 
 module _ {T : Type 0} (state : T → TransportState) where
   -- It takes the next item of its lane: after whichever events it stood, it stands after those and what the item brought. After
@@ -29,10 +29,10 @@ module _ {T : Type 0} (state : T → TransportState) where
   pub record HeadTakes (h : HeadView T) (e : Envelope) (before : OutputsView) (answer : Took) (h' : HeadView T) (after : OutputsView) : Type 0 where
     pub taken : h'.taken ≡ h.taken + 1
     pub answers : lane_over h ≡ false → Answers (is_some h.failure) e.item answer
-    pub stood : lane_over h ≡ false → (ys zs : List Event) (sizes : List Change) → StandsAfter state h ys zs sizes
-        → StandsAfter state h' (ys ++ events_before (is_some h.failure) e.item answer) (zs ++ events_from (is_some h.failure) e.item answer)
+    pub stood : lane_over h ≡ false → (ys zs : List Event) (sizes : List Change) → HeadStandsAfter state h ys zs sizes
+        → HeadStandsAfter state h' (ys ++ events_before (is_some h.failure) e.item answer) (zs ++ events_from (is_some h.failure) e.item answer)
         (sizes ++ item_sizes (is_some h.failure) e.item answer (waiting_at state h ys) (waiting_at state h' (ys ++ events_before (is_some h.failure) e.item answer)))
-    pub flags : lane_over h ≡ false → (ys zs : List Event) (sizes : List Change) → StandsAfter state h ys zs sizes
+    pub flags : lane_over h ≡ false → (ys zs : List Event) (sizes : List Change) → HeadStandsAfter state h ys zs sizes
         → SendsFlags h.buffer.low h.buffer.high sizes
         (item_sizes (is_some h.failure) e.item answer (waiting_at state h ys) (waiting_at state h' (ys ++ events_before (is_some h.failure) e.item answer)))
         h.buffer.flags before h'.buffer.flags after
@@ -50,8 +50,8 @@ module _ {T : Type 0} (state : T → TransportState) where
   -- It makes its next read step, where one is left and not held, whichever steps were made.
   pub record HeadReads (h : HeadView T) (before : OutputsView) (answer : ReadStep) (h' : HeadView T) (after : OutputsView) : Type 0 where
     pub done : (p : ReadPlan) (reads : ℕ) (failed : Bool) → ReadsStand p reads failed h → (answer ≡ reading.Done) ↔ (has_step p reads failed ≡ false)
-    pub answers : (p : ReadPlan) (reads : ℕ) (failed : Bool) (ys zs : List Event) (sizes : List Change) → ReadsStand p reads failed h → StandsAfter state h ys zs sizes
-        → answer ≡ read_answer (has_step p reads failed) (is_held state p reads h ys)
+    pub answers : (p : ReadPlan) (reads : ℕ) (failed : Bool) (ys zs : List Event) (sizes : List Change) → ReadsStand p reads failed h → HeadStandsAfter state h ys zs sizes
+        → answer ≡ read_answer (has_step p reads failed) (is_read_held state p reads h ys)
     pub never_held : IsSome h.failure → answer ≢ reading.Held
     pub is_left : (answer ≡ reading.Done) ↔ (h.input.port.is_open ≡ false)
     pub idle : answer ≢ reading.Gave → (h' ≡ h) × (after ≡ before)
@@ -72,27 +72,27 @@ module _ {T : Type 0} (state : T → TransportState) where
   -- It makes one write to its transport, unless it is idle. The write fails at the call that the transport was told to fail at,
   -- and else only where the transport may refuse what it is offered.
   pub record HeadWrites (may_refuse : T → ℕ → Type 0) (h : HeadView T) (before : OutputsView) (answer : OutStep) (h' : HeadView T) (after : OutputsView) : Type 0 where
-    pub called : answer ≢ step.Idle → (state h'.transport).calls ≡ counted (state h.transport).calls
+    pub called : answer ≢ step.Idle → (state h'.transport).calls ≡ one_call_more (state h.transport).calls
     pub idle : answer ≡ step.Idle → (h' ≡ h) × (after ≡ before)
     pub wrote : (n : ℕ) → answer ≡ step.Wrote n → length (state h'.transport).accepted ≡ length (state h.transport).accepted + n
     pub sound : (n : ℕ) → answer ≡ step.Wrote n → (state h'.transport).failures ≡ (state h.transport).failures
-    pub failed : answer ≡ step.Failed → (state h'.transport).failures ≡ counted (state h.transport).failures
+    pub failed : answer ≡ step.Failed → (state h'.transport).failures ≡ one_call_more (state h.transport).failures
     pub kept : answer ≡ step.Failed → (state h'.transport).accepted ≡ (state h.transport).accepted
     pub nothing : answer ≡ step.Wrote 0 → (h'.buffer ≡ h.buffer) × (after ≡ before)
     pub window : (state h'.transport).window ≡ (state h.transport).window
     pub fail_at : (state h'.transport).fail_at ≡ (state h.transport).fail_at
-    pub within : (n : ℕ) (ys zs : List Event) (sizes : List Change) → answer ≡ step.Wrote n → StandsAfter state h ys zs sizes
-        → n ≤ offered 0 (length (state h.transport).accepted) (flushed_writes ys)
-    pub full : (n w : ℕ) (ys zs : List Event) (sizes : List Change) → answer ≡ step.Wrote n → StandsAfter state h ys zs sizes
-        → (state h.transport).window ≡ Some w → n ≡ min (offered 0 (length (state h.transport).accepted) (flushed_writes ys)) w
+    pub within : (n : ℕ) (ys zs : List Event) (sizes : List Change) → answer ≡ step.Wrote n → HeadStandsAfter state h ys zs sizes
+        → n ≤ bytes_offered 0 (length (state h.transport).accepted) (flushed_writes ys)
+    pub full : (n w : ℕ) (ys zs : List Event) (sizes : List Change) → answer ≡ step.Wrote n → HeadStandsAfter state h ys zs sizes
+        → (state h.transport).window ≡ Some w → n ≡ min (bytes_offered 0 (length (state h.transport).accepted) (flushed_writes ys)) w
     pub told : (n : ℕ) → answer ≡ step.Wrote n → FailsNext (state h.transport) → ⊥
-    pub untold : (ys zs : List Event) (sizes : List Change) → answer ≡ step.Failed → StandsAfter state h ys zs sizes
-        → FailsNext (state h.transport) ⊎ may_refuse h.transport (offered 0 (length (state h.transport).accepted) (flushed_writes ys))
-    pub waits : (ys zs : List Event) (sizes : List Change) → StandsAfter state h ys zs sizes → (answer ≡ step.Idle) ↔ (is_idle state h ys ≡ true)
+    pub untold : (ys zs : List Event) (sizes : List Change) → answer ≡ step.Failed → HeadStandsAfter state h ys zs sizes
+        → FailsNext (state h.transport) ⊎ may_refuse h.transport (bytes_offered 0 (length (state h.transport).accepted) (flushed_writes ys))
+    pub waits : (ys zs : List Event) (sizes : List Change) → HeadStandsAfter state h ys zs sizes → (answer ≡ step.Idle) ↔ (is_idle state h ys ≡ true)
     pub rests : IsSome h.failure → answer ≡ step.Idle
-    pub stood : (ys zs : List Event) (sizes : List Change) → StandsAfter state h ys zs sizes
-        → StandsAfter state h' ys zs (sizes ++ step_sizes answer (waiting_at state h ys) (waiting_at state h' ys))
-    pub flags : (ys zs : List Event) (sizes : List Change) → StandsAfter state h ys zs sizes
+    pub stood : (ys zs : List Event) (sizes : List Change) → HeadStandsAfter state h ys zs sizes
+        → HeadStandsAfter state h' ys zs (sizes ++ step_sizes answer (waiting_at state h ys) (waiting_at state h' ys))
+    pub flags : (ys zs : List Event) (sizes : List Change) → HeadStandsAfter state h ys zs sizes
         → SendsFlags h.buffer.low h.buffer.high sizes (step_sizes answer (waiting_at state h ys) (waiting_at state h' ys)) h.buffer.flags before h'.buffer.flags after
     pub failure : h'.failure ≡ first_cause h.failure (cause_of_step answer)
     pub same : h' ≡ record h { transport = h'.transport; failure = h'.failure; buffer = h'.buffer }

@@ -11,7 +11,7 @@ use Rattle.pl_flow.specs.Flows.{Point, nowhere}
 use Rattle.pl_head.specs.declared.inputs.ReadPlan.{ReadPlan}
 use Rattle.pl_head.specs.Marks.{Change}
 use Rattle.pl_head.specs.Transports.{TransportState}
-use Rattle.pl_head.specs.HeadStand.{HeadView, StandsAfter, ReadsStand, HasFewFlags, lane_over}
+use Rattle.pl_head.specs.HeadStand.{HeadView, HeadStandsAfter, ReadsStand, HasFewFlags, lane_over}
 use Rattle.pl_part.specs.ContextHolds.{port_point}
 use Rattle.pl_part.specs.TailHolds.{MayFailFor}
 use Rattle.pl_event.specs.declared.limits.TheConstants.{MAX_ITEMS}
@@ -43,7 +43,7 @@ module _ {T : Type 0} (state : T → TransportState) where
     pub ys : List Event
     pub zs : List Event
     pub sizes : List Change
-    pub after : StandsAfter state h ys zs sizes
+    pub after : HeadStandsAfter state h ys zs sizes
     pub count : ℕ
     pub within : count ≤ length events
     pub in_order : ys ++ zs ≡ take count events
@@ -70,14 +70,14 @@ module _ {T : Type 0} (state : T → TransportState) where
     pub flags : h.buffer.flags.lane ≡ flags_lane h.channel 0
     pub few_flags : HasFewFlags h
 
-  -- It holds for some content of its lane and for some plan. (The world says what comes.)
+  -- A head holds in a world, for some content of its lane and some plan. (The world says what comes.)
   pub record HeadHolds (world : World) (h : HeadView T) : Type 0 where
     pub plan : ReadPlan
     pub events : List Event
     pub holds : HeadHoldsWith world plan events h
 
--- What the world says of a head's lanes: what its own brings in all, and that the first of the channel brings what it is to
--- read.
+-- What the world says of a head's lanes. It says what its own brings in all, and that the first of the channel brings
+-- what it is to read.
 pub record IsHeadPlanned (world : World) (plan : ReadPlan) (channel hop : ℕ) : Type 0 where
   pub events : List Event
   pub own : content_of world (data_lane channel hop) ≡ Some events

@@ -33,11 +33,11 @@ module _ {S : Type 0} (world : World) (meaning : S → Meaning) (channel k turn 
       pub none_taken : (kind : Kind) → kind_taken c kind ≡ 0
       pub starts : (l : Lane) → context_writes (meaning c.stage).direction c l ≡ true → context_came (meaning c.stage).direction c l ≡ point 0 false
 
-    -- So do those of these slots, by hop.
-    abbrev pub AreNew : List (Option (ContextView S)) → Type 0
-    AreNew slots = (hop : ℕ) (c : ContextView S) → get_or slots hop None ≡ Some c → IsNewAt hop c
+    -- the contexts of these slots are new, by hop
+    abbrev pub AreNewSlots : List (Option (ContextView S)) → Type 0
+    AreNewSlots slots = (hop : ℕ) (c : ContextView S) → get_or slots hop None ≡ Some c → IsNewAt hop c
 
--- The handlers of a channel may stand at their hops, the tail between them, and the world knows the lanes of each.
+-- The world knows the lanes of a channel's handlers. These may stand at their hops, with the tail between them.
 pub record ArePlannedWith {S : Type 0} (world : World) (meaning : S → Meaning) (channel turn : ℕ) (inbound outbound : List S) : Type 0 where
   pub planned_inbound : ArePlanned world meaning channel (length inbound) turn 0 inbound
   pub planned_tail : (events : List Event) × (content_of world (data_lane channel (length inbound)) ≡ Some events) × (length events + 1 < MAX_ITEMS)
@@ -49,7 +49,8 @@ module _ {S : Type 0} (meaning : S → Meaning) (channel k : ℕ) where
   new_slots hop [] = []
   new_slots hop (stage ∷ stages) = Some (new_context (meaning stage).direction channel hop k stage) ∷ new_slots (hop + 1) stages
 
--- all slots of a new channel: those of its inbound stages, the tail's, which has no context, and those of its outbound stages
+-- All slots of a new channel. They are those of its inbound stages, the tail's, which has no context, and those of
+-- its outbound stages.
 abbrev pub whole_slots : {S : Type 0} → (S → Meaning) → ℕ → List S → List S → List (Option (ContextView S))
 whole_slots meaning channel inbound outbound =
     new_slots meaning channel (length inbound) 0 inbound ++ None ∷ new_slots meaning channel (length inbound) (length inbound + 1) outbound

@@ -24,6 +24,7 @@ use Rattle.pl_part.specs.Paths.{PathPartView, SamePath, PathHolds, PathTakes, wr
 use Rattle.pl_part.specs.HeadHolds.{HeadHolds, head_writes, head_came, head_taken}
 use Rattle.pl_part.specs.HeadCalls.{HeadTakes, HeadReads, HeadWrites, HeadAborts}
 
+-- nodes of one channel, perhaps with its head (ChannelPipeline)
 pub record ChannelPartView (S T : Type 0) : Type 0 where
   -- the contexts and the tail
   pub path : PathPartView S
@@ -56,12 +57,12 @@ has_read p = option_map_or (λ (h : HeadView _). h.input.port.is_open) p.head fa
 abbrev pub part_taken : {S T : Type 0} → ChannelPartView S T → Lane → ℕ
 part_taken p l = if l.hop == head_hop p then option_map_or (λ (h : HeadView _). head_taken h l) p.head 0 else path_taken p.path l
 
--- the data lanes of its channel: for these it needs places on a work list
+-- The data lanes of a part's channel. For these it needs places on a work list.
 abbrev pub part_lanes : {S T : Type 0} → ChannelPartView S T → List Lane
 part_lanes p = path_lanes p.path
 
 module _ {S T : Type 0} (meaning : S → Meaning) where
-  -- Whether one of its nodes writes a lane: the head those of hop 0, contexts the others.
+  -- One of the nodes writes a lane. The head writes those of hop 0, contexts the others.
   abbrev pub part_writes : ChannelPartView S T → Lane → Bool
   part_writes p l = if l.hop == 0 then option_map_or (λ (h : HeadView T). head_writes h l) p.head false else path_writes meaning p.path l
 
@@ -81,7 +82,7 @@ module _ {S T : Type 0} (meaning : S → Meaning) (stands_after : S → List Eve
         → (h' : HeadView T) × (p'.head ≡ Some h') × HeadTakes state h e before answer h' after × (p'.path ≡ p.path)
 
 module _ {S T : Type 0} (state : T → TransportState) where
-  -- The head makes its next read step, where it is one of its nodes. The others are as they were.
+  -- The head makes its next read step. It does where it is one of the nodes. The others are as they were.
   pub record PartReads (p : ChannelPartView S T) (before : OutputsView) (answer : ReadStep) (p' : ChannelPartView S T) (after : OutputsView) : Type 0 where
     pub head : (h : HeadView T) → p.head ≡ Some h → (h' : HeadView T) × (p'.head ≡ Some h') × HeadReads state h before answer h' after
     pub none : p.head ≡ None → (answer ≡ reading.Done) × (p' ≡ p) × (after ≡ before)
@@ -119,7 +120,7 @@ module _ {S T : Type 0} (state : T → TransportState) where
     pub path : p'.path ≡ p.path
 
 module _ {S T : Type 0} (world : World) (meaning : S → Meaning) (stands_after : S → List Event → Type 0) (state : T → TransportState) where
-  -- Each of its nodes holds, and stands at its place; and each hop has an executor.
+  -- Each node holds, and stands at its place. Each hop has an executor.
   pub record PartHolds (p : ChannelPartView S T) : Type 0 where
     pub path : PathHolds world meaning stands_after p.path
     pub head : (h : HeadView T) → p.head ≡ Some h → HeadHolds state world h × (h.channel ≡ p.path.channel) × (h.hop ≡ head_hop p)

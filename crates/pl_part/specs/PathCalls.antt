@@ -17,7 +17,8 @@ use Rattle.pl_flow.specs.Makes.{Makes}
 use Rattle.pl_part.specs.Paths.{PathPartView, PathHolds, PathTakes, PathRefuses, SamePath, context_at, writer_hop, enters_path, path_taken, path_lanes, path_writes, path_writes_at, path_came}
 use Rattle.pl_part.specs.Counts.{path_done}
 
--- An envelope is the next of its lane, which enters one of the nodes, and there are places for what they write.
+-- An envelope is next for a path's nodes. It is the next of its lane, which enters one of them, and there are places
+-- for what they write.
 pub record IsNextOnPath {S : Type 0} (world : World) (meaning : S → Meaning) (stands_after : S → List Event → Type 0) (p : PathPartView S) (e : Envelope) (before : OutputsView) : Type 0 where
   pub holds : PathHolds world meaning stands_after p
   pub entered : enters_path p e.lane ≡ true

@@ -22,6 +22,7 @@ use Rattle.pl_part.specs.ContextHolds.{ContextHolds, context_writes, context_cam
 use Rattle.pl_part.specs.TailHolds.{TailHolds}
 use Rattle.pl_part.specs.Taking.{ContextTakes, ContextRefused, TailTakes}
 
+-- contexts of one channel, perhaps with its tail (ChannelPipeline)
 pub record PathPartView (S : Type 0) : Type 0 where
   pub channel : ℕ
   -- the executor of each hop
@@ -33,7 +34,8 @@ pub record PathPartView (S : Type 0) : Type 0 where
   -- the hop of the turn
   pub turn : ℕ
 
--- Each hop has an executor: those of the contexts, that of the tail among them, and the last, which is the head's.
+-- Each hop of the channel has an executor. Hops are those of the contexts, that of the tail among them, and the last,
+-- which is the head's.
 pub record IsPathPart (hops contexts tail_hop turn : ℕ) : Type 0 where
   pub hops_are : hops ≡ contexts + 1
   pub few : contexts ≤ MAX_HANDLERS + 1
@@ -51,11 +53,11 @@ pub record SamePath {S : Type 0} (p p' : PathPartView S) : Type 0 where
 
 -- ---- its nodes
 
--- the context that a hop enters, where it is one of the part's
+-- The context that a hop enters. There is one where it is one of the part's.
 abbrev pub context_at : {S : Type 0} → PathPartView S → ℕ → Option (ContextView S)
 context_at p hop = get_or p.contexts hop None
 
--- The hop of the context that writes the lanes of a hop: the one before; but the turn writes the first lane after the
+-- The hop of the node that writes a hop's lanes. It is the one before; but the turn writes the first lane after the
 -- tail's, and the head those of hop 0.
 abbrev pub writer_hop : {S : Type 0} → PathPartView S → ℕ → ℕ
 writer_hop p hop = if hop == 0 then length p.contexts else if hop == p.tail_hop + 1 then p.turn else hop - 1
@@ -73,8 +75,8 @@ abbrev pub path_over : {S : Type 0} → PathPartView S → Bool
 path_over p = list_all (λ (slot : Option (ContextView _)). is_slot_over slot) p.contexts
     && option_map_or (λ (t : TailView). is_over t.standing) p.tail true
 
--- A lane is refused: so is the context that writes it, where it is one of the nodes. The others are as they were, and so are
--- all of them where it is a flags lane, or one that the head writes.
+-- A lane is refused, and so is its writer. That is the context that writes it, where it is one of the nodes. The
+-- others are as they were, and so are all of them where it is a flags lane, or one that the head writes.
 pub record PathRefuses {S : Type 0} (p : PathPartView S) (l : Lane) (before : OutputsView) (p' : PathPartView S) (after : OutputsView) : Type 0 where
   pub writer : (c : ContextView S) → context_at p (writer_hop p l.hop) ≡ Some c
       → (c' : ContextView S) × (context_at p' (writer_hop p l.hop) ≡ Some c') × ContextRefused l.kind c before c' after
@@ -93,7 +95,7 @@ path_taken p l =
     then option_map_or (λ (t : TailView). tail_taken_of t l) p.tail 0
     else option_map_or (λ (c : ContextView _). taken_of c l) (context_at p l.hop) 0
 
--- the data lanes of its channel: for these it needs places on a work list
+-- The data lanes of a path's channel. For these it needs places on a work list.
 abbrev pub path_lanes : {S : Type 0} → PathPartView S → List Lane
 path_lanes p = map (λ hop. data_lane p.channel hop) (range_with_len 0 (length p.executors))
 
@@ -102,7 +104,7 @@ module _ {S : Type 0} (meaning : S → Meaning) where
   abbrev pub path_writes : PathPartView S → Lane → Bool
   path_writes p l = option_map_or (λ (c : ContextView S). context_writes (meaning c.stage).direction c l) (context_at p (writer_hop p l.hop)) false
 
-  -- the same, of the context at a hop
+  -- whether the context at a hop writes a lane
   abbrev pub path_writes_at : PathPartView S → ℕ → Lane → Bool
   path_writes_at p hop l = path_writes p l && (writer_hop p l.hop == hop)
 
@@ -128,7 +130,7 @@ module _ {S : Type 0} (meaning : S → Meaning) where
       pub tail_kept : (e.lane.hop == p.tail_hop) ≡ false → p'.tail ≡ p.tail
 
 module _ {S : Type 0} (world : World) (meaning : S → Meaning) (stands_after : S → List Event → Type 0) where
-  -- Each of its nodes holds, and stands at its place; and they are few.
+  -- Contexts and tail hold, and stand at their places. They are few.
   pub record PathHolds (p : PathPartView S) : Type 0 where
     pub contexts : (hop : ℕ) (c : ContextView S) → context_at p hop ≡ Some c → ContextHolds world meaning stands_after c × IsAt meaning p.channel hop p.tail_hop p.turn c
     pub tail : (t : TailView) → p.tail ≡ Some t → TailHolds world t × (t.channel ≡ p.channel) × (t.hop ≡ p.tail_hop)

@@ -26,7 +26,7 @@ pub record IsShareBy {S T : Type 0} (mine : ℕ → Bool) (whole share : Channel
   pub path : IsPathShare mine whole.path share.path
   pub head : share.head ≡ only_if (mine (executor_of whole.path (head_hop whole))) whole.head
 
--- the share of one executor
+-- the share that one executor has
 abbrev pub IsShare : {S T : Type 0} → ℕ → ChannelPartView S T → ChannelPartView S T → Type 0
 IsShare executor whole share = IsShareBy (λ e. e == executor) whole share
 

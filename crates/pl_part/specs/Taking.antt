@@ -12,7 +12,7 @@ use Rattle.pl_context.specs.declared.standing.Took.{Took}
 use Rattle.pl_context.specs.declared.standing.Took.TheVariants as took
 use Rattle.pl_context.specs.Standings.{is_over, has_failed}
 use Rattle.pl_context.specs.ContextViews.{ContextView}
-use Rattle.pl_context.specs.Contexts.{TakesItem, TakesFlag, Closes, counted}
+use Rattle.pl_context.specs.Contexts.{TakesItem, TakesFlag, GivesLast, counted}
 use Rattle.pl_context.specs.OutputsViews.{OutputsView}
 use Rattle.pl_context.specs.TailViews.{TailView, RecordsItem, RecordsFlagItem, counted as tail_counted}
 
@@ -29,7 +29,7 @@ module _ {S : Type 0} (meaning : S → Meaning) (stands_after : S → List Event
 -- A lane of this kind that it writes is refused. Of a data lane an open context fails, with `Refused` and by a call, and gives
 -- each of its open data lanes that failure; one that has ended or failed is as it was. A flag is dropped, and nothing else.
 pub record ContextRefused {S : Type 0} (k : Kind) (c : ContextView S) (before : OutputsView) (c' : ContextView S) (after : OutputsView) : Type 0 where
-  pub fails : k ≡ Data → c.standing ≡ stands.Open → Closes (stands.Failed Refused) (record c { failed_by_call = true }) before c' after
+  pub fails : k ≡ Data → c.standing ≡ stands.Open → GivesLast (stands.Failed Refused) (record c { failed_by_call = true }) before c' after
   pub over : is_over c.standing ≡ true → (c' ≡ c) × (after ≡ before)
   pub flag : k ≡ Flags → (c' ≡ c) × (after ≡ before)
 

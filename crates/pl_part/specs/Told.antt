@@ -14,16 +14,16 @@ told_head n h = record h { buffer = record h.buffer { told = n } }
 abbrev pub told_part : {S T : Type 0} → ℕ → ChannelPartView S T → ChannelPartView S T
 told_part n p = record p { head = option_map (told_head n) p.head }
 
--- the numbers of the settled writes that its head has not told yet
+-- the settled writes that its head has not told
 abbrev pub part_untold : {S T : Type 0} → ChannelPartView S T → List ℕ
 part_untold p = option_map_or (λ (h : HeadView _). untold h.buffer) p.head []
 
--- Its head has told some of its settled writes, or none. All else is as it was.
+-- Its head has told some settled writes, or none. All else is as it was.
 pub record IsTold {S T : Type 0} (p p' : ChannelPartView S T) : Type 0 where
   pub so_many : ℕ
   pub is : p' ≡ told_part so_many p
 
--- Its head tells how the next of its settled writes ended.
+-- Its head tells how its next settled write ended.
 pub record TellsNext {S T : Type 0} (p : ChannelPartView S T) (n : ℕ) (outcome : Outcome) (p' : ChannelPartView S T) : Type 0 where
   pub head : HeadView T
   pub has_head : p.head ≡ Some head

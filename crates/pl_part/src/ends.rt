@@ -1,52 +1,20 @@
 //! The head of a channel, where lanes may fail.
 
-ghost use Rattle.std.specs.Prelude.{◌≡◌, ◌+◌, ◌≤◌, ◌<◌, List, [], length, false, None};
-ghost use Rattle.pl_event.specs.Inputs.{recorded_input};
-ghost use Rattle.pl_context.specs.declared.standing.Standing.TheVariants as stands;
+ghost use Rattle.std.specs.Prelude.{◌≡◌, ◌+◌, ◌≤◌, ◌<◌, List, length};
 ghost use Rattle.pl_event.specs.declared.envelopes.Lane.{Lane};
 ghost use Rattle.pl_event.specs.Worlds.{World};
 ghost use Rattle.pl_context.specs.Stops.{HasPlaces, AreAmong};
 ghost use Rattle.pl_flow.specs.Flows.{IsGood};
 ghost use Rattle.pl_flow.specs.Makes.{Makes};
-ghost use Rattle.pl_head.specs.HeadStand.{EntersHead, StandsAfter, ReadsStand};
-ghost use Rattle.pl_part.specs.HeadHolds.{HeadHolds, IsHeadPlanned, head_writes, head_came, head_lanes};
+ghost use Rattle.pl_head.specs.HeadStand.{EntersHead};
+ghost use Rattle.pl_part.specs.HeadHolds.{HeadHolds, head_writes, head_came, head_lanes};
 ghost use Rattle.pl_part.specs.HeadCalls.{HeadTakes, HeadReads, HeadWrites, HeadAborts};
 ghost use Rattle.pl_part.specs.Counts.{head_done};
 ghost use Rattle.pl_part.specs.PartCalls.{HeadGiven};
-ghost use Rattle.pl_event.specs.declared.limits.TheConstants.{MAX_ITEMS};
 
 use pl_context::{Outputs, Took};
 use pl_event::Envelope;
-use pl_head::{Head, OutStep, ReadPlan, ReadStep, Transport};
-use std::alloc::Global;
-
-/// A head that has taken nothing, as `Head::new` makes it. The world knows its lanes.
-pub fn new_head<T: Transport>(
-    alloc: Global,
-    channel: u16,
-    hop: u16,
-    input: ReadPlan,
-    transport: T,
-    low: u32,
-    high: u32,
-) -> Head<T>
-    requires marks { low ≤ high }
-    requires fresh { (T.state transport).accepted ≡ [] }
-    requires few { length (recorded_input input.bursts) + 1 < MAX_ITEMS }
-    ensures holds { (world : World) → IsHeadPlanned world input channel hop → HeadHolds T.state world result }
-    ensures stands { StandsAfter T.state result [] [] [] }
-    ensures reads { ReadsStand input 0 false result }
-    ensures transport { result.transport ≡ transport }
-    ensures place { (result.channel ≡ channel) × (result.hop ≡ hop) }
-    ensures marks { (result.buffer.low ≡ low) × (result.buffer.high ≡ high) }
-    ensures taken { (result.taken ≡ 0) × (result.standing ≡ stands.Open) × (result.failure ≡ None) }
-    ensures closed { result.is_closed ≡ false }
-    ensures numbering { result.buffer.is_full ≡ false }
-    ensures told { (result.buffer.settled ≡ []) × (result.buffer.told ≡ 0) }
-    ensures done { head_done result ≡ 0 }
-{
-    Head::new(alloc, channel, hop, input, transport, low, high)
-}
+use pl_head::{Head, OutStep, ReadStep, Transport};
 
 /// A head takes the next item of its lane.
 pub fn take_at_head<T: Transport>(

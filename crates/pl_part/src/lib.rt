@@ -9,7 +9,6 @@ mod paths;
 mod shares;
 mod starting;
 
-pub use ends::new_head;
 pub use laws::head_law;
 pub use parts::ChannelPart;
 pub use paths::PathPart;

@@ -13,10 +13,10 @@ ghost use Rattle.pl_context.specs.Stops.{HasPlaces, AreAmong};
 ghost use Rattle.pl_context.specs.TailViews.{new_tail};
 ghost use Rattle.pl_flow.specs.Flows.{IsGood, nowhere};
 ghost use Rattle.pl_flow.specs.Makes.{Makes};
-ghost use Rattle.pl_head.specs.HeadStand.{HeadView, StandsAfter, is_idle};
+ghost use Rattle.pl_head.specs.HeadStand.{HeadView, HeadStandsAfter, is_idle};
 ghost use Rattle.pl_event.specs.declared.events.Event.{Event};
 ghost use Rattle.pl_head.specs.Marks.{Change};
-ghost use Rattle.pl_part.specs.NewParts.{ArePlannedWith, AreNew, whole_slots};
+ghost use Rattle.pl_part.specs.NewParts.{ArePlannedWith, AreNewSlots, whole_slots};
 ghost use Rattle.pl_part.specs.HeadHolds.{HeadHolds};
 ghost use Rattle.pl_part.specs.Paths.{PathRefuses, context_at, writer_hop};
 ghost use Rattle.pl_part.specs.Parts.{PartHolds, PartTakes, PartReads, PartWrites, PartMoves, PartAborts, SamePart, head_hop, has_entered, has_read, all_over, part_taken, part_lanes, part_writes, writes_at, part_came};
@@ -75,7 +75,7 @@ impl<S: Stage, T: Transport> ChannelPart<S, T> {
         ensures filled { IfOk result (λ part. map (λ slot. is_some slot) part.path.contexts ≡ replicate (length inbound.items) true ++ false ∷ replicate (length outbound.items) true) }
         ensures tail { IfOk result (λ part. part.path.tail ≡ Some (new_tail channel (length inbound.items))) }
         ensures head { IfOk result (λ part. part.head ≡ Some head) }
-        ensures new { IfOk result (λ part. (world : World) → ArePlannedWith world S.meaning channel turn inbound.items outbound.items → AreNew world S.meaning channel (length inbound.items) turn S.stands_after part.path.contexts) }
+        ensures new { IfOk result (λ part. (world : World) → ArePlannedWith world S.meaning channel turn inbound.items outbound.items → AreNewSlots world S.meaning channel (length inbound.items) turn S.stands_after part.path.contexts) }
         ensures holds { IfOk result (λ part. (world : World) → ArePlannedWith world S.meaning channel turn inbound.items outbound.items → HeadHolds T.state world head → PartHolds world S.meaning S.stands_after T.state part) }
         ensures done { IfOk result (λ part. part_done part ≡ head_done head) }
         ensures few { IfOk result (λ part. (world : World) → HeadHolds T.state world head → part_done part < 2 ^ 50) }
@@ -229,7 +229,7 @@ impl<S: Stage, T: Transport> ChannelPart<S, T> {
 
     /// Whether a write would be idle: no flushed byte waits, or the head has failed, or none is among the nodes.
     pub fn is_written(&self) -> bool
-        ensures head { (h : HeadView T) (ys zs : List Event) (sizes : List Change) → self.now.head ≡ Some h → StandsAfter T.state h ys zs sizes → result ≡ is_idle T.state h ys }
+        ensures head { (h : HeadView T) (ys zs : List Event) (sizes : List Change) → self.now.head ≡ Some h → HeadStandsAfter T.state h ys zs sizes → result ≡ is_idle T.state h ys }
         ensures none { self.now.head ≡ None → result ≡ true }
     {
         match &self.head {

@@ -14,7 +14,7 @@ ghost use Rattle.pl_context.specs.Stops.{HasPlaces, AreAmong};
 ghost use Rattle.pl_context.specs.TailViews.{TailView, new_tail};
 ghost use Rattle.pl_flow.specs.Flows.{IsGood};
 ghost use Rattle.pl_flow.specs.Makes.{Makes};
-ghost use Rattle.pl_part.specs.NewParts.{ArePlannedWith, AreNew, whole_slots};
+ghost use Rattle.pl_part.specs.NewParts.{ArePlannedWith, AreNewSlots, whole_slots};
 ghost use Rattle.pl_part.specs.Counts.{path_done};
 ghost use Rattle.pl_part.specs.PathCalls.{IsNextOnPath, PathTaken, PathRefused};
 ghost use Rattle.pl_part.specs.Paths.{PathHolds, PathTakes, PathRefuses, SamePath, context_at, writer_hop, enters_path, path_over, is_slot_over, path_taken, path_lanes, path_writes, path_writes_at, path_came};
@@ -76,7 +76,7 @@ impl<S: Stage> PathPart<S> {
         ensures contexts { IfOk result (λ part. part.contexts ≡ whole_slots S.meaning channel inbound.items outbound.items) }
         ensures filled { IfOk result (λ part. map (λ slot. is_some slot) part.contexts ≡ replicate (length inbound.items) true ++ false ∷ replicate (length outbound.items) true) }
         ensures tail { IfOk result (λ part. part.tail ≡ Some (new_tail channel (length inbound.items))) }
-        ensures new { IfOk result (λ part. (world : World) → ArePlannedWith world S.meaning channel turn inbound.items outbound.items → AreNew world S.meaning channel (length inbound.items) turn S.stands_after part.contexts) }
+        ensures new { IfOk result (λ part. (world : World) → ArePlannedWith world S.meaning channel turn inbound.items outbound.items → AreNewSlots world S.meaning channel (length inbound.items) turn S.stands_after part.contexts) }
         ensures holds { IfOk result (λ part. (world : World) → ArePlannedWith world S.meaning channel turn inbound.items outbound.items → PathHolds world S.meaning S.stands_after part) }
         ensures done { IfOk result (λ part. path_done part ≡ 0) }
     {

@@ -5,7 +5,7 @@ ghost use Rattle.pl_context.specs.declared.contexts.TheConstants.{MAX_HANDLERS};
 ghost use Rattle.pl_context.specs.ContextViews.{IsHop};
 ghost use Rattle.pl_event.specs.Worlds.{World};
 ghost use Rattle.std.specs.List.{sum_by};
-ghost use Rattle.pl_part.specs.NewParts.{ArePlanned, AreNew, new_slots};
+ghost use Rattle.pl_part.specs.NewParts.{ArePlanned, AreNewSlots, new_slots};
 ghost use Rattle.pl_part.specs.Counts.{slot_done};
 
 use pl_context::Context;
@@ -27,7 +27,7 @@ pub fn add_contexts<S: Stage>(
     ensures slots { OnOk result (contexts.new.items ≡ contexts.old.items ++ new_slots S.meaning channel k (length contexts.old.items) stages.items) }
     ensures filled { OnOk result (map (λ slot. is_some slot) contexts.new.items ≡ map (λ slot. is_some slot) contexts.old.items ++ replicate (length stages.items) true) }
     ensures new { OnOk result ((world : World) (turn : ℕ) → ArePlanned world S.meaning channel k turn (length contexts.old.items) stages.items
-        → AreNew world S.meaning channel k turn S.stands_after contexts.old.items → AreNew world S.meaning channel k turn S.stands_after contexts.new.items) }
+        → AreNewSlots world S.meaning channel k turn S.stands_after contexts.old.items → AreNewSlots world S.meaning channel k turn S.stands_after contexts.new.items) }
     ensures done { OnOk result (sum_by (λ slot. slot_done slot) contexts.new.items ≡ sum_by (λ slot. slot_done slot) contexts.old.items) }
 {
     for stage in stages {

@@ -28,11 +28,11 @@ use Rattle.pl_head.specs.Transports.{MemoryTransportView, memory_state}
 use Rattle.pl_head.specs.HeadStand.{HeadView}
 use Rattle.pl_part.specs.ContextHolds.{context_writes, context_came}
 use Rattle.pl_part.specs.HeadHolds.{HeadHolds, head_writes, head_came, head_taken}
-use Rattle.pl_part.specs.NewParts.{IsPlannedAt, ArePlannedWith, AreNew}
+use Rattle.pl_part.specs.NewParts.{IsPlannedAt, ArePlannedWith, AreNewSlots}
 use Rattle.pl_part.specs.Paths.{writer_hop, path_taken, path_lanes, path_writes, path_came}
 use Rattle.pl_part.specs.Parts.{ChannelPartView, PartHolds, SamePart, head_hop, has_entered, part_taken, part_lanes, part_writes, writes_at, part_came}
 use Rattle.pl_context.specs.declared.standing.Took.{Took}
-use Rattle.pl_part.specs.PartCalls.{IsNextFor, Puts, Taken, Given}
+use Rattle.pl_part.specs.PartCalls.{IsNextFor, NodePuts, Taken, Given}
 use Rattle.pl_part.proofs.NewHeads.{IsFresh, new-holds, new-came, new-taken}
 use Rattle.pl_part_tests.specs.declared.relays.Relay.{Relay}
 use Rattle.pl_part_tests.specs.Relays.{relaying}
@@ -155,7 +155,7 @@ module _ (p : Part) (b m : OutputsView) (x : Envelope) (items : b.items ≡ x �
     }
 
 -- a node at a hop has put something out, and nothing is taken
-pub ready-given : (p p' : Part) (hop : ℕ) (b a : OutputsView) → IsReady p b → Puts sample_meaning p hop b p' a → ((l : Lane) → part_taken p' l ≡ part_taken p l)
+pub ready-given : (p p' : Part) (hop : ℕ) (b a : OutputsView) → IsReady p b → NodePuts sample_meaning p hop b p' a → ((l : Lane) → part_taken p' l ≡ part_taken p l)
     → PartHolds sample_world sample_meaning anywhere memory_state p' → Makes sample_world (writes_at sample_meaning p hop) (part_came sample_meaning p) (part_came sample_meaning p') b a → IsReady p' a
 ready-given p p' hop b a ready puts counts holds made = record {
   sample = same-sample p p' puts.same ready.sample;
@@ -237,7 +237,7 @@ head-holds plan h bursts new = new-holds memory_state plan 7 4 h new sample_worl
 
 -- ---- all of it
 
-module _ (p : Part) (sample : IsSample p) (holds : PartHolds sample_world sample_meaning anywhere memory_state p) (new : AreNew sample_world sample_meaning 7 2 1 anywhere p.path.contexts)
+module _ (p : Part) (sample : IsSample p) (holds : PartHolds sample_world sample_meaning anywhere memory_state p) (new : AreNewSlots sample_world sample_meaning 7 2 1 anywhere p.path.contexts)
     (tail : p.path.tail ≡ Some (new_tail 7 2)) (h : HeadView MemoryTransportView) (head : p.head ≡ Some h)
     (head_starts : (l : Lane) → head_writes h l ≡ true → head_came h l ≡ point 0 false) (head_untaken : (l : Lane) → head_taken h l ≡ 0) where
   if-none : (b : Bool) (n : ℕ) → n ≡ 0 → (if b then n else 0) ≡ 0
@@ -326,16 +326,16 @@ module _ (r : Result Part AllocError) (inbound outbound : List Relay) (two : len
       by (Err e) place filled tail head = tt
 
   pub made-ready : (plan : ReadPlan) → plan.bursts ≡ sample_bursts → IsFresh memory_state plan 7 4 h → ArePlannedWith sample_world sample_meaning 7 1 inbound outbound → IfOk r (λ p. IsSample p)
-      → IfOk r (λ p. (world : World) → ArePlannedWith world sample_meaning 7 1 inbound outbound → AreNew world sample_meaning 7 (length inbound) 1 anywhere p.path.contexts)
+      → IfOk r (λ p. (world : World) → ArePlannedWith world sample_meaning 7 1 inbound outbound → AreNewSlots world sample_meaning 7 (length inbound) 1 anywhere p.path.contexts)
       → IfOk r (λ p. (world : World) → ArePlannedWith world sample_meaning 7 1 inbound outbound → HeadHolds memory_state world h → PartHolds world sample_meaning anywhere memory_state p)
       → IfOk r (λ p. (w : OutputsView) → w.items ≡ [] → w.stopped ≡ no_stops 5 → IsReady p w)
   made-ready plan bursts fresh planned sample new holds = by r sample tail head new holds
     where
       by : (r : Result Part AllocError) → IfOk r (λ p. IsSample p) → IfOk r (λ p. p.path.tail ≡ Some (new_tail 7 (length inbound))) → IfOk r (λ p. p.head ≡ Some h)
-          → IfOk r (λ p. (world : World) → ArePlannedWith world sample_meaning 7 1 inbound outbound → AreNew world sample_meaning 7 (length inbound) 1 anywhere p.path.contexts)
+          → IfOk r (λ p. (world : World) → ArePlannedWith world sample_meaning 7 1 inbound outbound → AreNewSlots world sample_meaning 7 (length inbound) 1 anywhere p.path.contexts)
           → IfOk r (λ p. (world : World) → ArePlannedWith world sample_meaning 7 1 inbound outbound → HeadHolds memory_state world h → PartHolds world sample_meaning anywhere memory_state p)
           → IfOk r (λ p. (w : OutputsView) → w.items ≡ [] → w.stopped ≡ no_stops 5 → IsReady p w)
       by (Ok p) sample tail head new holds =
-          ready-at-first p sample (holds sample_world planned (head-holds plan h bursts fresh)) (subst (λ (n : ℕ). AreNew sample_world sample_meaning 7 n 1 anywhere p.path.contexts) two (new sample_world planned))
+          ready-at-first p sample (holds sample_world planned (head-holds plan h bursts fresh)) (subst (λ (n : ℕ). AreNewSlots sample_world sample_meaning 7 n 1 anywhere p.path.contexts) two (new sample_world planned))
           (tail ∙ ap (λ (n : ℕ). Some (new_tail 7 n)) two) h head (new-came memory_state plan 7 4 h fresh) (new-taken memory_state plan 7 4 h fresh)
       by (Err e) sample tail head new holds = tt

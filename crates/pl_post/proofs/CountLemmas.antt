@@ -2,6 +2,7 @@
 use Rattle.std.proofs.Common.{◌≡◌, ◌≤◌, ◌<◌, ◌^◌, ◌+◌, ◌*◌, ℕ, true, false, cond, List, [], ◌∷◌, Some, length, refl, ap, sym, ◌∙◌, ⊎_elim, arith}
 use Rattle.std.proofs.lemmas.Bool.{cond-true, cond-false, cases_Bool}
 use Rattle.std.proofs.lemmas.List.{length-map}
+use Rattle.std.proofs.lemmas.Option.{same_Some, none-some}
 use Rattle.pl_event.specs.declared.envelopes.Envelope.{Envelope}
 use Rattle.pl_event.specs.declared.envelopes.Lane.{Lane}
 use Rattle.pl_event.specs.Hops.{same_lane}
@@ -9,7 +10,6 @@ use Rattle.pl_queue.specs.declared.views.TakeCount.{TakeCount}
 use Rattle.pl_queue.specs.declared.views.TakerView.{TakerView}
 use Rattle.pl_queue.specs.Rule.{Each}
 use Rattle.pl_queue.specs.Views.{take_count, next_of, set_take_count, fresh_take_counts, fresh_takes, after_take}
-use Rattle.pl_queue.proofs.Lists.{none-some, some-equal}
 use Rattle.pl_post.specs.Posts.{taken_on, IsTakeCounted}
 
 fresh-none : (lanes : List Lane) → 0 ≡ taken_on (fresh_take_counts lanes)
@@ -31,7 +31,7 @@ taken_on-set : (l : Lane) (n : ℕ) (cs : List TakeCount) → next_of l cs ≡ S
 taken_on-set l n [] h = absurd (none-some n h)
 taken_on-set l n (c ∷ cs) h = ⊎_elim
     (λ (t : same_lane l c.lane ≡ true).
-    let is : c.next ≡ n = some-equal c.next n (sym (cond-true (same_lane l c.lane) _ _ t) ∙ h) in
+    let is : c.next ≡ n = same_Some c.next n (sym (cond-true (same_lane l c.lane) _ _ t) ∙ h) in
     ap taken_on (cond-true (same_lane l c.lane) (take_count c.lane (n + 1) ∷ cs) (c ∷ set_take_count l (n + 1) cs) t) ∙ omega (arith, is))
     (λ (t : same_lane l c.lane ≡ false).
     let rest = taken_on-set l n cs (sym (cond-false (same_lane l c.lane) _ _ t) ∙ h) in

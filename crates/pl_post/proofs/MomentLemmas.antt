@@ -1,30 +1,33 @@
 -- What holds of a post at every moment, and once it is closed.
-use Rattle.std.proofs.Common.{◌≡◌, ◌≤◌, ◌<◌, ◌+◌, ℕ, zero, suc, Bool, true, false, cond, List, [], ◌∷◌, ◌++◌, map, Option, Some, None, slice_index, refl, ap, sym, subst, ◌∙◌, ⊎_elim, arith}
+use Rattle.std.proofs.Common.{◌≡◌, ◌≤◌, ◌+◌, ℕ, suc, Bool, true, false, List, [], ◌∷◌, ◌++◌, map, Option, Some, None, slice_index, refl, ap, sym, subst, ◌∙◌, ⊎_elim, arith}
 use mathlib.Core.Option.{some}
 use lib.ListN.{get_elem?}
 use Rattle.std.proofs.lemmas.Bool.{cond-true, cond-false, cases_Bool}
 use Rattle.std.proofs.lemmas.List.{map-append}
+use Rattle.std.proofs.lemmas.Option.{none-some}
 use Rattle.pl_event.specs.declared.envelopes.Envelope.{Envelope}
 use Rattle.pl_event.specs.declared.envelopes.Lane.{Lane}
 use Rattle.pl_event.specs.Hops.{same_lane}
 use Rattle.pl_event.specs.Worlds.{World}
 use Rattle.pl_event.proofs.SameLanes.{same_lane-equal, same_lane-self, same_lane-flip}
+use Rattle.pl_event.proofs.Lists.{cons-none}
 use Rattle.pl_queue.specs.declared.views.PassView.{PassView}
 use Rattle.pl_queue.specs.declared.views.SendCount.{SendCount}
 use Rattle.pl_queue.specs.declared.views.SenderView.{SenderView}
 use Rattle.pl_queue.specs.declared.views.TakeCount.{TakeCount}
 use Rattle.pl_queue.specs.Left.{Apart, send_counts_of}
 use Rattle.pl_queue.specs.Room.{IsCounted, sent_on, all_pushes}
-use Rattle.pl_queue.specs.Rule.{Keeps, IsSeat, IsRun, Each, numbers_of}
+use Rattle.pl_queue.specs.Rule.{PassStands, IsRun, Each, numbers_of}
 use Rattle.pl_queue.specs.Views.{sent_of, next_of, lanes_of_counts, lanes_of_send_counts}
-use Rattle.pl_queue.proofs.Lists.{none-some, some-equal, IsRun-le}
+use Rattle.pl_queue.proofs.Lists.{IsRun-le, Each-weaker}
+use Rattle.pl_queue.proofs.RoomLemmas.{sent_on-append}
 use Rattle.pl_words.specs.declared.admission_steps.AdmissionNotes.{AdmissionNotes}
 use Rattle.pl_words.specs.declared.status.Status.{Status}
 use Rattle.pl_words.specs.declared.status.Status.TheVariants.{Closed}
-use Rattle.pl_words.specs.AdmissionRule.{IsAdmission, total, given, tried}
+use Rattle.pl_words.specs.AdmissionRule.{total, run_given, tried}
 use Rattle.pl_words.specs.Phases.{phase_in}
 use Rattle.pl_words.proofs.AdmissionMoves.{finds}
-use Rattle.pl_post.specs.Posts.{taken_on, IsTakeCounted}
+use Rattle.pl_post.specs.Posts.{taken_on}
 use Rattle.pl_post.specs.Moments.{Side, Moment, IsPost, TakenOrQueued, AllTaken}
 
 -- ---- lists
@@ -36,14 +39,6 @@ each-append P (x ∷ xs) ys a b = (a.0, each-append P xs ys a.1 b)
 each-front : {A : Type 0} (P : A → Type 0) (xs ys : List A) → Each P (xs ++ ys) → Each P xs
 each-front P [] ys a = tt
 each-front P (x ∷ xs) ys a = (a.0, each-front P xs ys a.1)
-
-each-back : {A : Type 0} (P : A → Type 0) (xs ys : List A) → Each P (xs ++ ys) → Each P ys
-each-back P [] ys a = a
-each-back P (x ∷ xs) ys a = each-back P xs ys a.1
-
-each-weaker : {A : Type 0} (P Q : A → Type 0) → ((x : A) → P x → Q x) → (xs : List A) → Each P xs → Each Q xs
-each-weaker P Q f [] a = tt
-each-weaker P Q f (x ∷ xs) a = (f x a.0, each-weaker P Q f xs a.1)
 
 apart-front : (xs ys : List Lane) → Apart (xs ++ ys) → Apart xs
 apart-front [] ys a = tt
@@ -120,14 +115,11 @@ run-none : (from : ℕ) (ns : List ℕ) (to : ℕ) → IsRun from ns to → from
 run-none from [] to run same = refl
 run-none from (n ∷ ns) to run same = absurd (omega (arith, IsRun-le (from + 1) ns to run.1, same))
 
-cons-nil : {A : Type 0} (x : A) (xs : List A) → x ∷ xs ≡ [] → ⊥
-cons-nil x xs e = cc
-
 -- where no lane has a number there is no envelope
 no-envelope : (items : List Envelope) → ((l : Lane) → numbers_of l items ≡ []) → items ≡ []
 no-envelope [] none = refl
 no-envelope (x ∷ xs) none =
-    absurd (cons-nil x.number (numbers_of x.lane xs) (sym (cond-true (same_lane x.lane x.lane) (x.number ∷ numbers_of x.lane xs) (numbers_of x.lane xs) (same_lane-self x.lane)) ∙ none x.lane))
+    absurd (cons-none x.number (numbers_of x.lane xs) (sym (cond-true (same_lane x.lane x.lane) (x.number ∷ numbers_of x.lane xs) (numbers_of x.lane xs) (same_lane-self x.lane)) ∙ none x.lane))
 
 -- ---- the seats
 
@@ -154,12 +146,8 @@ sides-next f (s ∷ ss) knows apart =
     let rest = send_counts_of (sent_by ss) in
     let lanes = subst Apart (map-append (λ (c : SendCount). c.lane) mine rest) apart in
     each-append (λ (c : SendCount). f c.lane ≡ c.next) mine rest
-    (each-weaker (λ (c : SendCount). sent_of c.lane mine ≡ Some (c.next, c.ended)) (λ (c : SendCount). f c.lane ≡ c.next) (λ c is. knows.0 c.lane c.next c.ended is) mine (found-sends mine (apart-front (lanes_of_send_counts mine) (lanes_of_send_counts rest) lanes)))
+    (Each-weaker (λ (c : SendCount). sent_of c.lane mine ≡ Some (c.next, c.ended)) (λ (c : SendCount). f c.lane ≡ c.next) (λ c is. knows.0 c.lane c.next c.ended is) mine (found-sends mine (apart-front (lanes_of_send_counts mine) (lanes_of_send_counts rest) lanes)))
     (sides-next f ss knows.1 (apart-back (lanes_of_send_counts mine) (lanes_of_send_counts rest) lanes))
-
-sent_on-append : (cs ds : List SendCount) → sent_on (cs ++ ds) ≡ sent_on cs + sent_on ds
-sent_on-append [] ds = omega arith
-sent_on-append (c ∷ cs) ds = omega (arith, sent_on-append cs ds)
 
 -- all pushes are what was sent on all lanes
 pushes-sent : (sides : List Side) → Each (λ s. IsCounted s.pass.sends × (s.pass.sends.pushes ≤ s.notes.kept)) sides → all_pushes (sent_by sides) ≡ sent_on (send_counts_of (sent_by sides))
@@ -167,12 +155,12 @@ pushes-sent [] all = refl
 pushes-sent (s ∷ ss) all = omega (arith, all.0.0.pushes, pushes-sent ss all.1, sent_on-append s.pass.sends.send_counts (send_counts_of (sent_by ss)))
 
 -- and no more than was kept
-pushes-kept : (sides : List Side) → Each (λ s. IsCounted s.pass.sends × (s.pass.sends.pushes ≤ s.notes.kept)) sides → all_pushes (sent_by sides) ≤ total given (notes sides)
+pushes-kept : (sides : List Side) → Each (λ s. IsCounted s.pass.sends × (s.pass.sends.pushes ≤ s.notes.kept)) sides → all_pushes (sent_by sides) ≤ total run_given (notes sides)
 pushes-kept [] all = omega arith
 pushes-kept (s ∷ ss) all = omega (arith, all.0.1, pushes-kept ss all.1)
 
 -- where no more was kept than pushed, none is late
-pushes-same : (sides : List Side) → Each (λ s. IsCounted s.pass.sends × (s.pass.sends.pushes ≤ s.notes.kept)) sides → total given (notes sides) ≤ all_pushes (sent_by sides)
+pushes-same : (sides : List Side) → Each (λ s. IsCounted s.pass.sends × (s.pass.sends.pushes ≤ s.notes.kept)) sides → total run_given (notes sides) ≤ all_pushes (sent_by sides)
     → Each (λ s. (s.notes.kept ≡ s.pass.sends.pushes) × (s.notes.late ≡ 0)) sides
 pushes-same [] all most = tt
 pushes-same (s ∷ ss) all most =
@@ -182,7 +170,7 @@ pushes-same (s ∷ ss) all most =
 -- ---- a post
 
 module _ (world : World) (senders : ℕ) (m : Moment) (p : IsPost world senders m) where
-  owner-knows : IsSeat p.queue.owner p.queue.next p.queue.ended p.queue.taker p.queue.taken 0 m.owner.pass
+  owner-knows : PassStands p.queue.owner p.queue.next p.queue.ended p.queue.taker p.queue.taken 0 m.owner.pass
   owner-knows = p.queue.seats 0 m.owner.pass refl
 
   seats-know : Each (λ s. (l : Lane) (n : ℕ) (e : Bool) → sent_of l s.pass.sends.send_counts ≡ Some (n, e) → p.queue.next l ≡ n) m.seats
@@ -191,7 +179,7 @@ module _ (world : World) (senders : ℕ) (m : Moment) (p : IsPost world senders 
 
   -- what was sent is what was taken, and then what is queued
   pub in-turn : Each (λ s. TakenOrQueued m.items m.owner.pass.takes s.pass.sends) m.seats
-  in-turn = each-weaker (λ s. (l : Lane) (n : ℕ) (e : Bool) → sent_of l s.pass.sends.send_counts ≡ Some (n, e) → p.queue.next l ≡ n) (λ s. TakenOrQueued m.items m.owner.pass.takes s.pass.sends)
+  in-turn = Each-weaker (λ s. (l : Lane) (n : ℕ) (e : Bool) → sent_of l s.pass.sends.send_counts ≡ Some (n, e) → p.queue.next l ≡ n) (λ s. TakenOrQueued m.items m.owner.pass.takes s.pass.sends)
       (λ s knows l sent taken ended is there.
       subst (λ (k : ℕ × ℕ). IsRun k.0 (numbers_of l m.items) k.1) (λ i. (owner-knows.known p.takes l taken there i, knows l sent ended is i)) (p.queue.in_turn l))
       m.seats seats-know
@@ -211,7 +199,7 @@ module _ (world : World) (senders : ℕ) (m : Moment) (p : IsPost world senders 
       let cs = m.owner.pass.takes.counts in
       p.taken.pops
       ∙ takes-sum p.queue.taken cs
-      (each-weaker (λ (c : TakeCount). next_of c.lane cs ≡ Some c.next) (λ (c : TakeCount). p.queue.taken c.lane ≡ c.next) (λ c is. owner-knows.known p.takes c.lane c.next is) cs (found-takes cs p.apart))
+      (Each-weaker (λ (c : TakeCount). next_of c.lane cs ≡ Some c.next) (λ (c : TakeCount). p.queue.taken c.lane ≡ c.next) (λ c is. owner-knows.known p.takes c.lane c.next is) cs (found-takes cs p.apart))
 
   phase-is : m.owner.notes.phase ≡ p.word.phase
   phase-is = ((p.word.each 0 m.owner.notes refl).owns p.owns).1
@@ -220,7 +208,7 @@ module _ (world : World) (senders : ℕ) (m : Moment) (p : IsPost world senders 
   run-is = ((p.word.each 0 m.owner.notes refl).owns p.owns).2
 
   module _ (closed : m.owner.notes.phase ≡ Closed) where
-    all-kept : given m.owner.notes + total given (notes m.seats) ≡ m.owner.notes.run
+    all-kept : run_given m.owner.notes + total run_given (notes m.seats) ≡ m.owner.notes.run
     all-kept = p.word.closed (sym phase-is ∙ closed) ∙ sym run-is
 
     none-less : sum_of p.queue.taken (lanes_of_counts m.owner.pass.takes.counts) ≤ sum_of p.queue.next (lanes_of_counts m.owner.pass.takes.counts)

@@ -20,14 +20,16 @@ pub record Side : Type 0 where
   pub pass : PassView
   pub notes : AdmissionNotes
 
+-- a post at one moment
 pub record Moment : Type 0 where
   pub items : List Envelope
   pub words : List ℕ
   pub owner : Side
   pub seats : List Side
 
--- At every moment the queue keeps its rule, and the word its own. The owner has all lanes of the seats, and closed with no
--- more than it has taken. A seat has kept an admission for each envelope that it pushed, and, within a send, for one more.
+-- The rule of a post: at every moment the queue keeps its rule, and the word its own. The owner has all lanes of the
+-- seats, and closed with no more than it has taken. A seat has kept an admission for each envelope that it pushed,
+-- and, within a send, for one more.
 pub record IsPost (world : World) (senders : ℕ) (m : Moment) : Type 0 where
   pub queue : Keeps world m.items (m.owner.pass ∷ map (λ s. s.pass) m.seats)
   pub word : IsAdmission senders m.words (m.owner.notes ∷ map (λ s. s.notes) m.seats)
@@ -39,12 +41,13 @@ pub record IsPost (world : World) (senders : ℕ) (m : Moment) : Type 0 where
   pub run : m.owner.notes.phase ≡ Closed → m.owner.notes.run ≤ m.owner.pass.takes.pops
   pub sent : Each (λ s. IsCounted s.pass.sends × (s.pass.sends.pushes ≤ s.notes.kept)) m.seats
 
--- Of each lane of a sender's, what was sent is what was taken, and then what is queued, in order.
+-- What a sender sent was taken, or is queued, in order. Of each of its lanes, what was sent is what was taken, and
+-- then what is queued.
 abbrev pub TakenOrQueued : List Envelope → TakerView → SenderView → Type 0
 TakenOrQueued items takes sends =
     (l : Lane) (sent taken : ℕ) (ended : Bool) → sent_of l sends.send_counts ≡ Some (sent, ended) → next_of l takes.counts ≡ Some taken → IsRun taken (numbers_of l items) sent
 
--- Of each lane of a seat's, what was sent was taken, and for nothing else is there an admission.
+-- All that a seat sent was taken. So it is of each of its lanes, and for nothing else is there an admission.
 pub record AllTaken (takes : TakerView) (s : Side) : Type 0 where
   pub taken : (l : Lane) (sent : ℕ) (ended : Bool) → sent_of l s.pass.sends.send_counts ≡ Some (sent, ended) → next_of l takes.counts ≡ Some sent
   pub kept : s.notes.kept ≡ s.pass.sends.pushes

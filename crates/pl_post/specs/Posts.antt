@@ -16,17 +16,18 @@ use Rattle.pl_words.specs.Phases.{rank}
 use Rattle.pl_post.specs.declared.posts.Unsent.{Unsent}
 use Rattle.pl_post.specs.declared.posts.Unsent.TheVariants as unsent
 
--- its mailbox, and the name of its admission
+-- a post: its mailbox, and the name of its admission
 pub record PostView (M : Type 0) : Type 0 where
   pub mailbox : M
   pub name : Name
 
--- a sender of the mailbox, and a seat of the admission
+-- a seat: the mailbox's sender, and the admission's seat
 pub record PostSeatView (S : Type 0) : Type 0 where
   pub sender : S
   pub seat : SendSeatView
 
--- the taker of the mailbox, the owner's seat of the admission, and how many envelopes were taken
+-- The owner of a post. It has the taker of the mailbox, the owner's seat of the admission, and how many envelopes
+-- were taken.
 pub record PostOwnerView (T : Type 0) : Type 0 where
   pub taker : T
   pub owner : OwnerSeatView
@@ -46,8 +47,8 @@ module _ {M T : Type 0} (is_taker : M → T → Type 0) where
 
 -- ---- what holds between two calls
 
--- A seat has kept an admission for each envelope that it pushed, and for nothing else.
-pub record IsSeat (sends : SenderView) (seat : SendSeatView) : Type 0 where
+-- A seat has kept an admission for each envelope pushed. It has none for anything else.
+pub record IsPostSeat (sends : SenderView) (seat : SendSeatView) : Type 0 where
   pub kept : seat.kept ≡ sends.pushes
   pub counted : IsCounted sends
 
@@ -62,7 +63,7 @@ pub record IsTakeCounted (t : TakerView) : Type 0 where
   pub small : Each (λ c. c.next ≤ 2 ^ 32) t.counts
   pub few : length t.counts ≤ MAX_LANES
 
--- The owner counts what it takes. It closed with no more than that.
+-- The owner counts what it takes, and closed with no more than that.
 pub record IsOwner (takes : TakerView) (owner : OwnerSeatView) (taken : ℕ) : Type 0 where
   pub count : taken ≡ takes.pops
   pub counted : IsTakeCounted takes
@@ -79,12 +80,14 @@ pub record GivesUp (s t : SendSeatView) : Type 0 where
   pub later : rank between.seen ≤ rank t.seen
   pub kept : t.kept ≡ s.kept
 
+-- the envelope that comes back
 abbrev pub back_of : Unsent → Envelope
 back_of (unsent.Full x) = x
 back_of (unsent.Closed x) = x
 back_of (unsent.Spent x) = x
 
--- Why nothing was sent by a sender that has sent this: the queue was full, and the admission was given up; or there was none.
+-- Why nothing was sent: the queue was full, or there was no admission. The sender has sent this before. Where the
+-- queue was full, the admission was given up.
 abbrev pub Unsends : World → ℕ → SenderView → SendSeatView → Unsent → SendSeatView → Type 0
 Unsends world capacity sends s (unsent.Full x) t = GivesUp s t × WasOnce capacity (SenderSees world sends)
 Unsends world capacity sends s (unsent.Closed x) t = Refuses refused.Closed s t

@@ -3,7 +3,7 @@
 ghost use Rattle.std.specs.Prelude.{◌≡◌, ◌≢◌, ◌+◌, ◌<◌, ◌^◌, false, Some, None, Err, map, vec_len, unwrap_or, IfOk, IfErr, MatchResult, MatchOption};
 ghost use Rattle.pl_event.specs.Worlds.{FitsWorld};
 ghost use Rattle.pl_queue.specs.declared.mailbox.OpenRefusal.TheVariants.{Memory};
-ghost use Rattle.pl_queue.specs.Left.{Apart, all_lanes};
+ghost use Rattle.pl_queue.specs.Left.{Apart, lanes_of_senders};
 ghost use Rattle.pl_queue.specs.Limits.{opening_fault};
 ghost use Rattle.pl_queue.specs.Rule.{TakerSees, WasOnce, Each};
 ghost use Rattle.pl_queue.specs.Views.{sent_of, next_of, after_offer, after_take, fresh_sends, fresh_takes};
@@ -12,7 +12,7 @@ ghost use Rattle.pl_words.specs.declared.status.Status.TheVariants.{Closed};
 ghost use Rattle.pl_words.specs.Admissions.{Admits, Closes, StaysOpen, new_send_seat, new_owner_seat};
 ghost use Rattle.pl_words.specs.Phases.{begun};
 ghost use Rattle.pl_post.specs.declared.posts.Unsent.TheVariants as unsent;
-ghost use Rattle.pl_post.specs.Posts.{IsSeat, IsSeatOf, IsOwnerOf, Unsends, back_of};
+ghost use Rattle.pl_post.specs.Posts.{IsPostSeat, IsSeatOf, IsOwnerOf, Unsends, back_of};
 
 use crate::opening::paired;
 use pl_event::{Envelope, Lane, Named};
@@ -52,13 +52,13 @@ impl<W: Named, M: Mailbox<W>> Model for PostSeat<W, M>
 where
     M::Sender: Drop,
 {
-    ghost use Rattle.pl_post.specs.Posts.{PostSeatView, IsSeat};
+    ghost use Rattle.pl_post.specs.Posts.{PostSeatView, IsPostSeat};
 
     ghost Value = { PostSeatView M.Sender };
 
     ghost view = { λ s. record { sender = s.sender; seat = s.seat } };
 
-    ghost invariant = { λ s. IsSeat (M.sends_of s.sender) s.seat };
+    ghost invariant = { λ s. IsPostSeat (M.sends_of s.sender) s.seat };
 }
 
 impl<W: Named, M: Mailbox<W>> PostSeat<W, M>
@@ -67,7 +67,7 @@ where
 {
     /// A seat that has kept an admission for each envelope that its sender has pushed.
     pub(crate) fn new(sender: M::Sender, seat: SendSeat) -> Self
-        requires { IsSeat (M.sends_of sender) seat }
+        requires { IsPostSeat (M.sends_of sender) seat }
         ensures { result ≡ record { sender = sender; seat = seat } }
     {
         PostSeat { sender, seat }
@@ -126,12 +126,12 @@ where
         capacity: usize,
     ) -> Result<(Self, Vec<PostSeat<W, M>>, PostOwner<W, M>), OpenRefusal>
         requires some { 0 < vec_len lanes }
-        requires apart { Apart (all_lanes (map (λ v. v.items) lanes.items)) }
+        requires apart { Apart (lanes_of_senders (map (λ v. v.items) lanes.items)) }
         ensures refused { IfErr result (λ refusal. refusal ≡ unwrap_or (opening_fault (map (λ v. v.items) lanes.items) capacity) Memory) }
         ensures opened { IfOk result (λ r. (opening_fault (map (λ v. v.items) lanes.items) capacity ≡ None) × (M.capacity_of r.0.mailbox ≡ capacity)) }
         ensures seats { IfOk result (λ r. Each (λ s. IsSeatOf M.is_sender r.0 s × (s.seat ≡ new_send_seat r.0.name s.seat.number)) r.1.items) }
         ensures sends { IfOk result (λ r. map (λ s. M.sends_of s.sender) r.1.items ≡ map (λ v. fresh_sends v.items) lanes.items) }
-        ensures owner { IfOk result (λ r. IsOwnerOf M.is_taker r.0 r.2 × (r.2.owner ≡ new_owner_seat r.0.name) × (r.2.taken ≡ 0) × (M.takes_of r.2.taker ≡ fresh_takes (all_lanes (map (λ v. v.items) lanes.items)))) }
+        ensures owner { IfOk result (λ r. IsOwnerOf M.is_taker r.0 r.2 × (r.2.owner ≡ new_owner_seat r.0.name) × (r.2.taken ≡ 0) × (M.takes_of r.2.taker ≡ fresh_takes (lanes_of_senders (map (λ v. v.items) lanes.items)))) }
     {
         let (mailbox, senders, taker) = M::open(alloc, lanes, capacity)?;
         let (admission, seats, owner) = Admission::new(alloc, senders.len() as u16)?;

@@ -4,21 +4,16 @@ use Rattle.std.proofs.lemmas.List.{length-append, map_push}
 use Rattle.pl_event.specs.declared.envelopes.Lane.{Lane}
 use Rattle.pl_queue.specs.declared.views.SenderView.{SenderView}
 use Rattle.pl_event.specs.Hops.{same_lane, data_lane}
-use Rattle.pl_queue.specs.Left.{Apart, all_lanes}
+use Rattle.pl_queue.specs.Left.{Apart, lanes_of_senders}
 use Rattle.pl_queue.specs.Rule.{Each}
 use Rattle.pl_queue.specs.Views.{fresh_sends}
 use Rattle.std.proofs.lemmas.Bool.{cond-false}
 use Rattle.std.proofs.Common.{Some}
 use Rattle.pl_event.specs.Worlds.{content_in, content_of}
+use Rattle.pl_event.proofs.Lists.{head-is, tail-is}
 use Rattle.pl_queue_tests.specs.Relays.{lane_events}
 use Rattle.pl_queue_tests.proofs.RelayLemmas.{fresh, in_first, in_second}
 use Rattle.pl_post_tests.specs.Feeding.{IsNext, three_lanes}
-
-head-is : {A : Type 0} (x y : A) (xs ys : List A) → x ∷ xs ≡ y ∷ ys → x ≡ y
-head-is x y xs ys e = cc
-
-tail-is : {A : Type 0} (x y : A) (xs ys : List A) → x ∷ xs ≡ y ∷ ys → xs ≡ ys
-tail-is x y xs ys e = cc
 
 last-same : {A : Type 0} (xs ys : List A) (x y : A) → xs ++ x ∷ [] ≡ ys ++ y ∷ [] → (xs ≡ ys) × (x ≡ y)
 last-same [] [] x y e = (refl, head-is x y [] [] e)
@@ -62,12 +57,12 @@ all-apart : Apart (data_lane 0 0 ∷ data_lane 1 0 ∷ data_lane 2 0 ∷ [])
 unfolding same_lane
 all-apart = ((refl, (refl, tt)), ((refl, tt), (tt, tt)))
 
-pub three-apart : {V : Type 0} (h : V → List Lane) (lanes : List V) (a b c : V) → lanes ≡ a ∷ b ∷ c ∷ [] → h a ≡ data_lane 0 0 ∷ [] → h b ≡ data_lane 1 0 ∷ [] → h c ≡ data_lane 2 0 ∷ [] → Apart (all_lanes (map h lanes))
+pub three-apart : {V : Type 0} (h : V → List Lane) (lanes : List V) (a b c : V) → lanes ≡ a ∷ b ∷ c ∷ [] → h a ≡ data_lane 0 0 ∷ [] → h b ≡ data_lane 1 0 ∷ [] → h c ≡ data_lane 2 0 ∷ [] → Apart (lanes_of_senders (map h lanes))
 three-apart h lanes a b c made one two three =
-    subst Apart (sym (ap (λ vs. all_lanes (map h vs)) made ∙ (λ i. one i ++ (two i ++ (three i ++ []))))) all-apart
+    subst Apart (sym (ap (λ vs. lanes_of_senders (map h vs)) made ∙ (λ i. one i ++ (two i ++ (three i ++ []))))) all-apart
 
-pub one-apart : {V : Type 0} (h : V → List Lane) (lanes : List V) (a : V) (l : Lane) → lanes ≡ a ∷ [] → h a ≡ l ∷ [] → Apart (all_lanes (map h lanes))
-one-apart h lanes a l made one = subst Apart (sym (ap (λ vs. all_lanes (map h vs)) made ∙ (λ i. one i ++ []))) (tt, tt)
+pub one-apart : {V : Type 0} (h : V → List Lane) (lanes : List V) (a : V) (l : Lane) → lanes ≡ a ∷ [] → h a ≡ l ∷ [] → Apart (lanes_of_senders (map h lanes))
+one-apart h lanes a l made one = subst Apart (sym (ap (λ vs. lanes_of_senders (map h vs)) made ∙ (λ i. one i ++ []))) (tt, tt)
 
 -- what the three lanes carry
 

@@ -10,7 +10,7 @@ use Rattle.pl_event.specs.Worlds.{content_in}
 use Rattle.pl_event.proofs.SameLanes.{same_lane-equal, same_lane-self}
 use Rattle.pl_queue.specs.declared.views.SendCount.{SendCount}
 use Rattle.pl_queue.specs.declared.views.SenderView.{SenderView}
-use Rattle.pl_queue.specs.Left.{Apart, all_lanes}
+use Rattle.pl_queue.specs.Left.{Apart, lanes_of_senders}
 use Rattle.pl_queue.specs.Rule.{Each}
 use Rattle.pl_queue.specs.Views.{send_count, sent_of, set_send_count, fresh_send_counts, fresh_sends, after_offer}
 use Rattle.pl_queue_tests.specs.Relays.{event, lane_events}
@@ -34,8 +34,8 @@ apart : (c n : ℕ) → Apart (lanes_from c n)
 apart c zero = tt
 apart c (suc n) = (later c (c + 1) n (omega arith), apart (c + 1) n)
 
-pub four-apart : (lists : List (List Lane)) → lists ≡ lists_from 0 4 → Apart (all_lanes lists)
-four-apart lists is = subst (λ ls. Apart (all_lanes ls)) (sym is) (apart 0 256)
+pub four-apart : (lists : List (List Lane)) → lists ≡ lists_from 0 4 → Apart (lanes_of_senders lists)
+four-apart lists is = subst (λ ls. Apart (lanes_of_senders ls)) (sym is) (apart 0 256)
 
 -- what is found of a lane, where each of these has the same
 found : {A : Type 0} (a : A) (get : Lane → List Lane → Option A) → ((l m : Lane) (ms : List Lane) → get l (m ∷ ms) ≡ cond (same_lane l m) (Some a) (get l ms))

@@ -2,6 +2,7 @@
 use Rattle.std.specs.Global.{Vec}
 use Rattle.std.proofs.Common.{◌≡◌, ◌+◌, ℕ, Bool, true, false, cond, List, [], ◌∷◌, ◌++◌, length, map, Some, refl, ap, sym, ◌∙◌, subst, ⊎_elim, arith}
 use Rattle.std.proofs.lemmas.Bool.{cond-true, cond-false, cases_Bool}
+use Rattle.std.proofs.lemmas.Option.{same_Some, none-some}
 use Rattle.pl_event.specs.declared.envelopes.Lane.{Lane}
 use Rattle.pl_event.specs.declared.envelopes.Envelope.{Envelope}
 use Rattle.pl_event.specs.Hops.{same_lane}
@@ -11,11 +12,11 @@ use Rattle.pl_queue.specs.declared.views.SendCount.{SendCount}
 use Rattle.pl_queue.specs.declared.views.TakeCount.{TakeCount}
 use Rattle.pl_queue.specs.declared.views.PassView.{PassView}
 use Rattle.pl_queue.specs.Views.{send_count, set_send_count, lanes_of_send_counts, has_lane, take_count, sent_of, next_of, set_take_count, lanes_of_counts, taken as after}
-use Rattle.pl_queue.specs.Rule.{IsRun, Each, IsNext, BothSee}
+use Rattle.pl_queue.specs.Rule.{IsRun, Each, IsTakersNext, BothSee}
 use Rattle.pl_queue.specs.Left.{lanes_left, LaneLeftView, held, put_held, taken_count, handed_count, unheld, IsLeft, IsEntry, IsLeftSoFar, IsEntrySoFar, Apart, AreAll, IsEmptying, IsAllLeft}
 use Rattle.pl_queue.specs.Positions.{ArePositions}
 use Rattle.pl_queue.proofs.PositionLemmas.{lanes_left-handed, lanes_left-taken, next_of-has}
-use Rattle.pl_queue.proofs.Lists.{IsRun-snoc, Each-snoc, Each-weaker, map-append, none-some, some-equal}
+use Rattle.pl_queue.proofs.Lists.{IsRun-snoc, Each-snoc, Each-weaker, map-append}
 
 pub Each-with : {A : Type 0} (P Q R : A → Type 0) → ((x : A) → P x → Q x → R x) → (xs : List A) → Each P xs → Each Q xs → Each R xs
 Each-with P Q R f [] p q = tt
@@ -78,7 +79,7 @@ module _ (world : World) (send_counts : List SendCount) where
   put-entries x [] n p h = tt
   put-entries x (e ∷ es) n p h = ⊎_elim
       (λ (t : same_lane x.lane e.lane ≡ true).
-      let is : e.handed ≡ x.number = some-equal e.handed x.number (sym (cond-true (same_lane x.lane e.lane) (Some e.handed) (next_of x.lane (map handed_count es)) t) ∙ n) in
+      let is : e.handed ≡ x.number = same_Some e.handed x.number (sym (cond-true (same_lane x.lane e.lane) (Some e.handed) (next_of x.lane (map handed_count es)) t) ∙ n) in
       let new : IsEntrySoFar world send_counts (held e.lane (x.number + 1) e.taken (e.left ++ x ∷ [])) = record {
         run = subst (λ ns. IsRun e.taken ns (x.number + 1)) (sym (map-append (λ (y : Envelope). y.number) e.left (x ∷ [])))
             (subst (λ k. IsRun e.taken (map (λ (y : Envelope). y.number) e.left ++ k ∷ []) (k + 1)) is (IsRun-snoc e.taken (map (λ (y : Envelope). y.number) e.left) e.handed h.0.run));
@@ -90,7 +91,7 @@ module _ (world : World) (send_counts : List SendCount) where
       (h.0, put-entries x es (sym (cond-false (same_lane x.lane e.lane) (Some e.handed) (next_of x.lane (map handed_count es)) t) ∙ n) p h.1))
       (cases_Bool (same_lane x.lane e.lane))
 
-  pub emptying-more : (first : List TakeCount) (v : PassView) (hs : List LaneLeftView) (x : Envelope) → IsEmptying world send_counts first v hs → IsNext world v x
+  pub emptying-more : (first : List TakeCount) (v : PassView) (hs : List LaneLeftView) (x : Envelope) → IsEmptying world send_counts first v hs → IsTakersNext world v x
       → IsEmptying world send_counts first (after v x) (put_held x hs)
   emptying-more first v hs x h n = record {
     taker = h.taker;
@@ -107,7 +108,7 @@ module _ (world : World) (send_counts : List SendCount) where
   }
 
   -- the front has an entry, at the position of its lane
-  pub emptying-there : (first : List TakeCount) (v : PassView) (hs : List LaneLeftView) (x : Envelope) → IsEmptying world send_counts first v hs → IsNext world v x
+  pub emptying-there : (first : List TakeCount) (v : PassView) (hs : List LaneLeftView) (x : Envelope) → IsEmptying world send_counts first v hs → IsTakersNext world v x
       → has_lane x.lane (lanes_left hs) ≡ true
   emptying-there first v hs x h n =
       ap (λ ls. has_lane x.lane ls) (lanes_left-handed hs) ∙ next_of-has x.lane (map handed_count hs) x.number (ap (λ ms. next_of x.lane ms) h.handed ∙ n.number)

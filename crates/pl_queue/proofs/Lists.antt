@@ -2,6 +2,7 @@
 use Rattle.std.proofs.Common.{◌≡◌, ◌⊎◌, ◌+◌, ◌<◌, ◌≤◌, ℕ, Bool, true, false, cond, List, [], ◌∷◌, ◌++◌, map, Some, None, zero, suc, length, get_or, take, drop, refl, ap, sym, ◌∙◌, subst, inl, inr, ⊎_elim, arith, add-one, append_assoc, append-nil}
 use Rattle.std.proofs.lemmas.Bool.{cond-true, cond-false, cases_Bool, both_ways, false≢true}
 use Rattle.std.proofs.lemmas.List.{map_more}
+use Rattle.std.proofs.lemmas.Option.{same_Some, none-some}
 use Rattle.pl_event.specs.declared.envelopes.Lane.{Lane}
 use Rattle.pl_event.specs.declared.envelopes.Envelope.{Envelope}
 use Rattle.pl_event.specs.Hops.{same_lane}
@@ -10,7 +11,7 @@ use Rattle.pl_queue.specs.declared.views.SendCount.{SendCount}
 use Rattle.pl_queue.specs.declared.views.TakeCount.{TakeCount}
 use Rattle.pl_queue.specs.declared.views.SenderView.{SenderView}
 use Rattle.pl_queue.specs.Views.{send_count, take_count, sent_of, next_of, set_send_count, set_take_count, fresh_send_counts, fresh_take_counts, has_lane, lanes_of_counts}
-use Rattle.pl_queue.specs.Left.{all_lanes, send_counts_of, Apart}
+use Rattle.pl_queue.specs.Left.{lanes_of_senders, send_counts_of, Apart}
 use Rattle.pl_queue.specs.Rule.{numbers_of, IsRun, Each}
 
 -- f, but for the lane l
@@ -61,12 +62,6 @@ pub Each-weaker : {A : Type 0} (P Q : A → Type 0) → ((x : A) → P x → Q x
 Each-weaker P Q f [] h = tt
 Each-weaker P Q f (x ∷ xs) h = (f x h.0, Each-weaker P Q f xs h.1)
 
-pub some-equal : {A : Type 0} (a b : A) → Some a ≡ Some b → a ≡ b
-some-equal a b e = cc
-
-pub none-some : {A : Type 0} (a : A) → None ≡ Some a → ⊥
-none-some a e = cc
-
 -- what is found after a send_count was set: the lane's own, or what was there
 pub sent_of-set : (l m : Lane) (n : ℕ) (e : Bool) (ss : List SendCount) (k : ℕ) (f : Bool) → sent_of m (set_send_count l n e ss) ≡ Some (k, f)
     → ((same_lane m l ≡ true) × (n ≡ k) × (e ≡ f)) ⊎ ((same_lane m l ≡ false) × (sent_of m ss ≡ Some (k, f)))
@@ -78,7 +73,7 @@ sent_of-set l m n e (s ∷ ss) k f h = ⊎_elim
     ⊎_elim
     (λ (t : same_lane m s.lane ≡ true).
     let g = subst (λ b. cond b (Some (n, e)) (sent_of m ss) ≡ Some (k, f)) t h' in
-    let p = some-equal (n, e) (k, f) g in
+    let p = same_Some (n, e) (k, f) g in
     inl (subst (λ y. same_lane m y ≡ true) (sym same) t, ap (λ (q : ℕ × Bool). q.0) p, ap (λ (q : ℕ × Bool). q.1) p))
     (λ (t : same_lane m s.lane ≡ false).
     let g = subst (λ b. cond b (Some (n, e)) (sent_of m ss) ≡ Some (k, f)) t h' in
@@ -141,7 +136,7 @@ sent_of-fresh l [] k f h = absurd (none-some (k, f) h)
 sent_of-fresh l (m ∷ ms) k f h = ⊎_elim
     (λ (t : same_lane l m ≡ true).
     let g = subst (λ b. cond b (Some (0, false)) (sent_of l (fresh_send_counts ms)) ≡ Some (k, f)) t h in
-    let p = some-equal (0, false) (k, f) g in
+    let p = same_Some (0, false) (k, f) g in
     (cond-true (same_lane l m) true (has_lane l ms) t, ap (λ (q : ℕ × Bool). q.0) p, ap (λ (q : ℕ × Bool). q.1) p))
     (λ (t : same_lane l m ≡ false).
     let g = subst (λ b. cond b (Some (0, false)) (sent_of l (fresh_send_counts ms)) ≡ Some (k, f)) t h in
@@ -174,9 +169,9 @@ next_of-fresh l (m ∷ ms) = elim (same_lane l m) as (λ b. cond b (Some 0) (nex
   | false ↦ next_of-fresh l ms
 ]
 
-pub all_lanes-snoc : (lss : List (List Lane)) (ls : List Lane) → all_lanes (lss ++ ls ∷ []) ≡ all_lanes lss ++ ls
+pub all_lanes-snoc : (lss : List (List Lane)) (ls : List Lane) → lanes_of_senders (lss ++ ls ∷ []) ≡ lanes_of_senders lss ++ ls
 all_lanes-snoc [] ls = append-nil ls
-all_lanes-snoc (ms ∷ mss) ls = ap (λ k. ms ++ k) (all_lanes-snoc mss ls) ∙ sym (append_assoc ms (all_lanes mss) ls)
+all_lanes-snoc (ms ∷ mss) ls = ap (λ k. ms ++ k) (all_lanes-snoc mss ls) ∙ sym (append_assoc ms (lanes_of_senders mss) ls)
 
 pub map-append : {A B : Type 0} (f : A → B) (xs ys : List A) → map f (xs ++ ys) ≡ map f xs ++ map f ys
 map-append f [] ys = refl
@@ -196,8 +191,8 @@ pushed-more f start now xs i d h e =
     ap (λ k. k ++ f (get_or xs i d) ∷ []) e ∙ append_assoc start (map f (take i xs)) (f (get_or xs i d) ∷ []) ∙ ap (λ k. start ++ k) (sym (map_more f xs i d h))
 
 pub lanes-more : {A : Type 0} (f : A → List Lane) (xs : List A) (i : ℕ) (x : A) → i < length xs → x ≡ get_or xs i x
-    → all_lanes (map f (take (i + 1) xs)) ≡ all_lanes (map f (take i xs)) ++ f x
-lanes-more f xs i x h e = ap all_lanes (map-more f xs i x h e) ∙ all_lanes-snoc (map f (take i xs)) (f x)
+    → lanes_of_senders (map f (take (i + 1) xs)) ≡ lanes_of_senders (map f (take i xs)) ++ f x
+lanes-more f xs i x h e = ap lanes_of_senders (map-more f xs i x h e) ∙ all_lanes-snoc (map f (take i xs)) (f x)
 
 Each-later : (P : Lane → Type 0) (xs ys : List Lane) → Each P (xs ++ ys) → Each P ys
 Each-later P [] ys h = h
@@ -226,27 +221,27 @@ has-front l (x ∷ xs) ys h = ⊎_elim
     (cases_Bool (same_lane l x))
 
 pub lanes-split : {A : Type 0} (f : A → List Lane) (xs : List A) (i : ℕ) (x : A) → i < length xs → x ≡ get_or xs i x
-    → all_lanes (map f xs) ≡ all_lanes (map f (take i xs)) ++ (f x ++ all_lanes (map f (drop (suc i) xs)))
+    → lanes_of_senders (map f xs) ≡ lanes_of_senders (map f (take i xs)) ++ (f x ++ lanes_of_senders (map f (drop (suc i) xs)))
 lanes-split f [] i x h e = absurd (omega arith)
-lanes-split f (y ∷ ys) zero x h e = ap (λ k. f k ++ all_lanes (map f ys)) (sym e)
-lanes-split f (y ∷ ys) (suc i) x h e = ap (λ k. f y ++ k) (lanes-split f ys i x (omega arith) e) ∙ sym (append_assoc (f y) (all_lanes (map f (take i ys))) (f x ++ all_lanes (map f (drop (suc i) ys))))
+lanes-split f (y ∷ ys) zero x h e = ap (λ k. f k ++ lanes_of_senders (map f ys)) (sym e)
+lanes-split f (y ∷ ys) (suc i) x h e = ap (λ k. f y ++ k) (lanes-split f ys i x (omega arith) e) ∙ sym (append_assoc (f y) (lanes_of_senders (map f (take i ys))) (f x ++ lanes_of_senders (map f (drop (suc i) ys))))
 
 -- the lanes of a list were not among those of the lists before it
-pub lanes-new : {A : Type 0} (f : A → List Lane) (xs : List A) (i : ℕ) (x : A) → i < length xs → x ≡ get_or xs i x → Apart (all_lanes (map f xs))
-    → (l : Lane) → has_lane l (f x) ≡ true → next_of l (fresh_take_counts (all_lanes (map f (take i xs)))) ≡ None
+pub lanes-new : {A : Type 0} (f : A → List Lane) (xs : List A) (i : ℕ) (x : A) → i < length xs → x ≡ get_or xs i x → Apart (lanes_of_senders (map f xs))
+    → (l : Lane) → has_lane l (f x) ≡ true → next_of l (fresh_take_counts (lanes_of_senders (map f (take i xs)))) ≡ None
 lanes-new f xs i x h e a l k =
-    let before = all_lanes (map f (take i xs)) in
-    let rest = all_lanes (map f (drop (suc i) xs)) in
+    let before = lanes_of_senders (map f (take i xs)) in
+    let rest = lanes_of_senders (map f (drop (suc i) xs)) in
     let a' = subst Apart (lanes-split f xs i x h e) a in
     let not_in : has_lane l before ≡ false = ⊎_elim (λ (t : has_lane l before ≡ true). absurd (not_both l before (f x ++ rest) a' t (has-front l (f x) rest k)))
     (λ (t : has_lane l before ≡ false). t) (cases_Bool (has_lane l before)) in
     next_of-fresh l before ∙ cond-false (has_lane l before) (Some 0) None not_in
 
 pub counts-more : {A : Type 0} (f : A → List Lane) (xs : List A) (i : ℕ) (x : A) (own : List Lane) → i < length xs → x ≡ get_or xs i x → own ≡ f x
-    → fresh_take_counts (all_lanes (map f (take (i + 1) xs))) ≡ fresh_take_counts (all_lanes (map f (take i xs))) ++ fresh_take_counts own
+    → fresh_take_counts (lanes_of_senders (map f (take (i + 1) xs))) ≡ fresh_take_counts (lanes_of_senders (map f (take i xs))) ++ fresh_take_counts own
 counts-more f xs i x own h e o =
-    ap fresh_take_counts (lanes-more f xs i x h e) ∙ map-append (λ l. take_count l 0) (all_lanes (map f (take i xs))) (f x)
-    ∙ ap (λ ls. fresh_take_counts (all_lanes (map f (take i xs))) ++ fresh_take_counts ls) (sym o)
+    ap fresh_take_counts (lanes-more f xs i x h e) ∙ map-append (λ l. take_count l 0) (lanes_of_senders (map f (take i xs))) (f x)
+    ∙ ap (λ ls. fresh_take_counts (lanes_of_senders (map f (take i xs))) ++ fresh_take_counts ls) (sym o)
 
 pub get_or-any : {A : Type 0} (xs : List A) (i : ℕ) (d e : A) → i < length xs → get_or xs i d ≡ get_or xs i e
 get_or-any [] i d e h = absurd (omega arith)

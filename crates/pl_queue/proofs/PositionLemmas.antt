@@ -3,6 +3,7 @@ use Rattle.std.specs.Global.{Vec}
 use Rattle.std.proofs.Common.{◌≡◌, ◌≢◌, Some, ◌+◌, ◌<◌, ◌≤◌, ℕ, zero, suc, true, false, List, [], ◌∷◌, ◌++◌, map, take, length, get_or, set, refl, ap, sym, ◌∙◌, subst, ⊎_elim, arith, add-one}
 use Rattle.std.proofs.lemmas.List.{length_push}
 use Rattle.std.proofs.lemmas.Bool.{cond-true, cond-false, cases_Bool, both_ways, false≢true, cases_eq}
+use Rattle.std.proofs.lemmas.Option.{none-some}
 use Rattle.pl_event.specs.declared.envelopes.Envelope.{Envelope}
 use Rattle.pl_event.specs.declared.envelopes.Kind.{Kind}
 use Rattle.pl_event.specs.declared.envelopes.Kind.TheVariants.{Data, Flags}
@@ -15,7 +16,7 @@ use Rattle.pl_queue.specs.Left.{LaneLeftView, held, held_of, put_held, lanes_lef
 use Rattle.pl_queue.specs.Positions.{row_by, row_of, row_at, position_of, ArePositions}
 use Rattle.pl_queue.specs.Rule.{Each}
 use Rattle.pl_queue.specs.Views.{take_count, set_take_count, lanes_of_counts, has_lane, next_of}
-use Rattle.pl_queue.proofs.Lists.{none-some, get_or-any}
+use Rattle.pl_queue.proofs.Lists.{get_or-any}
 
 pub row_at-set : (rows : List (Vec ℕ)) (n : ℕ) (row : Vec ℕ) → n < length rows → row_at (set rows n row) n ≡ row.items
 row_at-set [] n row h = absurd (omega arith)

@@ -2,6 +2,7 @@
 use Rattle.std.proofs.Common.{◌≡◌, ◌≤◌, ◌<◌, ◌^◌, ◌+◌, ◌*◌, ◌++◌, ℕ, Bool, true, false, cond, List, [], ◌∷◌, Some, length, refl, ap, sym, ◌∙◌, ⊎_elim, arith}
 use Rattle.std.proofs.lemmas.Bool.{cond-true, cond-false, cases_Bool}
 use Rattle.std.proofs.lemmas.List.{length-append}
+use Rattle.std.proofs.lemmas.Option.{same_Some, none-some}
 use Rattle.pl_event.specs.declared.envelopes.Envelope.{Envelope}
 use Rattle.pl_event.specs.declared.envelopes.Lane.{Lane}
 use Rattle.pl_event.specs.Hops.{same_lane}
@@ -12,7 +13,6 @@ use Rattle.pl_queue.specs.Left.{send_counts_of}
 use Rattle.pl_queue.specs.Room.{sent_on, all_pushes, IsCounted}
 use Rattle.pl_queue.specs.Rule.{Each}
 use Rattle.pl_queue.specs.Views.{send_count, sent_of, set_send_count, fresh_sends, fresh_send_counts, after_offer}
-use Rattle.pl_queue.proofs.Lists.{none-some, some-equal}
 
 fresh-none : (lanes : List Lane) → 0 ≡ sent_on (fresh_send_counts lanes)
 fresh-none [] = refl
@@ -29,7 +29,7 @@ sent_on-set : (l : Lane) (n : ℕ) (e : Bool) (cs : List SendCount) → sent_of 
 sent_on-set l n e [] h = absurd (none-some (n, false) h)
 sent_on-set l n e (c ∷ cs) h = ⊎_elim
     (λ (t : same_lane l c.lane ≡ true).
-    let is : c.next ≡ n = ap (λ (q : ℕ × Bool). q.0) (some-equal (c.next, c.ended) (n, false) (sym (cond-true (same_lane l c.lane) _ _ t) ∙ h)) in
+    let is : c.next ≡ n = ap (λ (q : ℕ × Bool). q.0) (same_Some (c.next, c.ended) (n, false) (sym (cond-true (same_lane l c.lane) _ _ t) ∙ h)) in
     ap sent_on (cond-true (same_lane l c.lane) (send_count c.lane (n + 1) e ∷ cs) (c ∷ set_send_count l (n + 1) e cs) t) ∙ omega (arith, is))
     (λ (t : same_lane l c.lane ≡ false).
     let rest = sent_on-set l n e cs (sym (cond-false (same_lane l c.lane) _ _ t) ∙ h) in
@@ -50,7 +50,7 @@ counted-goes_on s x h is small = record {
   small = small-set x.lane x.number (closes x.item) s.send_counts small h.small;
 }
 
-sent_on-append : (cs ds : List SendCount) → sent_on (cs ++ ds) ≡ sent_on cs + sent_on ds
+pub sent_on-append : (cs ds : List SendCount) → sent_on (cs ++ ds) ≡ sent_on cs + sent_on ds
 sent_on-append [] ds = omega arith
 sent_on-append (c ∷ cs) ds = omega (arith, sent_on-append cs ds)
 

@@ -1,6 +1,7 @@
 -- Each kind of step keeps the queue rule.
 use Rattle.std.proofs.Common.{◌≡◌, ◌≢◌, ◌⊎◌, ◌+◌, ◌<◌, ◌^◌, ℕ, zero, suc, Bool, true, false, cond, eqb, List, [], ◌∷◌, ◌++◌, length, set, Option, Some, None, refl, ap, sym, ◌∙◌, subst, inl, inr, ⊎_elim, arith, true≢false}
 use Rattle.std.proofs.lemmas.Bool.{cond-true, cond-false, cases_Bool, both_ways, ne_eqb, eq-eqb}
+use Rattle.std.proofs.lemmas.Option.{same_Some, none-some}
 use mathlib.Core.Option.{some, some-ne-none}
 use lib.ListN.{get_elem?}
 use Rattle.crossbeam_queue.specs.Fifo.{Pushes, Pops, Forks, Merges, Learns}
@@ -11,9 +12,9 @@ use Rattle.pl_event.specs.Hops.{same_lane}
 use Rattle.pl_event.specs.Worlds.{World, FitsWorld, closes}
 use Rattle.pl_event.proofs.SameLanes.{same_lane-equal, same_lane-self}
 use Rattle.pl_queue.specs.declared.views.PassView.{PassView}
-use Rattle.pl_queue.specs.Views.{sent_of, next_of, fresh_take_counts, has_lane, offered, taken as after, dealing, dealt, joined, spent, newcomer}
-use Rattle.pl_queue.specs.Rule.{numbers_of, IsRun, Each, IsQueued, IsSeat, Keeps, IsNext, SenderSees, TakerSees, BothSee}
-use Rattle.pl_queue.proofs.Lists.{at_lane, at_this, at_other, numbers_of-snoc, IsRun-le, IsRun-more, IsRun-less, Each-snoc, Each-weaker, some-equal, none-some, sent_of-set, next_of-set, sent_of-append, sent_of-fresh, next_of-append, next_of-front, next_of-fresh}
+use Rattle.pl_queue.specs.Views.{sent_of, next_of, fresh_take_counts, has_lane, pass_offered, taken as after, dealing, dealt, pass_joined, spent, newcomer}
+use Rattle.pl_queue.specs.Rule.{numbers_of, IsRun, Each, IsQueued, PassStands, Keeps, IsTakersNext, SenderSees, TakerSees, BothSee}
+use Rattle.pl_queue.proofs.Lists.{at_lane, at_this, at_other, numbers_of-snoc, IsRun-le, IsRun-more, IsRun-less, Each-snoc, Each-weaker, sent_of-set, next_of-set, sent_of-append, sent_of-fresh, next_of-append, next_of-front, next_of-fresh}
 
 at_end : (l : List PassView) (a b : PassView) (j : ℕ) → get_elem? (l ++ a ∷ []) j ≡ some b → (get_elem? l j ≡ some b) ⊎ ((j ≡ length l) × (a ≡ b))
 at_end [] a b zero e = ⊎_elim (λ x. absurd (some-ne-none b (sym x))) (λ (x : a ≡ b). inr (refl, x)) (at_snoc [] a b zero e)
@@ -37,7 +38,7 @@ module _ (world : World) where
     queued = tt;
     seats = λ j u e.
         let here = at_start newcomer u j e in
-        subst (λ (w : PassView). IsSeat (λ l. None) (λ l. 0) (λ l. false) 0 (λ l. 0) j w) here.1 (record {
+        subst (λ (w : PassView). PassStands (λ l. None) (λ l. 0) (λ l. false) 0 (λ l. 0) j w) here.1 (record {
           sends = λ l n f x. absurd (none-some (n, f) x);
           takes = λ t. here.0;
           known = λ t l n x. absurd (none-some n x);
@@ -47,7 +48,7 @@ module _ (world : World) where
 
   -- a push of the next envelope of a lane of one's own
   pub pushes : (n pass : ℕ) (v : PassView) (x : Envelope) → sent_of x.lane v.sends.send_counts ≡ Some (x.number, false) → x.number < 2 ^ 32 → FitsWorld world x
-      → Pushes (Keeps world) n pass v x (λ w. w ≡ offered v x)
+      → Pushes (Keeps world) n pass v x (λ w. w ≡ pass_offered v x)
   pushes n pass v x send_count small fits items views room h at =
       let seat = h.seats pass v at in
       let mine = seat.sends x.lane x.number false send_count in
@@ -59,12 +60,12 @@ module _ (world : World) where
       ⊎_elim (λ (t : same_lane l x.lane ≡ true). absurd (no (subst (λ y. h.owner y ≡ Some pass) (sym (same_lane-equal l x.lane t)) mine.0)))
       (λ (t : same_lane l x.lane ≡ false). t) (cases_Bool (same_lane l x.lane)) in
       -- nothing is sent on a lane that has no owner
-      let unsent : (j : ℕ) (u : PassView) → IsSeat h.owner h.next h.ended h.taker h.taken j u → u.taker ≡ true → (l : Lane) → next_of l u.takes.counts ≡ None
+      let unsent : (j : ℕ) (u : PassView) → PassStands h.owner h.next h.ended h.taker h.taken j u → u.taker ≡ true → (l : Lane) → next_of l u.takes.counts ≡ None
       → (h.owner l ≡ None) × (next' l ≡ 0) × (ended' l ≡ false) × (h.taken l ≡ 0) = λ j u theirs t l y.
       let was = theirs.rest t l y in
       let other = apart l (λ o. none-some pass (sym was.0 ∙ o)) in
       (was.0, at_other h.next x.lane (x.number + 1) l other ∙ was.1, at_other h.ended x.lane (closes x.item) l other ∙ was.2, was.3) in
-      let w = offered v x in (
+      let w = pass_offered v x in (
         w,
         record {
           owner = h.owner;
@@ -99,7 +100,7 @@ module _ (world : World) where
           seats = λ j u e.
               ⊎_elim
               (λ (here : (j ≡ pass) × (w ≡ u)).
-              subst (λ (y : ℕ × PassView). IsSeat h.owner next' ended' h.taker h.taken y.0 y.1) (λ i. (sym here.0 i, here.1 i)) (record {
+              subst (λ (y : ℕ × PassView). PassStands h.owner next' ended' h.taker h.taken y.0 y.1) (λ i. (sym here.0 i, here.1 i)) (record {
                 sends = λ l k f y.
                     ⊎_elim
                     (λ (r : (same_lane l x.lane ≡ true) × (x.number + 1 ≡ k) × (closes x.item ≡ f)). (
@@ -120,7 +121,7 @@ module _ (world : World) where
               record {
                 sends = λ l k f y.
                     let was = theirs.sends l k f y in
-                    let other = apart l (λ o. there.0 (some-equal j pass (sym was.0 ∙ o))) in
+                    let other = apart l (λ o. there.0 (same_Some j pass (sym was.0 ∙ o))) in
                     (was.0, at_other h.next x.lane (x.number + 1) l other ∙ was.1, at_other h.ended x.lane (closes x.item) l other ∙ was.2);
                 takes = theirs.takes;
                 known = theirs.known;
@@ -131,7 +132,7 @@ module _ (world : World) where
         refl,
       )
 
-  pub pops : (pass : ℕ) (v : PassView) → v.taker ≡ true → Pops (Keeps world) pass v (λ x w. IsNext world v x × (w ≡ after v x))
+  pub pops : (pass : ℕ) (v : PassView) → v.taker ≡ true → Pops (Keeps world) pass v (λ x w. IsTakersNext world v x × (w ≡ after v x))
   pops pass v may x items views h at =
       let seat = h.seats pass v at in
       let self = same_lane-self x.lane in
@@ -159,7 +160,7 @@ module _ (world : World) where
           seats = λ j u e.
               ⊎_elim
               (λ (here : (j ≡ pass) × (w ≡ u)).
-              subst (λ (y : ℕ × PassView). IsSeat h.owner h.next h.ended h.taker taken' y.0 y.1) (λ i. (sym here.0 i, here.1 i)) (record {
+              subst (λ (y : ℕ × PassView). PassStands h.owner h.next h.ended h.taker taken' y.0 y.1) (λ i. (sym here.0 i, here.1 i)) (record {
                 sends = seat.sends;
                 takes = seat.takes;
                 known = λ t l k y.
@@ -167,7 +168,7 @@ module _ (world : World) where
                     ⊎_elim
                     (λ (s : same_lane l x.lane ≡ true).
                     at_this h.taken x.lane (x.number + 1) l s
-                    ∙ some-equal (x.number + 1) k (sym (cond-true (same_lane l x.lane) (Some (x.number + 1)) (next_of l v.takes.counts) s) ∙ sym is ∙ y))
+                    ∙ same_Some (x.number + 1) k (sym (cond-true (same_lane l x.lane) (Some (x.number + 1)) (next_of l v.takes.counts) s) ∙ sym is ∙ y))
                     (λ (s : same_lane l x.lane ≡ false).
                     at_other h.taken x.lane (x.number + 1) l s
                     ∙ seat.known t l k (sym (cond-false (same_lane l x.lane) (Some (x.number + 1)) (next_of l v.takes.counts) s) ∙ sym is ∙ y))
@@ -205,7 +206,7 @@ module _ (world : World) where
 
   -- the same of an envelope that was handed back, by a pass whose view is as it was
   pub pushes_same : (n pass : ℕ) (v w : PassView) (x y : Envelope) → x ≡ y → v ≡ w → sent_of y.lane w.sends.send_counts ≡ Some (y.number, false) → y.number < 2 ^ 32
-      → FitsWorld world y → Pushes (Keeps world) n pass v x (λ u. u ≡ offered v x)
+      → FitsWorld world y → Pushes (Keeps world) n pass v x (λ u. u ≡ pass_offered v x)
   pushes_same n pass v w x y same view next small fits =
       pushes n pass v x
       (subst (λ (z : Envelope × PassView). sent_of z.0.lane z.1.sends.send_counts ≡ Some (z.0.number, false)) (λ i. (sym same i, sym view i)) next)
@@ -214,7 +215,7 @@ module _ (world : World) where
 
   -- the same queue, in whose seats these owners hold
   reseated : (items : List Envelope) (views views' : List PassView) (h : Keeps world items views) (owner : Lane → Option ℕ)
-      → ((j : ℕ) (u : PassView) → get_elem? views' j ≡ some u → IsSeat owner h.next h.ended h.taker h.taken j u) → Keeps world items views'
+      → ((j : ℕ) (u : PassView) → get_elem? views' j ≡ some u → PassStands owner h.next h.ended h.taker h.taken j u) → Keeps world items views'
   reseated items views views' h owner seats = record {
     owner = owner;
     next = h.next;
@@ -243,7 +244,7 @@ module _ (world : World) where
       (λ (old : get_elem? vs j ≡ some u).
       ⊎_elim
       (λ (here : (j ≡ pass) × (dealing ls v ≡ u)).
-      subst (λ (y : ℕ × PassView). IsSeat owner' h.next h.ended h.taker h.taken y.0 y.1) (λ i. (sym here.0 i, here.1 i)) (record {
+      subst (λ (y : ℕ × PassView). PassStands owner' h.next h.ended h.taker h.taken y.0 y.1) (λ i. (sym here.0 i, here.1 i)) (record {
         sends = λ l n f y. let was = seat.sends l n f y in (kept l pass was.0, was.1, was.2);
         takes = seat.takes;
         known = λ t l n y.
@@ -252,9 +253,9 @@ module _ (world : World) where
               | None ↦ λ z.
                   let f = next_of-append l v.takes.counts (fresh_take_counts ls) z ∙ next_of-fresh l ls in
                   let was = seat.rest t l z in
-                  ⊎_elim (λ (b : has_lane l ls ≡ true). was.3 ∙ some-equal 0 n (sym (cond-true (has_lane l ls) (Some 0) None b) ∙ sym f ∙ y))
+                  ⊎_elim (λ (b : has_lane l ls ≡ true). was.3 ∙ same_Some 0 n (sym (cond-true (has_lane l ls) (Some 0) None b) ∙ sym f ∙ y))
                   (λ (b : has_lane l ls ≡ false). absurd (none-some n (sym (cond-false (has_lane l ls) (Some 0) None b) ∙ sym f ∙ y))) (cases_Bool (has_lane l ls))
-              | Some k ↦ λ z. seat.known t l k z ∙ some-equal k n (sym (next_of-front l v.takes.counts (fresh_take_counts ls) k z) ∙ y)
+              | Some k ↦ λ z. seat.known t l k z ∙ same_Some k n (sym (next_of-front l v.takes.counts (fresh_take_counts ls) k z) ∙ y)
             ] in
             split (next_of l v.takes.counts) refl;
         rest = λ t l y.
@@ -279,7 +280,7 @@ module _ (world : World) where
       })
       (at_set views pass j (dealing ls v) u old))
       (λ (last : (j ≡ length vs) × (dealt ls ≡ u)).
-      subst (λ (y : ℕ × PassView). IsSeat owner' h.next h.ended h.taker h.taken y.0 y.1) (λ i. (sym last.0 i, last.1 i)) (record {
+      subst (λ (y : ℕ × PassView). PassStands owner' h.next h.ended h.taker h.taken y.0 y.1) (λ i. (sym last.0 i, last.1 i)) (record {
         sends = λ l n f y.
             let r = sent_of-fresh l ls n f y in
             let was = seat.rest may l (new l r.0) in
@@ -291,11 +292,11 @@ module _ (world : World) where
       (at_end vs (dealt ls) u j e))
 
   -- a pass takes in the lanes of another
-  pub merges : (pass : ℕ) (v : PassView) (other : ℕ) (u : PassView) → Merges (Keeps world) pass v other u (joined v u) spent
+  pub merges : (pass : ℕ) (v : PassView) (other : ℕ) (u : PassView) → Merges (Keeps world) pass v other u (pass_joined v u) spent
   merges pass v other u items views h at two at' =
       let mine = h.seats pass v at in
-      let vs = set views pass (joined v u) in
-      let was : get_elem? views other ≡ some u = ⊎_elim (λ x. absurd (two x.0)) (λ x. x.1) (at_set views pass other (joined v u) u at') in
+      let vs = set views pass (pass_joined v u) in
+      let was : get_elem? views other ≡ some u = ⊎_elim (λ x. absurd (two x.0)) (λ x. x.1) (at_set views pass other (pass_joined v u) u at') in
       let theirs = h.seats other u was in
       let moved : Option ℕ → Option ℕ = λ o. elim o as (λ o. Option ℕ) [ None ↦ None | Some j ↦ Some (cond (eqb j other) pass j) ] in
       let owner' : Lane → Option ℕ = λ l. moved (h.owner l) in
@@ -307,7 +308,7 @@ module _ (world : World) where
       (λ j w e.
       ⊎_elim
       (λ (gone : (j ≡ other) × (spent ≡ w)).
-      subst (λ (y : ℕ × PassView). IsSeat owner' h.next h.ended h.taker h.taken y.0 y.1) (λ i. (sym gone.0 i, gone.1 i)) (record {
+      subst (λ (y : ℕ × PassView). PassStands owner' h.next h.ended h.taker h.taken y.0 y.1) (λ i. (sym gone.0 i, gone.1 i)) (record {
         sends = λ l n f y. absurd (none-some (n, f) y);
         takes = λ t. absurd (true≢false (sym t));
         known = λ t l n y. absurd (true≢false (sym t));
@@ -315,8 +316,8 @@ module _ (world : World) where
       }))
       (λ (left : (j ≢ other) × (get_elem? vs j ≡ some w)).
       ⊎_elim
-      (λ (here : (j ≡ pass) × (joined v u ≡ w)).
-      subst (λ (y : ℕ × PassView). IsSeat owner' h.next h.ended h.taker h.taken y.0 y.1) (λ i. (sym here.0 i, here.1 i)) (record {
+      (λ (here : (j ≡ pass) × (pass_joined v u ≡ w)).
+      subst (λ (y : ℕ × PassView). PassStands owner' h.next h.ended h.taker h.taken y.0 y.1) (λ i. (sym here.0 i, here.1 i)) (record {
         sends = λ l n f y.
             ⊎_elim (λ s. let r = mine.sends l n f s in (stays l pass (λ p. two (sym p)) r.0, r.1, r.2))
             (λ s. let r = theirs.sends l n f s in (moves l r.0, r.1, r.2))
@@ -333,7 +334,7 @@ module _ (world : World) where
         known = r.known;
         rest = λ t l y. let s = r.rest t l y in (ap moved s.0, s.1, s.2, s.3);
       })
-      (at_set views pass j (joined v u) w left.1))
+      (at_set views pass j (pass_joined v u) w left.1))
       (at_set vs other j spent w e))
 
   fits_of : (next : Lane → ℕ) (ended : Lane → Bool) (items : List Envelope) → Each (IsQueued world next ended) items → Each (FitsWorld world) items

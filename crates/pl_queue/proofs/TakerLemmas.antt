@@ -7,8 +7,8 @@ use Rattle.pl_queue.specs.declared.views.PassView.{PassView}
 use Rattle.pl_queue.specs.declared.views.SendCount.{SendCount}
 use Rattle.pl_queue.specs.declared.views.SenderView.{SenderView}
 use Rattle.pl_queue.specs.declared.views.TakeCount.{TakeCount}
-use Rattle.pl_queue.specs.Left.{Apart, IsTaking, all_lanes, send_counts_of}
-use Rattle.pl_queue.specs.Limits.{is_within}
+use Rattle.pl_queue.specs.Left.{Apart, KnowsPlaces, lanes_of_senders, send_counts_of}
+use Rattle.pl_queue.specs.Limits.{is_mailbox_within}
 use Rattle.pl_queue.specs.Positions.{ArePositions}
 use Rattle.pl_queue.specs.Rule.{Each}
 use Rattle.pl_queue.specs.Views.{view_of, no_sends, fresh_sends, fresh_takes, fresh_take_counts, lanes_of_counts}
@@ -18,11 +18,11 @@ use Rattle.pl_queue.proofs.Lists.{Each-snoc, fresh_take_counts-lanes, map-append
 pub counts-apart : (lanes : List Lane) (counts : List TakeCount) → counts ≡ fresh_take_counts lanes → Apart lanes → Apart (lanes_of_counts counts)
 counts-apart lanes counts e apart = subst Apart (sym (ap lanes_of_counts e ∙ fresh_take_counts-lanes lanes)) apart
 
-pub counts-few : (lanes : List (List Lane)) (capacity : ℕ) (counts : List TakeCount) → is_within lanes capacity ≡ true → counts ≡ fresh_take_counts (all_lanes lanes) → length counts ≤ 8192
+pub counts-few : (lanes : List (List Lane)) (capacity : ℕ) (counts : List TakeCount) → is_mailbox_within lanes capacity ≡ true → counts ≡ fresh_take_counts (lanes_of_senders lanes) → length counts ≤ 8192
 counts-few lanes capacity counts within e = subst (λ ms. length ms ≤ 8192) (sym e) (few-counts lanes capacity within)
 
 pub begins-taking : (v : PassView) (counts : List TakeCount) (rows : List (Vec ℕ)) (lanes : List Lane) → v ≡ view_of true no_sends (fresh_takes lanes)
-    → counts ≡ fresh_take_counts lanes → Apart lanes → ArePositions rows 0 (lanes_of_counts counts) → IsTaking v counts rows × (v.takes ≡ fresh_takes lanes)
+    → counts ≡ fresh_take_counts lanes → Apart lanes → ArePositions rows 0 (lanes_of_counts counts) → KnowsPlaces v counts rows × (v.takes ≡ fresh_takes lanes)
 begins-taking v counts rows lanes is made apart positions =
     let same : v.takes.counts ≡ fresh_take_counts lanes = ap (λ (w : PassView). w.takes.counts) is in (
       record {

@@ -24,6 +24,7 @@ pub record LaneLeftView : Type 0 where
 abbrev pub held : Lane → ℕ → ℕ → List Envelope → LaneLeftView
 held l h t xs = record { lane = l; handed = h; taken = t; left = xs }
 
+-- an entry as contracts see it, with its envelopes
 abbrev pub held_of : LaneLeft → LaneLeftView
 held_of e = held e.lane e.handed e.taken e.left.items
 
@@ -77,22 +78,23 @@ abbrev pub Apart : List Lane → Type 0
 Apart [] = Unit {0}
 Apart (l ∷ ls) = Each (λ m. same_lane l m ≡ false) ls × Apart ls
 
-abbrev pub all_lanes : List (List Lane) → List Lane
-all_lanes [] = []
-all_lanes (ls ∷ lss) = ls ++ all_lanes lss
+-- the lanes of all senders, one after another
+abbrev pub lanes_of_senders : List (List Lane) → List Lane
+lanes_of_senders [] = []
+lanes_of_senders (ls ∷ lss) = ls ++ lanes_of_senders lss
 
 abbrev pub own_lanes : Vec Lane → List Lane
 own_lanes v = v.items
 
 -- a taker's table has its next numbers, and no lane twice; its rows say where each stands. It sends on no lane
-pub record IsTaking (v : PassView) (counts : List TakeCount) (rows : List (Vec ℕ)) : Type 0 where
+pub record KnowsPlaces (v : PassView) (counts : List TakeCount) (rows : List (Vec ℕ)) : Type 0 where
   pub taker : v.taker ≡ true
   pub send_counts : v.sends.send_counts ≡ []
   pub counts_are : counts ≡ v.takes.counts
   pub apart : Apart (lanes_of_counts v.takes.counts)
   pub positions : ArePositions rows 0 (lanes_of_counts v.takes.counts)
 
--- each lane of the taker's stands in some sender's send_counts
+-- each lane of the taker's is some sender's
 abbrev pub AreAll : List SendCount → List TakeCount → Type 0
 AreAll send_counts counts = (l : Lane) (n : ℕ) → next_of l counts ≡ Some n → (m : ℕ) × (e : Bool) × (sent_of l send_counts ≡ Some (m, e))
 
@@ -104,7 +106,7 @@ pub record IsEmptying (world : World) (send_counts : List SendCount) (first : Li
   pub taken : map taken_count hs ≡ first
   pub entries : Each (IsEntrySoFar world send_counts) hs
 
--- what is left, by the senders' send_counts and the taker's counts
+-- the mailbox account: what is left, by what senders and taker count
 pub record IsAllLeft (world : World) (send_counts : List SendCount) (counts : List TakeCount) (hs : List LaneLeftView) : Type 0 where
   pub taken : map taken_count hs ≡ counts
   pub entries : Each (IsEntry world send_counts) hs

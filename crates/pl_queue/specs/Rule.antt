@@ -21,6 +21,7 @@ abbrev pub IsRun : ℕ → List ℕ → ℕ → Type 0
 IsRun from [] to = from ≡ to
 IsRun from (n ∷ ns) to = (n ≡ from) × IsRun (from + 1) ns to
 
+-- each of a list is so
 abbrev pub Each : {A : Type 0} → (A → Type 0) → List A → Type 0
 Each P [] = Unit {0}
 Each P (x ∷ xs) = P x × Each P xs
@@ -32,7 +33,7 @@ pub record IsQueued (world : World) (next : Lane → ℕ) (ended : Lane → Bool
   pub last : closes x.item ≡ true → (ended x.lane ≡ true) × (next x.lane ≡ x.number + 1)
 
 -- What a pass knows is so. `owner` says which pass sends on a lane, `next` and `ended` what was sent there; `taker` is the pass that takes, and `taken` its next numbers.
-pub record IsSeat (owner : Lane → Option ℕ) (next : Lane → ℕ) (ended : Lane → Bool) (taker : ℕ) (taken : Lane → ℕ) (pass : ℕ) (v : PassView) : Type 0 where
+pub record PassStands (owner : Lane → Option ℕ) (next : Lane → ℕ) (ended : Lane → Bool) (taker : ℕ) (taken : Lane → ℕ) (pass : ℕ) (v : PassView) : Type 0 where
   pub sends : (l : Lane) (n : ℕ) (e : Bool) → sent_of l v.sends.send_counts ≡ Some (n, e) → (owner l ≡ Some pass) × (next l ≡ n) × (ended l ≡ e)
   pub takes : v.taker ≡ true → pass ≡ taker
   pub known : v.taker ≡ true → (l : Lane) (n : ℕ) → next_of l v.takes.counts ≡ Some n → taken l ≡ n
@@ -47,21 +48,23 @@ pub record Keeps (world : World) (items : List Envelope) (views : List PassView)
   pub taken : Lane → ℕ
   pub in_turn : (l : Lane) → IsRun (taken l) (numbers_of l items) (next l)
   pub queued : Each (IsQueued world next ended) items
-  pub seats : (pass : ℕ) (v : PassView) → get_elem? views pass ≡ some v → IsSeat owner next ended taker taken pass v
+  pub seats : (pass : ℕ) (v : PassView) → get_elem? views pass ≡ some v → PassStands owner next ended taker taken pass v
 
 -- what a pop tells: the front is the taker's next of its lane, and fits
-pub record IsNext (world : World) (v : PassView) (x : Envelope) : Type 0 where
+pub record IsTakersNext (world : World) (v : PassView) (x : Envelope) : Type 0 where
   pub fits : FitsWorld world x
   pub small : x.number < 2 ^ 32
   pub number : next_of x.lane v.takes.counts ≡ Some x.number
   pub last : closes x.item ≡ true → (n : ℕ) (e : Bool) → sent_of x.lane v.sends.send_counts ≡ Some (n, e) → n ≡ x.number + 1
 
--- what a sender learns of the queue at one moment: each envelope fits, and of its own lanes the last one queued is the last one that it sent
+-- What a sender learns of the queue: of its own lanes the last queued is the last sent. It is so at one moment, and
+-- each envelope fits.
 pub record SenderSees (world : World) (s : SenderView) (items : List Envelope) : Type 0 where
   pub fit : Each (FitsWorld world) items
   pub lanes : (l : Lane) (n : ℕ) (e : Bool) → sent_of l s.send_counts ≡ Some (n, e) → (from : ℕ) × IsRun from (numbers_of l items) n
 
--- what the taker learns: each envelope fits, and of each lane the first one queued is the next one
+-- What the taker learns of the queue: of each lane the first queued is the next. It is so at one moment, and each
+-- envelope fits.
 pub record TakerSees (world : World) (t : TakerView) (items : List Envelope) : Type 0 where
   pub fit : Each (FitsWorld world) items
   pub lanes : (l : Lane) (n : ℕ) → next_of l t.counts ≡ Some n → (to : ℕ) × IsRun n (numbers_of l items) to
@@ -71,6 +74,6 @@ pub record BothSee (world : World) (v : PassView) (items : List Envelope) : Type
   pub taker : TakerSees world v.takes items
   pub lanes : (l : Lane) (n m : ℕ) (e : Bool) → next_of l v.takes.counts ≡ Some n → sent_of l v.sends.send_counts ≡ Some (m, e) → IsRun n (numbers_of l items) m
 
--- at one moment of the call the queue held n envelopes, and this was so of them
+-- at one moment of the call the queue held n envelopes, of which this was so
 abbrev pub WasOnce : ℕ → (List Envelope → Type 0) → Type 0
 WasOnce n fact = (items : List Envelope) × (length items ≡ n) × fact items

@@ -25,12 +25,12 @@ takes counts n last = record { counts = counts; pops = n; last = last }
 abbrev pub view_of : Bool → SenderView → TakerView → PassView
 view_of t s k = record { taker = t; sends = s; takes = k }
 
--- the next number of a lane, and whether End or Fail was sent, where the lane is among these
+-- A sender's next number of a lane, and whether End or Fail was sent. It has these where the lane is among its own.
 abbrev pub sent_of : Lane → List SendCount → Option (ℕ × Bool)
 sent_of l [] = None
 sent_of l (s ∷ ss) = cond (same_lane l s.lane) (Some (s.next, s.ended)) (sent_of l ss)
 
--- the taker's next number of a lane, where the lane is among these
+-- The taker's next number of a lane. It has one where the lane is among its own.
 abbrev pub next_of : Lane → List TakeCount → Option ℕ
 next_of l [] = None
 next_of l (m ∷ ms) = cond (same_lane l m.lane) (Some m.next) (next_of l ms)
@@ -57,9 +57,11 @@ fresh_send_counts ls = map (λ l. send_count l 0 false) ls
 abbrev pub fresh_take_counts : List Lane → List TakeCount
 fresh_take_counts ls = map (λ l. take_count l 0) ls
 
+-- what a sender knows that has pushed nothing
 abbrev pub fresh_sends : List Lane → SenderView
 fresh_sends ls = sends (fresh_send_counts ls) 0 None
 
+-- what a taker knows that has popped nothing
 abbrev pub fresh_takes : List Lane → TakerView
 fresh_takes ls = takes (fresh_take_counts ls) 0 None
 
@@ -80,8 +82,8 @@ abbrev pub both_sends : SenderView → SenderView → SenderView
 both_sends s t = sends (s.send_counts ++ t.send_counts) (s.pushes + t.pushes) s.last
 
 -- the views of a pass before and after each kind of step
-abbrev pub offered : PassView → Envelope → PassView
-offered v x = view_of v.taker (after_offer v.sends x) v.takes
+abbrev pub pass_offered : PassView → Envelope → PassView
+pass_offered v x = view_of v.taker (after_offer v.sends x) v.takes
 
 abbrev pub taken : PassView → Envelope → PassView
 taken v x = view_of v.taker v.sends (after_take v.takes x)
@@ -92,8 +94,8 @@ dealing ls v = view_of v.taker v.sends (takes (v.takes.counts ++ fresh_take_coun
 abbrev pub dealt : List Lane → PassView
 dealt ls = view_of false (fresh_sends ls) no_takes
 
-abbrev pub joined : PassView → PassView → PassView
-joined v w = view_of v.taker (both_sends v.sends w.sends) v.takes
+abbrev pub pass_joined : PassView → PassView → PassView
+pass_joined v w = view_of v.taker (both_sends v.sends w.sends) v.takes
 
 abbrev pub spent : PassView
 spent = view_of false no_sends no_takes

@@ -1,8 +1,8 @@
 //! The taker's next numbers.
 
 ghost use Rattle.std.specs.Prelude.{◌≡◌, ◌<◌, ◌≤◌, ◌++◌, map, IfOk, true};
-ghost use Rattle.pl_queue.specs.Left.{all_lanes};
-ghost use Rattle.pl_queue.specs.Limits.{is_within as is_within_limits};
+ghost use Rattle.pl_queue.specs.Left.{lanes_of_senders};
+ghost use Rattle.pl_queue.specs.Limits.{is_mailbox_within as is_within_limits};
 ghost use Rattle.pl_queue.specs.Positions.{ArePositions};
 ghost use Rattle.pl_queue.specs.Views.{set_take_count, fresh_take_counts, lanes_of_counts, has_lane};
 
@@ -37,7 +37,7 @@ pub fn add_counts(counts: &mut Vec<TakeCount>, lanes: &[Lane]) -> Result<(), All
 
 /// A count at 0 for each lane.
 pub fn all_counts(alloc: Global, lanes: &[Vec<Lane>]) -> Result<Vec<TakeCount>, AllocError>
-    ensures { IfOk result (λ v. v.items ≡ fresh_take_counts (all_lanes (map (λ v. v.items) lanes.now))) }
+    ensures { IfOk result (λ v. v.items ≡ fresh_take_counts (lanes_of_senders (map (λ v. v.items) lanes.now))) }
 {
     let mut counts = Vec::new(alloc);
     for own in lanes {

@@ -8,7 +8,7 @@ ghost use Rattle.pl_queue.specs.declared.mailbox.OpenRefusal.TheVariants.{Memory
 ghost use Rattle.pl_queue.specs.Limits.{opening_fault};
 ghost use Rattle.pl_queue.specs.Rule.{SenderSees, TakerSees, WasOnce, Each};
 ghost use Rattle.pl_queue.specs.Views.{sent_of, next_of, after_offer, after_take, fresh_sends, fresh_takes};
-ghost use Rattle.pl_queue.specs.Left.{held_of, send_counts_of, Apart, all_lanes, AreAll, IsAllLeft};
+ghost use Rattle.pl_queue.specs.Left.{held_of, send_counts_of, Apart, lanes_of_senders, AreAll, IsAllLeft};
 
 use crate::left::Left;
 use pl_event::{Envelope, Lane, Named};
@@ -77,11 +77,11 @@ pub trait Mailbox<W: Named>: Sized {
         capacity: usize,
     ) -> Result<(Self, Vec<Self::Sender>, Self::Taker), OpenRefusal>
         requires some { 0 < vec_len lanes }
-        requires apart { Apart (all_lanes (map (λ v. v.items) lanes.items)) }
+        requires apart { Apart (lanes_of_senders (map (λ v. v.items) lanes.items)) }
         ensures refused { IfErr result (λ refusal. refusal ≡ unwrap_or (opening_fault (map (λ v. v.items) lanes.items) capacity) Memory) }
         ensures opened { IfOk result (λ r. (opening_fault (map (λ v. v.items) lanes.items) capacity ≡ None) × (capacity_of r.0 ≡ capacity)) }
         ensures senders { IfOk result (λ r. Each (λ s. is_sender r.0 s) r.1.items × (map sends_of r.1.items ≡ map (λ v. fresh_sends v.items) lanes.items)) }
-        ensures taker { IfOk result (λ r. is_taker r.0 r.2 × (takes_of r.2 ≡ fresh_takes (all_lanes (map (λ v. v.items) lanes.items)))) };
+        ensures taker { IfOk result (λ r. is_taker r.0 r.2 × (takes_of r.2 ≡ fresh_takes (lanes_of_senders (map (λ v. v.items) lanes.items)))) };
 
     /// Whether `offer` may wait for room. It never answers `Full` then.
     fn may_wait() -> bool;

@@ -3,8 +3,8 @@
 ghost use Rattle.std.specs.Prelude.{◌≡◌, ◌<◌, ℕ, true, None, IfOk, MatchOption};
 ghost use Rattle.pl_event.specs.declared.envelopes.Lane.{Lane};
 ghost use Rattle.pl_queue.specs.declared.views.PassView.{PassView};
-ghost use Rattle.pl_queue.specs.Rule.{IsNext, BothSee, WasOnce};
-ghost use Rattle.pl_queue.specs.Views.{next_of, has_lane, newcomer, dealing, dealt, joined, taken};
+ghost use Rattle.pl_queue.specs.Rule.{IsTakersNext, BothSee, WasOnce};
+ghost use Rattle.pl_queue.specs.Views.{next_of, has_lane, newcomer, dealing, dealt, pass_joined, taken};
 
 use crate::rule::Dealt;
 use pl_event::{Envelope, Named};
@@ -42,7 +42,7 @@ pub trait RuledQueue<W: Named>: Sized {
         requires pass { is_pass self.now pass.old }
         requires theirs { is_pass self.now theirs }
         ensures pass { is_pass self.now pass.new }
-        ensures joined { view_of pass.new ≡ joined (view_of pass.old) (view_of theirs) };
+        ensures joined { view_of pass.new ≡ pass_joined (view_of pass.old) (view_of theirs) };
 
     /// Takes the front, by the taker's pass.
     fn pop<R: Wait>(&self, rt: &R, pass: &mut Self::Pass) -> Option<Envelope>
@@ -50,5 +50,5 @@ pub trait RuledQueue<W: Named>: Sized {
         ensures pass { is_pass self.now pass.new }
         ensures popped { MatchOption result
             ((view_of pass.new ≡ view_of pass.old) × WasOnce 0 (BothSee W.world (view_of pass.old)))
-            (λ x. IsNext W.world (view_of pass.old) x × (view_of pass.new ≡ taken (view_of pass.old) x)) };
+            (λ x. IsTakersNext W.world (view_of pass.old) x × (view_of pass.new ≡ taken (view_of pass.old) x)) };
 }

@@ -5,7 +5,7 @@ ghost use Rattle.crossbeam_queue.specs.Passes.{view, IsPassOf, ruled_capacity};
 ghost use Rattle.pl_event.specs.declared.envelopes.Lane.{Lane};
 ghost use Rattle.pl_queue.specs.Ring.{sends_by, takes_by};
 ghost use Rattle.pl_queue.specs.Rule.{Each};
-ghost use Rattle.pl_queue.specs.Left.{held_of, send_counts_of, IsTaking, AreAll, IsAllLeft};
+ghost use Rattle.pl_queue.specs.Left.{held_of, send_counts_of, KnowsPlaces, AreAll, IsAllLeft};
 
 use crate::left::Left;
 use crate::mailbox::{Full, Mailbox, OpenRefusal};
@@ -75,7 +75,7 @@ impl<W: Named> Mailbox<W> for RingBox<W> {
 
     ghost is_sender = { λ q s. IsPassOf q.queue s.pass };
 
-    ghost is_taker = { λ q t. IsPassOf q.queue t.pass × IsTaking (view t.pass) t.counts.items t.positions.rows.items };
+    ghost is_taker = { λ q t. IsPassOf q.queue t.pass × KnowsPlaces (view t.pass) t.counts.items t.positions.rows.items };
 
     fn open(
         alloc: Global,
@@ -119,7 +119,7 @@ impl<W: Named> Mailbox<W> for RingBox<W> {
         taker: RingTaker<W>,
     ) -> Result<Left, AllocError>
         requires senders { Each (λ s. IsPassOf self.queue s.pass) senders.items }
-        requires taker { IsPassOf self.queue taker.pass × IsTaking (view taker.pass) taker.counts.items taker.positions.rows.items }
+        requires taker { IsPassOf self.queue taker.pass × KnowsPlaces (view taker.pass) taker.counts.items taker.positions.rows.items }
         requires all { AreAll (send_counts_of (map (λ s. sends_by s.pass) senders.items)) (takes_by taker.pass).counts }
         ensures left { IfOk result (λ left. IsAllLeft W.world (send_counts_of (map (λ s. sends_by s.pass) senders.items)) (takes_by taker.pass).counts (map held_of left.lanes.items)) }
     {

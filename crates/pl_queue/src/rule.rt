@@ -1,8 +1,8 @@
 //! The queue rule, and what each kind of step tells.
 
 ghost use Rattle.std.specs.Prelude.{◌≡◌};
-ghost use Rattle.pl_queue.specs.Rule.{Keeps, IsNext, SenderSees, BothSee};
-ghost use Rattle.pl_queue.specs.Views.{newcomer, offered, taken, dealing, dealt, joined, spent};
+ghost use Rattle.pl_queue.specs.Rule.{Keeps, IsTakersNext, SenderSees, BothSee};
+ghost use Rattle.pl_queue.specs.Views.{newcomer, pass_offered, taken, dealing, dealt, pass_joined, spent};
 
 use crate::views::PassView;
 use crossbeam_queue::protocol::{Join, Lesson, Outcome, Protocol, Split};
@@ -23,7 +23,7 @@ impl<W: Named> Protocol<Envelope, PassView> for LanesInTurn<W> {
 pub struct Pushed<W>(PhantomData<W>);
 
 impl<W: Named> Outcome<Envelope, PassView> for Pushed<W> {
-    ghost then = { λ v x w. w ≡ offered v x };
+    ghost then = { λ v x w. w ≡ pass_offered v x };
 }
 
 impl<W: Named> Lesson<Envelope, PassView> for Pushed<W> {
@@ -34,7 +34,7 @@ impl<W: Named> Lesson<Envelope, PassView> for Pushed<W> {
 pub struct Popped<W>(PhantomData<W>);
 
 impl<W: Named> Outcome<Envelope, PassView> for Popped<W> {
-    ghost then = { λ v x w. IsNext W.world v x × (w ≡ taken v x) };
+    ghost then = { λ v x w. IsTakersNext W.world v x × (w ≡ taken v x) };
 }
 
 impl<W: Named> Lesson<Envelope, PassView> for Popped<W> {
@@ -68,7 +68,7 @@ impl<L: Dealt> Split<PassView> for Deal<L> {
 pub struct Unite;
 
 impl Join<PassView> for Unite {
-    ghost both = { joined };
+    ghost both = { pass_joined };
 
     ghost spent = { spent };
 }

@@ -8,7 +8,7 @@ ghost use Rattle.pl_queue.specs.Limits.{opening_fault};
 ghost use Rattle.pl_queue.specs.Positions.{ArePositions};
 ghost use Rattle.pl_queue.specs.Rule.{TakerSees, WasOnce, Each};
 ghost use Rattle.pl_queue.specs.Views.{next_of, has_lane, after_take, dealing, view_of as the_view_of, newcomer, no_sends, fresh_sends, fresh_takes, lanes_of_counts};
-ghost use Rattle.pl_queue.specs.Left.{held_of, send_counts_of, Apart, all_lanes, IsTaking, AreAll, IsEmptying, IsAllLeft};
+ghost use Rattle.pl_queue.specs.Left.{held_of, send_counts_of, Apart, lanes_of_senders, KnowsPlaces, AreAll, IsEmptying, IsAllLeft};
 
 use crate::counts::{all_counts, is_within, set_next};
 use crate::left::{LaneLeft, Left, entries, put};
@@ -66,8 +66,8 @@ fn deal_all<W: Named, Q: RuledQueue<W>>(
     lanes: &[Vec<Lane>],
 ) -> Result<Vec<Sender<W, Q::Pass>>, AllocError>
     requires pass { Q.is_pass queue.now pass.old × (Q.view_of pass.old ≡ newcomer) }
-    requires apart { Apart (all_lanes (map (λ v. v.items) lanes.now)) }
-    ensures pass { IfOk result (λ _. Q.is_pass queue.now pass.new × (Q.view_of pass.new ≡ the_view_of true no_sends (fresh_takes (all_lanes (map (λ v. v.items) lanes.now))))) }
+    requires apart { Apart (lanes_of_senders (map (λ v. v.items) lanes.now)) }
+    ensures pass { IfOk result (λ _. Q.is_pass queue.now pass.new × (Q.view_of pass.new ≡ the_view_of true no_sends (fresh_takes (lanes_of_senders (map (λ v. v.items) lanes.now))))) }
     ensures senders { IfOk result (λ v. Each (λ s. Q.is_pass queue.now s.pass) v.items × (map (λ s. (Q.view_of s.pass).sends) v.items ≡ map (λ v. fresh_sends v.items) lanes.now)) }
 {
     let mut senders = Vec::new(alloc);
@@ -84,11 +84,11 @@ pub fn open_over<W: Named, Q: RuledQueue<W> + Drop>(
     lanes: Vec<Vec<Lane>>,
     capacity: usize,
 ) -> Result<(Q, Vec<Sender<W, Q::Pass>>, Taker<W, Q::Pass>), OpenRefusal>
-    requires apart { Apart (all_lanes (map (λ v. v.items) lanes.items)) }
+    requires apart { Apart (lanes_of_senders (map (λ v. v.items) lanes.items)) }
     ensures refused { IfErr result (λ refusal. refusal ≡ unwrap_or (opening_fault (map (λ v. v.items) lanes.items) capacity) Memory) }
     ensures opened { IfOk result (λ r. (opening_fault (map (λ v. v.items) lanes.items) capacity ≡ None) × (Q.most r.0 ≡ capacity)) }
     ensures senders { IfOk result (λ r. Each (λ s. Q.is_pass r.0 s.pass) r.1.items × (map (λ s. (Q.view_of s.pass).sends) r.1.items ≡ map (λ v. fresh_sends v.items) lanes.items)) }
-    ensures taker { IfOk result (λ r. (Q.is_pass r.0 r.2.pass × IsTaking (Q.view_of r.2.pass) r.2.counts.items r.2.positions.rows.items) × ((Q.view_of r.2.pass).takes ≡ fresh_takes (all_lanes (map (λ v. v.items) lanes.items)))) }
+    ensures taker { IfOk result (λ r. (Q.is_pass r.0 r.2.pass × KnowsPlaces (Q.view_of r.2.pass) r.2.counts.items r.2.positions.rows.items) × ((Q.view_of r.2.pass).takes ≡ fresh_takes (lanes_of_senders (map (λ v. v.items) lanes.items)))) }
 {
     if !is_within(lanes.as_slice(), capacity) {
         return Err(OpenRefusal::Limit);
@@ -112,8 +112,8 @@ pub fn take_front<W: Named, Q: RuledQueue<W>, R: Wait>(
     queue: &Q,
     taker: &mut Taker<W, Q::Pass>,
 ) -> Option<Envelope>
-    requires taker { Q.is_pass queue.now taker.old.pass × IsTaking (Q.view_of taker.old.pass) taker.old.counts.items taker.old.positions.rows.items }
-    ensures taker { Q.is_pass queue.now taker.new.pass × IsTaking (Q.view_of taker.new.pass) taker.new.counts.items taker.new.positions.rows.items }
+    requires taker { Q.is_pass queue.now taker.old.pass × KnowsPlaces (Q.view_of taker.old.pass) taker.old.counts.items taker.old.positions.rows.items }
+    ensures taker { Q.is_pass queue.now taker.new.pass × KnowsPlaces (Q.view_of taker.new.pass) taker.new.counts.items taker.new.positions.rows.items }
     ensures taken { MatchOption result
         (((Q.view_of taker.new.pass).takes ≡ (Q.view_of taker.old.pass).takes) × WasOnce 0 (TakerSees W.world (Q.view_of taker.old.pass).takes))
         (λ x. (next_of x.lane (Q.view_of taker.old.pass).takes.counts ≡ Some x.number) × (x.number < 2 ^ 32) × FitsWorld W.world x × ((Q.view_of taker.new.pass).takes ≡ after_take (Q.view_of taker.old.pass).takes x)) }
@@ -182,7 +182,7 @@ pub fn finish_over<W: Named, Q: RuledQueue<W>, R: Wait>(
     taker: Taker<W, Q::Pass>,
 ) -> Result<Left, AllocError>
     requires senders { Each (λ s. Q.is_pass queue.now s.pass) senders.items }
-    requires taker { Q.is_pass queue.now taker.pass × IsTaking (Q.view_of taker.pass) taker.counts.items taker.positions.rows.items }
+    requires taker { Q.is_pass queue.now taker.pass × KnowsPlaces (Q.view_of taker.pass) taker.counts.items taker.positions.rows.items }
     requires all { AreAll (send_counts_of (map (λ s. (Q.view_of s.pass).sends) senders.items)) (Q.view_of taker.pass).takes.counts }
     ensures left { IfOk result (λ left. IsAllLeft W.world (send_counts_of (map (λ s. (Q.view_of s.pass).sends) senders.items)) (Q.view_of taker.pass).takes.counts (map held_of left.lanes.items)) }
 {

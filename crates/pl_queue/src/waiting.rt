@@ -6,9 +6,9 @@ ghost use Rattle.crossbeam_channel.specs.Ends.{sends_on, receives_on, ruled_capa
 ghost use Rattle.pl_event.specs.declared.envelopes.Lane.{Lane};
 ghost use Rattle.pl_event.specs.Worlds.{FitsWorld};
 ghost use Rattle.pl_queue.specs.Waiting.{sends_by, takes_by};
-ghost use Rattle.pl_queue.specs.Rule.{Keeps, IsNext, SenderSees, BothSee, Each};
-ghost use Rattle.pl_queue.specs.Views.{offered, sent_of, after_offer, taken, newcomer};
-ghost use Rattle.pl_queue.specs.Left.{held_of, send_counts_of, IsTaking, AreAll, IsAllLeft};
+ghost use Rattle.pl_queue.specs.Rule.{Keeps, IsTakersNext, SenderSees, BothSee, Each};
+ghost use Rattle.pl_queue.specs.Views.{pass_offered, sent_of, after_offer, taken, newcomer};
+ghost use Rattle.pl_queue.specs.Left.{held_of, send_counts_of, KnowsPlaces, AreAll, IsAllLeft};
 
 use crate::left::Left;
 use crate::mailbox::{Full, Mailbox, OpenRefusal};
@@ -53,7 +53,7 @@ impl<W: Named> Protocol<Envelope, PassView> for LanesInTurn<W> {
 }
 
 impl<W: Named> Outcome<Envelope, PassView> for Pushed<W> {
-    ghost then = { λ v x w. w ≡ offered v x };
+    ghost then = { λ v x w. w ≡ pass_offered v x };
 }
 
 impl<W: Named> Lesson<Envelope, PassView> for Pushed<W> {
@@ -61,7 +61,7 @@ impl<W: Named> Lesson<Envelope, PassView> for Pushed<W> {
 }
 
 impl<W: Named> Outcome<Envelope, PassView> for Popped<W> {
-    ghost then = { λ v x w. IsNext W.world v x × (w ≡ taken v x) };
+    ghost then = { λ v x w. IsTakersNext W.world v x × (w ≡ taken v x) };
 }
 
 impl<W: Named> Lesson<Envelope, PassView> for Popped<W> {
@@ -117,7 +117,7 @@ impl<W: Named> Channel<W> {
         requires fits { FitsWorld W.world envelope }
         ensures pass { IsSeatAt (sends_on self.now.to) pass.new }
         ensures sent { MatchResult result
-            (λ _. view pass.new ≡ offered (view pass.old) envelope)
+            (λ _. view pass.new ≡ pass_offered (view pass.old) envelope)
             (λ back. (back ≡ envelope) × (view pass.new ≡ view pass.old)) }
     {
         for _ in 0..YIELDS {
@@ -144,7 +144,7 @@ impl<W: Named> Mailbox<W> for WaitingBox<W> {
 
     ghost is_sender = { λ q s. (receives_on q.queue.from ≡ sends_on q.queue.to) × IsSeatAt (sends_on q.queue.to) s.pass };
 
-    ghost is_taker = { λ q t. ((receives_on q.queue.from ≡ sends_on q.queue.to) × IsSeatAt (sends_on q.queue.to) t.pass) × IsTaking (view t.pass) t.counts.items t.positions.rows.items };
+    ghost is_taker = { λ q t. ((receives_on q.queue.from ≡ sends_on q.queue.to) × IsSeatAt (sends_on q.queue.to) t.pass) × KnowsPlaces (view t.pass) t.counts.items t.positions.rows.items };
 
     fn open(
         alloc: Global,
@@ -204,7 +204,7 @@ impl<W: Named> Mailbox<W> for WaitingBox<W> {
         taker: WaitingTaker<W>,
     ) -> Result<Left, AllocError>
         requires senders { Each (λ s. (receives_on self.queue.from ≡ sends_on self.queue.to) × IsSeatAt (sends_on self.queue.to) s.pass) senders.items }
-        requires taker { ((receives_on self.queue.from ≡ sends_on self.queue.to) × IsSeatAt (sends_on self.queue.to) taker.pass) × IsTaking (view taker.pass) taker.counts.items taker.positions.rows.items }
+        requires taker { ((receives_on self.queue.from ≡ sends_on self.queue.to) × IsSeatAt (sends_on self.queue.to) taker.pass) × KnowsPlaces (view taker.pass) taker.counts.items taker.positions.rows.items }
         requires all { AreAll (send_counts_of (map (λ s. sends_by s.pass) senders.items)) (takes_by taker.pass).counts }
         ensures left { IfOk result (λ left. IsAllLeft W.world (send_counts_of (map (λ s. sends_by s.pass) senders.items)) (takes_by taker.pass).counts (map held_of left.lanes.items)) }
     {

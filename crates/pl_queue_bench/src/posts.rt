@@ -4,7 +4,7 @@ ghost use Rattle.std.specs.Prelude.{◌≡◌, ◌<◌, ◌≤◌, ◌^◌, fals
 ghost use denote.Param.Send.{IsSync};
 ghost use Rattle.pl_event.specs.Worlds.{FitsWorld};
 ghost use Rattle.pl_queue.specs.declared.views.SenderView.{SenderView};
-ghost use Rattle.pl_queue.specs.Left.{Apart, all_lanes};
+ghost use Rattle.pl_queue.specs.Left.{Apart, lanes_of_senders};
 ghost use Rattle.pl_queue.specs.Rule.{Each};
 ghost use Rattle.pl_queue.specs.Views.{sent_of, after_offer, fresh_sends};
 ghost use Rattle.pl_post.specs.Posts.{IsSeatOf, IsOwnerOf};
@@ -36,7 +36,7 @@ pub trait Closable<W: Named>: Sized {
     /// With a seat for each list of lanes, and its owner.
     fn open(alloc: Global, lanes: Vec<Vec<Lane>>) -> Option<(Self, Vec<Self::Seat>, Self::Owner)>
         requires some { 0 < vec_len lanes }
-        requires apart { Apart (all_lanes (map (λ v. v.items) lanes.items)) }
+        requires apart { Apart (lanes_of_senders (map (λ v. v.items) lanes.items)) }
         ensures seats { IfSome result (λ r. Each (λ s. is_seat r.0 s) r.1.items × (map sends_of r.1.items ≡ map (λ v. fresh_sends v.items) lanes.items)) }
         ensures owner { IfSome result (λ r. is_owner r.0 r.2) };
 

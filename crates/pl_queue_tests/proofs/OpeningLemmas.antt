@@ -6,7 +6,7 @@ use Rattle.std.proofs.lemmas.List.{get_or_append_left, get_or_push}
 use Rattle.pl_event.specs.declared.envelopes.Lane.{Lane}
 use Rattle.pl_event.specs.Hops.{flags_lane, same_lane}
 use Rattle.pl_event.proofs.SameLanes.{same_lane-equal}
-use Rattle.pl_queue.specs.Left.{Apart, all_lanes, own_lanes}
+use Rattle.pl_queue.specs.Left.{Apart, lanes_of_senders, own_lanes}
 use Rattle.pl_queue.specs.Rule.{Each}
 use Rattle.pl_queue.proofs.Lists.{Each-snoc, Each-weaker, map-append, all_lanes-snoc}
 use Rattle.pl_queue_tests.specs.Openings.{hops_below, HaveChannels}
@@ -43,20 +43,20 @@ hops-apart c (suc n) = Apart-append (hops_below c n) (flags_lane c n ∷ []) (ho
 -- the first so many lists have a channel each, and the others have no lane
 pub record AreLists (hops channels : ℕ) (lists : List (Vec Lane)) : Type 0 where
   pub each : HaveChannels hops channels lists
-  pub below : Each (λ (l : Lane). l.channel < channels) (all_lanes (map own_lanes lists))
-  pub apart : Apart (all_lanes (map own_lanes lists))
+  pub below : Each (λ (l : Lane). l.channel < channels) (lanes_of_senders (map own_lanes lists))
+  pub apart : Apart (lanes_of_senders (map own_lanes lists))
 
-lanes-more : (lists : List (Vec Lane)) (v : Vec Lane) (own : List Lane) → v.items ≡ own → all_lanes (map own_lanes (lists ++ v ∷ [])) ≡ all_lanes (map own_lanes lists) ++ own
+lanes-more : (lists : List (Vec Lane)) (v : Vec Lane) (own : List Lane) → v.items ≡ own → lanes_of_senders (map own_lanes (lists ++ v ∷ [])) ≡ lanes_of_senders (map own_lanes lists) ++ own
 lanes-more lists v own e =
-    ap all_lanes (map-append own_lanes lists (v ∷ [])) ∙ all_lanes-snoc (map own_lanes lists) v.items ∙ ap (λ ls. all_lanes (map own_lanes lists) ++ ls) e
+    ap lanes_of_senders (map-append own_lanes lists (v ∷ [])) ∙ all_lanes-snoc (map own_lanes lists) v.items ∙ ap (λ ls. lanes_of_senders (map own_lanes lists) ++ ls) e
 
 front : {A : Type 0} (xs : List A) (x y : A) (i : ℕ) → i < length xs → y ≡ get_or (xs ++ x ∷ []) i y → y ≡ get_or xs i y
 front xs x y i h e = e ∙ get_or_append_left xs (x ∷ []) y i h
 
 pub channel-more : (hops n : ℕ) (lists : List (Vec Lane)) (v : Vec Lane) → length lists ≡ n → v.items ≡ hops_below n hops → AreLists hops n lists → AreLists hops (n + 1) (lists ++ v ∷ [])
 channel-more hops n lists v len own h =
-    let before = all_lanes (map own_lanes lists) in
-    let more : before ++ hops_below n hops ≡ all_lanes (map own_lanes (lists ++ v ∷ [])) = sym (lanes-more lists v (hops_below n hops) own) in
+    let before = lanes_of_senders (map own_lanes lists) in
+    let more : before ++ hops_below n hops ≡ lanes_of_senders (map own_lanes (lists ++ v ∷ [])) = sym (lanes-more lists v (hops_below n hops) own) in
     record {
       each = λ i w below e. ⊎_elim
           (λ (x : i ≡ n). ap (λ (u : Vec Lane). u.items) (e ∙ get_or_push lists v w i (len ∙ sym x)) ∙ own ∙ ap (λ c. hops_below c hops) (sym x))
@@ -73,7 +73,7 @@ channel-more hops n lists v len own h =
 
 pub none-more : (hops n : ℕ) (lists : List (Vec Lane)) (v : Vec Lane) → n ≤ length lists → v.items ≡ [] → AreLists hops n lists → AreLists hops n (lists ++ v ∷ [])
 none-more hops n lists v len own h =
-    let same : all_lanes (map own_lanes lists) ≡ all_lanes (map own_lanes (lists ++ v ∷ [])) = sym (lanes-more lists v [] own ∙ append-nil (all_lanes (map own_lanes lists))) in
+    let same : lanes_of_senders (map own_lanes lists) ≡ lanes_of_senders (map own_lanes (lists ++ v ∷ [])) = sym (lanes-more lists v [] own ∙ append-nil (lanes_of_senders (map own_lanes lists))) in
     record {
       each = λ i w below e. h.each i w below (front lists v w i (omega (arith, below, len)) e);
       below = subst (λ ls. Each (λ (l : Lane). l.channel < n) ls) same h.below;

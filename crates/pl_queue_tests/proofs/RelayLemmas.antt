@@ -1,6 +1,7 @@
 -- What a relay sends fits, and which lanes its senders and its taker have.
 use Rattle.std.proofs.Common.{◌≡◌, ◌+◌, ◌<◌, ℕ, zero, suc, Bool, true, false, cond, List, [], ◌∷◌, ◌++◌, Some, None, replicate, slice_get, get_or, map, length, refl, ap, sym, ◌∙◌, subst, ⊎_elim, arith}
 use Rattle.std.proofs.lemmas.Bool.{cond-true, cond-false, cases_Bool}
+use Rattle.std.proofs.lemmas.Option.{none-some}
 use Rattle.pl_event.specs.declared.envelopes.Envelope.{Envelope}
 use Rattle.pl_event.specs.declared.envelopes.Item.{Item}
 use Rattle.pl_event.specs.declared.envelopes.Item.TheVariants as item
@@ -15,11 +16,11 @@ use Rattle.pl_event.proofs.SameLanes.{same_lane-self}
 use Rattle.pl_queue.specs.declared.views.SendCount.{SendCount}
 use Rattle.pl_queue.specs.declared.views.SenderView.{SenderView}
 use Rattle.pl_queue.specs.declared.views.TakerView.{TakerView}
-use Rattle.pl_queue.specs.Left.{send_counts_of, all_lanes, AreAll}
+use Rattle.pl_queue.specs.Left.{send_counts_of, lanes_of_senders, AreAll}
 use Rattle.pl_queue.specs.Rule.{Each}
 use Rattle.pl_queue.specs.Views.{fresh_sends, send_count, sent_of, set_send_count, lanes_of_send_counts, lanes_of_counts, after_offer, after_take, sends, fresh_takes, fresh_take_counts}
 use Rattle.pl_queue.proofs.Drains.{set_send_count-lanes, set_take_count-lanes, all-given}
-use Rattle.pl_queue.proofs.Lists.{none-some, map-append}
+use Rattle.pl_queue.proofs.Lists.{map-append}
 use Rattle.pl_queue_tests.specs.Flags.{flag_at}
 use Rattle.pl_queue_tests.specs.Lines.{CarriesLines, line_read}
 use Rattle.pl_queue_tests.specs.Relays.{IsFresh, lane_events, event_at, event, sending_lanes, taking_lanes}
@@ -145,9 +146,9 @@ opened_two P f h all front r x y lanes a b first second each is e d l p q =
 
 -- the taker of such a mailbox
 pub opened_taker : {V : Type 0} (h : V → List Lane) (t : TakerView) (lanes : List V) (a b : V) (first second : Lane)
-    → t ≡ fresh_takes (all_lanes (map h lanes)) → lanes ≡ a ∷ b ∷ [] → h a ≡ first ∷ [] → h b ≡ second ∷ [] → taking_lanes t ≡ first ∷ second ∷ []
+    → t ≡ fresh_takes (lanes_of_senders (map h lanes)) → lanes ≡ a ∷ b ∷ [] → h a ≡ first ∷ [] → h b ≡ second ∷ [] → taking_lanes t ≡ first ∷ second ∷ []
 opened_taker h t lanes a b first second is l p q =
-    ap taking_lanes is ∙ ap (λ vs. lanes_of_counts (fresh_take_counts (all_lanes (map h vs)))) l
+    ap taking_lanes is ∙ ap (λ vs. lanes_of_counts (fresh_take_counts (lanes_of_senders (map h vs)))) l
     ∙ ap (λ ls. lanes_of_counts (fresh_take_counts (ls ++ (h b ++ [])))) p
     ∙ ap (λ ls. lanes_of_counts (fresh_take_counts (first ∷ (ls ++ [])))) q
 
@@ -184,9 +185,9 @@ opened_one P f h all front x lanes a first each is e l p =
     (Each-last P front x (subst (λ xs. Each P xs) e each), fresh first (f x) (last_one f front x (fresh_sends (h a)) m ∙ ap fresh_sends p))
 
 pub opened_one-taker : {V : Type 0} (h : V → List Lane) (t : TakerView) (lanes : List V) (a : V) (first : Lane)
-    → t ≡ fresh_takes (all_lanes (map h lanes)) → lanes ≡ a ∷ [] → h a ≡ first ∷ [] → taking_lanes t ≡ first ∷ []
+    → t ≡ fresh_takes (lanes_of_senders (map h lanes)) → lanes ≡ a ∷ [] → h a ≡ first ∷ [] → taking_lanes t ≡ first ∷ []
 opened_one-taker h t lanes a first is l p =
-    ap taking_lanes is ∙ ap (λ vs. lanes_of_counts (fresh_take_counts (all_lanes (map h vs)))) l ∙ ap (λ ls. lanes_of_counts (fresh_take_counts (ls ++ []))) p
+    ap taking_lanes is ∙ ap (λ vs. lanes_of_counts (fresh_take_counts (lanes_of_senders (map h vs)))) l ∙ ap (λ ls. lanes_of_counts (fresh_take_counts (ls ++ []))) p
 
 -- its lane is all that the taker has
 pub one-sender : {S : Type 0} (f : S → SenderView) (none all : List S) (x : S) (t : TakerView) (first : Lane) → none ≡ [] → all ≡ none ++ x ∷ [] → sending_lanes (f x) ≡ first ∷ []

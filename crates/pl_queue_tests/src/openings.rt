@@ -2,7 +2,7 @@
 
 ghost use Rattle.std.specs.Prelude.{◌≡◌, ◌∷◌, ◌<◌, max, map, vec_len, false, [], IfOk};
 ghost use Rattle.pl_event.specs.Hops.{same_lane};
-ghost use Rattle.pl_queue.specs.Left.{Apart, all_lanes, own_lanes};
+ghost use Rattle.pl_queue.specs.Left.{Apart, lanes_of_senders, own_lanes};
 ghost use Rattle.pl_queue_tests.specs.Openings.{hops_below, HaveChannels};
 ghost use Rattle.pl_queue_tests.specs.Relays.{IsFresh, taking_lanes};
 
@@ -32,7 +32,7 @@ pub fn lists(
 ) -> Result<Vec<Vec<Lane>>, AllocError>
     ensures len { IfOk result (λ v. vec_len v ≡ max channels senders) }
     ensures each { IfOk result (λ v. HaveChannels hops channels v.items) }
-    ensures apart { IfOk result (λ v. Apart (all_lanes (map own_lanes v.items))) }
+    ensures apart { IfOk result (λ v. Apart (lanes_of_senders (map own_lanes v.items))) }
 {
     let mut all = Vec::new(alloc);
     for channel in 0..channels {

@@ -19,8 +19,8 @@ use Rattle.pl_head.specs.Transports.{TransportState}
 use Rattle.pl_part.specs.ContextHolds.{HoldsWith, port_point, ports_came, context_came}
 use Rattle.pl_part.specs.Paths.{context_at, writer_hop, path_came}
 use Rattle.pl_part.specs.Parts.{ChannelPartView, part_came}
-use Rattle.pl_replay.specs.Channels.{ChannelsStand, came_of}
-use Rattle.pl_replay.specs.Given.{HasGiven, given}
+use Rattle.pl_channel.specs.Channels.{ChannelsStand, came_of}
+use Rattle.pl_replay.specs.Given.{HasGiven, point_given}
 
 -- ---- how far the lanes of three ports have come
 
@@ -38,7 +38,7 @@ came-down true false up down flags has apart = absurd (both_ways false refl has)
 came-down false false up down flags has apart = absurd (both_ways false refl has)
 
 -- so far has come what a port was given, which is open or closed
-at-port : (made : List Event) (p : Port) (over : Bool) → p.is_open ≡ not over → (p.is_open ≡ true → p.made ≡ length made) → (p.is_open ≡ false → p.made ≡ length made + 1) → port_point p ≡ given made over
+at-port : (made : List Event) (p : Port) (over : Bool) → p.is_open ≡ not over → (p.is_open ≡ true → p.made ≡ length made) → (p.is_open ≡ false → p.made ≡ length made + 1) → port_point p ≡ point_given made over
 at-port made p true shut opened closed = λ i. point (closed shut i) (not (shut i))
 at-port made p false shut opened closed =
     let all : p.made ≡ length made + 0 = let n = opened shut in omega (arith, n) in

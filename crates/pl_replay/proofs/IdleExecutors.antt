@@ -16,8 +16,9 @@ use Rattle.pl_context.specs.Stops.{StopsView, HasPlaces, has_stopped, no_stops}
 use Rattle.pl_context.specs.WaitingViews.{Holds, stops_for}
 use Rattle.pl_context.proofs.Places.{places-start}
 use Rattle.pl_part.specs.Parts.{ChannelPartView}
-use Rattle.pl_net.specs.Nets.{ExecutorView}
-use Rattle.pl_replay.specs.Placed.{lanes_between, IsIdle, AreIdle}
+use Rattle.pl_net.specs.Nets.{StationView}
+use Rattle.pl_channel.specs.Ways.{lanes_between}
+use Rattle.pl_replay.specs.Idle.{IsIdle, AreIdle}
 
 none-stopped : (places : ℕ) (l : Lane) → has_stopped (no_stops places) l ≡ false
 none-stopped places l = elim l.kind as (λ k. elim k [ Data ↦ false | Flags ↦ false ] ≡ false) [ Data ↦ refl | Flags ↦ refl ]
@@ -26,7 +27,7 @@ module _ {S T : Type 0} (ps : List (ChannelPartView S T)) (count : ℕ) where
   abbrev stops_between : ℕ → ℕ → StopsView
   stops_between x y = no_stops (length (lanes_between ps x y))
 
-  module _ (x : ℕ) (e : ExecutorView) (idle : IsIdle ps count x e) where
+  module _ (x : ℕ) (e : StationView) (idle : IsIdle ps count x e) where
     targets-size : length e.waiting.targets ≡ count
     targets-size = sym (length-map e.waiting.targets (λ b. b.stopped)) ∙ ap length idle.places ∙ length-map-range_with_len (stops_between x) 0 count
 
@@ -53,7 +54,7 @@ module _ {S T : Type 0} (ps : List (ChannelPartView S T)) (count : ℕ) where
     ]
 
   -- one that was made with these places
-  pub idle-made : (x : ℕ) (places : List ℕ) (e : ExecutorView) → places ≡ map (λ y. length (lanes_between ps x y)) (range_with_len 0 count) → e.queue ≡ []
+  pub idle-made : (x : ℕ) (places : List ℕ) (e : StationView) → places ≡ map (λ y. length (lanes_between ps x y)) (range_with_len 0 count) → e.queue ≡ []
       → Holds e.waiting [] → map (λ b. b.stopped) e.waiting.targets ≡ map no_stops places → e.waiting.added ≡ 0 → IsIdle ps count x e
   idle-made x places e are queue waiting stopped added = record {
     queue = queue;
@@ -62,10 +63,10 @@ module _ {S T : Type 0} (ps : List (ChannelPartView S T)) (count : ℕ) where
     places = stopped ∙ ap (map no_stops) are ∙ map-map no_stops (λ y. length (lanes_between ps x y)) (range_with_len 0 count);
   }
 
-  abbrev pub AllIdle : List ExecutorView → Type 0
-  AllIdle executors = (y : ℕ) (e : ExecutorView) → slice_get executors y ≡ Some e → IsIdle ps count y e
+  abbrev pub AllIdle : List StationView → Type 0
+  AllIdle executors = (y : ℕ) (e : StationView) → slice_get executors y ≡ Some e → IsIdle ps count y e
 
-  pub idle-push : (n : ℕ) (executors grown : List ExecutorView) (new : ExecutorView) → n ≡ length executors → grown ≡ executors ++ new ∷ [] → AllIdle executors → IsIdle ps count n new → AllIdle grown
+  pub idle-push : (n : ℕ) (executors grown : List StationView) (new : StationView) → n ≡ length executors → grown ≡ executors ++ new ∷ [] → AllIdle executors → IsIdle ps count n new → AllIdle grown
   idle-push n executors grown new size pushed each here y e found =
       let at = ap (λ l. slice_get l y) (sym pushed) ∙ found in
       let within = slice_get_within (executors ++ new ∷ []) y e at in
@@ -79,7 +80,7 @@ module _ {S T : Type 0} (ps : List (ChannelPartView S T)) (count : ℕ) where
             subst (λ v. IsIdle ps count y v) same (subst (λ k. IsIdle ps count k new) (size ∙ sym last) here)
       ]
 
-  pub idle-all : (executors : List ExecutorView) → length executors ≡ count → AllIdle executors → AreIdle ps count executors
+  pub idle-all : (executors : List StationView) → length executors ≡ count → AllIdle executors → AreIdle ps count executors
   idle-all executors size each = record {
     count = size;
     queues = λ y e at. let i = each y e at in (i.queue, i.waiting, i.added, targets-size y e i ∙ sym size);
@@ -94,11 +95,11 @@ module _ {S T : Type 0} (ps : List (ChannelPartView S T)) (count : ℕ) where
         (places-start (length (lanes_between ps y z)) (lanes_between ps y z) (omega arith));
   }
     where
-      nobody : ExecutorView
+      nobody : StationView
       nobody = record { queue = []; waiting = record { targets = []; added = 0; taken = 0 }; room = 0 }
 
       at : (y : ℕ) → y < length executors → slice_get executors y ≡ Some (get_or executors y nobody)
       at y below = slice_get-get_or executors y nobody below
 
-      stops_in : Option ExecutorView → ℕ → StopsView
-      stops_in o z = option_map_or (λ (e : ExecutorView). stops_for e.waiting z) o (no_stops 0)
+      stops_in : Option StationView → ℕ → StopsView
+      stops_in o z = option_map_or (λ (e : StationView). stops_for e.waiting z) o (no_stops 0)

@@ -16,14 +16,14 @@ use Rattle.pl_head.specs.declared.heads.ReadStep.{ReadStep}
 use Rattle.pl_head.specs.HeadStand.{HeadView}
 use Rattle.pl_head.specs.Transports.{TransportState}
 use Rattle.pl_net.specs.NodesViews.{NodesView}
-use Rattle.pl_net.specs.Nets.{CoreView, IsStep, Steps, Settles, RunsTask, Gives}
+use Rattle.pl_net.specs.Nets.{CoreView, IsStep, Steps, WorksListOff, RunsTask, Gives}
 use Rattle.pl_part.specs.Parts.{ChannelPartView, SamePart, PartTakes, PartReads, PartMoves}
 use Rattle.pl_channel.specs.Lanes.{world_of}
 use Rattle.pl_channel.specs.PlanStand.{PartKeepsPlan, PartsKeepPlan}
 use Rattle.pl_channel.proofs.HeadLanes.{HeadBegins, part-begins}
 use Rattle.pl_channel.proofs.PlanLemmas.{part-takes-keeps, part-reads-keeps, part-writes-keeps}
-use Rattle.pl_replay.specs.Channels.{ChannelsStand, HasMoved, home_of}
-use Rattle.pl_replay.specs.Moves.{nodes_view, nodes_take, nodes_move, Makes}
+use Rattle.pl_channel.specs.Channels.{ChannelsStand, HasMoved, home_of}
+use Rattle.pl_replay.specs.Moves.{nodes_view, nodes_take, nodes_move, MakesMove}
 use Rattle.pl_replay.specs.declared.channels.Channels.{Channels}
 use Rattle.pl_world.specs.declared.moves.Move.{Move}
 use Rattle.pl_world.specs.declared.moves.Move.TheVariants.{Read, Task, Hand, Out}
@@ -41,7 +41,7 @@ module _ {N : Type 0} (view_of : N → NodesView) (takes : N → Envelope → Ou
   steps-keep zero x c c' s held = subst (λ (v : CoreView N). P v.nodes) (sym s) held
   steps-keep (suc n) x c c' s held = step-keeps x s.0 c' s.2 (steps-keep n x c s.0 s.1 held)
 
-  settles-keep : (x : ℕ) (c c' : CoreView N) → Settles view_of takes x c c' → P c.nodes → P c'.nodes
+  settles-keep : (x : ℕ) (c c' : CoreView N) → WorksListOff view_of takes x c c' → P c.nodes → P c'.nodes
   settles-keep x c c' s held = steps-keep s.count x c c' s.steps held
 
   pub task-keeps : (x : ℕ) (c c' : CoreView N) → RunsTask view_of takes x c c' → P c.nodes → P c'.nodes
@@ -104,7 +104,7 @@ module _ {S T : Type 0} (meaning : S → Meaning) (stands_after : S → List Eve
         (λ n' before after m kept. moves-kept c.nodes n' by channel before after stand m kept) g k
 
     -- Whatever move is made, the nodes of all channels go on as the plan has them.
-    pub makes-keeps : (capacity : ℕ) (move : Move) (c c' : CoreView (Channels S T)) → holds c.nodes → Makes meaning stands_after is_spent state may_refuse capacity move c c' → keeps c.nodes → keeps c'.nodes
+    pub makes-keeps : (capacity : ℕ) (move : Move) (c c' : CoreView (Channels S T)) → holds c.nodes → MakesMove meaning stands_after is_spent state may_refuse capacity move c c' → keeps c.nodes → keeps c'.nodes
     makes-keeps capacity (Read channel) c c' stand m k = gives-kept head.Read channel c c' stand m k
     makes-keeps capacity (Task x) c c' stand m k = task-keeps (nodes_view meaning) (nodes_take meaning stands_after is_spent state) keeps takes-kept x c c' m k
     makes-keeps capacity (Hand x) c c' stand m k = subst keeps (sym m.hands.nodes) k

@@ -1,13 +1,5 @@
-pub mod Vecs
-pub mod Wholes
-pub mod OneChannel
-pub mod HeadMoves
-pub mod PlaceTables
-pub mod LaneCounts
-pub mod CountedParts
+pub mod CallViews
 pub mod IdleExecutors
-pub mod LanePlaces
-pub mod PlacedChannels
 pub mod Kept
 pub mod MoveSteps
 pub mod NetStarts

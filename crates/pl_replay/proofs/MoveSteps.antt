@@ -6,7 +6,7 @@ use Rattle.std.proofs.lemmas.Option.{slice_get-get_or}
 use Rattle.pl_event.specs.declared.events.Event.{Event}
 use Rattle.pl_event.specs.Meaning.{Meaning}
 use Rattle.pl_event.specs.Worlds.{World}
-use Rattle.pl_event.proofs.Lists.{All-at}
+use Rattle.pl_event.proofs.Lists.{All-at, at-index}
 use Rattle.pl_event.specs.declared.envelopes.Envelope.{Envelope}
 use Rattle.pl_context.specs.OutputsViews.{OutputsView}
 use Rattle.pl_context.specs.WaitingViews.{Entry}
@@ -14,17 +14,16 @@ use Rattle.pl_head.specs.Transports.{TransportState}
 use Rattle.pl_net.specs.Cores.{core_view, waits_of, IsUnmoved, IsUnmovedButRoom}
 use Rattle.pl_part.specs.Parts.{ChannelPartView, head_hop}
 use Rattle.std.specs.Option.{option_map_or}
-use Rattle.pl_net.specs.Nets.{CoreView, ExecutorView, CoreStands, RunsTask, HandsOver, queue_at}
+use Rattle.pl_net.specs.Nets.{CoreView, StationView, CoreStands, RunsTask, HandsOver, queue_at}
 use Rattle.pl_net.specs.declared.cores.Core.{Core}
 use Rattle.pl_net.proofs.CoreSteps.{rest-stands}
 use Rattle.pl_channel.specs.Lanes.{world_of}
 use Rattle.pl_channel.specs.PlanStand.{PartsKeepPlan}
-use Rattle.pl_replay.specs.Channels.{home_of, executor_at}
-use Rattle.pl_replay.specs.Moves.{nodes_view, nodes_stand, nodes_take, oldest, IsEnabled, Makes, LeadsTo}
+use Rattle.pl_channel.specs.Channels.{home_of, executor_at}
+use Rattle.pl_replay.specs.Moves.{nodes_view, nodes_stand, nodes_take, oldest, IsEnabled, MakesMove, LeadsTo}
 use Rattle.pl_replay.specs.NetStand.{NetStands}
 use Rattle.pl_replay.specs.declared.channels.Channels.{Channels}
 use Rattle.pl_replay.proofs.Kept.{makes-keeps}
-use Rattle.pl_replay.proofs.NetStarts.{at-index}
 use Rattle.pl_world.specs.declared.moves.Move.{Move}
 use Rattle.pl_world.specs.declared.moves.Move.TheVariants.{Hand}
 use Rattle.pl_world.specs.Plans.{Plan}
@@ -75,7 +74,7 @@ module _ {S T : Type 0} (meaning : S → Meaning) (stands_after : S → List Eve
   pub made-goes-on : (move : Move) (core core' : Core (Channels S T)) (made : Bool) (x : ℕ) (plan : Plan) (backlogs : ℕ → List (Entry (Unit {0})))
       → IsEnabled meaning stands_after is_spent state may_refuse plan.capacity move (core_view core backlogs) made
       → (made ≡ true → (after : ℕ → List (Entry (Unit {0}))) × CoreStands (nodes_view meaning) (nodes_stand meaning stands_after state) (world_of false plan) x (core_view core' after)
-      × Makes meaning stands_after is_spent state may_refuse plan.capacity move (core_view core backlogs) (core_view core' after))
+      × MakesMove meaning stands_after is_spent state may_refuse plan.capacity move (core_view core backlogs) (core_view core' after))
       → (made ≡ false → IsUnmoved core core') → core'.capacity ≡ core.capacity → vec_len core'.executors ≡ vec_len core.executors → core'.work.items ≡ []
       → NetStands meaning stands_after state plan backlogs core
       → (after : ℕ → List (Entry (Unit {0}))) × NetStands meaning stands_after state plan after core'
@@ -101,7 +100,7 @@ module _ {S T : Type 0} (meaning : S → Meaning) (stands_after : S → List Eve
   pub head-goes-on : (move : Move) (core core' : Core (Channels S T)) (made : Bool) (home : ℕ) → ((plan : Plan) (backlogs : ℕ → List (Entry (Unit {0}))) → IsEnabled meaning stands_after is_spent state may_refuse plan.capacity move (core_view core backlogs) made)
       → (made ≡ true → (plan : Plan) (world : World) (x : ℕ) (backlogs : ℕ → List (Entry (Unit {0}))) → CoreStands (nodes_view meaning) (nodes_stand meaning stands_after state) world x (core_view core backlogs)
       → (after : ℕ → List (Entry (Unit {0}))) × CoreStands (nodes_view meaning) (nodes_stand meaning stands_after state) world home (core_view core' after)
-      × Makes meaning stands_after is_spent state may_refuse plan.capacity move (core_view core backlogs) (core_view core' after))
+      × MakesMove meaning stands_after is_spent state may_refuse plan.capacity move (core_view core backlogs) (core_view core' after))
       → (made ≡ false → core' ≡ core) → core'.capacity ≡ core.capacity → vec_len core'.executors ≡ vec_len core.executors → core'.work.items ≡ [] → GoesOn move core made core'
   head-goes-on move core core' made home enabled runs idle capacity count empty = λ plan backlogs n.
       made-goes-on move core core' made home plan backlogs (enabled plan backlogs) (λ yes. runs yes plan (world_of false plan) 0 backlogs n.stands) (λ no. not-moved core core' (idle no)) capacity count empty n
@@ -113,7 +112,7 @@ module _ {S T : Type 0} (meaning : S → Meaning) (stands_after : S → List Eve
       → (made ≡ false → queue_at c.executors x ≡ []) → made ≡ nat_lt 0 (length (queue_at c.executors x))
   task-enabled c x true runs none =
       let r = (runs refl).1 in
-      let is : queue_at c.executors x ≡ r.envelope ∷ r.after.queue = ap (λ (o : Option ExecutorView). option_map_or (λ (e : ExecutorView). e.queue) o []) r.was ∙ r.front in
+      let is : queue_at c.executors x ≡ r.envelope ∷ r.after.queue = ap (λ (o : Option StationView). option_map_or (λ (e : StationView). e.queue) o []) r.was ∙ r.front in
       let some : length (queue_at c.executors x) ≡ suc (length r.after.queue) = ap length is in
       sym (lt-ltb 0 (length (queue_at c.executors x)) (omega (arith, some)))
   task-enabled c x false runs none = sym (ap (λ (q : List Envelope). nat_lt 0 (length q)) (none refl))

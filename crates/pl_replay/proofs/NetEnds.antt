@@ -1,8 +1,9 @@
 -- Each channel of a net has its two ends, and they hold in the world of the plan.
-use Rattle.std.proofs.Common.{◌≡◌, ℕ, true, List, slice_get, Option, Some, None, refl, ◌∙◌}
-use Rattle.std.specs.Prelude.{is_some, All}
+use Rattle.std.proofs.Common.{◌≡◌, ℕ, List, slice_get, Some, ◌∙◌}
+use Rattle.std.specs.Prelude.{All}
 use Rattle.pl_event.specs.declared.events.Event.{Event}
 use Rattle.pl_event.specs.Meaning.{Meaning}
+use Rattle.pl_event.proofs.Lists.{All-from-at, some-of}
 use Rattle.pl_context.specs.WaitingViews.{Entry}
 use Rattle.pl_head.specs.Transports.{TransportState}
 use Rattle.pl_net.specs.declared.cores.Core.{Core}
@@ -10,12 +11,7 @@ use Rattle.pl_part.specs.Parts.{ChannelPartView}
 use Rattle.pl_replay.specs.NetStand.{NetStands}
 use Rattle.pl_replay.specs.Reported.{HasEnds, HaveEnds}
 use Rattle.pl_replay.specs.declared.channels.Channels.{Channels}
-use Rattle.pl_replay.proofs.NetStarts.{All-from-at}
 use Rattle.pl_world.specs.Plans.{Plan}
-
-some-of : {A : Type 0} (o : Option A) → is_some o ≡ true → (x : A) × (o ≡ Some x)
-some-of (Some x) h = (x, refl)
-some-of None h = cc
 
 module _ {S T : Type 0} (meaning : S → Meaning) (stands_after : S → List Event → Type 0) (state : T → TransportState) (plan : Plan) (backlogs : ℕ → List (Entry (Unit {0}))) (core : Core (Channels S T)) (n : NetStands meaning stands_after state plan backlogs core) where
   has-ends : (c : ℕ) (part : ChannelPartView S T) → slice_get core.nodes.parts.items c ≡ Some part → HasEnds part

@@ -1,9 +1,9 @@
 -- Lists of reports, one for each part.
-use Rattle.std.proofs.Common.{◌≡◌, ◌≢◌, false, ℕ, ◌∷◌, ◌++◌, ◌&&◌, List, [], length, Bool, Some, suc, refl, sym, subst, ap, ◌∙◌, ◌+◌, ◌<◌, ◌≤◌, take, get_or, arith}
-use Rattle.std.specs.List.{AllZip, slice_get}
+use Rattle.std.proofs.Common.{◌≡◌, ◌≢◌, false, ℕ, ◌∷◌, ◌++◌, ◌&&◌, List, [], length, Bool, refl, sym, subst, ap, ◌∙◌, ◌+◌, ◌<◌, ◌≤◌, take, get_or}
+use Rattle.std.specs.List.{AllZip}
 use Rattle.std.proofs.lemmas.Option.{same_Some}
 use Rattle.std.proofs.lemmas.List.{take_all, take_more}
-use Rattle.pl_event.proofs.Lists.{list_all_push}
+use Rattle.pl_event.proofs.Lists.{list_all_push, zip_push, zip_through}
 use Rattle.pl_context.specs.TailViews.{TailView}
 use Rattle.pl_head.specs.Transports.{TransportState}
 use Rattle.pl_head.specs.HeadStand.{HeadView}
@@ -18,29 +18,12 @@ use Rattle.pl_world.specs.Reports.{AllKeepToPlan, AllReportPlan, ReportsPlan}
 use Rattle.pl_world.proofs.PlannedReports.{report_keeps}
 use Rattle.pl_replay.specs.Reported.{AreDrained, HasEnds, HaveEnds, IsPartStands, ReportsItsPlan, is_drained}
 
--- one more of each
-pub zip_push : {A B : Type 0} (R : A → B → Type 0) (xs : List A) (ys : List B) (x : A) (y : B) → AllZip R xs ys → R x y → AllZip R (xs ++ x ∷ []) (ys ++ y ∷ [])
-zip_push R [] [] x y all one = (one, tt)
-zip_push R (a ∷ xs) (b ∷ ys) x y all one = (all.0, zip_push R xs ys x y all.1 one)
-zip_push R [] (b ∷ ys) x y all one = elim all [ ]
-zip_push R (a ∷ xs) [] x y all one = elim all [ ]
-
 -- the next of them, and what goes with it
 pub zip_more : {A B : Type 0} (R : A → B → Type 0) (xs : List A) (i : ℕ) (x : A) (ys : List B) (y : B) (zs : List B) → i < length xs → x ≡ get_or xs i x → zs ≡ ys ++ y ∷ []
     → AllZip R (take i xs) ys → R x y → AllZip R (take (i + 1) xs) zs
 zip_more R xs i x ys y zs there is pushed all one =
     let taken : take (i + 1) xs ≡ take i xs ++ x ∷ [] = take_more xs i x there ∙ ap (λ z. take i xs ++ z ∷ []) (sym is) in
     rw (taken, pushed) (zip_push R (take i xs) ys x y all one)
-
--- what stands at the same place
-pub zip_through : {A B C : Type 0} (R : B → C → Type 0) (Q : A → C → Type 0) (xs : List A) (ys : List B) (zs : List C) → length ys ≡ length xs
-    → ((k : ℕ) (x : A) (y : B) → slice_get xs k ≡ Some x → slice_get ys k ≡ Some y → (z : C) → R y z → Q x z) → AllZip R ys zs → AllZip Q xs zs
-zip_through R Q [] [] [] same leads all = tt
-zip_through R Q [] [] (z ∷ zs) same leads all = elim all [ ]
-zip_through R Q (x ∷ xs) (y ∷ ys) [] same leads all = elim all [ ]
-zip_through R Q [] (y ∷ ys) zs same leads all = let none : ⊥ = omega (arith, same) in elim none [ ]
-zip_through R Q (x ∷ xs) [] zs same leads all = let none : ⊥ = omega (arith, same) in elim none [ ]
-zip_through R Q (x ∷ xs) (y ∷ ys) (z ∷ zs) same leads all = (leads 0 x y refl refl z all.0, zip_through R Q xs ys zs (omega (arith, same)) (λ k. leads (suc k)) all.1)
 
 -- all of them were taken
 pub zip_whole : {A B : Type 0} (R : A → B → Type 0) (xs : List A) (i : ℕ) (ys zs : List B) → length xs ≤ i → zs ≡ ys → AllZip R (take i xs) ys → AllZip R xs zs

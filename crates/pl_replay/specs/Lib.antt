@@ -1,5 +1,5 @@
-pub mod Channels
-pub mod Placed
+pub mod Views
+pub mod Idle
 pub mod Starts
 pub mod MoveModel
 pub mod Moves

@@ -11,7 +11,8 @@ use Rattle.pl_head.specs.Transports.{TransportState}
 use Rattle.pl_net.specs.Cores.{waits_of}
 use Rattle.pl_net.specs.NodesViews.{NodesView}
 use Rattle.pl_net.specs.Nets.{CoreView, RunsTask, Gives, HandsOver, has_room, queue_at}
-use Rattle.pl_replay.specs.Channels.{channels_view, ChannelsStand, home_of, IsTakenBy, IsMovedBy, MayMove}
+use Rattle.pl_replay.specs.Views.{channels_view}
+use Rattle.pl_channel.specs.Channels.{ChannelsStand, home_of, IsTakenBy, IsMovedBy, MayMove}
 use Rattle.pl_replay.specs.declared.channels.Channels.{Channels}
 use Rattle.pl_world.specs.declared.moves.Move.{Move}
 use Rattle.pl_world.specs.declared.moves.Move.TheVariants.{Read, Task, Hand, Out}
@@ -50,7 +51,7 @@ nodes_move state may_refuse n by channel before n' after = IsMovedBy state may_r
 -- ---- moves
 
 module _ {S T : Type 0} (meaning : S → Meaning) (stands_after : S → List Event → Type 0) (is_spent : S → Bool) (state : T → TransportState) (may_refuse : T → ℕ → Type 0) where
-  -- whether a move is enabled, where queues hold so many items
+  -- When a move is enabled, by the move model (FORMATS). Queues hold so many items.
   abbrev pub IsEnabled : ℕ → Move → CoreView (Channels S T) → Bool → Type 0
   IsEnabled capacity (Read channel) c b = MayMove state c.nodes.parts.items head.Read channel b
   IsEnabled capacity (Task x) c b = b ≡ nat_lt 0 (length (queue_at c.executors x))
@@ -58,16 +59,16 @@ module _ {S T : Type 0} (meaning : S → Meaning) (stands_after : S → List Eve
   IsEnabled capacity (Out channel) c b = MayMove state c.nodes.parts.items head.Out channel b
 
   -- what one that is enabled does
-  abbrev pub Makes : ℕ → Move → CoreView (Channels S T) → CoreView (Channels S T) → Type 0
-  Makes capacity (Read channel) c c' = Gives (nodes_view meaning) (nodes_take meaning stands_after is_spent state) (nodes_move state may_refuse) (home_of c.nodes.parts.items channel) head.Read channel c c'
-  Makes capacity (Task x) c c' = RunsTask (nodes_view meaning) (nodes_take meaning stands_after is_spent state) x c c'
-  Makes capacity (Hand x) c c' = HandsOldest capacity x c c'
-  Makes capacity (Out channel) c c' = Gives (nodes_view meaning) (nodes_take meaning stands_after is_spent state) (nodes_move state may_refuse) (home_of c.nodes.parts.items channel) head.Out channel c c'
+  abbrev pub MakesMove : ℕ → Move → CoreView (Channels S T) → CoreView (Channels S T) → Type 0
+  MakesMove capacity (Read channel) c c' = Gives (nodes_view meaning) (nodes_take meaning stands_after is_spent state) (nodes_move state may_refuse) (home_of c.nodes.parts.items channel) head.Read channel c c'
+  MakesMove capacity (Task x) c c' = RunsTask (nodes_view meaning) (nodes_take meaning stands_after is_spent state) x c c'
+  MakesMove capacity (Hand x) c c' = HandsOldest capacity x c c'
+  MakesMove capacity (Out channel) c c' = Gives (nodes_view meaning) (nodes_take meaning stands_after is_spent state) (nodes_move state may_refuse) (home_of c.nodes.parts.items channel) head.Out channel c c'
 
-  -- A move was made where it is enabled, and one that was not changes nothing.
+  -- A move was made where it is enabled (EventLoop), and one that was not changes nothing.
   pub record LeadsTo (capacity : ℕ) (move : Move) (c : CoreView (Channels S T)) (made : Bool) (c' : CoreView (Channels S T)) : Type 0 where
     pub enabled : IsEnabled capacity move c made
-    pub makes : made ≡ true → Makes capacity move c c'
+    pub makes : made ≡ true → MakesMove capacity move c c'
     pub rests : made ≡ false → Rests c c'
 
   -- so do several, one after another

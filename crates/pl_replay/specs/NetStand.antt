@@ -15,8 +15,9 @@ use Rattle.pl_world.specs.Plans.{Plan}
 use Rattle.pl_world.specs.PlanRules.{IsPlan, IsSmallPlan}
 
 module _ {S T : Type 0} (meaning : S → Meaning) (stands_after : S → List Event → Type 0) (state : T → TransportState) where
-  -- A net has this plan, which no move changes, and these backlogs: of each lane what is queued follows what was taken, what waits
-  -- follows that, and it goes up to what was made, unless a refused growth has cut it off. Nothing is on its work list.
+  -- A net stands at a plan (EventLoop): of each lane, what is queued and waits follows what was taken. It goes up to
+  -- what was made, unless a refused growth has cut it off. No move changes the plan, the net has these backlogs, and
+  -- nothing is on its work list.
   pub record NetStands (plan : Plan) (backlogs : ℕ → List (Entry Unit)) (core : Core (Channels S T)) : Type 0 where
     pub ruled : IsPlan plan
     pub small : IsSmallPlan plan

@@ -16,6 +16,7 @@ use Rattle.pl_replay.specs.Reported.{IsPartReport}
 use Rattle.pl_replay.specs.declared.channels.Channels.{Channels}
 
 module _ {S T : Type 0} (meaning : S → Meaning) (stands_after : S → List Event → Type 0) (is_spent : S → Bool) (state : T → TransportState) (may_refuse : T → ℕ → Type 0) where
+  -- the report of a replay by these moves
   pub record IsReplayed (plan : Plan) (transports : List T) (moves : List Move) (report : Report) : Type 0 where
     -- each move names what is there
     pub there : list_all (is_there plan) moves ≡ true

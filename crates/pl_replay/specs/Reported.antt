@@ -5,7 +5,7 @@ use Rattle.pl_event.specs.declared.events.Event.{Event}
 use Rattle.pl_context.specs.TailViews.{TailView}
 use Rattle.pl_head.specs.Marks.{Change}
 use Rattle.pl_head.specs.Transports.{TransportState}
-use Rattle.pl_head.specs.HeadStand.{HeadView, StandsAfter}
+use Rattle.pl_head.specs.HeadStand.{HeadView, HeadStandsAfter}
 use Rattle.pl_part.specs.Parts.{ChannelPartView}
 use Rattle.pl_channel.specs.Ends.{ends_of, EndsHold}
 use Rattle.pl_channel.specs.PlanStand.{HeadKeepsPlan}
@@ -28,10 +28,10 @@ pub record HasEnds {S T : Type 0} (part : ChannelPartView S T) : Type 0 where
   pub has_head : part.head ≡ Some head
 
 module _ {S T : Type 0} (state : T → TransportState) where
-  -- A part has both ends of its channel, and this is their report.
+  -- This is the report of a part. It has both ends of its channel.
   pub record IsPartReport (part : ChannelPartView S T) (r : ChannelReport) : Type 0 where
     pub ends : HasEnds part
-    pub reports : (ys zs : List Event) (sizes : List Change) → StandsAfter state ends.head ys zs sizes → IsChannelReport (ends_of state ends.tail ends.head ys zs) r
+    pub reports : (ys zs : List Event) (sizes : List Change) → HeadStandsAfter state ends.head ys zs sizes → IsChannelReport (ends_of state ends.tail ends.head ys zs) r
 
   -- It is the report of two ends that keep to the plan, of each plan in whose world both ends of the part hold, and which the
   -- head keeps.
@@ -42,7 +42,7 @@ module _ {S T : Type 0} (state : T → TransportState) where
   -- This is how they stand.
   pub record IsPartStands (part : ChannelPartView S T) (s : Stands) : Type 0 where
     pub ends : HasEnds part
-    pub stands : (ys zs : List Event) (sizes : List Change) → StandsAfter state ends.head ys zs sizes → s ≡ stands_of (ends_of state ends.tail ends.head ys zs)
+    pub stands : (ys zs : List Event) (sizes : List Change) → HeadStandsAfter state ends.head ys zs sizes → s ≡ stands_of (ends_of state ends.tail ends.head ys zs)
 
   -- whether all of these channels are drained
   pub record AreDrained (parts : List (ChannelPartView S T)) (b : Bool) : Type 0 where

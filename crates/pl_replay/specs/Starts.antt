@@ -1,5 +1,5 @@
 -- The channels of a net before any move.
-use Rattle.std.specs.Prelude.{◌≡◌, ℕ, Bool, false, List, [], length, map, slice_get, Some}
+use Rattle.std.specs.Prelude.{◌≡◌, ℕ, false, List, [], length, map, slice_get, Some}
 use Rattle.pl_event.specs.declared.events.Event.{Event}
 use Rattle.pl_event.specs.Meaning.{Meaning}
 use Rattle.pl_context.specs.Stops.{no_stops}
@@ -8,13 +8,14 @@ use Rattle.pl_part.specs.Parts.{ChannelPartView, PartHolds}
 use Rattle.pl_net.specs.Cores.{core_view}
 use Rattle.pl_net.specs.Nets.{CoreView, IsStart, no_backlogs}
 use Rattle.pl_net.specs.declared.cores.Core.{Core}
-use Rattle.pl_replay.specs.Channels.{channels_view, lanes_of}
 use Rattle.pl_replay.specs.NetStand.{NetStands}
+use Rattle.pl_replay.specs.Views.{channels_view}
 use Rattle.pl_replay.specs.declared.channels.Channels.{Channels}
+use Rattle.pl_channel.specs.Channels.{data_lanes_of}
 use Rattle.pl_channel.specs.Lanes.{world_of}
-use Rattle.pl_channel.specs.Placing.{IsWhole, HasNewStages, IsUnmoved}
+use Rattle.pl_channel.specs.Placing.{IsWhole, HasNewStages, IsAtStart}
 use Rattle.pl_world.specs.declared.session.Recorded.{Recorded}
-use Rattle.pl_world.specs.Plans.{ChannelPlan, Plan, channel_planned}
+use Rattle.pl_world.specs.Plans.{ChannelPlan, Plan}
 
 -- the transports of recorded channels, in order
 abbrev pub transports_of : {S T : Type 0} → List (Recorded S T) → List T
@@ -29,33 +30,20 @@ pub record HasPlannedStages {S T : Type 0} (meaning : S → Meaning) (stands_aft
   pub stages : HasNewStages meaning stands_after number inbound outbound part
 
 module _ {S T : Type 0} (meaning : S → Meaning) (stands_after : S → List Event → Type 0) (state : T → TransportState) where
-  -- A part has all nodes of a recorded channel, of which none has taken or made anything, and holds in the worlds of each plan
-  -- that has it under this number.
-  pub record IsPlaced (number : ℕ) (r : Recorded S T) (part : ChannelPartView S T) : Type 0 where
-    pub whole : IsWhole state number (channel_planned meaning state r) r.transport part
-    pub stages : HasNewStages meaning stands_after number r.pipeline.inbound r.pipeline.outbound part
-    pub unmoved : IsUnmoved meaning part
-    pub holds : (refuses : Bool) (plan : Plan) → slice_get plan.channels number ≡ Some (channel_planned meaning state r) → PartHolds (world_of refuses plan) meaning stands_after state part
-
-  -- So does each of recorded channels, by number.
-  pub record ArePlaced (rs : List (Recorded S T)) (parts : List (ChannelPartView S T)) : Type 0 where
-    pub count : length parts ≡ length rs
-    pub each : (number : ℕ) (r : Recorded S T) (part : ChannelPartView S T) → slice_get rs number ≡ Some r → slice_get parts number ≡ Some part → IsPlaced number r part
-
   -- Before any move: each channel of the plan has all its nodes, over one of these transports; nothing was taken, made or handed
   -- over, and no lane has stopped.
   pub record Begins (plan : Plan) (transports : List T) (c : CoreView (Channels S T)) : Type 0 where
     pub channels : length c.nodes.parts.items ≡ length plan.channels
     pub each : (number : ℕ) (p : ChannelPlan) (transport : T) (part : ChannelPartView S T) → slice_get plan.channels number ≡ Some p → slice_get transports number ≡ Some transport → slice_get c.nodes.parts.items number ≡ Some part
-        → IsWhole state number p transport part × HasPlannedStages meaning stands_after number p part × IsUnmoved meaning part × PartHolds (world_of false plan) meaning stands_after state part
+        → IsWhole state number p transport part × HasPlannedStages meaning stands_after number p part × IsAtStart meaning part × PartHolds (world_of false plan) meaning stands_after state part
     pub executors : length c.executors ≡ plan.executors
     pub start : IsStart (channels_view meaning c.nodes.parts.items) c.executors
     pub backlogs : c.backlogs ≡ no_backlogs
     -- nothing is on the work list, no lane has stopped there, and it has a place for each data lane
     pub work : c.work.items ≡ []
-    pub unstopped : c.work.stopped ≡ no_stops (length (lanes_of c.nodes.parts.items))
+    pub unstopped : c.work.stopped ≡ no_stops (length (data_lanes_of c.nodes.parts.items))
 
-  -- So does a net, which stands.
+  -- A net stands, and no move was made.
   pub record NetBegins (plan : Plan) (transports : List T) (core : Core (Channels S T)) : Type 0 where
     pub stands : NetStands meaning stands_after state plan no_backlogs core
     pub begins : Begins plan transports (core_view core no_backlogs)

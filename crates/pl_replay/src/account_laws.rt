@@ -12,11 +12,12 @@ ghost use Rattle.pl_net.specs.Numbers.{handed_of, made_of};
 ghost use Rattle.pl_net.specs.declared.cores.Core.{Core};
 ghost use Rattle.pl_part.specs.Parts.{ChannelPartView};
 ghost use Rattle.pl_part.specs.Paths.{context_at, writer_hop};
+ghost use Rattle.pl_channel.specs.Channels.{target_of, origin_of, taken_of, writes_of, came_of};
 ghost use Rattle.pl_channel.specs.Lanes.{world_of};
 ghost use Rattle.pl_world.specs.Plans.{Plan};
-ghost use Rattle.pl_replay.specs.Channels.{channels_view, target_of, origin_of, taken_of, writes_of, came_of};
 ghost use Rattle.pl_replay.specs.Given.{HasGiven};
 ghost use Rattle.pl_replay.specs.NetStand.{NetStands};
+ghost use Rattle.pl_replay.specs.Views.{channels_view};
 ghost use Rattle.pl_replay.specs.declared.channels.Channels.{Channels};
 
 use pl_event::Stage;

@@ -1,7 +1,8 @@
 //! The nodes of all channels.
 
 ghost use Rattle.std.specs.Prelude.{length};
-ghost use Rattle.pl_replay.specs.Channels.{channels_view, ChannelsStand, IsTakenBy, IsMovedBy, MayMove};
+ghost use Rattle.pl_channel.specs.Channels.{ChannelsStand, IsTakenBy, IsMovedBy, MayMove};
+ghost use Rattle.pl_replay.specs.Views.{channels_view};
 
 use pl_context::Outputs;
 use pl_event::{Envelope, Lane, Stage};

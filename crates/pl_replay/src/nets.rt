@@ -10,16 +10,17 @@ ghost use Rattle.pl_world.specs.declared.faults.ReplayFault.TheVariants as fault
 ghost use Rattle.pl_world.specs.declared.limits.TheConstants.{MAX_CAPACITY};
 ghost use Rattle.pl_world.specs.declared.moves.Move.TheVariants.{Hand};
 ghost use Rattle.pl_world.specs.Plans.{Plan, planned};
-ghost use Rattle.pl_replay.specs.Starts.{ArePlaced, NetBegins, transports_of};
+ghost use Rattle.pl_channel.specs.Placing.{ArePlaced};
+ghost use Rattle.pl_replay.specs.Starts.{NetBegins, transports_of};
 ghost use Rattle.std.specs.List.{AllZip};
 ghost use Rattle.pl_world.specs.Reports.{AllKeepToPlan, AllReportPlan};
 ghost use Rattle.pl_replay.specs.Reported.{AreDrained, HasEnds, IsPartReport};
 ghost use Rattle.pl_replay.specs.MoveModel.{is_there, is_hand};
 
 use crate::channels::Channels;
-use crate::placing::{idle_executors, lane_count};
+use crate::idle::idle_executors;
 use crate::reporting::{are_drained, into_reports, reports_of};
-use crate::starting::placed;
+use pl_channel::{lane_count, placed};
 use pl_event::Stage;
 use pl_flow::HeadMove;
 use pl_head::Transport;

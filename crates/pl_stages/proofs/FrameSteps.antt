@@ -28,17 +28,6 @@ keeps_nothing width max = record {
   skip = omega (arith, open_start-empty width max);
 }
 
-pub takes_none : (width max : ℕ) (partial : List ℕ) (to_skip : ℕ) (before : List Event)
-    → TakesBytes width max partial to_skip [] before partial to_skip before
-takes_none width max partial to_skip before = record {
-  kept = λ bytes keeps. subst (λ (t : List ℕ). KeepsFrame width max partial to_skip t) (sym (append-nil bytes)) keeps;
-  given = λ bytes keeps.
-      sym (append-nil before)
-      ∙ ap (λ (t : List Event). before ++ t)
-      (sym (drop_all (length (frames_of width max bytes)) (frames_of width max (bytes ++ []))
-      (omega (arith, ap (λ (t : List ℕ). length (frames_of width max t)) (append-nil bytes)))));
-}
-
 -- ---- one step
 
 -- with nothing to skip, what is not given yet is what is kept and what comes

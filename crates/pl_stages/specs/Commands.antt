@@ -74,11 +74,11 @@ command_with verb argument =
     else (if bytes_eq verb (codes "GET") then get_with argument
     else Err Unknown))))
 
--- The verb of a line is what is before its first space, or the whole line.
+-- the verb of a line: what is before its first space, or the whole line
 abbrev pub verb_of : List ℕ → List ℕ
 verb_of line = before_space line
 
--- the command of a line, or what is wrong with the line
+-- the command of a line, or what is wrong with it (FORMATS)
 abbrev pub command_of : List ℕ → Result Command Caught
 command_of line = command_with (verb_of line) (after_space line)
 
@@ -92,5 +92,6 @@ abbrev pub decoded : Event → Event
 decoded (event.Read (message.Line line)) = read_as (command_of line)
 decoded other = other
 
+-- the handler that makes a command of each line (command_law)
 abbrev pub command_decoding : Meaning
 command_decoding = mapping_up decoded

@@ -13,7 +13,7 @@ abbrev pub read_bytes : Event → List ℕ
 read_bytes (Read (Bytes b)) = b
 read_bytes other = []
 
--- all bytes read, joined
+-- all bytes read, joined (ByteToMessageDecoder)
 abbrev pub joined : List Event → List ℕ
 joined xs = flat_map read_bytes xs
 

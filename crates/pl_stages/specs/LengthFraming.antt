@@ -52,10 +52,11 @@ unfoldable pub given_frames : ℕ → ℕ → List ℕ → ℕ → List Event
 given_frames width max bytes zero = []
 given_frames width max bytes (suc n) = given_frames width max bytes n ++ given_frame width max bytes (frame_start width bytes n)
 
--- the frames that a stream of bytes gives, in order: never more than it has bytes, since each has a field
+-- The frames that a stream of bytes gives, in order. They are never more than it has bytes, since each has a field.
 unfoldable pub frames_of : ℕ → ℕ → List ℕ → List Event
 frames_of width max bytes = given_frames width max bytes (length bytes)
 
--- the framing by a length of so many bytes, of frames of at most max bytes with it
+-- The framing by a length field (LengthFieldBasedFrameDecoder, length_framing_law). That has so many bytes, and a
+-- frame with it at most max.
 abbrev pub length_framing : ℕ → ℕ → Meaning
 length_framing width max = cutting (frames_of width max)

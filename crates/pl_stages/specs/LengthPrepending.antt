@@ -8,7 +8,7 @@ use Rattle.pl_event.specs.declared.events.Message.TheVariants.{Bytes, Line}
 use Rattle.pl_event.specs.Meaning.{Meaning}
 use Rattle.pl_event.specs.Mappings.{mapping_down}
 
--- a payload with its length in front, a number in `width` bytes with the highest byte first
+-- A payload with its length in front. That is a number in `width` bytes, with the highest byte first.
 abbrev pub prefixed : ℕ → List ℕ → List ℕ
 prefixed width payload = big_bytes width (length payload) ++ payload
 
@@ -18,5 +18,6 @@ with_length width (Write (Bytes b)) =
     if nat_lt (length b) (256 ^ width) then Write (Bytes (prefixed width b)) else Write (Line b)
 with_length width event = event
 
+-- the handler that puts a length in front (LengthFieldPrepender)
 abbrev pub length_prepending : ℕ → Meaning
 length_prepending width = mapping_down (with_length width)

@@ -15,7 +15,7 @@ pub record KeepsFrame (width max : ℕ) (partial : List ℕ) (to_skip : ℕ) (by
   pub part : partial ≡ drop (open_start width max bytes) bytes
   pub skip : to_skip ≡ open_start width max bytes - length bytes
 
--- These bytes have no whole frame in front, and none that is known to be too long.
+-- No whole frame is in front of these bytes. Nor is one that is known to be too long.
 abbrev pub IsUnfinished : ℕ → ℕ → List ℕ → Type 0
 IsUnfinished width max bytes =
     width ≤ length bytes → (width + payload_len width bytes 0 ≤ max) × (length bytes < width + payload_len width bytes 0)

@@ -11,5 +11,6 @@ abbrev pub with_line_end : Event → Event
 with_line_end (Write (Bytes b)) = Write (Bytes (b ++ 13 ∷ 10 ∷ []))
 with_line_end event = event
 
+-- the handler that ends written bytes with CR LF (ChannelOutboundHandler)
 abbrev pub line_ending : Meaning
 line_ending = mapping_down with_line_end

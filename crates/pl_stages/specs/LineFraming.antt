@@ -13,7 +13,7 @@ abbrev pub onto_first_part : ℕ → List (List ℕ) → List (List ℕ)
 onto_first_part b [] = []
 onto_first_part b (part ∷ parts) = (b ∷ part) ∷ parts
 
--- the parts of these bytes that a line feed (byte 10) closes, each without it
+-- The parts of these bytes that line feeds close. A line feed is byte 10, and no part has it.
 abbrev pub closed_parts : List ℕ → List (List ℕ)
 closed_parts [] = []
 closed_parts (b ∷ bs) = if b == 10 then [] ∷ closed_parts bs else onto_first_part b (closed_parts bs)
@@ -31,7 +31,7 @@ framed max part =
 abbrev pub lines_of : ℕ → List ℕ → List Event
 lines_of max bytes = map (framed max) (closed_parts bytes)
 
--- the framing of lines of at most max bytes
+-- the framing of lines of at most max bytes (LineBasedFrameDecoder, framing_law)
 abbrev pub line_framing : ℕ → Meaning
 line_framing max = cutting (lines_of max)
 

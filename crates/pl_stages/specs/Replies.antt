@@ -31,5 +31,6 @@ abbrev pub encoded : Event → Event
 encoded (event.Write (message.Reply reply)) = event.Write (message.Bytes (reply_text reply))
 encoded other = other
 
+-- the handler that writes each reply as its text (ChannelOutboundHandler)
 abbrev pub reply_encoding : Meaning
 reply_encoding = mapping_down encoded

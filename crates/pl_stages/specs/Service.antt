@@ -28,12 +28,12 @@ has_quit xs = list_any is_quit xs
 abbrev pub before_quit : List Event → List Event
 before_quit xs = take_while (λ x. not (is_quit x)) xs
 
--- a number that was added to the total of a key
+-- a number that was added to a key's total
 pub record Addition : Type 0 where
   pub key : List ℕ
   pub number : ℕ
 
--- the total of a key after these additions: the sum of what was added to it
+-- The total of a key after these additions. It is the sum of what was added to it.
 abbrev pub total_of : List ℕ → List Addition → ℕ
 total_of key additions = sum_by (λ a. a.number) (filter (λ a. bytes_eq key a.key) additions)
 
@@ -46,7 +46,7 @@ abbrev pub held_keys : List Addition → List (List ℕ)
 held_keys [] = []
 held_keys (a ∷ additions) = if is_held a.key additions then held_keys additions else a.key ∷ held_keys additions
 
--- Why a number is not added to a key after these additions: its total would be above the greatest, or the key is not
+-- Why a number is not added to a key. After these additions its total would be above the greatest, or the key is not
 -- held and the most keys are.
 abbrev pub refusal_of : List ℕ → ℕ → List Addition → Option Fault
 refusal_of key n additions =
@@ -63,7 +63,8 @@ added_by additions (Read (Command (Add key n))) =
     unless_refused (refusal_of key n additions) (record { key = key; number = n } ∷ [])
 added_by additions other = []
 
--- The additions accepted among these events: of those before any quit, each with regard to the ones accepted before it.
+-- The additions accepted among these events. They are of those before any quit, each with regard to the ones accepted
+-- before it.
 abbrev pub accepted : List Event → List Addition
 accepted xs = fold (λ additions x. additions ++ added_by additions x) [] (before_quit xs)
 
@@ -92,7 +93,8 @@ replies_to additions ReadComplete = Flush ∷ []
 replies_to additions (Caught c) = Write (Reply (Error (fault_of c))) ∷ []
 replies_to additions other = []
 
--- Until it has quit, it passes each event on and writes the replies; after that it makes nothing.
+-- The turn that answers commands (FORMATS, service_law). Until it has quit, it passes each event on and writes the
+-- replies; after that it makes nothing.
 abbrev pub line_service : Meaning
 line_service = record {
   direction = Turn;

@@ -2,7 +2,7 @@
 
 ghost use Rattle.std.specs.Prelude.{◌≡◌, ◌%◌, ◌<◌, ◌≤◌, ◌↔◌, List, ◌++◌, ◌∷◌, [], IfOk, IsOk, false};
 ghost use Rattle.pl_event.specs.declared.events.Event.{Event};
-ghost use Rattle.pl_stages.specs.Flushes.{flush_every, flush_every-lawful, flushes, is_flush, passes};
+ghost use Rattle.pl_stages.specs.Flushes.{flush_every, flush_every-lawful, flushes, is_flush_event, passes};
 
 use crate::limits::MAX_FLUSHES;
 use crate::stage_refusal::StageRefusal;
@@ -54,7 +54,7 @@ impl FlushEvery {
 
 /// Whether the event is a flush.
 fn is_flush(event: &Event) -> bool
-    ensures { result ≡ is_flush event.now }
+    ensures { result ≡ is_flush_event event.now }
 {
     match event {
         Event::Flush => true,

@@ -11,7 +11,7 @@ use Rattle.pl_build.specs.declared.named_stages.NamedStage.{NamedStage}
 use Rattle.pl_build.specs.declared.faults.BuildFault.{BuildFault}
 use Rattle.pl_build.specs.declared.faults.BuildFault.TheVariants.{DuplicateName, NoSuchName, Limit, NoSuchGroup, NoTurn, TwoTurns}
 use Rattle.pl_build.specs.Names.{is_name}
-use Rattle.pl_build.specs.Pipelines.{handler_of, is_named, index_of, meanings, is_outbound, is_inbound, is_turn, inbound_handlers, before_turn, outbound_handlers}
+use Rattle.pl_build.specs.Pipelines.{handler_of, is_named, index_of, meanings, is_outbound_stage, is_inbound, is_turn_stage, inbound_handlers, stages_before_turn, outbound_handlers}
 use Rattle.pl_build.specs.Refusals.{naming_fault, beside_fault, building_fault, is_known}
 use Rattle.pl_build.specs.Executors.{hop_executors, groups_of}
 use Rattle.pl_text.specs.SessionBuilding.{meant}
@@ -43,16 +43,16 @@ module _ {S : Type 0} (meaning : S → Meaning) where
   pub building_fault-meant : (sizes : List (List ℕ × ℕ)) (handlers : List (NamedStage S)) → building_fault (λ m. m) sizes (meant meaning handlers) ≡ building_fault meaning sizes handlers
   building_fault-meant sizes handlers =
       ap₂ (λ (known : Bool) (n : ℕ). if not known then Some NoSuchGroup else if n == 0 then Some NoTurn else if nat_le 2 n then Some TwoTurns else None)
-      (list_all-map (λ (h : NamedStage Meaning). is_known sizes h.group) one handlers) (count_by-map (is_turn (λ m. m)) one handlers)
+      (list_all-map (λ (h : NamedStage Meaning). is_known sizes h.group) one handlers) (count_by-map (is_turn_stage (λ m. m)) one handlers)
 
   inbound-meant : (handlers : List (NamedStage S)) → inbound_handlers (λ m. m) (meant meaning handlers) ≡ meant meaning (inbound_handlers meaning handlers)
   inbound-meant handlers = filter-map (is_inbound (λ m. m)) one handlers
 
   outbound-meant : (handlers : List (NamedStage S)) → outbound_handlers (λ m. m) (meant meaning handlers) ≡ meant meaning (outbound_handlers meaning handlers)
   outbound-meant handlers =
-      ap (λ (hs : List (NamedStage Meaning)). reverse (filter (is_outbound (λ m. m)) hs)) (take_while-map (λ (h : NamedStage Meaning). not (is_turn (λ m. m) h)) one handlers)
-      ∙ ap (λ (hs : List (NamedStage Meaning)). reverse hs) (filter-map (is_outbound (λ m. m)) one (before_turn meaning handlers))
-      ∙ sym (map-reverse one (filter (is_outbound meaning) (before_turn meaning handlers)))
+      ap (λ (hs : List (NamedStage Meaning)). reverse (filter (is_outbound_stage (λ m. m)) hs)) (take_while-map (λ (h : NamedStage Meaning). not (is_turn_stage (λ m. m) h)) one handlers)
+      ∙ ap (λ (hs : List (NamedStage Meaning)). reverse hs) (filter-map (is_outbound_stage (λ m. m)) one (stages_before_turn meaning handlers))
+      ∙ sym (map-reverse one (filter (is_outbound_stage meaning) (stages_before_turn meaning handlers)))
 
   pub hop_executors-meant : (executor : Option (List ℕ) → ℕ) (handlers : List (NamedStage S)) → hop_executors executor (λ m. m) (meant meaning handlers) ≡ hop_executors executor meaning handlers
   hop_executors-meant executor handlers =

@@ -6,7 +6,7 @@ use Rattle.std.proofs.lemmas.List.{append-nil}
 use Rattle.pl_world.specs.declared.moves.Move.{Move}
 use Rattle.pl_world.specs.declared.moves.Move.TheVariants.{Read, Task, Hand, Out}
 use Rattle.pl_text.specs.declared.moves_text.words.Word.{Word}
-use Rattle.pl_text.specs.MovesTexts.{AreInRange, Fits, Says, count_text, move_text, moves_of_words, number_of, total, word_text}
+use Rattle.pl_text.specs.MovesTexts.{AreInRange, IsWordWithin, Says, count_text, move_text, moves_of_words, number_of, moves_said, word_text}
 use Rattle.pl_text.proofs.MovesNumbers.{decimal_lacks_x, lacks_seam}
 
 -- no element is an x
@@ -53,7 +53,7 @@ step_once (Out m) (Out n) a b p q e =
     let once = numbers_once m n a b p q (tail_is 79 79 _ _ e) in (ap (λ (x : ℕ). Out x) once.0, once.1)
 step_once _ _ a b p q e = absurd (omega (arith, head_is _ _ _ _ e))
 
-word_once : (w v : Word) → Fits w → Fits v → word_text w ≡ word_text v → w ≡ v
+word_once : (w v : Word) → IsWordWithin w → IsWordWithin v → word_text w ≡ word_text v → w ≡ v
 word_once w v p q e =
     let once = step_once w.step v.step w.count v.count p q e in
     let stepped : Move → Word = λ s. record { step = s; count = w.count } in
@@ -63,7 +63,7 @@ word_once w v p q e =
 heads : (c d : List ℕ) (cs ds : List (List ℕ)) → c ∷ cs ≡ d ∷ ds → (c ≡ d) × (cs ≡ ds)
 heads c d cs ds e = (cc, cc)
 
-words_once : (ws vs : List Word) → AllByRecursion Fits ws → AllByRecursion Fits vs → map word_text ws ≡ map word_text vs → ws ≡ vs
+words_once : (ws vs : List Word) → AllByRecursion IsWordWithin ws → AllByRecursion IsWordWithin vs → map word_text ws ≡ map word_text vs → ws ≡ vs
 words_once [] [] p q e = refl
 words_once [] (v ∷ vs) p q e = cc
 words_once (w ∷ ws) [] p q e = cc
@@ -78,5 +78,5 @@ says_once text ws vs p q = words_once ws vs p.fit q.fit (sym p.parts_are ∙ q.p
 pub moves_once : (text : List ℕ) (ws vs : List Word) → Says text ws → Says text vs → moves_of_words ws ≡ moves_of_words vs
 moves_once text ws vs p q = ap moves_of_words (says_once text ws vs p q)
 
-pub total_once : (text : List ℕ) (ws vs : List Word) → Says text ws → Says text vs → total ws ≡ total vs
-total_once text ws vs p q = ap total (says_once text ws vs p q)
+pub total_once : (text : List ℕ) (ws vs : List Word) → Says text ws → Says text vs → moves_said ws ≡ moves_said vs
+total_once text ws vs p q = ap moves_said (says_once text ws vs p q)

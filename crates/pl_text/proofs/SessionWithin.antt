@@ -14,7 +14,7 @@ use Rattle.pl_build.specs.declared.faults.BuildFault.TheVariants as build
 use Rattle.pl_build.specs.declared.limits.TheConstants.{MAX_EXECUTORS}
 use Rattle.pl_build.specs.Names.{is_name}
 use Rattle.pl_build.specs.Pipelines.{meanings}
-use Rattle.pl_build.specs.Refusals.{unless, grouping_fault, is_within, has_double, executor_count}
+use Rattle.pl_build.specs.Refusals.{unless, grouping_fault, are_groups_within, has_double, executor_count}
 use Rattle.pl_build.specs.Executors.{groups_of}
 use Rattle.pl_world.specs.Plans.{Plan, ChannelPlan}
 use Rattle.pl_world.proofs.SmallLanes.{lanes_small}
@@ -75,7 +75,7 @@ within_by false double e = cc
 
 executors_within : (loops : ℕ) (sizes : List (List ℕ × ℕ)) → grouping_fault loops sizes ≡ None → (1 ≤ executor_count loops sizes) × (executor_count loops sizes ≤ MAX_EXECUTORS)
 executors_within loops sizes e =
-    let all = within_by (is_within loops sizes) (has_double sizes) e in
+    let all = within_by (are_groups_within loops sizes) (has_double sizes) e in
     let parts = and_parts (nat_le 1 loops && list_all (λ (g : List ℕ × ℕ). is_name g.0 && nat_le 1 g.1) sizes) (nat_le (executor_count loops sizes) MAX_EXECUTORS) all in
     let fronts = and_parts (nat_le 1 loops) (list_all (λ (g : List ℕ × ℕ). is_name g.0 && nat_le 1 g.1) sizes) parts.0 in
     let some = leb-true 1 loops fronts.0 in

@@ -36,40 +36,40 @@ pub record AreInRange (number : ℕ) (count : Option ℕ) : Type 0 where
   pub number_fits : number ≤ MAX_NUMBER
   pub count_fits : IfSome count (λ n. (1 ≤ n) × (n ≤ MAX_COUNT))
 
-abbrev pub Fits : Word → Type 0
-Fits w = AreInRange (number_of w.step) w.count
+abbrev pub IsWordWithin : Word → Type 0
+IsWordWithin w = AreInRange (number_of w.step) w.count
 
 -- the parts between single spaces, and none of the empty text
 abbrev pub parts : List ℕ → List (List ℕ)
 parts text = if length text == 0 then [] else slice_split (λ b. b == 32) text
 
--- the parts of the text are these words, each within its limits
+-- The text says these words. They are its parts, each within its limits.
 pub record Says (text : List ℕ) (ws : List Word) : Type 0 where
   pub parts_are : parts text ≡ map word_text ws
-  pub fit : AllByRecursion Fits ws
+  pub fit : AllByRecursion IsWordWithin ws
 
 -- one, where there is no count
 abbrev pub times_of : Option ℕ → ℕ
 times_of None = 1
 times_of (Some n) = n
 
-abbrev pub times : Word → ℕ
-times w = times_of w.count
+abbrev pub copies_of_word : Word → ℕ
+copies_of_word w = times_of w.count
 
 -- how many moves the words say
-abbrev pub total : List Word → ℕ
-total ws = sum_by times ws
+abbrev pub moves_said : List Word → ℕ
+moves_said ws = sum_by copies_of_word ws
 
 -- as many copies of each word's move as it says
 abbrev pub moves_of_words : List Word → List Move
-moves_of_words ws = flat_map (λ w. replicate (times w) w.step) ws
+moves_of_words ws = flat_map (λ w. replicate (copies_of_word w) w.step) ws
 
--- these are the moves of the words that the text says, at most `MAX_MOVES`
+-- The text means these moves (FORMATS). They are those of the words that it says, at most `MAX_MOVES`.
 abbrev pub MeansMoves : List ℕ → List Move → Type 0
-MeansMoves text moves = (ws : List Word) × Says text ws × (total ws ≤ MAX_MOVES) × (moves ≡ moves_of_words ws)
+MeansMoves text moves = (ws : List Word) × Says text ws × (moves_said ws ≤ MAX_MOVES) × (moves ≡ moves_of_words ws)
 
 -- the text has a part that is not a word, or says too many moves
 abbrev pub IsNoMoves : MovesFault → List ℕ → Type 0
 IsNoMoves fault.Form text = (ws : List Word) → Says text ws → ⊥
-IsNoMoves fault.Limit text = (ws : List Word) × Says text ws × (MAX_MOVES < total ws)
+IsNoMoves fault.Limit text = (ws : List Word) × Says text ws × (MAX_MOVES < moves_said ws)
 IsNoMoves fault.Memory text = ⊥

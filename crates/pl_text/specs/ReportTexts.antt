@@ -94,5 +94,6 @@ abbrev pub channels_text : ℕ → List ChannelReport → List ℕ
 channels_text c [] = []
 channels_text c (r ∷ rs) = channel_text c r ++ channels_text (c + 1) rs
 
+-- the text of a report (FORMATS)
 abbrev pub report_text : Report → List ℕ
 report_text r = channels_text 0 r.channels

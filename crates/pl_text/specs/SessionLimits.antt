@@ -19,6 +19,7 @@ pub record IsChannelWithin (channel : ChannelPlan) : Type 0 where
   pub abort_after : aborts_within channel.abort_after (length channel.bursts) ≡ true
   pub lanes : IsSmallChannel channel
 
+-- A session is within its limits (FORMATS).
 pub record IsWithinLimits (session : Plan) : Type 0 where
   pub capacity_at_least : 1 ≤ session.capacity
   pub capacity_at_most : session.capacity ≤ MAX_CAPACITY

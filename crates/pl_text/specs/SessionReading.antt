@@ -16,10 +16,10 @@ abbrev pub ◌>>=◌ : {A B F : Type 0} → Result A F → (A → Result B F) �
 (Ok x) >>= f = f x
 (Err e) >>= f = Err e
 
--- What a function answered is what reading means, unless memory ran out.
-abbrev pub Answers : {A : Type 0} → Result A SessionFault → Result A SessionFault → Type 0
-Answers (Ok x) meaning = meaning ≡ Ok x
-Answers (Err e) meaning = e ≢ Memory → meaning ≡ Err e
+-- An answer is what reading means, unless memory ran out.
+abbrev pub AnswersMeaning : {A : Type 0} → Result A SessionFault → Result A SessionFault → Type 0
+AnswersMeaning (Ok x) meaning = meaning ≡ Ok x
+AnswersMeaning (Err e) meaning = e ≢ Memory → meaning ≡ Err e
 
 -- a result with its value as view sees it
 abbrev pub seen : {A B F : Type 0} → (A → B) → Result A F → Result B F

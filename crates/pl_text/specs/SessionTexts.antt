@@ -16,6 +16,6 @@ session_in d = do
   outline ← outline_in d
   built (session_built outline)
 
--- too long before all else
+-- The session of a text, or its first fault (FORMATS). That it is too long comes before all else.
 unfoldable pub session_of : List ℕ → Result Plan SessionFault
 session_of text = if nat_lt MAX_SESSION_TEXT (length text) then Err Limit else (known NotJson (read text) >>= session_in)

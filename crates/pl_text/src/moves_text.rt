@@ -3,7 +3,7 @@
 ghost use Rattle.std.specs.Prelude.{◌≡◌, ◌<◌, ◌⊎◌, List, IfOk, IfErr};
 ghost use Rattle.pl_text.specs.declared.moves_text.words.Word.{Word};
 ghost use Rattle.pl_text.specs.declared.faults.MovesFault.TheVariants as fault;
-ghost use Rattle.pl_text.specs.MovesTexts.{MeansMoves, Says, total, moves_of_words};
+ghost use Rattle.pl_text.specs.MovesTexts.{MeansMoves, Says, moves_said, moves_of_words};
 
 mod copies;
 mod words;
@@ -43,11 +43,11 @@ fn read_words(alloc: Global, text: &str) -> Result<Vec<Word>, MovesFault>
 pub fn read_moves(alloc: Global, text: &str) -> Result<Vec<Move>, MovesFault>
     ensures ok { IfOk result (λ moves. MeansMoves text.now moves.items) }
     ensures form { result ≡ Err fault.Form → (ws : List Word) → Says text.now ws → ⊥ }
-    ensures limit { result ≡ Err fault.Limit → (ws : List Word) × Says text.now ws × (MAX_MOVES < total ws) }
+    ensures limit { result ≡ Err fault.Limit → (ws : List Word) × Says text.now ws × (MAX_MOVES < moves_said ws) }
 
     // The text says one list of words at most, so these are its moves.
     ensures only { IfOk result (λ moves. (ws : List Word) → Says text.now ws → moves.items ≡ moves_of_words ws) }
-    ensures every { result ≡ Err fault.Limit → (ws : List Word) → Says text.now ws → MAX_MOVES < total ws }
+    ensures every { result ≡ Err fault.Limit → (ws : List Word) → Says text.now ws → MAX_MOVES < moves_said ws }
 {
     let words = read_words(alloc, text)?;
     let Some(left) = left_of(MAX_MOVES, words.as_slice()) else {

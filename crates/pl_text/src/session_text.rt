@@ -5,7 +5,7 @@ ghost use Rattle.pl_world.specs.Sessions.{plan_of};
 ghost use Rattle.pl_world.specs.Worlds.{IsUncalled};
 ghost use Rattle.pl_text.specs.declared.session_text.limits.TheConstants.{MAX_SESSION_TEXT};
 ghost use Rattle.pl_text.specs.declared.faults.SessionFault.TheVariants.{Limit};
-ghost use Rattle.pl_text.specs.SessionReading.{Answers, seen};
+ghost use Rattle.pl_text.specs.SessionReading.{AnswersMeaning, seen};
 ghost use Rattle.pl_text.specs.SessionLimits.{IsWithinLimits};
 ghost use Rattle.pl_text.specs.SessionTexts.{session_of};
 
@@ -41,7 +41,7 @@ use std::alloc::Global;
 /// failed, at any of these steps but the first: a text that is too long is always `Limit`.
 #[tactic(auto, using(crate::proofs::SessionLimitLaws::outline_is_within), unfolding(crate::specs::SessionTexts::session_of, crate::specs::SessionTexts::session_in))]
 pub fn read_session(alloc: Global, text: &str) -> Result<Session, SessionFault>
-    ensures meaning { Answers (seen (plan_of ⟦<Handler as Stage>⟧.meaning ⟦<MemoryTransport as Transport>⟧.state) result) (session_of text.now) }
+    ensures meaning { AnswersMeaning (seen (plan_of ⟦<Handler as Stage>⟧.meaning ⟦<MemoryTransport as Transport>⟧.state) result) (session_of text.now) }
     ensures uncalled { IfOk result (λ session. All (λ c. IsUncalled (⟦<MemoryTransport as Transport>⟧.state c.transport)) session.world.channels) }
     ensures within { IfOk result (λ session. IsWithinLimits (plan_of ⟦<Handler as Stage>⟧.meaning ⟦<MemoryTransport as Transport>⟧.state session)) }
 

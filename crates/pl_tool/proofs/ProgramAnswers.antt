@@ -4,7 +4,7 @@ use Rattle.std.specs.Prelude.{◌≢◌, None, unwrap_or}
 use Rattle.std.specs.List.{list_all}
 use Rattle.pl_world.specs.Plans.{ChannelPlan}
 use Rattle.pl_world.specs.Reports.{whole_report}
-use Rattle.pl_executor.specs.declared.threads.RunFault.TheVariants as run
+use Rattle.pl_threads.specs.declared.threads.RunFault.TheVariants as run
 use Rattle.pl_tool.specs.declared.program.failure.Failure.{Failure}
 use Rattle.pl_tool.specs.declared.program.failure.Failure.TheVariants.{Usage, Moves, Replay, Input, Session, Run, Memory, Output}
 use Rattle.pl_tool.specs.ProgramFailures.{status_of}

@@ -6,6 +6,7 @@ use Rattle.std.specs.Result.{IsErrAnd}
 use Rattle.std.specs.Str.{IsUtf8, is_utf8}
 use Rattle.std.proofs.lemmas.Bool.Decides.{nat_tests}
 use Rattle.std.proofs.lemmas.Str.{IsUtf8-from_is_utf8, is_utf8-from_IsUtf8}
+use Rattle.std.proofs.lemmas.Bool.{false_from_ne_true}
 use Rattle.pl_text.specs.declared.faults.SessionFault.{SessionFault}
 use Rattle.pl_text.specs.declared.faults.SessionFault.TheVariants.{NotJson, Version, Missing, Kind, Limit, Build}
 use Rattle.pl_text.specs.declared.faults.SessionFault.TheVariants as session
@@ -15,12 +16,8 @@ use Rattle.pl_tool.specs.declared.program.failure.Failure.{Failure}
 use Rattle.pl_tool.specs.declared.program.failure.Failure.TheVariants.{Usage, Moves, Replay, Input, Session, Run, Memory, Output}
 use Rattle.pl_tool.proofs.ProgramBytes.{consumes_more}
 use Rattle.pl_tool.specs.ProgramOutcomes.{EndsReading, RefusesInput, session_of_bytes}
-use Rattle.pl_text.specs.SessionReading.{Answers}
+use Rattle.pl_text.specs.SessionReading.{AnswersMeaning}
 use Rattle.pl_text.specs.SessionTexts.{session_of}
-
-is_false : (b : Bool) → (b ≡ true → ⊥) → b ≡ false
-is_false true h = absurd (h refl)
-is_false false h = refl
 
 -- reading a text tests its length once more
 read_once : {A : Type 0} (is_long : Bool) (too_long read : A) → (if is_long then too_long else (if is_long then too_long else read)) ≡ (if is_long then too_long else read)
@@ -34,9 +31,9 @@ text_session input is =
     sym (ap (λ (is_text : Bool). if nat_lt MAX_SESSION_TEXT (length input) then Err Limit else (if is_text then session_of input else Err NotJson)) is
     ∙ read_once (nat_lt MAX_SESSION_TEXT (length input)) (Err Limit) _)
 
-pub text_means : (input text : List ℕ) (answer : Result Plan SessionFault) → (text ≡ input) × IsUtf8 input → Answers answer (session_of text) → Answers answer (session_of_bytes input)
+pub text_means : (input text : List ℕ) (answer : Result Plan SessionFault) → (text ≡ input) × IsUtf8 input → AnswersMeaning answer (session_of text) → AnswersMeaning answer (session_of_bytes input)
 text_means input text answer is means =
-    subst (λ (m : Result Plan SessionFault). Answers answer m) (ap session_of is.0 ∙ text_session input (is_utf8-from_IsUtf8 input is.1)) means
+    subst (λ (m : Result Plan SessionFault). AnswersMeaning answer m) (ap session_of is.0 ∙ text_session input (is_utf8-from_IsUtf8 input is.1)) means
 
 is_short : (n : ℕ) → n ≤ MAX_SESSION_TEXT → nat_lt MAX_SESSION_TEXT n ≡ false
 is_short n le = grind (arith, nat_tests)
@@ -45,7 +42,7 @@ is_short n le = grind (arith, nat_tests)
 pub not_text_means : (input : List ℕ) → length input ≤ MAX_SESSION_TEXT → (IsUtf8 input → ⊥) → session_of_bytes input ≡ Err NotJson
 not_text_means input small none =
     ap (λ (is_long : Bool). if is_long then Err Limit else (if is_utf8 input then session_of input else Err NotJson)) (is_short (length input) small)
-    ∙ ap (λ (is_text : Bool). if is_text then session_of input else Err NotJson) (is_false (is_utf8 input) (λ e. none (IsUtf8-from_is_utf8 input e)))
+    ∙ ap (λ (is_text : Bool). if is_text then session_of input else Err NotJson) (false_from_ne_true (is_utf8 input) (λ e. none (IsUtf8-from_is_utf8 input e)))
 
 -- ---- a text that is too long
 

@@ -11,14 +11,15 @@ use Rattle.pl_text.specs.declared.faults.SessionFault.{SessionFault}
 use Rattle.pl_text.specs.declared.faults.SessionFault.TheVariants as session
 use Rattle.pl_world.specs.declared.faults.ReplayFault.{ReplayFault}
 use Rattle.pl_world.specs.declared.faults.ReplayFault.TheVariants as replay
-use Rattle.pl_executor.specs.declared.threads.RunFault.{RunFault}
-use Rattle.pl_executor.specs.declared.threads.RunFault.TheVariants as run
+use Rattle.pl_threads.specs.declared.threads.RunFault.{RunFault}
+use Rattle.pl_threads.specs.declared.threads.RunFault.TheVariants as run
 use Rattle.pl_text.specs.declared.faults.PrintFault.{PrintFault}
 use Rattle.pl_text.specs.declared.faults.PrintFault.TheVariants as print
 use Rattle.pl_tool.specs.declared.program.failure.Failure.{Failure}
 use Rattle.pl_tool.specs.declared.program.failure.Failure.TheVariants.{Usage, Moves, Replay, Input, Session, Run, Memory, Output}
 
--- 2: the command line or the moves were not read, or name what is not there; 3: the session; 4: a thread, memory, or a writer
+-- The status of a failure (FORMATS). 2: the command line or the moves were not read, or name what is not there; 3:
+-- the session; 4: a thread, memory, or a writer.
 abbrev pub status_of : Failure → ℕ
 status_of Usage = 2
 status_of (Moves f) = 2
@@ -41,7 +42,7 @@ abbrev pub failure_of_print : PrintFault → Failure
 failure_of_print print.Memory = Memory
 failure_of_print print.Output = Output
 
--- words that cannot be taken are a command line that is not read, unless memory ran out
+-- The failure of words that cannot be taken. They are a command line that is not read, unless memory ran out.
 abbrev pub failure_of_words : ErrorKind → Failure
 failure_of_words OutOfMemory = Memory
 failure_of_words _ = Usage
@@ -85,6 +86,7 @@ session_line session.Limit = line (codes "session refused: 5 Limit")
 session_line (session.Build f) = build_line f
 session_line session.Memory = memory_line
 
+-- the line of a failure (FORMATS)
 abbrev pub failure_line : Failure → List ℕ
 failure_line Usage = line (codes "usage: pl_tool replay [--moves MOVES] | run --queue waiting|ring | plain")
 failure_line (Moves f) = moves_line f

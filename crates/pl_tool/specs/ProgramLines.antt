@@ -12,16 +12,16 @@ use Rattle.pl_tool.specs.declared.program.command_line.Request.{Request}
 use Rattle.pl_tool.specs.declared.program.command_line.Request.TheVariants as request
 
 -- a subcommand with one option, which takes a text
-abbrev pub command_with : Text → Text → App
-command_with name option = with_rule (new_app name) (record (new_rule option) { long = Some option; action = Some Set })
+abbrev pub subcommand_with : Text → Text → App
+subcommand_with name option = with_rule (new_app name) (record (new_rule option) { long = Some option; action = Some Set })
 
 -- replay --moves MOVES
 abbrev pub replay_command : App
-replay_command = command_with (codes "replay") (codes "moves")
+replay_command = subcommand_with (codes "replay") (codes "moves")
 
 -- run --queue waiting|ring
 abbrev pub run_command : App
-run_command = command_with (codes "run") (codes "queue")
+run_command = subcommand_with (codes "run") (codes "queue")
 
 -- without an option
 abbrev pub plain_command : App
@@ -70,6 +70,6 @@ has_dash words = list_any (bytes_eq (codes "-")) (drop 1 words)
 abbrev pub is_read : List Text → Bool
 is_read words = not (has_dash words) && is_empty (fault_of program words)
 
--- what a command line requests; its first word is the program's name
+-- What a command line requests (FORMATS). Its first word is the program's name.
 abbrev pub request_of : List Text → Option RequestView
 request_of words = if is_read words then option_and_then request_of_subcommand (subcommand_of program words) else None

@@ -11,7 +11,7 @@ use Rattle.pl_text.specs.declared.faults.SessionFault.TheVariants as session
 use Rattle.pl_text.specs.declared.faults.MovesFault.{MovesFault}
 use Rattle.pl_world.specs.declared.faults.ReplayFault.TheVariants as replay
 use Rattle.pl_text.specs.declared.session_text.limits.TheConstants.{MAX_SESSION_TEXT}
-use Rattle.pl_executor.specs.declared.threads.RunFault.TheVariants as run
+use Rattle.pl_threads.specs.declared.threads.RunFault.TheVariants as run
 use Rattle.pl_tool.specs.declared.program.failure.Failure.{Failure}
 use Rattle.pl_tool.specs.declared.program.failure.Failure.TheVariants.{Usage, Moves, Replay, Input, Session, Run, Memory, Output}
 use Rattle.pl_event.specs.Meaning.{IsPrefixOf}
@@ -82,7 +82,7 @@ pub record IsReported (requested : Option RequestView) (unread left : Option (Li
   pub taken : TakesSession unread left session
   pub is_answer : IsAnswer request session report
 
--- The text of the report was added to what the writer holds.
+-- The text of the report was added to the writer (FORMATS).
 pub record HasPrinted (drained : Bool) (requested : Option RequestView) (unread left before after : Option (List ℕ)) : Type 0 where
   pub report : Report
   pub is_reported : IsReported requested unread left report
@@ -174,13 +174,14 @@ IsCause Output requested unread left = (report : Report) × IsReported requested
 abbrev pub Explains : Failure → Option RequestView → Option (List ℕ) → Option (List ℕ) → Option (List ℕ) → Option (List ℕ) → Type 0
 Explains failure requested unread left before after = IsCause failure requested unread left × (failure ≢ Output → Keeps before after)
 
--- A beginning of these bytes, which may be all or none of them, was added to what the writer holds.
+-- A beginning of these bytes was added to the writer. It may be all or none of them.
 pub record AppendsPrefixOf (whole : List ℕ) (before after : Option (List ℕ)) : Type 0 where
   pub part : List ℕ
   pub begins : IsPrefixOf part whole
   pub added : Appends before after part
 
--- The program ended with a status by a failure, and what the second writer got begins the line of that failure.
+-- The program ended by a failure, with its status (FORMATS). What the second writer got begins the line of that
+-- failure.
 pub record HasFailed (status : ℕ) (requested : Option RequestView) (unread left before after silent spoken : Option (List ℕ)) : Type 0 where
   pub failure : Failure
   pub ended : status ≡ status_of failure

@@ -13,7 +13,7 @@ use Rattle.pl_words.specs.declared.status.Status.{Status}
 use Rattle.pl_words.specs.declared.status.Status.TheVariants.{Accepting, Closing, Closed}
 use Rattle.pl_words.specs.declared.admission_steps.AdmissionNotes.{AdmissionNotes}
 use Rattle.pl_words.specs.Phases.{rank, phase_of_bits, phase_in, begun}
-use Rattle.pl_words.specs.AdmissionRule.{total, seats_of, counted, given, IsSeat, IsAdmission, Sits, Rule, tried, given_up, Tried, TakenBack, Looked, GivenUp, Begun, Finished, owner_notes, fresh_notes, sender_notes, spent_notes, dealt, gathered}
+use Rattle.pl_words.specs.AdmissionRule.{total, seats_of, kept_and_trial, run_given, IsSeat, IsAdmission, Sits, Rule, tried, given_up, Tried, TakenBack, Looked, GivenUp, Begun, Finished, owner_notes, fresh_notes, sender_notes, spent_notes, without_seat, gathered}
 use Rattle.pl_words.proofs.AdmissionSums.{total_set, total_set_snoc, total_set_both, total_bound, total_least, total_whole, total_same}
 
 -- Phases
@@ -78,12 +78,12 @@ fresh owner run by seats phase = record { owns = λ e. absurd (no_owner e); coun
 
 -- the phase that the word has is the owner's
 pub finds : {senders : ℕ} {words : List ℕ} {notes : List AdmissionNotes} (r : IsAdmission senders words notes) → phase_in (get_or words 0 0) ≡ r.phase
-finds {senders} {words} {notes} r = ap phase_in r.word ∙ phase_in-word (total counted notes) r.phase
+finds {senders} {words} {notes} r = ap phase_in r.word ∙ phase_in-word (total kept_and_trial notes) r.phase
 
 -- the word is far from its end
 word-small : (senders : ℕ) (words : List ℕ) (notes : List AdmissionNotes) (r : IsAdmission senders words notes) → get_or words 0 0 < 9223372036854775808
 word-small senders words notes r =
-    let all : total counted notes ≤ total seats_of notes * 35184372088832 = total_bound counted notes (λ by v at. let f = r.each by v at in let a = f.counts in let b = f.made in let c = f.trial in omega arith) in
+    let all : total kept_and_trial notes ≤ total seats_of notes * 35184372088832 = total_bound kept_and_trial notes (λ by v at. let f = r.each by v at in let a = f.counts in let b = f.made in let c = f.trial in omega arith) in
     let seats = r.seats in
     let few = r.few in
     let word = r.word in
@@ -91,9 +91,9 @@ word-small senders words notes r =
     omega arith
 
 -- a seat's own count is in the word
-word-least : {senders : ℕ} {words : List ℕ} {notes : List AdmissionNotes} (r : IsAdmission senders words notes) (by : ℕ) (v : AdmissionNotes) → get_elem? notes by ≡ some v → 4 * counted v ≤ get_or words 0 0
+word-least : {senders : ℕ} {words : List ℕ} {notes : List AdmissionNotes} (r : IsAdmission senders words notes) (by : ℕ) (v : AdmissionNotes) → get_elem? notes by ≡ some v → 4 * kept_and_trial v ≤ get_or words 0 0
 word-least {notes = notes} r by v at =
-    let least = total_least counted notes by v at in
+    let least = total_least kept_and_trial notes by v at in
     let word = r.word in
     omega arith
 
@@ -109,8 +109,8 @@ moves : (senders : ℕ) (words : List ℕ) (notes : List AdmissionNotes) (r : Is
     → w.seats ≡ v.seats
     → IsSeat r.owner phase run by w
     → ((at : ℕ) (u : AdmissionNotes) → at ≢ by → IsSeat r.owner r.phase r.run at u → IsSeat r.owner phase run at u)
-    → x ≡ 4 * total counted (set notes by w) + rank phase
-    → (phase ≡ Closed → total given (set notes by w) ≡ run)
+    → x ≡ 4 * total kept_and_trial (set notes by w) + rank phase
+    → (phase ≡ Closed → total run_given (set notes by w) ≡ run)
     → IsAdmission senders (set words 0 x) (set notes by w)
 moves senders words notes r by v w x phase run at same fits others is closed = record {
   owner = r.owner;
@@ -129,15 +129,15 @@ stays : (senders : ℕ) (words : List ℕ) (notes : List AdmissionNotes) (r : Is
     → get_elem? notes by ≡ some v
     → w.seats ≡ v.seats
     → IsSeat r.owner r.phase r.run by w
-    → x + 4 * counted v ≡ get_or words 0 0 + 4 * counted w
-    → given w ≡ given v ⊎ (r.phase ≢ Closed)
+    → x + 4 * kept_and_trial v ≡ get_or words 0 0 + 4 * kept_and_trial w
+    → run_given w ≡ run_given v ⊎ (r.phase ≢ Closed)
     → IsAdmission senders (set words 0 x) (set notes by w)
 stays senders words notes r by v w x at same fits is gives =
-    let sum = total_set counted notes by v w at in
-    let sum' = total_set given notes by v w at in
+    let sum = total_set kept_and_trial notes by v w at in
+    let sum' = total_set run_given notes by v w at in
     let word = r.word in
     moves senders words notes r by v w x r.phase r.run at same fits (λ j u n h. h) (omega arith)
-    (⊎_elim (λ (e : given w ≡ given v). λ (c : r.phase ≡ Closed). let z = r.closed c in omega arith) (λ (n : r.phase ≢ Closed). λ (c : r.phase ≡ Closed). absurd (n c)) gives)
+    (⊎_elim (λ (e : run_given w ≡ run_given v). λ (c : r.phase ≡ Closed). let z = r.closed c in omega arith) (λ (n : r.phase ≢ Closed). λ (c : r.phase ≡ Closed). absurd (n c)) gives)
 
 -- Senders
 
@@ -278,10 +278,10 @@ begins senders slots id me owns s r _ at _ =
     let w : AdmissionNotes = record v { phase = begun v.phase; steps = v.steps + 1 } in
     let more = rank-begun r.phase in
     let seen = f.seen in
-    let same = total_set counted s.views id v w at in
-    let same' = total_set given s.views id v w at in
+    let same = total_set kept_and_trial s.views id v w at in
+    let same' = total_set run_given s.views id v w at in
     let fits : IsSeat r.owner (begun r.phase) r.run id w = record { owns = λ _. (mine.0, ap begun mine.1, mine.2); counts = f.counts; made = f.made; trial = f.trial; seen = omega arith; late = f.late } in
-    let x : bit_or n 1 ≡ 4 * total counted s.views + rank (begun r.phase) = ap (λ (z : ℕ). bit_or z 1) r.word ∙ or-begun (total counted s.views) r.phase in (
+    let x : bit_or n 1 ≡ 4 * total kept_and_trial s.views + rank (begun r.phase) = ap (λ (z : ℕ). bit_or z 1) r.word ∙ or-begun (total kept_and_trial s.views) r.phase in (
       w,
       keeps,
       tt,
@@ -309,9 +309,9 @@ finishes senders slots id asked me owns s r _ at _ =
     let rk : rank r.phase ≡ 1 = ap rank closing in
     let unclosed : r.phase ≢ Closed = λ c. closing-unclosed (sym closing ∙ c) in
     let word = r.word in
-    let all : total given s.views ≡ total counted s.views = total_same given counted s.views (λ j u e. let z = none_late r.phase (r.each j u e) unclosed in omega arith) in
-    let same = total_set counted s.views id v w at in
-    let same' = total_set given s.views id v w at in
+    let all : total run_given s.views ≡ total kept_and_trial s.views = total_same run_given kept_and_trial s.views (λ j u e. let z = none_late r.phase (r.each j u e) unclosed in omega arith) in
+    let same = total_set kept_and_trial s.views id v w at in
+    let same' = total_set run_given s.views id v w at in
     let fits : IsSeat r.owner Closed (n / 4) id w = record { owns = λ _. (mine.0, refl, refl); counts = f.counts; made = f.made; trial = f.trial; seen = omega arith; late = f.late } in (
       w,
       keeps,
@@ -335,8 +335,8 @@ finishes senders slots id asked me owns s r _ at _ =
 -- the same word, where the seats count as much as before
 seated : (senders : ℕ) (words : List ℕ) (notes notes' : List AdmissionNotes) (r : IsAdmission senders words notes)
     → total seats_of notes' ≡ total seats_of notes
-    → total counted notes' ≡ total counted notes
-    → total given notes' ≡ total given notes
+    → total kept_and_trial notes' ≡ total kept_and_trial notes
+    → total run_given notes' ≡ total run_given notes
     → ((at : ℕ) (u : AdmissionNotes) → get_elem? notes' at ≡ some u → IsSeat r.owner r.phase r.run at u)
     → IsAdmission senders words notes'
 seated senders words notes notes' r seats' counted' given' each = record {
@@ -352,16 +352,16 @@ seated senders words notes notes' r seats' counted' given' each = record {
 }
 
 -- the owner deals a sender's seat
-pub deals : (senders id seats : ℕ) (v : AdmissionNotes) → v ≡ owner_notes seats Accepting 0 0 0 → 0 < seats → Splits (Rule senders) id v (dealt v) sender_notes
+pub deals : (senders id seats : ℕ) (v : AdmissionNotes) → v ≡ owner_notes seats Accepting 0 0 0 → 0 < seats → Splits (Rule senders) id v (without_seat v) sender_notes
 deals senders id seats v is some_left s r at =
     let f = r.each id v at in
     let count : v.seats ≡ seats = ap seats_of is in
     let made : v.made ≡ 0 = ap (λ u. u.made) is in
     let idle : v.trial ≡ 0 = ap (λ u. u.trial) is in
-    let left : AdmissionNotes = dealt v in
+    let left : AdmissionNotes = without_seat v in
     let fits : IsSeat r.owner r.phase r.run id left = record { owns = f.owns; counts = f.counts; made = omega arith; trial = omega arith; seen = f.seen; late = f.late } in
-    let counted' = total_set_snoc counted s.views id v left sender_notes at in
-    let given' = total_set_snoc given s.views id v left sender_notes at in
+    let counted' = total_set_snoc kept_and_trial s.views id v left sender_notes at in
+    let given' = total_set_snoc run_given s.views id v left sender_notes at in
     let seats' = total_set_snoc seats_of s.views id v left sender_notes at in
     seated senders s.words s.views (set s.views id left ++ sender_notes ∷ []) r (omega arith) (omega arith) (omega arith)
     (λ j u e. ⊎_elim (λ there. ⊎_elim (λ t. same_seat t.0 t.1 fits) (λ t. r.each j u t.1) (at_set s.views id j left u there))
@@ -394,8 +394,8 @@ gathers senders id other v w owns s r at away there =
       seen = omega arith;
       late = λ h. mine.1 ∙ ⊎_elim (λ (x : 0 < v.trial + v.late). saw_closed r.phase f (f.late x)) (λ (x : 0 < w.trial + w.late). saw_closed r.phase g (g.late x)) (either_some (v.trial + v.late) (w.trial + w.late) (omega arith));
     } in
-    let counted' = total_set_both counted s.views id other v both w spent_notes at there in
-    let given' = total_set_both given s.views id other v both w spent_notes at there in
+    let counted' = total_set_both kept_and_trial s.views id other v both w spent_notes at there in
+    let given' = total_set_both run_given s.views id other v both w spent_notes at there in
     let seats' = total_set_both seats_of s.views id other v both w spent_notes at there in
     seated senders s.words s.views (set (set s.views id both) other spent_notes) r (omega arith) (omega arith) (omega arith)
     (λ j u e. ⊎_elim (λ t. same_seat t.0 t.1 (fresh r.owner r.run other 0 r.phase))
@@ -411,9 +411,9 @@ ends senders id v words slots final all owns idle =
     let f = r.each id v at in
     let mine = f.owns owns in
     let every : total seats_of s.views ≡ v.seats = r.seats ∙ sym all in
-    let counted' : total counted s.views ≡ counted v = total_whole counted s.views id v at every (λ j u e z. let h = r.each j u e in let a = h.counts in let b = h.made in let c = h.trial in omega arith) in
-    let given' : total given s.views ≡ given v = total_whole given s.views id v at every (λ j u e z. let h = r.each j u e in let a = h.counts in let b = h.made in omega arith) in
-    let word : get_or s.words 0 0 ≡ 4 * total counted s.views + rank r.phase = r.word in
+    let counted' : total kept_and_trial s.views ≡ kept_and_trial v = total_whole kept_and_trial s.views id v at every (λ j u e z. let h = r.each j u e in let a = h.counts in let b = h.made in let c = h.trial in omega arith) in
+    let given' : total run_given s.views ≡ run_given v = total_whole run_given s.views id v at every (λ j u e z. let h = r.each j u e in let a = h.counts in let b = h.made in omega arith) in
+    let word : get_or s.words 0 0 ≡ 4 * total kept_and_trial s.views + rank r.phase = r.word in
     let same : get_or s.words 0 0 ≡ get_or words 0 0 = ap (λ (l : List ℕ). get_or l 0 0) final.2 in
     let small = rank-small r.phase in
     (omega arith, λ c. let z = r.closed (sym mine.1 ∙ c) in let q = mine.2 in omega arith)

@@ -10,7 +10,7 @@ use Rattle.pl_words.specs.declared.status.Status.{Status}
 use Rattle.pl_words.specs.declared.status.Status.TheVariants.{Accepting, Closing, Closed}
 use Rattle.pl_words.specs.Phases.{rank, phase_in, begun}
 
--- f of the notes of each seat, added up
+-- a number of each seat's notes, added up
 abbrev pub total : (AdmissionNotes → ℕ) → List AdmissionNotes → ℕ
 total f [] = 0
 total f (v ∷ vs) = f v + total f vs
@@ -18,13 +18,13 @@ total f (v ∷ vs) = f v + total f vs
 abbrev pub seats_of : AdmissionNotes → ℕ
 seats_of v = v.seats
 
--- what a seat adds to the count of the word
-abbrev pub counted : AdmissionNotes → ℕ
-counted v = v.kept + v.trial
+-- what a seat adds to the word's count
+abbrev pub kept_and_trial : AdmissionNotes → ℕ
+kept_and_trial v = v.kept + v.trial
 
--- the admissions of a seat that stand in the run count at closing
-abbrev pub given : AdmissionNotes → ℕ
-given v = v.kept + v.late
+-- a seat's admissions in the run count at closing
+abbrev pub run_given : AdmissionNotes → ℕ
+run_given v = v.kept + v.late
 
 -- What holds of the notes v of seat number `by`, where seat number `owner` owns the word, which is at this phase and was
 -- closed with this run count.
@@ -38,8 +38,9 @@ pub record IsSeat (owner : ℕ) (phase : Status) (run : ℕ) (by : ℕ) (v : Adm
   -- a trial and what was given up late are of a seat that has seen closed
   pub late : 0 < v.trial + v.late → v.seen ≡ Closed
 
--- The rule, of the number of senders, the table's words and the notes of all seats. The word is four times the sum of
--- kept and trial, plus the owner's phase; once that is closed, kept and late add up to the owner's run count.
+-- The admission rule (admission_law): the word is four times the sum of kept and trial, plus the owner's phase. It is
+-- of the number of senders, the table's words and the notes of all seats. Once the phase is closed, kept and late add
+-- up to the owner's run count.
 pub record IsAdmission (senders : ℕ) (words : List ℕ) (notes : List AdmissionNotes) : Type 0 where
   pub owner : ℕ
   pub phase : Status
@@ -47,9 +48,9 @@ pub record IsAdmission (senders : ℕ) (words : List ℕ) (notes : List Admissio
   pub few : senders < 2 ^ 16
   pub one : length words ≡ 1
   pub seats : total seats_of notes ≡ senders
-  pub word : slice_index words 0 ≡ 4 * total counted notes + rank phase
+  pub word : slice_index words 0 ≡ 4 * total kept_and_trial notes + rank phase
   pub each : (by : ℕ) (v : AdmissionNotes) → get_elem? notes by ≡ some v → IsSeat owner phase run by v
-  pub closed : phase ≡ Closed → total given notes ≡ run
+  pub closed : phase ≡ Closed → total run_given notes ≡ run
 
 abbrev pub Rule : ℕ → State (Unit {0}) AdmissionNotes → Type 0
 Rule senders s = IsAdmission senders s.words s.views
@@ -77,15 +78,15 @@ abbrev pub spent_notes : AdmissionNotes
 spent_notes = fresh_notes 0
 
 -- the owner without one of the seats that it has
-abbrev pub dealt : AdmissionNotes → AdmissionNotes
-dealt v = record v { seats = v.seats - 1 }
+abbrev pub without_seat : AdmissionNotes → AdmissionNotes
+without_seat v = record v { seats = v.seats - 1 }
 
 -- the owner with a sender's seat taken in
 abbrev pub gathered : AdmissionNotes → AdmissionNotes → AdmissionNotes
 gathered v w =
     record v { seats = v.seats + w.seats; made = v.made + w.made; kept = v.kept + w.kept; trial = v.trial + w.trial; late = v.late + w.late; seen = v.phase }
 
--- after an addition that found this phase: an admission, or a trial
+-- Notes after an addition that found this phase. It was an admission, or a trial.
 abbrev pub tried : AdmissionNotes → Status → AdmissionNotes
 tried v Accepting = record v { made = v.made + 1; kept = v.kept + 1; seen = Accepting; steps = v.steps + 1 }
 tried v Closing = record v { made = v.made + 1; kept = v.kept + 1; seen = Closing; steps = v.steps + 1 }

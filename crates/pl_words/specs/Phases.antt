@@ -3,7 +3,7 @@ use Rattle.std.specs.Prelude.{ℕ, zero, suc, ◌%◌, Bool, true, false}
 use Rattle.pl_words.specs.declared.status.Status.{Status}
 use Rattle.pl_words.specs.declared.status.Status.TheVariants.{Accepting, Closing, Closed}
 
--- what a phase adds to the word; a later phase adds more
+-- What a phase adds to the word. A later phase adds more.
 abbrev pub rank : Status → ℕ
 rank Accepting = 0
 rank Closing = 1
@@ -14,11 +14,11 @@ phase_of_bits zero = Accepting
 phase_of_bits (suc zero) = Closing
 phase_of_bits (suc (suc bits)) = Closed
 
--- the phase that a word has, in its last two bits
+-- The phase that a word has. It is in the last two bits.
 abbrev pub phase_in : ℕ → Status
 phase_in word = phase_of_bits (word % 4)
 
--- the phase once closing has begun
+-- the phase once closing has begun (EventExecutorGroup.shutdownGracefully)
 abbrev pub begun : Status → Status
 begun Accepting = Closing
 begun phase = phase

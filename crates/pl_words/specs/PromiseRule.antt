@@ -9,13 +9,14 @@ use Rattle.pl_event.specs.declared.outcomes.Outcome.TheVariants.{Success, Closed
 use Rattle.pl_words.specs.declared.promise_steps.PromiseNotes.{PromiseNotes}
 use Rattle.pl_words.specs.declared.promise_steps.RowSize.{RowSize}
 
--- the word of an outcome, and of a promise
+-- the word of an outcome
 abbrev pub code : Outcome → ℕ
 code Success = 1
 code Closed = 2
 code Fault = 3
 code Unsupported = 4
 
+-- the word of a promise
 abbrev pub code_of : Option Outcome → ℕ
 code_of None = 0
 code_of (Some outcome) = code outcome
@@ -28,7 +29,7 @@ outcome_in (suc (suc zero)) = Some Closed
 outcome_in (suc (suc (suc zero))) = Some Fault
 outcome_in (suc (suc (suc (suc n)))) = Some Unsupported
 
--- the outcome of promise n, in a list of those that are set
+-- the outcome of promise n, if it is set
 abbrev pub at : List (Option Outcome) → ℕ → Option Outcome
 at outcomes n = slice_index_or outcomes n None
 
@@ -53,8 +54,8 @@ pub record IsSeat (settlers : ℕ) (outcomes : List (Option Outcome)) (v : Promi
 abbrev pub SomeSettled : List PromiseNotes → ℕ → Outcome → Type 0
 SomeSettled notes k o = (by : ℕ) × (v : PromiseNotes) × (get_elem? notes by ≡ some v) × (at v.settled k ≡ Some o)
 
--- The rule, of the row's size, the table's words and the notes of all seats: each word is that of an outcome or of none,
--- and what stands was settled by a seat.
+-- The promise rule (ChannelPromise, promise_law): each word is that of an outcome or of none, and what stands was
+-- settled by a seat. It is of the row's size, the table's words and the notes of all seats.
 pub record IsRow (size : RowSize) (words : List ℕ) (notes : List PromiseNotes) : Type 0 where
   pub outcomes : List (Option Outcome)
   pub row : length outcomes ≡ size.limit

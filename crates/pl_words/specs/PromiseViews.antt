@@ -9,8 +9,8 @@ pub record PromisesView : Type 0 where
   pub name : Name
   pub limit : ℕ
 
--- A settler's seat: whose it is, how many settlers there are, of each promise the outcome that it has seen and the one
--- that it has settled it with, and the steps that it made.
+-- A settler's seat. It says whose it is, how many settlers there are, of each promise the outcome that it has seen
+-- and the one that it has settled it with, and the steps that it made.
 pub record SettleSeatView : Type 0 where
   pub name : Name
   pub settlers : ℕ
@@ -18,19 +18,22 @@ pub record SettleSeatView : Type 0 where
   pub settled : List (Option Outcome)
   pub steps : ℕ
 
--- A reader's seat: whose it is, of each promise the outcome that it has seen, and the steps that it made.
+-- A reader's seat of promises. It says whose it is, of each promise the outcome that it has seen, and the steps that
+-- it made.
 pub record ReadSeatView : Type 0 where
   pub name : Name
   pub seen : List (Option Outcome)
   pub steps : ℕ
 
+-- a settler's seat that has made no step
 abbrev pub new_settler : Name → ℕ → ℕ → SettleSeatView
 new_settler name limit settlers = record { name = name; settlers = settlers; seen = replicate limit None; settled = replicate limit None; steps = 0 }
 
+-- a reader's seat that has seen no outcome
 abbrev pub new_reader : Name → ℕ → ReadSeatView
 new_reader name limit = record { name = name; seen = replicate limit None; steps = 0 }
 
--- One step settled promise n, of which the seat had seen nothing.
+-- One step settled promise n. The seat had seen nothing of it.
 pub record Settles (s : SettleSeatView) (n : ℕ) (outcome : Outcome) (t : SettleSeatView) : Type 0 where
   pub settled : t ≡ record s { seen = slice_set s.seen n (Some outcome); settled = slice_set s.settled n (Some outcome); steps = s.steps + 1 }
   pub unseen : at s.seen n ≡ None

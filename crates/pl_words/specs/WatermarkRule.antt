@@ -26,7 +26,8 @@ pub record IsSeat (head : ℕ) (sets : ℕ) (flag : Bool) (by : ℕ) (v : Waterm
   pub version : v.version ≤ sets
   pub same : v.version ≡ sets → v.unwritable ≡ flag
 
--- The rule, of the table's words and the notes of all seats: the word is twice the head's sets plus its flag.
+-- The mark rule (WriteBufferWaterMark, mark_law): the word is twice the head's sets plus its flag. It is of the
+-- table's words and the notes of all seats.
 pub record IsWatermark (words : List ℕ) (notes : List WatermarkNotes) : Type 0 where
   pub head : ℕ
   pub sets : ℕ
@@ -42,7 +43,7 @@ Rule _ s = IsWatermark s.words s.views
 abbrev pub Sits : Type 0
 Sits = Me (Unit {0}) WatermarkNotes
 
--- what the head knows after this many sets, each of which was one step
+-- What the head knows after this many sets. Each of them was one step.
 abbrev pub head_notes : ℕ → Bool → WatermarkNotes
 head_notes sets flag = record { is_head = true; sets = sets; flag = flag; version = 0; unwritable = false; steps = sets }
 

@@ -1,6 +1,6 @@
 //! What the seats of an admission know, the rule that ties it to the word, and the steps on the word.
 
-ghost use Rattle.pl_words.specs.AdmissionRule.{Rule, owner_notes, sender_notes, spent_notes, dealt, gathered, Tried, TakenBack, Looked, GivenUp, Begun, Finished};
+ghost use Rattle.pl_words.specs.AdmissionRule.{Rule, owner_notes, sender_notes, spent_notes, without_seat, gathered, Tried, TakenBack, Looked, GivenUp, Begun, Finished};
 ghost use Rattle.pl_words.specs.declared.status.Status.TheVariants.{Accepting};
 
 use crate::status::Status;
@@ -87,7 +87,7 @@ impl Play<(), AdmissionNotes> for Finish {
 pub(crate) struct Deal;
 
 impl Split<AdmissionNotes> for Deal {
-    ghost left = { dealt };
+    ghost left = { without_seat };
 
     ghost right = { λ _. sender_notes };
 }

@@ -10,7 +10,7 @@ ghost use Rattle.pl_words.specs.declared.promise_steps.RowSize.{RowSize};
 ghost use Rattle.pl_words.specs.declared.status.Status.TheVariants.{Closed};
 ghost use Rattle.pl_words.specs.Names.{IsAmong};
 ghost use Rattle.pl_words.specs.Phases.{rank};
-ghost use Rattle.pl_words.specs.AdmissionRule.{IsAdmission, total, counted, given};
+ghost use Rattle.pl_words.specs.AdmissionRule.{IsAdmission, total, kept_and_trial, run_given};
 ghost use Rattle.pl_words.specs.WatermarkRule.{IsWatermark, bit};
 ghost use Rattle.pl_words.specs.PromiseRule.{IsRow, SomeSettled, at, code};
 
@@ -18,7 +18,7 @@ ghost use Rattle.pl_words.specs.PromiseRule.{IsRow, SomeSettled, at, code};
 pub fn admission_law()
     // The word is four times what all seats count, plus the phase.
     ensures word { (senders : ℕ) (words : List ℕ) (notes : List AdmissionNotes) (owner : AdmissionNotes) → IsAdmission senders words notes → IsAmong notes owner → owner.owns ≡ true
-        → slice_index words 0 ≡ 4 * total counted notes + rank owner.phase }
+        → slice_index words 0 ≡ 4 * total kept_and_trial notes + rank owner.phase }
 
     // No seat has seen a phase above the owner's.
     ensures seen { (senders : ℕ) (words : List ℕ) (notes : List AdmissionNotes) (owner v : AdmissionNotes) → IsAdmission senders words notes → IsAmong notes owner → owner.owns ≡ true
@@ -30,7 +30,7 @@ pub fn admission_law()
 
     // Once it is closed, kept and late of all seats are the owner's run count.
     ensures closed { (senders : ℕ) (words : List ℕ) (notes : List AdmissionNotes) (owner : AdmissionNotes) → IsAdmission senders words notes → IsAmong notes owner → owner.owns ≡ true
-        → owner.phase ≡ Closed → total given notes ≡ owner.run }
+        → owner.phase ≡ Closed → total run_given notes ≡ owner.run }
 {}
 
 /// Of the head's seat, and of any reader's.

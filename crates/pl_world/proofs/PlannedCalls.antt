@@ -6,7 +6,7 @@ use Rattle.pl_event.specs.declared.events.Event.{Event}
 use Rattle.pl_event.specs.Meaning.{IsPrefixOf}
 use Rattle.pl_context.specs.Standings.{cause_of}
 use Rattle.pl_head.specs.HeadStand.{first_cause}
-use Rattle.pl_head.specs.Writes.{flushed_writes, bytes_of, offered, out}
+use Rattle.pl_head.specs.Writes.{flushed_writes, bytes_of, bytes_offered, out}
 use Rattle.pl_world.specs.declared.report.Stands.TheVariants.{Drained}
 use Rattle.pl_world.specs.Plans.{ChannelPlan}
 use Rattle.pl_world.specs.Reports.{Ends, EndsKeepToPlan, accepted_by, channel_cause, failed_calls, has_ended, head_of, is_written_out, most_by, stands}
@@ -15,18 +15,18 @@ use Rattle.pl_world.proofs.PlannedReports.{drained_parts, flushed-prefix, no_cau
 -- ---- what a call offers
 
 -- nothing more of a message that has left whole
-offered-past : (start c : ℕ) (x : List ℕ) (ws : List (Option (List ℕ))) → leb (start + length x) c ≡ true → offered start c (Some x ∷ ws) ≡ offered (start + length x) c ws
-offered-past start c x ws past = cond-true (leb (start + length x) c) (offered (start + length x) c ws) (start + length x - c) past
+offered-past : (start c : ℕ) (x : List ℕ) (ws : List (Option (List ℕ))) → leb (start + length x) c ≡ true → bytes_offered start c (Some x ∷ ws) ≡ bytes_offered (start + length x) c ws
+offered-past start c x ws past = cond-true (leb (start + length x) c) (bytes_offered (start + length x) c ws) (start + length x - c) past
 
 -- of a message that has not left whole the rest is offered
-offered-here : (start c : ℕ) (x : List ℕ) (ws : List (Option (List ℕ))) → leb (start + length x) c ≡ false → c + offered start c (Some x ∷ ws) ≡ start + length x
+offered-here : (start c : ℕ) (x : List ℕ) (ws : List (Option (List ℕ))) → leb (start + length x) c ≡ false → c + bytes_offered start c (Some x ∷ ws) ≡ start + length x
 offered-here start c x ws here =
     let left = leb-false (start + length x) c here in
-    let is = cond-false (leb (start + length x) c) (offered (start + length x) c ws) (start + length x - c) here in
+    let is = cond-false (leb (start + length x) c) (bytes_offered (start + length x) c ws) (start + length x - c) here in
     omega (arith, left, is)
 
 -- What is offered stays, however many writes come behind, as long as not all is accepted.
-offered-more : (start accepted : ℕ) (ws vs : List (Option (List ℕ))) → start ≤ accepted → accepted < start + length (bytes_of ws) → offered start accepted (ws ++ vs) ≡ offered start accepted ws
+offered-more : (start accepted : ℕ) (ws vs : List (Option (List ℕ))) → start ≤ accepted → accepted < start + length (bytes_of ws) → bytes_offered start accepted (ws ++ vs) ≡ bytes_offered start accepted ws
 offered-more start accepted [] vs from left = absurd (omega (arith, from, left))
 offered-more start accepted (None ∷ ws) vs from left = offered-more start accepted ws vs from left
 offered-more start accepted (Some b ∷ ws) vs from left = ⊎_elim
@@ -35,20 +35,20 @@ offered-more start accepted (Some b ∷ ws) vs from left = ⊎_elim
     let rest = offered-more (start + length b) accepted ws vs (leb-true (start + length b) accepted past) (omega (arith, left, size)) in
     offered-past start accepted b (ws ++ vs) past ∙ rest ∙ sym (offered-past start accepted b ws past))
     (λ (here : leb (start + length b) accepted ≡ false).
-    cond-false (leb (start + length b) accepted) (offered (start + length b) accepted (ws ++ vs)) (start + length b - accepted) here
-    ∙ sym (cond-false (leb (start + length b) accepted) (offered (start + length b) accepted ws) (start + length b - accepted) here))
+    cond-false (leb (start + length b) accepted) (bytes_offered (start + length b) accepted (ws ++ vs)) (start + length b - accepted) here
+    ∙ sym (cond-false (leb (start + length b) accepted) (bytes_offered (start + length b) accepted ws) (start + length b - accepted) here))
     (cases_Bool (leb (start + length b) accepted))
 
 -- A head that took the first events of its lane offers the same as one that took all of them.
-pub offered-whole : (accepted : ℕ) (xs ys : List Event) → IsPrefixOf xs ys → accepted < length (out xs) → offered 0 accepted (flushed_writes ys) ≡ offered 0 accepted (flushed_writes xs)
+pub offered-whole : (accepted : ℕ) (xs ys : List Event) → IsPrefixOf xs ys → accepted < length (out xs) → bytes_offered 0 accepted (flushed_writes ys) ≡ bytes_offered 0 accepted (flushed_writes xs)
 offered-whole accepted xs ys p left =
     let longer = flushed-prefix xs p.0 in
-    ap (λ (l : List Event). offered 0 accepted (flushed_writes l)) (sym p.1)
-    ∙ ap (λ (ws : List (Option (List ℕ))). offered 0 accepted ws) (sym longer.1)
+    ap (λ (l : List Event). bytes_offered 0 accepted (flushed_writes l)) (sym p.1)
+    ∙ ap (λ (ws : List (Option (List ℕ))). bytes_offered 0 accepted ws) (sym longer.1)
     ∙ offered-more 0 accepted (flushed_writes xs) longer.0 (omega arith) (omega (arith, left))
 
 -- From a point further on the rest of one more message gets at least as far.
-pub offered-further : (start a b : ℕ) (ws : List (Option (List ℕ))) → a ≤ b → a + offered start a ws ≤ b + offered start b ws
+pub offered-further : (start a b : ℕ) (ws : List (Option (List ℕ))) → a ≤ b → a + bytes_offered start a ws ≤ b + bytes_offered start b ws
 offered-further start a b [] least = omega (arith, least)
 offered-further start a b (None ∷ ws) least = offered-further start a b ws least
 offered-further start a b (Some x ∷ ws) least = ⊎_elim

@@ -1,6 +1,6 @@
 -- A report made of two ends that keep to the plan keeps to it.
 use Rattle.std.proofs.Common.{◌≡◌, ℕ, ◌≤◌, List, [], ◌∷◌, ◌++◌, length, take, Bool, true, false, cond, leb, ◌&&◌, Option, Some, None, refl, sym, ap, ap₂, ◌∙◌, inl, inr, arith, append_assoc, append-nil}
-use Rattle.std.proofs.lemmas.Bool.{cases_Bool, or_cases, or_left, or_right, or_parts, and_parts, leb-true}
+use Rattle.std.proofs.lemmas.Bool.{cases_Bool, and_parts, leb-true}
 use Rattle.std.proofs.Math.Seq.{take-length}
 use Rattle.pl_event.specs.declared.events.Event.{Event}
 use Rattle.pl_event.specs.declared.outcomes.Cause.{Cause}
@@ -10,10 +10,11 @@ use Rattle.pl_event.proofs.Lists.{prefix-trans, take-prefix_whole}
 use Rattle.pl_context.specs.declared.standing.Standing.{Standing}
 use Rattle.pl_context.specs.declared.standing.Standing.TheVariants as standing
 use Rattle.pl_context.specs.Standings.{is_over, cause_of}
-use Rattle.pl_head.specs.Writes.{write_by, is_flush, has_flush, flushed_writes, bytes_of, out, outcomes}
+use Rattle.pl_head.specs.Writes.{write_by, has_flush, flushed_writes, bytes_of, out, outcomes}
 use Rattle.pl_head.specs.Failures.{head_outcomes}
 use Rattle.pl_head.specs.HeadStand.{first_cause}
 use Rattle.pl_head.proofs.Buffering.{bytes_of-append}
+use Rattle.pl_head.proofs.Flushing.{flushed-none, has_flush-longer}
 use Rattle.pl_world.specs.declared.report.Stands.{Stands}
 use Rattle.pl_world.specs.declared.report.Stands.TheVariants.{Drained}
 use Rattle.pl_world.specs.declared.report.ChannelReport.{ChannelReport}
@@ -21,18 +22,6 @@ use Rattle.pl_world.specs.Plans.{ChannelPlan}
 use Rattle.pl_world.specs.Reports.{Ends, has_ended, channel_cause, is_written_out, stands_by, IsChannelReport, head_of, whole_report, KeepsToPlan, EndsTakePlanned, ReportsPlan}
 
 -- ---- the output of more events
-
-has_flush-longer : (xs ys : List Event) → has_flush xs ≡ true → has_flush (xs ++ ys) ≡ true
-has_flush-longer [] ys h = cc h
-has_flush-longer (x ∷ xs) ys h = elim (or_cases (is_flush x) (has_flush xs) h) [
-  | inl now ↦ or_left (is_flush x) (has_flush (xs ++ ys)) now
-  | inr later ↦ or_right (is_flush x) (has_flush (xs ++ ys)) (has_flush-longer xs ys later)
-]
-
-flushed-none : (xs : List Event) → has_flush xs ≡ false → flushed_writes xs ≡ []
-flushed-none [] h = refl
-flushed-none (x ∷ xs) h =
-    ap (λ (b : Bool). cond b (write_by x) [] ++ flushed_writes xs) h ∙ flushed-none xs (or_parts (is_flush x) (has_flush xs) h).1
 
 -- what is flushed stays flushed
 pub flushed-prefix : (xs ys : List Event) → IsPrefixOf (flushed_writes xs) (flushed_writes (xs ++ ys))

@@ -17,12 +17,12 @@ use Rattle.pl_build.specs.Paths.{IsPath}
 use Rattle.pl_head.specs.declared.inputs.ReadPlan.{ReadPlan}
 use Rattle.pl_head.specs.Transports.{TransportState, new_state}
 use Rattle.pl_world.specs.declared.session.Recorded.{Recorded}
-use Rattle.pl_world.specs.Plans.{ChannelPlan, channel_planned, head_hop}
+use Rattle.pl_world.specs.Plans.{ChannelPlan, channel_planned, planned_head_hop}
 use Rattle.pl_world.specs.PlanRules.{IsSmallChannel, IsChannelPlan}
 use Rattle.pl_build.specs.declared.limits.TheConstants.{MAX_EXECUTORS, MAX_HANDLERS}
 use Rattle.pl_world.specs.declared.limits.TheConstants.{MAX_CHANNELS}
 use Rattle.pl_world.specs.Limits.{input_fits, is_placed, is_within}
-use Rattle.pl_world.specs.Worlds.{recorded, IsUncalled, FitsWorld, HaveSmallLanes, IsWorld}
+use Rattle.pl_world.specs.Worlds.{recorded, IsUncalled, FitsLimits, HaveSmallLanes, IsWorld}
 
 -- ---- hops
 
@@ -142,7 +142,7 @@ is_uncalled state window fail_at is = is ∙ ap₂ new_state (sym (ap (λ (s : T
 -- ---- rules
 
 module _ {S T : Type 0} (meaning : S → Meaning) (stands_after : S → List Event → Type 0) (lawful : (s : S) → IsLawful (meaning s)) (state : T → TransportState) where
-  channel_ruled : (executors : ℕ) (c : Recorded S T) → FitsWorld meaning stands_after state executors c → IsChannelPlan executors (channel_planned meaning state c)
+  channel_ruled : (executors : ℕ) (c : Recorded S T) → FitsLimits meaning stands_after state executors c → IsChannelPlan executors (channel_planned meaning state c)
   channel_ruled executors c fit = record {
     upwards = All-map (λ (m : Meaning). is_outbound m.direction ≡ false) meaning c.pipeline.inbound fit.path.upwards;
     turn = count_by-map (λ (m : Meaning). is_turn m.direction) meaning c.pipeline.inbound ∙ fit.path.turn;
@@ -158,17 +158,17 @@ module _ {S T : Type 0} (meaning : S → Meaning) (stands_after : S → List Eve
       all_lawful [] = All-nil IsLawful
       all_lawful (s ∷ ss) = All-cons IsLawful (meaning s) (map meaning ss) (lawful s) (all_lawful ss)
 
-  few_lanes : (executors : ℕ) (channels : List (Recorded S T)) → All (FitsWorld meaning stands_after state executors) channels
-      → sum_by (λ p. head_hop p + 1) (map (channel_planned meaning state) channels) ≤ MAX_HANDLERS * length channels + 2 * length channels
+  few_lanes : (executors : ℕ) (channels : List (Recorded S T)) → All (FitsLimits meaning stands_after state executors) channels
+      → sum_by (λ p. planned_head_hop p + 1) (map (channel_planned meaning state) channels) ≤ MAX_HANDLERS * length channels + 2 * length channels
   few_lanes executors [] all = omega arith
   few_lanes executors (c ∷ channels) all =
-      let within = (All-head (FitsWorld meaning stands_after state executors) c channels all).path.within in
-      let rest = few_lanes executors channels (All-tail (FitsWorld meaning stands_after state executors) c channels all) in
-      let more = sum_by-cons (λ (q : ChannelPlan). head_hop q + 1) (channel_planned meaning state c) (map (channel_planned meaning state) channels) in
+      let within = (All-head (FitsLimits meaning stands_after state executors) c channels all).path.within in
+      let rest = few_lanes executors channels (All-tail (FitsLimits meaning stands_after state executors) c channels all) in
+      let more = sum_by-cons (λ (q : ChannelPlan). planned_head_hop q + 1) (channel_planned meaning state c) (map (channel_planned meaning state) channels) in
       omega (arith, within, rest, more, length-map c.pipeline.inbound meaning, length-map c.pipeline.outbound meaning)
 
   -- channels that fit are a world
-  pub is_world : (channels : List (Recorded S T)) (executors : ℕ) → executors ≤ MAX_EXECUTORS → length channels ≤ MAX_CHANNELS → All (FitsWorld meaning stands_after state executors) channels
+  pub is_world : (channels : List (Recorded S T)) (executors : ℕ) → executors ≤ MAX_EXECUTORS → length channels ≤ MAX_CHANNELS → All (FitsLimits meaning stands_after state executors) channels
       → IsWorld meaning state (record { executors = executors; channels = channels })
   is_world channels executors few short each = record {
     executors = few;
@@ -199,7 +199,7 @@ module _ {S T : Type 0} (meaning : S → Meaning) (stands_after : S → List Eve
     transport : IsUncalled (state c.transport)
 
   pub all_fit : All (IsPath meaning stands_after) pipelines → HaveSmallLanes meaning stands_after state pipelines inputs transports executors → All (λ (t : T). IsUncalled (state t)) transports
-      → All (FitsWorld meaning stands_after state executors) (recorded pipelines inputs transports)
+      → All (FitsLimits meaning stands_after state executors) (recorded pipelines inputs transports)
   all_fit paths small uncalled =
       let limits = within_parts pipelines inputs transports executors within in
       let Placed : PlacedView S → Type 0 = λ p. IsPath meaning stands_after p × (is_placed executors p ≡ true) in

@@ -24,7 +24,7 @@ abbrev pub aborts_within : Option ℕ → ℕ → Bool
 aborts_within None count = true
 aborts_within (Some after) count = nat_le after count
 
--- What a channel is to read is within its limits: its bursts are, and an abort comes after at most all of them.
+-- What a channel is to read is within limits. Its bursts are, and an abort comes after at most all of them.
 abbrev pub input_fits : ReadPlan → Bool
 input_fits input = fits input.bursts && aborts_within input.abort_after (length input.bursts)
 
@@ -32,8 +32,8 @@ input_fits input = fits input.bursts && aborts_within input.abort_after (length 
 abbrev pub is_placed : {S : Type 0} → ℕ → PlacedView S → Bool
 is_placed executors path = list_all (λ executor. nat_lt executor executors) path.executors
 
--- A world is within its limits: at most MAX_CHANNELS channels, each with an input and a transport, on at most MAX_EXECUTORS
--- executors.
+-- A world is within its limits (FORMATS). It has at most MAX_CHANNELS channels, each with an input and a transport,
+-- on at most MAX_EXECUTORS executors.
 abbrev pub is_within : {S T : Type 0} → List (PlacedView S) → List ReadPlan → List T → ℕ → Bool
 is_within pipelines inputs transports executors =
     nat_le executors MAX_EXECUTORS && nat_le (length pipelines) MAX_CHANNELS && (length pipelines == length inputs)

@@ -10,6 +10,7 @@ use Rattle.pl_head.specs.declared.inputs.ReadPlan.{ReadPlan}
 use Rattle.pl_head.specs.Transports.{TransportState}
 use Rattle.pl_world.specs.declared.session.Recorded.{Recorded}
 
+-- what a session plans of one channel
 pub record ChannelPlan : Type 0 where
   -- what the inbound handlers mean, the turn among them, from first to last
   pub inbound : List Meaning
@@ -28,12 +29,13 @@ pub record ChannelPlan : Type 0 where
   -- after how many bursts it is aborted; none where it is not
   pub abort_after : Option ℕ
 
+-- what a session plans
 pub record Plan : Type 0 where
   pub capacity : ℕ
   pub executors : ℕ
   pub channels : List ChannelPlan
 
--- the plan of a recorded channel, where stages mean this and transports are in this state
+-- The plan of a recorded channel. Stages mean this, and transports are in this state.
 abbrev pub channel_planned : {S T : Type 0} → (S → Meaning) → (T → TransportState) → Recorded S T → ChannelPlan
 channel_planned meaning state r = record {
   inbound = map meaning r.pipeline.inbound;
@@ -47,7 +49,7 @@ channel_planned meaning state r = record {
   abort_after = r.input.abort_after;
 }
 
--- the plan of recorded channels, with a capacity and a number of executors
+-- The plan of recorded channels. It has a capacity and a number of executors.
 abbrev pub planned : {S T : Type 0} → (S → Meaning) → (T → TransportState) → ℕ → ℕ → List (Recorded S T) → Plan
 planned meaning state capacity executors channels =
     record { capacity = capacity; executors = executors; channels = map (channel_planned meaning state) channels }
@@ -62,8 +64,8 @@ read_plan p = record { bursts = p.bursts; abort_after = p.abort_after }
 abbrev pub tail_hop : ChannelPlan → ℕ
 tail_hop p = length p.inbound
 
-abbrev pub head_hop : ChannelPlan → ℕ
-head_hop p = length p.inbound + 1 + length p.outbound
+abbrev pub planned_head_hop : ChannelPlan → ℕ
+planned_head_hop p = length p.inbound + 1 + length p.outbound
 
 -- The content that a hop's lane has in all: that of all bursts, those after an abort too.
 abbrev pub content : ChannelPlan → ℕ → List Event

@@ -11,7 +11,7 @@ use Rattle.pl_context.specs.declared.standing.Standing.{Standing}
 use Rattle.pl_context.specs.declared.standing.Standing.TheVariants as standing
 use Rattle.pl_context.specs.Standings.{is_over, cause_of}
 use Rattle.pl_head.specs.ReadSteps.{plan_steps}
-use Rattle.pl_head.specs.Writes.{writes_by, flushed_writes, out, outcomes, offered}
+use Rattle.pl_head.specs.Writes.{writes_by, flushed_writes, out, outcomes, bytes_offered}
 use Rattle.pl_head.specs.Failures.{head_outcomes, AreOutcomes}
 use Rattle.pl_head.specs.HeadStand.{first_cause}
 use Rattle.pl_world.specs.declared.report.Stands.{Stands}
@@ -57,14 +57,15 @@ abbrev pub stands_by : Option Cause → Bool → Stands
 stands_by (Some cause) is_drained = Failed cause
 stands_by None is_drained = if is_drained then Drained else Open
 
--- Stands: failed where it has a cause, else drained where all is taken and written, else open.
+-- How a channel stands (FORMATS): failed where it has a cause, else drained where all is taken and written, else
+-- open.
 abbrev pub stands : Ends → Stands
 stands e = stands_by (channel_cause e) (is_written_out e)
 
 -- ---- its report
 
--- What a report says of a channel, by its two ends: the outcomes are the head's, and those after a failure of the head's own
--- are those of the writes that got a number.
+-- What a report says of a channel (ChannelPromise). By its two ends, the outcomes are the head's, and those after a
+-- failure of the head's own are those of the writes that got a number.
 pub record IsChannelReport (e : Ends) (r : ChannelReport) : Type 0 where
   pub stands_is : r.stands ≡ stands e
   pub tail_is : r.tail ≡ e.tail
@@ -87,7 +88,7 @@ tail_of p = tail_lane p.inbound p.outbound (recorded_input p.bursts)
 abbrev pub head_of : ChannelPlan → List Event
 head_of p = head_lane p.inbound p.outbound (recorded_input p.bursts)
 
--- Whole report: what becomes of a channel that is drained.
+-- what becomes of a channel that is drained
 abbrev pub whole_report : ChannelPlan → ChannelReport
 whole_report p = record {
   stands = Drained;
@@ -96,14 +97,14 @@ whole_report p = record {
   writes = outcomes (head_of p) (length (out (head_of p))) true;
 }
 
--- The tail's record and the bytes at the head are prefixes of what the handlers, composed on lists, make of the whole
--- recorded input, and where the channel is drained its report is the whole report.
+-- The report of a channel begins its whole report, and where drained is it. The tail's record and the bytes at the
+-- head are prefixes of what the handlers, composed on lists, make of the whole recorded input.
 pub record KeepsToPlan (p : ChannelPlan) (r : ChannelReport) : Type 0 where
   pub tail : IsPrefixOf r.tail (tail_of p)
   pub bytes : IsPrefixOf r.bytes (out (head_of p))
   pub whole : r.stands ≡ Drained → r ≡ whole_report p
 
--- so does each channel of a session
+-- each report of a session keeps to its channel's plan
 abbrev pub AllKeepToPlan : List ChannelPlan → List ChannelReport → Type 0
 AllKeepToPlan = AllZip KeepsToPlan
 
@@ -124,12 +125,12 @@ pub record EndsTakePlanned (p : ChannelPlan) (e : Ends) : Type 0 where
 -- messages.
 abbrev pub accepted_by : ℕ → List (Option (List ℕ)) → ℕ → ℕ
 accepted_by w writes zero = 0
-accepted_by w writes (suc n) = accepted_by w writes n + min (offered 0 (accepted_by w writes n) writes) w
+accepted_by w writes (suc n) = accepted_by w writes n + min (bytes_offered 0 (accepted_by w writes n) writes) w
 
 -- How many bytes so many calls have accepted at most, none of which failed: each all that is left of one of these messages.
 abbrev pub most_by : List (Option (List ℕ)) → ℕ → ℕ
 most_by writes zero = 0
-most_by writes (suc n) = most_by writes n + offered 0 (most_by writes n) writes
+most_by writes (suc n) = most_by writes n + bytes_offered 0 (most_by writes n) writes
 
 -- how many calls of its transport have failed, where a head has failed by itself for this cause: the last one, or none
 abbrev pub failed_calls : Option Cause → ℕ
@@ -157,8 +158,8 @@ pub record EndsKeepToPlan (p : ChannelPlan) (e : Ends) : Type 0 where
   pub aborted : e.failure ≡ Some Aborted → (is_some p.abort_after ≡ true) × (e.reads + 1 ≡ plan_steps (read_plan p))
   pub unrefused : e.failure ≢ Some Refused
 
--- A report of a channel with this plan: how it stands, its outcomes, its tail and its bytes are those of two ends that keep
--- to the plan. So the report keeps to the plan.
+-- A report of two ends that keep to a channel's plan. How it stands, its outcomes, its tail and its bytes are those
+-- of these ends. So the report keeps to the plan.
 pub record ReportsPlan (p : ChannelPlan) (r : ChannelReport) : Type 0 where
   pub ends : Ends
   pub ends_keep : EndsKeepToPlan p ends
@@ -166,6 +167,6 @@ pub record ReportsPlan (p : ChannelPlan) (r : ChannelReport) : Type 0 where
   -- no lane of a replay is refused
   pub unrefused : r.stands ≢ Failed Refused
 
--- so is that of each channel of a session
+-- each report of a session is of two such ends
 abbrev pub AllReportPlan : List ChannelPlan → List ChannelReport → Type 0
 AllReportPlan = AllZip ReportsPlan

@@ -13,6 +13,7 @@ use Rattle.pl_world.specs.Plans.{channel_planned, planned}
 use Rattle.pl_world.specs.PlanRules.{IsPlan, IsSmallChannel, IsSmallPlan}
 use Rattle.pl_world.specs.Limits.{input_fits, is_within}
 
+-- recorded channels on a number of executors (ChannelPipeline.addLast)
 pub record WorldView (S T : Type 0) : Type 0 where
   pub executors : ℕ
   pub channels : List (Recorded S T)
@@ -29,23 +30,25 @@ recorded (pipeline ∷ pipelines) (input ∷ inputs) [] = []
 recorded (pipeline ∷ pipelines) (input ∷ inputs) (transport ∷ transports) =
     record { pipeline = pipeline; input = input; transport = transport } ∷ recorded pipelines inputs transports
 
--- A channel that a world on a given number of executors can have: its pipeline is as it was built, each of its hops has an
--- executor that is there, its input is within the limits, its transport was not called, and its data lanes have few items.
-pub record FitsWorld {S T : Type 0} (meaning : S → Meaning) (stands_after : S → List Event → Type 0) (state : T → TransportState) (executors : ℕ) (c : Recorded S T) : Type 0 where
+-- A channel that a world can have: built, placed, within the limits, its transport not called. On a given number of
+-- executors its pipeline is as it was built, each of its hops has an executor that is there, its input is within the
+-- limits, and its data lanes have few items.
+pub record FitsLimits {S T : Type 0} (meaning : S → Meaning) (stands_after : S → List Event → Type 0) (state : T → TransportState) (executors : ℕ) (c : Recorded S T) : Type 0 where
   pub path : IsPath meaning stands_after c.pipeline
   pub placed : All (λ executor. executor < executors) c.pipeline.executors
   pub input : input_fits c.input ≡ true
   pub transport : IsUncalled (state c.transport)
   pub small : IsSmallChannel (channel_planned meaning state c)
 
--- where these make a world within its limits, each of its data lanes has few items
+-- The data lanes of a world have few items. It is so where these make one within its limits.
 abbrev pub HaveSmallLanes : {S T : Type 0} → (S → Meaning) → (S → List Event → Type 0) → (T → TransportState) → List (PlacedView S) → List ReadPlan → List T → ℕ → Type 0
 HaveSmallLanes meaning stands_after state pipelines inputs transports executors =
     is_within pipelines inputs transports executors ≡ true → All (IsPath meaning stands_after) pipelines
     → All (λ c. IsSmallChannel (channel_planned meaning state c)) (recorded pipelines inputs transports)
 
--- At most MAX_CHANNELS channels on at most MAX_EXECUTORS executors, with inputs within their limits and transports that were
--- not called. Their plan keeps to the rules, whatever the capacity of its queues, and its data lanes have few items.
+-- What holds of every world (ChannelPipeline): it is within its limits, and its transports were not called. It has at
+-- most MAX_CHANNELS channels on at most MAX_EXECUTORS executors, with inputs within their limits. Their plan keeps to
+-- the rules, whatever the capacity of its queues, and its data lanes have few items.
 pub record IsWorld {S T : Type 0} (meaning : S → Meaning) (state : T → TransportState) (w : WorldView S T) : Type 0 where
   pub executors : w.executors ≤ MAX_EXECUTORS
   pub channels : length w.channels ≤ MAX_CHANNELS

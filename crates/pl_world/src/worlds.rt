@@ -3,7 +3,7 @@
 ghost use Rattle.std.specs.Prelude.{◌≡◌, ℕ, ◌+◌, ◌≤◌, true, IfOk, IfErr, OnOk, IsTrue, All, length, if◌then◌else◌};
 ghost use Rattle.std.specs.List.{list_all};
 ghost use Rattle.pl_build.specs.Paths.{IsPath};
-ghost use Rattle.pl_world.specs.Worlds.{IsUncalled, FitsWorld, HaveSmallLanes, recorded};
+ghost use Rattle.pl_world.specs.Worlds.{IsUncalled, FitsLimits, HaveSmallLanes, recorded};
 ghost use Rattle.pl_world.specs.declared.worlds.WorldRefusal.TheVariants as refusal;
 ghost use Rattle.pl_world.specs.Limits.{input_fits, is_placed, is_within};
 
@@ -70,7 +70,7 @@ impl<S: Stage, T: Transport> World<S, T> {
     pub fn of(channels: Sequence<Recorded<S, T>>, executors: u16) -> Self
         requires executors { executors ≤ MAX_EXECUTORS }
         requires channels { length channels ≤ MAX_CHANNELS }
-        requires each { All (FitsWorld S.meaning S.stands_after T.state executors) channels }
+        requires each { All (FitsLimits S.meaning S.stands_after T.state executors) channels }
         ensures executors { result.executors ≡ executors }
         ensures channels { result.channels ≡ channels }
     {

@@ -95,9 +95,18 @@ where
             *next = number + 1;
             Answer::Sent
         }
-        Err(Unsent::Full(_back)) => Answer::Full,
-        Err(Unsent::Closed(_back)) => Answer::Closed,
-        Err(Unsent::Spent(_back)) => Answer::Spent,
+        Err(Unsent::Full(back)) => {
+            drop(back);
+            Answer::Full
+        }
+        Err(Unsent::Closed(back)) => {
+            drop(back);
+            Answer::Closed
+        }
+        Err(Unsent::Spent(back)) => {
+            drop(back);
+            Answer::Spent
+        }
     }
 }
 
@@ -114,7 +123,11 @@ where
     ensures owner { IsOwnerOf M.is_taker post.now owner.new }
 {
     match post.take::<R>(rt, owner) {
-        Some(envelope) => Answer::Took(envelope.number),
+        Some(envelope) => {
+            let number = envelope.number;
+            drop(envelope);
+            Answer::Took(number)
+        }
         None => Answer::Nothing,
     }
 }

@@ -100,7 +100,7 @@ where
         }
         let next = event(lane(feeder.first + turn), number);
         if let Err(unsent) = send_when_room::<W, M, R>(rt, post, &mut feeder.seat, next) {
-            feeder.unsent = Some(unsent);
+            drop(feeder.unsent.replace(unsent));
             return;
         }
         feeder.sent[usize::from(turn)] = number + 1;
@@ -160,9 +160,13 @@ where
     let mut closed_after = 0;
     for turn in 0..64 {
         let next = envelope(feeder.first + turn, feeder.sent[usize::from(turn)]);
-        let Err(Unsent::Closed(_back)) = post.send::<R>(rt, &mut feeder.seat, next) else {
-            break;
-        };
+        match post.send::<R>(rt, &mut feeder.seat, next) {
+            Err(Unsent::Closed(back)) => drop(back),
+            other => {
+                drop(other);
+                break;
+            }
+        }
         closed_after += 1;
     }
     Sent {

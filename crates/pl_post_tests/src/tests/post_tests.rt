@@ -15,27 +15,43 @@ use std::sync::Wait;
 use std::test::*;
 use std::thread::Threads;
 
-// The next envelope of a lane, back since the post was closed.
-fn closed_at(channel: u16, number: u64) -> Unsent {
-    if number < EVENTS {
-        return Unsent::Closed(event(lane(channel), number));
-    }
-    Unsent::Closed(Envelope {
-        lane: lane(channel),
-        number,
-        item: Item::End,
-    })
+// Whether the next envelope of a lane is back since the post was closed.
+fn is_closed_at(unsent: &Unsent, channel: u16, number: u64) -> bool {
+    let next = if number < EVENTS {
+        event(lane(channel), number)
+    } else {
+        Envelope {
+            lane: lane(channel),
+            number,
+            item: Item::End,
+        }
+    };
+    let is_next = match unsent {
+        Unsent::Closed(back) => *back == next,
+        Unsent::Full(_) | Unsent::Spent(_) => false,
+    };
+    drop(next);
+    is_next
 }
 
 // How a thread ends: it sent what was taken of its lane, and where that is not all, the next envelope is back.
 fn assert_fed(rt: &impl Abort, fed: &Fed, channel: u16, taken: u64, count: u64) {
     assert_eq!(rt; fed.sent, taken);
-    let unsent = if fed.sent < count {
-        Some(closed_at(channel, fed.sent))
-    } else {
-        None
-    };
-    assert_eq!(rt; fed.unsent, unsent);
+    match &fed.unsent {
+        None => assert_eq!(rt; fed.sent, count),
+        Some(unsent) => {
+            assert!(rt; fed.sent < count);
+            assert!(rt; is_closed_at(unsent, channel, fed.sent));
+        }
+    }
+}
+
+// The post is closed to the next envelope of a lane.
+fn assert_closed(rt: &impl Abort, after: &Result<(), Unsent>, channel: u16, number: u64) {
+    match after {
+        Ok(()) => assert!(rt; false),
+        Err(unsent) => assert!(rt; is_closed_at(unsent, channel, number)),
+    }
 }
 
 // Each lane comes as the numbers from 0 up to, not including, how many were sent; and the post is closed to the next.
@@ -45,8 +61,8 @@ fn assert_load(rt: &impl Abort, load: &Load) {
     assert_eq!(rt; load.served.taken[2], 0);
     assert_fed(rt, &load.first, 0, load.served.taken[0], EVENTS);
     assert_fed(rt, &load.second, 1, load.served.taken[1], EVENTS);
-    assert_eq!(rt; load.first_after, Err(closed_at(0, load.first.sent)));
-    assert_eq!(rt; load.second_after, Err(closed_at(1, load.second.sent)));
+    assert_closed(rt, &load.first_after, 0, load.first.sent);
+    assert_closed(rt, &load.second_after, 1, load.second.sent);
     let taken = load.served.taken[0].saturating_add(load.served.taken[1]);
     assert!(rt; taken >= 500);
 }
@@ -66,6 +82,7 @@ fn post_closes_under_load<R: Threads + Wait + Abort + Sync>(
 ) -> Result<(), Fail> {
     let load = two_by::<Brand, R>(kind, rt, alloc).ok_or("it was not opened")?;
     assert_load(rt, &load);
+    drop(load);
     Ok(())
 }
 
@@ -86,6 +103,7 @@ fn three_feed<R: Threads + Wait + Abort + Sync>(
 ) -> Result<(), Fail> {
     let closing = three_by::<Brand, R>(kind, rt, alloc).ok_or("it was not opened")?;
     assert_closing(rt, &closing, EVENTS);
+    drop(closing);
     Ok(())
 }
 
@@ -112,7 +130,9 @@ fn four_senders<R: Threads + Wait + Abort + Sync>(
     for thread in four.each {
         assert!(rt; matches!(thread.unsent, None | Some(Unsent::Closed(_))));
         assert_eq!(rt; thread.closed_after, 64);
-        sent.extend_from_slice(thread.sent.as_slice())?;
+        let extended = sent.extend_from_slice(thread.sent.as_slice());
+        drop(thread);
+        extended?;
     }
     assert_eq!(rt; four.served.taken.as_slice(), sent.as_slice());
     Ok(())

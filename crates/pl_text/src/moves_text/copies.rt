@@ -1,7 +1,7 @@
 //! The moves of words: as many copies of each as its word says.
 
 ghost use Rattle.std.specs.Prelude.{◌≡◌, ◌+◌, ◌<◌, IfOk, MatchOption};
-ghost use Rattle.pl_text.specs.MovesTexts.{times, total, moves_of_words};
+ghost use Rattle.pl_text.specs.MovesTexts.{copies_of_word, moves_said, moves_of_words};
 
 use super::words::Word;
 use pl_world::Move;
@@ -9,14 +9,14 @@ use std::alloc::{AllocError, Global};
 
 /// How often the move of a word is made: once where it has no count.
 fn times(word: &Word) -> u32
-    ensures { result ≡ times word.now }
+    ensures { result ≡ copies_of_word word.now }
 {
     word.count.unwrap_or(1)
 }
 
 /// What is left of a limit after all moves of the words, or None where they pass it.
 pub(crate) fn left_of(limit: usize, words: &[Word]) -> Option<usize>
-    ensures { MatchOption result (limit < total words.now) (λ left. left + total words.now ≡ limit) }
+    ensures { MatchOption result (limit < moves_said words.now) (λ left. left + moves_said words.now ≡ limit) }
 {
     let mut left = limit;
     for word in words {

@@ -3,7 +3,7 @@
 ghost use Rattle.std.specs.Prelude.{◌≡◌, ◌≢◌, ℕ, List, ◌∷◌, ◌++◌, ◌≤◌, Option, decimal, IfSome, IfNone};
 ghost use Rattle.pl_text.specs.declared.moves_text.words.Word.{Word};
 ghost use Rattle.pl_text.specs.declared.moves_text.words.Letter.{Letter};
-ghost use Rattle.pl_text.specs.MovesTexts.{Fits, AreInRange, word_text, count_text};
+ghost use Rattle.pl_text.specs.MovesTexts.{IsWordWithin, AreInRange, word_text, count_text};
 ghost use Rattle.pl_text.specs.MovesLetters.{letter_code, move_of};
 
 use super::MAX_MOVES;
@@ -103,8 +103,8 @@ fn numbers(text: &str) -> Option<(u16, Option<u32>)>
 
 /// The word that a text is, or None where it is not a word.
 pub(crate) fn read_word(text: &str) -> Option<Word>
-    ensures some { IfSome result (λ w. (text.now ≡ word_text w) × Fits w) }
-    ensures none { IfNone result ((w : Word) → Fits w → text.now ≢ word_text w) }
+    ensures some { IfSome result (λ w. (text.now ≡ word_text w) × IsWordWithin w) }
+    ensures none { IfNone result ((w : Word) → IsWordWithin w → text.now ≢ word_text w) }
 {
     let (letter, rest) = split_letter(text)?;
     let (number, count) = numbers(rest)?;

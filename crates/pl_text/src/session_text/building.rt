@@ -10,7 +10,7 @@ ghost use Rattle.pl_build.specs.Executors.{HasPlaced, sizes_of};
 ghost use Rattle.pl_build.specs.declared.faults.BuildFault.TheVariants.{NoSuchName, Memory};
 ghost use Rattle.pl_world.specs.Plans.{channel_planned};
 ghost use Rattle.pl_world.specs.Sessions.{plan_of};
-ghost use Rattle.pl_world.specs.Worlds.{FitsWorld, IsUncalled};
+ghost use Rattle.pl_world.specs.Worlds.{FitsLimits, IsUncalled};
 ghost use Rattle.pl_text.specs.SessionReading.{seen};
 ghost use Rattle.pl_text.specs.SessionHandlers.{meaning_of};
 ghost use Rattle.pl_text.specs.SessionOutlines.{IsHandlerWithin, IsEditWithin, IsChannelOutlineWithin, IsOutlineWithin};
@@ -89,7 +89,7 @@ fn channels_built(
     requires unused { HasPlaced groups.old [] }
     ensures built { Builds (seen (map (channel_planned ⟦<Handler as Stage>⟧.meaning ⟦<MemoryTransport as Transport>⟧.state)) result)
         (channels_built groups.old.loops (sizes_of groups.old) [] channels) }
-    ensures fit { IfOk result (λ channels. All (FitsWorld ⟦<Handler as Stage>⟧.meaning ⟦<Handler as Stage>⟧.stands_after ⟦<MemoryTransport as Transport>⟧.state
+    ensures fit { IfOk result (λ channels. All (FitsLimits ⟦<Handler as Stage>⟧.meaning ⟦<Handler as Stage>⟧.stands_after ⟦<MemoryTransport as Transport>⟧.state
         (executor_count groups.old.loops (sizes_of groups.old))) channels) }
 {
     let mut built = Vec::with_capacity(alloc, channels.len())?;
@@ -108,7 +108,7 @@ fn channel_built(
 ) -> Result<Recorded<Handler, MemoryTransport>, BuildFault>
     requires { IsChannelOutlineWithin channel }
     ensures built { IfOk result (λ recorded. IsChannelBuilt groups.old groups.new channel (channel_planned ⟦<Handler as Stage>⟧.meaning ⟦<MemoryTransport as Transport>⟧.state recorded)) }
-    ensures fits { IfOk result (FitsWorld ⟦<Handler as Stage>⟧.meaning ⟦<Handler as Stage>⟧.stands_after ⟦<MemoryTransport as Transport>⟧.state
+    ensures fits { IfOk result (FitsLimits ⟦<Handler as Stage>⟧.meaning ⟦<Handler as Stage>⟧.stands_after ⟦<MemoryTransport as Transport>⟧.state
         (executor_count groups.old.loops (sizes_of groups.old))) }
     ensures refused { IfErr result (λ e. e ≢ Memory → pipeline_built (sizes_of groups.old) channel ≡ Err e) }
     ensures same_groups { (groups.new.loops ≡ groups.old.loops) × (sizes_of groups.new ≡ sizes_of groups.old) }

@@ -3,7 +3,7 @@
 ghost use Rattle.std.specs.Prelude.{◌≡◌, ◌≤◌, length, IfOk};
 ghost use Rattle.serde_json.specs.View.{view};
 ghost use Rattle.pl_world.specs.declared.limits.TheConstants.{MAX_BURSTS};
-ghost use Rattle.pl_text.specs.SessionReading.{Answers};
+ghost use Rattle.pl_text.specs.SessionReading.{AnswersMeaning};
 ghost use Rattle.pl_text.specs.SessionChannels.{mark_in, window_in, fail_at_in, bursts_in, abort_after_in, channel_in};
 
 use crate::faults::SessionFault;
@@ -100,7 +100,7 @@ fn bursts_in(
     version: Version,
     value: &Value,
 ) -> Result<Sequence<Sequence<Element>>, SessionFault>
-    ensures meaning { Answers result (bursts_in version (view value.now)) }
+    ensures meaning { AnswersMeaning result (bursts_in version (view value.now)) }
     ensures few { IfOk result (λ bursts. length bursts ≤ MAX_BURSTS) }
 {
     let bursts = array_in::<Sequence<Element>>(alloc, version, 0, MAX_BURSTS, value)?;

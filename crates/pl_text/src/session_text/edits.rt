@@ -2,7 +2,7 @@
 
 ghost use Rattle.std.specs.Prelude.{◌≡◌};
 ghost use Rattle.serde_json.specs.View.{view};
-ghost use Rattle.pl_text.specs.SessionReading.{Answers};
+ghost use Rattle.pl_text.specs.SessionReading.{AnswersMeaning};
 ghost use Rattle.pl_text.specs.SessionChannels.{operation_in, width_in, handler_in, addition_in, edit_of, edit_in};
 
 use crate::faults::SessionFault;
@@ -52,7 +52,7 @@ fn edit_of(
     name: Name,
     edit: &Value,
 ) -> Result<Edit, SessionFault>
-    ensures { Answers result (edit_of version operation name (view edit.now)) }
+    ensures { AnswersMeaning result (edit_of version operation name (view edit.now)) }
 {
     match operation {
         Operation::First => Ok(Edit::First(addition_in(alloc, version, name, edit)?)),
@@ -77,7 +77,7 @@ fn addition_in(
     name: Name,
     edit: &Value,
 ) -> Result<Addition, SessionFault>
-    ensures { Answers result (addition_in version name (view edit.now)) }
+    ensures { AnswersMeaning result (addition_in version name (view edit.now)) }
 {
     let handler = handler_in(version, edit)?;
     let group = optional::<Name>(alloc, version, edit, "group")?;

@@ -2,7 +2,7 @@
 
 ghost use Rattle.std.specs.Prelude.{◌≡◌};
 ghost use Rattle.serde_json.specs.View.{view};
-ghost use Rattle.pl_text.specs.SessionReading.{Answers, seen};
+ghost use Rattle.pl_text.specs.SessionReading.{AnswersMeaning, seen};
 ghost use Rattle.pl_text.specs.SessionChannels.{chunk_in, element_in, hex_decoded, user_in};
 
 use crate::faults::SessionFault;
@@ -41,7 +41,7 @@ fn user_in(event: &Value) -> Result<u32, SessionFault>
 /// The bytes of a chunk: in version 1 the UTF-8 bytes of a text, in version 2 the bytes that its hex digits say.
 #[tactic(auto, unfolding(crate::specs::SessionChannels::chunk_in))]
 fn chunk_in(alloc: Global, version: Version, value: &Value) -> Result<ByteString, SessionFault>
-    ensures { Answers result (chunk_in version (view value.now)) }
+    ensures { AnswersMeaning result (chunk_in version (view value.now)) }
 {
     let text = text(value)?;
     let bytes = match version {
@@ -53,7 +53,7 @@ fn chunk_in(alloc: Global, version: Version, value: &Value) -> Result<ByteString
 
 /// The bytes that hex digits say, of either case.
 fn hex_decoded(alloc: Global, digits: &str) -> Result<Vec<u8>, SessionFault>
-    ensures { Answers (seen (λ bytes. bytes.items) result) (hex_decoded digits.now) }
+    ensures { AnswersMeaning (seen (λ bytes. bytes.items) result) (hex_decoded digits.now) }
 {
     match hex::decode(alloc, digits) {
         Ok(bytes) => Ok(bytes),

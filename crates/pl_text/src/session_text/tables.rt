@@ -2,7 +2,7 @@
 
 ghost use Rattle.std.specs.Prelude.{◌≡◌};
 ghost use Rattle.serde_json.specs.View.{view};
-ghost use Rattle.pl_text.specs.SessionReading.{Answers};
+ghost use Rattle.pl_text.specs.SessionReading.{AnswersMeaning};
 ghost use Rattle.pl_text.specs.SessionOutlines.{version_in, group_in, groups_in, outline_in};
 
 use crate::faults::SessionFault;
@@ -59,7 +59,7 @@ fn groups_in(
     version: Version,
     top: &Value,
 ) -> Result<Sequence<GroupOutline>, SessionFault>
-    ensures { Answers result (groups_in (view top.now)) }
+    ensures { AnswersMeaning result (groups_in (view top.now)) }
 {
     match present(top, "groups") {
         Some(groups) => Sequence::<GroupOutline>::from_data(alloc, version, groups),
@@ -70,7 +70,7 @@ fn groups_in(
 /// The members of the top object, in the order of its table.
 #[tactic(auto, unfolding(crate::specs::SessionOutlines::outline_in))]
 pub(crate) fn outline_in(alloc: Global, value: &Value) -> Result<Outline, SessionFault>
-    ensures { Answers result (outline_in (view value.now)) }
+    ensures { AnswersMeaning result (outline_in (view value.now)) }
 {
     let top = an_object(value)?;
     let version = version_in(required(top, "version")?)?;

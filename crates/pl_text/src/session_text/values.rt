@@ -4,7 +4,7 @@ ghost use Rattle.std.specs.Prelude.{◌≡◌, option_map, map, IfOk, ◌≤◌}
 ghost use Rattle.serde_json.specs.View.{view};
 ghost use Rattle.serde_json.specs.Find.{get};
 ghost use Rattle.pl_text.specs.declared.faults.SessionFault.TheVariants.{Missing};
-ghost use Rattle.pl_text.specs.SessionReading.{Answers, known, seen, whole, whole_in, text, an_object, present, optional, elements_of, each, array_in, array_of};
+ghost use Rattle.pl_text.specs.SessionReading.{AnswersMeaning, known, seen, whole, whole_in, text, an_object, present, optional, elements_of, each, array_in, array_of};
 
 use crate::faults::SessionFault;
 use crate::session_text::names::Name;
@@ -27,7 +27,7 @@ pub(crate) trait FromData {
 
     /// Reads the value. An `Err` is its first fault, or `Memory`.
     fn from_data(alloc: Global, version: Version, value: &Value) -> Result<Self::Read, SessionFault>
-        ensures { Answers result (meaning version (view value.now)) };
+        ensures { AnswersMeaning result (meaning version (view value.now)) };
 }
 
 /// A whole number.
@@ -96,7 +96,7 @@ pub(crate) fn optional<T: FromData>(
     object: &Value,
     name: &str,
 ) -> Result<Option<T::Read>, SessionFault>
-    ensures { Answers result (optional name.now (T.meaning version) (view object.now)) }
+    ensures { AnswersMeaning result (optional name.now (T.meaning version) (view object.now)) }
 {
     match present(object, name) {
         Some(value) => Ok(Some(T::from_data(alloc, version, value)?)),
@@ -121,7 +121,7 @@ fn each<T: FromData>(
     version: Version,
     values: &[Value],
 ) -> Result<Sequence<T::Read>, SessionFault>
-    ensures { Answers result (each (T.meaning version) (map view values.now)) }
+    ensures { AnswersMeaning result (each (T.meaning version) (map view values.now)) }
 {
     let mut read = Vec::with_capacity(alloc, values.len())?;
     for value in values {
@@ -139,7 +139,7 @@ pub(crate) fn array_in<T: FromData>(
     high: usize,
     value: &Value,
 ) -> Result<Sequence<T::Read>, SessionFault>
-    ensures { Answers result (array_in low high (T.meaning version) (view value.now)) }
+    ensures { AnswersMeaning result (array_in low high (T.meaning version) (view value.now)) }
 {
     let values = elements_of(value)?;
     if values.len() < low || high < values.len() {

@@ -4,7 +4,7 @@ ghost use Rattle.std.specs.Prelude.{◌≡◌, [], codes, drop, map, option_and_
 ghost use Rattle.std.specs.List.{list_any};
 ghost use Rattle.std.specs.Str.{bytes_eq};
 ghost use Rattle.clap.specs.Words.{FailsBy, app_of, fault_of, first_value, found_of, rows_of, subcommand_of, subcommand_rows_of, with_subcommand};
-ghost use Rattle.pl_tool.specs.ProgramLines.{Run, command_with, program, queue_named, request_of, request_of_subcommand, request_view};
+ghost use Rattle.pl_tool.specs.ProgramLines.{Run, subcommand_with, program, queue_named, request_of, request_of_subcommand, request_view};
 
 use clap::error::ErrorKind;
 use clap::{Arg, ArgAction, ArgMatches, Command, Error};
@@ -29,7 +29,7 @@ fn with_option<'a>(
     name: &'a str,
     option: &'a str,
 ) -> Result<Command<'a>, AllocError>
-    ensures { IfOk result (λ made. app_of made ≡ with_subcommand (app_of command.entry) (command_with name.entry.now option.entry.now).top) }
+    ensures { IfOk result (λ made. app_of made ≡ with_subcommand (app_of command.entry) (subcommand_with name.entry.now option.entry.now).top) }
 {
     let taken = Arg::new(alloc, option).long(option).action(ArgAction::Set);
     command.subcommand(Command::new(alloc, name).arg(taken)?)

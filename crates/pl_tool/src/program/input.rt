@@ -5,7 +5,7 @@ ghost use Rattle.std.specs.Io.KnownBytes.{Consumes, IsAtEnd};
 ghost use Rattle.pl_text.specs.declared.session_text.limits.TheConstants.{MAX_SESSION_TEXT};
 ghost use Rattle.pl_world.specs.Sessions.{plan_of};
 ghost use Rattle.pl_world.specs.Worlds.{IsUncalled};
-ghost use Rattle.pl_text.specs.SessionReading.{Answers, seen};
+ghost use Rattle.pl_text.specs.SessionReading.{AnswersMeaning, seen};
 ghost use Rattle.pl_tool.specs.ProgramOutcomes.{EndsReading, RefusesInput, TakesAtMost, TakesSession, session_of_bytes};
 
 use super::failure::Failure;
@@ -77,7 +77,7 @@ fn read_input<R: Read>(reader: &mut R, input: &mut Vec<u8>) -> Result<(), Failur
 /// The session that bytes mean.
 fn session_in(alloc: Global, input: &[u8]) -> Result<Session, SessionFault>
     requires { length input.now ≤ MAX_SESSION_TEXT }
-    ensures means { Answers (seen (plan_of ⟦<Handler as Stage>⟧.meaning ⟦<MemoryTransport as Transport>⟧.state) result) (session_of_bytes input.now) }
+    ensures means { AnswersMeaning (seen (plan_of ⟦<Handler as Stage>⟧.meaning ⟦<MemoryTransport as Transport>⟧.state) result) (session_of_bytes input.now) }
     ensures uncalled { IfOk result (λ session. All (λ c. IsUncalled (⟦<MemoryTransport as Transport>⟧.state c.transport)) session.world.channels) }
 {
     match str::from_utf8(input) {

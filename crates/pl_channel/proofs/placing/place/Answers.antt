@@ -9,7 +9,7 @@ use Rattle.pl_event.proofs.Lists.{position_or_len-map}
 use Rattle.pl_context.specs.TailViews.{new_tail}
 use Rattle.pl_part.specs.NewParts.{ArePlannedWith, whole_slots}
 use Rattle.pl_part.proofs.NewHeads.{IsFresh, new-holds, new-came, new-taken}
-use Rattle.pl_world.specs.Plans.{channel_planned, head_hop}
+use Rattle.pl_world.specs.Plans.{channel_planned, planned_head_hop}
 use Rattle.pl_channel.specs.Lanes.{channel_lanes, world_of}
 use Rattle.pl_channel.proofs.LaneContents.{channel-lane, content-planned}
 use Rattle.pl_channel.proofs.PlannedLanes.{Knows, are-planned, few-input, head-planned}
@@ -37,7 +37,7 @@ whole-requires-clause-planned g c =
     )
 
 -- the head is new, at the last hop
-head-fresh : (g : Over) (c : After-whole g) → IsFresh g.T.Transport.state c.args.recorded.input c.args.number (head_hop (channel_planned g.S.Stage.meaning g.T.Transport.state c.args.recorded)) c.new-head.result
+head-fresh : (g : Over) (c : After-whole g) → IsFresh g.T.Transport.state c.args.recorded.input c.args.number (planned_head_hop (channel_planned g.S.Stage.meaning g.T.Transport.state c.args.recorded)) c.new-head.result
 head-fresh g c =
     let meaning = g.S.Stage.meaning in
     let path = c.args.recorded.pipeline in
@@ -128,8 +128,8 @@ returns-clause-unmoved g c = if-ok c.whole.result _ (λ part is.
     new-unmoved g.S.Stage.meaning g.S.Stage.stands_after world c.args.number (length c.into_chains-inbound.result.0.items) c.turn-turn.result part
     (IfOk-at_ok _ is c.whole.ensures.new world (chains-planned g c world (channel-lane c.args.number p)))
     (IfOk-at_ok _ is c.whole.ensures.tail) c.new-head.result (IfOk-at_ok _ is c.whole.ensures.head)
-    (new-came state c.args.recorded.input c.args.number (head_hop p) c.new-head.result fresh)
-    (new-taken state c.args.recorded.input c.args.number (head_hop p) c.new-head.result fresh))
+    (new-came state c.args.recorded.input c.args.number (planned_head_hop p) c.new-head.result fresh)
+    (new-taken state c.args.recorded.input c.args.number (planned_head_hop p) c.new-head.result fresh))
 
 pub returns-clause-holds : goal.returns-clause-holds
 returns-clause-holds g c = if-ok c.whole.result _ (λ part is refuses plan at.
@@ -143,4 +143,4 @@ returns-clause-holds g c = if-ok c.whole.result _ (λ part is refuses plan at.
     let head = head-planned meaning stands_after state recorded c.inbound.ensures.path c.requires.small world c.args.number knows in
     let few = few-input meaning stands_after state recorded c.inbound.ensures.path c.requires.small world c.args.number knows in
     IfOk-at_ok _ is c.whole.ensures.holds world (chains-planned g c world knows)
-    (new-holds state recorded.input c.args.number (head_hop p) c.new-head.result (head-fresh g c) world head few))
+    (new-holds state recorded.input c.args.number (planned_head_hop p) c.new-head.result (head-fresh g c) world head few))

@@ -7,7 +7,7 @@ use Rattle.pl_queue.specs.declared.views.TakerView.{TakerView}
 use Rattle.pl_words.specs.Admissions.{OwnerSeatView}
 use Rattle.pl_outbox.specs.declared.inbox.Inbox.{Inbox}
 use Rattle.pl_outbox.specs.OutboxViews.{OutboxView, IsNew, waits_for}
-use Rattle.pl_executor.specs.Running.{ExecutorView, IsTaking}
+use Rattle.pl_threads.specs.Running.{ExecutorView, IsTaking}
 use Rattle.pl_exec.specs.Opening.{InboxView, WayView, WaysView, PlacesView, AreWays, outbox_of}
 use Rattle.pl_exec.proofs.StartLemmas.{starts-ways, starts-new, starts-taking, starts-running, shown-at}
 use Rattle.pl_exec.proofs.opening.executor.Goals as goal
@@ -51,7 +51,7 @@ new-requires-3-clause-home g c = c.requires.starts.fits.at
 
 pub new-requires-3-clause-places : goal.new-requires-3-clause-places
 new-requires-3-clause-places g c =
-    subst (λ (z : StopsView). HasPlaces z (g.N.Part.lanes c.args.part)) (sym (c.in_ok-new-2.ensures.places ∙ ap (λ (p : PlacesView). no_stops p.work) c.places.view_is)) c.requires.starts.fits.work
+    subst (λ (z : StopsView). HasPlaces z (g.N.Nodes.lanes c.args.nodes)) (sym (c.in_ok-new-2.ensures.places ∙ ap (λ (p : PlacesView). no_stops p.work) c.places.view_is)) c.requires.starts.fits.work
 
 pub new-requires-3-clause-why : goal.new-requires-3-clause-why
 new-requires-3-clause-why g c = λ refused. absurd (false≢true (sym c.requires.starts.fits.unrefused ∙ refused))
@@ -71,8 +71,8 @@ new-requires-3-clause-number g c = omega (arith, c.requires.there, c.requires.fe
 pub new-requires-3-clause-runs : goal.new-requires-3-clause-runs
 new-requires-3-clause-runs g c =
     let inboxes : List (InboxView g.row.M.Denot) = map (λ (i : Inbox g.row.W.Denot g.row.M.Denot g.row.M-Sender.Denot g.row.M-Taker.Denot). record { mailbox = i.mailbox; name = i.admission.name }) c.args.inboxes.now in
-    starts-running g.M.Mailbox.is_taker g.M.Mailbox.takes_of g.M.Mailbox.is_sender g.M.Mailbox.sends_of g.N.Part.stands g.N.Part.home g.N.Part.lanes g.N.Part.target_of g.N.Part.writes g.N.Part.taken_of g.N.Part.came g.N.Part.was_refused
-    inboxes c.args.number c.args.ways c.args.part c.args.places.now c.requires.starts g.W.Named.world c.in_ok-new.field-0
+    starts-running g.M.Mailbox.is_taker g.M.Mailbox.takes_of g.M.Mailbox.is_sender g.M.Mailbox.sends_of g.N.Nodes.stands g.N.Nodes.home g.N.Nodes.lanes g.N.Nodes.target_of g.N.Nodes.writes g.N.Nodes.taken_of g.N.Nodes.came g.N.Nodes.was_refused
+    inboxes c.args.number c.args.ways c.args.nodes c.args.places.now c.requires.starts g.W.Named.world c.in_ok-new.field-0
     (c.in_ok-new.ensures.outboxes ∙ c.in_ok-outboxes.ensures ∙ ap (λ (vs : List (WayView g.row.M-Sender.Denot)). map (outbox_of g.M.Mailbox.sends_of) vs) (ap (λ (w : WaysView g.row.M-Taker.Denot g.row.M-Sender.Denot). w.ways) c.ways.view_is))
     c.in_ok-new.ensures.waits
     (c.in_ok-new.ensures.places ∙ ap (λ (counts : List ℕ). map no_stops counts) (c.as_slice.ensures.value ∙ ap (λ (p : PlacesView). p.targets) c.places.view_is))
@@ -90,9 +90,9 @@ new-requires-3-clause-taking g c =
     let inboxes : List (InboxView g.row.M.Denot) = map (λ (i : Inbox g.row.W.Denot g.row.M.Denot g.row.M-Sender.Denot g.row.M-Taker.Denot). record { mailbox = i.mailbox; name = i.admission.name }) c.args.inboxes.now in
     let view : Inbox g.row.W.Denot g.row.M.Denot g.row.M-Sender.Denot g.row.M-Taker.Denot → InboxView g.row.M.Denot = λ (i : Inbox g.row.W.Denot g.row.M.Denot g.row.M-Sender.Denot g.row.M-Taker.Denot). record { mailbox = i.mailbox; name = i.admission.name } in
     let all = length-map c.args.inboxes.now view in
-    subst (λ (t : g.row.M-Taker.Denot). IsTaking c.args.number (g.N.Part.target_of c.args.part) (g.N.Part.writes c.args.part) (g.N.Part.taken_of c.args.part) (g.M.Mailbox.takes_of t).counts) (sym (ap (λ (w : WaysView g.row.M-Taker.Denot g.row.M-Sender.Denot). w.taker) c.ways.view_is))
-    (starts-taking g.M.Mailbox.is_taker g.M.Mailbox.takes_of g.M.Mailbox.is_sender g.M.Mailbox.sends_of g.N.Part.stands g.N.Part.home g.N.Part.lanes g.N.Part.target_of g.N.Part.writes g.N.Part.taken_of g.N.Part.came g.N.Part.was_refused
-    inboxes c.args.number c.args.ways c.args.part c.args.places.now c.requires.starts (omega (arith, c.requires.there, all)))
+    subst (λ (t : g.row.M-Taker.Denot). IsTaking c.args.number (g.N.Nodes.target_of c.args.nodes) (g.N.Nodes.writes c.args.nodes) (g.N.Nodes.taken_of c.args.nodes) (g.M.Mailbox.takes_of t).counts) (sym (ap (λ (w : WaysView g.row.M-Taker.Denot g.row.M-Sender.Denot). w.taker) c.ways.view_is))
+    (starts-taking g.M.Mailbox.is_taker g.M.Mailbox.takes_of g.M.Mailbox.is_sender g.M.Mailbox.sends_of g.N.Nodes.stands g.N.Nodes.home g.N.Nodes.lanes g.N.Nodes.target_of g.N.Nodes.writes g.N.Nodes.taken_of g.N.Nodes.came g.N.Nodes.was_refused
+    inboxes c.args.number c.args.ways c.args.nodes c.args.places.now c.requires.starts (omega (arith, c.requires.there, all)))
 
 pub new-requires-3-clause-fresh : goal.new-requires-3-clause-fresh
 new-requires-3-clause-fresh g c =
@@ -108,8 +108,8 @@ new-requires-3-clause-owner g c =
     let own = c.requires.starts.ways.own (view inbox) (shown-at view c.args.inboxes.now c.args.number inbox c.requires.there c.index-inboxes-number.is) in
     ap (λ (w : WaysView g.row.M-Taker.Denot g.row.M-Sender.Denot). w.owner) c.ways.view_is ∙ own.owner
 
-pub returns-clause-part : goal.returns-clause-part
-returns-clause-part g c = ap (λ (e : ExecutorView g.row.N.Denot). e.part) c.new-3.ensures
+pub returns-clause-nodes : goal.returns-clause-nodes
+returns-clause-nodes g c = ap (λ (e : ExecutorView g.row.N.Denot). e.nodes) c.new-3.ensures
 
 pub returns-clause-first : goal.returns-clause-first
 returns-clause-first g c =

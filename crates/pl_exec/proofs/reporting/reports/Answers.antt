@@ -1,7 +1,7 @@
 use Rattle.std.proofs.Common.{◌++◌, ◌∷◌, [], List, length, refl, ap, sym, subst, ◌∙◌, arith, append_assoc}
 use Rattle.std.specs.List.{AllZip}
 use Rattle.std.proofs.lemmas.List.{nil_from_length}
-use Rattle.pl_replay.proofs.ReportLists.{zip_push}
+use Rattle.pl_event.proofs.Lists.{zip_push}
 use Rattle.pl_exec.specs.declared.reporting.Found.{Found}
 use Rattle.pl_exec.specs.Reported.{IsFinalReport}
 use Rattle.pl_exec.proofs.ListSteps.{at-next, all-done}

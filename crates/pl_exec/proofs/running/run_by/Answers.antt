@@ -1,10 +1,8 @@
-use Rattle.std.proofs.Common.{List, map, slice_get, ap, sym, ◌∙◌, subst}
-use Rattle.pl_channel.proofs.WorldChannels.{channel-small}
-use Rattle.pl_replay.specs.Starts.{ArePlaced}
-use Rattle.pl_replay.proofs.NetStarts.{All-from-at}
+use Rattle.std.proofs.Common.{List, map, ap, sym, ◌∙◌, subst}
+use Rattle.pl_channel.proofs.WorldChannels.{recorded-small}
+use Rattle.pl_channel.specs.Placing.{ArePlaced}
 use Rattle.pl_world.specs.declared.session.Recorded.{Recorded}
-use Rattle.pl_world.specs.Plans.{Plan, channel_planned, planned}
-use Rattle.pl_world.specs.PlanRules.{IsSmallChannel}
+use Rattle.pl_world.specs.Plans.{Plan, planned}
 use Rattle.pl_exec.specs.Starting.{AreReady}
 use Rattle.pl_exec.specs.Telling.{plan_marks}
 use Rattle.pl_exec.proofs.SeatLemmas.{planned-marks}
@@ -12,9 +10,7 @@ use Rattle.pl_exec.proofs.running.run_by.Goals as goal
 
 pub placed-requires-clause-small : goal.placed-requires-clause-small
 placed-requires-clause-small g c =
-    let same = c.into_vec.ensures ∙ c.into_channels.ensures.channels in
-    All-from-at (λ (r : Recorded g.row.S.Denot g.row.T.Denot). IsSmallChannel (channel_planned g.S.Stage.meaning g.T.Transport.state r)) c.into_vec.result.items
-    (λ i r at. channel-small g.S.Stage.meaning g.T.Transport.state c.args.world c.into_channels.ensures.is_world i r (sym (ap (λ (l : List (Recorded g.row.S.Denot g.row.T.Denot)). slice_get l i) same) ∙ at))
+    recorded-small g.S.Stage.meaning g.T.Transport.state c.args.world c.into_channels.ensures.is_world c.into_vec.result.items (c.into_vec.ensures ∙ c.into_channels.ensures.channels)
 
 pub run_parts-requires-clause-ready : goal.run_parts-requires-clause-ready
 run_parts-requires-clause-ready g c κs lives =

@@ -3,7 +3,7 @@ use Rattle.std.specs.List.{range_with_len}
 use Rattle.std.specs.Prelude.{All}
 use Rattle.std.proofs.lemmas.List.{length-map}
 use Rattle.pl_part.specs.Parts.{ChannelPartView}
-use Rattle.pl_replay.specs.Placed.{ArePlaceable}
+use Rattle.pl_channel.specs.Ways.{ArePlaceable}
 use Rattle.pl_outbox.specs.declared.inbox.Inbox.{Inbox}
 use Rattle.pl_exec.specs.declared.nodes.OwnNodes.{OwnNodes}
 use Rattle.pl_exec.specs.declared.telling.TellingNodes.{TellingNodes}

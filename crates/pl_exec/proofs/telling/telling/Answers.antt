@@ -4,11 +4,12 @@ use Rattle.std.specs.Option.{option_map}
 use Rattle.std.proofs.lemmas.List.{length-map, length_push, nil_from_length}
 use Rattle.std.proofs.lemmas.List.Elements.{All-nil, All-push, All-same}
 use Rattle.std.proofs.lemmas.Option.{slice_get-map}
+use Rattle.pl_event.proofs.Lists.{seen-more}
 use Rattle.pl_exec.specs.declared.nodes.OwnNodes.{OwnNodes}
 use Rattle.pl_exec.specs.declared.telling.TellingNodes.{TellingNodes}
 use Rattle.pl_exec.specs.Telling.{AreDealt, HasOwnSeats, HaveSeats, KnowChannels}
 use Rattle.pl_exec.proofs.DealtSeats.{AreGone, more-gone, none-gone, own-seats}
-use Rattle.pl_exec.proofs.ListSteps.{all-done, at-next, both-behind, seen-more}
+use Rattle.pl_exec.proofs.ListSteps.{all-done, at-next, both-behind}
 use Rattle.pl_exec.proofs.SeatLemmas.{all-seated}
 use Rattle.pl_exec.proofs.telling.telling.Goals as goal
 

@@ -1,7 +1,8 @@
 use Rattle.std.proofs.Common.{◌≡◌, length, map, inl, inr, refl, arith}
 use Rattle.std.proofs.lemmas.List.{nil_from_length}
+use Rattle.pl_event.proofs.Lists.{seen-more}
 use Rattle.pl_exec.specs.SessionWords.{SightView}
-use Rattle.pl_exec.proofs.ListSteps.{all-done, both-behind, seen-more}
+use Rattle.pl_exec.proofs.ListSteps.{all-done, both-behind}
 use Rattle.pl_exec.proofs.words.sights.Goals as goal
 
 pub loop-mark-preserved : goal.loop-mark-preserved

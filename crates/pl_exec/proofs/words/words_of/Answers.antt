@@ -1,7 +1,7 @@
 use Rattle.std.proofs.Common.{◌≡◌, ◌+◌, ◌++◌, [], ◌∷◌, List, length, replicate, take, ap, sym, ◌∙◌, subst, arith, length-append}
 use Rattle.std.proofs.lemmas.List.{length-replicate, length-take-le, take_all, take_more}
 use Rattle.pl_world.specs.declared.session.Recorded.{Recorded}
-use Rattle.pl_exec.specs.SessionWords.{AreHeadSeatsOf, ChannelNames, HaveMarksOf, SeatsView, SightView, new_head_seats, new_reader, new_seats}
+use Rattle.pl_exec.specs.SessionWords.{AreHeadSeatsOf, ChannelNames, HaveMarksOf, SeatsView, SightView, new_head_seats, new_sights, new_seats}
 use Rattle.pl_exec.proofs.WordLemmas.{head_seats-marks, head_seats-own, heads-step, readers-step}
 use Rattle.pl_exec.proofs.words.words_of.Goals as goal
 
@@ -11,13 +11,13 @@ loop-channel-init g c =
     record {
       count = ap (λ (l : List ChannelNames). length l) none;
       heads = c.in_ok-heads.ensures.items ∙ ap (λ (l : List ChannelNames). new_head_seats l []) (sym none);
-      readers = c.in_ok-all.ensures ∙ ap (λ (l : List ChannelNames). replicate c.args.readers (new_reader l)) (sym none);
+      readers = c.in_ok-all.ensures ∙ ap (λ (l : List ChannelNames). replicate c.args.readers (new_sights l)) (sym none);
     }
 
 pub add_row-requires : goal.add_row-requires
 add_row-requires g c =
     let inv = c.loop-channel.invariant in
-    c.in_ok-own.ensures.count ∙ sym (ap (λ (l : List (List SightView)). length l) inv.readers ∙ length-replicate c.args.readers (new_reader c.loop-channel.words.items))
+    c.in_ok-own.ensures.count ∙ sym (ap (λ (l : List (List SightView)). length l) inv.readers ∙ length-replicate c.args.readers (new_sights c.loop-channel.words.items))
 
 pub loop-channel-preserved : goal.loop-channel-preserved
 loop-channel-preserved g c =
@@ -41,7 +41,7 @@ loop-channel-preserved g c =
       readers =
           c.in_ok-add_row.ensures
           ∙ readers-step c.args.readers words own c.loop-channel.all.items row inv.readers c.in_ok-own.ensures.count c.in_ok-own.ensures.sights
-          ∙ (λ i. replicate c.args.readers (new_reader (sym added i)));
+          ∙ (λ i. replicate c.args.readers (new_sights (sym added i)));
     }
 
 -- the seats of all channels were made

@@ -1,6 +1,6 @@
 use Rattle.std.proofs.Common.{◌≡◌, ℕ, ◌+◌, ◌<◌, List, [], ◌∷◌, ◌++◌, length, take, drop, suc, ap, sym, ◌∙◌, refl, arith, append_assoc}
 use Rattle.pl_head.specs.declared.outbound_buffer.Entry.{Entry}
-use Rattle.pl_head.specs.WaitingMessages.{entries_size, settled_all, numbers_of}
+use Rattle.pl_head.specs.WaitingMessages.{entries_size, settled_all, entry_numbers}
 use Rattle.pl_head.proofs.Accounts.{account-split, account-at, account-same, within-at}
 use Rattle.pl_head.proofs.WaitingSizes.{drop-at, entries_size-cons, entries_size-split}
 use Rattle.pl_head.proofs.outbound_buffer.settle_from.Goals as goal
@@ -23,7 +23,7 @@ index_mut-requires c =
     let i = c.loop-i.i in
     let entry = c.index-entry.result.now in
     let within : i < length es = omega (arith, c.loop-i-test.true, c.len-i-end.ensures, c.args.entries.now.ok.0) in
-    omega (arith, within-at es i entry within c.index-entry.ensures (numbers_of (take c.args.start es)) c.loop-i.settled.items c.loop-i.outcomes.items c.loop-i.invariant.account, c.loop-i.outcomes.ok.0)
+    omega (arith, within-at es i entry within c.index-entry.ensures (entry_numbers (take c.args.start es)) c.loop-i.settled.items c.loop-i.outcomes.items c.loop-i.invariant.account, c.loop-i.outcomes.ok.0)
 
 pub overflow_add-size : goal.overflow_add-size
 overflow_add-size c =
@@ -50,11 +50,11 @@ loop-i-preserved c =
       size = omega (arith, size, entries_size-cons entry (drop (suc i) es), before.size, c.len.ensures);
       account =
           account-same refl c.push_reserved.ensures.items refl
-          (account-at es i entry within c.index-entry.ensures (numbers_of (take c.args.start es)) c.loop-i.settled.items c.loop-i.outcomes.items before.account c.args.outcome);
+          (account-at es i entry within c.index-entry.ensures (entry_numbers (take c.args.start es)) c.loop-i.settled.items c.loop-i.outcomes.items before.account c.args.outcome);
       settled =
-          ap (λ (ns : List ℕ). ns ++ numbers_of (drop (suc i) es)) c.push_reserved.ensures.items
-          ∙ append_assoc c.loop-i.settled.items (entry.number ∷ []) (numbers_of (drop (suc i) es))
-          ∙ ap (λ (t : List Entry). c.loop-i.settled.items ++ numbers_of t) (sym here)
+          ap (λ (ns : List ℕ). ns ++ entry_numbers (drop (suc i) es)) c.push_reserved.ensures.items
+          ∙ append_assoc c.loop-i.settled.items (entry.number ∷ []) (entry_numbers (drop (suc i) es))
+          ∙ ap (λ (t : List Entry). c.loop-i.settled.items ++ entry_numbers t) (sym here)
           ∙ before.settled;
       len = before.len;
       room = before.room;

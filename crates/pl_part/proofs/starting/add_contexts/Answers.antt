@@ -2,13 +2,13 @@ use Rattle.std.proofs.Common.{◌≡◌, ℕ, ◌+◌, [], ◌∷◌, ◌++◌, 
 use Rattle.std.specs.Prelude.{is_some}
 use Rattle.std.specs.List.{sum_by}
 use Rattle.std.proofs.lemmas.Result.{err_from_is_err_and}
-use Rattle.pl_event.proofs.Lists.{All-at}
+use Rattle.pl_event.proofs.Lists.{All-at, slice_get-behind}
 use Rattle.std.proofs.lemmas.List.{map-append}
 use Rattle.std.proofs.lemmas.List.Sums.{sum_by_push}
 use Rattle.pl_context.specs.ContextViews.{ContextView, IsHop, new_context}
 use Rattle.pl_part.specs.Counts.{context_done, slot_done}
-use Rattle.pl_part.specs.NewParts.{AreNew, IsNewAt, IsPlannedAt, new_slots}
-use Rattle.pl_part.proofs.NewContexts.{new-at, new-push, new_slots-push, slice_get-behind, replicate-push}
+use Rattle.pl_part.specs.NewParts.{AreNewSlots, IsNewAt, IsPlannedAt, new_slots}
+use Rattle.pl_part.proofs.NewContexts.{new-at, new-push, new_slots-push, replicate-push}
 use Rattle.pl_part.proofs.starting.add_contexts.Goals as goal
 
 pub overflow_cast-hop : goal.overflow_cast-hop
@@ -66,7 +66,7 @@ loop-stage-preserved g c =
           let is : IsNewAt world g.S.Stage.meaning c.args.channel c.args.k turn g.S.Stage.stands_after at context =
           new-at world g.S.Stage.meaning c.args.channel c.args.k turn g.S.Stage.stands_after g.met.S.Stage.lawful at stage context
           (subst (λ (h : ℕ). IsPlannedAt world g.S.Stage.meaning c.args.channel c.args.k turn h stage) hop (planned (length stages) stage there)) c.new.ensures.context c.new.ensures.stands in
-          subst (λ (l : List (Option (ContextView g.row.S.Denot))). AreNew world g.S.Stage.meaning c.args.channel c.args.k turn g.S.Stage.stands_after l) (sym added)
+          subst (λ (l : List (Option (ContextView g.row.S.Denot))). AreNewSlots world g.S.Stage.meaning c.args.channel c.args.k turn g.S.Stage.stands_after l) (sym added)
           (new-push world g.S.Stage.meaning c.args.channel c.args.k turn g.S.Stage.stands_after slots context (before.new world turn planned are)
           (subst (λ (h : ℕ). IsNewAt world g.S.Stage.meaning c.args.channel c.args.k turn g.S.Stage.stands_after h context) length-is is));
       done =

@@ -1,6 +1,6 @@
 use Rattle.std.proofs.Common.{ap, sym, ◌∙◌, ◌++◌, ◌<◌, length, map, arith}
 use Rattle.std.proofs.lemmas.List.{take_all}
-use Rattle.pl_queue.specs.Left.{all_lanes, own_lanes}
+use Rattle.pl_queue.specs.Left.{lanes_of_senders, own_lanes}
 use Rattle.pl_queue.specs.Views.{fresh_take_counts}
 use Rattle.pl_queue.proofs.Lists.{counts-more}
 use Rattle.pl_queue.proofs.counts.all_counts.Goals as goal
@@ -13,4 +13,4 @@ loop-own-preserved c =
     ∙ sym (counts-more own_lanes c.args.lanes.now c.loop-own.own-index c.own-item.result c.as_slice.result.now lt c.own-item.is c.as_slice.ensures.value)
 
 pub returns : goal.returns
-returns c = c.loop-own.invariant ∙ ap (λ ls. fresh_take_counts (all_lanes (map own_lanes ls))) (take_all c.loop-own.own-index c.args.lanes.now c.loop-own-test.false)
+returns c = c.loop-own.invariant ∙ ap (λ ls. fresh_take_counts (lanes_of_senders (map own_lanes ls))) (take_all c.loop-own.own-index c.args.lanes.now c.loop-own-test.false)

@@ -1,6 +1,6 @@
 use Rattle.std.proofs.Common.{◌≤◌, ◌∙◌, ap, sym, subst, length, map, arith, refl}
 use Rattle.std.proofs.lemmas.List.{length-map, take_all}
-use Rattle.pl_queue.specs.Left.{all_lanes, own_lanes}
+use Rattle.pl_queue.specs.Left.{lanes_of_senders, own_lanes}
 use Rattle.pl_queue.proofs.LimitLemmas.{count-more, count-part, beyond, within}
 use Rattle.pl_queue.proofs.counts.is_within.Goals as goal
 
@@ -31,4 +31,4 @@ returns c =
     let lanes = c.args.lanes.now in
     sym (within (map own_lanes lanes) c.args.capacity c.if-capacity-eq0.false c.if-capacity-gt-MAX_CAPACITY.false
     (omega (arith, c.if-lanes-gt-MAX_SENDERS.false, length-map lanes own_lanes))
-    (subst (λ n. n ≤ 8192) (c.loop-own.invariant.counted ∙ ap (λ vs. length (all_lanes (map own_lanes vs))) (take_all c.loop-own.own-index lanes c.loop-own-test.false)) c.loop-own.invariant.few))
+    (subst (λ n. n ≤ 8192) (c.loop-own.invariant.counted ∙ ap (λ vs. length (lanes_of_senders (map own_lanes vs))) (take_all c.loop-own.own-index lanes c.loop-own-test.false)) c.loop-own.invariant.few))

@@ -1,6 +1,6 @@
 use Rattle.std.proofs.Common.{None, true, map, ap, sym, ◌∙◌, ◌<◌, length, arith}
 use Rattle.std.proofs.lemmas.List.{take_all}
-use Rattle.pl_queue.specs.Left.{all_lanes, own_lanes}
+use Rattle.pl_queue.specs.Left.{lanes_of_senders, own_lanes}
 use Rattle.pl_queue.specs.Views.{fresh_sends, fresh_takes, dealing, view_of, no_sends, takes, next_of, has_lane}
 use Rattle.pl_queue.proofs.Lists.{counts-more, lanes-new}
 use Rattle.pl_queue.proofs.TakerLemmas.{dealt-more}
@@ -33,7 +33,7 @@ loop-own-preserved g c =
 pub returns-clause-pass : goal.returns-clause-pass
 returns-clause-pass g c =
     let inv = c.loop-own.invariant in
-    (inv.pass, inv.dealt ∙ ap (λ ls. view_of true no_sends (fresh_takes (all_lanes (map own_lanes ls)))) (take_all c.loop-own.own-index c.args.lanes.now c.loop-own-test.false))
+    (inv.pass, inv.dealt ∙ ap (λ ls. view_of true no_sends (fresh_takes (lanes_of_senders (map own_lanes ls)))) (take_all c.loop-own.own-index c.args.lanes.now c.loop-own-test.false))
 
 pub returns-clause-senders : goal.returns-clause-senders
 returns-clause-senders g c =

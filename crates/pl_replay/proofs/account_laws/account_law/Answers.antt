@@ -1,6 +1,6 @@
 use Rattle.std.proofs.Common.{false}
 use Rattle.pl_channel.specs.Lanes.{world_of}
-use Rattle.pl_replay.specs.Channels.{channels_view}
+use Rattle.pl_replay.specs.Views.{channels_view}
 use Rattle.pl_replay.proofs.GivenLanes.{has-given}
 use Rattle.pl_replay.proofs.account_laws.account_law.Goals as goal
 

@@ -6,7 +6,8 @@ use Rattle.std.proofs.lemmas.Iterator.Adapters.{YieldsList-from_vec}
 use Rattle.std.proofs.lemmas.Iterator.Consumers.{YieldsList-turn, YieldsList-end}
 use Rattle.pl_part.specs.Parts.{ChannelPartView}
 use Rattle.pl_replay.specs.Reported.{HasEnds, IsPartReport, ReportsItsPlan}
-use Rattle.pl_replay.proofs.ReportLists.{zip_push, all_planned}
+use Rattle.pl_event.proofs.Lists.{zip_push}
+use Rattle.pl_replay.proofs.ReportLists.{all_planned}
 use Rattle.pl_replay.proofs.reporting.into_reports.Goals as goal
 
 pub report_from-requires : goal.report_from-requires

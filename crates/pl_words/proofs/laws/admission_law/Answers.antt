@@ -1,11 +1,11 @@
 use Rattle.std.proofs.Common.{◌≡◌, ◌+◌, ◌*◌, ap, sym, ◌∙◌, arith}
 use Rattle.pl_words.specs.Phases.{rank}
-use Rattle.pl_words.specs.AdmissionRule.{total, counted}
+use Rattle.pl_words.specs.AdmissionRule.{total, kept_and_trial}
 use Rattle.pl_words.proofs.AdmissionMoves.{saw_closed}
 use Rattle.pl_words.proofs.laws.admission_law.Goals as goal
 
 pub returns-clause-word : goal.returns-clause-word
-returns-clause-word c = λ senders words notes owner r o owns. r.word ∙ ap (λ p. 4 * total counted notes + rank p) (sym ((r.each o.0 owner o.1).owns owns).1)
+returns-clause-word c = λ senders words notes owner r o owns. r.word ∙ ap (λ p. 4 * total kept_and_trial notes + rank p) (sym ((r.each o.0 owner o.1).owns owns).1)
 
 pub returns-clause-seen : goal.returns-clause-seen
 returns-clause-seen c = λ senders words notes owner v r o owns a.

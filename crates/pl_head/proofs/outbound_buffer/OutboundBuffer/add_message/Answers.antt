@@ -5,7 +5,7 @@ use Rattle.pl_event.specs.declared.events.Event.TheVariants.{Write}
 use Rattle.pl_event.specs.declared.events.Message.TheVariants.{Bytes}
 use Rattle.pl_head.specs.declared.outbound_buffer.Entry.{Entry}
 use Rattle.pl_head.specs.Writes.{flushed_writes, unflushed_writes}
-use Rattle.pl_head.specs.WaitingMessages.{numbers_of}
+use Rattle.pl_head.specs.WaitingMessages.{entry_numbers}
 use Rattle.pl_head.proofs.Buffering.{adds, same_parts}
 use Rattle.pl_head.proofs.Taking.{out-keep, stands-push}
 use Rattle.pl_head.proofs.WaitingSizes.{first_size-push, entries_size-push}
@@ -21,7 +21,7 @@ invariant_of-self-clause-account c =
     account-same
     (rw (c.push_back_reserved.ensures.items, map-append (λ (e : Entry). e.number) before.entries.items (added ∷ []), number) refl)
     refl (c.push_reserved.ensures.items)
-    (account-waits (numbers_of before.entries.items) before.settled.items before.outcomes.items before.account)
+    (account-waits (entry_numbers before.entries.items) before.settled.items before.outcomes.items before.account)
 
 pub invariant_of-self-clause-ordered : goal.invariant_of-self-clause-ordered
 invariant_of-self-clause-ordered c =
@@ -29,7 +29,7 @@ invariant_of-self-clause-ordered c =
     let number : c.len-number.result ≡ length before.outcomes.items = c.len-number.ensures ∙ before.outcomes.ok.0 in
     let added : Entry = record { number = c.len-number.result; bytes = c.args.bytes } in
     rw (c.push_back_reserved.ensures.items, map-append (λ (e : Entry). e.number) before.entries.items (added ∷ []), number)
-    (rises-waits (numbers_of before.entries.items) before.settled.items before.outcomes.items before.account before.ordered)
+    (rises-waits (entry_numbers before.entries.items) before.settled.items before.outcomes.items before.account before.ordered)
 
 pub invariant_of-self-clause-covered : goal.invariant_of-self-clause-covered
 invariant_of-self-clause-covered c =

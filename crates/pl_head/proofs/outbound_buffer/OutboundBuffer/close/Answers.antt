@@ -1,7 +1,7 @@
 use Rattle.std.proofs.Common.{rules, ◌≡◌, ◌+◌, ◌<◌, false, true, List, drop, ap, refl, arith}
 use Rattle.pl_head.specs.declared.outbound_buffer.Entry.{Entry}
 use Rattle.pl_head.specs.Writes.{flushed_writes, unflushed_writes}
-use Rattle.pl_head.specs.WaitingMessages.{entries_size, first_size, numbers_of}
+use Rattle.pl_head.specs.WaitingMessages.{entries_size, first_size, entry_numbers}
 use Rattle.pl_head.specs.OutboundStand.{buffer_view}
 use Rattle.pl_head.proofs.Buffering.{closes, same_parts}
 use Rattle.pl_head.proofs.WaitingSizes.{entries_size-split, first_size-take}
@@ -30,7 +30,7 @@ returns-clause-takes_out c =
     record {
       same = search rules;
       settles = record {
-        settled = record { more = numbers_of (drop h.flushed h.entries.items); after_is = c.settle_from-size.ensures.settled; rises = rises-drop h.entries.items h.flushed h.ordered };
+        settled = record { more = entry_numbers (drop h.flushed h.entries.items); after_is = c.settle_from-size.ensures.settled; rises = rises-drop h.entries.items h.flushed h.ordered };
         told = refl;
       };
       numbering = refl;

@@ -3,7 +3,7 @@ use Rattle.std.proofs.lemmas.List.{length-set}
 use Rattle.std.specs.List.Sorted.{IsStrictlyIncreasing}
 use Rattle.pl_event.specs.declared.outcomes.Outcome.TheVariants.{Success}
 use Rattle.pl_head.specs.declared.outbound_buffer.Entry.{Entry}
-use Rattle.pl_head.specs.WaitingMessages.{first_size, numbers_of}
+use Rattle.pl_head.specs.WaitingMessages.{first_size, entry_numbers}
 use Rattle.pl_head.proofs.Buffering.{settles, same_parts}
 use Rattle.pl_head.proofs.Accounts.{account-settles, account-same, account-within}
 use Rattle.pl_head.proofs.Rising.{rises-rest}
@@ -12,8 +12,8 @@ use Rattle.pl_head.proofs.outbound_buffer.OutboundBuffer.settle_front.Goals as g
 pub index_mut-requires : goal.index_mut-requires
 index_mut-requires c =
     let before = c.args.self.now in
-    let account = account-same (ap (λ (es : List Entry). numbers_of es) (sym c.in-Some.ensures.items)) refl refl before.account in
-    omega (arith, account-within [] (numbers_of c.pop_front.new.self.items) before.settled.items c.in-Some.first.number before.outcomes.items account, before.outcomes.ok.0)
+    let account = account-same (ap (λ (es : List Entry). entry_numbers es) (sym c.in-Some.ensures.items)) refl refl before.account in
+    omega (arith, account-within [] (entry_numbers c.pop_front.new.self.items) before.settled.items c.in-Some.first.number before.outcomes.items account, before.outcomes.ok.0)
 
 pub returns-clause-holds : goal.returns-clause-holds
 returns-clause-holds c = λ flushed unflushed left ended s.
@@ -29,13 +29,13 @@ pub invariant_of-self-clause-account : goal.invariant_of-self-clause-account
 invariant_of-self-clause-account c =
     let before = c.args.self.now in
     account-same refl c.push_reserved.ensures.items refl
-    (account-settles [] (numbers_of c.pop_front.new.self.items) before.settled.items c.in-Some.first.number before.outcomes.items Success
-    (account-same (ap (λ (ws : List Entry). numbers_of ws) (sym c.in-Some.ensures.items)) refl refl c.args.self.now.account))
+    (account-settles [] (entry_numbers c.pop_front.new.self.items) before.settled.items c.in-Some.first.number before.outcomes.items Success
+    (account-same (ap (λ (ws : List Entry). entry_numbers ws) (sym c.in-Some.ensures.items)) refl refl c.args.self.now.account))
 
 pub invariant_of-self-clause-ordered : goal.invariant_of-self-clause-ordered
 invariant_of-self-clause-ordered c =
-    rises-rest (c.in-Some.first.number ∷ []) (numbers_of c.pop_front.new.self.items) (subst (λ (es : List Entry). IsStrictlyIncreasing (numbers_of es)) c.in-Some.ensures.items c.args.self.now.ordered)
+    rises-rest (c.in-Some.first.number ∷ []) (entry_numbers c.pop_front.new.self.items) (subst (λ (es : List Entry). IsStrictlyIncreasing (entry_numbers es)) c.in-Some.ensures.items c.args.self.now.ordered)
 
 pub returns-clause-settles : goal.returns-clause-settles
 returns-clause-settles c =
-    record { front = c.in-Some.first.number ∷ []; settled = c.push_reserved.ensures.items; waited = ap (λ (ws : List Entry). numbers_of ws) c.in-Some.ensures.items; told = refl }
+    record { front = c.in-Some.first.number ∷ []; settled = c.push_reserved.ensures.items; waited = ap (λ (ws : List Entry). entry_numbers ws) c.in-Some.ensures.items; told = refl }

@@ -1,7 +1,7 @@
 use Rattle.std.proofs.Common.{◌<◌, Option, length, set, refl, sym, ap, subst, ◌∙◌, arith}
 use Rattle.std.specs.Option.{option_map_or}
 use Rattle.std.proofs.lemmas.Option.{slice_get_read}
-use Rattle.pl_net.specs.Nets.{ExecutorView, memory_at}
+use Rattle.pl_net.specs.Nets.{StationView, memory_at}
 use Rattle.pl_net.specs.Cores.{core_view, waits_of}
 use Rattle.pl_net.proofs.OneExecutor.{replaces-set}
 use Rattle.pl_context.proofs.WaitingCalls.{at-set_here}
@@ -31,7 +31,7 @@ hand_to-requires-clause-memory g c =
     let within : c.args.me < length c.args.self.now.executors.items = omega (arith, c.requires.there, size) in
     let t = hand-there g.N.Nodes.view_of g.N.Nodes.stands w.0 w.1 (core_view c.args.self.now w.2) w.3 c.args.me c.args.self.now.capacity within c.deref.result.now c.deref.ensures.value c.oldest_target.result
     c.oldest_target.ensures c.in-Some.target c.in-Some.is in
-    subst (λ (o : Option ExecutorView). 0 < option_map_or (λ (e : ExecutorView). e.room) o 0) (sym (at-set_here c.args.self.now.executors.items c.in-Some.target c.reserve.new.self t)) (c.in_default.ensures.room)
+    subst (λ (o : Option StationView). 0 < option_map_or (λ (e : StationView). e.room) o 0) (sym (at-set_here c.args.self.now.executors.items c.in-Some.target c.reserve.new.self t)) (c.in_default.ensures.room)
 
 pub hand_to-requires-clause-stands : goal.hand_to-requires-clause-stands
 hand_to-requires-clause-stands g c =
@@ -50,7 +50,7 @@ hand_to-requires-clause-stands g c =
       w.1,
       w.2,
       p.i,
-      room-stands view_of stands w.0 w.1 from w.3 c.in-Some.target (set es c.in-Some.target c.reserve.new.self) b c.reserve.new.self r (ap (λ (e : ExecutorView). e.queue) c.reserve.ensures.same) (ap (λ (e : ExecutorView). e.waiting) c.reserve.ensures.same),
+      room-stands view_of stands w.0 w.1 from w.3 c.in-Some.target (set es c.in-Some.target c.reserve.new.self) b c.reserve.new.self r (ap (λ (e : StationView). e.queue) c.reserve.ensures.same) (ap (λ (e : StationView). e.waiting) c.reserve.ensures.same),
       p.own_at,
     )
 
@@ -72,8 +72,8 @@ returns-in_default-clause-hands g c = λ is world x backlogs h.
     let es = c.args.self.now.executors.items in
     let b = c.index_mut.result.now in
     let r = replaces-set es c.in-Some.target b c.reserve.new.self (slice_get_read es (length es) c.in-Some.target b refl t c.index_mut.ensures.value) in
-    let q = ap (λ (e : ExecutorView). e.queue) c.reserve.ensures.same in
-    let y = ap (λ (e : ExecutorView). e.waiting) c.reserve.ensures.same in
+    let q = ap (λ (e : StationView). e.queue) c.reserve.ensures.same in
+    let y = ap (λ (e : StationView). e.waiting) c.reserve.ensures.same in
     let s = c.hand_to.ensures.hands world x backlogs p.i
     (room-stands view_of stands world x from h c.in-Some.target (set es c.in-Some.target c.reserve.new.self) b c.reserve.new.self r q y) p.own_at in
     (s.0, s.1, (p.i, p.open_at, room-hands view_of stands world x from h c.in-Some.target (set es c.in-Some.target c.reserve.new.self) b c.reserve.new.self r q y c.args.me p.i (core_view c.hand_to.new.self s.0) s.2))
@@ -94,7 +94,7 @@ returns-in-Err-clause-stays g c = λ world x backlogs h.
     let es = c.args.self.now.executors.items in
     let b = c.index_mut.result.now in
     let r = replaces-set es c.in-Some.target b c.reserve.new.self (slice_get_read es (length es) c.in-Some.target b refl t c.index_mut.ensures.value) in
-    room-stands g.N.Nodes.view_of g.N.Nodes.stands world x (core_view c.args.self.now backlogs) h c.in-Some.target (set es c.in-Some.target c.reserve.new.self) b c.reserve.new.self r (ap (λ (e : ExecutorView). e.queue) c.reserve.ensures.same) (ap (λ (e : ExecutorView). e.waiting) c.reserve.ensures.same)
+    room-stands g.N.Nodes.view_of g.N.Nodes.stands world x (core_view c.args.self.now backlogs) h c.in-Some.target (set es c.in-Some.target c.reserve.new.self) b c.reserve.new.self r (ap (λ (e : StationView). e.queue) c.reserve.ensures.same) (ap (λ (e : StationView). e.waiting) c.reserve.ensures.same)
 
 pub returns-in-Err-clause-wanted : goal.returns-in-Err-clause-wanted
 returns-in-Err-clause-wanted g c = λ world x backlogs h.
@@ -117,5 +117,5 @@ returns-in-Err-clause-refused g c = λ world x backlogs h.
       entry = p.entry;
       oldest = p.open_at;
       is = p.is;
-      memory = ap (memory_at es) p.target ∙ ap (λ (o : Option ExecutorView). option_map_or (λ (e : ExecutorView). e.room) o 0) at ∙ c.in-Err.ensures.refused;
+      memory = ap (memory_at es) p.target ∙ ap (λ (o : Option StationView). option_map_or (λ (e : StationView). e.room) o 0) at ∙ c.in-Err.ensures.refused;
     }

@@ -2,7 +2,7 @@ use Rattle.std.proofs.Common.{[], length, set, refl, ap, ◌∙◌, arith}
 use Rattle.std.specs.Option.{option_map_or}
 use Rattle.std.proofs.lemmas.List.{set-get_or}
 use Rattle.std.proofs.lemmas.Option.{slice_get_read}
-use Rattle.pl_net.specs.Nets.{ExecutorView, CoreView}
+use Rattle.pl_net.specs.Nets.{StationView, CoreView}
 use Rattle.pl_net.specs.Cores.{core_view}
 use Rattle.pl_net.proofs.OneExecutor.{Replaces, replaces-set}
 use Rattle.pl_net.proofs.CoreSteps.{queued-written, queued-number, queued-good, task-stands}
@@ -84,7 +84,7 @@ returns-in-None-clause-idle g c = λ t.
     let es = c.args.self.now.executors.items in
     let a = c.index_mut.result.now in
     let at = slice_get_read es (length es) c.args.me a refl (omega (arith, c.requires.there, c.args.self.now.executors.ok.0)) c.index_mut.ensures.value in (
-      ap (λ o. option_map_or (λ (e : ExecutorView). e.queue) o []) at ∙ c.in-None.ensures.none.0,
+      ap (λ o. option_map_or (λ (e : StationView). e.queue) o []) at ∙ c.in-None.ensures.none.0,
       record {
         nodes = refl;
         executors = ap (λ e. set es c.args.me e) (c.in-None.ensures.none.1 ∙ c.index_mut.ensures.value) ∙ set-get_or es c.args.me a;

@@ -1,7 +1,7 @@
 use Rattle.std.proofs.Common.{◌≡◌, length, ap, sym, subst, ◌∙◌, arith}
+use Rattle.std.proofs.lemmas.Option.{same_Some}
 use Rattle.pl_head.specs.HeadStand.{HeadView}
 use Rattle.pl_part.specs.HeadHolds.{HeadHolds}
-use Rattle.pl_part.proofs.EventLists.{some-equal}
 use Rattle.pl_part.proofs.HeadMoves.{head-few}
 use Rattle.pl_part.proofs.PartSteps.{filled-length}
 use Rattle.pl_part.proofs.parts.ChannelPart.whole.Goals as goal
@@ -14,7 +14,7 @@ returns-clause-holds g c = λ world planned held.
     record {
       path = t.holds world planned;
       head = λ x found.
-          subst (λ (y : HeadView _). HeadHolds g.T.Transport.state world y × (y.channel ≡ c.in_ok-path.path.channel) × (y.hop ≡ length c.in_ok-path.path.contexts)) (some-equal c.args.head x found)
+          subst (λ (y : HeadView _). HeadHolds g.T.Transport.state world y × (y.channel ≡ c.in_ok-path.path.channel) × (y.hop ≡ length c.in_ok-path.path.contexts)) (same_Some c.args.head x found)
           (held, c.requires.last.0 ∙ sym t.place.0, c.requires.last.1 ∙ sym size);
       hops = omega (arith, executors, c.requires.hops, size);
     }

@@ -1,6 +1,7 @@
 use Rattle.std.proofs.Common.{◌≡◌, ◌+◌, ◌<◌, ℕ, [], ◌∷◌, ◌++◌, List, Option, None, Some, length, refl, ap, ap₂, sym, subst, ◌∙◌, arith, append_assoc, length-append}
 use Rattle.std.specs.List.{sum_by}
 use Rattle.std.proofs.lemmas.List.Sums.{sum_by_push}
+use Rattle.std.proofs.lemmas.Option.{same_Some}
 use Rattle.pl_event.specs.declared.events.Event.{Event}
 use Rattle.pl_event.specs.Hops.{data_lane}
 use Rattle.pl_event.specs.Worlds.{content_of}
@@ -8,8 +9,7 @@ use Rattle.pl_context.specs.ContextViews.{ContextView, IsHop}
 use Rattle.pl_context.specs.TailViews.{TailView}
 use Rattle.pl_part.specs.Counts.{slot_done, tail_done}
 use Rattle.pl_part.specs.TailHolds.{TailHolds}
-use Rattle.pl_part.specs.NewParts.{ArePlanned, AreNew, new_slots}
-use Rattle.pl_part.proofs.EventLists.{some-equal}
+use Rattle.pl_part.specs.NewParts.{ArePlanned, AreNewSlots, new_slots}
 use Rattle.pl_part.proofs.NewContexts.{none-new, none-push}
 use Rattle.pl_part.proofs.TailSteps.{new-holds}
 use Rattle.pl_part.proofs.paths.PathPart.whole.Goals as goal
@@ -83,19 +83,19 @@ returns-clause-new g c = λ world planned.
     let inbound = subst (λ (y : ℕ × ℕ). ArePlanned world meaning channel y.1 turn y.0 c.args.inbound.items) (λ j. (zero j, k j)) planned.planned_inbound in
     let outbound = subst (λ (y : ℕ × ℕ). ArePlanned world meaning channel y.1 turn y.0 c.args.outbound.items) (λ j. (first j, k j)) planned.planned_outbound in
     let one = c.in_ok-add_contexts.ensures.new world turn inbound (none-new world meaning channel c.len-k.result turn stands c.new-contexts.result.items c.new-contexts.ensures.items) in
-    let two = subst (λ (l : List (Option (ContextView g.row.S.Denot))). AreNew world meaning channel c.len-k.result turn stands l) (sym c.in_ok-push.ensures.items)
+    let two = subst (λ (l : List (Option (ContextView g.row.S.Denot))). AreNewSlots world meaning channel c.len-k.result turn stands l) (sym c.in_ok-push.ensures.items)
     (none-push world meaning channel c.len-k.result turn stands c.add_contexts.new.contexts.items one) in
-    subst (λ (n : ℕ). AreNew world meaning channel n turn stands c.add_contexts-2.new.contexts.items) (sym k) (c.in_ok-add_contexts-2.ensures.new world turn outbound two)
+    subst (λ (n : ℕ). AreNewSlots world meaning channel n turn stands c.add_contexts-2.new.contexts.items) (sym k) (c.in_ok-add_contexts-2.ensures.new world turn outbound two)
 
 pub returns-clause-holds : goal.returns-clause-holds
 returns-clause-holds g c = λ world planned.
     let k : length c.args.inbound.items ≡ c.len-k.result = omega (arith, c.len-k.ensures, c.args.inbound.ok.0) in
-    let are = subst (λ (n : ℕ). AreNew world g.S.Stage.meaning c.args.channel n c.args.turn g.S.Stage.stands_after c.add_contexts-2.new.contexts.items) k (returns-clause-new g c world planned) in
+    let are = subst (λ (n : ℕ). AreNewSlots world g.S.Stage.meaning c.args.channel n c.args.turn g.S.Stage.stands_after c.add_contexts-2.new.contexts.items) k (returns-clause-new g c world planned) in
     let tail = subst (λ (n : ℕ). (events : List Event) × (content_of world (data_lane c.args.channel n) ≡ Some events) × (length events + 1 < MAX_ITEMS)) k planned.planned_tail in
     record {
       contexts = λ hop x found. let n = are hop x found in (n.holds, n.at);
       tail = λ t found.
-          subst (λ (y : TailView). TailHolds world y × (y.channel ≡ c.args.channel) × (y.hop ≡ c.len-k.result)) (sym c.new.ensures ∙ some-equal c.new.result t found)
+          subst (λ (y : TailView). TailHolds world y × (y.channel ≡ c.args.channel) × (y.hop ≡ c.len-k.result)) (sym c.new.ensures ∙ same_Some c.new.result t found)
           (record { events = tail.0; holds = new-holds world c.args.channel c.len-k.result tail.0 tail.1 tail.2 }, refl, refl);
       few = (invariant_of-result g c).few;
     }

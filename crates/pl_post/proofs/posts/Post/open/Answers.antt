@@ -2,7 +2,7 @@ use Rattle.std.specs.Global.{Vec}
 use Rattle.std.proofs.Common.{◌≡◌, map, ap, sym, subst, ◌∙◌, arith}
 use Rattle.pl_event.specs.declared.envelopes.Lane.{Lane}
 use Rattle.pl_queue.specs.declared.views.TakerView.{TakerView}
-use Rattle.pl_queue.specs.Left.{all_lanes}
+use Rattle.pl_queue.specs.Left.{lanes_of_senders}
 use Rattle.pl_words.specs.Admissions.{OwnerSeatView, SendSeatView, new_send_seat}
 use Rattle.pl_post.specs.Posts.{IsTakeCounted}
 use Rattle.pl_post.proofs.CountLemmas.{counted-fresh}
@@ -23,7 +23,7 @@ invariant_of-owner g c =
     let run = ap (λ (o : OwnerSeatView). o.run) c.in_ok-admission.ensures.owner in
     record {
       count = sym none;
-      counted = subst IsTakeCounted (sym takes) (counted-fresh (all_lanes lanes) (few-lanes lanes c.args.capacity c.in_ok-mailbox.ensures.opened.0));
+      counted = subst IsTakeCounted (sym takes) (counted-fresh (lanes_of_senders lanes) (few-lanes lanes c.args.capacity c.in_ok-mailbox.ensures.opened.0));
       run = λ closed. omega (arith, run);
     }
 

@@ -1,6 +1,6 @@
 use Rattle.std.proofs.Common.{length, refl, arith}
 use Rattle.std.proofs.lemmas.Option.{slice_get_read}
-use Rattle.pl_replay.proofs.OneChannel.{home-last}
+use Rattle.pl_channel.proofs.OneChannel.{home-last}
 use Rattle.pl_replay.proofs.channels.ChannelsNodes.home.Goals as goal
 
 pub overflow_sub-hops : goal.overflow_sub-hops

@@ -1,9 +1,10 @@
 use Rattle.std.proofs.Common.{◌≡◌, Bool, length, slice_get, Some, refl, subst}
 use Rattle.std.proofs.lemmas.Option.{slice_get_read}
 use Rattle.pl_part.specs.Parts.{PartMoves}
-use Rattle.pl_replay.proofs.Vecs.{put-back}
-use Rattle.pl_replay.proofs.HeadMoves.{moves-idle, may-move}
-use Rattle.pl_replay.proofs.OneChannel.{places-of, give-view, give-stands, give-makes}
+use Rattle.pl_channel.proofs.Vecs.{put-back}
+use Rattle.pl_channel.proofs.HeadMoves.{moves-idle, may-move}
+use Rattle.pl_channel.proofs.OneChannel.{places-of}
+use Rattle.pl_replay.proofs.CallViews.{give-view, give-stands, give-makes}
 use Rattle.pl_replay.proofs.channels.ChannelsNodes.move_head.Goals as goal
 use Rattle.pl_replay.proofs.channels.ChannelsNodes.move_head.Goals.{After-index_mut}
 

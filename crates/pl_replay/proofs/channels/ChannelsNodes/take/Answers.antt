@@ -1,7 +1,8 @@
 use Rattle.std.proofs.Common.{◌≡◌, length, slice_get, Some, refl}
 use Rattle.std.proofs.lemmas.Option.{slice_get_read}
 use Rattle.pl_part.specs.PartCalls.{Taken}
-use Rattle.pl_replay.proofs.OneChannel.{channel-there, next-for, take-view, take-stands, take-makes}
+use Rattle.pl_channel.proofs.OneChannel.{channel-there, next-for}
+use Rattle.pl_replay.proofs.CallViews.{take-view, take-stands, take-makes}
 use Rattle.pl_replay.proofs.channels.ChannelsNodes.take.Goals as goal
 
 pub take-requires : goal.take-requires

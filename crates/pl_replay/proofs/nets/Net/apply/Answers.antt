@@ -5,7 +5,7 @@ use Rattle.pl_net.specs.declared.cores.Core.{Core}
 use Rattle.pl_world.specs.declared.moves.Move.{Move}
 use Rattle.pl_world.specs.declared.moves.Move.TheVariants.{Read, Task, Hand, Out}
 use Rattle.pl_channel.specs.Lanes.{world_of}
-use Rattle.pl_replay.specs.Channels.{home_of}
+use Rattle.pl_channel.specs.Channels.{home_of}
 use Rattle.pl_replay.specs.MoveModel.{is_there, is_hand}
 use Rattle.pl_replay.specs.Moves.{IsEnabled, nodes_view, nodes_stand}
 use Rattle.pl_replay.specs.NetStand.{NetStands}

@@ -5,11 +5,16 @@ use Rattle.pl_part.specs.Parts.{ChannelPartView}
 use Rattle.pl_channel.specs.Lanes.{world_of}
 use Rattle.pl_world.specs.declared.session.Recorded.{Recorded}
 use Rattle.pl_world.specs.Plans.{planned}
-use Rattle.pl_replay.specs.Placed.{ArePlaceable, AreIdle, all_lanes}
-use Rattle.pl_replay.specs.Starts.{ArePlaced, NetBegins, transports_of}
-use Rattle.pl_replay.proofs.LanePlaces.{places-all}
+use Rattle.pl_channel.specs.Ways.{ArePlaceable}
+use Rattle.pl_replay.specs.Idle.{AreIdle}
+use Rattle.pl_channel.specs.Channels.{data_lanes_of}
+use Rattle.pl_channel.specs.Placing.{ArePlaced}
+use Rattle.pl_replay.specs.Starts.{NetBegins, transports_of}
+use Rattle.pl_channel.proofs.LanePlaces.{places-all}
 use Rattle.pl_replay.specs.declared.channels.Channels.{Channels}
-use Rattle.pl_replay.proofs.NetStarts.{recorded-small, lanes-few, placeable, starts, world-begins}
+use Rattle.pl_channel.proofs.WorldChannels.{recorded-small}
+use Rattle.pl_channel.proofs.PlacedParts.{lanes-few, placeable}
+use Rattle.pl_replay.proofs.NetStarts.{starts, world-begins}
 use Rattle.pl_replay.proofs.nets.Net.new.Goals as goal
 
 pub placed-requires-clause-small : goal.placed-requires-clause-small
@@ -25,7 +30,7 @@ idle_executors-requires g c =
 pub lane_count-lanes-requires : goal.lane_count-lanes-requires
 lane_count-lanes-requires g c =
     let placed = subst (λ (rs : List (Recorded g.row.S.Denot g.row.T.Denot)). ArePlaced g.S.Stage.meaning g.S.Stage.stands_after g.T.Transport.state rs c.in_ok-parts.parts.items) (c.into_vec.ensures ∙ c.into_channels.ensures.channels) c.in_ok-parts.ensures in
-    subst (λ (l : List (ChannelPartView g.row.S.Denot g.row.T.Denot)). length (all_lanes l) < 2 ^ 16) (sym c.as_slice-2.ensures.value)
+    subst (λ (l : List (ChannelPartView g.row.S.Denot g.row.T.Denot)). length (data_lanes_of l) < 2 ^ 16) (sym c.as_slice-2.ensures.value)
     (lanes-few g.S.Stage.meaning g.S.Stage.stands_after g.T.Transport.state (planned g.S.Stage.meaning g.T.Transport.state c.args.capacity c.args.world.executors c.args.world.channels) c.args.world.channels refl c.in_ok-parts.parts.items placed (c.into_channels.ensures.is_world.small c.args.capacity))
 
 pub new-requires-clause-start : goal.new-requires-clause-start
@@ -38,7 +43,7 @@ new-requires-clause-start g c =
 
 pub new-requires-clause-places : goal.new-requires-clause-places
 new-requires-clause-places g c =
-    subst (λ (n : ℕ). HasPlaces (no_stops n) (all_lanes c.in_ok-parts.parts.items)) (ap (λ (l : List (ChannelPartView g.row.S.Denot g.row.T.Denot)). length (all_lanes l)) (sym c.as_slice-2.ensures.value) ∙ sym c.lane_count-lanes.ensures)
+    subst (λ (n : ℕ). HasPlaces (no_stops n) (data_lanes_of c.in_ok-parts.parts.items)) (ap (λ (l : List (ChannelPartView g.row.S.Denot g.row.T.Denot)). length (data_lanes_of l)) (sym c.as_slice-2.ensures.value) ∙ sym c.lane_count-lanes.ensures)
     (places-all c.in_ok-parts.parts.items)
 
 net-begins : (g : _) (c : goal.In_ok-core g) → NetBegins g.S.Stage.meaning g.S.Stage.stands_after g.T.Transport.state (planned g.S.Stage.meaning g.T.Transport.state c.args.capacity c.args.world.executors c.args.world.channels) (transports_of c.args.world.channels) c.in_ok-core.core
@@ -49,7 +54,7 @@ net-begins g c =
     let made = c.in_ok-core.ensures in
     world-begins g.S.Stage.meaning g.S.Stage.stands_after g.T.Transport.state c.args.world c.into_channels.ensures.is_world c.args.capacity c.requires.capacity.0 c.in_ok-parts.parts.items placed c.in_ok-executors.executors.items idle
     c.in_ok-core.core (ap (λ (n : Channels g.row.S.Denot g.row.T.Denot). n.parts.items) made.nodes) made.executors made.capacity made.rests
-    (made.unstopped ∙ ap no_stops (c.lane_count-lanes.ensures ∙ ap (λ (l : List (ChannelPartView g.row.S.Denot g.row.T.Denot)). length (all_lanes l)) c.as_slice-2.ensures.value))
+    (made.unstopped ∙ ap no_stops (c.lane_count-lanes.ensures ∙ ap (λ (l : List (ChannelPartView g.row.S.Denot g.row.T.Denot)). length (data_lanes_of l)) c.as_slice-2.ensures.value))
     (λ s. made.stands (world_of false (planned g.S.Stage.meaning g.T.Transport.state c.args.capacity c.args.world.executors c.args.world.channels)) 0 s)
 
 pub invariant_of-result : goal.invariant_of-result

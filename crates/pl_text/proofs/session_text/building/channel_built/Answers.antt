@@ -10,7 +10,7 @@ use Rattle.pl_head.specs.contracts.transports.MemoryTransportTransport.TheImpl.{
 use Rattle.pl_world.specs.declared.session.Recorded.{Recorded}
 use Rattle.pl_world.specs.Plans.{channel_planned}
 use Rattle.pl_world.specs.Limits.{fits, aborts_within}
-use Rattle.pl_world.specs.Worlds.{FitsWorld}
+use Rattle.pl_world.specs.Worlds.{FitsLimits}
 use Rattle.pl_world.proofs.WorldLimits.{is_uncalled}
 use Rattle.pl_stages.specs.HandlerThrift.{handler-thrifty}
 use Rattle.pl_world.proofs.SmallLanes.{channel_small}
@@ -31,7 +31,7 @@ returns-in-Ok-clause-built c =
 pub returns-in-Ok-clause-fits : goal.returns-in-Ok-clause-fits
 returns-in-Ok-clause-fits c =
     let Fits : Recorded Handler MemoryTransportView → Type 0 =
-    FitsWorld meaning-value.it stands_after-value.it state-value.it (executor_count c.args.groups.now.loops (sizes_of c.args.groups.now)) in
+    FitsLimits meaning-value.it stands_after-value.it state-value.it (executor_count c.args.groups.now.loops (sizes_of c.args.groups.now)) in
     let path : IsPath meaning-value.it stands_after-value.it c.in-Ok.pipeline =
     subst (λ (r : Recorded Handler MemoryTransportView). IsPath meaning-value.it stands_after-value.it r.pipeline) c.new.ensures.made c.new.ensures.path in
     subst Fits (sym c.new.ensures.made) (record {

@@ -13,7 +13,7 @@ use Rattle.pl_head.specs.Transports.{MemoryTransportView}
 use Rattle.pl_head.specs.contracts.transports.MemoryTransportTransport.TheImpl.{state-value}
 use Rattle.pl_world.specs.declared.session.Recorded.{Recorded}
 use Rattle.pl_world.specs.Plans.{channel_planned}
-use Rattle.pl_world.specs.Worlds.{FitsWorld}
+use Rattle.pl_world.specs.Worlds.{FitsLimits}
 use Rattle.pl_text.specs.SessionOutlines.{IsChannelOutlineWithin}
 use Rattle.pl_text.proofs.ChannelRuns.{begins, pushed, stops, ends, all_first}
 use Rattle.pl_text.proofs.session_text.building.channels_built.Goals as goal
@@ -29,7 +29,7 @@ loop-channel-init c =
       within = subst (AllByRecursion IsChannelOutlineWithin) (sym all) c.requires.within;
       under_way = begins c.args.groups.now _ c.args.channels _ (ap (map (channel_planned meaning-value.it state-value.it)) c.in_ok-built.ensures.items) all c.requires.unused;
       same = (refl, refl);
-      fit = none_yet (FitsWorld meaning-value.it stands_after-value.it state-value.it (executor_count c.args.groups.now.loops (sizes_of c.args.groups.now))) c.in_ok-built.built.items c.in_ok-built.ensures.items;
+      fit = none_yet (FitsLimits meaning-value.it stands_after-value.it state-value.it (executor_count c.args.groups.now.loops (sizes_of c.args.groups.now))) c.in_ok-built.built.items c.in_ok-built.ensures.items;
     }
 
 pub channel_built-requires : goal.channel_built-requires
@@ -40,7 +40,7 @@ loop-channel-preserved c =
     let built = c.in_ok-channel_built.ensures in
     let same = c.loop-channel.invariant.same in
     let made = c.in_ok-channel_built.field-0 in
-    let FitsAt : ℕ → Recorded Handler MemoryTransportView → Type 0 = FitsWorld meaning-value.it stands_after-value.it state-value.it in
+    let FitsAt : ℕ → Recorded Handler MemoryTransportView → Type 0 = FitsLimits meaning-value.it stands_after-value.it state-value.it in
     let Fits = FitsAt (executor_count c.args.groups.now.loops (sizes_of c.args.groups.now)) in
     let count : executor_count c.loop-channel.groups.loops (sizes_of c.loop-channel.groups) ≡ executor_count c.args.groups.now.loops (sizes_of c.args.groups.now) = ap₂ executor_count same.0 same.1 in
     let next : into_iter_items c.loop-channel.channel-iterator ≡ c.in-Some.channel ∷ into_iter_items c.next.new.self = c.in-Some.ensures.steps.0 in

@@ -7,7 +7,7 @@ use Rattle.pl_build.specs.Refusals.{executor_count}
 use Rattle.pl_stages.specs.contracts.handlers.HandlerStage.TheImpl.{meaning-value, stands_after-value}
 use Rattle.pl_head.specs.contracts.transports.MemoryTransportTransport.TheImpl.{state-value}
 use Rattle.pl_world.specs.Plans.{channel_planned}
-use Rattle.pl_world.specs.Worlds.{FitsWorld}
+use Rattle.pl_world.specs.Worlds.{FitsLimits}
 use Rattle.pl_text.specs.SessionOutlines.{IsChannelOutlineWithin}
 use Rattle.pl_text.specs.SessionBuilding.{channels_built}
 use Rattle.pl_text.proofs.ChannelRuns.{IsUnderWay}
@@ -19,5 +19,5 @@ invariant-loop-channel l = record {
   under_way : IsUnderWay l.groups (map (channel_planned meaning-value.it state-value.it) l.built.items) (into_iter_items l.channel-iterator)
       (channels_built l.fn.groups.loops (sizes_of l.fn.groups) [] l.fn.channels);
   same : (l.groups.loops ≡ l.fn.groups.loops) × (sizes_of l.groups ≡ sizes_of l.fn.groups);
-  fit : All (FitsWorld meaning-value.it stands_after-value.it state-value.it (executor_count l.fn.groups.loops (sizes_of l.fn.groups))) l.built.items;
+  fit : All (FitsLimits meaning-value.it stands_after-value.it state-value.it (executor_count l.fn.groups.loops (sizes_of l.fn.groups))) l.built.items;
 }

@@ -1,0 +1,45 @@
+#!/usr/bin/env bash
+# A word of the contracts has one home. Says which words two modules of the libraries' specs define, but for those below,
+# and which of these have one home again.
+set -euo pipefail
+cd "$(dirname "$0")/.."
+
+# The words that have two homes, each with why.
+shared() {
+  cat <<'LIST'
+IsSeat        each word shared between threads has seats, a rule and what sits there, as its own module tells
+Rule          as IsSeat
+Sits          as IsSeat
+Looked        a look changes nothing, whichever word it is at
+ReadSeatView  a reader's seat of a mark, and of what is settled
+new_reader    the same, as it is made
+SamePlace     a context and a tail stay where they are
+counted       what a context took is counted as what a tail took is
+kind_taken    as counted
+taken_of      as counted; and of all channels together
+sends_by      each mailbox has its own senders
+takes_by      each mailbox has its own taker
+LIST
+}
+
+# Words, and the modules that define each.
+homes() {
+  grep -v '^#' crates.txt | sed -n 's/^\([a-z_]*\).*/\1/p' | grep -Ev '(_tests|_bench)$|^pl_(checks|main|example_handlers)$' |
+    while read -r crate; do
+      [ -d "crates/$crate/specs" ] || continue
+      grep -rEo "^ *(abbrev pub|pub record|pub data) [A-Za-z_][A-Za-z0-9_']*" "crates/$crate/specs" |
+        sed -E 's|^crates/||; s|/specs/| |; s|\.antt: *(abbrev pub\|pub record\|pub data) | |' | awk '{ print $3, $1 "/" $2 }'
+    done | sort -u
+}
+
+found=$(homes | awk '{ if ($1 == word) list = list ", " $2; else { if (more) print word ": " list; word = $1; list = $2; more = 0; next } more = 1 }
+  END { if (more) print word ": " list }')
+status=0
+while IFS= read -r line; do
+  [ -n "$line" ] || continue
+  shared | grep -q "^${line%%:*} " || { echo "names: two homes for $line"; status=1; }
+done <<<"$found"
+while read -r word _; do
+  grep -q "^$word:" <<<"$found" || { echo "names: $word has one home now, and is in the list"; status=1; }
+done < <(shared)
+exit $status

@@ -1,0 +1,117 @@
+-- What a turn sends, and what it leaves unsent.
+use Rattle.std.proofs.Common.{◌≡◌, ◌⊎◌, ℕ, Bool, true, false, not, List, Option, Some, None, inl, inr, refl, ap, sym, subst, ◌∙◌}
+use Rattle.std.specs.Prelude.{IfSome, IfNone}
+use Rattle.std.specs.List.{find}
+use Rattle.std.specs.Option.{option_map}
+use Rattle.pl_event.specs.declared.envelopes.Envelope.{Envelope}
+use Rattle.pl_event.specs.declared.envelopes.Lane.{Lane}
+use Rattle.pl_flow.specs.declared.moves.HeadMove.{HeadMove}
+use Rattle.pl_flow.specs.declared.moves.HeadMove.TheVariants.{Read, Out}
+use Rattle.pl_context.specs.OutputsViews.{OutputsView}
+use Rattle.pl_context.specs.WaitingViews.{Entry, Holds}
+use Rattle.pl_words.specs.Admissions.{AdmittedView}
+use Rattle.pl_outbox.specs.declared.outboxes.Offered.{Offered}
+use Rattle.pl_outbox.specs.declared.outboxes.Offered.TheVariants.{Handed, Full, Nothing}
+use Rattle.pl_outbox.specs.Tries.{is_tried}
+use Rattle.pl_outbox.specs.OutboxViews.{OutboxesView, was_tried, oldest_untried, SameFor, KeepsAll, Sends, SendsNothing, Offers}
+use Rattle.pl_threads.specs.Running.{ExecutorView}
+use Rattle.pl_threads.specs.Turning.{SendsAtMostOne, OnlyServes, Hands, TakesOne, Tasks, MovesHead, Moves, ServesOne, Turns}
+
+pub untried-same : (o o' : OutboxesView) (entries : List (Entry AdmittedView)) → ((y : ℕ) → was_tried o' y ≡ was_tried o y) → oldest_untried o' entries ≡ oldest_untried o entries
+untried-same o o' entries same = ap (λ (f : ℕ → Bool). option_map (λ (e : Entry AdmittedView). e.target) (find (λ e. not (f e.target)) entries)) (λ i y. same y i)
+
+pub nothing-none : (o : OutboxesView) → SendsNothing o o
+nothing-none o = record { sends = λ y. refl; tried = refl }
+
+pub nothing-then : (o p q : OutboxesView) → SendsNothing o p → SendsNothing p q → SendsNothing o q
+nothing-then o p q f g = record { sends = λ y. g.sends y ∙ f.sends y; tried = g.tried ∙ f.tried }
+
+-- ---- an offer that is not taken
+
+keeps-none : (o : OutboxesView) → KeepsAll o o
+keeps-none o = record { each = λ y. record { waits = refl; sends = refl }; holds = λ entries holds. holds }
+
+pub keeps-then : (o p q : OutboxesView) → KeepsAll o p → KeepsAll p q → KeepsAll o q
+keeps-then o p q f g = record {
+  each = λ y. record { waits = (g.each y).waits ∙ (f.each y).waits; sends = (g.each y).sends ∙ (f.each y).sends };
+  holds = λ entries holds. g.holds entries (f.holds entries holds);
+}
+
+pub offer-keeps : (o o' : OutboxesView) (target : ℕ) (result : Offered) → (result ≡ Handed → ⊥) → Offers o target result o' → KeepsAll o o'
+offer-keeps o o' target Handed not_handed offers = absurd (not_handed refl)
+offer-keeps o o' target Full not_handed offers = offers
+offer-keeps o o' target Nothing not_handed offers = subst (λ (v : OutboxesView). KeepsAll o v) (sym offers.0) (keeps-none o)
+
+-- ---- at most one is sent
+
+pub hand-sends : (o p q : OutboxesView) (handed : Option ℕ) → IfSome handed (λ target. Sends o target p) → IfNone handed ((y : ℕ) → SameFor o p y)
+    → ((entries : List (Entry AdmittedView)) → Holds o.waiting entries → handed ≡ oldest_untried p entries) → SendsNothing p q → SendsAtMostOne o q
+hand-sends o p q None sent none oldest rest = inl (record {
+  oldest = λ entries holds. untried-same p q entries (λ y. ap (λ ts. is_tried ts y) rest.tried) ∙ sym (oldest entries holds);
+  sends = λ y. rest.sends y ∙ (none y).sends;
+})
+hand-sends o p q (Some target) sent none oldest rest = inr (record {
+  target = target;
+  oldest = λ entries holds. untried-same p q entries (λ y. ap (λ ts. is_tried ts y) rest.tried) ∙ sym (oldest entries holds);
+  envelope = sent.envelope;
+  behind = _;
+  first = sent.waits;
+  sends = rest.sends target ∙ sent.sends;
+  others = λ y other. rest.sends y ∙ (sent.others y other).sends;
+})
+
+-- ---- what it does, one after another
+
+one-or-none : {A B : Type 0} (b : Bool) → (b ≡ false → A) → (b ≡ true → B) → A ⊎ B
+one-or-none false none one = inl (none refl)
+one-or-none true none one = inr (one refl)
+
+pub hands-one : {N : Type 0} (e e' : ExecutorView N) (handed : Option ℕ) → e' ≡ record e { outboxes = e'.outboxes } → IfSome handed (λ target. Sends e.outboxes target e'.outboxes)
+    → IfNone handed ((y : ℕ) → SameFor e.outboxes e'.outboxes y) → Hands e e'
+hands-one e e' None same sent none = record { same = same; sends = inl none }
+hands-one e e' (Some target) same sent none = record { same = same; sends = inr (target, sent) }
+
+only-none : {N : Type 0} (e : ExecutorView N) → OnlyServes e e
+only-none e = record { number = refl; takes = refl; sends = nothing-none e.outboxes; owner = refl; turns = refl }
+
+module _ {N : Type 0} (target_of : N → Lane → ℕ) (took : N → Envelope → OutputsView → N → OutputsView → Type 0) (refused_by : N → Lane → OutputsView → N → OutputsView → Type 0) (gave_up : N → Lane → Type 0) where
+  pub tasks-one : (e e' : ExecutorView N) (ran : Bool) → e'.number ≡ e.number → e'.owner ≡ e.owner → e'.turns ≡ e.turns → (ran ≡ false → e' ≡ e) → (ran ≡ true → TakesOne target_of took refused_by gave_up e e')
+      → Tasks target_of took refused_by gave_up e e'
+  tasks-one e e' ran number owner turns none one = record { number = number; owner = owner; turns = turns; takes = one-or-none ran none one }
+
+  module _ (moved : N → HeadMove → ℕ → OutputsView → N → OutputsView → Type 0) where
+    moves-none : (by : HeadMove) (at : ℕ) (e : ExecutorView N) → Moves target_of took refused_by gave_up moved by at e e
+    moves-none by at e = record { serves = only-none e; moves = inl refl }
+
+    moves-one : (by : HeadMove) (at : ℕ) (e e' : ExecutorView N) (made : Bool) → OnlyServes e e' → (made ≡ false → e' ≡ e) → (made ≡ true → MovesHead target_of took refused_by gave_up moved by at e e')
+        → Moves target_of took refused_by gave_up moved by at e e'
+    moves-one by at e e' made serves none one = record { serves = serves; moves = one-or-none made none one }
+
+    pub serves-none : (e : ExecutorView N) → ServesOne target_of took refused_by gave_up moved e e
+    serves-none e = record { at = 0; between = e; reads = moves-none Read 0 e; writes = moves-none Out 0 e }
+
+    pub serves-write : (at : ℕ) (e e' : ExecutorView N) (made : Bool) → OnlyServes e e' → (made ≡ false → e' ≡ e) → (made ≡ true → MovesHead target_of took refused_by gave_up moved Out at e e')
+        → ServesOne target_of took refused_by gave_up moved e e'
+    serves-write at e e' made serves none one = record { at = at; between = e; reads = moves-none Read at e; writes = moves-one Out at e e' made serves none one }
+
+    pub serves-both : (at : ℕ) (e b e' : ExecutorView N) (read written : Bool)
+        → OnlyServes e b → (read ≡ false → b ≡ e) → (read ≡ true → MovesHead target_of took refused_by gave_up moved Read at e b)
+        → OnlyServes b e' → (written ≡ false → e' ≡ b) → (written ≡ true → MovesHead target_of took refused_by gave_up moved Out at b e')
+        → ServesOne target_of took refused_by gave_up moved e e'
+    serves-both at e b e' read written serves none one serves' none' one' =
+        record { at = at; between = b; reads = moves-one Read at e b read serves none one; writes = moves-one Out at b e' written serves' none' one' }
+
+    -- what changes its queue and the turn's number alone goes on with it
+    pub turns-kept : (e m x : ExecutorView N) → Turns target_of took refused_by gave_up moved e m → x ≡ m → m.owner ≡ e.owner → m.turns ≡ e.turns
+        → Turns target_of took refused_by gave_up moved e (record x { owner = e.owner; turns = e.turns })
+    turns-kept e m x does same owner turns =
+        let o = ap (λ (v : ExecutorView N). v.owner) same ∙ owner in
+        let t = ap (λ (v : ExecutorView N). v.turns) same ∙ turns in
+        let back : record x { owner = e.owner; turns = e.turns } ≡ x = λ i. record x { owner = sym o i; turns = sym t i } in
+        subst (λ (v : ExecutorView N). Turns target_of took refused_by gave_up moved e v) (sym (back ∙ same)) does
+
+    pub turns-closed : (e m x y : ExecutorView N) (turn : ℕ) → Turns target_of took refused_by gave_up moved e m → x ≡ m → m.owner ≡ e.owner → m.turns ≡ e.turns
+        → y ≡ record x { owner = y.owner; turns = turn } → Turns target_of took refused_by gave_up moved e (record y { owner = e.owner; turns = e.turns })
+    turns-closed e m x y turn does same owner turns closed =
+        subst (λ (v : ExecutorView N). Turns target_of took refused_by gave_up moved e v) (sym (ap (λ (v : ExecutorView N). record v { owner = e.owner; turns = e.turns }) closed))
+        (turns-kept e m x does same owner turns)

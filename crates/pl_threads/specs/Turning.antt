@@ -1,0 +1,111 @@
+-- What one turn of an executor does.
+use Rattle.std.specs.Prelude.{◌≡◌, ◌≢◌, ◌⊎◌, ℕ, false, List, [], ◌∷◌, Some, None}
+use Rattle.std.specs.Option.{option_map}
+use Rattle.pl_event.specs.declared.envelopes.Envelope.{Envelope}
+use Rattle.pl_event.specs.declared.envelopes.Lane.{Lane}
+use Rattle.pl_flow.specs.declared.moves.HeadMove.{HeadMove}
+use Rattle.pl_flow.specs.declared.moves.HeadMove.TheVariants.{Read, Out}
+use Rattle.pl_context.specs.OutputsViews.{OutputsView}
+use Rattle.pl_context.specs.WaitingViews.{Entry, Holds}
+use Rattle.pl_queue.specs.declared.views.SenderView.{SenderView}
+use Rattle.pl_queue.specs.Views.{after_offer, after_take}
+use Rattle.pl_words.specs.Admissions.{AdmittedView, OwnerSeatView}
+use Rattle.pl_outbox.specs.OutboxViews.{OutboxesView, Sends, sends_for, waits_for, oldest_untried, SameFor, SendsNothing, is_closed}
+use Rattle.pl_threads.specs.Cores.{WorksOffAfter}
+use Rattle.pl_threads.specs.Running.{ExecutorView}
+
+-- The oldest that waited for a target whose queue was not full was sent there, and nothing else was sent.
+pub record SendsOne (o o' : OutboxesView) : Type 0 where
+  pub target : ℕ
+  pub oldest : (entries : List (Entry AdmittedView)) → Holds o.waiting entries → oldest_untried o' entries ≡ Some target
+  pub envelope : Envelope
+  pub behind : List Envelope
+  pub first : waits_for o target ≡ envelope ∷ behind
+  pub sends : sends_for o' target ≡ option_map (λ (s : SenderView). after_offer s envelope) (sends_for o target)
+  pub others : (y : ℕ) → y ≢ target → sends_for o' y ≡ sends_for o y
+
+-- Nothing was sent, and nothing waited but for queues that were full.
+pub record SendsNone (o o' : OutboxesView) : Type 0 where
+  pub oldest : (entries : List (Entry AdmittedView)) → Holds o.waiting entries → oldest_untried o' entries ≡ None
+  pub sends : (y : ℕ) → sends_for o' y ≡ sends_for o y
+
+-- at most one envelope was sent
+abbrev pub SendsAtMostOne : OutboxesView → OutboxesView → Type 0
+SendsAtMostOne o o' = SendsNone o o' ⊎ SendsOne o o'
+
+-- At most one envelope was taken. None was once its queue was closed.
+abbrev pub TakesAtMostOne : {N : Type 0} → ExecutorView N → ExecutorView N → Type 0
+TakesAtMostOne e e' = (e'.takes ≡ e.takes) ⊎ ((is_closed e.owner.phase ≡ false) × (x : Envelope) × (e'.takes ≡ after_take e.takes x))
+
+-- Nothing was taken, handed over, read or written.
+pub record IsStill {N : Type 0} (e e' : ExecutorView N) : Type 0 where
+  pub nodes : e'.nodes ≡ e.nodes
+  pub takes : e'.takes ≡ e.takes
+  pub outboxes : (y : ℕ) → SameFor e.outboxes e'.outboxes y
+
+-- Nothing was taken or handed over, and its queue and its turn are as they were: only its nodes may have moved.
+pub record OnlyServes {N : Type 0} (e e' : ExecutorView N) : Type 0 where
+  pub number : e'.number ≡ e.number
+  pub takes : e'.takes ≡ e.takes
+  pub sends : SendsNothing e.outboxes e'.outboxes
+  pub owner : e'.owner ≡ e.owner
+  pub turns : e'.turns ≡ e.turns
+
+-- ---- what it does, one after another
+
+-- At most one was handed over: the first that waited for some target. Only what waits, and what was sent, may have changed.
+pub record Hands {N : Type 0} (e e' : ExecutorView N) : Type 0 where
+  pub same : e' ≡ record e { outboxes = e'.outboxes }
+  pub sends : ((y : ℕ) → SameFor e.outboxes e'.outboxes y) ⊎ ((target : ℕ) × Sends e.outboxes target e'.outboxes)
+
+module _ {N : Type 0} (target_of : N → Lane → ℕ) (took : N → Envelope → OutputsView → N → OutputsView → Type 0) (refused_by : N → Lane → OutputsView → N → OutputsView → Type 0) (gave_up : N → Lane → Type 0) where
+  -- A node took what was taken from the queue, with nothing on the work list before, and that list was worked off.
+  pub record TakesTask (task : Envelope) (e e' : ExecutorView N) : Type 0 where
+    pub work : OutputsView
+    pub empty : work.items ≡ []
+    pub works : WorksOffAfter target_of took refused_by gave_up e.number (took e.nodes task work) e.outboxes e'.nodes e'.outboxes
+
+  -- A node took one item from the queue. The queue is not closed, and the node took what was taken from it.
+  abbrev pub TakesOne : ExecutorView N → ExecutorView N → Type 0
+  TakesOne e e' = (is_closed e.owner.phase ≡ false) × (x : Envelope) × (e'.takes ≡ after_take e.takes x) × TakesTask x e e'
+
+  -- Nothing was taken, or one item; its number, its right to its queue and its turn are as they were.
+  pub record Tasks (e e' : ExecutorView N) : Type 0 where
+    pub number : e'.number ≡ e.number
+    pub owner : e'.owner ≡ e.owner
+    pub turns : e'.turns ≡ e.turns
+    pub takes : (e' ≡ e) ⊎ TakesOne e e'
+
+  module _ (moved : N → HeadMove → ℕ → OutputsView → N → OutputsView → Type 0) where
+    -- The head of the channel at a place made a move, with nothing on the work list before, and that list was worked off.
+    pub record MovesHead (by : HeadMove) (at : ℕ) (e e' : ExecutorView N) : Type 0 where
+      pub work : OutputsView
+      pub empty : work.items ≡ []
+      pub works : WorksOffAfter target_of took refused_by gave_up e.number (moved e.nodes by at work) e.outboxes e'.nodes e'.outboxes
+
+    -- It made one, or none; nothing else was done.
+    pub record Moves (by : HeadMove) (at : ℕ) (e e' : ExecutorView N) : Type 0 where
+      pub serves : OnlyServes e e'
+      pub moves : (e' ≡ e) ⊎ MovesHead by at e e'
+
+    -- The head of one channel made a read step and then a write, or one of these, or none.
+    pub record ServesOne (e e' : ExecutorView N) : Type 0 where
+      pub at : ℕ
+      pub between : ExecutorView N
+      pub reads : Moves Read at e between
+      pub writes : Moves Out at between e'
+
+    -- What one turn does (EventLoop): at most one is handed over, then one taken, then one channel served.
+    pub record Turns (e e' : ExecutorView N) : Type 0 where
+      pub handed : ExecutorView N
+      pub ran : ExecutorView N
+      pub hands : Hands e handed
+      pub tasks : Tasks handed ran
+      pub serves : ServesOne ran e'
+
+-- The executor that a thread is to run, by its number and its right to its queue, its first turn there, and who is told of it.
+pub record Threaded (G : Type 0) : Type 0 where
+  pub gate : G
+  pub number : ℕ
+  pub turn : ℕ
+  pub owner : OwnerSeatView

@@ -1,0 +1,150 @@
+//! The work list of an executor, and its direct calls.
+
+ghost use Rattle.std.specs.Prelude.{◌≡◌, ◌≢◌, ◌+◌, ◌<◌, ℕ, List, [], ◌∷◌, cond, false, true, IfSome, IfNone};
+ghost use Rattle.pl_event.specs.declared.envelopes.Envelope.{Envelope};
+ghost use Rattle.pl_event.specs.declared.envelopes.Lane.{Lane};
+ghost use Rattle.pl_event.specs.Hops.{same_lane};
+ghost use Rattle.pl_context.specs.WaitingViews.{Entry, Holds};
+ghost use Rattle.pl_words.specs.Admissions.{AdmittedView};
+ghost use Rattle.pl_flow.specs.Flows.{IsGood};
+ghost use Rattle.pl_outbox.specs.OutboxViews.{SameFor, Sends, oldest_untried};
+ghost use Rattle.pl_threads.specs.Cores.{CoreHolds, CoreKeeps, FrontGoes, WorksOff, WorksOffAfter, at_work};
+ghost use Rattle.pl_threads.specs.Serving.{ServesNone, MovesAtMostOnce};
+
+use crate::nodes::Nodes;
+use pl_context::Outputs;
+use pl_event::{Envelope, Named};
+use pl_flow::HeadMove;
+use pl_outbox::{Offered, Outboxes};
+use pl_queue::Mailbox;
+use pl_words::Refused;
+use std::sync::Wait;
+
+/// The nodes of an executor, the list on which they put what they make, and what waits for others.
+#[derive(Drop)]
+pub struct Core<'a, W: Named, M: Mailbox<W> + Drop, N: Nodes<W> + Drop>
+where
+    M::Sender: Drop,
+{
+    /// The executor's number.
+    pub number: usize,
+    pub nodes: N,
+    pub outboxes: Outboxes<'a, W, M>,
+    pub work: Outputs,
+}
+
+impl<'a, W: Named, M: Mailbox<W> + Drop, N: Nodes<W> + Drop> Core<'a, W, M, N>
+where
+    M::Sender: Drop,
+{
+    /// Takes the front of the work list: a direct call, or an item for another executor, to its outbox. Where that executor
+    /// is closed, the context that wrote it fails. The seat there is never spent. False where the list is empty.
+    pub fn step(&mut self) -> bool
+        requires holds { CoreHolds N.target_of N.writes W.world N.stands N.home N.lanes N.taken_of N.came N.was_refused self.old }
+        ensures holds { CoreHolds N.target_of N.writes W.world N.stands N.home N.lanes N.taken_of N.came N.was_refused self.new }
+        ensures keeps { CoreKeeps N.target_of N.writes N.count self.old self.new }
+        ensures served { ServesNone (N.served self.old.nodes) (N.served self.new.nodes) }
+        ensures taken { (l : Lane) → N.writes self.old.nodes l ≡ false → N.taken_of self.new.nodes l ≡ N.taken_of self.old.nodes l }
+        // Its node takes the front. Or it waits for another executor; or that was found closed, and its writer has given up.
+        ensures front { result ≡ true → (front : Envelope) × FrontGoes N.target_of N.took N.refused_by N.gave_up self.old.number front (at_work self.old) (at_work self.new) }
+        ensures empty { result ≡ false → (self.old.work.items ≡ []) × (self.new.work.items ≡ []) × (self.new.nodes ≡ self.old.nodes) × (self.new.outboxes ≡ self.old.outboxes) }
+    {
+        let Some(envelope) = self.work.next() else {
+            return false;
+        };
+        let target = self.nodes.target(envelope.lane);
+        if target == self.number {
+            self.nodes.take(envelope, &mut self.work);
+            return true;
+        }
+        let lane = envelope.lane;
+        match self.outboxes.add(target, envelope) {
+            Ok(()) => {}
+            Err(Refused::Closed) => self.nodes.refuse(lane, &mut self.work),
+            Err(Refused::SeatSpent) => unreachable!(),
+        }
+        true
+    }
+
+    /// An item of a lane that another executor writes is taken.
+    pub fn take(&mut self, task: Envelope)
+        requires holds { CoreHolds N.target_of N.writes W.world N.stands N.home N.lanes N.taken_of N.came N.was_refused self.old }
+        requires here { N.target_of self.old.nodes task.lane ≡ self.old.number }
+        requires foreign { N.writes self.old.nodes task.lane ≡ false }
+        requires number { task.number ≡ N.taken_of self.old.nodes task.lane }
+        requires good { IsGood W.world task }
+        ensures holds { CoreHolds N.target_of N.writes W.world N.stands N.home N.lanes N.taken_of N.came N.was_refused self.new }
+        ensures keeps { CoreKeeps N.target_of N.writes N.count self.old self.new }
+        ensures served { ServesNone (N.served self.old.nodes) (N.served self.new.nodes) }
+        ensures taken { (l : Lane) → N.taken_of self.new.nodes l ≡ cond (same_lane l task.lane) (task.number + 1) (N.taken_of self.old.nodes l) }
+        ensures took { N.took self.old.nodes task self.old.work self.new.nodes self.new.work }
+        ensures outboxes { self.new.outboxes ≡ self.old.outboxes }
+    {
+        self.nodes.take(task, &mut self.work);
+    }
+
+    /// Works the list off.
+    pub fn work_off<R: Wait>(&mut self, rt: &R)
+        requires holds { CoreHolds N.target_of N.writes W.world N.stands N.home N.lanes N.taken_of N.came N.was_refused self.old }
+        ensures holds { CoreHolds N.target_of N.writes W.world N.stands N.home N.lanes N.taken_of N.came N.was_refused self.new }
+        ensures keeps { CoreKeeps N.target_of N.writes N.count self.old self.new }
+        ensures served { ServesNone (N.served self.old.nodes) (N.served self.new.nodes) }
+        ensures taken { (l : Lane) → N.writes self.old.nodes l ≡ false → N.taken_of self.new.nodes l ≡ N.taken_of self.old.nodes l }
+        ensures empty { self.new.work.items ≡ [] }
+        ensures works { WorksOff N.target_of N.took N.refused_by N.gave_up self.old.number (at_work self.old) self.new.nodes self.new.outboxes }
+    {
+        for _ in rt.forever() {
+            if !self.step() {
+                return;
+            }
+        }
+        unreachable!()
+    }
+
+    /// A move of a channel's head, with the direct calls that follow. False where it is not enabled.
+    pub fn move_head<R: Wait>(&mut self, rt: &R, by: HeadMove, channel: usize) -> bool
+        requires there { channel < N.count self.old.nodes }
+        requires holds { CoreHolds N.target_of N.writes W.world N.stands N.home N.lanes N.taken_of N.came N.was_refused self.old }
+        requires empty { self.old.work.items ≡ [] }
+        ensures enabled { N.may_move self.old.nodes by channel result }
+        ensures idle { result ≡ false → self.new ≡ self.old }
+        ensures holds { CoreHolds N.target_of N.writes W.world N.stands N.home N.lanes N.taken_of N.came N.was_refused self.new }
+        ensures keeps { CoreKeeps N.target_of N.writes N.count self.old self.new }
+        ensures served { MovesAtMostOnce by (N.served self.old.nodes) (N.served self.new.nodes) }
+        ensures taken { (l : Lane) → N.writes self.old.nodes l ≡ false → N.taken_of self.new.nodes l ≡ N.taken_of self.old.nodes l }
+        ensures empty { self.new.work.items ≡ [] }
+        ensures moved { result ≡ true → WorksOffAfter N.target_of N.took N.refused_by N.gave_up self.old.number (N.moved self.old.nodes by channel self.old.work) self.old.outboxes self.new.nodes self.new.outboxes }
+    {
+        if !self.nodes.move_head(by, channel, &mut self.work) {
+            return false;
+        }
+        self.work_off(rt);
+        true
+    }
+
+    /// Hands over the oldest envelope whose queue has room: each queue is tried once. The target to which it went, or None
+    /// where nothing waits but for queues that are full.
+    pub fn hand<R: Wait>(&mut self, rt: &R) -> Option<usize>
+        requires holds { CoreHolds N.target_of N.writes W.world N.stands N.home N.lanes N.taken_of N.came N.was_refused self.old }
+        ensures holds { CoreHolds N.target_of N.writes W.world N.stands N.home N.lanes N.taken_of N.came N.was_refused self.new }
+        ensures nodes { self.new.nodes ≡ self.old.nodes }
+        ensures number { self.new.number ≡ self.old.number }
+        ensures work { self.new.work ≡ self.old.work }
+        ensures handed { IfSome result (λ target. Sends self.old.outboxes target self.new.outboxes) }
+        ensures none { IfNone result ((y : ℕ) → SameFor self.old.outboxes self.new.outboxes y) }
+        ensures oldest { (entries : List (Entry AdmittedView)) → Holds self.old.outboxes.waiting entries → result ≡ oldest_untried self.new.outboxes entries }
+    {
+        self.outboxes.forget_tries();
+        for _ in rt.forever() {
+            let Some(target) = self.outboxes.oldest() else {
+                self.outboxes.ring_for_sent();
+                return None;
+            };
+            if let Offered::Handed = self.outboxes.offer(rt, target) {
+                self.outboxes.ring_for_many();
+                return Some(target);
+            }
+        }
+        unreachable!()
+    }
+}

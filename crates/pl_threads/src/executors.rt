@@ -1,0 +1,431 @@
+//! An executor, which runs its tasks one after another.
+
+ghost use Rattle.std.specs.Prelude.{◌≡◌, ◌≢◌, ◌⊎◌, ◌+◌, ◌-◌, ◌<◌, ◌≤◌, ◌^◌, ℕ, List, min, [], IfSome, IfNone, true, false};
+ghost use Rattle.pl_event.specs.declared.envelopes.Envelope.{Envelope};
+ghost use Rattle.pl_queue.specs.Views.{after_take};
+ghost use Rattle.pl_context.specs.Stops.{HasPlaces};
+ghost use Rattle.pl_context.specs.WaitingViews.{Entry, Holds};
+ghost use Rattle.pl_flow.specs.declared.moves.HeadMove.{HeadMove};
+ghost use Rattle.pl_words.specs.declared.status.Status.TheVariants.{Accepting};
+ghost use Rattle.pl_words.specs.Phases.{rank};
+ghost use Rattle.pl_words.specs.Admissions.{AdmittedView, OwnerSeatView, new_owner_seat};
+ghost use Rattle.pl_outbox.specs.Admitting.{FewLanes};
+ghost use Rattle.pl_outbox.specs.OutboxViews.{admissions, waits_for, is_closed, SomeClosed, SameFor, Sends, SendsNothing, oldest_untried};
+ghost use Rattle.pl_threads.specs.declared.executors.Turn.TheVariants.{Worked, Idle, Done};
+ghost use Rattle.pl_threads.specs.Running.{EndsAs, IsFinished, RunsOn, IsTaking};
+ghost use Rattle.pl_threads.specs.Serving.{ServesNone, MovesAtMostOnce, ServesAtMostOnce};
+ghost use Rattle.pl_threads.specs.Turning.{SendsAtMostOne, TakesAtMostOne, TakesOne, IsStill, OnlyServes, MovesHead, ServesOne, Turns};
+
+use crate::cores::Core;
+use crate::finished::Finished;
+use crate::gate::Gate;
+use crate::nodes::Nodes;
+use crate::start::Start;
+use crossbeam_utils::sync::Parker;
+use pl_event::Named;
+use pl_flow::HeadMove;
+use pl_outbox::Inbox;
+use pl_queue::Mailbox;
+use pl_words::OwnerSeat;
+use std::marker::Model;
+use std::sync::Wait;
+
+/// What became of a turn.
+#[derive(Clone, Copy, Debug, PartialEq, Eq)]
+pub enum Turn {
+    /// Something was handed over, taken, read or written.
+    Worked,
+    /// Nothing was.
+    Idle,
+    /// Nothing was, its queue is closed, and nothing waits for others.
+    Done,
+}
+
+/// An executor between two of its steps: its nodes with what waits for others, and its own queue with the right to close it.
+/// Nothing is on its work list.
+#[derive(Drop)]
+pub struct Executor<'a, W: Named, M: Mailbox<W> + Drop, N: Nodes<W> + Drop>
+where
+    M::Sender: Drop,
+    M::Taker: Drop,
+{
+    core: Core<'a, W, M, N>,
+    inbox: &'a Inbox<W, M>,
+    taker: M::Taker,
+    owner: OwnerSeat,
+    /// The envelopes taken from its queue, up to 2^64 - 1.
+    run: u64,
+    /// Its queue was closed, with as many.
+    is_closed: bool,
+    /// The number of the next turn; 2^64 - 1 stays.
+    turns: u64,
+}
+
+impl<'a, W: Named, M: Mailbox<W> + Drop, N: Nodes<W> + Drop> Model for Executor<'a, W, M, N>
+where
+    M::Sender: Drop,
+    M::Taker: Drop,
+{
+    ghost use Rattle.std.specs.Prelude.{◌≡◌, ◌<◌, ◌^◌, []};
+    ghost use Rattle.pl_threads.specs.Cores.{CoreHolds};
+    ghost use Rattle.pl_threads.specs.Running.{ExecutorView, IsTaking, IsCounting};
+
+    ghost Value = { ExecutorView N };
+
+    ghost view = { λ e. record { number = e.core.number; nodes = e.core.nodes; outboxes = e.core.outboxes; takes = M.takes_of e.taker; owner = e.owner; turns = e.turns } };
+
+    ghost invariant = { λ e. CoreHolds N.target_of N.writes W.world N.stands N.home N.lanes N.taken_of N.came N.was_refused e.core
+        × (e.core.work.items ≡ [])
+        × M.is_taker e.inbox.now.mailbox e.taker
+        × IsTaking e.core.number (N.target_of e.core.nodes) (N.writes e.core.nodes) (N.taken_of e.core.nodes) (M.takes_of e.taker).counts
+        × (e.owner.name ≡ e.inbox.now.admission.name)
+        × IsCounting e.owner e.is_closed e.run (M.takes_of e.taker).pops
+        × (e.core.number < 2 ^ 16) };
+}
+
+impl<'a, W: Named, M: Mailbox<W> + Drop, N: Nodes<W> + Drop> Executor<'a, W, M, N>
+where
+    M::Sender: Drop,
+    M::Taker: Drop,
+{
+    /// An executor with these nodes and outboxes, and the taker and the owner's seat of its own inbox, from which nothing was
+    /// taken, and which is accepting. What the taker is to take first is the next of its lane for the nodes. These write
+    /// fewer than 2^13 lanes, and no seat has made an admission: so none is ever spent.
+    #[tactic(auto, using(pl_outbox::proofs::AdmissionLemmas::admits_start))]
+    pub fn new(
+        core: Core<'a, W, M, N>,
+        inbox: &'a Inbox<W, M>,
+        taker: M::Taker,
+        owner: OwnerSeat,
+    ) -> Self
+        requires stands { N.stands core.nodes }
+        requires home { N.home core.nodes ≡ core.number }
+        requires places { HasPlaces core.work.stopped (N.lanes core.nodes) }
+        requires runs { RunsOn W.world core.number (N.target_of core.nodes) (N.writes core.nodes) (N.taken_of core.nodes) (N.came core.nodes) core.outboxes core.work }
+        requires why { N.was_refused core.nodes ≡ true → SomeClosed core.outboxes }
+        requires few { FewLanes (N.writes core.nodes) }
+        requires admitted { admissions core.outboxes ≡ 0 }
+        requires empty { core.work.items ≡ [] }
+        requires taker { M.is_taker inbox.now.mailbox taker }
+        requires taking { IsTaking core.number (N.target_of core.nodes) (N.writes core.nodes) (N.taken_of core.nodes) (M.takes_of taker).counts }
+        requires fresh { (M.takes_of taker).pops ≡ 0 }
+        requires owner { owner ≡ new_owner_seat inbox.now.admission.name }
+        requires number { core.number < 2 ^ 16 }
+        ensures { result ≡ record { number = core.entry.number; nodes = core.entry.nodes; outboxes = core.entry.outboxes; takes = M.takes_of taker; owner = owner; turns = 0 } }
+    {
+        Executor {
+            core,
+            inbox,
+            taker,
+            owner,
+            run: 0,
+            is_closed: false,
+            turns: 0,
+        }
+    }
+
+    /// One turn, of which the gate is told first: at most one envelope is handed over and one task is run, and each channel
+    /// makes at most one read step and one write. Where nothing moved and all here has ended, it closes its queue if it can.
+    pub fn turn<R: Wait, G: Gate>(&mut self, rt: &R, gate: &G) -> Turn
+        ensures number { self.new.number ≡ self.old.number }
+        ensures turns { self.new.turns ≡ min (self.old.turns + 1) (2 ^ 64 - 1) }
+        // The gate was told of this turn.
+        ensures entered { G.was_entered gate.now self.old.number self.old.turns }
+        ensures takes { TakesAtMostOne self.old self.new }
+        ensures sends { SendsAtMostOne self.old.outboxes self.new.outboxes }
+        // No channel makes more than one read step, or more than one call of its transport.
+        ensures served { ServesAtMostOnce (N.served self.old.nodes) (N.served self.new.nodes) }
+        // What it did, one after another; its own queue and the turn's number aside.
+        ensures does { Turns N.target_of N.took N.refused_by N.gave_up N.moved self.old (record self.new { owner = self.old.owner; turns = self.old.turns }) }
+        ensures idle { result ≢ Worked → IsStill self.old self.new × ((c : ℕ) → c < N.count self.new.nodes → (by : HeadMove) → N.may_move self.new.nodes by c false) }
+        ensures done { result ≡ Done → (is_closed self.new.owner.phase ≡ true) × N.are_over self.new.nodes × ((y : ℕ) → waits_for self.new.outboxes y ≡ []) }
+        ensures name { self.new.owner.name ≡ self.old.owner.name }
+        // It begins to close, and closes, only where all here had ended before the turn.
+        ensures closes { (self.new.owner ≡ self.old.owner) ⊎ N.are_over self.old.nodes }
+        ensures later { rank self.old.owner.phase ≤ rank self.new.owner.phase }
+        ensures count { is_closed self.new.owner.phase ≡ true → self.new.owner.run ≡ self.new.takes.pops }
+        // One of its nodes has failed by a refusal only where some seat has seen its target closed.
+        ensures why { N.was_refused self.new.nodes ≡ true → SomeClosed self.new.outboxes }
+    {
+        gate.enter(self.core.number as u16, self.turns);
+        let has_moved = self.moves(rt, gate);
+        self.turns = self.turns.saturating_add(1);
+        if has_moved {
+            return Turn::Worked;
+        }
+        if self.close() && self.is_drained() {
+            return Turn::Done;
+        }
+        Turn::Idle
+    }
+
+    /// What a turn moves, once the gate was told of it. False where nothing was enabled.
+    fn moves<R: Wait, G: Gate>(&mut self, rt: &R, gate: &G) -> bool
+        requires entered { G.was_entered gate.now self.old.number self.old.turns }
+        ensures number { self.new.number ≡ self.old.number }
+        ensures owner { self.new.owner ≡ self.old.owner }
+        ensures turns { self.new.turns ≡ self.old.turns }
+        ensures takes { TakesAtMostOne self.old self.new }
+        ensures sends { SendsAtMostOne self.old.outboxes self.new.outboxes }
+        ensures served { ServesAtMostOnce (N.served self.old.nodes) (N.served self.new.nodes) }
+        ensures does { Turns N.target_of N.took N.refused_by N.gave_up N.moved self.old self.new }
+        ensures idle { result ≡ false → IsStill self.old self.new × ((c : ℕ) → c < N.count self.new.nodes → (by : HeadMove) → N.may_move self.new.nodes by c false) }
+    {
+        let handed = self.hand(rt, gate).is_some();
+        let ran = self.run_task(rt, gate);
+        if handed || ran {
+            self.serve_one(rt, handed);
+            return true;
+        }
+        self.serve_first(rt)
+    }
+
+    /// In a turn of which the gate was told: takes the front of its queue, wakes those that waited for room there, and makes all
+    /// direct calls that follow. False where the queue was empty, or is closed.
+    pub fn run_task<R: Wait, G: Gate>(&mut self, rt: &R, gate: &G) -> bool
+        requires entered { G.was_entered gate.now self.old.number self.old.turns }
+        ensures number { self.new.number ≡ self.old.number }
+        ensures task { result ≡ true → TakesOne N.target_of N.took N.refused_by N.gave_up self.old self.new }
+        ensures none { result ≡ false → self.new ≡ self.old }
+        ensures sends { SendsNothing self.old.outboxes self.new.outboxes }
+        ensures served { ServesNone (N.served self.old.nodes) (N.served self.new.nodes) }
+        ensures owner { self.new.owner ≡ self.old.owner }
+        ensures turns { self.new.turns ≡ self.old.turns }
+    {
+        let _ = gate;
+        if self.is_closed {
+            return false;
+        }
+        match self.inbox.mailbox.take::<R>(rt, &mut self.taker) {
+            None => {
+                self.core.outboxes.ring(self.inbox.take_waiting());
+                false
+            }
+            Some(envelope) => {
+                let waiters = self.inbox.take_waiting_after(self.run);
+                self.core.outboxes.ring(waiters);
+                self.run = self.run.saturating_add(1);
+                self.core.take(envelope);
+                self.core.work_off(rt);
+                true
+            }
+        }
+    }
+
+    /// In a turn of which the gate was told: hands over the oldest envelope whose queue has room. The executor to which it
+    /// went, or None where nothing waits but for queues that are full.
+    pub fn hand<R: Wait, G: Gate>(&mut self, rt: &R, gate: &G) -> Option<usize>
+        requires entered { G.was_entered gate.now self.old.number self.old.turns }
+        ensures same { self.new ≡ record self.old { outboxes = self.new.outboxes } }
+        ensures handed { IfSome result (λ target. Sends self.old.outboxes target self.new.outboxes) }
+        ensures none { IfNone result ((y : ℕ) → SameFor self.old.outboxes self.new.outboxes y) }
+        // The target of the oldest, among those whose queue was not found full by this call.
+        ensures oldest { (entries : List (Entry AdmittedView)) → Holds self.old.outboxes.waiting entries → result ≡ oldest_untried self.new.outboxes entries }
+    {
+        let _ = gate;
+        self.core.hand(rt)
+    }
+
+    /// A write of one channel, whose turn it is, beside other work; and a read step, where nothing is left to hand over.
+    fn serve_one<R: Wait>(&mut self, rt: &R, handed: bool)
+        ensures serves { OnlyServes self.old self.new }
+        ensures served { ServesAtMostOnce (N.served self.old.nodes) (N.served self.new.nodes) }
+        ensures moves { ServesOne N.target_of N.took N.refused_by N.gave_up N.moved self.old self.new }
+    {
+        let count = self.channels();
+        if count == 0 {
+            return;
+        }
+        let channel = self.turns as usize % count;
+        if !handed && self.is_drained() {
+            self.serve(rt, channel);
+        } else {
+            self.move_head(rt, HeadMove::Out, channel);
+        }
+    }
+
+    /// One read step and one write of the first channel, from the one on whose turn it is, that has any enabled. False where
+    /// none has.
+    fn serve_first<R: Wait>(&mut self, rt: &R) -> bool
+        ensures serves { OnlyServes self.old self.new }
+        ensures served { ServesAtMostOnce (N.served self.old.nodes) (N.served self.new.nodes) }
+        ensures moves { ServesOne N.target_of N.took N.refused_by N.gave_up N.moved self.old self.new }
+        ensures idle { result ≡ false → (self.new ≡ self.old) × ((c : ℕ) → c < N.count self.new.nodes → (by : HeadMove) → N.may_move self.new.nodes by c false) }
+    {
+        let count = self.channels();
+        if count == 0 {
+            return false;
+        }
+        let first = self.turns as usize % count;
+        self.serve_between(rt, first, count) || self.serve_between(rt, 0, first)
+    }
+
+    /// One read step and one write of the first channel from one on, up to another, that has any enabled. False where none has.
+    fn serve_between<R: Wait>(&mut self, rt: &R, from: usize, to: usize) -> bool
+        requires there { to ≤ N.count self.old.nodes }
+        ensures serves { OnlyServes self.old self.new }
+        ensures served { ServesAtMostOnce (N.served self.old.nodes) (N.served self.new.nodes) }
+        ensures moves { ServesOne N.target_of N.took N.refused_by N.gave_up N.moved self.old self.new }
+        ensures same { result ≡ false → self.new ≡ self.old }
+        ensures idle { result ≡ false → (c : ℕ) → from ≤ c → c < to → (by : HeadMove) → N.may_move self.old.nodes by c false }
+    {
+        for channel in from..to {
+            if self.serve(rt, channel) {
+                return true;
+            }
+        }
+        false
+    }
+
+    /// How many channels have their heads here.
+    fn channels(&self) -> usize
+        ensures { result ≡ N.count self.now.nodes }
+    {
+        self.core.nodes.channels()
+    }
+
+    /// One read step and one write of a channel. False where neither was enabled.
+    fn serve<R: Wait>(&mut self, rt: &R, channel: usize) -> bool
+        requires there { channel < N.count self.old.nodes }
+        ensures serves { OnlyServes self.old self.new }
+        ensures served { ServesAtMostOnce (N.served self.old.nodes) (N.served self.new.nodes) }
+        ensures moves { ServesOne N.target_of N.took N.refused_by N.gave_up N.moved self.old self.new }
+        ensures idle { result ≡ false → (self.new ≡ self.old) × ((by : HeadMove) → N.may_move self.old.nodes by channel false) }
+    {
+        let has_read = self.move_head(rt, HeadMove::Read, channel);
+        let has_written = self.move_head(rt, HeadMove::Out, channel);
+        has_read || has_written
+    }
+
+    /// A move of a channel's head. False where it was not enabled.
+    fn move_head<R: Wait>(&mut self, rt: &R, by: HeadMove, channel: usize) -> bool
+        requires there { channel < N.count self.old.nodes }
+        ensures serves { OnlyServes self.old self.new }
+        ensures served { MovesAtMostOnce by (N.served self.old.nodes) (N.served self.new.nodes) }
+        ensures count { N.count self.new.nodes ≡ N.count self.old.nodes }
+        ensures enabled { N.may_move self.old.nodes by channel result }
+        ensures idle { result ≡ false → self.new ≡ self.old }
+        ensures moves { result ≡ true → MovesHead N.target_of N.took N.refused_by N.gave_up N.moved by channel self.old self.new }
+    {
+        self.core.move_head(rt, by, channel)
+    }
+
+    /// Begins to close its queue, and closes it where that has taken as many as were admitted. It does neither where not all
+    /// here has ended. True where the queue is closed and all has ended.
+    fn close(&mut self) -> bool
+        ensures same { self.new ≡ record self.old { owner = self.new.owner } }
+        ensures over { N.are_over self.old.nodes ⊎ ((result ≡ false) × (self.new.owner ≡ self.old.owner)) }
+        ensures name { self.new.owner.name ≡ self.old.owner.name }
+        ensures begun { N.are_over self.old.nodes → (result ≡ is_closed self.new.owner.phase) × (self.new.owner.phase ≢ Accepting) }
+        ensures later { rank self.old.owner.phase ≤ rank self.new.owner.phase }
+        ensures count { is_closed self.new.owner.phase ≡ true → self.new.owner.run ≡ self.new.takes.pops }
+    {
+        if !self.core.nodes.has_ended() {
+            return false;
+        }
+        self.inbox.admission.begin_close(&mut self.owner);
+        match self.inbox.admission.finish(&mut self.owner, self.run) {
+            Ok(()) => {
+                self.is_closed = true;
+                true
+            }
+            Err(_still_open) => false,
+        }
+    }
+
+    /// Runs its turns until it is done, and gives its nodes. It waits for the start before the first one; None where it is
+    /// told to leave. Where a turn was idle it rests on the parker of its inbox: until something is sent to it, or a queue
+    /// that it found full has room.
+    pub fn run<R: Wait, G: Gate>(
+        mut self,
+        rt: &R,
+        gate: &G,
+        start: &Start,
+        parker: Parker,
+    ) -> Option<Finished<W, M, N>>
+        // Its own queue is closed, and nothing waits for others.
+        ensures ended { IfSome result (EndsAs N.was_refused N.home self.entry.number self.entry.owner) }
+        // The gate was told of its first turn here.
+        ensures entered { IfSome result (λ _. G.was_entered gate.now self.entry.number self.entry.turns) }
+    {
+        if !start.wait(rt) {
+            return None;
+        }
+        // Before it rests it says so, notes where it waits for room, and looks once more.
+        let mut is_announced = false;
+        let mut turn = self.turn(rt, gate);
+        for _ in rt.forever() {
+            match turn {
+                Turn::Worked => is_announced = false,
+                Turn::Done => return Some(self.into_finished()),
+                Turn::Idle if is_announced => {
+                    parker.park(rt);
+                    is_announced = false;
+                }
+                Turn::Idle => {
+                    self.announce_rest();
+                    is_announced = true;
+                }
+            }
+            turn = self.turn(rt, gate);
+        }
+        unreachable!()
+    }
+
+    /// Its number.
+    pub(crate) fn number(&self) -> usize
+        ensures { result ≡ self.now.number }
+    {
+        self.core.number
+    }
+
+    /// The number of its next turn.
+    pub(crate) fn turns(&self) -> u64
+        ensures { result ≡ self.now.turns }
+    {
+        self.turns
+    }
+
+    /// Its right to its queue.
+    pub(crate) fn owner(&self) -> &OwnerSeat
+        ensures { result.now ≡ self.now.owner }
+    {
+        &self.owner
+    }
+
+    /// Says that it is about to rest, and notes at each queue that was full in the last turn that it waits for room.
+    fn announce_rest(&self) {
+        self.inbox.announce_rest();
+        self.core.outboxes.note_waiting(self.core.number);
+    }
+
+    /// What it leaves, once all its nodes are over, its queue is closed and nothing waits for others.
+    fn into_finished(self) -> Finished<W, M, N>
+        requires over { N.are_over self.nodes }
+        requires closed { is_closed self.owner.phase ≡ true }
+        requires drained { (y : ℕ) → waits_for self.outboxes y ≡ [] }
+        ensures { EndsAs N.was_refused N.home self.entry.number self.entry.owner result }
+    {
+        let Executor {
+            core,
+            taker,
+            owner,
+            ..
+        } = self;
+        let Core {
+            number,
+            nodes,
+            outboxes,
+            ..
+        } = core;
+        let (waiting, refusal) = outboxes.into_rest();
+        Finished::new(number, nodes, owner, taker, waiting, refusal)
+    }
+
+    /// Whether nothing waits for others.
+    fn is_drained(&self) -> bool
+        ensures { result ≡ true → (y : ℕ) → waits_for self.now.outboxes y ≡ [] }
+    {
+        self.core.outboxes.is_empty()
+    }
+}

@@ -1,0 +1,15 @@
+use Rattle.std.proofs.Common.{◌+◌, ap, refl}
+use Rattle.pl_threads_tests.specs.declared.nodes.Node.{Node}
+use Rattle.pl_threads_tests.proofs.NodeLemmas.{taken-one}
+use Rattle.pl_threads_tests.proofs.nodes.NodeNodes.take.Goals as goal
+
+pub returns-then-self-clause-taken : goal.returns-then-self-clause-taken
+returns-then-self-clause-taken g c =
+    let e = c.args.envelope in
+    taken-one c.args.self.now c.make.new.self c.requires.stands e.lane (e.number + 1) c.requires.here
+    (ap (λ (n : Node). n.executor) c.make.ensures.same) (ap (λ (n : Node). n.taken) c.make.ensures.same)
+
+pub returns-clause-taken : goal.returns-clause-taken
+returns-clause-taken g c =
+    let e = c.args.envelope in
+    taken-one c.args.self.now (record c.args.self.now { taken = e.number + 1 }) c.requires.stands e.lane (e.number + 1) c.requires.here refl refl

@@ -1,0 +1,97 @@
+//! An executor alone, run by hand.
+
+use crate::tests::alone::{Alone, NoGate, set_apart};
+use crate::tests::opening::open_three;
+use pl_event::Named;
+use pl_queue::Mailbox;
+use pl_threads::Turn;
+use pl_words::{Refused, Status};
+use std::alloc::Global;
+use std::process::Abort;
+use std::sync::Wait;
+use std::test::Fail;
+
+/// A call of the executor, or at one of the queues around it.
+#[derive(Clone, Copy)]
+pub(crate) enum Call {
+    /// One admission more, as for a flag that is on its way to it.
+    Admit,
+    /// The next flag comes to its queue.
+    Push,
+    Turn,
+    RunTask,
+    Hand,
+    /// The front of the queue of executor 0 is taken.
+    TakeFirst,
+    /// The front of the queue of executor 1 is taken.
+    TakeSecond,
+    /// In which phase its own queue is.
+    Status,
+}
+
+/// What a call answers.
+#[derive(Clone, Copy, PartialEq, Eq)]
+pub(crate) enum Answer {
+    Did(bool),
+    Refused(Refused),
+    Turned(Turn),
+    /// To which executor.
+    Handed(Option<usize>),
+    /// The flag with this number.
+    Took(Option<u64>),
+    Is(Status),
+}
+
+/// A call, and what it is to answer.
+pub(crate) type Expected = (Call, Answer);
+
+pub(crate) const WORKED: Expected = (Call::Turn, Answer::Turned(Turn::Worked));
+
+pub(crate) const IDLE: Expected = (Call::Turn, Answer::Turned(Turn::Idle));
+
+pub(crate) const DONE: Expected = (Call::Turn, Answer::Turned(Turn::Done));
+
+impl<'a, W: Named, M: Mailbox<W> + Drop> Alone<'a, W, M>
+where
+    M::Sender: Drop,
+    M::Taker: Drop,
+{
+    /// Makes a call, and answers what it answers.
+    fn apply<R: Wait>(&mut self, rt: &R, call: Call) -> Answer {
+        match call {
+            Call::Admit => match self.feed.admit() {
+                Ok(()) => Answer::Did(true),
+                Err(refused) => Answer::Refused(refused),
+            },
+            Call::Push => Answer::Did(self.feed.push(rt)),
+            Call::Turn => Answer::Turned(self.executor.turn(rt, &NoGate)),
+            Call::RunTask => Answer::Did(self.executor.run_task(rt, &NoGate)),
+            Call::Hand => Answer::Handed(self.executor.hand(rt, &NoGate)),
+            Call::TakeFirst => Answer::Took(self.first.take(rt)),
+            Call::TakeSecond => Answer::Took(self.second.take(rt)),
+            Call::Status => Answer::Is(self.feed.status()),
+        }
+    }
+}
+
+/// Makes these calls, one after another, of an executor that makes so many flags for executors 0 and 1, and to which so many
+/// are to come. The queues hold so many.
+pub(crate) fn play<W: Named, M: Mailbox<W> + Drop, R: Abort + Wait>(
+    rt: &R,
+    alloc: Global,
+    capacity: usize,
+    counts: (u32, u32),
+    expected: u64,
+    rows: &[Expected],
+) -> Result<(), Fail>
+where
+    M::Sender: Drop,
+    M::Taker: Drop,
+{
+    let (inboxes, places) = open_three::<W, M>(alloc, capacity)?;
+    let mut alone = set_apart(alloc, &inboxes, places, counts, expected)?;
+    for (row, (call, answer)) in rows.iter().enumerate() {
+        assert!(rt; alone.apply(rt, *call) == *answer, "row {row}");
+    }
+    Ok(())
+}

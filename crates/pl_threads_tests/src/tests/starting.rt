@@ -1,0 +1,180 @@
+//! Three executors before their first turn.
+
+ghost use Rattle.std.specs.Prelude.{◌≡◌, ◌∷◌, [], IfOk};
+ghost use Rattle.pl_threads_tests.specs.Openings.{ArePlaces, IsPlace, IsReady, inbox_of};
+
+use crate::nodes::{Node, Outlet};
+use crate::places::{Inboxes, Own, Place, Places, Way};
+use crossbeam_utils::sync::Parker;
+use pl_context::Outputs;
+use pl_event::Named;
+use pl_outbox::{Inbox, Outbox, Outboxes};
+use pl_queue::Mailbox;
+use pl_threads::{Core, Executor};
+use std::alloc::{AllocError, Global};
+
+/// The outbox of a way.
+fn outbox<'a, W: Named, M: Mailbox<W> + Drop>(
+    inbox: &'a Inbox<W, M>,
+    way: Way<W, M>,
+) -> Outbox<'a, W, M>
+where
+    M::Sender: Drop,
+    requires sender { M.is_sender inbox.now.mailbox way.sender }
+    requires seat { way.seat.name ≡ inbox.now.admission.name }
+    ensures { result ≡ record { sends = M.sends_of way.sender; seat = way.seat } }
+{
+    let Way { sender, seat } = way;
+    Outbox::new(inbox, sender, seat)
+}
+
+/// The outboxes of an executor, in the order of their targets.
+fn three<'a, W: Named, M: Mailbox<W> + Drop>(
+    alloc: Global,
+    first: Outbox<'a, W, M>,
+    second: Outbox<'a, W, M>,
+    third: Outbox<'a, W, M>,
+) -> Result<Vec<Outbox<'a, W, M>>, AllocError>
+where
+    M::Sender: Drop,
+    ensures { IfOk result (λ outboxes. outboxes.items ≡ first.entry ∷ second.entry ∷ third.entry ∷ []) }
+{
+    let mut outboxes = Vec::new(alloc);
+    outboxes.push(first)?;
+    outboxes.push(second)?;
+    outboxes.push(third)?;
+    Ok(outboxes)
+}
+
+/// The inbox of one of three executors.
+fn inbox_of<W: Named, M: Mailbox<W> + Drop>(inboxes: &Inboxes<W, M>, executor: u16) -> &Inbox<W, M>
+    ensures { result.now ≡ inbox_of inboxes.now executor }
+{
+    match executor {
+        0 => &inboxes.first,
+        1 => &inboxes.second,
+        _ => &inboxes.third,
+    }
+}
+
+/// The executor with these nodes, and the parker on which it rests.
+pub(crate) fn executor<'a, W: Named, M: Mailbox<W> + Drop>(
+    alloc: Global,
+    inboxes: &'a Inboxes<W, M>,
+    place: Place<W, M>,
+    node: Node,
+) -> Result<(Executor<'a, W, M, Node>, Parker), AllocError>
+where
+    M::Sender: Drop,
+    M::Taker: Drop,
+    requires place { IsPlace M.is_taker M.takes_of M.is_sender M.sends_of inboxes.now node.executor place }
+    requires ready { IsReady node }
+{
+    let Place {
+        own,
+        first,
+        second,
+        third,
+    } = place;
+    let Own {
+        parker,
+        taker,
+        owner,
+    } = own;
+    let outboxes = three(
+        alloc,
+        outbox(&inboxes.first, first),
+        outbox(&inboxes.second, second),
+        outbox(&inboxes.third, third),
+    )?;
+    let inbox = inbox_of(inboxes, node.executor);
+    let core = Core {
+        number: usize::from(node.executor),
+        nodes: node,
+        outboxes: Outboxes::new(alloc, outboxes, &[1, 1, 1])?,
+        work: Outputs::new(alloc, 2)?,
+    };
+    Ok((Executor::new(core, inbox, taker, owner), parker))
+}
+
+/// The nodes of executor 2, which makes so many flags for executor 0, and then so many for executor 1. It has ended once these
+/// are made, and so many have come.
+pub(crate) fn maker(counts: (u32, u32), expected: u64) -> Node
+    ensures executor { result.executor ≡ 2 }
+    ensures ready { IsReady result }
+{
+    Node::new(
+        2,
+        Outlet::new(0, counts.0),
+        Outlet::new(1, counts.1),
+        expected,
+    )
+}
+
+/// The nodes of executor 0, which makes a flag for executor 2 for each one that comes, up to so many. It has ended once so many
+/// have come.
+fn answerer(count: u32) -> Node
+    ensures executor { result.executor ≡ 0 }
+    ensures ready { IsReady result }
+{
+    let mut node = Node::new(
+        0,
+        Outlet::new(2, count),
+        Outlet::new(1, 0),
+        u64::from(count),
+    );
+    node.forwards = true;
+    node
+}
+
+/// The nodes of executor 1, which makes nothing. It has ended once so many have come.
+fn counter(count: u32) -> Node
+    ensures executor { result.executor ≡ 1 }
+    ensures ready { IsReady result }
+{
+    Node::new(1, Outlet::new(0, 0), Outlet::new(2, 0), u64::from(count))
+}
+
+/// One executor more.
+fn add<'a, W: Named, M: Mailbox<W> + Drop>(
+    executors: &mut Vec<(Executor<'a, W, M, Node>, Parker)>,
+    inboxes: &'a Inboxes<W, M>,
+    place: Place<W, M>,
+    node: Node,
+) -> Result<(), AllocError>
+where
+    M::Sender: Drop,
+    M::Taker: Drop,
+    requires place { IsPlace M.is_taker M.takes_of M.is_sender M.sends_of inboxes.now node.executor place }
+    requires ready { IsReady node }
+{
+    let alloc = *executors.allocator();
+    executors.push(executor(alloc, inboxes, place, node)?)?;
+    Ok(())
+}
+
+/// Executors 0, 1 and 2, in this order. Executor 2 makes so many flags for each of the others, and executor 0 answers each
+/// that comes. They have ended once each has got so many.
+pub(crate) fn three_executors<'a, W: Named, M: Mailbox<W> + Drop>(
+    alloc: Global,
+    inboxes: &'a Inboxes<W, M>,
+    places: Places<W, M>,
+    count: u32,
+) -> Result<Vec<(Executor<'a, W, M, Node>, Parker)>, AllocError>
+where
+    M::Sender: Drop,
+    M::Taker: Drop,
+    requires { ArePlaces M.is_taker M.takes_of M.is_sender M.sends_of inboxes.now places }
+{
+    let Places {
+        first,
+        second,
+        third,
+    } = places;
+    let maker = maker((count, count), u64::from(count));
+    let mut executors = Vec::new(alloc);
+    add(&mut executors, inboxes, first, answerer(count))?;
+    add(&mut executors, inboxes, second, counter(count))?;
+    add(&mut executors, inboxes, third, maker)?;
+    Ok(executors)
+}
