@@ -17,18 +17,12 @@ use std::marker::Model;
 
 /// The way to one executor: a sender of its mailbox, and a seat of its admission.
 #[derive(Drop)]
-struct Way<W: Named, M: Mailbox<W>>
-where
-    M::Sender: Drop,
-{
+struct Way<W: Named, M: Mailbox<W>> {
     sender: M::Sender,
     seat: SendSeat,
 }
 
-impl<W: Named, M: Mailbox<W>> Model for Way<W, M>
-where
-    M::Sender: Drop,
-{
+impl<W: Named, M: Mailbox<W>> Model for Way<W, M> {
     ghost use Rattle.pl_exec.specs.Opening.{WayView};
 
     ghost Value = { WayView M.Sender };
@@ -38,11 +32,7 @@ where
 
 /// What an executor has of the inboxes: the taker and the owner's seat of its own, and the ways to all, by number.
 #[derive(Drop)]
-pub(crate) struct Ways<W: Named, M: Mailbox<W>>
-where
-    M::Sender: Drop,
-    M::Taker: Drop,
-{
+pub(crate) struct Ways<W: Named, M: Mailbox<W>> {
     taker: M::Taker,
     owner: OwnerSeat,
     /// On which the executor rests.
@@ -50,11 +40,7 @@ where
     ways: Vec<Way<W, M>>,
 }
 
-impl<W: Named, M: Mailbox<W>> Model for Ways<W, M>
-where
-    M::Sender: Drop,
-    M::Taker: Drop,
-{
+impl<W: Named, M: Mailbox<W>> Model for Ways<W, M> {
     ghost use Rattle.pl_exec.specs.Opening.{WaysView};
 
     ghost Value = { WaysView M.Taker M.Sender };
@@ -62,11 +48,7 @@ where
     ghost view = { λ w. record { taker = w.taker; owner = w.owner; ways = w.ways.items } };
 }
 
-impl<W: Named, M: Mailbox<W>> Ways<W, M>
-where
-    M::Sender: Drop,
-    M::Taker: Drop,
-{
+impl<W: Named, M: Mailbox<W>> Ways<W, M> {
     /// One way more, to the next target.
     fn add(&mut self, way: Way<W, M>) -> Result<(), AllocError>
         ensures { OnOk result (self.new ≡ record self.old { ways = self.old.ways ++ way ∷ [] }) }
@@ -82,8 +64,6 @@ fn paired<W: Named, M: Mailbox<W>>(
     senders: Vec<M::Sender>,
     seats: Vec<SendSeat>,
 ) -> Result<Vec<Way<W, M>>, AllocError>
-where
-    M::Sender: Drop,
     requires { length seats.items ≡ length senders.items }
     ensures senders { IfOk result (λ ways. map (λ w. w.sender) ways.items ≡ senders.items) }
     ensures seats { IfOk result (λ ways. map (λ w. w.seat) ways.items ≡ seats.items) }
@@ -101,9 +81,6 @@ fn open<W: Named, M: Mailbox<W> + Drop>(
     senders: Vec<Vec<Lane>>,
     capacity: usize,
 ) -> Result<(Inbox<W, M>, Ways<W, M>, Vec<Way<W, M>>), AllocError>
-where
-    M::Sender: Drop,
-    M::Taker: Drop,
     requires some { 0 < length senders.items }
     requires few { length senders.items < 2 ^ 16 }
     requires open { CanOpen capacity (map (λ sender. sender.items) senders.items) }
@@ -136,9 +113,6 @@ fn add_row<W: Named, M: Mailbox<W>>(
     all: &mut Vec<Ways<W, M>>,
     row: Vec<Way<W, M>>,
 ) -> Result<(), AllocError>
-where
-    M::Sender: Drop,
-    M::Taker: Drop,
     requires { length row.items ≡ length all.old.items }
     ensures { OnOk result (all.new.items ≡ with_row all.old.items row.items) }
 {
@@ -155,9 +129,6 @@ fn add_rows<W: Named, M: Mailbox<W>>(
     all: &mut Vec<Ways<W, M>>,
     rows: Vec<Vec<Way<W, M>>>,
 ) -> Result<(), AllocError>
-where
-    M::Sender: Drop,
-    M::Taker: Drop,
     requires { All (λ row. length row.items ≡ length all.old.items) rows.items }
     ensures { OnOk result (all.new.items ≡ with_rows all.old.items (map (λ row. row.items) rows.items)) }
 {
@@ -176,9 +147,6 @@ pub(crate) fn open_all<W: Named, M: Mailbox<W> + Drop>(
     lanes: Vec<Vec<Vec<Lane>>>,
     capacity: usize,
 ) -> Result<(Vec<Inbox<W, M>>, Vec<Ways<W, M>>), AllocError>
-where
-    M::Sender: Drop,
-    M::Taker: Drop,
     requires { CanOpenAll capacity (lanes_in lanes.items) }
     ensures opened { IfOk result (λ r. AreOpened M.is_taker M.takes_of M.is_sender M.sends_of (lanes_in lanes.items) (map (λ i. record { mailbox = i.mailbox; name = i.admission.name }) r.0.items) r.1.items) }
     ensures capacity { IfOk result (λ r. All (λ i. M.capacity_of i.mailbox ≡ capacity) r.0.items) }
@@ -194,9 +162,6 @@ fn open_each<W: Named, M: Mailbox<W> + Drop>(
     lanes: Vec<Vec<Vec<Lane>>>,
     capacity: usize,
 ) -> Result<(Vec<Inbox<W, M>>, Vec<Ways<W, M>>, Vec<Vec<Way<W, M>>>), AllocError>
-where
-    M::Sender: Drop,
-    M::Taker: Drop,
     requires { CanOpenAll capacity (lanes_in lanes.items) }
     ensures rows { IfOk result (λ r. AreRows M.is_taker M.takes_of M.is_sender M.sends_of (lanes_in lanes.items) (lanes_in lanes.items) (map (λ i. record { mailbox = i.mailbox; name = i.admission.name }) r.0.items) r.1.items (map (λ row. row.items) r.2.items)) }
     ensures capacity { IfOk result (λ r. All (λ i. M.capacity_of i.mailbox ≡ capacity) r.0.items) }
@@ -237,9 +202,6 @@ pub(crate) fn executors<'a, W: Planned, M: Mailbox<W> + Drop, N: Nodes<W> + Drop
     nodes: Vec<N>,
     places: Vec<Places>,
 ) -> Result<Vec<(Executor<'a, W, M, N>, Parker)>, AllocError>
-where
-    M::Sender: Drop,
-    M::Taker: Drop,
     requires few { length inboxes.now < 2 ^ 16 }
     requires capacity { All (λ i. M.capacity_of i.mailbox ≡ W.plan.capacity) inboxes.now }
     requires start { CanStart M.is_taker M.takes_of M.is_sender M.sends_of N.stands N.home N.lanes N.target_of N.writes N.taken_of N.came N.was_refused
@@ -265,9 +227,6 @@ fn executor<'a, W: Named, M: Mailbox<W> + Drop, N: Nodes<W> + Drop>(
     nodes: N,
     places: &Places,
 ) -> Result<(Executor<'a, W, M, N>, Parker), AllocError>
-where
-    M::Sender: Drop,
-    M::Taker: Drop,
     requires there { number < length inboxes.now }
     requires few { length inboxes.now < 2 ^ 16 }
     requires starts { Starts M.is_taker M.takes_of M.is_sender M.sends_of N.stands N.home N.lanes N.target_of N.writes N.taken_of N.came N.was_refused
@@ -297,8 +256,6 @@ fn outboxes<'a, W: Named, M: Mailbox<W> + Drop>(
     inboxes: &'a [Inbox<W, M>],
     ways: Vec<Way<W, M>>,
 ) -> Result<Vec<Outbox<'a, W, M>>, AllocError>
-where
-    M::Sender: Drop,
     requires count { length ways.items ≡ length inboxes.now }
     requires senders { AreWays M.is_sender (map (λ i. record { mailbox = i.mailbox; name = i.admission.name }) inboxes.now) ways.items }
     ensures { IfOk result (λ outboxes. outboxes.items ≡ map (outbox_of M.sends_of) ways.items) }

@@ -30,8 +30,6 @@ pub(crate) fn report_of<W: Planned, M: Mailbox<W> + Drop, S: Stage, T: Transport
     all: Vec<Finished<W, M, TellingNodes<'_, S, T>>>,
     channels: usize,
 ) -> Result<Report, AllocError>
-where
-    M::Taker: Drop,
     requires plan { IsPlan W.plan }
     requires executors { map (λ e. e.nodes.nodes.number) all.items ≡ range_with_len 0 W.plan.executors }
     requires channels { channels ≡ length W.plan.channels }

@@ -174,8 +174,8 @@ fn run_by<
     R: Threads + Wait + Sync,
 >(world: World<S, T>, capacity: u32, setting: Setting<'_, G, R>) -> Result<Report, RunFault>
 where
-    M::Sender: Drop + Send,
-    M::Taker: Drop + Send,
+    M::Sender: Send,
+    M::Taker: Send,
     requires world { W.world ≡ world_of true W.plan }
     requires plan { W.plan ≡ planned S.meaning T.state capacity world.executors world.channels }
     requires capacity { (1 ≤ capacity) × (capacity ≤ MAX_CAPACITY) }
@@ -204,8 +204,8 @@ fn run_parts<
     setting: Setting<'_, G, R>,
 ) -> Result<Report, RunFault>
 where
-    M::Sender: Drop + Send,
-    M::Taker: Drop + Send,
+    M::Sender: Send,
+    M::Taker: Send,
     requires world { W.world ≡ world_of true W.plan }
     requires ready { AreReady S.meaning S.stands_after T.state W.plan parts.items }
     requires executors { count ≡ W.plan.executors }

@@ -16,19 +16,13 @@ use std::sync::Wait;
 
 /// The way to one executor: a sender of its mailbox, and a seat of its admission.
 #[derive(Drop)]
-pub struct Outbox<'a, W: Named, M: Mailbox<W> + Drop>
-where
-    M::Sender: Drop,
-{
+pub struct Outbox<'a, W: Named, M: Mailbox<W> + Drop> {
     inbox: &'a Inbox<W, M>,
     sender: M::Sender,
     seat: SendSeat,
 }
 
-impl<'a, W: Named, M: Mailbox<W> + Drop> Model for Outbox<'a, W, M>
-where
-    M::Sender: Drop,
-{
+impl<'a, W: Named, M: Mailbox<W> + Drop> Model for Outbox<'a, W, M> {
     ghost use Rattle.std.specs.Prelude.{◌≡◌};
     ghost use Rattle.pl_outbox.specs.OutboxViews.{OutboxView};
 
@@ -39,10 +33,7 @@ where
     ghost invariant = { λ o. M.is_sender o.inbox.now.mailbox o.sender × (o.seat.name ≡ o.inbox.now.admission.name) };
 }
 
-impl<'a, W: Named, M: Mailbox<W> + Drop> Outbox<'a, W, M>
-where
-    M::Sender: Drop,
-{
+impl<'a, W: Named, M: Mailbox<W> + Drop> Outbox<'a, W, M> {
     /// The way to the executor that an inbox is of, by a sender and a seat of that inbox.
     pub fn new(inbox: &'a Inbox<W, M>, sender: M::Sender, seat: SendSeat) -> Self
         requires sender { M.is_sender inbox.now.mailbox sender }

@@ -40,10 +40,7 @@ pub enum Offered {
 /// the number of envelopes that it took has nothing coming any more. On each lane what waits follows what was sent, with
 /// the next numbers and nothing behind an end or a failure.
 #[derive(Drop)]
-pub struct Outboxes<'a, W: Named, M: Mailbox<W> + Drop>
-where
-    M::Sender: Drop,
-{
+pub struct Outboxes<'a, W: Named, M: Mailbox<W> + Drop> {
     outboxes: Vec<Outbox<'a, W, M>>,
     waiting: Waiting<Admitted>,
     /// The targets whose queue was found full in this turn.
@@ -54,10 +51,7 @@ where
     count: u32,
 }
 
-impl<'a, W: Named, M: Mailbox<W> + Drop> Model for Outboxes<'a, W, M>
-where
-    M::Sender: Drop,
-{
+impl<'a, W: Named, M: Mailbox<W> + Drop> Model for Outboxes<'a, W, M> {
     ghost use Rattle.std.specs.Prelude.{◌≡◌, length};
     ghost use Rattle.pl_outbox.specs.OutboxViews.{OutboxesView, IsOutboxes};
 
@@ -68,10 +62,7 @@ where
     ghost invariant = { λ o. IsOutboxes W.world (record { outboxes = o.outboxes.items; waiting = o.waiting; tried = o.tries.tried }) × (o.tries.count ≡ length o.outboxes.items) };
 }
 
-impl<'a, W: Named, M: Mailbox<W> + Drop> Outboxes<'a, W, M>
-where
-    M::Sender: Drop,
-{
+impl<'a, W: Named, M: Mailbox<W> + Drop> Outboxes<'a, W, M> {
     /// Nothing waits. There is an outbox for each executor, of which nothing was sent, with so many reserved places.
     pub fn new(
         alloc: Global,
@@ -240,8 +231,6 @@ where
 fn closed_seat<'a, W: Named, M: Mailbox<W> + Drop>(
     outboxes: Vec<Outbox<'a, W, M>>,
 ) -> Option<SendSeat>
-where
-    M::Sender: Drop,
     ensures { result ≡ closed_seat outboxes.entry.items }
 {
     for outbox in outboxes {

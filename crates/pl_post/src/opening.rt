@@ -16,8 +16,6 @@ pub(crate) fn paired<W: Named, M: Mailbox<W>>(
     senders: Vec<M::Sender>,
     seats: Vec<SendSeat>,
 ) -> Result<Vec<PostSeat<W, M>>, AllocError>
-where
-    M::Sender: Drop,
     requires count { length seats.items ≡ length senders.items }
     requires fresh { Each (λ s. IsCounted (M.sends_of s) × ((M.sends_of s).pushes ≡ 0)) senders.items }
     requires unused { Each (λ s. s.kept ≡ 0) seats.items }

@@ -40,18 +40,12 @@ impl<W: Named, M: Mailbox<W> + Drop> Model for Post<W, M> {
 
 /// A thread's right to send through a post. It serves one thread at a time.
 #[derive(Drop)]
-pub struct PostSeat<W: Named, M: Mailbox<W>>
-where
-    M::Sender: Drop,
-{
+pub struct PostSeat<W: Named, M: Mailbox<W>> {
     sender: M::Sender,
     seat: SendSeat,
 }
 
-impl<W: Named, M: Mailbox<W>> Model for PostSeat<W, M>
-where
-    M::Sender: Drop,
-{
+impl<W: Named, M: Mailbox<W>> Model for PostSeat<W, M> {
     ghost use Rattle.pl_post.specs.Posts.{PostSeatView, IsPostSeat};
 
     ghost Value = { PostSeatView M.Sender };
@@ -61,10 +55,7 @@ where
     ghost invariant = { λ s. IsPostSeat (M.sends_of s.sender) s.seat };
 }
 
-impl<W: Named, M: Mailbox<W>> PostSeat<W, M>
-where
-    M::Sender: Drop,
-{
+impl<W: Named, M: Mailbox<W>> PostSeat<W, M> {
     /// A seat that has kept an admission for each envelope that its sender has pushed.
     pub(crate) fn new(sender: M::Sender, seat: SendSeat) -> Self
         requires { IsPostSeat (M.sends_of sender) seat }
@@ -76,20 +67,14 @@ where
 
 /// The right to take from a post and to close it. There is one for each post.
 #[derive(Drop)]
-pub struct PostOwner<W: Named, M: Mailbox<W>>
-where
-    M::Taker: Drop,
-{
+pub struct PostOwner<W: Named, M: Mailbox<W>> {
     taker: M::Taker,
     owner: OwnerSeat,
     /// How many envelopes were taken.
     taken: u64,
 }
 
-impl<W: Named, M: Mailbox<W>> Model for PostOwner<W, M>
-where
-    M::Taker: Drop,
-{
+impl<W: Named, M: Mailbox<W>> Model for PostOwner<W, M> {
     ghost use Rattle.pl_post.specs.Posts.{PostOwnerView, IsOwner};
 
     ghost Value = { PostOwnerView M.Taker };
@@ -110,11 +95,7 @@ pub enum Unsent {
     Spent(Envelope),
 }
 
-impl<W: Named, M: Mailbox<W> + Drop> Post<W, M>
-where
-    M::Sender: Drop,
-    M::Taker: Drop,
-{
+impl<W: Named, M: Mailbox<W> + Drop> Post<W, M> {
     /// A post of this capacity, with a seat for each list of lanes, and its owner. No lane stands twice, and there is at least
     /// one list. Nothing was sent, every seat may send, and the owner has taken nothing.
     ///

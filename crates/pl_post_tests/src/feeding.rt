@@ -30,9 +30,6 @@ pub fn send_when_room<W: Named, M: Mailbox<W> + Drop, R: Wait>(
     seat: &mut PostSeat<W, M>,
     mut envelope: Envelope,
 ) -> Result<(), Unsent>
-where
-    M::Sender: Drop,
-    M::Taker: Drop,
     requires seat { IsSeatOf M.is_sender post.now seat.old }
     requires next { IsNext envelope.lane envelope.number (M.sends_of seat.old.sender) }
     requires small { envelope.number < 2 ^ 32 }
@@ -100,9 +97,6 @@ pub fn feed<W: Named, M: Mailbox<W> + Drop, R: Wait>(
     lane: Lane,
     count: u64,
 ) -> (PostSeat<W, M>, Fed)
-where
-    M::Sender: Drop,
-    M::Taker: Drop,
     requires seat { IsSeatOf M.is_sender post.now seat }
     requires fresh { IsNext lane 0 (M.sends_of seat.sender) }
     requires few { count < 2 ^ 32 }
@@ -160,9 +154,6 @@ pub fn serve<W: Named, M: Mailbox<W> + Drop, R: Wait, const CHANNELS: usize>(
     mut owner: PostOwner<W, M>,
     enough: u64,
 ) -> (PostOwner<W, M>, Served<CHANNELS>)
-where
-    M::Sender: Drop,
-    M::Taker: Drop,
     requires owner { IsOwnerOf M.is_taker post.now owner }
     requires unclosed { owner.owner.phase ≢ Closed }
     ensures owner { IsOwnerOf M.is_taker post.now result.0 }
@@ -215,9 +206,6 @@ pub fn open_three<W: Named, M: Mailbox<W> + Drop>(
         PostOwner<W, M>,
     ),
 >
-where
-    M::Sender: Drop,
-    M::Taker: Drop,
     ensures first { IfSome result (λ r. IsSeatOf M.is_sender r.0 r.1.0 × IsNext (the_data_lane 0 0) 0 (M.sends_of r.1.0.sender)) }
     ensures second { IfSome result (λ r. IsSeatOf M.is_sender r.0 r.1.1 × IsNext (the_data_lane 1 0) 0 (M.sends_of r.1.1.sender)) }
     ensures third { IfSome result (λ r. IsSeatOf M.is_sender r.0 r.1.2 × IsNext (the_data_lane 2 0) 0 (M.sends_of r.1.2.sender)) }
@@ -269,8 +257,8 @@ fn all_four<W: Named + Send + Sync, M: Mailbox<W> + Drop + Send + Sync, R: Threa
     enough: u64,
 ) -> Closing
 where
-    M::Sender: Drop + Send,
-    M::Taker: Drop + Send,
+    M::Sender: Send,
+    M::Taker: Send,
     requires first { IsSeatOf M.is_sender post.now seats.0 × IsNext (the_data_lane 0 0) 0 (M.sends_of seats.0.sender) × (content_of W.world (the_data_lane 0 0) ≡ Some (lane_events count)) }
     requires second { IsSeatOf M.is_sender post.now seats.1 × IsNext (the_data_lane 1 0) 0 (M.sends_of seats.1.sender) × (content_of W.world (the_data_lane 1 0) ≡ Some (lane_events count)) }
     requires third { IsSeatOf M.is_sender post.now seats.2 × IsNext (the_data_lane 2 0) 0 (M.sends_of seats.2.sender) × (content_of W.world (the_data_lane 2 0) ≡ Some (lane_events count)) }
@@ -316,8 +304,8 @@ pub fn three_feed_while_closing<
     R: Threads + Wait + Sync,
 >(rt: &R, alloc: Global, capacity: usize, count: u64, enough: u64) -> Option<Closing>
 where
-    M::Sender: Drop + Send,
-    M::Taker: Drop + Send,
+    M::Sender: Send,
+    M::Taker: Send,
     requires few { count < 2 ^ 32 }
     requires first { content_of W.world (the_data_lane 0 0) ≡ Some (lane_events count) }
     requires second { content_of W.world (the_data_lane 1 0) ≡ Some (lane_events count) }

@@ -46,9 +46,9 @@ impl From<AllocError> for OpenRefusal {
 /// world; and nothing follows an end or a failure. Not promised: that a waiting call returns, which of two senders comes
 /// first, and that anyone is woken.
 pub trait Mailbox<W: Named>: Sized {
-    type Sender;
+    type Sender: Drop;
 
-    type Taker;
+    type Taker: Drop;
 
     /// The most envelopes that it holds.
     ghost capacity_of: { Self → ℕ };

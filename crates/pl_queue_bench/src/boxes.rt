@@ -1,7 +1,6 @@
-//! Through a mailbox: from as many threads as it has senders, or in turns on one thread.
+//! Through a mailbox with many lanes or senders, in turns on one thread.
 
 ghost use Rattle.std.specs.Prelude.{◌≡◌, ◌+◌, ◌<◌, ◌≤◌, ◌^◌, length, vec_len, IfSome};
-ghost use denote.Param.Send.{IsSync};
 ghost use Rattle.pl_queue_bench.specs.Sending.{HasNext, AllHaveNext};
 
 use crate::CAPACITY;
@@ -10,8 +9,6 @@ use pl_queue::Mailbox;
 use pl_queue_tests::{flag, hand_over, lane, lists};
 use std::alloc::Global;
 use std::sync::Wait;
-use std::thread;
-use std::thread::Threads;
 
 // A mailbox with so many senders. Each of the first ones has the flags lanes of so many hops of a channel.
 fn opened<W: Named, M: Mailbox<W> + Drop>(
@@ -20,9 +17,6 @@ fn opened<W: Named, M: Mailbox<W> + Drop>(
     channels: u16,
     senders: u32,
 ) -> Option<(M, Vec<M::Sender>, M::Taker)>
-where
-    M::Sender: Drop,
-    M::Taker: Drop,
     requires { (0 < channels) × (channels ≤ senders) }
     ensures senders { IfSome result (λ r. (vec_len r.1 ≡ senders) × AllHaveNext (M.is_sender r.0) M.sends_of hops 0 0 channels r.1.items) }
     ensures taker { IfSome result (λ r. M.is_taker r.0 r.2) }
@@ -36,47 +30,6 @@ where
     }
 }
 
-// Offers so many flags on the first hop's lane of a channel.
-fn offer_all<W: Named, M: Mailbox<W>, R: Wait>(
-    rt: &R,
-    mailbox: &M,
-    sender: &mut M::Sender,
-    channel: u16,
-    count: u64,
-)
-    requires sender { M.is_sender mailbox.now sender.old }
-    requires next { HasNext channel 0 1 0 (M.sends_of sender.old) }
-    requires small { count ≤ 2 ^ 32 }
-{
-    for number in 0..count {
-        hand_over::<W, M, R>(rt, mailbox, sender, flag(lane(channel, 0), number));
-    }
-}
-
-// Each sender offers so many, on a thread of its own.
-fn offer_by_threads<W: Named + Send + Sync, M: Mailbox<W> + Send + Sync, R: Threads + Wait + Sync>(
-    rt: &R,
-    mailbox: &M,
-    mut senders: Vec<M::Sender>,
-    each: u64,
-)
-where
-    M::Sender: Drop + Send,
-    requires few { (0 < vec_len senders) × (vec_len senders < 2 ^ 16) }
-    requires senders { AllHaveNext (M.is_sender mailbox.now) M.sends_of 1 0 0 (vec_len senders) senders.items }
-    requires small { each ≤ 2 ^ 32 }
-{
-    let threads = senders.len();
-    thread::for_each_mut(
-        rt,
-        senders.as_mut_slice(),
-        threads,
-        &|i: usize, sender: &mut M::Sender|
-            requires { (i < 2 ^ 16) × M.is_sender mailbox.now sender.now × HasNext i 0 1 0 (M.sends_of sender.now) × (each ≤ 2 ^ 32) }
-        { offer_all::<W, M, R>(rt, mailbox, sender, i as u16, each) },
-    );
-}
-
 // Takes an envelope, where there is one. How many it took.
 fn take_one<W: Named, M: Mailbox<W>, R: Wait>(rt: &R, mailbox: &M, taker: &mut M::Taker) -> u64
     requires taker { M.is_taker mailbox.now taker.old }
@@ -87,57 +40,6 @@ fn take_one<W: Named, M: Mailbox<W>, R: Wait>(rt: &R, mailbox: &M, taker: &mut M
         Some(_envelope) => 1,
         None => 0,
     }
-}
-
-// Takes so many envelopes.
-fn take_all<W: Named, M: Mailbox<W>, R: Wait>(
-    rt: &R,
-    mailbox: &M,
-    mut taker: M::Taker,
-    count: u64,
-) -> u64
-where
-    M::Taker: Drop,
-    requires taker { M.is_taker mailbox.now taker }
-{
-    let mut taken = 0;
-    for _ in rt.forever() {
-        if taken >= count {
-            break;
-        }
-        let more = take_one::<W, M, R>(rt, mailbox, &mut taker);
-        if more == 0 {
-            thread::yield_now();
-        }
-        taken += more;
-    }
-    taken
-}
-
-/// From so many threads, each of which sends so many, to another.
-pub fn on_threads<
-    W: Named + Send + Sync,
-    M: Mailbox<W> + Drop + Send + Sync,
-    R: Threads + Wait + Sync,
->(rt: &R, alloc: Global, threads: u16, each: u64) -> Option<u64>
-where
-    M::Sender: Drop + Send,
-    M::Taker: Drop + Send,
-    requires { (0 < threads) × (each ≤ 2 ^ 32) }
-{
-    let (mailbox, senders, taker) = opened::<W, M>(alloc, 1, threads, u32::from(threads))?;
-    let mailbox = &mailbox;
-    let count = u64::from(threads) * each;
-    let ((), taken) = thread::join(
-        rt,
-        move || -> ()
-            requires { (0 < vec_len senders) × (vec_len senders < 2 ^ 16) × AllHaveNext (M.is_sender mailbox.now) M.sends_of 1 0 0 (vec_len senders) senders.items × (each ≤ 2 ^ 32) × IsSync R.row }
-        { offer_by_threads::<W, M, R>(rt, mailbox, senders, each) },
-        move || -> u64
-            requires { M.is_taker mailbox.now taker }
-        { take_all::<W, M, R>(rt, mailbox, taker, count) },
-    );
-    Some(taken)
 }
 
 // A flag on each lane of a sender, each taken at once. How many were.
@@ -202,9 +104,6 @@ pub fn in_turns<W: Named, M: Mailbox<W> + Drop, R: Wait>(
     senders: u32,
     rounds: u64,
 ) -> Option<u64>
-where
-    M::Sender: Drop,
-    M::Taker: Drop,
     requires { (0 < channels) × (channels ≤ senders) × (rounds ≤ 2 ^ 32) }
 {
     let (mailbox, mut senders, mut taker) = opened::<W, M>(alloc, hops, channels, senders)?;

@@ -8,7 +8,7 @@ mod plain;
 mod posts;
 
 use crate::plain::{PlainRing, PlainWaiting};
-use crate::posts::ByHand;
+use crate::posts::{Alone, ByHand};
 use pl_event::Named;
 use pl_post::Post;
 use pl_queue::{Mailbox, RingBox, WaitingBox};
@@ -44,17 +44,15 @@ fn by_box<W: Named + Send + Sync, M: Mailbox<W> + Drop + Send + Sync, R: Threads
     count: u32,
 ) -> Option<u64>
 where
-    M::Sender: Drop + Send,
-    M::Taker: Drop + Send,
+    M::Sender: Send,
+    M::Taker: Send,
 {
-    let count = u64::from(count);
+    let each = u64::from(count);
     match workload {
-        "1" => boxes::on_threads::<W, M, R>(rt, alloc, 1, count),
-        "4" => boxes::on_threads::<W, M, R>(rt, alloc, 4, count / 4),
-        "lane" => boxes::in_turns::<W, M, R>(rt, alloc, 1, 1, 1, count),
-        "lanes" => boxes::in_turns::<W, M, R>(rt, alloc, 1, 8_192, 1, count / 8_192),
-        "senders" => boxes::in_turns::<W, M, R>(rt, alloc, 8_192, 1, 65_535, count / 8_192),
-        _ => None,
+        "lane" => boxes::in_turns::<W, M, R>(rt, alloc, 1, 1, 1, each),
+        "lanes" => boxes::in_turns::<W, M, R>(rt, alloc, 1, 8_192, 1, each / 8_192),
+        "senders" => boxes::in_turns::<W, M, R>(rt, alloc, 8_192, 1, 65_535, each / 8_192),
+        _ => posts::by_closable::<W, Alone<M>, R>(rt, alloc, workload, count),
     }
 }
 

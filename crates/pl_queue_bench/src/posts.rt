@@ -1,4 +1,4 @@
-//! Through a mailbox with its admission: by a post, or by the same calls made by hand.
+//! Through a mailbox with its admission, by a post or by the same calls made by hand; or through a mailbox alone.
 
 ghost use Rattle.std.specs.Prelude.{◌≡◌, ◌<◌, ◌≤◌, ◌^◌, false, Some, length, map, vec_len, IfOk, IfSome};
 ghost use denote.Param.Send.{IsSync};
@@ -14,7 +14,7 @@ use crate::CAPACITY;
 use pl_event::{Envelope, Lane, Named};
 use pl_post::{Post, PostOwner, PostSeat, Unsent};
 use pl_queue::{Full, Mailbox};
-use pl_queue_tests::{flag, lane, lists};
+use pl_queue_tests::{flag, hand_over, lane, lists};
 use pl_words::{Admission, OwnerSeat, SendSeat};
 use std::alloc::{AllocError, Global};
 use std::sync::Wait;
@@ -58,11 +58,7 @@ pub trait Closable<W: Named>: Sized {
         requires owner { is_owner self.now owner.old };
 }
 
-impl<W: Named, M: Mailbox<W> + Drop> Closable<W> for Post<W, M>
-where
-    M::Sender: Drop,
-    M::Taker: Drop,
-{
+impl<W: Named, M: Mailbox<W> + Drop> Closable<W> for Post<W, M> {
     type Seat = PostSeat<W, M>;
 
     type Owner = PostOwner<W, M>;
@@ -106,6 +102,43 @@ where
     }
 }
 
+/// A mailbox alone. It asks for no admission, and nothing is left to be closed.
+#[derive(Drop)]
+pub struct Alone<M> {
+    mailbox: M,
+}
+
+impl<W: Named, M: Mailbox<W> + Drop> Closable<W> for Alone<M> {
+    type Seat = M::Sender;
+
+    type Owner = M::Taker;
+
+    ghost sends_of = { λ s. M.sends_of s };
+
+    ghost is_seat = { λ a s. M.is_sender a.mailbox s };
+
+    ghost is_owner = { λ a t. M.is_taker a.mailbox t };
+
+    fn open(alloc: Global, lanes: Vec<Vec<Lane>>) -> Option<(Self, Vec<M::Sender>, M::Taker)> {
+        let Ok((mailbox, senders, taker)) = M::open(alloc, lanes, CAPACITY) else {
+            return None;
+        };
+        Some((Alone { mailbox }, senders, taker))
+    }
+
+    fn put<R: Wait>(&self, rt: &R, seat: &mut M::Sender, envelope: Envelope) {
+        hand_over::<W, M, R>(rt, &self.mailbox, seat, envelope);
+    }
+
+    fn next<R: Wait>(&self, rt: &R, owner: &mut M::Taker) -> Option<Envelope> {
+        self.mailbox.take::<R>(rt, owner)
+    }
+
+    fn close(&self, _owner: &mut M::Taker) -> bool {
+        true
+    }
+}
+
 /// A mailbox and its admission, side by side.
 #[derive(Drop)]
 pub struct ByHand<M> {
@@ -145,11 +178,7 @@ fn paired<S: Drop>(
     Ok(paired)
 }
 
-impl<W: Named, M: Mailbox<W> + Drop> Closable<W> for ByHand<M>
-where
-    M::Sender: Drop,
-    M::Taker: Drop,
-{
+impl<W: Named, M: Mailbox<W> + Drop> Closable<W> for ByHand<M> {
     type Seat = HandSeat<M::Sender>;
 
     type Owner = HandOwner<M::Taker>;

@@ -77,8 +77,6 @@ pub fn take_lanes<W: Named, M: Mailbox<W>, R: Wait>(
     mut taker: M::Taker,
     mut lanes: u32,
 ) -> Result<Vec<Envelope>, AllocError>
-where
-    M::Taker: Drop,
     requires taker { M.is_taker mailbox.now taker }
 {
     let mut taken = Vec::new(alloc);
@@ -119,8 +117,8 @@ fn all_three<W: Named + Send + Sync, M: Mailbox<W> + Send + Sync, R: Threads + W
     second: LaneLines,
 ) -> Result<Vec<Envelope>, AllocError>
 where
-    M::Sender: Drop + Send,
-    M::Taker: Drop + Send,
+    M::Sender: Send,
+    M::Taker: Send,
     requires one { M.is_sender mailbox.now one × IsFresh first.lane (M.sends_of one) × CarriesLines W.world first.lane first.lines.items }
     requires two { M.is_sender mailbox.now two × IsFresh second.lane (M.sends_of two) × CarriesLines W.world second.lane second.lines.items }
     requires taker { M.is_taker mailbox.now taker }
@@ -153,8 +151,8 @@ pub fn two_threads_hand_over_lines<
     R: Threads + Wait + Sync,
 >(rt: &R, alloc: Global, first: LaneLines, second: LaneLines) -> Option<Vec<Envelope>>
 where
-    M::Sender: Drop + Send,
-    M::Taker: Drop + Send,
+    M::Sender: Send,
+    M::Taker: Send,
     requires apart { same_lane first.lane second.lane ≡ false }
     requires first { CarriesLines W.world first.lane first.lines.items }
     requires second { CarriesLines W.world second.lane second.lines.items }

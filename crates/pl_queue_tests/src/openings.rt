@@ -50,11 +50,7 @@ pub fn refusal<W: Named, M: Mailbox<W> + Drop>(
     lanes: u16,
     senders: u32,
     capacity: usize,
-) -> Option<OpenRefusal>
-where
-    M::Sender: Drop,
-    M::Taker: Drop,
-{
+) -> Option<OpenRefusal> {
     let Ok(lists) = lists(alloc, lanes, 1, senders) else {
         return Some(OpenRefusal::Memory);
     };
@@ -69,9 +65,6 @@ pub fn open_one<W: Named, M: Mailbox<W> + Drop>(
     alloc: Global,
     lane: Lane,
 ) -> Result<(M, M::Sender, M::Taker), OpenRefusal>
-where
-    M::Sender: Drop,
-    M::Taker: Drop,
     ensures sender { IfOk result (λ r. M.is_sender r.0 r.1 × IsFresh lane (M.sends_of r.1)) }
     ensures taker { IfOk result (λ r. M.is_taker r.0 r.2 × (taking_lanes (M.takes_of r.2) ≡ lane ∷ [])) }
 {
@@ -95,9 +88,6 @@ pub fn open_two<W: Named, M: Mailbox<W> + Drop>(
     second: Lane,
     capacity: usize,
 ) -> Result<(M, M::Sender, M::Sender, M::Taker), OpenRefusal>
-where
-    M::Sender: Drop,
-    M::Taker: Drop,
     requires apart { same_lane first second ≡ false }
     ensures one { IfOk result (λ r. M.is_sender r.0 r.1 × IsFresh first (M.sends_of r.1)) }
     ensures two { IfOk result (λ r. M.is_sender r.0 r.2 × IsFresh second (M.sends_of r.2)) }

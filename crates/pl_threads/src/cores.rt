@@ -22,10 +22,7 @@ use std::sync::Wait;
 
 /// The nodes of an executor, the list on which they put what they make, and what waits for others.
 #[derive(Drop)]
-pub struct Core<'a, W: Named, M: Mailbox<W> + Drop, N: Nodes<W> + Drop>
-where
-    M::Sender: Drop,
-{
+pub struct Core<'a, W: Named, M: Mailbox<W> + Drop, N: Nodes<W> + Drop> {
     /// The executor's number.
     pub number: usize,
     pub nodes: N,
@@ -33,10 +30,7 @@ where
     pub work: Outputs,
 }
 
-impl<'a, W: Named, M: Mailbox<W> + Drop, N: Nodes<W> + Drop> Core<'a, W, M, N>
-where
-    M::Sender: Drop,
-{
+impl<'a, W: Named, M: Mailbox<W> + Drop, N: Nodes<W> + Drop> Core<'a, W, M, N> {
     /// Takes the front of the work list: a direct call, or an item for another executor, to its outbox. Where that executor
     /// is closed, the context that wrote it fails. The seat there is never spent. False where the list is empty.
     pub fn step(&mut self) -> bool

@@ -44,11 +44,7 @@ pub enum Turn {
 /// An executor between two of its steps: its nodes with what waits for others, and its own queue with the right to close it.
 /// Nothing is on its work list.
 #[derive(Drop)]
-pub struct Executor<'a, W: Named, M: Mailbox<W> + Drop, N: Nodes<W> + Drop>
-where
-    M::Sender: Drop,
-    M::Taker: Drop,
-{
+pub struct Executor<'a, W: Named, M: Mailbox<W> + Drop, N: Nodes<W> + Drop> {
     core: Core<'a, W, M, N>,
     inbox: &'a Inbox<W, M>,
     taker: M::Taker,
@@ -61,11 +57,7 @@ where
     turns: u64,
 }
 
-impl<'a, W: Named, M: Mailbox<W> + Drop, N: Nodes<W> + Drop> Model for Executor<'a, W, M, N>
-where
-    M::Sender: Drop,
-    M::Taker: Drop,
-{
+impl<'a, W: Named, M: Mailbox<W> + Drop, N: Nodes<W> + Drop> Model for Executor<'a, W, M, N> {
     ghost use Rattle.std.specs.Prelude.{◌≡◌, ◌<◌, ◌^◌, []};
     ghost use Rattle.pl_threads.specs.Cores.{CoreHolds};
     ghost use Rattle.pl_threads.specs.Running.{ExecutorView, IsTaking, IsCounting};
@@ -83,11 +75,7 @@ where
         × (e.core.number < 2 ^ 16) };
 }
 
-impl<'a, W: Named, M: Mailbox<W> + Drop, N: Nodes<W> + Drop> Executor<'a, W, M, N>
-where
-    M::Sender: Drop,
-    M::Taker: Drop,
-{
+impl<'a, W: Named, M: Mailbox<W> + Drop, N: Nodes<W> + Drop> Executor<'a, W, M, N> {
     /// An executor with these nodes and outboxes, and the taker and the owner's seat of its own inbox, from which nothing was
     /// taken, and which is accepting. What the taker is to take first is the next of its lane for the nodes. These write
     /// fewer than 2^13 lanes, and no seat has made an admission: so none is ever spent.

@@ -14,10 +14,7 @@ use std::marker::{Model, PhantomData};
 /// that as many as were admitted; what waits for others, which is nothing; and the first of its seats that has seen its
 /// target closed. There is one where a node has failed by a refusal.
 #[derive(Drop)]
-pub struct Finished<W: Named, M: Mailbox<W> + Drop, N: Nodes<W> + Drop>
-where
-    M::Taker: Drop,
-{
+pub struct Finished<W: Named, M: Mailbox<W> + Drop, N: Nodes<W> + Drop> {
     number: usize,
     nodes: N,
     owner: OwnerSeat,
@@ -27,10 +24,7 @@ where
     of: PhantomData<W>,
 }
 
-impl<W: Named, M: Mailbox<W> + Drop, N: Nodes<W> + Drop> Model for Finished<W, M, N>
-where
-    M::Taker: Drop,
-{
+impl<W: Named, M: Mailbox<W> + Drop, N: Nodes<W> + Drop> Model for Finished<W, M, N> {
     ghost use Rattle.pl_threads.specs.Running.{FinishedView, IsFinished};
 
     ghost Value = { FinishedView N };
@@ -40,10 +34,7 @@ where
     ghost invariant = { λ f. N.stands f.nodes × N.are_over f.nodes × IsFinished N.was_refused (record { number = f.number; nodes = f.nodes; owner = f.owner; takes = M.takes_of f.taker; waiting = f.waiting; refusal = f.refusal }) };
 }
 
-impl<W: Named, M: Mailbox<W> + Drop, N: Nodes<W> + Drop> Finished<W, M, N>
-where
-    M::Taker: Drop,
-{
+impl<W: Named, M: Mailbox<W> + Drop, N: Nodes<W> + Drop> Finished<W, M, N> {
     /// What an executor leaves.
     pub(crate) fn new(
         number: usize,

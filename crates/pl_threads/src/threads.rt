@@ -58,10 +58,7 @@ impl<G: Gate> Model for Promised<G> {
 
 impl<G: Gate, W: Named, M: Mailbox<W> + Drop, N: Nodes<W> + Drop> thread::Promise<
     Option<Finished<W, M, N>>,
-> for Promised<G>
-where
-    M::Taker: Drop,
-{
+> for Promised<G> {
     ghost use Rattle.std.specs.Prelude.{◌≡◌, IfSome};
     ghost use Rattle.pl_threads.specs.Running.{EndsAs};
 
@@ -87,8 +84,8 @@ fn start_each<
     executors: Vec<(Executor<'a, W, M, N>, Parker)>,
 ) -> Result<Vec<PromisedHandle<Option<Finished<W, M, N>>, Promised<G>>>, RunFault>
 where
-    M::Sender: Drop + Send + 's,
-    M::Taker: Drop + Send + 's,
+    M::Sender: Send + 's,
+    M::Taker: Send + 's,
     ensures { IfOk result (λ handles. map (λ h. h.promise) handles.items ≡ map (λ e. record { gate = gate.now; number = e.0.number; turn = e.0.turns; owner = e.0.owner }) executors.entry.items) }
 {
     let mut handles = Vec::with_capacity(alloc, executors.len())?;
@@ -119,8 +116,6 @@ fn join_all<W: Named, M: Mailbox<W> + Drop, N: Nodes<W> + Drop, G: Gate, R: Thre
     handles: Vec<PromisedHandle<Option<Finished<W, M, N>>, Promised<G>>>,
     mut all: Vec<Finished<W, M, N>>,
 ) -> Result<Vec<Finished<W, M, N>>, RunFault>
-where
-    M::Taker: Drop,
     requires { all.items ≡ [] }
     ensures ended { IfOk result (λ all. AllZip (λ p f. EndsAs N.was_refused N.home p.number p.owner f) (map (λ h. h.promise) handles.items) all.items) }
     ensures entered { IfOk result (λ _. All (λ h. G.was_entered h.promise.gate h.promise.number h.promise.turn) handles.items) }
@@ -154,8 +149,8 @@ pub fn run_all<
     executors: Vec<(Executor<'a, W, M, N>, Parker)>,
 ) -> Result<Vec<Finished<W, M, N>>, RunFault>
 where
-    M::Sender: Drop + Send,
-    M::Taker: Drop + Send,
+    M::Sender: Send,
+    M::Taker: Send,
     ensures ended { IfOk result (λ all. AllZip (λ e f. EndsAs N.was_refused N.home e.0.number e.0.owner f) executors.entry.items all.items) }
     // The gate was told of the first turn of each.
     ensures entered { IfOk result (λ _. All (λ e. G.was_entered gate.now e.0.number e.0.turns) executors.entry.items) }

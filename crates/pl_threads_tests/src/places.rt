@@ -8,20 +8,14 @@ use pl_words::{OwnerSeat, SendSeat};
 
 /// The way to an executor: a sender of its mailbox, and a seat of its admission.
 #[derive(Drop)]
-pub(crate) struct Way<W: Named, M: Mailbox<W>>
-where
-    M::Sender: Drop,
-{
+pub(crate) struct Way<W: Named, M: Mailbox<W>> {
     pub(crate) sender: M::Sender,
     pub(crate) seat: SendSeat,
 }
 
 /// On what an executor rests, and its own ends of its inbox.
 #[derive(Drop)]
-pub(crate) struct Own<W: Named, M: Mailbox<W>>
-where
-    M::Taker: Drop,
-{
+pub(crate) struct Own<W: Named, M: Mailbox<W>> {
     pub(crate) parker: Parker,
     pub(crate) taker: M::Taker,
     pub(crate) owner: OwnerSeat,
@@ -37,11 +31,7 @@ pub(crate) struct Inboxes<W: Named, M: Mailbox<W> + Drop> {
 
 /// What an executor has of three inboxes: its own ends, and the ways to all.
 #[derive(Drop)]
-pub(crate) struct Place<W: Named, M: Mailbox<W>>
-where
-    M::Sender: Drop,
-    M::Taker: Drop,
-{
+pub(crate) struct Place<W: Named, M: Mailbox<W>> {
     pub(crate) own: Own<W, M>,
     pub(crate) first: Way<W, M>,
     pub(crate) second: Way<W, M>,
@@ -50,11 +40,7 @@ where
 
 /// What executors 0, 1 and 2 have of their inboxes.
 #[derive(Drop)]
-pub(crate) struct Places<W: Named, M: Mailbox<W>>
-where
-    M::Sender: Drop,
-    M::Taker: Drop,
-{
+pub(crate) struct Places<W: Named, M: Mailbox<W>> {
     pub(crate) first: Place<W, M>,
     pub(crate) second: Place<W, M>,
     pub(crate) third: Place<W, M>,

@@ -18,11 +18,7 @@ pub fn refusal<W: Named, M: Mailbox<W> + Drop>(
     lanes: u16,
     senders: u32,
     capacity: usize,
-) -> Option<OpenRefusal>
-where
-    M::Sender: Drop,
-    M::Taker: Drop,
-{
+) -> Option<OpenRefusal> {
     let Ok(lists) = lists(alloc, lanes, 1, senders) else {
         return Some(OpenRefusal::Memory);
     };
@@ -37,9 +33,6 @@ fn open_one<W: Named, M: Mailbox<W> + Drop>(
     alloc: Global,
     capacity: usize,
 ) -> Option<(Post<W, M>, PostSeat<W, M>, PostOwner<W, M>)>
-where
-    M::Sender: Drop,
-    M::Taker: Drop,
     ensures seat { IfSome result (λ r. IsSeatOf M.is_sender r.0 r.1 × IsNext (flags_lane 0 0) 0 (M.sends_of r.1.sender)) }
     ensures owner { IfSome result (λ r. IsOwnerOf M.is_taker r.0 r.2) }
 {
@@ -79,9 +72,6 @@ fn send_next<W: Named, M: Mailbox<W> + Drop, R: Wait>(
     seat: &mut PostSeat<W, M>,
     next: &mut u64,
 ) -> Answer
-where
-    M::Sender: Drop,
-    M::Taker: Drop,
     requires seat { IsSeatOf M.is_sender post.now seat.old }
     requires next { IsNext (flags_lane 0 0) next.old (M.sends_of seat.old.sender) }
     requires small { next.old < 2 ^ 32 }
@@ -116,9 +106,6 @@ fn take_next<W: Named, M: Mailbox<W> + Drop, R: Wait>(
     post: &Post<W, M>,
     owner: &mut PostOwner<W, M>,
 ) -> Answer
-where
-    M::Sender: Drop,
-    M::Taker: Drop,
     requires owner { IsOwnerOf M.is_taker post.now owner.old }
     ensures owner { IsOwnerOf M.is_taker post.now owner.new }
 {
@@ -134,9 +121,6 @@ where
 
 // An attempt to close.
 fn finish<W: Named, M: Mailbox<W> + Drop>(post: &Post<W, M>, owner: &mut PostOwner<W, M>) -> Answer
-where
-    M::Sender: Drop,
-    M::Taker: Drop,
     requires owner { IsOwnerOf M.is_taker post.now owner.old }
     ensures owner { IsOwnerOf M.is_taker post.now owner.new }
 {
@@ -152,11 +136,7 @@ pub fn answers<W: Named, M: Mailbox<W> + Drop, R: Wait>(
     rt: &R,
     alloc: Global,
     sends: u32,
-) -> Option<Vec<Answer>>
-where
-    M::Sender: Drop,
-    M::Taker: Drop,
-{
+) -> Option<Vec<Answer>> {
     let (post, seat, owner) = open_one::<W, M>(alloc, 1)?;
     ask::<W, M, R>(rt, alloc, &post, seat, owner, sends)
 }
@@ -170,9 +150,6 @@ fn ask<W: Named, M: Mailbox<W> + Drop, R: Wait>(
     mut owner: PostOwner<W, M>,
     sends: u32,
 ) -> Option<Vec<Answer>>
-where
-    M::Sender: Drop,
-    M::Taker: Drop,
     requires seat { IsSeatOf M.is_sender post.now seat × IsNext (flags_lane 0 0) 0 (M.sends_of seat.sender) }
     requires owner { IsOwnerOf M.is_taker post.now owner }
 {

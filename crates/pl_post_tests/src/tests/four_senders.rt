@@ -20,10 +20,7 @@ use std::thread::Threads;
 
 /// A seat with the lanes of 64 channels, and what was sent on them.
 #[derive(Drop)]
-pub struct Feeder<W: Named, M: Mailbox<W>>
-where
-    M::Sender: Drop,
-{
+pub struct Feeder<W: Named, M: Mailbox<W>> {
     seat: PostSeat<W, M>,
     /// The first of its channels.
     first: u16,
@@ -57,9 +54,6 @@ fn lists(alloc: Global) -> Result<Vec<Vec<Lane>>, AllocError>
 fn open_four<W: Named, M: Mailbox<W> + Drop>(
     alloc: Global,
 ) -> Result<(Post<W, M>, Vec<Feeder<W, M>>, PostOwner<W, M>), OpenRefusal>
-where
-    M::Sender: Drop,
-    M::Taker: Drop,
     ensures feeders { IfOk result (λ r. Each (λ f. IsInTurn M.is_sender M.sends_of r.0 f.seat f.first f.sent) r.1.items) }
     ensures owner { IfOk result (λ r. IsOwnerOf M.is_taker r.0 r.2 × (r.2.owner.phase ≡ Accepting)) }
 {
@@ -85,9 +79,6 @@ fn feed_in_turn<W: Named, M: Mailbox<W> + Drop, R: Wait>(
     post: &Post<W, M>,
     feeder: &mut Feeder<W, M>,
 )
-where
-    M::Sender: Drop,
-    M::Taker: Drop,
     requires feeder { IsInTurn M.is_sender M.sends_of post.now feeder.old.seat feeder.old.first feeder.old.sent }
     requires world { CarriesAll W.world }
     ensures feeder { IsInTurn M.is_sender M.sends_of post.now feeder.new.seat feeder.new.first feeder.new.sent }
@@ -116,8 +107,8 @@ fn feed_all<W: Named + Send + Sync, M: Mailbox<W> + Drop + Send + Sync, R: Threa
     mut feeders: Vec<Feeder<W, M>>,
 ) -> Vec<Feeder<W, M>>
 where
-    M::Sender: Drop + Send,
-    M::Taker: Drop + Send,
+    M::Sender: Send,
+    M::Taker: Send,
     requires feeders { Each (λ f. IsInTurn M.is_sender M.sends_of post.now f.seat f.first f.sent) feeders.items }
     requires world { CarriesAll W.world }
     ensures feeders { Each (λ f. IsInTurn M.is_sender M.sends_of post.now f.seat f.first f.sent) result.items }
@@ -151,9 +142,6 @@ fn send_after<W: Named, M: Mailbox<W> + Drop, R: Wait>(
     post: &Post<W, M>,
     mut feeder: Feeder<W, M>,
 ) -> Sent
-where
-    M::Sender: Drop,
-    M::Taker: Drop,
     requires feeder { IsInTurn M.is_sender M.sends_of post.now feeder.seat feeder.first feeder.sent }
     requires world { CarriesAll W.world }
 {
@@ -191,8 +179,8 @@ pub fn four_send_while_closing<
     R: Threads + Wait + Sync,
 >(rt: &R, alloc: Global) -> Option<FourSent>
 where
-    M::Sender: Drop + Send,
-    M::Taker: Drop + Send,
+    M::Sender: Send,
+    M::Taker: Send,
     requires world { CarriesAll W.world }
 {
     let Ok((opened, feeders, owner)) = open_four::<W, M>(alloc) else {

@@ -65,9 +65,6 @@ fn send_next<W: Named, M: Mailbox<W> + Drop, R: Wait>(
     channel: u16,
     number: u64,
 ) -> Result<(), Unsent>
-where
-    M::Sender: Drop,
-    M::Taker: Drop,
     requires seat { IsSeatOf M.is_sender post.now seat }
     requires next { IsNext (the_data_lane channel 0) number (M.sends_of seat.sender) }
     requires few { number ≤ 999 }
@@ -84,8 +81,8 @@ pub fn two_send_while_closing<
     R: Threads + Wait + Sync,
 >(rt: &R, alloc: Global) -> Option<Load>
 where
-    M::Sender: Drop + Send,
-    M::Taker: Drop + Send,
+    M::Sender: Send,
+    M::Taker: Send,
     requires first { content_of W.world (the_data_lane 0 0) ≡ Some (lane_events 999) }
     requires second { content_of W.world (the_data_lane 1 0) ≡ Some (lane_events 999) }
 {

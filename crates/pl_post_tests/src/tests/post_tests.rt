@@ -213,11 +213,7 @@ fn closes_with_nothing_sent(rt: HostRuntime) -> Result<(), Fail> {
     Ok(())
 }
 
-fn post_limits<W: Named, M: Mailbox<W> + Drop>(rt: &impl Abort, alloc: Global)
-where
-    M::Sender: Drop,
-    M::Taker: Drop,
-{
+fn post_limits<W: Named, M: Mailbox<W> + Drop>(rt: &impl Abort, alloc: Global) {
     let limit = Some(OpenRefusal::Limit);
     assert_eq!(rt; refusal::<W, M>(alloc, 1, 1, 0), limit);
     assert_eq!(rt; refusal::<W, M>(alloc, 1, 1, 1), None);

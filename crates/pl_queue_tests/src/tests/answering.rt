@@ -62,11 +62,7 @@ pub fn answers<W: Named, M: Mailbox<W> + Drop, R: Wait>(
     rt: &R,
     alloc: Global,
     offers: u32,
-) -> Option<Vec<Answer>>
-where
-    M::Sender: Drop,
-    M::Taker: Drop,
-{
+) -> Option<Vec<Answer>> {
     let (mailbox, mut sender, mut taker) = open_one::<W, M>(alloc, lane(0, 0)).ok()?;
     let mut answers = Vec::new(alloc);
     answers

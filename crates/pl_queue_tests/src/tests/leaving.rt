@@ -29,9 +29,6 @@ pub fn leave_one<W: Named, M: Mailbox<W> + Drop, R: Wait>(
     alloc: Global,
     lane: Lane,
 ) -> Result<Relayed, Stopped>
-where
-    M::Sender: Drop,
-    M::Taker: Drop,
     requires world { (lane.kind ≡ Data) × (content_of W.world lane ≡ Some (lane_events 2)) }
 {
     let (mailbox, mut sender, mut taker) = match open_one::<W, M>(alloc, lane) {

@@ -183,8 +183,8 @@ fn all_three<W: Named + Send + Sync, M: Mailbox<W> + Send + Sync, R: Threads + W
     (M::Taker, Result<Vec<Envelope>, AllocError>),
 )
 where
-    M::Sender: Drop + Send,
-    M::Taker: Drop + Send,
+    M::Sender: Send,
+    M::Taker: Send,
     requires one { M.is_sender mailbox.now senders.0 × IsFresh lanes.first (M.sends_of senders.0) }
     requires two { M.is_sender mailbox.now senders.1 × IsFresh lanes.second (M.sends_of senders.1) }
     requires small { lanes.last < 2 ^ 32 }
@@ -228,8 +228,8 @@ pub fn relay<W: Named + Send + Sync, M: Mailbox<W> + Drop + Send + Sync, R: Thre
     capacity: usize,
 ) -> Option<Relayed>
 where
-    M::Sender: Drop + Send,
-    M::Taker: Drop + Send,
+    M::Sender: Send,
+    M::Taker: Send,
     requires apart { same_lane lanes.first lanes.second ≡ false }
     requires small { lanes.last < 2 ^ 31 }
     requires first { (lanes.first.kind ≡ Data) × (content_of W.world lanes.first ≡ Some (lane_events lanes.last)) }

@@ -28,10 +28,7 @@ impl Gate for NoGate {
 
 /// The way by which flags come to an executor.
 #[derive(Drop)]
-pub(crate) struct Feed<'a, W: Named, M: Mailbox<W> + Drop>
-where
-    M::Sender: Drop,
-{
+pub(crate) struct Feed<'a, W: Named, M: Mailbox<W> + Drop> {
     executor: u16,
     inbox: &'a Inbox<W, M>,
     way: Way<W, M>,
@@ -39,10 +36,7 @@ where
     next: u32,
 }
 
-impl<'a, W: Named, M: Mailbox<W> + Drop> Model for Feed<'a, W, M>
-where
-    M::Sender: Drop,
-{
+impl<'a, W: Named, M: Mailbox<W> + Drop> Model for Feed<'a, W, M> {
     ghost use Rattle.std.specs.Prelude.{◌≡◌, ◌∷◌, ℕ, [], false};
     ghost use Rattle.pl_queue.specs.Views.{send_count};
     ghost use Rattle.pl_threads_tests.specs.Nodes.{lane_to};
@@ -56,10 +50,7 @@ where
         × (f.way.seat.name ≡ f.inbox.now.admission.name) };
 }
 
-impl<'a, W: Named, M: Mailbox<W> + Drop> Feed<'a, W, M>
-where
-    M::Sender: Drop,
-{
+impl<'a, W: Named, M: Mailbox<W> + Drop> Feed<'a, W, M> {
     /// The way to the executor that an inbox is of.
     fn new(executor: u16, inbox: &'a Inbox<W, M>, way: Way<W, M>) -> Self
         requires { IsWay M.is_taker M.takes_of M.is_sender M.sends_of inbox.now (lane_to executor ∷ []) way }
@@ -109,18 +100,12 @@ where
 
 /// What comes to another executor.
 #[derive(Drop)]
-pub(crate) struct Sink<'a, W: Named, M: Mailbox<W> + Drop>
-where
-    M::Taker: Drop,
-{
+pub(crate) struct Sink<'a, W: Named, M: Mailbox<W> + Drop> {
     inbox: &'a Inbox<W, M>,
     own: Own<W, M>,
 }
 
-impl<'a, W: Named, M: Mailbox<W> + Drop> Model for Sink<'a, W, M>
-where
-    M::Taker: Drop,
-{
+impl<'a, W: Named, M: Mailbox<W> + Drop> Model for Sink<'a, W, M> {
     ghost use Rattle.std.specs.Prelude.{◌≡◌};
     ghost use Rattle.pl_words.specs.Admissions.{OwnerSeatView};
 
@@ -131,10 +116,7 @@ where
     ghost invariant = { λ s. M.is_taker s.inbox.now.mailbox s.own.taker × (s.own.owner.name ≡ s.inbox.now.admission.name) };
 }
 
-impl<'a, W: Named, M: Mailbox<W> + Drop> Sink<'a, W, M>
-where
-    M::Taker: Drop,
-{
+impl<'a, W: Named, M: Mailbox<W> + Drop> Sink<'a, W, M> {
     fn new(inbox: &'a Inbox<W, M>, own: Own<W, M>) -> Self
         requires taker { M.is_taker inbox.now.mailbox own.taker }
         requires owner { own.owner ≡ new_owner_seat inbox.now.admission.name }
@@ -160,11 +142,7 @@ where
 
 /// Executor 2, which makes flags for executors 0 and 1.
 #[derive(Drop)]
-pub(crate) struct Alone<'a, W: Named, M: Mailbox<W> + Drop>
-where
-    M::Sender: Drop,
-    M::Taker: Drop,
-{
+pub(crate) struct Alone<'a, W: Named, M: Mailbox<W> + Drop> {
     pub(crate) executor: Executor<'a, W, M, Node>,
     /// On which it rests.
     parker: Parker,
@@ -181,11 +159,7 @@ pub(crate) struct Ran {
     pub(crate) second: [Option<u64>; 3],
 }
 
-impl<'a, W: Named, M: Mailbox<W> + Drop> Alone<'a, W, M>
-where
-    M::Sender: Drop,
-    M::Taker: Drop,
-{
+impl<'a, W: Named, M: Mailbox<W> + Drop> Alone<'a, W, M> {
     /// It runs to its end, or leaves where it is told so.
     pub(crate) fn run<R: Wait>(self, rt: &R, begins: bool) -> Ran {
         let Alone {
@@ -211,11 +185,7 @@ fn left<W: Named, M: Mailbox<W> + Drop, R: Wait>(
     executor: Executor<'_, W, M, Node>,
     parker: Parker,
     begins: bool,
-) -> Option<Node>
-where
-    M::Sender: Drop,
-    M::Taker: Drop,
-{
+) -> Option<Node> {
     let start = Start::new();
     start.tell(begins);
     let finished = executor.run(rt, &NoGate, &start, parker)?;
@@ -231,9 +201,6 @@ pub(crate) fn set_apart<'a, W: Named, M: Mailbox<W> + Drop>(
     counts: (u32, u32),
     expected: u64,
 ) -> Result<Alone<'a, W, M>, AllocError>
-where
-    M::Sender: Drop,
-    M::Taker: Drop,
     requires { ArePlaces M.is_taker M.takes_of M.is_sender M.sends_of inboxes.now places }
 {
     let Places {

@@ -63,11 +63,7 @@ fn admission_closes(rt: HostRuntime) -> Result<(), Fail> {
 fn run_refused<W: Named, M: Mailbox<W> + Drop, R: Wait>(
     rt: &R,
     alloc: Global,
-) -> Result<Option<Ran>, Fail>
-where
-    M::Sender: Drop,
-    M::Taker: Drop,
-{
+) -> Result<Option<Ran>, Fail> {
     let (inboxes, places) = open_three::<W, M>(alloc, 8)?;
     let mut alone = set_apart(alloc, &inboxes, places, (3, 2), 0)?;
     if !alone.first.close(0) {
@@ -81,11 +77,7 @@ where
 fn is_refused<W: Named, M: Mailbox<W> + Drop, R: Abort + Wait>(
     rt: &R,
     alloc: Global,
-) -> Result<(), Fail>
-where
-    M::Sender: Drop,
-    M::Taker: Drop,
-{
+) -> Result<(), Fail> {
     let ran = run_refused::<W, M, R>(rt, alloc)?.ok_or("not closed")?;
     let node = ran.node.ok_or("not run")?;
     assert!(rt; node.refusals == 1 && node.first.made == 1 && node.second.made == 2);

@@ -43,9 +43,6 @@ fn open<W: Named, M: Mailbox<W> + Drop>(
     executor: u16,
     capacity: usize,
 ) -> Result<(Inbox<W, M>, Own<W, M>, (Way<W, M>, Way<W, M>, Way<W, M>)), OpenRefusal>
-where
-    M::Sender: Drop,
-    M::Taker: Drop,
     ensures { IfOk result (λ r. IsOpened M.is_taker M.takes_of M.is_sender M.sends_of executor r.0 r.1 r.2.0 r.2.1 r.2.2) }
 {
     let (mailbox, senders, taker) = M::open(alloc, lanes(alloc, executor)?, capacity)?;
@@ -81,9 +78,6 @@ pub(crate) fn open_three<W: Named, M: Mailbox<W> + Drop>(
     alloc: Global,
     capacity: usize,
 ) -> Result<(Inboxes<W, M>, Places<W, M>), OpenRefusal>
-where
-    M::Sender: Drop,
-    M::Taker: Drop,
     ensures { IfOk result (λ r. ArePlaces M.is_taker M.takes_of M.is_sender M.sends_of r.0 r.1) }
 {
     let (first, first_own, to_first) = open::<W, M>(alloc, 0, capacity)?;

@@ -51,11 +51,7 @@ pub(crate) const IDLE: Expected = (Call::Turn, Answer::Turned(Turn::Idle));
 
 pub(crate) const DONE: Expected = (Call::Turn, Answer::Turned(Turn::Done));
 
-impl<'a, W: Named, M: Mailbox<W> + Drop> Alone<'a, W, M>
-where
-    M::Sender: Drop,
-    M::Taker: Drop,
-{
+impl<'a, W: Named, M: Mailbox<W> + Drop> Alone<'a, W, M> {
     /// Makes a call, and answers what it answers.
     fn apply<R: Wait>(&mut self, rt: &R, call: Call) -> Answer {
         match call {
@@ -83,11 +79,7 @@ pub(crate) fn play<W: Named, M: Mailbox<W> + Drop, R: Abort + Wait>(
     counts: (u32, u32),
     expected: u64,
     rows: &[Expected],
-) -> Result<(), Fail>
-where
-    M::Sender: Drop,
-    M::Taker: Drop,
-{
+) -> Result<(), Fail> {
     let (inboxes, places) = open_three::<W, M>(alloc, capacity)?;
     let mut alone = set_apart(alloc, &inboxes, places, counts, expected)?;
     for (row, (call, answer)) in rows.iter().enumerate() {

@@ -18,8 +18,6 @@ fn outbox<'a, W: Named, M: Mailbox<W> + Drop>(
     inbox: &'a Inbox<W, M>,
     way: Way<W, M>,
 ) -> Outbox<'a, W, M>
-where
-    M::Sender: Drop,
     requires sender { M.is_sender inbox.now.mailbox way.sender }
     requires seat { way.seat.name ≡ inbox.now.admission.name }
     ensures { result ≡ record { sends = M.sends_of way.sender; seat = way.seat } }
@@ -35,8 +33,6 @@ fn three<'a, W: Named, M: Mailbox<W> + Drop>(
     second: Outbox<'a, W, M>,
     third: Outbox<'a, W, M>,
 ) -> Result<Vec<Outbox<'a, W, M>>, AllocError>
-where
-    M::Sender: Drop,
     ensures { IfOk result (λ outboxes. outboxes.items ≡ first.entry ∷ second.entry ∷ third.entry ∷ []) }
 {
     let mut outboxes = Vec::new(alloc);
@@ -64,9 +60,6 @@ pub(crate) fn executor<'a, W: Named, M: Mailbox<W> + Drop>(
     place: Place<W, M>,
     node: Node,
 ) -> Result<(Executor<'a, W, M, Node>, Parker), AllocError>
-where
-    M::Sender: Drop,
-    M::Taker: Drop,
     requires place { IsPlace M.is_taker M.takes_of M.is_sender M.sends_of inboxes.now node.executor place }
     requires ready { IsReady node }
 {
@@ -142,9 +135,6 @@ fn add<'a, W: Named, M: Mailbox<W> + Drop>(
     place: Place<W, M>,
     node: Node,
 ) -> Result<(), AllocError>
-where
-    M::Sender: Drop,
-    M::Taker: Drop,
     requires place { IsPlace M.is_taker M.takes_of M.is_sender M.sends_of inboxes.now node.executor place }
     requires ready { IsReady node }
 {
@@ -161,9 +151,6 @@ pub(crate) fn three_executors<'a, W: Named, M: Mailbox<W> + Drop>(
     places: Places<W, M>,
     count: u32,
 ) -> Result<Vec<(Executor<'a, W, M, Node>, Parker)>, AllocError>
-where
-    M::Sender: Drop,
-    M::Taker: Drop,
     requires { ArePlaces M.is_taker M.takes_of M.is_sender M.sends_of inboxes.now places }
 {
     let Places {

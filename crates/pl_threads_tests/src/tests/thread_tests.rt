@@ -30,8 +30,8 @@ fn run_three<W: Named + Send + Sync, M: Mailbox<W> + Drop + Send + Sync, R: Thre
     count: u32,
 ) -> Result<Vec<(u16, bool)>, Fail>
 where
-    M::Sender: Drop + Send,
-    M::Taker: Drop + Send,
+    M::Sender: Send,
+    M::Taker: Send,
 {
     let (inboxes, places) = open_three::<W, M>(alloc, capacity)?;
     let executors = three_executors(alloc, &inboxes, places, count)?;
