@@ -26,3 +26,14 @@ pub record IsPath {S : Type 0} (meaning : S → Meaning) (stands_after : S → L
   pub hops : length path.executors ≡ length path.inbound + length path.outbound + 2
   pub order : path.low ≤ path.high
   pub high : path.high ≤ MAX_MARK
+
+-- The two chains of a pipeline that was built are its handlers. None of them has had a step. Inbound there is one turn,
+-- and no outbound handler; outbound there are no others.
+pub record AreChains {S : Type 0} (meaning : S → Meaning) (stands_after : S → List Event → Type 0) (path : PlacedView S) (up down : List S) : Type 0 where
+  pub inbound : up ≡ path.inbound
+  pub outbound : down ≡ path.outbound
+  pub new_inbound : All (λ stage. stands_after stage []) up
+  pub new_outbound : All (λ stage. stands_after stage []) down
+  pub upwards : All (λ stage. is_outbound (meaning stage).direction ≡ false) up
+  pub downwards : All (λ stage. is_outbound (meaning stage).direction ≡ true) down
+  pub turn : count_by (λ stage. is_turn (meaning stage).direction) up ≡ 1

@@ -1,7 +1,6 @@
 //! A pipeline that was built: its two chains, and the executor of each hop.
 
-ghost use Rattle.std.specs.Prelude.{◌≡◌, ◌+◌, ◌<◌, ◌≤◌, ◌↔◌, [], length, slice_get, IsSome, All, true, false, count_by};
-ghost use Rattle.pl_event.specs.Paths.{is_outbound, is_turn};
+ghost use Rattle.std.specs.Prelude.{◌≡◌, ◌+◌, ◌<◌, ◌≤◌, ◌↔◌, length, slice_get, IsSome};
 
 use crate::limits::{MAX_HANDLERS, MAX_MARK};
 use pl_event::Stage;
@@ -39,7 +38,7 @@ impl<S: Stage> Model for Placed<S> {
 }
 
 impl<S: Stage> Placed<S> {
-    ghost use Rattle.pl_build.specs.Paths.{IsPath};
+    ghost use Rattle.pl_build.specs.Paths.{IsPath, AreChains};
     ghost use Rattle.pl_build.specs.Pipelines.{hop_of_turn};
 
     /// The executor of the context that a hop enters, or None past the head. It takes no memory.
@@ -94,19 +93,23 @@ impl<S: Stage> Placed<S> {
     /// The inbound handlers from first to last, and the outbound handlers from the nearest to the turn to the first.
     /// It takes no memory.
     pub fn into_chains(self) -> (Vec<S>, Vec<S>)
-        ensures inbound { result.0.items ≡ self.inbound }
-        ensures outbound { result.1.items ≡ self.outbound }
-        ensures new_inbound { All (λ stage. S.stands_after stage []) result.0.items }
-        ensures new_outbound { All (λ stage. S.stands_after stage []) result.1.items }
-        ensures upwards { All (λ stage. is_outbound (S.meaning stage).direction ≡ false) result.0.items }
-        ensures downwards { All (λ stage. is_outbound (S.meaning stage).direction ≡ true) result.1.items }
-        ensures turn { count_by (λ stage. is_turn (S.meaning stage).direction) result.0.items ≡ 1 }
+        ensures { AreChains S.meaning S.stands_after self result.0.items result.1.items }
+    {
+        let (inbound, outbound, _) = self.into_parts();
+        (inbound, outbound)
+    }
+
+    /// The two chains as `into_chains` gives them, and the executor of each hop. It takes no memory.
+    pub fn into_parts(self) -> (Vec<S>, Vec<S>, Vec<u16>)
+        ensures chains { AreChains S.meaning S.stands_after self result.0.items result.1.items }
+        ensures executors { result.2.items ≡ self.executors }
     {
         let Placed {
             inbound,
             outbound,
+            executors,
             ..
         } = self;
-        (inbound, outbound)
+        (inbound, outbound, executors)
     }
 }

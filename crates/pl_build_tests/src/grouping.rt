@@ -1,6 +1,6 @@
 //! Placing on loops and groups, and groups that are refused.
 
-use crate::sample::{Small, built, line_protocol};
+use crate::sample::{Small, assert_numbers, built, line_protocol};
 use pl_build::{BuildFault, Groups, Placed};
 use std::process::Abort;
 use std::test::Fail;
@@ -12,6 +12,13 @@ fn group_placing(rt: HostRuntime) -> Result<(), Fail> {
     for executor in [1, 2, 1] {
         let placed = built(line_protocol(rt.alloc(), Some("g"))?, &mut groups)?;
         assert_grouped(&rt, &placed, executor);
+        let (inbound, outbound, executors) = placed.into_parts();
+        assert_numbers(&rt, inbound.as_slice(), &[1, 2, 5]);
+        assert_numbers(&rt, outbound.as_slice(), &[4, 3]);
+        assert_eq!(rt;
+            executors.as_slice(),
+            [0, executor, executor, 0, 0, 0, 0].as_slice()
+        );
     }
     Ok(())
 }

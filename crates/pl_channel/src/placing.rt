@@ -9,7 +9,6 @@ ghost use Rattle.pl_world.specs.Worlds.{IsUncalled};
 ghost use Rattle.pl_channel.specs.Lanes.{world_of};
 ghost use Rattle.pl_channel.specs.Placing.{ArePlaced, IsWhole, HasNewStages, IsAtStart};
 
-use pl_build::Placed;
 use pl_event::Stage;
 use pl_head::{Head, Transport};
 use pl_part::ChannelPart;
@@ -55,26 +54,11 @@ pub fn place<S: Stage, T: Transport>(
         input,
         transport,
     } = recorded;
-    let executors = executors_of(alloc, &pipeline)?;
     let hop = pipeline.inbound() + 1 + pipeline.outbound();
     let low = pipeline.low();
     let high = pipeline.high();
     let turn = pipeline.turn() as usize;
-    let (inbound, outbound) = pipeline.into_chains();
+    let (inbound, outbound, executors) = pipeline.into_parts();
     let head = Head::new(alloc, number, hop, input, transport, low, high);
     ChannelPart::whole(alloc, number, executors, inbound, outbound, turn, head)
-}
-
-/// The executor of each hop.
-fn executors_of<S: Stage>(alloc: Global, pipeline: &Placed<S>) -> Result<Vec<u16>, AllocError>
-    ensures { IfOk result (λ executors. executors.items ≡ pipeline.now.executors) }
-{
-    let hops = pipeline.inbound() + pipeline.outbound() + 2;
-    let mut executors = Vec::with_capacity(alloc, hops as usize)?;
-    for hop in 0..hops {
-        if let Some(executor) = pipeline.executor_of(hop) {
-            executors.push(executor)?;
-        }
-    }
-    Ok(executors)
 }

@@ -30,10 +30,10 @@ new-head-requires-clause-few g c =
 pub whole-requires-clause-planned : goal.whole-requires-clause-planned
 whole-requires-clause-planned g c =
     let p = channel_planned g.S.Stage.meaning g.T.Transport.state c.args.recorded in
-    let chains = c.into_chains-inbound.ensures in (
+    let chains = c.into_parts-inbound.ensures.chains in (
       carrying (channel_lanes c.args.number p),
       are-planned g.S.Stage.meaning g.S.Stage.stands_after g.T.Transport.state c.args.recorded c.inbound.ensures.path c.requires.small (carrying (channel_lanes c.args.number p)) c.args.number (channel-lane c.args.number p)
-          c.turn-turn.result c.into_chains-inbound.result.0.items c.into_chains-inbound.result.1.items c.turn-turn.ensures.hop chains.inbound chains.outbound,
+          c.turn-turn.result c.into_parts-inbound.result.0.items c.into_parts-inbound.result.1.items c.turn-turn.ensures.hop chains.inbound chains.outbound,
     )
 
 -- the head is new, at the last hop
@@ -56,17 +56,17 @@ head-fresh g c =
 
 -- a world that knows the channel's lanes knows them for the two chains
 chains-planned : (g : Over) (c : After-whole g) (world : World) → Knows world c.args.number (channel_planned g.S.Stage.meaning g.T.Transport.state c.args.recorded)
-    → ArePlannedWith world g.S.Stage.meaning c.args.number c.turn-turn.result c.into_chains-inbound.result.0.items c.into_chains-inbound.result.1.items
+    → ArePlannedWith world g.S.Stage.meaning c.args.number c.turn-turn.result c.into_parts-inbound.result.0.items c.into_parts-inbound.result.1.items
 chains-planned g c world knows =
-    let chains = c.into_chains-inbound.ensures in
+    let chains = c.into_parts-inbound.ensures.chains in
     are-planned g.S.Stage.meaning g.S.Stage.stands_after g.T.Transport.state c.args.recorded c.inbound.ensures.path c.requires.small world c.args.number knows
-    c.turn-turn.result c.into_chains-inbound.result.0.items c.into_chains-inbound.result.1.items c.turn-turn.ensures.hop chains.inbound chains.outbound
+    c.turn-turn.result c.into_parts-inbound.result.0.items c.into_parts-inbound.result.1.items c.turn-turn.ensures.hop chains.inbound chains.outbound
 
 pub returns-clause-whole : goal.returns-clause-whole
 returns-clause-whole g c = if-ok c.whole.result _ (λ part is.
     let meaning = g.S.Stage.meaning in
     let path = c.args.recorded.pipeline in
-    let chains = c.into_chains-inbound.ensures in
+    let chains = c.into_parts-inbound.ensures.chains in
     let made = c.new-head.ensures in
     let above = length-map path.inbound meaning in
     let below = length-map path.outbound meaning in
@@ -75,7 +75,7 @@ returns-clause-whole g c = if-ok c.whole.result _ (λ part is.
     let place = IfOk-at_ok _ is c.whole.ensures.place in
     record {
       channel_is = place.0;
-      executors_are = place.1 ∙ c.in_ok-executors.ensures;
+      executors_are = place.1 ∙ c.into_parts-inbound.ensures.executors;
       hops = omega (arith, c.inbound.ensures.path.hops, above, below);
       few = omega (arith, c.inbound.ensures.path.within, above, below);
       tail_hop_is = place.2 ∙ up;
@@ -112,7 +112,7 @@ pub returns-clause-stages : goal.returns-clause-stages
 returns-clause-stages g c = if-ok c.whole.result _ (λ part is.
     let meaning = g.S.Stage.meaning in
     let AreNew : List g.row.S.Denot → Type 0 = λ stages. All (λ stage. g.S.Stage.stands_after stage []) stages in
-    let chains = c.into_chains-inbound.ensures in
+    let chains = c.into_parts-inbound.ensures.chains in
     record {
       inbound_new = subst AreNew chains.inbound chains.new_inbound;
       outbound_new = subst AreNew chains.outbound chains.new_outbound;
@@ -125,7 +125,7 @@ returns-clause-unmoved g c = if-ok c.whole.result _ (λ part is.
     let world = carrying (channel_lanes c.args.number p) in
     let state = g.T.Transport.state in
     let fresh = head-fresh g c in
-    new-unmoved g.S.Stage.meaning g.S.Stage.stands_after world c.args.number (length c.into_chains-inbound.result.0.items) c.turn-turn.result part
+    new-unmoved g.S.Stage.meaning g.S.Stage.stands_after world c.args.number (length c.into_parts-inbound.result.0.items) c.turn-turn.result part
     (IfOk-at_ok _ is c.whole.ensures.new world (chains-planned g c world (channel-lane c.args.number p)))
     (IfOk-at_ok _ is c.whole.ensures.tail) c.new-head.result (IfOk-at_ok _ is c.whole.ensures.head)
     (new-came state c.args.recorded.input c.args.number (planned_head_hop p) c.new-head.result fresh)
