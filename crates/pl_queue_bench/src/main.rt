@@ -47,11 +47,11 @@ where
     M::Sender: Send,
     M::Taker: Send,
 {
-    let each = u64::from(count);
+    let total = u64::from(count);
     match workload {
-        "lane" => boxes::in_turns::<W, M, R>(rt, alloc, 1, 1, 1, each),
-        "lanes" => boxes::in_turns::<W, M, R>(rt, alloc, 1, 8_192, 1, each / 8_192),
-        "senders" => boxes::in_turns::<W, M, R>(rt, alloc, 8_192, 1, 65_535, each / 8_192),
+        "lane" => boxes::in_turns::<W, M, R>(rt, alloc, 1, 1, 1, total),
+        "lanes" => boxes::in_turns::<W, M, R>(rt, alloc, 1, 8_192, 1, total / 8_192),
+        "senders" => boxes::in_turns::<W, M, R>(rt, alloc, 8_192, 1, 65_535, total / 8_192),
         _ => posts::by_closable::<W, Alone<M>, R>(rt, alloc, workload, count),
     }
 }
