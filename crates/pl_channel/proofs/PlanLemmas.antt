@@ -26,7 +26,7 @@ use Rattle.pl_head.specs.Transports.{TransportState, one_call_more}
 use Rattle.pl_head.specs.Writes.{flushed_writes, bytes_offered, out}
 use Rattle.pl_head.specs.InputStand.{InputStands, InputView}
 use Rattle.pl_head.specs.HeadStand.{HeadView, lane_over, Answers, first_cause, cause_of_item, cause_of_step}
-use Rattle.pl_part.specs.HeadCalls.{HeadTakes, HeadReads, HeadWrites}
+use Rattle.pl_head.specs.HeadCalls.{HeadTakes, HeadReads, HeadWrites}
 use Rattle.pl_part.specs.Parts.{ChannelPartView, PartTakes, PartReads, PartWrites, SamePart, head_hop}
 use Rattle.pl_world.specs.Plans.{ChannelPlan, read_plan}
 use Rattle.pl_world.specs.Reports.{CallsKeepToPlan, accepted_by, failed_calls, head_of, most_by}

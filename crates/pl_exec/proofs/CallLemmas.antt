@@ -26,8 +26,8 @@ use Rattle.pl_head.specs.Transports.{TransportState}
 use Rattle.pl_part.specs.Paths.{PathTakes, context_at}
 use Rattle.pl_part.specs.Parts.{ChannelPartView, PartHolds, PartTakes, SamePart, head_hop}
 use Rattle.pl_part.specs.Taking.{ContextTakes}
-use Rattle.pl_exec.specs.OwnNodes.{NoneRefused}
-use Rattle.pl_exec.proofs.OwnNodeLemmas.{same-slot}
+use Rattle.pl_exec.specs.ExecutorNodes.{NoneRefused}
+use Rattle.pl_exec.proofs.ExecutorNodeLemmas.{same-slot}
 
 -- ---- a context
 

@@ -13,14 +13,10 @@ use Rattle.std.proofs.lemmas.List.Elements.{All-from_get_or, All-same, All-weake
 use Rattle.std.proofs.lemmas.List.Folds.{list_any_more}
 use Rattle.std.proofs.lemmas.List.FromFn.{fill_by_all, get_or-map-range_with_len, length-map-range_with_len}
 use Rattle.std.proofs.lemmas.Map.Made.{is_member-Decides}
-use Rattle.std.proofs.lemmas.Option.{same_Some, slice_get-map, slice_get_within, get_or_from_slice_get}
-use Rattle.pl_event.specs.declared.events.Event.{Event}
-use Rattle.pl_event.specs.Meaning.{Meaning}
-use Rattle.pl_head.specs.Transports.{TransportState}
+use Rattle.std.proofs.lemmas.Option.{same_Some, slice_get-map, slice_get_within}
 use Rattle.pl_part.specs.Parts.{ChannelPartView}
-use Rattle.pl_exec.specs.declared.nodes.OwnNodes.{OwnNodes}
-use Rattle.pl_exec.specs.OwnNodes.{AreOn, numbered_from}
-use Rattle.pl_exec.specs.Sharing.{AreKnown, AreNoted, AreShared, AreSharesOf, IsNoted, IsNotedAt, channels_on, rows_in}
+use Rattle.pl_exec.specs.ExecutorNodes.{AreOn, numbered_from}
+use Rattle.pl_exec.specs.Sharing.{AreNoted, IsNoted, IsNotedAt, channels_on, rows_in}
 use Rattle.pl_exec.proofs.HeadLists.{IsNumbered, in-range, numbered-more, numbered-only, numbered-there}
 use Rattle.pl_event.proofs.Lists.{at-index}
 
@@ -123,7 +119,7 @@ module _ {S T : Type 0} (ps : List (ChannelPartView S T)) (count : ℕ) where
 -- ---- they are those that have a node there
 
 module _ {S T : Type 0} where
-  on-exactly : (ps : List (ChannelPartView S T)) (x : ℕ) → AreOn (λ p. p.path.executors) ps x (channels_on ps x)
+  pub on-exactly : (ps : List (ChannelPartView S T)) (x : ℕ) → AreOn (λ p. p.path.executors) ps x (channels_on ps x)
   on-exactly ps x = record {
     all = λ c p at has.
         numbered-there 0 (map on ps) c c (slice_get-map on ps c ∙ ap (option_map on) at ∙ ap (λ (b : Bool). Some b) ((decides p).1 has)) (omega arith);
@@ -143,37 +139,3 @@ module _ {S T : Type 0} where
 
       decides : (p : ChannelPartView S T) → Decides (on p) (Contains p.path.executors x)
       decides p = is_member-Decides Decides-eqb p.path.executors x
-
-  module _ (meaning : S → Meaning) (stands_after : S → List Event → Type 0) (state : T → TransportState) (wholes : List (ChannelPartView S T)) where
-    on-shares : (x : ℕ) (nodes : OwnNodes S T) (row : List ℕ) → AreSharesOf meaning stands_after state wholes x nodes → AreOn (λ p. p.path.executors) wholes x row → AreOn (λ p. p.path.executors) nodes.parts.items nodes.number row
-    on-shares x nodes row shares on = subst (λ (k : ℕ). AreOn (λ p. p.path.executors) nodes.parts.items k row) (sym shares.number) (record {
-      all = λ c share at has.
-          let within = slice_get_within nodes.parts.items c share at in
-          let whole = at-index wholes c (omega (arith, within, size)) in
-          on.all c whole.0 whole.1 (subst (λ (l : List ℕ). Contains l x) (same c whole.0 share whole.1 at) has);
-      only = All-weaker (λ c. (p : ChannelPartView S T) × (slice_get wholes c ≡ Some p) × Contains p.path.executors x) (λ c. (p : ChannelPartView S T) × (slice_get nodes.parts.items c ≡ Some p) × Contains p.path.executors x)
-          (λ c w.
-          let within = slice_get_within wholes c w.0 w.1 in
-          let share = at-index nodes.parts.items c (omega (arith, within, size)) in
-          (share.0, share.1, subst (λ (l : List ℕ). Contains l x) (sym (same c w.0 share.0 w.1 share.1)) w.2))
-          row on.only;
-    })
-      where
-        size : length nodes.parts.items ≡ length wholes
-        size = shares.count
-
-        same : (c : ℕ) (whole share : ChannelPartView S T) → slice_get wholes c ≡ Some whole → slice_get nodes.parts.items c ≡ Some share → share.path.executors ≡ whole.path.executors
-        same c whole share at there = (shares.each c whole share at there).share_is.path.executors
-
-    -- and so they are in the shares of the channels
-    pub shares-known : (count : ℕ) (all : List (OwnNodes S T)) (rows : List (List ℕ)) → AreShared meaning stands_after state wholes count all → rows ≡ map (channels_on wholes) (range_with_len 0 count) → AreKnown all rows
-    shares-known count all rows shared are = record {
-      count = ap (λ (l : List (List ℕ)). length l) are ∙ length-map-range_with_len (channels_on wholes) 0 count ∙ sym shared.count;
-      each = λ x nodes row at is.
-          let within = slice_get_within all x nodes at in
-          let size = shared.count in
-          let row-is : channels_on wholes x ≡ row =
-          sym (ap (λ (l : List (List ℕ)). get_or l x []) are ∙ get_or-map-range_with_len (channels_on wholes) 0 count x x [] (omega (arith, within, size)) (omega arith))
-          ∙ get_or_from_slice_get rows x row [] is in
-          on-shares x nodes row (shared.each x nodes at) (subst (λ (l : List ℕ). AreOn (λ p. p.path.executors) wholes x l) row-is (on-exactly wholes x));
-    }

@@ -25,7 +25,7 @@ use Rattle.pl_part.proofs.PathSteps.{apart-tail}
 use Rattle.pl_channel.specs.PlanStand.{PartsKeepPlan}
 use Rattle.pl_channel.specs.Channels.{executor_at}
 use Rattle.pl_world.specs.Plans.{ChannelPlan, Plan}
-use Rattle.pl_exec.specs.OwnNodes.{AreOn, IsPartOver, IsOverAt, AreOver, ShareStands, NodesStand, has_node}
+use Rattle.pl_exec.specs.ExecutorNodes.{AreOn, IsPartOver, IsOverAt, AreOver, ShareStands, NodesStand, has_node}
 use Rattle.pl_event.proofs.Lists.{at-index}
 
 -- ---- a part that has no node here
@@ -122,7 +122,3 @@ module _ {S T : Type 0} (state : T → TransportState) (plan : Plan) (ps : List 
       where
         decides : Decides (is_member (λ a b. a == b) p.path.executors me) (Contains p.path.executors me)
         decides = is_member-Decides Decides-eqb p.path.executors me
-
--- they are the same for the same executor
-pub on-stays : (plan : Plan) (me me' : ℕ) (here here' : List ℕ) → me' ≡ me → here' ≡ here → AreOn (λ q. q.executors) plan.channels me here → AreOn (λ q. q.executors) plan.channels me' here'
-on-stays plan me me' here here' number same = subst (λ (z : ℕ × List ℕ). AreOn (λ q. q.executors) plan.channels z.0 z.1) (λ i. (sym number i, sym same i))

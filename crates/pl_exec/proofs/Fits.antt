@@ -29,10 +29,10 @@ use Rattle.pl_channel.proofs.Wholes.{written}
 use Rattle.pl_world.specs.declared.session.Recorded.{Recorded}
 use Rattle.pl_world.specs.Plans.{Plan, channel_planned}
 use Rattle.pl_world.specs.PlanRules.{IsPlan, IsChannelPlan}
-use Rattle.pl_exec.specs.declared.nodes.OwnNodes.{OwnNodes}
+use Rattle.pl_exec.specs.declared.nodes.ExecutorNodes.{ExecutorNodes}
 use Rattle.pl_exec.specs.Lanes.{AreLaid, every_lane, is_lane}
 use Rattle.pl_exec.specs.Opening.{LaneTable, lanes_to, table_lanes, FitsLanes}
-use Rattle.pl_exec.specs.OwnNodes.{nobody, enters, entered_executor}
+use Rattle.pl_exec.specs.ExecutorNodes.{nobody, enters, entered_executor}
 use Rattle.pl_exec.specs.Sharing.{AreSharesOf, places_at}
 use Rattle.pl_exec.proofs.LaneTablesEvery.{has-any, every-has, every-few}
 use Rattle.pl_exec.proofs.SharesStand.{IsPlacedShare, whole-of}
@@ -58,7 +58,7 @@ pub record IsTable {S T : Type 0} (wholes : List (ChannelPartView S T)) (count :
   pub entering : (y : ℕ) (l : Lane) → has_lane l (lanes_of_senders (lanes_to lanes y)) ≡ true → (x : ℕ) × (x ≢ y) × (origin_of wholes l ≡ x) × (target_of wholes l ≡ y) × (is_lane wholes l ≡ true)
 
 module _ {S T : Type 0} (meaning : S → Meaning) (stands_after : S → List Event → Type 0) (state : T → TransportState) (plan : Plan) (rs : List (Recorded S T)) (planned : plan.channels ≡ map (channel_planned meaning state) rs)
-    (wholes : List (ChannelPartView S T)) (placed : ArePlaced meaning stands_after state rs wholes) (ruled : IsPlan plan) (x : ℕ) (nodes : OwnNodes S T) (are : AreSharesOf meaning stands_after state wholes x nodes) where
+    (wholes : List (ChannelPartView S T)) (placed : ArePlaced meaning stands_after state rs wholes) (ruled : IsPlan plan) (x : ℕ) (nodes : ExecutorNodes S T) (are : AreSharesOf meaning stands_after state wholes x nodes) where
   abbrev parts : List (ChannelPartView S T)
   parts = nodes.parts.items
 
@@ -189,7 +189,7 @@ module _ {S T : Type 0} (meaning : S → Meaning) (stands_after : S → List Eve
                 same-whole a b e = cc
 
     -- They fit its lanes, and have the places of this executor.
-    pub shares-fit : (stands : OwnNodes S T → Type 0) → stands nodes
+    pub shares-fit : (stands : ExecutorNodes S T → Type 0) → stands nodes
         → FitsLanes stands (λ n. n.number) (λ n. data_lanes_of n.parts.items) (λ n l. entered_executor n.parts.items l) (λ n l. writes_of meaning n.parts.items l) (λ n l. taken_of n.parts.items l) (λ n l. came_of meaning n.parts.items l) (λ n. n.was_refused)
         lanes x nodes (places_at wholes plan.executors x)
     shares-fit stands stood = record {

@@ -9,7 +9,7 @@ use Rattle.std.proofs.Math.Seq.{map-set_same}
 use Rattle.pl_event.proofs.Lists.{All-at}
 use Rattle.pl_part.specs.Parts.{ChannelPartView, SamePart}
 use Rattle.pl_channel.proofs.OneChannel.{changed}
-use Rattle.pl_exec.specs.OwnNodes.{numbered_from, heads_of}
+use Rattle.pl_exec.specs.ExecutorNodes.{numbered_from, heads_of}
 
 -- ---- one more
 

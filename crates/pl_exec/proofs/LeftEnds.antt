@@ -25,7 +25,7 @@ use Rattle.pl_channel.specs.Channels.{executor_at}
 use Rattle.pl_world.specs.Plans.{ChannelPlan, Plan, tail_hop, planned_head_hop}
 use Rattle.pl_world.specs.PlanRules.{IsChannelPlan, IsPlan}
 use Rattle.pl_exec.specs.declared.reporting.Found.{Found}
-use Rattle.pl_exec.specs.OwnNodes.{ShareStands, NodesStand, IsPartOver, AreOver}
+use Rattle.pl_exec.specs.ExecutorNodes.{ShareStands, NodesStand, IsPartOver, AreOver}
 use Rattle.pl_exec.specs.Reported.{IsLeftTail, IsLeftHead, AreLeft, nothing_found, with_part, with_parts}
 use Rattle.pl_exec.proofs.EachWith.{added-at, added-count}
 

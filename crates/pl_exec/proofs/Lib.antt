@@ -1,9 +1,9 @@
 pub mod ListSteps
 pub mod EachWith
-pub mod RowLemmas
+pub mod Columns
 pub mod LaneLemmas
 pub mod StartLemmas
-pub mod OwnNodeLemmas
+pub mod ExecutorNodeLemmas
 pub mod HeadLists
 pub mod CallLemmas
 pub mod OverLemmas
@@ -25,8 +25,6 @@ mod LaneTablesGrown
 pub mod LaneTables
 pub mod WordLemmas
 pub mod SeatLemmas
-pub mod DealtSeats
 pub mod SettledWrites
 pub mod ToldNodes
-pub mod TellingStart
 pub mod ServedNodes

@@ -1,7 +1,6 @@
 -- What a head has left, and what its steps answer, where it is on the executor or elsewhere.
-use Rattle.std.proofs.Common.{◌≡◌, ◌≢◌, ℕ, Bool, true, false, List, Option, Some, None, slice_get, length, ◌<◌, ◌≤◌, ◌+◌, refl, ap, sym, subst, ◌∙◌, ⊎_elim, arith}
-use Rattle.std.proofs.lemmas.Bool.{cases_eq}
-use Rattle.std.proofs.lemmas.Option.{same_Some, slice_get_within}
+use Rattle.std.proofs.Common.{◌≡◌, ℕ, Bool, true, false, List, Option, Some, None, slice_get, refl, ap, sym, ◌∙◌}
+use Rattle.std.proofs.lemmas.Option.{same_Some}
 use Rattle.pl_context.specs.OutputsViews.{OutputsView}
 use Rattle.pl_flow.specs.declared.moves.HeadMove.{HeadMove}
 use Rattle.pl_flow.specs.declared.moves.HeadMove.TheVariants as head
@@ -14,7 +13,7 @@ use Rattle.pl_event.specs.Meaning.{Meaning}
 use Rattle.pl_event.specs.Worlds.{World}
 use Rattle.pl_part.specs.Parts.{ChannelPartView, PartHolds, PartMoves}
 use Rattle.pl_channel.proofs.HeadMoves.{may-move}
-use Rattle.pl_exec.specs.OwnNodes.{MayMoveHere, IsPartOver, AreOver}
+use Rattle.pl_exec.specs.ExecutorNodes.{MayMoveHere, IsPartOver}
 
 done-gave : reading.Done ≡ reading.Gave → ⊥
 done-gave e = cc
@@ -42,19 +41,3 @@ written-over world meaning stands_after state p holds over b some none = by p.he
     by (Some h) at =
         let t = (holds.head h at).0.holds.took in
         some h t.ys t.zs t.sizes at t.after ∙ over.written h t.ys t.zs t.sizes at t.after
-
--- ---- several parts
-
-module _ {S T : Type 0} (state : T → TransportState) (ps : List (ChannelPartView S T)) where
-  -- the first ones are over
-  abbrev pub FirstOver : ℕ → Type 0
-  FirstOver n = (c : ℕ) (p : ChannelPartView S T) → c < n → slice_get ps c ≡ Some p → IsPartOver state p
-
-  pub one-more-over : (n : ℕ) (p : ChannelPartView S T) → slice_get ps n ≡ Some p → FirstOver n → IsPartOver state p → FirstOver (n + 1)
-  one-more-over n p at first over c q lt is = ⊎_elim
-      (λ (e : c ≡ n). subst (λ (z : ChannelPartView S T). IsPartOver state z) (same_Some p q (sym at ∙ ap (λ (k : ℕ). slice_get ps k) (sym e) ∙ is)) over)
-      (λ (other : c ≢ n). first c q (omega (arith, lt, other)) is)
-      (cases_eq c n)
-
-  pub all-over : (n : ℕ) → length ps ≤ n → FirstOver n → AreOver state ps
-  all-over n most first c p at = let lt = slice_get_within ps c p at in first c p (omega (arith, lt, most)) at

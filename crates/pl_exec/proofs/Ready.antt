@@ -14,20 +14,19 @@ use Rattle.pl_event.specs.Worlds.{World}
 use Rattle.pl_threads.specs.Running.{ExecutorView, FinishedView, EndsAs}
 use Rattle.pl_head.specs.Transports.{TransportState}
 use Rattle.pl_part.specs.Parts.{ChannelPartView}
-use Rattle.pl_queue.specs.declared.views.SenderView.{SenderView}
-use Rattle.pl_queue.specs.declared.views.TakerView.{TakerView}
 use Rattle.pl_channel.specs.Channels.{taken_of, writes_of, came_of, data_lanes_of}
 use Rattle.pl_channel.specs.Ways.{ArePlaceable}
 use Rattle.pl_channel.proofs.PlacedParts.{placeable, recorded-at}
 use Rattle.pl_world.specs.Plans.{Plan, channel_planned}
-use Rattle.pl_exec.specs.declared.nodes.OwnNodes.{OwnNodes}
+use Rattle.pl_exec.specs.declared.nodes.ExecutorNodes.{ExecutorNodes}
 use Rattle.pl_exec.specs.Lanes.{AreLaid, lane_table}
-use Rattle.pl_exec.specs.Opening.{LaneTable, InboxView, WaysView, PlacesView, IsSquare, CanOpen, CanOpenAll, AreOpened, IsFirst, CanStart}
-use Rattle.pl_exec.specs.OwnNodes.{entered_executor}
-use Rattle.pl_exec.specs.Sharing.{AreShared, places_of}
-use Rattle.pl_exec.specs.Starting.{AreReady}
+use Rattle.pl_exec.specs.Opening.{LaneTable, PlacesView, IsSquare, CanOpen, CanOpenAll, IsFirst}
+use Rattle.pl_exec.specs.SessionWords.{AreHeadSeatsOf, AreUnused, ChannelNames, SeatsView}
+use Rattle.pl_exec.specs.Sharing.{AreShared, channels_on, places_of}
+use Rattle.pl_exec.specs.Starting.{AreReady, FitExecutors}
+use Rattle.pl_exec.specs.Telling.{HaveMarks}
 use Rattle.pl_exec.proofs.Fits.{IsTable}
-use Rattle.pl_exec.proofs.FitsStart.{Stands, can-start}
+use Rattle.pl_exec.proofs.FitsStart.{fit-all}
 use Rattle.pl_exec.proofs.LaneTables.{table-square, table-length, table-open, crossing-there, entering-crosses}
 
 module _ {S T : Type 0} (meaning : S → Meaning) (stands_after : S → List Event → Type 0) (state : T → TransportState) (plan : Plan) (parts : List (ChannelPartView S T)) (ready : AreReady meaning stands_after state plan parts) where
@@ -84,7 +83,7 @@ module _ {S T : Type 0} (meaning : S → Meaning) (stands_after : S → List Eve
   ready-size : length lanes ≡ count
   ready-size = ap length are ∙ table-length parts count
 
-  pub ready-executors : length lanes < 2 ^ 16
+  ready-executors : length lanes < 2 ^ 16
   ready-executors = let few = ready.executors in let size = ready-size in omega (arith, few, size, all)
 
   pub ready-open : (capacity : ℕ) → capacity ≡ plan.capacity → CanOpenAll capacity lanes
@@ -102,13 +101,9 @@ module _ {S T : Type 0} (meaning : S → Meaning) (stands_after : S → List Eve
   table-is = subst (λ (z : ℕ × LaneTable). IsTable parts z.0 z.1) (λ i. (all i, sym are i))
       (record { size = table-length parts count; crossing = crossing-there parts count; entering = entering-crosses parts count })
 
-  module _ (world : World) (is_world : world ≡ world_of true plan) {M K D : Type 0} (is_taker : M → K → Type 0) (takes_of : K → TakerView) (is_sender : M → D → Type 0) (sends_of : D → SenderView) where
-    pub ready-start : (inboxes : List (InboxView M)) (ways : List (WaysView K D)) (nodes : List (OwnNodes S T)) (places : List PlacesView) → AreOpened is_taker takes_of is_sender sends_of lanes inboxes ways
-        → AreShared meaning stands_after state parts count nodes → places ≡ places_of parts count
-        → CanStart is_taker takes_of is_sender sends_of (Stands meaning stands_after state world plan is_world ready.recorded ready.planned parts ready.placed ready.ruled ready.executors lanes table-is) (λ n. n.number)
-        (λ n. data_lanes_of n.parts.items) (λ n l. entered_executor n.parts.items l) (λ n l. writes_of meaning n.parts.items l) (λ n l. taken_of n.parts.items l) (λ n l. came_of meaning n.parts.items l) (λ n. n.was_refused)
-        inboxes ways nodes places
-    ready-start inboxes ways nodes places opened shared reserved =
-        can-start meaning stands_after state world plan is_world ready.recorded ready.planned parts ready.placed ready.ruled ready.executors lanes table-is is_taker takes_of is_sender sends_of
-        (ready-laid meaning stands_after state plan parts ready) inboxes ways nodes places opened
-        (subst (λ (n : ℕ). AreShared meaning stands_after state parts n nodes) all shared) (reserved ∙ ap (places_of parts) all)
+  pub ready-fit : (world : World) → world ≡ world_of true plan → (words : List ChannelNames) (heads : List SeatsView) → AreHeadSeatsOf words heads → HaveMarks heads plan.channels → AreUnused heads
+      → (rows : List (List ℕ)) (nodes : List (ExecutorNodes S T)) (places : List PlacesView) → rows ≡ map (channels_on parts) (range_with_len 0 count) → AreShared meaning stands_after state parts words heads rows nodes → places ≡ places_of parts count
+      → FitExecutors world plan meaning stands_after state lanes nodes places
+  ready-fit world is_world words heads own marks new rows nodes places known shared reserved =
+      fit-all meaning stands_after state world plan is_world ready.recorded ready.planned parts ready.placed ready.ruled ready.executors lanes table-is words heads own marks new
+      (ready-laid meaning stands_after state plan parts ready) rows nodes places (known ∙ ap (λ (n : ℕ). map (channels_on parts) (range_with_len 0 n)) all) shared (reserved ∙ ap (places_of parts) all)

@@ -1,27 +1,33 @@
 -- By channel the seats on its words, while the nodes stand.
-use Rattle.std.proofs.Common.{◌≡◌, ℕ, ◌+◌, ◌-◌, ◌<◌, Bool, List, [], ◌∷◌, ◌++◌, length, map, set, slice_get, Option, Some, None, refl, ap, sym, ◌∙◌, subst, arith, inl, inr, ⊎_elim, length-append}
-use Rattle.std.specs.Prelude.{◌⊎◌, slice_set}
+use Rattle.std.proofs.Common.{◌≡◌, ◌≢◌, ℕ, ◌-◌, ◌<◌, Bool, List, [], drop, length, map, set, slice_get, Option, Some, None, refl, ap, sym, ◌∙◌, subst, arith, inl, inr, ⊎_elim}
+use Rattle.std.specs.Prelude.{◌∷◌, is_some, slice_set}
 use Rattle.std.specs.Option.{option_map, option_map_or}
+use Rattle.std.proofs.lemmas.Bool.{cases_eq}
 use Rattle.std.proofs.lemmas.Bool.Decides.{eqb_tells}
 use Rattle.std.proofs.lemmas.List.{length-map, length-set, set-get_or}
 use Rattle.std.proofs.lemmas.Option.{none-some, same_Some, slice_get-map, slice_get_within, get_or_from_slice_get}
 use Rattle.pl_event.specs.declared.events.Event.{Event}
+use Rattle.pl_event.specs.declared.outcomes.Cause.{Cause}
 use Rattle.pl_event.specs.Meaning.{Meaning}
 use Rattle.pl_event.specs.Worlds.{World}
-use Rattle.pl_event.proofs.Lists.{All-at, at_set_same, at_set_other, slice_get-push, at-index}
+use Rattle.pl_event.proofs.Lists.{All-at, at_set_same, at_set_other, at-index}
+use Rattle.pl_context.specs.Standings.{is_over}
 use Rattle.pl_head.specs.Buffers.{untold}
-use Rattle.pl_head.specs.HeadStand.{HeadView}
+use Rattle.pl_head.specs.HeadStand.{BufferAfter, HeadView}
 use Rattle.pl_head.specs.Transports.{TransportState}
 use Rattle.pl_part.specs.Parts.{ChannelPartView}
 use Rattle.pl_part.specs.Told.{IsTold, part_untold, told_head}
+use Rattle.pl_part.proofs.ShareLemmas.{only-some}
 use Rattle.pl_part.proofs.ToldLemmas.{none-told}
+use Rattle.pl_channel.specs.Placing.{IsNewHead}
 use Rattle.pl_words.specs.declared.watermark.TheConstants.{MAX_SETS}
 use Rattle.pl_world.specs.declared.session.Recorded.{Recorded}
 use Rattle.pl_world.specs.Plans.{ChannelPlan, Plan, channel_planned}
 use Rattle.pl_world.specs.PlanRules.{IsChannelPlan, IsPlan}
-use Rattle.pl_exec.specs.OwnNodes.{NodesStand}
-use Rattle.pl_exec.specs.SessionWords.{ChannelNames, SeatsView, AreSeatsOf, AreHeadSeatsOf, recorded_marks, seats_marks, seats_names}
-use Rattle.pl_exec.specs.Telling.{AreSeated, HaveMarks, IsSeated, IsToldAt, Tells, TellsAt, plan_marks}
+use Rattle.pl_exec.specs.ExecutorNodes.{NodesStand}
+use Rattle.pl_exec.specs.SessionWords.{ChannelNames, SeatsView, AreSeatsOf, AreHeadSeatsOf, new_seats, recorded_marks, seats_marks, seats_names}
+use Rattle.pl_exec.specs.Sharing.{AreDealt}
+use Rattle.pl_exec.specs.Telling.{AreSeated, HaveMarks, IsSeated, IsToldAt, KeepsOthers, Tells, TellsAt, plan_marks}
 
 -- ---- what was told
 
@@ -67,6 +73,23 @@ tells-at seats ps c s' p' tells s p h at here is =
     let part : p ≡ p' = at_set_same ps c p' p here in
     subst (λ (z : SeatsView). Tells z h) (sym own) (tells h (sym (ap (λ (q : ChannelPartView _ _). q.head) part) ∙ is))
 
+-- its head is as it was
+pub head-tells : {S T : Type 0} (seats : List (Option SeatsView)) (ps : List (ChannelPartView S T)) (c : ℕ) (p p' : ChannelPartView S T) → slice_get ps c ≡ Some p → p'.head ≡ p.head → TellsAt seats ps c → TellsAt seats (slice_set ps c p') c
+head-tells seats ps c p p' was same tells s q h at here is = tells s p h at was (sym same ∙ sym (ap (λ (x : ChannelPartView _ _). x.head) (at_set_same ps c p' q here)) ∙ is)
+
+-- so do the seats of all channels, where the others and their heads are as they were
+pub all-tell : {S T : Type 0} (seats seats' : List (Option SeatsView)) (ps ps' : List (ChannelPartView S T)) (c : ℕ) → ((x : ℕ) → TellsAt seats ps x) → KeepsOthers seats c seats'
+    → ((x : ℕ) (p : ChannelPartView S T) → x ≢ c → slice_get ps' x ≡ Some p → slice_get ps x ≡ Some p) → TellsAt seats' ps' c → (x : ℕ) → TellsAt seats' ps' x
+all-tell seats seats' ps ps' c tells slots parts here x s p h at there is = ⊎_elim
+    (λ (e : x ≡ c). subst (TellsAt seats' ps') (sym e) here s p h at there is)
+    (λ (other : x ≢ c). tells x s p h (slots x (Some s) other at) (parts x p other there) is)
+    (cases_eq x c)
+
+-- what was told of a channel of which something was done: the other parts are as they were
+pub others-told : {S T : Type 0} (ps : List (ChannelPartView S T)) (c : ℕ) (p' : ChannelPartView S T) (ps' : List (ChannelPartView S T)) → IsToldAt (slice_set ps c p') c ps' → (x : ℕ) (p : ChannelPartView S T) → x ≢ c
+    → slice_get ps' x ≡ Some p → slice_get ps x ≡ Some p
+others-told ps c p' ps' t x p other there = at_set_other ps c x p' p other (at_set_other (set ps c p') c x t.after p other (ap (λ (l : List (ChannelPartView _ _)). slice_get l x) (sym t.becomes) ∙ there))
+
 -- there are no seats on its words here
 pub no-seats-tell : {S T : Type 0} (seats : List (Option SeatsView)) (ps : List (ChannelPartView S T)) (c : ℕ) (slot : Option SeatsView) → slot ≡ None → TellsAt (slice_set seats c slot) ps c
 no-seats-tell seats ps c slot none s p h at here is = absurd (none-some s (sym none ∙ sym (at_set_same seats c slot (Some s) at)))
@@ -93,20 +116,17 @@ module _ (words : List ChannelNames) (plan : Plan) (seats : List (Option SeatsVi
       let m = (seated.each c s seat).marks q.0 q.1 in
       (m.0 ∙ sym k.low, m.1 ∙ sym k.high)
 
-  -- no seats, or others with the same names and marks
-  pub seats-stay : (slot : Option SeatsView) → ((s' : SeatsView) → slot ≡ Some s' → IsSeated words plan c s') → AreSeated words plan (slice_set seats c slot)
-  seats-stay slot is = record {
-    count = length-set seats c slot ∙ seated.count;
+  -- other seats with the same names and marks
+  pub seat-told : (s s' : SeatsView) → slice_get seats c ≡ Some (Some s) → AreSeatsOf words c s' → (s'.mark.low ≡ s.mark.low) × (s'.mark.high ≡ s.mark.high) → AreSeated words plan (slice_set seats c (Some s'))
+  seat-told s s' seat own same = record {
+    count = length-set seats c (Some s') ∙ seated.count;
     each = λ k z at. elim (eqb_tells k c) [
-      | inl same ↦
-          let own : Some z ≡ slot = at_set_same seats c slot (Some z) (subst (λ (i : ℕ). slice_get (set seats c slot) i ≡ Some (Some z)) same.1 at) in
-          subst (λ (i : ℕ). IsSeated words plan i z) (sym same.1) (is z (sym own))
-      | inr other ↦ seated.each k z (at_set_other seats c k slot (Some z) other.1 at)
+      | inl is ↦
+          let slot : Some z ≡ Some s' = at_set_same seats c (Some s') (Some z) (subst (λ (i : ℕ). slice_get (set seats c (Some s')) i ≡ Some (Some z)) is.1 at) in
+          subst (λ (y : ℕ × SeatsView). IsSeated words plan y.0 y.1) (λ i. (sym is.1 i, sym (same_Some z s' slot) i)) here
+      | inr other ↦ seated.each k z (at_set_other seats c k (Some s') (Some z) other.1 at)
     ];
   }
-
-  pub seat-told : (s s' : SeatsView) → slice_get seats c ≡ Some (Some s) → AreSeatsOf words c s' → (s'.mark.low ≡ s.mark.low) × (s'.mark.high ≡ s.mark.high) → AreSeated words plan (slice_set seats c (Some s'))
-  seat-told s s' seat own same = seats-stay (Some s') (λ z is. subst (IsSeated words plan c) (same_Some s' z is) here)
     where
       here : IsSeated words plan c s'
       here = record {
@@ -115,57 +135,34 @@ module _ (words : List ChannelNames) (plan : Plan) (seats : List (Option SeatsVi
         ordered = let o = (seated.each c s seat).ordered in let low = same.0 in let high = same.1 in omega (arith, o, low, high);
       }
 
--- what is left of a channel's seats, or is dealt of them
-pub slot-seated : (words : List ChannelNames) (plan : Plan) (seats : List (Option SeatsView)) → AreSeated words plan seats → (c : ℕ) (slot part : Option SeatsView) → slice_get seats c ≡ Some slot → (part ≡ slot) ⊎ (part ≡ None)
-    → (s : SeatsView) → part ≡ Some s → IsSeated words plan c s
-slot-seated words plan seats seated c slot part at or s is = ⊎_elim
-    (λ (all : part ≡ slot). seated.each c s (at ∙ ap (λ (o : Option SeatsView). Some o) (sym all ∙ is)))
-    (λ (none : part ≡ None). absurd (none-some s (sym none ∙ is)))
-    or
+-- ---- seats that nobody has used
 
--- ---- lists of seats
+-- they tell how a new head stands
+pub new-tells : {T : Type 0} (state : T → TransportState) (number : ℕ) (p : ChannelPlan) (transport : T) (h : HeadView T) (s : SeatsView) → IsNewHead state number p transport h → s ≡ new_seats (seats_names s) s.mark.low s.mark.high → Tells s h
+new-tells state number p transport h s head seats =
+    let after = subst (λ (f : Option Cause). BufferAfter f (state h.transport).accepted h.buffer [] [] (is_over h.standing) []) head.failure head.after in
+    record {
+      pending = λ below. ap (λ (x : SeatsView). x.mark.pending) seats ∙ sym after.1.marks.pending_is;
+      flag = λ below. ap (λ (x : SeatsView). x.mark.unwritable) seats ∙ sym after.1.marks.unwritable_is;
+      all = λ i. drop (head.told i) (head.settled i);
+    }
 
-no-seats-at : {A : Type 0} (k : ℕ) (z : A) → slice_get [] k ≡ Some z → ⊥
-no-seats-at k z at = none-some z at
+-- those of an executor are those of the channels of their numbers
+module _ {S T : Type 0} (heads : List SeatsView) (ps : List (ChannelPartView S T)) (seats : List (Option SeatsView)) (dealt : AreDealt heads ps seats) (same : length heads ≡ length ps) where
+  pub dealt-at : (c : ℕ) (s : SeatsView) → slice_get seats c ≡ Some (Some s) → slice_get heads c ≡ Some s
+  dealt-at c s at =
+      let within = slice_get_within seats c (Some s) at in
+      let size = dealt.count in
+      let one = at-index heads c (omega (arith, within, size)) in
+      let p = at-index ps c (omega (arith, within, size, same)) in
+      one.1 ∙ only-some (is_some p.0.head) (Some one.0) s (sym (dealt.each c one.0 p.0 (Some s) one.1 p.1 at))
 
-module _ (words : List ChannelNames) (plan : Plan) where
-  -- the seats of the first channels, or none
-  pub record AreSeatedTo (so_many : ℕ) (seats : List (Option SeatsView)) : Type 0 where
-    pub count : length seats ≡ so_many
-    pub each : (c : ℕ) (s : SeatsView) → slice_get seats c ≡ Some (Some s) → IsSeated words plan c s
-
-  pub none-seated : (seats : List (Option SeatsView)) → seats ≡ [] → AreSeatedTo 0 seats
-  none-seated seats none = record {
-    count = ap length none;
-    each = λ c s at. absurd (no-seats-at c (Some s) (sym (ap (λ (l : List (Option SeatsView)). slice_get l c) none) ∙ at));
+  pub all-seated : (words : List ChannelNames) (plan : Plan) → IsPlan plan → AreHeadSeatsOf words heads → HaveMarks heads plan.channels → AreSeated words plan seats
+  all-seated words plan ruled own marks = record {
+    count = dealt.count ∙ sym (length-map heads seats_marks) ∙ ap length marks ∙ length-map plan.channels plan_marks;
+    each = λ c s at. each c s (dealt-at c s at);
   }
-
-  -- those of all channels
-  pub all-dealt : (so_many : ℕ) (seats : List (Option SeatsView)) → AreSeatedTo so_many seats → so_many ≡ length plan.channels → AreSeated words plan seats
-  all-dealt so_many seats seated all = record { count = seated.count ∙ all; each = seated.each }
-
-  -- one more, if it is one of those that are there
-  pub seated-more : (so_many : ℕ) (seats now : List (Option SeatsView)) (slot : Option SeatsView) → AreSeatedTo so_many seats → now ≡ seats ++ slot ∷ [] → ((s : SeatsView) → slot ≡ Some s → IsSeated words plan so_many s)
-      → AreSeatedTo (so_many + 1) now
-  seated-more so_many seats now slot seated is here = subst (AreSeatedTo (so_many + 1)) (sym is) (record {
-    count = let size = seated.count in omega (arith, size, length-append seats (slot ∷ []));
-    each = λ c s at. ⊎_elim
-        (λ (old : slice_get seats c ≡ Some (Some s)). seated.each c s old)
-        (λ (new : (c ≡ length seats) × (Some s ≡ slot)). subst (λ (i : ℕ). IsSeated words plan i s) (sym (new.0 ∙ seated.count)) (here s (sym new.1)))
-        (slice_get-push seats slot (Some s) c at);
-  })
-
-  -- the seats of all channels, with their marks
-  pub all-seated : (heads : List SeatsView) (left : List (Option SeatsView)) → IsPlan plan → AreHeadSeatsOf words heads → HaveMarks heads plan.channels → left ≡ map (λ s. Some s) heads → AreSeated words plan left
-  all-seated heads left ruled own marks are = subst (AreSeated words plan) (sym are) (record {
-    count = length-map heads (λ (s : SeatsView). Some s) ∙ sym (length-map heads seats_marks) ∙ ap length marks ∙ length-map plan.channels plan_marks;
-    each = λ c s at. each c s (by c s (slice_get heads c) refl (sym (slice_get-map (λ (x : SeatsView). Some x) heads c) ∙ at));
-  })
     where
-      by : (c : ℕ) (s : SeatsView) (o : Option SeatsView) → slice_get heads c ≡ o → option_map (λ (x : SeatsView). Some x) o ≡ Some (Some s) → slice_get heads c ≡ Some s
-      by c s None at is = absurd (none-some (Some s) is)
-      by c s (Some x) at is = at ∙ same_Some (Some x) (Some s) is
-
       same-marks : (c : ℕ) (s : SeatsView) (p : ChannelPlan) → slice_get heads c ≡ Some s → slice_get plan.channels c ≡ Some p → seats_marks s ≡ plan_marks p
       same-marks c s p at planned =
           same_Some (seats_marks s) (plan_marks p)

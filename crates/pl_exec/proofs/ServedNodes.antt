@@ -20,12 +20,12 @@ use Rattle.pl_head.specs.declared.inputs.ReadPlan.{ReadPlan}
 use Rattle.pl_head.specs.HeadStand.{HeadView, ReadsStand}
 use Rattle.pl_head.specs.ReadSteps.{brings_abort, brings_failure, has_step, plan_steps}
 use Rattle.pl_head.specs.Transports.{TransportState, one_call_more}
-use Rattle.pl_part.specs.HeadCalls.{HeadReads, HeadWrites}
+use Rattle.pl_head.specs.HeadCalls.{HeadReads, HeadWrites}
 use Rattle.pl_part.specs.Parts.{ChannelPartView, PartHolds, PartTakes, PartReads, PartWrites, PartMoves, SamePart, head_hop}
 use Rattle.pl_part.specs.Told.{IsTold, told_head}
 use Rattle.pl_channel.proofs.OneChannel.{changed, unchanged, at-was, at-is}
 use Rattle.pl_threads.specs.Serving.{Served, ServesNone, MovesAtMostOnce}
-use Rattle.pl_exec.specs.OwnNodes.{planned_reads, reads_made, served_by, served_of}
+use Rattle.pl_exec.specs.ExecutorNodes.{planned_reads, reads_made, served_by, served_of}
 use Rattle.pl_channel.specs.PlanStand.{PartKeepsPlan}
 use Rattle.pl_world.specs.Plans.{ChannelPlan, Plan, read_plan}
 use Rattle.pl_exec.specs.Telling.{IsToldAt}

@@ -5,13 +5,14 @@ use Rattle.std.specs.Prelude.{slice_set}
 use Rattle.std.proofs.lemmas.List.{get_or-set_same, length-set}
 use Rattle.std.proofs.lemmas.Option.{none-some, same_Some, slice_get_read, slice_get_within}
 use Rattle.pl_event.specs.declared.outcomes.Outcome.{Outcome}
+use Rattle.pl_head.specs.Buffers.{untold}
 use Rattle.pl_head.specs.HeadStand.{HeadView}
 use Rattle.pl_part.specs.Parts.{ChannelPartView}
 use Rattle.pl_part.specs.Told.{IsTold, TellsNext, part_untold, told_head}
 use Rattle.pl_words.specs.PromiseRule.{at}
 use Rattle.pl_words.specs.PromiseViews.{SettleSeatView}
 use Rattle.pl_exec.specs.SessionWords.{SeatsView, Tries, TriesEach}
-use Rattle.pl_exec.specs.Telling.{SettlesAt, part_outcomes}
+use Rattle.pl_exec.specs.Telling.{SettlesAt, TellsAt, part_outcomes}
 
 one-more : (outcomes : List (Option Outcome)) (done : List ℕ) (n : ℕ) (outcome : Outcome) (s t u : SettleSeatView) → at outcomes n ≡ Some outcome → TriesEach outcomes done s t → Tries t n outcome u → TriesEach outcomes (done ++ n ∷ []) s u
 one-more outcomes [] n outcome s t u ended same tries = (outcome, u, ended, subst (λ (x : SettleSeatView). Tries x n outcome u) same tries, refl)
@@ -58,3 +59,11 @@ module _ {S T : Type 0} (seats : List (Option SeatsView)) (ps : List (ChannelPar
   -- there are no seats here
   pub none-settles : (after : List (Option SeatsView)) (slot : Option SeatsView) → slice_get seats c ≡ Some slot → slot ≡ None → SettlesAt seats ps c after
   none-settles after slot at none s q is there = absurd (none-some s (sym none ∙ same_Some slot (Some s) (sym at ∙ is)))
+
+  -- its head has told of each
+  pub told-settles : TellsAt seats ps c → SettlesAt seats ps c seats
+  told-settles tells s p at there = (s, at, subst (λ (ns : List ℕ). TriesEach (part_outcomes p) ns s.settle s.settle) (sym (by p.head refl)) refl)
+    where
+      by : (o : Option (HeadView T)) → p.head ≡ o → part_untold p ≡ []
+      by None is = ap (λ (o : Option (HeadView T)). option_map_or (λ (h : HeadView T). untold h.buffer) o []) is
+      by (Some h) is = ap (λ (o : Option (HeadView T)). option_map_or (λ (x : HeadView T). untold x.buffer) o []) is ∙ (tells s p h at there is).all

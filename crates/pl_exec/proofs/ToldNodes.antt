@@ -1,5 +1,5 @@
 -- The nodes of an executor, where the head of one channel has told some of its settled writes.
-use Rattle.std.proofs.Common.{◌≡◌, ℕ, Bool, List, Option, Some, None, length, refl, ap, sym, ◌∙◌, subst}
+use Rattle.std.proofs.Common.{◌≡◌, ℕ, Bool, true, List, Option, Some, None, length, refl, ap, sym, ◌∙◌, subst}
 use Rattle.std.specs.Global.{Vec}
 use Rattle.std.specs.Option.{option_map}
 use Rattle.std.proofs.lemmas.Option.{none-some, same_Some}
@@ -16,18 +16,16 @@ use Rattle.pl_part.specs.Paths.{context_at}
 use Rattle.pl_part.specs.Parts.{ChannelPartView, SamePart, part_taken, part_writes, part_came}
 use Rattle.pl_part.specs.Told.{IsTold, told_head}
 use Rattle.pl_part.proofs.ToldLemmas.{told-same, told-taken, told-writes, told-came, is-told-holds}
+use Rattle.pl_channel.specs.Lanes.{world_of}
 use Rattle.pl_channel.specs.PlanStand.{HeadKeepsPlan, PartKeepsPlan}
 use Rattle.pl_channel.specs.Channels.{data_lanes_of, taken_of, writes_of, came_of}
 use Rattle.pl_channel.proofs.OneChannel.{changed, unchanged, lanes-stay, writes-stay, same-hops, taken-none}
 use Rattle.pl_world.specs.Plans.{ChannelPlan, Plan}
-use Rattle.pl_threads.specs.Keeping.{NodesKeep}
-use Rattle.pl_exec.specs.declared.nodes.OwnNodes.{OwnNodes}
-use Rattle.pl_exec.specs.OwnNodes.{NodesStand, heads_of, entered_executor}
-use Rattle.pl_exec.specs.declared.telling.TellingNodes.{TellingNodes}
-use Rattle.pl_exec.specs.Telling.{AreSeated, AreToldAt, IsToldAt, OwnStand, TellingStand}
-use Rattle.pl_exec.proofs.ChannelsHere.{on-stays}
+use Rattle.pl_exec.specs.declared.nodes.ExecutorNodes.{ExecutorNodes}
+use Rattle.pl_exec.specs.ExecutorNodes.{AreOn, NodesStand, heads_of, entered_executor}
+use Rattle.pl_exec.specs.Telling.{AreSeated, AreToldAt, ExecutorStands, IsToldAt, TellsAt}
 use Rattle.pl_exec.proofs.HeadLists.{heads-stay}
-use Rattle.pl_exec.proofs.OwnNodeLemmas.{OwnKeeps, nodes-stand, own-stands, targets-stay}
+use Rattle.pl_exec.proofs.ExecutorNodeLemmas.{OwnKeeps, nodes-stand, own-stands, targets-stay}
 
 -- ---- a part
 
@@ -112,16 +110,22 @@ module _ {S T : Type 0} (ps : List (ChannelPartView S T)) (c : ℕ) (ps' : List 
 
 -- ---- the nodes of an executor
 
-module _ {S T : Type 0} (mid now : OwnNodes S T) (c : ℕ) (told : AreToldAt mid c now) where
-  own-told : (world : World) (plan : Plan) (meaning : S → Meaning) (stands_after : S → List Event → Type 0) (state : T → TransportState) → OwnStand world plan meaning stands_after state mid → OwnStand world plan meaning stands_after state now
-  own-told world plan meaning stands_after state stand = (
-    stand.0,
-    subst (λ (z : ℕ × Bool). NodesStand world plan meaning stands_after state z.0 z.1 now.parts.items) (λ i. (sym told.number i, sym told.refused i))
-        (told-stands mid.parts.items c now.parts.items told.parts world plan meaning stands_after state mid.number mid.was_refused stand.1),
-    ap (λ (v : Vec ℕ). v.items) told.own ∙ stand.2 ∙ sym (told-heads mid.parts.items c now.parts.items told.parts),
-  )
+module _ {S T : Type 0} (mid now : ExecutorNodes S T) (c : ℕ) (told : AreToldAt mid c now) where
+  -- they stand where they did so but for what is told
+  pub stands-told : (world : World) (plan : Plan) (meaning : S → Meaning) (stands_after : S → List Event → Type 0) (state : T → TransportState) → world ≡ world_of true plan
+      → NodesStand world plan meaning stands_after state mid.number mid.was_refused mid.parts.items → mid.own.items ≡ heads_of mid.parts.items → AreOn (λ p. p.executors) plan.channels mid.number mid.here.items
+      → AreSeated now.words.now plan now.seats.items → ((x : ℕ) → TellsAt now.seats.items now.parts.items x) → ExecutorStands world plan meaning stands_after state now
+  stands-told world plan meaning stands_after state is_world nodes own here seated tells = record {
+    is_world = is_world;
+    nodes = subst (λ (z : ℕ × Bool). NodesStand world plan meaning stands_after state z.0 z.1 now.parts.items) (λ i. (sym told.number i, sym told.refused i))
+        (told-stands mid.parts.items c now.parts.items told.parts world plan meaning stands_after state mid.number mid.was_refused nodes);
+    own = ap (λ (v : Vec ℕ). v.items) told.own ∙ own ∙ sym (told-heads mid.parts.items c now.parts.items told.parts);
+    here = subst (λ (z : ℕ × Vec ℕ). AreOn (λ p. p.executors) plan.channels z.0 z.1.items) (λ i. (sym told.number i, sym told.here i)) here;
+    seated = seated;
+    told = tells;
+  }
 
-  pub keeps-told : (meaning : S → Meaning) {n : OwnNodes S T} → OwnKeeps meaning n mid → OwnKeeps meaning n now
+  pub keeps-told : (meaning : S → Meaning) {n : ExecutorNodes S T} → OwnKeeps meaning n mid → OwnKeeps meaning n now
   keeps-told meaning k = record {
     routes = λ l. told-targets mid.parts.items c now.parts.items told.parts l ∙ k.routes l;
     written = λ l. told-written mid.parts.items c now.parts.items told.parts meaning l ∙ k.written l;
@@ -133,29 +137,3 @@ module _ {S T : Type 0} (mid now : OwnNodes S T) (c : ℕ) (told : AreToldAt mid
   pub makes-told : (meaning : S → Meaning) (world : World) (written : Lane → Bool) (from : Lane → Point) (b a : OutputsView) → Makes world written from (came_of meaning mid.parts.items) b a
       → Makes world written from (came_of meaning now.parts.items) b a
   makes-told meaning world written from b a = subst (λ (to : Lane → Point). Makes world written from to b a) (λ i l. sym (told-come mid.parts.items c now.parts.items told.parts meaning l) i)
-
--- ---- with the words that its heads tell
-
-module _ {S T : Type 0} (n n' : TellingNodes S T) where
-  -- what no call changes of the nodes, none changes of them with their words
-  pub telling-keeps : (meaning : S → Meaning) → OwnKeeps meaning n.nodes n'.nodes
-      → NodesKeep (λ (m : TellingNodes S T) l. entered_executor m.nodes.parts.items l) (λ m l. writes_of meaning m.nodes.parts.items l) (λ m. m.nodes.number) (λ m. data_lanes_of m.nodes.parts.items) (λ m. length m.nodes.own.items) n n'
-  telling-keeps meaning k = record { routes = k.routes; written = k.written; homes = k.homes; hops = k.hops; counts = k.counts }
-
-  -- they stand where the nodes do
-  pub telling-stands : (world : World) (plan : Plan) (meaning : S → Meaning) (stands_after : S → List Event → Type 0) (state : T → TransportState) → TellingStand world plan meaning stands_after state n
-      → OwnStand world plan meaning stands_after state n'.nodes → n'.nodes.number ≡ n.nodes.number → n'.here ≡ n.here → AreSeated n'.words.now plan n'.seats.items → TellingStand world plan meaning stands_after state n'
-  telling-stands world plan meaning stands_after state stand own number here seated = (
-    own.0,
-    own.1,
-    own.2,
-    seated,
-    on-stays plan n.nodes.number n'.nodes.number n.here.items n'.here.items number (ap (λ (v : Vec ℕ). v.items) here) stand.4,
-  )
-
--- they stand where the nodes do, after the head of one channel has told of its writes
-pub telling-told : {S T : Type 0} (n : TellingNodes S T) (mid : OwnNodes S T) (c : ℕ) (now : TellingNodes S T) → AreToldAt mid c now.nodes → now.here ≡ n.here
-    → (world : World) (plan : Plan) (meaning : S → Meaning) (stands_after : S → List Event → Type 0) (state : T → TransportState) → AreSeated now.words.now plan now.seats.items
-    → TellingStand world plan meaning stands_after state n → OwnStand world plan meaning stands_after state mid → mid.number ≡ n.nodes.number → TellingStand world plan meaning stands_after state now
-telling-told n mid c now told here world plan meaning stands_after state seated stand own number =
-    telling-stands n now world plan meaning stands_after state stand (own-told mid now.nodes c told world plan meaning stands_after state own) (told.number ∙ number) here seated

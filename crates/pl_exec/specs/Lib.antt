@@ -1,9 +1,9 @@
 pub mod Adding
 pub mod Opening
-pub mod OwnNodes
+pub mod ExecutorNodes
 pub mod Lanes
 pub mod Sharing
 pub mod Reported
-pub mod Starting
 pub mod SessionWords
 pub mod Telling
+pub mod Starting

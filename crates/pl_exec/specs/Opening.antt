@@ -1,10 +1,11 @@
 -- The inboxes of all executors once they are open, what each executor has of them, and the nodes with which it starts.
 use Rattle.std.specs.Global.{Vec}
-use Rattle.std.specs.Prelude.{◌≡◌, ◌≢◌, ℕ, ◌<◌, ◌^◌, Bool, true, false, List, [], ◌∷◌, ◌++◌, length, map, get_or, slice_get, All, Some, None}
+use Rattle.std.specs.Prelude.{◌≡◌, ◌≢◌, ℕ, ◌<◌, ◌^◌, Bool, true, false, List, [], ◌∷◌, drop, length, map, get_or, slice_get, All, Some, None}
 use Rattle.pl_event.specs.declared.envelopes.Lane.{Lane}
 use Rattle.pl_context.specs.Stops.{HasPlaces, AreAmong, no_stops}
 use Rattle.pl_queue.specs.declared.views.SenderView.{SenderView}
 use Rattle.pl_queue.specs.declared.views.TakerView.{TakerView}
+use Rattle.pl_queue.specs.Rule.{Each}
 use Rattle.pl_queue.specs.Views.{fresh_sends, fresh_takes, has_lane}
 use Rattle.pl_queue.specs.Left.{Apart, lanes_of_senders}
 use Rattle.pl_queue.specs.Limits.{opening_fault}
@@ -13,9 +14,9 @@ use Rattle.pl_words.specs.Admissions.{SendSeatView, OwnerSeatView, new_send_seat
 use Rattle.pl_words.specs.declared.status.Status.TheVariants.{Accepting}
 use Rattle.pl_flow.specs.Flows.{Point, point}
 use Rattle.pl_outbox.specs.Admitting.{FewLanes}
+use Rattle.pl_outbox.specs.declared.inbox.Inbox.{Inbox}
 use Rattle.pl_outbox.specs.OutboxViews.{OutboxView, waits_for}
 use Rattle.pl_threads.specs.Running.{ExecutorView}
-use Rattle.pl_exec.specs.Adding.{each_with}
 
 -- ---- the lanes
 
@@ -54,66 +55,50 @@ pub record InboxView (M : Type 0) : Type 0 where
   pub mailbox : M
   pub name : Name
 
--- The way to one executor: a sender, and a seat of its admission.
-pub record WayView (S : Type 0) : Type 0 where
-  pub sender : S
-  pub seat : SendSeatView
+abbrev pub inbox_view : {W M S T : Type 0} → Inbox W M S T → InboxView M
+inbox_view inbox = record { mailbox = inbox.mailbox; name = inbox.admission.name }
 
--- What an executor has of the inboxes: the taker and the owner's seat of its own, and the ways to all, by number.
-pub record WaysView (T S : Type 0) : Type 0 where
+-- What an executor has of its own inbox.
+pub record OwnView (T : Type 0) : Type 0 where
   pub taker : T
   pub owner : OwnerSeatView
-  pub ways : List (WayView S)
 
--- one way more, to the next target
-abbrev pub with_way : {T S : Type 0} → WaysView T S → WayView S → WaysView T S
-with_way w way = record w { ways = w.ways ++ way ∷ [] }
+-- The column of a target: the senders of its mailbox and the seats of its admission that are left for executors, one of each
+-- for the next executor, and so on.
+pub record ColumnView (S : Type 0) : Type 0 where
+  pub senders : List S
+  pub seats : List SendSeatView
 
--- so for each executor
-abbrev pub with_row : {T S : Type 0} → List (WaysView T S) → List (WayView S) → List (WaysView T S)
-with_row ws row = each_with with_way ws row
+-- what is left once so many executors have taken theirs
+abbrev pub column_after : {S : Type 0} → ℕ → ColumnView S → ColumnView S
+column_after n c = record { senders = drop n c.senders; seats = drop n c.seats }
 
-abbrev pub with_rows : {T S : Type 0} → List (WaysView T S) → List (List (WayView S)) → List (WaysView T S)
-with_rows ws [] = ws
-with_rows ws (row ∷ rows) = with_rows (with_row ws row) rows
+module _ {M T : Type 0} (is_taker : M → T → Type 0) (takes_of : T → TakerView) where
+  -- The taker and the owner's seat of an inbox with these senders. Nothing was taken, and nothing was closed.
+  pub record IsOwn (inbox : InboxView M) (senders : List (List Lane)) (own : OwnView T) : Type 0 where
+    pub taker : is_taker inbox.mailbox own.taker
+    pub takes : takes_of own.taker ≡ fresh_takes (lanes_of_senders senders)
+    pub owner : own.owner ≡ new_owner_seat inbox.name
+
+module _ {M S : Type 0} (is_sender : M → S → Type 0) (sends_of : S → SenderView) where
+  -- Senders of an inbox on these lanes, and as many seats. Nothing was sent, and nothing was admitted.
+  pub record IsColumn (inbox : InboxView M) (lanes : List (List Lane)) (c : ColumnView S) : Type 0 where
+    pub senders : Each (is_sender inbox.mailbox) c.senders
+    pub sends : map sends_of c.senders ≡ map fresh_sends lanes
+    pub count : length c.seats ≡ length lanes
+    pub seats : All (λ s. s ≡ new_send_seat inbox.name s.number) c.seats
+
+  -- So are the columns of all targets, once so many executors have taken theirs.
+  pub record AreColumns (lanes : LaneTable) (n : ℕ) (inboxes : List (InboxView M)) (columns : List (ColumnView S)) : Type 0 where
+    pub count : length columns ≡ length inboxes
+    pub each : (target : ℕ) (inbox : InboxView M) (c : ColumnView S) → slice_get inboxes target ≡ Some inbox → slice_get columns target ≡ Some c → IsColumn inbox (drop n (lanes_to lanes target)) c
 
 module _ {M T S : Type 0} (is_taker : M → T → Type 0) (takes_of : T → TakerView) (is_sender : M → S → Type 0) (sends_of : S → SenderView) where
-  -- The taker and the owner's seat of an inbox with these senders. Nothing was taken, and nothing was closed.
-  pub record IsOwn (inbox : InboxView M) (senders : List (List Lane)) (w : WaysView T S) : Type 0 where
-    pub taker : is_taker inbox.mailbox w.taker
-    pub takes : takes_of w.taker ≡ fresh_takes (lanes_of_senders senders)
-    pub owner : w.owner ≡ new_owner_seat inbox.name
-
-  -- The way to the executor that an inbox is of, on these lanes. Nothing was sent, and nothing was admitted.
-  pub record IsWay (inbox : InboxView M) (lanes : List Lane) (way : WayView S) : Type 0 where
-    pub sender : is_sender inbox.mailbox way.sender
-    pub sends : sends_of way.sender ≡ fresh_sends lanes
-    pub seat : way.seat ≡ new_send_seat inbox.name way.seat.number
-
-  -- The ways of all executors to the one that an inbox is of.
-  pub record AreWaysTo (inbox : InboxView M) (senders : List (List Lane)) (ways : List (WayView S)) : Type 0 where
-    pub each : (sender : ℕ) (lanes : List Lane) (way : WayView S) → slice_get senders sender ≡ Some lanes → slice_get ways sender ≡ Some way → IsWay inbox lanes way
-
-  -- The first inboxes of these lanes, what their own executors have of them, and the ways of all executors to them.
-  pub record AreRows (lanes first : LaneTable) (inboxes : List (InboxView M)) (all : List (WaysView T S)) (rows : List (List (WayView S))) : Type 0 where
-    pub inboxes_count : length inboxes ≡ length first
-    pub own_count : length all ≡ length first
-    pub rows_count : length rows ≡ length first
-    pub own : (target : ℕ) (inbox : InboxView M) (w : WaysView T S) → slice_get inboxes target ≡ Some inbox → slice_get all target ≡ Some w → IsOwn inbox (lanes_to lanes target) w × (w.ways ≡ [])
-    pub count : (target : ℕ) (row : List (WayView S)) → slice_get rows target ≡ Some row → length row ≡ length lanes
-    pub ways : (target : ℕ) (inbox : InboxView M) (row : List (WayView S)) → slice_get inboxes target ≡ Some inbox → slice_get rows target ≡ Some row → AreWaysTo inbox (lanes_to lanes target) row
-
-  -- What one executor has of the inboxes.
-  pub record HasWays (lanes : LaneTable) (inboxes : List (InboxView M)) (number : ℕ) (w : WaysView T S) : Type 0 where
-    pub own : (inbox : InboxView M) → slice_get inboxes number ≡ Some inbox → IsOwn inbox (lanes_to lanes number) w
-    pub count : length w.ways ≡ length inboxes
-    pub each : (target : ℕ) (inbox : InboxView M) (way : WayView S) → slice_get inboxes target ≡ Some inbox → slice_get w.ways target ≡ Some way → IsWay inbox (table_lanes lanes number target) way
-
-  -- The inboxes of all executors, and what each has of them, by number.
-  pub record AreOpened (lanes : LaneTable) (inboxes : List (InboxView M)) (ways : List (WaysView T S)) : Type 0 where
-    pub count : length inboxes ≡ length lanes
-    pub ways_count : length ways ≡ length lanes
-    pub each : (number : ℕ) (w : WaysView T S) → slice_get ways number ≡ Some w → HasWays lanes inboxes number w
+  -- The inboxes of the first of all targets, what their executors have of them, and their columns, of which nothing was taken.
+  pub record AreOpened (lanes : LaneTable) (inboxes : List (InboxView M)) (all : List (OwnView T)) (columns : List (ColumnView S)) : Type 0 where
+    pub count : length all ≡ length inboxes
+    pub own : (target : ℕ) (inbox : InboxView M) (o : OwnView T) → slice_get inboxes target ≡ Some inbox → slice_get all target ≡ Some o → IsOwn is_taker takes_of inbox (lanes_to lanes target) o
+    pub whole : AreColumns is_sender sends_of lanes 0 inboxes columns
 
 -- ---- the nodes of an executor
 
@@ -142,16 +127,28 @@ module _ {N : Type 0} (stands : N → Type 0) (home : N → ℕ) (hops_of : N �
     pub among : (l : Lane) → writes nodes l ≡ true → AreAmong (l ∷ []) (hops (target_of nodes l))
     pub few : FewLanes (writes nodes)
 
+  -- So do the nodes and places of all executors, by number.
+  pub record FitAll (lanes : LaneTable) (nodes : List N) (places : List PlacesView) : Type 0 where
+    pub nodes_count : length nodes ≡ length lanes
+    pub places_count : length places ≡ length lanes
+    pub each : (number : ℕ) (part : N) (reserved : PlacesView) → slice_get nodes number ≡ Some part → slice_get places number ≡ Some reserved → FitsLanes lanes number part reserved
+
 -- ---- executors before their first turn
 
--- the outbox of a way: nothing was sent by it
-abbrev pub outbox_of : {S : Type 0} → (S → SenderView) → WayView S → OutboxView
-outbox_of sends_of way = record { sends = sends_of way.sender; seat = way.seat }
+-- The next sender and the next seat of a column can make an outbox to this inbox.
+pub record CanSend {M S : Type 0} (is_sender : M → S → Type 0) (inbox : InboxView M) (c : ColumnView S) : Type 0 where
+  pub sender : 0 < length c.senders
+  pub seat : 0 < length c.seats
+  pub senders : Each (is_sender inbox.mailbox) c.senders
+  pub seats : All (λ s. s.name ≡ inbox.name) c.seats
 
--- Each is a way to the executor that the inbox of its number is of.
-abbrev pub AreWays : {M S : Type 0} → (M → S → Type 0) → List (InboxView M) → List (WayView S) → Type 0
-AreWays {M = M} {S = S} is_sender inboxes ways = (target : ℕ) (inbox : InboxView M) (way : WayView S) → slice_get inboxes target ≡ Some inbox → slice_get ways target ≡ Some way
-    → is_sender inbox.mailbox way.sender × (way.seat.name ≡ inbox.name)
+-- So it is with the column of each inbox.
+abbrev pub AllCanSend : {M S : Type 0} → (M → S → Type 0) → List (InboxView M) → List (ColumnView S) → Type 0
+AllCanSend {M = M} {S = S} is_sender inboxes columns = (target : ℕ) (inbox : InboxView M) (c : ColumnView S) → slice_get inboxes target ≡ Some inbox → slice_get columns target ≡ Some c → CanSend is_sender inbox c
+
+-- an outbox has the next sender and the next seat of a column
+abbrev pub HasNext : {S : Type 0} → (S → SenderView) → ColumnView S → OutboxView → Type 0
+HasNext sends_of c b = (slice_get (map sends_of c.senders) 0 ≡ Some b.sends) × (slice_get c.seats 0 ≡ Some b.seat)
 
 -- An executor before its first turn: nothing waits for others, nothing was taken, and its queue is accepting.
 pub record IsFirst {N : Type 0} (number : ℕ) (e : ExecutorView N) : Type 0 where
@@ -163,18 +160,20 @@ pub record IsFirst {N : Type 0} (number : ℕ) (e : ExecutorView N) : Type 0 whe
 
 module _ {M T S N : Type 0} (is_taker : M → T → Type 0) (takes_of : T → TakerView) (is_sender : M → S → Type 0) (sends_of : S → SenderView)
     (stands : N → Type 0) (home : N → ℕ) (hops_of : N → List Lane) (target_of : N → Lane → ℕ) (writes : N → Lane → Bool) (taken_of : N → Lane → ℕ) (came : N → Lane → Point) (was_refused : N → Bool) where
-  -- An executor with these nodes and ways can start: both fit the same lanes.
-  pub record Starts (inboxes : List (InboxView M)) (number : ℕ) (w : WaysView T S) (nodes : N) (places : PlacesView) : Type 0 where
+  -- An executor with these nodes and these ends of its own can start: both fit the same lanes, and so do the columns, of which
+  -- the executors before it have taken theirs.
+  pub record Starts (inboxes : List (InboxView M)) (number : ℕ) (ends : OwnView T) (columns : List (ColumnView S)) (nodes : N) (places : PlacesView) : Type 0 where
     pub lanes : LaneTable
+    pub square : IsSquare lanes
     pub count : length inboxes ≡ length lanes
-    pub ways : HasWays is_taker takes_of is_sender sends_of lanes inboxes number w
+    pub own : (inbox : InboxView M) → slice_get inboxes number ≡ Some inbox → IsOwn is_taker takes_of inbox (lanes_to lanes number) ends
+    pub left : AreColumns is_sender sends_of lanes number inboxes columns
     pub fits : FitsLanes stands home hops_of target_of writes taken_of came was_refused lanes number nodes places
 
   -- All executors can start: their inboxes were opened for the lanes that their nodes fit.
-  pub record CanStart (inboxes : List (InboxView M)) (ways : List (WaysView T S)) (nodes : List N) (places : List PlacesView) : Type 0 where
+  pub record CanStart (inboxes : List (InboxView M)) (all : List (OwnView T)) (columns : List (ColumnView S)) (nodes : List N) (places : List PlacesView) : Type 0 where
     pub lanes : LaneTable
-    pub opened : AreOpened is_taker takes_of is_sender sends_of lanes inboxes ways
-    pub nodes_count : length nodes ≡ length lanes
-    pub places_count : length places ≡ length lanes
-    pub fit : (number : ℕ) (part : N) (reserved : PlacesView) → slice_get nodes number ≡ Some part → slice_get places number ≡ Some reserved
-        → FitsLanes stands home hops_of target_of writes taken_of came was_refused lanes number part reserved
+    pub square : IsSquare lanes
+    pub count : length inboxes ≡ length lanes
+    pub opened : AreOpened is_taker takes_of is_sender sends_of lanes inboxes all columns
+    pub fit : FitAll stands home hops_of target_of writes taken_of came was_refused lanes nodes places

@@ -1,5 +1,5 @@
 -- The words of a session's channels, the seats on them, and what each call does to a seat.
-use Rattle.std.specs.Prelude.{◌≡◌, ◌⊎◌, ℕ, ◌+◌, ◌-◌, ◌<◌, ◌≤◌, ◌==◌, ◌&&◌, ◌||◌, Bool, not, List, [], ◌∷◌, ◌++◌, map, nat_lt, slice_get, slice_set, Option, Some, None, if◌then◌else◌}
+use Rattle.std.specs.Prelude.{◌≡◌, ◌⊎◌, ℕ, ◌+◌, ◌-◌, ◌<◌, ◌≤◌, ◌==◌, ◌&&◌, ◌||◌, Bool, not, List, [], ◌∷◌, ◌++◌, All, map, nat_lt, slice_get, slice_set, Option, Some, None, if◌then◌else◌}
 use Rattle.std.specs.Bool.{beq}
 use Rattle.pl_event.specs.declared.outcomes.Outcome.{Outcome}
 use Rattle.pl_words.specs.declared.watermark.Mark.{Mark}
@@ -61,6 +61,10 @@ IsReaderOf words reader = map sight_names reader ≡ words
 -- the seats of a channel with these marks whose words nobody has changed
 abbrev pub new_seats : ChannelNames → ℕ → ℕ → SeatsView
 new_seats names low high = record { mark = new_head_seat names.mark low high; settle = new_settler names.promises PROMISES 1 }
+
+-- nobody has changed the words of any of these seats
+abbrev pub AreUnused : List SeatsView → Type 0
+AreUnused heads = All (λ s. s ≡ new_seats (seats_names s) s.mark.low s.mark.high) heads
 
 -- the heads' seats of words that nobody has changed
 abbrev pub new_head_seats : {S T : Type 0} → List ChannelNames → List (Recorded S T) → List SeatsView

@@ -1,15 +1,34 @@
--- The channels with which a run starts.
-use Rattle.std.specs.Prelude.{◌≡◌, ◌≤◌, List, length, map}
+-- What a run is given, and the channels and nodes with which it starts.
+use Rattle.std.specs.Prelude.{◌≡◌, ℕ, ◌≤◌, List, length, map, true}
 use Rattle.pl_build.specs.declared.limits.TheConstants.{MAX_EXECUTORS}
 use Rattle.pl_event.specs.declared.events.Event.{Event}
 use Rattle.pl_event.specs.Meaning.{Meaning}
+use Rattle.pl_event.specs.Worlds.{World}
 use Rattle.pl_head.specs.Transports.{TransportState}
 use Rattle.pl_part.specs.Parts.{ChannelPartView}
+use Rattle.pl_channel.specs.Channels.{taken_of, writes_of, came_of, data_lanes_of}
+use Rattle.pl_channel.specs.Lanes.{world_of}
 use Rattle.pl_channel.specs.Placing.{ArePlaced}
 use Rattle.pl_world.specs.declared.limits.TheConstants.{MAX_CAPACITY, MAX_CHANNELS}
 use Rattle.pl_world.specs.declared.session.Recorded.{Recorded}
-use Rattle.pl_world.specs.Plans.{Plan, channel_planned}
+use Rattle.pl_world.specs.Plans.{Plan, channel_planned, planned}
 use Rattle.pl_world.specs.PlanRules.{IsPlan, IsSmallPlan}
+use Rattle.pl_world.specs.Worlds.{WorldView}
+use Rattle.pl_exec.specs.declared.nodes.ExecutorNodes.{ExecutorNodes}
+use Rattle.pl_exec.specs.Opening.{LaneTable, PlacesView, FitAll}
+use Rattle.pl_exec.specs.ExecutorNodes.{entered_executor}
+use Rattle.pl_exec.specs.SessionWords.{ChannelNames, SeatsView, AreHeadSeatsOf, HaveMarksOf}
+use Rattle.pl_exec.specs.Telling.{ExecutorStands}
+
+-- A run is given the world of the plan by which these channels run, queues that may hold so many, and the heads' seats on the
+-- words, with the marks of the channels.
+pub record IsRunOf {S T : Type 0} (meaning : S → Meaning) (state : T → TransportState) (world : World) (plan : Plan) (capacity : ℕ) (given : WorldView S T) (words : List ChannelNames) (seats : List SeatsView) : Type 0 where
+  pub named : world ≡ world_of true plan
+  pub made : plan ≡ planned meaning state capacity given.executors given.channels
+  pub some : 1 ≤ capacity
+  pub few : capacity ≤ MAX_CAPACITY
+  pub own : AreHeadSeatsOf words seats
+  pub marks : HaveMarksOf seats given.channels
 
 -- These are the channels of a plan within the limits, placed, and before any move.
 pub record AreReady {S T : Type 0} (meaning : S → Meaning) (stands_after : S → List Event → Type 0) (state : T → TransportState) (plan : Plan) (parts : List (ChannelPartView S T)) : Type 0 where
@@ -21,3 +40,9 @@ pub record AreReady {S T : Type 0} (meaning : S → Meaning) (stands_after : S �
   pub channels : length recorded ≤ MAX_CHANNELS
   pub executors : plan.executors ≤ MAX_EXECUTORS
   pub capacity : plan.capacity ≤ MAX_CAPACITY
+
+-- By executor its nodes and its places fit the lanes.
+abbrev pub FitExecutors : {S T : Type 0} → World → Plan → (S → Meaning) → (S → List Event → Type 0) → (T → TransportState) → LaneTable → List (ExecutorNodes S T) → List PlacesView → Type 0
+FitExecutors world plan meaning stands_after state lanes nodes places =
+    FitAll (ExecutorStands world plan meaning stands_after state) (λ n. n.number) (λ n. data_lanes_of n.parts.items) (λ n l. entered_executor n.parts.items l) (λ n l. writes_of meaning n.parts.items l)
+    (λ n l. taken_of n.parts.items l) (λ n l. came_of meaning n.parts.items l) (λ n. n.was_refused) lanes nodes places

@@ -1,5 +1,5 @@
 -- The nodes of an executor whose heads tell the words of their channels.
-use Rattle.std.specs.Prelude.{◌≡◌, ◌≢◌, ℕ, ◌-◌, ◌<◌, ◌≤◌, List, [], Contains, length, map, slice_get, slice_set, Option, Some, None, IsSome, true}
+use Rattle.std.specs.Prelude.{◌≡◌, ◌≢◌, ℕ, ◌-◌, ◌<◌, ◌≤◌, List, [], length, map, slice_get, slice_set, Option, Some, true}
 use Rattle.std.specs.Option.{option_map_or}
 use Rattle.pl_channel.specs.Lanes.{world_of}
 use Rattle.pl_event.specs.declared.events.Event.{Event}
@@ -13,9 +13,8 @@ use Rattle.pl_part.specs.Parts.{ChannelPartView, PartHolds}
 use Rattle.pl_part.specs.Told.{IsTold, part_untold}
 use Rattle.pl_words.specs.declared.watermark.TheConstants.{MAX_SETS}
 use Rattle.pl_world.specs.Plans.{ChannelPlan, Plan}
-use Rattle.pl_exec.specs.declared.nodes.OwnNodes.{OwnNodes}
-use Rattle.pl_exec.specs.declared.telling.TellingNodes.{TellingNodes}
-use Rattle.pl_exec.specs.OwnNodes.{AreOn, NodesStand, heads_of}
+use Rattle.pl_exec.specs.declared.nodes.ExecutorNodes.{ExecutorNodes}
+use Rattle.pl_exec.specs.ExecutorNodes.{AreOn, NodesStand, heads_of}
 use Rattle.pl_exec.specs.SessionWords.{ChannelNames, SeatsView, AreSeatsOf, TriesEach, seats_marks}
 
 abbrev pub plan_marks : ChannelPlan → ℕ × ℕ
@@ -36,33 +35,6 @@ pub record AreSeated (words : List ChannelNames) (plan : Plan) (seats : List (Op
   pub count : length seats ≡ length plan.channels
   pub each : (c : ℕ) (s : SeatsView) → slice_get seats c ≡ Some (Some s) → IsSeated words plan c s
 
--- The nodes of an executor with seats on the words of their channels.
-abbrev pub HaveSeats : {S T : Type 0} → Plan → TellingNodes S T → Type 0
-HaveSeats plan n = AreSeated n.words.now plan n.seats.items
-
--- Of a slot with seats, or none, of a channel: an executor that owns the channel gets it and leaves none, and another gets none
--- and leaves it.
-pub record IsDealt (own : List ℕ) (c : ℕ) (slot dealt left : Option SeatsView) : Type 0 where
-  pub here : Contains own c → (dealt ≡ slot) × (left ≡ None)
-  pub elsewhere : (Contains own c → ⊥) → (dealt ≡ None) × (left ≡ slot)
-
--- So it is with the slot of each channel.
-pub record AreDealt (own : List ℕ) (before dealt left : List (Option SeatsView)) : Type 0 where
-  pub each : (c : ℕ) (slot got rest : Option SeatsView) → slice_get before c ≡ Some slot → slice_get dealt c ≡ Some got → slice_get left c ≡ Some rest → IsDealt own c slot got rest
-
--- The seats are those of exactly the channels whose heads are among the nodes.
-pub record HasOwnSeats {S T : Type 0} (n : TellingNodes S T) : Type 0 where
-  pub here : (c : ℕ) (slot : Option SeatsView) → slice_get n.seats.items c ≡ Some slot → Contains n.nodes.own.items c → IsSome slot
-  pub elsewhere : (c : ℕ) (slot : Option SeatsView) → slice_get n.seats.items c ≡ Some slot → (Contains n.nodes.own.items c → ⊥) → slot ≡ None
-
--- The head of a channel is not among the nodes of two executors.
-pub record HaveApartHeads {S T : Type 0} (all : List (OwnNodes S T)) : Type 0 where
-  pub apart : (x y : ℕ) (a b : OwnNodes S T) (c : ℕ) → slice_get all x ≡ Some a → slice_get all y ≡ Some b → Contains a.own.items c → Contains b.own.items c → x ≡ y
-
--- They know which channels have a node here.
-abbrev pub KnowChannels : {S T : Type 0} → TellingNodes S T → Type 0
-KnowChannels n = AreOn (λ p. p.path.executors) n.nodes.parts.items n.nodes.number n.here.items
-
 -- The head of a channel has told some of its settled writes, or none. All else is as it was.
 pub record IsToldAt {S T : Type 0} (ps : List (ChannelPartView S T)) (c : ℕ) (ps' : List (ChannelPartView S T)) : Type 0 where
   pub before : ChannelPartView S T
@@ -71,11 +43,12 @@ pub record IsToldAt {S T : Type 0} (ps : List (ChannelPartView S T)) (c : ℕ) (
   pub becomes : ps' ≡ slice_set ps c after
   pub told : IsTold before after
 
--- The head of a channel of an executor's nodes has. All else is as it was.
-pub record AreToldAt {S T : Type 0} (n : OwnNodes S T) (c : ℕ) (n' : OwnNodes S T) : Type 0 where
+-- The head of a channel of an executor's nodes has. All else is as it was, but the seats.
+pub record AreToldAt {S T : Type 0} (n : ExecutorNodes S T) (c : ℕ) (n' : ExecutorNodes S T) : Type 0 where
   pub number : n'.number ≡ n.number
   pub refused : n'.was_refused ≡ n.was_refused
   pub own : n'.own ≡ n.own
+  pub here : n'.here ≡ n.here
   pub parts : IsToldAt n.parts.items c n'.parts.items
 
 -- Seats on the words of a channel, with the marks of its head, where that is one of the nodes of this part.
@@ -111,22 +84,21 @@ KeepsOthers before c after = (x : ℕ) (slot : Option SeatsView) → x ≢ c →
 
 -- This was done to the parts, and then the words of a channel were told how its head stands: its seats settled each write that
 -- this had not told. No other seats were used.
-pub record TellsAfter {S T : Type 0} (does : List (ChannelPartView S T) → Type 0) (c : ℕ) (n n' : TellingNodes S T) : Type 0 where
+pub record TellsAfter {S T : Type 0} (does : List (ChannelPartView S T) → Type 0) (c : ℕ) (n n' : ExecutorNodes S T) : Type 0 where
   pub between : List (ChannelPartView S T)
   pub done : does between
-  pub told : IsToldAt between c n'.nodes.parts.items
+  pub told : IsToldAt between c n'.parts.items
   pub settled : SettlesAt n.seats.items between c n'.seats.items
   pub others : KeepsOthers n.seats.items c n'.seats.items
 
 -- ---- what holds between two calls
 
-module _ {S T : Type 0} (world : World) (plan : Plan) (meaning : S → Meaning) (stands_after : S → List Event → Type 0) (state : T → TransportState) where
-  abbrev pub OwnStand : OwnNodes S T → Type 0
-  OwnStand n = (world ≡ world_of true plan) × NodesStand world plan meaning stands_after state n.number n.was_refused n.parts.items × (n.own.items ≡ heads_of n.parts.items)
-
-  abbrev pub TellingStand : TellingNodes S T → Type 0
-  TellingStand n = (world ≡ world_of true plan)
-      × NodesStand world plan meaning stands_after state n.nodes.number n.nodes.was_refused n.nodes.parts.items
-      × (n.nodes.own.items ≡ heads_of n.nodes.parts.items)
-      × AreSeated n.words.now plan n.seats.items
-      × AreOn (λ p. p.executors) plan.channels n.nodes.number n.here.items
+-- The nodes that are on an executor hold, go on as the plan has them, and have told the words of their channels how each head
+-- stands. Which heads and which channels are here is known.
+pub record ExecutorStands {S T : Type 0} (world : World) (plan : Plan) (meaning : S → Meaning) (stands_after : S → List Event → Type 0) (state : T → TransportState) (n : ExecutorNodes S T) : Type 0 where
+  pub is_world : world ≡ world_of true plan
+  pub nodes : NodesStand world plan meaning stands_after state n.number n.was_refused n.parts.items
+  pub own : n.own.items ≡ heads_of n.parts.items
+  pub here : AreOn (λ p. p.executors) plan.channels n.number n.here.items
+  pub seated : AreSeated n.words.now plan n.seats.items
+  pub told : (c : ℕ) → TellsAt n.seats.items n.parts.items c

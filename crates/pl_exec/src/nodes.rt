@@ -1,13 +1,14 @@
 //! The nodes of an executor.
 
 ghost use Rattle.std.specs.Prelude.{◌≡◌, ◌<◌, ◌^◌, ◌||◌, ◌&&◌, All, length, get_or, slice_get, Some, ℕ, true, false};
-ghost use Rattle.pl_exec.specs.OwnNodes.{HasGivenUp, IsRefusedBy, MayMoveOwn, AreOver, IsOverAt, IsPartOver, enters, served_of, entered_executor};
-ghost use Rattle.pl_exec.specs.Telling.{OwnStand};
+ghost use Rattle.pl_exec.specs.ExecutorNodes.{HasGivenUp, IsRefusedBy, MayMoveOwn, AreOver, IsOverAt, IsPartOver, enters, served_of, entered_executor};
+ghost use Rattle.pl_exec.specs.Telling.{ExecutorStands, TellsAfter, TellsAt};
 ghost use Rattle.pl_part.specs.Parts.{ChannelPartView, PartHolds};
 ghost use Rattle.pl_channel.specs.Channels.{IsMovedBy, IsTakenBy, came_of, taken_of, writes_of, data_lanes_of};
 ghost use Rattle.pl_event.specs.Worlds.{World};
 
 use crate::planned::Planned;
+use crate::words::{Seats, Words};
 use pl_context::Outputs;
 use pl_event::{Envelope, Kind, Lane, Stage};
 use pl_flow::HeadMove;
@@ -18,19 +19,25 @@ use pl_threads::Nodes;
 /// No executor has this number.
 const NOBODY: usize = 65_536;
 
-/// The nodes that are on an executor: for each channel, by number, the part of it that is there.
+/// The nodes that are on an executor, with the words that their heads tell.
 #[derive(Drop)]
-pub(crate) struct OwnNodes<S: Stage, T: Transport> {
+pub(crate) struct ExecutorNodes<'a, S: Stage, T: Transport> {
     /// The executor's number.
     pub(crate) number: usize,
+    /// By channel the part of it that is here.
     pub(crate) parts: Vec<ChannelPart<S, T>>,
     /// The channels whose heads are among these nodes, in order. Only these are read and written here.
     pub(crate) own: Vec<usize>,
+    /// The channels that have a node here, in order. Of the others nothing is left to be done.
+    pub(crate) here: Vec<usize>,
     /// Something of a lane that one of its contexts writes was refused.
     pub(crate) was_refused: bool,
+    pub(crate) words: &'a Words,
+    /// By channel the seats on its words, where its head is one of the nodes.
+    pub(crate) seats: Vec<Option<Seats>>,
 }
 
-impl<W: Planned, S: Stage, T: Transport> Nodes<W> for OwnNodes<S, T> {
+impl<'a, W: Planned, S: Stage, T: Transport> Nodes<W> for ExecutorNodes<'a, S, T> {
     ghost home = { λ n. n.number };
 
     ghost lanes = { λ n. data_lanes_of n.parts.items };
@@ -51,19 +58,21 @@ impl<W: Planned, S: Stage, T: Transport> Nodes<W> for OwnNodes<S, T> {
 
     ghost channel_at = { λ n at. get_or n.own.items at 0 };
 
+    ghost tells = { λ n c. TellsAt n.seats.items n.parts.items c };
+
     ghost may_move = { λ n by at answer. MayMoveOwn T.state n.parts.items n.own.items by at answer };
 
     ghost served = { λ n c. served_of T.state W.plan n.parts.items c };
 
     ghost are_over = { λ n. AreOver T.state n.parts.items };
 
-    ghost stands = { OwnStand W.world W.plan S.meaning S.stands_after T.state };
+    ghost stands = { ExecutorStands W.world W.plan S.meaning S.stands_after T.state };
 
-    ghost took = { λ n e before n' after. IsTakenBy S.meaning S.stands_after S.is_spent T.state n.parts.items e before n'.parts.items after };
+    ghost took = { λ n e before n' after. TellsAfter (λ between. IsTakenBy S.meaning S.stands_after S.is_spent T.state n.parts.items e before between after) e.lane.channel n n' };
 
-    ghost refused_by = { λ n lane before n' after. IsRefusedBy n.parts.items lane before n'.parts.items after };
+    ghost refused_by = { λ n lane before n' after. IsRefusedBy n.parts.items lane before n'.parts.items after × (n'.seats ≡ n.seats) };
 
-    ghost moved = { λ n by at before n' after. (n'.own ≡ n.own) × IsMovedBy T.state T.may_refuse n.parts.items by (get_or n.own.items at 0) before n'.parts.items after };
+    ghost moved = { λ n by at before n' after. TellsAfter (λ between. IsMovedBy T.state T.may_refuse n.parts.items by (get_or n.own.items at 0) before between after) (get_or n.own.items at 0) n n' };
 
     fn target(&self, lane: Lane) -> usize {
         match self.parts.get(lane.channel as usize) {
@@ -73,7 +82,12 @@ impl<W: Planned, S: Stage, T: Transport> Nodes<W> for OwnNodes<S, T> {
     }
 
     fn take(&mut self, envelope: Envelope, work: &mut Outputs) {
-        let _ = self.parts[envelope.lane.channel as usize].take(envelope, work);
+        let channel = envelope.lane.channel as usize;
+        let hop = envelope.lane.hop as usize;
+        let part = &mut self.parts[channel];
+        let is_head = hop + 1 == part.hops();
+        let _ = part.take(envelope, work);
+        self.tell_if(channel, is_head);
     }
 
     fn refuse(&mut self, lane: Lane, work: &mut Outputs) {
@@ -90,11 +104,13 @@ impl<W: Planned, S: Stage, T: Transport> Nodes<W> for OwnNodes<S, T> {
 
     fn move_head(&mut self, by: HeadMove, at: usize, work: &mut Outputs) -> bool {
         let channel = self.own[at];
-        self.parts[channel].move_head(by, work)
+        let has_moved = self.parts[channel].move_head(by, work);
+        self.tell_if(channel, has_moved);
+        has_moved
     }
 
     fn has_ended(&self) -> bool {
-        are_over(self.parts.as_slice())
+        are_over_at(self.parts.as_slice(), self.here.as_slice())
     }
 }
 
@@ -111,25 +127,8 @@ fn entered<S: Stage, T: Transport>(part: &ChannelPart<S, T>, lane: Lane) -> usiz
     }
 }
 
-/// Whether all nodes of these parts have ended or failed, no read step is left, and no flushed byte waits.
-fn are_over<S: Stage, T: Transport>(parts: &[ChannelPart<S, T>]) -> bool
-    requires holds { (world : World) × ((c : ℕ) (p : ChannelPartView S T) → slice_get parts.now c ≡ Some p → PartHolds world S.meaning S.stands_after T.state p) }
-    ensures over { result ≡ true → AreOver T.state parts.now }
-    ensures not_over { result ≡ false → AreOver T.state parts.now → ⊥ }
-{
-    for part in parts {
-        if !is_over(part) {
-            return false;
-        }
-    }
-    true
-}
-
-/// The same, of the parts of these channels.
-pub(crate) fn are_over_at<S: Stage, T: Transport>(
-    parts: &[ChannelPart<S, T>],
-    channels: &[usize],
-) -> bool
+/// Whether all nodes of the parts of these channels have ended or failed, no read step is left, and no flushed byte waits.
+fn are_over_at<S: Stage, T: Transport>(parts: &[ChannelPart<S, T>], channels: &[usize]) -> bool
     requires holds { (world : World) × ((c : ℕ) (p : ChannelPartView S T) → slice_get parts.now c ≡ Some p → PartHolds world S.meaning S.stands_after T.state p) }
     requires there { All (λ c. c < length parts.now) channels.now }
     ensures over { result ≡ true → All (λ c. IsOverAt T.state parts.now c) channels.now }

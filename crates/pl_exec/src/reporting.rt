@@ -5,8 +5,8 @@ ghost use Rattle.std.specs.List.{AllZip, range_with_len};
 ghost use Rattle.pl_world.specs.PlanRules.{IsPlan};
 ghost use Rattle.pl_exec.specs.Reported.{AreLeft, IsFinalReport, IsRunReport, nothing_found, with_part, with_parts};
 
+use crate::nodes::ExecutorNodes;
 use crate::planned::Planned;
-use crate::telling::TellingNodes;
 use pl_channel::into_report;
 use pl_context::Tail;
 use pl_event::{Sequence, Stage};
@@ -27,18 +27,18 @@ struct Found<T: Transport> {
 /// What became of each channel of the plan, by the nodes that each of its executors has left.
 pub(crate) fn report_of<W: Planned, M: Mailbox<W> + Drop, S: Stage, T: Transport>(
     alloc: Global,
-    all: Vec<Finished<W, M, TellingNodes<'_, S, T>>>,
+    all: Vec<Finished<W, M, ExecutorNodes<'_, S, T>>>,
     channels: usize,
 ) -> Result<Report, AllocError>
     requires plan { IsPlan W.plan }
-    requires executors { map (λ e. e.nodes.nodes.number) all.items ≡ range_with_len 0 W.plan.executors }
+    requires executors { map (λ e. e.nodes.number) all.items ≡ range_with_len 0 W.plan.executors }
     requires channels { channels ≡ length W.plan.channels }
     ensures { IfOk result (λ report. IsRunReport W.plan report) }
 {
     let mut found = none_found(alloc, channels)?;
     for finished in all {
-        let TellingNodes { nodes, .. } = finished.into_nodes();
-        find_ends(&mut found, nodes.parts);
+        let ExecutorNodes { parts, .. } = finished.into_nodes();
+        find_ends(&mut found, parts);
     }
     Ok(Report {
         channels: reports::<W, T>(alloc, found)?,

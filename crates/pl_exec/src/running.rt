@@ -1,31 +1,32 @@
 //! A session, run by executors on threads of their own.
 
-ghost use Rattle.std.specs.Prelude.{◌≡◌, ◌<◌, ◌≤◌, ℕ, IfOk, true};
+ghost use Rattle.std.specs.Prelude.{◌≡◌, ◌<◌, ◌≤◌, ℕ, IfOk, length, true};
 ghost use Rattle.pl_channel.specs.Lanes.{world_of};
 ghost use Rattle.pl_world.specs.declared.limits.TheConstants.{MAX_CAPACITY};
 ghost use Rattle.pl_world.specs.Plans.{planned};
 ghost use Rattle.pl_world.specs.Sessions.{plan_of};
+ghost use Rattle.pl_exec.specs.Opening.{CanOpenAll, lanes_in};
 ghost use Rattle.pl_exec.specs.Reported.{IsRunReport};
 ghost use Rattle.pl_exec.specs.SessionWords.{AreHeadSeatsOf, HaveMarksOf};
-ghost use Rattle.pl_exec.specs.Starting.{AreReady};
+ghost use Rattle.pl_exec.specs.Starting.{AreReady, FitExecutors, IsRunOf};
 ghost use Rattle.pl_exec.specs.Telling.{HaveMarks};
 
 use crate::lanes::lane_table;
-use crate::opening::{executors, open_all};
+use crate::nodes::ExecutorNodes;
+use crate::opening::{Places, executors, open_all};
 use crate::planned::Planned;
 use crate::reporting::report_of;
 use crate::sharing::{channels_on, places, shares};
-use crate::telling::telling;
 use crate::words::{HeadSeats, Words, words_of};
 use pl_channel::placed;
-use pl_event::Stage;
+use pl_event::{Lane, Stage};
 use pl_head::{MemoryTransport, Transport};
 use pl_part::ChannelPart;
 use pl_queue::{Mailbox, RingBox, WaitingBox};
 use pl_stages::Handler;
 use pl_threads::{Gate, RunFault, run_all};
 use pl_world::{Report, Session, World};
-use std::alloc::Global;
+use std::alloc::{AllocError, Global};
 use std::marker::Brand;
 use std::sync::Wait;
 use std::thread::Threads;
@@ -83,7 +84,7 @@ pub fn run_with<G: Gate + Sync, R: Threads + Wait + Sync>(
         words,
         seats,
     };
-    run_world_with(world, capacity, queue, given)
+    run_world_with::<Brand, Handler, MemoryTransport, G, R>(world, capacity, queue, given)
 }
 
 /// Runs a world of any stages and transports, whose queues hold `capacity` items each, from 1 to `MAX_CAPACITY`.
@@ -107,7 +108,7 @@ pub fn run_world<S: Stage + Send, T: Transport + Send, G: Gate + Sync, R: Thread
         words: &words,
         seats,
     };
-    run_world_with(world, capacity, queue, own)
+    run_world_with::<Brand, S, T, G, R>(world, capacity, queue, own)
 }
 
 /// What a run has beside its channels: the threads, the memory, the gate, and the words that its heads tell, with the
@@ -121,24 +122,8 @@ struct Setting<'a, G, R> {
     seats: HeadSeats,
 }
 
-/// Runs a world whose heads tell these words.
-fn run_world_with<S: Stage + Send, T: Transport + Send, G: Gate + Sync, R: Threads + Wait + Sync>(
-    world: World<S, T>,
-    capacity: u32,
-    queue: QueueKind,
-    setting: Setting<'_, G, R>,
-) -> Result<Report, RunFault>
-    requires capacity { (1 ≤ capacity) × (capacity ≤ MAX_CAPACITY) }
-    requires seats { AreHeadSeatsOf setting.words.now setting.seats }
-    requires marks { HaveMarksOf setting.seats world.channels }
-    ensures report { IfOk result (λ report. IsRunReport (planned S.meaning T.state capacity world.executors world.channels) report) }
-    ensures entered { IfOk result (λ _. (e : ℕ) → e < world.executors → G.was_entered setting.entry.gate.now e 0) }
-{
-    run_queued::<Brand, S, T, G, R>(world, capacity, queue, setting)
-}
-
-/// Runs the world of the plan over queues of this kind.
-fn run_queued<
+/// Runs the world of the plan, whose heads tell these words, over queues of this kind.
+fn run_world_with<
     W: Planned + Send + Sync,
     S: Stage + Send,
     T: Transport + Send,
@@ -150,11 +135,7 @@ fn run_queued<
     queue: QueueKind,
     setting: Setting<'_, G, R>,
 ) -> Result<Report, RunFault>
-    requires world { W.world ≡ world_of true W.plan }
-    requires plan { W.plan ≡ planned S.meaning T.state capacity world.executors world.channels }
-    requires capacity { (1 ≤ capacity) × (capacity ≤ MAX_CAPACITY) }
-    requires seats { AreHeadSeatsOf setting.words.now setting.seats }
-    requires marks { HaveMarksOf setting.seats world.channels }
+    requires { IsRunOf S.meaning T.state W.world W.plan capacity world setting.words.now setting.seats }
     ensures report { IfOk result (λ report. IsRunReport W.plan report) }
     ensures entered { IfOk result (λ _. (e : ℕ) → e < W.plan.executors → G.was_entered setting.entry.gate.now e 0) }
 {
@@ -164,7 +145,7 @@ fn run_queued<
     }
 }
 
-/// The same over mailboxes of one kind.
+/// Runs the world of the plan over mailboxes of one kind.
 fn run_by<
     W: Planned + Send + Sync,
     M: Mailbox<W> + Drop + Send + Sync,
@@ -176,42 +157,7 @@ fn run_by<
 where
     M::Sender: Send,
     M::Taker: Send,
-    requires world { W.world ≡ world_of true W.plan }
-    requires plan { W.plan ≡ planned S.meaning T.state capacity world.executors world.channels }
-    requires capacity { (1 ≤ capacity) × (capacity ≤ MAX_CAPACITY) }
-    requires seats { AreHeadSeatsOf setting.words.now setting.seats }
-    requires marks { HaveMarksOf setting.seats world.channels }
-    ensures report { IfOk result (λ report. IsRunReport W.plan report) }
-    ensures entered { IfOk result (λ _. (e : ℕ) → e < W.plan.executors → G.was_entered setting.entry.gate.now e 0) }
-{
-    let count = world.executors() as usize;
-    let parts = placed(setting.alloc, world.into_channels().into_vec())?;
-    run_parts::<W, M, S, T, G, R>(parts, count, capacity as usize, setting)
-}
-
-/// Runs the channels of the plan on so many executors, with queues of this capacity.
-fn run_parts<
-    W: Planned + Send + Sync,
-    M: Mailbox<W> + Drop + Send + Sync,
-    S: Stage + Send,
-    T: Transport + Send,
-    G: Gate + Sync,
-    R: Threads + Wait + Sync,
->(
-    parts: Vec<ChannelPart<S, T>>,
-    count: usize,
-    capacity: usize,
-    setting: Setting<'_, G, R>,
-) -> Result<Report, RunFault>
-where
-    M::Sender: Send,
-    M::Taker: Send,
-    requires world { W.world ≡ world_of true W.plan }
-    requires ready { AreReady S.meaning S.stands_after T.state W.plan parts.items }
-    requires executors { count ≡ W.plan.executors }
-    requires capacity { capacity ≡ W.plan.capacity }
-    requires seats { AreHeadSeatsOf setting.words.now setting.seats }
-    requires marks { HaveMarks setting.seats W.plan.channels }
+    requires { IsRunOf S.meaning T.state W.world W.plan capacity world setting.words.now setting.seats }
     ensures report { IfOk result (λ report. IsRunReport W.plan report) }
     ensures entered { IfOk result (λ _. (e : ℕ) → e < W.plan.executors → G.was_entered setting.entry.gate.now e 0) }
 {
@@ -222,14 +168,44 @@ where
         words,
         seats,
     } = setting;
+    let count = world.executors() as usize;
+    let parts = placed(alloc, world.into_channels().into_vec())?;
     let channels = parts.len();
+    let (nodes, places, lanes) = share_out::<W, S, T>(alloc, words, seats, parts, count)?;
+    let (inboxes, ends, columns) = open_all::<W, M>(alloc, lanes, capacity as usize)?;
+    let executors = executors(alloc, inboxes.as_slice(), ends, columns, nodes, places)?;
+    let all = run_all(rt, alloc, gate, executors)?;
+    Ok(report_of(alloc, all, channels)?)
+}
+
+/// Shares the channels of the plan out to so many executors: by executor its nodes, whose heads tell these words, and its
+/// places; and the lanes between them.
+fn share_out<'a, W: Planned, S: Stage, T: Transport>(
+    alloc: Global,
+    words: &'a Words,
+    seats: HeadSeats,
+    parts: Vec<ChannelPart<S, T>>,
+    count: usize,
+) -> Result<
+    (
+        Vec<ExecutorNodes<'a, S, T>>,
+        Vec<Places>,
+        Vec<Vec<Vec<Lane>>>,
+    ),
+    AllocError,
+>
+    requires world { W.world ≡ world_of true W.plan }
+    requires ready { AreReady S.meaning S.stands_after T.state W.plan parts.items }
+    requires executors { count ≡ W.plan.executors }
+    requires seats { AreHeadSeatsOf words.now seats }
+    requires marks { HaveMarks seats W.plan.channels }
+    ensures count { IfOk result (λ r. length r.0.items ≡ W.plan.executors) }
+    ensures fit { IfOk result (λ r. FitExecutors W.world W.plan S.meaning S.stands_after T.state (lanes_in r.2.items) r.0.items r.1.items) }
+    ensures open { IfOk result (λ r. CanOpenAll W.plan.capacity (lanes_in r.2.items)) }
+{
     let places = places(alloc, parts.as_slice(), count)?;
     let here = channels_on(alloc, parts.as_slice(), count)?;
     let lanes = lane_table(alloc, parts.as_slice(), count)?;
-    let own = shares(alloc, parts, count)?;
-    let nodes = telling::<W, S, T>(alloc, words, seats, own, here)?;
-    let (inboxes, ways) = open_all::<W, M>(alloc, lanes, capacity)?;
-    let executors = executors(alloc, inboxes.as_slice(), ways, nodes, places)?;
-    let all = run_all(rt, alloc, gate, executors)?;
-    Ok(report_of(alloc, all, channels)?)
+    let nodes = shares(alloc, words, seats, parts, here)?;
+    Ok((nodes, places, lanes))
 }

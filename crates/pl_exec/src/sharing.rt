@@ -1,78 +1,107 @@
 //! The nodes of all channels, each at its executor.
 
-ghost use Rattle.std.specs.Prelude.{◌≡◌, ◌<◌, ◌∷◌, ◌++◌, [], All, cond, length, map, IfOk, OnOk};
+ghost use Rattle.std.specs.Prelude.{◌≡◌, ◌<◌, ◌∷◌, ◌++◌, [], All, cond, is_some, length, map, not, IfOk, OnOk};
 ghost use Rattle.std.specs.List.{range_with_len};
+ghost use Rattle.pl_part.specs.Shares.{only_if};
 ghost use Rattle.pl_channel.specs.Ways.{ArePlaceable};
-ghost use Rattle.pl_exec.specs.Sharing.{AreNoted, AreShared, IsNoted, IsNotedAt, Gets, EachGets, channels_on, places_of, rows_in};
+ghost use Rattle.pl_exec.specs.SessionWords.{AreUnused};
+ghost use Rattle.pl_exec.specs.Sharing.{AreNoted, AreShared, IsNoted, IsNotedAt, Gets, EachGets, HaveOneHead, channels_on, places_of, rows_in};
 
-use crate::nodes::OwnNodes;
+use crate::nodes::ExecutorNodes;
 use crate::opening::Places;
+use crate::words::{HeadSeats, Seats, Words};
 use pl_channel::{lane_count, places_between};
 use pl_event::Stage;
 use pl_head::Transport;
 use pl_part::ChannelPart;
 use std::alloc::{AllocError, Global};
 
-/// The nodes of these channels, divided among so many executors.
-pub(crate) fn shares<S: Stage, T: Transport>(
+/// The nodes of these channels, divided among executors: each has those whose executor it is, a row of `here`, and the seats of
+/// the channels whose heads it has.
+pub(crate) fn shares<'a, S: Stage, T: Transport>(
     alloc: Global,
+    words: &'a Words,
+    seats: HeadSeats,
     parts: Vec<ChannelPart<S, T>>,
-    count: usize,
-) -> Result<Vec<OwnNodes<S, T>>, AllocError>
-    ensures { IfOk result (λ all. AreShared S.meaning S.stands_after T.state parts.items count all.items) }
+    here: Vec<Vec<usize>>,
+) -> Result<Vec<ExecutorNodes<'a, S, T>>, AllocError>
+    requires { length seats ≡ length parts.items }
+    ensures shared { IfOk result (λ all. AreShared S.meaning S.stands_after T.state parts.items words.now seats (rows_in here.items) all.items) }
+    ensures new { IfOk result (λ all. AreUnused seats) }
 {
-    let mut all = no_nodes(alloc, count)?;
-    for part in parts {
-        add_shares(&mut all, part.split(alloc, count)?)?;
+    let count = here.len();
+    let mut all = no_nodes(alloc, words, here)?;
+    for (part, seats) in parts.into_iter().zip(seats.channels) {
+        add_shares(&mut all, part.split(alloc, count)?, seats)?;
     }
     Ok(all)
 }
 
-/// So many executors, each with its number, and without nodes.
-fn no_nodes<S: Stage, T: Transport>(
+/// An executor for each row, with its number, the words and the row, and without nodes.
+fn no_nodes<'a, S: Stage, T: Transport>(
     alloc: Global,
-    count: usize,
-) -> Result<Vec<OwnNodes<S, T>>, AllocError>
-    ensures { IfOk result (λ all. AreShared S.meaning S.stands_after T.state [] count all.items) }
+    words: &'a Words,
+    rows: Vec<Vec<usize>>,
+) -> Result<Vec<ExecutorNodes<'a, S, T>>, AllocError>
+    ensures { IfOk result (λ all. AreShared S.meaning S.stands_after T.state [] words.now [] (rows_in rows.items) all.items) }
 {
-    let mut all = Vec::with_capacity(alloc, count)?;
-    for number in 0..count {
-        all.push(OwnNodes {
+    let mut all = Vec::with_capacity(alloc, rows.len())?;
+    for here in rows {
+        let number = all.len();
+        all.push(ExecutorNodes {
             number,
             parts: Vec::new(alloc),
             own: Vec::new(alloc),
+            here,
             was_refused: false,
+            words,
+            seats: Vec::new(alloc),
         })?;
     }
     Ok(all)
 }
 
-/// One channel more: each executor gets its share.
+/// One channel more: each executor gets its share, and that of the head the seats.
 fn add_shares<S: Stage, T: Transport>(
-    all: &mut Vec<OwnNodes<S, T>>,
+    all: &mut Vec<ExecutorNodes<'_, S, T>>,
     shares: Vec<ChannelPart<S, T>>,
+    seats: Seats,
 ) -> Result<(), AllocError>
-    requires { length shares.items ≡ length all.old.items }
-    ensures { OnOk result (EachGets all.old.items shares.items all.new.items) }
+    requires count { length shares.items ≡ length all.old.items }
+    requires one { HaveOneHead shares.items }
+    ensures { OnOk result (EachGets all.old.items shares.items seats all.new.items) }
 {
+    let mut left = Some(seats);
     let mut number = 0;
     for share in shares {
-        add_share(&mut all[number], share)?;
+        add_share(&mut all[number], share, &mut left)?;
         number += 1;
     }
     Ok(())
 }
 
-/// One channel more, which is its own where the head is among its nodes.
+/// One channel more, which is its own where the head is among its nodes. It takes the seats then.
 fn add_share<S: Stage, T: Transport>(
-    nodes: &mut OwnNodes<S, T>,
+    nodes: &mut ExecutorNodes<'_, S, T>,
     share: ChannelPart<S, T>,
+    seats: &mut Option<Seats>,
 ) -> Result<(), AllocError>
-    ensures { OnOk result (Gets nodes.old share nodes.new) }
+    ensures got { OnOk result (Gets nodes.old share seats.old nodes.new) }
+    ensures left { OnOk result (seats.new ≡ only_if (not (is_some share.head)) seats.old) }
 {
-    note_if(&mut nodes.own, nodes.parts.len(), share.head().is_some())?;
+    let has_head = share.head().is_some();
+    note_if(&mut nodes.own, nodes.parts.len(), has_head)?;
+    nodes.seats.push(take_if(seats, has_head))?;
     nodes.parts.push(share)?;
     Ok(())
+}
+
+/// The seats, where they are wanted. Else they stay.
+fn take_if(seats: &mut Option<Seats>, wanted: bool) -> Option<Seats>
+    ensures taken { result ≡ only_if wanted seats.old }
+    ensures left { seats.new ≡ only_if (not wanted) seats.old }
+{
+    if wanted { seats.take() } else { None }
 }
 
 /// Notes a channel where it is wanted.

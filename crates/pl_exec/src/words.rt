@@ -90,7 +90,8 @@ impl Seats {
     }
 }
 
-/// The right to change the words of a session's channels, which a run is given. There is one for all words.
+/// The right to change the words of a session's channels, which a run is given. There is one for all words, and they are as
+/// they were made.
 #[derive(Drop)]
 pub struct HeadSeats {
     /// By channel.
@@ -99,11 +100,13 @@ pub struct HeadSeats {
 
 impl Model for HeadSeats {
     ghost use Rattle.std.specs.Prelude.{List};
-    ghost use Rattle.pl_exec.specs.SessionWords.{SeatsView};
+    ghost use Rattle.pl_exec.specs.SessionWords.{SeatsView, AreUnused};
 
     ghost Value = { List SeatsView };
 
     ghost view = { λ s. s.channels.items };
+
+    ghost invariant = { λ s. AreUnused s.channels.items };
 }
 
 /// A reader's seats of one channel.

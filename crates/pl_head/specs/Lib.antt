@@ -11,3 +11,4 @@ pub mod ReadSteps
 pub mod InputStand
 pub mod Buffers
 pub mod HeadStand
+pub mod HeadCalls

@@ -91,6 +91,7 @@ impl<T> Model for Head<T> {
 
 impl<T: Transport> Head<T> {
     ghost use Rattle.pl_head.specs.Buffers.{SameMarks, SettlesMore, StopsNumbers, LacksRoom, untold};
+    ghost use Rattle.pl_head.specs.HeadCalls.{HeadTakes, HeadReads, HeadWrites, HeadAborts};
     ghost use Rattle.pl_head.specs.HeadStand.{HeadStandsAfter, HasOutcomes, ReadsStand, Aborts, waiting_at, is_idle, is_read_held, read_answer, EntersHead, lane_over, Answers, events_before, events_from, item_sizes, step_sizes, standing_after, cause_of_item, cause_of_step, head_cause, HasFewFlags};
 
     /// A head that has taken nothing, of a transport that has accepted nothing, with the bursts that it is to read: with
@@ -141,32 +142,7 @@ impl<T: Transport> Head<T> {
     /// by itself one read step is left where that lane is open: it gives the failure, and closes the lane.
     pub fn next_read(&mut self, outputs: &mut Outputs) -> ReadStep
         requires places { HasPlaces outputs.old.stopped (entrance self.old.channel ∷ []) }
-
-        // Which of the three, whichever steps were made, and whichever events were taken.
-        ensures done { (p : ReadPlan) (reads : ℕ) (failed : Bool) → ReadsStand p reads failed self.old → (result ≡ ReadStep.Done) ↔ (has_step p reads failed ≡ false) }
-        ensures answer { (p : ReadPlan) (reads : ℕ) (failed : Bool) (ys zs : List Event) (sizes : List Change) → ReadsStand p reads failed self.old → HeadStandsAfter T.state self.old ys zs sizes
-            → result ≡ read_answer (has_step p reads failed) (is_read_held T.state p reads self.old ys) }
-        ensures never_held { IsSome self.old.failure → result ≢ ReadStep.Held }
-        ensures open { (result ≡ ReadStep.Done) ↔ (self.old.input.port.is_open ≡ false) }
-
-        // What it gives.
-        ensures idle { result ≢ ReadStep.Gave → (self.new ≡ self.old) × (outputs.new ≡ outputs.old) }
-        ensures reads { result ≡ ReadStep.Gave → (p : ReadPlan) (reads : ℕ) (failed : Bool) → ReadsStand p reads failed self.old
-            → ReadsStand p (steps_after p reads self.old.failure) (brings_failure p reads self.old.failure) self.new }
-        ensures puts { result ≡ ReadStep.Gave → (p : ReadPlan) (reads : ℕ) (failed : Bool) → ReadsStand p reads failed self.old → brings_abort p reads self.old.failure ≡ false
-            → PutsAll outputs.old (numbered (entrance self.old.channel) (read_items (bursts_read p) reads) (next_step_items p reads self.old.failure)) outputs.new }
-        ensures same { result ≡ ReadStep.Gave → (p : ReadPlan) (reads : ℕ) (failed : Bool) → ReadsStand p reads failed self.old → brings_abort p reads self.old.failure ≡ false
-            → self.new ≡ record self.old { input = self.new.input } }
-
-        ensures entrance { self.new.input.port.lane ≡ self.old.input.port.lane }
-
-        // The abort step does what `abort` does.
-        ensures aborts { result ≡ ReadStep.Gave → (p : ReadPlan) (reads : ℕ) (failed : Bool) → ReadsStand p reads failed self.old → brings_abort p reads self.old.failure ≡ true
-            → Aborts T.state self.old outputs.old self.new outputs.new }
-        ensures numbering { self.new.buffer.is_full ≡ self.old.buffer.is_full }
-        ensures marks { SameMarks self.old.buffer self.new.buffer }
-        ensures settles { SettlesMore self.old.buffer self.new.buffer }
-        ensures few { HasFewFlags self.new }
+        ensures { HeadReads T.state self.old outputs.old result self.new outputs.new }
     {
         if !self.input.has_step() {
             return ReadStep::Done;
@@ -213,15 +189,7 @@ impl<T: Transport> Head<T> {
     /// the data lane of the first hop, where that is open, and closes it. A head that has failed is unchanged.
     pub fn abort(&mut self, outputs: &mut Outputs)
         requires places { HasPlaces outputs.old.stopped (entrance self.old.channel ∷ []) }
-        ensures aborts { self.old.failure ≡ None → Aborts T.state self.old outputs.old self.new outputs.new }
-        ensures reads { self.old.failure ≡ None → (p : ReadPlan) (reads : ℕ) (failed : Bool) → ReadsStand p reads failed self.old
-            → ReadsStand p reads (self.old.input.port.is_open || failed) self.new }
-        ensures failed { IsSome self.old.failure → (self.new ≡ self.old) × (outputs.new ≡ outputs.old) }
-        ensures failure { self.new.failure ≡ first_cause self.old.failure (Some Aborted) }
-        ensures numbering { self.new.buffer.is_full ≡ self.old.buffer.is_full }
-        ensures marks { SameMarks self.old.buffer self.new.buffer }
-        ensures settles { SettlesMore self.old.buffer self.new.buffer }
-        ensures few { HasFewFlags self.new }
+        ensures { HeadAborts T.state self.old outputs.old self.new outputs.new }
     {
         if self.failure.is_some() {
             return;
@@ -244,32 +212,7 @@ impl<T: Transport> Head<T> {
         requires number { envelope.number ≡ self.old.taken }
         requires limit { envelope.number < MAX_ITEMS }
         requires places { HasPlaces outputs.old.stopped (flags_lane self.old.channel 0 ∷ []) }
-        ensures taken { self.new.taken ≡ self.old.taken + 1 }
-        ensures answer { lane_over self.old ≡ false → Answers (is_some self.old.failure) envelope.item result }
-
-        // After whichever events it stood, it stands after those and what the item brought.
-        ensures stands { lane_over self.old ≡ false → (ys zs : List Event) (sizes : List Change) → HeadStandsAfter T.state self.old ys zs sizes
-            → HeadStandsAfter T.state self.new (ys ++ events_before (is_some self.old.failure) envelope.item result) (zs ++ events_from (is_some self.old.failure) envelope.item result)
-            (sizes ++ item_sizes (is_some self.old.failure) envelope.item result (waiting_at T.state self.old ys) (waiting_at T.state self.new (ys ++ events_before (is_some self.old.failure) envelope.item result))) }
-        ensures flags { lane_over self.old ≡ false → (ys zs : List Event) (sizes : List Change) → HeadStandsAfter T.state self.old ys zs sizes
-            → SendsFlags self.old.buffer.low self.old.buffer.high sizes
-            (item_sizes (is_some self.old.failure) envelope.item result (waiting_at T.state self.old ys) (waiting_at T.state self.new (ys ++ events_before (is_some self.old.failure) envelope.item result)))
-            self.old.buffer.flags outputs.old self.new.buffer.flags outputs.new }
-
-        // An event is refused only where it is a write for which there is no room. Numbering stops only where there is no
-        // room for an outcome.
-        ensures refused { self.old.standing ≡ stands.Open → (event : Event) → envelope.item ≡ Item.Event event → result ≢ took.Ran → LacksRoom event self.old.buffer }
-        ensures stops { StopsNumbers self.old.buffer self.new.buffer }
-        ensures failure { self.old.standing ≡ stands.Open → self.new.failure ≡ first_cause self.old.failure (cause_of_item envelope.item result) }
-        ensures standing { self.old.standing ≡ stands.Open → self.new.standing ≡ standing_after (is_some self.old.failure) envelope.item }
-
-        // After an end or a failure of its lane it only counts. One that has failed by itself notes these too.
-        ensures closed { lane_over self.old ≡ false → self.new.is_closed ≡ (is_some self.old.failure && closes envelope.item) }
-        ensures over { lane_over self.old ≡ true → (result ≡ took.Ran) × (self.new ≡ record self.old { taken = self.new.taken }) × (outputs.new ≡ outputs.old) }
-        ensures same { self.new ≡ record self.old { taken = self.new.taken; standing = self.new.standing; failure = self.new.failure; is_closed = self.new.is_closed; buffer = self.new.buffer } }
-        ensures marks { SameMarks self.old.buffer self.new.buffer }
-        ensures settles { SettlesMore self.old.buffer self.new.buffer }
-        ensures few { HasFewFlags self.new }
+        ensures { HeadTakes T.state self.old envelope outputs.old result self.new outputs.new }
     {
         match self.standing {
             Standing::Open if !self.is_closed => self.take_open(envelope.item, outputs),
@@ -365,49 +308,7 @@ impl<T: Transport> Head<T> {
     /// each message that has not left whole is a fault.
     pub fn write_once(&mut self, outputs: &mut Outputs) -> OutStep
         requires places { HasPlaces outputs.old.stopped (flags_lane self.old.channel 0 ∷ []) }
-
-        // One call, unless it is idle.
-        ensures called { result ≢ OutStep.Idle → (T.state self.new.transport).calls ≡ one_call_more (T.state self.old.transport).calls }
-        ensures idle { result ≡ OutStep.Idle → (self.new ≡ self.old) × (outputs.new ≡ outputs.old) }
-
-        // What the call answered.
-        ensures wrote { (n : ℕ) → result ≡ OutStep.Wrote n → length (T.state self.new.transport).accepted ≡ length (T.state self.old.transport).accepted + n }
-        ensures sound { (n : ℕ) → result ≡ OutStep.Wrote n → (T.state self.new.transport).failures ≡ (T.state self.old.transport).failures }
-        ensures failed { result ≡ OutStep.Failed → (T.state self.new.transport).failures ≡ one_call_more (T.state self.old.transport).failures }
-        ensures kept { result ≡ OutStep.Failed → (T.state self.new.transport).accepted ≡ (T.state self.old.transport).accepted }
-        ensures nothing { result ≡ OutStep.Wrote 0 → (self.new.buffer ≡ self.old.buffer) × (outputs.new ≡ outputs.old) }
-        ensures window { (T.state self.new.transport).window ≡ (T.state self.old.transport).window }
-        ensures fail_at { (T.state self.new.transport).fail_at ≡ (T.state self.old.transport).fail_at }
-
-        // It offers what is left of the first flushed message.
-        ensures within { (n : ℕ) (ys zs : List Event) (sizes : List Change) → result ≡ OutStep.Wrote n → HeadStandsAfter T.state self.old ys zs sizes
-            → n ≤ bytes_offered 0 (length (T.state self.old.transport).accepted) (flushed_writes ys) }
-        ensures full { (n w : ℕ) (ys zs : List Event) (sizes : List Change) → result ≡ OutStep.Wrote n → HeadStandsAfter T.state self.old ys zs sizes
-            → (T.state self.old.transport).window ≡ Some w → n ≡ min (bytes_offered 0 (length (T.state self.old.transport).accepted) (flushed_writes ys)) w }
-
-        // It fails at the call that the transport was told to fail at, and else only where the transport may refuse what is
-        // offered.
-        ensures told { (n : ℕ) → result ≡ OutStep.Wrote n → FailsNext (T.state self.old.transport) → ⊥ }
-        ensures untold { (ys zs : List Event) (sizes : List Change) → result ≡ OutStep.Failed → HeadStandsAfter T.state self.old ys zs sizes
-            → FailsNext (T.state self.old.transport) ⊎ T.may_refuse self.old.transport (bytes_offered 0 (length (T.state self.old.transport).accepted) (flushed_writes ys)) }
-
-        // It is idle exactly where no flushed byte waits or the head has failed.
-        ensures waits { (ys zs : List Event) (sizes : List Change) → HeadStandsAfter T.state self.old ys zs sizes → (result ≡ OutStep.Idle) ↔ (is_idle T.state self.old ys ≡ true) }
-        ensures rests { IsSome self.old.failure → result ≡ OutStep.Idle }
-
-        // After whichever events it stood, it stands after those, and the sizes of what has left whole are removed; where
-        // it fails, those of all that waited.
-        ensures stands { (ys zs : List Event) (sizes : List Change) → HeadStandsAfter T.state self.old ys zs sizes
-            → HeadStandsAfter T.state self.new ys zs (sizes ++ step_sizes result (waiting_at T.state self.old ys) (waiting_at T.state self.new ys)) }
-        ensures flags { (ys zs : List Event) (sizes : List Change) → HeadStandsAfter T.state self.old ys zs sizes
-            → SendsFlags self.old.buffer.low self.old.buffer.high sizes (step_sizes result (waiting_at T.state self.old ys) (waiting_at T.state self.new ys))
-            self.old.buffer.flags outputs.old self.new.buffer.flags outputs.new }
-        ensures failure { self.new.failure ≡ first_cause self.old.failure (cause_of_step result) }
-        ensures same { self.new ≡ record self.old { transport = self.new.transport; failure = self.new.failure; buffer = self.new.buffer } }
-        ensures numbering { self.new.buffer.is_full ≡ self.old.buffer.is_full }
-        ensures marks { SameMarks self.old.buffer self.new.buffer }
-        ensures settles { SettlesMore self.old.buffer self.new.buffer }
-        ensures few { HasFewFlags self.new }
+        ensures { HeadWrites T.state T.may_refuse self.old outputs.old result self.new outputs.new }
     {
         if self.failure.is_some() {
             return OutStep::Idle;

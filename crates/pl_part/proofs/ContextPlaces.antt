@@ -1,7 +1,8 @@
--- A context takes an item: the places for lanes stay.
-use Rattle.std.proofs.Common.{◌≡◌, ℕ, ◌+◌, Bool, true, false, List, [], ◌∷◌, ◌++◌, refl, ap, sym, subst, ⊎_elim}
-use Rattle.std.specs.Prelude.{◌||◌}
-use Rattle.std.proofs.lemmas.Bool.{cond-true, cond-false, cases_Bool, or_right}
+-- A context takes an item: its lanes and the places for lanes stay.
+use Rattle.std.proofs.Common.{◌≡◌, ℕ, ◌+◌, Bool, true, false, List, [], ◌∷◌, ◌++◌, refl, ap, sym, subst, ◌∙◌, ⊎_elim, append-nil, append_assoc}
+use Rattle.std.specs.Prelude.{◌||◌, if◌then◌else◌}
+use Rattle.std.specs.List.{list_any}
+use Rattle.std.proofs.lemmas.Bool.{cond-true, cond-false, cases_Bool, or_left, or_right}
 use Rattle.pl_event.specs.declared.envelopes.Kind.{Kind}
 use Rattle.pl_event.specs.declared.envelopes.Kind.TheVariants.{Data, Flags}
 use Rattle.pl_event.specs.declared.envelopes.Lane.{Lane}
@@ -12,6 +13,8 @@ use Rattle.pl_event.specs.declared.events.Event.{Event}
 use Rattle.pl_event.specs.declared.outcomes.Cause.{Cause}
 use Rattle.pl_event.specs.declared.outcomes.Cause.TheVariants.{Memory}
 use Rattle.pl_event.specs.Meaning.{Meaning}
+use Rattle.pl_context.specs.declared.added.Added.{Added}
+use Rattle.pl_context.specs.declared.added.Added.TheVariants.{Last, Refused, Discarded}
 use Rattle.pl_context.specs.declared.ports.Port.{Port}
 use Rattle.pl_context.specs.declared.standing.Standing.{Standing}
 use Rattle.pl_context.specs.declared.standing.Standing.TheVariants as stands
@@ -20,11 +23,12 @@ use Rattle.pl_context.specs.declared.standing.Took.TheVariants as took
 use Rattle.pl_context.specs.Standings.{is_over, has_failed}
 use Rattle.pl_context.specs.Stops.{StopsView, same_hop, AreAmong, HasPlaces}
 use Rattle.pl_context.specs.OutputsViews.{OutputsView, PutsAll}
-use Rattle.pl_context.specs.Ports.{numbered, offered}
-use Rattle.pl_context.specs.ContextViews.{ContextView}
+use Rattle.pl_context.specs.Ports.{numbered, offered, flag_port_after}
+use Rattle.pl_context.specs.ContextViews.{ContextView, lane_of, open_lanes}
 use Rattle.pl_context.specs.Contexts.{GivesLast, TakesItem, TakesFlag, counted, offers, last_item}
 use Rattle.pl_context.proofs.Places.{places-after}
 use Rattle.pl_part.specs.ContextHolds.{context_lanes}
+use Rattle.pl_part.specs.Taking.{ContextTakes}
 
 -- each is of one of these lanes
 abbrev pub AllAmong : List Lane → List Envelope → Type 0
@@ -121,3 +125,69 @@ module _ {S : Type 0} (meaning : S → Meaning) (stands_after : S → List Event
         by k is (stands.Failed cause) over = same-places (ap (λ (y : OutputsView). y.stopped) (drops (ap has_failed over)).2)
         by Flags is stands.Open live = flag-places e.item answer c' (flag is (ap has_failed live))
         by Flags is stands.Ended live = flag-places e.item answer c' (flag is (ap has_failed live))
+
+-- ---- its lanes
+
+-- a lane that is open is one of them
+open-first : (p : Port) (lane : Lane) (rest : List Lane) (b : Bool) → list_any (same_hop lane) (lane_of p ++ rest) ≡ true → (list_any (same_hop lane) rest ≡ true → b ≡ true) → (same_hop lane p.lane || b) ≡ true
+open-first p lane rest b any more = by p.is_open any
+  where
+    by : (is_open : Bool) → list_any (same_hop lane) ((if is_open then p.lane ∷ [] else []) ++ rest) ≡ true → (same_hop lane p.lane || b) ≡ true
+    by true e = ⊎_elim
+        (λ (t : same_hop lane p.lane ≡ true). or_left (same_hop lane p.lane) b t)
+        (λ (f : same_hop lane p.lane ≡ false). or_right (same_hop lane p.lane) b (more (sym (ap (λ (x : Bool). x || list_any (same_hop lane) rest) f) ∙ e)))
+        (cases_Bool (same_hop lane p.lane))
+    by false e = or_right (same_hop lane p.lane) b (more e)
+
+pub open-places : {S : Type 0} (c : ContextView S) (s : StopsView) → HasPlaces s (context_lanes c) → HasPlaces s (open_lanes c)
+open-places c s p = record {
+  hops = p.hops;
+  few = p.few;
+  stopped = p.stopped;
+  stopped_flags = p.stopped_flags;
+  own = λ lane any. p.own lane (open-first c.up lane (lane_of c.down ++ lane_of c.flags) (same_hop lane c.down.lane || (same_hop lane c.flags.lane || false)) (subst (λ (ls : List Lane). list_any (same_hop lane) ls ≡ true) (append_assoc (lane_of c.up) (lane_of c.down) (lane_of c.flags)) any)
+      (λ below. open-first c.down lane (lane_of c.flags) (same_hop lane c.flags.lane || false) below
+      (λ aside. open-first c.flags lane [] false (subst (λ (ls : List Lane). list_any (same_hop lane) ls ≡ true) (sym (append-nil (lane_of c.flags))) aside) (λ none. none))));
+}
+
+flag-lane : (answer : Added) (p : Port) → (flag_port_after answer p).lane ≡ p.lane
+flag-lane Last p = refl
+flag-lane Refused p = refl
+flag-lane Discarded p = refl
+
+module _ {S : Type 0} (meaning : S → Meaning) (stands_after : S → List Event → Type 0) (is_spent : S → Bool) (c : ContextView S) (b a : OutputsView) where
+  item-lanes : (i : Item) (xs : List Event) → stands_after c.stage xs → (answer : Took) (c' : ContextView S) → TakesItem meaning stands_after is_spent (counted Data c) i b answer c' a → context_lanes c' ≡ context_lanes c
+  item-lanes (item.Event x) xs at took.Ran c' t =
+      (λ j. ap (λ (p : Port). p.lane) (t.up xs at) j ∷ ap (λ (p : Port). p.lane) (t.down xs at) j ∷ ap (λ (z : ContextView S). z.flags.lane) t.same j ∷ [])
+  item-lanes (item.Event x) xs at (took.Failed cause) c' t = ap (λ (z : ContextView S). context_lanes z) t.1.closes.context
+  item-lanes (item.Event x) xs at took.Ended c' t = absurd t
+  item-lanes (item.Event x) xs at took.Dropped c' t = absurd t
+  item-lanes item.End xs at answer c' t = ap (λ (z : ContextView S). context_lanes z) t.1.context
+  item-lanes (item.Fail cause) xs at answer c' t = ap (λ (z : ContextView S). context_lanes z) t.1.context
+  item-lanes (item.Flag value) xs at answer c' t = ap (λ (z : ContextView S). context_lanes z) t.1
+
+  flag-lanes : (i : Item) (answer : Took) (c' : ContextView S) → TakesFlag (counted Flags c) i b answer c' a → context_lanes c' ≡ context_lanes c
+  flag-lanes (item.Flag value) answer c' t =
+      let aside : c'.flags.lane ≡ c.flags.lane = ⊎_elim
+      (λ (o : c.flags.is_open ≡ true). let put = t.2.put o in ap (λ (p : Port). p.lane) put.1 ∙ flag-lane put.0 c.flags)
+      (λ (o : c.flags.is_open ≡ false). ap (λ (p : Port). p.lane) (t.2.closed o).0)
+      (cases_Bool c.flags.is_open) in
+      (λ j. ap (λ (z : ContextView S). z.up.lane) t.1 j ∷ ap (λ (z : ContextView S). z.down.lane) t.1 j ∷ aside j ∷ [])
+  flag-lanes (item.Event x) answer c' t = ap (λ (z : ContextView S). context_lanes z) t.1
+  flag-lanes item.End answer c' t = ap (λ (z : ContextView S). context_lanes z) t.1
+  flag-lanes (item.Fail cause) answer c' t = ap (λ (z : ContextView S). context_lanes z) t.1
+
+  -- they stay
+  pub lanes-stay : (e : Envelope) (answer : Took) (c' : ContextView S) → (c.standing ≡ stands.Open → (xs : List Event) × stands_after c.stage xs) → ContextTakes meaning stands_after is_spent c e b answer c' a → context_lanes c' ≡ context_lanes c
+  lanes-stay e answer c' some t = by e.lane.kind refl c.standing refl
+    where
+      counted-lanes : (k : Kind) → context_lanes (counted k c) ≡ context_lanes c
+      counted-lanes Data = refl
+      counted-lanes Flags = refl
+
+      by : (k : Kind) → e.lane.kind ≡ k → (s : Standing) → c.standing ≡ s → context_lanes c' ≡ context_lanes c
+      by Data is stands.Open live = let at = some live in item-lanes e.item at.0 at.1 answer c' (t.open_item is live)
+      by Data is stands.Ended over = ap (λ (z : ContextView S). context_lanes z) (t.ended is over).1
+      by k is (stands.Failed cause) over = ap (λ (z : ContextView S). context_lanes z) (t.dropped (ap has_failed over)).1 ∙ counted-lanes e.lane.kind
+      by Flags is stands.Open live = flag-lanes e.item answer c' (t.flags is (ap has_failed live))
+      by Flags is stands.Ended live = flag-lanes e.item answer c' (t.flags is (ap has_failed live))

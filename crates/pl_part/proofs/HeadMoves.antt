@@ -46,7 +46,7 @@ use Rattle.pl_head.proofs.FlagSteps.{places_stay}
 use Rattle.pl_part.specs.ContextHolds.{port_point}
 use Rattle.pl_part.specs.TailHolds.{MayFailFor}
 use Rattle.pl_part.specs.HeadHolds.{HeadHolds, HeadHoldsWith, HeadTook, head_writes, head_came, head_lanes}
-use Rattle.pl_part.specs.HeadCalls.{HeadTakes, HeadReads, HeadWrites, HeadAborts}
+use Rattle.pl_head.specs.HeadCalls.{HeadTakes, HeadReads, HeadWrites, HeadAborts}
 use Rattle.pl_part.specs.Counts.{head_done}
 use Rattle.pl_part.specs.PartCalls.{HeadGiven}
 use Rattle.pl_part.proofs.Causes.{may-first}
@@ -758,7 +758,7 @@ module _ {T : Type 0} (state : T → TransportState) (world : World) (plan : Rea
       by (Some c) e = let i = f.failed (ap (λ (q : Option Cause). is_some q) e) in stays-moved h' b a i.0 i.1
 
 -- It is so in each world where it held.
-pub given : {T : Type 0} (state : T → TransportState) (h h' : HeadView T) (b a : OutputsView) → (world : World) × HeadHolds state world h
+given : {T : Type 0} (state : T → TransportState) (h h' : HeadView T) (b a : OutputsView) → (world : World) × HeadHolds state world h
     → ((world : World) (plan : ReadPlan) (events : List Event) → HeadHoldsWith state world plan events h → Moved state world plan events h h' b a) → HeadGiven state h b h' a
 given state h h' b a some moved =
     let one = moved some.0 some.1.plan some.1.events some.1.holds in
@@ -770,3 +770,14 @@ given state h h' b a some moved =
       placed = one.places;
       more = one.more;
     }
+
+-- So it is with each move of its own.
+module _ {T : Type 0} (state : T → TransportState) (h h' : HeadView T) (b a : OutputsView) (some : (world : World) × HeadHolds state world h) where
+  pub read-given : (answer : ReadStep) → HeadReads state h b answer h' a → HeadGiven state h b h' a
+  read-given answer r = given state h h' b a some (λ world plan events held. read-moved state world plan events h held b a answer h' r)
+
+  pub write-given : (may_refuse : T → ℕ → Type 0) (answer : OutStep) → HeadWrites state may_refuse h b answer h' a → HeadGiven state h b h' a
+  write-given may_refuse answer w = given state h h' b a some (λ world plan events held. write-moved state world plan events h held may_refuse b a answer h' w)
+
+  pub abort-given : HeadAborts state h b h' a → HeadGiven state h b h' a
+  abort-given f = given state h h' b a some (λ world plan events held. aborted-moved state world plan events h held b a h' f)

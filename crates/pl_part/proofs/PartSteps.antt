@@ -1,5 +1,5 @@
 -- A node of a part moves: how the part stands then, and what it has put out.
-use Rattle.std.proofs.Common.{◌≡◌, ℕ, ◌+◌, ◌≤◌, Bool, true, false, ◌||◌, ◌&&◌, cond, List, ◌∷◌, ◌++◌, length, map, Option, Some, None, refl, ap, sym, ◌∙◌, subst, ⊎_elim, arith, length-append}
+use Rattle.std.proofs.Common.{◌≡◌, ℕ, ◌+◌, ◌≤◌, Bool, true, false, ◌||◌, ◌&&◌, cond, List, [], ◌∷◌, ◌++◌, length, map, Option, Some, None, refl, ap, sym, ◌∙◌, subst, ⊎_elim, arith, length-append}
 use Rattle.std.specs.Prelude.{◌==◌, is_some, replicate, if◌then◌else◌}
 use Rattle.std.specs.Option.{option_map_or}
 use Rattle.std.proofs.lemmas.List.{length-map, length-replicate}
@@ -15,7 +15,7 @@ use Rattle.pl_event.proofs.SameLanes.{same_lane-equal, same_lane-self}
 use Rattle.pl_context.specs.declared.standing.Took.{Took}
 use Rattle.pl_context.specs.ContextViews.{ContextView}
 use Rattle.pl_context.specs.OutputsViews.{OutputsView}
-use Rattle.pl_context.specs.Stops.{HasPlaces, AreAmong}
+use Rattle.pl_context.specs.Stops.{StopsView, HasPlaces, AreAmong}
 use Rattle.pl_flow.specs.Flows.{Point, nowhere, IsGood}
 use Rattle.pl_flow.specs.Makes.{Makes}
 use Rattle.pl_flow.proofs.MakeLemmas.{makes-among, makes-none}
@@ -27,16 +27,25 @@ use Rattle.pl_part.specs.PathCalls.{IsNextOnPath}
 use Rattle.pl_part.specs.HeadHolds.{HeadHolds, head_writes, head_came, head_lanes, head_taken}
 use Rattle.pl_head.specs.declared.heads.OutStep.{OutStep}
 use Rattle.pl_head.specs.declared.heads.ReadStep.{ReadStep}
-use Rattle.pl_part.specs.HeadCalls.{HeadTakes, HeadReads, HeadWrites, HeadAborts}
+use Rattle.pl_head.specs.HeadCalls.{HeadTakes, HeadReads, HeadWrites, HeadAborts}
 use Rattle.pl_part.specs.Parts.{ChannelPartView, PartHolds, PartReads, PartWrites, PartAborts, SamePart, head_hop, has_entered, part_taken, part_lanes, part_writes, writes_at, part_came}
 use Rattle.pl_part.specs.PartCalls.{IsNextFor, NodePuts, Taken, HeadGiven, Given, PartRefused}
 use Rattle.pl_part.specs.Counts.{head_done, path_done, part_done}
+use Rattle.pl_part.proofs.HeadMoves.{take-holds, take-makes, take-places, take-more}
 use Rattle.pl_part.proofs.PathSteps.{among-hops, other-hop, beyond}
 use Rattle.pl_part.proofs.PartCounts.{part-few}
 
 or-two : (a b : Bool) → (a || b) ≡ false → (a ≡ false) × (b ≡ false)
 or-two false b e = (refl, e)
 or-two true b e = absurd (both_ways true e refl)
+
+twice : (a : Bool) → (a || false) ≡ true → (a || (a || false)) ≡ true
+twice true e = refl
+twice false e = e
+
+-- a flags lane enters where the data lane of its hop does
+pub beside : (s : StopsView) (channel : ℕ) → HasPlaces s (data_lane channel 0 ∷ []) → HasPlaces s (flags_lane channel 0 ∷ [])
+beside s channel p = record { hops = p.hops; few = p.few; stopped = p.stopped; stopped_flags = p.stopped_flags; own = λ lane any. p.own lane any }
 
 or-same : (a : Bool) → (a || (a || false)) ≡ true → a ≡ true
 or-same true e = refl
@@ -221,12 +230,15 @@ module _ {S T : Type 0} (meaning : S → Meaning) (stands_after : S → List Eve
             (cases_Bool (l.hop == head_hop p))
 
         pub head-taken : IsGood some.0 e → (is_spent : S → Bool) (b a : OutputsView) (answer : Took) → EntersHead h e.lane → e.number ≡ h.taken → HeadTakes state h e b answer h' a
-            → ((world : World) → HeadHolds state world h → IsGood world e → HeadHolds state world h')
-            → ((world : World) → HeadHolds state world h → IsGood world e → Makes world (head_writes h) (head_came h) (head_came h') b a)
-            → ((lanes : List Lane) → AreAmong (head_lanes h) lanes → HasPlaces b.stopped lanes → HasPlaces a.stopped lanes)
-            → head_done h + length a.items + 1 ≤ head_done h' + length b.items → Taken meaning stands_after state is_spent p e b answer with_head a
-        head-taken fits is_spent b a answer enters number takes held made placed more =
+            → Taken meaning stands_after state is_spent p e b answer with_head a
+        head-taken fits is_spent b a answer enters number takes =
             let own = (some.1.head h at).0 in
+            let held : (world : World) → HeadHolds state world h → IsGood world e → HeadHolds state world h' = λ world k good.
+            record { plan = k.plan; events = k.events; holds = take-holds state world k.plan k.events h k.holds e enters number good b a answer h' takes } in
+            let made : (world : World) → HeadHolds state world h → IsGood world e → Makes world (head_writes h) (head_came h) (head_came h') b a = λ world k good.
+            take-makes state world k.plan k.events h k.holds e enters number good b a answer h' takes in
+            let placed = take-places state some.0 own.plan own.events h own.holds e enters number fits b a answer h' takes in
+            let more = take-more state some.0 own.plan own.events h own.holds e enters number fits b a answer h' takes in
             let on : head_hop p ≡ e.lane.hop = sym (eqb-true e.lane.hop (head_hop p) there) in
             record {
               takes = record {
@@ -241,13 +253,14 @@ module _ {S T : Type 0} (meaning : S → Meaning) (stands_after : S → List Eve
               more = let done = head-done in omega (arith, done, more);
             }
 
-  pub head-places : (some : (world : World) × PartHolds world meaning stands_after state p) (h : HeadView T) → p.head ≡ Some h → (b : OutputsView) → HasPlaces b.stopped (part_lanes p) → HasPlaces b.stopped (head_lanes h)
+  -- the lanes of a head need one place
+  pub head-places : (some : (world : World) × PartHolds world meaning stands_after state p) (h : HeadView T) → p.head ≡ Some h → (b : OutputsView) → HasPlaces b.stopped (part_lanes p) → HasPlaces b.stopped (data_lane h.channel 0 ∷ [])
   head-places some h at b places = record {
     hops = places.hops;
     few = places.few;
     stopped = places.stopped;
     stopped_flags = places.stopped_flags;
-    own = λ l any. places.own l (head-among h at h (refl, refl) some l any);
+    own = λ l any. places.own l (head-among h at h (refl, refl) some l (twice (same_hop l (data_lane h.channel 0)) any));
   }
 
   -- ---- nothing moves
@@ -432,12 +445,14 @@ module _ {S T : Type 0} (meaning : S → Meaning) (stands_after : S → List Eve
     given-none = subst (λ (y : ChannelPartView S T). Given meaning stands_after state y (head_hop y) before v before) same (none-given meaning stands_after state v (holds-of holds) (head_hop v) before)
 
     module _ (h : HeadView T) (at : v.head ≡ Some h) where
-      pub places-there : HasPlaces before.stopped (part_lanes p) → HasPlaces before.stopped (head_lanes h)
+      pub places-there : HasPlaces before.stopped (part_lanes p) → HasPlaces before.stopped (data_lane h.channel 0 ∷ [])
       places-there places = head-places meaning stands_after state v (holds-of holds) h at before (subst (λ (y : ChannelPartView S T). HasPlaces before.stopped (part_lanes y)) (sym same) places)
 
-      pub given-there : (h' : HeadView T) (after : OutputsView) → HeadGiven state h before h' after → Given meaning stands_after state p (head_hop p) before (record v { head = Some h' }) after
-      given-there h' after t = subst (λ (y : ChannelPartView S T). Given meaning stands_after state y (head_hop y) before (record v { head = Some h' }) after) same
-          (head-given meaning stands_after state v h at h' t.place (holds-of holds) before after t)
+      pub given-there : (h' : HeadView T) (after : OutputsView) → ((world : World) × HeadHolds state world h → HeadGiven state h before h' after) → Given meaning stands_after state p (head_hop p) before (record v { head = Some h' }) after
+      given-there h' after gives =
+          let some = holds-of holds in
+          let t = gives (some.0, (some.1.head h at).0) in
+          subst (λ (y : ChannelPartView S T). Given meaning stands_after state y (head_hop y) before (record v { head = Some h' }) after) same (head-given meaning stands_after state v h at h' t.place some before after t)
 
 module _ {S T : Type 0} (state : T → TransportState) (p v : ChannelPartView S T) (same : v ≡ p) (before : OutputsView) (h : HeadView T) (at : v.head ≡ Some h) (h' : HeadView T) (after : OutputsView) where
   abbrev moved_head : ChannelPartView S T

@@ -5,7 +5,6 @@ pub mod Paths
 pub mod PathCalls
 pub mod NewParts
 pub mod HeadHolds
-pub mod HeadCalls
 pub mod Parts
 pub mod Counts
 pub mod PartCalls

@@ -22,7 +22,7 @@ use Rattle.pl_head.specs.Transports.{TransportState}
 use Rattle.pl_head.specs.HeadStand.{HeadView}
 use Rattle.pl_part.specs.Paths.{PathPartView, SamePath, PathHolds, PathTakes, writer_hop, enters_path, path_over, path_taken, path_lanes, path_writes, path_came}
 use Rattle.pl_part.specs.HeadHolds.{HeadHolds, head_writes, head_came, head_taken}
-use Rattle.pl_part.specs.HeadCalls.{HeadTakes, HeadReads, HeadWrites, HeadAborts}
+use Rattle.pl_head.specs.HeadCalls.{HeadTakes, HeadReads, HeadWrites, HeadAborts}
 
 -- nodes of one channel, perhaps with its head (ChannelPipeline)
 pub record ChannelPartView (S T : Type 0) : Type 0 where

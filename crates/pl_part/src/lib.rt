@@ -1,7 +1,6 @@
 //! Parts of channels: the nodes of a channel that are on one executor, where lanes may fail.
 #![tactic(auto)]
 
-mod ends;
 mod laws;
 mod nodes;
 mod parts;

@@ -25,7 +25,6 @@ ghost use Rattle.pl_part.specs.PartCalls.{IsNextFor, Taken, Given, PartRefused};
 ghost use Rattle.pl_part.specs.Shares.{IsShare, IsShareBy, EachPart, executor_of};
 ghost use Rattle.pl_part.specs.Told.{IsTold, TellsNext, part_untold};
 
-use crate::ends::{abort_at_head, read_at_head, take_at_head, write_at_head};
 use crate::paths::PathPart;
 use crate::shares::take_where;
 use pl_context::{Outputs, Tail, Took};
@@ -139,7 +138,7 @@ impl<S: Stage, T: Transport> ChannelPart<S, T> {
         if envelope.lane.hop as usize == self.path.head_hop() {
             self.take_at_head(envelope, work)
         } else {
-            self.take_on_path(envelope, work)
+            self.path.take(envelope, work)
         }
     }
 
@@ -166,7 +165,7 @@ impl<S: Stage, T: Transport> ChannelPart<S, T> {
         let Some(head) = &mut self.head else {
             return ReadStep::Done;
         };
-        read_at_head(head, work)
+        head.next_read(work)
     }
 
     /// The head makes a write to its transport, where a flushed byte waits and it has not failed. Where no head is among the
@@ -180,7 +179,7 @@ impl<S: Stage, T: Transport> ChannelPart<S, T> {
         let Some(head) = &mut self.head else {
             return OutStep::Idle;
         };
-        write_at_head(head, work)
+        head.write_once(work)
     }
 
     /// The head makes a move: `next_read` or `write_once`. False where it made none, since none is enabled or no head is
@@ -207,7 +206,7 @@ impl<S: Stage, T: Transport> ChannelPart<S, T> {
         let Some(head) = &mut self.head else {
             return;
         };
-        abort_at_head(head, work)
+        head.abort(work)
     }
 
     /// Whether all of its nodes have ended or failed.
@@ -304,21 +303,13 @@ impl<S: Stage, T: Transport> ChannelPart<S, T> {
         Ok(ChannelPart { path, head })
     }
 
-    fn take_on_path(&mut self, envelope: Envelope, work: &mut Outputs) -> Took
-        requires next { (world : World) × IsNextFor world S.meaning S.stands_after T.state self.old envelope work.old }
-        requires elsewhere { (envelope.lane.hop == head_hop self.old) ≡ false }
-        ensures { Taken S.meaning S.stands_after T.state S.is_spent self.old envelope work.old result self.new work.new }
-    {
-        self.path.take(envelope, work)
-    }
-
     fn take_at_head(&mut self, envelope: Envelope, work: &mut Outputs) -> Took
         requires next { (world : World) × IsNextFor world S.meaning S.stands_after T.state self.old envelope work.old }
         requires there { (envelope.lane.hop == head_hop self.old) ≡ true }
         ensures { Taken S.meaning S.stands_after T.state S.is_spent self.old envelope work.old result self.new work.new }
     {
         match &mut self.head {
-            Some(head) => take_at_head(head, envelope, work),
+            Some(head) => head.take(envelope, work),
             None => unreachable!(),
         }
     }

@@ -20,7 +20,7 @@ ghost use Rattle.pl_part.specs.PathCalls.{IsNextOnPath, PathTaken, PathRefused};
 ghost use Rattle.pl_part.specs.Paths.{PathHolds, PathTakes, PathRefuses, SamePath, context_at, writer_hop, enters_path, path_over, is_slot_over, path_taken, path_lanes, path_writes, path_writes_at, path_came};
 ghost use Rattle.pl_part.specs.Shares.{IsPathShare, executor_of};
 
-use crate::nodes::{refuse_at, take_at, take_at_tail};
+use crate::nodes::refuse_at;
 use crate::shares::{take_contexts, take_where};
 use crate::starting::add_contexts;
 use pl_context::{Context, Outputs, Tail, Took};
@@ -232,7 +232,7 @@ impl<S: Stage> PathPart<S> {
         ensures { PathTaken S.meaning S.stands_after S.is_spent self.old envelope work.old result self.new work.new }
     {
         match &mut self.contexts[envelope.lane.hop as usize] {
-            Some(context) => take_at(context, envelope, work),
+            Some(context) => context.take(envelope, work),
             None => unreachable!(),
         }
     }
@@ -243,7 +243,7 @@ impl<S: Stage> PathPart<S> {
         ensures { PathTaken S.meaning S.stands_after S.is_spent self.old envelope work.old result self.new work.new }
     {
         match &mut self.tail {
-            Some(tail) => take_at_tail(tail, envelope),
+            Some(tail) => tail.take(envelope),
             None => unreachable!(),
         }
     }

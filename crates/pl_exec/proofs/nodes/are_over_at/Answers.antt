@@ -3,7 +3,7 @@ use Rattle.std.specs.Prelude.{All}
 use Rattle.std.proofs.lemmas.List.{take_all}
 use Rattle.std.proofs.lemmas.List.Elements.{All-get_or, All-more}
 use Rattle.std.proofs.lemmas.Option.{same_Some, slice_get_read}
-use Rattle.pl_exec.specs.OwnNodes.{IsOverAt, IsPartOver}
+use Rattle.pl_exec.specs.ExecutorNodes.{IsOverAt, IsPartOver}
 use Rattle.pl_exec.proofs.nodes.are_over_at.Goals as goal
 
 -- the next channel's part

@@ -1,5 +1,5 @@
 use Rattle.std.specs.Prelude.{All, take}
-use Rattle.pl_exec.specs.OwnNodes.{IsOverAt}
+use Rattle.pl_exec.specs.ExecutorNodes.{IsOverAt}
 use Rattle.pl_exec.proofs.nodes.are_over_at.Given as goal
 
 -- The first of these are over.

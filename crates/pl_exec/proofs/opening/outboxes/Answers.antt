@@ -1,58 +1,62 @@
-use Rattle.std.proofs.Common.{◌++◌, [], ◌∷◌, List, map, ap, sym, subst, ◌∙◌, arith, append_assoc, length-append}
-use Rattle.std.proofs.lemmas.List.{map_push, nil_from_length}
-use Rattle.pl_outbox.specs.declared.inbox.Inbox.{Inbox}
-use Rattle.pl_exec.specs.Opening.{InboxView, WayView, outbox_of}
-use Rattle.pl_exec.proofs.ListSteps.{all-done, next-within}
-use Rattle.pl_exec.proofs.StartLemmas.{way-at}
+use Rattle.std.proofs.Common.{◌≡◌, ◌+◌, ◌<◌, ◌++◌, [], ◌∷◌, List, Some, add-one, ap, length, map, set, slice_get, subst, sym, take, ◌∙◌, arith}
+use Rattle.std.specs.List.{AllZip}
+use Rattle.std.proofs.lemmas.List.{take_more}
+use Rattle.std.proofs.lemmas.Option.{get_or_from_slice_get}
+use Rattle.std.proofs.lemmas.Slice.Zip.{all_zipped_more}
+use Rattle.pl_event.proofs.Lists.{All-at}
+use Rattle.pl_queue.specs.Rule.{Each}
+use Rattle.pl_words.specs.Admissions.{SendSeatView}
+use Rattle.pl_outbox.specs.OutboxViews.{OutboxView}
+use Rattle.pl_exec.specs.Opening.{ColumnView, HasNext, column_after, inbox_view}
+use Rattle.pl_exec.proofs.Columns.{front-next, front-read, front_mapped, next-sends}
 use Rattle.pl_exec.proofs.opening.outboxes.Goals as goal
 
-pub bounds-inboxes-target : goal.bounds-inboxes-target
-bounds-inboxes-target g c =
-    let within = next-within c.args.ways.items c.loop-way.yielded c.loop-way.way-iterator.rest.items c.next.new.self.rest.items c.in-Some.way c.loop-way.target c.loop-way.invariant.rest c.in-Some.ensures.steps.0 c.loop-way.invariant.at in
-    omega (arith, within, c.requires.count)
+pub take-sender-requires-clause-sender : goal.take-sender-requires-clause-sender
+take-sender-requires-clause-sender g c =
+    (next-sends g.M.Mailbox.is_sender inbox_view c.args.inboxes.now c.args.columns.now.items c.loop-target.columns.items c.loop-target.target c.index-inboxes-target.result c.index_mut.result.now
+    c.requires.senders c.requires.count c.loop-target-test.true c.loop-target.invariant.left c.index-inboxes-target.is c.index_mut.ensures.value).sender
 
-pub offset_bounds-inboxes-target : goal.offset_bounds-inboxes-target
-offset_bounds-inboxes-target g c =
-    let within = next-within c.args.ways.items c.loop-way.yielded c.loop-way.way-iterator.rest.items c.next.new.self.rest.items c.in-Some.way c.loop-way.target c.loop-way.invariant.rest c.in-Some.ensures.steps.0 c.loop-way.invariant.at in
-    omega (arith, within, c.requires.count)
-
-pub overflow_add-target : goal.overflow_add-target
-overflow_add-target g c =
-    let within = next-within c.args.ways.items c.loop-way.yielded c.loop-way.way-iterator.rest.items c.next.new.self.rest.items c.in-Some.way c.loop-way.target c.loop-way.invariant.rest c.in-Some.ensures.steps.0 c.loop-way.invariant.at in
-    omega (arith, within, c.requires.count)
+pub take-sender-requires-clause-seat : goal.take-sender-requires-clause-seat
+take-sender-requires-clause-seat g c =
+    (next-sends g.M.Mailbox.is_sender inbox_view c.args.inboxes.now c.args.columns.now.items c.loop-target.columns.items c.loop-target.target c.index-inboxes-target.result c.index_mut.result.now
+    c.requires.senders c.requires.count c.loop-target-test.true c.loop-target.invariant.left c.index-inboxes-target.is c.index_mut.ensures.value).seat
 
 pub new-requires-clause-sender : goal.new-requires-clause-sender
 new-requires-clause-sender g c =
-    let view : Inbox g.row.W.Denot g.row.M.Denot g.row.M-Sender.Denot g.row.M-Taker.Denot → InboxView g.row.M.Denot = λ (i : Inbox g.row.W.Denot g.row.M.Denot g.row.M-Sender.Denot g.row.M-Taker.Denot). record { mailbox = i.mailbox; name = i.admission.name } in
-    let inv = c.loop-way.invariant in
     let inbox = c.index-inboxes-target.result in
-    let is = way-at g.M.Mailbox.is_sender view c.args.inboxes.now c.args.ways.items c.loop-way.yielded c.loop-way.way-iterator.rest.items c.next.new.self.rest.items c.in-Some.way inbox c.loop-way.target c.requires.senders c.requires.count
-    inv.rest c.in-Some.ensures.steps.0 inv.at c.index-inboxes-target.is in
-    subst (λ (s : g.row.M-Sender.Denot). g.M.Mailbox.is_sender inbox.mailbox s) (sym (ap (λ (w : WayView g.row.M-Sender.Denot). w.sender) c.way.view_is)) is.0
+    let can = next-sends g.M.Mailbox.is_sender inbox_view c.args.inboxes.now c.args.columns.now.items c.loop-target.columns.items c.loop-target.target inbox c.index_mut.result.now
+    c.requires.senders c.requires.count c.loop-target-test.true c.loop-target.invariant.left c.index-inboxes-target.is c.index_mut.ensures.value in
+    (subst (λ (k : ColumnView g.row.M-Sender.Denot). Each (g.M.Mailbox.is_sender inbox.mailbox) k.senders) c.take-sender.ensures can.senders).0
 
 pub new-requires-clause-seat : goal.new-requires-clause-seat
 new-requires-clause-seat g c =
-    let view : Inbox g.row.W.Denot g.row.M.Denot g.row.M-Sender.Denot g.row.M-Taker.Denot → InboxView g.row.M.Denot = λ (i : Inbox g.row.W.Denot g.row.M.Denot g.row.M-Sender.Denot g.row.M-Taker.Denot). record { mailbox = i.mailbox; name = i.admission.name } in
-    let inv = c.loop-way.invariant in
-    let is = way-at g.M.Mailbox.is_sender view c.args.inboxes.now c.args.ways.items c.loop-way.yielded c.loop-way.way-iterator.rest.items c.next.new.self.rest.items c.in-Some.way c.index-inboxes-target.result c.loop-way.target c.requires.senders c.requires.count
-    inv.rest c.in-Some.ensures.steps.0 inv.at c.index-inboxes-target.is in
-    ap (λ (w : WayView g.row.M-Sender.Denot). w.seat.name) c.way.view_is ∙ is.1
+    let inbox = c.index-inboxes-target.result in
+    let column = c.index_mut.result.now in
+    let can = next-sends g.M.Mailbox.is_sender inbox_view c.args.inboxes.now c.args.columns.now.items c.loop-target.columns.items c.loop-target.target inbox column
+    c.requires.senders c.requires.count c.loop-target-test.true c.loop-target.invariant.left c.index-inboxes-target.is c.index_mut.ensures.value in
+    All-at (λ (s : SendSeatView). s.name ≡ inbox.admission.name) column.seats 0 c.take-sender.result.1 can.seats (ap (λ (k : ColumnView g.row.M-Sender.Denot). slice_get k.seats 0) c.take-sender.ensures)
 
-pub loop-way-preserved : goal.loop-way-preserved
-loop-way-preserved g c =
-    let inv = c.loop-way.invariant in
-    let done = c.loop-way.yielded in
-    let way = c.in-Some.way in
-    let made = outbox_of {S = g.row.M-Sender.Denot} g.M.Mailbox.sends_of in
+pub loop-target-preserved : goal.loop-target-preserved
+loop-target-preserved g c =
+    let inv = c.loop-target.invariant in
+    let all = c.args.columns.now.items in
+    let target = c.loop-target.target in
+    let column = c.index_mut.result.now in
+    let within : target < length all = omega (arith, c.loop-target-test.true, c.requires.count) in
+    let found = front-read (column_after 1) target all c.loop-target.columns.items column inv.left within c.index_mut.ensures.value in
+    let taken : take (target + 1) all ≡ take target all ++ column ∷ [] =
+    take_more all target column within ∙ ap (λ (k : ColumnView g.row.M-Sender.Denot). take target all ++ k ∷ []) (get_or_from_slice_get all target column column found) in
+    let made = c.loop-target.outboxes.items in
+    let new : OutboxView = c.new.result in
+    let has : HasNext g.M.Mailbox.sends_of column new = (
+      ap (λ (k : ColumnView g.row.M-Sender.Denot). slice_get (map g.M.Mailbox.sends_of k.senders) 0) c.take-sender.ensures ∙ ap (λ (b : OutboxView). Some b.sends) (sym c.new.ensures),
+      ap (λ (k : ColumnView g.row.M-Sender.Denot). slice_get k.seats 0) c.take-sender.ensures ∙ ap (λ (b : OutboxView). Some b.seat) (sym c.new.ensures),
+    ) in
     record {
-      rest = append_assoc done (way ∷ []) c.next.new.self.rest.items ∙ ap (λ (ws : List (WayView g.row.M-Sender.Denot)). done ++ ws) (sym c.in-Some.ensures.steps.0) ∙ inv.rest;
-      at = omega (arith, inv.at, length-append done (way ∷ []));
-      made = c.in_ok-push.ensures.items ∙ (λ i. inv.made i ++ (c.new.ensures ∙ ap made c.way.view_is) i ∷ []) ∙ sym (map_push made done way);
+      made =
+          subst (λ (z : List (ColumnView g.row.M-Sender.Denot) × List OutboxView). AllZip (HasNext g.M.Mailbox.sends_of) z.0 z.1) (λ i. (sym taken i, sym c.in_ok-push.ensures.items i))
+          (all_zipped_more (HasNext g.M.Mailbox.sends_of) (take target all) made column new inv.made has);
+      left =
+          (λ i. set (inv.left i) target (sym (ap (column_after 1) c.take-sender.ensures) i)) ∙ front-next (column_after 1) target all column found
+          ∙ ap (λ n. front_mapped (column_after {S = g.row.M-Sender.Denot} 1) n all) (sym (add-one target));
     }
-
-pub returns : goal.returns
-returns g c =
-    let inv = c.loop-way.invariant in
-    let left = c.loop-way.way-iterator.rest in
-    inv.made ∙ ap (map (outbox_of {S = g.row.M-Sender.Denot} g.M.Mailbox.sends_of))
-    (all-done c.args.ways.items c.loop-way.yielded left.items (nil_from_length left.items (omega (arith, c.in-None.ensures.steps.0, left.ok))) inv.rest)

@@ -1,11 +1,11 @@
-use Rattle.std.proofs.Common.{◌≡◌, ◌++◌, length, map}
-use Rattle.std.specs.Vec.Iter.{into_iter_items}
-use Rattle.pl_exec.specs.Opening.{outbox_of}
+use Rattle.std.proofs.Common.{◌≡◌, take}
+use Rattle.std.specs.List.{AllZip}
+use Rattle.pl_exec.specs.Opening.{column_after, HasNext}
+use Rattle.pl_exec.proofs.Columns.{front_mapped}
 use Rattle.pl_exec.proofs.opening.outboxes.Given as goal
 
-abbrev pub invariant-loop-way : goal.invariant-loop-way
-invariant-loop-way g l = record {
-  rest : l.yielded ++ into_iter_items l.way-iterator ≡ l.fn.ways.items;
-  at : l.target ≡ length l.yielded;
-  made : l.outboxes.items ≡ map (outbox_of g.M.Mailbox.sends_of) l.yielded;
+abbrev pub invariant-loop-target : goal.invariant-loop-target
+invariant-loop-target g l = record {
+  made : AllZip (HasNext g.M.Mailbox.sends_of) (take l.target l.fn.columns.items) l.outboxes.items;
+  left : l.columns.items ≡ front_mapped (column_after 1) l.target l.fn.columns.items;
 }

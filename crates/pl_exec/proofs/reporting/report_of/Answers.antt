@@ -1,7 +1,7 @@
 use Rattle.std.proofs.Common.{◌≡◌, ℕ, ◌+◌, ◌++◌, ◌∷◌, [], List, length, replicate, refl, ap, sym, subst, ◌∙◌, arith, append_assoc, length-append}
 use Rattle.std.proofs.lemmas.List.{nil_from_length}
 use Rattle.pl_threads.specs.Running.{FinishedView}
-use Rattle.pl_exec.specs.declared.telling.TellingNodes.{TellingNodes}
+use Rattle.pl_exec.specs.declared.nodes.ExecutorNodes.{ExecutorNodes}
 use Rattle.pl_exec.specs.Reported.{nothing_found}
 use Rattle.pl_exec.proofs.LeftEnds.{AreFound, none-found, all-left, next-finished, number-at, numbers-count}
 use Rattle.pl_exec.proofs.ListSteps.{at-next, all-done}
@@ -20,18 +20,18 @@ loop-finished-preserved g c =
     let inv = c.loop-finished.invariant in
     let done = c.loop-finished.yielded in
     let finished = c.in-Some.finished in
-    let nodes = c.into_nodes-nodes.result.nodes in
-    let left = c.into_nodes-nodes.ensures in
-    let number = λ (n : TellingNodes g.row.S.Denot g.row.T.Denot). n.nodes.number in
-    let executor = λ (e : FinishedView (TellingNodes g.row.S.Denot g.row.T.Denot)). e.nodes.nodes.number in
+    let nodes = c.into_nodes-parts.result in
+    let left = c.into_nodes-parts.ensures in
+    let number = λ (n : ExecutorNodes g.row.S.Denot g.row.T.Denot). n.number in
+    let executor = λ (e : FinishedView (ExecutorNodes g.row.S.Denot g.row.T.Denot)). e.nodes.number in
     let at = at-next c.args.all.items done c.loop-finished.finished-iterator.rest.items c.next.new.self.rest.items finished (length done) inv.rest c.in-Some.ensures.steps.0 refl in
     let count : length done + 1 ≡ length (done ++ finished ∷ []) = omega (arith, length-append done (finished ∷ [])) in
     record {
-      rest = append_assoc done (finished ∷ []) c.next.new.self.rest.items ∙ ap (λ (t : List (FinishedView (TellingNodes g.row.S.Denot g.row.T.Denot))). done ++ t) (sym c.in-Some.ensures.steps.0) ∙ inv.rest;
+      rest = append_assoc done (finished ∷ []) c.next.new.self.rest.items ∙ ap (λ (t : List (FinishedView (ExecutorNodes g.row.S.Denot g.row.T.Denot))). done ++ t) (sym c.in-Some.ensures.steps.0) ∙ inv.rest;
       found =
           subst (λ (n : ℕ). AreFound state plan n c.find_ends.new.found.items) count
           (next-finished state plan g.S.Stage.meaning g.S.Stage.stands_after nodes.number nodes.was_refused g.W.Named.world (length done) c.loop-finished.found.items c.find_ends.new.found.items nodes.parts.items
-          left.stands.0 left.stands.1 left.over (ap number left.nodes ∙ number-at executor c.args.all.items plan.executors (length done) finished c.requires.executors at) inv.found c.find_ends.ensures);
+          left.stands.is_world left.stands.nodes left.over (ap number left.nodes ∙ number-at executor c.args.all.items plan.executors (length done) finished c.requires.executors at) inv.found c.find_ends.ensures);
     }
 
 pub reports-requires : goal.reports-requires
@@ -41,5 +41,5 @@ reports-requires g c =
     let inv = c.loop-finished.invariant in
     let rest = c.loop-finished.finished-iterator.rest in
     let whole = all-done c.args.all.items c.loop-finished.yielded rest.items (nil_from_length rest.items (omega (arith, c.in-None.ensures.steps.0, rest.ok))) inv.rest in
-    let count = ap (λ (l : List (FinishedView (TellingNodes g.row.S.Denot g.row.T.Denot))). length l) whole ∙ numbers-count (λ (e : FinishedView (TellingNodes g.row.S.Denot g.row.T.Denot)). e.nodes.nodes.number) c.args.all.items plan.executors c.requires.executors in
+    let count = ap (λ (l : List (FinishedView (ExecutorNodes g.row.S.Denot g.row.T.Denot))). length l) whole ∙ numbers-count (λ (e : FinishedView (ExecutorNodes g.row.S.Denot g.row.T.Denot)). e.nodes.number) c.args.all.items plan.executors c.requires.executors in
     all-left state plan c.loop-finished.found.items c.requires.plan (subst (λ (n : ℕ). AreFound state plan n c.loop-finished.found.items) count inv.found)

@@ -1,8 +1,8 @@
 use Rattle.std.proofs.Common.{◌≡◌, ◌+◌, ◌++◌, [], ◌∷◌, List, length, replicate, take, ap, sym, ◌∙◌, subst, arith, length-append}
 use Rattle.std.proofs.lemmas.List.{length-replicate, length-take-le, take_all, take_more}
 use Rattle.pl_world.specs.declared.session.Recorded.{Recorded}
-use Rattle.pl_exec.specs.SessionWords.{AreHeadSeatsOf, ChannelNames, HaveMarksOf, SeatsView, SightView, new_head_seats, new_sights, new_seats}
-use Rattle.pl_exec.proofs.WordLemmas.{head_seats-marks, head_seats-own, heads-step, readers-step}
+use Rattle.pl_exec.specs.SessionWords.{AreHeadSeatsOf, AreUnused, ChannelNames, HaveMarksOf, SeatsView, SightView, new_head_seats, new_sights, new_seats}
+use Rattle.pl_exec.proofs.WordLemmas.{head_seats-marks, head_seats-new, head_seats-own, heads-step, readers-step}
 use Rattle.pl_exec.proofs.words.words_of.Goals as goal
 
 pub loop-channel-init : goal.loop-channel-init
@@ -43,6 +43,10 @@ loop-channel-preserved g c =
           ∙ readers-step c.args.readers words own c.loop-channel.all.items row inv.readers c.in_ok-own.ensures.count c.in_ok-own.ensures.sights
           ∙ (λ i. replicate c.args.readers (new_sights (sym added i)));
     }
+
+-- nobody has used them
+pub invariant_of-result : goal.invariant_of-result
+invariant_of-result g c = subst AreUnused (sym c.loop-channel.invariant.heads) (head_seats-new c.loop-channel.words.items (take c.loop-channel.channel-index c.args.channels.now))
 
 -- the seats of all channels were made
 made : (g : _) (c : goal.After-loop-channel g) → AreHeadSeatsOf c.loop-channel.words.items c.loop-channel.heads.items × HaveMarksOf c.loop-channel.heads.items c.args.channels.now

@@ -1,4 +1,4 @@
-use Rattle.std.proofs.Common.{◌≡◌, Bool, true, false, sym, ◌∙◌, refl}
+use Rattle.std.proofs.Common.{◌≡◌, Bool, true, false, sym, ◌∙◌, refl, rules}
 use Rattle.std.specs.Prelude.{◌&&◌}
 use Rattle.pl_head.specs.declared.heads.ReadStep.TheVariants.{Gave}
 use Rattle.pl_head.specs.HeadStand.{read_answer}
@@ -10,12 +10,23 @@ gives false unwritable = refl
 gives true false = refl
 gives true true = refl
 
-pub returns-in-Some-clause-answer : goal.returns-in-Some-clause-answer
-returns-in-Some-clause-answer g c =
-    rw (← c.self.view_is)
-    (λ p reads failed ys zs sizes s stands.
-    let left : has_step p reads failed ≡ true = sym (c.has_step.ensures.steps p reads failed s) ∙ c.if-not-has_step.false in
-    rw (left, c.in-Some.is) (gives (is_burst (bursts_read p) reads) c.self.inside.buffer.marks.is_unwritable))
-
-pub returns-in-Some-clause-never_held : goal.returns-in-Some-clause-never_held
-returns-in-Some-clause-never_held g c = λ failed e. cc e
+pub returns-in-Some : goal.returns-in-Some
+returns-in-Some g c =
+    rw (← c.self.view_is) record {
+      done = search rules;
+      answers = λ p reads failed ys zs sizes s stands.
+          let left : has_step p reads failed ≡ true = sym (c.has_step.ensures.steps p reads failed s) ∙ c.if-not-has_step.false in
+          rw (left, c.in-Some.is) (gives (is_burst (bursts_read p) reads) c.self.inside.buffer.marks.is_unwritable);
+      never_held = λ failed e. cc e;
+      is_left = search rules;
+      idle = search rules;
+      reads = search rules;
+      puts = search rules;
+      same = search rules;
+      entrance_stays = search rules;
+      aborts = search rules;
+      numbering = search rules;
+      marks = search rules;
+      settles = search rules;
+      few = search rules;
+    }
