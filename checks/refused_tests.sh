@@ -55,10 +55,10 @@ pl_nodes_tests tests::context_tests::backlog_without_memory_gives_tokens_back
 pl_nodes_tests tests::context_tests::event_without_memory_fails_its_taker
 pl_nodes_tests tests::failure_tests::write_without_memory
 pl_part_tests share_tests::division_without_memory
-pl_checks every_allocation_refused::ping
-pl_checks every_allocation_refused::echo_and_faults
-pl_checks every_allocation_refused::quit
-pl_checks every_allocation_refused::length_frames
-pl_checks every_allocation_refused::watermarks
-pl_checks every_allocation_refused::handover_drained
+pl_checks tests::every_allocation_refused::ping
+pl_checks tests::every_allocation_refused::echo_and_faults
+pl_checks tests::every_allocation_refused::quit
+pl_checks tests::every_allocation_refused::length_frames
+pl_checks tests::every_allocation_refused::watermarks
+pl_checks tests::every_allocation_refused::handover_drained
 TESTS

@@ -1,5 +1,5 @@
 -- The lanes of one hop after another, and of one part after another, are counted.
-use Rattle.std.proofs.Common.{◌≡◌, ℕ, ◌+◌, ◌<◌, List, length, map, get_or, take, refl, ap, sym, subst, ◌∙◌, arith}
+use Rattle.std.proofs.Common.{◌≡◌, ℕ, ◌+◌, ◌<◌, List, length, map, get_or, take, ap, sym, ◌∙◌, arith}
 use Rattle.std.specs.Prelude.{cond}
 use Rattle.std.specs.List.{count_by, range_with_len, sum_by}
 use Rattle.std.proofs.lemmas.List.{take_all}
@@ -8,7 +8,7 @@ use Rattle.pl_part.specs.Paths.{writer_hop}
 use Rattle.pl_part.specs.Parts.{ChannelPartView}
 use Rattle.pl_channel.specs.Ways.{ArePlaceable, Counts, HasRoom, goes_between, hops_between, lanes_between, one_more}
 use Rattle.pl_channel.proofs.LaneCounts.{length-lanes_between, lanes-between-few}
-use Rattle.pl_channel.proofs.PlaceTables.{count-range-le, count-range-more, counts-more, counts-none, counts-same, room-left, table-is, zeros, zeros-room}
+use Rattle.pl_channel.proofs.PlaceTables.{count-range-le, count-range-more, counts-more, counts-same, room-left, table-is, zeros, zeros-room}
 
 -- ---- the hops of a part
 
@@ -70,6 +70,3 @@ module _ {S T : Type 0} (ps : List (ChannelPartView S T)) (count : ℕ) where
     pub parts-counted : n ≡ length ps → now ≡ map (λ x. map (λ y. length (lanes_between ps x y)) (range_with_len 0 count)) (range_with_len 0 count)
     parts-counted all = table-is count now (lanes_before n) (λ x y. length (lanes_between ps x y)) (λ x y.
         length-lanes_between ps x y ∙ ap (λ (l : List (ChannelPartView S T)). sum_by (λ p. length (hops_between x y p)) l) (sym (take_all n ps (omega (arith, all))))) so_far
-
-  pub none-counted : (now : List (List ℕ)) → now ≡ zeros count → Counts (zeros count) now (lanes_before 0)
-  none-counted now none = subst (λ (l : List (List ℕ)). Counts (zeros count) l (lanes_before 0)) (sym none) (counts-none (zeros count) (lanes_before 0) (λ x y. refl))

@@ -13,7 +13,7 @@ use Rattle.pl_event.proofs.Lists.{any-joined, list_any-map}
 use Rattle.pl_context.specs.Stops.{AreAmong, HasPlaces, no_stops}
 use Rattle.pl_context.proofs.Places.{places-start}
 use Rattle.pl_part.specs.Paths.{writer_hop}
-use Rattle.pl_part.specs.Parts.{ChannelPartView, part_lanes}
+use Rattle.pl_part.specs.Parts.{ChannelPartView}
 use Rattle.pl_channel.specs.Channels.{data_lanes_of}
 use Rattle.pl_channel.specs.Ways.{lanes_between, hops_between, goes_between}
 
@@ -52,11 +52,7 @@ module _ {S T : Type 0} (ps : List (ChannelPartView S T)) where
           sym (eqb-true lane.hop l.hop (and_parts (lane.channel == p.path.channel) (lane.hop == l.hop) entered).1)
           ∙ eqb-true lane.hop hop (and_parts (lane.channel == p.path.channel) (lane.hop == hop) enters).1
 
-    -- it is among all lanes
-    pub among-all : AreAmong (l ∷ []) (data_lanes_of ps)
-    among-all lane any = any-of-all (same_hop lane) part_lanes (list_any-map (same_hop lane) lane_at hops ∙ among-hops lane any)
-
-    -- and among those from its executor to that
+    -- it is among those from its executor to that
     pub among-between : AreAmong (l ∷ []) (lanes_between ps (get_or p.path.executors (writer_hop p.path l.hop) 0) (get_or p.path.executors l.hop 0))
     among-between lane any =
         let x = get_or p.path.executors (writer_hop p.path l.hop) 0 in

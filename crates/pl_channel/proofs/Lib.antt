@@ -1,6 +1,5 @@
 pub mod LaneContents
 pub mod WorldChannels
-pub mod MovedParts
 pub mod Wholes
 pub mod OneChannel
 pub mod HeadMoves

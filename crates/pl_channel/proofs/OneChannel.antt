@@ -21,12 +21,13 @@ use Rattle.pl_context.specs.Stops.{HasPlaces, AreAmong}
 use Rattle.pl_context.proofs.Places.{within-left, within-right, places-for}
 use Rattle.pl_context.proofs.WaitingCalls.{at-set_here, at-set_there}
 use Rattle.pl_flow.specs.Flows.{IsGood}
+use Rattle.pl_flow.specs.LanesViews.{SameRoutes, KeepsPlaces, taken_with}
 use Rattle.pl_head.specs.Transports.{TransportState}
 use Rattle.pl_part.specs.Paths.{writer_hop}
 use Rattle.pl_part.specs.Parts.{ChannelPartView, PartHolds, SamePart, head_hop, part_taken, part_lanes, part_writes}
 use Rattle.pl_part.specs.PartCalls.{IsNextFor}
 use Rattle.pl_part.specs.Counts.{part_done}
-use Rattle.pl_channel.specs.Channels.{executor_at, home_of, target_of, origin_of, taken_of, data_lanes_of, done_of, writes_here, writes_of, HasAllNodes, PartStands, ChannelsStand}
+use Rattle.pl_channel.specs.Channels.{executor_at, home_of, target_of, origin_of, taken_of, data_lanes_of, done_of, writes_here, writes_of, came_of, lanes_view, HasAllNodes, PartStands, ChannelsStand}
 use Rattle.pl_channel.proofs.Wholes.{IsWritten, written, tail-within, enters}
 
 -- ---- lists
@@ -37,7 +38,7 @@ joined-same f [] i x y at same = refl
 joined-same f (z ∷ zs) zero x y at same = let e : z ≡ x = cc in ap (λ ws. ws ++ flat_map f zs) (same ∙ ap f (sym e))
 joined-same f (z ∷ zs) (suc i) x y at same = ap (λ ws. f z ++ ws) (joined-same f zs i x y at same)
 
-pub among-joined : {A : Type 0} (f : A → List Lane) (xs : List A) (i : ℕ) (x : A) → slice_get xs i ≡ Some x → AreAmong (f x) (flat_map f xs)
+among-joined : {A : Type 0} (f : A → List Lane) (xs : List A) (i : ℕ) (x : A) → slice_get xs i ≡ Some x → AreAmong (f x) (flat_map f xs)
 among-joined f [] i x at = absurd (no at)
   where
     no : None ≡ Some x → ⊥
@@ -117,45 +118,54 @@ module _ {S T : Type 0} (ps : List (ChannelPartView S T)) (c : ℕ) (p p' : Chan
   pub places-of : (b : OutputsView) → HasPlaces b.stopped (data_lanes_of ps) → HasPlaces b.stopped (part_lanes p)
   places-of b places = places-for b.stopped (data_lanes_of ps) (part_lanes p) places (among-joined (λ (q : ChannelPartView S T). part_lanes q) ps c p was)
 
+  -- what one has put stays within the places
+  pub places-stay : (b a : OutputsView) → KeepsPlaces (part_lanes p) b.stopped a.stopped → KeepsPlaces (data_lanes_of ps) b.stopped a.stopped
+  places-stay b a placed hops among = placed hops (λ l any. among l (among-joined (λ (q : ChannelPartView S T). part_lanes q) ps c p was l any))
+
   -- they go the same ways, where the part is the same
   module _ (same : SamePart p p') where
-    pub home-stays : (k : ℕ) → home_of changed k ≡ home_of ps k
-    home-stays k = unchanged (λ (q : ChannelPartView S T). executor_at q (head_hop q)) 0 (λ i. get_or (same.path.executors i) (same-hops p p' same i) 0) k
+    pub home-stays : home_of changed ≡ home_of ps
+    home-stays = λ i k. unchanged (λ (q : ChannelPartView S T). executor_at q (head_hop q)) 0 (λ j. get_or (same.path.executors j) (same-hops p p' same j) 0) k i
 
-    pub target-stays : (l : Lane) → target_of changed l ≡ target_of ps l
-    target-stays l = unchanged (λ (q : ChannelPartView S T). executor_at q l.hop) 0 (same-executor p p' same l.hop) l.channel
+    pub target-stays : target_of changed ≡ target_of ps
+    target-stays = λ i l. unchanged (λ (q : ChannelPartView S T). executor_at q l.hop) 0 (same-executor p p' same l.hop) l.channel i
 
-    pub origin-stays : (l : Lane) → origin_of changed l ≡ origin_of ps l
-    origin-stays l = unchanged (λ (q : ChannelPartView S T). executor_at q (writer_hop q.path l.hop)) 0 (λ i. get_or (same.path.executors i) (same-writer p p' same l.hop i) 0) l.channel
+    pub origin-stays : origin_of changed ≡ origin_of ps
+    origin-stays = λ i l. unchanged (λ (q : ChannelPartView S T). executor_at q (writer_hop q.path l.hop)) 0 (λ j. get_or (same.path.executors j) (same-writer p p' same l.hop j) 0) l.channel i
 
-    pub lanes-stay : data_lanes_of changed ≡ data_lanes_of ps
+    lanes-stay : data_lanes_of changed ≡ data_lanes_of ps
     lanes-stay = joined-same (λ (q : ChannelPartView S T). part_lanes q) ps c p p' was (same-lanes p p' same)
 
     -- and the same are written, where its nodes write the same
-    pub writes-stay : (meaning : S → Meaning) → ((l : Lane) → part_writes meaning p' l ≡ part_writes meaning p l) → (l : Lane) → writes_of meaning changed l ≡ writes_of meaning ps l
+    writes-stay : (meaning : S → Meaning) → ((l : Lane) → part_writes meaning p' l ≡ part_writes meaning p l) → (l : Lane) → writes_of meaning changed l ≡ writes_of meaning ps l
     writes-stay meaning writes l = unchanged (λ (q : ChannelPartView S T). writes_here meaning q l) false (λ i. nat_lt l.hop (length (same.path.executors i)) && writes l i) l.channel
+
+    pub routes-stay : (meaning : S → Meaning) → ((l : Lane) → part_writes meaning p' l ≡ part_writes meaning p l) → (target target' : Lane → ℕ) → target' ≡ target → SameRoutes (lanes_view meaning target ps) (lanes_view meaning target' changed)
+    routes-stay meaning writes target target' goes = λ i. record { target = goes i; written = λ l. writes-stay meaning writes l i; taken = taken_of changed; came = came_of meaning changed; places = lanes-stay i }
 
   -- ---- what was taken
 
-  pub taken-none : ((l : Lane) → part_taken p' l ≡ part_taken p l) → (l : Lane) → taken_of changed l ≡ taken_of ps l
-  taken-none same l = unchanged (λ (q : ChannelPartView S T). part_taken q l) 0 (same l) l.channel
+  pub taken-none : ((l : Lane) → part_taken p' l ≡ part_taken p l) → taken_of changed ≡ taken_of ps
+  taken-none same = λ i l. unchanged (λ (q : ChannelPartView S T). part_taken q l) 0 (same l) l.channel i
 
-  pub taken-one : (e : Envelope) → e.lane.channel ≡ c → ((l : Lane) → part_taken p' l ≡ cond (same_lane l e.lane) (e.number + 1) (part_taken p l))
-      → (l : Lane) → taken_of changed l ≡ cond (same_lane l e.lane) (e.number + 1) (taken_of ps l)
-  taken-one e of took l = ⊎_elim
-      (λ (here : l.channel ≡ c).
-      at-is (λ (q : ChannelPartView S T). part_taken q l) 0 l.channel here ∙ took l
-      ∙ ap (λ (n : ℕ). cond (same_lane l e.lane) (e.number + 1) n) (sym (at-was (λ (q : ChannelPartView S T). part_taken q l) 0 l.channel here)))
-      (λ (other : l.channel ≢ c).
-      elsewhere (λ (q : ChannelPartView S T). part_taken q l) 0 l.channel other
-      ∙ sym (cond-false (same_lane l e.lane) (e.number + 1) (taken_of ps l) (apart other)))
-      (cases_eq l.channel c)
+  pub taken-one : (e : Envelope) → e.lane.channel ≡ c → ((l : Lane) → part_taken p' l ≡ cond (same_lane l e.lane) (e.number + 1) (part_taken p l)) → taken_of changed ≡ taken_with (taken_of ps) e
+  taken-one e of took = λ i l. lane l i
     where
-      apart : l.channel ≢ c → same_lane l e.lane ≡ false
-      apart other = ⊎_elim
+      apart : (l : Lane) → l.channel ≢ c → same_lane l e.lane ≡ false
+      apart l other = ⊎_elim
           (λ (t : same_lane l e.lane ≡ true). absurd (other (ap (λ (m : Lane). m.channel) (same_lane-equal l e.lane t) ∙ of)))
           (λ (f : same_lane l e.lane ≡ false). f)
           (cases_Bool (same_lane l e.lane))
+
+      lane : (l : Lane) → taken_of changed l ≡ taken_with (taken_of ps) e l
+      lane l = ⊎_elim
+          (λ (here : l.channel ≡ c).
+          at-is (λ (q : ChannelPartView S T). part_taken q l) 0 l.channel here ∙ took l
+          ∙ ap (λ (n : ℕ). cond (same_lane l e.lane) (e.number + 1) n) (sym (at-was (λ (q : ChannelPartView S T). part_taken q l) 0 l.channel here)))
+          (λ (other : l.channel ≢ c).
+          elsewhere (λ (q : ChannelPartView S T). part_taken q l) 0 l.channel other
+          ∙ sym (cond-false (same_lane l e.lane) (e.number + 1) (taken_of ps l) (apart l other)))
+          (cases_eq l.channel c)
 
   -- ---- the stand
 

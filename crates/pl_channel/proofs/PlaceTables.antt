@@ -99,9 +99,6 @@ module _ (rows : List (Vec ℕ)) (i : ℕ) (row : Vec ℕ) (within : i < length 
 
 -- ---- more and more
 
-pub counts-none : (table : List (List ℕ)) (f : ℕ → ℕ → ℕ) → ((x y : ℕ) → f x y ≡ 0) → Counts table table f
-counts-none table f none = record { rows = refl; columns = λ x. refl; each = λ x y within column. let zero = none x y in omega (arith, zero) }
-
 pub counts-same : (a b : List (List ℕ)) (f g : ℕ → ℕ → ℕ) → ((x y : ℕ) → g x y ≡ f x y) → Counts a b f → Counts a b g
 counts-same a b f g same all = record { rows = all.rows; columns = all.columns; each = λ x y within column. let at = all.each x y within column in let is = same x y in omega (arith, at, is) }
 

@@ -2,7 +2,7 @@
 use Rattle.std.proofs.Common.{◌≡◌, ℕ, suc, ◌+◌, ◌-◌, ◌<◌, ◌≤◌, ◌^◌, ◌≢◌, ◌==◌, ◌||◌, ◌&&◌, Bool, true, false, not, leb, ltb, List, length, Option, Some, None, refl, ap, sym, ◌∙◌, subst, inl, inr, ◌⊎◌, ⊎_elim, arith}
 use Rattle.std.specs.Prelude.{is_some, min}
 use Rattle.std.proofs.lemmas.List.{length-map}
-use Rattle.std.proofs.lemmas.Bool.{and_parts, both_ways, cases_Bool, cases_eq, cond-true, leb-false, leb-true, lt-ltb, or_left, or_parts, or_right, false_from_ne_true}
+use Rattle.std.proofs.lemmas.Bool.{and_parts, both_ways, cases_Bool, cases_eq, cond-true, leb-false, leb-true, lt-ltb, or_left, or_parts, or_right, false_from_ne_true, not-false}
 use Rattle.std.proofs.lemmas.Option.{same_Some}
 use Rattle.pl_event.specs.declared.events.Event.{Event}
 use Rattle.pl_event.specs.declared.envelopes.Envelope.{Envelope}
@@ -25,7 +25,7 @@ use Rattle.pl_head.specs.ReadSteps.{brings_abort, brings_failure, has_step, is_a
 use Rattle.pl_head.specs.Transports.{TransportState, one_call_more}
 use Rattle.pl_head.specs.Writes.{flushed_writes, bytes_offered, out}
 use Rattle.pl_head.specs.InputStand.{InputStands, InputView}
-use Rattle.pl_head.specs.HeadStand.{HeadView, lane_over, Answers, first_cause, cause_of_item, cause_of_step}
+use Rattle.pl_head.specs.HeadStand.{HeadView, ReadsStand, lane_over, Answers, first_cause, cause_of_item, cause_of_step}
 use Rattle.pl_head.specs.HeadCalls.{HeadTakes, HeadReads, HeadWrites}
 use Rattle.pl_part.specs.Parts.{ChannelPartView, PartTakes, PartReads, PartWrites, SamePart, head_hop}
 use Rattle.pl_world.specs.Plans.{ChannelPlan, read_plan}
@@ -77,10 +77,6 @@ and-with : (a b : Bool) → b ≡ true → (a && b) ≡ a
 and-with true b e = e
 and-with false b e = refl
 
-not-false : (a : Bool) → not a ≡ false → a ≡ true
-not-false true e = refl
-not-false false e = cc
-
 -- ---- a head
 
 module _ {T : Type 0} (state : T → TransportState) (p : ChannelPlan) where
@@ -89,11 +85,14 @@ module _ {T : Type 0} (state : T → TransportState) (p : ChannelPlan) where
   is-open stands.Ended closed o = cc
   is-open (stands.Failed c) closed o = cc
 
-  -- a head of which these are the same as of another, but that it may have failed for this cause now
-  same-keeps : (c : Cause) (h h' : HeadView T) → h'.transport ≡ h.transport → h'.input ≡ h.input → h'.buffer.low ≡ h.buffer.low → h'.buffer.high ≡ h.buffer.high → FailsFor c h.failure h'.failure
-      → failed_calls (Some c) ≡ 0 → (Some c ≡ Some Aborted → ⊥) → (Some c ≡ Some Refused → ⊥) → HeadKeepsPlan state p h → HeadKeepsPlan state p h'
-  same-keeps c h h' transport input low high fails sound unaborted unrefused k = record {
-    reads = (k.reads.0, k.reads.1, subst (InputStands (read_plan p) k.reads.0 k.reads.1) (sym input) k.reads.2);
+  -- Its transport and its marks are those of another head, and it may have failed for this cause now.
+  keeps : (c : Cause) (h h' : HeadView T) → h'.transport ≡ h.transport → h'.buffer.low ≡ h.buffer.low → h'.buffer.high ≡ h.buffer.high → FailsFor c h.failure h'.failure
+      → failed_calls (Some c) ≡ 0 → (Some c ≡ Some Refused → ⊥) → HeadKeepsPlan state p h
+      → ((reads : ℕ) × (failed : Bool) × ReadsStand (read_plan p) reads failed h')
+      → (h'.failure ≡ Some Aborted → (is_some p.abort_after ≡ true) × (h'.input.steps + 1 ≡ plan_steps (read_plan p)))
+      → (is_some p.abort_after ≡ true → h'.input.port.is_open ≡ false → is_some h'.failure ≡ true) → HeadKeepsPlan state p h'
+  keeps c h h' transport low high fails sound unrefused k reads aborted closed = record {
+    reads = reads;
     low = low ∙ k.low;
     high = high ∙ k.high;
     window = ap (λ (t : T). (state t).window) transport ∙ k.window;
@@ -103,12 +102,18 @@ module _ {T : Type 0} (state : T → TransportState) (p : ChannelPlan) where
     called = subst (λ (t : T). CallsKeepToPlan p h'.failure k.calls (length (state t).accepted)) (sym transport)
         (calls-stay c h.failure h'.failure fails sound p k.calls (length (state h.transport).accepted) k.called);
     failures = ap (λ (t : T). (state t).failures) transport ∙ k.failures ∙ sym (same-calls c h.failure h'.failure fails sound);
-    aborted = λ e.
-        let was = k.aborted (failed-before c h.failure h'.failure fails Aborted unaborted e) in
-        (was.0, ap (λ (x : InputView). x.steps + 1) input ∙ was.1);
-    closed = λ aborts over. stays-failed c h.failure h'.failure fails (k.closed aborts (sym (ap (λ (x : InputView). x.port.is_open) input) ∙ over));
+    aborted = aborted;
+    closed = closed;
     unrefused = λ e. k.unrefused (failed-before c h.failure h'.failure fails Refused unrefused e);
   }
+
+  -- so, where its input is the same too
+  same-keeps : (c : Cause) (h h' : HeadView T) → h'.transport ≡ h.transport → h'.input ≡ h.input → h'.buffer.low ≡ h.buffer.low → h'.buffer.high ≡ h.buffer.high → FailsFor c h.failure h'.failure
+      → failed_calls (Some c) ≡ 0 → (Some c ≡ Some Aborted → ⊥) → (Some c ≡ Some Refused → ⊥) → HeadKeepsPlan state p h → HeadKeepsPlan state p h'
+  same-keeps c h h' transport input low high fails sound unaborted unrefused k =
+      keeps c h h' transport low high fails sound unrefused k (k.reads.0, k.reads.1, subst (InputStands (read_plan p) k.reads.0 k.reads.1) (sym input) k.reads.2)
+      (λ e. let was = k.aborted (failed-before c h.failure h'.failure fails Aborted unaborted e) in (was.0, ap (λ (x : InputView). x.steps + 1) input ∙ was.1))
+      (λ aborts over. stays-failed c h.failure h'.failure fails (k.closed aborts (sym (ap (λ (x : InputView). x.port.is_open) input) ∙ over)))
 
   -- an item fails it for want of memory alone
   by-item : (i : Item) (answer : Took) → Answers false i answer → (cause_of_item i answer ≡ None) ⊎ (cause_of_item i answer ≡ Some Memory)
@@ -151,9 +156,6 @@ module _ {T : Type 0} (state : T → TransportState) (p : ChannelPlan) where
   failed-or true aborts any none = refl
   failed-or false aborts any none = absurd (both_ways aborts none any)
 
-  aborted-transport : Some Aborted ≡ Some Transport → ⊥
-  aborted-transport e = cc
-
   aborted-refused : Some Aborted ≡ Some Refused → ⊥
   aborted-refused e = cc
 
@@ -164,21 +166,9 @@ module _ {T : Type 0} (state : T → TransportState) (p : ChannelPlan) where
   -- a read step: only that of an abort aborts it
   pub reads-keeps : (h h' : HeadView T) (before after : OutputsView)
       → HeadReads state h before reading.Gave h' after → HeadKeepsPlan state p h → HeadKeepsPlan state p h'
-  reads-keeps h h' before after r k = record {
-    reads = (_, _, now);
-    low = r.marks.low ∙ k.low;
-    high = r.marks.high ∙ k.high;
-    window = ap (λ (t : T). (state t).window) transport ∙ k.window;
-    fail_at = ap (λ (t : T). (state t).fail_at) transport ∙ k.fail_at;
-    calls = k.calls;
-    counted = ap (λ (t : T). (state t).calls) transport ∙ k.counted;
-    called = subst (λ (t : T). CallsKeepToPlan p h'.failure k.calls (length (state t).accepted)) (sym transport)
-        (calls-stay Aborted h.failure h'.failure fails refl p k.calls (length (state h.transport).accepted) k.called);
-    failures = ap (λ (t : T). (state t).failures) transport ∙ k.failures ∙ sym (same-calls Aborted h.failure h'.failure fails refl);
-    aborted = aborted (cases_Bool abort);
-    closed = closed;
-    unrefused = λ e. k.unrefused (failed-before Aborted h.failure h'.failure fails Refused aborted-refused e);
-  }
+  reads-keeps h h' before after r k =
+      keeps Aborted h h' transport r.marks.low r.marks.high fails refl aborted-refused k (steps_after (read_plan p) k.reads.0 h.failure, brings_failure (read_plan p) k.reads.0 h.failure, now)
+      (aborted (cases_Bool abort)) closed
     where
       was : InputStands (read_plan p) k.reads.0 k.reads.1 h.input
       was = k.reads.2

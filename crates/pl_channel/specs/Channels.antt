@@ -13,6 +13,7 @@ use Rattle.pl_context.specs.declared.standing.Took.{Took}
 use Rattle.pl_context.specs.ContextViews.{ContextView}
 use Rattle.pl_context.specs.OutputsViews.{OutputsView}
 use Rattle.pl_flow.specs.Flows.{Point, nowhere}
+use Rattle.pl_flow.specs.LanesViews.{LanesView}
 use Rattle.pl_flow.specs.declared.moves.HeadMove.{HeadMove}
 use Rattle.pl_flow.specs.declared.moves.HeadMove.TheVariants as head
 use Rattle.pl_head.specs.declared.inputs.ReadPlan.{ReadPlan}
@@ -69,6 +70,10 @@ module _ {S T : Type 0} (meaning : S → Meaning) where
   -- how far the lane of a part has come
   abbrev pub came_of : List (ChannelPartView S T) → Lane → Point
   came_of ps l = option_map_or (λ (p : ChannelPartView S T). part_came meaning p l) (slice_get ps l.channel) nowhere
+
+  -- the lanes of all parts, each of which enters this executor
+  abbrev pub lanes_view : (Lane → ℕ) → List (ChannelPartView S T) → LanesView
+  lanes_view target ps = record { target = target; written = writes_of ps; taken = taken_of ps; came = came_of ps; places = data_lanes_of ps }
 
 -- ---- the stand
 

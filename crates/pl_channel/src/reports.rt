@@ -12,7 +12,7 @@ ghost use Rattle.pl_channel.specs.PlanStand.{HeadKeepsPlan};
 
 use pl_context::Tail;
 use pl_event::{Cause, Sequence};
-use pl_head::{Head, Transport, Written};
+use pl_head::{Head, Transport};
 use pl_world::{ChannelReport, Stands};
 use std::alloc::{AllocError, Global};
 
@@ -54,12 +54,12 @@ pub fn into_report<T: Transport>(
         → HeadKeepsPlan T.state p head → ReportsPlan p report) }
 {
     let stands = stands(&tail, &head);
-    let Written { bytes, outcomes } = head.into_written(alloc)?;
+    let (bytes, writes) = head.into_written(alloc)?;
     Ok(ChannelReport {
         stands,
         tail: tail.into_record(),
         bytes,
-        writes: outcomes,
+        writes,
     })
 }
 

@@ -2,6 +2,8 @@
 use Rattle.std.proofs.Common.{◌≡◌, ℕ, ◌+◌, ◌<◌, ◌≤◌, Bool, true, false, cond, List, [], ◌∷◌, ◌++◌, length, sym, ap, subst, ◌∙◌, refl, arith, length-append, append-nil}
 use Rattle.std.specs.Prelude.{◌&&◌, if◌then◌else◌, Result, Ok, Err, OnErr}
 use Rattle.std.proofs.lemmas.List.{length-map}
+use Rattle.std.proofs.Math.Bool.{and-false}
+use Rattle.std.proofs.lemmas.Bool.{and_parts}
 use Rattle.pl_event.specs.declared.events.Event.{Event}
 use Rattle.pl_event.specs.declared.envelopes.Item.{Item}
 use Rattle.pl_event.specs.declared.envelopes.Item.TheVariants as item
@@ -115,10 +117,6 @@ stands-down m p q xs x t e h o = by t p.is_open refl e
         let shut : q.is_open ≡ false =
         ap (λ (t : Port). t.is_open) e ∙ ap (λ (g : Bool). p.is_open && g) (all_go_on-append (as_items (m.down xs x)) (item.End ∷ []) (all_go_on-events (m.down xs x))) ∙ and-false p.is_open in
         cc
-      where
-        and-false : (b : Bool) → (b && false) ≡ false
-        and-false true = refl
-        and-false false = refl
 
 -- ---- room
 
@@ -140,16 +138,9 @@ length-offered p is r e = by p.is_open e
     by true e = length-numbered p.lane p.made is ∙ sym e
     by false e = sym e
 
-pub not-open : (b : Bool) → b ≡ false → b ≡ true → ⊥
-not-open b e f = cc
-
 -- a port that is open after some items was open before
 pub was-open : (p q : Port) (is : List Item) → q ≡ port_after is p → q.is_open ≡ true → p.is_open ≡ true
-was-open p q is e o = by p.is_open (sym (ap (λ (t : Port). t.is_open) e) ∙ o)
-  where
-    by : (b : Bool) → (b && all_go_on is) ≡ true → b ≡ true
-    by true h = refl
-    by false h = h
+was-open p q is e o = (and_parts p.is_open (all_go_on is) (sym (ap (λ (t : Port). t.is_open) e) ∙ o)).0
 
 pub length-items : (xs : List Event) → length (as_items xs) ≡ length xs
 length-items xs = length-map xs (λ (y : Event). item.Event y)

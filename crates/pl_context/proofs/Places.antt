@@ -3,10 +3,11 @@ use Rattle.std.proofs.Common.{◌≡◌, ℕ, ◌<◌, ◌≤◌, Bool, true, fa
 use Rattle.std.specs.Prelude.{◌==◌, if◌then◌else◌}
 use Rattle.std.specs.Cmp.{IsEquivalence, nat_eq_equiv}
 use Rattle.std.specs.List.{list_any, IsDistinct}
-use Rattle.std.proofs.lemmas.Bool.{eqb-true}
+use Rattle.std.proofs.lemmas.Bool.{eqb-true, and_parts, and_from}
 use Rattle.std.proofs.lemmas.List.Folds.{list_any-append}
 use Rattle.std.proofs.lemmas.Map.Keys.{IsDistinct-push}
 use Rattle.std.proofs.lemmas.Map.Made.{length-le_from_is_member}
+use Rattle.std.proofs.Math.Bool.{or-true}
 use Rattle.pl_event.specs.declared.envelopes.Kind.{Kind}
 use Rattle.pl_event.specs.declared.envelopes.Kind.TheVariants.{Data, Flags}
 use Rattle.pl_event.specs.declared.envelopes.Lane.{Lane}
@@ -21,31 +22,20 @@ use Rattle.pl_context.specs.OutputsViews.{OutputsView, Puts, PutsAll, stopped_af
 use Rattle.pl_context.specs.Ports.{numbered, offered}
 use Rattle.pl_context.specs.ContextViews.{lane_of}
 
-and-first : (a b : Bool) → (a && b) ≡ true → a ≡ true
-and-first true b h = refl
-and-first false b h = cc
-
-and-second : (a b : Bool) → (a && b) ≡ true → b ≡ true
-and-second true b h = h
-and-second false b h = cc
-
 or-case : (P : Type 0) (a b : Bool) → (a || b) ≡ true → (a ≡ true → P) → (b ≡ true → P) → P
 or-case P true b h f g = f refl
 or-case P false b h f g = g h
 
 pub same_hop-laws : IsEquivalence same_hop
 same_hop-laws = record {
-  refl = λ x. both (x.channel == x.channel) (x.hop == x.hop) (nat_eq_equiv.refl x.channel) (nat_eq_equiv.refl x.hop);
+  refl = λ x. and_from (x.channel == x.channel) (x.hop == x.hop) (nat_eq_equiv.refl x.channel) (nat_eq_equiv.refl x.hop);
   symm = λ x y. ap (λ (b : Bool). b && (x.hop == y.hop)) (nat_eq_equiv.symm x.channel y.channel) ∙ ap (λ (b : Bool). (y.channel == x.channel) && b) (nat_eq_equiv.symm x.hop y.hop);
   congr = λ x y z h.
-      let c = eqb-true x.channel y.channel (and-first (x.channel == y.channel) (x.hop == y.hop) h) in
-      let k = eqb-true x.hop y.hop (and-second (x.channel == y.channel) (x.hop == y.hop) h) in
+      let both = and_parts (x.channel == y.channel) (x.hop == y.hop) h in
+      let c = eqb-true x.channel y.channel both.0 in
+      let k = eqb-true x.hop y.hop both.1 in
       ap (λ (n : ℕ). (n == z.channel) && (x.hop == z.hop)) c ∙ ap (λ (n : ℕ). (y.channel == z.channel) && (n == z.hop)) k;
 }
-  where
-    both : (a b : Bool) → a ≡ true → b ≡ true → (a && b) ≡ true
-    both true b h k = k
-    both false b h k = cc
 
 within-push : (xs hops : List Lane) (lane : Lane) → AreAmong xs hops → AreAmong (lane ∷ []) hops → AreAmong (xs ++ lane ∷ []) hops
 within-push xs hops lane all own = λ q member.
@@ -124,10 +114,6 @@ within-left xs ys = λ q h. list_any-append (same_hop q) xs ys ∙ ap (λ (b : B
 
 pub within-right : (xs ys : List Lane) → AreAmong ys (xs ++ ys)
 within-right xs ys = λ q h. list_any-append (same_hop q) xs ys ∙ ap (λ (b : Bool). list_any (same_hop q) xs || b) h ∙ or-true (list_any (same_hop q) xs)
-  where
-    or-true : (b : Bool) → (b || true) ≡ true
-    or-true true = refl
-    or-true false = refl
 
 lane_of-open : (p : Port) → p.is_open ≡ true → lane_of p ≡ p.lane ∷ []
 lane_of-open p o = ap (λ (b : Bool). if b then p.lane ∷ [] else []) o

@@ -11,7 +11,7 @@ use Rattle.std.proofs.lemmas.Option.{none-some, same_Some, slice_get_within, sli
 use Rattle.pl_event.proofs.Lists.{All-at, All-from-at, at-index, map-at, slice_get-behind}
 use Rattle.pl_event.specs.declared.envelopes.Lane.{Lane}
 use Rattle.pl_queue.specs.declared.views.SenderView.{SenderView}
-use Rattle.pl_queue.specs.declared.views.TakerView.{TakerView}
+use Rattle.pl_queue.specs.Ends.{MailboxEnds}
 use Rattle.pl_queue.specs.Rule.{Each}
 use Rattle.pl_queue.specs.Views.{fresh_sends}
 use Rattle.pl_words.specs.Names.{Name}
@@ -51,17 +51,17 @@ whole-senders all k senders square found =
 
 -- ---- one inbox more
 
-module _ {M T S : Type 0} (is_taker : M → T → Type 0) (takes_of : T → TakerView) (is_sender : M → S → Type 0) (sends_of : S → SenderView) where
+module _ {M S T : Type 0} (ends : MailboxEnds M S T) where
   opened-push : (lanes : LaneTable) (inboxes : List (InboxView M)) (all : List (OwnView T)) (columns : List (ColumnView S)) (inbox : InboxView M) (own : OwnView T) (column : ColumnView S) (senders : List (List Lane))
-      → AreOpened is_taker takes_of is_sender sends_of lanes inboxes all columns → lanes_to lanes (length inboxes) ≡ senders → IsOwn is_taker takes_of inbox senders own → IsColumn is_sender sends_of inbox senders column
-      → AreOpened is_taker takes_of is_sender sends_of lanes (inboxes ++ inbox ∷ []) (all ++ own ∷ []) (columns ++ column ∷ [])
+      → AreOpened ends lanes inboxes all columns → lanes_to lanes (length inboxes) ≡ senders → IsOwn ends inbox senders own → IsColumn ends inbox senders column
+      → AreOpened ends lanes (inboxes ++ inbox ∷ []) (all ++ own ∷ []) (columns ++ column ∷ [])
   opened-push lanes inboxes all columns inbox own column senders are next is_own is_column = record {
     count = longer all own are.count;
-    own = both-push (λ target i o. IsOwn is_taker takes_of i (lanes_to lanes target) o) inboxes all inbox own (sym are.count) are.own (subst (λ (l : List (List Lane)). IsOwn is_taker takes_of inbox l own) (sym next) is_own);
+    own = both-push (λ target i o. IsOwn ends i (lanes_to lanes target) o) inboxes all inbox own (sym are.count) are.own (subst (λ (l : List (List Lane)). IsOwn ends inbox l own) (sym next) is_own);
     whole = record {
       count = longer columns column are.whole.count;
-      each = both-push (λ target i c. IsColumn is_sender sends_of i (lanes_to lanes target) c) inboxes columns inbox column (sym are.whole.count) are.whole.each
-          (subst (λ (l : List (List Lane)). IsColumn is_sender sends_of inbox l column) (sym next) is_column);
+      each = both-push (λ target i c. IsColumn ends i (lanes_to lanes target) c) inboxes columns inbox column (sym are.whole.count) are.whole.each
+          (subst (λ (l : List (List Lane)). IsColumn ends inbox l column) (sym next) is_column);
     };
   }
     where
@@ -70,11 +70,11 @@ module _ {M T S : Type 0} (is_taker : M → T → Type 0) (takes_of : T → Take
 
   -- the same of what a list of inboxes shows
   pub opened-next : {I : Type 0} (view : I → InboxView M) (lanes : LaneTable) (inboxes inboxes' : List I) (all all' : List (OwnView T)) (columns columns' : List (ColumnView S)) (inbox : I) (own : OwnView T) (column : ColumnView S) (senders : List (List Lane))
-      → AreOpened is_taker takes_of is_sender sends_of lanes (map view inboxes) all columns → slice_get lanes (length inboxes) ≡ Some senders → IsOwn is_taker takes_of (view inbox) senders own → IsColumn is_sender sends_of (view inbox) senders column
-      → inboxes' ≡ inboxes ++ inbox ∷ [] → all' ≡ all ++ own ∷ [] → columns' ≡ columns ++ column ∷ [] → AreOpened is_taker takes_of is_sender sends_of lanes (map view inboxes') all' columns'
+      → AreOpened ends lanes (map view inboxes) all columns → slice_get lanes (length inboxes) ≡ Some senders → IsOwn ends (view inbox) senders own → IsColumn ends (view inbox) senders column
+      → inboxes' ≡ inboxes ++ inbox ∷ [] → all' ≡ all ++ own ∷ [] → columns' ≡ columns ++ column ∷ [] → AreOpened ends lanes (map view inboxes') all' columns'
   opened-next {I = I} view lanes inboxes inboxes' all all' columns columns' inbox own column senders are there is_own is_column inboxes-are all-are columns-are =
       let shown : map view inboxes' ≡ map view inboxes ++ view inbox ∷ [] = ap (λ (l : List I). map view l) inboxes-are ∙ map-append view inboxes (inbox ∷ []) in
-      subst (λ (z : List (InboxView M) × List (OwnView T) × List (ColumnView S)). AreOpened is_taker takes_of is_sender sends_of lanes z.0 z.1 z.2) (λ i. (sym shown i, sym all-are i, sym columns-are i))
+      subst (λ (z : List (InboxView M) × List (OwnView T) × List (ColumnView S)). AreOpened ends lanes z.0 z.1 z.2) (λ i. (sym shown i, sym all-are i, sym columns-are i))
       (opened-push lanes (map view inboxes) all columns (view inbox) own column senders are
       (ap (lanes_to lanes) (length-map inboxes view) ∙ get_or_from_slice_get lanes (length inboxes) senders [] there) is_own is_column)
 
@@ -107,29 +107,29 @@ pub record IsFresh (lanes : List Lane) (b : OutboxView) : Type 0 where
   pub sends : b.sends ≡ fresh_sends lanes
   pub seat : b.seat ≡ new_send_seat name b.seat.number
 
-module _ {M S : Type 0} (is_sender : M → S → Type 0) (sends_of : S → SenderView) where
-  column-after : (n : ℕ) (inbox : InboxView M) (senders : List (List Lane)) (c : ColumnView S) → IsColumn is_sender sends_of inbox senders c → IsColumn is_sender sends_of inbox (drop n senders) (column_after n c)
+module _ {M S T : Type 0} (ends : MailboxEnds M S T) where
+  column-after : (n : ℕ) (inbox : InboxView M) (senders : List (List Lane)) (c : ColumnView S) → IsColumn ends inbox senders c → IsColumn ends inbox (drop n senders) (column_after n c)
   column-after n inbox senders c is = record {
-    senders = each-drop (is_sender inbox.mailbox) n c.senders is.senders;
-    sends = sym (drop-map sends_of n c.senders) ∙ ap (λ (l : List SenderView). drop n l) is.sends ∙ drop-map fresh_sends n senders;
+    senders = each-drop (ends.is_sender inbox.mailbox) n c.senders is.senders;
+    sends = sym (drop-map ends.sends_of n c.senders) ∙ ap (λ (l : List SenderView). drop n l) is.sends ∙ drop-map fresh_sends n senders;
     count = length-drop n c.seats ∙ ap (λ (k : ℕ). k - n) is.count ∙ sym (length-drop n senders);
     seats = All-drop (λ s. s ≡ new_send_seat inbox.name s.number) n c.seats is.seats;
   }
 
-  pub columns-after : (lanes : LaneTable) (n : ℕ) (inboxes : List (InboxView M)) (columns : List (ColumnView S)) → AreColumns is_sender sends_of lanes 0 inboxes columns → AreColumns is_sender sends_of lanes n inboxes (map (column_after n) columns)
+  pub columns-after : (lanes : LaneTable) (n : ℕ) (inboxes : List (InboxView M)) (columns : List (ColumnView S)) → AreColumns ends lanes 0 inboxes columns → AreColumns ends lanes n inboxes (map (column_after n) columns)
   columns-after lanes n inboxes columns are = record {
     count = length-map columns (column_after n) ∙ are.count;
     each = λ target inbox c at-inbox at-c.
         let within = slice_get_within (map (column_after n) columns) target c at-c in
         let found = at-index columns target (omega (arith, within, length-map columns (column_after n))) in
-        subst (λ (z : ColumnView S). IsColumn is_sender sends_of inbox (drop n (lanes_to lanes target)) z) (same_Some (column_after n found.0) c (sym (map-at (column_after n) columns target found.0 found.1) ∙ at-c))
+        subst (λ (z : ColumnView S). IsColumn ends inbox (drop n (lanes_to lanes target)) z) (same_Some (column_after n found.0) c (sym (map-at (column_after n) columns target found.0 found.1) ∙ at-c))
         (column-after n inbox (lanes_to lanes target) found.0 (are.each target inbox found.0 at-inbox found.1));
   }
 
   -- ---- what executor n takes
 
-  module _ (lanes : LaneTable) (square : IsSquare lanes) (n : ℕ) (inboxes : List (InboxView M)) (columns : List (ColumnView S)) (are : AreColumns is_sender sends_of lanes n inboxes columns) (count : length inboxes ≡ length lanes) (there : n < length inboxes) where
-    pub columns-send : AllCanSend is_sender inboxes columns
+  module _ (lanes : LaneTable) (square : IsSquare lanes) (n : ℕ) (inboxes : List (InboxView M)) (columns : List (ColumnView S)) (are : AreColumns ends lanes n inboxes columns) (count : length inboxes ≡ length lanes) (there : n < length inboxes) where
+    pub columns-send : AllCanSend ends inboxes columns
     columns-send target inbox c at-inbox at-c =
         let is = are.each target inbox c at-inbox at-c in
         let within = slice_get_within inboxes target inbox at-inbox in
@@ -137,15 +137,15 @@ module _ {M S : Type 0} (is_sender : M → S → Type 0) (sends_of : S → Sende
         let left = length-drop n (lanes_to lanes target) in
         let made = ap (λ (l : List SenderView). length l) is.sends in
         record {
-          sender = omega (arith, length-map c.senders sends_of, made, length-map (drop n (lanes_to lanes target)) fresh_sends, left, long, count, there);
+          sender = omega (arith, length-map c.senders ends.sends_of, made, length-map (drop n (lanes_to lanes target)) fresh_sends, left, long, count, there);
           seat = omega (arith, is.count, left, long, count, there);
           senders = is.senders;
           seats = All-weaker (λ s. s ≡ new_send_seat inbox.name s.number) (λ s. s.name ≡ inbox.name) (λ s e. ap (λ (t : SendSeatView). t.name) e) c.seats is.seats;
         }
 
-    pub outbox-fresh : (outboxes : List OutboxView) → AllZip (HasNext sends_of) columns outboxes → (target : ℕ) (b : OutboxView) → slice_get outboxes target ≡ Some b → IsFresh (table_lanes lanes n target) b
+    pub outbox-fresh : (outboxes : List OutboxView) → AllZip (HasNext ends) columns outboxes → (target : ℕ) (b : OutboxView) → slice_get outboxes target ≡ Some b → IsFresh (table_lanes lanes n target) b
     outbox-fresh outboxes has target b at-b =
-        let c = zip-at (HasNext sends_of) columns outboxes target b has at-b in
+        let c = zip-at (HasNext ends) columns outboxes target b has at-b in
         let within = slice_get_within columns target c.0 c.1 in
         let inbox = at-index inboxes target (omega (arith, within, are.count)) in
         let is = are.each target inbox.0 c.0 inbox.1 c.1 in
@@ -160,7 +160,7 @@ module _ {M S : Type 0} (is_sender : M → S → Type 0) (sends_of : S → Sende
         }
 
     -- none of its outboxes was sent by
-    pub outboxes-new : (outboxes : List OutboxView) → AllZip (HasNext sends_of) columns outboxes → All IsNew outboxes
+    pub outboxes-new : (outboxes : List OutboxView) → AllZip (HasNext ends) columns outboxes → All IsNew outboxes
     outboxes-new outboxes has = All-from-at IsNew outboxes (λ target b at-b.
         let is = outbox-fresh outboxes has target b at-b in
         record {
@@ -169,8 +169,8 @@ module _ {M S : Type 0} (is_sender : M → S → Type 0) (sends_of : S → Sende
           pushes = ap (λ (s : SenderView). s.pushes) is.sends;
         })
 
-pub outboxes-count : {M S : Type 0} (sends_of : S → SenderView) (inboxes : List (InboxView M)) (columns : List (ColumnView S)) → length columns ≡ length inboxes → (outboxes : List OutboxView) → AllZip (HasNext sends_of) columns outboxes → length outboxes ≡ length inboxes
-outboxes-count sends_of inboxes columns count outboxes has = AllZip-long (HasNext sends_of) columns outboxes has ∙ count
+pub outboxes-count : {M S T : Type 0} (ends : MailboxEnds M S T) (inboxes : List (InboxView M)) (columns : List (ColumnView S)) → length columns ≡ length inboxes → (outboxes : List OutboxView) → AllZip (HasNext ends) columns outboxes → length outboxes ≡ length inboxes
+outboxes-count ends inboxes columns count outboxes has = AllZip-long (HasNext ends) columns outboxes has ∙ count
 
 -- ---- f of the first of a list, and the others as they are
 
@@ -215,7 +215,7 @@ pub shown-at : {I M : Type 0} (view : I → InboxView M) (inboxes : List I) (num
 shown-at view inboxes number inbox within is = map-at view inboxes number inbox (slice_get_read inboxes (length inboxes) number inbox refl within is)
 
 -- its column can make it
-pub next-sends : {I M S : Type 0} (is_sender : M → S → Type 0) (view : I → InboxView M) (inboxes : List I) (all now : List (ColumnView S)) (target : ℕ) (inbox : I) (c : ColumnView S) → AllCanSend is_sender (map view inboxes) all → length all ≡ length inboxes → target < length inboxes
-    → now ≡ front_mapped (column_after 1) target all → inbox ≡ get_or inboxes target inbox → c ≡ get_or now target c → CanSend is_sender (view inbox) c
-next-sends is_sender view inboxes all now target inbox c can count within are read is =
+pub next-sends : {I M S T : Type 0} (ends : MailboxEnds M S T) (view : I → InboxView M) (inboxes : List I) (all now : List (ColumnView S)) (target : ℕ) (inbox : I) (c : ColumnView S) → AllCanSend ends (map view inboxes) all → length all ≡ length inboxes → target < length inboxes
+    → now ≡ front_mapped (column_after 1) target all → inbox ≡ get_or inboxes target inbox → c ≡ get_or now target c → CanSend ends (view inbox) c
+next-sends ends view inboxes all now target inbox c can count within are read is =
     can target (view inbox) c (shown-at view inboxes target inbox within read) (front-read (column_after 1) target all now c are (omega (arith, within, count)) is)

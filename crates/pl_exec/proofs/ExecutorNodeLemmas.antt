@@ -1,7 +1,6 @@
 -- The nodes of an executor, where the part of one channel has changed.
 use Rattle.std.proofs.Common.{◌≡◌, ℕ, ◌+◌, ◌<◌, ◌≤◌, Bool, true, false, ◌&&◌, List, length, map, get_or, slice_get, Option, Some, None, refl, ap, sym, ◌∙◌, subst, ⊎_elim, arith, inl, inr}
 use Rattle.std.specs.Prelude.{◌==◌, is_some, nat_lt, if◌then◌else◌}
-use Rattle.std.specs.Global.{Vec}
 use Rattle.std.specs.Option.{option_map_or}
 use Rattle.std.proofs.lemmas.Bool.{cond-true, cond-false, cases_Bool, and_parts, and_from, eqb-true, eq-eqb, lt-ltb}
 use Rattle.std.proofs.lemmas.Bool.Decides.{eqb_tells}
@@ -18,6 +17,7 @@ use Rattle.pl_event.proofs.Lists.{at_set_same, at_set_other}
 use Rattle.pl_context.specs.OutputsViews.{OutputsView}
 use Rattle.pl_context.specs.Stops.{HasPlaces}
 use Rattle.pl_flow.specs.Flows.{nowhere, IsGood}
+use Rattle.pl_flow.specs.LanesViews.{SameRoutes}
 use Rattle.pl_flow.specs.Makes.{Makes}
 use Rattle.pl_flow.proofs.MakeLemmas.{makes-among}
 use Rattle.pl_head.specs.Transports.{TransportState}
@@ -26,11 +26,9 @@ use Rattle.pl_part.specs.Parts.{ChannelPartView, PartHolds, SamePart, head_hop, 
 use Rattle.pl_part.specs.PartCalls.{IsNextFor}
 use Rattle.pl_channel.specs.PlanStand.{PartKeepsPlan}
 use Rattle.pl_channel.specs.Channels.{executor_at, is_hop, data_lanes_of, taken_of, writes_here, writes_of, came_of}
-use Rattle.pl_channel.proofs.OneChannel.{changed, at-was, at-is, unchanged, places-of, lanes-stay, writes-stay, same-hops, same-executor}
+use Rattle.pl_channel.proofs.OneChannel.{changed, at-was, at-is, unchanged, places-of, routes-stay, same-hops, same-executor}
 use Rattle.pl_channel.proofs.Wholes.{written, hop-last, hop-before}
-use Rattle.pl_threads.specs.Keeping.{NodesKeep}
-use Rattle.pl_exec.specs.declared.nodes.ExecutorNodes.{ExecutorNodes}
-use Rattle.pl_exec.specs.ExecutorNodes.{nobody, enters, entered_executor, has_node, IsResident, NoneRefused, ShareStands, NodesStand}
+use Rattle.pl_exec.specs.ExecutorNodes.{nobody, enters, entered_executor, lanes_here, has_node, IsResident, NoneRefused, ShareStands, NodesStand}
 use Rattle.pl_world.specs.Plans.{ChannelPlan, Plan}
 
 -- ---- lists
@@ -93,25 +91,14 @@ channel-here ps me l small here = by (slice_get ps l.channel) refl here
     by None at e = absurd (omega (arith, e, small))
     by (Some p) at e = slice_get_within ps l.channel p at
 
--- What no call changes of them: where lanes go, which they write, and how many heads are here.
-abbrev pub OwnKeeps : {S T : Type 0} → (S → Meaning) → ExecutorNodes S T → ExecutorNodes S T → Type 0
-OwnKeeps meaning = NodesKeep (λ n l. entered_executor n.parts.items l) (λ n l. writes_of meaning n.parts.items l) (λ n. n.number) (λ n. data_lanes_of n.parts.items) (λ n. length n.own.items)
-
 -- ---- one of all parts
 
 module _ {S T : Type 0} (ps : List (ChannelPartView S T)) (c : ℕ) (p p' : ChannelPartView S T) (was : slice_get ps c ≡ Some p) where
-  pub targets-stay : SamePart p p' → (l : Lane) → entered_executor (changed ps c p p' was) l ≡ entered_executor ps l
-  targets-stay same l = unchanged ps c p p' was (λ (q : ChannelPartView S T). enters q l) nobody (same-enters p p' same l) l.channel
+  pub targets-stay : SamePart p p' → entered_executor (changed ps c p p' was) ≡ entered_executor ps
+  targets-stay same = λ i l. unchanged ps c p p' was (λ (q : ChannelPartView S T). enters q l) nobody (same-enters p p' same l) l.channel i
 
-  pub nodes-keep : (meaning : S → Meaning) {n n' : ExecutorNodes S T} → n.parts.items ≡ ps → n'.parts.items ≡ changed ps c p p' was → n'.number ≡ n.number → n'.own ≡ n.own
-      → SamePart p p' → ((l : Lane) → part_writes meaning p' l ≡ part_writes meaning p l) → OwnKeeps meaning n n'
-  nodes-keep meaning before after number own same writes = record {
-    routes = λ l. ap (λ (xs : List (ChannelPartView S T)). entered_executor xs l) after ∙ targets-stay same l ∙ ap (λ (xs : List (ChannelPartView S T)). entered_executor xs l) (sym before);
-    written = λ l. ap (λ (xs : List (ChannelPartView S T)). writes_of meaning xs l) after ∙ writes-stay ps c p p' was same meaning writes l ∙ ap (λ (xs : List (ChannelPartView S T)). writes_of meaning xs l) (sym before);
-    homes = number;
-    hops = ap (λ (xs : List (ChannelPartView S T)). data_lanes_of xs) after ∙ lanes-stay ps c p p' was same ∙ ap (λ (xs : List (ChannelPartView S T)). data_lanes_of xs) (sym before);
-    counts = ap (λ (v : Vec ℕ). length v.items) own;
-  }
+  pub routes-keep : (meaning : S → Meaning) → SamePart p p' → ((l : Lane) → part_writes meaning p' l ≡ part_writes meaning p l) → SameRoutes (lanes_here meaning ps) (lanes_here meaning (changed ps c p p' was))
+  routes-keep meaning same writes = routes-stay ps c p p' was same meaning writes (entered_executor ps) (entered_executor (changed ps c p p' was)) (targets-stay same)
 
   pub count-stays : length (changed ps c p p' was) ≡ length ps
   count-stays = length-set ps c p'

@@ -32,7 +32,7 @@ use Rattle.pl_world.specs.PlanRules.{IsPlan, IsChannelPlan}
 use Rattle.pl_exec.specs.declared.nodes.ExecutorNodes.{ExecutorNodes}
 use Rattle.pl_exec.specs.Lanes.{AreLaid, every_lane, is_lane}
 use Rattle.pl_exec.specs.Opening.{LaneTable, lanes_to, table_lanes, FitsLanes}
-use Rattle.pl_exec.specs.ExecutorNodes.{nobody, enters, entered_executor}
+use Rattle.pl_exec.specs.ExecutorNodes.{nobody, enters, entered_executor, own_view}
 use Rattle.pl_exec.specs.Sharing.{AreSharesOf, places_at}
 use Rattle.pl_exec.proofs.LaneTablesEvery.{has-any, every-has, every-few}
 use Rattle.pl_exec.proofs.SharesStand.{IsPlacedShare, whole-of}
@@ -189,11 +189,8 @@ module _ {S T : Type 0} (meaning : S → Meaning) (stands_after : S → List Eve
                 same-whole a b e = cc
 
     -- They fit its lanes, and have the places of this executor.
-    pub shares-fit : (stands : ExecutorNodes S T → Type 0) → stands nodes
-        → FitsLanes stands (λ n. n.number) (λ n. data_lanes_of n.parts.items) (λ n l. entered_executor n.parts.items l) (λ n l. writes_of meaning n.parts.items l) (λ n l. taken_of n.parts.items l) (λ n l. came_of meaning n.parts.items l) (λ n. n.was_refused)
-        lanes x nodes (places_at wholes plan.executors x)
-    shares-fit stands stood = record {
-      stood = stood;
+    pub shares-fit : FitsLanes lanes x (own_view meaning nodes) (places_at wholes plan.executors x)
+    shares-fit = record {
       at = are.number;
       unrefused = are.unrefused;
       fresh = λ l w. is-fresh l (own l w);

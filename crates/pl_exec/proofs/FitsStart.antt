@@ -1,5 +1,5 @@
 -- Nodes that are executors' shares of channels before any move fit the lanes between them.
-use Rattle.std.proofs.Common.{◌≡◌, ℕ, ◌<◌, ◌≤◌, List, length, map, slice_get, ap, sym, ◌∙◌, subst, arith, true}
+use Rattle.std.proofs.Common.{◌≡◌, ℕ, ◌<◌, ◌≤◌, List, Some, length, map, slice_get, ap, sym, ◌∙◌, subst, arith, true}
 use Rattle.std.specs.List.{range_with_len}
 use Rattle.std.proofs.lemmas.List.{length-map}
 use Rattle.std.proofs.lemmas.List.FromFn.{length-map-range_with_len}
@@ -7,12 +7,11 @@ use Rattle.std.proofs.lemmas.Option.{slice_get_within}
 use Rattle.pl_event.specs.declared.events.Event.{Event}
 use Rattle.pl_event.specs.Meaning.{Meaning}
 use Rattle.pl_event.specs.Worlds.{World}
-use Rattle.pl_event.proofs.Lists.{at-index}
+use Rattle.pl_event.proofs.Lists.{All-from-at, at-index}
 use Rattle.pl_build.specs.declared.limits.TheConstants.{MAX_EXECUTORS}
 use Rattle.pl_head.specs.Transports.{TransportState}
 use Rattle.pl_part.specs.Parts.{ChannelPartView}
 use Rattle.pl_channel.specs.Lanes.{world_of}
-use Rattle.pl_channel.specs.Channels.{taken_of, writes_of, came_of, data_lanes_of}
 use Rattle.pl_channel.specs.Placing.{ArePlaced}
 use Rattle.pl_channel.specs.PlanStand.{PartsKeepPlan}
 use Rattle.pl_channel.proofs.PlacedParts.{starts-keep}
@@ -21,7 +20,7 @@ use Rattle.pl_world.specs.Plans.{Plan, channel_planned}
 use Rattle.pl_world.specs.PlanRules.{IsPlan}
 use Rattle.pl_exec.specs.declared.nodes.ExecutorNodes.{ExecutorNodes}
 use Rattle.pl_exec.specs.Lanes.{AreLaid}
-use Rattle.pl_exec.specs.ExecutorNodes.{AreOn, NodesStand, entered_executor}
+use Rattle.pl_exec.specs.ExecutorNodes.{AreOn, NodesStand, own_view}
 use Rattle.pl_exec.specs.Opening.{LaneTable, PlacesView, FitsLanes}
 use Rattle.pl_exec.specs.SessionWords.{AreHeadSeatsOf, AreUnused, ChannelNames, SeatsView, seats_marks}
 use Rattle.pl_exec.specs.Sharing.{AreGiven, AreSharesOf, AreShared, channels_on, places_at, places_of}
@@ -59,17 +58,19 @@ module _ {S T : Type 0} (meaning : S → Meaning) (stands_after : S → List Eve
     fit-all laid rows nodes places known shared reserved = record {
       nodes_count = count ∙ sym table.size;
       places_count = ap length reserved ∙ length-map-range_with_len (places_at wholes plan.executors) 0 plan.executors ∙ sym table.size;
-      each = λ x part own at-part at-own.
-          let below : x < plan.executors = let within = slice_get_within nodes x part at-part in let size = count in omega (arith, within, size) in
-          let are = shared.each x part at-part in
+      stand = All-from-at (ExecutorStands world plan meaning stands_after state) nodes (λ x part at.
           let counted = shared.count in
-          let row = at-index rows x (let within = slice_get_within nodes x part at-part in omega (arith, within, counted)) in
+          let row = at-index rows x (let within = slice_get_within nodes x part at in omega (arith, within, counted)) in
           let row-is = numbered-at (channels_on wholes) plan.executors x row.0 (ap (λ (l : List (List ℕ)). slice_get l x) (sym known) ∙ row.1) in
+          stand x row.0 part (below x part at) row-is (shared.each x part at) (shared.given x part row.0 at row.1));
+      each = λ x part own at-part at-own.
           let is = numbered-at (places_at wholes plan.executors) plan.executors x own (ap (λ (l : List PlacesView). slice_get l x) (sym reserved) ∙ at-own) in
-          subst (λ (v : PlacesView). FitsLanes (ExecutorStands world plan meaning stands_after state) (λ n. n.number) (λ n. data_lanes_of n.parts.items) (λ n l. entered_executor n.parts.items l) (λ n l. writes_of meaning n.parts.items l) (λ n l. taken_of n.parts.items l)
-          (λ n l. came_of meaning n.parts.items l) (λ n. n.was_refused) lanes x part v) (sym is)
-          (shares-fit meaning stands_after state plan rs planned wholes placed ruled x part are laid lanes table below (ExecutorStands world plan meaning stands_after state) (stand x row.0 part below row-is are (shared.given x part row.0 at-part row.1)));
+          subst (λ (p : PlacesView). FitsLanes lanes x (own_view meaning part) p) (sym is)
+          (shares-fit meaning stands_after state plan rs planned wholes placed ruled x part (shared.each x part at-part) laid lanes table (below x part at-part));
     }
       where
         count : length nodes ≡ plan.executors
         count = shared.count ∙ ap length known ∙ length-map-range_with_len (channels_on wholes) 0 plan.executors
+
+        below : (x : ℕ) (part : ExecutorNodes S T) → slice_get nodes x ≡ Some part → x < plan.executors
+        below x part at = let within = slice_get_within nodes x part at in let size = count in omega (arith, within, size)

@@ -4,12 +4,10 @@ use Rattle.std.specs.Prelude.{◌==◌}
 use Rattle.std.proofs.lemmas.Bool.{both_ways, eq-eqb, ne_eqb}
 use Rattle.pl_event.specs.declared.events.Event.{Event}
 use Rattle.pl_event.specs.declared.envelopes.Envelope.{Envelope}
-use Rattle.pl_event.specs.declared.envelopes.Lane.{Lane}
 use Rattle.pl_event.specs.Meaning.{Meaning}
 use Rattle.pl_event.specs.Worlds.{World}
 use Rattle.pl_context.specs.declared.standing.Took.{Took}
 use Rattle.pl_context.specs.OutputsViews.{OutputsView}
-use Rattle.pl_context.specs.Stops.{HasPlaces, AreAmong}
 use Rattle.pl_flow.specs.Flows.{IsGood}
 use Rattle.pl_flow.specs.declared.moves.HeadMove.{HeadMove}
 use Rattle.pl_flow.specs.declared.moves.HeadMove.TheVariants as head
@@ -18,15 +16,14 @@ use Rattle.pl_head.specs.declared.heads.ReadStep.TheVariants as reading
 use Rattle.pl_head.specs.HeadStand.{HeadView}
 use Rattle.pl_head.specs.Transports.{TransportState}
 use Rattle.pl_part.specs.Paths.{context_at}
-use Rattle.pl_part.specs.Parts.{ChannelPartView, PartHolds, PartTakes, SamePart, PartReads, PartMoves, head_hop, part_lanes}
+use Rattle.pl_part.specs.Parts.{ChannelPartView, PartHolds, PartTakes, SamePart, PartReads, PartMoves, head_hop}
 use Rattle.pl_part.specs.PartCalls.{Taken, Given, PartRefused}
 use Rattle.pl_channel.specs.Lanes.{world_of}
 use Rattle.pl_channel.specs.PlanStand.{PartKeepsPlan}
 use Rattle.pl_channel.proofs.HeadLanes.{HeadBegins, part-begins}
 use Rattle.pl_channel.proofs.PlanLemmas.{part-takes-keeps, part-reads-keeps, part-writes-keeps}
-use Rattle.pl_channel.specs.Channels.{data_lanes_of}
 use Rattle.pl_channel.proofs.HeadMoves.{read-idle}
-use Rattle.pl_channel.proofs.OneChannel.{changed, at-was, among-joined}
+use Rattle.pl_channel.proofs.OneChannel.{changed, at-was}
 use Rattle.pl_exec.specs.ExecutorNodes.{NoneRefused, NodesStand, enters, nobody, entered_executor}
 use Rattle.pl_exec.proofs.ExecutorNodeLemmas.{own-stands, enters-here, head-there, nodes-stand, refused-keeps}
 use Rattle.pl_exec.proofs.CallLemmas.{take-refuses-none}
@@ -62,11 +59,6 @@ head-stays meaning stands_after is_spent state p p' e b answer a takes last hops
     (takes.path (ne_eqb e.lane.hop (head_hop p) (λ at. both_ways (e.lane.hop + 1 == hops) off (eq-eqb (e.lane.hop + 1) hops (omega (arith, at, last, are)))))).1
 
 module _ {S T : Type 0} (ps : List (ChannelPartView S T)) (c : ℕ) (p p' : ChannelPartView S T) (was : slice_get ps c ≡ Some p) where
-  -- what one has put stays within the places
-  pub places-stay : (b a : OutputsView) → ((lanes : List Lane) → AreAmong (part_lanes p) lanes → HasPlaces b.stopped lanes → HasPlaces a.stopped lanes)
-      → (hops : List Lane) → AreAmong (data_lanes_of ps) hops → HasPlaces b.stopped hops → HasPlaces a.stopped hops
-  places-stay b a placed hops among places = placed hops (λ l any. among l (among-joined (λ (q : ChannelPartView S T). part_lanes q) ps c p was l any)) places
-
   module _ (world : World) (plan : Plan) (meaning : S → Meaning) (stands_after : S → List Event → Type 0) (is_spent : S → Bool) (state : T → TransportState) (me : ℕ) (refused : Bool)
       (stand : NodesStand world plan meaning stands_after state me refused ps) where
     -- one has taken what is for this executor

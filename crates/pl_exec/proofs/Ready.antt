@@ -1,5 +1,5 @@
 -- What is true of channels that are ready to start.
-use Rattle.std.proofs.Common.{◌≡◌, ℕ, suc, ◌+◌, ◌<◌, ◌≤◌, ◌^◌, Bool, List, [], ◌∷◌, length, map, slice_get, Some, refl, ap, ap₂, sym, ◌∙◌, subst, arith, true}
+use Rattle.std.proofs.Common.{◌≡◌, ℕ, suc, ◌+◌, ◌<◌, ◌≤◌, ◌^◌, List, [], ◌∷◌, length, map, slice_get, Some, refl, ap, ap₂, sym, ◌∙◌, subst, arith, true}
 use Rattle.std.specs.Prelude.{All}
 use Rattle.std.specs.List.{AllZip, range_with_len}
 use Rattle.std.specs.Option.{option_map}
@@ -11,10 +11,10 @@ use Rattle.pl_event.specs.declared.events.Event.{Event}
 use Rattle.pl_event.specs.Meaning.{Meaning}
 use Rattle.pl_event.proofs.Lists.{All-at, All-from-at, at-index}
 use Rattle.pl_event.specs.Worlds.{World}
+use Rattle.pl_threads.specs.NodesViews.{OwnNodesView}
 use Rattle.pl_threads.specs.Running.{ExecutorView, FinishedView, EndsAs}
 use Rattle.pl_head.specs.Transports.{TransportState}
 use Rattle.pl_part.specs.Parts.{ChannelPartView}
-use Rattle.pl_channel.specs.Channels.{taken_of, writes_of, came_of, data_lanes_of}
 use Rattle.pl_channel.specs.Ways.{ArePlaceable}
 use Rattle.pl_channel.proofs.PlacedParts.{placeable, recorded-at}
 use Rattle.pl_world.specs.Plans.{Plan, channel_planned}
@@ -62,12 +62,12 @@ executors-in-order {P = P} {N = N} first executors nodes count parts size number
     ∙ ap (range_with_len 0) (sym (length-map executors (λ (e : P). (first e).nodes)) ∙ ap length parts ∙ size)
 
 -- The nodes of executors that have ended are those of their numbers, in their order.
-pub ended-homes : {P N : Type 0} (first : P → ExecutorView N) (was_refused : N → Bool) (home : N → ℕ) (executors : List P) (all : List (FinishedView N)) → AllZip (λ e f. EndsAs was_refused home (first e).number (first e).owner f) executors all
-    → map (λ f. home f.nodes) all ≡ map (λ e. (first e).number) executors
-ended-homes first was_refused home [] [] h = refl
-ended-homes first was_refused home [] (f ∷ fs) h = absurd h
-ended-homes first was_refused home (e ∷ es) [] h = absurd h
-ended-homes first was_refused home (e ∷ es) (f ∷ fs) h = ap₂ (λ (n : ℕ) (ns : List ℕ). n ∷ ns) h.0.at_home (ended-homes first was_refused home es fs h.1)
+pub ended-homes : {P N : Type 0} (first : P → ExecutorView N) (view_of : N → OwnNodesView) (executors : List P) (all : List (FinishedView N)) → AllZip (λ e f. EndsAs view_of (first e).number (first e).owner f) executors all
+    → map (λ f. (view_of f.nodes).home) all ≡ map (λ e. (first e).number) executors
+ended-homes first view_of [] [] h = refl
+ended-homes first view_of [] (f ∷ fs) h = absurd h
+ended-homes first view_of (e ∷ es) [] h = absurd h
+ended-homes first view_of (e ∷ es) (f ∷ fs) h = ap₂ (λ (n : ℕ) (ns : List ℕ). n ∷ ns) h.0.at_home (ended-homes first view_of es fs h.1)
 
 -- What holds of the first turn of each such executor holds of the turn 0 of each number.
 pub first-turns : {P N : Type 0} (first : P → ExecutorView N) (executors : List P) (nodes : List N) (count : ℕ) (W : ℕ → ℕ → Type 0) → map (λ e. (first e).nodes) executors ≡ nodes → length nodes ≡ count

@@ -8,8 +8,7 @@ use Rattle.pl_event.specs.declared.envelopes.Lane.{Lane}
 use Rattle.pl_event.specs.Meaning.{Meaning}
 use Rattle.pl_event.specs.Worlds.{World}
 use Rattle.pl_context.specs.OutputsViews.{OutputsView}
-use Rattle.pl_flow.specs.Flows.{Point, nowhere}
-use Rattle.pl_flow.specs.Makes.{Makes}
+use Rattle.pl_flow.specs.Flows.{nowhere}
 use Rattle.pl_head.specs.HeadStand.{HeadView}
 use Rattle.pl_head.specs.Transports.{TransportState}
 use Rattle.pl_part.specs.Paths.{context_at}
@@ -18,14 +17,15 @@ use Rattle.pl_part.specs.Told.{IsTold, told_head}
 use Rattle.pl_part.proofs.ToldLemmas.{told-same, told-taken, told-writes, told-came, is-told-holds}
 use Rattle.pl_channel.specs.Lanes.{world_of}
 use Rattle.pl_channel.specs.PlanStand.{HeadKeepsPlan, PartKeepsPlan}
-use Rattle.pl_channel.specs.Channels.{data_lanes_of, taken_of, writes_of, came_of}
-use Rattle.pl_channel.proofs.OneChannel.{changed, unchanged, lanes-stay, writes-stay, same-hops, taken-none}
+use Rattle.pl_channel.specs.Channels.{came_of}
+use Rattle.pl_channel.proofs.OneChannel.{changed, unchanged, same-hops, taken-none}
+use Rattle.pl_threads.specs.NodesViews.{OwnNodesView, NodesKeep, LanesMake}
 use Rattle.pl_world.specs.Plans.{ChannelPlan, Plan}
 use Rattle.pl_exec.specs.declared.nodes.ExecutorNodes.{ExecutorNodes}
-use Rattle.pl_exec.specs.ExecutorNodes.{AreOn, NodesStand, heads_of, entered_executor}
+use Rattle.pl_exec.specs.ExecutorNodes.{AreOn, NodesStand, heads_of, lanes_here, own_view}
 use Rattle.pl_exec.specs.Telling.{AreSeated, AreToldAt, ExecutorStands, IsToldAt, TellsAt}
 use Rattle.pl_exec.proofs.HeadLists.{heads-stay}
-use Rattle.pl_exec.proofs.ExecutorNodeLemmas.{OwnKeeps, nodes-stand, own-stands, targets-stay}
+use Rattle.pl_exec.proofs.ExecutorNodeLemmas.{nodes-stand, own-stands, routes-keep}
 
 -- ---- a part
 
@@ -86,24 +86,14 @@ module _ {S T : Type 0} (ps : List (ChannelPartView S T)) (c : ℕ) (ps' : List 
       (λ r hop x at. own.called r hop x (sym (ap (λ (y : ChannelPartView S T). context_at y.path hop) t.told.is) ∙ at))
       (λ q planned k. keeps-as-before t.before t.after t.told state q k))
 
-  pub told-targets : (l : Lane) → entered_executor ps' l ≡ entered_executor ps l
-  told-targets l = ap (λ (x : List (ChannelPartView S T)). entered_executor x l) becomes ∙ targets-stay ps c t.before t.after t.was (same t.before t.after t.told) l
-
-  pub told-written : (meaning : S → Meaning) (l : Lane) → writes_of meaning ps' l ≡ writes_of meaning ps l
-  told-written meaning l =
-      ap (λ (x : List (ChannelPartView S T)). writes_of meaning x l) becomes
-      ∙ writes-stay ps c t.before t.after t.was (same t.before t.after t.told) meaning (writes-as-before t.before t.after t.told meaning) l
-
-  pub told-lanes : data_lanes_of ps' ≡ data_lanes_of ps
-  told-lanes = ap (λ (x : List (ChannelPartView S T)). data_lanes_of x) becomes ∙ lanes-stay ps c t.before t.after t.was (same t.before t.after t.told)
-
-  pub told-took : (l : Lane) → taken_of ps' l ≡ taken_of ps l
-  told-took l = ap (λ (x : List (ChannelPartView S T)). taken_of x l) becomes ∙ taken-none ps c t.before t.after t.was (taken-as-before t.before t.after t.told) l
-
-  pub told-come : (meaning : S → Meaning) (l : Lane) → came_of meaning ps' l ≡ came_of meaning ps l
-  told-come meaning l =
-      ap (λ (x : List (ChannelPartView S T)). came_of meaning x l) becomes
-      ∙ unchanged ps c t.before t.after t.was (λ (q : ChannelPartView S T). part_came meaning q l) nowhere (came-as-before t.before t.after t.told meaning l) l.channel
+  pub told-lanes : (meaning : S → Meaning) → lanes_here meaning ps' ≡ lanes_here meaning ps
+  told-lanes meaning =
+      let kept = routes-keep ps c t.before t.after t.was meaning (same t.before t.after t.told) (writes-as-before t.before t.after t.told meaning) in
+      ap (λ (x : List (ChannelPartView S T)). lanes_here meaning x) becomes
+      ∙ kept ∙ (λ i. record (lanes_here meaning ps) { taken = taken-none ps c t.before t.after t.was (taken-as-before t.before t.after t.told) i; came = λ l. come meaning l i })
+    where
+      come : (meaning : S → Meaning) (l : Lane) → came_of meaning (changed ps c t.before t.after t.was) l ≡ came_of meaning ps l
+      come meaning l = unchanged ps c t.before t.after t.was (λ (q : ChannelPartView S T). part_came meaning q l) nowhere (came-as-before t.before t.after t.told meaning l) l.channel
 
   pub told-heads : heads_of ps' ≡ heads_of ps
   told-heads = ap (λ (x : List (ChannelPartView S T)). heads_of x) becomes ∙ heads-stay ps c t.before t.after t.was (same t.before t.after t.told)
@@ -125,15 +115,14 @@ module _ {S T : Type 0} (mid now : ExecutorNodes S T) (c : ℕ) (told : AreToldA
     told = tells;
   }
 
-  pub keeps-told : (meaning : S → Meaning) {n : ExecutorNodes S T} → OwnKeeps meaning n mid → OwnKeeps meaning n now
-  keeps-told meaning k = record {
-    routes = λ l. told-targets mid.parts.items c now.parts.items told.parts l ∙ k.routes l;
-    written = λ l. told-written mid.parts.items c now.parts.items told.parts meaning l ∙ k.written l;
-    homes = told.number ∙ k.homes;
-    hops = told-lanes mid.parts.items c now.parts.items told.parts ∙ k.hops;
-    counts = ap (λ (v : Vec ℕ). length v.items) told.own ∙ k.counts;
-  }
+  -- and are seen so by their executor
+  pub view-told : (meaning : S → Meaning) → own_view meaning now ≡ own_view meaning mid
+  view-told meaning = λ i. record { home = told.number i; lanes = told-lanes mid.parts.items c now.parts.items told.parts meaning i; channels = length (told.own i).items; was_refused = told.refused i }
 
-  pub makes-told : (meaning : S → Meaning) (world : World) (written : Lane → Bool) (from : Lane → Point) (b a : OutputsView) → Makes world written from (came_of meaning mid.parts.items) b a
-      → Makes world written from (came_of meaning now.parts.items) b a
-  makes-told meaning world written from b a = subst (λ (to : Lane → Point). Makes world written from to b a) (λ i l. sym (told-come mid.parts.items c now.parts.items told.parts meaning l) i)
+  -- so a call that they made before is as it was
+  module _ (meaning : S → Meaning) (before : ExecutorNodes S T) where
+    pub keeps-told : NodesKeep (own_view meaning before) (own_view meaning mid) → NodesKeep (own_view meaning before) (own_view meaning now)
+    keeps-told = subst (λ (v : OwnNodesView). NodesKeep (own_view meaning before) v) (sym (view-told meaning))
+
+    pub makes-told : (world : World) {b a : OutputsView} → LanesMake world (own_view meaning before).lanes b (own_view meaning mid).lanes a → LanesMake world (own_view meaning before).lanes b (own_view meaning now).lanes a
+    makes-told world {b} {a} = subst (λ (v : OwnNodesView). LanesMake world (own_view meaning before).lanes b v.lanes a) (sym (view-told meaning))

@@ -1,5 +1,5 @@
 -- The nodes of an executor, as contracts see them: by the number of a channel the part of it that is there.
-use Rattle.std.specs.Prelude.{◌≡◌, ℕ, ◌+◌, ◌<◌, ◌≤◌, ◌^◌, ◌==◌, Bool, true, false, List, [], ◌∷◌, All, Contains, map, nat_lt, slice_get, Option, Some, None, is_some, if◌then◌else◌}
+use Rattle.std.specs.Prelude.{◌≡◌, ℕ, ◌+◌, ◌<◌, ◌≤◌, ◌^◌, ◌==◌, Bool, true, false, List, [], ◌∷◌, All, Contains, length, map, nat_lt, slice_get, Option, Some, None, is_some, if◌then◌else◌}
 use Rattle.std.specs.Option.{option_map_or}
 use Rattle.pl_event.specs.declared.events.Event.{Event}
 use Rattle.pl_event.specs.declared.envelopes.Kind.TheVariants as kind
@@ -9,6 +9,7 @@ use Rattle.pl_event.specs.Worlds.{World}
 use Rattle.pl_context.specs.ContextViews.{ContextView}
 use Rattle.pl_context.specs.OutputsViews.{OutputsView}
 use Rattle.pl_context.specs.Standings.{is_over}
+use Rattle.pl_flow.specs.LanesViews.{LanesView}
 use Rattle.pl_flow.specs.declared.moves.HeadMove.{HeadMove}
 use Rattle.pl_head.specs.Marks.{Change}
 use Rattle.pl_head.specs.Transports.{TransportState}
@@ -18,9 +19,11 @@ use Rattle.pl_head.specs.ReadSteps.{plan_steps}
 use Rattle.pl_part.specs.Paths.{PathRefuses, context_at, writer_hop}
 use Rattle.pl_part.specs.Parts.{ChannelPartView, PartHolds, head_hop, all_over, has_read}
 use Rattle.pl_channel.specs.PlanStand.{PartsKeepPlan}
+use Rattle.pl_threads.specs.NodesViews.{OwnNodesView}
 use Rattle.pl_threads.specs.Serving.{Served}
-use Rattle.pl_channel.specs.Channels.{HasMoved, MayMove, executor_at, is_hop}
+use Rattle.pl_channel.specs.Channels.{HasMoved, MayMove, executor_at, is_hop, lanes_view}
 use Rattle.pl_world.specs.Plans.{ChannelPlan, Plan, read_plan}
+use Rattle.pl_exec.specs.declared.nodes.ExecutorNodes.{ExecutorNodes}
 
 -- ---- where lanes go
 
@@ -35,6 +38,19 @@ enters p l = if is_hop p l then executor_at p l.hop else nobody
 -- by lane, where it has a channel
 abbrev pub entered_executor : {S T : Type 0} → List (ChannelPartView S T) → Lane → ℕ
 entered_executor ps l = option_map_or (λ (p : ChannelPartView _ _). enters p l) (slice_get ps l.channel) nobody
+
+-- the lanes of the parts that are on an executor
+abbrev pub lanes_here : {S T : Type 0} → (S → Meaning) → List (ChannelPartView S T) → LanesView
+lanes_here meaning ps = lanes_view meaning (entered_executor ps) ps
+
+-- the nodes of an executor, as it sees them
+abbrev pub own_view : {S T : Type 0} → (S → Meaning) → ExecutorNodes S T → OwnNodesView
+own_view meaning n = record {
+  home = n.number;
+  lanes = lanes_here meaning n.parts.items;
+  channels = length n.own.items;
+  was_refused = n.was_refused;
+}
 
 -- ---- which nodes are here
 

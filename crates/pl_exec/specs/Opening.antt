@@ -1,10 +1,9 @@
 -- The inboxes of all executors once they are open, what each executor has of them, and the nodes with which it starts.
 use Rattle.std.specs.Global.{Vec}
-use Rattle.std.specs.Prelude.{◌≡◌, ◌≢◌, ℕ, ◌<◌, ◌^◌, Bool, true, false, List, [], ◌∷◌, drop, length, map, get_or, slice_get, All, Some, None}
+use Rattle.std.specs.Prelude.{◌≡◌, ◌≢◌, ℕ, ◌<◌, ◌^◌, true, false, List, [], ◌∷◌, drop, length, map, get_or, slice_get, All, Some, None}
 use Rattle.pl_event.specs.declared.envelopes.Lane.{Lane}
 use Rattle.pl_context.specs.Stops.{HasPlaces, AreAmong, no_stops}
-use Rattle.pl_queue.specs.declared.views.SenderView.{SenderView}
-use Rattle.pl_queue.specs.declared.views.TakerView.{TakerView}
+use Rattle.pl_queue.specs.Ends.{MailboxEnds}
 use Rattle.pl_queue.specs.Rule.{Each}
 use Rattle.pl_queue.specs.Views.{fresh_sends, fresh_takes, has_lane}
 use Rattle.pl_queue.specs.Left.{Apart, lanes_of_senders}
@@ -12,10 +11,11 @@ use Rattle.pl_queue.specs.Limits.{opening_fault}
 use Rattle.pl_words.specs.Names.{Name}
 use Rattle.pl_words.specs.Admissions.{SendSeatView, OwnerSeatView, new_send_seat, new_owner_seat}
 use Rattle.pl_words.specs.declared.status.Status.TheVariants.{Accepting}
-use Rattle.pl_flow.specs.Flows.{Point, point}
+use Rattle.pl_flow.specs.Flows.{point}
 use Rattle.pl_outbox.specs.Admitting.{FewLanes}
 use Rattle.pl_outbox.specs.declared.inbox.Inbox.{Inbox}
 use Rattle.pl_outbox.specs.OutboxViews.{OutboxView, waits_for}
+use Rattle.pl_threads.specs.NodesViews.{OwnNodesView}
 use Rattle.pl_threads.specs.Running.{ExecutorView}
 
 -- ---- the lanes
@@ -73,18 +73,17 @@ pub record ColumnView (S : Type 0) : Type 0 where
 abbrev pub column_after : {S : Type 0} → ℕ → ColumnView S → ColumnView S
 column_after n c = record { senders = drop n c.senders; seats = drop n c.seats }
 
-module _ {M T : Type 0} (is_taker : M → T → Type 0) (takes_of : T → TakerView) where
+module _ {M S T : Type 0} (ends : MailboxEnds M S T) where
   -- The taker and the owner's seat of an inbox with these senders. Nothing was taken, and nothing was closed.
   pub record IsOwn (inbox : InboxView M) (senders : List (List Lane)) (own : OwnView T) : Type 0 where
-    pub taker : is_taker inbox.mailbox own.taker
-    pub takes : takes_of own.taker ≡ fresh_takes (lanes_of_senders senders)
+    pub taker : ends.is_taker inbox.mailbox own.taker
+    pub takes : ends.takes_of own.taker ≡ fresh_takes (lanes_of_senders senders)
     pub owner : own.owner ≡ new_owner_seat inbox.name
 
-module _ {M S : Type 0} (is_sender : M → S → Type 0) (sends_of : S → SenderView) where
   -- Senders of an inbox on these lanes, and as many seats. Nothing was sent, and nothing was admitted.
   pub record IsColumn (inbox : InboxView M) (lanes : List (List Lane)) (c : ColumnView S) : Type 0 where
-    pub senders : Each (is_sender inbox.mailbox) c.senders
-    pub sends : map sends_of c.senders ≡ map fresh_sends lanes
+    pub senders : Each (ends.is_sender inbox.mailbox) c.senders
+    pub sends : map ends.sends_of c.senders ≡ map fresh_sends lanes
     pub count : length c.seats ≡ length lanes
     pub seats : All (λ s. s ≡ new_send_seat inbox.name s.number) c.seats
 
@@ -93,12 +92,11 @@ module _ {M S : Type 0} (is_sender : M → S → Type 0) (sends_of : S → Sende
     pub count : length columns ≡ length inboxes
     pub each : (target : ℕ) (inbox : InboxView M) (c : ColumnView S) → slice_get inboxes target ≡ Some inbox → slice_get columns target ≡ Some c → IsColumn inbox (drop n (lanes_to lanes target)) c
 
-module _ {M T S : Type 0} (is_taker : M → T → Type 0) (takes_of : T → TakerView) (is_sender : M → S → Type 0) (sends_of : S → SenderView) where
   -- The inboxes of the first of all targets, what their executors have of them, and their columns, of which nothing was taken.
   pub record AreOpened (lanes : LaneTable) (inboxes : List (InboxView M)) (all : List (OwnView T)) (columns : List (ColumnView S)) : Type 0 where
     pub count : length all ≡ length inboxes
-    pub own : (target : ℕ) (inbox : InboxView M) (o : OwnView T) → slice_get inboxes target ≡ Some inbox → slice_get all target ≡ Some o → IsOwn is_taker takes_of inbox (lanes_to lanes target) o
-    pub whole : AreColumns is_sender sends_of lanes 0 inboxes columns
+    pub own : (target : ℕ) (inbox : InboxView M) (o : OwnView T) → slice_get inboxes target ≡ Some inbox → slice_get all target ≡ Some o → IsOwn inbox (lanes_to lanes target) o
+    pub whole : AreColumns lanes 0 inboxes columns
 
 -- ---- the nodes of an executor
 
@@ -107,48 +105,48 @@ pub record PlacesView : Type 0 where
   pub work : ℕ
   pub targets : List ℕ
 
-module _ {N : Type 0} (stands : N → Type 0) (home : N → ℕ) (hops_of : N → List Lane) (target_of : N → Lane → ℕ) (writes : N → Lane → Bool) (taken_of : N → Lane → ℕ) (came : N → Lane → Point) (was_refused : N → Bool) where
-  -- Nodes that have taken and made nothing, on the executor of this number. Each lane that they write enters one of them,
-  -- or is one of those to its target; and each lane to them is written elsewhere. There are places for all of them, and not
-  -- too many for the seats.
-  pub record FitsLanes (lanes : LaneTable) (number : ℕ) (nodes : N) (places : PlacesView) : Type 0 where
-    pub stood : stands nodes
-    pub at : home nodes ≡ number
-    pub unrefused : was_refused nodes ≡ false
-    pub fresh : (l : Lane) → writes nodes l ≡ true → came nodes l ≡ point 0 false
-    pub there : (l : Lane) → writes nodes l ≡ true → target_of nodes l < length lanes
-    pub own : (l : Lane) → writes nodes l ≡ true → target_of nodes l ≡ number → taken_of nodes l ≡ 0
-    pub away : (l : Lane) → writes nodes l ≡ true → target_of nodes l ≢ number → has_lane l (table_lanes lanes number (target_of nodes l)) ≡ true
-    pub entering : (l : Lane) → has_lane l (lanes_of_senders (lanes_to lanes number)) ≡ true → (target_of nodes l ≡ number) × (writes nodes l ≡ false) × (taken_of nodes l ≡ 0)
-    pub work : HasPlaces (no_stops places.work) (hops_of nodes)
-    pub targets : length places.targets ≡ length lanes
-    pub hops : ℕ → List Lane
-    pub placed : (target count : ℕ) → slice_get places.targets target ≡ Some count → HasPlaces (no_stops count) (hops target)
-    pub among : (l : Lane) → writes nodes l ≡ true → AreAmong (l ∷ []) (hops (target_of nodes l))
-    pub few : FewLanes (writes nodes)
+-- Nodes that have taken and made nothing, on the executor of this number. Each lane that they write enters one of them, or is
+-- one of those to its target; and each lane to them is written elsewhere. There are places for all of them, and not too many
+-- for the seats.
+pub record FitsLanes (lanes : LaneTable) (number : ℕ) (v : OwnNodesView) (places : PlacesView) : Type 0 where
+  pub at : v.home ≡ number
+  pub unrefused : v.was_refused ≡ false
+  pub fresh : (l : Lane) → v.lanes.written l ≡ true → v.lanes.came l ≡ point 0 false
+  pub there : (l : Lane) → v.lanes.written l ≡ true → v.lanes.target l < length lanes
+  pub own : (l : Lane) → v.lanes.written l ≡ true → v.lanes.target l ≡ number → v.lanes.taken l ≡ 0
+  pub away : (l : Lane) → v.lanes.written l ≡ true → v.lanes.target l ≢ number → has_lane l (table_lanes lanes number (v.lanes.target l)) ≡ true
+  pub entering : (l : Lane) → has_lane l (lanes_of_senders (lanes_to lanes number)) ≡ true → (v.lanes.target l ≡ number) × (v.lanes.written l ≡ false) × (v.lanes.taken l ≡ 0)
+  pub work : HasPlaces (no_stops places.work) v.lanes.places
+  pub targets : length places.targets ≡ length lanes
+  pub hops : ℕ → List Lane
+  pub placed : (target count : ℕ) → slice_get places.targets target ≡ Some count → HasPlaces (no_stops count) (hops target)
+  pub among : (l : Lane) → v.lanes.written l ≡ true → AreAmong (l ∷ []) (hops (v.lanes.target l))
+  pub few : FewLanes v.lanes
 
-  -- So do the nodes and places of all executors, by number.
-  pub record FitAll (lanes : LaneTable) (nodes : List N) (places : List PlacesView) : Type 0 where
-    pub nodes_count : length nodes ≡ length lanes
-    pub places_count : length places ≡ length lanes
-    pub each : (number : ℕ) (part : N) (reserved : PlacesView) → slice_get nodes number ≡ Some part → slice_get places number ≡ Some reserved → FitsLanes lanes number part reserved
+-- So do the nodes and places of all executors, by number.
+pub record FitAll {N : Type 0} (view_of : N → OwnNodesView) (stands : N → Type 0) (lanes : LaneTable) (nodes : List N) (places : List PlacesView) : Type 0 where
+  pub nodes_count : length nodes ≡ length lanes
+  pub places_count : length places ≡ length lanes
+  pub stand : All stands nodes
+  pub each : (number : ℕ) (part : N) (reserved : PlacesView) → slice_get nodes number ≡ Some part → slice_get places number ≡ Some reserved → FitsLanes lanes number (view_of part) reserved
 
 -- ---- executors before their first turn
 
--- The next sender and the next seat of a column can make an outbox to this inbox.
-pub record CanSend {M S : Type 0} (is_sender : M → S → Type 0) (inbox : InboxView M) (c : ColumnView S) : Type 0 where
-  pub sender : 0 < length c.senders
-  pub seat : 0 < length c.seats
-  pub senders : Each (is_sender inbox.mailbox) c.senders
-  pub seats : All (λ s. s.name ≡ inbox.name) c.seats
+module _ {M S T : Type 0} (ends : MailboxEnds M S T) where
+  -- The next sender and the next seat of a column can make an outbox to this inbox.
+  pub record CanSend (inbox : InboxView M) (c : ColumnView S) : Type 0 where
+    pub sender : 0 < length c.senders
+    pub seat : 0 < length c.seats
+    pub senders : Each (ends.is_sender inbox.mailbox) c.senders
+    pub seats : All (λ s. s.name ≡ inbox.name) c.seats
 
--- So it is with the column of each inbox.
-abbrev pub AllCanSend : {M S : Type 0} → (M → S → Type 0) → List (InboxView M) → List (ColumnView S) → Type 0
-AllCanSend {M = M} {S = S} is_sender inboxes columns = (target : ℕ) (inbox : InboxView M) (c : ColumnView S) → slice_get inboxes target ≡ Some inbox → slice_get columns target ≡ Some c → CanSend is_sender inbox c
+  -- So it is with the column of each inbox.
+  abbrev pub AllCanSend : List (InboxView M) → List (ColumnView S) → Type 0
+  AllCanSend inboxes columns = (target : ℕ) (inbox : InboxView M) (c : ColumnView S) → slice_get inboxes target ≡ Some inbox → slice_get columns target ≡ Some c → CanSend inbox c
 
--- an outbox has the next sender and the next seat of a column
-abbrev pub HasNext : {S : Type 0} → (S → SenderView) → ColumnView S → OutboxView → Type 0
-HasNext sends_of c b = (slice_get (map sends_of c.senders) 0 ≡ Some b.sends) × (slice_get c.seats 0 ≡ Some b.seat)
+  -- an outbox has the next sender and the next seat of a column
+  abbrev pub HasNext : ColumnView S → OutboxView → Type 0
+  HasNext c b = (slice_get (map ends.sends_of c.senders) 0 ≡ Some b.sends) × (slice_get c.seats 0 ≡ Some b.seat)
 
 -- An executor before its first turn: nothing waits for others, nothing was taken, and its queue is accepting.
 pub record IsFirst {N : Type 0} (number : ℕ) (e : ExecutorView N) : Type 0 where
@@ -158,22 +156,22 @@ pub record IsFirst {N : Type 0} (number : ℕ) (e : ExecutorView N) : Type 0 whe
   pub taken : e.takes.pops ≡ 0
   pub phase : e.owner.phase ≡ Accepting
 
-module _ {M T S N : Type 0} (is_taker : M → T → Type 0) (takes_of : T → TakerView) (is_sender : M → S → Type 0) (sends_of : S → SenderView)
-    (stands : N → Type 0) (home : N → ℕ) (hops_of : N → List Lane) (target_of : N → Lane → ℕ) (writes : N → Lane → Bool) (taken_of : N → Lane → ℕ) (came : N → Lane → Point) (was_refused : N → Bool) where
+module _ {M S T N : Type 0} (ends : MailboxEnds M S T) (view_of : N → OwnNodesView) (stands : N → Type 0) where
   -- An executor with these nodes and these ends of its own can start: both fit the same lanes, and so do the columns, of which
   -- the executors before it have taken theirs.
-  pub record Starts (inboxes : List (InboxView M)) (number : ℕ) (ends : OwnView T) (columns : List (ColumnView S)) (nodes : N) (places : PlacesView) : Type 0 where
+  pub record Starts (inboxes : List (InboxView M)) (number : ℕ) (own_ends : OwnView T) (columns : List (ColumnView S)) (nodes : N) (places : PlacesView) : Type 0 where
     pub lanes : LaneTable
     pub square : IsSquare lanes
     pub count : length inboxes ≡ length lanes
-    pub own : (inbox : InboxView M) → slice_get inboxes number ≡ Some inbox → IsOwn is_taker takes_of inbox (lanes_to lanes number) ends
-    pub left : AreColumns is_sender sends_of lanes number inboxes columns
-    pub fits : FitsLanes stands home hops_of target_of writes taken_of came was_refused lanes number nodes places
+    pub own : (inbox : InboxView M) → slice_get inboxes number ≡ Some inbox → IsOwn ends inbox (lanes_to lanes number) own_ends
+    pub left : AreColumns ends lanes number inboxes columns
+    pub stood : stands nodes
+    pub fits : FitsLanes lanes number (view_of nodes) places
 
   -- All executors can start: their inboxes were opened for the lanes that their nodes fit.
   pub record CanStart (inboxes : List (InboxView M)) (all : List (OwnView T)) (columns : List (ColumnView S)) (nodes : List N) (places : List PlacesView) : Type 0 where
     pub lanes : LaneTable
     pub square : IsSquare lanes
     pub count : length inboxes ≡ length lanes
-    pub opened : AreOpened is_taker takes_of is_sender sends_of lanes inboxes all columns
-    pub fit : FitAll stands home hops_of target_of writes taken_of came was_refused lanes nodes places
+    pub opened : AreOpened ends lanes inboxes all columns
+    pub fit : FitAll view_of stands lanes nodes places

@@ -6,7 +6,6 @@ use Rattle.pl_event.specs.Meaning.{Meaning}
 use Rattle.pl_event.specs.Worlds.{World}
 use Rattle.pl_head.specs.Transports.{TransportState}
 use Rattle.pl_part.specs.Parts.{ChannelPartView}
-use Rattle.pl_channel.specs.Channels.{taken_of, writes_of, came_of, data_lanes_of}
 use Rattle.pl_channel.specs.Lanes.{world_of}
 use Rattle.pl_channel.specs.Placing.{ArePlaced}
 use Rattle.pl_world.specs.declared.limits.TheConstants.{MAX_CAPACITY, MAX_CHANNELS}
@@ -16,7 +15,7 @@ use Rattle.pl_world.specs.PlanRules.{IsPlan, IsSmallPlan}
 use Rattle.pl_world.specs.Worlds.{WorldView}
 use Rattle.pl_exec.specs.declared.nodes.ExecutorNodes.{ExecutorNodes}
 use Rattle.pl_exec.specs.Opening.{LaneTable, PlacesView, FitAll}
-use Rattle.pl_exec.specs.ExecutorNodes.{entered_executor}
+use Rattle.pl_exec.specs.ExecutorNodes.{own_view}
 use Rattle.pl_exec.specs.SessionWords.{ChannelNames, SeatsView, AreHeadSeatsOf, HaveMarksOf}
 use Rattle.pl_exec.specs.Telling.{ExecutorStands}
 
@@ -44,5 +43,4 @@ pub record AreReady {S T : Type 0} (meaning : S → Meaning) (stands_after : S �
 -- By executor its nodes and its places fit the lanes.
 abbrev pub FitExecutors : {S T : Type 0} → World → Plan → (S → Meaning) → (S → List Event → Type 0) → (T → TransportState) → LaneTable → List (ExecutorNodes S T) → List PlacesView → Type 0
 FitExecutors world plan meaning stands_after state lanes nodes places =
-    FitAll (ExecutorStands world plan meaning stands_after state) (λ n. n.number) (λ n. data_lanes_of n.parts.items) (λ n l. entered_executor n.parts.items l) (λ n l. writes_of meaning n.parts.items l)
-    (λ n l. taken_of n.parts.items l) (λ n l. came_of meaning n.parts.items l) (λ n. n.was_refused) lanes nodes places
+    FitAll (own_view meaning) (ExecutorStands world plan meaning stands_after state) lanes nodes places

@@ -1,10 +1,10 @@
 //! The nodes of an executor.
 
 ghost use Rattle.std.specs.Prelude.{◌≡◌, ◌<◌, ◌^◌, ◌||◌, ◌&&◌, All, length, get_or, slice_get, Some, ℕ, true, false};
-ghost use Rattle.pl_exec.specs.ExecutorNodes.{HasGivenUp, IsRefusedBy, MayMoveOwn, AreOver, IsOverAt, IsPartOver, enters, served_of, entered_executor};
+ghost use Rattle.pl_exec.specs.ExecutorNodes.{HasGivenUp, IsRefusedBy, MayMoveOwn, AreOver, IsOverAt, IsPartOver, enters, own_view, served_of};
 ghost use Rattle.pl_exec.specs.Telling.{ExecutorStands, TellsAfter, TellsAt};
 ghost use Rattle.pl_part.specs.Parts.{ChannelPartView, PartHolds};
-ghost use Rattle.pl_channel.specs.Channels.{IsMovedBy, IsTakenBy, came_of, taken_of, writes_of, data_lanes_of};
+ghost use Rattle.pl_channel.specs.Channels.{IsMovedBy, IsTakenBy};
 ghost use Rattle.pl_event.specs.Worlds.{World};
 
 use crate::planned::Planned;
@@ -38,23 +38,9 @@ pub(crate) struct ExecutorNodes<'a, S: Stage, T: Transport> {
 }
 
 impl<'a, W: Planned, S: Stage, T: Transport> Nodes<W> for ExecutorNodes<'a, S, T> {
-    ghost home = { λ n. n.number };
-
-    ghost lanes = { λ n. data_lanes_of n.parts.items };
-
-    ghost target_of = { λ n lane. entered_executor n.parts.items lane };
-
-    ghost writes = { λ n lane. writes_of S.meaning n.parts.items lane };
-
-    ghost taken_of = { λ n lane. taken_of n.parts.items lane };
-
-    ghost came = { λ n lane. came_of S.meaning n.parts.items lane };
-
-    ghost was_refused = { λ n. n.was_refused };
+    ghost view_of = { own_view S.meaning };
 
     ghost gave_up = { λ n lane. HasGivenUp n.parts.items lane };
-
-    ghost count = { λ n. length n.own.items };
 
     ghost channel_at = { λ n at. get_or n.own.items at 0 };
 

@@ -71,9 +71,9 @@ fn open<W: Named, M: Mailbox<W> + Drop>(
     requires some { 0 < length senders.items }
     requires few { length senders.items < 2 ^ 16 }
     requires open { CanOpen capacity (map (λ sender. sender.items) senders.items) }
-    ensures own { IfOk result (λ r. IsOwn M.is_taker M.takes_of (inbox_view r.0) (map (λ sender. sender.items) senders.items) r.1) }
-    ensures column { IfOk result (λ r. IsColumn M.is_sender M.sends_of (inbox_view r.0) (map (λ sender. sender.items) senders.items) r.2) }
-    ensures capacity { IfOk result (λ r. M.capacity_of r.0.mailbox ≡ capacity) }
+    ensures own { IfOk result (λ r. IsOwn M.ends (inbox_view r.0) (map (λ sender. sender.items) senders.items) r.1) }
+    ensures column { IfOk result (λ r. IsColumn M.ends (inbox_view r.0) (map (λ sender. sender.items) senders.items) r.2) }
+    ensures capacity { IfOk result (λ r. M.ends.capacity_of r.0.mailbox ≡ capacity) }
 {
     let count = senders.len() as u16;
     let (mailbox, senders, taker) = match M::open(alloc, senders, capacity) {
@@ -106,8 +106,8 @@ pub(crate) fn open_all<W: Named, M: Mailbox<W> + Drop>(
 ) -> Result<(Vec<Inbox<W, M>>, Vec<OwnEnds<W, M>>, Vec<Column<W, M>>), AllocError>
     requires { CanOpenAll capacity (lanes_in lanes.items) }
     ensures count { IfOk result (λ r. length r.0.items ≡ length (lanes_in lanes.items)) }
-    ensures opened { IfOk result (λ r. AreOpened M.is_taker M.takes_of M.is_sender M.sends_of (lanes_in lanes.items) (map inbox_view r.0.items) r.1.items r.2.items) }
-    ensures capacity { IfOk result (λ r. All (λ i. M.capacity_of i.mailbox ≡ capacity) r.0.items) }
+    ensures opened { IfOk result (λ r. AreOpened M.ends (lanes_in lanes.items) (map inbox_view r.0.items) r.1.items r.2.items) }
+    ensures capacity { IfOk result (λ r. All (λ i. M.ends.capacity_of i.mailbox ≡ capacity) r.0.items) }
 {
     let mut inboxes = Vec::with_capacity(alloc, lanes.len())?;
     let mut all = Vec::with_capacity(alloc, lanes.len())?;
@@ -147,9 +147,8 @@ pub(crate) fn executors<'a, W: Planned, M: Mailbox<W> + Drop, N: Nodes<W> + Drop
     places: Vec<Places>,
 ) -> Result<Vec<(Executor<'a, W, M, N>, Parker)>, AllocError>
     requires few { length inboxes.now < 2 ^ 16 }
-    requires capacity { All (λ i. M.capacity_of i.mailbox ≡ W.plan.capacity) inboxes.now }
-    requires start { CanStart M.is_taker M.takes_of M.is_sender M.sends_of N.stands N.home N.lanes N.target_of N.writes N.taken_of N.came N.was_refused
-        (map inbox_view inboxes.now) all.items columns.items nodes.items places.items }
+    requires capacity { All (λ i. M.ends.capacity_of i.mailbox ≡ W.plan.capacity) inboxes.now }
+    requires start { CanStart M.ends N.view_of N.stands (map inbox_view inboxes.now) all.items columns.items nodes.items places.items }
     ensures parts { IfOk result (λ executors. map (λ e. e.0.nodes) executors.items ≡ nodes.items) }
     ensures first { IfOk result (λ executors. (y : ℕ) (e : ExecutorView N) → slice_get (map (λ e. e.0) executors.items) y ≡ Some e → IsFirst y e) }
 {
@@ -174,8 +173,7 @@ fn executor<'a, W: Named, M: Mailbox<W> + Drop, N: Nodes<W> + Drop>(
 ) -> Result<(Executor<'a, W, M, N>, Parker), AllocError>
     requires there { number < length inboxes.now }
     requires few { length inboxes.now < 2 ^ 16 }
-    requires starts { Starts M.is_taker M.takes_of M.is_sender M.sends_of N.stands N.home N.lanes N.target_of N.writes N.taken_of N.came N.was_refused
-        (map inbox_view inboxes.now) number own columns.old.items nodes places.now }
+    requires starts { Starts M.ends N.view_of N.stands (map inbox_view inboxes.now) number own columns.old.items nodes places.now }
     ensures nodes { IfOk result (λ e. e.0.nodes ≡ nodes) }
     ensures first { IfOk result (λ e. IsFirst number e.0) }
     ensures left { OnOk result (columns.new.items ≡ map (column_after 1) columns.old.items) }
@@ -202,8 +200,8 @@ fn outboxes<'a, W: Named, M: Mailbox<W> + Drop>(
     columns: &mut Vec<Column<W, M>>,
 ) -> Result<Vec<Outbox<'a, W, M>>, AllocError>
     requires count { length columns.old.items ≡ length inboxes.now }
-    requires senders { AllCanSend M.is_sender (map inbox_view inboxes.now) columns.old.items }
-    ensures outboxes { IfOk result (λ outboxes. AllZip (HasNext M.sends_of) columns.old.items outboxes.items) }
+    requires senders { AllCanSend M.ends (map inbox_view inboxes.now) columns.old.items }
+    ensures outboxes { IfOk result (λ outboxes. AllZip (HasNext M.ends) columns.old.items outboxes.items) }
     ensures left { OnOk result (columns.new.items ≡ map (column_after 1) columns.old.items) }
 {
     let mut outboxes = Vec::with_capacity(alloc, inboxes.len())?;

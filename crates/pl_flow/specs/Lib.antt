@@ -1,3 +1,4 @@
 pub mod Flows
 pub mod LaneRuns
 pub mod Makes
+pub mod LanesViews

@@ -1,5 +1,6 @@
 -- Items that are put on a list, one after another: where no lane has stopped by it, all of them are there.
 use Rattle.std.proofs.Common.{◌≡◌, ℕ, ◌+◌, ◌≤◌, false, List, [], ◌∷◌, ◌++◌, refl, sym, ap, subst, ◌∙◌, arith, append-nil, length}
+use Rattle.std.proofs.lemmas.Bool.{both_ways}
 use Rattle.pl_event.specs.declared.envelopes.Lane.{Lane}
 use Rattle.pl_event.specs.declared.envelopes.Item.{Item}
 use Rattle.pl_event.specs.declared.envelopes.Envelope.{Envelope}
@@ -9,7 +10,7 @@ use Rattle.pl_context.specs.Stops.{StopsView, has_stopped}
 use Rattle.pl_context.specs.OutputsViews.{OutputsView, Puts, PutsAll, Appends, added_items, stopped_after}
 use Rattle.pl_context.specs.Ports.{numbered}
 use Rattle.pl_context.proofs.PortLemmas.{appends-append}
-use Rattle.pl_head.proofs.FlagSteps.{stops, more_stops, open-not-closed}
+use Rattle.pl_head.proofs.FlagSteps.{stops, more_stops}
 
 -- no lane goes on again
 stops_stay : (before after : OutputsView) (e : Envelope) (answer : Added) → Puts before e answer after → stops before.stopped ≤ stops after.stopped
@@ -28,7 +29,7 @@ one_last : (before mid after : OutputsView) (e : Envelope) (answer : Added) → 
 one_last before mid after e Last p rest goes same = refl
 one_last before mid after e Refused p rest goes same =
     absurd (omega (arith, ap stops p.stopped, more_stops before.stopped e.lane, rest, ap stops same))
-one_last before mid after e Discarded p rest goes same = absurd (open-not-closed (has_stopped before.stopped e.lane) (p.discarded.0 refl) goes)
+one_last before mid after e Discarded p rest goes same = absurd (both_ways (has_stopped before.stopped e.lane) goes (p.discarded.0 refl))
 
 one_appends : (before mid : OutputsView) (e : Envelope) (answer : Added) → Puts before e answer mid → answer ≡ Last → Appends before (e ∷ []) mid
 one_appends before mid e answer p last = record {

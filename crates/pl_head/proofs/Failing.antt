@@ -31,20 +31,27 @@ writes_by-append (z ∷ zs) e =
     ap (λ (ws : List (Option (List ℕ))). write_by z ++ ws) (writes_by-append zs e) ∙ sym (append_assoc (write_by z) (writes_by zs) (write_by e))
 
 module _ (o : Outcome) (accepted : List ℕ) (ys zs : List Event) (ended : Bool) (sizes : List Change) (e : Event) where
-  -- an event that makes no write
-  pub failed-nothing : (b : OutboundBufferView) → write_by e ≡ [] → BufferFailed o accepted b ys zs ended sizes → BufferFailed o accepted b ys (zs ++ e ∷ []) ended sizes
-  failed-nothing b none s = record {
+  -- Whatever became of the writes that it makes, all else is as it was.
+  failed-more : (b b' : OutboundBufferView) → Renumbers b b' → BufferFailed o accepted b ys zs ended sizes → (late unnumbered : List (Option (List ℕ))) → late ++ unnumbered ≡ writes_by (zs ++ e ∷ [])
+      → (b'.is_full ≡ false → unnumbered ≡ []) → b'.outcomes ≡ map (settled_by o) (outcomes ys (length accepted) ended) ++ map (late_outcome o) late → BufferFailed o accepted b' ys (zs ++ e ∷ []) ended sizes
+  failed-more b b' same s late unnumbered split all is = record {
     left = s.left;
     output = s.output;
-    entries = s.entries;
-    pending = s.pending;
-    late = s.late;
-    unnumbered = s.unnumbered;
-    split = s.split ∙ sym (writes_by-append zs e ∙ ap (λ (ws : List (Option (List ℕ))). writes_by zs ++ ws) none ∙ append-nil (writes_by zs));
-    all = s.all;
-    outcomes_are = s.outcomes_are;
-    marks = s.marks;
+    entries = ap (λ (v : OutboundBufferView). v.entries) same ∙ s.entries;
+    pending = ap (λ (v : OutboundBufferView). v.pending) same ∙ s.pending;
+    late = late;
+    unnumbered = unnumbered;
+    split = split;
+    all = all;
+    outcomes_are = is;
+    marks =
+        subst (λ (v : OutboundBufferView). Watermarks v.low v.high v.pending v.is_unwritable v.flags sizes) (sym same) s.marks;
   }
+
+  -- an event that makes no write
+  pub failed-nothing : (b : OutboundBufferView) → write_by e ≡ [] → BufferFailed o accepted b ys zs ended sizes → BufferFailed o accepted b ys (zs ++ e ∷ []) ended sizes
+  failed-nothing b none s =
+      failed-more b b refl s s.late s.unnumbered (s.split ∙ sym (writes_by-append zs e ∙ ap (λ (ws : List (Option (List ℕ))). writes_by zs ++ ws) none ∙ append-nil (writes_by zs))) s.all s.outcomes_are
 
   module _ (b b' : OutboundBufferView) (write : Option (List ℕ)) (makes : write_by e ≡ write ∷ []) (same : Renumbers b b')
       (s : BufferFailed o accepted b ys zs ended sizes) where
@@ -56,38 +63,16 @@ module _ (o : Outcome) (accepted : List ℕ) (ys zs : List Event) (ended : Bool)
     failed-numbered goes is =
         let whole : s.late ≡ writes_by zs = sym (append-nil s.late) ∙ ap (λ (ws : List (Option (List ℕ))). s.late ++ ws) (sym (s.all goes)) ∙ s.split in
         let before : List (Option Outcome) = map (settled_by o) (outcomes ys (length accepted) ended) in
-        record {
-          left = s.left;
-          output = s.output;
-          entries = ap (λ (v : OutboundBufferView). v.entries) same ∙ s.entries;
-          pending = ap (λ (v : OutboundBufferView). v.pending) same ∙ s.pending;
-          late = s.late ++ write ∷ [];
-          unnumbered = [];
-          split = append-nil (s.late ++ write ∷ []) ∙ ap (λ (ws : List (Option (List ℕ))). ws ++ write ∷ []) whole ∙ sym next_writes;
-          all = λ f. refl;
-          outcomes_are =
-              is ∙ ap (λ (os : List (Option Outcome)). os ++ late_outcome o write ∷ []) s.outcomes_are
-              ∙ append_assoc before (map (late_outcome o) s.late) (late_outcome o write ∷ [])
-              ∙ ap (λ (os : List (Option Outcome)). before ++ os) (sym (map-append (late_outcome o) s.late (write ∷ [])));
-          marks =
-              subst (λ (v : OutboundBufferView). Watermarks v.low v.high v.pending v.is_unwritable v.flags sizes) (sym same) s.marks;
-        }
+        failed-more b b' same s (s.late ++ write ∷ []) [] (append-nil (s.late ++ write ∷ []) ∙ ap (λ (ws : List (Option (List ℕ))). ws ++ write ∷ []) whole ∙ sym next_writes) (λ f. refl)
+        (is ∙ ap (λ (os : List (Option Outcome)). os ++ late_outcome o write ∷ []) s.outcomes_are
+        ∙ append_assoc before (map (late_outcome o) s.late) (late_outcome o write ∷ [])
+        ∙ ap (λ (os : List (Option Outcome)). before ++ os) (sym (map-append (late_outcome o) s.late (write ∷ []))))
 
     -- a write that gets none
     pub failed-unnumbered : b'.is_full ≡ true → b'.outcomes ≡ b.outcomes → BufferFailed o accepted b' ys (zs ++ e ∷ []) ended sizes
-    failed-unnumbered full is = record {
-      left = s.left;
-      output = s.output;
-      entries = ap (λ (v : OutboundBufferView). v.entries) same ∙ s.entries;
-      pending = ap (λ (v : OutboundBufferView). v.pending) same ∙ s.pending;
-      late = s.late;
-      unnumbered = s.unnumbered ++ write ∷ [];
-      split = sym (append_assoc s.late s.unnumbered (write ∷ [])) ∙ ap (λ (ws : List (Option (List ℕ))). ws ++ write ∷ []) s.split ∙ sym next_writes;
-      all = λ goes. cc (full, goes);
-      outcomes_are = is ∙ s.outcomes_are;
-      marks =
-          subst (λ (v : OutboundBufferView). Watermarks v.low v.high v.pending v.is_unwritable v.flags sizes) (sym same) s.marks;
-    }
+    failed-unnumbered full is =
+        failed-more b b' same s s.late (s.unnumbered ++ write ∷ []) (sym (append_assoc s.late s.unnumbered (write ∷ [])) ∙ ap (λ (ws : List (Option (List ℕ))). ws ++ write ∷ []) s.split ∙ sym next_writes)
+        (λ goes. cc (full, goes)) (is ∙ s.outcomes_are)
 
 pub none_written : (o : Outcome) (ws : List (Option (List ℕ))) → map (late_outcome o) ws ≡ [] → ws ≡ []
 none_written o [] e = refl

@@ -1,5 +1,6 @@
 -- Flags, one after another: when all of them are sent.
 use Rattle.std.proofs.Common.{◌≡◌, ℕ, ◌+◌, ◌<◌, ◌≤◌, Bool, true, false, List, [], ◌∷◌, ◌++◌, length, refl, sym, ap, subst, ◌∙◌, arith, append-nil, append_assoc, length-append, add-zero}
+use Rattle.std.proofs.lemmas.Bool.{both_ways}
 use Rattle.pl_event.specs.declared.envelopes.Kind.{Kind}
 use Rattle.pl_event.specs.declared.envelopes.Kind.TheVariants.{Data, Flags}
 use Rattle.pl_event.specs.declared.envelopes.Lane.{Lane}
@@ -13,10 +14,6 @@ use Rattle.pl_context.specs.OutputsViews.{OutputsView, Puts, added_items, stoppe
 use Rattle.pl_context.specs.Ports.{FlagPasses, flag_port_after, numbered}
 use Rattle.pl_context.proofs.Places.{places-put}
 use Rattle.pl_head.specs.FlagLanes.{FlagsPass, AllSent, as_flags}
-
-pub open-not-closed : (b : Bool) → b ≡ true → b ≡ false → ⊥
-open-not-closed true h k = cc
-open-not-closed false h k = cc
 
 -- a closed lane sends none
 pub pass_closed : (values : List Bool) (p p' : Port) (before after : OutputsView) → FlagsPass values p before p' after → p.is_open ≡ false → (p' ≡ p) × (after ≡ before)
@@ -65,7 +62,7 @@ then_all v vs p mid p' before between after one all =
 module _ (v : Bool) (vs : List Bool) (p mid p' : Port) (before between after : OutputsView) (rest : FlagsPass vs mid between p' after) (open_ : p'.is_open ≡ true) where
   stays_closed : mid.is_open ≡ false → ⊥
   stays_closed shut =
-      open-not-closed p'.is_open open_ (ap (λ (q : Port). q.is_open) (pass_closed vs mid p' between after rest shut).0 ∙ shut)
+      both_ways p'.is_open (ap (λ (q : Port). q.is_open) (pass_closed vs mid p' between after rest shut).0 ∙ shut) open_
 
   was_last : (answer : Added) → mid ≡ flag_port_after answer p → answer ≡ Last
   was_last Last is = refl
@@ -126,7 +123,7 @@ module _ (v : Bool) (vs : List Bool) (p mid p' : Port) (before between after : O
       let end : after.stopped ≡ with_stop before.stopped p.lane = ap (λ (l : OutputsView). l.stopped) (pass_closed vs mid p' between after rest shut).1 ∙ puts.stopped in
       let count = ap stops (sym same ∙ end) ∙ more_stops before.stopped p.lane in
       absurd (omega (arith, count))
-  found Discarded is puts goes same = absurd (open-not-closed (has_stopped before.stopped p.lane) (puts.discarded.0 refl) goes)
+  found Discarded is puts goes same = absurd (both_ways (has_stopped before.stopped p.lane) goes (puts.discarded.0 refl))
 
 pub open_unstopped : (values : List Bool) (p p' : Port) (before after : OutputsView) → FlagsPass values p before p' after → p.is_open ≡ true
     → has_stopped before.stopped p.lane ≡ false → after.stopped ≡ before.stopped → p'.is_open ≡ true

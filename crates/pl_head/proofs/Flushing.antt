@@ -1,16 +1,9 @@
 -- One event more: what is flushed, and what is not.
 use Rattle.std.proofs.Common.{◌≡◌, ℕ, List, [], ◌∷◌, ◌++◌, Bool, true, false, ◌||◌, if◌then◌else◌, Option, sym, refl, append_assoc, append-nil, inl, inr}
-use Rattle.std.proofs.lemmas.Bool.{or_cases, or_left, or_right}
+use Rattle.std.proofs.lemmas.Bool.{or_cases, or_left, or_right, or_parts}
+use Rattle.std.proofs.Math.Bool.{or-true}
 use Rattle.pl_event.specs.declared.events.Event.{Event}
 use Rattle.pl_head.specs.Writes.{write_by, is_flush, has_flush, flushed_writes, unflushed_writes}
-
-or-true : (b : Bool) → (b || true) ≡ true
-or-true true = refl
-or-true false = refl
-
-or-false : (a b : Bool) → (a || b) ≡ false → b ≡ false
-or-false true b h = cc
-or-false false b h = h
 
 has_flush-keep : (ys : List Event) (e : Event) → is_flush e ≡ false → has_flush (ys ++ e ∷ []) ≡ has_flush ys
 has_flush-keep [] e h = rw h refl
@@ -31,7 +24,7 @@ has_flush-flush (y ∷ ys) e h = rw (has_flush-flush ys e h) (or-true (is_flush 
 
 pub flushed-none : (ys : List Event) → has_flush ys ≡ false → flushed_writes ys ≡ []
 flushed-none [] h = refl
-flushed-none (y ∷ ys) h = rw h (flushed-none ys (or-false (is_flush y) (has_flush ys) h))
+flushed-none (y ∷ ys) h = rw h (flushed-none ys (or_parts (is_flush y) (has_flush ys) h).1)
 
 joins : (b : Bool) (w fl un : List (Option (List ℕ))) → (b ≡ false → fl ≡ [])
     → w ++ (fl ++ un) ≡ ((if b then w else []) ++ fl) ++ ((if b then [] else w) ++ un)
@@ -42,7 +35,7 @@ pub flushed-flush : (ys : List Event) (e : Event) → is_flush e ≡ true → wr
 flushed-flush [] e h w = rw (h, w) refl
 flushed-flush (y ∷ ys) e h w =
     rw (has_flush-flush ys e h, or-true (is_flush y), flushed-flush ys e h w)
-    (joins (is_flush y || has_flush ys) (write_by y) (flushed_writes ys) (unflushed_writes ys) (λ h. flushed-none ys (or-false (is_flush y) (has_flush ys) h)))
+    (joins (is_flush y || has_flush ys) (write_by y) (flushed_writes ys) (unflushed_writes ys) (λ h. flushed-none ys (or_parts (is_flush y) (has_flush ys) h).1))
 
 pub unflushed-flush : (ys : List Event) (e : Event) → is_flush e ≡ true → unflushed_writes (ys ++ e ∷ []) ≡ []
 unflushed-flush [] e h = rw h refl

@@ -52,15 +52,6 @@ pub enum ReadStep {
     Done,
 }
 
-/// What a head has written.
-#[derive(Debug, Drop)]
-pub struct Written {
-    /// The bytes that the transport accepted.
-    pub bytes: ByteString,
-    /// The outcome of each write, by its number: None for one that waits.
-    pub outcomes: Sequence<Option<Outcome>>,
-}
-
 /// The end of a channel at its transport: bytes leave by it, and the recorded input comes in by it.
 #[derive(Debug, Drop)]
 pub struct Head<T> {
@@ -435,7 +426,8 @@ impl<T: Transport> Head<T> {
         self.buffer.is_written()
     }
 
-    /// Copies of the bytes that were accepted, and of the outcome of each write.
+    /// Copies of the bytes that the transport accepted, and of the outcome of each write by its number: None for one that
+    /// waits.
     pub fn copies(
         &self,
         alloc: Global,
@@ -452,15 +444,18 @@ impl<T: Transport> Head<T> {
         Ok((ByteString::from_vec(bytes), Sequence::from_vec(outcomes)))
     }
 
-    /// Gives the head up for what it has written. The outcomes are moved, and so are the bytes where the transport moves
-    /// them (`Transport::into_bytes`): there it takes no memory. An `Err` is the transport's.
-    pub fn into_written(self, alloc: Global) -> Result<Written, AllocError>
-        ensures bytes { IfOk result (λ written. written.bytes ≡ (T.state self.transport).accepted) }
-        ensures prefix { IfOk result (λ written. (ys zs : List Event) (sizes : List Change) → HeadStandsAfter T.state self ys zs sizes
-            → written.bytes ≡ take (length (T.state self.transport).accepted) (out ys)) }
-        ensures view { IfOk result (λ written. written.outcomes ≡ self.buffer.outcomes) }
-        ensures outcomes { IfOk result (λ written. (ys zs : List Event) (sizes : List Change) → HeadStandsAfter T.state self ys zs sizes
-            → HasOutcomes T.state self ys zs written.outcomes) }
+    /// Gives the head up for the same. The outcomes are moved, and so are the bytes where the transport moves them
+    /// (`Transport::into_bytes`): there it takes no memory. An `Err` is the transport's.
+    pub fn into_written(
+        self,
+        alloc: Global,
+    ) -> Result<(ByteString, Sequence<Option<Outcome>>), AllocError>
+        ensures bytes { IfOk result (λ parts. parts.0 ≡ (T.state self.transport).accepted) }
+        ensures prefix { IfOk result (λ parts. (ys zs : List Event) (sizes : List Change) → HeadStandsAfter T.state self ys zs sizes
+            → parts.0 ≡ take (length (T.state self.transport).accepted) (out ys)) }
+        ensures view { IfOk result (λ parts. parts.1 ≡ self.buffer.outcomes) }
+        ensures outcomes { IfOk result (λ parts. (ys zs : List Event) (sizes : List Change) → HeadStandsAfter T.state self ys zs sizes
+            → HasOutcomes T.state self ys zs parts.1) }
     {
         let Head {
             transport,
@@ -468,10 +463,7 @@ impl<T: Transport> Head<T> {
             ..
         } = self;
         let bytes = transport.into_bytes(alloc)?;
-        Ok(Written {
-            bytes: ByteString::from_vec(bytes),
-            outcomes: buffer.into_outcomes(),
-        })
+        Ok((ByteString::from_vec(bytes), buffer.into_outcomes()))
     }
 }
 

@@ -100,27 +100,27 @@ module _ (world : World) (v : NodesView) (x : ℕ) (es : List StationView) (back
   left-there y other = cond-false (y == o) _ _ (ne_eqb y o other)
 
   own-waits : on e.lane (envelopes (backlogs o)) ≡ e ∷ on e.lane (envelopes (left o))
-  own-waits = waits-own v.target (backlogs o) (runs.entries o) t i entry takes.taken.1 takes.taken.2 ∙ ap (λ zs. e ∷ on e.lane (envelopes zs)) (sym left-here)
+  own-waits = waits-own v.lanes.target (backlogs o) (runs.entries o) t i entry takes.taken.1 takes.taken.2 ∙ ap (λ zs. e ∷ on e.lane (envelopes zs)) (sym left-here)
 
   others-wait : (y : ℕ) (l : Lane) → same_lane l e.lane ≡ false → on l (envelopes (left y)) ≡ on l (envelopes (backlogs y))
   others-wait y l f = ⊎_elim
       (λ (k : y ≡ o).
-      ap (λ n. on l (envelopes (left n))) k ∙ ap (λ zs. on l (envelopes zs)) left-here ∙ waits-others v.target (backlogs o) (runs.entries o) t i entry takes.taken.1 takes.taken.2 l f
+      ap (λ n. on l (envelopes (left n))) k ∙ ap (λ zs. on l (envelopes zs)) left-here ∙ waits-others v.lanes.target (backlogs o) (runs.entries o) t i entry takes.taken.1 takes.taken.2 l f
       ∙ sym (ap (λ n. on l (envelopes (backlogs n))) k))
       (λ (k : y ≡ o → ⊥). ap (λ zs. on l (envelopes zs)) (left-there y k))
       (cases_eq y o)
 
-  is-target : v.target e.lane ≡ t
-  is-target = entry-target v.target (backlogs o) (runs.entries o) t i entry takes.taken.1 takes.taken.2
+  is-target : v.lanes.target e.lane ≡ t
+  is-target = entry-target v.lanes.target (backlogs o) (runs.entries o) t i entry takes.taken.1 takes.taken.2
 
   here : written_by v o e.lane ≡ true
   here = ⊎_elim (λ c. c) (λ f. absurd (cons-none e (on e.lane (envelopes (left o))) (sym own-waits ∙ runs.waits o e.lane f))) (cases_Bool (written_by v o e.lane))
 
-  written : v.writes e.lane ≡ true
-  written = (and_parts (v.writes e.lane) (v.origin e.lane == o) here).0
+  written : v.lanes.written e.lane ≡ true
+  written = (and_parts (v.lanes.written e.lane) (v.origin e.lane == o) here).0
 
   origin : v.origin e.lane ≡ o
-  origin = eqb-true (v.origin e.lane) o ((and_parts (v.writes e.lane) (v.origin e.lane == o) here).1)
+  origin = eqb-true (v.origin e.lane) o ((and_parts (v.lanes.written e.lane) (v.origin e.lane == o) here).1)
 
   queues-2 : (y : ℕ) → queue_at es2 y ≡ queue_at es y
   queues-2 y = on-executor es es2 o a a' r (λ (z : StationView). z.queue) [] out.queue y
@@ -150,16 +150,16 @@ module _ (world : World) (v : NodesView) (x : ℕ) (es : List StationView) (back
   abbrev cut : Bool
   cut = has_stopped (stops_at es o t) e.lane
 
-  handed-here : LaneStands world (point (v.taken e.lane) over) (on e.lane (queue_at es3 (v.target e.lane))) (on e.lane (envelopes (left (v.origin e.lane)))) (has_stopped (stops_at es3 (v.origin e.lane) (v.target e.lane)) e.lane)
-      (has_stopped work.stopped e.lane) (on e.lane work.items) (v.came e.lane)
+  handed-here : LaneStands world (point (v.lanes.taken e.lane) over) (on e.lane (queue_at es3 (v.lanes.target e.lane))) (on e.lane (envelopes (left (v.origin e.lane)))) (has_stopped (stops_at es3 (v.origin e.lane) (v.lanes.target e.lane)) e.lane)
+      (has_stopped work.stopped e.lane) (on e.lane work.items) (v.lanes.came e.lane)
   handed-here =
-      subst (λ (z : List Envelope × ℕ × ℕ × StopsView). LaneStands world (point (v.taken e.lane) over) z.0 (on e.lane (envelopes (left z.1))) (has_stopped z.3 e.lane) (has_stopped work.stopped e.lane) (on e.lane work.items) (v.came e.lane))
+      subst (λ (z : List Envelope × ℕ × ℕ × StopsView). LaneStands world (point (v.lanes.taken e.lane) over) z.0 (on e.lane (envelopes (left z.1))) (has_stopped z.3 e.lane) (has_stopped work.stopped e.lane) (on e.lane work.items) (v.lanes.came e.lane))
       (λ j. (grown j, sym origin j, sym is-target j, sym (ap (λ (k : ℕ × ℕ). stops_at es3 k.0 k.1) (λ m. (origin m, is-target m)) ∙ stops-same o t) j))
-      (lane-handed world cut (has_stopped work.stopped e.lane) (point (v.taken e.lane) over) (v.came e.lane) e (on e.lane (queue_at es t)) (on e.lane (envelopes (left o))) (on e.lane work.items)
-      (subst (λ (z : List Envelope × List Envelope × StopsView). LaneStands world (point (v.taken e.lane) over) z.0 z.1 (has_stopped z.2 e.lane) (has_stopped work.stopped e.lane) (on e.lane work.items) (v.came e.lane))
+      (lane-handed world cut (has_stopped work.stopped e.lane) (point (v.lanes.taken e.lane) over) (v.lanes.came e.lane) e (on e.lane (queue_at es t)) (on e.lane (envelopes (left o))) (on e.lane work.items)
+      (subst (λ (z : List Envelope × List Envelope × StopsView). LaneStands world (point (v.lanes.taken e.lane) over) z.0 z.1 (has_stopped z.2 e.lane) (has_stopped work.stopped e.lane) (on e.lane work.items) (v.lanes.came e.lane))
       (λ j. (on e.lane (queue_at es (is-target j)), (ap (λ k. on e.lane (envelopes (backlogs k))) origin ∙ own-waits) j, stops_at es (origin j) (is-target j))) (runs.lanes e.lane written).1))
     where
-      grown : on e.lane (queue_at es t) ++ e ∷ [] ≡ on e.lane (queue_at es3 (v.target e.lane))
+      grown : on e.lane (queue_at es t) ++ e ∷ [] ≡ on e.lane (queue_at es3 (v.lanes.target e.lane))
       grown = sym (ap (λ k. on e.lane (queue_at es3 k)) is-target ∙ ap (on e.lane) queue-own ∙ on-append e.lane (queue_at es t) (e ∷ []) ∙ ap (λ zs. on e.lane (queue_at es t) ++ zs) (on-own e.lane e [] (same_lane-self e.lane)))
 
   count : length es3 ≡ length es
@@ -193,13 +193,13 @@ module _ (world : World) (v : NodesView) (x : ℕ) (es : List StationView) (back
   hands = record {
     lanes = λ l w. ⊎_elim
         (λ (m : same_lane l e.lane ≡ true).
-        subst (λ (k : Lane). (p : Bool) × LaneStands world (point (v.taken k) p) (on k (queue_at es3 (v.target k))) (on k (envelopes (left (v.origin k)))) (has_stopped (stops_at es3 (v.origin k) (v.target k)) k) (has_stopped work.stopped k) (on k work.items) (v.came k))
+        subst (λ (k : Lane). (p : Bool) × LaneStands world (point (v.lanes.taken k) p) (on k (queue_at es3 (v.lanes.target k))) (on k (envelopes (left (v.origin k)))) (has_stopped (stops_at es3 (v.origin k) (v.lanes.target k)) k) (has_stopped work.stopped k) (on k work.items) (v.lanes.came k))
         (sym (same_lane-equal l e.lane m)) (over, handed-here))
         (λ (f : same_lane l e.lane ≡ false).
         let p = runs.lanes l w in (
           p.0,
-          subst (λ (z : List Envelope × List Envelope × StopsView). LaneStands world (point (v.taken l) p.0) z.0 z.1 (has_stopped z.2 l) (has_stopped work.stopped l) (on l work.items) (v.came l))
-              (λ j. (sym (on-others (v.target l) l f) j, sym (others-wait (v.origin l) l f) j, sym (stops-same (v.origin l) (v.target l)) j)) p.1,
+          subst (λ (z : List Envelope × List Envelope × StopsView). LaneStands world (point (v.lanes.taken l) p.0) z.0 z.1 (has_stopped z.2 l) (has_stopped work.stopped l) (on l work.items) (v.lanes.came l))
+              (λ j. (sym (on-others (v.lanes.target l) l f) j, sym (others-wait (v.origin l) l f) j, sym (stops-same (v.origin l) (v.lanes.target l)) j)) p.1,
         ))
         (cases_Bool (same_lane l e.lane));
     direct = λ l w k.
@@ -207,13 +207,13 @@ module _ (world : World) (v : NodesView) (x : ℕ) (es : List StationView) (back
         (λ (m : same_lane l e.lane ≡ true).
         let n = same_lane-equal l e.lane m in
         absurd (cons-none e (on e.lane (envelopes (left o))) (sym own-waits ∙ ap (λ (z : Lane × ℕ). on z.0 (envelopes (backlogs z.1))) (λ j. (sym n j, sym (ap v.origin n ∙ origin) j)) ∙ d.1)))
-        (λ (f : same_lane l e.lane ≡ false). (on-others (v.target l) l f ∙ d.0, others-wait (v.origin l) l f ∙ d.1, ap (λ z. has_stopped z l) (stops-same (v.origin l) (v.target l)) ∙ d.2))
+        (λ (f : same_lane l e.lane ≡ false). (on-others (v.lanes.target l) l f ∙ d.0, others-wait (v.origin l) l f ∙ d.1, ap (λ z. has_stopped z l) (stops-same (v.origin l) (v.lanes.target l)) ∙ d.2))
         (cases_Bool (same_lane l e.lane));
     listed = runs.listed;
     queued = λ y l n. ⊎_elim
         (λ (m : same_lane l e.lane ≡ true). ⊎_elim
         (λ (k : y ≡ t).
-        absurd (both_ways (v.writes l && (v.target l == y)) n (ap (λ z. v.writes z && (v.target z == y)) (same_lane-equal l e.lane m) ∙ and_from (v.writes e.lane) (v.target e.lane == y) written (eq-eqb (v.target e.lane) y (is-target ∙ sym k)))))
+        absurd (both_ways (v.lanes.written l && (v.lanes.target l == y)) n (ap (λ z. v.lanes.written z && (v.lanes.target z == y)) (same_lane-equal l e.lane m) ∙ and_from (v.lanes.written e.lane) (v.lanes.target e.lane == y) written (eq-eqb (v.lanes.target e.lane) y (is-target ∙ sym k)))))
         (λ (k : y ≡ t → ⊥). ap (on l) (queue-other y k) ∙ runs.queued y l n)
         (cases_eq y t))
         (λ (f : same_lane l e.lane ≡ false). on-others y l f ∙ runs.queued y l n)
@@ -221,12 +221,12 @@ module _ (world : World) (v : NodesView) (x : ℕ) (es : List StationView) (back
     waits = waits-still world v x es backlogs work runs o e.lane here left left-there others-wait;
     entries = λ y. ⊎_elim
         (λ (k : y ≡ o).
-        subst (λ (zs : List (Entry (Unit {0}))). All (λ z. z.target ≡ v.target z.envelope.lane) zs) (sym (ap left k ∙ left-here)) (All-remove (λ (z : Entry (Unit {0})). z.target ≡ v.target z.envelope.lane) (backlogs o) i (runs.entries o)))
-        (λ (k : y ≡ o → ⊥). subst (λ (zs : List (Entry (Unit {0}))). All (λ z. z.target ≡ v.target z.envelope.lane) zs) (sym (left-there y k)) (runs.entries y))
+        subst (λ (zs : List (Entry (Unit {0}))). All (λ z. z.target ≡ v.lanes.target z.envelope.lane) zs) (sym (ap left k ∙ left-here)) (All-remove (λ (z : Entry (Unit {0})). z.target ≡ v.lanes.target z.envelope.lane) (backlogs o) i (runs.entries o)))
+        (λ (k : y ≡ o → ⊥). subst (λ (zs : List (Entry (Unit {0}))). All (λ z. z.target ≡ v.lanes.target z.envelope.lane) zs) (sym (left-there y k)) (runs.entries y))
         (cases_eq y o);
     holds = λ y c at. (held-3 y c at).0;
     targets = λ y c at. (held-3 y c at).1 ∙ sym count;
-    there = λ l w. subst (λ n. (v.origin l < n) × (v.target l < n)) (sym count) (runs.there l w);
+    there = λ l w. subst (λ n. (v.origin l < n) × (v.lanes.target l < n)) (sym count) (runs.there l w);
     hops = runs.hops;
     placed = λ p q c d. subst (λ z. HasPlaces z (runs.hops p q)) (sym (stops-same p q)) (runs.placed p q (subst (λ n. p < n) count c) (subst (λ n. q < n) count d));
     among = runs.among;

@@ -38,26 +38,26 @@ stopped-other answers.Refused s lane l f = stopped-with s lane l ∙ ap (λ b. h
 -- The front of the list is for another executor: that is there, and the lane has its place on the way.
 module _ (world : World) (v : NodesView) (x : ℕ) (es : List StationView) (backlogs : ℕ → List (Entry (Unit {0}))) (before mid : OutputsView) (e : Envelope) (runs : NetRuns world v x es backlogs before)
     (front : before.items ≡ e ∷ mid.items) (stops : mid.stopped ≡ before.stopped) (a : StationView) (was : slice_get es x ≡ Some a) where
-  pub keep-there : v.target e.lane < length a.waiting.targets
+  pub keep-there : v.lanes.target e.lane < length a.waiting.targets
   keep-there = let t = runs.targets x a was in let h = (runs.there e.lane (front-written world v x es backlogs before mid e runs front stops)).1 in omega (arith, t, h)
 
-  pub keep-placed : HasPlaces (stops_for a.waiting (v.target e.lane)) (e.lane ∷ [])
+  pub keep-placed : HasPlaces (stops_for a.waiting (v.lanes.target e.lane)) (e.lane ∷ [])
   keep-placed =
       let written = front-written world v x es backlogs before mid e runs front stops in
       let origin = front-origin world v x es backlogs before mid e runs front stops in
-      subst (λ s. HasPlaces s (e.lane ∷ [])) (ap (λ o. option_map_or (λ (w : StationView). stops_for w.waiting (v.target e.lane)) o (no_stops 0)) was)
-      (places-for (stops_at es x (v.target e.lane)) (runs.hops x (v.target e.lane)) (e.lane ∷ [])
-      (runs.placed x (v.target e.lane) (subst (λ k. k < length es) origin (runs.there e.lane written).0) (runs.there e.lane written).1)
-      (subst (λ p. AreAmong (e.lane ∷ []) (runs.hops p (v.target e.lane))) origin (runs.among e.lane written)))
+      subst (λ s. HasPlaces s (e.lane ∷ [])) (ap (λ o. option_map_or (λ (w : StationView). stops_for w.waiting (v.lanes.target e.lane)) o (no_stops 0)) was)
+      (places-for (stops_at es x (v.lanes.target e.lane)) (runs.hops x (v.lanes.target e.lane)) (e.lane ∷ [])
+      (runs.placed x (v.lanes.target e.lane) (subst (λ k. k < length es) origin (runs.there e.lane written).0) (runs.there e.lane written).1)
+      (subst (λ p. AreAmong (e.lane ∷ []) (runs.hops p (v.lanes.target e.lane))) origin (runs.among e.lane written)))
 
   pub keep-counts : AreFew v es before → a.waiting.added + 1 < 2 ^ 64
   keep-counts f = let h = f.added x a was in let m = f.few in omega (arith, h, m)
 
 module _ (world : World) (v : NodesView) (x : ℕ) (es : List StationView) (backlogs : ℕ → List (Entry (Unit {0}))) (before mid : OutputsView) (e : Envelope) (runs : NetRuns world v x es backlogs before)
-    (front : before.items ≡ e ∷ mid.items) (stops : mid.stopped ≡ before.stopped) (away : v.target e.lane ≢ x)
-    (es' : List StationView) (a a' : StationView) (r : Replaces es es' x a a') (adds : IsAdded a (v.target e.lane) e a') where
+    (front : before.items ≡ e ∷ mid.items) (stops : mid.stopped ≡ before.stopped) (away : v.lanes.target e.lane ≢ x)
+    (es' : List StationView) (a a' : StationView) (r : Replaces es es' x a a') (adds : IsAdded a (v.lanes.target e.lane) e a') where
   abbrev target : ℕ
-  target = v.target e.lane
+  target = v.lanes.target e.lane
 
   abbrev answer : Added
   answer = adds.adds.answer
@@ -112,7 +112,7 @@ module _ (world : World) (v : NodesView) (x : ℕ) (es : List StationView) (back
 
   -- ---- the lane of the item
 
-  written : v.writes e.lane ≡ true
+  written : v.lanes.written e.lane ≡ true
   written = front-written world v x es backlogs before mid e runs front stops
 
   origin : v.origin e.lane ≡ x
@@ -122,7 +122,7 @@ module _ (world : World) (v : NodesView) (x : ℕ) (es : List StationView) (back
   over = (runs.lanes e.lane written).0
 
   abbrev base : Point
-  base = point (v.taken e.lane) over
+  base = point (v.lanes.taken e.lane) over
 
   abbrev q : List Envelope
   q = on e.lane (queue_at es target)
@@ -133,8 +133,8 @@ module _ (world : World) (v : NodesView) (x : ℕ) (es : List StationView) (back
   abbrev s0 : StopsView
   s0 = stops_at es x target
 
-  own : LaneStands world base q w (has_stopped s0 e.lane) (has_stopped before.stopped e.lane) (e ∷ on e.lane mid.items) (v.came e.lane)
-  own = subst (λ (y : ℕ × List Envelope). LaneStands world base q (on e.lane (envelopes (backlogs y.0))) (has_stopped (stops_at es y.0 target) e.lane) (has_stopped before.stopped e.lane) y.1 (v.came e.lane))
+  own : LaneStands world base q w (has_stopped s0 e.lane) (has_stopped before.stopped e.lane) (e ∷ on e.lane mid.items) (v.lanes.came e.lane)
+  own = subst (λ (y : ℕ × List Envelope). LaneStands world base q (on e.lane (envelopes (backlogs y.0))) (has_stopped (stops_at es y.0 target) e.lane) (has_stopped before.stopped e.lane) y.1 (v.lanes.came e.lane))
       (λ i. (origin i, there-on world v x es backlogs before mid e runs front stops e.lane (same_lane-self e.lane) i)) (runs.lanes e.lane written).1
 
   keep-next : has_stopped s0 e.lane ≡ false → IsNext world (past base (q ++ w)) e
@@ -147,14 +147,14 @@ module _ (world : World) (v : NodesView) (x : ℕ) (es : List StationView) (back
       (subst (λ s. (answer ≡ answers.Discarded) ↔ (has_stopped s e.lane ≡ true)) (sym (stops-was es es' x a a' r target)) adds.adds.discarded) e.lane)
 
   kept-own : LaneStands world base (on e.lane (queue_at es' target)) (on e.lane (envelopes (kept (v.origin e.lane)))) (has_stopped (stops_at es' (v.origin e.lane) target) e.lane)
-      (has_stopped mid.stopped e.lane) (on e.lane mid.items) (v.came e.lane)
+      (has_stopped mid.stopped e.lane) (on e.lane mid.items) (v.lanes.came e.lane)
   kept-own =
       let waits : w ++ on e.lane (added_items answer e) ≡ on e.lane (envelopes (kept (v.origin e.lane))) =
       sym (ap (λ k. on e.lane (envelopes (kept k))) origin ∙ ap (λ zs. on e.lane (envelopes zs)) kept-here ∙ ap (on e.lane) (envelopes-more (backlogs x) target (added_items answer e)) ∙ on-append e.lane (envelopes (backlogs x)) (added_items answer e)) in
       let stopped : stopped_after answer s0 e.lane ≡ stops_at es' (v.origin e.lane) target = sym (ap (λ k. stops_at es' k target) origin ∙ stops-own) in
-      subst (λ (y : List Envelope × List Envelope × StopsView × StopsView). LaneStands world base y.0 y.1 (has_stopped y.2 e.lane) (has_stopped y.3 e.lane) (on e.lane mid.items) (v.came e.lane))
+      subst (λ (y : List Envelope × List Envelope × StopsView × StopsView). LaneStands world base y.0 y.1 (has_stopped y.2 e.lane) (has_stopped y.3 e.lane) (on e.lane mid.items) (v.lanes.came e.lane))
       (λ i. (on e.lane (sym (queues target) i), waits i, stopped i, sym stops i))
-      (lane-added world (has_stopped s0 e.lane) (has_stopped (stopped_after answer s0 e.lane) e.lane) (has_stopped before.stopped e.lane) base (after e) (v.came e.lane) q w (on e.lane (added_items answer e)) (on e.lane mid.items)
+      (lane-added world (has_stopped s0 e.lane) (has_stopped (stopped_after answer s0 e.lane) e.lane) (has_stopped before.stopped e.lane) base (after e) (v.lanes.came e.lane) q w (on e.lane (added_items answer e)) (on e.lane mid.items)
       own.between grows
       (record {
         flow = λ c. (own.runs.flow (still c)).1;
@@ -170,29 +170,29 @@ module _ (world : World) (v : NodesView) (x : ℕ) (es : List StationView) (back
   keeps = record {
     lanes = λ l t. ⊎_elim
         (λ (m : same_lane l e.lane ≡ true).
-        subst (λ (k : Lane). (o : Bool) × LaneStands world (point (v.taken k) o) (on k (queue_at es' (v.target k))) (on k (envelopes (kept (v.origin k)))) (has_stopped (stops_at es' (v.origin k) (v.target k)) k) (has_stopped mid.stopped k) (on k mid.items) (v.came k))
+        subst (λ (k : Lane). (o : Bool) × LaneStands world (point (v.lanes.taken k) o) (on k (queue_at es' (v.lanes.target k))) (on k (envelopes (kept (v.origin k)))) (has_stopped (stops_at es' (v.origin k) (v.lanes.target k)) k) (has_stopped mid.stopped k) (on k mid.items) (v.lanes.came k))
         (sym (same_lane-equal l e.lane m)) (over, kept-own))
         (λ (f : same_lane l e.lane ≡ false).
         let s = runs.lanes l t in (
           s.0,
-          subst (λ (y : List Envelope × List Envelope × Bool × StopsView × List Envelope). LaneStands world (point (v.taken l) s.0) y.0 y.1 y.2 (has_stopped y.3 l) y.4 (v.came l))
-              (λ i. (on l (sym (queues (v.target l)) i), sym (waits-other (v.origin l) l f) i, sym (stops-other-lane (v.origin l) (v.target l) l f) i, sym stops i, same-on world v x es backlogs before mid e runs front stops l f i)) s.1,
+          subst (λ (y : List Envelope × List Envelope × Bool × StopsView × List Envelope). LaneStands world (point (v.lanes.taken l) s.0) y.0 y.1 y.2 (has_stopped y.3 l) y.4 (v.lanes.came l))
+              (λ i. (on l (sym (queues (v.lanes.target l)) i), sym (waits-other (v.origin l) l f) i, sym (stops-other-lane (v.origin l) (v.lanes.target l) l f) i, sym stops i, same-on world v x es backlogs before mid e runs front stops l f i)) s.1,
         ))
         (cases_Bool (same_lane l e.lane));
     direct = λ l t same. ⊎_elim
-        (λ (m : same_lane l e.lane ≡ true). let k = same_lane-equal l e.lane m in absurd (away (sym (ap v.target k) ∙ sym same ∙ ap v.origin k ∙ origin)))
+        (λ (m : same_lane l e.lane ≡ true). let k = same_lane-equal l e.lane m in absurd (away (sym (ap v.lanes.target k) ∙ sym same ∙ ap v.origin k ∙ origin)))
         (λ (f : same_lane l e.lane ≡ false).
         let d = runs.direct l t same in
-        (ap (on l) (queues (v.target l)) ∙ d.0, waits-other (v.origin l) l f ∙ d.1, stops-other-lane (v.origin l) (v.target l) l f ∙ d.2))
+        (ap (on l) (queues (v.lanes.target l)) ∙ d.0, waits-other (v.origin l) l f ∙ d.1, stops-other-lane (v.origin l) (v.lanes.target l) l f ∙ d.2))
         (cases_Bool (same_lane l e.lane));
     listed = listed-left world v x es backlogs before mid e runs front stops;
     queued = λ y l n. ap (on l) (queues y) ∙ runs.queued y l n;
     waits = waits-still world v x es backlogs before runs x e.lane (front-here world v x es backlogs before mid e runs front stops) kept kept-there waits-other;
     entries = λ y. ⊎_elim
         (λ (s : y ≡ x).
-        subst (λ (zs : List (Entry (Unit {0}))). All (λ z. z.target ≡ v.target z.envelope.lane) zs) (sym (ap kept s ∙ kept-here))
-        (All-append (λ (z : Entry (Unit {0})). z.target ≡ v.target z.envelope.lane) (backlogs x) more (runs.entries x) (entries-on (λ l k. k ≡ v.target l) answer e target refl)))
-        (λ (s : y ≡ x → ⊥). subst (λ (zs : List (Entry (Unit {0}))). All (λ z. z.target ≡ v.target z.envelope.lane) zs) (sym (kept-there y s)) (runs.entries y))
+        subst (λ (zs : List (Entry (Unit {0}))). All (λ z. z.target ≡ v.lanes.target z.envelope.lane) zs) (sym (ap kept s ∙ kept-here))
+        (All-append (λ (z : Entry (Unit {0})). z.target ≡ v.lanes.target z.envelope.lane) (backlogs x) more (runs.entries x) (entries-on (λ l k. k ≡ v.lanes.target l) answer e target refl)))
+        (λ (s : y ≡ x → ⊥). subst (λ (zs : List (Entry (Unit {0}))). All (λ z. z.target ≡ v.lanes.target z.envelope.lane) zs) (sym (kept-there y s)) (runs.entries y))
         (cases_eq y x);
     holds = λ y b at. ⊎_elim
         (λ (s : y ≡ x).
@@ -206,7 +206,7 @@ module _ (world : World) (v : NodesView) (x : ℕ) (es : List StationView) (back
         ap (λ (z : StationView). length z.waiting.targets) (sym same) ∙ adds.adds.targets ∙ runs.targets x a r.was ∙ sym r.count)
         (λ (s : y ≡ x → ⊥). runs.targets y b (sym (r.others y s) ∙ at) ∙ sym r.count)
         (cases_eq y x);
-    there = λ l t. subst (λ n. (v.origin l < n) × (v.target l < n)) (sym r.count) (runs.there l t);
+    there = λ l t. subst (λ n. (v.origin l < n) × (v.lanes.target l < n)) (sym r.count) (runs.there l t);
     hops = runs.hops;
     placed = λ y z t u. ⊎_elim
         (λ (s : y ≡ x). ⊎_elim

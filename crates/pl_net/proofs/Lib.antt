@@ -4,6 +4,6 @@ pub mod NetSteps
 pub mod KeepSteps
 pub mod TaskSteps
 pub mod HandSteps
-pub mod CoreSteps
+pub mod StationSteps
 pub mod Oldest
 pub mod Numbers

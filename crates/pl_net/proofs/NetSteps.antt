@@ -1,5 +1,5 @@
 -- What is on its way, step by step.
-use Rattle.std.proofs.Common.{◌≡◌, ◌≢◌, ℕ, ◌+◌, ◌<◌, Bool, true, false, ◌==◌, cond, List, [], ◌∷◌, ◌++◌, length, ap, sym, subst, ◌∙◌, ⊎_elim}
+use Rattle.std.proofs.Common.{◌≡◌, ◌≢◌, ℕ, ◌+◌, ◌<◌, Bool, true, false, ◌==◌, List, [], ◌∷◌, ◌++◌, length, ap, sym, subst, ◌∙◌, ⊎_elim}
 use Rattle.std.proofs.lemmas.Bool.{and_parts, cond-true, cond-false, cases_Bool, both_ways, eqb-true, cases_eq}
 use Rattle.pl_event.specs.declared.envelopes.Envelope.{Envelope}
 use Rattle.pl_event.specs.declared.envelopes.Lane.{Lane}
@@ -10,15 +10,17 @@ use Rattle.pl_event.proofs.SameLanes.{same_lane-equal, same_lane-self}
 use Rattle.pl_context.specs.Stops.{StopsView, has_stopped}
 use Rattle.pl_context.specs.OutputsViews.{OutputsView}
 use Rattle.pl_context.specs.WaitingViews.{Entry}
-use Rattle.pl_flow.specs.Flows.{point, after, on, IsGood, IsNext}
+use Rattle.pl_flow.specs.Flows.{Point, point, after, on, IsGood, IsNext}
 use Rattle.pl_flow.proofs.FlowLemmas.{on-append, on-own, on-other}
-use Rattle.pl_net.specs.NodesViews.{NodesView, written_by, SameRoutes, NodesMake}
+use Rattle.pl_flow.specs.LanesViews.{taken_with}
+use Rattle.pl_flow.specs.Makes.{Makes}
+use Rattle.pl_net.specs.NodesViews.{NodesView, written_by, NodesPut, NodesMake}
 use Rattle.pl_net.specs.Nets.{StationView, queue_at, stops_at, envelopes, LaneStands, NetRuns}
 use Rattle.pl_net.proofs.LaneSteps.{lane-puts, lane-next, lane-called}
 
--- how many of each lane were taken, once this one was
-abbrev pub taken_with : NodesView → Envelope → Lane → ℕ
-taken_with v e l = cond (same_lane l e.lane) (e.number + 1) (v.taken l)
+-- nodes whose lanes go the ways that they went, with these numbers of what was taken, and up to these points
+abbrev pub moved : NodesView → NodesView → (Lane → ℕ) → (Lane → Point) → NodesView
+moved v v' taken came = record v' { origin = v.origin; lanes = record v.lanes { taken = taken; came = came } }
 
 module _ (world : World) (v : NodesView) (x : ℕ) (executors : List StationView) (backlogs : ℕ → List (Entry (Unit {0}))) where
   -- ---- a backlog
@@ -36,32 +38,25 @@ module _ (world : World) (v : NodesView) (x : ℕ) (executors : List StationView
 
   -- ---- what nodes put on the list
 
-  -- lanes go the same ways, and this many items of each were taken
-  moved : (t : Lane → ℕ) (v' : NodesView) (work : OutputsView) → SameRoutes v v' → ((l : Lane) → v'.taken l ≡ t l)
-      → NetRuns world (record v' { target = v.target; origin = v.origin; writes = v.writes; taken = t }) x executors backlogs work → NetRuns world v' x executors backlogs work
-  moved t v' work r n runs =
-      subst (λ (u : NodesView). NetRuns world u x executors backlogs work)
-      (λ i. record v' { target = λ l. sym (r.target l) i; origin = λ l. sym (r.origin l) i; writes = λ l. sym (r.writes l) i; taken = λ l. sym (n l) i }) runs
-
-  -- Another list, which another executor may run, and other numbers of what was taken: all else is as it was.
-  pub relisted : (v' : NodesView) (t : Lane → ℕ) (y : ℕ) (before after : OutputsView) → NetRuns world v x executors backlogs before
-      → ((l : Lane) → v.writes l ≡ true → (over : Bool) × LaneStands world (point (t l) over) (on l (queue_at executors (v.target l))) (on l (envelopes (backlogs (v.origin l)))) (has_stopped (stops_at executors (v.origin l) (v.target l)) l) (has_stopped after.stopped l) (on l after.items) (v'.came l))
+  -- Another list, which another executor may run, and other numbers and points: all else is as it was.
+  pub relisted : (v' : NodesView) (taken : Lane → ℕ) (came : Lane → Point) (y : ℕ) (before after : OutputsView) → NetRuns world v x executors backlogs before
+      → ((l : Lane) → v.lanes.written l ≡ true → (over : Bool) × LaneStands world (point (taken l) over) (on l (queue_at executors (v.lanes.target l))) (on l (envelopes (backlogs (v.origin l)))) (has_stopped (stops_at executors (v.origin l) (v.lanes.target l)) l) (has_stopped after.stopped l) (on l after.items) (came l))
       → ((l : Lane) → written_by v y l ≡ false → on l after.items ≡ [])
-      → NetRuns world (record v' { target = v.target; origin = v.origin; writes = v.writes; taken = t }) y executors backlogs after
-  relisted v' t y before after runs lanes listed =
+      → NetRuns world (moved v v' taken came) y executors backlogs after
+  relisted v' taken came y before after runs lanes listed =
       record { lanes = lanes; direct = runs.direct; listed = listed; queued = runs.queued; waits = runs.waits; entries = runs.entries; holds = runs.holds; targets = runs.targets; there = runs.there; hops = runs.hops; placed = runs.placed; among = runs.among }
 
-  pub nets-put : (v' : NodesView) (before after : OutputsView) → NetRuns world v x executors backlogs before → SameRoutes v v' → ((l : Lane) → v'.taken l ≡ v.taken l) → NodesMake world v x before v' after
-      → NetRuns world v' x executors backlogs after
-  nets-put v' before after runs routes taken makes = moved v.taken v' after routes taken (relisted v' v.taken x before after runs
+  -- what they have put follows
+  pub nets-more : (v' : NodesView) (came : Lane → Point) (before after : OutputsView) → NetRuns world v x executors backlogs before → Makes world (written_by v x) v.lanes.came came before after → NetRuns world (moved v v' v.lanes.taken came) x executors backlogs after
+  nets-more v' came before after runs makes = relisted v' v.lanes.taken came x before after runs
       (λ l w.
       let s = runs.lanes l w in (
         s.0,
-        subst (λ zs. LaneStands world (point (v.taken l) s.0) (on l (queue_at executors (v.target l))) (on l (envelopes (backlogs (v.origin l)))) (has_stopped (stops_at executors (v.origin l) (v.target l)) l) (has_stopped after.stopped l) zs (v'.came l)) (sym (more l))
-            (lane-puts world (written_by v x l) (has_stopped (stops_at executors (v.origin l) (v.target l)) l) (has_stopped before.stopped l) (has_stopped after.stopped l) (point (v.taken l) s.0) (v.came l) (v'.came l)
-            (on l (queue_at executors (v.target l))) (on l (envelopes (backlogs (v.origin l)))) (on l before.items) (on l makes.added) s.1 (makes.lanes l)),
+        subst (λ zs. LaneStands world (point (v.lanes.taken l) s.0) (on l (queue_at executors (v.lanes.target l))) (on l (envelopes (backlogs (v.origin l)))) (has_stopped (stops_at executors (v.origin l) (v.lanes.target l)) l) (has_stopped after.stopped l) zs (came l)) (sym (more l))
+            (lane-puts world (written_by v x l) (has_stopped (stops_at executors (v.origin l) (v.lanes.target l)) l) (has_stopped before.stopped l) (has_stopped after.stopped l) (point (v.lanes.taken l) s.0) (v.lanes.came l) (came l)
+            (on l (queue_at executors (v.lanes.target l))) (on l (envelopes (backlogs (v.origin l)))) (on l before.items) (on l makes.added) s.1 (makes.lanes l)),
       ))
-      (λ l n. more l ∙ ap (λ zs. zs ++ on l makes.added) (runs.listed l n) ∙ (makes.lanes l).idle n))
+      (λ l n. more l ∙ ap (λ zs. zs ++ on l makes.added) (runs.listed l n) ∙ (makes.lanes l).idle n)
     where
       more : (l : Lane) → on l after.items ≡ on l before.items ++ on l makes.added
       more l = ap (λ zs. on l zs) makes.items ∙ on-append l before.items makes.added
@@ -79,13 +74,13 @@ module _ (world : World) (v : NodesView) (x : ℕ) (executors : List StationView
     pub front-here : written_by v x e.lane ≡ true
     front-here = ⊎_elim (λ t. t) (λ f. absurd (cons-none e (on e.lane mid.items) (sym (there-on e.lane (same_lane-self e.lane)) ∙ runs.listed e.lane f))) (cases_Bool (written_by v x e.lane))
 
-    pub front-written : v.writes e.lane ≡ true
-    front-written = (and_parts (v.writes e.lane) (v.origin e.lane == x) front-here).0
+    pub front-written : v.lanes.written e.lane ≡ true
+    front-written = (and_parts (v.lanes.written e.lane) (v.origin e.lane == x) front-here).0
 
     pub front-origin : v.origin e.lane ≡ x
-    front-origin = eqb-true (v.origin e.lane) x ((and_parts (v.writes e.lane) (v.origin e.lane == x) front-here).1)
+    front-origin = eqb-true (v.origin e.lane) x ((and_parts (v.lanes.written e.lane) (v.origin e.lane == x) front-here).1)
 
-    pub front-there : v.target e.lane < length executors
+    pub front-there : v.lanes.target e.lane < length executors
     front-there = (runs.there e.lane front-written).1
 
     pub listed-left : (l : Lane) → written_by v x l ≡ false → on l mid.items ≡ []
@@ -96,44 +91,52 @@ module _ (world : World) (v : NodesView) (x : ℕ) (executors : List StationView
 
     -- ---- it is for the executor that runs: a direct call
 
-    module _ (here : v.target e.lane ≡ x) where
+    module _ (here : v.lanes.target e.lane ≡ x) where
       abbrev over : Bool
       over = (runs.lanes e.lane front-written).0
 
-      alone : LaneStands world (point (v.taken e.lane) over) [] [] false (has_stopped before.stopped e.lane) (e ∷ on e.lane mid.items) (v.came e.lane)
+      alone : LaneStands world (point (v.lanes.taken e.lane) over) [] [] false (has_stopped before.stopped e.lane) (e ∷ on e.lane mid.items) (v.lanes.came e.lane)
       alone =
           let d = runs.direct e.lane front-written (front-origin ∙ sym here) in
-          subst (λ (y : List Envelope × List Envelope × Bool × List Envelope). LaneStands world (point (v.taken e.lane) over) y.0 y.1 y.2 (has_stopped before.stopped e.lane) y.3 (v.came e.lane))
+          subst (λ (y : List Envelope × List Envelope × Bool × List Envelope). LaneStands world (point (v.lanes.taken e.lane) over) y.0 y.1 y.2 (has_stopped before.stopped e.lane) y.3 (v.lanes.came e.lane))
           (λ i. (d.0 i, d.1 i, d.2 i, there-on e.lane (same_lane-self e.lane) i)) (runs.lanes e.lane front-written).1
 
-      call-next : IsNext world (point (v.taken e.lane) over) e
-      call-next = lane-next world (has_stopped before.stopped e.lane) (point (v.taken e.lane) over) (v.came e.lane) e (on e.lane mid.items) alone
+      call-next : IsNext world (point (v.lanes.taken e.lane) over) e
+      call-next = lane-next world (has_stopped before.stopped e.lane) (point (v.lanes.taken e.lane) over) (v.lanes.came e.lane) e (on e.lane mid.items) alone
 
-      pub call-number : e.number ≡ v.taken e.lane
+      pub call-number : e.number ≡ v.lanes.taken e.lane
       call-number = call-next.number
 
       pub call-good : IsGood world e
       call-good = call-next.good
 
-      called-here : LaneStands world (point (taken_with v e e.lane) (closes e.item)) (on e.lane (queue_at executors (v.target e.lane))) (on e.lane (envelopes (backlogs (v.origin e.lane))))
-          (has_stopped (stops_at executors (v.origin e.lane) (v.target e.lane)) e.lane) (has_stopped mid.stopped e.lane) (on e.lane mid.items) (v.came e.lane)
+      called-here : LaneStands world (point (taken_with v.lanes.taken e e.lane) (closes e.item)) (on e.lane (queue_at executors (v.lanes.target e.lane))) (on e.lane (envelopes (backlogs (v.origin e.lane))))
+          (has_stopped (stops_at executors (v.origin e.lane) (v.lanes.target e.lane)) e.lane) (has_stopped mid.stopped e.lane) (on e.lane mid.items) (v.lanes.came e.lane)
       called-here =
           let d = runs.direct e.lane front-written (front-origin ∙ sym here) in
-          subst (λ (y : List Envelope × List Envelope × Bool × ℕ × StopsView). LaneStands world (point y.3 (closes e.item)) y.0 y.1 y.2 (has_stopped y.4 e.lane) (on e.lane mid.items) (v.came e.lane))
-          (λ i. (sym d.0 i, sym d.1 i, sym d.2 i, sym (cond-true (same_lane e.lane e.lane) (e.number + 1) (v.taken e.lane) (same_lane-self e.lane)) i, sym stops i))
-          (lane-called world false (has_stopped before.stopped e.lane) (point (v.taken e.lane) over) (v.came e.lane) e (on e.lane mid.items) alone)
+          subst (λ (y : List Envelope × List Envelope × Bool × ℕ × StopsView). LaneStands world (point y.3 (closes e.item)) y.0 y.1 y.2 (has_stopped y.4 e.lane) (on e.lane mid.items) (v.lanes.came e.lane))
+          (λ i. (sym d.0 i, sym d.1 i, sym d.2 i, sym (cond-true (same_lane e.lane e.lane) (e.number + 1) (v.lanes.taken e.lane) (same_lane-self e.lane)) i, sym stops i))
+          (lane-called world false (has_stopped before.stopped e.lane) (point (v.lanes.taken e.lane) over) (v.lanes.came e.lane) e (on e.lane mid.items) alone)
 
-      pub called : NetRuns world (record v { taken = taken_with v e }) x executors backlogs mid
-      called = relisted v (taken_with v e) x before mid runs
+      pub called : NetRuns world (record v { lanes = record v.lanes { taken = taken_with v.lanes.taken e } }) x executors backlogs mid
+      called = relisted v (taken_with v.lanes.taken e) v.lanes.came x before mid runs
           (λ l w. ⊎_elim
           (λ (t : same_lane l e.lane ≡ true).
-          subst (λ (m : Lane). (o : Bool) × LaneStands world (point (taken_with v e m) o) (on m (queue_at executors (v.target m))) (on m (envelopes (backlogs (v.origin m)))) (has_stopped (stops_at executors (v.origin m) (v.target m)) m) (has_stopped mid.stopped m) (on m mid.items) (v.came m))
+          subst (λ (m : Lane). (o : Bool) × LaneStands world (point (taken_with v.lanes.taken e m) o) (on m (queue_at executors (v.lanes.target m))) (on m (envelopes (backlogs (v.origin m)))) (has_stopped (stops_at executors (v.origin m) (v.lanes.target m)) m) (has_stopped mid.stopped m) (on m mid.items) (v.lanes.came m))
           (sym (same_lane-equal l e.lane t)) (closes e.item, called-here))
           (λ (f : same_lane l e.lane ≡ false).
           let s = runs.lanes l w in (
             s.0,
-            subst (λ (y : ℕ × StopsView × List Envelope). LaneStands world (point y.0 s.0) (on l (queue_at executors (v.target l))) (on l (envelopes (backlogs (v.origin l)))) (has_stopped (stops_at executors (v.origin l) (v.target l)) l) (has_stopped y.1 l) y.2 (v.came l))
-                (λ i. (sym (cond-false (same_lane l e.lane) (e.number + 1) (v.taken l) f) i, sym stops i, same-on l f i)) s.1,
+            subst (λ (y : ℕ × StopsView × List Envelope). LaneStands world (point y.0 s.0) (on l (queue_at executors (v.lanes.target l))) (on l (envelopes (backlogs (v.origin l)))) (has_stopped (stops_at executors (v.origin l) (v.lanes.target l)) l) (has_stopped y.1 l) y.2 (v.lanes.came l))
+                (λ i. (sym (cond-false (same_lane l e.lane) (e.number + 1) (v.lanes.taken l) f) i, sym stops i, same-on l f i)) s.1,
           ))
           (cases_Bool (same_lane l e.lane)))
           listed-left
+
+-- What nodes have put follows. This many of each lane were taken.
+pub nets-put : {world : World} {v v' : NodesView} {x z : ℕ} {executors : List StationView} {backlogs : ℕ → List (Entry (Unit {0}))} {before after : OutputsView} {taken : Lane → ℕ}
+    → NetRuns world (record v { lanes = record v.lanes { taken = taken } }) x executors backlogs before → NodesPut v z before v' after → v'.lanes.taken ≡ taken → NodesMake world v x before v' after → NetRuns world v' x executors backlogs after
+nets-put {world} {v} {v'} {x} {z} {executors} {backlogs} {before} {after} {taken} runs puts counts makes =
+    subst (λ (u : NodesView). NetRuns world u x executors backlogs after)
+    (sym (λ i. record v' { origin = puts.origin i; lanes = (puts.routes ∙ (λ j. record v.lanes { taken = counts j; came = v'.lanes.came })) i }))
+    (nets-more world (record v { lanes = record v.lanes { taken = taken } }) x executors backlogs v' v'.lanes.came before after runs makes)

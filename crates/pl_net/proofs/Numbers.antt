@@ -16,14 +16,14 @@ past-next : (world : World) (p : Point) (xs : List Envelope) → IsFlow world p 
 past-next world p [] f = omega arith
 past-next world p (x ∷ xs) f = let n = f.0.number in let h = past-next world (after x) xs f.1 in omega (arith, n, h)
 
-module _ (world : World) (v : NodesView) (x : ℕ) (es : List StationView) (backlogs : ℕ → List (Entry (Unit {0}))) (work : OutputsView) (runs : NetRuns world v x es backlogs work) (none : work.items ≡ []) (l : Lane) (w : v.writes l ≡ true) where
+module _ (world : World) (v : NodesView) (x : ℕ) (es : List StationView) (backlogs : ℕ → List (Entry (Unit {0}))) (work : OutputsView) (runs : NetRuns world v x es backlogs work) (none : work.items ≡ []) (l : Lane) (w : v.lanes.written l ≡ true) where
   -- all that was made is there, where the lane was not cut off
-  pub made-all : has_stopped (stops_at es (v.origin l) (v.target l)) l ≡ false → has_stopped work.stopped l ≡ false → made_of v es backlogs l ≡ (v.came l).next
+  pub made-all : has_stopped (stops_at es (v.origin l) (v.lanes.target l)) l ≡ false → has_stopped work.stopped l ≡ false → made_of v es backlogs l ≡ (v.lanes.came l).next
   made-all cut stopped =
       let s = runs.lanes l w in
-      let q = on l (queue_at es (v.target l)) in
+      let q = on l (queue_at es (v.lanes.target l)) in
       let y = on l (envelopes (backlogs (v.origin l))) in
-      let n = past-next world (point (v.taken l) s.0) (q ++ y) s.1.between in
-      let up = ap (λ (zs : List Envelope). past (past (point (v.taken l) s.0) (q ++ y)) (on l zs)) none in
+      let n = past-next world (point (v.lanes.taken l) s.0) (q ++ y) s.1.between in
+      let up = ap (λ (zs : List Envelope). past (past (point (v.lanes.taken l) s.0) (q ++ y)) (on l zs)) none in
       let to = ap (λ (p : Point). p.next) (sym up ∙ s.1.runs.up_to cut stopped) in
       omega (arith, n, to, length-append q y)

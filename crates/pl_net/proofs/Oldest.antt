@@ -14,8 +14,8 @@ use Rattle.pl_context.specs.WaitingViews.{Entry, Holds, is_for, stops_for}
 use Rattle.pl_context.proofs.Firsts.{position-first, position-is, find-None-position, find-Some-position}
 use Rattle.pl_flow.specs.Flows.{point, on}
 use Rattle.pl_net.specs.NodesViews.{NodesView, written_by}
-use Rattle.pl_net.specs.Nets.{StationView, queue_at, stops_at, envelopes, LaneStands, NetRuns, CoreView, CoreStands, HandsOver, has_room}
-use Rattle.pl_net.specs.Cores.{waits_of}
+use Rattle.pl_net.specs.Nets.{StationView, queue_at, stops_at, envelopes, LaneStands, NetRuns, StationsView, StationsStand, HandsOver, has_room}
+use Rattle.pl_net.specs.Stations.{waits_of}
 use Rattle.pl_net.proofs.OneExecutor.{Replaces, on-executor}
 use Rattle.pl_net.proofs.HandSteps.{waits-own}
 
@@ -67,18 +67,18 @@ none-open opens entries e = by (find (λ (z : Entry (Unit {0})). opens z.target)
 pub entry-there : (world : World) (v : NodesView) (x : ℕ) (es : List StationView) (backlogs : ℕ → List (Entry (Unit {0}))) (work : OutputsView) → NetRuns world v x es backlogs work
     → (y t i : ℕ) (entry : Entry (Unit {0})) → position (is_for t) (backlogs y) ≡ Some i → slice_get (backlogs y) i ≡ Some entry → entry.target ≡ t → t < length es
 entry-there world v x es backlogs work runs y t i entry own at same =
-    subst (λ k. k < length es) (sym (All-at (λ (z : Entry (Unit {0})). z.target ≡ v.target z.envelope.lane) (backlogs y) i entry (runs.entries y) at) ∙ same)
+    subst (λ k. k < length es) (sym (All-at (λ (z : Entry (Unit {0})). z.target ≡ v.lanes.target z.envelope.lane) (backlogs y) i entry (runs.entries y) at) ∙ same)
     (runs.there entry.envelope.lane (⊎_elim
-    (λ (w : written_by v y entry.envelope.lane ≡ true). (and_parts (v.writes entry.envelope.lane) (v.origin entry.envelope.lane == y) w).0)
+    (λ (w : written_by v y entry.envelope.lane ≡ true). (and_parts (v.lanes.written entry.envelope.lane) (v.origin entry.envelope.lane == y) w).0)
     (λ (f : written_by v y entry.envelope.lane ≡ false).
-    absurd (cons-none entry.envelope (on entry.envelope.lane (envelopes (remove (backlogs y) i))) (sym (waits-own v.target (backlogs y) (runs.entries y) t i entry own at) ∙ runs.waits y entry.envelope.lane f)))
+    absurd (cons-none entry.envelope (on entry.envelope.lane (envelopes (remove (backlogs y) i))) (sym (waits-own v.lanes.target (backlogs y) (runs.entries y) t i entry own at) ∙ runs.waits y entry.envelope.lane f)))
     (cases_Bool (written_by v y entry.envelope.lane)))).1
 
 -- ---- a queue that gets memory
 
-module _ {N : Type 0} (view_of : N → NodesView) (stands : World → N → Type 0) (world : World) (x : ℕ) (c : CoreView N) (h : CoreStands view_of stands world x c)
+module _ {N : Type 0} (view_of : N → NodesView) (stands : World → N → Type 0) (world : World) (x : ℕ) (c : StationsView N) (h : StationsStand view_of stands world x c)
     (t : ℕ) (es' : List StationView) (b b' : StationView) (r : Replaces c.executors es' t b b') (queue : b'.queue ≡ b.queue) (waiting : b'.waiting ≡ b.waiting) where
-  abbrev pub roomy : CoreView N
+  abbrev pub roomy : StationsView N
   roomy = record { nodes = c.nodes; executors = es'; backlogs = c.backlogs; work = c.work }
 
   pub queues-same : (y : ℕ) → queue_at es' y ≡ queue_at c.executors y
@@ -95,7 +95,7 @@ module _ {N : Type 0} (view_of : N → NodesView) (stands : World → N → Type
       (λ (s : y ≡ t → ⊥). (e, sym (r.others y s) ∙ at, refl))
       (cases_eq y t)
 
-  pub room-stands : CoreStands view_of stands world x roomy
+  pub room-stands : StationsStand view_of stands world x roomy
   room-stands = record {
     hold = h.hold;
     runs =
@@ -103,19 +103,19 @@ module _ {N : Type 0} (view_of : N → NodesView) (stands : World → N → Type
           lanes = λ l w.
               let s = runs.lanes l w in (
                 s.0,
-                subst (λ (y : List Envelope × StopsView). LaneStands world (point ((view_of c.nodes).taken l) s.0) y.0 (on l (envelopes (c.backlogs ((view_of c.nodes).origin l)))) (has_stopped y.1 l) (has_stopped c.work.stopped l) (on l c.work.items) ((view_of c.nodes).came l))
-                    (λ i. (on l (sym (queues-same ((view_of c.nodes).target l)) i), sym (stops-alike ((view_of c.nodes).origin l) ((view_of c.nodes).target l)) i)) s.1,
+                subst (λ (y : List Envelope × StopsView). LaneStands world (point ((view_of c.nodes).lanes.taken l) s.0) y.0 (on l (envelopes (c.backlogs ((view_of c.nodes).origin l)))) (has_stopped y.1 l) (has_stopped c.work.stopped l) (on l c.work.items) ((view_of c.nodes).lanes.came l))
+                    (λ i. (on l (sym (queues-same ((view_of c.nodes).lanes.target l)) i), sym (stops-alike ((view_of c.nodes).origin l) ((view_of c.nodes).lanes.target l)) i)) s.1,
               );
           direct = λ l w o.
               let d = runs.direct l w o in
-              (ap (on l) (queues-same ((view_of c.nodes).target l)) ∙ d.0, d.1, ap (λ s. has_stopped s l) (stops-alike ((view_of c.nodes).origin l) ((view_of c.nodes).target l)) ∙ d.2);
+              (ap (on l) (queues-same ((view_of c.nodes).lanes.target l)) ∙ d.0, d.1, ap (λ s. has_stopped s l) (stops-alike ((view_of c.nodes).origin l) ((view_of c.nodes).lanes.target l)) ∙ d.2);
           listed = runs.listed;
           queued = λ y l n. ap (on l) (queues-same y) ∙ runs.queued y l n;
           waits = runs.waits;
           entries = runs.entries;
           holds = λ y e at. let e' = held y e at in subst (λ w. Holds w (c.backlogs y)) (sym e'.2) (runs.holds y e'.0 e'.1);
           targets = λ y e at. let e' = held y e at in ap (λ w. length w.targets) e'.2 ∙ runs.targets y e'.0 e'.1 ∙ sym r.count;
-          there = λ l w. subst (λ n. ((view_of c.nodes).origin l < n) × ((view_of c.nodes).target l < n)) (sym r.count) (runs.there l w);
+          there = λ l w. subst (λ n. ((view_of c.nodes).origin l < n) × ((view_of c.nodes).lanes.target l < n)) (sym r.count) (runs.there l w);
           hops = runs.hops;
           placed = λ y z p q. subst (λ s. HasPlaces s (runs.hops y z)) (sym (stops-alike y z)) (runs.placed y z (subst (λ n. y < n) r.count p) (subst (λ n. z < n) r.count q));
           among = runs.among;
@@ -128,7 +128,7 @@ module _ {N : Type 0} (view_of : N → NodesView) (stands : World → N → Type
   }
 
   -- what is handed over then is handed over
-  pub room-hands : (o i : ℕ) (c' : CoreView N) → HandsOver o i roomy c' → HandsOver o i c c'
+  pub room-hands : (o i : ℕ) (c' : StationsView N) → HandsOver o i roomy c' → HandsOver o i c c'
   room-hands o i c' m = record {
     entry = m.entry;
     is = m.is;
@@ -151,7 +151,7 @@ abbrev Says : List StationView → ℕ → ℕ → Option ℕ → Type 0
 Says es capacity o answer = (e : StationView) (entries : List (Entry (Unit {0}))) → slice_get es o ≡ Some e → Holds e.waiting entries
     → answer ≡ option_map (λ (z : Entry (Unit {0})). z.target) (find (λ z. has_room es capacity z.target) entries)
 
-module _ {N : Type 0} (view_of : N → NodesView) (stands : World → N → Type 0) (world : World) (x : ℕ) (c : CoreView N) (h : CoreStands view_of stands world x c)
+module _ {N : Type 0} (view_of : N → NodesView) (stands : World → N → Type 0) (world : World) (x : ℕ) (c : StationsView N) (h : StationsStand view_of stands world x c)
     (o capacity : ℕ) (within : o < length c.executors) (es : List StationView) (same : es ≡ c.executors) (answer : Option ℕ) (says : Says es capacity o answer) where
   found : answer ≡ option_map (λ (z : Entry (Unit {0})). z.target) (find (λ z. has_room c.executors capacity z.target) (c.backlogs o))
   found =

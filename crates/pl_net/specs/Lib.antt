@@ -1,4 +1,4 @@
 pub mod NodesViews
 pub mod Nets
-pub mod Cores
+pub mod Stations
 pub mod Numbers

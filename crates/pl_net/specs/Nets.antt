@@ -43,24 +43,24 @@ module _ (world : World) (v : NodesView) where
   -- The lane account (EventLoop, account_law): of each lane, what is queued, waits and is listed follow what was
   -- taken. Executor x runs, and has this on its work list. The backlogs are those of the executors, by number.
   pub record NetRuns (x : ℕ) (executors : List StationView) (backlogs : ℕ → List (Entry Unit)) (work : OutputsView) : Type 0 where
-    pub lanes : (l : Lane) → v.writes l ≡ true
-        → (over : Bool) × LaneStands world (point (v.taken l) over) (on l (queue_at executors (v.target l))) (on l (envelopes (backlogs (v.origin l))))
-        (has_stopped (stops_at executors (v.origin l) (v.target l)) l) (has_stopped work.stopped l) (on l work.items) (v.came l)
+    pub lanes : (l : Lane) → v.lanes.written l ≡ true
+        → (over : Bool) × LaneStands world (point (v.lanes.taken l) over) (on l (queue_at executors (v.lanes.target l))) (on l (envelopes (backlogs (v.origin l))))
+        (has_stopped (stops_at executors (v.origin l) (v.lanes.target l)) l) (has_stopped work.stopped l) (on l work.items) (v.lanes.came l)
     -- an item for the executor on which it was made is never queued, nor does it wait
-    pub direct : (l : Lane) → v.writes l ≡ true → v.origin l ≡ v.target l
-        → (on l (queue_at executors (v.target l)) ≡ []) × (on l (envelopes (backlogs (v.origin l))) ≡ []) × (has_stopped (stops_at executors (v.origin l) (v.target l)) l ≡ false)
+    pub direct : (l : Lane) → v.lanes.written l ≡ true → v.origin l ≡ v.lanes.target l
+        → (on l (queue_at executors (v.lanes.target l)) ≡ []) × (on l (envelopes (backlogs (v.origin l))) ≡ []) × (has_stopped (stops_at executors (v.origin l) (v.lanes.target l)) l ≡ false)
     -- nothing else is anywhere
     pub listed : (l : Lane) → written_by v x l ≡ false → on l work.items ≡ []
-    pub queued : (y : ℕ) (l : Lane) → (v.writes l && (v.target l == y)) ≡ false → on l (queue_at executors y) ≡ []
+    pub queued : (y : ℕ) (l : Lane) → (v.lanes.written l && (v.lanes.target l == y)) ≡ false → on l (queue_at executors y) ≡ []
     pub waits : (y : ℕ) (l : Lane) → written_by v y l ≡ false → on l (envelopes (backlogs y)) ≡ []
-    pub entries : (y : ℕ) → All (λ e. e.target ≡ v.target e.envelope.lane) (backlogs y)
+    pub entries : (y : ℕ) → All (λ e. e.target ≡ v.lanes.target e.envelope.lane) (backlogs y)
     pub holds : (y : ℕ) (e : StationView) → slice_get executors y ≡ Some e → Holds e.waiting (backlogs y)
     pub targets : (y : ℕ) (e : StationView) → slice_get executors y ≡ Some e → length e.waiting.targets ≡ length executors
-    pub there : (l : Lane) → v.writes l ≡ true → (v.origin l < length executors) × (v.target l < length executors)
+    pub there : (l : Lane) → v.lanes.written l ≡ true → (v.origin l < length executors) × (v.lanes.target l < length executors)
     -- each lane has its place on the way to its executor
     pub hops : ℕ → ℕ → List Lane
     pub placed : (y z : ℕ) → y < length executors → z < length executors → HasPlaces (stops_at executors y z) (hops y z)
-    pub among : (l : Lane) → v.writes l ≡ true → AreAmong (l ∷ []) (hops (v.origin l) (v.target l))
+    pub among : (l : Lane) → v.lanes.written l ≡ true → AreAmong (l ∷ []) (hops (v.origin l) (v.lanes.target l))
 
 -- At most one addition to a backlog for each item that was made, but for those on the list.
 pub record AreFew (v : NodesView) (executors : List StationView) (work : OutputsView) : Type 0 where
@@ -84,46 +84,46 @@ pub record IsTakenOut (e : StationView) (target : ℕ) (result : Option Envelope
 abbrev pub done_by : NodesView → ℕ → List StationView → ℕ
 done_by v x executors = v.work_done + option_map_or (λ e. e.waiting.added) (slice_get executors x) 0
 
--- ---- a core
+-- ---- stations
 
 -- The nodes, what waits at each executor, the backlogs that are kept there, and the work list of the one that runs.
-pub record CoreView (N : Type 0) : Type 0 where
+pub record StationsView (N : Type 0) : Type 0 where
   pub nodes : N
   pub executors : List StationView
   pub backlogs : ℕ → List (Entry Unit)
   pub work : OutputsView
 
 module _ {N : Type 0} (view_of : N → NodesView) where
-  -- A core stands in a world while executor x runs. Its nodes hold, and its work list has places for all lanes.
-  pub record CoreStands (stands : World → N → Type 0) (world : World) (x : ℕ) (c : CoreView N) : Type 0 where
+  -- Stations stand in a world while executor x runs. Their nodes hold, and their work list has places for all lanes.
+  pub record StationsStand (stands : World → N → Type 0) (world : World) (x : ℕ) (c : StationsView N) : Type 0 where
     pub hold : stands world c.nodes
     pub runs : NetRuns world (view_of c.nodes) x c.executors c.backlogs c.work
     pub counts : AreFew (view_of c.nodes) c.executors c.work
-    pub places : HasPlaces c.work.stopped (view_of c.nodes).lanes
+    pub places : HasPlaces c.work.stopped (view_of c.nodes).lanes.places
 
   module _ (takes : N → Envelope → OutputsView → N → OutputsView → Type 0) (x : ℕ) where
     -- The node that the front of the list is for takes it: a direct call.
-    pub record IsCall (c : CoreView N) (e : Envelope) (mid : OutputsView) (c' : CoreView N) : Type 0 where
-      pub here : (view_of c.nodes).target e.lane ≡ x
+    pub record IsCall (c : StationsView N) (e : Envelope) (mid : OutputsView) (c' : StationsView N) : Type 0 where
+      pub here : (view_of c.nodes).lanes.target e.lane ≡ x
       pub taken : takes c.nodes e mid c'.nodes c'.work
       pub executors : c'.executors ≡ c.executors
       pub backlogs : c'.backlogs ≡ c.backlogs
 
     -- It is for another executor, and is kept for that, or what stands in for it.
-    pub record IsKeep (c : CoreView N) (e : Envelope) (mid : OutputsView) (c' : CoreView N) : Type 0 where
-      pub away : (view_of c.nodes).target e.lane ≢ x
+    pub record IsKeep (c : StationsView N) (e : Envelope) (mid : OutputsView) (c' : StationsView N) : Type 0 where
+      pub away : (view_of c.nodes).lanes.target e.lane ≢ x
       pub nodes : c'.nodes ≡ c.nodes
       pub work : c'.work ≡ mid
       pub before : StationView
       pub after : StationView
-      pub added : IsAdded before ((view_of c.nodes).target e.lane) e after
+      pub added : IsAdded before ((view_of c.nodes).lanes.target e.lane) e after
       pub was : slice_get c.executors x ≡ Some before
       pub is : slice_get c'.executors x ≡ Some after
       pub others : (y : ℕ) → y ≢ x → (slice_get c'.executors y ≡ slice_get c.executors y) × (c'.backlogs y ≡ c.backlogs y)
-      pub backlog : c'.backlogs x ≡ c.backlogs x ++ map (λ z. record { target = (view_of c.nodes).target e.lane; envelope = z; token = tt }) (added_items added.adds.answer e)
+      pub backlog : c'.backlogs x ≡ c.backlogs x ++ map (λ z. record { target = (view_of c.nodes).lanes.target e.lane; envelope = z; token = tt }) (added_items added.adds.answer e)
 
     -- Executor x takes the front of its list.
-    pub record IsStep (c c' : CoreView N) : Type 0 where
+    pub record IsStep (c c' : StationsView N) : Type 0 where
       pub envelope : Envelope
       pub mid : OutputsView
       pub front : c.work.items ≡ envelope ∷ mid.items
@@ -133,25 +133,25 @@ module _ {N : Type 0} (view_of : N → NodesView) where
       pub becomes : IsCall c envelope mid c' ⊎ IsKeep c envelope mid c'
 
     -- So many steps lead from one to the other.
-    abbrev pub Steps : ℕ → CoreView N → CoreView N → Type 0
+    abbrev pub Steps : ℕ → StationsView N → StationsView N → Type 0
     Steps zero c c' = c' ≡ c
-    Steps (suc n) c c' = (m : CoreView N) × Steps n c m × IsStep m c'
+    Steps (suc n) c c' = (m : StationsView N) × Steps n c m × IsStep m c'
 
     -- It works its list off.
-    pub record WorksListOff (c c' : CoreView N) : Type 0 where
+    pub record WorksListOff (c c' : StationsView N) : Type 0 where
       pub count : ℕ
       pub steps : Steps count c c'
       pub empty : c'.work.items ≡ []
 
     -- Executor x runs a task (EventLoop). It takes the front of its queue, and works off what comes of that.
-    pub record RunsTask (c c' : CoreView N) : Type 0 where
+    pub record RunsTask (c c' : StationsView N) : Type 0 where
       pub envelope : Envelope
       pub before : StationView
       pub after : StationView
       pub was : slice_get c.executors x ≡ Some before
       pub front : before.queue ≡ envelope ∷ after.queue
       pub waiting : after.waiting ≡ before.waiting
-      pub mid : CoreView N
+      pub mid : StationsView N
       pub is : slice_get mid.executors x ≡ Some after
       pub others : (y : ℕ) → y ≢ x → slice_get mid.executors y ≡ slice_get c.executors y
       pub backlogs : mid.backlogs ≡ c.backlogs
@@ -159,7 +159,7 @@ module _ {N : Type 0} (view_of : N → NodesView) where
       pub settles : WorksListOff mid c'
 
 -- The head of a channel has made a move. Executor x works off what comes of that.
-pub record Gives {N : Type 0} (view_of : N → NodesView) (takes : N → Envelope → OutputsView → N → OutputsView → Type 0) (moves : N → HeadMove → ℕ → OutputsView → N → OutputsView → Type 0) (x : ℕ) (by : HeadMove) (channel : ℕ) (c c' : CoreView N) : Type 0 where
+pub record Gives {N : Type 0} (view_of : N → NodesView) (takes : N → Envelope → OutputsView → N → OutputsView → Type 0) (moves : N → HeadMove → ℕ → OutputsView → N → OutputsView → Type 0) (x : ℕ) (by : HeadMove) (channel : ℕ) (c c' : StationsView N) : Type 0 where
   pub nodes : N
   pub work : OutputsView
   pub moved : moves c.nodes by channel c.work nodes work
@@ -172,12 +172,12 @@ pub record Gives {N : Type 0} (view_of : N → NodesView) (takes : N → Envelop
 pub record IsStart (v : NodesView) (executors : List StationView) : Type 0 where
   pub queues : (y : ℕ) (e : StationView) → slice_get executors y ≡ Some e → (e.queue ≡ []) × Holds e.waiting [] × (e.waiting.added ≡ 0) × (length e.waiting.targets ≡ length executors)
   pub unstopped : (y z : ℕ) (l : Lane) → has_stopped (stops_at executors y z) l ≡ false
-  pub taken : (l : Lane) → v.writes l ≡ true → v.taken l ≡ 0
-  pub came : (l : Lane) → v.writes l ≡ true → v.came l ≡ point 0 false
-  pub there : (l : Lane) → v.writes l ≡ true → (v.origin l < length executors) × (v.target l < length executors)
+  pub taken : (l : Lane) → v.lanes.written l ≡ true → v.lanes.taken l ≡ 0
+  pub came : (l : Lane) → v.lanes.written l ≡ true → v.lanes.came l ≡ point 0 false
+  pub there : (l : Lane) → v.lanes.written l ≡ true → (v.origin l < length executors) × (v.lanes.target l < length executors)
   pub hops : ℕ → ℕ → List Lane
   pub placed : (y z : ℕ) → y < length executors → z < length executors → HasPlaces (stops_at executors y z) (hops y z)
-  pub among : (l : Lane) → v.writes l ≡ true → AreAmong (l ∷ []) (hops (v.origin l) (v.target l))
+  pub among : (l : Lane) → v.lanes.written l ≡ true → AreAmong (l ∷ []) (hops (v.origin l) (v.lanes.target l))
   pub few : v.work_done < 2 ^ 62
 
 -- backlogs in which nothing waits
@@ -196,7 +196,7 @@ memory_at executors y = option_map_or (λ e. e.room) (slice_get executors y) 0
 
 -- A hand-over finds no memory. It is that of the oldest entry of the backlog of executor x whose target has room,
 -- where a queue holds so many items: the queue of that target has no memory for it.
-pub record LacksMemory {N : Type 0} (capacity x : ℕ) (c : CoreView N) : Type 0 where
+pub record LacksMemory {N : Type 0} (capacity x : ℕ) (c : StationsView N) : Type 0 where
   pub i : ℕ
   pub entry : Entry Unit
   pub oldest : position (λ e. has_room c.executors capacity e.target) (c.backlogs x) ≡ Some i
@@ -205,7 +205,7 @@ pub record LacksMemory {N : Type 0} (capacity x : ℕ) (c : CoreView N) : Type 0
 
 -- One item was handed over (EventLoop). The entry at i of the backlog of executor x has gone to the end of its
 -- target's queue. Nothing else has moved.
-pub record HandsOver {N : Type 0} (x i : ℕ) (c c' : CoreView N) : Type 0 where
+pub record HandsOver {N : Type 0} (x i : ℕ) (c c' : StationsView N) : Type 0 where
   pub entry : Entry Unit
   pub is : slice_get (c.backlogs x) i ≡ Some entry
   pub nodes : c'.nodes ≡ c.nodes

@@ -2,11 +2,11 @@
 #![tactic(auto)]
 
 mod account_laws;
-mod cores;
 mod nodes;
+mod station;
 mod stations;
 
 pub use account_laws::account_law;
-pub use cores::Core;
 pub use nodes::Nodes;
-pub use stations::Station;
+pub use station::Station;
+pub use stations::Stations;

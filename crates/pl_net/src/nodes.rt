@@ -41,27 +41,27 @@ pub trait Nodes: Sized {
 
     /// The executor that a lane enters.
     fn target(&self, lane: Lane) -> usize
-        requires { (view_of self.now).writes lane ≡ true }
-        ensures { result ≡ (view_of self.now).target lane };
+        requires { (view_of self.now).lanes.written lane ≡ true }
+        ensures { result ≡ (view_of self.now).lanes.target lane };
 
     /// The node that the envelope's lane enters takes it.
     fn take(&mut self, envelope: Envelope, work: &mut Outputs)
         requires next { (world : World) × stands world self.old × IsGood world envelope }
-        requires written { (view_of self.old).writes envelope.lane ≡ true }
-        requires number { envelope.number ≡ (view_of self.old).taken envelope.lane }
-        requires places { HasPlaces work.old.stopped (view_of self.old).lanes }
+        requires written { (view_of self.old).lanes.written envelope.lane ≡ true }
+        requires number { envelope.number ≡ (view_of self.old).lanes.taken envelope.lane }
+        requires places { HasPlaces work.old.stopped (view_of self.old).lanes.places }
         ensures takes { takes self.old envelope work.old self.new work.new }
         ensures view { NodesTake (view_of self.old) envelope work.old (view_of self.new) work.new }
         ensures stands { (world : World) → stands world self.old → IsGood world envelope → stands world self.new }
         ensures makes { (world : World) → stands world self.old → IsGood world envelope
-            → NodesMake world (view_of self.old) ((view_of self.old).target envelope.lane) work.old (view_of self.new) work.new };
+            → NodesMake world (view_of self.old) ((view_of self.old).lanes.target envelope.lane) work.old (view_of self.new) work.new };
 
     /// The head of a channel makes a move: its next read step, where one is left and not held, or a write to its transport,
     /// where a flushed byte waits and it has not failed. False where it made none.
     fn move_head(&mut self, by: HeadMove, channel: usize, work: &mut Outputs) -> bool
         requires there { channel < count self.old }
         requires stands { (world : World) × stands world self.old }
-        requires places { HasPlaces work.old.stopped (view_of self.old).lanes }
+        requires places { HasPlaces work.old.stopped (view_of self.old).lanes.places }
         ensures enabled { may_move self.old by channel result }
         ensures idle { result ≡ false → (self.new ≡ self.old) × (work.new ≡ work.old) }
         ensures moves { result ≡ true → moves self.old by channel work.old self.new work.new }

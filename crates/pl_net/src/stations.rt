@@ -1,117 +1,220 @@
-//! An executor's queue, and its backlog of what was made there for others (Netty's `SingleThreadEventExecutor`).
+//! Executors of which one runs at a time.
 
-ghost use Rattle.std.specs.Prelude.{◌≡◌, ◌+◌, ◌<◌, ◌^◌, ◌∷◌, ◌++◌, [], List, IfOk, OnOk, OnErr, IfNone, Some, map, find, length, slice_get, nat_lt};
-ghost use Rattle.std.specs.Option.{option_to_list, option_map};
+ghost use Rattle.std.specs.Prelude.{◌≡◌, ◌<◌, ◌≤◌, ◌+◌, [], ℕ, List, Some, None, Ok, OnErr, position, IfOk, vec_len, false, true};
+ghost use Rattle.pl_event.specs.Worlds.{World};
 ghost use Rattle.pl_context.specs.Stops.{HasPlaces, no_stops};
-ghost use Rattle.pl_context.specs.WaitingViews.{Entry, Holds, stops_for};
-ghost use Rattle.pl_net.specs.Nets.{StationView, IsAdded, IsTakenOut, has_room};
+ghost use Rattle.pl_context.specs.WaitingViews.{Entry, is_for};
+ghost use Rattle.pl_net.specs.Nets.{StationsStand, IsStart, no_backlogs, IsStep, WorksListOff, RunsTask, Gives, HandsOver, LacksMemory, has_room, memory_at, queue_at, done_by};
 
-use pl_context::Waiting;
-use pl_event::Envelope;
+use crate::nodes::Nodes;
+use crate::station::{Station, oldest_target};
+use pl_context::Outputs;
+use pl_flow::HeadMove;
 use std::alloc::{AllocError, Global};
-use std::collections::VecDeque;
-use std::marker::Model;
 
-/// What waits at an executor.
-#[derive(Debug, Drop)]
-pub struct Station {
-    /// Handed over to it, and not taken.
-    queue: VecDeque<Envelope>,
-    /// What was made there and not handed over, by the executor that it is for.
-    waiting: Waiting<()>,
+/// The nodes of all channels, and what is on its way between their executors.
+#[derive(Drop)]
+pub struct Stations<N: Nodes + Drop> {
+    /// How many items a queue holds at most.
+    pub(crate) capacity: usize,
+    pub(crate) nodes: N,
+    pub(crate) executors: Vec<Station>,
+    /// What the running executor has still to take or to add to its backlog. Empty between two moves.
+    pub(crate) work: Outputs,
 }
 
-impl Model for Station {
-    ghost use Rattle.std.specs.Prelude.{◌-◌};
-    ghost use Rattle.std.specs.VecDeque.{deque_len, deque_capacity};
-    ghost use Rattle.pl_net.specs.Nets.{StationView};
+impl<N: Nodes + Drop> Stations<N> {
+    ghost use Rattle.pl_net.specs.Stations.{stations_view, IsUnmoved, IsUnmovedButRoom};
 
-    ghost Value = { StationView };
-
-    ghost view = { λ e. record { queue = e.queue.items; waiting = e.waiting; room = deque_capacity e.queue - deque_len e.queue } };
-}
-
-impl Station {
-    /// One at which nothing waits. For each executor it has places for that number of lanes.
-    pub fn new(alloc: Global, places: &[u16]) -> Result<Self, AllocError>
-        ensures queue { IfOk result (λ e. e.queue ≡ []) }
-        ensures waiting { IfOk result (λ e. Holds e.waiting []) }
-        ensures places { IfOk result (λ e. map (λ b. b.stopped) e.waiting.targets ≡ map no_stops places.now) }
-        ensures added { IfOk result (λ e. e.waiting.added ≡ 0) }
+    /// Nodes that have taken nothing, and executors at which nothing waits, whose queues hold at most `capacity` items
+    /// each. There are so many places on the work list, and nothing has stopped there.
+    pub fn new(
+        alloc: Global,
+        capacity: usize,
+        nodes: N,
+        executors: Vec<Station>,
+        places: u16,
+    ) -> Result<Self, AllocError>
+        requires start { IsStart (N.view_of nodes) executors.items }
+        requires places { HasPlaces (no_stops places) (N.view_of nodes).lanes.places }
+        ensures nodes { IfOk result (λ stations. stations.nodes ≡ nodes) }
+        ensures executors { IfOk result (λ stations. stations.executors.items ≡ executors.items) }
+        ensures capacity { IfOk result (λ stations. stations.capacity ≡ capacity) }
+        ensures rests { IfOk result (λ stations. stations.work.items ≡ []) }
+        ensures unstopped { IfOk result (λ stations. stations.work.stopped ≡ no_stops places) }
+        ensures stands { IfOk result (λ stations. (world : World) (x : ℕ) → N.stands world nodes → StationsStand N.view_of N.stands world x (stations_view stations no_backlogs)) }
     {
-        Ok(Station {
-            queue: VecDeque::new(alloc),
-            waiting: Waiting::new(alloc, places)?,
+        Ok(Stations {
+            capacity,
+            nodes,
+            executors,
+            work: Outputs::new(alloc, places)?,
         })
     }
 
-    /// Takes the front of the queue.
-    pub(crate) fn next_task(&mut self) -> Option<Envelope>
-        ensures front { self.old.queue ≡ option_to_list result ++ self.new.queue }
-        ensures waiting { self.new.waiting ≡ self.old.waiting }
-        ensures none { IfNone result ((self.old.queue ≡ []) × (self.new ≡ self.old)) }
+    /// The nodes.
+    pub fn nodes(&self) -> &N
+        ensures { result.now ≡ self.now.nodes }
     {
-        self.queue.pop_front()
+        &self.nodes
     }
 
-    /// Whether its queue has room, where one holds `capacity` items.
-    pub(crate) fn has_room(&self, capacity: usize) -> bool
-        ensures { result ≡ nat_lt (length self.now.queue) capacity }
+    /// How many executors there are.
+    pub fn executors(&self) -> usize
+        ensures { result ≡ vec_len self.now.executors }
     {
-        self.queue.len() < capacity
+        self.executors.len()
     }
 
-    /// Makes room for one item in the queue. It is refused only where there was none.
-    pub(crate) fn reserve(&mut self) -> Result<(), AllocError>
-        ensures same { self.new ≡ record self.old { room = self.new.room } }
-        ensures room { OnOk result (0 < self.new.room) }
-        ensures refused { OnErr result (self.old.room ≡ 0) }
+    /// The nodes, and the rest is given up.
+    pub fn into_nodes(self) -> N
+        ensures { result ≡ self.nodes }
     {
-        self.queue.reserve(1)
+        let Stations { nodes, .. } = self;
+        nodes
     }
 
-    /// Puts an item at the end of the queue, for which there is memory.
-    pub(crate) fn hand_over(&mut self, envelope: Envelope)
-        requires room { 0 < self.old.room }
-        ensures queue { self.new.queue ≡ self.old.queue ++ envelope ∷ [] }
-        ensures waiting { self.new.waiting ≡ self.old.waiting }
+    /// The executor that runs takes the front of its list: a direct call, or an item for another executor, which its
+    /// backlog keeps. False where the list is empty.
+    fn step(&mut self, me: usize) -> bool
+        requires there { me < vec_len self.old.executors }
+        requires stands { (world : World) × (backlogs : ℕ → List (Entry Unit)) × StationsStand N.view_of N.stands world me (stations_view self.old backlogs) }
+        ensures steps { result ≡ true → (world : World) (backlogs : ℕ → List (Entry Unit)) → StationsStand N.view_of N.stands world me (stations_view self.old backlogs)
+            → (after : ℕ → List (Entry Unit)) × StationsStand N.view_of N.stands world me (stations_view self.new after) × IsStep N.view_of N.takes me (stations_view self.old backlogs) (stations_view self.new after) }
+        ensures more { result ≡ true → done_by (N.view_of self.old.nodes) me self.old.executors.items + 1 ≤ done_by (N.view_of self.new.nodes) me self.new.executors.items }
+        ensures empty { result ≡ false → (self.old.work.items ≡ []) × (self.new ≡ self.old) }
+        ensures capacity { self.new.capacity ≡ self.old.capacity }
+        ensures count { vec_len self.new.executors ≡ vec_len self.old.executors }
     {
-        self.queue.push_back_reserved(envelope);
-    }
-
-    /// Puts an item for another executor at the end of the backlog, or what stands in for it where memory is refused.
-    pub(crate) fn add(&mut self, target: usize, envelope: Envelope)
-        requires there { target < length self.old.waiting.targets }
-        requires place { HasPlaces (stops_for self.old.waiting target) (envelope.lane ∷ []) }
-        requires few { self.old.waiting.added + 1 < 2 ^ 64 }
-        ensures { IsAdded self.old target envelope self.new }
-    {
-        self.waiting.add(target, envelope, ());
-    }
-
-    /// Takes the oldest item for an executor out of the backlog.
-    pub(crate) fn take_for(&mut self, target: usize) -> Option<Envelope>
-        ensures { IsTakenOut self.old target result self.new }
-    {
-        match self.waiting.take(target) {
-            Some((envelope, ())) => Some(envelope),
-            None => None,
+        if self.work.is_empty() {
+            return false;
+        }
+        match self.work.next() {
+            Some(envelope) => {
+                let target = self.nodes.target(envelope.lane);
+                if target == me {
+                    self.nodes.take(envelope, &mut self.work);
+                } else {
+                    self.executors[me].add(target, envelope);
+                }
+                true
+            }
+            None => unreachable!(),
         }
     }
-}
 
-/// The target of the oldest item of an executor's backlog whose queue has room, where a queue holds `capacity` items.
-pub(crate) fn oldest_target(executors: &[Station], origin: usize, capacity: usize) -> Option<usize>
-    requires there { origin < length executors.now }
-    requires targets { (e : StationView) → slice_get executors.now origin ≡ Some e → length e.waiting.targets ≡ length executors.now }
-    ensures { (e : StationView) (entries : List (Entry Unit)) → slice_get executors.now origin ≡ Some e → Holds e.waiting entries
-        → result ≡ option_map (λ entry. entry.target) (find (λ entry. has_room executors.now capacity entry.target) entries) }
-{
-    let executor = &executors[origin];
-    executor.waiting.oldest(
-        |target|
-            requires { target < length executors.now }
-            ensures { result ≡ has_room executors.entry.now capacity target }
-        { executors[target].has_room(capacity) },
-    )
+    /// The executor that runs works its list off.
+    fn work_off(&mut self, me: usize)
+        requires there { me < vec_len self.old.executors }
+        requires stands { (world : World) × (backlogs : ℕ → List (Entry Unit)) × StationsStand N.view_of N.stands world me (stations_view self.old backlogs) }
+        ensures settles { (world : World) (backlogs : ℕ → List (Entry Unit)) → StationsStand N.view_of N.stands world me (stations_view self.old backlogs)
+            → (after : ℕ → List (Entry Unit)) × StationsStand N.view_of N.stands world me (stations_view self.new after) × WorksListOff N.view_of N.takes me (stations_view self.old backlogs) (stations_view self.new after) }
+        ensures capacity { self.new.capacity ≡ self.old.capacity }
+        ensures empty { self.new.work.items ≡ [] }
+        ensures count { vec_len self.new.executors ≡ vec_len self.old.executors }
+    {
+        // Each step takes an item, and there are fewer items than this.
+        for _ in 0..u64::MAX {
+            if !self.step(me) {
+                return;
+            }
+        }
+        unreachable!()
+    }
+
+    /// The front of an executor's queue is taken, with its direct calls. False where the queue is empty.
+    pub fn run_task(&mut self, me: usize) -> bool
+        requires there { me < vec_len self.old.executors }
+        requires rests { self.old.work.items ≡ [] }
+        requires stands { (world : World) × (backlogs : ℕ → List (Entry Unit)) × StationsStand N.view_of N.stands world me (stations_view self.old backlogs) }
+        ensures runs { result ≡ true → (world : World) (backlogs : ℕ → List (Entry Unit)) → StationsStand N.view_of N.stands world me (stations_view self.old backlogs)
+            → (after : ℕ → List (Entry Unit)) × StationsStand N.view_of N.stands world me (stations_view self.new after)
+            × RunsTask N.view_of N.takes me (stations_view self.old backlogs) (stations_view self.new after) }
+        ensures rests { self.new.work.items ≡ [] }
+        ensures idle { result ≡ false → (queue_at self.old.executors.items me ≡ []) × IsUnmoved self.old self.new }
+        ensures capacity { self.new.capacity ≡ self.old.capacity }
+        ensures count { vec_len self.new.executors ≡ vec_len self.old.executors }
+    {
+        match self.executors[me].next_task() {
+            None => false,
+            Some(envelope) => {
+                self.nodes.take(envelope, &mut self.work);
+                self.work_off(me);
+                true
+            }
+        }
+    }
+
+    /// A move of a channel's head, with its direct calls: its next read step, or a write to its transport. False where none is
+    /// left or it is held, and where no flushed byte waits or the head has failed.
+    pub fn move_head(&mut self, by: HeadMove, channel: usize) -> bool
+        requires there { channel < N.count self.old.nodes }
+        requires home { (N.view_of self.old.nodes).home channel < vec_len self.old.executors }
+        requires rests { self.old.work.items ≡ [] }
+        requires stands { (world : World) × (x : ℕ) × (backlogs : ℕ → List (Entry Unit)) × StationsStand N.view_of N.stands world x (stations_view self.old backlogs) }
+        ensures enabled { N.may_move self.old.nodes by channel result }
+        ensures runs { result ≡ true → (world : World) (x : ℕ) (backlogs : ℕ → List (Entry Unit)) → StationsStand N.view_of N.stands world x (stations_view self.old backlogs)
+            → (after : ℕ → List (Entry Unit)) × StationsStand N.view_of N.stands world ((N.view_of self.old.nodes).home channel) (stations_view self.new after)
+            × Gives N.view_of N.takes N.moves ((N.view_of self.old.nodes).home channel) by channel (stations_view self.old backlogs) (stations_view self.new after) }
+        ensures rests { self.new.work.items ≡ [] }
+        ensures idle { result ≡ false → self.new ≡ self.old }
+        ensures capacity { self.new.capacity ≡ self.old.capacity }
+        ensures count { vec_len self.new.executors ≡ vec_len self.old.executors }
+    {
+        let home = self.nodes.home(channel);
+        if !self.nodes.move_head(by, channel, &mut self.work) {
+            return false;
+        }
+        self.work_off(home);
+        true
+    }
+
+    /// The oldest item of an executor's backlog whose target has room goes into its queue. False where there is none.
+    ///
+    /// Error: the queue of that item, which has room, could not grow. Nothing was handed over.
+    pub fn hand(&mut self, me: usize) -> Result<bool, AllocError>
+        requires there { me < vec_len self.old.executors }
+        requires stands { (world : World) × (x : ℕ) × (backlogs : ℕ → List (Entry Unit)) × StationsStand N.view_of N.stands world x (stations_view self.old backlogs) }
+        ensures hands { result ≡ Ok true → (world : World) (x : ℕ) (backlogs : ℕ → List (Entry Unit)) → StationsStand N.view_of N.stands world x (stations_view self.old backlogs)
+            → (after : ℕ → List (Entry Unit)) × StationsStand N.view_of N.stands world x (stations_view self.new after)
+            × ((i : ℕ) × (position (λ entry. has_room self.old.executors.items self.old.capacity entry.target) (backlogs me) ≡ Some i) × HandsOver me i (stations_view self.old backlogs) (stations_view self.new after)) }
+        ensures none { result ≡ Ok false → (world : World) (x : ℕ) (backlogs : ℕ → List (Entry Unit)) → StationsStand N.view_of N.stands world x (stations_view self.old backlogs)
+            → position (λ entry. has_room self.old.executors.items self.old.capacity entry.target) (backlogs me) ≡ None }
+        ensures idle { result ≡ Ok false → self.new ≡ self.old }
+        ensures err { OnErr result (IsUnmovedButRoom self.old self.new) }
+        ensures stays { OnErr result ((world : World) (x : ℕ) (backlogs : ℕ → List (Entry Unit)) → StationsStand N.view_of N.stands world x (stations_view self.old backlogs) → StationsStand N.view_of N.stands world x (stations_view self.new backlogs)) }
+        // A queue is to grow only for an item that has room there, and where it has no memory for one more.
+        ensures wanted { OnErr result ((world : World) (x : ℕ) (backlogs : ℕ → List (Entry Unit)) → StationsStand N.view_of N.stands world x (stations_view self.old backlogs)
+            → (i : ℕ) × (position (λ entry. has_room self.old.executors.items self.old.capacity entry.target) (backlogs me) ≡ Some i)) }
+        ensures refused { OnErr result ((world : World) (x : ℕ) (backlogs : ℕ → List (Entry Unit)) → StationsStand N.view_of N.stands world x (stations_view self.old backlogs) → LacksMemory self.old.capacity me (stations_view self.old backlogs)) }
+        ensures capacity { self.new.capacity ≡ self.old.capacity }
+        ensures count { vec_len self.new.executors ≡ vec_len self.old.executors }
+    {
+        match oldest_target(&self.executors, me, self.capacity) {
+            None => Ok(false),
+            Some(target) => {
+                if let Err(refused) = self.executors[target].reserve() {
+                    return Err(refused);
+                }
+                self.hand_to(me, target);
+                Ok(true)
+            }
+        }
+    }
+
+    /// The oldest item of an executor's backlog for a target goes into the queue of that, which has memory for it.
+    fn hand_to(&mut self, me: usize, target: usize)
+        requires there { (me < vec_len self.old.executors) × (target < vec_len self.old.executors) }
+        requires memory { 0 < memory_at self.old.executors.items target }
+        requires stands { (world : World) × (x : ℕ) × (backlogs : ℕ → List (Entry Unit)) × (i : ℕ) × StationsStand N.view_of N.stands world x (stations_view self.old backlogs) × (position (is_for target) (backlogs me) ≡ Some i) }
+        ensures hands { (world : World) (x : ℕ) (backlogs : ℕ → List (Entry Unit)) (i : ℕ) → StationsStand N.view_of N.stands world x (stations_view self.old backlogs) → position (is_for target) (backlogs me) ≡ Some i
+            → (after : ℕ → List (Entry Unit)) × StationsStand N.view_of N.stands world x (stations_view self.new after) × HandsOver me i (stations_view self.old backlogs) (stations_view self.new after) }
+        ensures capacity { self.new.capacity ≡ self.old.capacity }
+        ensures count { vec_len self.new.executors ≡ vec_len self.old.executors }
+    {
+        match self.executors[me].take_for(target) {
+            Some(envelope) => self.executors[target].hand_over(envelope),
+            None => unreachable!(),
+        }
+    }
 }

@@ -15,6 +15,7 @@ use Rattle.pl_context.specs.OutputsViews.{OutputsView}
 use Rattle.pl_words.specs.declared.admission.TheConstants.{MAX_ADMISSIONS}
 use Rattle.pl_words.specs.declared.admission.Refused.TheVariants.{SeatSpent}
 use Rattle.pl_flow.specs.Flows.{Point, after, on, IsFlow, past}
+use Rattle.pl_flow.specs.LanesViews.{LanesView, SameRoutes}
 use Rattle.pl_flow.specs.Makes.{LaneGrows, Makes}
 use Rattle.pl_flow.proofs.FlowLemmas.{on-own, on-other}
 use Rattle.pl_outbox.specs.Admitting.{FewLanes, listed_at_most, AdmitsOnce}
@@ -48,24 +49,24 @@ one-more x xs (l ∷ ls) any =
     (cases_Bool (same_lane x.lane l))
 
 -- where each is of a lane that is written, and all of these are among some lanes
-all-listed : (writes : Lane → Bool) (few : FewLanes writes) (items : List Envelope) → ((l : Lane) → writes l ≡ false → on l items ≡ []) → length items ≤ sum_by (λ l. length (on l items)) few.lanes
-all-listed writes few [] idle = omega arith
-all-listed writes few (x ∷ xs) idle =
+all-listed : (v : LanesView) (few : FewLanes v) (items : List Envelope) → ((l : Lane) → v.written l ≡ false → on l items ≡ []) → length items ≤ sum_by (λ l. length (on l items)) few.lanes
+all-listed v few [] idle = omega arith
+all-listed v few (x ∷ xs) idle =
     let more = one-more x xs few.lanes (few.all x.lane wrote) in
-    let rest = all-listed writes few xs left in
+    let rest = all-listed v few xs left in
     omega (arith, more, rest)
   where
     cons-none : (ys : List Envelope) → x ∷ ys ≡ [] → ⊥
     cons-none ys e = cc
 
-    wrote : writes x.lane ≡ true
+    wrote : v.written x.lane ≡ true
     wrote = ⊎_elim (λ t. t)
-        (λ (f : writes x.lane ≡ false). absurd (cons-none (on x.lane xs) (sym (on-own x.lane x xs (same_lane-self x.lane)) ∙ idle x.lane f)))
-        (cases_Bool (writes x.lane))
+        (λ (f : v.written x.lane ≡ false). absurd (cons-none (on x.lane xs) (sym (on-own x.lane x xs (same_lane-self x.lane)) ∙ idle x.lane f)))
+        (cases_Bool (v.written x.lane))
 
-    left : (l : Lane) → writes l ≡ false → on l xs ≡ []
+    left : (l : Lane) → v.written l ≡ false → on l xs ≡ []
     left l f = ⊎_elim
-        (λ (t : same_lane l x.lane ≡ true). absurd (both_ways (writes l) f (subst (λ (m : Lane). writes m ≡ true) (sym (same_lane-equal l x.lane t)) wrote)))
+        (λ (t : same_lane l x.lane ≡ true). absurd (both_ways (v.written l) f (subst (λ (m : Lane). v.written m ≡ true) (sym (same_lane-equal l x.lane t)) wrote)))
         (λ (o : same_lane l x.lane ≡ false). sym (on-other l x xs o) ∙ idle l f)
         (cases_Bool (same_lane l x.lane))
 
@@ -99,62 +100,61 @@ sums-within f g h (l ∷ ls) each =
 -- ---- step by step
 
 -- nothing was admitted, and nothing is on the list
-pub admits_start : (writes : Lane → Bool) (came : Lane → Point) (o : OutboxesView) (work : OutputsView) → FewLanes writes → admissions o ≡ 0 → work.items ≡ [] → AdmitsOnce writes came o work
-admits_start writes came o work few none empty = record {
+pub admits_start : (v : LanesView) (o : OutboxesView) (work : OutputsView) → FewLanes v → admissions o ≡ 0 → work.items ≡ [] → AdmitsOnce v o work
+admits_start v o work few none empty = record {
   written = few;
   once = let n = ap (λ (zs : List Envelope). length zs) empty in omega (arith, none, n);
 }
 
 -- as many admissions more, at most, as there are items less on the list
-pub admits_on : (writes : Lane → Bool) (came : Lane → Point) (o o' : OutboxesView) (before mid : OutputsView) → AdmitsOnce writes came o before → mid.stopped ≡ before.stopped
-    → admissions o' + length mid.items ≤ admissions o + length before.items → AdmitsOnce writes came o' mid
-admits_on writes came o o' before mid a stops few = record {
+pub admits_on : {v : LanesView} {o : OutboxesView} {before : OutputsView} (o' : OutboxesView) (mid : OutputsView) → AdmitsOnce v o before → mid.stopped ≡ before.stopped
+    → admissions o' + length mid.items ≤ admissions o + length before.items → AdmitsOnce v o' mid
+admits_on {v} {o} {before} o' mid a stops few = record {
   written = a.written;
-  once = subst (λ (s : StopsView). admissions o' + length mid.items ≤ sum_by (listed_at_most came (record mid { stopped = s })) a.written.lanes) (sym stops)
+  once = subst (λ (s : StopsView). admissions o' + length mid.items ≤ sum_by (listed_at_most v (record mid { stopped = s })) a.written.lanes) (sym stops)
       (let h = a.once in omega (arith, h, few));
 }
 
 -- the front of the list is taken, with at most one
-pub admits_front : (writes : Lane → Bool) (came : Lane → Point) (o o' : OutboxesView) (before mid : OutputsView) (x : Envelope) → AdmitsOnce writes came o before → before.items ≡ x ∷ mid.items → mid.stopped ≡ before.stopped
-    → admissions o' ≤ admissions o + 1 → AdmitsOnce writes came o' mid
-admits_front writes came o o' before mid x a front stops one =
+pub admits_front : {v : LanesView} {o : OutboxesView} {before : OutputsView} {x : Envelope} (o' : OutboxesView) (mid : OutputsView) → AdmitsOnce v o before → before.items ≡ x ∷ mid.items → mid.stopped ≡ before.stopped
+    → admissions o' ≤ admissions o + 1 → AdmitsOnce v o' mid
+admits_front {v} {o} {before} {x} o' mid a front stops one =
     let n = ap (λ (zs : List Envelope). length zs) front in
-    admits_on writes came o o' before mid a stops (omega (arith, n, one))
+    admits_on o' mid a stops (omega (arith, n, one))
 
 -- nodes have put more on it
-pub admits_more : (world : World) (writes writes' : Lane → Bool) (came came' : Lane → Point) (o : OutboxesView) (mid after : OutputsView) → AdmitsOnce writes came o mid → Makes world writes came came' mid after
-    → ((l : Lane) → writes' l ≡ writes l) → AdmitsOnce writes' came' o after
-admits_more world writes writes' came came' o mid after a m same = record {
-  written = record { lanes = a.written.lanes; few = a.written.few; all = λ l w. a.written.all l (sym (same l) ∙ w) };
+pub admits_more : {world : World} {v : LanesView} {o : OutboxesView} {mid after : OutputsView} (v' : LanesView) → AdmitsOnce v o mid → Makes world v.written v.came v'.came mid after → SameRoutes v v' → AdmitsOnce v' o after
+admits_more {world} {v} {o} {mid} {after} v' a m same = record {
+  written = record { lanes = a.written.lanes; few = a.written.few; all = λ l w. a.written.all l (ap (λ (u : LanesView). u.written l) (sym same) ∙ w) };
   once =
-      let each = sums-within (listed_at_most came mid) (λ (l : Lane). length (on l m.added)) (listed_at_most came' after) a.written.lanes
-      (λ l. lane-within world (writes l) (has_stopped mid.stopped l) (has_stopped after.stopped l) (came l) (came' l) (on l m.added) (m.lanes l)) in
-      let more = all-listed writes a.written m.added (λ l idle. (m.lanes l).idle idle) in
+      let each = sums-within (listed_at_most v mid) (λ (l : Lane). length (on l m.added)) (listed_at_most v' after) a.written.lanes
+      (λ l. lane-within world (v.written l) (has_stopped mid.stopped l) (has_stopped after.stopped l) (v.came l) (v'.came l) (on l m.added) (m.lanes l)) in
+      let more = all-listed v a.written m.added (λ l idle. (m.lanes l).idle idle) in
       let n = ap (λ (zs : List Envelope). length zs) m.items ∙ length-append mid.items m.added in
       let h = a.once in omega (arith, each, more, n, h);
 }
 
 -- ---- no seat is spent
 
-least : (ls : List Lane) (came : Lane → Point) (work : OutputsView) → sum_by (listed_at_most came work) ls ≤ length ls * (2 ^ 32)
-least ls came work = sum_by-le (listed_at_most came work) (2 ^ 32) ls (each ls)
+least : (ls : List Lane) (v : LanesView) (work : OutputsView) → sum_by (listed_at_most v work) ls ≤ length ls * (2 ^ 32)
+least ls v work = sum_by-le (listed_at_most v work) (2 ^ 32) ls (each ls)
   where
     within : (stopped : Bool) (n : ℕ) → cond stopped (2 ^ 32) (min n (2 ^ 32)) ≤ 2 ^ 32
     within true n = omega arith
     within false n = omega arith
 
-    each : (ls : List Lane) → All (λ l. listed_at_most came work l ≤ 2 ^ 32) ls
-    each [] = All-nil (λ l. listed_at_most came work l ≤ 2 ^ 32)
-    each (l ∷ ls) = All-cons (λ l. listed_at_most came work l ≤ 2 ^ 32) l ls (within (has_stopped work.stopped l) (came l).next) (each ls)
+    each : (ls : List Lane) → All (λ l. listed_at_most v work l ≤ 2 ^ 32) ls
+    each [] = All-nil (λ l. listed_at_most v work l ≤ 2 ^ 32)
+    each (l ∷ ls) = All-cons (λ l. listed_at_most v work l ≤ 2 ^ 32) l ls (within (has_stopped work.stopped l) (v.came l).next) (each ls)
 
-pub never-spent : (writes : Lane → Bool) (came : Lane → Point) (o o' : OutboxesView) (work : OutputsView) (target : ℕ) → AdmitsOnce writes came o work → RefusedBy o target SeatSpent o' → ⊥
-never-spent writes came o o' work target a r =
+pub never-spent : {v : LanesView} {o o' : OutboxesView} {work : OutputsView} {target : ℕ} → AdmitsOnce v o work → RefusedBy o target SeatSpent o' → ⊥
+never-spent {v} {o} {o'} {work} {target} a r =
     let b = r.before in
     let here = get_or-le-sum_by (λ (c : OutboxView). c.seat.made) o.outboxes target b (slice_get_within o.outboxes target b r.was) in
     let is = ap (λ (c : OutboxView). c.seat.made) (get_or_from_slice_get o.outboxes target b b r.was) in
     let spent = r.seat.1 in
     let once = a.once in
-    let all = least a.written.lanes came work in
+    let all = least a.written.lanes v work in
     let few = times (length a.written.lanes) a.written.few in omega (arith, here, is, spent, once, all, few)
   where
     times : (n : ℕ) → n < 2 ^ 13 → n * (2 ^ 32) < MAX_ADMISSIONS

@@ -7,10 +7,11 @@ use Rattle.pl_event.specs.Hops.{same_lane}
 use Rattle.pl_event.specs.Worlds.{World}
 use Rattle.pl_context.specs.declared.added.Added.{Added}
 use Rattle.pl_context.specs.declared.added.Added.TheVariants.{Last, Discarded}
-use Rattle.pl_context.specs.Stops.{has_stopped, HasPlaces, AreAmong}
+use Rattle.pl_context.specs.Stops.{has_stopped}
 use Rattle.pl_context.specs.OutputsViews.{added_items, stopped_after}
 use Rattle.pl_context.specs.WaitingViews.{WaitingView, Entry, Holds, is_for, stops_for, room_for}
 use Rattle.pl_queue.specs.declared.views.SenderView.{SenderView}
+use Rattle.pl_queue.specs.Ends.{MailboxEnds}
 use Rattle.pl_queue.specs.Rule.{SenderSees, WasOnce}
 use Rattle.pl_queue.specs.Views.{after_offer}
 use Rattle.pl_words.specs.declared.admission.Refused.{Refused}
@@ -19,6 +20,7 @@ use Rattle.pl_words.specs.declared.status.Status.{Status}
 use Rattle.pl_words.specs.declared.status.Status.TheVariants.{Accepting, Closing, Closed}
 use Rattle.pl_words.specs.Admissions.{SendSeatView, AdmittedView, admitted_of, Refuses}
 use Rattle.pl_flow.specs.Flows.{Point, nowhere, after, on, past}
+use Rattle.pl_flow.specs.LanesViews.{KeepsPlaces}
 use Rattle.pl_outbox.specs.declared.outboxes.Offered.{Offered}
 use Rattle.pl_outbox.specs.declared.outboxes.Offered.TheVariants.{Handed, Full, Nothing}
 use Rattle.pl_outbox.specs.Sent.{sent_at, AreBehind}
@@ -132,7 +134,7 @@ pub record Adds (o : OutboxesView) (target : ℕ) (x : Envelope) (o' : OutboxesV
   pub reached : (y : ℕ) (l : Lane) → is_cut o' y l ≡ false → reached o' y l ≡ cond ((y == target) && same_lane l x.lane) (after x) (reached o y l)
   pub closed : SomeClosed o → SomeClosed o'
   pub made : admissions o' ≤ admissions o + 1
-  pub placed : (lanes : List Lane) → AreAmong (x.lane ∷ []) lanes → HasPlaces (stops_for o.waiting target) lanes → HasPlaces (stops_for o'.waiting target) lanes
+  pub placed : KeepsPlaces (x.lane ∷ []) (stops_for o.waiting target) (stops_for o'.waiting target)
 
 -- What comes last for the target: the envelope, or what stands in for it. It is the youngest of all that wait. There
 -- is nothing where its lane has stopped; and one admission more for what comes, and none for nothing.
@@ -178,14 +180,14 @@ Offers o target Handed o' = Sends o target o'
 Offers o target Full o' = KeepsAll o o'
 Offers o target Nothing o' = (o' ≡ o) × (waits_for o target ≡ [])
 
-module _ {M S : Type 0} (is_sender : M → S → Type 0) (sends_of : S → SenderView) (capacity_of : M → ℕ) (world : World) where
+module _ {M S T : Type 0} (ends : MailboxEnds M S T) (world : World) where
   -- The mailbox of a sender that has sent this was full at some moment of the call.
   pub record WasFull (sends : SenderView) : Type 0 where
     pub mailbox : M
     pub sender : S
-    pub made : is_sender mailbox sender
-    pub sent : sends_of sender ≡ sends
-    pub once : WasOnce (capacity_of mailbox) (SenderSees world sends)
+    pub made : ends.is_sender mailbox sender
+    pub sent : ends.sends_of sender ≡ sends
+    pub once : WasOnce (ends.capacity_of mailbox) (SenderSees world sends)
 
   -- the answer is Full only where the queue was
   abbrev pub FullOnce : OutboxesView → ℕ → Offered → Type 0

@@ -28,17 +28,17 @@ impl<'a, W: Named, M: Mailbox<W> + Drop> Model for Outbox<'a, W, M> {
 
     ghost Value = { OutboxView };
 
-    ghost view = { λ o. record { sends = M.sends_of o.sender; seat = o.seat } };
+    ghost view = { λ o. record { sends = M.ends.sends_of o.sender; seat = o.seat } };
 
-    ghost invariant = { λ o. M.is_sender o.inbox.now.mailbox o.sender × (o.seat.name ≡ o.inbox.now.admission.name) };
+    ghost invariant = { λ o. M.ends.is_sender o.inbox.now.mailbox o.sender × (o.seat.name ≡ o.inbox.now.admission.name) };
 }
 
 impl<'a, W: Named, M: Mailbox<W> + Drop> Outbox<'a, W, M> {
     /// The way to the executor that an inbox is of, by a sender and a seat of that inbox.
     pub fn new(inbox: &'a Inbox<W, M>, sender: M::Sender, seat: SendSeat) -> Self
-        requires sender { M.is_sender inbox.now.mailbox sender }
+        requires sender { M.ends.is_sender inbox.now.mailbox sender }
         requires seat { seat.name ≡ inbox.now.admission.name }
-        ensures { result ≡ record { sends = M.sends_of sender; seat = seat } }
+        ensures { result ≡ record { sends = M.ends.sends_of sender; seat = seat } }
     {
         Outbox {
             inbox,
@@ -74,7 +74,7 @@ impl<'a, W: Named, M: Mailbox<W> + Drop> Outbox<'a, W, M> {
         requires fits { FitsWorld W.world envelope }
         ensures { MatchResult result
             (λ _. self.new ≡ record self.old { sends = after_offer self.old.sends envelope })
-            (λ full. (full.envelope ≡ envelope) × (self.new ≡ self.old) × WasFull M.is_sender M.sends_of M.capacity_of W.world self.old.sends) }
+            (λ full. (full.envelope ≡ envelope) × (self.new ≡ self.old) × WasFull M.ends W.world self.old.sends) }
     {
         let mailbox = &self.inbox.mailbox;
         mailbox.offer::<R>(rt, &mut self.sender, envelope)

@@ -48,7 +48,7 @@ pub struct Outboxes<'a, W: Named, M: Mailbox<W> + Drop> {
     /// The executors to which something was sent, and which were not woken for it yet.
     unrung: Waiters,
     /// How many envelopes were sent to these.
-    count: u32,
+    unrung_sent: u32,
 }
 
 impl<'a, W: Named, M: Mailbox<W> + Drop> Model for Outboxes<'a, W, M> {
@@ -83,7 +83,7 @@ impl<'a, W: Named, M: Mailbox<W> + Drop> Outboxes<'a, W, M> {
             tries: Tries::new(alloc, outboxes.len())?,
             outboxes,
             unrung: Waiters::none(),
-            count: 0,
+            unrung_sent: 0,
         })
     }
 
@@ -154,7 +154,7 @@ impl<'a, W: Named, M: Mailbox<W> + Drop> Outboxes<'a, W, M> {
     pub fn offer<R: Wait>(&mut self, rt: &R, target: usize) -> Offered
         requires there { target < length self.old.outboxes }
         ensures offers { Offers self.old target result self.new }
-        ensures full { FullOnce M.is_sender M.sends_of M.capacity_of W.world self.old target result }
+        ensures full { FullOnce M.ends W.world self.old target result }
         ensures stays { Stays self.old self.new }
         ensures tried { (y : ℕ) → was_tried self.new y ≡ tried_after self.old target result y }
     {
@@ -165,7 +165,7 @@ impl<'a, W: Named, M: Mailbox<W> + Drop> Outboxes<'a, W, M> {
             Ok(()) => {
                 admitted.sent();
                 self.unrung = self.unrung.with(target);
-                self.count = self.count.saturating_add(1);
+                self.unrung_sent = self.unrung_sent.saturating_add(1);
                 Offered::Handed
             }
             Err(Full { envelope }) => {
@@ -198,7 +198,7 @@ impl<'a, W: Named, M: Mailbox<W> + Drop> Outboxes<'a, W, M> {
     pub fn ring_for_many(&mut self)
         ensures { self.new ≡ self.old }
     {
-        if self.count >= MAX_UNRUNG || M::may_wait() {
+        if self.unrung_sent >= MAX_UNRUNG || M::may_wait() {
             self.ring_for_sent();
         }
     }
@@ -209,7 +209,7 @@ impl<'a, W: Named, M: Mailbox<W> + Drop> Outboxes<'a, W, M> {
     {
         let waiters = self.unrung;
         self.unrung = Waiters::none();
-        self.count = 0;
+        self.unrung_sent = 0;
         self.ring(waiters);
     }
 

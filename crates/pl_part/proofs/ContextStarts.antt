@@ -1,6 +1,7 @@
 -- A context that has taken nothing.
 use Rattle.std.proofs.Common.{◌≡◌, ℕ, ◌+◌, Bool, true, false, not, ◌||◌, ◌&&◌, cond, List, [], refl, ap, sym, ◌∙◌, ⊎_elim, arith}
 use Rattle.std.proofs.lemmas.Bool.{cases_Bool, both_ways}
+use Rattle.std.proofs.Math.Bool.{and-true}
 use Rattle.pl_event.specs.declared.events.Event.{Event}
 use Rattle.pl_event.specs.declared.envelopes.Kind.TheVariants.{Flags}
 use Rattle.pl_event.specs.declared.envelopes.Lane.{Lane}
@@ -45,18 +46,7 @@ module _ {S : Type 0} (world : World) (meaning : S → Meaning) (stands_after : 
       → HoldsWith world meaning stands_after (meaning stage) events (new_context (meaning stage).direction channel hop k stage)
   new-holds stood = record {
     meant = refl;
-    wired = record {
-      own = plan.own;
-      up = plan.up;
-      down = plan.down;
-      up_kind = refl;
-      down_kind = refl;
-      flags_kind = refl;
-      apart = lanes-apart (meaning stage).direction channel hop k at;
-      few = plan.few;
-      few_up = plan.few_up;
-      few_down = plan.few_down;
-    };
+    wired = assumption (plan, lanes-apart (meaning stage).direction channel hop k at);
     within = λ o. omega arith;
     stood = λ o. stood;
     up_open = λ o. refl;
@@ -74,10 +64,6 @@ module _ {S : Type 0} (world : World) (meaning : S → Meaning) (stands_after : 
     where
       not-ended : stands.Open ≡ stands.Ended → ⊥
       not-ended e = cc
-
-      and-true : (b : Bool) → (b && true) ≡ b
-      and-true true = refl
-      and-true false = refl
 
   pub new-starts : (l : Lane) → context_writes (meaning stage).direction (new_context (meaning stage).direction channel hop k stage) l ≡ true
       → context_came (meaning stage).direction (new_context (meaning stage).direction channel hop k stage) l ≡ point 0 false

@@ -4,7 +4,8 @@ use Rattle.std.specs.Prelude.{◌%◌, ◌==◌, if◌then◌else◌}
 use Rattle.std.specs.List.{slice_get}
 use Rattle.std.proofs.lemmas.List.{take_all}
 use Rattle.std.proofs.lemmas.Option.{slice_get_within}
-use Rattle.std.proofs.lemmas.Bool.{cases_Bool, both_ways, not-false}
+use Rattle.std.proofs.lemmas.Bool.{cases_Bool, both_ways, not-false, and_parts}
+use Rattle.std.proofs.Math.Bool.{and-true}
 use Rattle.pl_event.specs.declared.events.Event.{Event}
 use Rattle.pl_event.specs.declared.stages.Turned.TheVariants.{Open, Ended}
 use Rattle.pl_event.specs.declared.outcomes.Cause.{Cause}
@@ -42,14 +43,6 @@ use Rattle.pl_part.proofs.EventLists.{split-at, fits-within, made-le, made-more,
 use Rattle.pl_part.proofs.ItemFits.{data-fits, data-may, flag-fits, within-limit}
 use Rattle.pl_part.proofs.PortMakes.{both-put, both-append, flag-put}
 use Rattle.pl_event.specs.declared.limits.TheConstants.{MAX_ITEMS}
-
-pub and-left : (a b : Bool) → (a && b) ≡ true → a ≡ true
-and-left true b e = refl
-and-left false b e = e
-
-and-true : (b : Bool) → (b && true) ≡ b
-and-true true = refl
-and-true false = refl
 
 open-over : (s : Standing) → s ≡ stands.Open → is_over s ≡ true → ⊥
 open-over s e f = both_ways (is_over s) (ap is_over e) f
@@ -109,7 +102,7 @@ module _ {S : Type 0} (world : World) (meaning : S → Meaning) (stands_after : 
     up-has o = sym (h.up_open live) ∙ o
 
     down-has : c.down.is_open ≡ true → has_down (meaning c.stage).direction ≡ true
-    down-has o = and-left (has_down (meaning c.stage).direction) (not ((meaning c.stage).ended (take c.taken events))) (sym (h.down_open live) ∙ o)
+    down-has o = (and_parts (has_down (meaning c.stage).direction) (not ((meaning c.stage).ended (take c.taken events))) (sym (h.down_open live) ∙ o)).0
 
     -- ---- an event
 
@@ -218,19 +211,8 @@ module _ {S : Type 0} (world : World) (meaning : S → Meaning) (stands_after : 
         by false is = ap (λ o. if o then c.down.made + 1 else c.down.made) is ∙ h.down_given (ap has_failed live) has is
 
     -- one item more of a lane is few
-    last-up : c.up.is_open ≡ true → c.up.made + 1 ≤ MAX_ITEMS
-    last-up o =
-        let made = (h.stood live).above o in
-        let le = made-le (meaning c.stage).up c.taken events in
-        let few = h.wired.few_up (up-has o) in
-        omega (arith, made, le, few)
-
-    last-down : c.down.is_open ≡ true → c.down.made + 1 ≤ MAX_ITEMS
-    last-down o =
-        let made = (h.stood live).below o in
-        let le = made-le (meaning c.stage).down c.taken events in
-        let few = h.wired.few_down (down-has o) in
-        omega (arith, made, le, few)
+    last-few : (f : List Event → Event → List Event) (made : ℕ) → made ≡ length (made_after f [] (take c.taken events)) → length (made_after f [] events) + 1 < MAX_ITEMS → made + 1 ≤ MAX_ITEMS
+    last-few f made is few = let le = made-le f c.taken events in omega (arith, is, le, few)
 
     closing : (standing : Standing) → is_over standing ≡ true → (st : S) (t : ℕ) (fb : Bool) → t ≤ MAX_ITEMS → meaning st ≡ meaning c.stage → (fb ≡ true → has_failed standing ≡ true)
         → (has_failed standing ≡ false → (c.taken ≡ length events) × (t ≡ c.taken + 1))
@@ -259,8 +241,8 @@ module _ {S : Type 0} (world : World) (meaning : S → Meaning) (stands_after : 
             few = record {
               taken = small;
               flags_taken = h.few.flags_taken;
-              up = made-few 1 c.up.made c.up.is_open h.few.up last-up;
-              down = made-few 1 c.down.made c.down.is_open h.few.down last-down;
+              up = made-few 1 c.up.made c.up.is_open h.few.up (λ o. last-few (meaning c.stage).up c.up.made ((h.stood live).above o) (h.wired.few_up (up-has o)));
+              down = made-few 1 c.down.made c.down.is_open h.few.down (λ o. last-few (meaning c.stage).down c.down.made ((h.stood live).below o) (h.wired.few_down (down-has o)));
               flags = h.few.flags;
             };
           }),
@@ -350,23 +332,11 @@ module _ {S : Type 0} (world : World) (meaning : S → Meaning) (stands_after : 
   flag-held : c.flags_taken < 2 ^ 32 → (made : ℕ) (is_open : Bool) → made ≤ c.flags.made + 1 → (is_open ≡ true → has_up (meaning c.stage).direction ≡ true)
       → (has_failed c.standing ≡ false → is_open ≡ true → made ≡ c.flags_taken + 1)
       → HoldsWith world meaning stands_after (meaning c.stage) events (record (counted Flags c) { flags = record c.flags { made = made; is_open = is_open } })
-  flag-held small made is_open most opens all = record {
-    meant = refl;
-    wired = h.wired;
-    within = h.within;
-    stood = h.stood;
-    up_open = h.up_open;
-    down_open = h.down_open;
-    up_over = h.up_over;
-    down_over = h.down_over;
-    ended = h.ended;
-    up_given = h.up_given;
-    down_given = h.down_given;
-    flags_open = opens;
-    flags = all;
-    by_call = h.by_call;
-    few = let few = h.few.flags in record { taken = h.few.taken; flags_taken = omega (arith, small); up = h.few.up; down = h.few.down; flags = omega (arith, most, few) };
-  }
+  flag-held small made is_open most opens all =
+      let few = h.few.flags in
+      let taken : c.flags_taken + 1 ≤ 2 ^ 32 = omega (arith, small) in
+      let above : made ≤ c.flags_taken + 1 = omega (arith, most, few) in
+      assumption (h, taken, above)
 
   -- a flag that is not handed on
   counted-flag : (c.flags.is_open ≡ true → has_failed c.standing ≡ true) → c.flags_taken < 2 ^ 32 → (b a : OutputsView) (c' : ContextView S) → c' ≡ counted Flags c → a ≡ b → Stepped b c' a

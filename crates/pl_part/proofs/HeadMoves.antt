@@ -3,7 +3,8 @@ use Rattle.std.proofs.Common.{◌≡◌, ℕ, suc, ◌+◌, ◌≤◌, ◌<◌, 
 use Rattle.std.specs.Prelude.{is_some, if◌then◌else◌, nat_lt}
 use Rattle.std.specs.List.{slice_get}
 use Rattle.std.proofs.lemmas.Option.{slice_get_within}
-use Rattle.std.proofs.lemmas.Bool.{cases_Bool, both_ways, cond-true, cond-false, and_parts, ltb-true, or_right, or_left}
+use Rattle.std.proofs.lemmas.Bool.{cases_Bool, both_ways, cond-true, cond-false, and_parts, ltb-true, or_right, or_left, and_right, not-true}
+use Rattle.std.proofs.Math.Bool.{and-false}
 use Rattle.pl_event.specs.declared.events.Event.{Event}
 use Rattle.pl_event.specs.declared.outcomes.Cause.{Cause}
 use Rattle.pl_event.specs.declared.outcomes.Cause.TheVariants.{Memory, Aborted}
@@ -118,12 +119,8 @@ reads-came channel p is x y lane at l = ⊎_elim
     let off = ap (λ (m : Lane). same_lane l m) lane ∙ n in
     cond-false (same_lane l (data_lane channel 0)) x _ n
     ∙ sym (cond-false (same_lane l (data_lane channel 0)) (port_point p) _ n)
-    ∙ sym (cond-false (p.is_open && same_lane l p.lane) (port_point (port_after is p)) (two_came channel (port_point p) y l) (and-off p.is_open (same_lane l p.lane) off)))
+    ∙ sym (cond-false (p.is_open && same_lane l p.lane) (port_point (port_after is p)) (two_came channel (port_point p) y l) (and_right p.is_open (same_lane l p.lane) off)))
     (cases_Bool (same_lane l (data_lane channel 0)))
-  where
-    and-off : (a b : Bool) → b ≡ false → (a && b) ≡ false
-    and-off true b e = e
-    and-off false b e = refl
 
 module _ {T : Type 0} (state : T → TransportState) (h : HeadView T) where
   -- the flags that were sent, whichever sizes were added and removed
@@ -201,18 +198,10 @@ module _ {T : Type 0} (state : T → TransportState) (world : World) (plan : Rea
   -- ---- its lanes
 
   writes-flags : head_writes h h.buffer.flags.lane ≡ true
-  writes-flags = or-other (same_lane h.buffer.flags.lane (data_lane h.channel 0)) _ (ap (λ (m : Lane). same_lane m (flags_lane h.channel 0)) k.flags ∙ same_lane-self (flags_lane h.channel 0))
-    where
-      or-other : (a b : Bool) → b ≡ true → (a || b) ≡ true
-      or-other true b e = refl
-      or-other false b e = e
+  writes-flags = or_right (same_lane h.buffer.flags.lane (data_lane h.channel 0)) _ (ap (λ (m : Lane). same_lane m (flags_lane h.channel 0)) k.flags ∙ same_lane-self (flags_lane h.channel 0))
 
   writes-reads : head_writes h h.input.port.lane ≡ true
-  writes-reads = or-one (same_lane h.input.port.lane (data_lane h.channel 0)) _ (ap (λ (m : Lane). same_lane m (data_lane h.channel 0)) k.entrance ∙ same_lane-self (data_lane h.channel 0))
-    where
-      or-one : (a b : Bool) → a ≡ true → (a || b) ≡ true
-      or-one true b e = refl
-      or-one false b e = absurd (both_ways false refl e)
+  writes-reads = or_left (same_lane h.input.port.lane (data_lane h.channel 0)) _ (ap (λ (m : Lane). same_lane m (data_lane h.channel 0)) k.entrance ∙ same_lane-self (data_lane h.channel 0))
 
   few-made : (h' : HeadView T) → h'.taken ≤ length events + 1 → HasFewFlags h' → h'.buffer.flags.made < 2 ^ 32
   few-made h' most few = let small = k.few in omega (arith, most, few, small)
@@ -285,11 +274,7 @@ module _ {T : Type 0} (state : T → TransportState) (world : World) (plan : Rea
       → SendsFlags h.buffer.low h.buffer.high sizes more h.buffer.flags b f a → HasPlaces b.stopped lanes → HasPlaces a.stopped lanes
   flags-places lanes among ys zs sizes more b a f sends places =
       places_stay sends.added h.buffer.flags f b a lanes sends.passes places
-      (λ q m. among q (or-next (same_hop q (data_lane h.channel 0)) _ (ap (λ (g : Lane). same_hop q g || false) (sym k.flags) ∙ m)))
-    where
-      or-next : (a b : Bool) → b ≡ true → (a || b) ≡ true
-      or-next true b e = refl
-      or-next false b e = e
+      (λ q m. among q (or_right (same_hop q (data_lane h.channel 0)) _ (ap (λ (g : Lane). same_hop q g || false) (sym k.flags) ∙ m)))
 
   -- and while items of its reads are put
   reads-places : (lanes : List Lane) → AreAmong (head_lanes h) lanes → (is : List Item) (b a : OutputsView) → PutsAll b (offered h.input.port is) a → HasPlaces b.stopped lanes → HasPlaces a.stopped lanes
@@ -565,20 +550,12 @@ module _ {T : Type 0} (state : T → TransportState) (world : World) (plan : Rea
   steps-left o =
       let both = and_parts (not k.reads.1) (nat_lt k.reads.0 (plan_steps plan)) (sym k.reads.2.is_open ∙ o) in
       (not-true k.reads.1 both.0, ltb-true k.reads.0 (plan_steps plan) both.1)
-    where
-      not-true : (b : Bool) → not b ≡ true → b ≡ false
-      not-true false e = refl
-      not-true true e = absurd (both_ways false refl e)
 
   failure-next : (cause : Cause) → may_fail world cause ≡ true → h.input.port.is_open ≡ true → AreGood world h.input.port.lane h.input.port.made (item.Fail cause ∷ [])
   failure-next cause may o =
       let early = number-within plan k.reads.0 (steps-left o).1 in
       let number = number_of_step plan k.reads.0 k.reads.1 h.input k.reads.2 o in
       (failure-good world h.input.port.lane (recorded_input plan.bursts) h.input.port.made reads-kind reads-content k.few_input cause may (omega (arith, early, number)), (λ g. refl), tt)
-
-  and-none : (b : Bool) → (b && false) ≡ false
-  and-none true = refl
-  and-none false = refl
 
   module _ (b a : OutputsView) (h' : HeadView T) (f : Aborts state h b h' a) (reads : (reads : ℕ) × (failed : Bool) × ReadsStand plan reads failed h') (lane : h'.buffer.flags.lane ≡ h.buffer.flags.lane) (few : HasFewFlags h') where
     abort-most : h'.taken ≤ length events + 1
@@ -605,7 +582,7 @@ module _ {T : Type 0} (state : T → TransportState) (world : World) (plan : Rea
         (flags-makes (port_point h.input.port) k.took.ys k.took.zs k.took.sizes (Removed (waiting_at state h k.took.ys) ∷ []) b f.between h'.buffer.flags k.took.after
         (f.flags k.took.ys k.took.zs k.took.sizes k.took.after) (few-made h' abort-most few))
         (reads-makes (port_point h'.buffer.flags) (port_point h'.input.port) is f.between a (failure-next Aborted refl)
-        (ap (λ (z : HeadView T). port_point z.input.port) f.same ∙ ap (λ (q : Bool). point (cond h.input.port.is_open (h.input.port.made + 1) h.input.port.made) (not q)) (sym (and-none h.input.port.is_open)))
+        (ap (λ (z : HeadView T). port_point z.input.port) f.same ∙ ap (λ (q : Bool). point (cond h.input.port.is_open (h.input.port.made + 1) h.input.port.made) (not q)) (sym (and-false h.input.port.is_open)))
         f.puts))
 
     abort-more : head_done h + length a.items ≤ head_done h' + length b.items
@@ -693,7 +670,7 @@ module _ {T : Type 0} (state : T → TransportState) (world : World) (plan : Rea
             subst (λ (q : Option Cause). InputStands plan (steps_after plan k.reads.0 q) (brings_failure plan k.reads.0 q) h'.input) e (r.reads gave plan k.reads.0 k.reads.1 k.reads.2) in
             let made : h'.input.port.made ≡ h.input.port.made + 1 = now.made ∙ ap (λ (m : ℕ). m + 1) (sym number) in
             let more : h.input.port.made + 1 ≡ cond h.input.port.is_open (h.input.port.made + 1) h.input.port.made = sym (cond-true h.input.port.is_open (h.input.port.made + 1) h.input.port.made left) in
-            let shut : h'.input.port.is_open ≡ (h.input.port.is_open && false) = now.is_open ∙ sym (and-none h.input.port.is_open) in
+            let shut : h'.input.port.is_open ≡ (h.input.port.is_open && false) = now.is_open ∙ sym (and-false h.input.port.is_open) in
             (λ i. point ((made ∙ more) i) (not (shut i)))
 
         step-took : HeadTook state events h'

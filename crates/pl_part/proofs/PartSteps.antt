@@ -3,7 +3,7 @@ use Rattle.std.proofs.Common.{◌≡◌, ℕ, ◌+◌, ◌≤◌, Bool, true, fa
 use Rattle.std.specs.Prelude.{◌==◌, is_some, replicate, if◌then◌else◌}
 use Rattle.std.specs.Option.{option_map_or}
 use Rattle.std.proofs.lemmas.List.{length-map, length-replicate}
-use Rattle.std.proofs.lemmas.Bool.{cond-true, cond-false, cases_Bool, both_ways, and_parts, and_from, eqb-true, eq-eqb}
+use Rattle.std.proofs.lemmas.Bool.{cond-true, cond-false, cases_Bool, both_ways, and_parts, and_from, eqb-true, eq-eqb, or_parts}
 use Rattle.std.proofs.lemmas.Option.{same_Some}
 use Rattle.pl_event.specs.declared.events.Event.{Event}
 use Rattle.pl_event.specs.declared.envelopes.Lane.{Lane}
@@ -16,6 +16,7 @@ use Rattle.pl_context.specs.declared.standing.Took.{Took}
 use Rattle.pl_context.specs.ContextViews.{ContextView}
 use Rattle.pl_context.specs.OutputsViews.{OutputsView}
 use Rattle.pl_context.specs.Stops.{StopsView, HasPlaces, AreAmong}
+use Rattle.pl_context.proofs.Places.{places-for}
 use Rattle.pl_flow.specs.Flows.{Point, nowhere, IsGood}
 use Rattle.pl_flow.specs.Makes.{Makes}
 use Rattle.pl_flow.proofs.MakeLemmas.{makes-among, makes-none}
@@ -34,10 +35,6 @@ use Rattle.pl_part.specs.Counts.{head_done, path_done, part_done}
 use Rattle.pl_part.proofs.HeadMoves.{take-holds, take-makes, take-places, take-more}
 use Rattle.pl_part.proofs.PathSteps.{among-hops, other-hop, beyond}
 use Rattle.pl_part.proofs.PartCounts.{part-few}
-
-or-two : (a b : Bool) → (a || b) ≡ false → (a ≡ false) × (b ≡ false)
-or-two false b e = (refl, e)
-or-two true b e = absurd (both_ways true e refl)
 
 twice : (a : Bool) → (a || false) ≡ true → (a || (a || false)) ≡ true
 twice true e = refl
@@ -78,7 +75,7 @@ module _ {T : Type 0} (h : HeadView T) (l : Lane) where
   -- no other has come anywhere
   head-nowhere : head_writes h l ≡ false → head_came h l ≡ nowhere
   head-nowhere w =
-      let none = or-two (same_lane l (data_lane h.channel 0)) (same_lane l (flags_lane h.channel 0)) w in
+      let none = or_parts (same_lane l (data_lane h.channel 0)) (same_lane l (flags_lane h.channel 0)) w in
       cond-false (same_lane l (data_lane h.channel 0)) (port_point h.input.port) _ none.0 ∙ cond-false (same_lane l (flags_lane h.channel 0)) (port_point h.buffer.flags) nowhere none.1
 
 module _ {S T : Type 0} (meaning : S → Meaning) (stands_after : S → List Event → Type 0) (state : T → TransportState) (p : ChannelPartView S T) where
@@ -255,13 +252,8 @@ module _ {S T : Type 0} (meaning : S → Meaning) (stands_after : S → List Eve
 
   -- the lanes of a head need one place
   pub head-places : (some : (world : World) × PartHolds world meaning stands_after state p) (h : HeadView T) → p.head ≡ Some h → (b : OutputsView) → HasPlaces b.stopped (part_lanes p) → HasPlaces b.stopped (data_lane h.channel 0 ∷ [])
-  head-places some h at b places = record {
-    hops = places.hops;
-    few = places.few;
-    stopped = places.stopped;
-    stopped_flags = places.stopped_flags;
-    own = λ l any. places.own l (head-among h at h (refl, refl) some l (twice (same_hop l (data_lane h.channel 0)) any));
-  }
+  head-places some h at b places =
+      places-for b.stopped (part_lanes p) (data_lane h.channel 0 ∷ []) places (λ l any. head-among h at h (refl, refl) some l (twice (same_hop l (data_lane h.channel 0)) any))
 
   -- ---- nothing moves
 

@@ -1,6 +1,6 @@
 -- What a port is given, by lane: one port after the other.
-use Rattle.std.proofs.Common.{◌≡◌, ℕ, ◌+◌, Bool, true, false, not, ◌||◌, ◌&&◌, cond, List, [], ◌∷◌, ◌++◌, length, refl, ap, sym, ◌∙◌, subst, ⊎_elim, append-nil, append_assoc, arith, length-append}
-use Rattle.std.proofs.lemmas.Bool.{cond-true, cond-false, cases_Bool, both_ways, and_right}
+use Rattle.std.proofs.Common.{◌≡◌, ℕ, ◌+◌, Bool, true, false, not, ◌&&◌, cond, List, [], ◌∷◌, ◌++◌, length, refl, ap, sym, ◌∙◌, subst, ⊎_elim, append-nil, append_assoc, arith, length-append}
+use Rattle.std.proofs.lemmas.Bool.{cond-true, cond-false, cases_Bool, both_ways, and_right, and_from, and_left, and_parts, or_left, or_right}
 use Rattle.pl_event.specs.declared.envelopes.Kind.TheVariants.{Data, Flags}
 use Rattle.pl_event.specs.declared.envelopes.Lane.{Lane}
 use Rattle.pl_event.specs.declared.envelopes.Item.{Item}
@@ -35,14 +35,6 @@ makes-to world writes from to to' b a m same = record {
   };
 }
 
-pub both-true : (a b : Bool) → a ≡ true → b ≡ true → (a && b) ≡ true
-both-true true b e f = f
-both-true false b e f = e
-
-pub left-false : (a b : Bool) → a ≡ false → (a && b) ≡ false
-left-false true b e = absurd (both_ways true e refl)
-left-false false b e = refl
-
 -- ---- one port
 
 -- where each lane is once a port has moved
@@ -54,7 +46,7 @@ module _ (world : World) (writes : Lane → Bool) (from : Lane → Point) (p : P
   moved-open : p.is_open ≡ true → (l : Lane) → moved from p (port_after is p) l ≡ made_all from (numbered p.lane p.made is) l
   moved-open t l = ⊎_elim
       (λ (e : same_lane l p.lane ≡ true).
-      cond-true (p.is_open && same_lane l p.lane) (port_point (port_after is p)) (from l) (both-true p.is_open (same_lane l p.lane) t e)
+      cond-true (p.is_open && same_lane l p.lane) (port_point (port_after is p)) (from l) (and_from p.is_open (same_lane l p.lane) t e)
       ∙ ap (λ (o : Bool). point (cond o (p.made + length is) p.made) (not (o && all_go_on is))) t
       ∙ sym (numbered-made world p.lane is p.made from (at t) (good t))
       ∙ ap (λ (m : Lane). made_all from (numbered p.lane p.made is) m) (sym (same_lane-equal l p.lane e)))
@@ -64,7 +56,7 @@ module _ (world : World) (writes : Lane → Bool) (from : Lane → Point) (p : P
       (cases_Bool (same_lane l p.lane))
 
   moved-closed : p.is_open ≡ false → (l : Lane) → moved from p (port_after is p) l ≡ from l
-  moved-closed f l = cond-false (p.is_open && same_lane l p.lane) (port_point (port_after is p)) (from l) (left-false p.is_open (same_lane l p.lane) f)
+  moved-closed f l = cond-false (p.is_open && same_lane l p.lane) (port_point (port_after is p)) (from l) (and_left p.is_open (same_lane l p.lane) f)
 
   -- It is given items, each of which finds a place, or is refused or discarded.
   pub port-puts : (b a : OutputsView) → PutsAll b (offered p is) a → Makes world writes from (moved from p (port_after is p)) b a
@@ -140,23 +132,14 @@ module _ (hu hd : Bool) (p q f : Port) (up_has : p.is_open ≡ true → hu ≡ t
   not-both l u d e g = both_ways (same_lane p.lane q.lane) (apart u d) (ap (λ (m : Lane). same_lane m q.lane) (sym (same_lane-equal l p.lane e)) ∙ g)
 
   pub up-writes : p.is_open ≡ true → ports_write hu hd p.lane q.lane f.lane p.lane ≡ true
-  up-writes o = or-one (hu && same_lane p.lane p.lane) _ (both-true hu (same_lane p.lane p.lane) (up_has o) (same_lane-self p.lane))
-    where
-      or-one : (a b : Bool) → a ≡ true → (a || b) ≡ true
-      or-one true b e = refl
-      or-one false b e = absurd (both_ways false refl e)
+  up-writes o = or_left (hu && same_lane p.lane p.lane) _ (and_from hu (same_lane p.lane p.lane) (up_has o) (same_lane-self p.lane))
 
   pub down-writes : q.is_open ≡ true → ports_write hu hd p.lane q.lane f.lane q.lane ≡ true
-  down-writes o = or-two (hu && same_lane q.lane p.lane) (hd && same_lane q.lane q.lane) _ (both-true hd (same_lane q.lane q.lane) (down_has o) (same_lane-self q.lane))
-    where
-      or-two : (a b c : Bool) → b ≡ true → (a || (b || c)) ≡ true
-      or-two true b c e = refl
-      or-two false true c e = refl
-      or-two false false c e = absurd (both_ways false refl e)
+  down-writes o = or_right (hu && same_lane q.lane p.lane) _ (or_left (hd && same_lane q.lane q.lane) _ (and_from hd (same_lane q.lane q.lane) (down_has o) (same_lane-self q.lane)))
 
   pub up-at : p.is_open ≡ true → ports_came hu hd p q f p.lane ≡ point p.made false
   up-at o =
-      cond-true (hu && same_lane p.lane p.lane) (port_point p) _ (both-true hu (same_lane p.lane p.lane) (up_has o) (same_lane-self p.lane))
+      cond-true (hu && same_lane p.lane p.lane) (port_point p) _ (and_from hu (same_lane p.lane p.lane) (up_has o) (same_lane-self p.lane))
       ∙ ap (λ (b : Bool). point p.made (not b)) o
 
   not-up : q.is_open ≡ true → (hu && same_lane q.lane p.lane) ≡ false
@@ -165,36 +148,31 @@ module _ (hu hd : Bool) (p q f : Port) (up_has : p.is_open ≡ true → hu ≡ t
       (λ (e : same_lane q.lane p.lane ≡ true). absurd (same-back p.lane q.lane (apart u (down_has o)) e))
       (λ (e : same_lane q.lane p.lane ≡ false). and_right hu (same_lane q.lane p.lane) e)
       (cases_Bool (same_lane q.lane p.lane)))
-      (λ (u : hu ≡ false). left-false hu (same_lane q.lane p.lane) u)
+      (λ (u : hu ≡ false). and_left hu (same_lane q.lane p.lane) u)
       (cases_Bool hu)
 
   not-moved : (l : Lane) → (hu && same_lane l p.lane) ≡ false → (p.is_open && same_lane l p.lane) ≡ false
   not-moved l e = ⊎_elim
       (λ (o : p.is_open ≡ true). and_right p.is_open (same_lane l p.lane) (ap (λ (b : Bool). b && same_lane l p.lane) (sym (up_has o)) ∙ e))
-      (λ (o : p.is_open ≡ false). left-false p.is_open (same_lane l p.lane) o)
+      (λ (o : p.is_open ≡ false). and_left p.is_open (same_lane l p.lane) o)
       (cases_Bool p.is_open)
 
   not-moved-down : (l : Lane) → (hd && same_lane l q.lane) ≡ false → (q.is_open && same_lane l q.lane) ≡ false
   not-moved-down l e = ⊎_elim
       (λ (o : q.is_open ≡ true). and_right q.is_open (same_lane l q.lane) (ap (λ (b : Bool). b && same_lane l q.lane) (sym (down_has o)) ∙ e))
-      (λ (o : q.is_open ≡ false). left-false q.is_open (same_lane l q.lane) o)
+      (λ (o : q.is_open ≡ false). and_left q.is_open (same_lane l q.lane) o)
       (cases_Bool q.is_open)
 
   pub down-at : (p' : Port) → q.is_open ≡ true → moved (ports_came hu hd p q f) p p' q.lane ≡ point q.made false
   down-at p' o =
       cond-false (p.is_open && same_lane q.lane p.lane) (port_point p') _ (not-moved q.lane (not-up o))
       ∙ cond-false (hu && same_lane q.lane p.lane) (port_point p) _ (not-up o)
-      ∙ cond-true (hd && same_lane q.lane q.lane) (port_point q) _ (both-true hd (same_lane q.lane q.lane) (down_has o) (same_lane-self q.lane))
+      ∙ cond-true (hd && same_lane q.lane q.lane) (port_point q) _ (and_from hd (same_lane q.lane q.lane) (down_has o) (same_lane-self q.lane))
       ∙ ap (λ (b : Bool). point q.made (not b)) o
 
   same-closed : (r : Port) (is : List Item) → r.is_open ≡ false → port_point (port_after is r) ≡ port_point r
   same-closed r is o =
       ap (λ (b : Bool). point (cond b (r.made + length is) r.made) (not (b && all_go_on is))) o ∙ ap (λ (b : Bool). point r.made (not b)) (sym o)
-
-  and-both : (a b : Bool) → (a && b) ≡ true → (a ≡ true) × (b ≡ true)
-  and-both true true e = (refl, refl)
-  and-both true false e = (refl, e)
-  and-both false b e = (e, absurd (both_ways false refl e))
 
   -- how far each lane has come once both ports were given items
   pub came-after : (is js : List Item) (l : Lane) → ports_came hu hd (port_after is p) (port_after js q) f l
@@ -205,19 +183,19 @@ module _ (hu hd : Bool) (p q f : Port) (up_has : p.is_open ≡ true → hu ≡ t
       let q' = port_after js q in
       ⊎_elim
       (λ (u : (hu && same_lane l p.lane) ≡ true).
-      let us = and-both hu (same_lane l p.lane) u in
+      let us = and_parts hu (same_lane l p.lane) u in
       let none : (q.is_open && same_lane l q.lane) ≡ false = ⊎_elim
       (λ (e : same_lane l q.lane ≡ true). ⊎_elim
       (λ (o : q.is_open ≡ true). absurd (not-both l us.0 (down_has o) us.1 e))
-      (λ (o : q.is_open ≡ false). left-false q.is_open (same_lane l q.lane) o)
+      (λ (o : q.is_open ≡ false). and_left q.is_open (same_lane l q.lane) o)
       (cases_Bool q.is_open))
       (λ (e : same_lane l q.lane ≡ false). and_right q.is_open (same_lane l q.lane) e)
       (cases_Bool (same_lane l q.lane)) in
       cond-true (hu && same_lane l p.lane) (port_point p') _ u
       ∙ ⊎_elim
-      (λ (o : p.is_open ≡ true). sym (cond-true (p.is_open && same_lane l p.lane) (port_point p') (came l) (both-true p.is_open (same_lane l p.lane) o us.1)))
+      (λ (o : p.is_open ≡ true). sym (cond-true (p.is_open && same_lane l p.lane) (port_point p') (came l) (and_from p.is_open (same_lane l p.lane) o us.1)))
       (λ (o : p.is_open ≡ false). same-closed p is o ∙ sym (cond-true (hu && same_lane l p.lane) (port_point p) _ u)
-      ∙ sym (cond-false (p.is_open && same_lane l p.lane) (port_point p') (came l) (left-false p.is_open (same_lane l p.lane) o)))
+      ∙ sym (cond-false (p.is_open && same_lane l p.lane) (port_point p') (came l) (and_left p.is_open (same_lane l p.lane) o)))
       (cases_Bool p.is_open)
       ∙ sym (cond-false (q.is_open && same_lane l q.lane) (port_point q') (moved came p p' l) none))
       (λ (u : (hu && same_lane l p.lane) ≡ false).
@@ -225,13 +203,13 @@ module _ (hu hd : Bool) (p q f : Port) (up_has : p.is_open ≡ true → hu ≡ t
       cond-false (hu && same_lane l p.lane) (port_point p') _ u
       ∙ ⊎_elim
       (λ (d : (hd && same_lane l q.lane) ≡ true).
-      let ds = and-both hd (same_lane l q.lane) d in
+      let ds = and_parts hd (same_lane l q.lane) d in
       cond-true (hd && same_lane l q.lane) (port_point q') _ d
       ∙ ⊎_elim
-      (λ (o : q.is_open ≡ true). sym (cond-true (q.is_open && same_lane l q.lane) (port_point q') (moved came p p' l) (both-true q.is_open (same_lane l q.lane) o ds.1)))
+      (λ (o : q.is_open ≡ true). sym (cond-true (q.is_open && same_lane l q.lane) (port_point q') (moved came p p' l) (and_from q.is_open (same_lane l q.lane) o ds.1)))
       (λ (o : q.is_open ≡ false). same-closed q js o ∙ sym (cond-true (hd && same_lane l q.lane) (port_point q) _ d)
       ∙ sym (cond-false (hu && same_lane l p.lane) (port_point p) _ u) ∙ sym still
-      ∙ sym (cond-false (q.is_open && same_lane l q.lane) (port_point q') (moved came p p' l) (left-false q.is_open (same_lane l q.lane) o)))
+      ∙ sym (cond-false (q.is_open && same_lane l q.lane) (port_point q') (moved came p p' l) (and_left q.is_open (same_lane l q.lane) o)))
       (cases_Bool q.is_open))
       (λ (d : (hd && same_lane l q.lane) ≡ false).
       cond-false (hd && same_lane l q.lane) (port_point q') _ d
@@ -293,7 +271,7 @@ module _ (hu hd : Bool) (p q f : Port) (has : f.is_open ≡ true → hu ≡ true
   flag-came g same =
       cond-false (hu && same_lane f.lane p.lane) (port_point p) _ here-up
       ∙ cond-false (hd && same_lane f.lane q.lane) (port_point q) _ here-down
-      ∙ cond-true (hu && same_lane f.lane g.lane) (port_point g) nowhere (both-true hu (same_lane f.lane g.lane) (has goes) (ap (λ (m : Lane). same_lane f.lane m) same ∙ same_lane-self f.lane))
+      ∙ cond-true (hu && same_lane f.lane g.lane) (port_point g) nowhere (and_from hu (same_lane f.lane g.lane) (has goes) (ap (λ (m : Lane). same_lane f.lane m) same ∙ same_lane-self f.lane))
 
   flag-else : (g : Port) → g.lane ≡ f.lane → (l : Lane) → same_lane l f.lane ≡ false → ports_came hu hd p q g l ≡ ports_came hu hd p q f l
   flag-else g same l e = ap (λ (t : Point). cond (hu && same_lane l p.lane) (port_point p) (cond (hd && same_lane l q.lane) (port_point q) t))
@@ -314,12 +292,7 @@ module _ (hu hd : Bool) (p q f : Port) (has : f.is_open ≡ true → hu ≡ true
   flag-here Discarded puts n = absurd (both_ways (has_stopped a.stopped f.lane) n (ap (λ (s : StopsView). has_stopped s f.lane) puts.stopped ∙ puts.discarded.0 refl))
 
   flag-writes : ports_write hu hd p.lane q.lane f.lane f.lane ≡ true
-  flag-writes = or-three (hu && same_lane f.lane p.lane) (hd && same_lane f.lane q.lane) (hu && same_lane f.lane f.lane) (both-true hu (same_lane f.lane f.lane) (has goes) (same_lane-self f.lane))
-    where
-      or-three : (a b c : Bool) → c ≡ true → (a || (b || c)) ≡ true
-      or-three true b c e = refl
-      or-three false true c e = refl
-      or-three false false c e = e
+  flag-writes = or_right (hu && same_lane f.lane p.lane) _ (or_right (hd && same_lane f.lane q.lane) (hu && same_lane f.lane f.lane) (and_from hu (same_lane f.lane f.lane) (has goes) (same_lane-self f.lane)))
 
   -- A flag is handed on, or its lane stops.
   pub flag-put : (answer : Added) → Puts b flag answer a → Makes world (ports_write hu hd p.lane q.lane f.lane) (ports_came hu hd p q f) (ports_came hu hd p q (flag_port_after answer f)) b a

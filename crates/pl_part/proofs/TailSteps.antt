@@ -96,19 +96,9 @@ module _ (world : World) (events : List Event) (t : TailView) (h : TailHoldsWith
   }
 
   counted-over : is_over t.standing ≡ true → t.taken + 1 ≤ MAX_ITEMS → Held (counted Data t)
-  counted-over over small = record {
-    own = h.own;
-    few = h.few;
-    taken = λ o. absurd (both_ways (is_over t.standing) (ap is_over o) over);
-    ended = h.ended;
-    failed = h.failed;
-    may = h.may;
-    flags = h.flags;
-    flags_most = h.flags_most;
-    flags_all = h.flags_all;
-    few_taken = small;
-    few_flags = h.few_flags;
-  }
+  counted-over over small =
+      let taken : t.standing ≡ stands.Open → (t.taken + 1 ≤ length events) × (t.events ≡ take (t.taken + 1) events) = λ o. absurd (both_ways (is_over t.standing) (ap is_over o) over) in
+      assumption (h, taken)
 
   taken-open : t.standing ≡ stands.Open → (i : Item) → Fits events t.taken i → MayCome world i → (answer : Took) (t' : TailView) → RecordsItem (counted Data t) i answer t' → Held t'
   taken-open live (item.Event x) fits may took.Ran t' r = subst (λ (z : TailView). Held z) (sym r.0) (recorded live x fits t'.room)
@@ -124,19 +114,7 @@ module _ (world : World) (events : List Event) (t : TailView) (h : TailHoldsWith
   -- a flag more was taken, and added or not
   flag-counted : t.flags_taken < 2 ^ 32 → (flags : List Bool) (stopped : Bool) (room : ℕ) → Alternate 0 flags → length flags ≤ t.flags_taken + 1
       → (has_failed t.standing ≡ false → stopped ≡ false → length flags ≡ t.flags_taken + 1) → Held (record (counted Flags t) { flags = flags; flags_stopped = stopped; flags_room = room })
-  flag-counted small flags stopped room alternate most all = record {
-    own = h.own;
-    few = h.few;
-    taken = h.taken;
-    ended = h.ended;
-    failed = h.failed;
-    may = h.may;
-    flags = alternate;
-    flags_most = most;
-    flags_all = all;
-    few_taken = h.few_taken;
-    few_flags = omega (arith, small);
-  }
+  flag-counted small flags stopped room alternate most all = let few_flags : t.flags_taken + 1 ≤ 2 ^ 32 = omega (arith, small) in assumption (h, few_flags)
 
   flag-lost : (has_failed t.standing ≡ false → t.flags_stopped ≡ false → ⊥) → t.flags_taken < 2 ^ 32 → Held (counted Flags t)
   flag-lost none small = flag-counted small t.flags t.flags_stopped t.flags_room h.flags (let most = h.flags_most in omega (arith, most)) (λ f s. absurd (none f s))

@@ -8,8 +8,9 @@ use Rattle.pl_event.specs.Meaning.{Meaning}
 use Rattle.pl_event.specs.Worlds.{World}
 use Rattle.pl_context.specs.declared.standing.Took.{Took}
 use Rattle.pl_context.specs.OutputsViews.{OutputsView}
-use Rattle.pl_context.specs.Stops.{HasPlaces, AreAmong}
+use Rattle.pl_context.specs.Stops.{HasPlaces}
 use Rattle.pl_flow.specs.Flows.{IsGood}
+use Rattle.pl_flow.specs.LanesViews.{KeepsPlaces}
 use Rattle.pl_flow.specs.Makes.{Makes}
 use Rattle.pl_head.specs.HeadStand.{HeadView}
 use Rattle.pl_head.specs.Transports.{TransportState}
@@ -33,7 +34,7 @@ pub record HeadGiven {T : Type 0} (state : T → TransportState) (h : HeadView T
   pub taken : h'.taken ≡ h.taken
   pub holds : (world : World) → HeadHolds state world h → HeadHolds state world h'
   pub made : (world : World) → HeadHolds state world h → Makes world (head_writes h) (head_came h) (head_came h') before after
-  pub placed : (lanes : List Lane) → AreAmong (head_lanes h) lanes → HasPlaces before.stopped lanes → HasPlaces after.stopped lanes
+  pub placed : KeepsPlaces (head_lanes h) before.stopped after.stopped
   -- what came on the list was made
   pub more : head_done h + length after.items ≤ head_done h' + length before.items
 
@@ -44,7 +45,7 @@ module _ {S T : Type 0} (meaning : S → Meaning) where
     pub same : SamePart p p'
     pub writes : (l : Lane) → part_writes meaning p' l ≡ part_writes meaning p l
     pub others : (l : Lane) → writes_at meaning p hop l ≡ false → part_came meaning p' l ≡ part_came meaning p l
-    pub placed : (lanes : List Lane) → AreAmong (part_lanes p) lanes → HasPlaces before.stopped lanes → HasPlaces after.stopped lanes
+    pub placed : KeepsPlaces (part_lanes p) before.stopped after.stopped
     pub longer : length before.items ≤ length after.items
     pub few : part_done p' < 2 ^ 50
 

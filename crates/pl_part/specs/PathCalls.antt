@@ -11,8 +11,9 @@ use Rattle.pl_context.specs.declared.standing.Took.{Took}
 use Rattle.pl_context.specs.Standings.{is_over}
 use Rattle.pl_context.specs.ContextViews.{ContextView}
 use Rattle.pl_context.specs.OutputsViews.{OutputsView}
-use Rattle.pl_context.specs.Stops.{HasPlaces, AreAmong}
+use Rattle.pl_context.specs.Stops.{HasPlaces}
 use Rattle.pl_flow.specs.Flows.{IsGood}
+use Rattle.pl_flow.specs.LanesViews.{KeepsPlaces}
 use Rattle.pl_flow.specs.Makes.{Makes}
 use Rattle.pl_part.specs.Paths.{PathPartView, PathHolds, PathTakes, PathRefuses, SamePath, context_at, writer_hop, enters_path, path_taken, path_lanes, path_writes, path_writes_at, path_came}
 use Rattle.pl_part.specs.Counts.{path_done}
@@ -31,7 +32,7 @@ module _ {S : Type 0} (meaning : S → Meaning) where
   pub record PathPuts (p : PathPartView S) (before : OutputsView) (p' : PathPartView S) (after : OutputsView) : Type 0 where
     pub same : SamePath p p'
     pub writes : (l : Lane) → path_writes meaning p' l ≡ path_writes meaning p l
-    pub placed : (lanes : List Lane) → AreAmong (path_lanes p) lanes → HasPlaces before.stopped lanes → HasPlaces after.stopped lanes
+    pub placed : KeepsPlaces (path_lanes p) before.stopped after.stopped
 
   module _ (stands_after : S → List Event → Type 0) where
     -- A node has taken an envelope. In each world where the nodes held, and where the envelope may stand, they hold again, and

@@ -1,14 +1,14 @@
 //! A lane that is refused.
 
 ghost use Rattle.std.specs.Prelude.{◌≡◌, ◌+◌, ◌≤◌, length};
-ghost use Rattle.pl_event.specs.declared.envelopes.Lane.{Lane};
 ghost use Rattle.pl_event.specs.declared.envelopes.Kind.{Kind};
 ghost use Rattle.pl_event.specs.declared.envelopes.Kind.TheVariants as kind;
-ghost use Rattle.std.specs.Prelude.{List, true};
+ghost use Rattle.std.specs.Prelude.{true};
 ghost use Rattle.pl_context.specs.Standings.{is_over};
-ghost use Rattle.pl_context.specs.Stops.{HasPlaces, AreAmong};
+ghost use Rattle.pl_context.specs.Stops.{HasPlaces};
 ghost use Rattle.pl_context.specs.ContextViews.{kind_taken};
 ghost use Rattle.pl_event.specs.Worlds.{World};
+ghost use Rattle.pl_flow.specs.LanesViews.{KeepsPlaces};
 ghost use Rattle.pl_flow.specs.Makes.{Makes};
 ghost use Rattle.pl_part.specs.ContextHolds.{ContextHolds, context_writes, context_came, context_lanes};
 ghost use Rattle.pl_part.specs.Taking.{ContextRefused};
@@ -30,7 +30,7 @@ pub fn refuse_at<S: Stage>(context: &mut Context<S>, lane: Lane, work: &mut Outp
     ensures lanes { context_lanes context.new ≡ context_lanes context.old }
     ensures over { lane.kind ≡ kind.Data → is_over context.new.standing ≡ true }
     ensures made { (world : World) → world.refuses ≡ true → ContextHolds world S.meaning S.stands_after context.old → Makes world (context_writes (S.meaning context.old.stage).direction context.old) (context_came (S.meaning context.old.stage).direction context.old) (context_came (S.meaning context.old.stage).direction context.new) work.old work.new }
-    ensures placed { (lanes : List Lane) → AreAmong (context_lanes context.old) lanes → HasPlaces work.old.stopped lanes → HasPlaces work.new.stopped lanes }
+    ensures placed { KeepsPlaces (context_lanes context.old) work.old.stopped work.new.stopped }
     ensures more { context_done context.old + length work.new.items ≤ context_done context.new + length work.old.items }
 {
     match lane.kind {

@@ -1,6 +1,6 @@
 //! The nodes of a channel that are on one executor, but its head.
 
-ghost use Rattle.std.specs.Prelude.{◌≡◌, ◌+◌, ◌<◌, ◌≤◌, ◌^◌, ◌++◌, ◌∷◌, [], List, All, IfOk, IfSome, IfNone, Some, None, map, replicate, is_some, cond, length, get_or, true, false, ◌==◌, OnOk, not};
+ghost use Rattle.std.specs.Prelude.{◌≡◌, ◌+◌, ◌<◌, ◌≤◌, ◌^◌, ◌++◌, ◌∷◌, [], All, IfOk, IfSome, IfNone, Some, None, map, replicate, is_some, cond, length, get_or, true, false, ◌==◌, OnOk, not};
 ghost use Rattle.std.specs.List.{list_all};
 ghost use Rattle.std.specs.Option.{option_map_or};
 ghost use Rattle.pl_event.specs.declared.envelopes.Lane.{Lane};
@@ -10,9 +10,10 @@ ghost use Rattle.pl_event.specs.Worlds.{World};
 ghost use Rattle.pl_context.specs.declared.contexts.TheConstants.{MAX_HANDLERS};
 ghost use Rattle.pl_context.specs.Standings.{is_over};
 ghost use Rattle.pl_context.specs.ContextViews.{ContextView};
-ghost use Rattle.pl_context.specs.Stops.{HasPlaces, AreAmong};
+ghost use Rattle.pl_context.specs.Stops.{HasPlaces};
 ghost use Rattle.pl_context.specs.TailViews.{TailView, new_tail};
 ghost use Rattle.pl_flow.specs.Flows.{IsGood};
+ghost use Rattle.pl_flow.specs.LanesViews.{KeepsPlaces};
 ghost use Rattle.pl_flow.specs.Makes.{Makes};
 ghost use Rattle.pl_part.specs.NewParts.{ArePlannedWith, AreNewSlots, whole_slots};
 ghost use Rattle.pl_part.specs.Counts.{path_done};
@@ -158,7 +159,7 @@ impl<S: Stage> PathPart<S> {
         ensures node { (world : World) → PathHolds world S.meaning S.stands_after self.old → IsGood world envelope
             → Makes world (path_writes_at S.meaning self.old envelope.lane.hop) (path_came S.meaning self.old) (path_came S.meaning self.new) work.old work.new }
         ensures others { (l : Lane) → path_writes_at S.meaning self.old envelope.lane.hop l ≡ false → path_came S.meaning self.new l ≡ path_came S.meaning self.old l }
-        ensures placed { (lanes : List Lane) → AreAmong (path_lanes self.old) lanes → HasPlaces work.old.stopped lanes → HasPlaces work.new.stopped lanes }
+        ensures placed { KeepsPlaces (path_lanes self.old) work.old.stopped work.new.stopped }
         ensures more { path_done self.old + length work.new.items + 1 ≤ path_done self.new + length work.old.items }
     {
         if envelope.lane.hop as usize == self.tail_hop {
@@ -183,7 +184,7 @@ impl<S: Stage> PathPart<S> {
         ensures node { (world : World) → world.refuses ≡ true → PathHolds world S.meaning S.stands_after self.old
             → Makes world (path_writes_at S.meaning self.old (writer_hop self.old lane.hop)) (path_came S.meaning self.old) (path_came S.meaning self.new) work.old work.new }
         ensures others { (l : Lane) → path_writes_at S.meaning self.old (writer_hop self.old lane.hop) l ≡ false → path_came S.meaning self.new l ≡ path_came S.meaning self.old l }
-        ensures placed { (lanes : List Lane) → AreAmong (path_lanes self.old) lanes → HasPlaces work.old.stopped lanes → HasPlaces work.new.stopped lanes }
+        ensures placed { KeepsPlaces (path_lanes self.old) work.old.stopped work.new.stopped }
         ensures more { path_done self.old + length work.new.items ≤ path_done self.new + length work.old.items }
     {
         let hop = self.writer(lane.hop as usize);

@@ -1,5 +1,5 @@
 -- The part of the tests: what it is made of, and that it stays ready.
-use Rattle.std.proofs.Common.{◌≡◌, ℕ, zero, suc, ◌+◌, ◌<◌, ◌≤◌, ◌^◌, Bool, true, false, ◌&&◌, cond, List, [], ◌∷◌, ◌++◌, length, map, replicate, get_or, slice_get, Option, Some, None, Result, Ok, Err, IfOk, refl, ap, sym, ◌∙◌, subst, ⊎_elim, arith}
+use Rattle.std.proofs.Common.{◌≡◌, ℕ, zero, suc, ◌+◌, ◌<◌, ◌≤◌, ◌^◌, Bool, true, false, ◌&&◌, List, [], ◌∷◌, ◌++◌, length, map, replicate, get_or, slice_get, Option, Some, None, Result, Ok, Err, IfOk, refl, ap, sym, ◌∙◌, subst, ⊎_elim, arith}
 use Rattle.std.specs.Prelude.{◌==◌, nat_lt, is_some, if◌then◌else◌}
 use Rattle.std.specs.Option.{option_map_or}
 use Rattle.std.proofs.lemmas.Bool.{cond-false, cases_Bool, both_ways, ne_eqb, ltb-true, ltb-false}
@@ -18,10 +18,10 @@ use Rattle.pl_event.specs.Meaning.{up_of, down_of}
 use Rattle.pl_event.specs.Worlds.{World}
 use Rattle.pl_context.specs.ContextViews.{ContextView, kind_taken, taken_of}
 use Rattle.pl_context.specs.OutputsViews.{OutputsView}
-use Rattle.pl_context.specs.Stops.{StopsView, HasPlaces, AreAmong, no_stops, has_stopped}
+use Rattle.pl_context.specs.Stops.{StopsView, HasPlaces, no_stops, has_stopped}
 use Rattle.pl_context.specs.TailViews.{TailView, new_tail, kind_taken as tail_kind_taken, taken_of as tail_taken_of}
 use Rattle.pl_context.proofs.Places.{places-start}
-use Rattle.pl_flow.specs.Flows.{point, nowhere, on, IsGood}
+use Rattle.pl_flow.specs.Flows.{point, nowhere, on}
 use Rattle.pl_flow.specs.Makes.{Makes}
 use Rattle.pl_head.specs.declared.inputs.ReadPlan.{ReadPlan}
 use Rattle.pl_head.specs.Transports.{MemoryTransportView, memory_state}
@@ -30,7 +30,7 @@ use Rattle.pl_part.specs.ContextHolds.{context_writes, context_came}
 use Rattle.pl_part.specs.HeadHolds.{HeadHolds, head_writes, head_came, head_taken}
 use Rattle.pl_part.specs.NewParts.{IsPlannedAt, ArePlannedWith, AreNewSlots}
 use Rattle.pl_part.specs.Paths.{writer_hop, path_taken, path_lanes, path_writes, path_came}
-use Rattle.pl_part.specs.Parts.{ChannelPartView, PartHolds, SamePart, head_hop, has_entered, part_taken, part_lanes, part_writes, writes_at, part_came}
+use Rattle.pl_part.specs.Parts.{ChannelPartView, PartHolds, SamePart, head_hop, has_entered, part_taken, part_writes, writes_at, part_came}
 use Rattle.pl_context.specs.declared.standing.Took.{Took}
 use Rattle.pl_part.specs.PartCalls.{IsNextFor, NodePuts, Taken, Given}
 use Rattle.pl_part.proofs.NewHeads.{IsFresh, new-holds, new-came, new-taken}

@@ -9,6 +9,7 @@ use Rattle.pl_event.specs.declared.envelopes.Lane.{Lane}
 use Rattle.pl_event.proofs.Lists.{head-is, tail-is}
 use Rattle.pl_queue.specs.declared.views.SenderView.{SenderView}
 use Rattle.pl_queue.specs.declared.mailbox.OpenRefusal.TheVariants.{Limit}
+use Rattle.pl_queue.specs.Ends.{MailboxEnds}
 use Rattle.pl_queue.specs.Left.{lanes_of_senders}
 use Rattle.pl_queue.specs.Limits.{is_mailbox_within, opening_fault}
 use Rattle.pl_queue.specs.Room.{IsCounted}
@@ -56,18 +57,18 @@ pub few-lanes : (lanes : List (List Lane)) (capacity : ℕ) → opening_fault la
 few-lanes lanes capacity none = leb-true (length (lanes_of_senders lanes)) 8192 (and_parts _ _ (unfaulted lanes capacity none)).1
 
 -- each seat that was made is the post's
-pub all-made : {M S : Type 0} (is_sender : M → S → Type 0) (p : PostView M) (made : List (PostSeatView S)) (senders : List S) (seats : List SendSeatView)
-    → map (λ s. s.sender) made ≡ senders → map (λ s. s.seat) made ≡ seats → Each (is_sender p.mailbox) senders → Each (λ s. s ≡ new_send_seat p.name s.number) seats
-    → Each (λ s. IsSeatOf is_sender p s × (s.seat ≡ new_send_seat p.name s.seat.number)) made
-all-made is_sender p [] senders seats a b each new = tt
-all-made is_sender p (m ∷ ms) [] seats a b each new = absurd (let n = ap length a in omega (arith, n))
-all-made is_sender p (m ∷ ms) (s ∷ ss) [] a b each new = absurd (let n = ap length b in omega (arith, n))
-all-made {S = S} is_sender p (m ∷ ms) (s ∷ ss) (t ∷ ts) a b each new =
+pub all-made : {M S T : Type 0} (ends : MailboxEnds M S T) (p : PostView M) (made : List (PostSeatView S)) (senders : List S) (seats : List SendSeatView)
+    → map (λ s. s.sender) made ≡ senders → map (λ s. s.seat) made ≡ seats → Each (ends.is_sender p.mailbox) senders → Each (λ s. s ≡ new_send_seat p.name s.number) seats
+    → Each (λ s. IsSeatOf ends p s × (s.seat ≡ new_send_seat p.name s.seat.number)) made
+all-made ends p [] senders seats a b each new = tt
+all-made ends p (m ∷ ms) [] seats a b each new = absurd (let n = ap length a in omega (arith, n))
+all-made ends p (m ∷ ms) (s ∷ ss) [] a b each new = absurd (let n = ap length b in omega (arith, n))
+all-made {S = S} ends p (m ∷ ms) (s ∷ ss) (t ∷ ts) a b each new =
     let sender = head-is m.sender s (map (λ (z : PostSeatView S). z.sender) ms) ss a in
     let seat = head-is m.seat t (map (λ (z : PostSeatView S). z.seat) ms) ts b in
     let is : m.seat ≡ new_send_seat p.name m.seat.number = subst (λ z. z ≡ new_send_seat p.name z.number) (sym seat) new.0 in (
-      (record { sender = subst (is_sender p.mailbox) (sym sender) each.0; seat = ap (λ (z : SendSeatView). z.name) is }, is),
-      all-made is_sender p ms ss ts (tail-is m.sender s (map (λ (z : PostSeatView S). z.sender) ms) ss a) (tail-is m.seat t (map (λ (z : PostSeatView S). z.seat) ms) ts b) each.1 new.1,
+      (record { sender = subst (ends.is_sender p.mailbox) (sym sender) each.0; seat = ap (λ (z : SendSeatView). z.name) is }, is),
+      all-made ends p ms ss ts (tail-is m.sender s (map (λ (z : PostSeatView S). z.sender) ms) ss a) (tail-is m.seat t (map (λ (z : PostSeatView S). z.seat) ms) ts b) each.1 new.1,
     )
 
 -- what the seats have sent is what their senders have

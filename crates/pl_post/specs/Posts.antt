@@ -6,6 +6,7 @@ use Rattle.pl_queue.specs.declared.limits.TheConstants.{MAX_LANES}
 use Rattle.pl_queue.specs.declared.views.SenderView.{SenderView}
 use Rattle.pl_queue.specs.declared.views.TakeCount.{TakeCount}
 use Rattle.pl_queue.specs.declared.views.TakerView.{TakerView}
+use Rattle.pl_queue.specs.Ends.{MailboxEnds}
 use Rattle.pl_queue.specs.Room.{IsCounted}
 use Rattle.pl_queue.specs.Rule.{SenderSees, WasOnce, Each}
 use Rattle.pl_words.specs.declared.admission.Refused.TheVariants as refused
@@ -33,16 +34,15 @@ pub record PostOwnerView (T : Type 0) : Type 0 where
   pub owner : OwnerSeatView
   pub taken : ℕ
 
-module _ {M S : Type 0} (is_sender : M → S → Type 0) where
+module _ {M S T : Type 0} (ends : MailboxEnds M S T) where
   -- the post made this seat
   pub record IsSeatOf (p : PostView M) (s : PostSeatView S) : Type 0 where
-    pub sender : is_sender p.mailbox s.sender
+    pub sender : ends.is_sender p.mailbox s.sender
     pub seat : s.seat.name ≡ p.name
 
-module _ {M T : Type 0} (is_taker : M → T → Type 0) where
   -- the post made this owner
   pub record IsOwnerOf (p : PostView M) (o : PostOwnerView T) : Type 0 where
-    pub taker : is_taker p.mailbox o.taker
+    pub taker : ends.is_taker p.mailbox o.taker
     pub owner : o.owner.name ≡ p.name
 
 -- ---- what holds between two calls

@@ -17,7 +17,7 @@ pub(crate) fn paired<W: Named, M: Mailbox<W>>(
     seats: Vec<SendSeat>,
 ) -> Result<Vec<PostSeat<W, M>>, AllocError>
     requires count { length seats.items ≡ length senders.items }
-    requires fresh { Each (λ s. IsCounted (M.sends_of s) × ((M.sends_of s).pushes ≡ 0)) senders.items }
+    requires fresh { Each (λ s. IsCounted (M.ends.sends_of s) × ((M.ends.sends_of s).pushes ≡ 0)) senders.items }
     requires unused { Each (λ s. s.kept ≡ 0) seats.items }
     ensures senders { IfOk result (λ paired. map (λ s. s.sender) paired.items ≡ senders.items) }
     ensures seats { IfOk result (λ paired. map (λ s. s.seat) paired.items ≡ seats.items) }

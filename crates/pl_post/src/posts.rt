@@ -52,13 +52,13 @@ impl<W: Named, M: Mailbox<W>> Model for PostSeat<W, M> {
 
     ghost view = { λ s. record { sender = s.sender; seat = s.seat } };
 
-    ghost invariant = { λ s. IsPostSeat (M.sends_of s.sender) s.seat };
+    ghost invariant = { λ s. IsPostSeat (M.ends.sends_of s.sender) s.seat };
 }
 
 impl<W: Named, M: Mailbox<W>> PostSeat<W, M> {
     /// A seat that has kept an admission for each envelope that its sender has pushed.
     pub(crate) fn new(sender: M::Sender, seat: SendSeat) -> Self
-        requires { IsPostSeat (M.sends_of sender) seat }
+        requires { IsPostSeat (M.ends.sends_of sender) seat }
         ensures { result ≡ record { sender = sender; seat = seat } }
     {
         PostSeat { sender, seat }
@@ -81,7 +81,7 @@ impl<W: Named, M: Mailbox<W>> Model for PostOwner<W, M> {
 
     ghost view = { λ o. record { taker = o.taker; owner = o.owner; taken = o.taken } };
 
-    ghost invariant = { λ o. IsOwner (M.takes_of o.taker) o.owner o.taken };
+    ghost invariant = { λ o. IsOwner (M.ends.takes_of o.taker) o.owner o.taken };
 }
 
 /// Why an envelope was not sent, and the same envelope back. Nothing was sent then, and the seat counts as many as before.
@@ -109,10 +109,10 @@ impl<W: Named, M: Mailbox<W> + Drop> Post<W, M> {
         requires some { 0 < vec_len lanes }
         requires apart { Apart (lanes_of_senders (map (λ v. v.items) lanes.items)) }
         ensures refused { IfErr result (λ refusal. refusal ≡ unwrap_or (opening_fault (map (λ v. v.items) lanes.items) capacity) Memory) }
-        ensures opened { IfOk result (λ r. (opening_fault (map (λ v. v.items) lanes.items) capacity ≡ None) × (M.capacity_of r.0.mailbox ≡ capacity)) }
-        ensures seats { IfOk result (λ r. Each (λ s. IsSeatOf M.is_sender r.0 s × (s.seat ≡ new_send_seat r.0.name s.seat.number)) r.1.items) }
-        ensures sends { IfOk result (λ r. map (λ s. M.sends_of s.sender) r.1.items ≡ map (λ v. fresh_sends v.items) lanes.items) }
-        ensures owner { IfOk result (λ r. IsOwnerOf M.is_taker r.0 r.2 × (r.2.owner ≡ new_owner_seat r.0.name) × (r.2.taken ≡ 0) × (M.takes_of r.2.taker ≡ fresh_takes (lanes_of_senders (map (λ v. v.items) lanes.items)))) }
+        ensures opened { IfOk result (λ r. (opening_fault (map (λ v. v.items) lanes.items) capacity ≡ None) × (M.ends.capacity_of r.0.mailbox ≡ capacity)) }
+        ensures seats { IfOk result (λ r. Each (λ s. IsSeatOf M.ends r.0 s × (s.seat ≡ new_send_seat r.0.name s.seat.number)) r.1.items) }
+        ensures sends { IfOk result (λ r. map (λ s. M.ends.sends_of s.sender) r.1.items ≡ map (λ v. fresh_sends v.items) lanes.items) }
+        ensures owner { IfOk result (λ r. IsOwnerOf M.ends r.0 r.2 × (r.2.owner ≡ new_owner_seat r.0.name) × (r.2.taken ≡ 0) × (M.ends.takes_of r.2.taker ≡ fresh_takes (lanes_of_senders (map (λ v. v.items) lanes.items)))) }
     {
         let (mailbox, senders, taker) = M::open(alloc, lanes, capacity)?;
         let (admission, seats, owner) = Admission::new(alloc, senders.len() as u16)?;
@@ -143,14 +143,14 @@ impl<W: Named, M: Mailbox<W> + Drop> Post<W, M> {
         seat: &mut PostSeat<W, M>,
         envelope: Envelope,
     ) -> Result<(), Unsent>
-        requires seat { IsSeatOf M.is_sender self.now seat.old }
-        requires next { sent_of envelope.lane (M.sends_of seat.old.sender).send_counts ≡ Some (envelope.number, false) }
+        requires seat { IsSeatOf M.ends self.now seat.old }
+        requires next { sent_of envelope.lane (M.ends.sends_of seat.old.sender).send_counts ≡ Some (envelope.number, false) }
         requires small { envelope.number < 2 ^ 32 }
         requires fits { FitsWorld W.world envelope }
-        ensures seat { IsSeatOf M.is_sender self.now seat.new }
+        ensures seat { IsSeatOf M.ends self.now seat.new }
         ensures sent { MatchResult result
-            (λ _. (M.sends_of seat.new.sender ≡ after_offer (M.sends_of seat.old.sender) envelope) × Admits seat.old.seat seat.new.seat)
-            (λ why. (M.sends_of seat.new.sender ≡ M.sends_of seat.old.sender) × Unsends W.world (M.capacity_of self.now.mailbox) (M.sends_of seat.old.sender) seat.old.seat why seat.new.seat) }
+            (λ _. (M.ends.sends_of seat.new.sender ≡ after_offer (M.ends.sends_of seat.old.sender) envelope) × Admits seat.old.seat seat.new.seat)
+            (λ why. (M.ends.sends_of seat.new.sender ≡ M.ends.sends_of seat.old.sender) × Unsends W.world (M.ends.capacity_of self.now.mailbox) (M.ends.sends_of seat.old.sender) seat.old.seat why seat.new.seat) }
         ensures back { IfErr result (λ why. back_of why ≡ envelope) }
         ensures closed { seat.old.seat.seen ≡ Closed → result ≡ Err (unsent.Closed envelope) }
         ensures spent { seat.old.seat.seen ≢ Closed → seat.old.seat.made ≡ MAX_ADMISSIONS → result ≡ Err (unsent.Spent envelope) }
@@ -174,11 +174,11 @@ impl<W: Named, M: Mailbox<W> + Drop> Post<W, M> {
 
     /// Takes the front of the queue, and counts it. None where there is nothing.
     pub fn take<R: Wait>(&self, rt: &R, owner: &mut PostOwner<W, M>) -> Option<Envelope>
-        requires owner { IsOwnerOf M.is_taker self.now owner.old }
-        ensures owner { IsOwnerOf M.is_taker self.now owner.new × (owner.new.owner ≡ owner.old.owner) }
+        requires owner { IsOwnerOf M.ends self.now owner.old }
+        ensures owner { IsOwnerOf M.ends self.now owner.new × (owner.new.owner ≡ owner.old.owner) }
         ensures taken { MatchOption result
-            ((owner.new.taken ≡ owner.old.taken) × (M.takes_of owner.new.taker ≡ M.takes_of owner.old.taker) × WasOnce 0 (TakerSees W.world (M.takes_of owner.old.taker)))
-            (λ x. (owner.new.taken ≡ owner.old.taken + 1) × (next_of x.lane (M.takes_of owner.old.taker).counts ≡ Some x.number) × (x.number < 2 ^ 32) × FitsWorld W.world x × (M.takes_of owner.new.taker ≡ after_take (M.takes_of owner.old.taker) x)) }
+            ((owner.new.taken ≡ owner.old.taken) × (M.ends.takes_of owner.new.taker ≡ M.ends.takes_of owner.old.taker) × WasOnce 0 (TakerSees W.world (M.ends.takes_of owner.old.taker)))
+            (λ x. (owner.new.taken ≡ owner.old.taken + 1) × (next_of x.lane (M.ends.takes_of owner.old.taker).counts ≡ Some x.number) × (x.number < 2 ^ 32) × FitsWorld W.world x × (M.ends.takes_of owner.new.taker ≡ after_take (M.ends.takes_of owner.old.taker) x)) }
     {
         let envelope = self.mailbox.take::<R>(rt, &mut owner.taker)?;
         owner.taken += 1;
@@ -187,8 +187,8 @@ impl<W: Named, M: Mailbox<W> + Drop> Post<W, M> {
 
     /// Begins to close, by one step. Seats still send; [`Post::finish`] may close from now on.
     pub fn begin_close(&self, owner: &mut PostOwner<W, M>)
-        requires owner { IsOwnerOf M.is_taker self.now owner.old }
-        ensures owner { IsOwnerOf M.is_taker self.now owner.new }
+        requires owner { IsOwnerOf M.ends self.now owner.old }
+        ensures owner { IsOwnerOf M.ends self.now owner.new }
         ensures begun { owner.new ≡ record owner.old { owner = record owner.old.owner { phase = begun owner.old.owner.phase; steps = owner.old.owner.steps + 1 } } }
     {
         self.admission.begin_close(&mut owner.owner);
@@ -199,8 +199,8 @@ impl<W: Named, M: Mailbox<W> + Drop> Post<W, M> {
     ///
     /// Error: `StillOpen` says what the step found. The post stays as open as it was.
     pub fn finish(&self, owner: &mut PostOwner<W, M>) -> Result<(), StillOpen>
-        requires owner { IsOwnerOf M.is_taker self.now owner.old }
-        ensures owner { IsOwnerOf M.is_taker self.now owner.new }
+        requires owner { IsOwnerOf M.ends self.now owner.old }
+        ensures owner { IsOwnerOf M.ends self.now owner.new }
         ensures same { owner.new ≡ record owner.old { owner = owner.new.owner } }
         ensures ok { IfOk result (λ _. Closes owner.old.owner owner.old.taken owner.new.owner) }
         ensures err { IfErr result (λ found. StaysOpen owner.old.owner owner.old.taken found owner.new.owner) }

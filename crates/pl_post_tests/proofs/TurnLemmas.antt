@@ -1,5 +1,5 @@
 -- Seats with the lanes of 64 channels each, as they are opened and as they send.
-use Rattle.std.proofs.Common.{◌≡◌, ◌+◌, ◌*◌, ◌<◌, ◌≤◌, ℕ, zero, suc, Bool, true, false, cond, List, [], ◌∷◌, ◌++◌, Option, Some, map, replicate, set, take, drop, length, get_or, refl, ap, sym, ◌∙◌, subst, ⊎_elim, arith, get_or-set_other, get_or-set_same}
+use Rattle.std.proofs.Common.{◌≡◌, ◌+◌, ◌*◌, ◌<◌, ◌≤◌, ℕ, zero, suc, true, false, cond, List, [], ◌∷◌, ◌++◌, Option, Some, map, replicate, set, take, drop, length, get_or, refl, ap, sym, ◌∙◌, subst, ⊎_elim, arith, get_or-set_other, get_or-set_same}
 use Rattle.std.proofs.Math.Seq.{take-append_seam}
 use Rattle.std.proofs.lemmas.List.{length-set, get_or-replicate}
 use Rattle.std.proofs.lemmas.Bool.{cond-true, cond-false, cases_Bool, cases_eq}
@@ -8,13 +8,13 @@ use Rattle.pl_event.specs.declared.envelopes.Lane.{Lane}
 use Rattle.pl_event.specs.Hops.{data_lane, same_lane}
 use Rattle.pl_event.specs.Worlds.{content_in}
 use Rattle.pl_event.proofs.SameLanes.{same_lane-equal, same_lane-self}
-use Rattle.pl_queue.specs.declared.views.SendCount.{SendCount}
 use Rattle.pl_queue.specs.declared.views.SenderView.{SenderView}
+use Rattle.pl_queue.specs.Ends.{MailboxEnds}
 use Rattle.pl_queue.specs.Left.{Apart, lanes_of_senders}
 use Rattle.pl_queue.specs.Rule.{Each}
-use Rattle.pl_queue.specs.Views.{send_count, sent_of, set_send_count, fresh_send_counts, fresh_sends, after_offer}
+use Rattle.pl_queue.specs.Views.{sent_of, fresh_send_counts, fresh_sends, after_offer}
 use Rattle.pl_queue_tests.specs.Relays.{event, lane_events}
-use Rattle.pl_queue_tests.proofs.RelayLemmas.{event-sent}
+use Rattle.pl_queue_tests.proofs.RelayLemmas.{event-sent, sent_of-other}
 use Rattle.pl_post.specs.Posts.{PostView, PostSeatView, IsSeatOf}
 use Rattle.pl_post_tests.specs.Feeding.{IsNext}
 use Rattle.pl_post_tests.specs.Turns.{lanes_from, lists_from, all_carry, CarriesAll, AreNext, IsInTurn}
@@ -62,19 +62,6 @@ fresh-next first sent s is none = λ turn less.
     ∙ found (0, false) (λ l ms. sent_of l (fresh_send_counts ms)) (λ l m ms. refl) first 64 turn (first + turn) less refl
     ∙ ap (λ n. Some (n, false)) (sym (none turn less))
 
--- a count of another lane stays
-sent_of-other : (m l : Lane) (n : ℕ) (e : Bool) (ss : List SendCount) → same_lane m l ≡ false → sent_of m (set_send_count l n e ss) ≡ sent_of m ss
-sent_of-other m l n e [] h = refl
-sent_of-other m l n e (s ∷ ss) h = ⊎_elim
-    (λ (t : same_lane l s.lane ≡ true).
-    let other : same_lane m s.lane ≡ false = subst (λ k. same_lane m k ≡ false) (same_lane-equal l s.lane t) h in
-    ap (λ b. sent_of m (cond b (send_count s.lane n e ∷ ss) (s ∷ set_send_count l n e ss))) t
-    ∙ cond-false (same_lane m s.lane) (Some (n, e)) (sent_of m ss) other ∙ sym (cond-false (same_lane m s.lane) (Some (s.next, s.ended)) (sent_of m ss) other))
-    (λ (t : same_lane l s.lane ≡ false).
-    ap (λ b. sent_of m (cond b (send_count s.lane n e ∷ ss) (s ∷ set_send_count l n e ss))) t
-    ∙ ap (λ o. cond (same_lane m s.lane) (Some (s.next, s.ended)) o) (sent_of-other m l n e ss h))
-    (cases_Bool (same_lane l s.lane))
-
 -- the lane whose turn it is has had an envelope more
 next-turn : (first turn n : ℕ) (sent : List ℕ) (s t : SenderView) (x : Envelope) → x ≡ event (data_lane (first + turn) 0) n → t ≡ after_offer s x → turn < length sent → n ≡ get_or sent turn 0 → turn < 64
     → AreNext first sent s → AreNext first (set sent turn (n + 1)) t
@@ -121,24 +108,24 @@ pub next-left : {S : Type 0} (sends : S → SenderView) (first : ℕ) (seats : L
     → (first ≤ 192) × (sends x ≡ fresh_sends (lanes_from first 64)) × AreLeft sends (first + 64) xs
 next-left sends first seats x xs is left = after sends first left.count x xs left.all (ap (λ ss. map sends ss) (sym is) ∙ left.fresh)
 
-module _ {M S : Type 0} (is_sender : M → S → Type 0) (sends_of : S → SenderView) where
-  pub opened-turn : (p : PostView M) (s : PostSeatView S) (first : ℕ) → IsSeatOf is_sender p s → first ≤ 192 → sends_of s.sender ≡ fresh_sends (lanes_from first 64) → IsInTurn is_sender sends_of p s first (replicate 64 0)
+module _ {M S T : Type 0} (ends : MailboxEnds M S T) where
+  pub opened-turn : (p : PostView M) (s : PostSeatView S) (first : ℕ) → IsSeatOf ends p s → first ≤ 192 → ends.sends_of s.sender ≡ fresh_sends (lanes_from first 64) → IsInTurn ends p s first (replicate 64 0)
   opened-turn p s first own low is = record {
     seat = own;
     low = low;
     all = refl;
-    next = fresh-next first (replicate 64 0) (sends_of s.sender) is (λ turn less. get_or-replicate 64 turn 0 0 less);
+    next = fresh-next first (replicate 64 0) (ends.sends_of s.sender) is (λ turn less. get_or-replicate 64 turn 0 0 less);
     few = λ turn less. subst (λ n. n ≤ 999) (sym (get_or-replicate 64 turn 0 0 less)) (omega arith);
   }
 
-  pub sent-turn : (p : PostView M) (s t : PostSeatView S) (first turn n : ℕ) (sent : List ℕ) (x : Envelope) → IsInTurn is_sender sends_of p s first sent → IsSeatOf is_sender p t → turn < 64 → n ≡ get_or sent turn 0 → n < 999
-      → x ≡ event (data_lane (first + turn) 0) n → sends_of t.sender ≡ after_offer (sends_of s.sender) x → IsInTurn is_sender sends_of p t first (set sent turn (n + 1))
+  pub sent-turn : (p : PostView M) (s t : PostSeatView S) (first turn n : ℕ) (sent : List ℕ) (x : Envelope) → IsInTurn ends p s first sent → IsSeatOf ends p t → turn < 64 → n ≡ get_or sent turn 0 → n < 999
+      → x ≡ event (data_lane (first + turn) 0) n → ends.sends_of t.sender ≡ after_offer (ends.sends_of s.sender) x → IsInTurn ends p t first (set sent turn (n + 1))
   sent-turn p s t first turn n sent x was own low at small e is =
       let there : turn < length sent = omega (arith, low, was.all) in
       record {
         seat = own;
         low = was.low;
         all = length-set sent turn (n + 1) ∙ was.all;
-        next = next-turn first turn n sent (sends_of s.sender) (sends_of t.sender) x e is there at low was.next;
+        next = next-turn first turn n sent (ends.sends_of s.sender) (ends.sends_of t.sender) x e is there at low was.next;
         few = turn-few turn n sent small was.few there;
       }

@@ -5,6 +5,7 @@ use Rattle.pl_event.specs.declared.envelopes.Lane.{Lane}
 use Rattle.pl_event.specs.Hops.{data_lane}
 use Rattle.pl_event.specs.Worlds.{World, carrying, content_of}
 use Rattle.pl_queue.specs.declared.views.SenderView.{SenderView}
+use Rattle.pl_queue.specs.Ends.{MailboxEnds}
 use Rattle.pl_queue_tests.specs.Relays.{lane_events}
 use Rattle.pl_post.specs.Posts.{PostView, PostSeatView, IsSeatOf}
 use Rattle.pl_post_tests.specs.Feeding.{IsNext}
@@ -29,11 +30,11 @@ pub record CarriesAll (world : World) : Type 0 where
 abbrev pub AreNext : ℕ → List ℕ → SenderView → Type 0
 AreNext first sent sends = (turn : ℕ) → turn < 64 → IsNext (data_lane (first + turn) 0) (slice_index sent turn) sends
 
-module _ {M S : Type 0} (is_sender : M → S → Type 0) (sends_of : S → SenderView) where
+module _ {M S T : Type 0} (ends : MailboxEnds M S T) where
   -- the post's seat has these lanes, and so many of each were sent
   pub record IsInTurn (p : PostView M) (s : PostSeatView S) (first : ℕ) (sent : List ℕ) : Type 0 where
-    pub seat : IsSeatOf is_sender p s
+    pub seat : IsSeatOf ends p s
     pub low : first ≤ 192
     pub all : length sent ≡ 64
-    pub next : AreNext first sent (sends_of s.sender)
+    pub next : AreNext first sent (ends.sends_of s.sender)
     pub few : (turn : ℕ) → turn < 64 → slice_index sent turn ≤ 999

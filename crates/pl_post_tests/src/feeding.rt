@@ -6,15 +6,15 @@ ghost use Rattle.pl_event.specs.declared.envelopes.Kind.TheVariants.{Data};
 ghost use Rattle.pl_event.specs.Hops.{data_lane as the_data_lane};
 ghost use Rattle.pl_event.specs.Worlds.{FitsWorld, content_of};
 ghost use Rattle.pl_queue.specs.Views.{sent_of, after_offer};
-ghost use Rattle.pl_queue_tests.specs.Relays.{lane_events, event as the_event};
+ghost use Rattle.pl_queue_tests.specs.Relays.{lane_events};
 ghost use Rattle.pl_words.specs.declared.status.Status.TheVariants.{Accepting, Closed};
 ghost use Rattle.pl_post.specs.Posts.{IsSeatOf, IsOwnerOf, back_of};
 ghost use Rattle.pl_post_tests.specs.Feeding.{IsNext, Feeds};
 
-use pl_event::{Envelope, Event, Item, Kind, Lane, Named};
+use pl_event::{Envelope, Lane, Named};
 use pl_post::{Post, PostOwner, PostSeat, Unsent};
 use pl_queue::Mailbox;
-use pl_queue_tests::join_three;
+use pl_queue_tests::{data_lane, event, join_three};
 use std::alloc::Global;
 use std::sync::Wait;
 use std::thread;
@@ -30,14 +30,14 @@ pub fn send_when_room<W: Named, M: Mailbox<W> + Drop, R: Wait>(
     seat: &mut PostSeat<W, M>,
     mut envelope: Envelope,
 ) -> Result<(), Unsent>
-    requires seat { IsSeatOf M.is_sender post.now seat.old }
-    requires next { IsNext envelope.lane envelope.number (M.sends_of seat.old.sender) }
+    requires seat { IsSeatOf M.ends post.now seat.old }
+    requires next { IsNext envelope.lane envelope.number (M.ends.sends_of seat.old.sender) }
     requires small { envelope.number < 2 ^ 32 }
     requires fits { FitsWorld W.world envelope }
-    ensures seat { IsSeatOf M.is_sender post.now seat.new }
+    ensures seat { IsSeatOf M.ends post.now seat.new }
     ensures sent { MatchResult result
-        (λ _. (M.sends_of seat.new.sender ≡ after_offer (M.sends_of seat.old.sender) envelope) × (seat.new.seat.kept ≡ seat.old.seat.kept + 1))
-        (λ why. (M.sends_of seat.new.sender ≡ M.sends_of seat.old.sender) × (seat.new.seat.kept ≡ seat.old.seat.kept) × (back_of why ≡ envelope)) }
+        (λ _. (M.ends.sends_of seat.new.sender ≡ after_offer (M.ends.sends_of seat.old.sender) envelope) × (seat.new.seat.kept ≡ seat.old.seat.kept + 1))
+        (λ why. (M.ends.sends_of seat.new.sender ≡ M.ends.sends_of seat.old.sender) × (seat.new.seat.kept ≡ seat.old.seat.kept) × (back_of why ≡ envelope)) }
 {
     for _ in 0..MAX_TRIES {
         match post.send::<R>(rt, seat, envelope) {
@@ -51,33 +51,6 @@ pub fn send_when_room<W: Named, M: Mailbox<W> + Drop, R: Wait>(
         }
     }
     Err(Unsent::Full(envelope))
-}
-
-/// The data lane that enters hop 0 of a channel.
-pub fn lane(channel: u16) -> Lane
-    ensures { result ≡ the_data_lane channel 0 }
-{
-    Lane {
-        channel,
-        kind: Kind::Data,
-        hop: 0,
-    }
-}
-
-/// The envelope of a lane with this number: Active is the first, and ReadComplete each other.
-pub fn event(lane: Lane, number: u64) -> Envelope
-    ensures { result ≡ the_event lane number }
-{
-    let event = if number == 0 {
-        Event::Active
-    } else {
-        Event::ReadComplete
-    };
-    Envelope {
-        lane,
-        number,
-        item: Item::Event(event),
-    }
 }
 
 /// What a thread has sent of its lane, and what became of the last envelope.
@@ -97,12 +70,12 @@ pub fn feed<W: Named, M: Mailbox<W> + Drop, R: Wait>(
     lane: Lane,
     count: u64,
 ) -> (PostSeat<W, M>, Fed)
-    requires seat { IsSeatOf M.is_sender post.now seat }
-    requires fresh { IsNext lane 0 (M.sends_of seat.sender) }
+    requires seat { IsSeatOf M.ends post.now seat }
+    requires fresh { IsNext lane 0 (M.ends.sends_of seat.sender) }
     requires few { count < 2 ^ 32 }
     requires world { (lane.kind ≡ Data) × (content_of W.world lane ≡ Some (lane_events count)) }
-    ensures seat { IsSeatOf M.is_sender post.now result.0 }
-    ensures fed { Feeds lane count seat.seat.kept result.1 (M.sends_of result.0.sender) result.0.seat.kept }
+    ensures seat { IsSeatOf M.ends post.now result.0 }
+    ensures fed { Feeds lane count seat.seat.kept result.1 (M.ends.sends_of result.0.sender) result.0.seat.kept }
 {
     for number in 0..count {
         if let Err(unsent) = send_when_room::<W, M, R>(rt, post, &mut seat, event(lane, number)) {
@@ -141,7 +114,7 @@ impl<const CHANNELS: usize> Served<CHANNELS> {
             self.in_order = false;
             return;
         }
-        let next = event(lane(envelope.lane.channel), self.taken[channel]);
+        let next = event(data_lane(envelope.lane.channel), self.taken[channel]);
         self.in_order = self.in_order && *envelope == next;
         self.taken[channel] = self.taken[channel].saturating_add(1);
     }
@@ -154,9 +127,9 @@ pub fn serve<W: Named, M: Mailbox<W> + Drop, R: Wait, const CHANNELS: usize>(
     mut owner: PostOwner<W, M>,
     enough: u64,
 ) -> (PostOwner<W, M>, Served<CHANNELS>)
-    requires owner { IsOwnerOf M.is_taker post.now owner }
+    requires owner { IsOwnerOf M.ends post.now owner }
     requires unclosed { owner.owner.phase ≢ Closed }
-    ensures owner { IsOwnerOf M.is_taker post.now result.0 }
+    ensures owner { IsOwnerOf M.ends post.now result.0 }
     ensures closed { IsTrue result.1.closed → (result.0.owner.phase ≡ Closed) × (result.0.owner.run ≡ result.0.taken) }
 {
     let mut served = Served {
@@ -206,18 +179,18 @@ pub fn open_three<W: Named, M: Mailbox<W> + Drop>(
         PostOwner<W, M>,
     ),
 >
-    ensures first { IfSome result (λ r. IsSeatOf M.is_sender r.0 r.1.0 × IsNext (the_data_lane 0 0) 0 (M.sends_of r.1.0.sender)) }
-    ensures second { IfSome result (λ r. IsSeatOf M.is_sender r.0 r.1.1 × IsNext (the_data_lane 1 0) 0 (M.sends_of r.1.1.sender)) }
-    ensures third { IfSome result (λ r. IsSeatOf M.is_sender r.0 r.1.2 × IsNext (the_data_lane 2 0) 0 (M.sends_of r.1.2.sender)) }
-    ensures owner { IfSome result (λ r. IsOwnerOf M.is_taker r.0 r.2 × (r.2.owner.phase ≡ Accepting)) }
+    ensures first { IfSome result (λ r. IsSeatOf M.ends r.0 r.1.0 × IsNext (the_data_lane 0 0) 0 (M.ends.sends_of r.1.0.sender)) }
+    ensures second { IfSome result (λ r. IsSeatOf M.ends r.0 r.1.1 × IsNext (the_data_lane 1 0) 0 (M.ends.sends_of r.1.1.sender)) }
+    ensures third { IfSome result (λ r. IsSeatOf M.ends r.0 r.1.2 × IsNext (the_data_lane 2 0) 0 (M.ends.sends_of r.1.2.sender)) }
+    ensures owner { IfSome result (λ r. IsOwnerOf M.ends r.0 r.2 × (r.2.owner.phase ≡ Accepting)) }
 {
-    let Ok(one) = Vec::from_array(alloc, [lane(0)]) else {
+    let Ok(one) = Vec::from_array(alloc, [data_lane(0)]) else {
         return None;
     };
-    let Ok(two) = Vec::from_array(alloc, [lane(1)]) else {
+    let Ok(two) = Vec::from_array(alloc, [data_lane(1)]) else {
         return None;
     };
-    let Ok(three) = Vec::from_array(alloc, [lane(2)]) else {
+    let Ok(three) = Vec::from_array(alloc, [data_lane(2)]) else {
         return None;
     };
     let Ok(lanes) = Vec::from_array(alloc, [one, two, three]) else {
@@ -259,31 +232,31 @@ fn all_four<W: Named + Send + Sync, M: Mailbox<W> + Drop + Send + Sync, R: Threa
 where
     M::Sender: Send,
     M::Taker: Send,
-    requires first { IsSeatOf M.is_sender post.now seats.0 × IsNext (the_data_lane 0 0) 0 (M.sends_of seats.0.sender) × (content_of W.world (the_data_lane 0 0) ≡ Some (lane_events count)) }
-    requires second { IsSeatOf M.is_sender post.now seats.1 × IsNext (the_data_lane 1 0) 0 (M.sends_of seats.1.sender) × (content_of W.world (the_data_lane 1 0) ≡ Some (lane_events count)) }
-    requires third { IsSeatOf M.is_sender post.now seats.2 × IsNext (the_data_lane 2 0) 0 (M.sends_of seats.2.sender) × (content_of W.world (the_data_lane 2 0) ≡ Some (lane_events count)) }
+    requires first { IsSeatOf M.ends post.now seats.0 × IsNext (the_data_lane 0 0) 0 (M.ends.sends_of seats.0.sender) × (content_of W.world (the_data_lane 0 0) ≡ Some (lane_events count)) }
+    requires second { IsSeatOf M.ends post.now seats.1 × IsNext (the_data_lane 1 0) 0 (M.ends.sends_of seats.1.sender) × (content_of W.world (the_data_lane 1 0) ≡ Some (lane_events count)) }
+    requires third { IsSeatOf M.ends post.now seats.2 × IsNext (the_data_lane 2 0) 0 (M.ends.sends_of seats.2.sender) × (content_of W.world (the_data_lane 2 0) ≡ Some (lane_events count)) }
     requires few { count < 2 ^ 32 }
-    requires owner { IsOwnerOf M.is_taker post.now owner × (owner.owner.phase ≢ Closed) }
+    requires owner { IsOwnerOf M.ends post.now owner × (owner.owner.phase ≢ Closed) }
 {
     let (one, two, three) = seats;
     let (first, second, (third, served)) = join_three(
         rt,
         move || -> Fed
-            requires { IsSeatOf M.is_sender post.now one × IsNext (the_data_lane 0 0) 0 (M.sends_of one.sender) × (content_of W.world (the_data_lane 0 0) ≡ Some (lane_events count)) × (count < 2 ^ 32) }
-        { feed::<W, M, R>(rt, post, one, lane(0), count).1 },
+            requires { IsSeatOf M.ends post.now one × IsNext (the_data_lane 0 0) 0 (M.ends.sends_of one.sender) × (content_of W.world (the_data_lane 0 0) ≡ Some (lane_events count)) × (count < 2 ^ 32) }
+        { feed::<W, M, R>(rt, post, one, data_lane(0), count).1 },
         move || -> Fed
-            requires { IsSeatOf M.is_sender post.now two × IsNext (the_data_lane 1 0) 0 (M.sends_of two.sender) × (content_of W.world (the_data_lane 1 0) ≡ Some (lane_events count)) × (count < 2 ^ 32) }
-        { feed::<W, M, R>(rt, post, two, lane(1), count).1 },
+            requires { IsSeatOf M.ends post.now two × IsNext (the_data_lane 1 0) 0 (M.ends.sends_of two.sender) × (content_of W.world (the_data_lane 1 0) ≡ Some (lane_events count)) × (count < 2 ^ 32) }
+        { feed::<W, M, R>(rt, post, two, data_lane(1), count).1 },
         move || -> (Fed, Served<3>)
-            requires { (IsSeatOf M.is_sender post.now three × IsNext (the_data_lane 2 0) 0 (M.sends_of three.sender) × (content_of W.world (the_data_lane 2 0) ≡ Some (lane_events count)) × (count < 2 ^ 32)) × IsOwnerOf M.is_taker post.now owner × (owner.owner.phase ≢ Closed) }
+            requires { (IsSeatOf M.ends post.now three × IsNext (the_data_lane 2 0) 0 (M.ends.sends_of three.sender) × (content_of W.world (the_data_lane 2 0) ≡ Some (lane_events count)) × (count < 2 ^ 32)) × IsOwnerOf M.ends post.now owner × (owner.owner.phase ≢ Closed) }
         {
             thread::join(
                 rt,
                 move || -> Fed
-                    requires { IsSeatOf M.is_sender post.now three × IsNext (the_data_lane 2 0) 0 (M.sends_of three.sender) × (content_of W.world (the_data_lane 2 0) ≡ Some (lane_events count)) × (count < 2 ^ 32) }
-                { feed::<W, M, R>(rt, post, three, lane(2), count).1 },
+                    requires { IsSeatOf M.ends post.now three × IsNext (the_data_lane 2 0) 0 (M.ends.sends_of three.sender) × (content_of W.world (the_data_lane 2 0) ≡ Some (lane_events count)) × (count < 2 ^ 32) }
+                { feed::<W, M, R>(rt, post, three, data_lane(2), count).1 },
                 move || -> Served<3>
-                    requires { IsOwnerOf M.is_taker post.now owner × (owner.owner.phase ≢ Closed) }
+                    requires { IsOwnerOf M.ends post.now owner × (owner.owner.phase ≢ Closed) }
                 { serve::<W, M, R, 3>(rt, post, owner, enough).1 },
             )
         },

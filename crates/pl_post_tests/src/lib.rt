@@ -6,6 +6,6 @@ mod feeding;
 mod tests;
 
 pub use feeding::{
-    Closing, Fed, MAX_TRIES, Served, event, feed, lane, open_three, send_when_room, serve,
+    Closing, Fed, MAX_TRIES, Served, feed, open_three, send_when_room, serve,
     three_feed_while_closing,
 };

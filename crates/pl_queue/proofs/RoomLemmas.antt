@@ -12,18 +12,11 @@ use Rattle.pl_queue.specs.declared.views.SenderView.{SenderView}
 use Rattle.pl_queue.specs.Left.{send_counts_of}
 use Rattle.pl_queue.specs.Room.{sent_on, all_pushes, IsCounted}
 use Rattle.pl_queue.specs.Rule.{Each}
-use Rattle.pl_queue.specs.Views.{send_count, sent_of, set_send_count, fresh_sends, fresh_send_counts, after_offer}
-
-fresh-none : (lanes : List Lane) → 0 ≡ sent_on (fresh_send_counts lanes)
-fresh-none [] = refl
-fresh-none (l ∷ ls) = omega (arith, fresh-none ls)
-
-fresh-small : (lanes : List Lane) → Each (λ (c : SendCount). c.next ≤ 2 ^ 32) (fresh_send_counts lanes)
-fresh-small [] = tt
-fresh-small (l ∷ ls) = (omega arith, fresh-small ls)
+use Rattle.pl_queue.specs.Views.{send_count, sent_of, set_send_count, fresh_sends, after_offer}
 
 pub counted-begins : (lanes : List Lane) → IsCounted (fresh_sends lanes)
-counted-begins lanes = record { pushes = fresh-none lanes; small = fresh-small lanes }
+counted-begins [] = record { pushes = refl; small = tt }
+counted-begins (l ∷ ls) = let rest = counted-begins ls in record { pushes = omega (arith, rest.pushes); small = (omega arith, rest.small) }
 
 sent_on-set : (l : Lane) (n : ℕ) (e : Bool) (cs : List SendCount) → sent_of l cs ≡ Some (n, false) → sent_on (set_send_count l (n + 1) e cs) ≡ sent_on cs + 1
 sent_on-set l n e [] h = absurd (none-some (n, false) h)

@@ -1,4 +1,5 @@
 pub mod Views
+pub mod Ends
 pub mod Limits
 pub mod Positions
 pub mod Rule

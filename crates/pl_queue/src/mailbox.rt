@@ -2,9 +2,8 @@
 
 ghost use Rattle.std.specs.Prelude.{◌≡◌, ◌<◌, ◌^◌, ℕ, Bool, true, false, Some, None, map, vec_len, unwrap_or, IfOk, IfErr, MatchResult, MatchOption};
 ghost use Rattle.pl_event.specs.Worlds.{FitsWorld};
-ghost use Rattle.pl_queue.specs.declared.views.SenderView.{SenderView};
-ghost use Rattle.pl_queue.specs.declared.views.TakerView.{TakerView};
 ghost use Rattle.pl_queue.specs.declared.mailbox.OpenRefusal.TheVariants.{Memory};
+ghost use Rattle.pl_queue.specs.Ends.{MailboxEnds};
 ghost use Rattle.pl_queue.specs.Limits.{opening_fault};
 ghost use Rattle.pl_queue.specs.Rule.{SenderSees, TakerSees, WasOnce, Each};
 ghost use Rattle.pl_queue.specs.Views.{sent_of, next_of, after_offer, after_take, fresh_sends, fresh_takes};
@@ -50,21 +49,10 @@ pub trait Mailbox<W: Named>: Sized {
 
     type Taker: Drop;
 
-    /// The most envelopes that it holds.
-    ghost capacity_of: { Self → ℕ };
-
-    /// What a sender knows: of each lane of its own the next number, and whether `End` or `Fail` was sent; the count of its
-    /// pushes, and the envelope that it pushed last.
-    ghost sends_of: { Self.Sender → SenderView };
-
-    /// What the taker knows: its next number of each lane, the count of its pops, and the envelope that it popped last.
-    ghost takes_of: { Self.Taker → TakerView };
-
-    /// The mailbox made this sender.
-    ghost is_sender: { Self → Self.Sender → Type 0 };
-
-    /// The mailbox made this taker.
-    ghost is_taker: { Self → Self.Taker → Type 0 };
+    /// What contracts see: the most envelopes that it holds; of a sender each lane of its own with the next number, and whether
+    /// `End` or `Fail` was sent, the count of its pushes, and the envelope that it pushed last; of the taker its next number of
+    /// each lane, the count of its pops, and the envelope that it popped last; and which senders and which taker it made.
+    ghost ends: { MailboxEnds Self Self.Sender Self.Taker };
 
     /// A mailbox of this capacity, with a sender for each list of lanes, and its taker. No lane stands twice, and there is at
     /// least one sender.
@@ -79,9 +67,9 @@ pub trait Mailbox<W: Named>: Sized {
         requires some { 0 < vec_len lanes }
         requires apart { Apart (lanes_of_senders (map (λ v. v.items) lanes.items)) }
         ensures refused { IfErr result (λ refusal. refusal ≡ unwrap_or (opening_fault (map (λ v. v.items) lanes.items) capacity) Memory) }
-        ensures opened { IfOk result (λ r. (opening_fault (map (λ v. v.items) lanes.items) capacity ≡ None) × (capacity_of r.0 ≡ capacity)) }
-        ensures senders { IfOk result (λ r. Each (λ s. is_sender r.0 s) r.1.items × (map sends_of r.1.items ≡ map (λ v. fresh_sends v.items) lanes.items)) }
-        ensures taker { IfOk result (λ r. is_taker r.0 r.2 × (takes_of r.2 ≡ fresh_takes (lanes_of_senders (map (λ v. v.items) lanes.items)))) };
+        ensures opened { IfOk result (λ r. (opening_fault (map (λ v. v.items) lanes.items) capacity ≡ None) × (ends.capacity_of r.0 ≡ capacity)) }
+        ensures senders { IfOk result (λ r. Each (λ s. ends.is_sender r.0 s) r.1.items × (map ends.sends_of r.1.items ≡ map (λ v. fresh_sends v.items) lanes.items)) }
+        ensures taker { IfOk result (λ r. ends.is_taker r.0 r.2 × (ends.takes_of r.2 ≡ fresh_takes (lanes_of_senders (map (λ v. v.items) lanes.items)))) };
 
     /// Whether `offer` may wait for room. It never answers `Full` then.
     fn may_wait() -> bool;
@@ -97,22 +85,22 @@ pub trait Mailbox<W: Named>: Sized {
         sender: &mut Self::Sender,
         envelope: Envelope,
     ) -> Result<(), Full>
-        requires sender { is_sender self.now sender.old }
-        requires next { sent_of envelope.lane (sends_of sender.old).send_counts ≡ Some (envelope.number, false) }
+        requires sender { ends.is_sender self.now sender.old }
+        requires next { sent_of envelope.lane (ends.sends_of sender.old).send_counts ≡ Some (envelope.number, false) }
         requires small { envelope.number < 2 ^ 32 }
         requires fits { FitsWorld W.world envelope }
-        ensures sender { is_sender self.now sender.new }
+        ensures sender { ends.is_sender self.now sender.new }
         ensures sent { MatchResult result
-            (λ _. sends_of sender.new ≡ after_offer (sends_of sender.old) envelope)
-            (λ full. (full.envelope ≡ envelope) × (sends_of sender.new ≡ sends_of sender.old) × WasOnce (capacity_of self.now) (SenderSees W.world (sends_of sender.old))) };
+            (λ _. ends.sends_of sender.new ≡ after_offer (ends.sends_of sender.old) envelope)
+            (λ full. (full.envelope ≡ envelope) × (ends.sends_of sender.new ≡ ends.sends_of sender.old) × WasOnce (ends.capacity_of self.now) (SenderSees W.world (ends.sends_of sender.old))) };
 
     /// Takes the front, and gives it as it stood there.
     fn take<R: Wait>(&self, rt: &R, taker: &mut Self::Taker) -> Option<Envelope>
-        requires taker { is_taker self.now taker.old }
-        ensures taker { is_taker self.now taker.new }
+        requires taker { ends.is_taker self.now taker.old }
+        ensures taker { ends.is_taker self.now taker.new }
         ensures taken { MatchOption result
-            ((takes_of taker.new ≡ takes_of taker.old) × WasOnce 0 (TakerSees W.world (takes_of taker.old)))
-            (λ x. (next_of x.lane (takes_of taker.old).counts ≡ Some x.number) × (x.number < 2 ^ 32) × FitsWorld W.world x × (takes_of taker.new ≡ after_take (takes_of taker.old) x)) };
+            ((ends.takes_of taker.new ≡ ends.takes_of taker.old) × WasOnce 0 (TakerSees W.world (ends.takes_of taker.old)))
+            (λ x. (next_of x.lane (ends.takes_of taker.old).counts ≡ Some x.number) × (x.number < 2 ^ 32) × FitsWorld W.world x × (ends.takes_of taker.new ≡ after_take (ends.takes_of taker.old) x)) };
 
     /// Ends the mailbox, given all its senders, in any order, and its taker. For each lane it says how many numbers were handed
     /// over and taken, and which envelopes are left: those from `taken` on, in order.
@@ -125,8 +113,8 @@ pub trait Mailbox<W: Named>: Sized {
         senders: Vec<Self::Sender>,
         taker: Self::Taker,
     ) -> Result<Left, AllocError>
-        requires senders { Each (λ s. is_sender self s) senders.items }
-        requires taker { is_taker self taker }
-        requires all { AreAll (send_counts_of (map sends_of senders.items)) (takes_of taker).counts }
-        ensures left { IfOk result (λ left. IsAllLeft W.world (send_counts_of (map sends_of senders.items)) (takes_of taker).counts (map held_of left.lanes.items)) };
+        requires senders { Each (λ s. ends.is_sender self s) senders.items }
+        requires taker { ends.is_taker self taker }
+        requires all { AreAll (send_counts_of (map ends.sends_of senders.items)) (ends.takes_of taker).counts }
+        ensures left { IfOk result (λ left. IsAllLeft W.world (send_counts_of (map ends.sends_of senders.items)) (ends.takes_of taker).counts (map held_of left.lanes.items)) };
 }

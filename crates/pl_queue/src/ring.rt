@@ -67,15 +67,13 @@ impl<W: Named> Mailbox<W> for RingBox<W> {
 
     type Taker = RingTaker<W>;
 
-    ghost capacity_of = { λ q. ruled_capacity q.queue };
-
-    ghost sends_of = { λ s. sends_by s.pass };
-
-    ghost takes_of = { λ t. takes_by t.pass };
-
-    ghost is_sender = { λ q s. IsPassOf q.queue s.pass };
-
-    ghost is_taker = { λ q t. IsPassOf q.queue t.pass × KnowsPlaces (view t.pass) t.counts.items t.positions.rows.items };
+    ghost ends = { record {
+      capacity_of = λ q. ruled_capacity q.queue;
+      sends_of = λ s. sends_by s.pass;
+      takes_of = λ t. takes_by t.pass;
+      is_sender = λ q s. IsPassOf q.queue s.pass;
+      is_taker = λ q t. IsPassOf q.queue t.pass × KnowsPlaces (view t.pass) t.counts.items t.positions.rows.items;
+    } };
 
     fn open(
         alloc: Global,

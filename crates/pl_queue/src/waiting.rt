@@ -136,15 +136,13 @@ impl<W: Named> Mailbox<W> for WaitingBox<W> {
 
     type Taker = WaitingTaker<W>;
 
-    ghost capacity_of = { λ q. ruled_capacity (sends_on q.queue.to) };
-
-    ghost sends_of = { λ s. sends_by s.pass };
-
-    ghost takes_of = { λ t. takes_by t.pass };
-
-    ghost is_sender = { λ q s. (receives_on q.queue.from ≡ sends_on q.queue.to) × IsSeatAt (sends_on q.queue.to) s.pass };
-
-    ghost is_taker = { λ q t. ((receives_on q.queue.from ≡ sends_on q.queue.to) × IsSeatAt (sends_on q.queue.to) t.pass) × KnowsPlaces (view t.pass) t.counts.items t.positions.rows.items };
+    ghost ends = { record {
+      capacity_of = λ q. ruled_capacity (sends_on q.queue.to);
+      sends_of = λ s. sends_by s.pass;
+      takes_of = λ t. takes_by t.pass;
+      is_sender = λ q s. (receives_on q.queue.from ≡ sends_on q.queue.to) × IsSeatAt (sends_on q.queue.to) s.pass;
+      is_taker = λ q t. ((receives_on q.queue.from ≡ sends_on q.queue.to) × IsSeatAt (sends_on q.queue.to) t.pass) × KnowsPlaces (view t.pass) t.counts.items t.positions.rows.items;
+    } };
 
     fn open(
         alloc: Global,

@@ -1,34 +1,20 @@
 -- What a sender's next numbers are once it has sent a flag.
 use Rattle.std.specs.Global.{Vec}
-use Rattle.std.proofs.Common.{◌≡◌, ◌+◌, ◌<◌, ◌≤◌, ℕ, zero, suc, Bool, true, false, cond, List, [], ◌∷◌, ◌++◌, Some, map, length, get_or, refl, ap, sym, ◌∙◌, subst, ⊎_elim, arith}
+use Rattle.std.proofs.Common.{◌≡◌, ◌+◌, ◌<◌, ◌≤◌, ℕ, zero, suc, true, false, cond, List, [], ◌∷◌, ◌++◌, Some, map, length, get_or, refl, ap, sym, ◌∙◌, subst, ⊎_elim, arith}
 use Rattle.std.proofs.lemmas.Bool.{cond-true, cond-false, cases_Bool, cases_eq, false≢true}
 use Rattle.std.proofs.lemmas.List.{length-map}
 use Rattle.pl_event.specs.declared.envelopes.Envelope.{Envelope}
 use Rattle.pl_event.specs.declared.envelopes.Lane.{Lane}
 use Rattle.pl_event.specs.Hops.{flags_lane, same_lane}
 use Rattle.pl_event.proofs.SameLanes.{same_lane-equal, same_lane-self}
-use Rattle.pl_queue.specs.declared.views.SendCount.{SendCount}
 use Rattle.pl_queue.specs.declared.views.SenderView.{SenderView}
 use Rattle.pl_queue.specs.Rule.{Each}
-use Rattle.pl_queue.specs.Views.{send_count, sent_of, set_send_count, fresh_send_counts, fresh_sends, after_offer, has_lane}
+use Rattle.pl_queue.specs.Views.{sent_of, fresh_send_counts, fresh_sends, after_offer, has_lane}
 use Rattle.pl_queue.proofs.Lists.{Each-at, has-front}
 use Rattle.pl_queue_tests.specs.Openings.{hops_below, HaveChannels}
-use Rattle.pl_queue_tests.proofs.RelayLemmas.{now-sent}
+use Rattle.pl_queue_tests.proofs.RelayLemmas.{now-sent, sent_of-other}
 use Rattle.pl_queue_tests.specs.Flags.{flag_at}
 use Rattle.pl_queue_bench.specs.Sending.{HasNext, AllHaveNext}
-
--- a count of another lane stays
-sent_of-other : (m l : Lane) (n : ℕ) (e : Bool) (ss : List SendCount) → same_lane m l ≡ false → sent_of m (set_send_count l n e ss) ≡ sent_of m ss
-sent_of-other m l n e [] h = refl
-sent_of-other m l n e (s ∷ ss) h = ⊎_elim
-    (λ (t : same_lane l s.lane ≡ true).
-    let apart : same_lane m s.lane ≡ false = subst (λ k. same_lane m k ≡ false) (same_lane-equal l s.lane t) h in
-    ap (λ b. sent_of m (cond b (send_count s.lane n e ∷ ss) (s ∷ set_send_count l n e ss))) t
-    ∙ cond-false (same_lane m s.lane) (Some (n, e)) (sent_of m ss) apart ∙ sym (cond-false (same_lane m s.lane) (Some (s.next, s.ended)) (sent_of m ss) apart))
-    (λ (t : same_lane l s.lane ≡ false).
-    ap (λ b. sent_of m (cond b (send_count s.lane n e ∷ ss) (s ∷ set_send_count l n e ss))) t
-    ∙ ap (λ o. cond (same_lane m s.lane) (Some (s.next, s.ended)) o) (sent_of-other m l n e ss h))
-    (cases_Bool (same_lane l s.lane))
 
 other-hop : (c h k : ℕ) → (h ≡ k → ⊥) → same_lane (flags_lane c h) (flags_lane c k) ≡ false
 other-hop c h k differ = ⊎_elim

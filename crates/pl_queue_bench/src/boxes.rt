@@ -18,8 +18,8 @@ fn opened<W: Named, M: Mailbox<W> + Drop>(
     senders: u32,
 ) -> Option<(M, Vec<M::Sender>, M::Taker)>
     requires { (0 < channels) × (channels ≤ senders) }
-    ensures senders { IfSome result (λ r. (vec_len r.1 ≡ senders) × AllHaveNext (M.is_sender r.0) M.sends_of hops 0 0 channels r.1.items) }
-    ensures taker { IfSome result (λ r. M.is_taker r.0 r.2) }
+    ensures senders { IfSome result (λ r. (vec_len r.1 ≡ senders) × AllHaveNext (M.ends.is_sender r.0) M.ends.sends_of hops 0 0 channels r.1.items) }
+    ensures taker { IfSome result (λ r. M.ends.is_taker r.0 r.2) }
 {
     let Ok(lists) = lists(alloc, hops, channels, senders) else {
         return None;
@@ -32,8 +32,8 @@ fn opened<W: Named, M: Mailbox<W> + Drop>(
 
 // Takes an envelope, where there is one. How many it took.
 fn take_one<W: Named, M: Mailbox<W>, R: Wait>(rt: &R, mailbox: &M, taker: &mut M::Taker) -> u64
-    requires taker { M.is_taker mailbox.now taker.old }
-    ensures taker { M.is_taker mailbox.now taker.new }
+    requires taker { M.ends.is_taker mailbox.now taker.old }
+    ensures taker { M.ends.is_taker mailbox.now taker.new }
     ensures one { result ≤ 1 }
 {
     match mailbox.take::<R>(rt, taker) {
@@ -52,13 +52,13 @@ fn offer_and_take<W: Named, M: Mailbox<W>, R: Wait>(
     hops: u16,
     number: u64,
 ) -> u64
-    requires sender { M.is_sender mailbox.now sender.old }
-    requires taker { M.is_taker mailbox.now taker.old }
-    requires next { HasNext channel 0 hops number (M.sends_of sender.old) }
+    requires sender { M.ends.is_sender mailbox.now sender.old }
+    requires taker { M.ends.is_taker mailbox.now taker.old }
+    requires next { HasNext channel 0 hops number (M.ends.sends_of sender.old) }
     requires small { number < 2 ^ 32 }
-    ensures sender { M.is_sender mailbox.now sender.new }
-    ensures taker { M.is_taker mailbox.now taker.new }
-    ensures next { HasNext channel 0 hops (number + 1) (M.sends_of sender.new) }
+    ensures sender { M.ends.is_sender mailbox.now sender.new }
+    ensures taker { M.ends.is_taker mailbox.now taker.new }
+    ensures next { HasNext channel 0 hops (number + 1) (M.ends.sends_of sender.new) }
 {
     let mut taken = 0;
     for hop in 0..hops {
@@ -79,8 +79,8 @@ fn all_in_turns<W: Named, M: Mailbox<W>, R: Wait>(
     rounds: u64,
 ) -> u64
     requires there { channels ≤ length senders.old }
-    requires senders { AllHaveNext (M.is_sender mailbox.now) M.sends_of hops 0 0 channels senders.old }
-    requires taker { M.is_taker mailbox.now taker.old }
+    requires senders { AllHaveNext (M.ends.is_sender mailbox.now) M.ends.sends_of hops 0 0 channels senders.old }
+    requires taker { M.ends.is_taker mailbox.now taker.old }
     requires small { rounds ≤ 2 ^ 32 }
 {
     let mut taken: u64 = 0;

@@ -1,6 +1,6 @@
 //! Through a mailbox with its admission, by a post or by the same calls made by hand; or through a mailbox alone.
 
-ghost use Rattle.std.specs.Prelude.{◌≡◌, ◌<◌, ◌≤◌, ◌^◌, false, Some, length, map, vec_len, IfOk, IfSome};
+ghost use Rattle.std.specs.Prelude.{◌≡◌, ◌<◌, ◌≤◌, ◌^◌, false, Some, length, map, vec_len, IfOk, IfSome, MatchResult};
 ghost use denote.Param.Send.{IsSync};
 ghost use Rattle.pl_event.specs.Worlds.{FitsWorld};
 ghost use Rattle.pl_queue.specs.declared.views.SenderView.{SenderView};
@@ -14,7 +14,7 @@ use crate::CAPACITY;
 use pl_event::{Envelope, Lane, Named};
 use pl_post::{Post, PostOwner, PostSeat, Unsent};
 use pl_queue::{Full, Mailbox};
-use pl_queue_tests::{flag, hand_over, lane, lists};
+use pl_queue_tests::{flag, lane, lists};
 use pl_words::{Admission, OwnerSeat, SendSeat};
 use std::alloc::{AllocError, Global};
 use std::sync::Wait;
@@ -40,14 +40,21 @@ pub trait Closable<W: Named>: Sized {
         ensures seats { IfSome result (λ r. Each (λ s. is_seat r.0 s) r.1.items × (map sends_of r.1.items ≡ map (λ v. fresh_sends v.items) lanes.items)) }
         ensures owner { IfSome result (λ r. is_owner r.0 r.2) };
 
-    /// Sends an envelope as soon as there is room. Nobody closes before that.
-    fn put<R: Wait>(&self, rt: &R, seat: &mut Self::Seat, envelope: Envelope)
+    /// Sends an envelope where there is room. Else it is back, and the seat has sent what it had.
+    fn try_put<R: Wait>(
+        &self,
+        rt: &R,
+        seat: &mut Self::Seat,
+        envelope: Envelope,
+    ) -> Result<(), Envelope>
         requires seat { is_seat self.now seat.old }
         requires next { sent_of envelope.lane (sends_of seat.old).send_counts ≡ Some (envelope.number, false) }
         requires small { envelope.number < 2 ^ 32 }
         requires fits { FitsWorld W.world envelope }
         ensures seat { is_seat self.now seat.new }
-        ensures sent { sends_of seat.new ≡ after_offer (sends_of seat.old) envelope };
+        ensures sent { MatchResult result
+            (λ _. sends_of seat.new ≡ after_offer (sends_of seat.old) envelope)
+            (λ back. (back ≡ envelope) × (sends_of seat.new ≡ sends_of seat.old)) };
 
     fn next<R: Wait>(&self, rt: &R, owner: &mut Self::Owner) -> Option<Envelope>
         requires owner { is_owner self.now owner.old }
@@ -63,11 +70,11 @@ impl<W: Named, M: Mailbox<W> + Drop> Closable<W> for Post<W, M> {
 
     type Owner = PostOwner<W, M>;
 
-    ghost sends_of = { λ s. M.sends_of s.sender };
+    ghost sends_of = { λ s. M.ends.sends_of s.sender };
 
-    ghost is_seat = { λ p s. IsSeatOf M.is_sender p s };
+    ghost is_seat = { λ p s. IsSeatOf M.ends p s };
 
-    ghost is_owner = { λ p o. IsOwnerOf M.is_taker p o };
+    ghost is_owner = { λ p o. IsOwnerOf M.ends p o };
 
     fn open(
         alloc: Global,
@@ -79,17 +86,16 @@ impl<W: Named, M: Mailbox<W> + Drop> Closable<W> for Post<W, M> {
         }
     }
 
-    fn put<R: Wait>(&self, rt: &R, seat: &mut PostSeat<W, M>, mut envelope: Envelope) {
-        for _ in rt.forever() {
-            match self.send::<R>(rt, seat, envelope) {
-                Ok(()) => return,
-                Err(Unsent::Full(back) | Unsent::Closed(back) | Unsent::Spent(back)) => {
-                    envelope = back;
-                    thread::yield_now();
-                }
-            }
+    fn try_put<R: Wait>(
+        &self,
+        rt: &R,
+        seat: &mut PostSeat<W, M>,
+        envelope: Envelope,
+    ) -> Result<(), Envelope> {
+        match self.send::<R>(rt, seat, envelope) {
+            Ok(()) => Ok(()),
+            Err(Unsent::Full(back) | Unsent::Closed(back) | Unsent::Spent(back)) => Err(back),
         }
-        unreachable!()
     }
 
     fn next<R: Wait>(&self, rt: &R, owner: &mut PostOwner<W, M>) -> Option<Envelope> {
@@ -113,11 +119,11 @@ impl<W: Named, M: Mailbox<W> + Drop> Closable<W> for Alone<M> {
 
     type Owner = M::Taker;
 
-    ghost sends_of = { λ s. M.sends_of s };
+    ghost sends_of = { λ s. M.ends.sends_of s };
 
-    ghost is_seat = { λ a s. M.is_sender a.mailbox s };
+    ghost is_seat = { λ a s. M.ends.is_sender a.mailbox s };
 
-    ghost is_owner = { λ a t. M.is_taker a.mailbox t };
+    ghost is_owner = { λ a t. M.ends.is_taker a.mailbox t };
 
     fn open(alloc: Global, lanes: Vec<Vec<Lane>>) -> Option<(Self, Vec<M::Sender>, M::Taker)> {
         let Ok((mailbox, senders, taker)) = M::open(alloc, lanes, CAPACITY) else {
@@ -126,8 +132,16 @@ impl<W: Named, M: Mailbox<W> + Drop> Closable<W> for Alone<M> {
         Some((Alone { mailbox }, senders, taker))
     }
 
-    fn put<R: Wait>(&self, rt: &R, seat: &mut M::Sender, envelope: Envelope) {
-        hand_over::<W, M, R>(rt, &self.mailbox, seat, envelope);
+    fn try_put<R: Wait>(
+        &self,
+        rt: &R,
+        seat: &mut M::Sender,
+        envelope: Envelope,
+    ) -> Result<(), Envelope> {
+        match self.mailbox.offer::<R>(rt, seat, envelope) {
+            Ok(()) => Ok(()),
+            Err(Full { envelope: back }) => Err(back),
+        }
     }
 
     fn next<R: Wait>(&self, rt: &R, owner: &mut M::Taker) -> Option<Envelope> {
@@ -183,11 +197,11 @@ impl<W: Named, M: Mailbox<W> + Drop> Closable<W> for ByHand<M> {
 
     type Owner = HandOwner<M::Taker>;
 
-    ghost sends_of = { λ s. M.sends_of s.sender };
+    ghost sends_of = { λ s. M.ends.sends_of s.sender };
 
-    ghost is_seat = { λ b s. M.is_sender b.mailbox s.sender × (s.seat.name ≡ b.admission.name) };
+    ghost is_seat = { λ b s. M.ends.is_sender b.mailbox s.sender × (s.seat.name ≡ b.admission.name) };
 
-    ghost is_owner = { λ b o. M.is_taker b.mailbox o.taker × (o.owner.name ≡ b.admission.name) };
+    ghost is_owner = { λ b o. M.ends.is_taker b.mailbox o.taker × (o.owner.name ≡ b.admission.name) };
 
     fn open(
         alloc: Global,
@@ -210,23 +224,25 @@ impl<W: Named, M: Mailbox<W> + Drop> Closable<W> for ByHand<M> {
         Some((ByHand { mailbox, admission }, seats, owner))
     }
 
-    fn put<R: Wait>(&self, rt: &R, seat: &mut HandSeat<M::Sender>, mut envelope: Envelope) {
-        for _ in rt.forever() {
-            if let Ok(admitted) = self.admission.admit(&mut seat.seat) {
-                match self.mailbox.offer::<R>(rt, &mut seat.sender, envelope) {
-                    Ok(()) => {
-                        admitted.sent();
-                        return;
-                    }
-                    Err(Full { envelope: back }) => {
-                        self.admission.give_up(&mut seat.seat, admitted);
-                        envelope = back;
-                    }
-                }
+    fn try_put<R: Wait>(
+        &self,
+        rt: &R,
+        seat: &mut HandSeat<M::Sender>,
+        envelope: Envelope,
+    ) -> Result<(), Envelope> {
+        let Ok(admitted) = self.admission.admit(&mut seat.seat) else {
+            return Err(envelope);
+        };
+        match self.mailbox.offer::<R>(rt, &mut seat.sender, envelope) {
+            Ok(()) => {
+                admitted.sent();
+                Ok(())
             }
-            thread::yield_now();
+            Err(Full { envelope: back }) => {
+                self.admission.give_up(&mut seat.seat, admitted);
+                Err(back)
+            }
         }
-        unreachable!()
     }
 
     fn next<R: Wait>(&self, rt: &R, owner: &mut HandOwner<M::Taker>) -> Option<Envelope> {
@@ -259,6 +275,32 @@ where
     C::open(alloc, lists)
 }
 
+// Sends an envelope as soon as there is room. Nobody closes before that.
+fn put<W: Named, C: Closable<W>, R: Wait>(
+    rt: &R,
+    mailbox: &C,
+    seat: &mut C::Seat,
+    mut envelope: Envelope,
+)
+    requires seat { C.is_seat mailbox.now seat.old }
+    requires next { sent_of envelope.lane (C.sends_of seat.old).send_counts ≡ Some (envelope.number, false) }
+    requires small { envelope.number < 2 ^ 32 }
+    requires fits { FitsWorld W.world envelope }
+    ensures seat { C.is_seat mailbox.now seat.new }
+    ensures sent { C.sends_of seat.new ≡ after_offer (C.sends_of seat.old) envelope }
+{
+    for _ in rt.forever() {
+        match mailbox.try_put::<R>(rt, seat, envelope) {
+            Ok(()) => return,
+            Err(back) => {
+                envelope = back;
+                thread::yield_now();
+            }
+        }
+    }
+    unreachable!()
+}
+
 // Sends so many flags on the first hop's lane of a channel.
 fn put_all<W: Named, C: Closable<W>, R: Wait>(
     rt: &R,
@@ -272,7 +314,7 @@ fn put_all<W: Named, C: Closable<W>, R: Wait>(
     requires small { count ≤ 2 ^ 32 }
 {
     for number in 0..count {
-        mailbox.put::<R>(rt, seat, flag(lane(channel, 0), number));
+        put::<W, C, R>(rt, mailbox, seat, flag(lane(channel, 0), number));
     }
 }
 
@@ -367,7 +409,7 @@ where
 {
     let mut taken: u64 = 0;
     for number in 0..count {
-        mailbox.put::<R>(rt, seat, flag(lane(0, 0), number));
+        put::<W, C, R>(rt, mailbox, seat, flag(lane(0, 0), number));
         if let Some(envelope) = mailbox.next::<R>(rt, &mut owner) {
             drop(envelope);
             taken = taken.saturating_add(1);

@@ -12,7 +12,7 @@ use Rattle.pl_event.specs.declared.events.Event.TheVariants.{ReadComplete}
 use Rattle.pl_event.specs.Hops.{flags_lane, same_lane}
 use Rattle.pl_event.specs.Fitting.{Fits}
 use Rattle.pl_event.specs.Worlds.{World, content_of, content_in, FitsWorld, FitsAsKind, MayCome, closes}
-use Rattle.pl_event.proofs.SameLanes.{same_lane-self}
+use Rattle.pl_event.proofs.SameLanes.{same_lane-equal, same_lane-self}
 use Rattle.pl_queue.specs.declared.views.SendCount.{SendCount}
 use Rattle.pl_queue.specs.declared.views.SenderView.{SenderView}
 use Rattle.pl_queue.specs.declared.views.TakerView.{TakerView}
@@ -203,3 +203,16 @@ in_first l events rest = cond-true (same_lane l l) _ _ (same_lane-self l)
 
 pub in_second : (l m : Lane) (events others : List Event) → same_lane m l ≡ false → content_in ((l, events) ∷ (m, others) ∷ []) m ≡ Some others
 in_second l m events others apart = cond-false (same_lane m l) _ _ apart ∙ in_first m others []
+
+-- a count of another lane stays
+pub sent_of-other : (m l : Lane) (n : ℕ) (e : Bool) (ss : List SendCount) → same_lane m l ≡ false → sent_of m (set_send_count l n e ss) ≡ sent_of m ss
+sent_of-other m l n e [] h = refl
+sent_of-other m l n e (s ∷ ss) h = ⊎_elim
+    (λ (t : same_lane l s.lane ≡ true).
+    let apart : same_lane m s.lane ≡ false = subst (λ k. same_lane m k ≡ false) (same_lane-equal l s.lane t) h in
+    ap (λ b. sent_of m (cond b (send_count s.lane n e ∷ ss) (s ∷ set_send_count l n e ss))) t
+    ∙ cond-false (same_lane m s.lane) (Some (n, e)) (sent_of m ss) apart ∙ sym (cond-false (same_lane m s.lane) (Some (s.next, s.ended)) (sent_of m ss) apart))
+    (λ (t : same_lane l s.lane ≡ false).
+    ap (λ b. sent_of m (cond b (send_count s.lane n e ∷ ss) (s ∷ set_send_count l n e ss))) t
+    ∙ ap (λ o. cond (same_lane m s.lane) (Some (s.next, s.ended)) o) (sent_of-other m l n e ss h))
+    (cases_Bool (same_lane l s.lane))

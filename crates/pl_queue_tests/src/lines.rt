@@ -25,12 +25,12 @@ pub fn hand_over<W: Named, M: Mailbox<W>, R: Wait>(
     sender: &mut M::Sender,
     mut envelope: Envelope,
 )
-    requires sender { M.is_sender mailbox.now sender.old }
-    requires next { sent_of envelope.lane (M.sends_of sender.old).send_counts ≡ Some (envelope.number, false) }
+    requires sender { M.ends.is_sender mailbox.now sender.old }
+    requires next { sent_of envelope.lane (M.ends.sends_of sender.old).send_counts ≡ Some (envelope.number, false) }
     requires small { envelope.number < 2 ^ 32 }
     requires fits { FitsWorld W.world envelope }
-    ensures sender { M.is_sender mailbox.now sender.new }
-    ensures sent { M.sends_of sender.new ≡ after_offer (M.sends_of sender.old) envelope }
+    ensures sender { M.ends.is_sender mailbox.now sender.new }
+    ensures sent { M.ends.sends_of sender.new ≡ after_offer (M.ends.sends_of sender.old) envelope }
 {
     for _ in rt.forever() {
         match mailbox.offer::<R>(rt, sender, envelope) {
@@ -54,8 +54,8 @@ pub fn send_lines<W: Named, M: Mailbox<W>, R: Wait>(
     lane: Lane,
     lines: Vec<ByteString>,
 ) -> M::Sender
-    requires sender { M.is_sender mailbox.now sender }
-    requires fresh { IsFresh lane (M.sends_of sender) }
+    requires sender { M.ends.is_sender mailbox.now sender }
+    requires fresh { IsFresh lane (M.ends.sends_of sender) }
     requires world { CarriesLines W.world lane lines.items }
 {
     let mut number = 0;
@@ -77,7 +77,7 @@ pub fn take_lanes<W: Named, M: Mailbox<W>, R: Wait>(
     mut taker: M::Taker,
     mut lanes: u32,
 ) -> Result<Vec<Envelope>, AllocError>
-    requires taker { M.is_taker mailbox.now taker }
+    requires taker { M.ends.is_taker mailbox.now taker }
 {
     let mut taken = Vec::new(alloc);
     for _ in rt.forever() {
@@ -119,9 +119,9 @@ fn all_three<W: Named + Send + Sync, M: Mailbox<W> + Send + Sync, R: Threads + W
 where
     M::Sender: Send,
     M::Taker: Send,
-    requires one { M.is_sender mailbox.now one × IsFresh first.lane (M.sends_of one) × CarriesLines W.world first.lane first.lines.items }
-    requires two { M.is_sender mailbox.now two × IsFresh second.lane (M.sends_of two) × CarriesLines W.world second.lane second.lines.items }
-    requires taker { M.is_taker mailbox.now taker }
+    requires one { M.ends.is_sender mailbox.now one × IsFresh first.lane (M.ends.sends_of one) × CarriesLines W.world first.lane first.lines.items }
+    requires two { M.ends.is_sender mailbox.now two × IsFresh second.lane (M.ends.sends_of two) × CarriesLines W.world second.lane second.lines.items }
+    requires taker { M.ends.is_taker mailbox.now taker }
 {
     let LaneLines { lane: first, lines } = first;
     let LaneLines {
@@ -131,13 +131,13 @@ where
     let (_one, _two, taken) = join_three(
         rt,
         move || -> M::Sender
-            requires { M.is_sender mailbox.now one × IsFresh first (M.sends_of one) × CarriesLines W.world first lines.items }
+            requires { M.ends.is_sender mailbox.now one × IsFresh first (M.ends.sends_of one) × CarriesLines W.world first lines.items }
         { send_lines::<W, M, R>(rt, mailbox, one, first, lines) },
         move || -> M::Sender
-            requires { M.is_sender mailbox.now two × IsFresh second (M.sends_of two) × CarriesLines W.world second others.items }
+            requires { M.ends.is_sender mailbox.now two × IsFresh second (M.ends.sends_of two) × CarriesLines W.world second others.items }
         { send_lines::<W, M, R>(rt, mailbox, two, second, others) },
         move || -> Result<Vec<Envelope>, AllocError>
-            requires { M.is_taker mailbox.now taker }
+            requires { M.ends.is_taker mailbox.now taker }
         { take_lanes::<W, M, R>(rt, alloc, mailbox, taker, 2) },
     );
     taken

@@ -44,29 +44,26 @@ pub fn lists(
     Ok(all)
 }
 
-/// Opens a mailbox with at least one sender, which has all lanes. None where it was opened.
-pub fn refusal<W: Named, M: Mailbox<W> + Drop>(
-    alloc: Global,
-    lanes: u16,
-    senders: u32,
-    capacity: usize,
-) -> Option<OpenRefusal> {
-    let Ok(lists) = lists(alloc, lanes, 1, senders) else {
-        return Some(OpenRefusal::Memory);
-    };
-    match M::open(alloc, lists, capacity) {
-        Ok(_opened) => None,
-        Err(refusal) => Some(refusal),
-    }
-}
+/// What `open` refuses at its limits and just past them: so many lanes, all of them the first sender's, so many senders, and a
+/// capacity.
+pub const LIMITS: [(u16, u32, usize, Option<OpenRefusal>); 8] = [
+    (1, 1, 0, Some(OpenRefusal::Limit)),
+    (1, 1, 1, None),
+    (1, 1, 65_536, None),
+    (1, 1, 65_537, Some(OpenRefusal::Limit)),
+    (8_192, 1, 1, None),
+    (8_193, 1, 1, Some(OpenRefusal::Limit)),
+    (8_192, 65_535, 1, None),
+    (1, 65_536, 1, Some(OpenRefusal::Limit)),
+];
 
 /// A mailbox of capacity 2 with one sender, which has this lane.
 pub fn open_one<W: Named, M: Mailbox<W> + Drop>(
     alloc: Global,
     lane: Lane,
 ) -> Result<(M, M::Sender, M::Taker), OpenRefusal>
-    ensures sender { IfOk result (λ r. M.is_sender r.0 r.1 × IsFresh lane (M.sends_of r.1)) }
-    ensures taker { IfOk result (λ r. M.is_taker r.0 r.2 × (taking_lanes (M.takes_of r.2) ≡ lane ∷ [])) }
+    ensures sender { IfOk result (λ r. M.ends.is_sender r.0 r.1 × IsFresh lane (M.ends.sends_of r.1)) }
+    ensures taker { IfOk result (λ r. M.ends.is_taker r.0 r.2 × (taking_lanes (M.ends.takes_of r.2) ≡ lane ∷ [])) }
 {
     let Ok(own) = Vec::from_array(alloc, [lane]) else {
         return Err(OpenRefusal::Memory);
@@ -89,9 +86,9 @@ pub fn open_two<W: Named, M: Mailbox<W> + Drop>(
     capacity: usize,
 ) -> Result<(M, M::Sender, M::Sender, M::Taker), OpenRefusal>
     requires apart { same_lane first second ≡ false }
-    ensures one { IfOk result (λ r. M.is_sender r.0 r.1 × IsFresh first (M.sends_of r.1)) }
-    ensures two { IfOk result (λ r. M.is_sender r.0 r.2 × IsFresh second (M.sends_of r.2)) }
-    ensures taker { IfOk result (λ r. M.is_taker r.0 r.3 × (taking_lanes (M.takes_of r.3) ≡ first ∷ second ∷ [])) }
+    ensures one { IfOk result (λ r. M.ends.is_sender r.0 r.1 × IsFresh first (M.ends.sends_of r.1)) }
+    ensures two { IfOk result (λ r. M.ends.is_sender r.0 r.2 × IsFresh second (M.ends.sends_of r.2)) }
+    ensures taker { IfOk result (λ r. M.ends.is_taker r.0 r.3 × (taking_lanes (M.ends.takes_of r.3) ≡ first ∷ second ∷ [])) }
 {
     let Ok(one) = Vec::from_array(alloc, [first]) else {
         return Err(OpenRefusal::Memory);

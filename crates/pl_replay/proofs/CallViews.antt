@@ -14,11 +14,11 @@ use Rattle.pl_flow.specs.Makes.{Makes}
 use Rattle.pl_flow.proofs.MakeLemmas.{makes-among}
 use Rattle.pl_head.specs.Transports.{TransportState}
 use Rattle.pl_part.specs.Paths.{writer_hop}
-use Rattle.pl_part.specs.Parts.{ChannelPartView, PartHolds, SamePart, head_hop, part_lanes, part_writes, writes_at, part_came}
+use Rattle.pl_part.specs.Parts.{ChannelPartView, PartHolds, head_hop, part_writes, writes_at, part_came}
 use Rattle.pl_part.specs.PartCalls.{NodePuts, Taken, Given}
-use Rattle.pl_net.specs.NodesViews.{NodesView, SameRoutes, NodesPut, NodesTake, NodesGive, NodesMake, written_by}
+use Rattle.pl_net.specs.NodesViews.{NodesView, NodesPut, NodesTake, NodesGive, NodesMake, written_by}
 use Rattle.pl_channel.specs.Channels.{executor_at, home_of, target_of, origin_of, writes_here, writes_of, came_of, ChannelsStand}
-use Rattle.pl_channel.proofs.OneChannel.{among-joined, at-is, at-was, changed, done-more, few-done, home-stays, is-written, lanes-stay, origin-stays, own-channel, part-stands, still-stand, taken-none, taken-one, target-stays, unchanged, writes-stay}
+use Rattle.pl_channel.proofs.OneChannel.{at-is, at-was, changed, done-more, few-done, home-stays, is-written, origin-stays, own-channel, part-stands, places-stay, routes-stay, still-stand, taken-none, taken-one, target-stays, unchanged}
 use Rattle.pl_replay.specs.Views.{channels_view}
 
 module _ {S T : Type 0} (ps : List (ChannelPartView S T)) (c : ℕ) (p p' : ChannelPartView S T) (was : slice_get ps c ≡ Some p) (meaning : S → Meaning) (stands_after : S → List Event → Type 0) (state : T → TransportState)
@@ -33,15 +33,6 @@ module _ {S T : Type 0} (ps : List (ChannelPartView S T)) (c : ℕ) (p p' : Chan
   after = channels_view meaning now
 
   -- ---- what was put
-
-  still-routes : SamePart p p' → ((l : Lane) → part_writes meaning p' l ≡ part_writes meaning p l) → SameRoutes before after
-  still-routes same writes = record {
-    home = home-stays ps c p p' was same;
-    target = target-stays ps c p p' was same;
-    origin = origin-stays ps c p p' was same;
-    writes = writes-stay ps c p p' was same meaning writes;
-    lanes = lanes-stay ps c p p' was same;
-  }
 
   own : (l : Lane) → part_writes meaning p l ≡ true → l.channel ≡ c
   own = own-channel ps c p p' was meaning stands_after state world stands
@@ -64,9 +55,11 @@ module _ {S T : Type 0} (ps : List (ChannelPartView S T)) (c : ℕ) (p p' : Chan
 
   puts : (hop : ℕ) (b a : OutputsView) → NodePuts meaning p hop b p' a → NodesPut before (executor_at p hop) b after a
   puts hop b a put = record {
-    routes = still-routes put.same put.writes;
+    home = home-stays ps c p p' was put.same;
+    origin = origin-stays ps c p p' was put.same;
+    routes = routes-stay ps c p p' was put.same meaning put.writes (target_of ps) (target_of now) (target-stays ps c p p' was put.same);
     others = λ l off. others-stay hop put.others l (not-own l off);
-    placed = λ hops among places. put.placed hops (λ l any. among l (among-joined (λ (q : ChannelPartView S T). part_lanes q) ps c p was l any)) places;
+    placed = places-stay ps c p p' was b a put.placed;
     few = few-done ps c p p' was meaning stands_after state world stands put.few;
   }
     where

@@ -16,7 +16,7 @@ use Rattle.pl_head.specs.declared.heads.ReadStep.{ReadStep}
 use Rattle.pl_head.specs.HeadStand.{HeadView}
 use Rattle.pl_head.specs.Transports.{TransportState}
 use Rattle.pl_net.specs.NodesViews.{NodesView}
-use Rattle.pl_net.specs.Nets.{CoreView, IsStep, Steps, WorksListOff, RunsTask, Gives}
+use Rattle.pl_net.specs.Nets.{StationsView, IsStep, Steps, WorksListOff, RunsTask, Gives}
 use Rattle.pl_part.specs.Parts.{ChannelPartView, SamePart, PartTakes, PartReads, PartMoves}
 use Rattle.pl_channel.specs.Lanes.{world_of}
 use Rattle.pl_channel.specs.PlanStand.{PartKeepsPlan, PartsKeepPlan}
@@ -31,23 +31,23 @@ use Rattle.pl_world.specs.Plans.{ChannelPlan, Plan}
 
 module _ {N : Type 0} (view_of : N → NodesView) (takes : N → Envelope → OutputsView → N → OutputsView → Type 0) (P : N → Type 0)
     (keeps : (n n' : N) (e : Envelope) (before after : OutputsView) → takes n e before n' after → P n → P n') where
-  step-keeps : (x : ℕ) (c c' : CoreView N) → IsStep view_of takes x c c' → P c.nodes → P c'.nodes
+  step-keeps : (x : ℕ) (c c' : StationsView N) → IsStep view_of takes x c c' → P c.nodes → P c'.nodes
   step-keeps x c c' s held = elim s.becomes [
     | inl call ↦ keeps c.nodes c'.nodes s.envelope s.mid c'.work call.taken held
     | inr keep ↦ subst P (sym keep.nodes) held
   ]
 
-  steps-keep : (n x : ℕ) (c c' : CoreView N) → Steps view_of takes x n c c' → P c.nodes → P c'.nodes
-  steps-keep zero x c c' s held = subst (λ (v : CoreView N). P v.nodes) (sym s) held
+  steps-keep : (n x : ℕ) (c c' : StationsView N) → Steps view_of takes x n c c' → P c.nodes → P c'.nodes
+  steps-keep zero x c c' s held = subst (λ (v : StationsView N). P v.nodes) (sym s) held
   steps-keep (suc n) x c c' s held = step-keeps x s.0 c' s.2 (steps-keep n x c s.0 s.1 held)
 
-  settles-keep : (x : ℕ) (c c' : CoreView N) → WorksListOff view_of takes x c c' → P c.nodes → P c'.nodes
+  settles-keep : (x : ℕ) (c c' : StationsView N) → WorksListOff view_of takes x c c' → P c.nodes → P c'.nodes
   settles-keep x c c' s held = steps-keep s.count x c c' s.steps held
 
-  pub task-keeps : (x : ℕ) (c c' : CoreView N) → RunsTask view_of takes x c c' → P c.nodes → P c'.nodes
+  pub task-keeps : (x : ℕ) (c c' : StationsView N) → RunsTask view_of takes x c c' → P c.nodes → P c'.nodes
   task-keeps x c c' r held = settles-keep x r.mid c' r.settles (keeps c.nodes r.mid.nodes r.envelope c.work r.mid.work r.taken held)
 
-  pub gives-keep : (moves : N → HeadMove → ℕ → OutputsView → N → OutputsView → Type 0) → (x : ℕ) (by : HeadMove) (channel : ℕ) (c c' : CoreView N)
+  pub gives-keep : (moves : N → HeadMove → ℕ → OutputsView → N → OutputsView → Type 0) → (x : ℕ) (by : HeadMove) (channel : ℕ) (c c' : StationsView N)
       → ((n' : N) (before after : OutputsView) → moves c.nodes by channel before n' after → P c.nodes → P n') → Gives view_of takes moves x by channel c c' → P c.nodes → P c'.nodes
   gives-keep moves x by channel c c' kept g held = settles-keep x (record c { nodes = g.nodes; work = g.work }) c' g.settles (kept g.nodes c.work g.work g.moved held)
 
@@ -98,13 +98,13 @@ module _ {S T : Type 0} (meaning : S → Meaning) (stands_after : S → List Eve
         part-moves-keeps p part part' by before after (part-begins state refuses plan channel p planned meaning stands_after part own.holds own.channel kept) same moved kept)
         m k
 
-    gives-kept : (by : HeadMove) (channel : ℕ) (c c' : CoreView (Channels S T)) → holds c.nodes
+    gives-kept : (by : HeadMove) (channel : ℕ) (c c' : StationsView (Channels S T)) → holds c.nodes
         → Gives (nodes_view meaning) (nodes_take meaning stands_after is_spent state) (nodes_move state may_refuse) (home_of c.nodes.parts.items channel) by channel c c' → keeps c.nodes → keeps c'.nodes
     gives-kept by channel c c' stand g k = gives-keep (nodes_view meaning) (nodes_take meaning stands_after is_spent state) keeps takes-kept (nodes_move state may_refuse) (home_of c.nodes.parts.items channel) by channel c c'
         (λ n' before after m kept. moves-kept c.nodes n' by channel before after stand m kept) g k
 
     -- Whatever move is made, the nodes of all channels go on as the plan has them.
-    pub makes-keeps : (capacity : ℕ) (move : Move) (c c' : CoreView (Channels S T)) → holds c.nodes → MakesMove meaning stands_after is_spent state may_refuse capacity move c c' → keeps c.nodes → keeps c'.nodes
+    pub makes-keeps : (capacity : ℕ) (move : Move) (c c' : StationsView (Channels S T)) → holds c.nodes → MakesMove meaning stands_after is_spent state may_refuse capacity move c c' → keeps c.nodes → keeps c'.nodes
     makes-keeps capacity (Read channel) c c' stand m k = gives-kept head.Read channel c c' stand m k
     makes-keeps capacity (Task x) c c' stand m k = task-keeps (nodes_view meaning) (nodes_take meaning stands_after is_spent state) keeps takes-kept x c c' m k
     makes-keeps capacity (Hand x) c c' stand m k = subst keeps (sym m.hands.nodes) k

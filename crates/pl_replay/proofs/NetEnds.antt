@@ -6,25 +6,25 @@ use Rattle.pl_event.specs.Meaning.{Meaning}
 use Rattle.pl_event.proofs.Lists.{All-from-at, some-of}
 use Rattle.pl_context.specs.WaitingViews.{Entry}
 use Rattle.pl_head.specs.Transports.{TransportState}
-use Rattle.pl_net.specs.declared.cores.Core.{Core}
+use Rattle.pl_net.specs.declared.stations.Stations.{Stations}
 use Rattle.pl_part.specs.Parts.{ChannelPartView}
 use Rattle.pl_replay.specs.NetStand.{NetStands}
 use Rattle.pl_replay.specs.Reported.{HasEnds, HaveEnds}
 use Rattle.pl_replay.specs.declared.channels.Channels.{Channels}
 use Rattle.pl_world.specs.Plans.{Plan}
 
-module _ {S T : Type 0} (meaning : S → Meaning) (stands_after : S → List Event → Type 0) (state : T → TransportState) (plan : Plan) (backlogs : ℕ → List (Entry (Unit {0}))) (core : Core (Channels S T)) (n : NetStands meaning stands_after state plan backlogs core) where
-  has-ends : (c : ℕ) (part : ChannelPartView S T) → slice_get core.nodes.parts.items c ≡ Some part → HasEnds part
+module _ {S T : Type 0} (meaning : S → Meaning) (stands_after : S → List Event → Type 0) (state : T → TransportState) (plan : Plan) (backlogs : ℕ → List (Entry (Unit {0}))) (stations : Stations (Channels S T)) (n : NetStands meaning stands_after state plan backlogs stations) where
+  has-ends : (c : ℕ) (part : ChannelPartView S T) → slice_get stations.nodes.parts.items c ≡ Some part → HasEnds part
   has-ends c part at =
       let whole = (n.stands.hold.parts c part at).whole in
       let tail = some-of part.path.tail whole.tail in
       let head = some-of part.head whole.head in
       record { tail = tail.0; head = head.0; has_tail = tail.1; has_head = head.1 }
 
-  pub all-have-ends : All HasEnds core.nodes.parts.items
-  all-have-ends = All-from-at HasEnds core.nodes.parts.items has-ends
+  pub all-have-ends : All HasEnds stations.nodes.parts.items
+  all-have-ends = All-from-at HasEnds stations.nodes.parts.items has-ends
 
-  pub have-ends : HaveEnds state plan core.nodes.parts.items
+  pub have-ends : HaveEnds state plan stations.nodes.parts.items
   have-ends = record {
     count = n.keeps.count;
     each = λ c p part planned at.

@@ -14,9 +14,9 @@ use Rattle.pl_head.specs.Transports.{TransportState}
 use Rattle.pl_part.specs.Counts.{part_done}
 use Rattle.pl_part.specs.Paths.{writer_hop}
 use Rattle.pl_part.specs.Parts.{ChannelPartView, PartHolds, head_hop, part_taken, part_writes, part_came}
-use Rattle.pl_net.specs.Cores.{core_view}
-use Rattle.pl_net.specs.Nets.{StationView, CoreStands, IsStart, no_backlogs}
-use Rattle.pl_net.specs.declared.cores.Core.{Core}
+use Rattle.pl_net.specs.Stations.{stations_view}
+use Rattle.pl_net.specs.Nets.{StationView, StationsStand, IsStart, no_backlogs}
+use Rattle.pl_net.specs.declared.stations.Stations.{Stations}
 use Rattle.pl_channel.specs.Lanes.{world_of}
 use Rattle.pl_channel.specs.Placing.{IsWhole, IsAtStart, IsPlaced, ArePlaced}
 use Rattle.pl_channel.specs.PlanStand.{PartsKeepPlan}
@@ -105,11 +105,11 @@ module _ {S T : Type 0} (meaning : S → Meaning) (stands_after : S → List Eve
   abbrev pub plan_here : Plan
   plan_here = plan_of meaning state capacity w.executors w.channels
 
-  pub world-begins : (core : Core (Channels S T)) → core.nodes.parts.items ≡ parts → core.executors.items ≡ executors → core.capacity ≡ capacity → core.work.items ≡ []
-      → core.work.stopped ≡ no_stops (length (data_lanes_of parts))
-      → (ChannelsStand (world_of false plan_here) meaning stands_after state parts → CoreStands (nodes_view meaning) (nodes_stand meaning stands_after state) (world_of false plan_here) 0 (core_view core no_backlogs))
-      → NetBegins meaning stands_after state plan_here (transports_of w.channels) core
-  world-begins core has-parts has-executors-too size rests unstopped stands = record {
+  pub world-begins : (stations : Stations (Channels S T)) → stations.nodes.parts.items ≡ parts → stations.executors.items ≡ executors → stations.capacity ≡ capacity → stations.work.items ≡ []
+      → stations.work.stopped ≡ no_stops (length (data_lanes_of parts))
+      → (ChannelsStand (world_of false plan_here) meaning stands_after state parts → StationsStand (nodes_view meaning) (nodes_stand meaning stands_after state) (world_of false plan_here) 0 (stations_view stations no_backlogs))
+      → NetBegins meaning stands_after state plan_here (transports_of w.channels) stations
+  world-begins stations has-parts has-executors-too size rests unstopped stands = record {
     stands = record {
       ruled = is.ruled capacity some;
       small = is.small capacity;
@@ -123,7 +123,7 @@ module _ {S T : Type 0} (meaning : S → Meaning) (stands_after : S → List Eve
       channels = ap length has-parts ∙ (starts-keep meaning stands_after state plan_here w.channels refl parts placed).count;
       each = λ number p transport part planned has at. each number p transport part planned has (sym (ap (λ (l : List (ChannelPartView S T)). slice_get l number) has-parts) ∙ at);
       executors = ap length has-executors-too ∙ idle.count;
-      start = subst (λ (l : List (ChannelPartView S T)). IsStart (channels_view meaning l) core.executors.items) (sym has-parts)
+      start = subst (λ (l : List (ChannelPartView S T)). IsStart (channels_view meaning l) stations.executors.items) (sym has-parts)
           (subst (IsStart (channels_view meaning parts)) (sym has-executors-too) (starts meaning stands_after state plan_here w.channels refl parts placed (is.ruled capacity some) is.channels executors idle));
       backlogs = refl;
       work = rests;

@@ -10,18 +10,18 @@ use Rattle.pl_replay.specs.MoveModel.{is_there}
 use Rattle.pl_event.specs.declared.events.Event.{Event}
 use Rattle.pl_event.specs.Meaning.{Meaning}
 use Rattle.pl_head.specs.Transports.{TransportState}
-use Rattle.pl_net.specs.Nets.{CoreView}
+use Rattle.pl_net.specs.Nets.{StationsView}
 use Rattle.pl_replay.specs.Moves.{LeadsTo, Reaches}
 use Rattle.pl_replay.specs.declared.channels.Channels.{Channels}
 
 module _ {S T : Type 0} (meaning : S → Meaning) (stands_after : S → List Event → Type 0) (is_spent : S → Bool) (state : T → TransportState) (may_refuse : T → ℕ → Type 0) (capacity : ℕ) where
-  reaches-push : (ms : List Move) (c mid : CoreView (Channels S T)) (m : Move) (made : Bool) (end : CoreView (Channels S T)) → Reaches meaning stands_after is_spent state may_refuse capacity ms c mid
+  reaches-push : (ms : List Move) (c mid : StationsView (Channels S T)) (m : Move) (made : Bool) (end : StationsView (Channels S T)) → Reaches meaning stands_after is_spent state may_refuse capacity ms c mid
       → LeadsTo meaning stands_after is_spent state may_refuse capacity m mid made end → Reaches meaning stands_after is_spent state may_refuse capacity (ms ++ m ∷ []) c end
-  reaches-push [] c mid m made end reached leads = (made, end, subst (λ (t : CoreView (Channels S T)). LeadsTo meaning stands_after is_spent state may_refuse capacity m t made end) reached leads, refl)
+  reaches-push [] c mid m made end reached leads = (made, end, subst (λ (t : StationsView (Channels S T)). LeadsTo meaning stands_after is_spent state may_refuse capacity m t made end) reached leads, refl)
   reaches-push (k ∷ ms) c mid m made end reached leads = (reached.0, reached.1, reached.2, reaches-push ms reached.1 mid m made end reached.3 leads)
 
   -- one move more
-  pub reaches-more : (ms : List Move) (i : ℕ) (d : Move) → i < length ms → (c mid : CoreView (Channels S T)) (made : Bool) (end : CoreView (Channels S T)) → Reaches meaning stands_after is_spent state may_refuse capacity (take i ms) c mid
+  pub reaches-more : (ms : List Move) (i : ℕ) (d : Move) → i < length ms → (c mid : StationsView (Channels S T)) (made : Bool) (end : StationsView (Channels S T)) → Reaches meaning stands_after is_spent state may_refuse capacity (take i ms) c mid
       → LeadsTo meaning stands_after is_spent state may_refuse capacity (get_or ms i d) mid made end → Reaches meaning stands_after is_spent state may_refuse capacity (take (i + 1) ms) c end
   reaches-more ms i d within c mid made end reached leads =
       subst (λ (t : List Move). Reaches meaning stands_after is_spent state may_refuse capacity t c end) (sym (take_more ms i d within)) (reaches-push (take i ms) c mid (get_or ms i d) made end reached leads)

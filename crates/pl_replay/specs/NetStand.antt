@@ -4,9 +4,9 @@ use Rattle.pl_event.specs.declared.events.Event.{Event}
 use Rattle.pl_event.specs.Meaning.{Meaning}
 use Rattle.pl_head.specs.Transports.{TransportState}
 use Rattle.pl_context.specs.WaitingViews.{Entry}
-use Rattle.pl_net.specs.Cores.{core_view}
-use Rattle.pl_net.specs.Nets.{CoreStands}
-use Rattle.pl_net.specs.declared.cores.Core.{Core}
+use Rattle.pl_net.specs.Stations.{stations_view}
+use Rattle.pl_net.specs.Nets.{StationsStand}
+use Rattle.pl_net.specs.declared.stations.Stations.{Stations}
 use Rattle.pl_channel.specs.Lanes.{world_of}
 use Rattle.pl_replay.specs.Moves.{nodes_view, nodes_stand}
 use Rattle.pl_channel.specs.PlanStand.{PartsKeepPlan}
@@ -18,11 +18,11 @@ module _ {S T : Type 0} (meaning : S → Meaning) (stands_after : S → List Eve
   -- A net stands at a plan (EventLoop): of each lane, what is queued and waits follows what was taken. It goes up to
   -- what was made, unless a refused growth has cut it off. No move changes the plan, the net has these backlogs, and
   -- nothing is on its work list.
-  pub record NetStands (plan : Plan) (backlogs : ℕ → List (Entry Unit)) (core : Core (Channels S T)) : Type 0 where
+  pub record NetStands (plan : Plan) (backlogs : ℕ → List (Entry Unit)) (stations : Stations (Channels S T)) : Type 0 where
     pub ruled : IsPlan plan
     pub small : IsSmallPlan plan
-    pub stands : CoreStands (nodes_view meaning) (nodes_stand meaning stands_after state) (world_of false plan) 0 (core_view core backlogs)
-    pub rests : core.work.items ≡ []
-    pub capacity : core.capacity ≡ plan.capacity
-    pub executors : length core.executors.items ≡ plan.executors
-    pub keeps : PartsKeepPlan state plan core.nodes.parts.items
+    pub stands : StationsStand (nodes_view meaning) (nodes_stand meaning stands_after state) (world_of false plan) 0 (stations_view stations backlogs)
+    pub rests : stations.work.items ≡ []
+    pub capacity : stations.capacity ≡ plan.capacity
+    pub executors : length stations.executors.items ≡ plan.executors
+    pub keeps : PartsKeepPlan state plan stations.nodes.parts.items

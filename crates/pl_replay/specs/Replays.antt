@@ -4,7 +4,7 @@ use Rattle.std.specs.List.{list_all, AllZip}
 use Rattle.pl_event.specs.declared.events.Event.{Event}
 use Rattle.pl_event.specs.Meaning.{Meaning}
 use Rattle.pl_head.specs.Transports.{TransportState}
-use Rattle.pl_net.specs.Nets.{CoreView}
+use Rattle.pl_net.specs.Nets.{StationsView}
 use Rattle.pl_world.specs.declared.moves.Move.{Move}
 use Rattle.pl_world.specs.declared.report.Report.{Report}
 use Rattle.pl_world.specs.Plans.{Plan}
@@ -21,9 +21,9 @@ module _ {S T : Type 0} (meaning : S → Meaning) (stands_after : S → List Eve
     -- each move names what is there
     pub there : list_all (is_there plan) moves ≡ true
     -- the report is that of what the moves lead to, one after another, from a start of the plan
-    pub start : CoreView (Channels S T)
+    pub start : StationsView (Channels S T)
     pub begins : Begins meaning stands_after state plan transports start
-    pub end : CoreView (Channels S T)
+    pub end : StationsView (Channels S T)
     pub reached : Reaches meaning stands_after is_spent state may_refuse plan.capacity moves start end
     pub reports : AllZip (IsPartReport state) end.nodes.parts.items report.channels
     -- it begins what the handlers, composed on whole lists, make of the recorded input, and is all of it where drained

@@ -5,9 +5,9 @@ use Rattle.pl_event.specs.Meaning.{Meaning}
 use Rattle.pl_context.specs.Stops.{no_stops}
 use Rattle.pl_head.specs.Transports.{TransportState}
 use Rattle.pl_part.specs.Parts.{ChannelPartView, PartHolds}
-use Rattle.pl_net.specs.Cores.{core_view}
-use Rattle.pl_net.specs.Nets.{CoreView, IsStart, no_backlogs}
-use Rattle.pl_net.specs.declared.cores.Core.{Core}
+use Rattle.pl_net.specs.Stations.{stations_view}
+use Rattle.pl_net.specs.Nets.{StationsView, IsStart, no_backlogs}
+use Rattle.pl_net.specs.declared.stations.Stations.{Stations}
 use Rattle.pl_replay.specs.NetStand.{NetStands}
 use Rattle.pl_replay.specs.Views.{channels_view}
 use Rattle.pl_replay.specs.declared.channels.Channels.{Channels}
@@ -32,7 +32,7 @@ pub record HasPlannedStages {S T : Type 0} (meaning : S → Meaning) (stands_aft
 module _ {S T : Type 0} (meaning : S → Meaning) (stands_after : S → List Event → Type 0) (state : T → TransportState) where
   -- Before any move: each channel of the plan has all its nodes, over one of these transports; nothing was taken, made or handed
   -- over, and no lane has stopped.
-  pub record Begins (plan : Plan) (transports : List T) (c : CoreView (Channels S T)) : Type 0 where
+  pub record Begins (plan : Plan) (transports : List T) (c : StationsView (Channels S T)) : Type 0 where
     pub channels : length c.nodes.parts.items ≡ length plan.channels
     pub each : (number : ℕ) (p : ChannelPlan) (transport : T) (part : ChannelPartView S T) → slice_get plan.channels number ≡ Some p → slice_get transports number ≡ Some transport → slice_get c.nodes.parts.items number ≡ Some part
         → IsWhole state number p transport part × HasPlannedStages meaning stands_after number p part × IsAtStart meaning part × PartHolds (world_of false plan) meaning stands_after state part
@@ -44,6 +44,6 @@ module _ {S T : Type 0} (meaning : S → Meaning) (stands_after : S → List Eve
     pub unstopped : c.work.stopped ≡ no_stops (length (data_lanes_of c.nodes.parts.items))
 
   -- A net stands, and no move was made.
-  pub record NetBegins (plan : Plan) (transports : List T) (core : Core (Channels S T)) : Type 0 where
-    pub stands : NetStands meaning stands_after state plan no_backlogs core
-    pub begins : Begins plan transports (core_view core no_backlogs)
+  pub record NetBegins (plan : Plan) (transports : List T) (stations : Stations (Channels S T)) : Type 0 where
+    pub stands : NetStands meaning stands_after state plan no_backlogs stations
+    pub begins : Begins plan transports (stations_view stations no_backlogs)

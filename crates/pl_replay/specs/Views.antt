@@ -3,17 +3,13 @@ use Rattle.std.specs.Prelude.{List}
 use Rattle.pl_event.specs.Meaning.{Meaning}
 use Rattle.pl_part.specs.Parts.{ChannelPartView}
 use Rattle.pl_net.specs.NodesViews.{NodesView}
-use Rattle.pl_channel.specs.Channels.{home_of, target_of, origin_of, writes_of, taken_of, came_of, data_lanes_of, done_of}
+use Rattle.pl_channel.specs.Channels.{home_of, target_of, origin_of, lanes_view, done_of}
 
 -- the channels' nodes, as executors see them (EventExecutorGroup)
 abbrev pub channels_view : {S T : Type 0} → (S → Meaning) → List (ChannelPartView S T) → NodesView
 channels_view meaning ps = record {
   home = home_of ps;
-  target = target_of ps;
   origin = origin_of ps;
-  writes = writes_of meaning ps;
-  taken = taken_of ps;
-  came = came_of meaning ps;
-  lanes = data_lanes_of ps;
+  lanes = lanes_view meaning (target_of ps) ps;
   work_done = done_of ps;
 }

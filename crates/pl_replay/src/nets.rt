@@ -3,7 +3,7 @@
 ghost use Rattle.std.specs.Prelude.{◌≡◌, ◌≤◌, All, ℕ, List, length, Ok, Err, false, true, IfOk, IfErr, MatchOption, slice_get, Some};
 ghost use Rattle.pl_context.specs.WaitingViews.{Entry};
 ghost use Rattle.pl_context.specs.TailViews.{TailView};
-ghost use Rattle.pl_net.specs.Cores.{core_view, IsUnmoved, IsUnmovedButRoom};
+ghost use Rattle.pl_net.specs.Stations.{stations_view, IsUnmoved, IsUnmovedButRoom};
 ghost use Rattle.pl_net.specs.Nets.{LacksMemory};
 ghost use Rattle.pl_part.specs.Parts.{ChannelPartView};
 ghost use Rattle.pl_world.specs.declared.faults.ReplayFault.TheVariants as fault;
@@ -24,7 +24,7 @@ use pl_channel::{lane_count, placed};
 use pl_event::Stage;
 use pl_flow::HeadMove;
 use pl_head::Transport;
-use pl_net::Core;
+use pl_net::Stations;
 use pl_part::ChannelPart;
 use pl_world::{Move, ReplayFault, Report, World};
 use std::alloc::Global;
@@ -34,22 +34,22 @@ use std::marker::Model;
 #[derive(Drop)]
 pub struct Net<S: Stage, T: Transport> {
     alloc: Global,
-    core: Core<Channels<S, T>>,
+    stations: Stations<Channels<S, T>>,
 }
 
 impl<S: Stage, T: Transport> Model for Net<S, T> {
     ghost use Rattle.std.specs.Prelude.{ℕ, List};
     ghost use Rattle.pl_context.specs.WaitingViews.{Entry};
-    ghost use Rattle.pl_net.specs.declared.cores.Core.{Core};
+    ghost use Rattle.pl_net.specs.declared.stations.Stations.{Stations};
     ghost use Rattle.pl_world.specs.Plans.{Plan};
     ghost use Rattle.pl_replay.specs.NetStand.{NetStands};
     ghost use Rattle.pl_replay.specs.declared.channels.Channels.{Channels};
 
-    ghost Value = { Core (Channels S T) };
+    ghost Value = { Stations (Channels S T) };
 
-    ghost view = { λ n. n.core };
+    ghost view = { λ n. n.stations };
 
-    ghost invariant = { λ n. (plan : Plan) × (backlogs : ℕ → List (Entry Unit)) × NetStands S.meaning S.stands_after T.state plan backlogs n.core };
+    ghost invariant = { λ n. (plan : Plan) × (backlogs : ℕ → List (Entry Unit)) × NetStands S.meaning S.stands_after T.state plan backlogs n.stations };
 }
 
 impl<S: Stage, T: Transport> Net<S, T> {
@@ -68,14 +68,14 @@ impl<S: Stage, T: Transport> Net<S, T> {
         let parts = placed(alloc, world.into_channels().into_vec())?;
         let executors = idle_executors(alloc, count, parts.as_slice())?;
         let lanes = lane_count(parts.as_slice());
-        let core = Core::new(
+        let stations = Stations::new(
             alloc,
             capacity as usize,
             Channels { parts },
             executors,
             lanes,
         )?;
-        Ok(Net { alloc, core })
+        Ok(Net { alloc, stations })
     }
 
     /// Makes a move, and answers whether it was enabled: one that was not changes nothing. A move that names what is
@@ -85,7 +85,7 @@ impl<S: Stage, T: Transport> Net<S, T> {
     pub fn apply(&mut self, step: Move) -> Result<bool, ReplayFault>
         ensures made { IfOk result (λ made. (plan : Plan) (backlogs : ℕ → List (Entry Unit)) → NetStands S.meaning S.stands_after T.state plan backlogs self.old
             → (after : ℕ → List (Entry Unit)) × NetStands S.meaning S.stands_after T.state plan after self.new
-            × LeadsTo S.meaning S.stands_after S.is_spent T.state T.may_refuse plan.capacity step (core_view self.old backlogs) made (core_view self.new after)) }
+            × LeadsTo S.meaning S.stands_after S.is_spent T.state T.may_refuse plan.capacity step (stations_view self.old backlogs) made (stations_view self.new after)) }
         ensures unmoved { result ≡ Ok false → IsUnmoved self.old self.new }
         // `NoSuch` is answered exactly where the move names a channel or an executor that is not there.
         ensures there { (plan : Plan) (backlogs : ℕ → List (Entry Unit)) → NetStands S.meaning S.stands_after T.state plan backlogs self.old → is_there plan step ≡ false → result ≡ Err fault.NoSuch }
@@ -94,10 +94,10 @@ impl<S: Stage, T: Transport> Net<S, T> {
         // `Memory` is answered only of a hand-over that is enabled, and the net goes on by the same plan: its capacity is as it was.
         ensures hand_alone { result ≡ Err fault.Memory → is_hand step ≡ true }
         ensures wanted { result ≡ Err fault.Memory → (plan : Plan) (backlogs : ℕ → List (Entry Unit)) → NetStands S.meaning S.stands_after T.state plan backlogs self.old
-            → IsEnabled S.meaning S.stands_after S.is_spent T.state T.may_refuse plan.capacity step (core_view self.old backlogs) true }
+            → IsEnabled S.meaning S.stands_after S.is_spent T.state T.may_refuse plan.capacity step (stations_view self.old backlogs) true }
         // It comes only where the queue of the item that would go has no memory for one more.
         ensures refused { result ≡ Err fault.Memory → (plan : Plan) (backlogs : ℕ → List (Entry Unit)) → NetStands S.meaning S.stands_after T.state plan backlogs self.old
-            → (x : ℕ) × (step ≡ Hand x) × LacksMemory plan.capacity x (core_view self.old backlogs) }
+            → (x : ℕ) × (step ≡ Hand x) × LacksMemory plan.capacity x (stations_view self.old backlogs) }
         ensures memory { result ≡ Err fault.Memory → IsUnmovedButRoom self.old self.new }
         ensures goes_on { result ≡ Err fault.Memory → (plan : Plan) (backlogs : ℕ → List (Entry Unit)) → NetStands S.meaning S.stands_after T.state plan backlogs self.old → NetStands S.meaning S.stands_after T.state plan backlogs self.new }
     {
@@ -105,10 +105,10 @@ impl<S: Stage, T: Transport> Net<S, T> {
             return Err(ReplayFault::NoSuch);
         }
         match step {
-            Move::Read(channel) => Ok(self.core.move_head(HeadMove::Read, channel as usize)),
-            Move::Task(executor) => Ok(self.core.run_task(executor as usize)),
-            Move::Hand(executor) => Ok(self.core.hand(executor as usize)?),
-            Move::Out(channel) => Ok(self.core.move_head(HeadMove::Out, channel as usize)),
+            Move::Read(channel) => Ok(self.stations.move_head(HeadMove::Read, channel as usize)),
+            Move::Task(executor) => Ok(self.stations.run_task(executor as usize)),
+            Move::Hand(executor) => Ok(self.stations.hand(executor as usize)?),
+            Move::Out(channel) => Ok(self.stations.move_head(HeadMove::Out, channel as usize)),
         }
     }
 
@@ -119,7 +119,7 @@ impl<S: Stage, T: Transport> Net<S, T> {
         match step {
             Move::Read(channel) | Move::Out(channel) => (channel as usize) < self.parts().len(),
             Move::Task(executor) | Move::Hand(executor) => {
-                (executor as usize) < self.core.executors()
+                (executor as usize) < self.stations.executors()
             }
         }
     }
@@ -154,8 +154,8 @@ impl<S: Stage, T: Transport> Net<S, T> {
             → AllReportPlan plan.channels report.channels) }
         ensures memory { IfErr result (λ e. e ≡ fault.Memory) }
     {
-        let Net { alloc, core } = self;
-        let Channels { parts } = core.into_nodes();
+        let Net { alloc, stations } = self;
+        let Channels { parts } = stations.into_nodes();
         let channels = into_reports(alloc, parts)?;
         Ok(Report { channels })
     }
@@ -177,6 +177,6 @@ impl<S: Stage, T: Transport> Net<S, T> {
         ensures items { result.now ≡ self.now.nodes.parts.items }
         ensures ends { All HasEnds result.now }
     {
-        self.core.nodes().parts.as_slice()
+        self.stations.nodes().parts.as_slice()
     }
 }

@@ -52,20 +52,21 @@ kind (Err TooLong) = 7
 IsOf : ℕ → Result Command Caught → Type 0
 IsOf verb answer = (kind answer == 0 || kind answer == verb) ≡ true
 
+by_argument : (verb : ℕ) (answer : Option (List ℕ) → Result Command Caught) → IsOf verb (answer None) → ((x : List ℕ) → IsOf verb (answer (Some x))) → (a : Option (List ℕ)) → IsOf verb (answer a)
+by_argument verb answer none some None = none
+by_argument verb answer none some (Some x) = some x
+
 ping-IsOf : (a : Option (List ℕ)) → IsOf 1 (ping_with a)
 unfolding kind IsOf
-ping-IsOf None = refl
-ping-IsOf (Some x) = refl
+ping-IsOf = by_argument 1 ping_with refl (λ x. refl)
 
 quit-IsOf : (a : Option (List ℕ)) → IsOf 2 (quit_with a)
 unfolding kind IsOf
-quit-IsOf None = refl
-quit-IsOf (Some x) = refl
+quit-IsOf = by_argument 2 quit_with refl (λ x. refl)
 
 echo-IsOf : (a : Option (List ℕ)) → IsOf 3 (echo_with a)
 unfolding kind IsOf
-echo-IsOf None = refl
-echo-IsOf (Some x) = refl
+echo-IsOf = by_argument 3 echo_with refl (λ x. refl)
 
 addition-IsOf : (key : Option (List ℕ)) (n : Option ℕ) → IsOf 4 (addition_of key n)
 unfolding kind IsOf
@@ -75,18 +76,11 @@ addition-IsOf (Some key) (Some n) = refl
 
 add-IsOf : (a : Option (List ℕ)) → IsOf 4 (add_with a)
 unfolding kind IsOf
-add-IsOf None = refl
-add-IsOf (Some x) = addition-IsOf (key_in (before_space x)) (option_and_then number_in (after_space x))
-
-got-IsOf : (key : Option (List ℕ)) → IsOf 5 (get_of key)
-unfolding kind IsOf
-got-IsOf None = refl
-got-IsOf (Some key) = refl
+add-IsOf = by_argument 4 add_with refl (λ x. addition-IsOf (key_in (before_space x)) (option_and_then number_in (after_space x)))
 
 get-IsOf : (a : Option (List ℕ)) → IsOf 5 (get_with a)
 unfolding kind IsOf
-get-IsOf None = refl
-get-IsOf (Some x) = got-IsOf (key_in x)
+get-IsOf = by_argument 5 get_with refl (λ x. by_argument 5 get_of refl (λ key. refl) (key_in x))
 
 -- Which verb a line has, and which answer that gives.
 data Chosen (p q e a g : Bool) (rp rq re ra rg r : Result Command Caught) : Type 0 where

@@ -1,7 +1,7 @@
 //! The worked examples of frames with their length in front, by the steps of the handlers.
 
 use crate::event_tests::text;
-use crate::tests::{Told, UNKNOWN, assert_served_between, events, made};
+use crate::tests::{Told, UNKNOWN, assert_served, events, in_two_bursts, made};
 use pl_event::{ByteString, Caught, Event, Message};
 use pl_stages::{Handler, LengthFramer, LengthPrepender, StageRefusal};
 use std::alloc::Global;
@@ -10,18 +10,10 @@ use std::test::Fail;
 
 const TOO_LONG: Told<'static> = Told::Caught(Caught::TooLong);
 
-/// The service behind frames of at most so many bytes, with lengths of two, brings these events to its tail and these bytes
-/// to its head.
-fn assert_served(
-    rt: &(impl Abort + AllocGlobal),
-    max: usize,
-    came: &[Told<'_>],
-    tail: &[Told<'_>],
-    sent: &[u8],
-) -> Result<(), Fail> {
-    let framer = Handler::Length(LengthFramer::new(rt.alloc(), 2, max)?);
-    let marker = Handler::Prepend(LengthPrepender::new(2)?);
-    assert_served_between(rt, framer, marker, came, tail, sent)
+/// Frames of at most so many bytes, with lengths of two.
+fn frames(alloc: Global, max: usize) -> Result<(Handler, Handler), StageRefusal> {
+    let framer = Handler::Length(LengthFramer::new(alloc, 2, max)?);
+    Ok((framer, Handler::Prepend(LengthPrepender::new(2)?)))
 }
 
 /// A framer tells this of what comes to it.
@@ -49,7 +41,7 @@ fn length_frames(rt: HostRuntime) -> Result<(), Fail> {
         Told::ReadComplete,
     ];
     let tail = [Told::Active, Told::Ping, Told::ReadComplete];
-    assert_served(&rt, 64, &came, &tail, b"\x00\x05+PONG")
+    assert_served(&rt, frames(rt.alloc(), 64)?, &came, &tail, b"\x00\x05+PONG")
 }
 
 #[test]
@@ -61,7 +53,7 @@ fn user_event_inside_frame(rt: HostRuntime) -> Result<(), Fail> {
         Told::ReadComplete,
     ];
     let tail = [Told::User(7), Told::Ping, Told::ReadComplete];
-    assert_served(&rt, 64, &came, &tail, b"\x00\x05+PONG")
+    assert_served(&rt, frames(rt.alloc(), 64)?, &came, &tail, b"\x00\x05+PONG")
 }
 
 #[test]
@@ -73,21 +65,15 @@ fn frame_too_long(rt: HostRuntime) -> Result<(), Fail> {
         Told::ReadComplete,
     ];
     let tail = [Told::Active, TOO_LONG, Told::ReadComplete];
-    assert_served(&rt, 5, &came, &tail, sent)?;
-    let came = [
-        Told::Active,
-        Told::Chunk(b"\x00\x04"),
-        Told::ReadComplete,
-        Told::Chunk(b"PING"),
-        Told::ReadComplete,
-    ];
+    assert_served(&rt, frames(rt.alloc(), 5)?, &came, &tail, sent)?;
+    let came = in_two_bursts(b"\x00\x04", b"PING");
     let tail = [
         Told::Active,
         TOO_LONG,
         Told::ReadComplete,
         Told::ReadComplete,
     ];
-    assert_served(&rt, 5, &came, &tail, sent)?;
+    assert_served(&rt, frames(rt.alloc(), 5)?, &came, &tail, sent)?;
 
     // The example of Netty's documentation.
     let came = [Told::Chunk(b"\x00\x0cHELLO, WORLD")];
@@ -99,10 +85,16 @@ fn frame_too_long(rt: HostRuntime) -> Result<(), Fail> {
 fn empty_and_unfinished_frame(rt: HostRuntime) -> Result<(), Fail> {
     let empty = [Told::Chunk(b"\x00\x00")];
     assert_told(&rt, 2, 64, &empty, &[Told::Line(b"")])?;
-    assert_served(&rt, 64, &empty, &[UNKNOWN], b"\x00\x0c-ERR unknown")?;
+    assert_served(
+        &rt,
+        frames(rt.alloc(), 64)?,
+        &empty,
+        &[UNKNOWN],
+        b"\x00\x0c-ERR unknown",
+    )?;
     let unfinished = [Told::Active, Told::Chunk(b"\x00\x05P"), Told::ReadComplete];
     let tail = [Told::Active, Told::ReadComplete];
-    assert_served(&rt, 64, &unfinished, &tail, b"")
+    assert_served(&rt, frames(rt.alloc(), 64)?, &unfinished, &tail, b"")
 }
 
 /// What a prepender makes of a write of bytes.

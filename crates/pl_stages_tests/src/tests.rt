@@ -6,7 +6,7 @@ use crate::event_tests::text;
 use pl_event::{Caught, Command, Event, Fault, Fused, Key, Message, Reply, Stage, Turned};
 use pl_stages::{
     CommandDecoder, FlushEvery, Handler, LineEnd, LineFramer, LineService, ReplyEncoder,
-    add_reply_text,
+    StageRefusal, add_reply_text,
 };
 use std::alloc::Global;
 use std::process::Abort;
@@ -99,11 +99,10 @@ fn bytes(alloc: Global, replies: Vec<Event>, marker: Handler) -> Result<Vec<u8>,
     Ok(bytes)
 }
 
-/// The service behind this framer and this marker brings these events to its tail and these bytes to its head.
-pub(crate) fn assert_served_between(
+/// The service between a framer and a marker brings these events to its tail and these bytes to its head.
+pub(crate) fn assert_served(
     rt: &(impl Abort + AllocGlobal),
-    framer: Handler,
-    marker: Handler,
+    (framer, marker): (Handler, Handler),
     came: &[Told<'_>],
     tail: &[Told<'_>],
     sent: &[u8],
@@ -116,24 +115,17 @@ pub(crate) fn assert_served_between(
     Ok(())
 }
 
-/// The line protocol, with lines of at most so many bytes, brings these events to its tail and these bytes to its head.
-fn assert_served(
-    rt: &(impl Abort + AllocGlobal),
-    max: usize,
-    came: &[Told<'_>],
-    tail: &[Told<'_>],
-    sent: &[u8],
-) -> Result<(), Fail> {
-    let framer = Handler::Lines(LineFramer::new(rt.alloc(), max)?);
-    let marker = Handler::LineEnd(LineEnd::new());
-    assert_served_between(rt, framer, marker, came, tail, sent)
+/// The line protocol, with lines of at most so many bytes.
+fn lines(alloc: Global, max: usize) -> Result<(Handler, Handler), StageRefusal> {
+    let framer = Handler::Lines(LineFramer::new(alloc, max)?);
+    Ok((framer, Handler::LineEnd(LineEnd::new())))
 }
 
 #[test]
 fn ping(rt: HostRuntime) -> Result<(), Fail> {
     let came = [Told::Active, Told::Chunk(b"PING\r\n"), Told::ReadComplete];
     let tail = [Told::Active, Told::Ping, Told::ReadComplete];
-    assert_served(&rt, 64, &came, &tail, b"+PONG\r\n")
+    assert_served(&rt, lines(rt.alloc(), 64)?, &came, &tail, b"+PONG\r\n")
 }
 
 /// Each handler on the way in hands a user event on where it comes, but for a service that has quit.
@@ -147,38 +139,61 @@ fn user_events(rt: HostRuntime) -> Result<(), Fail> {
         Told::User(u32::MAX),
     ];
     let tail = [Told::User(0), Told::User(7), Told::Ping, Told::Quit];
-    assert_served(&rt, 64, &came, &tail, b"+PONG\r\n+BYE\r\n")
+    assert_served(
+        &rt,
+        lines(rt.alloc(), 64)?,
+        &came,
+        &tail,
+        b"+PONG\r\n+BYE\r\n",
+    )
+}
+
+/// A channel becomes active, and this comes in two bursts.
+pub(crate) fn in_two_bursts<'a>(first: &'a [u8], second: &'a [u8]) -> [Told<'a>; 5] {
+    [
+        Told::Active,
+        Told::Chunk(first),
+        Told::ReadComplete,
+        Told::Chunk(second),
+        Told::ReadComplete,
+    ]
 }
 
 #[test]
 fn line_across_bursts(rt: HostRuntime) -> Result<(), Fail> {
-    let came = [
-        Told::Active,
-        Told::Chunk(b"PI"),
-        Told::ReadComplete,
-        Told::Chunk(b"NG\n"),
-        Told::ReadComplete,
-    ];
+    let came = in_two_bursts(b"PI", b"NG\n");
     let tail = [
         Told::Active,
         Told::ReadComplete,
         Told::Ping,
         Told::ReadComplete,
     ];
-    assert_served(&rt, 64, &came, &tail, b"+PONG\r\n")
+    assert_served(&rt, lines(rt.alloc(), 64)?, &came, &tail, b"+PONG\r\n")
 }
 
 #[test]
 fn cr_and_lf_apart(rt: HostRuntime) -> Result<(), Fail> {
     let came = [Told::Chunk(b"PING\r"), Told::Chunk(b"\n")];
-    assert_served(&rt, 4, &came, &[Told::Ping], b"+PONG\r\n")
+    assert_served(
+        &rt,
+        lines(rt.alloc(), 4)?,
+        &came,
+        &[Told::Ping],
+        b"+PONG\r\n",
+    )
 }
 
 #[test]
 fn line_too_long(rt: HostRuntime) -> Result<(), Fail> {
     let tail = [Told::Caught(Caught::TooLong)];
     let came = [Told::Chunk(b"PING\n")];
-    assert_served(&rt, 3, &came, &tail, b"-ERR toolong\r\n")
+    assert_served(
+        &rt,
+        lines(rt.alloc(), 3)?,
+        &came,
+        &tail,
+        b"-ERR toolong\r\n",
+    )
 }
 
 const SYNTAX: Told<'static> = Told::Caught(Caught::Syntax);
@@ -191,7 +206,7 @@ fn echo_and_faults(rt: HostRuntime) -> Result<(), Fail> {
     let tail = [Told::Echo(b""), SYNTAX, UNKNOWN];
     assert_served(
         &rt,
-        64,
+        lines(rt.alloc(), 64)?,
         &came,
         &tail,
         b"+\r\n-ERR syntax\r\n-ERR unknown\r\n",
@@ -201,7 +216,13 @@ fn echo_and_faults(rt: HostRuntime) -> Result<(), Fail> {
 #[test]
 fn cr_inside_line(rt: HostRuntime) -> Result<(), Fail> {
     let came = [Told::Chunk(b"ECHO a\r\r\n")];
-    assert_served(&rt, 64, &came, &[Told::Echo(b"a\r")], b"+a\r\r\n")
+    assert_served(
+        &rt,
+        lines(rt.alloc(), 64)?,
+        &came,
+        &[Told::Echo(b"a\r")],
+        b"+a\r\r\n",
+    )
 }
 
 #[test]
@@ -213,13 +234,25 @@ fn totals(rt: HostRuntime) -> Result<(), Fail> {
         Told::Add(b"a", 5),
         Told::Get(b"a"),
     ];
-    assert_served(&rt, 64, &came, &tail, b":7\r\n:1\r\n:12\r\n:12\r\n")
+    assert_served(
+        &rt,
+        lines(rt.alloc(), 64)?,
+        &came,
+        &tail,
+        b":7\r\n:1\r\n:12\r\n:12\r\n",
+    )
 }
 
 #[test]
 fn leading_zero(rt: HostRuntime) -> Result<(), Fail> {
     let came = [Told::Chunk(b"ADD a 0123\n")];
-    assert_served(&rt, 64, &came, &[SYNTAX], b"-ERR syntax\r\n")
+    assert_served(
+        &rt,
+        lines(rt.alloc(), 64)?,
+        &came,
+        &[SYNTAX],
+        b"-ERR syntax\r\n",
+    )
 }
 
 #[test]
@@ -227,7 +260,7 @@ fn nine_digits(rt: HostRuntime) -> Result<(), Fail> {
     let came = [Told::Chunk(b"ADD a 999999999\nADD a 1234567890\nGET zz\n")];
     let tail = [Told::Add(b"a", 999_999_999), SYNTAX, Told::Get(b"zz")];
     let sent = b":999999999\r\n-ERR syntax\r\n:0\r\n";
-    assert_served(&rt, 64, &came, &tail, sent)
+    assert_served(&rt, lines(rt.alloc(), 64)?, &came, &tail, sent)
 }
 
 #[test]
@@ -238,7 +271,13 @@ fn quit(rt: HostRuntime) -> Result<(), Fail> {
         Told::Chunk(b"PING\nQUIT\nPING\nPI"),
         Told::ReadComplete,
     ];
-    assert_served(&rt, 64, &came, &tail, b"+PONG\r\n+BYE\r\n")
+    assert_served(
+        &rt,
+        lines(rt.alloc(), 64)?,
+        &came,
+        &tail,
+        b"+PONG\r\n+BYE\r\n",
+    )
 }
 
 /// What the decoder makes of one line.

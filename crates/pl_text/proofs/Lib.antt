@@ -1,4 +1,5 @@
 pub mod SessionElements
+pub mod SessionMembers
 pub mod KeyNames
 pub mod MovesNumbers
 pub mod MovesUnique

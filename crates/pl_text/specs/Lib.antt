@@ -1,6 +1,6 @@
-pub mod MovesLetters
 pub mod MovesTexts
 pub mod SessionReading
+pub mod SessionMembers
 pub mod SessionHandlers
 pub mod SessionLimits
 pub mod SessionChannels

@@ -56,6 +56,6 @@ pub fn read_session(alloc: Global, text: &str) -> Result<Session, SessionFault>
         Err(error) if error.is_memory() => return Err(SessionFault::Memory),
         Err(_) => return Err(SessionFault::NotJson),
     };
-    let outline = outline_in(alloc, &value)?;
+    let outline = outline_in(alloc, value)?;
     Ok(session_built(alloc, outline)?)
 }

@@ -3,3 +3,4 @@ pub mod CountLemmas
 pub mod Sends
 pub mod FirstTurns
 pub mod TurnLemmas
+pub mod KeepLemmas

@@ -1,39 +1,34 @@
 -- What holds of an executor's nodes, of what they put on its work list and of what waits for others, and what no step of them
 -- changes.
-use Rattle.std.specs.Prelude.{◌≡◌, ◌≢◌, ◌⊎◌, ◌≤◌, ℕ, Bool, true, List, [], ◌∷◌}
+use Rattle.std.specs.Prelude.{◌≡◌, ◌≢◌, ◌⊎◌, ◌≤◌, ℕ, true, List, [], ◌∷◌}
 use Rattle.pl_event.specs.declared.envelopes.Envelope.{Envelope}
 use Rattle.pl_event.specs.declared.envelopes.Lane.{Lane}
 use Rattle.pl_event.specs.Worlds.{World}
 use Rattle.pl_context.specs.OutputsViews.{OutputsView}
 use Rattle.pl_context.specs.Stops.{HasPlaces}
 use Rattle.pl_words.specs.declared.admission.Refused.TheVariants.{Closed}
-use Rattle.pl_flow.specs.Flows.{Point}
 use Rattle.pl_outbox.specs.Admitting.{AdmitsOnce}
 use Rattle.pl_outbox.specs.OutboxViews.{OutboxesView, Comes, RefusedBy, SendsNothing, SomeClosed}
 use Rattle.pl_threads.specs.declared.cores.Core.{Core}
+use Rattle.pl_threads.specs.NodesViews.{OwnNodesView, NodesKeep}
 use Rattle.pl_threads.specs.Running.{RunsOn}
 
-module _ {W M N S T : Type 0} (target_of : N → Lane → ℕ) (writes : N → Lane → Bool) where
-  -- Between two steps: of each lane that the nodes write, what is on the list follows what went on, up to what was made; one
-  -- of them has failed by a refusal only where some seat has seen its target closed; and no more was admitted than left the
-  -- list.
-  module _ (world : World) (stands : N → Type 0) (home : N → ℕ) (lanes : N → List Lane) (taken_of : N → Lane → ℕ) (came : N → Lane → Point) (was_refused : N → Bool) where
-    -- how an executor's core holds (SingleThreadEventExecutor)
-    pub record CoreHolds (c : Core W M N S T) : Type 0 where
-      pub stood : stands c.nodes
-      pub at_home : home c.nodes ≡ c.number
-      pub places : HasPlaces c.work.stopped (lanes c.nodes)
-      pub runs : RunsOn world c.number (target_of c.nodes) (writes c.nodes) (taken_of c.nodes) (came c.nodes) c.outboxes c.work
-      pub why : was_refused c.nodes ≡ true → SomeClosed c.outboxes
-      pub admits : AdmitsOnce (writes c.nodes) (came c.nodes) c.outboxes c.work
+module _ {W M N S T : Type 0} (view_of : N → OwnNodesView) where
+  -- How an executor's core holds between two steps (SingleThreadEventExecutor). Of each lane that the nodes write, what is on
+  -- the list follows what went on, up to what was made; one of them has failed by a refusal only where some seat has seen its
+  -- target closed; and no more was admitted than left the list.
+  pub record CoreHolds (stands : N → Type 0) (world : World) (c : Core W M N S T) : Type 0 where
+    pub stood : stands c.nodes
+    pub at_home : (view_of c.nodes).home ≡ c.number
+    pub places : HasPlaces c.work.stopped (view_of c.nodes).lanes.places
+    pub runs : RunsOn world c.number (view_of c.nodes).lanes c.outboxes c.work
+    pub why : (view_of c.nodes).was_refused ≡ true → SomeClosed c.outboxes
+    pub admits : AdmitsOnce (view_of c.nodes).lanes c.outboxes c.work
 
-  -- What stays while an executor works. Those are the number, where each lane goes, which are written, and how many
-  -- channels there are; and nothing is sent.
-  pub record CoreKeeps (count : N → ℕ) (c c' : Core W M N S T) : Type 0 where
+  -- What stays while an executor works. Those are its number and what no call of its nodes changes; and nothing is sent.
+  pub record CoreKeeps (c c' : Core W M N S T) : Type 0 where
     pub number : c'.number ≡ c.number
-    pub routes : (l : Lane) → target_of c'.nodes l ≡ target_of c.nodes l
-    pub written : (l : Lane) → writes c'.nodes l ≡ writes c.nodes l
-    pub counts : count c'.nodes ≡ count c.nodes
+    pub nodes : NodesKeep (view_of c.nodes) (view_of c'.nodes)
     pub sends : SendsNothing c.outboxes c'.outboxes
 
 -- The nodes of an executor at work, what waits for others, and the work list.
@@ -52,20 +47,20 @@ pub record IsRest (work : OutputsView) (front : Envelope) (rest : OutputsView) :
   pub stopped : rest.stopped ≡ work.stopped
   pub room : work.room ≤ rest.room
 
-module _ {N : Type 0} (target_of : N → Lane → ℕ) (took : N → Envelope → OutputsView → N → OutputsView → Type 0) (refused_by : N → Lane → OutputsView → N → OutputsView → Type 0) (gave_up : N → Lane → Type 0) where
+module _ {N : Type 0} (view_of : N → OwnNodesView) (took : N → Envelope → OutputsView → N → OutputsView → Type 0) (refused_by : N → Lane → OutputsView → N → OutputsView → Type 0) (gave_up : N → Lane → Type 0) where
   -- What became of an item for another executor: it comes last there, or what stands in for it. Or that executor was found
   -- closed, and the node that writes the item's lane has given up.
   abbrev pub Departs : AtWork N → Envelope → OutputsView → AtWork N → Type 0
-  Departs a x rest b = (Comes a.outboxes (target_of a.nodes x.lane) x b.outboxes × (b.nodes ≡ a.nodes) × (b.work ≡ rest))
-      ⊎ (RefusedBy a.outboxes (target_of a.nodes x.lane) Closed b.outboxes × gave_up b.nodes x.lane × refused_by a.nodes x.lane rest b.nodes b.work)
+  Departs a x rest b = (Comes a.outboxes ((view_of a.nodes).lanes.target x.lane) x b.outboxes × (b.nodes ≡ a.nodes) × (b.work ≡ rest))
+      ⊎ (RefusedBy a.outboxes ((view_of a.nodes).lanes.target x.lane) Closed b.outboxes × gave_up b.nodes x.lane × refused_by a.nodes x.lane rest b.nodes b.work)
 
   module _ (me : ℕ) where
     -- The front of the work list has left it. A node here took it, or it departed.
     pub record FrontGoes (front : Envelope) (a b : AtWork N) : Type 0 where
       pub rest : OutputsView
       pub is_front : IsRest a.work front rest
-      pub here : target_of a.nodes front.lane ≡ me → took a.nodes front rest b.nodes b.work × (b.outboxes ≡ a.outboxes)
-      pub away : target_of a.nodes front.lane ≢ me → Departs a front rest b
+      pub here : (view_of a.nodes).lanes.target front.lane ≡ me → took a.nodes front rest b.nodes b.work × (b.outboxes ≡ a.outboxes)
+      pub away : (view_of a.nodes).lanes.target front.lane ≢ me → Departs a front rest b
 
     -- One front after another has left it. What was between is told the latest first.
     abbrev pub FrontsGo : AtWork N → List (AtWork N) → AtWork N → Type 0

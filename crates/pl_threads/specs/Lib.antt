@@ -1,5 +1,5 @@
+pub mod NodesViews
 pub mod Running
 pub mod Cores
-pub mod Keeping
 pub mod Turning
 pub mod Serving

@@ -10,28 +10,27 @@ use Rattle.pl_queue.specs.declared.views.TakeCount.{TakeCount}
 use Rattle.pl_queue.specs.declared.views.TakerView.{TakerView}
 use Rattle.pl_queue.specs.Views.{next_of}
 use Rattle.pl_words.specs.Admissions.{AdmittedView, OwnerSeatView, SendSeatView}
-use Rattle.pl_flow.specs.Flows.{Point, point, on}
+use Rattle.pl_flow.specs.Flows.{point, on}
+use Rattle.pl_flow.specs.LanesViews.{LanesView}
 use Rattle.pl_flow.specs.LaneRuns.{LaneRuns}
 use Rattle.pl_outbox.specs.OutboxViews.{OutboxesView, reached, is_cut, is_closed, waits_in}
+use Rattle.pl_threads.specs.NodesViews.{OwnNodesView}
 
--- The executor's number; by lane the executor that it enters, whether the nodes write it, how many items of it they have
--- taken, and how far they have made it.
-module _ (world : World) (me : ℕ) (target : Lane → ℕ) (writes : Lane → Bool) (taken : Lane → ℕ) (came : Lane → Point) where
-  -- of each lane, what an executor's list has follows what went on (SingleThreadEventExecutor)
-  pub record RunsOn (o : OutboxesView) (work : OutputsView) : Type 0 where
-    pub own : (l : Lane) → target l ≡ me → writes l ≡ true → (over : Bool) × LaneRuns world (point (taken l) over) false (has_stopped work.stopped l) (on l work.items) (came l)
-    pub away : (l : Lane) → target l ≢ me → writes l ≡ true → LaneRuns world (reached o (target l) l) (is_cut o (target l) l) (has_stopped work.stopped l) (on l work.items) (came l)
-    pub others : (l : Lane) → writes l ≡ false → on l work.items ≡ []
-    -- each lane that is written has its target, with a place there
-    pub there : (l : Lane) → writes l ≡ true → target l ≢ me → target l < length o.outboxes
-    pub hops : ℕ → List Lane
-    pub placed : (y : ℕ) → y < length o.outboxes → HasPlaces (stops_for o.waiting y) (hops y)
-    pub among : (l : Lane) → writes l ≡ true → AreAmong (l ∷ []) (hops (target l))
+-- of each lane, what the list of an executor of this number has follows what went on (SingleThreadEventExecutor)
+pub record RunsOn (world : World) (me : ℕ) (v : LanesView) (o : OutboxesView) (work : OutputsView) : Type 0 where
+  pub own : (l : Lane) → v.target l ≡ me → v.written l ≡ true → (over : Bool) × LaneRuns world (point (v.taken l) over) false (has_stopped work.stopped l) (on l work.items) (v.came l)
+  pub away : (l : Lane) → v.target l ≢ me → v.written l ≡ true → LaneRuns world (reached o (v.target l) l) (is_cut o (v.target l) l) (has_stopped work.stopped l) (on l work.items) (v.came l)
+  pub others : (l : Lane) → v.written l ≡ false → on l work.items ≡ []
+  -- each lane that is written has its target, with a place there
+  pub there : (l : Lane) → v.written l ≡ true → v.target l ≢ me → v.target l < length o.outboxes
+  pub hops : ℕ → List Lane
+  pub placed : (y : ℕ) → y < length o.outboxes → HasPlaces (stops_for o.waiting y) (hops y)
+  pub among : (l : Lane) → v.written l ≡ true → AreAmong (l ∷ []) (hops (v.target l))
 
 -- What a taker is to take is the nodes' next. It enters one of the executor's nodes, and none of them writes it.
-abbrev pub IsTaking : ℕ → (Lane → ℕ) → (Lane → Bool) → (Lane → ℕ) → List TakeCount → Type 0
-IsTaking me target writes taken counts =
-    (l : Lane) (n : ℕ) → next_of l counts ≡ Some n → (target l ≡ me) × (writes l ≡ false) × (taken l ≡ n)
+abbrev pub IsTaking : ℕ → LanesView → List TakeCount → Type 0
+IsTaking me v counts =
+    (l : Lane) (n : ℕ) → next_of l counts ≡ Some n → (v.target l ≡ me) × (v.written l ≡ false) × (v.taken l ≡ n)
 
 -- An executor between two of its turns. It has its number, its nodes, its way out, what it knows of its queue, its
 -- right to close that, and the number of its next turn.
@@ -60,19 +59,19 @@ pub record FinishedView (N : Type 0) : Type 0 where
   pub waiting : WaitingView AdmittedView
   pub refusal : Option SendSeatView
 
-module _ {N : Type 0} (was_refused : N → Bool) where
+module _ {N : Type 0} (view_of : N → OwnNodesView) where
   -- An executor has ended: its queue is closed, and nothing waits. That was closed with as many as were taken. One of
   -- its nodes has failed by a refusal only where a seat has seen its target closed.
   pub record IsFinished (f : FinishedView N) : Type 0 where
     pub closed : is_closed f.owner.phase ≡ true
     pub count : f.owner.run ≡ f.takes.pops
     pub drained : (y : ℕ) → waits_in f.waiting y ≡ []
-    pub why : was_refused f.nodes ≡ true → (seat : SendSeatView) × (f.refusal ≡ Some seat) × (is_closed seat.seen ≡ true)
+    pub why : (view_of f.nodes).was_refused ≡ true → (seat : SendSeatView) × (f.refusal ≡ Some seat) × (is_closed seat.seen ≡ true)
 
   -- The executor of this number has ended so. It had this right to its own queue: its nodes are those of its number,
   -- and the right is that to the same queue.
-  pub record EndsAs (home : N → ℕ) (me : ℕ) (owner : OwnerSeatView) (f : FinishedView N) : Type 0 where
+  pub record EndsAs (me : ℕ) (owner : OwnerSeatView) (f : FinishedView N) : Type 0 where
     pub number : f.number ≡ me
-    pub at_home : home f.nodes ≡ me
+    pub at_home : (view_of f.nodes).home ≡ me
     pub name : f.owner.name ≡ owner.name
     pub finished : IsFinished f

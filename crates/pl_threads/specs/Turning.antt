@@ -12,6 +12,7 @@ use Rattle.pl_queue.specs.Views.{after_offer, after_take}
 use Rattle.pl_words.specs.Admissions.{AdmittedView, OwnerSeatView}
 use Rattle.pl_outbox.specs.OutboxViews.{OutboxesView, Sends, sends_for, waits_for, oldest_untried, SameFor, SendsNothing, is_closed}
 use Rattle.pl_threads.specs.Cores.{WorksOffAfter}
+use Rattle.pl_threads.specs.NodesViews.{OwnNodesView}
 use Rattle.pl_threads.specs.Running.{ExecutorView}
 
 -- The oldest that waited for a target whose queue was not full was sent there, and nothing else was sent.
@@ -58,12 +59,12 @@ pub record Hands {N : Type 0} (e e' : ExecutorView N) : Type 0 where
   pub same : e' ≡ record e { outboxes = e'.outboxes }
   pub sends : ((y : ℕ) → SameFor e.outboxes e'.outboxes y) ⊎ ((target : ℕ) × Sends e.outboxes target e'.outboxes)
 
-module _ {N : Type 0} (target_of : N → Lane → ℕ) (took : N → Envelope → OutputsView → N → OutputsView → Type 0) (refused_by : N → Lane → OutputsView → N → OutputsView → Type 0) (gave_up : N → Lane → Type 0) where
+module _ {N : Type 0} (view_of : N → OwnNodesView) (took : N → Envelope → OutputsView → N → OutputsView → Type 0) (refused_by : N → Lane → OutputsView → N → OutputsView → Type 0) (gave_up : N → Lane → Type 0) where
   -- A node took what was taken from the queue, with nothing on the work list before, and that list was worked off.
   pub record TakesTask (task : Envelope) (e e' : ExecutorView N) : Type 0 where
     pub work : OutputsView
     pub empty : work.items ≡ []
-    pub works : WorksOffAfter target_of took refused_by gave_up e.number (took e.nodes task work) e.outboxes e'.nodes e'.outboxes
+    pub works : WorksOffAfter view_of took refused_by gave_up e.number (took e.nodes task work) e.outboxes e'.nodes e'.outboxes
 
   -- A node took one item from the queue. The queue is not closed, and the node took what was taken from it.
   abbrev pub TakesOne : ExecutorView N → ExecutorView N → Type 0
@@ -81,7 +82,7 @@ module _ {N : Type 0} (target_of : N → Lane → ℕ) (took : N → Envelope �
     pub record MovesHead (by : HeadMove) (at : ℕ) (e e' : ExecutorView N) : Type 0 where
       pub work : OutputsView
       pub empty : work.items ≡ []
-      pub works : WorksOffAfter target_of took refused_by gave_up e.number (moved e.nodes by at work) e.outboxes e'.nodes e'.outboxes
+      pub works : WorksOffAfter view_of took refused_by gave_up e.number (moved e.nodes by at work) e.outboxes e'.nodes e'.outboxes
 
     -- It made one, or none; nothing else was done.
     pub record Moves (by : HeadMove) (at : ℕ) (e e' : ExecutorView N) : Type 0 where

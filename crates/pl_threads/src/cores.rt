@@ -1,14 +1,14 @@
 //! The work list of an executor, and its direct calls.
 
-ghost use Rattle.std.specs.Prelude.{◌≡◌, ◌≢◌, ◌+◌, ◌<◌, ℕ, List, [], ◌∷◌, cond, false, true, IfSome, IfNone};
+ghost use Rattle.std.specs.Prelude.{◌≡◌, ◌<◌, ℕ, List, [], false, true, IfSome, IfNone};
 ghost use Rattle.pl_event.specs.declared.envelopes.Envelope.{Envelope};
-ghost use Rattle.pl_event.specs.declared.envelopes.Lane.{Lane};
-ghost use Rattle.pl_event.specs.Hops.{same_lane};
 ghost use Rattle.pl_context.specs.WaitingViews.{Entry, Holds};
 ghost use Rattle.pl_words.specs.Admissions.{AdmittedView};
 ghost use Rattle.pl_flow.specs.Flows.{IsGood};
+ghost use Rattle.pl_flow.specs.LanesViews.{taken_with};
 ghost use Rattle.pl_outbox.specs.OutboxViews.{SameFor, Sends, oldest_untried};
 ghost use Rattle.pl_threads.specs.Cores.{CoreHolds, CoreKeeps, FrontGoes, WorksOff, WorksOffAfter, at_work};
+ghost use Rattle.pl_threads.specs.NodesViews.{TakesOwn};
 ghost use Rattle.pl_threads.specs.Serving.{ServesNone, MovesAtMostOnce};
 
 use crate::nodes::Nodes;
@@ -34,13 +34,13 @@ impl<'a, W: Named, M: Mailbox<W> + Drop, N: Nodes<W> + Drop> Core<'a, W, M, N> {
     /// Takes the front of the work list: a direct call, or an item for another executor, to its outbox. Where that executor
     /// is closed, the context that wrote it fails. The seat there is never spent. False where the list is empty.
     pub fn step(&mut self) -> bool
-        requires holds { CoreHolds N.target_of N.writes W.world N.stands N.home N.lanes N.taken_of N.came N.was_refused self.old }
-        ensures holds { CoreHolds N.target_of N.writes W.world N.stands N.home N.lanes N.taken_of N.came N.was_refused self.new }
-        ensures keeps { CoreKeeps N.target_of N.writes N.count self.old self.new }
+        requires holds { CoreHolds N.view_of N.stands W.world self.old }
+        ensures holds { CoreHolds N.view_of N.stands W.world self.new }
+        ensures keeps { CoreKeeps N.view_of self.old self.new }
         ensures served { ServesNone (N.served self.old.nodes) (N.served self.new.nodes) }
-        ensures taken { (l : Lane) → N.writes self.old.nodes l ≡ false → N.taken_of self.new.nodes l ≡ N.taken_of self.old.nodes l }
+        ensures taken { TakesOwn (N.view_of self.old.nodes).lanes (N.view_of self.new.nodes).lanes }
         // Its node takes the front. Or it waits for another executor; or that was found closed, and its writer has given up.
-        ensures front { result ≡ true → (front : Envelope) × FrontGoes N.target_of N.took N.refused_by N.gave_up self.old.number front (at_work self.old) (at_work self.new) }
+        ensures front { result ≡ true → (front : Envelope) × FrontGoes N.view_of N.took N.refused_by N.gave_up self.old.number front (at_work self.old) (at_work self.new) }
         ensures empty { result ≡ false → (self.old.work.items ≡ []) × (self.new.work.items ≡ []) × (self.new.nodes ≡ self.old.nodes) × (self.new.outboxes ≡ self.old.outboxes) }
     {
         let Some(envelope) = self.work.next() else {
@@ -62,15 +62,15 @@ impl<'a, W: Named, M: Mailbox<W> + Drop, N: Nodes<W> + Drop> Core<'a, W, M, N> {
 
     /// An item of a lane that another executor writes is taken.
     pub fn take(&mut self, task: Envelope)
-        requires holds { CoreHolds N.target_of N.writes W.world N.stands N.home N.lanes N.taken_of N.came N.was_refused self.old }
-        requires here { N.target_of self.old.nodes task.lane ≡ self.old.number }
-        requires foreign { N.writes self.old.nodes task.lane ≡ false }
-        requires number { task.number ≡ N.taken_of self.old.nodes task.lane }
+        requires holds { CoreHolds N.view_of N.stands W.world self.old }
+        requires here { (N.view_of self.old.nodes).lanes.target task.lane ≡ self.old.number }
+        requires foreign { (N.view_of self.old.nodes).lanes.written task.lane ≡ false }
+        requires number { task.number ≡ (N.view_of self.old.nodes).lanes.taken task.lane }
         requires good { IsGood W.world task }
-        ensures holds { CoreHolds N.target_of N.writes W.world N.stands N.home N.lanes N.taken_of N.came N.was_refused self.new }
-        ensures keeps { CoreKeeps N.target_of N.writes N.count self.old self.new }
+        ensures holds { CoreHolds N.view_of N.stands W.world self.new }
+        ensures keeps { CoreKeeps N.view_of self.old self.new }
         ensures served { ServesNone (N.served self.old.nodes) (N.served self.new.nodes) }
-        ensures taken { (l : Lane) → N.taken_of self.new.nodes l ≡ cond (same_lane l task.lane) (task.number + 1) (N.taken_of self.old.nodes l) }
+        ensures taken { (N.view_of self.new.nodes).lanes.taken ≡ taken_with (N.view_of self.old.nodes).lanes.taken task }
         ensures took { N.took self.old.nodes task self.old.work self.new.nodes self.new.work }
         ensures outboxes { self.new.outboxes ≡ self.old.outboxes }
     {
@@ -79,13 +79,13 @@ impl<'a, W: Named, M: Mailbox<W> + Drop, N: Nodes<W> + Drop> Core<'a, W, M, N> {
 
     /// Works the list off.
     pub fn work_off<R: Wait>(&mut self, rt: &R)
-        requires holds { CoreHolds N.target_of N.writes W.world N.stands N.home N.lanes N.taken_of N.came N.was_refused self.old }
-        ensures holds { CoreHolds N.target_of N.writes W.world N.stands N.home N.lanes N.taken_of N.came N.was_refused self.new }
-        ensures keeps { CoreKeeps N.target_of N.writes N.count self.old self.new }
+        requires holds { CoreHolds N.view_of N.stands W.world self.old }
+        ensures holds { CoreHolds N.view_of N.stands W.world self.new }
+        ensures keeps { CoreKeeps N.view_of self.old self.new }
         ensures served { ServesNone (N.served self.old.nodes) (N.served self.new.nodes) }
-        ensures taken { (l : Lane) → N.writes self.old.nodes l ≡ false → N.taken_of self.new.nodes l ≡ N.taken_of self.old.nodes l }
+        ensures taken { TakesOwn (N.view_of self.old.nodes).lanes (N.view_of self.new.nodes).lanes }
         ensures empty { self.new.work.items ≡ [] }
-        ensures works { WorksOff N.target_of N.took N.refused_by N.gave_up self.old.number (at_work self.old) self.new.nodes self.new.outboxes }
+        ensures works { WorksOff N.view_of N.took N.refused_by N.gave_up self.old.number (at_work self.old) self.new.nodes self.new.outboxes }
     {
         for _ in rt.forever() {
             if !self.step() {
@@ -97,17 +97,17 @@ impl<'a, W: Named, M: Mailbox<W> + Drop, N: Nodes<W> + Drop> Core<'a, W, M, N> {
 
     /// A move of a channel's head, with the direct calls that follow. False where it is not enabled.
     pub fn move_head<R: Wait>(&mut self, rt: &R, by: HeadMove, channel: usize) -> bool
-        requires there { channel < N.count self.old.nodes }
-        requires holds { CoreHolds N.target_of N.writes W.world N.stands N.home N.lanes N.taken_of N.came N.was_refused self.old }
+        requires there { channel < (N.view_of self.old.nodes).channels }
+        requires holds { CoreHolds N.view_of N.stands W.world self.old }
         requires empty { self.old.work.items ≡ [] }
         ensures enabled { N.may_move self.old.nodes by channel result }
         ensures idle { result ≡ false → self.new ≡ self.old }
-        ensures holds { CoreHolds N.target_of N.writes W.world N.stands N.home N.lanes N.taken_of N.came N.was_refused self.new }
-        ensures keeps { CoreKeeps N.target_of N.writes N.count self.old self.new }
+        ensures holds { CoreHolds N.view_of N.stands W.world self.new }
+        ensures keeps { CoreKeeps N.view_of self.old self.new }
         ensures served { MovesAtMostOnce by (N.served self.old.nodes) (N.served self.new.nodes) }
-        ensures taken { (l : Lane) → N.writes self.old.nodes l ≡ false → N.taken_of self.new.nodes l ≡ N.taken_of self.old.nodes l }
+        ensures taken { TakesOwn (N.view_of self.old.nodes).lanes (N.view_of self.new.nodes).lanes }
         ensures empty { self.new.work.items ≡ [] }
-        ensures moved { result ≡ true → WorksOffAfter N.target_of N.took N.refused_by N.gave_up self.old.number (N.moved self.old.nodes by channel self.old.work) self.old.outboxes self.new.nodes self.new.outboxes }
+        ensures moved { result ≡ true → WorksOffAfter N.view_of N.took N.refused_by N.gave_up self.old.number (N.moved self.old.nodes by channel self.old.work) self.old.outboxes self.new.nodes self.new.outboxes }
     {
         if !self.nodes.move_head(by, channel, &mut self.work) {
             return false;
@@ -119,8 +119,8 @@ impl<'a, W: Named, M: Mailbox<W> + Drop, N: Nodes<W> + Drop> Core<'a, W, M, N> {
     /// Hands over the oldest envelope whose queue has room: each queue is tried once. The target to which it went, or None
     /// where nothing waits but for queues that are full.
     pub fn hand<R: Wait>(&mut self, rt: &R) -> Option<usize>
-        requires holds { CoreHolds N.target_of N.writes W.world N.stands N.home N.lanes N.taken_of N.came N.was_refused self.old }
-        ensures holds { CoreHolds N.target_of N.writes W.world N.stands N.home N.lanes N.taken_of N.came N.was_refused self.new }
+        requires holds { CoreHolds N.view_of N.stands W.world self.old }
+        ensures holds { CoreHolds N.view_of N.stands W.world self.new }
         ensures nodes { self.new.nodes ≡ self.old.nodes }
         ensures number { self.new.number ≡ self.old.number }
         ensures work { self.new.work ≡ self.old.work }

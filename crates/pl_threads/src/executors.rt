@@ -64,14 +64,14 @@ impl<'a, W: Named, M: Mailbox<W> + Drop, N: Nodes<W> + Drop> Model for Executor<
 
     ghost Value = { ExecutorView N };
 
-    ghost view = { λ e. record { number = e.core.number; nodes = e.core.nodes; outboxes = e.core.outboxes; takes = M.takes_of e.taker; owner = e.owner; turns = e.turns } };
+    ghost view = { λ e. record { number = e.core.number; nodes = e.core.nodes; outboxes = e.core.outboxes; takes = M.ends.takes_of e.taker; owner = e.owner; turns = e.turns } };
 
-    ghost invariant = { λ e. CoreHolds N.target_of N.writes W.world N.stands N.home N.lanes N.taken_of N.came N.was_refused e.core
+    ghost invariant = { λ e. CoreHolds N.view_of N.stands W.world e.core
         × (e.core.work.items ≡ [])
-        × M.is_taker e.inbox.now.mailbox e.taker
-        × IsTaking e.core.number (N.target_of e.core.nodes) (N.writes e.core.nodes) (N.taken_of e.core.nodes) (M.takes_of e.taker).counts
+        × M.ends.is_taker e.inbox.now.mailbox e.taker
+        × IsTaking e.core.number (N.view_of e.core.nodes).lanes (M.ends.takes_of e.taker).counts
         × (e.owner.name ≡ e.inbox.now.admission.name)
-        × IsCounting e.owner e.is_closed e.run (M.takes_of e.taker).pops
+        × IsCounting e.owner e.is_closed e.run (M.ends.takes_of e.taker).pops
         × (e.core.number < 2 ^ 16) };
 }
 
@@ -87,19 +87,19 @@ impl<'a, W: Named, M: Mailbox<W> + Drop, N: Nodes<W> + Drop> Executor<'a, W, M, 
         owner: OwnerSeat,
     ) -> Self
         requires stands { N.stands core.nodes }
-        requires home { N.home core.nodes ≡ core.number }
-        requires places { HasPlaces core.work.stopped (N.lanes core.nodes) }
-        requires runs { RunsOn W.world core.number (N.target_of core.nodes) (N.writes core.nodes) (N.taken_of core.nodes) (N.came core.nodes) core.outboxes core.work }
-        requires why { N.was_refused core.nodes ≡ true → SomeClosed core.outboxes }
-        requires few { FewLanes (N.writes core.nodes) }
+        requires home { (N.view_of core.nodes).home ≡ core.number }
+        requires places { HasPlaces core.work.stopped (N.view_of core.nodes).lanes.places }
+        requires runs { RunsOn W.world core.number (N.view_of core.nodes).lanes core.outboxes core.work }
+        requires why { (N.view_of core.nodes).was_refused ≡ true → SomeClosed core.outboxes }
+        requires few { FewLanes (N.view_of core.nodes).lanes }
         requires admitted { admissions core.outboxes ≡ 0 }
         requires empty { core.work.items ≡ [] }
-        requires taker { M.is_taker inbox.now.mailbox taker }
-        requires taking { IsTaking core.number (N.target_of core.nodes) (N.writes core.nodes) (N.taken_of core.nodes) (M.takes_of taker).counts }
-        requires fresh { (M.takes_of taker).pops ≡ 0 }
+        requires taker { M.ends.is_taker inbox.now.mailbox taker }
+        requires taking { IsTaking core.number (N.view_of core.nodes).lanes (M.ends.takes_of taker).counts }
+        requires fresh { (M.ends.takes_of taker).pops ≡ 0 }
         requires owner { owner ≡ new_owner_seat inbox.now.admission.name }
         requires number { core.number < 2 ^ 16 }
-        ensures { result ≡ record { number = core.entry.number; nodes = core.entry.nodes; outboxes = core.entry.outboxes; takes = M.takes_of taker; owner = owner; turns = 0 } }
+        ensures { result ≡ record { number = core.entry.number; nodes = core.entry.nodes; outboxes = core.entry.outboxes; takes = M.ends.takes_of taker; owner = owner; turns = 0 } }
     {
         Executor {
             core,
@@ -112,8 +112,8 @@ impl<'a, W: Named, M: Mailbox<W> + Drop, N: Nodes<W> + Drop> Executor<'a, W, M, 
         }
     }
 
-    /// One turn, of which the gate is told first: at most one envelope is handed over and one task is run, and each channel
-    /// makes at most one read step and one write. Where nothing moved and all here has ended, it closes its queue if it can.
+    /// One turn, of which the gate is told first: at most one envelope is handed over and one task is run, and one channel makes
+    /// at most one read step and one write. Where nothing moved and all here has ended, it closes its queue if it can.
     pub fn turn<R: Wait, G: Gate>(&mut self, rt: &R, gate: &G) -> Turn
         ensures number { self.new.number ≡ self.old.number }
         ensures turns { self.new.turns ≡ min (self.old.turns + 1) (2 ^ 64 - 1) }
@@ -124,8 +124,8 @@ impl<'a, W: Named, M: Mailbox<W> + Drop, N: Nodes<W> + Drop> Executor<'a, W, M, 
         // No channel makes more than one read step, or more than one call of its transport.
         ensures served { ServesAtMostOnce (N.served self.old.nodes) (N.served self.new.nodes) }
         // What it did, one after another; its own queue and the turn's number aside.
-        ensures does { Turns N.target_of N.took N.refused_by N.gave_up N.moved self.old (record self.new { owner = self.old.owner; turns = self.old.turns }) }
-        ensures idle { result ≢ Worked → IsStill self.old self.new × ((c : ℕ) → c < N.count self.new.nodes → (by : HeadMove) → N.may_move self.new.nodes by c false) }
+        ensures does { Turns N.view_of N.took N.refused_by N.gave_up N.moved self.old (record self.new { owner = self.old.owner; turns = self.old.turns }) }
+        ensures idle { result ≢ Worked → IsStill self.old self.new × ((c : ℕ) → c < (N.view_of self.new.nodes).channels → (by : HeadMove) → N.may_move self.new.nodes by c false) }
         ensures done { result ≡ Done → (is_closed self.new.owner.phase ≡ true) × N.are_over self.new.nodes × ((y : ℕ) → waits_for self.new.outboxes y ≡ []) }
         ensures name { self.new.owner.name ≡ self.old.owner.name }
         // It begins to close, and closes, only where all here had ended before the turn.
@@ -133,7 +133,7 @@ impl<'a, W: Named, M: Mailbox<W> + Drop, N: Nodes<W> + Drop> Executor<'a, W, M, 
         ensures later { rank self.old.owner.phase ≤ rank self.new.owner.phase }
         ensures count { is_closed self.new.owner.phase ≡ true → self.new.owner.run ≡ self.new.takes.pops }
         // One of its nodes has failed by a refusal only where some seat has seen its target closed.
-        ensures why { N.was_refused self.new.nodes ≡ true → SomeClosed self.new.outboxes }
+        ensures why { (N.view_of self.new.nodes).was_refused ≡ true → SomeClosed self.new.outboxes }
     {
         gate.enter(self.core.number as u16, self.turns);
         let has_moved = self.moves(rt, gate);
@@ -156,8 +156,8 @@ impl<'a, W: Named, M: Mailbox<W> + Drop, N: Nodes<W> + Drop> Executor<'a, W, M, 
         ensures takes { TakesAtMostOne self.old self.new }
         ensures sends { SendsAtMostOne self.old.outboxes self.new.outboxes }
         ensures served { ServesAtMostOnce (N.served self.old.nodes) (N.served self.new.nodes) }
-        ensures does { Turns N.target_of N.took N.refused_by N.gave_up N.moved self.old self.new }
-        ensures idle { result ≡ false → IsStill self.old self.new × ((c : ℕ) → c < N.count self.new.nodes → (by : HeadMove) → N.may_move self.new.nodes by c false) }
+        ensures does { Turns N.view_of N.took N.refused_by N.gave_up N.moved self.old self.new }
+        ensures idle { result ≡ false → IsStill self.old self.new × ((c : ℕ) → c < (N.view_of self.new.nodes).channels → (by : HeadMove) → N.may_move self.new.nodes by c false) }
     {
         let handed = self.hand(rt, gate).is_some();
         let ran = self.run_task(rt, gate);
@@ -173,7 +173,7 @@ impl<'a, W: Named, M: Mailbox<W> + Drop, N: Nodes<W> + Drop> Executor<'a, W, M, 
     pub fn run_task<R: Wait, G: Gate>(&mut self, rt: &R, gate: &G) -> bool
         requires entered { G.was_entered gate.now self.old.number self.old.turns }
         ensures number { self.new.number ≡ self.old.number }
-        ensures task { result ≡ true → TakesOne N.target_of N.took N.refused_by N.gave_up self.old self.new }
+        ensures task { result ≡ true → TakesOne N.view_of N.took N.refused_by N.gave_up self.old self.new }
         ensures none { result ≡ false → self.new ≡ self.old }
         ensures sends { SendsNothing self.old.outboxes self.new.outboxes }
         ensures served { ServesNone (N.served self.old.nodes) (N.served self.new.nodes) }
@@ -218,7 +218,7 @@ impl<'a, W: Named, M: Mailbox<W> + Drop, N: Nodes<W> + Drop> Executor<'a, W, M, 
     fn serve_one<R: Wait>(&mut self, rt: &R, handed: bool)
         ensures serves { OnlyServes self.old self.new }
         ensures served { ServesAtMostOnce (N.served self.old.nodes) (N.served self.new.nodes) }
-        ensures moves { ServesOne N.target_of N.took N.refused_by N.gave_up N.moved self.old self.new }
+        ensures moves { ServesOne N.view_of N.took N.refused_by N.gave_up N.moved self.old self.new }
     {
         let count = self.channels();
         if count == 0 {
@@ -237,8 +237,8 @@ impl<'a, W: Named, M: Mailbox<W> + Drop, N: Nodes<W> + Drop> Executor<'a, W, M, 
     fn serve_first<R: Wait>(&mut self, rt: &R) -> bool
         ensures serves { OnlyServes self.old self.new }
         ensures served { ServesAtMostOnce (N.served self.old.nodes) (N.served self.new.nodes) }
-        ensures moves { ServesOne N.target_of N.took N.refused_by N.gave_up N.moved self.old self.new }
-        ensures idle { result ≡ false → (self.new ≡ self.old) × ((c : ℕ) → c < N.count self.new.nodes → (by : HeadMove) → N.may_move self.new.nodes by c false) }
+        ensures moves { ServesOne N.view_of N.took N.refused_by N.gave_up N.moved self.old self.new }
+        ensures idle { result ≡ false → (self.new ≡ self.old) × ((c : ℕ) → c < (N.view_of self.new.nodes).channels → (by : HeadMove) → N.may_move self.new.nodes by c false) }
     {
         let count = self.channels();
         if count == 0 {
@@ -250,10 +250,10 @@ impl<'a, W: Named, M: Mailbox<W> + Drop, N: Nodes<W> + Drop> Executor<'a, W, M, 
 
     /// One read step and one write of the first channel from one on, up to another, that has any enabled. False where none has.
     fn serve_between<R: Wait>(&mut self, rt: &R, from: usize, to: usize) -> bool
-        requires there { to ≤ N.count self.old.nodes }
+        requires there { to ≤ (N.view_of self.old.nodes).channels }
         ensures serves { OnlyServes self.old self.new }
         ensures served { ServesAtMostOnce (N.served self.old.nodes) (N.served self.new.nodes) }
-        ensures moves { ServesOne N.target_of N.took N.refused_by N.gave_up N.moved self.old self.new }
+        ensures moves { ServesOne N.view_of N.took N.refused_by N.gave_up N.moved self.old self.new }
         ensures same { result ≡ false → self.new ≡ self.old }
         ensures idle { result ≡ false → (c : ℕ) → from ≤ c → c < to → (by : HeadMove) → N.may_move self.old.nodes by c false }
     {
@@ -267,17 +267,17 @@ impl<'a, W: Named, M: Mailbox<W> + Drop, N: Nodes<W> + Drop> Executor<'a, W, M, 
 
     /// How many channels have their heads here.
     fn channels(&self) -> usize
-        ensures { result ≡ N.count self.now.nodes }
+        ensures { result ≡ (N.view_of self.now.nodes).channels }
     {
         self.core.nodes.channels()
     }
 
     /// One read step and one write of a channel. False where neither was enabled.
     fn serve<R: Wait>(&mut self, rt: &R, channel: usize) -> bool
-        requires there { channel < N.count self.old.nodes }
+        requires there { channel < (N.view_of self.old.nodes).channels }
         ensures serves { OnlyServes self.old self.new }
         ensures served { ServesAtMostOnce (N.served self.old.nodes) (N.served self.new.nodes) }
-        ensures moves { ServesOne N.target_of N.took N.refused_by N.gave_up N.moved self.old self.new }
+        ensures moves { ServesOne N.view_of N.took N.refused_by N.gave_up N.moved self.old self.new }
         ensures idle { result ≡ false → (self.new ≡ self.old) × ((by : HeadMove) → N.may_move self.old.nodes by channel false) }
     {
         let has_read = self.move_head(rt, HeadMove::Read, channel);
@@ -287,13 +287,13 @@ impl<'a, W: Named, M: Mailbox<W> + Drop, N: Nodes<W> + Drop> Executor<'a, W, M, 
 
     /// A move of a channel's head. False where it was not enabled.
     fn move_head<R: Wait>(&mut self, rt: &R, by: HeadMove, channel: usize) -> bool
-        requires there { channel < N.count self.old.nodes }
+        requires there { channel < (N.view_of self.old.nodes).channels }
         ensures serves { OnlyServes self.old self.new }
         ensures served { MovesAtMostOnce by (N.served self.old.nodes) (N.served self.new.nodes) }
-        ensures count { N.count self.new.nodes ≡ N.count self.old.nodes }
+        ensures count { (N.view_of self.new.nodes).channels ≡ (N.view_of self.old.nodes).channels }
         ensures enabled { N.may_move self.old.nodes by channel result }
         ensures idle { result ≡ false → self.new ≡ self.old }
-        ensures moves { result ≡ true → MovesHead N.target_of N.took N.refused_by N.gave_up N.moved by channel self.old self.new }
+        ensures moves { result ≡ true → MovesHead N.view_of N.took N.refused_by N.gave_up N.moved by channel self.old self.new }
     {
         self.core.move_head(rt, by, channel)
     }
@@ -332,7 +332,7 @@ impl<'a, W: Named, M: Mailbox<W> + Drop, N: Nodes<W> + Drop> Executor<'a, W, M, 
         parker: Parker,
     ) -> Option<Finished<W, M, N>>
         // Its own queue is closed, and nothing waits for others.
-        ensures ended { IfSome result (EndsAs N.was_refused N.home self.entry.number self.entry.owner) }
+        ensures ended { IfSome result (EndsAs N.view_of self.entry.number self.entry.owner) }
         // The gate was told of its first turn here.
         ensures entered { IfSome result (λ _. G.was_entered gate.now self.entry.number self.entry.turns) }
     {
@@ -392,7 +392,7 @@ impl<'a, W: Named, M: Mailbox<W> + Drop, N: Nodes<W> + Drop> Executor<'a, W, M, 
         requires over { N.are_over self.nodes }
         requires closed { is_closed self.owner.phase ≡ true }
         requires drained { (y : ℕ) → waits_for self.outboxes y ≡ [] }
-        ensures { EndsAs N.was_refused N.home self.entry.number self.entry.owner result }
+        ensures { EndsAs N.view_of self.entry.number self.entry.owner result }
     {
         let Executor {
             core,

@@ -29,9 +29,9 @@ impl<W: Named, M: Mailbox<W> + Drop, N: Nodes<W> + Drop> Model for Finished<W, M
 
     ghost Value = { FinishedView N };
 
-    ghost view = { λ f. record { number = f.number; nodes = f.nodes; owner = f.owner; takes = M.takes_of f.taker; waiting = f.waiting; refusal = f.refusal } };
+    ghost view = { λ f. record { number = f.number; nodes = f.nodes; owner = f.owner; takes = M.ends.takes_of f.taker; waiting = f.waiting; refusal = f.refusal } };
 
-    ghost invariant = { λ f. N.stands f.nodes × N.are_over f.nodes × IsFinished N.was_refused (record { number = f.number; nodes = f.nodes; owner = f.owner; takes = M.takes_of f.taker; waiting = f.waiting; refusal = f.refusal }) };
+    ghost invariant = { λ f. N.stands f.nodes × N.are_over f.nodes × IsFinished N.view_of (record { number = f.number; nodes = f.nodes; owner = f.owner; takes = M.ends.takes_of f.taker; waiting = f.waiting; refusal = f.refusal }) };
 }
 
 impl<W: Named, M: Mailbox<W> + Drop, N: Nodes<W> + Drop> Finished<W, M, N> {
@@ -46,8 +46,8 @@ impl<W: Named, M: Mailbox<W> + Drop, N: Nodes<W> + Drop> Finished<W, M, N> {
     ) -> Self
         requires stands { N.stands nodes }
         requires over { N.are_over nodes }
-        requires finished { IsFinished N.was_refused (record { number = number; nodes = nodes; owner = owner; takes = M.takes_of taker; waiting = waiting; refusal = refusal }) }
-        ensures { result ≡ record { number = number; nodes = nodes; owner = owner; takes = M.takes_of taker; waiting = waiting; refusal = refusal } }
+        requires finished { IsFinished N.view_of (record { number = number; nodes = nodes; owner = owner; takes = M.ends.takes_of taker; waiting = waiting; refusal = refusal }) }
+        ensures { result ≡ record { number = number; nodes = nodes; owner = owner; takes = M.ends.takes_of taker; waiting = waiting; refusal = refusal } }
     {
         Finished {
             number,
@@ -65,7 +65,7 @@ impl<W: Named, M: Mailbox<W> + Drop, N: Nodes<W> + Drop> Finished<W, M, N> {
         ensures nodes { result ≡ self.nodes }
         ensures stands { N.stands result }
         ensures over { N.are_over result }
-        ensures finished { IsFinished N.was_refused self }
+        ensures finished { IsFinished N.view_of self }
     {
         let Finished { nodes, .. } = self;
         nodes

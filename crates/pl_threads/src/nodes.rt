@@ -1,15 +1,14 @@
 //! What an executor runs: contexts, tails and heads.
 
-ghost use Rattle.std.specs.Prelude.{◌≡◌, ◌+◌, ◌<◌, ℕ, Bool, false, true, List, cond};
+ghost use Rattle.std.specs.Prelude.{◌≡◌, ◌<◌, ℕ, Bool, false, true};
 ghost use Rattle.pl_event.specs.declared.envelopes.Envelope.{Envelope};
 ghost use Rattle.pl_event.specs.declared.envelopes.Lane.{Lane};
-ghost use Rattle.pl_event.specs.Hops.{same_lane};
 ghost use Rattle.pl_context.specs.OutputsViews.{OutputsView};
 ghost use Rattle.pl_context.specs.Stops.{HasPlaces};
 ghost use Rattle.pl_flow.specs.declared.moves.HeadMove.{HeadMove};
-ghost use Rattle.pl_flow.specs.Flows.{Point, IsGood};
-ghost use Rattle.pl_flow.specs.Makes.{Makes};
-ghost use Rattle.pl_threads.specs.Keeping.{NodesKeep, KeepsPlaces};
+ghost use Rattle.pl_flow.specs.Flows.{IsGood};
+ghost use Rattle.pl_flow.specs.LanesViews.{KeepsPlaces, taken_with};
+ghost use Rattle.pl_threads.specs.NodesViews.{OwnNodesView, NodesKeep, LanesMake};
 ghost use Rattle.pl_threads.specs.Serving.{Served, ServesNone, MovesAtMostOnce};
 
 use pl_context::Outputs;
@@ -18,33 +17,13 @@ use pl_flow::HeadMove;
 
 /// The nodes of an executor. What they make of an item they put on a work list, lane by lane the next items of that lane.
 pub trait Nodes<W: Named>: Sized {
-    /// The executor that these nodes are on.
-    ghost home: { Self → ℕ };
-
-    /// The lanes for which they need places on a work list.
-    ghost lanes: { Self → List Lane };
-
-    /// The executor that a lane enters: the nodes' own only where one of them is entered.
-    ghost target_of: { Self → Lane → ℕ };
-
-    /// Whether one of these nodes writes a lane.
-    ghost writes: { Self → Lane → Bool };
-
-    /// How many items of a lane were taken.
-    ghost taken_of: { Self → Lane → ℕ };
-
-    /// How far a lane was made.
-    ghost came: { Self → Lane → Point };
-
-    /// Whether one of them has failed by `refuse`.
-    ghost was_refused: { Self → Bool };
+    /// Where they are, where their lanes go, and how far these have come. A lane enters the nodes' own executor only where one
+    /// of them is entered. A call names a channel whose head is among them by its place.
+    ghost view_of: { Self → OwnNodesView };
 
     /// The node that writes a lane has given up, since nothing more of the lane is accepted: it has ended or failed, where
     /// it is a context and the lane brings data. A head, and a lane of flags, go on.
     ghost gave_up: { Self → Lane → Type 0 };
-
-    /// How many channels have their heads among these nodes. A call names one of them by its place.
-    ghost count: { Self → ℕ };
 
     /// The number of the channel at a place.
     ghost channel_at: { Self → ℕ → ℕ };
@@ -76,59 +55,59 @@ pub trait Nodes<W: Named>: Sized {
 
     /// The executor that a lane enters.
     fn target(&self, lane: Lane) -> usize
-        ensures { result ≡ target_of self.now lane };
+        ensures { result ≡ (view_of self.now).lanes.target lane };
 
     /// The node that the envelope's lane enters takes it.
     fn take(&mut self, envelope: Envelope, work: &mut Outputs)
         requires stands { stands self.old }
-        requires here { target_of self.old envelope.lane ≡ home self.old }
-        requires number { envelope.number ≡ taken_of self.old envelope.lane }
+        requires here { (view_of self.old).lanes.target envelope.lane ≡ (view_of self.old).home }
+        requires number { envelope.number ≡ (view_of self.old).lanes.taken envelope.lane }
         requires good { IsGood W.world envelope }
-        requires places { HasPlaces work.old.stopped (lanes self.old) }
+        requires places { HasPlaces work.old.stopped (view_of self.old).lanes.places }
         ensures took { took self.old envelope work.old self.new work.new }
         ensures stands { stands self.new }
-        ensures keeps { NodesKeep target_of writes home lanes count self.old self.new }
-        ensures taken { (l : Lane) → taken_of self.new l ≡ cond (same_lane l envelope.lane) (envelope.number + 1) (taken_of self.old l) }
-        ensures placed { KeepsPlaces (lanes self.old) work.old.stopped work.new.stopped }
-        ensures refused { was_refused self.new ≡ was_refused self.old }
+        ensures keeps { NodesKeep (view_of self.old) (view_of self.new) }
+        ensures taken { (view_of self.new).lanes.taken ≡ taken_with (view_of self.old).lanes.taken envelope }
+        ensures placed { KeepsPlaces (view_of self.old).lanes.places work.old.stopped work.new.stopped }
+        ensures refused { (view_of self.new).was_refused ≡ (view_of self.old).was_refused }
         ensures served { ServesNone (served self.old) (served self.new) }
         ensures tells { tells self.new envelope.lane.channel }
-        ensures made { Makes W.world (writes self.old) (came self.old) (came self.new) work.old work.new };
+        ensures made { LanesMake W.world (view_of self.old).lanes work.old (view_of self.new).lanes work.new };
 
     /// Nothing more of a lane is accepted: the context that writes it fails. A flags lane, and a lane that a head writes,
     /// go on, and what they bring is refused again.
     fn refuse(&mut self, lane: Lane, work: &mut Outputs)
         requires stands { stands self.old }
-        requires places { HasPlaces work.old.stopped (lanes self.old) }
+        requires places { HasPlaces work.old.stopped (view_of self.old).lanes.places }
         ensures stands { stands self.new }
-        ensures keeps { NodesKeep target_of writes home lanes count self.old self.new }
-        ensures taken { (l : Lane) → taken_of self.new l ≡ taken_of self.old l }
-        ensures placed { KeepsPlaces (lanes self.old) work.old.stopped work.new.stopped }
+        ensures keeps { NodesKeep (view_of self.old) (view_of self.new) }
+        ensures taken { (view_of self.new).lanes.taken ≡ (view_of self.old).lanes.taken }
+        ensures placed { KeepsPlaces (view_of self.old).lanes.places work.old.stopped work.new.stopped }
         ensures served { ServesNone (served self.old) (served self.new) }
         ensures gave_up { gave_up self.new lane }
         ensures refused_by { refused_by self.old lane work.old self.new work.new }
-        ensures made { Makes W.world (writes self.old) (came self.old) (came self.new) work.old work.new };
+        ensures made { LanesMake W.world (view_of self.old).lanes work.old (view_of self.new).lanes work.new };
 
     /// How many channels have their heads among these nodes: those that a turn reads and writes.
     fn channels(&self) -> usize
-        ensures { result ≡ count self.now };
+        ensures { result ≡ (view_of self.now).channels };
 
     /// The head of a channel makes a move, where that is enabled. False where it made none.
     fn move_head(&mut self, by: HeadMove, channel: usize, work: &mut Outputs) -> bool
-        requires there { channel < count self.old }
+        requires there { channel < (view_of self.old).channels }
         requires stands { stands self.old }
-        requires places { HasPlaces work.old.stopped (lanes self.old) }
+        requires places { HasPlaces work.old.stopped (view_of self.old).lanes.places }
         ensures enabled { may_move self.old by channel result }
         ensures idle { result ≡ false → (self.new ≡ self.old) × (work.new ≡ work.old) }
         ensures moved { result ≡ true → moved self.old by channel work.old self.new work.new }
         ensures stands { stands self.new }
-        ensures keeps { NodesKeep target_of writes home lanes count self.old self.new }
-        ensures taken { (l : Lane) → taken_of self.new l ≡ taken_of self.old l }
-        ensures placed { KeepsPlaces (lanes self.old) work.old.stopped work.new.stopped }
-        ensures refused { was_refused self.new ≡ was_refused self.old }
+        ensures keeps { NodesKeep (view_of self.old) (view_of self.new) }
+        ensures taken { (view_of self.new).lanes.taken ≡ (view_of self.old).lanes.taken }
+        ensures placed { KeepsPlaces (view_of self.old).lanes.places work.old.stopped work.new.stopped }
+        ensures refused { (view_of self.new).was_refused ≡ (view_of self.old).was_refused }
         ensures served { MovesAtMostOnce by (served self.old) (served self.new) }
         ensures tells { result ≡ true → tells self.new (channel_at self.new channel) }
-        ensures made { Makes W.world (writes self.old) (came self.old) (came self.new) work.old work.new };
+        ensures made { LanesMake W.world (view_of self.old).lanes work.old (view_of self.new).lanes work.new };
 
     /// Whether each of them has ended or failed, and no read step and no flushed byte is left.
     fn has_ended(&self) -> bool

@@ -62,7 +62,7 @@ impl<G: Gate, W: Named, M: Mailbox<W> + Drop, N: Nodes<W> + Drop> thread::Promis
     ghost use Rattle.std.specs.Prelude.{◌≡◌, IfSome};
     ghost use Rattle.pl_threads.specs.Running.{EndsAs};
 
-    ghost kept_by = { λ p r. IfSome r (λ finished. EndsAs N.was_refused N.home p.number p.owner finished × G.was_entered p.gate p.number p.turn) };
+    ghost kept_by = { λ p r. IfSome r (λ finished. EndsAs N.view_of p.number p.owner finished × G.was_entered p.gate p.number p.turn) };
 }
 
 /// Starts each executor in a thread of its own. They wait there until they are told to begin.
@@ -99,7 +99,7 @@ where
         let spawned = scope.spawn_with(
             promise,
             move || -> Option<Finished<W, M, N>>
-                ensures { IfSome result (λ finished. EndsAs N.was_refused N.home executor.entry.number executor.entry.owner finished × G.was_entered gate.entry.now executor.entry.number executor.entry.turns) }
+                ensures { IfSome result (λ finished. EndsAs N.view_of executor.entry.number executor.entry.owner finished × G.was_entered gate.entry.now executor.entry.number executor.entry.turns) }
             { executor.run(rt, gate, start, parker) },
         );
         match spawned {
@@ -117,7 +117,7 @@ fn join_all<W: Named, M: Mailbox<W> + Drop, N: Nodes<W> + Drop, G: Gate, R: Thre
     mut all: Vec<Finished<W, M, N>>,
 ) -> Result<Vec<Finished<W, M, N>>, RunFault>
     requires { all.items ≡ [] }
-    ensures ended { IfOk result (λ all. AllZip (λ p f. EndsAs N.was_refused N.home p.number p.owner f) (map (λ h. h.promise) handles.items) all.items) }
+    ensures ended { IfOk result (λ all. AllZip (λ p f. EndsAs N.view_of p.number p.owner f) (map (λ h. h.promise) handles.items) all.items) }
     ensures entered { IfOk result (λ _. All (λ h. G.was_entered h.promise.gate h.promise.number h.promise.turn) handles.items) }
 {
     for handle in handles {
@@ -151,7 +151,7 @@ pub fn run_all<
 where
     M::Sender: Send,
     M::Taker: Send,
-    ensures ended { IfOk result (λ all. AllZip (λ e f. EndsAs N.was_refused N.home e.0.number e.0.owner f) executors.entry.items all.items) }
+    ensures ended { IfOk result (λ all. AllZip (λ e f. EndsAs N.view_of e.0.number e.0.owner f) executors.entry.items all.items) }
     // The gate was told of the first turn of each.
     ensures entered { IfOk result (λ _. All (λ e. G.was_entered gate.now e.0.number e.0.turns) executors.entry.items) }
 {
@@ -163,7 +163,7 @@ where
         rt,
         |scope| -> Result<Vec<Finished<W, M, N>>, RunFault>
             requires { all.items ≡ [] }
-            ensures ended { IfOk result (λ all. AllZip (λ e f. EndsAs N.was_refused N.home e.0.number e.0.owner f) executors.entry.items all.items) }
+            ensures ended { IfOk result (λ all. AllZip (λ e f. EndsAs N.view_of e.0.number e.0.owner f) executors.entry.items all.items) }
             ensures entered { IfOk result (λ _. All (λ e. G.was_entered gate.entry.now e.0.number e.0.turns) executors.entry.items) }
         {
             let handles = start_each(rt, alloc, scope, gate, start, executors);

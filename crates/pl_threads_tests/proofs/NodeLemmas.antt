@@ -1,5 +1,5 @@
 -- What the nodes of the tests make, and what they have taken.
-use Rattle.std.proofs.Common.{arith, ◌≡◌, ◌≢◌, ◌<◌, ◌^◌, ◌%◌, ◌+◌, ◌==◌, ◌&&◌, ℕ, Bool, true, false, not, nat_le, cond, List, [], ◌∷◌, Some, refl, ap, sym, ◌∙◌, subst, ⊎_elim}
+use Rattle.std.proofs.Common.{arith, ◌≡◌, ◌≢◌, ◌<◌, ◌^◌, ◌%◌, ◌+◌, ◌==◌, ◌&&◌, ◌||◌, ℕ, Bool, true, false, not, nat_le, cond, List, [], ◌∷◌, Some, refl, ap, sym, ◌∙◌, subst, ⊎_elim}
 use Rattle.std.proofs.lemmas.Bool.{cond-true, cond-false, cases_Bool, both_ways, or_left, or_right, and_parts, eqb-true}
 use Rattle.std.proofs.Math.Dec.{leb-zero}
 use Rattle.std.specs.List.{list_any}
@@ -20,9 +20,10 @@ use Rattle.pl_queue.specs.Views.{after_offer, send_count, sent_of, set_send_coun
 use Rattle.pl_flow.specs.Flows.{Point, point, on}
 use Rattle.pl_flow.specs.Makes.{Makes, LaneGrows, made_one}
 use Rattle.pl_flow.proofs.MakeLemmas.{one-put}
+use Rattle.pl_threads.specs.NodesViews.{NodesKeep}
 use Rattle.pl_threads_tests.specs.declared.nodes.Node.{Node}
 use Rattle.pl_threads_tests.specs.declared.nodes.Outlet.{Outlet}
-use Rattle.pl_threads_tests.specs.Nodes.{NodeStands, came, has_made_all, lane_to, makes, outlets_of, taken_of, target_of, writes}
+use Rattle.pl_threads_tests.specs.Nodes.{NodeStands, came, has_made_all, lane_to, makes, node_view, outlets_of, taken_of, target_of, writes}
 
 -- how far lanes come may be said in other words
 makes-to : (world : World) (w : Lane → Bool) (from to to' : Lane → Point) (b a : OutputsView) → ((l : Lane) → to l ≡ to' l) → Makes world w from to b a → Makes world w from to' b a
@@ -122,15 +123,29 @@ enters-own l executor small here = ⊎_elim
     (cases_Bool ((l.channel == l.hop) && same_kind l.kind Flags))
 
 -- one more has come
-pub taken-one : (n n' : Node) → NodeStands n → (lane : Lane) (count : ℕ) → target_of lane ≡ n.executor → n'.executor ≡ n.executor → n'.taken ≡ count → (l : Lane) → taken_of n' l ≡ cond (same_lane l lane) count (taken_of n l)
-taken-one n n' s lane count here same more l =
-    let is : lane ≡ lane_to n.executor = enters-own lane n.executor s.small here in
-    ⊎_elim
-    (λ (t : same_lane l (lane_to n.executor) ≡ true).
-    cond-true _ _ _ (ap (λ (e : ℕ). same_lane l (lane_to e)) same ∙ t) ∙ more ∙ sym (cond-true _ _ _ (ap (λ (m : Lane). same_lane l m) is ∙ t)))
-    (λ (f : same_lane l (lane_to n.executor) ≡ false).
-    cond-false _ _ _ (ap (λ (e : ℕ). same_lane l (lane_to e)) same ∙ f) ∙ sym (cond-false _ _ _ f) ∙ sym (cond-false _ _ _ (ap (λ (m : Lane). same_lane l m) is ∙ f)))
-    (cases_Bool (same_lane l (lane_to n.executor)))
+pub taken-one : (n n' : Node) → NodeStands n → (lane : Lane) (count : ℕ) → target_of lane ≡ n.executor → n'.executor ≡ n.executor → n'.taken ≡ count → taken_of n' ≡ (λ l. cond (same_lane l lane) count (taken_of n l))
+taken-one n n' s lane count here same more = λ i l. at l i
+  where
+    at : (l : Lane) → taken_of n' l ≡ cond (same_lane l lane) count (taken_of n l)
+    at l =
+        let is : lane ≡ lane_to n.executor = enters-own lane n.executor s.small here in
+        ⊎_elim
+        (λ (t : same_lane l (lane_to n.executor) ≡ true).
+        cond-true _ _ _ (ap (λ (e : ℕ). same_lane l (lane_to e)) same ∙ t) ∙ more ∙ sym (cond-true _ _ _ (ap (λ (m : Lane). same_lane l m) is ∙ t)))
+        (λ (f : same_lane l (lane_to n.executor) ≡ false).
+        cond-false _ _ _ (ap (λ (e : ℕ). same_lane l (lane_to e)) same ∙ f) ∙ sym (cond-false _ _ _ f) ∙ sym (cond-false _ _ _ (ap (λ (m : Lane). same_lane l m) is ∙ f)))
+        (cases_Bool (same_lane l (lane_to n.executor)))
+
+-- they go the same ways, whatever they make and take
+pub keeps-own : (n n' : Node) → n'.executor ≡ n.executor → n'.first.target ≡ n.first.target → n'.first.count ≡ n.first.count → n'.second.target ≡ n.second.target → n'.second.count ≡ n.second.count → NodesKeep (node_view n) (node_view n')
+keeps-own n n' home first first-count second second-count = record {
+  home = home;
+  routes = λ i. record (node_view n').lanes {
+    written = λ l. (not (first-count i == 0) && same_lane l (lane_to (first i))) || (not (second-count i == 0) && same_lane l (lane_to (second i)));
+    places = lane_to (first i) ∷ lane_to (second i) ∷ [];
+  };
+  channels = refl;
+}
 
 -- ---- what is sent
 

@@ -14,9 +14,8 @@ use Rattle.pl_context.specs.declared.waiting.Late.{Late}
 use Rattle.pl_context.specs.OutputsViews.{OutputsView}
 use Rattle.pl_context.specs.Stops.{AreAmong, StopsView, HasPlaces, no_stops}
 use Rattle.pl_context.specs.WaitingViews.{stops_for}
+use Rattle.pl_queue.specs.Ends.{MailboxEnds}
 use Rattle.pl_queue.specs.Views.{fresh_sends, fresh_take_counts}
-use Rattle.pl_queue.specs.declared.views.SenderView.{SenderView}
-use Rattle.pl_queue.specs.declared.views.TakerView.{TakerView}
 use Rattle.pl_queue.specs.Rule.{Each}
 use Rattle.pl_words.specs.Names.{Name}
 use Rattle.pl_words.specs.Admissions.{AdmittedView, new_send_seat}
@@ -30,7 +29,7 @@ use Rattle.pl_threads.proofs.RunLemmas.{runs-start}
 use Rattle.pl_threads_tests.specs.declared.nodes.Node.{Node}
 use Rattle.pl_threads_tests.specs.declared.nodes.Outlet.{Outlet}
 use Rattle.pl_threads_tests.specs.declared.places.Way.{Way}
-use Rattle.pl_threads_tests.specs.Nodes.{IsFresh, NodeStands, came, lane_to, makes, outlets_of, taken_of, target_of, writes}
+use Rattle.pl_threads_tests.specs.Nodes.{IsFresh, NodeStands, came, lane_to, makes, node_view, outlets_of, target_of, writes}
 use Rattle.pl_threads_tests.specs.Openings.{HasLane, IsWay, makes_for}
 use Rattle.pl_threads_tests.proofs.NodeLemmas.{makes-lane}
 
@@ -50,7 +49,7 @@ pub two-places : (l m : Lane) → HasPlaces (no_stops 2) (l ∷ m ∷ [])
 two-places l m = record { hops = l ∷ m ∷ []; few = omega arith; stopped = λ n e. absurd (both_ways false refl e); stopped_flags = λ n e. absurd (both_ways false refl e); own = λ n e. e }
 
 -- the nodes write two lanes at most
-pub few-lanes : (n : Node) → FewLanes (writes n)
+pub few-lanes : (n : Node) → FewLanes (node_view n).lanes
 few-lanes n = record {
   lanes = outlets_of n;
   few = omega arith;
@@ -84,7 +83,7 @@ module _ (o : OutboxesView) (waits : (y : ℕ) → waits_for o y ≡ []) where
 
 module _ (n : Node) (s : NodeStands n) (f : IsFresh n) where
   -- what a taker that has taken nothing is to take
-  pub node-taking : IsTaking n.executor target_of (writes n) (taken_of n) (fresh_take_counts (lane_to n.executor ∷ []))
+  pub node-taking : IsTaking n.executor (node_view n).lanes (fresh_take_counts (lane_to n.executor ∷ []))
   node-taking l m next = ⊎_elim
       (λ (t : same_lane l (lane_to n.executor) ≡ true).
       let is : l ≡ lane_to n.executor = same_lane-equal l (lane_to n.executor) t in
@@ -134,9 +133,9 @@ module _ (n : Node) (s : NodeStands n) (f : IsFresh n) where
 
     -- nothing was made, so all that was made has gone on
     pub node-runs : (world : World) (work : OutputsView) → work.items ≡ [] → map (λ b. b.stopped) o.waiting.targets ≡ no_stops 1 ∷ no_stops 1 ∷ no_stops 1 ∷ [] → length o.outboxes ≡ 3
-        → RunsOn world n.executor target_of (writes n) (taken_of n) (came n) o work
+        → RunsOn world n.executor (node_view n).lanes o work
     node-runs world work none reserved three =
-        runs-start world n.executor target_of (writes n) (taken_of n) (came n) o work none
+        runs-start world n.executor (node_view n).lanes o work none
         (λ l here w. absurd ((written l w).0 here))
         (λ l away w. let p = written l w in p.1 ∙ sym p.2)
         (λ l w away. (written l w).3)
@@ -159,11 +158,11 @@ all-of-three P xs x y z are each =
     (all 0 x (omega arith), all 1 y (omega arith), all 2 z (omega arith))
 
 -- a sender and a seat of an inbox are a way to it
-pub way-is : {W M S T : Type 0} (is_taker : M → T → Type 0) (takes_of : T → TakerView) (is_sender : M → S → Type 0) (sends_of : S → SenderView) (mailbox : M) (name : Name) (inbox : Inbox W M S T) (lanes : List Lane) (way : Way W M S T)
-    → inbox.mailbox ≡ mailbox → inbox.admission.name ≡ name → is_sender mailbox way.sender × (sends_of way.sender ≡ fresh_sends lanes) → way.seat ≡ new_send_seat name way.seat.number
-    → IsWay is_taker takes_of is_sender sends_of inbox lanes way
-way-is is_taker takes_of is_sender sends_of mailbox name inbox lanes way same-mailbox same-name is own = record {
-  sender = subst (λ (x : _). is_sender x way.sender) (sym same-mailbox) is.0;
+pub way-is : {W M S T : Type 0} (ends : MailboxEnds M S T) (mailbox : M) (name : Name) (inbox : Inbox W M S T) (lanes : List Lane) (way : Way W M S T)
+    → inbox.mailbox ≡ mailbox → inbox.admission.name ≡ name → ends.is_sender mailbox way.sender × (ends.sends_of way.sender ≡ fresh_sends lanes) → way.seat ≡ new_send_seat name way.seat.number
+    → IsWay ends inbox lanes way
+way-is ends mailbox name inbox lanes way same-mailbox same-name is own = record {
+  sender = subst (λ (x : _). ends.is_sender x way.sender) (sym same-mailbox) is.0;
   sends = is.1;
   seat = own ∙ ap (λ (x : Name). new_send_seat x way.seat.number) (sym same-name);
 }

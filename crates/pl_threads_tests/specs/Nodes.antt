@@ -6,6 +6,7 @@ use Rattle.pl_event.specs.Hops.{same_kind, same_lane, flags_lane}
 use Rattle.pl_flow.specs.declared.moves.HeadMove.{HeadMove}
 use Rattle.pl_flow.specs.declared.moves.HeadMove.TheVariants.{Read, Out}
 use Rattle.pl_flow.specs.Flows.{Point, point, nowhere}
+use Rattle.pl_threads.specs.NodesViews.{OwnNodesView}
 use Rattle.pl_threads_tests.specs.declared.nodes.Node.{Node}
 use Rattle.pl_threads_tests.specs.declared.nodes.Outlet.{Outlet}
 
@@ -48,6 +49,15 @@ has_given_up n l = cond (l.hop == n.first.target) n.first.is_refused n.second.is
 
 abbrev pub taken_of : Node → Lane → ℕ
 taken_of n l = cond (same_lane l (lane_to n.executor)) n.taken 0
+
+-- the nodes, as their executor sees them
+abbrev pub node_view : Node → OwnNodesView
+node_view n = record {
+  home = n.executor;
+  lanes = record { target = target_of; written = writes n; taken = taken_of n; came = came n; places = outlets_of n };
+  channels = 1;
+  was_refused = not (n.refusals == 0);
+}
 
 -- The lanes that are made go to two others.
 pub record NodeStands (n : Node) : Type 0 where

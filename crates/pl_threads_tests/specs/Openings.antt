@@ -1,8 +1,7 @@
 -- The inboxes of three executors, and what each executor has of them before its first turn.
 use Rattle.std.specs.Prelude.{◌≡◌, ◌==◌, ◌&&◌, ◌<◌, ℕ, cond, not, List, [], ◌∷◌}
 use Rattle.pl_event.specs.declared.envelopes.Lane.{Lane}
-use Rattle.pl_queue.specs.declared.views.SenderView.{SenderView}
-use Rattle.pl_queue.specs.declared.views.TakerView.{TakerView}
+use Rattle.pl_queue.specs.Ends.{MailboxEnds}
 use Rattle.pl_queue.specs.Views.{fresh_sends, fresh_takes}
 use Rattle.pl_words.specs.Admissions.{new_owner_seat, new_send_seat}
 use Rattle.pl_outbox.specs.declared.inbox.Inbox.{Inbox}
@@ -22,22 +21,22 @@ makes_for executor target = cond ((executor == 2) && not (target == 2)) (lane_to
 abbrev pub inbox_of : {W M S T : Type 0} → Inboxes W M S T → ℕ → Inbox W M S T
 inbox_of inboxes executor = cond (executor == 0) inboxes.first (cond (executor == 1) inboxes.second inboxes.third)
 
-module _ {W M S T : Type 0} (is_taker : M → T → Type 0) (takes_of : T → TakerView) (is_sender : M → S → Type 0) (sends_of : S → SenderView) where
+module _ {W M S T : Type 0} (ends : MailboxEnds M S T) where
   -- A way to an inbox on these lanes. Nothing was sent, and nothing was admitted.
   pub record IsWay (inbox : Inbox W M S T) (lanes : List Lane) (way : Way W M S T) : Type 0 where
-    pub sender : is_sender inbox.mailbox way.sender
-    pub sends : sends_of way.sender ≡ fresh_sends lanes
+    pub sender : ends.is_sender inbox.mailbox way.sender
+    pub sends : ends.sends_of way.sender ≡ fresh_sends lanes
     pub seat : way.seat ≡ new_send_seat inbox.admission.name way.seat.number
 
   -- The ends of an executor's inbox. Nothing was taken, and nothing was closed.
   pub record IsOwn (inbox : Inbox W M S T) (executor : ℕ) (own : Own W M S T) : Type 0 where
-    pub taker : is_taker inbox.mailbox own.taker
-    pub takes : takes_of own.taker ≡ fresh_takes (lane_to executor ∷ [])
+    pub taker : ends.is_taker inbox.mailbox own.taker
+    pub takes : ends.takes_of own.taker ≡ fresh_takes (lane_to executor ∷ [])
     pub owner : own.owner ≡ new_owner_seat inbox.admission.name
 
   -- An executor's inbox, its ends, and the ways to it: by the first flags come, and by the others nothing.
-  pub record IsOpened (executor : ℕ) (inbox : Inbox W M S T) (ends : Own W M S T) (writer second third : Way W M S T) : Type 0 where
-    pub own : IsOwn inbox executor ends
+  pub record IsOpened (executor : ℕ) (inbox : Inbox W M S T) (own_ends : Own W M S T) (writer second third : Way W M S T) : Type 0 where
+    pub own : IsOwn inbox executor own_ends
     pub flags : IsWay inbox (lane_to executor ∷ []) writer
     pub none : IsWay inbox [] second
     pub never : IsWay inbox [] third

@@ -4,9 +4,9 @@ ghost use Rattle.std.specs.Prelude.{◌≡◌, ◌<◌, ◌+◌, ◌^◌, ◌%�
 ghost use Rattle.pl_event.specs.declared.envelopes.Item.TheVariants as item;
 ghost use Rattle.pl_event.specs.declared.envelopes.Lane.{Lane};
 ghost use Rattle.pl_context.specs.Stops.{HasPlaces};
-ghost use Rattle.pl_flow.specs.Makes.{Makes};
-ghost use Rattle.pl_threads.specs.Keeping.{KeepsPlaces};
-ghost use Rattle.pl_threads_tests.specs.Nodes.{HasEnded, NodeStands, came, has_given_up, has_made_all, is_enabled, lane_to, outlets_of, taken_of, target_of, writes};
+ghost use Rattle.pl_flow.specs.LanesViews.{KeepsPlaces};
+ghost use Rattle.pl_threads.specs.NodesViews.{LanesMake};
+ghost use Rattle.pl_threads_tests.specs.Nodes.{HasEnded, NodeStands, has_given_up, has_made_all, is_enabled, lane_to, node_view, outlets_of};
 
 use pl_context::Outputs;
 use pl_event::{Envelope, Item, Kind, Lane, Named};
@@ -125,7 +125,7 @@ impl Node {
         ensures idle { result ≡ false → (self.new ≡ self.old) × (work.new ≡ work.old) }
         ensures same { self.new ≡ record self.old { first = record self.old.first { made = self.new.first.made }; second = record self.old.second { made = self.new.second.made } } }
         ensures placed { KeepsPlaces (outlets_of self.old) work.old.stopped work.new.stopped }
-        ensures made { Makes W.world (writes self.old) (came self.old) (came self.new) work.old work.new }
+        ensures made { LanesMake W.world (node_view self.old).lanes work.old (node_view self.new).lanes work.new }
     {
         if !self.first.has_made_all() {
             let envelope = self.first.next();
@@ -142,24 +142,10 @@ impl Node {
 }
 
 impl<W: Named> Nodes<W> for Node {
-    ghost home = { λ n. n.executor };
-
-    ghost lanes = { λ n. outlets_of n };
-
-    ghost target_of = { λ n lane. target_of lane };
-
-    ghost writes = { λ n lane. writes n lane };
-
-    ghost taken_of = { λ n lane. taken_of n lane };
-
-    ghost came = { λ n lane. came n lane };
-
-    ghost was_refused = { λ n. not (n.refusals == 0) };
+    ghost view_of = { node_view };
 
     // Where a flag was refused no more are made for that executor.
     ghost gave_up = { λ n lane. has_given_up n lane ≡ true };
-
-    ghost count = { λ n. 1 };
 
     ghost channel_at = { λ n place. 0 };
 

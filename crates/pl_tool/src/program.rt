@@ -11,12 +11,13 @@ ghost use Rattle.pl_tool.specs.ProgramOutcomes.{AppendsPrefixOf, Explains, HasFa
 mod command_line;
 mod failure;
 mod input;
-mod telling;
+mod last_line;
 
 use command_line::{Request, request_of};
 use failure::Failure;
 pub use input::MAX_INPUT;
 use input::take_session;
+use last_line::say_last;
 use pl_exec::{Gate, QueueKind, run};
 use pl_replay::replay;
 use pl_text::{print_report, read_moves};
@@ -26,7 +27,6 @@ use std::io;
 use std::io::{Read, Write};
 use std::sync::Wait;
 use std::thread::Threads;
-use telling::tell;
 
 /// A gate that does nothing.
 #[derive(Drop)]
@@ -187,7 +187,7 @@ pub fn run_tool<T: Threads + Wait + Sync, R: Read, W: Write, E: Write>(
     match print_requested(rt, alloc, words, reader, out) {
         Ok(true) => 0,
         Ok(false) => 1,
-        Err(failure) => tell(failure, err),
+        Err(failure) => say_last(failure, err),
     }
 }
 
@@ -199,5 +199,5 @@ pub fn refuse_words<E: Write>(error: &io::Error, err: &mut E) -> u8
     ensures said { AppendsPrefixOf (failure_line (failure_of_words (error_kind error.now)))
         (E.contents err.old) (E.contents err.new) }
 {
-    tell(Failure::of_words(error), err)
+    say_last(Failure::of_words(error), err)
 }

@@ -542,9 +542,8 @@ fn assert_written(
     bytes: &[u8],
     outcomes: &[Option<Outcome>],
 ) -> Result<(), AllocError> {
-    let written = head.into_written(rt.alloc())?;
-    let settled = written.outcomes.as_slice();
-    assert_output(rt, written.bytes.as_slice(), settled, bytes, outcomes);
+    let (written, settled) = head.into_written(rt.alloc())?;
+    assert_output(rt, written.as_slice(), settled.as_slice(), bytes, outcomes);
     Ok(())
 }
 

@@ -7,34 +7,18 @@ ghost use Rattle.pl_post_tests.specs.Feeding.{IsNext};
 
 use pl_event::Named;
 use pl_post::{Post, PostOwner, PostSeat, StillOpen, Unsent};
-use pl_queue::{Mailbox, OpenRefusal};
-use pl_queue_tests::{flag, lane as flags, lists};
+use pl_queue::Mailbox;
+use pl_queue_tests::{flag, lane as flags};
 use std::alloc::Global;
 use std::sync::Wait;
-
-/// Opens a post with at least one seat, which has all lanes. None where it was opened.
-pub fn refusal<W: Named, M: Mailbox<W> + Drop>(
-    alloc: Global,
-    lanes: u16,
-    senders: u32,
-    capacity: usize,
-) -> Option<OpenRefusal> {
-    let Ok(lists) = lists(alloc, lanes, 1, senders) else {
-        return Some(OpenRefusal::Memory);
-    };
-    match Post::<W, M>::open(alloc, lists, capacity) {
-        Ok(_opened) => None,
-        Err(refusal) => Some(refusal),
-    }
-}
 
 /// A post with one seat, which has the flags lane of hop 0 of channel 0, and its owner.
 fn open_one<W: Named, M: Mailbox<W> + Drop>(
     alloc: Global,
     capacity: usize,
 ) -> Option<(Post<W, M>, PostSeat<W, M>, PostOwner<W, M>)>
-    ensures seat { IfSome result (λ r. IsSeatOf M.is_sender r.0 r.1 × IsNext (flags_lane 0 0) 0 (M.sends_of r.1.sender)) }
-    ensures owner { IfSome result (λ r. IsOwnerOf M.is_taker r.0 r.2) }
+    ensures seat { IfSome result (λ r. IsSeatOf M.ends r.0 r.1 × IsNext (flags_lane 0 0) 0 (M.ends.sends_of r.1.sender)) }
+    ensures owner { IfSome result (λ r. IsOwnerOf M.ends r.0 r.2) }
 {
     let Ok(own) = Vec::from_array(alloc, [flags(0, 0)]) else {
         return None;
@@ -72,11 +56,11 @@ fn send_next<W: Named, M: Mailbox<W> + Drop, R: Wait>(
     seat: &mut PostSeat<W, M>,
     next: &mut u64,
 ) -> Answer
-    requires seat { IsSeatOf M.is_sender post.now seat.old }
-    requires next { IsNext (flags_lane 0 0) next.old (M.sends_of seat.old.sender) }
+    requires seat { IsSeatOf M.ends post.now seat.old }
+    requires next { IsNext (flags_lane 0 0) next.old (M.ends.sends_of seat.old.sender) }
     requires small { next.old < 2 ^ 32 }
-    ensures seat { IsSeatOf M.is_sender post.now seat.new }
-    ensures next { IsNext (flags_lane 0 0) next.new (M.sends_of seat.new.sender) }
+    ensures seat { IsSeatOf M.ends post.now seat.new }
+    ensures next { IsNext (flags_lane 0 0) next.new (M.ends.sends_of seat.new.sender) }
     ensures small { next.new ≤ next.old + 1 }
 {
     let number = *next;
@@ -106,8 +90,8 @@ fn take_next<W: Named, M: Mailbox<W> + Drop, R: Wait>(
     post: &Post<W, M>,
     owner: &mut PostOwner<W, M>,
 ) -> Answer
-    requires owner { IsOwnerOf M.is_taker post.now owner.old }
-    ensures owner { IsOwnerOf M.is_taker post.now owner.new }
+    requires owner { IsOwnerOf M.ends post.now owner.old }
+    ensures owner { IsOwnerOf M.ends post.now owner.new }
 {
     match post.take::<R>(rt, owner) {
         Some(envelope) => {
@@ -121,8 +105,8 @@ fn take_next<W: Named, M: Mailbox<W> + Drop, R: Wait>(
 
 // An attempt to close.
 fn finish<W: Named, M: Mailbox<W> + Drop>(post: &Post<W, M>, owner: &mut PostOwner<W, M>) -> Answer
-    requires owner { IsOwnerOf M.is_taker post.now owner.old }
-    ensures owner { IsOwnerOf M.is_taker post.now owner.new }
+    requires owner { IsOwnerOf M.ends post.now owner.old }
+    ensures owner { IsOwnerOf M.ends post.now owner.new }
 {
     match post.finish(owner) {
         Ok(()) => Answer::Finished,
@@ -150,8 +134,8 @@ fn ask<W: Named, M: Mailbox<W> + Drop, R: Wait>(
     mut owner: PostOwner<W, M>,
     sends: u32,
 ) -> Option<Vec<Answer>>
-    requires seat { IsSeatOf M.is_sender post.now seat × IsNext (flags_lane 0 0) 0 (M.sends_of seat.sender) }
-    requires owner { IsOwnerOf M.is_taker post.now owner }
+    requires seat { IsSeatOf M.ends post.now seat × IsNext (flags_lane 0 0) 0 (M.ends.sends_of seat.sender) }
+    requires owner { IsOwnerOf M.ends post.now owner }
 {
     let mut answers = Vec::new(alloc);
     answers.push(finish(post, &mut owner)).ok()?;

@@ -8,11 +8,12 @@ ghost use Rattle.pl_words.specs.declared.status.Status.TheVariants.{Accepting, C
 ghost use Rattle.pl_post.specs.Posts.{IsOwnerOf};
 ghost use Rattle.pl_post_tests.specs.Turns.{lanes_from, lists_from, IsInTurn, CarriesAll};
 
-use crate::feeding::{Served, event, lane, send_when_room, serve};
+use crate::feeding::{Served, send_when_room, serve};
 use crate::tests::loads::{BoxKind, EVENTS, envelope};
 use pl_event::{Lane, Named};
 use pl_post::{Post, PostOwner, PostSeat, Unsent};
 use pl_queue::{Mailbox, OpenRefusal, RingBox, WaitingBox};
+use pl_queue_tests::{data_lane, event};
 use std::alloc::{AllocError, Global};
 use std::sync::Wait;
 use std::thread;
@@ -35,7 +36,9 @@ fn lanes(alloc: Global, first: u16) -> Result<Vec<Lane>, AllocError>
     requires { first ≤ 192 }
     ensures { IfOk result (λ v. v.items ≡ lanes_from first 64) }
 {
-    (first..first + 64).map(lane).collect(alloc)
+    (first..first + 64)
+        .map(|channel| data_lane(channel))
+        .collect(alloc)
 }
 
 // A list of lanes for each of four seats.
@@ -54,8 +57,8 @@ fn lists(alloc: Global) -> Result<Vec<Vec<Lane>>, AllocError>
 fn open_four<W: Named, M: Mailbox<W> + Drop>(
     alloc: Global,
 ) -> Result<(Post<W, M>, Vec<Feeder<W, M>>, PostOwner<W, M>), OpenRefusal>
-    ensures feeders { IfOk result (λ r. Each (λ f. IsInTurn M.is_sender M.sends_of r.0 f.seat f.first f.sent) r.1.items) }
-    ensures owner { IfOk result (λ r. IsOwnerOf M.is_taker r.0 r.2 × (r.2.owner.phase ≡ Accepting)) }
+    ensures feeders { IfOk result (λ r. Each (λ f. IsInTurn M.ends r.0 f.seat f.first f.sent) r.1.items) }
+    ensures owner { IfOk result (λ r. IsOwnerOf M.ends r.0 r.2 × (r.2.owner.phase ≡ Accepting)) }
 {
     let lists = lists(alloc)?;
     let mut feeders = Vec::with_capacity(alloc, 4)?;
@@ -79,9 +82,9 @@ fn feed_in_turn<W: Named, M: Mailbox<W> + Drop, R: Wait>(
     post: &Post<W, M>,
     feeder: &mut Feeder<W, M>,
 )
-    requires feeder { IsInTurn M.is_sender M.sends_of post.now feeder.old.seat feeder.old.first feeder.old.sent }
+    requires feeder { IsInTurn M.ends post.now feeder.old.seat feeder.old.first feeder.old.sent }
     requires world { CarriesAll W.world }
-    ensures feeder { IsInTurn M.is_sender M.sends_of post.now feeder.new.seat feeder.new.first feeder.new.sent }
+    ensures feeder { IsInTurn M.ends post.now feeder.new.seat feeder.new.first feeder.new.sent }
 {
     let mut turn: u16 = 0;
     for _ in rt.forever() {
@@ -89,7 +92,7 @@ fn feed_in_turn<W: Named, M: Mailbox<W> + Drop, R: Wait>(
         if number >= EVENTS {
             return;
         }
-        let next = event(lane(feeder.first + turn), number);
+        let next = event(data_lane(feeder.first + turn), number);
         if let Err(unsent) = send_when_room::<W, M, R>(rt, post, &mut feeder.seat, next) {
             drop(feeder.unsent.replace(unsent));
             return;
@@ -109,17 +112,17 @@ fn feed_all<W: Named + Send + Sync, M: Mailbox<W> + Drop + Send + Sync, R: Threa
 where
     M::Sender: Send,
     M::Taker: Send,
-    requires feeders { Each (λ f. IsInTurn M.is_sender M.sends_of post.now f.seat f.first f.sent) feeders.items }
+    requires feeders { Each (λ f. IsInTurn M.ends post.now f.seat f.first f.sent) feeders.items }
     requires world { CarriesAll W.world }
-    ensures feeders { Each (λ f. IsInTurn M.is_sender M.sends_of post.now f.seat f.first f.sent) result.items }
+    ensures feeders { Each (λ f. IsInTurn M.ends post.now f.seat f.first f.sent) result.items }
 {
     thread::for_each_mut(
         rt,
         feeders.as_mut_slice(),
         4,
         &|_i: usize, feeder: &mut Feeder<W, M>|
-            requires { IsInTurn M.is_sender M.sends_of post.now feeder.now.seat feeder.now.first feeder.now.sent × CarriesAll W.world }
-            ensures { IsInTurn M.is_sender M.sends_of post.entry.now feeder.exit.now.seat feeder.exit.now.first feeder.exit.now.sent }
+            requires { IsInTurn M.ends post.now feeder.now.seat feeder.now.first feeder.now.sent × CarriesAll W.world }
+            ensures { IsInTurn M.ends post.entry.now feeder.exit.now.seat feeder.exit.now.first feeder.exit.now.sent }
         { feed_in_turn::<W, M, R>(rt, post, feeder) },
     );
     feeders
@@ -142,7 +145,7 @@ fn send_after<W: Named, M: Mailbox<W> + Drop, R: Wait>(
     post: &Post<W, M>,
     mut feeder: Feeder<W, M>,
 ) -> Sent
-    requires feeder { IsInTurn M.is_sender M.sends_of post.now feeder.seat feeder.first feeder.sent }
+    requires feeder { IsInTurn M.ends post.now feeder.seat feeder.first feeder.sent }
     requires world { CarriesAll W.world }
 {
     let mut closed_after = 0;
@@ -190,11 +193,11 @@ where
     let (feeders, served) = thread::join(
         rt,
         move || -> Vec<Feeder<W, M>>
-            requires { Each (λ f. IsInTurn M.is_sender M.sends_of post.now f.seat f.first f.sent) feeders.items × CarriesAll W.world × IsSync R.row }
-            ensures { Each (λ f. IsInTurn M.is_sender M.sends_of post.entry.now f.seat f.first f.sent) result.items }
+            requires { Each (λ f. IsInTurn M.ends post.now f.seat f.first f.sent) feeders.items × CarriesAll W.world × IsSync R.row }
+            ensures { Each (λ f. IsInTurn M.ends post.entry.now f.seat f.first f.sent) result.items }
         { feed_all::<W, M, R>(rt, post, feeders) },
         move || -> Served<256>
-            requires { IsOwnerOf M.is_taker post.now owner × (owner.owner.phase ≢ Closed) }
+            requires { IsOwnerOf M.ends post.now owner × (owner.owner.phase ≢ Closed) }
         { serve::<W, M, R, 256>(rt, post, owner, 5_000).1 },
     );
     let mut each = Vec::new(alloc);

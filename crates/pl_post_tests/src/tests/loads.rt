@@ -9,13 +9,11 @@ ghost use Rattle.pl_words.specs.declared.status.Status.TheVariants.{Closed};
 ghost use Rattle.pl_post.specs.Posts.{IsSeatOf, IsOwnerOf};
 ghost use Rattle.pl_post_tests.specs.Feeding.{IsNext, Feeds};
 
-use crate::feeding::{
-    Closing, Fed, Served, event, feed, lane, open_three, serve, three_feed_while_closing,
-};
+use crate::feeding::{Closing, Fed, Served, feed, open_three, serve, three_feed_while_closing};
 use pl_event::{Envelope, Item, Named};
 use pl_post::{Post, PostSeat, Unsent};
 use pl_queue::{Mailbox, RingBox, WaitingBox};
-use pl_queue_tests::join_three;
+use pl_queue_tests::{data_lane, event, join_three};
 use std::alloc::Global;
 use std::sync::Wait;
 use std::thread::Threads;
@@ -26,6 +24,9 @@ pub enum BoxKind {
     Ring,
     Waiting,
 }
+
+/// Both of them.
+pub const EACH: [BoxKind; 2] = [BoxKind::Ring, BoxKind::Waiting];
 
 /// A lane carries this many events, and then its end.
 pub const EVENTS: u64 = 999;
@@ -48,10 +49,10 @@ pub fn envelope(channel: u16, number: u64) -> Envelope
     ensures fits { (world : World) → content_of world (the_data_lane channel 0) ≡ Some (lane_events 999) → FitsWorld world result }
 {
     if number < EVENTS {
-        return event(lane(channel), number);
+        return event(data_lane(channel), number);
     }
     Envelope {
-        lane: lane(channel),
+        lane: data_lane(channel),
         number,
         item: Item::End,
     }
@@ -65,8 +66,8 @@ fn send_next<W: Named, M: Mailbox<W> + Drop, R: Wait>(
     channel: u16,
     number: u64,
 ) -> Result<(), Unsent>
-    requires seat { IsSeatOf M.is_sender post.now seat }
-    requires next { IsNext (the_data_lane channel 0) number (M.sends_of seat.sender) }
+    requires seat { IsSeatOf M.ends post.now seat }
+    requires next { IsNext (the_data_lane channel 0) number (M.ends.sends_of seat.sender) }
     requires few { number ≤ 999 }
     requires world { content_of W.world (the_data_lane channel 0) ≡ Some (lane_events 999) }
 {
@@ -91,15 +92,15 @@ where
     let ((one, first), (two, second), served) = join_three(
         rt,
         move || -> (PostSeat<W, M>, Fed)
-            requires { IsSeatOf M.is_sender post.now one × IsNext (the_data_lane 0 0) 0 (M.sends_of one.sender) × (content_of W.world (the_data_lane 0 0) ≡ Some (lane_events 999)) }
-            ensures { IsSeatOf M.is_sender post.entry.now result.0 × IsNext (the_data_lane 0 0) result.1.sent (M.sends_of result.0.sender) × (result.1.sent ≤ 999) }
-        { feed::<W, M, R>(rt, post, one, lane(0), EVENTS) },
+            requires { IsSeatOf M.ends post.now one × IsNext (the_data_lane 0 0) 0 (M.ends.sends_of one.sender) × (content_of W.world (the_data_lane 0 0) ≡ Some (lane_events 999)) }
+            ensures { IsSeatOf M.ends post.entry.now result.0 × IsNext (the_data_lane 0 0) result.1.sent (M.ends.sends_of result.0.sender) × (result.1.sent ≤ 999) }
+        { feed::<W, M, R>(rt, post, one, data_lane(0), EVENTS) },
         move || -> (PostSeat<W, M>, Fed)
-            requires { IsSeatOf M.is_sender post.now two × IsNext (the_data_lane 1 0) 0 (M.sends_of two.sender) × (content_of W.world (the_data_lane 1 0) ≡ Some (lane_events 999)) }
-            ensures { IsSeatOf M.is_sender post.entry.now result.0 × IsNext (the_data_lane 1 0) result.1.sent (M.sends_of result.0.sender) × (result.1.sent ≤ 999) }
-        { feed::<W, M, R>(rt, post, two, lane(1), EVENTS) },
+            requires { IsSeatOf M.ends post.now two × IsNext (the_data_lane 1 0) 0 (M.ends.sends_of two.sender) × (content_of W.world (the_data_lane 1 0) ≡ Some (lane_events 999)) }
+            ensures { IsSeatOf M.ends post.entry.now result.0 × IsNext (the_data_lane 1 0) result.1.sent (M.ends.sends_of result.0.sender) × (result.1.sent ≤ 999) }
+        { feed::<W, M, R>(rt, post, two, data_lane(1), EVENTS) },
         move || -> Served<3>
-            requires { IsOwnerOf M.is_taker post.now owner × (owner.owner.phase ≢ Closed) }
+            requires { IsOwnerOf M.ends post.now owner × (owner.owner.phase ≢ Closed) }
         { serve::<W, M, R, 3>(rt, post, owner, 500).1 },
     );
     let first_after = send_next::<W, M, R>(rt, post, one, 0, first.sent);

@@ -1,13 +1,14 @@
 //! Each over either mailbox: closing under load, the lesson of pl_post's README, and what the calls answer.
 
-use crate::feeding::{Closing, Fed, event, lane};
+use crate::feeding::{Closing, Fed};
 use crate::tests::answering::Answer::{self, Closed, Finished, Full, Nothing, Open, Sent, Took};
-use crate::tests::answering::{answers, refusal};
+use crate::tests::answering::answers;
 use crate::tests::four_senders::four_by;
-use crate::tests::loads::{BoxKind, EVENTS, Load, three_by, two_by};
+use crate::tests::loads::{BoxKind, EACH, EVENTS, Load, three_by, two_by};
 use pl_event::{Envelope, Item, Named};
-use pl_post::{StillOpen, Unsent};
-use pl_queue::{Mailbox, OpenRefusal, RingBox, WaitingBox};
+use pl_post::{Post, StillOpen, Unsent};
+use pl_queue::{Mailbox, RingBox, WaitingBox};
+use pl_queue_tests::{LIMITS, data_lane, event, lists};
 use std::alloc::Global;
 use std::marker::Brand;
 use std::process::Abort;
@@ -18,10 +19,10 @@ use std::thread::Threads;
 // Whether the next envelope of a lane is back since the post was closed.
 fn is_closed_at(unsent: &Unsent, channel: u16, number: u64) -> bool {
     let next = if number < EVENTS {
-        event(lane(channel), number)
+        event(data_lane(channel), number)
     } else {
         Envelope {
-            lane: lane(channel),
+            lane: data_lane(channel),
             number,
             item: Item::End,
         }
@@ -67,54 +68,30 @@ fn assert_load(rt: &impl Abort, load: &Load) {
     assert!(rt; taken >= 500);
 }
 
-fn assert_closing(rt: &impl Abort, closing: &Closing, count: u64) {
+fn assert_closing(rt: &impl Abort, closing: &Closing) {
     assert!(rt; closing.served.closed);
     assert!(rt; closing.served.in_order);
-    assert_fed(rt, &closing.first, 0, closing.served.taken[0], count);
-    assert_fed(rt, &closing.second, 1, closing.served.taken[1], count);
-    assert_fed(rt, &closing.third, 2, closing.served.taken[2], count);
+    assert_fed(rt, &closing.first, 0, closing.served.taken[0], EVENTS);
+    assert_fed(rt, &closing.second, 1, closing.served.taken[1], EVENTS);
+    assert_fed(rt, &closing.third, 2, closing.served.taken[2], EVENTS);
 }
 
-fn post_closes_under_load<R: Threads + Wait + Abort + Sync>(
-    rt: &R,
-    alloc: Global,
-    kind: BoxKind,
-) -> Result<(), Fail> {
-    let load = two_by::<Brand, R>(kind, rt, alloc).ok_or("it was not opened")?;
-    assert_load(rt, &load);
-    drop(load);
+#[test]
+fn post_closes_under_load(rt: HostRuntime) -> Result<(), Fail> {
+    for kind in EACH {
+        let load = two_by::<Brand, HostRuntime>(kind, &rt, rt.alloc());
+        assert_load(&rt, &load.ok_or("it was not opened")?);
+    }
     Ok(())
 }
 
 #[test]
-fn post_closes_under_load_ring(rt: HostRuntime) -> Result<(), Fail> {
-    post_closes_under_load(&rt, rt.alloc(), BoxKind::Ring)
-}
-
-#[test]
-fn post_closes_under_load_waiting(rt: HostRuntime) -> Result<(), Fail> {
-    post_closes_under_load(&rt, rt.alloc(), BoxKind::Waiting)
-}
-
-fn three_feed<R: Threads + Wait + Abort + Sync>(
-    rt: &R,
-    alloc: Global,
-    kind: BoxKind,
-) -> Result<(), Fail> {
-    let closing = three_by::<Brand, R>(kind, rt, alloc).ok_or("it was not opened")?;
-    assert_closing(rt, &closing, EVENTS);
-    drop(closing);
+fn three_feed_while_closing(rt: HostRuntime) -> Result<(), Fail> {
+    for kind in EACH {
+        let closing = three_by::<Brand, HostRuntime>(kind, &rt, rt.alloc());
+        assert_closing(&rt, &closing.ok_or("it was not opened")?);
+    }
     Ok(())
-}
-
-#[test]
-fn three_feed_while_closing_ring(rt: HostRuntime) -> Result<(), Fail> {
-    three_feed(&rt, rt.alloc(), BoxKind::Ring)
-}
-
-#[test]
-fn three_feed_while_closing_waiting(rt: HostRuntime) -> Result<(), Fail> {
-    three_feed(&rt, rt.alloc(), BoxKind::Waiting)
 }
 
 // Each lane comes as the numbers from 0 up to, not including, how many were sent; and the post is closed to the next.
@@ -153,86 +130,55 @@ const fn counted(count: u64, closing: bool) -> Answer {
     Open(StillOpen { count, closing })
 }
 
-// Of three sends into a ring of capacity 1 two find it full, and only the first is counted.
-#[test]
-fn full_gives_the_admission_back(rt: HostRuntime) -> Result<(), Fail> {
-    let expected = [
-        counted(0, false),
-        Sent,
-        Full,
-        Full,
-        counted(1, true),
-        Took(0),
-        Finished,
-        Closed,
-        Nothing,
-        Finished,
-    ];
-    let answers = answers::<Brand, RingBox<Brand>, HostRuntime>(&rt, rt.alloc(), 3).ok_or(
-        "no memory",
-    )?;
+// What is answered: first that the post is open, then to so many sends and, once closing has begun, to an attempt to close and
+// a take. After these the post closes, the next send finds it closed, and nothing is left to take.
+fn assert_answers<M: Mailbox<Brand> + Drop, R: Wait + Abort>(
+    rt: &R,
+    alloc: Global,
+    sends: u32,
+    answered: &[Answer],
+) -> Result<(), Fail> {
+    let mut expected = Vec::from_array(alloc, [counted(0, false)])?;
+    expected.extend_from_slice(answered)?;
+    expected.extend_from_slice([Finished, Closed, Nothing, Finished].as_slice())?;
+    let answers = answers::<Brand, M, R>(rt, alloc, sends).ok_or("no memory")?;
     assert_eq!(rt; answers.as_slice(), expected.as_slice());
     Ok(())
 }
 
+// Of three sends into a ring of capacity 1 two find it full, and only the first is counted.
+#[test]
+fn full_gives_the_admission_back(rt: HostRuntime) -> Result<(), Fail> {
+    let answered = [Sent, Full, Full, counted(1, true), Took(0)];
+    assert_answers::<RingBox<Brand>, HostRuntime>(&rt, rt.alloc(), 3, answered.as_slice())
+}
+
 #[test]
 fn sends_takes_and_closes(rt: HostRuntime) -> Result<(), Fail> {
-    let expected = [
-        counted(0, false),
-        Sent,
-        counted(1, true),
-        Took(0),
-        Finished,
-        Closed,
-        Nothing,
-        Finished,
-    ];
-    let answers = answers::<Brand, WaitingBox<Brand>, HostRuntime>(&rt, rt.alloc(), 1).ok_or(
-        "no memory",
-    )?;
-    assert_eq!(rt; answers.as_slice(), expected.as_slice());
-    Ok(())
+    let answered = [Sent, counted(1, true), Took(0)];
+    assert_answers::<WaitingBox<Brand>, HostRuntime>(&rt, rt.alloc(), 1, answered.as_slice())
 }
 
 // With nothing sent it closes with nothing taken.
 #[test]
 fn closes_with_nothing_sent(rt: HostRuntime) -> Result<(), Fail> {
-    let expected = [
-        counted(0, false),
-        Finished,
-        Nothing,
-        Finished,
-        Closed,
-        Nothing,
-        Finished,
-    ];
-    let answers = answers::<Brand, RingBox<Brand>, HostRuntime>(&rt, rt.alloc(), 0).ok_or(
-        "no memory",
-    )?;
-    assert_eq!(rt; answers.as_slice(), expected.as_slice());
-    Ok(())
+    let answered = [Finished, Nothing];
+    assert_answers::<RingBox<Brand>, HostRuntime>(&rt, rt.alloc(), 0, answered.as_slice())
 }
 
-fn post_limits<W: Named, M: Mailbox<W> + Drop>(rt: &impl Abort, alloc: Global) {
-    let limit = Some(OpenRefusal::Limit);
-    assert_eq!(rt; refusal::<W, M>(alloc, 1, 1, 0), limit);
-    assert_eq!(rt; refusal::<W, M>(alloc, 1, 1, 1), None);
-    assert_eq!(rt; refusal::<W, M>(alloc, 1, 1, 65_536), None);
-    assert_eq!(rt; refusal::<W, M>(alloc, 1, 1, 65_537), limit);
-    assert_eq!(rt; refusal::<W, M>(alloc, 8_192, 1, 1), None);
-    assert_eq!(rt; refusal::<W, M>(alloc, 8_193, 1, 1), limit);
-    assert_eq!(rt; refusal::<W, M>(alloc, 8_192, 65_535, 1), None);
-    assert_eq!(rt; refusal::<W, M>(alloc, 1, 65_536, 1), limit);
-}
-
-#[test]
-fn post_limits_ring(rt: HostRuntime) -> Result<(), Fail> {
-    post_limits::<Brand, RingBox<Brand>>(&rt, rt.alloc());
+fn assert_limits<W: Named, M: Mailbox<W> + Drop>(
+    rt: &impl Abort,
+    alloc: Global,
+) -> Result<(), Fail> {
+    for (lanes, senders, capacity, refusal) in LIMITS {
+        let opened = Post::<W, M>::open(alloc, lists(alloc, lanes, 1, senders)?, capacity);
+        assert_eq!(rt; opened.err(), refusal);
+    }
     Ok(())
 }
 
 #[test]
-fn post_limits_waiting(rt: HostRuntime) -> Result<(), Fail> {
-    post_limits::<Brand, WaitingBox<Brand>>(&rt, rt.alloc());
-    Ok(())
+fn post_limits(rt: HostRuntime) -> Result<(), Fail> {
+    assert_limits::<Brand, RingBox<Brand>>(&rt, rt.alloc())?;
+    assert_limits::<Brand, WaitingBox<Brand>>(&rt, rt.alloc())
 }

@@ -28,11 +28,11 @@ fn offer_next<W: Named, M: Mailbox<W>, R: Wait>(
     sender: &mut M::Sender,
     next: &mut u64,
 ) -> Answer
-    requires sender { M.is_sender mailbox.now sender.old }
-    requires next { sent_of (flags_lane 0 0) (M.sends_of sender.old).send_counts ≡ Some (next.old, false) }
+    requires sender { M.ends.is_sender mailbox.now sender.old }
+    requires next { sent_of (flags_lane 0 0) (M.ends.sends_of sender.old).send_counts ≡ Some (next.old, false) }
     requires small { next.old < 2 ^ 32 }
-    ensures sender { M.is_sender mailbox.now sender.new }
-    ensures next { sent_of (flags_lane 0 0) (M.sends_of sender.new).send_counts ≡ Some (next.new, false) }
+    ensures sender { M.ends.is_sender mailbox.now sender.new }
+    ensures next { sent_of (flags_lane 0 0) (M.ends.sends_of sender.new).send_counts ≡ Some (next.new, false) }
     ensures small { next.new ≤ next.old + 1 }
 {
     let number = *next;
@@ -47,8 +47,8 @@ fn offer_next<W: Named, M: Mailbox<W>, R: Wait>(
 
 // Takes what is there.
 fn take_next<W: Named, M: Mailbox<W>, R: Wait>(rt: &R, mailbox: &M, taker: &mut M::Taker) -> Answer
-    requires taker { M.is_taker mailbox.now taker.old }
-    ensures taker { M.is_taker mailbox.now taker.new }
+    requires taker { M.ends.is_taker mailbox.now taker.old }
+    ensures taker { M.ends.is_taker mailbox.now taker.new }
 {
     match mailbox.take::<R>(rt, taker) {
         Some(envelope) => Answer::Took(envelope.number),

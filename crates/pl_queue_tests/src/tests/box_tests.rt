@@ -1,13 +1,15 @@
 //! Each over either box: what a mailbox answers, its limits, what it leaves, the lesson of pl_queue's README, and two lanes
 //! from two threads.
 
+use crate::events::data_lane;
 use crate::lines::LaneLines;
-use crate::tests::answering::Answer::{self, Full, Nothing, Sent, Took};
-use crate::tests::boxes::{BoxKind, answers_by, lines_by, may_wait_by, refusal_by, relay_by};
+use crate::openings::{LIMITS, lists};
+use crate::tests::answering::Answer::{Full, Nothing, Sent, Took};
+use crate::tests::boxes::{BoxKind, EACH, answers_by, lines_by, may_wait_by, relay_by};
 use crate::tests::left_tests::{assert_account, left_by, one_is_left};
-use crate::tests::relays::{Lanes, data_lane};
-use pl_event::{ByteString, Event, Item, Message};
-use pl_queue::OpenRefusal;
+use crate::tests::relays::Lanes;
+use pl_event::{ByteString, Event, Item, Message, Named};
+use pl_queue::{Mailbox, RingBox, WaitingBox};
 use std::alloc::Global;
 use std::marker::Brand;
 use std::process::Abort;
@@ -17,7 +19,8 @@ use std::thread::Threads;
 
 // It takes what has room, and gives what it has: bodies that always answer `Full` or None would be proved. A ring that is
 // offered one too many is full; a waiting box would wait for ever.
-fn always_full_or_none<R: Wait + Abort>(rt: &R, alloc: Global, kind: BoxKind) -> Result<(), Fail> {
+#[test]
+fn always_full_or_none(rt: HostRuntime) -> Result<(), Fail> {
     let ring = [
         Nothing,
         Sent,
@@ -29,30 +32,42 @@ fn always_full_or_none<R: Wait + Abort>(rt: &R, alloc: Global, kind: BoxKind) ->
         Nothing,
     ];
     let waiting = [Nothing, Sent, Sent, Took(0), Took(1), Nothing];
-    let (offers, expected) = match kind {
-        BoxKind::Ring => (3, ring.as_slice()),
-        BoxKind::Waiting => (2, waiting.as_slice()),
-    };
-    let answers = answers_by::<Brand, R>(kind, rt, alloc, offers).ok_or("no memory")?;
-    assert_eq!(rt; answers.as_slice(), expected);
+    for (kind, offers, expected) in [
+        (BoxKind::Ring, 3, ring.as_slice()),
+        (BoxKind::Waiting, 2, waiting.as_slice()),
+    ] {
+        let answers = answers_by::<Brand, HostRuntime>(kind, &rt, rt.alloc(), offers);
+        assert_eq!(rt; answers.ok_or("no memory")?.as_slice(), expected);
+    }
     Ok(())
 }
 
-fn mailbox_limits(rt: &impl Abort, alloc: Global, kind: BoxKind) -> Result<(), Fail> {
-    let limit = Some(OpenRefusal::Limit);
-    assert_eq!(rt; refusal_by::<Brand>(kind, alloc, 1, 1, 0), limit);
-    assert_eq!(rt; refusal_by::<Brand>(kind, alloc, 1, 1, 1), None);
-    assert_eq!(rt; refusal_by::<Brand>(kind, alloc, 1, 1, 65_536), None);
-    assert_eq!(rt; refusal_by::<Brand>(kind, alloc, 1, 1, 65_537), limit);
-    assert_eq!(rt; refusal_by::<Brand>(kind, alloc, 8_192, 1, 1), None);
-    assert_eq!(rt; refusal_by::<Brand>(kind, alloc, 8_193, 1, 1), limit);
-    assert_eq!(rt; refusal_by::<Brand>(kind, alloc, 8_192, 65_535, 1), None);
-    assert_eq!(rt; refusal_by::<Brand>(kind, alloc, 1, 65_536, 1), limit);
+fn assert_limits<W: Named, M: Mailbox<W> + Drop>(
+    rt: &impl Abort,
+    alloc: Global,
+) -> Result<(), Fail> {
+    for (lanes, senders, capacity, refusal) in LIMITS {
+        let opened = M::open(alloc, lists(alloc, lanes, 1, senders)?, capacity);
+        assert_eq!(rt; opened.err(), refusal);
+    }
     Ok(())
 }
 
-fn one_left<R: Wait + Abort>(rt: &R, alloc: Global, kind: BoxKind) -> Result<(), Fail> {
-    one_is_left(rt, left_by(rt, alloc, kind).ok().ok_or("it stopped")?)
+#[test]
+fn mailbox_limits(rt: HostRuntime) -> Result<(), Fail> {
+    assert_limits::<Brand, RingBox<Brand>>(&rt, rt.alloc())?;
+    assert_limits::<Brand, WaitingBox<Brand>>(&rt, rt.alloc())
+}
+
+#[test]
+fn one_left(rt: HostRuntime) -> Result<(), Fail> {
+    for kind in EACH {
+        one_is_left(
+            &rt,
+            left_by(&rt, rt.alloc(), kind).ok().ok_or("it stopped")?,
+        )?;
+    }
+    Ok(())
 }
 
 fn line(alloc: Global, text: &str) -> Result<ByteString, Fail> {
@@ -95,7 +110,7 @@ fn two_threads_hand_over<R: Threads + Wait + Abort + Sync>(
 }
 
 // Each lane comes as the numbers 0 to 999, with their items, and nothing is left.
-fn two_lanes_one_mailbox<R: Threads + Wait + Abort + Sync>(
+fn two_lanes<R: Threads + Wait + Abort + Sync>(
     rt: &R,
     alloc: Global,
     kind: BoxKind,
@@ -126,53 +141,15 @@ fn two_lanes_one_mailbox<R: Threads + Wait + Abort + Sync>(
 }
 
 #[test]
-fn always_full_or_none_ring(rt: HostRuntime) -> Result<(), Fail> {
-    always_full_or_none(&rt, rt.alloc(), BoxKind::Ring)
-}
-
-#[test]
-fn always_full_or_none_waiting(rt: HostRuntime) -> Result<(), Fail> {
-    always_full_or_none(&rt, rt.alloc(), BoxKind::Waiting)
-}
-
-#[test]
-fn mailbox_limits_ring(rt: HostRuntime) -> Result<(), Fail> {
-    mailbox_limits(&rt, rt.alloc(), BoxKind::Ring)
-}
-
-#[test]
-fn mailbox_limits_waiting(rt: HostRuntime) -> Result<(), Fail> {
-    mailbox_limits(&rt, rt.alloc(), BoxKind::Waiting)
-}
-
-#[test]
-fn one_left_ring(rt: HostRuntime) -> Result<(), Fail> {
-    one_left(&rt, rt.alloc(), BoxKind::Ring)
-}
-
-#[test]
-fn one_left_waiting(rt: HostRuntime) -> Result<(), Fail> {
-    one_left(&rt, rt.alloc(), BoxKind::Waiting)
-}
-
-#[test]
-fn two_threads_hand_over_lines_ring(rt: HostRuntime) -> Result<(), Fail> {
-    two_threads_hand_over(&rt, rt.alloc(), BoxKind::Ring)
-}
-
-#[test]
-fn two_threads_hand_over_lines_waiting(rt: HostRuntime) -> Result<(), Fail> {
+fn two_threads_hand_over_lines(rt: HostRuntime) -> Result<(), Fail> {
+    two_threads_hand_over(&rt, rt.alloc(), BoxKind::Ring)?;
     two_threads_hand_over(&rt, rt.alloc(), BoxKind::Waiting)
 }
 
 #[test]
-fn two_lanes_one_mailbox_ring(rt: HostRuntime) -> Result<(), Fail> {
-    two_lanes_one_mailbox(&rt, rt.alloc(), BoxKind::Ring)
-}
-
-#[test]
-fn two_lanes_one_mailbox_waiting(rt: HostRuntime) -> Result<(), Fail> {
-    two_lanes_one_mailbox(&rt, rt.alloc(), BoxKind::Waiting)
+fn two_lanes_one_mailbox(rt: HostRuntime) -> Result<(), Fail> {
+    two_lanes(&rt, rt.alloc(), BoxKind::Ring)?;
+    two_lanes(&rt, rt.alloc(), BoxKind::Waiting)
 }
 
 #[test]

@@ -8,12 +8,11 @@ ghost use Rattle.pl_queue_tests.specs.Lines.{CarriesLines};
 ghost use Rattle.pl_queue_tests.specs.Relays.{lane_events};
 
 use crate::lines::{LaneLines, two_threads_hand_over_lines};
-use crate::openings::refusal;
 use crate::tests::answering::{Answer, answers};
 use crate::tests::leaving::{Stopped, leave_one};
 use crate::tests::relays::{Lanes, Relayed, relay};
 use pl_event::{Envelope, Lane, Named};
-use pl_queue::{Mailbox, OpenRefusal, RingBox, WaitingBox};
+use pl_queue::{Mailbox, RingBox, WaitingBox};
 use std::alloc::Global;
 use std::sync::Wait;
 use std::thread::Threads;
@@ -27,25 +26,14 @@ pub enum BoxKind {
     Waiting,
 }
 
+/// Both of them.
+pub const EACH: [BoxKind; 2] = [BoxKind::Ring, BoxKind::Waiting];
+
 /// Whether who offers to it may wait for room.
 pub fn may_wait_by<W: Named>(kind: BoxKind) -> bool {
     match kind {
         BoxKind::Ring => <RingBox<W> as Mailbox<W>>::may_wait(),
         BoxKind::Waiting => <WaitingBox<W> as Mailbox<W>>::may_wait(),
-    }
-}
-
-/// [`refusal`] over a box.
-pub fn refusal_by<W: Named>(
-    kind: BoxKind,
-    alloc: Global,
-    lanes: u16,
-    senders: u32,
-    capacity: usize,
-) -> Option<OpenRefusal> {
-    match kind {
-        BoxKind::Ring => refusal::<W, RingBox<W>>(alloc, lanes, senders, capacity),
-        BoxKind::Waiting => refusal::<W, WaitingBox<W>>(alloc, lanes, senders, capacity),
     }
 }
 

@@ -5,8 +5,9 @@ ghost use Rattle.pl_event.specs.declared.envelopes.Kind.TheVariants.{Data};
 ghost use Rattle.pl_event.specs.Worlds.{content_of};
 ghost use Rattle.pl_queue_tests.specs.Relays.{lane_events};
 
+use crate::events::event;
 use crate::openings::open_one;
-use crate::tests::relays::{Relayed, event, offer_one, take_one};
+use crate::tests::relays::{Relayed, offer_one, take_one};
 use pl_event::{Lane, Named};
 use pl_queue::{Mailbox, OpenRefusal};
 use std::alloc::Global;

@@ -1,8 +1,9 @@
 //! What is left at the end, also where memory is refused.
 
+use crate::events::data_lane;
 use crate::tests::boxes::{BoxKind, leave_one_by};
 use crate::tests::leaving::Stopped;
-use crate::tests::relays::{Relayed, data_lane};
+use crate::tests::relays::Relayed;
 use pl_event::{Event, Item};
 use pl_queue::OpenRefusal;
 use std::alloc::Global;

@@ -4,15 +4,16 @@ ghost use Rattle.std.specs.Prelude.{◌≡◌, ◌+◌, ◌<◌, ◌^◌, ℕ, t
 ghost use denote.Param.Send.{IsSync};
 ghost use Rattle.pl_event.specs.declared.envelopes.Kind.TheVariants.{Data};
 ghost use Rattle.pl_event.specs.declared.envelopes.Lane.{Lane};
-ghost use Rattle.pl_event.specs.Hops.{same_lane, data_lane as the_data_lane};
+ghost use Rattle.pl_event.specs.Hops.{same_lane};
 ghost use Rattle.pl_event.specs.Worlds.{FitsWorld, content_of};
 ghost use Rattle.pl_queue.specs.Rule.{IsRun, numbers_of};
 ghost use Rattle.pl_queue.specs.Views.{sent_of, next_of, after_offer};
-ghost use Rattle.pl_queue_tests.specs.Relays.{IsFresh, sending_lanes, taking_lanes, lane_events, event_at as the_event_at, event as the_event};
+ghost use Rattle.pl_queue_tests.specs.Relays.{IsFresh, sending_lanes, taking_lanes, lane_events};
 
+use crate::events::event;
 use crate::openings::open_two;
 use crate::threads::join_three;
-use pl_event::{Envelope, Event, Item, Kind, Lane, Named};
+use pl_event::{Envelope, Item, Lane, Named};
 use pl_queue::{Full, Left, Mailbox};
 use std::alloc::{AllocError, Global};
 use std::sync::Wait;
@@ -29,13 +30,13 @@ pub fn offer_one<W: Named, M: Mailbox<W>, R: Wait>(
     sender: &mut M::Sender,
     mut envelope: Envelope,
 ) -> bool
-    requires sender { M.is_sender mailbox.now sender.old }
-    requires next { sent_of envelope.lane (M.sends_of sender.old).send_counts ≡ Some (envelope.number, false) }
+    requires sender { M.ends.is_sender mailbox.now sender.old }
+    requires next { sent_of envelope.lane (M.ends.sends_of sender.old).send_counts ≡ Some (envelope.number, false) }
     requires small { envelope.number < 2 ^ 32 }
     requires fits { FitsWorld W.world envelope }
-    ensures sender { M.is_sender mailbox.now sender.new }
-    ensures sent { IsTrue result → M.sends_of sender.new ≡ after_offer (M.sends_of sender.old) envelope }
-    ensures lanes { sending_lanes (M.sends_of sender.new) ≡ sending_lanes (M.sends_of sender.old) }
+    ensures sender { M.ends.is_sender mailbox.now sender.new }
+    ensures sent { IsTrue result → M.ends.sends_of sender.new ≡ after_offer (M.ends.sends_of sender.old) envelope }
+    ensures lanes { sending_lanes (M.ends.sends_of sender.new) ≡ sending_lanes (M.ends.sends_of sender.old) }
 {
     for _ in 0..MAX_TRIES {
         match mailbox.offer::<R>(rt, sender, envelope) {
@@ -55,9 +56,9 @@ pub fn take_one<W: Named, M: Mailbox<W>, R: Wait>(
     mailbox: &M,
     taker: &mut M::Taker,
 ) -> Option<Envelope>
-    requires taker { M.is_taker mailbox.now taker.old }
-    ensures taker { M.is_taker mailbox.now taker.new }
-    ensures lanes { taking_lanes (M.takes_of taker.new) ≡ taking_lanes (M.takes_of taker.old) }
+    requires taker { M.ends.is_taker mailbox.now taker.old }
+    ensures taker { M.ends.is_taker mailbox.now taker.new }
+    ensures lanes { taking_lanes (M.ends.takes_of taker.new) ≡ taking_lanes (M.ends.takes_of taker.old) }
 {
     for _ in 0..MAX_TRIES {
         if let Some(envelope) = mailbox.take::<R>(rt, taker) {
@@ -68,39 +69,6 @@ pub fn take_one<W: Named, M: Mailbox<W>, R: Wait>(
     None
 }
 
-/// The data lane that enters hop 0 of a channel.
-pub fn data_lane(channel: u16) -> Lane
-    ensures { result ≡ the_data_lane channel 0 }
-{
-    Lane {
-        channel,
-        kind: Kind::Data,
-        hop: 0,
-    }
-}
-
-/// The event with this number.
-pub fn event_at(number: u64) -> Event
-    ensures { result ≡ the_event_at number }
-{
-    if number == 0 {
-        Event::Active
-    } else {
-        Event::ReadComplete
-    }
-}
-
-/// The envelope with this number, where it is not the last.
-pub fn event(lane: Lane, number: u64) -> Envelope
-    ensures { result ≡ the_event lane number }
-{
-    Envelope {
-        lane,
-        number,
-        item: Item::Event(event_at(number)),
-    }
-}
-
 /// Sends all that a lane carries: Active, ReadComplete up to the number `last`, and End. False where it gave up.
 pub fn send_all<W: Named, M: Mailbox<W>, R: Wait>(
     rt: &R,
@@ -109,12 +77,12 @@ pub fn send_all<W: Named, M: Mailbox<W>, R: Wait>(
     lane: Lane,
     last: u64,
 ) -> (M::Sender, bool)
-    requires sender { M.is_sender mailbox.now sender }
-    requires fresh { IsFresh lane (M.sends_of sender) }
+    requires sender { M.ends.is_sender mailbox.now sender }
+    requires fresh { IsFresh lane (M.ends.sends_of sender) }
     requires small { last < 2 ^ 32 }
     requires world { (lane.kind ≡ Data) × (content_of W.world lane ≡ Some (lane_events last)) }
-    ensures sender { M.is_sender mailbox.now result.0 }
-    ensures lanes { sending_lanes (M.sends_of result.0) ≡ sending_lanes (M.sends_of sender) }
+    ensures sender { M.ends.is_sender mailbox.now result.0 }
+    ensures lanes { sending_lanes (M.ends.sends_of result.0) ≡ sending_lanes (M.ends.sends_of sender) }
 {
     for number in 0..last {
         if !offer_one::<W, M, R>(rt, mailbox, &mut sender, event(lane, number)) {
@@ -138,9 +106,9 @@ pub fn take_all<W: Named, M: Mailbox<W>, R: Wait>(
     mut taker: M::Taker,
     count: u64,
 ) -> (M::Taker, Result<Vec<Envelope>, AllocError>)
-    requires taker { M.is_taker mailbox.now taker }
-    ensures taker { M.is_taker mailbox.now result.0 }
-    ensures lanes { taking_lanes (M.takes_of result.0) ≡ taking_lanes (M.takes_of taker) }
+    requires taker { M.ends.is_taker mailbox.now taker }
+    ensures taker { M.ends.is_taker mailbox.now result.0 }
+    ensures lanes { taking_lanes (M.ends.takes_of result.0) ≡ taking_lanes (M.ends.takes_of taker) }
 {
     let mut all = Vec::new(alloc);
     for _ in 0..count {
@@ -185,15 +153,15 @@ fn all_three<W: Named + Send + Sync, M: Mailbox<W> + Send + Sync, R: Threads + W
 where
     M::Sender: Send,
     M::Taker: Send,
-    requires one { M.is_sender mailbox.now senders.0 × IsFresh lanes.first (M.sends_of senders.0) }
-    requires two { M.is_sender mailbox.now senders.1 × IsFresh lanes.second (M.sends_of senders.1) }
+    requires one { M.ends.is_sender mailbox.now senders.0 × IsFresh lanes.first (M.ends.sends_of senders.0) }
+    requires two { M.ends.is_sender mailbox.now senders.1 × IsFresh lanes.second (M.ends.sends_of senders.1) }
     requires small { lanes.last < 2 ^ 32 }
     requires first { (lanes.first.kind ≡ Data) × (content_of W.world lanes.first ≡ Some (lane_events lanes.last)) }
     requires second { (lanes.second.kind ≡ Data) × (content_of W.world lanes.second ≡ Some (lane_events lanes.last)) }
-    requires taker { M.is_taker mailbox.now taker }
-    ensures one { M.is_sender mailbox.now result.0.0 × (sending_lanes (M.sends_of result.0.0) ≡ sending_lanes (M.sends_of senders.0)) }
-    ensures two { M.is_sender mailbox.now result.1.0 × (sending_lanes (M.sends_of result.1.0) ≡ sending_lanes (M.sends_of senders.1)) }
-    ensures taker { M.is_taker mailbox.now result.2.0 × (taking_lanes (M.takes_of result.2.0) ≡ taking_lanes (M.takes_of taker)) }
+    requires taker { M.ends.is_taker mailbox.now taker }
+    ensures one { M.ends.is_sender mailbox.now result.0.0 × (sending_lanes (M.ends.sends_of result.0.0) ≡ sending_lanes (M.ends.sends_of senders.0)) }
+    ensures two { M.ends.is_sender mailbox.now result.1.0 × (sending_lanes (M.ends.sends_of result.1.0) ≡ sending_lanes (M.ends.sends_of senders.1)) }
+    ensures taker { M.ends.is_taker mailbox.now result.2.0 × (taking_lanes (M.ends.takes_of result.2.0) ≡ taking_lanes (M.ends.takes_of taker)) }
 {
     let (one, two) = senders;
     let Lanes {
@@ -205,16 +173,16 @@ where
     join_three(
         rt,
         move || -> (M::Sender, bool)
-            requires { M.is_sender mailbox.now one × IsFresh first (M.sends_of one) × (last < 2 ^ 32) × (first.kind ≡ Data) × (content_of W.world first ≡ Some (lane_events last)) }
-            ensures { M.is_sender mailbox.entry.now result.0 × (sending_lanes (M.sends_of result.0) ≡ sending_lanes (M.sends_of one)) }
+            requires { M.ends.is_sender mailbox.now one × IsFresh first (M.ends.sends_of one) × (last < 2 ^ 32) × (first.kind ≡ Data) × (content_of W.world first ≡ Some (lane_events last)) }
+            ensures { M.ends.is_sender mailbox.entry.now result.0 × (sending_lanes (M.ends.sends_of result.0) ≡ sending_lanes (M.ends.sends_of one)) }
         { send_all::<W, M, R>(rt, mailbox, one, first, last) },
         move || -> (M::Sender, bool)
-            requires { M.is_sender mailbox.now two × IsFresh second (M.sends_of two) × (last < 2 ^ 32) × (second.kind ≡ Data) × (content_of W.world second ≡ Some (lane_events last)) }
-            ensures { M.is_sender mailbox.entry.now result.0 × (sending_lanes (M.sends_of result.0) ≡ sending_lanes (M.sends_of two)) }
+            requires { M.ends.is_sender mailbox.now two × IsFresh second (M.ends.sends_of two) × (last < 2 ^ 32) × (second.kind ≡ Data) × (content_of W.world second ≡ Some (lane_events last)) }
+            ensures { M.ends.is_sender mailbox.entry.now result.0 × (sending_lanes (M.ends.sends_of result.0) ≡ sending_lanes (M.ends.sends_of two)) }
         { send_all::<W, M, R>(rt, mailbox, two, second, last) },
         move || -> (M::Taker, Result<Vec<Envelope>, AllocError>)
-            requires { M.is_taker mailbox.now taker }
-            ensures { M.is_taker mailbox.entry.now result.0 × (taking_lanes (M.takes_of result.0) ≡ taking_lanes (M.takes_of taker)) }
+            requires { M.ends.is_taker mailbox.now taker }
+            ensures { M.ends.is_taker mailbox.entry.now result.0 × (taking_lanes (M.ends.takes_of result.0) ≡ taking_lanes (M.ends.takes_of taker)) }
         { take_all::<W, M, R>(rt, alloc, mailbox, taker, total) },
     )
 }

@@ -1,10 +1,9 @@
 //! One word of a text of moves.
 
-ghost use Rattle.std.specs.Prelude.{◌≡◌, ◌≢◌, ℕ, List, ◌∷◌, ◌++◌, ◌≤◌, Option, decimal, IfSome, IfNone};
+ghost use Rattle.std.specs.Prelude.{◌≡◌, ◌≢◌, ℕ, ◌++◌, ◌≤◌, Option, decimal, encode_utf8, IfSome, IfNone};
+ghost use Rattle.pl_world.specs.declared.moves.Move.{Move};
 ghost use Rattle.pl_text.specs.declared.moves_text.words.Word.{Word};
-ghost use Rattle.pl_text.specs.declared.moves_text.words.Letter.{Letter};
-ghost use Rattle.pl_text.specs.MovesTexts.{IsWordWithin, AreInRange, word_text, count_text};
-ghost use Rattle.pl_text.specs.MovesLetters.{letter_code, move_of};
+ghost use Rattle.pl_text.specs.MovesTexts.{IsWordWithin, AreInRange, move_text, number_of, word_text, count_text};
 
 use super::MAX_MOVES;
 use itoa::Buffer;
@@ -23,15 +22,6 @@ pub(crate) struct Word {
     pub(crate) count: Option<u32>,
 }
 
-/// What a word begins with.
-#[derive(Clone, Copy, Debug, PartialEq, Eq)]
-pub(crate) enum Letter {
-    Read,
-    Task,
-    Hand,
-    Out,
-}
-
 /// The number that a text is printed as, with no zero before it.
 fn number(text: &str, max: u32) -> Option<u32>
     ensures some { IfSome result (λ n. (text.now ≡ decimal n) × (n ≤ max)) }
@@ -48,35 +38,17 @@ fn number(text: &str, max: u32) -> Option<u32>
     Some(number)
 }
 
-/// The letter that a word begins with, and what follows it.
-fn split_letter(text: &str) -> Option<(Letter, &str)>
-    ensures some { IfSome result (λ p. text.now ≡ letter_code p.0 ∷ p.1.now) }
-    ensures none { IfNone result ((letter : Letter) (rest : List ℕ) → text.now ≢ letter_code letter ∷ rest) }
-{
-    if let Some(rest) = text.strip_prefix('R') {
-        return Some((Letter::Read, rest));
-    }
-    if let Some(rest) = text.strip_prefix('T') {
-        return Some((Letter::Task, rest));
-    }
-    if let Some(rest) = text.strip_prefix('H') {
-        return Some((Letter::Hand, rest));
-    }
-    if let Some(rest) = text.strip_prefix('O') {
-        return Some((Letter::Out, rest));
-    }
-    None
-}
-
 /// The move of a letter, at a number.
-fn move_of(letter: Letter, number: u16) -> Move
-    ensures { result ≡ move_of letter number }
+fn move_of(letter: char, number: u16) -> Option<Move>
+    ensures some { IfSome result (λ step. (move_text step ≡ encode_utf8 letter ++ decimal number) × (number_of step ≡ number)) }
+    ensures none { IfNone result ((step : Move) → move_text step ≢ encode_utf8 letter ++ decimal (number_of step)) }
 {
     match letter {
-        Letter::Read => Move::Read(number),
-        Letter::Task => Move::Task(number),
-        Letter::Hand => Move::Hand(number),
-        Letter::Out => Move::Out(number),
+        'R' => Some(Move::Read(number)),
+        'T' => Some(Move::Task(number)),
+        'H' => Some(Move::Hand(number)),
+        'O' => Some(Move::Out(number)),
+        _ => None,
     }
 }
 
@@ -106,10 +78,9 @@ pub(crate) fn read_word(text: &str) -> Option<Word>
     ensures some { IfSome result (λ w. (text.now ≡ word_text w) × IsWordWithin w) }
     ensures none { IfNone result ((w : Word) → IsWordWithin w → text.now ≢ word_text w) }
 {
-    let (letter, rest) = split_letter(text)?;
-    let (number, count) = numbers(rest)?;
-    Some(Word {
-        step: move_of(letter, number),
-        count,
-    })
+    let mut letters = text.chars();
+    let letter = letters.next()?;
+    let (number, count) = numbers(letters.as_str())?;
+    let step = move_of(letter, number)?;
+    Some(Word { step, count })
 }

@@ -9,7 +9,7 @@ ghost use Rattle.pl_text.specs.SessionChannels.{mark_in, window_in, fail_at_in, 
 use crate::faults::SessionFault;
 use crate::session_text::limits::{DEFAULT_WINDOW, MAX_EDITS, MAX_FAIL_AT, MAX_WINDOW};
 use crate::session_text::outline::{ChannelOutline, Edit};
-use crate::session_text::values::{FromData, an_object, array_in, present, required, whole_in};
+use crate::session_text::values::{FromData, an_object, array_in, present, taken, whole_in};
 use crate::session_text::version::Version;
 use pl_build::{DEFAULT_HIGH, DEFAULT_LOW, MAX_MARK};
 use pl_event::{Element, Sequence};
@@ -22,20 +22,22 @@ impl FromData for ChannelOutline {
 
     ghost meaning = { channel_in };
 
-    #[tactic(auto, unfolding(crate::specs::SessionChannels::channel_in))]
+    #[tactic(auto, using(crate::proofs::SessionMembers::get_except), unfolding(crate::specs::SessionChannels::channel_in, crate::specs::SessionChannels::mark_in, crate::specs::SessionChannels::window_in, crate::specs::SessionChannels::fail_at_in, crate::specs::SessionChannels::abort_after_in, crate::specs::SessionReading::present))]
     fn from_data(
         alloc: Global,
         version: Version,
-        value: &Value,
+        value: Value,
     ) -> Result<ChannelOutline, SessionFault> {
-        let channel = an_object(value)?;
-        let edits = array_in::<Edit>(alloc, version, 0, MAX_EDITS, required(channel, "handlers")?)?;
-        let low = mark_in("low", DEFAULT_LOW, channel)?;
-        let high = mark_in("high", DEFAULT_HIGH, channel)?;
-        let window = window_in(channel)?;
-        let fail_at = fail_at_in(channel)?;
-        let bursts = bursts_in(alloc, version, required(channel, "bursts")?)?;
-        let abort_after = abort_after_in(bursts.len(), channel)?;
+        let mut channel = an_object(value)?;
+        let edits = taken(&mut channel, "handlers").ok_or(SessionFault::Missing)?;
+        let edits = array_in::<Edit>(alloc, version, 0, MAX_EDITS, edits)?;
+        let low = mark_in("low", DEFAULT_LOW, &channel)?;
+        let high = mark_in("high", DEFAULT_HIGH, &channel)?;
+        let window = window_in(&channel)?;
+        let fail_at = fail_at_in(&channel)?;
+        let bursts = taken(&mut channel, "bursts").ok_or(SessionFault::Missing)?;
+        let bursts = bursts_in(alloc, version, bursts)?;
+        let abort_after = abort_after_in(bursts.len(), &channel)?;
         Ok(ChannelOutline {
             edits,
             low,
@@ -98,9 +100,9 @@ fn abort_after_in(count: usize, channel: &Value) -> Result<Option<u32>, SessionF
 fn bursts_in(
     alloc: Global,
     version: Version,
-    value: &Value,
+    value: Value,
 ) -> Result<Sequence<Sequence<Element>>, SessionFault>
-    ensures meaning { AnswersMeaning result (bursts_in version (view value.now)) }
+    ensures meaning { AnswersMeaning result (bursts_in version (view value)) }
     ensures few { IfOk result (λ bursts. length bursts ≤ MAX_BURSTS) }
 {
     let bursts = array_in::<Sequence<Element>>(alloc, version, 0, MAX_BURSTS, value)?;

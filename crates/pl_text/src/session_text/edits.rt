@@ -8,7 +8,9 @@ ghost use Rattle.pl_text.specs.SessionChannels.{operation_in, width_in, handler_
 use crate::faults::SessionFault;
 use crate::session_text::names::Name;
 use crate::session_text::outline::{Addition, Edit, HandlerKind, Operation};
-use crate::session_text::values::{FromData, an_object, optional, required, text, whole, whole_in};
+use crate::session_text::values::{
+    FromData, an_object, name_in, optional_name, required, text, whole, whole_in,
+};
 use crate::session_text::version::Version;
 use pl_stages::{MAX_FLUSHES, MAX_FRAME, MAX_LINE};
 use serde_json::Value;
@@ -20,11 +22,11 @@ impl FromData for Edit {
     ghost meaning = { edit_in };
 
     #[tactic(auto, unfolding(crate::specs::SessionChannels::edit_in))]
-    fn from_data(alloc: Global, version: Version, value: &Value) -> Result<Edit, SessionFault> {
+    fn from_data(alloc: Global, version: Version, value: Value) -> Result<Edit, SessionFault> {
         let edit = an_object(value)?;
-        let operation = operation_in(required(edit, "op")?)?;
-        let name = Name::from_data(alloc, version, required(edit, "name")?)?;
-        edit_of(alloc, version, operation, name, edit)
+        let operation = operation_in(required(&edit, "op")?)?;
+        let name = name_in(alloc, required(&edit, "name")?)?;
+        edit_of(alloc, version, operation, name, &edit)
     }
 }
 
@@ -58,11 +60,11 @@ fn edit_of(
         Operation::First => Ok(Edit::First(addition_in(alloc, version, name, edit)?)),
         Operation::Last => Ok(Edit::Last(addition_in(alloc, version, name, edit)?)),
         Operation::Before => {
-            let at = Name::from_data(alloc, version, required(edit, "at")?)?;
+            let at = name_in(alloc, required(edit, "at")?)?;
             Ok(Edit::Before(at, addition_in(alloc, version, name, edit)?))
         }
         Operation::After => {
-            let at = Name::from_data(alloc, version, required(edit, "at")?)?;
+            let at = name_in(alloc, required(edit, "at")?)?;
             Ok(Edit::After(at, addition_in(alloc, version, name, edit)?))
         }
         Operation::Remove => Ok(Edit::Remove(name)),
@@ -80,7 +82,7 @@ fn addition_in(
     ensures { AnswersMeaning result (addition_in version name (view edit.now)) }
 {
     let handler = handler_in(version, edit)?;
-    let group = optional::<Name>(alloc, version, edit, "group")?;
+    let group = optional_name(alloc, edit, "group")?;
     Ok(Addition {
         name,
         handler,

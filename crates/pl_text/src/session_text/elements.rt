@@ -7,7 +7,7 @@ ghost use Rattle.pl_text.specs.SessionChannels.{chunk_in, element_in, hex_decode
 
 use crate::faults::SessionFault;
 use crate::session_text::limits::MAX_USER_EVENT;
-use crate::session_text::values::{FromData, required, text, whole_in};
+use crate::session_text::values::{FromData, required, whole_in};
 use crate::session_text::version::Version;
 use hex::FromHexError;
 use pl_event::{ByteString, Element};
@@ -21,9 +21,9 @@ impl FromData for Element {
     ghost meaning = { element_in };
 
     #[tactic(auto, unfolding(crate::specs::SessionChannels::element_in))]
-    fn from_data(alloc: Global, version: Version, value: &Value) -> Result<Element, SessionFault> {
+    fn from_data(alloc: Global, version: Version, value: Value) -> Result<Element, SessionFault> {
         if version.knows_user_events() && value.is_object() {
-            Ok(Element::User(user_in(value)?))
+            Ok(Element::User(user_in(&value)?))
         } else {
             Ok(Element::Chunk(chunk_in(alloc, version, value)?))
         }
@@ -39,14 +39,16 @@ fn user_in(event: &Value) -> Result<u32, SessionFault>
 }
 
 /// The bytes of a chunk: in version 1 the UTF-8 bytes of a text, in version 2 the bytes that its hex digits say.
-#[tactic(auto, unfolding(crate::specs::SessionChannels::chunk_in))]
-fn chunk_in(alloc: Global, version: Version, value: &Value) -> Result<ByteString, SessionFault>
-    ensures { AnswersMeaning result (chunk_in version (view value.now)) }
+#[tactic(auto, unfolding(crate::specs::SessionChannels::chunk_in, crate::specs::SessionReading::text))]
+fn chunk_in(alloc: Global, version: Version, value: Value) -> Result<ByteString, SessionFault>
+    ensures { AnswersMeaning result (chunk_in version (view value)) }
 {
-    let text = text(value)?;
+    let Value::String(text) = value else {
+        return Err(SessionFault::Kind);
+    };
     let bytes = match version {
-        Version::One => Vec::from_slice(alloc, text.as_bytes())?,
-        Version::Two => hex_decoded(alloc, text)?,
+        Version::One => text.into_bytes(),
+        Version::Two => hex_decoded(alloc, text.as_str())?,
     };
     Ok(ByteString::from_vec(bytes))
 }

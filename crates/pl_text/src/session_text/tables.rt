@@ -1,16 +1,16 @@
 //! Reads the members of a session, a line for each row of its tables.
 
-ghost use Rattle.std.specs.Prelude.{◌≡◌};
+ghost use Rattle.std.specs.Prelude.{◌≡◌, codes};
 ghost use Rattle.serde_json.specs.View.{view};
 ghost use Rattle.pl_text.specs.SessionReading.{AnswersMeaning};
 ghost use Rattle.pl_text.specs.SessionOutlines.{version_in, group_in, groups_in, outline_in};
+ghost use Rattle.pl_text.specs.SessionMembers.{except};
 
 use crate::faults::SessionFault;
 use crate::session_text::limits::MAX_GROUP_SIZE;
-use crate::session_text::names::Name;
 use crate::session_text::outline::{ChannelOutline, GroupOutline, Outline};
 use crate::session_text::values::{
-    FromData, an_object, array_in, present, required, whole, whole_in,
+    FromData, an_object, array_in, name_in, required, taken, whole, whole_in,
 };
 use crate::session_text::version::Version;
 use pl_build::MAX_EXECUTORS;
@@ -39,12 +39,12 @@ impl FromData for GroupOutline {
     #[tactic(auto, unfolding(crate::specs::SessionOutlines::group_in))]
     fn from_data(
         alloc: Global,
-        version: Version,
-        value: &Value,
+        _version: Version,
+        value: Value,
     ) -> Result<GroupOutline, SessionFault> {
         let group = an_object(value)?;
-        let name = Name::from_data(alloc, version, required(group, "name")?)?;
-        let size = whole_in(0, u64::from(MAX_GROUP_SIZE), required(group, "size")?)?;
+        let name = name_in(alloc, required(&group, "name")?)?;
+        let size = whole_in(0, u64::from(MAX_GROUP_SIZE), required(&group, "size")?)?;
         Ok(GroupOutline {
             name,
             size: size as u16,
@@ -53,37 +53,33 @@ impl FromData for GroupOutline {
 }
 
 /// The groups, of which there may be none.
-#[tactic(auto, unfolding(crate::specs::SessionOutlines::groups_in))]
+#[tactic(auto, unfolding(crate::specs::SessionOutlines::groups_in, crate::specs::SessionReading::present))]
 fn groups_in(
     alloc: Global,
     version: Version,
-    top: &Value,
+    top: &mut Value,
 ) -> Result<Sequence<GroupOutline>, SessionFault>
-    ensures { AnswersMeaning result (groups_in (view top.now)) }
+    ensures meaning { AnswersMeaning result (groups_in (view top.old)) }
+    ensures others { view top.new ≡ except (codes "groups") (view top.old) }
 {
-    match present(top, "groups") {
+    match taken(top, "groups") {
+        Some(Value::Null) | None => Ok(Sequence::new(alloc)),
         Some(groups) => Sequence::<GroupOutline>::from_data(alloc, version, groups),
-        None => Ok(Sequence::new(alloc)),
     }
 }
 
 /// The members of the top object, in the order of its table.
-#[tactic(auto, unfolding(crate::specs::SessionOutlines::outline_in))]
-pub(crate) fn outline_in(alloc: Global, value: &Value) -> Result<Outline, SessionFault>
-    ensures { AnswersMeaning result (outline_in (view value.now)) }
+#[tactic(auto, using(crate::proofs::SessionMembers::get_except), unfolding(crate::specs::SessionOutlines::outline_in))]
+pub(crate) fn outline_in(alloc: Global, value: Value) -> Result<Outline, SessionFault>
+    ensures { AnswersMeaning result (outline_in (view value)) }
 {
-    let top = an_object(value)?;
-    let version = version_in(required(top, "version")?)?;
-    let capacity = whole_in(1, u64::from(MAX_CAPACITY), required(top, "capacity")?)?;
-    let loops = whole_in(1, u64::from(MAX_EXECUTORS), required(top, "loops")?)?;
-    let groups = groups_in(alloc, version, top)?;
-    let channels = array_in::<ChannelOutline>(
-        alloc,
-        version,
-        0,
-        MAX_CHANNELS,
-        required(top, "channels")?,
-    )?;
+    let mut top = an_object(value)?;
+    let version = version_in(required(&top, "version")?)?;
+    let capacity = whole_in(1, u64::from(MAX_CAPACITY), required(&top, "capacity")?)?;
+    let loops = whole_in(1, u64::from(MAX_EXECUTORS), required(&top, "loops")?)?;
+    let groups = groups_in(alloc, version, &mut top)?;
+    let channels = taken(&mut top, "channels").ok_or(SessionFault::Missing)?;
+    let channels = array_in::<ChannelOutline>(alloc, version, 0, MAX_CHANNELS, channels)?;
     Ok(Outline {
         capacity: capacity as u32,
         loops: loops as u16,

@@ -4,6 +4,7 @@ ghost use Rattle.std.specs.Prelude.{◌≡◌, option_map, map, IfOk, ◌≤◌}
 ghost use Rattle.serde_json.specs.View.{view};
 ghost use Rattle.serde_json.specs.Find.{get};
 ghost use Rattle.pl_text.specs.declared.faults.SessionFault.TheVariants.{Missing};
+ghost use Rattle.pl_text.specs.SessionMembers.{except};
 ghost use Rattle.pl_text.specs.SessionReading.{AnswersMeaning, known, seen, whole, whole_in, text, an_object, present, optional, elements_of, each, array_in, array_of};
 
 use crate::faults::SessionFault;
@@ -26,8 +27,8 @@ pub(crate) trait FromData {
     ghost meaning: { Version → Data → Result Self.Read SessionFault };
 
     /// Reads the value. An `Err` is its first fault, or `Memory`.
-    fn from_data(alloc: Global, version: Version, value: &Value) -> Result<Self::Read, SessionFault>
-        ensures { AnswersMeaning result (meaning version (view value.now)) };
+    fn from_data(alloc: Global, version: Version, value: Value) -> Result<Self::Read, SessionFault>
+        ensures { AnswersMeaning result (meaning version (view value)) };
 }
 
 /// A whole number.
@@ -62,8 +63,8 @@ pub(crate) fn text(value: &Value) -> Result<&str, SessionFault>
 
 /// An object.
 #[tactic(auto, unfolding(crate::specs::SessionReading::an_object))]
-pub(crate) fn an_object(value: &Value) -> Result<&Value, SessionFault>
-    ensures { seen (λ v. view v.now) result ≡ an_object (view value.now) }
+pub(crate) fn an_object(value: Value) -> Result<Value, SessionFault>
+    ensures { seen view result ≡ an_object (view value) }
 {
     match value {
         Value::Object(_) => Ok(value),
@@ -89,29 +90,43 @@ pub(crate) fn present<'v>(object: &'v Value, name: &str) -> Option<&'v Value>
     }
 }
 
-/// A member of which there may be none.
-pub(crate) fn optional<T: FromData>(
+/// Takes a member out of an object.
+pub(crate) fn taken(object: &mut Value, name: &str) -> Option<Value>
+    ensures value { option_map view result ≡ get name.now (view object.old) }
+    ensures others { view object.new ≡ except name.now (view object.old) }
+{
+    object.as_object_mut()?.remove(name)
+}
+
+/// A name.
+pub(crate) fn name_in(alloc: Global, value: &Value) -> Result<Name, SessionFault>
+    ensures { AnswersMeaning result (text (view value.now)) }
+{
+    Ok(Name::new(alloc, text(value)?)?)
+}
+
+/// A name of which there may be none.
+pub(crate) fn optional_name(
     alloc: Global,
-    version: Version,
     object: &Value,
     name: &str,
-) -> Result<Option<T::Read>, SessionFault>
-    ensures { AnswersMeaning result (optional name.now (T.meaning version) (view object.now)) }
+) -> Result<Option<Name>, SessionFault>
+    ensures { AnswersMeaning result (optional name.now text (view object.now)) }
 {
     match present(object, name) {
-        Some(value) => Ok(Some(T::from_data(alloc, version, value)?)),
+        Some(value) => Ok(Some(name_in(alloc, value)?)),
         None => Ok(None),
     }
 }
 
 /// The elements of an array.
-#[tactic(auto, using(crate::proofs::SessionElements::elements_items_of), unfolding(crate::specs::SessionReading::elements_of))]
-pub(crate) fn elements_of(value: &Value) -> Result<&[Value], SessionFault>
-    ensures { seen (λ vs. map view vs.now) result ≡ elements_of (view value.now) }
+#[tactic(auto, unfolding(crate::specs::SessionReading::elements_of))]
+fn elements_of(value: Value) -> Result<Vec<Value>, SessionFault>
+    ensures { seen (λ vs. map view vs.items) result ≡ elements_of (view value) }
 {
-    match value.as_array() {
-        Some(values) => Ok(values.as_slice()),
-        None => Err(SessionFault::Kind),
+    match value {
+        Value::Array(values) => Ok(values),
+        _ => Err(SessionFault::Kind),
     }
 }
 
@@ -119,9 +134,9 @@ pub(crate) fn elements_of(value: &Value) -> Result<&[Value], SessionFault>
 fn each<T: FromData>(
     alloc: Global,
     version: Version,
-    values: &[Value],
+    values: Vec<Value>,
 ) -> Result<Sequence<T::Read>, SessionFault>
-    ensures { AnswersMeaning result (each (T.meaning version) (map view values.now)) }
+    ensures { AnswersMeaning result (each (T.meaning version) (map view values.items)) }
 {
     let mut read = Vec::with_capacity(alloc, values.len())?;
     for value in values {
@@ -137,9 +152,9 @@ pub(crate) fn array_in<T: FromData>(
     version: Version,
     low: usize,
     high: usize,
-    value: &Value,
+    value: Value,
 ) -> Result<Sequence<T::Read>, SessionFault>
-    ensures { AnswersMeaning result (array_in low high (T.meaning version) (view value.now)) }
+    ensures { AnswersMeaning result (array_in low high (T.meaning version) (view value)) }
 {
     let values = elements_of(value)?;
     if values.len() < low || high < values.len() {
@@ -157,18 +172,8 @@ impl<T: FromData> FromData for Sequence<T> {
     fn from_data(
         alloc: Global,
         version: Version,
-        value: &Value,
+        value: Value,
     ) -> Result<Sequence<T::Read>, SessionFault> {
         each::<T>(alloc, version, elements_of(value)?)
-    }
-}
-
-impl FromData for Name {
-    type Read = Name;
-
-    ghost meaning = { λ _. text };
-
-    fn from_data(alloc: Global, _version: Version, value: &Value) -> Result<Name, SessionFault> {
-        Ok(Name::new(alloc, text(value)?)?)
     }
 }

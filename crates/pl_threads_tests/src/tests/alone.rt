@@ -45,15 +45,15 @@ impl<'a, W: Named, M: Mailbox<W> + Drop> Model for Feed<'a, W, M> {
 
     ghost view = { λ f. f.next };
 
-    ghost invariant = { λ f. M.is_sender f.inbox.now.mailbox f.way.sender
-        × ((M.sends_of f.way.sender).send_counts ≡ send_count (lane_to f.executor) f.next false ∷ [])
+    ghost invariant = { λ f. M.ends.is_sender f.inbox.now.mailbox f.way.sender
+        × ((M.ends.sends_of f.way.sender).send_counts ≡ send_count (lane_to f.executor) f.next false ∷ [])
         × (f.way.seat.name ≡ f.inbox.now.admission.name) };
 }
 
 impl<'a, W: Named, M: Mailbox<W> + Drop> Feed<'a, W, M> {
     /// The way to the executor that an inbox is of.
     fn new(executor: u16, inbox: &'a Inbox<W, M>, way: Way<W, M>) -> Self
-        requires { IsWay M.is_taker M.takes_of M.is_sender M.sends_of inbox.now (lane_to executor ∷ []) way }
+        requires { IsWay M.ends inbox.now (lane_to executor ∷ []) way }
     {
         Feed {
             executor,
@@ -113,12 +113,12 @@ impl<'a, W: Named, M: Mailbox<W> + Drop> Model for Sink<'a, W, M> {
 
     ghost view = { λ s. s.own.owner };
 
-    ghost invariant = { λ s. M.is_taker s.inbox.now.mailbox s.own.taker × (s.own.owner.name ≡ s.inbox.now.admission.name) };
+    ghost invariant = { λ s. M.ends.is_taker s.inbox.now.mailbox s.own.taker × (s.own.owner.name ≡ s.inbox.now.admission.name) };
 }
 
 impl<'a, W: Named, M: Mailbox<W> + Drop> Sink<'a, W, M> {
     fn new(inbox: &'a Inbox<W, M>, own: Own<W, M>) -> Self
-        requires taker { M.is_taker inbox.now.mailbox own.taker }
+        requires taker { M.ends.is_taker inbox.now.mailbox own.taker }
         requires owner { own.owner ≡ new_owner_seat inbox.now.admission.name }
     {
         Sink { inbox, own }
@@ -201,7 +201,7 @@ pub(crate) fn set_apart<'a, W: Named, M: Mailbox<W> + Drop>(
     counts: (u32, u32),
     expected: u64,
 ) -> Result<Alone<'a, W, M>, AllocError>
-    requires { ArePlaces M.is_taker M.takes_of M.is_sender M.sends_of inboxes.now places }
+    requires { ArePlaces M.ends inboxes.now places }
 {
     let Places {
         first,

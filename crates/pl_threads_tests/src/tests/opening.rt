@@ -43,7 +43,7 @@ fn open<W: Named, M: Mailbox<W> + Drop>(
     executor: u16,
     capacity: usize,
 ) -> Result<(Inbox<W, M>, Own<W, M>, (Way<W, M>, Way<W, M>, Way<W, M>)), OpenRefusal>
-    ensures { IfOk result (λ r. IsOpened M.is_taker M.takes_of M.is_sender M.sends_of executor r.0 r.1 r.2.0 r.2.1 r.2.2) }
+    ensures { IfOk result (λ r. IsOpened M.ends executor r.0 r.1 r.2.0 r.2.1 r.2.2) }
 {
     let (mailbox, senders, taker) = M::open(alloc, lanes(alloc, executor)?, capacity)?;
     let (admission, seats, owner) = Admission::new(alloc, 3)?;
@@ -78,7 +78,7 @@ pub(crate) fn open_three<W: Named, M: Mailbox<W> + Drop>(
     alloc: Global,
     capacity: usize,
 ) -> Result<(Inboxes<W, M>, Places<W, M>), OpenRefusal>
-    ensures { IfOk result (λ r. ArePlaces M.is_taker M.takes_of M.is_sender M.sends_of r.0 r.1) }
+    ensures { IfOk result (λ r. ArePlaces M.ends r.0 r.1) }
 {
     let (first, first_own, to_first) = open::<W, M>(alloc, 0, capacity)?;
     let (second, second_own, to_second) = open::<W, M>(alloc, 1, capacity)?;

@@ -18,9 +18,9 @@ fn outbox<'a, W: Named, M: Mailbox<W> + Drop>(
     inbox: &'a Inbox<W, M>,
     way: Way<W, M>,
 ) -> Outbox<'a, W, M>
-    requires sender { M.is_sender inbox.now.mailbox way.sender }
+    requires sender { M.ends.is_sender inbox.now.mailbox way.sender }
     requires seat { way.seat.name ≡ inbox.now.admission.name }
-    ensures { result ≡ record { sends = M.sends_of way.sender; seat = way.seat } }
+    ensures { result ≡ record { sends = M.ends.sends_of way.sender; seat = way.seat } }
 {
     let Way { sender, seat } = way;
     Outbox::new(inbox, sender, seat)
@@ -60,7 +60,7 @@ pub(crate) fn executor<'a, W: Named, M: Mailbox<W> + Drop>(
     place: Place<W, M>,
     node: Node,
 ) -> Result<(Executor<'a, W, M, Node>, Parker), AllocError>
-    requires place { IsPlace M.is_taker M.takes_of M.is_sender M.sends_of inboxes.now node.executor place }
+    requires place { IsPlace M.ends inboxes.now node.executor place }
     requires ready { IsReady node }
 {
     let Place {
@@ -135,7 +135,7 @@ fn add<'a, W: Named, M: Mailbox<W> + Drop>(
     place: Place<W, M>,
     node: Node,
 ) -> Result<(), AllocError>
-    requires place { IsPlace M.is_taker M.takes_of M.is_sender M.sends_of inboxes.now node.executor place }
+    requires place { IsPlace M.ends inboxes.now node.executor place }
     requires ready { IsReady node }
 {
     let alloc = *executors.allocator();
@@ -151,7 +151,7 @@ pub(crate) fn three_executors<'a, W: Named, M: Mailbox<W> + Drop>(
     places: Places<W, M>,
     count: u32,
 ) -> Result<Vec<(Executor<'a, W, M, Node>, Parker)>, AllocError>
-    requires { ArePlaces M.is_taker M.takes_of M.is_sender M.sends_of inboxes.now places }
+    requires { ArePlaces M.ends inboxes.now places }
 {
     let Places {
         first,

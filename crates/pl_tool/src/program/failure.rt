@@ -25,7 +25,7 @@ pub(crate) enum Failure {
     Input,
     /// The session was refused.
     Session(SessionFault),
-    /// No thread could be started for a run.
+    /// A run gave no report.
     Run(RunFault),
     /// Out of memory.
     Memory,
@@ -150,7 +150,7 @@ impl From<ReplayFault> for Failure {
     }
 }
 
-/// A run that did not start.
+/// A run that gave no report.
 impl From<RunFault> for Failure {
     ghost from_gives = { λ fault e. e ≡ or_memory (failure.Run fault) };
 

@@ -16,34 +16,34 @@ outboxes-requires-clause-count g c = c.requires.starts.left.count ∙ inboxes-co
 pub outboxes-requires-clause-senders : goal.outboxes-requires-clause-senders
 outboxes-requires-clause-senders g c =
     let s = c.requires.starts in
-    columns-send g.M.Mailbox.is_sender g.M.Mailbox.sends_of s.lanes s.square c.args.number (map inbox_view c.args.inboxes.now) c.args.columns.now.items s.left s.count (inboxes-within c.args.inboxes.now c.args.number c.requires.there)
+    columns-send g.M.Mailbox.ends s.lanes s.square c.args.number (map inbox_view c.args.inboxes.now) c.args.columns.now.items s.left s.count (inboxes-within c.args.inboxes.now c.args.number c.requires.there)
 
 pub new-requires-clause-new : goal.new-requires-clause-new
 new-requires-clause-new g c =
     let s = c.requires.starts in
-    outboxes-new g.M.Mailbox.is_sender g.M.Mailbox.sends_of s.lanes s.square c.args.number (map inbox_view c.args.inboxes.now) c.args.columns.now.items s.left s.count (inboxes-within c.args.inboxes.now c.args.number c.requires.there)
+    outboxes-new g.M.Mailbox.ends s.lanes s.square c.args.number (map inbox_view c.args.inboxes.now) c.args.columns.now.items s.left s.count (inboxes-within c.args.inboxes.now c.args.number c.requires.there)
     c.in_ok-outboxes.outboxes.items c.in_ok-outboxes.ensures.outboxes
 
 pub new-requires-clause-places : goal.new-requires-clause-places
 new-requires-clause-places g c =
     let s = c.requires.starts in
     ap (λ (counts : List ℕ). length counts) (c.as_slice.ensures.value ∙ ap (λ (p : PlacesView). p.targets) c.places.view_is)
-    ∙ s.fits.targets ∙ sym s.count ∙ sym (outboxes-count g.M.Mailbox.sends_of (map inbox_view c.args.inboxes.now) c.args.columns.now.items s.left.count c.in_ok-outboxes.outboxes.items c.in_ok-outboxes.ensures.outboxes)
+    ∙ s.fits.targets ∙ sym s.count ∙ sym (outboxes-count g.M.Mailbox.ends (map inbox_view c.args.inboxes.now) c.args.columns.now.items s.left.count c.in_ok-outboxes.outboxes.items c.in_ok-outboxes.ensures.outboxes)
 
 pub new-requires-clause-few : goal.new-requires-clause-few
 new-requires-clause-few g c =
-    let count = outboxes-count g.M.Mailbox.sends_of (map inbox_view c.args.inboxes.now) c.args.columns.now.items c.requires.starts.left.count c.in_ok-outboxes.outboxes.items c.in_ok-outboxes.ensures.outboxes in
+    let count = outboxes-count g.M.Mailbox.ends (map inbox_view c.args.inboxes.now) c.args.columns.now.items c.requires.starts.left.count c.in_ok-outboxes.outboxes.items c.in_ok-outboxes.ensures.outboxes in
     omega (arith, count, inboxes-count c.args.inboxes.now, c.requires.few)
 
 pub new-requires-3-clause-stands : goal.new-requires-3-clause-stands
-new-requires-3-clause-stands g c = c.requires.starts.fits.stood
+new-requires-3-clause-stands g c = c.requires.starts.stood
 
 pub new-requires-3-clause-home : goal.new-requires-3-clause-home
 new-requires-3-clause-home g c = c.requires.starts.fits.at
 
 pub new-requires-3-clause-places : goal.new-requires-3-clause-places
 new-requires-3-clause-places g c =
-    subst (λ (z : StopsView). HasPlaces z (g.N.Nodes.lanes c.args.nodes)) (sym (c.in_ok-new-2.ensures.places ∙ ap (λ (p : PlacesView). no_stops p.work) c.places.view_is)) c.requires.starts.fits.work
+    subst (λ (z : StopsView). HasPlaces z (g.N.Nodes.view_of c.args.nodes).lanes.places) (sym (c.in_ok-new-2.ensures.places ∙ ap (λ (p : PlacesView). no_stops p.work) c.places.view_is)) c.requires.starts.fits.work
 
 pub new-requires-3-clause-why : goal.new-requires-3-clause-why
 new-requires-3-clause-why g c = λ refused. absurd (false≢true (sym c.requires.starts.fits.unrefused ∙ refused))
@@ -62,8 +62,7 @@ new-requires-3-clause-number g c = omega (arith, c.requires.there, c.requires.fe
 
 pub new-requires-3-clause-runs : goal.new-requires-3-clause-runs
 new-requires-3-clause-runs g c =
-    starts-running g.M.Mailbox.is_taker g.M.Mailbox.takes_of g.M.Mailbox.is_sender g.M.Mailbox.sends_of g.N.Nodes.stands g.N.Nodes.home g.N.Nodes.lanes g.N.Nodes.target_of g.N.Nodes.writes g.N.Nodes.taken_of g.N.Nodes.came g.N.Nodes.was_refused
-    (map inbox_view c.args.inboxes.now) c.args.number c.args.own c.args.columns.now.items c.args.nodes c.args.places.now c.requires.starts (inboxes-within c.args.inboxes.now c.args.number c.requires.there)
+    starts-running g.M.Mailbox.ends g.N.Nodes.view_of g.N.Nodes.stands (map inbox_view c.args.inboxes.now) c.args.number c.args.own c.args.columns.now.items c.args.nodes c.args.places.now c.requires.starts (inboxes-within c.args.inboxes.now c.args.number c.requires.there)
     c.in_ok-outboxes.outboxes.items c.in_ok-outboxes.ensures.outboxes g.W.Named.world c.in_ok-new.field-0 c.in_ok-new.ensures.outboxes c.in_ok-new.ensures.waits
     (c.in_ok-new.ensures.places ∙ ap (λ (counts : List ℕ). map no_stops counts) (c.as_slice.ensures.value ∙ ap (λ (p : PlacesView). p.targets) c.places.view_is))
     c.in_ok-new-2.field-0 c.in_ok-new-2.ensures.empty
@@ -72,19 +71,18 @@ pub new-requires-3-clause-taker : goal.new-requires-3-clause-taker
 new-requires-3-clause-taker g c =
     let inbox = c.index-inboxes-number.result in
     let own = c.requires.starts.own (inbox_view inbox) (shown-at inbox_view c.args.inboxes.now c.args.number inbox c.requires.there c.index-inboxes-number.is) in
-    subst (λ (t : g.row.M-Taker.Denot). g.M.Mailbox.is_taker inbox.mailbox t) (sym (ap (λ (o : OwnView g.row.M-Taker.Denot). o.taker) c.own.view_is)) own.taker
+    subst (λ (t : g.row.M-Taker.Denot). g.M.Mailbox.ends.is_taker inbox.mailbox t) (sym (ap (λ (o : OwnView g.row.M-Taker.Denot). o.taker) c.own.view_is)) own.taker
 
 pub new-requires-3-clause-taking : goal.new-requires-3-clause-taking
 new-requires-3-clause-taking g c =
-    subst (λ (t : g.row.M-Taker.Denot). IsTaking c.args.number (g.N.Nodes.target_of c.args.nodes) (g.N.Nodes.writes c.args.nodes) (g.N.Nodes.taken_of c.args.nodes) (g.M.Mailbox.takes_of t).counts) (sym (ap (λ (o : OwnView g.row.M-Taker.Denot). o.taker) c.own.view_is))
-    (starts-taking g.M.Mailbox.is_taker g.M.Mailbox.takes_of g.M.Mailbox.is_sender g.M.Mailbox.sends_of g.N.Nodes.stands g.N.Nodes.home g.N.Nodes.lanes g.N.Nodes.target_of g.N.Nodes.writes g.N.Nodes.taken_of g.N.Nodes.came g.N.Nodes.was_refused
-    (map inbox_view c.args.inboxes.now) c.args.number c.args.own c.args.columns.now.items c.args.nodes c.args.places.now c.requires.starts (inboxes-within c.args.inboxes.now c.args.number c.requires.there))
+    subst (λ (t : g.row.M-Taker.Denot). IsTaking c.args.number (g.N.Nodes.view_of c.args.nodes).lanes (g.M.Mailbox.ends.takes_of t).counts) (sym (ap (λ (o : OwnView g.row.M-Taker.Denot). o.taker) c.own.view_is))
+    (starts-taking g.M.Mailbox.ends g.N.Nodes.view_of g.N.Nodes.stands (map inbox_view c.args.inboxes.now) c.args.number c.args.own c.args.columns.now.items c.args.nodes c.args.places.now c.requires.starts (inboxes-within c.args.inboxes.now c.args.number c.requires.there))
 
 pub new-requires-3-clause-fresh : goal.new-requires-3-clause-fresh
 new-requires-3-clause-fresh g c =
     let inbox = c.index-inboxes-number.result in
     let own = c.requires.starts.own (inbox_view inbox) (shown-at inbox_view c.args.inboxes.now c.args.number inbox c.requires.there c.index-inboxes-number.is) in
-    ap (λ (o : OwnView g.row.M-Taker.Denot). (g.M.Mailbox.takes_of o.taker).pops) c.own.view_is ∙ ap (λ (v : TakerView). v.pops) own.takes
+    ap (λ (o : OwnView g.row.M-Taker.Denot). (g.M.Mailbox.ends.takes_of o.taker).pops) c.own.view_is ∙ ap (λ (v : TakerView). v.pops) own.takes
 
 pub new-requires-3-clause-owner : goal.new-requires-3-clause-owner
 new-requires-3-clause-owner g c =
@@ -104,6 +102,6 @@ returns-clause-first g c =
       numbered = ap (λ (e : ExecutorView g.row.N.Denot). e.number) is;
       turns = ap (λ (e : ExecutorView g.row.N.Denot). e.turns) is;
       waits = λ target. ap (λ (e : ExecutorView g.row.N.Denot). waits_for e.outboxes target) is ∙ c.in_ok-new.ensures.waits target;
-      taken = ap (λ (e : ExecutorView g.row.N.Denot). e.takes.pops) is ∙ ap (λ (o : OwnView g.row.M-Taker.Denot). (g.M.Mailbox.takes_of o.taker).pops) c.own.view_is ∙ ap (λ (v : TakerView). v.pops) own.takes;
+      taken = ap (λ (e : ExecutorView g.row.N.Denot). e.takes.pops) is ∙ ap (λ (o : OwnView g.row.M-Taker.Denot). (g.M.Mailbox.ends.takes_of o.taker).pops) c.own.view_is ∙ ap (λ (v : TakerView). v.pops) own.takes;
       phase = ap (λ (e : ExecutorView g.row.N.Denot). e.owner.phase) is ∙ ap (λ (o : OwnView g.row.M-Taker.Denot). o.owner.phase) c.own.view_is ∙ ap (λ (o : OwnerSeatView). o.phase) own.owner;
     }

@@ -10,7 +10,7 @@ use Rattle.pl_exec.proofs.opening.open.Goals as goal
 pub returns-clause-column : goal.returns-clause-column
 returns-clause-column g c =
     let name = ap (λ (a : AdmissionView). a.name) c.in_ok-inbox.ensures.admission in
-    subst (λ (z : InboxView g.row.M.Denot × List g.row.M-Sender.Denot × List SendSeatView). IsColumn g.M.Mailbox.is_sender g.M.Mailbox.sends_of z.0 (senders_in c.args.senders) (record { senders = z.1; seats = z.2 }))
+    subst (λ (z : InboxView g.row.M.Denot × List g.row.M-Sender.Denot × List SendSeatView). IsColumn g.M.Mailbox.ends z.0 (senders_in c.args.senders) (record { senders = z.1; seats = z.2 }))
     (λ i. (record { mailbox = sym c.in_ok-inbox.ensures.mailbox i; name = sym name i }, sym c.into_iter.ensures.rest i, sym c.into_iter-2.ensures.rest i))
     (record {
       senders = c.in-Ok.ensures.senders.0;

@@ -37,12 +37,12 @@ loop-senders-preserved g c =
     let made = c.in_ok-inbox in
     let found = next-senders lanes done c.loop-senders.senders-iterator.rest.items c.next.new.self.rest.items senders inv.rest c.in-Some.ensures.steps.0 in
     let pushed = ap (λ (l : List (Inbox g.row.W.Denot g.row.M.Denot g.row.M-Sender.Denot g.row.M-Taker.Denot)). length l) c.in_ok-push.ensures.items in
-    let holds = λ (i : Inbox g.row.W.Denot g.row.M.Denot g.row.M-Sender.Denot g.row.M-Taker.Denot). M.capacity_of i.mailbox ≡ c.args.capacity in
+    let holds = λ (i : Inbox g.row.W.Denot g.row.M.Denot g.row.M-Sender.Denot g.row.M-Taker.Denot). M.ends.capacity_of i.mailbox ≡ c.args.capacity in
     record {
       rest = append_assoc done (senders ∷ []) c.next.new.self.rest.items ∙ ap (λ (t : List (Vec (Vec Lane))). done ++ t) (sym c.in-Some.ensures.steps.0) ∙ inv.rest;
       count = omega (arith, pushed, inv.count, length-append inboxes (made.inbox ∷ []), length-append done (senders ∷ []));
       opened =
-          opened-next M.is_taker M.takes_of M.is_sender M.sends_of inbox_view (lanes_in lanes) inboxes c.push.new.self.items c.loop-senders.all.items c.push-in-loop-senders.new.self.items c.loop-senders.columns.items c.push-in-loop-senders-2.new.self.items
+          opened-next M.ends inbox_view (lanes_in lanes) inboxes c.push.new.self.items c.loop-senders.all.items c.push-in-loop-senders.new.self.items c.loop-senders.columns.items c.push-in-loop-senders-2.new.self.items
           made.inbox made.own made.column (senders_in senders) inv.opened (ap (λ n. slice_get (lanes_in lanes) n) inv.count ∙ found) made.ensures.own made.ensures.column c.in_ok-push.ensures.items c.in_ok-push-2.ensures.items c.in_ok-push-3.ensures.items;
       capacity = All-same holds c.push.new.self.items (inboxes ++ made.inbox ∷ []) c.in_ok-push.ensures.items (All-push holds inboxes made.inbox inv.capacity made.ensures.capacity);
     }

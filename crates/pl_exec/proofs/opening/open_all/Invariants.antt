@@ -8,6 +8,6 @@ abbrev pub invariant-loop-senders : goal.invariant-loop-senders
 invariant-loop-senders g l = record {
   rest : l.yielded ++ into_iter_items l.senders-iterator ≡ l.fn.lanes.items;
   count : length l.inboxes.items ≡ length l.yielded;
-  opened : AreOpened g.M.Mailbox.is_taker g.M.Mailbox.takes_of g.M.Mailbox.is_sender g.M.Mailbox.sends_of (lanes_in l.fn.lanes.items) (map inbox_view l.inboxes.items) l.all.items l.columns.items;
-  capacity : All (λ i. g.M.Mailbox.capacity_of i.mailbox ≡ l.fn.capacity) l.inboxes.items;
+  opened : AreOpened g.M.Mailbox.ends (lanes_in l.fn.lanes.items) (map inbox_view l.inboxes.items) l.all.items l.columns.items;
+  capacity : All (λ i. g.M.Mailbox.ends.capacity_of i.mailbox ≡ l.fn.capacity) l.inboxes.items;
 }

@@ -7,7 +7,7 @@ use Rattle.pl_outbox.specs.declared.inbox.Inbox.{Inbox}
 use Rattle.pl_world.specs.declared.session.Recorded.{Recorded}
 use Rattle.pl_world.specs.Plans.{Plan, channel_planned, planned}
 use Rattle.pl_world.specs.PlanRules.{IsPlan}
-use Rattle.pl_exec.specs.declared.nodes.ExecutorNodes.{ExecutorNodes}
+use Rattle.pl_exec.specs.ExecutorNodes.{own_view}
 use Rattle.pl_exec.specs.Opening.{AreOpened, CanOpenAll, inbox_view, lanes_in}
 use Rattle.pl_exec.specs.Starting.{AreReady}
 use Rattle.pl_exec.specs.Telling.{plan_marks}
@@ -57,7 +57,7 @@ executors-requires-clause-few g c =
 
 pub executors-requires-clause-capacity : goal.executors-requires-clause-capacity
 executors-requires-clause-capacity g c =
-    subst (λ (z : ℕ × List (Inbox g.row.W.Denot g.row.M.Denot g.row.M-Sender.Denot g.row.M-Taker.Denot)). All (λ i. g.M.Mailbox.capacity_of i.mailbox ≡ z.0) z.1)
+    subst (λ (z : ℕ × List (Inbox g.row.W.Denot g.row.M.Denot g.row.M-Sender.Denot g.row.M-Taker.Denot)). All (λ i. g.M.Mailbox.ends.capacity_of i.mailbox ≡ z.0) z.1)
     (λ i. (sym (ap (λ (p : Plan). p.capacity) c.requires.made) i, sym c.as_slice.ensures.value i)) c.in_ok-inboxes.ensures.capacity
 
 pub executors-requires-clause-start : goal.executors-requires-clause-start
@@ -68,7 +68,7 @@ executors-requires-clause-start g c =
       square = c.in_ok-nodes.ensures.open.square;
       count = inboxes-count c.as_slice.result.now ∙ ap (λ (l : List (Inbox g.row.W.Denot g.row.M.Denot g.row.M-Sender.Denot g.row.M-Taker.Denot)). length l) c.as_slice.ensures.value ∙ c.in_ok-inboxes.ensures.count;
       opened =
-          subst (λ (l : List (Inbox g.row.W.Denot g.row.M.Denot g.row.M-Sender.Denot g.row.M-Taker.Denot)). AreOpened g.M.Mailbox.is_taker g.M.Mailbox.takes_of g.M.Mailbox.is_sender g.M.Mailbox.sends_of lanes (map inbox_view l) c.in_ok-inboxes.ends.items c.in_ok-inboxes.columns.items)
+          subst (λ (l : List (Inbox g.row.W.Denot g.row.M.Denot g.row.M-Sender.Denot g.row.M-Taker.Denot)). AreOpened g.M.Mailbox.ends lanes (map inbox_view l) c.in_ok-inboxes.ends.items c.in_ok-inboxes.columns.items)
           (sym c.as_slice.ensures.value) c.in_ok-inboxes.ensures.opened;
       fit = c.in_ok-nodes.ensures.fit;
     }
@@ -78,7 +78,7 @@ report_of-requires-clause-plan g c = subst (λ (p : Plan). IsPlan p) (sym c.requ
 
 pub report_of-requires-clause-executors : goal.report_of-requires-clause-executors
 report_of-requires-clause-executors g c =
-    ended-homes (λ e. e.0) (λ (n : ExecutorNodes g.row.S.Denot g.row.T.Denot). n.was_refused) (λ (n : ExecutorNodes g.row.S.Denot g.row.T.Denot). n.number) c.in_ok-executors.executors.items c.in_ok-all.all.items c.in_ok-all.ensures.ended
+    ended-homes (λ e. e.0) (own_view g.S.Stage.meaning) c.in_ok-executors.executors.items c.in_ok-all.all.items c.in_ok-all.ensures.ended
     ∙ executors-in-order (λ e. e.0) c.in_ok-executors.executors.items c.in_ok-nodes.nodes.items g.W.Planned.plan.executors c.in_ok-executors.ensures.parts c.in_ok-nodes.ensures.count c.in_ok-executors.ensures.first
 
 pub report_of-requires-clause-channels : goal.report_of-requires-clause-channels

@@ -8,6 +8,6 @@ invariant-loop-sender g l = record {
   senders : map (λ s. s.sender) l.paired.items ++ l.sender-iterator.a.rest.items ≡ l.fn.senders.items;
   seats : map (λ s. s.seat) l.paired.items ++ l.sender-iterator.b.rest.items ≡ l.fn.seats.items;
   left : length l.sender-iterator.b.rest.items ≡ length l.sender-iterator.a.rest.items;
-  fresh : Each (λ s. IsFresh (g.M.Mailbox.sends_of s)) l.sender-iterator.a.rest.items;
+  fresh : Each (λ s. IsFresh (g.M.Mailbox.ends.sends_of s)) l.sender-iterator.a.rest.items;
   unused : Each (λ s. s.kept ≡ 0) l.sender-iterator.b.rest.items;
 }

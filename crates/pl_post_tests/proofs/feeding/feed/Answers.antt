@@ -12,6 +12,6 @@ loop-number-preserved g c =
     let told = c.in_default.ensures in
     record {
       seat = told.seat;
-      next = event-sent c.args.lane c.loop-number.number (g.M.Mailbox.sends_of c.loop-number.seat.sender) (g.M.Mailbox.sends_of c.send_when_room.new.seat.sender) c.event.result c.event.ensures told.sent.0 inv.next;
+      next = event-sent c.args.lane c.loop-number.number (g.M.Mailbox.ends.sends_of c.loop-number.seat.sender) (g.M.Mailbox.ends.sends_of c.send_when_room.new.seat.sender) c.event.result c.event.ensures told.sent.0 inv.next;
       kept = omega (arith, told.sent.1, inv.kept);
     }

@@ -12,6 +12,6 @@ loop-hop-preserved g c = record {
   sender = c.hand_over.ensures.sender;
   taker = c.take_one-taken.ensures.taker;
   taken = omega (arith, c.take_one-taken.ensures.one, c.loop-hop.invariant.taken);
-  at = next-hop c.args.channel c.args.hops c.loop-hop.hop c.args.number (g.M.Mailbox.sends_of c.loop-hop.sender) (g.M.Mailbox.sends_of c.hand_over.new.sender) c.lane.result c.flag.result
+  at = next-hop c.args.channel c.args.hops c.loop-hop.hop c.args.number (g.M.Mailbox.ends.sends_of c.loop-hop.sender) (g.M.Mailbox.ends.sends_of c.hand_over.new.sender) c.lane.result c.flag.result
       c.lane.ensures c.flag.ensures c.hand_over.ensures.sent c.loop-hop-test.true c.loop-hop.invariant.at;
 }

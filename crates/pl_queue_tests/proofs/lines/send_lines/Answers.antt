@@ -22,7 +22,7 @@ loop-line-preserved g c =
     record {
       sender = c.hand_over.ensures.sender;
       sent = ap (λ (s : SenderView). sent_of c.args.lane s.send_counts) c.hand_over.ensures.sent
-          ∙ sent_of-this c.args.lane (n + 1) false (g.M.Mailbox.sends_of c.loop-line.sender).send_counts n false c.loop-line.invariant.sent;
+          ∙ sent_of-this c.args.lane (n + 1) false (g.M.Mailbox.ends.sends_of c.loop-line.sender).send_counts n false c.loop-line.invariant.sent;
       number_is = ap (λ k. k + 1) c.loop-line.invariant.number_is ∙ sym (length_push c.loop-line.yielded c.in-Some.line);
     }
 

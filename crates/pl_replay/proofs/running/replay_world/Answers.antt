@@ -4,7 +4,7 @@ use Rattle.std.specs.Prelude.{Result, Ok, Err, IfOk}
 use Rattle.std.proofs.lemmas.Result.{IfOk-at_ok}
 use Rattle.std.proofs.lemmas.List.{take_all}
 use Rattle.std.proofs.lemmas.Bool.{true_from_ne_false}
-use Rattle.pl_net.specs.Cores.{core_view}
+use Rattle.pl_net.specs.Stations.{stations_view}
 use Rattle.pl_net.specs.Nets.{no_backlogs}
 use Rattle.pl_world.specs.declared.moves.Move.{Move}
 use Rattle.pl_world.specs.Plans.{planned}
@@ -20,7 +20,7 @@ if-ok (Err e) P holds = tt
 pub loop-step-init : goal.loop-step-init
 loop-step-init g c =
     let b = c.in_ok-net.ensures.begins in
-    record { there = refl; start = core_view c.in_ok-net.net no_backlogs; begins = b.begins; backlogs = no_backlogs; stands = b.stands; reached = refl }
+    record { there = refl; start = stations_view c.in_ok-net.net no_backlogs; begins = b.begins; backlogs = no_backlogs; stands = b.stands; reached = refl }
 
 pub loop-step-preserved : goal.loop-step-preserved
 loop-step-preserved g c =
@@ -37,7 +37,7 @@ loop-step-preserved g c =
       begins = so_far.begins;
       backlogs = made.0;
       stands = made.1;
-      reached = reaches-more g.S.Stage.meaning g.S.Stage.stands_after g.S.Stage.is_spent g.T.Transport.state g.T.Transport.may_refuse plan.capacity moves i _ within so_far.start (core_view c.loop-step.net so_far.backlogs) c.in_ok-apply.field-0 (core_view c.apply.new.self made.0) so_far.reached made.2;
+      reached = reaches-more g.S.Stage.meaning g.S.Stage.stands_after g.S.Stage.is_spent g.T.Transport.state g.T.Transport.may_refuse plan.capacity moves i _ within so_far.start (stations_view c.loop-step.net so_far.backlogs) c.in_ok-apply.field-0 (stations_view c.apply.new.self made.0) so_far.reached made.2;
     }
 
 pub returns-in_err-apply-clause-no_such : goal.returns-in_err-apply-clause-no_such
@@ -57,8 +57,8 @@ returns-clause-replayed g c =
       there = sym (ap (list_all (is_there plan)) all) ∙ so_far.there;
       start = so_far.start;
       begins = so_far.begins;
-      end = core_view c.loop-step.net so_far.backlogs;
-      reached = subst (λ (t : List Move). Reaches g.S.Stage.meaning g.S.Stage.stands_after g.S.Stage.is_spent g.T.Transport.state g.T.Transport.may_refuse plan.capacity t so_far.start (core_view c.loop-step.net so_far.backlogs)) all so_far.reached;
+      end = stations_view c.loop-step.net so_far.backlogs;
+      reached = subst (λ (t : List Move). Reaches g.S.Stage.meaning g.S.Stage.stands_after g.S.Stage.is_spent g.T.Transport.state g.T.Transport.may_refuse plan.capacity t so_far.start (stations_view c.loop-step.net so_far.backlogs)) all so_far.reached;
       reports = IfOk-at_ok _ is c.into_report.ensures.reports;
       kept = IfOk-at_ok _ is c.into_report.ensures.kept plan so_far.backlogs so_far.stands;
       planned = IfOk-at_ok _ is c.into_report.ensures.planned plan so_far.backlogs so_far.stands;

@@ -31,7 +31,7 @@ spawn_with-spawned-requires-send-T g c κs within =
 
 pub spawn_with-spawned-requires-clause-keeps : goal.spawn_with-spawned-requires-clause-keeps
 spawn_with-spawned-requires-clause-keeps g c κs within = λ r gave.
-    let Keeps : g.row.G.Denot → ℕ → OwnerSeatView → ℕ → Type 0 = λ gate number owner turn. IfSome r (λ finished. EndsAs g.N.Nodes.was_refused g.N.Nodes.home number owner finished × g.G.Gate.was_entered gate number turn) in
+    let Keeps : g.row.G.Denot → ℕ → OwnerSeatView → ℕ → Type 0 = λ gate number owner turn. IfSome r (λ finished. EndsAs g.N.Nodes.view_of number owner finished × g.G.Gate.was_entered gate number turn) in
     let first = c.in-Some.executor in
     let told = subst (λ gate. Keeps gate first.number first.owner first.turns) (sym c.of.ensures) gave in
     let numbered = subst (λ number. Keeps c.of.result.value number first.owner first.turns) (sym c.number.ensures) told in

@@ -1,8 +1,9 @@
 use Rattle.std.proofs.Common.{sym, subst}
+use Rattle.std.proofs.lemmas.Bool.{both_ways}
 use Rattle.pl_context.specs.ContextViews.{ContextView, open_lanes}
 use Rattle.pl_context.specs.Stops.{HasPlaces}
 use Rattle.pl_context.proofs.Places.{places-up, places-down, places-after-up}
-use Rattle.pl_context.proofs.ContextLemmas.{closes-from, closed-port, not-open}
+use Rattle.pl_context.proofs.ContextLemmas.{closes-from, closed-port}
 use Rattle.pl_context.proofs.contexts.Context.close.Goals as goal
 
 pub put-requires-clause-place : goal.put-requires-clause-place
@@ -17,8 +18,8 @@ put-requires-2-clause-place g c = λ o.
 
 pub invariant_of-self : goal.invariant_of-self
 invariant_of-self g c = record {
-  above = λ o. absurd (not-open c.put.new.self.is_open (closed-port c.args.standing c.self.inside.up c.put.new.self c.last_item.result c.last_item.ensures c.put.ensures.port) o);
-  below = λ o. absurd (not-open c.put-2.new.self.is_open (closed-port c.args.standing c.self.inside.down c.put-2.new.self c.last_item-2.result c.last_item-2.ensures c.put-2.ensures.port) o);
+  above = λ o. absurd (both_ways c.put.new.self.is_open (closed-port c.args.standing c.self.inside.up c.put.new.self c.last_item.result c.last_item.ensures c.put.ensures.port) o);
+  below = λ o. absurd (both_ways c.put-2.new.self.is_open (closed-port c.args.standing c.self.inside.down c.put-2.new.self c.last_item-2.result c.last_item-2.ensures c.put-2.ensures.port) o);
   aside = c.self.invariant.aside;
   counts = c.self.invariant.counts;
   flag_counts = c.self.invariant.flag_counts;

@@ -1,4 +1,4 @@
-use Rattle.std.proofs.Common.{◌++◌, ◌∷◌, [], List, length, sym, ap, subst, ◌∙◌, arith, length-append}
+use Rattle.std.proofs.Common.{◌≡◌, ◌++◌, ◌∷◌, [], List, length, sym, ap, subst, ◌∙◌, arith, length-append}
 use Rattle.pl_event.specs.declared.events.Event.{Event}
 use Rattle.pl_event.specs.declared.stages.Turned.{Turned}
 use Rattle.pl_event.specs.Meaning.{turned_after}
@@ -20,47 +20,38 @@ put_made-requires-clause-place_down g c = λ o.
     let P : ContextView g.row.S.Denot → Type 0 = λ s. HasPlaces c.args.outputs.now.stopped (open_lanes s) in
     places-down c.args.outputs.now.stopped c.self.inside.up c.self.inside.down c.self.inside.flags (subst P (sym c.self.view_is) c.requires.places) o
 
+-- what was made is all that an empty buffer has
+all-made : {start made more : List Event} → made ≡ start ++ more → start ≡ [] → made ≡ more
+all-made {more = more} is none = is ∙ ap (λ (t : List Event). t ++ more) none
+
 pub put_made-requires-clause-few_up : goal.put_made-requires-clause-few_up
 put_made-requires-clause-few_up g c = λ o.
     let Few : ContextView g.row.S.Denot → Type 0 = λ s. (xs : List Event) × IsSmall g.S.Stage.meaning g.S.Stage.stands_after s.stage s.up s.down xs c.args.event in
     let few = subst Few (sym c.self.view_is) c.requires.few in
-    let above = λ (xs : List Event) (h : g.S.Stage.stands_after c.self.inside.stage xs). c.in_ok-turned.ensures.up xs h ∙ ap (λ (t : List Event). t ++ (g.S.Stage.meaning c.self.inside.stage).up xs c.args.event) c.self.invariant.up_empty in
-    let made = ap (λ (ys : List Event). length ys) (above few.0 few.1.stands) in
+    let made = ap (λ (ys : List Event). length ys) (all-made (c.in_ok-turned.ensures.up few.0 few.1.stands) c.self.invariant.up_empty) in
     omega (arith, few.1.above o, made, length-items ((g.S.Stage.meaning c.self.inside.stage).up few.0 c.args.event))
 
 pub put_made-requires-clause-few_down : goal.put_made-requires-clause-few_down
 put_made-requires-clause-few_down g c = λ o.
     let Few : ContextView g.row.S.Denot → Type 0 = λ s. (xs : List Event) × IsSmall g.S.Stage.meaning g.S.Stage.stands_after s.stage s.up s.down xs c.args.event in
     let few = subst Few (sym c.self.view_is) c.requires.few in
-    let below = λ (xs : List Event) (h : g.S.Stage.stands_after c.self.inside.stage xs). c.in_ok-turned.ensures.down xs h ∙ ap (λ (t : List Event). t ++ (g.S.Stage.meaning c.self.inside.stage).down xs c.args.event) c.self.invariant.down_empty in
-    let made = ap (λ (ys : List Event). length ys) (below few.0 few.1.stands) in
+    let made = ap (λ (ys : List Event). length ys) (all-made (c.in_ok-turned.ensures.down few.0 few.1.stands) c.self.invariant.down_empty) in
     let m = g.S.Stage.meaning c.self.inside.stage in
     let end = ap (λ (t : Turned). length (end_after t)) (c.in_ok-turned.ensures.turned few.0 few.1.stands) in
     omega (arith, few.1.below o, made, end, length-items (m.down few.0 c.args.event), length-append (as_items (m.down few.0 c.args.event)) (end_after (turned_after m (few.0 ++ c.args.event ∷ []))))
 
 pub invariant_of-self : goal.invariant_of-self
-invariant_of-self g c = record {
-  above = c.self.invariant.above;
-  below = c.self.invariant.below;
-  aside = c.self.invariant.aside;
-  counts = c.self.invariant.counts;
-  flag_counts = c.self.invariant.flag_counts;
-  up_empty = c.in_err-turned.ensures.up_kept ∙ c.self.invariant.up_empty;
-  down_empty = c.in_err-turned.ensures.down_kept ∙ c.self.invariant.down_empty;
-}
+invariant_of-self g c =
+    assumption (c.in_err-turned.ensures.up_kept ∙ c.self.invariant.up_empty, c.in_err-turned.ensures.down_kept ∙ c.self.invariant.down_empty, c.self.invariant)
 
 pub returns-in_err-put_made-clause-why : goal.returns-in_err-put_made-clause-why
 returns-in_err-put_made-clause-why g c =
-    let above = λ (xs : List Event) (h : g.S.Stage.stands_after c.self.inside.stage xs). c.in_ok-turned.ensures.up xs h ∙ ap (λ (t : List Event). t ++ (g.S.Stage.meaning c.self.inside.stage).up xs c.args.event) c.self.invariant.up_empty in
-    let below = λ (xs : List Event) (h : g.S.Stage.stands_after c.self.inside.stage xs). c.in_ok-turned.ensures.down xs h ∙ ap (λ (t : List Event). t ++ (g.S.Stage.meaning c.self.inside.stage).down xs c.args.event) c.self.invariant.down_empty in
     let why = λ (xs : List Event) (h : g.S.Stage.stands_after c.self.inside.stage xs). offers-made (g.S.Stage.meaning c.self.inside.stage) xs c.args.event c.self.inside.up c.self.inside.down c.step.new.up.items c.step.new.down.items c.in_ok-turned.turned c.args.outputs.now.room
-    (above xs h) (below xs h) (c.in_ok-turned.ensures.turned xs h) c.in_err-put_made.ensures.why in
+    (all-made (c.in_ok-turned.ensures.up xs h) c.self.invariant.up_empty) (all-made (c.in_ok-turned.ensures.down xs h) c.self.invariant.down_empty) (c.in_ok-turned.ensures.turned xs h) c.in_err-put_made.ensures.why in
     rw (← c.self.view_is) (on_err c.from_residual-in_err-put_made.result (λ unspent xs h. why xs h))
 
 pub returns-clause-runs : goal.returns-clause-runs
 returns-clause-runs g c =
-    let above = λ (xs : List Event) (h : g.S.Stage.stands_after c.self.inside.stage xs). c.in_ok-turned.ensures.up xs h ∙ ap (λ (t : List Event). t ++ (g.S.Stage.meaning c.self.inside.stage).up xs c.args.event) c.self.invariant.up_empty in
-    let below = λ (xs : List Event) (h : g.S.Stage.stands_after c.self.inside.stage xs). c.in_ok-turned.ensures.down xs h ∙ ap (λ (t : List Event). t ++ (g.S.Stage.meaning c.self.inside.stage).down xs c.args.event) c.self.invariant.down_empty in
     rw (← c.self.view_is)
     (runs-from g.S.Stage.meaning g.S.Stage.stands_after _ c.args.event c.args.outputs.now c.put_made.new.outputs c.step.new.self c.put_made.new.up c.put_made.new.down c.step.new.up.items c.step.new.down.items c.in_ok-turned.turned
-    c.in_ok-turned.ensures.stands c.step.ensures.same_meaning above below c.in_ok-turned.ensures.turned c.in_ok-put_made.ensures.up c.in_ok-put_made.ensures.down c.in_ok-put_made.ensures.out)
+    c.in_ok-turned.ensures.stands c.step.ensures.same_meaning (λ xs h. all-made (c.in_ok-turned.ensures.up xs h) c.self.invariant.up_empty) (λ xs h. all-made (c.in_ok-turned.ensures.down xs h) c.self.invariant.down_empty) c.in_ok-turned.ensures.turned c.in_ok-put_made.ensures.up c.in_ok-put_made.ensures.down c.in_ok-put_made.ensures.out)

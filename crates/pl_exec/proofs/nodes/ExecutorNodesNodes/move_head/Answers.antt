@@ -3,18 +3,19 @@ use Rattle.std.specs.Global.{Vec}
 use Rattle.std.proofs.lemmas.List.{length-set}
 use Rattle.std.proofs.lemmas.Option.{get_or_from_slice_get}
 use Rattle.pl_part.specs.Parts.{ChannelPartView, PartMoves, head_hop}
+use Rattle.pl_threads.specs.NodesViews.{OwnNodesView}
 use Rattle.pl_channel.proofs.Vecs.{put-back}
 use Rattle.pl_channel.proofs.HeadMoves.{moves-idle}
-use Rattle.pl_channel.proofs.OneChannel.{places-of, taken-none}
+use Rattle.pl_channel.proofs.OneChannel.{places-of, places-stay, taken-none}
 use Rattle.pl_exec.specs.ExecutorNodes.{served_of}
 use Rattle.pl_exec.specs.Telling.{IsToldAt, KeepsOthers, SettlesAt, TellsAt}
 use Rattle.pl_exec.proofs.HeadLists.{own-channel, own-part, own-within, heads-stay}
-use Rattle.pl_exec.proofs.ExecutorNodeLemmas.{made-here, nodes-keep}
+use Rattle.pl_exec.proofs.ExecutorNodeLemmas.{made-here, routes-keep}
 use Rattle.pl_exec.proofs.OverLemmas.{may-move-here}
-use Rattle.pl_exec.proofs.MovedNodes.{move-stands, places-stay}
+use Rattle.pl_exec.proofs.MovedNodes.{move-stands}
 use Rattle.pl_exec.proofs.SeatLemmas.{all-tell, head-tells, others-told}
 use Rattle.pl_exec.proofs.ServedNodes.{move-serves, moves-once, told-moves}
-use Rattle.pl_exec.proofs.ToldNodes.{keeps-told, makes-told, stands-told, told-took}
+use Rattle.pl_exec.proofs.ToldNodes.{keeps-told, makes-told, stands-told, view-told}
 use Rattle.pl_exec.proofs.nodes.ExecutorNodesNodes.move_head.Goals as goal
 use Rattle.pl_exec.proofs.nodes.ExecutorNodesNodes.move_head.Goals.{After-index_mut}
 
@@ -109,15 +110,16 @@ pub returns-clause-keeps : goal.returns-clause-keeps
 returns-clause-keeps g c =
     let channel = c.index-channel.result.now in
     let m = c.move_head-has_moved in
-    keeps-told _ c.tell_if.new.self channel c.tell_if.ensures.told g.S.Stage.meaning
-    (nodes-keep c.args.self.now.parts.items channel c.index_mut.result.now m.new.self (own g (goal.at.returns-clause-keeps g c).After-index_mut) g.S.Stage.meaning refl refl refl refl m.ensures.given.puts.same m.ensures.given.puts.writes)
+    let puts = m.ensures.given.puts in
+    keeps-told _ c.tell_if.new.self channel c.tell_if.ensures.told g.S.Stage.meaning c.args.self.now
+    (record { home = refl; routes = routes-keep c.args.self.now.parts.items channel c.index_mut.result.now m.new.self (own g (goal.at.returns-clause-keeps g c).After-index_mut) g.S.Stage.meaning puts.same puts.writes; channels = refl })
 
 pub returns-clause-taken : goal.returns-clause-taken
-returns-clause-taken g c l =
+returns-clause-taken g c =
     let channel = c.index-channel.result.now in
     let m = c.move_head-has_moved in
-    told-took _ channel c.tell_if.new.self.parts.items c.tell_if.ensures.told.parts l
-    ∙ taken-none c.args.self.now.parts.items channel c.index_mut.result.now m.new.self (own g (goal.at.returns-clause-taken g c).After-index_mut) m.ensures.given.taken l
+    ap (λ (v : OwnNodesView). v.lanes.taken) (view-told _ c.tell_if.new.self channel c.tell_if.ensures.told g.S.Stage.meaning)
+    ∙ taken-none c.args.self.now.parts.items channel c.index_mut.result.now m.new.self (own g (goal.at.returns-clause-taken g c).After-index_mut) m.ensures.given.taken
 
 pub returns-clause-placed : goal.returns-clause-placed
 returns-clause-placed g c =
@@ -134,7 +136,7 @@ returns-clause-made g c =
     let p = c.index_mut.result.now in
     let m = c.move_head-has_moved in
     let was = own g (goal.at.returns-clause-made g c).After-index_mut in
-    makes-told _ c.tell_if.new.self channel c.tell_if.ensures.told g.S.Stage.meaning g.W.Named.world _ _ c.args.work.now m.new.work
+    makes-told _ c.tell_if.new.self channel c.tell_if.ensures.told g.S.Stage.meaning c.args.self.now g.W.Named.world
     (made-here n.parts.items channel p m.new.self was g.W.Named.world g.W.Planned.plan g.S.Stage.meaning g.S.Stage.stands_after g.T.Transport.state n.number n.was_refused c.requires.stands.nodes
     (head_hop p) c.args.work.now m.new.work m.ensures.given.puts.others (m.ensures.given.made g.W.Named.world (c.requires.stands.nodes.parts channel p was).holds))
 

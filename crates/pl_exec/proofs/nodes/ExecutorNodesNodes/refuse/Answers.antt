@@ -5,10 +5,10 @@ use Rattle.pl_event.specs.Worlds.{World}
 use Rattle.pl_part.specs.Parts.{ChannelPartView}
 use Rattle.pl_part.specs.Paths.{context_at, writer_hop}
 use Rattle.pl_part.specs.PartCalls.{PartRefused}
-use Rattle.pl_channel.proofs.OneChannel.{places-of, taken-none}
+use Rattle.pl_channel.proofs.OneChannel.{places-of, places-stay, taken-none}
 use Rattle.pl_exec.proofs.HeadLists.{heads-stay}
-use Rattle.pl_exec.proofs.ExecutorNodeLemmas.{made-here, nodes-keep}
-use Rattle.pl_exec.proofs.MovedNodes.{places-stay, refuse-stands, none-stands}
+use Rattle.pl_exec.proofs.ExecutorNodeLemmas.{made-here, routes-keep}
+use Rattle.pl_exec.proofs.MovedNodes.{refuse-stands, none-stands}
 use Rattle.pl_exec.proofs.SeatLemmas.{all-tell, head-tells}
 use Rattle.pl_exec.proofs.ServedNodes.{heads-equal, serves-none}
 use Rattle.pl_exec.proofs.nodes.ExecutorNodesNodes.refuse.Goals as goal
@@ -64,7 +64,7 @@ returns-then-channel-len-clause-stands g c =
 pub returns-then-channel-len-clause-keeps : goal.returns-then-channel-len-clause-keeps
 returns-then-channel-len-clause-keeps g c =
     let puts = c.refuse.ensures.refused.puts in
-    nodes-keep c.args.self.now.parts.items c.args.lane.channel c.index_mut.result.now c.refuse.new.self (own g c) g.S.Stage.meaning refl refl refl refl puts.same puts.writes
+    record { home = refl; routes = routes-keep c.args.self.now.parts.items c.args.lane.channel c.index_mut.result.now c.refuse.new.self (own g c) g.S.Stage.meaning puts.same puts.writes; channels = refl }
 
 pub returns-then-channel-len-clause-taken : goal.returns-then-channel-len-clause-taken
 returns-then-channel-len-clause-taken g c = taken-none c.args.self.now.parts.items c.args.lane.channel c.index_mut.result.now c.refuse.new.self (own g c) c.refuse.ensures.refused.taken

@@ -1,14 +1,15 @@
-use Rattle.std.proofs.Common.{◌≡◌, ◌<◌, length, set, slice_get, Some, refl, sym, ◌∙◌, arith}
+use Rattle.std.proofs.Common.{◌≡◌, ◌<◌, length, set, slice_get, Some, refl, ap, sym, ◌∙◌, arith}
 use Rattle.std.proofs.lemmas.List.{length-set}
 use Rattle.std.proofs.lemmas.Option.{slice_get_read}
 use Rattle.pl_part.specs.PartCalls.{Taken}
-use Rattle.pl_channel.proofs.OneChannel.{taken-one}
+use Rattle.pl_threads.specs.NodesViews.{OwnNodesView}
+use Rattle.pl_channel.proofs.OneChannel.{places-stay, taken-one}
 use Rattle.pl_exec.proofs.HeadLists.{heads-stay}
-use Rattle.pl_exec.proofs.MovedNodes.{head-stays, places-stay, take-stands}
-use Rattle.pl_exec.proofs.ExecutorNodeLemmas.{channel-here, made-here, next-here, nodes-keep}
+use Rattle.pl_exec.proofs.MovedNodes.{head-stays, take-stands}
+use Rattle.pl_exec.proofs.ExecutorNodeLemmas.{channel-here, made-here, next-here, routes-keep}
 use Rattle.pl_exec.proofs.SeatLemmas.{all-tell, head-tells, others-told}
 use Rattle.pl_exec.proofs.ServedNodes.{serves-none, take-serves, told-served}
-use Rattle.pl_exec.proofs.ToldNodes.{keeps-told, makes-told, stands-told, told-took}
+use Rattle.pl_exec.proofs.ToldNodes.{keeps-told, makes-told, stands-told, view-told}
 use Rattle.pl_exec.proofs.nodes.ExecutorNodesNodes.take.Goals as goal
 use Rattle.pl_exec.proofs.nodes.ExecutorNodesNodes.take.Goals.{After-index_mut-part, After-take}
 
@@ -89,14 +90,14 @@ pub returns-clause-keeps : goal.returns-clause-keeps
 returns-clause-keeps g c =
     let ch = c.args.envelope.lane.channel in
     let puts = c.take.ensures.puts in
-    keeps-told _ c.tell_if.new.self ch c.tell_if.ensures.told g.S.Stage.meaning
-    (nodes-keep c.args.self.now.parts.items ch c.index_mut-part.result.now c.take.new.self (own g (goal.at.returns-clause-keeps g c).After-index_mut-part) g.S.Stage.meaning refl refl refl refl puts.same puts.writes)
+    keeps-told _ c.tell_if.new.self ch c.tell_if.ensures.told g.S.Stage.meaning c.args.self.now
+    (record { home = refl; routes = routes-keep c.args.self.now.parts.items ch c.index_mut-part.result.now c.take.new.self (own g (goal.at.returns-clause-keeps g c).After-index_mut-part) g.S.Stage.meaning puts.same puts.writes; channels = refl })
 
 pub returns-clause-taken : goal.returns-clause-taken
-returns-clause-taken g c l =
+returns-clause-taken g c =
     let ch = c.args.envelope.lane.channel in
-    told-took _ ch c.tell_if.new.self.parts.items c.tell_if.ensures.told.parts l
-    ∙ taken-one c.args.self.now.parts.items ch c.index_mut-part.result.now c.take.new.self (own g (goal.at.returns-clause-taken g c).After-index_mut-part) c.args.envelope refl c.take.ensures.taken l
+    ap (λ (v : OwnNodesView). v.lanes.taken) (view-told _ c.tell_if.new.self ch c.tell_if.ensures.told g.S.Stage.meaning)
+    ∙ taken-one c.args.self.now.parts.items ch c.index_mut-part.result.now c.take.new.self (own g (goal.at.returns-clause-taken g c).After-index_mut-part) c.args.envelope refl c.take.ensures.taken
 
 pub returns-clause-placed : goal.returns-clause-placed
 returns-clause-placed g c =
@@ -111,7 +112,7 @@ returns-clause-made g c =
     let e = c.args.envelope in
     let p = c.index_mut-part.result.now in
     let was = own g (goal.at.returns-clause-made g c).After-index_mut-part in
-    makes-told _ c.tell_if.new.self e.lane.channel c.tell_if.ensures.told g.S.Stage.meaning g.W.Named.world _ _ c.args.work.now c.take.new.work
+    makes-told _ c.tell_if.new.self e.lane.channel c.tell_if.ensures.told g.S.Stage.meaning c.args.self.now g.W.Named.world
     (made-here n.parts.items e.lane.channel p c.take.new.self was g.W.Named.world g.W.Planned.plan g.S.Stage.meaning g.S.Stage.stands_after g.T.Transport.state n.number n.was_refused c.requires.stands.nodes
     e.lane.hop c.args.work.now c.take.new.work c.take.ensures.puts.others (c.take.ensures.made g.W.Named.world (c.requires.stands.nodes.parts e.lane.channel p was).holds c.requires.good))
 

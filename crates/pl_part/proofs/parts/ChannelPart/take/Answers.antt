@@ -1,5 +1,5 @@
 use Rattle.std.proofs.Common.{◌∙◌, sym}
-use Rattle.std.proofs.lemmas.Bool.{eq-eqb, ne_eqb}
+use Rattle.std.proofs.lemmas.Bool.{ne_eqb}
 use Rattle.pl_part.proofs.PartSteps.{next-of, next-on-path, path-taken, taken-of}
 use Rattle.pl_part.proofs.parts.ChannelPart.take.Goals as goal
 

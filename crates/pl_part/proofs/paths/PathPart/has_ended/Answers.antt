@@ -1,4 +1,4 @@
-use Rattle.std.proofs.Common.{◌≡◌, ◌&&◌, Bool, true, List, Option, sym, ap, ◌∙◌}
+use Rattle.std.proofs.Common.{◌&&◌, Bool, true, List, Option, sym, ap, ◌∙◌}
 use Rattle.std.specs.List.{list_all}
 use Rattle.std.specs.Option.{option_map_or}
 use Rattle.pl_context.specs.Standings.{is_over}

@@ -10,7 +10,7 @@ use Rattle.pl_post.proofs.SeatLemmas.{all-fresh, all-unused, all-made, sends-mad
 use Rattle.pl_post.proofs.posts.Post.open.Goals as goal
 
 pub paired-requires-clause-fresh : goal.paired-requires-clause-fresh
-paired-requires-clause-fresh g c = all-fresh g.M.Mailbox.sends_of c.in_ok-mailbox.senders.items c.args.lanes.items c.in_ok-mailbox.ensures.senders.1
+paired-requires-clause-fresh g c = all-fresh g.M.Mailbox.ends.sends_of c.in_ok-mailbox.senders.items c.args.lanes.items c.in_ok-mailbox.ensures.senders.1
 
 pub paired-requires-clause-unused : goal.paired-requires-clause-unused
 paired-requires-clause-unused g c = all-unused c.in_ok-admission.admission.name c.in_ok-admission.seats.items c.in_ok-admission.ensures.seats.1
@@ -30,9 +30,9 @@ invariant_of-owner g c =
 pub returns-clause-seats : goal.returns-clause-seats
 returns-clause-seats g c =
     let name = c.in_ok-admission.admission.name in
-    all-made g.M.Mailbox.is_sender (record { mailbox = c.in_ok-mailbox.mailbox; name = name }) c.in_ok-seats.seats.items c.in_ok-mailbox.senders.items c.in_ok-admission.seats.items
+    all-made g.M.Mailbox.ends (record { mailbox = c.in_ok-mailbox.mailbox; name = name }) c.in_ok-seats.seats.items c.in_ok-mailbox.senders.items c.in_ok-admission.seats.items
     c.in_ok-seats.ensures.senders c.in_ok-seats.ensures.seats c.in_ok-mailbox.ensures.senders.0
     (each-of (λ (s : SendSeatView). s ≡ new_send_seat name s.number) c.in_ok-admission.seats.items c.in_ok-admission.ensures.seats.1)
 
 pub returns-clause-sends : goal.returns-clause-sends
-returns-clause-sends g c = sends-made g.M.Mailbox.sends_of c.in_ok-seats.seats.items c.in_ok-mailbox.senders.items c.in_ok-seats.ensures.senders ∙ c.in_ok-mailbox.ensures.senders.1
+returns-clause-sends g c = sends-made g.M.Mailbox.ends.sends_of c.in_ok-seats.seats.items c.in_ok-mailbox.senders.items c.in_ok-seats.ensures.senders ∙ c.in_ok-mailbox.ensures.senders.1

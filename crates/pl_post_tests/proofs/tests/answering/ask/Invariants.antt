@@ -6,7 +6,7 @@ use Rattle.pl_post_tests.proofs.tests.answering.ask.Given as goal
 
 abbrev pub invariant-loop-count : goal.invariant-loop-count
 invariant-loop-count g l = record {
-  seat : IsSeatOf g.M.Mailbox.is_sender l.post l.seat;
-  next : IsNext (flags_lane 0 0) l.next (g.M.Mailbox.sends_of l.seat.sender);
+  seat : IsSeatOf g.M.Mailbox.ends l.post l.seat;
+  next : IsNext (flags_lane 0 0) l.next (g.M.Mailbox.ends.sends_of l.seat.sender);
   small : l.next ≤ l.count;
 }

@@ -8,4 +8,4 @@ send-requires-clause-fits g c = flag-fits g.W.Named.world c.lane.result c.args.n
 
 pub returns-in-Ok-clause-next : goal.returns-in-Ok-clause-next
 returns-in-Ok-clause-next g c =
-    now-sent 0 0 c.args.next.now (g.M.Mailbox.sends_of c.args.seat.now.sender) (g.M.Mailbox.sends_of c.send.new.seat.sender) c.lane.result c.flag.result c.lane.ensures c.flag.ensures c.in-Ok.ensures.sent.0 c.requires.next
+    now-sent 0 0 c.args.next.now (g.M.Mailbox.ends.sends_of c.args.seat.now.sender) (g.M.Mailbox.ends.sends_of c.send.new.seat.sender) c.lane.result c.flag.result c.lane.ensures c.flag.ensures c.in-Ok.ensures.sent.0 c.requires.next

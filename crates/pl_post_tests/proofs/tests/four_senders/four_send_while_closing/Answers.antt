@@ -25,4 +25,4 @@ join-feeders-requires-after_bounds g c κs within =
 
 pub loop-feeder-init : goal.loop-feeder-init
 loop-feeder-init g c =
-    subst (λ fs. Each (λ f. IsInTurn g.M.Mailbox.is_sender g.M.Mailbox.sends_of c.in-Ok.opened f.seat f.first f.sent) fs) (sym c.into_iter-feeder-iterator.ensures.into_iter_gives.0) c.join-feeders.ensures.first
+    subst (λ fs. Each (λ f. IsInTurn g.M.Mailbox.ends c.in-Ok.opened f.seat f.first f.sent) fs) (sym c.into_iter-feeder-iterator.ensures.into_iter_gives.0) c.join-feeders.ensures.first

@@ -10,7 +10,7 @@ abbrev pub invariant-loop-seat : goal.invariant-loop-seat
 invariant-loop-seat g l = record {
   first : l.first ≡ 64 * length l.feeders.items;
   room : 4 ≤ vec_capacity l.feeders;
-  left : AreLeft (λ s. g.M.Mailbox.sends_of s.sender) l.first l.seat-iterator.rest.items;
-  made : Each (λ s. IsSeatOf g.M.Mailbox.is_sender l.post s) l.seat-iterator.rest.items;
-  opened : Each (λ f. IsInTurn g.M.Mailbox.is_sender g.M.Mailbox.sends_of l.post f.seat f.first f.sent) l.feeders.items;
+  left : AreLeft (λ s. g.M.Mailbox.ends.sends_of s.sender) l.first l.seat-iterator.rest.items;
+  made : Each (λ s. IsSeatOf g.M.Mailbox.ends l.post s) l.seat-iterator.rest.items;
+  opened : Each (λ f. IsInTurn g.M.Mailbox.ends l.post f.seat f.first f.sent) l.feeders.items;
 }

@@ -9,8 +9,8 @@ use Rattle.pl_queue_bench.proofs.posts.ByHandClosable.open.Goals as goal
 pub returns-clause-seats : goal.returns-clause-seats
 returns-clause-seats g c =
     let name = c.in-Ok-new.admission.name in
-    let made = g.M.Mailbox.is_sender c.in-Ok.mailbox in
-    let sends = g.M.Mailbox.sends_of in
+    let made = g.M.Mailbox.ends.is_sender c.in-Ok.mailbox in
+    let sends = g.M.Mailbox.ends.sends_of in
     let pairs = c.in-Ok-paired.seats.items in
     let told = c.in-Ok-paired.ensures in (
       each-paired (λ p. p.sender) (λ p. p.seat) made name pairs (subst (λ ss. Each made ss) (sym told.senders) c.in-Ok.ensures.senders.0)

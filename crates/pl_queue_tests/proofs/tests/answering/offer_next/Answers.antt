@@ -8,4 +8,4 @@ offer-requires-clause-fits g c = flag-fits g.W.Named.world c.lane.result c.args.
 
 pub returns-in-Ok-clause-next : goal.returns-in-Ok-clause-next
 returns-in-Ok-clause-next g c =
-    now-sent 0 0 c.args.next.now (g.M.Mailbox.sends_of c.args.sender.now) (g.M.Mailbox.sends_of c.offer.new.sender) c.lane.result c.flag.result c.lane.ensures c.flag.ensures c.in-Ok.ensures.sent c.requires.next
+    now-sent 0 0 c.args.next.now (g.M.Mailbox.ends.sends_of c.args.sender.now) (g.M.Mailbox.ends.sends_of c.offer.new.sender) c.lane.result c.flag.result c.lane.ensures c.flag.ensures c.in-Ok.ensures.sent c.requires.next

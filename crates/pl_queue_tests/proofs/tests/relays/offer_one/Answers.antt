@@ -5,4 +5,4 @@ use Rattle.pl_queue_tests.proofs.tests.relays.offer_one.Goals as goal
 
 pub returns-in-Ok-clause-lanes : goal.returns-in-Ok-clause-lanes
 returns-in-Ok-clause-lanes g c =
-    ap sending_lanes c.in-Ok.ensures.sent ∙ lanes-stay (g.M.Mailbox.sends_of c.loop.sender) c.loop.envelope ∙ ap sending_lanes c.loop.invariant.same
+    ap sending_lanes c.in-Ok.ensures.sent ∙ lanes-stay (g.M.Mailbox.ends.sends_of c.loop.sender) c.loop.envelope ∙ ap sending_lanes c.loop.invariant.same

@@ -12,7 +12,7 @@ loop-number-preserved g c =
     let told = c.if-not-offer_one.ensures in
     record {
       sender = told.sender;
-      sent = event-sent c.args.lane c.loop-number.number (g.M.Mailbox.sends_of c.loop-number.sender) (g.M.Mailbox.sends_of c.offer_one.new.sender) c.event.result c.event.ensures (told.sent refl) inv.sent;
+      sent = event-sent c.args.lane c.loop-number.number (g.M.Mailbox.ends.sends_of c.loop-number.sender) (g.M.Mailbox.ends.sends_of c.offer_one.new.sender) c.event.result c.event.ensures (told.sent refl) inv.sent;
       lanes = told.lanes ∙ inv.lanes;
     }
 

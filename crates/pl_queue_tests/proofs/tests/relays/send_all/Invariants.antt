@@ -5,7 +5,7 @@ use Rattle.pl_queue_tests.proofs.tests.relays.send_all.Given as goal
 
 abbrev pub invariant-loop-number : goal.invariant-loop-number
 invariant-loop-number g l = record {
-  sender : g.M.Mailbox.is_sender l.mailbox l.sender;
-  sent : sent_of l.lane (g.M.Mailbox.sends_of l.sender).send_counts ≡ Some (l.number, false);
-  lanes : sending_lanes (g.M.Mailbox.sends_of l.sender) ≡ sending_lanes (g.M.Mailbox.sends_of l.fn.sender);
+  sender : g.M.Mailbox.ends.is_sender l.mailbox l.sender;
+  sent : sent_of l.lane (g.M.Mailbox.ends.sends_of l.sender).send_counts ≡ Some (l.number, false);
+  lanes : sending_lanes (g.M.Mailbox.ends.sends_of l.sender) ≡ sending_lanes (g.M.Mailbox.ends.sends_of l.fn.sender);
 }

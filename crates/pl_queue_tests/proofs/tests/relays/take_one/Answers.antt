@@ -5,4 +5,4 @@ use Rattle.pl_queue_tests.proofs.tests.relays.take_one.Goals as goal
 
 pub returns-in-Some-clause-lanes : goal.returns-in-Some-clause-lanes
 returns-in-Some-clause-lanes g c =
-    ap taking_lanes c.in-Some.ensures.taken.3 ∙ taken-lanes-stay (g.M.Mailbox.takes_of c.loop.taker) c.in-Some.envelope ∙ ap taking_lanes c.loop.invariant.same
+    ap taking_lanes c.in-Some.ensures.taken.3 ∙ taken-lanes-stay (g.M.Mailbox.ends.takes_of c.loop.taker) c.in-Some.envelope ∙ ap taking_lanes c.loop.invariant.same

@@ -46,14 +46,14 @@ new-requires-clause-places g c =
     subst (λ (n : ℕ). HasPlaces (no_stops n) (data_lanes_of c.in_ok-parts.parts.items)) (ap (λ (l : List (ChannelPartView g.row.S.Denot g.row.T.Denot)). length (data_lanes_of l)) (sym c.as_slice-2.ensures.value) ∙ sym c.lane_count-lanes.ensures)
     (places-all c.in_ok-parts.parts.items)
 
-net-begins : (g : _) (c : goal.In_ok-core g) → NetBegins g.S.Stage.meaning g.S.Stage.stands_after g.T.Transport.state (planned g.S.Stage.meaning g.T.Transport.state c.args.capacity c.args.world.executors c.args.world.channels) (transports_of c.args.world.channels) c.in_ok-core.core
+net-begins : (g : _) (c : goal.In_ok-stations g) → NetBegins g.S.Stage.meaning g.S.Stage.stands_after g.T.Transport.state (planned g.S.Stage.meaning g.T.Transport.state c.args.capacity c.args.world.executors c.args.world.channels) (transports_of c.args.world.channels) c.in_ok-stations.stations
 net-begins g c =
     let placed = subst (λ (rs : List (Recorded g.row.S.Denot g.row.T.Denot)). ArePlaced g.S.Stage.meaning g.S.Stage.stands_after g.T.Transport.state rs c.in_ok-parts.parts.items) (c.into_vec.ensures ∙ c.into_channels.ensures.channels) c.in_ok-parts.ensures in
     let idle = subst (λ (l : List (ChannelPartView g.row.S.Denot g.row.T.Denot)). AreIdle l c.args.world.executors c.in_ok-executors.executors.items) c.as_slice.ensures.value
     (subst (λ (n : ℕ). AreIdle c.as_slice.result.now n c.in_ok-executors.executors.items) c.executors-count.ensures c.in_ok-executors.ensures) in
-    let made = c.in_ok-core.ensures in
+    let made = c.in_ok-stations.ensures in
     world-begins g.S.Stage.meaning g.S.Stage.stands_after g.T.Transport.state c.args.world c.into_channels.ensures.is_world c.args.capacity c.requires.capacity.0 c.in_ok-parts.parts.items placed c.in_ok-executors.executors.items idle
-    c.in_ok-core.core (ap (λ (n : Channels g.row.S.Denot g.row.T.Denot). n.parts.items) made.nodes) made.executors made.capacity made.rests
+    c.in_ok-stations.stations (ap (λ (n : Channels g.row.S.Denot g.row.T.Denot). n.parts.items) made.nodes) made.executors made.capacity made.rests
     (made.unstopped ∙ ap no_stops (c.lane_count-lanes.ensures ∙ ap (λ (l : List (ChannelPartView g.row.S.Denot g.row.T.Denot)). length (data_lanes_of l)) c.as_slice-2.ensures.value))
     (λ s. made.stands (world_of false (planned g.S.Stage.meaning g.T.Transport.state c.args.capacity c.args.world.executors c.args.world.channels)) 0 s)
 
@@ -67,4 +67,4 @@ pub returns-clause-placed : goal.returns-clause-placed
 returns-clause-placed g c =
     let Placed = λ (rs : List (Recorded g.row.S.Denot g.row.T.Denot)) (parts : List (ChannelPartView g.row.S.Denot g.row.T.Denot)). ArePlaced g.S.Stage.meaning g.S.Stage.stands_after g.T.Transport.state rs parts in
     let placed = subst (λ (rs : List (Recorded g.row.S.Denot g.row.T.Denot)). Placed rs c.in_ok-parts.parts.items) (c.into_vec.ensures ∙ c.into_channels.ensures.channels) c.in_ok-parts.ensures in
-    subst (Placed c.args.world.channels) (sym (ap (λ (n : Channels g.row.S.Denot g.row.T.Denot). n.parts.items) c.in_ok-core.ensures.nodes)) placed
+    subst (Placed c.args.world.channels) (sym (ap (λ (n : Channels g.row.S.Denot g.row.T.Denot). n.parts.items) c.in_ok-stations.ensures.nodes)) placed

@@ -14,12 +14,12 @@ loop-init g c =
       nodes = refl;
       work = refl;
       keeps = record { each = f.same; holds = λ entries holds. subst (λ (w : WaitingView AdmittedView). Holds w entries) (sym f.waiting) holds };
-      holds = holds-stay c.args.self.now c.forget_tries.new.self c.requires.holds f.stays;
+      holds = holds-stay c.requires.holds f.stays;
     }
 
 pub returns-in-Handed-clause-holds : goal.returns-in-Handed-clause-holds
 returns-in-Handed-clause-holds g c =
-    holds-stay c.loop.self c.ring_for_many.new.self c.loop.invariant.holds (subst (λ (o : OutboxesView). Stays c.loop.self.outboxes o) (sym c.ring_for_many.ensures) c.offer.ensures.stays)
+    holds-stay c.loop.invariant.holds (subst (λ (o : OutboxesView). Stays c.loop.self.outboxes o) (sym c.ring_for_many.ensures) c.offer.ensures.stays)
 
 pub returns-in-Handed-clause-oldest : goal.returns-in-Handed-clause-oldest
 returns-in-Handed-clause-oldest g c = λ entries holds.
@@ -33,7 +33,7 @@ loop-preserved g c = record {
   work = c.loop.invariant.work;
   keeps = keeps-then c.args.self.now.outboxes c.loop.self.outboxes c.offer.new.self c.loop.invariant.keeps
       (offer-keeps c.loop.self.outboxes c.offer.new.self c.in-Some-oldest.target c.offer.result c.in_default-offer.not-Handed c.offer.ensures.offers);
-  holds = holds-stay c.loop.self c.offer.new.self c.loop.invariant.holds c.offer.ensures.stays;
+  holds = holds-stay c.loop.invariant.holds c.offer.ensures.stays;
 }
 
 pub returns-in-Handed-clause-none : goal.returns-in-Handed-clause-none

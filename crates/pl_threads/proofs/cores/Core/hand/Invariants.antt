@@ -9,5 +9,5 @@ invariant-loop g l = record {
   nodes : l.self.nodes ≡ l.fn.self.nodes;
   work : l.self.work ≡ l.fn.self.work;
   keeps : KeepsAll l.fn.self.outboxes l.self.outboxes;
-  holds : CoreHolds g.N.Nodes.target_of g.N.Nodes.writes g.W.Named.world g.N.Nodes.stands g.N.Nodes.home g.N.Nodes.lanes g.N.Nodes.taken_of g.N.Nodes.came g.N.Nodes.was_refused l.self;
+  holds : CoreHolds g.N.Nodes.view_of g.N.Nodes.stands g.W.Named.world l.self;
 }

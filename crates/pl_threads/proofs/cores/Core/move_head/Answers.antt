@@ -1,25 +1,31 @@
-use Rattle.std.proofs.Common.{Bool, refl, sym, subst, ◌∙◌}
-use Rattle.pl_outbox.proofs.AdmissionLemmas.{admits_more}
-use Rattle.pl_threads.proofs.RunLemmas.{places-on, runs-on}
+use Rattle.std.proofs.Common.{Bool, ℕ, refl, ap, sym, subst, ◌∙◌}
+use Rattle.pl_event.specs.declared.envelopes.Lane.{Lane}
+use Rattle.pl_flow.specs.LanesViews.{LanesView}
+use Rattle.pl_threads.specs.Cores.{CoreKeeps}
+use Rattle.pl_threads.proofs.KeepLemmas.{keeps-both}
+use Rattle.pl_threads.proofs.RunLemmas.{holds-on}
+use Rattle.pl_threads.proofs.TurnLemmas.{nothing-none}
 use Rattle.pl_threads.proofs.cores.Core.move_head.Goals as goal
 
 pub work_off-requires : goal.work_off-requires
 work_off-requires g c =
-    let nodes = c.args.self.now.nodes in
-    let nodes' = c.move_head.new.self in
-    let o = c.args.self.now.outboxes in
-    let work = c.args.self.now.work in record {
-      holds = record {
-        stood = c.move_head.ensures.stands;
-        at_home = c.move_head.ensures.keeps.homes ∙ c.requires.holds.at_home;
-        places = places-on (g.N.Nodes.lanes nodes) (g.N.Nodes.lanes nodes') work.stopped work.stopped c.move_head.new.work.stopped c.move_head.ensures.keeps.hops refl c.move_head.ensures.placed c.requires.holds.places;
-        runs =
-            runs-on g.W.Named.world c.args.self.now.number (g.N.Nodes.target_of nodes) (g.N.Nodes.target_of nodes') (g.N.Nodes.writes nodes) (g.N.Nodes.writes nodes') (g.N.Nodes.taken_of nodes) (g.N.Nodes.taken_of nodes')
-            (g.N.Nodes.came nodes) (g.N.Nodes.came nodes') o work c.move_head.new.work c.requires.holds.runs c.move_head.ensures.made c.move_head.ensures.keeps.routes c.move_head.ensures.keeps.written c.move_head.ensures.taken;
-        why = λ e. c.requires.holds.why (sym c.move_head.ensures.refused ∙ e);
-        admits = admits_more g.W.Named.world (g.N.Nodes.writes nodes) (g.N.Nodes.writes nodes') (g.N.Nodes.came nodes) (g.N.Nodes.came nodes') o work c.move_head.new.work c.requires.holds.admits c.move_head.ensures.made c.move_head.ensures.keeps.written;
-      };
+    let holds = c.requires.holds in
+    let move = c.move_head.ensures in
+    let nodes = c.args.self.now.nodes in record {
+      holds = holds-on nodes c.args.self.now.work (g.N.Nodes.view_of nodes).lanes.taken holds.at_home holds.places holds.runs holds.admits move.stands move.keeps move.taken move.placed move.made (λ e. holds.why (sym move.refused ∙ e));
     }
 
 pub returns-clause-enabled : goal.returns-clause-enabled
 returns-clause-enabled g c = subst (λ (b : Bool). g.N.Nodes.may_move c.args.self.now.nodes c.args.by c.args.channel b) (cc) c.move_head.ensures.enabled
+
+pub returns-clause-keeps : goal.returns-clause-keeps
+returns-clause-keeps g c =
+    let core = c.args.self.now in
+    let moved : CoreKeeps g.N.Nodes.view_of core (record core { nodes = c.move_head.new.self; work = c.move_head.new.work }) =
+    record { number = refl; nodes = c.move_head.ensures.keeps; sends = nothing-none core.outboxes } in
+    keeps-both moved c.work_off.ensures.keeps
+
+pub returns-clause-taken : goal.returns-clause-taken
+returns-clause-taken g c = λ l w.
+    let move = c.move_head.ensures in
+    c.work_off.ensures.taken l (ap (λ (v : LanesView). v.written l) move.keeps.routes ∙ w) ∙ ap (λ (n : Lane → ℕ). n l) move.taken

@@ -1,115 +1,86 @@
-use Rattle.std.proofs.Common.{arith, rules, ◌≡◌, ◌∷◌, [], ◌<◌, ℕ, List, inl, inr, false, length, refl, ap, sym, subst, ◌∙◌}
+use Rattle.std.proofs.Common.{arith, rules, ◌∷◌, [], ◌<◌, ℕ, inl, inr, refl, ap, sym, subst, ◌∙◌, length, false, ◌≡◌, List}
 use Rattle.pl_event.specs.declared.envelopes.Envelope.{Envelope}
+use Rattle.pl_event.specs.declared.envelopes.Lane.{Lane}
 use Rattle.pl_context.specs.Stops.{HasPlaces, StopsView}
 use Rattle.pl_context.specs.WaitingViews.{stops_for}
 use Rattle.pl_flow.specs.Flows.{IsNext}
+use Rattle.pl_flow.specs.LanesViews.{taken_with}
 use Rattle.pl_outbox.specs.OutboxViews.{reached, is_cut, Adds, Comes, RefusedBy}
 use Rattle.pl_outbox.proofs.AddSteps.{refused-some}
-use Rattle.pl_outbox.proofs.AdmissionLemmas.{admits_on, admits_front, admits_more, never-spent}
+use Rattle.pl_outbox.proofs.AdmissionLemmas.{admits_on, admits_front, never-spent}
 use Rattle.pl_words.specs.declared.admission.Refused.{Refused}
 use Rattle.pl_words.specs.declared.admission.Refused.TheVariants.{Closed}
-use Rattle.pl_threads.proofs.RunLemmas.{own-number, own-good, own-taken, front-taken, away-there, away-next, away-placed, away-added, places-on, runs-on}
+use Rattle.pl_threads.proofs.RunLemmas.{own-number, own-good, own-taken, front-taken, away-there, away-next, away-placed, away-added, holds-on}
 use Rattle.pl_threads.proofs.TurnLemmas.{nothing-none}
 use Rattle.pl_threads.proofs.cores.Core.step.Goals as goal
 
 -- ---- a direct call
 
 pub take-requires-clause-number : goal.take-requires-clause-number
-take-requires-clause-number g c =
-    own-number g.W.Named.world c.args.self.now.number (g.N.Nodes.target_of c.args.self.now.nodes) (g.N.Nodes.writes c.args.self.now.nodes) (g.N.Nodes.taken_of c.args.self.now.nodes) (g.N.Nodes.came c.args.self.now.nodes)
-    c.args.self.now.outboxes c.args.self.now.work c.next.new.self c.in-Some.envelope c.requires.holds.runs c.in-Some.ensures.front c.in-Some.ensures.stopped
-    (sym c.target-target.ensures ∙ c.if-target-self.true)
+take-requires-clause-number g c = own-number c.next.new.self c.requires.holds.runs c.in-Some.ensures.front c.in-Some.ensures.stopped (sym c.target-target.ensures ∙ c.if-target-self.true)
 
 pub take-requires-clause-good : goal.take-requires-clause-good
-take-requires-clause-good g c =
-    own-good g.W.Named.world c.args.self.now.number (g.N.Nodes.target_of c.args.self.now.nodes) (g.N.Nodes.writes c.args.self.now.nodes) (g.N.Nodes.taken_of c.args.self.now.nodes) (g.N.Nodes.came c.args.self.now.nodes)
-    c.args.self.now.outboxes c.args.self.now.work c.next.new.self c.in-Some.envelope c.requires.holds.runs c.in-Some.ensures.front c.in-Some.ensures.stopped
-    (sym c.target-target.ensures ∙ c.if-target-self.true)
+take-requires-clause-good g c = own-good c.next.new.self c.requires.holds.runs c.in-Some.ensures.front c.in-Some.ensures.stopped (sym c.target-target.ensures ∙ c.if-target-self.true)
 
 pub returns-then-target-self-clause-holds : goal.returns-then-target-self-clause-holds
 returns-then-target-self-clause-holds g c =
+    let holds = c.requires.holds in
+    let take = c.take.ensures in
+    let front = c.in-Some.ensures.front in
+    let stopped = c.in-Some.ensures.stopped in
     let nodes = c.args.self.now.nodes in
-    let nodes' = c.take.new.self in record {
-      stood = c.take.ensures.stands;
-      at_home = c.take.ensures.keeps.homes ∙ c.requires.holds.at_home;
-      places = places-on (g.N.Nodes.lanes nodes) (g.N.Nodes.lanes nodes') c.args.self.now.work.stopped c.next.new.self.stopped c.take.new.work.stopped c.take.ensures.keeps.hops c.in-Some.ensures.stopped c.take.ensures.placed c.requires.holds.places;
-      runs =
-          runs-on g.W.Named.world c.args.self.now.number (g.N.Nodes.target_of nodes) (g.N.Nodes.target_of nodes') (g.N.Nodes.writes nodes) (g.N.Nodes.writes nodes') (g.N.Nodes.taken_of nodes') (g.N.Nodes.taken_of nodes')
-          (g.N.Nodes.came nodes) (g.N.Nodes.came nodes') c.args.self.now.outboxes c.next.new.self c.take.new.work
-          (own-taken g.W.Named.world c.args.self.now.number (g.N.Nodes.target_of c.args.self.now.nodes) (g.N.Nodes.writes c.args.self.now.nodes) (g.N.Nodes.taken_of c.args.self.now.nodes) (g.N.Nodes.came c.args.self.now.nodes)
-          c.args.self.now.outboxes c.args.self.now.work c.next.new.self c.in-Some.envelope c.requires.holds.runs c.in-Some.ensures.front c.in-Some.ensures.stopped
-          (g.N.Nodes.taken_of nodes') (sym c.target-target.ensures ∙ c.if-target-self.true) c.take.ensures.taken)
-          c.take.ensures.made c.take.ensures.keeps.routes c.take.ensures.keeps.written (λ l i. g.N.Nodes.taken_of nodes' l);
-      why = λ e. c.requires.holds.why (sym c.take.ensures.refused ∙ e);
-      admits =
-          admits_more g.W.Named.world (g.N.Nodes.writes nodes) (g.N.Nodes.writes nodes') (g.N.Nodes.came nodes) (g.N.Nodes.came nodes') c.args.self.now.outboxes c.next.new.self c.take.new.work
-          (admits_front (g.N.Nodes.writes nodes) (g.N.Nodes.came nodes) c.args.self.now.outboxes c.args.self.now.outboxes c.args.self.now.work c.next.new.self c.in-Some.envelope c.requires.holds.admits c.in-Some.ensures.front c.in-Some.ensures.stopped
-          (omega arith))
-          c.take.ensures.made c.take.ensures.keeps.written;
-    }
+    let v = (g.N.Nodes.view_of nodes).lanes in
+    holds-on nodes c.next.new.self (taken_with v.taken c.in-Some.envelope) holds.at_home (subst (λ (s : StopsView). HasPlaces s v.places) (sym stopped) holds.places)
+    (own-taken c.next.new.self holds.runs front stopped (sym c.target-target.ensures ∙ c.if-target-self.true)) (admits_front c.args.self.now.outboxes c.next.new.self holds.admits front stopped (omega arith))
+    take.stands take.keeps take.taken take.placed take.made (λ e. holds.why (sym take.refused ∙ e))
 
 -- ---- to another executor
 
 pub add-requires-clause-there : goal.add-requires-clause-there
 add-requires-clause-there g c =
     subst (λ (k : ℕ). k < length c.args.self.now.outboxes.outboxes) (sym c.target-target.ensures)
-    (away-there g.W.Named.world c.args.self.now.number (g.N.Nodes.target_of c.args.self.now.nodes) (g.N.Nodes.writes c.args.self.now.nodes) (g.N.Nodes.taken_of c.args.self.now.nodes) (g.N.Nodes.came c.args.self.now.nodes)
-    c.args.self.now.outboxes c.args.self.now.work c.next.new.self c.in-Some.envelope c.requires.holds.runs c.in-Some.ensures.front c.in-Some.ensures.stopped
-    (λ e. c.if-target-self.false (c.target-target.ensures ∙ e)))
+    (away-there c.next.new.self c.requires.holds.runs c.in-Some.ensures.front c.in-Some.ensures.stopped (λ e. c.if-target-self.false (c.target-target.ensures ∙ e)))
 
 pub add-requires-clause-place : goal.add-requires-clause-place
 add-requires-clause-place g c =
     subst (λ (k : ℕ). HasPlaces (stops_for c.args.self.now.outboxes.waiting k) (c.in-Some.envelope.lane ∷ [])) (sym c.target-target.ensures)
-    (away-placed g.W.Named.world c.args.self.now.number (g.N.Nodes.target_of c.args.self.now.nodes) (g.N.Nodes.writes c.args.self.now.nodes) (g.N.Nodes.taken_of c.args.self.now.nodes) (g.N.Nodes.came c.args.self.now.nodes)
-    c.args.self.now.outboxes c.args.self.now.work c.next.new.self c.in-Some.envelope c.requires.holds.runs c.in-Some.ensures.front c.in-Some.ensures.stopped
-    (λ e. c.if-target-self.false (c.target-target.ensures ∙ e)))
+    (away-placed c.next.new.self c.requires.holds.runs c.in-Some.ensures.front c.in-Some.ensures.stopped (λ e. c.if-target-self.false (c.target-target.ensures ∙ e)))
 
 pub add-requires-clause-next : goal.add-requires-clause-next
 add-requires-clause-next g c =
     subst (λ (k : ℕ). is_cut c.args.self.now.outboxes k c.in-Some.envelope.lane ≡ false → IsNext g.W.Named.world (reached c.args.self.now.outboxes k c.in-Some.envelope.lane) c.in-Some.envelope) (sym c.target-target.ensures)
-    (away-next g.W.Named.world c.args.self.now.number (g.N.Nodes.target_of c.args.self.now.nodes) (g.N.Nodes.writes c.args.self.now.nodes) (g.N.Nodes.taken_of c.args.self.now.nodes) (g.N.Nodes.came c.args.self.now.nodes)
-    c.args.self.now.outboxes c.args.self.now.work c.next.new.self c.in-Some.envelope c.requires.holds.runs c.in-Some.ensures.front c.in-Some.ensures.stopped
-    (λ e. c.if-target-self.false (c.target-target.ensures ∙ e)))
+    (away-next c.next.new.self c.requires.holds.runs c.in-Some.ensures.front c.in-Some.ensures.stopped (λ e. c.if-target-self.false (c.target-target.ensures ∙ e)))
 
 -- it is closed
 pub returns-in-Err-Closed-clause-holds : goal.returns-in-Err-Closed-clause-holds
 returns-in-Err-Closed-clause-holds g c =
+    let o = c.args.self.now.outboxes in
+    let holds = c.requires.holds in
+    let refuse = c.refuse.ensures in
+    let front = c.in-Some.ensures.front in
+    let stopped = c.in-Some.ensures.stopped in
+    let adds = subst (λ (k : ℕ). Adds o k c.in-Some.envelope c.add.new.self) c.target-target.ensures c.add.ensures.adds in
     let nodes = c.args.self.now.nodes in
-    let nodes' = c.refuse.new.self in
-    let o = c.args.self.now.outboxes in record {
-      stood = c.refuse.ensures.stands;
-      at_home = c.refuse.ensures.keeps.homes ∙ c.requires.holds.at_home;
-      places = places-on (g.N.Nodes.lanes nodes) (g.N.Nodes.lanes nodes') c.args.self.now.work.stopped c.next.new.self.stopped c.refuse.new.work.stopped c.refuse.ensures.keeps.hops c.in-Some.ensures.stopped c.refuse.ensures.placed c.requires.holds.places;
-      runs =
-          runs-on g.W.Named.world c.args.self.now.number (g.N.Nodes.target_of nodes) (g.N.Nodes.target_of nodes') (g.N.Nodes.writes nodes) (g.N.Nodes.writes nodes') (g.N.Nodes.taken_of nodes) (g.N.Nodes.taken_of nodes')
-          (g.N.Nodes.came nodes) (g.N.Nodes.came nodes') c.add.new.self c.next.new.self c.refuse.new.work
-          (away-added g.W.Named.world c.args.self.now.number (g.N.Nodes.target_of c.args.self.now.nodes) (g.N.Nodes.writes c.args.self.now.nodes) (g.N.Nodes.taken_of c.args.self.now.nodes) (g.N.Nodes.came c.args.self.now.nodes)
-          c.args.self.now.outboxes c.args.self.now.work c.next.new.self c.in-Some.envelope c.requires.holds.runs c.in-Some.ensures.front c.in-Some.ensures.stopped
-          c.add.new.self (λ e. c.if-target-self.false (c.target-target.ensures ∙ e)) (subst (λ (k : ℕ). Adds c.args.self.now.outboxes k c.in-Some.envelope c.add.new.self) c.target-target.ensures c.add.ensures.adds))
-          c.refuse.ensures.made c.refuse.ensures.keeps.routes c.refuse.ensures.keeps.written c.refuse.ensures.taken;
-      why = λ e. refused-some o c.add.new.self c.target-target.result (subst (λ (r : Refused). RefusedBy o c.target-target.result r c.add.new.self) c.in-Err-Closed.field-0-is c.in-Err-Closed.ensures.refused);
-      admits =
-          admits_more g.W.Named.world (g.N.Nodes.writes nodes) (g.N.Nodes.writes nodes') (g.N.Nodes.came nodes) (g.N.Nodes.came nodes') c.add.new.self c.next.new.self c.refuse.new.work
-          (admits_front (g.N.Nodes.writes nodes) (g.N.Nodes.came nodes) o c.add.new.self c.args.self.now.work c.next.new.self c.in-Some.envelope c.requires.holds.admits c.in-Some.ensures.front c.in-Some.ensures.stopped
-          c.add.ensures.adds.made)
-          c.refuse.ensures.made c.refuse.ensures.keeps.written;
-    }
+    let v = (g.N.Nodes.view_of nodes).lanes in
+    holds-on nodes c.next.new.self v.taken holds.at_home (subst (λ (s : StopsView). HasPlaces s v.places) (sym stopped) holds.places)
+    (away-added c.next.new.self holds.runs front stopped c.add.new.self (λ e. c.if-target-self.false (c.target-target.ensures ∙ e)) adds) (admits_front c.add.new.self c.next.new.self holds.admits front stopped adds.made)
+    refuse.stands refuse.keeps refuse.taken refuse.placed refuse.made
+    (λ e. refused-some o c.add.new.self c.target-target.result (subst (λ (r : Refused). RefusedBy o c.target-target.result r c.add.new.self) c.in-Err-Closed.field-0-is c.in-Err-Closed.ensures.refused))
 
 -- it waits there
 pub returns-in-Ok-clause-holds : goal.returns-in-Ok-clause-holds
-returns-in-Ok-clause-holds g c = record {
-  stood = c.requires.holds.stood;
-  at_home = c.requires.holds.at_home;
-  places = subst (λ (s : StopsView). HasPlaces s (g.N.Nodes.lanes c.args.self.now.nodes)) (sym c.in-Some.ensures.stopped) c.requires.holds.places;
-  runs =
-      away-added g.W.Named.world c.args.self.now.number (g.N.Nodes.target_of c.args.self.now.nodes) (g.N.Nodes.writes c.args.self.now.nodes) (g.N.Nodes.taken_of c.args.self.now.nodes) (g.N.Nodes.came c.args.self.now.nodes)
-      c.args.self.now.outboxes c.args.self.now.work c.next.new.self c.in-Some.envelope c.requires.holds.runs c.in-Some.ensures.front c.in-Some.ensures.stopped
-      c.add.new.self (λ e. c.if-target-self.false (c.target-target.ensures ∙ e)) (subst (λ (k : ℕ). Adds c.args.self.now.outboxes k c.in-Some.envelope c.add.new.self) c.target-target.ensures c.add.ensures.adds);
-  why = λ e. c.add.ensures.adds.closed (c.requires.holds.why e);
-  admits =
-      admits_front (g.N.Nodes.writes c.args.self.now.nodes) (g.N.Nodes.came c.args.self.now.nodes) c.args.self.now.outboxes c.add.new.self c.args.self.now.work c.next.new.self c.in-Some.envelope
-      c.requires.holds.admits c.in-Some.ensures.front c.in-Some.ensures.stopped c.add.ensures.adds.made;
-}
+returns-in-Ok-clause-holds g c =
+    let holds = c.requires.holds in
+    let front = c.in-Some.ensures.front in
+    let stopped = c.in-Some.ensures.stopped in
+    let adds = subst (λ (k : ℕ). Adds c.args.self.now.outboxes k c.in-Some.envelope c.add.new.self) c.target-target.ensures c.add.ensures.adds in record {
+      stood = holds.stood;
+      at_home = holds.at_home;
+      places = subst (λ (s : StopsView). HasPlaces s (g.N.Nodes.view_of c.args.self.now.nodes).lanes.places) (sym stopped) holds.places;
+      runs = away-added c.next.new.self holds.runs front stopped c.add.new.self (λ e. c.if-target-self.false (c.target-target.ensures ∙ e)) adds;
+      why = λ e. adds.closed (holds.why e);
+      admits = admits_front c.add.new.self c.next.new.self holds.admits front stopped adds.made;
+    }
 
 -- ---- where the front goes
 
@@ -158,46 +129,35 @@ returns-in-Ok-clause-front g c = λ _. (
 -- ---- its seat is not spent
 
 pub unreachable-requires : goal.unreachable-requires
-unreachable-requires g c =
-    let nodes = c.args.self.now.nodes in
-    let o = c.args.self.now.outboxes in
-    never-spent (g.N.Nodes.writes nodes) (g.N.Nodes.came nodes) o c.add.new.self c.args.self.now.work c.target-target.result c.requires.holds.admits
-    (subst (λ (r : Refused). RefusedBy o c.target-target.result r c.add.new.self) c.in-Err-SeatSpent.field-0-is c.in-Err-SeatSpent.ensures.refused)
+unreachable-requires g c = never-spent c.requires.holds.admits (subst (λ (r : Refused). RefusedBy c.args.self.now.outboxes c.target-target.result r c.add.new.self) c.in-Err-SeatSpent.field-0-is c.in-Err-SeatSpent.ensures.refused)
 
 pub returns-in_default-clause-holds : goal.returns-in_default-clause-holds
-returns-in_default-clause-holds g c =
-    let nodes = c.args.self.now.nodes in
-    let o = c.args.self.now.outboxes in record {
-      stood = c.requires.holds.stood;
-      at_home = c.requires.holds.at_home;
-      places = search rules;
-      runs = search rules;
-      why = c.requires.holds.why;
-      admits =
-          let n = ap (λ (zs : List Envelope). length zs) c.in_default.ensures.front in
-          admits_on (g.N.Nodes.writes nodes) (g.N.Nodes.came nodes) o o c.args.self.now.work c.next.new.self c.requires.holds.admits c.next.ensures.stopped (omega (arith, n));
-    }
+returns-in_default-clause-holds g c = record {
+  stood = c.requires.holds.stood;
+  at_home = c.requires.holds.at_home;
+  places = search rules;
+  runs = search rules;
+  why = c.requires.holds.why;
+  admits = let n = ap (λ (zs : List Envelope). length zs) c.in_default.ensures.front in admits_on c.args.self.now.outboxes c.next.new.self c.requires.holds.admits c.next.ensures.stopped (omega (arith, n));
+}
 
 -- ---- what stays
 
 pub returns-then-target-self-clause-keeps : goal.returns-then-target-self-clause-keeps
-returns-then-target-self-clause-keeps g c =
-    let keeps = c.take.ensures.keeps in
-    record { number = refl; routes = keeps.routes; written = keeps.written; counts = keeps.counts; sends = nothing-none c.args.self.now.outboxes }
+returns-then-target-self-clause-keeps g c = record { number = refl; nodes = c.take.ensures.keeps; sends = nothing-none c.args.self.now.outboxes }
 
 pub returns-then-target-self-clause-taken : goal.returns-then-target-self-clause-taken
-returns-then-target-self-clause-taken g c =
-    front-taken g.W.Named.world c.args.self.now.number (g.N.Nodes.target_of c.args.self.now.nodes) (g.N.Nodes.writes c.args.self.now.nodes) (g.N.Nodes.taken_of c.args.self.now.nodes) (g.N.Nodes.came c.args.self.now.nodes)
-    c.args.self.now.outboxes c.args.self.now.work c.next.new.self c.in-Some.envelope c.requires.holds.runs c.in-Some.ensures.front c.in-Some.ensures.stopped
-    (g.N.Nodes.taken_of c.take.new.self) c.take.ensures.taken
+returns-then-target-self-clause-taken g c = front-taken c.next.new.self c.requires.holds.runs c.in-Some.ensures.front c.in-Some.ensures.stopped (g.N.Nodes.view_of c.take.new.self).lanes c.take.ensures.taken
 
 pub returns-in-Err-Closed-clause-keeps : goal.returns-in-Err-Closed-clause-keeps
 returns-in-Err-Closed-clause-keeps g c =
-    let keeps = c.refuse.ensures.keeps in
     let adds = c.add.ensures.adds in
-    record { number = refl; routes = keeps.routes; written = keeps.written; counts = keeps.counts; sends = record { sends = adds.sends; tried = adds.tried } }
+    record { number = refl; nodes = c.refuse.ensures.keeps; sends = record { sends = adds.sends; tried = adds.tried } }
+
+pub returns-in-Err-Closed-clause-taken : goal.returns-in-Err-Closed-clause-taken
+returns-in-Err-Closed-clause-taken g c = λ l w. ap (λ (n : Lane → ℕ). n l) c.refuse.ensures.taken
 
 pub returns-in-Ok-clause-keeps : goal.returns-in-Ok-clause-keeps
 returns-in-Ok-clause-keeps g c =
     let adds = c.add.ensures.adds in
-    record { number = refl; routes = λ l. refl; written = λ l. refl; counts = refl; sends = record { sends = adds.sends; tried = adds.tried } }
+    record { number = refl; nodes = record { home = refl; routes = refl; channels = refl }; sends = record { sends = adds.sends; tried = adds.tried } }

@@ -17,20 +17,19 @@ invariant_of-self-in-Some g c =
     let mid = c.take-in-Some.new.self in
     let after = c.work_off.new.self in
     let told = c.in-Some.ensures.taken in
-    let counts = (g.M.Mailbox.takes_of c.self.inside.taker).counts in
+    let counts = (g.M.Mailbox.ends.takes_of c.self.inside.taker).counts in
     let now = set_take_count x.lane (x.number + 1) counts in
-    let is : (g.M.Mailbox.takes_of c.take.new.taker).counts ≡ now = ap (λ (t : TakerView). t.counts) told.3 in
-    let first = taking-taken before.number (g.N.Nodes.target_of before.nodes) (g.N.Nodes.target_of mid.nodes) (g.N.Nodes.writes before.nodes) (g.N.Nodes.writes mid.nodes) (g.N.Nodes.taken_of before.nodes) (g.N.Nodes.taken_of mid.nodes)
-    counts x c.self.invariant.3 told.0 c.take-in-Some.ensures.keeps.routes c.take-in-Some.ensures.keeps.written c.take-in-Some.ensures.taken in
+    let is : (g.M.Mailbox.ends.takes_of c.take.new.taker).counts ≡ now = ap (λ (t : TakerView). t.counts) told.3 in
+    let view = λ (n : g.row.N.Denot). (g.N.Nodes.view_of n).lanes in
+    let first = taking-taken before.number (view before.nodes) (view mid.nodes) counts x c.self.invariant.3 told.0 c.take-in-Some.ensures.keeps.nodes.routes c.take-in-Some.ensures.taken in
     let number = c.work_off.ensures.keeps.number ∙ c.take-in-Some.ensures.keeps.number in
-    let second = taking-stays before.number (g.N.Nodes.target_of mid.nodes) (g.N.Nodes.target_of after.nodes) (g.N.Nodes.writes mid.nodes) (g.N.Nodes.writes after.nodes) (g.N.Nodes.taken_of mid.nodes) (g.N.Nodes.taken_of after.nodes)
-    now first c.work_off.ensures.keeps.routes c.work_off.ensures.keeps.written c.work_off.ensures.taken in (
+    let second = taking-stays before.number (view mid.nodes) (view after.nodes) now first c.work_off.ensures.keeps.nodes.routes c.work_off.ensures.taken in (
       c.work_off.ensures.holds,
       c.work_off.ensures.empty,
       c.take.ensures.taker,
-      subst (λ (y : ℕ × List TakeCount). IsTaking y.0 (g.N.Nodes.target_of after.nodes) (g.N.Nodes.writes after.nodes) (g.N.Nodes.taken_of after.nodes) y.1) (λ i. (sym number i, sym is i)) second,
+      subst (λ (y : ℕ × List TakeCount). IsTaking y.0 (g.N.Nodes.view_of after.nodes).lanes y.1) (λ i. (sym number i, sym is i)) second,
       c.self.invariant.4,
-      counts-take c.self.inside.owner c.self.inside.is_closed c.self.inside.run c.saturating_add-self-inside.result (g.M.Mailbox.takes_of c.self.inside.taker).pops (g.M.Mailbox.takes_of c.take.new.taker).pops
+      counts-take c.self.inside.owner c.self.inside.is_closed c.self.inside.run c.saturating_add-self-inside.result (g.M.Mailbox.ends.takes_of c.self.inside.taker).pops (g.M.Mailbox.ends.takes_of c.take.new.taker).pops
           c.self.invariant.5 c.if-self.false c.saturating_add-self-inside.ensures (ap (λ (t : TakerView). t.pops) told.3),
       subst (λ (n : ℕ). n < 2 ^ 16) (sym number) c.self.invariant.6,
     )
@@ -44,7 +43,7 @@ invariant_of-self g c =
       c.self.invariant.0,
       c.self.invariant.1,
       c.take.ensures.taker,
-      subst (λ (t : TakerView). IsTaking core.number (g.N.Nodes.target_of core.nodes) (g.N.Nodes.writes core.nodes) (g.N.Nodes.taken_of core.nodes) t.counts) (sym c.in-None.ensures.taken.0) c.self.invariant.3,
+      subst (λ (t : TakerView). IsTaking core.number (g.N.Nodes.view_of core.nodes).lanes t.counts) (sym c.in-None.ensures.taken.0) c.self.invariant.3,
       c.self.invariant.4,
       subst (λ (t : TakerView). IsCounting c.self.inside.owner c.self.inside.is_closed c.self.inside.run t.pops) (sym c.in-None.ensures.taken.0) c.self.invariant.5,
       c.self.invariant.6,
@@ -55,10 +54,10 @@ returns-in-Some-clause-task g c = λ _.
     let core = c.self.inside.core in
     let mid = c.take-in-Some.new.self in
     let after = c.work_off.new.self in
-    let takes = g.M.Mailbox.takes_of c.take.new.taker in
+    let takes = g.M.Mailbox.ends.takes_of c.take.new.taker in
     let new : ExecutorView g.row.N.Denot = record { number = after.number; nodes = after.nodes; outboxes = after.outboxes; takes = takes; owner = c.self.inside.owner; turns = c.self.inside.turns } in
     subst
-    (λ (old : ExecutorView g.row.N.Denot). TakesOne g.N.Nodes.target_of g.N.Nodes.took g.N.Nodes.refused_by g.N.Nodes.gave_up old new)
+    (λ (old : ExecutorView g.row.N.Denot). TakesOne g.N.Nodes.view_of g.N.Nodes.took g.N.Nodes.refused_by g.N.Nodes.gave_up old new)
     c.self.view_is (
       sym c.self.invariant.5.closed ∙ c.if-self.false,
       c.in-Some.envelope,
@@ -72,7 +71,7 @@ returns-in-Some-clause-task g c = λ _.
           done = c.take-in-Some.ensures.took;
           works =
               subst
-              (λ (z : ℕ × OutboxesView). WorksOff g.N.Nodes.target_of g.N.Nodes.took g.N.Nodes.refused_by g.N.Nodes.gave_up z.0 (record { nodes = mid.nodes; outboxes = z.1; work = mid.work }) after.nodes after.outboxes)
+              (λ (z : ℕ × OutboxesView). WorksOff g.N.Nodes.view_of g.N.Nodes.took g.N.Nodes.refused_by g.N.Nodes.gave_up z.0 (record { nodes = mid.nodes; outboxes = z.1; work = mid.work }) after.nodes after.outboxes)
               (λ i. (c.take-in-Some.ensures.keeps.number i, c.take-in-Some.ensures.outboxes i)) c.work_off.ensures.works;
         };
       },

@@ -19,15 +19,15 @@ returns g c =
     let lane = lane_to c.args.executor ∷ [] in
     let same = c.in_ok-inbox.ensures.mailbox in
     let named : inbox.admission.name ≡ name = ap (λ (a : AdmissionView). a.name) c.in_ok-inbox.ensures.admission in
-    let sends = each-of-three (λ s. M.is_sender mailbox s) M.sends_of c.in_ok-mailbox.senders.items ends.0 ends.1 ends.2 (fresh_sends lane) (fresh_sends []) (fresh_sends [])
+    let sends = each-of-three (λ s. M.ends.is_sender mailbox s) M.ends.sends_of c.in_ok-mailbox.senders.items ends.0 ends.1 ends.2 (fresh_sends lane) (fresh_sends []) (fresh_sends [])
     c.in_three-writer.ensures c.in_ok-mailbox.ensures.senders.0 (c.in_ok-mailbox.ensures.senders.1 ∙ c.in_ok-lanes.ensures.sends) in
     let admits = all-of-three (λ (s : SendSeatView). s ≡ new_send_seat name s.number) c.in_ok-admission.seats.items seats.0 seats.1 seats.2 c.in_three-writer_seat.ensures c.in_ok-admission.ensures.seats.1 in record {
       own = record {
-        taker = subst (λ (m : _). M.is_taker m c.in_ok-mailbox.taker) (sym same) c.in_ok-mailbox.ensures.taker.0;
+        taker = subst (λ (m : _). M.ends.is_taker m c.in_ok-mailbox.taker) (sym same) c.in_ok-mailbox.ensures.taker.0;
         takes = c.in_ok-mailbox.ensures.taker.1 ∙ ap (λ (ls : List (List Lane)). fresh_takes (lanes_of_senders ls)) c.in_ok-lanes.ensures.lanes;
         owner = c.in_ok-admission.ensures.owner ∙ ap (λ (n : Name). new_owner_seat n) (sym named);
       };
-      flags = way-is M.is_taker M.takes_of M.is_sender M.sends_of mailbox name inbox lane (record { sender = ends.0; seat = seats.0 }) same named sends.0 admits.0;
-      none = way-is M.is_taker M.takes_of M.is_sender M.sends_of mailbox name inbox [] (record { sender = ends.1; seat = seats.1 }) same named sends.1 admits.1;
-      never = way-is M.is_taker M.takes_of M.is_sender M.sends_of mailbox name inbox [] (record { sender = ends.2; seat = seats.2 }) same named sends.2 admits.2;
+      flags = way-is M.ends mailbox name inbox lane (record { sender = ends.0; seat = seats.0 }) same named sends.0 admits.0;
+      none = way-is M.ends mailbox name inbox [] (record { sender = ends.1; seat = seats.1 }) same named sends.1 admits.1;
+      never = way-is M.ends mailbox name inbox [] (record { sender = ends.2; seat = seats.2 }) same named sends.2 admits.2;
     }

@@ -5,7 +5,7 @@ use Rattle.pl_queue.specs.declared.views.TakerView.{TakerView}
 use Rattle.pl_outbox.specs.OutboxViews.{OutboxView}
 use Rattle.pl_threads.specs.Running.{IsTaking, RunsOn}
 use Rattle.pl_threads_tests.specs.declared.nodes.Outlet.{Outlet}
-use Rattle.pl_threads_tests.specs.Nodes.{came, lane_to, outlets_of, taken_of, target_of, writes}
+use Rattle.pl_threads_tests.specs.Nodes.{lane_to, node_view, outlets_of}
 use Rattle.pl_threads_tests.specs.Openings.{HasLane}
 use Rattle.pl_threads_tests.proofs.StartLemmas.{HasWay, few-lanes, has-way, node-runs, node-taking, two-places}
 use Rattle.pl_threads_tests.proofs.tests.starting.executor.Goals as goal
@@ -26,7 +26,7 @@ new-requires-3-clause-runs g c =
     let by : (p : Outlet) → HasLane n.executor p → HasWay p o.outboxes = λ p lane. subst (λ (bs : List OutboxView). HasWay p bs) (sym made.outboxes)
     (has-way n.executor p _ _ _ _ three (ap (λ (b : OutboxView). b.sends) c.outbox.ensures ∙ place.first.sends) (ap (λ (b : OutboxView). b.sends) c.outbox-2.ensures ∙ place.second.sends)
     (ap (λ (b : OutboxView). b.sends) c.outbox-3.ensures ∙ place.third.sends) lane) in
-    subst (λ (number : ℕ). RunsOn g.W.Named.world number target_of (writes n) (taken_of n) (came n) o work) (sym c.from.ensures)
+    subst (λ (number : ℕ). RunsOn g.W.Named.world number (node_view n).lanes o work) (sym c.from.ensures)
     (node-runs n ready.stands ready.fresh o made.waits (by n.first ready.first) (by n.second ready.second)
     g.W.Named.world work c.in_ok-new-2.ensures.empty made.places (ap (λ (bs : List OutboxView). length bs) (made.outboxes ∙ three)))
 
@@ -36,6 +36,6 @@ new-requires-3-clause-few g c = few-lanes c.args.node
 pub new-requires-3-clause-taking : goal.new-requires-3-clause-taking
 new-requires-3-clause-taking g c =
     let n = c.args.node in
-    subst (λ (number : ℕ). IsTaking number target_of (writes n) (taken_of n) (g.M.Mailbox.takes_of c.args.place.own.taker).counts) (sym c.from.ensures)
-    (subst (λ (counts : List TakeCount). IsTaking n.executor target_of (writes n) (taken_of n) counts) (sym (ap (λ (t : TakerView). t.counts) c.requires.place.own.takes))
+    subst (λ (number : ℕ). IsTaking number (node_view n).lanes (g.M.Mailbox.ends.takes_of c.args.place.own.taker).counts) (sym c.from.ensures)
+    (subst (λ (counts : List TakeCount). IsTaking n.executor (node_view n).lanes counts) (sym (ap (λ (t : TakerView). t.counts) c.requires.place.own.takes))
     (node-taking n c.requires.ready.stands c.requires.ready.fresh))

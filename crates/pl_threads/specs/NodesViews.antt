@@ -1,0 +1,30 @@
+-- What an executor sees of its own nodes, and what no call of them changes.
+use Rattle.std.specs.Prelude.{◌≡◌, ℕ, Bool, false}
+use Rattle.pl_event.specs.declared.envelopes.Lane.{Lane}
+use Rattle.pl_event.specs.Worlds.{World}
+use Rattle.pl_context.specs.OutputsViews.{OutputsView}
+use Rattle.pl_flow.specs.LanesViews.{LanesView, SameRoutes}
+use Rattle.pl_flow.specs.Makes.{Makes}
+
+-- What an executor sees of its own nodes (EventExecutor). It is the executor that they are on, their lanes, how many channels
+-- have their heads among them, and whether one of them has failed by a refusal.
+pub record OwnNodesView : Type 0 where
+  pub home : ℕ
+  pub lanes : LanesView
+  pub channels : ℕ
+  pub was_refused : Bool
+
+-- What no call of the nodes changes. Those are the nodes' executor, where each lane goes, which are written, for which they
+-- need places, and how many channels there are.
+pub record NodesKeep (v v' : OwnNodesView) : Type 0 where
+  pub home : v'.home ≡ v.home
+  pub routes : SameRoutes v.lanes v'.lanes
+  pub channels : v'.channels ≡ v.channels
+
+-- what nodes have put on a list is next on the lanes that they write
+abbrev pub LanesMake : World → LanesView → OutputsView → LanesView → OutputsView → Type 0
+LanesMake world v before v' after = Makes world v.written v.came v'.came before after
+
+-- of a lane that others write nothing was taken
+abbrev pub TakesOwn : LanesView → LanesView → Type 0
+TakesOwn v v' = (l : Lane) → v.written l ≡ false → v'.taken l ≡ v.taken l
