@@ -1,6 +1,6 @@
 #!/usr/bin/env bash
-# A word of the contracts has one home. Says which words two modules of the libraries' specs define, but for those below,
-# and which of these have one home again.
+# A word of the contracts has one home: says which words two modules of the libraries' specs define, but for those below, and
+# which of these have one home again. And a module that docs/ARCHITECTURE.md names is a file, and the other way round.
 set -euo pipefail
 cd "$(dirname "$0")/.."
 
@@ -42,4 +42,26 @@ done <<<"$found"
 while read -r word _; do
   grep -q "^$word:" <<<"$found" || { echo "names: $word has one home now, and is in the list"; status=1; }
 done < <(shared)
+
+# The modules of each library, as docs/ARCHITECTURE.md has them: the crate, and one of its modules.
+told() {
+  awk '/^## Where each part is/ { here = 1 } /^## Words/ { here = 0 } !here { next }
+    /^- / { crate = match($0, /^- \[pl_[a-z_]+\]/) ? substr($0, 4, RLENGTH - 4) : "" }
+    /^$/ { crate = "" }
+    crate { line = $0; while (match(line, /`[a-z_]+`/)) { name = substr(line, RSTART + 1, RLENGTH - 2); line = substr(line, RSTART + RLENGTH)
+      if (name !~ /^pl_/) print crate, name } }' docs/ARCHITECTURE.md | sort -u
+}
+
+while read -r crate module; do
+  find "crates/$crate/src" -name "$module.rt" | grep -q . ||
+    { echo "names: docs/ARCHITECTURE.md names the module $module of $crate, which is no file"; status=1; }
+done < <(told)
+for crate in $(told | cut -d ' ' -f 1 | sort -u); do
+  # But for laws, limits, the steps of a word and tests.
+  for file in crates/"$crate"/src/*.rt; do
+    module=$(basename "$file" .rt)
+    grep -Eq '^(lib|tests|limits)$|(^|_)laws?$|_steps$' <<<"$module" || told | grep -qx "$crate $module" ||
+      { echo "names: docs/ARCHITECTURE.md does not name the module $module of $crate"; status=1; }
+  done
+done
 exit $status

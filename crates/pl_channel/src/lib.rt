@@ -2,10 +2,10 @@
 //! the report of a channel, from its two ends.
 #![tactic(auto)]
 
+mod lane_counts;
 mod placing;
 mod reports;
-mod ways;
 
+pub use lane_counts::{lane_count, places_between};
 pub use placing::{place, placed};
 pub use reports::{into_report, report, stands};
-pub use ways::{lane_count, places_between};

@@ -33,11 +33,11 @@ abbrev pub numbered : Lane → ℕ → List Item → List Envelope
 numbered lane n [] = []
 numbered lane n (i ∷ is) = record { lane = lane; number = n; item = i } ∷ numbered lane (n + 1) is
 
--- The envelopes that a port offers when it is given these items: a closed one offers none.
+-- what an open port offers of these items
 abbrev pub offered : Port → List Item → List Envelope
 offered p is = if p.is_open then numbered p.lane p.made is else []
 
--- those of them that a list with room takes: a stopped lane's are discarded
+-- what of it a list with room takes
 abbrev pub put_out : StopsView → Port → List Item → List Envelope
 put_out s p is = if p.is_open then (if has_stopped s p.lane then [] else numbered p.lane p.made is) else []
 

@@ -50,7 +50,7 @@ impl Outputs {
     /// Takes the front, and no memory.
     pub fn next(&mut self) -> Option<Envelope>
         ensures front { self.old.items ≡ option_to_list result ++ self.new.items }
-        ensures empty { IfNone result (self.old.items ≡ []) }
+        ensures empty { IfNone result ((self.old.items ≡ []) × (self.new ≡ self.old)) }
         ensures stopped { self.new.stopped ≡ self.old.stopped }
         ensures room { self.old.room ≤ self.new.room }
     {

@@ -35,12 +35,13 @@ impl Port {
         }
     }
 
-    /// Gives the lane one item, unless it is closed.
-    pub(crate) fn put(&mut self, item: Item, outputs: &mut Outputs)
+    /// Gives the lane one item, unless it is closed. After an end or a failure it is closed.
+    pub fn put(&mut self, item: Item, outputs: &mut Outputs)
         requires place { self.old.is_open ≡ true → HasPlaces outputs.old.stopped (self.old.lane ∷ []) }
         requires small { self.old.is_open ≡ true → self.old.made ≤ 2 ^ 40 }
         ensures port { self.new ≡ port_after (item ∷ []) self.old }
         ensures out { PutsAll outputs.old (offered self.old (item ∷ [])) outputs.new }
+        ensures place { self.old.is_open ≡ true → HasPlaces outputs.new.stopped (self.old.lane ∷ []) }
         ensures room { 0 < outputs.old.room → Appends outputs.old (put_out outputs.old.stopped self.old (item ∷ [])) outputs.new }
     {
         if !self.is_open {

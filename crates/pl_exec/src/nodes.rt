@@ -2,7 +2,7 @@
 
 ghost use Rattle.std.specs.Prelude.{◌≡◌, ◌<◌, ◌^◌, ◌||◌, ◌&&◌, All, length, get_or, slice_get, Some, ℕ, true, false};
 ghost use Rattle.pl_exec.specs.ExecutorNodes.{HasGivenUp, IsRefusedBy, MayMoveOwn, AreOver, IsOverAt, IsPartOver, enters, own_view, served_of};
-ghost use Rattle.pl_exec.specs.Telling.{ExecutorStands, TellsAfter, TellsAt};
+ghost use Rattle.pl_exec.specs.Telling.{ExecutorStands, TellsAfter};
 ghost use Rattle.pl_part.specs.Parts.{ChannelPartView, PartHolds};
 ghost use Rattle.pl_channel.specs.Channels.{IsMovedBy, IsTakenBy};
 ghost use Rattle.pl_event.specs.Worlds.{World};
@@ -40,11 +40,12 @@ pub(crate) struct ExecutorNodes<'a, S: Stage, T: Transport> {
 impl<'a, W: Planned, S: Stage, T: Transport> Nodes<W> for ExecutorNodes<'a, S, T> {
     ghost view_of = { own_view S.meaning };
 
-    ghost gave_up = { λ n lane. HasGivenUp n.parts.items lane };
-
-    ghost channel_at = { λ n at. get_or n.own.items at 0 };
-
-    ghost tells = { λ n c. TellsAt n.seats.items n.parts.items c };
+    ghost acts = { record {
+      takes = λ n e before n' after. TellsAfter (λ between. IsTakenBy S.meaning S.stands_after S.is_spent T.state n.parts.items e before between after) e.lane.channel n n';
+      refuses = λ n lane before n' after. IsRefusedBy n.parts.items lane before n'.parts.items after × (n'.seats ≡ n.seats);
+      gave_up = λ n lane. HasGivenUp n.parts.items lane;
+      moves = λ n by at before n' after. TellsAfter (λ between. IsMovedBy T.state T.may_refuse n.parts.items by (get_or n.own.items at 0) before between after) (get_or n.own.items at 0) n n';
+    } };
 
     ghost may_move = { λ n by at answer. MayMoveOwn T.state n.parts.items n.own.items by at answer };
 
@@ -53,12 +54,6 @@ impl<'a, W: Planned, S: Stage, T: Transport> Nodes<W> for ExecutorNodes<'a, S, T
     ghost are_over = { λ n. AreOver T.state n.parts.items };
 
     ghost stands = { ExecutorStands W.world W.plan S.meaning S.stands_after T.state };
-
-    ghost took = { λ n e before n' after. TellsAfter (λ between. IsTakenBy S.meaning S.stands_after S.is_spent T.state n.parts.items e before between after) e.lane.channel n n' };
-
-    ghost refused_by = { λ n lane before n' after. IsRefusedBy n.parts.items lane before n'.parts.items after × (n'.seats ≡ n.seats) };
-
-    ghost moved = { λ n by at before n' after. TellsAfter (λ between. IsMovedBy T.state T.may_refuse n.parts.items by (get_or n.own.items at 0) before between after) (get_or n.own.items at 0) n n' };
 
     fn target(&self, lane: Lane) -> usize {
         match self.parts.get(lane.channel as usize) {

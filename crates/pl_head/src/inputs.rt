@@ -11,7 +11,7 @@ ghost use Rattle.pl_head.specs.InputStand.{InputStands, new_input, next_items, l
 ghost use Rattle.pl_event.specs.declared.limits.TheConstants.{MAX_ITEMS};
 
 use pl_context::{Outputs, Port};
-use pl_event::{Cause, Element, Envelope, Event, Item, Kind, Sequence};
+use pl_event::{Cause, Element, Event, Item, Kind, Sequence};
 use std::marker::Model;
 
 /// What a channel is to read: bursts of elements, and then the end; or, where it is aborted, as many of them as are to be
@@ -115,11 +115,7 @@ impl Input {
         ensures puts { PutsAll outputs.old (offered self.old.port (item.Fail cause ∷ [])) outputs.new }
         ensures stands { self.old.port.is_open ≡ true → (p : ReadPlan) (reads : ℕ) (failed : Bool) → InputStands p reads failed self.old → InputStands p reads true self.new }
     {
-        if !self.port.is_open {
-            return;
-        }
-        put_item(&mut self.port, Item::Fail(cause), outputs);
-        self.port.is_open = false;
+        self.port.put(Item::Fail(cause), outputs);
     }
 }
 
@@ -147,36 +143,18 @@ fn put_next(port: &mut Port, left: &mut Vec<Sequence<Element>>, steps: u64, outp
     ensures puts { PutsAll outputs.old (numbered port.old.lane port.old.made (next_items steps (reverse left.old.items))) outputs.new }
 {
     if steps == 0 {
-        put_item(port, Item::Event(Event::Active), outputs);
+        port.put(Item::Event(Event::Active), outputs);
         return;
     }
     match left.pop() {
         Some(elements) => put_burst(port, elements.into_vec(), outputs),
-        None => {
-            put_item(port, Item::End, outputs);
-            port.is_open = false;
-        }
+        None => port.put(Item::End, outputs),
     }
-}
-
-/// Gives an item to a lane, whose number it takes.
-fn put_item(port: &mut Port, item: Item, outputs: &mut Outputs)
-    requires place { HasPlaces outputs.old.stopped (port.old.lane ∷ []) }
-    requires small { port.old.made < 2 ^ 40 }
-    ensures port { port.new ≡ record port.old { made = port.old.made + 1 } }
-    ensures puts { PutsAll outputs.old (numbered port.old.lane port.old.made (item ∷ [])) outputs.new }
-    ensures place { HasPlaces outputs.new.stopped (port.old.lane ∷ []) }
-{
-    outputs.put(Envelope {
-        lane: port.lane,
-        number: port.made,
-        item,
-    });
-    port.made += 1;
 }
 
 /// Gives a burst to a lane: its elements in order, a chunk as a read and a user event as it is, and then its completion.
 fn put_burst(port: &mut Port, elements: Vec<Element>, outputs: &mut Outputs)
+    requires open { port.old.is_open ≡ true }
     requires place { HasPlaces outputs.old.stopped (port.old.lane ∷ []) }
     requires small { port.old.made + length (burst_events elements.items) < 2 ^ 40 }
     ensures port { port.new ≡ record port.old { made = port.old.made + length (burst_events elements.items) } }
@@ -185,7 +163,7 @@ fn put_burst(port: &mut Port, elements: Vec<Element>, outputs: &mut Outputs)
     let mut left = elements;
     left.reverse();
     while let Some(element) = left.pop() {
-        put_item(port, Item::Event(element.into_event()), outputs);
+        port.put(Item::Event(element.into_event()), outputs);
     }
-    put_item(port, Item::Event(Event::ReadComplete), outputs);
+    port.put(Item::Event(Event::ReadComplete), outputs);
 }

@@ -7,9 +7,11 @@ use Rattle.pl_context.specs.OutputsViews.{OutputsView}
 use Rattle.pl_flow.specs.LanesViews.{LanesView, SameRoutes, KeepsPlaces, taken_with}
 use Rattle.pl_flow.specs.Makes.{Makes}
 
--- What executors see of their nodes (EventExecutorGroup). By channel it is the executor of its head; by lane the executor on
--- which it is written. Then the lanes of all nodes; and how much was done: items taken and items made.
+-- What executors see of their nodes (EventExecutorGroup). It is how many channels there are; by channel the executor of its
+-- head; by lane the executor on which it is written. Then the lanes of all nodes; and how much was done: items taken and
+-- items made.
 pub record NodesView : Type 0 where
+  pub channels : ℕ
   pub home : ℕ → ℕ
   pub origin : Lane → ℕ
   pub lanes : LanesView

@@ -15,7 +15,7 @@ use pl_flow::HeadMove;
 
 /// The nodes of all channels. What they make of an item they put on a work list, lane by lane the next items of that lane.
 pub trait Nodes: Sized {
-    /// Where their lanes go, and how far they have come.
+    /// How many channels there are, where their lanes go, and how far they have come.
     ghost view_of: { Self → NodesView };
 
     /// What holds of them between two calls, in a world.
@@ -30,12 +30,9 @@ pub trait Nodes: Sized {
     /// Whether a move of the channel's head is enabled.
     ghost may_move: { Self → HeadMove → ℕ → Bool → Type 0 };
 
-    /// How many channels there are.
-    ghost count: { Self → ℕ };
-
     /// The executor of a channel's head.
     fn home(&self, channel: usize) -> usize
-        requires there { channel < count self.now }
+        requires there { channel < (view_of self.now).channels }
         requires stands { (world : World) × stands world self.now }
         ensures { result ≡ (view_of self.now).home channel };
 
@@ -59,7 +56,7 @@ pub trait Nodes: Sized {
     /// The head of a channel makes a move: its next read step, where one is left and not held, or a write to its transport,
     /// where a flushed byte waits and it has not failed. False where it made none.
     fn move_head(&mut self, by: HeadMove, channel: usize, work: &mut Outputs) -> bool
-        requires there { channel < count self.old }
+        requires there { channel < (view_of self.old).channels }
         requires stands { (world : World) × stands world self.old }
         requires places { HasPlaces work.old.stopped (view_of self.old).lanes.places }
         ensures enabled { may_move self.old by channel result }

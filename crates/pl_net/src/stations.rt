@@ -86,21 +86,16 @@ impl<N: Nodes + Drop> Stations<N> {
         ensures capacity { self.new.capacity ≡ self.old.capacity }
         ensures count { vec_len self.new.executors ≡ vec_len self.old.executors }
     {
-        if self.work.is_empty() {
+        let Some(envelope) = self.work.next() else {
             return false;
+        };
+        let target = self.nodes.target(envelope.lane);
+        if target == me {
+            self.nodes.take(envelope, &mut self.work);
+        } else {
+            self.executors[me].add(target, envelope);
         }
-        match self.work.next() {
-            Some(envelope) => {
-                let target = self.nodes.target(envelope.lane);
-                if target == me {
-                    self.nodes.take(envelope, &mut self.work);
-                } else {
-                    self.executors[me].add(target, envelope);
-                }
-                true
-            }
-            None => unreachable!(),
-        }
+        true
     }
 
     /// The executor that runs works its list off.
@@ -148,7 +143,7 @@ impl<N: Nodes + Drop> Stations<N> {
     /// A move of a channel's head, with its direct calls: its next read step, or a write to its transport. False where none is
     /// left or it is held, and where no flushed byte waits or the head has failed.
     pub fn move_head(&mut self, by: HeadMove, channel: usize) -> bool
-        requires there { channel < N.count self.old.nodes }
+        requires there { channel < (N.view_of self.old.nodes).channels }
         requires home { (N.view_of self.old.nodes).home channel < vec_len self.old.executors }
         requires rests { self.old.work.items ≡ [] }
         requires stands { (world : World) × (x : ℕ) × (backlogs : ℕ → List (Entry Unit)) × StationsStand N.view_of N.stands world x (stations_view self.old backlogs) }

@@ -2,11 +2,11 @@
 #![tactic(auto)]
 
 mod laws;
-mod nodes;
+mod new_contexts;
 mod parts;
 mod paths;
+mod refusing;
 mod shares;
-mod starting;
 
 pub use laws::head_law;
 pub use parts::ChannelPart;

@@ -21,9 +21,9 @@ ghost use Rattle.pl_part.specs.PathCalls.{IsNextOnPath, PathTaken, PathRefused};
 ghost use Rattle.pl_part.specs.Paths.{PathHolds, PathTakes, PathRefuses, SamePath, context_at, writer_hop, enters_path, path_over, is_slot_over, path_taken, path_lanes, path_writes, path_writes_at, path_came};
 ghost use Rattle.pl_part.specs.Shares.{IsPathShare, executor_of};
 
-use crate::nodes::refuse_at;
+use crate::new_contexts::add_contexts;
+use crate::refusing::refuse_at;
 use crate::shares::{take_contexts, take_where};
-use crate::starting::add_contexts;
 use pl_context::{Context, Outputs, Tail, Took};
 use pl_event::{Envelope, Lane, Stage};
 use std::alloc::{AllocError, Global};

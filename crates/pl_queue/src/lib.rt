@@ -15,6 +15,7 @@
 #![tactic(auto)]
 
 mod counts;
+mod ends;
 mod left;
 mod limits;
 mod mailbox;
@@ -23,7 +24,6 @@ mod queues;
 mod ring;
 mod room_laws;
 mod rule;
-mod seats;
 mod views;
 mod waiting;
 

@@ -7,11 +7,11 @@ ghost use Rattle.pl_queue.specs.Ring.{sends_by, takes_by};
 ghost use Rattle.pl_queue.specs.Rule.{Each};
 ghost use Rattle.pl_queue.specs.Left.{held_of, send_counts_of, KnowsPlaces, AreAll, IsAllLeft};
 
+use crate::ends::{Sender, Taker, finish_over, open_over, take_front};
 use crate::left::Left;
 use crate::mailbox::{Full, Mailbox, OpenRefusal};
 use crate::queues::RuledQueue;
 use crate::rule::{Deal, Dealt, LanesInTurn, Popped, Pushed, Unite};
-use crate::seats::{Sender, Taker, finish_over, open_over, take_front};
 use crate::views::PassView;
 use crossbeam_queue::{Pass, RuledArrayQueue};
 use pl_event::{Envelope, Lane, Named};

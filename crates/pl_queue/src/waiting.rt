@@ -10,11 +10,11 @@ ghost use Rattle.pl_queue.specs.Rule.{Keeps, IsTakersNext, SenderSees, BothSee, 
 ghost use Rattle.pl_queue.specs.Views.{pass_offered, sent_of, after_offer, taken, newcomer};
 ghost use Rattle.pl_queue.specs.Left.{held_of, send_counts_of, KnowsPlaces, AreAll, IsAllLeft};
 
+use crate::ends::{Sender, Taker, finish_over, open_over, take_front};
 use crate::left::Left;
 use crate::mailbox::{Full, Mailbox, OpenRefusal};
 use crate::queues::RuledQueue;
 use crate::rule::{Deal, Dealt, LanesInTurn, Popped, Pushed, Unite};
-use crate::seats::{Sender, Taker, finish_over, open_over, take_front};
 use crate::views::PassView;
 use crossbeam_channel::protocol::{Lesson, Outcome, Protocol};
 use crossbeam_channel::{Pass, RuledReceiver, RuledSender, bounded_with};

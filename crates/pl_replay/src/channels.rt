@@ -1,6 +1,5 @@
 //! The nodes of all channels.
 
-ghost use Rattle.std.specs.Prelude.{length};
 ghost use Rattle.pl_channel.specs.Channels.{ChannelsStand, IsTakenBy, IsMovedBy, MayMove};
 ghost use Rattle.pl_replay.specs.Views.{channels_view};
 
@@ -27,8 +26,6 @@ impl<S: Stage, T: Transport> Nodes for Channels<S, T> {
     ghost moves = { λ channels by channel before after work. IsMovedBy T.state T.may_refuse channels.parts.items by channel before after.parts.items work };
 
     ghost may_move = { λ channels by channel answer. MayMove T.state channels.parts.items by channel answer };
-
-    ghost count = { λ channels. length channels.parts.items };
 
     fn home(&self, channel: usize) -> usize {
         let part = &self.parts[channel];

@@ -14,7 +14,7 @@ use Rattle.pl_outbox.specs.declared.outboxes.Offered.{Offered}
 use Rattle.pl_outbox.specs.declared.outboxes.Offered.TheVariants.{Handed, Full, Nothing}
 use Rattle.pl_outbox.specs.Tries.{is_tried}
 use Rattle.pl_outbox.specs.OutboxViews.{OutboxesView, was_tried, oldest_untried, SameFor, KeepsAll, Sends, SendsNothing, Offers}
-use Rattle.pl_threads.specs.NodesViews.{OwnNodesView}
+use Rattle.pl_threads.specs.NodesViews.{OwnNodesView, NodesActs}
 use Rattle.pl_threads.specs.Running.{ExecutorView}
 use Rattle.pl_threads.specs.Turning.{SendsAtMostOne, OnlyServes, Hands, TakesOne, Tasks, MovesHead, Moves, ServesOne, Turns}
 
@@ -75,44 +75,43 @@ hands-one e e' (Some target) same sent none = record { same = same; sends = inr 
 only-none : {N : Type 0} (e : ExecutorView N) → OnlyServes e e
 only-none e = record { number = refl; takes = refl; sends = nothing-none e.outboxes; owner = refl; turns = refl }
 
-module _ {N : Type 0} (view_of : N → OwnNodesView) (took : N → Envelope → OutputsView → N → OutputsView → Type 0) (refused_by : N → Lane → OutputsView → N → OutputsView → Type 0) (gave_up : N → Lane → Type 0) where
-  pub tasks-one : (e e' : ExecutorView N) (ran : Bool) → e'.number ≡ e.number → e'.owner ≡ e.owner → e'.turns ≡ e.turns → (ran ≡ false → e' ≡ e) → (ran ≡ true → TakesOne view_of took refused_by gave_up e e')
-      → Tasks view_of took refused_by gave_up e e'
+module _ {N : Type 0} (view_of : N → OwnNodesView) (acts : NodesActs N) where
+  pub tasks-one : (e e' : ExecutorView N) (ran : Bool) → e'.number ≡ e.number → e'.owner ≡ e.owner → e'.turns ≡ e.turns → (ran ≡ false → e' ≡ e) → (ran ≡ true → TakesOne view_of acts e e')
+      → Tasks view_of acts e e'
   tasks-one e e' ran number owner turns none one = record { number = number; owner = owner; turns = turns; takes = one-or-none ran none one }
 
-  module _ (moved : N → HeadMove → ℕ → OutputsView → N → OutputsView → Type 0) where
-    moves-none : (by : HeadMove) (at : ℕ) (e : ExecutorView N) → Moves view_of took refused_by gave_up moved by at e e
-    moves-none by at e = record { serves = only-none e; moves = inl refl }
+  moves-none : (by : HeadMove) (at : ℕ) (e : ExecutorView N) → Moves view_of acts by at e e
+  moves-none by at e = record { serves = only-none e; moves = inl refl }
 
-    moves-one : (by : HeadMove) (at : ℕ) (e e' : ExecutorView N) (made : Bool) → OnlyServes e e' → (made ≡ false → e' ≡ e) → (made ≡ true → MovesHead view_of took refused_by gave_up moved by at e e')
-        → Moves view_of took refused_by gave_up moved by at e e'
-    moves-one by at e e' made serves none one = record { serves = serves; moves = one-or-none made none one }
+  moves-one : (by : HeadMove) (at : ℕ) (e e' : ExecutorView N) (made : Bool) → OnlyServes e e' → (made ≡ false → e' ≡ e) → (made ≡ true → MovesHead view_of acts by at e e')
+      → Moves view_of acts by at e e'
+  moves-one by at e e' made serves none one = record { serves = serves; moves = one-or-none made none one }
 
-    pub serves-none : (e : ExecutorView N) → ServesOne view_of took refused_by gave_up moved e e
-    serves-none e = record { at = 0; between = e; reads = moves-none Read 0 e; writes = moves-none Out 0 e }
+  pub serves-none : (e : ExecutorView N) → ServesOne view_of acts e e
+  serves-none e = record { at = 0; between = e; reads = moves-none Read 0 e; writes = moves-none Out 0 e }
 
-    pub serves-write : (at : ℕ) (e e' : ExecutorView N) (made : Bool) → OnlyServes e e' → (made ≡ false → e' ≡ e) → (made ≡ true → MovesHead view_of took refused_by gave_up moved Out at e e')
-        → ServesOne view_of took refused_by gave_up moved e e'
-    serves-write at e e' made serves none one = record { at = at; between = e; reads = moves-none Read at e; writes = moves-one Out at e e' made serves none one }
+  pub serves-write : (at : ℕ) (e e' : ExecutorView N) (made : Bool) → OnlyServes e e' → (made ≡ false → e' ≡ e) → (made ≡ true → MovesHead view_of acts Out at e e')
+      → ServesOne view_of acts e e'
+  serves-write at e e' made serves none one = record { at = at; between = e; reads = moves-none Read at e; writes = moves-one Out at e e' made serves none one }
 
-    pub serves-both : (at : ℕ) (e b e' : ExecutorView N) (read written : Bool)
-        → OnlyServes e b → (read ≡ false → b ≡ e) → (read ≡ true → MovesHead view_of took refused_by gave_up moved Read at e b)
-        → OnlyServes b e' → (written ≡ false → e' ≡ b) → (written ≡ true → MovesHead view_of took refused_by gave_up moved Out at b e')
-        → ServesOne view_of took refused_by gave_up moved e e'
-    serves-both at e b e' read written serves none one serves' none' one' =
-        record { at = at; between = b; reads = moves-one Read at e b read serves none one; writes = moves-one Out at b e' written serves' none' one' }
+  pub serves-both : (at : ℕ) (e b e' : ExecutorView N) (read written : Bool)
+      → OnlyServes e b → (read ≡ false → b ≡ e) → (read ≡ true → MovesHead view_of acts Read at e b)
+      → OnlyServes b e' → (written ≡ false → e' ≡ b) → (written ≡ true → MovesHead view_of acts Out at b e')
+      → ServesOne view_of acts e e'
+  serves-both at e b e' read written serves none one serves' none' one' =
+      record { at = at; between = b; reads = moves-one Read at e b read serves none one; writes = moves-one Out at b e' written serves' none' one' }
 
-    -- what changes its queue and the turn's number alone goes on with it
-    pub turns-kept : (e m x : ExecutorView N) → Turns view_of took refused_by gave_up moved e m → x ≡ m → m.owner ≡ e.owner → m.turns ≡ e.turns
-        → Turns view_of took refused_by gave_up moved e (record x { owner = e.owner; turns = e.turns })
-    turns-kept e m x does same owner turns =
-        let o = ap (λ (v : ExecutorView N). v.owner) same ∙ owner in
-        let t = ap (λ (v : ExecutorView N). v.turns) same ∙ turns in
-        let back : record x { owner = e.owner; turns = e.turns } ≡ x = λ i. record x { owner = sym o i; turns = sym t i } in
-        subst (λ (v : ExecutorView N). Turns view_of took refused_by gave_up moved e v) (sym (back ∙ same)) does
+  -- what changes its queue and the turn's number alone goes on with it
+  pub turns-kept : (e m x : ExecutorView N) → Turns view_of acts e m → x ≡ m → m.owner ≡ e.owner → m.turns ≡ e.turns
+      → Turns view_of acts e (record x { owner = e.owner; turns = e.turns })
+  turns-kept e m x does same owner turns =
+      let o = ap (λ (v : ExecutorView N). v.owner) same ∙ owner in
+      let t = ap (λ (v : ExecutorView N). v.turns) same ∙ turns in
+      let back : record x { owner = e.owner; turns = e.turns } ≡ x = λ i. record x { owner = sym o i; turns = sym t i } in
+      subst (λ (v : ExecutorView N). Turns view_of acts e v) (sym (back ∙ same)) does
 
-    pub turns-closed : (e m x y : ExecutorView N) (turn : ℕ) → Turns view_of took refused_by gave_up moved e m → x ≡ m → m.owner ≡ e.owner → m.turns ≡ e.turns
-        → y ≡ record x { owner = y.owner; turns = turn } → Turns view_of took refused_by gave_up moved e (record y { owner = e.owner; turns = e.turns })
-    turns-closed e m x y turn does same owner turns closed =
-        subst (λ (v : ExecutorView N). Turns view_of took refused_by gave_up moved e v) (sym (ap (λ (v : ExecutorView N). record v { owner = e.owner; turns = e.turns }) closed))
-        (turns-kept e m x does same owner turns)
+  pub turns-closed : (e m x y : ExecutorView N) (turn : ℕ) → Turns view_of acts e m → x ≡ m → m.owner ≡ e.owner → m.turns ≡ e.turns
+      → y ≡ record x { owner = y.owner; turns = turn } → Turns view_of acts e (record y { owner = e.owner; turns = e.turns })
+  turns-closed e m x y turn does same owner turns closed =
+      subst (λ (v : ExecutorView N). Turns view_of acts e v) (sym (ap (λ (v : ExecutorView N). record v { owner = e.owner; turns = e.turns }) closed))
+      (turns-kept e m x does same owner turns)

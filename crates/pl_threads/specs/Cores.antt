@@ -10,7 +10,7 @@ use Rattle.pl_words.specs.declared.admission.Refused.TheVariants.{Closed}
 use Rattle.pl_outbox.specs.Admitting.{AdmitsOnce}
 use Rattle.pl_outbox.specs.OutboxViews.{OutboxesView, Comes, RefusedBy, SendsNothing, SomeClosed}
 use Rattle.pl_threads.specs.declared.cores.Core.{Core}
-use Rattle.pl_threads.specs.NodesViews.{OwnNodesView, NodesKeep}
+use Rattle.pl_threads.specs.NodesViews.{OwnNodesView, NodesActs, NodesKeep}
 use Rattle.pl_threads.specs.Running.{RunsOn}
 
 module _ {W M N S T : Type 0} (view_of : N → OwnNodesView) where
@@ -47,19 +47,19 @@ pub record IsRest (work : OutputsView) (front : Envelope) (rest : OutputsView) :
   pub stopped : rest.stopped ≡ work.stopped
   pub room : work.room ≤ rest.room
 
-module _ {N : Type 0} (view_of : N → OwnNodesView) (took : N → Envelope → OutputsView → N → OutputsView → Type 0) (refused_by : N → Lane → OutputsView → N → OutputsView → Type 0) (gave_up : N → Lane → Type 0) where
+module _ {N : Type 0} (view_of : N → OwnNodesView) (acts : NodesActs N) where
   -- What became of an item for another executor: it comes last there, or what stands in for it. Or that executor was found
   -- closed, and the node that writes the item's lane has given up.
   abbrev pub Departs : AtWork N → Envelope → OutputsView → AtWork N → Type 0
   Departs a x rest b = (Comes a.outboxes ((view_of a.nodes).lanes.target x.lane) x b.outboxes × (b.nodes ≡ a.nodes) × (b.work ≡ rest))
-      ⊎ (RefusedBy a.outboxes ((view_of a.nodes).lanes.target x.lane) Closed b.outboxes × gave_up b.nodes x.lane × refused_by a.nodes x.lane rest b.nodes b.work)
+      ⊎ (RefusedBy a.outboxes ((view_of a.nodes).lanes.target x.lane) Closed b.outboxes × acts.gave_up b.nodes x.lane × acts.refuses a.nodes x.lane rest b.nodes b.work)
 
   module _ (me : ℕ) where
     -- The front of the work list has left it. A node here took it, or it departed.
     pub record FrontGoes (front : Envelope) (a b : AtWork N) : Type 0 where
       pub rest : OutputsView
       pub is_front : IsRest a.work front rest
-      pub here : (view_of a.nodes).lanes.target front.lane ≡ me → took a.nodes front rest b.nodes b.work × (b.outboxes ≡ a.outboxes)
+      pub here : (view_of a.nodes).lanes.target front.lane ≡ me → acts.takes a.nodes front rest b.nodes b.work × (b.outboxes ≡ a.outboxes)
       pub away : (view_of a.nodes).lanes.target front.lane ≢ me → Departs a front rest b
 
     -- One front after another has left it. What was between is told the latest first.

@@ -1,8 +1,10 @@
 -- What an executor sees of its own nodes, and what no call of them changes.
 use Rattle.std.specs.Prelude.{◌≡◌, ℕ, Bool, false}
+use Rattle.pl_event.specs.declared.envelopes.Envelope.{Envelope}
 use Rattle.pl_event.specs.declared.envelopes.Lane.{Lane}
 use Rattle.pl_event.specs.Worlds.{World}
 use Rattle.pl_context.specs.OutputsViews.{OutputsView}
+use Rattle.pl_flow.specs.declared.moves.HeadMove.{HeadMove}
 use Rattle.pl_flow.specs.LanesViews.{LanesView, SameRoutes}
 use Rattle.pl_flow.specs.Makes.{Makes}
 
@@ -13,6 +15,15 @@ pub record OwnNodesView : Type 0 where
   pub lanes : LanesView
   pub channels : ℕ
   pub was_refused : Bool
+
+-- What nodes do (ChannelHandler). It is what a node makes of an item that it takes, what becomes of the node that writes a
+-- lane where an item of that is refused, and what the head of the channel at a place does in a move, with the work list
+-- before and after. A context whose data lane was refused has given up: it has ended or failed.
+pub record NodesActs (N : Type 0) : Type 1 where
+  pub takes : N → Envelope → OutputsView → N → OutputsView → Type 0
+  pub refuses : N → Lane → OutputsView → N → OutputsView → Type 0
+  pub gave_up : N → Lane → Type 0
+  pub moves : N → HeadMove → ℕ → OutputsView → N → OutputsView → Type 0
 
 -- What no call of the nodes changes. Those are the nodes' executor, where each lane goes, which are written, for which they
 -- need places, and how many channels there are.

@@ -12,7 +12,7 @@ use Rattle.pl_queue.specs.Views.{after_offer, after_take}
 use Rattle.pl_words.specs.Admissions.{AdmittedView, OwnerSeatView}
 use Rattle.pl_outbox.specs.OutboxViews.{OutboxesView, Sends, sends_for, waits_for, oldest_untried, SameFor, SendsNothing, is_closed}
 use Rattle.pl_threads.specs.Cores.{WorksOffAfter}
-use Rattle.pl_threads.specs.NodesViews.{OwnNodesView}
+use Rattle.pl_threads.specs.NodesViews.{OwnNodesView, NodesActs}
 use Rattle.pl_threads.specs.Running.{ExecutorView}
 
 -- The oldest that waited for a target whose queue was not full was sent there, and nothing else was sent.
@@ -59,12 +59,12 @@ pub record Hands {N : Type 0} (e e' : ExecutorView N) : Type 0 where
   pub same : e' ≡ record e { outboxes = e'.outboxes }
   pub sends : ((y : ℕ) → SameFor e.outboxes e'.outboxes y) ⊎ ((target : ℕ) × Sends e.outboxes target e'.outboxes)
 
-module _ {N : Type 0} (view_of : N → OwnNodesView) (took : N → Envelope → OutputsView → N → OutputsView → Type 0) (refused_by : N → Lane → OutputsView → N → OutputsView → Type 0) (gave_up : N → Lane → Type 0) where
+module _ {N : Type 0} (view_of : N → OwnNodesView) (acts : NodesActs N) where
   -- A node took what was taken from the queue, with nothing on the work list before, and that list was worked off.
   pub record TakesTask (task : Envelope) (e e' : ExecutorView N) : Type 0 where
     pub work : OutputsView
     pub empty : work.items ≡ []
-    pub works : WorksOffAfter view_of took refused_by gave_up e.number (took e.nodes task work) e.outboxes e'.nodes e'.outboxes
+    pub works : WorksOffAfter view_of acts e.number (acts.takes e.nodes task work) e.outboxes e'.nodes e'.outboxes
 
   -- A node took one item from the queue. The queue is not closed, and the node took what was taken from it.
   abbrev pub TakesOne : ExecutorView N → ExecutorView N → Type 0
@@ -77,32 +77,31 @@ module _ {N : Type 0} (view_of : N → OwnNodesView) (took : N → Envelope → 
     pub turns : e'.turns ≡ e.turns
     pub takes : (e' ≡ e) ⊎ TakesOne e e'
 
-  module _ (moved : N → HeadMove → ℕ → OutputsView → N → OutputsView → Type 0) where
-    -- The head of the channel at a place made a move, with nothing on the work list before, and that list was worked off.
-    pub record MovesHead (by : HeadMove) (at : ℕ) (e e' : ExecutorView N) : Type 0 where
-      pub work : OutputsView
-      pub empty : work.items ≡ []
-      pub works : WorksOffAfter view_of took refused_by gave_up e.number (moved e.nodes by at work) e.outboxes e'.nodes e'.outboxes
+  -- The head of the channel at a place made a move, with nothing on the work list before, and that list was worked off.
+  pub record MovesHead (by : HeadMove) (at : ℕ) (e e' : ExecutorView N) : Type 0 where
+    pub work : OutputsView
+    pub empty : work.items ≡ []
+    pub works : WorksOffAfter view_of acts e.number (acts.moves e.nodes by at work) e.outboxes e'.nodes e'.outboxes
 
-    -- It made one, or none; nothing else was done.
-    pub record Moves (by : HeadMove) (at : ℕ) (e e' : ExecutorView N) : Type 0 where
-      pub serves : OnlyServes e e'
-      pub moves : (e' ≡ e) ⊎ MovesHead by at e e'
+  -- It made one, or none; nothing else was done.
+  pub record Moves (by : HeadMove) (at : ℕ) (e e' : ExecutorView N) : Type 0 where
+    pub serves : OnlyServes e e'
+    pub moves : (e' ≡ e) ⊎ MovesHead by at e e'
 
-    -- The head of one channel made a read step and then a write, or one of these, or none.
-    pub record ServesOne (e e' : ExecutorView N) : Type 0 where
-      pub at : ℕ
-      pub between : ExecutorView N
-      pub reads : Moves Read at e between
-      pub writes : Moves Out at between e'
+  -- The head of one channel made a read step and then a write, or one of these, or none.
+  pub record ServesOne (e e' : ExecutorView N) : Type 0 where
+    pub at : ℕ
+    pub between : ExecutorView N
+    pub reads : Moves Read at e between
+    pub writes : Moves Out at between e'
 
-    -- What one turn does (EventLoop): at most one is handed over, then one taken, then one channel served.
-    pub record Turns (e e' : ExecutorView N) : Type 0 where
-      pub handed : ExecutorView N
-      pub ran : ExecutorView N
-      pub hands : Hands e handed
-      pub tasks : Tasks handed ran
-      pub serves : ServesOne ran e'
+  -- What one turn does (EventLoop): at most one is handed over, then one taken, then one channel served.
+  pub record Turns (e e' : ExecutorView N) : Type 0 where
+    pub handed : ExecutorView N
+    pub ran : ExecutorView N
+    pub hands : Hands e handed
+    pub tasks : Tasks handed ran
+    pub serves : ServesOne ran e'
 
 -- The executor that a thread is to run, by its number and its right to its queue, its first turn there, and who is told of it.
 pub record Threaded (G : Type 0) : Type 0 where

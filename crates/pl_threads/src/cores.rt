@@ -40,7 +40,7 @@ impl<'a, W: Named, M: Mailbox<W> + Drop, N: Nodes<W> + Drop> Core<'a, W, M, N> {
         ensures served { ServesNone (N.served self.old.nodes) (N.served self.new.nodes) }
         ensures taken { TakesOwn (N.view_of self.old.nodes).lanes (N.view_of self.new.nodes).lanes }
         // Its node takes the front. Or it waits for another executor; or that was found closed, and its writer has given up.
-        ensures front { result ≡ true → (front : Envelope) × FrontGoes N.view_of N.took N.refused_by N.gave_up self.old.number front (at_work self.old) (at_work self.new) }
+        ensures front { result ≡ true → (front : Envelope) × FrontGoes N.view_of N.acts self.old.number front (at_work self.old) (at_work self.new) }
         ensures empty { result ≡ false → (self.old.work.items ≡ []) × (self.new.work.items ≡ []) × (self.new.nodes ≡ self.old.nodes) × (self.new.outboxes ≡ self.old.outboxes) }
     {
         let Some(envelope) = self.work.next() else {
@@ -71,7 +71,7 @@ impl<'a, W: Named, M: Mailbox<W> + Drop, N: Nodes<W> + Drop> Core<'a, W, M, N> {
         ensures keeps { CoreKeeps N.view_of self.old self.new }
         ensures served { ServesNone (N.served self.old.nodes) (N.served self.new.nodes) }
         ensures taken { (N.view_of self.new.nodes).lanes.taken ≡ taken_with (N.view_of self.old.nodes).lanes.taken task }
-        ensures took { N.took self.old.nodes task self.old.work self.new.nodes self.new.work }
+        ensures takes { N.acts.takes self.old.nodes task self.old.work self.new.nodes self.new.work }
         ensures outboxes { self.new.outboxes ≡ self.old.outboxes }
     {
         self.nodes.take(task, &mut self.work);
@@ -85,7 +85,7 @@ impl<'a, W: Named, M: Mailbox<W> + Drop, N: Nodes<W> + Drop> Core<'a, W, M, N> {
         ensures served { ServesNone (N.served self.old.nodes) (N.served self.new.nodes) }
         ensures taken { TakesOwn (N.view_of self.old.nodes).lanes (N.view_of self.new.nodes).lanes }
         ensures empty { self.new.work.items ≡ [] }
-        ensures works { WorksOff N.view_of N.took N.refused_by N.gave_up self.old.number (at_work self.old) self.new.nodes self.new.outboxes }
+        ensures works { WorksOff N.view_of N.acts self.old.number (at_work self.old) self.new.nodes self.new.outboxes }
     {
         for _ in rt.forever() {
             if !self.step() {
@@ -107,7 +107,7 @@ impl<'a, W: Named, M: Mailbox<W> + Drop, N: Nodes<W> + Drop> Core<'a, W, M, N> {
         ensures served { MovesAtMostOnce by (N.served self.old.nodes) (N.served self.new.nodes) }
         ensures taken { TakesOwn (N.view_of self.old.nodes).lanes (N.view_of self.new.nodes).lanes }
         ensures empty { self.new.work.items ≡ [] }
-        ensures moved { result ≡ true → WorksOffAfter N.view_of N.took N.refused_by N.gave_up self.old.number (N.moved self.old.nodes by channel self.old.work) self.old.outboxes self.new.nodes self.new.outboxes }
+        ensures moves { result ≡ true → WorksOffAfter N.view_of N.acts self.old.number (N.acts.moves self.old.nodes by channel self.old.work) self.old.outboxes self.new.nodes self.new.outboxes }
     {
         if !self.nodes.move_head(by, channel, &mut self.work) {
             return false;

@@ -124,7 +124,7 @@ impl<'a, W: Named, M: Mailbox<W> + Drop, N: Nodes<W> + Drop> Executor<'a, W, M, 
         // No channel makes more than one read step, or more than one call of its transport.
         ensures served { ServesAtMostOnce (N.served self.old.nodes) (N.served self.new.nodes) }
         // What it did, one after another; its own queue and the turn's number aside.
-        ensures does { Turns N.view_of N.took N.refused_by N.gave_up N.moved self.old (record self.new { owner = self.old.owner; turns = self.old.turns }) }
+        ensures does { Turns N.view_of N.acts self.old (record self.new { owner = self.old.owner; turns = self.old.turns }) }
         ensures idle { result ≢ Worked → IsStill self.old self.new × ((c : ℕ) → c < (N.view_of self.new.nodes).channels → (by : HeadMove) → N.may_move self.new.nodes by c false) }
         ensures done { result ≡ Done → (is_closed self.new.owner.phase ≡ true) × N.are_over self.new.nodes × ((y : ℕ) → waits_for self.new.outboxes y ≡ []) }
         ensures name { self.new.owner.name ≡ self.old.owner.name }
@@ -156,7 +156,7 @@ impl<'a, W: Named, M: Mailbox<W> + Drop, N: Nodes<W> + Drop> Executor<'a, W, M, 
         ensures takes { TakesAtMostOne self.old self.new }
         ensures sends { SendsAtMostOne self.old.outboxes self.new.outboxes }
         ensures served { ServesAtMostOnce (N.served self.old.nodes) (N.served self.new.nodes) }
-        ensures does { Turns N.view_of N.took N.refused_by N.gave_up N.moved self.old self.new }
+        ensures does { Turns N.view_of N.acts self.old self.new }
         ensures idle { result ≡ false → IsStill self.old self.new × ((c : ℕ) → c < (N.view_of self.new.nodes).channels → (by : HeadMove) → N.may_move self.new.nodes by c false) }
     {
         let handed = self.hand(rt, gate).is_some();
@@ -173,7 +173,7 @@ impl<'a, W: Named, M: Mailbox<W> + Drop, N: Nodes<W> + Drop> Executor<'a, W, M, 
     pub fn run_task<R: Wait, G: Gate>(&mut self, rt: &R, gate: &G) -> bool
         requires entered { G.was_entered gate.now self.old.number self.old.turns }
         ensures number { self.new.number ≡ self.old.number }
-        ensures task { result ≡ true → TakesOne N.view_of N.took N.refused_by N.gave_up self.old self.new }
+        ensures task { result ≡ true → TakesOne N.view_of N.acts self.old self.new }
         ensures none { result ≡ false → self.new ≡ self.old }
         ensures sends { SendsNothing self.old.outboxes self.new.outboxes }
         ensures served { ServesNone (N.served self.old.nodes) (N.served self.new.nodes) }
@@ -218,7 +218,7 @@ impl<'a, W: Named, M: Mailbox<W> + Drop, N: Nodes<W> + Drop> Executor<'a, W, M, 
     fn serve_one<R: Wait>(&mut self, rt: &R, handed: bool)
         ensures serves { OnlyServes self.old self.new }
         ensures served { ServesAtMostOnce (N.served self.old.nodes) (N.served self.new.nodes) }
-        ensures moves { ServesOne N.view_of N.took N.refused_by N.gave_up N.moved self.old self.new }
+        ensures moves { ServesOne N.view_of N.acts self.old self.new }
     {
         let count = self.channels();
         if count == 0 {
@@ -237,7 +237,7 @@ impl<'a, W: Named, M: Mailbox<W> + Drop, N: Nodes<W> + Drop> Executor<'a, W, M, 
     fn serve_first<R: Wait>(&mut self, rt: &R) -> bool
         ensures serves { OnlyServes self.old self.new }
         ensures served { ServesAtMostOnce (N.served self.old.nodes) (N.served self.new.nodes) }
-        ensures moves { ServesOne N.view_of N.took N.refused_by N.gave_up N.moved self.old self.new }
+        ensures moves { ServesOne N.view_of N.acts self.old self.new }
         ensures idle { result ≡ false → (self.new ≡ self.old) × ((c : ℕ) → c < (N.view_of self.new.nodes).channels → (by : HeadMove) → N.may_move self.new.nodes by c false) }
     {
         let count = self.channels();
@@ -253,7 +253,7 @@ impl<'a, W: Named, M: Mailbox<W> + Drop, N: Nodes<W> + Drop> Executor<'a, W, M, 
         requires there { to ≤ (N.view_of self.old.nodes).channels }
         ensures serves { OnlyServes self.old self.new }
         ensures served { ServesAtMostOnce (N.served self.old.nodes) (N.served self.new.nodes) }
-        ensures moves { ServesOne N.view_of N.took N.refused_by N.gave_up N.moved self.old self.new }
+        ensures moves { ServesOne N.view_of N.acts self.old self.new }
         ensures same { result ≡ false → self.new ≡ self.old }
         ensures idle { result ≡ false → (c : ℕ) → from ≤ c → c < to → (by : HeadMove) → N.may_move self.old.nodes by c false }
     {
@@ -277,7 +277,7 @@ impl<'a, W: Named, M: Mailbox<W> + Drop, N: Nodes<W> + Drop> Executor<'a, W, M, 
         requires there { channel < (N.view_of self.old.nodes).channels }
         ensures serves { OnlyServes self.old self.new }
         ensures served { ServesAtMostOnce (N.served self.old.nodes) (N.served self.new.nodes) }
-        ensures moves { ServesOne N.view_of N.took N.refused_by N.gave_up N.moved self.old self.new }
+        ensures moves { ServesOne N.view_of N.acts self.old self.new }
         ensures idle { result ≡ false → (self.new ≡ self.old) × ((by : HeadMove) → N.may_move self.old.nodes by channel false) }
     {
         let has_read = self.move_head(rt, HeadMove::Read, channel);
@@ -293,7 +293,7 @@ impl<'a, W: Named, M: Mailbox<W> + Drop, N: Nodes<W> + Drop> Executor<'a, W, M, 
         ensures count { (N.view_of self.new.nodes).channels ≡ (N.view_of self.old.nodes).channels }
         ensures enabled { N.may_move self.old.nodes by channel result }
         ensures idle { result ≡ false → self.new ≡ self.old }
-        ensures moves { result ≡ true → MovesHead N.view_of N.took N.refused_by N.gave_up N.moved by channel self.old self.new }
+        ensures moves { result ≡ true → MovesHead N.view_of N.acts by channel self.old self.new }
     {
         self.core.move_head(rt, by, channel)
     }

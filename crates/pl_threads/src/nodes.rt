@@ -1,14 +1,11 @@
 //! What an executor runs: contexts, tails and heads.
 
 ghost use Rattle.std.specs.Prelude.{◌≡◌, ◌<◌, ℕ, Bool, false, true};
-ghost use Rattle.pl_event.specs.declared.envelopes.Envelope.{Envelope};
-ghost use Rattle.pl_event.specs.declared.envelopes.Lane.{Lane};
-ghost use Rattle.pl_context.specs.OutputsViews.{OutputsView};
 ghost use Rattle.pl_context.specs.Stops.{HasPlaces};
 ghost use Rattle.pl_flow.specs.declared.moves.HeadMove.{HeadMove};
 ghost use Rattle.pl_flow.specs.Flows.{IsGood};
 ghost use Rattle.pl_flow.specs.LanesViews.{KeepsPlaces, taken_with};
-ghost use Rattle.pl_threads.specs.NodesViews.{OwnNodesView, NodesKeep, LanesMake};
+ghost use Rattle.pl_threads.specs.NodesViews.{OwnNodesView, NodesActs, NodesKeep, LanesMake};
 ghost use Rattle.pl_threads.specs.Serving.{Served, ServesNone, MovesAtMostOnce};
 
 use pl_context::Outputs;
@@ -21,15 +18,10 @@ pub trait Nodes<W: Named>: Sized {
     /// of them is entered. A call names a channel whose head is among them by its place.
     ghost view_of: { Self → OwnNodesView };
 
-    /// The node that writes a lane has given up, since nothing more of the lane is accepted: it has ended or failed, where
-    /// it is a context and the lane brings data. A head, and a lane of flags, go on.
-    ghost gave_up: { Self → Lane → Type 0 };
-
-    /// The number of the channel at a place.
-    ghost channel_at: { Self → ℕ → ℕ };
-
-    /// By the number of a channel: what others are told of it is how its head stands, where that is one of these nodes.
-    ghost tells: { Self → ℕ → Type 0 } = { λ n c. Unit {0} };
+    /// What they do: what the node that an item enters makes of it; what becomes of them where an item of a lane is refused;
+    /// what the head of the channel at a place does in a move. A context whose data lane was refused has given up: it has
+    /// ended or failed. A head, and a lane of flags, go on.
+    ghost acts: { NodesActs Self };
 
     /// Whether a move of the head of a channel is enabled: that head is one of these nodes, and a read step is left and not
     /// held, or a flushed byte waits and the head has not failed.
@@ -44,15 +36,6 @@ pub trait Nodes<W: Named>: Sized {
     /// What holds of them between two calls.
     ghost stands: { Self → Type 0 };
 
-    /// What the node that an item enters makes of it, with the work list before and after.
-    ghost took: { Self → Envelope → OutputsView → Self → OutputsView → Type 0 };
-
-    /// What becomes of them where an item of a lane is refused, with the work list before and after.
-    ghost refused_by: { Self → Lane → OutputsView → Self → OutputsView → Type 0 };
-
-    /// What the head of the channel at a place does in a move, with the work list before and after.
-    ghost moved: { Self → HeadMove → ℕ → OutputsView → Self → OutputsView → Type 0 };
-
     /// The executor that a lane enters.
     fn target(&self, lane: Lane) -> usize
         ensures { result ≡ (view_of self.now).lanes.target lane };
@@ -64,15 +47,14 @@ pub trait Nodes<W: Named>: Sized {
         requires number { envelope.number ≡ (view_of self.old).lanes.taken envelope.lane }
         requires good { IsGood W.world envelope }
         requires places { HasPlaces work.old.stopped (view_of self.old).lanes.places }
-        ensures took { took self.old envelope work.old self.new work.new }
+        ensures takes { acts.takes self.old envelope work.old self.new work.new }
         ensures stands { stands self.new }
         ensures keeps { NodesKeep (view_of self.old) (view_of self.new) }
         ensures taken { (view_of self.new).lanes.taken ≡ taken_with (view_of self.old).lanes.taken envelope }
         ensures placed { KeepsPlaces (view_of self.old).lanes.places work.old.stopped work.new.stopped }
         ensures refused { (view_of self.new).was_refused ≡ (view_of self.old).was_refused }
         ensures served { ServesNone (served self.old) (served self.new) }
-        ensures tells { tells self.new envelope.lane.channel }
-        ensures made { LanesMake W.world (view_of self.old).lanes work.old (view_of self.new).lanes work.new };
+        ensures makes { LanesMake W.world (view_of self.old).lanes work.old (view_of self.new).lanes work.new };
 
     /// Nothing more of a lane is accepted: the context that writes it fails. A flags lane, and a lane that a head writes,
     /// go on, and what they bring is refused again.
@@ -84,9 +66,9 @@ pub trait Nodes<W: Named>: Sized {
         ensures taken { (view_of self.new).lanes.taken ≡ (view_of self.old).lanes.taken }
         ensures placed { KeepsPlaces (view_of self.old).lanes.places work.old.stopped work.new.stopped }
         ensures served { ServesNone (served self.old) (served self.new) }
-        ensures gave_up { gave_up self.new lane }
-        ensures refused_by { refused_by self.old lane work.old self.new work.new }
-        ensures made { LanesMake W.world (view_of self.old).lanes work.old (view_of self.new).lanes work.new };
+        ensures gave_up { acts.gave_up self.new lane }
+        ensures refuses { acts.refuses self.old lane work.old self.new work.new }
+        ensures makes { LanesMake W.world (view_of self.old).lanes work.old (view_of self.new).lanes work.new };
 
     /// How many channels have their heads among these nodes: those that a turn reads and writes.
     fn channels(&self) -> usize
@@ -99,15 +81,14 @@ pub trait Nodes<W: Named>: Sized {
         requires places { HasPlaces work.old.stopped (view_of self.old).lanes.places }
         ensures enabled { may_move self.old by channel result }
         ensures idle { result ≡ false → (self.new ≡ self.old) × (work.new ≡ work.old) }
-        ensures moved { result ≡ true → moved self.old by channel work.old self.new work.new }
+        ensures moves { result ≡ true → acts.moves self.old by channel work.old self.new work.new }
         ensures stands { stands self.new }
         ensures keeps { NodesKeep (view_of self.old) (view_of self.new) }
         ensures taken { (view_of self.new).lanes.taken ≡ (view_of self.old).lanes.taken }
         ensures placed { KeepsPlaces (view_of self.old).lanes.places work.old.stopped work.new.stopped }
         ensures refused { (view_of self.new).was_refused ≡ (view_of self.old).was_refused }
         ensures served { MovesAtMostOnce by (served self.old) (served self.new) }
-        ensures tells { result ≡ true → tells self.new (channel_at self.new channel) }
-        ensures made { LanesMake W.world (view_of self.old).lanes work.old (view_of self.new).lanes work.new };
+        ensures makes { LanesMake W.world (view_of self.old).lanes work.old (view_of self.new).lanes work.new };
 
     /// Whether each of them has ended or failed, and no read step and no flushed byte is left.
     fn has_ended(&self) -> bool

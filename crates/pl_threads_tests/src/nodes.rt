@@ -145,9 +145,12 @@ impl<W: Named> Nodes<W> for Node {
     ghost view_of = { node_view };
 
     // Where a flag was refused no more are made for that executor.
-    ghost gave_up = { λ n lane. has_given_up n lane ≡ true };
-
-    ghost channel_at = { λ n place. 0 };
+    ghost acts = { record {
+      takes = λ n envelope before n' after. n'.taken ≡ envelope.number + 1;
+      refuses = λ n lane before n' after. after ≡ before;
+      gave_up = λ n lane. has_given_up n lane ≡ true;
+      moves = λ n by place before n' after. n'.taken ≡ n.taken;
+    } };
 
     ghost may_move = { λ n by channel answer. answer ≡ is_enabled n by };
 
@@ -157,12 +160,6 @@ impl<W: Named> Nodes<W> for Node {
     ghost are_over = { λ n. HasEnded n };
 
     ghost stands = { λ n. NodeStands n };
-
-    ghost took = { λ n envelope before n' after. n'.taken ≡ envelope.number + 1 };
-
-    ghost refused_by = { λ n lane before n' after. after ≡ before };
-
-    ghost moved = { λ n by place before n' after. n'.taken ≡ n.taken };
 
     fn target(&self, lane: Lane) -> usize {
         if lane.channel == lane.hop && matches!(lane.kind, Kind::Flags) {

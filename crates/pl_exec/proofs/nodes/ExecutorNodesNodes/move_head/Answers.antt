@@ -1,5 +1,4 @@
 use Rattle.std.proofs.Common.{◌≡◌, ℕ, Bool, get_or, set, slice_get, Some, refl, ap, sym, subst, ◌∙◌, arith}
-use Rattle.std.specs.Global.{Vec}
 use Rattle.std.proofs.lemmas.List.{length-set}
 use Rattle.std.proofs.lemmas.Option.{get_or_from_slice_get}
 use Rattle.pl_part.specs.Parts.{ChannelPartView, PartMoves, head_hop}
@@ -8,7 +7,7 @@ use Rattle.pl_channel.proofs.Vecs.{put-back}
 use Rattle.pl_channel.proofs.HeadMoves.{moves-idle}
 use Rattle.pl_channel.proofs.OneChannel.{places-of, places-stay, taken-none}
 use Rattle.pl_exec.specs.ExecutorNodes.{served_of}
-use Rattle.pl_exec.specs.Telling.{IsToldAt, KeepsOthers, SettlesAt, TellsAt}
+use Rattle.pl_exec.specs.Telling.{IsToldAt, KeepsOthers, SettlesAt}
 use Rattle.pl_exec.proofs.HeadLists.{own-channel, own-part, own-within, heads-stay}
 use Rattle.pl_exec.proofs.ExecutorNodeLemmas.{made-here, routes-keep}
 use Rattle.pl_exec.proofs.OverLemmas.{may-move-here}
@@ -129,13 +128,13 @@ returns-clause-placed g c =
 pub returns-clause-refused : goal.returns-clause-refused
 returns-clause-refused g c = c.tell_if.ensures.told.refused
 
-pub returns-clause-made : goal.returns-clause-made
-returns-clause-made g c =
+pub returns-clause-makes : goal.returns-clause-makes
+returns-clause-makes g c =
     let n = c.args.self.now in
     let channel = c.index-channel.result.now in
     let p = c.index_mut.result.now in
     let m = c.move_head-has_moved in
-    let was = own g (goal.at.returns-clause-made g c).After-index_mut in
+    let was = own g (goal.at.returns-clause-makes g c).After-index_mut in
     makes-told _ c.tell_if.new.self channel c.tell_if.ensures.told g.S.Stage.meaning c.args.self.now g.W.Named.world
     (made-here n.parts.items channel p m.new.self was g.W.Named.world g.W.Planned.plan g.S.Stage.meaning g.S.Stage.stands_after g.T.Transport.state n.number n.was_refused c.requires.stands.nodes
     (head_hop p) c.args.work.now m.new.work m.ensures.given.puts.others (m.ensures.given.made g.W.Named.world (c.requires.stands.nodes.parts channel p was).holds))
@@ -155,19 +154,13 @@ returns-clause-served g c =
     (move-serves state g.T.Transport.may_refuse g.W.Named.world g.S.Stage.meaning g.S.Stage.stands_after p m.new.self c.args.work.now m.new.work c.args.by m.result
     (nodes.parts channel p was).holds m.ensures.moves (slice_get plan.channels channel) (λ q at. nodes.keeps.each channel q p at was)))
 
-pub returns-clause-tells : goal.returns-clause-tells
-returns-clause-tells g c = λ _.
-    let now = c.tell_if.new.self in
-    subst (TellsAt now.seats.items now.parts.items)
-    (at-place g (goal.at.returns-clause-tells g c).After-index_mut ∙ sym (ap (λ (v : Vec ℕ). get_or v.items c.args.at 0) c.tell_if.ensures.told.own)) c.tell_if.ensures.tells
-
-pub returns-clause-moved : goal.returns-clause-moved
-returns-clause-moved g c = λ made.
+pub returns-clause-moves : goal.returns-clause-moves
+returns-clause-moves g c = λ made.
     let n = c.args.self.now in
     let now = c.tell_if.new.self in
     let p = c.index_mut.result.now in
     let m = c.move_head-has_moved in
-    let stand = (goal.at.returns-clause-moved g c).After-index_mut in
+    let stand = (goal.at.returns-clause-moves g c).After-index_mut in
     let at = at-place g stand in
     let between = set n.parts.items c.index-channel.result.now m.new.self in
     record {

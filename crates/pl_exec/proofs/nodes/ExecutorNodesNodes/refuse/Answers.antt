@@ -72,8 +72,8 @@ returns-then-channel-len-clause-taken g c = taken-none c.args.self.now.parts.ite
 pub returns-then-channel-len-clause-placed : goal.returns-then-channel-len-clause-placed
 returns-then-channel-len-clause-placed g c = places-stay c.args.self.now.parts.items c.args.lane.channel c.index_mut.result.now c.refuse.new.self (own g c) c.args.work.now c.refuse.new.work c.refuse.ensures.refused.puts.placed
 
-pub returns-then-channel-len-clause-made : goal.returns-then-channel-len-clause-made
-returns-then-channel-len-clause-made g c =
+pub returns-then-channel-len-clause-makes : goal.returns-then-channel-len-clause-makes
+returns-then-channel-len-clause-makes g c =
     let ps = c.args.self.now.parts.items in
     let p = c.index_mut.result.now in
     let s = c.requires.stands.nodes in
@@ -113,8 +113,8 @@ returns-else-channel-len-clause-gave_up g c p x at kind here =
     absurd (omega (arith, within, size, past))
 
 -- the part of its channel refuses it so, and no other part
-pub returns-then-channel-len-clause-refused_by : goal.returns-then-channel-len-clause-refused_by
-returns-then-channel-len-clause-refused_by g c = (
+pub returns-then-channel-len-clause-refuses : goal.returns-then-channel-len-clause-refuses
+returns-then-channel-len-clause-refuses g c = (
   record {
     here = λ p at. record {
       before = c.index_mut.result.now;
@@ -129,8 +129,8 @@ returns-then-channel-len-clause-refused_by g c = (
   refl,
 )
 
-pub returns-else-channel-len-clause-refused_by : goal.returns-else-channel-len-clause-refused_by
-returns-else-channel-len-clause-refused_by g c = (
+pub returns-else-channel-len-clause-refuses : goal.returns-else-channel-len-clause-refuses
+returns-else-channel-len-clause-refuses g c = (
   record {
     here = λ p at.
         let within = slice_get_within c.args.self.now.parts.items c.args.lane.channel p at in

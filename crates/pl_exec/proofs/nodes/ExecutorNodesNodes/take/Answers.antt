@@ -106,12 +106,12 @@ returns-clause-placed g c =
 pub returns-clause-refused : goal.returns-clause-refused
 returns-clause-refused g c = c.tell_if.ensures.told.refused
 
-pub returns-clause-made : goal.returns-clause-made
-returns-clause-made g c =
+pub returns-clause-makes : goal.returns-clause-makes
+returns-clause-makes g c =
     let n = c.args.self.now in
     let e = c.args.envelope in
     let p = c.index_mut-part.result.now in
-    let was = own g (goal.at.returns-clause-made g c).After-index_mut-part in
+    let was = own g (goal.at.returns-clause-makes g c).After-index_mut-part in
     makes-told _ c.tell_if.new.self e.lane.channel c.tell_if.ensures.told g.S.Stage.meaning c.args.self.now g.W.Named.world
     (made-here n.parts.items e.lane.channel p c.take.new.self was g.W.Named.world g.W.Planned.plan g.S.Stage.meaning g.S.Stage.stands_after g.T.Transport.state n.number n.was_refused c.requires.stands.nodes
     e.lane.hop c.args.work.now c.take.new.work c.take.ensures.puts.others (c.take.ensures.made g.W.Named.world (c.requires.stands.nodes.parts e.lane.channel p was).holds c.requires.good))
@@ -125,16 +125,13 @@ returns-clause-served g c k =
     ∙ serves-none state g.W.Planned.plan c.args.self.now.parts.items ch p c.take.new.self (own g (goal.at.returns-clause-served g c).After-index_mut-part)
     (λ q. take-serves state g.S.Stage.meaning g.S.Stage.stands_after g.S.Stage.is_spent p c.take.new.self c.args.envelope c.args.work.now c.take.new.work c.take.result c.take.ensures.puts.same c.take.ensures.takes q) k
 
-pub returns-clause-tells : goal.returns-clause-tells
-returns-clause-tells g c = c.tell_if.ensures.tells
-
-pub returns-clause-took : goal.returns-clause-took
-returns-clause-took g c = record {
+pub returns-clause-takes : goal.returns-clause-takes
+returns-clause-takes g c = record {
   between = set c.args.self.now.parts.items c.args.envelope.lane.channel c.take.new.self;
   done = record {
     before = c.index_mut-part.result.now;
     after = c.take.new.self;
-    was = own g (goal.at.returns-clause-took g c).After-index_mut-part;
+    was = own g (goal.at.returns-clause-takes g c).After-index_mut-part;
     becomes = refl;
     same = c.take.ensures.puts.same;
     done = (c.take.result, c.take.ensures.takes);

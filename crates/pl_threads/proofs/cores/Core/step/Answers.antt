@@ -32,7 +32,7 @@ returns-then-target-self-clause-holds g c =
     let v = (g.N.Nodes.view_of nodes).lanes in
     holds-on nodes c.next.new.self (taken_with v.taken c.in-Some.envelope) holds.at_home (subst (λ (s : StopsView). HasPlaces s v.places) (sym stopped) holds.places)
     (own-taken c.next.new.self holds.runs front stopped (sym c.target-target.ensures ∙ c.if-target-self.true)) (admits_front c.args.self.now.outboxes c.next.new.self holds.admits front stopped (omega arith))
-    take.stands take.keeps take.taken take.placed take.made (λ e. holds.why (sym take.refused ∙ e))
+    take.stands take.keeps take.taken take.placed take.makes (λ e. holds.why (sym take.refused ∙ e))
 
 -- ---- to another executor
 
@@ -64,7 +64,7 @@ returns-in-Err-Closed-clause-holds g c =
     let v = (g.N.Nodes.view_of nodes).lanes in
     holds-on nodes c.next.new.self v.taken holds.at_home (subst (λ (s : StopsView). HasPlaces s v.places) (sym stopped) holds.places)
     (away-added c.next.new.self holds.runs front stopped c.add.new.self (λ e. c.if-target-self.false (c.target-target.ensures ∙ e)) adds) (admits_front c.add.new.self c.next.new.self holds.admits front stopped adds.made)
-    refuse.stands refuse.keeps refuse.taken refuse.placed refuse.made
+    refuse.stands refuse.keeps refuse.taken refuse.placed refuse.makes
     (λ e. refused-some o c.add.new.self c.target-target.result (subst (λ (r : Refused). RefusedBy o c.target-target.result r c.add.new.self) c.in-Err-Closed.field-0-is c.in-Err-Closed.ensures.refused))
 
 -- it waits there
@@ -91,7 +91,7 @@ returns-then-target-self-clause-front g c = λ _. (
   record {
     rest = c.next.new.self;
     is_front = record { items = c.in-Some.ensures.front; stopped = c.in-Some.ensures.stopped; room = c.in-Some.ensures.room };
-    here = λ e. (c.take.ensures.took, refl);
+    here = λ e. (c.take.ensures.takes, refl);
     away = λ other. absurd (other (sym c.target-target.ensures ∙ c.if-target-self.true));
   },
 )
@@ -109,7 +109,7 @@ returns-in-Err-Closed-clause-front g c = λ _.
           subst (λ (k : ℕ). RefusedBy o k Closed c.add.new.self) c.target-target.ensures
               (subst (λ (r : Refused). RefusedBy o c.target-target.result r c.add.new.self) c.in-Err-Closed.field-0-is c.in-Err-Closed.ensures.refused),
           c.refuse.ensures.gave_up,
-          c.refuse.ensures.refused_by,
+          c.refuse.ensures.refuses,
         );
       },
     )

@@ -23,5 +23,5 @@ pub returns-clause-moves : goal.returns-clause-moves
 returns-clause-moves g c =
     let after = c.move_head.new.self in
     let new : ExecutorView g.row.N.Denot = record { number = after.number; nodes = after.nodes; outboxes = after.outboxes; takes = g.M.Mailbox.ends.takes_of c.self.inside.taker; owner = c.self.inside.owner; turns = c.self.inside.turns } in
-    subst (λ (old : ExecutorView g.row.N.Denot). c.move_head.result ≡ true → MovesHead g.N.Nodes.view_of g.N.Nodes.took g.N.Nodes.refused_by g.N.Nodes.gave_up g.N.Nodes.moved c.args.by c.args.channel old new) c.self.view_is
-    (λ e. record { work = c.self.inside.core.work; empty = c.self.invariant.1; works = c.move_head.ensures.moved e })
+    subst (λ (old : ExecutorView g.row.N.Denot). c.move_head.result ≡ true → MovesHead g.N.Nodes.view_of g.N.Nodes.acts c.args.by c.args.channel old new) c.self.view_is
+    (λ e. record { work = c.self.inside.core.work; empty = c.self.invariant.1; works = c.move_head.ensures.moves e })

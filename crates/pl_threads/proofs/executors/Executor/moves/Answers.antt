@@ -22,7 +22,7 @@ returns-then-handed-clause-does g c =
       handed = c.hand.new.self;
       ran = c.run_task-ran.new.self;
       hands = hands-one c.args.self.now c.hand.new.self c.hand.result c.hand.ensures.same c.hand.ensures.handed c.hand.ensures.none;
-      tasks = tasks-one g.N.Nodes.view_of g.N.Nodes.took g.N.Nodes.refused_by g.N.Nodes.gave_up c.hand.new.self c.run_task-ran.new.self c.run_task-ran.result task.number task.owner task.turns task.none task.task;
+      tasks = tasks-one g.N.Nodes.view_of g.N.Nodes.acts c.hand.new.self c.run_task-ran.new.self c.run_task-ran.result task.number task.owner task.turns task.none task.task;
       serves = c.serve_one.ensures.moves;
     }
 
@@ -32,6 +32,6 @@ returns-clause-does g c =
       handed = c.hand.new.self;
       ran = c.run_task-ran.new.self;
       hands = hands-one c.args.self.now c.hand.new.self c.hand.result c.hand.ensures.same c.hand.ensures.handed c.hand.ensures.none;
-      tasks = tasks-one g.N.Nodes.view_of g.N.Nodes.took g.N.Nodes.refused_by g.N.Nodes.gave_up c.hand.new.self c.run_task-ran.new.self c.run_task-ran.result task.number task.owner task.turns task.none task.task;
+      tasks = tasks-one g.N.Nodes.view_of g.N.Nodes.acts c.hand.new.self c.run_task-ran.new.self c.run_task-ran.result task.number task.owner task.turns task.none task.task;
       serves = c.serve_first.ensures.moves;
     }

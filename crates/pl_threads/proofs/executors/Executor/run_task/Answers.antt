@@ -57,7 +57,7 @@ returns-in-Some-clause-task g c = λ _.
     let takes = g.M.Mailbox.ends.takes_of c.take.new.taker in
     let new : ExecutorView g.row.N.Denot = record { number = after.number; nodes = after.nodes; outboxes = after.outboxes; takes = takes; owner = c.self.inside.owner; turns = c.self.inside.turns } in
     subst
-    (λ (old : ExecutorView g.row.N.Denot). TakesOne g.N.Nodes.view_of g.N.Nodes.took g.N.Nodes.refused_by g.N.Nodes.gave_up old new)
+    (λ (old : ExecutorView g.row.N.Denot). TakesOne g.N.Nodes.view_of g.N.Nodes.acts old new)
     c.self.view_is (
       sym c.self.invariant.5.closed ∙ c.if-self.false,
       c.in-Some.envelope,
@@ -68,10 +68,10 @@ returns-in-Some-clause-task g c = λ _.
         works = record {
           nodes = mid.nodes;
           work = mid.work;
-          done = c.take-in-Some.ensures.took;
+          done = c.take-in-Some.ensures.takes;
           works =
               subst
-              (λ (z : ℕ × OutboxesView). WorksOff g.N.Nodes.view_of g.N.Nodes.took g.N.Nodes.refused_by g.N.Nodes.gave_up z.0 (record { nodes = mid.nodes; outboxes = z.1; work = mid.work }) after.nodes after.outboxes)
+              (λ (z : ℕ × OutboxesView). WorksOff g.N.Nodes.view_of g.N.Nodes.acts z.0 (record { nodes = mid.nodes; outboxes = z.1; work = mid.work }) after.nodes after.outboxes)
               (λ i. (c.take-in-Some.ensures.keeps.number i, c.take-in-Some.ensures.outboxes i)) c.work_off.ensures.works;
         };
       },

@@ -6,5 +6,5 @@ use Rattle.pl_threads.proofs.executors.Executor.serve_between.Goals as goal
 
 pub returns-clause-moves : goal.returns-clause-moves
 returns-clause-moves g c =
-    subst (λ (v : ExecutorView g.row.N.Denot). ServesOne g.N.Nodes.view_of g.N.Nodes.took g.N.Nodes.refused_by g.N.Nodes.gave_up g.N.Nodes.moved c.args.self.now v) (sym c.loop-channel.invariant.still)
-    (serves-none g.N.Nodes.view_of g.N.Nodes.took g.N.Nodes.refused_by g.N.Nodes.gave_up g.N.Nodes.moved c.args.self.now)
+    subst (λ (v : ExecutorView g.row.N.Denot). ServesOne g.N.Nodes.view_of g.N.Nodes.acts c.args.self.now v) (sym c.loop-channel.invariant.still)
+    (serves-none g.N.Nodes.view_of g.N.Nodes.acts c.args.self.now)

@@ -2,9 +2,9 @@ use Rattle.pl_threads.proofs.TurnLemmas.{serves-none, serves-write}
 use Rattle.pl_threads.proofs.executors.Executor.serve_one.Goals as goal
 
 pub returns-then-count-eq0-clause-moves : goal.returns-then-count-eq0-clause-moves
-returns-then-count-eq0-clause-moves g c = serves-none g.N.Nodes.view_of g.N.Nodes.took g.N.Nodes.refused_by g.N.Nodes.gave_up g.N.Nodes.moved c.args.self.now
+returns-then-count-eq0-clause-moves g c = serves-none g.N.Nodes.view_of g.N.Nodes.acts c.args.self.now
 
 pub returns-else-not-handed-clause-moves : goal.returns-else-not-handed-clause-moves
 returns-else-not-handed-clause-moves g c =
     let made = c.move_head.ensures in
-    serves-write g.N.Nodes.view_of g.N.Nodes.took g.N.Nodes.refused_by g.N.Nodes.gave_up g.N.Nodes.moved _ c.args.self.now c.move_head.new.self c.move_head.result made.serves made.idle made.moves
+    serves-write g.N.Nodes.view_of g.N.Nodes.acts _ c.args.self.now c.move_head.new.self c.move_head.result made.serves made.idle made.moves

@@ -1,5 +1,0 @@
-use Rattle.std.proofs.Common.{◌≡◌, ℕ, map, replicate}
-use Rattle.pl_channel.proofs.ways.no_places.Given as goal
-
-abbrev pub invariant-loop : goal.invariant-loop
-invariant-loop l = map (λ row. row.items) l.table.items ≡ replicate l.counter (replicate {A = ℕ} l.count 0)
