@@ -114,48 +114,57 @@ fn finish<W: Named, M: Mailbox<W> + Drop>(post: &Post<W, M>, owner: &mut PostOwn
     }
 }
 
-/// What a post of capacity 1 answers: to an attempt to close, to so many sends, and, once closing has begun, to an attempt to
-/// close, a take, an attempt to close, a send, a take and an attempt to close. None where memory was refused.
-pub fn answers<W: Named, M: Mailbox<W> + Drop, R: Wait>(
+/// What a post of capacity 1 answers.
+#[derive(Clone, Copy, Debug, PartialEq, Eq)]
+pub struct Answers<const SENDS: usize> {
+    /// To an attempt to close.
+    pub open: Answer,
+    /// To so many sends.
+    pub sends: [Answer; SENDS],
+    /// Once closing has begun: to an attempt to close, a take, an attempt to close, a send, a take and an attempt to close.
+    pub closing: [Answer; 6],
+}
+
+/// Opens it, and asks. None where memory was refused.
+pub fn open_and_ask<W: Named, M: Mailbox<W> + Drop, R: Wait, const SENDS: usize>(
     rt: &R,
     alloc: Global,
-    sends: u32,
-) -> Option<Vec<Answer>> {
+) -> Option<Answers<SENDS>>
+    requires few { SENDS < 2 ^ 32 }
+{
     let (post, seat, owner) = open_one::<W, M>(alloc, 1)?;
-    ask::<W, M, R>(rt, alloc, &post, seat, owner, sends)
+    Some(ask::<W, M, R, SENDS>(rt, &post, seat, owner))
 }
 
 // The same of a post that was opened.
-fn ask<W: Named, M: Mailbox<W> + Drop, R: Wait>(
+fn ask<W: Named, M: Mailbox<W> + Drop, R: Wait, const SENDS: usize>(
     rt: &R,
-    alloc: Global,
     post: &Post<W, M>,
     mut seat: PostSeat<W, M>,
     mut owner: PostOwner<W, M>,
-    sends: u32,
-) -> Option<Vec<Answer>>
+) -> Answers<SENDS>
+    requires few { SENDS < 2 ^ 32 }
     requires seat { IsSeatOf M.ends post.now seat × IsNext (flags_lane 0 0) 0 (M.ends.sends_of seat.sender) }
     requires owner { IsOwnerOf M.ends post.now owner }
 {
-    let mut answers = Vec::new(alloc);
-    answers.push(finish(post, &mut owner)).ok()?;
+    let open = finish(post, &mut owner);
+    let mut sends = [Answer::Nothing; SENDS];
     let mut next = 0;
-    for count in 0..sends {
-        let answer = send_next::<W, M, R>(rt, post, &mut seat, &mut next);
-        answers.push(answer).ok()?;
+    for turn in 0..SENDS {
+        sends[turn] = send_next::<W, M, R>(rt, post, &mut seat, &mut next);
     }
     post.begin_close(&mut owner);
-    answers.push(finish(post, &mut owner)).ok()?;
-    answers
-        .push(take_next::<W, M, R>(rt, post, &mut owner))
-        .ok()?;
-    answers.push(finish(post, &mut owner)).ok()?;
-    answers
-        .push(send_next::<W, M, R>(rt, post, &mut seat, &mut next))
-        .ok()?;
-    answers
-        .push(take_next::<W, M, R>(rt, post, &mut owner))
-        .ok()?;
-    answers.push(finish(post, &mut owner)).ok()?;
-    Some(answers)
+    let closing = [
+        finish(post, &mut owner),
+        take_next::<W, M, R>(rt, post, &mut owner),
+        finish(post, &mut owner),
+        send_next::<W, M, R>(rt, post, &mut seat, &mut next),
+        take_next::<W, M, R>(rt, post, &mut owner),
+        finish(post, &mut owner),
+    ];
+    Answers {
+        open,
+        sends,
+        closing,
+    }
 }

@@ -2,12 +2,12 @@
 
 use crate::feeding::{Closing, Fed};
 use crate::tests::answering::Answer::{self, Closed, Finished, Full, Nothing, Open, Sent, Took};
-use crate::tests::answering::answers;
+use crate::tests::answering::{Answers, open_and_ask};
 use crate::tests::four_senders::four_by;
 use crate::tests::loads::{BoxKind, EACH, EVENTS, Load, three_by, two_by};
 use pl_event::{Envelope, Item, Named};
 use pl_post::{Post, StillOpen, Unsent};
-use pl_queue::{Mailbox, RingBox, WaitingBox};
+use pl_queue::{Mailbox, OpenRefusal, RingBox, WaitingBox};
 use pl_queue_tests::{LIMITS, data_lane, event, lists};
 use std::alloc::Global;
 use std::marker::Brand;
@@ -79,8 +79,9 @@ fn assert_closing(rt: &impl Abort, closing: &Closing) {
 #[test]
 fn post_closes_under_load(rt: HostRuntime) -> Result<(), Fail> {
     for kind in EACH {
-        let load = two_by::<Brand, HostRuntime>(kind, &rt, rt.alloc());
-        assert_load(&rt, &load.ok_or("it was not opened")?);
+        let load = two_by::<Brand, HostRuntime>(kind, &rt, rt.alloc()).ok_or("it was not opened")?;
+        assert_load(&rt, &load);
+        drop(load);
     }
     Ok(())
 }
@@ -88,8 +89,11 @@ fn post_closes_under_load(rt: HostRuntime) -> Result<(), Fail> {
 #[test]
 fn three_feed_while_closing(rt: HostRuntime) -> Result<(), Fail> {
     for kind in EACH {
-        let closing = three_by::<Brand, HostRuntime>(kind, &rt, rt.alloc());
-        assert_closing(&rt, &closing.ok_or("it was not opened")?);
+        let closing = three_by::<Brand, HostRuntime>(kind, &rt, rt.alloc()).ok_or(
+            "it was not opened",
+        )?;
+        assert_closing(&rt, &closing);
+        drop(closing);
     }
     Ok(())
 }
@@ -130,55 +134,68 @@ const fn counted(count: u64, closing: bool) -> Answer {
     Open(StillOpen { count, closing })
 }
 
-// What is answered: first that the post is open, then to so many sends and, once closing has begun, to an attempt to close and
-// a take. After these the post closes, the next send finds it closed, and nothing is left to take.
-fn assert_answers<M: Mailbox<Brand> + Drop, R: Wait + Abort>(
-    rt: &R,
-    alloc: Global,
-    sends: u32,
-    answered: &[Answer],
-) -> Result<(), Fail> {
-    let mut expected = Vec::from_array(alloc, [counted(0, false)])?;
-    expected.extend_from_slice(answered)?;
-    expected.extend_from_slice([Finished, Closed, Nothing, Finished].as_slice())?;
-    let answers = answers::<Brand, M, R>(rt, alloc, sends).ok_or("no memory")?;
-    assert_eq!(rt; answers.as_slice(), expected.as_slice());
-    Ok(())
+// First the post is open; then so many sends are answered, and, once closing has begun, an attempt to close and a take. After
+// these the post closes, the next send finds it closed, and nothing is left to take.
+fn assert_answers<const SENDS: usize>(
+    rt: &impl Abort,
+    answers: Option<Answers<SENDS>>,
+    sends: [Answer; SENDS],
+    finish: Answer,
+    take: Answer,
+) {
+    let expected = Answers {
+        open: counted(0, false),
+        sends,
+        closing: [finish, take, Finished, Closed, Nothing, Finished],
+    };
+    assert_eq!(rt; answers, Some(expected));
 }
 
 // Of three sends into a ring of capacity 1 two find it full, and only the first is counted.
 #[test]
 fn full_gives_the_admission_back(rt: HostRuntime) -> Result<(), Fail> {
-    let answered = [Sent, Full, Full, counted(1, true), Took(0)];
-    assert_answers::<RingBox<Brand>, HostRuntime>(&rt, rt.alloc(), 3, answered.as_slice())
+    let answers = open_and_ask::<Brand, RingBox<Brand>, HostRuntime, 3>(&rt, rt.alloc());
+    assert_answers(&rt, answers, [Sent, Full, Full], counted(1, true), Took(0));
+    Ok(())
 }
 
 #[test]
 fn sends_takes_and_closes(rt: HostRuntime) -> Result<(), Fail> {
-    let answered = [Sent, counted(1, true), Took(0)];
-    assert_answers::<WaitingBox<Brand>, HostRuntime>(&rt, rt.alloc(), 1, answered.as_slice())
+    let answers = open_and_ask::<Brand, WaitingBox<Brand>, HostRuntime, 1>(&rt, rt.alloc());
+    assert_answers(&rt, answers, [Sent], counted(1, true), Took(0));
+    Ok(())
 }
 
 // With nothing sent it closes with nothing taken.
 #[test]
 fn closes_with_nothing_sent(rt: HostRuntime) -> Result<(), Fail> {
-    let answered = [Finished, Nothing];
-    assert_answers::<RingBox<Brand>, HostRuntime>(&rt, rt.alloc(), 0, answered.as_slice())
+    let answers = open_and_ask::<Brand, RingBox<Brand>, HostRuntime, 0>(&rt, rt.alloc());
+    assert_answers(&rt, answers, [], Finished, Nothing);
+    Ok(())
 }
 
-fn assert_limits<W: Named, M: Mailbox<W> + Drop>(
-    rt: &impl Abort,
+// Why no post is opened.
+fn refusal<W: Named, M: Mailbox<W> + Drop>(
     alloc: Global,
-) -> Result<(), Fail> {
-    for (lanes, senders, capacity, refusal) in LIMITS {
-        let opened = Post::<W, M>::open(alloc, lists(alloc, lanes, 1, senders)?, capacity);
-        assert_eq!(rt; opened.err(), refusal);
+    lanes: u16,
+    senders: u32,
+    capacity: usize,
+) -> Option<OpenRefusal> {
+    match lists(alloc, lanes, 1, senders) {
+        Ok(lists) => Post::<W, M>::open(alloc, lists, capacity).err(),
+        Err(_refused) => Some(OpenRefusal::Memory),
     }
-    Ok(())
+}
+
+fn assert_limits<W: Named, M: Mailbox<W> + Drop>(rt: &impl Abort, alloc: Global) {
+    for (lanes, senders, capacity, expected) in LIMITS {
+        assert_eq!(rt; refusal::<W, M>(alloc, lanes, senders, capacity), expected);
+    }
 }
 
 #[test]
 fn post_limits(rt: HostRuntime) -> Result<(), Fail> {
-    assert_limits::<Brand, RingBox<Brand>>(&rt, rt.alloc())?;
-    assert_limits::<Brand, WaitingBox<Brand>>(&rt, rt.alloc())
+    assert_limits::<Brand, RingBox<Brand>>(&rt, rt.alloc());
+    assert_limits::<Brand, WaitingBox<Brand>>(&rt, rt.alloc());
+    Ok(())
 }
