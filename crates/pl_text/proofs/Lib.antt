@@ -1,6 +1,6 @@
 pub mod SessionElements
 pub mod SessionMembers
-pub mod KeyNames
+pub mod HexTexts
 pub mod MovesNumbers
 pub mod MovesUnique
 pub mod MovesWords

@@ -79,15 +79,20 @@ abbrev pub write_lines : ℕ → List (Option Outcome) → List ℕ
 write_lines n [] = []
 write_lines n (o ∷ os) = decimal n ++ codes " " ++ outcome_text o ++ codes "\n" ++ write_lines (n + 1) os
 
+-- the bytes that a channel has sent, and its writes
+abbrev pub sent_text : ChannelReport → List ℕ
+sent_text r =
+    codes "bytes " ++ decimal (length r.bytes) ++ codes " " ++ hex_text r.bytes ++ codes "\n"
+    ++ codes "writes " ++ decimal (length r.writes) ++ codes "\n"
+    ++ write_lines 0 r.writes
+
 -- the lines of channel c
 abbrev pub channel_text : ℕ → ChannelReport → List ℕ
 channel_text c r =
     codes "channel " ++ decimal c ++ codes " " ++ stands_text r.stands ++ codes "\n"
     ++ codes "tail " ++ decimal (length r.tail) ++ codes "\n"
     ++ flat_map event_line r.tail
-    ++ codes "bytes " ++ decimal (length r.bytes) ++ codes " " ++ hex_text r.bytes ++ codes "\n"
-    ++ codes "writes " ++ decimal (length r.writes) ++ codes "\n"
-    ++ write_lines 0 r.writes
+    ++ sent_text r
 
 -- the lines of channels, from channel c on
 abbrev pub channels_text : ℕ → List ChannelReport → List ℕ

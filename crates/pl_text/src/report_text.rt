@@ -1,6 +1,6 @@
 //! Prints the text of a report.
 
-ghost use Rattle.std.specs.Prelude.{◌≡◌, Err, IfOk, OnOk, string_bytes};
+ghost use Rattle.std.specs.Prelude.{◌≡◌, Err, IfOk, OnOk};
 ghost use Rattle.std.specs.Io.KnownBytes.{Appends, Keeps};
 ghost use Rattle.pl_text.specs.declared.faults.PrintFault.TheVariants as fault;
 ghost use Rattle.pl_text.specs.ReportTexts.{report_text};
@@ -15,10 +15,10 @@ use std::alloc::{AllocError, Global};
 use std::io::Write;
 
 /// The text of a report.
-fn text_of(alloc: Global, report: &Report) -> Result<String, AllocError>
-    ensures { IfOk result (λ text. string_bytes text ≡ report_text report.now) }
+fn text_of(alloc: Global, report: &Report) -> Result<Vec<u8>, AllocError>
+    ensures { IfOk result (λ text. text.items ≡ report_text report.now) }
 {
-    let mut text = String::new(alloc);
+    let mut text = Vec::new(alloc);
     for (number, channel) in report.channels.as_slice().iter().enumerate() {
         add_channel(&mut text, number, channel)?;
     }
@@ -37,7 +37,7 @@ pub fn print_report<W: Write>(
     ensures memory { result ≡ Err fault.Memory → Keeps (W.contents writer.old) (W.contents writer.new) }
 {
     let text = text_of(alloc, report).map_err(|_| PrintFault::Memory)?;
-    match writer.write_all(text.as_str().as_bytes()) {
+    match writer.write_all(text.as_slice()) {
         Ok(()) => Ok(()),
         Err(_) => Err(PrintFault::Output),
     }
