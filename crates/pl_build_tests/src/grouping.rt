@@ -1,6 +1,6 @@
 //! Placing on loops and groups, and groups that are refused.
 
-use crate::sample::{Small, assert_numbers, built, line_protocol};
+use crate::sample::{Small, assert_counts, assert_numbers, built, line_protocol};
 use pl_build::{BuildFault, Groups, Placed};
 use std::process::Abort;
 use std::test::Fail;
@@ -9,7 +9,7 @@ use std::test::Fail;
 fn group_placing(rt: HostRuntime) -> Result<(), Fail> {
     let mut groups = Groups::new(rt.alloc(), 1, &[("g", 2)])?;
     assert_eq!(rt; groups.executors(), 3);
-    for executor in [1, 2, 1] {
+    for &executor in &[1, 2, 1] {
         let placed = built(line_protocol(rt.alloc(), Some("g"))?, &mut groups)?;
         assert_grouped(&rt, &placed, executor);
         let (inbound, outbound, executors) = placed.into_parts();
@@ -25,12 +25,10 @@ fn group_placing(rt: HostRuntime) -> Result<(), Fail> {
 
 /// The decoder and the service of a line protocol are on an executor, and all else is on executor 0.
 fn assert_grouped(rt: &impl Abort, placed: &Placed<Small>, executor: u16) {
-    assert_eq!(rt; placed.inbound(), 3);
-    assert_eq!(rt; placed.outbound(), 2);
-    assert_eq!(rt; placed.turn(), 2);
+    assert_counts(rt, placed, (3, 2, 2));
     for hop in 0..7u16 {
         let want = if hop == 1 || hop == 2 { executor } else { 0 };
-        assert_eq!(rt; placed.executor_of(hop), Some(want), "at hop {hop}");
+        assert!(rt; placed.executor_of(hop) == Some(want), "at hop {hop}");
     }
     assert_eq!(rt; placed.executor_of(7), None);
 }
@@ -38,7 +36,7 @@ fn assert_grouped(rt: &impl Abort, placed: &Placed<Small>, executor: u16) {
 #[test]
 fn channels_in_turn_on_loops(rt: HostRuntime) -> Result<(), Fail> {
     let mut groups = Groups::new(rt.alloc(), 2, &[("a", 1), ("b", 3)])?;
-    for (group, place, executor) in [
+    for &(group, place, executor) in &[
         (None, 0, 0),
         (Some("b"), 1, 3),
         (Some("a"), 0, 2),
@@ -66,7 +64,7 @@ fn most_executors(rt: HostRuntime) -> Result<(), Fail> {
         (63, &[("g", 1)]),
         (1, &[("g", 1), ("h", 62)]),
     ];
-    for (loops, groups) in cases {
+    for &(loops, groups) in &cases {
         let groups = Groups::new(rt.alloc(), loops, groups)?;
         assert_eq!(rt; groups.executors(), 64);
     }
@@ -83,11 +81,9 @@ fn group_refusals(rt: HostRuntime) {
         (1, &[("g", 0)], BuildFault::Limit),
         (1, &[("", 1)], BuildFault::Limit),
     ];
-    for (loops, groups, fault) in cases {
-        match Groups::new(rt.alloc(), loops, groups) {
-            Ok(_) => panic!(rt; "they are made"),
-            Err(refused) => assert_eq!(rt; refused, fault),
-        }
+    for &(loops, groups, fault) in &cases {
+        let refused = Groups::new(rt.alloc(), loops, groups).err();
+        assert!(rt; refused == Some(fault));
     }
     let loops_alone = Groups::new(rt.alloc(), 65, &[]).err();
     assert_eq!(rt; loops_alone, Some(BuildFault::Limit));

@@ -27,7 +27,8 @@ impl Stage for Small {
         self.direction
     }
 
-    fn step(&mut self, _event: Event, _up: &mut Vec<Event>, _down: &mut Vec<Event>) -> Stepped {
+    fn step(&mut self, event: Event, _up: &mut Vec<Event>, _down: &mut Vec<Event>) -> Stepped {
+        drop(event);
         Ok(Turned::Open)
     }
 
@@ -107,4 +108,19 @@ pub(crate) fn assert_numbers(rt: &impl Abort, chain: &[Small], want: &[u8]) {
     for (stage, number) in chain.iter().zip(want) {
         assert_eq!(rt; stage.number, *number);
     }
+}
+
+/// So many handlers are inbound, and outbound, and the turn is at this hop.
+pub(crate) fn assert_counts(rt: &impl Abort, placed: &Placed<Small>, counts: (u16, u16, u16)) {
+    assert_eq!(rt;
+        (placed.inbound(), placed.outbound(), placed.turn()),
+        counts
+    );
+}
+
+/// The two chains have the stages with these numbers.
+pub(crate) fn assert_chains(rt: &impl Abort, placed: Placed<Small>, up: &[u8], down: &[u8]) {
+    let (inbound, outbound) = placed.into_chains();
+    assert_numbers(rt, inbound.as_slice(), up);
+    assert_numbers(rt, outbound.as_slice(), down);
 }

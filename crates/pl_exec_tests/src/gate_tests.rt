@@ -1,6 +1,7 @@
 //! What a gate is told of the turns of executors.
 
 use crate::sessions::{PING, decoded_apart, on_loops};
+use crate::words_tests::assert_same;
 use pl_exec::{Gate, QueueKind, run};
 use pl_text::read_session;
 use pl_world::{Report, Stands};
@@ -135,7 +136,7 @@ fn gate_needs_two_threads(rt: HostRuntime) -> Result<(), Fail> {
         let meeting = Meeting::default();
         let report = ran(&rt, rt.alloc(), session.as_str(), queue, &meeting);
         assert!(rt; is_drained(report, 2));
-        assert_eq!(rt; meeting.met.load(Ordering::SeqCst), 2);
+        assert_same(&rt, meeting.met.load(Ordering::SeqCst), 2);
     }
     Ok(())
 }
@@ -147,7 +148,7 @@ fn turns_are_told_in_order(rt: HostRuntime) -> Result<(), Fail> {
         let counting = Counting::default();
         let report = ran(&rt, rt.alloc(), session.as_str(), queue, &counting);
         assert!(rt; is_drained(report, 1));
-        assert_eq!(rt; counting.wrong.load(Ordering::SeqCst), 0);
+        assert_same(&rt, counting.wrong.load(Ordering::SeqCst), 0);
         // `Active`, the line, `ReadComplete` and the end go to each of the two, at most one in each turn.
         assert!(rt; counting.first.load(Ordering::SeqCst) >= 4);
         assert!(rt; counting.second.load(Ordering::SeqCst) >= 4);
@@ -160,7 +161,7 @@ fn turns_are_told_in_order(rt: HostRuntime) -> Result<(), Fail> {
 /// turns in which nothing moved. Where a waiting queue is full it makes no further turn.
 #[test]
 fn queue_holds_its_capacity(rt: HostRuntime) -> Result<(), Fail> {
-    for (queue, capacity, looks, seen) in [
+    for &(queue, capacity, looks, seen) in &[
         (QueueKind::Ring, 3, LOOKS, 1),
         (QueueKind::Ring, 2, LOOKS_WHILE_FULL, 0),
         (QueueKind::Waiting, 4, LOOKS, 1),
@@ -174,7 +175,7 @@ fn queue_holds_its_capacity(rt: HostRuntime) -> Result<(), Fail> {
         };
         let report = ran(&rt, rt.alloc(), session.as_str(), queue, &behind);
         assert!(rt; is_drained(report, 1));
-        assert_eq!(rt; behind.seen.load(Ordering::SeqCst), seen);
+        assert_same(&rt, behind.seen.load(Ordering::SeqCst), seen);
     }
     Ok(())
 }

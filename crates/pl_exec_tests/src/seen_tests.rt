@@ -4,7 +4,7 @@ ghost use Rattle.std.specs.Prelude.{IfOk};
 ghost use Rattle.pl_exec.specs.SessionWords.{AreHeadSeatsOf, HaveMarksOf, IsReaderOf};
 
 use crate::sessions::{PING, decoded_apart, on_loops, with_channel};
-use crate::words_tests::pair;
+use crate::words_tests::{assert_same, pair};
 use pl_event::{Command, Event, Message, Outcome};
 use pl_exec::{Gate, HeadSeats, QueueKind, Reader, Words, run_with};
 use pl_text::read_session;
@@ -153,12 +153,16 @@ fn stays_unset(words: &Words, channel: usize, reader: &mut Reader, looks: u32) -
 
 /// A channel took PING and answered.
 fn has_answered(channel: &ChannelReport) -> bool {
-    let tail = channel.tail.as_slice();
+    let took_ping = matches!(
+        channel.tail.as_slice(),
+        [
+            Event::Active,
+            Event::Read(Message::Command(Command::Ping)),
+            Event::ReadComplete
+        ]
+    );
     channel.stands == Stands::Drained
-        && tail.len() == 3
-        && tail[0] == Event::Active
-        && tail[1] == Event::Read(Message::Command(Command::Ping))
-        && tail[2] == Event::ReadComplete
+        && took_ping
         && channel.bytes.as_slice() == b"+PONG\r\n".as_slice()
         && channel.writes.as_slice() == [Some(Outcome::Success)].as_slice()
 }
@@ -234,9 +238,10 @@ fn seen_while_running<R: Abort + Threads + Wait + Sync>(
         { watches(shared, reader) },
     );
     assert!(rt; is_seen);
-    assert_eq!(rt; shared.words.peek(0, 0, &mut later), Some(Outcome::Success));
-    assert_eq!(rt; shared.words.look(0, &mut later), ANSWERED);
-    assert_eq!(rt; shared.missed.load(Ordering::SeqCst), 0);
+    let first = shared.words.peek(0, 0, &mut later);
+    assert_same(rt, first, Some(Outcome::Success));
+    assert_same(rt, shared.words.look(0, &mut later), ANSWERED);
+    assert_same(rt, shared.missed.load(Ordering::SeqCst), 0);
     assert!(rt; report.is_some_and(|report| have_answered(&report, channels)));
     Ok(())
 }

@@ -8,6 +8,8 @@ use pl_exec::{HeadSeats, PROMISES, Reader, Words};
 use pl_text::read_session;
 use pl_words::watermark::Mark;
 use std::alloc::Global;
+use std::fmt::Debug;
+use std::process::Abort;
 use std::test::Fail;
 use std::thread;
 
@@ -38,41 +40,47 @@ pub(crate) fn pair(mut readers: Vec<Reader>) -> (Reader, Reader)
     (first, second)
 }
 
+/// Two values are the same.
+pub(crate) fn assert_same<T: Debug + PartialEq + Drop>(rt: &impl Abort, found: T, expected: T) {
+    assert_eq!(rt; found, expected);
+}
+
 #[test]
 fn fresh_words(rt: HostRuntime) -> Result<(), Fail> {
     let (words, _heads, mut reader, _other) = two_readers(rt.alloc())?;
-    assert_eq!(rt; words.look(0, &mut reader), FRESH);
-    assert_eq!(rt; words.look(1, &mut reader), FRESH);
-    assert_eq!(rt; words.peek(0, 0, &mut reader), None);
-    assert_eq!(rt; words.peek(1, u64::from(PROMISES) - 1, &mut reader), None);
+    assert_same(&rt, words.look(0, &mut reader), FRESH);
+    assert_same(&rt, words.look(1, &mut reader), FRESH);
+    assert_same(&rt, words.peek(0, 0, &mut reader), None);
+    let last = u64::from(PROMISES) - 1;
+    assert_same(&rt, words.peek(1, last, &mut reader), None);
     Ok(())
 }
 
 #[test]
 fn a_channel_that_is_not_there(rt: HostRuntime) -> Result<(), Fail> {
     let (words, _heads, mut reader, _other) = two_readers(rt.alloc())?;
-    assert_eq!(rt; words.look(2, &mut reader), None);
-    assert_eq!(rt; words.look(usize::MAX, &mut reader), None);
-    assert_eq!(rt; words.peek(2, 0, &mut reader), None);
-    assert_eq!(rt; words.look(1, &mut reader), FRESH);
+    assert_same(&rt, words.look(2, &mut reader), None);
+    assert_same(&rt, words.look(usize::MAX, &mut reader), None);
+    assert_same(&rt, words.peek(2, 0, &mut reader), None);
+    assert_same(&rt, words.look(1, &mut reader), FRESH);
     Ok(())
 }
 
 #[test]
 fn a_void_promise(rt: HostRuntime) -> Result<(), Fail> {
     let (words, _heads, mut reader, _other) = two_readers(rt.alloc())?;
-    assert_eq!(rt; words.peek(0, u64::from(PROMISES), &mut reader), None);
-    assert_eq!(rt; words.peek(0, u64::MAX, &mut reader), None);
+    assert_same(&rt, words.peek(0, u64::from(PROMISES), &mut reader), None);
+    assert_same(&rt, words.peek(0, u64::MAX, &mut reader), None);
     Ok(())
 }
 
 #[test]
 fn readers_look_for_themselves(rt: HostRuntime) -> Result<(), Fail> {
     let (words, _heads, mut first, mut second) = two_readers(rt.alloc())?;
-    assert_eq!(rt; words.look(0, &mut first), FRESH);
-    assert_eq!(rt; words.look(0, &mut second), FRESH);
-    assert_eq!(rt; words.peek(1, 3, &mut first), None);
-    assert_eq!(rt; words.look(1, &mut second), FRESH);
+    assert_same(&rt, words.look(0, &mut first), FRESH);
+    assert_same(&rt, words.look(0, &mut second), FRESH);
+    assert_same(&rt, words.peek(1, 3, &mut first), None);
+    assert_same(&rt, words.look(1, &mut second), FRESH);
     Ok(())
 }
 
@@ -96,8 +104,8 @@ fn readers_in_threads(rt: HostRuntime) -> Result<(), Fail> {
             requires { IsReaderOf shared.now second }
         { look_once(shared, second) },
     );
-    assert_eq!(rt; found_first, FRESH);
-    assert_eq!(rt; found_second, FRESH);
+    assert_same(&rt, found_first, FRESH);
+    assert_same(&rt, found_second, FRESH);
     Ok(())
 }
 

@@ -117,6 +117,8 @@ fn both_ends_given_up(rt: HostRuntime) -> Result<(), Fail> {
     let (tail, head) = sample_part(rt.alloc(), NO_FAULTS)?.into_ends();
     assert!(rt; tail.is_some());
     assert!(rt; head.is_some());
+    drop(tail);
+    drop(head);
     Ok(())
 }
 

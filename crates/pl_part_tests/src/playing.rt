@@ -8,7 +8,7 @@ ghost use Rattle.pl_part_tests.specs.SampleParts.{IsReady, IsSample};
 
 use crate::relays::{Faults, Relay, sample_run};
 use pl_context::{Outputs, Took};
-use pl_event::{Cause, Envelope, Event, Kind, Lane, Outcome};
+use pl_event::{Cause, Event, Kind, Lane, Outcome};
 use pl_flow::HeadMove;
 use pl_head::{MemoryTransport, OutStep, ReadStep};
 use pl_part::ChannelPart;
@@ -75,12 +75,12 @@ const RECORD: [Event; 2] = [Event::Active, Event::ReadComplete];
 /// with its hop.
 pub(crate) type Expected = (Call, Answer, &'static [(u16, Took)], &'static [(u16, Took)]);
 
-/// What the nodes of a part have answered, and what came for none of them.
+/// What the nodes of a part have answered, and the lanes of what came for none of them.
 #[derive(Drop)]
 struct Seen {
     data: Vec<(u16, Took)>,
     flags: Vec<(u16, Took)>,
-    astray: Vec<Envelope>,
+    astray: Vec<Lane>,
 }
 
 impl Seen {
@@ -233,7 +233,8 @@ fn goes_on(
         let took = part.take(envelope, work);
         seen.push(lane, took)?;
     } else {
-        seen.astray.push(envelope)?;
+        drop(envelope);
+        seen.astray.push(lane)?;
     }
     Ok(true)
 }

@@ -1,6 +1,6 @@
 //! Stages that hand each event on, and a part with all nodes of their channel.
 
-ghost use Rattle.std.specs.Prelude.{◌≡◌, [], ◌∷◌, ◌++◌, IfOk, OnOk, OnErr, false};
+ghost use Rattle.std.specs.Prelude.{◌≡◌, [], ◌∷◌, ◌++◌, ◌<◌, IfOk, OnOk, false, vec_len, vec_capacity};
 ghost use Rattle.pl_part_tests.specs.declared.relays.Relay.{Relay};
 ghost use Rattle.pl_context.specs.OutputsViews.{OutputsView};
 ghost use Rattle.pl_context.specs.Stops.{no_stops};
@@ -36,23 +36,14 @@ impl Stage for Relay {
     }
 
     fn step(&mut self, event: Event, up: &mut Vec<Event>, down: &mut Vec<Event>) -> Stepped {
-        if self.is_spent {
-            return Err(StageFault::Memory);
-        }
-        if self.steps == 0 {
+        if self.is_spent || self.steps == 0 || reserve(up, down).is_err() {
+            drop(event);
             self.is_spent = true;
             return Err(StageFault::Memory);
         }
-        match pass(self.direction, event, up, down) {
-            Ok(()) => {
-                self.steps -= 1;
-                Ok(Turned::Open)
-            }
-            Err(_) => {
-                self.is_spent = true;
-                Err(StageFault::Memory)
-            }
-        }
+        pass(self.direction, event, up, down);
+        self.steps -= 1;
+        Ok(Turned::Open)
     }
 
     ghost lawful = { λ s. relaying-lawful s.direction };
@@ -68,19 +59,23 @@ fn new_relay(direction: Direction, steps: u32) -> Relay
     }
 }
 
-fn pass(
-    direction: Direction,
-    event: Event,
-    up: &mut Vec<Event>,
-    down: &mut Vec<Event>,
-) -> Result<(), AllocError>
-    ensures up { OnOk result (up.new.items ≡ up.old.items ++ passed_up direction event) }
-    ensures down { OnOk result (down.new.items ≡ down.old.items ++ passed_down direction event) }
-    ensures up_kept { OnErr result (up.new.items ≡ up.old.items) }
-    ensures down_kept { OnErr result (down.new.items ≡ down.old.items) }
+/// Makes room for one more event on each list.
+fn reserve(up: &mut Vec<Event>, down: &mut Vec<Event>) -> Result<(), AllocError>
+    ensures up { up.new.items ≡ up.old.items }
+    ensures down { down.new.items ≡ down.old.items }
+    ensures room_up { OnOk result (vec_len up.new < vec_capacity up.new) }
+    ensures room_down { OnOk result (vec_len down.new < vec_capacity down.new) }
 {
     up.reserve(1)?;
-    down.reserve(1)?;
+    down.reserve(1)
+}
+
+fn pass(direction: Direction, event: Event, up: &mut Vec<Event>, down: &mut Vec<Event>)
+    requires room_up { vec_len up.old < vec_capacity up.old }
+    requires room_down { vec_len down.old < vec_capacity down.old }
+    ensures up { up.new.items ≡ up.old.items ++ passed_up direction event }
+    ensures down { down.new.items ≡ down.old.items ++ passed_down direction event }
+{
     match direction {
         Direction::Inbound => up.push_reserved(event),
         Direction::Outbound => down.push_reserved(event),
@@ -92,7 +87,6 @@ fn pass(
             }
         },
     }
-    Ok(())
 }
 
 /// What fails in a part: its first handler after so many steps, its transport at a call, and all of it by an abort after

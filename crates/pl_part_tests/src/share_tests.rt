@@ -1,7 +1,19 @@
 //! A part that is divided among executors.
 
-use crate::relays::{NO_FAULTS, sample_part};
+use crate::relays::{NO_FAULTS, Relay, sample_part};
+use pl_head::MemoryTransport;
+use pl_part::ChannelPart;
+use std::process::Abort;
 use std::test::Fail;
+
+/// The tail and the head, which has a read step, are on executor 2, and no node is on 3.
+fn assert_on(rt: &impl Abort, executor: usize, part: &ChannelPart<Relay, MemoryTransport>) {
+    assert!(rt; part.hops() == 5);
+    assert!(rt; part.has_ended() == (executor == 3));
+    assert!(rt; part.tail().is_some() == (executor == 2));
+    assert!(rt; part.head().is_some() == (executor == 2));
+    assert!(rt; part.has_read_step() == (executor == 2));
+}
 
 /// The turn is on executor 0, the outbound handler on 1, and the first handler, the tail and the head are on 2. None is on 3.
 #[test]
@@ -10,11 +22,7 @@ fn divided_among_executors(rt: HostRuntime) -> Result<(), Fail> {
     let parts = sample_part(alloc, NO_FAULTS)?.split(alloc, 4)?;
     assert!(rt; parts.len() == 4);
     for (executor, part) in parts.iter().enumerate() {
-        assert!(rt; part.hops() == 5);
-        assert!(rt; part.has_ended() == (executor == 3));
-        assert!(rt; part.tail().is_some() == (executor == 2));
-        assert!(rt; part.head().is_some() == (executor == 2));
-        assert!(rt; part.has_read_step() == (executor == 2));
+        assert_on(&rt, executor, part);
     }
     Ok(())
 }
@@ -29,6 +37,7 @@ fn divided_among_fewer(rt: HostRuntime) -> Result<(), Fail> {
         assert!(rt; !part.has_ended());
         assert!(rt; part.tail().is_none() && part.head().is_none());
     }
+    drop(parts);
     let parts = sample_part(alloc, NO_FAULTS)?.split(alloc, 0)?;
     assert!(rt; parts.is_empty());
     Ok(())

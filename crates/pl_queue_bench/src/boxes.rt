@@ -37,7 +37,10 @@ fn take_one<W: Named, M: Mailbox<W>, R: Wait>(rt: &R, mailbox: &M, taker: &mut M
     ensures one { result ≤ 1 }
 {
     match mailbox.take::<R>(rt, taker) {
-        Some(_envelope) => 1,
+        Some(envelope) => {
+            drop(envelope);
+            1
+        }
         None => 0,
     }
 }

@@ -101,7 +101,10 @@ fn take_all<Q: Plain, R: Wait>(rt: &R, queue: &Q, count: u64) -> u64 {
             break;
         }
         match queue.next::<R>(rt) {
-            Some(_envelope) => taken += 1,
+            Some(envelope) => {
+                drop(envelope);
+                taken += 1;
+            }
             None => thread::yield_now(),
         }
     }

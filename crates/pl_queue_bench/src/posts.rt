@@ -359,7 +359,10 @@ where
             break;
         }
         match mailbox.next::<R>(rt, &mut owner) {
-            Some(_envelope) => taken += 1,
+            Some(envelope) => {
+                drop(envelope);
+                taken += 1;
+            }
             None => thread::yield_now(),
         }
     }

@@ -1,60 +1,76 @@
 //! The bytes, the sequences and the keys, each call once.
 
+use crate::tests::assert_events;
 use pl_event::{ByteString, Event, Key, Sequence};
 use std::alloc::{AllocError, Global};
+use std::process::Abort;
 use std::test::Fail;
 
 pub(crate) fn text(alloc: Global, bytes: &[u8]) -> Result<ByteString, AllocError> {
     Ok(ByteString::from_vec(Vec::from_slice(alloc, bytes)?))
 }
 
+/// Whether a string holds these bytes.
+fn is(alloc: Global, string: &ByteString, bytes: &[u8]) -> Result<bool, AllocError> {
+    Ok(*string == text(alloc, bytes)?)
+}
+
+/// A string holds these bytes.
+fn assert_holds(rt: &impl Abort, string: &ByteString, bytes: &[u8]) {
+    assert_eq!(rt; string.as_slice(), bytes);
+    assert!(rt; string.len() == bytes.len() && string.is_empty() == bytes.is_empty());
+}
+
 #[test]
 fn byte_strings(rt: HostRuntime) -> Result<(), Fail> {
     let alloc = rt.alloc();
+    assert_holds(&rt, &text(alloc, b"")?, b"");
     let mut ping = text(alloc, b"PI")?;
     ping.extend_from_slice(b"NG")?;
-    assert_eq!(rt; ping.as_slice(), b"PING".as_slice());
-    assert_eq!(rt; ping.len(), 4);
-    assert!(rt; !ping.is_empty());
-    assert!(rt; text(alloc, b"")?.is_empty());
-
-    assert_eq!(rt; ping.clone()?, ping);
-    assert!(rt; ping != text(alloc, b"PONG")?);
-    assert!(rt; ping != text(alloc, b"PIN")?);
-    assert_eq!(rt; ping.into_vec().as_slice(), b"PING".as_slice());
+    assert_holds(&rt, &ping, b"PING");
+    assert_holds(&rt, &ping.clone()?, b"PING");
+    let same = is(alloc, &ping, b"PING")?;
+    let others = [is(alloc, &ping, b"PONG")?, is(alloc, &ping, b"PIN")?];
+    assert!(rt; same && others == [false, false]);
+    assert!(rt; ping.into_vec().as_slice() == b"PING".as_slice());
     Ok(())
 }
 
 #[test]
 fn sequences(rt: HostRuntime) -> Result<(), Fail> {
-    let alloc = rt.alloc();
-    let mut events = Sequence::new(alloc);
+    let told = [Event::Active, Event::Flush];
+    let mut events = Sequence::new(rt.alloc());
     assert!(rt; events.is_empty());
     events.push(Event::Active)?;
     events.push(Event::Flush)?;
-    assert!(rt; !events.is_empty());
-    assert_eq!(rt; events.len(), 2);
-    assert_eq!(rt; events.as_slice(), [Event::Active, Event::Flush].as_slice());
+    assert!(rt; !events.is_empty() && events.len() == 2);
+    assert_events(&rt, events.as_slice(), &told);
 
-    let mut events = Sequence::from_vec(events.into_vec()).into_vec();
-    assert_eq!(rt; events.pop(), Some(Event::Flush));
-    assert_eq!(rt; events.pop(), Some(Event::Active));
+    let events = Sequence::from_vec(events.into_vec()).into_vec();
+    assert_events(&rt, events.as_slice(), &told);
     Ok(())
+}
+
+/// A key has this name, and so has its copy.
+fn assert_key(rt: &(impl Abort + AllocGlobal), name: &str) -> Result<(), Fail> {
+    let key = Key::new(text(rt.alloc(), name.as_bytes())?).ok_or("no key")?;
+    assert!(rt; key.as_slice() == name.as_bytes(), "of {name:?}");
+    assert!(rt; key.clone()? == key, "of {name:?}");
+    Ok(())
+}
+
+/// Whether a key may have this name.
+fn is_name(alloc: Global, name: &str) -> Result<bool, AllocError> {
+    Ok(Key::new(text(alloc, name.as_bytes())?).is_some())
 }
 
 #[test]
 fn keys(rt: HostRuntime) -> Result<(), Fail> {
-    for name in ["a", "z", "0", "9", "hits", "abcdefghijklmnop"] {
-        let bytes = text(rt.alloc(), name.as_bytes())?;
-        let key = Key::new(bytes).ok_or(name)?;
-        assert_eq!(rt; key.as_slice(), name.as_bytes());
-        assert_eq!(rt; key.clone()?, key);
+    for &name in &["a", "z", "0", "9", "hits", "abcdefghijklmnop"] {
+        assert_key(&rt, name)?;
     }
-    for name in ["", "abcdefghijklmnopq", "Hits", "hi ts", "{", "`", "\n"] {
-        assert!(rt;
-            Key::new(text(rt.alloc(), name.as_bytes())?).is_none(),
-            "of {name:?}"
-        );
+    for &name in &["", "abcdefghijklmnopq", "Hits", "hi ts", "{", "`", "\n"] {
+        assert!(rt; !is_name(rt.alloc(), name)?, "of {name:?}");
     }
     Ok(())
 }

@@ -1,7 +1,9 @@
 //! The worked examples of frames with their length in front, by the steps of the handlers.
 
 use crate::event_tests::text;
-use crate::tests::{Told, UNKNOWN, assert_served, events, in_two_bursts, made};
+use crate::tests::{
+    Protocol, Told, UNKNOWN, assert_events, assert_served, events, in_two_bursts, made,
+};
 use pl_event::{ByteString, Caught, Event, Message};
 use pl_stages::{Handler, LengthFramer, LengthPrepender, StageRefusal};
 use std::alloc::Global;
@@ -9,12 +11,6 @@ use std::process::Abort;
 use std::test::Fail;
 
 const TOO_LONG: Told<'static> = Told::Caught(Caught::TooLong);
-
-/// Frames of at most so many bytes, with lengths of two.
-fn frames(alloc: Global, max: usize) -> Result<(Handler, Handler), StageRefusal> {
-    let framer = Handler::Length(LengthFramer::new(alloc, 2, max)?);
-    Ok((framer, Handler::Prepend(LengthPrepender::new(2)?)))
-}
 
 /// A framer tells this of what comes to it.
 fn assert_told(
@@ -25,9 +21,11 @@ fn assert_told(
     told: &[Told<'_>],
 ) -> Result<(), Fail> {
     let alloc = rt.alloc();
+    let came = events(alloc, came)?;
     let framer = Handler::Length(LengthFramer::new(alloc, width, max)?);
-    let (up, _) = made(alloc, framer, events(alloc, came)?)?;
-    assert_eq!(rt; up, events(alloc, told)?);
+    let (up, _) = made(alloc, framer, came)?;
+    let told = events(alloc, told)?;
+    assert_events(rt, up.as_slice(), told.as_slice());
     Ok(())
 }
 
@@ -41,7 +39,7 @@ fn length_frames(rt: HostRuntime) -> Result<(), Fail> {
         Told::ReadComplete,
     ];
     let tail = [Told::Active, Told::Ping, Told::ReadComplete];
-    assert_served(&rt, frames(rt.alloc(), 64)?, &came, &tail, b"\x00\x05+PONG")
+    assert_served(&rt, Protocol::Frames(64), &came, &tail, b"\x00\x05+PONG")
 }
 
 #[test]
@@ -53,7 +51,7 @@ fn user_event_inside_frame(rt: HostRuntime) -> Result<(), Fail> {
         Told::ReadComplete,
     ];
     let tail = [Told::User(7), Told::Ping, Told::ReadComplete];
-    assert_served(&rt, frames(rt.alloc(), 64)?, &came, &tail, b"\x00\x05+PONG")
+    assert_served(&rt, Protocol::Frames(64), &came, &tail, b"\x00\x05+PONG")
 }
 
 #[test]
@@ -65,7 +63,7 @@ fn frame_too_long(rt: HostRuntime) -> Result<(), Fail> {
         Told::ReadComplete,
     ];
     let tail = [Told::Active, TOO_LONG, Told::ReadComplete];
-    assert_served(&rt, frames(rt.alloc(), 5)?, &came, &tail, sent)?;
+    assert_served(&rt, Protocol::Frames(5), &came, &tail, sent)?;
     let came = in_two_bursts(b"\x00\x04", b"PING");
     let tail = [
         Told::Active,
@@ -73,7 +71,7 @@ fn frame_too_long(rt: HostRuntime) -> Result<(), Fail> {
         Told::ReadComplete,
         Told::ReadComplete,
     ];
-    assert_served(&rt, frames(rt.alloc(), 5)?, &came, &tail, sent)?;
+    assert_served(&rt, Protocol::Frames(5), &came, &tail, sent)?;
 
     // The example of Netty's documentation.
     let came = [Told::Chunk(b"\x00\x0cHELLO, WORLD")];
@@ -87,21 +85,21 @@ fn empty_and_unfinished_frame(rt: HostRuntime) -> Result<(), Fail> {
     assert_told(&rt, 2, 64, &empty, &[Told::Line(b"")])?;
     assert_served(
         &rt,
-        frames(rt.alloc(), 64)?,
+        Protocol::Frames(64),
         &empty,
         &[UNKNOWN],
         b"\x00\x0c-ERR unknown",
     )?;
     let unfinished = [Told::Active, Told::Chunk(b"\x00\x05P"), Told::ReadComplete];
     let tail = [Told::Active, Told::ReadComplete];
-    assert_served(&rt, frames(rt.alloc(), 64)?, &unfinished, &tail, b"")
+    assert_served(&rt, Protocol::Frames(64), &unfinished, &tail, b"")
 }
 
 /// What a prepender makes of a write of bytes.
 fn prepended(alloc: Global, width: usize, payload: &[u8]) -> Result<Vec<Event>, Fail> {
+    let written = vec![in alloc; Event::Write(Message::Bytes(text(alloc, payload)?))]?;
     let prepender = Handler::Prepend(LengthPrepender::new(width)?);
-    let written = Event::Write(Message::Bytes(text(alloc, payload)?));
-    let (_, down) = made(alloc, prepender, vec![in alloc; written]?)?;
+    let (_, down) = made(alloc, prepender, written)?;
     Ok(down)
 }
 
@@ -115,28 +113,33 @@ fn marked(alloc: Global, field: Option<&[u8]>, payload: &[u8]) -> Result<Event, 
     Ok(Event::Write(Message::Bytes(bytes)))
 }
 
+/// A prepender puts this field in front of a payload, or has no room for its length.
+fn assert_prepended(
+    rt: &(impl Abort + AllocGlobal),
+    width: usize,
+    payload: &[u8],
+    field: Option<&[u8]>,
+) -> Result<(), Fail> {
+    let made = prepended(rt.alloc(), width, payload)?;
+    let told = vec![in rt.alloc(); marked(rt.alloc(), field, payload)?]?;
+    assert!(rt; made == told, "{} bytes behind {width}", payload.len());
+    Ok(())
+}
+
 #[test]
 fn prepend_limit(rt: HostRuntime) -> Result<(), Fail> {
-    let alloc = rt.alloc();
-    let pings = "PING".repeat(alloc, 16_384)?;
-    for (width, count, field) in [
-        (2, 65_535, Some(b"\xff\xff".as_slice())),
-        (2, 65_536, None),
-        (4, 65_536, Some(b"\x00\x01\x00\x00".as_slice())),
-    ] {
-        let payload = pings.get(..count).ok_or("too few")?.as_bytes();
-        let made = prepended(alloc, width, payload)?;
-        let expected = vec![in alloc; marked(alloc, field, payload)?]?;
-        assert!(rt; made == expected, "{count} bytes behind {width}");
-    }
-    Ok(())
+    let pings = "PING".repeat(rt.alloc(), 16_384)?;
+    let pings = pings.as_bytes();
+    assert_prepended(&rt, 2, &pings[..65_535], Some(b"\xff\xff"))?;
+    assert_prepended(&rt, 2, pings, None)?;
+    assert_prepended(&rt, 4, pings, Some(b"\x00\x01\x00\x00"))
 }
 
 const LIMIT: Option<StageRefusal> = Some(StageRefusal::Limit);
 
 #[test]
 fn length_refusals(rt: HostRuntime) {
-    for (width, max, framer, prepender) in [
+    for (width, max, framer, prepender) in &[
         (0, 64, LIMIT, LIMIT),
         (1, 64, LIMIT, LIMIT),
         (3, 64, LIMIT, LIMIT),
@@ -147,10 +150,10 @@ fn length_refusals(rt: HostRuntime) {
         (4, 8_192, None, None),
         (4, 8_193, LIMIT, None),
     ] {
-        let refusal = LengthFramer::new(rt.alloc(), width, max).err();
-        assert!(rt; refusal == framer, "of {width} and {max}");
-        let refusal = LengthPrepender::new(width).err();
-        assert!(rt; refusal == prepender, "of {width}");
+        let refusal = LengthFramer::new(rt.alloc(), *width, *max).err();
+        assert!(rt; refusal == *framer, "of {width} and {max}");
+        let refusal = LengthPrepender::new(*width).err();
+        assert!(rt; refusal == *prepender, "of {width}");
     }
 }
 

@@ -5,10 +5,10 @@ ghost use Rattle.std.specs.Prelude.{◌≤◌};
 use crate::event_tests::text;
 use pl_event::{Caught, Command, Event, Fault, Fused, Key, Message, Reply, Stage, Turned};
 use pl_stages::{
-    CommandDecoder, FlushEvery, Handler, LineEnd, LineFramer, LineService, ReplyEncoder,
-    StageRefusal, add_reply_text,
+    CommandDecoder, FlushEvery, Handler, LengthFramer, LengthPrepender, LineEnd, LineFramer,
+    LineService, ReplyEncoder, StageRefusal, add_reply_text,
 };
-use std::alloc::Global;
+use std::alloc::{AllocError, Global};
 use std::process::Abort;
 use std::test::Fail;
 
@@ -79,19 +79,49 @@ pub(crate) fn made(
     Ok((up, down))
 }
 
-/// The commands in what comes to a framer.
-fn commands(alloc: Global, framer: Handler, came: &[Told<'_>]) -> Result<Vec<Event>, Fail> {
-    let (lines, _) = made(alloc, framer, events(alloc, came)?)?;
-    let (commands, _) = made(alloc, Handler::Decode(CommandDecoder::new()), lines)?;
-    Ok(commands)
+/// The line protocol, or that of frames with lengths of two bytes: of at most so many bytes.
+#[derive(Clone, Copy)]
+pub(crate) enum Protocol {
+    Lines(usize),
+    Frames(usize),
 }
 
-/// The bytes of replies, each with what marks its end or its length.
-fn bytes(alloc: Global, replies: Vec<Event>, marker: Handler) -> Result<Vec<u8>, Fail> {
-    let (_, texts) = made(alloc, Handler::Encode(ReplyEncoder::new()), replies)?;
-    let (_, marked) = made(alloc, marker, texts)?;
+impl Protocol {
+    fn framer(self, alloc: Global) -> Result<Handler, StageRefusal> {
+        match self {
+            Protocol::Lines(max) => Ok(Handler::Lines(LineFramer::new(alloc, max)?)),
+            Protocol::Frames(max) => Ok(Handler::Length(LengthFramer::new(alloc, 2, max)?)),
+        }
+    }
+
+    /// What marks a reply's end or its length.
+    fn marker(self) -> Result<Handler, StageRefusal> {
+        match self {
+            Protocol::Lines(_) => Ok(Handler::LineEnd(LineEnd::new())),
+            Protocol::Frames(_) => Ok(Handler::Prepend(LengthPrepender::new(2)?)),
+        }
+    }
+
+    /// The commands in what comes.
+    fn commands(self, alloc: Global, came: &[Told<'_>]) -> Result<Vec<Event>, Fail> {
+        let came = events(alloc, came)?;
+        let (lines, _) = made(alloc, self.framer(alloc)?, came)?;
+        let (commands, _) = made(alloc, Handler::Decode(CommandDecoder::new()), lines)?;
+        Ok(commands)
+    }
+
+    /// The marked replies.
+    fn marked(self, alloc: Global, replies: Vec<Event>) -> Result<Vec<Event>, Fail> {
+        let (_, texts) = made(alloc, Handler::Encode(ReplyEncoder::new()), replies)?;
+        let (_, marked) = made(alloc, self.marker()?, texts)?;
+        Ok(marked)
+    }
+}
+
+/// The bytes that are written.
+fn bytes(alloc: Global, written: &[Event]) -> Result<Vec<u8>, AllocError> {
     let mut bytes = Vec::new(alloc);
-    for event in &marked {
+    for event in written {
         if let Event::Write(Message::Bytes(text)) = event {
             bytes.extend_from_slice(text.as_slice())?;
         }
@@ -99,33 +129,34 @@ fn bytes(alloc: Global, replies: Vec<Event>, marker: Handler) -> Result<Vec<u8>,
     Ok(bytes)
 }
 
-/// The service between a framer and a marker brings these events to its tail and these bytes to its head.
+/// A handler made these events.
+pub(crate) fn assert_events(rt: &impl Abort, made: &[Event], told: &[Event]) {
+    assert_eq!(rt; made, told);
+}
+
+/// The service behind this protocol brings these events to its tail and these bytes to its head.
 pub(crate) fn assert_served(
     rt: &(impl Abort + AllocGlobal),
-    (framer, marker): (Handler, Handler),
+    protocol: Protocol,
     came: &[Told<'_>],
     tail: &[Told<'_>],
     sent: &[u8],
 ) -> Result<(), Fail> {
     let alloc = rt.alloc();
-    let service = Handler::Service(LineService::new(alloc));
-    let (reached, replies) = made(alloc, service, commands(alloc, framer, came)?)?;
-    assert_eq!(rt; reached, events(alloc, tail)?);
-    assert_eq!(rt; bytes(alloc, replies, marker)?.as_slice(), sent);
+    let commands = protocol.commands(alloc, came)?;
+    let (reached, replies) = made(alloc, Handler::Service(LineService::new(alloc)), commands)?;
+    let tail = events(alloc, tail)?;
+    assert_events(rt, reached.as_slice(), tail.as_slice());
+    let marked = protocol.marked(alloc, replies)?;
+    assert_eq!(rt; bytes(alloc, marked.as_slice())?.as_slice(), sent);
     Ok(())
-}
-
-/// The line protocol, with lines of at most so many bytes.
-fn lines(alloc: Global, max: usize) -> Result<(Handler, Handler), StageRefusal> {
-    let framer = Handler::Lines(LineFramer::new(alloc, max)?);
-    Ok((framer, Handler::LineEnd(LineEnd::new())))
 }
 
 #[test]
 fn ping(rt: HostRuntime) -> Result<(), Fail> {
     let came = [Told::Active, Told::Chunk(b"PING\r\n"), Told::ReadComplete];
     let tail = [Told::Active, Told::Ping, Told::ReadComplete];
-    assert_served(&rt, lines(rt.alloc(), 64)?, &came, &tail, b"+PONG\r\n")
+    assert_served(&rt, Protocol::Lines(64), &came, &tail, b"+PONG\r\n")
 }
 
 /// Each handler on the way in hands a user event on where it comes, but for a service that has quit.
@@ -139,13 +170,7 @@ fn user_events(rt: HostRuntime) -> Result<(), Fail> {
         Told::User(u32::MAX),
     ];
     let tail = [Told::User(0), Told::User(7), Told::Ping, Told::Quit];
-    assert_served(
-        &rt,
-        lines(rt.alloc(), 64)?,
-        &came,
-        &tail,
-        b"+PONG\r\n+BYE\r\n",
-    )
+    assert_served(&rt, Protocol::Lines(64), &came, &tail, b"+PONG\r\n+BYE\r\n")
 }
 
 /// A channel becomes active, and this comes in two bursts.
@@ -168,32 +193,20 @@ fn line_across_bursts(rt: HostRuntime) -> Result<(), Fail> {
         Told::Ping,
         Told::ReadComplete,
     ];
-    assert_served(&rt, lines(rt.alloc(), 64)?, &came, &tail, b"+PONG\r\n")
+    assert_served(&rt, Protocol::Lines(64), &came, &tail, b"+PONG\r\n")
 }
 
 #[test]
 fn cr_and_lf_apart(rt: HostRuntime) -> Result<(), Fail> {
     let came = [Told::Chunk(b"PING\r"), Told::Chunk(b"\n")];
-    assert_served(
-        &rt,
-        lines(rt.alloc(), 4)?,
-        &came,
-        &[Told::Ping],
-        b"+PONG\r\n",
-    )
+    assert_served(&rt, Protocol::Lines(4), &came, &[Told::Ping], b"+PONG\r\n")
 }
 
 #[test]
 fn line_too_long(rt: HostRuntime) -> Result<(), Fail> {
     let tail = [Told::Caught(Caught::TooLong)];
     let came = [Told::Chunk(b"PING\n")];
-    assert_served(
-        &rt,
-        lines(rt.alloc(), 3)?,
-        &came,
-        &tail,
-        b"-ERR toolong\r\n",
-    )
+    assert_served(&rt, Protocol::Lines(3), &came, &tail, b"-ERR toolong\r\n")
 }
 
 const SYNTAX: Told<'static> = Told::Caught(Caught::Syntax);
@@ -206,7 +219,7 @@ fn echo_and_faults(rt: HostRuntime) -> Result<(), Fail> {
     let tail = [Told::Echo(b""), SYNTAX, UNKNOWN];
     assert_served(
         &rt,
-        lines(rt.alloc(), 64)?,
+        Protocol::Lines(64),
         &came,
         &tail,
         b"+\r\n-ERR syntax\r\n-ERR unknown\r\n",
@@ -218,7 +231,7 @@ fn cr_inside_line(rt: HostRuntime) -> Result<(), Fail> {
     let came = [Told::Chunk(b"ECHO a\r\r\n")];
     assert_served(
         &rt,
-        lines(rt.alloc(), 64)?,
+        Protocol::Lines(64),
         &came,
         &[Told::Echo(b"a\r")],
         b"+a\r\r\n",
@@ -236,7 +249,7 @@ fn totals(rt: HostRuntime) -> Result<(), Fail> {
     ];
     assert_served(
         &rt,
-        lines(rt.alloc(), 64)?,
+        Protocol::Lines(64),
         &came,
         &tail,
         b":7\r\n:1\r\n:12\r\n:12\r\n",
@@ -248,7 +261,7 @@ fn leading_zero(rt: HostRuntime) -> Result<(), Fail> {
     let came = [Told::Chunk(b"ADD a 0123\n")];
     assert_served(
         &rt,
-        lines(rt.alloc(), 64)?,
+        Protocol::Lines(64),
         &came,
         &[SYNTAX],
         b"-ERR syntax\r\n",
@@ -260,7 +273,7 @@ fn nine_digits(rt: HostRuntime) -> Result<(), Fail> {
     let came = [Told::Chunk(b"ADD a 999999999\nADD a 1234567890\nGET zz\n")];
     let tail = [Told::Add(b"a", 999_999_999), SYNTAX, Told::Get(b"zz")];
     let sent = b":999999999\r\n-ERR syntax\r\n:0\r\n";
-    assert_served(&rt, lines(rt.alloc(), 64)?, &came, &tail, sent)
+    assert_served(&rt, Protocol::Lines(64), &came, &tail, sent)
 }
 
 #[test]
@@ -271,30 +284,21 @@ fn quit(rt: HostRuntime) -> Result<(), Fail> {
         Told::Chunk(b"PING\nQUIT\nPING\nPI"),
         Told::ReadComplete,
     ];
-    assert_served(
-        &rt,
-        lines(rt.alloc(), 64)?,
-        &came,
-        &tail,
-        b"+PONG\r\n+BYE\r\n",
-    )
+    assert_served(&rt, Protocol::Lines(64), &came, &tail, b"+PONG\r\n+BYE\r\n")
 }
 
 /// What the decoder makes of one line.
-fn decoded(alloc: Global, line: &[u8]) -> Result<Option<Event>, Fail> {
-    let mut decoder = CommandDecoder::new();
-    let mut up = Vec::new(alloc);
-    let mut down = Vec::new(alloc);
-    let line = Event::Read(Message::Line(text(alloc, line)?));
-    decoder.step(line, &mut up, &mut down)?;
-    Ok(up.pop())
+fn decoded(alloc: Global, line: &[u8]) -> Result<Vec<Event>, Fail> {
+    let line = vec![in alloc; Event::Read(Message::Line(text(alloc, line)?))]?;
+    let (up, _) = made(alloc, Handler::Decode(CommandDecoder::new()), line)?;
+    Ok(up)
 }
 
 /// The decoder makes one event of a line.
 fn assert_decoded(rt: &(impl Abort + AllocGlobal), line: &str, told: Told<'_>) -> Result<(), Fail> {
     let made = decoded(rt.alloc(), line.as_bytes())?;
-    let told = Some(event(rt.alloc(), told)?);
-    assert_eq!(rt; made, told, "of {line:?}");
+    let told = events(rt.alloc(), &[told])?;
+    assert!(rt; made == told, "{made:?} of {line:?}");
     Ok(())
 }
 
@@ -308,7 +312,7 @@ fn forms_of_commands(rt: HostRuntime) -> Result<(), Fail> {
 
 #[test]
 fn wrong_forms_of_commands(rt: HostRuntime) -> Result<(), Fail> {
-    for line in [
+    for &line in &[
         "PING ",
         "QUIT now",
         "ECHO",
@@ -336,22 +340,22 @@ fn wrong_forms_of_commands(rt: HostRuntime) -> Result<(), Fail> {
 
 #[test]
 fn unknown_verbs(rt: HostRuntime) -> Result<(), Fail> {
-    for line in ["", " PING", "ping", "PINGS", "ADDS k 1", "GETk"] {
+    for &line in &["", " PING", "ping", "PINGS", "ADDS k 1", "GETk"] {
         assert_decoded(&rt, line, UNKNOWN)?;
     }
     Ok(())
 }
 
-/// The last that a service writes in answer to a command.
+/// What a service writes in answer to a command.
 fn answer(
     alloc: Global,
     service: &mut Fused<LineService>,
     told: Told<'_>,
-) -> Result<Option<Event>, Fail> {
+) -> Result<Vec<Event>, Fail> {
     let mut up = Vec::new(alloc);
     let mut down = Vec::new(alloc);
     service.step(event(alloc, told)?, &mut up, &mut down)?;
-    Ok(down.pop())
+    Ok(down)
 }
 
 /// A service answers a command so.
@@ -361,8 +365,9 @@ fn assert_answer(
     told: Told<'_>,
     reply: Reply,
 ) -> Result<(), Fail> {
+    let reply = vec![in rt.alloc(); written(reply)]?;
     let answered = answer(rt.alloc(), service, told)?;
-    assert_eq!(rt; answered, Some(written(reply)));
+    assert_events(rt, answered.as_slice(), reply.as_slice());
     Ok(())
 }
 
@@ -379,49 +384,39 @@ fn service_limits(rt: HostRuntime) -> Result<(), Fail> {
     for _ in 0..999_999 {
         answer(rt.alloc(), &mut service, LARGEST)?;
     }
-    for (told, reply) in [
-        (LARGEST, Reply::Total(999_999_999_000_000)),
-        (LARGEST, RANGE),
-        (Told::Get(b"a"), Reply::Total(999_999_999_000_000)),
-        (Told::Add(b"a", 1_000_001), RANGE),
-        (
-            Told::Add(b"a", 1_000_000),
-            Reply::Total(1_000_000_000_000_000),
-        ),
-    ] {
-        assert_answer(&rt, &mut service, told, reply)?;
-    }
-    Ok(())
+    let most = 999_999_999_000_000;
+    assert_answer(&rt, &mut service, LARGEST, Reply::Total(most))?;
+    assert_answer(&rt, &mut service, LARGEST, RANGE)?;
+    assert_answer(&rt, &mut service, Told::Get(b"a"), Reply::Total(most))?;
+    assert_answer(&rt, &mut service, Told::Add(b"a", 1_000_001), RANGE)?;
+    let whole = Reply::Total(1_000_000_000_000_000);
+    assert_answer(&rt, &mut service, Told::Add(b"a", 1_000_000), whole)
 }
 
-/// A service that holds 256 keys, each by an addition of this number.
-fn full_service(alloc: Global, number: u32) -> Result<Fused<LineService>, Fail> {
-    let mut service = LineService::new(alloc);
-    for high in b'a'..=b'p' {
-        for low in b'a'..=b'p' {
-            answer(alloc, &mut service, Told::Add(&[high, low], number))?;
+/// Has the service hold 256 keys, each by an addition of this number.
+fn fill(alloc: Global, service: &mut Fused<LineService>, number: u32) -> Result<(), Fail> {
+    for &high in b"abcdefghijklmnop" {
+        for &low in b"abcdefghijklmnop" {
+            answer(alloc, service, Told::Add(&[high, low], number))?;
         }
     }
-    Ok(service)
+    Ok(())
 }
 
 #[test]
 fn key_limit(rt: HostRuntime) -> Result<(), Fail> {
-    let mut service = full_service(rt.alloc(), 1)?;
-    for (told, reply) in [
-        (Told::Add(b"other", 1), FULL),
-        (Told::Get(b"other"), Reply::Total(0)),
-        (Told::Add(b"aa", 1), Reply::Total(2)),
-    ] {
-        assert_answer(&rt, &mut service, told, reply)?;
-    }
-    Ok(())
+    let mut service = LineService::new(rt.alloc());
+    fill(rt.alloc(), &mut service, 1)?;
+    assert_answer(&rt, &mut service, Told::Add(b"other", 1), FULL)?;
+    assert_answer(&rt, &mut service, Told::Get(b"other"), Reply::Total(0))?;
+    assert_answer(&rt, &mut service, Told::Add(b"aa", 1), Reply::Total(2))
 }
 
 /// An addition of 0 makes a key held, too.
 #[test]
 fn keys_of_nothing(rt: HostRuntime) -> Result<(), Fail> {
-    let mut service = full_service(rt.alloc(), 0)?;
+    let mut service = LineService::new(rt.alloc());
+    fill(rt.alloc(), &mut service, 0)?;
     assert_answer(&rt, &mut service, Told::Add(b"other", 1), FULL)
 }
 
@@ -439,47 +434,72 @@ fn five_writes(alloc: Global, flushed: usize) -> Result<Vec<Event>, Fail>
     Ok(events)
 }
 
-#[test]
-fn flush_every(rt: HostRuntime) -> Result<(), Fail> {
-    for (n, passed) in [(1, 5), (2, 2), (5, 1), (6, 0)] {
-        let handler = Handler::FlushEvery(FlushEvery::new(n)?);
-        let (up, down) = made(rt.alloc(), handler, five_writes(rt.alloc(), 1)?)?;
-        assert!(rt; up.is_empty());
-        assert_eq!(rt; down.len(), 5 + passed, "every {n}");
-        assert_eq!(rt; down, five_writes(rt.alloc(), n)?, "every {n}");
-    }
+/// Of five writes, each with a flush, so many events are left where only every so many flushes go on.
+fn assert_flushed(rt: &(impl Abort + AllocGlobal), n: usize, left: usize) -> Result<(), Fail>
+    requires { 1 ≤ n }
+{
+    let writes = five_writes(rt.alloc(), 1)?;
+    let handler = Handler::FlushEvery(FlushEvery::new(n)?);
+    let (up, down) = made(rt.alloc(), handler, writes)?;
+    assert!(rt; up.is_empty());
+    assert!(rt; down.len() == left, "every {n}");
+    let told = five_writes(rt.alloc(), n)?;
+    assert!(rt; down == told, "every {n}");
     Ok(())
 }
 
 #[test]
+fn flush_every(rt: HostRuntime) -> Result<(), Fail> {
+    assert_flushed(&rt, 1, 10)?;
+    assert_flushed(&rt, 2, 7)?;
+    assert_flushed(&rt, 5, 6)?;
+    assert_flushed(&rt, 6, 5)
+}
+
+/// Whether a handler was made.
+fn is_made<T: Drop>(made: Result<T, StageRefusal>) -> bool {
+    made.is_ok()
+}
+
+#[test]
 fn limits_of_flush_every(rt: HostRuntime) {
-    for (n, is_made) in [(0, false), (1, true), (65_535, true), (65_536, false)] {
-        assert_eq!(rt; FlushEvery::new(n).is_ok(), is_made, "at {n}");
+    for &(n, told) in &[(0, false), (1, true), (65_535, true), (65_536, false)] {
+        assert!(rt; is_made(FlushEvery::new(n)) == told, "at {n}");
     }
 }
 
 #[test]
 fn limits_of_lines(rt: HostRuntime) {
-    for (max, is_made) in [(0, false), (1, true), (8192, true), (8193, false)] {
-        assert_eq!(rt;
-            LineFramer::new(rt.alloc(), max).is_ok(),
-            is_made,
+    for &(max, told) in &[(0, false), (1, true), (8192, true), (8193, false)] {
+        assert!(rt;
+            is_made(LineFramer::new(rt.alloc(), max)) == told,
             "at {max}"
         );
     }
 }
 
+/// Takes a command, and says whether the service has ended.
+fn ends(
+    service: &mut Fused<LineService>,
+    command: Event,
+    up: &mut Vec<Event>,
+    down: &mut Vec<Event>,
+) -> Result<bool, Fail> {
+    Ok(service.step(command, up, down)? == Turned::Ended)
+}
+
 #[test]
 fn quits_once(rt: HostRuntime) -> Result<(), Fail> {
     let alloc = rt.alloc();
-    let mut service = Handler::Service(LineService::new(alloc));
+    let told = events(alloc, &[Told::Quit])?;
+    let sent = vec![in alloc; written(Reply::Bye), Event::Flush]?;
+    let mut service = LineService::new(alloc);
     let mut up = Vec::new(alloc);
     let mut down = Vec::new(alloc);
-    for command in [command(Command::Quit), command(Command::Ping)] {
-        assert_eq!(rt; service.step(command, &mut up, &mut down)?, Turned::Ended);
-    }
-    assert_eq!(rt; up, vec![in alloc; command(Command::Quit)]?);
-    assert_eq!(rt; down, vec![in alloc; written(Reply::Bye), Event::Flush]?);
+    assert!(rt; ends(&mut service, command(Command::Quit), &mut up, &mut down)?);
+    assert!(rt; ends(&mut service, command(Command::Ping), &mut up, &mut down)?);
+    assert_events(&rt, up.as_slice(), told.as_slice());
+    assert_events(&rt, down.as_slice(), sent.as_slice());
     Ok(())
 }
 

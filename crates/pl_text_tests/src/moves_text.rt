@@ -7,7 +7,7 @@ use std::test::Fail;
 
 #[test]
 fn hostile_moves(rt: HostRuntime) -> Result<(), Fail> {
-    for (text, want) in [
+    for &(text, want) in &[
         ("", Ok(0)),
         ("R0x3 O0", Ok(4)),
         ("R0x1000000", Ok(1_000_000)),

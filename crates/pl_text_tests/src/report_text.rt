@@ -127,6 +127,13 @@ fn after_ping(
     Ok(channel(stands, tail, bytes(rt, sent)?, writes))
 }
 
+/// The report of a channel that failed before its first event.
+fn without_events(rt: &HostRuntime, cause: Cause) -> Result<ChannelReport, Fail> {
+    let bytes = bytes(rt, b"")?;
+    let stands = Stands::Failed(cause);
+    Ok(channel(stands, Vec::new(rt.alloc()), bytes, Vec::new(rt.alloc())))
+}
+
 /// Asserts that a report of these channels is printed as this text.
 fn assert_printed(
     rt: &(impl Abort + AllocGlobal),
@@ -174,12 +181,7 @@ fn abort(rt: HostRuntime) -> Result<(), Fail> {
     let aborted = Stands::Failed(Cause::Aborted);
     let before = after_ping(&rt, aborted, b"", Outcome::Closed)?;
     let behind = after_ping(&rt, aborted, b"+PONG\r\n", Outcome::Success)?;
-    let without_memory = channel(
-        Stands::Failed(Cause::Memory),
-        Vec::new(rt.alloc()),
-        bytes(&rt, b"")?,
-        Vec::new(rt.alloc()),
-    );
+    let without_memory = without_events(&rt, Cause::Memory)?;
     let channels = vec![in rt.alloc(); before, behind, without_memory]?;
     let drained = "channel 0 drained";
     let behind_text = PING_REPORT.replace(rt.alloc(), drained, "channel 1 failed Aborted")?;
@@ -206,49 +208,52 @@ fn no_channels(rt: HostRuntime) -> Result<(), Fail> {
     assert_printed(&rt, Vec::new(rt.alloc()), "")
 }
 
-/// A command of each kind.
-fn commands(rt: &HostRuntime) -> Result<Vec<Command>, Fail> {
-    let mut commands = vec![in rt.alloc(); Command::Ping, Command::Quit]?;
-    for text in [b"".as_slice(), b"a\r".as_slice()] {
-        commands.push(Command::Echo(bytes(rt, text)?))?;
-    }
-    commands.push(Command::Add(key(rt, b"a7")?, 999_999_999))?;
-    commands.push(Command::Get(key(rt, b"zz")?))?;
-    Ok(commands)
+/// Adds an event to a tail.
+fn add(tail: &mut Vec<Event>, event: Event) -> Result<(), Fail> {
+    Ok(tail.push(event)?)
+}
+
+/// A command, as it is read.
+fn read(command: Command) -> Event {
+    Event::Read(Message::Command(command))
+}
+
+/// Adds a command of each kind.
+fn add_commands(rt: &HostRuntime, tail: &mut Vec<Event>) -> Result<(), Fail> {
+    add(tail, read(Command::Ping))?;
+    add(tail, read(Command::Quit))?;
+    add(tail, read(Command::Echo(bytes(rt, b"")?)))?;
+    add(tail, read(Command::Echo(bytes(rt, b"a\r")?)))?;
+    add(tail, read(Command::Add(key(rt, b"a7")?, 999_999_999)))?;
+    add(tail, read(Command::Get(key(rt, b"zz")?)))
+}
+
+/// Adds each fault that is caught, user events, and a message of each kind that is no command.
+fn add_others(rt: &HostRuntime, tail: &mut Vec<Event>) -> Result<(), Fail> {
+    add(tail, Event::Caught(Caught::TooLong))?;
+    add(tail, Event::Caught(Caught::Unknown))?;
+    add(tail, Event::Caught(Caught::Syntax))?;
+    add(tail, Event::User(7))?;
+    add(tail, Event::User(4_294_967_295))?;
+    add(tail, Event::Read(Message::Bytes(bytes(rt, b"\x00\xff")?)))?;
+    add(tail, Event::Write(Message::Line(bytes(rt, b"\r")?)))?;
+    add(tail, Event::Write(Message::Reply(Reply::Pong)))?;
+    let total = Reply::Total(1_234_567_890);
+    add(tail, Event::Write(Message::Reply(total)))?;
+    let range = Reply::Error(Fault::Range);
+    add(tail, Event::Write(Message::Reply(range)))
 }
 
 #[test]
 fn every_event(rt: HostRuntime) -> Result<(), Fail> {
-    let mut tail = Vec::new(rt.alloc());
-    tail.push(Event::Active)?;
-    for command in commands(&rt)? {
-        tail.push(Event::Read(Message::Command(command)))?;
-    }
-    for caught in [Caught::TooLong, Caught::Unknown, Caught::Syntax] {
-        tail.push(Event::Caught(caught))?;
-    }
-    for number in [7, 4_294_967_295] {
-        tail.push(Event::User(number))?;
-    }
-    tail.push(Event::Read(Message::Bytes(bytes(&rt, b"\x00\xff")?)))?;
-    tail.push(Event::Write(Message::Line(bytes(&rt, b"\r")?)))?;
-    for reply in [
-        Reply::Pong,
-        Reply::Total(1_234_567_890),
-        Reply::Error(Fault::Range),
-    ] {
-        tail.push(Event::Write(Message::Reply(reply)))?;
-    }
-    tail.push(Event::Flush)?;
-    tail.push(Event::ReadComplete)?;
+    let mut tail = vec![in rt.alloc(); Event::Active]?;
+    add_commands(&rt, &mut tail)?;
+    add_others(&rt, &mut tail)?;
+    add(&mut tail, Event::Flush)?;
+    add(&mut tail, Event::ReadComplete)?;
     let writes = vec![in rt.alloc(); None, Some(Outcome::Closed), Some(Outcome::Unsupported)]?;
     let open = channel(Stands::Open, tail, bytes(&rt, b"")?, writes);
-    let refused = channel(
-        Stands::Failed(Cause::Refused),
-        Vec::new(rt.alloc()),
-        bytes(&rt, b"")?,
-        Vec::new(rt.alloc()),
-    );
+    let refused = without_events(&rt, Cause::Refused)?;
     assert_printed(&rt, vec![in rt.alloc(); open, refused]?, EVERY_EVENT)
 }
 

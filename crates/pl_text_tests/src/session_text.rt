@@ -7,7 +7,7 @@ use pl_event::{ByteString, Element};
 use pl_head::MemoryTransport;
 use pl_stages::Handler;
 use pl_text::{MAX_SESSION_TEXT, SessionFault, read_session};
-use pl_world::Recorded;
+use pl_world::{Recorded, Session};
 use std::process::Abort;
 use std::test::Fail;
 
@@ -27,14 +27,15 @@ pub(crate) fn assert_answer(
     assert_eq!(rt; read_session(rt.alloc(), text).err(), fault, "at {text}");
 }
 
-/// The session of one PING with another text in place of a part of it has this answer.
+/// Each row is a part of the session of one PING, another text in its place, and the answer to it.
 fn assert_replaced(
     rt: &(impl Abort + AllocGlobal),
-    (part, other): (&str, &str),
-    fault: Option<SessionFault>,
+    rows: &[(&str, &str, Option<SessionFault>)],
 ) -> Result<(), Fail> {
-    let text = PING_SESSION.replace(rt.alloc(), part, other)?;
-    assert_answer(rt, text.as_str(), fault);
+    for &(part, other, fault) in rows {
+        let text = PING_SESSION.replace(rt.alloc(), part, other)?;
+        assert_answer(rt, text.as_str(), fault);
+    }
     Ok(())
 }
 
@@ -45,15 +46,31 @@ fn with_edits(rt: &impl AllocGlobal, edits: &str, more: &str) -> Result<String, 
     )?)
 }
 
-/// Such a session has this answer.
+/// Each row is the edits of such a session, what follows its bursts, and the answer to it.
 fn assert_edits(
     rt: &(impl Abort + AllocGlobal),
-    edits: &str,
-    more: &str,
-    fault: Option<SessionFault>,
+    rows: &[(&str, &str, Option<SessionFault>)],
 ) -> Result<(), Fail> {
-    assert_answer(rt, with_edits(rt, edits, more)?.as_str(), fault);
+    for &(edits, more, fault) in rows {
+        let text = with_edits(rt, edits, more)?;
+        assert_answer(rt, text.as_str(), fault);
+    }
     Ok(())
+}
+
+/// The session of these edits, and of what follows its bursts.
+fn of_edits(rt: &impl AllocGlobal, edits: &str, more: &str) -> Result<Session, Fail> {
+    Ok(read_session(rt.alloc(), with_edits(rt, edits, more)?.as_str())?)
+}
+
+/// The one channel of a session.
+pub(crate) fn only_channel<'a>(
+    rt: &impl Abort,
+    session: &'a Session,
+) -> &'a Recorded<Handler, MemoryTransport> {
+    let channels = session.world.channels();
+    assert_eq!(rt; channels.len(), 1);
+    &channels[0]
 }
 
 /// One service, which is the turn.
@@ -63,9 +80,7 @@ pub(crate) const SERVICE: &str = r#"{"op":"last","name":"service","kind":"servic
 fn ping_session(rt: HostRuntime) -> Result<(), Fail> {
     let session = read_session(rt.alloc(), PING_SESSION)?;
     assert!(rt; session.capacity == 4 && session.world.executors() == 1);
-    let channels = session.world.channels();
-    assert_eq!(rt; channels.len(), 1);
-    assert_ping(&rt, &channels[0])
+    assert_ping(&rt, only_channel(&rt, &session))
 }
 
 /// The channel of that session.
@@ -113,13 +128,11 @@ pub(crate) fn assert_fails(
 /// The session of one PING, whose transport fails at a call.
 #[test]
 fn call_to_fail(rt: HostRuntime) -> Result<(), Fail> {
-    for call in [1u32, 2, 65_537, 4_294_967_295] {
+    for &call in &[1u32, 2, 65_537, 4_294_967_295] {
         let other = format!(in rt.alloc(); "\"fail_at\":{call},\"bursts\":")?;
         let text = PING_SESSION.replace(rt.alloc(), r#""bursts":"#, other.as_str())?;
         let session = read_session(rt.alloc(), text.as_str())?;
-        let channels = session.world.channels();
-        assert_eq!(rt; channels.len(), 1);
-        assert_fails(&rt, &channels[0], Some(call), None);
+        assert_fails(&rt, only_channel(&rt, &session), Some(call), None);
     }
     Ok(())
 }
@@ -127,15 +140,15 @@ fn call_to_fail(rt: HostRuntime) -> Result<(), Fail> {
 /// The session of one PING, aborted after so many bursts: none, one, or all three.
 #[test]
 fn aborted_channels(rt: HostRuntime) -> Result<(), Fail> {
-    for after in [0u32, 1, 3] {
+    for &after in &[0u32, 1, 3] {
         let other = format!(in rt.alloc();
             "\"bursts\":[[],[\"PI\"],[\"NG\"]],\"abort_after\":{after}"
         )?;
         let text = PING_SESSION.replace(rt.alloc(), r#""bursts":[["PING\r\n"]]"#, other.as_str())?;
         let session = read_session(rt.alloc(), text.as_str())?;
-        let channels = session.world.channels();
-        assert!(rt; channels.len() == 1 && channels[0].input.bursts.len() == 3);
-        assert_fails(&rt, &channels[0], None, Some(after));
+        let channel = only_channel(&rt, &session);
+        assert_eq!(rt; channel.input.bursts.len(), 3);
+        assert_fails(&rt, channel, None, Some(after));
     }
     Ok(())
 }
@@ -146,10 +159,7 @@ fn channels_that_fail_apart(rt: HostRuntime) -> Result<(), Fail> {
     let more = format!(in rt.alloc();
         ",\"fail_at\":7}},{{\"handlers\":[{SERVICE}],\"bursts\":[[]]}},{{\"handlers\":[{SERVICE}],\"bursts\":[[]],\"abort_after\":1,\"fail_at\":8"
     )?;
-    let session = read_session(
-        rt.alloc(),
-        with_edits(&rt, SERVICE, more.as_str())?.as_str(),
-    )?;
+    let session = of_edits(&rt, SERVICE, more.as_str())?;
     let channels = session.world.channels();
     assert_eq!(rt; channels.len(), 3);
     assert_fails(&rt, &channels[0], Some(7), None);
@@ -158,22 +168,25 @@ fn channels_that_fail_apart(rt: HostRuntime) -> Result<(), Fail> {
     Ok(())
 }
 
+/// Values that are no whole numbers.
+const NOT_WHOLE: [&str; 7] = [
+    "1.0",
+    "1e0",
+    "-0",
+    "-1",
+    "18446744073709551616",
+    "true",
+    "\"1\"",
+];
+
 /// A channel that fails at a call, or is aborted, by no whole number.
 #[test]
 fn failures_that_are_not_whole(rt: HostRuntime) -> Result<(), Fail> {
-    for member in ["fail_at", "abort_after"] {
-        for number in [
-            "1.0",
-            "1e0",
-            "-0",
-            "-1",
-            "18446744073709551616",
-            "true",
-            "\"1\"",
-        ] {
-            let more = format!(in rt.alloc(); ",\"{member}\":{number}")?;
-            assert_edits(&rt, SERVICE, more.as_str(), Some(SessionFault::Kind))?;
-        }
+    for &number in &NOT_WHOLE {
+        let fail_at = format!(in rt.alloc(); ",\"fail_at\":{number}")?;
+        assert_edits(&rt, &[(SERVICE, fail_at.as_str(), KIND)])?;
+        let abort_after = format!(in rt.alloc(); ",\"abort_after\":{number}")?;
+        assert_edits(&rt, &[(SERVICE, abort_after.as_str(), KIND)])?;
     }
     Ok(())
 }
@@ -181,22 +194,16 @@ fn failures_that_are_not_whole(rt: HostRuntime) -> Result<(), Fail> {
 /// With no bursts an abort comes after none. All channels are read before any is built.
 #[test]
 fn failures_in_reading_order(rt: HostRuntime) -> Result<(), Fail> {
-    let limit = Some(SessionFault::Limit);
-    for (edits, more, fault) in [
+    let no_turn = Some(SessionFault::Build(BuildFault::NoTurn));
+    let rows = [
         (SERVICE, r#","abort_after":0"#, None),
-        (SERVICE, r#","abort_after":1"#, limit),
-        ("", r#","fail_at":0"#, limit),
-        ("", r#","abort_after":1"#, limit),
-        ("", r#"},{"handlers":[],"bursts":[],"fail_at":0"#, limit),
-        (
-            "",
-            r#","fail_at":1,"abort_after":0"#,
-            Some(SessionFault::Build(BuildFault::NoTurn)),
-        ),
-    ] {
-        assert_edits(&rt, edits, more, fault)?;
-    }
-    Ok(())
+        (SERVICE, r#","abort_after":1"#, LIMIT),
+        ("", r#","fail_at":0"#, LIMIT),
+        ("", r#","abort_after":1"#, LIMIT),
+        ("", r#"},{"handlers":[],"bursts":[],"fail_at":0"#, LIMIT),
+        ("", r#","fail_at":1,"abort_after":0"#, no_turn),
+    ];
+    assert_edits(&rt, &rows)
 }
 
 #[test]
@@ -211,7 +218,7 @@ fn no_channels(rt: HostRuntime) -> Result<(), Fail> {
 
 #[test]
 fn refused_sessions(rt: HostRuntime) {
-    for (text, fault) in [
+    for &(text, fault) in &[
         (r#"{"version":1"#, SessionFault::NotJson),
         ("[]", SessionFault::Kind),
         (r#"{"version":9}"#, SessionFault::Version),
@@ -237,7 +244,7 @@ fn truncated_session(rt: HostRuntime) -> Result<(), Fail> {
 #[test]
 fn hostile_members(rt: HostRuntime) -> Result<(), Fail> {
     let part = r#""version":1,"capacity":4,"loops":1"#;
-    for (version, capacity, loops, fault) in [
+    for &(version, capacity, loops, fault) in &[
         ("1.5", "4", "1", KIND),
         ("\"1\"", "4", "1", KIND),
         ("null", "4", "1", KIND),
@@ -259,19 +266,17 @@ fn hostile_members(rt: HostRuntime) -> Result<(), Fail> {
         let other = format!(in rt.alloc();
             "\"version\":{version},\"capacity\":{capacity},\"loops\":{loops}"
         )?;
-        assert_replaced(&rt, (part, other.as_str()), fault)?;
+        assert_replaced(&rt, &[(part, other.as_str(), fault)])?;
     }
     let no_turn = Some(SessionFault::Build(BuildFault::NoTurn));
     let marks = Some(SessionFault::Build(BuildFault::Marks));
-    for (part, other, fault) in [
+    let rows = [
         (r#"[{"handlers""#, r#"[7,{"handlers""#, KIND),
         (r#"{"handlers""#, r#"{"more""#, MISSING),
         (r#""bursts":"#, r#""handlers":[],"bursts":"#, no_turn),
         (r#""bursts":"#, r#""low":9,"high":8,"bursts":"#, marks),
-    ] {
-        assert_replaced(&rt, (part, other), fault)?;
-    }
-    Ok(())
+    ];
+    assert_replaced(&rt, &rows)
 }
 
 /// Members of an edit.
@@ -280,7 +285,7 @@ fn hostile_edits(rt: HostRuntime) -> Result<(), Fail> {
     let last = r#""op":"last","name":"decode""#;
     let decode = r#""kind":"decode""#;
     let part = format!(in rt.alloc(); "{last},{decode}")?;
-    for (edit, kind, fault) in [
+    for &(edit, kind, fault) in &[
         (r#""name":"decode""#, decode, MISSING),
         (r#""op":"before","name":"decode""#, decode, MISSING),
         (r#""op":"Last","name":"decode""#, decode, KIND),
@@ -296,24 +301,22 @@ fn hostile_edits(rt: HostRuntime) -> Result<(), Fail> {
         (last, r#""kind":"decode","group":null"#, None),
     ] {
         let other = format!(in rt.alloc(); "{edit},{kind}")?;
-        assert_replaced(&rt, (part.as_str(), other.as_str()), fault)?;
+        assert_replaced(&rt, &[(part.as_str(), other.as_str(), fault)])?;
     }
-    for (max, fault) in [
-        ("0", LIMIT),
-        ("8193", LIMIT),
-        ("8192", None),
-        ("null", KIND),
-    ] {
-        let other = format!(in rt.alloc(); "\"max\":{max}")?;
-        assert_replaced(&rt, (r#""max":64"#, other.as_str()), fault)?;
-    }
-    Ok(())
+    let max = r#""max":64"#;
+    let rows = [
+        (max, r#""max":0"#, LIMIT),
+        (max, r#""max":8193"#, LIMIT),
+        (max, r#""max":8192"#, None),
+        (max, r#""max":null"#, KIND),
+    ];
+    assert_replaced(&rt, &rows)
 }
 
 /// Members of a channel.
 #[test]
 fn hostile_channels(rt: HostRuntime) -> Result<(), Fail> {
-    for (member, value, fault) in [
+    for &(member, value, fault) in &[
         ("low", "1073741825", LIMIT),
         ("high", "1073741824", None),
         ("high", "\"8\"", KIND),
@@ -339,10 +342,10 @@ fn hostile_channels(rt: HostRuntime) -> Result<(), Fail> {
         ("abort_after", "4294967296", LIMIT),
     ] {
         let other = format!(in rt.alloc(); "\"{member}\":{value},\"bursts\":")?;
-        assert_replaced(&rt, (r#""bursts":"#, other.as_str()), fault)?;
+        assert_replaced(&rt, &[(r#""bursts":"#, other.as_str(), fault)])?;
     }
     let ping = r#""bursts":[["PING\r\n"]]"#;
-    for (members, bursts, fault) in [
+    for &(members, bursts, fault) in &[
         (r#""low":null,"high":null,"#, ping, None),
         (r#""low":0,"high":0,"#, ping, None),
         (
@@ -361,34 +364,32 @@ fn hostile_channels(rt: HostRuntime) -> Result<(), Fail> {
         (r#""abort_after":"x","fail_at":0,"#, ping, LIMIT),
     ] {
         let other = format!(in rt.alloc(); "{members}{bursts}")?;
-        assert_replaced(&rt, (ping, other.as_str()), fault)?;
+        assert_replaced(&rt, &[(ping, other.as_str(), fault)])?;
     }
     Ok(())
 }
 
 #[test]
 fn numbers_that_are_not_whole(rt: HostRuntime) -> Result<(), Fail> {
-    for number in ["1.0", "1e0", "-0", "-1", "18446744073709551616", "true"] {
-        for part in [r#""loops":1"#, r#""max":64"#] {
-            let (member, _) = part.split_once(':').ok_or("a member has a colon")?;
-            let other = format!(in rt.alloc(); "{member}:{number}")?;
-            assert_replaced(&rt, (part, other.as_str()), Some(SessionFault::Kind))?;
-        }
+    for &number in &NOT_WHOLE {
+        let loops = format!(in rt.alloc(); "\"loops\":{number}")?;
+        assert_replaced(&rt, &[(r#""loops":1"#, loops.as_str(), KIND)])?;
+        let max = format!(in rt.alloc(); "\"max\":{number}")?;
+        assert_replaced(&rt, &[(r#""max":64"#, max.as_str(), KIND)])?;
     }
     Ok(())
 }
 
 #[test]
 fn texts_that_are_no_json(rt: HostRuntime) -> Result<(), Fail> {
-    for (part, other) in [
-        (r#""name":"decode""#, r#""name":"\ud800""#),
-        (r#""loops":1"#, r#""loops":1e999"#),
-        ("{\"version\"", "\u{feff}{\"version\""),
-        ("]}]}", "]}]} 7"),
-    ] {
-        assert_replaced(&rt, (part, other), Some(SessionFault::NotJson))?;
-    }
-    Ok(())
+    let not_json = Some(SessionFault::NotJson);
+    let rows = [
+        (r#""name":"decode""#, r#""name":"\ud800""#, not_json),
+        (r#""loops":1"#, r#""loops":1e999"#, not_json),
+        ("{\"version\"", "\u{feff}{\"version\"", not_json),
+        ("]}]}", "]}]} 7", not_json),
+    ];
+    assert_replaced(&rt, &rows)
 }
 
 /// Of equal keys the last counts.
@@ -404,7 +405,7 @@ fn equal_keys(rt: HostRuntime) -> Result<(), Fail> {
 #[test]
 fn reading_order(rt: HostRuntime) -> Result<(), Fail> {
     let edit_7 = r#"{"op":"fly","name":7,"at":7,"kind":7}"#;
-    for (text, fault) in [
+    for &(text, fault) in &[
         (r#"{"capacity":0,"version":3}"#, SessionFault::Version),
         (
             r#"{"version":1,"capacity":1,"loops":0,"groups":7}"#,
@@ -425,24 +426,21 @@ fn reading_order(rt: HostRuntime) -> Result<(), Fail> {
     ] {
         assert_answer(&rt, text, Some(fault));
     }
-    for (edit, fault) in [
-        (edit_7, SessionFault::Kind),
-        (
-            r#"{"op":"before","name":"a","kind":7}"#,
-            SessionFault::Missing,
-        ),
+    let rows = [
+        (edit_7, "", KIND),
+        (r#"{"op":"before","name":"a","kind":7}"#, "", MISSING),
         (
             r#"{"op":"last","name":"a","kind":"lines","max":0,"group":7}"#,
-            SessionFault::Limit,
+            "",
+            LIMIT,
         ),
         (
             r#"{"op":"after","name":"a","at":"b","max":0,"n":0}"#,
-            SessionFault::Missing,
+            "",
+            MISSING,
         ),
-    ] {
-        assert_edits(&rt, edit, "", Some(fault))?;
-    }
-    Ok(())
+    ];
+    assert_edits(&rt, &rows)
 }
 
 /// Members that an edit does not have may have any value.
@@ -452,10 +450,8 @@ fn members_not_read(rt: HostRuntime) -> Result<(), Fail> {
         {"op":"first","name":"a","at":7,"kind":"service","max":"x","n":[]},
         {"op":"last","name":"b","kind":"decode","max":0},
         {"op":"remove","name":"b","at":7,"kind":7,"group":7}"#;
-    let session = read_session(rt.alloc(), with_edits(&rt, edits, "")?.as_str())?;
-    let channels = session.world.channels();
-    assert_eq!(rt; channels.len(), 1);
-    assert_eq!(rt; channels[0].pipeline.inbound(), 1);
+    let session = of_edits(&rt, edits, "")?;
+    assert_eq!(rt; only_channel(&rt, &session).pipeline.inbound(), 1);
     Ok(())
 }
 
@@ -468,10 +464,8 @@ fn builder_order(rt: HostRuntime) -> Result<(), Fail> {
         {"op":"before","at":"a","name":"c","kind":"lines","max":64},
         {"op":"after","at":"a","name":"d","kind":"encode"},
         {"op":"remove","name":"b"}"#;
-    let session = read_session(rt.alloc(), with_edits(&rt, edits, "")?.as_str())?;
-    let channels = session.world.channels();
-    assert_eq!(rt; channels.len(), 1);
-    let pipeline = &channels[0].pipeline;
+    let session = of_edits(&rt, edits, "")?;
+    let pipeline = &only_channel(&rt, &session).pipeline;
     assert!(rt; pipeline.inbound() == 2 && pipeline.outbound() == 0);
     assert!(rt; pipeline.executor_of(3) == Some(0) && pipeline.executor_of(4).is_none());
     Ok(())
@@ -480,7 +474,7 @@ fn builder_order(rt: HostRuntime) -> Result<(), Fail> {
 /// Outbound handlers before the turn count, and those after it do not.
 #[test]
 fn edit_sides(rt: HostRuntime) -> Result<(), Fail> {
-    for (edit, outbound) in [
+    for &(edit, outbound) in &[
         (r#"{"op":"first","name":"e","kind":"encode"}"#, 1),
         (r#"{"op":"last","name":"e","kind":"encode"}"#, 0),
         (
@@ -493,17 +487,16 @@ fn edit_sides(rt: HostRuntime) -> Result<(), Fail> {
         ),
     ] {
         let edits = format!(in rt.alloc(); "{SERVICE},{edit}")?;
-        let session = read_session(rt.alloc(), with_edits(&rt, edits.as_str(), "")?.as_str())?;
-        let channels = session.world.channels();
-        assert_eq!(rt; channels.len(), 1);
-        assert_eq!(rt; channels[0].pipeline.outbound(), outbound, "at {edit}");
+        let session = of_edits(&rt, edits.as_str(), "")?;
+        let pipeline = &only_channel(&rt, &session).pipeline;
+        assert_eq!(rt; pipeline.outbound(), outbound, "at {edit}");
     }
     Ok(())
 }
 
 #[test]
 fn builder_refusals(rt: HostRuntime) -> Result<(), Fail> {
-    for (edit, fault) in [
+    for &(edit, fault) in &[
         (
             r#"{"op":"first","name":"service","kind":"lines","max":64}"#,
             BuildFault::DuplicateName,
@@ -528,7 +521,10 @@ fn builder_refusals(rt: HostRuntime) -> Result<(), Fail> {
         ),
     ] {
         let edits = format!(in rt.alloc(); "{SERVICE},{edit}")?;
-        assert_edits(&rt, edits.as_str(), "", Some(SessionFault::Build(fault)))?;
+        assert_edits(
+            &rt,
+            &[(edits.as_str(), "", Some(SessionFault::Build(fault)))],
+        )?;
     }
     Ok(())
 }
@@ -540,7 +536,7 @@ fn build_refusals(rt: HostRuntime) -> Result<(), Fail> {
     let second_service = r#"{"op":"last","name":"b","kind":"service"},
         {"op":"last","name":"c","kind":"service"}"#;
     let no_name = r#"{"op":"last","name":"","kind":"service"}"#;
-    for (edits, more, fault) in [
+    for &(edits, more, fault) in &[
         (unknown_group, "", BuildFault::NoSuchGroup),
         (empty_group, "", BuildFault::NoSuchGroup),
         ("", "", BuildFault::NoTurn),
@@ -550,7 +546,7 @@ fn build_refusals(rt: HostRuntime) -> Result<(), Fail> {
         (SERVICE, r#","low":65537"#, BuildFault::Marks),
         (no_name, "", BuildFault::Limit),
     ] {
-        assert_edits(&rt, edits, more, Some(SessionFault::Build(fault)))?;
+        assert_edits(&rt, &[(edits, more, Some(SessionFault::Build(fault)))])?;
     }
     Ok(())
 }
@@ -559,7 +555,7 @@ fn build_refusals(rt: HostRuntime) -> Result<(), Fail> {
 #[test]
 fn building_order(rt: HostRuntime) -> Result<(), Fail> {
     let nobody = r#"{"op":"remove","name":"nobody"}"#;
-    for (edits, more, fault) in [
+    for &(edits, more, fault) in &[
         (
             nobody,
             r#"}],"groups":[{"name":"g","size":0}],"more":[{"x":1"#,
@@ -578,14 +574,14 @@ fn building_order(rt: HostRuntime) -> Result<(), Fail> {
             BuildFault::NoTurn,
         ),
     ] {
-        assert_edits(&rt, edits, more, Some(SessionFault::Build(fault)))?;
+        assert_edits(&rt, &[(edits, more, Some(SessionFault::Build(fault)))])?;
     }
     Ok(())
 }
 
 #[test]
 fn name_lengths(rt: HostRuntime) -> Result<(), Fail> {
-    for (copies, fault) in [
+    for &(copies, fault) in &[
         (31, None),
         (32, Some(SessionFault::Build(BuildFault::Limit))),
     ] {
@@ -593,29 +589,35 @@ fn name_lengths(rt: HostRuntime) -> Result<(), Fail> {
         let edit = format!(in rt.alloc();
             "{{\"op\":\"last\",\"name\":\"{name}é\",\"kind\":\"service\"}}"
         )?;
-        assert_edits(&rt, edit.as_str(), "", fault)?;
+        assert_edits(&rt, &[(edit.as_str(), "", fault)])?;
     }
     Ok(())
+}
+
+/// One service, and so many decoders before it.
+fn with_decoders(rt: &impl AllocGlobal, count: u32) -> Result<String, Fail> {
+    let mut edits = String::from_str(rt.alloc(), SERVICE)?;
+    for number in 0..count {
+        let edit = format!(in rt.alloc();
+            ",{{\"op\":\"first\",\"name\":\"{number}\",\"kind\":\"decode\"}}"
+        )?;
+        edits.push_str(edit.as_str())?;
+    }
+    Ok(edits)
 }
 
 /// A given number of handlers, and some of them taken out again.
 #[test]
 fn many_handlers(rt: HostRuntime) -> Result<(), Fail> {
     let limit = Some(SessionFault::Build(BuildFault::Limit));
-    for (count, end, fault) in [
+    for &(count, end, fault) in &[
         (31, "", None),
         (32, "", limit),
         (32, r#",{"op":"remove","name":"0"}"#, limit),
     ] {
-        let mut edits = String::from_str(rt.alloc(), SERVICE)?;
-        for number in 0..count {
-            let edit = format!(in rt.alloc();
-                ",{{\"op\":\"first\",\"name\":\"{number}\",\"kind\":\"decode\"}}"
-            )?;
-            edits.push_str(edit.as_str())?;
-        }
+        let mut edits = with_decoders(&rt, count)?;
         edits.push_str(end)?;
-        assert_edits(&rt, edits.as_str(), "", fault)?;
+        assert_edits(&rt, &[(edits.as_str(), "", fault)])?;
     }
     Ok(())
 }
@@ -624,26 +626,22 @@ fn many_handlers(rt: HostRuntime) -> Result<(), Fail> {
 fn many_edits(rt: HostRuntime) -> Result<(), Fail> {
     let pair = r#",{"op":"last","name":"a","kind":"decode"},{"op":"remove","name":"a"}"#;
     let pairs = pair.repeat(rt.alloc(), 127)?;
-    for (end, fault) in [
+    for &(end, fault) in &[
         (r#",{"op":"last","name":"a","kind":"decode"}"#, None),
-        (pair, Some(SessionFault::Limit)),
+        (pair, LIMIT),
     ] {
         let edits = format!(in rt.alloc(); "{SERVICE}{pairs}{end}")?;
-        assert_edits(&rt, edits.as_str(), "", fault)?;
+        assert_edits(&rt, &[(edits.as_str(), "", fault)])?;
     }
     Ok(())
 }
 
 #[test]
 fn many_channels(rt: HostRuntime) -> Result<(), Fail> {
-    for (copies, fault) in [(63, None), (64, Some(SessionFault::Limit))] {
-        let more = format!(in rt.alloc(); "}},{{\"handlers\":[{SERVICE}],\"bursts\":[]")?;
-        assert_edits(
-            &rt,
-            SERVICE,
-            more.repeat(rt.alloc(), copies)?.as_str(),
-            fault,
-        )?;
+    let channel = format!(in rt.alloc(); "}},{{\"handlers\":[{SERVICE}],\"bursts\":[]")?;
+    for &(copies, fault) in &[(63, None), (64, LIMIT)] {
+        let more = channel.repeat(rt.alloc(), copies)?;
+        assert_edits(&rt, &[(SERVICE, more.as_str(), fault)])?;
     }
     Ok(())
 }
@@ -652,7 +650,7 @@ fn many_channels(rt: HostRuntime) -> Result<(), Fail> {
 fn group_refusals(rt: HostRuntime) -> Result<(), Fail> {
     let duplicate = Some(SessionFault::Build(BuildFault::DuplicateName));
     let limit = Some(SessionFault::Build(BuildFault::Limit));
-    for (other, fault) in [
+    for &(other, fault) in &[
         (
             r#""loops":1,"groups":[{"name":"g","size":1},{"name":"g","size":1}]"#,
             duplicate,
@@ -669,7 +667,7 @@ fn group_refusals(rt: HostRuntime) -> Result<(), Fail> {
         (r#""loops":1,"groups":[{"name":"g","size":63}]"#, None),
         (r#""loops":63,"groups":[{"name":"g","size":1}]"#, None),
     ] {
-        assert_replaced(&rt, (r#""loops":1"#, other), fault)?;
+        assert_replaced(&rt, &[(r#""loops":1"#, other, fault)])?;
     }
     Ok(())
 }
@@ -689,7 +687,7 @@ fn group_placing(rt: HostRuntime) -> Result<(), Fail> {
     let session = read_session(rt.alloc(), text.as_str())?;
     assert_eq!(rt; session.world.executors(), 3);
     assert_eq!(rt; session.world.channels().len(), 3);
-    for (channel, executor) in session.world.channels().iter().zip([1, 2, 1]) {
+    for (channel, &executor) in session.world.channels().iter().zip(&[1, 2, 1]) {
         assert_grouped(&rt, channel, executor);
     }
     Ok(())
@@ -719,7 +717,7 @@ fn loops_in_turn(rt: HostRuntime) -> Result<(), Fail> {
     )?;
     let session = read_session(rt.alloc(), text.as_str())?;
     assert_eq!(rt; session.world.executors(), 2);
-    for (channel, executor) in session.world.channels().iter().zip([0, 1, 0]) {
+    for (channel, &executor) in session.world.channels().iter().zip(&[0, 1, 0]) {
         assert_eq!(rt; channel.pipeline.executor_of(0), Some(executor));
     }
     Ok(())
@@ -727,41 +725,37 @@ fn loops_in_turn(rt: HostRuntime) -> Result<(), Fail> {
 
 #[test]
 fn marks_are_kept(rt: HostRuntime) -> Result<(), Fail> {
-    let text = with_edits(&rt, SERVICE, r#","low":4,"high":8"#)?;
-    let session = read_session(rt.alloc(), text.as_str())?;
-    let channels = session.world.channels();
-    assert_eq!(rt; channels.len(), 1);
-    let pipeline = &channels[0].pipeline;
+    let session = of_edits(&rt, SERVICE, r#","low":4,"high":8"#)?;
+    let pipeline = &only_channel(&rt, &session).pipeline;
     assert!(rt; pipeline.low() == 4 && pipeline.high() == 8);
     Ok(())
 }
 
-/// The session of one PING with other bursts: copies of a part between two ends.
-fn with_bursts(
-    rt: &HostRuntime,
+/// The session of one PING with other bursts, which are copies of a part between two ends, has this answer.
+fn assert_copies(
+    rt: &(impl Abort + AllocGlobal),
     begin: &str,
     part: &str,
     copies: usize,
     end: &str,
-) -> Result<String, Fail> {
+    fault: Option<SessionFault>,
+) -> Result<(), Fail> {
     let copied = part.repeat(rt.alloc(), copies)?;
     let bursts = format!(in rt.alloc(); "{begin}{copied}{end}")?;
-    Ok(PING_SESSION.replace(rt.alloc(), r#"[["PING\r\n"]]"#, bursts.as_str())?)
+    assert_replaced(rt, &[(r#"[["PING\r\n"]]"#, bursts.as_str(), fault)])
 }
 
 #[test]
 fn burst_limits(rt: HostRuntime) -> Result<(), Fail> {
-    let limit = Some(SessionFault::Limit);
-    for (begin, part, copies, end, fault) in [
+    for &(begin, part, copies, end, fault) in &[
         ("[[]", ",[]", 4_095, "]", None),
-        ("[[]", ",[]", 4_096, "]", limit),
+        ("[[]", ",[]", 4_096, "]", LIMIT),
         (r#"[["""#, r#","""#, 16_383, "]]", None),
-        (r#"[["""#, r#","""#, 16_384, "]]", limit),
+        (r#"[["""#, r#","""#, 16_384, "]]", LIMIT),
         (r#"[["a"],[""#, "é", 524_287, r#"b"]]"#, None),
-        (r#"[["aa"],[""#, "é", 524_287, r#"b"]]"#, limit),
+        (r#"[["aa"],[""#, "é", 524_287, r#"b"]]"#, LIMIT),
     ] {
-        let text = with_bursts(&rt, begin, part, copies, end)?;
-        assert_answer(&rt, text.as_str(), fault);
+        assert_copies(&rt, begin, part, copies, end, fault)?;
     }
     Ok(())
 }
@@ -776,19 +770,18 @@ fn text_too_long(rt: HostRuntime) -> Result<(), Fail> {
 /// The number of bursts comes before them, and the elements and bytes after them, before an abort.
 #[test]
 fn burst_order(rt: HostRuntime) -> Result<(), Fail> {
-    for (begin, part, copies, end, fault) in [
-        ("[7", ",[]", 4_096, "]", SessionFault::Limit),
-        (r#"[["""#, r#","""#, 16_384, "],[7]]", SessionFault::Kind),
+    for &(begin, part, copies, end, fault) in &[
+        ("[7", ",[]", 4_096, "]", LIMIT),
+        (r#"[["""#, r#","""#, 16_384, "],[7]]", KIND),
         (
             r#"[["""#,
             r#","""#,
             16_384,
             r#"]],"abort_after":"x""#,
-            SessionFault::Limit,
+            LIMIT,
         ),
     ] {
-        let text = with_bursts(&rt, begin, part, copies, end)?;
-        assert_answer(&rt, text.as_str(), Some(fault));
+        assert_copies(&rt, begin, part, copies, end, fault)?;
     }
     Ok(())
 }
@@ -811,7 +804,7 @@ fn fault_texts(rt: HostRuntime) -> Result<(), Fail> {
     assert_told(&rt, SessionFault::Missing, "3 Missing")?;
     assert_told(&rt, SessionFault::Kind, "4 Kind")?;
     assert_told(&rt, SessionFault::Limit, "5 Limit")?;
-    for (fault, text) in BUILD_FAULT_TEXTS {
+    for &(fault, text) in &BUILD_FAULT_TEXTS {
         assert_told(&rt, SessionFault::Build(fault), text)?;
     }
     assert_told(&rt, SessionFault::from(BuildFault::Memory), "7 Memory")

@@ -1,7 +1,7 @@
 //! Session texts of version 2: chunks in hex, user events, and handlers of frames with their length in front.
 
 use crate::session_text::{
-    KIND, LIMIT, MISSING, SERVICE, assert_answer, assert_burst, assert_fails, chunk,
+    KIND, LIMIT, MISSING, SERVICE, assert_answer, assert_burst, assert_fails, chunk, only_channel,
 };
 use pl_event::Element;
 use pl_text::{SessionFault, read_session};
@@ -20,6 +20,18 @@ fn versioned(
     )?)
 }
 
+/// A session of the service in a version, with these bursts, has this answer.
+fn assert_bursts(
+    rt: &(impl Abort + AllocGlobal),
+    version: &str,
+    bursts: &str,
+    fault: Option<SessionFault>,
+) -> Result<(), Fail> {
+    let text = versioned(rt, version, SERVICE, bursts)?;
+    assert_answer(rt, text.as_str(), fault);
+    Ok(())
+}
+
 /// A session of the service behind a handler that has these members.
 fn with_handler(rt: &impl AllocGlobal, version: &str, members: &str) -> Result<String, Fail> {
     let edits = format!(in rt.alloc(); "{{\"op\":\"last\",\"name\":\"a\",{members}}},{SERVICE}")?;
@@ -34,27 +46,24 @@ fn assert_handlers(
     outbound: u16,
 ) -> Result<(), Fail> {
     let session = read_session(rt.alloc(), text)?;
-    let channels = session.world.channels();
-    assert!(rt; session.capacity == 4 && channels.len() == 1);
-    let pipeline = &channels[0].pipeline;
+    assert_eq!(rt; session.capacity, 4);
+    let channel = only_channel(rt, &session);
+    let pipeline = &channel.pipeline;
     assert!(rt; pipeline.inbound() == inbound && pipeline.outbound() == outbound);
     assert!(rt; pipeline.low() == 32_768 && pipeline.high() == 65_536);
-    assert_fails(rt, &channels[0], None, None);
+    assert_fails(rt, channel, None, None);
     Ok(())
 }
 
-/// A session in version 2 with a burst of this text reads it as these elements.
+/// A session in version 2 with bursts of this text reads them as one burst of these elements.
 fn assert_elements(
     rt: &(impl Abort + AllocGlobal),
-    burst: &str,
-    elements: &[Element],
+    bursts: &str,
+    elements: Vec<Element>,
 ) -> Result<(), Fail> {
-    let bursts = format!(in rt.alloc(); "[{burst}]")?;
-    let text = versioned(rt, "2", SERVICE, bursts.as_str())?;
+    let text = versioned(rt, "2", SERVICE, bursts)?;
     let session = read_session(rt.alloc(), text.as_str())?;
-    let channels = session.world.channels();
-    assert_eq!(rt; channels.len(), 1);
-    assert_burst(rt, &channels[0], elements);
+    assert_burst(rt, only_channel(rt, &session), elements.as_slice());
     Ok(())
 }
 
@@ -68,7 +77,7 @@ const FRAMES: &str = r#"
 
 #[test]
 fn version_two(rt: HostRuntime) -> Result<(), Fail> {
-    for (digits, bytes) in [
+    for &(digits, bytes) in &[
         ("", b"".as_slice()),
         ("00", b"\x00"),
         ("0450", b"\x04P"),
@@ -76,11 +85,11 @@ fn version_two(rt: HostRuntime) -> Result<(), Fail> {
         ("494e47", b"ING"),
         ("aBCdeF09fF", b"\xab\xcd\xef\x09\xff"),
     ] {
-        let burst = format!(in rt.alloc(); "[\"{digits}\"]")?;
+        let bursts = format!(in rt.alloc(); "[[\"{digits}\"]]")?;
         let elements = vec![in rt.alloc(); chunk(&rt, bytes)?]?;
-        assert_elements(&rt, burst.as_str(), elements.as_slice())?;
+        assert_elements(&rt, bursts.as_str(), elements)?;
     }
-    for (members, inbound, outbound) in [
+    for &(members, inbound, outbound) in &[
         (r#""kind":"length","width":2,"max":64"#, 2, 0),
         (r#""kind":"length","width":4,"max":1"#, 2, 0),
         (r#""kind":"prepend","width":2"#, 1, 1),
@@ -97,7 +106,7 @@ const VERSION: Option<SessionFault> = Some(SessionFault::Version);
 
 #[test]
 fn hostile_version_two(rt: HostRuntime) -> Result<(), Fail> {
-    for (version, members, fault) in [
+    for &(version, members, fault) in &[
         ("0", r#""kind":"prepend","width":2"#, VERSION),
         ("3", r#""kind":"prepend","width":2"#, VERSION),
         ("2.0", r#""kind":"prepend","width":2"#, KIND),
@@ -141,7 +150,7 @@ fn hostile_version_two(rt: HostRuntime) -> Result<(), Fail> {
 /// Bytes are counted, and not their digits.
 #[test]
 fn hostile_version_two_chunks(rt: HostRuntime) -> Result<(), Fail> {
-    for (part, copies, fault) in [
+    for &(part, copies, fault) in &[
         ("5", 1, KIND),
         ("zz", 1, KIND),
         ("0g", 1, KIND),
@@ -156,8 +165,7 @@ fn hostile_version_two_chunks(rt: HostRuntime) -> Result<(), Fail> {
     ] {
         let chunk = part.repeat(rt.alloc(), copies)?;
         let bursts = format!(in rt.alloc(); "[[\"\"],[\"{chunk}\"]]")?;
-        let text = versioned(&rt, "2", SERVICE, bursts.as_str())?;
-        assert_answer(&rt, text.as_str(), fault);
+        assert_bursts(&rt, "2", bursts.as_str(), fault)?;
     }
     Ok(())
 }
@@ -167,22 +175,22 @@ fn hostile_version_two_chunks(rt: HostRuntime) -> Result<(), Fail> {
 fn user_event(rt: HostRuntime) -> Result<(), Fail> {
     let ping = b"PING\n";
     let elements = vec![in rt.alloc(); chunk(&rt, ping)?, Element::User(7), chunk(&rt, ping)?]?;
-    let burst = r#"["50494e470a",{"user":7},"50494e470a"]"#;
-    assert_elements(&rt, burst, elements.as_slice())?;
-    for (burst, number) in [
-        (r#"[{"user":0}]"#, 0),
-        (r#"[{"user":4294967295}]"#, 4_294_967_295),
-        (r#"[{"bytes":7,"user":65536,"User":"x"}]"#, 65_536),
-        (r#"[{"user":"x","user":1}]"#, 1),
+    let bursts = r#"[["50494e470a",{"user":7},"50494e470a"]]"#;
+    assert_elements(&rt, bursts, elements)?;
+    for &(bursts, number) in &[
+        (r#"[[{"user":0}]]"#, 0),
+        (r#"[[{"user":4294967295}]]"#, 4_294_967_295),
+        (r#"[[{"bytes":7,"user":65536,"User":"x"}]]"#, 65_536),
+        (r#"[[{"user":"x","user":1}]]"#, 1),
     ] {
-        assert_elements(&rt, burst, [Element::User(number)].as_slice())?;
+        assert_elements(&rt, bursts, vec![in rt.alloc(); Element::User(number)]?)?;
     }
     Ok(())
 }
 
 #[test]
 fn hostile_user_event(rt: HostRuntime) -> Result<(), Fail> {
-    for (version, element, fault) in [
+    for &(version, element, fault) in &[
         ("2", r#"{"user":4294967296}"#, LIMIT),
         ("2", r#"{"user":18446744073709551615}"#, LIMIT),
         ("2", r#"{"user":18446744073709551616}"#, KIND),
@@ -204,8 +212,7 @@ fn hostile_user_event(rt: HostRuntime) -> Result<(), Fail> {
         ("2", r#""5",{}"#, KIND),
     ] {
         let bursts = format!(in rt.alloc(); "[[\"00\"],[{element}]]")?;
-        let text = versioned(&rt, version, SERVICE, bursts.as_str())?;
-        assert_answer(&rt, text.as_str(), fault);
+        assert_bursts(&rt, version, bursts.as_str(), fault)?;
     }
     Ok(())
 }
@@ -213,7 +220,7 @@ fn hostile_user_event(rt: HostRuntime) -> Result<(), Fail> {
 /// Chunks and user events count together, and a user event has no bytes.
 #[test]
 fn many_elements(rt: HostRuntime) -> Result<(), Fail> {
-    for (first, copies, fault) in [
+    for &(first, copies, fault) in &[
         (r#""00""#, 16_383, None),
         (r#""00""#, 16_384, LIMIT),
         (r#"{"user":7}"#, 16_383, None),
@@ -223,12 +230,9 @@ fn many_elements(rt: HostRuntime) -> Result<(), Fail> {
     ] {
         let events = r#",{"user":4294967295}"#.repeat(rt.alloc(), copies)?;
         let bursts = format!(in rt.alloc(); "[[{first}{events}]]")?;
-        let text = versioned(&rt, "2", SERVICE, bursts.as_str())?;
-        assert_answer(&rt, text.as_str(), fault);
+        assert_bursts(&rt, "2", bursts.as_str(), fault)?;
     }
     let digits = "0a".repeat(rt.alloc(), 1_048_576)?;
     let bursts = format!(in rt.alloc(); "[[{{\"user\":7}},\"{digits}\",{{\"user\":8}}]]")?;
-    let text = versioned(&rt, "2", SERVICE, bursts.as_str())?;
-    assert_answer(&rt, text.as_str(), None);
-    Ok(())
+    assert_bursts(&rt, "2", bursts.as_str(), None)
 }

@@ -20,13 +20,11 @@ fn row(alloc: Global, limit: u16) -> Result<(Promises, SettleSeat, ReadSeat), Al
     Ok((promises, settler, reader))
 }
 
+/// What the looks at a promise answer, and what settling and closing it do.
+type Settled = ([Option<Outcome>; 3], [Result<(), Outcome>; 2]);
+
 /// Looks at a promise, settles it with `Success`, looks again, tries to close it, and looks once more.
-fn settling(
-    promises: &Promises,
-    n: u64,
-    settler: &mut SettleSeat,
-    reader: &mut ReadSeat,
-) -> ([Option<Outcome>; 3], [Result<(), Outcome>; 2])
+fn settling(promises: &Promises, n: u64, settler: &mut SettleSeat, reader: &mut ReadSeat) -> Settled
     requires { (settler.old.name ≡ promises.now.name) × (reader.old.name ≡ promises.now.name) }
     ensures { (settler.new.name ≡ settler.old.name) × (reader.new.name ≡ reader.old.name) }
 {
@@ -38,17 +36,24 @@ fn settling(
     ([unset, settled, still], [first, second])
 }
 
+/// The same with two promises of a row.
+fn settling_two(alloc: Global, limit: u16, one: u64, two: u64) -> Result<[Settled; 2], AllocError>
+    requires { (1 ≤ limit) × (limit ≤ MAX_PROMISES) }
+{
+    let (promises, mut settler, mut reader) = row(alloc, limit)?;
+    let first = settling(&promises, one, &mut settler, &mut reader);
+    let second = settling(&promises, two, &mut settler, &mut reader);
+    Ok([first, second])
+}
+
 /// What a promise of the row answers.
-const KEPT: ([Option<Outcome>; 3], [Result<(), Outcome>; 2]) = (
+const KEPT: Settled = (
     [None, Some(Outcome::Success), Some(Outcome::Success)],
     [Ok(()), Err(Outcome::Success)],
 );
 
 /// What a void promise answers.
-const VOID: ([Option<Outcome>; 3], [Result<(), Outcome>; 2]) = (
-    [None, None, None],
-    [Ok(()), Ok(())],
-);
+const VOID: Settled = ([None, None, None], [Ok(()), Ok(())]);
 
 #[test]
 fn promise_settles_once(rt: HostRuntime) -> Result<(), Fail> {
@@ -59,14 +64,9 @@ fn promise_settles_once(rt: HostRuntime) -> Result<(), Fail> {
 
 #[test]
 fn void_promise(rt: HostRuntime) -> Result<(), Fail> {
-    let (promises, mut settler, mut reader) = row(rt.alloc(), 1)?;
-    assert_eq!(rt; settling(&promises, 1, &mut settler, &mut reader), VOID);
-    assert_eq!(rt;
-        settling(&promises, u64::MAX, &mut settler, &mut reader),
-        VOID
-    );
-    let (promises, mut settler, mut reader) = row(rt.alloc(), MAX_PROMISES)?;
-    assert_eq!(rt; settling(&promises, 4_095, &mut settler, &mut reader), KEPT);
-    assert_eq!(rt; settling(&promises, 4_096, &mut settler, &mut reader), VOID);
+    let settled = settling_two(rt.alloc(), 1, 1, u64::MAX)?;
+    assert_eq!(rt; settled, [VOID, VOID]);
+    let settled = settling_two(rt.alloc(), MAX_PROMISES, 4_095, 4_096)?;
+    assert_eq!(rt; settled, [KEPT, VOID]);
     Ok(())
 }

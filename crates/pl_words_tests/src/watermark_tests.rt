@@ -27,14 +27,8 @@ fn marking(alloc: Global) -> Result<([bool; 3], [Mark; 3]), AllocError> {
 fn mark_versions(rt: HostRuntime) -> Result<(), Fail> {
     let (writable, marks) = marking(rt.alloc())?;
     assert_eq!(rt; writable, [true, false, true]);
-    for (mark, version) in marks.into_iter().zip(0u64..3) {
-        assert_eq!(rt;
-            mark,
-            Mark {
-                version,
-                unwritable: version == 1
-            }
-        );
+    for (mark, version) in marks.iter().zip(0u64..3) {
+        assert_eq!(rt; (mark.version, mark.unwritable), (version, version == 1));
     }
     Ok(())
 }

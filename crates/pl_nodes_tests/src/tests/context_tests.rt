@@ -1,6 +1,6 @@
 //! Contexts, the tail, outputs and backlogs: faults, failures, an end, flags, and what becomes of what finds no memory.
 
-ghost use Rattle.std.specs.Prelude.{◌≡◌, ◌++◌, ◌∷◌, [], ◌<◌, OnOk, OnErr, vec_len, vec_capacity};
+ghost use Rattle.std.specs.Prelude.{◌≡◌, ◌++◌, ◌∷◌, [], ◌<◌, OnOk, vec_len, vec_capacity};
 ghost use Rattle.pl_nodes_tests.specs.declared.tests.context_tests.Relay.{Relay};
 ghost use Rattle.pl_nodes_tests.specs.Samples.{relaying, has_quit, relaying-lawful, passed_up, passed_down, is_complete, turned_by, sample_lane};
 ghost use Rattle.pl_context.specs.Stops.{HasPlaces, no_stops};
@@ -39,24 +39,15 @@ impl Stage for Relay {
 
     fn step(&mut self, event: Event, up: &mut Vec<Event>, down: &mut Vec<Event>) -> Stepped {
         let completes = is_complete(&event);
-        if self.is_spent {
-            return Err(StageFault::Memory);
-        }
-        if self.steps == 0 {
+        if self.is_spent || self.steps == 0 || reserve(up, down).is_err() {
+            drop(event);
             self.is_spent = true;
             return Err(StageFault::Memory);
         }
-        match pass(self.direction, event, up, down, self.has_quit) {
-            Ok(()) => {
-                self.steps -= 1;
-                self.has_quit = self.has_quit || completes;
-                Ok(turned(self.direction, self.has_quit))
-            }
-            Err(_) => {
-                self.is_spent = true;
-                Err(StageFault::Memory)
-            }
-        }
+        pass(self.direction, event, up, down, self.has_quit);
+        self.steps -= 1;
+        self.has_quit = self.has_quit || completes;
+        Ok(turned(self.direction, self.has_quit))
     }
 
     ghost lawful = { λ s. relaying-lawful s.direction };
@@ -117,16 +108,12 @@ fn pass(
     up: &mut Vec<Event>,
     down: &mut Vec<Event>,
     has_quit: bool,
-) -> Result<(), AllocError>
-    ensures up { OnOk result (up.new.items ≡ up.old.items ++ passed_up direction event) }
-    ensures down { OnOk result (down.new.items ≡ down.old.items ++ passed_down direction has_quit event) }
-    ensures up_kept { OnErr result (up.new.items ≡ up.old.items) }
-    ensures down_kept { OnErr result (down.new.items ≡ down.old.items) }
+)
+    requires room_up { vec_len up.old < vec_capacity up.old }
+    requires room_down { vec_len down.old < vec_capacity down.old }
+    ensures up { up.new.items ≡ up.old.items ++ passed_up direction event }
+    ensures down { down.new.items ≡ down.old.items ++ passed_down direction has_quit event }
 {
-    if let Err(error) = reserve(up, down) {
-        drop(event);
-        return Err(error);
-    }
     match direction {
         Direction::Turn => {
             if !has_quit {
@@ -137,7 +124,6 @@ fn pass(
         Direction::Inbound => up.push_reserved(event),
         Direction::Outbound => down.push_reserved(event),
     }
-    Ok(())
 }
 
 /// The lane of a kind at the hop of another.
@@ -305,7 +291,11 @@ fn is_put(envelope: &Envelope, put: Put) -> bool {
 /// Whether a list brings this next.
 fn brings_next(outputs: &mut Outputs, put: Put) -> bool {
     match outputs.next() {
-        Some(envelope) => is_put(&envelope, put),
+        Some(envelope) => {
+            let is_next = is_put(&envelope, put);
+            drop(envelope);
+            is_next
+        }
         None => false,
     }
 }
@@ -460,7 +450,7 @@ fn assert_fails(
 
 #[test]
 fn failure_keeps_its_cause(rt: HostRuntime) -> Result<(), Fail> {
-    for cause in [
+    for &cause in &[
         Cause::Memory,
         Cause::Transport,
         Cause::Aborted,
@@ -652,45 +642,47 @@ fn add(backlog: &mut Backlog<u8>, number: u64, token: u8) -> Option<u8>
     backlog.add(data(2, number, Item::Event(Event::Active)), token)
 }
 
-/// Takes the first envelope of a backlog, and answers its number and its token.
-fn take_first(backlog: &mut Backlog<u8>) -> Option<(u64, u8)> {
-    let (envelope, token) = backlog.take_at(0)?;
+/// Takes the envelope at a place of a backlog, and answers its number and its token.
+fn take_at(backlog: &mut Backlog<u8>, place: usize) -> Option<(u64, u8)> {
+    let (envelope, token) = backlog.take_at(place)?;
     let number = envelope.number;
     drop(envelope);
     Some((number, token))
+}
+
+/// Takes the envelope at a place of a backlog and puts it back, and answers its number.
+fn try_at(backlog: &mut Backlog<u8>, place: usize) -> Option<u64> {
+    let (envelope, token) = backlog.take_at(place)?;
+    let number = envelope.number;
+    backlog.put_back(place, envelope, token);
+    Some(number)
+}
+
+/// The number and the token of the first envelope of a backlog.
+fn front(backlog: &Backlog<u8>) -> Option<(u64, u8)> {
+    let (envelope, token) = backlog.front()?;
+    Some((envelope.number, *token))
 }
 
 /// A backlog has three items, and the first of them in front.
 fn assert_three(rt: &impl Abort, backlog: &Backlog<u8>) {
     assert!(rt; !backlog.is_empty());
     assert!(rt; !backlog.has_stopped());
-    match backlog.front() {
-        Some((envelope, token)) => {
-            assert!(rt; envelope.number == 0);
-            assert!(rt; *token == 10);
-        }
-        None => panic!(rt; "nothing is there"),
-    }
+    assert!(rt; front(backlog) == Some((0, 10)));
 }
 
 /// The second item of a backlog is taken and put back, and behind the third there is none.
 fn assert_second(rt: &impl Abort, backlog: &mut Backlog<u8>) {
-    assert!(rt; backlog.take_at(3).is_none());
-    match backlog.take_at(1) {
-        Some((envelope, token)) => {
-            assert!(rt; envelope.number == 1);
-            backlog.put_back(1, envelope, token);
-        }
-        None => panic!(rt; "nothing is there"),
-    }
+    assert!(rt; take_at(backlog, 3) == None);
+    assert!(rt; try_at(backlog, 1) == Some(1));
 }
 
 /// A backlog brings these numbers with these tokens, and nothing behind them.
 fn assert_numbers(rt: &impl Abort, backlog: &mut Backlog<u8>, want: &[(u64, u8)]) {
     for next in want {
-        assert!(rt; take_first(backlog) == Some(*next));
+        assert!(rt; take_at(backlog, 0) == Some(*next));
     }
-    assert!(rt; take_first(backlog) == None);
+    assert!(rt; take_at(backlog, 0) == None);
 }
 
 /// An empty backlog is given three items.
@@ -768,9 +760,9 @@ fn backlog_without_memory_gives_tokens_back(rt: HostRuntime) -> Result<(), Fail>
     }
     assert!(rt; kept == 8 || backlog.has_stopped());
     for number in 0..kept {
-        assert!(rt; take_first(&mut backlog) == Some((number, 7)));
+        assert!(rt; take_at(&mut backlog, 0) == Some((number, 7)));
     }
-    assert!(rt; take_first(&mut backlog) == None);
+    assert!(rt; take_at(&mut backlog, 0) == None);
     Ok(())
 }
 

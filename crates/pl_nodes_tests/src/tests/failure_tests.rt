@@ -137,7 +137,7 @@ fn fails_at(
 
 #[test]
 fn fault_at_each_call(rt: HostRuntime) -> Result<(), Fail> {
-    for (call, bytes, outcomes) in [
+    for &(call, bytes, outcomes) in &[
         (1, b"".as_slice(), [FAULT, FAULT]),
         (2, b"+PON".as_slice(), [FAULT, FAULT]),
         (3, b"+PONG\r\n".as_slice(), [LEFT, FAULT]),
@@ -291,7 +291,7 @@ fn assert_aborts(
     let failure = Given::Fail(number, Cause::Aborted);
     let aborted = [IS_LEFT, (Call::Read, GAVE, Some(failure))];
     let mut head = reading_head(rt.alloc(), Some(count), 64, None, 1, 2)?;
-    for rows in [steps, aborted.as_slice(), NOTHING_LEFT.as_slice()] {
+    for &rows in &[steps, aborted.as_slice(), NOTHING_LEFT.as_slice()] {
         assert_lasts(rt, &mut head, rows)?;
     }
     Ok(())

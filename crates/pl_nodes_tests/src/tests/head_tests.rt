@@ -258,7 +258,9 @@ fn given_by(envelope: &Envelope) -> Given {
 /// What the next envelope carries.
 fn next_given(outputs: &mut Outputs) -> Option<Given> {
     let envelope = outputs.next()?;
-    Some(given_by(&envelope))
+    let given = given_by(&envelope);
+    drop(envelope);
+    Some(given)
 }
 
 /// What a list of up to 100 envelopes brings.
@@ -385,7 +387,7 @@ type Part<'a> = (&'a [Expected], &'a [u8], &'a [Option<Outcome>]);
 fn assert_comes_to_both<T: Transport>(
     rt: &(impl Abort + AllocGlobal),
     mut head: Head<T>,
-    parts: [Part; 2],
+    parts: &[Part],
 ) -> Result<(), Fail> {
     for (rows, bytes, outcomes) in parts {
         assert_plays(rt, &mut head, rows, bytes, outcomes, None)?;
@@ -419,7 +421,7 @@ fn empty_message(rt: HostRuntime) -> Result<(), Fail> {
         (&EMPTY, b"", &[LEFT, None]),
         (&EMPTY_WRITTEN, b"ab", &[LEFT, LEFT]),
     ];
-    assert_comes_to_both(&rt, head, parts)
+    assert_comes_to_both(&rt, head, &parts)
 }
 
 const STRICT: [Expected; 8] = [
@@ -454,7 +456,7 @@ fn one_byte_transport(rt: HostRuntime) -> Result<(), Fail> {
     let transport = Trickle::new(alloc);
     let head = Head::new(alloc, 0, 3, nothing_to_read(alloc), transport, 4, 8);
     let parts: [Part; 2] = [(&TRICKLES, b"+", &[None]), (&TRICKLED, b"+P", &[LEFT])];
-    assert_comes_to_both(&rt, head, parts)
+    assert_comes_to_both(&rt, head, &parts)
 }
 
 const WATERMARKS: [Expected; 9] = [

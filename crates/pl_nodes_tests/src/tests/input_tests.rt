@@ -32,9 +32,13 @@ fn block(
 
 /// A head with two bursts to read: one of two chunks with a user event between them, and one of no element.
 fn two_bursts(alloc: Global) -> Result<Head<MemoryTransport>, AllocError> {
-    let first = Element::Chunk(text(alloc, b"ab")?);
-    let second = Element::Chunk(text(alloc, b"c")?);
-    let elements = vec![in alloc; first, Element::User(17), second]?;
+    let first = text(alloc, b"ab")?;
+    let second = text(alloc, b"c")?;
+    let elements = vec![in alloc;
+        Element::Chunk(first),
+        Element::User(17),
+        Element::Chunk(second),
+    ]?;
     let bursts = vec![in alloc; Sequence::from_vec(elements), Sequence::new(alloc)]?;
     let transport = MemoryTransport::new(alloc, 2, None);
     let plan = ReadPlan {

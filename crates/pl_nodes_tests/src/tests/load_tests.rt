@@ -71,7 +71,7 @@ fn write_empty(
     for _ in 0..count {
         apply(rt, head, Call::WriteLong(0))?;
     }
-    for call in [Call::WriteLong(1), Call::Flush, Call::Out] {
+    for &call in &[Call::WriteLong(1), Call::Flush, Call::Out] {
         apply(rt, head, call)?;
     }
     assert_left(rt, head.outcomes(), count + 1);

@@ -49,6 +49,17 @@ pub enum Answer {
     Finished,
 }
 
+// Why a send was refused.
+fn refused(unsent: Unsent) -> Answer {
+    let answer = match &unsent {
+        Unsent::Full(_) => Answer::Full,
+        Unsent::Closed(_) => Answer::Closed,
+        Unsent::Spent(_) => Answer::Spent,
+    };
+    drop(unsent);
+    answer
+}
+
 // Sends the next flag.
 fn send_next<W: Named, M: Mailbox<W> + Drop, R: Wait>(
     rt: &R,
@@ -69,18 +80,7 @@ fn send_next<W: Named, M: Mailbox<W> + Drop, R: Wait>(
             *next = number + 1;
             Answer::Sent
         }
-        Err(Unsent::Full(back)) => {
-            drop(back);
-            Answer::Full
-        }
-        Err(Unsent::Closed(back)) => {
-            drop(back);
-            Answer::Closed
-        }
-        Err(Unsent::Spent(back)) => {
-            drop(back);
-            Answer::Spent
-        }
+        Err(unsent) => refused(unsent),
     }
 }
 

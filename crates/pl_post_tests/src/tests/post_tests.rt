@@ -3,6 +3,7 @@
 use crate::feeding::{Closing, Fed};
 use crate::tests::answering::Answer::{self, Closed, Finished, Full, Nothing, Open, Sent, Took};
 use crate::tests::answering::{Answers, open_and_ask};
+use crate::tests::assert_is;
 use crate::tests::four_senders::four_by;
 use crate::tests::loads::{BoxKind, EACH, EVENTS, Load, three_by, two_by};
 use pl_event::{Envelope, Item, Named};
@@ -16,42 +17,28 @@ use std::sync::Wait;
 use std::test::*;
 use std::thread::Threads;
 
-// Whether the next envelope of a lane is back since the post was closed.
-fn is_closed_at(unsent: &Unsent, channel: u16, number: u64) -> bool {
-    let next = if number < EVENTS {
-        event(data_lane(channel), number)
-    } else {
-        Envelope {
-            lane: data_lane(channel),
-            number,
-            item: Item::End,
-        }
-    };
-    let is_next = match unsent {
-        Unsent::Closed(back) => *back == next,
-        Unsent::Full(_) | Unsent::Spent(_) => false,
-    };
-    drop(next);
-    is_next
+// The next envelope of a lane, back since the post was closed.
+fn closed_at(channel: u16, number: u64) -> Unsent {
+    let lane = data_lane(channel);
+    if number < EVENTS {
+        return Unsent::Closed(event(lane, number));
+    }
+    Unsent::Closed(Envelope {
+        lane,
+        number,
+        item: Item::End,
+    })
 }
 
 // How a thread ends: it sent what was taken of its lane, and where that is not all, the next envelope is back.
 fn assert_fed(rt: &impl Abort, fed: &Fed, channel: u16, taken: u64, count: u64) {
-    assert_eq!(rt; fed.sent, taken);
+    assert_is(rt, &fed.sent, taken);
     match &fed.unsent {
-        None => assert_eq!(rt; fed.sent, count),
+        None => assert_is(rt, &fed.sent, count),
         Some(unsent) => {
             assert!(rt; fed.sent < count);
-            assert!(rt; is_closed_at(unsent, channel, fed.sent));
+            assert_is(rt, unsent, closed_at(channel, fed.sent));
         }
-    }
-}
-
-// The post is closed to the next envelope of a lane.
-fn assert_closed(rt: &impl Abort, after: &Result<(), Unsent>, channel: u16, number: u64) {
-    match after {
-        Ok(()) => assert!(rt; false),
-        Err(unsent) => assert!(rt; is_closed_at(unsent, channel, number)),
     }
 }
 
@@ -59,11 +46,11 @@ fn assert_closed(rt: &impl Abort, after: &Result<(), Unsent>, channel: u16, numb
 fn assert_load(rt: &impl Abort, load: &Load) {
     assert!(rt; load.served.closed);
     assert!(rt; load.served.in_order);
-    assert_eq!(rt; load.served.taken[2], 0);
+    assert_is(rt, &load.served.taken[2], 0);
     assert_fed(rt, &load.first, 0, load.served.taken[0], EVENTS);
     assert_fed(rt, &load.second, 1, load.served.taken[1], EVENTS);
-    assert_closed(rt, &load.first_after, 0, load.first.sent);
-    assert_closed(rt, &load.second_after, 1, load.second.sent);
+    assert_is(rt, &load.first_after, Err(closed_at(0, load.first.sent)));
+    assert_is(rt, &load.second_after, Err(closed_at(1, load.second.sent)));
     let taken = load.served.taken[0].saturating_add(load.served.taken[1]);
     assert!(rt; taken >= 500);
 }
@@ -78,7 +65,7 @@ fn assert_closing(rt: &impl Abort, closing: &Closing) {
 
 #[test]
 fn post_closes_under_load(rt: HostRuntime) -> Result<(), Fail> {
-    for kind in EACH {
+    for &kind in &EACH {
         let load = two_by::<Brand, HostRuntime>(kind, &rt, rt.alloc()).ok_or("it was not opened")?;
         assert_load(&rt, &load);
         drop(load);
@@ -88,7 +75,7 @@ fn post_closes_under_load(rt: HostRuntime) -> Result<(), Fail> {
 
 #[test]
 fn three_feed_while_closing(rt: HostRuntime) -> Result<(), Fail> {
-    for kind in EACH {
+    for &kind in &EACH {
         let closing = three_by::<Brand, HostRuntime>(kind, &rt, rt.alloc()).ok_or(
             "it was not opened",
         )?;
@@ -108,12 +95,10 @@ fn four_senders<R: Threads + Wait + Abort + Sync>(
     assert!(rt; four.served.closed);
     assert!(rt; four.served.in_order);
     let mut sent = Vec::new(alloc);
-    for thread in four.each {
-        assert!(rt; matches!(thread.unsent, None | Some(Unsent::Closed(_))));
-        assert_eq!(rt; thread.closed_after, 64);
-        let extended = sent.extend_from_slice(thread.sent.as_slice());
-        drop(thread);
-        extended?;
+    for thread in four.each.as_slice() {
+        assert!(rt; matches!(&thread.unsent, None | Some(Unsent::Closed(_))));
+        assert_is(rt, &thread.closed_after, 64);
+        sent.extend_from_slice(thread.sent.as_slice())?;
     }
     assert_eq!(rt; four.served.taken.as_slice(), sent.as_slice());
     Ok(())
@@ -188,8 +173,12 @@ fn refusal<W: Named, M: Mailbox<W> + Drop>(
 }
 
 fn assert_limits<W: Named, M: Mailbox<W> + Drop>(rt: &impl Abort, alloc: Global) {
-    for (lanes, senders, capacity, expected) in LIMITS {
-        assert_eq!(rt; refusal::<W, M>(alloc, lanes, senders, capacity), expected);
+    for &(lanes, senders, capacity, expected) in &LIMITS {
+        assert_is(
+            rt,
+            &refusal::<W, M>(alloc, lanes, senders, capacity),
+            expected,
+        );
     }
 }
 

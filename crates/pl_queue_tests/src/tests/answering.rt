@@ -41,7 +41,10 @@ fn offer_next<W: Named, M: Mailbox<W>, R: Wait>(
             *next = number + 1;
             Answer::Sent
         }
-        Err(_full) => Answer::Full,
+        Err(full) => {
+            drop(full);
+            Answer::Full
+        }
     }
 }
 
@@ -51,7 +54,11 @@ fn take_next<W: Named, M: Mailbox<W>, R: Wait>(rt: &R, mailbox: &M, taker: &mut 
     ensures taker { M.ends.is_taker mailbox.now taker.new }
 {
     match mailbox.take::<R>(rt, taker) {
-        Some(envelope) => Answer::Took(envelope.number),
+        Some(envelope) => {
+            let number = envelope.number;
+            drop(envelope);
+            Answer::Took(number)
+        }
         None => Answer::Nothing,
     }
 }

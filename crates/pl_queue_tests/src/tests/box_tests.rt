@@ -5,10 +5,11 @@ use crate::events::data_lane;
 use crate::lines::LaneLines;
 use crate::openings::{LIMITS, lists};
 use crate::tests::answering::Answer::{Full, Nothing, Sent, Took};
+use crate::tests::assert_is;
 use crate::tests::boxes::{BoxKind, EACH, answers_by, lines_by, may_wait_by, relay_by};
 use crate::tests::left_tests::{assert_account, left_by, one_is_left};
 use crate::tests::relays::Lanes;
-use pl_event::{ByteString, Event, Item, Message, Named};
+use pl_event::{ByteString, Envelope, Event, Item, Lane, Message, Named};
 use pl_queue::{Mailbox, RingBox, WaitingBox};
 use std::alloc::Global;
 use std::marker::Brand;
@@ -32,12 +33,12 @@ fn always_full_or_none(rt: HostRuntime) -> Result<(), Fail> {
         Nothing,
     ];
     let waiting = [Nothing, Sent, Sent, Took(0), Took(1), Nothing];
-    for (kind, offers, expected) in [
+    for &(kind, offers, expected) in &[
         (BoxKind::Ring, 3, ring.as_slice()),
         (BoxKind::Waiting, 2, waiting.as_slice()),
     ] {
         let answers = answers_by::<Brand, HostRuntime>(kind, &rt, rt.alloc(), offers);
-        assert_eq!(rt; answers.ok_or("no memory")?.as_slice(), expected);
+        assert_is(&rt, &answers.ok_or("no memory")?.as_slice(), expected);
     }
     Ok(())
 }
@@ -46,9 +47,9 @@ fn assert_limits<W: Named, M: Mailbox<W> + Drop>(
     rt: &impl Abort,
     alloc: Global,
 ) -> Result<(), Fail> {
-    for (lanes, senders, capacity, refusal) in LIMITS {
+    for &(lanes, senders, capacity, refusal) in &LIMITS {
         let opened = M::open(alloc, lists(alloc, lanes, 1, senders)?, capacity);
-        assert_eq!(rt; opened.err(), refusal);
+        assert_is(rt, &opened.err(), refusal);
     }
     Ok(())
 }
@@ -61,11 +62,9 @@ fn mailbox_limits(rt: HostRuntime) -> Result<(), Fail> {
 
 #[test]
 fn one_left(rt: HostRuntime) -> Result<(), Fail> {
-    for kind in EACH {
-        one_is_left(
-            &rt,
-            left_by(&rt, rt.alloc(), kind).ok().ok_or("it stopped")?,
-        )?;
+    for &kind in &EACH {
+        let relayed = left_by(&rt, rt.alloc(), kind).ok().ok_or("it stopped")?;
+        one_is_left(&rt, relayed);
     }
     Ok(())
 }
@@ -76,6 +75,40 @@ fn line(alloc: Global, text: &str) -> Result<ByteString, Fail> {
 
 fn read(alloc: Global, text: &str) -> Result<Item, Fail> {
     Ok(Item::Event(Event::Read(Message::Line(line(alloc, text)?))))
+}
+
+// These lines came, and then the end of their lane.
+fn assert_lines(
+    rt: &impl Abort,
+    alloc: Global,
+    items: Vec<Item>,
+    texts: &[&str],
+) -> Result<(), Fail> {
+    let mut expected = Vec::new(alloc);
+    for &text in texts {
+        expected.push(read(alloc, text)?)?;
+    }
+    expected.push(Item::End)?;
+    assert_is(rt, &items, expected);
+    Ok(())
+}
+
+// The items that came by a lane, and all others.
+fn by_lane(
+    alloc: Global,
+    taken: Vec<Envelope>,
+    lane: Lane,
+) -> Result<(Vec<Item>, Vec<Item>), Fail> {
+    let mut own = Vec::new(alloc);
+    let mut others = Vec::new(alloc);
+    for envelope in taken {
+        if envelope.lane == lane {
+            own.push(envelope.item)?;
+        } else {
+            others.push(envelope.item)?;
+        }
+    }
+    Ok((own, others))
 }
 
 // Each lane's lines come in order, and then its end.
@@ -93,23 +126,39 @@ fn two_threads_hand_over<R: Threads + Wait + Abort + Sync>(
     };
     let lines = LaneLines { lane: first, lines };
     let taken = lines_by::<Brand, R>(kind, rt, alloc, lines, others);
-    let mut lines = Vec::new(alloc);
-    let mut others = Vec::new(alloc);
-    for envelope in taken.ok_or("no memory")? {
-        if envelope.lane == first {
-            lines.push(envelope.item)?;
-        } else {
-            others.push(envelope.item)?;
-        }
-    }
-    let expected = Vec::from_array(alloc, [read(alloc, "one")?, read(alloc, "two")?, Item::End])?;
-    assert_eq!(rt; lines.as_slice(), expected.as_slice());
-    let expected = Vec::from_array(alloc, [read(alloc, "three")?, Item::End])?;
-    assert_eq!(rt; others.as_slice(), expected.as_slice());
-    Ok(())
+    let (lines, others) = by_lane(alloc, taken.ok_or("no memory")?, first)?;
+    assert_lines(rt, alloc, lines, &["one", "two"])?;
+    assert_lines(rt, alloc, others, &["three"])
 }
 
-// Each lane comes as the numbers 0 to 999, with their items, and nothing is left.
+// The item with this number of a lane of 1,000.
+fn item_at(number: u64) -> Item {
+    match number {
+        0 => Item::Event(Event::Active),
+        999 => Item::End,
+        _ => Item::Event(Event::ReadComplete),
+    }
+}
+
+// Each of two lanes comes as the numbers 0 to 999, with their items.
+fn assert_in_order(rt: &impl Abort, taken: &[Envelope]) {
+    let mut nexts = [0u64; 2];
+    for envelope in taken {
+        let channel = usize::from(envelope.lane.channel);
+        assert!(rt; channel < nexts.len());
+        let number = nexts[channel];
+        let expected = Envelope {
+            lane: data_lane(envelope.lane.channel),
+            number,
+            item: item_at(number),
+        };
+        assert_is(rt, envelope, expected);
+        nexts[channel] = number.saturating_add(1);
+    }
+    assert_is(rt, &nexts, [1000, 1000]);
+}
+
+// Both lanes come so over a box, and nothing is left.
 fn two_lanes<R: Threads + Wait + Abort + Sync>(
     rt: &R,
     alloc: Global,
@@ -121,21 +170,7 @@ fn two_lanes<R: Threads + Wait + Abort + Sync>(
         last: 999,
     };
     let relayed = relay_by::<Brand, R>(kind, rt, alloc, lanes, 2).ok_or("it gave up")?;
-    let mut nexts = Vec::from_array(alloc, [0u64, 0])?;
-    for envelope in relayed.taken.as_slice() {
-        let channel = usize::from(envelope.lane.channel);
-        assert!(rt; channel < nexts.len());
-        assert_eq!(rt; envelope.lane, data_lane(envelope.lane.channel));
-        assert_eq!(rt; envelope.number, nexts[channel]);
-        let expected = match envelope.number {
-            0 => Item::Event(Event::Active),
-            999 => Item::End,
-            _ => Item::Event(Event::ReadComplete),
-        };
-        assert_eq!(rt; envelope.item, expected);
-        nexts[channel] = nexts[channel].saturating_add(1);
-    }
-    assert_eq!(rt; nexts.as_slice(), [1000, 1000].as_slice());
+    assert_in_order(rt, relayed.taken.as_slice());
     assert_account(rt, &relayed, 2, 1000, 1000, 0);
     Ok(())
 }

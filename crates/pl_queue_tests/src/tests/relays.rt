@@ -47,6 +47,7 @@ pub fn offer_one<W: Named, M: Mailbox<W>, R: Wait>(
             }
         }
     }
+    drop(envelope);
     false
 }
 

@@ -127,7 +127,9 @@ impl<'a, W: Named, M: Mailbox<W> + Drop> Sink<'a, W, M> {
     /// Takes the front of its queue, and answers the number there. None where the queue is empty.
     pub(crate) fn take<R: Wait>(&mut self, rt: &R) -> Option<u64> {
         let envelope = self.inbox.mailbox.take::<R>(rt, &mut self.own.taker)?;
-        Some(envelope.number)
+        let number = envelope.number;
+        drop(envelope);
+        Some(number)
     }
 
     /// Begins to close, and closes with so many. False where others were admitted.

@@ -59,26 +59,20 @@ fn admission_closes(rt: HostRuntime) -> Result<(), Fail> {
     play::<Brand, WaitingBox<Brand>, _>(&rt, rt.alloc(), 8, (0, 0), 2, rows)
 }
 
-/// Executor 0 is closed, and three flags are to be made for it, and two for executor 1. None where it could not be closed.
-fn run_refused<W: Named, M: Mailbox<W> + Drop, R: Wait>(
+/// Executor 0 is closed, and three flags are to be made for it, and two for executor 1.
+fn run_refused<W: Named, M: Mailbox<W> + Drop, R: Abort + Wait>(
     rt: &R,
     alloc: Global,
-) -> Result<Option<Ran>, Fail> {
+) -> Result<Ran, Fail> {
     let (inboxes, places) = open_three::<W, M>(alloc, 8)?;
     let mut alone = set_apart(alloc, &inboxes, places, (3, 2), 0)?;
-    if !alone.first.close(0) {
-        return Ok(None);
-    }
-    Ok(Some(alone.run(rt, true)))
+    assert!(rt; alone.first.close(0), "not closed");
+    Ok(alone.run(rt, true))
 }
 
-/// The first flag for a closed executor is refused, and no more are made for it. Nothing comes there, and those for another
-/// executor do.
-fn is_refused<W: Named, M: Mailbox<W> + Drop, R: Abort + Wait>(
-    rt: &R,
-    alloc: Global,
-) -> Result<(), Fail> {
-    let ran = run_refused::<W, M, R>(rt, alloc)?.ok_or("not closed")?;
+/// The first flag for a closed executor was refused, and no more were made for it. Nothing came there, and those for another
+/// executor did.
+fn assert_refused(rt: &impl Abort, ran: Ran) -> Result<(), Fail> {
     let node = ran.node.ok_or("not run")?;
     assert!(rt; node.refusals == 1 && node.first.made == 1 && node.second.made == 2);
     assert!(rt; ran.first.is_none() && ran.second == [Some(0), Some(1), None]);
@@ -87,6 +81,7 @@ fn is_refused<W: Named, M: Mailbox<W> + Drop, R: Abort + Wait>(
 
 #[test]
 fn refused_context(rt: HostRuntime) -> Result<(), Fail> {
-    is_refused::<Brand, RingBox<Brand>, _>(&rt, rt.alloc())?;
-    is_refused::<Brand, WaitingBox<Brand>, _>(&rt, rt.alloc())
+    let alloc = rt.alloc();
+    assert_refused(&rt, run_refused::<Brand, RingBox<Brand>, _>(&rt, alloc)?)?;
+    assert_refused(&rt, run_refused::<Brand, WaitingBox<Brand>, _>(&rt, alloc)?)
 }

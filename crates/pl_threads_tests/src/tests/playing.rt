@@ -70,6 +70,17 @@ impl<'a, W: Named, M: Mailbox<W> + Drop> Alone<'a, W, M> {
     }
 }
 
+/// An executor answers these calls, made one after another, as it is to.
+fn assert_answers<W: Named, M: Mailbox<W> + Drop, R: Abort + Wait>(
+    rt: &R,
+    alone: &mut Alone<'_, W, M>,
+    rows: &[Expected],
+) {
+    for (row, (call, answer)) in rows.iter().enumerate() {
+        assert!(rt; alone.apply(rt, *call) == *answer, "row {row}");
+    }
+}
+
 /// Makes these calls, one after another, of an executor that makes so many flags for executors 0 and 1, and to which so many
 /// are to come. The queues hold so many.
 pub(crate) fn play<W: Named, M: Mailbox<W> + Drop, R: Abort + Wait>(
@@ -82,8 +93,7 @@ pub(crate) fn play<W: Named, M: Mailbox<W> + Drop, R: Abort + Wait>(
 ) -> Result<(), Fail> {
     let (inboxes, places) = open_three::<W, M>(alloc, capacity)?;
     let mut alone = set_apart(alloc, &inboxes, places, counts, expected)?;
-    for (row, (call, answer)) in rows.iter().enumerate() {
-        assert!(rt; alone.apply(rt, *call) == *answer, "row {row}");
-    }
+    assert_answers(rt, &mut alone, rows);
+    drop(alone);
     Ok(())
 }
