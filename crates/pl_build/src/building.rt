@@ -15,7 +15,7 @@ use crate::grouping::Groups;
 use crate::limits::{DEFAULT_HIGH, DEFAULT_LOW, MAX_HANDLERS, MAX_MARK};
 use crate::named_stages::{NamedStage, Unadded};
 use crate::names::is_name;
-use crate::placing::Placed;
+use crate::placed::Placed;
 use crate::splitting::{Chains, Room, hop_executors, split};
 use pl_event::Stage;
 use std::alloc::Global;

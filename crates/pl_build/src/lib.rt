@@ -7,7 +7,7 @@ mod grouping;
 mod limits;
 mod named_stages;
 mod names;
-mod placing;
+mod placed;
 mod splitting;
 
 pub use building::{PipelineBuilder, Unbuilt};
@@ -17,4 +17,4 @@ pub use limits::{
     DEFAULT_HIGH, DEFAULT_LOW, MAX_EXECUTORS, MAX_HANDLERS, MAX_MARK, MAX_NAME_LENGTH,
 };
 pub use named_stages::{NamedStage, Unadded};
-pub use placing::Placed;
+pub use placed::Placed;

@@ -1,7 +1,7 @@
--- The first element of a list that passes a test: found, and taken out.
+-- The first element of a list that passes a test: found, taken out, and given another value.
 use Rattle.std.specs.Prelude.{◌⊎◌}
-use Rattle.std.specs.Map.{remove_entry}
-use Rattle.std.proofs.Common.{◌≡◌, ℕ, zero, suc, ◌+◌, ◌<◌, Bool, true, false, cond, not, ltb, Some, None, List, [], ◌∷◌, length, get_or, drop, refl, sym, ap, ◌∙◌, subst, arith, inl, inr}
+use Rattle.std.specs.Map.{remove_entry, set_value}
+use Rattle.std.proofs.Common.{◌≡◌, ℕ, zero, suc, ◌+◌, ◌<◌, Bool, true, false, cond, not, ltb, Some, None, List, [], ◌∷◌, length, get_or, drop, set, refl, sym, ap, ◌∙◌, subst, arith, inl, inr}
 use Rattle.std.specs.List.{All, AllPairs, filter, find, position, position_or_len, remove, slice_get}
 use Rattle.std.proofs.lemmas.List.Quantifiers.{position-Some}
 use Rattle.std.proofs.lemmas.List.Folds.{find_at}
@@ -143,3 +143,14 @@ remove-entry p (e ∷ es) zero f = sym (cond-true (p e.0) es (e ∷ remove_entry
 remove-entry {K} {V} p (e ∷ es) (suc i) f =
     ap (λ (l : List (K × V)). e ∷ l) (remove-entry p es i (next (λ e. p e.0) e es i f))
     ∙ sym (cond-false (p e.0) es (e ∷ remove_entry p es) (f.before 0 e (omega arith)))
+
+-- another value for an entry, at the place of the first with its key
+pub set-entry : {K V : Type 0} (p : K → Bool) (es : List (K × V)) (i : ℕ) (was : K × V) (value : V) → IsFirst (λ e. p e.0) es i → slice_get es i ≡ Some was
+    → set es i (was.0, value) ≡ set_value p es value
+set-entry p [] i was value f at = absurd (omega (arith, f.within))
+set-entry {K} {V} p (e ∷ es) zero was value f at =
+    ap (λ (x : K × V). (x.0, value) ∷ es) (sym (same_Some e was at))
+    ∙ sym (cond-true (p e.0) ((e.0, value) ∷ es) (e ∷ set_value p es value) (f.passes e))
+set-entry {K} {V} p (e ∷ es) (suc i) was value f at =
+    ap (λ (l : List (K × V)). e ∷ l) (set-entry p es i was value (next (λ e. p e.0) e es i f) at)
+    ∙ sym (cond-false (p e.0) ((e.0, value) ∷ es) (e ∷ set_value p es value) (f.before 0 e (omega arith)))

@@ -1,24 +1,25 @@
 -- The targets for which something waits: what a change of one does to their list, and a walk along it.
-use Rattle.std.proofs.Common.{◌≡◌, ℕ, ◌+◌, ◌<◌, ◌≤◌, Bool, true, false, cond, ltb, Option, Some, None, List, [], ◌∷◌, length, drop, get_or, refl, sym, ap, ◌∙◌, subst, arith, inl, inr}
-use Rattle.std.specs.Prelude.{nat_eq}
-use Rattle.std.specs.List.{All, IsDistinct, find, insert, position, remove}
-use Rattle.std.specs.List.Sorted.{IsPartitionPoint}
-use Rattle.std.specs.Map.{keys_of, lookup, update}
-use Rattle.std.specs.Option.{option_map}
+use Rattle.std.proofs.Common.{◌≡◌, ◌≢◌, ℕ, ◌+◌, ◌<◌, ◌≤◌, Bool, true, false, cond, ltb, Option, Some, None, List, [], ◌∷◌, length, drop, get_or, set, refl, sym, ap, ◌∙◌, subst, arith, inl, inr}
+use Rattle.std.specs.Prelude.{nat_eq, IsSome}
+use Rattle.std.specs.List.{All, IsDistinct, find, insert, position, remove, slice_get}
+use Rattle.std.specs.List.Sorted.{IsNonDecreasingBy, IsPartitionPoint}
+use Rattle.std.specs.Map.{keys_of, lookup, set_value, update}
+use Rattle.std.specs.Option.{option_map, option_map_or}
 use Rattle.std.specs.Cmp.{nat_eq_equiv}
-use Rattle.std.proofs.lemmas.Bool.{cases_Bool, cases_lt, cond-true, cond-false, eqb-true, ltb-true, ltb-false}
-use Rattle.std.proofs.lemmas.List.{drop_all, drop_more, get_or-map}
+use Rattle.std.proofs.lemmas.Bool.{cases_Bool, cases_eq, cases_lt, cond-true, cond-false, eqb-true, ltb-true, ltb-false}
+use Rattle.std.proofs.lemmas.List.{drop_all, drop_more, get_or-map, get_or-set_other, length-set}
+use Rattle.std.proofs.lemmas.Grind.{get_or-set_at}
 use Rattle.std.proofs.lemmas.List.Elements.{All-nil, All-get_or, All-cons, All-tail, All-contains, All-map, All-from_recursion, recursion_from_All, All-weaker}
 use Rattle.std.proofs.lemmas.List.Quantifiers.{all_pairs_remove}
 use Rattle.std.proofs.lemmas.List.Sorted.{IsNonDecreasingBy-insert, IsPermutation-insert, IsPermutation-remove, IsPermutation-map, All-permutation}
-use Rattle.std.proofs.lemmas.Map.{NonePasses, none_passes_from_lookup, lookup-insert, lookup-remove_entry}
+use Rattle.std.proofs.lemmas.Map.{NonePasses, none_passes_from_lookup, lookup-insert, lookup-remove_entry, lookup-set_value, keys-set_value}
 use Rattle.std.proofs.lemmas.Map.Entries.{length-keys_of}
 use Rattle.std.proofs.lemmas.Map.Keys.{IsDistinct-cons, IsDistinct-tail, IsDistinct-IsPermutation}
 use Rattle.std.proofs.lemmas.Map.Steps.{length-le_from_distinct_below}
 use Rattle.std.proofs.lemmas.Map.Views.{Contains-from_any, exact_unsigned_eq}
 use Rattle.std.proofs.lemmas.Option.{none-some, slice_get-get_or, get_or_from_slice_get}
 use Rattle.pl_context.specs.Fronts.{IsFronts}
-use Rattle.pl_context.proofs.Firsts.{IsFirst, position-first, find-Some-position, remove-entry}
+use Rattle.pl_context.proofs.Firsts.{IsFirst, position-first, find-first, find-Some-position, remove-entry, set-entry}
 
 -- ---- a change of the list
 
@@ -82,6 +83,68 @@ module _ (fronts : List Front) (places : ℕ) (target : ℕ) (is : IsFronts fron
     ages-remove y =
         ap (lookup (nat_eq y)) (remove-entry (nat_eq target) fronts i first)
         ∙ lookup-remove_entry nat_eq_equiv (nat_eq target) (λ x y same. nat_eq_equiv.congr target x y same) y fronts is.once
+
+    -- with a greater age for it, below that of the next
+    module _ (was : Front) (here : slice_get fronts i ≡ Some was) (value : ℕ) (older : was.1 < value) (next : option_map_or (λ front. ltb value front.1) (slice_get fronts (i + 1)) true ≡ true) where
+      renewed : List Front
+      renewed = set fronts i (was.0, value)
+
+      by-key : renewed ≡ set_value (nat_eq target) fronts value
+      unfolding renewed
+      by-key = set-entry (nat_eq target) fronts i was value first here
+
+      same-keys : keys_of fronts ≡ keys_of renewed
+      same-keys = sym (ap keys_of by-key ∙ keys-set_value (nat_eq target) fronts value)
+
+      age-here : (j : ℕ) (d : Front) → j ≡ i → age (get_or renewed j d) ≡ value
+      unfolding renewed
+      age-here j d same = ap age (get_or-set_at fronts i j (was.0, value) d same first.within)
+
+      age-there : (j : ℕ) (d : Front) → j ≢ i → age (get_or renewed j d) ≡ age (get_or fronts j d)
+      unfolding renewed
+      age-there j d other = ap age (get_or-set_other fronts i j (was.0, value) d other)
+
+      age-was : (d : Front) → age (get_or fronts i d) < value
+      age-was d = let same = ap age (get_or_from_slice_get fronts i was d here) in omega (arith, same, older)
+
+      age-next : (d : Front) → i + 1 < length fronts → value < age (get_or fronts (i + 1) d)
+      age-next d more =
+          ltb-true value (age (get_or fronts (i + 1) d))
+          (sym (ap (λ (o : Option Front). option_map_or (λ front. ltb value front.1) o true) (slice_get-get_or fronts (i + 1) d more)) ∙ next)
+
+      renewed-order : IsNonDecreasingBy age renewed
+      unfolding renewed
+      renewed-order j k d less below =
+          let within : k < length fronts = omega (arith, below, length-set fronts i (was.0, value)) in
+          elim (cases_eq j i) [
+            | inl left ↦ elim (cases_eq k i) [
+              | inl right ↦ omega (arith, age-here j d left, age-here k d right)
+              | inr later ↦
+                  let after = is.order (i + 1) k d (omega (arith, left, less, later)) within in
+                  omega (arith, age-here j d left, age-there k d later, after, age-next d (omega (arith, left, less, later, within)))
+            ]
+            | inr before ↦ elim (cases_eq k i) [
+              | inl right ↦
+                  let sorted = is.order j i d (omega (arith, less, right)) (omega (arith, within, right)) in
+                  omega (arith, age-there j d before, age-here k d right, sorted, age-was d)
+              | inr other ↦ let sorted = is.order j k d less within in omega (arith, age-there j d before, age-there k d other, sorted)
+            ]
+          ]
+
+      pub fronts-renew : IsFronts (set fronts i (was.0, value)) places
+      unfolding renewed
+      fronts-renew = record {
+        order = renewed-order;
+        once = subst (λ (l : List ℕ). IsDistinct nat_eq l) same-keys is.once;
+        there = subst (λ (l : List ℕ). All (λ t. t < places) l) same-keys is.there;
+      }
+
+      pub ages-renew : (y : ℕ) → lookup (nat_eq y) (set fronts i (was.0, value)) ≡ update nat_eq (λ y. lookup (nat_eq y) fronts) target (Some value) y
+      unfolding renewed
+      ages-renew y =
+          let found = lookup-find (nat_eq target) fronts ∙ ap (option_map (λ (e : Front). e.1)) (find-first (λ (front : Front). nat_eq target front.0) fronts i first ∙ here) in
+          ap (lookup (nat_eq y)) by-key
+          ∙ lookup-set_value nat_eq_equiv (nat_eq target) (λ x y same. nat_eq_equiv.congr target x y same) y value fronts (subst (λ (o : Option ℕ). IsSome o) (sym found) refl)
 
   -- with one more
   module _ (new : lookup (nat_eq target) fronts ≡ None) (there : target < places) where

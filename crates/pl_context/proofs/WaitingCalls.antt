@@ -15,11 +15,11 @@ use Rattle.pl_event.specs.declared.envelopes.Kind.TheVariants.{Data, Flags}
 use Rattle.pl_event.proofs.Lists.{position-map, remove-map, filter-map, slice_get_none, count_by-map}
 use Rattle.pl_context.specs.declared.added.Added.{Added}
 use Rattle.pl_context.specs.declared.added.Added.TheVariants.{Last, Refused, Discarded}
-use Rattle.pl_context.specs.declared.waiting.Late.{Late}
+use Rattle.pl_context.specs.declared.waiting.Stamp.{Stamp}
 use Rattle.pl_context.specs.OutputsViews.{added_items, failure_of, stopped_after as put_stopped}
 use Rattle.pl_context.specs.Backlogs.{BacklogView, AddsToken, handed_back}
 use Rattle.pl_context.specs.Stops.{StopsView, no_stops, has_stopped}
-use Rattle.pl_context.specs.WaitingViews.{WaitingView, Entry, Aged, is_for, is_aged_for, late, stops_for, room_for, Holds, Misses, WaitingAdds, Takes}
+use Rattle.pl_context.specs.WaitingViews.{WaitingView, Entry, Aged, is_for, is_aged_for, stamped, stops_for, room_for, Holds, Misses, WaitingAdds, Takes}
 use Rattle.pl_context.proofs.Firsts.{IsFirst, position-first, find-Some-position, find-None-position}
 use Rattle.pl_context.proofs.WaitingLemmas.{entry_of, holds-none, holds-more, front-first, count-waits, less-holds, less-misses}
 
@@ -37,18 +37,18 @@ at-set_there (y ∷ ys) (suc i) zero x other = refl
 at-set_there (y ∷ ys) (suc i) (suc j) x other = at-set_there ys i j x (λ same. other (ap (λ (n : ℕ). suc n) same))
 
 -- the lanes that have stopped on the way to one of these
-abbrev pub stops_in : {A : Type 0} → List (BacklogView (Late A)) → ℕ → StopsView
+abbrev pub stops_in : {A : Type 0} → List (BacklogView (Stamp A)) → ℕ → StopsView
 stops_in targets y = option_map_or (λ b. b.stopped) (slice_get targets y) (no_stops 0)
 
 -- they are the same where the part that was written stops as before
-pub stops-kept : {A : Type 0} (targets : List (BacklogView (Late A))) (target : ℕ) (b new : BacklogView (Late A)) → slice_get targets target ≡ Some b
+pub stops-kept : {A : Type 0} (targets : List (BacklogView (Stamp A))) (target : ℕ) (b new : BacklogView (Stamp A)) → slice_get targets target ≡ Some b
     → new.stopped ≡ b.stopped → (y : ℕ) → stops_in (set targets target new) y ≡ stops_in targets y
 stops-kept {A} targets target b new at stopped y = elim (cases_eq y target) [
   | inl same ↦ subst (λ (n : ℕ). stops_in (set targets target new) n ≡ stops_in targets n) (sym same)
-      (ap (λ (o : Option (BacklogView (Late A))). option_map_or (λ b. b.stopped) o (no_stops 0)) (at-set_here targets target new (slice_get_within targets target b at))
+      (ap (λ (o : Option (BacklogView (Stamp A))). option_map_or (λ b. b.stopped) o (no_stops 0)) (at-set_here targets target new (slice_get_within targets target b at))
       ∙ stopped
-      ∙ sym (ap (λ (o : Option (BacklogView (Late A))). option_map_or (λ b. b.stopped) o (no_stops 0)) at))
-  | inr other ↦ ap (λ (o : Option (BacklogView (Late A))). option_map_or (λ b. b.stopped) o (no_stops 0)) (at-set_there targets target y new other)
+      ∙ sym (ap (λ (o : Option (BacklogView (Stamp A))). option_map_or (λ b. b.stopped) o (no_stops 0)) at))
+  | inr other ↦ ap (λ (o : Option (BacklogView (Stamp A))). option_map_or (λ b. b.stopped) o (no_stops 0)) (at-set_there targets target y new other)
 ]
 
 -- ---- an addition
@@ -62,7 +62,7 @@ added-few Refused e = by e.lane.kind
     by Flags = omega arith
 added-few Discarded e = omega arith
 
-module _ {A : Type 0} (before after : WaitingView A) (target : ℕ) (e : Envelope) (token : A) (result : Option A) (old new : BacklogView (Late A)) (given : Option (Late A))
+module _ {A : Type 0} (before after : WaitingView A) (target : ℕ) (e : Envelope) (token : A) (result : Option A) (old new : BacklogView (Stamp A)) (given : Option (Stamp A))
     (at : slice_get before.targets target ≡ Some old)
     (written : after.targets ≡ set before.targets target new) (added : after.added ≡ before.added + 1)
     (adds : AddsToken old e (record { age = before.added; token = token }) given new) where
@@ -80,20 +80,20 @@ module _ {A : Type 0} (before after : WaitingView A) (target : ℕ) (e : Envelop
   by-list (x ∷ y ∷ es) few items entries h = absurd (omega (arith, few))
 
   stopped-before : stops_for before target ≡ old.stopped
-  stopped-before = ap (λ (o : Option (BacklogView (Late A))). option_map_or (λ b. b.stopped) o (no_stops 0)) at
+  stopped-before = ap (λ (o : Option (BacklogView (Stamp A))). option_map_or (λ b. b.stopped) o (no_stops 0)) at
 
   stopped-after : stops_for after target ≡ new.stopped
   stopped-after =
-      ap (λ (l : List (BacklogView (Late A))). option_map_or (λ b. b.stopped) (slice_get l target) (no_stops 0)) written
-      ∙ ap (λ (o : Option (BacklogView (Late A))). option_map_or (λ b. b.stopped) o (no_stops 0)) (at-set_here before.targets target new within)
+      ap (λ (l : List (BacklogView (Stamp A))). option_map_or (λ b. b.stopped) (slice_get l target) (no_stops 0)) written
+      ∙ ap (λ (o : Option (BacklogView (Stamp A))). option_map_or (λ b. b.stopped) o (no_stops 0)) (at-set_here before.targets target new within)
 
   room-before : room_for before target ≡ old.room
-  room-before = ap (λ (o : Option (BacklogView (Late A))). option_map_or (λ b. b.room) o 0) at
+  room-before = ap (λ (o : Option (BacklogView (Stamp A))). option_map_or (λ b. b.room) o 0) at
 
   room-after : room_for after target ≡ new.room
   room-after =
-      ap (λ (l : List (BacklogView (Late A))). option_map_or (λ b. b.room) (slice_get l target) 0) written
-      ∙ ap (λ (o : Option (BacklogView (Late A))). option_map_or (λ b. b.room) o 0) (at-set_here before.targets target new within)
+      ap (λ (l : List (BacklogView (Stamp A))). option_map_or (λ b. b.room) (slice_get l target) 0) written
+      ∙ ap (λ (o : Option (BacklogView (Stamp A))). option_map_or (λ b. b.room) o 0) (at-set_here before.targets target new within)
 
   pub waiting-adds : result ≡ option_map (λ l. l.token) given → WaitingAdds before target e token result after
   waiting-adds is = record {
@@ -104,13 +104,13 @@ module _ {A : Type 0} (before after : WaitingView A) (target : ℕ) (e : Envelop
     last = λ open_lane room.
         adds.last (ap (λ (s : StopsView). has_stopped s e.lane) (sym stopped-before) ∙ open_lane) (subst (λ (n : ℕ). 0 < n) room-before room);
     room = omega (arith, room-before, room-after, adds.room);
-    back = is ∙ ap (option_map (λ (l : Late A). l.token)) adds.back ∙ handed adds.answer e.lane.kind;
+    back = is ∙ ap (option_map (λ (l : Stamp A). l.token)) adds.back ∙ handed adds.answer e.lane.kind;
     added = added;
-    targets = ap (λ (l : List (BacklogView (Late A))). length l) written ∙ length-set before.targets target new;
-    others = λ y other. ap (λ (l : List (BacklogView (Late A))). slice_get l y) written ∙ at-set_there before.targets target y new other;
+    targets = ap (λ (l : List (BacklogView (Stamp A))). length l) written ∙ length-set before.targets target new;
+    others = λ y other. ap (λ (l : List (BacklogView (Stamp A))). slice_get l y) written ∙ at-set_there before.targets target y new other;
   }
     where
-      handed : (answer : Added) (kind : Kind) → option_map (λ (l : Late A). l.token) (handed_back answer kind (record { age = before.added; token = token })) ≡ handed_back answer kind token
+      handed : (answer : Added) (kind : Kind) → option_map (λ (l : Stamp A). l.token) (handed_back answer kind (record { age = before.added; token = token })) ≡ handed_back answer kind token
       handed Last kind = refl
       handed Refused Data = refl
       handed Refused Flags = refl
@@ -133,14 +133,14 @@ module _ {A : Type 0} (before : WaitingView A) (entries : List (Entry A)) (h : H
           absurd (omega (arith, here, on, slice_get_none before.targets target past))
 
   -- or nothing waits for it
-  pub none-waits : (b : BacklogView (Late A)) → slice_get before.targets target ≡ Some b → b.items ≡ [] → find (is_aged_for target) h.aged ≡ None
+  pub none-waits : (b : BacklogView (Stamp A)) → slice_get before.targets target ≡ Some b → b.items ≡ [] → find (is_aged_for target) h.aged ≡ None
   none-waits b at empty =
       by (find (is_aged_for target) h.aged)
-      (sym (front-first before h.aged h.holds target b at) ∙ ap (λ (l : List (Envelope × Late A)). slice_get l 0) empty)
+      (sym (front-first before h.aged h.holds target b at) ∙ ap (λ (l : List (Envelope × Stamp A)). slice_get l 0) empty)
     where
-      by : (o : Option (Aged A)) → option_map late o ≡ None → o ≡ None
+      by : (o : Option (Aged A)) → option_map stamped o ≡ None → o ≡ None
       by None is = refl
-      by (Some a) is = absurd (none-some (late a) (sym is))
+      by (Some a) is = absurd (none-some (stamped a) (sym is))
 
   module _ (after : WaitingView A) where
     pub takes-nothing : after ≡ before → find (is_aged_for target) h.aged ≡ None → Takes before entries target None after
@@ -153,17 +153,17 @@ module _ {A : Type 0} (before : WaitingView A) (entries : List (Entry A)) (h : H
       targets = ap (λ (w : WaitingView A). length w.targets) same;
     }
 
-    module _ (b new : BacklogView (Late A)) (at : slice_get before.targets target ≡ Some b) (envelope : Envelope) (l : Late A) (front : slice_get b.items 0 ≡ Some (envelope, l)) (items : new.items ≡ remove b.items 0) (stopped : new.stopped ≡ b.stopped) (room : b.room < new.room)
+    module _ (b new : BacklogView (Stamp A)) (at : slice_get before.targets target ≡ Some b) (envelope : Envelope) (l : Stamp A) (front : slice_get b.items 0 ≡ Some (envelope, l)) (items : new.items ≡ remove b.items 0) (stopped : new.stopped ≡ b.stopped) (room : b.room < new.room)
         (written : after.targets ≡ set before.targets target new) (added : after.added ≡ before.added) (taken : after.taken ≡ l.age) where
       within-taken : target < length before.targets
       within-taken = slice_get_within before.targets target b at
 
-      found : (a : Aged A) × (find (is_aged_for target) h.aged ≡ Some a) × (late a ≡ (envelope, l))
+      found : (a : Aged A) × (find (is_aged_for target) h.aged ≡ Some a) × (stamped a ≡ (envelope, l))
       found = by (find (is_aged_for target) h.aged) refl (sym (front-first before h.aged h.holds target b at) ∙ front)
         where
-          by : (o : Option (Aged A)) → find (is_aged_for target) h.aged ≡ o → option_map late o ≡ Some (envelope, l) → (a : Aged A) × (find (is_aged_for target) h.aged ≡ Some a) × (late a ≡ (envelope, l))
+          by : (o : Option (Aged A)) → find (is_aged_for target) h.aged ≡ o → option_map stamped o ≡ Some (envelope, l) → (a : Aged A) × (find (is_aged_for target) h.aged ≡ Some a) × (stamped a ≡ (envelope, l))
           by None is none = absurd (none-some (envelope, l) none)
-          by (Some a) is same = (a, is, same_Some (late a) (envelope, l) same)
+          by (Some a) is same = (a, is, same_Some (stamped a) (envelope, l) same)
 
       place : (i : ℕ) × (position (is_aged_for target) h.aged ≡ Some i) × (slice_get h.aged i ≡ Some found.0)
       place = find-Some-position (is_aged_for target) h.aged found.0 found.1
@@ -174,7 +174,7 @@ module _ {A : Type 0} (before : WaitingView A) (entries : List (Entry A)) (h : H
       is-found : (d : Aged A) → get_or h.aged place.0 d ≡ found.0
       is-found d = get_or_from_slice_get h.aged place.0 found.0 d place.2
 
-      entry-by : ℕ → Envelope × Late A → Entry A
+      entry-by : ℕ → Envelope × Stamp A → Entry A
       entry-by t y = record { target = t; envelope = y.0; token = y.1.token }
 
       entry-is : found.0.entry ≡ record { target = target; envelope = envelope; token = l.token }
@@ -182,13 +182,13 @@ module _ {A : Type 0} (before : WaitingView A) (entries : List (Entry A)) (h : H
       entry-is =
           let x = found.0.entry in
           let on : x.target ≡ target = eqb-true x.target target (ap (is_aged_for target) (sym (is-found found.0)) ∙ first.passes found.0) in
-          ap (λ (t : ℕ). entry-by t (late found.0)) on
+          ap (λ (t : ℕ). entry-by t (stamped found.0)) on
           ∙ ap (entry-by target) found.2
 
       roomy : 0 < room_for after target
       roomy =
-          let is = ap (λ (l : List (BacklogView (Late A))). option_map_or (λ b. b.room) (slice_get l target) 0) written
-          ∙ ap (λ (o : Option (BacklogView (Late A))). option_map_or (λ b. b.room) o 0) (at-set_here before.targets target new within-taken) in
+          let is = ap (λ (l : List (BacklogView (Stamp A))). option_map_or (λ b. b.room) (slice_get l target) 0) written
+          ∙ ap (λ (o : Option (BacklogView (Stamp A))). option_map_or (λ b. b.room) o 0) (at-set_here before.targets target new within-taken) in
           omega (arith, is, room)
 
       pub takes-first : Takes before entries target (Some (envelope, l.token)) after
@@ -201,10 +201,10 @@ module _ {A : Type 0} (before : WaitingView A) (entries : List (Entry A)) (h : H
               (less-holds before after h.aged h.holds target place.0 first b new at items written added),
           subst (λ (l : List (Entry A)). Misses after l place.0) (sym h.entries_are)
               (less-misses before after h.aged h.holds target place.0 first b new at items written added
-              (λ d. ap (λ (x : Aged A). x.age) (is-found d) ∙ ap (λ (x : Envelope × Late A). x.1.age) found.2 ∙ sym taken) roomy),
+              (λ d. ap (λ (x : Aged A). x.age) (is-found d) ∙ ap (λ (x : Envelope × Stamp A). x.1.age) found.2 ∙ sym taken) roomy),
         );
-        stopped = λ y. ap (λ (l : List (BacklogView (Late A))). stops_in l y) written ∙ stops-kept before.targets target b new at stopped y;
-        targets = ap (λ (l : List (BacklogView (Late A))). length l) written ∙ length-set before.targets target new;
+        stopped = λ y. ap (λ (l : List (BacklogView (Stamp A))). stops_in l y) written ∙ stops-kept before.targets target b new at stopped y;
+        targets = ap (λ (l : List (BacklogView (Stamp A))). length l) written ∙ length-set before.targets target new;
       }
 
 -- ---- what waits, counted
@@ -226,7 +226,7 @@ module _ {A : Type 0} (w : WaitingView A) (entries : List (Entry A)) (h : Holds 
           ap (λ (b : Bool). cond b (x ∷ filter (is_aged_for target) xs) (filter (is_aged_for target) xs)) off
           ∙ none xs (All-tail (λ (i : Aged A). i.entry.target < length w.targets) x xs there)
 
-  pub count-here : (target : ℕ) (b : BacklogView (Late A)) → slice_get w.targets target ≡ Some b → length b.items ≡ count_by (is_for target) entries
+  pub count-here : (target : ℕ) (b : BacklogView (Stamp A)) → slice_get w.targets target ≡ Some b → length b.items ≡ count_by (is_for target) entries
   count-here target b at = count-waits w h.aged h.holds target b at ∙ sym (counted target)
 
 -- ---- what was taken last
@@ -249,11 +249,11 @@ module _ {A : Type 0} (w : WaitingView A) (entries : List (Entry A)) (i : ℕ) (
       omega (arith, there, missed-target d)
 
   -- and has room for it
-  pub missed-room : (target : ℕ) → entry.target ≡ target → (b : BacklogView (Late A)) → slice_get w.targets target ≡ Some b → 0 < b.room
+  pub missed-room : (target : ℕ) → entry.target ≡ target → (b : BacklogView (Stamp A)) → slice_get w.targets target ≡ Some b → 0 < b.room
   missed-room target on b at_target =
       let d : Aged A = record { entry = entry; age = 0 } in
       let room = subst (λ (n : ℕ). 0 < room_for w n) (missed-target d ∙ on) (m.room d) in
-      let is = ap (λ (o : Option (BacklogView (Late A))). option_map_or (λ b. b.room) o 0) at_target in
+      let is = ap (λ (o : Option (BacklogView (Stamp A))). option_map_or (λ b. b.room) o 0) at_target in
       omega (arith, room, is)
 
 -- what was taken for a target, may be put back there
@@ -265,14 +265,14 @@ module _ {A : Type 0} (w now : WaitingView A) (same : w ≡ now) (target : ℕ)
   pub back-there : target < length w.targets
   back-there = let there = missed-there w r.0 r.1 missed r.2 r.3 in omega (arith, there, r.4)
 
-  pub back-room : (b : BacklogView (Late A)) → slice_get w.targets target ≡ Some b → 0 < b.room
+  pub back-room : (b : BacklogView (Stamp A)) → slice_get w.targets target ≡ Some b → 0 < b.room
   back-room = missed-room w r.0 r.1 missed r.2 r.3 target r.4
 
 -- the envelopes that wait for a target, in their order
-pub envelopes-for : {A : Type 0} (w : WaitingView A) (entries : List (Entry A)) (h : Holds w entries) (target : ℕ) (b : BacklogView (Late A)) → slice_get w.targets target ≡ Some b
-    → map (λ (x : Envelope × Late A). x.0) b.items ≡ map (λ (e : Entry A). e.envelope) (filter (is_for target) entries)
+pub envelopes-for : {A : Type 0} (w : WaitingView A) (entries : List (Entry A)) (h : Holds w entries) (target : ℕ) (b : BacklogView (Stamp A)) → slice_get w.targets target ≡ Some b
+    → map (λ (x : Envelope × Stamp A). x.0) b.items ≡ map (λ (e : Entry A). e.envelope) (filter (is_for target) entries)
 envelopes-for {A} w entries h target b at =
-    ap (map (λ (x : Envelope × Late A). x.0)) (h.holds.waits target b at)
-    ∙ map-map (λ (x : Envelope × Late A). x.0) late (filter (is_aged_for target) h.aged)
+    ap (map (λ (x : Envelope × Stamp A). x.0)) (h.holds.waits target b at)
+    ∙ map-map (λ (x : Envelope × Stamp A). x.0) stamped (filter (is_aged_for target) h.aged)
     ∙ sym (map-map (λ (e : Entry A). e.envelope) entry_of (filter (is_aged_for target) h.aged))
     ∙ ap (map (λ (e : Entry A). e.envelope)) (sym (filter-map (is_for target) entry_of h.aged) ∙ ap (filter (is_for target)) (sym h.entries_are))

@@ -1,6 +1,6 @@
 -- The list of targets for which something waits, beside the list of all that waits: what a change does to it, and that its
 -- first open target is that of the oldest envelope for an open one.
-use Rattle.std.proofs.Common.{◌≡◌, ℕ, suc, ◌<◌, ◌≤◌, Bool, true, eqb, Option, Some, None, List, [], ◌∷◌, length, set, refl, sym, ap, ◌∙◌, subst, arith, inl, inr}
+use Rattle.std.proofs.Common.{◌≡◌, ℕ, suc, ◌<◌, ◌≤◌, Bool, true, false, eqb, Option, Some, None, List, [], ◌∷◌, ◌++◌, length, set, refl, sym, ap, ◌∙◌, subst, arith, inl, inr}
 use Rattle.std.specs.Prelude.{nat_eq, IsSome, IfSome}
 use Rattle.std.specs.List.{All, AllPairs, find, slice_get}
 use Rattle.std.specs.List.Sorted.{IsNonDecreasingBy}
@@ -16,22 +16,32 @@ use Rattle.std.proofs.lemmas.Map.Entries.{lookup_tail, All-lookup}
 use Rattle.std.proofs.lemmas.Option.{none-some, same_Some, slice_get_within}
 use Rattle.pl_event.specs.declared.envelopes.Envelope.{Envelope}
 use Rattle.pl_event.proofs.Lists.{All-at, find-map, option_map-map}
-use Rattle.pl_context.specs.declared.waiting.Late.{Late}
+use Rattle.pl_context.specs.declared.waiting.Stamp.{Stamp}
 use Rattle.pl_context.specs.Backlogs.{BacklogView}
 use Rattle.pl_context.specs.Fronts.{FrontsView, age_for}
 use Rattle.pl_context.specs.WaitingViews.{WaitingView, Entry, Aged, is_aged_for, Holds, front_age, AreFronts}
+use Rattle.pl_context.proofs.FrontLemmas.{ages-kept}
 use Rattle.pl_context.proofs.Firsts.{find-passes, find-narrow, find-older}
 use Rattle.pl_context.proofs.WaitingLemmas.{entry_of, front-age}
 use Rattle.pl_context.proofs.WaitingCalls.{at-set_here, at-set_there, none-past}
 
+-- what comes behind a front leaves it the front
+pub front_age-more : {A : Type 0} (before after : BacklogView (Stamp A)) (more : List (Envelope × Stamp A)) → false ≡ eqb (length before.items) 0
+    → after.items ≡ before.items ++ more → front_age after ≡ front_age before
+front_age-more {A} before after more some items = ap (option_map (λ entry. entry.1.age)) (ap (λ (l : List (Envelope × Stamp A)). slice_get l 0) items ∙ by before.items some)
+  where
+    by : (l : List (Envelope × Stamp A)) → false ≡ eqb (length l) 0 → slice_get (l ++ more) 0 ≡ slice_get l 0
+    by [] some = absurd (true≢false (sym some))
+    by (x ∷ xs) some = refl
+
 -- ---- the targets of a list that is kept by target
 
-module _ {A : Type 0} (targets : List (BacklogView (Late A))) where
-  pub front-noted : (fronts : FrontsView) → AreFronts fronts targets → (target : ℕ) (b : BacklogView (Late A)) → slice_get targets target ≡ Some b → age_for fronts target ≡ front_age b
-  front-noted fronts is target b at = is.ages target ∙ ap (λ (o : Option (BacklogView (Late A))). option_map_or front_age o None) at
+module _ {A : Type 0} (targets : List (BacklogView (Stamp A))) where
+  pub front-noted : (fronts : FrontsView) → AreFronts fronts targets → (target : ℕ) (b : BacklogView (Stamp A)) → slice_get targets target ≡ Some b → age_for fronts target ≡ front_age b
+  front-noted fronts is target b at = is.ages target ∙ ap (λ (o : Option (BacklogView (Stamp A))). option_map_or front_age o None) at
 
   -- one of them was written, and its front noted
-  pub fronts-set : (before after : FrontsView) (target : ℕ) (new : BacklogView (Late A)) (age : Option ℕ) → target < length targets → AreFronts before targets
+  pub fronts-set : (before after : FrontsView) (target : ℕ) (new : BacklogView (Stamp A)) (age : Option ℕ) → target < length targets → AreFronts before targets
       → age ≡ front_age new → ((y : ℕ) → age_for after y ≡ update nat_eq (age_for before) target age y) → before.places ≤ after.places
       → AreFronts after (set targets target new)
   fronts-set before after target new age within is noted ages places = record {
@@ -40,12 +50,19 @@ module _ {A : Type 0} (targets : List (BacklogView (Late A))) where
       | inl same ↦
           subst (λ (n : ℕ). age_for after n ≡ option_map_or front_age (slice_get (set targets target new) n) None) (sym same)
           (ages target ∙ update_here (age_for before) target age ∙ noted
-          ∙ sym (ap (λ (o : Option (BacklogView (Late A))). option_map_or front_age o None) (at-set_here targets target new within)))
+          ∙ sym (ap (λ (o : Option (BacklogView (Stamp A))). option_map_or front_age o None) (at-set_here targets target new within)))
       | inr other ↦
           ages y ∙ update_apart (age_for before) target age y other ∙ is.ages y
-          ∙ sym (ap (λ (o : Option (BacklogView (Late A))). option_map_or front_age o None) (at-set_there targets target y new other))
+          ∙ sym (ap (λ (o : Option (BacklogView (Stamp A))). option_map_or front_age o None) (at-set_there targets target y new other))
     ];
   }
+
+  -- one of them was written, and its front is the same
+  pub fronts-same : (fronts : FrontsView) (target : ℕ) (b new : BacklogView (Stamp A)) → slice_get targets target ≡ Some b → AreFronts fronts targets
+      → front_age new ≡ front_age b → AreFronts fronts (set targets target new)
+  fronts-same fronts target b new at is same =
+      fronts-set fronts fronts target new (front_age b) (slice_get_within targets target b at) is (sym same)
+      (ages-kept (age_for fronts) target (front_age b) (front-noted fronts is target b at)) (omega arith)
 
   -- none of them has anything
   pub fronts-empty : (fronts : FrontsView) → fronts.ages ≡ [] → length targets ≤ fronts.places → All (λ b. b.items ≡ []) targets → AreFronts fronts targets
@@ -54,17 +71,17 @@ module _ {A : Type 0} (targets : List (BacklogView (Late A))) where
     ages = λ y. ap (lookup (nat_eq y)) none ∙ by y (slice_get targets y) refl;
   }
     where
-      by : (y : ℕ) (o : Option (BacklogView (Late A))) → slice_get targets y ≡ o → None ≡ option_map_or front_age (slice_get targets y) None
-      by y None at = sym (ap (λ (o : Option (BacklogView (Late A))). option_map_or front_age o None) at)
+      by : (y : ℕ) (o : Option (BacklogView (Stamp A))) → slice_get targets y ≡ o → None ≡ option_map_or front_age (slice_get targets y) None
+      by y None at = sym (ap (λ (o : Option (BacklogView (Stamp A))). option_map_or front_age o None) at)
       by y (Some b) at =
-          sym (ap (λ (o : Option (BacklogView (Late A))). option_map_or front_age o None) at
-          ∙ ap (λ (l : List (Envelope × Late A)). option_map (λ entry. entry.1.age) (slice_get l 0)) (All-at (λ (b : BacklogView (Late A)). b.items ≡ []) targets y b empty at))
+          sym (ap (λ (o : Option (BacklogView (Stamp A))). option_map_or front_age o None) at
+          ∙ ap (λ (l : List (Envelope × Stamp A)). option_map (λ entry. entry.1.age) (slice_get l 0)) (All-at (λ (b : BacklogView (Stamp A)). b.items ≡ []) targets y b empty at))
 
   -- only targets that are there are noted
   pub fronts-there : (fronts : FrontsView) → AreFronts fronts targets → (P : ℕ → Type 0) → ((y : ℕ) → y < length targets → P y) → All P (keys_of fronts.ages)
   fronts-there fronts is P there = All-keys_from_lookup nat_eq_equiv P fronts.ages (λ y some. there y (by y (slice_get targets y) refl (subst (λ (o : Option ℕ). IsSome o) (is.ages y) some)))
     where
-      by : (y : ℕ) (o : Option (BacklogView (Late A))) → slice_get targets y ≡ o → IsSome (option_map_or front_age o None) → y < length targets
+      by : (y : ℕ) (o : Option (BacklogView (Stamp A))) → slice_get targets y ≡ o → IsSome (option_map_or front_age o None) → y < length targets
       by y None at some = absurd (true≢false (sym some))
       by y (Some b) at some = slice_get_within targets y b at
 
@@ -138,7 +155,7 @@ module _ {A : Type 0} (w : WaitingView A) (fronts : FrontsView) (entries : List 
   agree : (y : ℕ) → age_for fronts y ≡ option_map (λ (i : Aged A). i.age) (find (is_aged_for y) h.aged)
   agree y = is.ages y ∙ by (slice_get w.targets y) refl
     where
-      by : (o : Option (BacklogView (Late A))) → slice_get w.targets y ≡ o → option_map_or front_age o None ≡ option_map (λ (i : Aged A). i.age) (find (is_aged_for y) h.aged)
+      by : (o : Option (BacklogView (Stamp A))) → slice_get w.targets y ≡ o → option_map_or front_age o None ≡ option_map (λ (i : Aged A). i.age) (find (is_aged_for y) h.aged)
       by None past = sym (ap (option_map (λ (i : Aged A). i.age)) (none-past w entries h y past))
       by (Some b) at = front-age w h.aged h.holds y b at
 

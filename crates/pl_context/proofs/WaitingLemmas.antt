@@ -11,9 +11,9 @@ use Rattle.std.proofs.lemmas.Option.{slice_get-map, slice_get-get_or, same_Some}
 use Rattle.std.proofs.lemmas.Bool.{cases_eq, eq-eqb, eqb-true, ne_eqb}
 use Rattle.pl_event.specs.declared.envelopes.Envelope.{Envelope}
 use Rattle.pl_event.proofs.Lists.{at_set_same, at_set_other, option_map-map, count_by-map}
-use Rattle.pl_context.specs.declared.waiting.Late.{Late}
+use Rattle.pl_context.specs.declared.waiting.Stamp.{Stamp}
 use Rattle.pl_context.specs.Backlogs.{BacklogView}
-use Rattle.pl_context.specs.WaitingViews.{WaitingView, Entry, Aged, is_for, is_aged_for, late, room_for, HoldsAged, Holds, Misses}
+use Rattle.pl_context.specs.WaitingViews.{WaitingView, Entry, Aged, is_for, is_aged_for, stamped, room_for, HoldsAged, Holds, Misses}
 use Rattle.pl_context.proofs.Firsts.{IsFirst, find-filter, filter-remove_first, filter-remove_other}
 
 abbrev pub entry_of : {A : Type 0} → Aged A → Entry A
@@ -25,27 +25,27 @@ Older older later = older.age < later.age
 -- ---- one of the parts has changed
 
 -- what each target has, where one was written
-pub waits-set : {A : Type 0} (targets : List (BacklogView (Late A))) (y : ℕ) (new : BacklogView (Late A)) (aged now : List (Aged A))
-    → ((z : ℕ) (b : BacklogView (Late A)) → slice_get targets z ≡ Some b → b.items ≡ map late (filter (is_aged_for z) aged))
-    → new.items ≡ map late (filter (is_aged_for y) now)
+pub waits-set : {A : Type 0} (targets : List (BacklogView (Stamp A))) (y : ℕ) (new : BacklogView (Stamp A)) (aged now : List (Aged A))
+    → ((z : ℕ) (b : BacklogView (Stamp A)) → slice_get targets z ≡ Some b → b.items ≡ map stamped (filter (is_aged_for z) aged))
+    → new.items ≡ map stamped (filter (is_aged_for y) now)
     → ((z : ℕ) → z ≢ y → filter (is_aged_for z) now ≡ filter (is_aged_for z) aged)
-    → (z : ℕ) (b : BacklogView (Late A)) → slice_get (set targets y new) z ≡ Some b → b.items ≡ map late (filter (is_aged_for z) now)
+    → (z : ℕ) (b : BacklogView (Stamp A)) → slice_get (set targets y new) z ≡ Some b → b.items ≡ map stamped (filter (is_aged_for z) now)
 waits-set {A} targets y new aged now was here others z b at = elim (cases_eq z y) [
   | inl same ↦
       let is = at_set_same targets y new b (subst (λ (n : ℕ). slice_get (set targets y new) n ≡ Some b) same at) in
-      ap (λ (v : BacklogView (Late A)). v.items) is ∙ here ∙ ap (λ (n : ℕ). map late (filter (is_aged_for n) now)) (sym same)
-  | inr other ↦ was z b (at_set_other targets y z new b other at) ∙ ap (map late) (sym (others z other))
+      ap (λ (v : BacklogView (Stamp A)). v.items) is ∙ here ∙ ap (λ (n : ℕ). map stamped (filter (is_aged_for n) now)) (sym same)
+  | inr other ↦ was z b (at_set_other targets y z new b other at) ∙ ap (map stamped) (sym (others z other))
 ]
 
 -- ---- one more
 
-module _ {A : Type 0} (before after : WaitingView A) (target : ℕ) (new : BacklogView (Late A)) (within : target < length before.targets)
+module _ {A : Type 0} (before after : WaitingView A) (target : ℕ) (new : BacklogView (Stamp A)) (within : target < length before.targets)
     (written : after.targets ≡ set before.targets target new) (added : after.added ≡ before.added + 1) where
   same-size : length after.targets ≡ length before.targets
-  same-size = ap (λ (l : List (BacklogView (Late A))). length l) written ∙ length-set before.targets target new
+  same-size = ap (λ (l : List (BacklogView (Stamp A))). length l) written ∙ length-set before.targets target new
 
   -- an age that is not given
-  pub holds-none : (old : BacklogView (Late A)) → slice_get before.targets target ≡ Some old → new.items ≡ old.items → (entries : List (Entry A)) → Holds before entries → Holds after entries
+  pub holds-none : (old : BacklogView (Stamp A)) → slice_get before.targets target ≡ Some old → new.items ≡ old.items → (entries : List (Entry A)) → Holds before entries → Holds after entries
   holds-none old at items entries h = record {
     aged = h.aged;
     entries_are = h.entries_are;
@@ -53,7 +53,7 @@ module _ {A : Type 0} (before after : WaitingView A) (target : ℕ) (new : Backl
       order = h.holds.order;
       younger = All-weaker (λ (i : Aged A). i.age < before.added) (λ i. i.age < after.added) (λ i below. omega (arith, below, added)) h.aged h.holds.younger;
       there = subst (λ (n : ℕ). All (λ i. i.entry.target < n) h.aged) (sym same-size) h.holds.there;
-      waits = subst (λ (l : List (BacklogView (Late A))). (y : ℕ) (b : BacklogView (Late A)) → slice_get l y ≡ Some b → b.items ≡ map late (filter (is_aged_for y) h.aged)) (sym written)
+      waits = subst (λ (l : List (BacklogView (Stamp A))). (y : ℕ) (b : BacklogView (Stamp A)) → slice_get l y ≡ Some b → b.items ≡ map stamped (filter (is_aged_for y) h.aged)) (sym written)
           (waits-set before.targets target new h.aged h.aged h.holds.waits (items ∙ h.holds.waits target old at) (λ z other. refl));
     };
   }
@@ -77,7 +77,7 @@ module _ {A : Type 0} (before after : WaitingView A) (target : ℕ) (new : Backl
         ∙ ap (λ (t : Bool). filter (is_aged_for z) aged ++ cond t (last ∷ []) []) (ne_eqb target z (λ same. other (sym same)))
         ∙ append-nil (filter (is_aged_for z) aged)
 
-    pub holds-more : (old : BacklogView (Late A)) → slice_get before.targets target ≡ Some old
+    pub holds-more : (old : BacklogView (Stamp A)) → slice_get before.targets target ≡ Some old
         → new.items ≡ old.items ++ (envelope, record { age = before.added; token = token }) ∷ []
         → (entries : List (Entry A)) → Holds before entries → Holds after (entries ++ one ∷ [])
     holds-more old at items entries h = record {
@@ -93,55 +93,55 @@ module _ {A : Type 0} (before after : WaitingView A) (target : ℕ) (new : Backl
             All-push (λ (i : Aged A). i.entry.target < length after.targets) h.aged last
             (subst (λ (n : ℕ). All (λ i. i.entry.target < n) h.aged) (sym same-size) h.holds.there)
             (omega (arith, within, same-size));
-        waits = subst (λ (l : List (BacklogView (Late A))). (y : ℕ) (b : BacklogView (Late A)) → slice_get l y ≡ Some b → b.items ≡ map late (filter (is_aged_for y) (h.aged ++ last ∷ []))) (sym written)
+        waits = subst (λ (l : List (BacklogView (Stamp A))). (y : ℕ) (b : BacklogView (Stamp A)) → slice_get l y ≡ Some b → b.items ≡ map stamped (filter (is_aged_for y) (h.aged ++ last ∷ []))) (sym written)
             (waits-set before.targets target new h.aged (h.aged ++ last ∷ []) h.holds.waits
             (items
-            ∙ ap (λ (l : List (Envelope × Late A)). l ++ late last ∷ []) (h.holds.waits target old at)
-            ∙ sym (map-append late (filter (is_aged_for target) h.aged) (last ∷ []))
-            ∙ ap (map late) (sym (last-same h.aged)))
+            ∙ ap (λ (l : List (Envelope × Stamp A)). l ++ stamped last ∷ []) (h.holds.waits target old at)
+            ∙ sym (map-append stamped (filter (is_aged_for target) h.aged) (last ∷ []))
+            ∙ ap (map stamped) (sym (last-same h.aged)))
             (last-other h.aged));
       };
     }
 
 -- ---- the first for a target
 
-module _ {A : Type 0} (w : WaitingView A) (aged : List (Aged A)) (h : HoldsAged w aged) (target : ℕ) (b : BacklogView (Late A)) (at : slice_get w.targets target ≡ Some b) where
+module _ {A : Type 0} (w : WaitingView A) (aged : List (Aged A)) (h : HoldsAged w aged) (target : ℕ) (b : BacklogView (Stamp A)) (at : slice_get w.targets target ≡ Some b) where
   -- the front of what waits for the target is the first for it
-  pub front-first : slice_get b.items 0 ≡ option_map late (find (is_aged_for target) aged)
+  pub front-first : slice_get b.items 0 ≡ option_map stamped (find (is_aged_for target) aged)
   front-first =
-      ap (λ (l : List (Envelope × Late A)). slice_get l 0) (h.waits target b at)
-      ∙ slice_get-map late (filter (is_aged_for target) aged) 0
-      ∙ ap (option_map late) (sym (find-filter (is_aged_for target) aged))
+      ap (λ (l : List (Envelope × Stamp A)). slice_get l 0) (h.waits target b at)
+      ∙ slice_get-map stamped (filter (is_aged_for target) aged) 0
+      ∙ ap (option_map stamped) (sym (find-filter (is_aged_for target) aged))
 
-  pub front-age : option_map (λ (entry : Envelope × Late A). entry.1.age) (slice_get b.items 0) ≡ option_map (λ (i : Aged A). i.age) (find (is_aged_for target) aged)
+  pub front-age : option_map (λ (entry : Envelope × Stamp A). entry.1.age) (slice_get b.items 0) ≡ option_map (λ (i : Aged A). i.age) (find (is_aged_for target) aged)
   front-age =
-      ap (option_map (λ (entry : Envelope × Late A). entry.1.age)) front-first
-      ∙ option_map-map (λ (entry : Envelope × Late A). entry.1.age) late (find (is_aged_for target) aged)
+      ap (option_map (λ (entry : Envelope × Stamp A). entry.1.age)) front-first
+      ∙ option_map-map (λ (entry : Envelope × Stamp A). entry.1.age) stamped (find (is_aged_for target) aged)
 
   -- how many wait
   pub count-waits : length b.items ≡ count_by (is_for target) (map entry_of aged)
   count-waits =
-      ap (λ (l : List (Envelope × Late A)). length l) (h.waits target b at)
-      ∙ length-map (filter (is_aged_for target) aged) late
+      ap (λ (l : List (Envelope × Stamp A)). length l) (h.waits target b at)
+      ∙ length-map (filter (is_aged_for target) aged) stamped
       ∙ length-filter (is_aged_for target) aged
       ∙ sym (count_by-map (is_for target) entry_of aged)
 
 -- ---- the first for a target is taken
 
 module _ {A : Type 0} (before after : WaitingView A) (aged : List (Aged A)) (h : HoldsAged before aged) (target i : ℕ) (first : IsFirst (is_aged_for target) aged i)
-    (b new : BacklogView (Late A)) (at : slice_get before.targets target ≡ Some b) (items : new.items ≡ remove b.items 0)
+    (b new : BacklogView (Stamp A)) (at : slice_get before.targets target ≡ Some b) (items : new.items ≡ remove b.items 0)
     (written : after.targets ≡ set before.targets target new) (added : after.added ≡ before.added) where
   size : length after.targets ≡ length before.targets
-  size = ap (λ (l : List (BacklogView (Late A))). length l) written ∙ length-set before.targets target new
+  size = ap (λ (l : List (BacklogView (Stamp A))). length l) written ∙ length-set before.targets target new
 
-  less-waits : (y : ℕ) (c : BacklogView (Late A)) → slice_get after.targets y ≡ Some c → c.items ≡ map late (filter (is_aged_for y) (remove aged i))
+  less-waits : (y : ℕ) (c : BacklogView (Stamp A)) → slice_get after.targets y ≡ Some c → c.items ≡ map stamped (filter (is_aged_for y) (remove aged i))
   less-waits =
-      subst (λ (l : List (BacklogView (Late A))). (y : ℕ) (c : BacklogView (Late A)) → slice_get l y ≡ Some c → c.items ≡ map late (filter (is_aged_for y) (remove aged i))) (sym written)
+      subst (λ (l : List (BacklogView (Stamp A))). (y : ℕ) (c : BacklogView (Stamp A)) → slice_get l y ≡ Some c → c.items ≡ map stamped (filter (is_aged_for y) (remove aged i))) (sym written)
       (waits-set before.targets target new aged (remove aged i) h.waits
       (items
       ∙ ap (drop 1) (h.waits target b at)
-      ∙ drop-map late 1 (filter (is_aged_for target) aged)
-      ∙ ap (map late) (sym (filter-remove_first (is_aged_for target) aged i first)))
+      ∙ drop-map stamped 1 (filter (is_aged_for target) aged)
+      ∙ ap (map stamped) (sym (filter-remove_first (is_aged_for target) aged i first)))
       (λ z other. filter-remove_other (is_aged_for z) aged i first.within
       (λ d. ne_eqb (get_or aged i d).entry.target z (λ same. other (sym same ∙ eqb-true (get_or aged i d).entry.target target (first.passes d))))))
 
@@ -197,7 +197,7 @@ filter-set_other {X} p (y ∷ ys) (suc i) x within off =
     ap (λ (l : List X). cond (p y) (y ∷ l) l) (filter-set_other p ys i x (omega (arith, within)) off)
 
 module _ {A : Type 0} (before after : WaitingView A) (entries : List (Entry A)) (i : ℕ) (m : Misses before entries i) (old : Entry A) (old_at : slice_get entries i ≡ Some old)
-    (entry : Entry A) (same : old.target ≡ entry.target) (b new : BacklogView (Late A)) (at : slice_get before.targets entry.target ≡ Some b)
+    (entry : Entry A) (same : old.target ≡ entry.target) (b new : BacklogView (Stamp A)) (at : slice_get before.targets entry.target ≡ Some b)
     (items : new.items ≡ insert b.items 0 (entry.envelope, record { age = before.taken; token = entry.token }))
     (written : after.targets ≡ set before.targets entry.target new) (added : after.added ≡ before.added) where
   abbrev again : Aged A
@@ -230,7 +230,7 @@ module _ {A : Type 0} (before after : WaitingView A) (entries : List (Entry A)) 
   long = length-set m.aged i again
 
   wide : length after.targets ≡ length before.targets
-  wide = ap (λ (l : List (BacklogView (Late A))). length l) written ∙ length-set before.targets entry.target new
+  wide = ap (λ (l : List (BacklogView (Stamp A))). length l) written ∙ length-set before.targets entry.target new
 
   pub back-holds : Holds after (set entries i entry)
   back-holds = record {
@@ -251,11 +251,11 @@ module _ {A : Type 0} (before after : WaitingView A) (entries : List (Entry A)) 
           let same = target-as k d (omega (arith, below, long)) in
           omega (arith, was, same, wide);
       waits =
-          subst (λ (l : List (BacklogView (Late A))). (y : ℕ) (c : BacklogView (Late A)) → slice_get l y ≡ Some c → c.items ≡ map late (filter (is_aged_for y) whole)) (sym written)
+          subst (λ (l : List (BacklogView (Stamp A))). (y : ℕ) (c : BacklogView (Stamp A)) → slice_get l y ≡ Some c → c.items ≡ map stamped (filter (is_aged_for y) whole)) (sym written)
           (waits-set before.targets entry.target new (remove m.aged i) whole m.waits
           (items
-          ∙ ap (λ (l : List (Envelope × Late A)). late again ∷ l) (m.waits entry.target b at)
-          ∙ ap (map late) (sym (filter-set_first (is_aged_for entry.target) m.aged i again m.within (eq-eqb entry.target entry.target refl)
+          ∙ ap (λ (l : List (Envelope × Stamp A)). stamped again ∷ l) (m.waits entry.target b at)
+          ∙ ap (map stamped) (sym (filter-set_first (is_aged_for entry.target) m.aged i again m.within (eq-eqb entry.target entry.target refl)
           (λ d k below. ap (λ (y : ℕ). is_aged_for y (get_or m.aged k d)) (sym (target-of d)) ∙ m.first d k below))))
           (λ z other. filter-set_other (is_aged_for z) m.aged i again m.within (ne_eqb entry.target z (λ same. other (sym same)))
           ));

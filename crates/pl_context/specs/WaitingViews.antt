@@ -4,7 +4,7 @@ use Rattle.std.specs.Option.{option_map, option_map_or}
 use Rattle.pl_event.specs.declared.envelopes.Envelope.{Envelope}
 use Rattle.pl_context.specs.declared.added.Added.{Added}
 use Rattle.pl_context.specs.declared.added.Added.TheVariants.{Discarded, Last}
-use Rattle.pl_context.specs.declared.waiting.Late.{Late}
+use Rattle.pl_context.specs.declared.waiting.Stamp.{Stamp}
 use Rattle.pl_context.specs.Stops.{StopsView, no_stops, has_stopped}
 use Rattle.pl_context.specs.OutputsViews.{added_items, stopped_after}
 use Rattle.pl_context.specs.Backlogs.{BacklogView, handed_back}
@@ -13,7 +13,7 @@ use Rattle.pl_context.specs.Fronts.{FrontsView, age_for}
 -- What waits for each of several targets. It has how many envelopes were added, and how many of them before the one
 -- that was taken last.
 pub record WaitingView (A : Type 0) : Type 0 where
-  pub targets : List (BacklogView (Late A))
+  pub targets : List (BacklogView (Stamp A))
   pub added : ℕ
   pub taken : ℕ
 
@@ -46,15 +46,15 @@ abbrev pub is_aged_for : {A : Type 0} → ℕ → Aged A → Bool
 is_aged_for target i = is_for target i.entry
 
 -- as it is kept for its target
-abbrev pub late : {A : Type 0} → Aged A → Envelope × Late A
-late i = (i.entry.envelope, record { age = i.age; token = i.entry.token })
+abbrev pub stamped : {A : Type 0} → Aged A → Envelope × Stamp A
+stamped i = (i.entry.envelope, record { age = i.age; token = i.entry.token })
 
 -- Each is older than those after it, and each target has its own in this order.
 pub record HoldsAged {A : Type 0} (w : WaitingView A) (aged : List (Aged A)) : Type 0 where
   pub order : AllPairs (λ older later. older.age < later.age) aged
   pub younger : All (λ i. i.age < w.added) aged
   pub there : All (λ i. i.entry.target < length w.targets) aged
-  pub waits : (target : ℕ) (b : BacklogView (Late A)) → slice_get w.targets target ≡ Some b → b.items ≡ map late (filter (is_aged_for target) aged)
+  pub waits : (target : ℕ) (b : BacklogView (Stamp A)) → slice_get w.targets target ≡ Some b → b.items ≡ map stamped (filter (is_aged_for target) aged)
 
 -- These entries wait, the oldest first.
 pub record Holds {A : Type 0} (w : WaitingView A) (entries : List (Entry A)) : Type 0 where
@@ -73,7 +73,7 @@ pub record Misses {A : Type 0} (w : WaitingView A) (entries : List (Entry A)) (i
   pub first : (d : Aged A) (k : ℕ) → k < i → is_aged_for (get_or aged i d).entry.target (get_or aged k d) ≡ false
   pub age : (d : Aged A) → (get_or aged i d).age ≡ w.taken
   pub room : (d : Aged A) → 0 < room_for w (get_or aged i d).entry.target
-  pub waits : (target : ℕ) (b : BacklogView (Late A)) → slice_get w.targets target ≡ Some b → b.items ≡ map late (filter (is_aged_for target) (remove aged i))
+  pub waits : (target : ℕ) (b : BacklogView (Stamp A)) → slice_get w.targets target ≡ Some b → b.items ≡ map stamped (filter (is_aged_for target) (remove aged i))
 
 -- ---- what its calls do
 
@@ -104,10 +104,10 @@ pub record Takes {A : Type 0} (before : WaitingView A) (entries : List (Entry A)
 -- ---- who may be the oldest
 
 -- the age of the front of what waits for a target
-abbrev pub front_age : {A : Type 0} → BacklogView (Late A) → Option ℕ
+abbrev pub front_age : {A : Type 0} → BacklogView (Stamp A) → Option ℕ
 front_age b = option_map (λ entry. entry.1.age) (slice_get b.items 0)
 
 -- Those targets are noted for which something waits. Each has the age of its front.
-pub record AreFronts {A : Type 0} (fronts : FrontsView) (targets : List (BacklogView (Late A))) : Type 0 where
+pub record AreFronts {A : Type 0} (fronts : FrontsView) (targets : List (BacklogView (Stamp A))) : Type 0 where
   pub places : length targets ≤ fronts.places
   pub ages : (y : ℕ) → age_for fronts y ≡ option_map_or front_age (slice_get targets y) None

@@ -80,7 +80,7 @@ impl<A> Backlog<A> {
         ensures { AddsToken self.old envelope token result self.new }
     {
         if self.stops.has(envelope.lane) {
-            drop(envelope);
+            envelope.discard();
             return Some(token);
         }
         if self.entries.reserve(self.stops.left() + 1).is_ok() {
@@ -94,7 +94,7 @@ impl<A> Backlog<A> {
                 None
             }
             Kind::Flags => {
-                drop(envelope);
+                envelope.discard();
                 Some(token)
             }
         }

@@ -116,8 +116,8 @@ impl<S: Stage> Context<S> {
             (result ≡ took.Dropped) × (self.new ≡ counted envelope.lane.kind self.old) × (outputs.new ≡ outputs.old) }
     {
         match envelope.lane.kind {
-            Kind::Data => self.take_item(envelope.item, outputs),
-            Kind::Flags => self.take_flag(envelope.item, outputs),
+            Kind::Data => self.take_item(envelope, outputs),
+            Kind::Flags => self.take_flag(envelope, outputs),
         }
     }
 
@@ -179,18 +179,20 @@ impl<S: Stage> Context<S> {
         }
     }
 
-    /// Takes an item of the data lane.
-    fn take_item(&mut self, item: Item, outputs: &mut Outputs) -> Took
+    /// Takes an item of the data lane. What takes an item apart is kept out of what hands envelopes on whole.
+    #[inline(never)]
+    fn take_item(&mut self, envelope: Envelope, outputs: &mut Outputs) -> Took
         requires limit { self.old.taken < MAX_ITEMS }
-        requires few { self.old.standing ≡ stands.Open → MakesFew S.meaning S.stands_after self.old item }
+        requires few { self.old.standing ≡ stands.Open → MakesFew S.meaning S.stands_after self.old envelope.item }
         requires places { HasPlaces outputs.old.stopped (open_lanes self.old) }
         ensures meaning { S.meaning self.new.stage ≡ S.meaning self.old.stage }
         ensures place { SamePlace (counted kind.Data self.old) self.new }
-        ensures open { self.old.standing ≡ stands.Open → TakesItem S.meaning S.stands_after S.is_spent (counted kind.Data self.old) item outputs.old result self.new outputs.new }
-        ensures spent { self.old.standing ≡ stands.Open → S.is_spent self.old.stage ≡ true → (event : Event) → item ≡ items.Event event → result ≡ took.Failed Memory }
+        ensures open { self.old.standing ≡ stands.Open → TakesItem S.meaning S.stands_after S.is_spent (counted kind.Data self.old) envelope.item outputs.old result self.new outputs.new }
+        ensures spent { self.old.standing ≡ stands.Open → S.is_spent self.old.stage ≡ true → (event : Event) → envelope.item ≡ items.Event event → result ≡ took.Failed Memory }
         ensures ended { self.old.standing ≡ stands.Ended → (result ≡ took.Ran) × (self.new ≡ counted kind.Data self.old) × (outputs.new ≡ outputs.old) }
         ensures dropped { has_failed self.old.standing ≡ true → (result ≡ took.Dropped) × (self.new ≡ counted kind.Data self.old) × (outputs.new ≡ outputs.old) }
     {
+        let Envelope { item, .. } = envelope;
         self.taken += 1;
         match self.standing {
             Standing::Open => self.take_open(item, outputs),
@@ -205,14 +207,16 @@ impl<S: Stage> Context<S> {
         }
     }
 
-    /// Takes an item of the flags lane.
-    fn take_flag(&mut self, item: Item, outputs: &mut Outputs) -> Took
+    /// Takes an item of the flags lane, which is rare.
+    #[inline(never)]
+    fn take_flag(&mut self, envelope: Envelope, outputs: &mut Outputs) -> Took
         requires limit { self.old.flags_taken < 2 ^ 32 }
         requires places { HasPlaces outputs.old.stopped (open_lanes self.old) }
         ensures same { self.new ≡ record (counted kind.Flags self.old) { flags = self.new.flags } }
-        ensures flags { has_failed self.old.standing ≡ false → TakesFlag (counted kind.Flags self.old) item outputs.old result self.new outputs.new }
+        ensures flags { has_failed self.old.standing ≡ false → TakesFlag (counted kind.Flags self.old) envelope.item outputs.old result self.new outputs.new }
         ensures dropped { has_failed self.old.standing ≡ true → (result ≡ took.Dropped) × (self.new ≡ counted kind.Flags self.old) × (outputs.new ≡ outputs.old) }
     {
+        let Envelope { item, .. } = envelope;
         self.flags_taken += 1;
         if self.standing.has_failed() {
             drop(item);
@@ -295,6 +299,7 @@ impl<S: Stage> Context<S> {
     }
 
     /// Gives both lanes their last item.
+    #[inline(never)]
     fn close(&mut self, standing: Standing, outputs: &mut Outputs)
         requires { HasPlaces outputs.old.stopped (open_lanes self.old) }
         ensures { GivesLast standing self.old outputs.old self.new outputs.new }

@@ -1,7 +1,8 @@
 //! The targets for which something waits, by age.
 
-ghost use Rattle.std.specs.Prelude.{◌≡◌, ℕ, Bool, ◌<◌, ◌≤◌, ◌==◌, [], length, find, position, All, IfOk, Option, Some, None, nat_eq};
+ghost use Rattle.std.specs.Prelude.{◌≡◌, ℕ, Bool, ◌<◌, ◌≤◌, ◌==◌, [], length, find, position, All, IfOk, Option, Some, None, nat_eq, nat_lt, slice_get, true, false};
 ghost use Rattle.std.specs.List.Sorted.{IsNonDecreasingBy};
+ghost use Rattle.std.specs.Option.{option_map_or};
 ghost use Rattle.std.specs.Map.{keys_of, update};
 ghost use Rattle.pl_context.specs.Fronts.{age_for};
 
@@ -71,10 +72,43 @@ impl Fronts {
             return;
         }
         if was.is_some() {
+            if self.renew(target, age) {
+                return;
+            }
             self.remove(target);
         }
         if let Some(age) = age {
             self.insert(target, age);
+        }
+    }
+
+    /// Gives a target a greater age in its place, where that is below the age of the next. False where it does not, and
+    /// nothing has changed.
+    fn renew(&mut self, target: usize, age: Option<u64>) -> bool
+        ensures ages { result ≡ true → (y : ℕ) → age_for self.new y ≡ update nat_eq (age_for self.old) target age y }
+        ensures same { result ≡ false → self.new ≡ self.old }
+        ensures places { self.old.places ≤ self.new.places }
+    {
+        let Some(age) = age else {
+            return false;
+        };
+        let Some(place) = self.place_of(target) else {
+            return false;
+        };
+        if age <= self.ages[place].1 || !self.is_before(age, place + 1) {
+            return false;
+        }
+        self.ages[place].1 = age;
+        true
+    }
+
+    /// Whether an age is below that at a place, where there is one.
+    fn is_before(&self, age: u64, place: usize) -> bool
+        ensures { result ≡ option_map_or (λ front. nat_lt age front.1) (slice_get self.now.ages place) true }
+    {
+        match self.ages.get(place) {
+            None => true,
+            Some(front) => age < front.1,
         }
     }
 

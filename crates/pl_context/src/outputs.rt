@@ -107,7 +107,7 @@ impl Outputs {
         ensures { Puts self.old envelope result self.new }
     {
         if self.stops.has(envelope.lane) {
-            drop(envelope);
+            envelope.discard();
             return Added::Discarded;
         }
         if self.envelopes.reserve(self.stops.left() + 1).is_ok() {
@@ -117,7 +117,7 @@ impl Outputs {
         self.stops.stop(envelope.lane);
         match envelope.lane.kind {
             Kind::Data => self.envelopes.push_back_reserved(failure(envelope)),
-            Kind::Flags => drop(envelope),
+            Kind::Flags => envelope.discard(),
         }
         Added::Refused
     }

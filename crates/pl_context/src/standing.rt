@@ -5,7 +5,7 @@ ghost use Rattle.pl_context.specs.Standings.{is_over, has_failed, cause_of};
 
 use pl_event::Cause;
 
-/// How a context, or the tail, stands.
+/// How a context, a tail or a head stands.
 #[derive(Clone, Copy, Debug, PartialEq, Eq)]
 pub enum Standing {
     Open,

@@ -163,14 +163,15 @@ impl Tail {
         ensures takes { RecordsItem self.old item result self.new }
     {
         match item {
-            Item::Event(event) => match self.events.push(event) {
-                Ok(()) => Took::Ran,
-                Err(refused) => {
-                    drop(refused);
+            Item::Event(event) => {
+                if self.events.reserve(1).is_err() {
+                    drop(event);
                     self.standing = Standing::Failed(Cause::Memory);
-                    Took::Failed(Cause::Memory)
+                    return Took::Failed(Cause::Memory);
                 }
-            },
+                self.events.push_reserved(event);
+                Took::Ran
+            }
             Item::End => {
                 self.standing = Standing::Ended;
                 Took::Ended
@@ -184,6 +185,7 @@ impl Tail {
     }
 
     /// Takes an item of the flags lane.
+    #[inline(never)]
     fn take_flag(&mut self, item: Item) -> Took
         requires { self.old.flags_taken < 2 ^ 32 }
         ensures place { SamePlace (counted kind.Flags self.old) self.new }

@@ -21,7 +21,7 @@ use std::marker::Model;
 #[derive(Debug, Drop)]
 pub struct Waiting<A> {
     /// What waits for each target.
-    targets: Vec<Backlog<Late<A>>>,
+    targets: Vec<Backlog<Stamp<A>>>,
     /// The targets for which something waits.
     fronts: Fronts,
     /// How many were added before the next one.
@@ -32,7 +32,7 @@ pub struct Waiting<A> {
 
 /// A token, and how many envelopes were added before its own: the fewer, the older it is.
 #[derive(Debug, Drop)]
-struct Late<A> {
+struct Stamp<A> {
     age: u64,
     token: A,
 }
@@ -76,16 +76,18 @@ impl<A: Drop> Waiting<A> {
         requires few { self.old.added + 1 < 2 ^ 64 }
         ensures { WaitingAdds self.old target envelope token result self.new }
     {
-        let late = Late {
+        let stamp = Stamp {
             age: self.added,
             token,
         };
         self.added += 1;
         let backlog = &mut self.targets[target];
-        let was = front_age(backlog);
-        let discarded = backlog.add(envelope, late);
-        self.fronts.set(target, was, front_age(backlog));
-        discarded.map(|late| late.token)
+        let is_first = backlog.is_empty();
+        let discarded = backlog.add(envelope, stamp);
+        if is_first {
+            self.fronts.set(target, None, front_age(backlog));
+        }
+        discarded.map(|stamp| stamp.token)
     }
 
     /// The target of the oldest envelope for one that is open. None where none waits for an open one.
@@ -104,7 +106,7 @@ impl<A: Drop> Waiting<A> {
         ensures added { self.new.added ≡ self.old.added }
     {
         let backlog = self.targets.get_mut(target)?;
-        let (envelope, Late { age, token }) = backlog.take_at(0)?;
+        let (envelope, Stamp { age, token }) = backlog.take_at(0)?;
         self.fronts.set(target, Some(age), front_age(backlog));
         self.taken = age;
         Some((envelope, token))
@@ -120,13 +122,13 @@ impl<A: Drop> Waiting<A> {
         ensures stopped { (y : ℕ) → stops_for self.new y ≡ stops_for self.old y }
         ensures targets { length self.new.targets ≡ length self.old.targets }
     {
-        let late = Late {
+        let stamp = Stamp {
             age: self.taken,
             token,
         };
         let backlog = &mut self.targets[target];
         let was = front_age(backlog);
-        backlog.put_back(0, envelope, late);
+        backlog.put_back(0, envelope, stamp);
         self.fronts.set(target, was, front_age(backlog));
     }
 
@@ -160,9 +162,9 @@ impl<A: Drop> Waiting<A> {
 }
 
 /// The age of the front of a backlog.
-fn front_age<A>(backlog: &Backlog<Late<A>>) -> Option<u64>
+fn front_age<A>(backlog: &Backlog<Stamp<A>>) -> Option<u64>
     ensures { result ≡ the_front_age backlog.now }
 {
-    let (_, late) = backlog.front()?;
-    Some(late.age)
+    let (_, stamp) = backlog.front()?;
+    Some(stamp.age)
 }

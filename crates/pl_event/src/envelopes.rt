@@ -40,3 +40,11 @@ pub struct Envelope {
     pub number: u64,
     pub item: Item,
 }
+
+impl Envelope {
+    /// Drops it. Where that is rare, what a drop needs is so kept out of the way of what goes on.
+    #[inline(never)]
+    pub fn discard(self) {
+        drop(self);
+    }
+}

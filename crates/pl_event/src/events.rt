@@ -1,4 +1,4 @@
-//! What contexts hand to one another, and how writes and channels end.
+//! What contexts hand to one another.
 
 use crate::byte_string::ByteString;
 use crate::keys::Key;

@@ -7,7 +7,7 @@ use Rattle.pl_event.specs.declared.envelopes.Lane.{Lane}
 use Rattle.pl_event.specs.Worlds.{World}
 use Rattle.pl_event.proofs.Lists.{All-at, at-index}
 use Rattle.pl_context.specs.Backlogs.{BacklogView}
-use Rattle.pl_context.specs.declared.waiting.Late.{Late}
+use Rattle.pl_context.specs.declared.waiting.Stamp.{Stamp}
 use Rattle.pl_context.specs.OutputsViews.{OutputsView}
 use Rattle.pl_context.specs.Stops.{StopsView, HasPlaces, no_stops}
 use Rattle.pl_context.specs.WaitingViews.{stops_for}
@@ -63,7 +63,7 @@ module _ {M S T N : Type 0} (ends : MailboxEnds M S T) (view_of : N → OwnNodes
     placed-first : (y : ℕ) → y < length o.outboxes → HasPlaces (stops_for o.waiting y) (s.fits.hops y)
     placed-first y within =
         let place = at-index places.targets y (omega (arith, within, count, s.fits.targets)) in
-        let stopped = λ (b : BacklogView (Late AdmittedView)). b.stopped in
+        let stopped = λ (b : BacklogView (Stamp AdmittedView)). b.stopped in
         let is : option_map stopped (slice_get o.waiting.targets y) ≡ Some (no_stops place.0) =
         sym (slice_get-map stopped o.waiting.targets y) ∙ ap (λ (l : List StopsView). slice_get l y) reserved ∙ slice_get-map no_stops places.targets y ∙ ap (option_map no_stops) place.1 in
         subst (λ (z : StopsView). HasPlaces z (s.fits.hops y)) (sym (found-or stopped (slice_get o.waiting.targets y) (no_stops 0) (no_stops place.0) is)) (s.fits.placed y place.0 place.1)

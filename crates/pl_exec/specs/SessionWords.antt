@@ -1,13 +1,11 @@
 -- The words of a session's channels, the seats on them, and what each call does to a seat.
-use Rattle.std.specs.Prelude.{◌≡◌, ◌⊎◌, ℕ, ◌+◌, ◌-◌, ◌<◌, ◌≤◌, ◌==◌, ◌&&◌, ◌||◌, Bool, not, List, [], ◌∷◌, ◌++◌, All, map, nat_lt, slice_get, slice_set, Option, Some, None, if◌then◌else◌}
-use Rattle.std.specs.Bool.{beq}
+use Rattle.std.specs.Prelude.{◌≡◌, ◌⊎◌, ℕ, ◌+◌, ◌<◌, ◌≤◌, Bool, List, [], ◌∷◌, ◌++◌, All, map, slice_get, slice_set, Option, Some, None, if◌then◌else◌}
 use Rattle.pl_event.specs.declared.outcomes.Outcome.{Outcome}
 use Rattle.pl_words.specs.declared.watermark.Mark.{Mark}
-use Rattle.pl_words.specs.declared.watermark.TheConstants.{MAX_SETS}
 use Rattle.pl_words.specs.Names.{Name}
 use Rattle.pl_words.specs.PromiseRule.{at}
 use Rattle.pl_words.specs.PromiseViews.{SettleSeatView, ReadSeatView as PromiseSeatView, Meets, Peeks, Settles, new_settler, new_reader as new_promise_seat}
-use Rattle.pl_words.specs.Watermarks.{HeadSeatView, ReadSeatView as MarkSeatView, Looks, new_head_seat, new_reader as new_mark_seat}
+use Rattle.pl_words.specs.Watermarks.{HeadSeatView, ReadSeatView as MarkSeatView, Looks, is_news, new_head_seat, new_reader as new_mark_seat}
 use Rattle.pl_world.specs.declared.session.Recorded.{Recorded}
 use Rattle.pl_exec.specs.declared.words.TheConstants.{PROMISES}
 use Rattle.pl_exec.specs.Adding.{each_with}
@@ -89,10 +87,6 @@ abbrev pub with_sights : List (List SightView) → List SightView → List (List
 with_sights readers row = each_with with_sight readers row
 
 -- ---- calls
-
--- This is not what the head's seat set last, and it may set the mark once more: its version stays below MAX_SETS.
-abbrev pub is_news : HeadSeatView → ℕ → Bool → Bool
-is_news s pending unwritable = (not (s.pending == pending) || not (beq s.unwritable unwritable)) && nat_lt s.sets (MAX_SETS - 1)
 
 -- the head's seat once it was told what is pending, and whether the channel is unwritable
 abbrev pub told : HeadSeatView → ℕ → Bool → HeadSeatView

@@ -2,13 +2,13 @@
 #![tactic(auto)]
 
 mod lanes;
-mod marking;
 mod nodes;
 mod opening;
 mod planned;
 mod reporting;
 mod running;
 mod sharing;
+mod telling;
 mod words;
 
 pub use pl_post::{Post, PostOwner, PostSeat, StillOpen, Unsent};

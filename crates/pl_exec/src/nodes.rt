@@ -14,7 +14,7 @@ use pl_event::{Envelope, Kind, Lane, Stage};
 use pl_flow::HeadMove;
 use pl_head::Transport;
 use pl_part::ChannelPart;
-use pl_threads::Nodes;
+use pl_threads::OwnNodes;
 
 /// No executor has this number.
 const NOBODY: usize = 65_536;
@@ -37,7 +37,7 @@ pub(crate) struct ExecutorNodes<'a, S: Stage, T: Transport> {
     pub(crate) seats: Vec<Option<Seats>>,
 }
 
-impl<'a, W: Planned, S: Stage, T: Transport> Nodes<W> for ExecutorNodes<'a, S, T> {
+impl<'a, W: Planned, S: Stage, T: Transport> OwnNodes<W> for ExecutorNodes<'a, S, T> {
     ghost view_of = { own_view S.meaning };
 
     ghost acts = { record {

@@ -11,7 +11,7 @@ use pl_context::Outputs;
 use pl_event::{Lane, Named};
 use pl_outbox::{Inbox, Outbox, Outboxes};
 use pl_queue::{Mailbox, OpenRefusal};
-use pl_threads::{Core, Executor, Nodes};
+use pl_threads::{Core, Executor, OwnNodes};
 use pl_words::{Admission, OwnerSeat, SendSeat};
 use std::alloc::{AllocError, Global};
 use std::marker::Model;
@@ -138,7 +138,7 @@ impl Model for Places {
 
 /// The executors before their first turn, each with its nodes, its own ends and its outboxes, and with the parker of its
 /// inbox. Nothing waits, and nothing was taken. The mailboxes have the capacity of the plan.
-pub(crate) fn executors<'a, W: Planned, M: Mailbox<W> + Drop, N: Nodes<W> + Drop>(
+pub(crate) fn executors<'a, W: Planned, M: Mailbox<W> + Drop, N: OwnNodes<W> + Drop>(
     alloc: Global,
     inboxes: &'a [Inbox<W, M>],
     all: Vec<OwnEnds<W, M>>,
@@ -162,7 +162,7 @@ pub(crate) fn executors<'a, W: Planned, M: Mailbox<W> + Drop, N: Nodes<W> + Drop
 }
 
 /// An executor before its first turn, with its parker. It takes its outboxes from the columns.
-fn executor<'a, W: Named, M: Mailbox<W> + Drop, N: Nodes<W> + Drop>(
+fn executor<'a, W: Named, M: Mailbox<W> + Drop, N: OwnNodes<W> + Drop>(
     alloc: Global,
     inboxes: &'a [Inbox<W, M>],
     number: usize,

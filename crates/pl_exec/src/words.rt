@@ -5,14 +5,15 @@ ghost use Rattle.std.specs.Prelude.{◌≡◌, ◌-◌, ◌<◌, ◌≤◌, ◌�
 ghost use Rattle.pl_event.specs.declared.outcomes.Outcome.{Outcome};
 ghost use Rattle.pl_words.specs.PromiseRule.{at};
 ghost use Rattle.pl_words.specs.PromiseViews.{Settles, Meets};
+ghost use Rattle.pl_words.specs.declared.watermark.TheConstants.{MAX_SETS};
 ghost use Rattle.pl_words.specs.Watermarks.{IsMarked};
-ghost use Rattle.pl_exec.specs.SessionWords.{AreSeatsOf, AreHeadSeatsOf, HaveMarksOf, IsReaderOf, new_seats, new_head_seats, new_sight, new_sights, with_sights, is_news, told, LooksAt, PeeksAt};
+ghost use Rattle.pl_exec.specs.SessionWords.{AreSeatsOf, AreHeadSeatsOf, HaveMarksOf, IsReaderOf, new_seats, new_head_seats, new_sight, new_sights, with_sights, told, LooksAt, PeeksAt};
 
 use pl_event::{Outcome, Stage};
 use pl_head::Transport;
 use pl_threads::RunFault;
 use pl_words::promises::{MAX_PROMISES, Promises, SettleSeat};
-use pl_words::watermark::{HeadSeat, MAX_SETS, Mark, Watermark};
+use pl_words::watermark::{HeadSeat, Mark, Watermark};
 use pl_words::{promises, watermark};
 use pl_world::{Recorded, Session};
 use std::alloc::{AllocError, Global};
@@ -63,11 +64,6 @@ impl Model for Words {
 pub(crate) struct Seats {
     mark: HeadSeat,
     settle: SettleSeat,
-    /// How often it has set the mark.
-    sets: u64,
-    /// The bytes that were pending when it did so last.
-    pending: u128,
-    is_unwritable: bool,
 }
 
 impl Model for Seats {
@@ -78,16 +74,7 @@ impl Model for Seats {
 
     ghost view = { λ s. record { mark = s.mark; settle = s.settle } };
 
-    ghost invariant = { λ s. (s.mark.sets ≡ s.sets) × (s.mark.pending ≡ s.pending) × (s.mark.unwritable ≡ s.is_unwritable) × (s.settle.settlers ≡ 1) };
-}
-
-impl Seats {
-    /// Whether this is not what was set last, and the mark may be set once more.
-    fn is_news(&self, pending: u128, is_unwritable: bool) -> bool
-        ensures { result ≡ is_news self.now.mark pending is_unwritable }
-    {
-        (self.pending != pending || self.is_unwritable != is_unwritable) && self.sets < MAX_SETS - 1
-    }
+    ghost invariant = { λ s. s.settle.settlers ≡ 1 };
 }
 
 /// The right to change the words of a session's channels, which a run is given. There is one for all words, and they are as
@@ -185,13 +172,7 @@ fn channel_words(
     let Some(settle) = settlers.pop() else {
         unreachable!()
     };
-    let seats = Seats {
-        mark: head,
-        settle,
-        sets: 0,
-        pending: 0,
-        is_unwritable: false,
-    };
+    let seats = Seats { mark: head, settle };
     let sights = sights(alloc, marks, peeks)?;
     Ok((ChannelWords { mark, promises }, seats, sights))
 }
@@ -321,10 +302,7 @@ impl Words {
         ensures settle { seats.new.settle ≡ seats.old.settle }
     {
         let is_unwritable = !is_writable;
-        if seats.is_news(pending, is_unwritable) {
-            seats.sets += 1;
-            seats.pending = pending;
-            seats.is_unwritable = is_unwritable;
+        if seats.mark.is_news(pending, is_unwritable) {
             self.channels[channel]
                 .mark
                 .set(&mut seats.mark, pending, is_unwritable);

@@ -1,4 +1,4 @@
-//! What goes along lanes, for whoever passes it on: words for contracts, and their laws; and the moves of a head. No code.
+//! What goes along lanes, for whoever passes it on: words for contracts, and their laws; and the moves of a head.
 #![tactic(auto)]
 
 mod laws;

@@ -1,5 +1,5 @@
 -- Elements of a burst given to a lane one after another, each as its event.
-use Rattle.std.proofs.Common.{◌≡◌, ℕ, ◌+◌, Bool, true, if◌then◌else◌, List, [], ◌∷◌, ◌++◌, length, map, sym, ap, subst, ◌∙◌, refl, arith, append_assoc, append-nil, length-append}
+use Rattle.std.proofs.Common.{◌≡◌, ℕ, ◌+◌, Bool, true, if◌then◌else◌, List, [], ◌∷◌, ◌++◌, length, map, sym, ap, subst, ◌∙◌, refl, arith, add-zero, append_assoc, append-nil, length-append}
 use Rattle.std.specs.Prelude.{◌&&◌}
 use Rattle.std.proofs.lemmas.List.{length-map}
 use Rattle.pl_event.specs.declared.events.Event.{Event}
@@ -51,6 +51,9 @@ pub record Feeding (p q : Port) (before now : OutputsView) (all left : List Elem
   pub port : q ≡ record p { made = p.made + length done }
   pub puts : PutsAll before (numbered p.lane p.made (items_of done)) now
   pub place : HasPlaces now.stopped (p.lane ∷ [])
+
+pub feeding-none : (p : Port) (before : OutputsView) (all left : List Element) → left ≡ all → HasPlaces before.stopped (p.lane ∷ []) → Feeding p p before before all left
+feeding-none p before all left same place = record { done = []; split = same; port = ap (λ (n : ℕ). record p { made = n }) (sym (add-zero p.made)); puts = (refl, refl, omega arith); place = place }
 
 pub feeding-step : (p q q' : Port) (before now after : OutputsView) (all left : List Element) (element : Element) → Feeding p q before now all (element ∷ left)
     → p.is_open ≡ true → q' ≡ port_after (item.Event (element_event element) ∷ []) q → PutsAll now (offered q (item.Event (element_event element) ∷ [])) after

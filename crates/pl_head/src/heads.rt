@@ -206,40 +206,42 @@ impl<T: Transport> Head<T> {
         ensures { HeadTakes T.state self.old envelope outputs.old result self.new outputs.new }
     {
         match self.standing {
-            Standing::Open if !self.is_closed => self.take_open(envelope.item, outputs),
+            Standing::Open if !self.is_closed => self.take_open(envelope, outputs),
             _ => {
-                drop(envelope);
+                envelope.discard();
                 self.taken += 1;
                 Took::Ran
             }
         }
     }
 
-    /// Takes the next item of its lane, while that is open.
-    fn take_open(&mut self, item: Item, outputs: &mut Outputs) -> Took
+    /// Takes the next item of its lane, while that is open. What takes an item apart is kept out of what hands it on whole.
+    #[inline(never)]
+    fn take_open(&mut self, envelope: Envelope, outputs: &mut Outputs) -> Took
         requires open { self.old.standing ≡ stands.Open }
         requires not_closed { self.old.is_closed ≡ false }
         requires limit { self.old.taken < MAX_ITEMS }
         requires places { HasPlaces outputs.old.stopped (flags_lane self.old.channel 0 ∷ []) }
-        ensures answer { Answers (is_some self.old.failure) item result }
+        ensures answer { Answers (is_some self.old.failure) envelope.item result }
         ensures stands { (ys zs : List Event) (sizes : List Change) → HeadStandsAfter T.state self.old ys zs sizes
-            → HeadStandsAfter T.state self.new (ys ++ events_before (is_some self.old.failure) item result) (zs ++ events_from (is_some self.old.failure) item result)
-            (sizes ++ item_sizes (is_some self.old.failure) item result (waiting_at T.state self.old ys) (waiting_at T.state self.new (ys ++ events_before (is_some self.old.failure) item result))) }
+            → HeadStandsAfter T.state self.new (ys ++ events_before (is_some self.old.failure) envelope.item result) (zs ++ events_from (is_some self.old.failure) envelope.item result)
+            (sizes ++ item_sizes (is_some self.old.failure) envelope.item result (waiting_at T.state self.old ys) (waiting_at T.state self.new (ys ++ events_before (is_some self.old.failure) envelope.item result))) }
         ensures flags { (ys zs : List Event) (sizes : List Change) → HeadStandsAfter T.state self.old ys zs sizes
             → SendsFlags self.old.buffer.low self.old.buffer.high sizes
-            (item_sizes (is_some self.old.failure) item result (waiting_at T.state self.old ys) (waiting_at T.state self.new (ys ++ events_before (is_some self.old.failure) item result)))
+            (item_sizes (is_some self.old.failure) envelope.item result (waiting_at T.state self.old ys) (waiting_at T.state self.new (ys ++ events_before (is_some self.old.failure) envelope.item result)))
             self.old.buffer.flags outputs.old self.new.buffer.flags outputs.new }
-        ensures refused { (event : Event) → item ≡ Item.Event event → result ≢ took.Ran → LacksRoom event self.old.buffer }
+        ensures refused { (event : Event) → envelope.item ≡ Item.Event event → result ≢ took.Ran → LacksRoom event self.old.buffer }
         ensures stops { StopsNumbers self.old.buffer self.new.buffer }
-        ensures failure { self.new.failure ≡ first_cause self.old.failure (cause_of_item item result) }
+        ensures failure { self.new.failure ≡ first_cause self.old.failure (cause_of_item envelope.item result) }
         ensures taken { self.new.taken ≡ self.old.taken + 1 }
-        ensures standing { self.new.standing ≡ standing_after (is_some self.old.failure) item }
-        ensures closed { self.new.is_closed ≡ (is_some self.old.failure && closes item) }
+        ensures standing { self.new.standing ≡ standing_after (is_some self.old.failure) envelope.item }
+        ensures closed { self.new.is_closed ≡ (is_some self.old.failure && closes envelope.item) }
         ensures same { self.new ≡ record self.old { taken = self.new.taken; standing = self.new.standing; failure = self.new.failure; is_closed = self.new.is_closed; buffer = self.new.buffer } }
         ensures marks { SameMarks self.old.buffer self.new.buffer }
         ensures settles { SettlesMore self.old.buffer self.new.buffer }
         ensures few { HasFewFlags self.new }
     {
+        let Envelope { item, .. } = envelope;
         self.taken += 1;
         match self.failure {
             Some(cause) => self.take_late(item, cause),
@@ -267,6 +269,7 @@ impl<T: Transport> Head<T> {
     }
 
     /// Takes an item after a failure of its own, of this cause.
+    #[inline(never)]
     fn take_late(&mut self, item: Item, cause: Cause) -> Took
         requires failed { self.old.failure ≡ Some cause }
         requires not_closed { self.old.is_closed ≡ false }

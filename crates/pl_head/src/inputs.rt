@@ -160,9 +160,7 @@ fn put_burst(port: &mut Port, elements: Vec<Element>, outputs: &mut Outputs)
     ensures port { port.new ≡ record port.old { made = port.old.made + length (burst_events elements.items) } }
     ensures puts { PutsAll outputs.old (numbered port.old.lane port.old.made (as_items (burst_events elements.items))) outputs.new }
 {
-    let mut left = elements;
-    left.reverse();
-    while let Some(element) = left.pop() {
+    for element in elements {
         port.put(Item::Event(element.into_event()), outputs);
     }
     port.put(Item::Event(Event::ReadComplete), outputs);

@@ -194,6 +194,7 @@ impl OutboundBuffer {
 
     /// Takes an event after a failure of the head's own, which settles by this outcome. A write is settled at once, unless
     /// there is no place for its outcome.
+    #[inline(never)]
     pub(crate) fn take_late(&mut self, event: Event, outcome: Outcome)
         ensures stands { (accepted : List ℕ) (ys zs : List Event) (ended : Bool) (sizes : List Change) → BufferFailed outcome accepted (buffer_view self.old) ys zs ended sizes
             → BufferFailed outcome accepted (buffer_view self.new) ys (zs ++ event ∷ []) ended sizes }
@@ -285,6 +286,7 @@ impl OutboundBuffer {
     }
 
     /// A failure of the head's own: all that waits is settled by this outcome.
+    #[inline(never)]
     pub(crate) fn fail(&mut self, outcome: Outcome, outputs: &mut Outputs)
         requires room { flag_bound self.old.marks + 1 < 2 ^ 64 }
         requires fits { self.old.marks.pending < 2 ^ 128 }
@@ -311,6 +313,7 @@ impl OutboundBuffer {
     }
 
     /// The lane has ended: what is not flushed is closed.
+    #[inline(never)]
     pub(crate) fn close(&mut self, outputs: &mut Outputs)
         requires room { flag_bound self.old.marks + 1 < 2 ^ 64 }
         requires fits { self.old.marks.pending < 2 ^ 128 }

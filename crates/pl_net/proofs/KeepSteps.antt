@@ -15,7 +15,7 @@ use Rattle.pl_context.specs.declared.added.Added.TheVariants as answers
 use Rattle.pl_context.specs.Stops.{StopsView, has_stopped, no_stops, HasPlaces, AreAmong}
 use Rattle.pl_context.specs.OutputsViews.{OutputsView, added_items, stopped_after}
 use Rattle.pl_context.specs.Backlogs.{BacklogView}
-use Rattle.pl_context.specs.declared.waiting.Late.{Late}
+use Rattle.pl_context.specs.declared.waiting.Stamp.{Stamp}
 use Rattle.std.specs.Option.{option_map_or}
 use Rattle.pl_context.specs.WaitingViews.{Entry, Holds, stops_for}
 use Rattle.pl_context.proofs.Places.{places-for, places-after}
@@ -91,7 +91,7 @@ module _ (world : World) (v : NodesView) (x : ℕ) (es : List StationView) (back
   stops-others y z other = ⊎_elim
       (λ (s : y ≡ x).
       ap (λ k. stops_at es' k z) s ∙ stops-here es es' x a a' r z
-      ∙ ap (λ b. option_map_or (λ (c : BacklogView (Late (Unit {0}))). c.stopped) b (no_stops 0)) (adds.adds.others z (λ t. other s t))
+      ∙ ap (λ b. option_map_or (λ (c : BacklogView (Stamp (Unit {0}))). c.stopped) b (no_stops 0)) (adds.adds.others z (λ t. other s t))
       ∙ sym (ap (λ k. stops_at es k z) s ∙ stops-was es es' x a a' r z))
       (λ (s : y ≡ x → ⊥). stops-there es es' x a a' r y z s)
       (cases_eq y x)

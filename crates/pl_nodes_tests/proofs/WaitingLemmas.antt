@@ -7,7 +7,7 @@ use Rattle.std.proofs.lemmas.List.{length-map}
 use Rattle.std.proofs.lemmas.Option.{slice_get-map, none-some, same_Some}
 use Rattle.pl_event.specs.declared.envelopes.Envelope.{Envelope}
 use Rattle.pl_event.specs.declared.envelopes.Lane.{Lane}
-use Rattle.pl_context.specs.declared.waiting.Late.{Late}
+use Rattle.pl_context.specs.declared.waiting.Stamp.{Stamp}
 use Rattle.pl_context.specs.OutputsViews.{added_items}
 use Rattle.pl_context.specs.Backlogs.{BacklogView}
 use Rattle.pl_context.specs.Stops.{StopsView, HasPlaces, AreAmong, no_stops}
@@ -26,7 +26,7 @@ one-each places is y below = ap (λ (l : List ℕ). slice_get (map no_stops l) y
     by (suc (suc zero)) below = refl
     by (suc (suc (suc y))) below = absurd (omega (arith, below))
 
-stops-of : (o : Option (BacklogView (Late ℕ))) (s : StopsView) → option_map (λ b. b.stopped) o ≡ Some s → option_map_or (λ b. b.stopped) o (no_stops 0) ≡ s
+stops-of : (o : Option (BacklogView (Stamp ℕ))) (s : StopsView) → option_map (λ b. b.stopped) o ≡ Some s → option_map_or (λ b. b.stopped) o (no_stops 0) ≡ s
 stops-of None s is = absurd (none-some s is)
 stops-of (Some b) s is = same_Some b.stopped s is
 
@@ -37,11 +37,11 @@ waits-new places (Ok w) three empty stopped = record {
   entries = [];
   holds = empty;
   targets =
-      let long = length-map w.targets (λ (b : BacklogView (Late ℕ)). b.stopped) in
+      let long = length-map w.targets (λ (b : BacklogView (Stamp ℕ)). b.stopped) in
       let wide = ap (λ (l : List StopsView). length l) (stopped ∙ ap (map no_stops) three) in
       omega (arith, long, wide);
   places = λ y below.
-      let at = sym (slice_get-map (λ (b : BacklogView (Late ℕ)). b.stopped) w.targets y) ∙ ap (λ (l : List StopsView). slice_get l y) stopped ∙ one-each places three y below in
+      let at = sym (slice_get-map (λ (b : BacklogView (Stamp ℕ)). b.stopped) w.targets y) ∙ ap (λ (l : List StopsView). slice_get l y) stopped ∙ one-each places three y below in
       one-place (stops_for w y) (stops-of (slice_get w.targets y) (no_stops 1) at);
 }
 
@@ -58,7 +58,7 @@ waits-added before after target e token result lane w adds there = record {
         (subst (λ (s : StopsView). HasPlaces s (sample_lane ∷ [])) (sym adds.stopped)
         (places-after adds.answer (stops_for before target) (sample_lane ∷ []) e.lane (w.places target there) among))
     | inr other ↦
-        subst (λ (s : StopsView). HasPlaces s (sample_lane ∷ [])) (sym (ap (λ (o : Option (BacklogView (Late ℕ))). option_map_or (λ b. b.stopped) o (no_stops 0)) (adds.others y other))) (w.places y below)
+        subst (λ (s : StopsView). HasPlaces s (sample_lane ∷ [])) (sym (ap (λ (o : Option (BacklogView (Stamp ℕ))). option_map_or (λ b. b.stopped) o (no_stops 0)) (adds.others y other))) (w.places y below)
   ];
 }
 

@@ -14,7 +14,7 @@ use Rattle.pl_event.specs.Hops.{same_lane}
 use Rattle.pl_event.specs.Worlds.{World}
 use Rattle.pl_context.specs.declared.added.Added.{Added}
 use Rattle.pl_context.specs.declared.added.Added.TheVariants as added
-use Rattle.pl_context.specs.declared.waiting.Late.{Late}
+use Rattle.pl_context.specs.declared.waiting.Stamp.{Stamp}
 use Rattle.pl_context.specs.Stops.{has_stopped, no_stops, HasPlaces}
 use Rattle.pl_context.specs.OutputsViews.{added_items, stand_in}
 use Rattle.pl_context.specs.Backlogs.{BacklogView, handed_back}
@@ -205,10 +205,10 @@ module _ (world : World) (os : List OutboxView) (w : WaitingView AdmittedView) (
     waits-more = waits-entries w' more (adds.holds is.entries is.holds) target ∙ envelopes-more
 
     waits-other : (y : ℕ) → y ≢ target → waits_in w' y ≡ waits_in w y
-    waits-other y other = ap (λ (o : Option (BacklogView (Late AdmittedView))). option_map_or (λ b. map (λ x. x.0) b.items) o []) (adds.others y other)
+    waits-other y other = ap (λ (o : Option (BacklogView (Stamp AdmittedView))). option_map_or (λ b. map (λ x. x.0) b.items) o []) (adds.others y other)
 
     stops-other : (y : ℕ) → y ≢ target → stops_for w' y ≡ stops_for w y
-    stops-other y other = ap (λ (o : Option (BacklogView (Late AdmittedView))). option_map_or (λ b. b.stopped) o (no_stops 0)) (adds.others y other)
+    stops-other y other = ap (λ (o : Option (BacklogView (Stamp AdmittedView))). option_map_or (λ b. b.stopped) o (no_stops 0)) (adds.others y other)
 
     sent-own : (l : Lane) → sent_to (record { outboxes = os; waiting = w; tried = ts }) target l ≡ sent_at b.sends.send_counts l
     sent-own l = ap (λ o. option_map_or (λ (c : OutboxView). sent_at c.sends.send_counts l) o (record { next = 0; over = true })) r.was

@@ -10,7 +10,7 @@ use Rattle.std.proofs.lemmas.List.Sums.{sum_by-set, sum_by-le, length-filter}
 use Rattle.std.proofs.lemmas.Option.{slice_get_within, get_or_from_slice_get, same_Some}
 use Rattle.pl_event.specs.Worlds.{World}
 use Rattle.pl_context.specs.Backlogs.{BacklogView}
-use Rattle.pl_context.specs.declared.waiting.Late.{Late}
+use Rattle.pl_context.specs.declared.waiting.Stamp.{Stamp}
 use Rattle.pl_context.specs.WaitingViews.{WaitingView, Entry, Aged, Holds, is_for}
 use Rattle.pl_context.proofs.Firsts.{find-All}
 use Rattle.pl_context.proofs.WaitingCalls.{at-set_here, at-set_there, count-past, envelopes-for, none-long}
@@ -83,11 +83,11 @@ closed-on os os' w w' target b b' r on s = ⊎_elim
 pub waits-entries : (w : WaitingView AdmittedView) (entries : List (Entry AdmittedView)) → Holds w entries → (y : ℕ) → waits_in w y ≡ map (λ e. e.envelope) (filter (is_for y) entries)
 waits-entries w entries h y = by (slice_get w.targets y) refl
   where
-    by : (o : Option (BacklogView (Late AdmittedView))) → slice_get w.targets y ≡ o → waits_in w y ≡ map (λ e. e.envelope) (filter (is_for y) entries)
+    by : (o : Option (BacklogView (Stamp AdmittedView))) → slice_get w.targets y ≡ o → waits_in w y ≡ map (λ e. e.envelope) (filter (is_for y) entries)
     by None at =
-        ap (λ (o : Option (BacklogView (Late AdmittedView))). option_map_or (λ b. map (λ x. x.0) b.items) o []) at
+        ap (λ (o : Option (BacklogView (Stamp AdmittedView))). option_map_or (λ b. map (λ x. x.0) b.items) o []) at
         ∙ sym (ap (λ (zs : List (Entry AdmittedView)). map (λ e. e.envelope) zs) (none-long (filter (is_for y) entries) (length-filter (is_for y) entries ∙ sym (count-past w entries h y at))))
-    by (Some b) at = ap (λ (o : Option (BacklogView (Late AdmittedView))). option_map_or (λ b. map (λ x. x.0) b.items) o []) at ∙ envelopes-for w entries h y b at
+    by (Some b) at = ap (λ (o : Option (BacklogView (Stamp AdmittedView))). option_map_or (λ b. map (λ x. x.0) b.items) o []) at ∙ envelopes-for w entries h y b at
 
 -- ---- what holds between two calls
 

@@ -1,6 +1,6 @@
 //! The way to one executor.
 
-ghost use Rattle.std.specs.Prelude.{◌≡◌, ◌<◌, ◌≤◌, ◌^◌, ◌∷◌, [], IfOk, IfErr, MatchResult, Some, false};
+ghost use Rattle.std.specs.Prelude.{◌≡◌, ◌<◌, ◌≤◌, ◌^◌, ◌∷◌, [], IfOk, IfErr, MatchResult, Some, false, true};
 ghost use Rattle.pl_event.specs.Worlds.{FitsWorld};
 ghost use Rattle.pl_outbox.specs.OutboxViews.{WasFull};
 ghost use Rattle.pl_queue.specs.Views.{sent_of, after_offer};
@@ -67,7 +67,16 @@ impl<'a, W: Named, M: Mailbox<W> + Drop> Outbox<'a, W, M> {
         self.inbox.bell.ring();
     }
 
-    /// Offers an envelope to the queue.
+    /// Whether the queue is found full. A `false` promises nothing.
+    pub(crate) fn is_full(&mut self) -> bool
+        ensures same { self.new ≡ self.old }
+        ensures full { result ≡ true → WasFull M.ends W.world self.old.sends }
+    {
+        self.inbox.mailbox.is_full(&mut self.sender)
+    }
+
+    /// Offers an envelope to the queue. Its one caller gives it the envelope by value.
+    #[inline(always)]
     pub(crate) fn offer<R: Wait>(&mut self, rt: &R, envelope: Envelope) -> Result<(), Full>
         requires next { sent_of envelope.lane self.old.sends.send_counts ≡ Some (envelope.number, false) }
         requires small { envelope.number < 2 ^ 32 }

@@ -1,12 +1,13 @@
 //! What an executor made for others, and has not handed over.
 
-ghost use Rattle.std.specs.Prelude.{◌≡◌, ℕ, List, [], ◌∷◌, ◌<◌, ◌^◌, ◌==◌, length, map, All, IfOk, IfErr, IfSome, false, true, not};
+ghost use Rattle.std.specs.Prelude.{◌≡◌, ℕ, List, [], ◌∷◌, ◌<◌, ◌^◌, ◌==◌, length, map, All, IfOk, IfErr, IfSome, Some, false, true, not};
 ghost use Rattle.pl_context.specs.Stops.{HasPlaces, no_stops};
 ghost use Rattle.pl_context.specs.WaitingViews.{Entry, Holds, stops_for};
+ghost use Rattle.pl_queue.specs.declared.views.SenderView.{SenderView};
 ghost use Rattle.pl_words.specs.Admissions.{AdmittedView};
 ghost use Rattle.pl_flow.specs.Flows.{IsNext};
 ghost use Rattle.pl_outbox.specs.Tries.{is_tried};
-ghost use Rattle.pl_outbox.specs.OutboxViews.{IsNew, admissions, waits_for, was_tried, oldest_untried, tried_after, reached, is_cut, Adds, Comes, RefusedBy, Offers, FullOnce, Stays, Forgets, closed_seat};
+ghost use Rattle.pl_outbox.specs.OutboxViews.{IsNew, admissions, waits_for, sends_for, was_tried, oldest_untried, tried_after, reached, is_cut, Adds, Comes, RefusedBy, Offers, WasFull, FullOnce, Stays, Forgets, closed_seat};
 
 use crate::bell::{MAX_BITS, Waiters};
 use crate::outbox::Outbox;
@@ -101,7 +102,7 @@ impl<'a, W: Named, M: Mailbox<W> + Drop> Outboxes<'a, W, M> {
     {
         match self.outboxes[target].admit() {
             Err(refused) => {
-                drop(envelope);
+                envelope.discard();
                 Err(refused)
             }
             Ok(admitted) => {
@@ -158,6 +159,22 @@ impl<'a, W: Named, M: Mailbox<W> + Drop> Outboxes<'a, W, M> {
         ensures stays { Stays self.old self.new }
         ensures tried { (y : ℕ) → was_tried self.new y ≡ tried_after self.old target result y }
     {
+        // What a full queue would hand back is not taken out for it.
+        if self.is_full(target) {
+            self.tries.add(target);
+            return Offered::Full;
+        }
+        self.offer_oldest(rt, target)
+    }
+
+    /// The same, where its queue was not found full beforehand.
+    fn offer_oldest<R: Wait>(&mut self, rt: &R, target: usize) -> Offered
+        requires there { target < length self.old.outboxes }
+        ensures offers { Offers self.old target result self.new }
+        ensures full { FullOnce M.ends W.world self.old target result }
+        ensures stays { Stays self.old self.new }
+        ensures tried { (y : ℕ) → was_tried self.new y ≡ tried_after self.old target result y }
+    {
         let Some((envelope, admitted)) = self.waiting.take(target) else {
             return Offered::Nothing;
         };
@@ -174,6 +191,15 @@ impl<'a, W: Named, M: Mailbox<W> + Drop> Outboxes<'a, W, M> {
                 Offered::Full
             }
         }
+    }
+
+    /// Whether the queue of a target is found full.
+    fn is_full(&mut self, target: usize) -> bool
+        requires there { target < length self.old.outboxes }
+        ensures same { self.new ≡ self.old }
+        ensures full { result ≡ true → (sends : SenderView) × (sends_for self.old target ≡ Some sends) × WasFull M.ends W.world sends }
+    {
+        self.outboxes[target].is_full()
     }
 
     /// Whether nothing waits.

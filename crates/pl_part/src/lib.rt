@@ -10,4 +10,3 @@ mod shares;
 
 pub use laws::head_law;
 pub use parts::ChannelPart;
-pub use paths::PathPart;

@@ -74,6 +74,14 @@ pub trait Mailbox<W: Named>: Sized {
     /// Whether `offer` may wait for room. It never answers `Full` then.
     fn may_wait() -> bool;
 
+    /// Whether the queue is found full. A `true` says that it was so at some moment of the call, a `false` promises nothing.
+    /// The sender is as it was.
+    fn is_full(&self, sender: &mut Self::Sender) -> bool
+        requires sender { ends.is_sender self.now sender.old }
+        ensures sender { ends.is_sender self.now sender.new }
+        ensures same { ends.sends_of sender.new ≡ ends.sends_of sender.old }
+        ensures full { result ≡ true → WasOnce (ends.capacity_of self.now) (SenderSees W.world (ends.sends_of sender.old)) };
+
     /// Puts the envelope at the queue's back, in one step. Its lane is the sender's and has had no `End` or `Fail`, its number
     /// is the next one there and below 2^32, and it fits the world. The lane's next number and the count of pushes rise by
     /// one, this envelope is the one pushed last, and nothing else of the sender changes.
@@ -93,6 +101,14 @@ pub trait Mailbox<W: Named>: Sized {
         ensures sent { MatchResult result
             (λ _. ends.sends_of sender.new ≡ after_offer (ends.sends_of sender.old) envelope)
             (λ full. (full.envelope ≡ envelope) × (ends.sends_of sender.new ≡ ends.sends_of sender.old) × WasOnce (ends.capacity_of self.now) (SenderSees W.world (ends.sends_of sender.old))) };
+
+    /// Whether the queue is found empty. A `true` says that it was so at some moment of the call, a `false` promises nothing.
+    /// The taker is as it was.
+    fn is_empty(&self, taker: &mut Self::Taker) -> bool
+        requires taker { ends.is_taker self.now taker.old }
+        ensures taker { ends.is_taker self.now taker.new }
+        ensures same { ends.takes_of taker.new ≡ ends.takes_of taker.old }
+        ensures empty { result ≡ true → WasOnce 0 (TakerSees W.world (ends.takes_of taker.old)) };
 
     /// Takes the front, and gives it as it stood there.
     fn take<R: Wait>(&self, rt: &R, taker: &mut Self::Taker) -> Option<Envelope>

@@ -90,6 +90,10 @@ impl<W: Named> Mailbox<W> for RingBox<W> {
         false
     }
 
+    fn is_full(&self, sender: &mut RingSender<W>) -> bool {
+        self.queue.is_full_as::<Pushed<W>>(&mut sender.pass)
+    }
+
     fn offer<R: Wait>(
         &self,
         rt: &R,
@@ -103,6 +107,10 @@ impl<W: Named> Mailbox<W> for RingBox<W> {
             Ok(()) => Ok(()),
             Err(envelope) => Err(Full { envelope }),
         }
+    }
+
+    fn is_empty(&self, taker: &mut RingTaker<W>) -> bool {
+        self.queue.is_empty_as::<Popped<W>>(&mut taker.pass)
     }
 
     fn take<R: Wait>(&self, rt: &R, taker: &mut RingTaker<W>) -> Option<Envelope> {

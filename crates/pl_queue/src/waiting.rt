@@ -160,6 +160,11 @@ impl<W: Named> Mailbox<W> for WaitingBox<W> {
         true
     }
 
+    /// It does not look: an `offer` waits for room.
+    fn is_full(&self, _sender: &mut WaitingSender<W>) -> bool {
+        false
+    }
+
     fn offer<R: Wait>(
         &self,
         rt: &R,
@@ -188,6 +193,11 @@ impl<W: Named> Mailbox<W> for WaitingBox<W> {
             }
         }
         unreachable!()
+    }
+
+    /// It does not look: a `take` does.
+    fn is_empty(&self, _taker: &mut WaitingTaker<W>) -> bool {
+        false
     }
 
     fn take<R: Wait>(&self, rt: &R, taker: &mut WaitingTaker<W>) -> Option<Envelope> {

@@ -10,7 +10,7 @@ use Rattle.std.proofs.lemmas.Simd.{map-map}
 use Rattle.std.proofs.Math.Seq.{get_or-append_seam}
 use Rattle.pl_event.specs.declared.envelopes.Kind.TheVariants.{Data, Flags}
 use Rattle.pl_event.specs.declared.envelopes.Lane.{Lane}
-use Rattle.pl_context.specs.declared.waiting.Late.{Late}
+use Rattle.pl_context.specs.declared.waiting.Stamp.{Stamp}
 use Rattle.pl_context.specs.Backlogs.{BacklogView}
 use Rattle.pl_context.specs.Stops.{StopsView, HasPlaces, has_stopped, no_stops}
 use Rattle.pl_context.specs.WaitingViews.{Holds, stops_for}
@@ -38,7 +38,7 @@ module _ {S T : Type 0} (ps : List (ChannelPartView S T)) (count : ℕ) where
         ∙ unwrap_or-slice_get (map (λ b. b.stopped) e.waiting.targets) y (no_stops 0)
         ∙ ap (λ l. get_or l y (no_stops 0)) idle.places
       where
-        through : (o : Option (BacklogView (Late Unit))) → option_map_or (λ b. b.stopped) o (no_stops 0) ≡ unwrap_or (option_map (λ b. b.stopped) o) (no_stops 0)
+        through : (o : Option (BacklogView (Stamp Unit))) → option_map_or (λ b. b.stopped) o (no_stops 0) ≡ unwrap_or (option_map (λ b. b.stopped) o) (no_stops 0)
         through None = refl
         through (Some b) = refl
 

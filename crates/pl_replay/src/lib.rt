@@ -5,9 +5,9 @@ mod account_laws;
 mod channels;
 mod idle;
 mod nets;
+mod replaying;
 mod reporting;
-mod running;
 
 pub use account_laws::account_law;
 pub use nets::Net;
-pub use running::{replay, replay_world};
+pub use replaying::{replay, replay_world};

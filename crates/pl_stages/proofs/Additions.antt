@@ -1,5 +1,6 @@
 -- Additions: one more, and what is held and kept of them.
-use Rattle.std.proofs.Common.{◌≡◌, ℕ, ◌+◌, ◌-◌, ◌^◌, List, [], ◌∷◌, ◌++◌, length, filter, sum_by, count_by, Bool, true, false, not, ◌&&◌, ◌||◌, cond, ltb, leb, Option, Some, None, is_some, unwrap_or, min, refl, sym, ap, ◌∙◌, arith}
+use Rattle.std.proofs.Common.{◌≡◌, ℕ, ◌+◌, ◌-◌, ◌<◌, ◌^◌, List, [], ◌∷◌, ◌++◌, length, filter, sum_by, count_by, Bool, true, false, not, ◌&&◌, ◌||◌, cond, ltb, leb, Option, Some, None, is_some, unwrap_or, refl, sym, ap, subst, ◌∙◌, append-nil, arith}
+use Rattle.std.proofs.lemmas.Bool.{le-ltb, cond_both}
 use Rattle.std.proofs.lemmas.Bool.Decides.{nat_tests}
 use Rattle.std.proofs.lemmas.List.Elements.{filter-append}
 use Rattle.std.proofs.lemmas.List.Sums.{sum_by-append, sum_by-cons}
@@ -9,9 +10,10 @@ use Rattle.std.specs.Cmp.Lexicographic.{nat_list_eq_equiv}
 use Rattle.std.specs.Str.{bytes_eq}
 use Rattle.pl_event.specs.declared.events.Fault.{Fault}
 use Rattle.pl_event.specs.declared.events.Fault.TheVariants.{Range, Full}
+use Rattle.pl_event.specs.declared.events.Reply.TheVariants.{Total, Error}
 use Rattle.pl_stages.specs.declared.limits.TheConstants.{MAX_TOTAL, MAX_KEYS}
 use Rattle.pl_stages.specs.declared.totals.Totals.{Totals}
-use Rattle.pl_stages.specs.Service.{Addition, total_of, is_held, held_keys, refusal_of}
+use Rattle.pl_stages.specs.Service.{Addition, total_of, is_held, held_keys, refusal_of, unless_refused, reply_unless}
 use Rattle.pl_stages.specs.Totals.{KeepsTotals, kept_total, kept_count}
 
 pub bytes_eq-sym : (xs ys : List ℕ) → bytes_eq xs ys ≡ bytes_eq ys xs
@@ -122,41 +124,64 @@ KeepsTotals-add old new additions key number total keeps puts count is =
           ∙ ap (λ (n : ℕ). n + cond (is_held key additions) 0 1) keeps.count ∙ sym (held_keys-push additions a);
     }
 
--- the total that is looked at does not wrap: it stays at 2^64 - 1
-small_or_large : (sum : ℕ) → ltb MAX_TOTAL (min sum (2 ^ 64 - 1)) ≡ ltb MAX_TOTAL sum
-small_or_large sum = grind (arith, nat_tests)
+-- of a key that is held only a total above the greatest is refused
+pub refusal_of-held : (totals : Totals) (additions : List Addition) (key : List ℕ) (number total : ℕ) → KeepsTotals totals additions
+    → kept_total key totals ≡ Some total
+    → (total ≡ total_of key additions) × (refusal_of key number additions ≡ cond (ltb MAX_TOTAL (total + number)) (Some Range) None)
+refusal_of-held totals additions key number total keeps found =
+    let exact : total ≡ total_of key additions = ap (λ (o : Option ℕ). unwrap_or o 0) (sym found) ∙ kept-total totals additions key keeps in
+    let held : is_held key additions ≡ true = sym (kept-held totals additions key keeps) ∙ ap is_some found in
+    (exact, rw (exact, held))
 
--- the code's test is the refusal
-pub refusal_of-kept : (totals : Totals) (additions : List Addition) (key : List ℕ) (n : ℕ) (held : Option ℕ) (total : ℕ) → KeepsTotals totals additions
-    → held ≡ kept_total key totals → total ≡ min (unwrap_or held 0 + n) (2 ^ 64 - 1)
-    → cond (ltb MAX_TOTAL total) (Some Range) (cond (not (is_some held) && leb MAX_KEYS (kept_count totals)) (Some Full) None) ≡ refusal_of key n additions
-refusal_of-kept totals additions key n held total keeps found is =
-    let sum : unwrap_or held 0 + n ≡ total_of key additions + n =
-    ap (λ (o : Option ℕ). unwrap_or o 0 + n) found ∙ ap (λ (t : ℕ). t + n) (kept-total totals additions key keeps) in
-    let large : ltb MAX_TOTAL total ≡ ltb MAX_TOTAL (total_of key additions + n) =
-    ap (ltb MAX_TOTAL) is ∙ small_or_large (unwrap_or held 0 + n) ∙ ap (ltb MAX_TOTAL) sum in
-    rw (large, found, kept-held totals additions key keeps, keeps.count)
+-- of a key that is not held a number is refused only where the most keys are
+pub refusal_of-first : (totals : Totals) (additions : List Addition) (key : List ℕ) (number : ℕ) → KeepsTotals totals additions
+    → kept_total key totals ≡ None → number < 2 ^ 32
+    → (total_of key additions ≡ 0) × (refusal_of key number additions ≡ cond (leb MAX_KEYS (kept_count totals)) (Some Full) None)
+refusal_of-first totals additions key number keeps found small =
+    let none : total_of key additions ≡ 0 = sym (kept-total totals additions key keeps) ∙ ap (λ (o : Option ℕ). unwrap_or o 0) found in
+    let held : is_held key additions ≡ false = sym (kept-held totals additions key keeps) ∙ ap is_some found in
+    let fits : ltb MAX_TOTAL (total_of key additions + number) ≡ false = le-ltb _ _ (omega (arith, none, small)) in
+    (none, rw (fits, held, keeps.count))
 
-refused_small : (large : Bool) (o : Option Fault) → cond large (Some Range) o ≡ None → large ≡ false
-refused_small true o e = cc
-refused_small false o e = refl
+-- a total set to what it is
+same_total : (totals : Totals) (key name : List ℕ) (total : ℕ) → kept_total key totals ≡ Some total
+    → cond (bytes_eq key name) (Some total) (kept_total name totals) ≡ kept_total name totals
+same_total totals key name total found =
+    cond_both (bytes_eq key name) (Some total) (kept_total name totals) (λ o. o ≡ kept_total name totals)
+    (λ e. subst (λ (k : List ℕ). Some total ≡ kept_total k totals) ((bytes_eq-Decides key name).0 e) (sym found))
+    (λ e. refl)
 
--- a total that is not refused is exact
-pub exact_total : (sum total : ℕ) (o : Option Fault) → total ≡ min sum (2 ^ 64 - 1) → cond (ltb MAX_TOTAL total) (Some Range) o ≡ None → total ≡ sum
-exact_total sum total o is accepted =
-    let small = refused_small (ltb MAX_TOTAL total) o accepted in
-    grind (arith, nat_tests, small, is)
+raised_unless : (large : Bool) (old new : Totals) (additions : List Addition) (key : List ℕ) (number total : ℕ) → KeepsTotals old additions
+    → kept_total key old ≡ Some total → total ≡ total_of key additions
+    → ((name : List ℕ) → kept_total name new ≡ cond (bytes_eq key name) (Some (cond large total (total + number))) (kept_total name old))
+    → kept_count new ≡ kept_count old
+    → KeepsTotals new (additions ++ unless_refused (cond large (Some Range) None) (record { key = key; number = number } ∷ []))
+raised_unless true old new additions key number total keeps found exact puts count =
+    subst (KeepsTotals new) (sym (append-nil additions))
+    (record {
+      held = λ name. puts name ∙ same_total old key name total found ∙ keeps.held name;
+      count = count ∙ keeps.count;
+    })
+raised_unless false old new additions key number total keeps found exact puts count =
+    KeepsTotals-add old new additions key number (total + number) keeps puts (rw (count, found) (omega arith)) (ap (λ (t : ℕ). t + number) exact)
 
--- where the code adds, the addition is not refused, and the total is exact
-pub adds_exactly : (totals : Totals) (additions : List Addition) (key : List ℕ) (n : ℕ) (held : Option ℕ) (total : ℕ) → KeepsTotals totals additions
-    → held ≡ kept_total key totals → total ≡ min (unwrap_or held 0 + n) (2 ^ 64 - 1)
-    → cond (ltb MAX_TOTAL total) (Some Range) (cond (not (is_some held) && leb MAX_KEYS (kept_count totals)) (Some Full) None) ≡ None
-    → (refusal_of key n additions ≡ None) × (total ≡ total_of key additions + n)
-adds_exactly totals additions key n held total keeps found is accepted = (
-  sym (refusal_of-kept totals additions key n held total keeps found is) ∙ accepted,
-  exact_total (unwrap_or held 0 + n) total (cond (not (is_some held) && leb MAX_KEYS (kept_count totals)) (Some Full) None) is accepted
-      ∙ ap (λ (o : Option ℕ). unwrap_or o 0 + n) found ∙ ap (λ (t : ℕ). t + n) (kept-total totals additions key keeps),
-)
+-- the total of a key that is held is raised, or stays where that is refused
+pub KeepsTotals-raise : (old new : Totals) (additions : List Addition) (key : List ℕ) (number total raised : ℕ) → KeepsTotals old additions
+    → kept_total key old ≡ Some total → raised ≡ cond (ltb MAX_TOTAL (total + number)) total (total + number)
+    → ((name : List ℕ) → kept_total name new ≡ cond (bytes_eq key name) (Some raised) (kept_total name old))
+    → kept_count new ≡ kept_count old
+    → KeepsTotals new (additions ++ unless_refused (refusal_of key number additions) (record { key = key; number = number } ∷ []))
+KeepsTotals-raise old new additions key number total raised keeps found is puts count =
+    let refused = refusal_of-held old additions key number total keeps found in
+    rw refused.1
+    (raised_unless (ltb MAX_TOTAL (total + number)) old new additions key number total keeps found refused.0
+    (λ name. puts name ∙ ap (λ (t : ℕ). cond (bytes_eq key name) (Some t) (kept_total name old)) is) count)
+
+-- the reply of a total, unless there is a reason against it
+pub reply_unless-cond : (large : Bool) (why : Fault) (total : ℕ)
+    → cond large (Error why) (Total total) ≡ reply_unless (cond large (Some why) None) total
+reply_unless-cond true why total = refl
+reply_unless-cond false why total = refl
 
 -- each key that is held is once among the keys held
 count_first : (held_first : Bool) (key first : List ℕ) (keys : List (List ℕ))

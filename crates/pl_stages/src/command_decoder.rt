@@ -1,12 +1,12 @@
 //! The handler that reads lines as commands.
 
-ghost use Rattle.std.specs.Prelude.{◌≡◌, false, ◌+◌, ◌<◌, ◌≤◌, [], take, drop, Some, None, vec_len, ◌||◌, codes};
+ghost use Rattle.std.specs.Prelude.{◌≡◌, false, ◌+◌, ◌<◌, ◌≤◌, [], length, take, drop, Some, None, IfSome, vec_len, ◌||◌, codes};
+ghost use Rattle.std.specs.List.{position};
 ghost use Rattle.std.specs.Str.{bytes_eq};
-ghost use Rattle.pl_stages.specs.Commands.{command_decoding, command_of, command_with, add_with, addition_of, get_with, key_in, decoded};
+ghost use Rattle.pl_stages.specs.Commands.{is_space, command_decoding, command_of, command_with, add_with, addition_of, get_with, key_in, decoded};
 
 use crate::bytes::without_front;
 use crate::numbers::number_in;
-use memchr::memchr;
 use pl_event::{ByteString, Caught, Command, Event, Key, MapUp, Mapping, Message, Stage};
 use std::alloc::AllocError;
 
@@ -55,7 +55,7 @@ impl Mapping for CommandDecoder {
 fn command_of(line: Vec<u8>) -> Result<Command, Caught>
     ensures { result ≡ command_of line.items }
 {
-    match memchr(SPACE, line.as_slice()) {
+    match first_space(line.as_slice()) {
         None => command_alone(line.as_slice()),
         Some(end) => command_followed(line, end),
     }
@@ -89,24 +89,32 @@ fn command_followed(line: Vec<u8>, end: usize) -> Result<Command, Caught>
     ensures { result ≡ command_with (take end line.items) (Some (drop (end + 1) line.items)) }
 {
     let verb = &line[..end];
-    if verb == PING || verb == QUIT {
-        Err(Caught::Syntax)
-    } else if verb == ECHO {
+    if verb == ECHO {
         Ok(Command::Echo(ByteString::from_vec(without_front(line, end + 1))))
     } else if verb == ADD {
         add_with(without_front(line, end + 1))
     } else if verb == GET {
         get_with(without_front(line, end + 1))
+    } else if verb == PING || verb == QUIT {
+        Err(Caught::Syntax)
     } else {
         Err(Caught::Unknown)
     }
+}
+
+/// Where the first space is. It is near, so each byte is looked at.
+fn first_space(text: &[u8]) -> Option<usize>
+    ensures place { result ≡ position is_space text.now }
+    ensures within { IfSome result (λ at. at < length text.now) }
+{
+    text.iter().position(|byte| *byte == SPACE)
 }
 
 /// The addition of a key, a space and a number.
 fn add_with(argument: Vec<u8>) -> Result<Command, Caught>
     ensures { result ≡ add_with (Some argument.items) }
 {
-    match memchr(SPACE, argument.as_slice()) {
+    match first_space(argument.as_slice()) {
         None => Err(Caught::Syntax),
         Some(end) => {
             let number = number_in(&argument[end + 1..]);

@@ -96,7 +96,8 @@ impl LineFramer {
         self.keep(rest)
     }
 
-    /// A line feed after these bytes makes a line of the open part and of them. The next part is empty.
+    /// A line feed after these bytes makes a line of the open part and of them. The next part is empty. Where nothing
+    /// is kept, the line is made of the bytes at once.
     fn close(&mut self, bytes: &[u8], up: &mut Vec<Event>) -> Result<(), AllocError>
         ensures max { self.new.max ≡ self.old.max }
         ensures empty { OnOk result (KeepsPart self.old.max self.new.partial.items self.new.is_overlong []) }
@@ -105,9 +106,15 @@ impl LineFramer {
             → up.new.items ≡ up.old.items ++ framed self.old.max (part ++ bytes.now) ∷ []) }
         ensures begins { IsPrefixOf up.old.items up.new.items }
     {
+        up.reserve(1)?;
+        if self.keeps_nothing() && bytes.len() <= self.max + 1 {
+            let part = Vec::from_slice(*up.allocator(), bytes)?;
+            up.push_reserved(framed(self.max, part));
+            return Ok(());
+        }
         self.keep(bytes)?;
         let line = self.take_line();
-        up.push(line)?;
+        up.push_reserved(line);
         Ok(())
     }
 

@@ -82,8 +82,14 @@ fn write_replies(
 {
     match event {
         Event::Read(Message::Command(command)) => answer(totals, command, down)?,
-        Event::Caught(caught) => down.push(written(Reply::Error(fault_of(*caught))))?,
-        Event::ReadComplete => down.push(Event::Flush)?,
+        Event::Caught(caught) => {
+            down.reserve(1)?;
+            down.push_reserved(written(Reply::Error(fault_of(*caught))));
+        }
+        Event::ReadComplete => {
+            down.reserve(1)?;
+            down.push_reserved(Event::Flush);
+        }
         _ => {}
     }
     Ok(())
@@ -97,13 +103,19 @@ fn answer(totals: &mut Totals, command: &Command, down: &mut Vec<Event>) -> Resu
         → KeepsTotals totals.new (additions ++ added_by additions (Event.Read (Message.Command command.now)))) }
     ensures begins { IsPrefixOf down.old.items down.new.items }
 {
+    down.reserve(2)?;
     match command {
-        Command::Ping => down.push(written(Reply::Pong))?,
-        Command::Echo(text) => down.push(written(Reply::Text(text.clone()?)))?,
-        Command::Add(key, number) => down.push(written(totals.add(key, *number)?))?,
-        Command::Get(key) => down.push(written(Reply::Total(totals.get(key))))?,
+        Command::Ping => down.push_reserved(written(Reply::Pong)),
+        Command::Echo(text) => {
+            let text = text.clone()?;
+            down.push_reserved(written(Reply::Text(text)));
+        }
+        Command::Add(key, number) => {
+            let reply = totals.add(key, *number)?;
+            down.push_reserved(written(reply));
+        }
+        Command::Get(key) => down.push_reserved(written(Reply::Total(totals.get(key)))),
         Command::Quit => {
-            down.reserve(2)?;
             down.push_reserved(written(Reply::Bye));
             down.push_reserved(Event::Flush);
         }

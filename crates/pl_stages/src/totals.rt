@@ -1,9 +1,8 @@
 //! The totals that a service keeps.
 
-ghost use Rattle.std.specs.Prelude.{◌≡◌, ◌+◌, ◌++◌, ◌∷◌, [], ℕ, List, Option, Some, None, IfOk, OnOk, if◌then◌else◌, is_some, not, ◌&&◌, nat_lt, nat_le};
-ghost use Rattle.std.specs.Str.{bytes_eq};
+ghost use Rattle.std.specs.Prelude.{◌≡◌, ◌+◌, ◌++◌, ◌∷◌, [], List, None, IfOk, OnOk, if◌then◌else◌, nat_lt};
 ghost use Rattle.pl_stages.specs.Service.{Addition, total_of, refusal_of, unless_refused, addition_reply};
-ghost use Rattle.pl_stages.specs.Totals.{KeepsTotals, kept_total, kept_count};
+ghost use Rattle.pl_stages.specs.Totals.{KeepsTotals, kept_total};
 
 use crate::limits::{MAX_KEYS, MAX_TOTAL};
 use pl_event::{Fault, Key, Reply};
@@ -43,12 +42,27 @@ impl Totals {
         ensures kept { OnOk result ((additions : List Addition) → KeepsTotals self.old additions
             → KeepsTotals self.new (additions ++ unless_refused (refusal_of key.now number additions) (record { key = key.now; number = number } ∷ []))) }
     {
-        let held = self.found(key);
-        let total = held.unwrap_or(0).saturating_add(u64::from(number));
-        if let Some(fault) = self.refusal(held.is_some(), total) {
-            return Ok(Reply::Error(fault));
+        if let Some(held) = self.by_name.get_mut(key.as_slice()) {
+            return Ok(raise(held, number));
         }
-        self.put(key, total)?;
+        self.add_first(key, number)
+    }
+
+    /// Adds to the total of a key that is not held.
+    #[inline(never)]
+    fn add_first(&mut self, key: &Key, number: u32) -> Result<Reply, AllocError>
+        requires { kept_total key.now self.old ≡ None }
+        ensures reply { IfOk result (λ reply. (additions : List Addition) → KeepsTotals self.old additions
+            → reply ≡ addition_reply key.now number additions) }
+        ensures kept { OnOk result ((additions : List Addition) → KeepsTotals self.old additions
+            → KeepsTotals self.new (additions ++ unless_refused (refusal_of key.now number additions) (record { key = key.now; number = number } ∷ []))) }
+    {
+        if self.by_name.len() >= MAX_KEYS {
+            return Ok(Reply::Error(Fault::Full));
+        }
+        let total = u64::from(number);
+        let name = Vec::from_slice(self.alloc, key.as_slice())?;
+        self.by_name.insert(name, total)?;
         Ok(Reply::Total(total))
     }
 
@@ -58,33 +72,17 @@ impl Totals {
     {
         self.by_name.get(key.as_slice()).copied()
     }
+}
 
-    /// Why a key may not get this total.
-    fn refusal(&self, is_held: bool, total: u64) -> Option<Fault>
-        ensures { result ≡ (if nat_lt MAX_TOTAL total then Some Fault.Range
-            else (if not is_held && nat_le MAX_KEYS (kept_count self.now) then Some Fault.Full else None)) }
-    {
-        if total > MAX_TOTAL {
-            return Some(Fault::Range);
-        }
-        if !is_held && self.by_name.len() >= MAX_KEYS {
-            return Some(Fault::Full);
-        }
-        None
+/// Adds to a total, unless it would be above [`MAX_TOTAL`], and replies the new total or why it is refused.
+fn raise(held: &mut u64, number: u32) -> Reply
+    ensures total { held.new ≡ (if nat_lt MAX_TOTAL (held.old + number) then held.old else held.old + number) }
+    ensures reply { result ≡ (if nat_lt MAX_TOTAL (held.old + number) then Reply.Error Fault.Range else Reply.Total (held.old + number)) }
+{
+    let total = held.saturating_add(u64::from(number));
+    if total > MAX_TOTAL {
+        return Reply::Error(Fault::Range);
     }
-
-    /// Sets the total of a key, which is held from then on.
-    fn put(&mut self, key: &Key, total: u64) -> Result<(), AllocError>
-        ensures totals { OnOk result ((name : List ℕ)
-            → kept_total name self.new ≡ (if bytes_eq key.now name then Some total else kept_total name self.old)) }
-        ensures count { OnOk result (kept_count self.new ≡ kept_count self.old + (if is_some (kept_total key.now self.old) then 0 else 1)) }
-    {
-        if let Some(held) = self.by_name.get_mut(key.as_slice()) {
-            *held = total;
-            return Ok(());
-        }
-        let name = Vec::from_slice(self.alloc, key.as_slice())?;
-        self.by_name.insert(name, total)?;
-        Ok(())
-    }
+    *held = total;
+    Reply::Total(total)
 }

@@ -11,7 +11,7 @@ use Rattle.pl_event.proofs.SameLanes.{same_lane-equal, same_lane-self}
 use Rattle.pl_event.proofs.Lists.{cons-none}
 use Rattle.pl_context.specs.Stops.{StopsView, has_stopped, AreAmong, HasPlaces, no_stops}
 use Rattle.pl_context.specs.Backlogs.{BacklogView}
-use Rattle.pl_context.specs.declared.waiting.Late.{Late}
+use Rattle.pl_context.specs.declared.waiting.Stamp.{Stamp}
 use Rattle.pl_context.specs.OutputsViews.{OutputsView}
 use Rattle.pl_context.specs.WaitingViews.{stops_for}
 use Rattle.pl_context.proofs.Places.{places-for}
@@ -158,7 +158,7 @@ module _ {world : World} {me : ℕ} {v : LanesView} {o : OutboxesView} {before :
         subst (λ k. HasPlaces (stops_for o'.waiting k) (r.hops k)) (sym e)
         (adds.placed (r.hops (v.target x.lane)) (r.among x.lane front-written) (subst (λ k. HasPlaces (stops_for o.waiting k) (r.hops k)) e p)))
         (λ (e : y ≡ v.target x.lane → ⊥).
-        subst (λ s. HasPlaces s (r.hops y)) (sym (ap (λ b. option_map_or (λ (c : BacklogView (Late AdmittedView)). c.stopped) b (no_stops 0)) (adds.others y e).1)) p)
+        subst (λ s. HasPlaces s (r.hops y)) (sym (ap (λ b. option_map_or (λ (c : BacklogView (Stamp AdmittedView)). c.stopped) b (no_stops 0)) (adds.others y e).1)) p)
         (cases_eq y (v.target x.lane));
     among = r.among;
   }

@@ -25,7 +25,7 @@ use Rattle.pl_words.proofs.admission.SendSeat.TheSendSync as seat
 use Rattle.pl_context.proofs.outputs.Outputs.TheSendSync as outputs
 use Rattle.pl_outbox.proofs.Sends.{outboxes_send, waiting_send}
 use Rattle.pl_outbox.proofs.inbox.Inbox.TheSendSync as inbox
-use Rattle.pl_threads.specs.declared.nodes.Nodes as nodes
+use Rattle.pl_threads.specs.declared.nodes.OwnNodes as nodes
 use Rattle.pl_threads.specs.contracts.cores.Core as core
 use Rattle.pl_threads.specs.contracts.executors.Executor as executor
 use Rattle.pl_threads.specs.contracts.executors.Executor.TheInside as executor_inside
@@ -44,7 +44,7 @@ module _ (a : NamedLft) (W M N S T : RattleType) (w : named.Ghosts W.Denot) (m :
       let c = core_send n s y in
       let i = inbox.the_sync W M S T y in
       let O = executor_inside.the_type a W M N S T w m p in
-      let all : AllSend (fields O) = (c, (search (sendable, i) depth 20, (t, (owner.the_send, (search sendable, (search sendable, (search sendable, tt))))))) in
+      let all : AllSend (fields O) = (c, (search (sendable, i) depth 20, (t, (owner.the_send, (search sendable, (search sendable, (search sendable, (search sendable, (search sendable, (search sendable, tt)))))))))) in
       view_send _ _ _ _ _ (recorded_send _ _ O.to O.to_one (struct_send (shape O) all))
 
 -- an optional value may go where the value may

@@ -11,7 +11,7 @@ ghost use Rattle.pl_threads.specs.Cores.{CoreHolds, CoreKeeps, FrontGoes, WorksO
 ghost use Rattle.pl_threads.specs.NodesViews.{TakesOwn};
 ghost use Rattle.pl_threads.specs.Serving.{ServesNone, MovesAtMostOnce};
 
-use crate::nodes::Nodes;
+use crate::nodes::OwnNodes;
 use pl_context::Outputs;
 use pl_event::{Envelope, Named};
 use pl_flow::HeadMove;
@@ -22,7 +22,7 @@ use std::sync::Wait;
 
 /// The nodes of an executor, the list on which they put what they make, and what waits for others.
 #[derive(Drop)]
-pub struct Core<'a, W: Named, M: Mailbox<W> + Drop, N: Nodes<W> + Drop> {
+pub struct Core<'a, W: Named, M: Mailbox<W> + Drop, N: OwnNodes<W> + Drop> {
     /// The executor's number.
     pub number: usize,
     pub nodes: N,
@@ -30,7 +30,7 @@ pub struct Core<'a, W: Named, M: Mailbox<W> + Drop, N: Nodes<W> + Drop> {
     pub work: Outputs,
 }
 
-impl<'a, W: Named, M: Mailbox<W> + Drop, N: Nodes<W> + Drop> Core<'a, W, M, N> {
+impl<'a, W: Named, M: Mailbox<W> + Drop, N: OwnNodes<W> + Drop> Core<'a, W, M, N> {
     /// Takes the front of the work list: a direct call, or an item for another executor, to its outbox. Where that executor
     /// is closed, the context that wrote it fails. The seat there is never spent. False where the list is empty.
     pub fn step(&mut self) -> bool
@@ -96,20 +96,20 @@ impl<'a, W: Named, M: Mailbox<W> + Drop, N: Nodes<W> + Drop> Core<'a, W, M, N> {
     }
 
     /// A move of a channel's head, with the direct calls that follow. False where it is not enabled.
-    pub fn move_head<R: Wait>(&mut self, rt: &R, by: HeadMove, channel: usize) -> bool
-        requires there { channel < (N.view_of self.old.nodes).channels }
+    pub fn move_head<R: Wait>(&mut self, rt: &R, by: HeadMove, at: usize) -> bool
+        requires there { at < (N.view_of self.old.nodes).channels }
         requires holds { CoreHolds N.view_of N.stands W.world self.old }
         requires empty { self.old.work.items ≡ [] }
-        ensures enabled { N.may_move self.old.nodes by channel result }
+        ensures enabled { N.may_move self.old.nodes by at result }
         ensures idle { result ≡ false → self.new ≡ self.old }
         ensures holds { CoreHolds N.view_of N.stands W.world self.new }
         ensures keeps { CoreKeeps N.view_of self.old self.new }
         ensures served { MovesAtMostOnce by (N.served self.old.nodes) (N.served self.new.nodes) }
         ensures taken { TakesOwn (N.view_of self.old.nodes).lanes (N.view_of self.new.nodes).lanes }
         ensures empty { self.new.work.items ≡ [] }
-        ensures moves { result ≡ true → WorksOffAfter N.view_of N.acts self.old.number (N.acts.moves self.old.nodes by channel self.old.work) self.old.outboxes self.new.nodes self.new.outboxes }
+        ensures moves { result ≡ true → WorksOffAfter N.view_of N.acts self.old.number (N.acts.moves self.old.nodes by at self.old.work) self.old.outboxes self.new.nodes self.new.outboxes }
     {
-        if !self.nodes.move_head(by, channel, &mut self.work) {
+        if !self.nodes.move_head(by, at, &mut self.work) {
             return false;
         }
         self.work_off(rt);

@@ -1,11 +1,14 @@
 //! An executor, which runs its tasks one after another.
 
-ghost use Rattle.std.specs.Prelude.{◌≡◌, ◌≢◌, ◌⊎◌, ◌+◌, ◌-◌, ◌<◌, ◌≤◌, ◌^◌, ℕ, List, min, [], IfSome, IfNone, true, false};
+ghost use Rattle.std.specs.Prelude.{◌≡◌, ◌≢◌, ◌⊎◌, ◌+◌, ◌-◌, ◌<◌, ◌≤◌, ◌^◌, ℕ, List, min, [], IfSome, IfNone, Some, MatchOption, true, false};
 ghost use Rattle.pl_event.specs.declared.envelopes.Envelope.{Envelope};
-ghost use Rattle.pl_queue.specs.Views.{after_take};
+ghost use Rattle.pl_event.specs.Worlds.{FitsWorld};
+ghost use Rattle.pl_queue.specs.Rule.{TakerSees, WasOnce};
+ghost use Rattle.pl_queue.specs.Views.{next_of, after_take};
 ghost use Rattle.pl_context.specs.Stops.{HasPlaces};
 ghost use Rattle.pl_context.specs.WaitingViews.{Entry, Holds};
 ghost use Rattle.pl_flow.specs.declared.moves.HeadMove.{HeadMove};
+ghost use Rattle.pl_flow.specs.declared.moves.HeadMove.TheVariants.{Out};
 ghost use Rattle.pl_words.specs.declared.status.Status.TheVariants.{Accepting};
 ghost use Rattle.pl_words.specs.Phases.{rank};
 ghost use Rattle.pl_words.specs.Admissions.{AdmittedView, OwnerSeatView, new_owner_seat};
@@ -13,27 +16,31 @@ ghost use Rattle.pl_outbox.specs.Admitting.{FewLanes};
 ghost use Rattle.pl_outbox.specs.OutboxViews.{admissions, waits_for, is_closed, SomeClosed, SameFor, Sends, SendsNothing, oldest_untried};
 ghost use Rattle.pl_threads.specs.declared.executors.Turn.TheVariants.{Worked, Idle, Done};
 ghost use Rattle.pl_threads.specs.Running.{EndsAs, IsFinished, RunsOn, IsTaking};
-ghost use Rattle.pl_threads.specs.Serving.{ServesNone, MovesAtMostOnce, ServesAtMostOnce};
+ghost use Rattle.pl_threads.specs.Serving.{ServesNone, WritesAtMostOnce, MovesAtMostOnce, ServesAtMostOnce};
 ghost use Rattle.pl_threads.specs.Turning.{SendsAtMostOne, TakesAtMostOne, TakesOne, IsStill, OnlyServes, MovesHead, ServesOne, Turns};
 
 use crate::cores::Core;
 use crate::finished::Finished;
 use crate::gate::Gate;
-use crate::nodes::Nodes;
+use crate::nodes::OwnNodes;
 use crate::start::Start;
 use crossbeam_utils::sync::Parker;
-use pl_event::Named;
+use pl_event::{Envelope, Named};
 use pl_flow::HeadMove;
 use pl_outbox::Inbox;
 use pl_queue::Mailbox;
 use pl_words::OwnerSeat;
 use std::marker::Model;
 use std::sync::Wait;
+use std::thread;
+
+/// After so many were handed over others are let run before more is read.
+const MANY_HANDED: u32 = 64;
 
 /// What became of a turn.
 #[derive(Clone, Copy, Debug, PartialEq, Eq)]
 pub enum Turn {
-    /// Something was handed over, taken, read or written.
+    /// Something was handed over, taken, read or written; or its reads wait: for room elsewhere, or until others have run.
     Worked,
     /// Nothing was.
     Idle,
@@ -44,20 +51,26 @@ pub enum Turn {
 /// An executor between two of its steps: its nodes with what waits for others, and its own queue with the right to close it.
 /// Nothing is on its work list.
 #[derive(Drop)]
-pub struct Executor<'a, W: Named, M: Mailbox<W> + Drop, N: Nodes<W> + Drop> {
+pub struct Executor<'a, W: Named, M: Mailbox<W> + Drop, N: OwnNodes<W> + Drop> {
     core: Core<'a, W, M, N>,
     inbox: &'a Inbox<W, M>,
     taker: M::Taker,
     owner: OwnerSeat,
     /// The envelopes taken from its queue, up to 2^64 - 1.
-    run: u64,
+    taken: u64,
     /// Its queue was closed, with as many.
     is_closed: bool,
     /// The number of the next turn; 2^64 - 1 stays.
     turns: u64,
+    /// The channel whose turn it is; where there is none of this number, the first.
+    next: usize,
+    /// How many were handed over since others were let run.
+    handed: u32,
+    /// The last turn moved nothing, and its reads wait for room elsewhere.
+    waits_for_room: bool,
 }
 
-impl<'a, W: Named, M: Mailbox<W> + Drop, N: Nodes<W> + Drop> Model for Executor<'a, W, M, N> {
+impl<'a, W: Named, M: Mailbox<W> + Drop, N: OwnNodes<W> + Drop> Model for Executor<'a, W, M, N> {
     ghost use Rattle.std.specs.Prelude.{◌≡◌, ◌<◌, ◌^◌, []};
     ghost use Rattle.pl_threads.specs.Cores.{CoreHolds};
     ghost use Rattle.pl_threads.specs.Running.{ExecutorView, IsTaking, IsCounting};
@@ -71,11 +84,11 @@ impl<'a, W: Named, M: Mailbox<W> + Drop, N: Nodes<W> + Drop> Model for Executor<
         × M.ends.is_taker e.inbox.now.mailbox e.taker
         × IsTaking e.core.number (N.view_of e.core.nodes).lanes (M.ends.takes_of e.taker).counts
         × (e.owner.name ≡ e.inbox.now.admission.name)
-        × IsCounting e.owner e.is_closed e.run (M.ends.takes_of e.taker).pops
+        × IsCounting e.owner e.is_closed e.taken (M.ends.takes_of e.taker).pops
         × (e.core.number < 2 ^ 16) };
 }
 
-impl<'a, W: Named, M: Mailbox<W> + Drop, N: Nodes<W> + Drop> Executor<'a, W, M, N> {
+impl<'a, W: Named, M: Mailbox<W> + Drop, N: OwnNodes<W> + Drop> Executor<'a, W, M, N> {
     /// An executor with these nodes and outboxes, and the taker and the owner's seat of its own inbox, from which nothing was
     /// taken, and which is accepting. What the taker is to take first is the next of its lane for the nodes. These write
     /// fewer than 2^13 lanes, and no seat has made an admission: so none is ever spent.
@@ -106,9 +119,12 @@ impl<'a, W: Named, M: Mailbox<W> + Drop, N: Nodes<W> + Drop> Executor<'a, W, M, 
             inbox,
             taker,
             owner,
-            run: 0,
+            taken: 0,
             is_closed: false,
             turns: 0,
+            next: 0,
+            handed: 0,
+            waits_for_room: false,
         }
     }
 
@@ -161,8 +177,31 @@ impl<'a, W: Named, M: Mailbox<W> + Drop, N: Nodes<W> + Drop> Executor<'a, W, M, 
     {
         let handed = self.hand(rt, gate).is_some();
         let ran = self.run_task(rt, gate);
+        self.waits_for_room = false;
         if handed || ran {
-            self.serve_one(rt, handed);
+            self.handed = self.handed.saturating_add(u32::from(handed));
+            self.write_one(rt);
+            return true;
+        }
+        self.move_heads(rt)
+    }
+
+    /// What its heads move in a turn in which nothing was handed over or taken. Nothing is read while something waits for
+    /// others, unless all here has ended; and where much was handed over, others are let run before. False where nothing was
+    /// enabled.
+    fn move_heads<R: Wait>(&mut self, rt: &R) -> bool
+        ensures serves { OnlyServes self.old self.new }
+        ensures served { ServesAtMostOnce (N.served self.old.nodes) (N.served self.new.nodes) }
+        ensures moves { ServesOne N.view_of N.acts self.old self.new }
+        ensures idle { result ≡ false → (self.new ≡ self.old) × ((c : ℕ) → c < (N.view_of self.new.nodes).channels → (by : HeadMove) → N.may_move self.new.nodes by c false) }
+    {
+        if !self.is_drained() && !self.core.nodes.has_ended() {
+            self.waits_for_room = !self.write_first(rt);
+            return true;
+        }
+        if self.handed >= MANY_HANDED {
+            self.handed = 0;
+            thread::yield_now();
             return true;
         }
         self.serve_first(rt)
@@ -184,15 +223,15 @@ impl<'a, W: Named, M: Mailbox<W> + Drop, N: Nodes<W> + Drop> Executor<'a, W, M, 
         if self.is_closed {
             return false;
         }
-        match self.inbox.mailbox.take::<R>(rt, &mut self.taker) {
+        match take_front::<W, M, R>(rt, &self.inbox.mailbox, &mut self.taker) {
             None => {
                 self.core.outboxes.ring(self.inbox.take_waiting());
                 false
             }
             Some(envelope) => {
-                let waiters = self.inbox.take_waiting_after(self.run);
+                let waiters = self.inbox.take_waiting_after(self.taken);
                 self.core.outboxes.ring(waiters);
-                self.run = self.run.saturating_add(1);
+                self.taken = self.taken.saturating_add(1);
                 self.core.take(envelope);
                 self.core.work_off(rt);
                 true
@@ -214,22 +253,34 @@ impl<'a, W: Named, M: Mailbox<W> + Drop, N: Nodes<W> + Drop> Executor<'a, W, M, 
         self.core.hand(rt)
     }
 
-    /// A write of one channel, whose turn it is, beside other work; and a read step, where nothing is left to hand over.
-    fn serve_one<R: Wait>(&mut self, rt: &R, handed: bool)
+    /// A write of one channel, whose turn it is, beside other work. Where it had none, the next one's turn comes.
+    fn write_one<R: Wait>(&mut self, rt: &R)
         ensures serves { OnlyServes self.old self.new }
-        ensures served { ServesAtMostOnce (N.served self.old.nodes) (N.served self.new.nodes) }
+        ensures served { WritesAtMostOnce (N.served self.old.nodes) (N.served self.new.nodes) }
         ensures moves { ServesOne N.view_of N.acts self.old self.new }
     {
-        let count = self.channels();
-        if count == 0 {
+        let Some(at) = self.first() else {
             return;
+        };
+        if !self.move_head(rt, HeadMove::Out, at) {
+            self.next = at.saturating_add(1);
         }
-        let channel = self.turns as usize % count;
-        if !handed && self.is_drained() {
-            self.serve(rt, channel);
-        } else {
-            self.move_head(rt, HeadMove::Out, channel);
+    }
+
+    /// One write of the first channel that has any enabled. False where none has.
+    fn write_first<R: Wait>(&mut self, rt: &R) -> bool
+        ensures serves { OnlyServes self.old self.new }
+        ensures served { WritesAtMostOnce (N.served self.old.nodes) (N.served self.new.nodes) }
+        ensures moves { ServesOne N.view_of N.acts self.old self.new }
+        ensures idle { result ≡ false → (self.new ≡ self.old) × ((c : ℕ) → c < (N.view_of self.new.nodes).channels → N.may_move self.new.nodes Out c false) }
+    {
+        let count = self.channels();
+        for at in 0..count {
+            if self.move_head(rt, HeadMove::Out, at) {
+                return true;
+            }
         }
+        false
     }
 
     /// One read step and one write of the first channel, from the one on whose turn it is, that has any enabled. False where
@@ -240,15 +291,15 @@ impl<'a, W: Named, M: Mailbox<W> + Drop, N: Nodes<W> + Drop> Executor<'a, W, M, 
         ensures moves { ServesOne N.view_of N.acts self.old self.new }
         ensures idle { result ≡ false → (self.new ≡ self.old) × ((c : ℕ) → c < (N.view_of self.new.nodes).channels → (by : HeadMove) → N.may_move self.new.nodes by c false) }
     {
-        let count = self.channels();
-        if count == 0 {
+        let Some(first) = self.first() else {
             return false;
-        }
-        let first = self.turns as usize % count;
+        };
+        let count = self.channels();
         self.serve_between(rt, first, count) || self.serve_between(rt, 0, first)
     }
 
-    /// One read step and one write of the first channel from one on, up to another, that has any enabled. False where none has.
+    /// One read step and one write of the first channel from one on, up to another, that has any enabled; then the next one's
+    /// turn comes. False where none has.
     fn serve_between<R: Wait>(&mut self, rt: &R, from: usize, to: usize) -> bool
         requires there { to ≤ (N.view_of self.old.nodes).channels }
         ensures serves { OnlyServes self.old self.new }
@@ -257,12 +308,25 @@ impl<'a, W: Named, M: Mailbox<W> + Drop, N: Nodes<W> + Drop> Executor<'a, W, M, 
         ensures same { result ≡ false → self.new ≡ self.old }
         ensures idle { result ≡ false → (c : ℕ) → from ≤ c → c < to → (by : HeadMove) → N.may_move self.old.nodes by c false }
     {
-        for channel in from..to {
-            if self.serve(rt, channel) {
+        for at in from..to {
+            if self.serve(rt, at) {
+                self.next = at + 1;
                 return true;
             }
         }
         false
+    }
+
+    /// The channel whose turn it is. None where none has its head here.
+    fn first(&self) -> Option<usize>
+        ensures there { IfSome result (λ at. at < (N.view_of self.now.nodes).channels) }
+        ensures none { IfNone result ((N.view_of self.now.nodes).channels ≡ 0) }
+    {
+        let count = self.channels();
+        if self.next < count {
+            return Some(self.next);
+        }
+        if count == 0 { None } else { Some(0) }
     }
 
     /// How many channels have their heads here.
@@ -273,29 +337,29 @@ impl<'a, W: Named, M: Mailbox<W> + Drop, N: Nodes<W> + Drop> Executor<'a, W, M, 
     }
 
     /// One read step and one write of a channel. False where neither was enabled.
-    fn serve<R: Wait>(&mut self, rt: &R, channel: usize) -> bool
-        requires there { channel < (N.view_of self.old.nodes).channels }
+    fn serve<R: Wait>(&mut self, rt: &R, at: usize) -> bool
+        requires there { at < (N.view_of self.old.nodes).channels }
         ensures serves { OnlyServes self.old self.new }
         ensures served { ServesAtMostOnce (N.served self.old.nodes) (N.served self.new.nodes) }
         ensures moves { ServesOne N.view_of N.acts self.old self.new }
-        ensures idle { result ≡ false → (self.new ≡ self.old) × ((by : HeadMove) → N.may_move self.old.nodes by channel false) }
+        ensures idle { result ≡ false → (self.new ≡ self.old) × ((by : HeadMove) → N.may_move self.old.nodes by at false) }
     {
-        let has_read = self.move_head(rt, HeadMove::Read, channel);
-        let has_written = self.move_head(rt, HeadMove::Out, channel);
+        let has_read = self.move_head(rt, HeadMove::Read, at);
+        let has_written = self.move_head(rt, HeadMove::Out, at);
         has_read || has_written
     }
 
     /// A move of a channel's head. False where it was not enabled.
-    fn move_head<R: Wait>(&mut self, rt: &R, by: HeadMove, channel: usize) -> bool
-        requires there { channel < (N.view_of self.old.nodes).channels }
+    fn move_head<R: Wait>(&mut self, rt: &R, by: HeadMove, at: usize) -> bool
+        requires there { at < (N.view_of self.old.nodes).channels }
         ensures serves { OnlyServes self.old self.new }
         ensures served { MovesAtMostOnce by (N.served self.old.nodes) (N.served self.new.nodes) }
         ensures count { (N.view_of self.new.nodes).channels ≡ (N.view_of self.old.nodes).channels }
-        ensures enabled { N.may_move self.old.nodes by channel result }
+        ensures enabled { N.may_move self.old.nodes by at result }
         ensures idle { result ≡ false → self.new ≡ self.old }
-        ensures moves { result ≡ true → MovesHead N.view_of N.acts by channel self.old self.new }
+        ensures moves { result ≡ true → MovesHead N.view_of N.acts by at self.old self.new }
     {
-        self.core.move_head(rt, by, channel)
+        self.core.move_head(rt, by, at)
     }
 
     /// Begins to close its queue, and closes it where that has taken as many as were admitted. It does neither where not all
@@ -312,7 +376,7 @@ impl<'a, W: Named, M: Mailbox<W> + Drop, N: Nodes<W> + Drop> Executor<'a, W, M, 
             return false;
         }
         self.inbox.admission.begin_close(&mut self.owner);
-        match self.inbox.admission.finish(&mut self.owner, self.run) {
+        match self.inbox.admission.finish(&mut self.owner, self.taken) {
             Ok(()) => {
                 self.is_closed = true;
                 true
@@ -322,8 +386,8 @@ impl<'a, W: Named, M: Mailbox<W> + Drop, N: Nodes<W> + Drop> Executor<'a, W, M, 
     }
 
     /// Runs its turns until it is done, and gives its nodes. It waits for the start before the first one; None where it is
-    /// told to leave. Where a turn was idle it rests on the parker of its inbox: until something is sent to it, or a queue
-    /// that it found full has room.
+    /// told to leave. Where a turn was idle, or its reads wait for room, it rests on the parker of its inbox: until something is
+    /// sent to it, or a queue that it found full has room.
     pub fn run<R: Wait, G: Gate>(
         mut self,
         rt: &R,
@@ -344,13 +408,13 @@ impl<'a, W: Named, M: Mailbox<W> + Drop, N: Nodes<W> + Drop> Executor<'a, W, M, 
         let mut turn = self.turn(rt, gate);
         for _ in rt.forever() {
             match turn {
-                Turn::Worked => is_announced = false,
+                Turn::Worked if !self.waits_for_room => is_announced = false,
                 Turn::Done => return Some(self.into_finished()),
-                Turn::Idle if is_announced => {
+                _ if is_announced => {
                     parker.park(rt);
                     is_announced = false;
                 }
-                Turn::Idle => {
+                _ => {
                     self.announce_rest();
                     is_announced = true;
                 }
@@ -416,4 +480,22 @@ impl<'a, W: Named, M: Mailbox<W> + Drop, N: Nodes<W> + Drop> Executor<'a, W, M, 
     {
         self.core.outboxes.is_empty()
     }
+}
+
+/// Takes the front of a queue, as `take` does, where that is not found empty beforehand.
+fn take_front<W: Named, M: Mailbox<W>, R: Wait>(
+    rt: &R,
+    mailbox: &M,
+    taker: &mut M::Taker,
+) -> Option<Envelope>
+    requires taker { M.ends.is_taker mailbox.now taker.old }
+    ensures taker { M.ends.is_taker mailbox.now taker.new }
+    ensures taken { MatchOption result
+        ((M.ends.takes_of taker.new ≡ M.ends.takes_of taker.old) × WasOnce 0 (TakerSees W.world (M.ends.takes_of taker.old)))
+        (λ x. (next_of x.lane (M.ends.takes_of taker.old).counts ≡ Some x.number) × (x.number < 2 ^ 32) × FitsWorld W.world x × (M.ends.takes_of taker.new ≡ after_take (M.ends.takes_of taker.old) x)) }
+{
+    if mailbox.is_empty(taker) {
+        return None;
+    }
+    mailbox.take::<R>(rt, taker)
 }

@@ -3,7 +3,7 @@
 ghost use Rattle.std.specs.Prelude.{◌≡◌};
 ghost use Rattle.pl_threads.specs.Running.{IsFinished};
 
-use crate::nodes::Nodes;
+use crate::nodes::OwnNodes;
 use pl_context::Waiting;
 use pl_event::Named;
 use pl_queue::Mailbox;
@@ -14,7 +14,7 @@ use std::marker::{Model, PhantomData};
 /// that as many as were admitted; what waits for others, which is nothing; and the first of its seats that has seen its
 /// target closed. There is one where a node has failed by a refusal.
 #[derive(Drop)]
-pub struct Finished<W: Named, M: Mailbox<W> + Drop, N: Nodes<W> + Drop> {
+pub struct Finished<W: Named, M: Mailbox<W> + Drop, N: OwnNodes<W> + Drop> {
     number: usize,
     nodes: N,
     owner: OwnerSeat,
@@ -24,7 +24,7 @@ pub struct Finished<W: Named, M: Mailbox<W> + Drop, N: Nodes<W> + Drop> {
     of: PhantomData<W>,
 }
 
-impl<W: Named, M: Mailbox<W> + Drop, N: Nodes<W> + Drop> Model for Finished<W, M, N> {
+impl<W: Named, M: Mailbox<W> + Drop, N: OwnNodes<W> + Drop> Model for Finished<W, M, N> {
     ghost use Rattle.pl_threads.specs.Running.{FinishedView, IsFinished};
 
     ghost Value = { FinishedView N };
@@ -34,7 +34,7 @@ impl<W: Named, M: Mailbox<W> + Drop, N: Nodes<W> + Drop> Model for Finished<W, M
     ghost invariant = { λ f. N.stands f.nodes × N.are_over f.nodes × IsFinished N.view_of (record { number = f.number; nodes = f.nodes; owner = f.owner; takes = M.ends.takes_of f.taker; waiting = f.waiting; refusal = f.refusal }) };
 }
 
-impl<W: Named, M: Mailbox<W> + Drop, N: Nodes<W> + Drop> Finished<W, M, N> {
+impl<W: Named, M: Mailbox<W> + Drop, N: OwnNodes<W> + Drop> Finished<W, M, N> {
     /// What an executor leaves.
     pub(crate) fn new(
         number: usize,

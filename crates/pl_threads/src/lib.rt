@@ -13,6 +13,6 @@ pub use cores::Core;
 pub use executors::{Executor, Turn};
 pub use finished::Finished;
 pub use gate::Gate;
-pub use nodes::Nodes;
+pub use nodes::OwnNodes;
 pub use start::Start;
 pub use threads::{RunFault, run_all};

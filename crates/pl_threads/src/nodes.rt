@@ -13,7 +13,7 @@ use pl_event::{Envelope, Lane, Named};
 use pl_flow::HeadMove;
 
 /// The nodes of an executor. What they make of an item they put on a work list, lane by lane the next items of that lane.
-pub trait Nodes<W: Named>: Sized {
+pub trait OwnNodes<W: Named>: Sized {
     /// Where they are, where their lanes go, and how far these have come. A lane enters the nodes' own executor only where one
     /// of them is entered. A call names a channel whose head is among them by its place.
     ghost view_of: { Self → OwnNodesView };
@@ -75,13 +75,13 @@ pub trait Nodes<W: Named>: Sized {
         ensures { result ≡ (view_of self.now).channels };
 
     /// The head of a channel makes a move, where that is enabled. False where it made none.
-    fn move_head(&mut self, by: HeadMove, channel: usize, work: &mut Outputs) -> bool
-        requires there { channel < (view_of self.old).channels }
+    fn move_head(&mut self, by: HeadMove, at: usize, work: &mut Outputs) -> bool
+        requires there { at < (view_of self.old).channels }
         requires stands { stands self.old }
         requires places { HasPlaces work.old.stopped (view_of self.old).lanes.places }
-        ensures enabled { may_move self.old by channel result }
+        ensures enabled { may_move self.old by at result }
         ensures idle { result ≡ false → (self.new ≡ self.old) × (work.new ≡ work.old) }
-        ensures moves { result ≡ true → acts.moves self.old by channel work.old self.new work.new }
+        ensures moves { result ≡ true → acts.moves self.old by at work.old self.new work.new }
         ensures stands { stands self.new }
         ensures keeps { NodesKeep (view_of self.old) (view_of self.new) }
         ensures taken { (view_of self.new).lanes.taken ≡ (view_of self.old).lanes.taken }

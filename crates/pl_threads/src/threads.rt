@@ -8,7 +8,7 @@ ghost use Rattle.pl_threads.specs.declared.threads.RunFault.TheVariants.{Memory}
 use crate::executors::Executor;
 use crate::finished::Finished;
 use crate::gate::Gate;
-use crate::nodes::Nodes;
+use crate::nodes::OwnNodes;
 use crate::start::Start;
 use crossbeam_utils::sync::Parker;
 use pl_event::Named;
@@ -56,7 +56,7 @@ impl<G: Gate> Model for Promised<G> {
     ghost view = { λ p. record { gate = p.gate.value; number = p.number; turn = p.turn; owner = p.owner.value } };
 }
 
-impl<G: Gate, W: Named, M: Mailbox<W> + Drop, N: Nodes<W> + Drop> thread::Promise<
+impl<G: Gate, W: Named, M: Mailbox<W> + Drop, N: OwnNodes<W> + Drop> thread::Promise<
     Option<Finished<W, M, N>>,
 > for Promised<G> {
     ghost use Rattle.std.specs.Prelude.{◌≡◌, IfSome};
@@ -72,7 +72,7 @@ fn start_each<
     E,
     W: Named + Send + Sync + 's,
     M: Mailbox<W> + Drop + Send + Sync + 's,
-    N: Nodes<W> + Drop + Send + 's,
+    N: OwnNodes<W> + Drop + Send + 's,
     G: Gate + Sync + 's,
     R: Threads + Wait + Sync + 's,
 >(
@@ -111,7 +111,7 @@ where
 }
 
 /// What all threads give, in their order, in a list that has room for it.
-fn join_all<W: Named, M: Mailbox<W> + Drop, N: Nodes<W> + Drop, G: Gate, R: Threads>(
+fn join_all<W: Named, M: Mailbox<W> + Drop, N: OwnNodes<W> + Drop, G: Gate, R: Threads>(
     rt: &R,
     handles: Vec<PromisedHandle<Option<Finished<W, M, N>>, Promised<G>>>,
     mut all: Vec<Finished<W, M, N>>,
@@ -139,7 +139,7 @@ pub fn run_all<
     'a,
     W: Named + Send + Sync,
     M: Mailbox<W> + Drop + Send + Sync,
-    N: Nodes<W> + Drop + Send,
+    N: OwnNodes<W> + Drop + Send,
     G: Gate + Sync,
     R: Threads + Wait + Sync,
 >(

@@ -10,7 +10,7 @@ use Rattle.pl_event.specs.Hops.{same_lane}
 use Rattle.pl_event.specs.Worlds.{World}
 use Rattle.pl_event.proofs.SameLanes.{same_lane-equal, same_lane-self}
 use Rattle.pl_context.specs.Backlogs.{BacklogView}
-use Rattle.pl_context.specs.declared.waiting.Late.{Late}
+use Rattle.pl_context.specs.declared.waiting.Stamp.{Stamp}
 use Rattle.pl_context.specs.OutputsViews.{OutputsView}
 use Rattle.pl_context.specs.Stops.{AreAmong, StopsView, HasPlaces, no_stops}
 use Rattle.pl_context.specs.WaitingViews.{stops_for}
@@ -116,7 +116,7 @@ module _ (n : Node) (s : NodeStands n) (f : IsFresh n) where
     -- there is a place for each lane to another executor
     place-at : map (λ b. b.stopped) o.waiting.targets ≡ no_stops 1 ∷ no_stops 1 ∷ no_stops 1 ∷ [] → length o.outboxes ≡ 3 → (y : ℕ) → y < length o.outboxes → stops_for o.waiting y ≡ no_stops 1
     place-at reserved three y within =
-        let stopped = λ (b : BacklogView (Late AdmittedView)). b.stopped in
+        let stopped = λ (b : BacklogView (Stamp AdmittedView)). b.stopped in
         let found : option_map stopped (slice_get o.waiting.targets y) ≡ Some (no_stops 1) =
         sym (slice_get-map stopped o.waiting.targets y) ∙ ap (λ (l : List StopsView). slice_get l y) reserved ∙ at-three y (omega (arith, within, three)) in
         found-or (slice_get o.waiting.targets y) found
@@ -127,7 +127,7 @@ module _ (n : Node) (s : NodeStands n) (f : IsFresh n) where
         at-three (suc (suc zero)) e = refl
         at-three (suc (suc (suc y))) e = absurd (omega (arith, e))
 
-        found-or : (b : Option (BacklogView (Late AdmittedView))) → option_map (λ b. b.stopped) b ≡ Some (no_stops 1) → option_map_or (λ b. b.stopped) b (no_stops 0) ≡ no_stops 1
+        found-or : (b : Option (BacklogView (Stamp AdmittedView))) → option_map (λ b. b.stopped) b ≡ Some (no_stops 1) → option_map_or (λ b. b.stopped) b (no_stops 0) ≡ no_stops 1
         found-or None e = absurd (none-some (no_stops 1) e)
         found-or (Some b) e = same_Some b.stopped (no_stops 1) e
 

@@ -11,7 +11,7 @@ ghost use Rattle.pl_threads_tests.specs.Nodes.{HasEnded, NodeStands, has_given_u
 use pl_context::Outputs;
 use pl_event::{Envelope, Item, Kind, Lane, Named};
 use pl_flow::HeadMove;
-use pl_threads::Nodes;
+use pl_threads::OwnNodes;
 
 /// No executor has this number.
 const NOBODY: usize = 65_536;
@@ -141,7 +141,7 @@ impl Node {
     }
 }
 
-impl<W: Named> Nodes<W> for Node {
+impl<W: Named> OwnNodes<W> for Node {
     ghost view_of = { node_view };
 
     // Where a flag was refused no more are made for that executor.

@@ -1,5 +1,7 @@
 -- What contracts see of a watermark and its seats, and what a look does to a reader's.
-use Rattle.std.specs.Prelude.{◌≡◌, ℕ, ◌+◌, ◌<◌, ◌≤◌, Bool, true, false}
+use Rattle.std.specs.Prelude.{◌≡◌, ℕ, ◌+◌, ◌-◌, ◌<◌, ◌≤◌, ◌==◌, ◌&&◌, ◌||◌, Bool, not, nat_lt, true, false}
+use Rattle.std.specs.Bool.{beq}
+use Rattle.pl_words.specs.declared.watermark.TheConstants.{MAX_SETS}
 use Rattle.pl_words.specs.Names.{Name}
 
 -- which watermark it is
@@ -30,6 +32,10 @@ IsMarked low high pending unwritable = (high < pending → unwritable ≡ true) 
 -- a head's seat that has set nothing
 abbrev pub new_head_seat : Name → ℕ → ℕ → HeadSeatView
 new_head_seat name low high = record { name = name; low = low; high = high; sets = 0; pending = 0; unwritable = false }
+
+-- it was not set so last, and may be set once more
+abbrev pub is_news : HeadSeatView → ℕ → Bool → Bool
+is_news s pending unwritable = (not (s.pending == pending) || not (beq s.unwritable unwritable)) && nat_lt s.sets (MAX_SETS - 1)
 
 -- a reader's seat that has looked at no mark
 abbrev pub new_reader : Name → ReadSeatView

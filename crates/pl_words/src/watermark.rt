@@ -1,7 +1,7 @@
 //! Whether a channel is writable: one word that its head sets and that any thread reads by single steps.
 
 ghost use Rattle.std.specs.Prelude.{◌≡◌, ℕ, ◌+◌, ◌*◌, ◌<◌, ◌≤◌, not, All, IfOk, length};
-ghost use Rattle.pl_words.specs.Watermarks.{IsMarked, Looks, new_head_seat, new_reader};
+ghost use Rattle.pl_words.specs.Watermarks.{IsMarked, Looks, is_news, new_head_seat, new_reader};
 
 use crate::watermark_steps::{Deal, Look, Set, WatermarkNotes, WatermarkRule};
 use atomic_table::{Seat, Table};
@@ -53,6 +53,15 @@ impl Model for HeadSeat {
     ghost view = { λ h. record { name = h.seat.table_id; low = h.low; high = h.high; sets = h.sets; pending = h.pending; unwritable = h.is_unwritable } };
 
     ghost invariant = { λ h. (h.seat.me ≡ (head_notes h.sets h.is_unwritable, [])) × IsMarked h.low h.high h.pending h.is_unwritable };
+}
+
+impl HeadSeat {
+    /// Whether this is not what it set last, and it may set the mark once more and stay below `MAX_SETS`.
+    pub fn is_news(&self, pending: u128, unwritable: bool) -> bool
+        ensures { result ≡ is_news self.now pending unwritable }
+    {
+        (self.pending != pending || self.is_unwritable != unwritable) && self.sets < MAX_SETS - 1
+    }
 }
 
 /// A reader's right to look at the mark, and what it has seen.

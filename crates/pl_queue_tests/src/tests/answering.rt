@@ -87,3 +87,33 @@ pub fn answers<W: Named, M: Mailbox<W> + Drop, R: Wait>(
     }
     Some(answers)
 }
+
+/// Whether a mailbox of capacity 2 is found full: as it was opened, after two offers, and after a take. None where memory was
+/// refused.
+pub fn found_full<W: Named, M: Mailbox<W> + Drop, R: Wait>(
+    rt: &R,
+    alloc: Global,
+) -> Option<[bool; 3]> {
+    let (mailbox, mut sender, mut taker) = open_one::<W, M>(alloc, lane(0, 0)).ok()?;
+    let opened = mailbox.is_full(&mut sender);
+    let mut next = 0;
+    offer_next::<W, M, R>(rt, &mailbox, &mut sender, &mut next);
+    offer_next::<W, M, R>(rt, &mailbox, &mut sender, &mut next);
+    let offered = mailbox.is_full(&mut sender);
+    take_next::<W, M, R>(rt, &mailbox, &mut taker);
+    let taken = mailbox.is_full(&mut sender);
+    Some([opened, offered, taken])
+}
+
+/// Whether a mailbox is found empty: as it was opened, and after an offer. None where memory was refused.
+pub fn found_empty<W: Named, M: Mailbox<W> + Drop, R: Wait>(
+    rt: &R,
+    alloc: Global,
+) -> Option<[bool; 2]> {
+    let (mailbox, mut sender, mut taker) = open_one::<W, M>(alloc, lane(0, 0)).ok()?;
+    let opened = mailbox.is_empty(&mut taker);
+    let mut next = 0;
+    offer_next::<W, M, R>(rt, &mailbox, &mut sender, &mut next);
+    let offered = mailbox.is_empty(&mut taker);
+    Some([opened, offered])
+}

@@ -6,7 +6,9 @@ use crate::lines::LaneLines;
 use crate::openings::{LIMITS, lists};
 use crate::tests::answering::Answer::{Full, Nothing, Sent, Took};
 use crate::tests::assert_is;
-use crate::tests::boxes::{BoxKind, EACH, answers_by, lines_by, may_wait_by, relay_by};
+use crate::tests::boxes::{
+    BoxKind, EACH, answers_by, found_empty_by, found_full_by, lines_by, may_wait_by, relay_by,
+};
 use crate::tests::left_tests::{assert_account, left_by, one_is_left};
 use crate::tests::relays::Lanes;
 use pl_event::{ByteString, Envelope, Event, Item, Lane, Message, Named};
@@ -191,5 +193,31 @@ fn two_lanes_one_mailbox(rt: HostRuntime) -> Result<(), Fail> {
 fn waiting_for_room(rt: HostRuntime) -> Result<(), Fail> {
     assert!(rt; !may_wait_by::<Brand>(BoxKind::Ring));
     assert!(rt; may_wait_by::<Brand>(BoxKind::Waiting));
+    Ok(())
+}
+
+// A ring is found full where it is, and not else; a waiting box does not look.
+#[test]
+fn found_full(rt: HostRuntime) -> Result<(), Fail> {
+    for &(kind, expected) in &[
+        (BoxKind::Ring, [false, true, false]),
+        (BoxKind::Waiting, [false, false, false]),
+    ] {
+        let found = found_full_by::<Brand, HostRuntime>(kind, &rt, rt.alloc());
+        assert_is(&rt, &found, Some(expected));
+    }
+    Ok(())
+}
+
+// The same of an empty one.
+#[test]
+fn found_empty(rt: HostRuntime) -> Result<(), Fail> {
+    for &(kind, expected) in &[
+        (BoxKind::Ring, [true, false]),
+        (BoxKind::Waiting, [false, false]),
+    ] {
+        let found = found_empty_by::<Brand, HostRuntime>(kind, &rt, rt.alloc());
+        assert_is(&rt, &found, Some(expected));
+    }
     Ok(())
 }

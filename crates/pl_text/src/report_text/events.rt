@@ -3,6 +3,7 @@
 ghost use Rattle.std.specs.Prelude.{◌≡◌, ◌++◌, ◌≤◌, OnOk, codes, decimal, length};
 ghost use Rattle.hex.specs.Hex.{encode_lower};
 ghost use Rattle.pl_stages.specs.Replies.{reply_text};
+ghost use Rattle.pl_text.specs.declared.report_text.events.TheConstants.{AT_ONCE};
 ghost use Rattle.pl_text.specs.ReportTexts.{command_text, event_text, hex_text, message_text};
 
 use itoa::Buffer;
@@ -28,7 +29,7 @@ pub(crate) fn add_hex(text: &mut Vec<u8>, bytes: &[u8]) -> Result<(), AllocError
 
 /// Adds the hex of at most `AT_ONCE` bytes.
 fn add_some(text: &mut Vec<u8>, bytes: &[u8]) -> Result<(), AllocError>
-    requires { length bytes.now ≤ 16 }
+    requires { length bytes.now ≤ AT_ONCE }
     ensures { OnOk result (text.new.items ≡ text.old.items ++ encode_lower bytes.now) }
 {
     let mut digits = [0u8; 2 * AT_ONCE];

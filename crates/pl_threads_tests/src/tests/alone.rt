@@ -3,11 +3,11 @@
 ghost use Rattle.std.specs.Prelude.{◌≡◌, ◌∷◌, []};
 ghost use Rattle.pl_words.specs.Admissions.{new_owner_seat};
 ghost use Rattle.pl_threads_tests.specs.Nodes.{lane_to};
-ghost use Rattle.pl_threads_tests.specs.Openings.{ArePlaces, IsWay};
+ghost use Rattle.pl_threads_tests.specs.Openings.{ArePlaces, IsReady, IsWay};
 
 use crate::nodes::{Node, flag_to};
 use crate::places::{Inboxes, Own, Places, Way};
-use crate::tests::starting::{executor, maker};
+use crate::tests::starting::executor;
 use crossbeam_utils::sync::Parker;
 use pl_event::Named;
 use pl_outbox::Inbox;
@@ -194,23 +194,23 @@ fn left<W: Named, M: Mailbox<W> + Drop, R: Wait>(
     Some(finished.into_nodes())
 }
 
-/// Executor 2, which makes so many flags for executor 0, and then so many for executor 1. It has ended once these are made,
-/// and so many have come.
+/// Executor 2 with these nodes.
 pub(crate) fn set_apart<'a, W: Named, M: Mailbox<W> + Drop>(
     alloc: Global,
     inboxes: &'a Inboxes<W, M>,
     places: Places<W, M>,
-    counts: (u32, u32),
-    expected: u64,
+    node: Node,
 ) -> Result<Alone<'a, W, M>, AllocError>
-    requires { ArePlaces M.ends inboxes.now places }
+    requires places { ArePlaces M.ends inboxes.now places }
+    requires executor { node.executor ≡ 2 }
+    requires ready { IsReady node }
 {
     let Places {
         first,
         second,
         third,
     } = places;
-    let (executor, parker) = executor(alloc, inboxes, third, maker(counts, expected))?;
+    let (executor, parker) = executor(alloc, inboxes, third, node)?;
     Ok(Alone {
         executor,
         parker,

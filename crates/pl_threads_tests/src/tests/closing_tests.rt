@@ -2,7 +2,8 @@
 
 use crate::tests::alone::{Ran, set_apart};
 use crate::tests::opening::open_three;
-use crate::tests::playing::{Answer, Call, DONE, Expected, IDLE, WORKED, play};
+use crate::tests::playing::{ADMITTED, Answer, Call, DONE, Expected, IDLE, PUSHED, WORKED, play};
+use crate::tests::starting::maker;
 use pl_event::Named;
 use pl_queue::{Mailbox, RingBox, WaitingBox};
 use pl_words::{Refused, Status};
@@ -11,10 +12,6 @@ use std::marker::Brand;
 use std::process::Abort;
 use std::sync::Wait;
 use std::test::Fail;
-
-const ADMITTED: Expected = (Call::Admit, Answer::Did(true));
-
-const PUSHED: Expected = (Call::Push, Answer::Did(true));
 
 const NOT_ADMITTED: Expected = (Call::Admit, Answer::Refused(Refused::Closed));
 
@@ -55,8 +52,8 @@ const CLOSES_WITH_FOUR: [Expected; 26] = [
 #[test]
 fn admission_closes(rt: HostRuntime) -> Result<(), Fail> {
     let rows = CLOSES_WITH_FOUR.as_slice();
-    play::<Brand, RingBox<Brand>, _>(&rt, rt.alloc(), 8, (0, 0), 2, rows)?;
-    play::<Brand, WaitingBox<Brand>, _>(&rt, rt.alloc(), 8, (0, 0), 2, rows)
+    play::<Brand, RingBox<Brand>, _>(&rt, rt.alloc(), 8, maker((0, 0), 2), rows)?;
+    play::<Brand, WaitingBox<Brand>, _>(&rt, rt.alloc(), 8, maker((0, 0), 2), rows)
 }
 
 /// Executor 0 is closed, and three flags are to be made for it, and two for executor 1.
@@ -65,7 +62,7 @@ fn run_refused<W: Named, M: Mailbox<W> + Drop, R: Abort + Wait>(
     alloc: Global,
 ) -> Result<Ran, Fail> {
     let (inboxes, places) = open_three::<W, M>(alloc, 8)?;
-    let mut alone = set_apart(alloc, &inboxes, places, (3, 2), 0)?;
+    let mut alone = set_apart(alloc, &inboxes, places, maker((3, 2), 0))?;
     assert!(rt; alone.first.close(0), "not closed");
     Ok(alone.run(rt, true))
 }

@@ -1,5 +1,9 @@
 //! An executor alone, run by hand.
 
+ghost use Rattle.std.specs.Prelude.{◌≡◌};
+ghost use Rattle.pl_threads_tests.specs.Openings.{IsReady};
+
+use crate::nodes::Node;
 use crate::tests::alone::{Alone, NoGate, set_apart};
 use crate::tests::opening::open_three;
 use pl_event::Named;
@@ -45,6 +49,11 @@ pub(crate) enum Answer {
 /// A call, and what it is to answer.
 pub(crate) type Expected = (Call, Answer);
 
+/// One that is to come is counted as admitted.
+pub(crate) const ADMITTED: Expected = (Call::Admit, Answer::Did(true));
+
+pub(crate) const PUSHED: Expected = (Call::Push, Answer::Did(true));
+
 pub(crate) const WORKED: Expected = (Call::Turn, Answer::Turned(Turn::Worked));
 
 pub(crate) const IDLE: Expected = (Call::Turn, Answer::Turned(Turn::Idle));
@@ -81,18 +90,19 @@ fn assert_answers<W: Named, M: Mailbox<W> + Drop, R: Abort + Wait>(
     }
 }
 
-/// Makes these calls, one after another, of an executor that makes so many flags for executors 0 and 1, and to which so many
-/// are to come. The queues hold so many.
+/// Makes these calls, one after another, of executor 2 with these nodes. The queues hold so many.
 pub(crate) fn play<W: Named, M: Mailbox<W> + Drop, R: Abort + Wait>(
     rt: &R,
     alloc: Global,
     capacity: usize,
-    counts: (u32, u32),
-    expected: u64,
+    node: Node,
     rows: &[Expected],
-) -> Result<(), Fail> {
+) -> Result<(), Fail>
+    requires executor { node.executor ≡ 2 }
+    requires ready { IsReady node }
+{
     let (inboxes, places) = open_three::<W, M>(alloc, capacity)?;
-    let mut alone = set_apart(alloc, &inboxes, places, counts, expected)?;
+    let mut alone = set_apart(alloc, &inboxes, places, node)?;
     assert_answers(rt, &mut alone, rows);
     drop(alone);
     Ok(())

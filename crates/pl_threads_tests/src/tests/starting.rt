@@ -104,6 +104,16 @@ pub(crate) fn maker(counts: (u32, u32), expected: u64) -> Node
     )
 }
 
+/// The same nodes, but each flag that comes makes one, and no read step does.
+pub(crate) fn forwarder(counts: (u32, u32), expected: u64) -> Node
+    ensures executor { result.executor ≡ 2 }
+    ensures ready { IsReady result }
+{
+    let mut node = maker(counts, expected);
+    node.forwards = true;
+    node
+}
+
 /// The nodes of executor 0, which makes a flag for executor 2 for each one that comes, up to so many. It has ended once so many
 /// have come.
 fn answerer(count: u32) -> Node

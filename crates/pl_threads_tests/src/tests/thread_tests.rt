@@ -3,7 +3,7 @@
 use crate::nodes::Node;
 use crate::tests::alone::{NoGate, Ran, set_apart};
 use crate::tests::opening::open_three;
-use crate::tests::starting::three_executors;
+use crate::tests::starting::{maker, three_executors};
 use pl_event::Named;
 use pl_queue::{Mailbox, RingBox, WaitingBox};
 use pl_threads::run_all;
@@ -61,7 +61,7 @@ fn all_are_joined(rt: HostRuntime) -> Result<(), Fail> {
 /// An executor that is told to leave: what is found then.
 fn leaves<W: Named, R: Wait>(rt: &R, alloc: Global) -> Result<Ran, Fail> {
     let (inboxes, places) = open_three::<W, RingBox<W>>(alloc, 8)?;
-    let alone = set_apart(alloc, &inboxes, places, (1, 1), 0)?;
+    let alone = set_apart(alloc, &inboxes, places, maker((1, 1), 0))?;
     Ok(alone.run(rt, false))
 }
 

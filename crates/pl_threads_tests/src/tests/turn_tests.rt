@@ -1,6 +1,7 @@
 //! What an executor does in one turn.
 
-use crate::tests::playing::{Answer, Call, DONE, Expected, IDLE, WORKED, play};
+use crate::tests::playing::{ADMITTED, Answer, Call, DONE, Expected, IDLE, PUSHED, WORKED, play};
+use crate::tests::starting::{forwarder, maker};
 use pl_queue::{RingBox, WaitingBox};
 use pl_words::Status;
 use std::marker::Brand;
@@ -18,14 +19,16 @@ const HANDED_TO_FIRST: Expected = (Call::Hand, Answer::Handed(Some(0)));
 
 const HANDED_TO_SECOND: Expected = (Call::Hand, Answer::Handed(Some(1)));
 
-const ONE_OF_EACH: [Expected; 16] = [
-    (Call::Admit, Answer::Did(true)),
-    (Call::Push, Answer::Did(true)),
-    (Call::Admit, Answer::Did(true)),
-    (Call::Push, Answer::Did(true)),
-    // It takes the first, and makes a read step, since nothing waits.
+const ONE_OF_EACH: [Expected; 17] = [
+    ADMITTED,
+    PUSHED,
+    // It takes the first, and reads nothing beside it.
+    WORKED,
+    // A read step, since nothing waits and its queue is empty.
     WORKED,
     NONE_FOR_FIRST,
+    ADMITTED,
+    PUSHED,
     // It hands over what that made, and takes the second.
     WORKED,
     (Call::TakeFirst, Answer::Took(Some(0))),
@@ -44,16 +47,22 @@ const ONE_OF_EACH: [Expected; 16] = [
 #[test]
 fn one_task_and_one_hand_a_turn(rt: HostRuntime) -> Result<(), Fail> {
     let rows = ONE_OF_EACH.as_slice();
-    play::<Brand, RingBox<Brand>, _>(&rt, rt.alloc(), 8, (1, 1), 2, rows)?;
-    play::<Brand, WaitingBox<Brand>, _>(&rt, rt.alloc(), 8, (1, 1), 2, rows)
+    play::<Brand, RingBox<Brand>, _>(&rt, rt.alloc(), 8, maker((1, 1), 2), rows)?;
+    play::<Brand, WaitingBox<Brand>, _>(&rt, rt.alloc(), 8, maker((1, 1), 2), rows)
 }
 
-const ONE_HANDED_OVER: [Expected; 17] = [
-    // Each of two is made and handed over, and two more are made.
+const ONE_HANDED_OVER: [Expected; 23] = [
+    ADMITTED,
+    PUSHED,
+    ADMITTED,
+    PUSHED,
+    // Each that comes makes one. The first two are handed over, and two more wait.
     WORKED,
     WORKED,
-    WORKED,
-    WORKED,
+    ADMITTED,
+    PUSHED,
+    ADMITTED,
+    PUSHED,
     WORKED,
     WORKED,
     IDLE,
@@ -73,20 +82,29 @@ const ONE_HANDED_OVER: [Expected; 17] = [
 #[test]
 fn one_hand_though_two_find_room(rt: HostRuntime) -> Result<(), Fail> {
     let rows = ONE_HANDED_OVER.as_slice();
-    play::<Brand, RingBox<Brand>, _>(&rt, rt.alloc(), 2, (4, 0), 0, rows)
+    play::<Brand, RingBox<Brand>, _>(&rt, rt.alloc(), 2, forwarder((4, 0), 4), rows)
 }
 
-const FULL_IS_TRIED_ONCE: [Expected; 22] = [
-    // One is made and handed over. Two more are made for that queue, and behind them one for another.
+const FULL_IS_TRIED_ONCE: [Expected; 31] = [
+    // Each that comes makes one: one that is handed over, two more for that queue, and behind them one for another.
+    ADMITTED,
+    PUSHED,
     WORKED,
+    ADMITTED,
+    PUSHED,
     WORKED,
+    ADMITTED,
+    PUSHED,
     WORKED,
-    WORKED,
+    ADMITTED,
+    PUSHED,
     WORKED,
     NONE_FOR_SECOND,
     HANDED_TO_SECOND,
     NOT_HANDED,
     // The last one is made. Both queues are full.
+    ADMITTED,
+    PUSHED,
     WORKED,
     NOT_HANDED,
     (Call::TakeSecond, Answer::Took(Some(0))),
@@ -108,7 +126,35 @@ const FULL_IS_TRIED_ONCE: [Expected; 22] = [
 #[test]
 fn full_queue_is_tried_once(rt: HostRuntime) -> Result<(), Fail> {
     let rows = FULL_IS_TRIED_ONCE.as_slice();
-    play::<Brand, RingBox<Brand>, _>(&rt, rt.alloc(), 1, (3, 2), 0, rows)
+    play::<Brand, RingBox<Brand>, _>(&rt, rt.alloc(), 1, forwarder((3, 2), 5), rows)
+}
+
+const READ_ONCE_NOTHING_WAITS: [Expected; 14] = [
+    // One is made and handed over, and another is made, for which there is no room.
+    WORKED,
+    WORKED,
+    WORKED,
+    // One more is left to read.
+    WORKED,
+    WORKED,
+    (Call::TakeFirst, Answer::Took(Some(0))),
+    NONE_FOR_FIRST,
+    // There is room: the turn hands over, and reads nothing beside it.
+    WORKED,
+    (Call::TakeFirst, Answer::Took(Some(1))),
+    NOT_HANDED,
+    // Now it reads.
+    WORKED,
+    HANDED_TO_FIRST,
+    (Call::TakeFirst, Answer::Took(Some(2))),
+    DONE,
+];
+
+/// While something waits for a full queue a turn reads nothing, and is not idle: what is left to read waits.
+#[test]
+fn reads_wait(rt: HostRuntime) -> Result<(), Fail> {
+    let rows = READ_ONCE_NOTHING_WAITS.as_slice();
+    play::<Brand, RingBox<Brand>, _>(&rt, rt.alloc(), 1, maker((3, 0), 0), rows)
 }
 
 const DONE_ONCE_NOTHING_WAITS: [Expected; 12] = [
@@ -130,5 +176,5 @@ const DONE_ONCE_NOTHING_WAITS: [Expected; 12] = [
 #[test]
 fn closed_but_not_done(rt: HostRuntime) -> Result<(), Fail> {
     let rows = DONE_ONCE_NOTHING_WAITS.as_slice();
-    play::<Brand, RingBox<Brand>, _>(&rt, rt.alloc(), 1, (2, 0), 0, rows)
+    play::<Brand, RingBox<Brand>, _>(&rt, rt.alloc(), 1, maker((2, 0), 0), rows)
 }

@@ -43,7 +43,7 @@ new-requires-3-clause-home g c = c.requires.starts.fits.at
 
 pub new-requires-3-clause-places : goal.new-requires-3-clause-places
 new-requires-3-clause-places g c =
-    subst (λ (z : StopsView). HasPlaces z (g.N.Nodes.view_of c.args.nodes).lanes.places) (sym (c.in_ok-new-2.ensures.places ∙ ap (λ (p : PlacesView). no_stops p.work) c.places.view_is)) c.requires.starts.fits.work
+    subst (λ (z : StopsView). HasPlaces z (g.N.OwnNodes.view_of c.args.nodes).lanes.places) (sym (c.in_ok-new-2.ensures.places ∙ ap (λ (p : PlacesView). no_stops p.work) c.places.view_is)) c.requires.starts.fits.work
 
 pub new-requires-3-clause-why : goal.new-requires-3-clause-why
 new-requires-3-clause-why g c = λ refused. absurd (false≢true (sym c.requires.starts.fits.unrefused ∙ refused))
@@ -62,7 +62,7 @@ new-requires-3-clause-number g c = omega (arith, c.requires.there, c.requires.fe
 
 pub new-requires-3-clause-runs : goal.new-requires-3-clause-runs
 new-requires-3-clause-runs g c =
-    starts-running g.M.Mailbox.ends g.N.Nodes.view_of g.N.Nodes.stands (map inbox_view c.args.inboxes.now) c.args.number c.args.own c.args.columns.now.items c.args.nodes c.args.places.now c.requires.starts (inboxes-within c.args.inboxes.now c.args.number c.requires.there)
+    starts-running g.M.Mailbox.ends g.N.OwnNodes.view_of g.N.OwnNodes.stands (map inbox_view c.args.inboxes.now) c.args.number c.args.own c.args.columns.now.items c.args.nodes c.args.places.now c.requires.starts (inboxes-within c.args.inboxes.now c.args.number c.requires.there)
     c.in_ok-outboxes.outboxes.items c.in_ok-outboxes.ensures.outboxes g.W.Named.world c.in_ok-new.field-0 c.in_ok-new.ensures.outboxes c.in_ok-new.ensures.waits
     (c.in_ok-new.ensures.places ∙ ap (λ (counts : List ℕ). map no_stops counts) (c.as_slice.ensures.value ∙ ap (λ (p : PlacesView). p.targets) c.places.view_is))
     c.in_ok-new-2.field-0 c.in_ok-new-2.ensures.empty
@@ -75,8 +75,8 @@ new-requires-3-clause-taker g c =
 
 pub new-requires-3-clause-taking : goal.new-requires-3-clause-taking
 new-requires-3-clause-taking g c =
-    subst (λ (t : g.row.M-Taker.Denot). IsTaking c.args.number (g.N.Nodes.view_of c.args.nodes).lanes (g.M.Mailbox.ends.takes_of t).counts) (sym (ap (λ (o : OwnView g.row.M-Taker.Denot). o.taker) c.own.view_is))
-    (starts-taking g.M.Mailbox.ends g.N.Nodes.view_of g.N.Nodes.stands (map inbox_view c.args.inboxes.now) c.args.number c.args.own c.args.columns.now.items c.args.nodes c.args.places.now c.requires.starts (inboxes-within c.args.inboxes.now c.args.number c.requires.there))
+    subst (λ (t : g.row.M-Taker.Denot). IsTaking c.args.number (g.N.OwnNodes.view_of c.args.nodes).lanes (g.M.Mailbox.ends.takes_of t).counts) (sym (ap (λ (o : OwnView g.row.M-Taker.Denot). o.taker) c.own.view_is))
+    (starts-taking g.M.Mailbox.ends g.N.OwnNodes.view_of g.N.OwnNodes.stands (map inbox_view c.args.inboxes.now) c.args.number c.args.own c.args.columns.now.items c.args.nodes c.args.places.now c.requires.starts (inboxes-within c.args.inboxes.now c.args.number c.requires.there))
 
 pub new-requires-3-clause-fresh : goal.new-requires-3-clause-fresh
 new-requires-3-clause-fresh g c =

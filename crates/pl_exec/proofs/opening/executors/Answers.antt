@@ -31,7 +31,7 @@ executor-requires-clause-starts g c =
     let steps = c.in-Some.ensures.steps in
     let next = c.next.new.self in
     let number = c.loop-own.number in
-    each-starts g.M.Mailbox.ends g.N.Nodes.view_of g.N.Nodes.stands (map inbox_view c.args.inboxes.now) c.args.all.items c.args.columns.items c.loop-own.columns.items c.args.nodes.items c.args.places.items c.requires.start number c.in-Some.own c.in-Some.nodes c.in-Some.places
+    each-starts g.M.Mailbox.ends g.N.OwnNodes.view_of g.N.OwnNodes.stands (map inbox_view c.args.inboxes.now) c.args.all.items c.args.columns.items c.loop-own.columns.items c.args.nodes.items c.args.places.items c.requires.start number c.in-Some.own c.in-Some.nodes c.in-Some.places
     (left-front c.args.all.items next.a.a.rest.items number c.in-Some.own (inv.own ∙ steps.0.0.0))
     (at-next c.args.nodes.items _ c.loop-own.own-iterator.a.b.rest.items next.a.b.rest.items c.in-Some.nodes number inv.parts steps.0.1.0 (inv.at ∙ sym (length-map c.loop-own.executors.items _)))
     (left-front c.args.places.items next.b.rest.items number c.in-Some.places (inv.places ∙ steps.1.0)) inv.columns

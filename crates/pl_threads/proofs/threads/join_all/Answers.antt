@@ -13,7 +13,7 @@ pub loop-handle-preserved : goal.loop-handle-preserved
 loop-handle-preserved g c =
     let Handle : Type 0 = PromisedHandle (the_data (FinishedView g.row.N.Denot)) (Threaded g.row.G.Denot) in
     let Entered : Handle → Type 0 = λ h. g.G.Gate.was_entered h.promise.gate h.promise.number h.promise.turn in
-    let Ends : List (Threaded g.row.G.Denot) → List (FinishedView g.row.N.Denot) → Type 0 = λ ps fs. AllZip (λ p f. EndsAs g.N.Nodes.view_of p.number p.owner f) ps fs in
+    let Ends : List (Threaded g.row.G.Denot) → List (FinishedView g.row.N.Denot) → Type 0 = λ ps fs. AllZip (λ p f. EndsAs g.N.OwnNodes.view_of p.number p.owner f) ps fs in
     let finished = c.in-Some-join.finished in
     let next = c.in-Some.ensures.steps.0 in
     let pushed : c.push.new.self.items ≡ c.loop-handle.all.items ++ finished ∷ [] = grind (arith, common_steps) in
@@ -29,7 +29,7 @@ loop-handle-preserved g c =
 pub returns-clause-ended : goal.returns-clause-ended
 returns-clause-ended g c =
     let Handle : Type 0 = PromisedHandle (the_data (FinishedView g.row.N.Denot)) (Threaded g.row.G.Denot) in
-    let Ends : List (Threaded g.row.G.Denot) → List (FinishedView g.row.N.Denot) → Type 0 = λ ps fs. AllZip (λ p f. EndsAs g.N.Nodes.view_of p.number p.owner f) ps fs in
+    let Ends : List (Threaded g.row.G.Denot) → List (FinishedView g.row.N.Denot) → Type 0 = λ ps fs. AllZip (λ p f. EndsAs g.N.OwnNodes.view_of p.number p.owner f) ps fs in
     let rest = c.loop-handle.handle-iterator.rest in
     let none = nil_from_length rest.items (omega (arith, c.in-None.ensures.steps.0, rest.ok)) in
     subst (λ (fs : List (FinishedView g.row.N.Denot)). Ends (map (λ h. h.promise) c.args.handles.items) fs) (append-nil c.loop-handle.all.items)

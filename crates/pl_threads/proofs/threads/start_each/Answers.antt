@@ -16,7 +16,7 @@ pub spawn_with-spawned-requires-send-F : goal.spawn_with-spawned-requires-send-F
 spawn_with-spawned-requires-send-F g c κs within =
     let b = c.type_bounds in
     let executor =
-    executor_send (record { mir = named 6; lft = κs.1.1.1.1.1.1.0 }) (param 1 g.row.W) (param 2 g.row.M) (param 3 g.row.N) (param 6 g.row.M-Sender) (param 7 g.row.M-Taker) g.W.Named g.M.Mailbox g.N.Nodes
+    executor_send (record { mir = named 6; lft = κs.1.1.1.1.1.1.0 }) (param 1 g.row.W) (param 2 g.row.M) (param 3 g.row.N) (param 6 g.row.M-Sender) (param 7 g.row.M-Taker) g.W.Named g.M.Mailbox g.N.OwnNodes
     b.send-N b.send-M-Sender b.send-M-Taker b.sync-M in
     let rt = shr_send (named 7) κs.1.1.1.1.1.1.1.0 (param 5 g.row.R) b.sync-R in
     let gate = shr_send (named 8) κs.1.1.1.1.1.1.1.1.0 (param 4 g.row.G) b.sync-G in
@@ -26,12 +26,12 @@ spawn_with-spawned-requires-send-F g c κs within =
 pub spawn_with-spawned-requires-send-T : goal.spawn_with-spawned-requires-send-T
 spawn_with-spawned-requires-send-T g c κs within =
     let b = c.type_bounds in
-    let left = left_send (param 1 g.row.W) (param 2 g.row.M) (param 3 g.row.N) (param 6 g.row.M-Sender) (param 7 g.row.M-Taker) g.W.Named g.M.Mailbox g.N.Nodes b.send-N b.send-M-Taker in
+    let left = left_send (param 1 g.row.W) (param 2 g.row.M) (param 3 g.row.N) (param 6 g.row.M-Sender) (param 7 g.row.M-Taker) g.W.Named g.M.Mailbox g.N.OwnNodes b.send-N b.send-M-Taker in
     param_send _ _ (arg_send _ no _ left)
 
 pub spawn_with-spawned-requires-clause-keeps : goal.spawn_with-spawned-requires-clause-keeps
 spawn_with-spawned-requires-clause-keeps g c κs within = λ r gave.
-    let Keeps : g.row.G.Denot → ℕ → OwnerSeatView → ℕ → Type 0 = λ gate number owner turn. IfSome r (λ finished. EndsAs g.N.Nodes.view_of number owner finished × g.G.Gate.was_entered gate number turn) in
+    let Keeps : g.row.G.Denot → ℕ → OwnerSeatView → ℕ → Type 0 = λ gate number owner turn. IfSome r (λ finished. EndsAs g.N.OwnNodes.view_of number owner finished × g.G.Gate.was_entered gate number turn) in
     let first = c.in-Some.executor in
     let told = subst (λ gate. Keeps gate first.number first.owner first.turns) (sym c.of.ensures) gave in
     let numbered = subst (λ number. Keeps c.of.result.value number first.owner first.turns) (sym c.number.ensures) told in

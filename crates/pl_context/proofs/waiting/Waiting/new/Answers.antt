@@ -3,7 +3,7 @@ use Rattle.std.specs.List.{All}
 use Rattle.std.proofs.lemmas.List.{length-map, map-append, take_all, take_more}
 use Rattle.std.proofs.lemmas.List.Elements.{All-nil, All-push}
 use Rattle.pl_event.proofs.Lists.{All-at}
-use Rattle.pl_context.specs.declared.waiting.Late.{Late}
+use Rattle.pl_context.specs.declared.waiting.Stamp.{Stamp}
 use Rattle.pl_context.specs.Stops.{StopsView, no_stops}
 use Rattle.pl_context.specs.Backlogs.{BacklogView}
 use Rattle.pl_context.specs.WaitingViews.{Aged}
@@ -13,13 +13,13 @@ use Rattle.pl_context.proofs.waiting.Waiting.new.Goals as goal
 pub loop-count-init : goal.loop-count-init
 loop-count-init g c =
     let none = c.in_ok-targets.ensures.items in (
-      subst (λ (l : List (BacklogView (Late g.row.A.Denot))). All (λ b. b.items ≡ []) l) (sym none) (All-nil (λ (b : BacklogView (Late g.row.A.Denot)). b.items ≡ [])),
-      ap (map (λ (b : BacklogView (Late g.row.A.Denot)). b.stopped)) none,
+      subst (λ (l : List (BacklogView (Stamp g.row.A.Denot))). All (λ b. b.items ≡ []) l) (sym none) (All-nil (λ (b : BacklogView (Stamp g.row.A.Denot)). b.items ≡ [])),
+      ap (map (λ (b : BacklogView (Stamp g.row.A.Denot)). b.stopped)) none,
     )
 
 pub loop-count-preserved : goal.loop-count-preserved
 loop-count-preserved g c =
-    let B = BacklogView (Late g.row.A.Denot) in
+    let B = BacklogView (Stamp g.row.A.Denot) in
     let new = c.in_ok-new.field-0 in
     let pushed = c.in_ok-push.ensures.items in (
       subst (λ (l : List B). All (λ b. b.items ≡ []) l) (sym pushed) (All-push (λ (b : B). b.items ≡ []) c.loop-count.targets.items new c.loop-count.invariant.0 c.in_ok-new.ensures.empty),
@@ -38,7 +38,7 @@ returns-clause-empty g c = record {
     order = λ i j d before below. absurd (omega (arith, below));
     younger = All-nil (λ (i : Aged g.row.A.Denot). i.age < 0);
     there = All-nil (λ (i : Aged g.row.A.Denot). i.entry.target < length c.loop-count.targets.items);
-    waits = λ target b at. All-at (λ (b : BacklogView (Late g.row.A.Denot)). b.items ≡ []) c.loop-count.targets.items target b c.loop-count.invariant.0 at;
+    waits = λ target b at. All-at (λ (b : BacklogView (Stamp g.row.A.Denot)). b.items ≡ []) c.loop-count.targets.items target b c.loop-count.invariant.0 at;
   };
 }
 
@@ -51,6 +51,6 @@ invariant_of-result g c =
     let targets = c.loop-count.targets.items in
     let places = c.args.places.now in
     let same = ap (λ (l : List StopsView). length l) (c.loop-count.invariant.1 ∙ ap (map no_stops) (take_all c.loop-count.count-index places c.loop-count-test.false)) in
-    let long = length-map targets (λ (b : BacklogView (Late g.row.A.Denot)). b.stopped) in
+    let long = length-map targets (λ (b : BacklogView (Stamp g.row.A.Denot)). b.stopped) in
     let wide = length-map places no_stops in
     fronts-empty targets c.in_ok-new-2.field-0 c.in_ok-new-2.ensures.empty (omega (arith, same, long, wide, c.in_ok-new-2.ensures.places)) c.loop-count.invariant.0

@@ -3,7 +3,7 @@ use Rattle.std.proofs.lemmas.List.{set-get_or, nil_from_length}
 use Rattle.std.proofs.lemmas.Option.{slice_get_past, slice_get_read}
 use Rattle.std.specs.Option.{option_map}
 use Rattle.pl_event.specs.declared.envelopes.Envelope.{Envelope}
-use Rattle.pl_context.specs.declared.waiting.Late.{Late}
+use Rattle.pl_context.specs.declared.waiting.Stamp.{Stamp}
 use Rattle.pl_context.specs.Backlogs.{BacklogView}
 use Rattle.pl_context.specs.WaitingViews.{WaitingView, Holds}
 use Rattle.pl_context.proofs.WaitingCalls.{none-past, none-waits, takes-nothing, takes-first}
@@ -24,11 +24,11 @@ returns-in_err-envelope-clause-first g c = λ entries h.
     let found = c.in_ok-backlog.ensures.item in
     let at = slice_get_read items (length items) c.args.target c.in_ok-backlog.backlog.now refl found.3.0 found.1 in
     let none = c.in_err-envelope.ensures.none in
-    let kept = ap (λ (b : BacklogView (Late g.row.A.Denot)). set items c.args.target b) (none.1 ∙ found.1) ∙ set-get_or items c.args.target c.in_ok-backlog.backlog.now in
+    let kept = ap (λ (b : BacklogView (Stamp g.row.A.Denot)). set items c.args.target b) (none.1 ∙ found.1) ∙ set-get_or items c.args.target c.in_ok-backlog.backlog.now in
     rw (← c.self.view_is)
     (rw c.from_residual-in_err-envelope.ensures
     (takes-nothing _ entries held c.args.target _
-    (ap (λ (l : List (BacklogView (Late g.row.A.Denot))). record { targets = l; added = c.self.inside.added; taken = c.self.inside.taken }) kept)
+    (ap (λ (l : List (BacklogView (Stamp g.row.A.Denot))). record { targets = l; added = c.self.inside.added; taken = c.self.inside.taken }) kept)
     (none-waits _ entries held c.args.target c.in_ok-backlog.backlog.now at (nil_from_length c.in_ok-backlog.backlog.now.items (omega (arith, none.0))))))
 
 pub returns-clause-first : goal.returns-clause-first
@@ -50,7 +50,7 @@ set-requires-clause-was g c =
     let found = c.in_ok-backlog.ensures.item in
     let at = slice_get_read items (length items) c.args.target c.in_ok-backlog.backlog.now refl found.3.0 found.1 in
     front-noted _ _ c.self.invariant c.args.target c.in_ok-backlog.backlog.now at
-    ∙ ap (option_map (λ (x : Envelope × Late g.row.A.Denot). x.1.age)) c.in_ok-envelope.ensures.at
+    ∙ ap (option_map (λ (x : Envelope × Stamp g.row.A.Denot). x.1.age)) c.in_ok-envelope.ensures.at
 
 pub invariant_of-self-2 : goal.invariant_of-self-2
 invariant_of-self-2 g c =

@@ -31,6 +31,6 @@ pub returns-clause-first : goal.returns-clause-first
 returns-clause-first c = λ few.
     let new = c.try_settle-tried.new.seat in
     subst (λ (s : SeatsView). at s.settle.settled c.args.n ≡ None → Settles s.settle c.args.n c.args.outcome new) c.seats.view_is
-    (λ unset. first c.args.n c.seats.inside.settle new c.args.outcome c.seats.invariant.3 unset
+    (λ unset. first c.args.n c.seats.inside.settle new c.args.outcome c.seats.invariant unset
     (tried c.args.n c.behind-self.inside.promises.limit c.seats.inside.settle new c.args.outcome c.try_settle-tried.result (subst (λ (k : ℕ). c.args.n < k) (sym c.behind-self.invariant) few)
     c.try_settle-tried.ensures.ok c.try_settle-tried.ensures.err))

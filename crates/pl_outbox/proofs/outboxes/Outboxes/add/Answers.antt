@@ -11,7 +11,7 @@ pub add-requires-clause-few : goal.add-requires-clause-few
 add-requires-clause-few g c = few-added g.W.Named.world (record { outboxes = c.self.inside.outboxes.items; waiting = c.self.inside.waiting; tried = c.self.inside.tries.tried }) c.self.invariant.0
 
 -- what the admission left of the target's outbox stands in its place
-replaced : (g : _) (c : goal.After-drop g) → Replaces c.self.inside.outboxes.items (set c.self.inside.outboxes.items c.args.target c.admit.new.self) c.args.target c.index_mut.result.now c.admit.new.self
+replaced : (g : _) (c : goal.After-discard g) → Replaces c.self.inside.outboxes.items (set c.self.inside.outboxes.items c.args.target c.admit.new.self) c.args.target c.index_mut.result.now c.admit.new.self
 replaced g c =
     let os = c.self.inside.outboxes.items in
     let b = c.index_mut.result.now in

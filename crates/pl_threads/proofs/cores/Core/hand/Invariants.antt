@@ -9,5 +9,5 @@ invariant-loop g l = record {
   nodes : l.self.nodes ≡ l.fn.self.nodes;
   work : l.self.work ≡ l.fn.self.work;
   keeps : KeepsAll l.fn.self.outboxes l.self.outboxes;
-  holds : CoreHolds g.N.Nodes.view_of g.N.Nodes.stands g.W.Named.world l.self;
+  holds : CoreHolds g.N.OwnNodes.view_of g.N.OwnNodes.stands g.W.Named.world l.self;
 }

@@ -12,16 +12,16 @@ work_off-requires g c =
     let holds = c.requires.holds in
     let move = c.move_head.ensures in
     let nodes = c.args.self.now.nodes in record {
-      holds = holds-on nodes c.args.self.now.work (g.N.Nodes.view_of nodes).lanes.taken holds.at_home holds.places holds.runs holds.admits move.stands move.keeps move.taken move.placed move.makes (λ e. holds.why (sym move.refused ∙ e));
+      holds = holds-on nodes c.args.self.now.work (g.N.OwnNodes.view_of nodes).lanes.taken holds.at_home holds.places holds.runs holds.admits move.stands move.keeps move.taken move.placed move.makes (λ e. holds.why (sym move.refused ∙ e));
     }
 
 pub returns-clause-enabled : goal.returns-clause-enabled
-returns-clause-enabled g c = subst (λ (b : Bool). g.N.Nodes.may_move c.args.self.now.nodes c.args.by c.args.channel b) (cc) c.move_head.ensures.enabled
+returns-clause-enabled g c = subst (λ (b : Bool). g.N.OwnNodes.may_move c.args.self.now.nodes c.args.by c.args.at b) (cc) c.move_head.ensures.enabled
 
 pub returns-clause-keeps : goal.returns-clause-keeps
 returns-clause-keeps g c =
     let core = c.args.self.now in
-    let moved : CoreKeeps g.N.Nodes.view_of core (record core { nodes = c.move_head.new.self; work = c.move_head.new.work }) =
+    let moved : CoreKeeps g.N.OwnNodes.view_of core (record core { nodes = c.move_head.new.self; work = c.move_head.new.work }) =
     record { number = refl; nodes = c.move_head.ensures.keeps; sends = nothing-none core.outboxes } in
     keeps-both moved c.work_off.ensures.keeps
 

@@ -29,7 +29,7 @@ returns-then-target-self-clause-holds g c =
     let front = c.in-Some.ensures.front in
     let stopped = c.in-Some.ensures.stopped in
     let nodes = c.args.self.now.nodes in
-    let v = (g.N.Nodes.view_of nodes).lanes in
+    let v = (g.N.OwnNodes.view_of nodes).lanes in
     holds-on nodes c.next.new.self (taken_with v.taken c.in-Some.envelope) holds.at_home (subst (λ (s : StopsView). HasPlaces s v.places) (sym stopped) holds.places)
     (own-taken c.next.new.self holds.runs front stopped (sym c.target-target.ensures ∙ c.if-target-self.true)) (admits_front c.args.self.now.outboxes c.next.new.self holds.admits front stopped (omega arith))
     take.stands take.keeps take.taken take.placed take.makes (λ e. holds.why (sym take.refused ∙ e))
@@ -61,7 +61,7 @@ returns-in-Err-Closed-clause-holds g c =
     let stopped = c.in-Some.ensures.stopped in
     let adds = subst (λ (k : ℕ). Adds o k c.in-Some.envelope c.add.new.self) c.target-target.ensures c.add.ensures.adds in
     let nodes = c.args.self.now.nodes in
-    let v = (g.N.Nodes.view_of nodes).lanes in
+    let v = (g.N.OwnNodes.view_of nodes).lanes in
     holds-on nodes c.next.new.self v.taken holds.at_home (subst (λ (s : StopsView). HasPlaces s v.places) (sym stopped) holds.places)
     (away-added c.next.new.self holds.runs front stopped c.add.new.self (λ e. c.if-target-self.false (c.target-target.ensures ∙ e)) adds) (admits_front c.add.new.self c.next.new.self holds.admits front stopped adds.made)
     refuse.stands refuse.keeps refuse.taken refuse.placed refuse.makes
@@ -76,7 +76,7 @@ returns-in-Ok-clause-holds g c =
     let adds = subst (λ (k : ℕ). Adds c.args.self.now.outboxes k c.in-Some.envelope c.add.new.self) c.target-target.ensures c.add.ensures.adds in record {
       stood = holds.stood;
       at_home = holds.at_home;
-      places = subst (λ (s : StopsView). HasPlaces s (g.N.Nodes.view_of c.args.self.now.nodes).lanes.places) (sym stopped) holds.places;
+      places = subst (λ (s : StopsView). HasPlaces s (g.N.OwnNodes.view_of c.args.self.now.nodes).lanes.places) (sym stopped) holds.places;
       runs = away-added c.next.new.self holds.runs front stopped c.add.new.self (λ e. c.if-target-self.false (c.target-target.ensures ∙ e)) adds;
       why = λ e. adds.closed (holds.why e);
       admits = admits_front c.add.new.self c.next.new.self holds.admits front stopped adds.made;
@@ -147,7 +147,7 @@ pub returns-then-target-self-clause-keeps : goal.returns-then-target-self-clause
 returns-then-target-self-clause-keeps g c = record { number = refl; nodes = c.take.ensures.keeps; sends = nothing-none c.args.self.now.outboxes }
 
 pub returns-then-target-self-clause-taken : goal.returns-then-target-self-clause-taken
-returns-then-target-self-clause-taken g c = front-taken c.next.new.self c.requires.holds.runs c.in-Some.ensures.front c.in-Some.ensures.stopped (g.N.Nodes.view_of c.take.new.self).lanes c.take.ensures.taken
+returns-then-target-self-clause-taken g c = front-taken c.next.new.self c.requires.holds.runs c.in-Some.ensures.front c.in-Some.ensures.stopped (g.N.OwnNodes.view_of c.take.new.self).lanes c.take.ensures.taken
 
 pub returns-in-Err-Closed-clause-keeps : goal.returns-in-Err-Closed-clause-keeps
 returns-in-Err-Closed-clause-keeps g c =

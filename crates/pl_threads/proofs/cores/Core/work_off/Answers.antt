@@ -29,7 +29,7 @@ loop-preserved g c =
               c.loop.invariant.go.1,
               (
                 gone.0,
-                subst (λ (me : ℕ). FrontGoes g.N.Nodes.view_of g.N.Nodes.acts me gone.0 (at_work c.loop.self) (at_work c.step.new.self)) before.number gone.1,
+                subst (λ (me : ℕ). FrontGoes g.N.OwnNodes.view_of g.N.OwnNodes.acts me gone.0 (at_work c.loop.self) (at_work c.step.new.self)) before.number gone.1,
               ),
             ),
           );
@@ -45,7 +45,7 @@ returns-then-not-step-clause-works g c =
       last = c.loop.self.work;
       go =
           subst
-          (λ (z : g.row.N.Denot × OutboxesView). FrontsGo g.N.Nodes.view_of g.N.Nodes.acts me (at_work c.args.self.now) c.loop.invariant.go.0 (record { nodes = z.0; outboxes = z.1; work = c.loop.self.work }))
+          (λ (z : g.row.N.Denot × OutboxesView). FrontsGo g.N.OwnNodes.view_of g.N.OwnNodes.acts me (at_work c.args.self.now) c.loop.invariant.go.0 (record { nodes = z.0; outboxes = z.1; work = c.loop.self.work }))
           (λ i. (sym last.2 i, sym last.3 i)) c.loop.invariant.go.1;
       empty = last.0;
     }

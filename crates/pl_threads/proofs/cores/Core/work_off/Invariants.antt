@@ -6,9 +6,9 @@ use Rattle.pl_threads.proofs.cores.Core.work_off.Given as goal
 
 abbrev pub invariant-loop : goal.invariant-loop
 invariant-loop g l = record {
-  holds : CoreHolds g.N.Nodes.view_of g.N.Nodes.stands g.W.Named.world l.self;
-  keeps : CoreKeeps g.N.Nodes.view_of l.fn.self l.self;
-  taken : TakesOwn (g.N.Nodes.view_of l.fn.self.nodes).lanes (g.N.Nodes.view_of l.self.nodes).lanes;
-  go : (between : List (AtWork g.row.N.Denot)) × FrontsGo g.N.Nodes.view_of g.N.Nodes.acts l.fn.self.number (at_work l.fn.self) between (at_work l.self);
-  served : ServesNone (g.N.Nodes.served l.fn.self.nodes) (g.N.Nodes.served l.self.nodes);
+  holds : CoreHolds g.N.OwnNodes.view_of g.N.OwnNodes.stands g.W.Named.world l.self;
+  keeps : CoreKeeps g.N.OwnNodes.view_of l.fn.self l.self;
+  taken : TakesOwn (g.N.OwnNodes.view_of l.fn.self.nodes).lanes (g.N.OwnNodes.view_of l.self.nodes).lanes;
+  go : (between : List (AtWork g.row.N.Denot)) × FrontsGo g.N.OwnNodes.view_of g.N.OwnNodes.acts l.fn.self.number (at_work l.fn.self) between (at_work l.self);
+  served : ServesNone (g.N.OwnNodes.served l.fn.self.nodes) (g.N.OwnNodes.served l.self.nodes);
 }

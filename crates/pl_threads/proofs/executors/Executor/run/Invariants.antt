@@ -8,4 +8,4 @@ invariant-loop g l =
     (l.self.number ≡ l.fn.self.number)
     × (l.self.owner.name ≡ l.fn.self.owner.name)
     × g.G.Gate.was_entered l.fn.gate l.fn.self.number l.fn.self.turns
-    × (l.turn ≡ Done → (is_closed l.self.owner.phase ≡ true) × g.N.Nodes.are_over l.self.nodes × ((y : ℕ) → waits_for l.self.outboxes y ≡ []))
+    × (l.turn ≡ Done → (is_closed l.self.owner.phase ≡ true) × g.N.OwnNodes.are_over l.self.nodes × ((y : ℕ) → waits_for l.self.outboxes y ≡ []))

@@ -16,12 +16,12 @@ pub returns-then-has_read-clause-moves : goal.returns-then-has_read-clause-moves
 returns-then-has_read-clause-moves g c =
     let read = c.move_head-has_read in
     let written = c.move_head-has_written in
-    serves-both g.N.Nodes.view_of g.N.Nodes.acts c.args.channel c.args.self.now read.new.self written.new.self read.result written.result
+    serves-both g.N.OwnNodes.view_of g.N.OwnNodes.acts c.args.at c.args.self.now read.new.self written.new.self read.result written.result
     read.ensures.serves read.ensures.idle read.ensures.moves written.ensures.serves written.ensures.idle written.ensures.moves
 
 pub returns-else-has_read-clause-moves : goal.returns-else-has_read-clause-moves
 returns-else-has_read-clause-moves g c =
     let read = c.move_head-has_read in
     let written = c.move_head-has_written in
-    serves-both g.N.Nodes.view_of g.N.Nodes.acts c.args.channel c.args.self.now read.new.self written.new.self read.result written.result
+    serves-both g.N.OwnNodes.view_of g.N.OwnNodes.acts c.args.at c.args.self.now read.new.self written.new.self read.result written.result
     read.ensures.serves read.ensures.idle read.ensures.moves written.ensures.serves written.ensures.idle written.ensures.moves

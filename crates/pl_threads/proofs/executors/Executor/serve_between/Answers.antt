@@ -6,5 +6,5 @@ use Rattle.pl_threads.proofs.executors.Executor.serve_between.Goals as goal
 
 pub returns-clause-moves : goal.returns-clause-moves
 returns-clause-moves g c =
-    subst (λ (v : ExecutorView g.row.N.Denot). ServesOne g.N.Nodes.view_of g.N.Nodes.acts c.args.self.now v) (sym c.loop-channel.invariant.still)
-    (serves-none g.N.Nodes.view_of g.N.Nodes.acts c.args.self.now)
+    subst (λ (v : ExecutorView g.row.N.Denot). ServesOne g.N.OwnNodes.view_of g.N.OwnNodes.acts c.args.self.now v) (sym c.loop-at.invariant.still)
+    (serves-none g.N.OwnNodes.view_of g.N.OwnNodes.acts c.args.self.now)

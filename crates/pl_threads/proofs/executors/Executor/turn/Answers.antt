@@ -17,14 +17,14 @@ invariant_of-self g c = c.self-2.invariant
 pub returns-then-has_moved-clause-does : goal.returns-then-has_moved-clause-does
 returns-then-has_moved-clause-does g c =
     let moves = c.moves-has_moved in
-    turns-kept g.N.Nodes.view_of g.N.Nodes.acts c.args.self.now moves.new.self _ moves.ensures.does c.self-2.view_is moves.ensures.owner moves.ensures.turns
+    turns-kept g.N.OwnNodes.view_of g.N.OwnNodes.acts c.args.self.now moves.new.self _ moves.ensures.does c.self-2.view_is moves.ensures.owner moves.ensures.turns
 
 pub returns-then-is_drained-clause-does : goal.returns-then-is_drained-clause-does
 returns-then-is_drained-clause-does g c =
     let moves = c.moves-has_moved in
-    turns-closed g.N.Nodes.view_of g.N.Nodes.acts c.args.self.now moves.new.self _ c.close.new.self _ moves.ensures.does c.self-2.view_is moves.ensures.owner moves.ensures.turns c.close.ensures.same
+    turns-closed g.N.OwnNodes.view_of g.N.OwnNodes.acts c.args.self.now moves.new.self _ c.close.new.self _ moves.ensures.does c.self-2.view_is moves.ensures.owner moves.ensures.turns c.close.ensures.same
 
 pub returns-clause-does : goal.returns-clause-does
 returns-clause-does g c =
     let moves = c.moves-has_moved in
-    turns-closed g.N.Nodes.view_of g.N.Nodes.acts c.args.self.now moves.new.self _ c.close.new.self _ moves.ensures.does c.self-2.view_is moves.ensures.owner moves.ensures.turns c.close.ensures.same
+    turns-closed g.N.OwnNodes.view_of g.N.OwnNodes.acts c.args.self.now moves.new.self _ c.close.new.self _ moves.ensures.does c.self-2.view_is moves.ensures.owner moves.ensures.turns c.close.ensures.same

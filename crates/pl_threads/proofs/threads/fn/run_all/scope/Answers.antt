@@ -10,7 +10,7 @@ returns g c =
     let promised = IfOk-at_ok _ c.in_ok-handles.was c.start_each-handles.ensures in
     record {
       ended = IfOk-weaker c.join_all.result _ _
-          (λ all h. promised-zip (λ h. h.promise) (λ e. record { gate = c.captures.gate.now; number = e.0.number; turn = e.0.turns; owner = e.0.owner }) handles executors promised (λ t f. EndsAs g.N.Nodes.view_of t.number t.owner f) all.items h) c.join_all.ensures.ended;
+          (λ all h. promised-zip (λ h. h.promise) (λ e. record { gate = c.captures.gate.now; number = e.0.number; turn = e.0.turns; owner = e.0.owner }) handles executors promised (λ t f. EndsAs g.N.OwnNodes.view_of t.number t.owner f) all.items h) c.join_all.ensures.ended;
       entered = IfOk-weaker c.join_all.result _ _
           (λ all h. promised-every (λ h. h.promise) (λ e. record { gate = c.captures.gate.now; number = e.0.number; turn = e.0.turns; owner = e.0.owner }) handles executors promised (λ t. g.G.Gate.was_entered t.gate t.number t.turn) h) c.join_all.ensures.entered;
     }
