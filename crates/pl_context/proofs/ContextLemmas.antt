@@ -5,21 +5,30 @@ use Rattle.std.proofs.lemmas.List.{length-map}
 use Rattle.std.proofs.Math.Bool.{and-false}
 use Rattle.std.proofs.lemmas.Bool.{and_parts}
 use Rattle.pl_event.specs.declared.events.Event.{Event}
+use Rattle.pl_event.specs.declared.envelopes.Kind.TheVariants.{Data}
 use Rattle.pl_event.specs.declared.envelopes.Item.{Item}
 use Rattle.pl_event.specs.declared.envelopes.Item.TheVariants as item
 use Rattle.pl_event.specs.declared.envelopes.Envelope.{Envelope}
 use Rattle.pl_event.specs.declared.stages.Turned.{Turned}
 use Rattle.pl_event.specs.declared.stages.Turned.TheVariants.{Open, Ended}
+use Rattle.pl_event.specs.declared.stages.Changed.{Changed}
+use Rattle.pl_event.specs.declared.stages.Changed.TheVariants.{Up, Down}
+use Rattle.pl_event.specs.declared.outcomes.Cause.TheVariants.{Memory}
+use Rattle.pl_event.specs.declared.limits.TheConstants.{MAX_ITEMS}
+use Rattle.pl_event.specs.Changes.{changed_up, changed_down}
 use Rattle.pl_event.specs.Meaning.{Meaning, up_of, down_of, made-push, turned_after}
 use Rattle.pl_context.specs.declared.ports.Port.{Port}
 use Rattle.pl_context.specs.declared.standing.Standing.{Standing}
 use Rattle.pl_context.specs.declared.standing.Standing.TheVariants as stands
+use Rattle.pl_context.specs.declared.standing.Took.{Took}
+use Rattle.pl_context.specs.declared.standing.Took.TheVariants as took
+use Rattle.pl_context.specs.Standings.{has_failed}
 use Rattle.pl_context.specs.Stops.{StopsView, has_stopped}
 use Rattle.pl_context.specs.OutputsViews.{OutputsView, PutsAll, Appends}
 use Rattle.pl_context.specs.Ports.{as_items, all_go_on, end_after, numbered, offered, put_out, port_after}
 use Rattle.pl_context.specs.ContextViews.{ContextView}
-use Rattle.pl_context.specs.Contexts.{last_item, GivesLast, ups, downs, offers, Runs}
-use Rattle.pl_context.proofs.PortLemmas.{puts_all-append, appends-append, all_go_on-events, all_go_on-append, numbered-append, length-numbered}
+use Rattle.pl_context.specs.Contexts.{last_item, GivesLast, ups, downs, offers, counted, closed, IsSmall, ChangesOne, ChangesItem, Runs, RunsOut, MakesFew, TakesEvent, TakesItem}
+use Rattle.pl_context.proofs.PortLemmas.{port_after-nil, put_out-nil, puts_all-from, puts_all-append, appends-append, all_go_on-events, all_go_on-append, numbered-append, length-numbered}
 
 -- both ports were given the last item
 pub closes-from : {S : Type 0} (c : ContextView S) (standing : Standing) (before mid after : OutputsView) (i j : Item) (up down : Port)
@@ -207,6 +216,191 @@ offers-made m xs x up down above below turned n e f g less =
     (subst (λ (ys : List Event). n < length (offers up down (as_items above) (as_items ys ++ end_after (turned_after m (xs ++ x ∷ []))))) f
     (subst (λ (t : Turned). n < length (offers up down (as_items above) (as_items below ++ end_after t))) g less))
 
+-- what was made is all that an empty buffer has
+pub all-made : {start made more : List Event} → made ≡ start ++ more → start ≡ [] → made ≡ more
+all-made {more = more} is none = is ∙ ap (λ (t : List Event). t ++ more) none
+
 pub on_err : {T E P : Type 0} (r : Result T E) → P → OnErr r P
 on_err (Ok x) p = tt
 on_err (Err e) p = p
+
+-- the numbers of a port stay small
+pub within-after : (p q : Port) (is : List Item) → q ≡ port_after is p → (p.is_open ≡ true → p.made + length is ≤ MAX_ITEMS) → q.is_open ≡ true → q.made ≤ MAX_ITEMS
+within-after p q is e small o =
+    let was = was-open p q is e o in
+    let made : q.made ≡ p.made + length is = ap (λ (t : Port). t.made) e ∙ ap (λ (b : Bool). cond b (p.made + length is) p.made) was in
+    omega (arith, made, small was)
+
+-- ---- an event that its stage changed in its place
+
+module _ {S : Type 0} (meaning : S → Meaning) (stands_after : S → List Event → Type 0) where
+  still_open : (m : Meaning) (xs : List Event) → m.ended xs ≡ false → Open ≡ turned_after m xs
+  still_open m xs e = sym (ap (λ (b : Bool). cond b Ended Open) e)
+
+  -- its numbers are small
+  pub small-changed : (stage stage' : S) (up down : Port) (x y : Event) (way : Changed) (made : List Event)
+      → ChangesOne meaning stands_after stage x way stage' y made
+      → (xs : List Event) × IsSmall meaning stands_after stage up down xs x
+      → (up.is_open ≡ true → up.made + length (changed_up way y) ≤ MAX_ITEMS) × (down.is_open ≡ true → down.made + length (changed_down way y ++ made) ≤ MAX_ITEMS)
+  small-changed stage stage' up down x y way made h few =
+      let xs = few.0 in
+      let m = meaning stage in
+      let above = ap (λ (ys : List Event). length ys) (h.up xs few.1.stands) in
+      let below = ap (λ (ys : List Event). length ys) (h.down xs few.1.stands) in (
+        λ o. omega (arith, few.1.above o, above, length-items (m.up xs x)),
+        λ o. omega (arith, few.1.below o, below, length-items (m.down xs x), length-append (as_items (m.down xs x)) (end_after (turned_after m (xs ++ x ∷ [])))),
+      )
+
+  -- it goes up, and others down
+  pub runs-up : (c : ContextView S) (x y : Event) (made : List Event) (before after : OutputsView) (stage : S) (up down : Port)
+      → ChangesOne meaning stands_after c.stage x Up stage y made
+      → meaning stage ≡ meaning c.stage
+      → up ≡ port_after (item.Event y ∷ []) c.up
+      → down ≡ port_after (as_items made) c.down
+      → Appends before (put_out before.stopped c.up (item.Event y ∷ []) ++ put_out before.stopped c.down (as_items made)) after
+      → Runs meaning stands_after c x before (record c { stage = stage; up = up; down = down }) after
+  runs-up c x y made before after stage up down h same e f out =
+      let all : as_items made ≡ as_items made ++ [] = sym (append-nil (as_items made)) in
+      runs-from meaning stands_after c x before after stage up down (y ∷ []) made Open h.stands same (λ xs s. sym (h.up xs s)) (λ xs s. sym (h.down xs s))
+      (λ xs s. still_open (meaning c.stage) (xs ++ x ∷ []) (h.stays_open xs s)) e
+      (f ∙ ap (λ (is : List Item). port_after is c.down) all)
+      (subst (λ (is : List Item). Appends before (put_out before.stopped c.up (item.Event y ∷ []) ++ put_out before.stopped c.down is) after) all out)
+
+  -- it goes down alone
+  pub runs-down : (c : ContextView S) (x y : Event) (before after : OutputsView) (stage : S) (down : Port)
+      → ChangesOne meaning stands_after c.stage x Down stage y []
+      → meaning stage ≡ meaning c.stage
+      → down ≡ port_after (item.Event y ∷ []) c.down
+      → Appends before (put_out before.stopped c.down (item.Event y ∷ [])) after
+      → Runs meaning stands_after c x before (record c { stage = stage; down = down }) after
+  runs-down c x y before after stage down h same f out =
+      runs-from meaning stands_after c x before after stage c.up down [] (y ∷ []) Open h.stands same (λ xs s. sym (h.up xs s)) (λ xs s. sym (h.down xs s))
+      (λ xs s. still_open (meaning c.stage) (xs ++ x ∷ []) (h.stays_open xs s)) (sym (port_after-nil c.up)) f
+      (subst (λ (es : List Envelope). Appends before (es ++ put_out before.stopped c.down (item.Event y ∷ [])) after) (sym (put_out-nil before.stopped c.up)) out)
+
+  -- what it offers
+  pub offers-changed : (stage stage' : S) (x y : Event) (made : List Event) (up down : Port) (n : ℕ)
+      → ChangesOne meaning stands_after stage x Up stage' y made
+      → n < length (offers up down (item.Event y ∷ []) (as_items made))
+      → (xs : List Event) → stands_after stage xs → n < length (offers up down (ups (meaning stage) xs x) (downs (meaning stage) xs x))
+  offers-changed stage stage' x y made up down n h less xs s =
+      offers-made (meaning stage) xs x up down (y ∷ []) made Open n (sym (h.up xs s)) (sym (h.down xs s)) (still_open (meaning stage) (xs ++ x ∷ []) (h.stays_open xs s))
+      (subst (λ (is : List Item). n < length (offers up down (item.Event y ∷ []) is)) (sym (append-nil (as_items made))) less)
+
+  -- the numbers of an item that it changed, in a context v, which is seen as w
+  pub small-up : (v w : ContextView S) → v ≡ w → (stage' : S) (i j : Item) (made : List Event)
+      → ChangesItem meaning stands_after v.stage i Up stage' j made
+      → v.standing ≡ stands.Open → (w.standing ≡ stands.Open → MakesFew meaning stands_after w i)
+      → (v.up.is_open ≡ true → v.up.made + 1 ≤ MAX_ITEMS) × (v.down.is_open ≡ true → v.down.made + length made ≤ MAX_ITEMS)
+  small-up v w same stage' i j made h opened few =
+      let few' = subst (λ (c : ContextView S). c.standing ≡ stands.Open → MakesFew meaning stands_after c i) (sym same) few opened in
+      small-changed v.stage stage' v.up v.down h.0 h.1 Up made h.4 (subst (λ (k : Item). MakesFew meaning stands_after v k) h.2 few')
+
+  pub small-down : (v w : ContextView S) → v ≡ w → (stage' : S) (i j : Item) (made : List Event)
+      → ChangesItem meaning stands_after v.stage i Down stage' j made → made ≡ []
+      → v.standing ≡ stands.Open → (w.standing ≡ stands.Open → MakesFew meaning stands_after w i)
+      → v.down.is_open ≡ true → v.down.made + 1 ≤ MAX_ITEMS
+  small-down v w same stage' i j made h none opened few =
+      let one = subst (λ (ys : List Event). ChangesOne meaning stands_after v.stage h.0 Down stage' h.1 ys) none h.4 in
+      let few' = subst (λ (c : ContextView S). c.standing ≡ stands.Open → MakesFew meaning stands_after c i) (sym same) few opened in
+      (small-changed v.stage stage' v.up v.down h.0 h.1 Down [] one (subst (λ (k : Item). MakesFew meaning stands_after v k) h.2 few')).1
+
+  -- the same where nothing has changed
+  pub few-unchanged : (v w : ContextView S) → v ≡ w → (stage : S) (i j : Item) → stage ≡ v.stage → j ≡ i
+      → (w.standing ≡ stands.Open → MakesFew meaning stands_after w i)
+      → v.standing ≡ stands.Open → MakesFew meaning stands_after (record (counted Data v) { stage = stage }) j
+  few-unchanged v w same stage i j e f few opened =
+      let few' = subst (λ (c : ContextView S). c.standing ≡ stands.Open → MakesFew meaning stands_after c i) (sym same) few opened in
+      subst (λ (s : S). MakesFew meaning stands_after (record (counted Data v) { stage = s }) j) (sym e) (subst (λ (k : Item). MakesFew meaning stands_after (counted Data v) k) (sym f) few')
+
+pub counted-same : {S : Type 0} (v w : ContextView S) → v ≡ w → (stage : S) → stage ≡ v.stage → record (counted Data v) { stage = stage } ≡ counted Data w
+counted-same {S = S} v w same stage e = ap (λ (s : S). record (counted Data v) { stage = s }) e ∙ ap (λ (c : ContextView S). counted Data c) same
+
+pub open-ended : (s : Standing) → s ≡ stands.Open → s ≡ stands.Ended → ⊥
+open-ended s e f = cc
+
+pub open-failed : (s : Standing) → s ≡ stands.Open → has_failed s ≡ true → ⊥
+open-failed s e f =
+    let clash : false ≡ true = sym (ap has_failed e) ∙ f in
+    cc
+
+module _ {S : Type 0} (meaning : S → Meaning) (stands_after : S → List Event → Type 0) (is_spent : S → Bool) where
+  -- the same of the answer
+  pub takes-unchanged : (v w : ContextView S) → v ≡ w → (stage : S) (i j : Item) (before after : OutputsView) (answer : Took) (c' : ContextView S)
+      → stage ≡ v.stage → j ≡ i
+      → TakesItem meaning stands_after is_spent (record (counted Data v) { stage = stage }) j before answer c' after
+      → TakesItem meaning stands_after is_spent (counted Data w) i before answer c' after
+  takes-unchanged v w same stage i j before after answer c' e f takes =
+      subst (λ (c : ContextView S). TakesItem meaning stands_after is_spent (counted Data c) i before answer c' after) same
+      (subst (λ (k : Item). TakesItem meaning stands_after is_spent (counted Data v) k before answer c' after) f
+      (subst (λ (s : S). TakesItem meaning stands_after is_spent (record (counted Data v) { stage = s }) j before answer c' after) e takes))
+
+  -- an item that its stage changed goes up, and others down
+  pub takes-up : (v w : ContextView S) → v ≡ w → (i j : Item) (made below : List Event) (before after : OutputsView) (stage : S) (up down : Port)
+      → ChangesItem meaning stands_after v.stage i Up stage j made
+      → meaning stage ≡ meaning v.stage
+      → below ≡ made
+      → up ≡ port_after (j ∷ []) v.up
+      → down ≡ port_after (as_items below) v.down
+      → Appends before (put_out before.stopped v.up (j ∷ []) ++ put_out before.stopped v.down (as_items below)) after
+      → TakesItem meaning stands_after is_spent (counted Data w) i before took.Ran (record (counted Data v) { stage = stage; up = up; down = down }) after
+  takes-up v w seen i j made below before after stage up down h same all e f out =
+      let c = counted Data v in
+      subst (λ (s : ContextView S). TakesItem meaning stands_after is_spent (counted Data s) i before took.Ran (record c { stage = stage; up = up; down = down }) after) seen
+      (subst (λ (k : Item). TakesItem meaning stands_after is_spent c k before took.Ran (record c { stage = stage; up = up; down = down }) after) (sym h.2)
+      (runs-up meaning stands_after c h.0 h.1 made before after stage up down h.4 same
+      (e ∙ ap (λ (k : Item). port_after (k ∷ []) c.up) h.3)
+      (f ∙ ap (λ (ys : List Event). port_after (as_items ys) c.down) all)
+      (subst (λ (ys : List Event). Appends before (put_out before.stopped c.up (item.Event h.1 ∷ []) ++ put_out before.stopped c.down (as_items ys)) after) all
+      (subst (λ (k : Item). Appends before (put_out before.stopped c.up (k ∷ []) ++ put_out before.stopped c.down (as_items below)) after) h.3 out))))
+
+  -- it goes down alone
+  pub takes-down : (v w : ContextView S) → v ≡ w → (i j : Item) (made : List Event) (before after : OutputsView) (stage : S) (down : Port)
+      → ChangesItem meaning stands_after v.stage i Down stage j made
+      → meaning stage ≡ meaning v.stage
+      → made ≡ []
+      → down ≡ port_after (j ∷ []) v.down
+      → Appends before (put_out before.stopped v.down (j ∷ [])) after
+      → TakesItem meaning stands_after is_spent (counted Data w) i before took.Ran (record (counted Data v) { stage = stage; down = down }) after
+  takes-down v w seen i j made before after stage down h same none f out =
+      let c = counted Data v in
+      subst (λ (s : ContextView S). TakesItem meaning stands_after is_spent (counted Data s) i before took.Ran (record c { stage = stage; down = down }) after) seen
+      (subst (λ (k : Item). TakesItem meaning stands_after is_spent c k before took.Ran (record c { stage = stage; down = down }) after) (sym h.2)
+      (runs-down meaning stands_after c h.0 h.1 before after stage down
+      (subst (λ (ys : List Event). ChangesOne meaning stands_after c.stage h.0 Down stage h.1 ys) none h.4) same
+      (f ∙ ap (λ (k : Item). port_after (k ∷ []) c.down) h.3)
+      (subst (λ (k : Item). Appends before (put_out before.stopped c.down (k ∷ [])) after) h.3 out)))
+
+  -- there was not room for what it makes
+  pub takes-fault : (v w : ContextView S) → v ≡ w → (i j : Item) (made below : List Event) (before mid after : OutputsView) (stage : S) (up down : Port) (c' : ContextView S) (answer : Took)
+      → ChangesItem meaning stands_after v.stage i Up stage j made
+      → below ≡ made
+      → up ≡ v.up → down ≡ v.down
+      → mid.items ≡ before.items → mid.stopped ≡ before.stopped → before.room ≤ mid.room
+      → before.room < length (offers v.up v.down (j ∷ []) (as_items below))
+      → answer ≡ took.Failed Memory
+      → GivesLast (stands.Failed Memory) (record (counted Data v) { stage = stage; up = up; down = down }) mid c' after
+      → TakesItem meaning stands_after is_spent (counted Data w) i before answer c' after
+  takes-fault v w seen i j made below before mid after stage up down c' answer h all e f items_kept stopped_kept grows less is closes =
+      let c = counted Data v in
+      let full = stands.Failed Memory in
+      let stage_is : c'.stage ≡ stage = ap (λ (k : ContextView S). k.stage) closes.context in
+      let given = item.Fail Memory ∷ [] in
+      let less' : before.room < length (offers c.up c.down (item.Event h.1 ∷ []) (as_items made)) =
+      subst (λ (ys : List Event). before.room < length (offers c.up c.down (item.Event h.1 ∷ []) (as_items ys))) all
+      (subst (λ (k : Item). before.room < length (offers c.up c.down (k ∷ []) (as_items below))) h.3 less) in
+      let out : RunsOut meaning stands_after is_spent c h.0 before c' after = record {
+        closes = record {
+          context = closes.context
+              ∙ ap (λ (p : Port). closed full (record c { stage = stage; up = p; down = down })) e
+              ∙ ap (λ (p : Port). closed full (record c { stage = stage; down = p })) f
+              ∙ ap (λ (s : S). closed full (record c { stage = s })) (sym stage_is);
+          out = puts_all-from before mid after (offers c.up c.down given given) items_kept stopped_kept grows
+              (subst (λ (p : Port). PutsAll mid (offers c.up p given given) after) f
+              (subst (λ (p : Port). PutsAll mid (offers p down given given) after) e closes.out));
+        };
+        why = λ unspent. offers-changed meaning stands_after c.stage stage h.0 h.1 made c.up c.down before.room h.4 less';
+      } in
+      subst (λ (s : ContextView S). TakesItem meaning stands_after is_spent (counted Data s) i before answer c' after) seen
+      (subst (λ (k : Item). TakesItem meaning stands_after is_spent c k before answer c' after) (sym h.2)
+      (subst (λ (a : Took). TakesEvent meaning stands_after is_spent c h.0 before a c' after) (sym is) (refl, out)))

@@ -1,16 +1,21 @@
 -- What a port gives a list of envelopes, item by item.
 use Rattle.std.proofs.Common.{◌≡◌, ℕ, ◌+◌, ◌<◌, ◌≤◌, Bool, true, false, cond, List, [], ◌∷◌, ◌++◌, length, suc, sym, ap, subst, ◌∙◌, refl, arith, length-append, append_assoc, append-nil, add-zero}
-use Rattle.std.specs.Prelude.{◌&&◌, ◌↔◌}
-use Rattle.std.proofs.lemmas.List.{length-map}
+use Rattle.std.specs.Prelude.{◌&&◌, ◌↔◌, ◌==◌, not}
+use Rattle.std.specs.List.{list_any}
+use Rattle.std.proofs.lemmas.List.{length-map, nil_from_length}
+use Rattle.std.proofs.lemmas.Bool.{and_parts, eqb-true}
 use Rattle.pl_event.specs.declared.events.Event.{Event}
+use Rattle.pl_event.specs.declared.envelopes.Kind.{Kind}
+use Rattle.pl_event.specs.declared.envelopes.Kind.TheVariants.{Data, Flags}
 use Rattle.pl_event.specs.declared.envelopes.Lane.{Lane}
+use Rattle.pl_event.specs.Fitting.{goes_on}
 use Rattle.pl_event.specs.declared.envelopes.Item.{Item}
 use Rattle.pl_event.specs.declared.envelopes.Item.TheVariants as item
 use Rattle.pl_event.specs.declared.envelopes.Envelope.{Envelope}
 use Rattle.pl_context.specs.declared.added.Added.{Added}
 use Rattle.pl_context.specs.declared.added.Added.TheVariants.{Last, Discarded}
 use Rattle.pl_context.specs.declared.ports.Port.{Port}
-use Rattle.pl_context.specs.Stops.{StopsView, has_stopped}
+use Rattle.pl_context.specs.Stops.{StopsView, has_stopped, any_stopped, same_hop}
 use Rattle.pl_context.specs.OutputsViews.{OutputsView, Puts, PutsAll, Appends, added_items, stopped_after}
 use Rattle.pl_context.specs.Ports.{as_items, all_go_on, numbered, put_out, port_after}
 
@@ -35,6 +40,41 @@ puts-appends before after e answer p room = by (has_stopped before.stopped e.lan
     by false is = became Last (p.last is room) (e ∷ []) refl refl
 
 -- ---- events, one after another
+
+-- nothing
+pub port_after-nil : (p : Port) → port_after [] p ≡ p
+port_after-nil p = by p.is_open
+  where
+    by : (o : Bool) → ◌≡◌ {A = Port} (record { lane = p.lane; made = cond o (p.made + 0) p.made; is_open = o && true }) (record { lane = p.lane; made = p.made; is_open = o })
+    by true = ap (λ (n : ℕ). record { lane = p.lane; made = n; is_open = true }) (add-zero p.made)
+    by false = refl
+
+pub put_out-nil : (s : StopsView) (p : Port) → put_out s p [] ≡ []
+put_out-nil s p = by p.is_open (has_stopped s p.lane)
+  where
+    by : (o stopped : Bool) → cond o (cond stopped [] (numbered p.lane p.made [])) [] ≡ []
+    by true true = refl
+    by true false = refl
+    by false stopped = refl
+
+-- one item with which the lane goes on
+pub port_after-one : (p : Port) (i : Item) → p.is_open ≡ true → goes_on i ≡ true → record p { made = p.made + 1 } ≡ port_after (i ∷ []) p
+port_after-one p i o g = rw (o, g) refl
+
+-- where no lane has stopped, this one has not
+pub none-stopped : (s : StopsView) (lane : Lane) → any_stopped s ≡ false → has_stopped s lane ≡ false
+none-stopped s lane none = by lane.kind
+  where
+    was : (b : Bool) → not b ≡ false → b ≡ true
+    was true e = refl
+    was false e = cc
+
+    empty : (length s.lanes == 0 ≡ true) × (length s.flag_lanes == 0 ≡ true)
+    empty = and_parts (length s.lanes == 0) (length s.flag_lanes == 0) (was (length s.lanes == 0 && length s.flag_lanes == 0) none)
+
+    by : (k : Kind) → elim k [ Data ↦ list_any (same_hop lane) s.lanes | Flags ↦ list_any (same_hop lane) s.flag_lanes ] ≡ false
+    by Data = ap (list_any (same_hop lane)) (nil_from_length s.lanes (eqb-true (length s.lanes) 0 empty.0))
+    by Flags = ap (list_any (same_hop lane)) (nil_from_length s.flag_lanes (eqb-true (length s.flag_lanes) 0 empty.1))
 
 pub as_items-append : (xs ys : List Event) → as_items (xs ++ ys) ≡ as_items xs ++ as_items ys
 as_items-append [] ys = refl
@@ -185,3 +225,8 @@ appends-append a b c es fs h k = record {
   stopped = k.stopped ∙ h.stopped;
   room = omega (arith, h.room, k.room, length-append es fs);
 }
+
+-- a port that gives nothing adds nothing
+pub appends-alone : (a b : OutputsView) (s : StopsView) (p : Port) (es : List Envelope) → Appends a es b → Appends a (es ++ put_out s p []) b
+appends-alone a b s p es h =
+    subst (λ (t : List Envelope). Appends a t b) (sym (ap (λ (t : List Envelope). es ++ t) (put_out-nil s p) ∙ append-nil es)) h

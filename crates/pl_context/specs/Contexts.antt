@@ -7,7 +7,9 @@ use Rattle.pl_event.specs.declared.envelopes.Kind.TheVariants.{Data, Flags}
 use Rattle.pl_event.specs.declared.envelopes.Item.{Item}
 use Rattle.pl_event.specs.declared.envelopes.Item.TheVariants as item
 use Rattle.pl_event.specs.declared.envelopes.Envelope.{Envelope}
+use Rattle.pl_event.specs.declared.stages.Changed.{Changed}
 use Rattle.pl_event.specs.Meaning.{Meaning, up_of, down_of, turned_after}
+use Rattle.pl_event.specs.Changes.{changed_up, changed_down}
 use Rattle.pl_context.specs.declared.ports.Port.{Port}
 use Rattle.pl_context.specs.declared.standing.Standing.{Standing}
 use Rattle.pl_context.specs.declared.standing.Standing.TheVariants as stands
@@ -72,6 +74,18 @@ module _ {S : Type 0} (meaning : S → Meaning) (stands_after : S → List Event
         Appends before (put_out before.stopped c.up (ups (meaning c.stage) xs x) ++ put_out before.stopped c.down (downs (meaning c.stage) xs x)) after
     pub stage : (xs : List Event) → stands_after c.stage xs → stands_after c'.stage (xs ++ x ∷ [])
     pub stands : (xs : List Event) → StandsAfter c xs → StandsAfter c' (xs ++ x ∷ [])
+
+  -- A stage took an event and changed it in its place: what stands there then goes this way, and besides these go down.
+  pub record ChangesOne (stage : S) (x : Event) (way : Changed) (stage' : S) (x' : Event) (made : List Event) : Type 0 where
+    pub up : (xs : List Event) → stands_after stage xs → (meaning stage).up xs x ≡ changed_up way x'
+    pub down : (xs : List Event) → stands_after stage xs → (meaning stage).down xs x ≡ changed_down way x' ++ made
+    pub stays_open : (xs : List Event) → stands_after stage xs → (meaning stage).ended (xs ++ x ∷ []) ≡ false
+    pub stands : (xs : List Event) → stands_after stage xs → stands_after stage' (xs ++ x ∷ [])
+
+  -- the same of an item, which is an event, and of what stands in its place
+  abbrev pub ChangesItem : S → Item → Changed → S → Item → List Event → Type 0
+  ChangesItem stage i way stage' i' made =
+      (x : Event) × (x' : Event) × (i ≡ item.Event x) × (i' ≡ item.Event x') × ChangesOne stage x way stage' x' made
 
 -- A context ends or fails: both lanes are given their last item. The lane upwards comes first.
 pub record GivesLast {S : Type 0} (standing : Standing) (c : ContextView S) (before : OutputsView) (c' : ContextView S) (after : OutputsView) : Type 0 where

@@ -1,6 +1,6 @@
 //! Envelopes that wait for another executor.
 
-ghost use Rattle.std.specs.Prelude.{◌≡◌, ◌+◌, ◌<◌, ◌≤◌, ◌∷◌, ◌++◌, [], length, IfOk, IfSome, IfNone, OnSome, Some, slice_get, insert, remove, ◌==◌};
+ghost use Rattle.std.specs.Prelude.{◌≡◌, ◌+◌, ◌<◌, ◌≤◌, ◌∷◌, ◌++◌, [], length, IfOk, IfSome, IfNone, OnSome, Some, slice_get, insert, remove, ◌==◌, true, false};
 ghost use Rattle.pl_context.specs.Stops.{HasPlaces, no_stops, any_stopped};
 ghost use Rattle.pl_context.specs.Backlogs.{AddsToken};
 
@@ -79,6 +79,19 @@ impl<A> Backlog<A> {
         requires { HasPlaces self.old.stopped (envelope.lane ∷ []) }
         ensures { AddsToken self.old envelope token result self.new }
     {
+        if self.is_ready() {
+            self.entries.push_back_reserved((envelope, token));
+            return None;
+        }
+        self.add_or_stop(envelope, token)
+    }
+
+    /// The same, where room is to be made, or a lane has stopped.
+    #[inline(never)]
+    fn add_or_stop(&mut self, envelope: Envelope, token: A) -> Option<A>
+        requires { HasPlaces self.old.stopped (envelope.lane ∷ []) }
+        ensures { AddsToken self.old envelope token result self.new }
+    {
         if self.stops.has(envelope.lane) {
             envelope.discard();
             return Some(token);
@@ -100,6 +113,14 @@ impl<A> Backlog<A> {
         }
     }
 
+    /// Whether there is room for an envelope more, and no lane has stopped.
+    fn is_ready(&self) -> bool
+        ensures room { result ≡ true → 0 < self.now.room }
+        ensures goes_on { result ≡ true → any_stopped self.now.stopped ≡ false }
+    {
+        !self.stops.has_any() && self.entries.capacity() - self.entries.len() > self.stops.left()
+    }
+
     /// Takes out the envelope at a position, counted from the oldest: None past the last. It takes no memory.
     pub fn take_at(&mut self, place: usize) -> Option<(Envelope, A)>
         ensures at { IfSome result (λ entry. slice_get self.old.items place ≡ Some entry) }
@@ -110,6 +131,10 @@ impl<A> Backlog<A> {
         ensures none { IfNone result ((length self.old.items ≤ place) × (self.new ≡ self.old)) }
         ensures stopped { self.new.stopped ≡ self.old.stopped }
     {
+        // The oldest leaves without a move of the others.
+        if place == 0 {
+            return self.entries.pop_front();
+        }
         self.entries.remove(place)
     }
 

@@ -1,29 +1,33 @@
 //! A stage at its place in a channel.
 
-ghost use Rattle.std.specs.Prelude.{◌≡◌, ◌+◌, ◌<◌, ◌≤◌, ◌^◌, ◌∷◌, ◌++◌, List, [], length, OnOk, OnErr, IsErr, true, false};
+ghost use Rattle.std.specs.Prelude.{◌≡◌, ◌≢◌, ◌+◌, ◌<◌, ◌≤◌, ◌^◌, ◌∷◌, ◌++◌, List, [], length, OnOk, OnErr, IsErr, true, false};
 ghost use Rattle.pl_event.specs.declared.events.Event.{Event};
 ghost use Rattle.pl_event.specs.declared.envelopes.Kind.{Kind};
 ghost use Rattle.pl_event.specs.declared.envelopes.Kind.TheVariants as kind;
 ghost use Rattle.pl_event.specs.declared.envelopes.Item.TheVariants as items;
 ghost use Rattle.pl_event.specs.declared.outcomes.Cause.TheVariants.{Memory};
+ghost use Rattle.pl_event.specs.declared.stages.Changed.TheVariants.{No, Down};
+ghost use Rattle.pl_event.specs.Fitting.{goes_on};
 ghost use Rattle.pl_context.specs.declared.standing.Standing.TheVariants as stands;
 ghost use Rattle.pl_context.specs.declared.standing.Took.TheVariants as took;
-ghost use Rattle.pl_context.specs.Stops.{HasPlaces};
+ghost use Rattle.pl_context.specs.Stops.{HasPlaces, any_stopped};
 ghost use Rattle.pl_context.specs.OutputsViews.{Appends};
 ghost use Rattle.pl_context.specs.Ports.{end_after, as_items, port_after, put_out};
 ghost use Rattle.pl_context.specs.ContextViews.{IsHop, SamePlace, new_context, has_up, has_down, down_hop, Enters, kind_taken, one_of, taken_of, number_limit, open_lanes};
 ghost use Rattle.pl_context.specs.Standings.{is_over, has_failed};
-ghost use Rattle.pl_context.specs.Contexts.{StandsAfter, MakesFew, Runs, GivesLast, TakesEvent, TakesItem, TakesFlag, counted, offers, ups, downs, last_item, IsSmall};
+ghost use Rattle.pl_context.specs.Contexts.{StandsAfter, MakesFew, ChangesItem, Runs, GivesLast, TakesEvent, TakesItem, TakesFlag, counted, offers, ups, downs, last_item, IsSmall};
 ghost use Rattle.pl_event.specs.declared.limits.TheConstants.{MAX_ITEMS};
 
 use crate::outputs::Outputs;
 use crate::ports::Port;
 use crate::standing::{Standing, Took};
-use pl_event::{Cause, Direction, Envelope, Event, Item, Kind, Lane, Stage, StageFault, Turned};
+use pl_event::{
+    Cause, Changed, Direction, Envelope, Event, Item, Kind, Lane, Stage, StageFault, Turned,
+};
 use std::alloc::Global;
 use std::marker::Model;
 
-/// The most handlers of a pipeline, as a hop.
+/// The most handlers of a pipeline, as hops count.
 pub const MAX_HANDLERS: u16 = pl_event::MAX_HANDLERS;
 
 /// A stage at its place in a channel (Netty's `ChannelHandlerContext`).
@@ -116,7 +120,7 @@ impl<S: Stage> Context<S> {
             (result ≡ took.Dropped) × (self.new ≡ counted envelope.lane.kind self.old) × (outputs.new ≡ outputs.old) }
     {
         match envelope.lane.kind {
-            Kind::Data => self.take_item(envelope, outputs),
+            Kind::Data => self.take_data(envelope, outputs),
             Kind::Flags => self.take_flag(envelope, outputs),
         }
     }
@@ -179,9 +183,8 @@ impl<S: Stage> Context<S> {
         }
     }
 
-    /// Takes an item of the data lane. What takes an item apart is kept out of what hands envelopes on whole.
-    #[inline(never)]
-    fn take_item(&mut self, envelope: Envelope, outputs: &mut Outputs) -> Took
+    /// Takes an envelope of the data lane. Where its stage changes the event in its place, the envelope goes on.
+    fn take_data(&mut self, mut envelope: Envelope, outputs: &mut Outputs) -> Took
         requires limit { self.old.taken < MAX_ITEMS }
         requires few { self.old.standing ≡ stands.Open → MakesFew S.meaning S.stands_after self.old envelope.item }
         requires places { HasPlaces outputs.old.stopped (open_lanes self.old) }
@@ -192,8 +195,49 @@ impl<S: Stage> Context<S> {
         ensures ended { self.old.standing ≡ stands.Ended → (result ≡ took.Ran) × (self.new ≡ counted kind.Data self.old) × (outputs.new ≡ outputs.old) }
         ensures dropped { has_failed self.old.standing ≡ true → (result ≡ took.Dropped) × (self.new ≡ counted kind.Data self.old) × (outputs.new ≡ outputs.old) }
     {
-        let Envelope { item, .. } = envelope;
         self.taken += 1;
+        let changed = change(
+            &mut self.stage,
+            self.standing,
+            &mut envelope.item,
+            &mut self.down_events,
+            outputs,
+        );
+        match changed {
+            Changed::No => self.take_item(envelope, outputs),
+            Changed::Up => {
+                let put = put_changed(
+                    &mut self.up,
+                    &mut self.down,
+                    envelope,
+                    &mut self.down_events,
+                    outputs,
+                );
+                match put {
+                    Ok(()) => Took::Ran,
+                    Err(StageFault::Memory) => self.run_out(outputs),
+                }
+            }
+            Changed::Down => {
+                self.down.hand_on(envelope, outputs);
+                Took::Ran
+            }
+        }
+    }
+
+    /// Takes an item of the data lane, which is counted. What takes an item apart is kept out of what hands envelopes on whole.
+    #[inline(never)]
+    fn take_item(&mut self, envelope: Envelope, outputs: &mut Outputs) -> Took
+        requires few { self.old.standing ≡ stands.Open → MakesFew S.meaning S.stands_after self.old envelope.item }
+        requires places { HasPlaces outputs.old.stopped (open_lanes self.old) }
+        ensures meaning { S.meaning self.new.stage ≡ S.meaning self.old.stage }
+        ensures place { SamePlace self.old self.new }
+        ensures open { self.old.standing ≡ stands.Open → TakesItem S.meaning S.stands_after S.is_spent self.old envelope.item outputs.old result self.new outputs.new }
+        ensures spent { self.old.standing ≡ stands.Open → S.is_spent self.old.stage ≡ true → (event : Event) → envelope.item ≡ items.Event event → result ≡ took.Failed Memory }
+        ensures ended { self.old.standing ≡ stands.Ended → (result ≡ took.Ran) × (self.new ≡ self.old) × (outputs.new ≡ outputs.old) }
+        ensures dropped { has_failed self.old.standing ≡ true → (result ≡ took.Dropped) × (self.new ≡ self.old) × (outputs.new ≡ outputs.old) }
+    {
+        let Envelope { item, .. } = envelope;
         match self.standing {
             Standing::Open => self.take_open(item, outputs),
             Standing::Ended => {
@@ -298,6 +342,17 @@ impl<S: Stage> Context<S> {
         Ok(())
     }
 
+    /// Fails, out of memory.
+    #[inline(never)]
+    fn run_out(&mut self, outputs: &mut Outputs) -> Took
+        requires { HasPlaces outputs.old.stopped (open_lanes self.old) }
+        ensures failed { result ≡ took.Failed Memory }
+        ensures closes { GivesLast (stands.Failed Memory) self.old outputs.old self.new outputs.new }
+    {
+        self.close(Standing::Failed(Cause::Memory), outputs);
+        Took::Failed(Cause::Memory)
+    }
+
     /// Gives both lanes their last item.
     #[inline(never)]
     fn close(&mut self, standing: Standing, outputs: &mut Outputs)
@@ -307,6 +362,80 @@ impl<S: Stage> Context<S> {
         self.standing = standing;
         self.up.put(last_item(standing), outputs);
         self.down.put(last_item(standing), outputs);
+    }
+}
+
+/// Has a stage change an event in its place, while its context is open and there is room for it on a list where no lane
+/// has stopped. Where it answers `No` nothing has changed.
+fn change<S: Stage>(
+    stage: &mut S,
+    standing: Standing,
+    item: &mut Item,
+    below: &mut Vec<Event>,
+    outputs: &Outputs,
+) -> Changed
+    ensures meaning { S.meaning stage.new ≡ S.meaning stage.old }
+    ensures no { result ≡ No → (stage.new ≡ stage.old) × (item.new ≡ item.old) × (below.new.items ≡ below.old.items) }
+    ensures ready { result ≢ No → (standing ≡ stands.Open) × (0 < outputs.now.room) × (any_stopped outputs.now.stopped ≡ false) }
+    ensures changes { result ≢ No → (made : List Event) × (below.new.items ≡ below.old.items ++ made)
+        × ChangesItem S.meaning S.stands_after stage.old item.old result stage.new item.new made }
+    ensures alone { result ≡ Down → below.new.items ≡ below.old.items }
+    ensures spent { S.is_spent stage.old ≡ true → result ≡ No }
+{
+    let Standing::Open = standing else {
+        return Changed::No;
+    };
+    let Item::Event(event) = item else {
+        return Changed::No;
+    };
+    if !outputs.is_ready() {
+        return Changed::No;
+    }
+    stage.change(event, below)
+}
+
+/// Hands an envelope on upwards, and puts out the events that go down besides. Where there is not room for all of it
+/// nothing is put out. The buffer is empty then.
+fn put_changed(
+    up: &mut Port,
+    down: &mut Port,
+    envelope: Envelope,
+    below: &mut Vec<Event>,
+    outputs: &mut Outputs,
+) -> Result<(), StageFault>
+    requires event { goes_on envelope.item ≡ true }
+    requires none { any_stopped outputs.old.stopped ≡ false }
+    requires room { 0 < outputs.old.room }
+    requires place_down { down.old.is_open ≡ true → HasPlaces outputs.old.stopped (down.old.lane ∷ []) }
+    requires few_up { up.old.is_open ≡ true → up.old.made + 1 ≤ MAX_ITEMS }
+    requires few_down { down.old.is_open ≡ true → down.old.made + length below.old.items ≤ MAX_ITEMS }
+    ensures empty { below.new.items ≡ [] }
+    ensures up { OnOk result (up.new ≡ port_after (envelope.item ∷ []) up.old) }
+    ensures down { OnOk result (down.new ≡ port_after (as_items below.old.items) down.old) }
+    ensures out { OnOk result (Appends outputs.old (put_out outputs.old.stopped up.old (envelope.item ∷ []) ++ put_out outputs.old.stopped down.old (as_items below.old.items)) outputs.new) }
+    ensures up_kept { OnErr result (up.new ≡ up.old) }
+    ensures down_kept { OnErr result (down.new ≡ down.old) }
+    ensures items { OnErr result (outputs.new.items ≡ outputs.old.items) }
+    ensures stopped { OnErr result (outputs.new.stopped ≡ outputs.old.stopped) }
+    ensures grows { OnErr result (outputs.old.room ≤ outputs.new.room) }
+    ensures why { OnErr result (outputs.old.room < length (offers up.old down.old (envelope.item ∷ []) (as_items below.old.items))) }
+{
+    if below.is_empty() {
+        up.hand_on(envelope, outputs);
+        return Ok(());
+    }
+    let above = up.places(1);
+    match outputs.reserve(above + down.places(below.len())) {
+        Ok(()) => {
+            up.hand_on(envelope, outputs);
+            down.put_all(below, outputs);
+            Ok(())
+        }
+        Err(_) => {
+            envelope.discard();
+            below.clear();
+            Err(StageFault::Memory)
+        }
     }
 }
 

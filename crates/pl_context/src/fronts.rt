@@ -62,19 +62,28 @@ impl Fronts {
     }
 
     /// The front for a target had one age, and has another now. There is None where nothing waits.
+    #[inline(always)]
     pub(crate) fn set(&mut self, target: usize, was: Option<u64>, age: Option<u64>)
         requires there { target < self.old.places }
         requires was { age_for self.old target ≡ was }
         ensures ages { (y : ℕ) → age_for self.new y ≡ update nat_eq (age_for self.old) target age y }
         ensures places { self.old.places ≤ self.new.places }
     {
-        if was == age {
+        if was == age || (was.is_some() && self.renew(target, age)) {
             return;
         }
+        self.replace(target, was, age);
+    }
+
+    /// The same, by taking it out and putting it where its age belongs.
+    #[inline(never)]
+    fn replace(&mut self, target: usize, was: Option<u64>, age: Option<u64>)
+        requires there { target < self.old.places }
+        requires was { age_for self.old target ≡ was }
+        ensures ages { (y : ℕ) → age_for self.new y ≡ update nat_eq (age_for self.old) target age y }
+        ensures places { self.old.places ≤ self.new.places }
+    {
         if was.is_some() {
-            if self.renew(target, age) {
-                return;
-            }
             self.remove(target);
         }
         if let Some(age) = age {

@@ -1,6 +1,6 @@
 //! The work list: envelopes that were put out, the oldest first.
 
-ghost use Rattle.std.specs.Prelude.{◌≡◌, ◌+◌, ◌<◌, ◌≤◌, ◌∷◌, ◌++◌, [], length, not, IfOk, OnOk, OnErr, IfNone, ◌==◌, ◌&&◌, false};
+ghost use Rattle.std.specs.Prelude.{◌≡◌, ◌+◌, ◌<◌, ◌≤◌, ◌∷◌, ◌++◌, [], length, not, IfOk, OnOk, OnErr, IfNone, ◌==◌, ◌&&◌, true, false};
 ghost use Rattle.std.specs.Option.{option_to_list};
 ghost use Rattle.pl_context.specs.Stops.{HasPlaces, no_stops, any_stopped, has_stopped};
 ghost use Rattle.pl_context.specs.OutputsViews.{Puts, failure_of};
@@ -14,7 +14,7 @@ use std::marker::Model;
 
 /// The envelopes that contexts put out, first in first out: a work list.
 ///
-/// It has reserved places, one for each data lane that is ever put into it. Where it finds no memory for an item of a
+/// It has reserved places, at least one for each data lane that is ever put into it. Where it finds no memory for an item of a
 /// data lane, a failure (out of memory) takes the item's number in the place of its lane, and what the lane brings
 /// later is discarded. A flag is discarded, and its lane stops.
 #[derive(Debug, Drop)]
@@ -69,6 +69,15 @@ impl Outputs {
         ensures { result ≡ any_stopped self.now.stopped }
     {
         self.stops.has_any()
+    }
+
+    /// Whether there is room for an envelope more, and no lane has stopped.
+    pub(crate) fn is_ready(&self) -> bool
+        ensures room { result ≡ true → 0 < self.now.room }
+        ensures goes_on { result ≡ true → any_stopped self.now.stopped ≡ false }
+    {
+        !self.stops.has_any()
+            && self.envelopes.capacity() - self.envelopes.len() > self.stops.left()
     }
 
     /// Makes room for a given number of envelopes, beside the reserved places. An `Err` changes nothing.

@@ -3,7 +3,7 @@
 ghost use Rattle.std.specs.Prelude.{◌≡◌, ◌+◌, ◌<◌, ◌≤◌, ◌^◌, ◌∷◌, ◌++◌, [], length, true, false, if◌then◌else◌};
 ghost use Rattle.pl_event.specs.declared.envelopes.Item.TheVariants as item;
 ghost use Rattle.pl_event.specs.Fitting.{goes_on};
-ghost use Rattle.pl_context.specs.Stops.{HasPlaces};
+ghost use Rattle.pl_context.specs.Stops.{HasPlaces, any_stopped};
 ghost use Rattle.pl_context.specs.OutputsViews.{PutsAll, Appends};
 ghost use Rattle.pl_context.specs.ContextViews.{new_port};
 ghost use Rattle.pl_context.specs.Ports.{as_items, offered, put_out, port_after, end_after, FlagPasses};
@@ -55,6 +55,26 @@ impl Port {
         });
         self.made += 1;
         self.is_open = goes_on;
+    }
+
+    /// Gives the lane the event of an envelope, for which there is room on a list where no lane has stopped, unless it is
+    /// closed.
+    pub(crate) fn hand_on(&mut self, mut envelope: Envelope, outputs: &mut Outputs)
+        requires event { goes_on envelope.item ≡ true }
+        requires none { any_stopped outputs.old.stopped ≡ false }
+        requires small { self.old.is_open ≡ true → self.old.made < 2 ^ 40 }
+        requires room { self.old.is_open ≡ true → 0 < outputs.old.room }
+        ensures port { self.new ≡ port_after (envelope.item ∷ []) self.old }
+        ensures out { Appends outputs.old (put_out outputs.old.stopped self.old (envelope.item ∷ [])) outputs.new }
+    {
+        if !self.is_open {
+            envelope.discard();
+            return;
+        }
+        envelope.lane = self.lane;
+        envelope.number = self.made;
+        outputs.put_reserved(envelope);
+        self.made += 1;
     }
 
     /// Gives the lane events, for which there is room, unless it is closed. They are taken out of the buffer. Whether the

@@ -6,5 +6,6 @@ pub mod Lanes
 pub mod Fitting
 pub mod Passing
 pub mod Mappings
+pub mod Changes
 pub mod Hops
 pub mod Worlds

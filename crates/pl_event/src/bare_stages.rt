@@ -1,11 +1,13 @@
 //! Stages that leave it to a wrapper to remember a fault, and the wrapper.
 
-ghost use Rattle.std.specs.Prelude.{◌≡◌, Bool, false, true, List, [], ◌∷◌, ◌++◌, IfOk, OnErr};
+ghost use Rattle.std.specs.Prelude.{◌≡◌, ◌≢◌, Bool, false, true, List, [], ◌∷◌, ◌++◌, IfOk, OnErr};
 ghost use Rattle.pl_event.specs.declared.events.Event.{Event};
 ghost use Rattle.pl_event.specs.Meaning.{Meaning, IsLawful, IsPrefixOf, turned_after};
+ghost use Rattle.pl_event.specs.Changes.{way_of, changed_up, changed_down};
+ghost use Rattle.pl_event.specs.declared.stages.Changed.TheVariants.{No, Down};
 
 use crate::events::Event;
-use crate::stages::{Direction, Stage, StageFault, Stepped, Turned};
+use crate::stages::{Changed, Direction, Stage, StageFault, Stepped, Turned};
 use std::alloc::AllocError;
 
 /// What a bare stage answers to an event: whether it has quit. An `Err` is out of memory.
@@ -37,6 +39,21 @@ pub trait BareStage: Drop {
         ensures turned { IfOk result (λ turned. (xs : List Event) → stands_after self.old xs → turned ≡ turned_after (meaning self.old) (xs ++ event ∷ [])) }
         ensures up_begins { OnErr result (IsPrefixOf up.old.items up.new.items) }
         ensures down_begins { OnErr result (IsPrefixOf down.old.items down.new.items) };
+
+    /// Takes the next event as `take` does, where it makes one event of it that goes on, and stays open, as
+    /// [`Stage::change`] tells. At a `No` all is as it was, here too.
+    fn change(&mut self, event: &mut Event, down: &mut Vec<Event>) -> Changed
+        ensures same_meaning { meaning self.new ≡ meaning self.old }
+        ensures no { result ≡ No → (self.new ≡ self.old) × (event.new ≡ event.old) × (down.new.items ≡ down.old.items) }
+        ensures way { result ≢ No → result ≡ way_of (meaning self.old).direction }
+        ensures alone { result ≡ Down → down.new.items ≡ down.old.items }
+        ensures stands { result ≢ No → (xs : List Event) → stands_after self.old xs → stands_after self.new (xs ++ event.old ∷ []) }
+        ensures up { result ≢ No → (xs : List Event) → stands_after self.old xs → (meaning self.old).up xs event.old ≡ changed_up result event.new }
+        ensures down { result ≢ No → (made : List Event) × (down.new.items ≡ down.old.items ++ made) × ((xs : List Event) → stands_after self.old xs → (meaning self.old).down xs event.old ≡ changed_down result event.new ++ made) }
+        ensures open { result ≢ No → (xs : List Event) → stands_after self.old xs → (meaning self.old).ended (xs ++ event.old ∷ []) ≡ false }
+    {
+        Changed::No
+    }
 
     /// What every one of them means keeps the law.
     ghost lawful: { (s : Self) → IsLawful (meaning s) };
@@ -91,6 +108,13 @@ impl<S: BareStage> Stage for Fused<S> {
                 Err(StageFault::Memory)
             }
         }
+    }
+
+    fn change(&mut self, event: &mut Event, down: &mut Vec<Event>) -> Changed {
+        if self.is_spent {
+            return Changed::No;
+        }
+        self.stage.change(event, down)
     }
 
     ghost lawful = { λ s. S.lawful s.stage };

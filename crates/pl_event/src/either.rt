@@ -3,7 +3,7 @@
 ghost use Rattle.pl_event.specs.declared.either.Either.TheVariants.{Left, Right};
 
 use crate::events::Event;
-use crate::stages::{Direction, Stage, Stepped};
+use crate::stages::{Changed, Direction, Stage, Stepped};
 
 /// A stage of one kind or of another. It means what the stage inside means, and is spent when that is.
 ///
@@ -33,6 +33,13 @@ impl<A: Stage, B: Stage> Stage for Either<A, B> {
         match self {
             Either::Left(stage) => stage.step(event, up, down),
             Either::Right(stage) => stage.step(event, up, down),
+        }
+    }
+
+    fn change(&mut self, event: &mut Event, down: &mut Vec<Event>) -> Changed {
+        match self {
+            Either::Left(stage) => stage.change(event, down),
+            Either::Right(stage) => stage.change(event, down),
         }
     }
 

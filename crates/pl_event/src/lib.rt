@@ -53,4 +53,4 @@ pub use mappings::{MapDown, MapUp, Mapping};
 pub use named::Named;
 pub use outcomes::{Cause, Outcome};
 pub use sequence::Sequence;
-pub use stages::{Direction, Stage, StageFault, Stepped, Turned, stage_law};
+pub use stages::{Changed, Direction, Stage, StageFault, Stepped, Turned, stage_law};

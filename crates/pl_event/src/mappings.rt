@@ -5,8 +5,8 @@ ghost use Rattle.pl_event.specs.declared.events.Event.{Event};
 ghost use Rattle.pl_event.specs.Mappings.{mapping_up, mapping_down, mapping_up-lawful, mapping_down-lawful};
 
 use crate::events::Event;
-use crate::stages::{Direction, Stage, StageFault, Stepped, Turned};
-use std::alloc::AllocError;
+use crate::stages::{Changed, Direction, Stage, StageFault, Stepped, Turned};
+use std::alloc::{AllocError, Global};
 
 /// One event made of each event, whatever came before (as Netty's `MessageToMessageCodec` is mostly used): [`MapUp`] and
 /// [`MapDown`] make a [`Stage`] of it. An event that the handler isn't meant for is handed on as it is.
@@ -17,6 +17,15 @@ pub trait Mapping: Drop {
     /// The event that it makes of this one. An `Err` is out of memory.
     fn map(&self, event: Event) -> Result<Event, AllocError>
         ensures { IfOk result (λ made. made ≡ made_of self.now event) };
+
+    /// Puts the event that it makes of this one in its place, which spares a copy of each event that goes on as it is: see
+    /// [`Stage::change`]. A mapping need not do so: at false the event is as it was, and `map` takes it.
+    fn change(&self, alloc: Global, event: &mut Event) -> bool
+        ensures made { result ≡ true → event.new ≡ made_of self.now event.old }
+        ensures kept { result ≡ false → event.new ≡ event.old }
+    {
+        false
+    }
 }
 
 /// The inbound handler that hands on what a mapping makes of each event.
@@ -73,6 +82,14 @@ impl<M: Mapping> Stage for MapUp<M> {
         self.each.pass(event, up)
     }
 
+    fn change(&mut self, event: &mut Event, down: &mut Vec<Event>) -> Changed {
+        if self.each.change(*down.allocator(), event) {
+            Changed::Up
+        } else {
+            Changed::No
+        }
+    }
+
     ghost lawful = { λ s. mapping_up-lawful (M.made_of s.each.mapping) };
 }
 
@@ -90,6 +107,14 @@ impl<M: Mapping> Stage for MapDown<M> {
 
     fn step(&mut self, event: Event, _up: &mut Vec<Event>, down: &mut Vec<Event>) -> Stepped {
         self.each.pass(event, down)
+    }
+
+    fn change(&mut self, event: &mut Event, down: &mut Vec<Event>) -> Changed {
+        if self.each.change(*down.allocator(), event) {
+            Changed::Down
+        } else {
+            Changed::No
+        }
     }
 
     ghost lawful = { λ s. mapping_down-lawful (M.made_of s.each.mapping) };
@@ -134,6 +159,15 @@ impl<M: Mapping> OneForOne<M> {
                 Err(StageFault::Memory)
             }
         }
+    }
+
+    /// Puts what the mapping makes of the event in its place. At false, as once it is spent, the event is as it was.
+    fn change(&self, alloc: Global, event: &mut Event) -> bool
+        ensures made { result ≡ true → event.new ≡ M.made_of self.now.mapping event.old }
+        ensures kept { result ≡ false → event.new ≡ event.old }
+        ensures unspent { result ≡ true → self.now.is_spent ≡ false }
+    {
+        !self.is_spent && self.mapping.change(alloc, event)
     }
 
     /// Adds what the mapping makes of the event. An `Err` is out of memory, and adds nothing.

@@ -1,9 +1,11 @@
 //! What a handler of a pipeline is: the trait `Stage`, and its law.
 
-ghost use Rattle.std.specs.Prelude.{◌≡◌, Bool, false, true, List, [], ◌∷◌, ◌++◌, IfOk, IsErr, OnOk, OnErr};
+ghost use Rattle.std.specs.Prelude.{◌≡◌, ◌≢◌, Bool, false, true, List, [], ◌∷◌, ◌++◌, IfOk, IsErr, OnOk, OnErr};
 ghost use Rattle.pl_event.specs.declared.events.Event.{Event};
 ghost use Rattle.pl_event.specs.Meaning.{Meaning, IsLawful, IsPrefixOf, up_of, down_of, turned_after};
 ghost use Rattle.pl_event.specs.Paths.{is_turn, is_outbound};
+ghost use Rattle.pl_event.specs.Changes.{way_of, changed_up, changed_down};
+ghost use Rattle.pl_event.specs.declared.stages.Changed.TheVariants.{No, Down};
 
 use crate::events::Event;
 
@@ -49,6 +51,15 @@ pub enum Turned {
 pub enum StageFault {
     /// Out of memory.
     Memory,
+}
+
+/// Which way an event goes that a stage has changed in its place.
+#[derive(Clone, Copy, Debug, PartialEq, Eq)]
+pub enum Changed {
+    /// It has not been changed: it is still to be taken by a step.
+    No,
+    Up,
+    Down,
 }
 
 /// What a step of a stage answers: whether it has quit, or its fault.
@@ -127,6 +138,34 @@ pub trait Stage: Drop {
         ensures spent { is_spent self.old ≡ true → IsErr result }
         ensures up_kept { OnErr result (up.new.items ≡ up.old.items) }
         ensures down_kept { OnErr result (down.new.items ≡ down.old.items) };
+
+    /// Takes the next event as `step` does, where it makes one event of it that goes on, and stays open: it leaves that
+    /// event in its place, and answers which way it goes. What else goes down of an event that goes up is added to
+    /// `down`. It spares the lists of a step, and the copies.
+    ///
+    /// A context with room for what comes of it asks for a change first, and for a step where the answer is `No`; whole
+    /// lists are composed of steps alone. Any stage may answer so to any event, as where there is no memory; one that
+    /// doesn't implement this always does. Implement it where most steps hand one event on, as it is or another in its
+    /// place. Do first what may fail: at a `No` all is as it was.
+    fn change(&mut self, event: &mut Event, down: &mut Vec<Event>) -> Changed
+        ensures same_meaning { meaning self.new ≡ meaning self.old }
+
+        // Where it answers `No`, as it does once it is spent, nothing has changed.
+        ensures no { result ≡ No → (self.new ≡ self.old) × (event.new ≡ event.old) × (down.new.items ≡ down.old.items) }
+        ensures spent { is_spent self.old ≡ true → result ≡ No }
+
+        // Else it has taken the event. What stands in its place goes on in the stage's own way, downwards alone: that,
+        // and then what was added, is what this event makes.
+        ensures way { result ≢ No → result ≡ way_of (meaning self.old).direction }
+        ensures alone { result ≡ Down → down.new.items ≡ down.old.items }
+        ensures stands { result ≢ No → (xs : List Event) → stands_after self.old xs → stands_after self.new (xs ++ event.old ∷ []) }
+        ensures up { result ≢ No → (xs : List Event) → stands_after self.old xs → (meaning self.old).up xs event.old ≡ changed_up result event.new }
+        ensures down { result ≢ No → (made : List Event) × (down.new.items ≡ down.old.items ++ made) × ((xs : List Event) → stands_after self.old xs → (meaning self.old).down xs event.old ≡ changed_down result event.new ++ made) }
+        ensures open { result ≢ No → (xs : List Event) → stands_after self.old xs → (meaning self.old).ended (xs ++ event.old ∷ []) ≡ false }
+        ensures unspent { result ≢ No → is_spent self.new ≡ false }
+    {
+        Changed::No
+    }
 
     /// What every stage means keeps the law.
     ghost lawful: { (s : Self) → IsLawful (meaning s) };

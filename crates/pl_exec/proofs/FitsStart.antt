@@ -1,5 +1,5 @@
 -- Nodes that are executors' shares of channels before any move fit the lanes between them.
-use Rattle.std.proofs.Common.{◌≡◌, ℕ, ◌<◌, ◌≤◌, List, Some, length, map, slice_get, ap, sym, ◌∙◌, subst, arith, true}
+use Rattle.std.proofs.Common.{◌≡◌, ℕ, ◌<◌, ◌≤◌, List, Option, Some, length, map, slice_get, ap, sym, ◌∙◌, subst, arith, true}
 use Rattle.std.specs.List.{range_with_len}
 use Rattle.std.proofs.lemmas.List.{length-map}
 use Rattle.std.proofs.lemmas.List.FromFn.{length-map-range_with_len}
@@ -22,10 +22,10 @@ use Rattle.pl_exec.specs.declared.nodes.ExecutorNodes.{ExecutorNodes}
 use Rattle.pl_exec.specs.Lanes.{AreLaid}
 use Rattle.pl_exec.specs.ExecutorNodes.{AreOn, NodesStand, own_view}
 use Rattle.pl_exec.specs.Opening.{LaneTable, PlacesView, FitsLanes}
-use Rattle.pl_exec.specs.SessionWords.{AreHeadSeatsOf, AreUnused, ChannelNames, SeatsView, seats_marks}
+use Rattle.pl_exec.specs.SessionWords.{AreNewlySeated, ChannelNames, SeatsView}
 use Rattle.pl_exec.specs.Sharing.{AreGiven, AreSharesOf, AreShared, channels_on, places_at, places_of}
 use Rattle.pl_exec.specs.Starting.{FitExecutors}
-use Rattle.pl_exec.specs.Telling.{AreSeated, ExecutorStands, HaveMarks, plan_marks}
+use Rattle.pl_exec.specs.Telling.{AreSeated, ExecutorStands, plan_marks}
 use Rattle.pl_exec.proofs.ChannelRows.{on-exactly}
 use Rattle.pl_exec.proofs.ChannelsHere.{on-plan}
 use Rattle.pl_exec.proofs.Fits.{IsTable, numbered-at, shares-fit}
@@ -35,7 +35,7 @@ use Rattle.pl_exec.proofs.SharesStand.{shares-stand, shares-tell}
 module _ {S T : Type 0} (meaning : S → Meaning) (stands_after : S → List Event → Type 0) (state : T → TransportState) (world : World) (plan : Plan) (is_world : world ≡ world_of true plan) (rs : List (Recorded S T))
     (planned : plan.channels ≡ map (channel_planned meaning state) rs) (wholes : List (ChannelPartView S T)) (placed : ArePlaced meaning stands_after state rs wholes) (ruled : IsPlan plan) (few : plan.executors ≤ MAX_EXECUTORS)
     (lanes : LaneTable) (table : IsTable wholes plan.executors lanes) where
-  module _ (words : List ChannelNames) (heads : List SeatsView) (own : AreHeadSeatsOf words heads) (marks : HaveMarks heads plan.channels) (new : AreUnused heads) where
+  module _ (words : List ChannelNames) (heads : List (Option SeatsView)) (new : AreNewlySeated words (map plan_marks plan.channels) heads) where
     stand : (x : ℕ) (row : List ℕ) (nodes : ExecutorNodes S T) → x < plan.executors → row ≡ channels_on wholes x → AreSharesOf meaning stands_after state wholes x nodes → AreGiven words heads row nodes → ExecutorStands world plan meaning stands_after state nodes
     stand x row nodes below known are given = record {
       is_world = is_world;
@@ -43,15 +43,15 @@ module _ {S T : Type 0} (meaning : S → Meaning) (stands_after : S → List Eve
           (shares-stand meaning stands_after state plan rs planned wholes placed x nodes are few below);
       own = are.own;
       here = subst (λ (z : ℕ × List ℕ). AreOn (λ p. p.executors) plan.channels z.0 z.1) (λ i. (sym are.number i, sym (given.here ∙ known) i)) (on-plan state plan wholes x (channels_on wholes x) keeps (on-exactly wholes x));
-      seated = subst (λ (names : List ChannelNames). AreSeated names plan nodes.seats.items) (sym given.words_are) (all-seated heads nodes.parts.items nodes.seats.items given.seats size words plan ruled own marks);
-      told = shares-tell meaning stands_after state plan rs planned wholes placed x nodes are heads nodes.seats.items new given.seats size;
+      seated = subst (λ (names : List ChannelNames). AreSeated names plan nodes.seats.items) (sym given.words_are) (all-seated heads nodes.parts.items nodes.seats.items given.seats size words plan ruled new);
+      told = shares-tell meaning stands_after state plan rs planned wholes placed x nodes are heads nodes.seats.items (λ c s at. (new.each c s at).unused) given.seats size;
     }
       where
         keeps : PartsKeepPlan state plan wholes
         keeps = starts-keep meaning stands_after state plan rs planned wholes placed
 
         size : length heads ≡ length nodes.parts.items
-        size = sym (length-map heads seats_marks) ∙ ap length marks ∙ length-map plan.channels plan_marks ∙ sym (are.count ∙ keeps.count)
+        size = new.count ∙ length-map plan.channels plan_marks ∙ sym (are.count ∙ keeps.count)
 
     pub fit-all : AreLaid wholes → (rows : List (List ℕ)) (nodes : List (ExecutorNodes S T)) (places : List PlacesView) → rows ≡ map (channels_on wholes) (range_with_len 0 plan.executors)
         → AreShared meaning stands_after state wholes words heads rows nodes → places ≡ places_of wholes plan.executors → FitExecutors world plan meaning stands_after state lanes nodes places

@@ -6,7 +6,6 @@ use Rattle.std.specs.Option.{option_map_or}
 use Rattle.std.proofs.lemmas.Bool.{cases_eq, cases_lt, eq-eqb, ne_eqb, lt-ltb, le-ltb, false≢true}
 use Rattle.std.proofs.lemmas.List.Concat.{length-flat_map}
 use Rattle.std.proofs.lemmas.List.Elements.{All-head, All-tail}
-use Rattle.std.proofs.lemmas.List.Folds.{list_any_at}
 use Rattle.std.proofs.lemmas.List.FromFn.{length-range_with_len}
 use Rattle.std.proofs.lemmas.List.Sums.{sum_by-cons, sum_by-append, sum_by-le}
 use Rattle.pl_build.specs.declared.limits.TheConstants.{MAX_HANDLERS}
@@ -14,7 +13,6 @@ use Rattle.pl_event.specs.declared.envelopes.Kind.{Kind}
 use Rattle.pl_event.specs.declared.envelopes.Kind.TheVariants.{Data, Flags}
 use Rattle.pl_event.specs.declared.envelopes.Lane.{Lane}
 use Rattle.pl_event.specs.Hops.{data_lane, flags_lane, same_kind, same_lane}
-use Rattle.pl_event.proofs.SameLanes.{same_lane-self}
 use Rattle.pl_part.specs.Parts.{ChannelPartView}
 use Rattle.pl_queue.specs.Views.{has_lane}
 use Rattle.pl_channel.specs.Channels.{is_hop}
@@ -167,12 +165,6 @@ module _ {S T : Type 0} (ps : List (ChannelPartView S T)) where
 
   pub every-has : (l : Lane) → has_lane l (every_lane ps) ≡ is_lane ps l
   every-has l = has-times l (every_lane ps) ∙ ap (nat_lt 0) (every-once l) ∙ elim (is_lane ps l) as (λ b. nat_lt 0 (cond b 1 0) ≡ b) [ true ↦ refl | false ↦ refl ]
-
-  -- nothing else does
-  pub every-is : All (λ l. is_lane ps l ≡ true) (every_lane ps)
-  every-is k d within =
-      let l = get_or (every_lane ps) k d in
-      sym (every-has l) ∙ has-any l (every_lane ps) ∙ list_any_at (same_lane l) (every_lane ps) k d within (same_lane-self l)
 
 -- ---- how many they are
 

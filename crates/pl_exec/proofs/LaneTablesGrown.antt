@@ -1,16 +1,20 @@
 -- A table of lanes to which one lane after another is added.
-use Rattle.std.proofs.Common.{◌≡◌, ◌≢◌, ℕ, ◌+◌, ◌<◌, ◌==◌, ◌&&◌, not, Bool, true, false, cond, List, [], ◌∷◌, ◌++◌, length, map, filter, take, get_or, set, refl, ap, sym, ◌∙◌, ⊎_elim, arith}
+use Rattle.std.proofs.Common.{◌≡◌, ◌≢◌, ℕ, ◌+◌, ◌<◌, ◌==◌, ◌&&◌, not, Bool, true, false, cond, List, [], ◌∷◌, ◌++◌, length, map, filter, get_or, set, slice_get, Option, Some, append_assoc, refl, ap, sym, ◌∙◌, ⊎_elim, arith}
+use Rattle.std.specs.Prelude.{if◌then◌else◌}
 use Rattle.std.specs.List.{range_with_len}
+use Rattle.std.specs.Option.{option_map_or}
 use Rattle.std.specs.Global.{Vec}
 use Rattle.std.proofs.lemmas.Bool.{and_from, and_parts, cases_Bool, cases_eq, eq-eqb, eqb-true, false≢true, ne_eqb}
 use Rattle.std.proofs.lemmas.List.{append-nil, get_or-map, get_or-set_other, get_or-set_same, length-map, length-set, map-set}
-use Rattle.std.proofs.lemmas.List.Elements.{All-map, filter_more}
+use Rattle.std.proofs.lemmas.List.Elements.{All-map, filter-append}
 use Rattle.std.proofs.lemmas.List.FromFn.{fill_by_all, get_or-map-range_with_len, length-map-range_with_len}
 use Rattle.pl_event.specs.declared.envelopes.Lane.{Lane}
+use Rattle.pl_event.specs.Hops.{data_lane, flags_lane}
 use Rattle.pl_part.specs.Parts.{ChannelPartView}
-use Rattle.pl_channel.specs.Channels.{origin_of, target_of}
+use Rattle.pl_part.specs.Paths.{writer_hop}
+use Rattle.pl_channel.specs.Channels.{executor_at, origin_of, target_of}
 use Rattle.pl_exec.specs.Opening.{LaneTable, IsSquare, lanes_in, lanes_to, table_lanes}
-use Rattle.pl_exec.specs.Lanes.{crosses, table_of, with_lane, with_last}
+use Rattle.pl_exec.specs.Lanes.{crosses, lanes_at, table_of, with_lane, with_lanes, with_last}
 
 -- ---- one lane more
 
@@ -45,6 +49,14 @@ module _ (sender target : ℕ) (lane : Lane) where
 
   same-list : (ls : List Lane) (x y : ℕ) → comes sender target x y ≡ false → ls ≡ ls ++ cond (comes sender target x y) (lane ∷ []) []
   same-list ls x y e = sym (append-nil ls) ∙ ap (λ b. ls ++ cond b (lane ∷ []) []) (sym e)
+
+  -- the table stays square
+  pub with-square : (table : LaneTable) → IsSquare (with_lane table sender target lane)
+  with-square table =
+      let list = λ (y x : ℕ). table_lanes table x y ++ cond (comes sender target x y) (lane ∷ []) [] in
+      let row = λ (y : ℕ). map (list y) (range_with_len 0 (length table)) in
+      All-map (λ r. length r ≡ length (with_lane table sender target lane)) row (range_with_len 0 (length table))
+      (λ k d below. length-map-range_with_len (list (get_or (range_with_len 0 (length table)) k d)) 0 (length table) ∙ sym (length-map-range_with_len row 0 (length table)))
 
   -- where it has no way, nothing is added
   pub kept-table : (table : LaneTable) → IsSquare table → (sender ≢ target → sender < length table → target < length table → ⊥) → table ≡ with_lane table sender target lane
@@ -147,24 +159,47 @@ module _ {S T : Type 0} (ps : List (ChannelPartView S T)) (lanes : List Lane) (c
   pub made-between : (x y : ℕ) → x < count → y < count → table_lanes (table_of ps count lanes) x y ≡ filter (crosses ps x y) lanes
   made-between x y from to = ap (λ senders. get_or senders x []) (made-row y to) ∙ get_or-map-range_with_len (λ x. filter (crosses ps x y) lanes) 0 count x x [] from (omega arith)
 
--- ---- one lane more is added to the table of those before
+-- ---- the lanes of a hop are added to the table of those before
 
-module _ {S T : Type 0} (ps : List (ChannelPartView S T)) (lanes : List Lane) (count i : ℕ) (d : Lane) (within : i < length lanes) where
-  abbrev next : Lane
-  next = get_or lanes i d
-
-  next-table : with_lane (table_of ps count (take i lanes)) (origin_of ps next) (target_of ps next) next ≡ table_of ps count (take (i + 1) lanes)
-  next-table =
-      let size = made-length ps (take i lanes) count in
+module _ {S T : Type 0} (ps : List (ChannelPartView S T)) (count : ℕ) where
+  next-table : (done : List Lane) (l : Lane) → with_lane (table_of ps count done) (origin_of ps l) (target_of ps l) l ≡ table_of ps count (done ++ l ∷ [])
+  next-table done l =
+      let size = made-length ps done count in
       sym
-      (as-grown (origin_of ps next) (target_of ps next) next (table_of ps count (take i lanes)) (table_of ps count (take (i + 1) lanes)) (made-length ps (take (i + 1) lanes) count ∙ sym size)
-      (made-square ps (take (i + 1) lanes) count)
+      (as-grown (origin_of ps l) (target_of ps l) l (table_of ps count done) (table_of ps count (done ++ l ∷ [])) (made-length ps (done ++ l ∷ []) count ∙ sym size)
+      (made-square ps (done ++ l ∷ []) count)
       (λ x y under below.
       let from : x < count = omega (arith, under, size) in
       let to : y < count = omega (arith, below, size) in
-      made-between ps (take (i + 1) lanes) count x y from to
-      ∙ filter_more (crosses ps x y) lanes i d within
-      ∙ ap (λ ls. ls ++ cond (crosses ps x y next) (next ∷ []) []) (sym (made-between ps (take i lanes) count x y from to))))
+      made-between ps (done ++ l ∷ []) count x y from to
+      ∙ filter-append (crosses ps x y) done (l ∷ [])
+      ∙ ap (λ ls. ls ++ cond (crosses ps x y l) (l ∷ []) []) (sym (made-between ps done count x y from to))))
 
-  pub grown-table : (before after : LaneTable) → before ≡ table_of ps count (take i lanes) → after ≡ with_lane before (origin_of ps next) (target_of ps next) next → after ≡ table_of ps count (take (i + 1) lanes)
-  grown-table before after was grown = grown ∙ ap (λ (t : LaneTable). with_lane t (origin_of ps next) (target_of ps next) next) was ∙ next-table
+  module _ (channel hops hop : ℕ) (p : ChannelPartView S T) (at : slice_get ps channel ≡ Some p) where
+    abbrev from : ℕ
+    from = executor_at p (writer_hop p.path hop)
+
+    abbrev to : ℕ
+    to = executor_at p hop
+
+    next-lane : (done : List Lane) (l : Lane) → l.channel ≡ channel → l.hop ≡ hop → with_lane (table_of ps count done) from to l ≡ table_of ps count (done ++ l ∷ [])
+    next-lane done l is-channel is-hop =
+        let found : slice_get ps l.channel ≡ Some p = ap (slice_get ps) is-channel ∙ at in
+        let sender : from ≡ origin_of ps l =
+        ap (λ (h : ℕ). executor_at p (writer_hop p.path h)) (sym is-hop) ∙ ap (λ (o : Option (ChannelPartView S T)). option_map_or (λ (q : ChannelPartView S T). executor_at q (writer_hop q.path l.hop)) o 0) (sym found) in
+        let target : to ≡ target_of ps l =
+        ap (λ (h : ℕ). executor_at p h) (sym is-hop) ∙ ap (λ (o : Option (ChannelPartView S T)). option_map_or (λ (q : ChannelPartView S T). executor_at q l.hop) o 0) (sym found) in
+        (λ i. with_lane (table_of ps count done) (sender i) (target i) l) ∙ next-table done l
+
+    abbrev hop-lanes : Bool → List Lane
+    hop-lanes last = if last then data_lane channel hop ∷ [] else data_lane channel hop ∷ flags_lane channel hop ∷ []
+
+    next-lanes : (done : List Lane) (last : Bool) → with_lanes (table_of ps count done) from to (hop-lanes last) ≡ table_of ps count (done ++ hop-lanes last)
+    next-lanes done true = next-lane done (data_lane channel hop) refl refl
+    next-lanes done false =
+        ap (λ (t : LaneTable). with_lane t from to (flags_lane channel hop)) (next-lane done (data_lane channel hop) refl refl)
+        ∙ next-lane (done ++ data_lane channel hop ∷ []) (flags_lane channel hop) refl refl
+        ∙ ap (λ (ls : List Lane). table_of ps count ls) (append_assoc done (data_lane channel hop ∷ []) (flags_lane channel hop ∷ []))
+
+    pub next-hop : (done : List Lane) → with_lanes (table_of ps count done) from to (lanes_at channel hops hop) ≡ table_of ps count (done ++ lanes_at channel hops hop)
+    next-hop done = next-lanes done (hop + 1 == hops)

@@ -1,20 +1,14 @@
--- Lists that are made element by element, and where lanes go.
-use Rattle.std.proofs.Common.{◌≡◌, ℕ, ◌+◌, ◌<◌, ◌≤◌, true, false, List, [], ◌∷◌, ◌++◌, length, map, drop, get_or, refl, inl, inr, ap, sym, subst, ◌∙◌, arith, add-one, append_assoc, drop-cons}
+-- Lists that are made element by element, and the lanes of channels.
+use Rattle.std.proofs.Common.{◌≡◌, ℕ, ◌+◌, ◌<◌, ◌≤◌, List, [], ◌∷◌, ◌++◌, length, map, take, get_or, ap, sym, subst, ◌∙◌, arith, append_assoc}
 use Rattle.std.specs.List.{flat_map, range_with_len}
-use Rattle.std.specs.Option.{option_map_or}
-use Rattle.std.proofs.lemmas.Bool.{cases_lt, false≢true}
-use Rattle.std.proofs.lemmas.List.{append-nil, drop_all, map-id, map_push}
+use Rattle.std.proofs.lemmas.List.{append-nil, length-take-le, map-id, map_push, take_more}
 use Rattle.std.proofs.lemmas.List.Concat.{flat_map-append}
 use Rattle.std.proofs.lemmas.List.FromFn.{map-range_with_len_more}
-use Rattle.std.proofs.lemmas.Option.{slice_get_past, slice_get_read}
 use Rattle.pl_event.specs.declared.envelopes.Lane.{Lane}
-use Rattle.pl_part.specs.Paths.{writer_hop}
 use Rattle.pl_part.specs.Parts.{ChannelPartView}
-use Rattle.pl_channel.specs.Channels.{executor_at, is_hop, origin_of, target_of}
 use Rattle.pl_build.specs.declared.limits.TheConstants.{MAX_HANDLERS}
 use Rattle.pl_channel.specs.Ways.{HasExecutors}
-use Rattle.pl_exec.specs.Lanes.{AreLaid, every_lane, is_lane, lanes_at, lanes_from}
-use Rattle.pl_exec.proofs.LaneTablesEvery.{there-past}
+use Rattle.pl_exec.specs.Lanes.{AreLaid, every_lane, lanes_at, lanes_from}
 
 -- one number more
 range-more : (n : ℕ) → range_with_len 0 (n + 1) ≡ range_with_len 0 n ++ n ∷ []
@@ -36,49 +30,36 @@ made-more view f before after new n was grown is =
     ∙ (λ i. was i ++ is i ∷ [])
     ∙ sym (map-range_with_len_more f 0 n n (omega arith))
 
-module _ {S T : Type 0} (ps : List (ChannelPartView S T)) where
-  -- the channel of a lane is there
-  pub lane-within : (l : Lane) → is_lane ps l ≡ true → l.channel < length ps
-  lane-within l is = elim (cases_lt l.channel (length ps)) [
-    | inl below ↦ below
-    | inr past ↦ absurd (false≢true (ap (λ o. option_map_or (λ (p : ChannelPartView S T). is_hop p l) o false) (sym (slice_get_past ps l.channel past)) ∙ is))
-  ]
+-- the lanes of a channel with so many hops
+abbrev lanes-of : ℕ → ℕ → List Lane
+lanes-of hops channel = flat_map (lanes_at channel hops) (range_with_len 0 hops)
 
-  -- and has executors, one of them at the lane's hop
-  pub lane-executors : (l : Lane) (p : ChannelPartView S T) → AreLaid ps → is_lane ps l ≡ true → p ≡ get_or ps l.channel p → HasExecutors p
-  lane-executors l p laid is here = subst HasExecutors (sym here) (laid.hops l.channel p (lane-within l is))
+-- those of the last channel come last
+lanes_from-push : {S T : Type 0} (channel : ℕ) (ps : List (ChannelPartView S T)) (p : ChannelPartView S T) → lanes_from channel (ps ++ p ∷ []) ≡ lanes_from channel ps ++ lanes-of (length p.path.executors) (channel + length ps)
+lanes_from-push channel [] p =
+    let same : channel ≡ channel + 0 = omega arith in
+    append-nil (lanes-of (length p.path.executors) channel) ∙ ap (lanes-of (length p.path.executors)) same
+lanes_from-push channel (q ∷ ps) p =
+    let first = lanes-of (length q.path.executors) channel in
+    let same : channel + 1 + length ps ≡ channel + length (q ∷ ps) = omega arith in
+    ap (λ (ls : List Lane). first ++ ls) (lanes_from-push (channel + 1) ps p)
+    ∙ sym (append_assoc first (lanes_from (channel + 1) ps) (lanes-of (length p.path.executors) (channel + 1 + length ps)))
+    ∙ ap (λ (c : ℕ). (first ++ lanes_from (channel + 1) ps) ++ lanes-of (length p.path.executors) c) same
 
-  pub lane-hop : (l : Lane) (p : ChannelPartView S T) → is_lane ps l ≡ true → p ≡ get_or ps l.channel p → l.hop < length p.path.executors
-  lane-hop l p is here =
-      let at = slice_get_read ps (length ps) l.channel p refl (lane-within l is) here in
-      let hop = sym (ap (λ o. option_map_or (λ (q : ChannelPartView S T). is_hop q l) o false) at) ∙ is in
-      elim (cases_lt l.hop (length p.path.executors)) [
-        | inl below ↦ below
-        | inr past ↦ absurd (false≢true (sym (there-past l (length p.path.executors) past) ∙ hop))
-      ]
+module _ {S T : Type 0} (ps : List (ChannelPartView S T)) (i : ℕ) (p : ChannelPartView S T) (within : i < length ps) (here : p ≡ get_or ps i p) where
+  -- the lanes of the first channels, with those of one channel more
+  pub channel-more : every_lane (take i ps) ++ flat_map (lanes_at i (length p.path.executors)) (range_with_len 0 (length p.path.executors)) ≡ every_lane (take (i + 1) ps)
+  channel-more =
+      let size = length-take-le i ps (omega (arith, within)) in
+      let place : i ≡ 0 + length (take i ps) = omega (arith, size) in
+      ap (λ (c : ℕ). every_lane (take i ps) ++ lanes-of (length p.path.executors) c) place
+      ∙ sym (lanes_from-push 0 (take i ps) p)
+      ∙ ap (λ (q : ChannelPartView S T). every_lane (take i ps ++ q ∷ [])) here
+      ∙ ap (λ (qs : List (ChannelPartView S T)). every_lane qs) (sym (take_more ps i p within))
 
-  -- a channel has few executors
-  pub few-executors : (i : ℕ) (p : ChannelPartView S T) → AreLaid ps → i < length ps → p ≡ get_or ps i p → length p.path.executors ≤ MAX_HANDLERS + 2
-  few-executors i p laid within here = subst (λ (q : ChannelPartView S T). length q.path.executors ≤ MAX_HANDLERS + 2) (sym here) (laid.few i p within)
+  -- it has executors, and few
+  pub channel-executors : AreLaid ps → HasExecutors p
+  channel-executors laid = subst HasExecutors (sym here) (laid.hops i p within)
 
-  -- the lanes of the first channels are made, and those of one channel more
-  pub channels-more : (lanes after : List Lane) (i channel hops : ℕ) (p : ChannelPartView S T) → i < length ps → p ≡ get_or ps i p → channel ≡ i → hops ≡ length p.path.executors
-      → lanes ++ lanes_from i (drop i ps) ≡ every_lane ps → after ≡ lanes ++ flat_map (lanes_at channel hops) (range_with_len 0 hops) → after ++ lanes_from (i + 1) (drop (i + 1) ps) ≡ every_lane ps
-  channels-more lanes after i channel hops p within read at count was grown =
-      let left = drop (i + 1) ps in
-      let front : drop i ps ≡ p ∷ left = drop-cons ps i p within ∙ (λ k. sym read k ∷ drop (sym (add-one i) k) ps) in
-      ap (λ ls. ls ++ lanes_from (i + 1) left) grown
-      ∙ append_assoc lanes (flat_map (lanes_at channel hops) (range_with_len 0 hops)) (lanes_from (i + 1) left)
-      ∙ (λ k. lanes ++ (flat_map (lanes_at (at k) (count k)) (range_with_len 0 (count k)) ++ lanes_from (i + 1) left))
-      ∙ ap (λ qs. lanes ++ lanes_from i qs) (sym front) ∙ was
-
-  -- those of all are
-  pub channels-all : (lanes : List Lane) (i : ℕ) → length ps ≤ i → lanes ++ lanes_from i (drop i ps) ≡ every_lane ps → lanes ≡ every_lane ps
-  channels-all lanes i all was = sym (append-nil lanes) ∙ ap (λ qs. lanes ++ lanes_from i qs) (sym (drop_all i ps all)) ∙ was
-
-  -- a lane goes where its hop does
-  pub origin-there : (l : Lane) (p : ChannelPartView S T) → is_lane ps l ≡ true → p ≡ get_or ps l.channel p → executor_at p (writer_hop p.path l.hop) ≡ origin_of ps l
-  origin-there l p is here = ap (λ o. option_map_or (λ (q : ChannelPartView S T). executor_at q (writer_hop q.path l.hop)) o 0) (sym (slice_get_read ps (length ps) l.channel p refl (lane-within l is) here))
-
-  pub target-there : (l : Lane) (p : ChannelPartView S T) → is_lane ps l ≡ true → p ≡ get_or ps l.channel p → executor_at p l.hop ≡ target_of ps l
-  target-there l p is here = ap (λ o. option_map_or (λ (q : ChannelPartView S T). executor_at q l.hop) o 0) (sym (slice_get_read ps (length ps) l.channel p refl (lane-within l is) here))
+  pub channel-few : AreLaid ps → length p.path.executors ≤ MAX_HANDLERS + 2
+  channel-few laid = subst (λ (q : ChannelPartView S T). length q.path.executors ≤ MAX_HANDLERS + 2) (sym here) (laid.few i p within)

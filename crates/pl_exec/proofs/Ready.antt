@@ -1,5 +1,5 @@
 -- What is true of channels that are ready to start.
-use Rattle.std.proofs.Common.{◌≡◌, ℕ, suc, ◌+◌, ◌<◌, ◌≤◌, ◌^◌, List, [], ◌∷◌, length, map, slice_get, Some, refl, ap, ap₂, sym, ◌∙◌, subst, arith, true}
+use Rattle.std.proofs.Common.{◌≡◌, ℕ, suc, ◌+◌, ◌<◌, ◌≤◌, ◌^◌, List, [], ◌∷◌, length, map, slice_get, Option, Some, refl, ap, ap₂, sym, ◌∙◌, subst, arith, true}
 use Rattle.std.specs.Prelude.{All}
 use Rattle.std.specs.List.{AllZip, range_with_len}
 use Rattle.std.specs.Option.{option_map}
@@ -21,10 +21,10 @@ use Rattle.pl_world.specs.Plans.{Plan, channel_planned}
 use Rattle.pl_exec.specs.declared.nodes.ExecutorNodes.{ExecutorNodes}
 use Rattle.pl_exec.specs.Lanes.{AreLaid, lane_table}
 use Rattle.pl_exec.specs.Opening.{LaneTable, PlacesView, IsSquare, CanOpen, CanOpenAll, IsFirst}
-use Rattle.pl_exec.specs.SessionWords.{AreHeadSeatsOf, AreUnused, ChannelNames, SeatsView}
+use Rattle.pl_exec.specs.SessionWords.{AreNewlySeated, ChannelNames, SeatsView}
 use Rattle.pl_exec.specs.Sharing.{AreShared, channels_on, places_of}
 use Rattle.pl_exec.specs.Starting.{AreReady, FitExecutors}
-use Rattle.pl_exec.specs.Telling.{HaveMarks}
+use Rattle.pl_exec.specs.Telling.{plan_marks}
 use Rattle.pl_exec.proofs.Fits.{IsTable}
 use Rattle.pl_exec.proofs.FitsStart.{fit-all}
 use Rattle.pl_exec.proofs.LaneTables.{table-square, table-length, table-open, crossing-there, entering-crosses}
@@ -101,9 +101,9 @@ module _ {S T : Type 0} (meaning : S → Meaning) (stands_after : S → List Eve
   table-is = subst (λ (z : ℕ × LaneTable). IsTable parts z.0 z.1) (λ i. (all i, sym are i))
       (record { size = table-length parts count; crossing = crossing-there parts count; entering = entering-crosses parts count })
 
-  pub ready-fit : (world : World) → world ≡ world_of true plan → (words : List ChannelNames) (heads : List SeatsView) → AreHeadSeatsOf words heads → HaveMarks heads plan.channels → AreUnused heads
+  pub ready-fit : (world : World) → world ≡ world_of true plan → (words : List ChannelNames) (heads : List (Option SeatsView)) → AreNewlySeated words (map plan_marks plan.channels) heads
       → (rows : List (List ℕ)) (nodes : List (ExecutorNodes S T)) (places : List PlacesView) → rows ≡ map (channels_on parts) (range_with_len 0 count) → AreShared meaning stands_after state parts words heads rows nodes → places ≡ places_of parts count
       → FitExecutors world plan meaning stands_after state lanes nodes places
-  ready-fit world is_world words heads own marks new rows nodes places known shared reserved =
-      fit-all meaning stands_after state world plan is_world ready.recorded ready.planned parts ready.placed ready.ruled ready.executors lanes table-is words heads own marks new
+  ready-fit world is_world words heads new rows nodes places known shared reserved =
+      fit-all meaning stands_after state world plan is_world ready.recorded ready.planned parts ready.placed ready.ruled ready.executors lanes table-is words heads new
       (ready-laid meaning stands_after state plan parts ready) rows nodes places (known ∙ ap (λ (n : ℕ). map (channels_on parts) (range_with_len 0 n)) all) shared (reserved ∙ ap (places_of parts) all)

@@ -1,10 +1,10 @@
 -- By channel the seats on its words, while the nodes stand.
-use Rattle.std.proofs.Common.{◌≡◌, ◌≢◌, ℕ, ◌-◌, ◌<◌, Bool, List, [], drop, length, map, set, slice_get, Option, Some, None, refl, ap, sym, ◌∙◌, subst, arith, inl, inr, ⊎_elim}
+use Rattle.std.proofs.Common.{◌≡◌, ◌≢◌, ℕ, zero, suc, ◌-◌, ◌<◌, Bool, List, [], drop, length, map, replicate, set, slice_get, Option, Some, None, refl, ap, sym, ◌∙◌, subst, arith, inl, inr, ⊎_elim}
 use Rattle.std.specs.Prelude.{◌∷◌, is_some, slice_set}
 use Rattle.std.specs.Option.{option_map, option_map_or}
 use Rattle.std.proofs.lemmas.Bool.{cases_eq}
 use Rattle.std.proofs.lemmas.Bool.Decides.{eqb_tells}
-use Rattle.std.proofs.lemmas.List.{length-map, length-set, set-get_or}
+use Rattle.std.proofs.lemmas.List.{length-map, length-replicate, length-set, set-get_or}
 use Rattle.std.proofs.lemmas.Option.{none-some, same_Some, slice_get-map, slice_get_within, get_or_from_slice_get}
 use Rattle.pl_event.specs.declared.events.Event.{Event}
 use Rattle.pl_event.specs.declared.outcomes.Cause.{Cause}
@@ -25,9 +25,9 @@ use Rattle.pl_world.specs.declared.session.Recorded.{Recorded}
 use Rattle.pl_world.specs.Plans.{ChannelPlan, Plan, channel_planned}
 use Rattle.pl_world.specs.PlanRules.{IsChannelPlan, IsPlan}
 use Rattle.pl_exec.specs.ExecutorNodes.{NodesStand}
-use Rattle.pl_exec.specs.SessionWords.{ChannelNames, SeatsView, AreSeatsOf, AreHeadSeatsOf, new_seats, recorded_marks, seats_marks, seats_names}
+use Rattle.pl_exec.specs.SessionWords.{ChannelNames, SeatsView, AreHeadSeatsOf, AreNewlySeated, AreSeatsOf, AreUnused, IsUnused, recorded_marks, seats_marks, seats_names}
 use Rattle.pl_exec.specs.Sharing.{AreDealt}
-use Rattle.pl_exec.specs.Telling.{AreSeated, HaveMarks, IsSeated, IsToldAt, KeepsOthers, Tells, TellsAt, plan_marks}
+use Rattle.pl_exec.specs.Telling.{AreSeated, IsSeated, IsToldAt, KeepsOthers, Tells, TellsAt, plan_marks}
 
 -- ---- what was told
 
@@ -138,7 +138,7 @@ module _ (words : List ChannelNames) (plan : Plan) (seats : List (Option SeatsVi
 -- ---- seats that nobody has used
 
 -- they tell how a new head stands
-pub new-tells : {T : Type 0} (state : T → TransportState) (number : ℕ) (p : ChannelPlan) (transport : T) (h : HeadView T) (s : SeatsView) → IsNewHead state number p transport h → s ≡ new_seats (seats_names s) s.mark.low s.mark.high → Tells s h
+pub new-tells : {T : Type 0} (state : T → TransportState) (number : ℕ) (p : ChannelPlan) (transport : T) (h : HeadView T) (s : SeatsView) → IsNewHead state number p transport h → IsUnused s → Tells s h
 new-tells state number p transport h s head seats =
     let after = subst (λ (f : Option Cause). BufferAfter f (state h.transport).accepted h.buffer [] [] (is_over h.standing) []) head.failure head.after in
     record {
@@ -148,41 +148,67 @@ new-tells state number p transport h s head seats =
     }
 
 -- those of an executor are those of the channels of their numbers
-module _ {S T : Type 0} (heads : List SeatsView) (ps : List (ChannelPartView S T)) (seats : List (Option SeatsView)) (dealt : AreDealt heads ps seats) (same : length heads ≡ length ps) where
-  pub dealt-at : (c : ℕ) (s : SeatsView) → slice_get seats c ≡ Some (Some s) → slice_get heads c ≡ Some s
+module _ {S T : Type 0} (heads : List (Option SeatsView)) (ps : List (ChannelPartView S T)) (seats : List (Option SeatsView)) (dealt : AreDealt heads ps seats) (same : length heads ≡ length ps) where
+  pub dealt-at : (c : ℕ) (s : SeatsView) → slice_get seats c ≡ Some (Some s) → slice_get heads c ≡ Some (Some s)
   dealt-at c s at =
       let within = slice_get_within seats c (Some s) at in
       let size = dealt.count in
       let one = at-index heads c (omega (arith, within, size)) in
       let p = at-index ps c (omega (arith, within, size, same)) in
-      one.1 ∙ only-some (is_some p.0.head) (Some one.0) s (sym (dealt.each c one.0 p.0 (Some s) one.1 p.1 at))
+      one.1 ∙ ap (λ (o : Option SeatsView). Some o) (only-some (is_some p.0.head) one.0 s (sym (dealt.each c one.0 p.0 (Some s) one.1 p.1 at)))
 
-  pub all-seated : (words : List ChannelNames) (plan : Plan) → IsPlan plan → AreHeadSeatsOf words heads → HaveMarks heads plan.channels → AreSeated words plan seats
-  all-seated words plan ruled own marks = record {
-    count = dealt.count ∙ sym (length-map heads seats_marks) ∙ ap length marks ∙ length-map plan.channels plan_marks;
-    each = λ c s at. each c s (dealt-at c s at);
+  pub all-seated : (words : List ChannelNames) (plan : Plan) → IsPlan plan → AreNewlySeated words (map plan_marks plan.channels) heads → AreSeated words plan seats
+  all-seated words plan ruled new = record {
+    count = dealt.count ∙ new.count ∙ length-map plan.channels plan_marks;
+    each = λ c s at.
+        let here = dealt-at c s at in
+        let seat = new.each c s here in
+        let within = slice_get_within heads c (Some s) here in
+        let counts = new.count in
+        let sizes = length-map plan.channels plan_marks in
+        let q = at-index plan.channels c (omega (arith, within, counts, sizes)) in
+        let same-marks : (p : ChannelPlan) → slice_get plan.channels c ≡ Some p → seats_marks s ≡ plan_marks p =
+        λ p planned. same_Some (seats_marks s) (plan_marks p) (sym seat.marked ∙ slice_get-map plan_marks plan.channels c ∙ ap (option_map plan_marks) planned) in
+        record {
+          own = seat.own;
+          marks = λ p planned. let e = same-marks p planned in (ap (λ (m : ℕ × ℕ). m.0) e, ap (λ (m : ℕ × ℕ). m.1) e);
+          ordered =
+              let e = same-marks q.0 q.1 in
+              let low = ap (λ (m : ℕ × ℕ). m.0) e in
+              let high = ap (λ (m : ℕ × ℕ). m.1) e in
+              let o = (All-at (IsChannelPlan plan.executors) plan.channels c q.0 ruled.channels q.1).marks in
+              omega (arith, low, high, o);
+        };
   }
-    where
-      same-marks : (c : ℕ) (s : SeatsView) (p : ChannelPlan) → slice_get heads c ≡ Some s → slice_get plan.channels c ≡ Some p → seats_marks s ≡ plan_marks p
-      same-marks c s p at planned =
-          same_Some (seats_marks s) (plan_marks p)
-          (sym (slice_get-map seats_marks heads c ∙ ap (option_map seats_marks) at) ∙ ap (λ (l : List (ℕ × ℕ)). slice_get l c) marks ∙ slice_get-map plan_marks plan.channels c ∙ ap (option_map plan_marks) planned)
 
-      each : (c : ℕ) (s : SeatsView) → slice_get heads c ≡ Some s → IsSeated words plan c s
-      each c s at =
-          let within = slice_get_within heads c s at in
-          let size = length-map heads seats_marks in
-          let sizes = length-map plan.channels plan_marks in
-          let both = ap length marks in
-          let q = at-index plan.channels c (omega (arith, within, size, sizes, both)) in
-          let rule = All-at (IsChannelPlan plan.executors) plan.channels c q.0 ruled.channels q.1 in
-          let own_marks = same-marks c s q.0 at q.1 in
-          record {
-            own = ap (λ (l : List ChannelNames). slice_get l c) (sym own) ∙ slice_get-map seats_names heads c ∙ ap (option_map seats_names) at;
-            marks = λ p planned. let e = same-marks c s p at planned in (ap (λ (m : ℕ × ℕ). m.0) e, ap (λ (m : ℕ × ℕ). m.1) e);
-            ordered =
-                let low = ap (λ (m : ℕ × ℕ). m.0) own_marks in
-                let high = ap (λ (m : ℕ × ℕ). m.1) own_marks in
-                let o = rule.marks in
-                omega (arith, low, high, o);
-          }
+-- ---- the seats with which a run starts
+
+-- those of all channels
+pub each-new : (words : List ChannelNames) (marks : List (ℕ × ℕ)) (heads : List SeatsView) (seats : List (Option SeatsView)) → seats ≡ map (λ (s : SeatsView). Some s) heads → AreHeadSeatsOf words heads → map seats_marks heads ≡ marks → AreUnused heads
+    → AreNewlySeated words marks seats
+each-new words marks heads seats are own marked unused = subst (AreNewlySeated words marks) (sym are) (record {
+  count = length-map heads (λ (s : SeatsView). Some s) ∙ sym (length-map heads seats_marks) ∙ ap (λ (ms : List (ℕ × ℕ)). length ms) marked;
+  each = λ c s at.
+      let one = at-index heads c (let within = slice_get_within (map (λ (s : SeatsView). Some s) heads) c (Some s) at in let size = length-map heads (λ (s : SeatsView). Some s) in omega (arith, within, size)) in
+      let here : Some one.0 ≡ Some s = same_Some (Some one.0) (Some s) (sym (slice_get-map (λ (s : SeatsView). Some s) heads c ∙ ap (option_map (λ (s : SeatsView). Some s)) one.1) ∙ at) in
+      let there : slice_get heads c ≡ Some s = one.1 ∙ here in
+      record {
+        own = ap (λ (l : List ChannelNames). slice_get l c) (sym own) ∙ slice_get-map seats_names heads c ∙ ap (option_map seats_names) there;
+        marked = ap (λ (l : List (ℕ × ℕ)). slice_get l c) (sym marked) ∙ slice_get-map seats_marks heads c ∙ ap (option_map seats_marks) there;
+        unused = All-at IsUnused heads c s unused there;
+      };
+})
+
+-- those of none
+pub none-new : (words : List ChannelNames) (marks : List (ℕ × ℕ)) (n : ℕ) (seats : List (Option SeatsView)) → seats ≡ replicate n None → n ≡ length marks → AreNewlySeated words marks seats
+none-new words marks n seats are count =
+    let none : Option SeatsView = None in
+    subst (AreNewlySeated words marks) (sym are) (record {
+      count = length-replicate n none ∙ count;
+      each = λ c s at. absurd (none-at n c s at);
+    })
+  where
+    none-at : (m c : ℕ) (s : SeatsView) → slice_get (replicate m None) c ≡ Some (Some s) → ⊥
+    none-at zero c s at = none-some (Some s) at
+    none-at (suc m) zero s at = none-some s (same_Some None (Some s) at)
+    none-at (suc m) (suc c) s at = none-at m c s at

@@ -27,16 +27,16 @@ use Rattle.pl_exec.proofs.ListSteps.{both-push}
 
 module _ {S T : Type 0} where
   -- where the head is in one of the shares at most, the seats are left up to that
-  pub still-left : (shares : List (ChannelPartView S T)) (one : HaveOneHead shares) (n : ℕ) (share : ChannelPartView S T) (left rest : Option SeatsView) (s : SeatsView) → slice_get shares n ≡ Some share → (n ≤ one.home → left ≡ Some s)
-      → rest ≡ only_if (not (is_some share.head)) left → n + 1 ≤ one.home → rest ≡ Some s
+  pub still-left : (shares : List (ChannelPartView S T)) (one : HaveOneHead shares) (n : ℕ) (share : ChannelPartView S T) (left rest s : Option SeatsView) → slice_get shares n ≡ Some share → (n ≤ one.home → left ≡ s)
+      → rest ≡ only_if (not (is_some share.head)) left → n + 1 ≤ one.home → rest ≡ s
   still-left shares one n share left rest s at there is below = is ∙ by (is_some share.head) (one.only n share at)
     where
-      by : (b : Bool) → (b ≡ true → n ≡ one.home) → only_if (not b) left ≡ Some s
+      by : (b : Bool) → (b ≡ true → n ≡ one.home) → only_if (not b) left ≡ s
       by true home = absurd (let e = home refl in omega (arith, e, below))
       by false home = there (omega (arith, below))
 
   -- the executor of the head gets them
-  got-seats : (old : ExecutorNodes S T) (share : ChannelPartView S T) (left : Option SeatsView) (s : SeatsView) (new : ExecutorNodes S T) → (is_some share.head ≡ true → left ≡ Some s) → Gets old share left new → Gets old share (Some s) new
+  got-seats : (old : ExecutorNodes S T) (share : ChannelPartView S T) (left s : Option SeatsView) (new : ExecutorNodes S T) → (is_some share.head ≡ true → left ≡ s) → Gets old share left new → Gets old share s new
   got-seats old share left s new there got = record {
     number = got.number;
     refused = got.refused;
@@ -47,14 +47,14 @@ module _ {S T : Type 0} where
     seats = got.seats ∙ ap (λ (slot : Option SeatsView). old.seats.items ++ slot ∷ []) (by (is_some share.head) there);
   }
     where
-      by : (b : Bool) → (b ≡ true → left ≡ Some s) → only_if b left ≡ only_if b (Some s)
+      by : (b : Bool) → (b ≡ true → left ≡ s) → only_if b left ≡ only_if b s
       by true is = is refl
       by false is = refl
 
   -- ---- one channel more, executor by executor
 
-  pub next-gets : (before all : List (ExecutorNodes S T)) (shares done : List (ChannelPartView S T)) (one : HaveOneHead shares) (share : ChannelPartView S T) (left : Option SeatsView) (s : SeatsView) (n : ℕ) (old new : ExecutorNodes S T)
-      → slice_get shares n ≡ Some share → (n ≤ one.home → left ≡ Some s) → EachGets before done s all → n ≡ length done → n < length all → old ≡ get_or all n old → Gets old share left new → EachGets before (done ++ share ∷ []) s (set all n new)
+  pub next-gets : (before all : List (ExecutorNodes S T)) (shares done : List (ChannelPartView S T)) (one : HaveOneHead shares) (share : ChannelPartView S T) (left s : Option SeatsView) (n : ℕ) (old new : ExecutorNodes S T)
+      → slice_get shares n ≡ Some share → (n ≤ one.home → left ≡ s) → EachGets before done s all → n ≡ length done → n < length all → old ≡ get_or all n old → Gets old share left new → EachGets before (done ++ share ∷ []) s (set all n new)
   next-gets before all shares done one share left s n old new there own so_far place within read got = record {
     count = length-set all n new ∙ so_far.count;
     each = each;
@@ -66,40 +66,40 @@ module _ {S T : Type 0} where
       was : slice_get before n ≡ Some old
       was = so_far.others n old (omega (arith, place)) (slice_get_read all (length all) n old refl within read)
 
-      gets : Gets old share (Some s) new
+      gets : Gets old share s new
       gets = got-seats old share left s new (λ some. own (let e = one.only n share there some in omega (arith, e))) got
 
-      each : (x : ℕ) (o m : ExecutorNodes S T) (q : ChannelPartView S T) → slice_get before x ≡ Some o → slice_get (done ++ share ∷ []) x ≡ Some q → slice_get (set all n new) x ≡ Some m → Gets o q (Some s) m
+      each : (x : ℕ) (o m : ExecutorNodes S T) (q : ChannelPartView S T) → slice_get before x ≡ Some o → slice_get (done ++ share ∷ []) x ≡ Some q → slice_get (set all n new) x ≡ Some m → Gets o q s m
       each x o m q at-o at-q at-m = elim (slice_get-push done share q x at-q) [
         | inl earlier ↦ let below = slice_get_within done x q earlier in so_far.each x o m q at-o earlier (at_set_other all n x new m (λ e. omega (arith, e, below, place)) at-m)
         | inr last ↦
             let here : x ≡ n = last.0 ∙ sym place in
             let old-is : old ≡ o = same_Some old o (sym was ∙ ap (λ (i : ℕ). slice_get before i) (sym here) ∙ at-o) in
             let new-is = at_set_same all n new m (ap (λ (i : ℕ). slice_get (set all n new) i) (sym here) ∙ at-m) in
-            subst (λ (z : ExecutorNodes S T × ChannelPartView S T × ExecutorNodes S T). Gets z.0 z.1 (Some s) z.2) (λ i. (old-is i, sym last.1 i, sym new-is i)) gets
+            subst (λ (z : ExecutorNodes S T × ChannelPartView S T × ExecutorNodes S T). Gets z.0 z.1 s z.2) (λ i. (old-is i, sym last.1 i, sym new-is i)) gets
       ]
 
   -- one channel more, whose seats are dealt
-  dealt-more : (heads : List SeatsView) (ps : List (ChannelPartView S T)) (seats : List (Option SeatsView)) (s : SeatsView) (p : ChannelPartView S T) → length heads ≡ length ps → AreDealt heads ps seats
-      → AreDealt (heads ++ s ∷ []) (ps ++ p ∷ []) (seats ++ only_if (is_some p.head) (Some s) ∷ [])
+  dealt-more : (heads : List (Option SeatsView)) (ps : List (ChannelPartView S T)) (seats : List (Option SeatsView)) (s : Option SeatsView) (p : ChannelPartView S T) → length heads ≡ length ps → AreDealt heads ps seats
+      → AreDealt (heads ++ s ∷ []) (ps ++ p ∷ []) (seats ++ only_if (is_some p.head) s ∷ [])
   dealt-more heads ps seats s p same so_far = record {
     count = length_push seats new ∙ ap (λ (n : ℕ). n + 1) so_far.count ∙ sym (length_push heads s);
-    each = λ c t q slot at-head at-part at-slot. both-push (λ n u r. (o : Option SeatsView) → slice_get (seats ++ new ∷ []) n ≡ Some o → o ≡ only_if (is_some r.head) (Some u)) heads ps s p same earlier last c t q at-head at-part slot at-slot;
+    each = λ c t q slot at-head at-part at-slot. both-push (λ n u r. (o : Option SeatsView) → slice_get (seats ++ new ∷ []) n ≡ Some o → o ≡ only_if (is_some r.head) u) heads ps s p same earlier last c t q at-head at-part slot at-slot;
   }
     where
       new : Option SeatsView
-      new = only_if (is_some p.head) (Some s)
+      new = only_if (is_some p.head) s
 
       size : length seats ≡ length heads
       size = so_far.count
 
-      earlier : (n : ℕ) (u : SeatsView) (r : ChannelPartView S T) → slice_get heads n ≡ Some u → slice_get ps n ≡ Some r → (o : Option SeatsView) → slice_get (seats ++ new ∷ []) n ≡ Some o → o ≡ only_if (is_some r.head) (Some u)
+      earlier : (n : ℕ) (u : Option SeatsView) (r : ChannelPartView S T) → slice_get heads n ≡ Some u → slice_get ps n ≡ Some r → (o : Option SeatsView) → slice_get (seats ++ new ∷ []) n ≡ Some o → o ≡ only_if (is_some r.head) u
       earlier n u r at-u at-r o at-o = elim (slice_get-push seats new o n at-o) [
         | inl old ↦ so_far.each n u r o at-u at-r old
         | inr end ↦ absurd (let within = slice_get_within heads n u at-u in let e = end.0 in let k = size in omega (arith, within, e, k))
       ]
 
-      last : (o : Option SeatsView) → slice_get (seats ++ new ∷ []) (length heads) ≡ Some o → o ≡ only_if (is_some p.head) (Some s)
+      last : (o : Option SeatsView) → slice_get (seats ++ new ∷ []) (length heads) ≡ Some o → o ≡ only_if (is_some p.head) s
       last o at-o = elim (slice_get-push seats new o (length heads) at-o) [
         | inl old ↦ absurd (let within = slice_get_within seats (length heads) o old in let k = size in omega (arith, within, k))
         | inr end ↦ end.1
@@ -130,8 +130,8 @@ module _ {S T : Type 0} (meaning : S → Meaning) (stands_after : S → List Eve
       given : AreGiven words [] row new
       given = record { words_are = told; seats = record { count = ap length seatless; each = λ c s p slot at. absurd (none-some s at) }; here = known }
 
-  module _ (wholes : List (ChannelPartView S T)) (whole : ChannelPartView S T) (heads : List SeatsView) (s : SeatsView) (same : length heads ≡ length wholes) where
-    one-more : (x : ℕ) (old new : ExecutorNodes S T) (share : ChannelPartView S T) → AreSharesOf meaning stands_after state wholes x old → IsShareOf meaning stands_after state x whole share → Gets old share (Some s) new
+  module _ (wholes : List (ChannelPartView S T)) (whole : ChannelPartView S T) (heads : List (Option SeatsView)) (s : Option SeatsView) (same : length heads ≡ length wholes) where
+    one-more : (x : ℕ) (old new : ExecutorNodes S T) (share : ChannelPartView S T) → AreSharesOf meaning stands_after state wholes x old → IsShareOf meaning stands_after state x whole share → Gets old share s new
         → AreSharesOf meaning stands_after state (wholes ++ whole ∷ []) x new
     one-more x old new share had is got = record {
       number = got.number ∙ had.number;
@@ -143,7 +143,7 @@ module _ {S T : Type 0} (meaning : S → Meaning) (stands_after : S → List Eve
       own = got.own ∙ ap (λ (l : List ℕ). l ++ cond (is_some share.head) (length old.parts.items ∷ []) []) had.own ∙ sym (heads-more old.parts.items share) ∙ ap (λ (l : List (ChannelPartView S T)). heads_of l) (sym got.parts);
     }
 
-    more-given : (x : ℕ) (row : List ℕ) (old new : ExecutorNodes S T) (share : ChannelPartView S T) → AreSharesOf meaning stands_after state wholes x old → AreGiven words heads row old → Gets old share (Some s) new → AreGiven words (heads ++ s ∷ []) row new
+    more-given : (x : ℕ) (row : List ℕ) (old new : ExecutorNodes S T) (share : ChannelPartView S T) → AreSharesOf meaning stands_after state wholes x old → AreGiven words heads row old → Gets old share s new → AreGiven words (heads ++ s ∷ []) row new
     more-given x row old new share had given got = record {
       words_are = (λ i. (got.words i).now) ∙ given.words_are;
       seats = subst (λ (z : List (ChannelPartView S T) × List (Option SeatsView)). AreDealt (heads ++ s ∷ []) z.0 z.1) (λ i. (sym got.parts i, sym got.seats i))

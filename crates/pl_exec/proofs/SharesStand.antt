@@ -35,11 +35,11 @@ use Rattle.pl_world.specs.declared.session.Recorded.{Recorded}
 use Rattle.pl_world.specs.Plans.{ChannelPlan, Plan, channel_planned}
 use Rattle.pl_exec.specs.declared.nodes.ExecutorNodes.{ExecutorNodes}
 use Rattle.pl_exec.specs.ExecutorNodes.{has_node, IsResident, ShareStands, NodesStand}
-use Rattle.pl_exec.specs.SessionWords.{SeatsView, AreUnused, new_seats, seats_names}
+use Rattle.pl_exec.specs.SessionWords.{SeatsView, IsUnused}
 use Rattle.pl_exec.specs.Sharing.{AreDealt, IsShareOf, AreSharesOf}
 use Rattle.pl_exec.specs.Telling.{Tells, TellsAt}
 use Rattle.pl_exec.proofs.SeatLemmas.{dealt-at, new-tells}
-use Rattle.pl_event.proofs.Lists.{All-at, at-index}
+use Rattle.pl_event.proofs.Lists.{at-index}
 
 -- ---- which nodes a share has
 
@@ -208,11 +208,11 @@ module _ {S T : Type 0} (meaning : S → Meaning) (stands_after : S → List Eve
   }
 
   -- seats that nobody has used tell how their heads stand
-  pub shares-tell : (heads : List SeatsView) (seats : List (Option SeatsView)) → AreUnused heads → AreDealt heads nodes.parts.items seats → length heads ≡ length nodes.parts.items → (c : ℕ) → TellsAt seats nodes.parts.items c
+  pub shares-tell : (heads seats : List (Option SeatsView)) → ((c : ℕ) (s : SeatsView) → slice_get heads c ≡ Some (Some s) → IsUnused s) → AreDealt heads nodes.parts.items seats → length heads ≡ length nodes.parts.items
+      → (c : ℕ) → TellsAt seats nodes.parts.items c
   shares-tell heads seats new dealt same c s share h at there is =
       let w = whole-of c share there in
       let first = w.is_placed.whole.head in
       let head-is : first.0 ≡ h = same_Some first.0 h (sym first.1 ∙ only-some (executor_of w.whole.path (head_hop w.whole) == x) w.whole.head h (sym w.is.share_is.head ∙ is)) in
       subst (Tells s) head-is
-      (new-tells state c (channel_planned meaning state w.recorded) w.recorded.transport first.0 s first.2
-      (All-at (λ (z : SeatsView). z ≡ new_seats (seats_names z) z.mark.low z.mark.high) heads c s new (dealt-at heads nodes.parts.items seats dealt same c s at)))
+      (new-tells state c (channel_planned meaning state w.recorded) w.recorded.transport first.0 s first.2 (new c s (dealt-at heads nodes.parts.items seats dealt same c s at)))

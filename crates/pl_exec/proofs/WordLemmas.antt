@@ -8,7 +8,7 @@ use Rattle.std.proofs.lemmas.Option.{slice_get_read}
 use Rattle.pl_words.specs.PromiseViews.{ReadSeatView as PromiseSeatView}
 use Rattle.pl_words.specs.Watermarks.{ReadSeatView as MarkSeatView}
 use Rattle.pl_world.specs.declared.session.Recorded.{Recorded}
-use Rattle.pl_exec.specs.SessionWords.{ChannelNames, SeatsView, SightView, seats_names, sight_names, recorded_marks, AreHeadSeatsOf, AreUnused, HaveMarksOf, IsReaderOf, new_seats, new_head_seats, new_sight, new_sights, with_sights}
+use Rattle.pl_exec.specs.SessionWords.{ChannelNames, SeatsView, SightView, sight_names, recorded_marks, AreHeadSeatsOf, AreUnused, IsUnused, HaveMarksOf, IsReaderOf, new_seats, new_head_seats, new_sight, new_sights, with_sights}
 
 -- ---- one row of seats
 
@@ -51,9 +51,6 @@ pub heads-step : {S T : Type 0} (words : List ChannelNames) (done : List (Record
     → heads ≡ new_head_seats words done → seats ≡ new_seats names c.pipeline.low c.pipeline.high → heads ++ seats ∷ [] ≡ new_head_seats (words ++ names ∷ []) (done ++ c ∷ [])
 heads-step words done names c heads seats count are is = (λ i. are i ++ is i ∷ []) ∙ sym (head_seats-push words done names c count)
 
-abbrev is-new : SeatsView → Type 0
-is-new s = s ≡ new_seats (seats_names s) s.mark.low s.mark.high
-
 -- new seats are those of their channels
 pub head_seats-own : {S T : Type 0} (words : List ChannelNames) (channels : List (Recorded S T)) → length words ≡ length channels → AreHeadSeatsOf words (new_head_seats words channels)
 head_seats-own [] channels count = refl
@@ -62,9 +59,9 @@ head_seats-own (w ∷ words) (c ∷ channels) count = ap (λ (ws : List ChannelN
 
 -- nobody has used them
 pub head_seats-new : {S T : Type 0} (words : List ChannelNames) (channels : List (Recorded S T)) → AreUnused (new_head_seats words channels)
-head_seats-new [] channels = All-nil is-new
-head_seats-new (w ∷ words) [] = All-nil is-new
-head_seats-new (w ∷ words) (c ∷ channels) = All-cons is-new (new_seats w c.pipeline.low c.pipeline.high) (new_head_seats words channels) refl (head_seats-new words channels)
+head_seats-new [] channels = All-nil IsUnused
+head_seats-new (w ∷ words) [] = All-nil IsUnused
+head_seats-new (w ∷ words) (c ∷ channels) = All-cons IsUnused (new_seats w c.pipeline.low c.pipeline.high) (new_head_seats words channels) refl (head_seats-new words channels)
 
 -- and have their marks
 pub head_seats-marks : {S T : Type 0} (words : List ChannelNames) (channels : List (Recorded S T)) → length words ≡ length channels → HaveMarksOf (new_head_seats words channels) channels

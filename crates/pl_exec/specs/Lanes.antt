@@ -24,6 +24,11 @@ abbrev pub with_lane : LaneTable → ℕ → ℕ → Lane → LaneTable
 with_lane lanes sender target lane =
     map (λ y. map (λ x. table_lanes lanes x y ++ cond (not (x == y) && ((sender == x) && (target == y))) (lane ∷ []) []) (range_with_len 0 (length lanes))) (range_with_len 0 (length lanes))
 
+-- so many lanes more at that way
+abbrev pub with_lanes : LaneTable → ℕ → ℕ → List Lane → LaneTable
+with_lanes lanes sender target [] = lanes
+with_lanes lanes sender target (l ∷ ls) = with_lanes (with_lane lanes sender target l) sender target ls
+
 module _ {S T : Type 0} where
   -- those of these channels, of which the first has this number
   abbrev pub lanes_from : ℕ → List (ChannelPartView S T) → List Lane

@@ -1,5 +1,5 @@
 -- The words of a session's channels, the seats on them, and what each call does to a seat.
-use Rattle.std.specs.Prelude.{◌≡◌, ◌⊎◌, ℕ, ◌+◌, ◌<◌, ◌≤◌, Bool, List, [], ◌∷◌, ◌++◌, All, map, slice_get, slice_set, Option, Some, None, if◌then◌else◌}
+use Rattle.std.specs.Prelude.{◌≡◌, ◌⊎◌, ℕ, ◌+◌, ◌<◌, ◌≤◌, Bool, List, [], ◌∷◌, ◌++◌, All, length, map, slice_get, slice_set, Option, Some, None, if◌then◌else◌}
 use Rattle.pl_event.specs.declared.outcomes.Outcome.{Outcome}
 use Rattle.pl_words.specs.declared.watermark.Mark.{Mark}
 use Rattle.pl_words.specs.Names.{Name}
@@ -60,9 +60,24 @@ IsReaderOf words reader = map sight_names reader ≡ words
 abbrev pub new_seats : ChannelNames → ℕ → ℕ → SeatsView
 new_seats names low high = record { mark = new_head_seat names.mark low high; settle = new_settler names.promises PROMISES 1 }
 
--- nobody has changed the words of any of these seats
+-- nobody has used these seats
+abbrev pub IsUnused : SeatsView → Type 0
+IsUnused s = s ≡ new_seats (seats_names s) s.mark.low s.mark.high
+
+-- nobody has used any of these seats
 abbrev pub AreUnused : List SeatsView → Type 0
-AreUnused heads = All (λ s. s ≡ new_seats (seats_names s) s.mark.low s.mark.high) heads
+AreUnused heads = All IsUnused heads
+
+-- Seats on the words of a channel, with its marks, that nobody has used.
+pub record IsNewlySeated (words : List ChannelNames) (marks : List (ℕ × ℕ)) (c : ℕ) (s : SeatsView) : Type 0 where
+  pub own : AreSeatsOf words c s
+  pub marked : slice_get marks c ≡ Some (seats_marks s)
+  pub unused : IsUnused s
+
+-- By channel such seats on its words, or none.
+pub record AreNewlySeated (words : List ChannelNames) (marks : List (ℕ × ℕ)) (seats : List (Option SeatsView)) : Type 0 where
+  pub count : length seats ≡ length marks
+  pub each : (c : ℕ) (s : SeatsView) → slice_get seats c ≡ Some (Some s) → IsNewlySeated words marks c s
 
 -- the heads' seats of words that nobody has changed
 abbrev pub new_head_seats : {S T : Type 0} → List ChannelNames → List (Recorded S T) → List SeatsView

@@ -37,19 +37,19 @@ module _ {S T : Type 0} (meaning : S → Meaning) (stands_after : S → List Eve
     pub each : (c : ℕ) (whole share : ChannelPartView S T) → slice_get wholes c ≡ Some whole → slice_get nodes.parts.items c ≡ Some share → IsShareOf x whole share
     pub own : nodes.own.items ≡ heads_of nodes.parts.items
 
--- By channel its seats, where its head is one of these nodes, and else none.
-pub record AreDealt {S T : Type 0} (heads : List SeatsView) (ps : List (ChannelPartView S T)) (seats : List (Option SeatsView)) : Type 0 where
+-- By channel the seats that there are for it, where its head is one of these nodes, and else none.
+pub record AreDealt {S T : Type 0} (heads : List (Option SeatsView)) (ps : List (ChannelPartView S T)) (seats : List (Option SeatsView)) : Type 0 where
   pub count : length seats ≡ length heads
-  pub each : (c : ℕ) (s : SeatsView) (p : ChannelPartView S T) (slot : Option SeatsView) → slice_get heads c ≡ Some s → slice_get ps c ≡ Some p → slice_get seats c ≡ Some slot → slot ≡ only_if (is_some p.head) (Some s)
+  pub each : (c : ℕ) (s : Option SeatsView) (p : ChannelPartView S T) (slot : Option SeatsView) → slice_get heads c ≡ Some s → slice_get ps c ≡ Some p → slice_get seats c ≡ Some slot → slot ≡ only_if (is_some p.head) s
 
 -- Nodes of an executor have these words, the seats of their heads, and this row of channels.
-pub record AreGiven {S T : Type 0} (words : List ChannelNames) (heads : List SeatsView) (row : List ℕ) (nodes : ExecutorNodes S T) : Type 0 where
+pub record AreGiven {S T : Type 0} (words : List ChannelNames) (heads : List (Option SeatsView)) (row : List ℕ) (nodes : ExecutorNodes S T) : Type 0 where
   pub words_are : nodes.words.now ≡ words
   pub seats : AreDealt heads nodes.parts.items nodes.seats.items
   pub here : nodes.here.items ≡ row
 
 -- The nodes of each executor are its shares of these channels, with these words and seats, and its own of these rows.
-pub record AreShared {S T : Type 0} (meaning : S → Meaning) (stands_after : S → List Event → Type 0) (state : T → TransportState) (wholes : List (ChannelPartView S T)) (words : List ChannelNames) (heads : List SeatsView) (rows : List (List ℕ)) (all : List (ExecutorNodes S T)) : Type 0 where
+pub record AreShared {S T : Type 0} (meaning : S → Meaning) (stands_after : S → List Event → Type 0) (state : T → TransportState) (wholes : List (ChannelPartView S T)) (words : List ChannelNames) (heads : List (Option SeatsView)) (rows : List (List ℕ)) (all : List (ExecutorNodes S T)) : Type 0 where
   pub count : length all ≡ length rows
   pub each : (x : ℕ) (nodes : ExecutorNodes S T) → slice_get all x ≡ Some nodes → AreSharesOf meaning stands_after state wholes x nodes
   pub given : (x : ℕ) (nodes : ExecutorNodes S T) (row : List ℕ) → slice_get all x ≡ Some nodes → slice_get rows x ≡ Some row → AreGiven words heads row nodes
@@ -72,10 +72,11 @@ module _ {S T : Type 0} where
     pub home : ℕ
     pub only : EachPart shares (λ x share. is_some share.head ≡ true → x ≡ home)
 
-  -- Each gets its own, by number, as far as these shares go, and that of the head the seats. The others are as they were.
-  pub record EachGets (before : List (ExecutorNodes S T)) (shares : List (ChannelPartView S T)) (s : SeatsView) (after : List (ExecutorNodes S T)) : Type 0 where
+  -- Each gets its own, by number, as far as these shares go, and that of the head the seats, if there are some. The others are
+  -- as they were.
+  pub record EachGets (before : List (ExecutorNodes S T)) (shares : List (ChannelPartView S T)) (slot : Option SeatsView) (after : List (ExecutorNodes S T)) : Type 0 where
     pub count : length after ≡ length before
-    pub each : (x : ℕ) (old new : ExecutorNodes S T) (share : ChannelPartView S T) → slice_get before x ≡ Some old → slice_get shares x ≡ Some share → slice_get after x ≡ Some new → Gets old share (Some s) new
+    pub each : (x : ℕ) (old new : ExecutorNodes S T) (share : ChannelPartView S T) → slice_get before x ≡ Some old → slice_get shares x ≡ Some share → slice_get after x ≡ Some new → Gets old share slot new
     pub others : (x : ℕ) (nodes : ExecutorNodes S T) → length shares ≤ x → slice_get after x ≡ Some nodes → slice_get before x ≡ Some nodes
 
 -- ---- the places

@@ -16,18 +16,14 @@ use Rattle.pl_world.specs.Worlds.{WorldView}
 use Rattle.pl_exec.specs.declared.nodes.ExecutorNodes.{ExecutorNodes}
 use Rattle.pl_exec.specs.Opening.{LaneTable, PlacesView, FitAll}
 use Rattle.pl_exec.specs.ExecutorNodes.{own_view}
-use Rattle.pl_exec.specs.SessionWords.{ChannelNames, SeatsView, AreHeadSeatsOf, HaveMarksOf}
 use Rattle.pl_exec.specs.Telling.{ExecutorStands}
 
--- A run is given the world of the plan by which these channels run, queues that may hold so many, and the heads' seats on the
--- words, with the marks of the channels.
-pub record IsRunOf {S T : Type 0} (meaning : S → Meaning) (state : T → TransportState) (world : World) (plan : Plan) (capacity : ℕ) (given : WorldView S T) (words : List ChannelNames) (seats : List SeatsView) : Type 0 where
+-- A run is given the world of the plan by which these channels run, and queues that may hold so many.
+pub record IsRunOf {S T : Type 0} (meaning : S → Meaning) (state : T → TransportState) (world : World) (plan : Plan) (capacity : ℕ) (given : WorldView S T) : Type 0 where
   pub named : world ≡ world_of true plan
   pub made : plan ≡ planned meaning state capacity given.executors given.channels
   pub some : 1 ≤ capacity
   pub few : capacity ≤ MAX_CAPACITY
-  pub own : AreHeadSeatsOf words seats
-  pub marks : HaveMarksOf seats given.channels
 
 -- These are the channels of a plan within the limits, placed, and before any move.
 pub record AreReady {S T : Type 0} (meaning : S → Meaning) (stands_after : S → List Event → Type 0) (state : T → TransportState) (plan : Plan) (parts : List (ChannelPartView S T)) : Type 0 where

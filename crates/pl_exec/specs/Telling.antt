@@ -1,5 +1,5 @@
 -- The nodes of an executor whose heads tell the words of their channels.
-use Rattle.std.specs.Prelude.{◌≡◌, ◌≢◌, ℕ, ◌-◌, ◌<◌, ◌≤◌, List, [], length, map, slice_get, slice_set, Option, Some, true}
+use Rattle.std.specs.Prelude.{◌≡◌, ◌≢◌, ℕ, ◌-◌, ◌<◌, ◌≤◌, List, [], length, slice_get, slice_set, Option, Some, true}
 use Rattle.std.specs.Option.{option_map_or}
 use Rattle.pl_channel.specs.Lanes.{world_of}
 use Rattle.pl_event.specs.declared.events.Event.{Event}
@@ -15,14 +15,11 @@ use Rattle.pl_words.specs.declared.watermark.TheConstants.{MAX_SETS}
 use Rattle.pl_world.specs.Plans.{ChannelPlan, Plan}
 use Rattle.pl_exec.specs.declared.nodes.ExecutorNodes.{ExecutorNodes}
 use Rattle.pl_exec.specs.ExecutorNodes.{AreOn, NodesStand, heads_of}
-use Rattle.pl_exec.specs.SessionWords.{ChannelNames, SeatsView, AreSeatsOf, TriesEach, seats_marks}
+use Rattle.pl_exec.specs.SessionWords.{ChannelNames, SeatsView, AreSeatsOf, TriesEach}
 
+-- the two marks of a channel
 abbrev pub plan_marks : ChannelPlan → ℕ × ℕ
 plan_marks p = (p.low, p.high)
-
--- the seats have the marks of these channels, in order
-abbrev pub HaveMarks : List SeatsView → List ChannelPlan → Type 0
-HaveMarks heads channels = map seats_marks heads ≡ map plan_marks channels
 
 -- Seats on the words of a channel, with the channel's marks.
 pub record IsSeated (words : List ChannelNames) (plan : Plan) (c : ℕ) (s : SeatsView) : Type 0 where

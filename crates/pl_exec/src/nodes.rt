@@ -33,7 +33,7 @@ pub(crate) struct ExecutorNodes<'a, S: Stage, T: Transport> {
     /// Something of a lane that one of its contexts writes was refused.
     pub(crate) was_refused: bool,
     pub(crate) words: &'a Words,
-    /// By channel the seats on its words, where its head is one of the nodes.
+    /// By channel the seats on its words, where there are some and its head is one of the nodes.
     pub(crate) seats: Vec<Option<Seats>>,
 }
 
@@ -83,6 +83,7 @@ impl<'a, W: Planned, S: Stage, T: Transport> OwnNodes<W> for ExecutorNodes<'a, S
         self.own.len()
     }
 
+    #[inline(always)]
     fn move_head(&mut self, by: HeadMove, at: usize, work: &mut Outputs) -> bool {
         let channel = self.own[at];
         let has_moved = self.parts[channel].move_head(by, work);

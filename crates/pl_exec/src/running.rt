@@ -1,15 +1,15 @@
 //! A session, run by executors on threads of their own.
 
-ghost use Rattle.std.specs.Prelude.{◌≡◌, ◌<◌, ◌≤◌, ℕ, IfOk, length, true};
+ghost use Rattle.std.specs.Prelude.{◌≡◌, ◌<◌, ◌≤◌, ℕ, IfOk, None, length, map, replicate, true};
 ghost use Rattle.pl_channel.specs.Lanes.{world_of};
 ghost use Rattle.pl_world.specs.declared.limits.TheConstants.{MAX_CAPACITY};
 ghost use Rattle.pl_world.specs.Plans.{planned};
 ghost use Rattle.pl_world.specs.Sessions.{plan_of};
 ghost use Rattle.pl_exec.specs.Opening.{CanOpenAll, lanes_in};
 ghost use Rattle.pl_exec.specs.Reported.{IsRunReport};
-ghost use Rattle.pl_exec.specs.SessionWords.{AreHeadSeatsOf, HaveMarksOf};
+ghost use Rattle.pl_exec.specs.SessionWords.{AreHeadSeatsOf, AreNewlySeated, HaveMarksOf, recorded_marks};
 ghost use Rattle.pl_exec.specs.Starting.{AreReady, FitExecutors, IsRunOf};
-ghost use Rattle.pl_exec.specs.Telling.{HaveMarks};
+ghost use Rattle.pl_exec.specs.Telling.{plan_marks};
 
 use crate::lanes::lane_table;
 use crate::nodes::ExecutorNodes;
@@ -17,7 +17,7 @@ use crate::opening::{Places, executors, open_all};
 use crate::planned::Planned;
 use crate::reporting::report_of;
 use crate::sharing::{channels_on, places, shares};
-use crate::words::{HeadSeats, Words, words_of};
+use crate::words::{HeadSeats, Seats, Words};
 use pl_channel::placed;
 use pl_event::{Lane, Stage};
 use pl_head::{MemoryTransport, Transport};
@@ -52,8 +52,8 @@ pub fn run<G: Gate + Sync, R: Threads + Wait + Sync>(
     // The gate was told of the first turn of each executor.
     ensures entered { IfOk result (λ _. (e : ℕ) → e < session.world.executors → G.was_entered gate.now e 0) }
 {
-    let (words, seats, _none) = Words::new(alloc, &session, 0)?;
-    run_with(rt, alloc, session, queue, gate, &words, seats)
+    let Session { world, capacity } = session;
+    run_world(rt, alloc, world, capacity, queue, gate)
 }
 
 /// Runs a session as `run` does, while any thread that has a reader of these words looks at them. The words and the seats
@@ -77,6 +77,7 @@ pub fn run_with<G: Gate + Sync, R: Threads + Wait + Sync>(
     ensures entered { IfOk result (λ _. (e : ℕ) → e < session.world.executors → G.was_entered gate.now e 0) }
 {
     let Session { world, capacity } = session;
+    let seats = seats.by_channel(alloc)?;
     let given = Setting {
         rt,
         alloc,
@@ -100,7 +101,8 @@ pub fn run_world<S: Stage + Send, T: Transport + Send, G: Gate + Sync, R: Thread
     ensures report { IfOk result (λ report. IsRunReport (planned S.meaning T.state capacity world.executors world.channels) report) }
     ensures entered { IfOk result (λ _. (e : ℕ) → e < world.executors → G.was_entered gate.now e 0) }
 {
-    let (words, seats, _none) = words_of(alloc, world.channels(), 0)?;
+    let words = Words::none(alloc);
+    let seats = no_seats(alloc, world.channels().len())?;
     let own = Setting {
         rt,
         alloc,
@@ -111,18 +113,29 @@ pub fn run_world<S: Stage + Send, T: Transport + Send, G: Gate + Sync, R: Thread
     run_world_with::<Brand, S, T, G, R>(world, capacity, queue, own)
 }
 
-/// What a run has beside its channels: the threads, the memory, the gate, and the words that its heads tell, with the
-/// right to change them.
+/// No seats, for so many channels.
+fn no_seats(alloc: Global, count: usize) -> Result<Vec<Option<Seats>>, AllocError>
+    ensures { IfOk result (λ seats. seats.items ≡ replicate count None) }
+{
+    let mut seats = Vec::with_capacity(alloc, count)?;
+    for _channel in 0..count {
+        seats.push(None)?;
+    }
+    Ok(seats)
+}
+
+/// What a run has beside its channels: the threads, the memory, the gate, and the words that its heads tell.
 #[derive(Drop)]
 struct Setting<'a, G, R> {
     rt: &'a R,
     alloc: Global,
     gate: &'a G,
     words: &'a Words,
-    seats: HeadSeats,
+    /// By channel the seats on its words, or none.
+    seats: Vec<Option<Seats>>,
 }
 
-/// Runs the world of the plan, whose heads tell these words, over queues of this kind.
+/// Runs the world of the plan, whose heads tell the words on which they have seats, over queues of this kind.
 fn run_world_with<
     W: Planned + Send + Sync,
     S: Stage + Send,
@@ -135,7 +148,8 @@ fn run_world_with<
     queue: QueueKind,
     setting: Setting<'_, G, R>,
 ) -> Result<Report, RunFault>
-    requires { IsRunOf S.meaning T.state W.world W.plan capacity world setting.words.now setting.seats }
+    requires run { IsRunOf S.meaning T.state W.world W.plan capacity world }
+    requires seated { AreNewlySeated setting.words.now (map recorded_marks world.channels) setting.seats.items }
     ensures report { IfOk result (λ report. IsRunReport W.plan report) }
     ensures entered { IfOk result (λ _. (e : ℕ) → e < W.plan.executors → G.was_entered setting.entry.gate.now e 0) }
 {
@@ -157,7 +171,8 @@ fn run_by<
 where
     M::Sender: Send,
     M::Taker: Send,
-    requires { IsRunOf S.meaning T.state W.world W.plan capacity world setting.words.now setting.seats }
+    requires run { IsRunOf S.meaning T.state W.world W.plan capacity world }
+    requires seated { AreNewlySeated setting.words.now (map recorded_marks world.channels) setting.seats.items }
     ensures report { IfOk result (λ report. IsRunReport W.plan report) }
     ensures entered { IfOk result (λ _. (e : ℕ) → e < W.plan.executors → G.was_entered setting.entry.gate.now e 0) }
 {
@@ -178,12 +193,12 @@ where
     Ok(report_of(alloc, all, channels)?)
 }
 
-/// Shares the channels of the plan out to so many executors: by executor its nodes, whose heads tell these words, and its
-/// places; and the lanes between them.
+/// Shares the channels of the plan out to so many executors: by executor its nodes, with these words and the seats of its
+/// heads, and its places; and the lanes between them.
 fn share_out<'a, W: Planned, S: Stage, T: Transport>(
     alloc: Global,
     words: &'a Words,
-    seats: HeadSeats,
+    seats: Vec<Option<Seats>>,
     parts: Vec<ChannelPart<S, T>>,
     count: usize,
 ) -> Result<
@@ -197,8 +212,7 @@ fn share_out<'a, W: Planned, S: Stage, T: Transport>(
     requires world { W.world ≡ world_of true W.plan }
     requires ready { AreReady S.meaning S.stands_after T.state W.plan parts.items }
     requires executors { count ≡ W.plan.executors }
-    requires seats { AreHeadSeatsOf words.now seats }
-    requires marks { HaveMarks seats W.plan.channels }
+    requires seats { AreNewlySeated words.now (map plan_marks W.plan.channels) seats.items }
     ensures count { IfOk result (λ r. length r.0.items ≡ W.plan.executors) }
     ensures fit { IfOk result (λ r. FitExecutors W.world W.plan S.meaning S.stands_after T.state (lanes_in r.2.items) r.0.items r.1.items) }
     ensures open { IfOk result (λ r. CanOpenAll W.plan.capacity (lanes_in r.2.items)) }

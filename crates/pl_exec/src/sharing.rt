@@ -4,12 +4,11 @@ ghost use Rattle.std.specs.Prelude.{◌≡◌, ◌<◌, ◌∷◌, ◌++◌, [],
 ghost use Rattle.std.specs.List.{range_with_len};
 ghost use Rattle.pl_part.specs.Shares.{only_if};
 ghost use Rattle.pl_channel.specs.Ways.{ArePlaceable};
-ghost use Rattle.pl_exec.specs.SessionWords.{AreUnused};
 ghost use Rattle.pl_exec.specs.Sharing.{AreNoted, AreShared, IsNoted, IsNotedAt, Gets, EachGets, HaveOneHead, channels_on, places_of, rows_in};
 
 use crate::nodes::ExecutorNodes;
 use crate::opening::Places;
-use crate::words::{HeadSeats, Seats, Words};
+use crate::words::{Seats, Words};
 use pl_channel::{lane_count, places_between};
 use pl_event::Stage;
 use pl_head::Transport;
@@ -17,21 +16,20 @@ use pl_part::ChannelPart;
 use std::alloc::{AllocError, Global};
 
 /// The nodes of these channels, divided among executors: each has those whose executor it is, a row of `here`, and the seats of
-/// the channels whose heads it has.
+/// the channels whose heads it has, where there are some.
 pub(crate) fn shares<'a, S: Stage, T: Transport>(
     alloc: Global,
     words: &'a Words,
-    seats: HeadSeats,
+    seats: Vec<Option<Seats>>,
     parts: Vec<ChannelPart<S, T>>,
     here: Vec<Vec<usize>>,
 ) -> Result<Vec<ExecutorNodes<'a, S, T>>, AllocError>
-    requires { length seats ≡ length parts.items }
-    ensures shared { IfOk result (λ all. AreShared S.meaning S.stands_after T.state parts.items words.now seats (rows_in here.items) all.items) }
-    ensures new { IfOk result (λ all. AreUnused seats) }
+    requires { length seats.items ≡ length parts.items }
+    ensures { IfOk result (λ all. AreShared S.meaning S.stands_after T.state parts.items words.now seats.items (rows_in here.items) all.items) }
 {
     let count = here.len();
     let mut all = no_nodes(alloc, words, here)?;
-    for (part, seats) in parts.into_iter().zip(seats.channels) {
+    for (part, seats) in parts.into_iter().zip(seats) {
         add_shares(&mut all, part.split(alloc, count)?, seats)?;
     }
     Ok(all)
@@ -61,17 +59,17 @@ fn no_nodes<'a, S: Stage, T: Transport>(
     Ok(all)
 }
 
-/// One channel more: each executor gets its share, and that of the head the seats.
+/// One channel more: each executor gets its share, and that of the head the seats, if there are some.
 fn add_shares<S: Stage, T: Transport>(
     all: &mut Vec<ExecutorNodes<'_, S, T>>,
     shares: Vec<ChannelPart<S, T>>,
-    seats: Seats,
+    seats: Option<Seats>,
 ) -> Result<(), AllocError>
     requires count { length shares.items ≡ length all.old.items }
     requires one { HaveOneHead shares.items }
     ensures { OnOk result (EachGets all.old.items shares.items seats all.new.items) }
 {
-    let mut left = Some(seats);
+    let mut left = seats;
     let mut number = 0;
     for share in shares {
         add_share(&mut all[number], share, &mut left)?;

@@ -17,7 +17,9 @@ use pl_part::ChannelPart;
 use pl_words::watermark::MAX_SETS;
 
 impl<'a, S: Stage, T: Transport> ExecutorNodes<'a, S, T> {
-    /// Tells the words of a channel how its head stands, where that is wanted and the head is one of these nodes.
+    /// Tells the words of a channel how its head stands, where that is wanted and the head is one of these nodes. It is
+    /// mostly not: so the look is inlined, and the telling is not.
+    #[inline(always)]
     pub(crate) fn tell_if(&mut self, channel: usize, wanted: bool)
         requires there { channel < length self.old.parts.items }
         requires stand { (world : World) × (plan : Plan) × AreSeated self.old.words.now plan self.old.seats.items
@@ -40,6 +42,7 @@ impl<'a, S: Stage, T: Transport> ExecutorNodes<'a, S, T> {
 }
 
 /// Tells the words of a channel how its head stands: sets its mark, and settles each write that has ended since.
+#[inline(never)]
 fn tell<S: Stage, T: Transport>(
     words: &Words,
     channel: usize,

@@ -1,13 +1,13 @@
 //! What any thread may read of a session's run while it goes on: of each channel whether it is writable, and how its
 //! writes ended.
 
-ghost use Rattle.std.specs.Prelude.{◌≡◌, ◌-◌, ◌<◌, ◌≤◌, ◌↔◌, ◌⊎◌, [], ◌∷◌, ◌++◌, not, All, IfOk, IfErr, OnOk, IfSome, IfNone, IsSome, length, map, replicate, None};
+ghost use Rattle.std.specs.Prelude.{◌≡◌, ◌-◌, ◌<◌, ◌≤◌, ◌↔◌, ◌⊎◌, [], ◌∷◌, ◌++◌, not, All, IfOk, IfErr, OnOk, IfSome, IfNone, IsSome, length, map, replicate, None, Some};
 ghost use Rattle.pl_event.specs.declared.outcomes.Outcome.{Outcome};
 ghost use Rattle.pl_words.specs.PromiseRule.{at};
 ghost use Rattle.pl_words.specs.PromiseViews.{Settles, Meets};
 ghost use Rattle.pl_words.specs.declared.watermark.TheConstants.{MAX_SETS};
 ghost use Rattle.pl_words.specs.Watermarks.{IsMarked};
-ghost use Rattle.pl_exec.specs.SessionWords.{AreSeatsOf, AreHeadSeatsOf, HaveMarksOf, IsReaderOf, new_seats, new_head_seats, new_sight, new_sights, with_sights, told, LooksAt, PeeksAt};
+ghost use Rattle.pl_exec.specs.SessionWords.{AreSeatsOf, AreHeadSeatsOf, AreUnused, HaveMarksOf, IsReaderOf, new_seats, new_head_seats, new_sight, new_sights, with_sights, told, LooksAt, PeeksAt};
 
 use pl_event::{Outcome, Stage};
 use pl_head::Transport;
@@ -82,7 +82,7 @@ impl Model for Seats {
 #[derive(Drop)]
 pub struct HeadSeats {
     /// By channel.
-    pub(crate) channels: Vec<Seats>,
+    channels: Vec<Seats>,
 }
 
 impl Model for HeadSeats {
@@ -94,6 +94,20 @@ impl Model for HeadSeats {
     ghost view = { λ s. s.channels.items };
 
     ghost invariant = { λ s. AreUnused s.channels.items };
+}
+
+impl HeadSeats {
+    /// By channel its seats.
+    pub(crate) fn by_channel(self, alloc: Global) -> Result<Vec<Option<Seats>>, AllocError>
+        ensures each { IfOk result (λ seats. seats.items ≡ map (λ s. Some s) self) }
+        ensures unused { IfOk result (λ seats. AreUnused self) }
+    {
+        let mut seats = Vec::with_capacity(alloc, self.channels.len())?;
+        for own in self.channels {
+            seats.push(Some(own))?;
+        }
+        Ok(seats)
+    }
 }
 
 /// A reader's seats of one channel.
@@ -204,7 +218,7 @@ fn add_row(readers: &mut Vec<Reader>, row: Vec<Sight>) -> Result<(), AllocError>
 }
 
 /// The words of these channels, in order, the seats by which they are changed, and so many readers.
-pub(crate) fn words_of<S: Stage, T: Transport>(
+fn words_of<S: Stage, T: Transport>(
     alloc: Global,
     channels: &[Recorded<S, T>],
     readers: u16,
@@ -249,9 +263,15 @@ impl Words {
         ensures own_readers { IfOk result (λ new. All (IsReaderOf new.0) new.2.items) }
         ensures refused { IfErr result (λ e. e ≡ RunFault.Memory) }
     {
-        match words_of(alloc, session.world.channels(), readers) {
-            Ok(new) => Ok(new),
-            Err(AllocError) => Err(RunFault::Memory),
+        Ok(words_of(alloc, session.world.channels(), readers)?)
+    }
+
+    /// The words of no channel.
+    pub(crate) fn none(alloc: Global) -> Words
+        ensures { result ≡ [] }
+    {
+        Words {
+            channels: Vec::new(alloc),
         }
     }
 

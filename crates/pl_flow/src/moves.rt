@@ -1,4 +1,4 @@
-//! What the head of a channel does unasked.
+//! What the head of a channel does by itself, and not for an item.
 
 /// A move of a head.
 #[derive(Clone, Copy, Debug, PartialEq, Eq)]

@@ -65,7 +65,7 @@ module _ {T : Type 0} (state : T → TransportState) where
   abbrev pub HasOutcomes : HeadView T → List Event → List Event → List (Option Outcome) → Type 0
   HasOutcomes h ys zs os = AreOutcomes h.failure h.buffer.is_full ys zs (length (state h.transport).accepted) (is_over h.standing) os
 
-  -- a write would be idle: no flushed byte waits, or the head has failed
+  -- a write would be idle: no flushed byte waits, or the head has failed by itself
   abbrev pub is_idle : HeadView T → List Event → Bool
   is_idle h ys = is_some h.failure || nat_le (length (out ys)) (length (state h.transport).accepted)
 

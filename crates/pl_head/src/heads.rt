@@ -35,7 +35,7 @@ use std::marker::Model;
 pub enum OutStep {
     /// The transport accepted this many bytes.
     Wrote(usize),
-    /// It was not called: no flushed byte waits, or the head has failed.
+    /// It was not called: no flushed byte waits, or the head has failed by itself.
     Idle,
     /// The transport failed in this call.
     Failed,
@@ -298,8 +298,9 @@ impl<T: Transport> Head<T> {
     }
 
     /// Makes one write to the transport, of what is left of the first flushed message and of no other. It is idle, and
-    /// makes no call, where no flushed byte waits or the head has failed. Where the transport fails the head has failed:
-    /// each message that has not left whole is a fault.
+    /// makes no call, where no flushed byte waits or the head has failed by itself. It has where the transport fails: each
+    /// message that has not left whole is a fault.
+    #[inline(always)]
     pub fn write_once(&mut self, outputs: &mut Outputs) -> OutStep
         requires places { HasPlaces outputs.old.stopped (flags_lane self.old.channel 0 ∷ []) }
         ensures { HeadWrites T.state T.may_refuse self.old outputs.old result self.new outputs.new }
@@ -307,6 +308,20 @@ impl<T: Transport> Head<T> {
         if self.failure.is_some() {
             return OutStep::Idle;
         }
+        if self.buffer.is_written() {
+            OutStep::Idle
+        } else {
+            self.write_current(outputs)
+        }
+    }
+
+    /// The same of one that has not failed by itself. Mostly nothing waits, so that look is inlined, and this is not.
+    #[inline(never)]
+    fn write_current(&mut self, outputs: &mut Outputs) -> OutStep
+        requires places { HasPlaces outputs.old.stopped (flags_lane self.old.channel 0 ∷ []) }
+        requires failure { self.old.failure ≡ None }
+        ensures { HeadWrites T.state T.may_refuse self.old outputs.old result self.new outputs.new }
+    {
         match self.buffer.current() {
             None => OutStep::Idle,
             Some(bytes) => match self.transport.write(bytes) {

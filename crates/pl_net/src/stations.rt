@@ -141,7 +141,7 @@ impl<N: Nodes + Drop> Stations<N> {
     }
 
     /// A move of a channel's head, with its direct calls: its next read step, or a write to its transport. False where none is
-    /// left or it is held, and where no flushed byte waits or the head has failed.
+    /// left or it is held, and where no flushed byte waits or the head has failed by itself.
     pub fn move_head(&mut self, by: HeadMove, channel: usize) -> bool
         requires there { channel < (N.view_of self.old.nodes).channels }
         requires home { (N.view_of self.old.nodes).home channel < vec_len self.old.executors }

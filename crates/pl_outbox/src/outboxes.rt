@@ -20,8 +20,8 @@ use std::alloc::{AllocError, Global};
 use std::marker::Model;
 use std::sync::Wait;
 
-/// So many envelopes are sent, at most, before the executors to which they went are woken. A queue of 64 has room for a few
-/// more, which come while its executor wakes.
+/// So many envelopes are sent, at most, before the executors to which they went are woken, and need not wait for more. A
+/// queue of 64 has room for a few more, which come while its executor wakes.
 const MAX_UNRUNG: u32 = 56;
 
 /// What became of the oldest envelope for a target.
@@ -150,8 +150,8 @@ impl<'a, W: Named, M: Mailbox<W> + Drop> Outboxes<'a, W, M> {
         )
     }
 
-    /// Offers the oldest envelope for a target to its queue. Where that is full the envelope waits where it did, and the
-    /// target counts as tried.
+    /// Offers the oldest envelope for a target to its queue. Where that is full what waits, if anything does, waits where it
+    /// did, and the target counts as tried.
     pub fn offer<R: Wait>(&mut self, rt: &R, target: usize) -> Offered
         requires there { target < length self.old.outboxes }
         ensures offers { Offers self.old target result self.new }
@@ -219,8 +219,7 @@ impl<'a, W: Named, M: Mailbox<W> + Drop> Outboxes<'a, W, M> {
         }
     }
 
-    /// Wakes the executors to which something was sent, where it was so much that they do not wait for more, or the next
-    /// offer may wait for one of them.
+    /// Wakes the executors to which something was sent, where that was much, or the next offer may wait for one of them.
     pub fn ring_for_many(&mut self)
         ensures { self.new ≡ self.old }
     {
@@ -239,8 +238,17 @@ impl<'a, W: Named, M: Mailbox<W> + Drop> Outboxes<'a, W, M> {
         self.ring(waiters);
     }
 
-    /// Wakes these executors.
+    /// Wakes these executors. Mostly there are none.
+    #[inline(always)]
     pub fn ring(&self, waiters: Waiters) {
+        if waiters.count() > 0 {
+            self.ring_each(waiters);
+        }
+    }
+
+    /// Wakes these executors, one after another.
+    #[inline(never)]
+    fn ring_each(&self, waiters: Waiters) {
         let mut waiters = waiters;
         for _ in 0..waiters.count() {
             let bit = waiters.take_bit();

@@ -34,7 +34,7 @@ impl Tries {
         })
     }
 
-    /// Whether a target was tried.
+    /// Whether a target was tried, and its queue found full.
     pub(crate) fn has(&self, target: usize) -> bool
         ensures { result ≡ is_tried self.now.tried target }
     {

@@ -168,8 +168,9 @@ impl<S: Stage, T: Transport> ChannelPart<S, T> {
         head.next_read(work)
     }
 
-    /// The head makes a write to its transport, where a flushed byte waits and it has not failed. Where no head is among the
-    /// nodes nothing waits.
+    /// The head makes a write to its transport, where a flushed byte waits and it has not failed by itself. Where no head is
+    /// among the nodes nothing waits.
+    #[inline(always)]
     pub fn write_once(&mut self, work: &mut Outputs) -> OutStep
         requires holds { (world : World) × PartHolds world S.meaning S.stands_after T.state self.old }
         requires places { HasPlaces work.old.stopped (part_lanes self.old) }
@@ -183,7 +184,8 @@ impl<S: Stage, T: Transport> ChannelPart<S, T> {
     }
 
     /// The head makes a move: `next_read` or `write_once`. False where it made none, since none is enabled or no head is
-    /// among the nodes.
+    /// among the nodes. Mostly none is, so that look is inlined, here and in those that call it.
+    #[inline(always)]
     pub fn move_head(&mut self, by: HeadMove, work: &mut Outputs) -> bool
         requires holds { (world : World) × PartHolds world S.meaning S.stands_after T.state self.old }
         requires places { HasPlaces work.old.stopped (part_lanes self.old) }

@@ -20,9 +20,9 @@ use std::alloc::Global;
 /// Replays a session by a schedule, and reports what became of each channel.
 ///
 /// A move that is not enabled is passed over: `Read` where no read step is left or it is held, `Task` where the queue is
-/// empty, `Hand` where no item waits whose target has room, `Out` where no flushed byte waits or the head has failed. A
-/// move that names a channel or an executor that is not there refuses the whole replay as `NoSuch`, wherever it stands in
-/// the schedule. A transport that fails, an abort, and a growth that is refused in a move end what they are for, as the
+/// empty, `Hand` where no item waits whose target has room, `Out` where no flushed byte waits or the head has failed by
+/// itself. A move that names a channel or an executor that is not there refuses the whole replay as `NoSuch`, wherever it
+/// stands in the schedule. A transport that fails, an abort, and a growth that is refused in a move end what they are for, as the
 /// report tells, and the replay goes on. `Memory` is answered where a growth is refused for the replay itself: as it
 /// starts, for a queue, or for the report.
 pub fn replay(alloc: Global, session: Session, moves: &[Move]) -> Result<Report, ReplayFault>

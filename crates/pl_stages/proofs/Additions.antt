@@ -1,5 +1,5 @@
 -- Additions: one more, and what is held and kept of them.
-use Rattle.std.proofs.Common.{◌≡◌, ℕ, ◌+◌, ◌-◌, ◌<◌, ◌^◌, List, [], ◌∷◌, ◌++◌, length, filter, sum_by, count_by, Bool, true, false, not, ◌&&◌, ◌||◌, cond, ltb, leb, Option, Some, None, is_some, unwrap_or, refl, sym, ap, subst, ◌∙◌, append-nil, arith}
+use Rattle.std.proofs.Common.{◌≡◌, ℕ, ◌+◌, ◌<◌, ◌^◌, List, [], ◌∷◌, ◌++◌, length, filter, sum_by, count_by, Bool, true, false, ◌||◌, cond, ltb, leb, Option, Some, None, is_some, unwrap_or, refl, sym, ap, subst, ◌∙◌, append-nil, arith}
 use Rattle.std.proofs.lemmas.Bool.{le-ltb, cond_both}
 use Rattle.std.proofs.lemmas.Bool.Decides.{nat_tests}
 use Rattle.std.proofs.lemmas.List.Elements.{filter-append}

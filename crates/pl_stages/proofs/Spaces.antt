@@ -19,6 +19,7 @@ no_place : (text : List ℕ) (inside : Bool) → ltb (position_or_len is_space t
 no_place text true e none = cc
 no_place text false e none = ltb-false _ _ e
 
+-- what is known of the first space where there is one, and where there is none
 position_at : (text : List ℕ) (at : ℕ) → position is_space text ≡ Some at
     → (position_or_len is_space text ≡ at) × (position_or_len is_space text < length text)
 position_at text at found = known_place text at (ltb (position_or_len is_space text) (length text)) refl found

@@ -3,12 +3,13 @@
 ghost use Rattle.std.specs.Prelude.{◌≡◌, false, ◌+◌, ◌<◌, ◌≤◌, [], length, take, drop, Some, None, IfSome, vec_len, ◌||◌, codes};
 ghost use Rattle.std.specs.List.{position};
 ghost use Rattle.std.specs.Str.{bytes_eq};
-ghost use Rattle.pl_stages.specs.Commands.{is_space, command_decoding, command_of, command_with, add_with, addition_of, get_with, key_in, decoded};
+ghost use Rattle.pl_stages.specs.Commands.{is_space, command_decoding, command_of, command_with, add_with, addition_of, get_with, key_in, decoded, read_as};
 
 use crate::bytes::without_front;
 use crate::numbers::number_in;
 use pl_event::{ByteString, Caught, Command, Event, Key, MapUp, Mapping, Message, Stage};
-use std::alloc::AllocError;
+use std::alloc::{AllocError, Global};
+use std::mem;
 
 const SPACE: u8 = b' ';
 
@@ -42,12 +43,27 @@ impl Mapping for CommandDecoder {
 
     fn map(&self, event: Event) -> Result<Event, AllocError> {
         Ok(match event {
-            Event::Read(Message::Line(line)) => match command_of(line.into_vec()) {
-                Ok(command) => Event::Read(Message::Command(command)),
-                Err(caught) => Event::Caught(caught),
-            },
+            Event::Read(Message::Line(line)) => read_as(line),
             other => other,
         })
+    }
+
+    fn change(&self, alloc: Global, event: &mut Event) -> bool {
+        if let Event::Read(Message::Line(line)) = event {
+            let line = mem::replace(line, ByteString::from_vec(Vec::new(alloc)));
+            *event = read_as(line);
+        }
+        true
+    }
+}
+
+/// What a line is read as.
+fn read_as(line: ByteString) -> Event
+    ensures { result ≡ read_as (command_of line) }
+{
+    match command_of(line.into_vec()) {
+        Ok(command) => Event::Read(Message::Command(command)),
+        Err(caught) => Event::Caught(caught),
     }
 }
 
@@ -65,9 +81,9 @@ fn command_of(line: Vec<u8>) -> Result<Command, Caught>
 fn command_alone(verb: &[u8]) -> Result<Command, Caught>
     ensures { result ≡ command_with verb.now None }
 {
-    if verb == PING {
+    if is_verb(verb, PING) {
         Ok(Command::Ping)
-    } else if verb == QUIT {
+    } else if is_verb(verb, QUIT) {
         Ok(Command::Quit)
     } else if takes_argument(verb) {
         Err(Caught::Syntax)
@@ -80,7 +96,7 @@ fn command_alone(verb: &[u8]) -> Result<Command, Caught>
 fn takes_argument(verb: &[u8]) -> bool
     ensures { result ≡ (bytes_eq verb.now (codes "ECHO") || bytes_eq verb.now (codes "ADD") || bytes_eq verb.now (codes "GET")) }
 {
-    verb == ECHO || verb == ADD || verb == GET
+    is_verb(verb, ECHO) || is_verb(verb, ADD) || is_verb(verb, GET)
 }
 
 /// The command of a line whose first space is at `end`.
@@ -89,17 +105,32 @@ fn command_followed(line: Vec<u8>, end: usize) -> Result<Command, Caught>
     ensures { result ≡ command_with (take end line.items) (Some (drop (end + 1) line.items)) }
 {
     let verb = &line[..end];
-    if verb == ECHO {
+    if is_verb(verb, ECHO) {
         Ok(Command::Echo(ByteString::from_vec(without_front(line, end + 1))))
-    } else if verb == ADD {
+    } else if is_verb(verb, ADD) {
         add_with(without_front(line, end + 1))
-    } else if verb == GET {
+    } else if is_verb(verb, GET) {
         get_with(without_front(line, end + 1))
-    } else if verb == PING || verb == QUIT {
+    } else if is_verb(verb, PING) || is_verb(verb, QUIT) {
         Err(Caught::Syntax)
     } else {
         Err(Caught::Unknown)
     }
+}
+
+/// Whether a text is this verb. It is short, so each byte is looked at.
+fn is_verb(text: &[u8], verb: &[u8]) -> bool
+    ensures { result ≡ bytes_eq text.now verb.now }
+{
+    if text.len() != verb.len() {
+        return false;
+    }
+    for at in 0..verb.len() {
+        if text[at] != verb[at] {
+            return false;
+        }
+    }
+    true
 }
 
 /// Where the first space is. It is near, so each byte is looked at.

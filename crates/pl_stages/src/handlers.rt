@@ -8,7 +8,7 @@ use crate::line_end::LineEnd;
 use crate::line_framer::LineFramer;
 use crate::line_service::LineService;
 use crate::reply_encoder::ReplyEncoder;
-use pl_event::{Direction, Event, Fused, MapDown, MapUp, Stage, Stepped};
+use pl_event::{Changed, Direction, Event, Fused, MapDown, MapUp, Stage, Stepped};
 
 /// Any of the built-in handlers. It means what the handler inside means.
 #[derive(Debug, Drop)]
@@ -82,6 +82,19 @@ impl Stage for Handler {
             Handler::Encode(stage) => stage.step(event, up, down),
             Handler::FlushEvery(stage) => stage.step(event, up, down),
             Handler::Service(stage) => stage.step(event, up, down),
+        }
+    }
+
+    fn change(&mut self, event: &mut Event, down: &mut Vec<Event>) -> Changed {
+        match self {
+            Handler::Lines(stage) => stage.change(event, down),
+            Handler::Length(stage) => stage.change(event, down),
+            Handler::Decode(stage) => stage.change(event, down),
+            Handler::LineEnd(stage) => stage.change(event, down),
+            Handler::Prepend(stage) => stage.change(event, down),
+            Handler::Encode(stage) => stage.change(event, down),
+            Handler::FlushEvery(stage) => stage.change(event, down),
+            Handler::Service(stage) => stage.change(event, down),
         }
     }
 

@@ -13,7 +13,7 @@ use crate::limits::MAX_FRAME;
 use crate::stage_refusal::StageRefusal;
 use byteorder::{BigEndian, ByteOrder};
 use pl_event::{
-    BareStage, ByteString, Caught, Direction, Event, Fused, Message, Stage, Taken, Turned,
+    BareStage, ByteString, Caught, Changed, Direction, Event, Fused, Message, Stage, Taken, Turned,
 };
 use std::alloc::{AllocError, Global};
 use std::mem;
@@ -251,6 +251,14 @@ impl BareStage for LengthFramer {
             other => up.push(other)?,
         }
         Ok(Turned::Open)
+    }
+
+    // What is no bytes goes on as it is.
+    fn change(&mut self, event: &mut Event, _down: &mut Vec<Event>) -> Changed {
+        match event {
+            Event::Read(Message::Bytes(_)) => Changed::No,
+            _ => Changed::Up,
+        }
     }
 
     ghost lawful = { λ s. cutting-lawful (frames_of s.width s.max) };

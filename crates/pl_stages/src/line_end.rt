@@ -4,7 +4,7 @@ ghost use Rattle.std.specs.Prelude.{◌≡◌, false, []};
 ghost use Rattle.pl_stages.specs.LineEnding.{line_ending, with_line_end};
 
 use pl_event::{Event, MapDown, Mapping, Message, Stage};
-use std::alloc::AllocError;
+use std::alloc::{AllocError, Global};
 
 const CR_LF: &[u8] = b"\r\n";
 
@@ -33,6 +33,13 @@ impl Mapping for LineEnd {
                 Ok(Event::Write(Message::Bytes(bytes)))
             }
             other => Ok(other),
+        }
+    }
+
+    fn change(&self, _alloc: Global, event: &mut Event) -> bool {
+        match event {
+            Event::Write(Message::Bytes(bytes)) => bytes.extend_from_slice(CR_LF).is_ok(),
+            _ => true,
         }
     }
 }

@@ -11,7 +11,7 @@ use crate::limits::MAX_LINE;
 use crate::stage_refusal::StageRefusal;
 use memchr::memchr;
 use pl_event::{
-    BareStage, ByteString, Caught, Direction, Event, Fused, Message, Stage, Taken, Turned,
+    BareStage, ByteString, Caught, Changed, Direction, Event, Fused, Message, Stage, Taken, Turned,
 };
 use std::alloc::{AllocError, Global};
 use std::mem;
@@ -191,6 +191,14 @@ impl BareStage for LineFramer {
             other => up.push(other)?,
         }
         Ok(Turned::Open)
+    }
+
+    // What is no bytes goes on as it is.
+    fn change(&mut self, event: &mut Event, _down: &mut Vec<Event>) -> Changed {
+        match event {
+            Event::Read(Message::Bytes(_)) => Changed::No,
+            _ => Changed::Up,
+        }
     }
 
     ghost lawful = { λ s. cutting-lawful (lines_of s.max) };

@@ -1,14 +1,14 @@
 //! The handler that replies to commands.
 
-ghost use Rattle.std.specs.Prelude.{◌≡◌, false, List, ◌++◌, ◌∷◌, [], OnOk};
+ghost use Rattle.std.specs.Prelude.{◌≡◌, ◌≢◌, true, false, List, ◌++◌, ◌∷◌, [], None, IfSome, OnOk, ◌<◌, vec_len, vec_capacity};
 ghost use Rattle.pl_event.specs.Meaning.{IsPrefixOf};
 ghost use Rattle.pl_stages.specs.Service.{line_service, line_service-lawful, has_quit, is_quit, Addition, accepted, added_by, replies_to, fault_of};
 ghost use Rattle.pl_stages.specs.Totals.{KeepsTotals};
 
 use crate::totals::Totals;
 use pl_event::{
-    BareStage, Caught, Command, Direction, Event, Fault, Fused, Message, Reply, Stage, Taken,
-    Turned,
+    BareStage, Caught, Changed, Command, Direction, Event, Fault, Fused, Message, Reply, Stage,
+    Taken, Turned,
 };
 use std::alloc::{AllocError, Global};
 
@@ -55,6 +55,18 @@ impl BareStage for LineService {
         Ok(if quits { Turned::Ended } else { Turned::Open })
     }
 
+    // What it takes goes up as it is, and its reply goes down. Not where it quits, nor where a key is new to it.
+    fn change(&mut self, event: &mut Event, down: &mut Vec<Event>) -> Changed {
+        if self.has_quit || down.reserve(1).is_err() {
+            return Changed::No;
+        }
+        if write_at_once(&mut self.totals, event, down) {
+            Changed::Up
+        } else {
+            Changed::No
+        }
+    }
+
     ghost lawful = { λ s. line_service-lawful };
 }
 
@@ -93,6 +105,50 @@ fn write_replies(
         _ => {}
     }
     Ok(())
+}
+
+/// Writes the reply to an event where there is one, for which there is room. False, and nothing has changed, at a quit
+/// and where memory may be refused.
+fn write_at_once(totals: &mut Totals, event: &Event, down: &mut Vec<Event>) -> bool
+    requires room { vec_len down.old < vec_capacity down.old }
+    ensures down { result ≡ true → (made : List Event) × (down.new.items ≡ down.old.items ++ made)
+        × ((additions : List Addition) → KeepsTotals totals.old additions → replies_to additions event.now ≡ made) }
+    ensures totals { result ≡ true → (additions : List Addition) → KeepsTotals totals.old additions
+        → KeepsTotals totals.new (additions ++ added_by additions event.now) }
+    ensures open { result ≡ true → is_quit event.now ≡ false }
+    ensures kept { result ≡ false → (totals.new ≡ totals.old) × (down.new.items ≡ down.old.items) }
+{
+    match event {
+        Event::Read(Message::Command(command)) => match answer_at_once(totals, command) {
+            Some(reply) => down.push_reserved(written(reply)),
+            None => return false,
+        },
+        Event::Caught(caught) => down.push_reserved(written(Reply::Error(fault_of(*caught)))),
+        Event::ReadComplete => down.push_reserved(Event::Flush),
+        _ => {}
+    }
+    true
+}
+
+/// Carries a command out. None, and nothing has changed, at a quit and where memory may be refused.
+fn answer_at_once(totals: &mut Totals, command: &Command) -> Option<Reply>
+    ensures reply { IfSome result (λ reply. (additions : List Addition) → KeepsTotals totals.old additions
+        → replies_to additions (Event.Read (Message.Command command.now)) ≡ Event.Write (Message.Reply reply) ∷ []) }
+    ensures totals { IfSome result (λ reply. (additions : List Addition) → KeepsTotals totals.old additions
+        → KeepsTotals totals.new (additions ++ added_by additions (Event.Read (Message.Command command.now)))) }
+    ensures open { IfSome result (λ reply. is_quit (Event.Read (Message.Command command.now)) ≡ false) }
+    ensures kept { result ≡ None → totals.new ≡ totals.old }
+{
+    match command {
+        Command::Ping => Some(Reply::Pong),
+        Command::Echo(text) => match text.clone() {
+            Ok(text) => Some(Reply::Text(text)),
+            Err(_) => None,
+        },
+        Command::Add(key, number) => totals.add_to_held(key, *number),
+        Command::Get(key) => Some(Reply::Total(totals.get(key))),
+        Command::Quit => None,
+    }
 }
 
 /// Carries a command out, and writes its reply.

@@ -6,7 +6,8 @@ ghost use Rattle.pl_stages.specs.Replies.{reply_encoding, encoded, reply_text, f
 
 use itoa::Buffer;
 use pl_event::{
-    BareStage, ByteString, Direction, Event, Fault, Fused, Message, Reply, Stage, Taken, Turned,
+    BareStage, ByteString, Changed, Direction, Event, Fault, Fused, Message, Reply, Stage, Taken,
+    Turned,
 };
 use std::alloc::{AllocError, Global};
 
@@ -41,6 +42,16 @@ impl BareStage for ReplyEncoder {
         Ok(Turned::Open)
     }
 
+    fn change(&mut self, event: &mut Event, down: &mut Vec<Event>) -> Changed {
+        if let Event::Write(Message::Reply(reply)) = event {
+            match reply_bytes(*down.allocator(), reply) {
+                Ok(text) => *event = Event::Write(Message::Bytes(text)),
+                Err(_) => return Changed::No,
+            }
+        }
+        Changed::Down
+    }
+
     ghost lawful = { λ s. mapping_down-lawful encoded };
 }
 
@@ -50,12 +61,20 @@ fn encoded(alloc: Global, event: Event) -> Result<Event, AllocError>
 {
     match event {
         Event::Write(Message::Reply(reply)) => {
-            let mut text = Vec::new(alloc);
-            add_reply_text(&mut text, &reply)?;
-            Ok(Event::Write(Message::Bytes(ByteString::from_vec(text))))
+            let text = reply_bytes(alloc, &reply)?;
+            Ok(Event::Write(Message::Bytes(text)))
         }
         other => Ok(other),
     }
+}
+
+/// The text of a reply.
+fn reply_bytes(alloc: Global, reply: &Reply) -> Result<ByteString, AllocError>
+    ensures { IfOk result (λ text. text ≡ reply_text reply.now) }
+{
+    let mut text = Vec::new(alloc);
+    add_reply_text(&mut text, reply)?;
+    Ok(ByteString::from_vec(text))
 }
 
 /// Adds the text of a reply at the end. An `Err` adds nothing.

@@ -1,6 +1,6 @@
 //! The totals that a service keeps.
 
-ghost use Rattle.std.specs.Prelude.{◌≡◌, ◌+◌, ◌++◌, ◌∷◌, [], List, None, IfOk, OnOk, if◌then◌else◌, nat_lt};
+ghost use Rattle.std.specs.Prelude.{◌≡◌, ◌+◌, ◌++◌, ◌∷◌, [], List, None, IfOk, IfSome, OnOk, if◌then◌else◌, nat_lt};
 ghost use Rattle.pl_stages.specs.Service.{Addition, total_of, refusal_of, unless_refused, addition_reply};
 ghost use Rattle.pl_stages.specs.Totals.{KeepsTotals, kept_total};
 
@@ -42,10 +42,24 @@ impl Totals {
         ensures kept { OnOk result ((additions : List Addition) → KeepsTotals self.old additions
             → KeepsTotals self.new (additions ++ unless_refused (refusal_of key.now number additions) (record { key = key.now; number = number } ∷ []))) }
     {
-        if let Some(held) = self.by_name.get_mut(key.as_slice()) {
-            return Ok(raise(held, number));
+        match self.add_to_held(key, number) {
+            Some(reply) => Ok(reply),
+            None => self.add_first(key, number),
         }
-        self.add_first(key, number)
+    }
+
+    /// Adds to the total of a key where it is held, which takes no memory. None, and nothing has changed, where it is not.
+    pub(crate) fn add_to_held(&mut self, key: &Key, number: u32) -> Option<Reply>
+        ensures reply { IfSome result (λ reply. (additions : List Addition) → KeepsTotals self.old additions
+            → reply ≡ addition_reply key.now number additions) }
+        ensures kept { IfSome result (λ reply. (additions : List Addition) → KeepsTotals self.old additions
+            → KeepsTotals self.new (additions ++ unless_refused (refusal_of key.now number additions) (record { key = key.now; number = number } ∷ []))) }
+        ensures none { result ≡ None → (self.new ≡ self.old) × (kept_total key.now self.old ≡ None) }
+    {
+        if let Some(held) = self.by_name.get_mut(key.as_slice()) {
+            return Some(raise(held, number));
+        }
+        None
     }
 
     /// Adds to the total of a key that is not held.

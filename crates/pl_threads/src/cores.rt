@@ -78,6 +78,7 @@ impl<'a, W: Named, M: Mailbox<W> + Drop, N: OwnNodes<W> + Drop> Core<'a, W, M, N
     }
 
     /// Works the list off.
+    #[inline(never)]
     pub fn work_off<R: Wait>(&mut self, rt: &R)
         requires holds { CoreHolds N.view_of N.stands W.world self.old }
         ensures holds { CoreHolds N.view_of N.stands W.world self.new }
@@ -96,6 +97,7 @@ impl<'a, W: Named, M: Mailbox<W> + Drop, N: OwnNodes<W> + Drop> Core<'a, W, M, N
     }
 
     /// A move of a channel's head, with the direct calls that follow. False where it is not enabled.
+    #[inline(always)]
     pub fn move_head<R: Wait>(&mut self, rt: &R, by: HeadMove, at: usize) -> bool
         requires there { at < (N.view_of self.old.nodes).channels }
         requires holds { CoreHolds N.view_of N.stands W.world self.old }

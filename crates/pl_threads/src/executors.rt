@@ -66,7 +66,7 @@ pub struct Executor<'a, W: Named, M: Mailbox<W> + Drop, N: OwnNodes<W> + Drop> {
     next: usize,
     /// How many were handed over since others were let run.
     handed: u32,
-    /// The last turn moved nothing, and its reads wait for room elsewhere.
+    /// The last turn moved nothing, no head has anything to write, and its reads wait for room elsewhere.
     waits_for_room: bool,
 }
 
@@ -152,9 +152,9 @@ impl<'a, W: Named, M: Mailbox<W> + Drop, N: OwnNodes<W> + Drop> Executor<'a, W, 
         ensures why { (N.view_of self.new.nodes).was_refused ≡ true → SomeClosed self.new.outboxes }
     {
         gate.enter(self.core.number as u16, self.turns);
-        let has_moved = self.moves(rt, gate);
+        let has_worked = self.moves(rt, gate);
         self.turns = self.turns.saturating_add(1);
-        if has_moved {
+        if has_worked {
             return Turn::Worked;
         }
         if self.close() && self.is_drained() {
@@ -163,7 +163,7 @@ impl<'a, W: Named, M: Mailbox<W> + Drop, N: OwnNodes<W> + Drop> Executor<'a, W, 
         Turn::Idle
     }
 
-    /// What a turn moves, once the gate was told of it. False where nothing was enabled.
+    /// What a turn moves, once the gate was told of it. False where nothing was enabled, and no read waits.
     fn moves<R: Wait, G: Gate>(&mut self, rt: &R, gate: &G) -> bool
         requires entered { G.was_entered gate.now self.old.number self.old.turns }
         ensures number { self.new.number ≡ self.old.number }
@@ -177,10 +177,10 @@ impl<'a, W: Named, M: Mailbox<W> + Drop, N: OwnNodes<W> + Drop> Executor<'a, W, 
     {
         let handed = self.hand(rt, gate).is_some();
         let ran = self.run_task(rt, gate);
-        self.waits_for_room = false;
         if handed || ran {
+            self.waits_for_room = false;
             self.handed = self.handed.saturating_add(u32::from(handed));
-            self.write_one(rt);
+            self.write_one(rt, ran);
             return true;
         }
         self.move_heads(rt)
@@ -188,17 +188,19 @@ impl<'a, W: Named, M: Mailbox<W> + Drop, N: OwnNodes<W> + Drop> Executor<'a, W, 
 
     /// What its heads move in a turn in which nothing was handed over or taken. Nothing is read while something waits for
     /// others, unless all here has ended; and where much was handed over, others are let run before. False where nothing was
-    /// enabled.
+    /// enabled, and no read waits.
     fn move_heads<R: Wait>(&mut self, rt: &R) -> bool
         ensures serves { OnlyServes self.old self.new }
         ensures served { ServesAtMostOnce (N.served self.old.nodes) (N.served self.new.nodes) }
         ensures moves { ServesOne N.view_of N.acts self.old self.new }
         ensures idle { result ≡ false → (self.new ≡ self.old) × ((c : ℕ) → c < (N.view_of self.new.nodes).channels → (by : HeadMove) → N.may_move self.new.nodes by c false) }
     {
-        if !self.is_drained() && !self.core.nodes.has_ended() {
-            self.waits_for_room = !self.write_first(rt);
+        // Where its reads waited in the last turn, nothing has moved since.
+        if !self.is_drained() && (self.waits_for_room || !self.core.nodes.has_ended()) {
+            self.write_while_waiting(rt);
             return true;
         }
+        self.waits_for_room = false;
         if self.handed >= MANY_HANDED {
             self.handed = 0;
             thread::yield_now();
@@ -253,18 +255,35 @@ impl<'a, W: Named, M: Mailbox<W> + Drop, N: OwnNodes<W> + Drop> Executor<'a, W, 
         self.core.hand(rt)
     }
 
-    /// A write of one channel, whose turn it is, beside other work. Where it had none, the next one's turn comes.
-    fn write_one<R: Wait>(&mut self, rt: &R)
+    /// A write of one channel, whose turn it is, beside a task: without one no channel has more to write than before. Where
+    /// it had none, the next one's turn comes.
+    fn write_one<R: Wait>(&mut self, rt: &R, ran: bool)
         ensures serves { OnlyServes self.old self.new }
         ensures served { WritesAtMostOnce (N.served self.old.nodes) (N.served self.new.nodes) }
         ensures moves { ServesOne N.view_of N.acts self.old self.new }
     {
+        if !ran {
+            return;
+        }
         let Some(at) = self.first() else {
             return;
         };
         if !self.move_head(rt, HeadMove::Out, at) {
             self.next = at.saturating_add(1);
         }
+    }
+
+    /// One write of the first channel that has any enabled, while its reads wait for room elsewhere. Where the last turn
+    /// found none, nothing has moved since, and none is asked again.
+    fn write_while_waiting<R: Wait>(&mut self, rt: &R)
+        ensures serves { OnlyServes self.old self.new }
+        ensures served { WritesAtMostOnce (N.served self.old.nodes) (N.served self.new.nodes) }
+        ensures moves { ServesOne N.view_of N.acts self.old self.new }
+    {
+        if self.waits_for_room {
+            return;
+        }
+        self.waits_for_room = !self.write_first(rt);
     }
 
     /// One write of the first channel that has any enabled. False where none has.
@@ -350,6 +369,7 @@ impl<'a, W: Named, M: Mailbox<W> + Drop, N: OwnNodes<W> + Drop> Executor<'a, W, 
     }
 
     /// A move of a channel's head. False where it was not enabled.
+    #[inline(always)]
     fn move_head<R: Wait>(&mut self, rt: &R, by: HeadMove, at: usize) -> bool
         requires there { at < (N.view_of self.old.nodes).channels }
         ensures serves { OnlyServes self.old self.new }
@@ -482,7 +502,8 @@ impl<'a, W: Named, M: Mailbox<W> + Drop, N: OwnNodes<W> + Drop> Executor<'a, W, 
     }
 }
 
-/// Takes the front of a queue, as `take` does, where that is not found empty beforehand.
+/// Takes the front of a queue, as `take` does, where that is not found empty beforehand: room for an envelope is made only
+/// then.
 fn take_front<W: Named, M: Mailbox<W>, R: Wait>(
     rt: &R,
     mailbox: &M,

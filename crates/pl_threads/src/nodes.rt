@@ -24,7 +24,7 @@ pub trait OwnNodes<W: Named>: Sized {
     ghost acts: { NodesActs Self };
 
     /// Whether a move of the head of a channel is enabled: that head is one of these nodes, and a read step is left and not
-    /// held, or a flushed byte waits and the head has not failed.
+    /// held, or a flushed byte waits and the head has not failed by itself.
     ghost may_move: { Self → HeadMove → ℕ → Bool → Type 0 };
 
     /// By the number of a channel, how often its head, where it is one of these nodes, has read and written.

@@ -1,4 +1,4 @@
-//! Why a session was not replayed.
+//! Why a session was not replayed, or not composed.
 
 ghost use Rattle.std.specs.Prelude.{◌≡◌};
 ghost use Rattle.pl_world.specs.declared.faults.ReplayFault.TheVariants.{Memory};
@@ -7,7 +7,7 @@ use pl_event::StageFault;
 use std::alloc::{AllocError, AllocFailed};
 use thiserror::Error;
 
-/// Why a session was not replayed. No report is made then.
+/// Why a session was not replayed, or not composed on whole lists. There is no report then.
 #[derive(Clone, Copy, Debug, PartialEq, Eq, Error)]
 pub enum ReplayFault {
     /// A move names a channel or an executor that does not exist.

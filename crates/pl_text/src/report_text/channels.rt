@@ -42,7 +42,7 @@ fn add_tail(text: &mut Vec<u8>, events: &[Event]) -> Result<(), AllocError>
 {
     for event in events {
         add_event(text, event)?;
-        text.extend_from_slice(b"\n")?;
+        text.push(b'\n')?;
     }
     Ok(())
 }

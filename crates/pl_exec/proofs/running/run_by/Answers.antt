@@ -9,6 +9,7 @@ use Rattle.pl_world.specs.Plans.{Plan, channel_planned, planned}
 use Rattle.pl_world.specs.PlanRules.{IsPlan}
 use Rattle.pl_exec.specs.ExecutorNodes.{own_view}
 use Rattle.pl_exec.specs.Opening.{AreOpened, CanOpenAll, inbox_view, lanes_in}
+use Rattle.pl_exec.specs.SessionWords.{AreNewlySeated}
 use Rattle.pl_exec.specs.Starting.{AreReady}
 use Rattle.pl_exec.specs.Telling.{plan_marks}
 use Rattle.pl_exec.proofs.Columns.{inboxes-count}
@@ -21,34 +22,32 @@ placed-requires-clause-small g c =
     recorded-small g.S.Stage.meaning g.T.Transport.state c.args.world c.into_channels.ensures.is_world c.into_vec.result.items (c.into_vec.ensures ∙ c.into_channels.ensures.channels)
 
 pub share_out-requires-clause-world : goal.share_out-requires-clause-world
-share_out-requires-clause-world g c = c.requires.named
+share_out-requires-clause-world g c = c.requires.run.named
 
 pub share_out-requires-clause-ready : goal.share_out-requires-clause-ready
 share_out-requires-clause-ready g c =
     let is = c.into_channels.ensures.is_world in
     let plan = planned g.S.Stage.meaning g.T.Transport.state c.args.capacity c.args.world.executors c.args.world.channels in
-    subst (λ (p : Plan). AreReady g.S.Stage.meaning g.S.Stage.stands_after g.T.Transport.state p c.in_ok-parts.parts.items) (sym c.requires.made)
+    subst (λ (p : Plan). AreReady g.S.Stage.meaning g.S.Stage.stands_after g.T.Transport.state p c.in_ok-parts.parts.items) (sym c.requires.run.made)
     (record {
       recorded = c.args.world.channels;
       planned = λ i. plan.channels;
       placed = subst (λ (rs : List (Recorded g.row.S.Denot g.row.T.Denot)). ArePlaced g.S.Stage.meaning g.S.Stage.stands_after g.T.Transport.state rs c.in_ok-parts.parts.items) (c.into_vec.ensures ∙ c.into_channels.ensures.channels) c.in_ok-parts.ensures;
-      ruled = is.ruled c.args.capacity c.requires.some;
+      ruled = is.ruled c.args.capacity c.requires.run.some;
       small = is.small c.args.capacity;
       channels = is.channels;
       executors = is.executors;
-      capacity = c.requires.few;
+      capacity = c.requires.run.few;
     })
 
+-- the marks are those of the plan's channels
 pub share_out-requires-clause-seats : goal.share_out-requires-clause-seats
-share_out-requires-clause-seats g c = c.requires.own
-
--- the seats have the marks of the plan's channels
-pub share_out-requires-clause-marks : goal.share_out-requires-clause-marks
-share_out-requires-clause-marks g c =
-    c.requires.marks ∙ planned-marks g.S.Stage.meaning g.T.Transport.state c.args.world.channels ∙ sym (ap (λ (p : Plan). map plan_marks p.channels) c.requires.made)
+share_out-requires-clause-seats g c =
+    subst (λ (marks : List (ℕ × ℕ)). AreNewlySeated c.args.setting.words.now marks c.args.setting.seats.items)
+    (planned-marks g.S.Stage.meaning g.T.Transport.state c.args.world.channels ∙ sym (ap (λ (p : Plan). map plan_marks p.channels) c.requires.run.made)) c.requires.seated
 
 pub open_all-requires : goal.open_all-requires
-open_all-requires g c = subst (λ (n : ℕ). CanOpenAll n (lanes_in c.in_ok-nodes.lanes.items)) (ap (λ (p : Plan). p.capacity) c.requires.made) c.in_ok-nodes.ensures.open
+open_all-requires g c = subst (λ (n : ℕ). CanOpenAll n (lanes_in c.in_ok-nodes.lanes.items)) (ap (λ (p : Plan). p.capacity) c.requires.run.made) c.in_ok-nodes.ensures.open
 
 pub executors-requires-clause-few : goal.executors-requires-clause-few
 executors-requires-clause-few g c =
@@ -58,7 +57,7 @@ executors-requires-clause-few g c =
 pub executors-requires-clause-capacity : goal.executors-requires-clause-capacity
 executors-requires-clause-capacity g c =
     subst (λ (z : ℕ × List (Inbox g.row.W.Denot g.row.M.Denot g.row.M-Sender.Denot g.row.M-Taker.Denot)). All (λ i. g.M.Mailbox.ends.capacity_of i.mailbox ≡ z.0) z.1)
-    (λ i. (sym (ap (λ (p : Plan). p.capacity) c.requires.made) i, sym c.as_slice.ensures.value i)) c.in_ok-inboxes.ensures.capacity
+    (λ i. (sym (ap (λ (p : Plan). p.capacity) c.requires.run.made) i, sym c.as_slice.ensures.value i)) c.in_ok-inboxes.ensures.capacity
 
 pub executors-requires-clause-start : goal.executors-requires-clause-start
 executors-requires-clause-start g c =
@@ -74,7 +73,7 @@ executors-requires-clause-start g c =
     }
 
 pub report_of-requires-clause-plan : goal.report_of-requires-clause-plan
-report_of-requires-clause-plan g c = subst (λ (p : Plan). IsPlan p) (sym c.requires.made) (c.into_channels.ensures.is_world.ruled c.args.capacity c.requires.some)
+report_of-requires-clause-plan g c = subst (λ (p : Plan). IsPlan p) (sym c.requires.run.made) (c.into_channels.ensures.is_world.ruled c.args.capacity c.requires.run.some)
 
 pub report_of-requires-clause-executors : goal.report_of-requires-clause-executors
 report_of-requires-clause-executors g c =
@@ -85,7 +84,7 @@ pub report_of-requires-clause-channels : goal.report_of-requires-clause-channels
 report_of-requires-clause-channels g c =
     let channels = c.args.world.channels in
     let recorded = ap (λ (l : List (Recorded g.row.S.Denot g.row.T.Denot)). length l) (c.into_vec.ensures ∙ c.into_channels.ensures.channels) in
-    let plan = ap (λ (p : Plan). length p.channels) c.requires.made in
+    let plan = ap (λ (p : Plan). length p.channels) c.requires.run.made in
     omega (arith, c.len-channels.ensures, c.in_ok-parts.parts.ok.0, c.in_ok-parts.ensures.count, recorded, plan, length-map channels (channel_planned g.S.Stage.meaning g.T.Transport.state))
 
 -- each executor has told its first turn

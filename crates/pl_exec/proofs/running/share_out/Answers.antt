@@ -6,17 +6,15 @@ use Rattle.pl_part.specs.Parts.{ChannelPartView}
 use Rattle.pl_channel.specs.Ways.{ArePlaceable}
 use Rattle.pl_exec.specs.Lanes.{AreLaid, lane_table}
 use Rattle.pl_exec.specs.Opening.{lanes_in}
-use Rattle.pl_exec.specs.SessionWords.{seats_marks}
 use Rattle.pl_exec.specs.Sharing.{channels_on, places_of, rows_in}
 use Rattle.pl_exec.specs.Telling.{plan_marks}
 use Rattle.pl_exec.proofs.Ready.{ready-count, ready-placeable, ready-laid, ready-open, ready-fit}
 use Rattle.pl_exec.proofs.running.share_out.Goals as goal
 
--- there are seats for each channel
+-- of each channel there are seats or none
 pub shares-requires : goal.shares-requires
 shares-requires g c =
-    sym (length-map c.args.seats seats_marks)
-    ∙ ap (λ (l : List (ℕ × ℕ)). length l) c.requires.marks
+    c.requires.seats.count
     ∙ length-map g.W.Planned.plan.channels plan_marks
     ∙ sym (ready-count g.S.Stage.meaning g.S.Stage.stands_after g.T.Transport.state g.W.Planned.plan c.args.parts.items c.requires.ready)
 
@@ -32,7 +30,7 @@ lane_table-requires g c =
 
 pub returns-clause-count : goal.returns-clause-count
 returns-clause-count g c =
-    c.in_ok-nodes.ensures.shared.count ∙ ap (λ (l : List (List ℕ)). length l) c.in_ok-here.ensures ∙ length-map-range_with_len (channels_on c.as_slice-2.result.now) 0 c.args.count ∙ c.requires.executors
+    c.in_ok-nodes.ensures.count ∙ ap (λ (l : List (List ℕ)). length l) c.in_ok-here.ensures ∙ length-map-range_with_len (channels_on c.as_slice-2.result.now) 0 c.args.count ∙ c.requires.executors
 
 pub returns-clause-fit : goal.returns-clause-fit
 returns-clause-fit g c =
@@ -40,7 +38,7 @@ returns-clause-fit g c =
     let reserved = c.in_ok-places.ensures ∙ ap (λ (l : List (ChannelPartView g.row.S.Denot g.row.T.Denot)). places_of l c.args.count) c.as_slice.ensures.value in
     ready-fit g.S.Stage.meaning g.S.Stage.stands_after g.T.Transport.state g.W.Planned.plan c.args.parts.items c.requires.ready c.args.count c.requires.executors (lanes_in c.in_ok-lanes.lanes.items)
     (c.in_ok-lanes.ensures ∙ ap (λ (l : List (ChannelPartView g.row.S.Denot g.row.T.Denot)). lane_table l c.args.count) c.as_slice-3.ensures.value)
-    g.W.Named.world c.requires.world c.args.words.now c.args.seats c.requires.seats c.requires.marks c.in_ok-nodes.ensures.new (rows_in c.in_ok-here.here.items) c.in_ok-nodes.nodes.items c.in_ok-places.places.items known c.in_ok-nodes.ensures.shared reserved
+    g.W.Named.world c.requires.world c.args.words.now c.args.seats.items c.requires.seats (rows_in c.in_ok-here.here.items) c.in_ok-nodes.nodes.items c.in_ok-places.places.items known c.in_ok-nodes.ensures reserved
 
 pub returns-clause-open : goal.returns-clause-open
 returns-clause-open g c =

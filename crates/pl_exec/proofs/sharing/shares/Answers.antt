@@ -1,9 +1,9 @@
 use Rattle.std.specs.Global.{Vec}
-use Rattle.std.proofs.Common.{◌≡◌, ◌++◌, [], ◌∷◌, ℕ, List, length, map, inl, inr, ap, sym, subst, refl, ◌∙◌, arith}
+use Rattle.std.proofs.Common.{◌≡◌, ◌++◌, [], ◌∷◌, ℕ, List, Option, length, map, inl, inr, ap, sym, subst, refl, ◌∙◌, arith}
 use Rattle.std.proofs.lemmas.List.{length-map, map-append, nil_from_length}
 use Rattle.pl_event.proofs.Lists.{seen-more}
 use Rattle.pl_part.specs.Parts.{ChannelPartView}
-use Rattle.pl_exec.specs.SessionWords.{AreUnused, SeatsView}
+use Rattle.pl_exec.specs.SessionWords.{SeatsView}
 use Rattle.pl_exec.specs.Sharing.{AreShared, rows_in}
 use Rattle.pl_exec.proofs.ListSteps.{all-done, both-behind}
 use Rattle.pl_exec.proofs.SharesMade.{channel-shared, one-head}
@@ -15,11 +15,11 @@ loop-part-init g c =
     let gives = c.into_iter-part-iterator.ensures.into_iter_gives in
     let first : c.zip-part-items.result.a ≡ c.into_iter.result = c.zip-part-items.ensures.first in
     let parts : c.into_iter-part-iterator.result.a.rest.items ≡ c.args.parts.items = (λ i. (gives i).a.rest.items) ∙ (λ i. (first i).rest.items) ∙ c.into_iter.ensures.rest in
-    let seats : c.into_iter-part-iterator.result.b.rest.items ≡ c.args.seats = (λ i. (gives i).b.rest.items) ∙ c.zip-part-items.ensures.second.0 ∙ c.seats.view_is in
+    let seats : c.into_iter-part-iterator.result.b.rest.items ≡ c.args.seats.items = (λ i. (gives i).b.rest.items) ∙ c.zip-part-items.ensures.second.0 in
     record {
       parts = parts;
       seats = seats;
-      rest = ap (λ (l : List SeatsView). length l) seats ∙ c.requires ∙ sym (ap (λ (l : List (ChannelPartView g.row.S.Denot g.row.T.Denot)). length l) parts);
+      rest = ap (λ (l : List (Option SeatsView)). length l) seats ∙ c.requires ∙ sym (ap (λ (l : List (ChannelPartView g.row.S.Denot g.row.T.Denot)). length l) parts);
       shared = c.in_ok-all.ensures;
     }
 
@@ -35,7 +35,7 @@ add_shares-requires-clause-one g c = one-head c.in-Some.part c.in_ok-split.field
 
 pub loop-part-preserved : goal.loop-part-preserved
 loop-part-preserved g c =
-    let Item = ChannelPartView g.row.S.Denot g.row.T.Denot × SeatsView in
+    let Item = ChannelPartView g.row.S.Denot g.row.T.Denot × Option SeatsView in
     let inv = c.loop-part.invariant in
     let steps = c.in-Some.ensures.steps in
     let left = c.loop-part.part-iterator in
@@ -47,10 +47,10 @@ loop-part-preserved g c =
     let split = c.in_ok-split.ensures in
     record {
       parts = seen-more (λ (z : Item). z.0) c.args.parts.items left.a.rest.items next.a.rest.items done (done ++ item ∷ []) part item inv.parts steps.0.0 refl refl;
-      seats = seen-more (λ (z : Item). z.1) c.args.seats left.b.rest.items next.b.rest.items done (done ++ item ∷ []) seats item inv.seats steps.1.0 refl refl;
+      seats = seen-more (λ (z : Item). z.1) c.args.seats.items left.b.rest.items next.b.rest.items done (done ++ item ∷ []) seats item inv.seats steps.1.0 refl refl;
       rest = both-behind left.a.rest.items next.a.rest.items left.b.rest.items next.b.rest.items part seats inv.rest steps.0.0 steps.1.0;
       shared =
-          subst (λ (z : List (ChannelPartView g.row.S.Denot g.row.T.Denot) × List SeatsView). AreShared g.S.Stage.meaning g.S.Stage.stands_after g.T.Transport.state z.0 c.args.words.now z.1 (rows_in c.args.here.items) c.add_shares.new.all.items)
+          subst (λ (z : List (ChannelPartView g.row.S.Denot g.row.T.Denot) × List (Option SeatsView)). AreShared g.S.Stage.meaning g.S.Stage.stands_after g.T.Transport.state z.0 c.args.words.now z.1 (rows_in c.args.here.items) c.add_shares.new.all.items)
           (λ i. (sym (map-append (λ (z : Item). z.0) done (item ∷ [])) i, sym (map-append (λ (z : Item). z.1) done (item ∷ [])) i))
           (channel-shared g.S.Stage.meaning g.S.Stage.stands_after g.T.Transport.state c.args.words.now (map (λ (z : Item). z.0) done) part (map (λ (z : Item). z.1) done) seats
           (length-map done (λ (z : Item). z.1) ∙ sym (length-map done (λ (z : Item). z.0))) (rows_in c.args.here.items) c.loop-part.all.items c.add_shares.new.all.items c.in_ok-split.field-0.items inv.shared
@@ -66,16 +66,13 @@ loop-part-preserved g c =
           c.in_ok-add_shares.ensures);
     }
 
-pub returns-clause-shared : goal.returns-clause-shared
-returns-clause-shared g c =
-    let Item = ChannelPartView g.row.S.Denot g.row.T.Denot × SeatsView in
+pub returns : goal.returns
+returns g c =
+    let Item = ChannelPartView g.row.S.Denot g.row.T.Denot × Option SeatsView in
     let inv = c.loop-part.invariant in
     let left = c.loop-part.part-iterator in
     let done = c.loop-part.yielded in
     let none : length left.a.rest.items ≡ 0 = elim c.in-None.ensures.steps [ inl h ↦ omega (arith, h.1.0, left.a.rest.ok) | inr h ↦ omega (arith, h.1.0, left.b.rest.ok, inv.rest) ] in
     let parts = all-done c.args.parts.items (map (λ (z : Item). z.0) done) left.a.rest.items (nil_from_length left.a.rest.items none) inv.parts in
-    let seats = all-done c.args.seats (map (λ (z : Item). z.1) done) left.b.rest.items (nil_from_length left.b.rest.items (omega (arith, none, inv.rest))) inv.seats in
-    subst (λ (z : List (ChannelPartView g.row.S.Denot g.row.T.Denot) × List SeatsView). AreShared g.S.Stage.meaning g.S.Stage.stands_after g.T.Transport.state z.0 c.args.words.now z.1 (rows_in c.args.here.items) c.loop-part.all.items) (λ i. (parts i, seats i)) inv.shared
-
-pub returns-clause-new : goal.returns-clause-new
-returns-clause-new g c = subst AreUnused c.seats.view_is c.seats.invariant
+    let seats = all-done c.args.seats.items (map (λ (z : Item). z.1) done) left.b.rest.items (nil_from_length left.b.rest.items (omega (arith, none, inv.rest))) inv.seats in
+    subst (λ (z : List (ChannelPartView g.row.S.Denot g.row.T.Denot) × List (Option SeatsView)). AreShared g.S.Stage.meaning g.S.Stage.stands_after g.T.Transport.state z.0 c.args.words.now z.1 (rows_in c.args.here.items) c.loop-part.all.items) (λ i. (parts i, seats i)) inv.shared

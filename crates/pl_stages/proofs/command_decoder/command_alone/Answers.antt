@@ -7,4 +7,4 @@ pub returns-then-takes_argument : goal.returns-then-takes_argument
 returns-then-takes_argument c =
     let verb = c.args.verb.now in
     needs_more (bytes_eq verb (codes "PING")) (bytes_eq verb (codes "QUIT")) (bytes_eq verb (codes "ECHO")) (bytes_eq verb (codes "ADD")) (bytes_eq verb (codes "GET"))
-    (sym c.if-eq.ensures) (sym c.if-eq-2.ensures) c.if-takes_argument.ensures
+    (sym c.if-is_verb.ensures) (sym c.if-is_verb-2.ensures) c.if-takes_argument.ensures

@@ -1,19 +1,21 @@
-use Rattle.std.proofs.Common.{refl, arith, rules}
-use Rattle.pl_context.specs.declared.added.Added.TheVariants.{Last, Refused, Discarded}
+use Rattle.std.proofs.Common.{refl, sym, ap, ◌∙◌, rules}
+use Rattle.std.proofs.lemmas.Bool.{true≢false}
+use Rattle.pl_context.specs.declared.added.Added.TheVariants.{Last}
+use Rattle.pl_context.specs.Backlogs.{BacklogView}
+use Rattle.pl_context.specs.Stops.{any_stopped}
+use Rattle.pl_context.proofs.PortLemmas.{none-stopped}
 use Rattle.pl_context.proofs.backlog.Backlog.add.Goals as goal
 
-pub returns-in-Data : goal.returns-in-Data
-returns-in-Data g c =
-    rw (← c.self.view_is) record { answer = Refused; items = search rules; stopped = search rules; discarded = search rules; last = search rules; room = search rules; back = search rules }
-
-pub returns-in-Flags : goal.returns-in-Flags
-returns-in-Flags g c =
-    rw (← c.self.view_is) record { answer = Refused; items = search rules; stopped = search rules; discarded = search rules; last = search rules; room = search rules; back = search rules }
-
-pub returns-then-has : goal.returns-then-has
-returns-then-has g c =
-    rw (← c.self.view_is) record { answer = Discarded; items = search rules; stopped = refl; discarded = search rules; last = search rules; room = omega arith; back = refl }
-
-pub returns-then-is_ok : goal.returns-then-is_ok
-returns-then-is_ok g c =
-    rw (← c.self.view_is) record { answer = Last; items = search rules; stopped = refl; discarded = search rules; last = λ goes_on room. refl; room = search rules; back = refl }
+pub returns-then-is_ready : goal.returns-then-is_ready
+returns-then-is_ready g c =
+    let none = ap (λ (b : BacklogView g.row.A.Denot). any_stopped b.stopped) c.self.view_is ∙ c.is_ready.ensures.goes_on c.if-is_ready.true in
+    let goes_on = none-stopped c.self.inside.stops c.args.envelope.lane none in
+    rw (← c.self.view_is) record {
+      answer = Last;
+      items = search rules;
+      stopped = refl;
+      discarded = (λ is. cc, λ stopped. absurd (true≢false (sym stopped ∙ goes_on)));
+      last = λ goes room. refl;
+      room = search rules;
+      back = refl;
+    }

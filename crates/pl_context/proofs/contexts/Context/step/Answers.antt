@@ -1,4 +1,4 @@
-use Rattle.std.proofs.Common.{◌≡◌, ◌++◌, ◌∷◌, [], List, length, sym, ap, subst, ◌∙◌, arith, length-append}
+use Rattle.std.proofs.Common.{◌++◌, ◌∷◌, [], List, length, sym, ap, subst, ◌∙◌, arith, length-append}
 use Rattle.pl_event.specs.declared.events.Event.{Event}
 use Rattle.pl_event.specs.declared.stages.Turned.{Turned}
 use Rattle.pl_event.specs.Meaning.{turned_after}
@@ -7,7 +7,7 @@ use Rattle.pl_context.specs.Ports.{as_items, end_after}
 use Rattle.pl_context.specs.ContextViews.{ContextView, open_lanes}
 use Rattle.pl_context.specs.Contexts.{IsSmall}
 use Rattle.pl_context.proofs.Places.{places-up, places-down}
-use Rattle.pl_context.proofs.ContextLemmas.{runs-from, length-items, offers-made, on_err}
+use Rattle.pl_context.proofs.ContextLemmas.{all-made, runs-from, length-items, offers-made, on_err}
 use Rattle.pl_context.proofs.contexts.Context.step.Goals as goal
 
 pub put_made-requires-clause-place_up : goal.put_made-requires-clause-place_up
@@ -19,10 +19,6 @@ pub put_made-requires-clause-place_down : goal.put_made-requires-clause-place_do
 put_made-requires-clause-place_down g c = λ o.
     let P : ContextView g.row.S.Denot → Type 0 = λ s. HasPlaces c.args.outputs.now.stopped (open_lanes s) in
     places-down c.args.outputs.now.stopped c.self.inside.up c.self.inside.down c.self.inside.flags (subst P (sym c.self.view_is) c.requires.places) o
-
--- what was made is all that an empty buffer has
-all-made : {start made more : List Event} → made ≡ start ++ more → start ≡ [] → made ≡ more
-all-made {more = more} is none = is ∙ ap (λ (t : List Event). t ++ more) none
 
 pub put_made-requires-clause-few_up : goal.put_made-requires-clause-few_up
 put_made-requires-clause-few_up g c = λ o.

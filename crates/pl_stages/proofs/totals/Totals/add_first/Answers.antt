@@ -1,4 +1,4 @@
-use Rattle.std.proofs.Common.{◌≡◌, ◌+◌, leb, Some, true, false, rules, ap, ◌∙◌, arith}
+use Rattle.std.proofs.Common.{◌≡◌, leb, Some, true, false, rules, ap, ◌∙◌, arith}
 use Rattle.pl_event.specs.declared.events.Reply.TheVariants.{Total}
 use Rattle.std.proofs.lemmas.Bool.{le-leb, lt-leb}
 use Rattle.pl_stages.specs.declared.limits.TheConstants.{MAX_KEYS}

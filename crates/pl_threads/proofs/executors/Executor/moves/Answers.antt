@@ -12,7 +12,7 @@ returns-then-handed-clause-sends g c =
 
 pub returns-clause-sends : goal.returns-clause-sends
 returns-clause-sends g c =
-    let serves = subst (λ (v : ExecutorView g.row.N.Denot). OnlyServes v c.move_heads.new.self) c.self.view_is c.move_heads.ensures.serves in
+    let serves = c.move_heads.ensures.serves in
     hand-sends c.args.self.now.outboxes c.hand.new.self.outboxes c.move_heads.new.self.outboxes c.hand.result c.hand.ensures.handed c.hand.ensures.none c.hand.ensures.oldest
     (nothing-then c.hand.new.self.outboxes c.run_task-ran.new.self.outboxes c.move_heads.new.self.outboxes c.run_task-ran.ensures.sends serves.sends)
 
@@ -37,5 +37,5 @@ returns-clause-does g c =
       ran = c.run_task-ran.new.self;
       hands = hands-one c.args.self.now c.hand.new.self c.hand.result c.hand.ensures.same c.hand.ensures.handed c.hand.ensures.none;
       tasks = tasks-one g.N.OwnNodes.view_of g.N.OwnNodes.acts c.hand.new.self c.run_task-ran.new.self c.run_task-ran.result task.number task.owner task.turns task.none task.task;
-      serves = subst (λ (v : ExecutorView g.row.N.Denot). ServesOne g.N.OwnNodes.view_of g.N.OwnNodes.acts v c.move_heads.new.self) c.self.view_is c.move_heads.ensures.moves;
+      serves = c.move_heads.ensures.moves;
     }

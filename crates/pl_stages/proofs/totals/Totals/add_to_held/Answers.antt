@@ -3,7 +3,7 @@ use Rattle.pl_event.specs.declared.events.Fault.TheVariants.{Range}
 use Rattle.pl_stages.specs.declared.limits.TheConstants.{MAX_TOTAL}
 use Rattle.pl_stages.proofs.Additions.{refusal_of-held, KeepsTotals-raise, reply_unless-cond}
 use Rattle.pl_stages.proofs.TotalsByName.{get_by-updates}
-use Rattle.pl_stages.proofs.totals.Totals.add.Goals as goal
+use Rattle.pl_stages.proofs.totals.Totals.add_to_held.Goals as goal
 
 pub returns-in-Some-clause-reply : goal.returns-in-Some-clause-reply
 returns-in-Some-clause-reply c = λ additions keeps.
@@ -19,9 +19,3 @@ returns-in-Some-clause-kept c = λ additions keeps.
     KeepsTotals-raise c.args.self.now _ additions c.args.key.now c.args.number c.in-Some.held.now c.raise.new.held keeps found c.raise.ensures.total
     (get_by-updates c.args.key.now c.as_slice.result.now c.args.self.now.by_name (c.get_mut.follows.lender c.raise.new.held) (Some c.raise.new.held) c.as_slice.ensures.name updates)
     (search rules)
-
-pub returns-clause-reply : goal.returns-clause-reply
-returns-clause-reply c = rw c.get_mut.follows.holds-at-none at c.add_first.ensures.reply
-
-pub returns-clause-kept : goal.returns-clause-kept
-returns-clause-kept c = rw c.get_mut.follows.holds-at-none at c.add_first.ensures.kept

@@ -1,0 +1,251 @@
+use Rattle.std.proofs.Common.{◌≢◌, ◌+◌, ◌∷◌, ◌++◌, [], List, length, refl, sym, ap, subst, ◌∙◌, arith}
+use Rattle.pl_event.specs.declared.events.Event.{Event}
+use Rattle.pl_event.specs.declared.stages.Changed.TheVariants.{No, Up, Down}
+use Rattle.pl_event.specs.Fitting.{goes_on}
+use Rattle.pl_context.specs.declared.standing.Standing.TheVariants as stands
+use Rattle.pl_context.specs.Standings.{has_failed}
+use Rattle.pl_context.specs.Stops.{StopsView, HasPlaces}
+use Rattle.pl_context.specs.declared.ports.Port.{Port}
+use Rattle.pl_context.specs.Ports.{as_items}
+use Rattle.pl_context.specs.ContextViews.{ContextView, lane_of, open_lanes}
+use Rattle.pl_context.proofs.Places.{places-down}
+use Rattle.pl_context.proofs.ContextLemmas.{all-made, length-items, within-after, small-up, small-down, few-unchanged, counted-same, open-ended, open-failed, takes-unchanged, takes-up, takes-down, takes-fault}
+use Rattle.pl_context.proofs.contexts.Context.take_data.Goals as goal
+
+pub invariant_of-self : goal.invariant_of-self
+invariant_of-self g c =
+    let no = c.in-No.ensures.no refl in
+    record {
+      above = c.self.invariant.above;
+      below = c.self.invariant.below;
+      aside = c.self.invariant.aside;
+      counts = omega (arith, ap (λ (s : ContextView g.row.S.Denot). s.taken) c.self.view_is, c.requires.limit);
+      flag_counts = c.self.invariant.flag_counts;
+      up_empty = c.self.invariant.up_empty;
+      down_empty = no.2 ∙ c.self.invariant.down_empty;
+    }
+
+pub take_item-requires-clause-few : goal.take_item-requires-clause-few
+take_item-requires-clause-few g c =
+    let no = c.in-No.ensures.no refl in
+    few-unchanged g.S.Stage.meaning g.S.Stage.stands_after _ c.args.self.now c.self.view_is c.change-changed.new.stage c.args.envelope.item c.change-changed.new.item no.0 no.1 c.requires.few
+
+pub take_item-requires-clause-places : goal.take_item-requires-clause-places
+take_item-requires-clause-places g c =
+    let P : ContextView g.row.S.Denot → Type 0 = λ s. HasPlaces c.args.outputs.now.stopped (open_lanes s) in
+    subst P (sym c.self.view_is) c.requires.places
+
+pub put_changed-put-requires-clause-event : goal.put_changed-put-requires-clause-event
+put_changed-put-requires-clause-event g c =
+    let n : Up ≢ No = λ e. cc in
+    ap goes_on (c.in-Up.ensures.changes n).2.3
+
+pub put_changed-put-requires-clause-none : goal.put_changed-put-requires-clause-none
+put_changed-put-requires-clause-none g c =
+    let n : Up ≢ No = λ e. cc in
+    (c.in-Up.ensures.ready n).2
+
+pub put_changed-put-requires-clause-room : goal.put_changed-put-requires-clause-room
+put_changed-put-requires-clause-room g c =
+    let n : Up ≢ No = λ e. cc in
+    (c.in-Up.ensures.ready n).1
+
+pub put_changed-put-requires-clause-place_down : goal.put_changed-put-requires-clause-place_down
+put_changed-put-requires-clause-place_down g c =
+    λ o. places-down c.args.outputs.now.stopped c.self.inside.up c.self.inside.down c.self.inside.flags
+    (subst (λ (s : ContextView g.row.S.Denot). HasPlaces c.args.outputs.now.stopped (open_lanes s)) (sym c.self.view_is) c.requires.places) o
+
+pub put_changed-put-requires-clause-few_up : goal.put_changed-put-requires-clause-few_up
+put_changed-put-requires-clause-few_up g c =
+    let n : Up ≢ No = λ e. cc in
+    let changes = c.in-Up.ensures.changes n in
+    (small-up g.S.Stage.meaning g.S.Stage.stands_after _ c.args.self.now c.self.view_is c.change-changed.new.stage c.args.envelope.item c.change-changed.new.item changes.0 changes.2 (c.in-Up.ensures.ready n).0 c.requires.few).0
+
+pub put_changed-put-requires-clause-few_down : goal.put_changed-put-requires-clause-few_down
+put_changed-put-requires-clause-few_down g c =
+    let n : Up ≢ No = λ e. cc in
+    let changes = c.in-Up.ensures.changes n in
+    let few = small-up g.S.Stage.meaning g.S.Stage.stands_after _ c.args.self.now c.self.view_is c.change-changed.new.stage c.args.envelope.item c.change-changed.new.item changes.0 changes.2 (c.in-Up.ensures.ready n).0 c.requires.few in
+    let made = all-made changes.1 c.self.invariant.down_empty in
+    λ o. omega (arith, few.1 o, ap (λ (ys : List Event). length ys) made)
+
+pub invariant_of-self-in-Ok : goal.invariant_of-self-in-Ok
+invariant_of-self-in-Ok g c =
+    let n : Up ≢ No = λ e. cc in
+    let changes = c.in-Up.ensures.changes n in
+    let few = small-up g.S.Stage.meaning g.S.Stage.stands_after _ c.args.self.now c.self.view_is c.change-changed.new.stage c.args.envelope.item c.change-changed.new.item changes.0 changes.2 (c.in-Up.ensures.ready n).0 c.requires.few in
+    let made = all-made changes.1 c.self.invariant.down_empty in
+    record {
+      above = within-after c.self.inside.up c.put_changed-put.new.up (c.change-changed.new.item ∷ []) c.in-Ok.ensures.up few.0;
+      below = within-after c.self.inside.down c.put_changed-put.new.down (as_items c.change-changed.new.below.items) c.in-Ok.ensures.down (λ o. omega (arith, few.1 o, ap (λ (ys : List Event). length ys) made, length-items c.change-changed.new.below.items));
+      aside = c.self.invariant.aside;
+      counts = omega (arith, ap (λ (s : ContextView g.row.S.Denot). s.taken) c.self.view_is, c.requires.limit);
+      flag_counts = c.self.invariant.flag_counts;
+      up_empty = c.self.invariant.up_empty;
+      down_empty = c.put_changed-put.ensures.empty;
+    }
+
+pub invariant_of-self-in-Err-Memory : goal.invariant_of-self-in-Err-Memory
+invariant_of-self-in-Err-Memory g c =
+    record {
+      above = λ o. omega (arith, ap (λ (p : Port). p.made) c.in-Err-Memory.ensures.up_kept, c.self.invariant.above (sym (ap (λ (p : Port). p.is_open) c.in-Err-Memory.ensures.up_kept) ∙ o));
+      below = λ o. omega (arith, ap (λ (p : Port). p.made) c.in-Err-Memory.ensures.down_kept, c.self.invariant.below (sym (ap (λ (p : Port). p.is_open) c.in-Err-Memory.ensures.down_kept) ∙ o));
+      aside = c.self.invariant.aside;
+      counts = omega (arith, ap (λ (s : ContextView g.row.S.Denot). s.taken) c.self.view_is, c.requires.limit);
+      flag_counts = c.self.invariant.flag_counts;
+      up_empty = c.self.invariant.up_empty;
+      down_empty = c.put_changed-put.ensures.empty;
+    }
+
+pub run_out-requires : goal.run_out-requires
+run_out-requires g c =
+    let places = subst (λ (s : ContextView g.row.S.Denot). HasPlaces c.args.outputs.now.stopped (open_lanes s)) (sym c.self.view_is) c.requires.places in
+    let lanes = λ (up down : Port). lane_of up ++ lane_of down ++ lane_of c.self.inside.flags in
+    subst (λ (s : StopsView). HasPlaces s (lanes c.put_changed-put.new.up c.put_changed-put.new.down)) (sym c.in-Err-Memory.ensures.stopped)
+    (subst (λ (p : Port). HasPlaces c.args.outputs.now.stopped (lanes p c.put_changed-put.new.down)) (sym c.in-Err-Memory.ensures.up_kept)
+    (subst (λ (p : Port). HasPlaces c.args.outputs.now.stopped (lanes c.self.inside.up p)) (sym c.in-Err-Memory.ensures.down_kept) places))
+
+pub hand_on-requires-clause-event : goal.hand_on-requires-clause-event
+hand_on-requires-clause-event g c =
+    let n : Down ≢ No = λ e. cc in
+    ap goes_on (c.in-Down.ensures.changes n).2.3
+
+pub hand_on-requires-clause-none : goal.hand_on-requires-clause-none
+hand_on-requires-clause-none g c =
+    let n : Down ≢ No = λ e. cc in
+    (c.in-Down.ensures.ready n).2
+
+pub hand_on-requires-clause-room : goal.hand_on-requires-clause-room
+hand_on-requires-clause-room g c =
+    let n : Down ≢ No = λ e. cc in
+    λ o. (c.in-Down.ensures.ready n).1
+
+pub hand_on-requires-clause-small : goal.hand_on-requires-clause-small
+hand_on-requires-clause-small g c =
+    let n : Down ≢ No = λ e. cc in
+    let changes = c.in-Down.ensures.changes n in
+    let none = sym (all-made changes.1 c.self.invariant.down_empty) ∙ c.in-Down.ensures.alone refl ∙ c.self.invariant.down_empty in
+    let few = small-down g.S.Stage.meaning g.S.Stage.stands_after _ c.args.self.now c.self.view_is c.change-changed.new.stage c.args.envelope.item c.change-changed.new.item changes.0 changes.2 none (c.in-Down.ensures.ready n).0 c.requires.few in
+    λ o. omega (arith, few o)
+
+pub invariant_of-self-in-Down : goal.invariant_of-self-in-Down
+invariant_of-self-in-Down g c =
+    let n : Down ≢ No = λ e. cc in
+    let changes = c.in-Down.ensures.changes n in
+    let none = sym (all-made changes.1 c.self.invariant.down_empty) ∙ c.in-Down.ensures.alone refl ∙ c.self.invariant.down_empty in
+    record {
+      above = c.self.invariant.above;
+      below = within-after c.self.inside.down c.hand_on.new.self (c.change-changed.new.item ∷ []) c.hand_on.ensures.port (small-down g.S.Stage.meaning g.S.Stage.stands_after _ c.args.self.now c.self.view_is c.change-changed.new.stage c.args.envelope.item c.change-changed.new.item changes.0 changes.2 none (c.in-Down.ensures.ready n).0 c.requires.few);
+      aside = c.self.invariant.aside;
+      counts = omega (arith, ap (λ (s : ContextView g.row.S.Denot). s.taken) c.self.view_is, c.requires.limit);
+      flag_counts = c.self.invariant.flag_counts;
+      up_empty = c.self.invariant.up_empty;
+      down_empty = c.in-Down.ensures.alone refl ∙ c.self.invariant.down_empty;
+    }
+
+pub returns-in-No-clause-meaning : goal.returns-in-No-clause-meaning
+returns-in-No-clause-meaning g c =
+    c.take_item.ensures.meaning ∙ c.in-No.ensures.meaning ∙ ap (λ (s : ContextView g.row.S.Denot). g.S.Stage.meaning s.stage) c.self.view_is
+
+pub returns-in-No-clause-place : goal.returns-in-No-clause-place
+returns-in-No-clause-place g c =
+    let place = c.take_item.ensures.place in
+    record {
+      channel = place.channel ∙ ap (λ (s : ContextView g.row.S.Denot). s.channel) c.self.view_is;
+      hop = place.hop ∙ ap (λ (s : ContextView g.row.S.Denot). s.hop) c.self.view_is;
+      taken = place.taken ∙ ap (λ (s : ContextView g.row.S.Denot). s.taken + 1) c.self.view_is;
+      flags_taken = place.flags_taken ∙ ap (λ (s : ContextView g.row.S.Denot). s.flags_taken) c.self.view_is;
+    }
+
+pub returns-in-No-clause-open : goal.returns-in-No-clause-open
+returns-in-No-clause-open g c =
+    let no = c.in-No.ensures.no refl in
+    λ o. takes-unchanged g.S.Stage.meaning g.S.Stage.stands_after g.S.Stage.is_spent _ c.args.self.now c.self.view_is c.change-changed.new.stage c.args.envelope.item c.change-changed.new.item c.args.outputs.now c.take_item.new.outputs c.take_item.result c.take_item.new.self no.0 no.1
+    (c.take_item.ensures.open (ap (λ (s : ContextView g.row.S.Denot). s.standing) c.self.view_is ∙ o))
+
+pub returns-in-No-clause-spent : goal.returns-in-No-clause-spent
+returns-in-No-clause-spent g c =
+    let no = c.in-No.ensures.no refl in
+    λ o spent event is. c.take_item.ensures.spent (ap (λ (s : ContextView g.row.S.Denot). s.standing) c.self.view_is ∙ o) (ap g.S.Stage.is_spent no.0 ∙ ap (λ (s : ContextView g.row.S.Denot). g.S.Stage.is_spent s.stage) c.self.view_is ∙ spent) event (no.1 ∙ is)
+
+pub returns-in-No-clause-ended : goal.returns-in-No-clause-ended
+returns-in-No-clause-ended g c =
+    let no = c.in-No.ensures.no refl in
+    λ e.
+    let h = c.take_item.ensures.ended (ap (λ (s : ContextView g.row.S.Denot). s.standing) c.self.view_is ∙ e) in
+    (h.0, h.1 ∙ counted-same _ c.args.self.now c.self.view_is c.change-changed.new.stage no.0, h.2)
+
+pub returns-in-No-clause-dropped : goal.returns-in-No-clause-dropped
+returns-in-No-clause-dropped g c =
+    let no = c.in-No.ensures.no refl in
+    λ e.
+    let h = c.take_item.ensures.dropped (ap has_failed (ap (λ (s : ContextView g.row.S.Denot). s.standing) c.self.view_is) ∙ e) in
+    (h.0, h.1 ∙ counted-same _ c.args.self.now c.self.view_is c.change-changed.new.stage no.0, h.2)
+
+pub returns-in-Ok-clause-open : goal.returns-in-Ok-clause-open
+returns-in-Ok-clause-open g c =
+    let n : Up ≢ No = λ e. cc in
+    let changes = c.in-Up.ensures.changes n in
+    λ o. takes-up g.S.Stage.meaning g.S.Stage.stands_after g.S.Stage.is_spent _ c.args.self.now c.self.view_is c.args.envelope.item c.change-changed.new.item changes.0 c.change-changed.new.below.items c.args.outputs.now c.put_changed-put.new.outputs c.change-changed.new.stage c.put_changed-put.new.up c.put_changed-put.new.down
+    changes.2 c.in-Up.ensures.meaning (all-made changes.1 c.self.invariant.down_empty) c.in-Ok.ensures.up c.in-Ok.ensures.down c.in-Ok.ensures.out
+
+pub returns-in-Ok-clause-spent : goal.returns-in-Ok-clause-spent
+returns-in-Ok-clause-spent g c =
+    let n : Up ≢ No = λ e. cc in
+    λ o spent event is. absurd (n (c.in-Up.ensures.spent (ap (λ (s : ContextView g.row.S.Denot). g.S.Stage.is_spent s.stage) c.self.view_is ∙ spent)))
+
+pub returns-in-Ok-clause-ended : goal.returns-in-Ok-clause-ended
+returns-in-Ok-clause-ended g c =
+    let n : Up ≢ No = λ e. cc in
+    λ e. absurd (open-ended c.self.inside.standing (c.in-Up.ensures.ready n).0 (ap (λ (s : ContextView g.row.S.Denot). s.standing) c.self.view_is ∙ e))
+
+pub returns-in-Ok-clause-dropped : goal.returns-in-Ok-clause-dropped
+returns-in-Ok-clause-dropped g c =
+    let n : Up ≢ No = λ e. cc in
+    λ e. absurd (open-failed c.self.inside.standing (c.in-Up.ensures.ready n).0 (ap has_failed (ap (λ (s : ContextView g.row.S.Denot). s.standing) c.self.view_is) ∙ e))
+
+pub returns-in-Err-Memory-clause-open : goal.returns-in-Err-Memory-clause-open
+returns-in-Err-Memory-clause-open g c =
+    let n : Up ≢ No = λ e. cc in
+    let changes = c.in-Up.ensures.changes n in
+    let kept = c.in-Err-Memory.ensures in
+    λ o. takes-fault g.S.Stage.meaning g.S.Stage.stands_after g.S.Stage.is_spent _ c.args.self.now c.self.view_is c.args.envelope.item c.change-changed.new.item changes.0 c.change-changed.new.below.items c.args.outputs.now c.put_changed-put.new.outputs c.run_out.new.outputs c.change-changed.new.stage c.put_changed-put.new.up c.put_changed-put.new.down c.run_out.new.self c.run_out.result
+    changes.2 (all-made changes.1 c.self.invariant.down_empty) kept.up_kept kept.down_kept kept.items kept.stopped kept.grows kept.why c.run_out.ensures.failed c.run_out.ensures.closes
+
+pub returns-in-Err-Memory-clause-spent : goal.returns-in-Err-Memory-clause-spent
+returns-in-Err-Memory-clause-spent g c =
+    let n : Up ≢ No = λ e. cc in
+    λ o spent event is. absurd (n (c.in-Up.ensures.spent (ap (λ (s : ContextView g.row.S.Denot). g.S.Stage.is_spent s.stage) c.self.view_is ∙ spent)))
+
+pub returns-in-Err-Memory-clause-ended : goal.returns-in-Err-Memory-clause-ended
+returns-in-Err-Memory-clause-ended g c =
+    let n : Up ≢ No = λ e. cc in
+    λ e. absurd (open-ended c.self.inside.standing (c.in-Up.ensures.ready n).0 (ap (λ (s : ContextView g.row.S.Denot). s.standing) c.self.view_is ∙ e))
+
+pub returns-in-Err-Memory-clause-dropped : goal.returns-in-Err-Memory-clause-dropped
+returns-in-Err-Memory-clause-dropped g c =
+    let n : Up ≢ No = λ e. cc in
+    λ e. absurd (open-failed c.self.inside.standing (c.in-Up.ensures.ready n).0 (ap has_failed (ap (λ (s : ContextView g.row.S.Denot). s.standing) c.self.view_is) ∙ e))
+
+pub returns-in-Down-clause-open : goal.returns-in-Down-clause-open
+returns-in-Down-clause-open g c =
+    let n : Down ≢ No = λ e. cc in
+    let changes = c.in-Down.ensures.changes n in
+    let none = sym (all-made changes.1 c.self.invariant.down_empty) ∙ c.in-Down.ensures.alone refl ∙ c.self.invariant.down_empty in
+    λ o. takes-down g.S.Stage.meaning g.S.Stage.stands_after g.S.Stage.is_spent _ c.args.self.now c.self.view_is c.args.envelope.item c.change-changed.new.item changes.0 c.args.outputs.now c.hand_on.new.outputs c.change-changed.new.stage c.hand_on.new.self
+    changes.2 c.in-Down.ensures.meaning none c.hand_on.ensures.port c.hand_on.ensures.out
+
+pub returns-in-Down-clause-spent : goal.returns-in-Down-clause-spent
+returns-in-Down-clause-spent g c =
+    let n : Down ≢ No = λ e. cc in
+    λ o spent event is. absurd (n (c.in-Down.ensures.spent (ap (λ (s : ContextView g.row.S.Denot). g.S.Stage.is_spent s.stage) c.self.view_is ∙ spent)))
+
+pub returns-in-Down-clause-ended : goal.returns-in-Down-clause-ended
+returns-in-Down-clause-ended g c =
+    let n : Down ≢ No = λ e. cc in
+    λ e. absurd (open-ended c.self.inside.standing (c.in-Down.ensures.ready n).0 (ap (λ (s : ContextView g.row.S.Denot). s.standing) c.self.view_is ∙ e))
+
+pub returns-in-Down-clause-dropped : goal.returns-in-Down-clause-dropped
+returns-in-Down-clause-dropped g c =
+    let n : Down ≢ No = λ e. cc in
+    λ e. absurd (open-failed c.self.inside.standing (c.in-Down.ensures.ready n).0 (ap has_failed (ap (λ (s : ContextView g.row.S.Denot). s.standing) c.self.view_is) ∙ e))
