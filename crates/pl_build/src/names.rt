@@ -26,5 +26,5 @@ pub(crate) fn has_text(kept: &ByteString, name: &str) -> bool
 pub(crate) fn kept(alloc: Global, name: &str) -> Result<ByteString, AllocError>
     ensures { IfOk result (λ kept. kept ≡ name.now) }
 {
-    Ok(ByteString::from_vec(Vec::from_slice(alloc, name.as_bytes())?))
+    ByteString::from_slice(alloc, name.as_bytes())
 }

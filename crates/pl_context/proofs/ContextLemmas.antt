@@ -316,12 +316,15 @@ module _ {S : Type 0} (meaning : S → Meaning) (stands_after : S → List Event
 pub counted-same : {S : Type 0} (v w : ContextView S) → v ≡ w → (stage : S) → stage ≡ v.stage → record (counted Data v) { stage = stage } ≡ counted Data w
 counted-same {S = S} v w same stage e = ap (λ (s : S). record (counted Data v) { stage = s }) e ∙ ap (λ (c : ContextView S). counted Data c) same
 
-pub open-ended : (s : Standing) → s ≡ stands.Open → s ≡ stands.Ended → ⊥
-open-ended s e f = cc
+-- a context that stands open has neither ended nor failed
+pub open-ended : {S : Type 0} (v w : ContextView S) → v ≡ w → v.standing ≡ stands.Open → w.standing ≡ stands.Ended → ⊥
+open-ended {S = S} v w same is_open ended =
+    let clash : stands.Open ≡ stands.Ended = sym is_open ∙ ap (λ (c : ContextView S). c.standing) same ∙ ended in
+    cc
 
-pub open-failed : (s : Standing) → s ≡ stands.Open → has_failed s ≡ true → ⊥
-open-failed s e f =
-    let clash : false ≡ true = sym (ap has_failed e) ∙ f in
+pub open-failed : {S : Type 0} (v w : ContextView S) → v ≡ w → v.standing ≡ stands.Open → has_failed w.standing ≡ true → ⊥
+open-failed {S = S} v w same is_open failed =
+    let clash : false ≡ true = ap has_failed (sym is_open ∙ ap (λ (c : ContextView S). c.standing) same) ∙ failed in
     cc
 
 module _ {S : Type 0} (meaning : S → Meaning) (stands_after : S → List Event → Type 0) (is_spent : S → Bool) where

@@ -6,7 +6,7 @@ ghost use Rattle.std.specs.Cmp;
 ghost use Rattle.std.specs.Cmp.Lexicographic.{pointwise, nat_list_eq_equiv};
 ghost use Rattle.pl_event.specs.Keys.{is_key, is_key_byte};
 
-use crate::byte_string::ByteString;
+use arrayvec::ArrayVec;
 use std::alloc::AllocError;
 use std::marker::Model;
 
@@ -17,7 +17,7 @@ pub const MAX_KEY_LENGTH: usize = 16;
 /// its bytes.
 #[derive(Debug, Drop)]
 pub struct Key {
-    name: ByteString,
+    name: ArrayVec<u8, MAX_KEY_LENGTH>,
 }
 
 impl Model for Key {
@@ -26,19 +26,20 @@ impl Model for Key {
 
     ghost Value = { List ℕ };
 
-    ghost view = { λ k. k.name };
+    ghost view = { λ k. k.name.items };
 
-    ghost invariant = { λ k. IsTrue (is_key k.name) };
+    ghost invariant = { λ k. IsTrue (is_key k.name.items) };
 }
 
 impl Key {
     /// The key of this name, or None where no key may have it. It takes no memory.
-    pub fn new(name: ByteString) -> Option<Self>
-        ensures found { is_some result ≡ is_key name }
-        ensures name { IfSome result (λ key. key ≡ name) }
+    pub fn new(name: &[u8]) -> Option<Self>
+        ensures found { is_some result ≡ is_key name.now }
+        ensures name { IfSome result (λ key. key ≡ name.now) }
     {
-        if is_name(name.as_slice()) {
-            Some(Key { name })
+        let mut kept = ArrayVec::new();
+        if kept.try_extend_from_slice(name).is_ok() && is_name(name) {
+            Some(Key { name: kept })
         } else {
             None
         }
@@ -90,7 +91,7 @@ impl PartialEq for Key {
     ghost laws = { Cmp.partial_equiv_from_equiv nat_list_eq_equiv };
 
     fn eq(&self, other: &Key) -> bool {
-        self.name == other.name
+        self.as_slice() == other.as_slice()
     }
 }
 

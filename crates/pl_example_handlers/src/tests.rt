@@ -63,10 +63,7 @@ enum Came {
 impl Came {
     fn element(self, alloc: Global) -> Result<Element, AllocError> {
         match self {
-            Came::Chunk(chunk) => {
-                let bytes = Vec::from_slice(alloc, chunk)?;
-                Ok(Element::Chunk(ByteString::from_vec(bytes)))
-            }
+            Came::Chunk(chunk) => Ok(Element::Chunk(ByteString::from_slice(alloc, chunk)?)),
             Came::User(number) => Ok(Element::User(number)),
         }
     }
@@ -149,7 +146,7 @@ fn assert_channel(
 fn odd_lines_in_upper_case(rt: HostRuntime) -> Result<(), Fail> {
     let alloc = rt.alloc();
     let report = plain_world(alloc, world(alloc, INPUT)?)?;
-    let echo = Command::Echo(ByteString::from_vec(Vec::from_slice(alloc, b"B")?));
+    let echo = Command::Echo(ByteString::from_slice(alloc, b"B")?);
     let tail = [
         Event::Active,
         read(Command::Ping),
@@ -209,9 +206,9 @@ fn one_step(rt: HostRuntime) -> Result<(), Fail> {
     let mut stage = MapUp::new(UpperCase);
     let mut up = Vec::new(alloc);
     let mut down = Vec::new(alloc);
-    let line = ByteString::from_vec(Vec::from_slice(alloc, b"Echo a-z")?);
+    let line = ByteString::from_slice(alloc, b"Echo a-z")?;
     stage.step(Event::Read(Message::Line(line)), &mut up, &mut down)?;
-    let upper = ByteString::from_vec(Vec::from_slice(alloc, b"ECHO A-Z")?);
+    let upper = ByteString::from_slice(alloc, b"ECHO A-Z")?;
     assert_eq!(rt;
         up.as_slice(),
         [Event::Read(Message::Line(upper))].as_slice()

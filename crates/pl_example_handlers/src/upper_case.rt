@@ -6,7 +6,7 @@ use pl_event::{ByteString, Event, Mapping, Message};
 use pl_stages::ThriftyMapping;
 use std::alloc::AllocError;
 
-/// Puts each line that is read in upper case, in its own memory, and hands on all else as it is. `MapUp::new(UpperCase)`
+/// Puts each line that is read in upper case, and hands on all else as it is. `MapUp::new(UpperCase)`
 /// is the handler.
 #[derive(Debug, Drop)]
 pub struct UpperCase;
@@ -17,7 +17,7 @@ impl Mapping for UpperCase {
     fn map(&self, event: Event) -> Result<Event, AllocError> {
         match event {
             Event::Read(Message::Line(line)) => {
-                let mut bytes = line.into_vec();
+                let mut bytes = line.into_vec()?;
                 bytes.make_ascii_uppercase();
                 Ok(Event::Read(Message::Line(ByteString::from_vec(bytes))))
             }

@@ -65,27 +65,15 @@ fn add_hop<S: Stage, T: Transport>(
 {
     let sender = sender_of(part, hop as usize);
     let target = part.target(hop as usize);
-    add_between(
-        table,
-        sender,
-        target,
-        Lane {
-            channel,
-            kind: Kind::Data,
-            hop,
-        },
-    )?;
+    let mut lane = Lane {
+        channel,
+        kind: Kind::Data,
+        hop,
+    };
+    add_between(table, sender, target, lane)?;
     if hop as usize + 1 < part.hops() {
-        add_between(
-            table,
-            sender,
-            target,
-            Lane {
-                channel,
-                kind: Kind::Flags,
-                hop,
-            },
-        )?;
+        lane.kind = Kind::Flags;
+        add_between(table, sender, target, lane)?;
     }
     Ok(())
 }

@@ -1,5 +1,5 @@
 -- How a head stands that has failed by itself, or not.
-use Rattle.std.proofs.Common.{◌≡◌, ℕ, ◌-◌, List, [], ◌∷◌, ◌++◌, length, Bool, false, Option, Some, None, is_some, if◌then◌else◌, refl, ◌∙◌}
+use Rattle.std.proofs.Common.{◌≡◌, ℕ, List, [], ◌∷◌, ◌++◌, length, Bool, false, Option, Some, None, is_some, if◌then◌else◌, refl, ◌∙◌}
 use Rattle.pl_event.specs.declared.events.Event.{Event}
 use Rattle.pl_event.specs.declared.outcomes.Outcome.{Outcome}
 use Rattle.pl_event.specs.declared.outcomes.Cause.{Cause}
@@ -8,7 +8,8 @@ use Rattle.pl_head.specs.Failures.{AreOutcomes}
 use Rattle.pl_head.specs.Marks.{Change, Removed}
 use Rattle.pl_head.specs.MarksStand.{Watermarks}
 use Rattle.pl_head.specs.Buffers.{OutboundBufferView, BufferStands, BufferFailed}
-use Rattle.pl_head.specs.HeadStand.{BufferAfter}
+use Rattle.pl_head.specs.declared.heads.OutStep.TheVariants.{Wrote}
+use Rattle.pl_head.specs.HeadStand.{BufferAfter, step_sizes}
 
 pub marks_after : (f : Option Cause) (accepted : List ℕ) (b : OutboundBufferView) (ys zs : List Event) (ended : Bool) (sizes : List Change) → BufferAfter f accepted b ys zs ended sizes
     → Watermarks b.low b.high b.pending b.is_unwritable b.flags sizes
@@ -41,16 +42,16 @@ pub unfailed : (f : Option Cause) (accepted : List ℕ) (b : OutboundBufferView)
 unfailed None accepted b ys zs ended sizes e s = s.1
 unfailed (Some cause) accepted b ys zs ended sizes e s = cc e
 
--- some bytes were accepted
-pub wrote_after : (f : Option Cause) (accepted accepted' : List ℕ) (b b' : OutboundBufferView) (ys zs : List Event) (ended : Bool) (sizes : List Change) → is_some f ≡ false → BufferAfter f accepted b ys zs ended sizes
-    → BufferStands accepted' b' ys ended (sizes ++ Removed (waiting_bytes ys (length accepted) ended - waiting_bytes ys (length accepted') ended) ∷ [])
-    → BufferAfter f accepted' b' ys zs ended (sizes ++ Removed ((if is_some f then 0 else waiting_bytes ys (length accepted) ended) - (if is_some f then 0 else waiting_bytes ys (length accepted') ended)) ∷ [])
-wrote_after None accepted accepted' b b' ys zs ended sizes e s t = (s.0, t)
-wrote_after (Some cause) accepted accepted' b b' ys zs ended sizes e s t = cc e
+-- it accepts so many bytes
+pub wrote_after : (f : Option Cause) (n : ℕ) (accepted accepted' : List ℕ) (b b' : OutboundBufferView) (ys zs : List Event) (ended : Bool) (sizes : List Change) → is_some f ≡ false → BufferAfter f accepted b ys zs ended sizes
+    → BufferStands accepted' b' ys ended (sizes ++ step_sizes (Wrote n) (waiting_bytes ys (length accepted) ended) (waiting_bytes ys (length accepted') ended))
+    → BufferAfter f accepted' b' ys zs ended (sizes ++ step_sizes (Wrote n) (if is_some f then 0 else waiting_bytes ys (length accepted) ended) (if is_some f then 0 else waiting_bytes ys (length accepted') ended))
+wrote_after None n accepted accepted' b b' ys zs ended sizes e s t = (s.0, t)
+wrote_after (Some cause) n accepted accepted' b b' ys zs ended sizes e s t = cc e
 
-pub removed_unfailed : (f : Option Cause) (before after : ℕ) → is_some f ≡ false → Removed ((if is_some f then 0 else before) - (if is_some f then 0 else after)) ∷ [] ≡ Removed (before - after) ∷ []
-removed_unfailed None before after e = refl
-removed_unfailed (Some cause) before after e = cc e
+pub wrote_unfailed : (f : Option Cause) (n before after : ℕ) → is_some f ≡ false → step_sizes (Wrote n) (if is_some f then 0 else before) (if is_some f then 0 else after) ≡ step_sizes (Wrote n) before after
+wrote_unfailed None n before after e = refl
+wrote_unfailed (Some cause) n before after e = cc e
 
 -- it fails
 pub fail_after : (f : Option Cause) (o : Outcome) (accepted : List ℕ) (b b' : OutboundBufferView) (ys zs : List Event) (ended : Bool) (sizes : List Change) → is_some f ≡ false → BufferAfter f accepted b ys zs ended sizes

@@ -1,5 +1,5 @@
 -- Stations, step by step.
-use Rattle.std.proofs.Common.{◌≡◌, ◌≢◌, ℕ, ◌+◌, ◌<◌, ◌^◌, ◌==◌, Bool, true, false, List, [], ◌∷◌, ◌++◌, length, slice_get, Option, Some, None, refl, ap, sym, subst, ◌∙◌, arith}
+use Rattle.std.proofs.Common.{◌≡◌, ◌≢◌, ◌⊎◌, ℕ, ◌+◌, ◌<◌, ◌≤◌, ◌^◌, ◌==◌, Bool, true, false, List, [], ◌∷◌, ◌++◌, length, slice_get, Option, Some, None, refl, ap, sym, subst, ◌∙◌, arith}
 use Rattle.std.proofs.lemmas.List.Elements.{All-nil}
 use Rattle.std.proofs.lemmas.Bool.{cond-true, cond-false, eq-eqb, ne_eqb}
 use Rattle.std.specs.List.{position}
@@ -15,7 +15,7 @@ use Rattle.pl_flow.specs.LanesViews.{LanesView}
 use Rattle.pl_flow.specs.Makes.{Makes}
 use Rattle.pl_flow.specs.declared.moves.HeadMove.{HeadMove}
 use Rattle.pl_net.specs.NodesViews.{NodesView, written_by, NodesTake, NodesGive, NodesMake}
-use Rattle.pl_net.specs.Nets.{queue_at, LaneStands, IsStart, no_backlogs, StationView, IsAdded, IsTakenOut, StationsView, StationsStand, IsKeep, WorksListOff, Gives, HandsOver}
+use Rattle.pl_net.specs.Nets.{queue_at, LaneStands, IsStart, no_backlogs, StationView, IsAdded, IsTakenOut, StationsView, StationsStand, IsCall, IsKeep, IsStep, WorksListOff, Gives, HandsOver}
 use Rattle.pl_net.proofs.OneExecutor.{Replaces}
 use Rattle.pl_net.proofs.NetSteps.{nets-put, front-written, call-number, call-good, called}
 use Rattle.pl_net.proofs.TaskSteps.{at-rest, task-written, task-target, task-number, task-good, tasked, task-few}
@@ -32,6 +32,10 @@ module _ {N : Type 0} (view_of : N → NodesView) (stands : World → N → Type
 
   pub step-places : HasPlaces mid.stopped v.lanes.places
   step-places = subst (λ s. HasPlaces s v.lanes.places) (sym stops) h.places
+
+  -- it takes the front of the list, whatever becomes of that
+  pub step-is : (takes : N → Envelope → OutputsView → N → OutputsView → Type 0) {c' : StationsView N} → c.work.room ≤ mid.room → IsCall view_of takes x c e mid c' ⊎ IsKeep view_of takes x c e mid c' → IsStep view_of takes x c c'
+  step-is takes room becomes = record { envelope = e; mid = mid; front = front; stopped = stops; room = room; becomes = becomes }
 
   -- ---- a direct call
 

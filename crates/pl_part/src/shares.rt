@@ -1,6 +1,6 @@
 //! Slots of nodes, of which some are taken out.
 
-ghost use Rattle.std.specs.Prelude.{◌≡◌, ℕ, ◌≤◌, ◌==◌, not, IfOk, OnOk, None, get_or, length};
+ghost use Rattle.std.specs.Prelude.{◌≡◌, ℕ, ◌≤◌, ◌==◌, ◌++◌, ◌∷◌, [], not, IfOk, OnOk, None, get_or, length};
 ghost use Rattle.pl_part.specs.Shares.{only_if};
 
 use pl_context::Context;
@@ -27,10 +27,28 @@ pub fn take_contexts<S: Stage>(
     ensures taken { IfOk result (λ taken. (hop : ℕ) → get_or taken.items hop None ≡ only_if (get_or executors.now hop 0 == executor) (get_or contexts.old hop None)) }
     ensures left { OnOk result ((hop : ℕ) → get_or contexts.new hop None ≡ only_if (not (get_or executors.now hop 0 == executor)) (get_or contexts.old hop None)) }
 {
-    let mut taken = Vec::new(alloc);
+    let mut taken = Vec::with_capacity(alloc, contexts.len())?;
     for hop in 0..contexts.len() {
         let is_wanted = executors[hop] as usize == executor;
-        taken.push(take_where(&mut contexts[hop], is_wanted))?;
+        add_where(&mut taken, &mut contexts[hop], is_wanted)?;
     }
     Ok(taken)
+}
+
+/// Adds a slot with what is there, where that is wanted, else an empty one. Most are empty, and those are quickly written.
+#[inline(always)]
+fn add_where<S: Stage>(
+    taken: &mut Vec<Option<Context<S>>>,
+    slot: &mut Option<Context<S>>,
+    is_wanted: bool,
+) -> Result<(), AllocError>
+    ensures taken { OnOk result (taken.new.items ≡ taken.old.items ++ only_if is_wanted slot.old ∷ []) }
+    ensures left { OnOk result (slot.new ≡ only_if (not is_wanted) slot.old) }
+{
+    if is_wanted {
+        taken.push(slot.take())?;
+    } else {
+        taken.push(None)?;
+    }
+    Ok(())
 }

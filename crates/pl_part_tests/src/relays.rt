@@ -109,7 +109,7 @@ pub(crate) const NO_FAULTS: Faults = Faults {
 fn sample_plan(alloc: Global, abort_after: Option<u32>) -> Result<ReadPlan, AllocError>
     ensures { IfOk result (λ plan. plan.bursts ≡ sample_bursts) }
 {
-    let text = ByteString::from_vec(Vec::from_slice(alloc, b"ab")?);
+    let text = ByteString::from_slice(alloc, b"ab")?;
     let elements = vec![in alloc; Element::Chunk(text)]?;
     let bursts = vec![in alloc; Sequence::from_vec(elements)]?;
     Ok(ReadPlan {

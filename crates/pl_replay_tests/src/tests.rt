@@ -140,7 +140,7 @@ pub(crate) fn handler(alloc: Global, kind: Kind) -> Result<Handler, Fail>
 }
 
 pub(crate) fn text(alloc: Global, bytes: &[u8]) -> Result<ByteString, AllocError> {
-    Ok(ByteString::from_vec(Vec::from_slice(alloc, bytes)?))
+    ByteString::from_slice(alloc, bytes)
 }
 
 /// A session of channels of these handlers, each with its input, on one loop, with groups of these sizes.

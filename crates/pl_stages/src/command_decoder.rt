@@ -5,7 +5,6 @@ ghost use Rattle.std.specs.List.{position};
 ghost use Rattle.std.specs.Str.{bytes_eq};
 ghost use Rattle.pl_stages.specs.Commands.{is_space, command_decoding, command_of, command_with, add_with, addition_of, get_with, key_in, decoded, read_as};
 
-use crate::bytes::without_front;
 use crate::numbers::number_in;
 use pl_event::{ByteString, Caught, Command, Event, Key, MapUp, Mapping, Message, Stage};
 use std::alloc::{AllocError, Global};
@@ -61,15 +60,15 @@ impl Mapping for CommandDecoder {
 fn read_as(line: ByteString) -> Event
     ensures { result ≡ read_as (command_of line) }
 {
-    match command_of(line.into_vec()) {
+    match command_of(line) {
         Ok(command) => Event::Read(Message::Command(command)),
         Err(caught) => Event::Caught(caught),
     }
 }
 
 /// The command of a line, or why it is none.
-fn command_of(line: Vec<u8>) -> Result<Command, Caught>
-    ensures { result ≡ command_of line.items }
+fn command_of(line: ByteString) -> Result<Command, Caught>
+    ensures { result ≡ command_of line }
 {
     match first_space(line.as_slice()) {
         None => command_alone(line.as_slice()),
@@ -100,17 +99,19 @@ fn takes_argument(verb: &[u8]) -> bool
 }
 
 /// The command of a line whose first space is at `end`.
-fn command_followed(line: Vec<u8>, end: usize) -> Result<Command, Caught>
-    requires { end < vec_len line }
-    ensures { result ≡ command_with (take end line.items) (Some (drop (end + 1) line.items)) }
+fn command_followed(mut line: ByteString, end: usize) -> Result<Command, Caught>
+    requires { end < length line }
+    ensures { result ≡ command_with (take end line) (Some (drop (end + 1) line)) }
 {
-    let verb = &line[..end];
+    let verb = &line.as_slice()[..end];
+    let argument = &line.as_slice()[end + 1..];
     if is_verb(verb, ECHO) {
-        Ok(Command::Echo(ByteString::from_vec(without_front(line, end + 1))))
+        line.drop_front(end + 1);
+        Ok(Command::Echo(line))
     } else if is_verb(verb, ADD) {
-        add_with(without_front(line, end + 1))
+        add_with(argument)
     } else if is_verb(verb, GET) {
-        get_with(without_front(line, end + 1))
+        get_with(argument)
     } else if is_verb(verb, PING) || is_verb(verb, QUIT) {
         Err(Caught::Syntax)
     } else {
@@ -142,33 +143,28 @@ fn first_space(text: &[u8]) -> Option<usize>
 }
 
 /// The addition of a key, a space and a number.
-fn add_with(argument: Vec<u8>) -> Result<Command, Caught>
-    ensures { result ≡ add_with (Some argument.items) }
+fn add_with(argument: &[u8]) -> Result<Command, Caught>
+    ensures { result ≡ add_with (Some argument.now) }
 {
-    match first_space(argument.as_slice()) {
+    match first_space(argument) {
         None => Err(Caught::Syntax),
-        Some(end) => {
-            let number = number_in(&argument[end + 1..]);
-            let mut name = argument;
-            name.truncate(end);
-            addition_of(name, number)
-        }
+        Some(end) => addition_of(&argument[..end], number_in(&argument[end + 1..])),
     }
 }
 
 /// The addition of a number to the key of this name, where the name is one of a key and there is a number.
-fn addition_of(name: Vec<u8>, number: Option<u32>) -> Result<Command, Caught>
-    ensures { result ≡ addition_of (key_in name.items) number }
+fn addition_of(name: &[u8], number: Option<u32>) -> Result<Command, Caught>
+    ensures { result ≡ addition_of (key_in name.now) number }
 {
-    let key = Key::new(ByteString::from_vec(name)).ok_or(Caught::Syntax)?;
+    let key = Key::new(name).ok_or(Caught::Syntax)?;
     let number = number.ok_or(Caught::Syntax)?;
     Ok(Command::Add(key, number))
 }
 
 /// The command that asks for the total of the key of this name.
-fn get_with(name: Vec<u8>) -> Result<Command, Caught>
-    ensures { result ≡ get_with (Some name.items) }
+fn get_with(name: &[u8]) -> Result<Command, Caught>
+    ensures { result ≡ get_with (Some name.now) }
 {
-    let key = Key::new(ByteString::from_vec(name)).ok_or(Caught::Syntax)?;
+    let key = Key::new(name).ok_or(Caught::Syntax)?;
     Ok(Command::Get(key))
 }

@@ -7,7 +7,6 @@ ghost use Rattle.pl_stages.specs.Cutting.{joined, cutting-lawful};
 ghost use Rattle.pl_stages.specs.LengthFraming.{is_width, payload_len, frames_of, length_framing};
 ghost use Rattle.pl_stages.specs.LengthSteps.{KeepsFrame, IsUnfinished, IsOneFrame, IsNextFrame, TakesBytes};
 
-use crate::bytes::without_front;
 use crate::length_width::is_width;
 use crate::limits::MAX_FRAME;
 use crate::stage_refusal::StageRefusal;
@@ -69,15 +68,16 @@ impl LengthFramer {
 
     /// Adds the frames that a chunk gives. A chunk that is one whole frame, but for what is kept of its length field,
     /// is moved.
-    fn take_chunk(&mut self, chunk: Vec<u8>, up: &mut Vec<Event>) -> Result<(), AllocError>
+    fn take_chunk(&mut self, mut chunk: ByteString, up: &mut Vec<Event>) -> Result<(), AllocError>
         ensures width { self.new.width ≡ self.old.width }
         ensures max { self.new.max ≡ self.old.max }
-        ensures takes { OnOk result (TakesBytes self.old.width self.old.max self.old.partial.items self.old.to_skip chunk.items up.old.items self.new.partial.items self.new.to_skip up.new.items) }
+        ensures takes { OnOk result (TakesBytes self.old.width self.old.max self.old.partial.items self.old.to_skip chunk up.old.items self.new.partial.items self.new.to_skip up.new.items) }
         ensures begins { IsPrefixOf up.old.items up.new.items }
     {
         if let Some(start) = self.payload_start(chunk.as_slice()) {
             self.partial.clear();
-            up.push(line_of(without_front(chunk, start)))?;
+            chunk.drop_front(start);
+            up.push(line_of(chunk))?;
             return Ok(());
         }
         self.cut(chunk.as_slice(), up)
@@ -134,7 +134,7 @@ impl LengthFramer {
             if let NextFrame::Whole(len) = next_frame(self.width, self.max, bytes) {
                 let end = self.width + len;
                 let alloc = *self.partial.allocator();
-                up.push(line_of(Vec::from_slice(alloc, &bytes[self.width..end])?))?;
+                up.push(line_of(ByteString::from_slice(alloc, &bytes[self.width..end])?))?;
                 return Ok(end);
             }
         }
@@ -158,8 +158,12 @@ impl LengthFramer {
             NextFrame::Unfinished => {}
             NextFrame::Whole(_) => {
                 let alloc = *self.partial.allocator();
-                let frame = mem::replace(&mut self.partial, Vec::new(alloc));
-                up.push(line_of(without_front(frame, self.width)))?;
+                let mut frame = ByteString::from_vec(mem::replace(
+                    &mut self.partial,
+                    Vec::new(alloc),
+                ));
+                frame.drop_front(self.width);
+                up.push(line_of(frame))?;
             }
             NextFrame::TooLong(len) => {
                 self.partial.clear();
@@ -230,10 +234,10 @@ fn length_of(width: usize, front: &[u8], rest: &[u8]) -> usize
 }
 
 /// A payload as it is read.
-fn line_of(payload: Vec<u8>) -> Event
-    ensures { result ≡ Event.Read (Message.Line payload.items) }
+fn line_of(payload: ByteString) -> Event
+    ensures { result ≡ Event.Read (Message.Line payload) }
 {
-    Event::Read(Message::Line(ByteString::from_vec(payload)))
+    Event::Read(Message::Line(payload))
 }
 
 impl BareStage for LengthFramer {
@@ -247,7 +251,7 @@ impl BareStage for LengthFramer {
 
     fn take(&mut self, event: Event, up: &mut Vec<Event>, _down: &mut Vec<Event>) -> Taken {
         match event {
-            Event::Read(Message::Bytes(chunk)) => self.take_chunk(chunk.into_vec(), up)?,
+            Event::Read(Message::Bytes(chunk)) => self.take_chunk(chunk, up)?,
             other => up.push(other)?,
         }
         Ok(Turned::Open)

@@ -40,7 +40,7 @@ impl LengthPrepender {
         if !self.fits_field(payload.len()) {
             return Ok(Message::Line(payload));
         }
-        let made = prefixed(self.width, payload.into_vec())?;
+        let made = prefixed(self.width, payload.into_vec()?)?;
         Ok(Message::Bytes(ByteString::from_vec(made)))
     }
 

@@ -1,7 +1,6 @@
 //! The built-in handlers: framing by lines and by lengths, the commands, their replies.
 #![tactic(auto)]
 
-mod bytes;
 mod command_decoder;
 mod flush_every;
 mod handlers;
@@ -29,6 +28,6 @@ pub use limits::{MAX_DIGITS, MAX_FLUSHES, MAX_FRAME, MAX_KEYS, MAX_LINE, MAX_TOT
 pub use line_end::LineEnd;
 pub use line_framer::LineFramer;
 pub use line_service::LineService;
-pub use reply_encoder::{ReplyEncoder, add_reply_text};
+pub use reply_encoder::{ReplyEncoder, reply_text};
 pub use stage_refusal::StageRefusal;
 pub use thrifty::{Thrifty, ThriftyBare, ThriftyMapping};

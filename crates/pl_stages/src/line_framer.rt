@@ -26,11 +26,11 @@ pub struct LineFramer {
     /// The longest line, in bytes.
     max: usize,
     /// The bytes after the last line feed, unless they are overlong.
-    partial: Vec<u8>,
+    partial: ByteString,
     /// The bytes after the last line feed make no line, whatever follows. None of them is kept.
     is_overlong: bool,
     ghost in_limit: { max ≤ MAX_LINE },
-    ghost room: { vec_len partial ≤ max + 1 },
+    ghost room: { length partial ≤ max + 1 },
 }
 
 impl LineFramer {
@@ -46,16 +46,16 @@ impl LineFramer {
         }
         Ok(Fused::new(LineFramer {
             max,
-            partial: Vec::new(alloc),
+            partial: ByteString::from_vec(Vec::new(alloc)),
             is_overlong: false,
         }))
     }
 
     /// Adds the lines that a chunk closes. A chunk that is one whole line, or its beginning, is moved.
-    fn take_chunk(&mut self, chunk: Vec<u8>, up: &mut Vec<Event>) -> Result<(), AllocError>
+    fn take_chunk(&mut self, chunk: ByteString, up: &mut Vec<Event>) -> Result<(), AllocError>
         ensures max { self.new.max ≡ self.old.max }
-        ensures kept { OnOk result (KeepsAfter self.old.max self.old.partial.items self.old.is_overlong chunk.items self.new.partial.items self.new.is_overlong) }
-        ensures lines { OnOk result (AddsLines self.old.max self.old.partial.items self.old.is_overlong chunk.items up.old.items up.new.items) }
+        ensures kept { OnOk result (KeepsAfter self.old.max self.old.partial self.old.is_overlong chunk self.new.partial self.new.is_overlong) }
+        ensures lines { OnOk result (AddsLines self.old.max self.old.partial self.old.is_overlong chunk up.old.items up.new.items) }
         ensures begins { IsPrefixOf up.old.items up.new.items }
     {
         match memchr(LINE_FEED, chunk.as_slice()) {
@@ -75,7 +75,7 @@ impl LineFramer {
 
     /// No byte was read after the last line feed.
     fn keeps_nothing(&self) -> bool
-        ensures { IsTrue result → (self.now.is_overlong ≡ false) × (self.now.partial.items ≡ []) }
+        ensures { IsTrue result → (self.now.is_overlong ≡ false) × (self.now.partial ≡ []) }
     {
         self.partial.is_empty() && !self.is_overlong
     }
@@ -83,8 +83,8 @@ impl LineFramer {
     /// Adds the lines that these bytes close.
     fn cut(&mut self, bytes: &[u8], up: &mut Vec<Event>) -> Result<(), AllocError>
         ensures max { self.new.max ≡ self.old.max }
-        ensures kept { OnOk result (KeepsAfter self.old.max self.old.partial.items self.old.is_overlong bytes.now self.new.partial.items self.new.is_overlong) }
-        ensures lines { OnOk result (AddsLines self.old.max self.old.partial.items self.old.is_overlong bytes.now up.old.items up.new.items) }
+        ensures kept { OnOk result (KeepsAfter self.old.max self.old.partial self.old.is_overlong bytes.now self.new.partial self.new.is_overlong) }
+        ensures lines { OnOk result (AddsLines self.old.max self.old.partial self.old.is_overlong bytes.now up.old.items up.new.items) }
         ensures begins { IsPrefixOf up.old.items up.new.items }
     {
         let mut rest = bytes;
@@ -100,20 +100,20 @@ impl LineFramer {
     /// is kept, the line is made of the bytes at once.
     fn close(&mut self, bytes: &[u8], up: &mut Vec<Event>) -> Result<(), AllocError>
         ensures max { self.new.max ≡ self.old.max }
-        ensures empty { OnOk result (KeepsPart self.old.max self.new.partial.items self.new.is_overlong []) }
+        ensures empty { OnOk result (KeepsPart self.old.max self.new.partial self.new.is_overlong []) }
         ensures line { OnOk result ((part : List ℕ)
-            → KeepsPart self.old.max self.old.partial.items self.old.is_overlong part
+            → KeepsPart self.old.max self.old.partial self.old.is_overlong part
             → up.new.items ≡ up.old.items ++ framed self.old.max (part ++ bytes.now) ∷ []) }
         ensures begins { IsPrefixOf up.old.items up.new.items }
     {
         up.reserve(1)?;
         if self.keeps_nothing() && bytes.len() <= self.max + 1 {
-            let part = Vec::from_slice(*up.allocator(), bytes)?;
+            let part = ByteString::from_slice(*up.allocator(), bytes)?;
             up.push_reserved(framed(self.max, part));
             return Ok(());
         }
         self.keep(bytes)?;
-        let line = self.take_line();
+        let line = self.take_line(*up.allocator());
         up.push_reserved(line);
         Ok(())
     }
@@ -122,14 +122,14 @@ impl LineFramer {
     fn keep(&mut self, bytes: &[u8]) -> Result<(), AllocError>
         ensures max { self.new.max ≡ self.old.max }
         ensures kept { OnOk result ((part : List ℕ)
-            → KeepsPart self.old.max self.old.partial.items self.old.is_overlong part
-            → KeepsPart self.old.max self.new.partial.items self.new.is_overlong (part ++ bytes.now)) }
+            → KeepsPart self.old.max self.old.partial self.old.is_overlong part
+            → KeepsPart self.old.max self.new.partial self.new.is_overlong (part ++ bytes.now)) }
     {
         if self.is_overlong {
             return Ok(());
         }
         if self.partial.len() + bytes.len() > self.max + 1 {
-            self.partial.clear();
+            self.partial.truncate(0);
             self.is_overlong = true;
             return Ok(());
         }
@@ -137,14 +137,13 @@ impl LineFramer {
     }
 
     /// The line that the part kept so far makes. The next part is empty.
-    fn take_line(&mut self) -> Event
+    fn take_line(&mut self, alloc: Global) -> Event
         ensures max { self.new.max ≡ self.old.max }
-        ensures line { (part : List ℕ) → KeepsPart self.old.max self.old.partial.items self.old.is_overlong part
+        ensures line { (part : List ℕ) → KeepsPart self.old.max self.old.partial self.old.is_overlong part
             → result ≡ framed self.old.max part }
-        ensures empty { KeepsPart self.old.max self.new.partial.items self.new.is_overlong [] }
+        ensures empty { KeepsPart self.old.max self.new.partial self.new.is_overlong [] }
     {
-        let alloc = *self.partial.allocator();
-        let part = mem::replace(&mut self.partial, Vec::new(alloc));
+        let part = mem::replace(&mut self.partial, ByteString::from_vec(Vec::new(alloc)));
         if mem::replace(&mut self.is_overlong, false) {
             return Event::Caught(Caught::TooLong);
         }
@@ -153,25 +152,23 @@ impl LineFramer {
 }
 
 /// What a closed part is read as.
-fn framed(max: usize, part: Vec<u8>) -> Event
-    ensures { result ≡ framed max part.items }
+fn framed(max: usize, part: ByteString) -> Event
+    ensures { result ≡ framed max part }
 {
     let line = without_return(part);
     if line.len() <= max {
-        Event::Read(Message::Line(ByteString::from_vec(line)))
+        Event::Read(Message::Line(line))
     } else {
         Event::Caught(Caught::TooLong)
     }
 }
 
 /// A part without the carriage return at its end.
-fn without_return(mut part: Vec<u8>) -> Vec<u8>
-    ensures { result.items ≡ without_return part.items }
+fn without_return(mut part: ByteString) -> ByteString
+    ensures { result ≡ without_return part }
 {
-    if let Some(last) = part.last() {
-        if *last == CARRIAGE_RETURN {
-            part.pop();
-        }
+    if part.as_slice().last() == Some(&CARRIAGE_RETURN) {
+        part.truncate(part.len() - 1);
     }
     part
 }
@@ -179,7 +176,7 @@ fn without_return(mut part: Vec<u8>) -> Vec<u8>
 impl BareStage for LineFramer {
     ghost meaning = { λ s. line_framing s.max };
 
-    ghost stands_after = { λ s xs. KeepsPart s.max s.partial.items s.is_overlong (open_part (joined xs)) };
+    ghost stands_after = { λ s xs. KeepsPart s.max s.partial s.is_overlong (open_part (joined xs)) };
 
     fn direction(&self) -> Direction {
         Direction::Inbound
@@ -187,7 +184,7 @@ impl BareStage for LineFramer {
 
     fn take(&mut self, event: Event, up: &mut Vec<Event>, _down: &mut Vec<Event>) -> Taken {
         match event {
-            Event::Read(Message::Bytes(chunk)) => self.take_chunk(chunk.into_vec(), up)?,
+            Event::Read(Message::Bytes(chunk)) => self.take_chunk(chunk, up)?,
             other => up.push(other)?,
         }
         Ok(Turned::Open)

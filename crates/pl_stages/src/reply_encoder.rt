@@ -1,6 +1,6 @@
 //! The handler that writes replies as bytes, and the texts of replies.
 
-ghost use Rattle.std.specs.Prelude.{◌≡◌, false, ◌++◌, [], IfOk, OnOk, OnErr, ⊤};
+ghost use Rattle.std.specs.Prelude.{◌≡◌, false, ◌++◌, [], IfOk, ⊤};
 ghost use Rattle.pl_event.specs.Mappings.{mapping_down-lawful};
 ghost use Rattle.pl_stages.specs.Replies.{reply_encoding, encoded, reply_text, fault_text};
 
@@ -44,7 +44,7 @@ impl BareStage for ReplyEncoder {
 
     fn change(&mut self, event: &mut Event, down: &mut Vec<Event>) -> Changed {
         if let Event::Write(Message::Reply(reply)) = event {
-            match reply_bytes(*down.allocator(), reply) {
+            match reply_text(*down.allocator(), reply) {
                 Ok(text) => *event = Event::Write(Message::Bytes(text)),
                 Err(_) => return Changed::No,
             }
@@ -61,44 +61,33 @@ fn encoded(alloc: Global, event: Event) -> Result<Event, AllocError>
 {
     match event {
         Event::Write(Message::Reply(reply)) => {
-            let text = reply_bytes(alloc, &reply)?;
+            let text = reply_text(alloc, &reply)?;
             Ok(Event::Write(Message::Bytes(text)))
         }
         other => Ok(other),
     }
 }
 
-/// The text of a reply.
-fn reply_bytes(alloc: Global, reply: &Reply) -> Result<ByteString, AllocError>
+/// The text of a reply, as it is sent. An `Err` is out of memory.
+pub fn reply_text(alloc: Global, reply: &Reply) -> Result<ByteString, AllocError>
     ensures { IfOk result (λ text. text ≡ reply_text reply.now) }
 {
-    let mut text = Vec::new(alloc);
-    add_reply_text(&mut text, reply)?;
-    Ok(ByteString::from_vec(text))
-}
-
-/// Adds the text of a reply at the end. An `Err` adds nothing.
-pub fn add_reply_text(text: &mut Vec<u8>, reply: &Reply) -> Result<(), AllocError>
-    ensures ok { OnOk result (text.new.items ≡ text.old.items ++ reply_text reply.now) }
-    ensures err { OnErr result (text.new.items ≡ text.old.items) }
-{
     match reply {
-        Reply::Pong => text.extend_from_slice(b"+PONG"),
-        Reply::Text(bytes) => add_marked(text, b"+", bytes.as_slice()),
-        Reply::Total(total) => add_marked(text, b":", Buffer::new().format(*total).as_bytes()),
-        Reply::Bye => text.extend_from_slice(b"+BYE"),
-        Reply::Error(fault) => text.extend_from_slice(fault_text(*fault)),
+        Reply::Pong => ByteString::from_slice(alloc, b"+PONG"),
+        Reply::Text(bytes) => marked(alloc, b"+", bytes.as_slice()),
+        Reply::Total(total) => marked(alloc, b":", Buffer::new().format(*total).as_bytes()),
+        Reply::Bye => ByteString::from_slice(alloc, b"+BYE"),
+        Reply::Error(fault) => ByteString::from_slice(alloc, fault_text(*fault)),
     }
 }
 
-/// Adds a mark and what it marks. An `Err` adds neither.
-fn add_marked(text: &mut Vec<u8>, mark: &[u8], marked: &[u8]) -> Result<(), AllocError>
-    ensures ok { OnOk result (text.new.items ≡ text.old.items ++ (mark.now ++ marked.now)) }
-    ensures err { OnErr result (text.new.items ≡ text.old.items) }
+/// A mark and what it marks.
+fn marked(alloc: Global, mark: &[u8], text: &[u8]) -> Result<ByteString, AllocError>
+    ensures { IfOk result (λ made. made ≡ mark.now ++ text.now) }
 {
-    text.reserve(mark.len() + marked.len())?;
-    text.extend_from_slice(mark)?;
-    text.extend_from_slice(marked)
+    let mut made = ByteString::from_slice(alloc, mark)?;
+    made.extend_from_slice(text)?;
+    Ok(made)
 }
 
 /// The text of a fault, without the line's end.

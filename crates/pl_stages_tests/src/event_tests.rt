@@ -7,7 +7,7 @@ use std::process::Abort;
 use std::test::Fail;
 
 pub(crate) fn text(alloc: Global, bytes: &[u8]) -> Result<ByteString, AllocError> {
-    Ok(ByteString::from_vec(Vec::from_slice(alloc, bytes)?))
+    ByteString::from_slice(alloc, bytes)
 }
 
 /// Whether a string holds these bytes.
@@ -32,7 +32,28 @@ fn byte_strings(rt: HostRuntime) -> Result<(), Fail> {
     let same = is(alloc, &ping, b"PING")?;
     let others = [is(alloc, &ping, b"PONG")?, is(alloc, &ping, b"PIN")?];
     assert!(rt; same && others == [false, false]);
-    assert!(rt; ping.into_vec().as_slice() == b"PING".as_slice());
+    assert!(rt; ping.into_vec()?.as_slice() == b"PING".as_slice());
+    Ok(())
+}
+
+#[test]
+fn cut_byte_strings(rt: HostRuntime) -> Result<(), Fail> {
+    let alloc = rt.alloc();
+    for bytes in [
+        b"PING PONG".as_slice(),
+        b"more bytes than the string itself has room for",
+    ] {
+        let mut string = ByteString::from_vec(Vec::from_slice(alloc, bytes)?);
+        assert_holds(&rt, &string, bytes);
+        string.drop_front(3);
+        assert_holds(&rt, &string, &bytes[3..]);
+        string.truncate(bytes.len());
+        assert_holds(&rt, &string, &bytes[3..]);
+        string.truncate(2);
+        assert_holds(&rt, &string, &bytes[3..5]);
+        string.drop_front(2);
+        assert_holds(&rt, &string, b"");
+    }
     Ok(())
 }
 
@@ -53,15 +74,10 @@ fn sequences(rt: HostRuntime) -> Result<(), Fail> {
 
 /// A key has this name, and so has its copy.
 fn assert_key(rt: &(impl Abort + AllocGlobal), name: &str) -> Result<(), Fail> {
-    let key = Key::new(text(rt.alloc(), name.as_bytes())?).ok_or("no key")?;
+    let key = Key::new(name.as_bytes()).ok_or("no key")?;
     assert!(rt; key.as_slice() == name.as_bytes(), "of {name:?}");
     assert!(rt; key.clone()? == key, "of {name:?}");
     Ok(())
-}
-
-/// Whether a key may have this name.
-fn is_name(alloc: Global, name: &str) -> Result<bool, AllocError> {
-    Ok(Key::new(text(alloc, name.as_bytes())?).is_some())
 }
 
 #[test]
@@ -70,7 +86,7 @@ fn keys(rt: HostRuntime) -> Result<(), Fail> {
         assert_key(&rt, name)?;
     }
     for &name in &["", "abcdefghijklmnopq", "Hits", "hi ts", "{", "`", "\n"] {
-        assert!(rt; !is_name(rt.alloc(), name)?, "of {name:?}");
+        assert!(rt; Key::new(name.as_bytes()).is_none(), "of {name:?}");
     }
     Ok(())
 }

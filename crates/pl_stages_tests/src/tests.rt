@@ -3,10 +3,10 @@
 ghost use Rattle.std.specs.Prelude.{◌≤◌};
 
 use crate::event_tests::text;
-use pl_event::{Caught, Command, Event, Fault, Fused, Key, Message, Reply, Stage, Turned};
+use pl_event::{Caught, Changed, Command, Event, Fault, Fused, Key, Message, Reply, Stage, Turned};
 use pl_stages::{
     CommandDecoder, FlushEvery, Handler, LengthFramer, LengthPrepender, LineEnd, LineFramer,
-    LineService, ReplyEncoder, StageRefusal, add_reply_text,
+    LineService, ReplyEncoder, StageRefusal, reply_text,
 };
 use std::alloc::{AllocError, Global};
 use std::process::Abort;
@@ -37,8 +37,8 @@ fn event(alloc: Global, told: Told<'_>) -> Result<Event, Fail> {
         Told::Ping => Ok(command(Command::Ping)),
         Told::Quit => Ok(command(Command::Quit)),
         Told::Echo(bytes) => Ok(command(Command::Echo(text(alloc, bytes)?))),
-        Told::Add(name, number) => Ok(command(Command::Add(key(alloc, name)?, number))),
-        Told::Get(name) => Ok(command(Command::Get(key(alloc, name)?))),
+        Told::Add(name, number) => Ok(command(Command::Add(key(name)?, number))),
+        Told::Get(name) => Ok(command(Command::Get(key(name)?))),
         Told::Caught(caught) => Ok(Event::Caught(caught)),
         Told::User(number) => Ok(Event::User(number)),
     }
@@ -56,8 +56,8 @@ fn command(command: Command) -> Event {
     Event::Read(Message::Command(command))
 }
 
-fn key(alloc: Global, name: &[u8]) -> Result<Key, Fail> {
-    Ok(Key::new(text(alloc, name)?).ok_or("no key")?)
+fn key(name: &[u8]) -> Result<Key, Fail> {
+    Ok(Key::new(name).ok_or("no key")?)
 }
 
 fn written(reply: Reply) -> Event {
@@ -503,17 +503,63 @@ fn quits_once(rt: HostRuntime) -> Result<(), Fail> {
     Ok(())
 }
 
+/// A handler leaves this event in the place of that one, which goes on so, and adds these.
+fn assert_changed(
+    rt: &(impl Abort + AllocGlobal),
+    handler: Handler,
+    told: Told<'_>,
+    way: Changed,
+    left: Told<'_>,
+    added: &[Event],
+) -> Result<(), Fail> {
+    let mut handler = handler;
+    let mut changed = event(rt.alloc(), told)?;
+    let mut down = Vec::new(rt.alloc());
+    let went = handler.change(&mut changed, &mut down);
+    let left = event(rt.alloc(), left)?;
+    assert!(rt; went == way && changed == left, "{went:?}: {changed:?}");
+    assert_events(rt, down.as_slice(), added);
+    Ok(())
+}
+
+#[test]
+fn changed_in_its_place(rt: HostRuntime) -> Result<(), Fail> {
+    let alloc = rt.alloc();
+    let decoder = Handler::Decode(CommandDecoder::new());
+    assert_changed(
+        &rt,
+        decoder,
+        Told::Line(b"GET a"),
+        Changed::Up,
+        Told::Get(b"a"),
+        &[],
+    )?;
+    let pong = vec![in alloc; written(Reply::Pong)]?;
+    let service = Handler::Service(LineService::new(alloc));
+    assert_changed(
+        &rt,
+        service,
+        Told::Ping,
+        Changed::Up,
+        Told::Ping,
+        pong.as_slice(),
+    )?;
+    let service = Handler::Service(LineService::new(alloc));
+    assert_changed(&rt, service, Told::Quit, Changed::No, Told::Quit, &[])
+}
+
 #[test]
 fn texts_of_replies(rt: HostRuntime) -> Result<(), Fail> {
     let alloc = rt.alloc();
-    let mut text = Vec::new(alloc);
-    add_reply_text(&mut text, &Reply::Total(999_999_999_000_000))?;
-    add_reply_text(&mut text, &Reply::Bye)?;
-    add_reply_text(&mut text, &Reply::Error(Fault::Range))?;
-    add_reply_text(&mut text, &Reply::Error(Fault::Full))?;
-    assert_eq!(rt;
-        text.as_slice(),
-        b":999999999000000+BYE-ERR range-ERR full".as_slice()
-    );
+    let told: [(Reply, &[u8]); 5] = [
+        (Reply::Text(text(alloc, b"hi")?), b"+hi"),
+        (Reply::Total(999_999_999_000_000), b":999999999000000"),
+        (Reply::Bye, b"+BYE"),
+        (Reply::Error(Fault::Range), b"-ERR range"),
+        (Reply::Error(Fault::Full), b"-ERR full"),
+    ];
+    for (reply, sent) in &told {
+        assert_eq!(rt; reply_text(alloc, reply)?.as_slice(), *sent);
+    }
     Ok(())
 }

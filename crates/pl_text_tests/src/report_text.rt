@@ -88,12 +88,12 @@ writes 0
 
 /// A byte string of these bytes.
 fn bytes(rt: &HostRuntime, text: &[u8]) -> Result<ByteString, Fail> {
-    Ok(ByteString::from_vec(Vec::from_slice(rt.alloc(), text)?))
+    Ok(ByteString::from_slice(rt.alloc(), text)?)
 }
 
 /// A key of this name.
-fn key(rt: &HostRuntime, name: &[u8]) -> Result<Key, Fail> {
-    Ok(Key::new(bytes(rt, name)?).ok_or("no key")?)
+fn key(name: &[u8]) -> Result<Key, Fail> {
+    Ok(Key::new(name).ok_or("no key")?)
 }
 
 /// The report of a channel, of its four parts.
@@ -224,8 +224,8 @@ fn add_commands(rt: &HostRuntime, tail: &mut Vec<Event>) -> Result<(), Fail> {
     add(tail, read(Command::Quit))?;
     add(tail, read(Command::Echo(bytes(rt, b"")?)))?;
     add(tail, read(Command::Echo(bytes(rt, b"a\r")?)))?;
-    add(tail, read(Command::Add(key(rt, b"a7")?, 999_999_999)))?;
-    add(tail, read(Command::Get(key(rt, b"zz")?)))
+    add(tail, read(Command::Add(key(b"a7")?, 999_999_999)))?;
+    add(tail, read(Command::Get(key(b"zz")?)))
 }
 
 /// Adds each fault that is caught, user events, and a message of each kind that is no command.

@@ -99,8 +99,7 @@ fn assert_ping(
 
 /// A chunk of these bytes.
 pub(crate) fn chunk(rt: &impl AllocGlobal, bytes: &[u8]) -> Result<Element, Fail> {
-    let bytes = Vec::from_slice(rt.alloc(), bytes)?;
-    Ok(Element::Chunk(ByteString::from_vec(bytes)))
+    Ok(Element::Chunk(ByteString::from_slice(rt.alloc(), bytes)?))
 }
 
 /// A channel has one burst, of these elements.

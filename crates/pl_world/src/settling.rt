@@ -71,6 +71,7 @@ impl Writes {
             match write {
                 Some(bytes) => {
                     self.bytes.extend_from_slice(bytes.as_slice())?;
+                    drop(bytes);
                     self.outcomes.push(Some(Outcome::Success))?;
                 }
                 None => self.outcomes.push(Some(Outcome::Unsupported))?,

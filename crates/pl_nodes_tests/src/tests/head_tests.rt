@@ -101,7 +101,7 @@ pub(crate) fn nothing_to_read(alloc: Global) -> ReadPlan
 pub(crate) fn text(alloc: Global, bytes: &[u8]) -> Result<ByteString, AllocError>
     ensures { IfOk result (λ text. text ≡ bytes.now) }
 {
-    Ok(ByteString::from_vec(Vec::from_slice(alloc, bytes)?))
+    ByteString::from_slice(alloc, bytes)
 }
 
 /// A burst of one chunk.

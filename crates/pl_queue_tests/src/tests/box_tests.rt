@@ -72,7 +72,7 @@ fn one_left(rt: HostRuntime) -> Result<(), Fail> {
 }
 
 fn line(alloc: Global, text: &str) -> Result<ByteString, Fail> {
-    Ok(ByteString::from_vec(Vec::from_slice(alloc, text.as_bytes())?))
+    Ok(ByteString::from_slice(alloc, text.as_bytes())?)
 }
 
 fn read(alloc: Global, text: &str) -> Result<Item, Fail> {

@@ -8,7 +8,7 @@ ghost use Rattle.pl_text.specs.ReportTexts.{command_text, event_text, hex_text, 
 
 use itoa::Buffer;
 use pl_event::{Caught, Command, Event, Key, Message, Reply};
-use pl_stages::add_reply_text;
+use pl_stages::reply_text;
 use std::alloc::AllocError;
 
 /// So many bytes are written as hex at once.
@@ -59,10 +59,9 @@ fn add_named(text: &mut Vec<u8>, word: &[u8], key: &Key) -> Result<(), AllocErro
 fn add_reply(text: &mut Vec<u8>, reply: &Reply) -> Result<(), AllocError>
     ensures { OnOk result (text.new.items ≡ text.old.items ++ codes "Reply " ++ hex_text (reply_text reply.now)) }
 {
-    let mut bytes = Vec::new(*text.allocator());
-    add_reply_text(&mut bytes, reply)?;
+    let sent = reply_text(*text.allocator(), reply)?;
     text.extend_from_slice(b"Reply ")?;
-    add_hex(text, bytes.as_slice())
+    add_hex(text, sent.as_slice())
 }
 
 /// Adds a command with what it names.

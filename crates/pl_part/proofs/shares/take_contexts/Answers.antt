@@ -2,6 +2,7 @@ use Rattle.std.proofs.Common.{◌≡◌, ◌<◌, get_or, length, not, refl, sym
 use Rattle.std.proofs.lemmas.Result.{err_from_is_err_and}
 use Rattle.pl_context.specs.ContextViews.{ContextView}
 use Rattle.std.specs.Prelude.{◌==◌}
+use Rattle.pl_part.specs.Shares.{only_if}
 use Rattle.pl_part.proofs.TakenSlots.{taken-more, left-more, behind-more, of-all}
 use Rattle.pl_part.proofs.shares.take_contexts.Goals as goal
 
@@ -14,12 +15,12 @@ loop-hop-preserved g c =
     let wanted = (λ (k : ℕ). get_or c.args.executors.now k 0 == c.args.executor) in
     let within : h < length now = omega (arith, c.loop-hop-test.true, c.loop-hop.auto.contexts) in
     let slot = c.index-contexts-hop.result in
-    let more = taken-more wanted old h now before.behind c.loop-hop.taken.items before.slots before.taken slot c.take_where.result c.push.new.self.items within c.take_where.ensures.taken c.in_ok-push.ensures.items in
+    let more = taken-more wanted old h now before.behind c.loop-hop.taken.items before.slots before.taken slot (only_if (wanted h) (get_or now h slot)) c.add_where.new.taken.items within refl c.in_ok-add_where.ensures.taken in
     record {
       slots = more.0;
       taken = more.1;
-      left = left-more wanted old h now before.behind before.left slot c.take_where.new.slot within c.take_where.ensures.left;
-      behind = behind-more wanted old h now before.behind c.take_where.new.slot;
+      left = left-more wanted old h now before.behind before.left slot c.add_where.new.slot within c.in_ok-add_where.ensures.left;
+      behind = behind-more wanted old h now before.behind c.add_where.new.slot;
     }
 
 pub returns-clause-taken : goal.returns-clause-taken
@@ -36,7 +37,7 @@ returns-clause-left g c =
 
 pub loop-hop-init : goal.loop-hop-init
 loop-hop-init g c = record {
-  slots = ap (λ (l : List (Option (ContextView g.row.S.Denot))). length l) c.new-taken.ensures.items;
+  slots = ap (λ (l : List (Option (ContextView g.row.S.Denot))). length l) c.in_ok-taken.ensures.items;
   taken = λ k lt. absurd (omega (arith, lt));
   left = λ k lt. absurd (omega (arith, lt));
   behind = λ k le. refl;
@@ -45,9 +46,9 @@ loop-hop-init g c = record {
 pub bounds-executors-hop : goal.bounds-executors-hop
 bounds-executors-hop g c = omega (arith, c.requires, c.loop-hop-test.true, c.loop-hop.auto.contexts)
 
-pub returns-in_err-push : goal.returns-in_err-push
-returns-in_err-push g c =
-    let none = err_from_is_err_and c.from_residual.result c.from_residual.ensures.1 in
+pub returns-in_err-add_where : goal.returns-in_err-add_where
+returns-in_err-add_where g c =
+    let none = err_from_is_err_and c.from_residual-in_err-add_where.result c.from_residual-in_err-add_where.ensures.1 in
     record { slots = rw none.1 tt; taken = rw none.1 tt; left = rw none.1 tt }
 
 pub returns-clause-slots : goal.returns-clause-slots

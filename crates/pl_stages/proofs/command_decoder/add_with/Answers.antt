@@ -7,11 +7,11 @@ use Rattle.pl_stages.proofs.command_decoder.add_with.Goals as goal
 
 pub returns-in-None : goal.returns-in-None
 returns-in-None c =
-    let none = after_space-none c.args.argument.items (sym (rw c.as_slice.ensures.value at c.in-None.ensures.place)) in
-    rw none (addition_of-no_number (key_in (before_space c.args.argument.items)))
+    let none = after_space-none c.args.argument.now (sym c.in-None.ensures.place) in
+    rw none (addition_of-no_number (key_in (before_space c.args.argument.now)))
 
 pub returns-in-Some : goal.returns-in-Some
 returns-in-Some c =
-    let name = before_space-at c.args.argument.items c.in-Some.end (sym (rw c.as_slice.ensures.value at c.in-Some.ensures.place)) in
-    let number = after_space-at c.args.argument.items c.in-Some.end (sym (rw c.as_slice.ensures.value at c.in-Some.ensures.place)) in
+    let name = before_space-at c.args.argument.now c.in-Some.end (sym c.in-Some.ensures.place) in
+    let number = after_space-at c.args.argument.now c.in-Some.end (sym c.in-Some.ensures.place) in
     rw (name, number) (grind (arith, common_steps))

@@ -1,8 +1,7 @@
-use Rattle.std.proofs.Common.{◌≢◌, ◌+◌, ◌∷◌, ◌++◌, [], List, length, refl, sym, ap, subst, ◌∙◌, arith}
+use Rattle.std.proofs.Common.{◌≢◌, ◌+◌, ◌∷◌, ◌++◌, [], List, length, refl, sym, ap, subst, ◌∙◌, arith, rules}
 use Rattle.pl_event.specs.declared.events.Event.{Event}
 use Rattle.pl_event.specs.declared.stages.Changed.TheVariants.{No, Up, Down}
 use Rattle.pl_event.specs.Fitting.{goes_on}
-use Rattle.pl_context.specs.declared.standing.Standing.TheVariants as stands
 use Rattle.pl_context.specs.Standings.{has_failed}
 use Rattle.pl_context.specs.Stops.{StopsView, HasPlaces}
 use Rattle.pl_context.specs.declared.ports.Port.{Port}
@@ -182,70 +181,49 @@ returns-in-No-clause-dropped g c =
     let h = c.take_item.ensures.dropped (ap has_failed (ap (λ (s : ContextView g.row.S.Denot). s.standing) c.self.view_is) ∙ e) in
     (h.0, h.1 ∙ counted-same _ c.args.self.now c.self.view_is c.change-changed.new.stage no.0, h.2)
 
-pub returns-in-Ok-clause-open : goal.returns-in-Ok-clause-open
-returns-in-Ok-clause-open g c =
+pub returns-in-Ok : goal.returns-in-Ok
+returns-in-Ok g c =
     let n : Up ≢ No = λ e. cc in
     let changes = c.in-Up.ensures.changes n in
-    λ o. takes-up g.S.Stage.meaning g.S.Stage.stands_after g.S.Stage.is_spent _ c.args.self.now c.self.view_is c.args.envelope.item c.change-changed.new.item changes.0 c.change-changed.new.below.items c.args.outputs.now c.put_changed-put.new.outputs c.change-changed.new.stage c.put_changed-put.new.up c.put_changed-put.new.down
-    changes.2 c.in-Up.ensures.meaning (all-made changes.1 c.self.invariant.down_empty) c.in-Ok.ensures.up c.in-Ok.ensures.down c.in-Ok.ensures.out
+    let was = (c.in-Up.ensures.ready n).0 in
+    record {
+      meaning = search rules;
+      place = search rules;
+      «open» = λ o. takes-up g.S.Stage.meaning g.S.Stage.stands_after g.S.Stage.is_spent _ c.args.self.now c.self.view_is c.args.envelope.item c.change-changed.new.item changes.0 c.change-changed.new.below.items c.args.outputs.now c.put_changed-put.new.outputs c.change-changed.new.stage c.put_changed-put.new.up c.put_changed-put.new.down
+          changes.2 c.in-Up.ensures.meaning (all-made changes.1 c.self.invariant.down_empty) c.in-Ok.ensures.up c.in-Ok.ensures.down c.in-Ok.ensures.out;
+      spent = λ o spent event is. absurd (n (c.in-Up.ensures.spent (ap (λ (s : ContextView g.row.S.Denot). g.S.Stage.is_spent s.stage) c.self.view_is ∙ spent)));
+      ended = λ e. absurd (open-ended _ _ c.self.view_is was e);
+      dropped = λ e. absurd (open-failed _ _ c.self.view_is was e);
+    }
 
-pub returns-in-Ok-clause-spent : goal.returns-in-Ok-clause-spent
-returns-in-Ok-clause-spent g c =
-    let n : Up ≢ No = λ e. cc in
-    λ o spent event is. absurd (n (c.in-Up.ensures.spent (ap (λ (s : ContextView g.row.S.Denot). g.S.Stage.is_spent s.stage) c.self.view_is ∙ spent)))
-
-pub returns-in-Ok-clause-ended : goal.returns-in-Ok-clause-ended
-returns-in-Ok-clause-ended g c =
-    let n : Up ≢ No = λ e. cc in
-    λ e. absurd (open-ended c.self.inside.standing (c.in-Up.ensures.ready n).0 (ap (λ (s : ContextView g.row.S.Denot). s.standing) c.self.view_is ∙ e))
-
-pub returns-in-Ok-clause-dropped : goal.returns-in-Ok-clause-dropped
-returns-in-Ok-clause-dropped g c =
-    let n : Up ≢ No = λ e. cc in
-    λ e. absurd (open-failed c.self.inside.standing (c.in-Up.ensures.ready n).0 (ap has_failed (ap (λ (s : ContextView g.row.S.Denot). s.standing) c.self.view_is) ∙ e))
-
-pub returns-in-Err-Memory-clause-open : goal.returns-in-Err-Memory-clause-open
-returns-in-Err-Memory-clause-open g c =
+pub returns-in-Err-Memory : goal.returns-in-Err-Memory
+returns-in-Err-Memory g c =
     let n : Up ≢ No = λ e. cc in
     let changes = c.in-Up.ensures.changes n in
+    let was = (c.in-Up.ensures.ready n).0 in
     let kept = c.in-Err-Memory.ensures in
-    λ o. takes-fault g.S.Stage.meaning g.S.Stage.stands_after g.S.Stage.is_spent _ c.args.self.now c.self.view_is c.args.envelope.item c.change-changed.new.item changes.0 c.change-changed.new.below.items c.args.outputs.now c.put_changed-put.new.outputs c.run_out.new.outputs c.change-changed.new.stage c.put_changed-put.new.up c.put_changed-put.new.down c.run_out.new.self c.run_out.result
-    changes.2 (all-made changes.1 c.self.invariant.down_empty) kept.up_kept kept.down_kept kept.items kept.stopped kept.grows kept.why c.run_out.ensures.failed c.run_out.ensures.closes
+    record {
+      meaning = search rules;
+      place = search rules;
+      «open» = λ o. takes-fault g.S.Stage.meaning g.S.Stage.stands_after g.S.Stage.is_spent _ c.args.self.now c.self.view_is c.args.envelope.item c.change-changed.new.item changes.0 c.change-changed.new.below.items c.args.outputs.now c.put_changed-put.new.outputs c.run_out.new.outputs c.change-changed.new.stage c.put_changed-put.new.up c.put_changed-put.new.down c.run_out.new.self c.run_out.result
+          changes.2 (all-made changes.1 c.self.invariant.down_empty) kept.up_kept kept.down_kept kept.items kept.stopped kept.grows kept.why c.run_out.ensures.failed c.run_out.ensures.closes;
+      spent = λ o spent event is. absurd (n (c.in-Up.ensures.spent (ap (λ (s : ContextView g.row.S.Denot). g.S.Stage.is_spent s.stage) c.self.view_is ∙ spent)));
+      ended = λ e. absurd (open-ended _ _ c.self.view_is was e);
+      dropped = λ e. absurd (open-failed _ _ c.self.view_is was e);
+    }
 
-pub returns-in-Err-Memory-clause-spent : goal.returns-in-Err-Memory-clause-spent
-returns-in-Err-Memory-clause-spent g c =
-    let n : Up ≢ No = λ e. cc in
-    λ o spent event is. absurd (n (c.in-Up.ensures.spent (ap (λ (s : ContextView g.row.S.Denot). g.S.Stage.is_spent s.stage) c.self.view_is ∙ spent)))
-
-pub returns-in-Err-Memory-clause-ended : goal.returns-in-Err-Memory-clause-ended
-returns-in-Err-Memory-clause-ended g c =
-    let n : Up ≢ No = λ e. cc in
-    λ e. absurd (open-ended c.self.inside.standing (c.in-Up.ensures.ready n).0 (ap (λ (s : ContextView g.row.S.Denot). s.standing) c.self.view_is ∙ e))
-
-pub returns-in-Err-Memory-clause-dropped : goal.returns-in-Err-Memory-clause-dropped
-returns-in-Err-Memory-clause-dropped g c =
-    let n : Up ≢ No = λ e. cc in
-    λ e. absurd (open-failed c.self.inside.standing (c.in-Up.ensures.ready n).0 (ap has_failed (ap (λ (s : ContextView g.row.S.Denot). s.standing) c.self.view_is) ∙ e))
-
-pub returns-in-Down-clause-open : goal.returns-in-Down-clause-open
-returns-in-Down-clause-open g c =
+pub returns-in-Down : goal.returns-in-Down
+returns-in-Down g c =
     let n : Down ≢ No = λ e. cc in
     let changes = c.in-Down.ensures.changes n in
+    let was = (c.in-Down.ensures.ready n).0 in
     let none = sym (all-made changes.1 c.self.invariant.down_empty) ∙ c.in-Down.ensures.alone refl ∙ c.self.invariant.down_empty in
-    λ o. takes-down g.S.Stage.meaning g.S.Stage.stands_after g.S.Stage.is_spent _ c.args.self.now c.self.view_is c.args.envelope.item c.change-changed.new.item changes.0 c.args.outputs.now c.hand_on.new.outputs c.change-changed.new.stage c.hand_on.new.self
-    changes.2 c.in-Down.ensures.meaning none c.hand_on.ensures.port c.hand_on.ensures.out
-
-pub returns-in-Down-clause-spent : goal.returns-in-Down-clause-spent
-returns-in-Down-clause-spent g c =
-    let n : Down ≢ No = λ e. cc in
-    λ o spent event is. absurd (n (c.in-Down.ensures.spent (ap (λ (s : ContextView g.row.S.Denot). g.S.Stage.is_spent s.stage) c.self.view_is ∙ spent)))
-
-pub returns-in-Down-clause-ended : goal.returns-in-Down-clause-ended
-returns-in-Down-clause-ended g c =
-    let n : Down ≢ No = λ e. cc in
-    λ e. absurd (open-ended c.self.inside.standing (c.in-Down.ensures.ready n).0 (ap (λ (s : ContextView g.row.S.Denot). s.standing) c.self.view_is ∙ e))
-
-pub returns-in-Down-clause-dropped : goal.returns-in-Down-clause-dropped
-returns-in-Down-clause-dropped g c =
-    let n : Down ≢ No = λ e. cc in
-    λ e. absurd (open-failed c.self.inside.standing (c.in-Down.ensures.ready n).0 (ap has_failed (ap (λ (s : ContextView g.row.S.Denot). s.standing) c.self.view_is) ∙ e))
+    record {
+      meaning = search rules;
+      place = search rules;
+      «open» = λ o. takes-down g.S.Stage.meaning g.S.Stage.stands_after g.S.Stage.is_spent _ c.args.self.now c.self.view_is c.args.envelope.item c.change-changed.new.item changes.0 c.args.outputs.now c.hand_on.new.outputs c.change-changed.new.stage c.hand_on.new.self
+          changes.2 c.in-Down.ensures.meaning none c.hand_on.ensures.port c.hand_on.ensures.out;
+      spent = λ o spent event is. absurd (n (c.in-Down.ensures.spent (ap (λ (s : ContextView g.row.S.Denot). g.S.Stage.is_spent s.stage) c.self.view_is ∙ spent)));
+      ended = λ e. absurd (open-ended _ _ c.self.view_is was e);
+      dropped = λ e. absurd (open-failed _ _ c.self.view_is was e);
+    }

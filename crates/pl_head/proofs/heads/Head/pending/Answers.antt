@@ -18,6 +18,4 @@ returns-clause-sizes g c =
 pub returns-clause-waiting : goal.returns-clause-waiting
 returns-clause-waiting g c =
     rw (← c.self.view_is)
-    (λ ys zs sizes s.
-    let accepted = (g.T.Transport.state c.self.inside.transport).accepted in
-    waiting_after c.self.inside.failure accepted (buffer_view c.self.inside.buffer) ys zs (is_over c.self.inside.standing) sizes c.pending.result s c.pending.ensures.view (λ t. c.pending.ensures.waiting accepted ys (is_over c.self.inside.standing) sizes t))
+    (λ ys zs sizes s. waiting_after _ _ _ ys zs _ sizes _ s c.pending.ensures.view (λ t. c.pending.ensures.waiting _ ys _ sizes t))

@@ -5,7 +5,7 @@ use Rattle.pl_context.specs.WaitingViews.{stops_for}
 use Rattle.pl_net.specs.Nets.{IsAdded}
 use Rattle.pl_net.specs.Stations.{stations_view}
 use Rattle.pl_net.proofs.OneExecutor.{replaces-set}
-use Rattle.pl_net.proofs.StationSteps.{step-written, step-number, step-good, call-stands, add-there, add-placed, add-few, kept_by, keep-stands, keep-is}
+use Rattle.pl_net.proofs.StationSteps.{step-written, step-number, step-good, step-is, call-stands, add-there, add-placed, add-few, kept_by, keep-stands, keep-is}
 use Rattle.pl_net.proofs.stations.Stations.step.Goals as goal
 
 pub target-target-requires : goal.target-target-requires
@@ -71,14 +71,8 @@ returns-then-target-me-clause-steps g c = λ t world backlogs h.
       backlogs,
       call-stands g.N.Nodes.view_of g.N.Nodes.stands world c.args.me (stations_view c.args.self.now backlogs) h c.in-Some.envelope c.next.new.self c.in-Some.ensures.front c.in-Some.ensures.stopped here
           c.take.new.self c.take.new.work c.take.ensures.view (c.take.ensures.stands world h.hold good) (c.take.ensures.makes world h.hold good),
-      record {
-        envelope = c.in-Some.envelope;
-        mid = c.next.new.self;
-        front = c.in-Some.ensures.front;
-        stopped = c.in-Some.ensures.stopped;
-        room = c.in-Some.ensures.room;
-        becomes = inl (record { here = here; taken = c.take.ensures.takes; executors = refl; backlogs = refl });
-      },
+      step-is g.N.Nodes.view_of g.N.Nodes.stands world c.args.me (stations_view c.args.self.now backlogs) h c.in-Some.envelope c.next.new.self c.in-Some.ensures.front c.in-Some.ensures.stopped g.N.Nodes.takes c.in-Some.ensures.room
+          (inl (record { here = here; taken = c.take.ensures.takes; executors = refl; backlogs = refl })),
     )
 
 pub returns-else-target-me-clause-steps : goal.returns-else-target-me-clause-steps
@@ -95,12 +89,6 @@ returns-else-target-me-clause-steps g c = λ t world backlogs h.
     let from = stations_view c.args.self.now backlogs in (
       kept_by view_of stands world c.args.me from h c.in-Some.envelope c.next.new.self c.in-Some.ensures.front c.in-Some.ensures.stopped away (set es c.args.me a') a a' r adds,
       keep-stands view_of stands world c.args.me from h c.in-Some.envelope c.next.new.self c.in-Some.ensures.front c.in-Some.ensures.stopped away (set es c.args.me a') a a' r adds,
-      record {
-        envelope = c.in-Some.envelope;
-        mid = c.next.new.self;
-        front = c.in-Some.ensures.front;
-        stopped = c.in-Some.ensures.stopped;
-        room = c.in-Some.ensures.room;
-        becomes = inr (keep-is view_of stands world c.args.me from h c.in-Some.envelope c.next.new.self c.in-Some.ensures.front c.in-Some.ensures.stopped away (set es c.args.me a') a a' r adds g.N.Nodes.takes);
-      },
+      step-is view_of stands world c.args.me from h c.in-Some.envelope c.next.new.self c.in-Some.ensures.front c.in-Some.ensures.stopped g.N.Nodes.takes c.in-Some.ensures.room
+          (inr (keep-is view_of stands world c.args.me from h c.in-Some.envelope c.next.new.self c.in-Some.ensures.front c.in-Some.ensures.stopped away (set es c.args.me a') a a' r adds g.N.Nodes.takes)),
     )

@@ -11,9 +11,9 @@ payload_part width start kept chunk field = sym (drop-append-add kept chunk star
 
 pub returns-in-Some-clause-takes : goal.returns-in-Some-clause-takes
 returns-in-Some-clause-takes c =
-    let one = rw c.as_slice.ensures.value at c.in-Some.ensures.whole.0 refl in
+    let one = rw c.as_slice.ensures at c.in-Some.ensures.whole.0 refl in
     takes_whole _ _ _ _ _ _ _ _ _ c.args.self.now.widths one.0 refl c.clear.ensures.items one.2.0 one.2.1
     (c.in_ok-push.ensures.items
     ∙ ap (λ made. c.args.up.now.items ++ made ∷ [])
     (c.line_of.ensures ∙ ap (λ t. Read (Line t))
-    (c.without_front.ensures ∙ payload_part c.args.self.now.width c.in-Some.start c.args.self.now.partial.items c.args.chunk.items c.in-Some.ensures.start)))
+    (c.drop_front.ensures ∙ payload_part c.args.self.now.width c.in-Some.start c.args.self.now.partial.items c.args.chunk c.in-Some.ensures.start)))

@@ -33,4 +33,4 @@ returns-in-Whole-clause-takes c =
     (c.in_ok-push.ensures.items
     ∙ ap (λ made. c.args.up.now.items ++ made ∷ [])
     (c.line_of.ensures ∙ ap (λ t. Read (Line t))
-    (c.in_ok-from_slice.ensures.items ∙ payload_part c.args.self.now.width c.in-Whole.len c.args.bytes.now)))
+    (c.in_ok-from_slice.ensures.ok ∙ payload_part c.args.self.now.width c.in-Whole.len c.args.bytes.now)))

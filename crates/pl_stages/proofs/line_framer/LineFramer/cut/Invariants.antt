@@ -9,8 +9,8 @@ abbrev pub invariant-loop-end : goal.invariant-loop-end
 invariant-loop-end l =
     record {
       max : l.self.max ≡ l.fn.self.max;
-      resumes : (part : List ℕ) → closed_parts part ≡ [] → KeepsPart l.fn.self.max l.fn.self.partial.items l.fn.self.is_overlong part
-          → Resumes l.fn.self.max l.fn.up.items (part ++ l.bytes) l.self.partial.items l.self.is_overlong l.up.items l.rest;
+      resumes : (part : List ℕ) → closed_parts part ≡ [] → KeepsPart l.fn.self.max l.fn.self.partial l.fn.self.is_overlong part
+          → Resumes l.fn.self.max l.fn.up.items (part ++ l.bytes) l.self.partial l.self.is_overlong l.up.items l.rest;
       begins : IsPrefixOf l.fn.up.items l.up.items;
     }
 

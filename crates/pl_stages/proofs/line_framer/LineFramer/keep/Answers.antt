@@ -5,4 +5,4 @@ use Rattle.pl_stages.proofs.line_framer.LineFramer.keep.Goals as goal
 pub returns-then-len-bytes-clause-kept : goal.returns-then-len-bytes-clause-kept
 returns-then-len-bytes-clause-kept c = λ part keeps.
     let same = rw c.if-self.false at keeps in
-    omega (arith, length-append part c.args.bytes.now, ap length same, c.args.self.now.partial.ok.0)
+    omega (arith, length-append part c.args.bytes.now, ap length same, c.len.ensures)

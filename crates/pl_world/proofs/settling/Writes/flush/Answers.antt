@@ -5,8 +5,8 @@ use Rattle.pl_world.proofs.ChainSteps.{pushed_more}
 use Rattle.pl_world.proofs.SettledWrites.{bytes_more}
 use Rattle.pl_world.proofs.settling.Writes.flush.Goals as goal
 
-pub loop-write-preserved-in-Some-write : goal.loop-write-preserved-in-Some-write
-loop-write-preserved-in-Some-write c =
+pub loop-write-preserved-in-Continue-branch-2 : goal.loop-write-preserved-in-Continue-branch-2
+loop-write-preserved-in-Continue-branch-2 c =
     let before = c.args.self.now in
     let so_far = c.loop-write in
     let w : Option (List ℕ) = c.in-Some.write in
