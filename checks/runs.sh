@@ -8,6 +8,9 @@
 # Where nothing fails the report is that of `plain`, and the status 0. Where a transport was told to fail or a channel is to be
 # aborted, a run on one loop has one report, that of the example, or its `run_report`. On several executors each tail and the
 # bytes of each channel begin those of `plain`, and a channel has failed exactly where it has in the report of the example.
+# One session more is made here. A burst of it has more lines than may wait at an executor, so that the reads of the other
+# loop wait, and have to be woken.
+#
 # Each run has a minute, and all of them together have M of them, 30 where none are given. With waiting queues executors may
 # wait for each other in a circle, so these have room for all there is.
 set -eu
@@ -24,6 +27,21 @@ else
 fi
 work=$(mktemp -d)
 trap 'rm -rf "$work"' EXIT
+
+# Prints $2 so many times.
+times_of() {
+    yes "$2" | head -n "$1" | tr -d '\n'
+}
+
+# A channel on one loop with one burst of 40,000 lines, and one on another with 4,000 bursts of one line.
+mkdir "$work/congested"
+handlers='{"op":"last","name":"lines","kind":"lines","max":64},{"op":"last","name":"decode","kind":"decode","group":"a"},
+{"op":"last","name":"lineend","kind":"lineend"},{"op":"last","name":"encode","kind":"encode"},{"op":"last","name":"service","kind":"service"}'
+cat >"$work/congested/session.json" <<END
+{"version":1,"capacity":64,"loops":2,"groups":[{"name":"a","size":1}],"channels":[
+{"handlers":[$handlers],"bursts":[["$(times_of 40000 'A\n')"]]},
+{"handlers":[$handlers],"bursts":[["PING\n"]$(times_of 3999 ',["PING\n"]')]}]}
+END
 
 fail() {
     echo "runs: ${example#"$examples"/}, $queue: $1"
@@ -59,7 +77,7 @@ for name in $wanted; do
 done
 
 ran=0
-for session in "$examples"/*/session.json "$examples"/*/*/session.json; do
+for session in "$examples"/*/session.json "$examples"/*/*/session.json "$work/congested/session.json"; do
     example=$(dirname "$session")
     case ${wanted:-" ${example#"$examples"/} "} in
         *" ${example#"$examples"/} "*) ;;

@@ -1,4 +1,4 @@
-//! Envelopes that wait for another executor.
+//! Envelopes that wait for one target.
 
 ghost use Rattle.std.specs.Prelude.{◌≡◌, ◌+◌, ◌<◌, ◌≤◌, ◌∷◌, ◌++◌, [], length, IfOk, IfSome, IfNone, OnSome, Some, slice_get, insert, remove, ◌==◌, true, false};
 ghost use Rattle.pl_context.specs.Stops.{HasPlaces, no_stops, any_stopped};
@@ -11,7 +11,7 @@ use std::alloc::{AllocError, Global};
 use std::collections::VecDeque;
 use std::marker::Model;
 
-/// Envelopes for other executors, the oldest first, each with a token.
+/// Envelopes for one target, the oldest first, each with a token.
 ///
 /// It has reserved places as `Outputs` has, and the same rule where it finds no memory.
 #[derive(Debug, Drop)]

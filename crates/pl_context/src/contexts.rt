@@ -307,10 +307,7 @@ impl<S: Stage> Context<S> {
     {
         match self.step(event, outputs) {
             Ok(()) => Took::Ran,
-            Err(StageFault::Memory) => {
-                self.close(Standing::Failed(Cause::Memory), outputs);
-                Took::Failed(Cause::Memory)
-            }
+            Err(StageFault::Memory) => self.run_out(outputs),
         }
     }
 

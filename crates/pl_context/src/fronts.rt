@@ -61,7 +61,7 @@ impl Fronts {
         None
     }
 
-    /// The front for a target had one age, and has another now. There is None where nothing waits.
+    /// The front for a target had one age, and has another now; None where nothing waits for it.
     #[inline(always)]
     pub(crate) fn set(&mut self, target: usize, was: Option<u64>, age: Option<u64>)
         requires there { target < self.old.places }

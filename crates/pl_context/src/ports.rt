@@ -117,11 +117,7 @@ impl Port {
     {
         match turned {
             Turned::Open => {}
-            Turned::Ended => {
-                if self.is_open {
-                    self.put(Item::End, outputs);
-                }
-            }
+            Turned::Ended => self.put(Item::End, outputs),
         }
     }
 

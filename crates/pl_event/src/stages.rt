@@ -143,7 +143,7 @@ pub trait Stage: Drop {
     /// event in its place, and answers which way it goes. What else goes down of an event that goes up is added to
     /// `down`. It spares the lists of a step, and the copies.
     ///
-    /// A context with room for what comes of it asks for a change first, and for a step where the answer is `No`; whole
+    /// A context with room for it asks for a change first, and for a step where the answer is `No`; whole
     /// lists are composed of steps alone. Any stage may answer so to any event, as where there is no memory; one that
     /// doesn't implement this always does. Implement it where most steps hand one event on, as it is or another in its
     /// place. Do first what may fail: at a `No` all is as it was.

@@ -298,8 +298,8 @@ impl<T: Transport> Head<T> {
     }
 
     /// Makes one write to the transport, of what is left of the first flushed message and of no other. It is idle, and
-    /// makes no call, where no flushed byte waits or the head has failed by itself. It has where the transport fails: each
-    /// message that has not left whole is a fault.
+    /// makes no call, where no flushed byte waits or the head has failed by itself. Where the transport fails, the head has
+    /// failed, and each message that has not left whole is a fault.
     #[inline(always)]
     pub fn write_once(&mut self, outputs: &mut Outputs) -> OutStep
         requires places { HasPlaces outputs.old.stopped (flags_lane self.old.channel 0 ∷ []) }

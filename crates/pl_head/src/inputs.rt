@@ -1,6 +1,6 @@
 //! The recorded input of a channel, read step by step.
 
-ghost use Rattle.std.specs.Prelude.{◌≡◌, ℕ, ◌+◌, ◌<◌, ◌^◌, ◌≤◌, [], ◌∷◌, List, length, Bool, true, false, not, is_some, ◌&&◌, reverse};
+ghost use Rattle.std.specs.Prelude.{◌≡◌, ℕ, ◌+◌, ◌<◌, ◌^◌, ◌≤◌, [], ◌∷◌, List, length, Bool, true, false, not, is_some, ◌&&◌};
 ghost use Rattle.pl_event.specs.Inputs.{burst_events, recorded_input};
 ghost use Rattle.pl_context.specs.Stops.{HasPlaces};
 ghost use Rattle.pl_context.specs.OutputsViews.{PutsAll};
@@ -12,6 +12,7 @@ ghost use Rattle.pl_event.specs.declared.limits.TheConstants.{MAX_ITEMS};
 
 use pl_context::{Outputs, Port};
 use pl_event::{Cause, Element, Event, Item, Kind, Sequence};
+use std::collections::VecDeque;
 use std::marker::Model;
 
 /// What a channel is to read: bursts of elements, and then the end; or, where it is aborted, as many of them as are to be
@@ -28,22 +29,21 @@ pub struct ReadPlan {
 #[derive(Debug, Drop)]
 pub(crate) struct Input {
     port: Port,
-    /// The bursts that are left, the last first.
-    left: Vec<Sequence<Element>>,
+    /// The bursts that are left.
+    left: VecDeque<Sequence<Element>>,
     steps: u64,
     /// An abort comes after the bursts, in the place of the end.
     aborts: bool,
 }
 
 impl Model for Input {
-    ghost use Rattle.std.specs.Prelude.{reverse};
     ghost use Rattle.pl_head.specs.InputStand.{InputView, IsInput};
 
     ghost Value = { InputView };
 
-    ghost view = { λ i. record { port = i.port; left = reverse i.left.items; steps = i.steps; aborts = i.aborts } };
+    ghost view = { λ i. record { port = i.port; left = i.left.items; steps = i.steps; aborts = i.aborts } };
 
-    ghost invariant = { λ i. IsInput i.port (reverse i.left.items) i.steps };
+    ghost invariant = { λ i. IsInput i.port i.left.items i.steps };
 }
 
 impl Input {
@@ -57,11 +57,9 @@ impl Input {
             bursts,
             abort_after,
         } = plan;
-        let mut left = bursts_before(abort_after, bursts);
-        left.reverse();
         Input {
             port: Port::new(channel, Kind::Data, 0, true),
-            left,
+            left: bursts_before(abort_after, bursts).into(),
             steps: 0,
             aborts: abort_after.is_some(),
         }
@@ -133,20 +131,25 @@ fn bursts_before(
     left
 }
 
-/// Gives the items of the next read step to a lane: the bursts that are left stand the last first.
-fn put_next(port: &mut Port, left: &mut Vec<Sequence<Element>>, steps: u64, outputs: &mut Outputs)
+/// Gives the items of the next read step to a lane.
+fn put_next(
+    port: &mut Port,
+    left: &mut VecDeque<Sequence<Element>>,
+    steps: u64,
+    outputs: &mut Outputs,
+)
     requires open { port.old.is_open ≡ true }
     requires place { HasPlaces outputs.old.stopped (port.old.lane ∷ []) }
-    requires few { port.old.made + items_left steps (reverse left.old.items) < MAX_ITEMS }
-    ensures port { port.new ≡ port_after (next_items steps (reverse left.old.items)) port.old }
-    ensures left { reverse left.new.items ≡ left_after steps (reverse left.old.items) }
-    ensures puts { PutsAll outputs.old (numbered port.old.lane port.old.made (next_items steps (reverse left.old.items))) outputs.new }
+    requires few { port.old.made + items_left steps left.old.items < MAX_ITEMS }
+    ensures port { port.new ≡ port_after (next_items steps left.old.items) port.old }
+    ensures left { left.new.items ≡ left_after steps left.old.items }
+    ensures puts { PutsAll outputs.old (numbered port.old.lane port.old.made (next_items steps left.old.items)) outputs.new }
 {
     if steps == 0 {
         port.put(Item::Event(Event::Active), outputs);
         return;
     }
-    match left.pop() {
+    match left.pop_front() {
         Some(elements) => put_burst(port, elements.into_vec(), outputs),
         None => port.put(Item::End, outputs),
     }

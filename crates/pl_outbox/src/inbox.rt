@@ -2,7 +2,8 @@
 
 ghost use Rattle.std.specs.Prelude.{◌≡◌, IfOk};
 
-use crate::bell::{Bell, Waiters};
+use crate::bell::Bell;
+use crate::congestion::Congestion;
 use crossbeam_utils::sync::Parker;
 use pl_event::Named;
 use pl_queue::Mailbox;
@@ -10,12 +11,13 @@ use pl_words::Admission;
 use std::alloc::{AllocError, Global};
 use std::marker::PhantomData;
 
-/// What executors share of one of them: its queue, who may still send there, and what wakes it.
+/// What executors share of one of them: its queue, who may still send there, what wakes it, and whether it is congested.
 #[derive(Drop)]
 pub struct Inbox<W: Named, M: Mailbox<W> + Drop> {
     pub mailbox: M,
     pub admission: Admission,
-    pub(crate) bell: Bell,
+    pub bell: Bell,
+    pub congestion: Congestion,
     of: PhantomData<W>,
 }
 
@@ -35,24 +37,9 @@ impl<W: Named, M: Mailbox<W> + Drop> Inbox<W, M> {
             mailbox,
             admission,
             bell,
+            congestion: Congestion::new(),
             of: PhantomData,
         };
         Ok((inbox, parker))
-    }
-
-    /// Its executor is about to rest. Whoever has something for it from now on wakes it; what was there before it must
-    /// look for once more.
-    pub fn announce_rest(&self) {
-        self.bell.announce_rest();
-    }
-
-    /// Those that wait for room in its queue. Nobody does any more.
-    pub fn take_waiting(&self) -> Waiters {
-        self.bell.take_waiting()
-    }
-
-    /// Those that wait for room in its queue, where they are to be woken though more may be taken, after so many envelopes.
-    pub fn take_waiting_after(&self, taken: u64) -> Waiters {
-        self.bell.take_waiting_after(taken)
     }
 }

@@ -2,12 +2,16 @@
 #![tactic(auto)]
 
 mod bell;
+mod congestion;
+mod executor_set;
 mod inbox;
 mod outbox;
 mod outboxes;
 mod tries;
 
-pub use bell::Waiters;
+pub use bell::Bell;
+pub use congestion::Congestion;
+pub use executor_set::ExecutorSet;
 pub use inbox::Inbox;
 pub use outbox::Outbox;
-pub use outboxes::{Offered, Outboxes};
+pub use outboxes::Outboxes;

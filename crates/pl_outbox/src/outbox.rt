@@ -17,7 +17,7 @@ use std::sync::Wait;
 /// The way to one executor: a sender of its mailbox, and a seat of its admission.
 #[derive(Drop)]
 pub struct Outbox<'a, W: Named, M: Mailbox<W> + Drop> {
-    inbox: &'a Inbox<W, M>,
+    pub(crate) inbox: &'a Inbox<W, M>,
     sender: M::Sender,
     seat: SendSeat,
 }
@@ -94,15 +94,5 @@ impl<'a, W: Named, M: Mailbox<W> + Drop> Outbox<'a, W, M> {
         ensures { result ≡ self.entry.seat }
     {
         self.seat
-    }
-
-    /// Wakes the executor.
-    pub(crate) fn ring(&self) {
-        self.inbox.bell.ring();
-    }
-
-    /// Notes that an executor waits for room in the queue.
-    pub(crate) fn note_waiting(&self, executor: usize) {
-        self.inbox.bell.note_waiting(executor);
     }
 }

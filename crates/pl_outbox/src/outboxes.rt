@@ -1,15 +1,16 @@
 //! What an executor made for others, and has not handed over.
 
-ghost use Rattle.std.specs.Prelude.{◌≡◌, ℕ, List, [], ◌∷◌, ◌<◌, ◌^◌, ◌==◌, length, map, All, IfOk, IfErr, IfSome, Some, false, true, not};
+ghost use Rattle.std.specs.Prelude.{◌≡◌, ℕ, List, [], ◌∷◌, ◌<◌, ◌^◌, ◌==◌, length, map, All, IfOk, IfErr, IfSome, IfNone, Some, false, true, not};
 ghost use Rattle.pl_context.specs.Stops.{HasPlaces, no_stops};
 ghost use Rattle.pl_context.specs.WaitingViews.{Entry, Holds, stops_for};
 ghost use Rattle.pl_queue.specs.declared.views.SenderView.{SenderView};
 ghost use Rattle.pl_words.specs.Admissions.{AdmittedView};
 ghost use Rattle.pl_flow.specs.Flows.{IsNext};
 ghost use Rattle.pl_outbox.specs.Tries.{is_tried};
-ghost use Rattle.pl_outbox.specs.OutboxViews.{IsNew, admissions, waits_for, sends_for, was_tried, oldest_untried, tried_after, reached, is_cut, Adds, Comes, RefusedBy, Offers, WasFull, FullOnce, Stays, Forgets, closed_seat};
+ghost use Rattle.pl_outbox.specs.OutboxViews.{IsNew, admissions, waits_for, sends_for, was_tried, oldest_untried, tried_after, reached, is_cut, Adds, Comes, RefusedBy, Offers, WasFull, FullOnce, Sends, SameFor, Stays, Forgets, closed_seat};
 
-use crate::bell::{MAX_BITS, Waiters};
+use crate::congestion::Congestion;
+use crate::executor_set::{ExecutorSet, MAX_BITS};
 use crate::outbox::Outbox;
 use crate::tries::Tries;
 use pl_context::Waiting;
@@ -26,7 +27,7 @@ const MAX_UNRUNG: u32 = 56;
 
 /// What became of the oldest envelope for a target.
 #[derive(Clone, Copy, Debug, PartialEq, Eq)]
-pub enum Offered {
+enum Offered {
     /// It is in the queue.
     Handed,
     /// The queue answered that it is full. It waits where it did.
@@ -44,10 +45,12 @@ pub enum Offered {
 pub struct Outboxes<'a, W: Named, M: Mailbox<W> + Drop> {
     outboxes: Vec<Outbox<'a, W, M>>,
     waiting: Waiting<Admitted>,
+    /// How many envelopes wait.
+    waits: u64,
     /// The targets whose queue was found full in this turn.
     tries: Tries,
     /// The executors to which something was sent, and which were not woken for it yet.
-    unrung: Waiters,
+    unrung: ExecutorSet,
     /// How many envelopes were sent to these.
     unrung_sent: u32,
 }
@@ -83,7 +86,8 @@ impl<'a, W: Named, M: Mailbox<W> + Drop> Outboxes<'a, W, M> {
             waiting: Waiting::new(alloc, places)?,
             tries: Tries::new(alloc, outboxes.len())?,
             outboxes,
-            unrung: Waiters::none(),
+            waits: 0,
+            unrung: ExecutorSet::none(),
             unrung_sent: 0,
         })
     }
@@ -106,8 +110,9 @@ impl<'a, W: Named, M: Mailbox<W> + Drop> Outboxes<'a, W, M> {
                 Err(refused)
             }
             Ok(admitted) => {
-                if let Some(admitted) = self.waiting.add(target, envelope, admitted) {
-                    self.outboxes[target].give_up(admitted);
+                match self.waiting.add(target, envelope, admitted) {
+                    None => self.waits = self.waits.saturating_add(1),
+                    Some(admitted) => self.outboxes[target].give_up(admitted),
                 }
                 Ok(())
             }
@@ -128,8 +133,31 @@ impl<'a, W: Named, M: Mailbox<W> + Drop> Outboxes<'a, W, M> {
         (waiting, closed_seat(outboxes))
     }
 
+    /// In a new turn: hands over the oldest envelope whose queue has room. Each queue is tried once. The target to which it
+    /// went, or None where nothing waits but for queues that are full.
+    pub fn hand<R: Wait>(&mut self, rt: &R) -> Option<usize>
+        ensures handed { IfSome result (λ target. Sends self.old target self.new) }
+        ensures none { IfNone result ((y : ℕ) → SameFor self.old self.new y) }
+        // The target of the oldest, among those whose queue was not found full by this call.
+        ensures oldest { (entries : List (Entry AdmittedView)) → Holds self.old.waiting entries → result ≡ oldest_untried self.new entries }
+        ensures stays { Stays self.old self.new }
+    {
+        self.forget_tries();
+        for _ in rt.forever() {
+            let Some(target) = self.oldest() else {
+                self.ring_for_sent();
+                return None;
+            };
+            if let Offered::Handed = self.offer(rt, target) {
+                self.ring_for_many();
+                return Some(target);
+            }
+        }
+        unreachable!()
+    }
+
     /// A new turn begins: no queue was found full in it.
-    pub fn forget_tries(&mut self)
+    fn forget_tries(&mut self)
         ensures forgets { Forgets self.old self.new }
         ensures none { (y : ℕ) → was_tried self.new y ≡ false }
     {
@@ -137,7 +165,7 @@ impl<'a, W: Named, M: Mailbox<W> + Drop> Outboxes<'a, W, M> {
     }
 
     /// The target of the oldest envelope, among the targets whose queue was not found full in this turn.
-    pub fn oldest(&self) -> Option<usize>
+    fn oldest(&self) -> Option<usize>
         ensures there { IfSome result (λ target. target < length self.now.outboxes) }
         ensures oldest { (entries : List (Entry AdmittedView)) → Holds self.now.waiting entries
             → result ≡ oldest_untried self.now entries }
@@ -152,7 +180,7 @@ impl<'a, W: Named, M: Mailbox<W> + Drop> Outboxes<'a, W, M> {
 
     /// Offers the oldest envelope for a target to its queue. Where that is full what waits, if anything does, waits where it
     /// did, and the target counts as tried.
-    pub fn offer<R: Wait>(&mut self, rt: &R, target: usize) -> Offered
+    fn offer<R: Wait>(&mut self, rt: &R, target: usize) -> Offered
         requires there { target < length self.old.outboxes }
         ensures offers { Offers self.old target result self.new }
         ensures full { FullOnce M.ends W.world self.old target result }
@@ -181,6 +209,7 @@ impl<'a, W: Named, M: Mailbox<W> + Drop> Outboxes<'a, W, M> {
         match self.outboxes[target].offer(rt, envelope) {
             Ok(()) => {
                 admitted.sent();
+                self.waits = self.waits.saturating_sub(1);
                 self.unrung = self.unrung.with(target);
                 self.unrung_sent = self.unrung_sent.saturating_add(1);
                 Offered::Handed
@@ -210,17 +239,37 @@ impl<'a, W: Named, M: Mailbox<W> + Drop> Outboxes<'a, W, M> {
         self.waiting.is_empty()
     }
 
+    /// Says at its executor's own inbox how much waits, and wakes those whose reads wait until that is less.
+    pub fn tell_congestion(&self, own: &Congestion) {
+        self.ring(own.tell(self.waits));
+    }
+
+    /// Whether an executor is congested, this one or another.
+    pub fn is_any_congested(&self) -> bool {
+        let outboxes = self.outboxes.as_slice();
+        outboxes
+            .iter()
+            .any(|outbox| outbox.inbox.congestion.is_on())
+    }
+
+    /// Notes at each executor that the reads of one wait until it is not congested.
+    pub fn note_reader(&self, executor: usize) {
+        for outbox in &self.outboxes {
+            outbox.inbox.congestion.note_reader(executor);
+        }
+    }
+
     /// Notes at each queue that was found full in this turn that an executor waits for room there.
     pub fn note_waiting(&self, executor: usize) {
         for &target in self.tries.as_slice() {
             if let Some(outbox) = self.outboxes.get(target) {
-                outbox.note_waiting(executor);
+                outbox.inbox.bell.note_waiting(executor);
             }
         }
     }
 
     /// Wakes the executors to which something was sent, where that was much, or the next offer may wait for one of them.
-    pub fn ring_for_many(&mut self)
+    fn ring_for_many(&mut self)
         ensures { self.new ≡ self.old }
     {
         if self.unrung_sent >= MAX_UNRUNG || M::may_wait() {
@@ -229,32 +278,32 @@ impl<'a, W: Named, M: Mailbox<W> + Drop> Outboxes<'a, W, M> {
     }
 
     /// Wakes the executors to which something was sent, where they were not woken for it yet.
-    pub fn ring_for_sent(&mut self)
+    fn ring_for_sent(&mut self)
         ensures { self.new ≡ self.old }
     {
-        let waiters = self.unrung;
-        self.unrung = Waiters::none();
+        let unrung = self.unrung;
+        self.unrung = ExecutorSet::none();
         self.unrung_sent = 0;
-        self.ring(waiters);
+        self.ring(unrung);
     }
 
     /// Wakes these executors. Mostly there are none.
     #[inline(always)]
-    pub fn ring(&self, waiters: Waiters) {
-        if waiters.count() > 0 {
-            self.ring_each(waiters);
+    pub fn ring(&self, executors: ExecutorSet) {
+        if executors.count() > 0 {
+            self.ring_each(executors);
         }
     }
 
     /// Wakes these executors, one after another.
     #[inline(never)]
-    fn ring_each(&self, waiters: Waiters) {
-        let mut waiters = waiters;
-        for _ in 0..waiters.count() {
-            let bit = waiters.take_bit();
+    fn ring_each(&self, executors: ExecutorSet) {
+        let mut left = executors;
+        for _ in 0..left.count() {
+            let bit = left.take_bit();
             for block in self.outboxes.chunks(MAX_BITS) {
                 if let Some(outbox) = block.get(bit) {
-                    outbox.ring();
+                    outbox.inbox.bell.ring();
                 }
             }
         }

@@ -55,7 +55,7 @@ impl BareStage for LineService {
         Ok(if quits { Turned::Ended } else { Turned::Open })
     }
 
-    // What it takes goes up as it is, and its reply goes down. Not where it quits, nor where a key is new to it.
+    // What it takes goes up as it is, and its reply goes down. Not where it quits, a key is new to it, or memory is refused.
     fn change(&mut self, event: &mut Event, down: &mut Vec<Event>) -> Changed {
         if self.has_quit || down.reserve(1).is_err() {
             return Changed::No;
@@ -92,23 +92,28 @@ fn write_replies(
         → KeepsTotals totals.new (additions ++ added_by additions event.now)) }
     ensures begins { IsPrefixOf down.old.items down.new.items }
 {
-    match event {
-        Event::Read(Message::Command(command)) => answer(totals, command, down)?,
-        Event::Caught(caught) => {
-            down.reserve(1)?;
-            down.push_reserved(written(Reply::Error(fault_of(*caught))));
-        }
-        Event::ReadComplete => {
-            down.reserve(1)?;
-            down.push_reserved(Event::Flush);
-        }
-        _ => {}
+    down.reserve(2)?;
+    if write_at_once(totals, event, down) {
+        return Ok(());
     }
-    Ok(())
+    match event {
+        Event::Read(Message::Command(Command::Quit)) => {
+            down.push_reserved(written(Reply::Bye));
+            down.push_reserved(Event::Flush);
+            Ok(())
+        }
+        Event::Read(Message::Command(Command::Add(key, number))) => {
+            let reply = totals.add(key, *number)?;
+            down.push_reserved(written(reply));
+            Ok(())
+        }
+        // A text was not copied.
+        _ => Err(AllocError),
+    }
 }
 
-/// Writes the reply to an event where there is one, for which there is room. False, and nothing has changed, at a quit
-/// and where memory may be refused.
+/// Writes the reply to an event where there is one, for which there is room. False, and nothing has changed, at a quit,
+/// at a key that is new, and where a text was not copied.
 fn write_at_once(totals: &mut Totals, event: &Event, down: &mut Vec<Event>) -> bool
     requires room { vec_len down.old < vec_capacity down.old }
     ensures down { result ≡ true → (made : List Event) × (down.new.items ≡ down.old.items ++ made)
@@ -116,7 +121,7 @@ fn write_at_once(totals: &mut Totals, event: &Event, down: &mut Vec<Event>) -> b
     ensures totals { result ≡ true → (additions : List Addition) → KeepsTotals totals.old additions
         → KeepsTotals totals.new (additions ++ added_by additions event.now) }
     ensures open { result ≡ true → is_quit event.now ≡ false }
-    ensures kept { result ≡ false → (totals.new ≡ totals.old) × (down.new.items ≡ down.old.items) }
+    ensures kept { result ≡ false → (totals.new ≡ totals.old) × (down.new ≡ down.old) }
 {
     match event {
         Event::Read(Message::Command(command)) => match answer_at_once(totals, command) {
@@ -130,7 +135,7 @@ fn write_at_once(totals: &mut Totals, event: &Event, down: &mut Vec<Event>) -> b
     true
 }
 
-/// Carries a command out. None, and nothing has changed, at a quit and where memory may be refused.
+/// Carries a command out. None, and nothing has changed, at a quit, at a key that is new, and where a text was not copied.
 fn answer_at_once(totals: &mut Totals, command: &Command) -> Option<Reply>
     ensures reply { IfSome result (λ reply. (additions : List Addition) → KeepsTotals totals.old additions
         → replies_to additions (Event.Read (Message.Command command.now)) ≡ Event.Write (Message.Reply reply) ∷ []) }
@@ -149,34 +154,6 @@ fn answer_at_once(totals: &mut Totals, command: &Command) -> Option<Reply>
         Command::Get(key) => Some(Reply::Total(totals.get(key))),
         Command::Quit => None,
     }
-}
-
-/// Carries a command out, and writes its reply.
-fn answer(totals: &mut Totals, command: &Command, down: &mut Vec<Event>) -> Result<(), AllocError>
-    ensures down { OnOk result ((additions : List Addition) → KeepsTotals totals.old additions
-        → down.new.items ≡ down.old.items ++ replies_to additions (Event.Read (Message.Command command.now))) }
-    ensures totals { OnOk result ((additions : List Addition) → KeepsTotals totals.old additions
-        → KeepsTotals totals.new (additions ++ added_by additions (Event.Read (Message.Command command.now)))) }
-    ensures begins { IsPrefixOf down.old.items down.new.items }
-{
-    down.reserve(2)?;
-    match command {
-        Command::Ping => down.push_reserved(written(Reply::Pong)),
-        Command::Echo(text) => {
-            let text = text.clone()?;
-            down.push_reserved(written(Reply::Text(text)));
-        }
-        Command::Add(key, number) => {
-            let reply = totals.add(key, *number)?;
-            down.push_reserved(written(reply));
-        }
-        Command::Get(key) => down.push_reserved(written(Reply::Total(totals.get(key)))),
-        Command::Quit => {
-            down.push_reserved(written(Reply::Bye));
-            down.push_reserved(Event::Flush);
-        }
-    }
-    Ok(())
 }
 
 /// The write of a reply.

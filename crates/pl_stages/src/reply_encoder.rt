@@ -26,7 +26,7 @@ impl ReplyEncoder {
     }
 }
 
-// A `Mapping` has no list of events, whose allocator the texts are made with.
+// The step of a `Mapping` has no list of events, whose allocator the texts are made with.
 impl BareStage for ReplyEncoder {
     ghost meaning = { λ s. reply_encoding };
 

@@ -1,6 +1,6 @@
 -- An executor's work list, step by step.
 use Rattle.std.proofs.Common.{◌≡◌, ◌≢◌, ℕ, ◌+◌, ◌<◌, Bool, true, false, ◌&&◌, ◌==◌, List, [], ◌∷◌, ◌++◌, length, Some, refl, ap, sym, ◌∙◌, subst, ⊎_elim, arith}
-use Rattle.std.specs.Option.{option_map, option_map_or}
+use Rattle.std.specs.Option.{option_map_or}
 use Rattle.std.proofs.lemmas.Bool.{cond-true, cond-false, cases_Bool, both_ways, eq-eqb, cases_eq, and_right}
 use Rattle.std.proofs.lemmas.Option.{same_Some}
 use Rattle.pl_event.specs.declared.envelopes.Envelope.{Envelope}
@@ -15,9 +15,8 @@ use Rattle.pl_context.specs.declared.waiting.Stamp.{Stamp}
 use Rattle.pl_context.specs.OutputsViews.{OutputsView}
 use Rattle.pl_context.specs.WaitingViews.{stops_for}
 use Rattle.pl_context.proofs.Places.{places-for}
-use Rattle.pl_queue.specs.declared.views.SenderView.{SenderView}
 use Rattle.pl_queue.specs.declared.views.TakeCount.{TakeCount}
-use Rattle.pl_queue.specs.Views.{next_of, set_take_count, after_offer}
+use Rattle.pl_queue.specs.Views.{next_of, set_take_count}
 use Rattle.pl_queue.proofs.Lists.{next_of-set}
 use Rattle.pl_words.specs.Admissions.{AdmittedView}
 use Rattle.pl_flow.specs.Flows.{Point, point, after, on, IsGood, IsNext, IsFlow}
@@ -26,7 +25,7 @@ use Rattle.pl_flow.specs.LanesViews.{LanesView, SameRoutes, KeepsPlaces, taken_w
 use Rattle.pl_flow.proofs.FlowLemmas.{on-append, on-own, on-other}
 use Rattle.pl_flow.proofs.LaneRunLemmas.{lane-grows, lane-leaves, lane-behind}
 use Rattle.pl_outbox.specs.Admitting.{AdmitsOnce}
-use Rattle.pl_outbox.specs.OutboxViews.{OutboxesView, reached, is_cut, Adds, KeepsAll, Sends, SomeClosed, Stays}
+use Rattle.pl_outbox.specs.OutboxViews.{OutboxesView, reached, is_cut, Adds, SomeClosed, Stays}
 use Rattle.pl_outbox.proofs.AdmissionLemmas.{admits_on, admits_more}
 use Rattle.pl_threads.specs.declared.cores.Core.{Core}
 use Rattle.pl_threads.specs.Cores.{CoreHolds}
@@ -263,14 +262,4 @@ holds-stay {c = c} {o = o} holds stays = record {
   runs = runs-stay holds.runs stays;
   why = λ e. stays.closed (holds.why e);
   admits = admits_on o c.work holds.admits refl (let n = stays.made in omega (arith, n));
-}
-
--- nothing had moved before the first was sent
-pub sends-first : (o p q : OutboxesView) (target : ℕ) → KeepsAll o p → Sends p target q → Sends o target q
-sends-first o p q target keeps s = record {
-  envelope = s.envelope;
-  waits = sym (keeps.each target).waits ∙ s.waits;
-  sends = s.sends ∙ ap (option_map (λ (v : SenderView). after_offer v s.envelope)) (keeps.each target).sends;
-  others = λ y other. record { waits = (s.others y other).waits ∙ (keeps.each y).waits; sends = (s.others y other).sends ∙ (keeps.each y).sends };
-  rest = λ entries holds. s.rest entries (keeps.holds entries holds);
 }

@@ -1,12 +1,9 @@
 //! The work list of an executor, and its direct calls.
 
-ghost use Rattle.std.specs.Prelude.{◌≡◌, ◌<◌, ℕ, List, [], false, true, IfSome, IfNone};
+ghost use Rattle.std.specs.Prelude.{◌≡◌, ◌<◌, [], false, true};
 ghost use Rattle.pl_event.specs.declared.envelopes.Envelope.{Envelope};
-ghost use Rattle.pl_context.specs.WaitingViews.{Entry, Holds};
-ghost use Rattle.pl_words.specs.Admissions.{AdmittedView};
 ghost use Rattle.pl_flow.specs.Flows.{IsGood};
 ghost use Rattle.pl_flow.specs.LanesViews.{taken_with};
-ghost use Rattle.pl_outbox.specs.OutboxViews.{SameFor, Sends, oldest_untried};
 ghost use Rattle.pl_threads.specs.Cores.{CoreHolds, CoreKeeps, FrontGoes, WorksOff, WorksOffAfter, at_work};
 ghost use Rattle.pl_threads.specs.NodesViews.{TakesOwn};
 ghost use Rattle.pl_threads.specs.Serving.{ServesNone, MovesAtMostOnce};
@@ -15,7 +12,7 @@ use crate::nodes::OwnNodes;
 use pl_context::Outputs;
 use pl_event::{Envelope, Named};
 use pl_flow::HeadMove;
-use pl_outbox::{Offered, Outboxes};
+use pl_outbox::Outboxes;
 use pl_queue::Mailbox;
 use pl_words::Refused;
 use std::sync::Wait;
@@ -116,31 +113,5 @@ impl<'a, W: Named, M: Mailbox<W> + Drop, N: OwnNodes<W> + Drop> Core<'a, W, M, N
         }
         self.work_off(rt);
         true
-    }
-
-    /// Hands over the oldest envelope whose queue has room: each queue is tried once. The target to which it went, or None
-    /// where nothing waits but for queues that are full.
-    pub fn hand<R: Wait>(&mut self, rt: &R) -> Option<usize>
-        requires holds { CoreHolds N.view_of N.stands W.world self.old }
-        ensures holds { CoreHolds N.view_of N.stands W.world self.new }
-        ensures nodes { self.new.nodes ≡ self.old.nodes }
-        ensures number { self.new.number ≡ self.old.number }
-        ensures work { self.new.work ≡ self.old.work }
-        ensures handed { IfSome result (λ target. Sends self.old.outboxes target self.new.outboxes) }
-        ensures none { IfNone result ((y : ℕ) → SameFor self.old.outboxes self.new.outboxes y) }
-        ensures oldest { (entries : List (Entry AdmittedView)) → Holds self.old.outboxes.waiting entries → result ≡ oldest_untried self.new.outboxes entries }
-    {
-        self.outboxes.forget_tries();
-        for _ in rt.forever() {
-            let Some(target) = self.outboxes.oldest() else {
-                self.outboxes.ring_for_sent();
-                return None;
-            };
-            if let Offered::Handed = self.outboxes.offer(rt, target) {
-                self.outboxes.ring_for_many();
-                return Some(target);
-            }
-        }
-        unreachable!()
     }
 }

@@ -40,7 +40,8 @@ const MANY_HANDED: u32 = 64;
 /// What became of a turn.
 #[derive(Clone, Copy, Debug, PartialEq, Eq)]
 pub enum Turn {
-    /// Something was handed over, taken, read or written; or its reads wait: for room elsewhere, or until others have run.
+    /// Something was handed over, taken, read or written; or its reads wait: for room elsewhere, or until others have run
+    /// or are not congested.
     Worked,
     /// Nothing was.
     Idle,
@@ -66,8 +67,9 @@ pub struct Executor<'a, W: Named, M: Mailbox<W> + Drop, N: OwnNodes<W> + Drop> {
     next: usize,
     /// How many were handed over since others were let run.
     handed: u32,
-    /// The last turn moved nothing, no head has anything to write, and its reads wait for room elsewhere.
-    waits_for_room: bool,
+    /// The last turn moved nothing, no head has anything to write, and its reads wait: for room elsewhere, or for the end of
+    /// congestion.
+    reads_wait: bool,
 }
 
 impl<'a, W: Named, M: Mailbox<W> + Drop, N: OwnNodes<W> + Drop> Model for Executor<'a, W, M, N> {
@@ -124,7 +126,7 @@ impl<'a, W: Named, M: Mailbox<W> + Drop, N: OwnNodes<W> + Drop> Executor<'a, W, 
             turns: 0,
             next: 0,
             handed: 0,
-            waits_for_room: false,
+            reads_wait: false,
         }
     }
 
@@ -157,7 +159,7 @@ impl<'a, W: Named, M: Mailbox<W> + Drop, N: OwnNodes<W> + Drop> Executor<'a, W, 
         if has_worked {
             return Turn::Worked;
         }
-        if self.close() && self.is_drained() {
+        if self.close() && self.has_handed_all() {
             return Turn::Done;
         }
         Turn::Idle
@@ -178,8 +180,9 @@ impl<'a, W: Named, M: Mailbox<W> + Drop, N: OwnNodes<W> + Drop> Executor<'a, W, 
         let handed = self.hand(rt, gate).is_some();
         let ran = self.run_task(rt, gate);
         if handed || ran {
-            self.waits_for_room = false;
+            self.reads_wait = false;
             self.handed = self.handed.saturating_add(u32::from(handed));
+            self.core.outboxes.tell_congestion(&self.inbox.congestion);
             self.write_one(rt, ran);
             return true;
         }
@@ -187,8 +190,8 @@ impl<'a, W: Named, M: Mailbox<W> + Drop, N: OwnNodes<W> + Drop> Executor<'a, W, 
     }
 
     /// What its heads move in a turn in which nothing was handed over or taken. Nothing is read while something waits for
-    /// others, unless all here has ended; and where much was handed over, others are let run before. False where nothing was
-    /// enabled, and no read waits.
+    /// others or an executor is congested, unless all here has ended; and where much was handed over, others are let run
+    /// before. False where nothing was enabled, and no read waits.
     fn move_heads<R: Wait>(&mut self, rt: &R) -> bool
         ensures serves { OnlyServes self.old self.new }
         ensures served { ServesAtMostOnce (N.served self.old.nodes) (N.served self.new.nodes) }
@@ -196,11 +199,11 @@ impl<'a, W: Named, M: Mailbox<W> + Drop, N: OwnNodes<W> + Drop> Executor<'a, W, 
         ensures idle { result ≡ false → (self.new ≡ self.old) × ((c : ℕ) → c < (N.view_of self.new.nodes).channels → (by : HeadMove) → N.may_move self.new.nodes by c false) }
     {
         // Where its reads waited in the last turn, nothing has moved since.
-        if !self.is_drained() && (self.waits_for_room || !self.core.nodes.has_ended()) {
+        if !self.may_read() && (self.reads_wait || !self.core.nodes.has_ended()) {
             self.write_while_waiting(rt);
             return true;
         }
-        self.waits_for_room = false;
+        self.reads_wait = false;
         if self.handed >= MANY_HANDED {
             self.handed = 0;
             thread::yield_now();
@@ -209,10 +212,11 @@ impl<'a, W: Named, M: Mailbox<W> + Drop, N: OwnNodes<W> + Drop> Executor<'a, W, 
         self.serve_first(rt)
     }
 
-    /// In a turn of which the gate was told: takes the front of its queue, wakes those that waited for room there, and makes all
-    /// direct calls that follow. False where the queue was empty, or is closed.
-    pub fn run_task<R: Wait, G: Gate>(&mut self, rt: &R, gate: &G) -> bool
-        requires entered { G.was_entered gate.now self.old.number self.old.turns }
+    /// In a turn of which the gate was told: takes the front of its queue, and makes all direct calls that follow. False where the
+    /// queue was empty, or is closed. Those that wait for room there are woken where it was empty, and at each 56th
+    /// envelope. It says of no congestion, as `turn` does.
+    pub fn run_task<R: Wait, G: Gate>(&mut self, rt: &R, _gate: &G) -> bool
+        requires entered { G.was_entered _gate.now self.old.number self.old.turns }
         ensures number { self.new.number ≡ self.old.number }
         ensures task { result ≡ true → TakesOne N.view_of N.acts self.old self.new }
         ensures none { result ≡ false → self.new ≡ self.old }
@@ -221,17 +225,16 @@ impl<'a, W: Named, M: Mailbox<W> + Drop, N: OwnNodes<W> + Drop> Executor<'a, W, 
         ensures owner { self.new.owner ≡ self.old.owner }
         ensures turns { self.new.turns ≡ self.old.turns }
     {
-        let _ = gate;
         if self.is_closed {
             return false;
         }
-        match take_front::<W, M, R>(rt, &self.inbox.mailbox, &mut self.taker) {
+        match next_task::<W, M, R>(rt, &self.inbox.mailbox, &mut self.taker) {
             None => {
-                self.core.outboxes.ring(self.inbox.take_waiting());
+                self.core.outboxes.ring(self.inbox.bell.take_waiting());
                 false
             }
             Some(envelope) => {
-                let waiters = self.inbox.take_waiting_after(self.taken);
+                let waiters = self.inbox.bell.take_waiting_after(self.taken);
                 self.core.outboxes.ring(waiters);
                 self.taken = self.taken.saturating_add(1);
                 self.core.take(envelope);
@@ -242,17 +245,16 @@ impl<'a, W: Named, M: Mailbox<W> + Drop, N: OwnNodes<W> + Drop> Executor<'a, W, 
     }
 
     /// In a turn of which the gate was told: hands over the oldest envelope whose queue has room. The executor to which it
-    /// went, or None where nothing waits but for queues that are full.
-    pub fn hand<R: Wait, G: Gate>(&mut self, rt: &R, gate: &G) -> Option<usize>
-        requires entered { G.was_entered gate.now self.old.number self.old.turns }
+    /// went, or None where nothing waits but for queues that are full. It says of no congestion, as `turn` does.
+    pub fn hand<R: Wait, G: Gate>(&mut self, rt: &R, _gate: &G) -> Option<usize>
+        requires entered { G.was_entered _gate.now self.old.number self.old.turns }
         ensures same { self.new ≡ record self.old { outboxes = self.new.outboxes } }
         ensures handed { IfSome result (λ target. Sends self.old.outboxes target self.new.outboxes) }
         ensures none { IfNone result ((y : ℕ) → SameFor self.old.outboxes self.new.outboxes y) }
         // The target of the oldest, among those whose queue was not found full by this call.
         ensures oldest { (entries : List (Entry AdmittedView)) → Holds self.old.outboxes.waiting entries → result ≡ oldest_untried self.new.outboxes entries }
     {
-        let _ = gate;
-        self.core.hand(rt)
+        self.core.outboxes.hand(rt)
     }
 
     /// A write of one channel, whose turn it is, beside a task: without one no channel has more to write than before. Where
@@ -273,17 +275,17 @@ impl<'a, W: Named, M: Mailbox<W> + Drop, N: OwnNodes<W> + Drop> Executor<'a, W, 
         }
     }
 
-    /// One write of the first channel that has any enabled, while its reads wait for room elsewhere. Where the last turn
-    /// found none, nothing has moved since, and none is asked again.
+    /// One write of the first channel that has any enabled, while its reads wait. Where the last turn found none, nothing
+    /// has moved since, and none is asked again.
     fn write_while_waiting<R: Wait>(&mut self, rt: &R)
         ensures serves { OnlyServes self.old self.new }
         ensures served { WritesAtMostOnce (N.served self.old.nodes) (N.served self.new.nodes) }
         ensures moves { ServesOne N.view_of N.acts self.old self.new }
     {
-        if self.waits_for_room {
+        if self.reads_wait {
             return;
         }
-        self.waits_for_room = !self.write_first(rt);
+        self.reads_wait = !self.write_first(rt);
     }
 
     /// One write of the first channel that has any enabled. False where none has.
@@ -406,8 +408,8 @@ impl<'a, W: Named, M: Mailbox<W> + Drop, N: OwnNodes<W> + Drop> Executor<'a, W, 
     }
 
     /// Runs its turns until it is done, and gives its nodes. It waits for the start before the first one; None where it is
-    /// told to leave. Where a turn was idle, or its reads wait for room, it rests on the parker of its inbox: until something is
-    /// sent to it, or a queue that it found full has room.
+    /// told to leave. Where a turn was idle, or its reads wait, it rests on the parker of its inbox: until something is sent to it,
+    /// an admission of its own is given up, a queue that it found full has room, or an executor no longer is congested.
     pub fn run<R: Wait, G: Gate>(
         mut self,
         rt: &R,
@@ -423,12 +425,13 @@ impl<'a, W: Named, M: Mailbox<W> + Drop, N: OwnNodes<W> + Drop> Executor<'a, W, 
         if !start.wait(rt) {
             return None;
         }
-        // Before it rests it says so, notes where it waits for room, and looks once more.
+        // Before it rests it says so, notes itself where it waits, and looks once more. Where it was idle no read was enabled:
+        // then it need not wait for the end of congestion.
         let mut is_announced = false;
         let mut turn = self.turn(rt, gate);
         for _ in rt.forever() {
             match turn {
-                Turn::Worked if !self.waits_for_room => is_announced = false,
+                Turn::Worked if !self.reads_wait => is_announced = false,
                 Turn::Done => return Some(self.into_finished()),
                 _ if is_announced => {
                     parker.park(rt);
@@ -465,10 +468,14 @@ impl<'a, W: Named, M: Mailbox<W> + Drop, N: OwnNodes<W> + Drop> Executor<'a, W, 
         &self.owner
     }
 
-    /// Says that it is about to rest, and notes at each queue that was full in the last turn that it waits for room.
+    /// Says that it is about to rest, and notes at each queue that was full in the last turn that it waits for room. Where
+    /// its reads wait though it has handed all over, it notes at each executor that they wait for the end of congestion.
     fn announce_rest(&self) {
-        self.inbox.announce_rest();
+        self.inbox.bell.announce_rest();
         self.core.outboxes.note_waiting(self.core.number);
+        if self.reads_wait && self.has_handed_all() {
+            self.core.outboxes.note_reader(self.core.number);
+        }
     }
 
     /// What it leaves, once all its nodes are over, its queue is closed and nothing waits for others.
@@ -494,17 +501,22 @@ impl<'a, W: Named, M: Mailbox<W> + Drop, N: OwnNodes<W> + Drop> Executor<'a, W, 
         Finished::new(number, nodes, owner, taker, waiting, refusal)
     }
 
+    /// Whether more may be read: nothing waits for others, and where heads are here no executor is congested.
+    fn may_read(&self) -> bool {
+        self.has_handed_all() && (self.channels() == 0 || !self.core.outboxes.is_any_congested())
+    }
+
     /// Whether nothing waits for others.
-    fn is_drained(&self) -> bool
+    fn has_handed_all(&self) -> bool
         ensures { result ≡ true → (y : ℕ) → waits_for self.now.outboxes y ≡ [] }
     {
         self.core.outboxes.is_empty()
     }
 }
 
-/// Takes the front of a queue, as `take` does, where that is not found empty beforehand: room for an envelope is made only
-/// then.
-fn take_front<W: Named, M: Mailbox<W>, R: Wait>(
+/// Takes the front of a queue, as `take` does, but looks first whether it is empty: a look is cheap, and the place for an
+/// envelope is not.
+fn next_task<W: Named, M: Mailbox<W>, R: Wait>(
     rt: &R,
     mailbox: &M,
     taker: &mut M::Taker,

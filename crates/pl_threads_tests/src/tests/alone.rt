@@ -92,6 +92,11 @@ impl<'a, W: Named, M: Mailbox<W> + Drop> Feed<'a, W, M> {
         }
     }
 
+    /// Whether the executor is congested.
+    pub(crate) fn is_congested(&self) -> bool {
+        self.inbox.congestion.is_on()
+    }
+
     /// In which phase the executor is.
     pub(crate) fn status(&mut self) -> Status {
         self.inbox.admission.status(&mut self.way.seat)
@@ -130,6 +135,12 @@ impl<'a, W: Named, M: Mailbox<W> + Drop> Sink<'a, W, M> {
         let number = envelope.number;
         drop(envelope);
         Some(number)
+    }
+
+    /// Says that so many envelopes wait there for others. Whether it is congested then.
+    pub(crate) fn has_waiting(&self, count: u64) -> bool {
+        let _nobody_rests = self.inbox.congestion.tell(count);
+        self.inbox.congestion.is_on()
     }
 
     /// Begins to close, and closes with so many. False where others were admitted.

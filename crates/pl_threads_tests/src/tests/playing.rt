@@ -29,6 +29,10 @@ pub(crate) enum Call {
     TakeFirst,
     /// The front of the queue of executor 1 is taken.
     TakeSecond,
+    /// Executor 0 says that so many envelopes wait there.
+    FirstHasWaiting(u64),
+    /// Whether it is congested itself.
+    IsCongested,
     /// In which phase its own queue is.
     Status,
 }
@@ -74,6 +78,8 @@ impl<'a, W: Named, M: Mailbox<W> + Drop> Alone<'a, W, M> {
             Call::Hand => Answer::Handed(self.executor.hand(rt, &NoGate)),
             Call::TakeFirst => Answer::Took(self.first.take(rt)),
             Call::TakeSecond => Answer::Took(self.second.take(rt)),
+            Call::FirstHasWaiting(count) => Answer::Did(self.first.has_waiting(count)),
+            Call::IsCongested => Answer::Did(self.feed.is_congested()),
             Call::Status => Answer::Is(self.feed.status()),
         }
     }

@@ -4,6 +4,7 @@ use crate::tests::playing::{ADMITTED, Answer, Call, DONE, Expected, IDLE, PUSHED
 use crate::tests::starting::{forwarder, maker};
 use pl_queue::{RingBox, WaitingBox};
 use pl_words::Status;
+use std::alloc::{AllocError, Global};
 use std::marker::Brand;
 use std::test::Fail;
 
@@ -155,6 +156,68 @@ const READ_ONCE_NOTHING_WAITS: [Expected; 14] = [
 fn reads_wait(rt: HostRuntime) -> Result<(), Fail> {
     let rows = READ_ONCE_NOTHING_WAITS.as_slice();
     play::<Brand, RingBox<Brand>, _>(&rt, rt.alloc(), 1, maker((3, 0), 0), rows)
+}
+
+const READ_ONCE_NONE_IS_CONGESTED: [Expected; 16] = [
+    // It reads beside as many as may wait.
+    (Call::FirstHasWaiting(16_384), Answer::Did(false)),
+    WORKED,
+    HANDED_TO_FIRST,
+    (Call::FirstHasWaiting(16_385), Answer::Did(true)),
+    WORKED,
+    NOT_HANDED,
+    (Call::FirstHasWaiting(8_193), Answer::Did(true)),
+    WORKED,
+    NOT_HANDED,
+    (Call::FirstHasWaiting(8_192), Answer::Did(false)),
+    WORKED,
+    HANDED_TO_FIRST,
+    (Call::FirstHasWaiting(16_385), Answer::Did(true)),
+    // All has ended, so nothing is left to read, and no read waits.
+    (Call::TakeFirst, Answer::Took(Some(0))),
+    (Call::TakeFirst, Answer::Took(Some(1))),
+    DONE,
+];
+
+/// While another executor is congested a turn reads nothing, and is not idle.
+#[test]
+fn reads_wait_for_the_congested(rt: HostRuntime) -> Result<(), Fail> {
+    let rows = READ_ONCE_NONE_IS_CONGESTED.as_slice();
+    play::<Brand, RingBox<Brand>, _>(&rt, rt.alloc(), 2, maker((2, 0), 0), rows)
+}
+
+/// Adds these calls so many times.
+fn add_times(rows: &mut Vec<Expected>, count: usize, calls: &[Expected]) -> Result<(), AllocError> {
+    for _ in 0..count {
+        rows.extend_from_slice(calls)?;
+    }
+    Ok(())
+}
+
+/// From as many as may wait on to one more, and back to as many as are to be left.
+fn beyond_and_back(alloc: Global) -> Result<Vec<Expected>, AllocError> {
+    let congested = (Call::IsCongested, Answer::Did(true));
+    let not_congested = (Call::IsCongested, Answer::Did(false));
+    let mut rows = Vec::new(alloc);
+    // The first is handed over, and all others wait.
+    add_times(&mut rows, 16_385, &[ADMITTED, PUSHED, WORKED])?;
+    rows.push(not_congested)?;
+    add_times(&mut rows, 1, &[ADMITTED, PUSHED, WORKED])?;
+    for number in 0..8_193 {
+        rows.push(congested)?;
+        rows.push((Call::TakeFirst, Answer::Took(Some(number))))?;
+        rows.push(WORKED)?;
+    }
+    rows.push(not_congested)?;
+    Ok(rows)
+}
+
+/// An executor is congested from one more on than may wait, until half are left.
+#[test]
+fn congested_by_what_waits(rt: HostRuntime) -> Result<(), Fail> {
+    let rows = beyond_and_back(rt.alloc())?;
+    let nodes = forwarder((16_386, 0), 16_386);
+    play::<Brand, RingBox<Brand>, _>(&rt, rt.alloc(), 1, nodes, rows.as_slice())
 }
 
 const DONE_ONCE_NOTHING_WAITS: [Expected; 12] = [

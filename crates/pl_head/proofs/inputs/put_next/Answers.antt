@@ -1,10 +1,10 @@
-use Rattle.std.proofs.Common.{◌≡◌, ℕ, ◌+◌, ◌<◌, Bool, true, [], ◌∷◌, List, length, reverse, sym, ap, ap₂, ◌∙◌, arith}
-use Rattle.std.proofs.lemmas.List.{reverse-append, length-map}
+use Rattle.std.proofs.Common.{◌≡◌, ℕ, ◌+◌, ◌<◌, Bool, true, List, length, sym, ap, ap₂, ◌∙◌, arith}
+use Rattle.std.proofs.lemmas.List.{length-map}
 use Rattle.pl_event.specs.declared.events.Event.{Event}
 use Rattle.pl_event.specs.declared.envelopes.Item.{Item}
 use Rattle.pl_event.specs.declared.envelopes.Item.TheVariants as item
 use Rattle.pl_event.specs.declared.elements.Element.{Element}
-use Rattle.pl_event.specs.Inputs.{Bursts, burst_events}
+use Rattle.pl_event.specs.Inputs.{burst_events}
 use Rattle.pl_context.specs.Ports.{all_go_on}
 use Rattle.pl_context.proofs.PortLemmas.{all_go_on-events}
 use Rattle.pl_head.specs.InputStand.{next_items}
@@ -14,12 +14,10 @@ use Rattle.pl_head.proofs.inputs.put_next.Goals as goal
 pub returns-in-Some-clause-port : goal.returns-in-Some-clause-port
 returns-in-Some-clause-port c =
     let port = c.args.port.now in
-    let left = reverse c.args.left.now.items in
+    let left = c.args.left.now.items in
     let elements = c.in-Some.elements in
-    let first : left ≡ elements ∷ reverse c.pop.new.self.items =
-    ap (λ (bs : Bursts). reverse bs) c.in-Some.ensures.items ∙ reverse-append c.pop.new.self.items (elements ∷ []) in
     let some : 0 < c.args.steps = omega arith in
-    let is = burst_step c.args.steps left elements (reverse c.pop.new.self.items) some first in
+    let is = burst_step c.args.steps left elements c.pop_front.new.self.items some c.in-Some.ensures.items in
     let count : port.made + length (burst_events c.into_vec.result.items) ≡ port.made + length (next_items c.args.steps left) =
     ap (λ (xs : List Element). port.made + length (burst_events xs)) c.into_vec.ensures
     ∙ ap (λ (n : ℕ). port.made + n) (sym (length-map (burst_events elements) (λ (x : Event). item.Event x)))

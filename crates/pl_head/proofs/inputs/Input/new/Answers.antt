@@ -1,6 +1,5 @@
-use Rattle.std.proofs.Common.{◌≡◌, reverse, length, ap, ◌∙◌, arith}
+use Rattle.std.proofs.Common.{◌≡◌, length, ap, ◌∙◌, arith}
 use Rattle.std.specs.List.{flat_map}
-use Rattle.std.proofs.lemmas.List.{reverse-reverse}
 use Rattle.pl_event.specs.Inputs.{Bursts, burst_events}
 use Rattle.pl_context.specs.declared.ports.Port.{Port}
 use Rattle.pl_head.specs.ReadSteps.{bursts_read}
@@ -9,8 +8,7 @@ use Rattle.pl_head.proofs.inputs.Input.new.Goals as goal
 
 pub invariant_of-result : goal.invariant_of-result
 invariant_of-result c =
-    let left : reverse c.reverse.new.self.items ≡ bursts_read c.args.plan =
-    ap (λ (bs : Bursts). reverse bs) c.reverse.ensures.items ∙ reverse-reverse c.bursts_before-left.result.items ∙ c.bursts_before-left.ensures in
+    let left : c.into.result.items ≡ bursts_read c.args.plan = c.into.ensures.0 ∙ c.bursts_before.ensures in
     let size = ap (λ (bs : Bursts). length (flat_map burst_events bs)) left in
     record {
       counts = omega arith;

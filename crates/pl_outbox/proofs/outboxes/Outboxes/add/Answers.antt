@@ -40,7 +40,7 @@ returns-in-Err-clause-refused g c =
     (refused-by g.W.Named.world os c.self.inside.waiting c.self.inside.tries.tried c.self.invariant.0 c.args.target c.args.envelope (set os c.args.target c.admit.new.self) c.index_mut.result.now c.admit.new.self (replaced g c)
     (ap (λ (o : OutboxView). o.sends) c.admit.ensures.same) c.in-Err.refused c.in-Err.ensures.refused)
 
-stays : (g : _) (c : goal.In_default g) → Done g.W.Named.world (record { outboxes = c.self.inside.outboxes.items; waiting = c.self.inside.waiting; tried = c.self.inside.tries.tried }) c.args.target c.args.envelope
+stays : (g : _) (c : goal.After-self-in-None-1 g) → Done g.W.Named.world (record { outboxes = c.self.inside.outboxes.items; waiting = c.self.inside.waiting; tried = c.self.inside.tries.tried }) c.args.target c.args.envelope
     (record { outboxes = set c.self.inside.outboxes.items c.args.target c.admit.new.self; waiting = c.add.new.self; tried = c.self.inside.tries.tried })
 stays g c =
     let os = c.self.inside.outboxes.items in
@@ -49,16 +49,16 @@ stays g c =
     let at = slice_get_read os (length os) c.args.target b refl within c.index_mut.ensures.value in
     stays-done g.W.Named.world os c.self.inside.waiting c.self.inside.tries.tried c.self.invariant.0 c.args.target c.args.envelope b c.admit.new.self at c.admit.ensures.same c.in-Ok.ensures.admitted.1 c.add.new.self c.in-Ok.admitted c.in-Ok.ensures.admitted.0
     (subst (λ (v : OutboxesView). is_cut v c.args.target c.args.envelope.lane ≡ false → IsNext g.W.Named.world (reached v c.args.target c.args.envelope.lane) c.args.envelope) (sym c.self.view_is) c.requires.next)
-    c.add.result c.in_default.is c.add.ensures
+    c.add.result c.in-None.is c.add.ensures
 
-pub invariant_of-self-in_default : goal.invariant_of-self-in_default
-invariant_of-self-in_default g c = ((stays g c).hold, c.self.invariant.1 ∙ sym (length-set c.self.inside.outboxes.items c.args.target c.admit.new.self))
+pub invariant_of-self-in-None : goal.invariant_of-self-in-None
+invariant_of-self-in-None g c = ((stays g c).hold, c.self.invariant.1 ∙ sym (length-set c.self.inside.outboxes.items c.args.target c.admit.new.self))
 
-pub returns-in_default-clause-adds : goal.returns-in_default-clause-adds
-returns-in_default-clause-adds g c = subst (λ (v : OutboxesView). Adds v c.args.target c.args.envelope (record { outboxes = set c.self.inside.outboxes.items c.args.target c.admit.new.self; waiting = c.add.new.self; tried = c.self.inside.tries.tried })) c.self.view_is (stays g c).adds
+pub returns-in-None-clause-adds : goal.returns-in-None-clause-adds
+returns-in-None-clause-adds g c = subst (λ (v : OutboxesView). Adds v c.args.target c.args.envelope (record { outboxes = set c.self.inside.outboxes.items c.args.target c.admit.new.self; waiting = c.add.new.self; tried = c.self.inside.tries.tried })) c.self.view_is (stays g c).adds
 
-pub returns-in_default-clause-comes : goal.returns-in_default-clause-comes
-returns-in_default-clause-comes g c = subst (λ (v : OutboxesView). Comes v c.args.target c.args.envelope (record { outboxes = set c.self.inside.outboxes.items c.args.target c.admit.new.self; waiting = c.add.new.self; tried = c.self.inside.tries.tried })) c.self.view_is (stays g c).comes
+pub returns-in-None-clause-comes : goal.returns-in-None-clause-comes
+returns-in-None-clause-comes g c = subst (λ (v : OutboxesView). Comes v c.args.target c.args.envelope (record { outboxes = set c.self.inside.outboxes.items c.args.target c.admit.new.self; waiting = c.add.new.self; tried = c.self.inside.tries.tried })) c.self.view_is (stays g c).comes
 
 back : (g : _) (c : goal.After-self-in-Some-1 g) → Done g.W.Named.world (record { outboxes = c.self.inside.outboxes.items; waiting = c.self.inside.waiting; tried = c.self.inside.tries.tried }) c.args.target c.args.envelope
     (record { outboxes = set (set c.self.inside.outboxes.items c.args.target c.admit.new.self) c.args.target c.give_up.new.self; waiting = c.add.new.self; tried = c.self.inside.tries.tried })

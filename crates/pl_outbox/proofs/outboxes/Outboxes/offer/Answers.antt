@@ -1,4 +1,4 @@
-use Rattle.std.proofs.Common.{◌≡◌, ◌==◌, ◌||◌, refl, subst, ap, ◌∙◌}
+use Rattle.std.proofs.Common.{◌==◌, ◌||◌, refl, subst, ap, ◌∙◌}
 use Rattle.pl_outbox.specs.declared.outboxes.Offered.TheVariants.{Full}
 use Rattle.pl_outbox.specs.OutboxViews.{OutboxesView, was_tried, tried_after, Offers, FullOnce, Stays}
 use Rattle.pl_outbox.proofs.OfferSteps.{full-hold, full-offers, full-stays}

@@ -19,17 +19,17 @@ invariant_of-self-in-Some g c =
     let told = c.in-Some.ensures.taken in
     let counts = (g.M.Mailbox.ends.takes_of c.self.inside.taker).counts in
     let now = set_take_count x.lane (x.number + 1) counts in
-    let is : (g.M.Mailbox.ends.takes_of c.take_front.new.taker).counts ≡ now = ap (λ (t : TakerView). t.counts) told.3 in
+    let is : (g.M.Mailbox.ends.takes_of c.next_task.new.taker).counts ≡ now = ap (λ (t : TakerView). t.counts) told.3 in
     let view = λ (n : g.row.N.Denot). (g.N.OwnNodes.view_of n).lanes in
     let first = taking-taken before.number (view before.nodes) (view mid.nodes) counts x c.self.invariant.3 told.0 c.take.ensures.keeps.nodes.routes c.take.ensures.taken in
     let number = c.work_off.ensures.keeps.number ∙ c.take.ensures.keeps.number in
     let second = taking-stays before.number (view mid.nodes) (view after.nodes) now first c.work_off.ensures.keeps.nodes.routes c.work_off.ensures.taken in (
       c.work_off.ensures.holds,
       c.work_off.ensures.empty,
-      c.take_front.ensures.taker,
+      c.next_task.ensures.taker,
       subst (λ (y : ℕ × List TakeCount). IsTaking y.0 (g.N.OwnNodes.view_of after.nodes).lanes y.1) (λ i. (sym number i, sym is i)) second,
       c.self.invariant.4,
-      counts-take c.self.inside.owner c.self.inside.is_closed c.self.inside.taken c.saturating_add-self-inside.result (g.M.Mailbox.ends.takes_of c.self.inside.taker).pops (g.M.Mailbox.ends.takes_of c.take_front.new.taker).pops
+      counts-take c.self.inside.owner c.self.inside.is_closed c.self.inside.taken c.saturating_add-self-inside.result (g.M.Mailbox.ends.takes_of c.self.inside.taker).pops (g.M.Mailbox.ends.takes_of c.next_task.new.taker).pops
           c.self.invariant.5 c.if-self.false c.saturating_add-self-inside.ensures (ap (λ (t : TakerView). t.pops) told.3),
       subst (λ (n : ℕ). n < 2 ^ 16) (sym number) c.self.invariant.6,
     )
@@ -42,7 +42,7 @@ invariant_of-self g c =
     let core = c.self.inside.core in (
       c.self.invariant.0,
       c.self.invariant.1,
-      c.take_front.ensures.taker,
+      c.next_task.ensures.taker,
       subst (λ (t : TakerView). IsTaking core.number (g.N.OwnNodes.view_of core.nodes).lanes t.counts) (sym c.in-None.ensures.taken.0) c.self.invariant.3,
       c.self.invariant.4,
       subst (λ (t : TakerView). IsCounting c.self.inside.owner c.self.inside.is_closed c.self.inside.taken t.pops) (sym c.in-None.ensures.taken.0) c.self.invariant.5,
@@ -54,7 +54,7 @@ returns-in-Some-clause-task g c = λ _.
     let core = c.self.inside.core in
     let mid = c.take.new.self in
     let after = c.work_off.new.self in
-    let takes = g.M.Mailbox.ends.takes_of c.take_front.new.taker in
+    let takes = g.M.Mailbox.ends.takes_of c.next_task.new.taker in
     let new : ExecutorView g.row.N.Denot = record { number = after.number; nodes = after.nodes; outboxes = after.outboxes; takes = takes; owner = c.self.inside.owner; turns = c.self.inside.turns } in
     subst
     (λ (old : ExecutorView g.row.N.Denot). TakesOne g.N.OwnNodes.view_of g.N.OwnNodes.acts old new)

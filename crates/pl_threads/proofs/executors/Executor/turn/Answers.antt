@@ -19,8 +19,8 @@ returns-then-has_worked-clause-does g c =
     let moves = c.moves-has_worked in
     turns-kept g.N.OwnNodes.view_of g.N.OwnNodes.acts c.args.self.now moves.new.self _ moves.ensures.does c.self-2.view_is moves.ensures.owner moves.ensures.turns
 
-pub returns-then-is_drained-clause-does : goal.returns-then-is_drained-clause-does
-returns-then-is_drained-clause-does g c =
+pub returns-then-has_handed_all-clause-does : goal.returns-then-has_handed_all-clause-does
+returns-then-has_handed_all-clause-does g c =
     let moves = c.moves-has_worked in
     turns-closed g.N.OwnNodes.view_of g.N.OwnNodes.acts c.args.self.now moves.new.self _ c.close.new.self _ moves.ensures.does c.self-2.view_is moves.ensures.owner moves.ensures.turns c.close.ensures.same
 

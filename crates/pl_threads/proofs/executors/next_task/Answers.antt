@@ -5,7 +5,7 @@ use Rattle.pl_event.specs.Worlds.{FitsWorld}
 use Rattle.pl_queue.specs.declared.views.TakerView.{TakerView}
 use Rattle.pl_queue.specs.Rule.{TakerSees, WasOnce}
 use Rattle.pl_queue.specs.Views.{next_of, after_take}
-use Rattle.pl_threads.proofs.executors.take_front.Goals as goal
+use Rattle.pl_threads.proofs.executors.next_task.Goals as goal
 
 -- what the taker knows is the same after the look
 pub returns-clause-taken : goal.returns-clause-taken

@@ -1,0 +1,70 @@
+//! Sets of executors.
+
+use std::sync::atomic::{AtomicU64, Ordering};
+
+/// The most executors that are told apart.
+pub(crate) const MAX_BITS: usize = 64;
+
+/// Executors that are to be woken. Bit b is that of each executor whose number is b modulo 64, so where there are more than
+/// 64 it may have some for nothing.
+#[derive(Clone, Copy, Debug)]
+pub struct ExecutorSet {
+    bits: u64,
+}
+
+impl ExecutorSet {
+    pub(crate) fn none() -> ExecutorSet {
+        ExecutorSet { bits: 0 }
+    }
+
+    pub(crate) fn with(self, executor: usize) -> ExecutorSet {
+        ExecutorSet {
+            bits: self.bits | bit_of(executor),
+        }
+    }
+
+    /// How many bits are set.
+    pub(crate) fn count(self) -> u32 {
+        self.bits.count_ones()
+    }
+
+    /// Takes out the least bit that is set.
+    pub(crate) fn take_bit(&mut self) -> usize {
+        let bit = self.bits.trailing_zeros() as usize;
+        self.bits &= self.bits.wrapping_sub(1);
+        bit
+    }
+}
+
+fn bit_of(executor: usize) -> u64 {
+    1 << (executor % MAX_BITS)
+}
+
+/// Executors that wait, each by a note of its own.
+#[derive(Drop)]
+pub(crate) struct Notes {
+    /// Those of an `ExecutorSet`.
+    bits: AtomicU64,
+}
+
+impl Notes {
+    pub(crate) fn new() -> Notes {
+        Notes {
+            bits: AtomicU64::new(0),
+        }
+    }
+
+    /// Notes that an executor waits.
+    pub(crate) fn add(&self, executor: usize) {
+        self.bits.fetch_or(bit_of(executor), Ordering::SeqCst);
+    }
+
+    /// Those that wait. Nobody does any more.
+    pub(crate) fn take(&self) -> ExecutorSet {
+        let bits = match self.bits.load(Ordering::SeqCst) {
+            0 => 0,
+            _ => self.bits.swap(0, Ordering::SeqCst),
+        };
+        ExecutorSet { bits }
+    }
+}
