@@ -91,6 +91,17 @@ channel-here ps me l small here = by (slice_get ps l.channel) refl here
     by None at e = absurd (omega (arith, e, small))
     by (Some p) at e = slice_get_within ps l.channel p at
 
+-- ---- a lane that one of them writes
+
+-- it enters a node, that of its hop
+pub enters-hop : {S T : Type 0} (world : World) (plan : Plan) (meaning : S → Meaning) (stands_after : S → List Event → Type 0) (state : T → TransportState) (me : ℕ) (refused : Bool) (ps : List (ChannelPartView S T))
+    → NodesStand world plan meaning stands_after state me refused ps → (l : Lane) (p : ChannelPartView S T) → slice_get ps l.channel ≡ Some p → writes_of meaning ps l ≡ true → entered_executor ps l ≡ executor_at p l.hop
+enters-hop world plan meaning stands_after state me refused ps stand l p at w =
+    let own = stand.parts l.channel p at in
+    let here : writes_here meaning p l ≡ true = ap (λ (o : Option (ChannelPartView _ _)). option_map_or (λ (q : ChannelPartView _ _). writes_here meaning q l) o false) (sym at) ∙ w in
+    let is = written world meaning stands_after state p own.holds own.within l (and_parts (nat_lt l.hop (length p.path.executors)) (part_writes meaning p l) here).1 in
+    ap (λ (o : Option (ChannelPartView _ _)). option_map_or (λ (q : ChannelPartView _ _). enters q l) o nobody) at ∙ cond-true (is_hop p l) (executor_at p l.hop) nobody is.hop
+
 -- ---- one of all parts
 
 module _ {S T : Type 0} (ps : List (ChannelPartView S T)) (c : ℕ) (p p' : ChannelPartView S T) (was : slice_get ps c ≡ Some p) where

@@ -3,7 +3,7 @@
 use Rattle.std.proofs.Common.{◌≡◌, ◌≢◌, ℕ, ◌+◌, ◌<◌, ◌≤◌, ◌==◌, ◌&&◌, not, Bool, true, false, cond, List, [], ◌∷◌, ◌++◌, length, map, filter, get_or, Some, None, refl, ap, sym, ◌∙◌, ⊎_elim, arith}
 use Rattle.std.specs.Prelude.{All, if◌then◌else◌}
 use Rattle.std.specs.List.{count_by, flat_map, list_any, range_with_len}
-use Rattle.std.proofs.lemmas.Bool.{cases_lt, and_parts, and_from, eqb-true, eq-eqb, ne_eqb, both_ways, false≢true}
+use Rattle.std.proofs.lemmas.Bool.{cases_lt, and_parts, and_from, eqb-true, eq-eqb, ne_eqb, both_ways, not-true, false≢true}
 use Rattle.std.proofs.lemmas.List.{get_or_past}
 use Rattle.std.proofs.lemmas.List.Elements.{All-map}
 use Rattle.std.proofs.lemmas.List.Folds.{Any-from_list_any}
@@ -101,10 +101,6 @@ module _ {S T : Type 0} (ps : List (ChannelPartView S T)) where
       (λ (past : count ≤ y).
       absurd (false≢true (ap (λ senders. has_lane l (lanes_of_senders senders)) (sym (get_or_past (lane_table ps count) y [] (omega (arith, past, table-length count)))) ∙ has)))
       (cases_lt y count)
-    where
-      not-true : (b : Bool) → not b ≡ true → b ≡ false
-      not-true true e = absurd (false≢true e)
-      not-true false e = refl
 
   -- ---- that mailboxes can be opened for it
 

@@ -3,6 +3,7 @@ use Rattle.std.proofs.Common.{◌≡◌, ◌≢◌, ℕ, ◌+◌, ◌-◌, ◌<�
 use Rattle.std.specs.Prelude.{◌==◌, is_some, if◌then◌else◌}
 use Rattle.std.specs.Option.{option_map_or}
 use Rattle.std.proofs.lemmas.Bool.{cond-true, cond-false, cases_Bool, both_ways, or_left, eqb-true, eq-eqb, ne_eqb, false_from_ne_true}
+use Rattle.std.proofs.Math.Bool.{and-true}
 use Rattle.std.proofs.lemmas.Option.{same_Some, slice_get_within}
 use Rattle.pl_event.specs.declared.events.Event.{Event}
 use Rattle.pl_event.specs.declared.envelopes.Lane.{Lane}
@@ -42,10 +43,6 @@ use Rattle.pl_exec.proofs.SeatLemmas.{dealt-at, new-tells}
 use Rattle.pl_event.proofs.Lists.{at-index}
 
 -- ---- which nodes a share has
-
-and-true : (b : Bool) → (b && true) ≡ b
-and-true true = refl
-and-true false = refl
 
 -- a node is there where its data lane enters one
 node-entered : {S T : Type 0} (p : ChannelPartView S T) (hop : ℕ) → has_node p hop ≡ has_entered p (data_lane p.path.channel hop)

@@ -1,7 +1,7 @@
 //! The nodes of an executor.
 
 ghost use Rattle.std.specs.Prelude.{◌≡◌, ◌<◌, ◌^◌, ◌||◌, ◌&&◌, All, length, get_or, slice_get, Some, ℕ, true, false};
-ghost use Rattle.pl_exec.specs.ExecutorNodes.{HasGivenUp, IsRefusedBy, MayMoveOwn, AreOver, IsOverAt, IsPartOver, enters, own_view, served_of};
+ghost use Rattle.pl_exec.specs.ExecutorNodes.{HasGivenUp, IsRefusedBy, MayMoveOwn, AreOver, IsOverAt, IsPartOver, own_view, served_of};
 ghost use Rattle.pl_exec.specs.Telling.{ExecutorStands, TellsAfter};
 ghost use Rattle.pl_part.specs.Parts.{ChannelPartView, PartHolds};
 ghost use Rattle.pl_channel.specs.Channels.{IsMovedBy, IsTakenBy};
@@ -10,19 +10,16 @@ ghost use Rattle.pl_event.specs.Worlds.{World};
 use crate::planned::Planned;
 use crate::words::{Seats, Words};
 use pl_context::Outputs;
-use pl_event::{Envelope, Kind, Lane, Stage};
+use pl_event::{Envelope, Lane, Stage};
 use pl_flow::HeadMove;
 use pl_head::Transport;
 use pl_part::ChannelPart;
 use pl_threads::OwnNodes;
 
-/// No executor has this number.
-const NOBODY: usize = 65_536;
-
 /// The nodes that are on an executor, with the words that their heads tell.
 #[derive(Drop)]
 pub(crate) struct ExecutorNodes<'a, S: Stage, T: Transport> {
-    /// The executor's number.
+    /// The executor's number, for contracts alone.
     pub(crate) number: usize,
     /// By channel the part of it that is here.
     pub(crate) parts: Vec<ChannelPart<S, T>>,
@@ -56,10 +53,7 @@ impl<'a, W: Planned, S: Stage, T: Transport> OwnNodes<W> for ExecutorNodes<'a, S
     ghost stands = { ExecutorStands W.world W.plan S.meaning S.stands_after T.state };
 
     fn target(&self, lane: Lane) -> usize {
-        match self.parts.get(lane.channel as usize) {
-            Some(part) => entered(part, lane),
-            None => NOBODY,
-        }
+        self.parts[lane.channel as usize].target(lane.hop as usize)
     }
 
     fn take(&mut self, envelope: Envelope, work: &mut Outputs) {
@@ -93,19 +87,6 @@ impl<'a, W: Planned, S: Stage, T: Transport> OwnNodes<W> for ExecutorNodes<'a, S
 
     fn has_ended(&self) -> bool {
         are_over_at(self.parts.as_slice(), self.here.as_slice())
-    }
-}
-
-/// The executor of the node that a lane enters, on whichever executor that is. At the last hop, the head's, there is data
-/// alone.
-fn entered<S: Stage, T: Transport>(part: &ChannelPart<S, T>, lane: Lane) -> usize
-    ensures { result ≡ enters part.now lane }
-{
-    let hop = lane.hop as usize;
-    if hop + 1 < part.hops() || (hop + 1 == part.hops() && lane.kind == Kind::Data) {
-        part.target(hop)
-    } else {
-        NOBODY
     }
 }
 

@@ -1,5 +1,5 @@
 -- How often a channel was read and written by its head.
-use Rattle.std.specs.Prelude.{◌≡◌, ℕ, ◌+◌, ◌≤◌}
+use Rattle.std.specs.Prelude.{◌≡◌, ℕ, ◌+◌, ◌≤◌, Bool, true, false}
 use Rattle.pl_flow.specs.declared.moves.HeadMove.{HeadMove}
 use Rattle.pl_flow.specs.declared.moves.HeadMove.TheVariants.{Read, Out}
 
@@ -30,3 +30,13 @@ module _ (before after : ℕ → Served) where
 abbrev pub MovesAtMostOnce : HeadMove → (before after : ℕ → Served) → Type 0
 MovesAtMostOnce Read before after = ReadsAtMostOnce before after
 MovesAtMostOnce Out before after = WritesAtMostOnce before after
+
+-- Whether a channel that is served is asked for a move: for a read step, where it is to read, and for a write.
+abbrev pub is_asked : Bool → HeadMove → Bool
+is_asked reads Read = reads
+is_asked reads Out = true
+
+-- by these moves none was served more than once
+abbrev pub ServesBy : Bool → (before after : ℕ → Served) → Type 0
+ServesBy true before after = ServesAtMostOnce before after
+ServesBy false before after = WritesAtMostOnce before after

@@ -8,7 +8,6 @@ ghost use Rattle.pl_queue.specs.Views.{next_of, after_take};
 ghost use Rattle.pl_context.specs.Stops.{HasPlaces};
 ghost use Rattle.pl_context.specs.WaitingViews.{Entry, Holds};
 ghost use Rattle.pl_flow.specs.declared.moves.HeadMove.{HeadMove};
-ghost use Rattle.pl_flow.specs.declared.moves.HeadMove.TheVariants.{Out};
 ghost use Rattle.pl_words.specs.declared.status.Status.TheVariants.{Accepting};
 ghost use Rattle.pl_words.specs.Phases.{rank};
 ghost use Rattle.pl_words.specs.Admissions.{AdmittedView, OwnerSeatView, new_owner_seat};
@@ -16,7 +15,7 @@ ghost use Rattle.pl_outbox.specs.Admitting.{FewLanes};
 ghost use Rattle.pl_outbox.specs.OutboxViews.{admissions, waits_for, is_closed, SomeClosed, SameFor, Sends, SendsNothing, oldest_untried};
 ghost use Rattle.pl_threads.specs.declared.executors.Turn.TheVariants.{Worked, Idle, Done};
 ghost use Rattle.pl_threads.specs.Running.{EndsAs, IsFinished, RunsOn, IsTaking};
-ghost use Rattle.pl_threads.specs.Serving.{ServesNone, WritesAtMostOnce, MovesAtMostOnce, ServesAtMostOnce};
+ghost use Rattle.pl_threads.specs.Serving.{ServesNone, WritesAtMostOnce, MovesAtMostOnce, ServesAtMostOnce, ServesBy, is_asked};
 ghost use Rattle.pl_threads.specs.Turning.{SendsAtMostOne, TakesAtMostOne, TakesOne, IsStill, OnlyServes, MovesHead, ServesOne, Turns};
 
 use crate::cores::Core;
@@ -63,7 +62,7 @@ pub struct Executor<'a, W: Named, M: Mailbox<W> + Drop, N: OwnNodes<W> + Drop> {
     is_closed: bool,
     /// The number of the next turn; 2^64 - 1 stays.
     turns: u64,
-    /// The channel whose turn it is; where there is none of this number, the first.
+    /// The channel that is asked next; where there is none of this number, the first.
     next: usize,
     /// How many were handed over since others were let run.
     handed: u32,
@@ -209,12 +208,12 @@ impl<'a, W: Named, M: Mailbox<W> + Drop, N: OwnNodes<W> + Drop> Executor<'a, W, 
             thread::yield_now();
             return true;
         }
-        self.serve_first(rt)
+        self.serve_first(rt, true)
     }
 
     /// In a turn of which the gate was told: takes the front of its queue, and makes all direct calls that follow. False where the
-    /// queue was empty, or is closed. Those that wait for room there are woken where it was empty, and at each 56th
-    /// envelope. It says of no congestion, as `turn` does.
+    /// queue was empty, or is closed. Those that wait for room there are woken where it was empty, and at the first of each 56
+    /// envelopes. The gate is there for the condition alone, which it witnesses. It says of no congestion, as `turn` does.
     pub fn run_task<R: Wait, G: Gate>(&mut self, rt: &R, _gate: &G) -> bool
         requires entered { G.was_entered _gate.now self.old.number self.old.turns }
         ensures number { self.new.number ≡ self.old.number }
@@ -245,7 +244,8 @@ impl<'a, W: Named, M: Mailbox<W> + Drop, N: OwnNodes<W> + Drop> Executor<'a, W, 
     }
 
     /// In a turn of which the gate was told: hands over the oldest envelope whose queue has room. The executor to which it
-    /// went, or None where nothing waits but for queues that are full. It says of no congestion, as `turn` does.
+    /// went, or None where nothing waits but for queues that are full. The gate is there for the condition alone, which it
+    /// witnesses. It says of no congestion, as `turn` does.
     pub fn hand<R: Wait, G: Gate>(&mut self, rt: &R, _gate: &G) -> Option<usize>
         requires entered { G.was_entered _gate.now self.old.number self.old.turns }
         ensures same { self.new ≡ record self.old { outboxes = self.new.outboxes } }
@@ -257,8 +257,8 @@ impl<'a, W: Named, M: Mailbox<W> + Drop, N: OwnNodes<W> + Drop> Executor<'a, W, 
         self.core.outboxes.hand(rt)
     }
 
-    /// A write of one channel, whose turn it is, beside a task: without one no channel has more to write than before. Where
-    /// it had none, the next one's turn comes.
+    /// A write of the channel that is asked next, beside a task: without one no channel has more to write than before. Where
+    /// it had none, the one behind it is asked next.
     fn write_one<R: Wait>(&mut self, rt: &R, ran: bool)
         ensures serves { OnlyServes self.old self.new }
         ensures served { WritesAtMostOnce (N.served self.old.nodes) (N.served self.new.nodes) }
@@ -275,8 +275,8 @@ impl<'a, W: Named, M: Mailbox<W> + Drop, N: OwnNodes<W> + Drop> Executor<'a, W, 
         }
     }
 
-    /// One write of the first channel that has any enabled, while its reads wait. Where the last turn found none, nothing
-    /// has moved since, and none is asked again.
+    /// One write of the first channel, from the one that is asked next on, that has any enabled, while its reads wait. Where the
+    /// last turn found none, nothing has moved since, and none is asked again.
     fn write_while_waiting<R: Wait>(&mut self, rt: &R)
         ensures serves { OnlyServes self.old self.new }
         ensures served { WritesAtMostOnce (N.served self.old.nodes) (N.served self.new.nodes) }
@@ -285,52 +285,36 @@ impl<'a, W: Named, M: Mailbox<W> + Drop, N: OwnNodes<W> + Drop> Executor<'a, W, 
         if self.reads_wait {
             return;
         }
-        self.reads_wait = !self.write_first(rt);
+        self.reads_wait = !self.serve_first(rt, false);
     }
 
-    /// One write of the first channel that has any enabled. False where none has.
-    fn write_first<R: Wait>(&mut self, rt: &R) -> bool
+    /// One read step, where `reads` says so, and one write of the first channel, from the one that is asked next on, that has
+    /// any of these enabled. False where none has.
+    fn serve_first<R: Wait>(&mut self, rt: &R, reads: bool) -> bool
         ensures serves { OnlyServes self.old self.new }
-        ensures served { WritesAtMostOnce (N.served self.old.nodes) (N.served self.new.nodes) }
+        ensures served { ServesBy reads (N.served self.old.nodes) (N.served self.new.nodes) }
         ensures moves { ServesOne N.view_of N.acts self.old self.new }
-        ensures idle { result ≡ false → (self.new ≡ self.old) × ((c : ℕ) → c < (N.view_of self.new.nodes).channels → N.may_move self.new.nodes Out c false) }
-    {
-        let count = self.channels();
-        for at in 0..count {
-            if self.move_head(rt, HeadMove::Out, at) {
-                return true;
-            }
-        }
-        false
-    }
-
-    /// One read step and one write of the first channel, from the one on whose turn it is, that has any enabled. False where
-    /// none has.
-    fn serve_first<R: Wait>(&mut self, rt: &R) -> bool
-        ensures serves { OnlyServes self.old self.new }
-        ensures served { ServesAtMostOnce (N.served self.old.nodes) (N.served self.new.nodes) }
-        ensures moves { ServesOne N.view_of N.acts self.old self.new }
-        ensures idle { result ≡ false → (self.new ≡ self.old) × ((c : ℕ) → c < (N.view_of self.new.nodes).channels → (by : HeadMove) → N.may_move self.new.nodes by c false) }
+        ensures idle { result ≡ false → (self.new ≡ self.old) × ((c : ℕ) → c < (N.view_of self.new.nodes).channels → (by : HeadMove) → is_asked reads by ≡ true → N.may_move self.new.nodes by c false) }
     {
         let Some(first) = self.first() else {
             return false;
         };
         let count = self.channels();
-        self.serve_between(rt, first, count) || self.serve_between(rt, 0, first)
+        self.serve_between(rt, first, count, reads) || self.serve_between(rt, 0, first, reads)
     }
 
-    /// One read step and one write of the first channel from one on, up to another, that has any enabled; then the next one's
-    /// turn comes. False where none has.
-    fn serve_between<R: Wait>(&mut self, rt: &R, from: usize, to: usize) -> bool
+    /// One read step, where `reads` says so, and one write of the first channel from one on, up to another, that has any of
+    /// these enabled; then the one behind it is asked next. False where none has.
+    fn serve_between<R: Wait>(&mut self, rt: &R, from: usize, to: usize, reads: bool) -> bool
         requires there { to ≤ (N.view_of self.old.nodes).channels }
         ensures serves { OnlyServes self.old self.new }
-        ensures served { ServesAtMostOnce (N.served self.old.nodes) (N.served self.new.nodes) }
+        ensures served { ServesBy reads (N.served self.old.nodes) (N.served self.new.nodes) }
         ensures moves { ServesOne N.view_of N.acts self.old self.new }
         ensures same { result ≡ false → self.new ≡ self.old }
-        ensures idle { result ≡ false → (c : ℕ) → from ≤ c → c < to → (by : HeadMove) → N.may_move self.old.nodes by c false }
+        ensures idle { result ≡ false → (c : ℕ) → from ≤ c → c < to → (by : HeadMove) → is_asked reads by ≡ true → N.may_move self.old.nodes by c false }
     {
         for at in from..to {
-            if self.serve(rt, at) {
+            if self.serve(rt, at, reads) {
                 self.next = at + 1;
                 return true;
             }
@@ -338,7 +322,7 @@ impl<'a, W: Named, M: Mailbox<W> + Drop, N: OwnNodes<W> + Drop> Executor<'a, W, 
         false
     }
 
-    /// The channel whose turn it is. None where none has its head here.
+    /// The channel that is asked next. None where none has its head here.
     fn first(&self) -> Option<usize>
         ensures there { IfSome result (λ at. at < (N.view_of self.now.nodes).channels) }
         ensures none { IfNone result ((N.view_of self.now.nodes).channels ≡ 0) }
@@ -357,15 +341,15 @@ impl<'a, W: Named, M: Mailbox<W> + Drop, N: OwnNodes<W> + Drop> Executor<'a, W, 
         self.core.nodes.channels()
     }
 
-    /// One read step and one write of a channel. False where neither was enabled.
-    fn serve<R: Wait>(&mut self, rt: &R, at: usize) -> bool
+    /// One read step of a channel, where `reads` says so, and one write. False where neither was enabled.
+    fn serve<R: Wait>(&mut self, rt: &R, at: usize, reads: bool) -> bool
         requires there { at < (N.view_of self.old.nodes).channels }
         ensures serves { OnlyServes self.old self.new }
-        ensures served { ServesAtMostOnce (N.served self.old.nodes) (N.served self.new.nodes) }
+        ensures served { ServesBy reads (N.served self.old.nodes) (N.served self.new.nodes) }
         ensures moves { ServesOne N.view_of N.acts self.old self.new }
-        ensures idle { result ≡ false → (self.new ≡ self.old) × ((by : HeadMove) → N.may_move self.old.nodes by at false) }
+        ensures idle { result ≡ false → (self.new ≡ self.old) × ((by : HeadMove) → is_asked reads by ≡ true → N.may_move self.old.nodes by at false) }
     {
-        let has_read = self.move_head(rt, HeadMove::Read, at);
+        let has_read = reads && self.move_head(rt, HeadMove::Read, at);
         let has_written = self.move_head(rt, HeadMove::Out, at);
         has_read || has_written
     }
@@ -430,17 +414,17 @@ impl<'a, W: Named, M: Mailbox<W> + Drop, N: OwnNodes<W> + Drop> Executor<'a, W, 
         let mut is_announced = false;
         let mut turn = self.turn(rt, gate);
         for _ in rt.forever() {
-            match turn {
-                Turn::Worked if !self.reads_wait => is_announced = false,
-                Turn::Done => return Some(self.into_finished()),
-                _ if is_announced => {
-                    parker.park(rt);
-                    is_announced = false;
-                }
-                _ => {
-                    self.announce_rest();
-                    is_announced = true;
-                }
+            if turn == Turn::Done {
+                return Some(self.into_finished());
+            }
+            if !self.is_to_rest(turn) {
+                is_announced = false;
+            } else if is_announced {
+                parker.park(rt);
+                is_announced = false;
+            } else {
+                self.announce_rest();
+                is_announced = true;
             }
             turn = self.turn(rt, gate);
         }
@@ -466,6 +450,11 @@ impl<'a, W: Named, M: Mailbox<W> + Drop, N: OwnNodes<W> + Drop> Executor<'a, W, 
         ensures { result.now ≡ self.now.owner }
     {
         &self.owner
+    }
+
+    /// Whether it is to rest after a turn: that was idle, or its reads wait.
+    fn is_to_rest(&self, turn: Turn) -> bool {
+        turn == Turn::Idle || self.reads_wait
     }
 
     /// Says that it is about to rest, and notes at each queue that was full in the last turn that it waits for room. Where

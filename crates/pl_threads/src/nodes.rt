@@ -15,7 +15,7 @@ use pl_flow::HeadMove;
 /// The nodes of an executor. What they make of an item they put on a work list, lane by lane the next items of that lane.
 pub trait OwnNodes<W: Named>: Sized {
     /// Where they are, where their lanes go, and how far these have come. A lane enters the nodes' own executor only where one
-    /// of them is entered. A call names a channel whose head is among them by its place.
+    /// of them is entered. A call names a channel whose head is among them by where it stands in the list of these.
     ghost view_of: { Self → OwnNodesView };
 
     /// What they do: what the node that an item enters makes of it; what becomes of them where an item of a lane is refused;
@@ -36,8 +36,10 @@ pub trait OwnNodes<W: Named>: Sized {
     /// What holds of them between two calls.
     ghost stands: { Self → Type 0 };
 
-    /// The executor that a lane enters.
+    /// The executor that a lane enters, which one of these nodes writes.
     fn target(&self, lane: Lane) -> usize
+        requires stands { stands self.now }
+        requires written { (view_of self.now).lanes.written lane ≡ true }
         ensures { result ≡ (view_of self.now).lanes.target lane };
 
     /// The node that the envelope's lane enters takes it.

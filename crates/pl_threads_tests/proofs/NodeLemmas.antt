@@ -1,6 +1,6 @@
 -- What the nodes of the tests make, and what they have taken.
 use Rattle.std.proofs.Common.{arith, ◌≡◌, ◌≢◌, ◌<◌, ◌^◌, ◌%◌, ◌+◌, ◌==◌, ◌&&◌, ◌||◌, ℕ, Bool, true, false, not, nat_le, cond, List, [], ◌∷◌, Some, refl, ap, sym, ◌∙◌, subst, ⊎_elim}
-use Rattle.std.proofs.lemmas.Bool.{cond-true, cond-false, cases_Bool, both_ways, or_left, or_right, and_parts, eqb-true}
+use Rattle.std.proofs.lemmas.Bool.{cond-true, cond-false, cases_Bool, both_ways, or_left, or_right, or_cases, and_parts, and_from, eqb-true, eq-eqb}
 use Rattle.std.proofs.Math.Dec.{leb-zero}
 use Rattle.std.specs.List.{list_any}
 use Rattle.pl_event.specs.declared.envelopes.Envelope.{Envelope}
@@ -42,6 +42,13 @@ flag-fits world x executor n lane number is =
 -- what an outlet makes goes on its lane
 pub makes-lane : (o : Outlet) (l : Lane) → makes o l ≡ true → l ≡ lane_to o.target
 makes-lane o l e = same_lane-equal l (lane_to o.target) (and_parts _ _ e).1
+
+-- so a lane that is written enters the executor of its hop
+pub target-written : (n : Node) (l : Lane) → writes n l ≡ true → target_of l ≡ l.hop
+target-written n l w = ⊎_elim (own n.first) (own n.second) (or_cases (makes n.first l) (makes n.second l) w)
+  where
+    own : (o : Outlet) → makes o l ≡ true → target_of l ≡ l.hop
+    own o e = subst (λ (m : Lane). target_of m ≡ m.hop) (sym (makes-lane o l e)) (cond-true ((o.target == o.target) && same_kind Flags Flags) o.target 65536 (and_from (o.target == o.target) (same_kind Flags Flags) (eq-eqb o.target o.target refl) refl))
 
 pub makes-some : (o : Outlet) (l : Lane) → (o.count == 0) ≡ false → makes o l ≡ same_lane l (lane_to o.target)
 makes-some o l some = ap (λ (b : Bool). not b && same_lane l (lane_to o.target)) some

@@ -13,9 +13,6 @@ use pl_event::{Envelope, Item, Kind, Lane, Named};
 use pl_flow::HeadMove;
 use pl_threads::OwnNodes;
 
-/// No executor has this number.
-const NOBODY: usize = 65_536;
-
 /// The lane on which flags come to an executor.
 pub(crate) fn lane_to(executor: u16) -> Lane
     ensures { result ≡ lane_to executor }
@@ -162,11 +159,7 @@ impl<W: Named> OwnNodes<W> for Node {
     ghost stands = { λ n. NodeStands n };
 
     fn target(&self, lane: Lane) -> usize {
-        if lane.channel == lane.hop && matches!(lane.kind, Kind::Flags) {
-            usize::from(lane.hop)
-        } else {
-            NOBODY
-        }
+        usize::from(lane.hop)
     }
 
     fn take(&mut self, envelope: Envelope, work: &mut Outputs) {

@@ -10,9 +10,14 @@ use Rattle.pl_outbox.proofs.AddSteps.{refused-some}
 use Rattle.pl_outbox.proofs.AdmissionLemmas.{admits_on, admits_front, never-spent}
 use Rattle.pl_words.specs.declared.admission.Refused.{Refused}
 use Rattle.pl_words.specs.declared.admission.Refused.TheVariants.{Closed}
-use Rattle.pl_threads.proofs.RunLemmas.{own-number, own-good, own-taken, front-taken, away-there, away-next, away-placed, away-added, holds-on}
+use Rattle.pl_threads.proofs.RunLemmas.{front-written, own-number, own-good, own-taken, front-taken, away-there, away-next, away-placed, away-added, holds-on}
 use Rattle.pl_threads.proofs.TurnLemmas.{nothing-none}
 use Rattle.pl_threads.proofs.cores.Core.step.Goals as goal
+
+-- ---- the executor that it enters
+
+pub target-target-requires-clause-written : goal.target-target-requires-clause-written
+target-target-requires-clause-written g c = front-written c.next.new.self c.requires.holds.runs c.in-Some.ensures.front c.in-Some.ensures.stopped
 
 -- ---- a direct call
 

@@ -1,4 +1,7 @@
-use Rattle.std.proofs.Common.{◌∙◌}
+use Rattle.std.proofs.Common.{rules, sym, ◌∙◌}
+use denote.Enum.Bare.{same_true}
+use Rattle.pl_threads.specs.contracts.executors.Turn.{the_type}
+use Rattle.pl_threads.specs.declared.executors.Turn.TheVariants.{Done}
 use Rattle.pl_threads.proofs.executors.Executor.run.Goals as goal
 
 pub loop-init : goal.loop-init
@@ -9,5 +12,5 @@ loop-preserved g c = (c.turn-turn-in-loop.ensures.number ∙ c.loop.invariant.0,
 
 pub into_finished-requires : goal.into_finished-requires
 into_finished-requires g c =
-    let done = c.loop.invariant.3 (cc) in
+    let done = c.loop.invariant.3 (same_true the_type (search rules) c.loop.turn Done (sym c.eq.ensures ∙ c.if-eq.true)) in
     record { over = done.1; closed = done.0; drained = done.2 }
