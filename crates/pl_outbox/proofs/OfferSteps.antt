@@ -184,7 +184,7 @@ module _ (world : World) (os : List OutboxView) (w : WaitingView AdmittedView) (
       made = refl;
     }
 
--- ---- a turn begins
+-- ---- what was tried is forgotten
 
 pub forgets : (os : List OutboxView) (w : WaitingView AdmittedView) (ts ts' : List ℕ) → Forgets (record { outboxes = os; waiting = w; tried = ts }) (record { outboxes = os; waiting = w; tried = ts' })
 forgets os w ts ts' = record {

@@ -32,7 +32,7 @@ pub record OutboxView : Type 0 where
   pub seat : SendSeatView
 
 -- The ways to all executors, by number (EventExecutor). With them stand what waits for these, each with its
--- admission, and the targets whose queue was full in this turn.
+-- admission, and the targets whose queue the last `hand` found full.
 pub record OutboxesView : Type 0 where
   pub outboxes : List OutboxView
   pub waiting : WaitingView AdmittedView
@@ -54,11 +54,11 @@ waits_for o target = waits_in o.waiting target
 abbrev pub sends_for : OutboxesView → ℕ → Option SenderView
 sends_for o target = option_map (λ b. b.sends) (slice_get o.outboxes target)
 
--- a target's queue was full in this turn
+-- the last `hand` found a target's queue full
 abbrev pub was_tried : OutboxesView → ℕ → Bool
 was_tried o target = is_tried o.tried target
 
--- The target of the oldest entry that may go. It is among the targets whose queue was not full in this turn.
+-- The target of the oldest entry that may go. It is among the targets whose queue the last `hand` did not find full.
 abbrev pub oldest_untried : OutboxesView → List (Entry AdmittedView) → Option ℕ
 oldest_untried o entries = option_map (λ e. e.target) (find (λ e. not (was_tried o e.target)) entries)
 

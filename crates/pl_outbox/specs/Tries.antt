@@ -1,4 +1,4 @@
--- The targets whose queue was found full in a turn.
+-- The targets whose queue a `hand` found full.
 use Rattle.std.specs.Prelude.{◌≡◌, ℕ, ◌<◌, ◌==◌, Bool, true, List}
 use Rattle.std.specs.List.{list_any, IsDistinct}
 

@@ -4,8 +4,9 @@ use crate::executor_set::{ExecutorSet, Notes};
 use crossbeam_utils::sync::Unparker;
 use std::sync::atomic::{AtomicU64, Ordering};
 
-/// So many envelopes are taken from a queue, at most, before those that wait for room there are woken.
-const MAX_UNTOLD: u64 = 56;
+/// So many envelopes are sent, or taken from a queue, at most, before those are woken that wait for them, or for room there.
+/// A queue of 64 has room for a few more then, or still has a few, while who was woken gets going.
+pub(crate) const WAKE_EVERY: u64 = 56;
 
 /// Wakes an executor, and knows who waits for room in its queue. No contract speaks of it: that anyone is woken is not
 /// proved.
@@ -51,7 +52,7 @@ impl Bell {
 
     /// Those that wait for room there, where they are to be woken though more may be taken, after so many envelopes.
     pub fn take_waiting_after(&self, taken: u64) -> ExecutorSet {
-        if taken % MAX_UNTOLD == 0 {
+        if taken % WAKE_EVERY == 0 {
             self.take_waiting()
         } else {
             ExecutorSet::none()

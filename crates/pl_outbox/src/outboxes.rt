@@ -9,6 +9,7 @@ ghost use Rattle.pl_flow.specs.Flows.{IsNext};
 ghost use Rattle.pl_outbox.specs.Tries.{is_tried};
 ghost use Rattle.pl_outbox.specs.OutboxViews.{IsNew, admissions, waits_for, sends_for, was_tried, oldest_untried, tried_after, reached, is_cut, Adds, Comes, RefusedBy, Offers, WasFull, FullOnce, Sends, SameFor, Stays, Forgets, closed_seat};
 
+use crate::bell::WAKE_EVERY;
 use crate::congestion::Congestion;
 use crate::executor_set::{ExecutorSet, MAX_BITS};
 use crate::outbox::Outbox;
@@ -20,10 +21,6 @@ use pl_words::{Admitted, Refused, SendSeat, Status};
 use std::alloc::{AllocError, Global};
 use std::marker::Model;
 use std::sync::Wait;
-
-/// So many envelopes are sent, at most, before the executors to which they went are woken, and need not wait for more. A
-/// queue of 64 has room for a few more, which come while its executor wakes.
-const MAX_UNRUNG: u32 = 56;
 
 /// What became of the oldest envelope for a target.
 #[derive(Clone, Copy, Debug, PartialEq, Eq)]
@@ -47,12 +44,12 @@ pub struct Outboxes<'a, W: Named, M: Mailbox<W> + Drop> {
     waiting: Waiting<Admitted>,
     /// How many envelopes wait.
     waits: u64,
-    /// The targets whose queue was found full in this turn.
+    /// The targets whose queue was found full by the last `hand`.
     tries: Tries,
     /// The executors to which something was sent, and which were not woken for it yet.
     unrung: ExecutorSet,
     /// How many envelopes were sent to these.
-    unrung_sent: u32,
+    unrung_sent: u64,
 }
 
 impl<'a, W: Named, M: Mailbox<W> + Drop> Model for Outboxes<'a, W, M> {
@@ -133,8 +130,8 @@ impl<'a, W: Named, M: Mailbox<W> + Drop> Outboxes<'a, W, M> {
         (waiting, closed_seat(outboxes))
     }
 
-    /// In a new turn: hands over the oldest envelope whose queue has room. Each queue is tried once. The target to which it
-    /// went, or None where nothing waits but for queues that are full.
+    /// Hands over the oldest envelope whose queue has room. Each queue is tried once. The target to which it went, or None
+    /// where nothing waits but for queues that are full.
     pub fn hand<R: Wait>(&mut self, rt: &R) -> Option<usize>
         ensures handed { IfSome result (λ target. Sends self.old target self.new) }
         ensures none { IfNone result ((y : ℕ) → SameFor self.old self.new y) }
@@ -156,7 +153,7 @@ impl<'a, W: Named, M: Mailbox<W> + Drop> Outboxes<'a, W, M> {
         unreachable!()
     }
 
-    /// A new turn begins: no queue was found full in it.
+    /// Begins a `hand`: no queue was found full by it.
     fn forget_tries(&mut self)
         ensures forgets { Forgets self.old self.new }
         ensures none { (y : ℕ) → was_tried self.new y ≡ false }
@@ -164,7 +161,7 @@ impl<'a, W: Named, M: Mailbox<W> + Drop> Outboxes<'a, W, M> {
         self.tries.clear();
     }
 
-    /// The target of the oldest envelope, among the targets whose queue was not found full in this turn.
+    /// The target of the oldest envelope, among the targets whose queue this `hand` has not found full.
     fn oldest(&self) -> Option<usize>
         ensures there { IfSome result (λ target. target < length self.now.outboxes) }
         ensures oldest { (entries : List (Entry AdmittedView)) → Holds self.now.waiting entries
@@ -259,7 +256,7 @@ impl<'a, W: Named, M: Mailbox<W> + Drop> Outboxes<'a, W, M> {
         }
     }
 
-    /// Notes at each queue that was found full in this turn that an executor waits for room there.
+    /// Notes at each queue that the last `hand` found full that an executor waits for room there.
     pub fn note_waiting(&self, executor: usize) {
         for &target in self.tries.as_slice() {
             if let Some(outbox) = self.outboxes.get(target) {
@@ -272,7 +269,7 @@ impl<'a, W: Named, M: Mailbox<W> + Drop> Outboxes<'a, W, M> {
     fn ring_for_many(&mut self)
         ensures { self.new ≡ self.old }
     {
-        if self.unrung_sent >= MAX_UNRUNG || M::may_wait() {
+        if self.unrung_sent >= WAKE_EVERY || M::may_wait() {
             self.ring_for_sent();
         }
     }

@@ -1,4 +1,4 @@
-//! The targets whose queue was found full in a turn.
+//! The targets whose queue a `hand` found full.
 
 ghost use Rattle.std.specs.Prelude.{◌≡◌, ℕ, [], ◌<◌, ◌==◌, ◌||◌, IfOk};
 ghost use Rattle.pl_outbox.specs.Tries.{is_tried};
@@ -6,8 +6,7 @@ ghost use Rattle.pl_outbox.specs.Tries.{is_tried};
 use std::alloc::{AllocError, Global};
 use std::marker::Model;
 
-/// The targets whose queue was found full in a turn. Room for all of them is taken at the start, so noting one takes no
-/// memory.
+/// The targets whose queue a `hand` found full. Room for all of them is taken at the start, so noting one takes no memory.
 #[derive(Drop)]
 pub(crate) struct Tries {
     targets: Vec<usize>,
