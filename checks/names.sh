@@ -1,6 +1,7 @@
 #!/usr/bin/env bash
 # A word of the contracts has one home: says which words two modules of the libraries' specs define, but for those below, and
-# which of these have one home again. And a module that docs/ARCHITECTURE.md names is a file, and the other way round.
+# which of these have one home again. And docs/ARCHITECTURE.md names each library, and each module of these; what it names is
+# a file.
 set -euo pipefail
 cd "$(dirname "$0")/.."
 
@@ -22,9 +23,13 @@ takes_by      each mailbox has its own taker
 LIST
 }
 
+libraries() {
+  grep -v '^#' crates.txt | sed -n 's/^\([a-z_]*\).*/\1/p' | grep -Ev '(_tests|_bench)$|^pl_(checks|main|example_handlers)$'
+}
+
 # Words, and the modules that define each.
 homes() {
-  grep -v '^#' crates.txt | sed -n 's/^\([a-z_]*\).*/\1/p' | grep -Ev '(_tests|_bench)$|^pl_(checks|main|example_handlers)$' |
+  libraries |
     while read -r crate; do
       [ -d "crates/$crate/specs" ] || continue
       grep -rEo "^ *(abbrev pub|pub record|pub data) [A-Za-z_][A-Za-z0-9_']*" "crates/$crate/specs" |
@@ -44,23 +49,22 @@ while read -r word _; do
 done < <(shared)
 
 # The modules of each library, as docs/ARCHITECTURE.md has them: the crate, and one of its modules.
-told() {
-  awk '/^## Where each part is/ { here = 1 } /^## Words/ { here = 0 } !here { next }
+told=$(awk '/^## Where each part is/ { here = 1 } /^## Words/ { here = 0 } !here { next }
     /^- / { crate = match($0, /^- \[pl_[a-z_]+\]/) ? substr($0, 4, RLENGTH - 4) : "" }
     /^$/ { crate = "" }
     crate { line = $0; while (match(line, /`[a-z_]+`/)) { name = substr(line, RSTART + 1, RLENGTH - 2); line = substr(line, RSTART + RLENGTH)
-      if (name !~ /^pl_/) print crate, name } }' docs/ARCHITECTURE.md | sort -u
-}
+      if (name !~ /^pl_/) print crate, name } }' docs/ARCHITECTURE.md | sort -u)
 
 while read -r crate module; do
   find "crates/$crate/src" -name "$module.rt" | grep -q . ||
     { echo "names: docs/ARCHITECTURE.md names the module $module of $crate, which is no file"; status=1; }
-done < <(told)
-for crate in $(told | cut -d ' ' -f 1 | sort -u); do
+done <<<"$told"
+for crate in $({ libraries; cut -d ' ' -f 1 <<<"$told"; } | sort -u); do
+  grep -q "^$crate " <<<"$told" || { echo "names: docs/ARCHITECTURE.md does not name the library $crate"; status=1; continue; }
   # But for laws, limits, the steps of a word and tests.
   for file in crates/"$crate"/src/*.rt; do
     module=$(basename "$file" .rt)
-    grep -Eq '^(lib|tests|limits)$|(^|_)laws?$|_steps$' <<<"$module" || told | grep -qx "$crate $module" ||
+    grep -Eq '^(lib|tests|limits)$|(^|_)laws?$|_steps$' <<<"$module" || grep -qx "$crate $module" <<<"$told" ||
       { echo "names: docs/ARCHITECTURE.md does not name the module $module of $crate"; status=1; }
   done
 done
