@@ -80,7 +80,8 @@ impl Outputs {
             && self.envelopes.capacity() - self.envelopes.len() > self.stops.left()
     }
 
-    /// Makes room for a given number of envelopes, beside the reserved places. An `Err` changes nothing.
+    /// Makes room for a given number of envelopes, beside the reserved places; for twice as many where the list has to grow and
+    /// memory allows it, since a turn makes two of each. An `Err` changes nothing.
     pub fn reserve(&mut self, additional: usize) -> Result<(), AllocError>
         ensures items { self.new.items ≡ self.old.items }
         ensures stopped { self.new.stopped ≡ self.old.stopped }
@@ -88,10 +89,14 @@ impl Outputs {
         ensures grows { self.old.room ≤ self.new.room }
         ensures refused { OnErr result (self.old.room < additional) }
     {
-        match self.stops.left().checked_add(additional) {
-            Some(all) => self.envelopes.reserve(all),
-            None => Err(AllocError),
+        let Some(all) = self.stops.left().checked_add(additional) else {
+            return Err(AllocError);
+        };
+        let room = self.envelopes.capacity() - self.envelopes.len();
+        if room >= all || self.envelopes.reserve(all.saturating_mul(2)).is_ok() {
+            return Ok(());
         }
+        self.envelopes.reserve(all)
     }
 
     /// Whether this lane has stopped.
