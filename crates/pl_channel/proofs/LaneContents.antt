@@ -2,7 +2,8 @@
 use Rattle.std.proofs.Common.{◌≡◌, ℕ, zero, suc, ◌+◌, ◌<◌, ◌≤◌, Bool, true, false, cond, List, [], ◌∷◌, ◌++◌, map, Some, None, refl, sym, ap, ◌∙◌, subst, inl, inr, arith, ⊎_elim}
 use Rattle.std.specs.Prelude.{slice_get}
 use Rattle.std.specs.List.{range_with_len}
-use Rattle.std.proofs.lemmas.Bool.{cond-true, cond-false, cases_Bool, cases_eq}
+use Rattle.std.proofs.lemmas.Bool.{cond-true, cond-false, cases_Bool, cases_eq, cases_lt}
+use Rattle.std.proofs.lemmas.Option.{none-some}
 use Rattle.pl_event.specs.declared.events.Event.{Event}
 use Rattle.pl_event.specs.declared.envelopes.Lane.{Lane}
 use Rattle.pl_event.specs.Hops.{same_lane, data_lane}
@@ -69,6 +70,14 @@ module _ (channel : ℕ) (p : ChannelPlan) where
       (lanes-apart (data_lane other hop) (data_lane channel first) (λ e. off (ap (λ (l : Lane). l.channel) e)))
       ∙ no-lane other hop n (first + 1) off
 
+  -- and none past its head's
+  past-lane : (hop n first : ℕ) → first + n ≤ hop → content_in (some_lanes first n) (data_lane channel hop) ≡ None
+  past-lane hop zero first past = refl
+  past-lane hop (suc n) first past =
+      cond-false (same_lane (data_lane channel hop) (data_lane channel first)) (Some (content p first)) (content_in (some_lanes (first + 1) n) (data_lane channel hop))
+      (lanes-apart (data_lane channel hop) (data_lane channel first) (λ e. let same = ap (λ (l : Lane). l.hop) e in absurd (omega (arith, same, past))))
+      ∙ past-lane hop n (first + 1) (omega (arith, past))
+
   -- each of its lanes carries what its plan gives it
   pub channel-lane : (hop : ℕ) → hop ≤ planned_head_hop p → content_in (channel_lanes channel p) (data_lane channel hop) ≡ Some (content p hop)
   channel-lane hop within = own-lane hop (planned_head_hop p + 1) 0 (omega arith) (omega (arith, within))
@@ -99,3 +108,38 @@ pub content-planned : (plan : Plan) (channel : ℕ) (p : ChannelPlan) → slice_
 content-planned plan channel p at hop within =
     let own : channel ≡ 0 + channel = omega arith in
     ap (λ (c : ℕ). content_in (planned_lanes plan) (data_lane c hop)) own ∙ lane-from plan.channels 0 channel hop p at within
+
+-- the channels behind another have no lane of it
+later-none : (ps : List ChannelPlan) (first other hop : ℕ) → other < first → content_in (planned_lanes_from first ps) (data_lane other hop) ≡ None
+later-none [] first other hop before = refl
+later-none (q ∷ ps) first other hop before =
+    first-lacks (channel_lanes first q) (planned_lanes_from (first + 1) ps) (data_lane other hop)
+    (no-lane first q other hop (planned_head_hop q + 1) 0 (λ e. omega (arith, e, before)))
+    ∙ later-none ps (first + 1) other hop (omega (arith, before))
+
+past-from : (ps : List ChannelPlan) (first i hop : ℕ) (p : ChannelPlan) → slice_get ps i ≡ Some p → planned_head_hop p < hop → content_in (planned_lanes_from first ps) (data_lane (first + i) hop) ≡ None
+past-from [] first i hop p at past = absurd (none-some p at)
+past-from (q ∷ ps) first zero hop p at past =
+    let own : first + 0 ≡ first = omega arith in
+    let far : planned_head_hop q < hop = subst (λ (r : ChannelPlan). planned_head_hop r < hop) (sym same) past in
+    ap (λ (c : ℕ). content_in (planned_lanes_from first (q ∷ ps)) (data_lane c hop)) own
+    ∙ first-lacks (channel_lanes first q) (planned_lanes_from (first + 1) ps) (data_lane first hop) (past-lane first q hop (planned_head_hop q + 1) 0 (omega (arith, far)))
+    ∙ later-none ps (first + 1) first hop (omega arith)
+  where
+    same : q ≡ p
+    same = cc at
+past-from (q ∷ ps) first (suc i) hop p at past =
+    let next : first + suc i ≡ (first + 1) + i = omega arith in
+    first-lacks (channel_lanes first q) (planned_lanes_from (first + 1) ps) (data_lane (first + suc i) hop)
+    (no-lane first q (first + suc i) hop (planned_head_hop q + 1) 0 (λ e. omega (arith, e)))
+    ∙ ap (λ (c : ℕ). content_in (planned_lanes_from (first + 1) ps) (data_lane c hop)) next
+    ∙ past-from ps (first + 1) i hop p at past
+
+-- It has no other lanes.
+pub lane-within : (plan : Plan) (channel : ℕ) (p : ChannelPlan) → slice_get plan.channels channel ≡ Some p → (hop : ℕ) (events : List Event) → content_in (planned_lanes plan) (data_lane channel hop) ≡ Some events → hop ≤ planned_head_hop p
+lane-within plan channel p at hop events has = ⊎_elim
+    (λ (past : planned_head_hop p < hop).
+    let own : channel ≡ 0 + channel = omega arith in
+    absurd (none-some events (sym (ap (λ (c : ℕ). content_in (planned_lanes plan) (data_lane c hop)) own ∙ past-from plan.channels 0 channel hop p at past) ∙ has)))
+    (λ (within : hop ≤ planned_head_hop p). within)
+    (cases_lt (planned_head_hop p) hop)

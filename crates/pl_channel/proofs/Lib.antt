@@ -14,7 +14,10 @@ mod Lists
 mod Contents
 mod PlannedLanes
 mod NewChannels
-mod EventClones
+pub mod EventClones
 pub mod HeadLanes
 pub mod EndReports
 pub mod PlanLemmas
+mod FedInputs
+pub mod FedPlans
+pub mod Feeding

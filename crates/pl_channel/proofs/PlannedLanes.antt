@@ -1,6 +1,9 @@
 -- A world that knows the lanes of a recorded channel knows them for its handlers, its tail and its head.
 use Rattle.std.proofs.Common.{◌≡◌, ℕ, ◌+◌, ◌<◌, ◌≤◌, Bool, true, false, List, length, map, refl, sym, ap, subst, ◌∙◌, arith}
-use Rattle.std.specs.Prelude.{slice_get, Some, Option, option_map}
+use Rattle.std.specs.Prelude.{slice_get, Some, Option, option_map, All}
+use Rattle.std.specs.List.{count_by}
+use Rattle.std.proofs.lemmas.Bool.{both_ways}
+use Rattle.std.proofs.lemmas.List.Elements.{All-map}
 use Rattle.std.proofs.lemmas.List.{length-map}
 use Rattle.std.proofs.lemmas.Option.{slice_get_within, slice_get-map}
 use Rattle.pl_event.specs.declared.events.Event.{Event}
@@ -17,6 +20,7 @@ use Rattle.pl_build.specs.Pipelines.{hop_of_turn}
 use Rattle.pl_context.specs.ContextViews.{IsHop, has_up, has_down, down_hop}
 use Rattle.pl_context.specs.declared.contexts.TheConstants.{MAX_HANDLERS}
 use Rattle.pl_head.specs.Transports.{TransportState}
+use Rattle.pl_part.specs.ContextHolds.{IsPlanned}
 use Rattle.pl_part.specs.HeadHolds.{IsHeadPlanned}
 use Rattle.pl_part.specs.NewParts.{IsPlannedAt, ArePlannedWith}
 use Rattle.pl_world.specs.declared.session.Recorded.{Recorded}
@@ -54,6 +58,56 @@ out-down Inbound hop k down = cc
 out-down Turn hop k down = cc
 out-down Outbound hop k down = (refl, refl, refl)
 
+-- ---- the lanes of a plan
+
+module _ (p : ChannelPlan) (upwards : All (λ m. is_outbound m.direction ≡ false) p.inbound) (one : count_by (λ m. is_turn m.direction) p.inbound ≡ 1) (downwards : All (λ m. is_outbound m.direction ≡ true) p.outbound)
+    (small : IsSmallChannel p) (world : World) (number : ℕ) (knows : Knows world number p) where
+  -- at the hop of an inbound handler
+  pub inbound-lanes : (hop : ℕ) (m : Meaning) → slice_get p.inbound hop ≡ Some m → IsPlanned world m (content p hop) number hop (tail_hop p)
+  inbound-lanes hop m at = record {
+    own = knows hop (omega (arith, within));
+    up = λ has. knows (hop + 1) (omega (arith, within)) ∙ ap Some above;
+    down = λ has. ap (λ (n : ℕ). content_of world (data_lane number n)) (turn-down m.direction hop (tail_hop p) up has).1 ∙ knows (tail_hop p + 1) (omega arith) ∙ ap Some (below has);
+    few = small hop (omega (arith, within));
+    few_up = λ has. subst (λ (xs : List Event). length xs + 1 < MAX_ITEMS) above (small (hop + 1) (omega (arith, within)));
+    few_down = λ has. subst (λ (xs : List Event). length xs + 1 < MAX_ITEMS) (below has) (small (tail_hop p + 1) (omega arith));
+  }
+    where
+      within : hop < tail_hop p
+      within = slice_get_within p.inbound hop m at
+
+      up : is_outbound m.direction ≡ false
+      up = All-at (λ (n : Meaning). is_outbound n.direction ≡ false) p.inbound hop m upwards at
+
+      above : content p (hop + 1) ≡ up_of m (content p hop)
+      above = content-up p hop m at
+
+      below : has_down m.direction ≡ true → content p (tail_hop p + 1) ≡ down_of m (content p hop)
+      below has = content-turn p hop m one at (turn-down m.direction hop (tail_hop p) up has).0
+
+  -- and of an outbound one
+  pub outbound-lanes : (i : ℕ) (m : Meaning) → slice_get p.outbound i ≡ Some m → IsPlanned world m (content p (tail_hop p + 1 + i)) number (tail_hop p + 1 + i) (tail_hop p)
+  outbound-lanes i m at = record {
+    own = knows (tail_hop p + 1 + i) (omega (arith, within));
+    up = λ has. absurd (both_ways (has_up m.direction) out.1 has);
+    down = λ has. ap (λ (n : ℕ). content_of world (data_lane number n)) (out.0 ∙ next) ∙ knows (tail_hop p + 2 + i) (omega (arith, within)) ∙ ap Some below;
+    few = small (tail_hop p + 1 + i) (omega (arith, within));
+    few_up = λ has. absurd (both_ways (has_up m.direction) out.1 has);
+    few_down = λ has. subst (λ (xs : List Event). length xs + 1 < MAX_ITEMS) below (small (tail_hop p + 2 + i) (omega (arith, within)));
+  }
+    where
+      within : i < length p.outbound
+      within = slice_get_within p.outbound i m at
+
+      out : (down_hop m.direction (tail_hop p + 1 + i) (tail_hop p) ≡ (tail_hop p + 1 + i) + 1) × (has_up m.direction ≡ false) × (is_turn m.direction ≡ false)
+      out = out-down m.direction (tail_hop p + 1 + i) (tail_hop p) (All-at (λ (n : Meaning). is_outbound n.direction ≡ true) p.outbound i m downwards at)
+
+      next : (tail_hop p + 1 + i) + 1 ≡ tail_hop p + 2 + i
+      next = omega arith
+
+      below : content p (tail_hop p + 2 + i) ≡ down_of m (content p (tail_hop p + 1 + i))
+      below = content-down p i m at
+
 -- ---- a recorded channel
 
 module _ {S T : Type 0} (meaning : S → Meaning) (stands_after : S → List Event → Type 0) (state : T → TransportState) (r : Recorded S T)
@@ -73,74 +127,37 @@ module _ {S T : Type 0} (meaning : S → Meaning) (stands_after : S → List Eve
   meant : (stages : List S) (i : ℕ) (stage : S) → slice_get stages i ≡ Some stage → slice_get (map meaning stages) i ≡ Some (meaning stage)
   meant stages i stage at = slice_get-map meaning stages i ∙ ap (λ (o : Option S). option_map meaning o) at
 
+  ups : All (λ m. is_outbound m.direction ≡ false) p.inbound
+  ups = All-map (λ (m : Meaning). is_outbound m.direction ≡ false) meaning r.pipeline.inbound path.upwards
+
+  one-turn : count_by (λ m. is_turn m.direction) p.inbound ≡ 1
+  one-turn = count_by-map (λ (m : Meaning). is_turn m.direction) meaning r.pipeline.inbound ∙ path.turn
+
+  downs : All (λ m. is_outbound m.direction ≡ true) p.outbound
+  downs = All-map (λ (m : Meaning). is_outbound m.direction ≡ true) meaning r.pipeline.outbound path.downwards
+
   inbound-planned : (i : ℕ) (stage : S) → slice_get r.pipeline.inbound i ≡ Some stage → IsPlannedAt world meaning number k (hop_of_turn meaning r.pipeline.inbound) (0 + i) stage
   inbound-planned i stage at = subst (λ (hop : ℕ). IsPlannedAt world meaning number k (hop_of_turn meaning r.pipeline.inbound) hop stage) own (record {
-    at = up-at (meaning stage).direction i k up within (omega (arith, path.within));
+    at = up-at (meaning stage).direction i k (All-at (λ (s : S). is_outbound (meaning s).direction ≡ false) r.pipeline.inbound i stage path.upwards at) (slice_get_within r.pipeline.inbound i stage at) (omega (arith, path.within));
     turned = λ turn. sym (only-one (λ (s : S). is_turn (meaning s).direction) r.pipeline.inbound i stage path.turn at turn).0;
     events = content p i;
-    plan = record {
-      own = knows i (omega (arith, sizes.1, within));
-      up = λ has. knows (i + 1) (omega (arith, sizes.1, within)) ∙ ap Some above;
-      down = λ has. ap (λ (hop : ℕ). content_of world (data_lane number hop)) (turn-down (meaning stage).direction i k up has).1 ∙ behind ∙ ap Some (below has);
-      few = small i (omega (arith, sizes.1, within));
-      few_up = λ has. subst (λ (xs : List Event). length xs + 1 < MAX_ITEMS) above (small (i + 1) (omega (arith, sizes.1, within)));
-      few_down = λ has. subst (λ (xs : List Event). length xs + 1 < MAX_ITEMS) (below has) (small (tail_hop p + 1) (omega (arith, sizes)));
-    };
+    plan = subst (λ (n : ℕ). IsPlanned world (meaning stage) (content p i) number i n) sizes.0 (inbound-lanes p ups one-turn downs small world number knows i (meaning stage) (meant r.pipeline.inbound i stage at));
   })
     where
       own : i ≡ 0 + i
       own = omega arith
 
-      within : i < k
-      within = slice_get_within r.pipeline.inbound i stage at
-
-      up : is_outbound (meaning stage).direction ≡ false
-      up = All-at (λ (s : S). is_outbound (meaning s).direction ≡ false) r.pipeline.inbound i stage path.upwards at
-
-      above : content p (i + 1) ≡ up_of (meaning stage) (content p i)
-      above = content-up p i (meaning stage) (meant r.pipeline.inbound i stage at)
-
-      below : has_down (meaning stage).direction ≡ true → content p (tail_hop p + 1) ≡ down_of (meaning stage) (content p i)
-      below has =
-          content-turn p i (meaning stage) (count_by-map (λ (m : Meaning). is_turn m.direction) meaning r.pipeline.inbound ∙ path.turn) (meant r.pipeline.inbound i stage at)
-          (turn-down (meaning stage).direction i k up has).0
-
-      behind : content_of world (data_lane number (k + 1)) ≡ Some (content p (tail_hop p + 1))
-      behind =
-          ap (λ (n : ℕ). content_of world (data_lane number (n + 1))) (sym sizes.0) ∙ knows (tail_hop p + 1) (omega (arith, sizes))
-
   outbound-planned : (i : ℕ) (stage : S) → slice_get r.pipeline.outbound i ≡ Some stage → IsPlannedAt world meaning number k (hop_of_turn meaning r.pipeline.inbound) (k + 1 + i) stage
-  outbound-planned i stage at = record {
-    at = down-at (meaning stage).direction (k + 1 + i) k down (omega arith) (omega (arith, within, path.within));
-    turned = λ turn. absurd (no (out-down (meaning stage).direction (k + 1 + i) k down).2 turn);
-    events = content p (k + 1 + i);
-    plan = record {
-      own = knows (k + 1 + i) (omega (arith, sizes.1, within));
-      up = λ has. absurd (no (out-down (meaning stage).direction (k + 1 + i) k down).1 has);
-      down = λ has.
-          ap (λ (hop : ℕ). content_of world (data_lane number hop)) ((out-down (meaning stage).direction (k + 1 + i) k down).0 ∙ next)
-          ∙ knows (k + 2 + i) (omega (arith, sizes.1, within)) ∙ ap Some below;
-      few = small (k + 1 + i) (omega (arith, sizes.1, within));
-      few_up = λ has. absurd (no (out-down (meaning stage).direction (k + 1 + i) k down).1 has);
-      few_down = λ has. subst (λ (xs : List Event). length xs + 1 < MAX_ITEMS) below (small (k + 2 + i) (omega (arith, sizes.1, within)));
-    };
-  }
-    where
-      no : {b : Bool} → b ≡ false → b ≡ true → ⊥
-      no off on = cc
-
-      within : i < length r.pipeline.outbound
-      within = slice_get_within r.pipeline.outbound i stage at
-
-      down : is_outbound (meaning stage).direction ≡ true
-      down = All-at (λ (s : S). is_outbound (meaning s).direction ≡ true) r.pipeline.outbound i stage path.downwards at
-
-      next : (k + 1 + i) + 1 ≡ k + 2 + i
-      next = omega arith
-
-      below : content p (k + 2 + i) ≡ down_of (meaning stage) (content p (k + 1 + i))
-      below = subst (λ (n : ℕ). content p (n + 2 + i) ≡ down_of (meaning stage) (content p (n + 1 + i))) sizes.0
-          (content-down p i (meaning stage) (meant r.pipeline.outbound i stage at))
+  outbound-planned i stage at =
+      let within = slice_get_within r.pipeline.outbound i stage at in
+      let down = All-at (λ (s : S). is_outbound (meaning s).direction ≡ true) r.pipeline.outbound i stage path.downwards at in
+      record {
+        at = down-at (meaning stage).direction (k + 1 + i) k down (omega arith) (omega (arith, within, path.within));
+        turned = λ turn. absurd (both_ways (is_turn (meaning stage).direction) (out-down (meaning stage).direction (k + 1 + i) k down).2 turn);
+        events = content p (k + 1 + i);
+        plan = subst (λ (n : ℕ). IsPlanned world (meaning stage) (content p (n + 1 + i)) number (n + 1 + i) n) sizes.0
+            (outbound-lanes p ups one-turn downs small world number knows i (meaning stage) (meant r.pipeline.outbound i stage at));
+      }
 
   pub are-planned : (turn : ℕ) (inbound outbound : List S) → turn ≡ hop_of_turn meaning r.pipeline.inbound → inbound ≡ r.pipeline.inbound → outbound ≡ r.pipeline.outbound
       → ArePlannedWith world meaning number turn inbound outbound

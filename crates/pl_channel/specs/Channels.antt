@@ -22,7 +22,7 @@ use Rattle.pl_head.specs.ReadSteps.{has_step}
 use Rattle.pl_head.specs.Transports.{TransportState}
 use Rattle.pl_head.specs.HeadStand.{HeadView, HeadStandsAfter, ReadsStand, is_read_held, is_idle}
 use Rattle.pl_part.specs.Paths.{writer_hop}
-use Rattle.pl_part.specs.Parts.{ChannelPartView, SamePart, PartHolds, PartTakes, PartMoves, head_hop, part_taken, part_lanes, part_writes, part_came}
+use Rattle.pl_part.specs.Parts.{ChannelPartView, SamePart, PartHolds, PartTakes, PartAborts, PartMoves, head_hop, part_taken, part_lanes, part_writes, part_came}
 use Rattle.pl_part.specs.Counts.{part_done}
 
 -- ---- where lanes go, and how far they have come
@@ -117,6 +117,10 @@ module _ {S T : Type 0} (state : T → TransportState) where
   -- The head of a channel has made a move.
   abbrev pub IsMovedBy : (T → ℕ → Type 0) → List (ChannelPartView S T) → HeadMove → ℕ → OutputsView → List (ChannelPartView S T) → OutputsView → Type 0
   IsMovedBy may_refuse ps by c before ps' after = HasMoved (λ (p p' : ChannelPartView S T). PartMoves state may_refuse p by before true p' after) ps c ps'
+
+  -- It was aborted.
+  abbrev pub IsAbortedBy : List (ChannelPartView S T) → ℕ → OutputsView → List (ChannelPartView S T) → OutputsView → Type 0
+  IsAbortedBy ps c before ps' after = HasMoved (λ (p p' : ChannelPartView S T). PartAborts state p before p' after) ps c ps'
 
   -- Whether its next read step is enabled: one is left and not held, whichever steps were made.
   abbrev pub MayRead : List (ChannelPartView S T) → ℕ → Bool → Type 0

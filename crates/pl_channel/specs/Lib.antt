@@ -4,3 +4,4 @@ pub mod Channels
 pub mod Ways
 pub mod Ends
 pub mod PlanStand
+pub mod Feeding

@@ -1,5 +1,5 @@
 -- How a context, or the tail, stands.
-use Rattle.std.specs.Prelude.{Bool, true, false, Option, Some, None}
+use Rattle.std.specs.Prelude.{Bool, true, false, if◌then◌else◌, Option, Some, None}
 use Rattle.pl_event.specs.declared.outcomes.Cause.{Cause}
 use Rattle.pl_context.specs.declared.standing.Standing.{Standing}
 use Rattle.pl_context.specs.declared.standing.Standing.TheVariants as stands
@@ -21,3 +21,9 @@ abbrev pub cause_of : Standing → Option Cause
 cause_of stands.Open = None
 cause_of stands.Ended = None
 cause_of (stands.Failed cause) = Some cause
+
+-- how two nodes stand together: failed where one has, and then as the first that has; ended where one has; else open
+abbrev pub together : Standing → Standing → Standing
+together stands.Open other = other
+together stands.Ended other = if has_failed other then other else stands.Ended
+together (stands.Failed cause) other = stands.Failed cause

@@ -1,4 +1,4 @@
-//! A stage at its place in a channel.
+//! A stage at its hop.
 
 ghost use Rattle.std.specs.Prelude.{◌≡◌, ◌≢◌, ◌+◌, ◌<◌, ◌≤◌, ◌^◌, ◌∷◌, ◌++◌, List, [], length, OnOk, OnErr, IsErr, true, false};
 ghost use Rattle.pl_event.specs.declared.events.Event.{Event};
@@ -30,7 +30,7 @@ use std::marker::Model;
 /// The most handlers of a pipeline, as hops count.
 pub const MAX_HANDLERS: u16 = pl_event::MAX_HANDLERS;
 
-/// A stage at its place in a channel (Netty's `ChannelHandlerContext`).
+/// A stage at its hop (Netty's `ChannelHandlerContext`).
 ///
 /// It takes what its lane brings, and puts out what the stage makes of it: an inbound context on the lane of the next
 /// hop, an outbound one on the lane of the next hop towards the head, the turn on both. An end that it takes goes on in
@@ -135,6 +135,13 @@ impl<S: Stage> Context<S> {
             self.failed_by_call = true;
             self.close(Standing::Failed(cause), outputs);
         }
+    }
+
+    /// How it stands.
+    pub fn standing(&self) -> Standing
+        ensures { result ≡ self.now.standing }
+    {
+        self.standing
     }
 
     /// Whether it has ended or failed.

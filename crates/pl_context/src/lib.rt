@@ -1,4 +1,4 @@
-//! Contexts: a stage at its place in a channel, the tail, and the lists on which envelopes wait.
+//! Contexts: a stage at its hop, the tail, and the lists on which envelopes wait.
 #![tactic(auto)]
 
 mod added;

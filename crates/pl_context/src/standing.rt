@@ -1,7 +1,7 @@
 //! How a context or the tail stands, and what it answers.
 
 ghost use Rattle.std.specs.Prelude.{◌≡◌};
-ghost use Rattle.pl_context.specs.Standings.{is_over, has_failed, cause_of};
+ghost use Rattle.pl_context.specs.Standings.{is_over, has_failed, cause_of, together};
 
 use pl_event::Cause;
 
@@ -46,6 +46,17 @@ impl Standing {
         match self {
             Standing::Open | Standing::Ended => false,
             Standing::Failed(_) => true,
+        }
+    }
+
+    /// How two nodes stand together: failed where one has, and then as the first that has; ended where one has; else open.
+    pub fn together(self, other: Standing) -> Standing
+        ensures { result ≡ together self other }
+    {
+        match self {
+            Standing::Open => other,
+            Standing::Ended if other.has_failed() => other,
+            Standing::Ended | Standing::Failed(_) => self,
         }
     }
 

@@ -100,6 +100,13 @@ impl Tail {
         Sequence::from_vec(events)
     }
 
+    /// How it stands.
+    pub fn standing(&self) -> Standing
+        ensures { result ≡ self.now.standing }
+    {
+        self.standing
+    }
+
     /// Whether it has ended or failed.
     pub fn is_ended(&self) -> bool
         ensures { result ≡ is_over self.now.standing }

@@ -2,6 +2,7 @@ pub mod MarkSteps
 pub mod MarkLaws
 pub mod ReadSteps
 pub mod Feeding
+pub mod FedPlans
 pub mod FlagSteps
 pub mod Buffering
 pub mod Accounts

@@ -1,6 +1,7 @@
 -- What contracts see of a head, and the events and sizes after which it may stand.
 use Rattle.std.specs.Prelude.{◌≡◌, ◌⊎◌, ℕ, ◌+◌, ◌*◌, ◌-◌, ◌≤◌, ◌^◌, List, [], ◌∷◌, ◌++◌, length, Bool, true, false, ◌||◌, ◌&&◌, not, is_some, nat_le, Option, Some, None, if◌then◌else◌, ◌==◌}
 use Rattle.pl_event.specs.Hops.{data_lane, flags_lane}
+use Rattle.pl_event.specs.declared.elements.Element.{Element}
 use Rattle.pl_event.specs.declared.events.Event.{Event}
 use Rattle.pl_event.specs.declared.envelopes.Lane.{Lane}
 use Rattle.pl_event.specs.declared.envelopes.Item.{Item}
@@ -28,7 +29,7 @@ use Rattle.pl_head.specs.Failures.{failure_outcome, AreOutcomes}
 use Rattle.pl_head.specs.Settling.{AreSettled}
 use Rattle.pl_head.specs.Buffers.{OutboundBufferView, BufferStands, BufferFailed, event_sizes}
 use Rattle.pl_head.specs.ReadSteps.{entrance, is_burst, bursts_read}
-use Rattle.pl_head.specs.InputStand.{InputView, InputStands, failed_input}
+use Rattle.pl_head.specs.InputStand.{InputView, InputStands, failed_input, fed_input}
 use Rattle.pl_event.specs.declared.limits.TheConstants.{MAX_ITEMS}
 
 -- The end of a channel at its transport (ChannelPipeline). It has how many items of its lane it has taken, how that
@@ -76,6 +77,10 @@ module _ {T : Type 0} (state : T → TransportState) where
 -- This many read steps were made. A failure has closed their lane or not.
 abbrev pub ReadsStand : {T : Type 0} → ReadPlan → ℕ → Bool → HeadView T → Type 0
 ReadsStand p reads failed h = InputStands p reads failed h.input
+
+-- a head that is to read one burst more
+abbrev pub fed_head : {T : Type 0} → List Element → HeadView T → HeadView T
+fed_head burst h = record h { input = fed_input burst h.input }
 
 -- What a read step answers. One is left or not, and held or not.
 abbrev pub read_answer : Bool → Bool → ReadStep

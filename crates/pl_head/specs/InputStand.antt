@@ -1,6 +1,7 @@
 -- What contracts see of a recorded input that is read step by step, and how many of its read steps were made.
-use Rattle.std.specs.Prelude.{◌≡◌, ℕ, zero, suc, ◌+◌, ◌-◌, ◌<◌, ◌≤◌, List, [], ◌∷◌, length, drop, Bool, true, false, ◌&&◌, if◌then◌else◌}
+use Rattle.std.specs.Prelude.{◌≡◌, ℕ, zero, suc, ◌+◌, ◌-◌, ◌<◌, ◌≤◌, List, [], ◌∷◌, ◌++◌, length, drop, Bool, true, false, not, ◌&&◌, ◌==◌, if◌then◌else◌, None}
 use Rattle.std.specs.List.{flat_map}
+use Rattle.pl_event.specs.declared.elements.Element.{Element}
 use Rattle.pl_event.specs.declared.events.Event.TheVariants as event
 use Rattle.pl_event.specs.declared.envelopes.Item.{Item}
 use Rattle.pl_event.specs.declared.envelopes.Item.TheVariants as item
@@ -64,6 +65,18 @@ input_after_step r = record {
 abbrev pub failed_input : InputView → InputView
 failed_input r = record r { port = record r.port { made = if r.port.is_open then r.port.made + 1 else r.port.made; is_open = false } }
 
+-- how many read steps are left before the end or the abort: the first one, and one for each burst that is left
+abbrev pub steps_left : InputView → ℕ
+steps_left r = length r.left + (if r.steps == 0 then 1 else 0)
+
+-- a burst more may come: the lane is open, and no abort is behind the bursts
+abbrev pub takes_bursts : InputView → Bool
+takes_bursts r = r.port.is_open && not r.aborts
+
+-- one burst more is left, behind the others and before the end
+abbrev pub fed_input : List Element → InputView → InputView
+fed_input burst r = record r { left = r.left ++ burst ∷ [] }
+
 -- So many read steps were made, and given to the lane, or then a failure, which has closed it. The abort is a failure,
 -- and is not counted.
 pub record InputStands (p : ReadPlan) (reads : ℕ) (failed : Bool) (r : InputView) : Type 0 where
@@ -74,6 +87,10 @@ pub record InputStands (p : ReadPlan) (reads : ℕ) (failed : Bool) (r : InputVi
   pub aborts : r.aborts ≡ is_aborted p
   pub made : r.port.made ≡ read_items (bursts_read p) reads + (if failed then 1 else 0)
   pub is_open : r.port.is_open ≡ has_step p reads failed
+
+-- the plan of a channel that was fed so many bursts, and is not aborted
+abbrev pub fed_plan : Bursts → ReadPlan
+fed_plan bursts = record { bursts = bursts; abort_after = None }
 
 -- how many items are still to come, while the lane is open
 abbrev pub items_left : ℕ → Bursts → ℕ

@@ -1,9 +1,9 @@
 //! The end of a channel at its transport.
 
-ghost use Rattle.std.specs.Prelude.{◌≡◌, ℕ, ◌+◌, ◌≤◌, ◌<◌, ◌↔◌, ◌≢◌, ◌∷◌, ◌++◌, ◌⊎◌, ◌&&◌, List, [], length, take, min, Bool, true, false, Option, Some, None, IsSome, IfSome, IfNone, IfOk, is_some, not, ◌||◌, slice_index_or};
+ghost use Rattle.std.specs.Prelude.{◌≡◌, ℕ, ◌+◌, ◌≤◌, ◌<◌, ◌↔◌, ◌≢◌, ◌∷◌, ◌++◌, ◌⊎◌, ◌&&◌, List, [], length, take, min, Bool, true, false, Option, Some, None, IsSome, IfSome, IfNone, IfOk, OnOk, OnErr, is_some, not, ◌||◌, slice_index_or};
 ghost use Rattle.pl_event.specs.declared.events.Event.{Event};
 ghost use Rattle.pl_event.specs.declared.outcomes.Cause.TheVariants.{Aborted};
-ghost use Rattle.pl_event.specs.Inputs.{recorded_input};
+ghost use Rattle.pl_event.specs.Inputs.{Bursts, recorded_input};
 ghost use Rattle.pl_context.specs.declared.standing.Standing.TheVariants as stands;
 ghost use Rattle.pl_context.specs.declared.standing.Took.TheVariants as took;
 ghost use Rattle.pl_context.specs.Standings.{is_over};
@@ -19,14 +19,15 @@ ghost use Rattle.pl_event.specs.Hops.{flags_lane};
 ghost use Rattle.pl_event.specs.Worlds.{closes};
 ghost use Rattle.pl_head.specs.MarksStand.{SendsFlags};
 ghost use Rattle.pl_head.specs.Transports.{one_call_more, FailsNext};
-ghost use Rattle.pl_head.specs.HeadStand.{first_cause};
+ghost use Rattle.pl_head.specs.HeadStand.{first_cause, fed_head};
+ghost use Rattle.pl_head.specs.InputStand.{fed_plan, items_left, steps_left, takes_bursts};
 ghost use Rattle.pl_event.specs.declared.limits.TheConstants.{MAX_ITEMS};
 
 use crate::inputs::{Input, ReadPlan};
 use crate::outbound_buffer::OutboundBuffer;
 use crate::transports::Transport;
 use pl_context::{Outputs, Standing, Took};
-use pl_event::{ByteString, Cause, Envelope, Event, Item, Kind, Lane, Outcome, Sequence};
+use pl_event::{ByteString, Cause, Element, Envelope, Event, Item, Kind, Lane, Outcome, Sequence};
 use std::alloc::{AllocError, Global};
 use std::marker::Model;
 
@@ -151,6 +152,33 @@ impl<T: Transport> Head<T> {
         }
         self.input.put_step(outputs);
         ReadStep::Gave
+    }
+
+    /// One burst more is to be read, behind those that are left and before the end. An `Err` is out of memory, and changes
+    /// nothing.
+    pub fn feed(&mut self, burst: Sequence<Element>) -> Result<(), AllocError>
+        requires more { takes_bursts self.old.input ≡ true }
+        requires few { self.old.input.port.made + items_left self.old.input.steps (self.old.input.left ++ burst ∷ []) < MAX_ITEMS }
+        ensures fed { OnOk result (self.new ≡ fed_head burst self.old) }
+        ensures kept { OnErr result (self.new ≡ self.old) }
+        ensures reads { OnOk result ((bursts : Bursts) (reads : ℕ) → ReadsStand (fed_plan bursts) reads false self.old
+            → ReadsStand (fed_plan (bursts ++ burst ∷ [])) reads false self.new) }
+    {
+        self.input.feed(burst)
+    }
+
+    /// Whether a burst more may come: its reads are open, and no abort is behind the bursts.
+    pub fn takes_bursts(&self) -> bool
+        ensures { result ≡ takes_bursts self.now.input }
+    {
+        self.input.takes_bursts()
+    }
+
+    /// How many read steps are left before the end or the abort: the first one, and one for each burst that is left.
+    pub fn steps_left(&self) -> usize
+        ensures { result ≡ steps_left self.now.input }
+    {
+        self.input.steps_left()
     }
 
     /// Whether a read step is left.

@@ -1,17 +1,18 @@
 //! The recorded input of a channel, read step by step.
 
-ghost use Rattle.std.specs.Prelude.{◌≡◌, ℕ, ◌+◌, ◌<◌, ◌^◌, ◌≤◌, [], ◌∷◌, List, length, Bool, true, false, not, is_some, ◌&&◌};
-ghost use Rattle.pl_event.specs.Inputs.{burst_events, recorded_input};
+ghost use Rattle.std.specs.Prelude.{◌≡◌, ℕ, ◌+◌, ◌<◌, ◌^◌, ◌≤◌, [], ◌∷◌, List, length, Bool, true, false, not, is_some, ◌&&◌, ◌++◌, OnOk, OnErr};
+ghost use Rattle.pl_event.specs.Inputs.{Bursts, burst_events, recorded_input};
 ghost use Rattle.pl_context.specs.Stops.{HasPlaces};
 ghost use Rattle.pl_context.specs.OutputsViews.{PutsAll};
 ghost use Rattle.pl_event.specs.declared.envelopes.Item.TheVariants as item;
 ghost use Rattle.pl_context.specs.Ports.{as_items, numbered, offered, port_after};
 ghost use Rattle.pl_head.specs.ReadSteps.{step_items, is_burst, is_abort, bursts_before, bursts_read, has_step};
-ghost use Rattle.pl_head.specs.InputStand.{InputStands, new_input, next_items, left_after, burst_next, abort_next, last_next, input_after_step, failed_input, items_left};
+ghost use Rattle.pl_head.specs.InputStand.{InputStands, fed_plan, fed_input, new_input, next_items, left_after, burst_next, abort_next, last_next, input_after_step, failed_input, items_left, steps_left, takes_bursts};
 ghost use Rattle.pl_event.specs.declared.limits.TheConstants.{MAX_ITEMS};
 
 use pl_context::{Outputs, Port};
 use pl_event::{Cause, Element, Event, Item, Kind, Sequence};
+use std::alloc::AllocError;
 use std::collections::VecDeque;
 use std::marker::Model;
 
@@ -73,6 +74,20 @@ impl Input {
         self.port.is_open
     }
 
+    /// How many steps are left before the end or the abort.
+    pub(crate) fn steps_left(&self) -> usize
+        ensures { result ≡ steps_left self.now }
+    {
+        self.left.len() + usize::from(self.steps == 0)
+    }
+
+    /// Whether a burst more may come: its lane is open, and no abort is behind the bursts.
+    pub(crate) fn takes_bursts(&self) -> bool
+        ensures { result ≡ takes_bursts self.now }
+    {
+        self.port.is_open && !self.aborts
+    }
+
     /// Whether the next read step is a burst.
     pub(crate) fn is_burst_next(&self) -> bool
         requires left { self.now.port.is_open ≡ true }
@@ -104,6 +119,19 @@ impl Input {
     {
         put_next(&mut self.port, &mut self.left, self.steps, outputs);
         self.steps += 1;
+    }
+
+    /// One burst more is to be read, behind those that are left and before the end. An `Err` changes nothing.
+    pub(crate) fn feed(&mut self, burst: Sequence<Element>) -> Result<(), AllocError>
+        requires more { takes_bursts self.old ≡ true }
+        requires few { self.old.port.made + items_left self.old.steps (self.old.left ++ burst ∷ []) < MAX_ITEMS }
+        ensures fed { OnOk result (self.new ≡ fed_input burst self.old) }
+        ensures kept { OnErr result (self.new ≡ self.old) }
+        ensures stands { OnOk result ((bursts : Bursts) (reads : ℕ) → InputStands (fed_plan bursts) reads false self.old
+            → InputStands (fed_plan (bursts ++ burst ∷ [])) reads false self.new) }
+    {
+        self.left.push_back(burst)?;
+        Ok(())
     }
 
     /// Gives a failure to the lane, where that is open, and closes it: no read step is left.

@@ -15,7 +15,7 @@ use Rattle.pl_flow.specs.LanesViews.{LanesView}
 use Rattle.pl_flow.specs.Makes.{Makes}
 use Rattle.pl_flow.specs.declared.moves.HeadMove.{HeadMove}
 use Rattle.pl_net.specs.NodesViews.{NodesView, written_by, NodesTake, NodesGive, NodesMake}
-use Rattle.pl_net.specs.Nets.{queue_at, LaneStands, IsStart, no_backlogs, StationView, IsAdded, IsTakenOut, StationsView, StationsStand, IsCall, IsKeep, IsStep, WorksListOff, Gives, HandsOver}
+use Rattle.pl_net.specs.Nets.{queue_at, LaneStands, IsStart, no_backlogs, StationView, IsAdded, IsTakenOut, StationsView, StationsStand, IsCall, IsKeep, IsStep, WorksListOff, Gives, AbortsHead, HandsOver}
 use Rattle.pl_net.proofs.OneExecutor.{Replaces}
 use Rattle.pl_net.proofs.NetSteps.{nets-put, front-written, call-number, call-good, called}
 use Rattle.pl_net.proofs.TaskSteps.{at-rest, task-written, task-target, task-number, task-good, tasked, task-few}
@@ -169,6 +169,16 @@ module _ {N : Type 0} (view_of : N → NodesView) (stands : World → N → Type
     s.0,
     subst (λ y. StationsStand view_of stands world y (to s.0)) is s.1,
     record { nodes = n'; work = after; moved = moved; settles = subst (λ y. WorksListOff view_of takes y given_stations (to s.0)) is s.2 },
+  )
+
+  pub abort-settles : (takes : N → Envelope → OutputsView → N → OutputsView → Type 0) (aborts : N → ℕ → OutputsView → N → OutputsView → Type 0) (channel : ℕ) → aborts c.nodes channel c.work n' after
+      → (to : (ℕ → List (Entry (Unit {0}))) → StationsView N)
+      → (backlogs : ℕ → List (Entry (Unit {0}))) × StationsStand view_of stands world runs (to backlogs) × WorksListOff view_of takes runs given_stations (to backlogs)
+      → (backlogs : ℕ → List (Entry (Unit {0}))) × StationsStand view_of stands world home (to backlogs) × AbortsHead view_of takes aborts home channel c (to backlogs)
+  abort-settles takes aborts channel aborted to s = (
+    s.0,
+    subst (λ y. StationsStand view_of stands world y (to s.0)) is s.1,
+    record { nodes = n'; work = after; aborted = aborted; settles = subst (λ y. WorksListOff view_of takes y given_stations (to s.0)) is s.2 },
   )
 
 -- ---- a hand-over

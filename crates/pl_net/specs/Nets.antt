@@ -165,6 +165,13 @@ pub record Gives {N : Type 0} (view_of : N → NodesView) (takes : N → Envelop
   pub moved : moves c.nodes by channel c.work nodes work
   pub settles : WorksListOff view_of takes x (record c { nodes = nodes; work = work }) c'
 
+-- The head of a channel was aborted. Executor x works off what comes of that.
+pub record AbortsHead {N : Type 0} (view_of : N → NodesView) (takes : N → Envelope → OutputsView → N → OutputsView → Type 0) (aborts : N → ℕ → OutputsView → N → OutputsView → Type 0) (x : ℕ) (channel : ℕ) (c c' : StationsView N) : Type 0 where
+  pub nodes : N
+  pub work : OutputsView
+  pub aborted : aborts c.nodes channel c.work nodes work
+  pub settles : WorksListOff view_of takes x (record c { nodes = nodes; work = work }) c'
+
 -- ---- before any move
 
 -- Nothing has moved yet. Nothing is on its way, nothing was taken or made of any lane, and each lane has its place on

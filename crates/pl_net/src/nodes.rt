@@ -30,6 +30,9 @@ pub trait Nodes: Sized {
     /// Whether a move of the channel's head is enabled.
     ghost may_move: { Self → HeadMove → ℕ → Bool → Type 0 };
 
+    /// What the head of a channel has done that was aborted.
+    ghost aborts: { Self → ℕ → OutputsView → Self → OutputsView → Type 0 };
+
     /// The executor of a channel's head.
     fn home(&self, channel: usize) -> usize
         requires there { channel < (view_of self.now).channels }
@@ -63,6 +66,16 @@ pub trait Nodes: Sized {
         ensures idle { result ≡ false → (self.new ≡ self.old) × (work.new ≡ work.old) }
         ensures moves { result ≡ true → moves self.old by channel work.old self.new work.new }
         ensures view { result ≡ true → NodesGive (view_of self.old) ((view_of self.old).home channel) work.old (view_of self.new) work.new }
+        ensures stands { (world : World) → stands world self.old → stands world self.new }
+        ensures makes { (world : World) → stands world self.old → NodesMake world (view_of self.old) ((view_of self.old).home channel) work.old (view_of self.new) work.new };
+
+    /// A channel is aborted: its head fails, where it has not.
+    fn abort(&mut self, channel: usize, work: &mut Outputs)
+        requires there { channel < (view_of self.old).channels }
+        requires stands { (world : World) × stands world self.old }
+        requires places { HasPlaces work.old.stopped (view_of self.old).lanes.places }
+        ensures aborts { aborts self.old channel work.old self.new work.new }
+        ensures view { NodesGive (view_of self.old) ((view_of self.old).home channel) work.old (view_of self.new) work.new }
         ensures stands { (world : World) → stands world self.old → stands world self.new }
         ensures makes { (world : World) → stands world self.old → NodesMake world (view_of self.old) ((view_of self.old).home channel) work.old (view_of self.new) work.new };
 }

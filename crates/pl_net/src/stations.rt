@@ -2,9 +2,9 @@
 
 ghost use Rattle.std.specs.Prelude.{◌≡◌, ◌<◌, ◌≤◌, ◌+◌, [], ℕ, List, Some, None, Ok, OnErr, position, IfOk, vec_len, false, true};
 ghost use Rattle.pl_event.specs.Worlds.{World};
-ghost use Rattle.pl_context.specs.Stops.{HasPlaces, no_stops};
+ghost use Rattle.pl_context.specs.Stops.{HasPlaces, any_stopped, no_stops};
 ghost use Rattle.pl_context.specs.WaitingViews.{Entry, is_for};
-ghost use Rattle.pl_net.specs.Nets.{StationsStand, IsStart, no_backlogs, IsStep, WorksListOff, RunsTask, Gives, HandsOver, LacksMemory, has_room, memory_at, queue_at, done_by};
+ghost use Rattle.pl_net.specs.Nets.{StationsStand, IsStart, no_backlogs, IsStep, WorksListOff, RunsTask, Gives, AbortsHead, HandsOver, LacksMemory, has_room, memory_at, queue_at, done_by};
 
 use crate::nodes::Nodes;
 use crate::station::{Station, oldest_target};
@@ -17,7 +17,8 @@ use std::alloc::{AllocError, Global};
 pub struct Stations<N: Nodes + Drop> {
     /// How many items a queue holds at most.
     pub(crate) capacity: usize,
-    pub(crate) nodes: N,
+    /// The nodes.
+    pub nodes: N,
     pub(crate) executors: Vec<Station>,
     /// What the running executor has still to take or to add to its backlog. Empty between two moves.
     pub(crate) work: Outputs,
@@ -52,18 +53,18 @@ impl<N: Nodes + Drop> Stations<N> {
         })
     }
 
-    /// The nodes.
-    pub fn nodes(&self) -> &N
-        ensures { result.now ≡ self.now.nodes }
-    {
-        &self.nodes
-    }
-
     /// How many executors there are.
     pub fn executors(&self) -> usize
         ensures { result ≡ vec_len self.now.executors }
     {
         self.executors.len()
+    }
+
+    /// Whether a lane has stopped on the work list: memory ran out for an item of it.
+    pub fn has_stopped(&self) -> bool
+        ensures { result ≡ any_stopped self.now.work.stopped }
+    {
+        self.work.has_stopped()
     }
 
     /// The nodes, and the rest is given up.
@@ -162,6 +163,24 @@ impl<N: Nodes + Drop> Stations<N> {
         }
         self.work_off(home);
         true
+    }
+
+    /// A channel is aborted, with the direct calls that follow: its head fails, where it has not.
+    pub fn abort(&mut self, channel: usize)
+        requires there { channel < (N.view_of self.old.nodes).channels }
+        requires home { (N.view_of self.old.nodes).home channel < vec_len self.old.executors }
+        requires rests { self.old.work.items ≡ [] }
+        requires stands { (world : World) × (x : ℕ) × (backlogs : ℕ → List (Entry Unit)) × StationsStand N.view_of N.stands world x (stations_view self.old backlogs) }
+        ensures aborts { (world : World) (x : ℕ) (backlogs : ℕ → List (Entry Unit)) → StationsStand N.view_of N.stands world x (stations_view self.old backlogs)
+            → (after : ℕ → List (Entry Unit)) × StationsStand N.view_of N.stands world ((N.view_of self.old.nodes).home channel) (stations_view self.new after)
+            × AbortsHead N.view_of N.takes N.aborts ((N.view_of self.old.nodes).home channel) channel (stations_view self.old backlogs) (stations_view self.new after) }
+        ensures rests { self.new.work.items ≡ [] }
+        ensures capacity { self.new.capacity ≡ self.old.capacity }
+        ensures count { vec_len self.new.executors ≡ vec_len self.old.executors }
+    {
+        let home = self.nodes.home(channel);
+        self.nodes.abort(channel, &mut self.work);
+        self.work_off(home);
     }
 
     /// The oldest item of an executor's backlog whose target has room goes into its queue. False where there is none.

@@ -21,3 +21,5 @@ mod HeadReports
 mod TakenSlots
 pub mod ShareLemmas
 pub mod ToldLemmas
+pub mod Growing
+pub mod Standings

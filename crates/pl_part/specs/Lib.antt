@@ -10,3 +10,4 @@ pub mod Counts
 pub mod PartCalls
 pub mod Shares
 pub mod Told
+pub mod Growing

@@ -8,8 +8,10 @@ use Rattle.pl_event.specs.declared.envelopes.Lane.{Lane}
 use Rattle.pl_event.specs.Hops.{same_lane, data_lane}
 use Rattle.pl_event.specs.Meaning.{Meaning}
 use Rattle.pl_event.specs.Worlds.{World}
+use Rattle.pl_context.specs.declared.standing.Standing.{Standing}
+use Rattle.pl_context.specs.declared.standing.Standing.TheVariants as stands
 use Rattle.pl_context.specs.declared.standing.Took.{Took}
-use Rattle.pl_context.specs.Standings.{is_over}
+use Rattle.pl_context.specs.Standings.{is_over, together}
 use Rattle.pl_context.specs.OutputsViews.{OutputsView}
 use Rattle.pl_flow.specs.declared.moves.HeadMove.{HeadMove}
 use Rattle.pl_flow.specs.declared.moves.HeadMove.TheVariants as by
@@ -19,8 +21,8 @@ use Rattle.pl_head.specs.declared.heads.OutStep.TheVariants as step
 use Rattle.pl_head.specs.declared.heads.ReadStep.{ReadStep}
 use Rattle.pl_head.specs.declared.heads.ReadStep.TheVariants as reading
 use Rattle.pl_head.specs.Transports.{TransportState}
-use Rattle.pl_head.specs.HeadStand.{HeadView}
-use Rattle.pl_part.specs.Paths.{PathPartView, SamePath, PathHolds, PathTakes, writer_hop, enters_path, path_over, path_taken, path_lanes, path_writes, path_came}
+use Rattle.pl_head.specs.HeadStand.{HeadView, head_cause}
+use Rattle.pl_part.specs.Paths.{PathPartView, SamePath, PathHolds, PathTakes, writer_hop, enters_path, path_over, path_standing, path_taken, path_lanes, path_writes, path_came}
 use Rattle.pl_part.specs.HeadHolds.{HeadHolds, head_writes, head_came, head_taken}
 use Rattle.pl_head.specs.HeadCalls.{HeadTakes, HeadReads, HeadWrites, HeadAborts}
 
@@ -46,6 +48,14 @@ has_entered p l = if l.hop == head_hop p then is_some p.head && same_lane l (dat
 -- all of its nodes have ended or failed
 abbrev pub all_over : {S T : Type 0} → ChannelPartView S T → Bool
 all_over p = path_over p.path && option_map_or (λ (h : HeadView _). is_over h.standing || is_some h.failure) p.head true
+
+-- how a head stands: failed by itself or by what it took, or else as its lane
+abbrev pub head_standing : {T : Type 0} → HeadView T → Standing
+head_standing h = option_map_or (λ cause. stands.Failed cause) (head_cause h) h.standing
+
+-- how all of its nodes stand together, the head before the others
+abbrev pub part_standing : {S T : Type 0} → ChannelPartView S T → Standing
+part_standing p = together (option_map_or (λ (h : HeadView _). head_standing h) p.head stands.Open) (path_standing p.path)
 
 -- a read step is left
 abbrev pub has_read : {S T : Type 0} → ChannelPartView S T → Bool

@@ -12,8 +12,10 @@ use Rattle.pl_event.specs.Meaning.{Meaning}
 use Rattle.pl_event.specs.Paths.{is_turn}
 use Rattle.pl_event.specs.Worlds.{World}
 use Rattle.pl_context.specs.declared.contexts.TheConstants.{MAX_HANDLERS}
+use Rattle.pl_context.specs.declared.standing.Standing.{Standing}
+use Rattle.pl_context.specs.declared.standing.Standing.TheVariants as stands
 use Rattle.pl_context.specs.declared.standing.Took.{Took}
-use Rattle.pl_context.specs.Standings.{is_over}
+use Rattle.pl_context.specs.Standings.{is_over, together}
 use Rattle.pl_context.specs.ContextViews.{ContextView, IsHop, down_hop, taken_of}
 use Rattle.pl_context.specs.OutputsViews.{OutputsView}
 use Rattle.pl_context.specs.TailViews.{TailView, taken_of as tail_taken_of}
@@ -74,6 +76,16 @@ is_slot_over slot = option_map_or (λ (c : ContextView _). is_over c.standing) s
 abbrev pub path_over : {S : Type 0} → PathPartView S → Bool
 path_over p = list_all (λ (slot : Option (ContextView _)). is_slot_over slot) p.contexts
     && option_map_or (λ (t : TailView). is_over t.standing) p.tail true
+
+-- how contexts stand together with what stands so
+abbrev pub slots_stand : {S : Type 0} → Standing → List (Option (ContextView S)) → Standing
+slots_stand standing [] = standing
+slots_stand standing (None ∷ slots) = slots_stand standing slots
+slots_stand standing (Some c ∷ slots) = slots_stand (together standing c.standing) slots
+
+-- how all of its nodes stand together, the tail before the contexts
+abbrev pub path_standing : {S : Type 0} → PathPartView S → Standing
+path_standing p = slots_stand (option_map_or (λ (t : TailView). t.standing) p.tail stands.Open) p.contexts
 
 -- A lane is refused, and so is its writer. That is the context that writes it, where it is one of the nodes. The
 -- others are as they were, and so are all of them where it is a flags lane, or one that the head writes.

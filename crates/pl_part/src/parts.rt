@@ -1,34 +1,39 @@
 //! The nodes of a channel that are on one executor, with the head.
 
-ghost use Rattle.std.specs.Prelude.{◌≡◌, ◌+◌, ◌<◌, ◌≤◌, ◌^◌, ◌==◌, ◌++◌, ◌∷◌, [], List, All, IfOk, IfSome, IfNone, Some, None, ◌||◌, map, replicate, is_some, cond, length, get_or, true, false, OnOk, not, ◌&&◌};
+ghost use Rattle.std.specs.Prelude.{◌≡◌, ℕ, ◌+◌, ◌<◌, ◌≤◌, ◌^◌, ◌==◌, ◌++◌, ◌∷◌, [], List, All, IfOk, IfSome, IfNone, Some, None, ◌||◌, map, replicate, is_some, cond, length, get_or, true, false, OnOk, OnErr, not, ◌&&◌};
 ghost use Rattle.std.specs.Option.{option_map_or};
 ghost use Rattle.pl_event.specs.declared.envelopes.Lane.{Lane};
 ghost use Rattle.pl_event.specs.declared.envelopes.Kind.TheVariants as kind;
 ghost use Rattle.pl_event.specs.Hops.{same_lane};
+ghost use Rattle.pl_event.specs.declared.limits.TheConstants.{MAX_ITEMS};
+ghost use Rattle.pl_event.specs.Inputs.{Bursts};
 ghost use Rattle.pl_event.specs.Worlds.{World};
 ghost use Rattle.pl_context.specs.declared.contexts.TheConstants.{MAX_HANDLERS};
+ghost use Rattle.pl_context.specs.declared.standing.Standing.TheVariants as stands;
 ghost use Rattle.pl_context.specs.Standings.{is_over};
 ghost use Rattle.pl_context.specs.ContextViews.{ContextView};
 ghost use Rattle.pl_context.specs.Stops.{HasPlaces, AreAmong};
 ghost use Rattle.pl_context.specs.TailViews.{new_tail};
 ghost use Rattle.pl_flow.specs.Flows.{IsGood, nowhere};
 ghost use Rattle.pl_flow.specs.Makes.{Makes};
-ghost use Rattle.pl_head.specs.HeadStand.{HeadView, HeadStandsAfter, is_idle};
+ghost use Rattle.pl_head.specs.HeadStand.{HeadView, HeadStandsAfter, ReadsStand, is_idle};
+ghost use Rattle.pl_head.specs.InputStand.{fed_plan, items_left, takes_bursts};
 ghost use Rattle.pl_event.specs.declared.events.Event.{Event};
 ghost use Rattle.pl_head.specs.Marks.{Change};
 ghost use Rattle.pl_part.specs.NewParts.{ArePlannedWith, AreNewSlots, whole_slots};
 ghost use Rattle.pl_part.specs.HeadHolds.{HeadHolds};
 ghost use Rattle.pl_part.specs.Paths.{PathRefuses, context_at, writer_hop};
-ghost use Rattle.pl_part.specs.Parts.{PartHolds, PartTakes, PartReads, PartWrites, PartMoves, PartAborts, SamePart, head_hop, has_entered, has_read, all_over, part_taken, part_lanes, part_writes, writes_at, part_came};
+ghost use Rattle.pl_part.specs.Parts.{PartHolds, PartTakes, PartReads, PartWrites, PartMoves, PartAborts, SamePart, head_hop, has_entered, has_read, all_over, head_standing, part_standing, part_taken, part_lanes, part_writes, writes_at, part_came};
 ghost use Rattle.pl_part.specs.Counts.{head_done, part_done};
 ghost use Rattle.pl_part.specs.PartCalls.{IsNextFor, Taken, Given, PartRefused};
 ghost use Rattle.pl_part.specs.Shares.{IsShare, IsShareBy, EachPart, executor_of};
 ghost use Rattle.pl_part.specs.Told.{IsTold, TellsNext, part_untold};
+ghost use Rattle.pl_part.specs.Growing.{fed_part};
 
 use crate::paths::PathPart;
 use crate::shares::take_where;
-use pl_context::{Outputs, Tail, Took};
-use pl_event::{Envelope, Lane, Outcome, Stage};
+use pl_context::{Outputs, Standing, Tail, Took};
+use pl_event::{Element, Envelope, Lane, Outcome, Sequence, Stage};
 use pl_flow::HeadMove;
 use pl_head::{Head, OutStep, ReadStep, Transport};
 use std::alloc::{AllocError, Global};
@@ -168,6 +173,23 @@ impl<S: Stage, T: Transport> ChannelPart<S, T> {
         head.next_read(work)
     }
 
+    /// The head, which is among the nodes, is to read one burst more, behind those that are left and before the end. An
+    /// `Err` is out of memory, and changes nothing.
+    pub fn feed(&mut self, burst: Sequence<Element>) -> Result<(), AllocError>
+        requires head { is_some self.old.head ≡ true }
+        requires more { (h : HeadView T) → self.old.head ≡ Some h → takes_bursts h.input ≡ true }
+        requires few { (h : HeadView T) → self.old.head ≡ Some h → h.input.port.made + items_left h.input.steps (h.input.left ++ burst ∷ []) < MAX_ITEMS }
+        ensures fed { OnOk result (self.new ≡ fed_part burst self.old) }
+        ensures kept { OnErr result (self.new ≡ self.old) }
+        ensures reads { OnOk result ((h fed : HeadView T) (bursts : Bursts) (reads : ℕ) → self.old.head ≡ Some h → self.new.head ≡ Some fed → ReadsStand (fed_plan bursts) reads false h
+            → ReadsStand (fed_plan (bursts ++ burst ∷ [])) reads false fed) }
+    {
+        match &mut self.head {
+            Some(head) => head.feed(burst),
+            None => unreachable!(),
+        }
+    }
+
     /// The head makes a write to its transport, where a flushed byte waits and it has not failed by itself. Where no head is
     /// among the nodes nothing waits.
     #[inline(always)]
@@ -216,6 +238,14 @@ impl<S: Stage, T: Transport> ChannelPart<S, T> {
         ensures { result ≡ all_over self.now }
     {
         self.path.has_ended() && is_head_over(&self.head)
+    }
+
+    /// How its nodes stand together: failed where one has, ended where one has, else open. The cause is the head's before the
+    /// tail's, and that before the cause of the first context which has failed.
+    pub fn standing(&self) -> Standing
+        ensures { result ≡ part_standing self.now }
+    {
+        standing_of(&self.head).together(self.path.standing())
     }
 
     /// Whether a read step is left. None is where no head is among the nodes.
@@ -314,6 +344,19 @@ impl<S: Stage, T: Transport> ChannelPart<S, T> {
             Some(head) => head.take(envelope, work),
             None => unreachable!(),
         }
+    }
+}
+
+/// How a head stands, where there is one: failed by itself or by what it took, and else as its lane.
+fn standing_of<T: Transport>(head: &Option<Head<T>>) -> Standing
+    ensures { result ≡ option_map_or (λ (h : HeadView _). head_standing h) head.now stands.Open }
+{
+    match head {
+        Some(head) => match head.cause() {
+            Some(cause) => Standing::Failed(cause),
+            None => head.standing(),
+        },
+        None => Standing::Open,
     }
 }
 

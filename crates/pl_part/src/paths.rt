@@ -18,13 +18,13 @@ ghost use Rattle.pl_flow.specs.Makes.{Makes};
 ghost use Rattle.pl_part.specs.NewParts.{ArePlannedWith, AreNewSlots, whole_slots};
 ghost use Rattle.pl_part.specs.Counts.{path_done};
 ghost use Rattle.pl_part.specs.PathCalls.{IsNextOnPath, PathTaken, PathRefused};
-ghost use Rattle.pl_part.specs.Paths.{PathHolds, PathTakes, PathRefuses, SamePath, context_at, writer_hop, enters_path, path_over, is_slot_over, path_taken, path_lanes, path_writes, path_writes_at, path_came};
+ghost use Rattle.pl_part.specs.Paths.{PathHolds, PathTakes, PathRefuses, SamePath, context_at, writer_hop, enters_path, path_over, path_standing, is_slot_over, path_taken, path_lanes, path_writes, path_writes_at, path_came};
 ghost use Rattle.pl_part.specs.Shares.{IsPathShare, executor_of};
 
 use crate::new_contexts::add_contexts;
 use crate::refusing::refuse_at;
 use crate::shares::{take_contexts, take_where};
-use pl_context::{Context, Outputs, Tail, Took};
+use pl_context::{Context, Outputs, Standing, Tail, Took};
 use pl_event::{Envelope, Lane, Stage};
 use std::alloc::{AllocError, Global};
 use std::marker::Model;
@@ -196,6 +196,23 @@ impl<S: Stage> PathPart<S> {
         ensures { result ≡ path_over self.now }
     {
         are_over(&self.contexts) && is_tail_over(&self.tail)
+    }
+
+    /// How its nodes stand together: failed where one has, ended where one has, else open. The cause is the tail's before that
+    /// of the first context which has failed.
+    pub fn standing(&self) -> Standing
+        ensures { result ≡ path_standing self.now }
+    {
+        let mut standing = match &self.tail {
+            Some(tail) => tail.standing(),
+            None => Standing::Open,
+        };
+        for slot in &self.contexts {
+            if let Some(context) = slot {
+                standing = standing.together(context.standing());
+            }
+        }
+        standing
     }
 
     /// The executor of the head's hop, which is the last.

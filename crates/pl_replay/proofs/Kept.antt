@@ -41,7 +41,7 @@ module _ {N : Type 0} (view_of : N → NodesView) (takes : N → Envelope → Ou
   steps-keep zero x c c' s held = subst (λ (v : StationsView N). P v.nodes) (sym s) held
   steps-keep (suc n) x c c' s held = step-keeps x s.0 c' s.2 (steps-keep n x c s.0 s.1 held)
 
-  settles-keep : (x : ℕ) (c c' : StationsView N) → WorksListOff view_of takes x c c' → P c.nodes → P c'.nodes
+  pub settles-keep : (x : ℕ) (c c' : StationsView N) → WorksListOff view_of takes x c c' → P c.nodes → P c'.nodes
   settles-keep x c c' s held = steps-keep s.count x c c' s.steps held
 
   pub task-keeps : (x : ℕ) (c c' : StationsView N) → RunsTask view_of takes x c c' → P c.nodes → P c'.nodes

@@ -1,6 +1,6 @@
 //! The nodes of all channels.
 
-ghost use Rattle.pl_channel.specs.Channels.{ChannelsStand, IsTakenBy, IsMovedBy, MayMove};
+ghost use Rattle.pl_channel.specs.Channels.{ChannelsStand, IsTakenBy, IsMovedBy, IsAbortedBy, MayMove};
 ghost use Rattle.pl_replay.specs.Views.{channels_view};
 
 use pl_context::Outputs;
@@ -12,8 +12,8 @@ use pl_part::ChannelPart;
 
 /// The nodes of all channels, by number: a part with all nodes for each.
 #[derive(Drop)]
-pub(crate) struct Channels<S: Stage, T: Transport> {
-    pub(crate) parts: Vec<ChannelPart<S, T>>,
+pub struct Channels<S: Stage, T: Transport> {
+    pub parts: Vec<ChannelPart<S, T>>,
 }
 
 impl<S: Stage, T: Transport> Nodes for Channels<S, T> {
@@ -26,6 +26,8 @@ impl<S: Stage, T: Transport> Nodes for Channels<S, T> {
     ghost moves = { λ channels by channel before after work. IsMovedBy T.state T.may_refuse channels.parts.items by channel before after.parts.items work };
 
     ghost may_move = { λ channels by channel answer. MayMove T.state channels.parts.items by channel answer };
+
+    ghost aborts = { λ channels channel before after work. IsAbortedBy T.state channels.parts.items channel before after.parts.items work };
 
     fn home(&self, channel: usize) -> usize {
         let part = &self.parts[channel];
@@ -42,5 +44,9 @@ impl<S: Stage, T: Transport> Nodes for Channels<S, T> {
 
     fn move_head(&mut self, by: HeadMove, channel: usize, work: &mut Outputs) -> bool {
         self.parts[channel].move_head(by, work)
+    }
+
+    fn abort(&mut self, channel: usize, work: &mut Outputs) {
+        self.parts[channel].abort(work)
     }
 }

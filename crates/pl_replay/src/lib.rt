@@ -9,5 +9,6 @@ mod replaying;
 mod reporting;
 
 pub use account_laws::account_law;
+pub use channels::Channels;
 pub use nets::Net;
 pub use replaying::{replay, replay_world};

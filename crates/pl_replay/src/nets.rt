@@ -160,6 +160,14 @@ impl<S: Stage, T: Transport> Net<S, T> {
         Ok(Report { channels })
     }
 
+    /// Its channels and executors, as they are.
+    pub fn into_stations(self) -> Stations<Channels<S, T>>
+        ensures { result ≡ self }
+    {
+        let Net { stations, .. } = self;
+        stations
+    }
+
     /// The flags that a channel's tail has taken: false where the channel became not writable, true where it became
     /// writable again. None where there is no such channel.
     pub fn flags(&self, channel: u16) -> Option<&[bool]>
@@ -177,6 +185,6 @@ impl<S: Stage, T: Transport> Net<S, T> {
         ensures items { result.now ≡ self.now.nodes.parts.items }
         ensures ends { All HasEnds result.now }
     {
-        self.stations.nodes().parts.as_slice()
+        self.stations.nodes.parts.as_slice()
     }
 }

@@ -48,7 +48,7 @@ elements_weight (element ∷ elements) =
     let event = sum_by-cons event_weight (element_event element) (map element_event elements) in
     omega (arith, more, event, element_weight element, elements_weight elements)
 
-burst_weight : (elements : List Element) → weight (burst_events elements) ≡ length elements + sum_by element_size elements + 1
+pub burst_weight : (elements : List Element) → weight (burst_events elements) ≡ length elements + sum_by element_size elements + 1
 burst_weight elements =
     let split = sum_by-append event_weight (map element_event elements) (ReadComplete ∷ []) in
     omega (arith, split, elements_weight elements)
@@ -105,7 +105,7 @@ out_small (m ∷ ms) (suc n) xs all out =
     let here = (All-head IsThrifty m ms all).outbound (All-head (λ (o : Meaning). o.direction ≡ Outbound) m ms out) xs in
     omega (arith, rest, here)
 
-lane_small : (inbound outbound : List Meaning) (xs : List Event) (hop : ℕ) → All IsThrifty inbound → All IsThrifty outbound → All (λ m. m.direction ≡ Outbound) outbound
+pub lane_small : (inbound outbound : List Meaning) (xs : List Event) (hop : ℕ) → All IsThrifty inbound → All IsThrifty outbound → All (λ m. m.direction ≡ Outbound) outbound
     → length (lane inbound outbound xs hop) ≤ 2 * weight xs
 lane_small inbound outbound xs hop thrifty below out =
     let up = through_small inbound hop xs thrifty in

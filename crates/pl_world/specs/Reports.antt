@@ -81,10 +81,11 @@ channel_report e = record {
   writes = head_outcomes e.failure e.head (writes_by e.late) e.accepted (is_over e.head_stands);
 }
 
--- what the whole recorded input brings to the tail, and to the head
+-- what the whole recorded input brings to the tail
 abbrev pub tail_of : ChannelPlan → List Event
 tail_of p = tail_lane p.inbound p.outbound (recorded_input p.bursts)
 
+-- what the whole recorded input brings to the head
 abbrev pub head_of : ChannelPlan → List Event
 head_of p = head_lane p.inbound p.outbound (recorded_input p.bursts)
 

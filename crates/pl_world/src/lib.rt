@@ -1,4 +1,4 @@
-//! What is replayed, and what it comes to: recorded channels on executors, the moves of a schedule, the report, and the
+//! What is replayed or run, and what it comes to: recorded channels on executors, the moves of a schedule, the report, and the
 //! whole report that the handlers make, composed on whole lists.
 #![tactic(auto)]
 
@@ -17,7 +17,7 @@ mod worlds;
 pub use composing::{plain, plain_world};
 pub use faults::ReplayFault;
 pub use limits::{
-    MAX_BURSTS, MAX_BYTES, MAX_CAPACITY, MAX_CHANNELS, MAX_ELEMENTS, fits, input_fits,
+    MAX_BURSTS, MAX_BYTES, MAX_CAPACITY, MAX_CHANNELS, MAX_ELEMENTS, bytes_left, fits, input_fits,
 };
 pub use moves::Move;
 pub use report::{ChannelReport, Report, Stands};

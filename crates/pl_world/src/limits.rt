@@ -51,7 +51,7 @@ pub fn fits(bursts: &[Sequence<Element>]) -> bool
     let mut bytes = MAX_BYTES;
     for burst in bursts {
         let burst = burst.as_slice();
-        match (elements.checked_sub(burst.len()), left_of(bytes, burst)) {
+        match (elements.checked_sub(burst.len()), bytes_left(bytes, burst)) {
             (Some(elements_left), Some(bytes_left)) => {
                 elements = elements_left;
                 bytes = bytes_left;
@@ -63,7 +63,7 @@ pub fn fits(bursts: &[Sequence<Element>]) -> bool
 }
 
 /// What is left of a limit after the bytes of these elements, or None where they pass it.
-fn left_of(limit: usize, elements: &[Element]) -> Option<usize>
+pub fn bytes_left(limit: usize, elements: &[Element]) -> Option<usize>
     ensures { SomeIff result (sum_by element_size elements.now ≤ limit) (limit - sum_by element_size elements.now) }
 {
     let mut left = limit;

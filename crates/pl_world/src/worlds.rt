@@ -1,4 +1,4 @@
-//! The world of a replay: channels, each with its pipeline, its input and its transport, on executors.
+//! The world of a replay or a run: channels, each with its pipeline, its input and its transport, on executors.
 
 ghost use Rattle.std.specs.Prelude.{◌≡◌, ℕ, ◌+◌, ◌≤◌, true, IfOk, IfErr, OnOk, IsTrue, All, length, if◌then◌else◌};
 ghost use Rattle.std.specs.List.{list_all};

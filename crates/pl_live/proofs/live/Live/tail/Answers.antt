@@ -1,0 +1,6 @@
+use Rattle.std.proofs.Common.{sym, ◌∙◌}
+use Rattle.std.proofs.lemmas.Option.{none-some}
+use Rattle.pl_live.proofs.live.Live.tail.Goals as goal
+
+pub unreachable-requires : goal.unreachable-requires
+unreachable-requires g c = none-some c.part.ensures.ends.tail (sym c.in-None.ensures.none ∙ c.part.ensures.ends.has_tail)

@@ -1,0 +1,42 @@
+use Rattle.std.proofs.Common.{refl, ap, ◌∙◌, arith}
+use Rattle.pl_live.specs.LiveStand.{LiveView}
+use Rattle.pl_live.proofs.live.Live.write_out.Goals as goal
+
+pub loop-init : goal.loop-init
+loop-init g c = record {
+  stands = λ p s. s;
+  same = refl;
+  reads = (refl, refl);
+  sent = λ p s. let within = s.goes.consumed_within in omega (arith, within);
+}
+
+pub loop-preserved : goal.loop-preserved
+loop-preserved g c =
+    let i = c.loop.invariant in
+    let o = c.offer.ensures in
+    let more = o.more c.if-not-offer.false in
+    let kept = ap (λ (l : LiveView _ _). l.consumed) o.same in
+    record {
+      stands = λ p s. o.stands p (i.stands p s);
+      same = o.same ∙ ap (λ (l : LiveView _ _). record l { stations = c.offer.new.self.stations }) i.same;
+      reads = (o.reads.0 ∙ i.reads.0, o.reads.1 ∙ i.reads.1);
+      sent = λ p s. let sent = i.sent p s in omega (arith, sent, more, kept);
+    }
+
+pub returns-clause-stands : goal.returns-clause-stands
+returns-clause-stands g c = c.loop.invariant.stands
+
+pub returns-clause-same : goal.returns-clause-same
+returns-clause-same g c = c.loop.invariant.same
+
+pub returns-clause-reads : goal.returns-clause-reads
+returns-clause-reads g c = c.loop.invariant.reads
+
+pub returns-clause-written : goal.returns-clause-written
+returns-clause-written g c = λ p w h s window is unfailed all.
+    let sent = c.loop.invariant.sent p s in
+    let over = c.loop-test.false in
+    absurd (omega (arith, sent, over, all))
+
+pub returns-then-not-offer-clause-written : goal.returns-then-not-offer-clause-written
+returns-then-not-offer-clause-written g c = λ p w h s window is unfailed _. c.offer.ensures.written c.if-not-offer.true p w h (c.loop.invariant.stands p s) window is unfailed

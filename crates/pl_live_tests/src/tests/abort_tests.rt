@@ -1,0 +1,94 @@
+//! Channels that are aborted.
+
+use crate::tests::closed_tests::assert_closed;
+use crate::tests::handed::{
+    CLOSED, Handed, SUCCESS, Seen, assert_handed, assert_report, assert_stands,
+};
+use crate::tests::held_tests::{SENT, fed_ten};
+use crate::tests::sessions::{Channel, WIDE, channel_of, feed, slow_channel_of};
+use pl_event::{Cause, Outcome};
+use pl_text_tests::PING_SESSION;
+use pl_world::Stands;
+use std::process::Abort;
+use std::test::Fail;
+
+const ABORTED: Stands = Stands::Failed(Cause::Aborted);
+
+/// `PING` in two bursts.
+const BURSTS: [&[u8]; 2] = [b"PI", b"NG\n"];
+
+/// What a channel hands out of them.
+const TAIL: [Seen; 4] = [
+    Seen::Active,
+    Seen::ReadComplete,
+    Seen::Ping,
+    Seen::ReadComplete,
+];
+
+/// Asserts that a channel that was aborted is over, whatever is said to it then.
+fn assert_aborted(
+    rt: &(impl Abort + AllocGlobal),
+    live: &mut Channel,
+    tail: &[Seen],
+    bytes: &[u8],
+    writes: &[Option<Outcome>],
+) -> Result<(), Fail> {
+    let mut handed = Handed::new(rt.alloc());
+    handed.take_all(live)?;
+    assert_handed(rt, &handed, tail, bytes);
+    assert_closed(rt, rt.alloc(), live, &mut handed)?;
+    live.end();
+    live.abort();
+    assert_closed(rt, rt.alloc(), live, &mut handed)?;
+    assert_stands(rt, live, false, true, Some(Cause::Aborted));
+    assert_report(rt, live, ABORTED, tail, bytes, writes)
+}
+
+/// After how many bursts a channel is aborted, what it has handed out then, and how its writes end.
+const ABORTS: [(usize, &[Seen], &[u8], &[Option<Outcome>]); 3] = [
+    (0, &[Seen::Active], b"", &[]),
+    (1, &[Seen::Active, Seen::ReadComplete], b"", &[]),
+    (2, &TAIL, b"+PONG\r\n", &[SUCCESS]),
+];
+
+/// What was made of the bursts before the abort is handed out, and nothing behind it.
+#[test]
+fn abort_after_each_burst(rt: HostRuntime) -> Result<(), Fail> {
+    for &(count, tail, bytes, writes) in &ABORTS {
+        let mut live = channel_of(rt.alloc(), PING_SESSION, WIDE, None)?;
+        for burst in BURSTS.iter().take(count) {
+            feed(&mut live, rt.alloc(), &[burst])?;
+        }
+        live.abort();
+        assert_stands(&rt, &live, false, true, Some(Cause::Aborted));
+        assert_aborted(&rt, &mut live, tail, bytes, writes)?;
+    }
+    Ok(())
+}
+
+/// A write whose bytes wait is closed.
+#[test]
+fn abort_before_the_write(rt: HostRuntime) -> Result<(), Fail> {
+    let mut live = slow_channel_of(rt.alloc(), PING_SESSION)?;
+    feed(&mut live, rt.alloc(), &[b"PING\r\n"])?;
+    live.abort();
+    let tail = [Seen::Active, Seen::Ping, Seen::ReadComplete];
+    assert_report(&rt, &live, ABORTED, &tail, b"", &[CLOSED])?;
+    assert_stands(&rt, &live, false, true, Some(Cause::Aborted));
+    Ok(())
+}
+
+/// A burst that is held is not read any more, and what the transport did not accept is not sent. What it accepted stays
+/// pending.
+#[test]
+fn abort_of_a_held_burst(rt: HostRuntime) -> Result<(), Fail> {
+    let mut live = fed_ten(rt.alloc())?;
+    feed(&mut live, rt.alloc(), &[b"PING\n"])?;
+    live.abort();
+    let mut handed = Handed::new(rt.alloc());
+    handed.take_all(&mut live)?;
+    assert_eq!(rt; handed.events.len(), 12);
+    assert_eq!(rt; handed.bytes.len(), 9 * SENT);
+    assert_stands(&rt, &live, false, true, Some(Cause::Aborted));
+    Ok(())
+}

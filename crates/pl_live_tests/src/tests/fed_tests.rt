@@ -1,0 +1,276 @@
+//! What comes of what was fed, however it was cut.
+
+use crate::tests::handed::{Handed, SUCCESS, Seen, assert_handed, assert_report, assert_stands};
+use crate::tests::sessions::{
+    Channel, LINES, SERVED, WIDE, burst_of, channel_of, chunk, feed, memory_transport, recorded,
+    slow_channel_of, text_of,
+};
+use pl_event::{Caught, Element, Event};
+use pl_live::Live;
+use pl_text_tests::PING_SESSION;
+use pl_world::{Recorded, Stands, WorldRefusal};
+use std::alloc::Global;
+use std::process::Abort;
+use std::test::Fail;
+
+const PONG: &[u8] = b"+PONG\r\n";
+
+/// What a channel hands out where a client says `PING`.
+const PING_TAIL: [Seen; 3] = [Seen::Active, Seen::Ping, Seen::ReadComplete];
+
+/// A channel of the line protocol, which was fed nothing.
+fn line_channel(alloc: Global) -> Result<Channel, Fail> {
+    channel_of(alloc, PING_SESSION, WIDE, None)
+}
+
+/// A channel that is fed `PING` has the answer pending at once, and hands it out with the events before the end is said.
+#[test]
+fn live_ping(rt: HostRuntime) -> Result<(), Fail> {
+    let alloc = rt.alloc();
+    let mut live = line_channel(alloc)?;
+    let mut handed = Handed::new(alloc);
+    handed.take_all(&mut live)?;
+    assert_handed(&rt, &handed, &[Seen::Active], b"");
+    assert_stands(&rt, &live, true, false, None);
+    feed(&mut live, alloc, &[b"PING\r\n"])?;
+    assert_eq!(rt; live.pending_output(), PONG);
+    handed.take_all(&mut live)?;
+    assert_handed(&rt, &handed, &PING_TAIL, PONG);
+    assert_stands(&rt, &live, true, false, None);
+    live.end();
+    handed.take_all(&mut live)?;
+    assert_handed(&rt, &handed, &PING_TAIL, PONG);
+    assert_stands(&rt, &live, false, true, None);
+    Ok(())
+}
+
+/// Once all events were handed out there is none, until one more comes.
+#[test]
+fn no_event_is_left(rt: HostRuntime) -> Result<(), Fail> {
+    let alloc = rt.alloc();
+    let mut live = line_channel(alloc)?;
+    let mut handed = Handed::new(alloc);
+    handed.take_events(&mut live, 1)?;
+    assert!(rt; live.next_event()?.is_none());
+    assert!(rt; live.next_event()?.is_none());
+    feed(&mut live, alloc, &[b"PING\r\n"])?;
+    handed.take_events(&mut live, 2)?;
+    assert!(rt; live.next_event()?.is_none());
+    assert_handed(&rt, &handed, &PING_TAIL, b"");
+    Ok(())
+}
+
+/// Output is consumed in part, and the rest stays pending.
+#[test]
+fn consumed_in_part(rt: HostRuntime) -> Result<(), Fail> {
+    let alloc = rt.alloc();
+    let mut live = line_channel(alloc)?;
+    let mut handed = Handed::new(alloc);
+    feed(&mut live, alloc, &[b"PING\r\n"])?;
+    assert_eq!(rt; handed.take_output(&mut live, 3)?, 3);
+    assert_eq!(rt; live.pending_output(), b"NG\r\n".as_slice());
+    feed(&mut live, alloc, &[b"PING\r\n"])?;
+    assert_eq!(rt; live.pending_output(), b"NG\r\n+PONG\r\n".as_slice());
+    assert_eq!(rt; handed.take_output(&mut live, 100)?, 11);
+    assert_eq!(rt; live.pending_output(), b"".as_slice());
+    Ok(())
+}
+
+/// The report says how the channel stands so far, whatever was handed out, and the channel goes on.
+#[test]
+fn report_while_fed(rt: HostRuntime) -> Result<(), Fail> {
+    let alloc = rt.alloc();
+    let mut live = line_channel(alloc)?;
+    assert_report(&rt, &live, Stands::Open, &[Seen::Active], b"", &[])?;
+    feed(&mut live, alloc, &[b"PI"])?;
+    let tail = [
+        Seen::Active,
+        Seen::ReadComplete,
+        Seen::Ping,
+        Seen::ReadComplete,
+    ];
+    assert_report(&rt, &live, Stands::Open, &tail[..2], b"", &[])?;
+    feed(&mut live, alloc, &[b"NG\n"])?;
+    assert_report(&rt, &live, Stands::Open, &tail, PONG, &[SUCCESS])?;
+    assert_eq!(rt; live.pending_output(), PONG);
+    live.end();
+    assert_report(&rt, &live, Stands::Drained, &tail, PONG, &[SUCCESS])
+}
+
+/// Lines of the worked examples, one after another.
+const INPUT: &[u8] = b"PING\r\nADD a 7\nADD b 1\nADD a 5\nGET a\nECHO a\r\r\nECHO \nECHO\n\nQUIT\n";
+
+/// What is sent for them.
+const OUTPUT: &[u8] =
+    b"+PONG\r\n:7\r\n:1\r\n:12\r\n:12\r\n+a\r\r\n+\r\n-ERR syntax\r\n-ERR unknown\r\n+BYE\r\n";
+
+/// What is handed out of them, but for what ends each burst.
+const MESSAGES: [Seen; 11] = [
+    Seen::Active,
+    Seen::Ping,
+    Seen::Add(b"a", 7),
+    Seen::Add(b"b", 1),
+    Seen::Add(b"a", 5),
+    Seen::Get(b"a"),
+    Seen::Echo(b"a\r"),
+    Seen::Echo(b""),
+    Seen::Caught(Caught::Syntax),
+    Seen::Caught(Caught::Unknown),
+    Seen::Quit,
+];
+
+/// Asserts that the events are those of the lines, and those that end each of so many bursts. Nothing comes behind a client
+/// that quits.
+fn assert_messages(rt: &impl Abort, events: &[Event], bursts: usize) {
+    let mut left = MESSAGES.iter();
+    let mut ended = 0usize;
+    for event in events {
+        if let Event::ReadComplete = event {
+            ended = ended.saturating_add(1);
+        } else {
+            match left.next() {
+                Some(seen) => assert!(rt; seen.is(event), "{event:?} is not {seen:?}"),
+                None => panic!(rt; "{event:?} is one too many"),
+            }
+        }
+    }
+    assert!(rt; left.next().is_none());
+    assert_eq!(rt; ended.saturating_add(1), bursts);
+}
+
+/// Asserts that a channel that was fed the lines in so many bursts hands out what is to come of them.
+fn assert_served(
+    rt: &impl Abort,
+    alloc: Global,
+    mut live: Channel,
+    bursts: usize,
+) -> Result<(), Fail> {
+    let mut handed = Handed::new(alloc);
+    handed.take_all(&mut live)?;
+    assert_eq!(rt; handed.bytes.as_slice(), OUTPUT);
+    assert_messages(rt, handed.events.as_slice(), bursts);
+    Ok(())
+}
+
+/// The lines in two bursts, cut before the byte at this place.
+fn cut_at(alloc: Global, place: usize) -> Result<Channel, Fail> {
+    let mut live = line_channel(alloc)?;
+    let (before, after) = INPUT.split_at(place.min(INPUT.len()));
+    feed(&mut live, alloc, &[before])?;
+    feed(&mut live, alloc, &[after])?;
+    Ok(live)
+}
+
+/// The lines in bursts of one byte.
+fn byte_by_byte(alloc: Global) -> Result<Channel, Fail> {
+    let mut live = line_channel(alloc)?;
+    for byte in INPUT {
+        feed(&mut live, alloc, &[[*byte].as_slice()])?;
+    }
+    Ok(live)
+}
+
+/// Wherever the input is cut, and where it is cut at each byte, the same comes of it.
+#[test]
+fn cut_at_every_byte(rt: HostRuntime) -> Result<(), Fail> {
+    let alloc = rt.alloc();
+    for place in 0..INPUT.len() {
+        assert_served(&rt, alloc, cut_at(alloc, place)?, 2)?;
+    }
+    assert_served(&rt, alloc, byte_by_byte(alloc)?, INPUT.len())
+}
+
+/// Feeds a burst with a user event between two chunks.
+fn feed_around(
+    live: &mut Channel,
+    alloc: Global,
+    before: &[u8],
+    number: u32,
+    after: &[u8],
+) -> Result<(), Fail> {
+    let mut burst = burst_of(alloc, &[before])?;
+    burst.push(Element::User(number))?;
+    burst.push(chunk(alloc, after)?)?;
+    Ok(live.feed(burst)?)
+}
+
+/// A user event comes to the tail in its place among the reads.
+#[test]
+fn user_event_fed(rt: HostRuntime) -> Result<(), Fail> {
+    let alloc = rt.alloc();
+    let mut live = line_channel(alloc)?;
+    let mut handed = Handed::new(alloc);
+    feed_around(&mut live, alloc, b"PING\n", 7, b"PING\n")?;
+    handed.take_all(&mut live)?;
+    let tail = [
+        Seen::Active,
+        Seen::Ping,
+        Seen::User(7),
+        Seen::Ping,
+        Seen::ReadComplete,
+    ];
+    assert_handed(&rt, &handed, &tail, b"+PONG\r\n+PONG\r\n");
+    Ok(())
+}
+
+/// One inside a line comes before it.
+#[test]
+fn user_event_inside_line_fed(rt: HostRuntime) -> Result<(), Fail> {
+    let alloc = rt.alloc();
+    let mut live = line_channel(alloc)?;
+    let mut handed = Handed::new(alloc);
+    feed_around(&mut live, alloc, b"PI", 7, b"NG\n")?;
+    handed.take_all(&mut live)?;
+    let tail = [Seen::Active, Seen::User(7), Seen::Ping, Seen::ReadComplete];
+    assert_handed(&rt, &handed, &tail, PONG);
+    Ok(())
+}
+
+/// A transport of a user's own, which accepts a byte at every second call: what was not accepted is offered again once there
+/// is cause to.
+#[test]
+fn slow_transport(rt: HostRuntime) -> Result<(), Fail> {
+    let alloc = rt.alloc();
+    let mut live = slow_channel_of(alloc, PING_SESSION)?;
+    let mut handed = Handed::new(alloc);
+    feed(&mut live, alloc, &[b"PING\r\n"])?;
+    assert_eq!(rt; live.pending_output(), b"".as_slice());
+    live.end();
+    assert!(rt; !live.is_done());
+    handed.take_all(&mut live)?;
+    assert_handed(&rt, &handed, &PING_TAIL, PONG);
+    assert!(rt; live.is_done());
+    Ok(())
+}
+
+/// A decoder on an executor of its own.
+const ELSEWHERE: &str =
+    r#"{"version":1,"capacity":1,"loops":1,"groups":[{"name":"a","size":1}],"channels":[{"handlers":[
+{"op":"last","name":"decode","kind":"decode","group":"a"},
+{"op":"last","name":"service","kind":"service"}],"bursts":[]}]}"#;
+
+/// A channel with a handler elsewhere is not made live.
+#[test]
+fn handler_elsewhere(rt: HostRuntime) -> Result<(), Fail> {
+    let alloc = rt.alloc();
+    let Recorded { pipeline, .. } = recorded(alloc, ELSEWHERE)?;
+    match Live::new(alloc, pipeline, memory_transport(alloc, WIDE, None)) {
+        Ok(_) => panic!(rt; "it is made"),
+        Err(refusal) => assert_eq!(rt; refusal, WorldRefusal::Limit),
+    }
+    Ok(())
+}
+
+/// Bytes behind the last line end come to nothing.
+#[test]
+fn end_inside_a_line(rt: HostRuntime) -> Result<(), Fail> {
+    let alloc = rt.alloc();
+    let mut live = line_channel(alloc)?;
+    let mut handed = Handed::new(alloc);
+    feed(&mut live, alloc, &[b"PI"])?;
+    live.end();
+    handed.take_all(&mut live)?;
+    assert_handed(&rt, &handed, &[Seen::Active, Seen::ReadComplete], b"");
+    assert_stands(&rt, &live, false, true, None);
+    Ok(())
+}

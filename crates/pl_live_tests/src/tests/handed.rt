@@ -1,0 +1,158 @@
+//! What a channel handed out, and what that is to be.
+
+use pl_event::{Caught, Cause, Command, Event, Message, Outcome};
+use pl_head::Transport;
+use pl_live::Live;
+use pl_stages::Handler;
+use pl_world::Stands;
+use std::alloc::Global;
+use std::process::Abort;
+use std::test::Fail;
+
+pub(crate) const SUCCESS: Option<Outcome> = Some(Outcome::Success);
+
+pub(crate) const FAULT: Option<Outcome> = Some(Outcome::Fault);
+
+pub(crate) const CLOSED: Option<Outcome> = Some(Outcome::Closed);
+
+/// The events and the bytes that a channel handed out, in order.
+#[derive(Drop)]
+pub(crate) struct Handed {
+    pub(crate) events: Vec<Event>,
+    pub(crate) bytes: Vec<u8>,
+}
+
+impl Handed {
+    pub(crate) fn new(alloc: Global) -> Self {
+        Handed {
+            events: Vec::new(alloc),
+            bytes: Vec::new(alloc),
+        }
+    }
+
+    /// Takes events, at most so many.
+    pub(crate) fn take_events<T: Transport>(
+        &mut self,
+        live: &mut Live<Handler, T>,
+        most: u64,
+    ) -> Result<(), Fail> {
+        for _ in 0..most {
+            match live.next_event()? {
+                Some(event) => self.events.push(event)?,
+                None => break,
+            }
+        }
+        Ok(())
+    }
+
+    /// Takes output, at most so many bytes, and says how many.
+    pub(crate) fn take_output<T: Transport>(
+        &mut self,
+        live: &mut Live<Handler, T>,
+        most: usize,
+    ) -> Result<usize, Fail> {
+        let pending = live.pending_output();
+        let count = pending.len().min(most);
+        self.bytes.extend_from_slice(&pending[..count])?;
+        if count > 0 {
+            live.consume(count);
+        }
+        Ok(count)
+    }
+
+    /// Takes all output and all events.
+    pub(crate) fn take_all<T: Transport>(
+        &mut self,
+        live: &mut Live<Handler, T>,
+    ) -> Result<(), Fail> {
+        for _ in 0..1_000 {
+            if self.take_output(live, usize::MAX)? == 0 {
+                break;
+            }
+        }
+        self.take_events(live, u64::MAX)
+    }
+}
+
+/// An event that is handed out, as a table says it.
+#[derive(Clone, Copy, Debug)]
+pub(crate) enum Seen {
+    Active,
+    Ping,
+    Quit,
+    Echo(&'static [u8]),
+    Add(&'static [u8], u32),
+    Get(&'static [u8]),
+    Caught(Caught),
+    User(u32),
+    ReadComplete,
+}
+
+impl Seen {
+    pub(crate) fn is(self, event: &Event) -> bool {
+        match (self, event) {
+            (Seen::Active, Event::Active) | (Seen::ReadComplete, Event::ReadComplete) => true,
+            (Seen::Caught(want), Event::Caught(caught)) => *caught == want,
+            (Seen::User(want), Event::User(number)) => *number == want,
+            (_, Event::Read(Message::Command(command))) => self.is_of(command),
+            _ => false,
+        }
+    }
+
+    /// Whether it is that this command is read.
+    fn is_of(self, command: &Command) -> bool {
+        match (self, command) {
+            (Seen::Ping, Command::Ping) | (Seen::Quit, Command::Quit) => true,
+            (Seen::Echo(want), Command::Echo(text)) => text.as_slice() == want,
+            (Seen::Add(key, want), Command::Add(name, number)) => {
+                name.as_slice() == key && *number == want
+            }
+            (Seen::Get(key), Command::Get(name)) => name.as_slice() == key,
+            _ => false,
+        }
+    }
+}
+
+/// Asserts that these events were handed out, and no other.
+pub(crate) fn assert_events(rt: &impl Abort, events: &[Event], want: &[Seen]) {
+    assert_eq!(rt; events.len(), want.len());
+    for (event, seen) in events.iter().zip(want) {
+        assert!(rt; seen.is(event), "{event:?} is not {seen:?}");
+    }
+}
+
+/// Asserts that this was handed out, and nothing else.
+pub(crate) fn assert_handed(rt: &impl Abort, handed: &Handed, tail: &[Seen], bytes: &[u8]) {
+    assert_events(rt, handed.events.as_slice(), tail);
+    assert_eq!(rt; handed.bytes.as_slice(), bytes);
+}
+
+/// Asserts what a channel says of itself: whether it wants a burst, whether it is over, and why it has failed, if it has.
+pub(crate) fn assert_stands<T: Transport>(
+    rt: &impl Abort,
+    live: &Live<Handler, T>,
+    wants_input: bool,
+    is_done: bool,
+    cause: Option<Cause>,
+) {
+    assert_eq!(rt; live.wants_input(), wants_input);
+    assert_eq!(rt; live.is_done(), is_done);
+    assert_eq!(rt; live.cause(), cause);
+}
+
+/// Asserts what the report of a channel says.
+pub(crate) fn assert_report<T: Transport>(
+    rt: &(impl Abort + AllocGlobal),
+    live: &Live<Handler, T>,
+    stands: Stands,
+    tail: &[Seen],
+    bytes: &[u8],
+    writes: &[Option<Outcome>],
+) -> Result<(), Fail> {
+    let report = live.report(rt.alloc())?;
+    assert_eq!(rt; report.stands, stands);
+    assert_events(rt, report.tail.as_slice(), tail);
+    assert_eq!(rt; report.bytes.as_slice(), bytes);
+    assert_eq!(rt; report.writes.as_slice(), writes);
+    Ok(())
+}
