@@ -43,9 +43,10 @@ function is_reached(name) { return is_module || ((crate, name) in exported) }
 
 function cell(text) { return text == "" ? "| " : "| " text " " }
 
-# With what a call of this answer refuses, or which enum says what it did.
-function outcome_of(answer) {
-    if (answer ~ /^Option</) return "`None`"
+# With what a call of this name and answer refuses, or which enum says what it did. An `add` gives its token back where it adds
+# nothing.
+function outcome_of(answer, name) {
+    if (answer ~ /^Option</) return name ~ /::add`$/ ? "`Some`" : "`None`"
     if (answer ~ /^Result</) {
         sub(/^Result</, "", answer)
         sub(/>$/, "", answer)
@@ -212,7 +213,7 @@ END {
             }
             if (!is_begun) print "\n| call | conditions | refusal or outcome |\n|---|---|---|"
             is_begun = 1
-            print cell(name_of[i] (waits[i] ? ", may wait" : "")) cell(needed[i]) cell(outcome_of(answer)) "|"
+            print cell(name_of[i] (waits[i] ? ", may wait" : "")) cell(needed[i]) cell(outcome_of(answer, name_of[i])) "|"
         }
         if (total != "") { print ""; print_wrapped("No condition, no refusal: " total ".") }
     }
