@@ -96,7 +96,8 @@ is_source && /^ *ghost use / {
 is_source && /^(pub|unsafe|const|fn|trait|struct|enum|impl|type|mod|use|static)[ <(]/ {
     scope = ""
     text = $0
-    if (sub(/^pub (const |unsafe )*(fn|trait|struct|enum) /, "", text)) {
+    if (text ~ /^pub extern "C" fn /) scope = "all"
+    else if (sub(/^pub (const |unsafe )*(fn|trait|struct|enum) /, "", text)) {
         if (is_reached(name_in(text))) scope = "all"
     } else if (sub(/^(unsafe )?impl/, "", text)) {
         if (text ~ /Model for /) { sub(/.* for /, "", text); if (is_reached(name_in(text))) scope = "all" }
@@ -106,7 +107,7 @@ is_source && /^(pub|unsafe|const|fn|trait|struct|enum|impl|type|mod|use|static)[
 }
 
 # The clauses of a function stand between its head and its body; a ghost member is one.
-is_source && /^(    )?(pub(\([a-z]*\))? )?(const |unsafe )*fn / {
+is_source && /^(    )?(pub(\([a-z]*\))? )?(const |unsafe |extern "C" )*fn / {
     in_head = scope == "all" || (scope == "calls" && /^    pub [a-z]/)
     in_clause = 0
 }

@@ -73,6 +73,7 @@ function end_call(    rest) {
     } else rest = ""
     calls++
     crate_of[calls] = crate
+    is_for_c[calls] = is_export
     name_of[calls] = "`" owner call "`"
     needed[calls] = conditions
     answer_of[calls] = trim(rest)
@@ -166,13 +167,14 @@ state == "owner" {
 }
 state == "item" && /^}/ { owner = owner_head = ""; is_open = is_trait = 0; next }
 
-state == "item" && /^(    )?(pub )?(const )?(unsafe )?fn / {
+state == "item" && /^(    )?(pub )?(const )?(unsafe )?(extern "C" )?fn / {
     indent = /^ / ? "    " : ""
     call = $0
     sub(/.*fn /, "", call)
     sub(/[^a-z_0-9].*/, "", call)
     if (indent == "") owner = owner_head = ""
-    is_listed = indent == "" ? /^pub / && is_reached(call) : is_open && (is_trait || /^ *pub /)
+    is_export = /^pub extern "C" /
+    is_listed = indent == "" ? is_export || (/^pub / && is_reached(call)) : is_open && (is_trait || /^ *pub /)
     head = conditions = clause = ""
     state = "head"
 }
@@ -202,13 +204,14 @@ function print_wrapped(text,    i, count, words, line) {
 END {
     for (c = 1; c <= crates; c++) {
         printf "\n## %s\n", order[c]
-        total = ""
+        total = for_c = ""
         is_begun = 0
         for (i = 1; i <= calls; i++) {
             if (crate_of[i] != order[c]) continue
             answer = answer_of[i] in alias ? alias[answer_of[i]] : answer_of[i]
             if (needed[i] == "" && !waits[i] && answer !~ /^(Result|Option)</) {
-                total = joined(total, name_of[i])
+                if (is_for_c[i]) for_c = joined(for_c, name_of[i])
+                else total = joined(total, name_of[i])
                 continue
             }
             if (!is_begun) print "\n| call | conditions | refusal or outcome |\n|---|---|---|"
@@ -216,6 +219,7 @@ END {
             print cell(name_of[i] (waits[i] ? ", may wait" : "")) cell(needed[i]) cell(outcome_of(answer, name_of[i])) "|"
         }
         if (total != "") { print ""; print_wrapped("No condition, no refusal: " total ".") }
+        if (for_c != "") { print ""; print_wrapped("For C, no condition: " for_c ".") }
     }
     print "\n## Refusals and outcomes\n\n| type | crate | is one of, or holds |\n|---|---|---|"
     for (i = 1; i <= types; i++) {

@@ -1,0 +1,4 @@
+pub mod BoxPartsValues
+pub mod HeldCalls
+pub mod HeldValues
+pub mod Opened
