@@ -1,11 +1,9 @@
 //! Channels that are aborted.
 
 use crate::tests::closed_tests::assert_closed;
-use crate::tests::handed::{
-    CLOSED, Handed, SUCCESS, Seen, assert_handed, assert_report, assert_stands,
-};
+use crate::tests::handed::{CLOSED, SUCCESS, Seen, assert_handed, assert_report, assert_stands};
 use crate::tests::held_tests::{SENT, fed_ten};
-use crate::tests::sessions::{Channel, WIDE, channel_of, feed, slow_channel_of};
+use crate::tests::sessions::{Channel, WIDE, channel_of, slow_channel_of};
 use pl_event::{Cause, Outcome};
 use pl_text_tests::PING_SESSION;
 use pl_world::Stands;
@@ -27,21 +25,20 @@ const TAIL: [Seen; 4] = [
 
 /// Asserts that a channel that was aborted is over, whatever is said to it then.
 fn assert_aborted(
-    rt: &(impl Abort + AllocGlobal),
-    live: &mut Channel,
+    rt: &impl Abort,
+    fed: &mut Channel,
     tail: &[Seen],
     bytes: &[u8],
     writes: &[Option<Outcome>],
 ) -> Result<(), Fail> {
-    let mut handed = Handed::new(rt.alloc());
-    handed.take_all(live)?;
-    assert_handed(rt, &handed, tail, bytes);
-    assert_closed(rt, rt.alloc(), live, &mut handed)?;
-    live.end();
-    live.abort();
-    assert_closed(rt, rt.alloc(), live, &mut handed)?;
-    assert_stands(rt, live, false, true, Some(Cause::Aborted));
-    assert_report(rt, live, ABORTED, tail, bytes, writes)
+    fed.take_all()?;
+    assert_handed(rt, fed, tail, bytes);
+    assert_closed(rt, fed)?;
+    fed.live.end();
+    fed.live.abort();
+    assert_closed(rt, fed)?;
+    assert_stands(rt, fed, false, true, Some(Cause::Aborted));
+    assert_report(rt, fed, (ABORTED, tail, bytes, writes))
 }
 
 /// After how many bursts a channel is aborted, what it has handed out then, and how its writes end.
@@ -55,13 +52,13 @@ const ABORTS: [(usize, &[Seen], &[u8], &[Option<Outcome>]); 3] = [
 #[test]
 fn abort_after_each_burst(rt: HostRuntime) -> Result<(), Fail> {
     for &(count, tail, bytes, writes) in &ABORTS {
-        let mut live = channel_of(rt.alloc(), PING_SESSION, WIDE, None)?;
+        let mut fed = channel_of(rt.alloc(), PING_SESSION, WIDE, None)?;
         for burst in BURSTS.iter().take(count) {
-            feed(&mut live, rt.alloc(), &[burst])?;
+            fed.feed(&[burst])?;
         }
-        live.abort();
-        assert_stands(&rt, &live, false, true, Some(Cause::Aborted));
-        assert_aborted(&rt, &mut live, tail, bytes, writes)?;
+        fed.live.abort();
+        assert_stands(&rt, &fed, false, true, Some(Cause::Aborted));
+        assert_aborted(&rt, &mut fed, tail, bytes, writes)?;
     }
     Ok(())
 }
@@ -69,12 +66,12 @@ fn abort_after_each_burst(rt: HostRuntime) -> Result<(), Fail> {
 /// A write whose bytes wait is closed.
 #[test]
 fn abort_before_the_write(rt: HostRuntime) -> Result<(), Fail> {
-    let mut live = slow_channel_of(rt.alloc(), PING_SESSION)?;
-    feed(&mut live, rt.alloc(), &[b"PING\r\n"])?;
-    live.abort();
+    let mut fed = slow_channel_of(rt.alloc(), PING_SESSION)?;
+    fed.feed(&[b"PING\r\n"])?;
+    fed.live.abort();
     let tail = [Seen::Active, Seen::Ping, Seen::ReadComplete];
-    assert_report(&rt, &live, ABORTED, &tail, b"", &[CLOSED])?;
-    assert_stands(&rt, &live, false, true, Some(Cause::Aborted));
+    assert_report(&rt, &fed, (ABORTED, &tail, b"", &[CLOSED]))?;
+    assert_stands(&rt, &fed, false, true, Some(Cause::Aborted));
     Ok(())
 }
 
@@ -82,13 +79,12 @@ fn abort_before_the_write(rt: HostRuntime) -> Result<(), Fail> {
 /// pending.
 #[test]
 fn abort_of_a_held_burst(rt: HostRuntime) -> Result<(), Fail> {
-    let mut live = fed_ten(rt.alloc())?;
-    feed(&mut live, rt.alloc(), &[b"PING\n"])?;
-    live.abort();
-    let mut handed = Handed::new(rt.alloc());
-    handed.take_all(&mut live)?;
-    assert_eq!(rt; handed.events.len(), 12);
-    assert_eq!(rt; handed.bytes.len(), 9 * SENT);
-    assert_stands(&rt, &live, false, true, Some(Cause::Aborted));
+    let mut fed = fed_ten(rt.alloc())?;
+    fed.feed(&[b"PING\n"])?;
+    fed.live.abort();
+    fed.take_all()?;
+    assert_eq!(rt; fed.events.len(), 12);
+    assert_eq!(rt; fed.bytes.len(), 9 * SENT);
+    assert_stands(&rt, &fed, false, true, Some(Cause::Aborted));
     Ok(())
 }

@@ -1,9 +1,28 @@
-//! Bursts, cut anew or by chance.
+//! Bursts: of chunks, cut anew, and by chance.
 
 use pl_event::{ByteString, Element, Sequence};
-use std::alloc::Global;
+use std::alloc::{AllocError, Global};
 use std::mem;
 use std::test::Fail;
+
+/// What a channel reads at once.
+pub(crate) type Burst = Sequence<Element>;
+
+pub(crate) type Bursts = Sequence<Burst>;
+
+/// A chunk of these bytes.
+pub(crate) fn chunk(alloc: Global, bytes: &[u8]) -> Result<Element, AllocError> {
+    Ok(Element::Chunk(ByteString::from_slice(alloc, bytes)?))
+}
+
+/// A burst of these chunks.
+pub(crate) fn burst_of(alloc: Global, chunks: &[&[u8]]) -> Result<Burst, Fail> {
+    let mut burst = Sequence::new(alloc);
+    for bytes in chunks {
+        burst.push(chunk(alloc, bytes)?)?;
+    }
+    Ok(burst)
+}
 
 /// How bursts are cut.
 #[derive(Clone, Copy, Debug)]
@@ -23,9 +42,9 @@ pub(crate) const CUTTINGS: [Cutting; 3] = [Cutting::Recorded, Cutting::Apart, Cu
 #[derive(Drop)]
 struct Cutter {
     alloc: Global,
-    bursts: Sequence<Sequence<Element>>,
+    bursts: Bursts,
     /// What came behind the last burst that has ended.
-    burst: Sequence<Element>,
+    burst: Burst,
 }
 
 impl Cutter {
@@ -62,8 +81,7 @@ impl Cutter {
     /// Each of these bytes as a burst.
     fn add_bytes(&mut self, bytes: &[u8]) -> Result<(), Fail> {
         for byte in bytes {
-            let chunk = ByteString::from_slice(self.alloc, &[*byte])?;
-            self.burst.push(Element::Chunk(chunk))?;
+            self.burst.push(chunk(self.alloc, &[*byte])?)?;
             self.end_burst()?;
         }
         Ok(())
@@ -84,11 +102,7 @@ impl Cutter {
 }
 
 /// These bursts, so cut.
-pub(crate) fn cut(
-    alloc: Global,
-    bursts: &[Sequence<Element>],
-    cutting: Cutting,
-) -> Result<Sequence<Sequence<Element>>, Fail> {
+pub(crate) fn cut(alloc: Global, bursts: &[Burst], cutting: Cutting) -> Result<Bursts, Fail> {
     let mut cutter = Cutter::new(alloc);
     for burst in bursts {
         cutter.add_burst(burst.as_slice(), cutting)?;
@@ -101,7 +115,7 @@ pub(crate) fn cut(
 }
 
 /// A copy of a burst.
-pub(crate) fn copy_of(alloc: Global, burst: &[Element]) -> Result<Sequence<Element>, Fail> {
+pub(crate) fn copy_of(alloc: Global, burst: &[Element]) -> Result<Burst, Fail> {
     let mut copy = Sequence::new(alloc);
     for element in burst {
         copy.push(element.clone()?)?;
@@ -110,11 +124,7 @@ pub(crate) fn copy_of(alloc: Global, burst: &[Element]) -> Result<Sequence<Eleme
 }
 
 /// Copies of the first bursts, so many.
-pub(crate) fn first_of(
-    alloc: Global,
-    bursts: &[Sequence<Element>],
-    count: usize,
-) -> Result<Sequence<Sequence<Element>>, Fail> {
+pub(crate) fn first_of(alloc: Global, bursts: &[Burst], count: usize) -> Result<Bursts, Fail> {
     let mut first = Sequence::new(alloc);
     for burst in bursts.iter().take(count) {
         first.push(copy_of(alloc, burst.as_slice())?)?;
@@ -158,11 +168,11 @@ fn element_by(alloc: Global, number: u64) -> Result<Element, Fail> {
     } else {
         PIECES[(number / 100 % 15) as usize]
     };
-    Ok(Element::Chunk(ByteString::from_slice(alloc, bytes)?))
+    Ok(chunk(alloc, bytes)?)
 }
 
 /// A burst of up to three elements, by a number, which goes on.
-fn burst_by(alloc: Global, number: &mut u64) -> Result<Sequence<Element>, Fail> {
+fn burst_by(alloc: Global, number: &mut u64) -> Result<Burst, Fail> {
     let mut burst = Sequence::new(alloc);
     *number = next_number(*number);
     for _ in 0..(*number >> 33) % 4 {
@@ -173,11 +183,7 @@ fn burst_by(alloc: Global, number: &mut u64) -> Result<Sequence<Element>, Fail> 
 }
 
 /// So many bursts by chance, from this number on.
-pub(crate) fn random_bursts(
-    alloc: Global,
-    seed: u64,
-    count: usize,
-) -> Result<Sequence<Sequence<Element>>, Fail> {
+pub(crate) fn random_bursts(alloc: Global, seed: u64, count: usize) -> Result<Bursts, Fail> {
     let mut number = seed;
     let mut bursts = Sequence::new(alloc);
     for _ in 0..count {

@@ -1,14 +1,13 @@
 //! Live channels beside `plain`: what is handed out is what that makes of all that was fed.
 
 use crate::tests::cutting::{
-    CUTTINGS, Cutting, copy_of, cut, first_of, next_number, random_bursts,
+    Burst, CUTTINGS, Cutting, copy_of, cut, first_of, next_number, random_bursts,
 };
-use crate::tests::handed::Handed;
 use crate::tests::sessions::{
     Channel, ENCODER_BEHIND, FRAMES, FRAMES_SERVED, LINES, LOW_MARKS, SECOND_FLUSH, SERVED, Sample,
     channel_of, plain_of, recorded, text_of,
 };
-use pl_event::{Command, Element, Event, Message, Sequence};
+use pl_event::{Command, Element, Event, Message};
 use pl_live::FeedFault;
 use pl_world::{ChannelReport, Stands};
 use std::alloc::Global;
@@ -34,8 +33,7 @@ fn has_quit(events: &[Event]) -> bool {
 /// Feeds a copy of a burst, which is refused exactly where a client has quit.
 fn feed_copy(
     rt: &impl Abort,
-    alloc: Global,
-    live: &mut Channel,
+    fed: &mut Channel,
     burst: &[Element],
     is_closed: bool,
 ) -> Result<(), Fail> {
@@ -44,16 +42,16 @@ fn feed_copy(
     } else {
         Ok(())
     };
-    let copy = copy_of(alloc, burst)?;
-    assert_eq!(rt; live.feed(copy), want);
+    let copy = copy_of(fed.alloc, burst)?;
+    assert_eq!(rt; fed.live.feed(copy), want);
     Ok(())
 }
 
 /// Asserts that what was handed out is all that `plain` makes.
-fn assert_whole(rt: &impl Abort, handed: &Handed, whole: &ChannelReport, text: &str) {
-    let is_tail = handed.events.as_slice() == whole.tail.as_slice();
+fn assert_whole(rt: &impl Abort, fed: &Channel, whole: &ChannelReport, text: &str) {
+    let is_tail = fed.events.as_slice() == whole.tail.as_slice();
     assert!(rt; is_tail, "{text}");
-    assert!(rt; handed.bytes.as_slice() == whole.bytes.as_slice(), "{text}");
+    assert!(rt; fed.bytes.as_slice() == whole.bytes.as_slice(), "{text}");
 }
 
 /// Asserts that a report is the whole one.
@@ -70,17 +68,15 @@ fn assert_drained(rt: &impl Abort, report: &ChannelReport, whole: &ChannelReport
 /// Asserts that a channel whose end is said is over, and has handed out all.
 fn assert_over(
     rt: &impl Abort,
-    alloc: Global,
-    live: &mut Channel,
-    handed: &mut Handed,
+    fed: &mut Channel,
     whole: &ChannelReport,
     text: &str,
 ) -> Result<(), Fail> {
-    live.end();
-    handed.take_all(live)?;
-    assert_whole(rt, handed, whole, text);
-    assert!(rt; live.is_done() && live.cause().is_none(), "{text}");
-    assert_drained(rt, &live.report(alloc)?, whole, text);
+    fed.live.end();
+    fed.take_all()?;
+    assert_whole(rt, fed, whole, text);
+    assert!(rt; fed.live.is_done() && fed.live.cause().is_none(), "{text}");
+    assert_drained(rt, &fed.live.report(fed.alloc)?, whole, text);
     Ok(())
 }
 
@@ -90,38 +86,25 @@ fn assert_like_plain(
     rt: &impl Abort,
     alloc: Global,
     text: &str,
-    bursts: &[Sequence<Element>],
+    bursts: &[Burst],
 ) -> Result<(), Fail> {
-    let mut live = channel_of(alloc, text, 3, None)?;
-    let mut handed = Handed::new(alloc);
+    let mut fed = channel_of(alloc, text, 3, None)?;
     for (place, burst) in bursts.iter().enumerate() {
-        let is_closed = has_quit(handed.events.as_slice());
-        feed_copy(rt, alloc, &mut live, burst.as_slice(), is_closed)?;
-        handed.take_all(&mut live)?;
+        let is_closed = has_quit(fed.events.as_slice());
+        feed_copy(rt, &mut fed, burst.as_slice(), is_closed)?;
+        fed.take_all()?;
         let so_far = first_of(alloc, bursts, place.saturating_add(1))?;
-        assert_whole(rt, &handed, &plain_of(alloc, text, so_far)?, text);
+        assert_whole(rt, &fed, &plain_of(alloc, text, so_far)?, text);
     }
     let whole = plain_of(alloc, text, first_of(alloc, bursts, bursts.len())?)?;
-    assert_over(rt, alloc, &mut live, &mut handed, &whole, text)
-}
-
-fn is_prefix<T: PartialEq>(part: &[T], whole: &[T]) -> bool {
-    if part.len() > whole.len() {
-        return false;
-    }
-    part == &whole[..part.len()]
+    assert_over(rt, &mut fed, &whole, text)
 }
 
 /// Asserts that what was handed out begins what `plain` makes.
-fn assert_begins(rt: &impl Abort, handed: &Handed, whole: &ChannelReport, text: &str) {
-    assert!(rt;
-        is_prefix(handed.events.as_slice(), whole.tail.as_slice()),
-        "{text}"
-    );
-    assert!(rt;
-        is_prefix(handed.bytes.as_slice(), whole.bytes.as_slice()),
-        "{text}"
-    );
+fn assert_begins(rt: &impl Abort, fed: &Channel, whole: &ChannelReport, text: &str) {
+    let (tail, bytes) = (whole.tail.as_slice(), whole.bytes.as_slice());
+    assert!(rt; tail.starts_with(fed.events.as_slice()), "{text}");
+    assert!(rt; bytes.starts_with(fed.bytes.as_slice()), "{text}");
 }
 
 /// Asserts the same of a channel of whose output and events some are taken by chance behind each burst: what was handed out
@@ -130,23 +113,22 @@ fn assert_keeps_to_plain(
     rt: &impl Abort,
     alloc: Global,
     text: &str,
-    bursts: &[Sequence<Element>],
+    bursts: &[Burst],
     seed: u64,
 ) -> Result<(), Fail> {
-    let mut live = channel_of(alloc, text, 3, None)?;
-    let mut handed = Handed::new(alloc);
+    let mut fed = channel_of(alloc, text, 3, None)?;
     let mut number = seed;
     for (place, burst) in bursts.iter().enumerate() {
-        let fed = live.feed(copy_of(alloc, burst.as_slice())?);
-        assert!(rt; fed == Ok(()) || fed == Err(FeedFault::Closed));
+        let answer = fed.live.feed(copy_of(alloc, burst.as_slice())?);
+        assert!(rt; answer == Ok(()) || answer == Err(FeedFault::Closed));
         number = next_number(number);
-        handed.take_output(&mut live, ((number >> 33) % 12) as usize)?;
-        handed.take_events(&mut live, (number >> 40) % 4)?;
+        fed.take_output(((number >> 33) % 12) as usize)?;
+        fed.take_events((number >> 40) % 4)?;
         let so_far = first_of(alloc, bursts, place.saturating_add(1))?;
-        assert_begins(rt, &handed, &plain_of(alloc, text, so_far)?, text);
+        assert_begins(rt, &fed, &plain_of(alloc, text, so_far)?, text);
     }
     let whole = plain_of(alloc, text, first_of(alloc, bursts, bursts.len())?)?;
-    assert_over(rt, alloc, &mut live, &mut handed, &whole, text)
+    assert_over(rt, &mut fed, &whole, text)
 }
 
 /// Pipelines of whose lines some come by chance: with default marks, with marks that each answer passes, and where each second

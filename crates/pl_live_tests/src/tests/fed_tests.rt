@@ -1,9 +1,9 @@
 //! What comes of what was fed, however it was cut.
 
-use crate::tests::handed::{Handed, SUCCESS, Seen, assert_handed, assert_report, assert_stands};
+use crate::tests::cutting::{burst_of, chunk};
+use crate::tests::handed::{SUCCESS, Seen, assert_handed, assert_report, assert_stands};
 use crate::tests::sessions::{
-    Channel, LINES, SERVED, WIDE, burst_of, channel_of, chunk, feed, memory_transport, recorded,
-    slow_channel_of, text_of,
+    Channel, WIDE, channel_of, memory_transport, recorded, slow_channel_of,
 };
 use pl_event::{Caught, Element, Event};
 use pl_live::Live;
@@ -23,78 +23,81 @@ fn line_channel(alloc: Global) -> Result<Channel, Fail> {
     channel_of(alloc, PING_SESSION, WIDE, None)
 }
 
+/// Asserts that a channel whose end is said has handed out this, and is over.
+fn assert_ends(
+    rt: &impl Abort,
+    fed: &mut Channel,
+    tail: &[Seen],
+    bytes: &[u8],
+) -> Result<(), Fail> {
+    fed.live.end();
+    fed.take_all()?;
+    assert_handed(rt, fed, tail, bytes);
+    assert_stands(rt, fed, false, true, None);
+    Ok(())
+}
+
 /// A channel that is fed `PING` has the answer pending at once, and hands it out with the events before the end is said.
 #[test]
 fn live_ping(rt: HostRuntime) -> Result<(), Fail> {
-    let alloc = rt.alloc();
-    let mut live = line_channel(alloc)?;
-    let mut handed = Handed::new(alloc);
-    handed.take_all(&mut live)?;
-    assert_handed(&rt, &handed, &[Seen::Active], b"");
-    assert_stands(&rt, &live, true, false, None);
-    feed(&mut live, alloc, &[b"PING\r\n"])?;
-    assert_eq!(rt; live.pending_output(), PONG);
-    handed.take_all(&mut live)?;
-    assert_handed(&rt, &handed, &PING_TAIL, PONG);
-    assert_stands(&rt, &live, true, false, None);
-    live.end();
-    handed.take_all(&mut live)?;
-    assert_handed(&rt, &handed, &PING_TAIL, PONG);
-    assert_stands(&rt, &live, false, true, None);
-    Ok(())
+    let mut fed = line_channel(rt.alloc())?;
+    fed.take_all()?;
+    assert_handed(&rt, &fed, &[Seen::Active], b"");
+    assert_stands(&rt, &fed, true, false, None);
+    fed.feed(&[b"PING\r\n"])?;
+    assert_eq!(rt; fed.live.pending_output(), PONG);
+    fed.take_all()?;
+    assert_handed(&rt, &fed, &PING_TAIL, PONG);
+    assert_stands(&rt, &fed, true, false, None);
+    assert_ends(&rt, &mut fed, &PING_TAIL, PONG)
 }
 
 /// Once all events were handed out there is none, until one more comes.
 #[test]
 fn no_event_is_left(rt: HostRuntime) -> Result<(), Fail> {
-    let alloc = rt.alloc();
-    let mut live = line_channel(alloc)?;
-    let mut handed = Handed::new(alloc);
-    handed.take_events(&mut live, 1)?;
-    assert!(rt; live.next_event()?.is_none());
-    assert!(rt; live.next_event()?.is_none());
-    feed(&mut live, alloc, &[b"PING\r\n"])?;
-    handed.take_events(&mut live, 2)?;
-    assert!(rt; live.next_event()?.is_none());
-    assert_handed(&rt, &handed, &PING_TAIL, b"");
+    let mut fed = line_channel(rt.alloc())?;
+    fed.take_events(1)?;
+    assert!(rt; fed.live.next_event()?.is_none());
+    assert!(rt; fed.live.next_event()?.is_none());
+    fed.feed(&[b"PING\r\n"])?;
+    fed.take_events(2)?;
+    assert!(rt; fed.live.next_event()?.is_none());
+    assert_handed(&rt, &fed, &PING_TAIL, b"");
     Ok(())
 }
 
 /// Output is consumed in part, and the rest stays pending.
 #[test]
 fn consumed_in_part(rt: HostRuntime) -> Result<(), Fail> {
-    let alloc = rt.alloc();
-    let mut live = line_channel(alloc)?;
-    let mut handed = Handed::new(alloc);
-    feed(&mut live, alloc, &[b"PING\r\n"])?;
-    assert_eq!(rt; handed.take_output(&mut live, 3)?, 3);
-    assert_eq!(rt; live.pending_output(), b"NG\r\n".as_slice());
-    feed(&mut live, alloc, &[b"PING\r\n"])?;
-    assert_eq!(rt; live.pending_output(), b"NG\r\n+PONG\r\n".as_slice());
-    assert_eq!(rt; handed.take_output(&mut live, 100)?, 11);
-    assert_eq!(rt; live.pending_output(), b"".as_slice());
+    let mut fed = line_channel(rt.alloc())?;
+    fed.feed(&[b"PING\r\n"])?;
+    assert_eq!(rt; fed.take_output(3)?, 3);
+    assert_eq!(rt; fed.live.pending_output(), b"NG\r\n".as_slice());
+    fed.feed(&[b"PING\r\n"])?;
+    assert_eq!(rt; fed.live.pending_output(), b"NG\r\n+PONG\r\n".as_slice());
+    assert_eq!(rt; fed.take_output(100)?, 11);
+    assert_eq!(rt; fed.live.pending_output(), b"".as_slice());
     Ok(())
 }
 
 /// The report says how the channel stands so far, whatever was handed out, and the channel goes on.
 #[test]
 fn report_while_fed(rt: HostRuntime) -> Result<(), Fail> {
-    let alloc = rt.alloc();
-    let mut live = line_channel(alloc)?;
-    assert_report(&rt, &live, Stands::Open, &[Seen::Active], b"", &[])?;
-    feed(&mut live, alloc, &[b"PI"])?;
+    let mut fed = line_channel(rt.alloc())?;
+    assert_report(&rt, &fed, (Stands::Open, &[Seen::Active], b"", &[]))?;
+    fed.feed(&[b"PI"])?;
     let tail = [
         Seen::Active,
         Seen::ReadComplete,
         Seen::Ping,
         Seen::ReadComplete,
     ];
-    assert_report(&rt, &live, Stands::Open, &tail[..2], b"", &[])?;
-    feed(&mut live, alloc, &[b"NG\n"])?;
-    assert_report(&rt, &live, Stands::Open, &tail, PONG, &[SUCCESS])?;
-    assert_eq!(rt; live.pending_output(), PONG);
-    live.end();
-    assert_report(&rt, &live, Stands::Drained, &tail, PONG, &[SUCCESS])
+    assert_report(&rt, &fed, (Stands::Open, &tail[..2], b"", &[]))?;
+    fed.feed(&[b"NG\n"])?;
+    assert_report(&rt, &fed, (Stands::Open, &tail, PONG, &[SUCCESS]))?;
+    assert_eq!(rt; fed.live.pending_output(), PONG);
+    fed.live.end();
+    assert_report(&rt, &fed, (Stands::Drained, &tail, PONG, &[SUCCESS]))
 }
 
 /// Lines of the worked examples, one after another.
@@ -139,35 +142,29 @@ fn assert_messages(rt: &impl Abort, events: &[Event], bursts: usize) {
 }
 
 /// Asserts that a channel that was fed the lines in so many bursts hands out what is to come of them.
-fn assert_served(
-    rt: &impl Abort,
-    alloc: Global,
-    mut live: Channel,
-    bursts: usize,
-) -> Result<(), Fail> {
-    let mut handed = Handed::new(alloc);
-    handed.take_all(&mut live)?;
-    assert_eq!(rt; handed.bytes.as_slice(), OUTPUT);
-    assert_messages(rt, handed.events.as_slice(), bursts);
+fn assert_served(rt: &impl Abort, mut fed: Channel, bursts: usize) -> Result<(), Fail> {
+    fed.take_all()?;
+    assert_eq!(rt; fed.bytes.as_slice(), OUTPUT);
+    assert_messages(rt, fed.events.as_slice(), bursts);
     Ok(())
 }
 
 /// The lines in two bursts, cut before the byte at this place.
 fn cut_at(alloc: Global, place: usize) -> Result<Channel, Fail> {
-    let mut live = line_channel(alloc)?;
+    let mut fed = line_channel(alloc)?;
     let (before, after) = INPUT.split_at(place.min(INPUT.len()));
-    feed(&mut live, alloc, &[before])?;
-    feed(&mut live, alloc, &[after])?;
-    Ok(live)
+    fed.feed(&[before])?;
+    fed.feed(&[after])?;
+    Ok(fed)
 }
 
 /// The lines in bursts of one byte.
 fn byte_by_byte(alloc: Global) -> Result<Channel, Fail> {
-    let mut live = line_channel(alloc)?;
+    let mut fed = line_channel(alloc)?;
     for byte in INPUT {
-        feed(&mut live, alloc, &[[*byte].as_slice()])?;
+        fed.feed(&[[*byte].as_slice()])?;
     }
-    Ok(live)
+    Ok(fed)
 }
 
 /// Wherever the input is cut, and where it is cut at each byte, the same comes of it.
@@ -175,71 +172,64 @@ fn byte_by_byte(alloc: Global) -> Result<Channel, Fail> {
 fn cut_at_every_byte(rt: HostRuntime) -> Result<(), Fail> {
     let alloc = rt.alloc();
     for place in 0..INPUT.len() {
-        assert_served(&rt, alloc, cut_at(alloc, place)?, 2)?;
+        assert_served(&rt, cut_at(alloc, place)?, 2)?;
     }
-    assert_served(&rt, alloc, byte_by_byte(alloc)?, INPUT.len())
+    assert_served(&rt, byte_by_byte(alloc)?, INPUT.len())
 }
 
-/// Feeds a burst with a user event between two chunks.
-fn feed_around(
-    live: &mut Channel,
-    alloc: Global,
+/// Asserts what is handed out of a burst with a user event between two chunks.
+fn assert_around(
+    rt: &(impl Abort + AllocGlobal),
     before: &[u8],
-    number: u32,
     after: &[u8],
+    tail: &[Seen],
+    bytes: &[u8],
 ) -> Result<(), Fail> {
-    let mut burst = burst_of(alloc, &[before])?;
-    burst.push(Element::User(number))?;
-    burst.push(chunk(alloc, after)?)?;
-    Ok(live.feed(burst)?)
+    let mut fed = line_channel(rt.alloc())?;
+    let mut burst = burst_of(rt.alloc(), &[before])?;
+    burst.push(Element::User(7))?;
+    burst.push(chunk(rt.alloc(), after)?)?;
+    fed.live.feed(burst)?;
+    fed.take_all()?;
+    assert_handed(rt, &fed, tail, bytes);
+    Ok(())
 }
+
+/// What a channel hands out where a user event comes between a `PING` and an echo.
+const AROUND_TAIL: [Seen; 5] = [
+    Seen::Active,
+    Seen::Ping,
+    Seen::User(7),
+    Seen::Echo(b"a"),
+    Seen::ReadComplete,
+];
 
 /// A user event comes to the tail in its place among the reads.
 #[test]
 fn user_event_fed(rt: HostRuntime) -> Result<(), Fail> {
-    let alloc = rt.alloc();
-    let mut live = line_channel(alloc)?;
-    let mut handed = Handed::new(alloc);
-    feed_around(&mut live, alloc, b"PING\n", 7, b"PING\n")?;
-    handed.take_all(&mut live)?;
-    let tail = [
-        Seen::Active,
-        Seen::Ping,
-        Seen::User(7),
-        Seen::Ping,
-        Seen::ReadComplete,
-    ];
-    assert_handed(&rt, &handed, &tail, b"+PONG\r\n+PONG\r\n");
-    Ok(())
+    let sent = b"+PONG\r\n+a\r\n";
+    assert_around(&rt, b"PING\n", b"ECHO a\n", &AROUND_TAIL, sent)
 }
 
 /// One inside a line comes before it.
 #[test]
 fn user_event_inside_line_fed(rt: HostRuntime) -> Result<(), Fail> {
-    let alloc = rt.alloc();
-    let mut live = line_channel(alloc)?;
-    let mut handed = Handed::new(alloc);
-    feed_around(&mut live, alloc, b"PI", 7, b"NG\n")?;
-    handed.take_all(&mut live)?;
     let tail = [Seen::Active, Seen::User(7), Seen::Ping, Seen::ReadComplete];
-    assert_handed(&rt, &handed, &tail, PONG);
-    Ok(())
+    assert_around(&rt, b"PI", b"NG\n", &tail, PONG)
 }
 
 /// A transport of a user's own, which accepts a byte at every second call: what was not accepted is offered again once there
 /// is cause to.
 #[test]
 fn slow_transport(rt: HostRuntime) -> Result<(), Fail> {
-    let alloc = rt.alloc();
-    let mut live = slow_channel_of(alloc, PING_SESSION)?;
-    let mut handed = Handed::new(alloc);
-    feed(&mut live, alloc, &[b"PING\r\n"])?;
-    assert_eq!(rt; live.pending_output(), b"".as_slice());
-    live.end();
-    assert!(rt; !live.is_done());
-    handed.take_all(&mut live)?;
-    assert_handed(&rt, &handed, &PING_TAIL, PONG);
-    assert!(rt; live.is_done());
+    let mut fed = slow_channel_of(rt.alloc(), PING_SESSION)?;
+    fed.feed(&[b"PING\r\n"])?;
+    assert_eq!(rt; fed.live.pending_output(), b"".as_slice());
+    fed.live.end();
+    assert!(rt; !fed.live.is_done());
+    fed.take_all()?;
+    assert_handed(&rt, &fed, &PING_TAIL, PONG);
+    assert!(rt; fed.live.is_done());
     Ok(())
 }
 
@@ -264,13 +254,7 @@ fn handler_elsewhere(rt: HostRuntime) -> Result<(), Fail> {
 /// Bytes behind the last line end come to nothing.
 #[test]
 fn end_inside_a_line(rt: HostRuntime) -> Result<(), Fail> {
-    let alloc = rt.alloc();
-    let mut live = line_channel(alloc)?;
-    let mut handed = Handed::new(alloc);
-    feed(&mut live, alloc, &[b"PI"])?;
-    live.end();
-    handed.take_all(&mut live)?;
-    assert_handed(&rt, &handed, &[Seen::Active, Seen::ReadComplete], b"");
-    assert_stands(&rt, &live, false, true, None);
-    Ok(())
+    let mut fed = line_channel(rt.alloc())?;
+    fed.feed(&[b"PI"])?;
+    assert_ends(&rt, &mut fed, &[Seen::Active, Seen::ReadComplete], b"")
 }

@@ -1,9 +1,9 @@
 //! A channel that was fed as much as one may ever be.
 
 use crate::tests::closed_tests::assert_refused;
-use crate::tests::handed::{Handed, Seen, assert_events};
-use crate::tests::sessions::{Channel, WIDE, channel_of, feed, text_of};
-use pl_event::Caught;
+use crate::tests::handed::{Seen, assert_events};
+use crate::tests::sessions::{Channel, WIDE, channel_of, text_of};
+use pl_event::{Caught, Event};
 use pl_live::{FeedFault, MAX_FED};
 use std::alloc::Global;
 use std::process::Abort;
@@ -32,16 +32,15 @@ fn first(bytes: &[u8], most: usize) -> &[u8] {
 }
 
 /// Feeds 63 bursts of these bytes.
-fn feed_63(live: &mut Channel, alloc: Global, bytes: &[u8]) -> Result<(), Fail> {
+fn feed_63(fed: &mut Channel, bytes: &[u8]) -> Result<(), Fail> {
     for _ in 0..63 {
-        feed(live, alloc, &[bytes])?;
+        fed.feed(&[bytes])?;
     }
     Ok(())
 }
 
 /// Asserts that the events are those of a channel that was fed one frame that is too long, in so many bursts.
-fn assert_too_long(rt: &impl Abort, handed: &Handed, bursts: usize) {
-    let events = handed.events.as_slice();
+fn assert_too_long(rt: &impl Abort, events: &[Event], bursts: usize) {
     assert!(rt; events.len() > 2);
     let tail = [
         Seen::Active,
@@ -61,16 +60,15 @@ fn assert_too_long(rt: &impl Abort, handed: &Handed, bursts: usize) {
 fn full(rt: HostRuntime) -> Result<(), Fail> {
     let alloc = rt.alloc();
     let bytes = vec![in alloc; 0xffu8; MANY]?;
-    let mut live = frame_channel(alloc)?;
-    feed_63(&mut live, alloc, bytes.as_slice())?;
+    let mut fed = frame_channel(alloc)?;
+    feed_63(&mut fed, bytes.as_slice())?;
     let last = first(bytes.as_slice(), LEFT);
     let more = first(bytes.as_slice(), LEFT + 1);
-    assert_refused(&rt, &mut live, alloc, &[more], FeedFault::Full)?;
-    feed(&mut live, alloc, &[last])?;
-    assert_refused(&rt, &mut live, alloc, &[], FeedFault::Full)?;
-    let mut handed = Handed::new(alloc);
-    handed.take_all(&mut live)?;
-    assert_too_long(&rt, &handed, 64);
-    assert!(rt; live.cause().is_none());
+    assert_refused(&rt, &mut fed, &[more], FeedFault::Full)?;
+    fed.feed(&[last])?;
+    assert_refused(&rt, &mut fed, &[], FeedFault::Full)?;
+    fed.take_all()?;
+    assert_too_long(&rt, fed.events.as_slice(), 64);
+    assert!(rt; fed.live.cause().is_none());
     Ok(())
 }

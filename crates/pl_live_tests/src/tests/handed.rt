@@ -1,5 +1,6 @@
-//! What a channel handed out, and what that is to be.
+//! Channels that are fed, what they hand out, and what that is to be.
 
+use crate::tests::cutting::burst_of;
 use pl_event::{Caught, Cause, Command, Event, Message, Outcome};
 use pl_head::Transport;
 use pl_live::Live;
@@ -15,29 +16,35 @@ pub(crate) const FAULT: Option<Outcome> = Some(Outcome::Fault);
 
 pub(crate) const CLOSED: Option<Outcome> = Some(Outcome::Closed);
 
-/// The events and the bytes that a channel handed out, in order.
+/// A live channel, with the events and the bytes that it has handed out, in order.
 #[derive(Drop)]
-pub(crate) struct Handed {
+pub(crate) struct Fed<T: Transport> {
+    pub(crate) alloc: Global,
+    pub(crate) live: Live<Handler, T>,
     pub(crate) events: Vec<Event>,
     pub(crate) bytes: Vec<u8>,
 }
 
-impl Handed {
-    pub(crate) fn new(alloc: Global) -> Self {
-        Handed {
+impl<T: Transport> Fed<T> {
+    pub(crate) fn new(alloc: Global, live: Live<Handler, T>) -> Self {
+        Fed {
+            alloc,
+            live,
             events: Vec::new(alloc),
             bytes: Vec::new(alloc),
         }
     }
 
+    /// Feeds a burst of these chunks.
+    pub(crate) fn feed(&mut self, chunks: &[&[u8]]) -> Result<(), Fail> {
+        let burst = burst_of(self.alloc, chunks)?;
+        Ok(self.live.feed(burst)?)
+    }
+
     /// Takes events, at most so many.
-    pub(crate) fn take_events<T: Transport>(
-        &mut self,
-        live: &mut Live<Handler, T>,
-        most: u64,
-    ) -> Result<(), Fail> {
+    pub(crate) fn take_events(&mut self, most: u64) -> Result<(), Fail> {
         for _ in 0..most {
-            match live.next_event()? {
+            match self.live.next_event()? {
                 Some(event) => self.events.push(event)?,
                 None => break,
             }
@@ -46,31 +53,24 @@ impl Handed {
     }
 
     /// Takes output, at most so many bytes, and says how many.
-    pub(crate) fn take_output<T: Transport>(
-        &mut self,
-        live: &mut Live<Handler, T>,
-        most: usize,
-    ) -> Result<usize, Fail> {
-        let pending = live.pending_output();
+    pub(crate) fn take_output(&mut self, most: usize) -> Result<usize, Fail> {
+        let pending = self.live.pending_output();
         let count = pending.len().min(most);
         self.bytes.extend_from_slice(&pending[..count])?;
         if count > 0 {
-            live.consume(count);
+            self.live.consume(count);
         }
         Ok(count)
     }
 
     /// Takes all output and all events.
-    pub(crate) fn take_all<T: Transport>(
-        &mut self,
-        live: &mut Live<Handler, T>,
-    ) -> Result<(), Fail> {
+    pub(crate) fn take_all(&mut self) -> Result<(), Fail> {
         for _ in 0..1_000 {
-            if self.take_output(live, usize::MAX)? == 0 {
+            if self.take_output(usize::MAX)? == 0 {
                 break;
             }
         }
-        self.take_events(live, u64::MAX)
+        self.take_events(u64::MAX)
     }
 }
 
@@ -78,14 +78,14 @@ impl Handed {
 #[derive(Clone, Copy, Debug)]
 pub(crate) enum Seen {
     Active,
+    ReadComplete,
+    Caught(Caught),
+    User(u32),
     Ping,
     Quit,
     Echo(&'static [u8]),
     Add(&'static [u8], u32),
     Get(&'static [u8]),
-    Caught(Caught),
-    User(u32),
-    ReadComplete,
 }
 
 impl Seen {
@@ -122,34 +122,40 @@ pub(crate) fn assert_events(rt: &impl Abort, events: &[Event], want: &[Seen]) {
 }
 
 /// Asserts that this was handed out, and nothing else.
-pub(crate) fn assert_handed(rt: &impl Abort, handed: &Handed, tail: &[Seen], bytes: &[u8]) {
-    assert_events(rt, handed.events.as_slice(), tail);
-    assert_eq!(rt; handed.bytes.as_slice(), bytes);
+pub(crate) fn assert_handed<T: Transport>(
+    rt: &impl Abort,
+    fed: &Fed<T>,
+    tail: &[Seen],
+    bytes: &[u8],
+) {
+    assert_events(rt, fed.events.as_slice(), tail);
+    assert_eq!(rt; fed.bytes.as_slice(), bytes);
 }
 
 /// Asserts what a channel says of itself: whether it wants a burst, whether it is over, and why it has failed, if it has.
 pub(crate) fn assert_stands<T: Transport>(
     rt: &impl Abort,
-    live: &Live<Handler, T>,
+    fed: &Fed<T>,
     wants_input: bool,
     is_done: bool,
     cause: Option<Cause>,
 ) {
-    assert_eq!(rt; live.wants_input(), wants_input);
-    assert_eq!(rt; live.is_done(), is_done);
-    assert_eq!(rt; live.cause(), cause);
+    assert_eq!(rt; fed.live.wants_input(), wants_input);
+    assert_eq!(rt; fed.live.is_done(), is_done);
+    assert_eq!(rt; fed.live.cause(), cause);
 }
+
+/// What a report is to say: how its channel stands, its tail, its bytes, and its writes.
+pub(crate) type Reported<'a> = (Stands, &'a [Seen], &'a [u8], &'a [Option<Outcome>]);
 
 /// Asserts what the report of a channel says.
 pub(crate) fn assert_report<T: Transport>(
-    rt: &(impl Abort + AllocGlobal),
-    live: &Live<Handler, T>,
-    stands: Stands,
-    tail: &[Seen],
-    bytes: &[u8],
-    writes: &[Option<Outcome>],
+    rt: &impl Abort,
+    fed: &Fed<T>,
+    want: Reported<'_>,
 ) -> Result<(), Fail> {
-    let report = live.report(rt.alloc())?;
+    let (stands, tail, bytes, writes) = want;
+    let report = fed.live.report(fed.alloc)?;
     assert_eq!(rt; report.stands, stands);
     assert_events(rt, report.tail.as_slice(), tail);
     assert_eq!(rt; report.bytes.as_slice(), bytes);

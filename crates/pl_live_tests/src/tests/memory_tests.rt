@@ -1,7 +1,8 @@
 //! A channel of which `checks/refused_tests.sh` refuses each allocation in turn. Whichever it is, the test passes.
 
+use crate::tests::cutting::Burst;
 use crate::tests::handed::Seen;
-use crate::tests::sessions::{Channel, WIDE, memory_transport};
+use crate::tests::sessions::{WIDE, memory_transport};
 use pl_event::{ByteString, Element, Event, Sequence};
 use pl_head::MemoryTransport;
 use pl_live::{FeedFault, Live};
@@ -11,6 +12,9 @@ use pl_text_tests::PING_SESSION;
 use pl_world::{Recorded, Session, WorldRefusal};
 use std::alloc::Global;
 use std::process::Abort;
+
+/// A live channel of built-in handlers, over memory.
+type Channel = Live<Handler, MemoryTransport>;
 
 /// The channel of a session, as it is recorded, where there is memory for it.
 fn recorded(rt: &impl Abort, alloc: Global) -> Option<Recorded<Handler, MemoryTransport>> {
@@ -36,7 +40,7 @@ fn begun(rt: &impl Abort, alloc: Global) -> Option<Channel> {
 }
 
 /// A burst of one chunk, where there is memory for it.
-fn burst(alloc: Global, bytes: &[u8]) -> Option<Sequence<Element>> {
+fn burst(alloc: Global, bytes: &[u8]) -> Option<Burst> {
     let chunk = ByteString::from_slice(alloc, bytes).ok()?;
     let mut burst = Sequence::new(alloc);
     burst.push(Element::Chunk(chunk)).ok()?;

@@ -3,7 +3,9 @@
 ghost use Rattle.std.specs.Prelude.{All, IfOk};
 ghost use Rattle.pl_world.specs.Worlds.{IsUncalled};
 
-use pl_event::{ByteString, Element, Sequence};
+use crate::tests::cutting::Bursts;
+use crate::tests::handed::Fed;
+use pl_event::Sequence;
 use pl_head::{MemoryTransport, ReadPlan, Transport};
 use pl_live::Live;
 use pl_nodes_tests::Trickle;
@@ -13,8 +15,8 @@ use pl_world::{ChannelReport, Recorded, Session, World, plain_world};
 use std::alloc::{AllocError, Global};
 use std::test::Fail;
 
-/// A live channel of built-in handlers, over memory.
-pub(crate) type Channel = Live<Handler, MemoryTransport>;
+/// A live channel of built-in handlers over memory, with what it has handed out.
+pub(crate) type Channel = Fed<MemoryTransport>;
 
 /// A session of one channel on one loop: its version, its handlers as edits, of which the first stands apart, further members
 /// of the channel, each after a comma, and its bursts.
@@ -102,37 +104,14 @@ pub(crate) fn channel_of(
 ) -> Result<Channel, Fail> {
     let Recorded { pipeline, .. } = recorded(alloc, text)?;
     let transport = memory_transport(alloc, window, fail_at);
-    Ok(Live::new(alloc, pipeline, transport)?)
+    Ok(Fed::new(alloc, Live::new(alloc, pipeline, transport)?))
 }
 
 /// The same over a transport that trickles.
-pub(crate) fn slow_channel_of(alloc: Global, text: &str) -> Result<Live<Handler, Trickle>, Fail> {
+pub(crate) fn slow_channel_of(alloc: Global, text: &str) -> Result<Fed<Trickle>, Fail> {
     let Recorded { pipeline, .. } = recorded(alloc, text)?;
-    Ok(Live::new(alloc, pipeline, trickle(alloc))?)
-}
-
-/// A chunk of these bytes.
-pub(crate) fn chunk(alloc: Global, bytes: &[u8]) -> Result<Element, AllocError> {
-    Ok(Element::Chunk(ByteString::from_slice(alloc, bytes)?))
-}
-
-/// A burst of these chunks.
-pub(crate) fn burst_of(alloc: Global, chunks: &[&[u8]]) -> Result<Sequence<Element>, Fail> {
-    let mut burst = Sequence::new(alloc);
-    for bytes in chunks {
-        burst.push(chunk(alloc, bytes)?)?;
-    }
-    Ok(burst)
-}
-
-/// Feeds a burst of these chunks.
-pub(crate) fn feed<T: Transport>(
-    live: &mut Live<Handler, T>,
-    alloc: Global,
-    chunks: &[&[u8]],
-) -> Result<(), Fail> {
-    let burst = burst_of(alloc, chunks)?;
-    Ok(live.feed(burst)?)
+    let live = Live::new(alloc, pipeline, trickle(alloc))?;
+    Ok(Fed::new(alloc, live))
 }
 
 /// Only this element.
@@ -156,7 +135,7 @@ fn one_transport<T: Transport>(alloc: Global, transport: T) -> Result<Sequence<T
 fn world_of(
     alloc: Global,
     text: &str,
-    bursts: Sequence<Sequence<Element>>,
+    bursts: Bursts,
 ) -> Result<World<Handler, MemoryTransport>, Fail> {
     let Recorded { pipeline, .. } = recorded(alloc, text)?;
     let pipelines = only(alloc, pipeline)?;
@@ -172,11 +151,7 @@ fn world_of(
 }
 
 /// The whole report of the channel of a session, were these its bursts.
-pub(crate) fn plain_of(
-    alloc: Global,
-    text: &str,
-    bursts: Sequence<Sequence<Element>>,
-) -> Result<ChannelReport, Fail> {
+pub(crate) fn plain_of(alloc: Global, text: &str, bursts: Bursts) -> Result<ChannelReport, Fail> {
     let report = plain_world(alloc, world_of(alloc, text, bursts)?)?;
     let mut channels = report.channels.into_vec();
     match channels.pop() {
