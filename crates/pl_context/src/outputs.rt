@@ -80,8 +80,8 @@ impl Outputs {
             && self.envelopes.capacity() - self.envelopes.len() > self.stops.left()
     }
 
-    /// Makes room for a given number of envelopes, beside the reserved places; for twice as many where the list has to grow and
-    /// memory allows it, since a turn makes two of each. An `Err` changes nothing.
+    /// Makes room for a given number of envelopes, beside the reserved places; where the list has to grow and memory allows it,
+    /// for as many as wait besides, since a turn makes two of each. An `Err` changes nothing.
     pub fn reserve(&mut self, additional: usize) -> Result<(), AllocError>
         ensures items { self.new.items ≡ self.old.items }
         ensures stopped { self.new.stopped ≡ self.old.stopped }
@@ -92,11 +92,16 @@ impl Outputs {
         let Some(all) = self.stops.left().checked_add(additional) else {
             return Err(AllocError);
         };
-        let room = self.envelopes.capacity() - self.envelopes.len();
-        if room >= all || self.envelopes.reserve(all.saturating_mul(2)).is_ok() {
+        let waits = self.envelopes.len();
+        if self.envelopes.capacity() - waits >= all
+            || self
+                .envelopes
+                .reserve_exact(all.saturating_add(waits))
+                .is_ok()
+        {
             return Ok(());
         }
-        self.envelopes.reserve(all)
+        self.envelopes.reserve_exact(all)
     }
 
     /// Whether this lane has stopped.
