@@ -97,15 +97,3 @@ module _ {S T : Type 0} (ps : List (ChannelPartView S T)) (c : ℕ) (p p' : Chan
       where
         never : true ≡ false → ⊥
         never s = cc
-
--- something was refused, and there is no channel that wrote it
-pub none-stands : {S T : Type 0} (ps : List (ChannelPartView S T)) (world : World) (plan : Plan) (meaning : S → Meaning) (stands_after : S → List Event → Type 0) (state : T → TransportState) (me : ℕ) (refused : Bool)
-    → NodesStand world plan meaning stands_after state me refused ps → NodesStand world plan meaning stands_after state me true ps
-none-stands ps world plan meaning stands_after state me refused stand = record {
-  parts = λ c p at. let s = stand.parts c p at in record { holds = s.holds; channel = s.channel; within = s.within; resident = s.resident; called = λ e. absurd (never e) };
-  keeps = stand.keeps;
-  number = stand.number;
-}
-  where
-    never : true ≡ false → ⊥
-    never s = cc

@@ -101,10 +101,9 @@ pub record PartRefuses {S T : Type 0} (p : ChannelPartView S T) (l : Lane) (befo
   pub path : PathRefuses p.path l before p'.path after
   pub head : p'.head ≡ p.head
 
--- So it is with the part of the lane's channel, where it has one. The others are as they were.
-pub record IsRefusedBy {S T : Type 0} (ps : List (ChannelPartView S T)) (l : Lane) (before : OutputsView) (ps' : List (ChannelPartView S T)) (after : OutputsView) : Type 0 where
-  pub here : (p : ChannelPartView S T) → slice_get ps l.channel ≡ Some p → HasMoved (λ q q'. PartRefuses q l before q' after) ps l.channel ps'
-  pub none : slice_get ps l.channel ≡ None → (ps' ≡ ps) × (after ≡ before)
+-- The part of the lane's channel has refused it so.
+abbrev pub IsRefusedBy : {S T : Type 0} → List (ChannelPartView S T) → Lane → OutputsView → List (ChannelPartView S T) → OutputsView → Type 0
+IsRefusedBy ps l before ps' after = HasMoved (λ (p p' : ChannelPartView _ _). PartRefuses p l before p' after) ps l.channel ps'
 
 -- ---- which heads are here
 

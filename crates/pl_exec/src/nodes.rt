@@ -67,10 +67,7 @@ impl<'a, W: Planned, S: Stage, T: Transport> OwnNodes<W> for ExecutorNodes<'a, S
 
     fn refuse(&mut self, lane: Lane, work: &mut Outputs) {
         self.was_refused = true;
-        let channel = lane.channel as usize;
-        if channel < self.parts.len() {
-            self.parts[channel].refuse(lane, work);
-        }
+        self.parts[lane.channel as usize].refuse(lane, work);
     }
 
     fn channels(&self) -> usize {

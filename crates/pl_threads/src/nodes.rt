@@ -58,10 +58,11 @@ pub trait OwnNodes<W: Named>: Sized {
         ensures served { ServesNone (served self.old) (served self.new) }
         ensures makes { LanesMake W.world (view_of self.old).lanes work.old (view_of self.new).lanes work.new };
 
-    /// Nothing more of a lane is accepted: the context that writes it fails. A flags lane, and a lane that a head writes,
-    /// go on, and what they bring is refused again.
+    /// Nothing more of a lane is accepted, which one of these nodes writes: a context that writes it fails. A flags lane, and
+    /// a lane that a head writes, go on, and what they bring is refused again.
     fn refuse(&mut self, lane: Lane, work: &mut Outputs)
         requires stands { stands self.old }
+        requires written { (view_of self.old).lanes.written lane ≡ true }
         requires places { HasPlaces work.old.stopped (view_of self.old).lanes.places }
         ensures stands { stands self.new }
         ensures keeps { NodesKeep (view_of self.old) (view_of self.new) }

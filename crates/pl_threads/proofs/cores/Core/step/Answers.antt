@@ -57,6 +57,9 @@ add-requires-clause-next g c =
     (away-next c.next.new.self c.requires.holds.runs c.in-Some.ensures.front c.in-Some.ensures.stopped (λ e. c.if-target-self.false (c.target-target.ensures ∙ e)))
 
 -- it is closed
+pub refuse-requires-clause-written : goal.refuse-requires-clause-written
+refuse-requires-clause-written g c = front-written c.next.new.self c.requires.holds.runs c.in-Some.ensures.front c.in-Some.ensures.stopped
+
 pub returns-in-Err-Closed-clause-holds : goal.returns-in-Err-Closed-clause-holds
 returns-in-Err-Closed-clause-holds g c =
     let o = c.args.self.now.outboxes in
