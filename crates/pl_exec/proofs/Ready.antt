@@ -62,12 +62,12 @@ executors-in-order {P = P} {N = N} first executors nodes count parts size number
     ∙ ap (range_with_len 0) (sym (length-map executors (λ (e : P). (first e).nodes)) ∙ ap length parts ∙ size)
 
 -- The nodes of executors that have ended are those of their numbers, in their order.
-pub ended-homes : {P N : Type 0} (first : P → ExecutorView N) (view_of : N → OwnNodesView) (executors : List P) (all : List (FinishedView N)) → AllZip (λ e f. EndsAs view_of (first e).number (first e).owner f) executors all
-    → map (λ f. (view_of f.nodes).home) all ≡ map (λ e. (first e).number) executors
-ended-homes first view_of [] [] h = refl
-ended-homes first view_of [] (f ∷ fs) h = absurd h
-ended-homes first view_of (e ∷ es) [] h = absurd h
-ended-homes first view_of (e ∷ es) (f ∷ fs) h = ap₂ (λ (n : ℕ) (ns : List ℕ). n ∷ ns) h.0.at_home (ended-homes first view_of es fs h.1)
+pub ended-executors : {P N : Type 0} (first : P → ExecutorView N) (view_of : N → OwnNodesView) (executors : List P) (all : List (FinishedView N)) → AllZip (λ e f. EndsAs view_of (first e).number (first e).owner f) executors all
+    → map (λ f. (view_of f.nodes).executor) all ≡ map (λ e. (first e).number) executors
+ended-executors first view_of [] [] h = refl
+ended-executors first view_of [] (f ∷ fs) h = absurd h
+ended-executors first view_of (e ∷ es) [] h = absurd h
+ended-executors first view_of (e ∷ es) (f ∷ fs) h = ap₂ (λ (n : ℕ) (ns : List ℕ). n ∷ ns) h.0.at (ended-executors first view_of es fs h.1)
 
 -- What holds of the first turn of each such executor holds of the turn 0 of each number.
 pub first-turns : {P N : Type 0} (first : P → ExecutorView N) (executors : List P) (nodes : List N) (count : ℕ) (W : ℕ → ℕ → Type 0) → map (λ e. (first e).nodes) executors ≡ nodes → length nodes ≡ count

@@ -117,7 +117,7 @@ module _ {S T : Type 0} (mid now : ExecutorNodes S T) (c : ℕ) (told : AreToldA
 
   -- and are seen so by their executor
   pub view-told : (meaning : S → Meaning) → own_view meaning now ≡ own_view meaning mid
-  view-told meaning = λ i. record { home = told.number i; lanes = told-lanes mid.parts.items c now.parts.items told.parts meaning i; channels = length (told.own i).items; was_refused = told.refused i }
+  view-told meaning = λ i. record { executor = told.number i; lanes = told-lanes mid.parts.items c now.parts.items told.parts meaning i; heads = length (told.own i).items; was_refused = told.refused i }
 
   -- so a call that they made before is as it was
   module _ (meaning : S → Meaning) (before : ExecutorNodes S T) where

@@ -46,9 +46,9 @@ lanes_here meaning ps = lanes_view meaning (entered_executor ps) ps
 -- the nodes of an executor, as it sees them
 abbrev pub own_view : {S T : Type 0} → (S → Meaning) → ExecutorNodes S T → OwnNodesView
 own_view meaning n = record {
-  home = n.number;
+  executor = n.number;
   lanes = lanes_here meaning n.parts.items;
-  channels = length n.own.items;
+  heads = length n.own.items;
   was_refused = n.was_refused;
 }
 

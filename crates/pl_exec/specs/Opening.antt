@@ -109,7 +109,7 @@ pub record PlacesView : Type 0 where
 -- one of those to its target; and each lane to them is written elsewhere. There are places for all of them, and not too many
 -- for the seats.
 pub record FitsLanes (lanes : LaneTable) (number : ℕ) (v : OwnNodesView) (places : PlacesView) : Type 0 where
-  pub at : v.home ≡ number
+  pub at : v.executor ≡ number
   pub unrefused : v.was_refused ≡ false
   pub fresh : (l : Lane) → v.lanes.written l ≡ true → v.lanes.came l ≡ point 0 false
   pub there : (l : Lane) → v.lanes.written l ≡ true → v.lanes.target l < length lanes

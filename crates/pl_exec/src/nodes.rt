@@ -70,7 +70,7 @@ impl<'a, W: Planned, S: Stage, T: Transport> OwnNodes<W> for ExecutorNodes<'a, S
         self.parts[lane.channel as usize].refuse(lane, work);
     }
 
-    fn channels(&self) -> usize {
+    fn head_count(&self) -> usize {
         self.own.len()
     }
 

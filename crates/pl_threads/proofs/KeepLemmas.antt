@@ -11,11 +11,11 @@ routes-both u v w f g = g ∙ ap (λ (x : LanesView). record x { taken = w.taken
 
 module _ {W M N S T : Type 0} {view_of : N → OwnNodesView} where
   pub keeps-none : (c : Core W M N S T) → CoreKeeps view_of c c
-  keeps-none c = record { number = refl; nodes = record { home = refl; routes = refl; channels = refl }; sends = nothing-none c.outboxes }
+  keeps-none c = record { number = refl; nodes = record { executor = refl; routes = refl; heads = refl }; sends = nothing-none c.outboxes }
 
   pub keeps-both : {a b c : Core W M N S T} → CoreKeeps view_of a b → CoreKeeps view_of b c → CoreKeeps view_of a c
   keeps-both {a} {b} {c} f g = record {
     number = g.number ∙ f.number;
-    nodes = record { home = g.nodes.home ∙ f.nodes.home; routes = routes-both (view_of a.nodes).lanes (view_of b.nodes).lanes (view_of c.nodes).lanes f.nodes.routes g.nodes.routes; channels = g.nodes.channels ∙ f.nodes.channels };
+    nodes = record { executor = g.nodes.executor ∙ f.nodes.executor; routes = routes-both (view_of a.nodes).lanes (view_of b.nodes).lanes (view_of c.nodes).lanes f.nodes.routes g.nodes.routes; heads = g.nodes.heads ∙ f.nodes.heads };
     sends = nothing-then a.outboxes b.outboxes c.outboxes f.sends g.sends;
   }

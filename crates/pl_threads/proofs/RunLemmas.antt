@@ -190,12 +190,12 @@ runs-on {world} {me} {o} {mid} {after} v v' taken r m same counts = subst (λ (u
 
 -- So a core holds again: these were its nodes, and they have put what they made on this list.
 pub holds-on : {W M N S T : Type 0} {view_of : N → OwnNodesView} {stands : N → Type 0} {world : World} {c : Core W M N S T} (nodes : N) (mid : OutputsView) (taken : Lane → ℕ)
-    → (view_of nodes).home ≡ c.number → HasPlaces mid.stopped (view_of nodes).lanes.places → RunsOn world c.number (record (view_of nodes).lanes { taken = taken }) c.outboxes mid → AdmitsOnce (view_of nodes).lanes c.outboxes mid
+    → (view_of nodes).executor ≡ c.number → HasPlaces mid.stopped (view_of nodes).lanes.places → RunsOn world c.number (record (view_of nodes).lanes { taken = taken }) c.outboxes mid → AdmitsOnce (view_of nodes).lanes c.outboxes mid
     → stands c.nodes → NodesKeep (view_of nodes) (view_of c.nodes) → (view_of c.nodes).lanes.taken ≡ taken → KeepsPlaces (view_of nodes).lanes.places mid.stopped c.work.stopped
     → LanesMake world (view_of nodes).lanes mid (view_of c.nodes).lanes c.work → ((view_of c.nodes).was_refused ≡ true → SomeClosed c.outboxes) → CoreHolds view_of stands world c
-holds-on {view_of = view_of} {c = c} nodes mid taken home places runs admits stood keeps counts placed made why = record {
+holds-on {view_of = view_of} {c = c} nodes mid taken at places runs admits stood keeps counts placed made why = record {
   stood = stood;
-  at_home = keeps.home ∙ home;
+  at = keeps.executor ∙ at;
   places = places-on (view_of nodes).lanes (view_of c.nodes).lanes mid.stopped c.work.stopped keeps.routes placed places;
   runs = runs-on (view_of nodes).lanes (view_of c.nodes).lanes taken runs made keeps.routes counts;
   why = why;
@@ -257,7 +257,7 @@ runs-stay {world} {me} {v} {o} {o'} {work} r stays = record {
 pub holds-stay : {W M N S T : Type 0} {view_of : N → OwnNodesView} {stands : N → Type 0} {world : World} {c : Core W M N S T} {o : OutboxesView} → CoreHolds view_of stands world c → Stays c.outboxes o → CoreHolds view_of stands world (record c { outboxes = o })
 holds-stay {c = c} {o = o} holds stays = record {
   stood = holds.stood;
-  at_home = holds.at_home;
+  at = holds.at;
   places = holds.places;
   runs = runs-stay holds.runs stays;
   why = λ e. stays.closed (holds.why e);

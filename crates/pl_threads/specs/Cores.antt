@@ -18,7 +18,7 @@ module _ {W M N S T : Type 0} (view_of : N → OwnNodesView) where
   -- target closed; and no more was admitted than left the list.
   pub record CoreHolds (stands : N → Type 0) (world : World) (c : Core W M N S T) : Type 0 where
     pub stood : stands c.nodes
-    pub at_home : (view_of c.nodes).home ≡ c.number
+    pub at : (view_of c.nodes).executor ≡ c.number
     pub places : HasPlaces c.work.stopped (view_of c.nodes).lanes.places
     pub runs : RunsOn world c.number (view_of c.nodes).lanes c.outboxes c.work
     pub why : (view_of c.nodes).was_refused ≡ true → SomeClosed c.outboxes

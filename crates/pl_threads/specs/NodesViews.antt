@@ -8,12 +8,12 @@ use Rattle.pl_flow.specs.declared.moves.HeadMove.{HeadMove}
 use Rattle.pl_flow.specs.LanesViews.{LanesView, SameRoutes}
 use Rattle.pl_flow.specs.Makes.{Makes}
 
--- What an executor sees of its own nodes (EventExecutor). It is the executor that they are on, their lanes, how many channels
--- have their heads among them, and whether one of them has failed by a refusal.
+-- What an executor sees of its own nodes (EventExecutor). It is the executor that they are on, their lanes, how many heads are
+-- among them, and whether one of them has failed by a refusal.
 pub record OwnNodesView : Type 0 where
-  pub home : ℕ
+  pub executor : ℕ
   pub lanes : LanesView
-  pub channels : ℕ
+  pub heads : ℕ
   pub was_refused : Bool
 
 -- What nodes do (ChannelHandler). It is what a node makes of an item that it takes, what becomes of the node that writes a
@@ -26,11 +26,11 @@ pub record NodesActs (N : Type 0) : Type 1 where
   pub moves : N → HeadMove → ℕ → OutputsView → N → OutputsView → Type 0
 
 -- What no call of the nodes changes. Those are the nodes' executor, where each lane goes, which are written, for which they
--- need places, and how many channels there are.
+-- need places, and how many heads there are.
 pub record NodesKeep (v v' : OwnNodesView) : Type 0 where
-  pub home : v'.home ≡ v.home
+  pub executor : v'.executor ≡ v.executor
   pub routes : SameRoutes v.lanes v'.lanes
-  pub channels : v'.channels ≡ v.channels
+  pub heads : v'.heads ≡ v.heads
 
 -- what nodes have put on a list is next on the lanes that they write
 abbrev pub LanesMake : World → LanesView → OutputsView → LanesView → OutputsView → Type 0

@@ -72,6 +72,6 @@ module _ {N : Type 0} (view_of : N → OwnNodesView) where
   -- and the right is that to the same queue.
   pub record EndsAs (me : ℕ) (owner : OwnerSeatView) (f : FinishedView N) : Type 0 where
     pub number : f.number ≡ me
-    pub at_home : (view_of f.nodes).home ≡ me
+    pub at : (view_of f.nodes).executor ≡ me
     pub name : f.owner.name ≡ owner.name
     pub finished : IsFinished f

@@ -96,7 +96,7 @@ impl<'a, W: Named, M: Mailbox<W> + Drop, N: OwnNodes<W> + Drop> Core<'a, W, M, N
     /// A move of a channel's head, with the direct calls that follow. False where it is not enabled.
     #[inline(always)]
     pub fn move_head<R: Wait>(&mut self, rt: &R, by: HeadMove, at: usize) -> bool
-        requires there { at < (N.view_of self.old.nodes).channels }
+        requires there { at < (N.view_of self.old.nodes).heads }
         requires holds { CoreHolds N.view_of N.stands W.world self.old }
         requires empty { self.old.work.items ≡ [] }
         ensures enabled { N.may_move self.old.nodes by at result }

@@ -101,7 +101,7 @@ impl<'a, W: Named, M: Mailbox<W> + Drop, N: OwnNodes<W> + Drop> Executor<'a, W, 
         owner: OwnerSeat,
     ) -> Self
         requires stands { N.stands core.nodes }
-        requires home { (N.view_of core.nodes).home ≡ core.number }
+        requires executor { (N.view_of core.nodes).executor ≡ core.number }
         requires places { HasPlaces core.work.stopped (N.view_of core.nodes).lanes.places }
         requires runs { RunsOn W.world core.number (N.view_of core.nodes).lanes core.outboxes core.work }
         requires why { (N.view_of core.nodes).was_refused ≡ true → SomeClosed core.outboxes }
@@ -142,7 +142,7 @@ impl<'a, W: Named, M: Mailbox<W> + Drop, N: OwnNodes<W> + Drop> Executor<'a, W, 
         ensures served { ServesAtMostOnce (N.served self.old.nodes) (N.served self.new.nodes) }
         // What it did, one after another; its own queue and the turn's number aside.
         ensures does { Turns N.view_of N.acts self.old (record self.new { owner = self.old.owner; turns = self.old.turns }) }
-        ensures idle { result ≢ Worked → IsStill self.old self.new × ((c : ℕ) → c < (N.view_of self.new.nodes).channels → (by : HeadMove) → N.may_move self.new.nodes by c false) }
+        ensures idle { result ≢ Worked → IsStill self.old self.new × ((c : ℕ) → c < (N.view_of self.new.nodes).heads → (by : HeadMove) → N.may_move self.new.nodes by c false) }
         ensures done { result ≡ Done → (is_closed self.new.owner.phase ≡ true) × N.are_over self.new.nodes × ((y : ℕ) → waits_for self.new.outboxes y ≡ []) }
         ensures name { self.new.owner.name ≡ self.old.owner.name }
         // It begins to close, and closes, only where all here had ended before the turn.
@@ -174,7 +174,7 @@ impl<'a, W: Named, M: Mailbox<W> + Drop, N: OwnNodes<W> + Drop> Executor<'a, W, 
         ensures sends { SendsAtMostOne self.old.outboxes self.new.outboxes }
         ensures served { ServesAtMostOnce (N.served self.old.nodes) (N.served self.new.nodes) }
         ensures does { Turns N.view_of N.acts self.old self.new }
-        ensures idle { result ≡ false → IsStill self.old self.new × ((c : ℕ) → c < (N.view_of self.new.nodes).channels → (by : HeadMove) → N.may_move self.new.nodes by c false) }
+        ensures idle { result ≡ false → IsStill self.old self.new × ((c : ℕ) → c < (N.view_of self.new.nodes).heads → (by : HeadMove) → N.may_move self.new.nodes by c false) }
     {
         let handed = self.hand(rt, gate).is_some();
         let ran = self.run_task(rt, gate);
@@ -195,7 +195,7 @@ impl<'a, W: Named, M: Mailbox<W> + Drop, N: OwnNodes<W> + Drop> Executor<'a, W, 
         ensures serves { OnlyServes self.old self.new }
         ensures served { ServesAtMostOnce (N.served self.old.nodes) (N.served self.new.nodes) }
         ensures moves { ServesOne N.view_of N.acts self.old self.new }
-        ensures idle { result ≡ false → (self.new ≡ self.old) × ((c : ℕ) → c < (N.view_of self.new.nodes).channels → (by : HeadMove) → N.may_move self.new.nodes by c false) }
+        ensures idle { result ≡ false → (self.new ≡ self.old) × ((c : ℕ) → c < (N.view_of self.new.nodes).heads → (by : HeadMove) → N.may_move self.new.nodes by c false) }
     {
         // Where its reads waited in the last turn, nothing has moved since.
         if !self.may_read() && (self.reads_wait || !self.core.nodes.has_ended()) {
@@ -294,19 +294,19 @@ impl<'a, W: Named, M: Mailbox<W> + Drop, N: OwnNodes<W> + Drop> Executor<'a, W, 
         ensures serves { OnlyServes self.old self.new }
         ensures served { ServesBy reads (N.served self.old.nodes) (N.served self.new.nodes) }
         ensures moves { ServesOne N.view_of N.acts self.old self.new }
-        ensures idle { result ≡ false → (self.new ≡ self.old) × ((c : ℕ) → c < (N.view_of self.new.nodes).channels → (by : HeadMove) → is_asked reads by ≡ true → N.may_move self.new.nodes by c false) }
+        ensures idle { result ≡ false → (self.new ≡ self.old) × ((c : ℕ) → c < (N.view_of self.new.nodes).heads → (by : HeadMove) → is_asked reads by ≡ true → N.may_move self.new.nodes by c false) }
     {
         let Some(first) = self.first() else {
             return false;
         };
-        let count = self.channels();
+        let count = self.head_count();
         self.serve_between(rt, first, count, reads) || self.serve_between(rt, 0, first, reads)
     }
 
     /// One read step, where `reads` says so, and one write of the first channel from one on, up to another, that has any of
     /// these enabled; then the one behind it is asked next. False where none has.
     fn serve_between<R: Wait>(&mut self, rt: &R, from: usize, to: usize, reads: bool) -> bool
-        requires there { to ≤ (N.view_of self.old.nodes).channels }
+        requires there { to ≤ (N.view_of self.old.nodes).heads }
         ensures serves { OnlyServes self.old self.new }
         ensures served { ServesBy reads (N.served self.old.nodes) (N.served self.new.nodes) }
         ensures moves { ServesOne N.view_of N.acts self.old self.new }
@@ -324,10 +324,10 @@ impl<'a, W: Named, M: Mailbox<W> + Drop, N: OwnNodes<W> + Drop> Executor<'a, W, 
 
     /// The channel that is asked next. None where none has its head here.
     fn first(&self) -> Option<usize>
-        ensures there { IfSome result (λ at. at < (N.view_of self.now.nodes).channels) }
-        ensures none { IfNone result ((N.view_of self.now.nodes).channels ≡ 0) }
+        ensures there { IfSome result (λ at. at < (N.view_of self.now.nodes).heads) }
+        ensures none { IfNone result ((N.view_of self.now.nodes).heads ≡ 0) }
     {
-        let count = self.channels();
+        let count = self.head_count();
         if self.next < count {
             return Some(self.next);
         }
@@ -335,15 +335,15 @@ impl<'a, W: Named, M: Mailbox<W> + Drop, N: OwnNodes<W> + Drop> Executor<'a, W, 
     }
 
     /// How many channels have their heads here.
-    fn channels(&self) -> usize
-        ensures { result ≡ (N.view_of self.now.nodes).channels }
+    fn head_count(&self) -> usize
+        ensures { result ≡ (N.view_of self.now.nodes).heads }
     {
-        self.core.nodes.channels()
+        self.core.nodes.head_count()
     }
 
     /// One read step of a channel, where `reads` says so, and one write. False where neither was enabled.
     fn serve<R: Wait>(&mut self, rt: &R, at: usize, reads: bool) -> bool
-        requires there { at < (N.view_of self.old.nodes).channels }
+        requires there { at < (N.view_of self.old.nodes).heads }
         ensures serves { OnlyServes self.old self.new }
         ensures served { ServesBy reads (N.served self.old.nodes) (N.served self.new.nodes) }
         ensures moves { ServesOne N.view_of N.acts self.old self.new }
@@ -357,10 +357,10 @@ impl<'a, W: Named, M: Mailbox<W> + Drop, N: OwnNodes<W> + Drop> Executor<'a, W, 
     /// A move of a channel's head. False where it was not enabled.
     #[inline(always)]
     fn move_head<R: Wait>(&mut self, rt: &R, by: HeadMove, at: usize) -> bool
-        requires there { at < (N.view_of self.old.nodes).channels }
+        requires there { at < (N.view_of self.old.nodes).heads }
         ensures serves { OnlyServes self.old self.new }
         ensures served { MovesAtMostOnce by (N.served self.old.nodes) (N.served self.new.nodes) }
-        ensures count { (N.view_of self.new.nodes).channels ≡ (N.view_of self.old.nodes).channels }
+        ensures count { (N.view_of self.new.nodes).heads ≡ (N.view_of self.old.nodes).heads }
         ensures enabled { N.may_move self.old.nodes by at result }
         ensures idle { result ≡ false → self.new ≡ self.old }
         ensures moves { result ≡ true → MovesHead N.view_of N.acts by at self.old self.new }
@@ -492,7 +492,7 @@ impl<'a, W: Named, M: Mailbox<W> + Drop, N: OwnNodes<W> + Drop> Executor<'a, W, 
 
     /// Whether more may be read: nothing waits for others, and where heads are here no executor is congested.
     fn may_read(&self) -> bool {
-        self.has_handed_all() && (self.channels() == 0 || !self.core.outboxes.is_any_congested())
+        self.has_handed_all() && (self.head_count() == 0 || !self.core.outboxes.is_any_congested())
     }
 
     /// Whether nothing waits for others.

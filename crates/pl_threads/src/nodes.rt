@@ -45,7 +45,7 @@ pub trait OwnNodes<W: Named>: Sized {
     /// The node that the envelope's lane enters takes it.
     fn take(&mut self, envelope: Envelope, work: &mut Outputs)
         requires stands { stands self.old }
-        requires here { (view_of self.old).lanes.target envelope.lane ≡ (view_of self.old).home }
+        requires here { (view_of self.old).lanes.target envelope.lane ≡ (view_of self.old).executor }
         requires number { envelope.number ≡ (view_of self.old).lanes.taken envelope.lane }
         requires good { IsGood W.world envelope }
         requires places { HasPlaces work.old.stopped (view_of self.old).lanes.places }
@@ -73,13 +73,13 @@ pub trait OwnNodes<W: Named>: Sized {
         ensures refuses { acts.refuses self.old lane work.old self.new work.new }
         ensures makes { LanesMake W.world (view_of self.old).lanes work.old (view_of self.new).lanes work.new };
 
-    /// How many channels have their heads among these nodes: those that a turn reads and writes.
-    fn channels(&self) -> usize
-        ensures { result ≡ (view_of self.now).channels };
+    /// How many heads are among these nodes: so many channels are read and written here.
+    fn head_count(&self) -> usize
+        ensures { result ≡ (view_of self.now).heads };
 
     /// The head of a channel makes a move, where that is enabled. False where it made none.
     fn move_head(&mut self, by: HeadMove, at: usize, work: &mut Outputs) -> bool
-        requires there { at < (view_of self.old).channels }
+        requires there { at < (view_of self.old).heads }
         requires stands { stands self.old }
         requires places { HasPlaces work.old.stopped (view_of self.old).lanes.places }
         ensures enabled { may_move self.old by at result }

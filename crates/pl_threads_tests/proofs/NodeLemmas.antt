@@ -145,13 +145,13 @@ taken-one n n' s lane count here same more = λ i l. at l i
 
 -- they go the same ways, whatever they make and take
 pub keeps-own : (n n' : Node) → n'.executor ≡ n.executor → n'.first.target ≡ n.first.target → n'.first.count ≡ n.first.count → n'.second.target ≡ n.second.target → n'.second.count ≡ n.second.count → NodesKeep (node_view n) (node_view n')
-keeps-own n n' home first first-count second second-count = record {
-  home = home;
+keeps-own n n' same first first-count second second-count = record {
+  executor = same;
   routes = λ i. record (node_view n').lanes {
     written = λ l. (not (first-count i == 0) && same_lane l (lane_to (first i))) || (not (second-count i == 0) && same_lane l (lane_to (second i)));
     places = lane_to (first i) ∷ lane_to (second i) ∷ [];
   };
-  channels = refl;
+  heads = refl;
 }
 
 -- ---- what is sent

@@ -53,9 +53,9 @@ taken_of n l = cond (same_lane l (lane_to n.executor)) n.taken 0
 -- the nodes, as their executor sees them
 abbrev pub node_view : Node → OwnNodesView
 node_view n = record {
-  home = n.executor;
+  executor = n.executor;
   lanes = record { target = target_of; written = writes n; taken = taken_of n; came = came n; places = outlets_of n };
-  channels = 1;
+  heads = 1;
   was_refused = not (n.refusals == 0);
 }
 

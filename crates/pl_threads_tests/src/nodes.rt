@@ -178,7 +178,7 @@ impl<W: Named> OwnNodes<W> for Node {
         }
     }
 
-    fn channels(&self) -> usize {
+    fn head_count(&self) -> usize {
         1
     }
 

@@ -38,8 +38,8 @@ new-requires-clause-few g c =
 pub new-requires-3-clause-stands : goal.new-requires-3-clause-stands
 new-requires-3-clause-stands g c = c.requires.starts.stood
 
-pub new-requires-3-clause-home : goal.new-requires-3-clause-home
-new-requires-3-clause-home g c = c.requires.starts.fits.at
+pub new-requires-3-clause-executor : goal.new-requires-3-clause-executor
+new-requires-3-clause-executor g c = c.requires.starts.fits.at
 
 pub new-requires-3-clause-places : goal.new-requires-3-clause-places
 new-requires-3-clause-places g c =

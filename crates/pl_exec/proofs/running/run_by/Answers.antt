@@ -13,7 +13,7 @@ use Rattle.pl_exec.specs.SessionWords.{AreNewlySeated}
 use Rattle.pl_exec.specs.Starting.{AreReady}
 use Rattle.pl_exec.specs.Telling.{plan_marks}
 use Rattle.pl_exec.proofs.Columns.{inboxes-count}
-use Rattle.pl_exec.proofs.Ready.{ended-homes, executors-in-order, first-turns}
+use Rattle.pl_exec.proofs.Ready.{ended-executors, executors-in-order, first-turns}
 use Rattle.pl_exec.proofs.SeatLemmas.{planned-marks}
 use Rattle.pl_exec.proofs.running.run_by.Goals as goal
 
@@ -77,7 +77,7 @@ report_of-requires-clause-plan g c = subst (λ (p : Plan). IsPlan p) (sym c.requ
 
 pub report_of-requires-clause-executors : goal.report_of-requires-clause-executors
 report_of-requires-clause-executors g c =
-    ended-homes (λ e. e.0) (own_view g.S.Stage.meaning) c.in_ok-executors.executors.items c.in_ok-all.all.items c.in_ok-all.ensures.ended
+    ended-executors (λ e. e.0) (own_view g.S.Stage.meaning) c.in_ok-executors.executors.items c.in_ok-all.all.items c.in_ok-all.ensures.ended
     ∙ executors-in-order (λ e. e.0) c.in_ok-executors.executors.items c.in_ok-nodes.nodes.items g.W.Planned.plan.executors c.in_ok-executors.ensures.parts c.in_ok-nodes.ensures.count c.in_ok-executors.ensures.first
 
 pub report_of-requires-clause-channels : goal.report_of-requires-clause-channels

@@ -111,7 +111,7 @@ returns-clause-keeps g c =
     let m = c.move_head-has_moved in
     let puts = m.ensures.given.puts in
     keeps-told _ c.tell_if.new.self channel c.tell_if.ensures.told g.S.Stage.meaning c.args.self.now
-    (record { home = refl; routes = routes-keep c.args.self.now.parts.items channel c.index_mut.result.now m.new.self (own g (goal.at.returns-clause-keeps g c).After-index_mut) g.S.Stage.meaning puts.same puts.writes; channels = refl })
+    (record { executor = refl; routes = routes-keep c.args.self.now.parts.items channel c.index_mut.result.now m.new.self (own g (goal.at.returns-clause-keeps g c).After-index_mut) g.S.Stage.meaning puts.same puts.writes; heads = refl })
 
 pub returns-clause-taken : goal.returns-clause-taken
 returns-clause-taken g c =

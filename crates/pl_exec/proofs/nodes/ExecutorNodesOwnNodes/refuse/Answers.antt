@@ -61,7 +61,7 @@ returns-clause-stands g c =
 pub returns-clause-keeps : goal.returns-clause-keeps
 returns-clause-keeps g c =
     let puts = c.refuse.ensures.refused.puts in
-    record { home = refl; routes = routes-keep c.args.self.now.parts.items c.args.lane.channel c.index_mut.result.now c.refuse.new.self (own g (goal.at.returns-clause-keeps g c).After-index_mut) g.S.Stage.meaning puts.same puts.writes; channels = refl }
+    record { executor = refl; routes = routes-keep c.args.self.now.parts.items c.args.lane.channel c.index_mut.result.now c.refuse.new.self (own g (goal.at.returns-clause-keeps g c).After-index_mut) g.S.Stage.meaning puts.same puts.writes; heads = refl }
 
 pub returns-clause-taken : goal.returns-clause-taken
 returns-clause-taken g c =

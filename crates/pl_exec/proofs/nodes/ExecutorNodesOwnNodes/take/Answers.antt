@@ -91,7 +91,7 @@ returns-clause-keeps g c =
     let ch = c.args.envelope.lane.channel in
     let puts = c.take.ensures.puts in
     keeps-told _ c.tell_if.new.self ch c.tell_if.ensures.told g.S.Stage.meaning c.args.self.now
-    (record { home = refl; routes = routes-keep c.args.self.now.parts.items ch c.index_mut-part.result.now c.take.new.self (own g (goal.at.returns-clause-keeps g c).After-index_mut-part) g.S.Stage.meaning puts.same puts.writes; channels = refl })
+    (record { executor = refl; routes = routes-keep c.args.self.now.parts.items ch c.index_mut-part.result.now c.take.new.self (own g (goal.at.returns-clause-keeps g c).After-index_mut-part) g.S.Stage.meaning puts.same puts.writes; heads = refl })
 
 pub returns-clause-taken : goal.returns-clause-taken
 returns-clause-taken g c =

@@ -12,7 +12,7 @@ work_off-requires g c =
     let holds = c.requires.holds in
     let move = c.move_head.ensures in
     let nodes = c.args.self.now.nodes in record {
-      holds = holds-on nodes c.args.self.now.work (g.N.OwnNodes.view_of nodes).lanes.taken holds.at_home holds.places holds.runs holds.admits move.stands move.keeps move.taken move.placed move.makes (λ e. holds.why (sym move.refused ∙ e));
+      holds = holds-on nodes c.args.self.now.work (g.N.OwnNodes.view_of nodes).lanes.taken holds.at holds.places holds.runs holds.admits move.stands move.keeps move.taken move.placed move.makes (λ e. holds.why (sym move.refused ∙ e));
     }
 
 pub returns-clause-enabled : goal.returns-clause-enabled

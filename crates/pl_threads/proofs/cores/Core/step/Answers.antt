@@ -35,7 +35,7 @@ returns-then-target-self-clause-holds g c =
     let stopped = c.in-Some.ensures.stopped in
     let nodes = c.args.self.now.nodes in
     let v = (g.N.OwnNodes.view_of nodes).lanes in
-    holds-on nodes c.next.new.self (taken_with v.taken c.in-Some.envelope) holds.at_home (subst (λ (s : StopsView). HasPlaces s v.places) (sym stopped) holds.places)
+    holds-on nodes c.next.new.self (taken_with v.taken c.in-Some.envelope) holds.at (subst (λ (s : StopsView). HasPlaces s v.places) (sym stopped) holds.places)
     (own-taken c.next.new.self holds.runs front stopped (sym c.target-target.ensures ∙ c.if-target-self.true)) (admits_front c.args.self.now.outboxes c.next.new.self holds.admits front stopped (omega arith))
     take.stands take.keeps take.taken take.placed take.makes (λ e. holds.why (sym take.refused ∙ e))
 
@@ -70,7 +70,7 @@ returns-in-Err-Closed-clause-holds g c =
     let adds = subst (λ (k : ℕ). Adds o k c.in-Some.envelope c.add.new.self) c.target-target.ensures c.add.ensures.adds in
     let nodes = c.args.self.now.nodes in
     let v = (g.N.OwnNodes.view_of nodes).lanes in
-    holds-on nodes c.next.new.self v.taken holds.at_home (subst (λ (s : StopsView). HasPlaces s v.places) (sym stopped) holds.places)
+    holds-on nodes c.next.new.self v.taken holds.at (subst (λ (s : StopsView). HasPlaces s v.places) (sym stopped) holds.places)
     (away-added c.next.new.self holds.runs front stopped c.add.new.self (λ e. c.if-target-self.false (c.target-target.ensures ∙ e)) adds) (admits_front c.add.new.self c.next.new.self holds.admits front stopped adds.made)
     refuse.stands refuse.keeps refuse.taken refuse.placed refuse.makes
     (λ e. refused-some o c.add.new.self c.target-target.result (subst (λ (r : Refused). RefusedBy o c.target-target.result r c.add.new.self) c.in-Err-Closed.field-0-is c.in-Err-Closed.ensures.refused))
@@ -83,7 +83,7 @@ returns-in-Ok-clause-holds g c =
     let stopped = c.in-Some.ensures.stopped in
     let adds = subst (λ (k : ℕ). Adds c.args.self.now.outboxes k c.in-Some.envelope c.add.new.self) c.target-target.ensures c.add.ensures.adds in record {
       stood = holds.stood;
-      at_home = holds.at_home;
+      at = holds.at;
       places = subst (λ (s : StopsView). HasPlaces s (g.N.OwnNodes.view_of c.args.self.now.nodes).lanes.places) (sym stopped) holds.places;
       runs = away-added c.next.new.self holds.runs front stopped c.add.new.self (λ e. c.if-target-self.false (c.target-target.ensures ∙ e)) adds;
       why = λ e. adds.closed (holds.why e);
@@ -142,7 +142,7 @@ unreachable-requires g c = never-spent c.requires.holds.admits (subst (λ (r : R
 pub returns-in_default-clause-holds : goal.returns-in_default-clause-holds
 returns-in_default-clause-holds g c = record {
   stood = c.requires.holds.stood;
-  at_home = c.requires.holds.at_home;
+  at = c.requires.holds.at;
   places = search rules;
   runs = search rules;
   why = c.requires.holds.why;
@@ -168,4 +168,4 @@ returns-in-Err-Closed-clause-taken g c = λ l w. ap (λ (n : Lane → ℕ). n l)
 pub returns-in-Ok-clause-keeps : goal.returns-in-Ok-clause-keeps
 returns-in-Ok-clause-keeps g c =
     let adds = c.add.ensures.adds in
-    record { number = refl; nodes = record { home = refl; routes = refl; channels = refl }; sends = record { sends = adds.sends; tried = adds.tried } }
+    record { number = refl; nodes = record { executor = refl; routes = refl; heads = refl }; sends = record { sends = adds.sends; tried = adds.tried } }
