@@ -184,12 +184,12 @@ fn executor<'a, W: Named, M: Mailbox<W> + Drop, N: OwnNodes<W> + Drop>(
         parker,
     } = own;
     let outboxes = outboxes(alloc, inboxes, columns)?;
-    let core = Core {
+    let core = Core::of(
         number,
         nodes,
-        outboxes: Outboxes::new(alloc, outboxes, places.targets.as_slice())?,
-        work: Outputs::new(alloc, places.work)?,
-    };
+        Outboxes::new(alloc, outboxes, places.targets.as_slice())?,
+        Outputs::new(alloc, places.work)?,
+    );
     Ok((Executor::new(core, &inboxes[number], taker, owner), parker))
 }
 

@@ -2,10 +2,14 @@
 
 ghost use Rattle.std.specs.Prelude.{◌≡◌, ◌<◌, [], false, true};
 ghost use Rattle.pl_event.specs.declared.envelopes.Envelope.{Envelope};
+ghost use Rattle.pl_context.specs.Stops.{HasPlaces};
 ghost use Rattle.pl_flow.specs.Flows.{IsGood};
 ghost use Rattle.pl_flow.specs.LanesViews.{taken_with};
+ghost use Rattle.pl_outbox.specs.Admitting.{FewLanes};
+ghost use Rattle.pl_outbox.specs.OutboxViews.{admissions, SomeClosed};
 ghost use Rattle.pl_threads.specs.Cores.{CoreHolds, CoreKeeps, FrontGoes, WorksOff, WorksOffAfter, at_work};
 ghost use Rattle.pl_threads.specs.NodesViews.{TakesOwn};
+ghost use Rattle.pl_threads.specs.Running.{RunsOn};
 ghost use Rattle.pl_threads.specs.Serving.{ServesNone, MovesAtMostOnce};
 
 use crate::nodes::OwnNodes;
@@ -21,13 +25,36 @@ use std::sync::Wait;
 #[derive(Drop)]
 pub struct Core<'a, W: Named, M: Mailbox<W> + Drop, N: OwnNodes<W> + Drop> {
     /// The executor's number.
-    pub number: usize,
-    pub nodes: N,
-    pub outboxes: Outboxes<'a, W, M>,
-    pub work: Outputs,
+    pub(crate) number: usize,
+    pub(crate) nodes: N,
+    pub(crate) outboxes: Outboxes<'a, W, M>,
+    pub(crate) work: Outputs,
 }
 
 impl<'a, W: Named, M: Mailbox<W> + Drop, N: OwnNodes<W> + Drop> Core<'a, W, M, N> {
+    /// The nodes of the executor of this number, with its outboxes and an empty work list, each with a place for every lane that
+    /// may stop there. The nodes write fewer than 2^13 lanes, and no seat has made an admission: so none is ever spent.
+    #[tactic(auto, using(pl_outbox::proofs::AdmissionLemmas::admits_start))]
+    pub fn of(number: usize, nodes: N, outboxes: Outboxes<'a, W, M>, work: Outputs) -> Self
+        requires stands { N.stands nodes }
+        requires executor { (N.view_of nodes).executor ≡ number }
+        requires places { HasPlaces work.stopped (N.view_of nodes).lanes.places }
+        requires runs { RunsOn W.world number (N.view_of nodes).lanes outboxes work }
+        requires why { (N.view_of nodes).was_refused ≡ true → SomeClosed outboxes }
+        requires few { FewLanes (N.view_of nodes).lanes }
+        requires admitted { admissions outboxes ≡ 0 }
+        requires empty { work.items ≡ [] }
+        ensures value { result ≡ record { number = number; nodes = nodes; outboxes = outboxes.entry; work = work } }
+        ensures holds { CoreHolds N.view_of N.stands W.world result }
+    {
+        Core {
+            number,
+            nodes,
+            outboxes,
+            work,
+        }
+    }
+
     /// Takes the front of the work list: a direct call, or an item for another executor, to its outbox. Where that executor
     /// is closed, the context that wrote it fails. The seat there is never spent. False where the list is empty.
     pub fn step(&mut self) -> bool

@@ -5,16 +5,15 @@ ghost use Rattle.pl_event.specs.declared.envelopes.Envelope.{Envelope};
 ghost use Rattle.pl_event.specs.Worlds.{FitsWorld};
 ghost use Rattle.pl_queue.specs.Rule.{TakerSees, WasOnce};
 ghost use Rattle.pl_queue.specs.Views.{next_of, after_take};
-ghost use Rattle.pl_context.specs.Stops.{HasPlaces};
 ghost use Rattle.pl_context.specs.WaitingViews.{Entry, Holds};
 ghost use Rattle.pl_flow.specs.declared.moves.HeadMove.{HeadMove};
 ghost use Rattle.pl_words.specs.declared.status.Status.TheVariants.{Accepting};
 ghost use Rattle.pl_words.specs.Phases.{rank};
 ghost use Rattle.pl_words.specs.Admissions.{AdmittedView, OwnerSeatView, new_owner_seat};
-ghost use Rattle.pl_outbox.specs.Admitting.{FewLanes};
-ghost use Rattle.pl_outbox.specs.OutboxViews.{admissions, waits_for, is_closed, SomeClosed, SameFor, Sends, SendsNothing, oldest_untried};
+ghost use Rattle.pl_outbox.specs.OutboxViews.{waits_for, is_closed, SomeClosed, SameFor, Sends, SendsNothing, oldest_untried};
 ghost use Rattle.pl_threads.specs.declared.executors.Turn.TheVariants.{Worked, Idle, Done};
-ghost use Rattle.pl_threads.specs.Running.{EndsAs, IsFinished, RunsOn, IsTaking};
+ghost use Rattle.pl_threads.specs.Cores.{CoreHolds};
+ghost use Rattle.pl_threads.specs.Running.{EndsAs, IsFinished, IsTaking};
 ghost use Rattle.pl_threads.specs.Serving.{ServesNone, WritesAtMostOnce, MovesAtMostOnce, ServesAtMostOnce, ServesBy, is_asked};
 ghost use Rattle.pl_threads.specs.Turning.{SendsAtMostOne, TakesAtMostOne, TakesOne, IsStill, OnlyServes, MovesHead, ServesOne, Turns};
 
@@ -90,23 +89,15 @@ impl<'a, W: Named, M: Mailbox<W> + Drop, N: OwnNodes<W> + Drop> Model for Execut
 }
 
 impl<'a, W: Named, M: Mailbox<W> + Drop, N: OwnNodes<W> + Drop> Executor<'a, W, M, N> {
-    /// An executor with these nodes and outboxes, and the taker and the owner's seat of its own inbox, from which nothing was
-    /// taken, and which is accepting. What the taker is to take first is the next of its lane for the nodes. These write
-    /// fewer than 2^13 lanes, and no seat has made an admission: so none is ever spent.
-    #[tactic(auto, using(pl_outbox::proofs::AdmissionLemmas::admits_start))]
+    /// An executor with this core, and the taker and the owner's seat of its own inbox, from which nothing was taken, and which
+    /// is accepting. What the taker is to take first is the next of its lane for the nodes.
     pub fn new(
         core: Core<'a, W, M, N>,
         inbox: &'a Inbox<W, M>,
         taker: M::Taker,
         owner: OwnerSeat,
     ) -> Self
-        requires stands { N.stands core.nodes }
-        requires executor { (N.view_of core.nodes).executor ≡ core.number }
-        requires places { HasPlaces core.work.stopped (N.view_of core.nodes).lanes.places }
-        requires runs { RunsOn W.world core.number (N.view_of core.nodes).lanes core.outboxes core.work }
-        requires why { (N.view_of core.nodes).was_refused ≡ true → SomeClosed core.outboxes }
-        requires few { FewLanes (N.view_of core.nodes).lanes }
-        requires admitted { admissions core.outboxes ≡ 0 }
+        requires holds { CoreHolds N.view_of N.stands W.world core }
         requires empty { core.work.items ≡ [] }
         requires taker { M.ends.is_taker inbox.now.mailbox taker }
         requires taking { IsTaking core.number (N.view_of core.nodes).lanes (M.ends.takes_of taker).counts }

@@ -81,12 +81,12 @@ pub(crate) fn executor<'a, W: Named, M: Mailbox<W> + Drop>(
         outbox(&inboxes.third, third),
     )?;
     let inbox = inbox_of(inboxes, node.executor);
-    let core = Core {
-        number: usize::from(node.executor),
-        nodes: node,
-        outboxes: Outboxes::new(alloc, outboxes, &[1, 1, 1])?,
-        work: Outputs::new(alloc, 2)?,
-    };
+    let core = Core::of(
+        usize::from(node.executor),
+        node,
+        Outboxes::new(alloc, outboxes, &[1, 1, 1])?,
+        Outputs::new(alloc, 2)?,
+    );
     Ok((Executor::new(core, inbox, taker, owner), parker))
 }
 

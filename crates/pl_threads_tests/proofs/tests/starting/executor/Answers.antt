@@ -3,6 +3,7 @@ use Rattle.pl_context.specs.Stops.{HasPlaces, StopsView}
 use Rattle.pl_queue.specs.declared.views.TakeCount.{TakeCount}
 use Rattle.pl_queue.specs.declared.views.TakerView.{TakerView}
 use Rattle.pl_outbox.specs.OutboxViews.{OutboxView}
+use Rattle.pl_threads.specs.declared.cores.Core.{Core}
 use Rattle.pl_threads.specs.Running.{IsTaking, RunsOn}
 use Rattle.pl_threads_tests.specs.declared.nodes.Outlet.{Outlet}
 use Rattle.pl_threads_tests.specs.Nodes.{lane_to, node_view, outlets_of}
@@ -10,12 +11,12 @@ use Rattle.pl_threads_tests.specs.Openings.{HasLane}
 use Rattle.pl_threads_tests.proofs.StartLemmas.{HasWay, few-lanes, has-way, node-runs, node-taking, two-places}
 use Rattle.pl_threads_tests.proofs.tests.starting.executor.Goals as goal
 
-pub new-requires-3-clause-places : goal.new-requires-3-clause-places
-new-requires-3-clause-places g c =
+pub of-requires-clause-places : goal.of-requires-clause-places
+of-requires-clause-places g c =
     subst (λ (s : StopsView). HasPlaces s (outlets_of c.args.node)) (sym c.in_ok-new-2.ensures.places) (two-places (lane_to c.args.node.first.target) (lane_to c.args.node.second.target))
 
-pub new-requires-3-clause-runs : goal.new-requires-3-clause-runs
-new-requires-3-clause-runs g c =
+pub of-requires-clause-runs : goal.of-requires-clause-runs
+of-requires-clause-runs g c =
     let n = c.args.node in
     let o = c.in_ok-new.field-0 in
     let work = c.in_ok-new-2.field-0 in
@@ -30,12 +31,13 @@ new-requires-3-clause-runs g c =
     (node-runs n ready.stands ready.fresh o made.waits (by n.first ready.first) (by n.second ready.second)
     g.W.Named.world work c.in_ok-new-2.ensures.empty made.places (ap (λ (bs : List OutboxView). length bs) (made.outboxes ∙ three)))
 
-pub new-requires-3-clause-few : goal.new-requires-3-clause-few
-new-requires-3-clause-few g c = few-lanes c.args.node
+pub of-requires-clause-few : goal.of-requires-clause-few
+of-requires-clause-few g c = few-lanes c.args.node
 
 pub new-requires-3-clause-taking : goal.new-requires-3-clause-taking
 new-requires-3-clause-taking g c =
     let n = c.args.node in
-    subst (λ (number : ℕ). IsTaking number (node_view n).lanes (g.M.Mailbox.ends.takes_of c.args.place.own.taker).counts) (sym c.from.ensures)
+    subst (λ (core : Core _ _ _ _ _). IsTaking core.number (node_view core.nodes).lanes (g.M.Mailbox.ends.takes_of c.args.place.own.taker).counts) (sym c.of.ensures.value)
+    (subst (λ (number : ℕ). IsTaking number (node_view n).lanes (g.M.Mailbox.ends.takes_of c.args.place.own.taker).counts) (sym c.from.ensures)
     (subst (λ (counts : List TakeCount). IsTaking n.executor (node_view n).lanes counts) (sym (ap (λ (t : TakerView). t.counts) c.requires.place.own.takes))
-    (node-taking n c.requires.ready.stands c.requires.ready.fresh))
+    (node-taking n c.requires.ready.stands c.requires.ready.fresh)))
