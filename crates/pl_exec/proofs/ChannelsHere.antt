@@ -11,6 +11,7 @@ use Rattle.std.proofs.lemmas.List.Elements.{All-contains, All-from_get_or, All-w
 use Rattle.std.proofs.lemmas.List.Sums.{list_all-from_AllPass}
 use Rattle.std.proofs.lemmas.Map.Made.{is_member-Decides}
 use Rattle.std.proofs.lemmas.Option.{none-some, slice_get_within}
+use Rattle.std.proofs.option.Match.{None-if_not_some}
 use Rattle.pl_event.specs.declared.events.Event.{Event}
 use Rattle.pl_event.specs.Meaning.{Meaning}
 use Rattle.pl_event.specs.Worlds.{World}
@@ -30,10 +31,6 @@ use Rattle.pl_event.proofs.Lists.{at-index}
 
 -- ---- a part that has no node here
 
-no-some : {A : Type 0} (o : Option A) → is_some o ≡ false → o ≡ None
-no-some None e = refl
-no-some (Some x) e = absurd (both_ways true e refl)
-
 module _ {S T : Type 0} (world : World) (meaning : S → Meaning) (stands_after : S → List Event → Type 0) (state : T → TransportState) (me c : ℕ) (refused : Bool) (p : ChannelPartView S T)
     (stands : ShareStands world meaning stands_after state me refused c p) (none : Contains p.path.executors me → ⊥) where
   no-node : (hop : ℕ) → hop ≤ head_hop p → has_node p hop ≡ false
@@ -45,7 +42,7 @@ module _ {S T : Type 0} (world : World) (meaning : S → Meaning) (stands_after 
   no-head : p.head ≡ None
   no-head =
       let hop = head_hop p in
-      no-some p.head
+      None-if_not_some p.head
       (sym (cond-true (hop == hop) (is_some p.head) (if hop == p.path.tail_hop then is_some p.path.tail else is_some (context_at p.path hop)) (eq-eqb hop hop refl))
       ∙ no-node hop (omega arith))
 
@@ -58,7 +55,7 @@ module _ {S T : Type 0} (world : World) (meaning : S → Meaning) (stands_after 
   no-tail : p.path.tail ≡ None
   no-tail =
       let hop = p.path.tail_hop in
-      no-some p.path.tail (sym (cond-true (hop == hop) (is_some p.path.tail) (is_some (context_at p.path hop)) (eq-eqb hop hop refl)) ∙ no-other hop stands.within)
+      None-if_not_some p.path.tail (sym (cond-true (hop == hop) (is_some p.path.tail) (is_some (context_at p.path hop)) (eq-eqb hop hop refl)) ∙ no-other hop stands.within)
 
   no-context : (hop : ℕ) → hop < head_hop p → is_slot_over (context_at p.path hop) ≡ true
   no-context hop below = by (context_at p.path hop) refl

@@ -3,6 +3,7 @@ use Rattle.std.proofs.Common.{◌≡◌, ◌≢◌, ℕ, ◌+◌, ◌≤◌, Boo
 use Rattle.std.specs.Prelude.{◌==◌, is_some, nat_lt, if◌then◌else◌}
 use Rattle.std.specs.Option.{option_map, option_map_or}
 use Rattle.std.proofs.lemmas.Bool.{cases_eq, cases_Bool, both_ways}
+use Rattle.std.proofs.option.Match.{None-if_not_some}
 use Rattle.pl_event.specs.declared.events.Event.{Event}
 use Rattle.pl_event.specs.declared.envelopes.Envelope.{Envelope}
 use Rattle.pl_event.specs.Meaning.{Meaning}
@@ -34,10 +35,6 @@ use Rattle.pl_exec.specs.Telling.{IsToldAt}
 
 more : (n : ℕ) → n ≤ n + 1
 more n = omega arith
-
-head-none : {T : Type 0} (o : Option (HeadView T)) → is_some o ≡ false → o ≡ None
-head-none None e = refl
-head-none (Some h) e = absurd (both_ways true e refl)
 
 counted-most : (n : ℕ) → one_call_more n ≤ n + 1
 counted-most n = omega arith
@@ -137,7 +134,7 @@ module _ {S T : Type 0} (state : T → TransportState) where
       (cases_Bool (e.lane.hop == head_hop p))
     where
       by : (e.lane.hop == head_hop p) ≡ true → (o : Option (HeadView T)) → p.head ≡ o → served_by state q p' ≡ served_by state q p
-      by here None at = heads-equal p p' (head-none p'.head (same.head ∙ ap (λ (o : Option (HeadView T)). is_some o) at) ∙ sym at) q
+      by here None at = heads-equal p p' (None-if_not_some p'.head (same.head ∙ ap (λ (o : Option (HeadView T)). is_some o) at) ∙ sym at) q
       by here (Some h) at =
           let r = t.head h here at in
           same-served p p' h r.0 at r.1 (ap (λ (x : HeadView T). x.input) r.2.same) (ap (λ (x : HeadView T). (state x.transport).calls) r.2.same) q

@@ -1,12 +1,9 @@
 -- How many envelopes were taken from a queue.
 use Rattle.std.proofs.Common.{◌≡◌, ℕ, ◌+◌, ◌-◌, ◌<◌, ◌≤◌, ◌^◌, min, Bool, true, false, refl, ap, sym, ◌∙◌, ⊎_elim, arith}
-use Rattle.std.proofs.lemmas.Bool.{both_ways, cases_lt}
+use Rattle.std.proofs.lemmas.Bool.{cases_lt, false≢true}
 use Rattle.std.proofs.Math.Nat.{min-eq_left, min-eq_right}
 use Rattle.pl_words.specs.Admissions.{OwnerSeatView}
 use Rattle.pl_threads.specs.Running.{IsCounting}
-
-false-true : {A : Type 0} → false ≡ true → A
-false-true e = absurd (both_ways false refl e)
 
 -- one more was taken
 pub counts-take : (owner : OwnerSeatView) (shut : Bool) (ran ran' pops pops' : ℕ) → IsCounting owner shut ran pops → shut ≡ false → ran' ≡ min (ran + 1) (2 ^ 64 - 1) → pops' ≡ pops + 1 → IsCounting owner shut ran' pops'
@@ -25,5 +22,5 @@ counts-take owner shut ran ran' pops pops' c unshut more one = record {
       let goes : ran + 1 ≤ 2 ^ 64 - 1 = omega (arith, a, le, one) in
       more ∙ min-eq_left goes ∙ ap (λ n. n + 1) a ∙ sym one ∙ sym (min-eq_left le))
       (cases_lt (2 ^ 64 - 1) pops');
-  count = λ e. false-true (sym unshut ∙ c.closed ∙ e);
+  count = λ e. absurd (false≢true (sym unshut ∙ c.closed ∙ e));
 }
