@@ -1,4 +1,4 @@
-use Rattle.std.proofs.Common.{List, ℕ, length, ap, sym, subst, ◌∙◌}
+use Rattle.std.proofs.Common.{List, ℕ, ◌<◌, ◌^◌, length, ap, sym, subst, ◌∙◌}
 use Rattle.pl_context.specs.Stops.{HasPlaces, StopsView}
 use Rattle.pl_queue.specs.declared.views.TakeCount.{TakeCount}
 use Rattle.pl_queue.specs.declared.views.TakerView.{TakerView}
@@ -33,6 +33,13 @@ of-requires-clause-runs g c =
 
 pub of-requires-clause-few : goal.of-requires-clause-few
 of-requires-clause-few g c = few-lanes c.args.node
+
+pub new-requires-3-clause-empty : goal.new-requires-3-clause-empty
+new-requires-3-clause-empty g c = ap (λ (core : Core _ _ _ _ _). core.work.items) c.of.ensures.value ∙ c.in_ok-new-2.ensures.empty
+
+pub new-requires-3-clause-number : goal.new-requires-3-clause-number
+new-requires-3-clause-number g c =
+    subst (λ (core : Core _ _ _ _ _). core.number < 2 ^ 16) (sym c.of.ensures.value) (subst (λ (number : ℕ). number < 2 ^ 16) (sym c.from.ensures) c.requires.ready.stands.small)
 
 pub new-requires-3-clause-taking : goal.new-requires-3-clause-taking
 new-requires-3-clause-taking g c =
