@@ -152,6 +152,16 @@ pub(crate) fn assert_served(
     Ok(())
 }
 
+/// The same where one chunk comes, in lines of at most 64 bytes.
+fn assert_lines(
+    rt: &(impl Abort + AllocGlobal),
+    chunk: &[u8],
+    tail: &[Told<'_>],
+    sent: &[u8],
+) -> Result<(), Fail> {
+    assert_served(rt, Protocol::Lines(64), &[Told::Chunk(chunk)], tail, sent)
+}
+
 #[test]
 fn ping(rt: HostRuntime) -> Result<(), Fail> {
     let came = [Told::Active, Told::Chunk(b"PING\r\n"), Told::ReadComplete];
@@ -215,65 +225,39 @@ pub(crate) const UNKNOWN: Told<'static> = Told::Caught(Caught::Unknown);
 
 #[test]
 fn echo_and_faults(rt: HostRuntime) -> Result<(), Fail> {
-    let came = [Told::Chunk(b"ECHO \nECHO\n\n")];
     let tail = [Told::Echo(b""), SYNTAX, UNKNOWN];
-    assert_served(
-        &rt,
-        Protocol::Lines(64),
-        &came,
-        &tail,
-        b"+\r\n-ERR syntax\r\n-ERR unknown\r\n",
-    )
+    let sent = b"+\r\n-ERR syntax\r\n-ERR unknown\r\n";
+    assert_lines(&rt, b"ECHO \nECHO\n\n", &tail, sent)
 }
 
 #[test]
 fn cr_inside_line(rt: HostRuntime) -> Result<(), Fail> {
-    let came = [Told::Chunk(b"ECHO a\r\r\n")];
-    assert_served(
-        &rt,
-        Protocol::Lines(64),
-        &came,
-        &[Told::Echo(b"a\r")],
-        b"+a\r\r\n",
-    )
+    assert_lines(&rt, b"ECHO a\r\r\n", &[Told::Echo(b"a\r")], b"+a\r\r\n")
 }
 
 #[test]
 fn totals(rt: HostRuntime) -> Result<(), Fail> {
-    let came = [Told::Chunk(b"ADD a 7\nADD b 1\nADD a 5\nGET a\n")];
+    let chunk = b"ADD a 7\nADD b 1\nADD a 5\nGET a\n";
     let tail = [
         Told::Add(b"a", 7),
         Told::Add(b"b", 1),
         Told::Add(b"a", 5),
         Told::Get(b"a"),
     ];
-    assert_served(
-        &rt,
-        Protocol::Lines(64),
-        &came,
-        &tail,
-        b":7\r\n:1\r\n:12\r\n:12\r\n",
-    )
+    assert_lines(&rt, chunk, &tail, b":7\r\n:1\r\n:12\r\n:12\r\n")
 }
 
 #[test]
 fn leading_zero(rt: HostRuntime) -> Result<(), Fail> {
-    let came = [Told::Chunk(b"ADD a 0123\n")];
-    assert_served(
-        &rt,
-        Protocol::Lines(64),
-        &came,
-        &[SYNTAX],
-        b"-ERR syntax\r\n",
-    )
+    assert_lines(&rt, b"ADD a 0123\n", &[SYNTAX], b"-ERR syntax\r\n")
 }
 
 #[test]
 fn nine_digits(rt: HostRuntime) -> Result<(), Fail> {
-    let came = [Told::Chunk(b"ADD a 999999999\nADD a 1234567890\nGET zz\n")];
+    let chunk = b"ADD a 999999999\nADD a 1234567890\nGET zz\n";
     let tail = [Told::Add(b"a", 999_999_999), SYNTAX, Told::Get(b"zz")];
     let sent = b":999999999\r\n-ERR syntax\r\n:0\r\n";
-    assert_served(&rt, Protocol::Lines(64), &came, &tail, sent)
+    assert_lines(&rt, chunk, &tail, sent)
 }
 
 #[test]
