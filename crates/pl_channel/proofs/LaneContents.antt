@@ -16,10 +16,7 @@ use Rattle.pl_channel.specs.Lanes.{channel_lanes, planned_lanes_from, planned_la
 
 -- what the first has stays
 first-has : (w v : List (Lane × List Event)) (l : Lane) (events : List Event) → content_in w l ≡ Some events → content_in (w ++ v) l ≡ Some events
-first-has [] v l events e = absurd (no e)
-  where
-    no : None ≡ Some events → ⊥
-    no e = cc
+first-has [] v l events e = absurd (none-some events e)
 first-has (entry ∷ w) v l events e = by (first-has w v l events) (same_lane l entry.0) e
   where
     by : (content_in w l ≡ Some events → content_in (w ++ v) l ≡ Some events) → (b : Bool) → cond b (Some entry.1) (content_in w l) ≡ Some events
@@ -84,11 +81,16 @@ module _ (channel : ℕ) (p : ChannelPlan) where
 
 -- ---- a plan
 
+-- the lanes of a channel behind the first are among those of the channels behind it
+behind-first : (q : ChannelPlan) (ps : List ChannelPlan) (first i hop : ℕ) → content_in (planned_lanes_from first (q ∷ ps)) (data_lane (first + suc i) hop) ≡ content_in (planned_lanes_from (first + 1) ps) (data_lane ((first + 1) + i) hop)
+behind-first q ps first i hop =
+    let next : first + suc i ≡ (first + 1) + i = omega arith in
+    first-lacks (channel_lanes first q) (planned_lanes_from (first + 1) ps) (data_lane (first + suc i) hop)
+    (no-lane first q (first + suc i) hop (planned_head_hop q + 1) 0 (λ e. omega (arith, e)))
+    ∙ ap (λ (c : ℕ). content_in (planned_lanes_from (first + 1) ps) (data_lane c hop)) next
+
 lane-from : (ps : List ChannelPlan) (first i hop : ℕ) (p : ChannelPlan) → slice_get ps i ≡ Some p → hop ≤ planned_head_hop p → content_in (planned_lanes_from first ps) (data_lane (first + i) hop) ≡ Some (content p hop)
-lane-from [] first i hop p at within = absurd (no at)
-  where
-    no : None ≡ Some p → ⊥
-    no e = cc
+lane-from [] first i hop p at within = absurd (none-some p at)
 lane-from (q ∷ ps) first zero hop p at within =
     let own : first + 0 ≡ first = omega arith in
     first-has (channel_lanes first q) (planned_lanes_from (first + 1) ps) (data_lane (first + 0) hop) (content p hop)
@@ -96,12 +98,7 @@ lane-from (q ∷ ps) first zero hop p at within =
   where
     same : q ≡ p
     same = cc at
-lane-from (q ∷ ps) first (suc i) hop p at within =
-    let next : first + suc i ≡ (first + 1) + i = omega arith in
-    first-lacks (channel_lanes first q) (planned_lanes_from (first + 1) ps) (data_lane (first + suc i) hop)
-    (no-lane first q (first + suc i) hop (planned_head_hop q + 1) 0 (λ e. omega (arith, e)))
-    ∙ ap (λ (c : ℕ). content_in (planned_lanes_from (first + 1) ps) (data_lane c hop)) next
-    ∙ lane-from ps (first + 1) i hop p at within
+lane-from (q ∷ ps) first (suc i) hop p at within = behind-first q ps first i hop ∙ lane-from ps (first + 1) i hop p at within
 
 -- Each lane of a channel of the plan carries what its plan gives it.
 pub content-planned : (plan : Plan) (channel : ℕ) (p : ChannelPlan) → slice_get plan.channels channel ≡ Some p → (hop : ℕ) → hop ≤ planned_head_hop p → content_in (planned_lanes plan) (data_lane channel hop) ≡ Some (content p hop)
@@ -128,12 +125,7 @@ past-from (q ∷ ps) first zero hop p at past =
   where
     same : q ≡ p
     same = cc at
-past-from (q ∷ ps) first (suc i) hop p at past =
-    let next : first + suc i ≡ (first + 1) + i = omega arith in
-    first-lacks (channel_lanes first q) (planned_lanes_from (first + 1) ps) (data_lane (first + suc i) hop)
-    (no-lane first q (first + suc i) hop (planned_head_hop q + 1) 0 (λ e. omega (arith, e)))
-    ∙ ap (λ (c : ℕ). content_in (planned_lanes_from (first + 1) ps) (data_lane c hop)) next
-    ∙ past-from ps (first + 1) i hop p at past
+past-from (q ∷ ps) first (suc i) hop p at past = behind-first q ps first i hop ∙ past-from ps (first + 1) i hop p at past
 
 -- It has no other lanes.
 pub lane-within : (plan : Plan) (channel : ℕ) (p : ChannelPlan) → slice_get plan.channels channel ≡ Some p → (hop : ℕ) (events : List Event) → content_in (planned_lanes plan) (data_lane channel hop) ≡ Some events → hop ≤ planned_head_hop p
