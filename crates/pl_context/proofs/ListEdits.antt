@@ -1,7 +1,10 @@
--- An element taken out of a list and put back.
+-- An element taken out of a list and put back, and one that is lent.
 use Rattle.std.proofs.Common.{◌≡◌, ℕ, ◌<◌, List, [], ◌∷◌, length, zero, suc, sym, ap, ◌∙◌, refl, get_or, arith}
 use Rattle.std.specs.Prelude.{insert, remove, slice_get, Option, Some, None, IfSome, OnSome, IsSome}
-use Rattle.std.proofs.lemmas.Option.{slice_get_read}
+use Rattle.std.specs.Borrow.{Bor}
+use Rattle.std.specs.Option.{option_copied}
+use Rattle.std.specs.Slice.{IsItemAt}
+use Rattle.std.proofs.lemmas.Option.{slice_get_read, slice_get_past}
 
 pub insert-remove : {X : Type 0} (xs : List X) (i : ℕ) (d : X) → i < length xs → insert (remove xs i) i (get_or xs i d) ≡ xs
 insert-remove [] i d h = absurd (omega (arith, h))
@@ -16,3 +19,7 @@ gap-after {X} xs ys i (Some y) is cut within =
 pub at-taken : {X : Type 0} (xs : List X) (i : ℕ) (r : Option X) → IfSome r (λ y. y ≡ get_or xs i y) → (IsSome r → i < length xs) → IfSome r (λ e. slice_get xs i ≡ Some e)
 at-taken xs i None is within = tt
 at-taken xs i (Some y) is within = slice_get_read xs (length xs) i y refl (within refl) is
+
+pub copied-item : {X : Type 0} (xs : List X) (i : ℕ) (r : Option (Bor X)) → IsItemAt xs i r → option_copied r ≡ slice_get xs i
+copied-item xs i None item = sym (slice_get_past xs i item.3)
+copied-item xs i (Some x) item = sym (slice_get_read xs (length xs) i x.now refl item.3.0 item.1)

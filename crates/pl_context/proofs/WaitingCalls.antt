@@ -12,7 +12,7 @@ use Rattle.std.proofs.lemmas.Bool.{cases_eq, eqb-true, ne_eqb}
 use Rattle.pl_event.specs.declared.envelopes.Envelope.{Envelope}
 use Rattle.pl_event.specs.declared.envelopes.Kind.{Kind}
 use Rattle.pl_event.specs.declared.envelopes.Kind.TheVariants.{Data, Flags}
-use Rattle.pl_event.proofs.Lists.{position-map, remove-map, filter-map, slice_get_none, count_by-map}
+use Rattle.pl_event.proofs.Lists.{position-map, remove-map, filter-map, slice_get_none, count_by-map, option_map-map}
 use Rattle.pl_context.specs.declared.added.Added.{Added}
 use Rattle.pl_context.specs.declared.added.Added.TheVariants.{Last, Refused, Discarded}
 use Rattle.pl_context.specs.declared.waiting.Stamp.{Stamp}
@@ -207,16 +207,15 @@ module _ {A : Type 0} (before : WaitingView A) (entries : List (Entry A)) (h : H
         targets = ap (λ (l : List (BacklogView (Stamp A))). length l) written ∙ length-set before.targets target new;
       }
 
--- ---- what waits, counted
+-- ---- what waits, counted, and one by one
 
 module _ {A : Type 0} (w : WaitingView A) (entries : List (Entry A)) (h : Holds w entries) where
   counted : (target : ℕ) → count_by (is_for target) entries ≡ count_by (is_for target) (map entry_of h.aged)
   counted target = ap (λ (l : List (Entry A)). count_by (is_for target) l) h.entries_are
 
-  pub count-past : (target : ℕ) → slice_get w.targets target ≡ None → 0 ≡ count_by (is_for target) entries
-  count-past target past =
-      sym (counted target ∙ count_by-map (is_for target) entry_of h.aged ∙ sym (length-filter (is_aged_for target) h.aged)
-      ∙ ap (λ (l : List (Aged A)). length l) (none h.aged h.holds.there))
+  -- nothing waits for a target that is not there
+  waits-past : (target : ℕ) → slice_get w.targets target ≡ None → filter (is_aged_for target) h.aged ≡ []
+  waits-past target past = none h.aged h.holds.there
     where
       none : (aged : List (Aged A)) → All (λ i. i.entry.target < length w.targets) aged → filter (is_aged_for target) aged ≡ []
       none [] there = refl
@@ -226,8 +225,34 @@ module _ {A : Type 0} (w : WaitingView A) (entries : List (Entry A)) (h : Holds 
           ap (λ (b : Bool). cond b (x ∷ filter (is_aged_for target) xs) (filter (is_aged_for target) xs)) off
           ∙ none xs (All-tail (λ (i : Aged A). i.entry.target < length w.targets) x xs there)
 
+  pub count-past : (target : ℕ) → slice_get w.targets target ≡ None → 0 ≡ count_by (is_for target) entries
+  count-past target past =
+      sym (counted target ∙ count_by-map (is_for target) entry_of h.aged ∙ sym (length-filter (is_aged_for target) h.aged)
+      ∙ ap (λ (l : List (Aged A)). length l) (waits-past target past))
+
   pub count-here : (target : ℕ) (b : BacklogView (Stamp A)) → slice_get w.targets target ≡ Some b → length b.items ≡ count_by (is_for target) entries
   count-here target b at = count-waits w h.aged h.holds target b at ∙ sym (counted target)
+
+  -- the envelope at a position
+  entry-at : (target place : ℕ) → slice_get (map (λ (e : Entry A). e.envelope) (filter (is_for target) entries)) place
+      ≡ option_map (λ (i : Aged A). i.entry.envelope) (slice_get (filter (is_aged_for target) h.aged) place)
+  entry-at target place =
+      ap (λ (l : List (Entry A)). slice_get (map (λ (e : Entry A). e.envelope) l) place) (ap (filter (is_for target)) h.entries_are ∙ filter-map (is_for target) entry_of h.aged)
+      ∙ slice_get-map (λ (e : Entry A). e.envelope) (map entry_of (filter (is_aged_for target) h.aged)) place
+      ∙ ap (option_map (λ (e : Entry A). e.envelope)) (slice_get-map entry_of (filter (is_aged_for target) h.aged) place)
+      ∙ option_map-map (λ (e : Entry A). e.envelope) entry_of (slice_get (filter (is_aged_for target) h.aged) place)
+
+  pub at-past : (target place : ℕ) → slice_get w.targets target ≡ None → None ≡ slice_get (map (λ (e : Entry A). e.envelope) (filter (is_for target) entries)) place
+  at-past target place past =
+      sym (entry-at target place ∙ ap (λ (l : List (Aged A)). option_map (λ (i : Aged A). i.entry.envelope) (slice_get l place)) (waits-past target past))
+
+  pub at-here : (target place : ℕ) (b : BacklogView (Stamp A)) → slice_get w.targets target ≡ Some b
+      → option_map (λ (x : Envelope × Stamp A). x.0) (slice_get b.items place) ≡ slice_get (map (λ (e : Entry A). e.envelope) (filter (is_for target) entries)) place
+  at-here target place b at =
+      ap (λ (l : List (Envelope × Stamp A)). option_map (λ (x : Envelope × Stamp A). x.0) (slice_get l place)) (h.holds.waits target b at)
+      ∙ ap (option_map (λ (x : Envelope × Stamp A). x.0)) (slice_get-map stamped (filter (is_aged_for target) h.aged) place)
+      ∙ option_map-map (λ (x : Envelope × Stamp A). x.0) stamped (slice_get (filter (is_aged_for target) h.aged) place)
+      ∙ sym (entry-at target place)
 
 -- ---- what was taken last
 

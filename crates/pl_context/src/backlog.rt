@@ -1,6 +1,7 @@
 //! Envelopes that wait for one target.
 
 ghost use Rattle.std.specs.Prelude.{◌≡◌, ◌+◌, ◌<◌, ◌≤◌, ◌∷◌, ◌++◌, [], length, IfOk, IfSome, IfNone, OnSome, Some, slice_get, insert, remove, ◌==◌, true, false};
+ghost use Rattle.std.specs.Option.{option_copied};
 ghost use Rattle.pl_context.specs.Stops.{HasPlaces, no_stops, any_stopped};
 ghost use Rattle.pl_context.specs.Backlogs.{AddsToken};
 
@@ -64,6 +65,13 @@ impl<A> Backlog<A> {
         ensures none { IfNone result (self.now.items ≡ []) }
     {
         self.entries.front()
+    }
+
+    /// The envelope at a position, counted from the oldest, with its token: None past the last.
+    pub fn get(&self, place: usize) -> Option<&(Envelope, A)>
+        ensures { option_copied result ≡ slice_get self.now.items place }
+    {
+        self.entries.get(place)
     }
 
     /// Whether a lane has stopped: memory ran out for an item of it, and what it brings later is discarded.

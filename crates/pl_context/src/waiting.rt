@@ -1,7 +1,7 @@
 //! Envelopes that wait for several targets, kept by target.
 
-ghost use Rattle.std.specs.Prelude.{◌≡◌, ◌≢◌, ℕ, Bool, List, [], ◌∷◌, ◌+◌, ◌<◌, ◌^◌, ◌==◌, length, map, find, position, remove, slice_get, slice_set, count_by, IfOk, MatchOption, Some, None};
-ghost use Rattle.std.specs.Option.{option_map};
+ghost use Rattle.std.specs.Prelude.{◌≡◌, ◌≢◌, ℕ, Bool, List, [], ◌∷◌, ◌+◌, ◌<◌, ◌^◌, ◌==◌, length, map, filter, find, position, remove, slice_get, slice_set, count_by, IfOk, MatchOption, Some, None};
+ghost use Rattle.std.specs.Option.{option_copied, option_map};
 ghost use Rattle.pl_context.specs.Stops.{HasPlaces, no_stops, any_stopped};
 ghost use Rattle.pl_context.specs.Backlogs.{BacklogView};
 ghost use Rattle.pl_context.specs.WaitingViews.{front_age as the_front_age};
@@ -140,6 +140,15 @@ impl<A: Drop> Waiting<A> {
             None => 0,
             Some(backlog) => backlog.len(),
         }
+    }
+
+    /// The envelope at a position among those for a target, counted from the oldest: None past the last.
+    pub fn get(&self, target: usize, place: usize) -> Option<&Envelope>
+        ensures { (entries : List (Entry A)) → Holds self.now entries → option_copied result ≡ slice_get (map (λ entry. entry.envelope) (filter (is_for target) entries)) place }
+    {
+        let backlog = self.targets.get(target)?;
+        let entry = backlog.get(place)?;
+        Some(&entry.0)
     }
 
     /// Whether nothing waits.
