@@ -1,5 +1,5 @@
 -- What contracts see of a tail: the events and flags that came to the end of a channel's inbound handlers.
-use Rattle.std.specs.Prelude.{◌≡◌, ◌⊎◌, ℕ, ◌+◌, ◌≤◌, ◌^◌, List, [], ◌∷◌, ◌++◌, Bool, true, false, if◌then◌else◌}
+use Rattle.std.specs.Prelude.{◌≡◌, ◌⊎◌, ℕ, ◌+◌, ◌≤◌, ◌^◌, List, [], ◌∷◌, ◌++◌, length, Bool, true, false, if◌then◌else◌}
 use Rattle.pl_event.specs.declared.events.Event.{Event}
 use Rattle.pl_event.specs.declared.outcomes.Cause.TheVariants.{Memory}
 use Rattle.pl_event.specs.declared.envelopes.Kind.{Kind}
@@ -14,14 +14,15 @@ use Rattle.pl_context.specs.declared.standing.Took.{Took}
 use Rattle.pl_context.specs.declared.standing.Took.TheVariants as took
 use Rattle.pl_event.specs.declared.limits.TheConstants.{MAX_ITEMS}
 
--- The tail of a channel, with its record (ChannelPipeline). For how many more events, and more flags, there is room
--- without a growth, stands beside them.
+-- The tail of a channel, with its record (ChannelPipeline): the events that it holds, and how many were handed over before
+-- them. For how many more events, and more flags, there is room without a growth, stands beside them.
 pub record TailView : Type 0 where
   pub channel : ℕ
   pub hop : ℕ
   pub taken : ℕ
   pub flags_taken : ℕ
   pub standing : Standing
+  pub handed : ℕ
   pub events : List Event
   pub flags : List Bool
   pub flags_stopped : Bool
@@ -36,6 +37,7 @@ new_tail channel k = record {
   taken = 0;
   flags_taken = 0;
   standing = stands.Open;
+  handed = 0;
   events = [];
   flags = [];
   flags_stopped = false;
@@ -99,14 +101,20 @@ RecordsFlagItem t (item.Event x) t' = t' ≡ t
 RecordsFlagItem t item.End t' = t' ≡ t
 RecordsFlagItem t (item.Fail cause) t' = t' ≡ t
 
+-- a tail that has handed its record over
+abbrev pub handed_over : TailView → TailView
+handed_over t = record t { handed = t.handed + length t.events; events = []; room = 0 }
+
 -- a tail at the same place has taken as many items
 pub record SamePlace (t t' : TailView) : Type 0 where
   pub channel : t'.channel ≡ t.channel
   pub hop : t'.hop ≡ t.hop
   pub taken : t'.taken ≡ t.taken
   pub flags_taken : t'.flags_taken ≡ t.flags_taken
+  pub handed : t'.handed ≡ t.handed
 
--- counts stay in their bounds
-pub record IsTail (taken flags_taken : ℕ) : Type 0 where
+-- Counts stay in their bounds. No more was recorded than taken.
+pub record IsTail (taken flags_taken recorded : ℕ) : Type 0 where
   pub counts : taken ≤ MAX_ITEMS
+  pub recorded_within : recorded ≤ taken
   pub flag_counts : flags_taken ≤ 2 ^ 32

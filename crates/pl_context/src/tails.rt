@@ -1,19 +1,20 @@
 //! The end of the inbound handlers of a channel.
 
-ghost use Rattle.std.specs.Prelude.{◌≡◌, ◌+◌, ◌<◌, ◌^◌, ◌∷◌, ◌++◌, [], Option, Some, None, true, false};
+ghost use Rattle.std.specs.Prelude.{◌≡◌, ◌+◌, ◌<◌, ◌^◌, ◌∷◌, ◌++◌, [], length, Option, Some, None, true, false};
 ghost use Rattle.pl_event.specs.declared.envelopes.Kind.{Kind};
 ghost use Rattle.pl_event.specs.declared.envelopes.Kind.TheVariants as kind;
 ghost use Rattle.pl_context.specs.declared.standing.Standing.TheVariants as stands;
 ghost use Rattle.pl_context.specs.declared.standing.Took.TheVariants as took;
 ghost use Rattle.pl_context.specs.Standings.{is_over, has_failed, cause_of};
 ghost use Rattle.pl_context.specs.ContextViews.{number_limit, one_of};
-ghost use Rattle.pl_context.specs.TailViews.{new_tail, EntersTail, kind_taken, taken_of, counted, RecordsItem, RecordsFlagItem, RecordsFlag, SamePlace};
+ghost use Rattle.pl_context.specs.TailViews.{new_tail, EntersTail, kind_taken, taken_of, counted, RecordsItem, RecordsFlagItem, RecordsFlag, SamePlace, handed_over};
 ghost use Rattle.pl_event.specs.declared.limits.TheConstants.{MAX_ITEMS};
 
 use crate::standing::{Standing, Took};
 use pl_event::{Cause, Envelope, Event, Item, Kind, Lane, Sequence};
 use std::alloc::Global;
 use std::marker::Model;
+use std::mem;
 
 /// The end of a channel's inbound handlers, which keeps a record of what comes to it.
 #[derive(Debug, Drop)]
@@ -24,6 +25,8 @@ pub struct Tail {
     taken: u64,
     flags_taken: u64,
     standing: Standing,
+    /// How many events were handed over, before those that it holds.
+    handed: u64,
     events: Vec<Event>,
     flags: Vec<bool>,
     /// Memory ran out for a flag.
@@ -31,14 +34,14 @@ pub struct Tail {
 }
 
 impl Model for Tail {
-    ghost use Rattle.std.specs.Prelude.{◌-◌, vec_len, vec_capacity};
+    ghost use Rattle.std.specs.Prelude.{◌+◌, ◌-◌, vec_len, vec_capacity};
     ghost use Rattle.pl_context.specs.TailViews.{TailView, IsTail};
 
     ghost Value = { TailView };
 
-    ghost view = { λ t. record { channel = t.channel; hop = t.hop; taken = t.taken; flags_taken = t.flags_taken; standing = t.standing; events = t.events.items; flags = t.flags.items; flags_stopped = t.flags_stopped; room = vec_capacity t.events - vec_len t.events; flags_room = vec_capacity t.flags - vec_len t.flags } };
+    ghost view = { λ t. record { channel = t.channel; hop = t.hop; taken = t.taken; flags_taken = t.flags_taken; standing = t.standing; handed = t.handed; events = t.events.items; flags = t.flags.items; flags_stopped = t.flags_stopped; room = vec_capacity t.events - vec_len t.events; flags_room = vec_capacity t.flags - vec_len t.flags } };
 
-    ghost invariant = { λ t. IsTail t.taken t.flags_taken };
+    ghost invariant = { λ t. IsTail t.taken t.flags_taken (t.handed + vec_len t.events) };
 }
 
 impl Tail {
@@ -52,6 +55,7 @@ impl Tail {
             taken: 0,
             flags_taken: 0,
             standing: Standing::Open,
+            handed: 0,
             events: Vec::new(alloc),
             flags: Vec::new(alloc),
             flags_stopped: false,
@@ -65,6 +69,7 @@ impl Tail {
         requires number { envelope.number ≡ kind_taken self.old envelope.lane.kind }
         requires limit { envelope.number < number_limit envelope.lane.kind }
         ensures place { (self.new.channel ≡ self.old.channel) × (self.new.hop ≡ self.old.hop) }
+        ensures handed { self.new.handed ≡ self.old.handed }
         ensures taken { (k : Kind) → kind_taken self.new k ≡ kind_taken self.old k + one_of k envelope.lane.kind }
         ensures open { envelope.lane.kind ≡ kind.Data → self.old.standing ≡ stands.Open → RecordsItem (counted kind.Data self.old) envelope.item result self.new }
         ensures ended { envelope.lane.kind ≡ kind.Data → self.old.standing ≡ stands.Ended → (result ≡ took.Ran) × (self.new ≡ counted kind.Data self.old) }
@@ -78,7 +83,7 @@ impl Tail {
         }
     }
 
-    /// The events that it took, until memory ran out for one.
+    /// The events that it took, until memory ran out for one. Those that were handed over are not among them.
     pub fn record(&self) -> &[Event]
         ensures { result.now ≡ self.now.events }
     {
@@ -90,6 +95,16 @@ impl Tail {
         ensures { result.now ≡ self.now.flags }
     {
         self.flags.as_slice()
+    }
+
+    /// Hands the record over, and goes on with an empty one, behind it. It takes no memory.
+    pub fn take_record(&mut self, alloc: Global) -> Sequence<Event>
+        ensures record { result ≡ self.old.events }
+        ensures goes_on { self.new ≡ handed_over self.old }
+    {
+        let events = mem::replace(&mut self.events, Vec::new(alloc));
+        self.handed += events.len() as u64;
+        Sequence::from_vec(events)
     }
 
     /// Gives the record up, for a report. It takes no memory.
@@ -166,6 +181,7 @@ impl Tail {
 
     /// Takes an item of the data lane, while it is open.
     fn take_open(&mut self, item: Item) -> Took
+        requires room { self.old.handed + length self.old.events < self.old.taken }
         ensures place { SamePlace self.old self.new }
         ensures takes { RecordsItem self.old item result self.new }
     {
