@@ -4,10 +4,10 @@ use crate::executor_set::{ExecutorSet, Notes};
 use std::sync::atomic::{AtomicU64, Ordering};
 
 /// Where more envelopes wait than these, their executor is congested.
-const HIGH: u64 = 16_384;
+const HIGH: u64 = 1_024;
 
 /// Where so many wait, or fewer, it no longer is.
-const LOW: u64 = 8_192;
+const LOW: u64 = 512;
 
 /// Whether an executor is congested: too much waits there for others, and nobody is to read more. It knows whose reads wait
 /// for the end of that. No contract speaks of it.

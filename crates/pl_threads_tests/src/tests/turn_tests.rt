@@ -160,19 +160,19 @@ fn reads_wait(rt: HostRuntime) -> Result<(), Fail> {
 
 const READ_ONCE_NONE_IS_CONGESTED: [Expected; 16] = [
     // It reads beside as many as may wait.
-    (Call::FirstHasWaiting(16_384), Answer::Did(false)),
+    (Call::FirstHasWaiting(1_024), Answer::Did(false)),
     WORKED,
     HANDED_TO_FIRST,
-    (Call::FirstHasWaiting(16_385), Answer::Did(true)),
+    (Call::FirstHasWaiting(1_025), Answer::Did(true)),
     WORKED,
     NOT_HANDED,
-    (Call::FirstHasWaiting(8_193), Answer::Did(true)),
+    (Call::FirstHasWaiting(513), Answer::Did(true)),
     WORKED,
     NOT_HANDED,
-    (Call::FirstHasWaiting(8_192), Answer::Did(false)),
+    (Call::FirstHasWaiting(512), Answer::Did(false)),
     WORKED,
     HANDED_TO_FIRST,
-    (Call::FirstHasWaiting(16_385), Answer::Did(true)),
+    (Call::FirstHasWaiting(1_025), Answer::Did(true)),
     // All has ended, so nothing is left to read, and no read waits.
     (Call::TakeFirst, Answer::Took(Some(0))),
     (Call::TakeFirst, Answer::Took(Some(1))),
@@ -200,10 +200,10 @@ fn beyond_and_back(alloc: Global) -> Result<Vec<Expected>, AllocError> {
     let not_congested = (Call::IsCongested, Answer::Did(false));
     let mut rows = Vec::new(alloc);
     // The first is handed over, and all others wait.
-    add_times(&mut rows, 16_385, &[ADMITTED, PUSHED, WORKED])?;
+    add_times(&mut rows, 1_025, &[ADMITTED, PUSHED, WORKED])?;
     rows.push(not_congested)?;
     add_times(&mut rows, 1, &[ADMITTED, PUSHED, WORKED])?;
-    for number in 0..8_193 {
+    for number in 0..513 {
         rows.push(congested)?;
         rows.push((Call::TakeFirst, Answer::Took(Some(number))))?;
         rows.push(WORKED)?;
@@ -216,7 +216,7 @@ fn beyond_and_back(alloc: Global) -> Result<Vec<Expected>, AllocError> {
 #[test]
 fn congested_by_what_waits(rt: HostRuntime) -> Result<(), Fail> {
     let rows = beyond_and_back(rt.alloc())?;
-    let nodes = forwarder((16_386, 0), 16_386);
+    let nodes = forwarder((1_026, 0), 1_026);
     play::<Brand, RingBox<Brand>, _>(&rt, rt.alloc(), 1, nodes, rows.as_slice())
 }
 
