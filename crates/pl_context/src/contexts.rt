@@ -213,6 +213,10 @@ impl<S: Stage> Context<S> {
         match changed {
             Changed::No => self.take_item(envelope, outputs),
             Changed::Up => {
+                if self.down_events.is_empty() {
+                    self.up.hand_on(envelope, outputs);
+                    return Took::Ran;
+                }
                 let put = put_changed(
                     &mut self.up,
                     &mut self.down,
@@ -424,10 +428,6 @@ fn put_changed(
     ensures grows { OnErr result (outputs.old.room ≤ outputs.new.room) }
     ensures why { OnErr result (outputs.old.room < length (offers up.old down.old (envelope.item ∷ []) (as_items below.old.items))) }
 {
-    if below.is_empty() {
-        up.hand_on(envelope, outputs);
-        return Ok(());
-    }
     let above = up.places(1);
     match outputs.reserve(above + down.places(below.len())) {
         Ok(()) => {

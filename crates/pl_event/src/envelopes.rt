@@ -36,9 +36,10 @@ pub enum Item {
 /// An item with its lane and its number there.
 #[derive(Clone, Debug, PartialEq, Eq, Drop)]
 pub struct Envelope {
-    pub lane: Lane,
-    pub number: u64,
     pub item: Item,
+    pub number: u64,
+    // Last, so that where its parts are copied one by one, all before them is copied in whole words.
+    pub lane: Lane,
 }
 
 impl Envelope {

@@ -1,39 +1,20 @@
-use Rattle.std.proofs.Common.{◌≡◌, ◌∷◌, [], ℕ, length, sym, ap, subst, ◌∙◌, arith, length-append}
+use Rattle.std.proofs.Common.{◌≡◌, ◌∷◌, [], ℕ, length, ap, subst, ◌∙◌, arith, length-append}
 use Rattle.std.specs.Prelude.{if◌then◌else◌}
-use Rattle.std.proofs.lemmas.Bool.{eqb-true}
-use Rattle.std.proofs.lemmas.List.{nil_from_length}
 use Rattle.pl_context.specs.Stops.{StopsView, any_stopped}
 use Rattle.pl_context.specs.OutputsViews.{Appends}
 use Rattle.pl_context.specs.Ports.{as_items, offered, put_out}
-use Rattle.pl_context.proofs.PortLemmas.{port_after-nil, appends-alone, appends-append}
+use Rattle.pl_context.proofs.PortLemmas.{appends-append}
 use Rattle.pl_context.proofs.ContextLemmas.{open-count, appends-from, length-put_out, length-offered, length-items}
 use Rattle.pl_context.proofs.contexts.put_changed.Goals as goal
 
-pub returns-then-is_empty-clause-empty : goal.returns-then-is_empty-clause-empty
-returns-then-is_empty-clause-empty c =
-    let zero = eqb-true c.args.below.now.len 0 (sym c.is_empty.ensures ∙ c.if-is_empty.true) in
-    nil_from_length c.args.below.now.items (omega (arith, zero, c.args.below.now.ok.0))
-
-pub returns-then-is_empty-clause-down : goal.returns-then-is_empty-clause-down
-returns-then-is_empty-clause-down c =
-    let zero = eqb-true c.args.below.now.len 0 (sym c.is_empty.ensures ∙ c.if-is_empty.true) in
-    let none : c.args.below.now.items ≡ [] = nil_from_length c.args.below.now.items (omega (arith, zero, c.args.below.now.ok.0)) in
-    rw none (sym (port_after-nil c.args.down.now))
-
-pub returns-then-is_empty-clause-out : goal.returns-then-is_empty-clause-out
-returns-then-is_empty-clause-out c =
-    let zero = eqb-true c.args.below.now.len 0 (sym c.is_empty.ensures ∙ c.if-is_empty.true) in
-    let none : c.args.below.now.items ≡ [] = nil_from_length c.args.below.now.items (omega (arith, zero, c.args.below.now.ok.0)) in
-    rw none (appends-alone c.args.outputs.now c.hand_on.new.outputs c.args.outputs.now.stopped c.args.down.now (put_out c.args.outputs.now.stopped c.args.up.now (c.args.envelope.item ∷ [])) c.hand_on.ensures.out)
-
-pub hand_on-requires-in-Ok-clause-none : goal.hand_on-requires-in-Ok-clause-none
-hand_on-requires-in-Ok-clause-none c = ap (λ (s : StopsView). any_stopped s) c.reserve.ensures.stopped ∙ c.requires.none
+pub hand_on-requires-clause-none : goal.hand_on-requires-clause-none
+hand_on-requires-clause-none c = ap (λ (s : StopsView). any_stopped s) c.reserve.ensures.stopped ∙ c.requires.none
 
 pub put_all-requires-clause-room : goal.put_all-requires-clause-room
 put_all-requires-clause-room c = λ o.
     let few = length-put_out c.reserve.new.self.stopped c.args.up.now (c.args.envelope.item ∷ []) c.places-above.result c.places-above.ensures in
     let own = open-count c.args.down.now.is_open c.len.result c.places.result c.places.ensures o in
-    omega (arith, c.in-Ok.ensures.room, c.hand_on-in-Ok.ensures.out.room, few, own, c.len.ensures, c.args.below.now.ok.0)
+    omega (arith, c.in-Ok.ensures.room, c.hand_on.ensures.out.room, few, own, c.len.ensures, c.args.below.now.ok.0)
 
 pub returns-in-Ok-clause-out : goal.returns-in-Ok-clause-out
 returns-in-Ok-clause-out c =
@@ -41,8 +22,8 @@ returns-in-Ok-clause-out c =
     let above = put_out s c.args.up.now (c.args.envelope.item ∷ []) in
     let below = put_out s c.args.down.now (as_items c.args.below.now.items) in
     appends-from c.args.outputs.now c.reserve.new.self c.put_all.new.outputs c.args.up.now c.args.down.now (c.args.envelope.item ∷ []) (as_items c.args.below.now.items) c.reserve.ensures.items c.reserve.ensures.stopped c.reserve.ensures.grows
-    (appends-append c.reserve.new.self c.hand_on-in-Ok.new.outputs c.put_all.new.outputs above below c.hand_on-in-Ok.ensures.out
-    (subst (λ (t : StopsView). Appends c.hand_on-in-Ok.new.outputs (put_out t c.args.down.now (as_items c.args.below.now.items)) c.put_all.new.outputs) c.hand_on-in-Ok.ensures.out.stopped c.put_all.ensures.out))
+    (appends-append c.reserve.new.self c.hand_on.new.outputs c.put_all.new.outputs above below c.hand_on.ensures.out
+    (subst (λ (t : StopsView). Appends c.hand_on.new.outputs (put_out t c.args.down.now (as_items c.args.below.now.items)) c.put_all.new.outputs) c.hand_on.ensures.out.stopped c.put_all.ensures.out))
 
 pub returns-in-Err-clause-why : goal.returns-in-Err-clause-why
 returns-in-Err-clause-why c =

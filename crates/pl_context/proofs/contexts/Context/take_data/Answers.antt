@@ -1,15 +1,23 @@
-use Rattle.std.proofs.Common.{◌≢◌, ◌+◌, ◌∷◌, ◌++◌, [], List, length, refl, sym, ap, subst, ◌∙◌, arith, rules}
+use Rattle.std.proofs.Common.{◌≡◌, ◌≢◌, ℕ, ◌+◌, ◌∷◌, ◌++◌, [], List, length, Bool, true, refl, sym, ap, subst, ◌∙◌, arith, rules}
+use Rattle.std.specs.Prelude.{◌==◌}
+use Rattle.std.proofs.lemmas.Bool.{eqb-true}
+use Rattle.std.proofs.lemmas.List.{nil_from_length}
 use Rattle.pl_event.specs.declared.events.Event.{Event}
 use Rattle.pl_event.specs.declared.stages.Changed.TheVariants.{No, Up, Down}
 use Rattle.pl_event.specs.Fitting.{goes_on}
 use Rattle.pl_context.specs.Standings.{has_failed}
 use Rattle.pl_context.specs.Stops.{StopsView, HasPlaces}
 use Rattle.pl_context.specs.declared.ports.Port.{Port}
-use Rattle.pl_context.specs.Ports.{as_items}
+use Rattle.pl_context.specs.Ports.{as_items, put_out}
 use Rattle.pl_context.specs.ContextViews.{ContextView, lane_of, open_lanes}
 use Rattle.pl_context.proofs.Places.{places-down}
+use Rattle.pl_context.proofs.PortLemmas.{port_after-nil, appends-alone}
 use Rattle.pl_context.proofs.ContextLemmas.{all-made, length-items, within-after, small-up, small-down, few-unchanged, counted-same, open-ended, open-failed, takes-unchanged, takes-up, takes-down, takes-fault}
 use Rattle.pl_context.proofs.contexts.Context.take_data.Goals as goal
+
+-- a buffer that was found empty
+found-empty : (events : List Event) (len : ℕ) (answer : Bool) → answer ≡ (len == 0) → answer ≡ true → len ≡ length events → events ≡ []
+found-empty events len answer is found same = nil_from_length events (omega (arith, eqb-true len 0 (sym is ∙ found), same))
 
 pub invariant_of-self : goal.invariant_of-self
 invariant_of-self g c =
@@ -33,6 +41,43 @@ pub take_item-requires-clause-places : goal.take_item-requires-clause-places
 take_item-requires-clause-places g c =
     let P : ContextView g.row.S.Denot → Type 0 = λ s. HasPlaces c.args.outputs.now.stopped (open_lanes s) in
     subst P (sym c.self.view_is) c.requires.places
+
+pub hand_on-requires-clause-event : goal.hand_on-requires-clause-event
+hand_on-requires-clause-event g c =
+    let n : Up ≢ No = λ e. cc in
+    ap goes_on (c.in-Up.ensures.changes n).2.3
+
+pub hand_on-requires-clause-none : goal.hand_on-requires-clause-none
+hand_on-requires-clause-none g c =
+    let n : Up ≢ No = λ e. cc in
+    (c.in-Up.ensures.ready n).2
+
+pub hand_on-requires-clause-room : goal.hand_on-requires-clause-room
+hand_on-requires-clause-room g c =
+    let n : Up ≢ No = λ e. cc in
+    λ o. (c.in-Up.ensures.ready n).1
+
+pub hand_on-requires-clause-small : goal.hand_on-requires-clause-small
+hand_on-requires-clause-small g c =
+    let n : Up ≢ No = λ e. cc in
+    let changes = c.in-Up.ensures.changes n in
+    let few = small-up g.S.Stage.meaning g.S.Stage.stands_after _ c.args.self.now c.self.view_is c.change-changed.new.stage c.args.envelope.item c.change-changed.new.item changes.0 changes.2 (c.in-Up.ensures.ready n).0 c.requires.few in
+    λ o. omega (arith, few.0 o)
+
+pub invariant_of-self-then-is_empty : goal.invariant_of-self-then-is_empty
+invariant_of-self-then-is_empty g c =
+    let n : Up ≢ No = λ e. cc in
+    let changes = c.in-Up.ensures.changes n in
+    let few = small-up g.S.Stage.meaning g.S.Stage.stands_after _ c.args.self.now c.self.view_is c.change-changed.new.stage c.args.envelope.item c.change-changed.new.item changes.0 changes.2 (c.in-Up.ensures.ready n).0 c.requires.few in
+    record {
+      above = within-after c.self.inside.up c.hand_on.new.self (c.change-changed.new.item ∷ []) c.hand_on.ensures.port few.0;
+      below = c.self.invariant.below;
+      aside = c.self.invariant.aside;
+      counts = omega (arith, ap (λ (s : ContextView g.row.S.Denot). s.taken) c.self.view_is, c.requires.limit);
+      flag_counts = c.self.invariant.flag_counts;
+      up_empty = c.self.invariant.up_empty;
+      down_empty = found-empty c.change-changed.new.below.items c.change-changed.new.below.len c.is_empty.result c.is_empty.ensures c.if-is_empty.true c.change-changed.new.below.ok.0;
+    }
 
 pub put_changed-put-requires-clause-event : goal.put_changed-put-requires-clause-event
 put_changed-put-requires-clause-event g c =
@@ -104,23 +149,23 @@ run_out-requires g c =
     (subst (λ (p : Port). HasPlaces c.args.outputs.now.stopped (lanes p c.put_changed-put.new.down)) (sym c.in-Err-Memory.ensures.up_kept)
     (subst (λ (p : Port). HasPlaces c.args.outputs.now.stopped (lanes c.self.inside.up p)) (sym c.in-Err-Memory.ensures.down_kept) places))
 
-pub hand_on-requires-clause-event : goal.hand_on-requires-clause-event
-hand_on-requires-clause-event g c =
+pub hand_on-requires-in-Down-clause-event : goal.hand_on-requires-in-Down-clause-event
+hand_on-requires-in-Down-clause-event g c =
     let n : Down ≢ No = λ e. cc in
     ap goes_on (c.in-Down.ensures.changes n).2.3
 
-pub hand_on-requires-clause-none : goal.hand_on-requires-clause-none
-hand_on-requires-clause-none g c =
+pub hand_on-requires-in-Down-clause-none : goal.hand_on-requires-in-Down-clause-none
+hand_on-requires-in-Down-clause-none g c =
     let n : Down ≢ No = λ e. cc in
     (c.in-Down.ensures.ready n).2
 
-pub hand_on-requires-clause-room : goal.hand_on-requires-clause-room
-hand_on-requires-clause-room g c =
+pub hand_on-requires-in-Down-clause-room : goal.hand_on-requires-in-Down-clause-room
+hand_on-requires-in-Down-clause-room g c =
     let n : Down ≢ No = λ e. cc in
     λ o. (c.in-Down.ensures.ready n).1
 
-pub hand_on-requires-clause-small : goal.hand_on-requires-clause-small
-hand_on-requires-clause-small g c =
+pub hand_on-requires-in-Down-clause-small : goal.hand_on-requires-in-Down-clause-small
+hand_on-requires-in-Down-clause-small g c =
     let n : Down ≢ No = λ e. cc in
     let changes = c.in-Down.ensures.changes n in
     let none = sym (all-made changes.1 c.self.invariant.down_empty) ∙ c.in-Down.ensures.alone refl ∙ c.self.invariant.down_empty in
@@ -134,7 +179,7 @@ invariant_of-self-in-Down g c =
     let none = sym (all-made changes.1 c.self.invariant.down_empty) ∙ c.in-Down.ensures.alone refl ∙ c.self.invariant.down_empty in
     record {
       above = c.self.invariant.above;
-      below = within-after c.self.inside.down c.hand_on.new.self (c.change-changed.new.item ∷ []) c.hand_on.ensures.port (small-down g.S.Stage.meaning g.S.Stage.stands_after _ c.args.self.now c.self.view_is c.change-changed.new.stage c.args.envelope.item c.change-changed.new.item changes.0 changes.2 none (c.in-Down.ensures.ready n).0 c.requires.few);
+      below = within-after c.self.inside.down c.hand_on-in-Down.new.self (c.change-changed.new.item ∷ []) c.hand_on-in-Down.ensures.port (small-down g.S.Stage.meaning g.S.Stage.stands_after _ c.args.self.now c.self.view_is c.change-changed.new.stage c.args.envelope.item c.change-changed.new.item changes.0 changes.2 none (c.in-Down.ensures.ready n).0 c.requires.few);
       aside = c.self.invariant.aside;
       counts = omega (arith, ap (λ (s : ContextView g.row.S.Denot). s.taken) c.self.view_is, c.requires.limit);
       flag_counts = c.self.invariant.flag_counts;
@@ -181,6 +226,24 @@ returns-in-No-clause-dropped g c =
     let h = c.take_item.ensures.dropped (ap has_failed (ap (λ (s : ContextView g.row.S.Denot). s.standing) c.self.view_is) ∙ e) in
     (h.0, h.1 ∙ counted-same _ c.args.self.now c.self.view_is c.change-changed.new.stage no.0, h.2)
 
+pub returns-then-is_empty : goal.returns-then-is_empty
+returns-then-is_empty g c =
+    let n : Up ≢ No = λ e. cc in
+    let changes = c.in-Up.ensures.changes n in
+    let was = (c.in-Up.ensures.ready n).0 in
+    let none : c.change-changed.new.below.items ≡ [] = found-empty c.change-changed.new.below.items c.change-changed.new.below.len c.is_empty.result c.is_empty.ensures c.if-is_empty.true c.change-changed.new.below.ok.0 in
+    let s = c.args.outputs.now.stopped in
+    record {
+      meaning = search rules;
+      place = search rules;
+      «open» = λ o. takes-up g.S.Stage.meaning g.S.Stage.stands_after g.S.Stage.is_spent _ c.args.self.now c.self.view_is c.args.envelope.item c.change-changed.new.item changes.0 [] c.args.outputs.now c.hand_on.new.outputs c.change-changed.new.stage c.hand_on.new.self c.self.inside.down
+          changes.2 c.in-Up.ensures.meaning (sym none ∙ all-made changes.1 c.self.invariant.down_empty) c.hand_on.ensures.port (sym (port_after-nil c.self.inside.down))
+          (appends-alone c.args.outputs.now c.hand_on.new.outputs s c.self.inside.down (put_out s c.self.inside.up (c.change-changed.new.item ∷ [])) c.hand_on.ensures.out);
+      spent = λ o spent event is. absurd (n (c.in-Up.ensures.spent (ap (λ (s : ContextView g.row.S.Denot). g.S.Stage.is_spent s.stage) c.self.view_is ∙ spent)));
+      ended = λ e. absurd (open-ended _ _ c.self.view_is was e);
+      dropped = λ e. absurd (open-failed _ _ c.self.view_is was e);
+    }
+
 pub returns-in-Ok : goal.returns-in-Ok
 returns-in-Ok g c =
     let n : Up ≢ No = λ e. cc in
@@ -221,8 +284,8 @@ returns-in-Down g c =
     record {
       meaning = search rules;
       place = search rules;
-      «open» = λ o. takes-down g.S.Stage.meaning g.S.Stage.stands_after g.S.Stage.is_spent _ c.args.self.now c.self.view_is c.args.envelope.item c.change-changed.new.item changes.0 c.args.outputs.now c.hand_on.new.outputs c.change-changed.new.stage c.hand_on.new.self
-          changes.2 c.in-Down.ensures.meaning none c.hand_on.ensures.port c.hand_on.ensures.out;
+      «open» = λ o. takes-down g.S.Stage.meaning g.S.Stage.stands_after g.S.Stage.is_spent _ c.args.self.now c.self.view_is c.args.envelope.item c.change-changed.new.item changes.0 c.args.outputs.now c.hand_on-in-Down.new.outputs c.change-changed.new.stage c.hand_on-in-Down.new.self
+          changes.2 c.in-Down.ensures.meaning none c.hand_on-in-Down.ensures.port c.hand_on-in-Down.ensures.out;
       spent = λ o spent event is. absurd (n (c.in-Down.ensures.spent (ap (λ (s : ContextView g.row.S.Denot). g.S.Stage.is_spent s.stage) c.self.view_is ∙ spent)));
       ended = λ e. absurd (open-ended _ _ c.self.view_is was e);
       dropped = λ e. absurd (open-failed _ _ c.self.view_is was e);
