@@ -38,30 +38,30 @@ new-requires-clause-few g c =
 
 -- ---- its core
 
-pub of-requires-clause-stands : goal.of-requires-clause-stands
-of-requires-clause-stands g c = c.requires.starts.stood
+pub of-core-requires-clause-stands : goal.of-core-requires-clause-stands
+of-core-requires-clause-stands g c = c.requires.starts.stood
 
-pub of-requires-clause-executor : goal.of-requires-clause-executor
-of-requires-clause-executor g c = c.requires.starts.fits.at
+pub of-core-requires-clause-executor : goal.of-core-requires-clause-executor
+of-core-requires-clause-executor g c = c.requires.starts.fits.at
 
-pub of-requires-clause-places : goal.of-requires-clause-places
-of-requires-clause-places g c =
+pub of-core-requires-clause-places : goal.of-core-requires-clause-places
+of-core-requires-clause-places g c =
     subst (λ (z : StopsView). HasPlaces z (g.N.OwnNodes.view_of c.args.nodes).lanes.places) (sym (c.in_ok-new-2.ensures.places ∙ ap (λ (p : PlacesView). no_stops p.work) c.places.view_is)) c.requires.starts.fits.work
 
-pub of-requires-clause-why : goal.of-requires-clause-why
-of-requires-clause-why g c = λ refused. absurd (false≢true (sym c.requires.starts.fits.unrefused ∙ refused))
+pub of-core-requires-clause-why : goal.of-core-requires-clause-why
+of-core-requires-clause-why g c = λ refused. absurd (false≢true (sym c.requires.starts.fits.unrefused ∙ refused))
 
-pub of-requires-clause-few : goal.of-requires-clause-few
-of-requires-clause-few g c = c.requires.starts.fits.few
+pub of-core-requires-clause-few : goal.of-core-requires-clause-few
+of-core-requires-clause-few g c = c.requires.starts.fits.few
 
-pub of-requires-clause-admitted : goal.of-requires-clause-admitted
-of-requires-clause-admitted g c = c.in_ok-new.ensures.admitted
+pub of-core-requires-clause-admitted : goal.of-core-requires-clause-admitted
+of-core-requires-clause-admitted g c = c.in_ok-new.ensures.admitted
 
-pub of-requires-clause-empty : goal.of-requires-clause-empty
-of-requires-clause-empty g c = c.in_ok-new-2.ensures.empty
+pub of-core-requires-clause-empty : goal.of-core-requires-clause-empty
+of-core-requires-clause-empty g c = c.in_ok-new-2.ensures.empty
 
-pub of-requires-clause-runs : goal.of-requires-clause-runs
-of-requires-clause-runs g c =
+pub of-core-requires-clause-runs : goal.of-core-requires-clause-runs
+of-core-requires-clause-runs g c =
     starts-running g.M.Mailbox.ends g.N.OwnNodes.view_of g.N.OwnNodes.stands (map inbox_view c.args.inboxes.now) c.args.number c.args.own c.args.columns.now.items c.args.nodes c.args.places.now c.requires.starts (inboxes-within c.args.inboxes.now c.args.number c.requires.there)
     c.in_ok-outboxes.outboxes.items c.in_ok-outboxes.ensures.outboxes g.W.Named.world c.in_ok-new.field-0 c.in_ok-new.ensures.outboxes c.in_ok-new.ensures.waits
     (c.in_ok-new.ensures.places ∙ ap (λ (counts : List ℕ). map no_stops counts) (c.as_slice.ensures.value ∙ ap (λ (p : PlacesView). p.targets) c.places.view_is))
@@ -70,10 +70,10 @@ of-requires-clause-runs g c =
 -- ---- the executor
 
 pub new-requires-3-clause-number : goal.new-requires-3-clause-number
-new-requires-3-clause-number g c = subst (λ (core : Core _ _ _ _ _). core.number < 2 ^ 16) (sym c.of.ensures.value) (omega (arith, c.requires.there, c.requires.few))
+new-requires-3-clause-number g c = subst (λ (core : Core _ _ _ _ _). core.number < 2 ^ 16) (sym c.of-core.ensures.value) (omega (arith, c.requires.there, c.requires.few))
 
 pub new-requires-3-clause-empty : goal.new-requires-3-clause-empty
-new-requires-3-clause-empty g c = ap (λ (core : Core _ _ _ _ _). core.work.items) c.of.ensures.value ∙ c.in_ok-new-2.ensures.empty
+new-requires-3-clause-empty g c = ap (λ (core : Core _ _ _ _ _). core.work.items) c.of-core.ensures.value ∙ c.in_ok-new-2.ensures.empty
 
 pub new-requires-3-clause-taker : goal.new-requires-3-clause-taker
 new-requires-3-clause-taker g c =
@@ -84,7 +84,7 @@ new-requires-3-clause-taker g c =
 pub new-requires-3-clause-taking : goal.new-requires-3-clause-taking
 new-requires-3-clause-taking g c =
     subst (λ (z : Core _ _ g.row.N.Denot _ _ × g.row.M-Taker.Denot). IsTaking z.0.number (g.N.OwnNodes.view_of z.0.nodes).lanes (g.M.Mailbox.ends.takes_of z.1).counts)
-    (λ i. (sym c.of.ensures.value i, sym (ap (λ (o : OwnView g.row.M-Taker.Denot). o.taker) c.own.view_is) i))
+    (λ i. (sym c.of-core.ensures.value i, sym (ap (λ (o : OwnView g.row.M-Taker.Denot). o.taker) c.own.view_is) i))
     (starts-taking g.M.Mailbox.ends g.N.OwnNodes.view_of g.N.OwnNodes.stands (map inbox_view c.args.inboxes.now) c.args.number c.args.own c.args.columns.now.items c.args.nodes c.args.places.now c.requires.starts (inboxes-within c.args.inboxes.now c.args.number c.requires.there))
 
 pub new-requires-3-clause-fresh : goal.new-requires-3-clause-fresh
@@ -100,7 +100,7 @@ new-requires-3-clause-owner g c =
     ap (λ (o : OwnView g.row.M-Taker.Denot). o.owner) c.own.view_is ∙ own.owner
 
 pub returns-clause-nodes : goal.returns-clause-nodes
-returns-clause-nodes g c = ap (λ (e : ExecutorView g.row.N.Denot). e.nodes) c.new-3.ensures ∙ ap (λ (core : Core _ _ _ _ _). core.nodes) c.of.ensures.value
+returns-clause-nodes g c = ap (λ (e : ExecutorView g.row.N.Denot). e.nodes) c.new-3.ensures ∙ ap (λ (core : Core _ _ _ _ _). core.nodes) c.of-core.ensures.value
 
 pub returns-clause-first : goal.returns-clause-first
 returns-clause-first g c =
@@ -108,9 +108,9 @@ returns-clause-first g c =
     let own = c.requires.starts.own (inbox_view inbox) (shown-at inbox_view c.args.inboxes.now c.args.number inbox c.requires.there c.index-inboxes-number.is) in
     let is = c.new-3.ensures in
     record {
-      numbered = ap (λ (e : ExecutorView g.row.N.Denot). e.number) is ∙ ap (λ (core : Core _ _ _ _ _). core.number) c.of.ensures.value;
+      numbered = ap (λ (e : ExecutorView g.row.N.Denot). e.number) is ∙ ap (λ (core : Core _ _ _ _ _). core.number) c.of-core.ensures.value;
       turns = ap (λ (e : ExecutorView g.row.N.Denot). e.turns) is;
-      waits = λ target. ap (λ (e : ExecutorView g.row.N.Denot). waits_for e.outboxes target) is ∙ ap (λ (core : Core _ _ _ _ _). waits_for core.outboxes target) c.of.ensures.value ∙ c.in_ok-new.ensures.waits target;
+      waits = λ target. ap (λ (e : ExecutorView g.row.N.Denot). waits_for e.outboxes target) is ∙ ap (λ (core : Core _ _ _ _ _). waits_for core.outboxes target) c.of-core.ensures.value ∙ c.in_ok-new.ensures.waits target;
       taken = ap (λ (e : ExecutorView g.row.N.Denot). e.takes.pops) is ∙ ap (λ (o : OwnView g.row.M-Taker.Denot). (g.M.Mailbox.ends.takes_of o.taker).pops) c.own.view_is ∙ ap (λ (v : TakerView). v.pops) own.takes;
       phase = ap (λ (e : ExecutorView g.row.N.Denot). e.owner.phase) is ∙ ap (λ (o : OwnView g.row.M-Taker.Denot). o.owner.phase) c.own.view_is ∙ ap (λ (o : OwnerSeatView). o.phase) own.owner;
     }

@@ -11,12 +11,12 @@ use Rattle.pl_threads_tests.specs.Openings.{HasLane}
 use Rattle.pl_threads_tests.proofs.StartLemmas.{HasWay, few-lanes, has-way, node-runs, node-taking, two-places}
 use Rattle.pl_threads_tests.proofs.tests.starting.executor.Goals as goal
 
-pub of-requires-clause-places : goal.of-requires-clause-places
-of-requires-clause-places g c =
+pub of-core-requires-clause-places : goal.of-core-requires-clause-places
+of-core-requires-clause-places g c =
     subst (λ (s : StopsView). HasPlaces s (outlets_of c.args.node)) (sym c.in_ok-new-2.ensures.places) (two-places (lane_to c.args.node.first.target) (lane_to c.args.node.second.target))
 
-pub of-requires-clause-runs : goal.of-requires-clause-runs
-of-requires-clause-runs g c =
+pub of-core-requires-clause-runs : goal.of-core-requires-clause-runs
+of-core-requires-clause-runs g c =
     let n = c.args.node in
     let o = c.in_ok-new.field-0 in
     let work = c.in_ok-new-2.field-0 in
@@ -31,20 +31,20 @@ of-requires-clause-runs g c =
     (node-runs n ready.stands ready.fresh o made.waits (by n.first ready.first) (by n.second ready.second)
     g.W.Named.world work c.in_ok-new-2.ensures.empty made.places (ap (λ (bs : List OutboxView). length bs) (made.outboxes ∙ three)))
 
-pub of-requires-clause-few : goal.of-requires-clause-few
-of-requires-clause-few g c = few-lanes c.args.node
+pub of-core-requires-clause-few : goal.of-core-requires-clause-few
+of-core-requires-clause-few g c = few-lanes c.args.node
 
 pub new-requires-3-clause-empty : goal.new-requires-3-clause-empty
-new-requires-3-clause-empty g c = ap (λ (core : Core _ _ _ _ _). core.work.items) c.of.ensures.value ∙ c.in_ok-new-2.ensures.empty
+new-requires-3-clause-empty g c = ap (λ (core : Core _ _ _ _ _). core.work.items) c.of-core.ensures.value ∙ c.in_ok-new-2.ensures.empty
 
 pub new-requires-3-clause-number : goal.new-requires-3-clause-number
 new-requires-3-clause-number g c =
-    subst (λ (core : Core _ _ _ _ _). core.number < 2 ^ 16) (sym c.of.ensures.value) (subst (λ (number : ℕ). number < 2 ^ 16) (sym c.from.ensures) c.requires.ready.stands.small)
+    subst (λ (core : Core _ _ _ _ _). core.number < 2 ^ 16) (sym c.of-core.ensures.value) (subst (λ (number : ℕ). number < 2 ^ 16) (sym c.from.ensures) c.requires.ready.stands.small)
 
 pub new-requires-3-clause-taking : goal.new-requires-3-clause-taking
 new-requires-3-clause-taking g c =
     let n = c.args.node in
-    subst (λ (core : Core _ _ _ _ _). IsTaking core.number (node_view core.nodes).lanes (g.M.Mailbox.ends.takes_of c.args.place.own.taker).counts) (sym c.of.ensures.value)
+    subst (λ (core : Core _ _ _ _ _). IsTaking core.number (node_view core.nodes).lanes (g.M.Mailbox.ends.takes_of c.args.place.own.taker).counts) (sym c.of-core.ensures.value)
     (subst (λ (number : ℕ). IsTaking number (node_view n).lanes (g.M.Mailbox.ends.takes_of c.args.place.own.taker).counts) (sym c.from.ensures)
     (subst (λ (counts : List TakeCount). IsTaking n.executor (node_view n).lanes counts) (sym (ap (λ (t : TakerView). t.counts) c.requires.place.own.takes))
     (node-taking n c.requires.ready.stands c.requires.ready.fresh)))
