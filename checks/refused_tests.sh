@@ -54,7 +54,7 @@ pl_nodes_tests tests::context_tests::item_without_memory_gives_way
 pl_nodes_tests tests::context_tests::backlog_without_memory_gives_tokens_back
 pl_nodes_tests tests::context_tests::event_without_memory_fails_its_taker
 pl_nodes_tests tests::failure_tests::write_without_memory
-pl_part_tests share_tests::division_without_memory
+pl_part_tests share_tests::share_without_memory
 pl_live_tests tests::memory_tests::refused_growth_while_fed
 pl_checks tests::every_allocation_refused::ping
 pl_checks tests::every_allocation_refused::echo_and_faults

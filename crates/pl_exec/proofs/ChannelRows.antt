@@ -1,24 +1,24 @@
 -- The channels that have nodes on each executor: a row of them for each, made in one walk over all hops.
-use Rattle.std.proofs.Common.{◌≡◌, ◌≢◌, ◌||◌, ℕ, ◌+◌, ◌<◌, ◌≤◌, Bool, true, false, List, [], ◌∷◌, ◌++◌, Some, get_or, set, take, slice_get, length, map, refl, ap, sym, subst, ◌∙◌, ⊎_elim, arith, append-nil}
+use Rattle.std.proofs.Common.{◌≡◌, ◌≢◌, ◌||◌, ℕ, ◌+◌, ◌<◌, ◌≤◌, Bool, true, false, not, List, [], ◌∷◌, ◌++◌, Some, get_or, set, take, slice_get, length, map, refl, ap, sym, subst, ◌∙◌, ⊎_elim, arith, append-nil}
 use Rattle.std.specs.Global.{Vec}
 use Rattle.std.specs.Prelude.{◌==◌, All, Contains, cond}
-use Rattle.std.specs.Bool.{Decides}
 use Rattle.std.specs.List.{range_with_len}
 use Rattle.std.specs.Option.{option_map}
 use Rattle.std.specs.Set.{is_member}
-use Rattle.std.proofs.lemmas.Bool.{cases_eq, eq-eqb, ne_eqb, or_right}
+use Rattle.std.proofs.lemmas.Bool.{both_ways, cases_eq, eq-eqb, ne_eqb, or_right}
 use Rattle.std.proofs.lemmas.Bool.Decides.{Decides-eqb}
 use Rattle.std.proofs.lemmas.List.{get_or-map, get_or-set_other, get_or-set_same, length-map, length-set, length-take-le, map-append, map-set, take_more}
-use Rattle.std.proofs.lemmas.List.Elements.{All-from_get_or, All-same, All-weaker}
+use Rattle.std.proofs.lemmas.List.Elements.{All-contains, All-from_get_or, All-same, All-weaker}
 use Rattle.std.proofs.lemmas.List.Folds.{list_any_more}
 use Rattle.std.proofs.lemmas.List.FromFn.{fill_by_all, get_or-map-range_with_len, length-map-range_with_len}
+use Rattle.std.proofs.lemmas.List.Sums.{position_or_len_is, prefix_len_passes}
 use Rattle.std.proofs.lemmas.Map.Made.{is_member-Decides}
-use Rattle.std.proofs.lemmas.Option.{same_Some, slice_get-map, slice_get_within}
+use Rattle.std.proofs.lemmas.Option.{slice_get-map}
 use Rattle.pl_part.specs.Parts.{ChannelPartView}
-use Rattle.pl_exec.specs.ExecutorNodes.{AreOn, numbered_from}
+use Rattle.pl_exec.specs.ChannelRows.{IsChannelRow, row_position}
+use Rattle.pl_exec.specs.ExecutorNodes.{numbered_from}
 use Rattle.pl_exec.specs.Sharing.{AreNoted, IsNoted, IsNotedAt, channels_on, rows_in}
-use Rattle.pl_exec.proofs.HeadLists.{IsNumbered, in-range, numbered-more, numbered-only, numbered-there}
-use Rattle.pl_event.proofs.Lists.{at-index}
+use Rattle.pl_exec.proofs.HeadLists.{in-range, numbered-few, numbered-more, numbered-there, rising}
 
 -- ---- one hop
 
@@ -116,26 +116,32 @@ module _ {S T : Type 0} (ps : List (ChannelPartView S T)) (count : ℕ) where
         ∙ ap (λ (bs : List Bool). numbered_from 0 bs) (map-append on first (p ∷ []))
         ∙ numbered-more 0 (map on first) (on p) n (omega (arith, counted, taken, within))))
 
--- ---- they are those that have a node there
+-- ---- they are those that have a node there, each once
 
-module _ {S T : Type 0} where
-  pub on-exactly : (ps : List (ChannelPartView S T)) (x : ℕ) → AreOn (λ p. p.path.executors) ps x (channels_on ps x)
-  on-exactly ps x = record {
-    all = λ c p at has.
-        numbered-there 0 (map on ps) c c (slice_get-map on ps c ∙ ap (option_map on) at ∙ ap (λ (b : Bool). Some b) ((decides p).1 has)) (omega arith);
-    only = All-weaker (IsNumbered 0 (map on ps)) (λ c. (p : ChannelPartView S T) × (slice_get ps c ≡ Some p) × Contains p.path.executors x)
-        (λ c n.
-        let is : n.0 ≡ c = let e = n.1 in omega (arith, e) in
-        let there = subst (λ (k : ℕ). slice_get (map on ps) k ≡ Some true) is n.2 in
-        let within = slice_get_within (map on ps) c true there in
-        let size = length-map ps on in
-        let p = at-index ps c (omega (arith, within, size)) in
-        (p.0, p.1, (decides p.0).0 (same_Some (on p.0) true (sym (slice_get-map on ps c ∙ ap (option_map on) p.1) ∙ there))))
-        (channels_on ps x) (numbered-only 0 (map on ps));
-  }
-    where
-      on : ChannelPartView S T → Bool
-      on p = is_member (λ a b. a == b) p.path.executors x
+-- a channel without a position is not in the row
+off-row : (row : List ℕ) (c : ℕ) → length row ≤ row_position row c → Contains row c → ⊥
+off-row row c past has = both_ways (c == c) (turned (c == c) (All-contains (λ (k : ℕ). not (k == c) ≡ true) row c (λ k d lt. prefix_len_passes (λ (n : ℕ). not (n == c)) row k d (omega (arith, past, lt))) has)) (eq-eqb c c refl)
+  where
+    turned : (b : Bool) → not b ≡ true → b ≡ false
+    turned false e = refl
+    turned true e = cc
 
-      decides : (p : ChannelPartView S T) → Decides (on p) (Contains p.path.executors x)
-      decides p = is_member-Decides Decides-eqb p.path.executors x
+module _ {S T : Type 0} (ps : List (ChannelPartView S T)) (x : ℕ) where
+  abbrev on : ChannelPartView S T → Bool
+  on p = is_member (λ a b. a == b) p.path.executors x
+
+  pub not-on : (c : ℕ) (p : ChannelPartView S T) → slice_get ps c ≡ Some p → length (channels_on ps x) ≤ row_position (channels_on ps x) c → Contains p.path.executors x → ⊥
+  not-on c p at past has = off-row (channels_on ps x) c past
+      (numbered-there 0 (map on ps) c c (slice_get-map on ps c ∙ ap (option_map on) at ∙ ap (λ (b : Bool). Some b) ((is_member-Decides Decides-eqb p.path.executors x).1 has)) (omega arith))
+
+  pub row-on : IsChannelRow (length ps) (channels_on ps x)
+  row-on =
+      let bs = map on ps in
+      let size = length-map ps on in
+      record {
+        few = let few = numbered-few 0 bs in omega (arith, few, size);
+        there = All-weaker (λ c. (0 ≤ c) × (c < 0 + length bs)) (λ c. c < length ps) (λ c r. let high = r.1 in omega (arith, high, size)) (channels_on ps x) (in-range 0 bs 0 (omega arith));
+        once = λ k within. position_or_len_is (λ n. n == get_or (channels_on ps x) k 0) (channels_on ps x) k 0 (omega (arith, within))
+            (λ j lt. ne_eqb (get_or (channels_on ps x) j 0) (get_or (channels_on ps x) k 0) (λ e. let less = rising 0 bs j k lt within in omega (arith, e, less)))
+            (λ _. eq-eqb (get_or (channels_on ps x) k 0) (get_or (channels_on ps x) k 0) refl);
+      }

@@ -1,5 +1,5 @@
 -- The values of one list, added to those of another, one after the other.
-use Rattle.std.proofs.Common.{◌≡◌, ℕ, zero, suc, ◌+◌, ◌<◌, List, [], ◌∷◌, ◌++◌, length, set, get_or, slice_get, Some, refl, ap, sym, ◌∙◌, arith, append_assoc, length-append}
+use Rattle.std.proofs.Common.{◌≡◌, ℕ, suc, ◌+◌, ◌<◌, List, [], ◌∷◌, ◌++◌, length, set, get_or, slice_get, Some, refl, ap, sym, ◌∙◌, arith, append_assoc, length-append}
 use Rattle.std.proofs.lemmas.Option.{none-some, same_Some, slice_get_read}
 use Rattle.pl_exec.specs.Adding.{each_with}
 use Rattle.pl_exec.proofs.ListSteps.{all-done}
@@ -18,22 +18,6 @@ module _ {A B : Type 0} (add : A → B → A) where
   added-push [] ys x y found = absurd (none-some x found)
   added-push (u ∷ us) [] x y found = ap (λ (z : A). add z y ∷ us) (sym (same_Some u x found)) ∙ ap (λ (rest : List A). add u y ∷ rest) (sym (added-none us))
   added-push (u ∷ us) (v ∷ vs) x y found = ap (λ (rest : List A). add u v ∷ rest) (added-push us vs x y found)
-
-  -- What stands at a number is what stood there, with the value of that number.
-  pub record Added (xs : List A) (ys : List B) (number : ℕ) (z : A) : Type 0 where
-    pub before : A
-    pub value : B
-    pub was : slice_get xs number ≡ Some before
-    pub is : slice_get ys number ≡ Some value
-    pub grown : z ≡ add before value
-
-  pub added-at : (xs : List A) (ys : List B) (number : ℕ) (z : A) → length ys ≡ length xs → slice_get (each_with add xs ys) number ≡ Some z → Added xs ys number z
-  added-at [] ys number z count found = absurd (none-some z found)
-  added-at (x ∷ xs) [] number z count found = absurd (omega (arith, count))
-  added-at (x ∷ xs) (y ∷ ys) zero z count found = record { before = x; value = y; was = refl; is = refl; grown = sym (same_Some (add x y) z found) }
-  added-at (x ∷ xs) (y ∷ ys) (suc number) z count found =
-      let a = added-at xs ys number z (omega (arith, count)) found in
-      record { before = a.before; value = a.value; was = a.was; is = a.is; grown = a.grown }
 
   -- ---- one value after the other
 

@@ -2,7 +2,7 @@
 use Rattle.std.proofs.Common.{◌≡◌, ℕ, ◌+◌, ◌<◌, ◌≤◌, Bool, true, false, ◌&&◌, List, length, map, get_or, slice_get, Option, Some, None, refl, ap, sym, ◌∙◌, subst, ⊎_elim, arith, inl, inr}
 use Rattle.std.specs.Prelude.{◌==◌, is_some, nat_lt, if◌then◌else◌}
 use Rattle.std.specs.Option.{option_map_or}
-use Rattle.std.proofs.lemmas.Bool.{cond-true, cond-false, cases_Bool, and_parts, and_from, eqb-true, eq-eqb, lt-ltb}
+use Rattle.std.proofs.lemmas.Bool.{cond-true, cond-false, cases_Bool, and_parts, and_from, eqb-true, eq-eqb, lt-ltb, ltb-true}
 use Rattle.std.proofs.lemmas.Bool.Decides.{eqb_tells}
 use Rattle.std.proofs.lemmas.List.{length-set}
 use Rattle.std.proofs.Math.ListN.{get_or-map}
@@ -92,6 +92,12 @@ channel-here ps me l small here = by (slice_get ps l.channel) refl here
     by (Some p) at e = slice_get_within ps l.channel p at
 
 -- ---- a lane that one of them writes
+
+-- it has a hop
+pub written-hop : {S T : Type 0} (meaning : S → Meaning) (ps : List (ChannelPartView S T)) (l : Lane) (p : ChannelPartView S T) → slice_get ps l.channel ≡ Some p → writes_of meaning ps l ≡ true → l.hop < length p.path.executors
+written-hop meaning ps l p at w =
+    let here : writes_here meaning p l ≡ true = ap (λ (o : Option (ChannelPartView _ _)). option_map_or (λ (q : ChannelPartView _ _). writes_here meaning q l) o false) (sym at) ∙ w in
+    ltb-true l.hop (length p.path.executors) (and_parts (nat_lt l.hop (length p.path.executors)) (part_writes meaning p l) here).0
 
 -- it enters a node, that of its hop
 pub enters-hop : {S T : Type 0} (world : World) (plan : Plan) (meaning : S → Meaning) (stands_after : S → List Event → Type 0) (state : T → TransportState) (me : ℕ) (refused : Bool) (ps : List (ChannelPartView S T))

@@ -1,4 +1,4 @@
--- The nodes of an executor that are its shares of channels before any move: they fit the lanes between executors.
+-- The parts of an executor that are its shares of channels before any move: they fit the lanes between executors.
 use Rattle.std.proofs.Common.{◌≡◌, ◌≢◌, ℕ, suc, ◌<◌, true, false, List, [], ◌∷◌, ◌++◌, length, map, get_or, slice_get, Option, Some, None, refl, ap, ap₂, sym, ◌∙◌, subst, arith}
 use Rattle.std.specs.Prelude.{◌==◌}
 use Rattle.std.specs.List.{flat_map, range_with_len}
@@ -29,10 +29,9 @@ use Rattle.pl_channel.proofs.Wholes.{written}
 use Rattle.pl_world.specs.declared.session.Recorded.{Recorded}
 use Rattle.pl_world.specs.Plans.{Plan, channel_planned}
 use Rattle.pl_world.specs.PlanRules.{IsPlan, IsChannelPlan}
-use Rattle.pl_exec.specs.declared.nodes.ExecutorNodes.{ExecutorNodes}
 use Rattle.pl_exec.specs.Lanes.{AreLaid, every_lane, is_lane}
 use Rattle.pl_exec.specs.Opening.{LaneTable, lanes_to, table_lanes, FitsLanes}
-use Rattle.pl_exec.specs.ExecutorNodes.{nobody, enters, entered_executor, own_view}
+use Rattle.pl_exec.specs.ExecutorNodes.{nobody, enters, entered_executor, lanes_here}
 use Rattle.pl_exec.specs.Sharing.{AreSharesOf, places_at}
 use Rattle.pl_exec.proofs.LaneTablesEvery.{has-any, every-has, every-few}
 use Rattle.pl_exec.proofs.SharesStand.{IsPlacedShare, whole-of}
@@ -58,15 +57,12 @@ pub record IsTable {S T : Type 0} (wholes : List (ChannelPartView S T)) (count :
   pub entering : (y : ℕ) (l : Lane) → has_lane l (lanes_of_senders (lanes_to lanes y)) ≡ true → (x : ℕ) × (x ≢ y) × (origin_of wholes l ≡ x) × (target_of wholes l ≡ y) × (is_lane wholes l ≡ true)
 
 module _ {S T : Type 0} (meaning : S → Meaning) (stands_after : S → List Event → Type 0) (state : T → TransportState) (plan : Plan) (rs : List (Recorded S T)) (planned : plan.channels ≡ map (channel_planned meaning state) rs)
-    (wholes : List (ChannelPartView S T)) (placed : ArePlaced meaning stands_after state rs wholes) (ruled : IsPlan plan) (x : ℕ) (nodes : ExecutorNodes S T) (are : AreSharesOf meaning stands_after state wholes x nodes) where
-  abbrev parts : List (ChannelPartView S T)
-  parts = nodes.parts.items
-
+    (wholes : List (ChannelPartView S T)) (placed : ArePlaced meaning stands_after state rs wholes) (ruled : IsPlan plan) (x : ℕ) (parts : List (ChannelPartView S T)) (are : AreSharesOf meaning stands_after state wholes x parts) where
   abbrev IsHere : ℕ → ChannelPartView S T → Type 0
-  IsHere c share = IsPlacedShare meaning stands_after state plan rs planned wholes placed x nodes are c share
+  IsHere c share = IsPlacedShare meaning stands_after state plan rs planned wholes placed x parts are c share
 
   here : (c : ℕ) (share : ChannelPartView S T) → slice_get parts c ≡ Some share → IsHere c share
-  here c share at = whole-of meaning stands_after state plan rs planned wholes placed x nodes are c share at
+  here c share at = whole-of meaning stands_after state plan rs planned wholes placed x parts are c share at
 
   -- ---- where lanes go
 
@@ -189,10 +185,10 @@ module _ {S T : Type 0} (meaning : S → Meaning) (stands_after : S → List Eve
                 same-whole a b e = cc
 
     -- They fit its lanes, and have the places of this executor.
-    pub shares-fit : FitsLanes lanes x (own_view meaning nodes) (places_at wholes plan.executors x)
-    shares-fit = record {
-      at = are.number;
-      unrefused = are.unrefused;
+    pub shares-fit : (heads : ℕ) → FitsLanes lanes x (record { executor = x; lanes = lanes_here meaning parts; heads = heads; was_refused = false }) (places_at wholes plan.executors x)
+    shares-fit heads = record {
+      at = refl;
+      unrefused = refl;
       fresh = λ l w. is-fresh l (own l w);
       there = λ l w. subst (λ (n : ℕ). entered_executor parts l < n) (sym table.size) (target-there l (own l w));
       own = λ l w to_here. none-taken l;

@@ -18,55 +18,65 @@ use Rattle.pl_channel.proofs.PlacedParts.{starts-keep}
 use Rattle.pl_world.specs.declared.session.Recorded.{Recorded}
 use Rattle.pl_world.specs.Plans.{Plan, channel_planned}
 use Rattle.pl_world.specs.PlanRules.{IsPlan}
+use Rattle.pl_threads.specs.NodesViews.{OwnNodesView}
 use Rattle.pl_exec.specs.declared.nodes.ExecutorNodes.{ExecutorNodes}
 use Rattle.pl_exec.specs.Lanes.{AreLaid}
-use Rattle.pl_exec.specs.ExecutorNodes.{AreOn, NodesStand, own_view}
+use Rattle.pl_exec.specs.ExecutorNodes.{NodesStand, channel_parts, lanes_here, own_view}
 use Rattle.pl_exec.specs.Opening.{LaneTable, PlacesView, FitsLanes}
 use Rattle.pl_exec.specs.SessionWords.{AreNewlySeated, ChannelNames, SeatsView}
-use Rattle.pl_exec.specs.Sharing.{AreGiven, AreSharesOf, AreShared, channels_on, places_at, places_of}
+use Rattle.pl_exec.specs.Sharing.{AreDealt, AreSharesOf, AreShared, HasShares, channels_on, places_at, places_of}
 use Rattle.pl_exec.specs.Starting.{FitExecutors}
-use Rattle.pl_exec.specs.Telling.{AreSeated, ExecutorStands, plan_marks}
-use Rattle.pl_exec.proofs.ChannelRows.{on-exactly}
-use Rattle.pl_exec.proofs.ChannelsHere.{on-plan}
+use Rattle.pl_exec.specs.Telling.{AreSeated, ExecutorStands, channel_seats, plan_marks}
 use Rattle.pl_exec.proofs.Fits.{IsTable, numbered-at, shares-fit}
 use Rattle.pl_exec.proofs.SeatLemmas.{all-seated}
+use Rattle.pl_exec.proofs.SharesHere.{dealt-by-channel, here-in-order, shares-by-channel}
 use Rattle.pl_exec.proofs.SharesStand.{shares-stand, shares-tell}
 
 module _ {S T : Type 0} (meaning : S → Meaning) (stands_after : S → List Event → Type 0) (state : T → TransportState) (world : World) (plan : Plan) (is_world : world ≡ world_of true plan) (rs : List (Recorded S T))
     (planned : plan.channels ≡ map (channel_planned meaning state) rs) (wholes : List (ChannelPartView S T)) (placed : ArePlaced meaning stands_after state rs wholes) (ruled : IsPlan plan) (few : plan.executors ≤ MAX_EXECUTORS)
     (lanes : LaneTable) (table : IsTable wholes plan.executors lanes) where
   module _ (words : List ChannelNames) (heads : List (Option SeatsView)) (new : AreNewlySeated words (map plan_marks plan.channels) heads) where
-    stand : (x : ℕ) (row : List ℕ) (nodes : ExecutorNodes S T) → x < plan.executors → row ≡ channels_on wholes x → AreSharesOf meaning stands_after state wholes x nodes → AreGiven words heads row nodes → ExecutorStands world plan meaning stands_after state nodes
-    stand x row nodes below known are given = record {
-      is_world = is_world;
-      nodes = subst (λ (z : World × ℕ). NodesStand z.0 plan meaning stands_after state z.1 nodes.was_refused nodes.parts.items) (λ i. (sym is_world i, sym are.number i))
-          (shares-stand meaning stands_after state plan rs planned wholes placed x nodes are few below);
-      own = are.own;
-      here = subst (λ (z : ℕ × List ℕ). AreOn (λ p. p.executors) plan.channels z.0 z.1) (λ i. (sym are.number i, sym (given.here ∙ known) i)) (on-plan state plan wholes x (channels_on wholes x) keeps (on-exactly wholes x));
-      seated = subst (λ (names : List ChannelNames). AreSeated names plan nodes.seats.items) (sym given.words_are) (all-seated heads nodes.parts.items nodes.seats.items given.seats size words plan ruled new);
-      told = shares-tell meaning stands_after state plan rs planned wholes placed x nodes are heads nodes.seats.items (λ c s at. (new.each c s at).unused) given.seats size;
-    }
-      where
-        keeps : PartsKeepPlan state plan wholes
-        keeps = starts-keep meaning stands_after state plan rs planned wholes placed
+    keeps : PartsKeepPlan state plan wholes
+    keeps = starts-keep meaning stands_after state plan rs planned wholes placed
 
-        size : length heads ≡ length nodes.parts.items
-        size = new.count ∙ length-map plan.channels plan_marks ∙ sym (are.count ∙ keeps.count)
+    seats-size : length heads ≡ length wholes
+    seats-size = new.count ∙ length-map plan.channels plan_marks ∙ sym keeps.count
+
+    module _ (x : ℕ) (below : x < plan.executors) (nodes : ExecutorNodes S T) (has : HasShares meaning stands_after state wholes words heads x (channels_on wholes x) nodes) where
+      are : AreSharesOf meaning stands_after state wholes x (channel_parts plan nodes)
+      are = shares-by-channel meaning stands_after state plan rs planned wholes placed x words heads seats-size nodes has
+
+      dealt : AreDealt heads (channel_parts plan nodes) (channel_seats plan nodes)
+      dealt = dealt-by-channel meaning stands_after state plan rs planned wholes placed x words heads seats-size nodes has
+
+      size : length heads ≡ length (channel_parts plan nodes)
+      size = seats-size ∙ sym are.count
+
+      stand : ExecutorStands world plan meaning stands_after state nodes
+      stand = record {
+        is_world = is_world;
+        in_order = here-in-order meaning stands_after state plan rs planned wholes placed x words heads seats-size nodes has;
+        nodes = subst (λ (z : World × ℕ). NodesStand z.0 plan meaning stands_after state z.1 nodes.was_refused (channel_parts plan nodes)) (λ i. (sym is_world i, sym has.number i))
+            (shares-stand meaning stands_after state plan rs planned wholes placed x (channel_parts plan nodes) are nodes.was_refused few below);
+        own = has.own;
+        seated = subst (λ (names : List ChannelNames). AreSeated names plan (channel_seats plan nodes)) (sym has.words_are) (all-seated heads (channel_parts plan nodes) (channel_seats plan nodes) dealt size words plan ruled new);
+        told = shares-tell meaning stands_after state plan rs planned wholes placed x (channel_parts plan nodes) are heads (channel_seats plan nodes) (λ c s at. (new.each c s at).unused) dealt size;
+      }
+
+      fits : AreLaid wholes → FitsLanes lanes x (own_view plan meaning nodes) (places_at wholes plan.executors x)
+      fits laid = subst (λ (v : OwnNodesView). FitsLanes lanes x v (places_at wholes plan.executors x))
+          (λ i. record { executor = sym has.number i; lanes = lanes_here meaning (channel_parts plan nodes); heads = length nodes.own.items; was_refused = sym has.unrefused i })
+          (shares-fit meaning stands_after state plan rs planned wholes placed ruled x (channel_parts plan nodes) are laid lanes table below (length nodes.own.items))
 
     pub fit-all : AreLaid wholes → (rows : List (List ℕ)) (nodes : List (ExecutorNodes S T)) (places : List PlacesView) → rows ≡ map (channels_on wholes) (range_with_len 0 plan.executors)
         → AreShared meaning stands_after state wholes words heads rows nodes → places ≡ places_of wholes plan.executors → FitExecutors world plan meaning stands_after state lanes nodes places
     fit-all laid rows nodes places known shared reserved = record {
       nodes_count = count ∙ sym table.size;
       places_count = ap length reserved ∙ length-map-range_with_len (places_at wholes plan.executors) 0 plan.executors ∙ sym table.size;
-      stand = All-from-at (ExecutorStands world plan meaning stands_after state) nodes (λ x part at.
-          let counted = shared.count in
-          let row = at-index rows x (let within = slice_get_within nodes x part at in omega (arith, within, counted)) in
-          let row-is = numbered-at (channels_on wholes) plan.executors x row.0 (ap (λ (l : List (List ℕ)). slice_get l x) (sym known) ∙ row.1) in
-          stand x row.0 part (below x part at) row-is (shared.each x part at) (shared.given x part row.0 at row.1));
+      stand = All-from-at (ExecutorStands world plan meaning stands_after state) nodes (λ x part at. stand x (below x part at) part (has x part at));
       each = λ x part own at-part at-own.
           let is = numbered-at (places_at wholes plan.executors) plan.executors x own (ap (λ (l : List PlacesView). slice_get l x) (sym reserved) ∙ at-own) in
-          subst (λ (p : PlacesView). FitsLanes lanes x (own_view meaning part) p) (sym is)
-          (shares-fit meaning stands_after state plan rs planned wholes placed ruled x part (shared.each x part at-part) laid lanes table (below x part at-part));
+          subst (λ (p : PlacesView). FitsLanes lanes x (own_view plan meaning part) p) (sym is) (fits x (below x part at-part) part (has x part at-part) laid);
     }
       where
         count : length nodes ≡ plan.executors
@@ -74,3 +84,10 @@ module _ {S T : Type 0} (meaning : S → Meaning) (stands_after : S → List Eve
 
         below : (x : ℕ) (part : ExecutorNodes S T) → slice_get nodes x ≡ Some part → x < plan.executors
         below x part at = let within = slice_get_within nodes x part at in let size = count in omega (arith, within, size)
+
+        has : (x : ℕ) (part : ExecutorNodes S T) → slice_get nodes x ≡ Some part → HasShares meaning stands_after state wholes words heads x (channels_on wholes x) part
+        has x part at =
+            let counted = shared.count in
+            let row = at-index rows x (let within = slice_get_within nodes x part at in omega (arith, within, counted)) in
+            subst (λ (r : List ℕ). HasShares meaning stands_after state wholes words heads x r part)
+            (numbered-at (channels_on wholes) plan.executors x row.0 (ap (λ (l : List (List ℕ)). slice_get l x) (sym known) ∙ row.1)) (shared.each x part row.0 at row.1)

@@ -1,9 +1,9 @@
--- The list of the channels whose heads are on an executor.
+-- Numbers of those that are true, such as the positions of the parts that have their heads.
 use Rattle.std.proofs.Common.{◌≡◌, ℕ, zero, suc, ◌+◌, ◌<◌, ◌≤◌, Bool, true, false, cond, List, [], ◌∷◌, ◌++◌, length, map, get_or, slice_get, Some, refl, ap, sym, ◌∙◌, subst, arith}
 use Rattle.std.specs.Prelude.{is_some, if◌then◌else◌, All, Contains}
 use Rattle.std.proofs.lemmas.Bool.{false≢true}
 use Rattle.std.proofs.lemmas.List.{length-map, map-append}
-use Rattle.std.proofs.lemmas.List.Elements.{All-nil, All-cons, All-weaker, Contains-append_right, Contains-get_or}
+use Rattle.std.proofs.lemmas.List.Elements.{All-nil, All-cons, All-get_or, All-weaker, Contains-append_right, Contains-get_or}
 use Rattle.std.proofs.lemmas.Option.{get_or_from_slice_get, none-some, same_Some, slice_get_read}
 use Rattle.std.proofs.Math.Seq.{map-set_same}
 use Rattle.pl_event.proofs.Lists.{All-at}
@@ -54,22 +54,36 @@ numbered-there n [] i c at is = absurd (none-some true at)
 numbered-there n (b ∷ bs) zero c at is = subst (λ (k : ℕ). Contains (numbered_from n (b ∷ bs)) k) (omega (arith, is)) (numbered-first b n (numbered_from (n + 1) bs) (same_Some b true at))
 numbered-there n (b ∷ bs) (suc i) c at is = numbered-later b n c (numbered_from (n + 1) bs) (numbered-there (n + 1) bs i c at (omega (arith, is)))
 
--- and each of them is true
-abbrev pub IsNumbered : ℕ → List Bool → ℕ → Type 0
-IsNumbered n bs c = (i : ℕ) × (c ≡ n + i) × (slice_get bs i ≡ Some true)
+-- ---- they rise
 
-first-numbered : (n : ℕ) (b : Bool) (bs : List Bool) (rest : List ℕ) → All (IsNumbered n (b ∷ bs)) rest → All (IsNumbered n (b ∷ bs)) (if b then n ∷ rest else rest)
-first-numbered n true bs rest later = All-cons (IsNumbered n (true ∷ bs)) n rest (0, omega arith, refl) later
-first-numbered n false bs rest later = later
+-- each is below those behind it
+abbrev pub IsRising : List ℕ → Type 0
+IsRising ns = (j k : ℕ) → j < k → k < length ns → get_or ns j 0 < get_or ns k 0
 
-pub numbered-only : (n : ℕ) (bs : List Bool) → All (IsNumbered n bs) (numbered_from n bs)
-numbered-only n [] = All-nil (IsNumbered n [])
-numbered-only n (b ∷ bs) =
-    first-numbered n b bs (numbered_from (n + 1) bs)
-    (All-weaker (IsNumbered (n + 1) bs) (IsNumbered n (b ∷ bs)) (λ c x. let is = x.1 in (suc x.0, omega (arith, is), x.2)) (numbered_from (n + 1) bs) (numbered-only (n + 1) bs))
+rising-first : (b : Bool) (n : ℕ) (rest : List ℕ) → All (λ c. (n + 1 ≤ c)) rest → IsRising rest → IsRising (if b then n ∷ rest else rest)
+rising-first false n rest above rises j k lt within = rises j k lt within
+rising-first true n rest above rises j zero lt within = absurd (omega (arith, lt))
+rising-first true n rest above rises zero (suc k) lt within = let more = All-get_or (λ c. n + 1 ≤ c) rest k 0 (omega (arith, within)) above in omega (arith, more)
+rising-first true n rest above rises (suc j) (suc k) lt within = rises j k (omega (arith, lt)) (omega (arith, within))
+
+pub rising : (n : ℕ) (bs : List Bool) → IsRising (numbered_from n bs)
+rising n [] j k lt within = absurd (omega (arith, within))
+rising n (b ∷ bs) j k lt within =
+    rising-first b n (numbered_from (n + 1) bs)
+    (All-weaker (λ c. (n + 1 ≤ c) × (c < n + 1 + length bs)) (λ c. n + 1 ≤ c) (λ c r. r.0) (numbered_from (n + 1) bs) (in-range (n + 1) bs (n + 1) (omega arith)))
+    (rising (n + 1) bs) j k lt within
+
+few-first : (b : Bool) (n : ℕ) (rest : List ℕ) (most : ℕ) → length rest ≤ most → length (if b then n ∷ rest else rest) ≤ most + 1
+few-first true n rest most few = omega (arith, few)
+few-first false n rest most few = omega (arith, few)
+
+-- they are no more than there are
+pub numbered-few : (n : ℕ) (bs : List Bool) → length (numbered_from n bs) ≤ length bs
+numbered-few n [] = omega arith
+numbered-few n (b ∷ bs) = let few = few-first b n (numbered_from (n + 1) bs) (length bs) (numbered-few (n + 1) bs) in omega (arith, few)
 
 module _ {S T : Type 0} (ps : List (ChannelPartView S T)) where
-  -- each is a channel
+  -- each is the position of one
   pub head-within : (own : List ℕ) (i c : ℕ) → own ≡ heads_of ps → slice_get own i ≡ Some c → c < length ps
   head-within own i c are at =
       let size = length-map ps (λ (p : ChannelPartView S T). is_some p.head) in

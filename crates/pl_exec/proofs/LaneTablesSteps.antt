@@ -11,7 +11,7 @@ use Rattle.pl_channel.specs.Ways.{HasExecutors}
 use Rattle.pl_exec.specs.Lanes.{AreLaid, every_lane, lanes_at, lanes_from}
 
 -- one number more
-range-more : (n : ℕ) → range_with_len 0 (n + 1) ≡ range_with_len 0 n ++ n ∷ []
+pub range-more : (n : ℕ) → range_with_len 0 (n + 1) ≡ range_with_len 0 n ++ n ∷ []
 range-more n = sym (map-id (range_with_len 0 (n + 1))) ∙ map-range_with_len_more (λ k. k) 0 n n (omega arith) ∙ ap (λ ks. ks ++ n ∷ []) (map-id (range_with_len 0 n))
 
 pub joined-more : {A : Type 0} (f : ℕ → List A) (start before after : List A) (n : ℕ) → before ≡ start ++ flat_map f (range_with_len 0 n) → after ≡ before ++ f n → after ≡ start ++ flat_map f (range_with_len 0 (n + 1))

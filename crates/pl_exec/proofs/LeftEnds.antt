@@ -1,5 +1,5 @@
 -- The ends of channels among the nodes of executors: which of them were found, part by part and executor by executor.
-use Rattle.std.proofs.Common.{◌≡◌, ◌≢◌, ℕ, ◌+◌, ◌<◌, ◌≤◌, Bool, true, false, List, length, map, get_or, replicate, slice_get, Option, Some, None, ⊎_elim, refl, ap, sym, subst, ◌∙◌, arith, zero-add, ◌||◌}
+use Rattle.std.proofs.Common.{◌≡◌, ◌≢◌, ℕ, ◌+◌, ◌<◌, ◌≤◌, Bool, true, false, List, length, map, get_or, replicate, slice_get, Option, Some, None, ⊎_elim, refl, ap, sym, subst, ◌∙◌, arith, zero-add, ◌||◌, ◌⊎◌, inl, inr}
 use Rattle.std.specs.Prelude.{◌==◌, is_some, if◌then◌else◌}
 use Rattle.std.specs.List.{list_all, range_with_len}
 use Rattle.std.specs.Option.{option_map, option_map_or, option_or}
@@ -7,11 +7,11 @@ use Rattle.std.proofs.lemmas.Bool.{false≢true, cases_eq, eq-eqb, ne_eqb, and_p
 use Rattle.std.proofs.lemmas.List.{length-map, length-replicate, get_or-replicate}
 use Rattle.std.proofs.lemmas.List.Elements.{All-get_or}
 use Rattle.std.proofs.lemmas.List.FromFn.{get_or-range_with_len, length-range_with_len}
-use Rattle.std.proofs.lemmas.Option.{none-some, slice_get_within, slice_get-map, get_or_from_slice_get}
+use Rattle.std.proofs.lemmas.Option.{none-some, same_Some, slice_get_within, slice_get-map, get_or_from_slice_get}
 use Rattle.pl_event.specs.declared.events.Event.{Event}
 use Rattle.pl_event.specs.Meaning.{Meaning}
 use Rattle.pl_event.specs.Worlds.{World}
-use Rattle.pl_event.proofs.Lists.{All-at}
+use Rattle.pl_event.proofs.Lists.{All-at, at-index}
 use Rattle.pl_context.specs.ContextViews.{ContextView}
 use Rattle.pl_context.specs.Standings.{is_over}
 use Rattle.pl_context.specs.TailViews.{TailView}
@@ -24,10 +24,13 @@ use Rattle.pl_channel.specs.PlanStand.{PartKeepsPlan}
 use Rattle.pl_channel.specs.Channels.{executor_at}
 use Rattle.pl_world.specs.Plans.{ChannelPlan, Plan, tail_hop, planned_head_hop}
 use Rattle.pl_world.specs.PlanRules.{IsChannelPlan, IsPlan}
+use Rattle.pl_exec.specs.declared.nodes.ExecutorNodes.{ExecutorNodes}
 use Rattle.pl_exec.specs.declared.reporting.Found.{Found}
-use Rattle.pl_exec.specs.ExecutorNodes.{ShareStands, NodesStand, IsPartOver, AreOver}
-use Rattle.pl_exec.specs.Reported.{IsLeftTail, IsLeftHead, AreLeft, nothing_found, with_part, with_parts}
-use Rattle.pl_exec.proofs.EachWith.{added-at, added-count}
+use Rattle.pl_exec.specs.ChannelRows.{by_channel, held_for, row_position}
+use Rattle.pl_exec.specs.ExecutorNodes.{AreInOrder, AreOver, IsPartOver, NodesStand, ShareStands, channel_parts}
+use Rattle.pl_exec.specs.Reported.{IsLeftTail, IsLeftHead, AreLeft, nothing_found, with_part}
+use Rattle.pl_exec.proofs.ByChannel.{by-count, slot-at}
+use Rattle.pl_exec.proofs.PartsHere.{IsElsewhere, held-part, is-elsewhere, no-head, no-tail, parts-count}
 
 -- ---- one end
 
@@ -163,23 +166,38 @@ module _ {T : Type 0} (state : T → TransportState) (plan : Plan) where
         head = end-next (IsLeftHead state plan c p) (executor_of p (planned_head_hop p)) me part.head f.head left-head head-here is.head;
       }
 
-    -- one executor more is looked through
-    next-executor : (fs : List (Found T)) (parts : List (ChannelPartView S T)) → NodesStand (world_of true plan) plan meaning stands_after state me refused parts → AreOver state parts → AreFound me fs → AreFound (me + 1) (with_parts fs parts)
-    next-executor fs parts stand over are = record {
-      count = added-count with_part fs parts ∙ are.count;
-      each = λ c p g planned found.
-          let n = added-at with_part fs parts c g (stand.keeps.count ∙ sym are.count) found in
-          subst (λ (z : Found T). IsFound (me + 1) c p z) (sym n.grown)
-          (found-next c p n.value (stand.parts c n.value n.is) (stand.keeps.each c p n.value planned n.is) (over c n.value n.is) n.before (are.each c p n.before planned n.was));
-    }
+    module _ (nodes : ExecutorNodes S T) (order : AreInOrder (length plan.channels) nodes) where
+      -- what was found of a channel, with the ends in its part
+      grown : (c : ℕ) (f g : Found T) (q : ChannelPartView S T) → slice_get (channel_parts plan nodes) c ≡ Some q → ((part : ChannelPartView S T) × (held_for nodes.here.items nodes.parts.items c ≡ Some part) × (g ≡ with_part f part)) ⊎ ((length nodes.parts.items ≤ row_position nodes.here.items c) × (g ≡ f))
+          → g ≡ with_part f q
+      grown c f g q at (inl held) = held.2 ∙ ap (with_part f) (same_Some held.0 q (sym (held-part plan nodes order c held.0 within held.1) ∙ at))
+        where
+          within : c < length plan.channels
+          within = let there = slice_get_within (channel_parts plan nodes) c q at in let size = parts-count plan nodes order in omega (arith, there, size)
+      grown c f g q at (inr past) = past.1 ∙ sym (λ i. record { tail = option_or (no-tail c e.planned q (e.part q at) i) f.tail; head = option_or (no-head c e.planned q (e.part q at) i) f.head })
+        where
+          e : IsElsewhere plan nodes order c
+          e = is-elsewhere plan nodes order c (let there = slice_get_within (channel_parts plan nodes) c q at in let size = parts-count plan nodes order in omega (arith, there, size)) (let size = order.parts in let behind = past.0 in omega (arith, size, behind))
 
-    -- The next executor has ended, and left these nodes.
-    pub next-finished : (world : World) (k : ℕ) (fs now : List (Found T)) (parts : List (ChannelPartView S T)) → world ≡ world_of true plan → NodesStand world plan meaning stands_after state me refused parts → AreOver state parts → me ≡ k → AreFound k fs
-        → now ≡ with_parts fs parts → AreFound (k + 1) now
-    next-finished world k fs now parts of stand over own are is =
-        subst (λ (x : ℕ). AreFound (x + 1) now) own
-        (subst (λ (l : List (Found T)). AreFound (me + 1) l) (sym is)
-        (next-executor fs parts (subst (λ (w : World). NodesStand w plan meaning stands_after state me refused parts) of stand) over (subst (λ (x : ℕ). AreFound x fs) (sym own) are)))
+      -- one executor more is looked through
+      next-executor : (fs : List (Found T)) → NodesStand (world_of true plan) plan meaning stands_after state me refused (channel_parts plan nodes) → AreOver state (channel_parts plan nodes) → AreFound me fs
+          → AreFound (me + 1) (by_channel with_part nodes.here.items nodes.parts.items fs)
+      next-executor fs stand over are = record {
+        count = by-count with_part nodes.here.items fs nodes.parts.items ∙ are.count;
+        each = λ c p g planned found.
+            let n = slot-at with_part nodes.here.items fs nodes.parts.items c g found in
+            let q = at-index (channel_parts plan nodes) c (let within = slice_get_within plan.channels c p planned in let size = parts-count plan nodes order in omega (arith, within, size)) in
+            subst (λ (z : Found T). IsFound (me + 1) c p z) (sym (grown c n.before g q.0 q.1 n.is))
+            (found-next c p q.0 (stand.parts c q.0 q.1) (stand.keeps.each c p q.0 planned q.1) (over c q.0 q.1) n.before (are.each c p n.before planned n.was));
+      }
+
+      -- The next executor has ended, and left these nodes.
+      pub next-finished : (world : World) (k : ℕ) (fs now : List (Found T)) → world ≡ world_of true plan → NodesStand world plan meaning stands_after state me refused (channel_parts plan nodes) → AreOver state (channel_parts plan nodes) → me ≡ k → AreFound k fs
+          → now ≡ by_channel with_part nodes.here.items nodes.parts.items fs → AreFound (k + 1) now
+      next-finished world k fs now of stand over own are is =
+          subst (λ (x : ℕ). AreFound (x + 1) now) own
+          (subst (λ (l : List (Found T)). AreFound (me + 1) l) (sym is)
+          (next-executor fs (subst (λ (w : World). NodesStand w plan meaning stands_after state me refused (channel_parts plan nodes)) of stand) over (subst (λ (x : ℕ). AreFound x fs) (sym own) are)))
 
 -- ---- the numbers of executors: 0, 1 and so on
 

@@ -1,5 +1,7 @@
 pub mod ListSteps
 pub mod EachWith
+pub mod ByChannel
+pub mod PartsHere
 pub mod Columns
 pub mod LaneLemmas
 pub mod StartLemmas
@@ -8,10 +10,10 @@ pub mod HeadLists
 pub mod CallLemmas
 pub mod OverLemmas
 pub mod ChannelRows
-pub mod ChannelsHere
 pub mod MovedNodes
 pub mod Ready
 pub mod SharesMade
+pub mod SharesHere
 pub mod SharesStand
 pub mod Fits
 pub mod FitsStart

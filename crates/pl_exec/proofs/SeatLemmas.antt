@@ -90,10 +90,6 @@ pub others-told : {S T : Type 0} (ps : List (ChannelPartView S T)) (c : ℕ) (p'
     → slice_get ps' x ≡ Some p → slice_get ps x ≡ Some p
 others-told ps c p' ps' t x p other there = at_set_other ps c x p' p other (at_set_other (set ps c p') c x t.after p other (ap (λ (l : List (ChannelPartView _ _)). slice_get l x) (sym t.becomes) ∙ there))
 
--- there are no seats on its words here
-pub no-seats-tell : {S T : Type 0} (seats : List (Option SeatsView)) (ps : List (ChannelPartView S T)) (c : ℕ) (slot : Option SeatsView) → slot ≡ None → TellsAt (slice_set seats c slot) ps c
-no-seats-tell seats ps c slot none s p h at here is = absurd (none-some s (sym none ∙ sym (at_set_same seats c slot (Some s) at)))
-
 -- ---- the marks of a plan
 
 -- are those of its channels

@@ -1,184 +1,287 @@
--- The nodes of executors, to which those of one channel after another are added, with the seats of its head.
-use Rattle.std.proofs.Common.{◌≡◌, ℕ, ◌+◌, ◌<◌, ◌≤◌, Bool, true, false, not, List, [], ◌∷◌, ◌++◌, length, map, get_or, set, slice_get, Option, Some, refl, ap, sym, ◌∙◌, subst, arith, inl, inr, append-nil, append_assoc}
+-- The nodes of executors, each of which takes its shares of channels, with the seats of their heads, out of what is left.
+use Rattle.std.proofs.Common.{◌≡◌, ◌≢◌, ℕ, ◌+◌, ◌<◌, ◌≤◌, Bool, true, false, not, ◌&&◌, List, [], ◌∷◌, ◌++◌, length, map, get_or, set, slice_get, Option, Some, refl, ap, sym, ◌∙◌, subst, ⊎_elim, arith, inl, inr, append-nil, append_assoc}
 use Rattle.std.specs.Prelude.{◌==◌, cond, is_some}
 use Rattle.std.specs.List.{range_with_len}
-use Rattle.std.proofs.lemmas.Bool.{both_ways, eqb-true}
+use Rattle.std.proofs.lemmas.Bool.{both_ways, cases_Bool, cases_eq, eqb-true, false≢true, ne_eqb}
 use Rattle.std.proofs.lemmas.List.{length-set, length_push}
-use Rattle.std.proofs.lemmas.Option.{none-some, slice_get_within, slice_get_read, same_Some}
+use Rattle.std.proofs.lemmas.Option.{none-some, slice_get_within, same_Some}
 use Rattle.std.proofs.lemmas.Simd.{map-map}
 use Rattle.pl_event.specs.declared.events.Event.{Event}
 use Rattle.pl_event.specs.Meaning.{Meaning}
 use Rattle.pl_event.proofs.Lists.{at-index, at_set_same, at_set_other, slice_get-push}
-use Rattle.pl_head.specs.HeadStand.{HeadView}
+use Rattle.pl_context.proofs.WaitingCalls.{at-set_there}
 use Rattle.pl_head.specs.Transports.{TransportState}
 use Rattle.pl_part.specs.Parts.{ChannelPartView, head_hop}
-use Rattle.pl_part.specs.Shares.{EachPart, IsShare, executor_of, only_if}
+use Rattle.pl_part.specs.Shares.{IsShare, IsShareBy, IsShareOf, executor_of, only_if}
+use Rattle.pl_part.proofs.ShareLemmas.{share-is-of, share-within}
 use Rattle.pl_channel.specs.Channels.{data_lanes_of}
 use Rattle.pl_channel.specs.Ways.{lanes_between}
 use Rattle.pl_exec.specs.declared.nodes.ExecutorNodes.{ExecutorNodes}
 use Rattle.pl_exec.specs.Opening.{PlacesView}
-use Rattle.pl_exec.specs.ExecutorNodes.{heads_of}
+use Rattle.pl_exec.specs.ChannelRows.{IsChannelRow, row_position}
+use Rattle.pl_exec.specs.ExecutorNodes.{AreInOrder, heads_of}
 use Rattle.pl_exec.specs.SessionWords.{ChannelNames, SeatsView}
-use Rattle.pl_exec.specs.Sharing.{AreDealt, AreGiven, IsShareOf, AreSharesOf, AreShared, Gets, EachGets, HaveOneHead, places_of}
+use Rattle.pl_exec.specs.Sharing.{AreRests, AreShared, Gets, HasShare, HasShares, IsRestOf, places_of}
 use Rattle.pl_exec.proofs.HeadLists.{heads-more}
 use Rattle.pl_exec.proofs.ListSteps.{both-push}
 
--- ---- the seats of one channel
+-- ---- one share
 
-module _ {S T : Type 0} where
-  -- where the head is in one of the shares at most, the seats are left up to that
-  pub still-left : (shares : List (ChannelPartView S T)) (one : HaveOneHead shares) (n : ℕ) (share : ChannelPartView S T) (left rest s : Option SeatsView) → slice_get shares n ≡ Some share → (n ≤ one.home → left ≡ s)
-      → rest ≡ only_if (not (is_some share.head)) left → n + 1 ≤ one.home → rest ≡ s
-  still-left shares one n share left rest s at there is below = is ∙ by (is_some share.head) (one.only n share at)
-    where
-      by : (b : Bool) → (b ≡ true → n ≡ one.home) → only_if (not b) left ≡ s
-      by true home = absurd (let e = home refl in omega (arith, e, below))
-      by false home = there (omega (arith, below))
+still-some : {A : Type 0} (b : Bool) (o p : Option A) → p ≡ only_if b o → is_some p ≡ true → (b ≡ true) × (is_some o ≡ true)
+still-some true o p is some = (refl, sym (ap (λ (q : Option _). is_some q) is) ∙ some)
+still-some false o p is some = absurd (both_ways (is_some p) (ap (λ (q : Option _). is_some q) is) some)
 
-  -- the executor of the head gets them
-  got-seats : (old : ExecutorNodes S T) (share : ChannelPartView S T) (left s : Option SeatsView) (new : ExecutorNodes S T) → (is_some share.head ≡ true → left ≡ s) → Gets old share left new → Gets old share s new
-  got-seats old share left s new there got = record {
-    number = got.number;
-    refused = got.refused;
-    words = got.words;
-    here = got.here;
-    parts = got.parts;
-    own = got.own;
-    seats = got.seats ∙ ap (λ (slot : Option SeatsView). old.seats.items ++ slot ∷ []) (by (is_some share.head) there);
+not-some : {A : Type 0} (b : Bool) (o p : Option A) → p ≡ only_if b o → not b ≡ true → is_some p ≡ false
+not-some true o p is off = absurd (false≢true off)
+not-some false o p is off = ap (λ (q : Option _). is_some q) is
+
+only-same : {A : Type 0} (b : Bool) (o p : Option A) → (b ≡ true → o ≡ p) → only_if b o ≡ only_if b p
+only-same true o p same = same refl
+only-same false o p same = refl
+
+other-executor : (e x n : ℕ) → e ≢ x → ((n == e) && not (n == x)) ≡ (n == e)
+other-executor e x n apart = ⊎_elim
+    (λ (t : (n == e) ≡ true). let off : (n == x) ≡ false = ne_eqb n x (λ same. apart (sym (eqb-true n e t) ∙ same)) in (λ i. t i && not (off i)) ∙ sym t)
+    (λ (f : (n == e) ≡ false). (λ i. f i && not (n == x)) ∙ sym f)
+    (cases_Bool (n == e))
+
+module _ {S T : Type 0} (x : ℕ) where
+  -- what is left of a channel where the executor has taken its share
+  pub rest-is : (p share p' : ChannelPartView S T) (slot slot' : Option SeatsView) → IsShareBy (λ e. e == x) p share → IsShareBy (λ e. not (e == x)) p p' → slot' ≡ only_if (not (is_some share.head)) slot → IsRestOf x p p' slot slot'
+  rest-is p share p' slot slot' taken rest left = record {
+    shares = λ e other apart is. share-within (λ n. n == e) (λ n. not (n == x)) (λ n. n == e) p p' other (λ n. other-executor e x n apart) rest is;
+    seats = λ some.
+        let here = executor_of p.path (head_hop p) == x in
+        let head = still-some (not here) p.head p'.head rest.head some in
+        (head.1, left ∙ ap (λ (b : Bool). only_if (not b) slot) (not-some here p.head share.head taken.head head.0));
+  }
+
+  -- and of a channel of which it has none
+  pub rest-same : (p : ChannelPartView S T) (slot : Option SeatsView) → IsRestOf x p p slot slot
+  rest-same p slot = record { shares = λ e share apart is. is; seats = λ some. (some, refl) }
+
+-- ---- the channels of one row
+
+module _ {S T : Type 0} (x : ℕ) (before : List (ChannelPartView S T)) (seats : List (Option SeatsView)) (row : List ℕ) where
+  -- The executor has taken its shares of the first of these channels.
+  pub record AreTaken (k : ℕ) (after : List (ChannelPartView S T)) (seats' : List (Option SeatsView)) : Type 0 where
+    pub rests : AreRests x before seats after seats'
+    pub ahead : (j : ℕ) → k ≤ j → j < length row → slice_get after (get_or row j 0) ≡ slice_get before (get_or row j 0)
+    pub seats_ahead : (j : ℕ) → k ≤ j → j < length row → slice_get seats' (get_or row j 0) ≡ slice_get seats (get_or row j 0)
+
+  pub none-taken : AreTaken 0 before seats
+  none-taken = record {
+    rests = record {
+      parts_count = refl;
+      seats_count = refl;
+      each = λ c p p' slot slot' was seat now seat'.
+          let part : p ≡ p' = same_Some p p' (sym was ∙ now) in
+          let same : slot ≡ slot' = same_Some slot slot' (sym seat ∙ seat') in
+          subst (λ (z : ChannelPartView S T × Option SeatsView). IsRestOf x p z.0 slot z.1) (λ i. (part i, same i)) (rest-same x p slot);
+    };
+    ahead = λ j le lt. refl;
+    seats_ahead = λ j le lt. refl;
+  }
+
+  pub next-taken : (k : ℕ) (after : List (ChannelPartView S T)) (seats' : List (Option SeatsView)) (p p' : ChannelPartView S T) (slot slot' : Option SeatsView) → IsChannelRow (length before) row → k < length row → AreTaken k after seats'
+      → slice_get before (get_or row k 0) ≡ Some p → slice_get seats (get_or row k 0) ≡ Some slot → IsRestOf x p p' slot slot' → AreTaken (k + 1) (set after (get_or row k 0) p') (set seats' (get_or row k 0) slot')
+  next-taken k after seats' p p' slot slot' is within so_far was seat left = record {
+    rests = record {
+      parts_count = length-set after c p' ∙ so_far.rests.parts_count;
+      seats_count = length-set seats' c slot' ∙ so_far.rests.seats_count;
+      each = λ d q q' t t' at-q at-t at-q' at-t'. ⊎_elim
+          (λ (e : d ≡ c).
+          let old : q ≡ p = same_Some q p (sym at-q ∙ ap (λ (n : ℕ). slice_get before n) e ∙ was) in
+          let old-seat : t ≡ slot = same_Some t slot (sym at-t ∙ ap (λ (n : ℕ). slice_get seats n) e ∙ seat) in
+          let new = at_set_same after c p' q' (ap (λ (n : ℕ). slice_get (set after c p') n) (sym e) ∙ at-q') in
+          let new-seat = at_set_same seats' c slot' t' (ap (λ (n : ℕ). slice_get (set seats' c slot') n) (sym e) ∙ at-t') in
+          subst (λ (z : ChannelPartView S T × ChannelPartView S T × Option SeatsView × Option SeatsView). IsRestOf x z.0 z.1 z.2 z.3) (λ i. (sym old i, sym new i, sym old-seat i, sym new-seat i)) left)
+          (λ (other : d ≢ c). so_far.rests.each d q q' t t' at-q at-t (at_set_other after c d p' q' other at-q') (at_set_other seats' c d slot' t' other at-t'))
+          (cases_eq d c);
+    };
+    ahead = λ j le lt. at-set_there after c (get_or row j 0) p' (apart j le lt) ∙ so_far.ahead j (omega (arith, le)) lt;
+    seats_ahead = λ j le lt. at-set_there seats' c (get_or row j 0) slot' (apart j le lt) ∙ so_far.seats_ahead j (omega (arith, le)) lt;
   }
     where
-      by : (b : Bool) → (b ≡ true → left ≡ s) → only_if b left ≡ only_if b s
-      by true is = is refl
-      by false is = refl
+      c : ℕ
+      c = get_or row k 0
 
-  -- ---- one channel more, executor by executor
+      -- another channel stands there
+      apart : (j : ℕ) → k + 1 ≤ j → j < length row → get_or row j 0 ≢ c
+      apart j le lt e =
+          let one = is.once j lt in
+          let other = is.once k within in
+          let same : j ≡ k = sym one ∙ ap (λ (n : ℕ). row_position row n) e ∙ other in
+          omega (arith, same, le)
 
-  pub next-gets : (before all : List (ExecutorNodes S T)) (shares done : List (ChannelPartView S T)) (one : HaveOneHead shares) (share : ChannelPartView S T) (left s : Option SeatsView) (n : ℕ) (old new : ExecutorNodes S T)
-      → slice_get shares n ≡ Some share → (n ≤ one.home → left ≡ s) → EachGets before done s all → n ≡ length done → n < length all → old ≡ get_or all n old → Gets old share left new → EachGets before (done ++ share ∷ []) s (set all n new)
-  next-gets before all shares done one share left s n old new there own so_far place within read got = record {
-    count = length-set all n new ∙ so_far.count;
-    each = each;
-    others = λ x nodes past at.
-        let size = length_push done share in
-        so_far.others x nodes (omega (arith, past, size)) (at_set_other all n x new nodes (λ e. omega (arith, e, past, size, place)) at);
+-- ---- its nodes
+
+module _ {S T : Type 0} (meaning : S → Meaning) (stands_after : S → List Event → Type 0) (state : T → TransportState) (wholes : List (ChannelPartView S T)) (words : List ChannelNames) (heads : List (Option SeatsView)) (x : ℕ) (row : List ℕ) where
+  -- What an executor has of the first channels of its row.
+  pub record HasFirst (k : ℕ) (nodes : ExecutorNodes S T) : Type 0 where
+    pub number : nodes.number ≡ x
+    pub unrefused : nodes.was_refused ≡ false
+    pub words_are : nodes.words.now ≡ words
+    pub here : nodes.here.items ≡ row
+    pub positions : nodes.positions.items ≡ map (row_position row) (range_with_len 0 (length wholes))
+    pub parts : length nodes.parts.items ≡ k
+    pub seats : length nodes.seats.items ≡ k
+    pub each : (j : ℕ) (share : ChannelPartView S T) (slot : Option SeatsView) → slice_get nodes.parts.items j ≡ Some share → slice_get nodes.seats.items j ≡ Some slot → HasShare meaning stands_after state wholes words heads x (get_or row j 0) share slot
+    pub own : nodes.own.items ≡ heads_of nodes.parts.items
+
+  pub next-share : (k : ℕ) (old new : ExecutorNodes S T) (whole share : ChannelPartView S T) (slot : Option SeatsView) → HasFirst k old → Gets old share slot new → slice_get wholes (get_or row k 0) ≡ Some whole → slice_get heads (get_or row k 0) ≡ Some slot
+      → IsShareOf meaning stands_after state (λ e. e == x) whole share → HasFirst (k + 1) new
+  next-share k old new whole share slot had got at own is = record {
+    number = ap (λ (n : ExecutorNodes S T). n.number) got.same ∙ had.number;
+    unrefused = ap (λ (n : ExecutorNodes S T). n.was_refused) got.same ∙ had.unrefused;
+    words_are = ap (λ (n : ExecutorNodes S T). n.words.now) got.same ∙ had.words_are;
+    here = ap (λ (n : ExecutorNodes S T). n.here.items) got.same ∙ had.here;
+    positions = ap (λ (n : ExecutorNodes S T). n.positions.items) got.same ∙ had.positions;
+    parts = ap (λ (l : List (ChannelPartView S T)). length l) got.parts ∙ length_push old.parts.items share ∙ ap (λ (n : ℕ). n + 1) had.parts;
+    seats = ap (λ (l : List (Option SeatsView)). length l) got.seats ∙ length_push old.seats.items taken ∙ ap (λ (n : ℕ). n + 1) had.seats;
+    each = λ j p t at-p at-t. elim (slice_get-push old.parts.items share p j (ap (λ (l : List (ChannelPartView S T)). slice_get l j) (sym got.parts) ∙ at-p)) [
+      | inl earlier ↦ had.each j p t earlier (before j t (let within = slice_get_within old.parts.items j p earlier in let size = had.parts in omega (arith, within, size)) at-t)
+      | inr last ↦
+          let here : j ≡ k = last.0 ∙ had.parts in
+          subst (λ (z : ℕ × ChannelPartView S T × Option SeatsView). HasShare meaning stands_after state wholes words heads x (get_or row z.0 0) z.1 z.2) (λ i. (sym here i, sym last.1 i, sym (latest j t here at-t) i)) new-share
+    ];
+    own = got.own ∙ ap (λ (l : List ℕ). l ++ cond (is_some share.head) (length old.parts.items ∷ []) []) had.own ∙ sym (heads-more old.parts.items share) ∙ ap (λ (l : List (ChannelPartView S T)). heads_of l) (sym got.parts);
   }
     where
-      was : slice_get before n ≡ Some old
-      was = so_far.others n old (omega (arith, place)) (slice_get_read all (length all) n old refl within read)
+      taken : Option SeatsView
+      taken = only_if (is_some share.head) slot
 
-      gets : Gets old share s new
-      gets = got-seats old share left s new (λ some. own (let e = one.only n share there some in omega (arith, e))) got
+      new-share : HasShare meaning stands_after state wholes words heads x (get_or row k 0) share taken
+      new-share = record { whole = whole; whole_at = at; is = is; own = slot; own_at = own; seats = refl }
 
-      each : (x : ℕ) (o m : ExecutorNodes S T) (q : ChannelPartView S T) → slice_get before x ≡ Some o → slice_get (done ++ share ∷ []) x ≡ Some q → slice_get (set all n new) x ≡ Some m → Gets o q s m
-      each x o m q at-o at-q at-m = elim (slice_get-push done share q x at-q) [
-        | inl earlier ↦ let below = slice_get_within done x q earlier in so_far.each x o m q at-o earlier (at_set_other all n x new m (λ e. omega (arith, e, below, place)) at-m)
-        | inr last ↦
-            let here : x ≡ n = last.0 ∙ sym place in
-            let old-is : old ≡ o = same_Some old o (sym was ∙ ap (λ (i : ℕ). slice_get before i) (sym here) ∙ at-o) in
-            let new-is = at_set_same all n new m (ap (λ (i : ℕ). slice_get (set all n new) i) (sym here) ∙ at-m) in
-            subst (λ (z : ExecutorNodes S T × ChannelPartView S T × ExecutorNodes S T). Gets z.0 z.1 s z.2) (λ i. (old-is i, sym last.1 i, sym new-is i)) gets
+      slots : (j : ℕ) (t : Option SeatsView) → slice_get new.seats.items j ≡ Some t → slice_get (old.seats.items ++ taken ∷ []) j ≡ Some t
+      slots j t at-t = ap (λ (l : List (Option SeatsView)). slice_get l j) (sym got.seats) ∙ at-t
+
+      before : (j : ℕ) (t : Option SeatsView) → j < k → slice_get new.seats.items j ≡ Some t → slice_get old.seats.items j ≡ Some t
+      before j t lt at-t = elim (slice_get-push old.seats.items taken t j (slots j t at-t)) [
+        | inl earlier ↦ earlier
+        | inr last ↦ absurd (let e = last.0 in let size = had.seats in omega (arith, e, size, lt))
       ]
 
-  -- one channel more, whose seats are dealt
-  dealt-more : (heads : List (Option SeatsView)) (ps : List (ChannelPartView S T)) (seats : List (Option SeatsView)) (s : Option SeatsView) (p : ChannelPartView S T) → length heads ≡ length ps → AreDealt heads ps seats
-      → AreDealt (heads ++ s ∷ []) (ps ++ p ∷ []) (seats ++ only_if (is_some p.head) s ∷ [])
-  dealt-more heads ps seats s p same so_far = record {
-    count = length_push seats new ∙ ap (λ (n : ℕ). n + 1) so_far.count ∙ sym (length_push heads s);
-    each = λ c t q slot at-head at-part at-slot. both-push (λ n u r. (o : Option SeatsView) → slice_get (seats ++ new ∷ []) n ≡ Some o → o ≡ only_if (is_some r.head) u) heads ps s p same earlier last c t q at-head at-part slot at-slot;
+      latest : (j : ℕ) (t : Option SeatsView) → j ≡ k → slice_get new.seats.items j ≡ Some t → t ≡ taken
+      latest j t here at-t = elim (slice_get-push old.seats.items taken t j (slots j t at-t)) [
+        | inl earlier ↦ absurd (let within = slice_get_within old.seats.items j t earlier in let size = had.seats in omega (arith, within, size, here))
+        | inr last ↦ last.1
+      ]
+
+  -- it has all
+  pub all-shares : (nodes : ExecutorNodes S T) → IsChannelRow (length wholes) row → HasFirst (length row) nodes → HasShares meaning stands_after state wholes words heads x row nodes
+  all-shares nodes is had = record {
+    number = had.number;
+    unrefused = had.unrefused;
+    words_are = had.words_are;
+    here = had.here;
+    in_order = record {
+      row = subst (λ (l : List ℕ). IsChannelRow (length wholes) l) (sym had.here) is;
+      parts = had.parts ∙ sym (ap (λ (l : List ℕ). length l) had.here);
+      seats = had.seats ∙ sym (ap (λ (l : List ℕ). length l) had.here);
+      positions = had.positions ∙ ap (λ (l : List ℕ). map (row_position l) (range_with_len 0 (length wholes))) (sym had.here);
+    };
+    each = had.each;
+    own = had.own;
   }
-    where
-      new : Option SeatsView
-      new = only_if (is_some p.head) s
-
-      size : length seats ≡ length heads
-      size = so_far.count
-
-      earlier : (n : ℕ) (u : Option SeatsView) (r : ChannelPartView S T) → slice_get heads n ≡ Some u → slice_get ps n ≡ Some r → (o : Option SeatsView) → slice_get (seats ++ new ∷ []) n ≡ Some o → o ≡ only_if (is_some r.head) u
-      earlier n u r at-u at-r o at-o = elim (slice_get-push seats new o n at-o) [
-        | inl old ↦ so_far.each n u r o at-u at-r old
-        | inr end ↦ absurd (let within = slice_get_within heads n u at-u in let e = end.0 in let k = size in omega (arith, within, e, k))
-      ]
-
-      last : (o : Option SeatsView) → slice_get (seats ++ new ∷ []) (length heads) ≡ Some o → o ≡ only_if (is_some p.head) s
-      last o at-o = elim (slice_get-push seats new o (length heads) at-o) [
-        | inl old ↦ absurd (let within = slice_get_within seats (length heads) o old in let k = size in omega (arith, within, k))
-        | inr end ↦ end.1
-      ]
 
 -- ---- all executors
 
-module _ {S T : Type 0} (meaning : S → Meaning) (stands_after : S → List Event → Type 0) (state : T → TransportState) (words : List ChannelNames) where
-  -- none so far
-  pub none-shared : (all : List (ExecutorNodes S T)) → all ≡ [] → AreShared meaning stands_after state [] words [] [] all
-  none-shared all none = subst (AreShared meaning stands_after state [] words [] []) (sym none) (record { count = refl; each = λ x nodes at. absurd (none-some nodes at); given = λ x nodes row at. absurd (none-some nodes at) })
+module _ {S T : Type 0} (wholes : List (ChannelPartView S T)) (heads : List (Option SeatsView)) where
+  -- When the first executors have their shares, those of the others are as they were; and where a head is left, so are its seats.
+  pub record AreLeftFor (n : ℕ) (rests : List (ChannelPartView S T)) (seats : List (Option SeatsView)) : Type 0 where
+    pub parts_count : length rests ≡ length wholes
+    pub seats_count : length seats ≡ length heads
+    pub shares : (c : ℕ) (whole rest : ChannelPartView S T) → slice_get wholes c ≡ Some whole → slice_get rests c ≡ Some rest → (e : ℕ) (share : ChannelPartView S T) → n ≤ e → IsShare e rest share → IsShare e whole share
+    pub own : (c : ℕ) (rest : ChannelPartView S T) (s slot : Option SeatsView) → slice_get rests c ≡ Some rest → slice_get heads c ≡ Some s → slice_get seats c ≡ Some slot → is_some rest.head ≡ true → slot ≡ s
 
-  -- one executor more, without nodes
-  pub executor-shared : (rows : List (List ℕ)) (row : List ℕ) (all grown : List (ExecutorNodes S T)) (new : ExecutorNodes S T) → new.number ≡ length all → new.was_refused ≡ false → new.parts.items ≡ [] → new.own.items ≡ [] → new.words.now ≡ words → new.here.items ≡ row → new.seats.items ≡ []
-      → grown ≡ all ++ new ∷ [] → AreShared meaning stands_after state [] words [] rows all → AreShared meaning stands_after state [] words [] (rows ++ row ∷ []) grown
-  executor-shared rows row all grown new number unrefused none ownless told known seatless added so_far = subst (AreShared meaning stands_after state [] words [] (rows ++ row ∷ [])) (sym added) (record {
-    count = length_push all new ∙ ap (λ (k : ℕ). k + 1) so_far.count ∙ sym (length_push rows row);
-    each = λ x nodes at. elim (slice_get-push all new nodes x at) [
-      | inl earlier ↦ so_far.each x nodes earlier
-      | inr last ↦ subst (λ (z : ℕ × ExecutorNodes S T). AreSharesOf meaning stands_after state [] z.0 z.1) (λ i. (sym last.0 i, sym last.1 i)) shares
-    ];
-    given = both-push (λ x nodes r. AreGiven words [] r nodes) all rows new row so_far.count so_far.given given;
-  })
-    where
-      shares : AreSharesOf meaning stands_after state [] (length all) new
-      shares = record { number = number; unrefused = unrefused; count = ap length none; each = λ c whole share at there. absurd (none-some whole at); own = ownless ∙ ap (λ (l : List (ChannelPartView S T)). heads_of l) (sym none) }
+  pub all-left : AreLeftFor 0 wholes heads
+  all-left = record {
+    parts_count = refl;
+    seats_count = refl;
+    shares = λ c whole rest at there e share le is. subst (λ (p : ChannelPartView S T). IsShare e p share) (same_Some rest whole (sym there ∙ at)) is;
+    own = λ c rest s slot there at seat some. same_Some slot s (sym seat ∙ at);
+  }
 
-      given : AreGiven words [] row new
-      given = record { words_are = told; seats = record { count = ap length seatless; each = λ c s p slot at. absurd (none-some s at) }; here = known }
+  module _ (n : ℕ) (rests : List (ChannelPartView S T)) (seats : List (Option SeatsView)) (left : AreLeftFor n rests seats) (same : length heads ≡ length wholes) where
+    -- what is left of a channel, and what was before
+    record IsRestAt (rests' : List (ChannelPartView S T)) (seats' : List (Option SeatsView)) (c : ℕ) (rest' : ChannelPartView S T) : Type 0 where
+      pub rest : ChannelPartView S T
+      pub rest_at : slice_get rests c ≡ Some rest
+      pub slot : Option SeatsView
+      pub slot_at : slice_get seats c ≡ Some slot
+      pub slot' : Option SeatsView
+      pub slot'_at : slice_get seats' c ≡ Some slot'
+      pub left_is : IsRestOf n rest rest' slot slot'
 
-  module _ (wholes : List (ChannelPartView S T)) (whole : ChannelPartView S T) (heads : List (Option SeatsView)) (s : Option SeatsView) (same : length heads ≡ length wholes) where
-    one-more : (x : ℕ) (old new : ExecutorNodes S T) (share : ChannelPartView S T) → AreSharesOf meaning stands_after state wholes x old → IsShareOf meaning stands_after state x whole share → Gets old share s new
-        → AreSharesOf meaning stands_after state (wholes ++ whole ∷ []) x new
-    one-more x old new share had is got = record {
-      number = got.number ∙ had.number;
-      unrefused = got.refused ∙ had.unrefused;
-      count = ap length got.parts ∙ length_push old.parts.items share ∙ ap (λ (k : ℕ). k + 1) had.count ∙ sym (length_push wholes whole);
-      each =
-          subst (λ (l : List (ChannelPartView S T)). (c : ℕ) (w p : ChannelPartView S T) → slice_get (wholes ++ whole ∷ []) c ≡ Some w → slice_get l c ≡ Some p → IsShareOf meaning stands_after state x w p) (sym got.parts)
-          (both-push (λ c w p. IsShareOf meaning stands_after state x w p) wholes old.parts.items whole share (sym had.count) had.each is);
-      own = got.own ∙ ap (λ (l : List ℕ). l ++ cond (is_some share.head) (length old.parts.items ∷ []) []) had.own ∙ sym (heads-more old.parts.items share) ∙ ap (λ (l : List (ChannelPartView S T)). heads_of l) (sym got.parts);
+    rest-at : (rests' : List (ChannelPartView S T)) (seats' : List (Option SeatsView)) → AreRests n rests seats rests' seats' → (c : ℕ) (rest' : ChannelPartView S T) → slice_get rests' c ≡ Some rest' → IsRestAt rests' seats' c rest'
+    rest-at rests' seats' are c rest' there =
+        let within = slice_get_within rests' c rest' there in
+        let size = are.parts_count in
+        let parts = left.parts_count in
+        let slots = left.seats_count in
+        let slots' = are.seats_count in
+        let rest = at-index rests c (omega (arith, within, size)) in
+        let slot = at-index seats c (omega (arith, within, size, parts, slots, same)) in
+        let slot' = at-index seats' c (omega (arith, within, size, parts, slots, slots', same)) in
+        record { rest = rest.0; rest_at = rest.1; slot = slot.0; slot_at = slot.1; slot' = slot'.0; slot'_at = slot'.1; left_is = are.each c rest.0 rest' slot.0 slot'.0 rest.1 slot.1 there slot'.1 }
+
+    -- the next has its own
+    pub next-left : (rests' : List (ChannelPartView S T)) (seats' : List (Option SeatsView)) → AreRests n rests seats rests' seats' → AreLeftFor (n + 1) rests' seats'
+    next-left rests' seats' are = record {
+      parts_count = are.parts_count ∙ left.parts_count;
+      seats_count = are.seats_count ∙ left.seats_count;
+      shares = λ c whole rest' at there e share le is.
+          let r = rest-at rests' seats' are c rest' there in
+          left.shares c whole r.rest at r.rest_at e share (omega (arith, le)) (r.left_is.shares e share (λ s. omega (arith, s, le)) is);
+      own = λ c rest' s slot' there at seat' some.
+          let r = rest-at rests' seats' are c rest' there in
+          let is = same_Some r.slot' slot' (sym r.slot'_at ∙ seat') in
+          let kept = r.left_is.seats some in
+          sym is ∙ kept.1 ∙ left.own c r.rest s r.slot r.rest_at at r.slot_at kept.0;
     }
 
-    more-given : (x : ℕ) (row : List ℕ) (old new : ExecutorNodes S T) (share : ChannelPartView S T) → AreSharesOf meaning stands_after state wholes x old → AreGiven words heads row old → Gets old share s new → AreGiven words (heads ++ s ∷ []) row new
-    more-given x row old new share had given got = record {
-      words_are = (λ i. (got.words i).now) ∙ given.words_are;
-      seats = subst (λ (z : List (ChannelPartView S T) × List (Option SeatsView)). AreDealt (heads ++ s ∷ []) z.0 z.1) (λ i. (sym got.parts i, sym got.seats i))
-          (dealt-more heads old.parts.items old.seats.items s share (same ∙ sym had.count) given.seats);
-      here = (λ i. (got.here i).items) ∙ given.here;
-    }
-
-    -- one channel more: each executor gets its share
-    pub channel-shared : (rows : List (List ℕ)) (all after : List (ExecutorNodes S T)) (shares : List (ChannelPartView S T)) → AreShared meaning stands_after state wholes words heads rows all → length shares ≡ length rows
-        → EachPart shares (λ x share. IsShareOf meaning stands_after state x whole share) → EachGets all shares s after → AreShared meaning stands_after state (wholes ++ whole ∷ []) words (heads ++ s ∷ []) rows after
-    channel-shared rows all after shares so_far size are gets = record {
-      count = gets.count ∙ so_far.count;
-      each = λ x nodes at. let b = before x nodes at in one-more x b.0 nodes b.2 (so_far.each x b.0 b.1) (are x b.2 b.3) (gets.each x b.0 nodes b.2 b.1 b.3 at);
-      given = λ x nodes row at there. let b = before x nodes at in more-given x row b.0 nodes b.2 (so_far.each x b.0 b.1) (so_far.given x b.0 row b.1 there) (gets.each x b.0 nodes b.2 b.1 b.3 at);
+    -- shares of what is left are shares of the whole
+    pub shares-of-whole : (meaning : S → Meaning) (stands_after : S → List Event → Type 0) (state : T → TransportState) (words : List ChannelNames) (row : List ℕ) (nodes : ExecutorNodes S T)
+        → HasShares meaning stands_after state rests words seats n row nodes → HasShares meaning stands_after state wholes words heads n row nodes
+    shares-of-whole meaning stands_after state words row nodes has = record {
+      number = has.number;
+      unrefused = has.unrefused;
+      words_are = has.words_are;
+      here = has.here;
+      in_order = subst (λ (m : ℕ). AreInOrder m nodes) left.parts_count has.in_order;
+      each = λ k share slot at-share at-slot. whole-share (get_or row k 0) share slot (has.each k share slot at-share at-slot);
+      own = has.own;
     }
       where
-        before : (x : ℕ) (nodes : ExecutorNodes S T) → slice_get after x ≡ Some nodes → (old : ExecutorNodes S T) × (slice_get all x ≡ Some old) × (share : ChannelPartView S T) × (slice_get shares x ≡ Some share)
-        before x nodes at =
-            let now = gets.count in
-            let counted = so_far.count in
-            let within = slice_get_within after x nodes at in
-            let old = at-index all x (omega (arith, within, now)) in
-            let share = at-index shares x (omega (arith, within, now, counted, size)) in
-            (old.0, old.1, share.0, share.1)
+        whole-share : (c : ℕ) (share : ChannelPartView S T) (slot : Option SeatsView) → HasShare meaning stands_after state rests words seats n c share slot → HasShare meaning stands_after state wholes words heads n c share slot
+        whole-share c share slot h =
+            let within = slice_get_within rests c h.whole h.whole_at in
+            let size = left.parts_count in
+            let whole = at-index wholes c (omega (arith, within, size)) in
+            let s = at-index heads c (omega (arith, within, size, same)) in
+            record {
+              whole = whole.0;
+              whole_at = whole.1;
+              is = share-is-of (λ (e : ℕ). e == n) whole.0 share (left.shares c whole.0 h.whole whole.1 h.whole_at n share (omega arith) h.is.share_is) meaning stands_after state;
+              own = s.0;
+              own_at = s.1;
+              seats = h.seats ∙ only-same (is_some share.head) h.own s.0 (λ some. left.own c h.whole s.0 h.own h.whole_at s.1 h.own_at (still-some (executor_of h.whole.path (head_hop h.whole) == n) h.whole.head share.head h.is.share_is.head some).1);
+            }
 
--- the heads of shares of one whole are in one of them, or in none
-pub one-head : {S T : Type 0} (whole : ChannelPartView S T) (shares : List (ChannelPartView S T)) → EachPart shares (λ x share. IsShare x whole share) → HaveOneHead shares
-one-head {S = S} {T = T} whole shares are = record {
-  home = executor_of whole.path (head_hop whole);
-  only = λ x share at some. sym (eqb-true (executor_of whole.path (head_hop whole)) x (mine (executor_of whole.path (head_hop whole) == x) share.head (are x share at).head some));
-}
-  where
-    mine : (b : Bool) (head : Option (HeadView T)) → head ≡ only_if b whole.head → is_some head ≡ true → b ≡ true
-    mine true head is some = refl
-    mine false head is some = absurd (both_ways (is_some head) (ap (λ (o : Option (HeadView T)). is_some o) is) some)
+module _ {S T : Type 0} (meaning : S → Meaning) (stands_after : S → List Event → Type 0) (state : T → TransportState) (wholes : List (ChannelPartView S T)) (words : List ChannelNames) (heads : List (Option SeatsView)) where
+  -- none so far
+  pub none-shared : (all : List (ExecutorNodes S T)) → all ≡ [] → AreShared meaning stands_after state wholes words heads [] all
+  none-shared all none = subst (AreShared meaning stands_after state wholes words heads []) (sym none) (record { count = refl; each = λ x nodes row at. absurd (none-some nodes at) })
+
+  -- one executor more
+  pub executor-shared : (rows : List (List ℕ)) (row : List ℕ) (all grown : List (ExecutorNodes S T)) (new : ExecutorNodes S T) → grown ≡ all ++ new ∷ [] → HasShares meaning stands_after state wholes words heads (length all) row new
+      → AreShared meaning stands_after state wholes words heads rows all → AreShared meaning stands_after state wholes words heads (rows ++ row ∷ []) grown
+  executor-shared rows row all grown new added has so_far = subst (AreShared meaning stands_after state wholes words heads (rows ++ row ∷ [])) (sym added) (record {
+    count = length_push all new ∙ ap (λ (k : ℕ). k + 1) so_far.count ∙ sym (length_push rows row);
+    each = both-push (λ x nodes r. HasShares meaning stands_after state wholes words heads x r nodes) all rows new row so_far.count so_far.each has;
+  })
 
 -- ---- the places
 

@@ -1,4 +1,4 @@
--- The nodes of an executor that are its shares of channels before any move: they stand.
+-- The parts of an executor that are its shares of channels before any move: they stand.
 use Rattle.std.proofs.Common.{◌≡◌, ◌≢◌, ℕ, ◌+◌, ◌-◌, ◌<◌, ◌≤◌, Bool, true, false, not, ◌&&◌, List, length, map, get_or, slice_get, Option, Some, refl, ap, sym, ◌∙◌, subst, ⊎_elim, arith}
 use Rattle.std.specs.Prelude.{◌==◌, is_some, if◌then◌else◌}
 use Rattle.std.specs.Option.{option_map_or}
@@ -24,7 +24,7 @@ use Rattle.pl_head.specs.Transports.{TransportState}
 use Rattle.pl_part.specs.ContextHolds.{port_point, context_writes, context_came}
 use Rattle.pl_part.specs.Paths.{IsAt, context_at, writer_hop, enters_path}
 use Rattle.pl_part.specs.Parts.{ChannelPartView, PartHolds, head_hop, has_entered, part_writes, part_came}
-use Rattle.pl_part.specs.Shares.{IsShare, executor_of}
+use Rattle.pl_part.specs.Shares.{IsShare, IsShareOf, executor_of}
 use Rattle.pl_part.proofs.ShareLemmas.{share-entered, only-some}
 use Rattle.pl_channel.specs.Lanes.{world_of}
 use Rattle.pl_channel.specs.Placing.{IsAtStart, IsPlaced, ArePlaced}
@@ -34,10 +34,9 @@ use Rattle.pl_channel.proofs.PlacedParts.{has-all-nodes, recorded-at, starts-kee
 use Rattle.pl_channel.proofs.Wholes.{enters, to-hop}
 use Rattle.pl_world.specs.declared.session.Recorded.{Recorded}
 use Rattle.pl_world.specs.Plans.{ChannelPlan, Plan, channel_planned}
-use Rattle.pl_exec.specs.declared.nodes.ExecutorNodes.{ExecutorNodes}
 use Rattle.pl_exec.specs.ExecutorNodes.{has_node, IsResident, ShareStands, NodesStand}
 use Rattle.pl_exec.specs.SessionWords.{SeatsView, IsUnused}
-use Rattle.pl_exec.specs.Sharing.{AreDealt, IsShareOf, AreSharesOf}
+use Rattle.pl_exec.specs.Sharing.{AreDealt, AreSharesOf}
 use Rattle.pl_exec.specs.Telling.{Tells, TellsAt}
 use Rattle.pl_exec.proofs.SeatLemmas.{dealt-at, new-tells}
 use Rattle.pl_event.proofs.Lists.{at-index}
@@ -145,7 +144,7 @@ module _ {S T : Type 0} (world : World) (meaning : S → Meaning) (stands_after 
 -- ---- the shares of all channels
 
 module _ {S T : Type 0} (meaning : S → Meaning) (stands_after : S → List Event → Type 0) (state : T → TransportState) (plan : Plan) (rs : List (Recorded S T)) (planned : plan.channels ≡ map (channel_planned meaning state) rs)
-    (wholes : List (ChannelPartView S T)) (placed : ArePlaced meaning stands_after state rs wholes) (x : ℕ) (nodes : ExecutorNodes S T) (are : AreSharesOf meaning stands_after state wholes x nodes) where
+    (wholes : List (ChannelPartView S T)) (placed : ArePlaced meaning stands_after state rs wholes) (x : ℕ) (parts : List (ChannelPartView S T)) (are : AreSharesOf meaning stands_after state wholes x parts) where
   -- a share is that of a placed channel
   pub record IsPlacedShare (c : ℕ) (share : ChannelPartView S T) : Type 0 where
     pub whole : ChannelPartView S T
@@ -155,12 +154,12 @@ module _ {S T : Type 0} (meaning : S → Meaning) (stands_after : S → List Eve
     pub is_placed : IsPlaced meaning stands_after state c recorded whole
     pub holds : PartHolds (world_of true plan) meaning stands_after state whole
     pub keeps : PartKeepsPlan state (channel_planned meaning state recorded) whole
-    pub is : IsShareOf meaning stands_after state x whole share
+    pub is : IsShareOf meaning stands_after state (λ e. e == x) whole share
 
-  pub whole-of : (c : ℕ) (share : ChannelPartView S T) → slice_get nodes.parts.items c ≡ Some share → IsPlacedShare c share
+  pub whole-of : (c : ℕ) (share : ChannelPartView S T) → slice_get parts c ≡ Some share → IsPlacedShare c share
   whole-of c share at =
       let size = are.count in
-      let within = slice_get_within nodes.parts.items c share at in
+      let within = slice_get_within parts c share at in
       let whole = at-index wholes c (omega (arith, size, within)) in
       let r = recorded-at meaning stands_after state plan rs planned wholes placed c whole.0 whole.1 in
       record {
@@ -174,8 +173,8 @@ module _ {S T : Type 0} (meaning : S → Meaning) (stands_after : S → List Eve
         is = are.each c whole.0 share whole.1 at;
       }
 
-  part-stands : (c : ℕ) (share : ChannelPartView S T) → IsPlacedShare c share → ShareStands (world_of true plan) meaning stands_after state x nodes.was_refused c share
-  part-stands c share s = record {
+  part-stands : (refused : Bool) (c : ℕ) (share : ChannelPartView S T) → IsPlacedShare c share → ShareStands (world_of true plan) meaning stands_after state x refused c share
+  part-stands refused c share s = record {
     holds = s.is.holds (world_of true plan) s.holds;
     channel = s.is.share_is.path.channel ∙ s.is_placed.whole.channel_is;
     within = let tail = s.is.share_is.path.tail_hop ∙ s.keeps.tail_at in let head = s.is.share_is.path.slots ∙ s.keeps.head_at in omega (arith, tail, head);
@@ -192,9 +191,9 @@ module _ {S T : Type 0} (meaning : S → Meaning) (stands_after : S → List Eve
     head = λ h at. s.keeps.head h (only-some (executor_of s.whole.path (head_hop s.whole) == x) s.whole.head h (sym s.is.share_is.head ∙ at));
   }
 
-  pub shares-stand : plan.executors ≤ MAX_EXECUTORS → x < plan.executors → NodesStand (world_of true plan) plan meaning stands_after state x nodes.was_refused nodes.parts.items
-  shares-stand few within = record {
-    parts = λ c share at. part-stands c share (whole-of c share at);
+  pub shares-stand : (refused : Bool) → plan.executors ≤ MAX_EXECUTORS → x < plan.executors → NodesStand (world_of true plan) plan meaning stands_after state x refused parts
+  shares-stand refused few within = record {
+    parts = λ c share at. part-stands refused c share (whole-of c share at);
     keeps = record {
       count = are.count ∙ (starts-keep meaning stands_after state plan rs planned wholes placed).count;
       each = λ c q share is at.
@@ -205,11 +204,11 @@ module _ {S T : Type 0} (meaning : S → Meaning) (stands_after : S → List Eve
   }
 
   -- seats that nobody has used tell how their heads stand
-  pub shares-tell : (heads seats : List (Option SeatsView)) → ((c : ℕ) (s : SeatsView) → slice_get heads c ≡ Some (Some s) → IsUnused s) → AreDealt heads nodes.parts.items seats → length heads ≡ length nodes.parts.items
-      → (c : ℕ) → TellsAt seats nodes.parts.items c
+  pub shares-tell : (heads seats : List (Option SeatsView)) → ((c : ℕ) (s : SeatsView) → slice_get heads c ≡ Some (Some s) → IsUnused s) → AreDealt heads parts seats → length heads ≡ length parts
+      → (c : ℕ) → TellsAt seats parts c
   shares-tell heads seats new dealt same c s share h at there is =
       let w = whole-of c share there in
       let first = w.is_placed.whole.head in
       let head-is : first.0 ≡ h = same_Some first.0 h (sym first.1 ∙ only-some (executor_of w.whole.path (head_hop w.whole) == x) w.whole.head h (sym w.is.share_is.head ∙ is)) in
       subst (Tells s) head-is
-      (new-tells state c (channel_planned meaning state w.recorded) w.recorded.transport first.0 s first.2 (new c s (dealt-at heads nodes.parts.items seats dealt same c s at)))
+      (new-tells state c (channel_planned meaning state w.recorded) w.recorded.transport first.0 s first.2 (new c s (dealt-at heads parts seats dealt same c s at)))

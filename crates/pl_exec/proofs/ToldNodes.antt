@@ -1,6 +1,5 @@
 -- The nodes of an executor, where the head of one channel has told some of its settled writes.
-use Rattle.std.proofs.Common.{◌≡◌, ℕ, Bool, true, List, Option, Some, None, length, refl, ap, sym, ◌∙◌, subst}
-use Rattle.std.specs.Global.{Vec}
+use Rattle.std.proofs.Common.{◌≡◌, ℕ, Bool, true, List, Option, Some, None, length, set, slice_get, refl, ap, sym, ◌∙◌, subst}
 use Rattle.std.specs.Option.{option_map}
 use Rattle.std.proofs.lemmas.Option.{none-some, same_Some}
 use Rattle.pl_event.specs.declared.events.Event.{Event}
@@ -22,8 +21,8 @@ use Rattle.pl_channel.proofs.OneChannel.{changed, unchanged, same-hops, taken-no
 use Rattle.pl_threads.specs.NodesViews.{OwnNodesView, NodesKeep, LanesMake}
 use Rattle.pl_world.specs.Plans.{ChannelPlan, Plan}
 use Rattle.pl_exec.specs.declared.nodes.ExecutorNodes.{ExecutorNodes}
-use Rattle.pl_exec.specs.ExecutorNodes.{AreOn, NodesStand, heads_of, lanes_here, own_view}
-use Rattle.pl_exec.specs.Telling.{AreSeated, AreToldAt, ExecutorStands, IsToldAt, TellsAt}
+use Rattle.pl_exec.specs.ExecutorNodes.{NodesStand, channel_parts, heads_of, lanes_here, own_view}
+use Rattle.pl_exec.specs.Telling.{AreSeated, AreToldAt, ExecutorStands, IsToldAt, TellsAt, channel_seats}
 use Rattle.pl_exec.proofs.HeadLists.{heads-stay}
 use Rattle.pl_exec.proofs.ExecutorNodeLemmas.{nodes-stand, own-stands, routes-keep}
 
@@ -95,34 +94,46 @@ module _ {S T : Type 0} (ps : List (ChannelPartView S T)) (c : ℕ) (ps' : List 
       come : (meaning : S → Meaning) (l : Lane) → came_of meaning (changed ps c t.before t.after t.was) l ≡ came_of meaning ps l
       come meaning l = unchanged ps c t.before t.after t.was (λ (q : ChannelPartView S T). part_came meaning q l) nowhere (came-as-before t.before t.after t.told meaning l) l.channel
 
-  pub told-heads : heads_of ps' ≡ heads_of ps
-  told-heads = ap (λ (x : List (ChannelPartView S T)). heads_of x) becomes ∙ heads-stay ps c t.before t.after t.was (same t.before t.after t.told)
+-- ---- the positions of the parts that have their heads
+
+-- they stay
+pub heads-told : {S T : Type 0} (ps : List (ChannelPartView S T)) (k : ℕ) (p p' : ChannelPartView S T) → slice_get ps k ≡ Some p → IsTold p p' → heads_of (set ps k p') ≡ heads_of ps
+heads-told ps k p p' was told = heads-stay ps k p p' was (same p p' told)
 
 -- ---- the nodes of an executor
 
-module _ {S T : Type 0} (mid now : ExecutorNodes S T) (c : ℕ) (told : AreToldAt mid c now) where
+-- Of these nodes, whose parts by channel are these, the head of a channel has told.
+module _ {S T : Type 0} (plan : Plan) (mid now : ExecutorNodes S T) (c : ℕ) (told : AreToldAt plan mid c now) (ps : List (ChannelPartView S T)) (are : channel_parts plan mid ≡ ps) where
+  pub told-from : IsToldAt ps c (channel_parts plan now)
+  told-from = subst (λ (l : List (ChannelPartView S T)). IsToldAt l c (channel_parts plan now)) are told.parts
+
   -- they stand where they did so but for what is told
-  pub stands-told : (world : World) (plan : Plan) (meaning : S → Meaning) (stands_after : S → List Event → Type 0) (state : T → TransportState) → world ≡ world_of true plan
-      → NodesStand world plan meaning stands_after state mid.number mid.was_refused mid.parts.items → mid.own.items ≡ heads_of mid.parts.items → AreOn (λ p. p.executors) plan.channels mid.number mid.here.items
-      → AreSeated now.words.now plan now.seats.items → ((x : ℕ) → TellsAt now.seats.items now.parts.items x) → ExecutorStands world plan meaning stands_after state now
-  stands-told world plan meaning stands_after state is_world nodes own here seated tells = record {
+  pub stands-told : (world : World) (meaning : S → Meaning) (stands_after : S → List Event → Type 0) (state : T → TransportState) → world ≡ world_of true plan
+      → NodesStand world plan meaning stands_after state mid.number mid.was_refused ps → mid.own.items ≡ heads_of mid.parts.items
+      → AreSeated now.words.now plan (channel_seats plan now) → ((x : ℕ) → TellsAt (channel_seats plan now) (channel_parts plan now) x) → ExecutorStands world plan meaning stands_after state now
+  stands-told world meaning stands_after state is_world nodes own seated tells = record {
     is_world = is_world;
-    nodes = subst (λ (z : ℕ × Bool). NodesStand world plan meaning stands_after state z.0 z.1 now.parts.items) (λ i. (sym told.number i, sym told.refused i))
-        (told-stands mid.parts.items c now.parts.items told.parts world plan meaning stands_after state mid.number mid.was_refused nodes);
-    own = ap (λ (v : Vec ℕ). v.items) told.own ∙ own ∙ sym (told-heads mid.parts.items c now.parts.items told.parts);
-    here = subst (λ (z : ℕ × Vec ℕ). AreOn (λ p. p.executors) plan.channels z.0 z.1.items) (λ i. (sym told.number i, sym told.here i)) here;
+    in_order = told.in_order;
+    nodes = subst (λ (m : ExecutorNodes S T). NodesStand world plan meaning stands_after state m.number m.was_refused (channel_parts plan now)) (sym told.same)
+        (told-stands ps c (channel_parts plan now) told-from world plan meaning stands_after state mid.number mid.was_refused nodes);
+    own = ap (λ (m : ExecutorNodes S T). m.own.items) told.same ∙ own ∙ sym told.own;
     seated = seated;
     told = tells;
   }
 
   -- and are seen so by their executor
-  pub view-told : (meaning : S → Meaning) → own_view meaning now ≡ own_view meaning mid
-  view-told meaning = λ i. record { executor = told.number i; lanes = told-lanes mid.parts.items c now.parts.items told.parts meaning i; heads = length (told.own i).items; was_refused = told.refused i }
+  abbrev seen : (S → Meaning) → OwnNodesView
+  seen meaning = record { executor = mid.number; lanes = lanes_here meaning ps; heads = length mid.own.items; was_refused = mid.was_refused }
+
+  pub view-told : (meaning : S → Meaning) → own_view plan meaning now ≡ seen meaning
+  view-told meaning =
+      let lanes = told-lanes ps c (channel_parts plan now) told-from meaning in
+      λ i. record { executor = (told.same i).number; lanes = lanes i; heads = length (told.same i).own.items; was_refused = (told.same i).was_refused }
 
   -- so a call that they made before is as it was
   module _ (meaning : S → Meaning) (before : ExecutorNodes S T) where
-    pub keeps-told : NodesKeep (own_view meaning before) (own_view meaning mid) → NodesKeep (own_view meaning before) (own_view meaning now)
-    keeps-told = subst (λ (v : OwnNodesView). NodesKeep (own_view meaning before) v) (sym (view-told meaning))
+    pub keeps-told : NodesKeep (own_view plan meaning before) (seen meaning) → NodesKeep (own_view plan meaning before) (own_view plan meaning now)
+    keeps-told = subst (λ (v : OwnNodesView). NodesKeep (own_view plan meaning before) v) (sym (view-told meaning))
 
-    pub makes-told : (world : World) {b a : OutputsView} → LanesMake world (own_view meaning before).lanes b (own_view meaning mid).lanes a → LanesMake world (own_view meaning before).lanes b (own_view meaning now).lanes a
-    makes-told world {b} {a} = subst (λ (v : OwnNodesView). LanesMake world (own_view meaning before).lanes b v.lanes a) (sym (view-told meaning))
+    pub makes-told : (world : World) {b a : OutputsView} → LanesMake world (own_view plan meaning before).lanes b (seen meaning).lanes a → LanesMake world (own_view plan meaning before).lanes b (own_view plan meaning now).lanes a
+    makes-told world {b} {a} = subst (λ (v : OwnNodesView). LanesMake world (own_view plan meaning before).lanes b v.lanes a) (sym (view-told meaning))

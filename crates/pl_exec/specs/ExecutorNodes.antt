@@ -1,5 +1,6 @@
 -- The nodes of an executor, as contracts see them: by the number of a channel the part of it that is there.
-use Rattle.std.specs.Prelude.{◌≡◌, ℕ, ◌+◌, ◌<◌, ◌≤◌, ◌^◌, ◌==◌, Bool, true, false, List, [], ◌∷◌, All, Contains, length, map, nat_lt, slice_get, Option, Some, None, is_some, if◌then◌else◌}
+use Rattle.std.specs.Prelude.{◌≡◌, ℕ, ◌+◌, ◌<◌, ◌≤◌, ◌^◌, ◌==◌, Bool, true, false, List, [], ◌∷◌, get_or, length, map, nat_lt, replicate, slice_get, Option, Some, None, is_some, if◌then◌else◌}
+use Rattle.std.specs.List.{enumerate_from, range_with_len}
 use Rattle.std.specs.Option.{option_map_or}
 use Rattle.pl_event.specs.declared.events.Event.{Event}
 use Rattle.pl_event.specs.declared.envelopes.Kind.TheVariants as kind
@@ -18,12 +19,49 @@ use Rattle.pl_head.specs.HeadStand.{HeadView, HeadStandsAfter, is_idle}
 use Rattle.pl_head.specs.ReadSteps.{plan_steps}
 use Rattle.pl_part.specs.Paths.{PathRefuses, context_at, writer_hop}
 use Rattle.pl_part.specs.Parts.{ChannelPartView, PartHolds, head_hop, all_over, has_read}
+use Rattle.pl_channel.specs.Placing.{turn_hop}
 use Rattle.pl_channel.specs.PlanStand.{PartsKeepPlan}
 use Rattle.pl_threads.specs.NodesViews.{OwnNodesView}
 use Rattle.pl_threads.specs.Serving.{Served}
 use Rattle.pl_channel.specs.Channels.{HasMoved, MayMove, executor_at, is_hop, lanes_view}
-use Rattle.pl_world.specs.Plans.{ChannelPlan, Plan, read_plan}
+use Rattle.pl_world.specs.Plans.{ChannelPlan, Plan, planned_head_hop, read_plan, tail_hop}
 use Rattle.pl_exec.specs.declared.nodes.ExecutorNodes.{ExecutorNodes}
+use Rattle.pl_exec.specs.ChannelRows.{IsChannelRow, by_channel, row_position}
+
+-- ---- the parts of channels
+
+-- the part of a channel that has no node on an executor
+abbrev pub part_elsewhere : {S T : Type 0} → ℕ → ChannelPlan → ChannelPartView S T
+part_elsewhere c p = record {
+  path = record {
+    channel = c;
+    executors = p.executors;
+    contexts = replicate (planned_head_hop p) None;
+    tail = None;
+    tail_hop = tail_hop p;
+    turn = turn_hop p;
+  };
+  head = None;
+}
+
+-- those of the channels of a plan, by number
+abbrev pub parts_elsewhere : {S T : Type 0} → Plan → List (ChannelPartView S T)
+parts_elsewhere plan = map (λ z. part_elsewhere z.0 z.1) (enumerate_from 0 plan.channels)
+
+-- by channel the part of it that is on an executor
+abbrev pub channel_parts : {S T : Type 0} → Plan → ExecutorNodes S T → List (ChannelPartView S T)
+channel_parts plan n = by_channel (λ other part. part) n.here.items n.parts.items (parts_elsewhere plan)
+
+-- the channels whose heads are there
+abbrev pub own_channels : {S T : Type 0} → ExecutorNodes S T → List ℕ
+own_channels n = map (λ k. get_or n.here.items k 0) n.own.items
+
+-- Its row of channels has a part for each, and a slot for seats; and of each channel the position is known.
+pub record AreInOrder {S T : Type 0} (channels : ℕ) (n : ExecutorNodes S T) : Type 0 where
+  pub row : IsChannelRow channels n.here.items
+  pub parts : length n.parts.items ≡ length n.here.items
+  pub seats : length n.seats.items ≡ length n.here.items
+  pub positions : n.positions.items ≡ map (row_position n.here.items) (range_with_len 0 channels)
 
 -- ---- where lanes go
 
@@ -44,10 +82,10 @@ abbrev pub lanes_here : {S T : Type 0} → (S → Meaning) → List (ChannelPart
 lanes_here meaning ps = lanes_view meaning (entered_executor ps) ps
 
 -- the nodes of an executor, as it sees them
-abbrev pub own_view : {S T : Type 0} → (S → Meaning) → ExecutorNodes S T → OwnNodesView
-own_view meaning n = record {
+abbrev pub own_view : {S T : Type 0} → Plan → (S → Meaning) → ExecutorNodes S T → OwnNodesView
+own_view plan meaning n = record {
   executor = n.number;
-  lanes = lanes_here meaning n.parts.items;
+  lanes = lanes_here meaning (channel_parts plan n);
   heads = length n.own.items;
   was_refused = n.was_refused;
 }
@@ -81,11 +119,6 @@ pub record NodesStand {S T : Type 0} (world : World) (plan : Plan) (meaning : S 
   pub keeps : PartsKeepPlan state plan ps
   pub number : me < nobody
 
--- Of these channels those that have a hop on an executor, by number.
-pub record AreOn {A : Type 0} (executors_of : A → List ℕ) (channels : List A) (me : ℕ) (here : List ℕ) : Type 0 where
-  pub all : (c : ℕ) (x : A) → slice_get channels c ≡ Some x → Contains (executors_of x) me → Contains here c
-  pub only : All (λ c. (x : A) × (slice_get channels c ≡ Some x) × Contains (executors_of x) me) here
-
 -- ---- which contexts have given up
 
 -- the context that writes a data lane, where it is here, has ended or failed
@@ -112,7 +145,7 @@ abbrev pub numbered_from : ℕ → List Bool → List ℕ
 numbered_from n [] = []
 numbered_from n (b ∷ bs) = if b then n ∷ numbered_from (n + 1) bs else numbered_from (n + 1) bs
 
--- the channels whose heads are among these nodes, in order
+-- the positions of these parts that have their heads, in order
 abbrev pub heads_of : {S T : Type 0} → List (ChannelPartView S T) → List ℕ
 heads_of ps = numbered_from 0 (map (λ (p : ChannelPartView _ _). is_some p.head) ps)
 
@@ -153,10 +186,6 @@ module _ {S T : Type 0} (state : T → TransportState) where
     pub over : all_over p ≡ true
     pub read : has_read p ≡ false
     pub written : (h : HeadView T) (ys zs : List Event) (sizes : List Change) → p.head ≡ Some h → HeadStandsAfter state h ys zs sizes → is_idle state h ys ≡ true
-
-  -- So it is with that of a channel, where it has one.
-  abbrev pub IsOverAt : List (ChannelPartView S T) → ℕ → Type 0
-  IsOverAt ps c = (p : ChannelPartView S T) → slice_get ps c ≡ Some p → IsPartOver p
 
   -- So it is with all parts.
   abbrev pub AreOver : List (ChannelPartView S T) → Type 0

@@ -1,5 +1,6 @@
 pub mod Adding
 pub mod Opening
+pub mod ChannelRows
 pub mod ExecutorNodes
 pub mod Lanes
 pub mod Sharing

@@ -21,7 +21,6 @@ use Rattle.pl_world.specs.declared.report.Stands.TheVariants.{Open}
 use Rattle.pl_world.specs.Plans.{ChannelPlan, Plan, tail_hop, planned_head_hop}
 use Rattle.pl_world.specs.Reports.{AllKeepToPlan, Ends, EndsKeepToPlan, IsChannelReport, KeepsToPlan}
 use Rattle.pl_exec.specs.declared.reporting.Found.{Found}
-use Rattle.pl_exec.specs.Adding.{each_with}
 
 -- The two ends of a channel, as a run leaves them: they keep to the plan. The head took nothing late where its lane was over
 -- before it failed by itself. Tail and head have ended or failed, and where the head has not failed by itself all flushed
@@ -76,10 +75,6 @@ nothing_found = record { tail = None; head = None }
 -- with those among the nodes of a part
 abbrev pub with_part : {S T : Type 0} → Found T → ChannelPartView S T → Found T
 with_part f part = record { tail = option_or part.path.tail f.tail; head = option_or part.head f.head }
-
--- the same channel by channel
-abbrev pub with_parts : {S T : Type 0} → List (Found T) → List (ChannelPartView S T) → List (Found T)
-with_parts fs parts = each_with with_part fs parts
 
 module _ {T : Type 0} (state : T → TransportState) where
   -- Both ends of a channel are found.

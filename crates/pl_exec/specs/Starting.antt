@@ -39,4 +39,4 @@ pub record AreReady {S T : Type 0} (meaning : S → Meaning) (stands_after : S �
 -- By executor its nodes and its places fit the lanes.
 abbrev pub FitExecutors : {S T : Type 0} → World → Plan → (S → Meaning) → (S → List Event → Type 0) → (T → TransportState) → LaneTable → List (ExecutorNodes S T) → List PlacesView → Type 0
 FitExecutors world plan meaning stands_after state lanes nodes places =
-    FitAll (own_view meaning) (ExecutorStands world plan meaning stands_after state) lanes nodes places
+    FitAll (own_view plan meaning) (ExecutorStands world plan meaning stands_after state) lanes nodes places

@@ -1,5 +1,5 @@
 -- The nodes of an executor whose heads tell the words of their channels.
-use Rattle.std.specs.Prelude.{◌≡◌, ◌≢◌, ℕ, ◌-◌, ◌<◌, ◌≤◌, List, [], length, slice_get, slice_set, Option, Some, true}
+use Rattle.std.specs.Prelude.{◌≡◌, ◌≢◌, ℕ, ◌-◌, ◌<◌, ◌≤◌, List, [], length, replicate, slice_get, slice_set, Option, Some, None, true}
 use Rattle.std.specs.Option.{option_map_or}
 use Rattle.pl_channel.specs.Lanes.{world_of}
 use Rattle.pl_event.specs.declared.events.Event.{Event}
@@ -14,7 +14,8 @@ use Rattle.pl_part.specs.Told.{IsTold, part_untold}
 use Rattle.pl_words.specs.declared.watermark.TheConstants.{MAX_SETS}
 use Rattle.pl_world.specs.Plans.{ChannelPlan, Plan}
 use Rattle.pl_exec.specs.declared.nodes.ExecutorNodes.{ExecutorNodes}
-use Rattle.pl_exec.specs.ExecutorNodes.{AreOn, NodesStand, heads_of}
+use Rattle.pl_exec.specs.ChannelRows.{by_channel}
+use Rattle.pl_exec.specs.ExecutorNodes.{AreInOrder, NodesStand, channel_parts, heads_of}
 use Rattle.pl_exec.specs.SessionWords.{ChannelNames, SeatsView, AreSeatsOf, TriesEach}
 
 -- the two marks of a channel
@@ -26,6 +27,10 @@ pub record IsSeated (words : List ChannelNames) (plan : Plan) (c : ℕ) (s : Sea
   pub own : AreSeatsOf words c s
   pub marks : (p : ChannelPlan) → slice_get plan.channels c ≡ Some p → (s.mark.low ≡ p.low) × (s.mark.high ≡ p.high)
   pub ordered : s.mark.low ≤ s.mark.high
+
+-- by channel the seats on its words, where its head is on this executor and there are some
+abbrev pub channel_seats : {S T : Type 0} → Plan → ExecutorNodes S T → List (Option SeatsView)
+channel_seats plan n = by_channel (λ none slot. slot) n.here.items n.seats.items (replicate (length plan.channels) None)
 
 -- By channel the seats on its words, or none.
 pub record AreSeated (words : List ChannelNames) (plan : Plan) (seats : List (Option SeatsView)) : Type 0 where
@@ -41,12 +46,11 @@ pub record IsToldAt {S T : Type 0} (ps : List (ChannelPartView S T)) (c : ℕ) (
   pub told : IsTold before after
 
 -- The head of a channel of an executor's nodes has. All else is as it was, but the seats.
-pub record AreToldAt {S T : Type 0} (n : ExecutorNodes S T) (c : ℕ) (n' : ExecutorNodes S T) : Type 0 where
-  pub number : n'.number ≡ n.number
-  pub refused : n'.was_refused ≡ n.was_refused
-  pub own : n'.own ≡ n.own
-  pub here : n'.here ≡ n.here
-  pub parts : IsToldAt n.parts.items c n'.parts.items
+pub record AreToldAt {S T : Type 0} (plan : Plan) (n : ExecutorNodes S T) (c : ℕ) (n' : ExecutorNodes S T) : Type 0 where
+  pub same : n' ≡ record n { parts = n'.parts; seats = n'.seats }
+  pub in_order : AreInOrder (length plan.channels) n'
+  pub own : heads_of n'.parts.items ≡ heads_of n.parts.items
+  pub parts : IsToldAt (channel_parts plan n) c (channel_parts plan n')
 
 -- Seats on the words of a channel, with the marks of its head, where that is one of the nodes of this part.
 pub record CanTell {S T : Type 0} (meaning : S → Meaning) (stands_after : S → List Event → Type 0) (state : T → TransportState) (words : List ChannelNames) (c : ℕ) (s : SeatsView) (p : ChannelPartView S T) : Type 0 where
@@ -81,21 +85,21 @@ KeepsOthers before c after = (x : ℕ) (slot : Option SeatsView) → x ≢ c →
 
 -- This was done to the parts, and then the words of a channel were told how its head stands: its seats settled each write that
 -- this had not told. No other seats were used.
-pub record TellsAfter {S T : Type 0} (does : List (ChannelPartView S T) → Type 0) (c : ℕ) (n n' : ExecutorNodes S T) : Type 0 where
+pub record TellsAfter {S T : Type 0} (plan : Plan) (does : List (ChannelPartView S T) → Type 0) (c : ℕ) (n n' : ExecutorNodes S T) : Type 0 where
   pub between : List (ChannelPartView S T)
   pub done : does between
-  pub told : IsToldAt between c n'.parts.items
-  pub settled : SettlesAt n.seats.items between c n'.seats.items
-  pub others : KeepsOthers n.seats.items c n'.seats.items
+  pub told : IsToldAt between c (channel_parts plan n')
+  pub settled : SettlesAt (channel_seats plan n) between c (channel_seats plan n')
+  pub others : KeepsOthers (channel_seats plan n) c (channel_seats plan n')
 
 -- ---- what holds between two calls
 
 -- The nodes that are on an executor hold, go on as the plan has them, and have told the words of their channels how each head
--- stands. Which heads and which channels are here is known.
+-- stands. Which heads are here, and where each channel has its part, is known.
 pub record ExecutorStands {S T : Type 0} (world : World) (plan : Plan) (meaning : S → Meaning) (stands_after : S → List Event → Type 0) (state : T → TransportState) (n : ExecutorNodes S T) : Type 0 where
   pub is_world : world ≡ world_of true plan
-  pub nodes : NodesStand world plan meaning stands_after state n.number n.was_refused n.parts.items
+  pub in_order : AreInOrder (length plan.channels) n
+  pub nodes : NodesStand world plan meaning stands_after state n.number n.was_refused (channel_parts plan n)
   pub own : n.own.items ≡ heads_of n.parts.items
-  pub here : AreOn (λ p. p.executors) plan.channels n.number n.here.items
-  pub seated : AreSeated n.words.now plan n.seats.items
-  pub told : (c : ℕ) → TellsAt n.seats.items n.parts.items c
+  pub seated : AreSeated n.words.now plan (channel_seats plan n)
+  pub told : (c : ℕ) → TellsAt (channel_seats plan n) (channel_parts plan n) c

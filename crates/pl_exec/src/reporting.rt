@@ -3,7 +3,8 @@
 ghost use Rattle.std.specs.Prelude.{◌≡◌, IfOk, is_some, length, map, replicate, true};
 ghost use Rattle.std.specs.List.{AllZip, range_with_len};
 ghost use Rattle.pl_world.specs.PlanRules.{IsPlan};
-ghost use Rattle.pl_exec.specs.Reported.{AreLeft, IsFinalReport, IsRunReport, nothing_found, with_part, with_parts};
+ghost use Rattle.pl_exec.specs.ChannelRows.{IsChannelRow, by_channel};
+ghost use Rattle.pl_exec.specs.Reported.{AreLeft, IsFinalReport, IsRunReport, nothing_found, with_part};
 
 use crate::nodes::ExecutorNodes;
 use crate::planned::Planned;
@@ -37,8 +38,8 @@ pub(crate) fn report_of<W: Planned, M: Mailbox<W> + Drop, S: Stage, T: Transport
 {
     let mut found = none_found(alloc, channels)?;
     for finished in all {
-        let ExecutorNodes { parts, .. } = finished.into_nodes();
-        find_ends(&mut found, parts);
+        let ExecutorNodes { here, parts, .. } = finished.into_nodes();
+        find_ends(&mut found, here, parts);
     }
     Ok(Report {
         channels: reports::<W, T>(alloc, found)?,
@@ -59,15 +60,20 @@ fn none_found<T: Transport>(alloc: Global, channels: usize) -> Result<Vec<Found<
     Ok(found)
 }
 
-/// Notes which ends are among the nodes of an executor.
-fn find_ends<S: Stage, T: Transport>(found: &mut Vec<Found<T>>, parts: Vec<ChannelPart<S, T>>)
-    requires { length parts.items ≡ length found.old.items }
-    ensures { found.new.items ≡ with_parts found.old.items parts.items }
+/// Notes which ends are among the nodes of an executor: those of the channels that have a node there, in this order.
+fn find_ends<S: Stage, T: Transport>(
+    found: &mut Vec<Found<T>>,
+    here: Vec<usize>,
+    parts: Vec<ChannelPart<S, T>>,
+)
+    requires row { IsChannelRow (length found.old.items) here.items }
+    requires parts { length parts.items ≡ length here.items }
+    ensures { found.new.items ≡ by_channel with_part here.items parts.items found.old.items }
 {
-    let mut channel = 0;
+    let mut position = 0;
     for part in parts {
-        find(&mut found[channel], part);
-        channel += 1;
+        find(&mut found[here[position]], part);
+        position += 1;
     }
 }
 

@@ -1,10 +1,11 @@
 //! The nodes of all channels, each at its executor.
 
-ghost use Rattle.std.specs.Prelude.{◌≡◌, ◌<◌, ◌∷◌, ◌++◌, [], All, cond, is_some, length, map, not, IfOk, OnOk};
+ghost use Rattle.std.specs.Prelude.{◌≡◌, ◌<◌, ◌^◌, ◌∷◌, ◌++◌, [], All, cond, is_some, length, map, not, IfOk, OnOk};
 ghost use Rattle.std.specs.List.{range_with_len};
 ghost use Rattle.pl_part.specs.Shares.{only_if};
 ghost use Rattle.pl_channel.specs.Ways.{ArePlaceable};
-ghost use Rattle.pl_exec.specs.Sharing.{AreNoted, AreShared, IsNoted, IsNotedAt, Gets, EachGets, HaveOneHead, channels_on, places_of, rows_in};
+ghost use Rattle.pl_exec.specs.ChannelRows.{IsChannelRow, row_position};
+ghost use Rattle.pl_exec.specs.Sharing.{AreNoted, AreRests, AreShared, HasShares, IsNoted, IsNotedAt, Gets, channels_on, places_of, rows_in};
 
 use crate::nodes::ExecutorNodes;
 use crate::opening::Places;
@@ -15,70 +16,78 @@ use pl_head::Transport;
 use pl_part::ChannelPart;
 use std::alloc::{AllocError, Global};
 
-/// The nodes of these channels, divided among executors: each has those whose executor it is, a row of `here`, and the seats of
-/// the channels whose heads it has, where there are some.
+/// The nodes of these channels at their executors: each has its shares of the channels in its row, and the seats of those
+/// whose heads it has, where there are some.
 pub(crate) fn shares<'a, S: Stage, T: Transport>(
     alloc: Global,
     words: &'a Words,
     seats: Vec<Option<Seats>>,
     parts: Vec<ChannelPart<S, T>>,
-    here: Vec<Vec<usize>>,
-) -> Result<Vec<ExecutorNodes<'a, S, T>>, AllocError>
-    requires { length seats.items ≡ length parts.items }
-    ensures { IfOk result (λ all. AreShared S.meaning S.stands_after T.state parts.items words.now seats.items (rows_in here.items) all.items) }
-{
-    let count = here.len();
-    let mut all = no_nodes(alloc, words, here)?;
-    for (part, seats) in parts.into_iter().zip(seats) {
-        add_shares(&mut all, part.split(alloc, count)?, seats)?;
-    }
-    Ok(all)
-}
-
-/// An executor for each row, with its number, the words and the row, and without nodes.
-fn no_nodes<'a, S: Stage, T: Transport>(
-    alloc: Global,
-    words: &'a Words,
     rows: Vec<Vec<usize>>,
 ) -> Result<Vec<ExecutorNodes<'a, S, T>>, AllocError>
-    ensures { IfOk result (λ all. AreShared S.meaning S.stands_after T.state [] words.now [] (rows_in rows.items) all.items) }
+    requires seats { length seats.items ≡ length parts.items }
+    requires few { length parts.items < 2 ^ 8 }
+    requires rows { All (IsChannelRow (length parts.items)) (rows_in rows.items) }
+    ensures { IfOk result (λ all. AreShared S.meaning S.stands_after T.state parts.items words.now seats.items (rows_in rows.items) all.items) }
 {
+    let mut left = parts;
+    let mut seats = seats;
     let mut all = Vec::with_capacity(alloc, rows.len())?;
     for here in rows {
         let number = all.len();
-        all.push(ExecutorNodes {
-            number,
-            parts: Vec::new(alloc),
-            own: Vec::new(alloc),
-            here,
-            was_refused: false,
-            words,
-            seats: Vec::new(alloc),
-        })?;
+        all.push(nodes_on(alloc, words, number, here, &mut left, &mut seats)?)?;
     }
     Ok(all)
 }
 
-/// One channel more: each executor gets its share, and that of the head the seats, if there are some.
-fn add_shares<S: Stage, T: Transport>(
-    all: &mut Vec<ExecutorNodes<'_, S, T>>,
-    shares: Vec<ChannelPart<S, T>>,
-    seats: Option<Seats>,
-) -> Result<(), AllocError>
-    requires count { length shares.items ≡ length all.old.items }
-    requires one { HaveOneHead shares.items }
-    ensures { OnOk result (EachGets all.old.items shares.items seats all.new.items) }
+/// The nodes of an executor: its shares of the channels in this row, with the seats of their heads, out of what is left.
+fn nodes_on<'a, S: Stage, T: Transport>(
+    alloc: Global,
+    words: &'a Words,
+    number: usize,
+    here: Vec<usize>,
+    left: &mut Vec<ChannelPart<S, T>>,
+    seats: &mut Vec<Option<Seats>>,
+) -> Result<ExecutorNodes<'a, S, T>, AllocError>
+    requires row { IsChannelRow (length left.old.items) here.items }
+    requires few { length left.old.items < 2 ^ 8 }
+    requires seats { length seats.old.items ≡ length left.old.items }
+    ensures shares { IfOk result (λ nodes. HasShares S.meaning S.stands_after T.state left.old.items words.now seats.old.items number here.items nodes) }
+    ensures rests { OnOk result (AreRests number left.old.items seats.old.items left.new.items seats.new.items) }
 {
-    let mut left = seats;
-    let mut number = 0;
-    for share in shares {
-        add_share(&mut all[number], share, &mut left)?;
-        number += 1;
+    let positions = positions(alloc, left.len(), &here)?;
+    let mut nodes = ExecutorNodes {
+        number,
+        parts: Vec::with_capacity(alloc, here.len())?,
+        seats: Vec::with_capacity(alloc, here.len())?,
+        here,
+        own: Vec::new(alloc),
+        positions,
+        was_refused: false,
+        words,
+    };
+    for position in 0..nodes.here.len() {
+        let channel = nodes.here[position];
+        let share = left[channel].take_share(alloc, number)?;
+        add_share(&mut nodes, share, &mut seats[channel])?;
     }
-    Ok(())
+    Ok(nodes)
 }
 
-/// One channel more, which is its own where the head is among its nodes. It takes the seats then.
+/// By channel its position in a row; how many the row has, where it is none of these.
+fn positions(alloc: Global, channels: usize, row: &[usize]) -> Result<Vec<u8>, AllocError>
+    requires row { IsChannelRow channels row.now }
+    requires few { channels < 2 ^ 8 }
+    ensures { IfOk result (λ positions. positions.items ≡ map (row_position row.now) (range_with_len 0 channels)) }
+{
+    let mut positions = vec![in alloc; row.len() as u8; channels]?;
+    for position in 0..row.len() {
+        positions[row[position]] = position as u8;
+    }
+    Ok(positions)
+}
+
+/// One channel more, which is one of its own where the head is among its nodes. It takes the seats then.
 fn add_share<S: Stage, T: Transport>(
     nodes: &mut ExecutorNodes<'_, S, T>,
     share: ChannelPart<S, T>,
@@ -102,12 +111,12 @@ fn take_if(seats: &mut Option<Seats>, wanted: bool) -> Option<Seats>
     if wanted { seats.take() } else { None }
 }
 
-/// Notes a channel where it is wanted.
-fn note_if(channels: &mut Vec<usize>, channel: usize, wanted: bool) -> Result<(), AllocError>
-    ensures { OnOk result (channels.new.items ≡ channels.old.items ++ cond wanted (channel ∷ []) []) }
+/// Notes a position where it is wanted.
+fn note_if(own: &mut Vec<usize>, position: usize, wanted: bool) -> Result<(), AllocError>
+    ensures { OnOk result (own.new.items ≡ own.old.items ++ cond wanted (position ∷ []) []) }
 {
     if wanted {
-        channels.push(channel)?;
+        own.push(position)?;
     }
     Ok(())
 }

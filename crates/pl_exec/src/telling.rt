@@ -1,15 +1,14 @@
 //! What heads tell the words of their channels: the mark, and how writes ended.
 
-ghost use Rattle.std.specs.Prelude.{◌≡◌, ◌-◌, ◌<◌, [], Some, false, length};
-ghost use Rattle.pl_event.specs.Worlds.{World};
+ghost use Rattle.std.specs.Prelude.{◌≡◌, ◌-◌, ◌<◌, [], Some, false, get_or, length};
 ghost use Rattle.pl_head.specs.HeadStand.{HeadView};
 ghost use Rattle.pl_part.specs.Told.{IsTold, part_untold};
-ghost use Rattle.pl_world.specs.Plans.{Plan};
-ghost use Rattle.pl_exec.specs.ExecutorNodes.{NodesStand};
+ghost use Rattle.pl_exec.specs.ExecutorNodes.{AreInOrder, NodesStand, channel_parts};
 ghost use Rattle.pl_exec.specs.SessionWords.{AreSeatsOf, TriesEach, told};
-ghost use Rattle.pl_exec.specs.Telling.{AreSeated, AreToldAt, CanTell, KeepsOthers, SettlesAt, Tells, TellsAt, part_outcomes};
+ghost use Rattle.pl_exec.specs.Telling.{AreSeated, AreToldAt, CanTell, KeepsOthers, SettlesAt, Tells, TellsAt, channel_seats, part_outcomes};
 
 use crate::nodes::ExecutorNodes;
+use crate::planned::Planned;
 use crate::words::{Seats, Words};
 use pl_event::Stage;
 use pl_head::Transport;
@@ -17,26 +16,32 @@ use pl_part::ChannelPart;
 use pl_words::watermark::MAX_SETS;
 
 impl<'a, S: Stage, T: Transport> ExecutorNodes<'a, S, T> {
-    /// Tells the words of a channel how its head stands, where that is wanted and the head is one of these nodes. It is
-    /// mostly not: so the look is inlined, and the telling is not.
+    /// Tells the words of the channel at a position how its head stands, where that is wanted and the head is one of these
+    /// nodes. It is mostly not: so the look is inlined, and the telling is not.
     #[inline(always)]
-    pub(crate) fn tell_if(&mut self, channel: usize, wanted: bool)
-        requires there { channel < length self.old.parts.items }
-        requires stand { (world : World) × (plan : Plan) × AreSeated self.old.words.now plan self.old.seats.items
-            × NodesStand world plan S.meaning S.stands_after T.state self.old.number self.old.was_refused self.old.parts.items }
-        requires told { wanted ≡ false → TellsAt self.old.seats.items self.old.parts.items channel }
-        ensures told { AreToldAt self.old channel self.new }
-        ensures seated { (plan : Plan) → AreSeated self.old.words.now plan self.old.seats.items → AreSeated self.new.words.now plan self.new.seats.items }
-        ensures tells { TellsAt self.new.seats.items self.new.parts.items channel }
-        ensures settled { SettlesAt self.old.seats.items self.old.parts.items channel self.new.seats.items }
-        ensures others { KeepsOthers self.old.seats.items channel self.new.seats.items }
+    pub(crate) fn tell_if<W: Planned>(&mut self, position: usize, wanted: bool)
+        requires there { position < length self.old.here.items }
+        requires in_order { AreInOrder (length W.plan.channels) self.old }
+        requires seated { AreSeated self.old.words.now W.plan (channel_seats W.plan self.old) }
+        requires nodes { NodesStand W.world W.plan S.meaning S.stands_after T.state self.old.number self.old.was_refused (channel_parts W.plan self.old) }
+        requires told { wanted ≡ false → TellsAt (channel_seats W.plan self.old) (channel_parts W.plan self.old) (get_or self.old.here.items position 0) }
+        ensures told { AreToldAt W.plan self.old (get_or self.old.here.items position 0) self.new }
+        ensures seated { AreSeated self.new.words.now W.plan (channel_seats W.plan self.new) }
+        ensures tells { TellsAt (channel_seats W.plan self.new) (channel_parts W.plan self.new) (get_or self.old.here.items position 0) }
+        ensures settled { SettlesAt (channel_seats W.plan self.old) (channel_parts W.plan self.old) (get_or self.old.here.items position 0) (channel_seats W.plan self.new) }
+        ensures others { KeepsOthers (channel_seats W.plan self.old) (get_or self.old.here.items position 0) (channel_seats W.plan self.new) }
         ensures unwanted { wanted ≡ false → self.new ≡ self.old }
     {
         if !wanted {
             return;
         }
-        if let Some(seats) = &mut self.seats[channel] {
-            tell(self.words, channel, seats, &mut self.parts[channel]);
+        if let Some(seats) = &mut self.seats[position] {
+            tell(
+                self.words,
+                self.here[position],
+                seats,
+                &mut self.parts[position],
+            );
         }
     }
 }

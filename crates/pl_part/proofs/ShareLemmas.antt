@@ -1,11 +1,11 @@
 -- Shares of a part: how they are made, and what each keeps of the whole.
-use Rattle.std.proofs.Common.{◌≡◌, ◌≢◌, ℕ, zero, suc, ◌+◌, ◌-◌, ◌≤◌, Bool, true, false, not, ◌&&◌, cond, List, ◌∷◌, [], ◌++◌, length, map, get_or, slice_get, Option, Some, None, refl, ap, sym, ◌∙◌, subst, ⊎_elim, arith, length-append}
-use Rattle.std.specs.Prelude.{◌==◌, nat_lt, is_some, if◌then◌else◌}
+use Rattle.std.proofs.Common.{◌≡◌, ℕ, suc, ◌+◌, ◌-◌, ◌≤◌, Bool, true, false, ◌&&◌, cond, List, ◌∷◌, [], length, map, get_or, Option, Some, None, refl, ap, sym, ◌∙◌, subst, arith}
+use Rattle.std.specs.Prelude.{◌==◌, is_some, if◌then◌else◌}
 use Rattle.std.specs.List.{sum_by, range_with_len}
 use Rattle.std.specs.Option.{option_map_or}
-use Rattle.std.proofs.lemmas.Bool.{cases_Bool, both_ways, cond-true, eqb-true, eq-eqb, lt-ltb, le-ltb, ltb-true, ltb-false, and_parts}
+use Rattle.std.proofs.lemmas.Bool.{cond-true, eqb-true, and_parts}
 use Rattle.std.proofs.lemmas.List.Sums.{sum_by-cons}
-use Rattle.std.proofs.lemmas.Option.{none-some, same_Some}
+use Rattle.std.proofs.lemmas.Option.{none-some}
 use Rattle.pl_event.specs.declared.events.Event.{Event}
 use Rattle.pl_event.specs.declared.envelopes.Lane.{Lane}
 use Rattle.pl_event.specs.Hops.{same_lane, data_lane}
@@ -21,7 +21,7 @@ use Rattle.pl_part.specs.HeadHolds.{head_writes, head_came, head_taken}
 use Rattle.pl_part.specs.Paths.{PathPartView, PathHolds, IsAt, context_at, writer_hop, enters_path, path_taken, path_writes, path_came}
 use Rattle.pl_part.specs.Parts.{ChannelPartView, PartHolds, head_hop, has_entered, part_taken, part_lanes, part_writes, part_came}
 use Rattle.pl_part.specs.Counts.{context_done, slot_done, tail_done, head_done, path_done, part_done}
-use Rattle.pl_part.specs.Shares.{IsPathShare, IsShareBy, EachPart, only_if, executor_of}
+use Rattle.pl_part.specs.Shares.{IsPathShare, IsShareBy, IsShareOf, only_if, executor_of}
 
 -- ---- what is there where that is wanted
 
@@ -99,21 +99,6 @@ with-head mine p v same path head at path-is at-is head-is =
     subst (λ (y : ChannelPartView _ _). IsShareBy mine y (record { path = path; head = head })) same
     (record { path = path-is; head = head-is ∙ ap (λ (n : ℕ). only_if (mine n) v.head) at-is })
 
--- all of the nodes
-pub share-all : {S T : Type 0} (mine : ℕ → Bool) (whole : ChannelPartView S T) → ((e : ℕ) → mine e ≡ true) → IsShareBy mine whole whole
-share-all mine whole all = record {
-  path = record {
-    channel = refl;
-    executors = refl;
-    tail_hop = refl;
-    turn = refl;
-    slots = refl;
-    contexts = λ hop. sym (cond-true (mine (executor_of whole.path hop)) (context_at whole.path hop) None (all _));
-    tail = sym (cond-true (mine (executor_of whole.path whole.path.tail_hop)) whole.path.tail None (all _));
-  };
-  head = sym (cond-true (mine (executor_of whole.path (head_hop whole))) whole.head None (all _));
-}
-
 -- a share of a share
 pub share-within : {S T : Type 0} (these those both : ℕ → Bool) (whole part share : ChannelPartView S T) → ((e : ℕ) → (these e && those e) ≡ both e)
     → IsShareBy those whole part → IsShareBy these part share → IsShareBy both whole share
@@ -132,46 +117,6 @@ share-within these those both whole part share are p s = record {
   where
     joined : {A : Type 0} (e : ℕ) (o : Option A) → only_if (these e) (only_if (those e) o) ≡ only_if (both e) o
     joined e o = only-both (these e) (those e) o ∙ ap (λ (b : Bool). only_if b o) (are e)
-
--- the next executor is one of those that are left, and the others of these are left behind it
-pub next-left : (x e : ℕ) → ((e == x) && not (nat_lt e x)) ≡ (e == x)
-next-left x e = ⊎_elim
-    (λ (t : (e == x) ≡ true). let same = eqb-true e x t in (λ i. t i && not (nat_lt e x)) ∙ ap (λ (b : Bool). not b) (le-ltb e x (omega (arith, same))) ∙ sym t)
-    (λ (f : (e == x) ≡ false). (λ i. f i && not (nat_lt e x)) ∙ sym f)
-    (cases_Bool (e == x))
-
-pub others-left : (x e : ℕ) → (not (e == x) && not (nat_lt e x)) ≡ not (nat_lt e (x + 1))
-others-left x e = ⊎_elim
-    (λ (t : (e == x) ≡ true). let same = eqb-true e x t in (λ i. not (t i) && not (nat_lt e x)) ∙ sym (ap (λ (b : Bool). not b) (lt-ltb e (x + 1) (omega (arith, same)))))
-    (λ (f : (e == x) ≡ false). (λ i. not (f i) && not (nat_lt e x)) ∙ ap (λ (b : Bool). not b) (later (λ s. both_ways (e == x) f (eq-eqb e x s))))
-    (cases_Bool (e == x))
-  where
-    later : e ≢ x → nat_lt e x ≡ nat_lt e (x + 1)
-    later off = ⊎_elim
-        (λ (t : nat_lt e x ≡ true). let less = ltb-true e x t in t ∙ sym (lt-ltb e (x + 1) (omega (arith, less))))
-        (λ (f : nat_lt e x ≡ false). let past = ltb-false e x f in f ∙ sym (le-ltb e (x + 1) (omega (arith, past, off))))
-        (cases_Bool (nat_lt e x))
-
-pub all-left : (e : ℕ) → not (nat_lt e 0) ≡ true
-all-left e = ap (λ (b : Bool). not b) (le-ltb e 0 (omega arith))
-
--- of each of these and of one more
-each-behind : {A : Type 0} (Is : ℕ → A → Type 0) (xs : List A) (y : A) → ((x : ℕ) (p : A) → slice_get xs x ≡ Some p → Is x p) → Is (length xs) y
-    → (x : ℕ) (p : A) → slice_get (xs ++ y ∷ []) x ≡ Some p → Is x p
-each-behind Is [] y each last zero p e = subst (λ (z : _). Is 0 z) (same_Some y p e) last
-each-behind Is [] y each last (suc x) p e = absurd (none-some p e)
-each-behind Is (z ∷ zs) y each last zero p e = each zero p e
-each-behind Is (z ∷ zs) y each last (suc x) p e = each-behind (λ n. Is (suc n)) zs y (λ x p e. each (suc x) p e) last x p e
-
-pub each-push : {S T : Type 0} (Is : ℕ → ChannelPartView S T → Type 0) (parts more : List (ChannelPartView S T)) (share : ChannelPartView S T) (x : ℕ) → more ≡ parts ++ share ∷ [] → length parts ≡ x → EachPart parts Is → Is x share
-    → (length more ≡ x + 1) × EachPart more Is
-each-push Is parts more share x added size each own = (
-  (let count = ap length added in let sum = length-append parts (share ∷ []) in omega (arith, count, sum, size)),
-  subst (λ (l : List (ChannelPartView _ _)). EachPart l Is) (sym added) (each-behind Is parts share each (subst (λ n. Is n share) (sym size) own)),
-)
-
-pub each-none : {S T : Type 0} (Is : ℕ → ChannelPartView S T → Type 0) (parts : List (ChannelPartView S T)) → parts ≡ [] → (length parts ≡ 0) × EachPart parts Is
-each-none Is parts none = (ap length none, subst (λ (l : List (ChannelPartView _ _)). EachPart l Is) (sym none) (λ x part e. absurd (none-some part e)))
 
 -- ---- what the contexts and the tail of a share keep
 
@@ -310,6 +255,18 @@ module _ {S T : Type 0} (mine : ℕ → Bool) (whole share : ChannelPartView S T
       let head = subst (λ (o : Option (HeadView T)). option_map_or (λ (h : HeadView T). head_done h) o 0 ≤ option_map_or (λ (h : HeadView T). head_done h) whole.head 0) (sym is.head)
       (only-less (λ (h : HeadView T). head_done h) (mine (executor_of whole.path (head_hop whole))) whole.head) in
       omega (arith, path, head)
+
+  pub share-is-of : (meaning : S → Meaning) (stands_after : S → List Event → Type 0) (state : T → TransportState) → IsShareOf meaning stands_after state mine whole share
+  share-is-of meaning stands_after state = record {
+    share_is = is;
+    holds = λ world holds. share-holds world meaning stands_after state holds;
+    entered = share-entered;
+    taken = share-taken;
+    writes = share-writes meaning;
+    came = share-came meaning;
+    lanes = share-lanes;
+    done = share-done;
+  }
 
   -- ---- the same, of a lane that enters one of its nodes, or that one of them writes
 

@@ -1,7 +1,14 @@
 -- Shares of a part: of its nodes those whose executor is one of some.
-use Rattle.std.specs.Prelude.{◌≡◌, ℕ, ◌==◌, Bool, List, get_or, length, slice_get, cond, Option, Some, None}
-use Rattle.pl_part.specs.Paths.{PathPartView, context_at}
-use Rattle.pl_part.specs.Parts.{ChannelPartView, head_hop}
+use Rattle.std.specs.Prelude.{◌≡◌, ℕ, ◌≤◌, ◌==◌, ◌&&◌, Bool, List, get_or, length, cond, Option, None}
+use Rattle.pl_event.specs.declared.envelopes.Lane.{Lane}
+use Rattle.pl_event.specs.declared.events.Event.{Event}
+use Rattle.pl_event.specs.Meaning.{Meaning}
+use Rattle.pl_event.specs.Worlds.{World}
+use Rattle.pl_flow.specs.Flows.{nowhere}
+use Rattle.pl_head.specs.Transports.{TransportState}
+use Rattle.pl_part.specs.Counts.{part_done}
+use Rattle.pl_part.specs.Paths.{PathPartView, context_at, writer_hop}
+use Rattle.pl_part.specs.Parts.{ChannelPartView, PartHolds, head_hop, has_entered, part_taken, part_lanes, part_writes, part_came}
 
 -- what is there where that is wanted, else nothing
 abbrev pub only_if : {A : Type 0} → Bool → Option A → Option A
@@ -30,6 +37,15 @@ pub record IsShareBy {S T : Type 0} (mine : ℕ → Bool) (whole share : Channel
 abbrev pub IsShare : {S T : Type 0} → ℕ → ChannelPartView S T → ChannelPartView S T → Type 0
 IsShare executor whole share = IsShareBy (λ e. e == executor) whole share
 
--- each of these, with its number
-abbrev pub EachPart : {S T : Type 0} → List (ChannelPartView S T) → (ℕ → ChannelPartView S T → Type 0) → Type 0
-EachPart parts Is = (x : ℕ) (part : ChannelPartView _ _) → slice_get parts x ≡ Some part → Is x part
+module _ {S T : Type 0} (meaning : S → Meaning) (stands_after : S → List Event → Type 0) (state : T → TransportState) where
+  -- These are the nodes of a channel whose executor is one of some, and hold where all of its nodes do. What they have taken, and
+  -- how far the lanes have come that they write, is as it is there; of other lanes nothing was taken, and none has come.
+  pub record IsShareOf (mine : ℕ → Bool) (whole share : ChannelPartView S T) : Type 0 where
+    pub share_is : IsShareBy mine whole share
+    pub holds : (world : World) → PartHolds world meaning stands_after state whole → PartHolds world meaning stands_after state share
+    pub entered : (l : Lane) → has_entered share l ≡ (has_entered whole l && mine (executor_of whole.path l.hop))
+    pub taken : (l : Lane) → part_taken share l ≡ cond (mine (executor_of whole.path l.hop)) (part_taken whole l) 0
+    pub writes : (l : Lane) → part_writes meaning share l ≡ (part_writes meaning whole l && mine (executor_of whole.path (writer_hop whole.path l.hop)))
+    pub came : (l : Lane) → part_came meaning share l ≡ cond (mine (executor_of whole.path (writer_hop whole.path l.hop))) (part_came meaning whole l) nowhere
+    pub lanes : part_lanes share ≡ part_lanes whole
+    pub done : part_done share ≤ part_done whole

@@ -1,10 +1,8 @@
 //! The nodes of a channel that are on one executor, with the head.
 
-ghost use Rattle.std.specs.Prelude.{◌≡◌, ℕ, ◌+◌, ◌<◌, ◌≤◌, ◌^◌, ◌==◌, ◌++◌, ◌∷◌, [], List, All, IfOk, IfSome, IfNone, Some, None, ◌||◌, map, replicate, is_some, cond, length, get_or, true, false, OnOk, OnErr, not, ◌&&◌};
+ghost use Rattle.std.specs.Prelude.{◌≡◌, ℕ, ◌+◌, ◌<◌, ◌≤◌, ◌^◌, ◌==◌, ◌++◌, ◌∷◌, [], List, All, IfOk, IfSome, IfNone, Some, None, ◌||◌, map, replicate, is_some, length, get_or, true, false, OnOk, OnErr, not};
 ghost use Rattle.std.specs.Option.{option_map_or};
-ghost use Rattle.pl_event.specs.declared.envelopes.Lane.{Lane};
 ghost use Rattle.pl_event.specs.declared.envelopes.Kind.TheVariants as kind;
-ghost use Rattle.pl_event.specs.Hops.{same_lane};
 ghost use Rattle.pl_event.specs.declared.limits.TheConstants.{MAX_ITEMS};
 ghost use Rattle.pl_event.specs.Inputs.{Bursts};
 ghost use Rattle.pl_event.specs.Worlds.{World};
@@ -12,10 +10,8 @@ ghost use Rattle.pl_context.specs.declared.contexts.TheConstants.{MAX_HANDLERS};
 ghost use Rattle.pl_context.specs.declared.standing.Standing.TheVariants as stands;
 ghost use Rattle.pl_context.specs.Standings.{is_over};
 ghost use Rattle.pl_context.specs.ContextViews.{ContextView};
-ghost use Rattle.pl_context.specs.Stops.{HasPlaces, AreAmong};
+ghost use Rattle.pl_context.specs.Stops.{HasPlaces};
 ghost use Rattle.pl_context.specs.TailViews.{new_tail};
-ghost use Rattle.pl_flow.specs.Flows.{IsGood, nowhere};
-ghost use Rattle.pl_flow.specs.Makes.{Makes};
 ghost use Rattle.pl_head.specs.HeadStand.{HeadView, HeadStandsAfter, ReadsStand, is_idle};
 ghost use Rattle.pl_head.specs.InputStand.{fed_plan, items_left, takes_bursts};
 ghost use Rattle.pl_event.specs.declared.events.Event.{Event};
@@ -23,10 +19,10 @@ ghost use Rattle.pl_head.specs.Marks.{Change};
 ghost use Rattle.pl_part.specs.NewParts.{ArePlannedWith, AreNewSlots, whole_slots};
 ghost use Rattle.pl_part.specs.HeadHolds.{HeadHolds};
 ghost use Rattle.pl_part.specs.Paths.{PathRefuses, context_at, writer_hop};
-ghost use Rattle.pl_part.specs.Parts.{PartHolds, PartTakes, PartReads, PartWrites, PartMoves, PartAborts, SamePart, head_hop, has_entered, has_read, all_over, head_standing, part_standing, part_taken, part_lanes, part_writes, writes_at, part_came};
+ghost use Rattle.pl_part.specs.Parts.{PartHolds, PartTakes, PartReads, PartWrites, PartMoves, PartAborts, head_hop, has_read, all_over, head_standing, part_standing, part_lanes};
 ghost use Rattle.pl_part.specs.Counts.{head_done, part_done};
 ghost use Rattle.pl_part.specs.PartCalls.{IsNextFor, Taken, Given, PartRefused};
-ghost use Rattle.pl_part.specs.Shares.{IsShare, IsShareBy, EachPart, executor_of};
+ghost use Rattle.pl_part.specs.Shares.{IsShareOf};
 ghost use Rattle.pl_part.specs.Told.{IsTold, TellsNext, part_untold};
 ghost use Rattle.pl_part.specs.Growing.{fed_part};
 
@@ -91,25 +87,16 @@ impl<S: Stage, T: Transport> ChannelPart<S, T> {
         })
     }
 
-    /// Divides the nodes among as many executors: part x gets those whose executor is x, and a node of none of them is dropped.
-    /// On an error, where memory is refused, all of them are.
-    pub fn split(self, alloc: Global, count: usize) -> Result<Vec<ChannelPart<S, T>>, AllocError>
-        ensures count { IfOk result (λ parts. length parts.items ≡ count) }
-        ensures each { IfOk result (λ parts. EachPart parts.items (λ x part. IsShare x self part)) }
-        ensures holds { IfOk result (λ parts. EachPart parts.items (λ x part. (world : World) → PartHolds world S.meaning S.stands_after T.state self → PartHolds world S.meaning S.stands_after T.state part)) }
-        ensures entered { IfOk result (λ parts. EachPart parts.items (λ x part. (l : Lane) → has_entered part l ≡ (has_entered self l && (executor_of self.path l.hop == x)))) }
-        ensures taken { IfOk result (λ parts. EachPart parts.items (λ x part. (l : Lane) → part_taken part l ≡ cond (executor_of self.path l.hop == x) (part_taken self l) 0)) }
-        ensures writes { IfOk result (λ parts. EachPart parts.items (λ x part. (l : Lane) → part_writes S.meaning part l ≡ (part_writes S.meaning self l && (executor_of self.path (writer_hop self.path l.hop) == x)))) }
-        ensures came { IfOk result (λ parts. EachPart parts.items (λ x part. (l : Lane) → part_came S.meaning part l ≡ cond (executor_of self.path (writer_hop self.path l.hop) == x) (part_came S.meaning self l) nowhere)) }
-        ensures lanes { IfOk result (λ parts. EachPart parts.items (λ x part. part_lanes part ≡ part_lanes self)) }
-        ensures done { IfOk result (λ parts. EachPart parts.items (λ x part. part_done part ≤ part_done self)) }
+    /// Takes the nodes of an executor out. Those of the others stay. An `Err` is out of memory, and changes nothing.
+    pub fn take_share(&mut self, alloc: Global, executor: usize) -> Result<Self, AllocError>
+        ensures share { IfOk result (λ share. IsShareOf S.meaning S.stands_after T.state (λ e. e == executor) self.old share) }
+        ensures rest { OnOk result (IsShareOf S.meaning S.stands_after T.state (λ e. not (e == executor)) self.old self.new) }
+        ensures kept { OnErr result (self.new ≡ self.old) }
     {
-        let mut rest = self;
-        let mut parts = Vec::new(alloc);
-        for executor in 0..count {
-            parts.push(rest.take_share(alloc, executor)?)?;
-        }
-        Ok(parts)
+        let is_wanted = self.path.head_executor() == executor;
+        let path = self.path.take_share(alloc, executor)?;
+        let head = take_where(&mut self.head, is_wanted);
+        Ok(ChannelPart { path, head })
     }
 
     /// The executor of what the lanes of a hop enter.
@@ -322,17 +309,6 @@ impl<S: Stage, T: Transport> ChannelPart<S, T> {
         ensures none { IfNone result (self.now.head ≡ None) }
     {
         self.head.as_ref()
-    }
-
-    /// Takes the nodes of an executor out. Those of the others stay.
-    fn take_share(&mut self, alloc: Global, executor: usize) -> Result<Self, AllocError>
-        ensures share { IfOk result (λ share. IsShare executor self.old share) }
-        ensures rest { OnOk result (IsShareBy (λ e. not (e == executor)) self.old self.new) }
-    {
-        let is_wanted = self.path.head_executor() == executor;
-        let path = self.path.take_share(alloc, executor)?;
-        let head = take_where(&mut self.head, is_wanted);
-        Ok(ChannelPart { path, head })
     }
 
     fn take_at_head(&mut self, envelope: Envelope, work: &mut Outputs) -> Took

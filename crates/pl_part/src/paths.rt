@@ -1,6 +1,6 @@
 //! The nodes of a channel that are on one executor, but its head.
 
-ghost use Rattle.std.specs.Prelude.{◌≡◌, ◌+◌, ◌<◌, ◌≤◌, ◌^◌, ◌++◌, ◌∷◌, [], All, IfOk, IfSome, IfNone, Some, None, map, replicate, is_some, cond, length, get_or, true, false, ◌==◌, OnOk, not};
+ghost use Rattle.std.specs.Prelude.{◌≡◌, ◌+◌, ◌<◌, ◌≤◌, ◌^◌, ◌++◌, ◌∷◌, [], All, IfOk, IfSome, IfNone, Some, None, map, replicate, is_some, cond, length, get_or, true, false, ◌==◌, OnErr, OnOk, not};
 ghost use Rattle.std.specs.List.{list_all};
 ghost use Rattle.std.specs.Option.{option_map_or};
 ghost use Rattle.pl_event.specs.declared.envelopes.Lane.{Lane};
@@ -222,7 +222,7 @@ impl<S: Stage> PathPart<S> {
         self.executors[self.contexts.len()] as usize
     }
 
-    /// Takes the nodes of an executor out. Those of the others stay.
+    /// Takes the nodes of an executor out. Those of the others stay. An `Err` is out of memory, and changes nothing.
     pub(crate) fn take_share(
         &mut self,
         alloc: Global,
@@ -230,6 +230,7 @@ impl<S: Stage> PathPart<S> {
     ) -> Result<PathPart<S>, AllocError>
         ensures share { IfOk result (λ share. IsPathShare (λ e. e == executor) self.old share) }
         ensures rest { OnOk result (IsPathShare (λ e. not (e == executor)) self.old self.new) }
+        ensures kept { OnErr result (self.new ≡ self.old) }
     {
         let is_wanted = self.target(self.tail_hop) == executor;
         let executors = self.executors.to_vec(alloc)?;

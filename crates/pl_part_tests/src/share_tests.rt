@@ -1,4 +1,4 @@
-//! A part that is divided among executors.
+//! A part out of which the shares of executors are taken.
 
 use crate::relays::{NO_FAULTS, Relay, sample_part};
 use pl_head::MemoryTransport;
@@ -17,38 +17,40 @@ fn assert_on(rt: &impl Abort, executor: usize, part: &ChannelPart<Relay, MemoryT
 
 /// The turn is on executor 0, the outbound handler on 1, and the first handler, the tail and the head are on 2. None is on 3.
 #[test]
-fn divided_among_executors(rt: HostRuntime) -> Result<(), Fail> {
+fn taken_by_each_executor(rt: HostRuntime) -> Result<(), Fail> {
     let alloc = rt.alloc();
-    let parts = sample_part(alloc, NO_FAULTS)?.split(alloc, 4)?;
-    assert!(rt; parts.len() == 4);
-    for (executor, part) in parts.iter().enumerate() {
-        assert_on(&rt, executor, part);
+    let mut rest = sample_part(alloc, NO_FAULTS)?;
+    for executor in 0..4 {
+        let share = rest.take_share(alloc, executor)?;
+        assert_on(&rt, executor, &share);
+        assert!(rt; rest.has_ended() == (executor >= 2));
     }
     Ok(())
 }
 
-/// Nodes of executors that are not there are in no part.
+/// What is taken is not there again, and the nodes of other executors are.
 #[test]
-fn divided_among_fewer(rt: HostRuntime) -> Result<(), Fail> {
+fn taken_once(rt: HostRuntime) -> Result<(), Fail> {
     let alloc = rt.alloc();
-    let parts = sample_part(alloc, NO_FAULTS)?.split(alloc, 1)?;
-    assert!(rt; parts.len() == 1);
-    for part in parts.iter() {
-        assert!(rt; !part.has_ended());
-        assert!(rt; part.tail().is_none() && part.head().is_none());
-    }
-    drop(parts);
-    let parts = sample_part(alloc, NO_FAULTS)?.split(alloc, 0)?;
-    assert!(rt; parts.is_empty());
+    let mut rest = sample_part(alloc, NO_FAULTS)?;
+    let share = rest.take_share(alloc, 2)?;
+    assert_on(&rt, 2, &share);
+    drop(share);
+    assert!(rt; !rest.has_ended());
+    assert!(rt; rest.tail().is_none() && rest.head().is_none());
+    let again = rest.take_share(alloc, 2)?;
+    assert!(rt; again.has_ended() && again.head().is_none());
     Ok(())
 }
 
-/// Where an allocation is made to fail, the first division is refused, and the second finds memory.
+/// Where an allocation is made to fail, the share is refused, and all nodes stay: the second time it is there.
 #[test]
-fn division_without_memory(rt: HostRuntime) -> Result<(), Fail> {
+fn share_without_memory(rt: HostRuntime) -> Result<(), Fail> {
     let alloc = rt.alloc();
-    let first = sample_part(alloc, NO_FAULTS)?;
-    let second = sample_part(alloc, NO_FAULTS)?;
-    assert!(rt; first.split(alloc, 4).is_ok() || second.split(alloc, 4).is_ok());
+    let mut part = sample_part(alloc, NO_FAULTS)?;
+    match part.take_share(alloc, 2) {
+        Ok(share) => assert_on(&rt, 2, &share),
+        Err(_) => assert_on(&rt, 2, &part.take_share(alloc, 2)?),
+    }
     Ok(())
 }

@@ -1,7 +1,13 @@
+use Rattle.std.proofs.Common.{◌≡◌, ◌++◌, length}
 use Rattle.std.specs.Vec.Iter.{into_iter_items}
+use Rattle.pl_exec.specs.ChannelRows.{by_channel}
 use Rattle.pl_exec.specs.Reported.{with_part}
-use Rattle.pl_exec.proofs.EachWith.{AddsFirst}
 use Rattle.pl_exec.proofs.reporting.find_ends.Given as goal
 
+-- the ends in the first of these parts are found
 abbrev pub invariant-loop-part : goal.invariant-loop-part
-invariant-loop-part g l = AddsFirst with_part l.fn.found.items l.fn.parts.items l.yielded (into_iter_items l.part-iterator) l.channel l.found.items
+invariant-loop-part g l = record {
+  rest : l.yielded ++ into_iter_items l.part-iterator ≡ l.fn.parts.items;
+  at : l.position ≡ length l.yielded;
+  found : l.found.items ≡ by_channel with_part l.fn.here.items l.yielded l.fn.found.items;
+}

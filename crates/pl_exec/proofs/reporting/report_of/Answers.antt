@@ -2,6 +2,7 @@ use Rattle.std.proofs.Common.{◌≡◌, ℕ, ◌+◌, ◌++◌, ◌∷◌, [], 
 use Rattle.std.proofs.lemmas.List.{nil_from_length}
 use Rattle.pl_threads.specs.Running.{FinishedView}
 use Rattle.pl_exec.specs.declared.nodes.ExecutorNodes.{ExecutorNodes}
+use Rattle.pl_exec.specs.ChannelRows.{IsChannelRow}
 use Rattle.pl_exec.specs.Reported.{nothing_found}
 use Rattle.pl_exec.proofs.LeftEnds.{AreFound, none-found, all-left, next-finished, number-at, numbers-count}
 use Rattle.pl_exec.proofs.ListSteps.{at-next, all-done}
@@ -20,8 +21,8 @@ loop-finished-preserved g c =
     let inv = c.loop-finished.invariant in
     let done = c.loop-finished.yielded in
     let finished = c.in-Some.finished in
-    let nodes = c.into_nodes-parts.result in
-    let left = c.into_nodes-parts.ensures in
+    let nodes = c.into_nodes-here.result in
+    let left = c.into_nodes-here.ensures in
     let number = λ (n : ExecutorNodes g.row.S.Denot g.row.T.Denot). n.number in
     let executor = λ (e : FinishedView (ExecutorNodes g.row.S.Denot g.row.T.Denot)). e.nodes.number in
     let at = at-next c.args.all.items done c.loop-finished.finished-iterator.rest.items c.next.new.self.rest.items finished (length done) inv.rest c.in-Some.ensures.steps.0 refl in
@@ -30,7 +31,7 @@ loop-finished-preserved g c =
       rest = append_assoc done (finished ∷ []) c.next.new.self.rest.items ∙ ap (λ (t : List (FinishedView (ExecutorNodes g.row.S.Denot g.row.T.Denot))). done ++ t) (sym c.in-Some.ensures.steps.0) ∙ inv.rest;
       found =
           subst (λ (n : ℕ). AreFound state plan n c.find_ends.new.found.items) count
-          (next-finished state plan g.S.Stage.meaning g.S.Stage.stands_after nodes.number nodes.was_refused g.W.Named.world (length done) c.loop-finished.found.items c.find_ends.new.found.items nodes.parts.items
+          (next-finished state plan g.S.Stage.meaning g.S.Stage.stands_after nodes.number nodes.was_refused nodes left.stands.in_order g.W.Named.world (length done) c.loop-finished.found.items c.find_ends.new.found.items
           left.stands.is_world left.stands.nodes left.over (ap number left.nodes ∙ number-at executor c.args.all.items plan.executors (length done) finished c.requires.executors at) inv.found c.find_ends.ensures);
     }
 
@@ -43,3 +44,9 @@ reports-requires g c =
     let whole = all-done c.args.all.items c.loop-finished.yielded rest.items (nil_from_length rest.items (omega (arith, c.in-None.ensures.steps.0, rest.ok))) inv.rest in
     let count = ap (λ (l : List (FinishedView (ExecutorNodes g.row.S.Denot g.row.T.Denot))). length l) whole ∙ numbers-count (λ (e : FinishedView (ExecutorNodes g.row.S.Denot g.row.T.Denot)). e.nodes.number) c.args.all.items plan.executors c.requires.executors in
     all-left state plan c.loop-finished.found.items c.requires.plan (subst (λ (n : ℕ). AreFound state plan n c.loop-finished.found.items) count inv.found)
+
+pub find_ends-requires-clause-row : goal.find_ends-requires-clause-row
+find_ends-requires-clause-row g c = subst (λ (n : ℕ). IsChannelRow n c.into_nodes-here.result.here.items) (sym c.loop-finished.invariant.found.count) c.into_nodes-here.ensures.stands.in_order.row
+
+pub find_ends-requires-clause-parts : goal.find_ends-requires-clause-parts
+find_ends-requires-clause-parts g c = c.into_nodes-here.ensures.stands.in_order.parts

@@ -77,7 +77,7 @@ report_of-requires-clause-plan g c = subst (λ (p : Plan). IsPlan p) (sym c.requ
 
 pub report_of-requires-clause-executors : goal.report_of-requires-clause-executors
 report_of-requires-clause-executors g c =
-    ended-executors (λ e. e.0) (own_view g.S.Stage.meaning) c.in_ok-executors.executors.items c.in_ok-all.all.items c.in_ok-all.ensures.ended
+    ended-executors (λ e. e.0) (own_view g.W.Planned.plan g.S.Stage.meaning) c.in_ok-executors.executors.items c.in_ok-all.all.items c.in_ok-all.ensures.ended
     ∙ executors-in-order (λ e. e.0) c.in_ok-executors.executors.items c.in_ok-nodes.nodes.items g.W.Planned.plan.executors c.in_ok-executors.ensures.parts c.in_ok-nodes.ensures.count c.in_ok-executors.ensures.first
 
 pub report_of-requires-clause-channels : goal.report_of-requires-clause-channels

@@ -19,10 +19,7 @@ returns-clause-got g c =
     let size : c.len.result ≡ length n.parts.items = omega (arith, c.len.ensures, n.parts.ok.0) in
     let slot : c.take_if.result ≡ only_if (is_some c.args.share.head) c.args.seats.now = c.take_if.ensures.taken ∙ ap (λ (b : Bool). only_if b c.args.seats.now) head in
     record {
-      number = refl;
-      refused = refl;
-      words = refl;
-      here = refl;
+      same = refl;
       parts = c.in_ok-push-2.ensures.items;
       own = c.in_ok-note_if.ensures ∙ (λ i. n.own.items ++ cond (head i) (size i ∷ []) []);
       seats = c.in_ok-push.ensures.items ∙ (λ i. n.seats.items ++ slot i ∷ []);

@@ -1,78 +1,67 @@
 use Rattle.std.specs.Global.{Vec}
-use Rattle.std.proofs.Common.{◌≡◌, ◌++◌, [], ◌∷◌, ℕ, List, Option, length, map, inl, inr, ap, sym, subst, refl, ◌∙◌, arith}
+use Rattle.std.proofs.Common.{◌≡◌, ◌++◌, [], ◌∷◌, ℕ, List, length, refl, ap, sym, subst, ◌∙◌, arith, append_assoc, length-append}
+use Rattle.std.specs.Option.{option_map}
 use Rattle.std.proofs.lemmas.List.{length-map, map-append, nil_from_length}
-use Rattle.pl_event.proofs.Lists.{seen-more}
-use Rattle.pl_part.specs.Parts.{ChannelPartView}
-use Rattle.pl_exec.specs.SessionWords.{SeatsView}
-use Rattle.pl_exec.specs.Sharing.{AreShared, rows_in}
-use Rattle.pl_exec.proofs.ListSteps.{all-done, both-behind}
-use Rattle.pl_exec.proofs.SharesMade.{channel-shared, one-head}
+use Rattle.std.proofs.lemmas.Option.{slice_get-map}
+use Rattle.pl_event.proofs.Lists.{All-at}
+use Rattle.pl_exec.specs.ChannelRows.{IsChannelRow}
+use Rattle.pl_exec.specs.Sharing.{AreRests, AreShared, HasShares, rows_in}
+use Rattle.pl_exec.proofs.ListSteps.{all-done, at-next}
+use Rattle.pl_exec.proofs.SharesMade.{AreLeftFor, all-left, executor-shared, next-left, none-shared, shares-of-whole}
 use Rattle.pl_exec.proofs.sharing.shares.Goals as goal
-use Rattle.pl_exec.proofs.sharing.shares.Goals.{After-len-count}
 
-pub loop-part-init : goal.loop-part-init
-loop-part-init g c =
-    let gives = c.into_iter-part-iterator.ensures.into_iter_gives in
-    let first : c.zip-part-items.result.a ≡ c.into_iter.result = c.zip-part-items.ensures.first in
-    let parts : c.into_iter-part-iterator.result.a.rest.items ≡ c.args.parts.items = (λ i. (gives i).a.rest.items) ∙ (λ i. (first i).rest.items) ∙ c.into_iter.ensures.rest in
-    let seats : c.into_iter-part-iterator.result.b.rest.items ≡ c.args.seats.items = (λ i. (gives i).b.rest.items) ∙ c.zip-part-items.ensures.second.0 in
+pub loop-here-init : goal.loop-here-init
+loop-here-init g c = record {
+  rest = c.into_iter-here-iterator.ensures.into_iter_gives.0;
+  shared = none-shared g.S.Stage.meaning g.S.Stage.stands_after g.T.Transport.state c.args.parts.items c.args.words.now c.args.seats.items c.in_ok-all.all.items c.in_ok-all.ensures.items;
+  left = all-left c.args.parts.items c.args.seats.items;
+}
+
+pub nodes_on-requires-clause-row : goal.nodes_on-requires-clause-row
+nodes_on-requires-clause-row g c =
+    let inv = c.loop-here.invariant in
+    let done = c.loop-here.yielded in
+    let at = at-next c.args.rows.items done c.loop-here.here-iterator.rest.items c.next.new.self.rest.items c.in-Some.here (length done) inv.rest c.in-Some.ensures.steps.0 refl in
+    subst (λ (n : ℕ). IsChannelRow n c.in-Some.here.items) (sym inv.left.parts_count)
+    (All-at (IsChannelRow (length c.args.parts.items)) (rows_in c.args.rows.items) (length done) c.in-Some.here.items c.requires.rows (slice_get-map (λ (row : Vec ℕ). row.items) c.args.rows.items (length done) ∙ ap (option_map (λ (row : Vec ℕ). row.items)) at))
+
+pub nodes_on-requires-clause-few : goal.nodes_on-requires-clause-few
+nodes_on-requires-clause-few g c = let size = c.loop-here.invariant.left.parts_count in omega (arith, size, c.requires.few)
+
+pub nodes_on-requires-clause-seats : goal.nodes_on-requires-clause-seats
+nodes_on-requires-clause-seats g c = c.loop-here.invariant.left.seats_count ∙ c.requires.seats ∙ sym c.loop-here.invariant.left.parts_count
+
+pub loop-here-preserved : goal.loop-here-preserved
+loop-here-preserved g c =
+    let inv = c.loop-here.invariant in
+    let done = c.loop-here.yielded in
+    let row = c.in-Some.here in
+    let wholes = c.args.parts.items in
+    let heads = c.args.seats.items in
+    let all = c.loop-here.all in
+    let count : length all.items ≡ length done = inv.shared.count ∙ length-map done (λ (r : Vec ℕ). r.items) in
+    let number : c.len-number.result ≡ length done = omega (arith, c.len-number.ensures, all.ok.0, count) in
+    let made = c.in_ok-nodes_on.ensures in
+    let nodes = c.in_ok-nodes_on.field-0 in
+    let has : HasShares g.S.Stage.meaning g.S.Stage.stands_after g.T.Transport.state c.loop-here.left.items c.args.words.now c.loop-here.seats.items (length done) row.items nodes =
+    subst (λ (n : ℕ). HasShares g.S.Stage.meaning g.S.Stage.stands_after g.T.Transport.state c.loop-here.left.items c.args.words.now c.loop-here.seats.items n row.items nodes) number made.shares in
     record {
-      parts = parts;
-      seats = seats;
-      rest = ap (λ (l : List (Option SeatsView)). length l) seats ∙ c.requires ∙ sym (ap (λ (l : List (ChannelPartView g.row.S.Denot g.row.T.Denot)). length l) parts);
-      shared = c.in_ok-all.ensures;
-    }
-
--- as many executors as there are rows
-counted : (g : _) (c : After-len-count g) → c.len-count.result ≡ length (rows_in c.args.here.items)
-counted g c = omega (arith, c.len-count.ensures, c.args.here.ok.0, length-map c.args.here.items (λ (row : Vec ℕ). row.items))
-
-pub add_shares-requires-clause-count : goal.add_shares-requires-clause-count
-add_shares-requires-clause-count g c = c.in_ok-split.ensures.count ∙ counted g (goal.at.add_shares-requires-clause-count g c).After-len-count ∙ sym c.loop-part.invariant.shared.count
-
-pub add_shares-requires-clause-one : goal.add_shares-requires-clause-one
-add_shares-requires-clause-one g c = one-head c.in-Some.part c.in_ok-split.field-0.items c.in_ok-split.ensures.each
-
-pub loop-part-preserved : goal.loop-part-preserved
-loop-part-preserved g c =
-    let Item = ChannelPartView g.row.S.Denot g.row.T.Denot × Option SeatsView in
-    let inv = c.loop-part.invariant in
-    let steps = c.in-Some.ensures.steps in
-    let left = c.loop-part.part-iterator in
-    let next = c.next.new.self in
-    let part = c.in-Some.part in
-    let seats = c.in-Some.seats in
-    let done = c.loop-part.yielded in
-    let item : Item = (part, seats) in
-    let split = c.in_ok-split.ensures in
-    record {
-      parts = seen-more (λ (z : Item). z.0) c.args.parts.items left.a.rest.items next.a.rest.items done (done ++ item ∷ []) part item inv.parts steps.0.0 refl refl;
-      seats = seen-more (λ (z : Item). z.1) c.args.seats.items left.b.rest.items next.b.rest.items done (done ++ item ∷ []) seats item inv.seats steps.1.0 refl refl;
-      rest = both-behind left.a.rest.items next.a.rest.items left.b.rest.items next.b.rest.items part seats inv.rest steps.0.0 steps.1.0;
+      rest = append_assoc done (row ∷ []) c.next.new.self.rest.items ∙ ap (λ (l : List (Vec ℕ)). done ++ l) (sym c.in-Some.ensures.steps.0) ∙ inv.rest;
       shared =
-          subst (λ (z : List (ChannelPartView g.row.S.Denot g.row.T.Denot) × List (Option SeatsView)). AreShared g.S.Stage.meaning g.S.Stage.stands_after g.T.Transport.state z.0 c.args.words.now z.1 (rows_in c.args.here.items) c.add_shares.new.all.items)
-          (λ i. (sym (map-append (λ (z : Item). z.0) done (item ∷ [])) i, sym (map-append (λ (z : Item). z.1) done (item ∷ [])) i))
-          (channel-shared g.S.Stage.meaning g.S.Stage.stands_after g.T.Transport.state c.args.words.now (map (λ (z : Item). z.0) done) part (map (λ (z : Item). z.1) done) seats
-          (length-map done (λ (z : Item). z.1) ∙ sym (length-map done (λ (z : Item). z.0))) (rows_in c.args.here.items) c.loop-part.all.items c.add_shares.new.all.items c.in_ok-split.field-0.items inv.shared
-          (split.count ∙ counted g (goal.at.loop-part-preserved g c).After-len-count)
-          (λ x share at. record {
-            share_is = split.each x share at;
-            holds = split.holds x share at;
-            taken = split.taken x share at;
-            writes = split.writes x share at;
-            came = split.came x share at;
-            lanes = split.lanes x share at;
-          })
-          c.in_ok-add_shares.ensures);
+          subst (λ (rows : List (List ℕ)). AreShared g.S.Stage.meaning g.S.Stage.stands_after g.T.Transport.state wholes c.args.words.now heads rows c.push.new.self.items) (sym (map-append (λ (r : Vec ℕ). r.items) done (row ∷ [])))
+          (executor-shared g.S.Stage.meaning g.S.Stage.stands_after g.T.Transport.state wholes c.args.words.now heads (rows_in done) row.items all.items c.push.new.self.items nodes c.in_ok-push.ensures.items
+          (subst (λ (n : ℕ). HasShares g.S.Stage.meaning g.S.Stage.stands_after g.T.Transport.state wholes c.args.words.now heads n row.items nodes) (sym count)
+          (shares-of-whole wholes heads (length done) c.loop-here.left.items c.loop-here.seats.items inv.left c.requires.seats g.S.Stage.meaning g.S.Stage.stands_after g.T.Transport.state c.args.words.now row.items nodes has))
+          inv.shared);
+      left =
+          subst (λ (n : ℕ). AreLeftFor wholes heads n c.nodes_on.new.left.items c.nodes_on.new.seats.items) (omega (arith, length-append done (row ∷ [])))
+          (next-left wholes heads (length done) c.loop-here.left.items c.loop-here.seats.items inv.left c.requires.seats c.nodes_on.new.left.items c.nodes_on.new.seats.items
+          (subst (λ (n : ℕ). AreRests n c.loop-here.left.items c.loop-here.seats.items c.nodes_on.new.left.items c.nodes_on.new.seats.items) number made.rests));
     }
 
 pub returns : goal.returns
 returns g c =
-    let Item = ChannelPartView g.row.S.Denot g.row.T.Denot × Option SeatsView in
-    let inv = c.loop-part.invariant in
-    let left = c.loop-part.part-iterator in
-    let done = c.loop-part.yielded in
-    let none : length left.a.rest.items ≡ 0 = elim c.in-None.ensures.steps [ inl h ↦ omega (arith, h.1.0, left.a.rest.ok) | inr h ↦ omega (arith, h.1.0, left.b.rest.ok, inv.rest) ] in
-    let parts = all-done c.args.parts.items (map (λ (z : Item). z.0) done) left.a.rest.items (nil_from_length left.a.rest.items none) inv.parts in
-    let seats = all-done c.args.seats.items (map (λ (z : Item). z.1) done) left.b.rest.items (nil_from_length left.b.rest.items (omega (arith, none, inv.rest))) inv.seats in
-    subst (λ (z : List (ChannelPartView g.row.S.Denot g.row.T.Denot) × List (Option SeatsView)). AreShared g.S.Stage.meaning g.S.Stage.stands_after g.T.Transport.state z.0 c.args.words.now z.1 (rows_in c.args.here.items) c.loop-part.all.items) (λ i. (parts i, seats i)) inv.shared
+    let inv = c.loop-here.invariant in
+    let left = c.loop-here.here-iterator.rest in
+    subst (λ (rows : List (Vec ℕ)). AreShared g.S.Stage.meaning g.S.Stage.stands_after g.T.Transport.state c.args.parts.items c.args.words.now c.args.seats.items (rows_in rows) c.loop-here.all.items)
+    (all-done c.args.rows.items c.loop-here.yielded left.items (nil_from_length left.items (omega (arith, c.in-None.ensures.steps.0, left.ok))) inv.rest) inv.shared

@@ -1,12 +1,13 @@
-use Rattle.std.proofs.Common.{◌≡◌, ◌++◌, length, map}
+use Rattle.std.proofs.Common.{◌≡◌, ◌++◌, length}
+use Rattle.std.specs.Vec.Iter.{into_iter_items}
 use Rattle.pl_exec.specs.Sharing.{AreShared, rows_in}
+use Rattle.pl_exec.proofs.SharesMade.{AreLeftFor}
 use Rattle.pl_exec.proofs.sharing.shares.Given as goal
 
--- The first channels are divided.
-abbrev pub invariant-loop-part : goal.invariant-loop-part
-invariant-loop-part g l = record {
-  parts : map (λ z. z.0) l.yielded ++ l.part-iterator.a.rest.items ≡ l.fn.parts.items;
-  seats : map (λ z. z.1) l.yielded ++ l.part-iterator.b.rest.items ≡ l.fn.seats.items;
-  rest : length l.part-iterator.b.rest.items ≡ length l.part-iterator.a.rest.items;
-  shared : AreShared g.S.Stage.meaning g.S.Stage.stands_after g.T.Transport.state (map (λ z. z.0) l.yielded) l.words (map (λ z. z.1) l.yielded) (rows_in l.fn.here.items) l.all.items;
+-- The first executors have their shares.
+abbrev pub invariant-loop-here : goal.invariant-loop-here
+invariant-loop-here g l = record {
+  rest : l.yielded ++ into_iter_items l.here-iterator ≡ l.fn.rows.items;
+  shared : AreShared g.S.Stage.meaning g.S.Stage.stands_after g.T.Transport.state l.fn.parts.items l.words l.fn.seats.items (rows_in l.yielded) l.all.items;
+  left : AreLeftFor l.fn.parts.items l.fn.seats.items (length l.yielded) l.left.items l.seats.items;
 }

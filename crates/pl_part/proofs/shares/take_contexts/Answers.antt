@@ -1,5 +1,4 @@
 use Rattle.std.proofs.Common.{◌≡◌, ◌<◌, get_or, length, not, refl, sym, ap, ◌∙◌, arith, List, Option, ℕ}
-use Rattle.std.proofs.lemmas.Result.{err_from_is_err_and}
 use Rattle.pl_context.specs.ContextViews.{ContextView}
 use Rattle.std.specs.Prelude.{◌==◌}
 use Rattle.pl_part.specs.Shares.{only_if}
@@ -15,12 +14,13 @@ loop-hop-preserved g c =
     let wanted = (λ (k : ℕ). get_or c.args.executors.now k 0 == c.args.executor) in
     let within : h < length now = omega (arith, c.loop-hop-test.true, c.loop-hop.auto.contexts) in
     let slot = c.index-contexts-hop.result in
-    let more = taken-more wanted old h now before.behind c.loop-hop.taken.items before.slots before.taken slot (only_if (wanted h) (get_or now h slot)) c.add_where.new.taken.items within refl c.in_ok-add_where.ensures.taken in
+    let more = taken-more wanted old h now before.behind c.loop-hop.taken.items before.slots before.taken slot (only_if (wanted h) (get_or now h slot)) c.add_where.new.taken.items within refl c.add_where.ensures.taken in
     record {
       slots = more.0;
       taken = more.1;
-      left = left-more wanted old h now before.behind before.left slot c.add_where.new.slot within c.in_ok-add_where.ensures.left;
+      left = left-more wanted old h now before.behind before.left slot c.add_where.new.slot within c.add_where.ensures.left;
       behind = behind-more wanted old h now before.behind c.add_where.new.slot;
+      room = let capacity = c.add_where.ensures.capacity in let room = before.room in omega (arith, capacity, room);
     }
 
 pub returns-clause-taken : goal.returns-clause-taken
@@ -41,15 +41,16 @@ loop-hop-init g c = record {
   taken = λ k lt. absurd (omega (arith, lt));
   left = λ k lt. absurd (omega (arith, lt));
   behind = λ k le. refl;
+  room = c.in_ok-taken.ensures.capacity;
 }
 
 pub bounds-executors-hop : goal.bounds-executors-hop
 bounds-executors-hop g c = omega (arith, c.requires, c.loop-hop-test.true, c.loop-hop.auto.contexts)
 
-pub returns-in_err-add_where : goal.returns-in_err-add_where
-returns-in_err-add_where g c =
-    let none = err_from_is_err_and c.from_residual-in_err-add_where.result c.from_residual-in_err-add_where.ensures.1 in
-    record { slots = rw none.1 tt; taken = rw none.1 tt; left = rw none.1 tt }
+pub add_where-requires : goal.add_where-requires
+add_where-requires g c =
+    let before = c.loop-hop.invariant in
+    omega (arith, before.slots, before.room, c.loop-hop-test.true, c.loop-hop.auto.contexts, c.loop-hop.taken.ok.0)
 
 pub returns-clause-slots : goal.returns-clause-slots
 returns-clause-slots g c = c.loop-hop.invariant.slots ∙ omega (arith, c.loop-hop-test.false, c.loop-hop.auto.hop-end)

@@ -1,142 +1,224 @@
-use Rattle.std.proofs.Common.{◌≡◌, ◌<◌, length, set, slice_get, Some, refl, ap, sym, ◌∙◌, arith}
+use Rattle.std.proofs.Common.{◌≡◌, ◌<◌, ℕ, List, get_or, length, set, slice_get, Some, refl, ap, sym, subst, ◌∙◌, arith}
 use Rattle.std.proofs.lemmas.List.{length-set}
-use Rattle.std.proofs.lemmas.Option.{slice_get_read}
+use Rattle.pl_part.specs.Parts.{ChannelPartView}
 use Rattle.pl_part.specs.PartCalls.{Taken}
 use Rattle.pl_threads.specs.NodesViews.{OwnNodesView}
 use Rattle.pl_channel.proofs.OneChannel.{places-stay, taken-one}
+use Rattle.pl_exec.specs.declared.nodes.ExecutorNodes.{ExecutorNodes}
+use Rattle.pl_exec.specs.ChannelRows.{row_position}
+use Rattle.pl_exec.specs.ExecutorNodes.{NodesStand, channel_parts}
+use Rattle.pl_exec.specs.Telling.{IsToldAt, KeepsOthers, SettlesAt, TellsAt, channel_seats}
 use Rattle.pl_exec.proofs.HeadLists.{heads-stay}
 use Rattle.pl_exec.proofs.MovedNodes.{head-stays, take-stands}
-use Rattle.pl_exec.proofs.ExecutorNodeLemmas.{channel-here, made-here, next-here, routes-keep}
+use Rattle.pl_exec.proofs.ExecutorNodeLemmas.{made-here, next-here, routes-keep}
+use Rattle.pl_exec.proofs.PartsHere.{enters-position, enters-within, parts-set, position-read, positions-count, read-part}
 use Rattle.pl_exec.proofs.SeatLemmas.{all-tell, head-tells, others-told}
 use Rattle.pl_exec.proofs.ServedNodes.{serves-none, take-serves, told-served}
-use Rattle.pl_exec.proofs.ToldNodes.{keeps-told, makes-told, stands-told, view-told}
+use Rattle.pl_exec.proofs.ToldNodes.{keeps-told, makes-told, stands-told, told-from, view-told}
 use Rattle.pl_exec.proofs.nodes.ExecutorNodesOwnNodes.take.Goals as goal
 use Rattle.pl_exec.proofs.nodes.ExecutorNodesOwnNodes.take.Goals.{After-index_mut-part, After-take}
 
-here : (g : _) (c : After-index_mut-part g) → c.args.envelope.lane.channel < length c.args.self.now.parts.items
-here g c = channel-here c.args.self.now.parts.items c.args.self.now.number c.args.envelope.lane c.requires.stands.nodes.number c.requires.here
+-- ---- the position of the lane's channel
 
--- the part of the channel
-own : (g : _) (c : After-index_mut-part g) → slice_get c.args.self.now.parts.items c.args.envelope.lane.channel ≡ Some c.index_mut-part.result.now
+pub index-requires : goal.index-requires
+index-requires g c =
+    let n = c.args.self.now in
+    let stands = c.requires.stands in
+    let within = enters-within g.W.Planned.plan n stands.in_order g.W.Named.world g.S.Stage.meaning g.S.Stage.stands_after g.T.Transport.state stands.nodes c.args.envelope.lane c.requires.here in
+    omega (arith, within, positions-count g.W.Planned.plan n stands.in_order, n.positions.ok.0)
+
+pub index_mut-part-requires : goal.index_mut-part-requires
+index_mut-part-requires g c =
+    let n = c.args.self.now in
+    let plan = g.W.Planned.plan in
+    let l = c.args.envelope.lane in
+    let stands = c.requires.stands in
+    let within = enters-within plan n stands.in_order g.W.Named.world g.S.Stage.meaning g.S.Stage.stands_after g.T.Transport.state stands.nodes l c.requires.here in
+    let here = enters-position plan n stands.in_order g.W.Named.world g.S.Stage.meaning g.S.Stage.stands_after g.T.Transport.state stands.nodes l c.requires.here in
+    let is = position-read plan n stands.in_order l.channel c.index.result.now within c.index.ensures in
+    omega (arith, is, here, stands.in_order.parts, n.parts.ok.0)
+
+-- ---- the part there
+
+is-here : (g : _) (c : After-index_mut-part g) → row_position c.args.self.now.here.items c.args.envelope.lane.channel < length c.args.self.now.here.items
+is-here g c = enters-position g.W.Planned.plan c.args.self.now c.requires.stands.in_order g.W.Named.world g.S.Stage.meaning g.S.Stage.stands_after g.T.Transport.state c.requires.stands.nodes c.args.envelope.lane c.requires.here
+
+own : (g : _) (c : After-index_mut-part g)
+    → (c.args.envelope.lane.channel ≡ get_or c.args.self.now.here.items c.index.result.now 0) × (c.index.result.now < length c.args.self.now.here.items)
+    × (slice_get c.args.self.now.parts.items c.index.result.now ≡ Some c.index_mut-part.result.now)
+    × (slice_get (channel_parts g.W.Planned.plan c.args.self.now) (get_or c.args.self.now.here.items c.index.result.now 0) ≡ Some c.index_mut-part.result.now)
 own g c =
-    let ps = c.args.self.now.parts.items in
-    slice_get_read ps (length ps) c.args.envelope.lane.channel c.index_mut-part.result.now refl (here g c) c.index_mut-part.ensures.value
+    let n = c.args.self.now in
+    let plan = g.W.Planned.plan in
+    let l = c.args.envelope.lane in
+    let stands = c.requires.stands in
+    let within = enters-within plan n stands.in_order g.W.Named.world g.S.Stage.meaning g.S.Stage.stands_after g.T.Transport.state stands.nodes l c.requires.here in
+    read-part plan n stands.in_order l.channel c.index.result.now c.index_mut-part.result.now (is-here g c) (position-read plan n stands.in_order l.channel c.index.result.now within c.index.ensures) c.index_mut-part.ensures.value
 
 pub take-requires : goal.take-requires
 take-requires g c =
     let n = c.args.self.now in
     let p = c.index_mut-part.result.now in
-    let e = c.args.envelope in
+    let o = own g (goal.at.take-requires g c).After-index_mut-part in
     record {
       next = (
         g.W.Named.world,
-        next-here n.parts.items e.lane.channel p p (own g (goal.at.take-requires g c).After-index_mut-part) g.W.Named.world g.W.Planned.plan g.S.Stage.meaning g.S.Stage.stands_after g.T.Transport.state n.number n.was_refused c.requires.stands.nodes
-            e c.args.work.now refl c.requires.here c.requires.number c.requires.good c.requires.places,
+        next-here (channel_parts g.W.Planned.plan n) (get_or n.here.items c.index.result.now 0) p p o.3 g.W.Named.world g.W.Planned.plan g.S.Stage.meaning g.S.Stage.stands_after g.T.Transport.state n.number n.was_refused c.requires.stands.nodes
+            c.args.envelope c.args.work.now o.0 c.requires.here c.requires.number c.requires.good c.requires.places,
       );
     }
 
--- what the call of the part has done
+-- ---- what the call of the part has done
+
 taken : (g : _) (c : After-take g) → Taken g.S.Stage.meaning g.S.Stage.stands_after g.T.Transport.state g.S.Stage.is_spent c.index_mut-part.result.now c.args.envelope c.args.work.now c.take.result c.take.new.self c.take.new.work
 taken g c = c.take.ensures
 
-pub tell_if-requires-clause-there : goal.tell_if-requires-clause-there
-tell_if-requires-clause-there g c =
+-- the nodes stand with that part
+still-stand : (g : _) (c : After-take g) (within : c.args.envelope.lane.channel ≡ get_or c.args.self.now.here.items c.index.result.now 0) (o : slice_get (channel_parts g.W.Planned.plan c.args.self.now) (get_or c.args.self.now.here.items c.index.result.now 0) ≡ Some c.index_mut-part.result.now)
+    → NodesStand g.W.Named.world g.W.Planned.plan g.S.Stage.meaning g.S.Stage.stands_after g.T.Transport.state c.args.self.now.number c.args.self.now.was_refused
+    (set (channel_parts g.W.Planned.plan c.args.self.now) (get_or c.args.self.now.here.items c.index.result.now 0) c.take.new.self)
+still-stand g c within o =
     let n = c.args.self.now in
-    let e = c.args.envelope in
-    let size = length-set n.parts.items e.lane.channel c.take.new.self in
-    let within = here g (goal.at.tell_if-requires-clause-there g c).After-index_mut-part in
-    omega (arith, size, within)
+    take-stands (channel_parts g.W.Planned.plan n) (get_or n.here.items c.index.result.now 0) c.index_mut-part.result.now c.take.new.self o g.W.Named.world g.W.Planned.plan g.S.Stage.meaning g.S.Stage.stands_after g.S.Stage.is_spent g.T.Transport.state
+    n.number n.was_refused c.requires.stands.nodes c.args.envelope c.args.work.now c.take.result c.take.new.work within c.requires.here c.requires.good (taken g c)
 
-pub tell_if-requires-clause-stand : goal.tell_if-requires-clause-stand
-tell_if-requires-clause-stand g c =
+pub tell_if-requires-clause-there : goal.tell_if-requires-clause-there
+tell_if-requires-clause-there g c = (own g (goal.at.tell_if-requires-clause-there g c).After-index_mut-part).1
+
+pub tell_if-requires-clause-in_order : goal.tell_if-requires-clause-in_order
+tell_if-requires-clause-in_order g c =
     let n = c.args.self.now in
-    let e = c.args.envelope in
-    let at = goal.at.tell_if-requires-clause-stand g c in (
-      g.W.Named.world,
-      g.W.Planned.plan,
-      c.requires.stands.seated,
-      take-stands n.parts.items e.lane.channel c.index_mut-part.result.now c.take.new.self (own g at.After-index_mut-part) g.W.Named.world g.W.Planned.plan g.S.Stage.meaning g.S.Stage.stands_after g.S.Stage.is_spent g.T.Transport.state
-          n.number n.was_refused c.requires.stands.nodes e c.args.work.now c.take.result c.take.new.work refl c.requires.here c.requires.good (taken g at.After-take),
-    )
+    let order = c.requires.stands.in_order in
+    record { row = order.row; parts = length-set n.parts.items c.index.result.now c.take.new.self ∙ order.parts; seats = order.seats; positions = order.positions }
+
+pub tell_if-requires-clause-nodes : goal.tell_if-requires-clause-nodes
+tell_if-requires-clause-nodes g c =
+    let n = c.args.self.now in
+    let plan = g.W.Planned.plan in
+    let at = goal.at.tell_if-requires-clause-nodes g c in
+    let o = own g at.After-index_mut-part in
+    subst (NodesStand g.W.Named.world plan g.S.Stage.meaning g.S.Stage.stands_after g.T.Transport.state n.number n.was_refused) (sym (parts-set plan n c.requires.stands.in_order c.index.result.now c.take.new.self o.1)) (still-stand g at.After-take o.0 o.3)
 
 -- where it was not for the head, that is as it was
 pub tell_if-requires-clause-told : goal.tell_if-requires-clause-told
 tell_if-requires-clause-told g c = λ off.
     let n = c.args.self.now in
-    let e = c.args.envelope in
+    let plan = g.W.Planned.plan in
+    let k = c.index.result.now in
+    let ch = get_or n.here.items k 0 in
     let p = c.index_mut-part.result.now in
     let at = goal.at.tell_if-requires-clause-told g c in
-    let was = own g at.After-index_mut-part in
-    head-tells n.seats.items n.parts.items e.lane.channel p c.take.new.self was
-    (head-stays g.S.Stage.meaning g.S.Stage.stands_after g.S.Stage.is_spent g.T.Transport.state p c.take.new.self e c.args.work.now c.take.result c.take.new.work (taken g at.After-take).takes
-    (c.requires.stands.nodes.parts e.lane.channel p was).holds.hops c.hops.result c.hops.ensures off)
-    (c.requires.stands.told e.lane.channel)
+    let o = own g at.After-index_mut-part in
+    subst (λ (ps : List (ChannelPartView g.row.S.Denot g.row.T.Denot)). TellsAt (channel_seats plan n) ps ch) (sym (parts-set plan n c.requires.stands.in_order k c.take.new.self o.1))
+    (head-tells (channel_seats plan n) (channel_parts plan n) ch p c.take.new.self o.3
+    (head-stays g.S.Stage.meaning g.S.Stage.stands_after g.S.Stage.is_spent g.T.Transport.state p c.take.new.self c.args.envelope c.args.work.now c.take.result c.take.new.work (taken g at.After-take).takes
+    (c.requires.stands.nodes.parts ch p o.3).holds.hops c.hops.result c.hops.ensures off)
+    (c.requires.stands.told ch))
+
+-- ---- what stands after it
 
 pub returns-clause-stands : goal.returns-clause-stands
 returns-clause-stands g c =
     let n = c.args.self.now in
+    let plan = g.W.Planned.plan in
+    let k = c.index.result.now in
+    let ch = get_or n.here.items k 0 in
+    let ps = channel_parts plan n in
     let now = c.tell_if.new.self in
-    let e = c.args.envelope in
     let p = c.index_mut-part.result.now in
+    let told = c.tell_if.ensures.told in
     let at = goal.at.returns-clause-stands g c in
-    let was = own g at.After-index_mut-part in
-    stands-told _ now e.lane.channel c.tell_if.ensures.told g.W.Named.world g.W.Planned.plan g.S.Stage.meaning g.S.Stage.stands_after g.T.Transport.state c.requires.stands.is_world
-    (take-stands n.parts.items e.lane.channel p c.take.new.self was g.W.Named.world g.W.Planned.plan g.S.Stage.meaning g.S.Stage.stands_after g.S.Stage.is_spent g.T.Transport.state
-    n.number n.was_refused c.requires.stands.nodes e c.args.work.now c.take.result c.take.new.work refl c.requires.here c.requires.good (taken g at.After-take))
-    (c.requires.stands.own ∙ sym (heads-stay n.parts.items e.lane.channel p c.take.new.self was c.take.ensures.puts.same)) c.requires.stands.here (c.tell_if.ensures.seated g.W.Planned.plan c.requires.stands.seated)
-    (all-tell n.seats.items now.seats.items n.parts.items now.parts.items e.lane.channel c.requires.stands.told c.tell_if.ensures.others (others-told n.parts.items e.lane.channel c.take.new.self now.parts.items c.tell_if.ensures.told.parts) c.tell_if.ensures.tells)
+    let o = own g at.After-index_mut-part in
+    let becomes = parts-set plan n c.requires.stands.in_order k c.take.new.self o.1 in
+    stands-told plan _ now ch told (set ps ch c.take.new.self) becomes g.W.Named.world g.S.Stage.meaning g.S.Stage.stands_after g.T.Transport.state c.requires.stands.is_world
+    (still-stand g at.After-take o.0 o.3)
+    (c.requires.stands.own ∙ sym (heads-stay n.parts.items k p c.take.new.self o.2 c.take.ensures.puts.same)) c.tell_if.ensures.seated
+    (all-tell (channel_seats plan n) (channel_seats plan now) ps (channel_parts plan now) ch c.requires.stands.told c.tell_if.ensures.others
+    (others-told ps ch c.take.new.self (channel_parts plan now) (told-from plan _ now ch told (set ps ch c.take.new.self) becomes)) c.tell_if.ensures.tells)
 
 pub returns-clause-keeps : goal.returns-clause-keeps
 returns-clause-keeps g c =
-    let ch = c.args.envelope.lane.channel in
+    let n = c.args.self.now in
+    let plan = g.W.Planned.plan in
+    let k = c.index.result.now in
+    let ch = get_or n.here.items k 0 in
+    let ps = channel_parts plan n in
     let puts = c.take.ensures.puts in
-    keeps-told _ c.tell_if.new.self ch c.tell_if.ensures.told g.S.Stage.meaning c.args.self.now
-    (record { executor = refl; routes = routes-keep c.args.self.now.parts.items ch c.index_mut-part.result.now c.take.new.self (own g (goal.at.returns-clause-keeps g c).After-index_mut-part) g.S.Stage.meaning puts.same puts.writes; heads = refl })
+    let o = own g (goal.at.returns-clause-keeps g c).After-index_mut-part in
+    keeps-told plan _ c.tell_if.new.self ch c.tell_if.ensures.told (set ps ch c.take.new.self) (parts-set plan n c.requires.stands.in_order k c.take.new.self o.1) g.S.Stage.meaning n
+    (record { executor = refl; routes = routes-keep ps ch c.index_mut-part.result.now c.take.new.self o.3 g.S.Stage.meaning puts.same puts.writes; heads = refl })
 
 pub returns-clause-taken : goal.returns-clause-taken
 returns-clause-taken g c =
-    let ch = c.args.envelope.lane.channel in
-    ap (λ (v : OwnNodesView). v.lanes.taken) (view-told _ c.tell_if.new.self ch c.tell_if.ensures.told g.S.Stage.meaning)
-    ∙ taken-one c.args.self.now.parts.items ch c.index_mut-part.result.now c.take.new.self (own g (goal.at.returns-clause-taken g c).After-index_mut-part) c.args.envelope refl c.take.ensures.taken
+    let n = c.args.self.now in
+    let plan = g.W.Planned.plan in
+    let k = c.index.result.now in
+    let ch = get_or n.here.items k 0 in
+    let ps = channel_parts plan n in
+    let o = own g (goal.at.returns-clause-taken g c).After-index_mut-part in
+    ap (λ (v : OwnNodesView). v.lanes.taken) (view-told plan _ c.tell_if.new.self ch c.tell_if.ensures.told (set ps ch c.take.new.self) (parts-set plan n c.requires.stands.in_order k c.take.new.self o.1) g.S.Stage.meaning)
+    ∙ taken-one ps ch c.index_mut-part.result.now c.take.new.self o.3 c.args.envelope o.0 c.take.ensures.taken
 
 pub returns-clause-placed : goal.returns-clause-placed
 returns-clause-placed g c =
-    places-stay c.args.self.now.parts.items c.args.envelope.lane.channel c.index_mut-part.result.now c.take.new.self (own g (goal.at.returns-clause-placed g c).After-index_mut-part) c.args.work.now c.take.new.work c.take.ensures.puts.placed
+    let n = c.args.self.now in
+    let o = own g (goal.at.returns-clause-placed g c).After-index_mut-part in
+    places-stay (channel_parts g.W.Planned.plan n) (get_or n.here.items c.index.result.now 0) c.index_mut-part.result.now c.take.new.self o.3 c.args.work.now c.take.new.work c.take.ensures.puts.placed
 
 pub returns-clause-refused : goal.returns-clause-refused
-returns-clause-refused g c = c.tell_if.ensures.told.refused
+returns-clause-refused g c = ap (λ (n : ExecutorNodes g.row.S.Denot g.row.T.Denot). n.was_refused) c.tell_if.ensures.told.same
 
 pub returns-clause-makes : goal.returns-clause-makes
 returns-clause-makes g c =
     let n = c.args.self.now in
+    let plan = g.W.Planned.plan in
+    let k = c.index.result.now in
+    let ch = get_or n.here.items k 0 in
+    let ps = channel_parts plan n in
     let e = c.args.envelope in
     let p = c.index_mut-part.result.now in
-    let was = own g (goal.at.returns-clause-makes g c).After-index_mut-part in
-    makes-told _ c.tell_if.new.self e.lane.channel c.tell_if.ensures.told g.S.Stage.meaning c.args.self.now g.W.Named.world
-    (made-here n.parts.items e.lane.channel p c.take.new.self was g.W.Named.world g.W.Planned.plan g.S.Stage.meaning g.S.Stage.stands_after g.T.Transport.state n.number n.was_refused c.requires.stands.nodes
-    e.lane.hop c.args.work.now c.take.new.work c.take.ensures.puts.others (c.take.ensures.made g.W.Named.world (c.requires.stands.nodes.parts e.lane.channel p was).holds c.requires.good))
+    let o = own g (goal.at.returns-clause-makes g c).After-index_mut-part in
+    makes-told plan _ c.tell_if.new.self ch c.tell_if.ensures.told (set ps ch c.take.new.self) (parts-set plan n c.requires.stands.in_order k c.take.new.self o.1) g.S.Stage.meaning n g.W.Named.world
+    (made-here ps ch p c.take.new.self o.3 g.W.Named.world plan g.S.Stage.meaning g.S.Stage.stands_after g.T.Transport.state n.number n.was_refused c.requires.stands.nodes
+    e.lane.hop c.args.work.now c.take.new.work c.take.ensures.puts.others (c.take.ensures.made g.W.Named.world (c.requires.stands.nodes.parts ch p o.3).holds c.requires.good))
 
 pub returns-clause-served : goal.returns-clause-served
-returns-clause-served g c k =
+returns-clause-served g c x =
     let state = g.T.Transport.state in
-    let ch = c.args.envelope.lane.channel in
+    let n = c.args.self.now in
+    let plan = g.W.Planned.plan in
+    let k = c.index.result.now in
+    let ch = get_or n.here.items k 0 in
+    let ps = channel_parts plan n in
     let p = c.index_mut-part.result.now in
-    told-served state g.W.Planned.plan _ ch c.tell_if.new.self.parts.items c.tell_if.ensures.told.parts k
-    ∙ serves-none state g.W.Planned.plan c.args.self.now.parts.items ch p c.take.new.self (own g (goal.at.returns-clause-served g c).After-index_mut-part)
-    (λ q. take-serves state g.S.Stage.meaning g.S.Stage.stands_after g.S.Stage.is_spent p c.take.new.self c.args.envelope c.args.work.now c.take.new.work c.take.result c.take.ensures.puts.same c.take.ensures.takes q) k
+    let now = c.tell_if.new.self in
+    let o = own g (goal.at.returns-clause-served g c).After-index_mut-part in
+    told-served state plan (set ps ch c.take.new.self) ch (channel_parts plan now) (told-from plan _ now ch c.tell_if.ensures.told (set ps ch c.take.new.self) (parts-set plan n c.requires.stands.in_order k c.take.new.self o.1)) x
+    ∙ serves-none state plan ps ch p c.take.new.self o.3
+    (λ q. take-serves state g.S.Stage.meaning g.S.Stage.stands_after g.S.Stage.is_spent p c.take.new.self c.args.envelope c.args.work.now c.take.new.work c.take.result c.take.ensures.puts.same c.take.ensures.takes q) x
 
 pub returns-clause-takes : goal.returns-clause-takes
-returns-clause-takes g c = record {
-  between = set c.args.self.now.parts.items c.args.envelope.lane.channel c.take.new.self;
-  done = record {
-    before = c.index_mut-part.result.now;
-    after = c.take.new.self;
-    was = own g (goal.at.returns-clause-takes g c).After-index_mut-part;
-    becomes = refl;
-    same = c.take.ensures.puts.same;
-    done = (c.take.result, c.take.ensures.takes);
-  };
-  told = c.tell_if.ensures.told.parts;
-  settled = c.tell_if.ensures.settled;
-  others = c.tell_if.ensures.others;
-}
+returns-clause-takes g c =
+    let n = c.args.self.now in
+    let plan = g.W.Planned.plan in
+    let k = c.index.result.now in
+    let ch = get_or n.here.items k 0 in
+    let ps = channel_parts plan n in
+    let now = c.tell_if.new.self in
+    let o = own g (goal.at.returns-clause-takes g c).After-index_mut-part in
+    let becomes = parts-set plan n c.requires.stands.in_order k c.take.new.self o.1 in
+    let between = set ps ch c.take.new.self in
+    record {
+      between = between;
+      done = record {
+        before = c.index_mut-part.result.now;
+        after = c.take.new.self;
+        was = ap (λ (m : ℕ). slice_get ps m) o.0 ∙ o.3;
+        becomes = ap (λ (m : ℕ). set ps m c.take.new.self) (sym o.0);
+        same = c.take.ensures.puts.same;
+        done = (c.take.result, c.take.ensures.takes);
+      };
+      told = subst (λ (m : ℕ). IsToldAt between m (channel_parts plan now)) (sym o.0) (told-from plan _ now ch c.tell_if.ensures.told between becomes);
+      settled = subst (λ (z : ℕ × List (ChannelPartView g.row.S.Denot g.row.T.Denot)). SettlesAt (channel_seats plan n) z.1 z.0 (channel_seats plan now)) (λ i. (sym o.0 i, becomes i)) c.tell_if.ensures.settled;
+      others = subst (λ (m : ℕ). KeepsOthers (channel_seats plan n) m (channel_seats plan now)) (sym o.0) c.tell_if.ensures.others;
+    }

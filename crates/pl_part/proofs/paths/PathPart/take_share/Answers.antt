@@ -31,6 +31,17 @@ returns-clause-rest g c =
     refl c.deref-2.ensures.value c.deref_mut.ensures.value c.target.ensures
     c.take_contexts.auto.contexts c.in_ok-contexts.ensures.left c.take_where.ensures.left)
 
+pub returns-in_err-contexts-clause-kept : goal.returns-in_err-contexts-clause-kept
+returns-in_err-contexts-clause-kept g c =
+    let none = err_from_is_err_and c.from_residual-in_err-contexts.result c.from_residual-in_err-contexts.ensures.1 in
+    let inside = c.self.inside in
+    let slots : List (Option (ContextView g.row.S.Denot)) = c.take_contexts.new.contexts in
+    let kept : slots ≡ inside.contexts.items = c.in_err-contexts.ensures.kept ∙ c.deref_mut.ensures.value in
+    let size : length slots ≡ inside.contexts.len = ap (λ (l : List (Option (ContextView g.row.S.Denot))). length l) kept ∙ sym inside.contexts.ok.0 in
+    let same = with_items_is inside.contexts slots size ∙ kept in
+    rw none.1
+    ((λ i. record { channel = inside.channel; executors = inside.executors.items; contexts = same i; tail = inside.tail; tail_hop = inside.tail_hop; turn = inside.turn }) ∙ c.self.view_is)
+
 pub target-requires : goal.target-requires
 target-requires g c =
     subst (λ (y : PathPartView _). c.self.inside.tail_hop < length y.executors) c.self.view_is (omega (arith, c.self.invariant.hops_are, c.self.invariant.within))
